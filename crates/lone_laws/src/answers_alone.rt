@@ -9,7 +9,7 @@ ghost use Rattle.lone_laws.specs.alone.Answers.{AnsweredAlone};
 ghost use Rattle.lone_laws.specs.alone.Ends.{EndForm, end_causes, end_history, end_node};
 ghost use Rattle.lone_laws.specs.alone.Answers.{entries_of_events_alone};
 ghost use Rattle.lone_laws.specs.alone.Lone.{lone_after};
-ghost use Rattle.lone_laws.specs.alone.Memories.{CountsAll, IsHeldBehind, IsReady, IsTaken, behind_boot, commands_of_entries};
+ghost use Rattle.lone_laws.specs.alone.Memories.{CountsAll, IsHeldBehind, IsReadyMemory, IsTakenMemory, behind_boot, commands_of_entries};
 ghost use Rattle.journal_laws.specs.Journal.{journal};
 ghost use Rattle.hci_store.specs.Stored.{FindsSame};
 
@@ -29,16 +29,16 @@ pub fn a_node_alone_answers_every_message()
 
 /// Over such a run the memory keeps the commands that are noted. At its end a boot finds the tables of the records at its beginning with
 /// these commands carried out in their order, all pipes closed; where the power went in a write, all but the last one may be found. That is
-/// said of each memory in which a boot finds something sound of version 02, or nothing at all (`IsReady`): a store has made of any memory that
+/// said of each memory in which a boot finds something sound of version 02, or nothing at all (`IsReadyMemory`): a store has made of any memory that
 /// it takes such a one before its node runs. Where the head names no more records of a snapshot than its base and its records make, a boot
 /// counts so many more, up to 4,294,967,295; a count at its last value stays there. Where no generation is left, a command whose record doesn't
 /// fit is refused, and isn't noted.
 pub fn a_node_alone_keeps_its_commands()
-    ensures held { (number link : ℕ) (m : Memory) → 1 ≤ link → link ≤ 7 → ((number == 0) ≡ false → number ≡ link) → IsReady m.content
+    ensures held { (number link : ℕ) (m : Memory) → 1 ≤ link → link ≤ 7 → ((number == 0) ≡ false → number ≡ link) → IsReadyMemory m.content
         → (causes : List LoneCause) →
         IsHeldBehind m.content (commands_of_entries (entries_of_events_alone (lone_events (lone_booted number link m) causes)))
         (lone_after (lone_booted number link m) causes) }
-    ensures ends { (form : EndForm) (is_clf : Bool) (m : Memory) → IsReady m.content → (bytes : List ℕ) →
+    ensures ends { (form : EndForm) (is_clf : Bool) (m : Memory) → IsReadyMemory m.content → (bytes : List ℕ) →
         IsHeldBehind m.content (commands_of_entries (entries_of_events_alone (end_history form (end_node is_clf m) bytes)))
         (lone_after (end_node is_clf m) (end_causes form (end_node is_clf m) bytes)) }
 {}
@@ -46,8 +46,8 @@ pub fn a_node_alone_keeps_its_commands()
 /// A boot makes of each memory that it takes one that is ready, in which the next boot finds the same tables and the same count: it formats one
 /// that says nothing, and writes one of version 01 anew. Each further record counts in it where it was written anew, or where each counted before.
 pub fn a_boot_makes_a_memory_ready()
-    ensures ready { (content : List ℕ) → IsTaken content → IsReady (behind_boot content) }
-    ensures same { (content : List ℕ) → IsTaken content → FindsSame content (behind_boot content) }
-    ensures counts { (content : List ℕ) → IsTaken content → ((journal content).head.version ≡ 1) ⊎ CountsAll content
+    ensures ready { (content : List ℕ) → IsTakenMemory content → IsReadyMemory (behind_boot content) }
+    ensures same { (content : List ℕ) → IsTakenMemory content → FindsSame content (behind_boot content) }
+    ensures counts { (content : List ℕ) → IsTakenMemory content → ((journal content).head.version ≡ 1) ⊎ CountsAll content
         → CountsAll (behind_boot content) }
 {}

@@ -266,12 +266,12 @@ IsReadyBehind n i =
     → (q : Port) × (port_at (steps (AtEnd 2 i) w).ports 2 ≡ Some q) × (reset_refusal (sent_all q.side) ≡ None)
 
 -- so it is where this asks for a reset
-abbrev pub IsReady : {N : Type 0} → Node N → Lone → LoneCause → LinkInput → Type 0
-IsReady n l c i =
+abbrev pub IsReadyMemory : {N : Type 0} → Node N → Lone → LoneCause → LinkInput → Type 0
+IsReadyMemory n l c i =
     (w : Work) (p : Port) → BeginsStep n [] true [] w → port_at w.ports 2 ≡ Some p → p.side ≡ l.side → asks_reset l c ≡ true
     → (q : Port) × (port_at (steps (node_input 2 i) w).ports 2 ≡ Some q) × (reset_refusal (sent_all q.side) ≡ None)
 
-pub ready_by : {N : Type 0} {n : Node N} (l : Lone) (c : LoneCause) (i : LinkInput) → lone_input c ≡ Some i → IsReadyBehind n i → IsReady n l c i
+pub ready_by : {N : Type 0} {n : Node N} (l : Lone) (c : LoneCause) (i : LinkInput) → lone_input c ≡ Some i → IsReadyBehind n i → IsReadyMemory n l c i
 ready_by {n = n} l c i comes law w p b at same asks =
     go i law (ap (λ e. (report e i).became_active) same ∙ became_by l c i comes asks)
   where
@@ -294,7 +294,7 @@ module _ {N : Type 0} (writes : N → ℕ → List ℕ → Bool → N → Type 0
   pub has_stepped_alone : (Later : Role → Type 0) {new : Node N} {old_nv new_nv : N} (c : LoneCause) (i : LinkInput) → lone_input c ≡ Some i
       → Brings writes old_nv new_nv (HasStepped new [] true []) (steps (node_input 2 i)) (lone_work l (running a) i (lone_arrival l c))
       → Later (role_behind l.side.role (act_event l.side i)) → (stopped : Bool) → stopped ≡ not new.store.journal.live
-      → IsReady n l c i → StepsAlone writes old_nv new_nv (RunsAlone number Later new) stopped number c l
+      → IsReadyMemory n l c i → StepsAlone writes old_nv new_nv (RunsAlone number Later new) stopped number c l
   has_stepped_alone Later {new} {old_nv} {new_nv} c i comes b later stopped is takes_reset =
       let Runs : Lone → List Control → Type 0 = RunsAlone number Later new in
       subst (λ k. StepsAlone writes old_nv new_nv Runs stopped k c l) a.number_is
@@ -380,7 +380,7 @@ module _ {N : Type 0} (writes : N → ℕ → List ℕ → Bool → N → Type 0
       → ((i : LinkInput) → lone_input c ≡ Some i → Later (role_behind l.side.role (act_event l.side i)))
       → (lone_input c ≡ None → RunsAs new a.core (with_port 2 one_more_error (a.port ∷ [])) × (new_nv ≡ old_nv) × (stopped ≡ false)
       × ((r : Role) → Has r → Later r))
-      → ((i : LinkInput) → lone_input c ≡ Some i → IsReady n l c i)
+      → ((i : LinkInput) → lone_input c ≡ Some i → IsReadyMemory n l c i)
       → StepsAlone writes old_nv new_nv (RunsAlone number Later new) stopped number c l
   comes_alone Later {new} {old_nv} {new_nv} c stopped steps_so is later refused ready = go (lone_input c) refl where
     none : (c : LoneCause) → lone_input c ≡ None

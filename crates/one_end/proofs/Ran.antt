@@ -23,7 +23,7 @@ use Rattle.node_core.specs.Booting.{found_in_memory}
 use Rattle.node_core.specs.Bringing.{WereMade, Foretells}
 use Rattle.lone_laws.specs.alone.Lone.{Lone, role_alone, lone_booted, lone_after}
 use Rattle.lone_laws.specs.alone.Ends.{EndForm, end_causes, end_written, end_node}
-use Rattle.lone_laws.specs.alone.Memories.{IsTaken, behind_boot}
+use Rattle.lone_laws.specs.alone.Memories.{IsTakenMemory, behind_boot}
 use Rattle.lone_laws.specs.alone.Runs.{IsAnsweredRun}
 use Rattle.lone_laws.proofs.answered.Ended.{answered_run}
 use Rattle.lone_laws.proofs.answered.Ready.{boots_silently, found_again}
@@ -44,7 +44,7 @@ node_over number r m = record {
 }
 
 -- a boot over it writes nothing, and finds what that one found
-begins_as : (number : ℕ) (old : List ℕ) → IsTaken old → (m : Memory) → m.content ≡ behind_boot old → booted_from number old m ≡ lone_booted number 2 m
+begins_as : (number : ℕ) (old : List ℕ) → IsTakenMemory old → (m : Memory) → m.content ≡ behind_boot old → booted_from number old m ≡ lone_booted number 2 m
 begins_as number old taken m is =
     let by : List Write → Running → Lone = λ w r. node_over number (cond (fails_within (length w) m.plan) None (Some r)) (after_planned w m) in
     let silent : boot_writes m.content ≡ [] = ap boot_writes is ∙ boots_silently old taken in
@@ -159,7 +159,7 @@ module _ {N : Type 0} (writes : N → ℕ → List ℕ → Bool → N → Type 0
   -- ## The run
 
   module _ (reads : N → Bool → N → Type 0) (old first new : N) (stopped : Bool) (form : EndForm) (is_clf : Bool) (bytes written : List ℕ)
-      (taken : IsTaken (content old)) (boot : HasWritten reads writes content (ready_writes (content old)) old true first)
+      (taken : IsTakenMemory (content old)) (boot : HasWritten reads writes content (ready_writes (content old)) old true first)
       (run : IsRunOfBytes writes first new stopped form is_clf (content old) bytes written) where
     pub first_is : content first ≡ behind_boot (content old)
     first_is =

@@ -2,7 +2,7 @@
 ghost use Rattle.std.specs.Prelude.{◌≡◌, ℕ, Bool, true, List, IsTrue, if◌then◌else◌};
 ghost use Rattle.hci_store.specs.Starting.{ready_writes, HasWritten};
 ghost use Rattle.lone_laws.specs.alone.Ends.{EndForm};
-ghost use Rattle.lone_laws.specs.alone.Memories.{IsTaken};
+ghost use Rattle.lone_laws.specs.alone.Memories.{IsTakenMemory};
 ghost use Rattle.lone_laws.specs.alone.Runs.{IsAnsweredRun};
 ghost use Rattle.one_end.specs.Standing.{HasRun, IsRunOfBytes};
 ghost use Rattle.one_end.specs.WholeRuns.{IsRunAlone};
@@ -26,7 +26,7 @@ pub fn a_run_is_that_of_its_bytes<N: Nv, T: LoneNode<N>>(end: &OneEnd<T>)
 /// 01 too, which the boot writes anew.
 pub fn a_run_is_one_of_a_node_alone<N: Nv>()
     ensures { IsTrue N.tells → (old first new : N) (stopped : Bool) (form : EndForm) (is_clf : Bool) (bytes written : List ℕ)
-        → IsTaken (N.content old) → HasWritten N.reads N.writes N.content (ready_writes (N.content old)) old true first
+        → IsTakenMemory (N.content old) → HasWritten N.reads N.writes N.content (ready_writes (N.content old)) old true first
         → IsRunOfBytes N.writes first new stopped form is_clf (N.content old) bytes written
         → IsRunAlone (N.content first) (N.content new) stopped form is_clf bytes written }
 {}
@@ -36,7 +36,7 @@ pub fn a_run_is_one_of_a_node_alone<N: Nv>()
 /// found (`a_node_alone_answers_every_message`, `a_node_alone_keeps_its_commands`, `a_boot_makes_a_memory_ready`).
 pub fn a_run_answers_every_message_and_keeps_its_commands<N: Nv>()
     ensures { IsTrue N.tells → (old first new : N) (stopped : Bool) (form : EndForm) (is_clf : Bool) (bytes written : List ℕ)
-        → IsTaken (N.content old) → HasWritten N.reads N.writes N.content (ready_writes (N.content old)) old true first
+        → IsTakenMemory (N.content old) → HasWritten N.reads N.writes N.content (ready_writes (N.content old)) old true first
         → IsRunOfBytes N.writes first new stopped form is_clf (N.content old) bytes written
         → IsAnsweredRun (N.content old) (N.content new) stopped form is_clf bytes written }
 {}

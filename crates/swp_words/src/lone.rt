@@ -1,5 +1,6 @@
 //! The command `end`: one node alone at the end of a link whose other end is live.
-ghost use Rattle.std.specs.Prelude.{◌≡◌, ◌≢◌, ◌≤◌, ◌<◌, ◌+◌, ◌++◌, ◌∷◌, [], List, ℕ, IsTrue, OnOk, OnErr, IfOk, IfErr, Err, take, false, length, if◌then◌else◌, Bool, true, ◌⊎◌};
+ghost use Rattle.std.specs.Prelude.{◌≡◌, ◌≢◌, ◌≤◌, ◌<◌, ◌+◌, ◌++◌, ◌∷◌, [], List, ℕ, IsTrue, OnOk, OnErr, IfOk, IfErr, Err, take, false, length};
+ghost use Rattle.std.specs.Prelude.{if◌then◌else◌, Bool, true, ◌⊎◌};
 ghost use Rattle.std.specs.Prelude.{◌↔◌, None, Some};
 ghost use Rattle.swp_base.specs.Outside.{Rose};
 ghost use Rattle.hci_store.specs.Image.{image_fault};
@@ -8,7 +9,8 @@ ghost use Rattle.nv_journal.specs.declared.JournalFault.{JournalFault as Bad};
 ghost use Rattle.swp_words.specs.Records.{most_bytes};
 ghost use Rattle.lone_laws.specs.alone.Lone.{Lone};
 ghost use Rattle.one_end.specs.Standing.{StandsAlone, HasRun, HasBooted};
-ghost use Rattle.swp_words.specs.Ends.{Began, HasHeardAlone, IsWaitingAlone, IsCutAlone, HasGoneOut, EndedInBytes, IsOfEnd, IsOfLone, RanSo, EndedSo, IsOfEndWord, status_of_boot};
+ghost use Rattle.swp_words.specs.Ends.{Began, HasHeardAlone, IsWaitingAlone, IsCutAlone, HasGoneOut, EndedInBytes, IsOfEnd, IsOfLone, RanSo, EndedSo};
+ghost use Rattle.swp_words.specs.Ends.{IsOfEndWord, status_of_boot};
 ghost use Rattle.swp_words.specs.Ends.{HasNextGeneration, IsRefusedFor};
 ghost use Rattle.one_end.specs.Writing.{form_named};
 

@@ -35,7 +35,8 @@ module _ {X : Type 0} where
   at_events f t (o ∷ events) = f t o ∷ at_events f (t ++ o.entries) events
 
   same_at : (f g : List Entry → LoneEvent → X) (t : List Entry) (past back : List LoneEvent) (o : LoneEvent)
-      → at_events f t (past ++ (o ∷ back)) ≡ at_events g t (past ++ (o ∷ back)) → f (t ++ entries_of_events_alone past) o ≡ g (t ++ entries_of_events_alone past) o
+      → at_events f t (past ++ (o ∷ back)) ≡ at_events g t (past ++ (o ∷ back)) → f (t ++ entries_of_events_alone past) o ≡ g
+      (t ++ entries_of_events_alone past) o
   same_at f g t [] back o same = subst (λ l. f l o ≡ g l o) (sym (append-nil t)) (ap (first_or (f t o)) same)
   same_at f g t (p ∷ past) back o same =
       subst (λ l. f l o ≡ g l o) (append_assoc t p.entries (entries_of_events_alone past)) (same_at f g (t ++ p.entries) past back o (ap rest_of same))

@@ -184,7 +184,8 @@ held_for_more : RefusedByOnly core 2 HeldFact (begins ∷ too_much ∷ [])
 unfolding hosts_where lowest_free
 held_for_more = (
   λ held. let same : 1 ≡ 2 = ap blocks (held (begins ∷ []) [] too_much
-      (Got (end_c 2) 1 2 long ∷ Got (end_c 2) 1 2 (66 ∷ []) ∷ Turn (end_c 2) 2 long ∷ Sent (end_c 2) 1 2 long ∷ []) [] (Held (end_c 2) 2 0) refl refl).1 in omega (arith, same),
+      (Got (end_c 2) 1 2 long ∷ Got (end_c 2) 1 2 (66 ∷ []) ∷ Turn (end_c 2) 2 long ∷ Sent (end_c 2) 1 2 long ∷ []) [] (Held (end_c 2) 2 0) refl refl).1 in
+      omega (arith, same),
   others_hold core 2 HeldFact (begins ∷ too_much ∷ []) (refl, refl, tt, refl, refl, refl, refl, refl, refl),
 )
 

@@ -7,7 +7,7 @@ use Rattle.hci_tables.specs.declared.command.Command.{Command}
 use Rattle.hci_tables.specs.declared.command.Command.TheVariants as command
 use Rattle.hci_tables.specs.Tables.{HciTables, close}
 use Rattle.hci_store.specs.Image.{image_fault, tables_of}
-use Rattle.lone_laws.specs.alone.Memories.{Counts, CountsAll, FindsBehind, FindsTables, IsKeptIn, IsReady}
+use Rattle.lone_laws.specs.alone.Memories.{Counts, CountsAll, FindsBehind, FindsTables, IsKeptIn, IsReadyMemory}
 
 -- a memory that says nothing
 abbrev blank : List ℕ
@@ -34,7 +34,7 @@ finds_another : IsKeptIn false blank [] other_record → ⊥
 unfolding found_from no_syncs
 finds_another k = true≢false (sym (ap no_syncs k.finds.tables_are))
 
-another_is_ready : IsReady other_record × Counts other_record 0
+another_is_ready : IsReadyMemory other_record × Counts other_record 0
 unfolding found_from image_fault
 another_is_ready = (
   record { size = leb-true 65536 (length other_record) refl; sound = refl; version = refl },

@@ -10,7 +10,7 @@ use Rattle.node_machine.specs.Node.{found}
 use Rattle.lone_laws.specs.alone.Answers.{AnsweredAlone, entries_of_events_alone}
 use Rattle.lone_laws.specs.alone.Ends.{EndForm, end_causes, end_history, end_node, end_written}
 use Rattle.lone_laws.specs.alone.Lone.{Lone, lone_after}
-use Rattle.lone_laws.specs.alone.Memories.{Counts, CountsAll, FindsBehind, FindsTables, IsHeldBehind, IsKeptIn, IsReady, IsTaken, behind_boot}
+use Rattle.lone_laws.specs.alone.Memories.{Counts, CountsAll, FindsBehind, FindsTables, IsHeldBehind, IsKeptIn, IsReadyMemory, IsTakenMemory, behind_boot}
 use Rattle.lone_laws.specs.alone.Memories.{commands_of_entries}
 use Rattle.lone_laws.specs.alone.Runs.{IsAnsweredRun}
 use Rattle.lone_laws.proofs.answered.Ready.{counts_all, finds_same, is_ready}
@@ -23,7 +23,7 @@ end_answered form true m bytes =
     lone_answered 0 2 (omega arith) (omega arith) (λ q. absurd (true≢false q)) m (end_causes form (end_node true m) bytes)
 end_answered form false m bytes = lone_answered 2 2 (omega arith) (omega arith) (λ q. refl) m (end_causes form (end_node false m) bytes)
 
-pub end_held : (form : EndForm) (is_clf : Bool) (m : Memory) → IsReady m.content → (bytes : List ℕ)
+pub end_held : (form : EndForm) (is_clf : Bool) (m : Memory) → IsReadyMemory m.content → (bytes : List ℕ)
     → IsHeldBehind m.content (commands_of_entries (entries_of_events_alone (end_history form (end_node is_clf m) bytes)))
     (lone_after (end_node is_clf m) (end_causes form (end_node is_clf m) bytes))
 end_held form true m ready bytes =
@@ -44,7 +44,7 @@ module _ (old first : List ℕ) (same : FindsSame old first) (carries : CountsAl
   kept_of true commands content (inl f) = inl (finds_of commands content f)
   kept_of true commands content (inr f) = inr (record { front = f.front; last = f.last; are = f.are; finds = finds_of f.front content f.finds })
 
-pub answered_run : (old new : List ℕ) (stopped : Bool) (form : EndForm) (is_clf : Bool) (bytes written : List ℕ) → IsTaken old → (m : Memory)
+pub answered_run : (old new : List ℕ) (stopped : Bool) (form : EndForm) (is_clf : Bool) (bytes written : List ℕ) → IsTakenMemory old → (m : Memory)
     → m.content ≡ behind_boot old → end_written form (end_node is_clf m) bytes ≡ written
     → (lone_after (end_node is_clf m) (end_causes form (end_node is_clf m) bytes)).memory.content ≡ new
     → is_none (lone_after (end_node is_clf m) (end_causes form (end_node is_clf m) bytes)).node ≡ stopped
@@ -53,7 +53,7 @@ answered_run old new stopped form is_clf bytes written taken m content_is wrote 
     let last : Lone = lone_after (end_node is_clf m) (end_causes form (end_node is_clf m) bytes) in
     let commands : List Command = commands_of_entries (entries_of_events_alone (end_history form (end_node is_clf m) bytes)) in
     let held : IsKeptIn (is_none last.node) m.content commands last.memory.content =
-    end_held form is_clf m (subst IsReady (sym content_is) (is_ready old taken)) bytes in
+    end_held form is_clf m (subst IsReadyMemory (sym content_is) (is_ready old taken)) bytes in
     let kept : IsKeptIn stopped (behind_boot old) commands new =
     subst (λ first. IsKeptIn stopped first commands new) content_is
     (subst (λ content. IsKeptIn stopped m.content commands content) now (subst (λ b. IsKeptIn b m.content commands last.memory.content) power held)) in

@@ -161,7 +161,8 @@ pub host_fits : (core : Core) (ports : List Port) (p : Port) (k number h : ℕ) 
 host_fits core ports p k number h m another node here =
     let e : End = end_of_node_alone number h in
     let zero : leads_to_link_gate core.tables e m.0 ≡ eqb m.0 0 =
-    ap (λ b. leads_to_link_gate core.tables (cond b (Rattle.node_machine.specs.world.World.end_c h) (Rattle.node_machine.specs.world.World.end_h h)) m.0) another in
+    ap (λ b. leads_to_link_gate core.tables (cond b (Rattle.node_machine.specs.world.World.end_c h) (Rattle.node_machine.specs.world.World.end_h h)) m.0)
+    another in
     subst (FitsErrors ports k m.0 (host_deeds core p m)) (sym (ap (λ b. cond b (errors_set_by m.1) None) zero))
     (fits_by ports k m (host_deeds core p m) (eqb m.0 0) (errors_set_by m.1) (host_unset core p m)
     (λ v leads sets. subst (λ n. SetDeeds ports n m.0 v (host_deeds core p m)) node
@@ -185,7 +186,8 @@ module _ (e : End) where
     by true (Some n) = ap (λ o. cond (same_end e e && is_any_ok m.1) (unwrap_or o z.errors) z.errors) none ∙ same_both (same_end e e && is_any_ok m.1) z.errors
     by false s = refl
 
-  sent_other : (session : Option ℕ) (to : ℕ) (m : Message) (z : RecErrors) → is_any_ok m.1 ≡ false → (errs_all e z (sent_alone e session to m)).errors ≡ z.errors
+  sent_other : (session : Option ℕ) (to : ℕ) (m : Message) (z : RecErrors) → is_any_ok m.1 ≡ false → (errs_all e z (sent_alone e session to m)).errors ≡
+      z.errors
   sent_other session to m z other = by (eqb to e.link) session where
     by : (b : Bool) (s : Option ℕ) → (errs_all e z (cond b (option_map_or (λ n. entry.Sent e n m.0 m.1 ∷ []) s []) [])).errors ≡ z.errors
     by true None = refl

@@ -293,7 +293,8 @@ module _ (E : Type 0) where
           by_record (append_left between (with_room s t (body_of c)) t r.0 c command r.1 later.0 left later.1)
 
   -- over a memory whose failing write is planned
-  pub planned_knows : (m : Memory) (s : State) (t : HciTables) (c : Command) → KnowsIf m.content s t → AreTables t → IsRecordable t → IsCommand c → FindsRoom s c
+  pub planned_knows : (m : Memory) (s : State) (t : HciTables) (c : Command) → KnowsIf m.content s t → AreTables t → IsRecordable t → IsCommand c → FindsRoom
+      s c
       → fails_within (length (commit_writes s t (body_of c))) m.plan ≡ false
       → KnowsIf (after_planned (commit_writes s t (body_of c)) m).content (committed s t (body_of c)) (apply t c)
   planned_knows m s t c k are may command room none =

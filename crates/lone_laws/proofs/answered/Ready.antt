@@ -30,13 +30,13 @@ use Rattle.hci_store.proofs.Starting.{counted}
 use Rattle.node_machine.specs.Node.{boot_writes, found, new_desk}
 use Rattle.node_laws.proofs.kept.Booting.{good_found}
 use Rattle.node_laws.proofs.kept.Snapshots.{snapshot_fits}
-use Rattle.lone_laws.specs.alone.Memories.{CountsAll, IsReady, IsTaken, behind_boot}
+use Rattle.lone_laws.specs.alone.Memories.{CountsAll, IsReadyMemory, IsTakenMemory, behind_boot}
 use Rattle.lone_laws.proofs.answered.Finding.{KnowsIf, fault_none, knows_from, some_other}
 
 first_version : (v : ℕ) → IsTrue (v == 1 || v == 2) → (v == 2) ≡ false → v ≡ 1
 first_version v known older = grind (arith, nat_tests)
 
-module _ (content : List ℕ) (taken : IsTaken content) where
+module _ (content : List ℕ) (taken : IsTakenMemory content) where
   abbrev s : State
   s = state_of content
 
@@ -119,7 +119,7 @@ module _ (content : List ℕ) (taken : IsTaken content) where
   left : Leaves (behind_boot content) (ready_state content)
   left = leaves (current content) refl
 
-  pub is_ready : IsReady (behind_boot content)
+  pub is_ready : IsReadyMemory (behind_boot content)
   is_ready = record {
     size = left.knows.finds.size;
     sound = sound_has_no_fault (behind_boot content) left.knows.finds.holds.commands left.knows.finds.sound;

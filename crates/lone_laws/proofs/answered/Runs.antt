@@ -51,7 +51,7 @@ use Rattle.lone_laws.specs.alone.Lone.{does_by_power, emits_behind, lone_step, l
 use Rattle.lone_laws.specs.alone.Lone.{frames_behind, noted_of_refused}
 use Rattle.lone_laws.specs.alone.Lone.LoneCause.{FrameComes, FrameIsRefused, TickComes, ResetComes, StartComes, StopComes}
 use Rattle.lone_laws.specs.alone.Answers.{entries_of_events_alone}
-use Rattle.lone_laws.specs.alone.Memories.{CountsAll, FindsAllButLast, FindsBehind, IsHeldBehind, IsReady, commands_of_entries}
+use Rattle.lone_laws.specs.alone.Memories.{CountsAll, FindsAllButLast, FindsBehind, IsHeldBehind, IsReadyMemory, commands_of_entries}
 use Rattle.lone_laws.proofs.answered.Coming.{IsLoneInput, pass_is}
 use Rattle.lone_laws.proofs.answered.Lasting.{LoneKeeps, arrival_nothing, begins_alone, step_is}
 use Rattle.lone_laws.proofs.answered.Finding.{FindsIf, KnowsIf, fault_none, finds_counting, knows_formatted, left_formatted}
@@ -403,7 +403,7 @@ module _ (first : List ℕ) where
   abbrev pub start : HciTables
   start = close (tables_of first)
 
-  pub found_first : IsReady first → FindsIf Counted first start (count first)
+  pub found_first : IsReadyMemory first → FindsIf Counted first start (count first)
   found_first ready =
       let both = fault_none first ready.sound in
       record {
@@ -426,7 +426,7 @@ module _ (first : List ℕ) where
   found_less : (commands : List Command) (content : List ℕ) → FindsLess Counted start (count first) commands content → FindsAllButLast first commands content
   found_less commands content f = record { front = f.front; last = f.last; are = f.are; finds = found_behind f.front content f.finds }
 
-module _ (number h : ℕ) (m : Memory) (ready : IsReady m.content) where
+module _ (number h : ℕ) (m : Memory) (ready : IsReadyMemory m.content) where
   abbrev content : List ℕ
   content = m.content
 
@@ -510,7 +510,7 @@ held_behind first t l a = by l.node refl where
   by None q = rw q (either (subst (RemembersBy E (start first) (count first) t l.memory) q a))
   by (Some n) q = rw q (holds n (subst (RemembersBy E (start first) (count first) t l.memory) q a))
 
-pub run_held : (number h : ℕ) → 1 ≤ h → h ≤ 7 → (eqb number 0 ≡ false → number ≡ h) → (m : Memory) → IsReady m.content → (causes : List LoneCause)
+pub run_held : (number h : ℕ) → 1 ≤ h → h ≤ 7 → (eqb number 0 ≡ false → number ≡ h) → (m : Memory) → IsReadyMemory m.content → (causes : List LoneCause)
     → IsHeldBehind m.content (commands_of_entries (entries_of_events_alone (lone_events (lone_booted number h m) causes)))
     (lone_after (lone_booted number h m) causes)
 run_held number h some most its m ready causes =

@@ -226,10 +226,12 @@ module _ (rest : Core) (t : List Entry) (l : Lone) (n : Running) (on : l.node �
     due = refl;
     reset = refl;
     first = λ front behind x q.
-        is_first (t ++ front) x behind (order_silent (t ++ front) x behind (none_at (λ y. link_of_turn y ≡ None) front behind x (subst AreNoTurns q (refl, tt))));
+        is_first (t ++ front) x behind (order_silent (t ++ front) x behind (none_at (λ y. link_of_turn y ≡ None) front behind x
+        (subst AreNoTurns q (refl, tt))));
     ascending = λ n. tt;
     heard = λ front behind x q n answers.
-        absurd (true≢false (sym answers ∙ none_at (λ y. is_answer_of n y ≡ false) front behind x (subst (AllByRecursion (λ y. is_answer_of n y ≡ false)) q (refl, tt))));
+        absurd (true≢false (sym answers ∙ none_at (λ y. is_answer_of n y ≡ false) front behind x
+        (subst (AllByRecursion (λ y. is_answer_of n y ≡ false)) q (refl, tt))));
   }
 
   pub refused_step : 1 ≤ l.link → l.link ≤ 7 → is_at_rest e t ≡ true

@@ -13,13 +13,13 @@ use Rattle.lone_laws.specs.alone.Lone.{Lone}
 -- ## What a boot finds
 
 -- Nothing is wrong with this memory, and what a boot finds in it is of version 02, or nothing. So it is with each memory behind a boot.
-pub record IsReady (content : List ℕ) : Type 0 where
+pub record IsReadyMemory (content : List ℕ) : Type 0 where
   pub size : 65536 ≤ length content
   pub sound : image_fault content ≡ None
   pub version : (journal content).head.version ≡ 2
 
 -- A boot takes this memory: nothing is wrong with it, and one of version 01 has a generation left for the snapshot of version 02.
-pub record IsTaken (content : List ℕ) : Type 0 where
+pub record IsTakenMemory (content : List ℕ) : Type 0 where
   pub size : 65536 ≤ length content
   pub sound : image_fault content ≡ None
   pub next : (journal content).head.version ≡ 1 → (journal content).head.generation < 4294967295
@@ -30,7 +30,7 @@ behind_boot content = after_writes (ready_writes content) content
 
 -- a memory that is ready, in which a boot finds these tables, all pipes closed
 pub record FindsTables (content : List ℕ) (tables : HciTables) : Type 0 where
-  pub ready : IsReady content
+  pub ready : IsReadyMemory content
   pub tables_are : close (tables_of content) ≡ close tables
 
 -- The head of the bank in use names no more records of a snapshot than its base and its records make. Where it names more, the records behind
