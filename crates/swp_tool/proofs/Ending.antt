@@ -54,14 +54,17 @@ pub halted_replayed : (tells : Bool) (given : ℕ) (why : Halt) (count : ℕ) (b
 halted_replayed tells given (halt.Fault f) count bytes text rest before after h is = (text, h rest, is)
 halted_replayed tells given halt.Undetected count bytes text rest before after h is = (text, h rest, is)
 halted_replayed tells given halt.TooMany count bytes text rest before after h is = (text, h rest, is)
-halted_replayed tells given halt.NoMemory count bytes text rest before after h is = (text, h rest, is)
+halted_replayed tells given halt.NoMemory count bytes text rest before after h is =
+    let read : IsFrontTranscript bytes text = subst (λ (b : List ℕ). IsFrontTranscript b text) (append-nil bytes) (h []) in
+    (text, record { bytes = bytes; input_is = refl; read = read; front = h rest }, is)
 
 pub halted_at_end : (tells : Bool) (given : ℕ) (why : Halt) (count : ℕ) (bytes text before after : List ℕ) → HaltsAtEnd why count bytes text
     → (IsTrue tells → after ≡ before ++ text) → Replayed tells given (status_of why count) bytes [] before after
 halted_at_end tells given (halt.Fault f) count bytes text before after h is = (text, h, is)
 halted_at_end tells given halt.Undetected count bytes text before after h is = (text, h, is)
 halted_at_end tells given halt.TooMany count bytes text before after h is = absurd h
-halted_at_end tells given halt.NoMemory count bytes text before after h is = (text, h, is)
+halted_at_end tells given halt.NoMemory count bytes text before after h is =
+    (text, record { bytes = bytes; input_is = sym (append-nil bytes); read = h; front = h }, is)
 
 -- before the first byte
 pub nothing_played : (tells : Bool) (p : Pieces) (input before : List ℕ) → HasRead p [] [] → p.replay.text.items ≡ []

@@ -60,6 +60,7 @@ tells_whole input text h =
       header_is = header.1;
       history = is.history;
       played = is.played;
+      legal = is.legal;
       tells = is.tells;
       told = subst (λ t. TellsEntries t (schedule_told header.0 s.lines)) (sym text_is)
           (tells_all (schedule_told header.0 s.lines) s.count (schedule_told_in header.0 right.begun s.lines right.lines_are fits.short right.each)

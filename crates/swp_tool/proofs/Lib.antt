@@ -12,3 +12,4 @@ mod NodeExamples
 mod HappenedExample
 pub mod Summing
 pub mod Numerals
+pub mod Promised

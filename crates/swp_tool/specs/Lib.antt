@@ -4,3 +4,4 @@ pub mod Replays
 pub mod Pieces
 pub mod Runs
 pub mod Generated
+pub mod Words

@@ -51,6 +51,13 @@ pub record IsCutShort (most given : ℕ) (input left front : List ℕ) : Type 0 
 abbrev pub IsTranscriptOfRead : List ℕ → List ℕ → List ℕ → Type 0
 IsTranscriptOfRead input left text = (bytes : List ℕ) × (input ≡ bytes ++ left) × IsWholeTranscript bytes text × IsRunning bytes
 
+-- The transcript of some of the first lines, of the input and of its bytes that were read, where these are left: no line is told that wasn't read.
+pub record IsFrontOfRead (input left text : List ℕ) : Type 0 where
+  pub bytes : List ℕ
+  pub input_is : input ≡ bytes ++ left
+  pub read : IsFrontTranscript bytes text
+  pub front : IsFrontTranscript input text
+
 -- How a replay of this input ended. The transcript of the lines before the fault was written, on Done all of it; on a fault of writing,
 -- a front of it, all of the pieces before the last among it. Whether the sink tells what was written comes first: without it there is
 -- such a text, and nothing is said of where it went. Then come the bytes of the last read that gave some.
@@ -61,7 +68,7 @@ Replayed tells given (status.Undetected line) input left before after = AppendsT
 Replayed tells given (status.TooMany count) input left before after = AppendsText tells (StopsWithText input Too_many count) before after
 Replayed tells given status.ReadFault input left before after = AppendsText tells (IsTranscriptOfRead input left) before after
 Replayed tells given status.WriteFault input left before after = AppendsText tells (IsCutShort 4096 given input left) before after
-Replayed tells given status.NoMemory input left before after = AppendsText tells (IsFrontTranscript input) before after
+Replayed tells given status.NoMemory input left before after = AppendsText tells (IsFrontOfRead input left) before after
 Replayed tells given status.BadWords input left before after = ⊥
 Replayed tells given status.NvFault input left before after = ⊥
 Replayed tells given (status.BadImage why) input left before after = ⊥

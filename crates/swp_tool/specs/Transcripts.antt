@@ -111,12 +111,13 @@ pub record TellsEntries (text : List ℕ) (entries : List Entry) : Type 0 where
   pub text_is : text ≡ whole_text entries count
   pub alone : (others : List Entry) (n : ℕ) → All IsEntry others → IsNumber n → text ≡ whole_text others n → others ≡ entries
 
--- A text tells what became of the lines of a schedule: their entries, which tell what happened in the history that is played from what they
--- come to.
+-- A text tells what became of the lines of a schedule: their entries, which tell what happened in the legal history that is played from what
+-- they come to.
 pub record TellsPlayed (s : Schedule) (text : List ℕ) : Type 0 where
   pub header : Header
   pub header_is : s.header ≡ Some header
   pub history : PlayedHistory
   pub played : IsPlayed header (lines_played_of header s.lines) history
+  pub legal : IsLegal history
   pub tells : what_happened (schedule_told header s.lines) ≡ what_happened (played_told history)
   pub told : TellsEntries text (schedule_told header s.lines)

@@ -1,22 +1,10 @@
 //! The top call.
-ghost use Rattle.std.specs.Prelude.{◌≡◌, ◌≢◌, ◌≤◌, ◌<◌, ◌+◌, ◌++◌, ◌∷◌, ◌↔◌, ◌⊎◌, [], List, ℕ, Bool, length, map, string_bytes, codes, Some, None};
-ghost use Rattle.std.specs.Prelude.{IsTrue, OnOk, OnErr, IfErr, IfSome, IfNone, Ok, Err, take, true, false};
+ghost use Rattle.std.specs.Prelude.{◌≡◌, ◌∷◌, ◌↔◌, [], ℕ, Bool, map, string_bytes, codes, IsTrue, IfSome, IfNone, false};
 ghost use Rattle.swp_base.specs.Outside.{Rose};
-ghost use Rattle.swp_tool.specs.Schedules.{Stop, schedule_in};
-ghost use Rattle.swp_tool.specs.Runs.{status_of, status_at, AppendsText, Replayed, IsUnderWay, IsReplay, IsDecode, IsTap, IsTables, AskForSomething};
-ghost use Rattle.swp_tool.specs.Runs.{IsOfReplay};
-ghost use Rattle.swp_tool.specs.Transcripts.{TellsPlayed};
-ghost use Rattle.swp_words.specs.Images.{Told, IsOfTables};
-ghost use Rattle.hci_store.specs.Image.{image_fault};
-ghost use Rattle.hci_store.specs.Refusals.{IsOnlyRead};
-ghost use Rattle.nv_journal.specs.declared.JournalFault.{JournalFault as Bad};
-ghost use Rattle.swp_words.specs.Records.{most_bytes, IsOfRecord};
-ghost use Rattle.swp_words.specs.Decodings.{DecodedBy};
-ghost use Rattle.swp_words.specs.Ends.{EndForm, form_named};
-ghost use Rattle.swp_words.specs.Ends.{EndedSo, IsOfEndWord, IsEndCommand, AskForAnEnd, HasNextGeneration, IsRefusedFor};
-ghost use Rattle.swp_words.specs.Taps.{TappedBy, IsOfTap};
-ghost use Rattle.swp_tool.specs.Generated.{Generated, IsGen, IsOfGen};
-ghost use Rattle.swp_tool.specs.Pieces.{HasRead, IsReading, IsReadAhead, bytes_left};
+ghost use Rattle.swp_words.specs.Ends.{EndForm, IsEndCommand, AskForAnEnd, form_named};
+ghost use Rattle.swp_tool.specs.Generated.{IsGen};
+ghost use Rattle.swp_tool.specs.Runs.{IsReplay, IsDecode, IsTap, IsTables, AskForSomething};
+ghost use Rattle.swp_tool.specs.Words.{run_source, run_sink, run_memory, IsReplayRun, IsDecodeRun, IsTapRun, IsTablesRun, IsGenRun, IsEndRun};
 
 use crate::generating::generate;
 use crate::number::number_given;
@@ -47,147 +35,31 @@ pub fn run<S: Source, K: Sink, N: Nv + Drop>(
 ) -> Ended<N>
     requires { N.capacity nv ≡ 65536 }
 
-    // Why the run ended and what was read and written, for a source that tells what it has left. Only the equation about the
-    // bytes written asks for a sink that tells what it holds. What a replay that is done has written is the transcript of a
-    // legal history (`IsLegal`), of one link or of nodes, that follows the whole schedule; a replay that ends before has
-    // written that of one that follows lines before, or a front of such a text where a write failed.
-    ensures replayed { IsReplay (map string_bytes words.now) → IsTrue S.tells →
-        Replayed K.tells (S.end source.new).given result.status (S.left source.old) (S.left source.new) (K.written sink.old) (K.written sink.new) }
-
-    // The text of a replay that is done tells what became of its schedule: from the text its entries are known.
-    ensures known { IsReplay (map string_bytes words.now) → IsTrue S.tells → result.status ≡ Status.Done →
-        AppendsText K.tells (TellsPlayed (schedule_in (S.left source.old))) (K.written sink.old) (K.written sink.new) }
-
-    ensures decoded { IsDecode (map string_bytes words.now) → IsTrue S.tells →
-        DecodedBy K.tells (S.end source.new).given result.status (S.left source.old) (S.left source.new) (K.written sink.old) (K.written sink.new) }
-
-    // A tap writes what its definition reports of the frames of the bytes read, on a link that is bare or not.
-    ensures tapped { (bare : Bool) → IsTap bare (map string_bytes words.now) → IsTrue S.tells →
-        TappedBy bare K.tells (S.end source.new).given result.status (S.left source.old) (S.left source.new) (K.written sink.old) (K.written sink.new) }
-
-    // An end takes the bytes read as what comes on its link, and writes what a node does that boots from the memory handed in, by the
-    // rules of a node alone. The memory is then so as that node left it.
-    ensures ended { (is_clf : Bool) (form : EndForm) → IsEndCommand is_clf form (map string_bytes words.now) → IsTrue S.tells → IsTrue N.tells →
-        EndedSo N.reads N.writes N.content K.tells (S.end source.new).given form is_clf nv result.nv result.status (S.left source.old) (S.left source.new)
-        (K.written sink.old) (K.written sink.new) }
-
-    // A memory with a fault is refused for that fault, unless there is no memory for the node, or a read of the boot failed before.
-    ensures end_bad_image { AskForAnEnd (map string_bytes words.now) → IsTrue N.tells →
-        (f : Bad) → image_fault (N.content nv) ≡ Some f → ¬ Rose (N.faults nv) (N.faults result.nv) →
-        (result.status ≡ Status.BadImage f) ⊎ (result.status ≡ Status.NoMemory) }
-
-    // A memory is refused exactly for its fault or, where it has none, since it is of version 01 and has the last generation: a boot would
-    // write it anew with the next one. Where one is refused, nothing is read or written; nor is it where one is to be refused, however the
-    // run ends.
-    ensures end_refuses { AskForAnEnd (map string_bytes words.now) → IsTrue N.tells → (f : Bad) →
-        (result.status ≡ Status.BadImage f)
-        ↔ (IsRefusedFor f (N.content nv) × (result.status ≢ Status.NoMemory) × (result.status ≢ Status.NvFault)) }
-    ensures end_untouched { AskForAnEnd (map string_bytes words.now) →
-        (f : Bad) → result.status ≡ Status.BadImage f → (source.new ≡ source.old) × (sink.new ≡ sink.old) }
-    // Of a memory that is refused at most 37 reads were made, also of one that doesn't tell its content.
-    ensures end_unwritten { AskForAnEnd (map string_bytes words.now) →
-        (f : Bad) → result.status ≡ Status.BadImage f → IsOnlyRead N.reads N.tells N.content nv result.nv }
-    ensures end_never_begins { AskForAnEnd (map string_bytes words.now) → IsTrue N.tells →
-        (f : Bad) → IsRefusedFor f (N.content nv) → (source.new ≡ source.old) × (sink.new ≡ sink.old) }
+    // Each word has a record of its facts (`specs/Words.antt`), most of them for objects that tell what they hold.
+    ensures replay { IsReplay (map string_bytes words.now) → IsReplayRun
+        (run_source S.tells S.left S.end S.faults source.old source.new) (run_sink K.tells K.written K.faults sink.old sink.new) result.status }
+    ensures decode { IsDecode (map string_bytes words.now) → IsDecodeRun
+        (run_source S.tells S.left S.end S.faults source.old source.new) (run_sink K.tells K.written K.faults sink.old sink.new) result.status }
+    ensures tap { (bare : Bool) → IsTap bare (map string_bytes words.now) → IsTapRun bare
+        (run_source S.tells S.left S.end S.faults source.old source.new) (run_sink K.tells K.written K.faults sink.old sink.new) result.status }
+    ensures tables { IsTables (map string_bytes words.now) → IsTablesRun
+        (run_source S.tells S.left S.end S.faults source.old source.new) (run_sink K.tells K.written K.faults sink.old sink.new)
+        (run_memory N.tells N.content N.faults N.reads N.writes nv result.nv) result.status }
+    ensures generate { (n : ℕ) → IsGen n (map string_bytes words.now) → IsGenRun n
+        (run_source S.tells S.left S.end S.faults source.old source.new) (run_sink K.tells K.written K.faults sink.old sink.new) result.status }
+    ensures end { (is_clf : Bool) (form : EndForm) → IsEndCommand is_clf form (map string_bytes words.now) → IsEndRun is_clf form
+        (run_source S.tells S.left S.end S.faults source.old source.new) (run_sink K.tells K.written K.faults sink.old sink.new)
+        (run_memory N.tells N.content N.faults N.reads N.writes nv result.nv) result.status }
 
     // Other words are refused exactly, and then nothing is read or written.
     ensures bad_words { (result.status ≡ Status.BadWords) ↔ ¬ AskForSomething (map string_bytes words.now) }
     ensures untouched { result.status ≡ Status.BadWords → (source.new ≡ source.old) × (sink.new ≡ sink.old) }
 
-    // What was written of a memory that tells its content. Nothing is read then, and the memory keeps its content.
-    ensures told { IsTables (map string_bytes words.now) → IsTrue N.tells →
-        Told K.tells result.status (N.content nv) (K.written sink.old) (K.written sink.new) }
-    ensures kept { IsTables (map string_bytes words.now) → IsTrue N.tells → N.content result.nv ≡ N.content nv }
-    ensures unread { IsTables (map string_bytes words.now) → source.new ≡ source.old }
-    ensures complete_tables { IsTables (map string_bytes words.now) → IsTrue N.tells → image_fault (N.content nv) ≡ None →
-        ¬ Rose (N.faults nv) (N.faults result.nv) → ¬ Rose (K.faults sink.old) (K.faults sink.new) →
-        (result.status ≡ Status.Done) ⊎ (result.status ≡ Status.NoMemory) }
-    ensures bad_image { IsTables (map string_bytes words.now) → IsTrue N.tells →
-        (f : Bad) → image_fault (N.content nv) ≡ Some f → ¬ Rose (N.faults nv) (N.faults result.nv) →
-        result.status ≡ Status.BadImage f }
-
-    // A generated run reads nothing, and writes the summary of the legal history that is played from the schedule drawn from its number.
-    ensures generated { (n : ℕ) → IsGen n (map string_bytes words.now) →
-        Generated K.tells result.status n (K.written sink.old) (K.written sink.new) }
-    ensures gen_unread { (n : ℕ) → IsGen n (map string_bytes words.now) → source.new ≡ source.old }
-    ensures gen_status { (n : ℕ) → IsGen n (map string_bytes words.now) → IsOfGen result.status }
-    ensures complete_gen { (n : ℕ) → IsGen n (map string_bytes words.now) → ¬ Rose (K.faults sink.old) (K.faults sink.new) →
-        (result.status ≡ Status.Done) ⊎ (result.status ≡ Status.NoMemory) }
-
-    // Whatever is read, each word ends in these ways alone.
-    ensures replay_status { IsReplay (map string_bytes words.now) → IsOfReplay result.status }
-    ensures decode_status { IsDecode (map string_bytes words.now) → IsOfRecord result.status }
-    ensures tap_status { (bare : Bool) → IsTap bare (map string_bytes words.now) → IsOfTap result.status }
-    ensures tables_status { IsTables (map string_bytes words.now) → IsOfTables result.status }
-
-    ensures end_status { AskForAnEnd (map string_bytes words.now) → IsOfEndWord result.status }
-
-    // A fault of the outside comes only where its count rose.
+    // A fault of the outside comes only where its count rose. Nothing is read once the source has said that it ended, or a read has failed.
     ensures read_fault { result.status ≡ Status.ReadFault → Rose (S.faults source.old) (S.faults source.new) }
     ensures write_fault { result.status ≡ Status.WriteFault → Rose (K.faults sink.old) (K.faults sink.new) }
     ensures nv_fault { result.status ≡ Status.NvFault → Rose (N.faults nv) (N.faults result.nv) }
-
-    // With a whole schedule and no fault of the outside, a replay is done, unless there is no memory.
-    ensures complete { IsReplay (map string_bytes words.now) → IsTrue S.tells →
-        (schedule_in (S.left source.old)).stop ≡ None →
-        ¬ Rose (S.faults source.old) (S.faults source.new) → ¬ Rose (K.faults sink.old) (K.faults sink.new) →
-        (result.status ≡ Status.Done) ⊎ (result.status ≡ Status.NoMemory) }
-
-    // A schedule that stops is refused at the line where it does, unless there is no memory or the outside failed before.
-    ensures refused { IsReplay (map string_bytes words.now) → IsTrue S.tells →
-        (why : Stop) → (schedule_in (S.left source.old)).stop ≡ Some why →
-        ¬ Rose (S.faults source.old) (S.faults source.new) → ¬ Rose (K.faults sink.old) (K.faults sink.new) →
-        (result.status ≡ status_at why (schedule_in (S.left source.old)).count) ⊎ (result.status ≡ Status.NoMemory) }
-
-    // With a record that isn't too long and no fault of the outside, a decoding is done.
-    ensures complete_record { IsDecode (map string_bytes words.now) → IsTrue S.tells →
-        length (S.left source.old) ≤ most_bytes →
-        ¬ Rose (S.faults source.old) (S.faults source.new) → ¬ Rose (K.faults sink.old) (K.faults sink.new) →
-        result.status ≡ Status.Done }
-
-    // A longer one is refused at the first byte too many, unless the outside failed before.
-    ensures refused_record { IsDecode (map string_bytes words.now) → IsTrue S.tells →
-        most_bytes < length (S.left source.old) →
-        ¬ Rose (S.faults source.old) (S.faults source.new) → ¬ Rose (K.faults sink.old) (K.faults sink.new) →
-        result.status ≡ Status.TooMany 16777217 }
-
-    // So it is with a tap, unless there is no memory for it.
-    ensures complete_tap { (bare : Bool) → IsTap bare (map string_bytes words.now) → IsTrue S.tells →
-        length (S.left source.old) ≤ most_bytes →
-        ¬ Rose (S.faults source.old) (S.faults source.new) → ¬ Rose (K.faults sink.old) (K.faults sink.new) →
-        (result.status ≡ Status.Done) ⊎ (result.status ≡ Status.NoMemory) }
-    ensures refused_tap { (bare : Bool) → IsTap bare (map string_bytes words.now) → IsTrue S.tells →
-        most_bytes < length (S.left source.old) →
-        ¬ Rose (S.faults source.old) (S.faults source.new) → ¬ Rose (K.faults sink.old) (K.faults sink.new) →
-        (result.status ≡ Status.TooMany 16777217) ⊎ (result.status ≡ Status.NoMemory) }
-
-    // With a sound memory that has the generation it needs, bytes that aren't too many and no fault of the outside, an end is done, unless
-    // there is no memory; with more bytes it is refused at the first one too many.
-    ensures complete_end { AskForAnEnd (map string_bytes words.now) → IsTrue S.tells → IsTrue N.tells →
-        image_fault (N.content nv) ≡ None → HasNextGeneration (N.content nv) → length (S.left source.old) ≤ most_bytes →
-        ¬ Rose (S.faults source.old) (S.faults source.new) → ¬ Rose (K.faults sink.old) (K.faults sink.new) →
-        ¬ Rose (N.faults nv) (N.faults result.nv) → (result.status ≡ Status.Done) ⊎ (result.status ≡ Status.NoMemory) }
-    ensures refused_end { AskForAnEnd (map string_bytes words.now) → IsTrue S.tells → IsTrue N.tells →
-        image_fault (N.content nv) ≡ None → HasNextGeneration (N.content nv) → most_bytes < length (S.left source.old) →
-        ¬ Rose (S.faults source.old) (S.faults source.new) → ¬ Rose (K.faults sink.old) (K.faults sink.new) →
-        ¬ Rose (N.faults nv) (N.faults result.nv) → (result.status ≡ Status.TooMany 16777217) ⊎ (result.status ≡ Status.NoMemory) }
-
-    // Nothing is read once the source has said that it ended, or a read has failed.
     ensures late { (S.end source.old).ended ≡ false → (S.end source.new).late ≡ (S.end source.old).late }
-
-    // Of a schedule at most 4,096 bytes are read behind a front in which no line is at fault.
-    ensures ahead { IsReplay (map string_bytes words.now) → IsTrue S.tells →
-        IsReadAhead 4096 (S.left source.old) (S.left source.new) }
-
-    // Of a record at most 4,096 bytes are read behind the last one that it may have.
-    ensures record_ahead { IsDecode (map string_bytes words.now) → IsTrue S.tells →
-        length (S.left source.old) ≤ most_bytes + 4096 + length (S.left source.new) }
-    ensures tap_ahead { (bare : Bool) → IsTap bare (map string_bytes words.now) → IsTrue S.tells →
-        length (S.left source.old) ≤ most_bytes + 4096 + length (S.left source.new) }
-
-    // So it is with an end. What a byte causes is written before more is read than the source hands over in one call (`ended`).
-    ensures end_ahead { AskForAnEnd (map string_bytes words.now) → IsTrue S.tells → IsTrue N.tells →
-        length (S.left source.old) ≤ most_bytes + 4096 + length (S.left source.new) }
 
     // Only the tables and an end need the memory.
     ensures nv { ¬ IsTables (map string_bytes words.now) → ¬ AskForAnEnd (map string_bytes words.now) → result.nv ≡ nv }

@@ -23,7 +23,7 @@ not_refused reads content tells old new fault input left before after h sound ne
   go (inr (q, spent)) = next spent.version spent.generation
 
 -- one byte too many came only where there were so many
-more_came : (bytes rest input : List ℕ) (byte : ℕ) → input ≡ bytes ++ byte ∷ rest → length bytes ≡ most_bytes → most_bytes < length input
+pub more_came : (bytes rest input : List ℕ) (byte : ℕ) → input ≡ bytes ++ byte ∷ rest → length bytes ≡ most_bytes → most_bytes < length input
 more_came bytes rest input byte is most =
     let l = length-append bytes (byte ∷ rest) in
     let all = ap length is in

@@ -17,17 +17,17 @@ pub returns-clause-done : goal.returns-clause-done
 returns-clause-done c is runs =
     let words = ap (map string_bytes) c.as_slice.ensures.value ∙ (c.in_ok-words.ensures ∙ ap (λ w. w ∷ []) is) in
     let bytes = ap (λ (s : SureSource). s.left) c.new-source.ensures ∙ c.in_ok-from_slice.ensures.items in
-    c.run-status.ensures.complete words refl (subst (λ l. (schedule_in l).stop ≡ None) (sym bytes) runs) stands stands
+    (c.run-status.ensures.replay words).complete refl (subst (λ l. (schedule_in l).stop ≡ None) (sym bytes) runs) stands stands
 
 pub returns-clause-refused : goal.returns-clause-refused
 returns-clause-refused c is why stops =
     let words = ap (map string_bytes) c.as_slice.ensures.value ∙ (c.in_ok-words.ensures ∙ ap (λ w. w ∷ []) is) in
     let bytes = ap (λ (s : SureSource). s.left) c.new-source.ensures ∙ c.in_ok-from_slice.ensures.items in
     subst (λ l. (c.run-status.result.status ≡ status_at why (schedule_in l).count) ⊎ (c.run-status.result.status ≡ status.NoMemory)) bytes
-    (c.run-status.ensures.refused words refl why (subst (λ l. (schedule_in l).stop ≡ Some why) (sym bytes) stops) stands stands)
+    ((c.run-status.ensures.replay words).refused refl why (subst (λ l. (schedule_in l).stop ≡ Some why) (sym bytes) stops) stands stands)
 
 pub returns-clause-decoded : goal.returns-clause-decoded
 returns-clause-decoded c is few =
     let words = ap (map string_bytes) c.as_slice.ensures.value ∙ (c.in_ok-words.ensures ∙ ap (λ w. w ∷ []) is) in
     let bytes = ap (λ (s : SureSource). s.left) c.new-source.ensures ∙ c.in_ok-from_slice.ensures.items in
-    c.run-status.ensures.complete_record words refl (subst (λ l. length l ≤ most_bytes) (sym bytes) few) stands stands
+    (c.run-status.ensures.decode words).complete refl (subst (λ l. length l ≤ most_bytes) (sym bytes) few) stands stands
