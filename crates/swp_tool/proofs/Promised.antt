@@ -1,7 +1,7 @@
 -- The facts of each word, from what its command says.
-use Rattle.std.proofs.Common.{◌≡◌, ◌⊎◌, [], ◌∷◌, ◌++◌, ◌+◌, ◌<◌, ◌≤◌, ℕ, Bool, true, false, IsTrue, List, length, length-append, get_or}
+use Rattle.std.proofs.Common.{◌≡◌, ◌⊎◌, [], ◌∷◌, ◌+◌, ◌<◌, ◌≤◌, ℕ, Bool, true, false, IsTrue, List, length, get_or}
 use Rattle.std.proofs.Common.{refl, sym, ap, ◌∙◌, subst, inl, inr, arith}
-use Rattle.std.specs.Prelude.{◌≢◌, ◌↔◌, Option, Some, None, codes}
+use Rattle.std.specs.Prelude.{◌≢◌, ◌↔◌, Some, None, codes}
 use Rattle.swp_base.specs.Outside.{Rose}
 use Rattle.nv_journal.specs.declared.JournalFault.{JournalFault}
 use Rattle.hci_store.specs.Image.{image_fault}

@@ -1,5 +1,5 @@
 -- Each word's own facts where it is the word that was asked for; elsewhere the words are others.
-use Rattle.std.proofs.Common.{map, Bool, true, false, refl}
+use Rattle.std.proofs.Common.{map, true, false, refl}
 use Rattle.std.specs.Prelude.{string_bytes}
 use Rattle.swp_words.specs.Ends.{form_named}
 use Rattle.swp_tool.specs.Words.{run_source, run_sink, run_memory, IsReplayRun, IsDecodeRun, IsTapRun}
