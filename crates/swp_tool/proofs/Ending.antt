@@ -16,6 +16,7 @@ use Rattle.swp_tool.specs.Pieces.{IsReading, IsRunning, HasRead, HasFed, IsFront
 use Rattle.swp_tool.specs.Pieces.{schedule_read, schedule_so_far}
 use Rattle.swp_tool.specs.Runs.{status_of, AppendsText, IsSomeTranscript, IsCutShort, Replayed, IsUnderWay}
 use Rattle.swp_tool.proofs.Reading.{front_so_far, played_transcript}
+use Rattle.swp_words.proofs.Taken.{behind}
 
 -- the end of a schedule adds no line
 ended_same : (s : Schedule) → ((ended s).header ≡ s.header) × ((ended s).lines ≡ s.lines)
