@@ -14,6 +14,7 @@ pub mod Shapes
 pub mod Knowing
 pub mod Replying
 pub mod Errors
+pub mod Linked
 pub mod Replied
 pub mod Answering
 pub mod Keeping

@@ -21,9 +21,9 @@ use Rattle.gate_admin.specs.Decide.{decided}
 use Rattle.link_laws.specs.machine.Machine.{Message}
 use Rattle.node_machine.specs.Parts.{Creation, Notice, Init, Core, Port, Work, Deed}
 use Rattle.node_machine.specs.Parts.Deed.{Commits, Sends, SaysOk, Asks, Releases, Tells, IsAnswered, Drops, SetsErrors, Orders, Hears, GoesOn, Ends}
-use Rattle.node_machine.specs.Carrying.{port_at, finds_room, done}
+use Rattle.node_machine.specs.Carrying.{port_at, finds_room, done, own_view}
 use Rattle.node_machine.specs.Controller.{creation_in, commit_deeds, decision_deeds, link_deeds, gate_deeds, served_at, agreed, creation_deeds}
-use Rattle.node_machine.specs.Controller.{notice_deeds, response_at, relayed_to, unrelayed, event_deeds, unless_asking, if_notice, kind_deeds}
+use Rattle.node_machine.specs.Controller.{notice_deeds, relayed_to, unrelayed, event_deeds, unless_asking, if_notice, kind_deeds, view_of, about_at, about_of}
 use Rattle.node_machine.specs.Controller.{own_deeds, relay_deeds}
 use Rattle.node_machine.specs.Controller.{deeds_by_relay, controller_deeds, has_link, own_gate, view_for, goes_through, is_command_message, answers_on}
 use Rattle.node_core.specs.Deeds.{IsOnTask, IsGranted, AreGranted}
@@ -112,7 +112,7 @@ module _ (h : ℕ) (m : Message) (init : Option Init) (w : Work) (on : IsOnTask 
       (room refl, all_plain h init (Sends h (pipe, answer) ∷ SaysOk ∷ told) (done h (Commits c) (record (has_turn h m w) { plan = None })) (tt, (tt, plain)) on)
   commit_allowed false pipe c answer told room plain = (tt, on)
 
-  decision_allowed : (pipe : ℕ) (d : Decision) → AreGranted h init (decision_deeds w.core h pipe d) (has_turn h m w)
+  decision_allowed : (pipe : ℕ) (d : Decision) → AreGranted h init (decision_deeds (own_view w.core) h pipe d) (has_turn h m w)
   decision_allowed pipe (Answer answer) = (tt, on)
   decision_allowed pipe (Commit c answer tell notice) =
       commit_allowed (finds_room w.core c) pipe c answer.items (map (λ told. Tells told notice.items) (hosts_where (has tell))) (λ q. q)
@@ -125,7 +125,7 @@ module _ (h : ℕ) (m : Message) (init : Option Init) (w : Work) (on : IsOnTask 
       (either ArePlain (gate == 6) _ _ (link_plain h pipe _ _) (either ArePlain (gate == 5) _ _ (tt, tt) (tt, tt))) on
 
   served_allowed : (view : LinkView) (pipe instruction : ℕ) (body : List ℕ) (o : Option ℕ)
-      → AreGranted h init (served_at w.core view h pipe instruction body o) (has_turn h m w)
+      → AreGranted h init (served_at (own_view w.core) view h pipe instruction body o) (has_turn h m w)
   served_allowed view pipe instruction body None = decision_allowed pipe (decided w.core.tables view h pipe instruction body)
   served_allowed view pipe instruction body (Some gate) = gate_allowed gate view.errors pipe instruction body
 
@@ -133,55 +133,55 @@ module _ (h : ℕ) (m : Message) (init : Option Init) (w : Work) (on : IsOnTask 
   agreed_allowed true c room = (tt, (room refl, (tt, (tt, (tt, on)))))
   agreed_allowed false c room = (tt, (tt, (tt, on)))
 
-  creation_allowed : (code : ℕ) (o : Option Creation) → AreGranted h init (creation_deeds w.core code o) (has_turn h m w)
+  creation_allowed : (code : ℕ) (o : Option Creation) → AreGranted h init (creation_deeds (own_view w.core) code o) (has_turn h m w)
   creation_allowed code None = (tt, on)
   creation_allowed code (Some c) =
       agreed_allowed ((code == 0) && finds_room w.core c.command) c (both_true (code == 0) (finds_room w.core c.command))
 
-  notice_allowed : (code : ℕ) (o : Option Notice) → AreGranted h init (notice_deeds w.core code o) (has_turn h m w)
+  notice_allowed : (code : ℕ) (o : Option Notice) → AreGranted h init (notice_deeds (own_view w.core) code (about_of o)) (has_turn h m w)
   notice_allowed code None = (tt, on)
   notice_allowed code (Some n) = creation_allowed code (creation_in (Some n))
 
-  response_allowed : (code : ℕ) (o : Option Port) → AreGranted h init (response_at w.core code o) (has_turn h m w)
+  response_allowed : (code : ℕ) (o : Option Port) → AreGranted h init (notice_deeds (own_view w.core) code (about_at o)) (has_turn h m w)
   response_allowed code None = (tt, on)
   response_allowed code (Some p) = notice_allowed code p.desk.notice
 
   plain_allowed : (deeds : List Deed) → ArePlain deeds → AreGranted h init deeds (has_turn h m w)
   plain_allowed deeds plain = all_plain h init deeds (has_turn h m w) plain on
 
-  asking_allowed : (instruction : ℕ) (b : Bool) → AreGranted h init (unless_asking w.core w.ports h m instruction b) (has_turn h m w)
+  asking_allowed : (instruction : ℕ) (b : Bool) → AreGranted h init (unless_asking (view_of w.core w.ports) h m instruction b) (has_turn h m w)
   asking_allowed instruction true = (tt, on)
   asking_allowed instruction false =
       served_allowed (view_for w.core.tables w.ports h) m.0 instruction (body_in m.1)
       (cond (goes_through w.core.tables h m.0 instruction) (own_gate w.core.tables h m.0) None)
 
-  kind_allowed : (r : Result (MessageKind × ℕ) MessageFault) → AreGranted h init (kind_deeds w.core w.ports h m r) (has_turn h m w)
+  kind_allowed : (r : Result (MessageKind × ℕ) MessageFault) → AreGranted h init (kind_deeds (view_of w.core w.ports) h m r) (has_turn h m w)
   kind_allowed (Ok (IsCommand, instruction)) = asking_allowed instruction _
   kind_allowed (Ok (IsEvent, instruction)) = plain_allowed (event_deeds w.core.tables h m)
       (either ArePlain (is_opened w.core.tables h m.0 && option_map_or (λ gate. gate == 4) (own_gate w.core.tables h m.0) false && posts_back m.1)
       (Sends h m ∷ []) (Drops m.0 ∷ []) (tt, tt) (tt, tt))
   kind_allowed (Ok (IsResponse, code)) = by (m.0 == 1)
     where
-      by : (b : Bool) → AreGranted h init (if_notice w.core w.ports h m code b) (has_turn h m w)
+      by : (b : Bool) → AreGranted h init (if_notice (view_of w.core w.ports) h m code b) (has_turn h m w)
       by true = response_allowed code (port_at w.ports h)
       by false = (tt, on)
   kind_allowed (Err fault) = (tt, on)
 
-  own_allowed : (b : Bool) → AreGranted h init (own_deeds w.core w.ports h m b) (has_turn h m w)
+  own_allowed : (b : Bool) → AreGranted h init (own_deeds (view_of w.core w.ports) h m b) (has_turn h m w)
   own_allowed true = kind_allowed (header_of m.1)
   own_allowed false = (tt, on)
 
-  relay_allowed : (other : ℕ) (b : Bool) → AreGranted h init (relay_deeds w.ports h m other b) (has_turn h m w)
+  relay_allowed : (other : ℕ) (b : Bool) → AreGranted h init (relay_deeds (has_link w.ports) h m other b) (has_turn h m w)
   relay_allowed other true = (tt, on)
   relay_allowed other false =
       plain_allowed (unrelayed (has_link w.ports h) h m)
       (either ArePlain (has_link w.ports h && is_command_message m.1) (answers_on h m.0 (answer_of response.NotConnected [])) (Drops m.0 ∷ [])
       (tt, tt) (tt, tt))
 
-  by_relay_allowed : (o : Option ℕ) → AreGranted h init (deeds_by_relay w.core w.ports h m o) (has_turn h m w)
+  by_relay_allowed : (o : Option ℕ) → AreGranted h init (deeds_by_relay (view_of w.core w.ports) h m o) (has_turn h m w)
   by_relay_allowed (Some other) = relay_allowed other (has_link w.ports other)
   by_relay_allowed None = own_allowed (has_link w.ports h)
 
   -- what a controller decides may be done, once the message has its turn
-  pub controller_allowed : AreGranted h init (controller_deeds w.core w.ports h m) (has_turn h m w)
+  pub controller_allowed : AreGranted h init (controller_deeds (view_of w.core w.ports) h m) (has_turn h m w)
   controller_allowed = by_relay_allowed (relayed_to w.core.tables h m)

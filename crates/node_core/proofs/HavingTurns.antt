@@ -6,12 +6,12 @@ use Rattle.link_laws.specs.machine.Machine.{Message}
 use Rattle.link_laws.specs.machine.Machine.Turn.{Hold}
 use Rattle.std.specs.Option.{option_map_or}
 use Rattle.node_machine.specs.Parts.{Port, Work, Deed as DeedOf}
-use Rattle.node_machine.specs.Carrying.{port_at, turn_at, unless_cut, lack, needs}
+use Rattle.node_machine.specs.Carrying.{port_at, turn_at, unless_cut, lack, needs, own_view, end_view}
 use Rattle.node_machine.specs.Turns.{deeds_of, handles, holds_back, lets_go, have_turns}
 use Rattle.std.specs.Prelude.{◌==◌}
 use Rattle.hcp_packet.specs.Packets.{IsSendable}
 use Rattle.node_machine.specs.Parts.{Init, Core}
-use Rattle.node_machine.specs.Controller.{controller_deeds}
+use Rattle.node_machine.specs.Controller.{controller_deeds, view_of}
 use Rattle.node_machine.specs.HostReplies.{host_deeds}
 use Rattle.std.proofs.lemmas.Bool.{ne_eqb}
 use Rattle.node_deeds.specs.declared.deeds.Deed.{Deed}
@@ -120,11 +120,12 @@ quiet_after {w = w} h m deeds b live =
 
 -- ## What a node decides
 
-pub at_controller : (core : Core) (ports : List Port) (h : ℕ) (m : Message) → core.node ≡ 0 → deeds_of core ports h m ≡ controller_deeds core ports h m
+pub at_controller : (core : Core) (ports : List Port) (h : ℕ) (m : Message) → core.node ≡ 0
+    → deeds_of core ports h m ≡ controller_deeds (view_of core ports) h m
 at_controller core ports h m q = let e : (core.node == 0) ≡ true = ap (λ n. n == 0) q in rw e refl
 
 pub at_host : (core : Core) (ports : List Port) (h : ℕ) (m : Message) (p : Port) → core.node ≢ 0 → port_at ports h ≡ Some p
-    → deeds_of core ports h m ≡ host_deeds core p m
+    → deeds_of core ports h m ≡ host_deeds (own_view core) (end_view p) m
 at_host core ports h m p some at = let e : (core.node == 0) ≡ false = ne_eqb core.node 0 some in rw (e, at) refl
 
 pub no_host : (core : Core) (ports : List Port) (h : ℕ) (m : Message) → core.node ≢ 0 → port_at ports h ≡ None → deeds_of core ports h m ≡ []

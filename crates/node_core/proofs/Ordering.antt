@@ -1,7 +1,7 @@
 -- A node stays in order: its turns leave its links and their hosts, and an init that runs waits for the answer to its command.
 use Rattle.std.proofs.Common.{◌≡◌, ◌≢◌, ℕ, Bool, true, false, List, [], ◌∷◌, map, refl, sym, ap, ◌∙◌, subst}
 use Rattle.std.specs.Prelude.{Option, Some, None, ◌==◌}
-use Rattle.std.specs.Option.{option_map_or}
+use Rattle.std.specs.Option.{option_map, option_map_or}
 use Rattle.swp_base.specs.InMemory.{Plan}
 use Rattle.journal_laws.specs.Writes.{Write}
 use Rattle.hci_tables.specs.Bodies.{body_of}
@@ -9,10 +9,10 @@ use Rattle.hci_store.specs.Committing.{commit_writes}
 use Rattle.link_laws.specs.machine.Machine.{Message}
 use Rattle.node_machine.specs.Parts.{Init, Core, Port, Work, Deed}
 use Rattle.node_machine.specs.Parts.Deed.{Commits, Sends, SaysOk, Asks, Releases, Tells, IsAnswered, Drops, SetsErrors, Orders, Hears, GoesOn, Ends}
-use Rattle.node_machine.specs.Carrying.{port_at, plan_behind, unless_cut, done, all_done, lack, needs}
+use Rattle.node_machine.specs.Carrying.{port_at, plan_behind, unless_cut, done, all_done, lack, needs, own_view, end_view}
 use Rattle.node_machine.specs.Turns.{deeds_of, handles, holds_back, lets_go, have_turns, goes_through_ends, passes}
 use Rattle.node_machine.specs.HostReplies.{host_deeds}
-use Rattle.node_machine.specs.Controller.{controller_deeds}
+use Rattle.node_machine.specs.Controller.{controller_deeds, view_of}
 use Rattle.node_ends.specs.Ends.{held_at, got_at}
 use Rattle.node_core.specs.Bringing.{Brings, Foretells, plan_left}
 use Rattle.node_core.specs.Deeds.{IsOnTask, AreGranted}
@@ -134,11 +134,11 @@ granted_leave h init (d ∷ deeds) w s granted =
 -- ## Turns
 
 as_controller : (core : Core) (ports : List Port) (h : ℕ) (m : Message) → (core.node == 0) ≡ true
-    → deeds_of core ports h m ≡ controller_deeds core ports h m
+    → deeds_of core ports h m ≡ controller_deeds (view_of core ports) h m
 as_controller core ports h m q = rw q refl
 
 as_host : (core : Core) (ports : List Port) (h : ℕ) (m : Message) → (core.node == 0) ≡ false
-    → deeds_of core ports h m ≡ option_map_or (λ (p : Port). host_deeds core p m) (port_at ports h) []
+    → deeds_of core ports h m ≡ option_map_or (λ e. host_deeds (own_view core) e m) (option_map end_view (port_at ports h)) []
 as_host core ports h m q = rw q refl
 
 at_node : (h : ℕ) (m : Message) (w : Work) → IsOnTask w.core → (b : Bool) → (w.core.node == 0) ≡ b
@@ -153,7 +153,7 @@ at_node h m w on false q =
     some : w.core.node ≢ 0
     some none = (let e : true ≡ false = sym (ap (λ (n : ℕ). n == 0) none) ∙ q in cc)
 
-    by : (o : Option Port) → AreGranted h w.core.init (option_map_or (λ (p : Port). host_deeds w.core p m) o []) (has_turn h m w)
+    by : (o : Option Port) → AreGranted h w.core.init (option_map_or (λ e. host_deeds (own_view w.core) e m) (option_map end_view o) []) (has_turn h m w)
     by None = on
     by (Some p) = host_allowed h m w on some p
 

@@ -21,7 +21,7 @@ use Rattle.link_laws.specs.machine.Machine.Turn.{Give, FetchMessage, Release}
 use Rattle.swp_base.specs.declared.control_frames.Act.{Act}
 use Rattle.node_machine.specs.Parts.{Core, Port, Work, Deed}
 use Rattle.node_machine.specs.Parts.Deed.{Sends, Releases, Drops}
-use Rattle.node_machine.specs.Carrying.{port_at, changed_if, with_port, after_turn, unless_cut, done, all_done, lack, needs, plan_behind}
+use Rattle.node_machine.specs.Carrying.{port_at, changed_if, with_port, after_turn, unless_cut, done, all_done, lack, needs, plan_behind, own_view, end_view}
 use Rattle.node_machine.specs.Controller.{asked_at}
 use Rattle.node_machine.specs.HostReplies.{host_deeds}
 use Rattle.node_machine.specs.Turns.{deeds_of, handles, have_turns, goes_through_ends, passes}
@@ -91,7 +91,7 @@ decides_down : (core : Core) (ports : List Port) (h : ℕ) (m : Message) → cor
     → (deeds_of core ports h m ≡ []) ⊎ (deeds_of core ports h m ≡ Drops m.0 ∷ [])
 decides_down core ports h m some down = by (port_at ports h) refl
   where
-    drops : (p : Port) → is_up p.side.shdlc.phase ≡ false → host_deeds core p m ≡ Drops m.0 ∷ []
+    drops : (p : Port) → is_up p.side.shdlc.phase ≡ false → host_deeds (own_view core) (end_view p) m ≡ Drops m.0 ∷ []
     drops p q = rw q refl
 
     by : (o : Option Port) → port_at ports h ≡ o → (deeds_of core ports h m ≡ []) ⊎ (deeds_of core ports h m ≡ Drops m.0 ∷ [])

@@ -18,10 +18,10 @@ use Rattle.gate_admin.specs.Decide.{decided}
 use Rattle.link_laws.specs.machine.Machine.{Message}
 use Rattle.node_machine.specs.Parts.{Core, Port}
 use Rattle.node_machine.specs.Parts.Deed.{Commits, Sends, SaysOk, Tells, Drops}
-use Rattle.node_machine.specs.Carrying.{port_at, has_room_for}
+use Rattle.node_machine.specs.Carrying.{port_at, has_room_for, own_view}
 use Rattle.node_machine.specs.Controller.{asks_for, view_for, commit_deeds, decision_deeds, gate_deeds, own_gate, goes_through, served_at, command_deeds}
-use Rattle.node_machine.specs.Controller.{agreed}
-use Rattle.node_machine.specs.Controller.{response_at, unless_asking, if_notice, kind_deeds, controller_deeds}
+use Rattle.node_machine.specs.Controller.{agreed, view_of, about_at, notice_deeds}
+use Rattle.node_machine.specs.Controller.{unless_asking, if_notice, kind_deeds, controller_deeds}
 use Rattle.node_deeds.specs.declared.desks.About.{About as KeptAbout}
 use Rattle.node_deeds.specs.declared.desks.About.TheVariants as about
 use Rattle.node_deeds.specs.declared.desks.Desk.{Desk as KeptDesk}
@@ -36,42 +36,42 @@ use Rattle.node_deeds.proofs.Ports.{deeds_alike}
 
 module _ (core : Core) (ports : List Port) (h : ℕ) (m : Message) where
   pub kind_waits : (n : ℕ) → header_of m.1 ≡ Ok (IsCommand, n) → (eqb m.0 1 && asks_for ports h) ≡ true
-      → Drops m.0 ∷ [] ≡ kind_deeds core ports h m (header_of m.1)
-  kind_waits n e waits = ap (λ b. unless_asking core ports h m n b) (sym waits) ∙ ap (λ x. kind_deeds core ports h m x) (sym e)
+      → Drops m.0 ∷ [] ≡ kind_deeds (view_of core ports) h m (header_of m.1)
+  kind_waits n e waits = ap (λ b. unless_asking (view_of core ports) h m n b) (sym waits) ∙ ap (λ x. kind_deeds (view_of core ports) h m x) (sym e)
 
   pub kind_commands : (n : ℕ) → header_of m.1 ≡ Ok (IsCommand, n) → (eqb m.0 1 && asks_for ports h) ≡ false
-      → command_deeds core ports h m.0 (instruction_in m.1) (body_in m.1) ≡ kind_deeds core ports h m (header_of m.1)
+      → command_deeds (view_of core ports) h m.0 (instruction_in m.1) (body_in m.1) ≡ kind_deeds (view_of core ports) h m (header_of m.1)
   kind_commands n e free =
-      ap (λ k. command_deeds core ports h m.0 k (body_in m.1)) (sym (command_instruction m.1 n e))
-      ∙ (ap (λ b. unless_asking core ports h m n b) (sym free) ∙ ap (λ x. kind_deeds core ports h m x) (sym e))
+      ap (λ k. command_deeds (view_of core ports) h m.0 k (body_in m.1)) (sym (command_instruction m.1 n e))
+      ∙ (ap (λ b. unless_asking (view_of core ports) h m n b) (sym free) ∙ ap (λ x. kind_deeds (view_of core ports) h m x) (sym e))
 
   pub kind_replies : (code : ℕ) → header_of m.1 ≡ Ok (IsResponse, code) → m.0 ≡ 1
-      → response_at core code (port_at ports h) ≡ kind_deeds core ports h m (header_of m.1)
+      → notice_deeds (own_view core) code (about_at (port_at ports h)) ≡ kind_deeds (view_of core ports) h m (header_of m.1)
   kind_replies code e one =
-      ap (λ b. if_notice core ports h m code b) (sym (eq-eqb m.0 1 one)) ∙ ap (λ x. kind_deeds core ports h m x) (sym e)
+      ap (λ b. if_notice (view_of core ports) h m code b) (sym (eq-eqb m.0 1 one)) ∙ ap (λ x. kind_deeds (view_of core ports) h m x) (sym e)
 
   pub gate_serves : (pipe n gate errors : ℕ) (body : List ℕ) → cond (goes_through core.tables h pipe n) (own_gate core.tables h pipe) None ≡ Some gate
       → errors ≡ option_map_or (λ (p : Port). p.desk.errors) (port_at ports h) 0
-      → gate_deeds gate errors h pipe n body ≡ command_deeds core ports h pipe n body
+      → gate_deeds gate errors h pipe n body ≡ command_deeds (view_of core ports) h pipe n body
   gate_serves pipe n gate errors body e same =
-      ap (λ k. gate_deeds gate k h pipe n body) same ∙ ap (λ o. served_at core (view_for core.tables ports h) h pipe n body o) (sym e)
+      ap (λ k. gate_deeds gate k h pipe n body) same ∙ ap (λ o. served_at (own_view core) (view_for core.tables ports h) h pipe n body o) (sym e)
 
   pub gate_decides : (pipe n : ℕ) (body : List ℕ) (view : LinkView) → cond (goes_through core.tables h pipe n) (own_gate core.tables h pipe) None ≡ None
       → view ≡ view_for core.tables ports h
-      → decision_deeds core h pipe (decided core.tables view h pipe n body) ≡ command_deeds core ports h pipe n body
+      → decision_deeds (own_view core) h pipe (decided core.tables view h pipe n body) ≡ command_deeds (view_of core ports) h pipe n body
   gate_decides pipe n body view e same =
-      ap (λ v. decision_deeds core h pipe (decided core.tables v h pipe n body)) same
-      ∙ ap (λ o. served_at core (view_for core.tables ports h) h pipe n body o) (sym e)
+      ap (λ v. decision_deeds (own_view core) h pipe (decided core.tables v h pipe n body)) same
+      ∙ ap (λ o. served_at (own_view core) (view_for core.tables ports h) h pipe n body o) (sym e)
 
 -- ## Decisions and replies
 
 pub decision_commits : (core : Core) (h pipe : ℕ) (decision : Decision) (c : Command) (answer : _) (tell : ℕ) (notice : _)
     → decision ≡ Commit c answer tell notice → has_room_for core.journal c ≡ true
     → Commits c ∷ Sends h (pipe, answer.items) ∷ SaysOk ∷ map (λ told. Tells told notice.items) (hosts_where (has tell))
-    ≡ decision_deeds core h pipe decision
+    ≡ decision_deeds (own_view core) h pipe decision
 decision_commits core h pipe decision c answer tell notice e room =
     ap (λ b. commit_deeds b h pipe c answer.items (map (λ told. Tells told notice.items) (hosts_where (has tell)))) (sym room)
-    ∙ ap (decision_deeds core h pipe) (sym e)
+    ∙ ap (decision_deeds (own_view core) h pipe) (sym e)
 
 pub about_agrees : (core : Core) (code : ℕ) (row : PipeRow) (what : KeptAbout) → what ≡ about.Waits row
     → (eqb code 0 && has_room_for core.journal (Create row)) ≡ true → agreed true (creation_of_row row) ≡ about_deeds core code what
@@ -99,14 +99,14 @@ desk_sound (e ∷ desks) h d all here =
 -- ## Cores
 
 same_core : (core : Core) (ports : List Port) (h : ℕ) (m : Message)
-    → controller_deeds (controller_core core.journal core.tables) ports h m ≡ controller_deeds core ports h m
+    → controller_deeds (view_of (controller_core core.journal core.tables) ports) h m ≡ controller_deeds (view_of core ports) h m
 same_core core ports h m = refl
 
 -- what is done over what the code keeps is done at the core and the ends that it stands for
 pub deeds_of_core : {N : Type 0} (s : Stored N) (core : Core) (up : ℕ) (desks : List KeptDesk) (ports : List Port) (h : ℕ) (m : Message)
     → IsCoreOf s core → AreSeen up desks ports
-    → controller_deeds (controller_core s.journal.state s.tables) (ports_shown up desks) h m ≡ controller_deeds core ports h m
+    → controller_deeds (view_of (controller_core s.journal.state s.tables) (ports_shown up desks)) h m ≡ controller_deeds (view_of core ports) h m
 deeds_of_core s core up desks ports h m kept seen =
     deeds_alike (ports_shown up desks) ports (sym seen.same) (controller_core s.journal.state s.tables) h m
-    ∙ (ap₂ (λ journal tables. controller_deeds (controller_core journal tables) ports h m) (sym kept.journal) (sym kept.tables)
+    ∙ (ap₂ (λ journal tables. controller_deeds (view_of (controller_core journal tables) ports) h m) (sym kept.journal) (sym kept.tables)
     ∙ same_core core ports h m)

@@ -13,9 +13,9 @@ use Rattle.gate_admin.specs.declared.view.LinkView.{LinkView}
 use Rattle.gate_admin.specs.View.{hosts_where, mask_of}
 use Rattle.link_laws.specs.machine.Machine.{Message}
 use Rattle.node_machine.specs.Parts.{Creation, Desk, Core, Port, Deed}
-use Rattle.node_machine.specs.Carrying.{port_at}
+use Rattle.node_machine.specs.Carrying.{port_at, own_view}
 use Rattle.node_machine.specs.Controller.{has_link, creation_in, is_asked_at, asks_for, pipe_of, waiting_pipes, mask_where, view_for}
-use Rattle.node_machine.specs.Controller.{own_gate, goes_through, served_at, notice_deeds, response_at, relayed_to, unrelayed, unless_asking}
+use Rattle.node_machine.specs.Controller.{own_gate, goes_through, served_at, notice_deeds, relayed_to, unrelayed, unless_asking, view_of, about_at, about_of}
 use Rattle.node_machine.specs.Controller.{if_notice, kind_deeds}
 use Rattle.node_machine.specs.Controller.{own_deeds, relay_deeds, deeds_by_relay, controller_deeds}
 use Rattle.node_machine.specs.Parts.Deed.{Drops}
@@ -118,14 +118,15 @@ module _ (one other : List Port) (alike : map seen_at one ≡ map seen_at other)
       let errors = test_alike (λ s. s.0.errors) 0 h in
       view_made _ _ _ _ _ _ _ _ _ _ _ _ hosts connected noticed asked waiting errors
 
-  response_alike : (core : Core) (code h : ℕ) → response_at core code (port_at one h) ≡ response_at core code (port_at other h)
+  response_alike : (core : Core) (code h : ℕ)
+      → notice_deeds (own_view core) code (about_at (port_at one h)) ≡ notice_deeds (own_view core) code (about_at (port_at other h))
   response_alike core code h = seen_or (port_at one h) ∙ (ap by_seen at_h ∙ sym (seen_or (port_at other h)))
     where
       by_seen : Option Seen → List Deed
       by_seen None = Drops 1 ∷ []
-      by_seen (Some s) = notice_deeds core code s.0.notice
+      by_seen (Some s) = notice_deeds (own_view core) code (about_of s.0.notice)
 
-      seen_or : (o : Option Port) → response_at core code o ≡ by_seen (option_map seen_at o)
+      seen_or : (o : Option Port) → notice_deeds (own_view core) code (about_at o) ≡ by_seen (option_map seen_at o)
       seen_or None = refl
       seen_or (Some p) = refl
 
@@ -133,35 +134,35 @@ module _ (one other : List Port) (alike : map seen_at one ≡ map seen_at other)
       at_h = port_seen one h ∙ (ap (λ seen. seen_of seen h) alike ∙ sym (port_seen other h))
 
   -- a controller does the same at both
-  pub deeds_alike : (core : Core) (h : ℕ) (m : Message) → controller_deeds core one h m ≡ controller_deeds core other h m
+  pub deeds_alike : (core : Core) (h : ℕ) (m : Message) → controller_deeds (view_of core one) h m ≡ controller_deeds (view_of core other) h m
   deeds_alike core h m = by (relayed_to core.tables h m) where
-    relays : (b : Bool) (to : ℕ) → relay_deeds one h m to b ≡ relay_deeds other h m to b
+    relays : (b : Bool) (to : ℕ) → relay_deeds (has_link one) h m to b ≡ relay_deeds (has_link other) h m to b
     relays true to = refl
     relays false to = ap (λ up. unrelayed up h m) (link_alike h)
 
-    asks : (b : Bool) (instruction : ℕ) → unless_asking core one h m instruction b ≡ unless_asking core other h m instruction b
+    asks : (b : Bool) (instruction : ℕ) → unless_asking (view_of core one) h m instruction b ≡ unless_asking (view_of core other) h m instruction b
     asks true instruction = refl
     asks false instruction =
         ap
-        (λ view. served_at core view h m.0 instruction (body_in m.1)
+        (λ view. served_at (own_view core) view h m.0 instruction (body_in m.1)
         (cond (goes_through core.tables h m.0 instruction) (own_gate core.tables h m.0) None))
         (view_alike core.tables h)
 
-    replies : (b : Bool) (code : ℕ) → if_notice core one h m code b ≡ if_notice core other h m code b
+    replies : (b : Bool) (code : ℕ) → if_notice (view_of core one) h m code b ≡ if_notice (view_of core other) h m code b
     replies true code = response_alike core code h
     replies false code = refl
 
-    kinds : (x : Result (MessageKind × ℕ) MessageFault) → kind_deeds core one h m x ≡ kind_deeds core other h m x
+    kinds : (x : Result (MessageKind × ℕ) MessageFault) → kind_deeds (view_of core one) h m x ≡ kind_deeds (view_of core other) h m x
     kinds (Ok (IsCommand, instruction)) =
-        ap (λ b. unless_asking core one h m instruction (eqb m.0 1 && b)) (asks_alike h) ∙ asks (eqb m.0 1 && asks_for other h) instruction
+        ap (λ b. unless_asking (view_of core one) h m instruction (eqb m.0 1 && b)) (asks_alike h) ∙ asks (eqb m.0 1 && asks_for other h) instruction
     kinds (Ok (IsEvent, instruction)) = refl
     kinds (Ok (IsResponse, code)) = replies (eqb m.0 1) code
     kinds (Err fault) = refl
 
-    owns : (b : Bool) → own_deeds core one h m b ≡ own_deeds core other h m b
+    owns : (b : Bool) → own_deeds (view_of core one) h m b ≡ own_deeds (view_of core other) h m b
     owns true = kinds (header_of m.1)
     owns false = refl
 
-    by : (o : Option ℕ) → deeds_by_relay core one h m o ≡ deeds_by_relay core other h m o
-    by (Some to) = ap (λ up. relay_deeds one h m to up) (link_alike to) ∙ relays (has_link other to) to
-    by None = ap (λ up. own_deeds core one h m up) (link_alike h) ∙ owns (has_link other h)
+    by : (o : Option ℕ) → deeds_by_relay (view_of core one) h m o ≡ deeds_by_relay (view_of core other) h m o
+    by (Some to) = ap (λ up. relay_deeds (has_link one) h m to up) (link_alike to) ∙ relays (has_link other to) to
+    by None = ap (λ up. own_deeds (view_of core one) h m up) (link_alike h) ∙ owns (has_link other h)

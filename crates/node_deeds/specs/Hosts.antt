@@ -14,7 +14,7 @@ use Rattle.gate_loopback.specs.Loopback.{posts_back}
 use Rattle.link_laws.specs.machine.Machine.{Message}
 use Rattle.node_machine.specs.Parts.{Init, Core, Port, Deed}
 use Rattle.node_machine.specs.Parts.Deed.{Sends, Orders, Hears, GoesOn, Ends}
-use Rattle.node_machine.specs.Carrying.{end_of_node}
+use Rattle.node_machine.specs.Carrying.{end_of_node, own_view}
 use Rattle.node_machine.specs.HostReplies.{learns, init_deeds, created_by, is_gate, ordered_deeds}
 use Rattle.node_deeds.specs.declared.desks.Desk.{Desk as KeptDesk}
 use Rattle.node_deeds.specs.declared.inits.Init.{Init as KeptInit}
@@ -46,26 +46,26 @@ pub record IsHostAt {N : Type 0} (s : Stored N) (d : KeptDesk) (up : Bool) (task
 
 -- what a host keeps of its own command, to which ANY_OK came with this value
 abbrev pub learned_of : Core → Ordered → List ℕ → List Deed
-learned_of core ToCreate value = created_by core value
-learned_of core (ToDelete pid) value = learns core (Delete pid)
-learned_of core Clearing value = learns core (Clear core.node)
+learned_of core ToCreate value = created_by (own_view core) value
+learned_of core (ToDelete pid) value = learns (own_view core) (Delete pid)
+learned_of core Clearing value = learns (own_view core) (Clear core.node)
 learned_of core Other value = []
 
 -- a response on pipe 01 answers the last command
 abbrev pub heard_deeds : Core → ℕ → List ℕ → Option Ordered → List Deed
 heard_deeds core code value None = []
 heard_deeds core code value (Some order) =
-    Hears ∷ (if code == 0 then learned_of core order value else []) ++ init_deeds core code value core.init
+    Hears ∷ (if code == 0 then learned_of core order value else []) ++ init_deeds (own_view core) code value core.init
 
 -- an init goes on with this command, or ends where there is none
 abbrev pub next_deeds : Core → Init → Option (List ℕ) → List Deed
 next_deeds core i None =
-    learns core (Set core.node 0 1 (record { items = i.identity })) ++ Ends (InitMade (end_of_node core core.node) (length i.pipes)) ∷ []
+    learns (own_view core) (Set core.node 0 1 (record { items = i.identity })) ++ Ends (InitMade (end_of_node core core.node) (length i.pipes)) ∷ []
 next_deeds core i (Some order) = GoesOn (record i { answered = i.answered + 1 }) ∷ Orders order ∷ []
 
 -- a message with this header that comes to an end which is up
 abbrev pub host_kind_deeds : Core → ℕ → Option Ordered → Message → Result (MessageKind × ℕ) MessageFault → List Deed
-host_kind_deeds core errors order m (Ok (IsCommand, instruction)) = ordered_deeds core errors m.0 instruction (body_in m.1)
+host_kind_deeds core errors order m (Ok (IsCommand, instruction)) = ordered_deeds (own_view core) errors m.0 instruction (body_in m.1)
 host_kind_deeds core errors order m (Ok (IsEvent, instruction)) =
     if is_gate 4 (gate_in (pipe_at core.tables.rows m.0) core.node) && posts_back m.1 then Sends core.node m ∷ [] else []
 host_kind_deeds core errors order m (Ok (IsResponse, code)) = if m.0 == 1 then heard_deeds core code (body_in m.1) order else []

@@ -4,7 +4,7 @@ ghost use Rattle.std.specs.List.{list_any};
 ghost use Rattle.hcp_packet.specs.MessageHeader.{header_of};
 ghost use Rattle.gate_answers.specs.Answers.{IsCommandMessage, instruction_in, body_in};
 ghost use Rattle.node_machine.specs.Parts.{Core, Port};
-ghost use Rattle.node_machine.specs.Controller.{has_link, gate_deeds, own_gate, goes_through, command_deeds, event_deeds, kind_deeds, relay_deeds};
+ghost use Rattle.node_machine.specs.Controller.{has_link, gate_deeds, own_gate, goes_through, command_deeds, event_deeds, kind_deeds, relay_deeds, view_of};
 ghost use Rattle.node_machine.specs.Controller.{is_command_message};
 ghost use Rattle.node_machine.specs.Controller.{controller_deeds};
 ghost use Rattle.node_deeds.specs.Shown.{ports_shown, row_waits_for, deeds_shown, AreSeen};
@@ -48,7 +48,7 @@ pub fn put_controller_deeds<N: Nv + Drop>(
     requires pipe { pipe < 112 }
     requires none { deeds.old.items ≡ [] }
     ensures deeds { (core : Core) (ports : List Port) → IsCoreOf store.old core → AreSeen up desks.now ports
-        → deeds_shown (handled pipe message.now) deeds.new.items ≡ controller_deeds core ports host (pipe, message.now) }
+        → deeds_shown (handled pipe message.now) deeds.new.items ≡ controller_deeds (view_of core ports) host (pipe, message.now) }
     ensures doable { AreDoable deeds.new.items }
     ensures unchanged { store.new ≡ store.old }
 {
@@ -69,7 +69,7 @@ fn relayed(deeds: &mut Deeds, desks: &[Desk], up: u8, host: u8, other: u8, pipe:
     requires pipe { pipe < 112 }
     requires none { deeds.old.items ≡ [] }
     ensures deeds { deeds_shown (handled pipe message.now) deeds.new.items
-        ≡ relay_deeds (ports_shown up desks.now) host (pipe, message.now) other (has_link (ports_shown up desks.now) other) }
+        ≡ relay_deeds (has_link (ports_shown up desks.now)) host (pipe, message.now) other (has_link (ports_shown up desks.now) other) }
     ensures doable { AreDoable deeds.new.items }
 {
     if is_linked(desks, up, other) {
@@ -107,7 +107,8 @@ fn own_deeds<N: Nv + Drop>(
     requires pipe { pipe < 112 }
     requires none { deeds.old.items ≡ [] }
     ensures deeds { deeds_shown (handled pipe message.now) deeds.new.items
-        ≡ kind_deeds (controller_core store.old.journal.state store.old.tables) (ports_shown up desks.now) host (pipe, message.now) (header_of message.now) }
+        ≡ kind_deeds (view_of (controller_core store.old.journal.state store.old.tables) (ports_shown up desks.now)) host (pipe, message.now)
+        (header_of message.now) }
     ensures doable { AreDoable deeds.new.items }
     ensures unchanged { store.new ≡ store.old }
 {
@@ -162,7 +163,7 @@ fn commanded<N: Nv + Drop>(
     requires command { IsCommandMessage message.now }
     requires none { deeds.old.items ≡ [] }
     ensures deeds { deeds_shown (handled pipe message.now) deeds.new.items
-        ≡ command_deeds (controller_core store.old.journal.state store.old.tables) (ports_shown up desks.now) host pipe
+        ≡ command_deeds (view_of (controller_core store.old.journal.state store.old.tables) (ports_shown up desks.now)) host pipe
         (instruction_in message.now) (body_in message.now) }
     ensures doable { AreDoable deeds.new.items }
     ensures unchanged { store.new ≡ store.old }

@@ -3,6 +3,7 @@ ghost use Rattle.std.specs.Prelude.{◌≡◌, ℕ, Bool, ◌≤◌, ◌<◌, �
 ghost use Rattle.hcp_packet.specs.MessageHeader.{header_of};
 ghost use Rattle.pipe_table.specs.PipeRows.{pipe_at};
 ghost use Rattle.gate_answers.specs.Answers.{IsCommandMessage, instruction_in, body_in};
+ghost use Rattle.node_machine.specs.Carrying.{own_view, end_view};
 ghost use Rattle.node_machine.specs.Parts.{Core, Port};
 ghost use Rattle.gate_loopback.specs.Loopback.{posts_back};
 ghost use Rattle.node_machine.specs.Parts.{Init as InitOf};
@@ -59,7 +60,8 @@ pub fn put_host_deeds<N: Nv + Drop>(
     requires pipe { pipe < 112 }
     requires none { deeds.old.items ≡ [] }
     ensures deeds { (core : Core) (p : Port) → IsHostAt store.old desk.now is_up tasks.now core p
-        → deeds_shown (handled_by desk.now.host (init_running tasks.now.init) pipe message.now) deeds.new.items ≡ host_deeds core p (pipe, message.now) }
+        → deeds_shown (handled_by desk.now.host (init_running tasks.now.init) pipe message.now) deeds.new.items
+        ≡ host_deeds (own_view core) (end_view p) (pipe, message.now) }
     ensures doable { AreDoable deeds.new.items }
     ensures unchanged { store.new ≡ store.old }
 {
@@ -131,7 +133,7 @@ fn commanded<N: Nv + Drop>(
     requires command { IsCommandMessage message.now }
     requires none { deeds.old.items ≡ [] }
     ensures deeds { (init : Option InitOf) → deeds_shown (handled_by host init pipe message.now) deeds.new.items
-        ≡ ordered_deeds (host_core host store.old.journal.state store.old.tables init) errors pipe
+        ≡ ordered_deeds (own_view (host_core host store.old.journal.state store.old.tables init)) errors pipe
         (instruction_in message.now) (body_in message.now) }
     ensures doable { AreDoable deeds.new.items }
     ensures unchanged { store.new ≡ store.old }

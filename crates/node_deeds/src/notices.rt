@@ -2,6 +2,7 @@
 ghost use Rattle.std.specs.Prelude.{◌≡◌, [], ℕ, ◌≤◌, ◌<◌, ◌^◌, ◌==◌, ◌&&◌, Option};
 ghost use Rattle.hci_tables.specs.Commands.{IsCommand};
 ghost use Rattle.gate_answers.specs.Answers.{IsCommandMessage, instruction_in, body_in};
+ghost use Rattle.node_machine.specs.Carrying.{own_view};
 ghost use Rattle.node_machine.specs.Parts.{Init as InitOf};
 ghost use Rattle.node_machine.specs.HostReplies.{accepts, is_open_gate, is_welcome, pipe_named_in, pipe_created, pipe_deleted, pipes_cleared, notified_deeds};
 ghost use Rattle.node_deeds.specs.Shown.{Handling, deeds_shown};
@@ -36,7 +37,7 @@ pub(crate) fn notified<N: Nv + Drop>(
     requires command { IsCommandMessage message.now }
     requires none { deeds.old.items ≡ [] }
     ensures deeds { (a : Handling) (init : Option InitOf) → deeds_shown a deeds.new.items
-        ≡ notified_deeds (host_core host store.old.journal.state store.old.tables init) (instruction_in message.now) (body_in message.now) }
+        ≡ notified_deeds (own_view (host_core host store.old.journal.state store.old.tables init)) (instruction_in message.now) (body_in message.now) }
     ensures doable { AreDoable deeds.new.items }
     ensures unchanged { store.new ≡ store.old }
 {
@@ -60,7 +61,7 @@ fn accepts<N: Nv + Drop>(deeds: &mut Deeds, store: &mut Store<N>, host: u8, comm
     requires command { IsCommand command }
     requires none { deeds.old.items ≡ [] }
     ensures deeds { (a : Handling) (init : Option InitOf) → deeds_shown a deeds.new.items
-        ≡ accepts (host_core host store.old.journal.state store.old.tables init) command }
+        ≡ accepts (own_view (host_core host store.old.journal.state store.old.tables init)) command }
     ensures doable { AreDoable deeds.new.items }
     ensures unchanged { store.new ≡ store.old }
 {
@@ -83,7 +84,7 @@ fn pipe_created<N: Nv + Drop>(deeds: &mut Deeds, store: &mut Store<N>, host: u8,
     requires host { host ≤ 7 }
     requires none { deeds.old.items ≡ [] }
     ensures deeds { (a : Handling) (init : Option InitOf) → deeds_shown a deeds.new.items
-        ≡ pipe_created (host_core host store.old.journal.state store.old.tables init) body.now }
+        ≡ pipe_created (own_view (host_core host store.old.journal.state store.old.tables init)) body.now }
     ensures doable { AreDoable deeds.new.items }
     ensures unchanged { store.new ≡ store.old }
 {
@@ -135,7 +136,7 @@ fn pipe_deleted<N: Nv + Drop>(deeds: &mut Deeds, store: &mut Store<N>, host: u8,
     requires ready { IsReady store.old }
     requires none { deeds.old.items ≡ [] }
     ensures deeds { (a : Handling) (init : Option InitOf) → deeds_shown a deeds.new.items
-        ≡ pipe_deleted (host_core host store.old.journal.state store.old.tables init) body.now }
+        ≡ pipe_deleted (own_view (host_core host store.old.journal.state store.old.tables init)) body.now }
     ensures doable { AreDoable deeds.new.items }
     ensures unchanged { store.new ≡ store.old }
 {
@@ -161,7 +162,7 @@ fn pipes_cleared<N: Nv + Drop>(deeds: &mut Deeds, store: &mut Store<N>, host: u8
     requires ready { IsReady store.old }
     requires none { deeds.old.items ≡ [] }
     ensures deeds { (a : Handling) (init : Option InitOf) → deeds_shown a deeds.new.items
-        ≡ pipes_cleared (host_core host store.old.journal.state store.old.tables init) body.now }
+        ≡ pipes_cleared (own_view (host_core host store.old.journal.state store.old.tables init)) body.now }
     ensures doable { AreDoable deeds.new.items }
     ensures unchanged { store.new ≡ store.old }
 {

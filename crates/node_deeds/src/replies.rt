@@ -6,8 +6,8 @@ ghost use Rattle.gate_answers.specs.Answers.{IsCommandMessage, instruction_in, b
 ghost use Rattle.gate_admin.specs.View.{has, hosts_where};
 ghost use Rattle.gate_admin.specs.Decide.{decided, IsRecordableDecision};
 ghost use Rattle.node_machine.specs.Parts.Deed.{Tells};
-ghost use Rattle.node_machine.specs.Carrying.{port_at, has_room_for};
-ghost use Rattle.node_machine.specs.Controller.{decision_deeds, agreed, response_at};
+ghost use Rattle.node_machine.specs.Carrying.{port_at, has_room_for, own_view};
+ghost use Rattle.node_machine.specs.Controller.{decision_deeds, agreed, about_at, notice_deeds};
 ghost use Rattle.node_deeds.specs.Shown.{Handling, ports_shown, deeds_shown, creation_of_row};
 ghost use Rattle.node_deeds.specs.Cores.{controller_core, handled, IsReady, AreDoable, AreSoundDesks, IsSoundDecision, TellsFew};
 ghost use Rattle.node_deeds.specs.Replies.{about_deeds, IsSoundAbout};
@@ -39,7 +39,7 @@ pub(crate) fn administered<N: Nv + Drop>(
     requires command { IsCommandMessage message.now }
     requires none { deeds.old.items ≡ [] }
     ensures deeds { (a : Handling) → deeds_shown a deeds.new.items
-        ≡ decision_deeds (controller_core store.old.journal.state store.old.tables) host pipe
+        ≡ decision_deeds (own_view (controller_core store.old.journal.state store.old.tables)) host pipe
         (decided store.old.tables view.now host pipe (instruction_in message.now) (body_in message.now)) }
     ensures doable { AreDoable deeds.new.items }
     ensures unchanged { store.new ≡ store.old }
@@ -61,7 +61,7 @@ fn done<N: Nv + Drop>(
     requires recordable { IsRecordableDecision decision }
     requires none { deeds.old.items ≡ [] }
     ensures deeds { (a : Handling) → deeds_shown a deeds.new.items
-        ≡ decision_deeds (controller_core store.old.journal.state store.old.tables) host pipe decision }
+        ≡ decision_deeds (own_view (controller_core store.old.journal.state store.old.tables)) host pipe decision }
     ensures doable { AreDoable deeds.new.items }
     ensures unchanged { store.new ≡ store.old }
 {
@@ -135,7 +135,7 @@ pub(crate) fn replied<N: Nv + Drop>(
     requires sound { AreSoundDesks desks.now }
     requires none { deeds.old.items ≡ [] }
     ensures deeds { (a : Handling) (up : ℕ) → deeds_shown a deeds.new.items
-        ≡ response_at (controller_core store.old.journal.state store.old.tables) code (port_at (ports_shown up desks.now) host) }
+        ≡ notice_deeds (own_view (controller_core store.old.journal.state store.old.tables)) code (about_at (port_at (ports_shown up desks.now) host)) }
     ensures doable { AreDoable deeds.new.items }
     ensures unchanged { store.new ≡ store.old }
 {

@@ -3,6 +3,7 @@ ghost use Rattle.std.specs.Prelude.{◌≡◌, ℕ, ◌+◌, ◌≤◌, ◌<◌,
 ghost use Rattle.std.specs.List.{list_all};
 ghost use Rattle.registry.specs.Values.{is_default};
 ghost use Rattle.history.specs.Damage.{same_bytes};
+ghost use Rattle.node_machine.specs.Carrying.{own_view};
 ghost use Rattle.node_machine.specs.Parts.{Init as InitOf};
 ghost use Rattle.node_machine.specs.HostReplies.{is_same, learns, init_deeds, orders_of};
 ghost use Rattle.node_deeds.specs.Shown.{Handling, deeds_shown, init_shown};
@@ -108,7 +109,7 @@ fn learn_command<N: Nv + Drop>(deeds: &mut Deeds, store: &mut Store<N>, command:
     requires short { length deeds.old.items ≤ 7 }
     requires doable { AreDoable deeds.old.items }
     ensures deeds { (a : Handling) (host : ℕ) (init : Option InitOf) → deeds_shown a deeds.new.items ≡ deeds_shown a deeds.old.items
-        ++ learns (host_core host store.old.journal.state store.old.tables init) command }
+        ++ learns (own_view (host_core host store.old.journal.state store.old.tables init)) command }
     ensures short { length deeds.new.items ≤ length deeds.old.items + 1 }
     ensures doable { AreDoable deeds.new.items }
     ensures unchanged { store.new ≡ store.old }
@@ -135,7 +136,8 @@ fn go_on<N: Nv + Drop>(
     ensures deeds { (pipe : ℕ) (message : List ℕ) →
         deeds_shown (handled_by host (Some (init_shown init.now)) pipe message) deeds.new.items
         ≡ deeds_shown (handled_by host (Some (init_shown init.now)) pipe message) deeds.old.items
-        ++ init_deeds (host_core host store.old.journal.state store.old.tables (Some (init_shown init.now))) code value.now (Some (init_shown init.now)) }
+        ++ init_deeds (own_view (host_core host store.old.journal.state store.old.tables (Some (init_shown init.now)))) code value.now
+        (Some (init_shown init.now)) }
     ensures doable { AreDoable deeds.new.items }
     ensures unchanged { store.new ≡ store.old }
 {
@@ -198,7 +200,7 @@ fn setting_of(host: u8, init: &Init) -> Command
 fn is_same(tables: &Tables, host: u8, init: &Init, value: &[u8]) -> bool
     requires some { 1 ≤ host }
     requires host { host ≤ 7 }
-    ensures { (journal : State) (i : Option InitOf) → result ≡ is_same (host_core host journal tables.now i) (init_shown init.now) value.now }
+    ensures { (journal : State) (i : Option InitOf) → result ≡ is_same (own_view (host_core host journal tables.now i)) (init_shown init.now) value.now }
 {
     let kept = tables
         .registry()

@@ -3,7 +3,6 @@ pub mod Rising
 pub mod Walks
 pub mod Schedules
 pub mod Unhandled
-pub mod Alike
 pub mod Examples
 pub mod Late
 pub mod Held

@@ -1,6 +1,5 @@
 pub mod Shapes
 pub mod Answering
-pub mod Alike
 pub mod Asides
 pub mod Knowing
 pub mod Turns

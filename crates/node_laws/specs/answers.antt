@@ -2,5 +2,4 @@ pub mod Moments
 pub mod Order
 pub mod Unasked
 pub mod Answered
-pub mod Alike
 pub mod Headline

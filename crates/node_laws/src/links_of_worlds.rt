@@ -15,7 +15,7 @@ ghost use Rattle.link_laws.specs.messages.Quiet.{AllDelivered, IsQuiet, losses_o
 ghost use Rattle.link_laws.specs.messages.Settled.{AreUpTogether, IsSettled, sure_of};
 ghost use Rattle.node_machine.specs.Parts.{Core, Port, Work};
 ghost use Rattle.node_machine.specs.Carrying.{port_at};
-ghost use Rattle.node_machine.specs.Controller.{controller_deeds};
+ghost use Rattle.node_machine.specs.Controller.{controller_deeds, view_of};
 ghost use Rattle.node_machine.specs.Node.{NodeInput, steps};
 ghost use Rattle.node_machine.specs.world.World.{Site, new_world};
 ghost use Rattle.node_laws.specs.links.Notices.{AllReach, IsBegun, IsComing, IsNoticedUp, IsOutside, OnFirst};
@@ -89,7 +89,7 @@ pub fn blocks_of_each_end_are_shared_out()
 /// Whatever message of a host a controller handles, it asks and tells by a notice only hosts whose links are up; and an end that
 /// is up stays so over whatever comes to it that doesn't end its session.
 pub fn notices_go_over_links_that_are_up()
-    ensures sent { (core : Core) (ports : List Port) (h : ℕ) (m : Message) → AllReach ports (controller_deeds core ports h m) }
+    ensures sent { (core : Core) (ports : List Port) (h : ℕ) (m : Message) → AllReach ports (controller_deeds (view_of core ports) h m) }
     ensures kept { (e : LinkEnd) (i : LinkInput) → IsComing i → e.shdlc.phase ≡ Up → is_some (ended_by e i) ≡ false →
         (after_input e i).shdlc.phase ≡ Up }
 {}

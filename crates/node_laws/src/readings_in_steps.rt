@@ -11,7 +11,7 @@ ghost use Rattle.gate_answers.specs.Answers.{instruction_in};
 ghost use Rattle.journal_laws.specs.Journal.{count_of};
 ghost use Rattle.link_laws.specs.machine.Machine.{LinkInput, Message};
 ghost use Rattle.link_laws.specs.messages.Links.{Comes};
-ghost use Rattle.node_machine.specs.Parts.{Core, Port, Running, Work};
+ghost use Rattle.node_machine.specs.Parts.{NodeView, Port, Running, Work};
 ghost use Rattle.node_machine.specs.Carrying.{lack, needs, port_at};
 ghost use Rattle.node_machine.specs.Turns.{deeds_of, handles, holds_back, lets_go};
 ghost use Rattle.node_machine.specs.Node.NodeInput.{AtEnd, TimePasses};
@@ -90,6 +90,5 @@ pub fn what_decides_a_turn_is_read()
 
 /// Two controllers that know the same do the same with a message.
 pub fn controllers_that_know_the_same_do_the_same()
-    ensures { (c d : Core) (ps qs : List Port) (h : ℕ) → KnowsTheSame c d ps qs h → (m : Message) →
-        controller_deeds c ps h m ≡ controller_deeds d qs h m }
+    ensures { (v u : NodeView) (h : ℕ) → KnowsTheSame v u h → (m : Message) → controller_deeds v h m ≡ controller_deeds u h m }
 {}

@@ -1,26 +1,20 @@
 //! What a history of a world of nodes must be as to its answers: the definition `Answered`, by what is read off events and entries, and
 //! what histories that follow schedules meet of it so far. Nothing here runs.
 
-ghost use Rattle.std.specs.Prelude.{◌≡◌, ◌≤◌, ◌==◌, ◌∷◌, ◌++◌, ℕ, Bool, false, List, Some};
+ghost use Rattle.std.specs.Prelude.{◌≡◌, ◌==◌, ◌∷◌, ◌++◌, ℕ, false, List, Some};
 ghost use Rattle.std.specs.List.{AllByRecursion};
 ghost use Rattle.trace_model.specs.declared.entry.Entry.{Entry};
 ghost use Rattle.trace_model.specs.declared.entry.Entry.TheVariants.{Turn};
 ghost use Rattle.trace_model.specs.declared.line.End.{End};
 ghost use Rattle.trace_model.specs.declared.line.Header.{Header};
 ghost use Rattle.trace_model.specs.declared.line.Line.{Line};
-ghost use Rattle.link_laws.specs.machine.Machine.{Message, oldest, spare};
-ghost use Rattle.node_machine.specs.Parts.{Core, Port, Running};
+ghost use Rattle.link_laws.specs.machine.Machine.{oldest};
+ghost use Rattle.node_machine.specs.Parts.{Running};
 ghost use Rattle.node_machine.specs.world.World.{Site, end_c, end_h, new_world, site_at};
 ghost use Rattle.node_machine.specs.world.NodeHistories.{FollowsNodes, NodeHistory, node_entries, world_after};
 ghost use Rattle.node_laws.specs.kept.Hosts.{AreDifferent};
 ghost use Rattle.node_laws.specs.turns.Turns.{AreLeft};
-ghost use Rattle.node_laws.specs.answers.Moments.{side_read, unhandled_in};
-ghost use Rattle.link_laws.specs.sessions.Sessions.{is_up};
-ghost use Rattle.journal_laws.specs.declared.state.State.{State};
-ghost use Rattle.hci_tables.specs.declared.command.Command.{Command};
-ghost use Rattle.node_machine.specs.Carrying.{has_room_for};
-ghost use Rattle.node_machine.specs.Controller.{controller_deeds};
-ghost use Rattle.node_laws.specs.answers.Alike.{AreAlike};
+ghost use Rattle.node_laws.specs.answers.Moments.{unhandled_in};
 
 /// In every history of a world whose hosts have different numbers, none of them 00, the messages that are read to have come at an end
 /// since its node booted and to have had no turn are, at each moment, those that it got behind the ones that had their turns; a message
@@ -41,15 +35,4 @@ pub fn messages_without_turns_are_read()
         site_at (world_after (new_world header.hosts.items) lines).sites h ≡ Some s →
         (world_after (new_world header.hosts.items) lines).controller ≡ Some r →
         unhandled_in (node_entries t) (end_c h) ≡ s.link.controller.side.got }
-{}
-
-/// A controller replies to a message alike over ends that are alike: what counts of each is its host, whether it is up, what its
-/// unanswered notice is about, and REC_ERROR; of its journal only which commands find room. An end as it is read is up where that is
-/// read, and has the blocks to spare that are read.
-pub fn a_controller_replies_by_what_is_read()
-    ensures alike { (core : Core) (journal : State) (ports others : List Port) (h : ℕ) (m : Message) →
-        ((c : Command) → has_room_for core.journal c ≡ has_room_for journal c) → AreAlike ports others →
-        controller_deeds core ports h m ≡ controller_deeds (record core { journal = journal }) others h m }
-    ensures up { (up : Bool) (blocks : ℕ) → is_up (side_read up blocks).shdlc.phase ≡ up }
-    ensures spare { (up : Bool) (blocks : ℕ) → blocks ≤ 128 → spare (side_read up blocks) ≡ blocks }
 {}

@@ -9,11 +9,12 @@ ghost use Rattle.trace_model.specs.declared.line.End.{End};
 ghost use Rattle.journal_laws.specs.Journal.{count_of};
 ghost use Rattle.link_laws.specs.machine.Machine.{Message};
 ghost use Rattle.node_machine.specs.Parts.{Work};
+ghost use Rattle.node_machine.specs.Controller.{view_of};
 ghost use Rattle.node_machine.specs.Turns.{deeds_of, passes};
 ghost use Rattle.node_machine.specs.world.World.{end_c};
 ghost use Rattle.node_laws.specs.kept.Hosts.{AreHosts, IsFew};
 ghost use Rattle.node_laws.specs.answers.Answered.{IsHeldFor, IsReplied};
-ghost use Rattle.node_laws.specs.answers.Moments.{Moment, core_read, lack_of, noted_of_deeds, ports_read, reply, until};
+ghost use Rattle.node_laws.specs.answers.Moments.{Moment, lack_of, noted_of_deeds, reply, until, view_read};
 ghost use Rattle.node_laws.specs.read_steps.Alike.{KnowsTheSame};
 ghost use Rattle.node_laws.specs.read_steps.Works.{KeepsInStep, LinksAreRead};
 ghost use Rattle.node_laws.specs.passes.Noting.{entries_of_reply, session_of_port};
@@ -42,7 +43,7 @@ ghost use Rattle.node_laws.specs.passes.Steps.{comes_to_pass, controller_begins}
 pub fn what_is_read_is_known()
     ensures knows { (hosts : List ℕ) → AreHosts hosts → (t : List Entry) (w : Work) → KeepsInStep hosts t w →
         LinksAreRead hosts (t ++ w.entries) w.ports → HasRoomForAll w → AreNamed (t ++ w.entries) → (m : Moment) → until m ≡ t ++ w.entries →
-        (h : ℕ) → KnowsTheSame w.core (core_read m 0) w.ports (ports_read hosts (until m) 0) h }
+        (h : ℕ) → KnowsTheSame (view_of w.core w.ports) (view_read hosts m 0) h }
     ensures replies { (hosts : List ℕ) → AreHosts hosts → (t : List Entry) (w : Work) → KeepsInStep hosts t w →
         LinksAreRead hosts (t ++ w.entries) w.ports → HasRoomForAll w → AreNamed (t ++ w.entries) → (m : Moment) → until m ≡ t ++ w.entries →
         (h : ℕ) (message : Message) → reply hosts m (end_c h) message ≡ deeds_of w.core w.ports h message }

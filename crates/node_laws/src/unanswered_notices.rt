@@ -8,7 +8,7 @@ ghost use Rattle.trace_model.specs.declared.entry.Entry.{Entry};
 ghost use Rattle.std.specs.List.{AllByRecursion};
 ghost use Rattle.link_laws.specs.machine.Machine.{Message, spare};
 ghost use Rattle.node_machine.specs.Parts.{Core, Port};
-ghost use Rattle.node_machine.specs.Controller.{controller_deeds, is_asked_at};
+ghost use Rattle.node_machine.specs.Controller.{controller_deeds, is_asked_at, view_of};
 ghost use Rattle.node_machine.specs.world.World.{NodeWorld, Happening, new_world, world_step};
 ghost use Rattle.node_machine.specs.world.NodeFilters.{asking_in, spare_at};
 ghost use Rattle.trace_model.specs.declared.line.End.{End};
@@ -23,7 +23,7 @@ ghost use Rattle.node_laws.specs.notices.Worlds.{KeepsNotices};
 /// Whatever message of a host a controller handles, it asks and tells by a notice only hosts that have no notice to answer: so no
 /// notice takes the place of another one.
 pub fn no_notice_takes_the_place_of_another()
-    ensures { (core : Core) (ports : List Port) (h : ℕ) (m : Message) → AllByRecursion (GoesToFree ports) (controller_deeds core ports h m) }
+    ensures { (core : Core) (ports : List Port) (h : ℕ) (m : Message) → AllByRecursion (GoesToFree ports) (controller_deeds (view_of core ports) h m) }
 {}
 
 /// In a world that begins no notice is read. Whatever happens then, the unanswered notice of the controller to each host is the one that

@@ -28,16 +28,17 @@ use Rattle.gate_link.specs.Link.{link_served}
 use Rattle.gate_identity.specs.Identity.{identity_served}
 use Rattle.gate_loopback.specs.Loopback.{posts_back}
 use Rattle.link_laws.specs.machine.Machine.{Message, LinkInput, report}
-use Rattle.node_machine.specs.Parts.{Init, Creation, Notice, Core, Port, Deed}
+use Rattle.node_machine.specs.Parts.{Init, Creation, Notice, Core, Port, Deed, NodeView}
 use Rattle.node_machine.specs.Parts.Deed.{Commits, Sends, SaysOk, Asks, Releases, Tells, IsAnswered, Drops, SetsErrors, Orders, Hears, GoesOn, Ends}
-use Rattle.node_machine.specs.Carrying.{end_of_node, port_at, finds_room}
+use Rattle.node_machine.specs.Carrying.{end_of_node, port_at, finds_room, own_view, end_view}
 use Rattle.node_machine.specs.Controller.{has_link, creation_in, asked_at, asks_for, view_for, answers_on, commit_deeds, decision_deeds, link_deeds, gates}
-use Rattle.node_machine.specs.Controller.{gate_deeds, own_gate, goes_through, served_at, agreed, creation_deeds, notice_deeds, response_at, is_command_message}
+use Rattle.node_machine.specs.Controller.{gate_deeds, own_gate, goes_through, served_at, agreed, creation_deeds, notice_deeds, is_command_message}
 use Rattle.node_machine.specs.Controller.{relayed_to, unless_asking, if_notice, kind_deeds, own_deeds, relay_deeds, deeds_by_relay, controller_deeds}
+use Rattle.node_machine.specs.Controller.{view_of, about_at, about_of}
 use Rattle.node_machine.specs.HostReplies.{replies, accepts, is_welcome, pipe_named_in, pipe_created, pipe_deleted, pipes_cleared, notified_deeds, orders_of}
 use Rattle.node_machine.specs.HostReplies.{is_same, learns, init_agreed, init_deeds, deleted_by, created_by, learned, response_deeds, is_gate, gate_of_pipe}
 use Rattle.node_machine.specs.HostReplies.{ordered_deeds, host_deeds}
-use Rattle.node_machine.specs.Turns.{deeds_of}
+use Rattle.node_machine.specs.Turns.{deeds_for, deeds_of}
 use Rattle.node_machine.specs.Node.{NodeInput, input_at, forgotten, owed, all_owed, synced}
 use Rattle.node_machine.specs.world.NodeFilters.{is_response}
 
@@ -96,22 +97,22 @@ module _ (P : List Deed → Type 0) (core : Core) (ports : List Port) (h : ℕ) 
     pub counts : (errors n : ℕ) → IsServed core ports h m n → own_gate core.tables h m.0 ≡ Some 6
         → P (link_deeds h m.0 (link_served errors n (body_in m.1)))
     pub decides : (n : ℕ) → IsServed core ports h m n → cond (goes_through core.tables h m.0 n) (own_gate core.tables h m.0) None ≡ None
-        → P (decision_deeds core h m.0 (decided core.tables (view_for core.tables ports h) h m.0 n (body_in m.1)))
+        → P (decision_deeds (own_view core) h m.0 (decided core.tables (view_for core.tables ports h) h m.0 n (body_in m.1)))
     -- a notice is answered, and a creation may wait for that
     pub hears : (p : Port) → is_reply core ports h m ≡ true → port_at ports h ≡ Some p → asked_at p ≡ None → P (IsAnswered ∷ [])
     pub agrees : (flag : Bool) (p : Port) (c : Creation) → is_reply core ports h m ≡ true → port_at ports h ≡ Some p → asked_at p ≡ Some c
         → (flag ≡ true → finds_room core c.command ≡ true) → P (agreed flag c)
 
   module _ (cases : ControllerCases) where
-    response_holds : is_reply core ports h m ≡ true → (code : ℕ) (o : Option Port) → port_at ports h ≡ o → P (response_at core code o)
+    response_holds : is_reply core ports h m ≡ true → (code : ℕ) (o : Option Port) → port_at ports h ≡ o → P (notice_deeds (own_view core) code (about_at o))
     response_holds reply code None here = cases.drops 1 (λ again up. ap (option_and_then (λ (p : Port). p.desk.notice)) here)
     response_holds reply code (Some p) here = by_notice p.desk.notice refl where
-      by_creation : (o : Option Creation) → asked_at p ≡ o → P (creation_deeds core code o)
+      by_creation : (o : Option Creation) → asked_at p ≡ o → P (creation_deeds (own_view core) code o)
       by_creation None is = cases.hears p reply here is
       by_creation (Some c) is =
           cases.agrees (eqb code 0 && finds_room core c.command) p c reply here is (λ e. (and_parts (eqb code 0) (finds_room core c.command) e).1)
 
-      by_notice : (n : Option Notice) → p.desk.notice ≡ n → P (notice_deeds core code n)
+      by_notice : (n : Option Notice) → p.desk.notice ≡ n → P (notice_deeds (own_view core) code (about_of n))
       by_notice None is = cases.drops 1 (λ again up. ap (option_and_then (λ (p : Port). p.desk.notice)) here ∙ is)
       by_notice (Some n) is = by_creation (creation_in (Some n)) (ap creation_in is)
 
@@ -126,17 +127,17 @@ module _ (P : List Deed → Type 0) (core : Core) (ports : List Port) (h : ℕ) 
         (λ _. cases.refuses response.CommandNotSupported (no_response core ports h m (rw served.command refl)) served.free))
 
     asking_holds : (n : ℕ) → is_reply core ports h m ≡ false → (asks : Bool) → (asks ≡ false → IsServed core ports h m n)
-        → P (unless_asking core ports h m n asks)
+        → P (unless_asking (view_of core ports) h m n asks)
     asking_holds n off true served = cases.drops m.0 (no_reply core ports h m off)
     asking_holds n off false served = by_gate (goes_through core.tables h m.0 n) (own_gate core.tables h m.0) refl refl where
       by_gate : (b : Bool) (o : Option ℕ) → goes_through core.tables h m.0 n ≡ b → own_gate core.tables h m.0 ≡ o
-          → P (served_at core (view_for core.tables ports h) h m.0 n (body_in m.1) (cond b o None))
+          → P (served_at (own_view core) (view_for core.tables ports h) h m.0 n (body_in m.1) (cond b o None))
       by_gate true (Some gate) through is = gate_holds gate (view_for core.tables ports h).errors n (served refl) is
       by_gate true None through is = cases.decides n (served refl) (ap₂ (λ b o. cond b o None) through is)
       by_gate false o through is = cases.decides n (served refl) (ap (λ b. cond b (own_gate core.tables h m.0) None) through)
 
     kind_holds : relayed_to core.tables h m ≡ None → has_link ports h ≡ true → (x : Result (MessageKind × ℕ) MessageFault) → header_of m.1 ≡ x
-        → P (kind_deeds core ports h m x)
+        → P (kind_deeds (view_of core ports) h m x)
     kind_holds none up (Ok (IsCommand, n)) is =
         asking_holds n (no_response core ports h m (rw is refl)) (eqb m.0 1 && asks_for ports h)
         (λ e. record { command = is; up = up; not_relayed = none; free = second (eqb m.0 1) (asks_for ports h) e })
@@ -148,27 +149,27 @@ module _ (P : List Deed → Type 0) (core : Core) (ports : List Port) (h : ℕ) 
         cond_both _ (Sends h m ∷ []) (Drops m.0 ∷ []) P (λ _. cases.goes_back n is)
         (λ _. cases.drops m.0 (no_reply core ports h m (no_response core ports h m (rw is refl))))
     kind_holds none up (Ok (IsResponse, code)) is = by_pipe (eqb m.0 1) refl where
-      by_pipe : (b : Bool) → eqb m.0 1 ≡ b → P (if_notice core ports h m code b)
+      by_pipe : (b : Bool) → eqb m.0 1 ≡ b → P (if_notice (view_of core ports) h m code b)
       by_pipe true one = response_holds (rw (one, is) refl) code (port_at ports h) refl
       by_pipe false off = cases.drops m.0 (no_reply core ports h m (rw off refl))
     kind_holds none up (Err fault) is = cases.drops m.0 (no_reply core ports h m (no_response core ports h m (rw is refl)))
 
-    own_holds : relayed_to core.tables h m ≡ None → (b : Bool) → has_link ports h ≡ b → P (own_deeds core ports h m b)
+    own_holds : relayed_to core.tables h m ≡ None → (b : Bool) → has_link ports h ≡ b → P (own_deeds (view_of core ports) h m b)
     own_holds none true up = kind_holds none up (header_of m.1) refl
     own_holds none false down = cases.drops m.0 (λ reply up. absurd (true≢false (sym up ∙ down)))
 
-    passed_holds : (other : ℕ) → eqb m.0 1 ≡ false → (up : Bool) → P (relay_deeds ports h m other up)
+    passed_holds : (other : ℕ) → eqb m.0 1 ≡ false → (up : Bool) → P (relay_deeds (has_link ports) h m other up)
     passed_holds other off true = cases.goes_on other off
     passed_holds other off false =
         cond_both (has_link ports h && is_command_message m.1) (answers_on h m.0 (answer_of response.NotConnected [])) (Drops m.0 ∷ []) P
         (λ _. cases.refuses response.NotConnected (rw off refl) (λ one. absurd (true≢false (sym one ∙ off))))
         (λ _. cases.drops m.0 (no_reply core ports h m (rw off refl)))
 
-    relay_holds : (o : Option ℕ) → relayed_to core.tables h m ≡ o → P (deeds_by_relay core ports h m o)
+    relay_holds : (o : Option ℕ) → relayed_to core.tables h m ≡ o → P (deeds_by_relay (view_of core ports) h m o)
     relay_holds (Some other) is = passed_holds other (relayed_off core ports h m other is) (has_link ports other)
     relay_holds None is = own_holds is (has_link ports h) refl
 
-    pub controller_holds : P (controller_deeds core ports h m)
+    pub controller_holds : P (controller_deeds (view_of core ports) h m)
     controller_holds = relay_holds (relayed_to core.tables h m) refl
 
 -- it holds of a deed that neither commits nor tells nor asks, nor sets REC_ERROR
@@ -197,7 +198,7 @@ module _ (Q : Deed → Type 0) where
   told_hold message (y ∷ hosts) all = (all.0, told_hold message hosts all.1)
 
   module _ (plain : Plain Q) where
-    pub decision_holds : (core : Core) (h pipe : ℕ) (d : Decision) → OfDecision h d → AllByRecursion Q (decision_deeds core h pipe d)
+    pub decision_holds : (core : Core) (h pipe : ℕ) (d : Decision) → OfDecision h d → AllByRecursion Q (decision_deeds (own_view core) h pipe d)
     decision_holds core h pipe (Answer answer) of = (plain.sends h (pipe, answer.items), tt)
     decision_holds core h pipe (Commit c answer tell notice) of = by_room (finds_room core c) where
       by_room : (b : Bool) → AllByRecursion Q (commit_deeds b h pipe c answer.items (map (λ y. Tells y notice.items) (hosts_where (has tell))))
@@ -222,7 +223,7 @@ module _ (Q : Deed → Type 0) where
         → ((p : Port) (c : Creation) → port_at ports h ≡ Some p → asked_at p ≡ Some c → Q (Commits c.command))
         → ((errors n value : ℕ) → header_of m.1 ≡ Ok (IsCommand, n) → own_gate core.tables h m.0 ≡ Some 6
         → (link_served errors n (body_in m.1)).1 ≡ Some value → Q (SetsErrors value))
-        → AllByRecursion Q (controller_deeds core ports h m)
+        → AllByRecursion Q (controller_deeds (view_of core ports) h m)
     all_of_controller core ports h m decides commits sets = controller_holds (AllByRecursion Q) core ports h m (record {
       drops = λ pid none. (plain.drops pid, tt);
       goes_on = λ to off. (plain.sends to m, tt);
@@ -238,7 +239,7 @@ module _ (Q : Deed → Type 0) where
     -- where each is one
     pub any_of_controller : ((c : Command) → Q (Commits c)) → ((to : ℕ) (message : List ℕ) → Q (Tells to message))
         → ((to : ℕ) (message : List ℕ) (c : Creation) → Q (Asks to message c)) → ((errors : ℕ) → Q (SetsErrors errors))
-        → (core : Core) (ports : List Port) (h : ℕ) (m : Message) → AllByRecursion Q (controller_deeds core ports h m)
+        → (core : Core) (ports : List Port) (h : ℕ) (m : Message) → AllByRecursion Q (controller_deeds (view_of core ports) h m)
     any_of_controller commits tells asks sets core ports h m =
         all_of_controller core ports h m
         (λ n. each (decided core.tables (view_for core.tables ports h) h m.0 n (body_in m.1)))
@@ -254,63 +255,63 @@ module _ (Q : Deed → Type 0) where
 -- it holds of what a host does with a command
 pub record OrderCases (P : List Deed → Type 0) (core : Core) (errors pipe n : ℕ) (body : List ℕ) : Type 0 where
   pub none : P []
-  pub refuses : (r : Response) → P (replies core r)
-  pub creates : (row : PipeRow) → pipe_named_in body ≡ Some row → is_welcome core.node row ≡ true → P (accepts core (Create row))
-  pub deletes : (pid : ℕ) → is_some (pipe_at core.tables.rows pid) ≡ true → P (accepts core (Delete pid))
-  pub clears : (x : ℕ) → is_host x ≡ true → P (accepts core (Clear x))
+  pub refuses : (r : Response) → P (replies (own_view core) r)
+  pub creates : (row : PipeRow) → pipe_named_in body ≡ Some row → is_welcome core.node row ≡ true → P (accepts (own_view core) (Create row))
+  pub deletes : (pid : ℕ) → is_some (pipe_at core.tables.rows pid) ≡ true → P (accepts (own_view core) (Delete pid))
+  pub clears : (x : ℕ) → is_host x ≡ true → P (accepts (own_view core) (Clear x))
   pub counts : eqb pipe 0 ≡ true → P (link_deeds core.node 0 (link_served errors n body))
   pub names : eqb pipe 1 ≡ false → P (answers_on core.node pipe (identity_served gates n body))
 
 module _ (P : List Deed → Type 0) (core : Core) where
-  pub ordered_holds : (errors pipe n : ℕ) (body : List ℕ) → OrderCases P core errors pipe n body → P (ordered_deeds core errors pipe n body)
+  pub ordered_holds : (errors pipe n : ℕ) (body : List ℕ) → OrderCases P core errors pipe n body → P (ordered_deeds (own_view core) errors pipe n body)
   ordered_holds errors pipe n body cases =
-      cond_both (eqb pipe 1) (notified_deeds core n body) _ P
-      (λ _. cond_both (eqb n 18) (pipe_created core body) _ P (λ _. created (pipe_named_in body) refl)
-      (λ _. cond_both (eqb n 19) (pipe_deleted core body) _ P (λ _. deleted body)
-      (λ _. cond_both (eqb n 21) (pipes_cleared core body) (replies core response.CommandNotSupported) P (λ _. cleared body)
+      cond_both (eqb pipe 1) (notified_deeds (own_view core) n body) _ P
+      (λ _. cond_both (eqb n 18) (pipe_created (own_view core) body) _ P (λ _. created (pipe_named_in body) refl)
+      (λ _. cond_both (eqb n 19) (pipe_deleted (own_view core) body) _ P (λ _. deleted body)
+      (λ _. cond_both (eqb n 21) (pipes_cleared (own_view core) body) (replies (own_view core) response.CommandNotSupported) P (λ _. cleared body)
       (λ _. cases.refuses response.CommandNotSupported))))
       (λ off. cond_both (eqb pipe 0) (link_deeds core.node 0 (link_served errors n body)) _ P cases.counts
-      (λ _. cond_both (is_gate 5 (gate_of_pipe core pipe)) (answers_on core.node pipe (identity_served gates n body)) [] P (λ _. cases.names off)
+      (λ _. cond_both (is_gate 5 (gate_of_pipe (own_view core) pipe)) (answers_on core.node pipe (identity_served gates n body)) [] P (λ _. cases.names off)
       (λ _. cases.none)))
     where
-      created : (o : Option PipeRow) → pipe_named_in body ≡ o → P (pipe_created core body)
+      created : (o : Option PipeRow) → pipe_named_in body ≡ o → P (pipe_created (own_view core) body)
       created None is = rw is (cases.refuses response.NotOk)
       created (Some row) is =
-          rw is (cond_both (is_welcome core.node row) (accepts core (Create row)) (replies core response.NotOk) P (cases.creates row is)
+          rw is (cond_both (is_welcome core.node row) (accepts (own_view core) (Create row)) (replies (own_view core) response.NotOk) P (cases.creates row is)
           (λ _. cases.refuses response.NotOk))
 
-      deleted : (body : List ℕ) → P (pipe_deleted core body)
+      deleted : (body : List ℕ) → P (pipe_deleted (own_view core) body)
       deleted [] = cases.refuses response.CommandParameterUnknown
       deleted (pid ∷ []) =
-          cond_both (is_some (pipe_at core.tables.rows pid)) (accepts core (Delete pid)) (replies core response.Ok) P (cases.deletes pid)
+          cond_both (is_some (pipe_at core.tables.rows pid)) (accepts (own_view core) (Delete pid)) (replies (own_view core) response.Ok) P (cases.deletes pid)
           (λ _. cases.refuses response.Ok)
       deleted (pid ∷ x ∷ more) = cases.refuses response.CommandParameterUnknown
 
-      cleared : (body : List ℕ) → P (pipes_cleared core body)
+      cleared : (body : List ℕ) → P (pipes_cleared (own_view core) body)
       cleared [] = cases.refuses response.CommandParameterUnknown
       cleared (x ∷ []) =
-          cond_both (is_host x) (accepts core (Clear x)) (replies core response.CommandParameterUnknown) P (cases.clears x)
+          cond_both (is_host x) (accepts (own_view core) (Clear x)) (replies (own_view core) response.CommandParameterUnknown) P (cases.clears x)
           (λ _. cases.refuses response.CommandParameterUnknown)
       cleared (x ∷ y ∷ more) = cases.refuses response.CommandParameterUnknown
 
   -- what a host learns is nothing, or a command that it commits
   module _ (none : P []) (commits : (c : Command) → is_command c ≡ true → finds_room core c ≡ true → P (Commits c ∷ [])) where
-    pub learns_holds : (c : Command) → P (learns core c)
+    pub learns_holds : (c : Command) → P (learns (own_view core) c)
     learns_holds c =
         cond_both (is_command c && finds_room core c) (Commits c ∷ []) [] P
         (λ e. let both = and_parts (is_command c) (finds_room core c) e in commits c both.0 both.1) (λ _. none)
 
-    pub learned_holds : (order value : List ℕ) → P (learned core order value)
+    pub learned_holds : (order value : List ℕ) → P (learned (own_view core) order value)
     learned_holds order value =
-        cond_both (eqb (instruction_in order) 16) (created_by core value) _ P (λ _. by_row (pipe_named_in value))
-        (λ _. cond_both (eqb (instruction_in order) 17) (deleted_by core (body_in order)) _ P (λ _. by_body (body_in order))
-        (λ _. cond_both (eqb (instruction_in order) 20) (learns core (Clear core.node)) [] P (λ _. learns_holds (Clear core.node)) (λ _. none)))
+        cond_both (eqb (instruction_in order) 16) (created_by (own_view core) value) _ P (λ _. by_row (pipe_named_in value))
+        (λ _. cond_both (eqb (instruction_in order) 17) (deleted_by (own_view core) (body_in order)) _ P (λ _. by_body (body_in order))
+        (λ _. cond_both (eqb (instruction_in order) 20) (learns (own_view core) (Clear core.node)) [] P (λ _. learns_holds (Clear core.node)) (λ _. none)))
       where
-        by_row : (o : Option PipeRow) → P (option_map_or (λ row. learns core (Create row)) o [])
+        by_row : (o : Option PipeRow) → P (option_map_or (λ row. learns (own_view core) (Create row)) o [])
         by_row None = none
         by_row (Some row) = learns_holds (Create row)
 
-        by_body : (body : List ℕ) → P (deleted_by core body)
+        by_body : (body : List ℕ) → P (deleted_by (own_view core) body)
         by_body [] = none
         by_body (pid ∷ []) = learns_holds (Delete pid)
         by_body (pid ∷ x ∷ more) = none
@@ -319,19 +320,20 @@ module _ (P : List Deed → Type 0) (core : Core) where
   pub record InitCases (i : Init) : Type 0 where
     pub same : P (Ends (InitSame (end_of_node core core.node)) ∷ [])
     pub failed : (code : ℕ) → P (Ends (InitFailed (end_of_node core core.node) code) ∷ [])
-    pub made : P (learns core (Set core.node 0 1 (record { items = i.identity })) ++ Ends (InitMade (end_of_node core core.node) (length i.pipes)) ∷ [])
+    pub made : P (learns (own_view core) (Set core.node 0 1 (record { items = i.identity }))
+        ++ Ends (InitMade (end_of_node core core.node) (length i.pipes)) ∷ [])
     pub next : (order : List ℕ) → slice_get (orders_of i) (i.answered + 1) ≡ Some order
         → P (GoesOn (record i { answered = i.answered + 1 }) ∷ Orders order ∷ [])
 
-  pub init_holds : (i : Init) (code : ℕ) (value : List ℕ) → InitCases i → P (init_deeds core code value (Some i))
+  pub init_holds : (i : Init) (code : ℕ) (value : List ℕ) → InitCases i → P (init_deeds (own_view core) code value (Some i))
   init_holds i code value cases =
-      cond_both (eqb code 0) (init_agreed core i value) (Ends (InitFailed (end_of_node core core.node) code) ∷ []) P
-      (λ _. cond_both (is_same core i value) (Ends (InitSame (end_of_node core core.node)) ∷ []) _ P (λ _. cases.same)
+      cond_both (eqb code 0) (init_agreed (own_view core) i value) (Ends (InitFailed (end_of_node core core.node) code) ∷ []) P
+      (λ _. cond_both (is_same (own_view core) i value) (Ends (InitSame (end_of_node core core.node)) ∷ []) _ P (λ _. cases.same)
       (λ _. by (slice_get (orders_of i) (i.answered + 1)) refl))
       (λ _. cases.failed code)
     where
       on : Option (List ℕ) → List Deed
-      on None = learns core (Set core.node 0 1 (record { items = i.identity })) ++ Ends (InitMade (end_of_node core core.node) (length i.pipes)) ∷ []
+      on None = learns (own_view core) (Set core.node 0 1 (record { items = i.identity })) ++ Ends (InitMade (end_of_node core core.node) (length i.pipes)) ∷ []
       on (Some order) = GoesOn (record i { answered = i.answered + 1 }) ∷ Orders order ∷ []
 
       by : (o : Option (List ℕ)) → slice_get (orders_of i) (i.answered + 1) ≡ o → P (on o)
@@ -343,23 +345,26 @@ module _ (P : List Deed → Type 0) (core : Core) where
     pub none : P []
     pub drops : P (Drops m.0 ∷ [])
     pub goes : P (Sends core.node m ∷ [])
-    pub ordered : (n : ℕ) → header_of m.1 ≡ Ok (IsCommand, n) → P (ordered_deeds core p.desk.errors m.0 n (body_in m.1))
+    pub ordered : (n : ℕ) → header_of m.1 ≡ Ok (IsCommand, n) → P (ordered_deeds (own_view core) p.desk.errors m.0 n (body_in m.1))
     pub heard : (code : ℕ) (order : List ℕ) → core.command ≡ Some order
-        → P (Hears ∷ cond (eqb code 0) (learned core order (body_in m.1)) [] ++ init_deeds core code (body_in m.1) core.init)
+        → P (Hears ∷ cond (eqb code 0) (learned (own_view core) order (body_in m.1)) [] ++ init_deeds (own_view core) code (body_in m.1) core.init)
 
-  pub host_holds : (p : Port) (m : Message) → HostCases p m → P (host_deeds core p m)
+  pub host_holds : (p : Port) (m : Message) → HostCases p m → P (host_deeds (own_view core) (end_view p) m)
   host_holds p m cases = go (is_up p.side.shdlc.phase) (header_of m.1) refl refl where
-    response_holds : (code : ℕ) (o : Option (List ℕ)) → core.command ≡ o → P (response_deeds core code (body_in m.1))
+    response_holds : (code : ℕ) (o : Option (List ℕ)) → core.command ≡ o → P (response_deeds (own_view core) code (body_in m.1))
     response_holds code None is = rw is cases.none
     response_holds code (Some order) is = rw is (cases.heard code order is)
 
-    go : (b : Bool) (x : Result (MessageKind × ℕ) MessageFault) → is_up p.side.shdlc.phase ≡ b → header_of m.1 ≡ x → P (host_deeds core p m)
+    go : (b : Bool) (x : Result (MessageKind × ℕ) MessageFault) → is_up p.side.shdlc.phase ≡ b → header_of m.1 ≡ x
+        → P (host_deeds (own_view core) (end_view p) m)
     go false x up is = rw up cases.drops
     go true (Ok (IsCommand, n)) up is = rw (up, is) (cases.ordered n is)
     go true (Ok (IsEvent, n)) up is =
-        rw (up, is) (cond_both (is_gate 4 (gate_of_pipe core m.0) && posts_back m.1) (Sends core.node m ∷ []) [] P (λ _. cases.goes) (λ _. cases.none))
+        rw (up, is) (cond_both (is_gate 4 (gate_of_pipe (own_view core) m.0) && posts_back m.1) (Sends core.node m ∷ []) [] P (λ _. cases.goes)
+        (λ _. cases.none))
     go true (Ok (IsResponse, code)) up is =
-        rw (up, is) (cond_both (eqb m.0 1) (response_deeds core code (body_in m.1)) [] P (λ _. response_holds code core.command refl) (λ _. cases.none))
+        rw (up, is) (cond_both (eqb m.0 1) (response_deeds (own_view core) code (body_in m.1)) [] P (λ _. response_holds code core.command refl)
+        (λ _. cases.none))
     go true (Err fault) up is = rw (up, is) cases.none
 
 -- it holds of each command of an init
@@ -384,14 +389,14 @@ pub record OfHost (Q : Deed → Type 0) (core : Core) : Type 0 where
 
 module _ (Q : Deed → Type 0) (core : Core) where
   pub all_heard : OfHost Q core → (code : ℕ) (order value : List ℕ)
-      → AllByRecursion Q (Hears ∷ cond (eqb code 0) (learned core order value) [] ++ init_deeds core code value core.init)
+      → AllByRecursion Q (Hears ∷ cond (eqb code 0) (learned (own_view core) order value) [] ++ init_deeds (own_view core) code value core.init)
   all_heard own code order value = (own.hears, AllByRecursion-append Q _ _ learns_it (by core.init)) where
-    learns_it : AllByRecursion Q (cond (eqb code 0) (learned core order value) [])
+    learns_it : AllByRecursion Q (cond (eqb code 0) (learned (own_view core) order value) [])
     learns_it =
-        cond_both (eqb code 0) (learned core order value) [] (AllByRecursion Q)
+        cond_both (eqb code 0) (learned (own_view core) order value) [] (AllByRecursion Q)
         (λ _. learned_holds (AllByRecursion Q) core tt (λ c may room. (own.commits c, tt)) order value) (λ _. tt)
 
-    by : (o : Option Init) → AllByRecursion Q (init_deeds core code value o)
+    by : (o : Option Init) → AllByRecursion Q (init_deeds (own_view core) code value o)
     by None = tt
     by (Some i) = init_holds (AllByRecursion Q) core i code value (record {
       same = (own.same, tt);
@@ -406,7 +411,7 @@ module _ (Q : Deed → Type 0) (core : Core) where
   -- it holds of each deed for a command, but what sets REC_ERROR
   pub all_ordered : Plain Q → ((c : Command) → Q (Commits c)) → (errors pipe n : ℕ) (body : List ℕ)
       → (eqb pipe 0 ≡ true → (value : ℕ) → (link_served errors n body).1 ≡ Some value → Q (SetsErrors value))
-      → AllByRecursion Q (ordered_deeds core errors pipe n body)
+      → AllByRecursion Q (ordered_deeds (own_view core) errors pipe n body)
   all_ordered plain commits errors pipe n body sets = ordered_holds (AllByRecursion Q) core errors pipe n body (record {
     none = tt;
     refuses = λ r. (plain.sends core.node (1, answer_of r []), tt);
@@ -417,7 +422,7 @@ module _ (Q : Deed → Type 0) (core : Core) where
     names = λ off. (plain.sends core.node (pipe, identity_served gates n body), tt);
   })
     where
-      accepted : (c : Command) → AllByRecursion Q (accepts core c)
+      accepted : (c : Command) → AllByRecursion Q (accepts (own_view core) c)
       accepted c = by (finds_room core c) where
         by : (b : Bool) → AllByRecursion Q (commit_deeds b core.node 1 c (answer_of response.Ok []) [])
         by true = (commits c, (plain.sends core.node (1, answer_of response.Ok []), (plain.says_ok, tt)))
@@ -427,7 +432,7 @@ module _ (Q : Deed → Type 0) (core : Core) where
   pub all_of_host : Plain Q → OfHost Q core → (p : Port) (m : Message)
       → ((n value : ℕ) → header_of m.1 ≡ Ok (IsCommand, n) → eqb m.0 0 ≡ true → (link_served p.desk.errors n (body_in m.1)).1 ≡ Some value
       → Q (SetsErrors value))
-      → AllByRecursion Q (host_deeds core p m)
+      → AllByRecursion Q (host_deeds (own_view core) (end_view p) m)
   all_of_host plain own p m sets = host_holds (AllByRecursion Q) core p m (record {
     none = tt;
     drops = (plain.drops m.0, tt);
@@ -438,8 +443,16 @@ module _ (Q : Deed → Type 0) (core : Core) where
 
 -- ## Nodes
 
-pub deeds_hold : (P : List Deed → Type 0) (core : Core) (ports : List Port) (h : ℕ) (m : Message) → P (controller_deeds core ports h m) → P []
-    → ((p : Port) → P (host_deeds core p m)) → P (deeds_of core ports h m)
+-- what a controller does, and what a host does
+pub deeds_near : (v : NodeView) (h : ℕ) (m : Message) → eqb v.own.node 0 ≡ true → deeds_for v h m ≡ controller_deeds v h m
+deeds_near v h m q = rw q refl
+
+pub deeds_far : (v : NodeView) (h : ℕ) (m : Message) → eqb v.own.node 0 ≡ false
+    → deeds_for v h m ≡ option_map_or (λ e. host_deeds v.own e m) (v.ends h) []
+deeds_far v h m q = rw q refl
+
+pub deeds_hold : (P : List Deed → Type 0) (core : Core) (ports : List Port) (h : ℕ) (m : Message) → P (controller_deeds (view_of core ports) h m) → P []
+    → ((p : Port) → P (host_deeds (own_view core) (end_view p) m)) → P (deeds_of core ports h m)
 deeds_hold P core ports h m controller none host = go (eqb core.node 0) (port_at ports h) refl refl where
   go : (b : Bool) (o : Option Port) → eqb core.node 0 ≡ b → port_at ports h ≡ o → P (deeds_of core ports h m)
   go true o q here = rw q controller

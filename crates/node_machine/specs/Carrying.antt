@@ -14,12 +14,13 @@ use Rattle.hci_tables.specs.declared.command.Command.{Command}
 use Rattle.hci_tables.specs.Bodies.{body_of}
 use Rattle.hci_tables.specs.Tables.{apply}
 use Rattle.hci_store.specs.Committing.{record_fits, commit_writes, committed}
+use Rattle.link_laws.specs.sessions.Sessions.{is_up}
 use Rattle.link_laws.specs.machine.Machine.{Turn, turn, need, spare}
 use Rattle.link_laws.specs.machine.Machine.Turn.{Give, SetAside, Release}
 use Rattle.link_laws.specs.entries.Entries.{End as Side, turn_entry}
 use Rattle.link_laws.specs.entries.Entries.End.{Controller, Host}
 use Rattle.history.specs.Steps.{end_of, entries_for}
-use Rattle.node_machine.specs.Parts.{About, Desk, Core, Port, Work, Deed}
+use Rattle.node_machine.specs.Parts.{About, Desk, Core, Port, Work, Deed, OwnView, EndView}
 use Rattle.node_machine.specs.Parts.About.{Waits, Removed}
 use Rattle.node_machine.specs.Parts.Deed.{Commits, Sends, SaysOk, Asks, Releases, Tells, IsAnswered, Drops, SetsErrors, Orders, Hears, GoesOn, Ends}
 
@@ -27,9 +28,13 @@ use Rattle.node_machine.specs.Parts.Deed.{Commits, Sends, SaysOk, Asks, Releases
 abbrev pub own_side : Core → Side
 own_side core = if core.node == 0 then Controller else Host
 
+-- the end of the node with this number on the link with this host
+abbrev pub end_of_number : ℕ → ℕ → End
+end_of_number node h = end_of h (if node == 0 then Controller else Host)
+
 -- the end of the link with this host
 abbrev pub end_of_node : Core → ℕ → End
-end_of_node core h = end_of h (own_side core)
+end_of_node core h = end_of_number core.node h
 
 -- these are noted
 abbrev pub noting : List Entry → Work → Work
@@ -88,6 +93,14 @@ has_room_for s c = if record_fits s (body_of c) then true else nat_lt s.generati
 -- a command finds room in the journal of its node
 abbrev pub finds_room : Core → Command → Bool
 finds_room core c = has_room_for core.journal c
+
+-- what a node keeps that counts for a decision
+abbrev pub own_view : Core → OwnView
+own_view core = record { node = core.node; tables = core.tables; has_room = finds_room core; command = core.command; init = core.init }
+
+-- what counts of an end of a host
+abbrev pub end_view : Port → EndView
+end_view p = record { up = is_up p.side.shdlc.phase; errors = p.desk.errors }
 
 -- the plan behind so many writes that went through
 abbrev pub plan_behind : List Write → Option Plan → Option Plan
@@ -154,8 +167,16 @@ needs h (Orders message ∷ deeds) = (h, need message) ∷ needs h deeds
 needs h (_ ∷ deeds) = needs h deeds
 
 -- the first need that is above what is spare at its end, with what is
-abbrev pub lack : List Port → List (ℕ × ℕ) → Option (ℕ × ℕ)
-lack ports [] = None
-lack ports (n ∷ later) = by_room (option_map_or (λ (p : Port). spare p.side) (port_at ports n.0) 0) (lack ports later) where
+abbrev pub first_lack : (ℕ → ℕ) → List (ℕ × ℕ) → Option (ℕ × ℕ)
+first_lack spare [] = None
+first_lack spare (n ∷ later) = by_room (spare n.0) (first_lack spare later) where
   by_room : ℕ → Option (ℕ × ℕ) → Option (ℕ × ℕ)
-  by_room spare behind = if nat_lt spare n.1 then Some (n.1, spare) else behind
+  by_room blocks behind = if nat_lt blocks n.1 then Some (n.1, blocks) else behind
+
+-- the blocks that the end of the link with this host has to spare: none where there is no such link
+abbrev pub spare_with : List Port → ℕ → ℕ
+spare_with ports h = option_map_or (λ (p : Port). spare p.side) (port_at ports h) 0
+
+-- what these needs lack at these ends
+abbrev pub lack : List Port → List (ℕ × ℕ) → Option (ℕ × ℕ)
+lack ports needs = first_lack (spare_with ports) needs

@@ -3,7 +3,7 @@
 use Rattle.std.specs.Prelude.{ℕ, ◌==◌, ◌&&◌, ◌||◌, Bool, true, false, not, if◌then◌else◌, List, [], ◌∷◌, ◌++◌, map, is_some, Option, Some, None, Result, Ok}
 use Rattle.std.specs.Prelude.{Err}
 use Rattle.std.specs.List.{filter_map, list_any}
-use Rattle.std.specs.Option.{option_map_or, option_and_then}
+use Rattle.std.specs.Option.{option_map, option_map_or, option_and_then}
 use Rattle.link_laws.specs.sessions.Sessions.{is_up}
 use Rattle.hcp_packet.specs.declared.MessageKind.{MessageKind}
 use Rattle.hcp_packet.specs.declared.MessageKind.TheVariants.{Command as IsCommand, Event as IsEvent, Response as IsResponse}
@@ -23,10 +23,10 @@ use Rattle.gate_link.specs.Link.{link_served}
 use Rattle.gate_identity.specs.Identity.{identity_served}
 use Rattle.gate_loopback.specs.Loopback.{posts_back}
 use Rattle.link_laws.specs.machine.Machine.{Message}
-use Rattle.node_machine.specs.Parts.{Creation, About, Notice, Core, Port, Deed}
+use Rattle.node_machine.specs.Parts.{Creation, About, Notice, Core, Port, Deed, OwnView, NodeView}
 use Rattle.node_machine.specs.Parts.About.{Waits, Forgotten, Removed}
 use Rattle.node_machine.specs.Parts.Deed.{Commits, Sends, SaysOk, Asks, Releases, Tells, IsAnswered, Drops, SetsErrors}
-use Rattle.node_machine.specs.Carrying.{port_at, finds_room}
+use Rattle.node_machine.specs.Carrying.{port_at, own_view, end_view, spare_with}
 
 -- ## What it knows of its links
 
@@ -34,14 +34,26 @@ use Rattle.node_machine.specs.Carrying.{port_at, finds_room}
 abbrev pub has_link : List Port → ℕ → Bool
 has_link ports h = option_map_or (λ (p : Port). is_up p.side.shdlc.phase) (port_at ports h) false
 
+-- the creation that this is about, while it waits
+abbrev pub creation_of : About → Option Creation
+creation_of (Waits c) = Some c
+creation_of Forgotten = None
+creation_of Removed = None
+
 -- the creation that a notice is about, while it waits
 abbrev pub creation_in : Option Notice → Option Creation
 creation_in None = None
-creation_in (Some n) = by_about n.about where
-  by_about : About → Option Creation
-  by_about (Waits c) = Some c
-  by_about Forgotten = None
-  by_about Removed = None
+creation_in (Some n) = creation_of n.about
+
+-- what a notice is about, where there is one
+abbrev pub about_of : Option Notice → Option About
+about_of None = None
+about_of (Some n) = Some n.about
+
+-- what the notice to an end's host is about
+abbrev pub about_at : Option Port → Option About
+about_at None = None
+about_at (Some p) = about_of p.desk.notice
 
 -- the creation that this end's host is asked for
 abbrev pub asked_at : Port → Option Creation
@@ -91,6 +103,18 @@ view_for t ports h = record {
   errors = option_map_or (λ (p : Port). p.desk.errors) (port_at ports h) 0;
 }
 
+-- What a node that runs, over these ends, goes by.
+abbrev pub view_of : Core → List Port → NodeView
+view_of core ports = record {
+  own = own_view core;
+  up = has_link ports;
+  asks = asks_for ports;
+  notice = λ h. about_at (port_at ports h);
+  links = view_for core.tables ports;
+  ends = λ h. option_map end_view (port_at ports h);
+  spare = spare_with ports;
+}
+
 -- ## Commands
 
 -- an answer to a host on the pipe of its command
@@ -103,11 +127,11 @@ commit_deeds true h pipe c answer told = Commits c ∷ Sends h (pipe, answer) �
 commit_deeds false h pipe c answer told = answers_on h pipe (answer_of response.NotOk [])
 
 -- what the administration gate decided is done
-abbrev pub decision_deeds : Core → ℕ → ℕ → Decision → List Deed
-decision_deeds core h pipe (Answer answer) = answers_on h pipe answer.items
-decision_deeds core h pipe (Commit c answer tell notice) =
-    commit_deeds (finds_room core c) h pipe c answer.items (map (λ told. Tells told notice.items) (hosts_where (has tell)))
-decision_deeds core h pipe (Ask asked notice c answer) =
+abbrev pub decision_deeds : OwnView → ℕ → ℕ → Decision → List Deed
+decision_deeds own h pipe (Answer answer) = answers_on h pipe answer.items
+decision_deeds own h pipe (Commit c answer tell notice) =
+    commit_deeds (own.has_room c) h pipe c answer.items (map (λ told. Tells told notice.items) (hosts_where (has tell)))
+decision_deeds own h pipe (Ask asked notice c answer) =
     Asks asked notice.items (record { asker = h; command = c; answer = answer.items }) ∷ []
 
 -- the answer of the link management gate, and REC_ERROR where it is set
@@ -140,15 +164,15 @@ abbrev pub goes_through : HciTables → ℕ → ℕ → ℕ → Bool
 goes_through t h pipe instruction = is_opened t h pipe && not (instruction == 3 || instruction == 4)
 
 -- a command at a gate of the controller, or one that the administration gate decides
-abbrev pub served_at : Core → LinkView → ℕ → ℕ → ℕ → List ℕ → Option ℕ → List Deed
-served_at core view h pipe instruction body None = decision_deeds core h pipe (decided core.tables view h pipe instruction body)
-served_at core view h pipe instruction body (Some gate) = gate_deeds gate view.errors h pipe instruction body
+abbrev pub served_at : OwnView → LinkView → ℕ → ℕ → ℕ → List ℕ → Option ℕ → List Deed
+served_at own view h pipe instruction body None = decision_deeds own h pipe (decided own.tables view h pipe instruction body)
+served_at own view h pipe instruction body (Some gate) = gate_deeds gate view.errors h pipe instruction body
 
 -- what is done with a command of a host
-abbrev pub command_deeds : Core → List Port → ℕ → ℕ → ℕ → List ℕ → List Deed
-command_deeds core ports h pipe instruction body =
-    served_at core (view_for core.tables ports h) h pipe instruction body
-    (if goes_through core.tables h pipe instruction then own_gate core.tables h pipe else None)
+abbrev pub command_deeds : NodeView → ℕ → ℕ → ℕ → List ℕ → List Deed
+command_deeds v h pipe instruction body =
+    served_at v.own (v.links h) h pipe instruction body
+    (if goes_through v.own.tables h pipe instruction then own_gate v.own.tables h pipe else None)
 
 -- ## Responses
 
@@ -158,19 +182,14 @@ agreed true c = IsAnswered ∷ Commits c.command ∷ Releases c.asker ∷ Sends 
 agreed false c = IsAnswered ∷ Releases c.asker ∷ Sends c.asker (1, answer_of response.NotOk []) ∷ []
 
 -- the asked host has answered with this code: the creation is done or not, where it still waits
-abbrev pub creation_deeds : Core → ℕ → Option Creation → List Deed
-creation_deeds core code None = IsAnswered ∷ []
-creation_deeds core code (Some c) = agreed (code == 0 && finds_room core c.command) c
+abbrev pub creation_deeds : OwnView → ℕ → Option Creation → List Deed
+creation_deeds own code None = IsAnswered ∷ []
+creation_deeds own code (Some c) = agreed (code == 0 && own.has_room c.command) c
 
--- a response with this code answers a notice
-abbrev pub notice_deeds : Core → ℕ → Option Notice → List Deed
-notice_deeds core code None = Drops 1 ∷ []
-notice_deeds core code (Some n) = creation_deeds core code (creation_in (Some n))
-
--- a response on pipe 01 at this end
-abbrev pub response_at : Core → ℕ → Option Port → List Deed
-response_at core code None = Drops 1 ∷ []
-response_at core code (Some p) = notice_deeds core code p.desk.notice
+-- a response with this code answers a notice, which is about this
+abbrev pub notice_deeds : OwnView → ℕ → Option About → List Deed
+notice_deeds own code None = Drops 1 ∷ []
+notice_deeds own code (Some about) = creation_deeds own code (creation_of about)
 
 -- ## Messages
 
@@ -204,38 +223,37 @@ event_deeds t h m =
     then Sends h m ∷ [] else Drops m.0 ∷ []
 
 -- a message on pipe 01 of a host whose creation waits is dropped, where it is a command
-abbrev pub unless_asking : Core → List Port → ℕ → Message → ℕ → Bool → List Deed
-unless_asking core ports h m instruction true = Drops m.0 ∷ []
-unless_asking core ports h m instruction false = command_deeds core ports h m.0 instruction (body_in m.1)
+abbrev pub unless_asking : NodeView → ℕ → Message → ℕ → Bool → List Deed
+unless_asking v h m instruction true = Drops m.0 ∷ []
+unless_asking v h m instruction false = command_deeds v h m.0 instruction (body_in m.1)
 
 -- a response answers a notice, where it came on pipe 01
-abbrev pub if_notice : Core → List Port → ℕ → Message → ℕ → Bool → List Deed
-if_notice core ports h m code true = response_at core code (port_at ports h)
-if_notice core ports h m code false = Drops m.0 ∷ []
+abbrev pub if_notice : NodeView → ℕ → Message → ℕ → Bool → List Deed
+if_notice v h m code true = notice_deeds v.own code (v.notice h)
+if_notice v h m code false = Drops m.0 ∷ []
 
 -- a message with this header
-abbrev pub kind_deeds : Core → List Port → ℕ → Message → Result (MessageKind × ℕ) MessageFault → List Deed
-kind_deeds core ports h m (Ok (IsCommand, instruction)) =
-    unless_asking core ports h m instruction (m.0 == 1 && asks_for ports h)
-kind_deeds core ports h m (Ok (IsEvent, instruction)) = event_deeds core.tables h m
-kind_deeds core ports h m (Ok (IsResponse, code)) = if_notice core ports h m code (m.0 == 1)
-kind_deeds core ports h m (Err fault) = Drops m.0 ∷ []
+abbrev pub kind_deeds : NodeView → ℕ → Message → Result (MessageKind × ℕ) MessageFault → List Deed
+kind_deeds v h m (Ok (IsCommand, instruction)) = unless_asking v h m instruction (m.0 == 1 && v.asks h)
+kind_deeds v h m (Ok (IsEvent, instruction)) = event_deeds v.own.tables h m
+kind_deeds v h m (Ok (IsResponse, code)) = if_notice v h m code (m.0 == 1)
+kind_deeds v h m (Err fault) = Drops m.0 ∷ []
 
 -- a message that isn't relayed: one whose link isn't up is dropped
-abbrev pub own_deeds : Core → List Port → ℕ → Message → Bool → List Deed
-own_deeds core ports h m true = kind_deeds core ports h m (header_of m.1)
-own_deeds core ports h m false = Drops m.0 ∷ []
+abbrev pub own_deeds : NodeView → ℕ → Message → Bool → List Deed
+own_deeds v h m true = kind_deeds v h m (header_of m.1)
+own_deeds v h m false = Drops m.0 ∷ []
 
 -- a message that is for another host, whose link is up or not
-abbrev pub relay_deeds : List Port → ℕ → Message → ℕ → Bool → List Deed
-relay_deeds ports h m other true = Sends other m ∷ []
-relay_deeds ports h m other false = unrelayed (has_link ports h) h m
+abbrev pub relay_deeds : (ℕ → Bool) → ℕ → Message → ℕ → Bool → List Deed
+relay_deeds up h m other true = Sends other m ∷ []
+relay_deeds up h m other false = unrelayed (up h) h m
 
 -- a message is relayed where it is for another host
-abbrev pub deeds_by_relay : Core → List Port → ℕ → Message → Option ℕ → List Deed
-deeds_by_relay core ports h m (Some other) = relay_deeds ports h m other (has_link ports other)
-deeds_by_relay core ports h m None = own_deeds core ports h m (has_link ports h)
+abbrev pub deeds_by_relay : NodeView → ℕ → Message → Option ℕ → List Deed
+deeds_by_relay v h m (Some other) = relay_deeds v.up h m other (v.up other)
+deeds_by_relay v h m None = own_deeds v h m (v.up h)
 
 -- What a controller does with a message of a host.
-abbrev pub controller_deeds : Core → List Port → ℕ → Message → List Deed
-controller_deeds core ports h m = deeds_by_relay core ports h m (relayed_to core.tables h m)
+abbrev pub controller_deeds : NodeView → ℕ → Message → List Deed
+controller_deeds v h m = deeds_by_relay v h m (relayed_to v.own.tables h m)

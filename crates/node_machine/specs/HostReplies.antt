@@ -3,7 +3,6 @@
 use Rattle.std.specs.Prelude.{ℕ, ◌+◌, ◌==◌, ◌&&◌, ◌||◌, Bool, true, false, not, nat_le, if◌then◌else◌, List, [], ◌∷◌, ◌++◌, map, length, is_some, slice_get}
 use Rattle.std.specs.Prelude.{Option, Some, None, Result, Ok, Err}
 use Rattle.std.specs.Option.{option_map_or}
-use Rattle.link_laws.specs.sessions.Sessions.{is_up}
 use Rattle.hcp_packet.specs.declared.MessageKind.{MessageKind}
 use Rattle.hcp_packet.specs.declared.MessageKind.TheVariants.{Command as IsCommand, Event as IsEvent, Response as IsResponse}
 use Rattle.hcp_packet.specs.declared.MessageFault.{MessageFault}
@@ -23,20 +22,20 @@ use Rattle.gate_identity.specs.Identity.{identity_served}
 use Rattle.gate_loopback.specs.Loopback.{posts_back}
 use Rattle.link_laws.specs.machine.Machine.{Message}
 use Rattle.history.specs.Damage.{same_bytes}
-use Rattle.node_machine.specs.Parts.{Init, Core, Port, Deed}
+use Rattle.node_machine.specs.Parts.{Init, Deed, OwnView, EndView}
 use Rattle.node_machine.specs.Parts.Deed.{Commits, Sends, Drops, Orders, Hears, GoesOn, Ends}
-use Rattle.node_machine.specs.Carrying.{end_of_node, finds_room}
+use Rattle.node_machine.specs.Carrying.{end_of_number}
 use Rattle.node_machine.specs.Controller.{answers_on, commit_deeds, link_deeds, gates}
 
 -- ## Notices
 
 -- an answer on pipe 01
-abbrev pub replies : Core → Response → List Deed
-replies core r = answers_on core.node 1 (answer_of r [])
+abbrev pub replies : OwnView → Response → List Deed
+replies own r = answers_on own.node 1 (answer_of r [])
 
 -- a command is committed and answered by ANY_OK
-abbrev pub accepts : Core → Command → List Deed
-accepts core c = commit_deeds (finds_room core c) core.node 1 c (answer_of response.Ok []) []
+abbrev pub accepts : OwnView → Command → List Deed
+accepts own c = commit_deeds (own.has_room c) own.node 1 c (answer_of response.Ok []) []
 
 -- a host takes pipes to its gates 04 and 05 and to those from 10 on
 abbrev pub is_open_gate : ℕ → Bool
@@ -54,29 +53,29 @@ pipe_named_in (creator ∷ creator_gate ∷ dest ∷ dest_gate ∷ pid ∷ []) =
 pipe_named_in _ = None
 
 -- ADM_NOTIFY_PIPE_CREATED
-abbrev pub pipe_created : Core → List ℕ → List Deed
-pipe_created core body = by_row (pipe_named_in body) where
+abbrev pub pipe_created : OwnView → List ℕ → List Deed
+pipe_created own body = by_row (pipe_named_in body) where
   by_row : Option PipeRow → List Deed
-  by_row None = replies core response.NotOk
-  by_row (Some row) = if is_welcome core.node row then accepts core (Create row) else replies core response.NotOk
+  by_row None = replies own response.NotOk
+  by_row (Some row) = if is_welcome own.node row then accepts own (Create row) else replies own response.NotOk
 
 -- ADM_NOTIFY_PIPE_DELETED: a pipe that the host doesn't keep is answered too
-abbrev pub pipe_deleted : Core → List ℕ → List Deed
-pipe_deleted core (pid ∷ []) = if is_some (pipe_at core.tables.rows pid) then accepts core (Delete pid) else replies core response.Ok
-pipe_deleted core _ = replies core response.CommandParameterUnknown
+abbrev pub pipe_deleted : OwnView → List ℕ → List Deed
+pipe_deleted own (pid ∷ []) = if is_some (pipe_at own.tables.rows pid) then accepts own (Delete pid) else replies own response.Ok
+pipe_deleted own _ = replies own response.CommandParameterUnknown
 
 -- ADM_NOTIFY_ALL_PIPE_CLEARED
-abbrev pub pipes_cleared : Core → List ℕ → List Deed
-pipes_cleared core (x ∷ []) = if is_host x then accepts core (Clear x) else replies core response.CommandParameterUnknown
-pipes_cleared core _ = replies core response.CommandParameterUnknown
+abbrev pub pipes_cleared : OwnView → List ℕ → List Deed
+pipes_cleared own (x ∷ []) = if is_host x then accepts own (Clear x) else replies own response.CommandParameterUnknown
+pipes_cleared own _ = replies own response.CommandParameterUnknown
 
 -- a command on pipe 01
-abbrev pub notified_deeds : Core → ℕ → List ℕ → List Deed
-notified_deeds core instruction body =
-    if instruction == 18 then pipe_created core body else
-    (if instruction == 19 then pipe_deleted core body else
-    (if instruction == 21 then pipes_cleared core body else
-    replies core response.CommandNotSupported))
+abbrev pub notified_deeds : OwnView → ℕ → List ℕ → List Deed
+notified_deeds own instruction body =
+    if instruction == 18 then pipe_created own body else
+    (if instruction == 19 then pipe_deleted own body else
+    (if instruction == 21 then pipes_cleared own body else
+    replies own response.CommandNotSupported))
 
 -- ## Init
 
@@ -85,84 +84,84 @@ abbrev pub orders_of : Init → List (List ℕ)
 orders_of i = (3 ∷ []) ∷ (2 ∷ 1 ∷ []) ∷ (20 ∷ []) ∷ (3 ∷ []) ∷ map (λ pipe. 16 ∷ pipe) i.pipes ++ (1 ∷ 1 ∷ i.identity) ∷ []
 
 -- the identity that the host keeps
-abbrev pub kept_identity : Core → List ℕ
-kept_identity core = value_at core.tables.values core.node 0 1
+abbrev pub kept_identity : OwnView → List ℕ
+kept_identity own = value_at own.tables.values own.node 0 1
 
 -- the second command was answered by the identity that the host keeps, and one was ever set
-abbrev pub is_same : Core → Init → List ℕ → Bool
-is_same core i value = i.answered == 1 && same_bytes value (kept_identity core) && not (is_default 1 value)
+abbrev pub is_same : OwnView → Init → List ℕ → Bool
+is_same own i value = i.answered == 1 && same_bytes value (kept_identity own) && not (is_default 1 value)
 
 -- a command of its own is committed where there is room and it may be recorded
-abbrev pub learns : Core → Command → List Deed
-learns core c = if is_command c && finds_room core c then Commits c ∷ [] else []
+abbrev pub learns : OwnView → Command → List Deed
+learns own c = if is_command c && own.has_room c then Commits c ∷ [] else []
 
 -- ANY_OK came to a command of an init
-abbrev pub init_agreed : Core → Init → List ℕ → List Deed
-init_agreed core i value =
-    if is_same core i value then Ends (InitSame (end_of_node core core.node)) ∷ [] else next (slice_get (orders_of i) (i.answered + 1)) where
+abbrev pub init_agreed : OwnView → Init → List ℕ → List Deed
+init_agreed own i value =
+    if is_same own i value then Ends (InitSame (end_of_number own.node own.node)) ∷ [] else next (slice_get (orders_of i) (i.answered + 1)) where
       next : Option (List ℕ) → List Deed
       next None =
-          learns core (Set core.node 0 1 (record { items = i.identity })) ++ Ends (InitMade (end_of_node core core.node) (length i.pipes)) ∷ []
+          learns own (Set own.node 0 1 (record { items = i.identity })) ++ Ends (InitMade (end_of_number own.node own.node) (length i.pipes)) ∷ []
       next (Some order) = GoesOn (record i { answered = i.answered + 1 }) ∷ Orders order ∷ []
 
 -- a response came to a command of an init
-abbrev pub init_deeds : Core → ℕ → List ℕ → Option Init → List Deed
-init_deeds core code value None = []
-init_deeds core code value (Some i) = if code == 0 then init_agreed core i value else Ends (InitFailed (end_of_node core core.node) code) ∷ []
+abbrev pub init_deeds : OwnView → ℕ → List ℕ → Option Init → List Deed
+init_deeds own code value None = []
+init_deeds own code value (Some i) = if code == 0 then init_agreed own i value else Ends (InitFailed (end_of_number own.node own.node) code) ∷ []
 
 -- ## Responses
 
 -- ANY_OK to a command that deletes the pipe that its body names
-abbrev pub deleted_by : Core → List ℕ → List Deed
-deleted_by core (pid ∷ []) = learns core (Delete pid)
-deleted_by core _ = []
+abbrev pub deleted_by : OwnView → List ℕ → List Deed
+deleted_by own (pid ∷ []) = learns own (Delete pid)
+deleted_by own _ = []
 
 -- ANY_OK to a command that creates the pipe that the answer names
-abbrev pub created_by : Core → List ℕ → List Deed
-created_by core value = option_map_or (λ row. learns core (Create row)) (pipe_named_in value) []
+abbrev pub created_by : OwnView → List ℕ → List Deed
+created_by own value = option_map_or (λ row. learns own (Create row)) (pipe_named_in value) []
 
 -- what a host keeps of its own command, to which ANY_OK came with this value
-abbrev pub learned : Core → List ℕ → List ℕ → List Deed
-learned core order value =
-    if instruction_in order == 16 then created_by core value else
-    (if instruction_in order == 17 then deleted_by core (body_in order) else
-    (if instruction_in order == 20 then learns core (Clear core.node) else []))
+abbrev pub learned : OwnView → List ℕ → List ℕ → List Deed
+learned own order value =
+    if instruction_in order == 16 then created_by own value else
+    (if instruction_in order == 17 then deleted_by own (body_in order) else
+    (if instruction_in order == 20 then learns own (Clear own.node) else []))
 
 -- a response on pipe 01 answers the last command sent there
-abbrev pub response_deeds : Core → ℕ → List ℕ → List Deed
-response_deeds core code value = by_order core.command where
+abbrev pub response_deeds : OwnView → ℕ → List ℕ → List Deed
+response_deeds own code value = by_order own.command where
   by_order : Option (List ℕ) → List Deed
   by_order None = []
-  by_order (Some order) = Hears ∷ (if code == 0 then learned core order value else []) ++ init_deeds core code value core.init
+  by_order (Some order) = Hears ∷ (if code == 0 then learned own order value else []) ++ init_deeds own code value own.init
 
 -- ## Messages
 
 -- the gate of this host at which a dynamic pipe ends that another one made
-abbrev pub gate_of_pipe : Core → ℕ → Option ℕ
-gate_of_pipe core pid = by_row (pipe_at core.tables.rows pid) where
+abbrev pub gate_of_pipe : OwnView → ℕ → Option ℕ
+gate_of_pipe own pid = by_row (pipe_at own.tables.rows pid) where
   by_row : Option PipeRow → Option ℕ
   by_row None = None
-  by_row (Some row) = if row.dest == core.node then Some row.dest_gate else None
+  by_row (Some row) = if row.dest == own.node then Some row.dest_gate else None
 
 -- this is the gate
 abbrev pub is_gate : ℕ → Option ℕ → Bool
 is_gate gate at = option_map_or (λ g. g == gate) at false
 
 -- a command: one on a pipe to the loopback gate is only noted
-abbrev pub ordered_deeds : Core → ℕ → ℕ → ℕ → List ℕ → List Deed
-ordered_deeds core errors pipe instruction body =
-    if pipe == 1 then notified_deeds core instruction body else
-    (if pipe == 0 then link_deeds core.node 0 (link_served errors instruction body) else
-    (if is_gate 5 (gate_of_pipe core pipe) then answers_on core.node pipe (identity_served gates instruction body) else []))
+abbrev pub ordered_deeds : OwnView → ℕ → ℕ → ℕ → List ℕ → List Deed
+ordered_deeds own errors pipe instruction body =
+    if pipe == 1 then notified_deeds own instruction body else
+    (if pipe == 0 then link_deeds own.node 0 (link_served errors instruction body) else
+    (if is_gate 5 (gate_of_pipe own pipe) then answers_on own.node pipe (identity_served gates instruction body) else []))
 
 -- What a host does with a message. One that comes to its turn while the link isn't up is dropped; what isn't named here is only
 -- noted.
-abbrev pub host_deeds : Core → Port → Message → List Deed
-host_deeds core p m = if_up (is_up p.side.shdlc.phase) where
+abbrev pub host_deeds : OwnView → EndView → Message → List Deed
+host_deeds own e m = if_up e.up where
   by_header : Result (MessageKind × ℕ) MessageFault → List Deed
-  by_header (Ok (IsCommand, instruction)) = ordered_deeds core p.desk.errors m.0 instruction (body_in m.1)
-  by_header (Ok (IsEvent, instruction)) = if is_gate 4 (gate_of_pipe core m.0) && posts_back m.1 then Sends core.node m ∷ [] else []
-  by_header (Ok (IsResponse, code)) = if m.0 == 1 then response_deeds core code (body_in m.1) else []
+  by_header (Ok (IsCommand, instruction)) = ordered_deeds own e.errors m.0 instruction (body_in m.1)
+  by_header (Ok (IsEvent, instruction)) = if is_gate 4 (gate_of_pipe own m.0) && posts_back m.1 then Sends own.node m ∷ [] else []
+  by_header (Ok (IsResponse, code)) = if m.0 == 1 then response_deeds own code (body_in m.1) else []
   by_header (Err fault) = []
 
   if_up : Bool → List Deed

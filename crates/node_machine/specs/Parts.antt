@@ -6,6 +6,7 @@ use Rattle.journal_laws.specs.declared.state.State.{State}
 use Rattle.journal_laws.specs.Writes.{Write}
 use Rattle.hci_tables.specs.declared.command.Command.{Command}
 use Rattle.hci_tables.specs.Tables.{HciTables}
+use Rattle.gate_admin.specs.declared.view.LinkView.{LinkView}
 use Rattle.link_laws.specs.machine.Machine.{LinkEnd, Turn}
 
 -- A creation that waits: which host asked for the pipe, the command that is committed where the other host agrees, and the
@@ -114,3 +115,39 @@ pub data Deed : Type 0 where
   GoesOn : Init → Deed
   -- it ends, which is noted so
   Ends : Entry → Deed
+
+-- ## What a node goes by
+
+-- What a node keeps itself that counts as it decides what to do with a message.
+pub record OwnView : Type 0 where
+  -- 00 is the controller, any other number is that of the host
+  pub node : ℕ
+  pub tables : HciTables
+  -- its memory has room for a command
+  pub has_room : Command → Bool
+  -- at a host: the last command on pipe 01 without a response, and the init that runs
+  pub command : Option (List ℕ)
+  pub init : Option Init
+
+-- what counts of the end of a host
+pub record EndView : Type 0 where
+  pub up : Bool
+  -- REC_ERROR
+  pub errors : ℕ
+
+-- All that counts as a node decides what to do with a message, and whether there is room for that: what it keeps itself, and what it knows of
+-- its links, by their hosts.
+pub record NodeView : Type 0 where
+  pub own : OwnView
+  -- a link is up
+  pub up : ℕ → Bool
+  -- at a controller: a creation that this host asked for waits
+  pub asks : ℕ → Bool
+  -- at a controller: what the notice to this host is about that isn't answered
+  pub notice : ℕ → Option About
+  -- at a controller: what its gates go by as a command of this host comes
+  pub links : ℕ → LinkView
+  -- at a host: its end
+  pub ends : ℕ → Option EndView
+  -- the blocks that an end has to spare: none where there is no such link
+  pub spare : ℕ → ℕ

@@ -4,17 +4,21 @@ use Rattle.std.specs.Option.{option_map_or}
 use Rattle.trace_model.specs.declared.entry.Entry.TheVariants as entry
 use Rattle.link_laws.specs.machine.Machine.{Message, is_held}
 use Rattle.link_laws.specs.machine.Machine.Turn.{FetchMessage, Hold}
-use Rattle.node_machine.specs.Parts.{Core, Port, Work, Deed}
+use Rattle.node_machine.specs.Parts.{Core, Port, Work, Deed, NodeView}
 use Rattle.node_machine.specs.Carrying.{noting, unless_cut, port_at, with_desk, turn_at, end_of_node, all_done, needs, lack}
-use Rattle.node_machine.specs.Controller.{controller_deeds}
+use Rattle.node_machine.specs.Controller.{view_of, controller_deeds}
 use Rattle.node_machine.specs.HostReplies.{host_deeds}
 
--- What the handling of a message does that came at the end with this host.
-abbrev pub deeds_of : Core → List Port → ℕ → Message → List Deed
-deeds_of core ports h m = by_node (core.node == 0) where
+-- What the handling of a message does that came at the end with this host, by what its node goes by.
+abbrev pub deeds_for : NodeView → ℕ → Message → List Deed
+deeds_for v h m = by_node (v.own.node == 0) where
   by_node : Bool → List Deed
-  by_node true = controller_deeds core ports h m
-  by_node false = option_map_or (λ p. host_deeds core p m) (port_at ports h) []
+  by_node true = controller_deeds v h m
+  by_node false = option_map_or (λ e. host_deeds v.own e m) (v.ends h) []
+
+-- at a node that runs
+abbrev pub deeds_of : Core → List Port → ℕ → Message → List Deed
+deeds_of core ports h m = deeds_for (view_of core ports) h m
 
 -- the message is the node's from now on, and is handled
 abbrev pub handles : ℕ → Message → List Deed → Work → Work

@@ -23,8 +23,8 @@ use Rattle.history.specs.Filters.{same_end}
 use Rattle.history.specs.Steps.{entries_for}
 use Rattle.node_machine.specs.Parts.{Core, Port, Work, Deed}
 use Rattle.node_machine.specs.Parts.Deed.{Commits, Sends, SaysOk, IsAnswered, Drops, SetsErrors}
-use Rattle.node_machine.specs.Carrying.{port_at, changed_if, with_port, after_turn, turn_at, done, all_done, unless_cut}
-use Rattle.node_machine.specs.Controller.{own_gate, controller_deeds}
+use Rattle.node_machine.specs.Carrying.{port_at, changed_if, with_port, after_turn, turn_at, done, all_done, unless_cut, own_view, end_view}
+use Rattle.node_machine.specs.Controller.{own_gate, controller_deeds, view_of}
 use Rattle.node_machine.specs.HostReplies.{host_deeds}
 use Rattle.node_laws.specs.views.Errors.{errors_set_by, is_any_ok, leads_to_link_gate}
 use Rattle.node_laws.proofs.views.Setting.{AreUnset, is_link_gate, SetsNone, IsUpAt, SetDeeds, controller_unset, controller_sets, host_unset, host_sets}
@@ -145,27 +145,27 @@ fits_by ports k m deeds false sets unset set = SetsNothing (unset refl)
 
 -- of a controller
 pub controller_fits : (core : Core) (ports : List Port) (k number h : ℕ) (m : Message) → eqb number 0 ≡ true → k ≡ h
-    → FitsErrors ports k m.0 (controller_deeds core ports k m) (sets_there core (end_of_node_alone number h) m)
+    → FitsErrors ports k m.0 (controller_deeds (view_of core ports) k m) (sets_there core (end_of_node_alone number h) m)
 controller_fits core ports k number h m zero same =
     let e : End = end_of_node_alone number h in
     let here : leads_to_link_gate core.tables e m.0 ≡ is_link_gate (own_gate core.tables k m.0) =
     ap (λ b. leads_to_link_gate core.tables (cond b (Rattle.node_machine.specs.world.World.end_c h) (Rattle.node_machine.specs.world.World.end_h h)) m.0) zero
     ∙ ap (λ z. is_link_gate (own_gate core.tables z m.0)) (sym same) in
-    subst (FitsErrors ports k m.0 (controller_deeds core ports k m)) (sym (ap (λ b. cond b (errors_set_by m.1) None) here))
-    (fits_by ports k m (controller_deeds core ports k m) (is_link_gate (own_gate core.tables k m.0)) (errors_set_by m.1)
+    subst (FitsErrors ports k m.0 (controller_deeds (view_of core ports) k m)) (sym (ap (λ b. cond b (errors_set_by m.1) None) here))
+    (fits_by ports k m (controller_deeds (view_of core ports) k m) (is_link_gate (own_gate core.tables k m.0)) (errors_set_by m.1)
     (controller_unset core ports k m) (λ v leads sets. controller_sets core ports k m v leads sets))
 
 -- and of a host
 pub host_fits : (core : Core) (ports : List Port) (p : Port) (k number h : ℕ) (m : Message) → eqb number 0 ≡ false → core.node ≡ k → port_at ports k ≡ Some p
-    → FitsErrors ports k m.0 (host_deeds core p m) (sets_there core (end_of_node_alone number h) m)
+    → FitsErrors ports k m.0 (host_deeds (own_view core) (end_view p) m) (sets_there core (end_of_node_alone number h) m)
 host_fits core ports p k number h m another node here =
     let e : End = end_of_node_alone number h in
     let zero : leads_to_link_gate core.tables e m.0 ≡ eqb m.0 0 =
     ap (λ b. leads_to_link_gate core.tables (cond b (Rattle.node_machine.specs.world.World.end_c h) (Rattle.node_machine.specs.world.World.end_h h)) m.0)
     another in
-    subst (FitsErrors ports k m.0 (host_deeds core p m)) (sym (ap (λ b. cond b (errors_set_by m.1) None) zero))
-    (fits_by ports k m (host_deeds core p m) (eqb m.0 0) (errors_set_by m.1) (host_unset core p m)
-    (λ v leads sets. subst (λ n. SetDeeds ports n m.0 v (host_deeds core p m)) node
+    subst (FitsErrors ports k m.0 (host_deeds (own_view core) (end_view p) m)) (sym (ap (λ b. cond b (errors_set_by m.1) None) zero))
+    (fits_by ports k m (host_deeds (own_view core) (end_view p) m) (eqb m.0 0) (errors_set_by m.1) (host_unset core p m)
+    (λ v leads sets. subst (λ n. SetDeeds ports n m.0 v (host_deeds (own_view core) (end_view p) m)) node
     (host_sets core ports p m v (subst (λ n. port_at ports n ≡ Some p) (sym node) here) leads sets)))
 
 -- ## Its deeds

@@ -19,8 +19,8 @@ use Rattle.tables_laws.proofs.gate.Decisions.{decided_holds, decided_tells_other
 use Rattle.link_laws.specs.machine.Machine.{Message}
 use Rattle.node_machine.specs.Parts.{Creation, Core, Port, Deed}
 use Rattle.node_machine.specs.Parts.Deed.{Commits, Sends, SaysOk, Releases, Tells, IsAnswered, Drops, SetsErrors}
-use Rattle.node_machine.specs.Carrying.{port_at}
-use Rattle.node_machine.specs.Controller.{is_connected_at, creation_in, asked_at, view_for, controller_deeds}
+use Rattle.node_machine.specs.Carrying.{port_at, own_view, end_view}
+use Rattle.node_machine.specs.Controller.{is_connected_at, creation_in, asked_at, view_for, controller_deeds, view_of}
 use Rattle.node_machine.specs.HostReplies.{host_deeds}
 use Rattle.node_machine.proofs.Walks.{Plain, OfDecision, all_of_controller, all_ordered, host_holds}
 use Rattle.node_laws.proofs.links.Masking.{nobody, from_mask}
@@ -119,7 +119,7 @@ module _ (t : HciTables) (p : Port) (h : ℕ) (host : p.desk.host ≡ h) where
 
 -- What a controller does with a message of the host of its one link.
 pub controller_own : (n : ℕ) (core : Core) (p : Port) (h : ℕ) (m : Message) → p.desk.host ≡ h → p.desk.notice ≡ None → 1 ≤ h → h ≤ 7
-    → AreTables core.tables → JoinTwo core.tables.rows → AreOwnDeeds n (controller_deeds core (p ∷ []) h m)
+    → AreTables core.tables → JoinTwo core.tables.rows → AreOwnDeeds n (controller_deeds (view_of core (p ∷ [])) h m)
 controller_own n core p h m host none some most sorted two =
     let v : LinkView = view_for core.tables (p ∷ []) h in
     all_of_controller (IsOwnDeed n) (plain n) core (p ∷ []) h m
@@ -137,7 +137,8 @@ controller_own n core p h m host none some most sorted two =
       go false e z = cc z
 
 -- What a host does with a message, where no command of it waits for its answer.
-pub host_own : (n : ℕ) → eqb n 0 ≡ false → (core : Core) (p : Port) (m : Message) → core.command ≡ None → AreOwnDeeds n (host_deeds core p m)
+pub host_own : (n : ℕ) → eqb n 0 ≡ false → (core : Core) (p : Port) (m : Message) → core.command ≡ None
+    → AreOwnDeeds n (host_deeds (own_view core) (end_view p) m)
 host_own n another core p m none =
     host_holds (AreOwnDeeds n) core p m (record {
       none = tt;

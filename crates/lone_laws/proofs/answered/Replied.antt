@@ -1,7 +1,6 @@
 -- At each turn of a step a node alone replies to its message as is read.
-use Rattle.std.proofs.Common.{◌≡◌, ℕ, ◌≤◌, Bool, true, false, cond, eqb, ◌&&◌, List, [], ◌∷◌, ◌++◌, refl, sym, ap, ap₂, subst, ◌∙◌, append_assoc, arith}
+use Rattle.std.proofs.Common.{◌≡◌, ℕ, ◌≤◌, Bool, true, false, cond, eqb, ◌&&◌, List, [], ◌∷◌, ◌++◌, refl, sym, ap, ap₂, subst, ◌∙◌, append_assoc}
 use Rattle.std.specs.Prelude.{Some, None, is_some, nat_lt}
-use Rattle.std.specs.List.{AllByRecursion, fold}
 use Rattle.std.specs.Option.{option_map_or}
 use Rattle.std.proofs.lemmas.Bool.{eqb-true}
 use Rattle.trace_model.specs.declared.entry.Entry.{Entry}
@@ -14,12 +13,10 @@ use Rattle.hci_tables.specs.Tables.{AreTables}
 use Rattle.tables_laws.specs.tables.Changes.{JoinTwo}
 use Rattle.link_laws.specs.machine.Machine.{Message, spare}
 use Rattle.link_laws.specs.machine.Machine.Turn.{FetchMessage}
-use Rattle.node_machine.specs.Parts.{Desk, Core, Port, Work, Deed}
+use Rattle.node_machine.specs.Parts.{Core, Port, Work, Deed}
 use Rattle.node_machine.specs.Parts.Deed.{Sends}
-use Rattle.node_machine.specs.Carrying.{end_of_node, port_at, changed_if, with_port, after_turn, all_done, needs, lack}
-use Rattle.node_machine.specs.Turns.{deeds_of, handles}
-use Rattle.node_laws.proofs.answers.Alike.{replies_alike, up_read, spare_read}
-use Rattle.node_laws.proofs.hosts.Alike.{host_same}
+use Rattle.node_machine.specs.Carrying.{end_of_node, end_view, port_at, changed_if, with_port, after_turn, all_done, needs, first_lack, lack}
+use Rattle.node_machine.specs.Turns.{deeds_for, deeds_of, handles}
 use Rattle.node_laws.specs.passes.Passing.{waiting_at, lacking, takes_up}
 use Rattle.node_laws.specs.passes.Noting.{noted_by_deeds}
 use Rattle.node_laws.proofs.passes.Notes.{deeds_note}
@@ -27,11 +24,13 @@ use Rattle.node_laws.proofs.passes.Passing.{takes_entries}
 use Rattle.node_laws.proofs.passes.Counts.{taken_at_once}
 use Rattle.node_laws.proofs.views.Setting.{IsUpAt}
 use Rattle.lone_laws.specs.alone.Lone.{end_of_node_alone}
-use Rattle.lone_laws.specs.alone.Known.{RecErrors, LoneTalk, no_session_now, errors_noted, spare_in_talk, talk_since, core_since, port_since, reply_since}
+use Rattle.lone_laws.specs.alone.Known.{RecErrors, LoneTalk, no_session_now, errors_noted, errors_since, spare_in_talk, talk_since, core_since}
+use Rattle.lone_laws.specs.alone.Known.{end_since, spare_since, spare_with_link, view_with_link, reply_since}
 use Rattle.node_laws.specs.views.Errors.{errors_set_by, leads_to_link_gate}
 use Rattle.lone_laws.specs.alone.Known.{lack_since}
 use Rattle.lone_laws.specs.alone.Answers.{entries_of_deeds}
 use Rattle.lone_laws.proofs.answered.Reading.{eqb_same, Read, core_is, Alone}
+use Rattle.lone_laws.proofs.answered.Linked.{one_deeds, one_lack}
 use Rattle.lone_laws.proofs.answered.Turning.{same_self, own_end, IsHere, alone_here, link_is}
 use Rattle.lone_laws.proofs.answered.Ordered.{begin_read}
 use Rattle.lone_laws.proofs.answered.Talking.{talk_of_side}
@@ -46,7 +45,7 @@ abbrev pub begin_errs : Core → RecErrors
 begin_errs found = record { core = found; sets = None; errors = 0 }
 
 -- what lacks is decided by what is spare
-pub lack_same : (p q : Port) → p.desk.host ≡ q.desk.host → spare p.side ≡ spare q.side → (ns : List (ℕ × ℕ)) → lack (p ∷ []) ns ≡ lack (q ∷ []) ns
+lack_same : (p q : Port) → p.desk.host ≡ q.desk.host → spare p.side ≡ spare q.side → (ns : List (ℕ × ℕ)) → lack (p ∷ []) ns ≡ lack (q ∷ []) ns
 lack_same p q host same [] = refl
 lack_same p q host same (n ∷ ns) =
     let one : option_map_or (λ (x : Port). spare x.side) (port_at (p ∷ []) n.0) 0 ≡ option_map_or (λ (x : Port). spare x.side) (port_at (q ∷ []) n.0) 0 =
@@ -56,9 +55,6 @@ lack_same p q host same (n ∷ ns) =
     by : (b : Bool) → option_map_or (λ (x : Port). spare x.side) (cond b (Some p) None) 0 ≡ option_map_or (λ (x : Port). spare x.side) (cond b (Some q) None) 0
     by true = same
     by false = refl
-
-small : (x : LoneTalk) → spare_in_talk x ≤ 128
-small x = omega arith
 
 module _ (rest : Core) (number h : ℕ) (some : 1 ≤ h) (most : h ≤ 7) (s : ℕ) (t : List Entry) where
   -- what the boot of this node found
@@ -91,9 +87,6 @@ module _ (rest : Core) (number h : ℕ) (some : 1 ≤ h) (most : h ≤ 7) (s : �
     abbrev all : List Entry
     all = t ++ w.entries
 
-    abbrev pub read_port : Port
-    read_port = port_since found h all
-
     pub core_read : core_since found all ≡ w.core
     core_read = sym (core_is e all (begin_read found)) ∙ ap (λ (z : Read). z.core) alone.read
 
@@ -103,49 +96,33 @@ module _ (rest : Core) (number h : ℕ) (some : 1 ≤ h) (most : h ≤ 7) (s : �
     pub session_read : (talk_since e number all).session ≡ session_of_end its_port
     session_read = ap (λ (x : LoneTalk). x.session) talk_read
 
-    up_is : is_up its_port.side.shdlc.phase ≡ is_up read_port.side.shdlc.phase
-    up_is =
-        sym (up_read (is_some (talk_since e number all).session) (spare_in_talk (talk_since e number all))
-        ∙ (ap is_some session_read ∙ by (is_up its_port.side.shdlc.phase))) where
-          by : (b : Bool) → is_some (cond b (Some its_port.session) None) ≡ b
-          by true = refl
-          by false = refl
+    up_is : is_some (talk_since e number all).session ≡ is_up its_port.side.shdlc.phase
+    up_is = ap is_some session_read ∙ by (is_up its_port.side.shdlc.phase) where
+      by : (b : Bool) → is_some (cond b (Some its_port.session) None) ≡ b
+      by true = refl
+      by false = refl
 
-    spare_at_it : spare its_port.side ≡ spare read_port.side
+    errors_is : errors_since found e all ≡ its_port.desk.errors
+    errors_is = a.errs ∙ ap desk_errors alone.ports_are
+
+    end_is : end_since found h all ≡ end_view its_port
+    end_is = λ i. record { up = up_is i; errors = errors_is i }
+
+    spare_at_it : spare_since found h all ≡ spare its_port.side
     spare_at_it =
-        sym (spare_read (is_some (talk_since e number all).session) (spare_in_talk (talk_since e number all)) (small (talk_since e number all))
-        ∙ (ap spare_in_talk talk_read ∙ spare_is its_port.side its_port.session (ap (λ (p : Port). p.side.aside) (sym same_port) ∙ talks.aside)))
-
-    errors_is : its_port.desk.errors ≡ read_port.desk.errors
-    errors_is = sym (a.errs ∙ ap desk_errors alone.ports_are)
+        ap spare_in_talk talk_read ∙ spare_is its_port.side its_port.session (ap (λ (p : Port). p.side.aside) (sym same_port) ∙ talks.aside)
 
     pub deeds_read : (k : ℕ) (m : Message) → k ≡ h → reply_since found h all m ≡ deeds_of w.core w.ports k m
     deeds_read k m same =
-        ap (λ c. deeds_of c (read_port ∷ []) h m) core_read
-        ∙ (by (eqb w.core.node 0) refl ∙ (ap (λ n. deeds_of w.core (its_port ∷ []) n m) (sym same)
-        ∙ ap (λ ps. deeds_of w.core ps k m) (sym alone.ports_are))) where
-          here : (p : Port) → p.desk.host ≡ h → port_at (p ∷ []) h ≡ Some p
-          here p host = ap (λ b. cond b (Some p) None) (ap (λ n. eqb n h) host ∙ eqb_same h)
-
-          by : (b : Bool) → eqb w.core.node 0 ≡ b → deeds_of w.core (read_port ∷ []) h m ≡ deeds_of w.core (its_port ∷ []) h m
-          by true q =
-              rw q (sym (replies_alike w.core w.core.journal (λ c. refl) (its_port ∷ []) (read_port ∷ []) (
-                record {
-                  host = alone.host;
-                  up = up_is;
-                  about = ap (Rattle.std.specs.Option.option_map
-                      (λ (n : Rattle.node_machine.specs.Parts.Notice). n.about)) alone.none;
-                  errors = errors_is;
-                },
-                tt,
-              ) h m))
-          by false q =
-              rw (q, here read_port refl, here its_port alone.host) (host_same w.core read_port its_port m (sym up_is) (sym errors_is))
+        ap (λ c. deeds_for (view_with_link c h (end_since found h all) (spare_since found h all)) h m) core_read
+        ∙ (ap₂ (λ x n. deeds_for (view_with_link w.core h x n) h m) end_is spare_at_it
+        ∙ (sym (one_deeds w.core its_port h alone.host alone.none m)
+        ∙ (ap (λ n. deeds_of w.core (its_port ∷ []) n m) (sym same) ∙ ap (λ ps. deeds_of w.core ps k m) (sym alone.ports_are))))
 
     pub lack_read : (k : ℕ) (m : Message) → k ≡ h → lack_since found h all m ≡ lacking w k m
     lack_read k m same =
-        ap (λ d. lack (read_port ∷ []) (needs h d)) (deeds_read k m same)
-        ∙ (sym (lack_same its_port read_port alone.host spare_at_it (needs h (deeds_of w.core w.ports k m)))
+        ap₂ (λ n d. first_lack (spare_with_link h n) (needs h d)) spare_at_it (deeds_read k m same)
+        ∙ (sym (one_lack w.core its_port h alone.host (needs h (deeds_of w.core w.ports k m)))
         ∙ (ap (λ n. lack (its_port ∷ []) (needs n (deeds_of w.core w.ports k m))) (sym same)
         ∙ ap (λ ps. lack ps (needs k (deeds_of w.core w.ports k m))) (sym alone.ports_are)))
 

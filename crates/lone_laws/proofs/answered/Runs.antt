@@ -4,7 +4,7 @@ use Rattle.std.proofs.Common.{subst, ◌∙◌, arith}
 use Rattle.std.proofs.Common.{append_assoc, append-nil}
 use Rattle.std.specs.Prelude.{min, Option, Some, None, is_some, IsSome}
 use Rattle.std.specs.List.{AllByRecursion}
-use Rattle.std.specs.Option.{option_map_or}
+use Rattle.std.specs.Option.{option_map, option_map_or}
 use Rattle.std.proofs.lemmas.Bool.{cases_Bool, true≢false, eq-eqb}
 use Rattle.swp_base.specs.InMemory.{Memory}
 use Rattle.swp_base.specs.declared.control_frames.Control.{Control}
@@ -28,7 +28,7 @@ use Rattle.hci_store.proofs.Starting.{counted}
 use Rattle.link_laws.specs.machine.Machine.{LinkInput, Message, is_held}
 use Rattle.link_laws.specs.machine.Machine.Turn.{FetchMessage, Hold}
 use Rattle.node_machine.specs.Parts.{Core, Port, Running, Work, Deed}
-use Rattle.node_machine.specs.Carrying.{all_done, end_of_node, lack, needs, noting, port_at, turn_at, unless_cut, with_desk}
+use Rattle.node_machine.specs.Carrying.{all_done, end_of_node, lack, needs, noting, port_at, turn_at, unless_cut, with_desk, own_view, end_view}
 use Rattle.node_machine.specs.Turns.{deeds_of, goes_through_ends, handles, have_turns, holds_back, lets_go, passes}
 use Rattle.node_machine.specs.HostReplies.{host_deeds}
 use Rattle.node_machine.specs.Node.{all_come, boot_writes, found, steps}
@@ -110,7 +110,8 @@ module _ (rest : Core) (number h : ℕ) (some : 1 ≤ h) (most : h ≤ 7) (its :
         rw q (controller_may w.core (on_none w a) g.sorted w.ports (waits_none w a) k (subst (λ n. 1 ≤ n) (sym same) some)
         (subst (λ n. n ≤ 7) (sym same) most) m)
     by false q = rw q (go (port_at w.ports k)) where
-      go : (o : Option Port) → MayBeDone (Some w.core.journal) w.core.command w.core.init (option_map_or (λ p. host_deeds w.core p m) o [])
+      go : (o : Option Port)
+          → MayBeDone (Some w.core.journal) w.core.command w.core.init (option_map_or (λ e. host_deeds (own_view w.core) e m) (option_map end_view o) [])
       go None = on_none w a
       go (Some p) = host_may w.core (on_none w a) g.sorted (small w a) p m
 

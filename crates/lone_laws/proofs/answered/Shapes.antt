@@ -18,8 +18,8 @@ use Rattle.tables_laws.proofs.gate.Decisions.{decided_tells_others}
 use Rattle.link_laws.specs.machine.Machine.{Message}
 use Rattle.node_machine.specs.Parts.{Creation, Core, Port, Deed}
 use Rattle.node_machine.specs.Parts.Deed.{Commits, Sends, SaysOk, Tells, IsAnswered, Drops, SetsErrors}
-use Rattle.node_machine.specs.Carrying.{port_at, finds_room}
-use Rattle.node_machine.specs.Controller.{creation_in, asked_at, view_for, commit_deeds, decision_deeds, link_deeds, gates, controller_deeds}
+use Rattle.node_machine.specs.Carrying.{port_at, finds_room, own_view, end_view}
+use Rattle.node_machine.specs.Controller.{creation_in, asked_at, view_for, commit_deeds, decision_deeds, link_deeds, gates, controller_deeds, view_of}
 use Rattle.node_machine.specs.HostReplies.{accepts, ordered_deeds, host_deeds}
 use Rattle.node_machine.proofs.Walks.{controller_holds, ordered_holds, host_holds}
 use Rattle.lone_laws.proofs.answered.Own.{TellsNobody, tells_nobody, asks_nobody}
@@ -38,7 +38,7 @@ commit_reply true h pipe c answer notice [] a = IsCommit c h (pipe, answer)
 commit_reply false h pipe c answer notice [] a = IsSend h (pipe, answer_of response.NotOk [])
 commit_reply b h pipe c answer notice (y ∷ hosts) a = absurd a.0
 
-decision_reply : (core : Core) (h pipe : ℕ) (d : Decision) → TellsNobody d → IsLoneReply (decision_deeds core h pipe d)
+decision_reply : (core : Core) (h pipe : ℕ) (d : Decision) → TellsNobody d → IsLoneReply (decision_deeds (own_view core) h pipe d)
 decision_reply core h pipe (Answer answer) a = IsSend h (pipe, answer.items)
 decision_reply core h pipe (Commit c answer tell notice) a =
     commit_reply (finds_room core c) h pipe c answer.items notice.items (hosts_where (has tell)) a
@@ -51,7 +51,7 @@ link_reply h pipe answer = by answer.1 where
   by (Some v) = IsSet v h (pipe, answer.0)
 
 pub controller_reply : (core : Core) (p : Port) (h : ℕ) (m : Message) → p.desk.host ≡ h → p.desk.notice ≡ None → JoinTwo core.tables.rows
-    → IsLoneReply (controller_deeds core (p ∷ []) h m)
+    → IsLoneReply (controller_deeds (view_of core (p ∷ [])) h m)
 controller_reply core p h m host none two =
     let v : LinkView = view_for core.tables (p ∷ []) h in
     controller_holds IsLoneReply core (p ∷ []) h m (record {
@@ -80,13 +80,13 @@ controller_reply core p h m host none two =
     unasked q c here asked =
         let gone : None ≡ Some c = sym (ap creation_in (sym (ap (λ (x : Port). x.desk.notice) (same q here)) ∙ none)) ∙ asked in cc gone
 
-accepts_reply : (core : Core) (c : Command) → IsLoneReply (accepts core c)
+accepts_reply : (core : Core) (c : Command) → IsLoneReply (accepts (own_view core) c)
 accepts_reply core c = by (finds_room core c) where
   by : (b : Bool) → IsLoneReply (commit_deeds b core.node 1 c (answer_of response.Ok []) [])
   by true = IsCommit c core.node (1, answer_of response.Ok [])
   by false = IsSend core.node (1, answer_of response.NotOk [])
 
-ordered_reply : (core : Core) (errors pipe n : ℕ) (body : List ℕ) → IsLoneReply (ordered_deeds core errors pipe n body)
+ordered_reply : (core : Core) (errors pipe n : ℕ) (body : List ℕ) → IsLoneReply (ordered_deeds (own_view core) errors pipe n body)
 ordered_reply core errors pipe n body = ordered_holds IsLoneReply core errors pipe n body (record {
   none = IsNone;
   refuses = λ r. IsSend core.node (1, answer_of r []);
@@ -97,7 +97,7 @@ ordered_reply core errors pipe n body = ordered_holds IsLoneReply core errors pi
   names = λ off. IsSend core.node (pipe, identity_served gates n body);
 })
 
-pub host_reply : (core : Core) (p : Port) (m : Message) → core.command ≡ None → IsLoneReply (host_deeds core p m)
+pub host_reply : (core : Core) (p : Port) (m : Message) → core.command ≡ None → IsLoneReply (host_deeds (own_view core) (end_view p) m)
 host_reply core p m none = host_holds IsLoneReply core p m (record {
   none = IsNone;
   drops = IsDrop m.0;

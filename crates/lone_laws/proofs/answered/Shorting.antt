@@ -1,7 +1,7 @@
 -- Behind each step of a node alone that runs on, the first message that came and had no turn lacks room.
 use Rattle.std.proofs.Common.{◌≡◌, ℕ, ◌≤◌, Bool, true, false, cond, eqb, ◌||◌, List, [], ◌∷◌, ◌++◌, map, refl, sym, ap, ap₂, subst, ◌∙◌, append_assoc}
 use Rattle.std.proofs.Common.{append-nil}
-use Rattle.std.specs.Prelude.{Option, Some, None, is_some, is_none, unwrap_or}
+use Rattle.std.specs.Prelude.{Option, Some, None, is_some, is_none}
 use Rattle.std.specs.List.{AllByRecursion, fold}
 use Rattle.std.specs.Option.{option_map_or, option_and_then}
 use Rattle.std.proofs.lemmas.List.Sums.{fold-append}
@@ -13,21 +13,19 @@ use Rattle.trace_model.specs.declared.entry.Entry.TheVariants as entry
 use Rattle.trace_model.specs.declared.line.End.{End}
 use Rattle.link_laws.specs.machine.Machine.{Message, LinkInput, oldest}
 use Rattle.node_machine.specs.Parts.{Core, Running, Port, Work}
-use Rattle.node_machine.specs.Carrying.{end_of_node, port_at, needs, lack}
-use Rattle.node_machine.specs.Turns.{deeds_of}
-use Rattle.node_laws.proofs.answers.Alike.{replies_alike}
-use Rattle.node_laws.proofs.hosts.Alike.{host_same}
+use Rattle.node_machine.specs.Carrying.{end_of_node, needs, first_lack}
+use Rattle.node_machine.specs.Turns.{deeds_for}
 use Rattle.node_laws.specs.passes.Passing.{BeginWithTurn, AreAlong, links_of_turns, ComesTo, IsBehind, Stays, waiting_at, is_held_at}
 use Rattle.lone_laws.specs.alone.Lone.{Lone, LoneCause, end_of_node_alone, lone_input, emits_behind, frames_behind, session_with}
-use Rattle.node_laws.specs.answers.Moments.{side_read}
 use Rattle.lone_laws.specs.alone.Known.{RecErrors, LoneTalk, core_noted, left_noted, talk_noted, no_session_now, spare_in_talk, core_since}
+use Rattle.lone_laws.specs.alone.Known.{spare_with_link, view_with_link}
 use Rattle.lone_laws.specs.alone.Known.{left_since}
-use Rattle.lone_laws.specs.alone.Known.{is_held_since, talk_since, errors_since, lack_since}
+use Rattle.lone_laws.specs.alone.Known.{talk_since, errors_since, lack_since}
 use Rattle.lone_laws.specs.alone.Answers.{is_left_lacking}
 use Rattle.lone_laws.proofs.answered.Reading.{eqb_same, Read, Alone, left_is}
 use Rattle.lone_laws.proofs.answered.Ordered.{begin_read, begun, ended, was_on, left_so}
 use Rattle.lone_laws.proofs.answered.Errors.{errs_all, errs-append, IsSettled, settled_errs}
-use Rattle.lone_laws.proofs.answered.Replied.{begin_errs, lack_same, KnowsAll}
+use Rattle.lone_laws.proofs.answered.Replied.{begin_errs, KnowsAll}
 use Rattle.lone_laws.proofs.answered.Answering.{all_at, its_lack}
 use Rattle.lone_laws.proofs.answered.Keeping.{core_of, KeepsAll, all_passing}
 
@@ -56,33 +54,11 @@ emits_idle : (e f : End) (n : ℕ) (frames : List Control) → AllByRecursion (I
 emits_idle e f n [] = tt
 emits_idle e f n (c ∷ frames) = (((λ z. refl), (λ z. refl), (λ z. refl), (λ z. refl)), emits_idle e f n frames)
 
--- an end as it is read
-abbrev port_of : ℕ → LoneTalk → ℕ → Bool → Port
-port_of h x errors holds = record {
-  desk = record { host = h; notice = None; holds = holds; errors = errors };
-  side = side_read (is_some x.session) (spare_in_talk x);
-  session = unwrap_or x.session 0;
-  late = false;
-  ended = false;
-  turns = [];
-}
-
--- whether a message is noted as held changes no reply
-deeds_holds : (c : Core) (h : ℕ) (x : LoneTalk) (errors : ℕ) (a b : Bool) (m : Message)
-    → deeds_of c (port_of h x errors a ∷ []) h m ≡ deeds_of c (port_of h x errors b ∷ []) h m
-deeds_holds c h x errors a b m = go (eqb c.node 0) refl where
-  p : Bool → Port
-  p = port_of h x errors
-
-  here : (z : Bool) → port_at (p z ∷ []) h ≡ Some (p z)
-  here z = ap (λ y. cond y (Some (p z)) None) (eqb_same h)
-
-  go : (z : Bool) → eqb c.node 0 ≡ z → deeds_of c (p a ∷ []) h m ≡ deeds_of c (p b ∷ []) h m
-  go true q = rw q (replies_alike c c.journal (λ d. refl) (p a ∷ []) (p b ∷ []) (record { host = refl; up = refl; about = refl; errors = refl }, tt) h m)
-  go false q = rw (q, here a, here b) (host_same c (p a) (p b) m refl refl)
-
-abbrev lacks_of : ℕ → Message → Core → LoneTalk → ℕ → Bool → Option (ℕ × ℕ)
-lacks_of h m c x errors holds = lack (port_of h x errors holds ∷ []) (needs h (deeds_of c (port_of h x errors holds ∷ []) h m))
+-- what a message lacks, by what is read
+abbrev lacks_of : ℕ → Message → Core → LoneTalk → ℕ → Option (ℕ × ℕ)
+lacks_of h m c x errors =
+    first_lack (spare_with_link h (spare_in_talk x))
+    (needs h (deeds_for (view_with_link c h (record { up = is_some x.session; errors = errors }) (spare_in_talk x)) h m))
 
 module _ (F : Core) (h : ℕ) where
   abbrev e : End
@@ -107,14 +83,8 @@ module _ (F : Core) (h : ℕ) where
     lack_same_there m =
         let c : Core = core_since F T in
         let x : LoneTalk = talk_since e F.node T in
-        let r : ℕ = errors_since F e T in
-        let a : Bool = is_held_since e (T ++ X) in
-        let b : Bool = is_held_since e T in
-        ap (λ d. lacks_of h m d (talk_since e F.node (T ++ X)) (errors_since F e (T ++ X)) a) core_same
-        ∙ (ap (λ d. lacks_of h m c d (errors_since F e (T ++ X)) a) talk_same
-        ∙ (ap (λ d. lacks_of h m c x d a) errors_same
-        ∙ (ap (λ d. lack (port_of h x r a ∷ []) (needs h d)) (deeds_holds c h x r a b m)
-        ∙ lack_same (port_of h x r a) (port_of h x r b) refl refl (needs h (deeds_of c (port_of h x r b ∷ []) h m)))))
+        ap (λ d. lacks_of h m d (talk_since e F.node (T ++ X)) (errors_since F e (T ++ X))) core_same
+        ∙ (ap (λ d. lacks_of h m c d (errors_since F e (T ++ X))) talk_same ∙ ap (λ d. lacks_of h m c x d) errors_same)
 
 -- nothing comes behind the one end
 none_behind : (back : List Entry) → BeginWithTurn back → AreAlong [] (links_of_turns back) → back ≡ []

@@ -7,15 +7,15 @@ use Rattle.trace_model.specs.declared.entry.Entry.TheVariants as entry
 use Rattle.trace_model.specs.declared.line.End.{End}
 use Rattle.hci_tables.specs.declared.command.Command.{Command}
 use Rattle.hci_tables.specs.Bodies.{body_of}
-use Rattle.hci_tables.specs.Tables.{apply}
+use Rattle.hci_tables.specs.Tables.{apply, is_opened}
 use Rattle.hci_store.specs.Committing.{committed}
+use Rattle.gate_admin.specs.View.{hosts_where, mask_of}
 use Rattle.link_laws.specs.machine.Machine.{Message, oldest, need_of_all}
 use Rattle.history.specs.Filters.{same_end}
-use Rattle.node_machine.specs.Parts.{Core, Port, Deed}
-use Rattle.node_machine.specs.Carrying.{needs, lack}
-use Rattle.node_machine.specs.Turns.{deeds_of}
+use Rattle.node_machine.specs.Parts.{Core, Deed, EndView, NodeView}
+use Rattle.node_machine.specs.Carrying.{own_view, needs, first_lack}
+use Rattle.node_machine.specs.Turns.{deeds_for}
 use Rattle.node_machine.specs.world.NodeFilters.{was_refused}
-use Rattle.node_laws.specs.answers.Moments.{side_read}
 use Rattle.node_laws.specs.views.Errors.{errors_set_by, is_any_ok, leads_to_link_gate}
 use Rattle.lone_laws.specs.alone.Lone.{end_of_node_alone}
 
@@ -103,30 +103,55 @@ talk_since e n t = fold (talk_noted e n) no_session_now t
 abbrev pub spare_in_talk : LoneTalk → ℕ
 spare_in_talk x = 128 - need_of_all (drop x.acked x.sent)
 
--- ## Its end
+-- ## Its view
 
--- The end of a node on the link with this host, as it is read: no notice is sent where there is one link.
-abbrev pub port_since : Core → ℕ → List Entry → Port
-port_since found h t =
+-- a node has one link, with the host h, and so many blocks to spare there
+abbrev pub spare_with_link : ℕ → ℕ → ℕ → ℕ
+spare_with_link h blocks k = if h == k then blocks else 0
+
+-- What a node that keeps this goes by, which has one link, with the host h, and such an end there with so many blocks to spare: where there is
+-- one link no creation waits, and no notice is sent.
+abbrev pub view_with_link : Core → ℕ → EndView → ℕ → NodeView
+view_with_link core h e blocks = record {
+  own = own_view core;
+  up = λ k. h == k && e.up;
+  asks = λ k. false;
+  notice = λ k. None;
+  links = λ k. record {
+    hosts = mask_of (hosts_where (λ x. h == x));
+    connected = mask_of (hosts_where (λ x. h == x && (e.up && is_opened core.tables x 1)));
+    noticed = mask_of (hosts_where (λ x. false));
+    asked = mask_of (hosts_where (λ x. false));
+    waiting = record { items = [] };
+    errors = e.errors;
+  };
+  ends = λ k. if h == k then Some e else None;
+  spare = spare_with_link h blocks;
+}
+
+-- the end of a node on the link with this host, as it is read
+abbrev pub end_since : Core → ℕ → List Entry → EndView
+end_since found h t =
     let e : End = end_of_node_alone found.node h in
-    record {
-      desk = record { host = h; notice = None; holds = is_held_since e t; errors = errors_since found e t };
-      side = side_read (is_some (talk_since e found.node t).session) (spare_in_talk (talk_since e found.node t));
-      session = unwrap_or (talk_since e found.node t).session 0;
-      late = false;
-      ended = false;
-      turns = [];
-    }
+    record { up = is_some (talk_since e found.node t).session; errors = errors_since found e t }
+
+-- the blocks that it has to spare
+abbrev pub spare_since : Core → ℕ → List Entry → ℕ
+spare_since found h t = spare_in_talk (talk_since (end_of_node_alone found.node h) found.node t)
+
+-- What the node goes by, as it is read.
+abbrev pub view_since : Core → ℕ → List Entry → NodeView
+view_since found h t = view_with_link (core_since found t) h (end_since found h t) (spare_since found h t)
 
 -- ## Replies
 
 -- What the node does with a message that came at its end.
 abbrev pub reply_since : Core → ℕ → List Entry → Message → List Deed
-reply_since found h t m = deeds_of (core_since found t) (port_since found h t ∷ []) h m
+reply_since found h t m = deeds_for (view_since found h t) h m
 
 -- the first number of blocks that this needs and that isn't spare, with what is
 abbrev pub lack_since : Core → ℕ → List Entry → Message → Option (ℕ × ℕ)
-lack_since found h t m = lack (port_since found h t ∷ []) (needs h (reply_since found h t m))
+lack_since found h t m = first_lack (spare_with_link h (spare_since found h t)) (needs h (reply_since found h t m))
 
 -- that of the first message that came there and had no turn
 abbrev pub first_lack_since : Core → ℕ → List Entry → Option (ℕ × ℕ)

@@ -32,8 +32,8 @@ use Rattle.link_laws.specs.entries.Entries.{End as Side}
 use Rattle.link_laws.specs.entries.Entries.End.{Controller, Host}
 use Rattle.node_machine.specs.Parts.{Init, Creation, Core, Port, Work, Deed}
 use Rattle.node_machine.specs.Parts.Deed.{Commits, Sends, SaysOk, Releases, Tells, IsAnswered, Drops, Orders, Hears, GoesOn, Ends}
-use Rattle.node_machine.specs.Carrying.{end_of_node, noting, port_at, commit, loses_power, keeps, done, all_done, finds_room}
-use Rattle.node_machine.specs.Controller.{asked_at, view_for, answers_on, commit_deeds, decision_deeds, link_deeds, gates, agreed, is_command_message}
+use Rattle.node_machine.specs.Carrying.{end_of_node, noting, port_at, commit, loses_power, keeps, done, all_done, finds_room, own_view, end_view}
+use Rattle.node_machine.specs.Controller.{asked_at, view_for, answers_on, commit_deeds, decision_deeds, link_deeds, gates, agreed, is_command_message, view_of}
 use Rattle.node_machine.specs.Controller.{controller_deeds}
 use Rattle.node_machine.specs.HostReplies.{accepts, learns, orders_of, init_deeds, learned, response_deeds, is_gate, gate_of_pipe, ordered_deeds, host_deeds}
 use Rattle.node_machine.proofs.Walks.{controller_holds, ordered_holds, learns_holds, learned_holds, init_holds as init_walks}
@@ -126,7 +126,7 @@ told_weigh : (message : List ℕ) (hosts : List ℕ) → weights Controller (map
 told_weigh message [] = omega arith
 told_weigh message (x ∷ hosts) = let one = near_most 1 message in let rest = told_weigh message hosts in omega (arith, one, rest)
 
-decision_weighs : (core : Core) (h pipe : ℕ) (d : Decision) → weights Controller (decision_deeds core h pipe d) ≤ 16
+decision_weighs : (core : Core) (h pipe : ℕ) (d : Decision) → weights Controller (decision_deeds (own_view core) h pipe d) ≤ 16
 decision_weighs core h pipe (Answer answer) = let one = near_most pipe answer.items in omega (arith, one)
 decision_weighs core h pipe (Commit c answer tell notice) = by (finds_room core c) where
   told : List Deed
@@ -175,7 +175,7 @@ module _ (all : ℕ) (core : Core) (ports : List Port) (h : ℕ) (m : Message) w
         rest (Releases c.asker ∷ Sends c.asker (1, answer_of response.NotOk []) ∷ [])
         (let one = near_most 1 (answer_of response.NotOk []) in omega (arith, one))
 
-  pub controller_pays : IsPaidNear (controller_deeds core ports h m)
+  pub controller_pays : IsPaidNear (controller_deeds (view_of core ports) h m)
   controller_pays = controller_holds IsPaidNear core ports h m (record {
     drops = λ pid none. weighed_near (Drops pid ∷ []) (omega arith);
     goes_on = λ to off. weighed_near (Sends to m ∷ []) (let free = off_free m.0 m.1 off in omega (arith, free));
@@ -193,7 +193,7 @@ module _ (all : ℕ) (core : Core) (ports : List Port) (h : ℕ) (m : Message) w
         let pays = far_cost m.0 m.1 n served.command in omega (arith, one, pays));
     decides = λ n served gate.
         (let d : Decision = decided core.tables (view_for core.tables ports h) h m.0 n (body_in m.1) in
-        weighed_near (decision_deeds core h m.0 d)
+        weighed_near (decision_deeds (own_view core) h m.0 d)
         (let most = decision_weighs core h m.0 d in let pays = far_cost m.0 m.1 n served.command in omega (arith, most, pays)));
     hears = λ p reply here asked. weighed_near (IsAnswered ∷ []) (omega arith);
     agrees = λ flag p c reply here asked room. agreed_paid flag p c here asked;
@@ -201,14 +201,14 @@ module _ (all : ℕ) (core : Core) (ports : List Port) (h : ℕ) (m : Message) w
 
 -- ## Hosts
 
-accepts_weigh : (core : Core) (c : Command) → weights Host (accepts core c) ≤ 1
+accepts_weigh : (core : Core) (c : Command) → weights Host (accepts (own_view core) c) ≤ 1
 accepts_weigh core c = by (finds_room core c) where
   by : (room : Bool) → weights Host (commit_deeds room core.node 1 c (answer_of response.Ok []) []) ≤ 1
   by true = let none = answer_free true 1 response.Ok [] in omega (arith, none)
   by false = let none = answer_free true 1 response.NotOk [] in omega (arith, none)
 
 -- what a host does with a command on pipe 01, or on another one
-ordered_weighs : (core : Core) (errors pipe n : ℕ) (body : List ℕ) → weights Host (ordered_deeds core errors pipe n body) ≤ 1
+ordered_weighs : (core : Core) (errors pipe n : ℕ) (body : List ℕ) → weights Host (ordered_deeds (own_view core) errors pipe n body) ≤ 1
 ordered_weighs core errors pipe n body = ordered_holds (λ deeds. weights Host deeds ≤ 1) core errors pipe n body (record {
   none = omega arith;
   refuses = λ r. let none = answer_free true 1 r [] in omega (arith, none);
@@ -220,12 +220,13 @@ ordered_weighs core errors pipe n body = ordered_holds (λ deeds. weights Host d
   names = λ off. let none = plain_free true pipe (identity_served gates n body) (identity_plain n body) in omega (arith, none);
 })
 
-ordered_free : (core : Core) (errors pipe n : ℕ) (body : List ℕ) → eqb pipe 1 ≡ false → weights Host (ordered_deeds core errors pipe n body) ≡ 0
+ordered_free : (core : Core) (errors pipe n : ℕ) (body : List ℕ) → eqb pipe 1 ≡ false → weights Host (ordered_deeds (own_view core) errors pipe n body) ≡ 0
 ordered_free core errors pipe n body off =
     rw off (cond_both (eqb pipe 0) (link_deeds core.node 0 (link_served errors n body)) _ (λ deeds. weights Host deeds ≡ 0)
     (λ _. let none = plain_free true 0 (link_served errors n body).0 (link_plain errors n body) in
     let most = link_weighs Host core.node 0 (link_served errors n body) 0 (omega (arith, none)) in omega (arith, most))
-    (λ _. cond_both (is_gate 5 (gate_of_pipe core pipe)) (answers_on core.node pipe (identity_served gates n body)) [] (λ deeds. weights Host deeds ≡ 0)
+    (λ _. cond_both (is_gate 5 (gate_of_pipe (own_view core) pipe)) (answers_on core.node pipe (identity_served gates n body)) []
+    (λ deeds. weights Host deeds ≡ 0)
     (λ _. let none = plain_free true pipe (identity_served gates n body) (identity_plain n body) in omega (arith, none)) (λ _. refl)))
 
 -- a commit leaves the init
@@ -263,7 +264,7 @@ module _ (all : ℕ) (core : Core) (h : ℕ) where
       and_then Host all 0 (1 + 18) h (GoesOn j) (Orders order ∷ []) w (omega arith) (went_on Host all 1 18 h i j w (same ∙ runs) gain a)
       (λ v is b. all_owe Host all 0 h (Orders order ∷ []) v (less Host all (1 + 18) (0 + weights Host (Orders order ∷ [])) v (omega (arith, most)) b))
 
-  init_paid : (code : ℕ) (value : List ℕ) (o : Option Init) → core.init ≡ o → LastsFrom (init_deeds core code value o)
+  init_paid : (code : ℕ) (value : List ℕ) (o : Option Init) → core.init ≡ o → LastsFrom (init_deeds (own_view core) code value o)
   init_paid code value None is = weighed_init [] (omega arith)
   init_paid code value (Some i) is = init_walks LastsFrom core i code value (record {
     same = weighed_init (Ends (InitSame (end_of_node core core.node)) ∷ []) (omega arith);
@@ -271,10 +272,10 @@ module _ (all : ℕ) (core : Core) (h : ℕ) where
     made =
         let set : Command = Set core.node 0 1 (record { items = i.identity }) in
         let ends : List Deed = Ends (InitMade (end_of_node core core.node) (length i.pipes)) ∷ [] in
-        let learns_it : weights Host (learns core set) ≤ 1 =
+        let learns_it : weights Host (learns (own_view core) set) ≤ 1 =
         learns_holds (λ deeds. weights Host deeds ≤ 1) core (omega arith) (λ c may room. omega arith) set in
-        let both = weights-append Host (learns core set) ends in
-        weighed_init (learns core set ++ ends) (omega (arith, both, learns_it));
+        let both = weights-append Host (learns (own_view core) set) ends in
+        weighed_init (learns (own_view core) set ++ ends) (omega (arith, both, learns_it));
     next = λ order got. next_paid i order is got;
   })
 
@@ -283,9 +284,9 @@ module _ (all : ℕ) (core : Core) (h : ℕ) where
   IsLearned first = (rest : List Deed) → LastsFrom rest → (w : Work) → w.core.init ≡ core.init → Owes Host 2 all w
       → Owes Host 0 all (all_done h (first ++ rest) w)
 
-  learned_paid : (code : ℕ) (order value : List ℕ) → IsLearned (cond (eqb code 0) (learned core order value) [])
+  learned_paid : (code : ℕ) (order value : List ℕ) → IsLearned (cond (eqb code 0) (learned (own_view core) order value) [])
   learned_paid code order value =
-      cond_both (eqb code 0) (learned core order value) [] IsLearned
+      cond_both (eqb code 0) (learned (own_view core) order value) [] IsLearned
       (λ _. learned_holds IsLearned core nothing (λ c may room. commits c) order value) (λ _. nothing)
     where
       nothing : IsLearned []
@@ -299,21 +300,22 @@ module _ (all : ℕ) (core : Core) (h : ℕ) where
 -- what holds of what a host does with a message in each case, and what goes back is an event
 module _ (P : List Deed → Type 0) (core : Core) (p : Port) (m : Message) (none : P []) (drops : P (Drops m.0 ∷ []))
     (goes : (n : ℕ) → header_of m.1 ≡ Ok (IsEvent, n) → P (Sends core.node m ∷ []))
-    (ordered : (n : ℕ) → header_of m.1 ≡ Ok (IsCommand, n) → P (ordered_deeds core p.desk.errors m.0 n (body_in m.1)))
+    (ordered : (n : ℕ) → header_of m.1 ≡ Ok (IsCommand, n) → P (ordered_deeds (own_view core) p.desk.errors m.0 n (body_in m.1)))
     (hears : (code : ℕ) (order : List ℕ) → core.command ≡ Some order
-    → P (Hears ∷ cond (eqb code 0) (learned core order (body_in m.1)) [] ++ init_deeds core code (body_in m.1) core.init)) where
-  response_walks : (code : ℕ) (o : Option (List ℕ)) → core.command ≡ o → P (response_deeds core code (body_in m.1))
+    → P (Hears ∷ cond (eqb code 0) (learned (own_view core) order (body_in m.1)) [] ++ init_deeds (own_view core) code (body_in m.1) core.init)) where
+  response_walks : (code : ℕ) (o : Option (List ℕ)) → core.command ≡ o → P (response_deeds (own_view core) code (body_in m.1))
   response_walks code None is = rw is none
   response_walks code (Some order) is = rw is (hears code order is)
 
-  host_walks : P (host_deeds core p m)
+  host_walks : P (host_deeds (own_view core) (end_view p) m)
   host_walks = go (is_up p.side.shdlc.phase) (header_of m.1) refl refl where
-    go : (b : Bool) (x : Result (MessageKind × ℕ) MessageFault) → is_up p.side.shdlc.phase ≡ b → header_of m.1 ≡ x → P (host_deeds core p m)
+    go : (b : Bool) (x : Result (MessageKind × ℕ) MessageFault) → is_up p.side.shdlc.phase ≡ b → header_of m.1 ≡ x
+        → P (host_deeds (own_view core) (end_view p) m)
     go false x up is = rw up drops
     go true (Ok (IsCommand, n)) up is = rw (up, is) (ordered n is)
     go true (Ok (IsEvent, n)) up is = rw (up, is) (cond_both _ (Sends core.node m ∷ []) [] P (λ _. goes n is) (λ _. none))
     go true (Ok (IsResponse, code)) up is =
-        rw (up, is) (cond_both (eqb m.0 1) (response_deeds core code (body_in m.1)) [] P (λ _. response_walks code core.command refl) (λ _. none))
+        rw (up, is) (cond_both (eqb m.0 1) (response_deeds (own_view core) code (body_in m.1)) [] P (λ _. response_walks code core.command refl) (λ _. none))
     go true (Err fault) up is = rw (up, is) none
 
 module _ (all : ℕ) (core : Core) (h : ℕ) (m : Message) where
@@ -326,10 +328,10 @@ module _ (all : ℕ) (core : Core) (h : ℕ) (m : Message) where
       all_owe Host all 0 h deeds w (less Host all (message_cost false m.0 m.1) (0 + weights Host deeds) w (omega (arith, most)) a)
 
   heard_paid : (code : ℕ) (order : List ℕ) → core.command ≡ Some order
-      → IsPaidFar (Hears ∷ cond (eqb code 0) (learned core order (body_in m.1)) [] ++ init_deeds core code (body_in m.1) core.init)
+      → IsPaidFar (Hears ∷ cond (eqb code 0) (learned (own_view core) order (body_in m.1)) [] ++ init_deeds (own_view core) code (body_in m.1) core.init)
   heard_paid code order is w same a =
-      let first : List Deed = cond (eqb code 0) (learned core order (body_in m.1)) [] in
-      let rest : List Deed = init_deeds core code (body_in m.1) core.init in
+      let first : List Deed = cond (eqb code 0) (learned (own_view core) order (body_in m.1)) [] in
+      let rest : List Deed = init_deeds (own_view core) code (body_in m.1) core.init in
       let start : Owes Host 0 all w = less Host all (message_cost false m.0 m.1) 0 w (omega arith) a in
       let waits : w.core.command ≡ Some order = ap (λ (x : Core). x.command) same ∙ is in
       and_then Host all 0 (0 + 2) h Hears (first ++ rest) w (omega arith) (heard Host all 0 h order w waits start)
@@ -338,16 +340,16 @@ module _ (all : ℕ) (core : Core) (h : ℕ) (m : Message) where
       (ap (λ (x : Work). x.core.init) made ∙ ap (λ (x : Core). x.init) same) (less Host all (0 + 2) 2 v (omega arith) b))
 
   ordered_paid : (errors n : ℕ) → header_of m.1 ≡ Ok (IsCommand, n) → (b : Bool) → eqb m.0 1 ≡ b
-      → IsPaidFar (ordered_deeds core errors m.0 n (body_in m.1))
+      → IsPaidFar (ordered_deeds (own_view core) errors m.0 n (body_in m.1))
   ordered_paid errors n is true one =
       let most = ordered_weighs core errors m.0 n (body_in m.1) in
       let pays = notice_cost m.0 m.1 n one is in
-      weighed_far (ordered_deeds core errors m.0 n (body_in m.1)) (omega (arith, most, pays))
+      weighed_far (ordered_deeds (own_view core) errors m.0 n (body_in m.1)) (omega (arith, most, pays))
   ordered_paid errors n is false off =
       let none = ordered_free core errors m.0 n (body_in m.1) off in
-      weighed_far (ordered_deeds core errors m.0 n (body_in m.1)) (omega (arith, none))
+      weighed_far (ordered_deeds (own_view core) errors m.0 n (body_in m.1)) (omega (arith, none))
 
-  pub host_pays : (p : Port) → IsPaidFar (host_deeds core p m)
+  pub host_pays : (p : Port) → IsPaidFar (host_deeds (own_view core) (end_view p) m)
   host_pays p = host_walks IsPaidFar core p m (weighed_far [] (omega arith)) (weighed_far (Drops m.0 ∷ []) (omega arith))
       (λ n is. let free = plain_free true m.0 m.1 (event_plain m.1 n is) in weighed_far (Sends core.node m ∷ []) (omega (arith, free)))
       (λ n is. ordered_paid p.desk.errors n is (eqb m.0 1) refl) heard_paid

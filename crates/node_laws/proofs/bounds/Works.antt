@@ -2,7 +2,7 @@
 use Rattle.std.proofs.Common.{◌≡◌, ℕ, ◌+◌, ◌≤◌, Bool, true, false, cond, eqb, List, [], ◌∷◌, map, sym, refl, ap, ◌∙◌, subst, arith, Option, Some, None}
 use Rattle.std.specs.Prelude.{not, ◌&&◌}
 use Rattle.std.specs.List.{flat_map, filter, filter_map, list_any}
-use Rattle.std.specs.Option.{option_map_or}
+use Rattle.std.specs.Option.{option_map, option_map_or}
 use Rattle.std.proofs.lemmas.Bool.{cond_both}
 use Rattle.std.proofs.lemmas.List.{length-map}
 use Rattle.trace_model.specs.declared.entry.Entry.{Entry}
@@ -21,7 +21,8 @@ use Rattle.node_machine.specs.Parts.{Creation, Notice, Core, Port, Work, Deed}
 use Rattle.node_machine.specs.Parts.About.{Forgotten}
 use Rattle.node_machine.specs.Parts.Deed.{Commits, Releases}
 use Rattle.node_machine.specs.Carrying.{own_side, end_of_node, noting, unless_cut, port_at, with_desk, after_turn, turn_at, all_done, needs, lack, finds_room}
-use Rattle.node_machine.specs.Controller.{asked_at, controller_deeds}
+use Rattle.node_machine.specs.Carrying.{own_view, end_view}
+use Rattle.node_machine.specs.Controller.{asked_at, controller_deeds, view_of}
 use Rattle.node_machine.specs.HostReplies.{host_deeds}
 use Rattle.node_machine.specs.Turns.{deeds_of, handles, holds_back, have_turns, goes_through_ends, passes}
 use Rattle.node_machine.specs.Node.{NodeInput, input_at, has_come, told_at, all_come, with_older, is_late, reset_late, told_late, times_out, is_over}
@@ -63,14 +64,14 @@ module _ (side : Side) (all : ℕ) (core : Core) (ports : List Port) (h : ℕ) (
   deeds_pay : Owes side 0 all (all_done h (deeds_of core ports h m) v)
   deeds_pay = go (eqb core.node 0) refl where
     by : Bool → List Deed
-    by true = controller_deeds core ports h m
-    by false = option_map_or (λ p. host_deeds core p m) (port_at ports h) []
+    by true = controller_deeds (view_of core ports) h m
+    by false = option_map_or (λ e. host_deeds (own_view core) e m) (option_map end_view (port_at ports h)) []
 
     Goal : Side → Bool → Type 0
     Goal s b = Owes s (turn_pay s all m) all v → Owes s 0 all (all_done h (by b) v)
 
     far : (o : Option Port) → Owes Host (message_cost false m.0 m.1) all v
-        → Owes Host 0 all (all_done h (option_map_or (λ p. host_deeds core p m) o []) v)
+        → Owes Host 0 all (all_done h (option_map_or (λ e. host_deeds (own_view core) e m) (option_map end_view o) []) v)
     far None b = less Host all (message_cost false m.0 m.1) 0 v (omega arith) b
     far (Some p) b = host_pays all core h m p v core_is b
 

@@ -18,9 +18,9 @@ use Rattle.node_laws.specs.kept.Hosts.{AreDifferent}
 use Rattle.link_laws.specs.machine.Machine.{Message}
 use Rattle.node_machine.specs.Parts.{Creation, Notice, Core, Port, Deed}
 use Rattle.node_machine.specs.Parts.Deed.{Commits, Sends, SaysOk, Asks, Releases, Tells, IsAnswered, Drops, SetsErrors, Orders, Hears, GoesOn, Ends}
-use Rattle.node_machine.specs.Carrying.{port_at, finds_room}
+use Rattle.node_machine.specs.Carrying.{port_at, finds_room, own_view}
 use Rattle.node_machine.specs.Controller.{has_link, creation_in, asked_at, asks_for, view_for, commit_deeds, decision_deeds, link_deeds, gates, own_gate}
-use Rattle.node_machine.specs.Controller.{goes_through, agreed, controller_deeds}
+use Rattle.node_machine.specs.Controller.{goes_through, agreed, controller_deeds, view_of}
 use Rattle.node_machine.specs.world.NodeFilters.{is_response}
 use Rattle.node_laws.specs.notices.Notices.{has_notice, GoesToFree, IsNoticeOf}
 use Rattle.node_laws.specs.creations.Worlds.{IsProperCommand, AreProper, IsAwaited}
@@ -89,7 +89,7 @@ module _ (x : ℕ) where
     commit_stays false pipe c answer told free may rest = (one_sent pipe (answer_of response.NotOk []) free, tt)
 
     decision_is : (pipe : ℕ) (d : Decision) → has_link ports h ≡ true → (eqb pipe 1 ≡ true → asks_for ports h ≡ false) → Suits h d
-        → (AsksNobody d ⊎ (asks_for ports h ≡ false)) → Of (decision_deeds core h pipe d)
+        → (AsksNobody d ⊎ (asks_for ports h ≡ false)) → Of (decision_deeds (own_view core) h pipe d)
     decision_is pipe (Answer answer) up free suits asks = Stays (one_sent pipe answer.items free, tt)
     decision_is pipe (Commit c answer tell notice) up free suits asks =
         Stays (commit_stays (finds_room core c) pipe c answer.items (map (λ y. Tells y notice.items) (hosts_where (has tell))) free suits.0
@@ -130,7 +130,7 @@ module _ (x : ℕ) where
       by (inr off) =
           inl (nobody_asked (view_for core.tables ports h) h host core.tables m n (body_in m.1) served.command proper off served.not_relayed gate)
 
-    pub outcome : (m : Message) → Of (controller_deeds core ports h m)
+    pub outcome : (m : Message) → Of (controller_deeds (view_of core ports) h m)
     outcome m =
         let v : LinkView = view_for core.tables ports h in
         controller_holds Of core ports h m (record {

@@ -13,7 +13,7 @@ use Rattle.link_laws.specs.machine.Machine.Turn.{FetchMessage, Hold}
 use Rattle.node_machine.specs.Parts.{Creation, Notice, Port, Work, Deed}
 use Rattle.node_machine.specs.Parts.Deed.{Asks}
 use Rattle.node_machine.specs.Carrying.{noting, unless_cut, port_at, changed_if, with_port, with_desk, after_turn, turn_at, end_of_node, needs, lack}
-use Rattle.node_machine.specs.Controller.{has_link, asked_at, creation_in, controller_deeds, asks_for}
+use Rattle.node_machine.specs.Controller.{has_link, asked_at, creation_in, controller_deeds, asks_for, view_of}
 use Rattle.node_machine.specs.Turns.{deeds_of, handles, holds_back, lets_go, have_turns, goes_through_ends, passes}
 use Rattle.node_laws.specs.links.Notices.{AllReach}
 use Rattle.node_laws.proofs.links.Noticing.{at_all}
@@ -86,7 +86,7 @@ module _ (x : ℕ) (before : List Entry) (hosts : List ℕ) (different : AreDiff
 
     module _ (asked : Asked) (m : Message) (w : Work) (a : Good x before hosts asked [] w) where
       abbrev deeds : List Deed
-      deeds = controller_deeds w.core w.ports k m
+      deeds = controller_deeds (view_of w.core w.ports) k m
 
       apart : AreDifferent (map (λ (p : Port). p.desk.host) w.ports)
       apart = subst AreDifferent (sym a.hosts_are) different
@@ -179,7 +179,7 @@ module _ (x : ℕ) (before : List Entry) (hosts : List ℕ) (different : AreDiff
     have_good (m ∷ messages) asked w a =
         subst (Fine x before hosts) (sym is) (go (lack w.ports (needs k now)) refl (λ l v b. have_good messages l v b)) where
           now : List Deed
-          now = controller_deeds w.core w.ports k m
+          now = controller_deeds (view_of w.core w.ports) k m
 
           by : List Deed → Option (ℕ × ℕ) → Work
           by d None = unless_cut (have_turns k messages) (handles k m d w)

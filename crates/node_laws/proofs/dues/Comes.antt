@@ -29,7 +29,6 @@ use Rattle.history.specs.Filters.{same_end}
 use Rattle.history.specs.Steps.{end_of, entries_for}
 use Rattle.node_machine.specs.Parts.{Creation, Desk, Port, Running, Work}
 use Rattle.node_machine.specs.Carrying.{port_at}
-use Rattle.node_machine.specs.Controller.{creation_in}
 use Rattle.node_machine.specs.Node.{has_come, input_at, is_over, owed, steps, synced}
 use Rattle.node_machine.specs.Node.NodeInput.{AtEnd}
 use Rattle.node_machine.specs.world.World.{Happening, NodeWorld, Site, after_controller, arrival}
@@ -61,7 +60,7 @@ use Rattle.node_laws.proofs.notices.Reading.{notice_more}
 use Rattle.node_laws.proofs.notices.Sites.{arrival_quiet}
 use Rattle.node_laws.proofs.steps.Ports.{at_port}
 use Rattle.node_laws.specs.answers.Answered.{AnswersSo, IsDueAt}
-use Rattle.node_laws.specs.answers.Moments.{noted_of_deeds, notice_read}
+use Rattle.node_laws.specs.answers.Moments.{creation_read, noted_of_deeds}
 use Rattle.node_laws.specs.answers.Order.{is_answer_of}
 use Rattle.node_laws.specs.answers.Unasked.{age_in, begun_at, down_in, due, ends_session, goes_down, is_late_in, is_own_reset, is_tick, new_sync, owed_in}
 use Rattle.node_laws.specs.answers.Unasked.{still_asked}
@@ -140,7 +139,7 @@ module _ (hosts : List ℕ) (past : List Occurrence) (o : Occurrence) where
   owed_off none =
       ap₂ (λ a b. a ++ b) (none_asked response.NotConnected (still_asked past o) still _) (none_asked response.Timeout (still_asked past o) still _) where
         still : (k : ℕ) → still_asked past o k ≡ None
-        still k = ap (λ r. creation_in (notice_read (entries_in past ++ down_in o) r)) (none k)
+        still k = ap (λ r. creation_read (entries_in past ++ down_in o) r) (none k)
 
   -- no session ends, and no notice is late
   pub owed_calm : ((k : ℕ) → goes_down o k ≡ false) → ((k : ℕ) → is_late_in past o k ≡ false) → owed_in hosts past o ≡ []

@@ -9,7 +9,7 @@ use Rattle.gate_answers.specs.declared.response.Response.{Response}
 use Rattle.gate_answers.specs.declared.response.Response.TheVariants as response
 use Rattle.node_machine.specs.Parts.{Creation, Port, Work}
 use Rattle.node_machine.specs.Carrying.{port_at}
-use Rattle.node_machine.specs.Controller.{asked_at, creation_in}
+use Rattle.node_machine.specs.Controller.{asked_at}
 use Rattle.node_machine.specs.Node.{NodeInput, forgets, is_over, is_over_at, owed}
 use Rattle.node_machine.specs.world.Lines.{Occurrence}
 use Rattle.node_machine.specs.world.NodeHistories.{entries_in}
@@ -22,14 +22,13 @@ use Rattle.node_laws.proofs.links.Noticing.{at_host}
 use Rattle.node_laws.proofs.creations.Asks.{Asked, asked_of, waits}
 use Rattle.node_laws.proofs.creations.Coming.{ComeAt, over_at}
 use Rattle.node_laws.proofs.creations.Doing.{many}
-use Rattle.node_laws.specs.answers.Moments.{notice_read, port_read}
+use Rattle.node_laws.specs.answers.Moments.{creation_read}
 use Rattle.node_laws.specs.answers.Unasked.{down_in, goes_down, is_late_in, owed_in, still_asked}
 use Rattle.node_laws.specs.read_steps.Names.{AreNamed}
 use Rattle.node_laws.proofs.dues.Ended.{any_cause, asking_behind, downs_are, downs_end, kept_behind, read_behind, unless_over}
 use Rattle.node_laws.proofs.dues.Freed.{come, come_different, forgets_ended}
-use Rattle.node_laws.proofs.replies.Creations.{IsIn, awaited_same, in_waits}
+use Rattle.node_laws.proofs.replies.Creations.{IsIn, asked_same, awaited_same, in_waits}
 use Rattle.node_laws.proofs.replies.Ends.{all_found}
-use Rattle.node_laws.proofs.replies.Knowing.{asked_same}
 use Rattle.node_laws.proofs.read_steps.Starting.{IsBegun}
 use Rattle.node_machine.specs.world.World.{end_c}
 
@@ -81,13 +80,13 @@ module _ (hosts : List ℕ) (are : AreHosts hosts) (t : List Entry) (input : Nod
   ports = (has_come_so input w).ports
 
   abbrev read : ℕ → Option Creation
-  read k = creation_in (notice_read now (notice_in now k))
+  read k = creation_read now (notice_in now k)
 
   asked_begun : AllByRecursion (λ (p : Port). asked_at p ≡ read p.desk.host) w.ports
   asked_begun =
       all_found (λ (p : Port). asked_at p ≡ read p.desk.host) w.ports (subst AreDifferent (sym b.keeps.hosts_are) are.different)
       (λ k p e.
-      asked_same p (port_read now 0 k) (awaited_same hosts are t w b.keeps named k p e) ∙ ap read (sym (at_host w.ports k p e)))
+      asked_same now p (notice_in now k) (awaited_same hosts are t w b.keeps named k p e) ∙ ap read (sym (at_host w.ports k p e)))
 
   pairs : (ps : List Port) → AllByRecursion (λ (p : Port). asked_at p ≡ read p.desk.host) ps
       → AllByRecursion (λ (e : ℕ × Option Creation). e.1 ≡ read e.0) (asked_of ps)
@@ -137,7 +136,7 @@ module _ (hosts : List ℕ) (are : AreHosts hosts) (t : List Entry) (input : Nod
       ∙ (same_over (is_over_at ports) (goes_down o) (asked_at p) (λ c waiting. asker_over k p c found waiting)
       ∙ (ap (unless_over (goes_down o)) is
       ∙ (sym (read_behind (goes_down o) now (entries_in past ++ down_in o) asking_read (notice_in now p.desk.host))
-      ∙ ap (λ r. creation_in (notice_read (entries_in past ++ down_in o) r)) (notices p.desk.host))))
+      ∙ ap (λ r. creation_read (entries_in past ++ down_in o) r) (notices p.desk.host))))
 
   -- ## Tests
 

@@ -19,7 +19,7 @@ use Rattle.node_machine.specs.HostReplies.{pipe_named_in}
 use Rattle.node_machine.specs.Node.{forgets, is_forgotten, is_over_at}
 use Rattle.node_machine.specs.world.World.{end_c}
 use Rattle.node_machine.specs.world.NodeFilters.{asking_in, session_now}
-use Rattle.node_laws.specs.answers.Moments.{notice_read}
+use Rattle.node_laws.specs.answers.Moments.{creation_read}
 use Rattle.node_laws.specs.answers.Unasked.{ends_session, is_down}
 use Rattle.node_laws.proofs.worlds.Downs.{ends_in_list}
 
@@ -130,11 +130,11 @@ unless_over over None = None
 unless_over over (Some c) = cond (over c.asker) None (Some c)
 
 pub read_behind : (over : ℕ → Bool) (t u : List Entry) → ((k : ℕ) → asking_in u k ≡ cond (over k) None (asking_in t k)) → (r : Option (List ℕ))
-    → creation_in (notice_read u r) ≡ unless_over over (creation_in (notice_read t r))
+    → creation_read u r ≡ unless_over over (creation_read t r)
 read_behind over t u reads None = refl
 read_behind over t u reads (Some m) = go (eqb (instruction_in m) 18) refl where
   Goal : Type 0
-  Goal = creation_in (notice_read u (Some m)) ≡ unless_over over (creation_in (notice_read t (Some m)))
+  Goal = creation_read u (Some m) ≡ unless_over over (creation_read t (Some m))
 
   go : (b : Bool) → eqb (instruction_in m) 18 ≡ b → Goal
   go false i = rw i refl

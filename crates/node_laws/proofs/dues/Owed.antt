@@ -17,11 +17,11 @@ use Rattle.link_laws.specs.machine.Machine.{Message, in_use}
 use Rattle.link_laws.specs.machine.Machine.Turn.{Give, Release}
 use Rattle.node_machine.specs.Parts.{Creation, Port, Work, Deed}
 use Rattle.node_machine.specs.Parts.Deed.{Releases, Sends}
-use Rattle.node_machine.specs.Carrying.{after_turn, all_done, port_at, turn_at}
+use Rattle.node_machine.specs.Carrying.{after_turn, all_done, port_at, turn_at, end_of_number}
 use Rattle.node_machine.specs.Controller.{asked_at}
 use Rattle.node_machine.specs.Node.{all_owed, owed}
 use Rattle.node_machine.specs.world.NodeFilters.{is_response}
-use Rattle.node_laws.specs.passes.Noting.{AreTaken, CountsCommands, TakesMessage, end_of_number, entries_of_reply}
+use Rattle.node_laws.specs.passes.Noting.{AreTaken, CountsCommands, TakesMessage, entries_of_reply}
 use Rattle.node_laws.proofs.creations.Asks.{Asked, waits, owes}
 use Rattle.node_laws.proofs.creations.Doing.{EndAt, Good, at_here, on_is, pays, takes_short}
 use Rattle.node_laws.proofs.replies.Answering.{AreReplyEntries, commands_told}

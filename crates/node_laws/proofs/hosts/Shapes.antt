@@ -15,14 +15,14 @@ use Rattle.gate_link.specs.Link.{link_served}
 use Rattle.link_laws.specs.machine.Machine.{Message}
 use Rattle.node_machine.specs.Parts.{Init, Core, Port, Deed}
 use Rattle.node_machine.specs.Parts.Deed.{Commits, Sends, SaysOk, Asks, Releases, Tells, IsAnswered, Drops, SetsErrors, Orders, Hears, GoesOn, Ends}
-use Rattle.node_machine.specs.Carrying.{end_of_node, finds_room}
+use Rattle.node_machine.specs.Carrying.{end_of_node, finds_room, own_view, end_view, end_of_number}
 use Rattle.node_machine.specs.Controller.{commit_deeds, link_deeds}
 use Rattle.node_machine.specs.HostReplies.{accepts, host_deeds, init_deeds, learned, learns, ordered_deeds}
 use Rattle.node_machine.specs.world.World.{node_of}
 use Rattle.node_laws.specs.kept.Books.{IsPlain}
 use Rattle.node_laws.specs.kept.Deeds.{MayBeDone}
 use Rattle.node_machine.proofs.Walks.{host_holds, init_holds, learned_holds, learns_holds, ordered_holds}
-use Rattle.node_laws.specs.passes.Noting.{GiveOnce, end_of_number, entries_of_reply, next_count, sent_in_session}
+use Rattle.node_laws.specs.passes.Noting.{GiveOnce, entries_of_reply, next_count, sent_in_session}
 use Rattle.node_laws.specs.answers.Order.{is_answer_of}
 use Rattle.node_laws.specs.reply_passes.Counts.{commands_noted}
 use Rattle.node_laws.proofs.replies.Answering.{most_of}
@@ -50,7 +50,7 @@ module _ (core : Core) (off : eqb core.node 0 ≡ false) where
   own_told : eqb (node_of (end_of_node core core.node)) core.node ≡ true
   own_told = rw off (eq-eqb core.node core.node refl)
 
-  accepts_once : (c : Command) → Once (accepts core c)
+  accepts_once : (c : Command) → Once (accepts (own_view core) c)
   accepts_once c = by (finds_room core c) where
     by : (b : Bool) → Once (commit_deeds b core.node 1 c (answer_of response.Ok []) [])
     by true = (refl, refl, tt)
@@ -62,7 +62,7 @@ module _ (core : Core) (off : eqb core.node 0 ≡ false) where
     by None = (refl, refl, tt)
     by (Some v) = (refl, refl, tt)
 
-  ordered_once : (errors pipe n : ℕ) (body : List ℕ) → Once (ordered_deeds core errors pipe n body)
+  ordered_once : (errors pipe n : ℕ) (body : List ℕ) → Once (ordered_deeds (own_view core) errors pipe n body)
   ordered_once errors pipe n body = ordered_holds Once core errors pipe n body (record {
     none = tt;
     refuses = λ r. (refl, refl, tt);
@@ -73,15 +73,15 @@ module _ (core : Core) (off : eqb core.node 0 ≡ false) where
     names = λ off. (refl, refl, tt);
   })
 
-  learns_then : (c : Command) (behind : List Deed) → Once behind → Once (learns core c ++ behind)
+  learns_then : (c : Command) (behind : List Deed) → Once behind → Once (learns (own_view core) c ++ behind)
   learns_then c behind may = learns_holds (λ deeds. Once (deeds ++ behind)) core may (λ d is room. may) c
 
-  learned_then : (b : Bool) (order value : List ℕ) (behind : List Deed) → Once behind → Once (cond b (learned core order value) [] ++ behind)
+  learned_then : (b : Bool) (order value : List ℕ) (behind : List Deed) → Once behind → Once (cond b (learned (own_view core) order value) [] ++ behind)
   learned_then b order value behind may =
-      cond_both b (learned core order value) [] (λ deeds. Once (deeds ++ behind))
+      cond_both b (learned (own_view core) order value) [] (λ deeds. Once (deeds ++ behind))
       (λ _. learned_holds (λ deeds. Once (deeds ++ behind)) core may (λ c is room. may) order value) (λ _. may)
 
-  init_once : (code : ℕ) (value : List ℕ) (o : Option Init) → Once (init_deeds core code value o)
+  init_once : (code : ℕ) (value : List ℕ) (o : Option Init) → Once (init_deeds (own_view core) code value o)
   init_once code value None = tt
   init_once code value (Some i) = init_holds Once core i code value (record {
     same = (own_told, tt);
@@ -90,13 +90,13 @@ module _ (core : Core) (off : eqb core.node 0 ≡ false) where
     next = λ order is. (refl, tt);
   })
 
-  pub host_once : (p : Port) (m : Message) → Once (host_deeds core p m)
+  pub host_once : (p : Port) (m : Message) → Once (host_deeds (own_view core) (end_view p) m)
   host_once p m = host_holds Once core p m (record {
     none = tt;
     drops = tt;
     goes = (refl, refl, tt);
     ordered = λ n is. ordered_once p.desk.errors m.0 n (body_in m.1);
-    heard = λ code order is. learned_then (eqb code 0) order (body_in m.1) (init_deeds core code (body_in m.1) core.init)
+    heard = λ code order is. learned_then (eqb code 0) order (body_in m.1) (init_deeds (own_view core) code (body_in m.1) core.init)
         (init_once code (body_in m.1) core.init);
   })
 

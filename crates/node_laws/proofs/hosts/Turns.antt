@@ -1,31 +1,32 @@
 -- At its turn a message gets from a host the reply that is read, and lacks what is read.
-use Rattle.std.proofs.Common.{◌≡◌, inr, ℕ, ◌-◌, ◌^◌, ◌≤◌, Bool, true, false, cond, eqb, List, [], ◌∷◌, ◌++◌, length, map, sym, refl, ap, ap₂, ◌∙◌, subst, arith}
+use Rattle.std.proofs.Common.{◌≡◌, ◌⊎◌, inl, inr, ℕ, ◌-◌, ◌^◌, ◌||◌, Bool, true, false, cond, eqb, List, [], ◌∷◌, ◌++◌, length, sym, refl, ap, ap₂, ◌∙◌}
+use Rattle.std.proofs.Common.{subst, arith}
 use Rattle.std.specs.Prelude.{min, is_some, Option, Some, None}
+use mathlib.Core.Path.{fun_ext}
 use Rattle.std.specs.List.{AllByRecursion}
 use Rattle.std.specs.Option.{option_and_then, option_map_or}
-use Rattle.std.proofs.lemmas.Bool.{cond-true, eq-eqb, ne_eqb}
+use Rattle.std.proofs.lemmas.Bool.{cases_Bool, cond-true, eq-eqb, eqb-true, ne_eqb}
 use Rattle.swp_base.specs.InMemory.{Memory}
 use Rattle.trace_model.specs.Lines.{IsHost}
 use Rattle.trace_model.specs.declared.entry.Entry.{Entry}
 use Rattle.trace_model.specs.declared.entry.Entry.TheVariants as entry
 use Rattle.journal_laws.specs.Journal.{count_of}
-use Rattle.journal_laws.specs.Operations.{formatted}
-use Rattle.hci_tables.specs.declared.command.Command.{Command}
-use Rattle.hci_tables.specs.Tables.{HciTables}
 use Rattle.shdlc_core.specs.declared.answers.LinkState.{LinkState}
 use Rattle.link_laws.specs.sessions.Sessions.{is_up}
 use Rattle.link_laws.specs.machine.Machine.{Message, spare}
 use Rattle.link_laws.specs.entries.Entries.End.{Host}
 use Rattle.link_laws.proofs.entries.Lasting.{same_number}
-use Rattle.node_machine.specs.Parts.{Core, Deed, Init, Port, Work}
-use Rattle.node_machine.specs.Carrying.{finds_room, has_room_for, lack, needs, port_at}
+use Rattle.node_machine.specs.Parts.{Deed, Init, Port, Work}
+use Rattle.node_machine.specs.Carrying.{end_of_number, end_view, finds_room, first_lack, lack, needs, own_view, port_at, spare_with}
 use Rattle.node_machine.specs.HostReplies.{host_deeds}
 use Rattle.node_machine.specs.Turns.{deeds_of, handles}
+use Rattle.node_machine.proofs.Walks.{deeds_far}
 use Rattle.node_machine.specs.world.World.{end_h}
 use Rattle.node_machine.specs.world.NodeFilters.{commands_in, order_in, session_now, spare_at, tables_in}
+use Rattle.node_laws.specs.cuts.Histories.{is_one_of}
 use Rattle.node_laws.specs.kept.Deeds.{MayBeDone}
 use Rattle.node_laws.proofs.kept.Turning.{deeds_may}
-use Rattle.node_laws.specs.passes.Noting.{IsReplyNoted, end_of_number, entries_of_reply, noted_by_deeds, session_of_port}
+use Rattle.node_laws.specs.passes.Noting.{IsReplyNoted, entries_of_reply, noted_by_deeds, session_of_port}
 use Rattle.node_laws.specs.passes.Passing.{lacking, takes_up}
 use Rattle.node_laws.proofs.passes.Counts.{counts_one, reply_noted}
 use Rattle.node_laws.specs.views.Errors.{ErrorCount, errors_in, no_errors}
@@ -34,13 +35,11 @@ use Rattle.node_laws.proofs.views.Doing.{HasErrors}
 use Rattle.node_laws.proofs.views.Going.{deeds_is}
 use Rattle.node_laws.proofs.views.Leaving.{reads, reads_append}
 use Rattle.node_laws.specs.answers.Answered.{AnswersSo, IsReplied}
-use Rattle.node_laws.specs.answers.Moments.{Moment, core_read, lack_of, noted_of_deeds, port_read, ports_read, reply, until}
+use Rattle.node_laws.specs.answers.Moments.{Moment, end_read, is_linked, is_up_read, lack_of, noted_of_deeds, own_read, reply, spare_read, until}
+use Rattle.node_laws.specs.answers.Moments.{view_read}
 use Rattle.node_laws.specs.replies.Known.{HasRoomForAll}
 use Rattle.node_laws.specs.read_rooms.Moments.{ArePortsRead}
-use Rattle.node_laws.proofs.answers.Alike.{spare_read, up_read}
-use Rattle.node_laws.proofs.replies.Knowing.{room_read}
 use Rattle.node_laws.proofs.replies.Turns.{lack_alike, some_if}
-use Rattle.node_laws.proofs.hosts.Alike.{host_room_same, host_same}
 use Rattle.node_laws.proofs.hosts.Answering.{AreUnanswered, TrailsOff, answers_so}
 use Rattle.node_laws.proofs.hosts.Asides.{HasNone, HaveNone}
 use Rattle.node_laws.proofs.hosts.Knowing.{HostKnows}
@@ -50,9 +49,21 @@ use Rattle.node_laws.proofs.hosts.Shapes.{GivesOnce, host_once, once_given, repl
 abbrev pub errors_behind : ℕ → List Entry → ErrorCount
 errors_behind n u = reads (end_h n) u no_errors
 
-pub far_deeds : (core : Core) (ports : List Port) (h : ℕ) (m : Message) (p : Port) → eqb core.node 0 ≡ false → port_at ports h ≡ Some p
-    → deeds_of core ports h m ≡ host_deeds core p m
-far_deeds core ports h m p off here = rw (off, here) refl
+or_false : (b : Bool) → (b || false) ≡ b
+or_false true = refl
+or_false false = refl
+
+-- a host has one link, its own
+pub linked_far : (hosts : List ℕ) (n : ℕ) → eqb n 0 ≡ false → (j : ℕ) → is_linked hosts n j ≡ eqb n j
+linked_far hosts n off j = ap (λ b. is_one_of (cond b hosts (n ∷ [])) j) off ∙ or_false (eqb n j)
+
+-- the reply of a host, by what is read of it and of its end
+pub far_reply : (hosts : List ℕ) (n : ℕ) → eqb n 0 ≡ false → (m : Moment) (message : Message)
+    → reply hosts m (end_h n) message ≡ host_deeds (own_read m n) (end_read (until m) n n) message
+far_reply hosts n off m message =
+    let ends : (view_read hosts m n).ends n ≡ Some (end_read (until m) n n) =
+    ap (λ b. cond b (Some (end_read (until m) n n)) None) (linked_far hosts n off n ∙ same_number n) in
+    deeds_far (view_read hosts m n) n message off ∙ ap (λ o. option_map_or (λ e. host_deeds (own_read m n) e message) o []) ends
 
 module _ (hosts : List ℕ) (n : ℕ) (host : IsHost n) (u : List Entry) (i0 : Option Init) (memory : Memory) (order_phase init_phase : LinkState) where
   abbrev pub Knows : Work → Type 0
@@ -61,16 +72,10 @@ module _ (hosts : List ℕ) (n : ℕ) (host : IsHost n) (u : List Entry) (i0 : O
   -- a moment in a step of the host, behind these entries of the step
   pub record IsMomentOf (es : List Entry) (m : Moment) : Type 0 where
     pub at : until m ≡ u ++ es
-    pub init : (core_read m n).init ≡ reads_init n es i0
+    pub init : (own_read m n).init ≡ reads_init n es i0
 
   pub zero : eqb n 0 ≡ false
   zero = ne_eqb n 0 (λ z. omega (arith, z, host.0))
-
-  abbrev core_with : ℕ → HciTables → Option (List ℕ) → Option Init → Core
-  core_with node tables command init = record { node = node; journal = formatted; tables = tables; command = command; init = init }
-
-  low : (x : ℕ) → 128 - x ≤ 128
-  low x = omega arith
 
   module _ (w : Work) (k : Knows w) (ends : ArePortsRead Host u w) (none : HaveNone w) (room : HasRoomForAll w) (m : Moment)
       (is : IsMomentOf w.entries m) where
@@ -82,9 +87,6 @@ module _ (hosts : List ℕ) (n : ℕ) (host : IsHost n) (u : List Entry) (i0 : O
         ap (λ ps. port_at ps n) k.inits.base.is
         ∙ cond-true (eqb its_port.desk.host n) (Some its_port) None (eq-eqb its_port.desk.host n k.inits.base.at)
 
-    abbrev as_read : Port
-    as_read = port_read (until m) n n
-
     number_is : end_of_number n n ≡ end_h n
     number_is = rw zero refl
 
@@ -93,12 +95,10 @@ module _ (hosts : List ℕ) (n : ℕ) (host : IsHost n) (u : List Entry) (i0 : O
     session_is : session_now (until m) (end_of_number n n) n ≡ cond (is_up its_port.side.shdlc.phase) (Some its_port.session) None
     session_is = ap₂ (λ t e. session_now t e n) is.at number_is ∙ (ends n its_port here).session
 
-    up_is : is_up its_port.side.shdlc.phase ≡ is_up as_read.side.shdlc.phase
-    up_is =
-        sym (up_read (is_some (session_now (until m) (end_of_number n n) n)) (spare_at (until m) (end_of_number n n))
-        ∙ (ap is_some session_is ∙ some_if (is_up its_port.side.shdlc.phase) its_port.session))
+    up_is : is_up its_port.side.shdlc.phase ≡ is_up_read (until m) n n
+    up_is = sym (ap is_some session_is ∙ some_if (is_up its_port.side.shdlc.phase) its_port.session)
 
-    errors_is : its_port.desk.errors ≡ as_read.desk.errors
+    errors_is : its_port.desk.errors ≡ errors_in (until m) (end_of_number n n)
     errors_is =
         let has : AllByRecursion (HasErrors (end_h n) k.errors.errors) (its_port ∷ []) =
         subst (AllByRecursion (HasErrors (end_h n) k.errors.errors)) k.inits.base.is k.errors.ends in
@@ -107,60 +107,64 @@ module _ (hosts : List ℕ) (n : ℕ) (host : IsHost n) (u : List Entry) (i0 : O
         ∙ (ap (λ (x : ErrorCount). x.errors) (sym (reads_append (end_h n) u w.entries no_errors))
         ∙ ap₂ (λ t e. errors_in t e) (sym is.at) (sym number_is)))
 
-    core_is : record w.core { journal = formatted } ≡ core_read m n
-    core_is =
-        ap (λ a. core_with a w.core.tables w.core.command w.core.init) k.order.node
-        ∙ (ap (λ b. core_with n b w.core.command w.core.init) (k.kept.tables_are ∙ ap (λ t. tables_in t n) (sym is.at))
-        ∙ (ap (λ c. core_with n (tables_in (until m) n) c w.core.init)
-        (sym k.order.order ∙ ap (λ t. order_in t n) (sym is.at))
-        ∙ ap (λ d. core_with n (tables_in (until m) n) (order_in (until m) n) d)
-        (sym (k.inits.on k.order.on).0 ∙ sym is.init)))
+    end_is : end_view its_port ≡ end_read (until m) n n
+    end_is = λ i. record { up = up_is i; errors = errors_is i }
 
-    ports_is : ports_read hosts (until m) n ≡ as_read ∷ []
-    ports_is = ap (λ b. map (port_read (until m) n) (cond b hosts (n ∷ []))) zero
+    tables_is : w.core.tables ≡ tables_in (until m) n
+    tables_is = k.kept.tables_are ∙ ap (λ t. tables_in t n) (sym is.at)
+
+    room_is : finds_room w.core ≡ (λ c. true)
+    room_is = fun_ext room
+
+    command_is : w.core.command ≡ order_in (until m) n
+    command_is = sym k.order.order ∙ ap (λ t. order_in t n) (sym is.at)
+
+    init_is : w.core.init ≡ (own_read m n).init
+    init_is = sym (k.inits.on k.order.on).0 ∙ sym is.init
+
+    own_is : own_view w.core ≡ own_read m n
+    own_is = λ i. record { node = k.order.node i; tables = tables_is i; has_room = room_is i; command = command_is i; init = init_is i }
 
     module _ (message : Message) where
       abbrev deeds : List Deed
       deeds = deeds_of w.core w.ports n message
 
-      own : deeds ≡ host_deeds w.core its_port message
+      own : deeds ≡ host_deeds (own_view w.core) (end_view its_port) message
       own = deeds_is n host i0 init_phase message w k.inits.base
 
-      room_same : (c : Command) → finds_room w.core c ≡ has_room_for formatted c
-      room_same c = room c ∙ sym (room_read c)
-
-      shown : reply hosts m (end_h n) message ≡ host_deeds (core_read m n) as_read message
-      shown =
-          far_deeds (core_read m n) (ports_read hosts (until m) n) n message as_read zero
-          (ap (λ ps. port_at ps n) ports_is ∙ cond-true (eqb n n) (Some as_read) None (same_number n))
-
       reply_is : reply hosts m (end_h n) message ≡ deeds
-      reply_is =
-          shown
-          ∙ sym (own ∙ (host_room_same w.core formatted room_same its_port message ∙ (ap (λ c. host_deeds c its_port message) core_is
-          ∙ host_same (core_read m n) its_port as_read message up_is errors_is)))
+      reply_is = far_reply hosts n zero m message ∙ sym (own ∙ ap₂ (λ o e. host_deeds o e message) own_is end_is)
 
       -- ## What a message lacks
 
-      spare_is : spare as_read.side ≡ spare its_port.side
+      spare_is : spare_at (until m) (end_of_number n n) ≡ spare its_port.side
       spare_is =
-          spare_read (is_some (session_now (until m) (end_of_number n n) n)) (spare_at (until m) (end_of_number n n)) (low _)
-          ∙ (ap₂ (λ t e. spare_at t e) is.at number_is
-          ∙ (ends n its_port here).spare (sym (subst (AllByRecursion HasNone) k.inits.base.is none.ends).0))
+          ap₂ (λ t e. spare_at t e) is.at number_is
+          ∙ (ends n its_port here).spare (sym (subst (AllByRecursion HasNone) k.inits.base.is none.ends).0)
 
-      spares_alike : (j : ℕ) → option_map_or (λ (p : Port). spare p.side) (port_at (as_read ∷ []) j) 0
-          ≡ option_map_or (λ (p : Port). spare p.side) (port_at (its_port ∷ []) j) 0
+      spares_alike : (j : ℕ) → spare_read hosts (until m) n j ≡ spare_with (its_port ∷ []) j
       spares_alike j =
-          by (eqb n j) ∙ ap (λ h. option_map_or (λ (p : Port). spare p.side) (cond (eqb h j) (Some its_port) None) 0) (sym k.inits.base.at) where
-            by : (b : Bool) → option_map_or (λ (p : Port). spare p.side) (cond b (Some as_read) None) 0
-                ≡ option_map_or (λ (p : Port). spare p.side) (cond b (Some its_port) None) 0
-            by true = spare_is
-            by false = refl
+          ap (λ b. cond b (spare_at (until m) (end_of_number n j)) 0) (linked_far hosts n zero j)
+          ∙ (by (cases_Bool (eqb n j))
+          ∙ ap (λ h. option_map_or (λ (p : Port). spare p.side) (cond (eqb h j) (Some its_port) None) 0) (sym k.inits.base.at)) where
+            there : Bool → ℕ
+            there b = option_map_or (λ (p : Port). spare p.side) (cond b (Some its_port) None) 0
+
+            read : Bool → ℕ
+            read b = cond b (spare_at (until m) (end_of_number n j)) 0
+
+            by : (eqb n j ≡ true) ⊎ (eqb n j ≡ false) → read (eqb n j) ≡ there (eqb n j)
+            by (inl z) =
+                let own : spare_at (until m) (end_of_number n j) ≡ spare its_port.side =
+                subst (λ x. spare_at (until m) (end_of_number n x) ≡ spare its_port.side) (eqb-true n j z) spare_is in
+                ap read z ∙ (own ∙ sym (ap there z))
+            by (inr z) = ap read z ∙ sym (ap there z)
 
       pub lack_is : lack_of hosts m (end_h n) message ≡ lacking w n message
       lack_is =
-          ap₂ (λ ps d. lack ps (needs n d)) ports_is reply_is
-          ∙ (lack_alike (as_read ∷ []) (its_port ∷ []) spares_alike (needs n deeds) ∙ ap (λ ps. lack ps (needs n deeds)) (sym k.inits.base.is))
+          ap (λ d. first_lack (spare_read hosts (until m) n) (needs n d)) reply_is
+          ∙ (lack_alike (spare_read hosts (until m) n) (spare_with (its_port ∷ [])) spares_alike (needs n deeds)
+          ∙ ap (λ ps. lack ps (needs n deeds)) (sym k.inits.base.is))
 
       -- ## What is noted
 

@@ -19,7 +19,7 @@ use Rattle.gate_link.specs.Link.{link_served}
 use Rattle.link_laws.specs.machine.Machine.{Message}
 use Rattle.node_machine.specs.Parts.{Init, Core, Port, Deed}
 use Rattle.node_machine.specs.Parts.Deed.{Commits, Ends}
-use Rattle.node_machine.specs.Carrying.{end_of_node, finds_room}
+use Rattle.node_machine.specs.Carrying.{end_of_node, finds_room, own_view, end_view}
 use Rattle.node_machine.specs.HostReplies.{accepts, is_open_gate, is_welcome, pipe_named_in, orders_of, is_same, learns, init_agreed, init_deeds, learned}
 use Rattle.node_machine.specs.HostReplies.{ordered_deeds, host_deeds}
 use Rattle.node_laws.specs.kept.Deeds.{MayBeDone}
@@ -71,7 +71,7 @@ OneOrNone core deeds = (deeds ≡ []) ⊎ ((c : Command) × (deeds ≡ Commits c
 one : (core : Core) (c : Command) → is_command c ≡ true → finds_room core c ≡ true → OneOrNone core (Commits c ∷ [])
 one core c may room = inr (c, refl, may, room)
 
-learned_one : (core : Core) (order value : List ℕ) → OneOrNone core (learned core order value)
+learned_one : (core : Core) (order value : List ℕ) → OneOrNone core (learned (own_view core) order value)
 learned_one core order value = learned_holds (OneOrNone core) core (inl refl) (one core) order value
 
 -- what may be done behind nothing or one command
@@ -83,44 +83,47 @@ behind_one core first behind command init (inr one) none some = subst (λ l. May
 
 -- an init that goes on
 agreed_on : (core : Core) (i : Init) (s : Option State) (value order : List ℕ) → slice_get (orders_of i) (i.answered + 1) ≡ Some order
-    → MayBeDone s None (Some i) (init_agreed core i value)
+    → MayBeDone s None (Some i) (init_agreed (own_view core) i value)
 agreed_on core i s value order next =
-    cond_both (is_same core i value) (Ends (InitSame (end_of_node core core.node)) ∷ []) _ (MayBeDone s None (Some i)) (λ _. (tt, tt)) (λ _. rw next next)
+    cond_both (is_same (own_view core) i value) (Ends (InitSame (end_of_node core core.node)) ∷ []) _ (MayBeDone s None (Some i)) (λ _. (tt, tt))
+    (λ _. rw next next)
 
 -- one that ends
 agreed_last : (core : Core) (i : Init) (value : List ℕ) → slice_get (orders_of i) (i.answered + 1) ≡ None
-    → MayBeDone (Some core.journal) None (Some i) (init_agreed core i value)
+    → MayBeDone (Some core.journal) None (Some i) (init_agreed (own_view core) i value)
 agreed_last core i value none =
-    cond_both (is_same core i value) (Ends (InitSame (end_of_node core core.node)) ∷ []) _ (MayBeDone (Some core.journal) None (Some i)) (λ _. (tt, tt))
-    (λ _. rw none (behind_one core (learns core (Set core.node 0 1 (record { items = i.identity }))) _ None (Some i)
+    cond_both (is_same (own_view core) i value) (Ends (InitSame (end_of_node core core.node)) ∷ []) _ (MayBeDone (Some core.journal) None (Some i))
+    (λ _. (tt, tt))
+    (λ _. rw none (behind_one core (learns (own_view core) (Set core.node 0 1 (record { items = i.identity }))) _ None (Some i)
     (learns_holds (OneOrNone core) core (inl refl) (one core) (Set core.node 0 1 (record { items = i.identity }))) (tt, tt) (tt, tt)))
 
 -- behind the last command of an init nothing else is learned
 last_learned : (core : Core) (i : Init) (order value : List ℕ) → slice_get (orders_of i) i.answered ≡ Some order
     → slice_get (orders_of i) (i.answered + 1) ≡ None
-    → learned core order value ≡ []
+    → learned (own_view core) order value ≡ []
 last_learned core i order value is none =
-    ap (λ o. learned core o value)
+    ap (λ o. learned (own_view core) o value)
     (last_one ((3 ∷ []) ∷ (2 ∷ 1 ∷ []) ∷ (20 ∷ []) ∷ (3 ∷ []) ∷ map (λ pipe. 16 ∷ pipe) i.pipes) (1 ∷ 1 ∷ i.identity) order i.answered is
     (ap (slice_get (orders_of i)) (sym (add-one i.answered)) ∙ none))
 
 answered_may : (core : Core) (code : ℕ) (value order : List ℕ) (o : Option Init) → IsOnOrder (Some order) o
-    → MayBeDone (Some core.journal) None o (cond (eqb code 0) (learned core order value) [] ++ init_deeds core code value o)
+    → MayBeDone (Some core.journal) None o (cond (eqb code 0) (learned (own_view core) order value) [] ++ init_deeds (own_view core) code value o)
 answered_may core code value order None on =
-    behind_one core (cond (eqb code 0) (learned core order value) []) [] None None
-    (cond_both (eqb code 0) (learned core order value) [] (OneOrNone core) (λ _. learned_one core order value) (λ _. inl refl)) tt tt
+    behind_one core (cond (eqb code 0) (learned (own_view core) order value) []) [] None None
+    (cond_both (eqb code 0) (learned (own_view core) order value) [] (OneOrNone core) (λ _. learned_one core order value) (λ _. inl refl)) tt tt
 answered_may core code value order (Some i) on = by_code (cases_Bool (eqb code 0)) where
   by_next : (next : Option (List ℕ)) → slice_get (orders_of i) (i.answered + 1) ≡ next
-      → MayBeDone (Some core.journal) None (Some i) (learned core order value ++ init_agreed core i value)
+      → MayBeDone (Some core.journal) None (Some i) (learned (own_view core) order value ++ init_agreed (own_view core) i value)
   by_next (Some next) is =
-      behind_one core (learned core order value) (init_agreed core i value) None (Some i) (learned_one core order value)
+      behind_one core (learned (own_view core) order value) (init_agreed (own_view core) i value) None (Some i) (learned_one core order value)
       (agreed_on core i None value next is) (agreed_on core i (Some core.journal) value next is)
   by_next None is =
-      subst (λ l. MayBeDone (Some core.journal) None (Some i) (l ++ init_agreed core i value)) (sym (last_learned core i order value on is))
+      subst (λ l. MayBeDone (Some core.journal) None (Some i) (l ++ init_agreed (own_view core) i value)) (sym (last_learned core i order value on is))
       (agreed_last core i value is)
 
   by_code : (eqb code 0 ≡ true) ⊎ (eqb code 0 ≡ false)
-      → MayBeDone (Some core.journal) None (Some i) (cond (eqb code 0) (learned core order value) [] ++ init_deeds core code value (Some i))
+      → MayBeDone (Some core.journal) None (Some i)
+      (cond (eqb code 0) (learned (own_view core) order value) [] ++ init_deeds (own_view core) code value (Some i))
   by_code (inl e) = rw e (by_next (slice_get (orders_of i) (i.answered + 1)) refl)
   by_code (inr e) = rw e (tt, tt)
 
@@ -128,10 +131,10 @@ module _ (core : Core) (on : IsOnOrder core.command core.init) (sorted : AreTabl
   abbrev Fine : List Deed → Type 0
   Fine deeds = MayBeDone (Some core.journal) core.command core.init deeds
 
-  accepts_may : (c : Command) → IsCommand c → Fine (accepts core c)
+  accepts_may : (c : Command) → IsCommand c → Fine (accepts (own_view core) c)
   accepts_may c may = commit_may core on c (finds_room core c) refl core.node 1 (answer_of response.Ok []) [] may on
 
-  ordered_may : (errors pipe n : ℕ) (body : List ℕ) → Fine (ordered_deeds core errors pipe n body)
+  ordered_may : (errors pipe n : ℕ) (body : List ℕ) → Fine (ordered_deeds (own_view core) errors pipe n body)
   ordered_may errors pipe n body = ordered_holds Fine core errors pipe n body (record {
     none = on;
     refuses = λ r. on;
@@ -142,7 +145,7 @@ module _ (core : Core) (on : IsOnOrder core.command core.init) (sorted : AreTabl
     names = λ off. on;
   })
 
-  pub host_may : (p : Port) (m : Message) → Fine (host_deeds core p m)
+  pub host_may : (p : Port) (m : Message) → Fine (host_deeds (own_view core) (end_view p) m)
   host_may p m = host_holds Fine core p m (record {
     none = on;
     drops = on;

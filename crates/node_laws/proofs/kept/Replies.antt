@@ -17,8 +17,8 @@ use Rattle.link_laws.specs.machine.Machine.{Message}
 use Rattle.node_machine.specs.Parts.{Creation, About, Notice, Core, Port, Deed}
 use Rattle.node_machine.specs.Parts.About.{Waits, Forgotten, Removed}
 use Rattle.node_machine.specs.Parts.Deed.{Tells}
-use Rattle.node_machine.specs.Carrying.{finds_room}
-use Rattle.node_machine.specs.Controller.{creation_in, view_for, commit_deeds, decision_deeds, link_deeds, agreed, controller_deeds}
+use Rattle.node_machine.specs.Carrying.{finds_room, own_view}
+use Rattle.node_machine.specs.Controller.{creation_in, view_for, commit_deeds, decision_deeds, link_deeds, agreed, controller_deeds, view_of}
 use Rattle.node_laws.specs.kept.Books.{WaitsFor, WaitsAt}
 use Rattle.node_laws.specs.kept.Deeds.{MayBeDone}
 use Rattle.node_machine.specs.Orders.{IsOnOrder}
@@ -58,14 +58,14 @@ module _ (core : Core) (on : IsOnOrder core.command core.init) where
     by_value message None = on
     by_value message (Some errors) = on
 
-  decision_may : (h pipe : ℕ) (d : Decision) → IsRecordableDecision d → Fine (decision_deeds core h pipe d)
+  decision_may : (h pipe : ℕ) (d : Decision) → IsRecordableDecision d → Fine (decision_deeds (own_view core) h pipe d)
   decision_may h pipe (Answer answer) may = on
   decision_may h pipe (Commit c answer tell notice) may =
       commit_may c (finds_room core c) refl h pipe answer.items _ may (told None notice.items (hosts_where (has tell)))
   decision_may h pipe (Ask asked notice c answer) may = (may, on)
 
   module _ (sorted : AreTables core.tables) (ports : List Port) (all : AllByRecursion WaitsAt ports) (h : ℕ) (some : 1 ≤ h) (most : h ≤ 7) where
-    pub controller_may : (m : Message) → Fine (controller_deeds core ports h m)
+    pub controller_may : (m : Message) → Fine (controller_deeds (view_of core ports) h m)
     controller_may m =
         let v : LinkView = view_for core.tables ports h in
         controller_holds Fine core ports h m (record {

@@ -15,8 +15,8 @@ use Rattle.gate_identity.specs.Identity.{identity_served}
 use Rattle.link_laws.specs.machine.Machine.{Message}
 use Rattle.node_machine.specs.Parts.{Creation, Desk, Core, Port, Deed}
 use Rattle.node_machine.specs.Parts.Deed.{Commits, Sends, SaysOk, Asks, Releases, Tells, IsAnswered, Drops, SetsErrors, Orders, Hears, GoesOn, Ends}
-use Rattle.node_machine.specs.Carrying.{finds_room}
-use Rattle.node_machine.specs.Controller.{creation_in, view_for, answers_on, commit_deeds, decision_deeds, link_deeds, gates, agreed, controller_deeds}
+use Rattle.node_machine.specs.Carrying.{finds_room, own_view}
+use Rattle.node_machine.specs.Controller.{creation_in, view_for, answers_on, commit_deeds, decision_deeds, link_deeds, gates, agreed, controller_deeds, view_of}
 use Rattle.node_laws.proofs.steps.Ports.{at_port}
 use Rattle.node_machine.proofs.Walks.{told_hold, controller_holds}
 use Rattle.node_laws.proofs.links.Decisions.{IsSpoken, Speaks, decided_speaks, link_spoken, identity_spoken}
@@ -82,13 +82,14 @@ link_fine h pipe answer p a = by_value answer.0 answer.1 a where
   by_value message None a = ((p, a), tt)
   by_value message (Some errors) a = (tt, ((p, a), tt))
 
-decision_fine : (core : Core) (h pipe : ℕ) (d : Decision) → OnPipe pipe → Speaks d → AreFine (decision_deeds core h pipe d)
+decision_fine : (core : Core) (h pipe : ℕ) (d : Decision) → OnPipe pipe → Speaks d → AreFine (decision_deeds (own_view core) h pipe d)
 decision_fine core h pipe (Answer answer) p a = answers_fine h pipe answer.items p a
 decision_fine core h pipe (Commit c answer tell notice) p a =
     commit_fine (finds_room core c) h pipe c answer.items _ p a.0 (told_hold IsFine notice.items (hosts_where (has tell)) a.1)
 decision_fine core h pipe (Ask asked notice c answer) p a = (a, tt)
 
-pub controller_fine : (core : Core) (ports : List Port) (h : ℕ) (m : Message) → AreTrue ports → IsSendable m → AreFine (controller_deeds core ports h m)
+pub controller_fine : (core : Core) (ports : List Port) (h : ℕ) (m : Message) → AreTrue ports → IsSendable m
+    → AreFine (controller_deeds (view_of core ports) h m)
 controller_fine core ports h m a s =
     let v : LinkView = view_for core.tables ports h in
     controller_holds AreFine core ports h m (record {

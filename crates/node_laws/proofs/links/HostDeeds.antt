@@ -11,14 +11,14 @@ use Rattle.gate_identity.specs.Identity.{identity_served}
 use Rattle.link_laws.specs.machine.Machine.{Message}
 use Rattle.registry.proofs.ValueLemmas.{AllByRecursion-get}
 use Rattle.node_machine.specs.Parts.{Init, Core, Port}
-use Rattle.node_machine.specs.Carrying.{finds_room}
+use Rattle.node_machine.specs.Carrying.{finds_room, own_view, end_view}
 use Rattle.node_machine.specs.Controller.{gates}
 use Rattle.node_machine.specs.HostReplies.{accepts, orders_of, ordered_deeds, host_deeds}
 use Rattle.node_laws.proofs.links.Decisions.{IsSpoken, link_spoken, identity_spoken}
 use Rattle.node_machine.proofs.Walks.{OfHost, ordered_holds, host_holds, all_heard, orders_hold}
 use Rattle.node_laws.proofs.links.Deeds.{IsFine, AreFine, answers_fine, commit_fine, link_fine, low}
 
-accepts_fine : (core : Core) (c : Command) → AreFine (accepts core c)
+accepts_fine : (core : Core) (c : Command) → AreFine (accepts (own_view core) c)
 accepts_fine core c = commit_fine (finds_room core c) core.node 1 c (answer_of response.Ok []) [] low (omega arith) tt
 
 -- ## Init
@@ -39,7 +39,7 @@ own core = record {
 
 -- ## Messages
 
-ordered_fine : (core : Core) (errors pipe n : ℕ) (body : List ℕ) → pipe < 112 → AreFine (ordered_deeds core errors pipe n body)
+ordered_fine : (core : Core) (errors pipe n : ℕ) (body : List ℕ) → pipe < 112 → AreFine (ordered_deeds (own_view core) errors pipe n body)
 ordered_fine core errors pipe n body p = ordered_holds AreFine core errors pipe n body (record {
   none = tt;
   refuses = λ r. answers_fine core.node 1 (answer_of r []) low (omega arith);
@@ -50,7 +50,7 @@ ordered_fine core errors pipe n body p = ordered_holds AreFine core errors pipe 
   names = λ off. answers_fine core.node pipe (identity_served gates n body) p (identity_spoken gates n body);
 })
 
-pub host_fine : (core : Core) (p : Port) (m : Message) → IsSendable m → AreFine (host_deeds core p m)
+pub host_fine : (core : Core) (p : Port) (m : Message) → IsSendable m → AreFine (host_deeds (own_view core) (end_view p) m)
 host_fine core p m s = host_holds AreFine core p m (record {
   none = tt;
   drops = (tt, tt);

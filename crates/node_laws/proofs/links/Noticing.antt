@@ -20,7 +20,7 @@ use Rattle.node_machine.specs.Parts.{About, Notice, Desk, Core, Port, Work, Deed
 use Rattle.node_machine.specs.Parts.About.{Waits, Removed}
 use Rattle.node_machine.specs.Parts.Deed.{Commits, Sends, SaysOk, Asks, Releases, Tells, IsAnswered, Drops, SetsErrors, Orders, Hears, GoesOn, Ends}
 use Rattle.node_machine.specs.Carrying.{end_of_node, noting, port_at, changed_if, with_port, with_desk, after_turn, turn_at, notified, commit, done}
-use Rattle.node_machine.specs.Controller.{has_link, asked_at, controller_deeds}
+use Rattle.node_machine.specs.Controller.{has_link, asked_at, controller_deeds, view_of}
 use Rattle.node_machine.specs.Turns.{deeds_of}
 use Rattle.node_machine.specs.Node.{NodeInput, input_at, has_come, all_come, older_notice, with_older, is_late, reset_late, times_out, is_over, is_forgotten}
 use Rattle.node_machine.specs.Node.{forgets, without_notice, after_sessions, forgotten, all_owed, synced, steps}
@@ -208,7 +208,7 @@ module _ (U : ℕ → Bool) where
   deeds_go k m w a = go (w.core.node == 0) refl
     where
       go : (b : Bool) → (w.core.node == 0) ≡ b → AllGo (deeds_of w.core w.ports k m)
-      go true q = rw q (goes_of w a (controller_deeds w.core w.ports k m) (controller_reach w.core w.ports k m))
+      go true q = rw q (goes_of w a (controller_deeds (view_of w.core w.ports) k m) (controller_reach w.core w.ports k m))
       go false q = absurd (true≢false (sym (ap (λ n. n == 0) a.node) ∙ q))
 
   sure_lasts : Lasts Sure Goes (λ k m. Unit {0})

@@ -18,7 +18,7 @@ use Rattle.tables_laws.proofs.gate.Decisions.{decided_as_allowed}
 use Rattle.link_laws.specs.machine.Machine.{Message}
 use Rattle.node_machine.specs.Parts.{Core, Port}
 use Rattle.node_machine.specs.Carrying.{port_at}
-use Rattle.node_machine.specs.Controller.{has_link, is_connected_at, view_for, controller_deeds}
+use Rattle.node_machine.specs.Controller.{has_link, is_connected_at, view_for, controller_deeds, view_of}
 use Rattle.node_machine.proofs.Walks.{Plain, OfDecision, all_of_controller}
 use Rattle.node_laws.specs.links.Notices.{Reaches, AllReach}
 use Rattle.node_laws.proofs.links.Masking.{from_mask}
@@ -59,7 +59,7 @@ decision_reach t ports h (Commit c answer tell notice) a b = (tt, each (hosts_wh
   each (x ∷ hosts) b = (linked_of t ports h x b.0, each hosts b.1)
 decision_reach t ports h (Ask asked notice c answer) a b = asked_reach t ports h asked c a
 
-pub controller_reach : (core : Core) (ports : List Port) (h : ℕ) (m : Message) → AllReach ports (controller_deeds core ports h m)
+pub controller_reach : (core : Core) (ports : List Port) (h : ℕ) (m : Message) → AllReach ports (controller_deeds (view_of core ports) h m)
 controller_reach core ports h m =
     let v : LinkView = view_for core.tables ports h in
     all_of_controller (Reaches ports) (plain ports) core ports h m

@@ -19,7 +19,7 @@ use Rattle.gate_admin.specs.Decide.{tests_to_create, tests_to_delete, tests_to_c
 use Rattle.gate_admin.proofs.CreationLemmas.{AllFalse, all_false}
 use Rattle.link_laws.specs.machine.Machine.{Message}
 use Rattle.node_machine.specs.Parts.{Core, Port}
-use Rattle.node_machine.specs.Controller.{view_for, controller_deeds}
+use Rattle.node_machine.specs.Controller.{view_for, controller_deeds, view_of}
 use Rattle.node_laws.proofs.steps.Masks.{is_in_mask}
 use Rattle.node_machine.proofs.Walks.{Plain, OfDecision, all_of_controller}
 use Rattle.tables_laws.proofs.gate.Decisions.{decided_holds}
@@ -160,7 +160,7 @@ decision_free t ports h (Commit c answer tell notice) a = (tt, each (hosts_where
   each (y ∷ hosts) a = (no_notice t ports h y a.0, each hosts a.1)
 decision_free t ports h (Ask asked notice c answer) a = no_notice t ports h asked a
 
-pub controller_free : (core : Core) (ports : List Port) (h : ℕ) (m : Message) → AllByRecursion (GoesToFree ports) (controller_deeds core ports h m)
+pub controller_free : (core : Core) (ports : List Port) (h : ℕ) (m : Message) → AllByRecursion (GoesToFree ports) (controller_deeds (view_of core ports) h m)
 controller_free core ports h m =
     let v : LinkView = view_for core.tables ports h in
     all_of_controller (GoesToFree ports) (plain ports) core ports h m

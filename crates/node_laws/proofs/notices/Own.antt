@@ -9,7 +9,7 @@ use Rattle.node_machine.specs.Parts.{Core, Port, Deed}
 use Rattle.node_machine.specs.Parts.Deed.{Asks, Ends}
 use Rattle.node_machine.specs.HostReplies.{host_deeds}
 use Rattle.node_machine.specs.Turns.{deeds_of}
-use Rattle.node_machine.specs.Carrying.{port_at}
+use Rattle.node_machine.specs.Carrying.{port_at, own_view, end_view}
 use Rattle.node_machine.specs.Node.{NodeInput, forgotten, all_owed, synced}
 use Rattle.node_machine.proofs.Walks.{Plain, OfHost, all_of_host, forgotten_hold, all_owed_hold, all_synced_hold}
 
@@ -42,7 +42,7 @@ own core = record { commits = λ c. tt; hears = tt; goes_on = λ i. tt; orders =
 
 -- ## All that is done in a step
 
-host_own : (core : Core) (p : Port) (m : Message) → AreOwn (host_deeds core p m)
+host_own : (core : Core) (p : Port) (m : Message) → AreOwn (host_deeds (own_view core) (end_view p) m)
 host_own core p m = all_of_host IsOwn core plain (own core) p m (λ n value command zero sets. tt)
 
 pub deeds_own : (core : Core) (ports : List Port) (h : ℕ) (m : Message) → eqb core.node 0 ≡ false → AreOwn (deeds_of core ports h m)

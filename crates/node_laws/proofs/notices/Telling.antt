@@ -25,9 +25,9 @@ use Rattle.link_laws.specs.machine.Machine.{Message}
 use Rattle.node_machine.specs.Parts.{Creation, About, Notice, Core, Port, Deed}
 use Rattle.node_machine.specs.Parts.About.{Waits, Forgotten, Removed}
 use Rattle.node_machine.specs.Parts.Deed.{Commits, Sends, SaysOk, Asks, Releases, Tells, IsAnswered, Drops, SetsErrors}
-use Rattle.node_machine.specs.Carrying.{port_at, finds_room}
+use Rattle.node_machine.specs.Carrying.{port_at, finds_room, own_view}
 use Rattle.node_machine.specs.Controller.{has_link, creation_in, asked_at, view_for, answers_on, commit_deeds, decision_deeds, link_deeds, gates, own_gate}
-use Rattle.node_machine.specs.Controller.{agreed, controller_deeds}
+use Rattle.node_machine.specs.Controller.{agreed, controller_deeds, view_of}
 use Rattle.node_machine.specs.world.NodeFilters.{is_response, is_notice}
 use Rattle.node_laws.proofs.links.Noticing.{UpAt}
 use Rattle.node_laws.proofs.steps.Ports.{at_port}
@@ -197,7 +197,7 @@ module _ (x : ℕ) where
     )
 
     decision_may : (core : Core) (v : LinkView) (pipe : ℕ) (d : Decision) → Says h d → IsRecordableDecision d → AsksAsAllowed core.tables v h d
-        → May (decision_deeds core h pipe d)
+        → May (decision_deeds (own_view core) h pipe d)
     decision_may core v pipe (Answer answer) says may allowed = answer_may IsShort h pipe answer.items says
     decision_may core v pipe (Commit c answer tell notice) says may allowed =
         commit_may (finds_room core c) pipe c answer.items notice.items (hosts_where (has tell)) may says.0 (mask_different (has tell)) says.1
@@ -275,7 +275,7 @@ module _ (x : ℕ) where
         go true up = subst (λ n. noticed ports n ≡ None) (eqb-true h x both.0) (none both.1 up)
         go false down = none_down down both.0
 
-      pub controller_outcome : (m : Message) → Outcome ports m (controller_deeds core ports h m)
+      pub controller_outcome : (m : Message) → Outcome ports m (controller_deeds (view_of core ports) h m)
       controller_outcome m =
           let v : LinkView = view_for core.tables ports h in
           controller_holds (Outcome ports m) core ports h m (record {

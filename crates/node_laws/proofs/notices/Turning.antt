@@ -16,7 +16,7 @@ use Rattle.node_machine.specs.Parts.{Notice, Port, Work, Deed}
 use Rattle.node_machine.specs.Parts.Deed.{Commits, Sends, SaysOk, Asks, Releases, Tells, IsAnswered, Drops, SetsErrors, Orders, Hears, GoesOn, Ends}
 use Rattle.node_machine.specs.Carrying.{noting, unless_cut, port_at, changed_if, with_port, with_desk, after_turn, turn_at, end_of_node, done, all_done, needs}
 use Rattle.node_machine.specs.Carrying.{lack}
-use Rattle.node_machine.specs.Controller.{has_link, controller_deeds}
+use Rattle.node_machine.specs.Controller.{has_link, controller_deeds, view_of}
 use Rattle.node_machine.specs.Turns.{deeds_of, handles, holds_back, lets_go, have_turns, goes_through_ends, passes}
 use Rattle.node_machine.specs.world.World.{end_c}
 use Rattle.node_machine.specs.world.NodeFilters.{is_response}
@@ -257,16 +257,16 @@ module _ (x : ℕ) (before : List Entry) (k : ℕ) where
   reached : (ports : List Port) (deeds rest : List Deed) → deeds ≡ IsAnswered ∷ rest → AllReach ports deeds → AllReach ports rest
   reached ports deeds rest e reach = let P : List Deed → Type 0 = λ d. AllReach ports d in let a : AllReach ports (IsAnswered ∷ rest) = subst P e reach in a.1
 
-  pub handled_stand : (m : Message) (w : Work) → IsHost k → On w → lack w.ports (needs k (controller_deeds w.core w.ports k m)) ≡ None
-      → Fine (handles k m (controller_deeds w.core w.ports k m) w)
+  pub handled_stand : (m : Message) (w : Work) → IsHost k → On w → lack w.ports (needs k (controller_deeds (view_of w.core w.ports) k m)) ≡ None
+      → Fine (handles k m (controller_deeds (view_of w.core w.ports) k m) w)
   handled_stand m w host a room =
       go (controller_outcome x k w.core w.ports a.sorted a.two host.0 host.1 a.right a.up m) where
-        go : Outcome x k w.ports m (controller_deeds w.core w.ports k m) → Fine (handles k m (controller_deeds w.core w.ports k m) w)
+        go : Outcome x k w.ports m (controller_deeds (view_of w.core w.ports) k m) → Fine (handles k m (controller_deeds (view_of w.core w.ports) k m) w)
         go (Leaves none may) =
-            leaves_stand m (controller_deeds w.core w.ports k m) w a none may (controller_reach w.core w.ports k m) room
+            leaves_stand m (controller_deeds (view_of w.core w.ports) k m) w a none may (controller_reach w.core w.ports k m) room
         go (IsHeard rest e is may) =
             subst (λ d. Fine (handles k m d w)) (sym e) (heard_stand m rest w a is may
-            (reached w.ports (controller_deeds w.core w.ports k m) rest e (controller_reach w.core w.ports k m))
+            (reached w.ports (controller_deeds (view_of w.core w.ports) k m) rest e (controller_reach w.core w.ports k m))
             (ap (λ d. lack w.ports (needs k d)) (sym e) ∙ room))
 
   pub holds_stand : (short : ℕ × ℕ) (w : Work) → On w → On (holds_back k short w)
@@ -299,7 +299,7 @@ module _ (x : ℕ) (before : List Entry) (k : ℕ) where
   have_stand [] w host a = inl (lets_stand w a)
   have_stand (m ∷ messages) w host a = subst Fine (sym is) (go (lack w.ports (needs k deeds)) refl (λ v b. have_stand messages v host b)) where
     deeds : List Deed
-    deeds = controller_deeds w.core w.ports k m
+    deeds = controller_deeds (view_of w.core w.ports) k m
 
     by : List Deed → Option (ℕ × ℕ) → Work
     by d None = unless_cut (have_turns k messages) (handles k m d w)

@@ -19,13 +19,14 @@ use Rattle.node_machine.specs.Parts.{About, Desk, Core, Port, Work, Deed}
 use Rattle.node_machine.specs.Parts.About.{Waits, Removed}
 use Rattle.node_machine.specs.Parts.Deed.{Commits, Sends, SaysOk, Asks, Releases, Tells, IsAnswered, Drops, SetsErrors, Orders, Hears, GoesOn, Ends}
 use Rattle.node_machine.specs.Carrying.{own_side, end_of_node, noting, unless_cut, port_at, changed_if, with_port, with_desk, after_turn, noted_of, turn_at}
+use Rattle.node_machine.specs.Carrying.{end_of_number}
 use Rattle.node_machine.specs.Carrying.{notified, loses_power, keeps, commit, done, all_done}
 use Rattle.node_machine.specs.Turns.{deeds_of, handles, holds_back, lets_go, have_turns, goes_through_ends, passes}
 use Rattle.node_machine.specs.world.World.{node_of}
 use Rattle.node_laws.proofs.steps.Ports.{changed_host}
 use Rattle.node_laws.proofs.telling.Walks.{IsUncut, AreUncut}
 use Rattle.node_laws.proofs.telling.Powers.{entries_uncut}
-use Rattle.node_laws.specs.passes.Noting.{goes_in, end_of_number}
+use Rattle.node_laws.specs.passes.Noting.{goes_in}
 use Rattle.node_laws.specs.passes.Passing.{waiting_at, is_held_at, lacking, takes_up}
 use Rattle.node_machine.proofs.Walks.{Plain, OfHost, any_of_controller, all_of_host}
 use Rattle.node_laws.proofs.passes.Passing.{have_handled, have_held}

@@ -11,7 +11,7 @@ use Rattle.link_laws.specs.machine.Machine.{Message, is_held}
 use Rattle.link_laws.specs.machine.Machine.Turn.{Hold}
 use Rattle.node_machine.specs.Parts.{Port, Work}
 use Rattle.node_machine.specs.Carrying.{noting, port_at, with_desk, turn_at, end_of_node, needs, lack}
-use Rattle.node_machine.specs.Controller.{controller_deeds}
+use Rattle.node_machine.specs.Controller.{controller_deeds, view_of}
 use Rattle.node_machine.specs.Turns.{deeds_of, handles, holds_back, lets_go}
 use Rattle.node_machine.specs.world.World.{end_c}
 use Rattle.node_laws.specs.kept.Books.{hosts_of_ends}
@@ -59,7 +59,7 @@ module _ (hosts : List ℕ) (are : AreHosts hosts) (t : List Entry) where
 
   -- ## A message is handled
 
-  pub near_deeds : (h : ℕ) (m : Message) (w : Work) → J w → deeds_of w.core w.ports h m ≡ controller_deeds w.core w.ports h m
+  pub near_deeds : (h : ℕ) (m : Message) (w : Work) → J w → deeds_of w.core w.ports h m ≡ controller_deeds (view_of w.core w.ports) h m
   near_deeds h m w a = let zero : eqb w.core.node 0 ≡ true = eq-eqb w.core.node 0 a.node in rw zero refl
 
   -- at an end that is there
@@ -68,8 +68,9 @@ module _ (hosts : List ℕ) (are : AreHosts hosts) (t : List Entry) where
       → J (handles h m (deeds_of w.core w.ports h m) w)
   handled_keeps h m p w a here room on =
       let host : IsHost h = found_end IsHost w.ports h p here (subst (AllByRecursion IsHost) (sym a.hosts_are) are.all) in
-      let deeds_are : deeds_of w.core w.ports h m ≡ controller_deeds w.core w.ports h m = near_deeds h m w a in
-      let room_now : lack w.ports (needs h (controller_deeds w.core w.ports h m)) ≡ None = ap (λ d. lack w.ports (needs h d)) (sym deeds_are) ∙ room in
+      let deeds_are : deeds_of w.core w.ports h m ≡ controller_deeds (view_of w.core w.ports) h m = near_deeds h m w a in
+      let room_now : lack w.ports (needs h (controller_deeds (view_of w.core w.ports) h m))
+      ≡ None = ap (λ d. lack w.ports (needs h d)) (sym deeds_are) ∙ room in
       let v : Work = handles h m (deeds_of w.core w.ports h m) w in
       from_parts hosts t v on
       (λ x. still_on x v on (subst (λ d. Stands x t (handles h m d w)) (sym deeds_are)

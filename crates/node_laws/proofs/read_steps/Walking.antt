@@ -10,7 +10,7 @@ use Rattle.link_laws.specs.machine.Machine.{Message}
 use Rattle.node_machine.specs.Parts.{Creation, Port, Work, Deed}
 use Rattle.node_machine.specs.Parts.Deed.{IsAnswered, Releases}
 use Rattle.node_machine.specs.Carrying.{unless_cut, port_at, all_done, needs, lack}
-use Rattle.node_machine.specs.Controller.{controller_deeds}
+use Rattle.node_machine.specs.Controller.{controller_deeds, view_of}
 use Rattle.node_machine.specs.Turns.{deeds_of, handles, holds_back, have_turns, goes_through_ends, passes}
 use Rattle.node_machine.specs.Node.{NodeInput, input_at, told_at, all_come, with_older, told_late, times_out, forgotten, all_owed, synced}
 use Rattle.node_machine.specs.Node.NodeInput.{AtEnd, TimePasses}
@@ -94,14 +94,14 @@ module _ (hosts : List ℕ) (are : AreHosts hosts) (t : List Entry) where
         n : Holds 0 t IsKeptNotice w
         n = to_notices hosts t w a.keeps are.all 0
 
-        same : deeds_of w.core w.ports h m ≡ controller_deeds w.core w.ports h m
+        same : deeds_of w.core w.ports h m ≡ controller_deeds (view_of w.core w.ports) h m
         same = near_deeds hosts are t h m w a.keeps
 
-        allowed : AllByRecursion (IsAllowedStill w.core.tables w.ports) (controller_deeds w.core w.ports h m)
+        allowed : AllByRecursion (IsAllowedStill w.core.tables w.ports) (controller_deeds (view_of w.core w.ports) h m)
         allowed = subst (AllByRecursion (IsAllowedStill w.core.tables w.ports)) same (deeds_fit 0 hosts a.memory t (inl refl) w h m a.kept refl)
 
-        go : Outcome 0 h w.ports m (controller_deeds w.core w.ports h m) → AllByRecursion NamesSo (controller_deeds w.core w.ports h m)
-        go (Leaves none may) = may_name 0 IsShort w.core.tables w.ports (controller_deeds w.core w.ports h m) may allowed
+        go : Outcome 0 h w.ports m (controller_deeds (view_of w.core w.ports) h m) → AllByRecursion NamesSo (controller_deeds (view_of w.core w.ports) h m)
+        go (Leaves none may) = may_name 0 IsShort w.core.tables w.ports (controller_deeds (view_of w.core w.ports) h m) may allowed
         go (IsHeard rest e is may) =
             let fit : AllByRecursion (IsAllowedStill w.core.tables w.ports) (IsAnswered ∷ rest) =
             subst (AllByRecursion (IsAllowedStill w.core.tables w.ports)) e allowed in

@@ -24,8 +24,8 @@ use Rattle.node_machine.specs.Parts.{About, Desk, Core, Port, Work, Deed}
 use Rattle.node_machine.specs.Parts.About.{Waits, Removed}
 use Rattle.node_machine.specs.Parts.Deed.{Commits, Sends, SaysOk, Asks, Releases, Tells, IsAnswered, Drops, SetsErrors, Orders, Hears, GoesOn, Ends}
 use Rattle.node_machine.specs.Carrying.{own_side, noting, port_at, changed_if, with_port, with_desk, after_turn, noted_of, turn_at, notified}
-use Rattle.node_machine.specs.Carrying.{commit, done, all_done, end_of_node}
-use Rattle.node_machine.specs.Controller.{controller_deeds}
+use Rattle.node_machine.specs.Carrying.{commit, done, all_done, end_of_node, own_view, end_view}
+use Rattle.node_machine.specs.Controller.{controller_deeds, view_of}
 use Rattle.node_machine.specs.HostReplies.{host_deeds}
 use Rattle.node_machine.specs.Turns.{deeds_of}
 use Rattle.node_machine.specs.Node.{NodeInput, input_at, has_come, told_at, all_come, with_older, is_late, reset_late, told_late, times_out, forgotten, forgets}
@@ -74,7 +74,7 @@ plain P = record { sends = λ to x. tt; says_ok = tt; releases = λ asker. tt; i
 
 -- no init ends at a controller
 pub controller_notes : (P : Entry → Type 0) (core : Core) (ports : List Port) (h : ℕ) (m : Message)
-    → AllByRecursion (NotesSo P) (controller_deeds core ports h m)
+    → AllByRecursion (NotesSo P) (controller_deeds (view_of core ports) h m)
 controller_notes P core ports h m =
     any_of_controller (NotesSo P) (plain P) (λ c. tt) (λ to message. tt) (λ to message c. tt) (λ errors. tt) core ports h m
 
@@ -84,7 +84,7 @@ module _ (P : Entry → Type 0) (core : Core) (same : P (entry.InitSame (end_of_
   of_host : OfHost (NotesSo P) core
   of_host = record { commits = λ c. tt; hears = tt; goes_on = λ i. tt; orders = λ i k order is. tt; same = same; made = made; failed = failed }
 
-  pub host_notes : (p : Port) (m : Message) → AllByRecursion (NotesSo P) (host_deeds core p m)
+  pub host_notes : (p : Port) (m : Message) → AllByRecursion (NotesSo P) (host_deeds (own_view core) (end_view p) m)
   host_notes p m = all_of_host (NotesSo P) core (plain P) of_host p m (λ n value command zero is. tt)
 
 -- ## What is told of an end

@@ -15,7 +15,7 @@ use Rattle.link_laws.specs.machine.Machine.{Message}
 use Rattle.registry.proofs.ValueLemmas.{AllByRecursion-get}
 use Rattle.node_machine.specs.Parts.{Init, Core, Deed}
 use Rattle.node_machine.specs.Parts.Deed.{Sends, Ends}
-use Rattle.node_machine.specs.Carrying.{end_of_node, finds_room}
+use Rattle.node_machine.specs.Carrying.{end_of_node, finds_room, own_view}
 use Rattle.node_machine.specs.Controller.{answers_on, commit_deeds, link_deeds, gates, is_command_message}
 use Rattle.node_machine.specs.HostReplies.{accepts, orders_of, learns, init_deeds, learned, ordered_deeds}
 use Rattle.node_machine.proofs.Walks.{ordered_holds, learns_holds, learned_holds, init_holds, orders_hold}
@@ -46,7 +46,7 @@ module _ (h : ℕ) (F : List ℕ → Type 0) where
 
   -- ## Answers
 
-  accepts_may : (core : Core) (c : Command) → May (accepts core c)
+  accepts_may : (core : Core) (c : Command) → May (accepts (own_view core) c)
   accepts_may core c = go (finds_room core c) where
     go : (b : Bool) → May (commit_deeds b core.node 1 c (answer_of response.Ok []) [])
     go true = (refl, tt)
@@ -60,7 +60,7 @@ module _ (h : ℕ) (F : List ℕ → Type 0) where
   link_may to None answer = (refl, tt)
   link_may to (Some errors) answer = (refl, tt)
 
-  pub ordered_may : (core : Core) (errors pipe n : ℕ) (body : List ℕ) → May (ordered_deeds core errors pipe n body)
+  pub ordered_may : (core : Core) (errors pipe n : ℕ) (body : List ℕ) → May (ordered_deeds (own_view core) errors pipe n body)
   ordered_may core errors pipe n body = ordered_holds May core errors pipe n body (record {
     none = tt;
     refuses = λ r. (no_command r [], tt);
@@ -81,13 +81,13 @@ module _ (h : ℕ) (F : List ℕ → Type 0) where
   -- ## Init
 
   -- behind what is learned
-  learns_then : (core : Core) (c : Command) (behind : List Deed) → May behind → May (learns core c ++ behind)
+  learns_then : (core : Core) (c : Command) (behind : List Deed) → May behind → May (learns (own_view core) c ++ behind)
   learns_then core c behind may = learns_holds (λ deeds. May (deeds ++ behind)) core may (λ c is room. may) c
 
   pub learned_if : (b : Bool) (core : Core) (order value : List ℕ) (behind : List Deed) → May behind
-      → May (cond b (learned core order value) [] ++ behind)
+      → May (cond b (learned (own_view core) order value) [] ++ behind)
   learned_if b core order value behind may =
-      cond_both b (learned core order value) [] (λ deeds. May (deeds ++ behind))
+      cond_both b (learned (own_view core) order value) [] (λ deeds. May (deeds ++ behind))
       (λ _. learned_holds (λ deeds. May (deeds ++ behind)) core may (λ c is room. may) order value) (λ _. may)
 
 -- each command of an init is a command
@@ -99,7 +99,7 @@ module _ (h : ℕ) (core : Core) (code : ℕ) (value : List ℕ) where
   abbrev pub OrderFits : (List ℕ → Type 0) → Type 0
   OrderFits F = (order : List ℕ) → is_command_message order ≡ true → length order ≤ 4096 → F order
 
-  pub init_may : (F : List ℕ → Type 0) (o : Option Init) → AreInitsShort o → OrderFits F → MayDo h F (init_deeds core code value o)
+  pub init_may : (F : List ℕ → Type 0) (o : Option Init) → AreInitsShort o → OrderFits F → MayDo h F (init_deeds (own_view core) code value o)
   init_may F None short fits = tt
   init_may F (Some i) short fits = init_holds (MayDo h F) core i code value (record {
     same = ((λ waits. refl), tt);

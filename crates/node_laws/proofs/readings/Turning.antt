@@ -1,7 +1,7 @@
 -- A host has its turns: its unanswered command stays the one that is read.
 use Rattle.std.proofs.Common.{◌≡◌, inl, ℕ, ◌≤◌, ◌&&◌, Bool, true, false, cond, eqb, List, [], ◌∷◌, ◌++◌, length, map, sym, refl, ap, ◌∙◌, subst, arith}
 use Rattle.std.specs.Prelude.{Option, Some, None, Result, Ok, Err, is_some, nat_lt}
-use Rattle.std.specs.Option.{option_map_or}
+use Rattle.std.specs.Option.{option_map, option_map_or}
 use Rattle.std.proofs.lemmas.Bool.{eq-eqb, true≢false, cond-true, le-ltb, ne_eqb}
 use Rattle.trace_model.specs.Lines.{IsHost}
 use Rattle.trace_model.specs.declared.entry.Entry.{Entry}
@@ -21,7 +21,7 @@ use Rattle.node_machine.specs.Parts.{Port, Work, Deed}
 use Rattle.node_machine.specs.Parts.Deed.{Commits, Sends, SaysOk, Asks, Releases, Tells, IsAnswered, Drops, SetsErrors, Orders, Hears, GoesOn, Ends}
 use Rattle.node_machine.specs.Controller.{is_command_message}
 use Rattle.node_machine.specs.Carrying.{noting, unless_cut, port_at, changed_if, with_port, with_desk, after_turn, turn_at, end_of_node, done, all_done, needs}
-use Rattle.node_machine.specs.Carrying.{lack}
+use Rattle.node_machine.specs.Carrying.{lack, own_view, end_view}
 use Rattle.node_machine.specs.HostReplies.{learned, init_deeds, response_deeds, ordered_deeds, is_gate, gate_of_pipe, host_deeds}
 use Rattle.node_machine.specs.Turns.{deeds_of, handles, holds_back, lets_go, have_turns, goes_through_ends, passes}
 use Rattle.node_machine.specs.world.NodeFilters.{is_response}
@@ -203,29 +203,29 @@ module _ (h : ℕ) (host : IsHost h) (before : List Entry) (now : LinkState) whe
   abbrev Handled : Message → Work → List Deed → Type 0
   Handled m w deeds = lack w.ports (needs h deeds) ≡ None → Stands_so (handles h m deeds w)
 
-  host_stand : (w : Work) (m : Message) (r : Runs_so w) → Handled m w (host_deeds w.core r.port m)
+  host_stand : (w : Work) (m : Message) (r : Runs_so w) → Handled m w (host_deeds (own_view w.core) (end_view r.port) m)
   host_stand w m r = go (is_up r.port.side.shdlc.phase) (header_of m.1) refl refl where
     Shown : Bool → Result (MessageKind × ℕ) MessageFault → List Deed → Type 0
-    Shown b x deeds = is_up r.port.side.shdlc.phase ≡ b → header_of m.1 ≡ x → host_deeds w.core r.port m ≡ deeds
+    Shown b x deeds = is_up r.port.side.shdlc.phase ≡ b → header_of m.1 ≡ x → host_deeds (own_view w.core) (end_view r.port) m ≡ deeds
 
     dropped : (x : Result (MessageKind × ℕ) MessageFault) → Shown false x (Drops m.0 ∷ [])
     dropped x u q = rw u refl
 
-    ordered : (n : ℕ) → Shown true (Ok (IsCommand, n)) (ordered_deeds w.core r.port.desk.errors m.0 n (body_in m.1))
+    ordered : (n : ℕ) → Shown true (Ok (IsCommand, n)) (ordered_deeds (own_view w.core) r.port.desk.errors m.0 n (body_in m.1))
     ordered n u q = rw (u, q) refl
 
-    posted : (n : ℕ) (b : Bool) → (is_gate 4 (gate_of_pipe w.core m.0) && posts_back m.1) ≡ b
+    posted : (n : ℕ) (b : Bool) → (is_gate 4 (gate_of_pipe (own_view w.core) m.0) && posts_back m.1) ≡ b
         → Shown true (Ok (IsEvent, n)) (cond b (Sends w.core.node m ∷ []) [])
     posted n b e u q = rw (u, q) (ap (λ c. cond c (Sends w.core.node m ∷ []) []) e)
 
-    answered : (n : ℕ) → Shown true (Ok (IsResponse, n)) (cond (eqb m.0 1) (response_deeds w.core n (body_in m.1)) [])
+    answered : (n : ℕ) → Shown true (Ok (IsResponse, n)) (cond (eqb m.0 1) (response_deeds (own_view w.core) n (body_in m.1)) [])
     answered n u q = rw (u, q) refl
 
     unread : (f : MessageFault) → Shown true (Err f) []
     unread f u q = rw (u, q) refl
 
     go : (b : Bool) (x : Result (MessageKind × ℕ) MessageFault) → is_up r.port.side.shdlc.phase ≡ b → header_of m.1 ≡ x
-        → Handled m w (host_deeds w.core r.port m)
+        → Handled m w (host_deeds (own_view w.core) (end_view r.port) m)
     go false x u q =
         let none : w.core.command ≡ None = none_of w.core.command (λ some. true≢false (sym (up_is _ (r.its.up some)) ∙ u)) in
         subst (Handled m w) (sym (dropped x u q)) (λ lacks. all_stand h host before now h (λ o. ⊥) (Drops m.0 ∷ []) (fetched m w) (λ o z. absurd z) tt
@@ -233,13 +233,13 @@ module _ (h : ℕ) (host : IsHost h) (before : List Entry) (now : LinkState) whe
     go true (Ok (IsCommand, instruction)) u q =
         let other : is_response m.1 ≡ false = rw q refl in
         subst (Handled m w) (sym (ordered instruction u q))
-        (does_stand w m (ordered_deeds w.core r.port.desk.errors m.0 instruction (body_in m.1)) r u
+        (does_stand w m (ordered_deeds (own_view w.core) r.port.desk.errors m.0 instruction (body_in m.1)) r u
         (same_if (answers m) w.core.command (off_right (eqb m.0 1) (is_response m.1) other))
         (ordered_may h NotLong w.core r.port.desk.errors m.0 instruction (body_in m.1)))
     go true (Ok (IsEvent, instruction)) u q =
         let other : is_response m.1 ≡ false = rw q refl in
         let no_command : is_command_message m.1 ≡ false = rw q refl in
-        let back : Bool = is_gate 4 (gate_of_pipe w.core m.0) && posts_back m.1 in
+        let back : Bool = is_gate 4 (gate_of_pipe (own_view w.core) m.0) && posts_back m.1 in
         subst (Handled m w) (sym (posted instruction back refl u q))
         (does_stand w m (cond back (Sends w.core.node m ∷ []) []) r u
         (same_if (answers m) w.core.command (off_right (eqb m.0 1) (is_response m.1) other))
@@ -248,22 +248,22 @@ module _ (h : ℕ) (host : IsHost h) (before : List Entry) (now : LinkState) whe
       is : is_response m.1 ≡ true
       is = rw q refl
 
-      unheard : w.core.command ≡ None → response_deeds w.core code (body_in m.1) ≡ []
+      unheard : w.core.command ≡ None → response_deeds (own_view w.core) code (body_in m.1) ≡ []
       unheard e = rw e refl
 
-      heard : (order : List ℕ) → w.core.command ≡ Some order → response_deeds w.core code (body_in m.1)
-          ≡ Hears ∷ cond (eqb code 0) (learned w.core order (body_in m.1)) [] ++ init_deeds w.core code (body_in m.1) w.core.init
+      heard : (order : List ℕ) → w.core.command ≡ Some order → response_deeds (own_view w.core) code (body_in m.1)
+          ≡ Hears ∷ cond (eqb code 0) (learned (own_view w.core) order (body_in m.1)) [] ++ init_deeds (own_view w.core) code (body_in m.1) w.core.init
       heard order e = rw e refl
 
-      by_order : answers m ≡ true → (c : Option (List ℕ)) → w.core.command ≡ c → Handled m w (response_deeds w.core code (body_in m.1))
+      by_order : answers m ≡ true → (c : Option (List ℕ)) → w.core.command ≡ c → Handled m w (response_deeds (own_view w.core) code (body_in m.1))
       by_order one None e = subst (Handled m w) (sym (unheard e)) (does_stand w m [] r u (same_none (answers m) w.core.command e) tt)
       by_order one (Some order) e =
-          subst (Handled m w) (sym (heard order e)) (hears_stand w m (cond (eqb code 0) (learned w.core order
-          (body_in m.1)) [] ++ init_deeds w.core code (body_in m.1) w.core.init) r u one
-          (learned_if h NotLong (eqb code 0) w.core order (body_in m.1) (init_deeds w.core code (body_in m.1) w.core.init)
+          subst (Handled m w) (sym (heard order e)) (hears_stand w m (cond (eqb code 0) (learned (own_view w.core) order
+          (body_in m.1)) [] ++ init_deeds (own_view w.core) code (body_in m.1) w.core.init) r u one
+          (learned_if h NotLong (eqb code 0) w.core order (body_in m.1) (init_deeds (own_view w.core) code (body_in m.1) w.core.init)
           (init_may h w.core code (body_in m.1) NotLong w.core.init r.short (λ order command short. short))))
 
-      by_pipe : (b : Bool) → eqb m.0 1 ≡ b → Handled m w (cond b (response_deeds w.core code (body_in m.1)) [])
+      by_pipe : (b : Bool) → eqb m.0 1 ≡ b → Handled m w (cond b (response_deeds (own_view w.core) code (body_in m.1)) [])
       by_pipe true e = by_order (ap (λ b. b && is_response m.1) e ∙ is) w.core.command refl
       by_pipe false e = does_stand w m [] r u (same_if (answers m) w.core.command (ap (λ b. b && is_response m.1) e)) tt
     go true (Err fault) u q =
@@ -271,10 +271,10 @@ module _ (h : ℕ) (host : IsHost h) (before : List Entry) (now : LinkState) whe
         subst (Handled m w) (sym (unread fault u q))
         (does_stand w m [] r u (same_if (answers m) w.core.command (off_right (eqb m.0 1) (is_response m.1) other)) tt)
 
-  deeds_are : (w : Work) (m : Message) (r : Runs_so w) → deeds_of w.core w.ports h m ≡ host_deeds w.core r.port m
+  deeds_are : (w : Work) (m : Message) (r : Runs_so w) → deeds_of w.core w.ports h m ≡ host_deeds (own_view w.core) (end_view r.port) m
   deeds_are w m r =
       let off : eqb w.core.node 0 ≡ false = ne_eqb w.core.node 0 (λ z. omega (arith, z, r.node, host.0)) in
-      rw off (ap (λ o. option_map_or (λ p. host_deeds w.core p m) o []) (port_is w r))
+      rw off (ap (λ o. option_map_or (λ e. host_deeds (own_view w.core) e m) (option_map end_view o) []) (port_is w r))
 
   pub deeds_stand : (w : Work) (m : Message) → Runs_so w → Handled m w (deeds_of w.core w.ports h m)
   deeds_stand w m r = subst (Handled m w) (sym (deeds_are w m r)) (host_stand w m r)

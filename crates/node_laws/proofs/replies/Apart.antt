@@ -21,11 +21,11 @@ use Rattle.gate_identity.specs.Identity.{identity_served}
 use Rattle.link_laws.specs.machine.Machine.{Message}
 use Rattle.node_machine.specs.Parts.{Creation, Notice, Core, Port, Deed}
 use Rattle.node_machine.specs.Parts.Deed.{Commits, Sends, SaysOk, Asks, Releases, Tells, IsAnswered, Drops, SetsErrors, Orders, Hears, GoesOn, Ends}
-use Rattle.node_machine.specs.Carrying.{port_at, finds_room}
+use Rattle.node_machine.specs.Carrying.{port_at, finds_room, own_view}
 use Rattle.node_machine.specs.Controller.{has_link, creation_in, asked_at, asks_for, view_for, answers_on, commit_deeds, decision_deeds, link_deeds, gates}
-use Rattle.node_machine.specs.Controller.{gate_deeds, own_gate, goes_through, served_at, agreed, creation_deeds, notice_deeds, response_at, is_command_message}
+use Rattle.node_machine.specs.Controller.{gate_deeds, own_gate, goes_through, served_at, agreed, creation_deeds, notice_deeds, is_command_message}
 use Rattle.node_machine.specs.Controller.{relayed_to, unrelayed, event_deeds, unless_asking, if_notice, kind_deeds, own_deeds, relay_deeds, deeds_by_relay}
-use Rattle.node_machine.specs.Controller.{controller_deeds}
+use Rattle.node_machine.specs.Controller.{controller_deeds, view_of, about_at, about_of}
 use Rattle.node_laws.proofs.links.Noticing.{UpAt}
 use Rattle.node_laws.proofs.notices.Telling.{AreRight, IsShort, MayTell, Outcome, controller_outcome}
 use Rattle.node_laws.proofs.notices.Telling.Outcome.{Leaves, IsHeard}
@@ -65,7 +65,7 @@ module _ (ports : List Port) (h : ℕ) where
   commit_fair up true pipe c answer notice hosts = ((refl, told_first false notice hosts), (tt, (up, (tt, told_over notice hosts))))
   commit_fair up false pipe c answer notice hosts = ((refl, tt), (up, tt))
 
-  decision_fair : has_link ports h ≡ true → (core : Core) (pipe : ℕ) (d : Decision) → Fair (decision_deeds core h pipe d)
+  decision_fair : has_link ports h ≡ true → (core : Core) (pipe : ℕ) (d : Decision) → Fair (decision_deeds (own_view core) h pipe d)
   decision_fair up core pipe (Answer answer) = ((refl, tt), (up, tt))
   decision_fair up core pipe (Commit c answer tell notice) = commit_fair up (finds_room core c) pipe c answer.items notice.items (hosts_where (has tell))
   decision_fair up core pipe (Ask asked notice c answer) = ((refl, tt), (tt, tt))
@@ -95,7 +95,7 @@ module _ (ports : List Port) (h : ℕ) where
         (λ _. ((refl, tt), (up, tt))) (λ _. (tt, (tt, tt)))
     go false down = (tt, (tt, tt))
 
-  relay_fair : (m : Message) (other : ℕ) (up : Bool) → has_link ports other ≡ up → Fair (relay_deeds ports h m other up)
+  relay_fair : (m : Message) (other : ℕ) (up : Bool) → has_link ports other ≡ up → Fair (relay_deeds (has_link ports) h m other up)
   relay_fair m other true up = ((refl, tt), (up, tt))
   relay_fair m other false down = unrelayed_fair m
 
@@ -104,47 +104,48 @@ module _ (ports : List Port) (h : ℕ) where
   agreed_fair false c up = ((refl, tt), (tt, (tt, (up, tt))))
 
   creation_fair : (core : Core) (code : ℕ) (o : Option Creation) → ((c : Creation) → o ≡ Some c → has_link ports c.asker ≡ true)
-      → Fair (creation_deeds core code o)
+      → Fair (creation_deeds (own_view core) code o)
   creation_fair core code None askers = (tt, (tt, tt))
   creation_fair core code (Some c) askers = agreed_fair (eqb code 0 && finds_room core c.command) c (askers c refl)
 
   module _ (core : Core) (askers : (p : Port) (c : Creation) → port_at ports h ≡ Some p → asked_at p ≡ Some c → has_link ports c.asker ≡ true) where
     served_fair : has_link ports h ≡ true → (pipe instruction : ℕ) (body : List ℕ) (gate : Option ℕ)
-        → Fair (served_at core (view_for core.tables ports h) h pipe instruction body gate)
+        → Fair (served_at (own_view core) (view_for core.tables ports h) h pipe instruction body gate)
     served_fair up pipe instruction body None = decision_fair up core pipe (decided core.tables (view_for core.tables ports h) h pipe instruction body)
     served_fair up pipe instruction body (Some gate) = gate_fair up gate (view_for core.tables ports h).errors pipe instruction body
 
-    asking_fair : has_link ports h ≡ true → (m : Message) (instruction : ℕ) (asks : Bool) → Fair (unless_asking core ports h m instruction asks)
+    asking_fair : has_link ports h ≡ true → (m : Message) (instruction : ℕ) (asks : Bool) → Fair (unless_asking (view_of core ports) h m instruction asks)
     asking_fair up m instruction true = (tt, (tt, tt))
     asking_fair up m instruction false =
         served_fair up m.0 instruction (body_in m.1) (cond (goes_through core.tables h m.0 instruction) (own_gate core.tables h m.0) None)
 
-    response_fair : (code : ℕ) (o : Option Port) → port_at ports h ≡ o → Fair (response_at core code o)
+    response_fair : (code : ℕ) (o : Option Port) → port_at ports h ≡ o → Fair (notice_deeds (own_view core) code (about_at o))
     response_fair code None here = (tt, (tt, tt))
     response_fair code (Some p) here = by_notice p.desk.notice refl where
-      by_notice : (o : Option Notice) → p.desk.notice ≡ o → Fair (notice_deeds core code o)
+      by_notice : (o : Option Notice) → p.desk.notice ≡ o → Fair (notice_deeds (own_view core) code (about_of o))
       by_notice None is = (tt, (tt, tt))
       by_notice (Some n) is = creation_fair core code (creation_in (Some n)) (λ c q. askers p c here (ap creation_in is ∙ q))
 
-    notices_fair : (m : Message) (code : ℕ) (b : Bool) → Fair (if_notice core ports h m code b)
+    notices_fair : (m : Message) (code : ℕ) (b : Bool) → Fair (if_notice (view_of core ports) h m code b)
     notices_fair m code true = response_fair code (port_at ports h) refl
     notices_fair m code false = (tt, (tt, tt))
 
-    kind_fair : has_link ports h ≡ true → (m : Message) (header : Result (MessageKind × ℕ) MessageFault) → Fair (kind_deeds core ports h m header)
+    kind_fair : has_link ports h ≡ true → (m : Message) (header : Result (MessageKind × ℕ) MessageFault) → Fair (kind_deeds (view_of core ports) h m header)
     kind_fair up m (Ok (IsCommandKind, instruction)) = asking_fair up m instruction (eqb m.0 1 && asks_for ports h)
     kind_fair up m (Ok (IsEvent, instruction)) = event_fair up core m
     kind_fair up m (Ok (IsResponse, code)) = notices_fair m code (eqb m.0 1)
     kind_fair up m (Err fault) = (tt, (tt, tt))
 
-    own_fair : (m : Message) (b : Bool) → has_link ports h ≡ b → Fair (own_deeds core ports h m b)
+    own_fair : (m : Message) (b : Bool) → has_link ports h ≡ b → Fair (own_deeds (view_of core ports) h m b)
     own_fair m true up = kind_fair up m (header_of m.1)
     own_fair m false down = (tt, (tt, tt))
 
-    by_relay_fair : (m : Message) (o : Option ℕ) → Fair (deeds_by_relay core ports h m o)
+    by_relay_fair : (m : Message) (o : Option ℕ) → Fair (deeds_by_relay (view_of core ports) h m o)
     by_relay_fair m (Some other) = relay_fair m other (has_link ports other) refl
     by_relay_fair m None = own_fair m (has_link ports h) refl
 
-    pub controller_sends : (m : Message) → FirstSent true (controller_deeds core ports h m) × AllByRecursion (SendsOver ports) (controller_deeds core ports h m)
+    pub controller_sends : (m : Message)
+        → FirstSent true (controller_deeds (view_of core ports) h m) × AllByRecursion (SendsOver ports) (controller_deeds (view_of core ports) h m)
     controller_sends m = by_relay_fair m (relayed_to core.tables h m)
 
 -- ## One message to each end
@@ -221,11 +222,11 @@ from_apart h (Ends e ∷ deeds) may sent = absurd (may 0)
 
 module _ (core : Core) (ports : List Port) (h : ℕ) (sorted : AreTables core.tables) (two : JoinTwo core.tables.rows) (some : 1 ≤ h) (most : h ≤ 7)
     (right : AreRight ports) (up : (x : ℕ) → UpAt (port_at ports x)) where
-  outcome_from : (x : ℕ) (m : Message) → Outcome x h ports m (controller_deeds core ports h m) → MayFrom x (controller_deeds core ports h m)
-  outcome_from x m (Leaves none may) = may_from x (controller_deeds core ports h m) may
+  outcome_from : (x : ℕ) (m : Message) → Outcome x h ports m (controller_deeds (view_of core ports) h m) → MayFrom x (controller_deeds (view_of core ports) h m)
+  outcome_from x m (Leaves none may) = may_from x (controller_deeds (view_of core ports) h m) may
   outcome_from x m (IsHeard rest e is may) = subst (MayFrom x) (sym e) may
 
-  pub controller_apart : (m : Message) → FirstSent true (controller_deeds core ports h m) → GiveOnce h [] (controller_deeds core ports h m)
+  pub controller_apart : (m : Message) → FirstSent true (controller_deeds (view_of core ports) h m) → GiveOnce h [] (controller_deeds (view_of core ports) h m)
   controller_apart m sent =
-      from_apart h (controller_deeds core ports h m)
+      from_apart h (controller_deeds (view_of core ports) h m)
       (λ x. outcome_from x m (controller_outcome x h core ports sorted two some most right (up x) m)) sent

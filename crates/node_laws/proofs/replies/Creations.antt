@@ -16,7 +16,7 @@ use Rattle.history.specs.Damage.{same_bytes}
 use Rattle.node_machine.specs.Parts.{Creation, About, Notice, Port, Work}
 use Rattle.node_machine.specs.Parts.About.{Waits, Forgotten, Removed}
 use Rattle.node_machine.specs.Carrying.{port_at}
-use Rattle.node_machine.specs.Controller.{creation_in, asked_at}
+use Rattle.node_machine.specs.Controller.{creation_of, creation_in, about_of, asked_at}
 use Rattle.node_machine.specs.HostReplies.{pipe_named_in}
 use Rattle.node_machine.specs.world.NodeFilters.{notice_in, asking_in}
 use Rattle.node_laws.proofs.telling.Accounts.{at_host}
@@ -29,7 +29,7 @@ use Rattle.node_laws.specs.creations.Worlds.{IsAwaited, IfAwaited}
 use Rattle.node_laws.proofs.creations.Asks.{asked_of, one_of, waits, desks_wait}
 use Rattle.node_laws.specs.read_steps.Works.{KeepsInStep}
 use Rattle.node_laws.proofs.read_steps.Knowing.{notice_is}
-use Rattle.node_laws.specs.answers.Moments.{notice_read, port_read}
+use Rattle.node_laws.specs.answers.Moments.{about_read, creation_read}
 use Rattle.node_laws.specs.read_steps.Names.{AreNamed}
 use Rattle.node_laws.proofs.read_steps.Naming.{names_read}
 use Rattle.node_laws.proofs.replies.Ends.{all_found}
@@ -129,9 +129,27 @@ waits_at_end x all (p ∷ ports) c l found e = go (asked_at p) refl (waits_at_en
 
 -- ## What a notice is about
 
--- whether the end's host has an unanswered notice, and the creation that waits for its answer
-abbrev pub awaited_in : Option Notice → Option (Option Creation)
-awaited_in n = option_map (λ (n : Notice). creation_in (Some n)) n
+-- whether there is a notice about something, and the creation that waits for its answer
+abbrev pub awaited_in : Option About → Option (Option Creation)
+awaited_in about = option_map creation_of about
+
+joined : Option (Option Creation) → Option Creation
+joined None = None
+joined (Some o) = o
+
+asked_joined : (n : Option Notice) → creation_in n ≡ joined (awaited_in (about_of n))
+unfolding joined
+asked_joined None = refl
+asked_joined (Some n) = refl
+
+read_joined : (t : List Entry) (r : Option (List ℕ)) → joined (awaited_in (about_read t r)) ≡ creation_read t r
+unfolding joined
+read_joined t None = refl
+read_joined t (Some m) = refl
+
+pub asked_same : (t : List Entry) (p : Port) (r : Option (List ℕ)) → awaited_in (about_of p.desk.notice) ≡ awaited_in (about_read t r)
+    → asked_at p ≡ creation_read t r
+asked_same t p r e = asked_joined p.desk.notice ∙ (ap joined e ∙ read_joined t r)
 
 asked_as : (p : Port) (n : Notice) → p.desk.notice ≡ Some n → asked_at p ≡ creation_in (Some n)
 asked_as p n q = ap creation_in q
@@ -157,7 +175,7 @@ closed row may =
 
 -- an unanswered notice as it is read, of a message
 abbrev read_of : List Entry → List ℕ → Option (Option Creation)
-read_of t m = awaited_in (notice_read t (Some m))
+read_of t m = awaited_in (about_read t (Some m))
 
 -- one of a creation for which its asker asked so
 waits_read : (t : List Entry) (m : List ℕ) (row : PipeRow) → m ≡ 18 ∷ ends_of row → row.opened ≡ false → asking_in t row.creator ≡ Some m
@@ -277,11 +295,13 @@ module _ (hosts : List ℕ) (are : AreHosts hosts) (t : List Entry) (w : Work) (
       go Removed e (inr k) = removed 21 k refl ∙ rw e refl
 
   -- the notice to a host tells of the creation that waits for its answer, as it is read
-  pub awaited_same : (k : ℕ) (p : Port) → port_at w.ports k ≡ Some p → awaited_in p.desk.notice ≡ awaited_in (port_read now 0 k).desk.notice
+  pub awaited_same : (k : ℕ) (p : Port) → port_at w.ports k ≡ Some p
+      → awaited_in (about_of p.desk.notice) ≡ awaited_in (about_read now (notice_in now k))
   awaited_same k p found = go (notice_in now k) p.desk.notice refl refl (kept k p found) where
     go : (r : Option (List ℕ)) (o : Option Notice) → notice_in now k ≡ r → p.desk.notice ≡ o → IsKeptNotice r o
-        → awaited_in p.desk.notice ≡ awaited_in (notice_read now (notice_in now k))
-    go None None e f kept = ap awaited_in f ∙ sym (ap (λ r. awaited_in (notice_read now r)) e)
-    go (Some m) (Some n) e f kept = ap awaited_in f ∙ (sym (read_here k p found n f m e) ∙ sym (ap (λ r. awaited_in (notice_read now r)) e))
+        → awaited_in (about_of p.desk.notice) ≡ awaited_in (about_read now (notice_in now k))
+    go None None e f kept = ap (λ n. awaited_in (about_of n)) f ∙ sym (ap (λ r. awaited_in (about_read now r)) e)
+    go (Some m) (Some n) e f kept =
+        ap (λ n. awaited_in (about_of n)) f ∙ (sym (read_here k p found n f m e) ∙ sym (ap (λ r. awaited_in (about_read now r)) e))
     go None (Some n) e f kept = absurd kept
     go (Some m) None e f kept = absurd kept

@@ -1,5 +1,5 @@
 -- At its turn a message gets from a controller the reply that is read.
-use Rattle.std.proofs.Common.{◌≡◌, ℕ, Bool, true, false, cond, List, [], ◌∷◌, ◌++◌, map, sym, refl, ap, ap₂, ◌∙◌, subst}
+use Rattle.std.proofs.Common.{◌≡◌, ℕ, Bool, true, false, cond, List, [], ◌∷◌, ◌++◌, sym, refl, ap, ap₂, ◌∙◌, subst}
 use Rattle.std.specs.Prelude.{nat_lt, Option, Some, None, is_some}
 use Rattle.std.specs.List.{AllByRecursion}
 use Rattle.std.specs.Option.{option_map_or}
@@ -9,16 +9,17 @@ use Rattle.link_laws.specs.sessions.Sessions.{is_up}
 use Rattle.journal_laws.specs.Journal.{count_of}
 use Rattle.link_laws.specs.machine.Machine.{Message, spare}
 use Rattle.node_machine.specs.Parts.{Creation, Core, Port, Work, Deed}
-use Rattle.node_machine.specs.Carrying.{port_at, needs, lack}
-use Rattle.node_machine.specs.Controller.{has_link, asked_at, controller_deeds}
+use Rattle.node_machine.specs.Carrying.{port_at, needs, first_lack, spare_with, lack}
+use Rattle.node_machine.specs.Controller.{has_link, asked_at, controller_deeds, view_of}
 use Rattle.node_machine.specs.Turns.{deeds_of, handles}
 use Rattle.node_machine.specs.world.World.{end_c}
 use Rattle.node_machine.specs.world.NodeFilters.{session_now, spare_at}
 use Rattle.node_laws.specs.links.Notices.{AllReach}
 use Rattle.node_laws.proofs.links.Reaching.{controller_reach}
-use Rattle.node_laws.specs.kept.Books.{hosts_of_ends, StillRuns}
+use Rattle.node_laws.specs.kept.Books.{StillRuns}
 use Rattle.node_laws.specs.kept.Deeds.{MayBeDone}
 use Rattle.node_laws.specs.kept.Hosts.{AreHosts}
+use Rattle.node_laws.specs.cuts.Histories.{is_one_of}
 use Rattle.node_laws.proofs.kept.Replies.{controller_may}
 use Rattle.node_laws.specs.notices.Notices.{IsKeptNotice}
 use Rattle.node_laws.proofs.notices.Doing.{Holds}
@@ -27,20 +28,19 @@ use Rattle.node_laws.proofs.creations.Asks.{desks_wait}
 use Rattle.node_laws.specs.read_steps.Alike.{KnowsTheSame}
 use Rattle.node_laws.specs.read_steps.Works.{HasAsideAt, KeepsInStep, desks_of}
 use Rattle.node_laws.proofs.read_steps.Alike.{same_deeds}
+use Rattle.node_laws.proofs.read_steps.Knowing.{there_is}
 use Rattle.node_laws.proofs.read_steps.Parts.{to_notices}
 use Rattle.node_laws.specs.passes.Noting.{IsReplyNoted, GiveOnce, entries_of_reply, noted_by_deeds, session_of_port}
 use Rattle.node_laws.specs.passes.Passing.{lacking, takes_up}
 use Rattle.node_laws.proofs.passes.Counts.{counts_one, reply_noted}
-use Rattle.node_laws.specs.answers.Moments.{Moment, lack_of, noted_of_deeds, port_read, reply, until}
+use Rattle.node_laws.specs.answers.Moments.{Moment, lack_of, noted_of_deeds, reply, spare_read, until}
 use Rattle.node_laws.specs.replies.Known.{EndsAreRead, HasRoomForAll, KeepsBeside}
 use Rattle.node_laws.specs.read_steps.Names.{AreNamed}
-use Rattle.node_laws.proofs.replies.Ends.{alike, spare_low}
 use Rattle.node_laws.proofs.replies.Creations.{IsIn, in_waits}
 use Rattle.node_laws.proofs.replies.Knowing.{AreUpAsRead, own_deeds, reply_so}
 use Rattle.node_laws.proofs.replies.Apart.{FirstSent, SendsOver, controller_apart, controller_sends}
 use Rattle.node_laws.proofs.replies.Noted.{same_noted}
 use Rattle.node_laws.proofs.replies.Answering.{AreOfReply, reply_entries}
-use Rattle.node_laws.proofs.answers.Alike.{spare_read}
 
 -- ## Ends that are read
 
@@ -51,12 +51,10 @@ some_if false n = refl
 pub up_by_ends : (t : List Entry) (ports : List Port) → EndsAreRead t ports → AreUpAsRead t ports
 up_by_ends t ports ends k p e = sym (some_if (is_up p.side.shdlc.phase) p.session) ∙ ap is_some (sym (ends.sessions k p e))
 
-pub lack_alike : (a b : List Port)
-    → ((k : ℕ) → option_map_or (λ (p : Port). spare p.side) (port_at a k) 0 ≡ option_map_or (λ (p : Port). spare p.side) (port_at b k) 0)
-    → (ns : List (ℕ × ℕ)) → lack a ns ≡ lack b ns
-lack_alike a b same [] = refl
-lack_alike a b same (n ∷ ns) =
-    ap₂ (λ s behind. cond (nat_lt s n.1) (Some (n.1, s)) behind) (same n.0) (lack_alike a b same ns)
+pub lack_alike : (f g : ℕ → ℕ) → ((k : ℕ) → f k ≡ g k) → (ns : List (ℕ × ℕ)) → first_lack f ns ≡ first_lack g ns
+lack_alike f g same [] = refl
+lack_alike f g same (n ∷ ns) =
+    ap₂ (λ s behind. cond (nat_lt s n.1) (Some (n.1, s)) behind) (same n.0) (lack_alike f g same ns)
 
 -- ## What a message lacks
 
@@ -65,16 +63,19 @@ module _ (hosts : List ℕ) (are : AreHosts hosts) (t : List Entry) (w : Work) (
   abbrev now : List Entry
   now = t ++ w.entries
 
-  spares_alike : (k : ℕ) → option_map_or (λ (p : Port). spare p.side) (port_at w.ports k) 0
-      ≡ option_map_or (λ (p : Port). spare p.side) (port_at (map (port_read now 0) (hosts_of_ends w.ports)) k) 0
-  spares_alike k =
-      alike (λ o q. option_map_or (λ (p : Port). spare p.side) o 0 ≡ option_map_or (λ (p : Port). spare p.side) q 0) refl now k w.ports
-      (λ p e. sym (ends.spares k p e) ∙ sym (spare_read (is_some (session_now now (end_c k) 0)) (spare_at now (end_c k)) (spare_low now k)))
+  spares_alike : (k : ℕ) → spare_with w.ports k ≡ spare_read hosts now 0 k
+  spares_alike k = by (port_at w.ports k) refl where
+    there : (o : Option Port) → port_at w.ports k ≡ o → is_some o ≡ is_one_of hosts k
+    there o q = sym (ap is_some q) ∙ there_is hosts are t w a k
+
+    by : (o : Option Port) → port_at w.ports k ≡ o → option_map_or (λ (p : Port). spare p.side) o 0 ≡ spare_read hosts now 0 k
+    by None q = ap (λ b. cond b (spare_at now (end_c k)) 0) (there None q)
+    by (Some p) q = sym (ends.spares k p q) ∙ ap (λ b. cond b (spare_at now (end_c k)) 0) (there (Some p) q)
 
   pub lack_so : (m : Moment) → until m ≡ now → (h : ℕ) (message : Message) → lack_of hosts m (end_c h) message ≡ lacking w h message
   lack_so m same h message =
-      ap₂ (λ l hs. lack (map (port_read l 0) hs) (needs h (reply hosts m (end_c h) message))) same (sym a.hosts_are)
-      ∙ (sym (lack_alike w.ports (map (port_read now 0) (hosts_of_ends w.ports)) spares_alike (needs h (reply hosts m (end_c h) message)))
+      ap (λ l. first_lack (spare_read hosts l 0) (needs h (reply hosts m (end_c h) message))) same
+      ∙ (sym (lack_alike (spare_with w.ports) (spare_read hosts now 0) spares_alike (needs h (reply hosts m (end_c h) message)))
       ∙ ap (λ d. lack w.ports (needs h d)) (reply_so hosts are t w a (up_by_ends now w.ports ends) room names m same h message))
 
 -- ## What is noted of a reply
@@ -89,7 +90,7 @@ module _ (hosts : List ℕ) (are : AreHosts hosts) (t : List Entry) (w : Work) (
   abbrev reply_told : List Entry
   reply_told = entries_of_reply 0 (session_of_port w.ports) h (count_of w.core.journal) deeds
 
-  own : deeds ≡ controller_deeds w.core w.ports h message
+  own : deeds ≡ controller_deeds (view_of w.core w.ports) h message
   own = own_deeds w.core w.ports h message a.node
 
   -- an asker whose creation waits is up
@@ -111,7 +112,8 @@ module _ (hosts : List ℕ) (are : AreHosts hosts) (t : List Entry) (w : Work) (
         subst (HasAsideAt (creations_at (desks_of w.ports) c.asker)) q (a.asides c.asker) in
         ap (λ o. option_map_or (λ (p : Port). is_up p.side.shdlc.phase) o false) q ∙ ap is_up (aside.up filled)
 
-  sends : FirstSent true (controller_deeds w.core w.ports h message) × AllByRecursion (SendsOver w.ports) (controller_deeds w.core w.ports h message)
+  sends : FirstSent true (controller_deeds (view_of w.core w.ports) h message)
+      × AllByRecursion (SendsOver w.ports) (controller_deeds (view_of w.core w.ports) h message)
   sends = controller_sends w.ports h w.core asker_up message
 
   over : AllByRecursion (SendsOver w.ports) deeds
@@ -127,19 +129,19 @@ module _ (hosts : List ℕ) (are : AreHosts hosts) (t : List Entry) (w : Work) (
   -- as it would be of a controller with no command, which never has any
   may : MayBeDone (Some w.core.journal) None None deeds
   may =
-      subst (MayBeDone (Some w.core.journal) None None) (sym (own ∙ same_deeds w.core alone w.ports w.ports h same message))
+      subst (MayBeDone (Some w.core.journal) None None) (sym (own ∙ same_deeds (view_of w.core w.ports) (view_of alone w.ports) h same message))
       (controller_may alone tt a.sorted w.ports k.reads.runs.kept.waits h host.0 host.1 message)
     where
       alone : Core
       alone = record w.core { command = None; init = None }
 
-      same : KnowsTheSame w.core alone w.ports w.ports h
+      same : KnowsTheSame (view_of w.core w.ports) (view_of alone w.ports) h
       same = record {
         tables = refl;
         room = λ c. refl;
         links = λ k. refl;
         asks = refl;
-        view = record { hosts = refl; connected = refl; noticed = refl; asked = refl; waiting = λ pid. refl; errors = refl };
+        view = λ up. record { hosts = refl; connected = refl; noticed = refl; asked = refl; waiting = λ pid. refl; errors = refl };
         notice = refl;
       }
 

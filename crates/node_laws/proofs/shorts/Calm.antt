@@ -1,46 +1,42 @@
 -- Entries that change nothing of what decides a reply of a host: behind them a message there lacks what it lacked before.
-use Rattle.std.proofs.Common.{◌≡◌, ℕ, ◌-◌, ◌+◌, Bool, true, false, cond, eqb, List, [], ◌∷◌, ◌++◌, drop, map, sym, subst, refl, ap, ap₂, ◌∙◌}
+use Rattle.std.proofs.Common.{◌≡◌, ◌⊎◌, inl, inr, ℕ, ◌-◌, ◌+◌, Bool, true, false, cond, eqb, List, [], ◌∷◌, ◌++◌, drop, sym, subst, refl, ap, ap₂, ◌∙◌}
 use Rattle.std.proofs.Common.{append_assoc, append-nil}
 use Rattle.std.specs.Prelude.{Option, Some, None, is_some}
 use Rattle.std.specs.List.{AllByRecursion, fold, filter_map}
 use Rattle.std.specs.Option.{option_map_or}
-use Rattle.std.proofs.lemmas.Bool.{cond-true}
+use Rattle.std.proofs.lemmas.Bool.{cases_Bool, eqb-true}
 use Rattle.std.proofs.lemmas.List.Elements.{filter_map-append}
 use Rattle.std.proofs.lemmas.List.Sums.{fold-append}
 use Rattle.trace_model.specs.declared.entry.Entry.{Entry}
 use Rattle.trace_model.specs.declared.entry.Entry.TheVariants as entry
 use Rattle.trace_model.specs.declared.line.End.{End}
-use Rattle.link_laws.specs.machine.Machine.{LinkEnd, Message, need_of_all, spare}
-use Rattle.link_laws.specs.sessions.Sessions.{is_up}
+use Rattle.link_laws.specs.machine.Machine.{Message, need_of_all}
 use Rattle.link_laws.specs.messages.Links.{Link}
 use Rattle.link_laws.specs.entries.Entries.{End as Side, Entry as Noted, ending_entries}
 use Rattle.link_laws.specs.entries.Entries.Entry.{Cut, Emit, Lost, Took}
-use Rattle.link_laws.proofs.entries.Lasting.{same_number}
 use Rattle.history.specs.Steps.{entries_for}
 use Rattle.history.specs.Filters.{Saying, acked_after, acked_in, said_of, same_end, sent_by, sent_in}
 use Rattle.history.specs.Filters.Saying.{Begins, Counts, Ends, Gets, Loses, Puts, Sends, Takes}
 use Rattle.node_machine.specs.Parts.{Init, Port, Work}
-use Rattle.node_machine.specs.Carrying.{lack, needs, port_at}
+use Rattle.node_machine.specs.Carrying.{end_of_number, first_lack, needs, port_at}
 use Rattle.node_machine.specs.HostReplies.{host_deeds}
 use Rattle.node_machine.specs.world.World.{end_h, ending_of, frames_noted}
 use Rattle.node_machine.specs.world.NodeFilters.{Book, book_after, book_in, order_in, session_now, spare_at, tables_in, unacknowledged_in}
 use Rattle.node_laws.proofs.kept.Books.{book_more}
 use Rattle.node_laws.proofs.telling.Frames.{ending_all}
-use Rattle.node_laws.specs.passes.Noting.{end_of_number}
 use Rattle.node_laws.specs.power.Powers.{AreNotOf, is_of_node}
 use Rattle.node_laws.specs.readings.Orders.{IsSilent}
 use Rattle.node_laws.proofs.readings.Silent.{order_more}
 use Rattle.node_laws.specs.views.Errors.{errors_in}
 use Rattle.node_laws.specs.views.Inits.{LeavesInit}
 use Rattle.node_laws.proofs.views.Answering.{reads_init}
-use Rattle.node_laws.specs.answers.Moments.{Moment, core_read, lack_of, port_read, ports_read, reply, runs_in, side_read, unhandled_after}
-use Rattle.node_laws.specs.answers.Moments.{unhandled_in, until}
+use Rattle.node_laws.specs.answers.Moments.{Moment, end_read, is_up_read, lack_of, own_read, reply, runs_in, spare_read, unhandled_after, unhandled_in}
+use Rattle.node_laws.specs.answers.Moments.{until}
 use Rattle.node_laws.proofs.replies.Turns.{lack_alike}
 use Rattle.node_laws.proofs.worlds.Hearing.{IsFrame}
 use Rattle.node_laws.proofs.worlds.Resting.{idle_unhandled, other_end, others_idle}
-use Rattle.node_laws.proofs.hosts.Alike.{host_same}
 use Rattle.node_laws.proofs.hosts.Standing.{not_book, not_init, not_silent}
-use Rattle.node_laws.proofs.hosts.Turns.{far_deeds}
+use Rattle.node_laws.proofs.hosts.Turns.{far_reply, linked_far}
 
 -- ## Entries that change nothing
 
@@ -219,47 +215,40 @@ module _ (n : ℕ) where
 -- behind those entries as behind these
 module _ (hosts : List ℕ) (n : ℕ) (off : eqb n 0 ≡ false) (t s : List Entry) (session : session_now s (end_h n) n ≡ session_now t (end_h n) n)
     (spares : spare_at s (end_h n) ≡ spare_at t (end_h n)) (errors : errors_in s (end_h n) ≡ errors_in t (end_h n)) where
-  abbrev read : List Entry → Port
-  read u = port_read u n n
-
   at_end : end_of_number n n ≡ end_h n
   at_end = rw off refl
 
-  side_same : (read s).side ≡ (read t).side
-  side_same =
-      let ends : (Q : End → Type 0) → Q (end_h n) → Q (end_of_number n n) = λ Q q. subst Q (sym at_end) q in
-      ap₂ (λ o k. side_read (is_some o) k)
-      (ends (λ z. session_now s z n ≡ session_now t z n) session) (ends (λ z. spare_at s z ≡ spare_at t z) spares)
+  up_same : is_up_read s n n ≡ is_up_read t n n
+  up_same = ap is_some (subst (λ z. session_now s z n ≡ session_now t z n) (sym at_end) session)
 
-  errors_same : (read s).desk.errors ≡ (read t).desk.errors
+  errors_same : errors_in s (end_of_number n n) ≡ errors_in t (end_of_number n n)
   errors_same = subst (λ z. errors_in s z ≡ errors_in t z) (sym at_end) errors
 
-  ports_of : (u : List Entry) → ports_read hosts u n ≡ read u ∷ []
-  ports_of u = ap (λ b. map (port_read u n) (cond b hosts (n ∷ []))) off
+  end_same : end_read s n n ≡ end_read t n n
+  end_same = λ i. record { up = up_same i; errors = errors_same i }
 
-  shown : (m : Moment) (message : Message) → reply hosts m (end_h n) message ≡ host_deeds (core_read m n) (read (until m)) message
-  shown m message =
-      far_deeds (core_read m n) (ports_read hosts (until m) n) n message (read (until m)) off
-      (ap (λ ps. port_at ps n) (ports_of (until m)) ∙ cond-true (eqb n n) (Some (read (until m))) None (same_number n))
+  spares_same : (j : ℕ) → spare_read hosts s n j ≡ spare_read hosts t n j
+  spares_same j =
+      ap (λ b. cond b (spare_at s (end_of_number n j)) 0) (linked_far hosts n off j)
+      ∙ (by (cases_Bool (eqb n j)) ∙ sym (ap (λ b. cond b (spare_at t (end_of_number n j)) 0) (linked_far hosts n off j))) where
+        own : spare_at s (end_of_number n n) ≡ spare_at t (end_of_number n n)
+        own = subst (λ z. spare_at s z ≡ spare_at t z) (sym at_end) spares
 
-  spares_same : (j : ℕ) → option_map_or (λ (p : Port). spare p.side) (port_at (read s ∷ []) j) 0
-      ≡ option_map_or (λ (p : Port). spare p.side) (port_at (read t ∷ []) j) 0
-  spares_same j = by (eqb n j) where
-    by : (b : Bool) → option_map_or (λ (p : Port). spare p.side) (cond b (Some (read s)) None) 0
-        ≡ option_map_or (λ (p : Port). spare p.side) (cond b (Some (read t)) None) 0
-    by true = ap (λ (l : LinkEnd). spare l) side_same
-    by false = refl
+        by : (eqb n j ≡ true) ⊎ (eqb n j ≡ false)
+            → cond (eqb n j) (spare_at s (end_of_number n j)) 0 ≡ cond (eqb n j) (spare_at t (end_of_number n j)) 0
+        by (inl z) =
+            ap (λ x. cond (eqb n j) x 0) (subst (λ x. spare_at s (end_of_number n x) ≡ spare_at t (end_of_number n x)) (eqb-true n j z) own)
+        by (inr z) = ap (λ b. cond b (spare_at s (end_of_number n j)) 0) z ∙ sym (ap (λ b. cond b (spare_at t (end_of_number n j)) 0) z)
 
-  pub lack_same : (m l : Moment) → until m ≡ s → until l ≡ t → core_read m n ≡ core_read l n → (message : Message)
+  pub lack_same : (m l : Moment) → until m ≡ s → until l ≡ t → own_read m n ≡ own_read l n → (message : Message)
       → lack_of hosts m (end_h n) message ≡ lack_of hosts l (end_h n) message
-  lack_same m l here there core message =
-      let one : reply hosts m (end_h n) message ≡ host_deeds (core_read m n) (read s) message =
-      shown m message ∙ ap (λ u. host_deeds (core_read m n) (read u) message) here in
-      let two : reply hosts l (end_h n) message ≡ host_deeds (core_read l n) (read t) message =
-      shown l message ∙ ap (λ u. host_deeds (core_read l n) (read u) message) there in
+  lack_same m l here there kept message =
+      let one : reply hosts m (end_h n) message ≡ host_deeds (own_read m n) (end_read s n n) message =
+      far_reply hosts n off m message ∙ ap (λ u. host_deeds (own_read m n) (end_read u n n) message) here in
+      let two : reply hosts l (end_h n) message ≡ host_deeds (own_read l n) (end_read t n n) message =
+      far_reply hosts n off l message ∙ ap (λ u. host_deeds (own_read l n) (end_read u n n) message) there in
       let same : reply hosts m (end_h n) message ≡ reply hosts l (end_h n) message =
-      one ∙ (ap (λ c. host_deeds c (read s) message) core
-      ∙ (host_same (core_read l n) (read s) (read t) message (ap (λ (x : LinkEnd). is_up x.shdlc.phase) side_same) errors_same ∙ sym two)) in
-      ap₂ (λ ps d. lack ps (needs n d)) (ap (λ u. ports_read hosts u n) here ∙ ports_of s) same
-      ∙ (lack_alike (read s ∷ []) (read t ∷ []) spares_same (needs n (reply hosts l (end_h n) message))
-      ∙ ap (λ ps. lack ps (needs n (reply hosts l (end_h n) message))) (sym (ap (λ u. ports_read hosts u n) there ∙ ports_of t)))
+      one ∙ (ap₂ (λ o e. host_deeds o e message) kept end_same ∙ sym two) in
+      ap₂ (λ u d. first_lack (spare_read hosts u n) (needs n d)) here same
+      ∙ (lack_alike (spare_read hosts s n) (spare_read hosts t n) spares_same (needs n (reply hosts l (end_h n) message))
+      ∙ ap (λ u. first_lack (spare_read hosts u n) (needs n (reply hosts l (end_h n) message))) (sym there))

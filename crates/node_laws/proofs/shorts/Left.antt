@@ -36,7 +36,7 @@ use Rattle.node_laws.specs.views.Inits.{init_begun, init_in}
 use Rattle.node_laws.proofs.views.Answering.{init_append, reads_init}
 use Rattle.node_laws.proofs.views.Leaving.{IsRead, Leaves, leaves_all, plainly, reads, reads_append}
 use Rattle.node_laws.specs.answers.Answered.{as_left, is_later, is_left_short, through}
-use Rattle.node_laws.specs.answers.Moments.{Moment, core_read, lack_at, lack_of, runs_in, unhandled_in, until}
+use Rattle.node_laws.specs.answers.Moments.{Moment, own_read, lack_at, lack_of, runs_in, unhandled_in, until}
 use Rattle.node_laws.specs.reply_passes.Counts.{commands_noted as commits}
 use Rattle.node_laws.proofs.reply_passes.Growing.{commits-append}
 use Rattle.node_laws.proofs.reply_passes.Sides.{AreNoBoots}
@@ -201,10 +201,10 @@ module _ (hosts : List ℕ) (n : ℕ) (host : IsHost n) (past : List Occurrence)
       with_so_far : List Entry → Option Init
       with_so_far s = reads_init n s (init_begun n (init_in past n) cause)
 
-      init_is : (core_read early n).init ≡ reads_init n v.entries i
+      init_is : (own_read early n).init ≡ reads_init n v.entries i
       init_is = ap (λ y. reads_init n (lead ++ v.entries) y) begun ∙ (init_append n lead v.entries i ∙ ap (λ y. reads_init n v.entries y) stays)
 
-      init_same : (core_read late n).init ≡ (core_read early n).init
+      init_same : (own_read late n).init ≡ (own_read early n).init
       init_same =
           ap with_so_far so_far
           ∙ (init_append n (lead ++ v.entries) es (init_begun n (init_in past n) cause) ∙ init_calm n es (with_so_far (lead ++ v.entries)) es_calm)
@@ -212,12 +212,12 @@ module _ (hosts : List ℕ) (n : ℕ) (host : IsHost n) (past : List Occurrence)
       k : HostKnows n host t i (errors_behind n t) b.memory b.order_phase b.init_phase v
       k = known hosts n host t i w on b unbooted few v l.comes
 
-      core : core_read late n ≡ core_read early n
+      core : own_read late n ≡ own_read early n
       core =
-          ap₂ (λ (tables : HciTables) (order : Option (List ℕ)). record (core_read late n) { tables = tables; command = order })
+          ap₂ (λ (tables : HciTables) (order : Option (List ℕ)). record (own_read late n) { tables = tables; command = order })
           (ap (λ s. tables_in s n) late_is ∙ (tables_calm n told es es_calm ∙ ap (λ s. tables_in s n) (sym early_is)))
           (ap (λ s. order_in s n) late_is ∙ (order_calm n told es es_calm ∙ ap (λ s. order_in s n) (sym early_is)))
-          ∙ ap (λ (y : Option Init). record (core_read early n) { init = y }) init_same
+          ∙ ap (λ (y : Option Init). record (own_read early n) { init = y }) init_same
 
       errors_same : errors_in (told ++ es) (end_h n) ≡ errors_in told (end_h n)
       errors_same =

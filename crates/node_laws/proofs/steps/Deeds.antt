@@ -11,7 +11,7 @@ use Rattle.tables_laws.proofs.gate.Decisions.{decided_as_allowed}
 use Rattle.link_laws.specs.machine.Machine.{Message}
 use Rattle.node_machine.specs.Parts.{Core, Port}
 use Rattle.node_machine.specs.Parts.Deed.{Tells}
-use Rattle.node_machine.specs.Controller.{view_for, controller_deeds}
+use Rattle.node_machine.specs.Controller.{view_for, controller_deeds, view_of}
 use Rattle.node_laws.specs.steps.Creations.{IsAllowedDeed, AreAllowedDeeds}
 use Rattle.node_machine.proofs.Walks.{Plain, OfDecision, anyone, all_of_controller}
 
@@ -24,7 +24,7 @@ decision_fine t ports h (Commit c answer tell notice) fine =
     (inl fine, anyone (λ y. IsAllowedDeed t ports h (Tells y notice.items)) (λ y. tt) (hosts_where (has tell)))
 decision_fine t ports h (Ask asked notice c answer) fine = (fine, refl)
 
-pub controller_fine : (core : Core) (ports : List Port) (h : ℕ) (m : Message) → AreAllowedDeeds core.tables ports h (controller_deeds core ports h m)
+pub controller_fine : (core : Core) (ports : List Port) (h : ℕ) (m : Message) → AreAllowedDeeds core.tables ports h (controller_deeds (view_of core ports) h m)
 controller_fine core ports h m =
     all_of_controller (IsAllowedDeed core.tables ports h) (plain core.tables ports h) core ports h m
     (λ n. decision_fine core.tables ports h (decided core.tables (view_for core.tables ports h) h m.0 n (body_in m.1))

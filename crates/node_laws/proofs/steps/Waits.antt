@@ -16,7 +16,7 @@ use Rattle.link_laws.specs.machine.Machine.{Message}
 use Rattle.node_machine.specs.Parts.{Creation, About, Notice, Core, Port, Deed}
 use Rattle.node_machine.specs.Parts.About.{Waits, Forgotten, Removed}
 use Rattle.node_machine.specs.Parts.Deed.{Commits, Asks}
-use Rattle.node_machine.specs.Controller.{creation_in, asked_at, is_asked_at, view_for, controller_deeds}
+use Rattle.node_machine.specs.Controller.{creation_in, asked_at, is_asked_at, view_for, controller_deeds, view_of}
 use Rattle.node_machine.specs.world.NodeLegal.{IsAllowedBy}
 use Rattle.node_laws.specs.steps.Creations.{IsWaitedFor, IsAllowedDeed, DeedLeavesWhitelist, IsBeingAsked, IsMaking, WaitsForPipes}
 use Rattle.node_laws.specs.steps.Waiting.{IsAllowedFor, MayWait, IsAllowedStill}
@@ -132,8 +132,8 @@ module _ (core : Core) (ports : List Port) (h : ℕ) (sorted : AreTables core.ta
   all_of [] a b = tt
   all_of (d ∷ deeds) a b = (one d a.0 b.0, all_of deeds a.1 b.1)
 
-  pub message_allowed : (m : Message) → AllByRecursion (IsAllowedStill core.tables ports) (controller_deeds core ports h m)
+  pub message_allowed : (m : Message) → AllByRecursion (IsAllowedStill core.tables ports) (controller_deeds (view_of core ports) h m)
   message_allowed m =
-      all_of (controller_deeds core ports h m) (controller_fine core ports h m)
-      (swapped (λ (x : Asked ports). DeedLeavesWhitelist x.host) (controller_deeds core ports h m)
+      all_of (controller_deeds (view_of core ports) h m) (controller_fine core ports h m)
+      (swapped (λ (x : Asked ports). DeedLeavesWhitelist x.host) (controller_deeds (view_of core ports) h m)
       (λ x. whitelists_stay core ports h m x.host x.asked (waits_for_pipes core.tables ports h may)))

@@ -18,7 +18,7 @@ use Rattle.link_laws.specs.machine.Machine.{Message}
 use Rattle.node_machine.specs.Parts.{Core, Port}
 use Rattle.node_machine.specs.Parts.Deed.{Tells}
 use Rattle.node_machine.specs.Carrying.{port_at}
-use Rattle.node_machine.specs.Controller.{is_asked_at, view_for, controller_deeds}
+use Rattle.node_machine.specs.Controller.{is_asked_at, view_for, controller_deeds, view_of}
 use Rattle.node_laws.specs.steps.Creations.{LeavesWhitelist, DeedLeavesWhitelist, IsBeingAsked, IsMaking, WaitsForPipes}
 use Rattle.tables_laws.proofs.gate.Decisions.{decided_holds}
 use Rattle.node_laws.proofs.steps.Masks.{is_in_mask}
@@ -91,7 +91,7 @@ seen t ports h x asks =
     (ap (λ o. option_map_or is_asked_at o false) asks.here ∙ asks.asked)
 
 pub whitelists_stay : (core : Core) (ports : List Port) (h : ℕ) (m : Message) (x : ℕ) → IsBeingAsked ports x → WaitsForPipes ports h
-    → AllByRecursion (DeedLeavesWhitelist x) (controller_deeds core ports h m)
+    → AllByRecursion (DeedLeavesWhitelist x) (controller_deeds (view_of core ports) h m)
 whitelists_stay core ports h m x asked waits =
     let v : LinkView = view_for core.tables ports h in
     all_of_controller (DeedLeavesWhitelist x) (plain x) core ports h m

@@ -24,7 +24,7 @@ use Rattle.history.specs.Filters.{same_end}
 use Rattle.history.specs.Steps.{end_of}
 use Rattle.node_machine.specs.Parts.{Init, Core, Port, Deed}
 use Rattle.node_machine.specs.Parts.Deed.{Commits, Sends, SaysOk, Asks, Releases, Tells, IsAnswered, Drops, SetsErrors, Orders, Hears, GoesOn, Ends}
-use Rattle.node_machine.specs.Carrying.{own_side, end_of_node}
+use Rattle.node_machine.specs.Carrying.{own_side, end_of_node, own_view, end_view}
 use Rattle.node_machine.specs.HostReplies.{learns, init_deeds, learned, response_deeds, is_gate, gate_of_pipe, ordered_deeds, host_deeds}
 use Rattle.node_machine.specs.world.World.{end_h}
 use Rattle.node_machine.specs.world.NodeFilters.{is_response}
@@ -57,13 +57,13 @@ AreNeutral deeds = AllByRecursion IsNeutral deeds
 plain : Plain IsNeutral
 plain = record { sends = λ to x. tt; says_ok = tt; releases = λ asker. tt; is_answered = tt; drops = λ pid. tt }
 
-ordered_neutral : (core : Core) (errors pipe n : ℕ) (body : List ℕ) → AreNeutral (ordered_deeds core errors pipe n body)
+ordered_neutral : (core : Core) (errors pipe n : ℕ) (body : List ℕ) → AreNeutral (ordered_deeds (own_view core) errors pipe n body)
 ordered_neutral core errors pipe n body = all_ordered IsNeutral core plain (λ c. tt) errors pipe n body (λ zero value is. tt)
 
-learns_neutral : (core : Core) (c : Command) → AreNeutral (learns core c)
+learns_neutral : (core : Core) (c : Command) → AreNeutral (learns (own_view core) c)
 learns_neutral core c = learns_holds AreNeutral core tt (λ c may room. (tt, tt)) c
 
-learned_neutral : (core : Core) (order value : List ℕ) → AreNeutral (learned core order value)
+learned_neutral : (core : Core) (order value : List ℕ) → AreNeutral (learned (own_view core) order value)
 learned_neutral core order value = learned_holds AreNeutral core tt (λ c may room. (tt, tt)) order value
 
 module _ (h : ℕ) (now : LinkState) where
@@ -111,13 +111,14 @@ module _ (h : ℕ) (now : LinkState) where
     ended y command is = (is, λ some. absurd (true≢false (sym some)))
 
     -- a response came to a command of an init, and one more is read as answered
-    init_go : (code : ℕ) (value : List ℕ) (init : Option Init) → now ≡ Up → MayGo (option_map with_response init) None init (init_deeds core code value init)
+    init_go : (code : ℕ) (value : List ℕ) (init : Option Init) → now ≡ Up
+        → MayGo (option_map with_response init) None init (init_deeds (own_view core) code value init)
     init_go code value None up = ended None None refl
     init_go code value (Some i) up = init_holds (MayGo (Some (with_response i)) None (Some i)) core i code value (record {
       same = ended _ None (over (Some (with_response i)));
       failed = λ code. ended _ None (over (Some (with_response i)));
       made =
-          neutral_go (Some (with_response i)) None (Some i) (learns core (Set core.node 0 1 (record { items = i.identity })))
+          neutral_go (Some (with_response i)) None (Some i) (learns (own_view core) (Set core.node 0 1 (record { items = i.identity })))
           (Ends (InitMade (end_of_node core core.node) (length i.pipes)) ∷ []) (learns_neutral core (Set core.node 0 1 (record { items = i.identity })))
           (ended _ None (over (Some (with_response i))));
       next = λ order is. (refl, λ some. (refl, up));
@@ -128,25 +129,27 @@ module _ (h : ℕ) (now : LinkState) where
     none_of (Some i) e = absurd (e refl)
 
     response_go : (code : ℕ) (value : List ℕ) → now ≡ Up → (is_some core.init ≡ true → is_some core.command ≡ true)
-        → MayGo (option_map with_response core.init) core.command core.init (response_deeds core code value)
+        → MayGo (option_map with_response core.init) core.command core.init (response_deeds (own_view core) code value)
     response_go code value up waits = by core.command refl where
       none_is : core.command ≡ None → core.init ≡ None
       none_is q = none_of core.init (λ some. true≢false (sym (waits some) ∙ ap is_some q))
 
-      silent_is : core.command ≡ None → response_deeds core code value ≡ []
+      silent_is : core.command ≡ None → response_deeds (own_view core) code value ≡ []
       silent_is q = rw q refl
 
       heard_is : (order : List ℕ) → core.command ≡ Some order
-          → response_deeds core code value ≡ Hears ∷ cond (eqb code 0) (learned core order value) [] ++ init_deeds core code value core.init
+          → response_deeds (own_view core) code value
+          ≡ Hears ∷ cond (eqb code 0) (learned (own_view core) order value) [] ++ init_deeds (own_view core) code value core.init
       heard_is order q = rw q refl
 
-      by : (o : Option (List ℕ)) → core.command ≡ o → MayGo (option_map with_response core.init) core.command core.init (response_deeds core code value)
+      by : (o : Option (List ℕ)) → core.command ≡ o
+          → MayGo (option_map with_response core.init) core.command core.init (response_deeds (own_view core) code value)
       by None q = subst (MayGo (option_map with_response core.init) core.command core.init) (sym (silent_is q))
           (subst (λ i. MayGo (option_map with_response i) core.command i []) (sym (none_is q)) (ended None core.command refl))
       by (Some order) q = subst (MayGo (option_map with_response core.init) core.command core.init) (sym (heard_is order q))
-          (neutral_go (option_map with_response core.init) None core.init (cond (eqb code 0) (learned core order value) [])
-          (init_deeds core code value core.init)
-          (cond_both (eqb code 0) (learned core order value) [] AreNeutral (λ _. learned_neutral core order value) (λ _. tt))
+          (neutral_go (option_map with_response core.init) None core.init (cond (eqb code 0) (learned (own_view core) order value) [])
+          (init_deeds (own_view core) code value core.init)
+          (cond_both (eqb code 0) (learned (own_view core) order value) [] AreNeutral (λ _. learned_neutral core order value) (λ _. tt))
           (init_go code value core.init up))
 
     -- what is read of the init behind the turn of a message
@@ -166,7 +169,7 @@ module _ (h : ℕ) (now : LinkState) where
 
     -- what a host does with a message
     pub host_go : (p : Port) (m : Message) → p.side.shdlc.phase ≡ now → (is_some core.init ≡ true → (is_some core.command ≡ true) × (now ≡ Up))
-        → MayGo (answered_by m core.init) core.command core.init (host_deeds core p m)
+        → MayGo (answered_by m core.init) core.command core.init (host_deeds (own_view core) (end_view p) m)
     host_go p m phase waits = go (is_up p.side.shdlc.phase) (header_of m.1) refl refl where
       Fine : List Deed → Type 0
       Fine deeds = MayGo (answered_by m core.init) core.command core.init deeds
@@ -186,41 +189,44 @@ module _ (h : ℕ) (now : LinkState) where
       same_none i e = subst (λ i. answered_by m i ≡ i) (sym e) (cond_both (eqb m.0 1 && is_response m.1) None None (λ (o : Option Init). o ≡ None) (λ _. refl)
           (λ _. refl))
 
-      go : (b : Bool) (x : Result (MessageKind × ℕ) MessageFault) → is_up p.side.shdlc.phase ≡ b → header_of m.1 ≡ x → Fine (host_deeds core p m)
+      go : (b : Bool) (x : Result (MessageKind × ℕ) MessageFault) → is_up p.side.shdlc.phase ≡ b → header_of m.1 ≡ x
+          → Fine (host_deeds (own_view core) (end_view p) m)
       go false x q z = rw q (neutral_all (answered_by m core.init) (Drops m.0 ∷ []) (same_none core.init (none_there q)) waits (tt, tt))
       go true (Ok (IsCommand, n)) q z =
           let other : is_response m.1 ≡ false = rw z refl in
-          let shown : host_deeds core p m ≡ ordered_deeds core p.desk.errors m.0 n (body_in m.1) = rw (q, z) refl in
+          let shown : host_deeds (own_view core) (end_view p) m ≡ ordered_deeds (own_view core) p.desk.errors m.0 n (body_in m.1) = rw (q, z) refl in
           subst Fine (sym shown)
-          (neutral_all (answered_by m core.init) (ordered_deeds core p.desk.errors m.0 n (body_in m.1)) (not_answered m core.init other) waits
+          (neutral_all (answered_by m core.init) (ordered_deeds (own_view core) p.desk.errors m.0 n (body_in m.1)) (not_answered m core.init other) waits
           (ordered_neutral core p.desk.errors m.0 n (body_in m.1)))
-      go true (Ok (IsEvent, n)) q z = by (is_gate 4 (gate_of_pipe core m.0) && posts_back m.1) refl where
+      go true (Ok (IsEvent, n)) q z = by (is_gate 4 (gate_of_pipe (own_view core) m.0) && posts_back m.1) refl where
         other : is_response m.1 ≡ false
         other = rw z refl
 
-        shown : (b : Bool) → (is_gate 4 (gate_of_pipe core m.0) && posts_back m.1) ≡ b → host_deeds core p m ≡ cond b (Sends core.node m ∷ []) []
+        shown : (b : Bool) → (is_gate 4 (gate_of_pipe (own_view core) m.0) && posts_back m.1) ≡ b
+            → host_deeds (own_view core) (end_view p) m ≡ cond b (Sends core.node m ∷ []) []
         shown b e = rw (q, z) (ap (λ c. cond c (Sends core.node m ∷ []) []) e)
 
-        by : (b : Bool) → (is_gate 4 (gate_of_pipe core m.0) && posts_back m.1) ≡ b → Fine (host_deeds core p m)
+        by : (b : Bool) → (is_gate 4 (gate_of_pipe (own_view core) m.0) && posts_back m.1) ≡ b → Fine (host_deeds (own_view core) (end_view p) m)
         by b e = subst Fine (sym (shown b e)) (neutral_all (answered_by m core.init) (cond b (Sends core.node m ∷ []) []) (not_answered m core.init other) waits
             (cond_both b (Sends core.node m ∷ []) [] AreNeutral (λ _. (tt, tt)) (λ _. tt)))
       go true (Err fault) q z =
           let other : is_response m.1 ≡ false = rw z refl in
-          let shown : host_deeds core p m ≡ [] = rw (q, z) refl in
+          let shown : host_deeds (own_view core) (end_view p) m ≡ [] = rw (q, z) refl in
           subst Fine (sym shown) (neutral_all (answered_by m core.init) [] (not_answered m core.init other) waits tt)
       go true (Ok (IsResponse, n)) q z = subst Fine (sym shown) (by_pipe (cases_Bool (eqb m.0 1))) where
         yes : is_response m.1 ≡ true
         yes = rw z refl
 
-        shown : host_deeds core p m ≡ cond (eqb m.0 1) (response_deeds core n (body_in m.1)) []
+        shown : host_deeds (own_view core) (end_view p) m ≡ cond (eqb m.0 1) (response_deeds (own_view core) n (body_in m.1)) []
         shown = rw (q, z) refl
 
-        by_pipe : (eqb m.0 1 ≡ true) ⊎ (eqb m.0 1 ≡ false) → Fine (cond (eqb m.0 1) (response_deeds core n (body_in m.1)) [])
+        by_pipe : (eqb m.0 1 ≡ true) ⊎ (eqb m.0 1 ≡ false) → Fine (cond (eqb m.0 1) (response_deeds (own_view core) n (body_in m.1)) [])
         by_pipe (inl one) =
             subst (λ b. MayGo (cond (b && is_response m.1) (option_map with_response core.init) core.init) core.command core.init (cond b
-            (response_deeds core n (body_in m.1)) [])) (sym one) (subst (λ b. MayGo
+            (response_deeds (own_view core) n (body_in m.1)) [])) (sym one) (subst (λ b. MayGo
             (cond b (option_map with_response core.init) core.init) core.command core.init
-            (response_deeds core n (body_in m.1))) (sym yes) (response_go n (body_in m.1) (sym phase ∙ up_of p.side.shdlc.phase q) (λ some. (waits some).0)))
+            (response_deeds (own_view core) n (body_in m.1))) (sym yes)
+            (response_go n (body_in m.1) (sym phase ∙ up_of p.side.shdlc.phase q) (λ some. (waits some).0)))
         by_pipe (inr off) =
             subst (λ b. MayGo (cond (b && is_response m.1) (option_map with_response core.init) core.init) core.command core.init (cond b
-            (response_deeds core n (body_in m.1)) [])) (sym off) (neutral_all core.init [] refl waits tt)
+            (response_deeds (own_view core) n (body_in m.1)) [])) (sym off) (neutral_all core.init [] refl waits tt)

@@ -15,8 +15,8 @@ use Rattle.link_laws.specs.entries.Entries.Entry.{Up, Down, Active, GaveUp, Acke
 use Rattle.history.specs.Filters.{same_end}
 use Rattle.history.specs.Steps.{entries_for, entry_of, end_of}
 use Rattle.node_machine.specs.Parts.{Init, Core, Desk, Running, Port, Deed}
-use Rattle.node_machine.specs.Carrying.{end_of_node, port_at}
-use Rattle.node_machine.specs.Controller.{controller_deeds}
+use Rattle.node_machine.specs.Carrying.{end_of_node, port_at, own_view, end_view}
+use Rattle.node_machine.specs.Controller.{controller_deeds, view_of}
 use Rattle.node_machine.specs.HostReplies.{host_deeds}
 use Rattle.node_machine.specs.Turns.{deeds_of}
 use Rattle.node_machine.specs.Node.{NodeInput, steps, begins_with}
@@ -83,8 +83,8 @@ module _ (h n : ℕ) (other : eqb n h ≡ false) (who : Side) (is_side : cond (e
   deeds_leave : (core : Core) (ports : List Port) (k : ℕ) (m : Message) → core.node ≡ n → AllByRecursion (NotesSo (LeavesInit h)) (deeds_of core ports k m)
   deeds_leave core ports k m number = go (eqb core.node 0) refl where
     by : Bool → List Deed
-    by true = controller_deeds core ports k m
-    by false = option_map_or (λ p. host_deeds core p m) (port_at ports k) []
+    by true = controller_deeds (view_of core ports) k m
+    by false = option_map_or (λ e. host_deeds (own_view core) e m) (option_map end_view (port_at ports k)) []
 
     own_off : eqb core.node 0 ≡ false → same_end (end_of_node core core.node) (end_h h) ≡ false
     own_off q = ap (λ b. same_end (end_of core.node (cond b Controller Host)) (end_h h)) q
@@ -93,7 +93,8 @@ module _ (h n : ℕ) (other : eqb n h ≡ false) (who : Side) (is_side : cond (e
           right true = refl
           right false = refl
 
-    one : eqb core.node 0 ≡ false → (o : Option Port) → AllByRecursion (NotesSo (LeavesInit h)) (option_map_or (λ p. host_deeds core p m) o [])
+    one : eqb core.node 0 ≡ false → (o : Option Port)
+        → AllByRecursion (NotesSo (LeavesInit h)) (option_map_or (λ e. host_deeds (own_view core) e m) (option_map end_view o) [])
     one q None = tt
     one q (Some p) = host_notes (LeavesInit h) core (λ y. off_cond (same_end (end_of_node core core.node) (end_h h)) None y (own_off q))
         (λ count y. off_cond (same_end (end_of_node core core.node) (end_h h)) None y (own_off q))

@@ -25,7 +25,7 @@ use Rattle.history.specs.Steps.{end_of, entries_for}
 use Rattle.node_machine.specs.Parts.{Init, Desk, Core, Port, Work, Deed}
 use Rattle.node_machine.specs.Parts.Deed.{Commits, Sends, SaysOk, Asks, Releases, Tells, IsAnswered, Drops, SetsErrors, Orders, Hears, GoesOn, Ends}
 use Rattle.node_machine.specs.Carrying.{own_side, noting, unless_cut, port_at, changed_if, with_port, with_desk, after_turn, noted_of, turn_at, loses_power}
-use Rattle.node_machine.specs.Carrying.{keeps, commit, done, all_done, end_of_node, needs, lack}
+use Rattle.node_machine.specs.Carrying.{keeps, commit, done, all_done, end_of_node, needs, lack, own_view, end_view}
 use Rattle.node_machine.specs.HostReplies.{host_deeds}
 use Rattle.node_machine.specs.Turns.{deeds_of, handles, holds_back, lets_go, have_turns, goes_through_ends, passes}
 use Rattle.node_machine.specs.Node.{told_at}
@@ -235,8 +235,10 @@ module _ (h : ℕ) (host : IsHost h) (i0 : Option Init) where
     side_of_host : (w : Work) → Base now w → own_side w.core ≡ Host
     side_of_host w b = host_side w.core h host b.number
 
-    pub handled : (m : Message) (w : Work) → w.cut ≡ false → Stands now w → (b : Base now w) → Stands now (handles h m (host_deeds w.core b.port m) w)
-    handled m w on s b = all_go h (host_deeds w.core b.port m) fetched (answered_by h now w.core b.number (side_of_host w b) m w.core.init) on
+    pub handled : (m : Message) (w : Work) → w.cut ≡ false → Stands now w → (b : Base now w)
+        → Stands now (handles h m (host_deeds (own_view w.core) (end_view b.port) m) w)
+    handled m w on s b =
+        all_go h (host_deeds (own_view w.core) (end_view b.port) m) fetched (answered_by h now w.core b.number (side_of_host w b) m w.core.init) on
         (desked h (λ d. record d { holds = false }) (turn_at h FetchMessage said) (λ d. refl) (λ d is. is) (turned h FetchMessage said said refl refl
         (same_base w said refl refl b))) (turn_seen h FetchMessage said (answered_by h now w.core b.number (side_of_host w b) m w.core.init) read)
         (host_go h now w.core b.number (side_of_host w b) b.port m b.phase (s.on on).1) where
@@ -305,7 +307,7 @@ module _ (h : ℕ) (host : IsHost h) (i0 : Option Init) where
           sym (ap (λ c. cond c Rattle.link_laws.specs.entries.Entries.End.Controller Host) q)
           ∙ side_of_host w b in absurd (cc no)
 
-    pub deeds_is : (m : Message) (w : Work) (b : Base now w) → deeds_of w.core w.ports h m ≡ host_deeds w.core b.port m
+    pub deeds_is : (m : Message) (w : Work) (b : Base now w) → deeds_of w.core w.ports h m ≡ host_deeds (own_view w.core) (end_view b.port) m
     deeds_is m w b =
         let here : port_at w.ports h ≡ Some b.port = ap (λ ps. port_at ps h) b.is ∙ cond-true (eqb b.port.desk.host h) (Some b.port) None
         (eq-eqb b.port.desk.host h b.at) in rw (node_off w b, here) refl

@@ -26,8 +26,8 @@ use Rattle.gate_link.specs.Link.{link_served, tests_to_set_errors, link_unless_r
 use Rattle.link_laws.specs.machine.Machine.{Message}
 use Rattle.node_machine.specs.Parts.{Core, Port, Deed}
 use Rattle.node_machine.specs.Parts.Deed.{Sends, Tells, Drops, SetsErrors, Ends}
-use Rattle.node_machine.specs.Carrying.{port_at}
-use Rattle.node_machine.specs.Controller.{has_link, asks_for, view_for, decision_deeds, link_deeds, own_gate, goes_through, served_at, relayed_to}
+use Rattle.node_machine.specs.Carrying.{port_at, own_view, end_view}
+use Rattle.node_machine.specs.Controller.{has_link, asks_for, view_for, decision_deeds, link_deeds, own_gate, goes_through, served_at, relayed_to, view_of}
 use Rattle.node_machine.specs.Controller.{unless_asking, kind_deeds, own_deeds, deeds_by_relay, command_deeds, controller_deeds}
 use Rattle.node_machine.specs.HostReplies.{ordered_deeds, host_deeds}
 use Rattle.node_machine.proofs.Walks.{Plain, OfDecision, OfHost, anyone, all_of_controller, all_of_host}
@@ -126,14 +126,14 @@ decision_unset h (Commit c answer tell notice) = (tt, anyone (λ y. IsUnset (Tel
 decision_unset h (Ask asked notice c answer) = tt
 
 pub controller_unset : (core : Core) (ports : List Port) (h : ℕ) (m : Message)
-    → SetsNone (is_link_gate (own_gate core.tables h m.0)) (errors_set_by m.1) → AreUnset (controller_deeds core ports h m)
+    → SetsNone (is_link_gate (own_gate core.tables h m.0)) (errors_set_by m.1) → AreUnset (controller_deeds (view_of core ports) h m)
 controller_unset core ports h m none =
     all_of_controller IsUnset plain core ports h m
     (λ n. decision_unset h (decided core.tables (view_for core.tables ports h) h m.0 n (body_in m.1))) (λ p c here asked. tt)
     (λ errors n value command gate is.
     sets_nothing errors n value m command (subst (λ b. SetsNone b (errors_set_by m.1)) (ap is_link_gate gate) none) is)
 
-pub host_unset : (core : Core) (p : Port) (m : Message) → SetsNone (eqb m.0 0) (errors_set_by m.1) → AreUnset (host_deeds core p m)
+pub host_unset : (core : Core) (p : Port) (m : Message) → SetsNone (eqb m.0 0) (errors_set_by m.1) → AreUnset (host_deeds (own_view core) (end_view p) m)
 host_unset core p m none =
     all_of_host IsUnset core plain (own core) p m
     (λ n value command zero is. sets_nothing p.desk.errors n value m command (subst (λ b. SetsNone b (errors_set_by m.1)) zero none) is)
@@ -193,7 +193,7 @@ gate_far t h pid is = by (far_end t h pid) refl where
         ap (λ a. both_of a gate) (eqb-true host 0 x) ∙ ap (both_of 0) (eqb-true gate 6 six)
 
 pub controller_sets : (core : Core) (ports : List Port) (h : ℕ) (m : Message) (v : ℕ) → is_link_gate (own_gate core.tables h m.0) ≡ true
-    → errors_set_by m.1 ≡ Some v → SetDeeds ports h m.0 v (controller_deeds core ports h m)
+    → errors_set_by m.1 ≡ Some v → SetDeeds ports h m.0 v (controller_deeds (view_of core ports) h m)
 controller_sets core ports h m v leads sets =
     subst (SetDeeds ports h m.0 v) (sym not_relayed) (by_link (has_link ports h) refl) where
       s : SetsBy m.1 v
@@ -208,8 +208,8 @@ controller_sets core ports h m v leads sets =
       relayed_none : relayed_to core.tables h m ≡ None
       relayed_none = rw far (cond_both _ None None (λ o. o ≡ None) (λ _. refl) (λ _. refl))
 
-      not_relayed : controller_deeds core ports h m ≡ own_deeds core ports h m (has_link ports h)
-      not_relayed = ap (deeds_by_relay core ports h m) relayed_none
+      not_relayed : controller_deeds (view_of core ports) h m ≡ own_deeds (view_of core ports) h m (has_link ports h)
+      not_relayed = ap (deeds_by_relay (view_of core ports) h m) relayed_none
 
       other_pipe : eqb m.0 1 ≡ false
       other_pipe = by (eqb m.0 1) refl where
@@ -218,8 +218,9 @@ controller_sets core ports h m v leads sets =
         by true q = let one : m.0 ≡ 1 = eqb-true m.0 1 q in
             let no : far_end core.tables h 1 ≡ both_of 0 6 = subst (λ n. far_end core.tables h n ≡ both_of 0 6) one far in absurd (cc no)
 
-      kind_is : kind_deeds core ports h m (header_of m.1) ≡ command_deeds core ports h m.0 s.instruction (body_in m.1)
-      kind_is = ap (kind_deeds core ports h m) s.header ∙ ap (λ b. unless_asking core ports h m s.instruction (b && asks_for ports h)) other_pipe
+      kind_is : kind_deeds (view_of core ports) h m (header_of m.1) ≡ command_deeds (view_of core ports) h m.0 s.instruction (body_in m.1)
+      kind_is = ap (kind_deeds (view_of core ports) h m) s.header
+          ∙ ap (λ b. unless_asking (view_of core ports) h m s.instruction (b && asks_for ports h)) other_pipe
 
       one_is : s.instruction ≡ 1
       one_is = eqb-true s.instruction 1 (set_is 0 s.instruction (body_in m.1) v s.sets).1
@@ -234,25 +235,26 @@ controller_sets core ports h m v leads sets =
         right false = refl
 
       command_is : (b : Bool) → is_opened core.tables h m.0 ≡ b
-          → command_deeds core ports h m.0 s.instruction (body_in m.1) ≡ served_at core view h m.0 s.instruction (body_in m.1) (cond b (Some 6) None)
+          → command_deeds (view_of core ports) h m.0 s.instruction (body_in m.1)
+          ≡ served_at (own_view core) view h m.0 s.instruction (body_in m.1) (cond b (Some 6) None)
       command_is b q =
-          ap (λ c. served_at core view h m.0 s.instruction (body_in m.1) (cond c (own_gate core.tables h m.0) None)) (through_is ∙ q)
-          ∙ ap (λ o. served_at core view h m.0 s.instruction (body_in m.1) (cond b o None)) gate_is
+          ap (λ c. served_at (own_view core) view h m.0 s.instruction (body_in m.1) (cond c (own_gate core.tables h m.0) None)) (through_is ∙ q)
+          ∙ ap (λ o. served_at (own_view core) view h m.0 s.instruction (body_in m.1) (cond b o None)) gate_is
 
       refused : is_opened core.tables h m.0 ≡ false → decided core.tables view h m.0 s.instruction (body_in m.1) ≡ answers response.PipeNotOpened []
       refused q = ap (λ n. decided core.tables view h m.0 n (body_in m.1)) one_is ∙ rw (far, q) refl
 
       by_opened : (b : Bool) → is_opened core.tables h m.0 ≡ b → IsUpAt ports h
-          → SetDeeds ports h m.0 v (command_deeds core ports h m.0 s.instruction (body_in m.1))
+          → SetDeeds ports h m.0 v (command_deeds (view_of core ports) h m.0 s.instruction (body_in m.1))
       by_opened true q up = IsSet up (command_is true q ∙ set_deeds h m.0 view.errors s.instruction v (body_in m.1) s.sets)
-      by_opened false q up = IsRefused up (command_is false q ∙ ap (decision_deeds core h m.0) (refused q))
+      by_opened false q up = IsRefused up (command_is false q ∙ ap (decision_deeds (own_view core) h m.0) (refused q))
 
-      by_link : (b : Bool) → has_link ports h ≡ b → SetDeeds ports h m.0 v (own_deeds core ports h m b)
+      by_link : (b : Bool) → has_link ports h ≡ b → SetDeeds ports h m.0 v (own_deeds (view_of core ports) h m b)
       by_link false q = IsDropped refl
       by_link true q = subst (SetDeeds ports h m.0 v) (sym kind_is) (by_opened (is_opened core.tables h m.0) refl (link_up ports h q))
 
 pub host_sets : (core : Core) (ports : List Port) (p : Port) (m : Message) (v : ℕ) → port_at ports core.node ≡ Some p → eqb m.0 0 ≡ true
-    → errors_set_by m.1 ≡ Some v → SetDeeds ports core.node m.0 v (host_deeds core p m)
+    → errors_set_by m.1 ≡ Some v → SetDeeds ports core.node m.0 v (host_deeds (own_view core) (end_view p) m)
 host_sets core ports p m v here zero sets = go (is_up p.side.shdlc.phase) refl where
   s : SetsBy m.1 v
   s = sets_by m.1 v sets
@@ -260,15 +262,16 @@ host_sets core ports p m v here zero sets = go (is_up p.side.shdlc.phase) refl w
   zero_is : m.0 ≡ 0
   zero_is = eqb-true m.0 0 zero
 
-  ordered_is : ordered_deeds core p.desk.errors m.0 s.instruction (body_in m.1)
+  ordered_is : ordered_deeds (own_view core) p.desk.errors m.0 s.instruction (body_in m.1)
       ≡ link_deeds core.node m.0 (link_served p.desk.errors s.instruction (body_in m.1))
   ordered_is =
-      ap (λ n. ordered_deeds core p.desk.errors n s.instruction (body_in m.1)) zero_is
+      ap (λ n. ordered_deeds (own_view core) p.desk.errors n s.instruction (body_in m.1)) zero_is
       ∙ ap (λ n. link_deeds core.node n (link_served p.desk.errors s.instruction (body_in m.1))) (sym zero_is)
 
-  go : (b : Bool) → is_up p.side.shdlc.phase ≡ b → SetDeeds ports core.node m.0 v (host_deeds core p m)
+  go : (b : Bool) → is_up p.side.shdlc.phase ≡ b → SetDeeds ports core.node m.0 v (host_deeds (own_view core) (end_view p) m)
   go false q = IsDropped (rw q refl)
   go true q =
-      let shown : host_deeds core p m ≡ ordered_deeds core p.desk.errors m.0 s.instruction (body_in m.1) = rw (q, s.header) refl in
+      let shown : host_deeds (own_view core) (end_view p) m
+      ≡ ordered_deeds (own_view core) p.desk.errors m.0 s.instruction (body_in m.1) = rw (q, s.header) refl in
       IsSet (record { port = p; here = here; up = up_is p.side.shdlc.phase q })
       (shown ∙ (ordered_is ∙ set_deeds core.node m.0 p.desk.errors s.instruction v (body_in m.1) s.sets))

@@ -20,8 +20,8 @@ use Rattle.history.specs.Steps.{end_of, entries_for}
 use Rattle.node_machine.specs.Parts.{Core, Port, Work, Deed}
 use Rattle.node_machine.specs.Parts.Deed.{Sends, Drops, SetsErrors}
 use Rattle.node_machine.specs.Carrying.{own_side, noting, unless_cut, port_at, changed_if, with_port, with_desk, after_turn, noted_of, turn_at, end_of_node}
-use Rattle.node_machine.specs.Carrying.{needs, lack}
-use Rattle.node_machine.specs.Controller.{own_gate, controller_deeds}
+use Rattle.node_machine.specs.Carrying.{needs, lack, own_view, end_view}
+use Rattle.node_machine.specs.Controller.{own_gate, controller_deeds, view_of}
 use Rattle.node_machine.specs.HostReplies.{host_deeds}
 use Rattle.node_machine.specs.Turns.{deeds_of, handles, holds_back, have_turns, goes_through_ends, passes}
 use Rattle.node_machine.specs.world.NodeFilters.{Book}
@@ -308,7 +308,7 @@ module _ (e : End) (hosts : List ℕ) (x0 : ErrorCount) (single : e.at_host ≡ 
     Fine deeds = lack w.ports (needs h deeds) ≡ None → So (handles h m deeds w)
 
     -- at a host
-    far : e.at_host ≡ true → Fine (host_deeds w.core p m)
+    far : e.at_host ≡ true → Fine (host_deeds (own_view w.core) (end_view p) m)
     far near = by_set (cond (eqb m.0 0) (errors_set_by m.1) None) refl where
       link : h ≡ e.link
       link = alone w.ports h p (r.hosts_are ∙ single near) there
@@ -319,17 +319,18 @@ module _ (e : End) (hosts : List ℕ) (x0 : ErrorCount) (single : e.at_host ≡ 
       now_is : sets_now w h m ≡ cond (eqb m.0 0) (errors_set_by m.1) None
       now_is = both_so (eqb h e.link) (leads_to_link_gate w.core.tables e m.0) (errors_set_by m.1) (eq-eqb h e.link link) ∙ rw near refl
 
-      by_set : (o : Option ℕ) → cond (eqb m.0 0) (errors_set_by m.1) None ≡ o → Fine (host_deeds w.core p m)
+      by_set : (o : Option ℕ) → cond (eqb m.0 0) (errors_set_by m.1) None ≡ o → Fine (host_deeds (own_view w.core) (end_view p) m)
       by_set None q =
-          λ none. plain_handled h m (host_deeds w.core p m) w on (now_is ∙ q) (unset_fine e hosts x0 h (host_deeds w.core p m) (host_unset w.core p m q)) r
+          λ none. plain_handled h m (host_deeds (own_view w.core) (end_view p) m) w on (now_is ∙ q)
+          (unset_fine e hosts x0 h (host_deeds (own_view w.core) (end_view p) m) (host_unset w.core p m q)) r
       by_set (Some v) q = λ none.
           let both = some_so (eqb m.0 0) (errors_set_by m.1) v q in
-          set_handled h m (host_deeds w.core p m) v w on (eq-eqb h e.link link) (now_is ∙ q) none
-          (subst (λ n. SetDeeds w.ports n m.0 v (host_deeds w.core p m)) node
+          set_handled h m (host_deeds (own_view w.core) (end_view p) m) v w on (eq-eqb h e.link link) (now_is ∙ q) none
+          (subst (λ n. SetDeeds w.ports n m.0 v (host_deeds (own_view w.core) (end_view p) m)) node
           (host_sets w.core w.ports p m v (ap (port_at w.ports) node ∙ there) both.0 both.1)) r
 
     -- at the controller
-    near_by : e.at_host ≡ false → Fine (controller_deeds w.core w.ports h m)
+    near_by : e.at_host ≡ false → Fine (controller_deeds (view_of w.core w.ports) h m)
     near_by near = by_set (cond (is_link_gate (own_gate w.core.tables h m.0)) (errors_set_by m.1) None) refl where
       here_is : eqb h e.link ≡ true → sets_now w h m ≡ cond (is_link_gate (own_gate w.core.tables h m.0)) (errors_set_by m.1) None
       here_is z =
@@ -340,9 +341,10 @@ module _ (e : End) (hosts : List ℕ) (x0 : ErrorCount) (single : e.at_host ≡ 
       away_is : eqb h e.link ≡ false → sets_now w h m ≡ None
       away_is z = not_so (eqb h e.link) (leads_to_link_gate w.core.tables e m.0) (errors_set_by m.1) z
 
-      by_set : (o : Option ℕ) → cond (is_link_gate (own_gate w.core.tables h m.0)) (errors_set_by m.1) None ≡ o → Fine (controller_deeds w.core w.ports h m)
-      by_set None q = λ none. plain_handled h m (controller_deeds w.core w.ports h m) w on (by_host (cases_Bool (eqb h e.link)))
-          (unset_fine e hosts x0 h (controller_deeds w.core w.ports h m) (controller_unset w.core w.ports h m q)) r where
+      by_set : (o : Option ℕ) → cond (is_link_gate (own_gate w.core.tables h m.0)) (errors_set_by m.1) None ≡ o
+          → Fine (controller_deeds (view_of w.core w.ports) h m)
+      by_set None q = λ none. plain_handled h m (controller_deeds (view_of w.core w.ports) h m) w on (by_host (cases_Bool (eqb h e.link)))
+          (unset_fine e hosts x0 h (controller_deeds (view_of w.core w.ports) h m) (controller_unset w.core w.ports h m q)) r where
             by_host : (eqb h e.link ≡ true) ⊎ (eqb h e.link ≡ false) → sets_now w h m ≡ None
             by_host (inl z) = here_is z ∙ q
             by_host (inr z) = away_is z
@@ -350,19 +352,20 @@ module _ (e : End) (hosts : List ℕ) (x0 : ErrorCount) (single : e.at_host ≡ 
         both : (is_link_gate (own_gate w.core.tables h m.0) ≡ true) × (errors_set_by m.1 ≡ Some v)
         both = some_so (is_link_gate (own_gate w.core.tables h m.0)) (errors_set_by m.1) v q
 
-        set : SetDeeds w.ports h m.0 v (controller_deeds w.core w.ports h m)
+        set : SetDeeds w.ports h m.0 v (controller_deeds (view_of w.core w.ports) h m)
         set = controller_sets w.core w.ports h m v both.0 both.1
 
-        by_host : lack w.ports (needs h (controller_deeds w.core w.ports h m)) ≡ None → (eqb h e.link ≡ true) ⊎ (eqb h e.link ≡ false)
-            → So (handles h m (controller_deeds w.core w.ports h m) w)
-        by_host none (inl z) = set_handled h m (controller_deeds w.core w.ports h m) v w on z (here_is z ∙ q) none set r
+        by_host : lack w.ports (needs h (controller_deeds (view_of w.core w.ports) h m)) ≡ None → (eqb h e.link ≡ true) ⊎ (eqb h e.link ≡ false)
+            → So (handles h m (controller_deeds (view_of w.core w.ports) h m) w)
+        by_host none (inl z) = set_handled h m (controller_deeds (view_of w.core w.ports) h m) v w on z (here_is z ∙ q) none set r
         by_host none (inr z) =
-            plain_handled h m (controller_deeds w.core w.ports h m) w on (away_is z) (set_fine w.ports h m.0 v (controller_deeds w.core w.ports h m) z set) r
+            plain_handled h m (controller_deeds (view_of w.core w.ports) h m) w on (away_is z)
+            (set_fine w.ports h m.0 v (controller_deeds (view_of w.core w.ports) h m) z set) r
 
-    deeds_far : e.at_host ≡ true → deeds_of w.core w.ports h m ≡ host_deeds w.core p m
+    deeds_far : e.at_host ≡ true → deeds_of w.core w.ports h m ≡ host_deeds (own_view w.core) (end_view p) m
     deeds_far near = rw (side_zero w.core r.side near, there) refl
 
-    deeds_near : e.at_host ≡ false → deeds_of w.core w.ports h m ≡ controller_deeds w.core w.ports h m
+    deeds_near : e.at_host ≡ false → deeds_of w.core w.ports h m ≡ controller_deeds (view_of w.core w.ports) h m
     deeds_near near = let zero : w.core.node ≡ 0 = r.number ∙ rw near refl in rw zero refl
 
     by_side : (b : Bool) → e.at_host ≡ b → So (handles h m (deeds_of w.core w.ports h m) w)

@@ -17,7 +17,7 @@ use Rattle.history.specs.Filters.{same_end, same_side}
 use Rattle.history.specs.Steps.{end_of, entries_for}
 use Rattle.node_machine.specs.Parts.{About, Notice, Desk, Core, Port, Work, Deed}
 use Rattle.node_machine.specs.Parts.Deed.{Commits, Sends, SaysOk, Asks, Releases, Tells, IsAnswered, Drops, SetsErrors, Orders, Hears, GoesOn, Ends}
-use Rattle.node_machine.specs.Controller.{controller_deeds}
+use Rattle.node_machine.specs.Controller.{controller_deeds, view_of}
 use Rattle.node_machine.specs.Carrying.{own_side, port_at, changed_if, with_port, with_desk, after_turn, noted_of, turn_at, done, all_done}
 use Rattle.node_machine.specs.Turns.{handles}
 use Rattle.node_machine.specs.world.World.{end_c}
@@ -316,7 +316,7 @@ module _ (x : ℕ) where
 
   module _ (t : List Entry) (base k : ℕ) (m : Message) (w : Work) (host : IsHost k) (a : IsOn x t w) (old : AgesIn base w) where
     abbrev deeds : List Deed
-    deeds = controller_deeds w.core w.ports k m
+    deeds = controller_deeds (view_of w.core w.ports) k m
 
     abbrev after : Work
     after = handles k m deeds w

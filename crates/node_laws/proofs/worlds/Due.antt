@@ -23,7 +23,7 @@ use Rattle.link_laws.proofs.entries.Lasting.{same_number}
 use Rattle.history.specs.Follows.{first_verdict, taken_of}
 use Rattle.node_machine.specs.Parts.{Deed, Port, Running, Work}
 use Rattle.node_machine.specs.Parts.Deed.{Orders, Sends}
-use Rattle.node_machine.specs.Carrying.{all_done}
+use Rattle.node_machine.specs.Carrying.{all_done, end_of_number}
 use Rattle.node_machine.specs.Controller.{is_command_message}
 use Rattle.node_machine.specs.Node.{begins_with}
 use Rattle.node_machine.specs.world.World.{Happening, NodeWorld, Site, beginning, end_h, frames_noted, host_does, host_work, link_to, near_end_in, new_world}
@@ -40,7 +40,7 @@ use Rattle.node_laws.proofs.telling.Lasting.{AllMay, AreCaused, damaged_may, eve
 use Rattle.node_laws.proofs.telling.Nodes.{Stands, link_is, site_host, stands}
 use Rattle.node_laws.specs.links.Runs.{ArePlayable}
 use Rattle.node_laws.specs.order.Told.{AreSessionsRead}
-use Rattle.node_laws.specs.passes.Noting.{AreTaken, CountsCommands, IsReplyNoted, TakesMessage, end_of_number, entries_of_reply, noted_by_deeds}
+use Rattle.node_laws.specs.passes.Noting.{AreTaken, CountsCommands, IsReplyNoted, TakesMessage, entries_of_reply, noted_by_deeds}
 use Rattle.node_laws.specs.passes.Noting.{sent_in_session, session_of_port}
 use Rattle.node_laws.proofs.links.Worlds.{IsFineSite}
 use Rattle.node_laws.proofs.order.Lines.{IsSo, history_so, host_number}

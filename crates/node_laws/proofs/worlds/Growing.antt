@@ -16,7 +16,7 @@ use Rattle.link_laws.specs.entries.Entries.{End as Side, Entry as Noted, told}
 use Rattle.link_laws.specs.entries.Entries.Entry.{Down}
 use Rattle.history.specs.Steps.{entries_for}
 use Rattle.node_machine.specs.Parts.{Creation, Notice, Core, Port, Work, Deed}
-use Rattle.node_machine.specs.Controller.{controller_deeds, asked_at}
+use Rattle.node_machine.specs.Controller.{controller_deeds, asked_at, view_of}
 use Rattle.node_machine.specs.Carrying.{own_side, port_at, noted_of, noting, turn_at, with_desk, end_of_node, all_done, lack, needs, unless_cut}
 use Rattle.node_machine.specs.Turns.{deeds_of, handles, holds_back, passes}
 use Rattle.node_machine.specs.Node.{NodeInput, input_at, told_at, has_come, all_come, with_older, reset_late, is_late}
@@ -87,7 +87,7 @@ module _ (x : ℕ) (t : List Entry) (base : ℕ) where
   lasts = record {
     handled = λ w h m messages a on waits room still.
         let host : IsHost h = waiting_host w.ports h m messages a.0.hosts waits in
-        let deeds : List Deed = controller_deeds w.core w.ports h m in
+        let deeds : List Deed = controller_deeds (view_of w.core w.ports) h m in
         let are : deeds_of w.core w.ports h m ≡ deeds = own_deeds w h m a.0.node in
         subst (λ ds. (handles h m ds w).cut ≡ false → G (handles h m ds w)) (sym are)
         (λ on.
@@ -97,7 +97,7 @@ module _ (x : ℕ) (t : List Entry) (base : ℕ) where
     held = λ w h m messages short a on waits lacks. (holds_stand x t h short w a.0, holds_ages h short w a.1);
     let_go = λ w h a on waits. (lets_stand x t h w a.0, lets (AgesIn x base) held_ages h w a.1);
   } where
-    own_deeds : (w : Work) (h : ℕ) (m : Message) → w.core.node ≡ 0 → deeds_of w.core w.ports h m ≡ controller_deeds w.core w.ports h m
+    own_deeds : (w : Work) (h : ℕ) (m : Message) → w.core.node ≡ 0 → deeds_of w.core w.ports h m ≡ controller_deeds (view_of w.core w.ports) h m
     own_deeds w h m node = let zero : eqb w.core.node 0 ≡ true = eq-eqb w.core.node 0 node in rw zero refl
 
   pub pass_ages : (w : Work) → w.cut ≡ false → IsOn x t w → AgesIn x base w → (passes w).cut ≡ false → AgesIn x base (passes w)

@@ -1,34 +1,34 @@
 -- What is read of a node at a moment of a history, off events and entries, and its reply to a message there.
-use Rattle.std.specs.Prelude.{◌≡◌, ℕ, ◌-◌, ◌^◌, ◌==◌, min, Bool, true, false, if◌then◌else◌, List, [], ◌∷◌, ◌++◌, map, drop, length, is_some, unwrap_or, Option}
-use Rattle.std.specs.Prelude.{Some, None}
+use Rattle.std.specs.Prelude.{◌≡◌, ℕ, ◌-◌, ◌^◌, ◌==◌, ◌&&◌, min, Bool, true, false, if◌then◌else◌, List, [], ◌∷◌, ◌++◌, drop, length, is_some, Option, Some}
+use Rattle.std.specs.Prelude.{None}
 use Rattle.std.specs.List.{fold}
 use Rattle.std.specs.Option.{option_map, option_map_or, option_and_then}
 use Rattle.trace_model.specs.declared.entry.Entry.{Entry}
 use Rattle.trace_model.specs.declared.entry.Entry.TheVariants as entry
 use Rattle.trace_model.specs.declared.line.End.{End}
-use Rattle.swp_act.specs.Activation.{new_clf}
-use Rattle.journal_laws.specs.Operations.{formatted}
 use Rattle.pipe_table.specs.declared.row.PipeRow.{PipeRow}
 use Rattle.hci_tables.specs.declared.command.Command.TheVariants.{Create}
 use Rattle.gate_answers.specs.declared.response.Response.TheVariants as response
 use Rattle.gate_answers.specs.Answers.{answer_of, instruction_in, body_in}
 use Rattle.gate_admin.specs.Decide.{ends_of}
-use Rattle.link_laws.specs.machine.Machine.{Message, LinkEnd, new_link_end, oldest}
-use Rattle.link_laws.specs.machine.Machine.Role.{Bare, Clf}
+use Rattle.link_laws.specs.machine.Machine.{Message, oldest}
 use Rattle.history.specs.Filters.{same_end}
 use Rattle.history.specs.Damage.{same_bytes}
-use Rattle.node_machine.specs.Parts.{About, Notice, Core, Port, Deed}
+use Rattle.node_machine.specs.Parts.{Creation, About, Deed, OwnView, EndView, NodeView}
 use Rattle.node_machine.specs.Parts.About.{Waits, Forgotten, Removed}
-use Rattle.node_machine.specs.Carrying.{needs, lack}
+use Rattle.node_machine.specs.Carrying.{end_of_number, needs, first_lack}
+use Rattle.node_machine.specs.Controller.{creation_of}
 use Rattle.node_machine.specs.HostReplies.{pipe_named_in}
-use Rattle.node_machine.specs.Turns.{deeds_of}
+use Rattle.node_machine.specs.Turns.{deeds_for}
 use Rattle.node_machine.specs.world.World.{Happening, node_of}
 use Rattle.node_machine.specs.world.Lines.{Occurrence}
 use Rattle.node_machine.specs.world.NodeHistories.{NodeHistory, entries_in, occurrences_in}
 use Rattle.node_machine.specs.world.NodeFilters.{commands_in, tables_in, notice_in, order_in, asking_in, session_now, spare_at}
-use Rattle.node_laws.specs.passes.Noting.{end_of_number, entries_of_reply}
+use Rattle.node_laws.specs.passes.Noting.{entries_of_reply}
+use Rattle.node_laws.specs.cuts.Histories.{is_one_of}
 use Rattle.node_laws.specs.views.Errors.{errors_in}
 use Rattle.node_laws.specs.views.Inits.{init_after, init_begun, init_in}
+use Rattle.node_laws.specs.views.Views.{view_at}
 
 -- a moment within an event: the events before it, what causes it, and the entries that were noted of it so far
 pub record Moment : Type 0 where
@@ -95,53 +95,62 @@ about_in t message = if instruction_in message == 18 then by_row (pipe_named_in 
   by_row None = Forgotten
   by_row (Some row) = by_asking row (option_map_or (same_bytes message) (asking_in t row.creator) false)
 
--- an unanswered notice as it is read; its age is no matter to a reply
-abbrev pub notice_read : List Entry → Option (List ℕ) → Option Notice
-notice_read t message = option_map (λ (m : List ℕ). record { about = about_in t m; age = 0 }) message
+-- what an unanswered notice is about, as it is read
+abbrev pub about_read : List Entry → Option (List ℕ) → Option About
+about_read t message = option_map (about_in t) message
 
--- an end that is up or not, and has so many blocks to spare
-abbrev pub side_read : Bool → ℕ → LinkEnd
-side_read up spare = record (new_link_end (if up then Bare else Clf new_clf)) { aside = 128 - spare }
+-- the creation that waits for the answer to a notice, as it is read
+abbrev pub creation_read : List Entry → Option (List ℕ) → Option Creation
+creation_read t message = option_and_then creation_of (about_read t message)
+
+-- a node of a world with these hosts has a link with this one: the controller with each, and a host its own
+abbrev pub is_linked : List ℕ → ℕ → ℕ → Bool
+is_linked hosts n h = is_one_of (if n == 0 then hosts else n ∷ []) h
+
+-- an end of a node is up
+abbrev pub is_up_read : List Entry → ℕ → ℕ → Bool
+is_up_read t n h = is_some (session_now t (end_of_number n h) n)
 
 -- an end of a node, as it is read
-abbrev pub port_read : List Entry → ℕ → ℕ → Port
-port_read t n h = record {
-  desk = record {
-    host = h;
-    notice = if n == 0 then notice_read t (notice_in t h) else None;
-    holds = holds_in t (end_of_number n h);
-    errors = errors_in t (end_of_number n h);
-  };
-  side = side_read (is_some (session_now t (end_of_number n h) n)) (spare_at t (end_of_number n h));
-  session = unwrap_or (session_now t (end_of_number n h) n) 0;
-  late = false;
-  ended = false;
-  turns = [];
-}
+abbrev pub end_read : List Entry → ℕ → ℕ → EndView
+end_read t n h = record { up = is_up_read t n h; errors = errors_in t (end_of_number n h) }
 
--- all ends of a node of a world with these hosts
-abbrev pub ports_read : List ℕ → List Entry → ℕ → List Port
-ports_read hosts t n = map (port_read t n) (if n == 0 then hosts else n ∷ [])
+-- the blocks that an end of a node has to spare: none where there is no such link
+abbrev pub spare_read : List ℕ → List Entry → ℕ → ℕ → ℕ
+spare_read hosts t n h = if is_linked hosts n h then spare_at t (end_of_number n h) else 0
 
--- A node, as it is read. The memory of a node has room: it is as a boot formats it.
-abbrev pub core_read : Moment → ℕ → Core
-core_read m n = record {
+-- What a node keeps itself, as it is read. Its memory has room for any command: where a record no longer fits into a bank, a snapshot goes
+-- into the other one.
+abbrev pub own_read : Moment → ℕ → OwnView
+own_read m n = record {
   node = n;
-  journal = formatted;
   tables = tables_in (until m) n;
+  has_room = λ c. true;
   command = order_in (until m) n;
   init = fold (init_after n) (init_begun n (init_in m.past n) m.cause) m.so_far;
+}
+
+-- All that a node goes by, as it is read.
+abbrev pub view_read : List ℕ → Moment → ℕ → NodeView
+view_read hosts m n = record {
+  own = own_read m n;
+  up = λ h. is_linked hosts n h && is_up_read (until m) n h;
+  asks = λ h. is_some (asking_in (until m) h);
+  notice = λ h. about_read (until m) (notice_in (until m) h);
+  links = view_at hosts (until m);
+  ends = λ h. if is_linked hosts n h then Some (end_read (until m) n h) else None;
+  spare = spare_read hosts (until m) n;
 }
 
 -- ## Replies
 
 -- What the node of an end does with a message that came there.
 abbrev pub reply : List ℕ → Moment → End → Message → List Deed
-reply hosts m e message = deeds_of (core_read m (node_of e)) (ports_read hosts (until m) (node_of e)) e.link message
+reply hosts m e message = deeds_for (view_read hosts m (node_of e)) e.link message
 
 -- the first number of blocks that this needs and that isn't spare, with what is
 abbrev pub lack_of : List ℕ → Moment → End → Message → Option (ℕ × ℕ)
-lack_of hosts m e message = lack (ports_read hosts (until m) (node_of e)) (needs e.link (reply hosts m e message))
+lack_of hosts m e message = first_lack (spare_read hosts (until m) (node_of e)) (needs e.link (reply hosts m e message))
 
 -- that of the first message that came there and had no turn
 abbrev pub lack_at : List ℕ → Moment → End → Option (ℕ × ℕ)

@@ -17,14 +17,13 @@ use Rattle.gate_answers.specs.declared.response.Response.TheVariants as response
 use Rattle.history.specs.Filters.{same_end}
 use Rattle.node_machine.specs.Parts.{Creation, Deed}
 use Rattle.node_machine.specs.Parts.Deed.{Commits}
-use Rattle.node_machine.specs.Controller.{creation_in}
 use Rattle.node_machine.specs.Node.{owed}
 use Rattle.node_machine.specs.world.World.{Happening, node_of, end_c, sending, beginning}
 use Rattle.node_machine.specs.world.World.Happening.{Gives, Inits, Ticks, Resets}
 use Rattle.node_machine.specs.world.Lines.{Occurrence}
 use Rattle.node_machine.specs.world.NodeHistories.{entries_in}
 use Rattle.node_machine.specs.world.NodeFilters.{tables_in, is_notice, notice_in, session_now}
-use Rattle.node_laws.specs.answers.Moments.{notice_read}
+use Rattle.node_laws.specs.answers.Moments.{creation_read}
 
 -- ## Sessions that end
 
@@ -84,7 +83,7 @@ is_late_in past o h =
 
 -- the creation for which this host is asked, and which waits behind all sessions that end in an event
 abbrev pub still_asked : List Occurrence → Occurrence → ℕ → Option Creation
-still_asked past o h = creation_in (notice_read (entries_in past ++ down_in o) (notice_in (entries_in past) h))
+still_asked past o h = creation_read (entries_in past ++ down_in o) (notice_in (entries_in past) h)
 
 -- ANY_E_NOT_CONNECTED to askers, where the session of the host that is asked ends, and then ANY_E_TIMEOUT where its notice is late
 abbrev pub owed_in : List ℕ → List Occurrence → Occurrence → List Deed

@@ -5,7 +5,6 @@ use Rattle.std.specs.List.{AllByRecursion}
 use Rattle.std.specs.Option.{option_map_or, option_and_then}
 use Rattle.trace_model.specs.declared.entry.Entry.{Entry}
 use Rattle.trace_model.specs.declared.entry.Entry.TheVariants as entry
-use Rattle.trace_model.specs.declared.line.End.{End}
 use Rattle.shdlc_core.specs.declared.answers.LinkState.TheVariants.{Up}
 use Rattle.journal_laws.specs.declared.state.State.{State}
 use Rattle.journal_laws.specs.Journal.{count_of}
@@ -17,11 +16,9 @@ use Rattle.hci_store.specs.Committing.{commit_writes, committed}
 use Rattle.link_laws.specs.sessions.Sessions.{is_up}
 use Rattle.link_laws.specs.machine.Machine.{Message, Turn, give_refusal}
 use Rattle.link_laws.specs.machine.Machine.Turn.{Give, SetAside}
-use Rattle.link_laws.specs.entries.Entries.End.{Controller, Host}
-use Rattle.history.specs.Steps.{end_of}
 use Rattle.node_machine.specs.Parts.{Port, Work, Deed}
 use Rattle.node_machine.specs.Parts.Deed.{Commits, Sends, SaysOk, Asks, Tells, Drops, Orders, Ends}
-use Rattle.node_machine.specs.Carrying.{end_of_node, port_at, noted_of, turn_at, done}
+use Rattle.node_machine.specs.Carrying.{end_of_node, end_of_number, port_at, noted_of, turn_at, done}
 
 -- ## As each deed is done
 
@@ -53,10 +50,6 @@ noted_by_deeds h (d ∷ deeds) w =
     noted_by_deed h d w ++ (if (done h d w).cut then [] else noted_by_deeds h deeds (done h d w))
 
 -- ## Where the power stays on
-
--- the end of the link with this host that the node with this number has
-abbrev pub end_of_number : ℕ → ℕ → End
-end_of_number node h = end_of h (if node == 0 then Controller else Host)
 
 -- the session of the end of the link with this host, where it is up
 abbrev pub session_of_port : List Port → ℕ → Option ℕ

@@ -36,10 +36,11 @@ use Rattle.gate_identity.specs.Identity.{identity_value, identity_served, identi
 use Rattle.link_laws.specs.machine.Machine.{Message}
 use Rattle.node_machine.specs.Parts.{Init, Creation, Notice, Desk, Core, Port, Deed}
 use Rattle.node_machine.specs.Parts.Deed.{Commits, Sends, SaysOk, Asks, Releases, Tells, IsAnswered, Drops, SetsErrors, Orders, Hears, GoesOn, Ends}
-use Rattle.node_machine.specs.Carrying.{finds_room, port_at}
+use Rattle.node_machine.specs.Carrying.{finds_room, port_at, own_view}
 use Rattle.node_machine.specs.Controller.{creation_in, view_for, answers_on, commit_deeds, decision_deeds, link_deeds, gates, agreed, controller_deeds}
-use Rattle.node_machine.specs.Controller.{has_link, is_command_message, relayed_to, served_at, response_at, notice_deeds, creation_deeds, kind_deeds}
+use Rattle.node_machine.specs.Controller.{has_link, is_command_message, relayed_to, served_at, notice_deeds, creation_deeds, kind_deeds}
 use Rattle.node_machine.specs.Controller.{unless_asking, goes_through, own_gate, asks_for, if_notice, own_deeds, relay_deeds, deeds_by_relay}
+use Rattle.node_machine.specs.Controller.{view_of, about_at, about_of}
 use Rattle.node_laws.proofs.steps.Ports.{at_port}
 use Rattle.node_machine.proofs.Walks.{told_hold}
 use Rattle.node_laws.proofs.links.Masking.{nobody}
@@ -353,7 +354,7 @@ agreed_in : (flag : Bool) (c : Creation) → IsCreationIn c → AreDeedsIn (agre
 agreed_in true c a = (tt, (a.command, (tt, (saying 1 c.answer low a.answer, (tt, tt)))))
 agreed_in false c a = (tt, (tt, (saying 1 (answer_of response.NotOk []) low (answer_in response.NotOk [] tt (omega arith)), tt)))
 
-decision_in : (core : Core) (h pipe : ℕ) (d : Decision) → pipe < 112 → IsDecisionIn d → AreDeedsIn (decision_deeds core h pipe d)
+decision_in : (core : Core) (h pipe : ℕ) (d : Decision) → pipe < 112 → IsDecisionIn d → AreDeedsIn (decision_deeds (own_view core) h pipe d)
 decision_in core h pipe (Answer answer) p a = answers_in h pipe answer.items p a
 decision_in core h pipe (Commit c answer tell notice) p a =
     commits_in (finds_room core c) h pipe c answer.items _ p a.0 a.1 (told_hold IsDeedIn notice.items (hosts_where (has tell)) a.2)
@@ -380,7 +381,7 @@ module _ (core : Core) (ports : List Port) (h : ℕ) (m : Message) (tables : Are
   drops_in : AreDeedsIn (Drops m.0 ∷ [])
   drops_in = (omega (arith, p), tt)
 
-  served_in : (instruction : ℕ) (o : Option ℕ) → AreDeedsIn (served_at core (view_for core.tables ports h) h m.0 instruction (body_in m.1) o)
+  served_in : (instruction : ℕ) (o : Option ℕ) → AreDeedsIn (served_at (own_view core) (view_for core.tables ports h) h m.0 instruction (body_in m.1) o)
   served_in n None =
       decision_in core h m.0 (decided core.tables (view_for core.tables ports h) h m.0 n (body_in m.1)) p
       (decided_in core.tables (view_for core.tables ports h) h m.0 (body_in m.1) tables rows small p (body_bytes m.1 s.bytes) (body_few m.1 s.short) n)
@@ -392,45 +393,45 @@ module _ (core : Core) (ports : List Port) (h : ℕ) (m : Message) (tables : Are
       (λ _. answers_in h m.0 (identity_served gates n (body_in m.1)) p (identity_in n (body_in m.1)))
       (λ _. plain_in h response.CommandNotSupported m.0 p))
 
-  noticed_in : (code : ℕ) (o : Option Port) → port_at ports h ≡ o → AreDeedsIn (response_at core code o)
+  noticed_in : (code : ℕ) (o : Option Port) → port_at ports h ≡ o → AreDeedsIn (notice_deeds (own_view core) code (about_at o))
   noticed_in code None here = (omega arith, tt)
   noticed_in code (Some q) here = by q.desk.notice refl
     where
-      by_creation : (o : Option Creation) → creation_in q.desk.notice ≡ o → AreDeedsIn (creation_deeds core code o)
+      by_creation : (o : Option Creation) → creation_in q.desk.notice ≡ o → AreDeedsIn (creation_deeds (own_view core) code o)
       by_creation None is = (tt, tt)
       by_creation (Some c) is =
           agreed_in _ c (subst IfCreation is (at_port (λ (x : Port). IsDeskIn x.desk) ports h q a here).creation)
 
-      by : (o : Option Notice) → q.desk.notice ≡ o → AreDeedsIn (notice_deeds core code o)
+      by : (o : Option Notice) → q.desk.notice ≡ o → AreDeedsIn (notice_deeds (own_view core) code (about_of o))
       by None is = (omega arith, tt)
       by (Some n) is = by_creation (creation_in (Some n)) (ap creation_in is)
 
-  kind_in : (x : Result (MessageKind × ℕ) MessageFault) → AreDeedsIn (kind_deeds core ports h m x)
+  kind_in : (x : Result (MessageKind × ℕ) MessageFault) → AreDeedsIn (kind_deeds (view_of core ports) h m x)
   kind_in (Ok (IsCommand, n)) = by (m.0 == 1 && asks_for ports h)
     where
-      by : (asks : Bool) → AreDeedsIn (unless_asking core ports h m n asks)
+      by : (asks : Bool) → AreDeedsIn (unless_asking (view_of core ports) h m n asks)
       by true = drops_in
       by false = served_in n (cond (goes_through core.tables h m.0 n) (own_gate core.tables h m.0) None)
   kind_in (Ok (IsEvent, n)) = cond_both _ (Sends h m ∷ []) (Drops m.0 ∷ []) AreDeedsIn (λ _. (s, tt)) (λ _. drops_in)
   kind_in (Ok (IsResponse, code)) = by (m.0 == 1)
     where
-      by : (b : Bool) → AreDeedsIn (if_notice core ports h m code b)
+      by : (b : Bool) → AreDeedsIn (if_notice (view_of core ports) h m code b)
       by true = noticed_in code (port_at ports h) refl
       by false = drops_in
   kind_in (Err fault) = drops_in
 
-  own_in : (b : Bool) → AreDeedsIn (own_deeds core ports h m b)
+  own_in : (b : Bool) → AreDeedsIn (own_deeds (view_of core ports) h m b)
   own_in true = kind_in (header_of m.1)
   own_in false = drops_in
 
-  relayed_in : (other : ℕ) (up : Bool) → AreDeedsIn (relay_deeds ports h m other up)
+  relayed_in : (other : ℕ) (up : Bool) → AreDeedsIn (relay_deeds (has_link ports) h m other up)
   relayed_in other true = (s, tt)
   relayed_in other false =
       cond_both (has_link ports h && is_command_message m.1) _ (Drops m.0 ∷ []) AreDeedsIn (λ _. plain_in h response.NotConnected m.0 p) (λ _. drops_in)
 
-  by_relay : (o : Option ℕ) → AreDeedsIn (deeds_by_relay core ports h m o)
+  by_relay : (o : Option ℕ) → AreDeedsIn (deeds_by_relay (view_of core ports) h m o)
   by_relay (Some other) = relayed_in other (has_link ports other)
   by_relay None = own_in (has_link ports h)
 
-  pub controller_in : AreDeedsIn (controller_deeds core ports h m)
+  pub controller_in : AreDeedsIn (controller_deeds (view_of core ports) h m)
   controller_in = by_relay (relayed_to core.tables h m)

@@ -30,7 +30,7 @@ use Rattle.trace_model.specs.declared.entry.Entry.TheVariants.{InitSame, InitMad
 use Rattle.told_laws.specs.texts.Ranges.{IsEnd, IsSaidCommand}
 use Rattle.node_machine.specs.Parts.{Init, Core, Port, Deed}
 use Rattle.node_machine.specs.Parts.Deed.{Commits, Sends, Orders, GoesOn, Ends}
-use Rattle.node_machine.specs.Carrying.{own_side, end_of_node, finds_room}
+use Rattle.node_machine.specs.Carrying.{own_side, end_of_node, finds_room, own_view, end_view}
 use Rattle.node_machine.specs.Controller.{gates}
 use Rattle.node_machine.specs.HostReplies.{accepts, pipe_named_in, orders_of, is_same, learns, init_agreed, init_deeds, deleted_by, created_by, learned}
 use Rattle.node_machine.specs.HostReplies.{response_deeds, is_gate, gate_of_pipe, ordered_deeds, host_deeds}
@@ -78,7 +78,7 @@ own_end core h small = end_in h (own_side core) (omega (arith, small))
 
 -- ## What a host commits
 
-pub accepts_in : (core : Core) (c : Command) → IsCommandIn c → AreDeedsIn (accepts core c)
+pub accepts_in : (core : Core) (c : Command) → IsCommandIn c → AreDeedsIn (accepts (own_view core) c)
 accepts_in core c is = commits_in (finds_room core c) core.node 1 c (answer_of response.Ok []) [] low is (answer_in response.Ok [] tt (omega arith)) tt
 
 named_in : (body : List ℕ) (row : PipeRow) → AreBytes body → pipe_named_in body ≡ Some row → IsSaidCommand (Create row)
@@ -94,7 +94,7 @@ named_in (a ∷ b ∷ c ∷ d ∷ e ∷ []) row h q =
     subst P same
     (refl, record { pid = h.1.1.1.1.0; creator = h.0; creator_gate = h.1.0; dest = h.1.1.0; dest_gate = h.1.1.1.0 })
 
-learns_in : (core : Core) (c : Command) → IsSaidCommand c → IsShortCommand c → AreDeedsIn (learns core c)
+learns_in : (core : Core) (c : Command) → IsSaidCommand c → IsShortCommand c → AreDeedsIn (learns (own_view core) c)
 learns_in core c said short =
     cond_both (is_command c && finds_room core c) (Commits c ∷ []) [] AreDeedsIn
     (λ e. (record { said = said; short = short; made = recordable_made c (and_parts (is_command c) (finds_room core c) e).0 }, tt)) (λ _. tt)
@@ -129,13 +129,13 @@ module _ (core : Core) (is : IsCoreIn core) where
   node_byte : core.node < 256
   node_byte = let n = is.node in omega (arith, n)
 
-  agreed_init : (i : Init) (value : List ℕ) → IsInitIn i → AreDeedsIn (init_agreed core i value)
+  agreed_init : (i : Init) (value : List ℕ) → IsInitIn i → AreDeedsIn (init_agreed (own_view core) i value)
   agreed_init i value h =
-      cond_both (is_same core i value) (Ends (InitSame (end_of_node core core.node)) ∷ []) _ AreDeedsIn
+      cond_both (is_same (own_view core) i value) (Ends (InitSame (end_of_node core core.node)) ∷ []) _ AreDeedsIn
       (λ _. ((λ n. own_end core core.node is.node), tt)) (λ _. by (slice_get (orders_of i) (i.answered + 1)) refl)
     where
       on : Option (List ℕ) → List Deed
-      on None = learns core (Set core.node 0 1 (record { items = i.identity })) ++ Ends (InitMade (end_of_node core core.node) (length i.pipes)) ∷ []
+      on None = learns (own_view core) (Set core.node 0 1 (record { items = i.identity })) ++ Ends (InitMade (end_of_node core core.node) (length i.pipes)) ∷ []
       on (Some order) = GoesOn (record i { answered = i.answered + 1 }) ∷ Orders order ∷ []
 
       pipes_few : length i.pipes < 2 ^ 32
@@ -144,7 +144,7 @@ module _ (core : Core) (is : IsCoreIn core) where
       by : (o : Option (List ℕ)) → slice_get (orders_of i) (i.answered + 1) ≡ o → AreDeedsIn (on o)
       by None q =
           let long = h.identity.1 in let few : length i.identity ≤ 4095 = omega (arith, long) in
-          each-append IsDeedIn (learns core (Set core.node 0 1 (record { items = i.identity }))) _
+          each-append IsDeedIn (learns (own_view core) (Set core.node 0 1 (record { items = i.identity }))) _
           (learns_in core (Set core.node 0 1 (record { items = i.identity }))
           (node_byte, omega arith, omega arith, each_all IsByte i.identity h.identity.0) few)
           ((λ n. (own_end core core.node is.node, pipes_few)), tt)
@@ -153,45 +153,47 @@ module _ (core : Core) (is : IsCoreIn core) where
         (AllByRecursion-get IsSaying (orders_of i) (i.answered + 1) order (orders_in i h) q, tt),
       )
 
-  init_in : (code : ℕ) (value : List ℕ) → code < 256 → (o : Option Init) → IfInit o → AreDeedsIn (init_deeds core code value o)
+  init_in : (code : ℕ) (value : List ℕ) → code < 256 → (o : Option Init) → IfInit o → AreDeedsIn (init_deeds (own_view core) code value o)
   init_in code value byte None h = tt
   init_in code value byte (Some i) h =
-      cond_both (eqb code 0) (init_agreed core i value) (Ends (InitFailed (end_of_node core core.node) code) ∷ []) AreDeedsIn
+      cond_both (eqb code 0) (init_agreed (own_view core) i value) (Ends (InitFailed (end_of_node core core.node) code) ∷ []) AreDeedsIn
       (λ _. agreed_init i value h) (λ _. ((λ n. (own_end core core.node is.node, byte)), tt))
 
   -- ## Responses
 
-  learned_in : (order value : List ℕ) → AreBytes order → AreBytes value → AreDeedsIn (learned core order value)
+  learned_in : (order value : List ℕ) → AreBytes order → AreBytes value → AreDeedsIn (learned (own_view core) order value)
   learned_in order value a b =
-      cond_both (eqb (instruction_in order) 16) (created_by core value) _ AreDeedsIn (λ _. by_row (pipe_named_in value) refl)
-      (λ _. cond_both (eqb (instruction_in order) 17) (deleted_by core (body_in order)) _ AreDeedsIn (λ _. by_body (body_in order) (body_bytes order a))
-      (λ _. cond_both (eqb (instruction_in order) 20) (learns core (Clear core.node)) [] AreDeedsIn (λ _. learns_in core (Clear core.node) node_byte tt)
+      cond_both (eqb (instruction_in order) 16) (created_by (own_view core) value) _ AreDeedsIn (λ _. by_row (pipe_named_in value) refl)
+      (λ _. cond_both (eqb (instruction_in order) 17) (deleted_by (own_view core) (body_in order)) _ AreDeedsIn
+      (λ _. by_body (body_in order) (body_bytes order a))
+      (λ _. cond_both (eqb (instruction_in order) 20) (learns (own_view core) (Clear core.node)) [] AreDeedsIn
+      (λ _. learns_in core (Clear core.node) node_byte tt)
       (λ _. tt)))
     where
-      by_row : (o : Option PipeRow) → pipe_named_in value ≡ o → AreDeedsIn (option_map_or (λ row. learns core (Create row)) o [])
+      by_row : (o : Option PipeRow) → pipe_named_in value ≡ o → AreDeedsIn (option_map_or (λ row. learns (own_view core) (Create row)) o [])
       by_row None q = tt
       by_row (Some row) q = learns_in core (Create row) (named_in value row b q) tt
 
-      by_body : (body : List ℕ) → AreBytes body → AreDeedsIn (deleted_by core body)
+      by_body : (body : List ℕ) → AreBytes body → AreDeedsIn (deleted_by (own_view core) body)
       by_body [] h = tt
       by_body (pid ∷ []) h = learns_in core (Delete pid) h.0 tt
       by_body (pid ∷ x ∷ more) h = tt
 
   response_in : (code : ℕ) (value : List ℕ) → code < 256 → AreBytes value → (o : Option (List ℕ)) → core.command ≡ o
-      → AreDeedsIn (response_deeds core code value)
+      → AreDeedsIn (response_deeds (own_view core) code value)
   response_in code value byte bytes None q = rw q tt
   response_in code value byte bytes (Some order) q =
       let a : AreBytes order = subst IfBytes q is.command in
       rw q (
         tt,
-        each-append IsDeedIn (cond (eqb code 0) (learned core order value) []) (init_deeds core code value core.init)
-            (cond_both (eqb code 0) (learned core order value) [] AreDeedsIn (λ _. learned_in order value a bytes) (λ _. tt))
+        each-append IsDeedIn (cond (eqb code 0) (learned (own_view core) order value) []) (init_deeds (own_view core) code value core.init)
+            (cond_both (eqb code 0) (learned (own_view core) order value) [] AreDeedsIn (λ _. learned_in order value a bytes) (λ _. tt))
             (init_in code value byte core.init is.init),
       )
 
   -- ## Commands
 
-  ordered_in : (errors pipe n : ℕ) (body : List ℕ) → errors < 65536 → pipe < 112 → AreBytes body → AreDeedsIn (ordered_deeds core errors pipe n body)
+  ordered_in : (errors pipe n : ℕ) (body : List ℕ) → errors < 65536 → pipe < 112 → AreBytes body → AreDeedsIn (ordered_deeds (own_view core) errors pipe n body)
   ordered_in errors pipe n body few p bytes = ordered_holds AreDeedsIn core errors pipe n body (record {
     none = tt;
     refuses = λ r. plain_in core.node r 1 low;
@@ -221,7 +223,7 @@ module _ (core : Core) (is : IsCoreIn core) where
 
   -- ## Messages
 
-  pub host_in : (p : Port) (m : Message) → IsDeskIn p.desk → IsMail m → AreDeedsIn (host_deeds core p m)
+  pub host_in : (p : Port) (m : Message) → IsDeskIn p.desk → IsMail m → AreDeedsIn (host_deeds (own_view core) (end_view p) m)
   host_in p m desk s = go (is_up p.side.shdlc.phase) (header_of m.1) refl refl
     where
       body : AreBytes (body_in m.1)
@@ -233,12 +235,14 @@ module _ (core : Core) (is : IsCoreIn core) where
       code_byte : (message : List ℕ) (code : ℕ) → header_of message ≡ Ok (IsResponse, code) → code < 256
       code_byte message code q = subst IsCodeIn q (codes_in message)
 
-      go : (b : Bool) (x : Result (MessageKind × ℕ) MessageFault) → is_up p.side.shdlc.phase ≡ b → header_of m.1 ≡ x → AreDeedsIn (host_deeds core p m)
+      go : (b : Bool) (x : Result (MessageKind × ℕ) MessageFault) → is_up p.side.shdlc.phase ≡ b → header_of m.1 ≡ x
+          → AreDeedsIn (host_deeds (own_view core) (end_view p) m)
       go false x up q = rw up (drops, tt)
       go true (Ok (IsCommand, n)) up q = rw (up, q) (ordered_in p.desk.errors m.0 n (body_in m.1) desk.errors s.pipe body)
       go true (Ok (IsEvent, n)) up q =
-          rw (up, q) (cond_both (is_gate 4 (gate_of_pipe core m.0) && posts_back m.1) (Sends core.node m ∷ []) [] AreDeedsIn (λ _. (s, tt)) (λ _. tt))
+          rw (up, q) (cond_both (is_gate 4 (gate_of_pipe (own_view core) m.0) && posts_back m.1) (Sends core.node m ∷ []) [] AreDeedsIn
+          (λ _. (s, tt)) (λ _. tt))
       go true (Ok (IsResponse, code)) up q =
-          rw (up, q) (cond_both (eqb m.0 1) (response_deeds core code (body_in m.1)) [] AreDeedsIn
+          rw (up, q) (cond_both (eqb m.0 1) (response_deeds (own_view core) code (body_in m.1)) [] AreDeedsIn
           (λ _. response_in code (body_in m.1) (code_byte m.1 code q) body core.command refl) (λ _. tt))
       go true (Err fault) up q = rw (up, q) tt

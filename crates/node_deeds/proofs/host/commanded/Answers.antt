@@ -1,6 +1,7 @@
 use Rattle.std.proofs.Common.{sym, ap, ◌∙◌}
 use Rattle.gate_answers.specs.Answers.{instruction_in, body_in}
 use Rattle.gate_link.specs.Link.{link_served}
+use Rattle.node_machine.specs.Carrying.{own_view}
 use Rattle.node_machine.specs.Controller.{link_deeds}
 use Rattle.node_machine.specs.HostReplies.{ordered_deeds}
 use Rattle.node_deeds.specs.Hosts.{host_core, handled_by}
@@ -12,7 +13,7 @@ returns-then-pipe-eq-ADMINISTRATION_PIPE-clause-deeds g c =
     let message = c.args.message.now in
     λ init. c.notified.ensures.deeds (handled_by c.args.host init c.args.pipe message) init
     ∙ ap
-    (λ pipe. ordered_deeds (host_core c.args.host s.journal.state s.tables init) c.args.errors pipe (instruction_in message) (body_in message))
+    (λ pipe. ordered_deeds (own_view (host_core c.args.host s.journal.state s.tables init)) c.args.errors pipe (instruction_in message) (body_in message))
     (sym c.if-pipe-eq-ADMINISTRATION_PIPE.true)
 
 pub returns-then-pipe-eq-LINK_PIPE-clause-deeds : goal.returns-then-pipe-eq-LINK_PIPE-clause-deeds
@@ -23,5 +24,5 @@ returns-then-pipe-eq-LINK_PIPE-clause-deeds g c =
     λ init. c.link_answered.ensures.deeds (handled_by c.args.host init c.args.pipe message)
     ∙ (ap (λ pipe. link_deeds c.args.host pipe (link_served c.args.errors (instruction_in message) (body_in message))) zero
     ∙ ap
-    (λ pipe. ordered_deeds (host_core c.args.host s.journal.state s.tables init) c.args.errors pipe (instruction_in message) (body_in message))
+    (λ pipe. ordered_deeds (own_view (host_core c.args.host s.journal.state s.tables init)) c.args.errors pipe (instruction_in message) (body_in message))
     (sym zero))

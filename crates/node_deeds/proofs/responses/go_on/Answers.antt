@@ -1,6 +1,7 @@
 use Rattle.std.proofs.Common.{◌++◌, ◌∷◌, [], sym, ap, ◌∙◌}
 use Rattle.std.specs.Prelude.{Some}
 use Rattle.std.proofs.lemmas.List.{map-append}
+use Rattle.node_machine.specs.Carrying.{own_view}
 use Rattle.node_machine.specs.HostReplies.{is_same}
 use Rattle.node_deeds.specs.declared.deeds.InitEnd.TheVariants.{Same}
 use Rattle.node_deeds.specs.declared.deeds.Deed.TheVariants as kept
@@ -17,7 +18,7 @@ returns-then-is_same-clause-deeds g c = λ pipe message.
     let value = c.args.value.now in
     let a = handled_by host (Some i) pipe message in
     let old = c.args.deeds.now.items in
-    let same = ap (λ t. is_same (host_core host s.journal.state t (Some i)) i value) (sym c.tables.ensures)
+    let same = ap (λ t. is_same (own_view (host_core host s.journal.state t (Some i))) i value) (sym c.tables.ensures)
     ∙ (sym (c.is_same.ensures s.journal.state (Some i)) ∙ c.if-is_same.true) in
     ap (deeds_shown a) c.push-then-is_same.ensures.items
     ∙ (map-append (deed_shown a) old (kept.Ends Same ∷ [])
@@ -31,7 +32,7 @@ returns-else-is_same-clause-deeds g c = λ pipe message.
     let i = init_shown c.args.init.now in
     let value = c.args.value.now in
     let a = handled_by host (Some i) pipe message in
-    let differs = ap (λ t. is_same (host_core host s.journal.state t (Some i)) i value) (sym c.tables.ensures)
+    let differs = ap (λ t. is_same (own_view (host_core host s.journal.state t (Some i))) i value) (sym c.tables.ensures)
     ∙ (sym (c.is_same.ensures s.journal.state (Some i)) ∙ c.if-is_same.false) in
     c.send_next.ensures.deeds pipe message
     ∙ ap (λ ds. deeds_shown a c.args.deeds.now.items ++ ds)

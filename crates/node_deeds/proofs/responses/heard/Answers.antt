@@ -1,5 +1,6 @@
 use Rattle.std.proofs.Common.{◌≡◌, [], ◌∷◌, ◌++◌, cond, eqb, sym, subst, ap, ◌∙◌, append-nil}
 use Rattle.std.specs.Prelude.{Option, Some, None}
+use Rattle.node_machine.specs.Carrying.{own_view}
 use Rattle.node_machine.specs.Parts.Deed.{Hears}
 use Rattle.node_machine.specs.HostReplies.{init_deeds}
 use Rattle.node_deeds.specs.declared.inits.Init.{Init as KeptInit}
@@ -20,8 +21,8 @@ returns-in-Some-init-clause-deeds g c = λ pipe message.
     let at : deeds_shown a c.go_on.new.deeds.items ≡ heard_deeds core code value c.args.tasks.now.command =
     c.go_on.ensures.deeds pipe message
     ∙ (ap (λ kept. deeds_shown a c.learn_if_ok.new.deeds.items
-    ++ init_deeds (host_core host kept.journal.state kept.tables (Some i)) code value (Some i)) c.learn_if_ok.ensures.unchanged
-    ∙ (ap (λ ds. ds ++ init_deeds core code value (Some i))
+    ++ init_deeds (own_view (host_core host kept.journal.state kept.tables (Some i))) code value (Some i)) c.learn_if_ok.ensures.unchanged
+    ∙ (ap (λ ds. ds ++ init_deeds (own_view core) code value (Some i))
     (c.learn_if_ok.ensures.deeds a (Some i) ∙ ap (λ items. deeds_shown a items ++ learns) c.only.ensures)
     ∙ ap (heard_deeds core code value) (sym c.in-Some.is))) in
     subst

@@ -1,7 +1,7 @@
 use Rattle.std.proofs.Common.{◌≡◌, List, not, refl, sym, ap, ◌∙◌, subst}
 use Rattle.hci_store.specs.Stored.{Stored}
 use Rattle.link_laws.specs.machine.Machine.{Message}
-use Rattle.node_machine.specs.Controller.{controller_deeds}
+use Rattle.node_machine.specs.Controller.{controller_deeds, view_of}
 use Rattle.node_deeds.specs.declared.desks.Desk.{Desk}
 use Rattle.node_deeds.specs.Shown.{Handling, AreSeen, deeds_shown}
 use Rattle.node_core.proofs.HavingTurns.{at_controller}
@@ -17,7 +17,7 @@ returns-clause-deeds g c noted full start w u order =
     let node = u.node ∙ c.requires.controller in
     let S : List Desk → Type 0 = λ ds. AreSeen c.seen-seen.result.up ds w.ports in
     let seen = subst S (sym c.as_slice.ensures.value) (c.seen-seen.ensures.seen w.ports u.ends order.hosts) in
-    let A : Handling → Type 0 = λ a. deeds_shown a t.new.deeds.items ≡ controller_deeds w.core w.ports h m in
+    let A : Handling → Type 0 = λ a. deeds_shown a t.new.deeds.items ≡ controller_deeds (view_of w.core w.ports) h m in
     at_controller w.core w.ports h m node
     ∙ sym (subst A (sym (handled_idle c.args.self.now m c.requires.controller (sym k.init ∙ order.task.1 node)))
     (t.ensures.deeds w.core w.ports (record { journal = k.journal; tables = k.tables }) seen))

@@ -2,6 +2,7 @@ use Rattle.std.proofs.Common.{◌≡◌, ℕ, List, not, refl, sym, ap, ◌∙�
 use Rattle.std.specs.Prelude.{Option, Some, option_map}
 use Rattle.hci_store.specs.Stored.{Stored}
 use Rattle.link_laws.specs.machine.Machine.{Message}
+use Rattle.node_machine.specs.Carrying.{own_view, end_view}
 use Rattle.node_machine.specs.HostReplies.{host_deeds}
 use Rattle.node_deeds.specs.declared.desks.Desk.{Desk}
 use Rattle.node_deeds.specs.Shown.{Handling, desk_shown, deeds_shown}
@@ -35,7 +36,7 @@ returns-clause-deeds g c noted full start w u order =
     let l = looks_at c.in-Some.desk c.has_link-is_up.result u c.requires.live c.requires.host order
     (ap (option_map (λ (d : Desk). desk_shown d)) (sym c.in-Some.is) ∙ c.desk.ensures w.ports u.ends) (c.has_link-is_up.ensures w.ports u.ends) in
     let H : ℕ → Handling = λ n. record { node = n; init = init_running node.tasks.init; message = m } in
-    let A : ℕ → Type 0 = λ n. deeds_shown (H n) t.new.deeds.items ≡ host_deeds w.core l.port m in
+    let A : ℕ → Type 0 = λ n. deeds_shown (H n) t.new.deeds.items ≡ host_deeds (own_view w.core) (end_view l.port) m in
     at_host w.core w.ports node.number m l.port (λ none. c.requires.host (sym u.node ∙ none)) l.at
     ∙ sym (subst A l.host (t.ensures.deeds w.core l.port l.is))
 
