@@ -1,10 +1,16 @@
 //! A node with one link, alone, answers every message that comes to it, whatever comes, and keeps its commands: so does a node of `end`
 //! over any bytes. Nothing here runs.
 
-ghost use Rattle.std.specs.Prelude.{◌≡◌, ◌⊎◌, ◌==◌, ◌≤◌, ℕ, Bool, false, List, [], ◌∷◌, if◌then◌else◌};
+ghost use Rattle.std.specs.Prelude.{◌≡◌, ◌⊎◌, ◌==◌, ◌≤◌, ◌++◌, ℕ, Bool, false, List, [], ◌∷◌, Some, if◌then◌else◌};
 ghost use Rattle.swp_base.specs.InMemory.{Memory};
+ghost use Rattle.trace_model.specs.declared.entry.Entry.{Entry};
+ghost use Rattle.trace_model.specs.declared.entry.Entry.TheVariants.{Turn};
+ghost use Rattle.trace_model.specs.declared.line.End.{End};
+ghost use Rattle.link_laws.specs.machine.Machine.{oldest};
+ghost use Rattle.node_machine.specs.Parts.{Core};
 ghost use Rattle.node_machine.specs.Node.{found};
-ghost use Rattle.lone_laws.specs.alone.Lone.{LoneCause, lone_events, lone_booted};
+ghost use Rattle.node_laws.specs.answers.Moments.{unhandled_in};
+ghost use Rattle.lone_laws.specs.alone.Lone.{LoneCause, LoneEvent, lone_events, lone_booted};
 ghost use Rattle.lone_laws.specs.alone.Answers.{AnsweredAlone};
 ghost use Rattle.lone_laws.specs.alone.Ends.{EndForm, end_causes, end_history, end_node};
 ghost use Rattle.lone_laws.specs.alone.Answers.{entries_of_events_alone};
@@ -25,6 +31,13 @@ pub fn a_node_alone_answers_every_message()
         AnsweredAlone (found number (link ∷ []) m.content).core link (lone_events (lone_booted number link m) causes) }
     ensures ends { (form : EndForm) (is_clf : Bool) (m : Memory) (bytes : List ℕ) →
         AnsweredAlone (found (if is_clf then 0 else 2) (2 ∷ []) m.content).core 2 (end_history form (end_node is_clf m) bytes) }
+{}
+
+/// In a history whose messages have their turns in order, each message that has its turn is the first of those that are read to have come there
+/// since its node booted and to have had none: so it is with every node alone that answers.
+pub fn messages_that_have_turns_are_the_first()
+    ensures { (found : Core) (h : ℕ) (events : List LoneEvent) → AnsweredAlone found h events → (front back : List Entry) (e : End) (pid : ℕ) →
+        (message : List ℕ) → entries_of_events_alone events ≡ front ++ (Turn e pid message ∷ back) → oldest (unhandled_in front e) ≡ Some (pid, message) }
 {}
 
 /// Over such a run the memory keeps the commands that are noted. At its end a boot finds the tables of the records at its beginning with

@@ -8,15 +8,18 @@ use Rattle.trace_model.specs.declared.entry.Entry.{Entry}
 use Rattle.trace_model.specs.declared.entry.Entry.TheVariants as entry
 use Rattle.link_laws.specs.machine.Machine.{Message, oldest}
 use Rattle.node_machine.specs.Parts.{Core}
+use Rattle.node_machine.specs.world.NodeLegal.{AreInTurn}
+use Rattle.node_laws.specs.answers.Moments.{holds_in, unhandled_in}
 use Rattle.node_laws.specs.answers.Answered.{to_command}
 use Rattle.node_laws.specs.answers.Order.{answerer, hears}
 use Rattle.node_laws.proofs.answers.Rising.{turns_rise, rise_ascends}
 use Rattle.lone_laws.specs.alone.Lone.{LoneEvent}
-use Rattle.lone_laws.specs.alone.Known.{core_since, first_lack_since, is_held_since, lack_since, left_since, reply_since}
-use Rattle.lone_laws.specs.alone.Answers.{AnsweredAlone, AreInTurnAlone, AtEachLoneEvent, AtEachNoted, IsDueAlone, IsHeldAlone, IsRepliedAlone, IsResetAlone}
+use Rattle.lone_laws.specs.alone.Known.{core_since, first_lack_since, lack_since, reply_since}
+use Rattle.lone_laws.specs.alone.Answers.{AnsweredAlone, AtEachLoneEvent, AtEachNoted, IsDueAlone, IsHeldAlone, IsRepliedAlone, IsResetAlone}
 use Rattle.lone_laws.specs.alone.Answers.{HearsFirstAlone, TurnsAscendAlone, entries_of_events_alone, is_asked_down, is_done_alone, is_own_answer}
 use Rattle.lone_laws.specs.alone.Answers.{is_own_cut, is_reset_alone, is_short_alone, noted_since, sync_due, to_turn}
-use Rattle.lone_laws.proofs.answered.Queued.{IsFirstThere, are_in_turn}
+use Rattle.node_laws.proofs.answers.OneFact.{IsFirstThere}
+use Rattle.lone_laws.proofs.answered.Queued.{are_in_turn}
 
 -- ## Walks
 
@@ -81,7 +84,7 @@ answers_wanted entries answers = if list_any is_own_cut (to_turn entries) then t
 
 -- at a turn the first message that came and had none
 abbrev first_found : List Entry → Entry → List Entry → Option (Option Message)
-first_found t (entry.Turn e pid message) behind = Some (oldest (left_since e t))
+first_found t (entry.Turn e pid message) behind = Some (oldest (unhandled_in t e))
 first_found t _ behind = None
 
 abbrev first_wanted : List Entry → Entry → List Entry → Option (Option Message)
@@ -160,7 +163,7 @@ module _ (core : Core) (h : ℕ) where
 
   -- where a message is noted as held, whether it was so before, and what the first one lacks
   abbrev held_found : List Entry → Entry → List Entry → Option (Bool × Option (ℕ × ℕ))
-  held_found t (entry.Held e need spare) behind = Some (is_held_since e t, first_lack_since core h t)
+  held_found t (entry.Held e need spare) behind = Some (holds_in t e, first_lack_since core h t)
   held_found t _ behind = None
 
   abbrev held_wanted : List Entry → Entry → List Entry → Option (Bool × Option (ℕ × ℕ))
@@ -174,7 +177,7 @@ module _ (core : Core) (h : ℕ) where
   -- ## Facts
 
   abbrev pub FactOf : Fact → List LoneEvent → Type 0
-  FactOf InTurn events = AreInTurnAlone (entries_of_events_alone events)
+  FactOf InTurn events = AreInTurn (entries_of_events_alone events)
   FactOf Replied events = AtEachNoted events (IsRepliedAlone core h)
   FactOf Held events = AtEachNoted events (IsHeldAlone core h)
   FactOf Done events = AtEachLoneEvent events (λ t o. is_done_alone core h t o ≡ true)

@@ -13,12 +13,13 @@ use Rattle.link_laws.specs.machine.Machine.Turn.{Hold}
 use Rattle.node_machine.specs.Parts.{Core, Running, Port, Work, Deed}
 use Rattle.node_machine.specs.Carrying.{end_of_node, noting, noted_of, port_at, with_desk, after_turn, turn_at}
 use Rattle.node_machine.specs.Turns.{deeds_of, handles, holds_back}
+use Rattle.node_laws.specs.answers.Moments.{unhandled_in}
 use Rattle.node_laws.proofs.steps.StepWalks.{lets}
 use Rattle.node_laws.specs.passes.Passing.{LastsOverTurns, ComesTo, IsTurnSo, BeginWithTurn, link_of_turn, waiting_at, lacking, takes_up}
 use Rattle.node_laws.specs.passes.Noting.{noted_by_deeds}
 use Rattle.node_laws.proofs.passes.Passing.{comes_so}
 use Rattle.lone_laws.specs.alone.Lone.{Lone, LoneCause, end_of_node_alone, lone_input, emits_behind, session_with}
-use Rattle.lone_laws.specs.alone.Known.{RecErrors, left_since, talk_since, reply_since, lack_since, first_lack_since}
+use Rattle.lone_laws.specs.alone.Known.{RecErrors, talk_since, reply_since, lack_since, first_lack_since}
 use Rattle.lone_laws.specs.alone.Answers.{AnswersAlone, IsRepliedAlone, IsHeldAlone, noted_since, entries_of_deeds}
 use Rattle.lone_laws.proofs.answered.Reading.{Read, left_is}
 use Rattle.lone_laws.proofs.answered.Turning.{IsHere, alone_here}
@@ -125,7 +126,7 @@ module _ (rest : Core) (number h : ℕ) (some : 1 ≤ h) (most : h ≤ 7) (s : �
     pub its_lack : lack_since F h T m ≡ lacking w k m
     its_lack = lack_read rest number h some most s t w a k m link_k
 
-    pub its_left : left_since e T ≡ m ∷ messages
+    pub its_left : unhandled_in T e ≡ m ∷ messages
     its_left =
         let here : IsHere a.known.keeps.port k m messages = alone_here number h some most (begin_read F) t k m messages w a.known.keeps waits in
         sym (left_is e T (begin_read F)) ∙ (ap (λ (z : Read). z.left) a.known.keeps.read ∙ here.got)

@@ -9,6 +9,7 @@ use Rattle.link_laws.specs.machine.Machine.{Message, LinkInput, oldest}
 use Rattle.node_machine.specs.Parts.{Core, Running, Port, Work}
 use Rattle.node_machine.specs.Turns.{passes, goes_through_ends}
 use Rattle.node_machine.specs.Node.{steps}
+use Rattle.node_laws.specs.answers.Moments.{holds_in, unhandled_in}
 use Rattle.node_laws.specs.kept.Books.{hosts_of_ends}
 use Rattle.registry.proofs.ValueLemmas.{AllByRecursion-append}
 use Rattle.node_laws.specs.passes.Passing.{BeginWithTurn, link_of_turn, IsNoTurn, AreNoTurns, ComesTo, ArePassed, IsTurnSo, IsBehind, Stays}
@@ -20,7 +21,6 @@ use Rattle.node_laws.proofs.passes.Before.{steps_are, before_entries, before_non
 use Rattle.node_laws.proofs.passes.Behind.{leaves_behind}
 use Rattle.lone_laws.specs.alone.Lone.{Lone, LoneCause, lone_end, lone_input, node_input, lone_arrival, lone_work, frames_behind, emits_behind}
 use Rattle.lone_laws.specs.alone.Lone.LoneCause.{FrameComes, FrameIsRefused, TickComes, ResetComes, StartComes, StopComes}
-use Rattle.lone_laws.specs.alone.Known.{left_since, is_held_since}
 use Rattle.lone_laws.specs.alone.Answers.{is_at_rest}
 use Rattle.lone_laws.proofs.answered.Reading.{eqb_same, Read, read_all, read-append, left_is, held_is, reads_of, nothing_read, Alone}
 use Rattle.lone_laws.proofs.answered.Turning.{own_end, IsHere, alone_here, alone_at, link_is}
@@ -34,8 +34,8 @@ begin_read found = record { core = found; left = []; held = false }
 
 -- a message that has its turn is the first that came and had none, and one that is noted as held wasn't noted so
 abbrev pub OrderAt : List Entry → Entry → List Entry → Type 0
-OrderAt t (entry.Turn f pid message) behind = oldest (left_since f t) ≡ Some (pid, message)
-OrderAt t (entry.Held f need spare) behind = is_held_since f t ≡ false
+OrderAt t (entry.Turn f pid message) behind = oldest (unhandled_in t f) ≡ Some (pid, message)
+OrderAt t (entry.Held f need spare) behind = holds_in t f ≡ false
 OrderAt t _ behind = Unit {0}
 
 pub order_silent : (t : List Entry) (x : Entry) (behind : List Entry) → link_of_turn x ≡ None → OrderAt t x behind
@@ -153,10 +153,10 @@ module _ (found : Core) (t : List Entry) (l : Lone) (some : 1 ≤ l.link) (most 
       (pid, message) a.messages a.work u a.waiting in
       let its : f ≡ lone_end l =
       a.its_end ∙ own_end a.work.core l.number l.link a.host u.node (link_is l.number l.link some most r t a.host u.port u.host here.own) in
-      let left : left_since (lone_end l) (t ++ a.work.entries) ≡ (pid, message) ∷ a.messages =
+      let left : unhandled_in (t ++ a.work.entries) (lone_end l) ≡ (pid, message) ∷ a.messages =
       sym (left_is (lone_end l) (t ++ a.work.entries) r) ∙ (ap (λ (z : Read). z.left) u.read ∙ here.got) in
-      ap (λ z. oldest (left_since z (t ++ (begun.entries ++ front)))) its
-      ∙ (ap (λ es. oldest (left_since (lone_end l) (t ++ es))) (sym a.entries) ∙ ap oldest left)
+      ap (λ z. oldest (unhandled_in (t ++ (begun.entries ++ front)) z)) its
+      ∙ (ap (λ es. oldest (unhandled_in (t ++ es) (lone_end l))) (sym a.entries) ∙ ap oldest left)
   turn_order front back (entry.Held f need spare) on a =
       let u : Alone l.number l.link r t a.work = alone_at l.number l.link some most r t begun a.work (begun_alone on) a.keeps in
       let here : IsHere u.port a.host a.message a.messages = alone_here l.number l.link some most r t a.host a.message a.messages a.work u a.waiting in
@@ -165,9 +165,9 @@ module _ (found : Core) (t : List Entry) (l : Lone) (some : 1 ≤ l.link) (most 
       let holds : u.port.desk.holds ≡ false =
       sym (ap (λ b. option_map_or (λ (p : Port). p.desk.holds) (cond b (Some u.port) None) false) here.own)
       ∙ (sym (ap (λ ps. is_held_at ps a.host) u.ports_are) ∙ a.fresh) in
-      let held : is_held_since (lone_end l) (t ++ a.work.entries) ≡ false =
+      let held : holds_in (t ++ a.work.entries) (lone_end l) ≡ false =
       sym (held_is (lone_end l) (t ++ a.work.entries) r) ∙ (ap (λ (z : Read). z.held) u.read ∙ holds) in
-      ap (λ z. is_held_since z (t ++ (begun.entries ++ front))) its ∙ (ap (λ es. is_held_since (lone_end l) (t ++ es)) (sym a.entries) ∙ held)
+      ap (λ z. holds_in (t ++ (begun.entries ++ front)) z) its ∙ (ap (λ es. holds_in (t ++ es) (lone_end l)) (sym a.entries) ∙ held)
   turn_order front back _ on a = tt
 
   pub in_order : (front behind : List Entry) (x : Entry) → noted ≡ front ++ (x ∷ behind) → OrderAt (t ++ front) x behind

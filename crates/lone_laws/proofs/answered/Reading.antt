@@ -32,8 +32,9 @@ use Rattle.node_machine.specs.Parts.Deed.{Commits, Sends, SaysOk, Asks, Releases
 use Rattle.node_machine.specs.Carrying.{own_side, end_of_node, noting, port_at, changed_if, with_port, with_desk, after_turn, noted_of, turn_at, loses_power}
 use Rattle.node_machine.specs.Carrying.{keeps}
 use Rattle.node_machine.specs.Carrying.{commit, done}
+use Rattle.node_laws.specs.answers.Moments.{holds_after, unhandled_after}
 use Rattle.lone_laws.specs.alone.Lone.{end_of_node_alone}
-use Rattle.lone_laws.specs.alone.Known.{core_with, core_noted, left_noted, hold_noted}
+use Rattle.lone_laws.specs.alone.Known.{core_with, core_noted}
 use Rattle.lone_laws.proofs.answered.Own.{IsOwnDeed}
 
 -- a number is itself
@@ -48,7 +49,7 @@ pub record Read : Type 0 where
   pub held : Bool
 
 abbrev pub read_noted : End → Read → Entry → Read
-read_noted e r x = record { core = core_noted r.core x; left = left_noted e r.left x; held = hold_noted e r.held x }
+read_noted e r x = record { core = core_noted r.core x; left = unhandled_after e r.left x; held = holds_after e r.held x }
 
 abbrev pub read_all : End → Read → List Entry → Read
 read_all e r t = fold (read_noted e) r t
@@ -60,11 +61,11 @@ pub core_is : (e : End) (t : List Entry) (r : Read) → (read_all e r t).core �
 core_is e [] r = refl
 core_is e (x ∷ t) r = core_is e t (read_noted e r x)
 
-pub left_is : (e : End) (t : List Entry) (r : Read) → (read_all e r t).left ≡ fold (left_noted e) r.left t
+pub left_is : (e : End) (t : List Entry) (r : Read) → (read_all e r t).left ≡ fold (unhandled_after e) r.left t
 left_is e [] r = refl
 left_is e (x ∷ t) r = left_is e t (read_noted e r x)
 
-pub held_is : (e : End) (t : List Entry) (r : Read) → (read_all e r t).held ≡ fold (hold_noted e) r.held t
+pub held_is : (e : End) (t : List Entry) (r : Read) → (read_all e r t).held ≡ fold (holds_after e) r.held t
 held_is e [] r = refl
 held_is e (x ∷ t) r = held_is e t (read_noted e r x)
 

@@ -15,11 +15,11 @@ use Rattle.link_laws.specs.machine.Machine.{Message, LinkInput, oldest}
 use Rattle.node_machine.specs.Parts.{Core, Running, Port, Work}
 use Rattle.node_machine.specs.Carrying.{end_of_node, needs, first_lack}
 use Rattle.node_machine.specs.Turns.{deeds_for}
+use Rattle.node_laws.specs.answers.Moments.{unhandled_after, unhandled_in}
 use Rattle.node_laws.specs.passes.Passing.{BeginWithTurn, AreAlong, links_of_turns, ComesTo, IsBehind, Stays, waiting_at, is_held_at}
 use Rattle.lone_laws.specs.alone.Lone.{Lone, LoneCause, end_of_node_alone, lone_input, emits_behind, frames_behind, session_with}
-use Rattle.lone_laws.specs.alone.Known.{RecErrors, LoneTalk, core_noted, left_noted, talk_noted, no_session_now, spare_in_talk, core_since}
+use Rattle.lone_laws.specs.alone.Known.{RecErrors, LoneTalk, core_noted, talk_noted, no_session_now, spare_in_talk, core_since}
 use Rattle.lone_laws.specs.alone.Known.{spare_with_link, view_with_link}
-use Rattle.lone_laws.specs.alone.Known.{left_since}
 use Rattle.lone_laws.specs.alone.Known.{talk_since, errors_since, lack_since}
 use Rattle.lone_laws.specs.alone.Answers.{is_left_lacking}
 use Rattle.lone_laws.proofs.answered.Reading.{eqb_same, Read, Alone, left_is}
@@ -32,7 +32,7 @@ use Rattle.lone_laws.proofs.answered.Keeping.{core_of, KeepsAll, all_passing}
 -- an entry that changes nothing of what is read of a reply
 abbrev pub IsIdle : End → ℕ → Entry → Type 0
 IsIdle e n x =
-    ((c : Core) → core_noted c x ≡ c) × ((z : LoneTalk) → talk_noted e n z x ≡ z) × IsSettled e x × ((ms : List Message) → left_noted e ms x ≡ ms)
+    ((c : Core) → core_noted c x ≡ c) × ((z : LoneTalk) → talk_noted e n z x ≡ z) × IsSettled e x × ((ms : List Message) → unhandled_after e ms x ≡ ms)
 
 idle_core : (e : End) (n : ℕ) (es : List Entry) → AllByRecursion (IsIdle e n) es → (c : Core) → fold core_noted c es ≡ c
 idle_core e n [] a c = refl
@@ -42,9 +42,9 @@ idle_talk : (e : End) (n : ℕ) (es : List Entry) → AllByRecursion (IsIdle e n
 idle_talk e n [] a z = refl
 idle_talk e n (x ∷ es) a z = ap (λ d. fold (talk_noted e n) d es) (a.0.1 z) ∙ idle_talk e n es a.1 z
 
-idle_left : (e : End) (n : ℕ) (es : List Entry) → AllByRecursion (IsIdle e n) es → (ms : List Message) → fold (left_noted e) ms es ≡ ms
+idle_left : (e : End) (n : ℕ) (es : List Entry) → AllByRecursion (IsIdle e n) es → (ms : List Message) → fold (unhandled_after e) ms es ≡ ms
 idle_left e n [] a ms = refl
-idle_left e n (x ∷ es) a ms = ap (λ d. fold (left_noted e) d es) (a.0.3 ms) ∙ idle_left e n es a.1 ms
+idle_left e n (x ∷ es) a ms = ap (λ d. fold (unhandled_after e) d es) (a.0.3 ms) ∙ idle_left e n es a.1 ms
 
 idle_settled : (e : End) (n : ℕ) (es : List Entry) → AllByRecursion (IsIdle e n) es → AllByRecursion (IsSettled e) es
 idle_settled e n [] a = tt
@@ -76,8 +76,8 @@ module _ (F : Core) (h : ℕ) where
         ap (λ (r : RecErrors). r.errors) (errs-append e (begin_errs F) T X)
         ∙ settled_errs e X (idle_settled e F.node X idle) (errs_all e (begin_errs F) T)
 
-    pub left_same : left_since e (T ++ X) ≡ left_since e T
-    left_same = fold-append (left_noted e) [] T X ∙ idle_left e F.node X idle (left_since e T)
+    pub left_same : unhandled_in (T ++ X) e ≡ unhandled_in T e
+    left_same = fold-append (unhandled_after e) [] T X ∙ idle_left e F.node X idle (unhandled_in T e)
 
     pub lack_same_there : (m : Message) → lack_since F h (T ++ X) m ≡ lack_since F h T m
     lack_same_there m =
@@ -132,14 +132,14 @@ module _ (rest : Core) (t : List Entry) (l : Lone) (some : 1 ≤ l.link) (most :
       ∙ ap₂ (λ x y. x ++ y) (sym b.entries) (append-nil b.own)))
       ∙ (ap (λ es. t ++ es) (append_assoc b.work.entries b.own emits) ∙ sym (append_assoc t b.work.entries own)) in
       ap (is_left_lacking G l.link) is ∙ go b.work K b.on b.own (waiting_at b.work.ports l.link) refl b.stays where
-        got : (w : Work) (K : KnowsAll rest l.number l.link some most s t w) → left_since f (t ++ w.entries) ≡ waiting_at w.ports l.link
+        got : (w : Work) (K : KnowsAll rest l.number l.link some most s t w) → unhandled_in (t ++ w.entries) f ≡ waiting_at w.ports l.link
         got w K =
             let a : Alone l.number l.link (begin_read G) t w = K.known.keeps in
             sym (left_is f (t ++ w.entries) (begin_read G)) ∙ (ap (λ (z : Read). z.left) a.read
             ∙ sym (ap (λ ps. waiting_at ps l.link) a.ports_are
             ∙ ap (λ z. option_map_or (λ (p : Port). p.side.got) (cond z (Some a.port) None) []) (ap (λ x. eqb x l.link) a.host ∙ eqb_same l.link)))
 
-        by : (T own : List Entry) (ms : List Message) → AllByRecursion (IsIdle f l.number) own → left_since f T ≡ ms
+        by : (T own : List Entry) (ms : List Message) → AllByRecursion (IsIdle f l.number) own → unhandled_in T f ≡ ms
             → ((m : Message) (messages : List Message) → ms ≡ m ∷ messages → is_some (lack_since G l.link T m) ≡ true)
             → is_left_lacking G l.link (T ++ own) ≡ true
         by T own [] idle left lacks = ap

@@ -21,6 +21,8 @@ use Rattle.tables_laws.specs.tables.Changes.{JoinTwo}
 use Rattle.tables_laws.proofs.tables.SortedTables.{AreTables-apply, AreTables-close, AreTables-none}
 use Rattle.tables_laws.proofs.tables.TwoHosts.{JoinTwo-after, JoinTwo-closed}
 use Rattle.hci_store.specs.Image.{applied, tables_of}
+use Rattle.node_machine.specs.world.NodeLegal.{AreInTurn}
+use Rattle.node_laws.specs.answers.Moments.{holds_after, unhandled_after}
 use Rattle.node_laws.proofs.kept.Booting.{command_read}
 use Rattle.link_laws.specs.messages.Links.Loss.{Broken}
 use Rattle.history.specs.Steps.{lost_as}
@@ -37,10 +39,10 @@ use Rattle.node_laws.specs.answers.Order.{is_answer_of}
 use Rattle.lone_laws.specs.alone.Lone.{Lone, LoneCause, LoneEvent, lone_end, lone_input, node_input, lone_arrival, lone_work, emits_behind, with_refusal}
 use Rattle.lone_laws.specs.alone.Lone.{frames_behind, noted_of_refused, lone_behind_step, does_by_power, lone_step, lone_events, lone_booted, role_alone}
 use Rattle.lone_laws.specs.alone.Lone.LoneCause.{FrameComes, FrameIsRefused, TickComes, ResetComes, StartComes, StopComes}
-use Rattle.lone_laws.specs.alone.Known.{RecErrors, left_noted, hold_noted, no_session_now}
+use Rattle.lone_laws.specs.alone.Known.{RecErrors, no_session_now}
 use Rattle.lone_laws.specs.alone.Answers.{AtEachNoted, AtEachLoneEvent, entries_of_events_alone, is_own_cut, runs_behind, is_at_rest, is_left_lacking}
 use Rattle.lone_laws.specs.alone.Answers.{is_done_alone}
-use Rattle.lone_laws.specs.alone.Answers.{is_short_alone, goes_through_end, IsRepliedAlone, IsHeldAlone, IsDueAlone, IsResetAlone, AreInTurnAlone}
+use Rattle.lone_laws.specs.alone.Answers.{is_short_alone, goes_through_end, IsRepliedAlone, IsHeldAlone, IsDueAlone, IsResetAlone}
 use Rattle.lone_laws.specs.alone.Answers.{AnsweredAlone, HearsFirstAlone, TurnsAscendAlone}
 use Rattle.lone_laws.proofs.answered.Reading.{eqb_same}
 use Rattle.lone_laws.proofs.answered.Turning.{same_self}
@@ -58,7 +60,8 @@ use Rattle.lone_laws.proofs.answered.Keeping.{core_of, errors_of, KeepsAll, all_
 use Rattle.lone_laws.proofs.answered.Shorting.{short_behind}
 use Rattle.lone_laws.proofs.answered.Dues.{due_in_step}
 use Rattle.lone_laws.proofs.answered.Resets.{reset_in_step}
-use Rattle.lone_laws.proofs.answered.Queued.{IsFirstThere, are_in_turn}
+use Rattle.node_laws.proofs.answers.OneFact.{IsFirstThere}
+use Rattle.lone_laws.proofs.answered.Queued.{are_in_turn}
 use Rattle.lone_laws.proofs.answered.Rising.{heard_in_step, own_ascend}
 
 is_first : (t : List Entry) (x : Entry) (behind : List Entry) → OrderAt t x behind → IsFirstThere t x
@@ -215,7 +218,7 @@ module _ (rest : Core) (t : List Entry) (l : Lone) (n : Running) (on : l.node �
   }
 
   rests_still : is_at_rest e t ≡ true → is_at_rest e (t ++ lost) ≡ true
-  rests_still rests = ap₂ (λ ms b. is_none (oldest ms) || b) (fold-append (left_noted e) [] t lost) (fold-append (hold_noted e) false t lost) ∙ rests
+  rests_still rests = ap₂ (λ ms b. is_none (oldest ms) || b) (fold-append (unhandled_after e) [] t lost) (fold-append (holds_after e) false t lost) ∙ rests
 
   refused_facts : is_at_rest e t ≡ true → EventFacts J l.link t (record { cause = FrameIsRefused f; entries = lost })
   refused_facts rests = record {
@@ -386,7 +389,7 @@ module _ (number h : ℕ) (some : 1 ≤ h) (most : h ≤ 7) (its : eqb number 0 
   pub lone_reset : (causes : List LoneCause) → AtEachLoneEvent (lone_events l causes) (IsResetAlone booted_core h)
   lone_reset causes past back o q = (lone_facts causes past back o q).reset
 
-  pub lone_in_turn : (causes : List LoneCause) → AreInTurnAlone (entries_of_events_alone (lone_events l causes))
+  pub lone_in_turn : (causes : List LoneCause) → AreInTurn (entries_of_events_alone (lone_events l causes))
   lone_in_turn causes =
       are_in_turn (lone_events l causes) (λ past back o front behind x q z. (lone_facts causes past back o q).first front behind x z)
 

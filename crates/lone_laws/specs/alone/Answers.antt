@@ -19,13 +19,13 @@ use Rattle.link_laws.specs.machine.Machine.{oldest}
 use Rattle.node_machine.specs.Parts.{Core, Deed}
 use Rattle.node_machine.specs.Parts.Deed.{Commits, Sends, SaysOk, Drops}
 use Rattle.node_machine.specs.Carrying.{finds_room}
-use Rattle.hcp_packet.specs.Packets.{IsFrontOf}
-use Rattle.node_machine.specs.world.NodeLegal.{turn_entry_at, got_entry}
+use Rattle.node_machine.specs.world.NodeLegal.{AreInTurn}
+use Rattle.node_laws.specs.answers.Moments.{holds_in, unhandled_in}
 use Rattle.node_laws.specs.answers.Answered.{to_command}
 use Rattle.node_laws.specs.answers.Order.{IsAscending, hears, is_answer_of, turn_link}
 use Rattle.lone_laws.specs.alone.Lone.{LoneCause, LoneEvent, end_of_node_alone}
 use Rattle.lone_laws.specs.alone.Lone.LoneCause.{FrameComes, FrameIsRefused, ResetComes}
-use Rattle.lone_laws.specs.alone.Known.{core_with, core_since, left_since, is_held_since, talk_since, reply_since, lack_since, first_lack_since}
+use Rattle.lone_laws.specs.alone.Known.{core_with, core_since, talk_since, reply_since, lack_since, first_lack_since}
 
 -- ## Where facts speak
 
@@ -103,7 +103,7 @@ IsRepliedAlone found h t _ behind = Unit {0}
 
 -- Where a message is noted as held, it wasn't noted so before, and lacks just these blocks.
 abbrev pub IsHeldAlone : Core → ℕ → List Entry → Entry → List Entry → Type 0
-IsHeldAlone found h t (entry.Held e need spare) behind = (is_held_since e t ≡ false) × (first_lack_since found h t ≡ Some (need, spare))
+IsHeldAlone found h t (entry.Held e need spare) behind = (holds_in t e ≡ false) × (first_lack_since found h t ≡ Some (need, spare))
 IsHeldAlone found h t _ behind = Unit {0}
 
 -- the node runs behind an event that began while it ran
@@ -112,7 +112,7 @@ runs_behind o = not (list_any is_own_cut o.entries)
 
 -- all messages that came had their turns, or all before one that is held
 abbrev pub is_at_rest : End → List Entry → Bool
-is_at_rest e t = is_none (oldest (left_since e t)) || is_held_since e t
+is_at_rest e t = is_none (oldest (unhandled_in t e)) || holds_in t e
 
 -- So it is behind each event.
 abbrev pub is_done_alone : Core → ℕ → List Entry → LoneEvent → Bool
@@ -125,7 +125,7 @@ goes_through_end _ = true
 
 -- the first message that is left lacks room
 abbrev pub is_left_lacking : Core → ℕ → List Entry → Bool
-is_left_lacking found h t = is_none (oldest (left_since (end_of_node_alone found.node h) t)) || is_some (first_lack_since found h t)
+is_left_lacking found h t = is_none (oldest (unhandled_in t (end_of_node_alone found.node h))) || is_some (first_lack_since found h t)
 
 -- so it is where the node has gone through its end
 abbrev pub is_short_alone : Core → ℕ → List Entry → LoneEvent → Bool
@@ -172,14 +172,9 @@ HearsFirstAlone x behind = (n : ℕ) → is_answer_of n x ≡ true → AllByRecu
 
 -- ## Answered
 
--- Messages have their turns in the order in which they came: those of an end that had one are a front of those that it got.
-abbrev pub AreInTurnAlone : List Entry → Type 0
-AreInTurnAlone t =
-    (front back : List Entry) (e : End) → t ≡ front ++ back → IsFrontOf (filter_map (turn_entry_at e) front) (filter_map (got_entry e) front)
-
 -- Every message that comes to a node alone is answered, and nothing else is: its boot found this, and its link is that with the host h.
 pub record AnsweredAlone (found : Core) (h : ℕ) (events : List LoneEvent) : Type 0 where
-  pub in_turn : AreInTurnAlone (entries_of_events_alone events)
+  pub in_turn : AreInTurn (entries_of_events_alone events)
   pub replied : AtEachNoted events (IsRepliedAlone found h)
   pub held : AtEachNoted events (IsHeldAlone found h)
   pub done : AtEachLoneEvent events (λ t o. is_done_alone found h t o ≡ true)

@@ -1,5 +1,5 @@
 -- What is read of a node alone, off what its boot found and what was noted since.
-use Rattle.std.specs.Prelude.{ℕ, ◌+◌, ◌-◌, ◌==◌, ◌&&◌, min, Bool, true, false, if◌then◌else◌, List, [], ◌∷◌, ◌++◌, drop, is_some, unwrap_or, Option, Some, None}
+use Rattle.std.specs.Prelude.{ℕ, ◌+◌, ◌-◌, ◌==◌, ◌&&◌, min, false, if◌then◌else◌, List, [], ◌∷◌, ◌++◌, drop, is_some, unwrap_or, Option, Some, None}
 use Rattle.std.specs.List.{fold}
 use Rattle.std.specs.Option.{option_and_then}
 use Rattle.trace_model.specs.declared.entry.Entry.{Entry}
@@ -16,6 +16,7 @@ use Rattle.node_machine.specs.Parts.{Core, Deed, EndView, NodeView}
 use Rattle.node_machine.specs.Carrying.{own_view, needs, first_lack}
 use Rattle.node_machine.specs.Turns.{deeds_for}
 use Rattle.node_machine.specs.world.NodeFilters.{was_refused}
+use Rattle.node_laws.specs.answers.Moments.{unhandled_in}
 use Rattle.node_laws.specs.views.Errors.{errors_set_by, is_any_ok, leads_to_link_gate}
 use Rattle.lone_laws.specs.alone.Lone.{end_of_node_alone}
 
@@ -32,27 +33,6 @@ core_noted c _ = c
 -- What a node keeps behind these entries, where its boot found this.
 abbrev pub core_since : Core → List Entry → Core
 core_since found t = fold core_noted found t
-
--- ## What came to its end
-
--- the messages that came at an end and had no turn, after an entry
-abbrev pub left_noted : End → List Message → Entry → List Message
-left_noted e messages (entry.Got f n pid message) = if same_end f e then messages ++ (pid, message) ∷ [] else messages
-left_noted e messages (entry.Turn f pid message) = if same_end f e then drop 1 messages else messages
-left_noted e messages _ = messages
-
--- the messages that came at an end and had no turn, in order
-abbrev pub left_since : End → List Entry → List Message
-left_since e t = fold (left_noted e) [] t
-
--- the first of them was noted as held
-abbrev pub hold_noted : End → Bool → Entry → Bool
-hold_noted e holds (entry.Held f need spare) = if same_end f e then true else holds
-hold_noted e holds (entry.Turn f pid message) = if same_end f e then false else holds
-hold_noted e holds _ = holds
-
-abbrev pub is_held_since : End → List Entry → Bool
-is_held_since e t = fold (hold_noted e) false t
 
 -- ## REC_ERROR
 
@@ -155,4 +135,4 @@ lack_since found h t m = first_lack (spare_with_link h (spare_since found h t)) 
 
 -- that of the first message that came there and had no turn
 abbrev pub first_lack_since : Core → ℕ → List Entry → Option (ℕ × ℕ)
-first_lack_since found h t = option_and_then (lack_since found h t) (oldest (left_since (end_of_node_alone found.node h) t))
+first_lack_since found h t = option_and_then (lack_since found h t) (oldest (unhandled_in t (end_of_node_alone found.node h)))

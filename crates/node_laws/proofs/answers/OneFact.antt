@@ -72,44 +72,69 @@ first_dropped (k ∷ ms) m q = let same : k ≡ m = cc in ap (λ z. z ∷ ms) sa
 some_is : {X : Type 0} (x y : X) → Some x ≡ Some y → x ≡ y
 some_is x y q = cc
 
+-- a message that has its turn is the first that came and had none
+abbrev pub IsFirstThere : List Entry → Entry → Type 0
+IsFirstThere t (entry.Turn e pid message) = oldest (unhandled_in t e) ≡ Some (pid, message)
+IsFirstThere t _ = Unit {0}
+
+-- so it is with each of these entries, behind others
+abbrev AreFirst : List Entry → List Entry → Type 0
+AreFirst before t = (front back : List Entry) (x : Entry) → t ≡ front ++ (x ∷ back) → IsFirstThere (before ++ front) x
+
 module _ (e : End) where
-  becomes : (before : List Entry) (x : Entry) → first_found before x ≡ first_wanted x
+  becomes : (before : List Entry) (x : Entry) → IsFirstThere before x
       → Becomes (doing e x) (unhandled_in before e) (unhandled_after e (unhandled_in before e) x)
-  becomes before (entry.Got f n pid message) same = by (same_end f e) where
+  becomes before (entry.Got f n pid message) first = by (same_end f e) where
     by : (b : Bool) → Becomes (cond b (Adds (pid, message)) Nothing) (unhandled_in before e)
         (cond b (unhandled_in before e ++ (pid, message) ∷ []) (unhandled_in before e))
     by true = refl
     by false = refl
-  becomes before (entry.Turn f pid message) same = by (same_end f e) refl where
+  becomes before (entry.Turn f pid message) first = by (same_end f e) refl where
     by : (b : Bool) → same_end f e ≡ b
         → Becomes (cond b (Takes (pid, message)) Nothing) (unhandled_in before e) (cond b (drop 1 (unhandled_in before e)) (unhandled_in before e))
     by true z =
         first_dropped (unhandled_in before e) (pid, message)
-        (subst (λ g. oldest (unhandled_in before g) ≡ Some (pid, message)) (end_is f e z) (some_is (oldest (unhandled_in before f)) (Some (pid, message)) same))
+        (subst (λ g. oldest (unhandled_in before g) ≡ Some (pid, message)) (end_is f e z) first)
     by false z = refl
-  becomes before (entry.Booted node k) same = by (node == node_of e) where
+  becomes before (entry.Booted node k) first = by (node == node_of e) where
     by : (b : Bool) → Becomes (cond b Clears Nothing) (unhandled_in before e) (cond b [] (unhandled_in before e))
     by true = refl
     by false = refl
-  becomes before x same = refl
+  becomes before x first = refl
 
-  goes_on : (t before : List Entry) → firsts_found before t ≡ firsts_wanted t → Goes e (unhandled_in before e) t (unhandled_in (before ++ t) e)
-  goes_on [] before same = ap (λ l. unhandled_in l e) (sym (append-nil before))
-  goes_on (x ∷ t) before same = (
+  goes_on : (t before : List Entry) → AreFirst before t → Goes e (unhandled_in before e) t (unhandled_in (before ++ t) e)
+  goes_on [] before each = ap (λ l. unhandled_in l e) (sym (append-nil before))
+  goes_on (x ∷ t) before each = (
     unhandled_in (before ++ x ∷ []) e,
     (
       subst (Becomes (doing e x) (unhandled_in before e)) (sym (fold-append (unhandled_after e) [] before (x ∷ [])))
-          (becomes before x (ap (first_or None) same)),
+          (becomes before x (subst (λ l. IsFirstThere l x) (append-nil before) (each [] t x refl))),
       subst (λ l. Goes e (unhandled_in (before ++ x ∷ []) e) t (unhandled_in l e)) (append_assoc before (x ∷ []) t)
-          (goes_on t (before ++ x ∷ []) (ap rest_of same)),
+          (goes_on t (before ++ x ∷ []) (λ front back y q.
+          subst (λ l. IsFirstThere l y) (sym (append_assoc before (x ∷ []) front)) (each (x ∷ front) back y (ap (λ l. x ∷ l) q)))),
     ),
   )
 
-in_turn : (t : List Entry) → firsts_found [] t ≡ firsts_wanted t → AreInTurn t
-in_turn t same front back e at =
-    let all : Goes e [] (front ++ back) (unhandled_in t e) = subst (λ l. Goes e [] l (unhandled_in t e)) at (goes_on e t [] same) in
+-- Where each message that has its turn is the first that came and had none, messages have their turns in the order in which they came.
+pub firsts_in_turn : (t : List Entry) → ((front back : List Entry) (x : Entry) → t ≡ front ++ (x ∷ back) → IsFirstThere front x) → AreInTurn t
+firsts_in_turn t each front back e at =
+    let all : Goes e [] (front ++ back) (unhandled_in t e) = subst (λ l. Goes e [] l (unhandled_in t e)) at (goes_on e t [] each) in
     let f : Front e [] front = front_goes e front back [] (unhandled_in t e) all in
     (f.left, all_left e front [] [] f.left refl f.goes)
+
+first_so : (t : List Entry) (x : Entry) → first_found t x ≡ first_wanted x → IsFirstThere t x
+first_so t (entry.Turn e pid message) same = some_is (oldest (unhandled_in t e)) (Some (pid, message)) same
+first_so t _ same = tt
+
+first_at : (front back before : List Entry) (x : Entry) → firsts_found before (front ++ (x ∷ back)) ≡ firsts_wanted (front ++ (x ∷ back))
+    → IsFirstThere (before ++ front) x
+first_at [] back before x same = subst (λ l. IsFirstThere l x) (sym (append-nil before)) (first_so before x (ap (first_or None) same))
+first_at (y ∷ front) back before x same =
+    subst (λ l. IsFirstThere l x) (append_assoc before (y ∷ []) front) (first_at front back (before ++ y ∷ []) x (ap rest_of same))
+
+in_turn : (t : List Entry) → firsts_found [] t ≡ firsts_wanted t → AreInTurn t
+in_turn t same =
+    firsts_in_turn t (λ front back x at. first_at front back [] x (subst (λ l. firsts_found [] l ≡ firsts_wanted l) at same))
 
 -- ## Nothing comes behind an answer
 

@@ -64,14 +64,16 @@ unhandled_after e messages _ = messages
 abbrev pub unhandled_in : List Entry → End → List Message
 unhandled_in t e = fold (unhandled_after e) [] t
 
+-- the first of them was noted as held, after an entry
+abbrev pub holds_after : End → Bool → Entry → Bool
+holds_after e holds (entry.Held f need spare) = if same_end f e then true else holds
+holds_after e holds (entry.Turn f pid message) = if same_end f e then false else holds
+holds_after e holds (entry.Booted n k) = if n == node_of e then false else holds
+holds_after e holds _ = holds
+
 -- the first of them was noted as held
 abbrev pub holds_in : List Entry → End → Bool
-holds_in t e = fold after false t where
-  after : Bool → Entry → Bool
-  after holds (entry.Held f need spare) = if same_end f e then true else holds
-  after holds (entry.Turn f pid message) = if same_end f e then false else holds
-  after holds (entry.Booted n k) = if n == node_of e then false else holds
-  after holds _ = holds
+holds_in t e = fold (holds_after e) false t
 
 -- a node runs
 abbrev pub runs_in : List Entry → ℕ → Bool
