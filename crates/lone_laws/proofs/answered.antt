@@ -12,6 +12,7 @@ pub mod Roles
 pub mod Rooms
 pub mod Shapes
 pub mod Knowing
+pub mod Mine
 pub mod Replying
 pub mod Errors
 pub mod Linked

@@ -10,14 +10,15 @@ use Rattle.link_laws.specs.machine.Machine.{Message, oldest}
 use Rattle.node_machine.specs.Parts.{Core}
 use Rattle.node_machine.specs.world.NodeLegal.{AreInTurn}
 use Rattle.node_laws.specs.answers.Moments.{holds_in, unhandled_in}
-use Rattle.node_laws.specs.answers.Answered.{to_command}
-use Rattle.node_laws.specs.answers.Order.{answerer, hears}
+use Rattle.node_laws.specs.kept.Reckonings.{is_cut_of}
+use Rattle.node_laws.specs.answers.Answered.{before_turn, to_command}
+use Rattle.node_laws.specs.answers.Order.{answerer, hears, is_answer_of}
 use Rattle.node_laws.proofs.answers.Rising.{turns_rise, rise_ascends}
 use Rattle.lone_laws.specs.alone.Lone.{LoneEvent}
 use Rattle.lone_laws.specs.alone.Known.{core_since, first_lack_since, lack_since, reply_since}
 use Rattle.lone_laws.specs.alone.Answers.{AnsweredAlone, AtEachLoneEvent, AtEachNoted, IsDueAlone, IsHeldAlone, IsRepliedAlone, IsResetAlone}
-use Rattle.lone_laws.specs.alone.Answers.{HearsFirstAlone, TurnsAscendAlone, entries_of_events_alone, is_asked_down, is_done_alone, is_own_answer}
-use Rattle.lone_laws.specs.alone.Answers.{is_own_cut, is_reset_alone, is_short_alone, noted_since, sync_due, to_turn}
+use Rattle.lone_laws.specs.alone.Answers.{HearsFirstAlone, TurnsAscendAlone, entries_of_events_alone, is_asked_down, is_done_alone}
+use Rattle.lone_laws.specs.alone.Answers.{is_reset_alone, is_short_alone, noted_since, sync_due}
 use Rattle.node_laws.proofs.answers.OneFact.{IsFirstThere}
 use Rattle.lone_laws.proofs.answered.Queued.{are_in_turn}
 
@@ -76,11 +77,11 @@ agree_inside f g events same past back o front behind x at inside =
 -- ## What is found, and what is wanted
 
 -- the answers until the next turn
-abbrev answers_found : List Entry → List Entry
-answers_found entries = filter is_own_answer (to_turn entries)
+abbrev answers_found : ℕ → List Entry → List Entry
+answers_found n entries = filter (is_answer_of n) (before_turn n entries)
 
-abbrev answers_wanted : List Entry → List Entry → List Entry
-answers_wanted entries answers = if list_any is_own_cut (to_turn entries) then to_command answers else answers
+abbrev answers_wanted : ℕ → List Entry → List Entry → List Entry
+answers_wanted n entries answers = if list_any (is_cut_of n) (before_turn n entries) then to_command answers else answers
 
 -- at a turn the first message that came and had none
 abbrev first_found : List Entry → Entry → List Entry → Option (Option Message)
@@ -147,11 +148,11 @@ is_fact f g = number_of f == number_of g
 module _ (core : Core) (h : ℕ) where
   -- at a turn what lacks, and the answers behind it
   abbrev turn_found : List Entry → Entry → List Entry → Option (Option (ℕ × ℕ) × List Entry)
-  turn_found t (entry.Turn e pid message) behind = Some (lack_since core h t (pid, message), answers_found behind)
+  turn_found t (entry.Turn e pid message) behind = Some (lack_since core h t (pid, message), answers_found core.node behind)
   turn_found t _ behind = None
 
   abbrev turn_wanted : List Entry → Entry → List Entry → Option (Option (ℕ × ℕ) × List Entry)
-  turn_wanted t (entry.Turn e pid message) behind = Some (None, answers_wanted behind (noted_since core h t (reply_since core h t (pid, message))))
+  turn_wanted t (entry.Turn e pid message) behind = Some (None, answers_wanted core.node behind (noted_since core h t (reply_since core h t (pid, message))))
   turn_wanted t _ behind = None
 
   both_are : {X Y : Type 0} (p q : X × Y) → Some p ≡ Some q → (p.0 ≡ q.0) × (p.1 ≡ q.1)
@@ -195,8 +196,8 @@ module _ (core : Core) (h : ℕ) where
   IsFound Done events = AgreeAtEvents (is_done_alone core h) (λ t o. true) events
   IsFound Short events = AgreeAtEvents (is_short_alone core h) (λ t o. true) events
   IsFound Due events =
-      AgreeAtEvents (λ t o. answers_found o.entries)
-      (λ t o. answers_wanted o.entries (noted_since core h t (sync_due (core_since core t) h o.cause))) events
+      AgreeAtEvents (λ t o. answers_found core.node o.entries)
+      (λ t o. answers_wanted core.node o.entries (noted_since core h t (sync_due (core_since core t) h o.cause))) events
   IsFound Reset events = AgreeAtEvents (λ t o. list_any is_asked_down o.entries) (λ t o. is_reset_alone core h t o.cause) events
   IsFound Ascending events = AgreeAtEvents (λ t o. turns_rise o.entries) (λ t o. true) events
   IsFound Heard events = AgreeAtEntries heard_found (λ t x behind. true) events
@@ -214,8 +215,8 @@ module _ (core : Core) (h : ℕ) where
   found_holds Done events q = agree_here (is_done_alone core h) (λ t o. true) events q
   found_holds Short events q = agree_here (is_short_alone core h) (λ t o. true) events q
   found_holds Due events q =
-      agree_here (λ t o. answers_found o.entries)
-      (λ t o. answers_wanted o.entries (noted_since core h t (sync_due (core_since core t) h o.cause))) events q
+      agree_here (λ t o. answers_found core.node o.entries)
+      (λ t o. answers_wanted core.node o.entries (noted_since core h t (sync_due (core_since core t) h o.cause))) events q
   found_holds Reset events q = agree_here (λ t o. list_any is_asked_down o.entries) (λ t o. is_reset_alone core h t o.cause) events q
   found_holds Ascending events q =
       λ past back o at n.

@@ -20,7 +20,8 @@ use Rattle.node_laws.specs.passes.Noting.{noted_by_deeds}
 use Rattle.node_laws.proofs.passes.Passing.{comes_so}
 use Rattle.lone_laws.specs.alone.Lone.{Lone, LoneCause, end_of_node_alone, lone_input, emits_behind, session_with}
 use Rattle.lone_laws.specs.alone.Known.{RecErrors, talk_since, reply_since, lack_since, first_lack_since}
-use Rattle.lone_laws.specs.alone.Answers.{AnswersAlone, IsRepliedAlone, IsHeldAlone, noted_since, entries_of_deeds}
+use Rattle.lone_laws.specs.alone.Answers.{IsHeldAlone, noted_since, entries_of_deeds}
+use Rattle.lone_laws.proofs.answered.Mine.{AnswersOwn, IsRepliedOwn}
 use Rattle.lone_laws.proofs.answered.Reading.{Read, left_is}
 use Rattle.lone_laws.proofs.answered.Turning.{IsHere, alone_here}
 use Rattle.lone_laws.proofs.answered.Lasting.{LoneKeeps}
@@ -145,22 +146,22 @@ module _ (rest : Core) (number h : ℕ) (some : 1 ≤ h) (most : h ≤ 7) (s : �
         → back ≡ noted_by_deeds k (deeds_of w.core w.ports k m) (takes_up k m w) ++ later
         → ((handles k m (deeds_of w.core w.ports k m) w).cut ≡ true → later ≡ [])
         → AllByRecursion IsMuteEntry emits → AreUntil [] false (later ++ emits)
-        → AnswersAlone (back ++ emits) (noted_since F h T (reply_since F h T m))
+        → AnswersOwn (back ++ emits) (noted_since F h T (reply_since F h T m))
     its_answers back later emits room is gone mute until =
         let D : List Deed = deeds_of w.core w.ports k m in
         let N : List Entry = noted_by_deeds k D (takes_up k m w) in
         let reply : List Entry = entries_of_deeds w.core e (session_of_end (own_port rest number h some most s t its w a on k m messages waits)) D in
-        let one : AnswersAlone (N ++ (later ++ emits)) reply =
+        let one : AnswersOwn (N ++ (later ++ emits)) reply =
         noted_answers number h (handles k m D w).cut N reply (later ++ emits)
         (deeds_answer e (session_of_end (own_port rest number h some most s t its w a on k m messages waits)) D w.core)
         (noted_so rest number h some most s t its w a on k m messages waits room) (λ on. until) (λ off. until) in
-        subst (λ r. AnswersAlone (back ++ emits) r) (sym its_reply)
-        (subst (λ es. AnswersAlone es reply) (sym (ap (λ es. es ++ emits) is ∙ append_assoc N later emits)) one)
+        subst (λ r. AnswersOwn (back ++ emits) r) (sym its_reply)
+        (subst (λ es. AnswersOwn es reply) (sym (ap (λ es. es ++ emits) is ∙ append_assoc N later emits)) one)
 
 -- ## A step
 
 pub replied_silent : (F : Core) (h : ℕ) (t : List Entry) (x : Entry) (behind : List Entry) → link_of_turn x ≡ None
-    → IsRepliedAlone F h t x behind × IsHeldAlone F h t x behind
+    → IsRepliedOwn F h t x behind × IsHeldAlone F h t x behind
 replied_silent F h t (entry.Turn f pid message) behind q = absurd (cc q)
 replied_silent F h t (entry.Held f need spare) behind q = absurd (cc q)
 replied_silent F h t _ behind q = (tt, tt)
@@ -194,7 +195,7 @@ module _ (rest : Core) (t : List Entry) (l : Lone) (some : 1 ≤ l.link) (most :
 
     turn_is : (front back : List Entry) (x : Entry) → all_of ≡ front ++ (x ∷ back) → B.cut ≡ false → IsTurnSo (ComesTo B) B front x back
         → OrderAt (t ++ (B.entries ++ front)) x (back ++ tail)
-        → IsRepliedAlone G l.link (t ++ (B.entries ++ front)) x (back ++ tail) × IsHeldAlone G l.link (t ++ (B.entries ++ front)) x (back ++ tail)
+        → IsRepliedOwn G l.link (t ++ (B.entries ++ front)) x (back ++ tail) × IsHeldAlone G l.link (t ++ (B.entries ++ front)) x (back ++ tail)
     turn_is front back (entry.Turn f pid message) q on a order =
         let K : KnowsAll rest l.number l.link some most s t a.work = all_at rest l.number l.link some most s t its B a.work (all on) a.keeps in
         let m : Message = (pid, message) in
@@ -207,7 +208,7 @@ module _ (rest : Core) (t : List Entry) (l : Lone) (some : 1 ≤ l.link) (most :
         ∙ sym (append_assoc (noted_by_deeds a.host (deeds_of a.work.core a.work.ports a.host m) (takes_up a.host m a.work)) f2 (x2 ∷ b2))))
         ∙ sym (append_assoc front (entry.Turn f pid message ∷ (noted_by_deeds a.host (deeds_of a.work.core a.work.ports a.host m)
         (takes_up a.host m a.work) ++ f2)) (x2 ∷ b2))))) in
-        subst (λ es. IsRepliedAlone G l.link (t ++ es) (entry.Turn f pid message) (back ++ tail) × Unit {0}) a.entries (
+        subst (λ es. IsRepliedOwn G l.link (t ++ es) (entry.Turn f pid message) (back ++ tail) × Unit {0}) a.entries (
           (
             its_lack rest l.number l.link some most s t its a.work K a.on a.host m a.messages a.waiting ∙ a.room,
             its_answers rest l.number l.link some most s t its a.work K a.on a.host m a.messages a.waiting back a.later tail a.room a.notes a.power
@@ -228,9 +229,9 @@ module _ (rest : Core) (t : List Entry) (l : Lone) (some : 1 ≤ l.link) (most :
 
     -- Each message that has its turn in a step is replied to as is read, and each that is held lacks what is read.
     pub answered_in_step : (front behind : List Entry) (x : Entry) → noted G t l some most n keeps c i comes ≡ front ++ (x ∷ behind)
-        → IsRepliedAlone G l.link (t ++ front) x behind × IsHeldAlone G l.link (t ++ front) x behind
+        → IsRepliedOwn G l.link (t ++ front) x behind × IsHeldAlone G l.link (t ++ front) x behind
     answered_in_step front behind x q =
         entries_are G t l some most n keeps c i comes
-        (λ u y b. OrderAt (t ++ u) y b → IsRepliedAlone G l.link (t ++ u) y b × IsHeldAlone G l.link (t ++ u) y b)
+        (λ u y b. OrderAt (t ++ u) y b → IsRepliedOwn G l.link (t ++ u) y b × IsHeldAlone G l.link (t ++ u) y b)
         (λ u y b z order. replied_silent G l.link (t ++ u) y b z) (λ f b y z on a order. turn_is f b y z on a order) front behind x q
         (in_order G t l some most n keeps c i comes front behind x q)

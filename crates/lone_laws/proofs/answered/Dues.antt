@@ -40,8 +40,8 @@ use Rattle.lone_laws.specs.alone.Lone.{Lone, LoneCause, lone_end, lone_input, no
 use Rattle.lone_laws.specs.alone.Lone.LoneCause.{FrameComes, FrameIsRefused, TickComes, ResetComes, StartComes, StopComes}
 use Rattle.lone_laws.specs.alone.Known.{core_since, talk_since}
 use Rattle.node_laws.specs.answers.Answered.{to_command}
-use Rattle.lone_laws.specs.alone.Answers.{is_own_answer, is_own_cut, to_turn, AnswersAlone, entries_of_deeds, noted_since, sync_due}
-use Rattle.lone_laws.specs.alone.Answers.{IsDueAlone}
+use Rattle.lone_laws.specs.alone.Answers.{entries_of_deeds, noted_since, sync_due}
+use Rattle.lone_laws.proofs.answered.Mine.{is_own_answer, is_own_cut, to_turn, AnswersOwn, IsDueOwn}
 use Rattle.lone_laws.proofs.answered.Reading.{Read, Alone, core_is}
 use Rattle.lone_laws.proofs.answered.Coming.{comes_there, came_entries, pass_is}
 use Rattle.lone_laws.proofs.answered.Stepping.{lone_comes}
@@ -184,14 +184,14 @@ arrival_mute l (ResetComes window) = tt
 arrival_mute l (StartComes value) = tt
 arrival_mute l StopComes = tt
 
-mute_answers : (x : Entry) (es answers : List Entry) → IsMuteEntry x → AnswersAlone es answers → AnswersAlone (x ∷ es) answers
+mute_answers : (x : Entry) (es answers : List Entry) → IsMuteEntry x → AnswersOwn es answers → AnswersOwn (x ∷ es) answers
 mute_answers x es answers mute a =
     ap (λ b. filter is_own_answer (cond b [] (x ∷ to_turn es))) mute.1
     ∙ (ap (λ b. cond b (x ∷ filter is_own_answer (to_turn es)) (filter is_own_answer (to_turn es))) mute.0
     ∙ (a ∙ sym (ap (λ b. cond (list_any is_own_cut (cond b [] (x ∷ to_turn es))) (to_command answers) answers) mute.1
     ∙ ap (λ b. cond (b || list_any is_own_cut (to_turn es)) (to_command answers) answers) mute.2)))
 
-mutes_answer : (xs es answers : List Entry) → AllByRecursion IsMuteEntry xs → AnswersAlone es answers → AnswersAlone (xs ++ es) answers
+mutes_answer : (xs es answers : List Entry) → AllByRecursion IsMuteEntry xs → AnswersOwn es answers → AnswersOwn (xs ++ es) answers
 mutes_answer [] es answers mute a = a
 mutes_answer (x ∷ xs) es answers mute a = mute_answers x (xs ++ es) answers mute.0 (mutes_answer xs es answers mute.1 a)
 
@@ -291,16 +291,16 @@ module _ (rest : Core) (t : List Entry) (l : Lone) (some : 1 ≤ l.link) (most :
       ∙ (append_assoc (before ++ noted_by_deeds 0 due come) more tail ∙ append_assoc before (noted_by_deeds 0 due come) (more ++ tail))
 
   -- The answers before the first turn are exactly those that are due.
-  pub due_in_step : IsDueAlone G l.link t (record { cause = c; entries = last.entries ++ tail })
+  pub due_in_step : IsDueOwn G l.link t (record { cause = c; entries = last.entries ++ tail })
   due_in_step =
       let session : Option ℕ = (talk_since e l.number t).session in
       let until : AreUntil [] false (more ++ tail) =
       none_until more tail (emits_mute e (frames_behind l last)) (pass_noted G t l some most n k.keep c i comes).begin each_is in
-      let one : AnswersAlone (noted_by_deeds 0 due come ++ (more ++ tail)) (entries_of_deeds n.core e session due) =
+      let one : AnswersOwn (noted_by_deeds 0 due come ++ (more ++ tail)) (entries_of_deeds n.core e session due) =
       noted_answers l.number l.link (all_done 0 due come).cut (noted_by_deeds 0 due come) (entries_of_deeds n.core e session due) (more ++ tail)
       (deeds_answer e session due n.core) (sync_noted l.number l.link e session come (report l.side i).sync refl k.keep.node) (λ q. until) (λ q. until) in
-      subst (λ es. AnswersAlone es (noted_since G l.link t (sync_due (core_since G t) l.link c))) (sym entries_are_so)
-      (subst (AnswersAlone (before ++ (noted_by_deeds 0 due come ++ (more ++ tail)))) (sym due_read)
+      subst (λ es. AnswersOwn es (noted_since G l.link t (sync_due (core_since G t) l.link c))) (sym entries_are_so)
+      (subst (AnswersOwn (before ++ (noted_by_deeds 0 due come ++ (more ++ tail)))) (sym due_read)
       (mutes_answer before (noted_by_deeds 0 due come ++ (more ++ tail)) (entries_of_deeds n.core e session due)
       (AllByRecursion-append IsMuteEntry (lone_arrival l c) (told_at first.core a.port (Some i)) (arrival_mute l c)
       (told_mute a.port.desk.host (own_side first.core) (session_with l i) (whole_acked (after_input l.side i)) (report l.side i))) one))

@@ -20,7 +20,7 @@ use Rattle.node_machine.proofs.Walks.{anyone}
 use Rattle.node_laws.proofs.steps.StepWalks.{Lasts, rest_lasts}
 use Rattle.node_laws.specs.passes.Noting.{noted_by_deed}
 use Rattle.node_laws.proofs.passes.Notes.{deed_notes}
-use Rattle.lone_laws.specs.alone.Answers.{is_own_cut}
+use Rattle.lone_laws.proofs.answered.Mine.{is_own_cut}
 
 -- where its power has gone, that was noted
 abbrev pub IsCutNoted : Work → Type 0

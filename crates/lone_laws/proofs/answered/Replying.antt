@@ -27,7 +27,8 @@ use Rattle.node_laws.specs.passes.Noting.{noted_at, goes_in, noted_by_deeds}
 use Rattle.lone_laws.specs.alone.Lone.{end_of_node_alone}
 use Rattle.lone_laws.specs.alone.Known.{core_with}
 use Rattle.node_laws.specs.answers.Answered.{to_command}
-use Rattle.lone_laws.specs.alone.Answers.{is_own_answer, is_own_turn, is_own_cut, to_turn, AnswersAlone, entries_of_deeds}
+use Rattle.lone_laws.specs.alone.Answers.{entries_of_deeds}
+use Rattle.lone_laws.proofs.answered.Mine.{is_own_answer, is_own_turn, is_own_cut, to_turn, AnswersOwn}
 use Rattle.lone_laws.proofs.answered.Reading.{eqb_same}
 use Rattle.lone_laws.proofs.answered.Turning.{own_end}
 use Rattle.lone_laws.proofs.answered.Shapes.{IsLoneReply}
@@ -268,14 +269,14 @@ deeds_answer e session (_ ∷ deeds) core = deeds_answer e session deeds core
 
 -- What is noted as a reply, and then nothing until the next turn, are the answers that are read.
 pub noted_answers : (number h : ℕ) (cut : Bool) (noted reply rest : List Entry) → AllByRecursion IsAnswerEntry reply → IsNotedSo number h cut noted reply
-    → (cut ≡ false → AreUntil [] false rest) → (cut ≡ true → AreUntil [] false rest) → AnswersAlone (noted ++ rest) reply
+    → (cut ≡ false → AreUntil [] false rest) → (cut ≡ true → AreUntil [] false rest) → AnswersOwn (noted ++ rest) reply
 noted_answers number h false noted reply rest are so later gone =
     let a : AreUntil reply false (reply ++ rest) = answers_then reply rest are (later refl) in
-    subst (λ es. AnswersAlone (es ++ rest) reply) (sym so) (a.0 ∙ sym (ap (λ b. cond b (to_command reply) reply) a.1))
+    subst (λ es. AnswersOwn (es ++ rest) reply) (sym so) (a.0 ∙ sym (ap (λ b. cond b (to_command reply) reply) a.1))
 noted_answers number h true noted reply rest are so later gone =
     let silent : AreUntil [] false rest = gone refl in
     let c : Command = so.0 in
     let es : List Entry = entry.Command number c ∷ entry.Cut number ∷ [] in
-    subst (λ z. AnswersAlone (z ++ rest) reply) (sym so.3)
+    subst (λ z. AnswersOwn (z ++ rest) reply) (sym so.3)
     (ap (λ z. entry.Command number c ∷ z) silent.0
     ∙ sym (ap to_command so.2))

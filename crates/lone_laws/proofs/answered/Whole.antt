@@ -40,10 +40,11 @@ use Rattle.lone_laws.specs.alone.Lone.{Lone, LoneCause, LoneEvent, lone_end, lon
 use Rattle.lone_laws.specs.alone.Lone.{frames_behind, noted_of_refused, lone_behind_step, does_by_power, lone_step, lone_events, lone_booted, role_alone}
 use Rattle.lone_laws.specs.alone.Lone.LoneCause.{FrameComes, FrameIsRefused, TickComes, ResetComes, StartComes, StopComes}
 use Rattle.lone_laws.specs.alone.Known.{RecErrors, no_session_now}
-use Rattle.lone_laws.specs.alone.Answers.{AtEachNoted, AtEachLoneEvent, entries_of_events_alone, is_own_cut, runs_behind, is_at_rest, is_left_lacking}
+use Rattle.lone_laws.specs.alone.Answers.{AtEachNoted, AtEachLoneEvent, entries_of_events_alone, runs_behind, is_at_rest, is_left_lacking}
 use Rattle.lone_laws.specs.alone.Answers.{is_done_alone}
 use Rattle.lone_laws.specs.alone.Answers.{is_short_alone, goes_through_end, IsRepliedAlone, IsHeldAlone, IsDueAlone, IsResetAlone}
 use Rattle.lone_laws.specs.alone.Answers.{AnsweredAlone, HearsFirstAlone, TurnsAscendAlone}
+use Rattle.lone_laws.proofs.answered.Mine.{cut_same, due_is, own_behind, replied_is, step_own}
 use Rattle.lone_laws.proofs.answered.Reading.{eqb_same}
 use Rattle.lone_laws.proofs.answered.Turning.{same_self}
 use Rattle.lone_laws.proofs.answered.Lasting.{LoneKeeps, IfKeeps, step_is, keeps_step}
@@ -60,6 +61,8 @@ use Rattle.lone_laws.proofs.answered.Keeping.{core_of, errors_of, KeepsAll, all_
 use Rattle.lone_laws.proofs.answered.Shorting.{short_behind}
 use Rattle.lone_laws.proofs.answered.Dues.{due_in_step}
 use Rattle.lone_laws.proofs.answered.Resets.{reset_in_step}
+use Rattle.node_laws.specs.kept.Reckonings.{is_cut_of}
+use Rattle.node_laws.proofs.power.Parts.{AreOwn}
 use Rattle.node_laws.proofs.answers.OneFact.{IsFirstThere}
 use Rattle.lone_laws.proofs.answered.Queued.{are_in_turn}
 use Rattle.lone_laws.proofs.answered.Rising.{heard_in_step, own_ascend}
@@ -116,23 +119,29 @@ module _ (rest : Core) (t : List Entry) (l : Lone) (some : 1 ≤ l.link) (most :
   abbrev event : LoneEvent
   event = record { cause = c; entries = es }
 
+  -- what is noted is its own
+  own : AreOwn l.number es
+  own = step_own l its n k.keep.desk k.keep.desks_are k.keep.host k.keep.node c i (node_input l.link i) (frames_behind l last)
+
   -- where it runs behind it, it kept its power
-  ran : runs_behind event ≡ true → last.cut ≡ false
+  ran : runs_behind l.number event ≡ true → last.cut ≡ false
   ran q = go last.cut refl where
     go : (b : Bool) → last.cut ≡ b → last.cut ≡ false
     go false z = z
     go true z =
-        absurd (not_true (list_any is_own_cut es) q
-        (any_more last.entries (emits_behind l last) (cut_noted (node_input l.link i) (lone_work l n i (lone_arrival l c)) refl z)))
+        absurd (not_true (list_any (is_cut_of l.number) es) q
+        (cut_same l.number es own ∙ any_more last.entries (emits_behind l last) (cut_noted (node_input l.link i) (lone_work l n i (lone_arrival l c)) refl z)))
 
   facts : EventFacts G l.link t event
   facts = record {
-    turns = answered_in_step rest t l some most its n c i comes k.keep (all_passing rest t l some most its n k c i comes);
+    turns = λ front behind x q.
+        let both = answered_in_step rest t l some most its n c i comes k.keep (all_passing rest t l some most its n k c i comes) front behind x q in
+        (replied_is G l.link (t ++ front) x behind (own_behind l.number front behind x (subst (AreOwn l.number) q own)) both.0, both.1);
     first = λ front behind x q. is_first (t ++ front) x behind (in_order G t l some most n k.keep c i comes front behind x q);
-    done = cond_true (runs_behind event) (is_at_rest (lone_end l) (t ++ es)) (λ q. at_rest G t l some most n k.keep c i comes (ran q));
-    short = and_cond (goes_through_end c) (runs_behind event) (is_left_lacking G l.link (t ++ es))
+    done = cond_true (runs_behind l.number event) (is_at_rest (lone_end l) (t ++ es)) (λ q. at_rest G t l some most n k.keep c i comes (ran q));
+    short = and_cond (goes_through_end c) (runs_behind l.number event) (is_left_lacking G l.link (t ++ es))
         (λ q. short_behind rest t l some most its n k c i comes (ran q));
-    due = due_in_step rest t l some most n k c i comes;
+    due = due_is G l.link t event own (due_in_step rest t l some most n k c i comes);
     reset = reset_in_step rest t l some most its n k c i comes;
     ascending = own_ascend (lone_end l) es (at_own_end G t l some most n k.keep c i comes);
     heard = heard_in_step l c (node_input l.link i) (lone_work l n i (lone_arrival l c)) refl (lone_end l) (frames_behind l last);
@@ -222,11 +231,12 @@ module _ (rest : Core) (t : List Entry) (l : Lone) (n : Running) (on : l.node �
 
   refused_facts : is_at_rest e t ≡ true → EventFacts J l.link t (record { cause = FrameIsRefused f; entries = lost })
   refused_facts rests = record {
-    turns = λ front behind x q. replied_silent J l.link (t ++ front) x behind (none_at
-        (λ y. link_of_turn y ≡ None) front behind x (subst AreNoTurns q (refl, tt)));
+    turns = λ front behind x q.
+        let both = replied_silent J l.link (t ++ front) x behind (none_at (λ y. link_of_turn y ≡ None) front behind x (subst AreNoTurns q (refl, tt))) in
+        (replied_is J l.link (t ++ front) x behind (own_behind l.number front behind x (subst (AreOwn l.number) q (tt, tt))) both.0, both.1);
     done = rests_still rests;
     short = refl;
-    due = refl;
+    due = due_is J l.link t (record { cause = FrameIsRefused f; entries = lost }) (tt, tt) refl;
     reset = refl;
     first = λ front behind x q.
         is_first (t ++ front) x behind (order_silent (t ++ front) x behind (none_at (λ y. link_of_turn y ≡ None) front behind x

@@ -1,7 +1,7 @@
 -- What the history of a node alone must be as to its answers, by what its boot found and what was noted since.
 use Rattle.std.specs.Prelude.{◌≡◌, ℕ, ◌==◌, ◌&&◌, ◌||◌, Bool, true, false, not, if◌then◌else◌, List, [], ◌∷◌, ◌++◌, is_some, is_none, Option, Some, None}
 use Rattle.std.specs.Prelude.{Result, Ok}
-use Rattle.std.specs.List.{AllByRecursion, flat_map, filter, filter_map, list_any}
+use Rattle.std.specs.List.{AllByRecursion, flat_map, filter_map, list_any}
 use Rattle.std.specs.Option.{option_map_or}
 use Rattle.swp_base.specs.declared.control_frames.Control.{Control}
 use Rattle.swp_base.specs.declared.control_frames.Control.TheVariants.{Act as ActFrame}
@@ -21,7 +21,8 @@ use Rattle.node_machine.specs.Parts.Deed.{Commits, Sends, SaysOk, Drops}
 use Rattle.node_machine.specs.Carrying.{finds_room}
 use Rattle.node_machine.specs.world.NodeLegal.{AreInTurn}
 use Rattle.node_laws.specs.answers.Moments.{holds_in, unhandled_in}
-use Rattle.node_laws.specs.answers.Answered.{to_command}
+use Rattle.node_laws.specs.kept.Reckonings.{is_cut_of}
+use Rattle.node_laws.specs.answers.Answered.{AnswersSo}
 use Rattle.node_laws.specs.answers.Order.{IsAscending, hears, is_answer_of, turn_link}
 use Rattle.lone_laws.specs.alone.Lone.{LoneCause, LoneEvent, end_of_node_alone}
 use Rattle.lone_laws.specs.alone.Lone.LoneCause.{FrameComes, FrameIsRefused, ResetComes}
@@ -45,38 +46,6 @@ AtEachLoneEvent events P = (past back : List LoneEvent) (o : LoneEvent) → even
 
 -- ## Answers
 
--- an entry is an answer of a node: it commits, sends, counts, asks, drops, or ends an init
-abbrev pub is_own_answer : Entry → Bool
-is_own_answer (entry.Command n command) = true
-is_own_answer (entry.Sent e n pid message) = true
-is_own_answer (entry.AnyOk n count) = true
-is_own_answer (entry.Ask host message) = true
-is_own_answer (entry.Dropped e pid) = true
-is_own_answer (entry.InitSame e) = true
-is_own_answer (entry.InitMade e count) = true
-is_own_answer (entry.InitFailed e code) = true
-is_own_answer _ = false
-
--- a message has its turn
-abbrev pub is_own_turn : Entry → Bool
-is_own_turn (entry.Turn e pid message) = true
-is_own_turn _ = false
-
--- the power goes
-abbrev pub is_own_cut : Entry → Bool
-is_own_cut (entry.Cut n) = true
-is_own_cut _ = false
-
--- these entries up to the next turn
-abbrev pub to_turn : List Entry → List Entry
-to_turn [] = []
-to_turn (x ∷ entries) = if is_own_turn x then [] else x ∷ to_turn entries
-
--- A node answers so until its next turn; where its power goes there, up to and with the command that is written.
-abbrev pub AnswersAlone : List Entry → List Entry → Type 0
-AnswersAlone entries answers =
-    filter is_own_answer (to_turn entries) ≡ (if list_any is_own_cut (to_turn entries) then to_command answers else answers)
-
 -- The entries of deeds of a node that keeps this, whose end has this session where it is up, as a message of that end is handled.
 abbrev pub entries_of_deeds : Core → End → Option ℕ → List Deed → List Entry
 entries_of_deeds core e session [] = []
@@ -98,7 +67,7 @@ noted_since found h t deeds =
 abbrev pub IsRepliedAlone : Core → ℕ → List Entry → Entry → List Entry → Type 0
 IsRepliedAlone found h t (entry.Turn e pid message) behind =
     (lack_since found h t (pid, message) ≡ None)
-    × AnswersAlone behind (noted_since found h t (reply_since found h t (pid, message)))
+    × AnswersSo found.node behind (noted_since found h t (reply_since found h t (pid, message)))
 IsRepliedAlone found h t _ behind = Unit {0}
 
 -- Where a message is noted as held, it wasn't noted so before, and lacks just these blocks.
@@ -107,8 +76,8 @@ IsHeldAlone found h t (entry.Held e need spare) behind = (holds_in t e ≡ false
 IsHeldAlone found h t _ behind = Unit {0}
 
 -- the node runs behind an event that began while it ran
-abbrev pub runs_behind : LoneEvent → Bool
-runs_behind o = not (list_any is_own_cut o.entries)
+abbrev pub runs_behind : ℕ → LoneEvent → Bool
+runs_behind n o = not (list_any (is_cut_of n) o.entries)
 
 -- all messages that came had their turns, or all before one that is held
 abbrev pub is_at_rest : End → List Entry → Bool
@@ -116,7 +85,7 @@ is_at_rest e t = is_none (oldest (unhandled_in t e)) || holds_in t e
 
 -- So it is behind each event.
 abbrev pub is_done_alone : Core → ℕ → List Entry → LoneEvent → Bool
-is_done_alone found h t o = if runs_behind o then is_at_rest (end_of_node_alone found.node h) (t ++ o.entries) else true
+is_done_alone found h t o = if runs_behind found.node o then is_at_rest (end_of_node_alone found.node h) (t ++ o.entries) else true
 
 -- the node goes through its end in an event: each but one in which a frame was refused
 abbrev pub goes_through_end : LoneCause → Bool
@@ -129,7 +98,7 @@ is_left_lacking found h t = is_none (oldest (unhandled_in t (end_of_node_alone f
 
 -- so it is where the node has gone through its end
 abbrev pub is_short_alone : Core → ℕ → List Entry → LoneEvent → Bool
-is_short_alone found h t o = if goes_through_end o.cause && runs_behind o then is_left_lacking found h (t ++ o.entries) else true
+is_short_alone found h t o = if goes_through_end o.cause && runs_behind found.node o then is_left_lacking found h (t ++ o.entries) else true
 
 -- ## Outside turns
 
@@ -144,7 +113,7 @@ sync_due core h _ = []
 
 -- The answers before the first turn in an event are exactly those that are due.
 abbrev pub IsDueAlone : Core → ℕ → List Entry → LoneEvent → Type 0
-IsDueAlone found h t o = AnswersAlone o.entries (noted_since found h t (sync_due (core_since found t) h o.cause))
+IsDueAlone found h t o = AnswersSo found.node o.entries (noted_since found h t (sync_due (core_since found t) h o.cause))
 
 -- the session ends by a reset of the end itself
 abbrev pub is_asked_down : Entry → Bool
