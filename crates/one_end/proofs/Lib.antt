@@ -12,3 +12,5 @@ pub mod Activating
 pub mod Booted
 pub mod Bringing
 pub mod Ran
+pub mod Passing
+pub mod Hearing

@@ -1,7 +1,8 @@
 //! Reads a line for the node at one of its ends.
-ghost use Rattle.std.specs.Prelude.{◌≡◌, ◌==◌, ◌&&◌, ◌<◌, ◌∷◌, [], not, is_some, List, ℕ};
+ghost use Rattle.std.specs.Prelude.{◌≡◌, ◌==◌, ◌&&◌, ◌<◌, ◌≤◌, ◌∷◌, ◌++◌, [], not, is_some, List, ℕ, length, reverse, take, true, false};
 
 use crate::reading::Brought;
+use swp_decode::{ManyBits, many_bits};
 use swp_frame::{Deframer, Fed};
 use swp_line::{Period, period_of};
 
@@ -27,7 +28,8 @@ impl LineReader {
     ghost use Rattle.swp_frame.specs.Signal.{Symbol};
     ghost use Rattle.swp_frame.specs.Kept.{DeframerStandsFor};
     ghost use Rattle.swp_decode.specs.Readings.{symbol_on};
-    ghost use Rattle.lone_laws.specs.alone.Ends.{line_brings, reading_brings, verdict_brings, has_bits, is_deactivation};
+    ghost use Rattle.lone_laws.specs.alone.Ends.{line_brings, bytes_bring, reading_brings, verdict_brings, has_bits, is_deactivation};
+    ghost use Rattle.lone_laws.specs.alone.Ends.EndForm.{OnLine};
     ghost use Rattle.one_end.specs.Reading.{LineStandsFor, causes_brought, wire_of, symbols_with, unstarted_with, periods_with};
 
     /// Nothing came on the line.
@@ -43,6 +45,7 @@ impl LineReader {
     }
 
     /// Takes a byte, and gives what it brings to the node.
+    #[inline(always)]
     pub fn hear(&mut self, byte: u8) -> Brought
         ensures stands { (number : ℕ) (older : List ℕ) → LineStandsFor self.old number older → LineStandsFor self.new number (byte ∷ older) }
         ensures brings { (number : ℕ) (older : List ℕ) → LineStandsFor self.old number older → causes_brought result ≡ line_brings number byte older }
@@ -60,7 +63,62 @@ impl LineReader {
         }
     }
 
+    /// Takes the first of these bytes, at most sixty-four, up to a period with which something may come: they are periods with bits and bring
+    /// nothing. It answers how many they are.
+    #[inline(always)]
+    pub fn pass(&mut self, bytes: &[u8]) -> usize
+        ensures within { result ≤ length bytes.now }
+        ensures stands { (number : ℕ) (older : List ℕ) → LineStandsFor self.old number older
+            → LineStandsFor self.new number (reverse (take result bytes.now) ++ older) }
+        ensures quiet { (number : ℕ) (older : List ℕ) → LineStandsFor self.old number older
+            → bytes_bring OnLine number older (take result bytes.now) ≡ [] }
+    {
+        if self.is_unstarted {
+            return 0;
+        }
+        let Some((first, _)) = bytes.split_first_chunk::<64>() else {
+            return 0;
+        };
+        self.pass_bits(first)
+    }
+
+    // The same of sixty-four bytes, where a period with bits came since the line began or was deactivated. They end before a mark on the wire
+    // that is read, before a tick, and before the first sixteen of which one is no period with bits.
+    #[inline(never)]
+    fn pass_bits(&mut self, bytes: &[u8; 64]) -> usize
+        requires started { self.old.is_unstarted ≡ false }
+        ensures within { result ≤ 64 }
+        ensures stands { (number : ℕ) (older : List ℕ) → LineStandsFor self.old number older
+            → LineStandsFor self.new number (reverse (take result bytes.now) ++ older) }
+        ensures quiet { (number : ℕ) (older : List ℕ) → LineStandsFor self.old number older
+            → bytes_bring OnLine number older (take result bytes.now) ≡ [] }
+    {
+        let many = many_bits(bytes);
+        let given = self.bits_read(many);
+        let word = self.deframer.word(given);
+        let left = u32::from(PERIODS_OF_A_TICK - 1 - self.periods);
+        let most = left.min(many.known);
+        let to = word.marks.leading_zeros().min(most);
+        if to == 0 {
+            return 0;
+        }
+        let part = word.part(0, to);
+        self.deframer.feed_part(part);
+        self.periods += to as u16;
+        to as usize
+    }
+
+    // The bits of many periods on the wire that is read.
+    #[inline(always)]
+    fn bits_read(&self, many: ManyBits) -> u64
+        ensures clf { self.now.is_clf ≡ true → result ≡ many.s2 }
+        ensures uicc { self.now.is_clf ≡ false → result ≡ many.s1 }
+    {
+        if self.is_clf { many.s2 } else { many.s1 }
+    }
+
     // Whether activation of a UICC begins with a period: with the first one with bits.
+    #[inline(always)]
     fn starts_with(&mut self, period: Option<Period>) -> bool
         ensures unstarted { self.new ≡ record self.old { is_unstarted = unstarted_with period self.old.is_unstarted } }
         ensures answer { result ≡ (not self.old.is_clf && has_bits period && self.old.is_unstarted) }
@@ -80,6 +138,7 @@ impl LineReader {
     }
 
     // The frame or the refusal that a period gives on the wire that is read.
+    #[inline(always)]
     fn read(&mut self, period: Option<Period>) -> Fed
         ensures same { self.new ≡ record self.old { deframer = self.new.deframer } }
         ensures stands { (seen : List Symbol) → DeframerStandsFor self.old.deframer seen
@@ -96,6 +155,7 @@ impl LineReader {
     }
 
     // Whether a tick comes with a period: with each 512th.
+    #[inline(always)]
     fn ticks_with(&mut self, period: Option<Period>) -> bool
         ensures counted { self.new.periods ≡ periods_with period self.old.periods }
         ensures role { self.new.is_clf ≡ self.old.is_clf }

@@ -69,6 +69,7 @@ impl Reader {
     }
 
     /// Takes a byte, and gives what it brings to the node.
+    #[inline(always)]
     pub fn hear(&mut self, byte: u8) -> Brought
         ensures form { form_read self.new ≡ form_read self.old }
         ensures stands { (number : ℕ) (older : List ℕ) → ReaderStandsFor self.old number older → ReaderStandsFor self.new number (byte ∷ older) }
@@ -78,6 +79,22 @@ impl Reader {
         match self {
             Reader::Line(line) => line.hear(byte),
             Reader::Bytes(link) => brought_by_unit(link.feed(byte)),
+        }
+    }
+
+    /// Takes the first of these bytes that bring nothing to the node, those that are taken at once. It answers how many they are.
+    #[inline(always)]
+    fn pass(&mut self, bytes: &[u8]) -> usize
+        ensures form { form_read self.new ≡ form_read self.old }
+        ensures within { result ≤ length bytes.now }
+        ensures stands { (number : ℕ) (older : List ℕ) → ReaderStandsFor self.old number older
+            → ReaderStandsFor self.new number (reverse (take result bytes.now) ++ older) }
+        ensures quiet { (number : ℕ) (older : List ℕ) → ReaderStandsFor self.old number older
+            → bytes_bring (form_read self.old) number older (take result bytes.now) ≡ [] }
+    {
+        match self {
+            Reader::Line(line) => line.pass(bytes),
+            Reader::Bytes(_) => 0,
         }
     }
 
@@ -93,8 +110,16 @@ impl Reader {
             → causes_brought result.brought ≡ bytes_bring (form_read self.old) number older (take result.count bytes.now) }
     {
         let mut count = 0;
-        for byte in bytes {
-            let brought = self.hear(*byte);
+        'bytes: while count < bytes.len() {
+            let passed = self.pass(&bytes[count..]);
+            count += passed;
+            if count == bytes.len() {
+                return Stretch {
+                    count,
+                    brought: nothing(),
+                };
+            }
+            let brought = self.hear(bytes[count]);
             count += 1;
             if !brought.is_nothing() {
                 return Stretch { count, brought };
@@ -108,6 +133,7 @@ impl Reader {
 }
 
 /// Nothing is brought.
+#[inline(always)]
 fn nothing() -> Brought
     ensures { causes_brought result ≡ [] }
 {
@@ -120,6 +146,7 @@ fn nothing() -> Brought
 }
 
 /// What a unit of a byte link brings.
+#[inline(always)]
 fn brought_by_unit(unit: Unit) -> Brought
     ensures { causes_brought result ≡ unit_brings unit }
 {

@@ -15,4 +15,5 @@ mod words;
 pub use decoder::Decoder;
 pub use frames::Frames;
 pub use line::Wire;
+pub use many::{ManyBits, many_bits};
 pub use words::{Text, push_decimal, push_hex, push_text};
