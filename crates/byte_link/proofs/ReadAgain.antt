@@ -48,10 +48,11 @@ part count bytes (h ∷ m ∷ x ∷ q) r low high l e more =
       ) refl,
     )
 
-skip : (u : Unit) (us : List Unit) → u ≡ Nothing → filter says_something (u ∷ us) ≡ filter says_something us
+-- a byte with which nothing ends
+pub skip : (u : Unit) (us : List Unit) → u ≡ Nothing → filter says_something (u ∷ us) ≡ filter says_something us
 skip u us e = rw e refl
 
-kept : (bytes : List ℕ) → is_whole bytes ≡ false → emptied bytes ≡ bytes
+pub kept : (bytes : List ℕ) → is_whole bytes ≡ false → emptied bytes ≡ bytes
 kept bytes e = rw e refl
 
 -- bytes that came one after another behind others, the newest first

@@ -1,5 +1,5 @@
 //! Reads the units of a byte link.
-ghost use Rattle.std.specs.Prelude.{ℕ, List, [], ◌∷◌, ◌≡◌, ◌<◌, ◌≤◌, length};
+ghost use Rattle.std.specs.Prelude.{ℕ, List, [], ◌∷◌, ◌++◌, ◌≡◌, ◌+◌, ◌<◌, ◌≤◌, length, reverse, take};
 ghost use Rattle.byte_link.specs.Units.{checked};
 
 use crate::unit::Unit;
@@ -22,7 +22,8 @@ pub struct ByteLink {
 
 impl ByteLink {
     ghost use Rattle.byte_link.specs.Reading.{unit_given};
-    ghost use Rattle.byte_link.specs.Kept.{ByteLinkStandsFor};
+    ghost use Rattle.byte_link.specs.Kept.{ByteLinkStandsFor, IsPartial};
+    ghost use Rattle.byte_link.specs.Written.{units_behind};
 
     /// A link on which nothing came.
     pub fn new() -> Self
@@ -64,6 +65,62 @@ impl ByteLink {
         let unit = checked_unit(bytes);
         self.unit.clear();
         unit
+    }
+
+    /// Takes the first of these bytes, with which no unit ends: those of the unit under way but its last one, or all where nothing is read any
+    /// more. It answers how many they are.
+    #[inline]
+    pub fn pass(&mut self, bytes: &[u8]) -> usize
+        ensures within { result ≤ length bytes.now }
+        ensures stands { (seen : List ℕ) → ByteLinkStandsFor self.old seen → ByteLinkStandsFor self.new (reverse (take result bytes.now) ++ seen) }
+        ensures quiet { (seen : List ℕ) → ByteLinkStandsFor self.old seen → units_behind seen (take result bytes.now) ≡ [] }
+    {
+        if self.lost {
+            return bytes.len();
+        }
+        let before = self.bytes_before_last(bytes);
+        let left = before.saturating_sub(self.unit.len());
+        let few = left.min(bytes.len());
+        self.append(&bytes[..few]);
+        few
+    }
+
+    // Appends bytes to the unit under way.
+    #[inline(always)]
+    fn append(&mut self, bytes: &[u8])
+        requires room { length self.old.unit.items + length bytes.now < 34 }
+        ensures unit { self.new.unit.items ≡ self.old.unit.items ++ bytes.now }
+        ensures lost { self.new.lost ≡ self.old.lost }
+    {
+        let _fits = self.unit.try_extend_from_slice(bytes);
+    }
+
+    // How many bytes of the unit under way, with these behind them, come before its last one; none where its length isn't among them.
+    #[inline(always)]
+    fn bytes_before_last(&self, bytes: &[u8]) -> usize
+        ensures most { result ≤ 33 }
+        ensures partial { IsPartial (take result (self.now.unit.items ++ bytes.now)) }
+    {
+        if self.unit.is_empty() {
+            return Self::bytes_before_last_of(bytes);
+        }
+        Self::bytes_before_last_of(self.unit.as_slice())
+    }
+
+    // How many bytes of a unit that begins with these come before its last one; none where its length isn't among them, or isn't that of an LPDU.
+    #[inline(always)]
+    fn bytes_before_last_of(front: &[u8]) -> usize
+        ensures most { result ≤ 33 }
+        ensures partial { (more : List ℕ) → IsPartial (take result (front.now ++ more)) }
+    {
+        let [high, low, ..] = front else {
+            return 0;
+        };
+        let count = u16::from_be_bytes([*high, *low]);
+        if count == 0 || count > MAX_COUNT {
+            return 0;
+        }
+        usize::from(count) + 3
     }
 }
 

@@ -1,6 +1,8 @@
 //! What a node alone reads, byte by byte.
 ghost use Rattle.std.specs.Prelude.{◌≡◌, ◌==◌, ◌<◌, ◌≤◌, ◌++◌, List, ℕ, [], ◌∷◌, true, length, reverse, take};
-ghost use Rattle.lone_laws.specs.alone.Ends.{unit_brings};
+ghost use Rattle.byte_link.specs.Kept.{ByteLinkStandsFor};
+ghost use Rattle.lone_laws.specs.alone.Ends.{unit_brings, bytes_bring};
+ghost use Rattle.lone_laws.specs.alone.Ends.EndForm.{OnBytes};
 ghost use Rattle.one_end.specs.Reading.{causes_brought, is_nothing_brought};
 
 use crate::line::LineReader;
@@ -53,7 +55,7 @@ pub enum Reader {
 }
 
 impl Reader {
-    ghost use Rattle.lone_laws.specs.alone.Ends.{byte_brings, bytes_bring};
+    ghost use Rattle.lone_laws.specs.alone.Ends.{byte_brings};
     ghost use Rattle.one_end.specs.Reading.{ReaderStandsFor, form_read};
     ghost use Rattle.one_end.specs.Writing.{form_named};
 
@@ -94,7 +96,7 @@ impl Reader {
     {
         match self {
             Reader::Line(line) => line.pass(bytes),
-            Reader::Bytes(_) => 0,
+            Reader::Bytes(link) => pass_units(link, bytes),
         }
     }
 
@@ -143,6 +145,16 @@ fn nothing() -> Brought
         stops: false,
         ticks: false,
     }
+}
+
+/// Takes the first of these bytes of a byte link, with which no unit ends. It answers how many they are.
+#[inline(always)]
+fn pass_units(link: &mut ByteLink, bytes: &[u8]) -> usize
+    ensures within { result ≤ length bytes.now }
+    ensures stands { (older : List ℕ) → ByteLinkStandsFor link.old older → ByteLinkStandsFor link.new (reverse (take result bytes.now) ++ older) }
+    ensures quiet { (number : ℕ) (older : List ℕ) → ByteLinkStandsFor link.old older → bytes_bring OnBytes number older (take result bytes.now) ≡ [] }
+{
+    link.pass(bytes)
 }
 
 /// What a unit of a byte link brings.
