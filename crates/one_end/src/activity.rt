@@ -13,11 +13,17 @@ use swp_act::{ActEvent, ClfAct};
 use swp_base::{Control, Lpdu};
 use swp_lpdu::read_lpdu;
 
-/// What a frame is for the activation of its end.
+/// The first bytes from here on are those of no activation frame.
+const BEHIND_ACTIVATION: u8 = 0x80;
+
+/// What a frame is for the activation of its end. Most frames are none of activation, as their first byte says.
 fn event_of_frame(lpdu: &Lpdu) -> Option<ActEvent>
     ensures power { IfSome result IsPowerStart }
     ensures event { (e : LinkEnd) → result ≡ act_event e (lpdu_input lpdu.now) }
 {
+    if lpdu.bytes()[0] >= BEHIND_ACTIVATION {
+        return None;
+    }
     match read_lpdu(lpdu) {
         Ok(Control::Act { act, again }) => Some(ActEvent::Take { act, again }),
         _ => None,
