@@ -1,5 +1,5 @@
 //! What a node alone writes.
-ghost use Rattle.std.specs.Prelude.{◌≡◌, ◌==◌, ◌++◌, ◌≤◌, ◌+◌, ℕ, length};
+ghost use Rattle.std.specs.Prelude.{◌≡◌, ◌==◌, ◌++◌, ◌≤◌, ◌+◌, ℕ, length, map, take, if◌then◌else◌};
 ghost use Rattle.lone_laws.specs.alone.Ends.{frame_written, bit_written};
 ghost use Rattle.lone_laws.specs.alone.Ends.EndForm.{OnLine};
 ghost use Rattle.one_end.specs.Writing.{form_named};
@@ -33,23 +33,47 @@ pub fn write_out(form: Form, is_clf: bool, lpdu: &Lpdu, out: &mut Output)
         → out.new.items ≡ out.old.items ++ frame_written (form_named form) number lpdu.now }
     ensures sized { length out.new.items ≤ length out.old.items + 323 }
 {
-    let _fits = match form {
-        Form::Line => out.try_extend_from_slice(periods_of(is_clf, lpdu).as_slice()),
-        Form::Bytes => out.try_extend_from_slice(write_unit(lpdu).as_slice()),
-    };
+    match form {
+        Form::Line => write_periods(is_clf, lpdu, out),
+        Form::Bytes => {
+            let _fits = out.try_extend_from_slice(write_unit(lpdu).as_slice());
+        }
+    }
 }
 
-/// The periods of a frame.
-fn periods_of(is_clf: bool, lpdu: &Lpdu) -> ArrayVec<u8, 336>
-    ensures written { (number : ℕ) → (number == 0) ≡ is_clf → result.items ≡ frame_written OnLine number lpdu.now }
-    ensures sized { length result.items ≤ 323 }
+/// Appends the periods of a frame.
+fn write_periods(is_clf: bool, lpdu: &Lpdu, out: &mut Output)
+    requires room { length out.old.items + 323 ≤ 52224 }
+    ensures written { (number : ℕ) → (number == 0) ≡ is_clf → out.new.items ≡ out.old.items ++ frame_written OnLine number lpdu.now }
+    ensures sized { length out.new.items ≤ length out.old.items + 323 }
 {
     let frame = write_frame(lpdu);
-    let mut periods = ArrayVec::new();
-    for bit in frame.bits.as_slice() {
-        periods.push(period_of_bit(is_clf, *bit));
+    let bits = frame.bits.as_slice();
+    let periods = periods_of(is_clf, bits);
+    let _fits = out.try_extend_from_slice(&periods[..bits.len()]);
+}
+
+/// The periods of so many bits, at the front of these bytes.
+#[inline(always)]
+fn periods_of(is_clf: bool, bits: &[bool]) -> [u8; 336]
+    requires few { length bits.now ≤ 336 }
+    ensures written { (number : ℕ) → (number == 0) ≡ is_clf → take (length bits.now) result ≡ map (bit_written number) bits.now }
+{
+    let zero = period_of_bit(is_clf, false);
+    let one = period_of_bit(is_clf, true);
+    let mut periods = [zero; 336];
+    for (place, bit) in bits.iter().enumerate() {
+        periods[place] = either(*bit, one, zero);
     }
     periods
+}
+
+/// The first of two bytes where this is so, else the second.
+#[inline(always)]
+fn either(first: bool, one: u8, other: u8) -> u8
+    ensures { result ≡ (if first then one else other) }
+{
+    if first { one } else { other }
 }
 
 /// The period that carries a bit of one end, while the other end sends nothing.

@@ -1,11 +1,10 @@
--- The bits so far are written.
-use Rattle.std.proofs.Common.{◌≡◌, ◌==◌, Bool, ℕ, List, length, map, take}
-use Rattle.lone_laws.specs.alone.Ends.{bit_written}
+-- The periods of the bits so far are written.
+use Rattle.std.proofs.Common.{◌≡◌, Bool, length, map, take}
+use Rattle.std.specs.Prelude.{if◌then◌else◌}
 use Rattle.one_end.proofs.writing.periods_of.Given as goal
 
-pub record WritesBits (is_clf : Bool) (bits : List Bool) (written : List ℕ) (n : ℕ) : Type 0 where
-  pub are : (number : ℕ) → (number == 0) ≡ is_clf → written ≡ map (bit_written number) (take n bits)
-  pub counted : length written ≡ n
-
-abbrev pub invariant-loop-bit : goal.invariant-loop-bit
-invariant-loop-bit l = WritesBits l.fn.is_clf l.bit-items l.periods.items l.bit-index
+abbrev pub invariant-loop-place : goal.invariant-loop-place
+invariant-loop-place l = record {
+  whole : length l.periods ≡ 336;
+  written : take l.place l.periods ≡ map (λ (b : Bool). if b then l.one else l.zero) (take l.place l.bits);
+}
