@@ -1,7 +1,8 @@
 -- What a tap keeps after a frame of either side.
 use Rattle.std.proofs.Common.{◌≡◌, ℕ, ◌+◌, Bool, true, false, List, [], ◌∷◌, ◌++◌, refl, sym, ap, ◌∙◌, subst, arith, append-nil}
 use Rattle.std.proofs.Common.{append_assoc, length-append}
-use Rattle.std.specs.Prelude.{Ok, Err}
+use Rattle.std.specs.Prelude.{◌≤◌, ◌-◌, ◌/◌, ◌%◌, Ok, Err, length, drop, slice_index}
+use Rattle.std.proofs.lemmas.Bool.Decides.{nat_tests}
 use Rattle.std.specs.declared.result.Result.{Result}
 use Rattle.swp_base.specs.declared.control_frames.Control.{Control}
 use Rattle.swp_base.specs.declared.control_frames.Control.TheVariants.{I, S, Rset, Ua, Act, Clt}
@@ -11,7 +12,7 @@ use Rattle.tap_reading.specs.Tap.{TapState, new_tap, tap_after_frame, tap_report
 use Rattle.tap_reading.specs.Lpdus.{frame_read, frames_read, tapped_lpdus}
 use Rattle.tap_reading.specs.keeping.Keeping.{KeptSide, KeptTap, kept_exchanged, kept_listed, kept_added, kept_tells_more, kept_numbered}
 use Rattle.tap_reading.specs.keeping.Keeping.{kept_in_session, kept_hears}
-use Rattle.tap_reading.specs.keeping.Keeping.{kept_after_frame, StandsForTap}
+use Rattle.tap_reading.specs.keeping.Keeping.{kept_after_frame, kept_reports, StandsForTap}
 use Rattle.tap_reading.proofs.keeping.Acknowledging.{frame_stands}
 use Rattle.swp_tap.specs.Hearing.{TapValue, rsets_behind, kept_after_lpdu, kept_reports_lpdu, StandsFor}
 
@@ -45,21 +46,50 @@ after_is : (bare : Bool) (k : KeptTap) (clf : Bool) (lpdu : List ℕ) (c : Contr
     ≡ kept_after_frame bare k clf c
 after_is bare k clf lpdu c q = rw q refl
 
+reports_are : (bare : Bool) (k : KeptTap) (clf : Bool) (lpdu : List ℕ) (c : Control) → control_of lpdu ≡ Ok c → kept_reports_lpdu bare k clf lpdu
+    ≡ kept_reports bare k clf c
+reports_are bare k clf lpdu c q = rw q refl
+
 -- a frame of the CLF
+pub near_heard : (bare : Bool) (k : KeptTap) (clf : Bool) (c : Control) (n f : KeptSide) (r : ℕ) → clf ≡ true
+    → n ≡ (kept_hears bare k c).clf → f ≡ (kept_hears bare k c).uicc → r ≡ rsets_behind k.rsets c
+    → record { clf = n; uicc = f; rsets = r } ≡ kept_after_frame bare k clf c
+near_heard bare k clf c n f r side a b e =
+    made n f r (kept_hears bare k c) a b (e ∙ sym (hears_rsets bare k c)) ∙ ap (λ z. kept_after_frame bare k z c) (sym side)
+
 pub near_kept : (bare : Bool) (k : KeptTap) (clf : Bool) (lpdu : List ℕ) (c : Control) (n f : KeptSide) (r : ℕ) → clf ≡ true → control_of lpdu ≡ Ok c
     → n ≡ (kept_hears bare k c).clf → f ≡ (kept_hears bare k c).uicc → r ≡ rsets_behind k.rsets c
     → record { clf = n; uicc = f; rsets = r } ≡ kept_after_lpdu bare k clf lpdu
-near_kept bare k clf lpdu c n f r side q a b e =
-    made n f r (kept_hears bare k c) a b (e ∙ sym (hears_rsets bare k c))
-    ∙ (ap (λ z. kept_after_frame bare k z c) (sym side) ∙ sym (after_is bare k clf lpdu c q))
+near_kept bare k clf lpdu c n f r side q a b e = near_heard bare k clf c n f r side a b e ∙ sym (after_is bare k clf lpdu c q)
 
 -- one of the UICC
+pub far_heard : (bare : Bool) (k : KeptTap) (clf : Bool) (c : Control) (n f : KeptSide) (r : ℕ) → clf ≡ false
+    → n ≡ (kept_hears bare (kept_exchanged k) c).clf → f ≡ (kept_hears bare (kept_exchanged k) c).uicc → r ≡ rsets_behind k.rsets c
+    → record { clf = f; uicc = n; rsets = r } ≡ kept_after_frame bare k clf c
+far_heard bare k clf c n f r side a b e =
+    ap kept_exchanged (made n f r (kept_hears bare (kept_exchanged k) c) a b (e ∙ sym (hears_rsets bare (kept_exchanged k) c)))
+    ∙ ap (λ z. kept_after_frame bare k z c) (sym side)
+
 pub far_kept : (bare : Bool) (k : KeptTap) (clf : Bool) (lpdu : List ℕ) (c : Control) (n f : KeptSide) (r : ℕ) → clf ≡ false → control_of lpdu ≡ Ok c
     → n ≡ (kept_hears bare (kept_exchanged k) c).clf → f ≡ (kept_hears bare (kept_exchanged k) c).uicc → r ≡ rsets_behind k.rsets c
     → record { clf = f; uicc = n; rsets = r } ≡ kept_after_lpdu bare k clf lpdu
-far_kept bare k clf lpdu c n f r side q a b e =
-    ap kept_exchanged (made n f r (kept_hears bare (kept_exchanged k) c) a b (e ∙ sym (hears_rsets bare (kept_exchanged k) c)))
-    ∙ (ap (λ z. kept_after_frame bare k z c) (sym side) ∙ sym (after_is bare k clf lpdu c q))
+far_kept bare k clf lpdu c n f r side q a b e = far_heard bare k clf c n f r side a b e ∙ sym (after_is bare k clf lpdu c q)
+
+-- an LPDU of two bytes or more whose first byte is from 80 to BF is an I frame
+pub fragment_says : (bytes : List ℕ) → 128 ≤ slice_index bytes 0 → slice_index bytes 0 ≤ 191 → 2 ≤ length bytes → length bytes ≤ 30
+    → control_of bytes ≡ Ok (I ((slice_index bytes 0 - 128) / 8) (slice_index bytes 0 % 8) (drop 1 bytes))
+fragment_says bytes low high some few = grind (arith, nat_tests)
+
+-- what is kept after an I frame, and what is reported of it
+pub fragment_kept : (bare : Bool) (k : KeptTap) (clf : Bool) (bytes : List ℕ) → 128 ≤ slice_index bytes 0 → slice_index bytes 0 ≤ 191
+    → 2 ≤ length bytes → length bytes ≤ 30
+    → kept_after_lpdu bare k clf bytes ≡ kept_after_frame bare k clf (I ((slice_index bytes 0 - 128) / 8) (slice_index bytes 0 % 8) (drop 1 bytes))
+fragment_kept bare k clf bytes low high some few = after_is bare k clf bytes _ (fragment_says bytes low high some few)
+
+pub fragment_reports : (bare : Bool) (k : KeptTap) (clf : Bool) (bytes : List ℕ) → 128 ≤ slice_index bytes 0 → slice_index bytes 0 ≤ 191
+    → 2 ≤ length bytes → length bytes ≤ 30
+    → kept_reports_lpdu bare k clf bytes ≡ kept_reports bare k clf (I ((slice_index bytes 0 - 128) / 8) (slice_index bytes 0 % 8) (drop 1 bytes))
+fragment_reports bare k clf bytes low high some few = reports_are bare k clf bytes _ (fragment_says bytes low high some few)
 
 -- ## Over a list of LPDUs
 

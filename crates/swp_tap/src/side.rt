@@ -109,13 +109,14 @@ impl Side {
         }
     }
 
-    /// The fragment of that frame waits where it is the next one, and fewer than four wait.
-    pub fn add(&mut self, ns: u8, info: &Info)
+    /// The fragment of that frame, of 1 to 29 bytes, waits where it is the next one, and fewer than four wait.
+    pub fn add(&mut self, ns: u8, info: &[u8])
+        requires { IsInfo info.now }
         ensures { self.new ≡ kept_added self.old ns info.now }
     {
         if ns == self.sent && self.waiting.len() < 4 {
             self.sent = (self.sent + 1) % 8;
-            self.waiting.push(info.copied());
+            self.waiting.push(Info::new(info));
         }
     }
 

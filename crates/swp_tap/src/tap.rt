@@ -1,5 +1,6 @@
 //! The tap.
-ghost use Rattle.std.specs.Prelude.{◌≡◌, ◌<◌, ◌≤◌, ◌+◌, Bool, length, IfNone};
+ghost use Rattle.std.specs.Prelude.{◌≡◌, ◌<◌, ◌≤◌, ◌+◌, ℕ, Bool, length, IfNone};
+ghost use Rattle.swp_base.specs.DataUnits.{IsInfo};
 ghost use Rattle.tap_reading.specs.keeping.Keeping.{kept_hears, kept_numbered};
 ghost use Rattle.swp_tap.specs.Coming.{news_in};
 ghost use Rattle.swp_tap.specs.Hearing.{kept_pair, news_at, news_by, rsets_behind};
@@ -74,6 +75,30 @@ fn number(near: &mut Side, far: &mut Side, nr: u8, body: &mut Body) -> Option<u8
     near.acknowledge(&first, body)
 }
 
+// An I frame of the near side, with these numbers and this fragment.
+fn hear_fragment(
+    near: &mut Side,
+    far: &mut Side,
+    bare: bool,
+    ns: u8,
+    nr: u8,
+    info: &[u8],
+    body: &mut Body,
+) -> Option<u8>
+    requires { IsInfo info.now }
+    ensures near { (rsets : ℕ) → near.new ≡ (kept_hears bare (kept_pair near.old far.old rsets) (Control.I ns nr info.now)).clf }
+    ensures far { (rsets : ℕ) → far.new ≡ (kept_hears bare (kept_pair near.old far.old rsets) (Control.I ns nr info.now)).uicc }
+    ensures news { news_in result body.new ≡ news_by bare near.old far.old (Control.I ns nr info.now) }
+    ensures stays { IfNone result (body.new ≡ body.old) }
+{
+    if !bare && near.number() == 0 {
+        return None;
+    }
+    near.list();
+    near.add(ns, info);
+    number(near, far, nr, body)
+}
+
 // A frame of the near side, of which this many RSETs were heard before on the link.
 fn hear(
     near: &mut Side,
@@ -91,12 +116,7 @@ fn hear(
 {
     match control {
         Control::I { ns, nr, info } => {
-            if !bare && near.number() == 0 {
-                return None;
-            }
-            near.list();
-            near.add(*ns, info);
-            number(near, far, *nr, body)
+            hear_fragment(near, far, bare, *ns, *nr, info.bytes(), body)
         }
         Control::S { kind: _, nr } => {
             if !bare && near.number() == 0 {
@@ -139,7 +159,9 @@ fn rsets_after(rsets: u32, control: &Control) -> u32
 
 impl Tap {
     ghost use Rattle.std.specs.Prelude.{◌≡◌, ◌+◌, ◌<◌, ◌≤◌, List, ℕ, Bool, ◌++◌, ◌∷◌, [], length, IfOk, MatchOption};
+    ghost use Rattle.swp_base.specs.DataUnits.{IsInfo};
     ghost use Rattle.tap_reading.specs.Lpdus.{tapped_lpdus};
+    ghost use Rattle.tap_reading.specs.keeping.Keeping.{kept_after_frame, kept_reports};
     ghost use Rattle.swp_tap.specs.Hearing.{StandsFor, new_tap_value, kept_after_lpdu, kept_reports_lpdu, reports_in, reports_told};
 
     /// A tap on a link that is bare or not. It has heard nothing.
@@ -216,8 +238,70 @@ impl Tap {
         self.hear(from_clf, lpdu)
     }
 
-    // Takes a frame.
+    // Takes a frame. An I frame, as most are, is read where it lies.
     fn hear(&mut self, from_clf: bool, lpdu: &Lpdu) -> Option<TapHead>
+        requires { self.old.taken < 4294967295 }
+        ensures bare { self.new.bare ≡ self.old.bare }
+        ensures taken { self.new.taken ≡ self.old.taken + 1 }
+        ensures kept { self.new.kept ≡ kept_after_lpdu self.old.bare self.old.kept from_clf lpdu.now }
+        ensures reports { reports_in result self.new.body ≡ kept_reports_lpdu self.old.bare self.old.kept from_clf lpdu.now }
+        ensures stays { IfNone result (self.new.body ≡ self.old.body) }
+    {
+        let bytes = lpdu.bytes();
+        let first = bytes[0];
+        if (0x80..=0xBF).contains(&first) && bytes.len() >= 2 {
+            return self.hear_numbers(from_clf, (first - 0x80) / 8, first % 8, &bytes[1..]);
+        }
+        self.hear_other(from_clf, lpdu)
+    }
+
+    // Takes an I frame with these numbers and this fragment.
+    fn hear_numbers(&mut self, from_clf: bool, ns: u8, nr: u8, info: &[u8]) -> Option<TapHead>
+        requires few { self.old.taken < 4294967295 }
+        requires sized { IsInfo info.now }
+        ensures bare { self.new.bare ≡ self.old.bare }
+        ensures taken { self.new.taken ≡ self.old.taken + 1 }
+        ensures kept { self.new.kept ≡ kept_after_frame self.old.bare self.old.kept from_clf (Control.I ns nr info.now) }
+        ensures reports { reports_in result self.new.body ≡ kept_reports self.old.bare self.old.kept from_clf (Control.I ns nr info.now) }
+        ensures stays { IfNone result (self.new.body ≡ self.old.body) }
+    {
+        self.taken += 1;
+        if from_clf {
+            let session = self.clf.number();
+            let pipe = hear_fragment(
+                &mut self.clf,
+                &mut self.uicc,
+                self.bare,
+                ns,
+                nr,
+                info,
+                &mut self.body,
+            )?;
+            return Some(TapHead {
+                to_clf: true,
+                session,
+                pipe,
+            });
+        }
+        let session = self.uicc.number();
+        let pipe = hear_fragment(
+            &mut self.uicc,
+            &mut self.clf,
+            self.bare,
+            ns,
+            nr,
+            info,
+            &mut self.body,
+        )?;
+        Some(TapHead {
+            to_clf: false,
+            session,
+            pipe,
+        })
+    }
+
+    // Takes a frame of any kind.
+    fn hear_other(&mut self, from_clf: bool, lpdu: &Lpdu) -> Option<TapHead>
         requires { self.old.taken < 4294967295 }
         ensures bare { self.new.bare ≡ self.old.bare }
         ensures taken { self.new.taken ≡ self.old.taken + 1 }

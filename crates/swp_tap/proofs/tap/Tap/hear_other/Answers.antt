@@ -2,7 +2,7 @@ use Rattle.std.proofs.Common.{◌≡◌, sym, subst}
 use Rattle.tap_reading.specs.keeping.Keeping.{KeptTap}
 use Rattle.swp_tap.specs.Hearing.{TapValue, kept_after_lpdu}
 use Rattle.swp_tap.proofs.Hearing.{near_kept, far_kept}
-use Rattle.swp_tap.proofs.tap.Tap.hear.Goals as goal
+use Rattle.swp_tap.proofs.tap.Tap.hear_other.Goals as goal
 
 pub returns-in_err-pipe-clause-kept : goal.returns-in_err-pipe-clause-kept
 returns-in_err-pipe-clause-kept c =
