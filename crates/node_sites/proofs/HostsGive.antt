@@ -16,14 +16,17 @@ use Rattle.node_core.specs.Giving.{IsAsked}
 use Rattle.node_core.specs.Running.{RunsAs, HasStepped}
 use Rattle.node_core.proofs.Sendings.{given_order, given_other, given_both}
 use Rattle.node_sites.specs.WorldNodes.{BeginsOver, HasGone, IsNotedSo, RunsAsHost}
+use Rattle.node_sites.specs.declared.noted.Noted.{Noted}
+use Rattle.node_sites.specs.Numbers.{as_told}
+use Rattle.node_sites.proofs.Renumbered.{as_watched}
 use Rattle.node_sites.proofs.Regardless.{bare, all_regardless}
 use Rattle.node_sites.proofs.NodesRun.{memory_in, still_host}
 
 -- ## As it begins
 
-pub asked_so : {n : Node Memory} {noted start : List Entry} {short : Bool} {w : Work} → BeginsOver RunsAsHost memory_in n w
-    → IsNotedSo noted short start w.entries → IsAsked n noted short start w
-asked_so b noted = record { runs = b.runs.runs; none_ended = b.fresh; power = b.power; noted_are = noted }
+pub asked_so : {n : Node Memory} {noted : Noted} {sessions : List ℕ} {start : List Entry} {w : Work} → BeginsOver RunsAsHost memory_in n w
+    → IsNotedSo noted sessions start w.entries → IsAsked n (as_told noted.sessions noted.entries.items) noted.short (as_told sessions start) w
+asked_so b noted = record { runs = b.runs.runs; none_ended = b.fresh; power = b.power; noted_are = as_watched noted }
 
 pub asked_bare : {n : Node Memory} (noted : List Entry) (short : Bool) {w : Work} → BeginsOver RunsAsHost memory_in n w
     → IsAsked n noted short noted (bare w)

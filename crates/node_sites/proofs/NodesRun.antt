@@ -13,6 +13,9 @@ use Rattle.node_core.specs.Bringing.{Brings}
 use Rattle.node_core.specs.Running.{RunsAs, BeginsStep, HasStepped, MayStep}
 use Rattle.node_core.proofs.Planned.{planned_step, planned_writes}
 use Rattle.node_sites.specs.WorldNodes.{BeginsOver, MayBeginStep, MayBeginAt, HasGone, IsNotedSo, RunsAsHost}
+use Rattle.node_sites.specs.declared.noted.Noted.{Noted}
+use Rattle.node_sites.specs.Numbers.{as_told}
+use Rattle.node_sites.proofs.Renumbered.{as_watched, as_noted}
 use Rattle.node_sites.proofs.Regardless.{bare, IsRegardless}
 
 -- where its memory lies
@@ -31,14 +34,14 @@ module _ (Runs : Node Memory → Core → List Port → Type 0) (runs_as : (n : 
       record { core = m.has.core; ports = m.has.ports; runs = runs_as n m.has.core m.has.ports m.has.runs; sent = m.sent }
 
   -- behind what was noted before
-  pub begins_so : {n : Node Memory} {noted start : List Entry} {short : Bool} {w : Work} → BeginsOver Runs memory_in n w
-      → IsNotedSo noted short start w.entries → BeginsStep n noted short start w
+  pub begins_so : {n : Node Memory} {noted : Noted} {sessions : List ℕ} {start : List Entry} {w : Work} → BeginsOver Runs memory_in n w
+      → IsNotedSo noted sessions start w.entries → BeginsStep n (as_told noted.sessions noted.entries.items) noted.short (as_told sessions start) w
   begins_so {n} {w = w} b noted = record {
     runs = runs_as n w.core w.ports b.runs;
     sent = b.sent;
     none_ended = b.fresh;
     power = b.power;
-    noted_are = noted;
+    noted_are = as_watched noted;
   }
 
   -- or without that
@@ -72,11 +75,12 @@ module _ (Runs : Node Memory → Core → List Port → Type 0) (runs_as : (n : 
         }
 
 -- what was noted of the step
-pub noted_so : {m m2 : Memory} {n2 : Node Memory} {noted start : List Entry} {short : Bool} {w : Work} {f : Work → Work} → w.plan ≡ m.plan
-    → Brings WritesAsPlanned m m2 (HasStepped n2 noted short start) f w → IsNotedSo noted short start (f w).entries
-noted_so {noted = noted} {start = start} {short = short} plan b =
-    let P : Work → Type 0 = λ v. IsNotedSo noted short start v.entries in
-    subst P (sym (planned_step b plan)) b.stands.noted_are
+pub noted_so : {m m2 : Memory} {n2 : Node Memory} (noted : Noted) {sessions : List ℕ} {start : List Entry} {w : Work} {f : Work → Work} → w.plan ≡ m.plan
+    → Brings WritesAsPlanned m m2 (HasStepped n2 (as_told noted.sessions noted.entries.items) noted.short (as_told sessions start)) f w
+    → IsNotedSo noted sessions start (f w).entries
+noted_so noted {sessions} {start} plan b =
+    let P : Work → Type 0 = λ v. IsNotedSo noted sessions start v.entries in
+    subst P (sym (planned_step b plan)) (as_noted noted sessions start b.after.entries b.stands.noted_are)
 
 -- ## Controllers and hosts
 

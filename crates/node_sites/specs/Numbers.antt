@@ -1,21 +1,38 @@
--- The numbers of sessions in what nodes noted: a node notes 0, and the world, which numbers the RSETs, puts the number of the session of
--- its link there.
-use Rattle.std.specs.Prelude.{◌≡◌, ℕ, ◌≤◌, List, Option, None, Some}
+-- The numbers of sessions in what nodes note: a node tells 0, and the world, which numbers the RSETs, notes the number of the session of
+-- its link in place of that.
+use Rattle.std.specs.Prelude.{◌≡◌, ℕ, ◌≤◌, ◌==◌, if◌then◌else◌, List, ◌∷◌, map, get_or, Option, None, Some}
 use Rattle.std.specs.List.{AllByRecursion}
 use Rattle.trace_model.specs.declared.entry.Entry.{Entry}
-use Rattle.trace_model.specs.declared.entry.Entry.TheVariants.{Up, Sent, Got, Acked}
+use Rattle.trace_model.specs.declared.entry.Entry.TheVariants.{Up, Sent, Got, Acked, Ask}
 use Rattle.link_laws.specs.machine.Machine.{LinkEnd, LinkInput, after_input, whole_acked}
 use Rattle.link_laws.specs.machine.Machine.LinkInput.{Reset}
 use Rattle.node_machine.specs.Parts.{Port}
+use Rattle.node_core.specs.Noting.{unnumbered}
 use Rattle.node_machine.specs.Node.{NodeInput, input_at, has_come}
 
--- an entry with the number of the session of its link, where its form has one
-abbrev pub with_session : (ℕ → ℕ) → Entry → Entry
-with_session session (Up at n) = Up at (session at.link)
-with_session session (Sent at n pid message) = Sent at (session at.link) pid message
-with_session session (Got at n pid message) = Got at (session at.link) pid message
-with_session session (Acked at n count) = Acked at (session at.link) count
-with_session session e = e
+-- The number of a session, where 0 is noted for it. 0 stands in its place, so that no two numbers become one.
+abbrev pub swapped_number : ℕ → ℕ → ℕ
+swapped_number number n = if n == 0 then number else if n == number then 0 else n
+
+-- an entry in which that was done with the number of the session of its link, where its form has one
+abbrev pub with_swapped_number : (ℕ → ℕ) → Entry → Entry
+with_swapped_number session (Up at n) = Up at (swapped_number (session at.link) n)
+with_swapped_number session (Sent at n pid message) = Sent at (swapped_number (session at.link) n) pid message
+with_swapped_number session (Got at n pid message) = Got at (swapped_number (session at.link) n) pid message
+with_swapped_number session (Acked at n count) = Acked at (swapped_number (session at.link) n) count
+with_swapped_number session e = e
+
+-- the number of the session at the link with this host, where these are those of all links; 0 where there is no such host
+abbrev pub session_at : List ℕ → ℕ → ℕ
+session_at sessions h = get_or sessions h 0
+
+-- an entry as it is noted of a node that notes it with 0 for the number
+abbrev pub with_session_number : (ℕ → ℕ) → Entry → Entry
+with_session_number session e = with_swapped_number session (unnumbered e)
+
+-- What a watch is told that puts these numbers into what nodes note. They themselves are told first, since a watch keeps only what it was told.
+abbrev pub as_told : List ℕ → List Entry → List Entry
+as_told sessions entries = Ask 0 sessions ∷ map (with_swapped_number (session_at sessions)) entries
 
 -- it has that number, and counts no more messages than are counted
 abbrev pub IsNumbered : (ℕ → ℕ) → Entry → Type 0

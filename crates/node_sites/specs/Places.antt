@@ -1,16 +1,15 @@
 -- What is kept of a host of the world, and for which states of the world it stands.
-use Rattle.std.specs.Prelude.{◌≡◌, ℕ, Bool, true, List, ◌++◌, map, Option, Some, None}
-use Rattle.std.specs.List.{AllByRecursion}
+use Rattle.std.specs.Prelude.{◌≡◌, Bool, true, List, ◌++◌, Some}
 use Rattle.swp_base.specs.InMemory.{Memory}
 use Rattle.trace_model.specs.declared.entry.Entry.{Entry}
-use Rattle.link_laws.specs.machine.Machine.{next_frame, frames_out}
-use Rattle.link_laws.specs.messages.Links.{NumberedEnd, Link, exchanged, put_all}
+use Rattle.link_laws.specs.machine.Machine.{frames_out}
+use Rattle.link_laws.specs.messages.Links.{Link, exchanged, put_all}
 use Rattle.link_laws.specs.entries.Entries.{puts_entries}
 use Rattle.link_laws.specs.entries.Entries.End.{Host}
 use Rattle.history.specs.Steps.{entries_for}
-use Rattle.node_machine.specs.Parts.{Core, Desk, Running, Port, Work}
+use Rattle.node_machine.specs.Parts.{Core, Port, Work}
 use Rattle.node_machine.specs.Carrying.{port_at, with_port}
-use Rattle.node_machine.specs.world.World.{Site, port_for}
+use Rattle.node_machine.specs.world.World.{Site}
 use Rattle.node_sites.specs.declared.places.HostSite.{HostSite}
 use Rattle.node_sites.specs.declared.power.Power.TheVariants.{On, Off}
 use Rattle.node_sites.specs.Powers.{IsNodePlace}

@@ -7,7 +7,8 @@ use Rattle.trace_model.specs.declared.entry.Entry.{Entry}
 use Rattle.link_laws.specs.machine.Machine.{LinkEnd, next_frame}
 use Rattle.node_machine.specs.Parts.{Core, Port, Work}
 use Rattle.node_machine.specs.Carrying.{port_at}
-use Rattle.node_core.specs.Noting.{unnumbered}
+use Rattle.node_sites.specs.declared.noted.Noted.{Noted}
+use Rattle.node_sites.specs.Numbers.{with_session_number, session_at}
 use Rattle.node_core.specs.Running.{RunsAs, SendsOneByOne, between}
 use Rattle.node_core.specs.declared.node.Node.{Node}
 
@@ -66,6 +67,10 @@ pub record RunsAsHost (n : Node Memory) (core : Core) (ports : List Port) : Type
   pub runs : RunsAs n core ports
   pub number : n.number ≢ 0
 
--- these are noted, while there was memory
-abbrev pub IsNotedSo : List Entry → Bool → List Entry → List Entry → Type 0
-IsNotedSo noted short start entries = short ≡ false → noted ≡ start ++ map unnumbered entries
+-- These were noted behind what was there, with the numbers of these sessions, while there was memory.
+pub record IsNotedSo (n : Noted) (sessions : List ℕ) (start entries : List Entry) : Type 0 where
+  pub are : n.short ≡ false → (n.sessions ≡ sessions) × (n.entries.items ≡ start ++ map (with_session_number (session_at sessions)) entries)
+
+-- they are so noted as they are
+abbrev pub IsNotedBehind : Noted → List Entry → List Entry → Type 0
+IsNotedBehind n start entries = n.short ≡ false → n.entries.items ≡ start ++ entries

@@ -1,10 +1,27 @@
-//! Copies of what nodes note.
+//! Copies of what nodes note, with the numbers of sessions.
 ghost use Rattle.std.specs.Prelude.{◌≡◌, ◌<◌, ◌++◌, ◌∷◌, [], ℕ, List, IfOk, IfSome, IsTrue, false};
 ghost use Rattle.std.specs.Vec.{vec_len, vec_capacity};
 ghost use Rattle.trace_model.specs.Notes.{with_body};
+ghost use Rattle.node_sites.specs.Numbers.{with_swapped_number, session_at, swapped_number};
 
+use crate::noted::Sessions;
 use std::alloc::{AllocError, Global};
-use trace_model::{Entry, Octets};
+use trace_model::{End, Entry, Octets};
+
+// The number of the session of an end's link stands in place of 0, and 0 in place of that number, so that no two numbers become one.
+fn session_noted(sessions: &Sessions, at: End, noted: u32) -> u32
+    ensures { result ≡ swapped_number (session_at sessions.now at.link) noted }
+{
+    let link = usize::from(at.link);
+    let number = if link < 8 { sessions[link] } else { 0 };
+    if noted == 0 {
+        number
+    } else if noted == number {
+        0
+    } else {
+        noted
+    }
+}
 
 // A message of these bytes, in memory that was kept, where there is some.
 fn octets_of(alloc: Global, spares: &mut Vec<Octets>, body: &[u8]) -> Result<Octets, AllocError>
@@ -23,11 +40,12 @@ fn octets_of(alloc: Global, spares: &mut Vec<Octets>, body: &[u8]) -> Result<Oct
 fn add_with_message(
     entries: &mut Vec<Entry>,
     spares: &mut Vec<Octets>,
+    sessions: &Sessions,
     entry: &Entry,
     body: &[u8],
 ) -> bool
     requires room { vec_len entries.old < vec_capacity entries.old }
-    ensures added { IsTrue result → entries.new.items ≡ entries.old.items ++ with_body body.now entry.now ∷ [] }
+    ensures added { IsTrue result → entries.new.items ≡ entries.old.items ++ with_swapped_number (session_at sessions.now) (with_body body.now entry.now) ∷ [] }
     ensures full { result ≡ false → entries.new.items ≡ entries.old.items }
 {
     let Ok(message) = octets_of(*entries.allocator(), spares, body) else {
@@ -41,7 +59,7 @@ fn add_with_message(
             ..
         } => entries.push_reserved(Entry::Sent {
             at: *at,
-            session: *session,
+            session: session_noted(sessions, *at, *session),
             pid: *pid,
             message,
         }),
@@ -52,7 +70,7 @@ fn add_with_message(
             ..
         } => entries.push_reserved(Entry::Got {
             at: *at,
-            session: *session,
+            session: session_noted(sessions, *at, *session),
             pid: *pid,
             message,
         }),
@@ -71,13 +89,13 @@ fn add_with_message(
 }
 
 // A copy of an entry of a session. `None` for any other form.
-fn copied_of_session(entry: &Entry) -> Option<Entry>
-    ensures { (bytes : List ℕ) → IfSome result (λ copy. copy ≡ with_body bytes entry.now) }
+fn copied_of_session(sessions: &Sessions, entry: &Entry) -> Option<Entry>
+    ensures { (bytes : List ℕ) → IfSome result (λ copy. copy ≡ with_swapped_number (session_at sessions.now) (with_body bytes entry.now)) }
 {
     match entry {
         Entry::Up { at, session } => Some(Entry::Up {
             at: *at,
-            session: *session,
+            session: session_noted(sessions, *at, *session),
         }),
         Entry::Down { at, cause } => Some(Entry::Down {
             at: *at,
@@ -94,7 +112,7 @@ fn copied_of_session(entry: &Entry) -> Option<Entry>
 
 // A copy of an entry of a turn or of a command. `None` for any other form.
 fn copied_of_turn(entry: &Entry) -> Option<Entry>
-    ensures { (bytes : List ℕ) → IfSome result (λ copy. copy ≡ with_body bytes entry.now) }
+    ensures { (bytes : List ℕ) (session : ℕ → ℕ) → IfSome result (λ copy. copy ≡ with_swapped_number session (with_body bytes entry.now)) }
 {
     match entry {
         Entry::Held { at, need, spare } => Some(Entry::Held {
@@ -117,7 +135,7 @@ fn copied_of_turn(entry: &Entry) -> Option<Entry>
 
 // A copy of an entry of an init. `None` for any other form.
 fn copied_of_init(entry: &Entry) -> Option<Entry>
-    ensures { (bytes : List ℕ) → IfSome result (λ copy. copy ≡ with_body bytes entry.now) }
+    ensures { (bytes : List ℕ) (session : ℕ → ℕ) → IfSome result (λ copy. copy ≡ with_swapped_number session (with_body bytes entry.now)) }
 {
     match entry {
         Entry::InitSame { at } => Some(Entry::InitSame { at: *at }),
@@ -135,12 +153,12 @@ fn copied_of_init(entry: &Entry) -> Option<Entry>
 
 // A copy of an entry whose form has no message, and of which few are noted. `None` for a form that no node notes: a header, an echo, a
 // frame, tables, a boot, what was settled or refused.
-fn copied_of_few(entry: &Entry) -> Option<Entry>
-    ensures { (bytes : List ℕ) → IfSome result (λ copy. copy ≡ with_body bytes entry.now) }
+fn copied_of_few(sessions: &Sessions, entry: &Entry) -> Option<Entry>
+    ensures { (bytes : List ℕ) → IfSome result (λ copy. copy ≡ with_swapped_number (session_at sessions.now) (with_body bytes entry.now)) }
 {
     match entry {
         Entry::Up { .. } | Entry::Down { .. } | Entry::Active { .. } | Entry::GaveUp { .. } => {
-            copied_of_session(entry)
+            copied_of_session(sessions, entry)
         }
         Entry::InitSame { .. } | Entry::InitMade { .. } | Entry::InitFailed { .. } => {
             copied_of_init(entry)
@@ -152,39 +170,41 @@ fn copied_of_few(entry: &Entry) -> Option<Entry>
 // Such a copy is put behind the others; `false` for a form that no node notes. There is room for an entry.
 #[cold]
 #[inline(never)]
-fn add_one_of_few(entries: &mut Vec<Entry>, entry: &Entry) -> bool
+fn add_one_of_few(entries: &mut Vec<Entry>, sessions: &Sessions, entry: &Entry) -> bool
     requires room { vec_len entries.old < vec_capacity entries.old }
-    ensures added { (bytes : List ℕ) → IsTrue result → entries.new.items ≡ entries.old.items ++ with_body bytes entry.now ∷ [] }
+    ensures added { (bytes : List ℕ) → IsTrue result
+        → entries.new.items ≡ entries.old.items ++ with_swapped_number (session_at sessions.now) (with_body bytes entry.now) ∷ [] }
     ensures full { result ≡ false → entries.new.items ≡ entries.old.items }
 {
-    let Some(copy) = copied_of_few(entry) else {
+    let Some(copy) = copied_of_few(sessions, entry) else {
         return false;
     };
     entries.push_reserved(copy);
     true
 }
 
-/// A copy of an entry is put behind the others, with these bytes as its message where its form has one. Whether there was memory for the
-/// message; `false` for a form that no node notes: a header, an echo, a frame, tables, a boot, what was settled or refused. There is room
-/// for an entry.
+/// A copy of an entry is put behind the others, with these bytes as its message and the number of its link's session where its form has such.
+/// Whether there was memory for the message; `false` for a form that no node notes: a header, an echo, a frame, tables, a boot, what was
+/// settled or refused. There is room for an entry.
 pub fn add_copy(
     entries: &mut Vec<Entry>,
     spares: &mut Vec<Octets>,
+    sessions: &Sessions,
     entry: &Entry,
     body: &[u8],
 ) -> bool
     requires room { vec_len entries.old < vec_capacity entries.old }
-    ensures added { IsTrue result → entries.new.items ≡ entries.old.items ++ with_body body.now entry.now ∷ [] }
+    ensures added { IsTrue result → entries.new.items ≡ entries.old.items ++ with_swapped_number (session_at sessions.now) (with_body body.now entry.now) ∷ [] }
     ensures full { result ≡ false → entries.new.items ≡ entries.old.items }
 {
     match entry {
         Entry::Sent { .. } | Entry::Got { .. } | Entry::Turn { .. } | Entry::Ask { .. } => {
-            add_with_message(entries, spares, entry, body)
+            add_with_message(entries, spares, sessions, entry, body)
         }
         Entry::Acked { at, session, count } => {
             entries.push_reserved(Entry::Acked {
                 at: *at,
-                session: *session,
+                session: session_noted(sessions, *at, *session),
                 count: *count,
             });
             true
@@ -193,6 +213,6 @@ pub fn add_copy(
             entries.push_reserved(Entry::Dropped { at: *at, pid: *pid });
             true
         }
-        _ => add_one_of_few(entries, entry),
+        _ => add_one_of_few(entries, sessions, entry),
     }
 }

@@ -5,7 +5,6 @@
 pub mod copying;
 pub mod nodes;
 pub mod noted;
-pub mod numbering;
 pub mod places;
 pub mod power;
 pub mod sending;

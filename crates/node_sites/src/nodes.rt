@@ -53,16 +53,16 @@ pub trait WorldNode {
         requires read { (lpdu : List ℕ) × (read.now ≡ control_of lpdu) }
         ensures stepped { (w : Work) (lpdu : List ℕ) → BeginsAt runs memory self.old host w → read.now ≡ control_of lpdu
             → HasGone runs memory self.old self.new (steps (AtEnd host (lpdu_input lpdu)) w) result }
-        ensures noted { (start : List Told) (w : Work) (lpdu : List ℕ) → BeginsAt runs memory self.old host w → read.now ≡ control_of lpdu
-            → IsNotedSo noted.old.entries.items noted.old.short start w.entries
-            → IsNotedSo noted.new.entries.items noted.new.short start (steps (AtEnd host (lpdu_input lpdu)) w).entries };
+        ensures noted { (sessions : List ℕ) (start : List Told) (w : Work) (lpdu : List ℕ) → BeginsAt runs memory self.old host w → read.now ≡ control_of lpdu
+            → IsNotedSo noted.old sessions start w.entries
+            → IsNotedSo noted.new sessions start (steps (AtEnd host (lpdu_input lpdu)) w).entries };
 
     /// A tick passes. Whether the node has its power still.
     fn tick(&mut self, noted: &mut Noted) -> bool
         requires may { MayBeginStep runs self.old }
         ensures stepped { (w : Work) → BeginsOver runs memory self.old w → HasGone runs memory self.old self.new (steps TimePasses w) result }
-        ensures noted { (start : List Told) (w : Work) → BeginsOver runs memory self.old w → IsNotedSo noted.old.entries.items noted.old.short start w.entries
-            → IsNotedSo noted.new.entries.items noted.new.short start (steps TimePasses w).entries };
+        ensures noted { (sessions : List ℕ) (start : List Told) (w : Work) → BeginsOver runs memory self.old w → IsNotedSo noted.old sessions start w.entries
+            → IsNotedSo noted.new sessions start (steps TimePasses w).entries };
 
     /// The link with this host is reset, with this window, which is 1 to 4, or with the end's own one. Whether the node has its power still.
     ///
@@ -81,9 +81,9 @@ pub trait WorldNode {
             (λ live. reset_refusal_at (port_at ports host) ≡ None) (λ why. reset_refusal_at (port_at ports host) ≡ Some why) }
         ensures stepped { (w : Work) → BeginsAt runs memory self.old host w
             → IfOk result (λ live. HasGone runs memory self.old self.new (steps (AtEnd host (Reset window)) w) live) }
-        ensures noted { (start : List Told) (w : Work) → BeginsAt runs memory self.old host w
-            → IsNotedSo noted.old.entries.items noted.old.short start w.entries
-            → OnOk result (IsNotedSo noted.new.entries.items noted.new.short start (steps (AtEnd host (Reset window)) w).entries) }
+        ensures noted { (sessions : List ℕ) (start : List Told) (w : Work) → BeginsAt runs memory self.old host w
+            → IsNotedSo noted.old sessions start w.entries
+            → OnOk result (IsNotedSo noted.new sessions start (steps (AtEnd host (Reset window)) w).entries) }
         ensures unchanged { OnErr result ((core : Core) (ports : List Port) → runs self.old core ports → runs self.new core ports) }
         ensures quiet { OnErr result ((noted.new ≡ noted.old) × (memory self.new ≡ memory self.old)) };
 
@@ -161,9 +161,9 @@ pub trait WorldHost: WorldNode {
         requires may { MayBeginAt Self.runs self.old host }
         ensures stepped { (w : Work) → BeginsAt Self.runs Self.memory self.old host w
             → HasGone Self.runs Self.memory self.old self.new (steps (AtEnd host (Start sync)) w) result }
-        ensures noted { (start : List Told) (w : Work) → BeginsAt Self.runs Self.memory self.old host w
-            → IsNotedSo noted.old.entries.items noted.old.short start w.entries
-            → IsNotedSo noted.new.entries.items noted.new.short start (steps (AtEnd host (Start sync)) w).entries };
+        ensures noted { (sessions : List ℕ) (start : List Told) (w : Work) → BeginsAt Self.runs Self.memory self.old host w
+            → IsNotedSo noted.old sessions start w.entries
+            → IsNotedSo noted.new sessions start (steps (AtEnd host (Start sync)) w).entries };
 
     /// A message, which isn't empty, is sent on a pipe that isn't reserved.
     ///
@@ -185,9 +185,9 @@ pub trait WorldHost: WorldNode {
             (give_refusal p.side (pipe, message.now)) }
         ensures given { (w : Work) → BeginsAt Self.runs Self.memory self.old host w
             → OnOk result (HasGone Self.runs Self.memory self.old self.new (begins_with host (sending host (pipe, message.now)) w) true) }
-        ensures noted { (start : List Told) (w : Work) → BeginsAt Self.runs Self.memory self.old host w
-            → IsNotedSo noted.old.entries.items noted.old.short start w.entries
-            → OnOk result (IsNotedSo noted.new.entries.items noted.new.short start
+        ensures noted { (sessions : List ℕ) (start : List Told) (w : Work) → BeginsAt Self.runs Self.memory self.old host w
+            → IsNotedSo noted.old sessions start w.entries
+            → OnOk result (IsNotedSo noted.new sessions start
             (begins_with host (sending host (pipe, message.now)) w).entries) }
         ensures unchanged { OnErr result ((self.new ≡ self.old) × (noted.new ≡ noted.old)) };
 
@@ -210,9 +210,9 @@ pub trait WorldHost: WorldNode {
             → refused_as result ≡ if_waiting (is_some core.command) (give_refusal p.side (1, 3 ∷ [])) }
         ensures begun { (w : Work) → BeginsAt Self.runs Self.memory self.old host w
             → OnOk result (HasGone Self.runs Self.memory self.old self.new (begins_with host (beginning identity.now pipes.now) w) true) }
-        ensures noted { (start : List Told) (w : Work) → BeginsAt Self.runs Self.memory self.old host w
-            → IsNotedSo noted.old.entries.items noted.old.short start w.entries
-            → OnOk result (IsNotedSo noted.new.entries.items noted.new.short start
+        ensures noted { (sessions : List ℕ) (start : List Told) (w : Work) → BeginsAt Self.runs Self.memory self.old host w
+            → IsNotedSo noted.old sessions start w.entries
+            → OnOk result (IsNotedSo noted.new sessions start
             (begins_with host (beginning identity.now pipes.now) w).entries) }
         ensures unchanged { OnErr result ((self.new ≡ self.old) × (noted.new ≡ noted.old)) };
 }
@@ -235,7 +235,7 @@ pub trait WorldController: WorldNode {
         requires power { power ≤ 1 }
         ensures stepped { (w : Work) → BeginsAt Self.runs Self.memory self.old host w
             → HasGone Self.runs Self.memory self.old self.new (steps (AtEnd host (Start power)) w) result }
-        ensures noted { (start : List Told) (w : Work) → BeginsAt Self.runs Self.memory self.old host w
-            → IsNotedSo noted.old.entries.items noted.old.short start w.entries
-            → IsNotedSo noted.new.entries.items noted.new.short start (steps (AtEnd host (Start power)) w).entries };
+        ensures noted { (sessions : List ℕ) (start : List Told) (w : Work) → BeginsAt Self.runs Self.memory self.old host w
+            → IsNotedSo noted.old sessions start w.entries
+            → IsNotedSo noted.new sessions start (steps (AtEnd host (Start power)) w).entries };
 }

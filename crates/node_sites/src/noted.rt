@@ -9,11 +9,16 @@ use trace_model::{Entry, NoCause, Octets, Watch};
 /// The most messages whose memory is kept. This project's own.
 const MOST_SPARES: usize = 16;
 
+/// The number of the session at each link, by its host, 0 to 7.
+pub type Sessions = [u32; 8];
+
 /// What was noted of a line so far, while there was memory for it.
 #[derive(Drop)]
 pub struct Noted {
     pub entries: Vec<Entry>,
     pub short: bool,
+    /// A node notes 0 for the number of any session: that of its link's session stands here, and is noted in its place.
+    pub sessions: Sessions,
     /// Messages that were noted and are forgotten, whose memory serves those to come.
     pub spares: Vec<Octets>,
 }
@@ -55,7 +60,9 @@ fn keep(message: Octets, spares: &mut Vec<Octets>) {
 }
 
 impl Watch for Noted {
-    ghost noted = { λ n. n.entries.items };
+    ghost use Rattle.node_sites.specs.Numbers.{as_told};
+
+    ghost noted = { λ n. as_told n.sessions n.entries.items };
 
     ghost is_short = { λ n. n.short };
 
@@ -67,9 +74,14 @@ impl Watch for Noted {
             self.short = true;
             return;
         }
-        if !add_copy(&mut self.entries, &mut self.spares, entry, body) {
-            self.short = true;
-        }
+        let copied = add_copy(
+            &mut self.entries,
+            &mut self.spares,
+            &self.sessions,
+            entry,
+            body,
+        );
+        self.short = !copied;
     }
 
     fn short(&self) -> bool {

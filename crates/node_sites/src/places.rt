@@ -1,18 +1,16 @@
 //! A host of the world: its node or its memory, and the wires of its link.
-ghost use Rattle.std.specs.Prelude.{◌≡◌, ℕ, ◌+◌, ◌<◌, ◌≤◌, ◌^◌, List, true, false, get_or, length, OnOk};
+ghost use Rattle.std.specs.Prelude.{◌≡◌, ℕ, ◌+◌, ◌<◌, ◌^◌, List, true, false, OnOk};
 ghost use Rattle.trace_model.specs.declared.entry.Entry.{Entry as Told};
 ghost use Rattle.link_laws.specs.messages.Links.{Link};
 ghost use Rattle.node_machine.specs.Parts.{Port, Work};
 ghost use Rattle.node_sites.specs.LinksKept.{WiresStandFor, with_bare_wires};
-ghost use Rattle.node_sites.specs.Numbers.{AreNumbered};
-ghost use Rattle.node_sites.specs.WorldNodes.{IsNotedSo};
+ghost use Rattle.node_sites.specs.WorldNodes.{IsNotedBehind};
 ghost use Rattle.node_sites.specs.declared.power.Power.TheVariants.{Off};
 ghost use Rattle.node_sites.specs.Powers.{memory_kept};
 ghost use Rattle.node_sites.specs.Places.{IsFinishing, RunsOn, WentOff};
 
 use crate::nodes::WorldNode;
 use crate::noted::Noted;
-use crate::numbering::{Sessions, number_from};
 use crate::power::Power;
 use crate::sending::send_frames;
 use crate::wires::Wires;
@@ -45,29 +43,23 @@ pub fn lose_power<P: WorldNode + Drop>(
     site.power.lose(alloc)
 }
 
-/// A step of a host ends: the numbers of its sessions are put into what it noted from this place on, and its frames go out unless it has
-/// lost its power.
+/// A step of a host ends: its frames go out unless it has lost its power.
 ///
 /// # Errors
 ///
 /// No memory is left; what the host stands for then isn't said.
 pub fn finish_step<P: WorldNode + Drop>(
     site: &mut HostSite<P>,
-    from: usize,
-    sessions: &Sessions,
     live: bool,
     noted: &mut Noted,
 ) -> Result<(), NoMemory>
     requires state { (n : P) × (w : Work) × (p : Port) × (l : Link) × IsFinishing P.runs site.old n live w p l }
-    requires from { noted.old.short ≡ false → from ≤ length noted.old.entries.items }
     requires room { site.old.wires.resets + 17 < 2 ^ 32 }
     ensures goes_on { (n : P) (w : Work) (p : Port) (l : Link) (before : List Told) → IsFinishing P.runs site.old n live w p l
-        → IsNotedSo noted.old.entries.items noted.old.short before w.entries → length before ≡ from
-        → AreNumbered (λ h. get_or sessions.now h 0) w.entries → live ≡ true
+        → IsNotedBehind noted.old before w.entries → live ≡ true
         → OnOk result (RunsOn P.runs P.memory site.old site.new n w p l before noted.new.entries.items) }
     ensures cut { (n : P) (w : Work) (p : Port) (l : Link) (before : List Told) → IsFinishing P.runs site.old n live w p l
-        → IsNotedSo noted.old.entries.items noted.old.short before w.entries → length before ≡ from
-        → AreNumbered (λ h. get_or sessions.now h 0) w.entries → live ≡ false
+        → IsNotedBehind noted.old before w.entries → live ≡ false
         → OnOk result (WentOff P.memory site.new n w l before noted.new.entries.items) }
     ensures host { site.new.host ≡ site.old.host }
     ensures short { OnOk result ((noted.old.short ≡ false) × (noted.new.short ≡ false)) }
@@ -75,7 +67,6 @@ pub fn finish_step<P: WorldNode + Drop>(
     if noted.short {
         return Err(NoMemory);
     }
-    number_from(&mut noted.entries, from, sessions);
     if !live {
         return lose_power(site, *noted.entries.allocator());
     }

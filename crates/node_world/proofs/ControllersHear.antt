@@ -1,12 +1,9 @@
 -- What is known of the controller by what is kept of it, and what comes to its ends.
-use Rattle.std.proofs.Common.{◌≡◌, ℕ, ◌+◌, ◌<◌, ◌^◌, ◌==◌, Bool, true, false, cond, List, [], ◌∷◌, ◌++◌, length, get_or, map, refl, ap, ap₂, sym, subst, ◌∙◌}
-use Rattle.std.proofs.Common.{◌≤◌, arith}
+use Rattle.std.proofs.Common.{◌≡◌, ℕ, ◌+◌, ◌<◌, ◌^◌, ◌==◌, Bool, true, false, cond, List, [], ◌∷◌, ◌++◌, get_or, map, refl, ap, ap₂, sym, subst, ◌∙◌}
 use Rattle.std.specs.Prelude.{Option, Some, None, slice_set}
 use Rattle.std.specs.List.{AllByRecursion}
-use Rattle.std.proofs.lemmas.List.{length-append}
 use Rattle.swp_base.specs.InMemory.{Memory}
 use Rattle.swp_lpdu.specs.Controls.{lpdu_of}
-use Rattle.trace_model.specs.declared.entry.Entry.{Entry}
 use Rattle.trace_model.specs.declared.entry.Entry.TheVariants as note
 use Rattle.link_laws.specs.sessions.Sessions.{OnWire}
 use Rattle.link_laws.proofs.entries.Lasting.{same_number}
@@ -20,12 +17,11 @@ use Rattle.node_machine.specs.world.World.{NodeWorld, Site, site_at, with_site, 
 use Rattle.node_machine.specs.Carrying.{changed_if}
 use Rattle.node_laws.specs.kept.Hosts.{AreDifferent}
 use Rattle.node_laws.specs.telling.Telling.{hosts_in}
-use Rattle.node_core.specs.Noting.{unnumbered}
+use Rattle.node_sites.specs.Numbers.{with_session_number}
 use Rattle.node_sites.specs.declared.places.HostSite.{HostSite}
 use Rattle.node_sites.specs.declared.wires.WireEnd.{WireEnd}
 use Rattle.node_sites.specs.declared.wires.Wires.{Wires}
 use Rattle.node_sites.specs.LinksKept.{WiresStandFor, WireEndIs, without_first, as_it_comes, IsFirst}
-use Rattle.node_sites.specs.WorldNodes.{IsNotedSo}
 use Rattle.node_sites.specs.declared.power.Power.{Power}
 use Rattle.node_sites.specs.declared.power.Power.TheVariants.{On, Off}
 use Rattle.node_sites.specs.Powers.{IsNodePlace}
@@ -234,20 +230,13 @@ first_off k end l w = go l.to_controller w
     go [] w e = record { here = e; there = w.there; count = w.count }
     go (x ∷ xs) w e = record { here = e; there = w.there; count = w.count }
 
--- what a node noted stands behind what was noted before
-pub from_there : (now before es : List Entry) (short : Bool) (from : ℕ) → IsNotedSo now short before es → length before ≡ from → short ≡ false
-    → from ≤ length now
-from_there now before es short from noted long off =
-    let all : length now ≡ length before + length (map unnumbered es) = ap length (noted off) ∙ length-append before (map unnumbered es) in
-    omega (arith, all, long)
-
 -- what is noted of a frame that is taken
-pub taken_noted : (h : ℕ) (l : Link) (lpdu : List ℕ) → IsFirst l.to_controller (Some lpdu)
-    → map unnumbered (entries_for h (arrival Controller l NextFrame)) ≡ note.Took (record { link = h; at_host = false }) lpdu ∷ []
-taken_noted h l lpdu = go l.to_controller
+pub taken_noted : (session : ℕ → ℕ) (h : ℕ) (l : Link) (lpdu : List ℕ) → IsFirst l.to_controller (Some lpdu)
+    → map (with_session_number session) (entries_for h (arrival Controller l NextFrame)) ≡ note.Took (record { link = h; at_host = false }) lpdu ∷ []
+taken_noted session h l lpdu = go l.to_controller
   where
     go : (w : List OnWire) → IsFirst w (Some lpdu)
-        → map unnumbered (entries_for h (arrival Controller (record l { to_controller = w }) NextFrame))
+        → map (with_session_number session) (entries_for h (arrival Controller (record l { to_controller = w }) NextFrame))
         ≡ note.Took (record { link = h; at_host = false }) lpdu ∷ []
     go [] q = absurd (cc q)
     go (x ∷ xs) q = let bytes : lpdu ≡ lpdu_of x.frame = cc in ap (λ b. note.Took (record { link = h; at_host = false }) b ∷ []) (sym bytes)

@@ -1,6 +1,6 @@
 -- A host of the world in its steps: what its node did, as it is to be finished.
 use Rattle.std.proofs.Common.{◌≡◌, ℕ, Bool, List, [], ◌∷◌, ◌++◌, map, refl, ap, ap₂, sym, subst, ◌∙◌, append-nil}
-use Rattle.std.specs.Prelude.{Some, None, Result, Ok, OnOk}
+use Rattle.std.specs.Prelude.{Some, None, Result, Ok, OnOk, replicate, max}
 use Rattle.swp_base.specs.InMemory.{Memory}
 use Rattle.swp_base.specs.declared.outside.NoMemory.{NoMemory}
 use Rattle.trace_model.specs.declared.entry.Entry.{Entry}
@@ -21,7 +21,8 @@ use Rattle.node_machine.specs.world.World.{Site, input_of, near_end_in, arrival,
 use Rattle.node_machine.proofs.world.Cases.{host_tick}
 use Rattle.node_laws.specs.telling.Telling.{NoneDue}
 use Rattle.node_laws.proofs.telling.Mute.{AreMute}
-use Rattle.node_core.specs.Noting.{unnumbered}
+use Rattle.node_sites.specs.declared.noted.Noted.{Noted}
+use Rattle.node_sites.specs.Numbers.{with_session_number}
 use Rattle.node_sites.specs.declared.places.HostSite.{HostSite}
 use Rattle.node_sites.specs.declared.wires.WireEnd.{WireEnd}
 use Rattle.node_sites.specs.declared.wires.Wires.{Wires}
@@ -57,13 +58,13 @@ taken_input l lpdu first =
     t.input ∙ ap Some (sym is)
 
 -- it was noted as it arrived
-pub arrival_noted : {now : List Entry} (before : List Entry) (h : ℕ) (at : End) (l : Link) (lpdu : List ℕ) → at ≡ end_of h Host
+pub arrival_noted : {now : List Entry} (session : ℕ → ℕ) (before : List Entry) (h : ℕ) (at : End) (l : Link) (lpdu : List ℕ) → at ≡ end_of h Host
     → IsFirst l.to_controller (Some lpdu)
-    → now ≡ before ++ note.Took at lpdu ∷ [] → now ≡ before ++ map unnumbered (entries_for h (arrival Host l NextFrame))
-arrival_noted {now} before h at l lpdu end = go l.to_controller
+    → now ≡ before ++ note.Took at lpdu ∷ [] → now ≡ before ++ map (with_session_number session) (entries_for h (arrival Host l NextFrame))
+arrival_noted {now} session before h at l lpdu end = go l.to_controller
   where
     go : (xs : List OnWire) → IsFirst xs (Some lpdu) → now ≡ before ++ note.Took at lpdu ∷ []
-        → now ≡ before ++ map unnumbered (entries_for h (arrival Host (record l { to_controller = xs }) NextFrame))
+        → now ≡ before ++ map (with_session_number session) (entries_for h (arrival Host (record l { to_controller = xs }) NextFrame))
     go [] first q = absurd (cc first)
     go (x ∷ xs) first q =
         let bytes : Some lpdu ≡ Some (lpdu_of x.frame) = first.0 in
@@ -89,12 +90,10 @@ pub is_done : {P : Type 0} {Runs : P → Core → List Port → Type 0} {memory_
 is_done {P} {Runs} {memory_of} {before = before} result new noted d r =
     let B : Site × List Entry → Type 0 = λ x. OnOk result (HasBecome Runs memory_of new before noted x) in subst B (sym d.is) r
 
-pub not_more : (entries : List Entry) (short : Bool) → IsNotedSo entries short entries []
-not_more entries short off = sym (append-nil entries)
-
 module _ (P : Type 0) (Runs : P → Core → List Port → Type 0) (memory_of : P → Memory)
     (kept : (n : P) (core : Core) (ports others : List Port) → map as_kept ports ≡ map as_kept others → Runs n core ports → Runs n core others)
-    (k mid : HostSite P) (s : Site) (was n : P) (live : Bool) (before begun now : List Entry) (short still : Bool) (is : SiteIs Runs memory_of k s)
+    (k mid : HostSite P) (s : Site) (was n : P) (live : Bool) (before : List Entry) (begun now : Noted) (sessions : List ℕ)
+    (numbers : sessions ≡ replicate 8 (max mid.wires.host.emitted mid.wires.host.took)) (is : SiteIs Runs memory_of k s)
     (host : IsHostOf s) (on : k.power ≡ On was) (mid_on : mid.power ≡ On n) (mid_host : mid.host ≡ k.host) where
   abbrev here : IsOn P Runs memory_of k s was
   here = is_on P Runs memory_of is on
@@ -106,23 +105,23 @@ module _ (P : Type 0) (Runs : P → Core → List Port → Type 0) (memory_of : 
   begins_so comes = begins_at_end P Runs memory_of kept k s was here.running comes is host on here.runs
 
   middle : {step : List Turn → Ending → Link} {bare l : Link} {w : Work} → HostDoes s step bare l w → HasGone Runs memory_of was n w live
-      → WiresStandFor mid.wires (exchanged bare) → IsNotedSo now still before w.entries
-      → IsToSend Runs memory_of mid live now still before s step l w
+      → WiresStandFor mid.wires (exchanged bare) → IsNotedSo now sessions before w.entries
+      → IsToSend Runs memory_of mid live now.entries.items now.short before s step l w
   middle d gone wires noted =
-      midway P Runs memory_of mid was n live s d here.memory gone mid_on (mid_host ∙ is.host) wires noted
+      midway P Runs memory_of mid was n live s d here.memory gone mid_on (mid_host ∙ is.host) wires numbers noted
 
   -- something came to its end
   pub heard : (comes : Comes) (i : LinkInput) → CountsComing s comes → input_of (exchanged s.link) comes ≡ Some i
       → ((w : Work) → BeginsAt Runs memory_of was k.host w → HasGone Runs memory_of was n (steps (AtEnd k.host i) w) live)
-      → ((w : Work) → BeginsAt Runs memory_of was k.host w → IsNotedSo begun short before w.entries
-      → IsNotedSo now still before (steps (AtEnd k.host i) w).entries)
-      → IsNotedSo begun short before (entries_for s.host (arrival Host (exchanged s.link) comes))
+      → ((w : Work) → BeginsAt Runs memory_of was k.host w → IsNotedSo begun sessions before w.entries
+      → IsNotedSo now sessions before (steps (AtEnd k.host i) w).entries)
+      → IsNotedSo begun sessions before (entries_for s.host (arrival Host (exchanged s.link) comes))
       → WiresStandFor mid.wires (exchanged (as_it_comes (exchanged s.link) comes))
-      → HasDone Runs memory_of mid live now still before s (host_hears s comes)
+      → HasDone Runs memory_of mid live now.entries.items now.short before s (host_hears s comes)
   heard comes i counts q gone noted first wires =
       let b : BeginsAt Runs memory_of was k.host (start comes) = begins_so comes in
       let G : ℕ → Type 0 = λ h. HasGone Runs memory_of was n (steps (AtEnd h i) (start comes)) live in
-      let N : ℕ → Type 0 = λ h. IsNotedSo now still before (steps (AtEnd h i) (start comes)).entries in
+      let N : ℕ → Type 0 = λ h. IsNotedSo now sessions before (steps (AtEnd h i) (start comes)).entries in
       record {
         step = goes_by s comes;
         l = wires_for (exchanged s.link) comes;
@@ -135,14 +134,14 @@ module _ (P : Type 0) (Runs : P → Core → List Port → Type 0) (memory_of : 
   -- it did something by itself
   pub began : (deeds : ℕ → List Deed) → AreMute (deeds s.host)
       → ((w : Work) → BeginsAt Runs memory_of was k.host w → HasGone Runs memory_of was n (begins_with k.host (deeds k.host) w) live)
-      → ((w : Work) → BeginsAt Runs memory_of was k.host w → IsNotedSo begun short before w.entries
-      → IsNotedSo now still before (begins_with k.host (deeds k.host) w).entries)
-      → IsNotedSo begun short before [] → WiresStandFor mid.wires s.link
-      → HasDone Runs memory_of mid live now still before s (host_stepped s NoInput (begins_with s.host (deeds s.host)))
+      → ((w : Work) → BeginsAt Runs memory_of was k.host w → IsNotedSo begun sessions before w.entries
+      → IsNotedSo now sessions before (begins_with k.host (deeds k.host) w).entries)
+      → IsNotedSo begun sessions before [] → WiresStandFor mid.wires s.link
+      → HasDone Runs memory_of mid live now.entries.items now.short before s (host_stepped s NoInput (begins_with s.host (deeds s.host)))
   began deeds mute gone noted first wires =
       let b : BeginsAt Runs memory_of was k.host (start NoInput) = begins_so NoInput in
       let G : ℕ → Type 0 = λ h. HasGone Runs memory_of was n (begins_with h (deeds h) (start NoInput)) live in
-      let N : ℕ → Type 0 = λ h. IsNotedSo now still before (begins_with h (deeds h) (start NoInput)).entries in
+      let N : ℕ → Type 0 = λ h. IsNotedSo now sessions before (begins_with h (deeds h) (start NoInput)).entries in
       record {
         step = goes_by s NoInput;
         l = exchanged s.link;
@@ -154,8 +153,9 @@ module _ (P : Type 0) (Runs : P → Core → List Port → Type 0) (memory_of : 
 
   -- a tick passed
   pub ticked : MayTick s → ((w : Work) → BeginsOver Runs memory_of was w → HasGone Runs memory_of was n (steps TimePasses w) live)
-      → ((w : Work) → BeginsOver Runs memory_of was w → IsNotedSo begun short before w.entries → IsNotedSo now still before (steps TimePasses w).entries)
-      → IsNotedSo begun short before [] → WiresStandFor mid.wires s.link → HasDone Runs memory_of mid live now still before s (host_ticks s)
+      → ((w : Work) → BeginsOver Runs memory_of was w → IsNotedSo begun sessions before w.entries → IsNotedSo now sessions before (steps TimePasses w).entries)
+      → IsNotedSo begun sessions before [] → WiresStandFor mid.wires s.link
+      → HasDone Runs memory_of mid live now.entries.items now.short before s (host_ticks s)
   ticked may gone noted first wires =
       let b : BeginsOver Runs memory_of was (start NoInput) = (begins_so NoInput).begins in
       let young : NoneDue (Some here.running) = subst NoneDue here.runs may.young in

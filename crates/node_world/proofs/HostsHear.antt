@@ -30,11 +30,12 @@ use Rattle.node_laws.proofs.telling.Keeping.{Keeps, steps_keep, tick_keeps, begi
 use Rattle.node_sites.specs.declared.places.HostSite.{HostSite}
 use Rattle.node_sites.specs.declared.power.Power.TheVariants.{On}
 use Rattle.node_sites.specs.LinksKept.{WiresStandFor, SameWires, as_it_comes, without_first}
-use Rattle.node_sites.specs.Numbers.{AreNumbered, StaysCounted, CountsFew}
+use Rattle.node_sites.specs.declared.noted.Noted.{Noted}
+use Rattle.node_sites.specs.Numbers.{AreNumbered, StaysCounted, CountsFew, session_at}
 use Rattle.node_sites.specs.WorldNodes.{HasGone, IsNotedSo}
 use Rattle.node_world.specs.HostSteps.{IsHostOf, CountsOn, EndDoes, IsToSend}
 use Rattle.node_sites.proofs.Numbered.{Numbers, stepped, begun}
-use Rattle.node_sites.proofs.Renumbered.{work_numbers, arrival_numbered}
+use Rattle.node_sites.proofs.Renumbered.{work_numbers, arrival_numbered, noted_behind}
 use Rattle.node_world.proofs.GoingOn.{same_stand, same_exchanged}
 use Rattle.node_world.proofs.EndsGo.{EndGoes, host_ends, host_begins}
 use Rattle.node_world.proofs.TicksGo.{EndTicks, host_end_ticks}
@@ -209,12 +210,13 @@ module _ (s : Site) (r : Running) (is : IsHostOf s) (runs : s.node ≡ Some r) w
 
 -- its node has done it
 module _ (P : Type 0) (Runs : P → Core → List Port → Type 0) (memory_of : P → Memory) (mid : HostSite P) (was n : P) (live : Bool) where
-  pub midway : {noted : List Entry} {short : Bool} {before : List Entry} (s : Site) {step : List Turn → Ending → Link} {bare l : Link} {w : Work}
+  pub midway : {noted : Noted} {sessions : List ℕ} {before : List Entry} (s : Site) {step : List Turn → Ending → Link} {bare l : Link} {w : Work}
       → HostDoes s step bare l w → memory_of was ≡ s.memory → HasGone Runs memory_of was n w live → mid.power ≡ On n
-      → mid.host ≡ s.host → WiresStandFor mid.wires (exchanged bare) → IsNotedSo noted short before w.entries
-      → IsToSend Runs memory_of mid live noted short before s step l w
-  midway s {bare = bare} {l} {w} d memory gone on host wires noted =
+      → mid.host ≡ s.host → WiresStandFor mid.wires (exchanged bare) → sessions ≡ replicate 8 (max mid.wires.host.emitted mid.wires.host.took)
+      → IsNotedSo noted sessions before w.entries → IsToSend Runs memory_of mid live noted.entries.items noted.short before s step l w
+  midway s {bare = bare} {l} {w} d memory gone on host wires numbers noted =
       let A : ℕ → Type 0 = λ k. AreNumbered (always k) w.entries in
+      let B : List ℕ → Type 0 = λ ks. AreNumbered (session_at ks) w.entries in
       let number : number_of bare.controller ≡ max mid.wires.host.emitted mid.wires.host.took =
       ap₂ max (sym wires.there.emitted_is) (sym wires.there.took_is) in
       record {
@@ -230,6 +232,5 @@ module _ (P : Type 0) (Runs : P → Core → List Port → Type 0) (memory_of : 
         bare = bare;
         bare_wires = wires;
         same = d.same (frames_out d.here.port.side);
-        noted_are = noted;
-        numbered = subst A number d.numbered;
+        noted_are = noted_behind noted (subst B (sym numbers) (subst A number d.numbered));
       }

@@ -1,5 +1,5 @@
 -- What happens at one host of a world, with what is noted of it: the definitions of the world, for the one site that they change.
-use Rattle.std.specs.Prelude.{◌≡◌, ℕ, ◌==◌, ◌&&◌, ◌≤◌, max, Bool, true, false, not, if◌then◌else◌, List, [], ◌∷◌, ◌++◌, length, map, replicate, get_or}
+use Rattle.std.specs.Prelude.{◌≡◌, ℕ, ◌==◌, ◌&&◌, ◌≤◌, Bool, true, false, not, if◌then◌else◌, List, [], ◌∷◌, ◌++◌, length, map}
 use Rattle.std.specs.Prelude.{is_some, Option, Some, None}
 use Rattle.swp_base.specs.InMemory.{Memory}
 use Rattle.swp_act.specs.Activation.{new_uicc}
@@ -34,9 +34,8 @@ use Rattle.node_machine.specs.world.Lines.{first_cause, if_waiting, has_order}
 use Rattle.node_laws.specs.telling.Telling.{IfItRuns, IfOff, NoneDue}
 use Rattle.node_sites.specs.declared.places.HostSite.{HostSite}
 use Rattle.node_sites.specs.LinksKept.{WiresStandFor}
-use Rattle.node_sites.specs.Numbers.{StaysCounted, AreNumbered}
+use Rattle.node_sites.specs.Numbers.{StaysCounted}
 use Rattle.node_sites.specs.declared.power.Power.TheVariants.{On}
-use Rattle.node_sites.specs.WorldNodes.{IsNotedSo}
 use Rattle.node_sites.specs.Places.{SiteIs}
 
 -- ## What happens
@@ -169,8 +168,7 @@ pub record IsToSend {P : Type 0} (Runs : P → Core → List Port → Type 0) (m
   pub bare : Link
   pub bare_wires : WiresStandFor k.wires (exchanged bare)
   pub same : puts_entries Host bare (frames_out here.port.side) ≡ puts_entries Host l (frames_out here.port.side)
-  pub noted_are : IsNotedSo noted short before w.entries
-  pub numbered : AreNumbered (λ h. get_or (replicate 8 (max k.wires.host.emitted k.wires.host.took)) h 0) w.entries
+  pub noted_are : short ≡ false → noted ≡ before ++ w.entries
 
 -- ## What is kept behind it
 

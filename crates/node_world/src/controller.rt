@@ -1,11 +1,10 @@
 //! The controller of the world: its node or its memory, and its ends of the links to all hosts. In a step of it frames may go out at every
 //! link, and a stop of its node cuts all of them.
-ghost use Rattle.std.specs.Prelude.{◌≡◌, ◌≤◌, List, true, false, get_or, length, map, OnOk};
+ghost use Rattle.std.specs.Prelude.{◌≡◌, List, true, false, map, OnOk};
 ghost use Rattle.trace_model.specs.declared.entry.Entry.{Entry as Told};
 ghost use Rattle.node_machine.specs.Parts.{Work};
 ghost use Rattle.node_machine.specs.world.World.{Site};
-ghost use Rattle.node_sites.specs.Numbers.{AreNumbered};
-ghost use Rattle.node_sites.specs.WorldNodes.{IsNotedSo};
+ghost use Rattle.node_sites.specs.WorldNodes.{IsNotedBehind};
 ghost use Rattle.node_sites.specs.declared.power.Power.TheVariants.{Off};
 ghost use Rattle.node_sites.specs.Powers.{memory_kept};
 ghost use Rattle.node_world.specs.Controllers.{SitesAre, with_bare_link, HaveRoom, EndsStep, GoesOnWith, WentOffWith};
@@ -13,7 +12,6 @@ ghost use Rattle.node_world.specs.Controllers.{SitesAre, with_bare_link, HaveRoo
 use crate::controller_sites::{empty_all, send_to_all};
 use node_sites::nodes::WorldNode;
 use node_sites::noted::Noted;
-use node_sites::numbering::{Sessions, number_from};
 use node_sites::places::HostSite;
 use node_sites::power::Power;
 use std::alloc::Global;
@@ -36,8 +34,7 @@ pub(crate) fn lose_controller<C: WorldNode + Drop, P: WorldNode + Drop>(
     controller.lose(alloc)
 }
 
-/// A step of the controller ends: the numbers of its sessions are put into what it noted from this place on, and its frames go out at all
-/// its links, those of the first host first, unless it has lost its power.
+/// A step of the controller ends: its frames go out at all its links, those of the first host first, unless it has lost its power.
 ///
 /// # Errors
 ///
@@ -45,28 +42,22 @@ pub(crate) fn lose_controller<C: WorldNode + Drop, P: WorldNode + Drop>(
 pub(crate) fn finish_controller<C: WorldNode + Drop, P: WorldNode + Drop>(
     controller: &mut Power<C>,
     sites: &mut [HostSite<P>],
-    from: usize,
-    sessions: &Sessions,
     live: bool,
     noted: &mut Noted,
 ) -> Result<(), NoMemory>
     requires state { (n : C) × (v : Work) × (hosts : List Site) × EndsStep C.runs P.runs P.memory controller.old sites.old n live v hosts }
-    requires from { noted.old.short ≡ false → from ≤ length noted.old.entries.items }
     requires room { HaveRoom sites.old }
     ensures goes_on { (n : C) (v : Work) (hosts : List Site) (before : List Told) → EndsStep C.runs P.runs P.memory controller.old sites.old n live v hosts
-        → IsNotedSo noted.old.entries.items noted.old.short before v.entries → length before ≡ from
-        → AreNumbered (λ h. get_or sessions.now h 0) v.entries → live ≡ true
+        → IsNotedBehind noted.old before v.entries → live ≡ true
         → OnOk result (GoesOnWith C.runs C.memory P.runs P.memory controller.new sites.new n v hosts before noted.new.entries.items) }
     ensures cut { (n : C) (v : Work) (hosts : List Site) (before : List Told) → EndsStep C.runs P.runs P.memory controller.old sites.old n live v hosts
-        → IsNotedSo noted.old.entries.items noted.old.short before v.entries → length before ≡ from
-        → AreNumbered (λ h. get_or sessions.now h 0) v.entries → live ≡ false
+        → IsNotedBehind noted.old before v.entries → live ≡ false
         → OnOk result (WentOffWith C.memory P.runs P.memory controller.new sites.new n v hosts before noted.new.entries.items) }
     ensures short { OnOk result ((noted.old.short ≡ false) × (noted.new.short ≡ false)) }
 {
     if noted.short {
         return Err(NoMemory);
     }
-    number_from(&mut noted.entries, from, sessions);
     if !live {
         return lose_controller(controller, sites, *noted.entries.allocator());
     }

@@ -11,8 +11,7 @@ ghost use Rattle.node_world.specs.Controllers.{IsPlaceOf, AreSessions};
 
 use crate::host_losses::age_host;
 use node_sites::nodes::WorldNode;
-use node_sites::noted::Noted;
-use node_sites::numbering::Sessions;
+use node_sites::noted::{Noted, Sessions};
 use node_sites::places::HostSite;
 use node_sites::sending::send_frames;
 use std::alloc::AllocError;

@@ -39,7 +39,6 @@ pub(crate) fn take_at_controller<C: WorldNode + Drop, P: WorldNode + Drop>(
         (comes_at w (end_c host) NextFrame)) }
     ensures memory { OnOk result (noted.new.short ≡ false) }
 {
-    let from = noted.entries.len();
     let at = End {
         link: host,
         at_host: false,
@@ -55,9 +54,9 @@ pub(crate) fn take_at_controller<C: WorldNode + Drop, P: WorldNode + Drop>(
         return Ok(());
     };
     site.wires.controller.take_first(at, &mut noted.entries)?;
-    let sessions = sessions_of(sites);
+    noted.sessions = sessions_of(sites);
     let live = node.take(host, &read, noted);
-    finish_controller(controller, sites, from, &sessions, live, noted)
+    finish_controller(controller, sites, live, noted)
 }
 
 /// The controller's end of the link with this host is reset, with this window, which is 1 to 4, or with its own one. The cause, where that
@@ -85,14 +84,13 @@ pub(crate) fn reset_controller<C: WorldNode + Drop, P: WorldNode + Drop>(
         (comes_at w (end_c host) (AsksReset window))) }
     ensures memory { OnOk result (noted.new.short ≡ false) }
 {
-    let from = noted.entries.len();
     let Power::On(node) = controller else {
         return Ok(Some(NoCause::Off));
     };
-    let sessions = sessions_of(sites);
+    noted.sessions = sessions_of(sites);
     match node.reset(host, window, noted) {
         Ok(live) => {
-            finish_controller(controller, sites, from, &sessions, live, noted)?;
+            finish_controller(controller, sites, live, noted)?;
             Ok(None)
         }
         Err(why) => Ok(Some(reset_cause(why))),
@@ -122,7 +120,6 @@ pub(crate) fn activate_controller<C: WorldController + Drop, P: WorldNode + Drop
         (comes_at w (end_c host) (Starts power))) }
     ensures memory { OnOk result (noted.new.short ≡ false) }
 {
-    let from = noted.entries.len();
     let Power::On(node) = controller else {
         return Ok(());
     };
@@ -131,9 +128,9 @@ pub(crate) fn activate_controller<C: WorldController + Drop, P: WorldNode + Drop
     };
     let site = &mut sites[place];
     site.wires.empty();
-    let sessions = sessions_of(sites);
+    noted.sessions = sessions_of(sites);
     let live = node.activate(host, power, noted);
-    finish_controller(controller, sites, from, &sessions, live, noted)
+    finish_controller(controller, sites, live, noted)
 }
 
 /// A tick of the controller passes, where frames grew older already. While it doesn't run, nothing happens.
@@ -155,13 +152,12 @@ pub(crate) fn tick_controller<C: WorldNode + Drop, P: WorldNode + Drop>(
         (controller_ticks w)) }
     ensures memory { OnOk result (noted.new.short ≡ false) }
 {
-    let from = noted.entries.len();
     let Power::On(node) = controller else {
         return Ok(());
     };
-    let sessions = sessions_of(sites);
+    noted.sessions = sessions_of(sites);
     let live = node.tick(noted);
-    finish_controller(controller, sites, from, &sessions, live, noted)
+    finish_controller(controller, sites, live, noted)
 }
 
 /// A tick passes for the frames on all wires, which grow older, and then for the controller.

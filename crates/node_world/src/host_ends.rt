@@ -1,5 +1,5 @@
 //! The step of a host ends, whatever has begun it.
-ghost use Rattle.std.specs.Prelude.{◌≡◌, ◌+◌, ◌<◌, ◌^◌, ◌++◌, List, false, length, OnOk};
+ghost use Rattle.std.specs.Prelude.{◌≡◌, ◌+◌, ◌<◌, ◌^◌, ◌++◌, List, false, OnOk};
 ghost use Rattle.trace_model.specs.declared.entry.Entry.{Entry as Told};
 ghost use Rattle.link_laws.specs.machine.Machine.{Turn};
 ghost use Rattle.link_laws.specs.messages.Links.{Link, Ending};
@@ -13,26 +13,24 @@ use node_sites::noted::Noted;
 use node_sites::places::{HostSite, finish_step};
 use swp_base::NoMemory;
 
-/// A host's node has done its work, in which it noted what stands from this place on: its frames go out, unless it has lost its power.
+/// A host's node has done its work: its frames go out, unless it has lost its power.
 ///
 /// # Errors
 ///
 /// No memory is left; what the host stands for then isn't said.
 pub(crate) fn finish_host<P: WorldNode + Drop>(
     site: &mut HostSite<P>,
-    from: usize,
     live: bool,
     noted: &mut Noted,
 ) -> Result<(), NoMemory>
-    requires state { (s : Site) × (step : List Turn → Ending → Link) × (l : Link) × (w : Work) × (before : List Told) × (length before ≡ from)
+    requires state { (s : Site) × (step : List Turn → Ending → Link) × (l : Link) × (w : Work) × (before : List Told)
         × IsToSend P.runs P.memory site.old live noted.old.entries.items noted.old.short before s step l w }
     requires room { site.old.wires.resets + 17 < 2 ^ 32 }
-    ensures stands { (s : Site) (step : List Turn → Ending → Link) (l : Link) (w : Work) (before : List Told) → length before ≡ from
+    ensures stands { (s : Site) (step : List Turn → Ending → Link) (l : Link) (w : Work) (before : List Told)
         → IsToSend P.runs P.memory site.old live noted.old.entries.items noted.old.short before s step l w
         → OnOk result (HasBecome P.runs P.memory site.new before noted.new.entries.items
         (host_behind s step w, w.entries ++ frames_noted Host s.host l w)) }
     ensures memory { OnOk result (noted.new.short ≡ false) }
 {
-    let sessions = [site.wires.host.session(); 8];
-    finish_step(site, from, &sessions, live, noted)
+    finish_step(site, live, noted)
 }

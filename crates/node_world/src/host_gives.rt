@@ -51,14 +51,14 @@ pub(crate) fn send_at_host<P: WorldHost + Drop>(
         (host_stepped s NoInput (begins_with s.host (sending s.host (pipe, message.now))))) }
     ensures memory { OnOk result (noted.new.short ≡ false) }
 {
-    let from = noted.entries.len();
     let Power::On(node) = &mut site.power else {
         return Ok(Some(NoCause::Off));
     };
+    noted.sessions = [site.wires.host.session(); 8];
     if let Err(why) = node.send(site.host, pipe, message, noted) {
         return Ok(Some(cause_of(why)));
     }
-    finish_host(site, from, true, noted)?;
+    finish_host(site, true, noted)?;
     Ok(None)
 }
 
@@ -85,13 +85,13 @@ pub(crate) fn init_host<P: WorldHost + Drop>(
         (host_stepped s NoInput (begins_with s.host (beginning identity.now pipes.now)))) }
     ensures memory { OnOk result (noted.new.short ≡ false) }
 {
-    let from = noted.entries.len();
     let Power::On(node) = &mut site.power else {
         return Ok(Some(NoCause::Off));
     };
+    noted.sessions = [site.wires.host.session(); 8];
     if let Err(why) = node.init(site.host, identity, pipes, noted) {
         return Ok(Some(cause_of(why)));
     }
-    finish_host(site, from, true, noted)?;
+    finish_host(site, true, noted)?;
     Ok(None)
 }

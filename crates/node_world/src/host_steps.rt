@@ -30,7 +30,6 @@ pub(crate) fn take_at_host<P: WorldNode + Drop>(
         → OnOk result (HasBecome P.runs P.memory site.new noted.old.entries.items noted.new.entries.items (host_hears s NextFrame)) }
     ensures memory { OnOk result (noted.new.short ≡ false) }
 {
-    let from = noted.entries.len();
     let at = End {
         link: site.host,
         at_host: true,
@@ -42,8 +41,9 @@ pub(crate) fn take_at_host<P: WorldNode + Drop>(
         return Ok(());
     };
     site.wires.host.take_first(at, &mut noted.entries)?;
+    noted.sessions = [site.wires.host.session(); 8];
     let live = node.take(site.host, &read, noted);
-    finish_host(site, from, live, noted)
+    finish_host(site, live, noted)
 }
 
 /// A tick passes at a host, whether it runs or not.
@@ -62,12 +62,12 @@ pub(crate) fn tick_host<P: WorldNode + Drop>(
         → OnOk result (HasBecome P.runs P.memory site.new noted.old.entries.items noted.new.entries.items (host_ticks s)) }
     ensures memory { OnOk result (noted.new.short ≡ false) }
 {
-    let from = noted.entries.len();
     let Power::On(node) = &mut site.power else {
         return Ok(());
     };
+    noted.sessions = [site.wires.host.session(); 8];
     let live = node.tick(noted);
-    finish_host(site, from, live, noted)
+    finish_host(site, live, noted)
 }
 
 /// Why a reset is refused, as the line that asks for it tells.
@@ -100,13 +100,13 @@ pub(crate) fn reset_host<P: WorldNode + Drop>(
         → IfOk result (BecomesUnless P.runs P.memory site.new noted.old.entries.items noted.new.entries.items s (host_hears s (AsksReset window))) }
     ensures memory { OnOk result (noted.new.short ≡ false) }
 {
-    let from = noted.entries.len();
     let Power::On(node) = &mut site.power else {
         return Ok(Some(NoCause::Off));
     };
+    noted.sessions = [site.wires.host.session(); 8];
     match node.reset(site.host, window, noted) {
         Ok(live) => {
-            finish_host(site, from, live, noted)?;
+            finish_host(site, live, noted)?;
             Ok(None)
         }
         Err(why) => Ok(Some(reset_cause(why))),
@@ -130,11 +130,11 @@ pub(crate) fn activate_host<P: WorldHost + Drop>(
         → OnOk result (HasBecome P.runs P.memory site.new noted.old.entries.items noted.new.entries.items (host_hears s (Starts sync))) }
     ensures memory { OnOk result (noted.new.short ≡ false) }
 {
-    let from = noted.entries.len();
     let Power::On(node) = &mut site.power else {
         return Ok(());
     };
-    let live = node.activate(site.host, sync, noted);
     site.wires.empty();
-    finish_host(site, from, live, noted)
+    noted.sessions = [site.wires.host.session(); 8];
+    let live = node.activate(site.host, sync, noted);
+    finish_host(site, live, noted)
 }

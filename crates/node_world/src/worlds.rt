@@ -65,6 +65,7 @@ impl NodeWorld {
             noted: Noted {
                 entries: Vec::new(alloc),
                 short: false,
+                sessions: [0; 8],
                 spares: Vec::new(alloc),
             },
         })

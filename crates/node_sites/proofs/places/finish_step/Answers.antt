@@ -1,5 +1,4 @@
-use Rattle.std.proofs.Common.{◌≡◌, ℕ, List, ◌++◌, get_or, take, drop, map, ap, sym, subst, ◌∙◌, refl}
-use Rattle.trace_model.specs.declared.entry.Entry.{Entry}
+use Rattle.std.proofs.Common.{◌≡◌, ◌++◌, ap, sym, subst, ◌∙◌, refl}
 use Rattle.link_laws.specs.machine.Machine.{frames_out}
 use Rattle.link_laws.specs.messages.Links.{exchanged}
 use Rattle.link_laws.specs.entries.Entries.{puts_entries}
@@ -7,41 +6,30 @@ use Rattle.link_laws.specs.entries.Entries.End.{Host}
 use Rattle.history.specs.Steps.{entries_for}
 use Rattle.node_sites.specs.declared.power.Power.TheVariants.{On, Off}
 use Rattle.node_sites.specs.Powers.{memory_kept}
-use Rattle.node_sites.specs.Numbers.{with_session}
 use Rattle.link_wires.proofs.Results.{on_ok}
-use Rattle.node_sites.proofs.Renumbered.{numbered_behind}
 use Rattle.node_sites.proofs.places.finish_step.Goals as goal
 
 pub returns-then-not-live-clause-cut : goal.returns-then-not-live-clause-cut
-returns-then-not-live-clause-cut g c n w p l before f noted len num off =
-    let session : ℕ → ℕ = λ h. get_or c.args.sessions.now h 0 in
-    let now : List Entry = c.args.noted.now.entries.items in
+returns-then-not-live-clause-cut g c n w p l before f noted off =
     on_ok c.lose_power.result c.lose_power.ensures.off
     (λ gone. record {
       off = gone ∙ ap (λ k. Off (memory_kept g.P.WorldNode.memory k)) f.on;
       wires = c.lose_power.ensures.wires (exchanged l) f.wires;
-      noted = c.number_from.ensures
-          ∙ (ap (λ k. take k now ++ map (with_session session) (drop k now)) (sym len)
-          ∙ numbered_behind session before w.entries now num (noted c.if-noted.false));
+      noted = noted c.if-noted.false;
     })
 
 pub returns-in_ok-send_frames-clause-goes_on : goal.returns-in_ok-send_frames-clause-goes_on
-returns-in_ok-send_frames-clause-goes_on g c n w p l before f noted len num live =
-    let session : ℕ → ℕ = λ h. get_or c.args.sessions.now h 0 in
-    let now : List Entry = c.args.noted.now.entries.items in
+returns-in_ok-send_frames-clause-goes_on g c n w p l before f noted live =
     let Runs = g.P.WorldNode.runs in
     let on : On c.in-On.node ≡ On n = sym c.in-On.is ∙ f.on in
     let is : c.in-On.node ≡ n = cc in
     let r = c.in_ok-send_frames.ensures.stands w.core w.ports p l
     (record { runs = subst (λ x. Runs x w.core w.ports) (sym is) (f.runs live); here = f.here; only = f.only }) f.wires in
-    let first = c.number_from.ensures
-    ∙ (ap (λ k. take k now ++ map (with_session session) (drop k now)) (sym len)
-    ∙ numbered_behind session before w.entries now num (noted c.if-noted.false)) in
     record {
       node = c.send_frames.new.node;
       on = refl;
       runs = r.0;
       memory = c.send_frames.ensures.memory ∙ ap g.P.WorldNode.memory is;
       wires = r.1;
-      noted = r.2 ∙ ap (λ es. es ++ entries_for c.args.site.now.host (puts_entries Host l (frames_out p.side))) first;
+      noted = r.2 ∙ ap (λ es. es ++ entries_for c.args.site.now.host (puts_entries Host l (frames_out p.side))) (noted c.if-noted.false);
     }

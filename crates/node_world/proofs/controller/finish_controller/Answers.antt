@@ -1,36 +1,27 @@
-use Rattle.std.proofs.Common.{◌≡◌, ℕ, List, ◌++◌, get_or, take, drop, map, ap, sym, subst, ◌∙◌, refl}
+use Rattle.std.proofs.Common.{◌≡◌, ◌++◌, ap, sym, subst, ◌∙◌, refl}
 use Rattle.swp_base.specs.InMemory.{Memory}
 use Rattle.node_sites.specs.declared.power.Power.{Power}
 use Rattle.node_sites.specs.declared.power.Power.TheVariants.{On, Off}
 use Rattle.node_sites.specs.Powers.{memory_kept}
 use Rattle.link_wires.proofs.Results.{on_ok}
 use Rattle.std.specs.List.{flat_map}
-use Rattle.trace_model.specs.declared.entry.Entry.{Entry}
-use Rattle.node_sites.specs.Numbers.{with_session}
 use Rattle.node_world.specs.Controllers.{frames_emitted}
-use Rattle.node_sites.proofs.Renumbered.{numbered_behind}
 use Rattle.node_world.proofs.controller.finish_controller.Goals as goal
 
 abbrev memory_off : {C : Type 0} → (C → Memory) → Power C → Power C
 memory_off memory_of k = Off (memory_kept memory_of k)
 
 pub returns-then-not-live-clause-cut : goal.returns-then-not-live-clause-cut
-returns-then-not-live-clause-cut g c n v hosts before e noted len num off =
-    let session : ℕ → ℕ = λ h. get_or c.args.sessions.now h 0 in
-    let now : List Entry = c.args.noted.now.entries.items in
+returns-then-not-live-clause-cut g c n v hosts before e noted off =
     on_ok c.lose_controller.result c.lose_controller.ensures.off
     (λ gone. record {
       off = gone ∙ ap (memory_off g.C.WorldNode.memory) e.on;
       sites = c.lose_controller.ensures.wires hosts e.sends.sites;
-      noted = c.number_from.ensures
-          ∙ (ap (λ k. take k now ++ map (with_session session) (drop k now)) (sym len)
-          ∙ numbered_behind session before v.entries now num (noted c.if-noted.false));
+      noted = noted c.if-noted.false;
     })
 
 pub returns-in_ok-send_to_all-clause-goes_on : goal.returns-in_ok-send_to_all-clause-goes_on
-returns-in_ok-send_to_all-clause-goes_on g c n v hosts before e noted len num live =
-    let session : ℕ → ℕ = λ h. get_or c.args.sessions.now h 0 in
-    let now : List Entry = c.args.noted.now.entries.items in
+returns-in_ok-send_to_all-clause-goes_on g c n v hosts before e noted live =
     let Runs = g.C.WorldNode.runs in
     let on : On c.in-On.node ≡ On n = sym c.in-On.is ∙ e.on in
     let is : c.in-On.node ≡ n = cc in
@@ -41,14 +32,11 @@ returns-in_ok-send_to_all-clause-goes_on g c n v hosts before e noted len num li
       different = e.sends.different;
       ends = e.sends.ends;
     }) in
-    let first = c.number_from.ensures
-    ∙ (ap (λ k. take k now ++ map (with_session session) (drop k now)) (sym len)
-    ∙ numbered_behind session before v.entries now num (noted c.if-noted.false)) in
     record {
       node = c.send_to_all.new.node;
       on = refl;
       runs = r.0;
       memory = c.send_to_all.ensures.memory ∙ ap g.C.WorldNode.memory is;
       sites = r.1;
-      noted = r.2 ∙ ap (λ es. es ++ flat_map (frames_emitted v.ports) hosts) first;
+      noted = r.2 ∙ ap (λ es. es ++ flat_map (frames_emitted v.ports) hosts) (noted c.if-noted.false);
     }

@@ -40,4 +40,5 @@ returns-in-Off-clause-stands g c w world may timely off same =
     let E : List ℕ → Memory → Type 0 = λ hs m. EndsBoot g.C.WorldNode.runs g.C.WorldNode.memory 0 hs Clf m c.in_ok-controller.field-0 in
     boot_lost _ g.P.WorldNode.runs g.P.WorldNode.memory _ g.C.WorldNode.runs g.C.WorldNode.memory c.in_ok-controller.field-0 c.empty_all.new.sites w
     c.args.noted.now.entries.items c.note_last-in-Off.new.noted.entries.items _ c.in-Off.is
-    (subst (E (hosts_in w.sites)) taken (subst (λ hs. E hs c.in_ok-memory.memory) same c.in_ok-controller.ensures)) (c.empty_all.ensures w.sites world.sites) noted))
+    (subst (E (hosts_in w.sites)) taken (subst (λ hs. E hs c.in_ok-memory.memory) same c.in_ok-controller.ensures))
+    (c.empty_all.ensures w.sites world.sites) noted))

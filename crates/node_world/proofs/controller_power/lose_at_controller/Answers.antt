@@ -90,7 +90,8 @@ returns-else-is_refusal-clause-stands g c w why world may there cause =
     let r = c.in_ok-lose_for.ensures.stands there.0 why site (a_host_of w i h there.0 st may is) cause in
     let sites = changed_there _ g.P.WorldNode.runs g.P.WorldNode.memory i h (lost_on why) ks w.sites there.0 c.lose_for.new.site st may.orderly.different is
     world.sites r.0 in
-    let here = plain_there _ g.row.P.Denot g.C.WorldNode.runs g.C.WorldNode.memory g.P.WorldNode.runs g.P.WorldNode.memory c.args.controller.now w h why (sym (c.is_refusal.ensures why cause) ∙ c.if-is_refusal.false) world.controller in
+    let here = plain_there _ g.row.P.Denot g.C.WorldNode.runs g.C.WorldNode.memory g.P.WorldNode.runs g.P.WorldNode.memory c.args.controller.now w h why
+    (sym (c.is_refusal.ensures why cause) ∙ c.if-is_refusal.false) world.controller in
     lost_there _ _ g.C.WorldNode.runs g.C.WorldNode.memory g.P.WorldNode.runs g.P.WorldNode.memory c.args.controller.now
     (slice_set ks i c.lose_for.new.site) w h there.0 why c.args.noted.now.entries.items c.lose_for.new.noted.entries.items there.1
     here sites r.1

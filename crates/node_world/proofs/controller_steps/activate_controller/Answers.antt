@@ -1,4 +1,4 @@
-use Rattle.std.proofs.Common.{ℕ, refl, ap, sym, subst, ◌∙◌}
+use Rattle.std.proofs.Common.{ℕ, refl, ap, sym, subst}
 use Rattle.std.specs.Prelude.{slice_index_or}
 use Rattle.std.specs.List.{AllByRecursion}
 use Rattle.trace_model.specs.Lines.{IsHost}
@@ -7,11 +7,10 @@ use Rattle.link_laws.specs.messages.Links.Comes.{Starts}
 use Rattle.node_machine.specs.world.World.{link_to}
 use Rattle.node_laws.specs.kept.Hosts.{AreDifferent}
 use Rattle.node_sites.specs.LinksKept.{with_bare_wires}
+use Rattle.node_sites.proofs.Renumbered.{none_noted, noted_behind}
 use Rattle.node_world.specs.Controllers.{as_it_comes_to}
 use Rattle.node_world.proofs.HostsBegin.{may_begin}
-use Rattle.node_world.proofs.HostsGoOn.{not_more}
 use Rattle.node_world.proofs.ControllersHear.{place_is_on, found_there, comes_there, site_read, site_with, room_kept, resets_as_it_comes, hosts_as_it_comes}
-use Rattle.node_world.proofs.ControllersHear.{from_there}
 use Rattle.node_world.proofs.ControllersStep.{Then, mid_sites, begins_there, numbered, step_midway, step_ends}
 use Rattle.node_world.proofs.controller_steps.activate_controller.Goals as goal
 
@@ -51,18 +50,6 @@ finish_controller-requires-clause-state g c =
           _ g.row.P.Denot g.C.WorldNode.runs g.C.WorldNode.memory g.P.WorldNode.runs g.P.WorldNode.memory g.met.C.WorldNode.kept g.met.C.WorldNode.whole
           c.in-On.node c.activate-live.new.self _ c.activate-live.result (c.activate-live.ensures.stepped _ b) sites,
     )
-
-pub finish_controller-requires-clause-from : goal.finish_controller-requires-clause-from
-finish_controller-requires-clause-from g c off =
-    let q = c.requires.state in
-    let here = place_is_on _ g.C.WorldNode.runs g.C.WorldNode.memory c.args.controller.now q.0.memory q.0.controller
-    (λ h. (link_to q.0.sites h).controller) c.in-On.node c.in-On.is q.1.controller in
-    let b = begins_there q.0 here.running c.args.host (Starts c.args.power) (Start c.args.power) q.3.0 q.2 here.runs q.3.1 refl
-    _ g.row.P.Denot g.C.WorldNode.runs g.C.WorldNode.memory g.P.WorldNode.runs g.P.WorldNode.memory g.met.C.WorldNode.kept g.met.C.WorldNode.whole
-    c.in-On.node here.place in
-    let before = c.args.noted.now.entries.items in
-    from_there c.activate-live.new.noted.entries.items before _ c.activate-live.new.noted.short c.len-from.result
-    (c.activate-live.ensures.noted before _ b (not_more before c.args.noted.now.short)) (sym (c.len-from.ensures ∙ c.args.noted.now.entries.ok.0)) off
 
 pub finish_controller-requires-clause-room : goal.finish_controller-requires-clause-room
 finish_controller-requires-clause-room g c =
@@ -105,16 +92,15 @@ returns-clause-stands g c w world may there few =
     _ g.row.P.Denot g.C.WorldNode.runs g.C.WorldNode.memory g.P.WorldNode.runs g.P.WorldNode.memory g.met.C.WorldNode.kept g.met.C.WorldNode.whole
     c.in-On.node c.activate-live.new.self _ c.activate-live.result gone sites in
     let before = c.args.noted.now.entries.items in
-    let noted = c.activate-live.ensures.noted before _ b (not_more before c.args.noted.now.short) in
-    let long = sym (c.len-from.ensures ∙ c.args.noted.now.entries.ok.0) in
+    let noted = c.activate-live.ensures.noted _ before _ b (none_noted _) in
     let names = hosts_as_it_comes h (Starts c.args.power) w.sites in
-    let sessions = c.sessions_of-sessions.ensures (as_it_comes_to h (Starts c.args.power) w.sites) sites
+    let sessions = c.sessions_of-noted.ensures (as_it_comes_to h (Starts c.args.power) w.sites) sites
     (subst AreDifferent (sym names) may.orderly.different) (subst (AllByRecursion IsHost) (sym names) may.hosts) in
     let counted = numbered w here.running h (Starts c.args.power) (Start c.args.power) there.0 may here.runs there.1 refl
-    c.sessions_of-sessions.result sessions (few (Start c.args.power) refl) in
+    c.sessions_of-noted.result sessions (few (Start c.args.power) refl) in
     step_ends w here.running h (Starts c.args.power) (Start c.args.power) there.0 may here.runs there.1 refl
     _ g.row.P.Denot g.C.WorldNode.runs g.C.WorldNode.memory g.P.WorldNode.runs g.P.WorldNode.memory g.met.C.WorldNode.kept g.met.C.WorldNode.whole
     c.finish_controller.result c.activate-live.result c.finish_controller.new.controller c.finish_controller.new.sites c.in-On.node
     c.activate-live.new.self before c.finish_controller.new.noted.entries.items here.place gone
-    (λ live. c.finish_controller.ensures.goes_on c.activate-live.new.self _ _ before midway noted long counted live)
-    (λ cut. c.finish_controller.ensures.cut c.activate-live.new.self _ _ before midway noted long counted cut)
+    (λ live. c.finish_controller.ensures.goes_on c.activate-live.new.self _ _ before midway (noted_behind noted counted) live)
+    (λ cut. c.finish_controller.ensures.cut c.activate-live.new.self _ _ before midway (noted_behind noted counted) cut)

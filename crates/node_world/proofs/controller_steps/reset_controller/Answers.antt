@@ -1,4 +1,4 @@
-use Rattle.std.proofs.Common.{ℕ, List, refl, sym, subst, ◌∙◌}
+use Rattle.std.proofs.Common.{ℕ, List, refl, sym, subst}
 use Rattle.std.specs.Prelude.{Ok}
 use Rattle.std.specs.List.{AllByRecursion}
 use Rattle.trace_model.specs.Lines.{IsHost}
@@ -6,10 +6,10 @@ use Rattle.link_laws.specs.machine.Machine.LinkInput.{Reset}
 use Rattle.link_laws.specs.messages.Links.Comes.{AsksReset}
 use Rattle.node_machine.specs.world.World.{Site, link_to}
 use Rattle.node_laws.specs.kept.Hosts.{AreDifferent}
+use Rattle.node_sites.proofs.Renumbered.{none_noted, noted_behind}
 use Rattle.node_world.specs.Controllers.{SitesAre, as_it_comes_to}
 use Rattle.node_world.proofs.HostsBegin.{may_begin}
-use Rattle.node_world.proofs.HostsGoOn.{not_more}
-use Rattle.node_world.proofs.ControllersHear.{place_is_on, asked_there, hosts_as_it_comes, from_there}
+use Rattle.node_world.proofs.ControllersHear.{place_is_on, asked_there, hosts_as_it_comes}
 use Rattle.node_world.proofs.ControllersStep.{Then, mid_sites, begins_there, numbered, step_midway, step_ends, reset_goes_on, reset_stops_there}
 use Rattle.node_world.proofs.controller_steps.reset_controller.Goals as goal
 
@@ -42,18 +42,6 @@ finish_controller-requires-clause-state g c =
           c.in-On.node c.reset.new.self _ c.in-Ok.live (c.in-Ok.ensures.stepped _ b) sites,
     )
 
-pub finish_controller-requires-clause-from : goal.finish_controller-requires-clause-from
-finish_controller-requires-clause-from g c off =
-    let q = c.requires.state in
-    let here = place_is_on _ g.C.WorldNode.runs g.C.WorldNode.memory c.args.controller.now q.0.memory q.0.controller
-    (λ h. (link_to q.0.sites h).controller) c.in-On.node c.in-On.is q.1.controller in
-    let b = begins_there q.0 here.running c.args.host (AsksReset c.args.window) (Reset c.args.window) q.3.0 q.2 here.runs q.3.1 refl
-    _ g.row.P.Denot g.C.WorldNode.runs g.C.WorldNode.memory g.P.WorldNode.runs g.P.WorldNode.memory g.met.C.WorldNode.kept g.met.C.WorldNode.whole
-    c.in-On.node here.place in
-    let before = c.args.noted.now.entries.items in
-    from_there c.reset.new.noted.entries.items before _ c.reset.new.noted.short c.len-from.result
-    (c.in-Ok.ensures.noted before _ b (not_more before c.args.noted.now.short)) (sym (c.len-from.ensures ∙ c.args.noted.now.entries.ok.0)) off
-
 pub returns-in_ok-finish_controller-in-Ok-clause-stands : goal.returns-in_ok-finish_controller-in-Ok-clause-stands
 returns-in_ok-finish_controller-in-Ok-clause-stands g c w world may there few =
     let h : ℕ = c.args.host in
@@ -69,19 +57,18 @@ returns-in_ok-finish_controller-in-Ok-clause-stands g c w world may there few =
     _ g.row.P.Denot g.C.WorldNode.runs g.C.WorldNode.memory g.P.WorldNode.runs g.P.WorldNode.memory g.met.C.WorldNode.kept g.met.C.WorldNode.whole
     c.in-On.node c.reset.new.self _ c.in-Ok.live gone sites in
     let before = c.args.noted.now.entries.items in
-    let noted = c.in-Ok.ensures.noted before _ b (not_more before c.args.noted.now.short) in
-    let long = sym (c.len-from.ensures ∙ c.args.noted.now.entries.ok.0) in
+    let noted = c.in-Ok.ensures.noted _ before _ b (none_noted _) in
     let names = hosts_as_it_comes h (AsksReset c.args.window) w.sites in
-    let sessions = c.sessions_of-sessions.ensures (as_it_comes_to h (AsksReset c.args.window) w.sites) sites
+    let sessions = c.sessions_of-noted.ensures (as_it_comes_to h (AsksReset c.args.window) w.sites) sites
     (subst AreDifferent (sym names) may.orderly.different) (subst (AllByRecursion IsHost) (sym names) may.hosts) in
     let counted = numbered w here.running h (AsksReset c.args.window) (Reset c.args.window) there.0 may here.runs there.1 refl
-    c.sessions_of-sessions.result sessions (few (Reset c.args.window) refl) in
+    c.sessions_of-noted.result sessions (few (Reset c.args.window) refl) in
     step_ends w here.running h (AsksReset c.args.window) (Reset c.args.window) there.0 may here.runs there.1 refl
     _ g.row.P.Denot g.C.WorldNode.runs g.C.WorldNode.memory g.P.WorldNode.runs g.P.WorldNode.memory g.met.C.WorldNode.kept g.met.C.WorldNode.whole
     {F = Unit {0}} (Ok c.in_ok-finish_controller-in-Ok.field-0) c.in-Ok.live c.finish_controller.new.controller c.finish_controller.new.sites c.in-On.node
     c.reset.new.self before c.finish_controller.new.noted.entries.items here.place gone
-    (λ live. c.in_ok-finish_controller-in-Ok.ensures.goes_on c.reset.new.self _ _ before midway noted long counted live)
-    (λ cut. c.in_ok-finish_controller-in-Ok.ensures.cut c.reset.new.self _ _ before midway noted long counted cut)
+    (λ live. c.in_ok-finish_controller-in-Ok.ensures.goes_on c.reset.new.self _ _ before midway (noted_behind noted counted) live)
+    (λ cut. c.in_ok-finish_controller-in-Ok.ensures.cut c.reset.new.self _ _ before midway (noted_behind noted counted) cut)
 
 pub returns-in_ok-finish_controller-in-Ok-clause-refusal : goal.returns-in_ok-finish_controller-in-Ok-clause-refusal
 returns-in_ok-finish_controller-in-Ok-clause-refusal g c w world may there =

@@ -1,4 +1,4 @@
-use Rattle.std.proofs.Common.{ℕ, List, ◌++◌, map, ap, sym, subst, ◌∙◌, false, append-nil}
+use Rattle.std.proofs.Common.{ℕ, List, ◌++◌, map, ap, refl, sym, subst, ◌∙◌, false, append-nil}
 use Rattle.std.specs.Prelude.{slice_index_or, slice_set, Some}
 use Rattle.std.specs.List.{AllByRecursion}
 use Rattle.trace_model.specs.Lines.{IsHost}
@@ -12,15 +12,16 @@ use Rattle.history.specs.Steps.{entries_for}
 use Rattle.node_machine.specs.world.World.{NodeWorld, link_to, input_of, arrival}
 use Rattle.node_laws.specs.kept.Hosts.{AreDifferent}
 use Rattle.node_laws.proofs.telling.Nodes.{link_is}
-use Rattle.node_core.specs.Noting.{unnumbered}
+use Rattle.node_sites.specs.Numbers.{with_session_number, session_at}
 use Rattle.node_sites.specs.LinksKept.{without_first}
 use Rattle.node_sites.specs.declared.power.Power.TheVariants.{On}
 use Rattle.node_sites.specs.Powers.{IsNodePlace}
+use Rattle.node_sites.proofs.Renumbered.{noted_behind}
 use Rattle.node_world.specs.Controllers.{WorldBecomes, as_it_comes_to}
 use Rattle.node_world.proofs.HostsAre.{none_first, some_read, none_read}
 use Rattle.node_world.proofs.HostsBegin.{may_begin}
 use Rattle.node_world.proofs.HostsGoOn.{taken_input}
-use Rattle.node_world.proofs.ControllersHear.{place_is_on, found_there, comes_there, site_read, site_with, hosts_as_it_comes, from_there, first_off}
+use Rattle.node_world.proofs.ControllersHear.{place_is_on, found_there, comes_there, site_read, site_with, hosts_as_it_comes, first_off}
 use Rattle.node_world.proofs.ControllersHear.{taken_noted, stays_there, comes_none}
 use Rattle.node_world.proofs.ControllersStep.{Then, mid_sites, begins_there, numbered, step_midway, step_ends, come_far}
 use Rattle.node_world.proofs.controller_steps.take_at_controller.Goals as goal
@@ -69,8 +70,8 @@ take-live-requires g c =
     let at : End = record { link = h; at_host = false } in
     let link = link_is q.0.sites h q.3.0 q.3.1 in
     let input = ap (λ m. input_of m NextFrame) link ∙ taken_input l f.lpdu f.first in
-    let started = t.1 ∙ ap (λ es. before ++ es) (sym (taken_noted h l f.lpdu f.first)
-    ∙ ap (λ m. map unnumbered (entries_for h (arrival Controller m NextFrame))) (sym link)) in
+    let started = t.1 ∙ ap (λ es. before ++ es) (sym (taken_noted (session_at c.sessions_of-noted.result) h l f.lpdu f.first)
+    ∙ ap (λ m. map (with_session_number (session_at c.sessions_of-noted.result)) (entries_for h (arrival Controller m NextFrame))) (sym link)) in
     let new = site_with _ g.P.WorldNode.runs g.P.WorldNode.memory k (record k.wires { controller = c.take_first.new.self }) q.3.0 (without_first l)
     (come_far l NextFrame) (first_off k.wires c.take_first.new.self l site.wires t.0) site in
     let b = begins_there q.0 here.running h NextFrame (lpdu_input f.lpdu) q.3.0 q.2 here.runs q.3.1 input
@@ -100,8 +101,8 @@ finish_controller-requires-clause-state g c =
     let at : End = record { link = h; at_host = false } in
     let link = link_is q.0.sites h q.3.0 q.3.1 in
     let input = ap (λ m. input_of m NextFrame) link ∙ taken_input l f.lpdu f.first in
-    let started = t.1 ∙ ap (λ es. before ++ es) (sym (taken_noted h l f.lpdu f.first)
-    ∙ ap (λ m. map unnumbered (entries_for h (arrival Controller m NextFrame))) (sym link)) in
+    let started = t.1 ∙ ap (λ es. before ++ es) (sym (taken_noted (session_at c.sessions_of-noted.result) h l f.lpdu f.first)
+    ∙ ap (λ m. map (with_session_number (session_at c.sessions_of-noted.result)) (entries_for h (arrival Controller m NextFrame))) (sym link)) in
     let new = site_with _ g.P.WorldNode.runs g.P.WorldNode.memory k (record k.wires { controller = c.take_first.new.self }) q.3.0 (without_first l)
     (come_far l NextFrame) (first_off k.wires c.take_first.new.self l site.wires t.0) site in
     let b = begins_there q.0 here.running h NextFrame (lpdu_input f.lpdu) q.3.0 q.2 here.runs q.3.1 input
@@ -116,35 +117,6 @@ finish_controller-requires-clause-state g c =
           _ g.row.P.Denot g.C.WorldNode.runs g.C.WorldNode.memory g.P.WorldNode.runs g.P.WorldNode.memory g.met.C.WorldNode.kept g.met.C.WorldNode.whole
           c.in-On.node c.take-live.new.self _ c.take-live.result (c.take-live.ensures.stepped _ f.lpdu b f.says) sites,
     )
-
-pub finish_controller-requires-clause-from : goal.finish_controller-requires-clause-from
-finish_controller-requires-clause-from g c off =
-    let q = c.requires.state in
-    let h : ℕ = c.args.host in
-    let i : ℕ = c.in-Some.place in
-    let ks = c.args.sites.now in
-    let k = slice_index_or ks i c.index-sites-place.result in
-    let l : Link = q.3.0.link in
-    let before : List Entry = c.args.noted.now.entries.items in
-    let here = place_is_on _ g.C.WorldNode.runs g.C.WorldNode.memory c.args.controller.now q.0.memory q.0.controller
-    (λ h. (link_to q.0.sites h).controller) c.in-On.node c.in-On.is q.1.controller in
-    let st = c.in-Some.ensures.place q.0.sites q.1.sites in
-    let is = found_there i h q.0.sites q.3.0 st q.2.orderly.different q.3.1 in
-    let site = site_read _ g.P.WorldNode.runs g.P.WorldNode.memory i h ks q.0.sites q.3.0 k st is q.1.sites (ap (slice_index_or ks i) c.index-sites-place.is) in
-    let f = some_read l.to_controller c.reads_first.result c.in-Some-reads_first.read c.in-Some-reads_first.is (c.reads_first.ensures l site.wires.here) in
-    let t = c.in_ok-take_first.ensures l (Some f.lpdu) site.wires.here f.first in
-    let at : End = record { link = h; at_host = false } in
-    let link = link_is q.0.sites h q.3.0 q.3.1 in
-    let input = ap (λ m. input_of m NextFrame) link ∙ taken_input l f.lpdu f.first in
-    let started = t.1 ∙ ap (λ es. before ++ es) (sym (taken_noted h l f.lpdu f.first)
-    ∙ ap (λ m. map unnumbered (entries_for h (arrival Controller m NextFrame))) (sym link)) in
-    let new = site_with _ g.P.WorldNode.runs g.P.WorldNode.memory k (record k.wires { controller = c.take_first.new.self }) q.3.0 (without_first l)
-    (come_far l NextFrame) (first_off k.wires c.take_first.new.self l site.wires t.0) site in
-    let b = begins_there q.0 here.running h NextFrame (lpdu_input f.lpdu) q.3.0 q.2 here.runs q.3.1 input
-    _ g.row.P.Denot g.C.WorldNode.runs g.C.WorldNode.memory g.P.WorldNode.runs g.P.WorldNode.memory g.met.C.WorldNode.kept g.met.C.WorldNode.whole
-    c.in-On.node here.place in
-    from_there c.take-live.new.noted.entries.items before _ c.take-live.new.noted.short c.len-from.result
-    (c.take-live.ensures.noted before _ f.lpdu b f.says (λ long. started)) (sym (c.len-from.ensures ∙ c.args.noted.now.entries.ok.0)) off
 
 pub returns-clause-stands : goal.returns-clause-stands
 returns-clause-stands g c w world may there few =
@@ -165,8 +137,8 @@ returns-clause-stands g c w world may there few =
     let at : End = record { link = h; at_host = false } in
     let link = link_is w.sites h there.0 there.1 in
     let input = ap (λ m. input_of m NextFrame) link ∙ taken_input l f.lpdu f.first in
-    let started = t.1 ∙ ap (λ es. before ++ es) (sym (taken_noted h l f.lpdu f.first)
-    ∙ ap (λ m. map unnumbered (entries_for h (arrival Controller m NextFrame))) (sym link)) in
+    let started = t.1 ∙ ap (λ es. before ++ es) (sym (taken_noted (session_at c.sessions_of-noted.result) h l f.lpdu f.first)
+    ∙ ap (λ m. map (with_session_number (session_at c.sessions_of-noted.result)) (entries_for h (arrival Controller m NextFrame))) (sym link)) in
     let new = site_with _ g.P.WorldNode.runs g.P.WorldNode.memory k (record k.wires { controller = c.take_first.new.self }) there.0 (without_first l)
     (come_far l NextFrame) (first_off k.wires c.take_first.new.self l site.wires t.0) site in
     let b = begins_there w here.running h NextFrame (lpdu_input f.lpdu) there.0 may here.runs there.1 input
@@ -178,16 +150,15 @@ returns-clause-stands g c w world may there few =
     let midway = step_midway w here.running h NextFrame (lpdu_input f.lpdu) there.0 may here.runs there.1 input
     _ g.row.P.Denot g.C.WorldNode.runs g.C.WorldNode.memory g.P.WorldNode.runs g.P.WorldNode.memory g.met.C.WorldNode.kept g.met.C.WorldNode.whole
     c.in-On.node c.take-live.new.self _ c.take-live.result gone sites in
-    let noted = c.take-live.ensures.noted before _ f.lpdu b f.says (λ long. started) in
-    let long = sym (c.len-from.ensures ∙ c.args.noted.now.entries.ok.0) in
+    let noted = c.take-live.ensures.noted _ before _ f.lpdu b f.says (record { are = λ long. (refl, started) }) in
     let names = hosts_as_it_comes h NextFrame w.sites in
-    let sessions = c.sessions_of-sessions.ensures (as_it_comes_to h NextFrame w.sites) sites
+    let sessions = c.sessions_of-noted.ensures (as_it_comes_to h NextFrame w.sites) sites
     (subst AreDifferent (sym names) may.orderly.different) (subst (AllByRecursion IsHost) (sym names) may.hosts) in
     let counted = numbered w here.running h NextFrame (lpdu_input f.lpdu) there.0 may here.runs there.1 input
-    c.sessions_of-sessions.result sessions (few (lpdu_input f.lpdu) input) in
+    c.sessions_of-noted.result sessions (few (lpdu_input f.lpdu) input) in
     step_ends w here.running h NextFrame (lpdu_input f.lpdu) there.0 may here.runs there.1 input
     _ g.row.P.Denot g.C.WorldNode.runs g.C.WorldNode.memory g.P.WorldNode.runs g.P.WorldNode.memory g.met.C.WorldNode.kept g.met.C.WorldNode.whole
     c.finish_controller.result c.take-live.result c.finish_controller.new.controller c.finish_controller.new.sites c.in-On.node
     c.take-live.new.self before c.finish_controller.new.noted.entries.items here.place gone
-    (λ live. c.finish_controller.ensures.goes_on c.take-live.new.self _ _ before midway noted long counted live)
-    (λ cut. c.finish_controller.ensures.cut c.take-live.new.self _ _ before midway noted long counted cut)
+    (λ live. c.finish_controller.ensures.goes_on c.take-live.new.self _ _ before midway (noted_behind noted counted) live)
+    (λ cut. c.finish_controller.ensures.cut c.take-live.new.self _ _ before midway (noted_behind noted counted) cut)

@@ -1,7 +1,6 @@
-use Rattle.std.proofs.Common.{sym, ◌∙◌}
 use Rattle.node_machine.specs.world.World.{link_to}
-use Rattle.node_world.proofs.HostsGoOn.{not_more}
-use Rattle.node_world.proofs.ControllersHear.{place_is_on, place_is_off, from_there}
+use Rattle.node_sites.proofs.Renumbered.{none_noted, noted_behind}
+use Rattle.node_world.proofs.ControllersHear.{place_is_on, place_is_off}
 use Rattle.node_world.proofs.ControllersTick.{ticks_off, Ticked, mid_sites, tick_begins, tick_may, numbered, tick_midway, tick_ends}
 use Rattle.node_world.proofs.controller_steps.tick_controller.Goals as goal
 
@@ -40,18 +39,6 @@ finish_controller-requires-clause-state g c =
           q.1.sites,
     )
 
-pub finish_controller-requires-clause-from : goal.finish_controller-requires-clause-from
-finish_controller-requires-clause-from g c off =
-    let q = c.requires.state in
-    let here = place_is_on _ g.C.WorldNode.runs g.C.WorldNode.memory c.args.controller.now q.0.memory q.0.controller
-    (λ h. (link_to q.0.sites h).controller) c.in-On.node c.in-On.is q.1.controller in
-    let b = tick_begins q.0 here.running q.2 q.3 here.runs
-    _ g.row.P.Denot g.C.WorldNode.runs g.C.WorldNode.memory g.P.WorldNode.runs g.P.WorldNode.memory g.met.C.WorldNode.kept g.met.C.WorldNode.whole
-    c.in-On.node here.place in
-    let before = c.args.noted.now.entries.items in
-    from_there c.tick-live.new.noted.entries.items before _ c.tick-live.new.noted.short c.len-from.result
-    (c.tick-live.ensures.noted before _ b (not_more before c.args.noted.now.short)) (sym (c.len-from.ensures ∙ c.args.noted.now.entries.ok.0)) off
-
 pub returns-clause-stands : goal.returns-clause-stands
 returns-clause-stands g c w world may timely few =
     let here = place_is_on _ g.C.WorldNode.runs g.C.WorldNode.memory c.args.controller.now w.memory w.controller
@@ -64,13 +51,12 @@ returns-clause-stands g c w world may timely few =
     _ g.row.P.Denot g.C.WorldNode.runs g.C.WorldNode.memory g.P.WorldNode.runs g.P.WorldNode.memory g.met.C.WorldNode.kept g.met.C.WorldNode.whole
     c.in-On.node c.tick-live.new.self c.args.sites.now c.tick-live.result gone world.sites in
     let before = c.args.noted.now.entries.items in
-    let noted = c.tick-live.ensures.noted before _ b (not_more before c.args.noted.now.short) in
-    let long = sym (c.len-from.ensures ∙ c.args.noted.now.entries.ok.0) in
-    let sessions = c.sessions_of-sessions.ensures w.sites world.sites may.orderly.different may.hosts in
-    let counted = numbered w here.running may timely here.runs c.sessions_of-sessions.result sessions few in
+    let noted = c.tick-live.ensures.noted _ before _ b (none_noted _) in
+    let sessions = c.sessions_of-noted.ensures w.sites world.sites may.orderly.different may.hosts in
+    let counted = numbered w here.running may timely here.runs c.sessions_of-noted.result sessions few in
     tick_ends w here.running may timely here.runs
     _ g.row.P.Denot g.C.WorldNode.runs g.C.WorldNode.memory g.P.WorldNode.runs g.P.WorldNode.memory g.met.C.WorldNode.kept g.met.C.WorldNode.whole
     c.finish_controller.result c.tick-live.result c.finish_controller.new.controller c.finish_controller.new.sites c.in-On.node
     c.tick-live.new.self before c.finish_controller.new.noted.entries.items here.place gone
-    (λ live. c.finish_controller.ensures.goes_on c.tick-live.new.self _ _ before midway noted long counted live)
-    (λ cut. c.finish_controller.ensures.cut c.tick-live.new.self _ _ before midway noted long counted cut)
+    (λ live. c.finish_controller.ensures.goes_on c.tick-live.new.self _ _ before midway (noted_behind noted counted) live)
+    (λ cut. c.finish_controller.ensures.cut c.tick-live.new.self _ _ before midway (noted_behind noted counted) cut)

@@ -22,7 +22,8 @@ returns-in-On-clause-stands g c s is host off side =
     (λ h. s.link.host) is.place in
     let E : ℕ → Memory → Type 0 = λ h m. EndsBoot g.P.WorldNode.runs g.P.WorldNode.memory h (h ∷ []) Uicc m c.in_ok-site.field-0 in
     runs_now _ g.P.WorldNode.runs g.P.WorldNode.memory g.met.P.WorldNode.kept c.args.site.now c.in_ok-site.field-0 s c.in-On.running
-    c.count-count.result c.args.noted.now.entries.items c.in-On.is is side (subst (E s.host) taken (subst (λ h. E h c.in_ok-memory.memory) is.host c.in_ok-site.ensures))
+    c.count-count.result c.args.noted.now.entries.items c.in-On.is is side
+    (subst (E s.host) taken (subst (λ h. E h c.in_ok-memory.memory) is.host c.in_ok-site.ensures))
     c.count-count.ensures noted))
 
 pub returns-in-Off-clause-stands : goal.returns-in-Off-clause-stands

@@ -1,12 +1,10 @@
-use Rattle.std.proofs.Common.{ℕ, get_or, replicate, sym, subst}
-use Rattle.node_sites.specs.Numbers.{AreNumbered}
 use Rattle.node_world.proofs.HostsDo.{finishing, has_finished}
 use Rattle.node_world.proofs.host_ends.finish_host.Goals as goal
 
 pub finish_step-requires-clause-state : goal.finish_step-requires-clause-state
 finish_step-requires-clause-state g c =
     let r = c.requires.state in
-    let is = r.6 in (
+    let is = r.5 in (
       is.node,
       r.3,
       is.here.port,
@@ -16,15 +14,13 @@ finish_step-requires-clause-state g c =
     )
 
 pub returns-clause-stands : goal.returns-clause-stands
-returns-clause-stands g c s step l w before from is =
+returns-clause-stands g c s step l w before is =
     let fin = finishing _ g.P.WorldNode.runs g.P.WorldNode.memory g.met.P.WorldNode.kept g.met.P.WorldNode.whole
     c.args.site.now c.args.live c.args.noted.now.entries.items c.args.noted.now.short before s step l w is in
     let n = c.finish_step.ensures in
-    let N : ℕ → Type 0 = λ k. AreNumbered (λ h. get_or (replicate 8 k) h 0) w.entries in
-    let num = subst N (sym c.session-sessions.ensures) is.numbered in
     has_finished _ g.P.WorldNode.runs g.P.WorldNode.memory g.met.P.WorldNode.kept g.met.P.WorldNode.whole
     c.args.site.now c.args.live c.args.noted.now.entries.items c.args.noted.now.short before s step l w is
     c.finish_step.result c.finish_step.new.site c.finish_step.new.noted.entries.items n.host
-    (λ up. n.goes_on is.node w is.here.port is.here.link before (fin is.here.link is.wires) is.noted_are from num up)
-    (λ up. n.goes_on is.node w is.here.port is.bare before (fin is.bare is.bare_wires) is.noted_are from num up)
-    (λ off. n.cut is.node w is.here.port is.here.link before (fin is.here.link is.wires) is.noted_are from num off)
+    (λ up. n.goes_on is.node w is.here.port is.here.link before (fin is.here.link is.wires) is.noted_are up)
+    (λ up. n.goes_on is.node w is.here.port is.bare before (fin is.bare is.bare_wires) is.noted_are up)
+    (λ off. n.cut is.node w is.here.port is.here.link before (fin is.here.link is.wires) is.noted_are off)

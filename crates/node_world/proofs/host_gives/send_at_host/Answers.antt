@@ -1,12 +1,13 @@
 use Rattle.std.proofs.Common.{ℕ, List, refl, sym, subst, ◌∙◌, ap}
-use Rattle.std.specs.Prelude.{Some, None, Ok}
+use Rattle.std.specs.Prelude.{Some, None, Ok, replicate}
 use Rattle.node_machine.specs.Parts.{Deed}
 use Rattle.node_machine.specs.world.World.{sending}
 use Rattle.link_laws.specs.messages.Links.Comes.{NoInput}
 use Rattle.node_core.specs.Giving.{refusal_noted}
+use Rattle.node_sites.proofs.Renumbered.{none_noted}
 use Rattle.node_world.proofs.HostsAre.{is_on, is_off, unchanged}
 use Rattle.node_world.proofs.HostsBegin.{begins_at_end, has_end}
-use Rattle.node_world.proofs.HostsGoOn.{began, is_done, not_more}
+use Rattle.node_world.proofs.HostsGoOn.{began, is_done}
 use Rattle.node_world.proofs.HostsRefuse.{sending_off, sending_so, still_stands, sending_mute}
 use Rattle.node_world.proofs.host_gives.send_at_host.Goals as goal
 
@@ -25,9 +26,9 @@ finish_host-requires-clause-state g c =
     let e = c.in_default-send.ensures in
     let deeds : ℕ → List Deed = λ h. sending h (c.args.pipe, c.args.message.now) in
     let d = began _ g.P.WorldNode.runs g.P.WorldNode.memory g.met.P.WorldNode.kept c.args.site.now _ r.0 c.in-On.node c.send.new.self
-    _ before before c.send.new.noted.entries.items c.args.noted.now.short c.send.new.noted.short r.1 r.2 c.in-On.is refl refl
-    deeds (sending_mute r.0.host (c.args.pipe, c.args.message.now)) e.given (e.noted before) (not_more before c.args.noted.now.short) r.1.wires in
-    (r.0, d.step, d.l, d.w, before, sym (c.len-from.ensures ∙ c.args.noted.now.entries.ok.0), d.midway)
+    _ before _ c.send.new.noted _ (ap (replicate 8) c.session-noted.ensures) r.1 r.2 c.in-On.is refl refl
+    deeds (sending_mute r.0.host (c.args.pipe, c.args.message.now)) e.given (e.noted _ before) (none_noted _) r.1.wires in
+    (r.0, d.step, d.l, d.w, before, d.midway)
 
 pub returns-in-Err-clause-refusal : goal.returns-in-Err-clause-refusal
 returns-in-Err-clause-refusal g c s is host =
@@ -53,10 +54,10 @@ returns-clause-stands g c s is host =
     let e = c.in_default-send.ensures in
     let deeds : ℕ → List Deed = λ h. sending h (c.args.pipe, c.args.message.now) in
     let d = began _ g.P.WorldNode.runs g.P.WorldNode.memory g.met.P.WorldNode.kept c.args.site.now _ s c.in-On.node c.send.new.self
-    _ before before c.send.new.noted.entries.items c.args.noted.now.short c.send.new.noted.short is host c.in-On.is refl refl
-    deeds (sending_mute s.host (c.args.pipe, c.args.message.now)) e.given (e.noted before) (not_more before c.args.noted.now.short) is.wires in
+    _ before _ c.send.new.noted _ (ap (replicate 8) c.session-noted.ensures) is host c.in-On.is refl refl
+    deeds (sending_mute s.host (c.args.pipe, c.args.message.now)) e.given (e.noted _ before) (none_noted _) is.wires in
     is_done (Ok c.in_ok-finish_host.field-0) c.finish_host.new.site c.finish_host.new.noted.entries.items d
-    (c.in_ok-finish_host.ensures.stands s d.step d.l d.w before (sym (c.len-from.ensures ∙ c.args.noted.now.entries.ok.0)) d.midway)
+    (c.in_ok-finish_host.ensures.stands s d.step d.l d.w before d.midway)
 
 pub returns-in_default-clause-refusal : goal.returns-in_default-clause-refusal
 returns-in_default-clause-refusal g c s is host =

@@ -1,10 +1,11 @@
-use Rattle.std.proofs.Common.{refl, sym, ◌∙◌, ap}
-use Rattle.std.specs.Prelude.{Ok}
+use Rattle.std.proofs.Common.{refl, sym, ap}
+use Rattle.std.specs.Prelude.{Ok, replicate}
 use Rattle.link_laws.specs.machine.Machine.LinkInput.{Reset}
 use Rattle.link_laws.specs.messages.Links.Comes.{AsksReset}
+use Rattle.node_sites.proofs.Renumbered.{none_noted}
 use Rattle.node_world.proofs.HostsAre.{is_on, is_off, unchanged}
 use Rattle.node_world.proofs.HostsBegin.{begins_at_end, may_begin}
-use Rattle.node_world.proofs.HostsGoOn.{heard, is_done, not_more}
+use Rattle.node_world.proofs.HostsGoOn.{heard, is_done}
 use Rattle.node_world.proofs.HostsRefuse.{reset_off, reset_goes, reset_stops, still_stands}
 use Rattle.node_world.proofs.host_steps.reset_host.Goals as goal
 
@@ -21,10 +22,10 @@ finish_host-requires-clause-state g c =
     let r = c.requires.state in
     let before = c.args.noted.now.entries.items in
     let d = heard _ g.P.WorldNode.runs g.P.WorldNode.memory g.met.P.WorldNode.kept c.args.site.now _ r.0 c.in-On.node c.reset.new.self
-    c.in-Ok.live before before c.reset.new.noted.entries.items c.args.noted.now.short c.reset.new.noted.short r.1 r.2
-    c.in-On.is refl refl (AsksReset c.args.window) (Reset c.args.window) r.3 refl c.in-Ok.ensures.stepped (c.in-Ok.ensures.noted before)
-    (not_more before c.args.noted.now.short) r.1.wires in
-    (r.0, d.step, d.l, d.w, before, sym (c.len-from.ensures ∙ c.args.noted.now.entries.ok.0), d.midway)
+    c.in-Ok.live before _ c.reset.new.noted _ (ap (replicate 8) c.session-noted.ensures) r.1 r.2
+    c.in-On.is refl refl (AsksReset c.args.window) (Reset c.args.window) r.3 refl c.in-Ok.ensures.stepped (c.in-Ok.ensures.noted _ before)
+    (none_noted _) r.1.wires in
+    (r.0, d.step, d.l, d.w, before, d.midway)
 
 pub returns-in_ok-finish_host-in-Ok-clause-refusal : goal.returns-in_ok-finish_host-in-Ok-clause-refusal
 returns-in_ok-finish_host-in-Ok-clause-refusal g c s is host counts =
@@ -35,11 +36,11 @@ pub returns-in_ok-finish_host-in-Ok-clause-stands : goal.returns-in_ok-finish_ho
 returns-in_ok-finish_host-in-Ok-clause-stands g c s is host counts =
     let before = c.args.noted.now.entries.items in
     let d = heard _ g.P.WorldNode.runs g.P.WorldNode.memory g.met.P.WorldNode.kept c.args.site.now _ s c.in-On.node c.reset.new.self
-    c.in-Ok.live before before c.reset.new.noted.entries.items c.args.noted.now.short c.reset.new.noted.short is host
-    c.in-On.is refl refl (AsksReset c.args.window) (Reset c.args.window) counts refl c.in-Ok.ensures.stepped (c.in-Ok.ensures.noted before)
-    (not_more before c.args.noted.now.short) is.wires in
+    c.in-Ok.live before _ c.reset.new.noted _ (ap (replicate 8) c.session-noted.ensures) is host
+    c.in-On.is refl refl (AsksReset c.args.window) (Reset c.args.window) counts refl c.in-Ok.ensures.stepped (c.in-Ok.ensures.noted _ before)
+    (none_noted _) is.wires in
     is_done (Ok c.in_ok-finish_host-in-Ok.field-0) c.finish_host.new.site c.finish_host.new.noted.entries.items d
-    (c.in_ok-finish_host-in-Ok.ensures.stands s d.step d.l d.w before (sym (c.len-from.ensures ∙ c.args.noted.now.entries.ok.0)) d.midway)
+    (c.in_ok-finish_host-in-Ok.ensures.stands s d.step d.l d.w before d.midway)
 
 pub returns-in-Err-clause-refusal : goal.returns-in-Err-clause-refusal
 returns-in-Err-clause-refusal g c s is host counts =

@@ -1,5 +1,5 @@
-use Rattle.std.proofs.Common.{true, refl, sym, ap, ◌∙◌}
-use Rattle.std.specs.Prelude.{Some}
+use Rattle.std.proofs.Common.{true, refl, ap}
+use Rattle.std.specs.Prelude.{Some, replicate}
 use Rattle.trace_model.specs.declared.line.End.{End}
 use Rattle.link_laws.specs.machine.Machine.{lpdu_input}
 use Rattle.link_laws.specs.messages.Links.{Link, exchanged}
@@ -41,11 +41,11 @@ finish_host-requires-clause-state g c =
     let t = c.in_ok-take_first.ensures l (Some f.lpdu) r.1.wires.there f.first in
     let end = ap (λ h. record { link = h; at_host = true }) r.1.host in
     let d = heard _ g.P.WorldNode.runs g.P.WorldNode.memory g.met.P.WorldNode.kept c.args.site.now _ r.0 c.in-On.node c.take-live.new.self
-    c.take-live.result before c.take_first.new.entries.items c.take-live.new.noted.entries.items c.args.noted.now.short c.take-live.new.noted.short r.1 r.2
+    c.take-live.result before _ c.take-live.new.noted _ (ap (replicate 8) c.session-noted.ensures) r.1 r.2
     c.in-On.is refl refl NextFrame (lpdu_input f.lpdu) r.3 (taken_input l f.lpdu f.first) (λ x b. c.take-live.ensures.stepped x f.lpdu b f.says)
-    (λ x b. c.take-live.ensures.noted before x f.lpdu b f.says) (λ long. arrival_noted before r.0.host at l f.lpdu end f.first t.1)
+    (λ x b. c.take-live.ensures.noted _ before x f.lpdu b f.says) (record { are = λ long. (refl, arrival_noted _ before r.0.host at l f.lpdu end f.first t.1) })
     (taken_stands l r.1.wires t.0) in
-    (r.0, d.step, d.l, d.w, before, sym (c.len-from.ensures ∙ c.args.noted.now.entries.ok.0), d.midway)
+    (r.0, d.step, d.l, d.w, before, d.midway)
 
 pub returns-clause-stands : goal.returns-clause-stands
 returns-clause-stands g c s is host counts =
@@ -56,9 +56,9 @@ returns-clause-stands g c s is host counts =
     let t = c.in_ok-take_first.ensures l (Some f.lpdu) is.wires.there f.first in
     let end = ap (λ h. record { link = h; at_host = true }) is.host in
     let d = heard _ g.P.WorldNode.runs g.P.WorldNode.memory g.met.P.WorldNode.kept c.args.site.now _ s c.in-On.node c.take-live.new.self
-    c.take-live.result before c.take_first.new.entries.items c.take-live.new.noted.entries.items c.args.noted.now.short c.take-live.new.noted.short is host
+    c.take-live.result before _ c.take-live.new.noted _ (ap (replicate 8) c.session-noted.ensures) is host
     c.in-On.is refl refl NextFrame (lpdu_input f.lpdu) counts (taken_input l f.lpdu f.first) (λ x b. c.take-live.ensures.stepped x f.lpdu b f.says)
-    (λ x b. c.take-live.ensures.noted before x f.lpdu b f.says) (λ long. arrival_noted before s.host at l f.lpdu end f.first t.1)
+    (λ x b. c.take-live.ensures.noted _ before x f.lpdu b f.says) (record { are = λ long. (refl, arrival_noted _ before s.host at l f.lpdu end f.first t.1) })
     (taken_stands l is.wires t.0) in
     is_done c.finish_host.result c.finish_host.new.site c.finish_host.new.noted.entries.items d
-    (c.finish_host.ensures.stands s d.step d.l d.w before (sym (c.len-from.ensures ∙ c.args.noted.now.entries.ok.0)) d.midway)
+    (c.finish_host.ensures.stands s d.step d.l d.w before d.midway)

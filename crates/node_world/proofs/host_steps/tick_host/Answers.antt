@@ -1,8 +1,10 @@
-use Rattle.std.proofs.Common.{refl, sym, ◌∙◌}
+use Rattle.std.proofs.Common.{refl, ap}
+use Rattle.std.specs.Prelude.{replicate}
 use Rattle.link_laws.specs.messages.Links.Comes.{NoInput}
+use Rattle.node_sites.proofs.Renumbered.{none_noted}
 use Rattle.node_world.proofs.HostsAre.{is_on, is_off}
 use Rattle.node_world.proofs.HostsBegin.{begins_at_end, may_begin_step}
-use Rattle.node_world.proofs.HostsGoOn.{ticked, is_done, not_more}
+use Rattle.node_world.proofs.HostsGoOn.{ticked, is_done}
 use Rattle.node_world.proofs.HostsStay.{tick_off}
 use Rattle.node_world.proofs.host_steps.tick_host.Goals as goal
 
@@ -21,18 +23,18 @@ finish_host-requires-clause-state g c =
     let r = c.requires.state in
     let before = c.args.noted.now.entries.items in
     let d = ticked _ g.P.WorldNode.runs g.P.WorldNode.memory g.met.P.WorldNode.kept c.args.site.now _ r.0 c.in-On.node c.tick-live.new.self
-    c.tick-live.result before before c.tick-live.new.noted.entries.items c.args.noted.now.short c.tick-live.new.noted.short r.1 r.2 c.in-On.is refl
-    refl r.3 c.tick-live.ensures.stepped (c.tick-live.ensures.noted before) (not_more before c.args.noted.now.short) r.1.wires in
-    (r.0, d.step, d.l, d.w, before, sym (c.len-from.ensures ∙ c.args.noted.now.entries.ok.0), d.midway)
+    c.tick-live.result before _ c.tick-live.new.noted _ (ap (replicate 8) c.session-noted.ensures) r.1 r.2 c.in-On.is refl
+    refl r.3 c.tick-live.ensures.stepped (c.tick-live.ensures.noted _ before) (none_noted _) r.1.wires in
+    (r.0, d.step, d.l, d.w, before, d.midway)
 
 pub returns-clause-stands : goal.returns-clause-stands
 returns-clause-stands g c s is host may =
     let before = c.args.noted.now.entries.items in
     let d = ticked _ g.P.WorldNode.runs g.P.WorldNode.memory g.met.P.WorldNode.kept c.args.site.now _ s c.in-On.node c.tick-live.new.self
-    c.tick-live.result before before c.tick-live.new.noted.entries.items c.args.noted.now.short c.tick-live.new.noted.short is host c.in-On.is refl
-    refl may c.tick-live.ensures.stepped (c.tick-live.ensures.noted before) (not_more before c.args.noted.now.short) is.wires in
+    c.tick-live.result before _ c.tick-live.new.noted _ (ap (replicate 8) c.session-noted.ensures) is host c.in-On.is refl
+    refl may c.tick-live.ensures.stepped (c.tick-live.ensures.noted _ before) (none_noted _) is.wires in
     is_done c.finish_host.result c.finish_host.new.site c.finish_host.new.noted.entries.items d
-    (c.finish_host.ensures.stands s d.step d.l d.w before (sym (c.len-from.ensures ∙ c.args.noted.now.entries.ok.0)) d.midway)
+    (c.finish_host.ensures.stands s d.step d.l d.w before d.midway)
 
 pub returns-in_default-clause-stands : goal.returns-in_default-clause-stands
 returns-in_default-clause-stands g c s is host may =

@@ -1,19 +1,20 @@
 use Rattle.link_laws.specs.machine.Machine.LinkInput.{Start}
 use Rattle.node_machine.specs.Node.{steps}
 use Rattle.node_machine.specs.Node.NodeInput.{AtEnd}
+use Rattle.node_sites.specs.Numbers.{as_told}
 use Rattle.node_sites.proofs.Regardless.{bare, steps_regardless}
 use Rattle.node_sites.proofs.NodesRun.{RunsPlainly, plainly, still_plainly, begins_so, begins_bare, goes_so, noted_so}
 use Rattle.node_sites.proofs.world_controller.ControllerMemNvWorldController.activate.Goals as goal
 
 pub returns-clause-stepped : goal.returns-clause-stepped
 returns-clause-stepped c w begins =
-    let noted = c.args.noted.now.entries.items in
+    let noted = as_told c.args.noted.now.sessions c.args.noted.now.entries.items in
     let t = c.activate in
     goes_so RunsPlainly plainly still_plainly c.has_power.result (steps_regardless (AtEnd c.args.host (Start c.args.power))) begins.begins
     (t.ensures.stepped noted (bare w) (begins_bare RunsPlainly plainly noted c.args.noted.now.short begins.begins))
     (c.has_power.ensures t.new.self.store.journal.live t.ensures.ran)
 
 pub returns-clause-noted : goal.returns-clause-noted
-returns-clause-noted c start w begins told =
-    noted_so {f = steps (AtEnd c.args.host (Start c.args.power))} begins.begins.plan
-    (c.activate.ensures.stepped start w (begins_so RunsPlainly plainly begins.begins told))
+returns-clause-noted c sessions start w begins told =
+    noted_so c.activate.new.watch {f = steps (AtEnd c.args.host (Start c.args.power))} begins.begins.plan
+    (c.activate.ensures.stepped (as_told sessions start) w (begins_so RunsPlainly plainly begins.begins told))

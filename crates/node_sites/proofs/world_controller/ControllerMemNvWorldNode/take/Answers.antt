@@ -1,19 +1,20 @@
 use Rattle.node_machine.specs.Node.{steps}
 use Rattle.node_machine.specs.Node.NodeInput.{AtEnd}
 use Rattle.link_laws.specs.machine.Machine.{lpdu_input}
+use Rattle.node_sites.specs.Numbers.{as_told}
 use Rattle.node_sites.proofs.Regardless.{bare, steps_regardless}
 use Rattle.node_sites.proofs.NodesRun.{RunsPlainly, plainly, still_plainly, begins_so, begins_bare, goes_so, noted_so}
 use Rattle.node_sites.proofs.world_controller.ControllerMemNvWorldNode.take.Goals as goal
 
 pub returns-clause-stepped : goal.returns-clause-stepped
 returns-clause-stepped c w lpdu begins says =
-    let noted = c.args.noted.now.entries.items in
+    let noted = as_told c.args.noted.now.sessions c.args.noted.now.entries.items in
     let t = c.take_read in
     goes_so RunsPlainly plainly still_plainly c.has_power.result (steps_regardless (AtEnd c.args.host (lpdu_input lpdu))) begins.begins
     (t.ensures.stepped noted (bare w) lpdu (begins_bare RunsPlainly plainly noted c.args.noted.now.short begins.begins) says)
     (c.has_power.ensures t.new.self.store.journal.live t.ensures.ran)
 
 pub returns-clause-noted : goal.returns-clause-noted
-returns-clause-noted c start w lpdu begins says told =
-    noted_so {f = steps (AtEnd c.args.host (lpdu_input lpdu))} begins.begins.plan
-    (c.take_read.ensures.stepped start w lpdu (begins_so RunsPlainly plainly begins.begins told) says)
+returns-clause-noted c sessions start w lpdu begins says told =
+    noted_so c.take_read.new.watch {f = steps (AtEnd c.args.host (lpdu_input lpdu))} begins.begins.plan
+    (c.take_read.ensures.stepped (as_told sessions start) w lpdu (begins_so RunsPlainly plainly begins.begins told) says)

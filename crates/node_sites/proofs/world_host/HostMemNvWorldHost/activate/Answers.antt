@@ -3,13 +3,14 @@ use Rattle.link_laws.specs.machine.Machine.LinkInput.{Start}
 use Rattle.node_machine.specs.Node.{steps}
 use Rattle.node_machine.specs.Node.NodeInput.{AtEnd}
 use Rattle.node_sites.specs.WorldNodes.{HasGone, IsNotedSo, RunsAsHost}
+use Rattle.node_sites.specs.Numbers.{as_told}
 use Rattle.node_sites.proofs.Regardless.{bare, steps_regardless}
 use Rattle.node_sites.proofs.NodesRun.{memory_in, of_host, still_host, own_host, begins_so, begins_bare, goes_so, noted_so}
 use Rattle.node_sites.proofs.world_host.HostMemNvWorldHost.activate.Goals as goal
 
 pub returns-clause-stepped : goal.returns-clause-stepped
 returns-clause-stepped c w begins =
-    let noted = c.args.noted.now.entries.items in
+    let noted = as_told c.args.noted.now.sessions c.args.noted.now.entries.items in
     let t = c.activate in
     let b = begins.begins in
     let n = c.args.self.now in
@@ -19,10 +20,10 @@ returns-clause-stepped c w begins =
     (t.ensures.stepped noted (bare w) (begins_bare RunsAsHost of_host noted c.args.noted.now.short b)) (sym t.ensures.live))
 
 pub returns-clause-noted : goal.returns-clause-noted
-returns-clause-noted c start w begins told =
+returns-clause-noted c sessions start w begins told =
     let t = c.activate in
     let b = begins.begins in
-    let P : ℕ → Type 0 = λ h. IsNotedSo t.new.watch.entries.items t.new.watch.short start (steps (AtEnd h (Start c.args.sync)) w).entries in
+    let P : ℕ → Type 0 = λ h. IsNotedSo t.new.watch sessions start (steps (AtEnd h (Start c.args.sync)) w).entries in
     subst P (own_host b.runs begins.here)
-    (noted_so {f = steps (AtEnd c.args.self.now.number (Start c.args.sync))} b.plan
-    (t.ensures.stepped start w (begins_so RunsAsHost of_host b told)))
+    (noted_so c.activate.new.watch {f = steps (AtEnd c.args.self.now.number (Start c.args.sync))} b.plan
+    (t.ensures.stepped (as_told sessions start) w (begins_so RunsAsHost of_host b told)))

@@ -3,6 +3,8 @@ use Rattle.node_machine.specs.Carrying.{port_at}
 use Rattle.node_machine.specs.Node.{begins_with}
 use Rattle.node_machine.specs.world.World.{beginning}
 use Rattle.node_sites.specs.WorldNodes.{HasGone, IsNotedSo, RunsAsHost}
+use Rattle.node_sites.proofs.Renumbered.{as_noted}
+use Rattle.node_sites.specs.Numbers.{as_told}
 use Rattle.node_sites.proofs.Regardless.{bare}
 use Rattle.node_sites.proofs.NodesRun.{memory_in, own_host}
 use Rattle.node_sites.proofs.HostsGive.{asked_so, asked_bare, gives_so, beginning_writes}
@@ -17,15 +19,16 @@ returns-in-Ok-clause-begun c w begins =
     let P : ℕ → Type 0 = λ h. HasGone RunsAsHost memory_in n c.init.new.self (begins_with h deeds w) true in
     subst P (own_host b.runs begins.here)
     (gives_so n.number deeds b e.store e.number (beginning_writes n.number c.args.identity.now c.args.pipes.now w b.power)
-    (e.begun c.args.noted.now.entries.items (bare w) (asked_bare c.args.noted.now.entries.items c.args.noted.now.short b)))
+    (let noted = as_told c.args.noted.now.sessions c.args.noted.now.entries.items in
+    e.begun noted (bare w) (asked_bare noted c.args.noted.now.short b)))
 
 pub returns-in-Ok-clause-noted : goal.returns-in-Ok-clause-noted
-returns-in-Ok-clause-noted c start w begins told =
+returns-in-Ok-clause-noted c sessions start w begins told =
     let b = begins.begins in
     let t = c.init.new.watch in
     let deeds = beginning c.args.identity.now c.args.pipes.now in
-    let P : ℕ → Type 0 = λ h. IsNotedSo t.entries.items t.short start (begins_with h deeds w).entries in
-    subst P (own_host b.runs begins.here) (c.in-Ok.ensures.begun start w (asked_so b told)).noted_are
+    let P : ℕ → Type 0 = λ h. IsNotedSo t sessions start (begins_with h deeds w).entries in
+    subst P (own_host b.runs begins.here) (as_noted t sessions start _ (c.in-Ok.ensures.begun (as_told sessions start) w (asked_so b told)).noted_are)
 
 pub returns-in-Ok-clause-refusal : goal.returns-in-Ok-clause-refusal
 returns-in-Ok-clause-refusal c core ports p r here =

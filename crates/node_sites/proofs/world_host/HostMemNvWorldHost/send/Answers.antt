@@ -4,6 +4,8 @@ use Rattle.node_machine.specs.Carrying.{port_at}
 use Rattle.node_machine.specs.Node.{begins_with}
 use Rattle.node_machine.specs.world.World.{sending}
 use Rattle.node_sites.specs.WorldNodes.{HasGone, IsNotedSo, RunsAsHost}
+use Rattle.node_sites.proofs.Renumbered.{as_noted}
+use Rattle.node_sites.specs.Numbers.{as_told}
 use Rattle.node_sites.proofs.Regardless.{bare}
 use Rattle.node_sites.proofs.NodesRun.{memory_in, own_host}
 use Rattle.node_sites.proofs.HostsGive.{asked_so, asked_bare, gives_so, sending_writes}
@@ -18,15 +20,16 @@ returns-in-Ok-clause-given c w begins =
     let P : ℕ → Type 0 = λ h. HasGone RunsAsHost memory_in n c.send.new.self (begins_with h (sending h m) w) true in
     subst P (own_host b.runs begins.here)
     (gives_so n.number (sending n.number m) b e.store e.number (sending_writes n.number c.args.pipe c.args.message.now w)
-    (e.given c.args.noted.now.entries.items (bare w) (asked_bare c.args.noted.now.entries.items c.args.noted.now.short b)))
+    (let noted = as_told c.args.noted.now.sessions c.args.noted.now.entries.items in
+    e.given noted (bare w) (asked_bare noted c.args.noted.now.short b)))
 
 pub returns-in-Ok-clause-noted : goal.returns-in-Ok-clause-noted
-returns-in-Ok-clause-noted c start w begins told =
+returns-in-Ok-clause-noted c sessions start w begins told =
     let b = begins.begins in
     let m : Message = (c.args.pipe, c.args.message.now) in
     let t = c.send.new.watch in
-    let P : ℕ → Type 0 = λ h. IsNotedSo t.entries.items t.short start (begins_with h (sending h m) w).entries in
-    subst P (own_host b.runs begins.here) (c.in-Ok.ensures.given start w (asked_so b told)).noted_are
+    let P : ℕ → Type 0 = λ h. IsNotedSo t sessions start (begins_with h (sending h m) w).entries in
+    subst P (own_host b.runs begins.here) (as_noted t sessions start _ (c.in-Ok.ensures.given (as_told sessions start) w (asked_so b told)).noted_are)
 
 pub returns-in-Ok-clause-refusal : goal.returns-in-Ok-clause-refusal
 returns-in-Ok-clause-refusal c core ports p r here =

@@ -6,13 +6,14 @@ use Rattle.node_machine.specs.Node.{steps}
 use Rattle.node_machine.specs.Node.NodeInput.{AtEnd}
 use Rattle.node_core.specs.Running.{reset_refusal_at}
 use Rattle.node_sites.specs.WorldNodes.{HasGone, IsNotedSo, RunsAsHost}
+use Rattle.node_sites.specs.Numbers.{as_told}
 use Rattle.node_sites.proofs.Regardless.{bare, steps_regardless}
 use Rattle.node_sites.proofs.NodesRun.{memory_in, of_host, still_host, own_host, begins_so, begins_bare, goes_so, noted_so}
 use Rattle.node_sites.proofs.world_host.HostMemNvWorldNode.reset.Goals as goal
 
 pub returns-in-Ok-clause-stepped : goal.returns-in-Ok-clause-stepped
 returns-in-Ok-clause-stepped c w begins =
-    let noted = c.args.noted.now.entries.items in
+    let noted = as_told c.args.noted.now.sessions c.args.noted.now.entries.items in
     let t = c.reset in
     let e = c.in-Ok.ensures in
     let b = begins.begins in
@@ -23,13 +24,13 @@ returns-in-Ok-clause-stepped c w begins =
     (e.stepped noted (bare w) (begins_bare RunsAsHost of_host noted c.args.noted.now.short b)) (sym e.live))
 
 pub returns-in-Ok-clause-noted : goal.returns-in-Ok-clause-noted
-returns-in-Ok-clause-noted c start w begins told =
+returns-in-Ok-clause-noted c sessions start w begins told =
     let t = c.reset in
     let b = begins.begins in
-    let P : ℕ → Type 0 = λ h. IsNotedSo t.new.watch.entries.items t.new.watch.short start (steps (AtEnd h (Reset c.args.window)) w).entries in
+    let P : ℕ → Type 0 = λ h. IsNotedSo t.new.watch sessions start (steps (AtEnd h (Reset c.args.window)) w).entries in
     subst P (own_host b.runs begins.here)
-    (noted_so {f = steps (AtEnd c.args.self.now.number (Reset c.args.window))} b.plan
-    (c.in-Ok.ensures.stepped start w (begins_so RunsAsHost of_host b told)))
+    (noted_so c.reset.new.watch {f = steps (AtEnd c.args.self.now.number (Reset c.args.window))} b.plan
+    (c.in-Ok.ensures.stepped (as_told sessions start) w (begins_so RunsAsHost of_host b told)))
 
 pub returns-in-Ok-clause-refusal : goal.returns-in-Ok-clause-refusal
 returns-in-Ok-clause-refusal c core ports p r here =
