@@ -1,10 +1,10 @@
 -- The place of a host in what is kept of all hosts, and the numbers of the sessions of the controller's ends.
 use Rattle.std.proofs.Common.{◌≡◌, ℕ, ◌+◌, ◌<◌, ◌≤◌, ◌==◌, false, List, [], ◌∷◌, ◌++◌, length, get_or, refl, ap, ap₂, sym, subst, ◌∙◌}
-use Rattle.std.proofs.Common.{◌≢◌, append_assoc, append-nil, arith, max}
+use Rattle.std.proofs.Common.{◌≢◌, append_assoc, append-nil, arith, max, take, drop}
 use Rattle.std.specs.Prelude.{slice_set, None}
 use Rattle.std.specs.List.{AllByRecursion}
 use Rattle.std.proofs.lemmas.Bool.{eqb-false}
-use Rattle.std.proofs.lemmas.List.{length-append, get_or-set_same, get_or-set_other, map-append}
+use Rattle.std.proofs.lemmas.List.{length-append, length-take-le, get_or-set_same, get_or-set_other, map-append, take-append-drop}
 use Rattle.swp_base.specs.InMemory.{Memory}
 use Rattle.trace_model.specs.Lines.{IsHost}
 use Rattle.link_laws.specs.messages.Links.{number_of}
@@ -65,6 +65,23 @@ module _ (P : Type 0) (Runs : P → Core → List Port → Type 0) (memory_of : 
         back = t.rest;
         is = p.is ∙ ap (λ xs. p.front ++ xs) t.is;
         place = p.place;
+        host = sym t.here.host ∙ host;
+      }
+
+  -- so it is wherever it was looked for
+  pub place_is : (i h : ℕ) (ks : List (HostSite P)) (sites : List Site) (k : HostSite P) → SitesAre Runs memory_of ks sites
+      → i < length ks → k ≡ get_or ks i k → k.host ≡ h → StandsAt i h sites
+  place_is i h ks sites k a lt read host =
+      let parts : take i sites ++ drop i sites ≡ sites = take-append-drop i sites in
+      let many : length ks ≡ length sites = as_many P Runs memory_of ks sites a in
+      let long : length (take i sites) ≡ i = length-take-le i sites (omega (arith, many, lt)) in
+      let t = there i ks (take i sites) (drop i sites) k (subst (SitesAre Runs memory_of ks) (sym parts) a) long lt read in
+      record {
+        front = take i sites;
+        site = t.site;
+        back = t.rest;
+        is = sym parts ∙ ap (λ xs. take i sites ++ xs) t.is;
+        place = long;
         host = sym t.here.host ∙ host;
       }
 

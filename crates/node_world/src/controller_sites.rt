@@ -57,8 +57,8 @@ pub(crate) fn send_to_all<C: WorldNode, P: WorldNode + Drop>(
     Ok(())
 }
 
-/// The place of the host with this number.
-pub(crate) fn place_of<P: WorldNode + Drop>(sites: &[HostSite<P>], host: u8) -> Option<usize>
+// The place of the host with this number, which is looked for from the first one on.
+fn searched_place<P: WorldNode + Drop>(sites: &[HostSite<P>], host: u8) -> Option<usize>
     ensures range { IfSome result (λ i. i < length sites.now) }
     ensures place { (hosts : List Site) → SitesAre P.runs P.memory sites.now hosts → IsPlaceOf result host hosts }
 {
@@ -68,6 +68,25 @@ pub(crate) fn place_of<P: WorldNode + Drop>(sites: &[HostSite<P>], host: u8) -> 
         }
     }
     None
+}
+
+// It is looked for at this place first.
+fn place_near<P: WorldNode + Drop>(sites: &[HostSite<P>], near: usize, host: u8) -> Option<usize>
+    ensures range { IfSome result (λ i. i < length sites.now) }
+    ensures place { (hosts : List Site) → SitesAre P.runs P.memory sites.now hosts → IsPlaceOf result host hosts }
+{
+    if near < sites.len() && sites[near].host == host {
+        return Some(near);
+    }
+    searched_place(sites, host)
+}
+
+/// The place of the host with this number: where all from 01 on are there, as in most worlds, it is one below that.
+pub(crate) fn place_of<P: WorldNode + Drop>(sites: &[HostSite<P>], host: u8) -> Option<usize>
+    ensures range { IfSome result (λ i. i < length sites.now) }
+    ensures place { (hosts : List Site) → SitesAre P.runs P.memory sites.now hosts → IsPlaceOf result host hosts }
+{
+    place_near(sites, usize::from(host.saturating_sub(1)), host)
 }
 
 /// The numbers of the sessions of the controller's ends of all links.

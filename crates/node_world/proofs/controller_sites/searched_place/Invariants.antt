@@ -2,7 +2,7 @@ use Rattle.std.proofs.Common.{List}
 use Rattle.node_machine.specs.world.World.{Site}
 use Rattle.node_world.specs.Controllers.{SitesAre}
 use Rattle.node_world.proofs.PlacesFound.{PassedBy}
-use Rattle.node_world.proofs.controller_sites.place_of.Given as goal
+use Rattle.node_world.proofs.controller_sites.searched_place.Given as goal
 
 -- so many hosts are others
 abbrev pub invariant-loop-i : goal.invariant-loop-i

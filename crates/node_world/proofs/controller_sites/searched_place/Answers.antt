@@ -2,7 +2,7 @@ use Rattle.std.proofs.Common.{ap}
 use Rattle.std.specs.Prelude.{slice_index_or}
 use Rattle.std.proofs.lemmas.Bool.{ne_eqb}
 use Rattle.node_world.proofs.PlacesFound.{none_passed, place_found, passes_by, none_there}
-use Rattle.node_world.proofs.controller_sites.place_of.Goals as goal
+use Rattle.node_world.proofs.controller_sites.searched_place.Goals as goal
 
 pub loop-i-init : goal.loop-i-init
 loop-i-init g c hosts a = none_passed c.args.host hosts
