@@ -54,3 +54,5 @@ pub mod LinesDamage
 pub mod WorldsTick
 pub mod FewPlays
 pub mod RoundLinks
+pub mod LegalPlays
+pub mod FoundAsKept

@@ -4,3 +4,4 @@ pub mod Whole
 pub mod Controllers
 pub mod Rounds
 pub mod Worlds
+pub mod Legal

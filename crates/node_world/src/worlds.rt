@@ -1,6 +1,7 @@
 //! The world of nodes, line by line and round by round.
 ghost use Rattle.std.specs.Prelude.{◌≡◌, ◌-◌, ◌+◌, [], ◌∷◌, ◌++◌, List, length, None, Some, IfOk, OnErr, OnOk};
 ghost use Rattle.std.specs.List.{AllByRecursion};
+ghost use Rattle.std.specs.Vec.{vec_allocator};
 ghost use Rattle.trace_model.specs.declared.line.Header.{Header as Named};
 ghost use Rattle.trace_model.specs.Lines.{IsNodeHeader, IsNodeOf};
 ghost use Rattle.node_machine.specs.world.World.{memory_at};
@@ -123,7 +124,9 @@ impl NodeWorld {
     }
 
     /// Where it takes its memory.
-    pub fn allocator(&self) -> Global {
+    pub fn allocator(&self) -> Global
+        ensures { result ≡ vec_allocator self.now.noted.entries }
+    {
         *self.noted.entries.allocator()
     }
 

@@ -16,3 +16,4 @@ pub mod PlaysOnLinks
 pub mod Below
 pub mod Playing
 pub mod RoundParts
+pub mod Histories

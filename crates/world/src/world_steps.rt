@@ -1,5 +1,5 @@
 //! The world of a run, line by line, round by round and part by part, below either header.
-ghost use Rattle.std.specs.Prelude.{◌≡◌, ◌-◌, ◌+◌, ℕ, [], ◌∷◌, ◌++◌, List, IfOk, OnOk, IfErr, None, true, length, replicate};
+ghost use Rattle.std.specs.Prelude.{◌≡◌, ◌-◌, ◌+◌, ℕ, [], ◌∷◌, ◌++◌, List, IfOk, OnOk, IfErr, None, true, length, map, replicate};
 ghost use Rattle.std.specs.List.{AllByRecursion};
 ghost use Rattle.trace_model.specs.Lines.{IsNodeOf, MayBegin};
 ghost use Rattle.trace_model.specs.declared.entry.Entry.TheVariants.{Echo, Settled};
@@ -122,6 +122,7 @@ pub struct World {
 impl World {
     ghost use Rattle.world.specs.Worlds.{IsWorldAt, HasRoomForLine, HasRoomToSettle, IsFaultThere, world_header, world_entries};
     ghost use Rattle.world.specs.Worlds.{StandsBehind, IsWorldWithin, HasRoomForPart, HasComeTo, IsPartLine, MayBeMarked};
+    ghost use Rattle.node_world.specs.Legal.{HaveLegalHistory, IsKeptBehind};
     ghost use Rattle.lines_told.specs.lines.Below.{frames_below, runs_below};
 
     /// The world that a header names. Below a bare one both ends of its link are Up in session 0, and no frame is on its way; below that
@@ -161,6 +162,8 @@ impl World {
             → IfErr result (IsFaultThere (world_header self.old) (lines_played (world_header self.old) plays) line.now) }
         ensures told { (plays : List Play) → IsWorldAt self.old (world_header self.old) plays
             → OnOk result (misread_below (world_header self.old) (lines_played (world_header self.old) plays) line.now ≡ None) }
+        ensures legal { (plays : List Play) → IsWorldAt self.old (world_header self.old) plays
+            → OnOk result (HaveLegalHistory (world_header self.old) (plays ++ Said line.now ∷ [])) }
         ensures header { world_header self.new ≡ world_header self.old }
     {
         self.below.step(alloc, line)
@@ -179,6 +182,8 @@ impl World {
             → OnOk result (IsWorldAt self.new (world_header self.old) (plays ++ Round ∷ [])) }
         ensures entries { (plays : List Play) → IsWorldAt self.old (world_header self.old) plays
             → OnOk result (world_entries self.new ≡ told_of_play (world_header self.old) (lines_played (world_header self.old) plays) Round) }
+        ensures legal { (plays : List Play) → IsWorldAt self.old (world_header self.old) plays
+            → OnOk result (HaveLegalHistory (world_header self.old) (plays ++ Round ∷ [])) }
         ensures fault { IfErr result (λ why. why ≡ fault.NoMemory) }
         ensures header { world_header self.new ≡ world_header self.old }
     {
@@ -232,6 +237,9 @@ impl World {
             → OnOk result (IsWorldWithin self.new (world_header self.old) plays most (parts ++ line.now ∷ [])) }
         ensures entries { (plays : List Play) (most : ℕ) (parts : List Spoken) → IsWorldWithin self.old (world_header self.old) plays most parts
             → OnOk result (world_entries self.new ≡ told_below (world_header self.old) (lines_played (world_header self.old) plays ++ parts) line.now) }
+        ensures legal { (plays : List Play) (most : ℕ) (parts : List Spoken) → IsWorldWithin self.old (world_header self.old) plays most parts
+            → AllByRecursion (IsPartLine (world_header self.old)) parts
+            → OnOk result (HaveLegalHistory (world_header self.old) (plays ++ map Said (parts ++ line.now ∷ []))) }
         ensures fault { IfErr result (λ why. why ≡ fault.NoMemory) }
         ensures header { world_header self.new ≡ world_header self.old }
     {
@@ -304,6 +312,7 @@ impl World {
             → result ≡ memory_behind (world_header self) (lines_played (world_header self) plays) node }
         ensures found { (plays : List Play) → IsWorldAt self (world_header self) plays
             → IsPeekedSo (nodes_behind (world_header self) (lines_played (world_header self) plays)) node result.content }
+        ensures kept { (plays : List Play) → IsWorldAt self (world_header self) plays → IsKeptBehind (world_header self) plays node result.content }
     {
         match self.below {
             Below::Bare(_) => unreachable!(),

@@ -1,6 +1,6 @@
-use Rattle.std.proofs.Common.{◌≡◌, ◌+◌, ◌++◌, List, length, map, refl, ap, sym, subst, ◌∙◌, arith}
+use Rattle.std.proofs.Common.{◌≡◌, ◌+◌, ◌∷◌, ◌++◌, List, [], length, map, refl, ap, sym, subst, ◌∙◌, arith}
 use Rattle.std.specs.Prelude.{Some, OnOk}
-use Rattle.std.proofs.lemmas.Result.{IfErr-weaker}
+use Rattle.std.proofs.lemmas.Result.{IfErr-weaker, on_ok_weaker}
 use Rattle.trace_model.specs.declared.line.Line.{Line}
 use Rattle.lines_told.specs.lines.Below.{told_below}
 use Rattle.lines_told.specs.lines.Plays.{Play, lines_played}
@@ -9,6 +9,7 @@ use Rattle.world.specs.declared.fault.WorldFault.TheVariants as fault
 use Rattle.world.specs.declared.world_steps.OpenLine.{OpenLine}
 use Rattle.world.specs.declared.world_steps.World.{World}
 use Rattle.world.specs.Worlds.{IsFaultThere, last_noted}
+use Rattle.world.proofs.Histories.{parts_with, within_legal}
 use Rattle.world.proofs.Playing.{played_parts, said_within, part_sure, stands_with_part, never_undetected}
 use Rattle.world.proofs.world_steps.World.part.Goals as goal
 
@@ -54,3 +55,12 @@ returns-clause-fault c =
     IfErr-weaker c.step.result (IsFaultThere header lines said) (λ why. why ≡ fault.NoMemory)
     (λ why there. never_undetected header lines said why (part_sure header lines said c.requires.line.part) there)
     (c.step.ensures.fault header before room.stands.stands c.requires.line.played)
+
+pub returns-clause-legal : goal.returns-clause-legal
+returns-clause-legal c plays most parts within are =
+    let header = c.args.self.now.header in
+    let was = c.in-Some.opened in
+    let new : World = record c.args.self.now { below = c.step.new.self; opened = Some (record { most = was.most; parts = was.parts + 1 }) } in
+    let next : List Line = parts ++ c.args.line.now ∷ [] in
+    on_ok_weaker c.step.result (λ w. within_legal header new plays most next w (parts_with header parts c.args.line.now are c.requires.line))
+    (returns-clause-stands c plays most parts within)

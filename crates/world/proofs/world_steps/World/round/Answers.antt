@@ -1,4 +1,9 @@
-use Rattle.std.proofs.Common.{refl}
+use Rattle.std.proofs.Common.{List, [], ◌∷◌, ◌++◌, refl}
+use Rattle.std.proofs.lemmas.Result.{on_ok_weaker}
+use Rattle.lines_told.specs.lines.Plays.{Play}
+use Rattle.lines_told.specs.lines.Plays.Play.{Round}
+use Rattle.world.specs.declared.world_steps.World.{World}
+use Rattle.world.proofs.Histories.{world_legal}
 use Rattle.world.proofs.Playing.{stands_with_round}
 use Rattle.world.proofs.world_steps.World.round.Goals as goal
 
@@ -15,3 +20,10 @@ returns-clause-stands c plays at =
 
 pub returns-clause-entries : goal.returns-clause-entries
 returns-clause-entries c plays at = c.round.ensures.entries c.args.self.now.header plays at.stands
+
+pub returns-clause-legal : goal.returns-clause-legal
+returns-clause-legal c plays at =
+    let header = c.args.self.now.header in
+    let new : World = record c.args.self.now { below = c.round.new.self } in
+    let next : List Play = plays ++ Round ∷ [] in
+    on_ok_weaker c.round.result (world_legal header new next) (returns-clause-stands c plays at)

@@ -1,4 +1,9 @@
-use Rattle.std.proofs.Common.{arith, refl}
+use Rattle.std.proofs.Common.{List, [], ◌∷◌, ◌++◌, arith, refl}
+use Rattle.std.proofs.lemmas.Result.{on_ok_weaker}
+use Rattle.lines_told.specs.lines.Plays.{Play}
+use Rattle.lines_told.specs.lines.Plays.Play.{Said}
+use Rattle.world.specs.declared.world_steps.World.{World}
+use Rattle.world.proofs.Histories.{world_legal}
 use Rattle.world.proofs.Playing.{stands_with_line}
 use Rattle.world.proofs.world_steps.World.step.Goals as goal
 
@@ -22,3 +27,10 @@ returns-clause-fault c plays at = c.step.ensures.fault c.args.self.now.header pl
 
 pub returns-clause-told : goal.returns-clause-told
 returns-clause-told c plays at = c.step.ensures.told c.args.self.now.header plays at.stands c.requires.line
+
+pub returns-clause-legal : goal.returns-clause-legal
+returns-clause-legal c plays at =
+    let header = c.args.self.now.header in
+    let new : World = record c.args.self.now { below = c.step.new.self } in
+    let next : List Play = plays ++ Said c.args.line.now ∷ [] in
+    on_ok_weaker c.step.result (world_legal header new next) (returns-clause-stands c plays at)

@@ -1,0 +1,11 @@
+use Rattle.std.proofs.Common.{◌≡◌, rules}
+use Rattle.lines_told.specs.lines.Below.{memory_behind}
+use Rattle.lines_told.specs.lines.Plays.{lines_played}
+use Rattle.world.proofs.Histories.{world_kept}
+use Rattle.world.proofs.world_steps.World.into_memory.Goals as goal
+
+pub returns-clause-kept : goal.returns-clause-kept
+returns-clause-kept c plays at =
+    let header = c.args.self.header in
+    let is : c.into_memory.result ≡ memory_behind header (lines_played header plays) c.args.node = search rules in
+    world_kept header plays c.args.node c.requires.node c.into_memory.result is c.args.self c.requires.nodes at
