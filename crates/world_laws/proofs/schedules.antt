@@ -7,3 +7,4 @@ pub mod BareNoted
 pub mod NotedQuiet
 pub mod Played
 pub mod Examples
+pub mod Bringing

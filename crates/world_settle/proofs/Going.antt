@@ -1,7 +1,7 @@
 -- A world goes through rounds until its links are at rest.
 use Rattle.std.proofs.Common.{◌≡◌, ℕ, zero, suc, ◌+◌, ◌*◌, ◌-◌, ◌≤◌, ◌<◌, Bool, true, false, List, [], ◌∷◌, ◌++◌, length, map, refl, ap, sym, subst}
 use Rattle.std.proofs.Common.{◌∙◌, arith, append-nil, append_assoc, length-append}
-use Rattle.std.specs.Prelude.{replicate, if◌then◌else◌}
+use Rattle.std.specs.Prelude.{replicate, if◌then◌else◌, Result, Ok, Err, OnErr}
 use Rattle.trace_model.specs.declared.entry.Entry.{Entry}
 use Rattle.trace_model.specs.declared.line.Header.{Header}
 use Rattle.trace_model.specs.declared.line.Line.{Line}
@@ -11,6 +11,7 @@ use Rattle.lines_told.proofs.lines.Plays.{played_more, round_first, round_last}
 use Rattle.world.specs.declared.world_steps.World.{World}
 use Rattle.world.specs.Worlds.{HasComeTo, IsWorldAt, IsWorldWithin, StandsBehind, world_header}
 use Rattle.world.proofs.Playing.{played_parts, rests_alike}
+use Rattle.world_settle.specs.Fronts.{IsFrontNoted}
 
 -- ## A round more
 
@@ -108,6 +109,60 @@ went_more {header = header} {plays} {most} {k} {before = before} {mid} h moves w
           ∙ (ap (λ es. es ++ told_then header plays k) (h.noted_are (goes long))
           ∙ (append_assoc before (told_of_rounds header plays k) (told_then header plays k)
           ∙ ap (λ es. before ++ es) (sym (told_last header k plays)))));
+    }
+
+-- ## A round that memory breaks off
+
+-- what holds in any case holds where a call fails
+pub any_err : {T E : Type 0} {P : Type 0} (r : Result T E) → P → OnErr r P
+any_err (Ok x) p = tt
+any_err (Err e) p = p
+
+-- nothing more was noted
+pub front_stays : {before mid now whole : List Entry} → now ≡ mid → IsFrontNoted before mid whole → IsFrontNoted before now whole
+front_stays same f = record { front = f.front; back = f.back; now_is = same ∙ f.now_is; whole_is = f.whole_is }
+
+-- what is noted of rounds is a front of what is noted of more
+told_on : (header : Header) (a b : ℕ) (plays : List Play)
+    → (rest : List Entry) × (told_of_rounds header plays (a + b) ≡ told_of_rounds header plays a ++ rest)
+told_on header zero b plays = (told_of_rounds header plays (0 + b), refl)
+told_on header (suc a) b plays =
+    let next : List Play = plays ++ Round ∷ [] in
+    let first : List Entry = told_of_play header (lines_played header plays) Round in
+    let more = told_on header a b next in
+    let sum : suc a + b ≡ suc (a + b) = omega arith in (
+      more.0,
+      ap (told_of_rounds header plays) sum
+          ∙ (ap (λ es. first ++ es) more.1 ∙ sym (append_assoc first (told_of_rounds header next a) more.0)),
+    )
+
+-- a front of the next round was noted behind those before: it is a front of all rounds till the links are at rest
+pub breaks_off : {w : World} {header : Header} {plays : List Play} {most k : ℕ} {short later : Bool} {before mid now : List Entry}
+    → (h : WentOn w header plays most k short before mid) → k < most → rests_behind header (plays ++ replicate k Round) ≡ false
+    → (later ≡ false → short ≡ false)
+    → (later ≡ false → IsFrontNoted mid now (told_behind header (begun header plays h.parts) (round_behind header (begun header plays h.parts))))
+    → later ≡ false → IsFrontNoted before now (told_of_rounds header plays (rounds_to_rest header plays most))
+breaks_off {header = header} {plays} {most} {k} {before = before} h less moves goes broken long =
+    let then_plays : List Play = plays ++ replicate k Round in
+    let left : ℕ = most - suc k in
+    let j : ℕ = rounds_to_rest header (then_plays ++ Round ∷ []) left in
+    let on : rounds_to_rest header then_plays (suc left) ≡ suc j = one_on header then_plays left moves in
+    let so_far = h.left (suc left) (omega (arith, less)) in
+    let many : rounds_to_rest header plays most ≡ suc k + j = omega (arith, so_far, on) in
+    let more = told_on header (suc k) j plays in
+    let f = broken long in
+    let all : List Entry = told_of_rounds header plays k in
+    let round : told_then header plays k ≡ f.front ++ f.back =
+    ap (λ (ls : List Line). told_behind header ls (round_behind header ls)) (sym (begun_is h)) ∙ f.whole_is in
+    record {
+      front = all ++ f.front;
+      back = f.back ++ more.0;
+      now_is = f.now_is ∙ (ap (λ es. es ++ f.front) (h.noted_are (goes long)) ∙ append_assoc before all f.front);
+      whole_is = ap (told_of_rounds header plays) many
+          ∙ (more.1
+          ∙ (ap (λ es. es ++ more.0) (told_last header k plays ∙ ap (λ es. all ++ es) round)
+          ∙ (append_assoc all (f.front ++ f.back) more.0
+          ∙ (ap (λ es. all ++ es) (append_assoc f.front f.back more.0) ∙ sym (append_assoc all f.front (f.back ++ more.0))))));
     }
 
 -- all links are at rest behind these rounds, or there were as many as there may be

@@ -15,6 +15,7 @@ use Rattle.world.specs.RoundParts.{ends_of_links, has_to_take, round_left, takin
 use Rattle.world.specs.Worlds.{HasRoomForPart, IsWorldWithin, world_header}
 use Rattle.world.proofs.Playing.{begins_so}
 use Rattle.world.proofs.RoundParts.{round_is_left}
+use Rattle.world_settle.specs.Fronts.{IsFrontNoted}
 use Rattle.world_settle.proofs.Going.{begun, own_within}
 
 -- Of the ends of a round these are left; the others have taken what stood on their wires, in these parts, which were noted unless the watch is
@@ -87,6 +88,18 @@ module _ (header : Header) (plays : List Play) (most : ℕ) (parts : List Line) 
             ∙ (append_assoc before (told_behind header start h.taken) (told_behind header here more)
             ∙ (ap (λ (ls : List Line). before ++ (told_behind header start h.taken ++ told_behind header ls more)) same
             ∙ ap (λ (es : List Entry). before ++ es) (sym (behind-append header h.taken more start)))));
+      }
+
+  -- what was noted so far is a front of what the round tells
+  pub front_noted : (w : World) (left : List End) (n : ℕ) (short : Bool) (before now : List Entry) → Taken w left n short before now → short ≡ false
+      → IsFrontNoted before now (told_behind header start (round_behind header start))
+  front_noted w left n short before now h long =
+      let rest : List Line = round_left header (begun header plays (parts ++ h.taken)) left in
+      record {
+        front = told_behind header start h.taken;
+        back = told_behind header (start ++ h.taken) rest;
+        now_is = h.noted_are long;
+        whole_is = ap (told_behind header start) h.leads ∙ behind-append header h.taken rest start;
       }
 
 -- ## Links one after another

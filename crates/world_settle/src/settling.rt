@@ -1,5 +1,5 @@
 //! A world goes through rounds until all its links are at rest, part by part.
-ghost use Rattle.std.specs.Prelude.{◌≡◌, ◌≤◌, [], ◌∷◌, ◌++◌, ℕ, List, length, replicate, IfOk, OnOk, IfErr, true, false};
+ghost use Rattle.std.specs.Prelude.{◌≡◌, ◌≤◌, [], ◌∷◌, ◌++◌, ℕ, List, length, replicate, IfOk, OnOk, OnErr, IfErr, true, false};
 ghost use Rattle.trace_model.specs.Lines.{IsEndOf};
 ghost use Rattle.trace_model.specs.declared.entry.Entry.TheVariants.{Echo};
 ghost use Rattle.trace_model.specs.declared.line.Line.{Line as Spoken};
@@ -10,6 +10,8 @@ ghost use Rattle.lines_told.specs.lines.Plays.Play.{Round};
 ghost use Rattle.world.specs.declared.fault.WorldFault.TheVariants as fault;
 ghost use Rattle.world.specs.RoundParts.{has_to_take, taking_below};
 ghost use Rattle.world.specs.Worlds.{HasRoomForPart, HasComeTo, IsPartLine, IsWorldAt, IsWorldWithin, StandsBehind, world_header};
+ghost use Rattle.world_laws.specs.worlds.BroughtBehind.{BringsAll};
+ghost use Rattle.world_settle.specs.Fronts.{IsFrontNoted};
 ghost use Rattle.world_settle.specs.Room.{HasRoomForParts, HasRoomForRounds, IsOpenFor};
 
 use crate::noting::note_all;
@@ -25,6 +27,7 @@ fn play_part<W: Watch>(world: &mut World, line: &Line, watch: &mut W) -> Result<
     ensures noted { (plays : List Play) (most : ℕ) (parts : List Spoken) → IsWorldWithin world.old (world_header world.old) plays most parts
         → OnOk result (W.is_short watch.new ≡ false → W.noted watch.new ≡
         W.noted watch.old ++ told_below (world_header world.old) (lines_played (world_header world.old) plays ++ parts) line.now) }
+    ensures unnoted { OnErr result (watch.new ≡ watch.old) }
     ensures stays { W.is_short watch.old ≡ true → W.is_short watch.new ≡ true }
     ensures fault { IfErr result (λ why. why ≡ fault.NoMemory) }
     ensures header { world_header world.new ≡ world_header world.old }
@@ -55,6 +58,7 @@ fn take_all<W: Watch>(world: &mut World, at: End, watch: &mut W) -> Result<(), W
         → OnOk result (W.is_short watch.new ≡ false → W.noted watch.new ≡
         W.noted watch.old ++ told_behind (world_header world.old) (lines_played (world_header world.old) plays ++ parts)
         (taking_below (world_header world.old) (lines_played (world_header world.old) plays ++ parts) at)) }
+    ensures unnoted { OnErr result (watch.new ≡ watch.old) }
     ensures stays { W.is_short watch.old ≡ true → W.is_short watch.new ≡ true }
     ensures fault { IfErr result (λ why. why ≡ fault.NoMemory) }
     ensures header { world_header world.new ≡ world_header world.old }
@@ -77,6 +81,10 @@ fn go_round<W: Watch>(world: &mut World, watch: &mut W) -> Result<(), WorldFault
         (round_behind (world_header world.old) (lines_played (world_header world.old) plays ++ parts))) }
     ensures few { (plays : List Play) (most : ℕ) (parts : List Spoken) → IsWorldWithin world.old (world_header world.old) plays most parts
         → OnOk result (length (round_behind (world_header world.old) (lines_played (world_header world.old) plays ++ parts)) ≤ 15) }
+    ensures broken { (plays : List Play) (most : ℕ) (parts : List Spoken) → IsWorldWithin world.old (world_header world.old) plays most parts
+        → OnErr result (W.is_short watch.new ≡ false → IsFrontNoted (W.noted watch.old) (W.noted watch.new)
+        (told_behind (world_header world.old) (lines_played (world_header world.old) plays ++ parts)
+        (round_behind (world_header world.old) (lines_played (world_header world.old) plays ++ parts)))) }
     ensures stays { W.is_short watch.old ≡ true → W.is_short watch.new ≡ true }
     ensures fault { IfErr result (λ why. why ≡ fault.NoMemory) }
     ensures header { world_header world.new ≡ world_header world.old }
@@ -112,6 +120,9 @@ fn go_rounds<W: Watch>(world: &mut World, rounds: u32, watch: &mut W) -> Result<
     ensures noted { (plays : List Play) → IsWorldWithin world.old (world_header world.old) plays rounds []
         → IfOk result (λ r. W.is_short watch.new ≡ false
         → W.noted watch.new ≡ W.noted watch.old ++ told_of_rounds (world_header world.old) plays r) }
+    ensures broken { (plays : List Play) → IsWorldWithin world.old (world_header world.old) plays rounds []
+        → OnErr result (W.is_short watch.new ≡ false → IsFrontNoted (W.noted watch.old) (W.noted watch.new)
+        (told_of_rounds (world_header world.old) plays (rounds_to_rest (world_header world.old) plays rounds))) }
     ensures stays { W.is_short watch.old ≡ true → W.is_short watch.new ≡ true }
     ensures fault { IfErr result (λ why. why ≡ fault.NoMemory) }
     ensures header { world_header world.new ≡ world_header world.old }
@@ -127,11 +138,11 @@ fn go_rounds<W: Watch>(world: &mut World, rounds: u32, watch: &mut W) -> Result<
 
 /// Plays a line `settle`: the world goes through rounds, in each of which all ends take what stands on their wires and time passes, one
 /// tick, until all links are at rest, and through so many rounds at most. How many there were. The line is noted, what each round caused,
-/// and last how many there were.
+/// and last how many there were. Where enough rounds were asked for, and nothing disturbs a link in them, all that was sent on it before has come.
 ///
 /// # Errors
 ///
-/// `NoMemory` where memory runs out. The world is of no use then. A watch that is short is no error.
+/// `NoMemory` where memory runs out. The world is of no use then, and a front of all that was to be noted is. A watch that is short is no error.
 pub fn settle<W: Watch>(world: &mut World, rounds: u32, watch: &mut W) -> Result<u32, WorldFault>
     requires some { 1 ≤ rounds }
     requires most { rounds ≤ 20000 }
@@ -140,9 +151,14 @@ pub fn settle<W: Watch>(world: &mut World, rounds: u32, watch: &mut W) -> Result
         → IfOk result (λ r. r ≡ rounds_to_rest (world_header world.old) plays rounds) }
     ensures stands { (plays : List Play) → IsWorldAt world.old (world_header world.old) plays
         → IfOk result (λ r. IsWorldAt world.new (world_header world.old) (plays ++ replicate r Round)) }
+    ensures brought { (plays : List Play) → IsWorldAt world.old (world_header world.old) plays
+        → IfOk result (λ r. BringsAll (world_header world.old) plays rounds r) }
     ensures noted { (plays : List Play) → IsWorldAt world.old (world_header world.old) plays
         → OnOk result (W.is_short watch.new ≡ false
         → W.noted watch.new ≡ W.noted watch.old ++ Echo (line.Settle rounds) ∷ told_of_line (world_header world.old) plays (line.Settle rounds)) }
+    ensures broken { (plays : List Play) → IsWorldAt world.old (world_header world.old) plays
+        → OnErr result (W.is_short watch.new ≡ false → IsFrontNoted (W.noted watch.old) (W.noted watch.new)
+        (Echo (line.Settle rounds) ∷ told_of_line (world_header world.old) plays (line.Settle rounds))) }
     ensures stays { W.is_short watch.old ≡ true → W.is_short watch.new ≡ true }
     ensures fault { IfErr result (λ why. why ≡ fault.NoMemory) }
     ensures header { world_header world.new ≡ world_header world.old }

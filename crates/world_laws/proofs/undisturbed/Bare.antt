@@ -1,15 +1,13 @@
--- The link of a bare world is undisturbed while it settles, where nothing that disturbs it is noted behind the line.
+-- The link of a bare world is undisturbed while it settles, where nothing that disturbs it is noted of its rounds.
 use Rattle.std.proofs.Common.{◌≡◌, ℕ, Bool, true, false, List, [], ◌∷◌, ◌++◌, map, refl, ap, sym, subst, ◌∙◌, length, Option, Some, None}
-use Rattle.std.specs.Prelude.{drop}
+use Rattle.std.specs.Prelude.{drop, replicate}
 use Rattle.std.specs.List.{AllByRecursion, list_any}
 use Rattle.std.proofs.Math.Seq.{drop-append_seam}
 use Rattle.std.proofs.lemmas.List.{map-append}
 use Rattle.std.proofs.lemmas.List.Concat.{flat_map-append}
 use Rattle.trace_model.specs.declared.entry.Entry.{Entry}
 use Rattle.trace_model.specs.declared.line.Header.{Header}
-use Rattle.trace_model.specs.declared.line.Line.{Line}
-use Rattle.trace_model.specs.declared.line.Line.TheVariants as saying
-use Rattle.trace_model.specs.Lines.{IsHeader, IsLineOf, MayFollow}
+use Rattle.trace_model.specs.Lines.{IsLineOf}
 use Rattle.link_laws.specs.messages.Links.{Link, LinkEvent, AllAllowed, after_link_events}
 use Rattle.link_laws.specs.messages.Links.IsStart.{IsBare}
 use Rattle.link_laws.specs.entries.Entries.{End as Side, Entry as Noted, entries, first_entries}
@@ -32,20 +30,20 @@ use Rattle.node_laws.proofs.order.Watches.{AreUnstarted, is_cut}
 use Rattle.lines_told.specs.messages.Recovery.{IsLinkUndisturbed}
 use Rattle.lines_told.proofs.messages.Projected.{allowed_parts}
 use Rattle.lines_told.specs.lines.Below.{bare_link_behind}
-use Rattle.lines_told.specs.lines.Plays.{lines_played_of, plays_of, rounds_to_rest}
+use Rattle.lines_told.specs.lines.Plays.{Play, lines_played, rounds_to_rest}
+use Rattle.lines_told.specs.lines.Plays.Play.{Round}
 use Rattle.world_laws.specs.links.RoundCauses.{AreRoundCauses}
 use Rattle.world_laws.specs.links.Settling.{rounds_to_settle, settling_causes, settling_events}
 use Rattle.world_laws.specs.worlds.Brought.{AreBothUpIn}
-use Rattle.world_laws.specs.worlds.Undisturbed.{AreBothReady, AreLeftReady, AreReadyThroughout, AreUndisturbedNotes, entries_since}
+use Rattle.world_laws.specs.worlds.Undisturbed.{AreBothReady, AreReadyThroughout, AreUndisturbedNotes, entries_since}
 use Rattle.world_laws.proofs.links.RoundCauses.{rounds_are}
 use Rattle.world_laws.proofs.schedules.Bare.{as_many, happened_leads}
-use Rattle.world_laws.proofs.schedules.Nodes.{with_settle}
 use Rattle.world_laws.proofs.undisturbed.Losing.{Calm}
 use Rattle.world_laws.proofs.undisturbed.Noted.{noted_calm}
 use Rattle.world_laws.proofs.undisturbed.Runs.{AreBothUpNow, AreRoundEvents, trace-append, calm_run, keeps, way_to}
 use Rattle.world_laws.proofs.undisturbed.Begun.{Unbegun}
 use Rattle.world_laws.proofs.undisturbed.Causes.{causes_along, causes_followed, along_rounds}
-use Rattle.world_laws.proofs.undisturbed.Busy.{cause_readies, schedule_ready}
+use Rattle.world_laws.proofs.undisturbed.Busy.{cause_readies}
 
 -- ## What is noted
 
@@ -93,13 +91,13 @@ ready_throughout : (h : ℕ) (cs : List Cause) (l : Link) → AreRoundCauses h l
 ready_throughout h [] l a r = r
 ready_throughout h (c ∷ cs) l a r = (r, ready_throughout h cs (link_after l c) a.1 (ready_next h l c (a.0, tt) r))
 
--- ## A schedule
+-- ## Behind plays
 
-module _ (header : Header) (is : IsHeader header) (lines : List Line) (may : AllByRecursion (MayFollow header) lines) (n : ℕ) (t later : History)
-    (valid : AllByRecursion (IsLineOf header) (lines_played_of header lines))
-    (later_valid : AllByRecursion (IsLineOf header) (lines_played_of header (lines ++ saying.Settle n ∷ [])))
-    (follows : Follows header (lines_played_of header lines) t)
-    (goes : Follows header (lines_played_of header (lines ++ saying.Settle n ∷ [])) later) where
+module _ (header : Header) (bare : header.hci ≡ false) (plays : List Play) (n : ℕ) (t later : History)
+    (valid : AllByRecursion (IsLineOf header) (lines_played header plays))
+    (later_valid : AllByRecursion (IsLineOf header) (lines_played header (plays ++ replicate (rounds_to_rest header plays n) Round)))
+    (follows : Follows header (lines_played header plays) t)
+    (goes : Follows header (lines_played header (plays ++ replicate (rounds_to_rest header plays n) Round)) later) where
   abbrev h : ℕ
   h = host_of header
 
@@ -110,7 +108,7 @@ module _ (header : Header) (is : IsHeader header) (lines : List Line) (may : All
   ys = all_events later
 
   abbrev l : Link
-  l = bare_link_behind header (lines_played_of header lines)
+  l = bare_link_behind header (lines_played header plays)
 
   abbrev cs : List Cause
   cs = settling_causes n h l
@@ -119,23 +117,21 @@ module _ (header : Header) (is : IsHeader header) (lines : List Line) (may : All
   es = settling_events n h l
 
   run : IsRun h t
-  run = is_run header (lines_played_of header lines) t valid follows
+  run = is_run header (lines_played header plays) t valid follows
 
   later_run : IsRun h later
-  later_run = is_run header (lines_played_of header (lines ++ saying.Settle n ∷ [])) later later_valid goes
+  later_run = is_run header (lines_played header (plays ++ replicate (rounds_to_rest header plays n) Round)) later later_valid goes
 
   leads : after_link_events bare_link (link_events xs) ≡ l
-  leads = happened_leads header (lines_played_of header lines) t valid follows
+  leads = happened_leads header (lines_played header plays) t valid follows
 
   -- the later history has the events of the rounds behind those of the earlier one
   later_causes : causes_of ys ≡ causes_of xs ++ cs
   later_causes =
-      causes_followed h bare_link (lines_played_of header (lines ++ saying.Settle n ∷ [])) later.steps goes.steps_follow
-      ∙ (ap (causes_along h bare_link) (with_settle header lines n)
-      ∙ (along_rounds header is.bare (rounds_to_rest header (plays_of header lines) n) (plays_of header lines)
-      ∙ (ap (λ (r : ℕ). causes_along h bare_link (lines_played_of header lines) ++ causes_of_rounds r h l)
-      (as_many header is.bare (plays_of header lines) n)
-      ∙ ap (λ ds. ds ++ cs) (sym (causes_followed h bare_link (lines_played_of header lines) t.steps follows.steps_follow)))))
+      causes_followed h bare_link (lines_played header (plays ++ replicate (rounds_to_rest header plays n) Round)) later.steps goes.steps_follow
+      ∙ (along_rounds header bare (rounds_to_rest header plays n) plays
+      ∙ (ap (λ (r : ℕ). causes_along h bare_link (lines_played header plays) ++ causes_of_rounds r h l) (as_many header bare plays n)
+      ∙ ap (λ ds. ds ++ cs) (sym (causes_followed h bare_link (lines_played header plays) t.steps follows.steps_follow))))
 
   later_events : link_events ys ≡ link_events xs ++ es
   later_events = ap (map event_of) later_causes ∙ map-append event_of (causes_of xs) cs
@@ -177,7 +173,7 @@ module _ (header : Header) (is : IsHeader header) (lines : List Line) (may : All
             ∙ (sym (ap (λ (z : List Entry). session_number z (end_of h Host)) told) ∙ up.host))).0;
       })
 
-  module _ (k : ℕ) (up : AreBothUpIn (all_entries t) (host_of header) k) (left : AreLeftReady lines (host_of header))
+  module _ (k : ℕ) (up : AreBothUpIn (all_entries t) (host_of header) k) (ready : AreBothReady (bare_link_behind header (lines_played header plays)))
       (notes : AreUndisturbedNotes (entries_since (all_entries t) (all_entries later)) (host_of header)) where
     plain : ArePlain (entries l es)
     plain = plain_right (notes_of xs) (entries l es) (subst ArePlain later_notes (plain_trace (causes_of ys)))
@@ -190,14 +186,12 @@ module _ (header : Header) (is : IsHeader header) (lines : List Line) (may : All
     both : IsLinkUndisturbed l es × Unbegun (entries l es)
     both =
         let rounds : AreRoundCauses h l cs = rounds_are h (rounds_to_settle n h l) l in
-        let ready : AreBothReady l =
-        record { controller = schedule_ready header is false lines may left.controller; host = schedule_ready header is true lines may left.host } in
         let before = way_to (link_events xs) bare_link allowed.0 (start_under_way bare_link IsBare) in
         calm_run bare_link IsBare es (link_events xs) l leads allowed.0 allowed.1 (round_events h l cs rounds)
         (subst (IsUnderWay before.0) leads before.1) (up_there k up) (ready_throughout h cs l rounds ready) calm
 
-    pub bare_undisturbed : IsLinkUndisturbed (bare_link_behind header (lines_played_of header lines))
-        (settling_events n (host_of header) (bare_link_behind header (lines_played_of header lines)))
+    pub bare_undisturbed : IsLinkUndisturbed (bare_link_behind header (lines_played header plays))
+        (settling_events n (host_of header) (bare_link_behind header (lines_played header plays)))
     bare_undisturbed = both.0
 
     -- both ends are up in the same session behind the rounds

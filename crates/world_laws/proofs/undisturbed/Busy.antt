@@ -1,5 +1,6 @@
 -- Whether the ends of a bare world take fragments behind the lines of a schedule: the last line that says so decides.
 use Rattle.std.proofs.Common.{◌≡◌, ℕ, zero, suc, ◌==◌, Bool, true, false, List, [], ◌∷◌, ◌++◌, Option, Some, None, refl, ap, sym, subst, ◌∙◌, cond}
+use Rattle.std.proofs.Common.{append-nil, append_assoc}
 use Rattle.std.specs.Prelude.{replicate, not, is_some, unwrap_or, ◌&&◌, if◌then◌else◌}
 use Rattle.std.specs.List.{fold, AllByRecursion}
 use Rattle.std.proofs.lemmas.Bool.{true≢false, eq-eqb}
@@ -27,7 +28,7 @@ use Rattle.history.specs.Follows.{causes_in, damage_causes, first_verdict, frame
 use Rattle.history.specs.Filters.{same_side}
 use Rattle.history.proofs.legal.Asked.{only_one}
 use Rattle.node_laws.proofs.rounds.BareRounds.{after_causes}
-use Rattle.lines_told.specs.lines.Below.{bare_link_behind, is_settling}
+use Rattle.lines_told.specs.lines.Below.{IsPlayedLine, bare_link_behind, is_settling}
 use Rattle.lines_told.specs.lines.Plays.{Play, lines_played, plays_of_line, plays_of, rounds_to_rest}
 use Rattle.lines_told.specs.lines.Plays.Play.{Said, Round}
 use Rattle.lines_told.proofs.lines.Plays.{played_more}
@@ -239,6 +240,34 @@ module _ (header : Header) (is : IsHeader header) (at_host : Bool) where
   pub schedule_ready : (lines : List Line) → AllByRecursion (MayFollow header) lines → is_left_busy here lines ≡ false
       → ready_at at_host (behind (plays_of header lines)) ≡ true
   schedule_ready lines may none = lines_ready lines [] false may (at_start at_host) ∙ ap not none
+    where
+      at_start : (b : Bool) → ready_at b bare_link ≡ true
+      at_start true = refl
+      at_start false = refl
+
+  -- ## Lines that are played
+
+  -- the link behind these lines
+  abbrev behind_lines : List Line → Link
+  behind_lines before = bare_link_behind header before
+
+  all_ready : (lines before : List Line) (busy : Bool) → AllByRecursion (IsPlayedLine header) lines → ready_at at_host (behind_lines before) ≡ not busy
+      → ready_at at_host (behind_lines (before ++ lines)) ≡ not (fold (busy_after here) busy lines)
+  all_ready [] before busy may was = ap (λ ls. ready_at at_host (behind_lines ls)) (append-nil before) ∙ was
+  all_ready (line ∷ lines) before busy may was =
+      let h : ℕ = host_of header in
+      let next : List Line = before ++ line ∷ [] in
+      let goes : behind_lines next ≡ link_after_line (behind_lines before) (outcome_of h (behind_lines before) line) =
+      lines-append h before (line ∷ []) bare_link in
+      let now : ready_at at_host (behind_lines next) ≡ not (busy_after here busy line) =
+      ap (ready_at at_host) goes
+      ∙ (line_ready (behind_lines before) line may.0.may_follow may.0.settles_not ∙ ap (λ b. not (busy_after here b line)) (ap not was ∙ not_not busy)) in
+      ap (λ ls. ready_at at_host (behind_lines ls)) (sym (append_assoc before (line ∷ []) lines))
+      ∙ all_ready lines next (busy_after here busy line) may.1 now
+
+  pub played_ready : (lines : List Line) → AllByRecursion (IsPlayedLine header) lines → is_left_busy here lines ≡ false
+      → ready_at at_host (behind_lines lines) ≡ true
+  played_ready lines may none = all_ready lines [] false may (at_start at_host) ∙ ap not none
     where
       at_start : (b : Bool) → ready_at b bare_link ≡ true
       at_start true = refl

@@ -1,12 +1,11 @@
--- A link of a world of nodes is undisturbed while it settles, where nothing that disturbs it is noted behind the line.
-use Rattle.std.proofs.Common.{◌≡◌, ℕ, false, ◌==◌, List, [], ◌∷◌, ◌++◌, Some, ap, sym, subst, ◌∙◌, length}
-use Rattle.std.specs.Prelude.{drop}
+-- A link of a world of nodes is undisturbed while it settles, where nothing that disturbs it is noted of its rounds.
+use Rattle.std.proofs.Common.{◌≡◌, ℕ, false, ◌==◌, List, ◌++◌, Some, ap, sym, subst, ◌∙◌, length}
+use Rattle.std.specs.Prelude.{drop, replicate}
 use Rattle.std.proofs.Math.Seq.{drop-append_seam}
 use Rattle.std.proofs.lemmas.List.Concat.{flat_map-append}
 use Rattle.trace_model.specs.declared.entry.Entry.{Entry}
 use Rattle.trace_model.specs.declared.line.Header.{Header}
 use Rattle.trace_model.specs.declared.line.Line.{Line}
-use Rattle.trace_model.specs.declared.line.Line.TheVariants as saying
 use Rattle.link_laws.specs.messages.Links.{Link, LinkEvent, AllAllowed, after_link_events}
 use Rattle.link_laws.specs.messages.Links.IsStart.{IsLine}
 use Rattle.link_laws.specs.entries.Entries.{entries}
@@ -33,11 +32,12 @@ use Rattle.node_laws.proofs.rounds.RoundEvents.{rounds_go}
 use Rattle.lines_told.specs.messages.Recovery.{IsLinkUndisturbed}
 use Rattle.lines_told.proofs.messages.Projected.{after_events-append}
 use Rattle.lines_told.specs.lines.Below.{nodes_behind}
-use Rattle.lines_told.specs.lines.Plays.{lines_played_of, plays_of, rounds_to_rest}
+use Rattle.lines_told.specs.lines.Plays.{Play, lines_played, rounds_to_rest}
+use Rattle.lines_told.specs.lines.Plays.Play.{Round}
 use Rattle.lines_told.proofs.lines.NodeRounds.{played_rounds}
 use Rattle.world_laws.specs.worlds.Undisturbed.{ArePoweredNotes, AreReadyThroughout, entries_since}
-use Rattle.world_laws.proofs.schedules.Nodes.{last, reached, with_settle}
-use Rattle.world_laws.proofs.schedules.Occurring.{occurring, rounds_occur}
+use Rattle.world_laws.proofs.schedules.Nodes.{last, reached}
+use Rattle.world_laws.proofs.schedules.Occurring.{rounds_occur}
 use Rattle.world_laws.proofs.undisturbed.Begun.{Unbegun}
 use Rattle.world_laws.proofs.undisturbed.NodeRounds.{rounds_calmly}
 use Rattle.world_laws.proofs.undisturbed.Runs.{AreBothUpNow, calm_run, far_session, keeps, near_session, way_to}
@@ -84,31 +84,30 @@ module _ (hosts : List ℕ) (w : NodeWorld) (h : ℕ) (s : Site) (r : IsReached 
             (subst (λ l. far l (after_link_events new_line (pre ++ fs))) run.run.is (far_session new_line IsLine pre fs all));
       }
 
--- ## A schedule
+-- ## Behind plays
 
-module _ (header : Header) (are : AreHosts header.hosts.items) (lines : List Line) (n : ℕ) (p : ArePlayable (lines_played_of header lines))
-    (later_p : ArePlayable (lines_played_of header (lines ++ saying.Settle n ∷ []))) (t later : NodeHistory)
-    (follows : FollowsNodes header (lines_played_of header lines) t)
-    (goes_on : FollowsNodes header (lines_played_of header (lines ++ saying.Settle n ∷ [])) later) where
+module _ (header : Header) (are : AreHosts header.hosts.items) (plays : List Play) (n : ℕ) (p : ArePlayable (lines_played header plays))
+    (later_p : ArePlayable (lines_played header (plays ++ replicate (rounds_to_rest header plays n) Round))) (t later : NodeHistory)
+    (follows : FollowsNodes header (lines_played header plays) t)
+    (goes_on : FollowsNodes header (lines_played header (plays ++ replicate (rounds_to_rest header plays n) Round)) later) where
   abbrev hosts : List ℕ
   hosts = header.hosts.items
 
   abbrev w : NodeWorld
-  w = nodes_behind header (lines_played_of header lines)
+  w = nodes_behind header (lines_played header plays)
 
   abbrev rounds : ℕ
-  rounds = rounds_to_rest header (plays_of header lines) n
+  rounds = rounds_to_rest header plays n
 
   abbrev all : List Line
-  all = lines_played_of header (lines ++ saying.Settle n ∷ [])
+  all = lines_played header (plays ++ replicate (rounds_to_rest header plays n) Round)
 
   -- the later history has what occurs in the rounds behind what occurs in the earlier one
   later_occurs : occurrences_in later ≡ occurrences_in t ++ (rounds_of_world rounds w).1
   later_occurs =
       ap (λ (steps : List LineStep). events_of_steps steps) goes_on.steps_are
-      ∙ (ap (occurring (new_world hosts)) (with_settle header lines n)
-      ∙ (rounds_occur header follows.nodes rounds (plays_of header lines)
-      ∙ ap (λ (steps : List LineStep). events_of_steps steps ++ (rounds_of_world rounds w).1) (sym follows.steps_are)))
+      ∙ (rounds_occur header follows.nodes rounds plays
+      ∙ ap (λ (steps : List LineStep). events_of_steps steps ++ (rounds_of_world rounds w).1) (sym follows.steps_are))
 
   pub since : entries_since (node_entries t) (node_entries later) ≡ entries_in (rounds_of_world rounds w).1
   since =
@@ -119,12 +118,12 @@ module _ (header : Header) (are : AreHosts header.hosts.items) (lines : List Lin
       ap (drop (length a)) whole ∙ drop-append_seam a b
 
   here : IsReached hosts w
-  here = subst (IsReached hosts) (last header (lines_played_of header lines) t follows are p) (reached header (lines_played_of header lines) t follows are p)
+  here = subst (IsReached hosts) (last header (lines_played header plays) t follows are p) (reached header (lines_played header plays) t follows are p)
 
-  module _ (h : ℕ) (s : Site) (found : site_at (nodes_behind header (lines_played_of header lines)).sites h ≡ Some s) (k : ℕ)
+  module _ (h : ℕ) (s : Site) (found : site_at (nodes_behind header (lines_played header plays)).sites h ≡ Some s) (k : ℕ)
       (up : AreUpWith (node_entries t) h k)
       (ready : AreReadyThroughout s.link
-      (rounds_events h (rounds_to_rest header (plays_of header lines) n) (nodes_behind header (lines_played_of header lines))))
+      (rounds_events h (rounds_to_rest header plays n) (nodes_behind header (lines_played header plays))))
       (notes : ArePoweredNotes (entries_since (node_entries t) (node_entries later)) h) where
     abbrev es : List LinkEvent
     es = rounds_events h rounds w
@@ -135,7 +134,7 @@ module _ (header : Header) (are : AreHosts header.hosts.items) (lines : List Lin
     -- what is read of both ends before the rounds
     read : AreSessionsRead (node_entries t) h s.link
     read =
-        let before : List Line = lines_played_of header lines in
+        let before : List Line = lines_played header plays in
         let q : site_at (world_behind (new_world hosts) (occurrences_in t)).sites h ≡ Some s =
         ap (λ (v : NodeWorld). site_at v.sites h) (last header before t follows are p) ∙ found in
         are_read h s.link (node_entries t) number ((reached header before t follows are p).so.each h s q).told
@@ -153,7 +152,7 @@ module _ (header : Header) (are : AreHosts header.hosts.items) (lines : List Lin
     both = calm_there hosts w h s here found rounds goes up_there ready
 
     pub nodes_undisturbed : IsLinkUndisturbed s.link
-        (rounds_events h (rounds_to_rest header (plays_of header lines) n) (nodes_behind header (lines_played_of header lines)))
+        (rounds_events h (rounds_to_rest header plays n) (nodes_behind header (lines_played header plays)))
     nodes_undisturbed = both.0
 
     -- both ends are up in the same session behind the rounds
@@ -161,8 +160,7 @@ module _ (header : Header) (are : AreHosts header.hosts.items) (lines : List Lin
     nodes_up_later =
         let g : GoesOnLink (rounds_of_world rounds w).0 h s es = rounds_go rounds w h s found in
         let behind : EndsThen hosts w h s here found rounds = ends_then hosts w h s here found rounds in
-        let end : nodes_behind header all ≡ (rounds_of_world rounds w).0 =
-        ap (nodes_behind header) (with_settle header lines n) ∙ played_rounds header follows.nodes rounds (plays_of header lines) in
+        let end : nodes_behind header all ≡ (rounds_of_world rounds w).0 = played_rounds header follows.nodes rounds plays in
         let q : site_at (world_behind (new_world hosts) (occurrences_in later)).sites h ≡ Some g.later =
         ap (λ (v : NodeWorld). site_at v.sites h) (last header all later goes_on are later_p ∙ end) ∙ g.is in
         let now : AreSessionsRead (node_entries later) h g.later.link =

@@ -40,7 +40,8 @@ use Rattle.node_laws.proofs.reply_passes.Held.{is_held_among}
 use Rattle.node_laws.proofs.worlds.AtRest.{SiteRests}
 use Rattle.node_laws.proofs.worlds.Done.{IsAtRest, event_rests, history_rests}
 use Rattle.lines_told.specs.lines.Below.{nodes_behind}
-use Rattle.lines_told.specs.lines.Plays.{lines_played_of, plays_of, rounds_to_rest}
+use Rattle.lines_told.specs.lines.Plays.{Play, lines_played, rounds_to_rest}
+use Rattle.lines_told.specs.lines.Plays.Play.{Round}
 use Rattle.world_laws.specs.worlds.Undisturbed.{AreBothReady, AreReadyThroughout, AreUnheldNotes, entries_since, is_held_on}
 use Rattle.world_laws.proofs.schedules.Nodes.{last}
 use Rattle.world_laws.proofs.undisturbed.Keeping.{HeldAt, HeldIn, IsHeldSo, SiteHeld, event_kept}
@@ -341,24 +342,24 @@ module _ (h : ℕ) where
       then_ready t s.link (round_events h w) (rounds_events h n first.0) first second one
       (subst (λ l. StaysReady (t ++ entries_in first.1) l (rounds_events h n first.0) second) g.link more)
 
--- ## A schedule
+-- ## Behind plays
 
-module _ (header : Header) (are : AreHosts header.hosts.items) (lines : List Line) (n : ℕ) (p : ArePlayable (lines_played_of header lines))
-    (later_p : ArePlayable (lines_played_of header (lines ++ line.Settle n ∷ []))) (t later : NodeHistory)
-    (follows : FollowsNodes header (lines_played_of header lines) t)
-    (goes_on : FollowsNodes header (lines_played_of header (lines ++ line.Settle n ∷ [])) later) where
+module _ (header : Header) (are : AreHosts header.hosts.items) (plays : List Play) (n : ℕ) (p : ArePlayable (lines_played header plays))
+    (later_p : ArePlayable (lines_played header (plays ++ replicate (rounds_to_rest header plays n) Round))) (t later : NodeHistory)
+    (follows : FollowsNodes header (lines_played header plays) t)
+    (goes_on : FollowsNodes header (lines_played header (plays ++ replicate (rounds_to_rest header plays n) Round)) later) where
   abbrev w : NodeWorld
-  w = nodes_behind header (lines_played_of header lines)
+  w = nodes_behind header (lines_played header plays)
 
-  pub nodes_ready : (h : ℕ) (s : Site) → site_at (nodes_behind header (lines_played_of header lines)).sites h ≡ Some s
+  pub nodes_ready : (h : ℕ) (s : Site) → site_at (nodes_behind header (lines_played header plays)).sites h ≡ Some s
       → AreUnheldNotes (node_entries t) (entries_since (node_entries t) (node_entries later)) h
       → AreReadyThroughout s.link
-      (rounds_events h (rounds_to_rest header (plays_of header lines) n) (nodes_behind header (lines_played_of header lines)))
+      (rounds_events h (rounds_to_rest header plays n) (nodes_behind header (lines_played header plays)))
   nodes_ready h s found unheld =
-      let before : List Line = lines_played_of header lines in
+      let before : List Line = lines_played header plays in
       let read : IsRead h (node_entries t) w =
       subst (IsRead h (node_entries t)) (last header before t follows are p) (history_read h header before t follows are) in
-      let none : list_any (is_held_on h) (entries_in (rounds_of_world (rounds_to_rest header (plays_of header lines) n) w).1) ≡ false =
-      ap (list_any (is_held_on h)) (sym (since header are lines n p later_p t later follows goes_on)) ∙ unheld.none_held in
-      (rounds_ready h (rounds_to_rest header (plays_of header lines) n) (node_entries t) w s found
+      let none : list_any (is_held_on h) (entries_in (rounds_of_world (rounds_to_rest header plays n) w).1) ≡ false =
+      ap (list_any (is_held_on h)) (sym (since header are plays n p later_p t later follows goes_on)) ∙ unheld.none_held in
+      (rounds_ready h (rounds_to_rest header plays n) (node_entries t) w s found
       (record { read = read; near = unheld.controller; far = unheld.host }) none).ready

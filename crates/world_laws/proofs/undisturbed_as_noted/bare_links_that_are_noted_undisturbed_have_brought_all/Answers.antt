@@ -1,19 +1,23 @@
-use Rattle.std.proofs.Common.{List, [], ℕ, ◌∷◌, inl, subst, sym, ◌++◌}
+use Rattle.std.proofs.Common.{List, [], ℕ, ◌∷◌, inl, subst, sym, ◌++◌, true, false}
 use Rattle.std.specs.Prelude.{replicate}
 use Rattle.std.specs.List.{AllByRecursion}
 use Rattle.trace_model.specs.declared.line.Header.{Header}
 use Rattle.trace_model.specs.declared.line.Line.{Line}
 use Rattle.trace_model.specs.declared.line.Line.TheVariants.{Settle}
 use Rattle.trace_model.specs.Lines.{IsHeader, IsLineOf, MayFollow}
+use Rattle.history.specs.Follows.{Follows, host_of}
+use Rattle.lines_told.specs.lines.Below.{bare_link_behind}
 use Rattle.lines_told.specs.lines.Plays.{IsPlayFor, lines_played, lines_played_of, plays_of, rounds_to_rest}
 use Rattle.lines_told.specs.lines.Plays.Play.{Round}
 use Rattle.node_laws.proofs.order.HostsStay.{hosts_stay_behind}
 use Rattle.lines_told.proofs.lines.Lines.{lines_may_be_played}
 use Rattle.lines_told.proofs.lines.Plays.{all-append, plays_for, rounds_for}
-use Rattle.world_laws.proofs.schedules.BareNoted.{bare_noted}
+use Rattle.world_laws.specs.worlds.Undisturbed.{AreBothReady, AreLeftReady}
+use Rattle.world_laws.proofs.schedules.BareNoted.{bare_behind}
 use Rattle.world_laws.proofs.schedules.Nodes.{with_settle}
 use Rattle.world_laws.proofs.schedules.Played.{played_bare}
 use Rattle.world_laws.proofs.undisturbed.Bare.{bare_undisturbed, up_later}
+use Rattle.world_laws.proofs.undisturbed.Busy.{schedule_ready}
 use Rattle.world_laws.proofs.undisturbed_as_noted.bare_links_that_are_noted_undisturbed_have_brought_all.Goals as goal
 
 valid : (header : Header) → IsHeader header → (lines : List Line) → AllByRecursion (MayFollow header) lines
@@ -32,14 +36,26 @@ valid_with header is lines may n =
     (played_bare header is.bare (lines_played header (plays_of header lines ++ rounds))
     (lines_may_be_played header (inl is) (hosts_stay_behind header) (plays_of header lines ++ rounds) all))
 
+are_ready : (header : Header) → IsHeader header → (lines : List Line) → AllByRecursion (MayFollow header) lines → AreLeftReady lines (host_of header)
+    → AreBothReady (bare_link_behind header (lines_played_of header lines))
+are_ready header is lines may left =
+    record { controller = schedule_ready header is false lines may left.controller; host = schedule_ready header is true lines may left.host }
+
 pub returns-clause-undisturbed : goal.returns-clause-undisturbed
-returns-clause-undisturbed c = λ header is lines may n t later follows goes.
-    bare_undisturbed header is lines may n t later (valid header is lines may) (valid_with header is lines may n) follows goes
+returns-clause-undisturbed c = λ header is lines may n t later follows goes k up left notes.
+    let same = with_settle header lines n in
+    bare_undisturbed header is.bare (plays_of header lines) n t later (valid header is lines may)
+    (subst (AllByRecursion (IsLineOf header)) same (valid_with header is lines may n)) follows
+    (subst (λ (ls : List Line). Follows header ls later) same goes) k up (are_ready header is lines may left) notes
 
 pub returns-clause-noted : goal.returns-clause-noted
 returns-clause-noted c = λ header is lines may n t later follows goes k up left notes.
+    let same = with_settle header lines n in
+    let plays = plays_of header lines in
     let before = valid header is lines may in
-    let with_rounds = valid_with header is lines may n in
-    bare_noted header is.bare lines n t later before with_rounds follows goes k up
-    (up_later header is lines may n t later before with_rounds follows goes k up left notes)
-    (bare_undisturbed header is lines may n t later before with_rounds follows goes k up left notes)
+    let with_rounds = subst (AllByRecursion (IsLineOf header)) same (valid_with header is lines may n) in
+    let goes_on = subst (λ (ls : List Line). Follows header ls later) same goes in
+    let ready = are_ready header is lines may left in
+    bare_behind header is.bare plays n t later before with_rounds follows goes_on k up
+    (up_later header is.bare plays n t later before with_rounds follows goes_on k up ready notes)
+    (bare_undisturbed header is.bare plays n t later before with_rounds follows goes_on k up ready notes)

@@ -1,29 +1,37 @@
+use Rattle.std.proofs.Common.{List, subst}
+use Rattle.trace_model.specs.declared.line.Line.{Line}
+use Rattle.node_machine.specs.world.NodeHistories.{FollowsNodes}
+use Rattle.node_laws.specs.links.Runs.{ArePlayable}
 use Rattle.node_laws.proofs.schedules.Ranges.{hosts_are}
-use Rattle.world_laws.proofs.schedules.Nodes.{noted_settled}
-use Rattle.world_laws.proofs.undisturbed.Nodes.{nodes_undisturbed, nodes_up_later}
+use Rattle.lines_told.specs.lines.Plays.{plays_of}
+use Rattle.world_laws.proofs.schedules.Bringing.{unheld_behind}
+use Rattle.world_laws.proofs.schedules.Nodes.{with_settle}
+use Rattle.world_laws.proofs.undisturbed.Nodes.{nodes_undisturbed}
 use Rattle.world_laws.proofs.undisturbed.Playable.{playable, playable_with}
 use Rattle.world_laws.proofs.undisturbed.Unheld.{nodes_ready}
 use Rattle.world_laws.proofs.undisturbed_as_noted.links_of_nodes_that_hold_no_message_have_brought_all.Goals as goal
 
 pub returns-clause-ready : goal.returns-clause-ready
 returns-clause-ready c = λ header is lines may n t later follows goes_on h s found unheld.
-    nodes_ready header (hosts_are header is) lines n (playable header is lines may) (playable_with header is lines may n) t later follows goes_on
-    h s found unheld
+    let same = with_settle header lines n in
+    nodes_ready header (hosts_are header is) (plays_of header lines) n (playable header is lines may)
+    (subst ArePlayable same (playable_with header is lines may n)) t later follows
+    (subst (λ (ls : List Line). FollowsNodes header ls later) same goes_on) h s found unheld
 
 pub returns-clause-undisturbed : goal.returns-clause-undisturbed
 returns-clause-undisturbed c = λ header is lines may n t later follows goes_on h s found k up unheld notes.
+    let same = with_settle header lines n in
     let are = hosts_are header is in
+    let plays = plays_of header lines in
     let before = playable header is lines may in
-    let with_rounds = playable_with header is lines may n in
-    nodes_undisturbed header are lines n before with_rounds t later follows goes_on h s found k up
-    (nodes_ready header are lines n before with_rounds t later follows goes_on h s found unheld) notes
+    let with_rounds = subst ArePlayable same (playable_with header is lines may n) in
+    let goes = subst (λ (ls : List Line). FollowsNodes header ls later) same goes_on in
+    nodes_undisturbed header are plays n before with_rounds t later follows goes h s found k up
+    (nodes_ready header are plays n before with_rounds t later follows goes h s found unheld) notes
 
 pub returns-clause-noted : goal.returns-clause-noted
 returns-clause-noted c = λ header is lines may n t later follows goes_on h s found k up unheld notes.
-    let are = hosts_are header is in
-    let before = playable header is lines may in
-    let with_rounds = playable_with header is lines may n in
-    let ready = nodes_ready header are lines n before with_rounds t later follows goes_on h s found unheld in
-    noted_settled header are lines n before with_rounds t later follows goes_on h s found k up
-    (nodes_up_later header are lines n before with_rounds t later follows goes_on h s found k up ready notes)
-    (nodes_undisturbed header are lines n before with_rounds t later follows goes_on h s found k up ready notes)
+    let same = with_settle header lines n in
+    unheld_behind header (hosts_are header is) (plays_of header lines) n (playable header is lines may)
+    (subst ArePlayable same (playable_with header is lines may n)) t later follows
+    (subst (λ (ls : List Line). FollowsNodes header ls later) same goes_on) h s found k up unheld notes

@@ -6,7 +6,8 @@ use Rattle.lines_told.specs.lines.Plays.{round_behind, told_behind}
 use Rattle.lines_told.specs.lines.Plays.Play.{Said}
 use Rattle.world.specs.declared.world_steps.World.{World}
 use Rattle.world.specs.Worlds.{HasComeTo, IsWorldWithin, world_header}
-use Rattle.world_settle.proofs.Going.{WentOn, asked, begun, own_within, rests_now, settled_so, was_long, went_all, went_more}
+use Rattle.world_settle.specs.Fronts.{IsFrontNoted}
+use Rattle.world_settle.proofs.Going.{WentOn, any_err, asked, begun, breaks_off, own_within, rests_now, settled_so, was_long, went_all, went_more}
 use Rattle.world_settle.proofs.settling.go_rounds.Goals as goal
 
 pub quiet-requires : goal.quiet-requires
@@ -75,3 +76,23 @@ returns-clause-settled g c plays within =
     let last : c.loop-done.done ≡ c.args.rounds = omega (arith, c.loop-done-test.false, c.loop-done.auto.done-end) in
     let R : ℕ → Type 0 = λ r. (parts : List Line) × HasComeTo c.loop-done.world (world_header c.args.world.now) plays c.args.rounds parts r in
     subst R last (settled_so h (went_all h last))
+
+pub returns-in_err-go_round-clause-broken : goal.returns-in_err-go_round-clause-broken
+returns-in_err-go_round-clause-broken g c plays within =
+    let short = g.W.Watch.is_short in
+    let noted = g.W.Watch.noted in
+    let header : Header = world_header c.args.world.now in
+    let w : World = c.loop-done.world in
+    let inv = c.loop-done.invariant in
+    let e = c.in_err-go_round.ensures in
+    let later = short c.go_round.new.watch in
+    let mid : List Entry = noted c.loop-done.watch in
+    let now : List Entry = noted c.go_round.new.watch in
+    let h = inv.goes plays within in
+    let own = own_within w header plays c.args.rounds h.parts h.within in
+    let moves = asked c.quiet.result h c.quiet.ensures ∙ c.if-quiet.false in
+    let B : Header → Type 0 = λ x. later ≡ false
+    → IsFrontNoted mid now (told_behind x (begun x plays h.parts) (round_behind x (begun x plays h.parts))) in
+    any_err c.from_residual.result
+    (breaks_off h (omega (arith, c.loop-done-test.true)) moves (was_long (short c.loop-done.watch) later e.stays)
+    (subst B inv.header (e.broken plays c.args.rounds h.parts own)))

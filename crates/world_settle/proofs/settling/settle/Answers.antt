@@ -1,13 +1,17 @@
-use Rattle.std.proofs.Common.{◌≡◌, ℕ, List, [], ◌∷◌, ◌++◌, replicate, refl, ap, sym, subst, ◌∙◌, append_assoc}
+use Rattle.std.proofs.Common.{◌≡◌, ℕ, false, List, [], ◌∷◌, ◌++◌, replicate, refl, ap, sym, subst, ◌∙◌, append_assoc}
 use Rattle.trace_model.specs.declared.entry.Entry.{Entry}
 use Rattle.trace_model.specs.declared.entry.Entry.TheVariants.{Echo, Settled}
 use Rattle.trace_model.specs.declared.line.Header.{Header}
 use Rattle.trace_model.specs.declared.line.Line.TheVariants as line
-use Rattle.lines_told.specs.lines.Plays.{told_of_rounds}
+use Rattle.lines_told.specs.lines.Plays.{rounds_to_rest, told_of_rounds}
 use Rattle.lines_told.specs.lines.Plays.Play.{Round}
 use Rattle.world.specs.declared.world_steps.World.{World}
 use Rattle.world.specs.Worlds.{IsWorldAt, world_header}
-use Rattle.world_settle.proofs.Going.{own_within, settles_so, under, was_long}
+use Rattle.world.proofs.Histories.{plays_may}
+use Rattle.world.proofs.Playing.{begins_so}
+use Rattle.world_laws.proofs.schedules.Bringing.{brings_all}
+use Rattle.world_settle.specs.Fronts.{IsFrontNoted}
+use Rattle.world_settle.proofs.Going.{any_err, own_within, settles_so, under, was_long}
 use Rattle.world_settle.proofs.settling.settle.Goals as goal
 
 -- one entry is noted, then these, and then those
@@ -59,6 +63,13 @@ returns-clause-stands g c plays at =
     (c.mark-2.ensures.closes plays c.args.rounds z.0 c.in_ok-done.done refl
     (under (world_header w) (world_header last) (sym z.1.within.header_is) z.1))
 
+pub returns-clause-brought : goal.returns-clause-brought
+returns-clause-brought g c plays at =
+    let w : World = c.args.world.now in
+    let begun = begins_so w.below (world_header w) plays at.stands in
+    let may = plays_may (world_header w) w.below plays at.stands in
+    brings_all (world_header w) begun plays may c.args.rounds c.in_ok-done.done (returns-clause-settled g c plays at)
+
 pub returns-clause-noted : goal.returns-clause-noted
 returns-clause-noted g c plays at long =
     let short = g.W.Watch.is_short in
@@ -78,3 +89,27 @@ returns-clause-noted g c plays at long =
     let P : ℕ → Type 0 = λ r.
     noted c.note-2.new.self ≡ noted c.args.watch.now ++ Echo (line.Settle c.args.rounds) ∷ (told_of_rounds header plays r ++ Settled r ∷ []) in
     subst P z.1.rounds_are whole
+
+pub returns-in_err-done-clause-broken : goal.returns-in_err-done-clause-broken
+returns-in_err-done-clause-broken g c plays at =
+    let short = g.W.Watch.is_short in
+    let noted = g.W.Watch.noted in
+    let header : Header = c.args.world.now.header in
+    let n : ℕ = c.args.rounds in
+    let within = c.mark.ensures.opens plays n at refl in
+    let e = c.in_err-done.ensures in
+    let F : Header → Type 0 = λ x.
+    IsFrontNoted (noted c.note.new.self) (noted c.go_rounds.new.watch) (told_of_rounds x plays (rounds_to_rest x plays n)) in
+    let first : Entry = Echo (line.Settle n) in
+    let last : List Entry = Settled (rounds_to_rest header plays n) ∷ [] in
+    let broken : short c.go_rounds.new.watch ≡ false → IsFrontNoted (noted c.args.watch.now) (noted c.go_rounds.new.watch)
+    (first ∷ (told_of_rounds header plays (rounds_to_rest header plays n) ++ last)) = λ long.
+    (let f = subst F within.header_is (e.broken plays (own_within c.mark.new.self header plays n [] within) long) in
+    let begun = was_long (short c.note.new.self) (short c.go_rounds.new.watch) e.stays long in
+    record {
+      front = first ∷ f.front;
+      back = f.back ++ last;
+      now_is = f.now_is ∙ (ap (λ (es : List Entry). es ++ f.front) (c.note.ensures.noted begun) ∙ append_assoc (noted c.args.watch.now) (first ∷ []) f.front);
+      whole_is = ap (λ (es : List Entry). first ∷ (es ++ last)) f.whole_is ∙ ap (λ (es : List Entry). first ∷ es) (append_assoc f.front f.back last);
+    }) in
+    any_err c.from_residual.result broken
