@@ -3,7 +3,6 @@ use Rattle.std.proofs.Common.{◌≡◌, Bool, false, refl, sym, ap, ◌∙◌}
 use Rattle.std.specs.Prelude.{Option, Some, None}
 use Rattle.std.specs.Option.{option_map_or, option_and_then}
 use Rattle.swp_act.specs.declared.ActEvent.{ActEvent}
-use Rattle.swp_act.specs.declared.ActOut.{ActOut}
 use Rattle.swp_act.specs.declared.clf.ClfAct.{ClfAct}
 use Rattle.swp_act.specs.Activation.{is_active, clf_step}
 use Rattle.link_laws.specs.machine.Machine.{LinkEnd, LinkInput, is_open, act_event, act_out, report}

@@ -1,6 +1,6 @@
 -- The steps of a node that runs alone.
 use Rattle.std.proofs.Common.{◌≡◌, ◌≤◌, ◌==◌, ℕ, Bool, true, false, cond, not, List, [], ◌∷◌, length, map, refl, sym, ap, ◌∙◌, subst, arith}
-use Rattle.std.specs.Prelude.{Option, Some, None, option_map, is_some, ◌&&◌, ◌+◌, min, ◌++◌, nat_le, Result, Ok, Err, OnOk, MatchResult}
+use Rattle.std.specs.Prelude.{Option, Some, None, option_map, is_some, ◌&&◌, ◌+◌, min, nat_le, Result, Ok, Err, OnOk, MatchResult}
 use Rattle.std.specs.Option.{option_map_or}
 use Rattle.std.specs.List.{AllByRecursion, flat_map}
 use Rattle.std.proofs.lemmas.Bool.{true≢false, and_right, and_parts, cond_both}
@@ -32,7 +32,7 @@ use Rattle.node_ends.specs.Ends.{has_sent, frame_at}
 use Rattle.node_laws.specs.kept.Books.{hosts_of_ends}
 use Rattle.node_laws.proofs.telling.Keeping.{Keeps, steps_keep, tick_keeps}
 use Rattle.node_core.specs.declared.node.Node.{Node}
-use Rattle.node_core.specs.Running.{RunsAs, BeginsStep, HasStepped, MayStep, SendsOneByOne, between, one_more_error, reset_refusal_at}
+use Rattle.node_core.specs.Running.{RunsAs, BeginsStep, HasStepped, MayStep, between, one_more_error, reset_refusal_at}
 use Rattle.node_core.specs.Bringing.{Brings, Foretells}
 use Rattle.node_core.proofs.Between.{all_one_by_one, kept_alike}
 use Rattle.lone_laws.specs.alone.Lone.{Lone, LoneCause, lone_input, node_input, lone_arrival, lone_port, lone_work, session_with, side_behind, frames_behind}

@@ -4,13 +4,12 @@ use Rattle.std.specs.Prelude.{Some, None}
 use Rattle.swp_base.specs.InMemory.{Memory}
 use Rattle.swp_base.specs.declared.control_frames.Control.{Control}
 use Rattle.link_laws.specs.machine.Machine.{Role, new_link_end}
-use Rattle.node_machine.specs.Parts.{Core, Running}
+use Rattle.node_machine.specs.Parts.{Core}
 use Rattle.node_machine.specs.Node.{new_desk}
 use Rattle.node_core.specs.declared.node.Node.{Node}
 use Rattle.node_core.specs.Booting.{found_in_memory}
 use Rattle.node_core.specs.Running.{RunsAs}
 use Rattle.node_ends.specs.Making.{new_port}
-use Rattle.swp_base.specs.declared.link_terms.Role.{Role as Named}
 use Rattle.swp_base.specs.declared.link_terms.Role.TheVariants.{Clf as ClfName, Uicc as UiccName}
 use Rattle.swp_act.specs.Activation.{new_clf, new_uicc}
 use Rattle.link_laws.specs.machine.Machine.Role.{Clf, Uicc}

@@ -1,6 +1,6 @@
 -- The role of the one end of a node, over what comes to it and over a step.
-use Rattle.std.proofs.Common.{◌≡◌, ◌==◌, ◌++◌, ◌+◌, ℕ, Bool, true, false, cond, List, [], ◌∷◌, map, refl, sym, ap, ◌∙◌, subst}
-use Rattle.std.specs.Prelude.{Option, Some, None, is_some, nat_lt}
+use Rattle.std.proofs.Common.{◌≡◌, ◌==◌, ◌++◌, ◌+◌, ℕ, Bool, true, false, cond, List, [], ◌∷◌, map, refl, sym, ◌∙◌, subst}
+use Rattle.std.specs.Prelude.{Option, Some, None, is_some}
 use Rattle.std.specs.List.{AllByRecursion, flat_map}
 use Rattle.std.proofs.lemmas.Bool.{cond_both}
 use Rattle.swp_base.specs.declared.control_frames.Control.{Control}
@@ -21,7 +21,7 @@ use Rattle.link_laws.specs.machine.Machine.LinkInput.{Take, TakeUnknown, TakeBro
 use Rattle.link_laws.specs.machine.Machine.Turn.{Give, Hold, FetchMessage, SetAside, Release}
 use Rattle.node_machine.specs.Parts.{Desk, Port, Work}
 use Rattle.node_machine.specs.Carrying.{noting, changed_if, with_desk, after_turn, turn_at}
-use Rattle.node_machine.specs.Node.{input_at, has_come, all_come, with_older, is_late, reset_late, times_out, forgotten, is_forgotten, forgets, is_over}
+use Rattle.node_machine.specs.Node.{all_come, with_older, is_late, reset_late, times_out, forgotten, is_forgotten, forgets, is_over}
 use Rattle.node_machine.specs.Node.{all_owed, without_notice, after_sessions, synced, steps}
 use Rattle.node_machine.specs.Node.NodeInput.{AtEnd, TimePasses}
 use Rattle.node_machine.specs.Controller.{asked_at}

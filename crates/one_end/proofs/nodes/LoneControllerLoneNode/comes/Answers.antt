@@ -1,6 +1,6 @@
 -- Something comes to a controller.
 use Rattle.std.proofs.Common.{◌≡◌, ◌∙◌, ◌∷◌, [], true, sym, ap}
-use Rattle.link_laws.specs.machine.Machine.{LinkEnd, Role}
+use Rattle.link_laws.specs.machine.Machine.{LinkEnd}
 use Rattle.link_laws.specs.machine.Machine.Role.{Clf}
 use Rattle.hci_store.specs.Stored.{Stored}
 use Rattle.one_end.specs.Running.{cause_of}
