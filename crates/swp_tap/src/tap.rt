@@ -196,7 +196,9 @@ impl Tap {
         self.body.as_slice()
     }
 
-    /// Takes a frame that a side put on the link, and tells the message that it brings, if any: as `tell` does, with its bytes.
+    /// Takes a frame that a side put on the link, and tells the message that it brings, if any: as `tell` does, with its bytes. Where it takes all
+    /// frames that both ends put on the link from the first one on, and no end loses its power, it tells exactly what they got: that is the law
+    /// `tap_reports_what_was_got` of `world_laws::taps_of_entries`, `taps_of_histories` and `taps_of_worlds`.
     pub fn take(&mut self, from_clf: bool, lpdu: &Lpdu) -> Option<TapMessage>
         requires { self.old.taken < 4294967295 }
         ensures bare { self.new.bare ≡ self.old.bare }

@@ -1,13 +1,12 @@
 -- The facts of each word, from what its command says.
 use Rattle.std.proofs.Common.{◌≡◌, ◌⊎◌, [], ◌∷◌, ◌+◌, ◌<◌, ◌≤◌, ℕ, Bool, true, false, IsTrue, List, length, get_or}
-use Rattle.std.proofs.Common.{refl, sym, ap, ◌∙◌, subst, inl, inr, arith}
+use Rattle.std.proofs.Common.{◌++◌, append_assoc, refl, sym, ap, ◌∙◌, subst, inl, inr, arith}
 use Rattle.std.specs.Prelude.{◌≢◌, ◌↔◌, Some, None, codes}
 use Rattle.swp_base.specs.Outside.{Rose}
 use Rattle.nv_journal.specs.declared.JournalFault.{JournalFault}
 use Rattle.hci_store.specs.Image.{image_fault}
 use Rattle.hci_store.specs.Refusals.{IsOnlyRead}
-use Rattle.swp_words.specs.Ends.{EndForm}
-use Rattle.lone_laws.specs.alone.Ends.EndForm.{OnLine, OnBytes}
+use Rattle.swp_words.specs.Ends.{EndForm, IsTakenMemory, OnLine, OnBytes}
 use Rattle.swp_words.specs.declared.status.Status.{Status}
 use Rattle.swp_words.specs.declared.status.Status.TheVariants as status
 use Rattle.swp_tool.specs.Schedules.{Stop, AtFault, AtMisread, Too_many, schedule_in}
@@ -17,11 +16,14 @@ use Rattle.swp_words.specs.Records.{most_bytes, RecordedBy, IsOfRecord}
 use Rattle.swp_words.specs.Decodings.{DecodedBy}
 use Rattle.swp_words.specs.Taps.{TappedBy, IsOfTap, tap_lines}
 use Rattle.swp_words.specs.Images.{Told, IsOfTables}
-use Rattle.swp_words.specs.Ends.{EndedSo, IsOfEndWord, HasNextGeneration, IsRefusedFor, IsEndCommand, role_word, form_word}
+use Rattle.swp_words.specs.Ends.{AnsweredSo, EndedSo, IsOfEndWord, HasNextGeneration, IsRefusedFor, IsEndCommand, role_word, form_word}
 use Rattle.swp_tool.specs.Generated.{IsGen, Generated, IsOfGen}
 use Rattle.swp_tool.specs.Runs.{status_at, AppendsText, Replayed, IsOfReplay, IsReplay, IsDecode, IsTap, IsTables}
 use Rattle.swp_tool.specs.Words.{RunSource, RunSink, RunMemory, IsReplayRun, IsDecodeRun, IsTapRun, IsTablesRun, IsGenRun, IsEndRun}
 use Rattle.swp_words.proofs.Outcomes.{more_came}
+use Rattle.swp_words.proofs.Tapped.{known_reports}
+use Rattle.world_laws.specs.histories.Tapping.{gots_on, lpdus_on}
+use Rattle.world_laws.proofs.tapped_worlds.OnLinks.{taps_tell}
 
 -- ## A replay
 
@@ -86,7 +88,11 @@ module _ (lines : List ℕ → List ℕ) (tells : Bool) (given : ℕ) (input lef
       → ¬ (s ≡ status.ReadFault) → ¬ (s ≡ status.WriteFault) → s ≡ status.Done
   complete_record status.Done h few read write = refl
   complete_record (status.TooMany count) h few read write =
-      let more = more_came h.1.bytes h.1.rest input h.1.byte h.1.input_is h.1.most in absurd (omega (arith, more, few))
+      let t = h.1.too_many in
+      let is : input ≡ t.bytes ++ t.byte ∷ (t.rest ++ left) =
+      h.1.input_is ∙ (ap (λ l. l ++ left) t.read_is ∙ append_assoc t.bytes (t.byte ∷ t.rest) left) in
+      let more = more_came t.bytes (t.rest ++ left) input t.byte is t.most in
+      absurd (omega (arith, more, few))
   complete_record status.ReadFault h few read write = absurd (read refl)
   complete_record status.WriteFault h few read write = absurd (write refl)
   complete_record status.NoMemory h few read write = absurd h
@@ -151,6 +157,11 @@ pub tap_run : {S K : Type 0} (bare : Bool) (source : RunSource S) (sink : RunSin
 tap_run bare source sink s tapped ending ahead read write =
     record {
       tapped = tapped;
+      got = λ tells done h t are frames told.
+          (subst (λ (z : Status). TappedBy bare sink.tells (source.end source.new).given z (source.left source.old) (source.left source.new)
+          (sink.written sink.old) (sink.written sink.new)) done (tapped tells)).2 told
+          ∙ ap (λ (l : List ℕ). sink.written sink.old ++ l)
+          (known_reports bare (source.left source.old) (lpdus_on h t) (gots_on h t) frames (taps_tell bare h t are));
       ending = ending;
       complete = λ tells few r w.
           or_for_want (λ h. complete_record _ sink.tells _ (source.left source.old) _ _ _ s h few (λ q. r (read q)) (λ q. w (write q)))
@@ -248,6 +259,9 @@ pub end_run : {S K N : Type 0} (is_clf : Bool) (form : EndForm) (source : RunSou
     → (IsTrue source.tells → IsTrue memory.tells
     → EndedSo memory.reads memory.writes memory.content sink.tells (source.end source.new).given form is_clf memory.old memory.new s
     (source.left source.old) (source.left source.new) (sink.written sink.old) (sink.written sink.new))
+    → (IsTrue source.tells → IsTrue memory.tells → IsTakenMemory (memory.content memory.old)
+    → AnsweredSo sink.tells form is_clf (memory.content memory.old) (memory.content memory.new) s
+    (source.left source.old) (source.left source.new) (sink.written sink.old) (sink.written sink.new))
     → IsOfEndWord s
     → (IsTrue memory.tells → (f : JournalFault) → image_fault (memory.content memory.old) ≡ Some f
     → ¬ Rose (memory.faults memory.old) (memory.faults memory.new) → (s ≡ status.BadImage f) ⊎ (s ≡ status.NoMemory))
@@ -266,9 +280,10 @@ pub end_run : {S K N : Type 0} (is_clf : Bool) (form : EndForm) (source : RunSou
     → (s ≡ status.TooMany 16777217) ⊎ (s ≡ status.NoMemory))
     → (IsTrue source.tells → IsTrue memory.tells → length (source.left source.old) ≤ most_bytes + 4096 + length (source.left source.new))
     → IsEndRun is_clf form source sink memory s
-end_run is_clf form source sink memory s ended ending bad_image refuses untouched never_begins unwritten complete refused ahead =
+end_run is_clf form source sink memory s ended answered ending bad_image refuses untouched never_begins unwritten complete refused ahead =
     record {
       ended = ended;
+      answered = answered;
       ending = ending;
       bad_image = bad_image;
       refuses = refuses;

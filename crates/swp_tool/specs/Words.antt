@@ -1,11 +1,11 @@
 -- What a run promises of each word: a record of its facts, one field for each.
-use Rattle.std.specs.Prelude.{◌≡◌, ◌≢◌, ◌⊎◌, ◌↔◌, ◌+◌, ◌≤◌, ◌<◌, ℕ, Bool, IsTrue, List, length, Some, None}
+use Rattle.std.specs.Prelude.{◌≡◌, ◌≢◌, ◌⊎◌, ◌↔◌, ◌++◌, ◌+◌, ◌≤◌, ◌<◌, ℕ, Bool, IsTrue, List, length, Some, None}
 use Rattle.swp_base.specs.declared.outside.EndOfInput.{EndOfInput}
 use Rattle.swp_base.specs.Outside.{Rose}
 use Rattle.nv_journal.specs.declared.JournalFault.{JournalFault}
 use Rattle.hci_store.specs.Image.{image_fault}
 use Rattle.hci_store.specs.Refusals.{IsOnlyRead}
-use Rattle.swp_words.specs.Ends.{EndForm}
+use Rattle.swp_words.specs.Ends.{EndForm, IsTakenMemory}
 use Rattle.swp_words.specs.declared.status.Status.{Status}
 use Rattle.swp_words.specs.declared.status.Status.TheVariants as status
 use Rattle.swp_tool.specs.Schedules.{Stop, schedule_in}
@@ -13,9 +13,12 @@ use Rattle.swp_tool.specs.Transcripts.{TellsPlayed}
 use Rattle.swp_tool.specs.Pieces.{IsReadAhead}
 use Rattle.swp_words.specs.Records.{most_bytes, IsOfRecord}
 use Rattle.swp_words.specs.Decodings.{DecodedBy}
-use Rattle.swp_words.specs.Taps.{TappedBy, IsOfTap}
+use Rattle.swp_words.specs.Taps.{TappedBy, IsOfTap, gots_written, record_frames}
+use Rattle.world_laws.specs.histories.OnLinks.{AreOfLink}
+use Rattle.world_laws.specs.histories.Tapping.{gots_on, lpdus_on}
+use Rattle.trace_model.specs.declared.entry.Entry.{Entry}
 use Rattle.swp_words.specs.Images.{Told, IsOfTables}
-use Rattle.swp_words.specs.Ends.{EndedSo, IsOfEndWord, HasNextGeneration, IsRefusedFor}
+use Rattle.swp_words.specs.Ends.{AnsweredSo, EndedSo, IsOfEndWord, HasNextGeneration, IsRefusedFor}
 use Rattle.swp_tool.specs.Generated.{Generated, IsOfGen}
 use Rattle.swp_tool.specs.Runs.{status_at, AppendsText, Replayed, IsOfReplay}
 
@@ -103,6 +106,11 @@ pub record IsDecodeRun {S K : Type 0} (source : RunSource S) (sink : RunSink K) 
 pub record IsTapRun {S K : Type 0} (bare : Bool) (source : RunSource S) (sink : RunSink K) (s : Status) : Type 0 where
   pub tapped : IsTrue source.tells → TappedBy bare sink.tells (source.end source.new).given s (source.left source.old) (source.left source.new)
       (sink.written sink.old) (sink.written sink.new)
+  -- So what is written is what the ends got: where the frames of the record are those that both ends of such a link put on it in a history that
+  -- follows a schedule, from its beginning to the end of an event, and no node of the link lost its power until then.
+  pub got : IsTrue source.tells → s ≡ status.Done → (h : ℕ) (t : List Entry) → AreOfLink bare h t →
+      record_frames (source.left source.old) ≡ lpdus_on h t → IsTrue sink.tells →
+      sink.written sink.new ≡ sink.written sink.old ++ gots_written (gots_on h t) (length (source.left source.old))
   pub ending : IsOfTap s
   -- as with `decode`, unless there is no memory for the tap
   pub complete : IsTrue source.tells → length (source.left source.old) ≤ most_bytes →
@@ -140,6 +148,10 @@ pub record IsEndRun {S K N : Type 0} (is_clf : Bool) (form : EndForm) (source : 
   -- node alone. The memory is then so as that node left it.
   pub ended : IsTrue source.tells → IsTrue memory.tells →
       EndedSo memory.reads memory.writes memory.content sink.tells (source.end source.new).given form is_clf memory.old memory.new s
+      (source.left source.old) (source.left source.new) (sink.written sink.old) (sink.written sink.new)
+  -- Over a memory that a boot takes every message that came was answered, nothing else was, and the memory keeps the commands that were committed.
+  pub answered : IsTrue source.tells → IsTrue memory.tells → IsTakenMemory (memory.content memory.old) →
+      AnsweredSo sink.tells form is_clf (memory.content memory.old) (memory.content memory.new) s
       (source.left source.old) (source.left source.new) (sink.written sink.old) (sink.written sink.new)
   pub ending : IsOfEndWord s
   -- A memory with a fault is refused for that fault, unless there is no memory for the node, or a read of the boot failed before.

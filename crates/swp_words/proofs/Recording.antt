@@ -11,7 +11,8 @@ use Rattle.swp_decode.specs.declared.line.Wire.TheVariants.{S1, S2}
 use Rattle.swp_decode.specs.Kept.{DecoderStandsFor}
 use Rattle.swp_words.specs.declared.status.Status.{Status}
 use Rattle.swp_words.specs.declared.status.Status.TheVariants as status
-use Rattle.swp_words.specs.Records.{most_bytes, piece_of, whole_record, IsGathered, IsFront, IsFrontOfSome, IsBrokenOff, EndedIn, RecordedBy, HasRecorded}
+use Rattle.swp_words.specs.Records.{most_bytes, piece_of, whole_record, IsGathered, IsFront, IsFrontOfSome, IsFrontOfWhole, IsBrokenOff}
+use Rattle.swp_words.specs.Records.{EndedIn, RecordedBy, HasRecorded}
 use Rattle.swp_words.specs.Decodings.{IsDecoding}
 use Rattle.swp_words.proofs.Taken.{behind}
 
@@ -126,11 +127,12 @@ pub front_of_some : {lines : List ℕ → List ℕ} {tells : Bool} {earlier befo
     → IsFront tells (length (lines earlier)) (lines bytes) before after → IsFrontOfSome lines tells earlier (bytes ++ rest) before after
 front_of_some bytes rest front = record { bytes = bytes; rest = rest; input_is = refl; front = front }
 
--- how reading a piece ended, said of the whole
+-- how reading a piece ended, said of the whole: the piece comes behind earlier bytes, and before what is left
 pub ended_in : (lines : List ℕ → List ℕ) (tells : Bool) (given : ℕ) (why : Status) (earlier : List ℕ) {input : List ℕ} (piece left before after : List ℕ)
     → input ≡ earlier ++ (piece ++ left) → length piece ≤ 8192 → length piece ≤ given
-    → EndedIn lines tells why earlier input before after → RecordedBy lines tells given why input left before after
-ended_in lines tells given (status.TooMany count) earlier piece left before after is few at_once h = h
+    → EndedIn lines tells why earlier (earlier ++ piece) before after → RecordedBy lines tells given why input left before after
+ended_in lines tells given (status.TooMany count) earlier piece left before after is few at_once h =
+    (h.0, record { read = earlier ++ piece; input_is = is ∙ sym (append_assoc earlier piece left); too_many = h.1 })
 ended_in lines tells given status.WriteFault earlier piece left before after is few at_once h =
     record { earlier = earlier; piece = piece; input_is = is; few = few; at_once = at_once; front = inl h }
 ended_in lines tells given status.Done earlier piece left before after is few at_once h = absurd h
@@ -151,7 +153,7 @@ broken_off_at_end lines tells given input before after few front = record {
   input_is = sym (append-nil input);
   few = omega arith;
   at_once = omega arith;
-  front = inr (record { few = few; front = front });
+  front = inr (refl, subst (λ l. IsFrontOfWhole lines tells input l before after) (sym (append-nil input)) (record { few = few; front = front }));
 }
 
 -- before the first byte

@@ -4,7 +4,9 @@ use Rattle.swp_base.specs.declared.control_frames.Control.{Control}
 use Rattle.lone_laws.specs.alone.Lone.{Lone}
 pub use Rattle.lone_laws.specs.alone.Ends.{EndForm}
 pub use Rattle.one_end.specs.Writing.{form_named}
-use Rattle.lone_laws.specs.alone.Ends.EndForm.{OnLine, OnBytes}
+pub use Rattle.lone_laws.specs.alone.Ends.EndForm.{OnLine, OnBytes}
+pub use Rattle.lone_laws.specs.alone.Memories.{IsTakenMemory}
+use Rattle.lone_laws.specs.alone.Runs.{IsAnsweredRun}
 use Rattle.journal_laws.specs.Writes.{AreRead}
 use Rattle.journal_laws.specs.Journal.{journal}
 use Rattle.hci_store.specs.Image.{image_fault}
@@ -290,6 +292,32 @@ EndedSo reads writes content tells given form is_clf old new status.NvFault inpu
     ⊎ BootedAndRan reads writes content tells given form is_clf old new status.NvFault input left before after
 EndedSo reads writes content tells given form is_clf old new s input left before after =
     BootedAndRan reads writes content tells given form is_clf old new s input left before after
+
+-- These are the bytes that came, or all that came before the run ended: every message in them was answered, nothing else was, and at the end the
+-- memory keeps the commands that are noted (`IsAnsweredRun`). What the node wrote for them went out, or a front of it where a write failed.
+pub record IsAnsweredEnd (tells : Bool) (form : EndForm) (is_clf : Bool) (old new : List ℕ) (s : Status) (input before after : List ℕ) : Type 0 where
+  pub bytes : List ℕ
+  pub behind : List ℕ
+  pub input_is : input ≡ bytes ++ behind
+  pub all_came : s ≡ status.Done → behind ≡ []
+  pub stopped : Bool
+  pub runs : s ≡ status.Done → stopped ≡ false
+  pub written : List ℕ
+  pub answered : IsAnsweredRun old new stopped form is_clf bytes written
+  pub n : ℕ
+  pub went_out : (s ≡ status.WriteFault) ⊎ (n ≡ length written)
+  pub after_is : IsTrue tells → after ≡ before ++ take n written
+
+-- So it is with a run that ended in this way. Where its boot didn't go through, nothing was read or written of the link.
+abbrev pub AnsweredSo : Bool → EndForm → Bool → List ℕ → List ℕ → Status → List ℕ → List ℕ → List ℕ → List ℕ → Type 0
+AnsweredSo tells form is_clf old new status.Done input left before after = IsAnsweredEnd tells form is_clf old new status.Done input before after
+AnsweredSo tells form is_clf old new status.ReadFault input left before after = IsAnsweredEnd tells form is_clf old new status.ReadFault input before after
+AnsweredSo tells form is_clf old new status.WriteFault input left before after = IsAnsweredEnd tells form is_clf old new status.WriteFault input before after
+AnsweredSo tells form is_clf old new (status.TooMany count) input left before after =
+    IsAnsweredEnd tells form is_clf old new (status.TooMany count) input before after
+AnsweredSo tells form is_clf old new status.NvFault input left before after =
+    IsNothingDone tells input left before after ⊎ IsAnsweredEnd tells form is_clf old new status.NvFault input before after
+AnsweredSo tells form is_clf old new s input left before after = IsNothingDone tells input left before after
 
 -- how a run ends whose boot was refused, for this fault or without memory
 abbrev pub status_of_boot : Option JournalFault → Status

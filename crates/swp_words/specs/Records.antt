@@ -55,24 +55,32 @@ pub record IsFrontOfSome (lines : List ℕ → List ℕ) (tells : Bool) (earlier
   pub input_is : input ≡ bytes ++ rest
   pub front : IsFront tells (length (lines earlier)) (lines bytes) before after
 
--- A write failed: a front of what is written for the input was written. Of what was read, where this is left, all but the piece in
--- hand, of at most 8,192 bytes and no more than the last read gave, had been read and its lines written before.
+-- A write failed: a front of what is written for the bytes that were read was written. Of these, behind which this is left, all but the
+-- piece in hand, of at most 8,192 bytes and no more than the last read gave, had been read and its lines written before. The number of the
+-- bytes is written only where all of the input was read.
 pub record IsBrokenOff (lines : List ℕ → List ℕ) (tells : Bool) (given : ℕ) (input left before after : List ℕ) : Type 0 where
   pub earlier : List ℕ
   pub piece : List ℕ
   pub input_is : input ≡ earlier ++ (piece ++ left)
   pub few : length piece ≤ 8192
   pub at_once : length piece ≤ given
-  pub front : IsFrontOfSome lines tells earlier input before after ⊎ IsFrontOfWhole lines tells earlier input before after
+  pub front : IsFrontOfSome lines tells earlier (earlier ++ piece) before after
+      ⊎ ((left ≡ []) × IsFrontOfWhole lines tells earlier (earlier ++ piece) before after)
 
--- one byte more than a record may have came, and the lines of those before it were written
-pub record IsTooLong (lines : List ℕ → List ℕ) (tells : Bool) (input before after : List ℕ) : Type 0 where
+-- one byte more than a record may have is among these, and the lines of those before it were written
+pub record HasTooMany (lines : List ℕ → List ℕ) (tells : Bool) (read before after : List ℕ) : Type 0 where
   pub bytes : List ℕ
   pub byte : ℕ
   pub rest : List ℕ
-  pub input_is : input ≡ bytes ++ byte ∷ rest
+  pub read_is : read ≡ bytes ++ byte ∷ rest
   pub most : length bytes ≡ most_bytes
   pub after_is : IsTrue tells → after ≡ before ++ lines bytes
+
+-- so it is with the bytes that were read, behind which this is left
+pub record IsTooLong (lines : List ℕ → List ℕ) (tells : Bool) (input left before after : List ℕ) : Type 0 where
+  pub read : List ℕ
+  pub input_is : input ≡ read ++ left
+  pub too_many : HasTooMany lines tells read before after
 
 -- the lines of all bytes that were read were written, and these weren't too many
 pub record IsCutOff (lines : List ℕ → List ℕ) (tells : Bool) (input left before after : List ℕ) : Type 0 where
@@ -82,12 +90,12 @@ pub record IsCutOff (lines : List ℕ → List ℕ) (tells : Bool) (input left b
   pub after_is : IsTrue tells → after ≡ before ++ lines bytes
 
 -- How reading a record ended, of this input. On Done all of its text was written; where reading failed or the record was too long,
--- the lines of what was read before; where writing failed, a front, all of the pieces before the last among it. Whether the sink
+-- the lines of what was read before; where writing failed, a front of these, all of the pieces before the last among it. Whether the sink
 -- tells what was written comes behind the lines, and then how many bytes the last read gave that gave some.
 abbrev pub RecordedBy : (List ℕ → List ℕ) → Bool → ℕ → Status → List ℕ → List ℕ → List ℕ → List ℕ → Type 0
 RecordedBy lines tells given status.Done input left before after =
     (left ≡ []) × (length input ≤ most_bytes) × (IsTrue tells → after ≡ before ++ whole_record lines input)
-RecordedBy lines tells given (status.TooMany count) input left before after = (count ≡ 16777217) × IsTooLong lines tells input before after
+RecordedBy lines tells given (status.TooMany count) input left before after = (count ≡ 16777217) × IsTooLong lines tells input left before after
 RecordedBy lines tells given status.ReadFault input left before after = IsCutOff lines tells input left before after
 RecordedBy lines tells given status.WriteFault input left before after = IsBrokenOff lines tells given input left before after
 RecordedBy lines tells given status.NoMemory input left before after = ⊥
@@ -97,18 +105,18 @@ RecordedBy lines tells given (status.Undetected line) input left before after = 
 RecordedBy lines tells given status.NvFault input left before after = ⊥
 RecordedBy lines tells given (status.BadImage why) input left before after = ⊥
 
--- How reading a piece ended it, behind earlier bytes: the record is too long, or a write failed.
+-- How reading a piece ended it, behind earlier bytes: these were read then, and the record is too long, or a write failed.
 abbrev pub EndedIn : (List ℕ → List ℕ) → Bool → Status → List ℕ → List ℕ → List ℕ → List ℕ → Type 0
-EndedIn lines tells (status.TooMany count) earlier input before after = (count ≡ 16777217) × IsTooLong lines tells input before after
-EndedIn lines tells status.WriteFault earlier input before after = IsFrontOfSome lines tells earlier input before after
-EndedIn lines tells status.Done earlier input before after = ⊥
-EndedIn lines tells status.ReadFault earlier input before after = ⊥
-EndedIn lines tells status.NoMemory earlier input before after = ⊥
-EndedIn lines tells status.BadWords earlier input before after = ⊥
-EndedIn lines tells (status.BadSchedule line why) earlier input before after = ⊥
-EndedIn lines tells (status.Undetected line) earlier input before after = ⊥
-EndedIn lines tells status.NvFault earlier input before after = ⊥
-EndedIn lines tells (status.BadImage why) earlier input before after = ⊥
+EndedIn lines tells (status.TooMany count) earlier read before after = (count ≡ 16777217) × HasTooMany lines tells read before after
+EndedIn lines tells status.WriteFault earlier read before after = IsFrontOfSome lines tells earlier read before after
+EndedIn lines tells status.Done earlier read before after = ⊥
+EndedIn lines tells status.ReadFault earlier read before after = ⊥
+EndedIn lines tells status.NoMemory earlier read before after = ⊥
+EndedIn lines tells status.BadWords earlier read before after = ⊥
+EndedIn lines tells (status.BadSchedule line why) earlier read before after = ⊥
+EndedIn lines tells (status.Undetected line) earlier read before after = ⊥
+EndedIn lines tells status.NvFault earlier read before after = ⊥
+EndedIn lines tells (status.BadImage why) earlier read before after = ⊥
 
 -- how reading a record can end, whatever it reads
 abbrev pub IsOfRecord : Status → Type 0

@@ -1,8 +1,9 @@
 -- What a tap has read and written.
 use Rattle.std.specs.Prelude.{◌≡◌, ℕ, ◌*◌, ◌≤◌, Bool, true, false, IsTrue, List, ◌∷◌, [], ◌++◌, length, reverse, codes, decimal}
 use Rattle.std.specs.List.{flat_map}
+use Rattle.swp_decode.specs.Decoded.{last_line}
 use Rattle.swp_decode.specs.Texts.{hex_of, line_feed}
-use Rattle.swp_decode.specs.Frames.{record_frames}
+pub use Rattle.swp_decode.specs.Frames.{record_frames}
 use Rattle.swp_decode.specs.Kept.{DecoderStandsFor}
 use Rattle.tap_reading.specs.Tap.{TapReport}
 use Rattle.tap_reading.specs.Lpdus.{tapped_lpdus}
@@ -35,6 +36,10 @@ report_lines bare frames = flat_map report_line (tapped_lpdus bare frames)
 -- what it reports of the frames of a record
 abbrev pub tap_lines : Bool → List ℕ → List ℕ
 tap_lines bare bytes = report_lines bare (record_frames bytes)
+
+-- what is written where these messages were got, of a record of so many bytes
+abbrev pub gots_written : List TapReport → ℕ → List ℕ
+gots_written gots count = flat_map report_line gots ++ last_line count
 
 -- A tap has heard these frames: what was written and what is gathered is what it reports of them.
 pub record HasHeard (bare tells : Bool) (tap : TapValue) (gathered : List ℕ) (least : ℕ) (frames : List (Bool × List ℕ)) (before after : List ℕ)

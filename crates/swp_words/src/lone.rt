@@ -8,10 +8,11 @@ ghost use Rattle.hci_store.specs.Refusals.{IsOnlyRead};
 ghost use Rattle.nv_journal.specs.declared.JournalFault.{JournalFault as Bad};
 ghost use Rattle.swp_words.specs.Records.{most_bytes};
 ghost use Rattle.lone_laws.specs.alone.Lone.{Lone};
+ghost use Rattle.lone_laws.specs.alone.Memories.{IsTakenMemory};
 ghost use Rattle.one_end.specs.Standing.{StandsAlone, HasRun, HasBooted};
 ghost use Rattle.swp_words.specs.Ends.{Began, HasHeardAlone, IsWaitingAlone, IsCutAlone, HasGoneOut, EndedInBytes, IsOfEnd, IsOfLone, RanSo, EndedSo};
 ghost use Rattle.swp_words.specs.Ends.{IsOfEndWord, status_of_boot};
-ghost use Rattle.swp_words.specs.Ends.{HasNextGeneration, IsRefusedFor};
+ghost use Rattle.swp_words.specs.Ends.{AnsweredSo, HasNextGeneration, IsRefusedFor};
 ghost use Rattle.one_end.specs.Writing.{form_named};
 
 use crate::driver::{Job, drive};
@@ -319,6 +320,8 @@ pub fn run_end<S: Source, K: Sink, N: Nv + Drop>(
     ensures ended { IsTrue S.tells → IsTrue N.tells → EndedSo N.reads N.writes N.content K.tells (S.end source.new).given
         (form_named asked.form) asked.is_clf nv result.nv
         result.status (S.left source.old) (S.left source.new) (K.written sink.old) (K.written sink.new) }
+    ensures answered { IsTrue S.tells → IsTrue N.tells → IsTakenMemory (N.content nv) → AnsweredSo K.tells (form_named asked.form) asked.is_clf
+        (N.content nv) (N.content result.nv) result.status (S.left source.old) (S.left source.new) (K.written sink.old) (K.written sink.new) }
     ensures ahead { IsTrue S.tells → IsTrue N.tells → length (S.left source.old) ≤ most_bytes + 4096 + length (S.left source.new) }
     ensures image { IsTrue N.tells → (f : Bad) → image_fault (N.content nv) ≡ Some f → ¬ Rose (N.faults nv) (N.faults result.nv)
         → (result.status ≡ Status.BadImage f) ⊎ (result.status ≡ Status.NoMemory) }

@@ -1,1 +1,2 @@
 pub mod Tapping
+pub mod OnLinks

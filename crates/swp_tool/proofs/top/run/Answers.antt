@@ -42,7 +42,7 @@ returns-in-Some-clause-end g c =
     (run_source g.S.Source.tells g.S.Source.left g.S.Source.end g.S.Source.faults c.args.source.now c.run_end.new.source)
     (run_sink g.K.Sink.tells g.K.Sink.written g.K.Sink.faults c.args.sink.now c.run_end.new.sink)
     (run_memory g.N.Nv.tells g.N.Nv.content g.N.Nv.faults g.N.Nv.reads g.N.Nv.writes c.args.nv c.run_end.result.nv) c.run_end.result.status
-    c.run_end.ensures.ended c.run_end.ensures.kind c.run_end.ensures.image c.run_end.ensures.refuses c.run_end.ensures.untouched
+    c.run_end.ensures.ended c.run_end.ensures.answered c.run_end.ensures.kind c.run_end.ensures.image c.run_end.ensures.refuses c.run_end.ensures.untouched
     c.run_end.ensures.never_begins c.run_end.ensures.unwritten c.run_end.ensures.complete c.run_end.ensures.too_many c.run_end.ensures.ahead)
 
 pub returns-then-is_word-clause-replay : goal.returns-then-is_word-clause-replay

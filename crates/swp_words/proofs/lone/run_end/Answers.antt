@@ -1,6 +1,9 @@
 -- One node runs alone over a memory.
-use Rattle.std.proofs.Common.{true, false}
+use Rattle.std.proofs.Common.{Bool, true, false, subst, sym}
+use Rattle.swp_words.specs.declared.status.Status.{Status}
+use Rattle.swp_words.specs.Ends.{AnsweredSo}
 use Rattle.one_end.specs.Writing.{form_named}
+use Rattle.swp_words.proofs.Answered.{end_answered}
 use Rattle.swp_words.proofs.Outcomes.{complete_ended, too_many_ended}
 use Rattle.swp_words.proofs.lone.run_end.Goals as goal
 
@@ -57,3 +60,35 @@ returns-then-asked-clause-unwritten g c = c.run_controller.ensures.unwritten
 
 pub returns-else-asked-clause-unwritten : goal.returns-else-asked-clause-unwritten
 returns-else-asked-clause-unwritten g c = c.run_host.ensures.unwritten
+
+pub returns-then-asked-clause-answered : goal.returns-then-asked-clause-answered
+returns-then-asked-clause-answered g c told tells taken =
+    let nv = c.args.nv in
+    let new = c.run_controller.result.nv in
+    let s : Status = c.run_controller.result.status in
+    let input = g.S.Source.left c.args.source.now in
+    let left = g.S.Source.left c.run_controller.new.source in
+    let before = g.K.Sink.written c.args.sink.now in
+    let after = g.K.Sink.written c.run_controller.new.sink in
+    let A : Bool → Type 0 = λ b.
+    AnsweredSo g.K.Sink.tells (form_named c.args.asked.form) b (g.N.Nv.content nv) (g.N.Nv.content new) s input left before after in
+    subst A (sym c.if-asked.true)
+    (end_answered g.N.Nv.reads g.N.Nv.writes g.N.Nv.content (λ m at sent ok n step. g.met.N.Nv.told m at sent ok n tells step) g.K.Sink.tells
+    (g.S.Source.end c.run_controller.new.source).given (form_named c.args.asked.form) true nv new input left before after taken s
+    (c.run_controller.ensures.ended told tells))
+
+pub returns-else-asked-clause-answered : goal.returns-else-asked-clause-answered
+returns-else-asked-clause-answered g c told tells taken =
+    let nv = c.args.nv in
+    let new = c.run_host.result.nv in
+    let s : Status = c.run_host.result.status in
+    let input = g.S.Source.left c.args.source.now in
+    let left = g.S.Source.left c.run_host.new.source in
+    let before = g.K.Sink.written c.args.sink.now in
+    let after = g.K.Sink.written c.run_host.new.sink in
+    let A : Bool → Type 0 = λ b.
+    AnsweredSo g.K.Sink.tells (form_named c.args.asked.form) b (g.N.Nv.content nv) (g.N.Nv.content new) s input left before after in
+    subst A (sym c.if-asked.false)
+    (end_answered g.N.Nv.reads g.N.Nv.writes g.N.Nv.content (λ m at sent ok n step. g.met.N.Nv.told m at sent ok n tells step) g.K.Sink.tells
+    (g.S.Source.end c.run_host.new.source).given (form_named c.args.asked.form) false nv new input left before after taken s
+    (c.run_host.ensures.ended told tells))

@@ -1,4 +1,4 @@
-use Rattle.std.proofs.Common.{◌∙◌, sym, append_assoc, subst, length}
+use Rattle.std.proofs.Common.{[], ◌++◌, append-nil, subst, length}
 use Rattle.swp_words.specs.Records.{EndedIn}
 use Rattle.swp_words.proofs.Recording.{ended_in, piece_fits}
 use Rattle.swp_words.proofs.records.RecordingJob.take.Goals as goal
@@ -10,5 +10,5 @@ returns-in-Err-clause-ends g c given o input rest before at_once h =
     let after = g.K.Sink.written c.take_all.new.sink in
     ended_in lines g.K.Sink.tells given c.in-Err.status h.bytes piece rest before after h.input_is
     (piece_fits (g.R.RecordReader.count c.args.self.now.reader) (length piece) c.requires.size) at_once
-    (subst (λ l. EndedIn lines g.K.Sink.tells c.in-Err.status h.bytes l before after) (append_assoc h.bytes piece rest ∙ sym h.input_is)
-    (c.in-Err.ensures.ends h.bytes h.bytes rest before h.reading))
+    (subst (λ l. EndedIn lines g.K.Sink.tells c.in-Err.status h.bytes l before after) (append-nil (h.bytes ++ piece))
+    (c.in-Err.ensures.ends h.bytes h.bytes [] before h.reading))
