@@ -1,4 +1,7 @@
 //! What a program does before all else, and the words that it is given.
+ghost use Rattle.std.specs.Prelude.{pos, ◌≤ℤ◌, IfSome};
+ghost use Rattle.std.specs.Fd.{file_raw_fd};
+
 use std::env::{self, Env};
 use std::fs::{File, Files};
 use std::io;
@@ -21,8 +24,12 @@ pub struct KeptOpen {
 
 /// Begins a program. So that no file that it opens later is taken for a standard stream, each of the three that is closed is
 /// opened, and a read of it or a write to it fails as before. So much of the stack as a run may need is touched, so that a stack
-/// that can't grow so far ends the program here, before it has begun.
-pub fn begin<R: Files<File = File>>(files: &R) -> KeptOpen {
+/// that can't grow so far ends the program here, before it has begun. What is kept open stands in the place of a standard stream, 0 to 2.
+pub fn begin<R: Files<File = File>>(files: &R) -> KeptOpen
+    ensures first { IfSome result.first (λ file. file_raw_fd file ≤ℤ pos 2) }
+    ensures second { IfSome result.second (λ file. file_raw_fd file ≤ℤ pos 2) }
+    ensures third { IfSome result.third (λ file. file_raw_fd file ≤ℤ pos 2) }
+{
     // The system gives the lowest number that is free.
     let kept = KeptOpen {
         first: open_low(files),
@@ -36,7 +43,9 @@ pub fn begin<R: Files<File = File>>(files: &R) -> KeptOpen {
 }
 
 /// Opens the lowest number that is free, where it is one of the three.
-fn open_low<R: Files<File = File>>(files: &R) -> Option<File> {
+fn open_low<R: Files<File = File>>(files: &R) -> Option<File>
+    ensures { IfSome result (λ file. file_raw_fd file ≤ℤ pos 2) }
+{
     match File::open(files, NOTHING) {
         Ok(file) if file.as_raw_fd() <= 2 => Some(file),
         _ => None,
