@@ -19,5 +19,5 @@ taps_tell true h t are =
     (tap_reports_history are.header are.lines are.history are.valid are.follows are.front are.back are.events_are))
 taps_tell false h t are =
     subst (λ (es : List Entry). tapped_lpdus false (lpdus_on h es) ≡ gots_on h es) (sym are.entries_are)
-    (tap_reports_world are.header are.lines are.history are.follows (hosts_are are.header are.nodes) (playable are.header are.lines are.valid) are.front are.back
-    are.events_are h (subst (λ (es : List Entry). list_any (cuts_on h) es ≡ false) are.entries_are are.uncut))
+    (tap_reports_world are.header are.lines are.history are.follows (hosts_are are.header are.nodes) (playable are.header are.lines are.valid)
+    are.front are.back are.events_are h (subst (λ (es : List Entry). list_any (cuts_on h) es ≡ false) are.entries_are are.uncut))
