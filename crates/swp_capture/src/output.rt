@@ -24,7 +24,10 @@ pub struct Output {
 
 impl Output {
     /// No byte.
-    pub fn new() -> Self {
+    pub fn new() -> Self
+        ensures waiting { result.len ≡ 0 }
+        ensures left { result.left ≡ 16777216 }
+    {
         Output {
             bytes: [0; ROOM],
             len: 0,

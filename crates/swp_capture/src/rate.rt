@@ -1,5 +1,5 @@
 //! The rate of a line from the first changes of its capture.
-ghost use Rattle.std.specs.Prelude.{◌<◌, ◌≤◌, ◌^◌, IfSome};
+ghost use Rattle.std.specs.Prelude.{◌≡◌, ◌==◌, ◌||◌, ◌<◌, ◌≤◌, ◌^◌, ◌++◌, ◌∷◌, [], length, slice_get, unwrap_or, IfSome, Some, None};
 
 use arrayvec::ArrayVec;
 use line_capture::Change;
@@ -28,7 +28,10 @@ pub struct Search {
 
 impl Search {
     /// No change yet.
-    pub fn new() -> Self {
+    pub fn new() -> Self
+        ensures changes { result.changes.items ≡ [] }
+        ensures periods { result.periods.items ≡ [] }
+    {
         Search {
             changes: ArrayVec::new(),
             periods: ArrayVec::new(),
@@ -39,25 +42,34 @@ impl Search {
     }
 
     /// Whether enough is known, or no more is kept.
-    pub fn is_over(&self) -> bool {
+    pub fn is_over(&self) -> bool
+        ensures { result ≡ (length self.now.periods.items == 64 || length self.now.changes.items == 1024) }
+    {
         self.periods.is_full() || self.changes.is_full()
     }
 
     /// How many changes are kept.
-    pub fn count(&self) -> usize {
+    pub fn count(&self) -> usize
+        ensures { result ≡ length self.now.changes.items }
+    {
         self.changes.len()
     }
 
     /// The change with this number, from 0.
-    pub fn change_at(&self, at: usize) -> Option<Change> {
+    pub fn change_at(&self, at: usize) -> Option<Change>
+        ensures { result ≡ unwrap_or (slice_get self.now.changes.items at) None }
+    {
         match self.changes.as_slice().get(at) {
             Some(kept) => *kept,
             None => None,
         }
     }
 
-    /// Keeps a change.
-    pub fn note(&mut self, change: Change) {
+    /// Keeps a change, while there is room for it.
+    pub fn note(&mut self, change: Change)
+        ensures kept { length self.old.changes.items < 1024 → self.new.changes.items ≡ self.old.changes.items ++ Some change ∷ [] }
+        ensures full { length self.old.changes.items ≡ 1024 → self.new.changes.items ≡ self.old.changes.items }
+    {
         let _has_room = self.changes.try_push(Some(change));
         if change.s1 == self.is_high {
             return;
@@ -76,7 +88,9 @@ impl Search {
 
     /// Measures what may be a bit period, from a rise over a fall to the next rise: S1 is high for 15 % to 36 % of one, or for 64 % to
     /// 85 %.
-    fn measure(&mut self, rise: u64, fall: u64, next: u64) {
+    fn measure(&mut self, rise: u64, fall: u64, next: u64)
+        ensures { self.new.changes ≡ self.old.changes }
+    {
         if fall < rise || next < fall {
             return;
         }

@@ -1,4 +1,7 @@
 //! How a run of the program ended.
+ghost use Rattle.std.specs.Prelude.{◌≡◌};
+ghost use Rattle.swp_capture.specs.Statuses.{capture_code_of};
+
 use std::alloc::{AllocError, Global};
 use vcd_text::VcdFault;
 
@@ -24,7 +27,9 @@ pub enum Status {
 }
 
 /// The exit status of the program.
-pub fn exit_code(status: &Status) -> u8 {
+pub fn exit_code(status: &Status) -> u8
+    ensures { result ≡ capture_code_of status.now }
+{
     match status {
         Status::Done => 0,
         Status::BadWords => 2,
