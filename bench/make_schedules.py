@@ -5,7 +5,6 @@ drawn from 0; one of 20,000 lines of a controller with seven hosts, drawn alike;
 20,000 rounds; one of a bare link that settles behind each message; and of a controller with seven hosts: each of which sends a message in turn, behind
 which all links settle; each of which sets its session identity again and again, so that the memory is compacted; and which open and close 110 pipes."""
 
-import re
 import sys
 from pathlib import Path
 
@@ -50,19 +49,10 @@ class Draws:
         return {12: f"send {host}h {more}\n", 13: f"lose {host}c\n", 14: "tick 3\n"}.get(drawn, f"reset {host}h\n")
 
 
-def drawn_schedule() -> str:
-    """What `gen_schedule` draws from 0. Its opening is read where it stands."""
-    source = (Path(__file__).resolve().parent.parent / "crates/drawn_schedule/src/lib.rt").read_text()
-    opening = re.search(r'const OPENING: &\[u8\] = b"(.*?)";', source, re.DOTALL)[1]
-    opening = re.sub(r"\\n\\\n\s*", "\n", opening).replace("\\n", "\n")
-    draws = Draws(0)
-    return opening + "".join(draws.line(3, "02 42AA") for _ in range(2000)) + "tables 00\n"
-
-
-def opened_nodes() -> str:
-    """A controller with seven hosts, each of which has opened pipe 01 and let the others in."""
-    hosts = [f"0{host}" for host in range(1, 8)]
-    text = "swp 1 hci " + " ".join(hosts) + "\nboot 00\n" + "".join(f"boot {host}\n" for host in hosts)
+def opened_nodes(count: int = 7) -> str:
+    """A controller with so many hosts, each of which has opened pipe 01 and let the others in."""
+    hosts = [f"0{host}" for host in range(1, count + 1)]
+    text = f"swp 1 hci {' '.join(hosts)}\nboot 00\n" + "".join(f"boot {host}\n" for host in hosts)
     for host in hosts:
         others = "".join(other for other in hosts if other != host)
         text += (
@@ -72,6 +62,19 @@ def opened_nodes() -> str:
             f"send {host}h 01 0103{others}\ndeliver {host}c\ndeliver {host}h\ndeliver {host}c\n"
         )
     return text
+
+
+# Host 02 has a pipe made to host 01, and opens it.
+JOINED = (
+    "send 02h 01 10200141\ndeliver 02c\ndeliver 01h\ndeliver 01c\ndeliver 02h\ndeliver 02c\n"
+    "send 02h 02 03\ndeliver 02c\ndeliver 02h\ndeliver 02c\n"
+)
+
+
+def drawn_schedule() -> str:
+    """What `gen_schedule` draws from 0."""
+    draws = Draws(0)
+    return opened_nodes(3) + JOINED + "".join(draws.line(3, "02 42AA") for _ in range(2000)) + "tables 00\n"
 
 
 def nodes_schedule(lines: int) -> str:

@@ -1,10 +1,9 @@
 -- The lines that are drawn may be played.
-use Rattle.std.proofs.Common.{◌≡◌, ℕ, zero, suc, ◌+◌, ◌%◌, ◌==◌, Bool, true, false, cond, nat_le, List, [], ◌∷◌, ◌++◌, refl, arith}
+use Rattle.std.proofs.Common.{◌≡◌, ℕ, zero, suc, ◌+◌, ◌%◌, ◌==◌, Bool, true, false, cond, nat_le, List, [], ◌∷◌, ◌++◌, refl}
 use Rattle.std.specs.List.{AllByRecursion, list_all}
 use Rattle.trace_model.specs.declared.line.Line.{Line}
 use Rattle.trace_model.specs.declared.line.Line.TheVariants as line
-use Rattle.trace_model.specs.Lines.{MayFollow}
-use Rattle.drawn_schedule.specs.Schedule.{the_header, first_lines, step_line, so_many_steps, drawn_lines, next_number, drawn_of, is_harmless, IsHarmless}
+use Rattle.drawn_schedule.specs.Schedule.{first_lines, step_line, so_many_steps, drawn_lines, next_number, drawn_of, is_harmless, IsHarmless}
 use Rattle.drawn_schedule.proofs.ReadLemmas.{AreGood, good_lines}
 
 abbrev Harmless : List Line → Type 0

@@ -1,9 +1,8 @@
 -- The lines that are drawn may stand below their header, and are short.
-use Rattle.std.proofs.Common.{◌≡◌, ℕ, zero, suc, ◌+◌, ◌*◌, ◌/◌, ◌%◌, ◌<◌, ◌≤◌, ◌==◌, Bool, true, false, cond, nat_le, List, [], ◌∷◌, ◌++◌, length}
-use Rattle.std.proofs.Common.{refl, sym, ap, ◌∙◌, subst, arith, codes, None, Some, Ok, inr, All, Contains, length-append}
+use Rattle.std.proofs.Common.{◌≡◌, ℕ, zero, suc, ◌+◌, ◌/◌, ◌%◌, ◌<◌, ◌≤◌, ◌==◌, Bool, true, false, cond, nat_le, List, [], ◌∷◌, ◌++◌, length}
+use Rattle.std.proofs.Common.{refl, ap, arith, None, Some, Ok, inr, Contains, length-append}
 use Rattle.std.specs.List.{AllByRecursion}
 use Rattle.std.specs.List.Sorted.{IsStrictlyIncreasing}
-use Rattle.std.specs.Fmt.{decimal}
 use Rattle.std.proofs.lemmas.Fmt.{decimal_digit}
 use Rattle.std.proofs.lemmas.List.Elements.{All-from_recursion}
 use Rattle.swp_base.specs.Bits.{IsByte}
@@ -19,8 +18,7 @@ use Rattle.schedule_text.specs.Lines.{line_of}
 use Rattle.schedule_text.proofs.AgainLemmas.{length-hex}
 use Rattle.schedule_text.proofs.ReadAgainLemmas.{header_again, line_again}
 use Rattle.drawn_schedule.specs.Schedule.{at_controller, at_host_of, takes, sends_on, the_header, answered, joins, makes_a_pipe, first_lines, step_line}
-use Rattle.drawn_schedule.specs.Schedule.{Drawn, one_step_more, so_many_steps, drawn_lines, next_number, drawn_of, IsReadAsWritten}
-use Rattle.drawn_schedule.proofs.StepLemmas.{no_steps}
+use Rattle.drawn_schedule.specs.Schedule.{so_many_steps, drawn_lines, next_number, drawn_of, IsReadAsWritten}
 
 -- ## Lines
 

@@ -1,90 +1,29 @@
 //! A schedule of a world of nodes that is drawn from a number.
 #![tactic(auto)]
 
-ghost use Rattle.std.specs.Prelude.{ℕ, None, Ok, length, ◌≡◌, ◌++◌, ◌∷◌, [], ◌+◌, ◌%◌, ◌≤◌, ◌<◌, IfOk, OnOk, OnErr};
+ghost use Rattle.std.specs.Prelude.{ℕ, None, Ok, length, drop, ◌≡◌, ◌≤◌, ◌++◌, IfOk, OnOk, OnErr};
 ghost use Rattle.std.specs.List.{AllByRecursion};
 ghost use Rattle.schedule_text.specs.declared.read.Read.TheVariants as read;
 ghost use Rattle.schedule_text.specs.Words.{spaced};
 ghost use Rattle.schedule_text.specs.Lines.{line_of};
-ghost use Rattle.schedule_text.specs.Entries.{header_words};
-ghost use Rattle.drawn_schedule.specs.Schedule.{the_header, first_lines, step_line, so_many_steps, drawn_lines, drawn_line, lines_text, text_of_schedule};
-ghost use Rattle.drawn_schedule.specs.Schedule.{next_number, drawn_of, IsReadAsWritten, IsHarmless};
+ghost use Rattle.schedule_text.specs.Entries.{header_words, entry_line};
+ghost use Rattle.drawn_schedule.specs.Schedule.{the_header, drawn_lines, lines_text, text_of_schedule, IsReadAsWritten, IsHarmless};
 ghost use Rattle.trace_model.specs.Lines.{IsNodeHeader};
 
 mod lines;
 
 pub use lines::{draw_lines, drawn_header};
-use std::alloc::{AllocError, Global};
+use schedule_text::write_entry;
+use std::alloc::Global;
 use swp_base::NoMemory;
+use trace_model::{Entry, Line};
 
-/// The header, and the lines before the steps.
-const OPENING: &[u8] = b"swp 1 hci 01 02 03\n\
-    boot 00\n\
-    boot 01\n\
-    boot 02\n\
-    boot 03\n\
-    activate 01 0001 01\n\
-    deliver 01c\n\
-    deliver 01h\n\
-    deliver 01c\n\
-    reset 01c\n\
-    deliver 01h\n\
-    deliver 01c\n\
-    send 01h 01 03\n\
-    deliver 01c\n\
-    deliver 01h\n\
-    deliver 01c\n\
-    send 01h 01 01030203\n\
-    deliver 01c\n\
-    deliver 01h\n\
-    deliver 01c\n\
-    activate 02 0002 01\n\
-    deliver 02c\n\
-    deliver 02h\n\
-    deliver 02c\n\
-    reset 02c\n\
-    deliver 02h\n\
-    deliver 02c\n\
-    send 02h 01 03\n\
-    deliver 02c\n\
-    deliver 02h\n\
-    deliver 02c\n\
-    send 02h 01 01030103\n\
-    deliver 02c\n\
-    deliver 02h\n\
-    deliver 02c\n\
-    activate 03 0003 01\n\
-    deliver 03c\n\
-    deliver 03h\n\
-    deliver 03c\n\
-    reset 03c\n\
-    deliver 03h\n\
-    deliver 03c\n\
-    send 03h 01 03\n\
-    deliver 03c\n\
-    deliver 03h\n\
-    deliver 03c\n\
-    send 03h 01 01030102\n\
-    deliver 03c\n\
-    deliver 03h\n\
-    deliver 03c\n\
-    send 02h 01 10200141\n\
-    deliver 02c\n\
-    deliver 01h\n\
-    deliver 01c\n\
-    deliver 02h\n\
-    deliver 02c\n\
-    send 02h 02 03\n\
-    deliver 02c\n\
-    deliver 02h\n\
-    deliver 02c\n";
-
-/// How many steps there are (this project's own).
-pub(crate) const STEPS: u32 = 2000;
+/// The bytes that stand before a line of a schedule where a transcript repeats it: `> `.
+const MARK: usize = 2;
 
 /// Appends the text of a schedule of 2,061 lines, each with its LF: three hosts come up, a pipe is made between two of them, 2,000
-/// steps are drawn from `n`, and the tables of the controller are told. Where there is no memory for all of it, `out` stays as it
-/// was.
+/// steps are drawn from `n`, and the tables of the controller are told. They are the lines that `draw_lines` gives, below their header.
+/// Where there is no memory for all of it, `out` stays as it was.
 pub fn gen_schedule(n: u32, out: &mut Vec<u8>) -> Result<(), NoMemory>
     ensures ok { OnOk result (out.new.items ≡ out.old.items ++ text_of_schedule the_header (drawn_lines n)) }
     ensures err { OnErr result (out.new.items ≡ out.old.items) }
@@ -99,84 +38,34 @@ pub fn gen_schedule(n: u32, out: &mut Vec<u8>) -> Result<(), NoMemory>
     }
 }
 
-fn whole(alloc: Global, n: u32) -> Result<Vec<u8>, AllocError>
+fn whole(alloc: Global, n: u32) -> Result<Vec<u8>, NoMemory>
     ensures { IfOk result (λ text. text.items ≡ text_of_schedule the_header (drawn_lines n)) }
 {
     let mut text = Vec::new(alloc);
-    text.extend_from_slice(opening())?;
-    append_steps(n, &mut text)?;
-    text.extend_from_slice(b"tables 00\n")?;
+    append_line(alloc, &Entry::Head(drawn_header()), &mut text)?;
+    append_lines(alloc, draw_lines(alloc, n)?, &mut text)?;
     Ok(text)
 }
 
-#[tactic(auto, unfolding(hex::specs::Hex::encode_with))]
-fn opening() -> &'static [u8]
-    ensures { result.now ≡ spaced (header_words the_header) ++ (10 ∷ lines_text first_lines) }
+/// Appends lines of a schedule.
+fn append_lines(alloc: Global, lines: Vec<Line>, text: &mut Vec<u8>) -> Result<(), NoMemory>
+    ensures { OnOk result (text.new.items ≡ text.old.items ++ lines_text lines.items) }
 {
-    OPENING
-}
-
-fn append_steps(n: u32, text: &mut Vec<u8>) -> Result<(), AllocError>
-    ensures { OnOk result (text.new.items ≡ text.old.items ++ lines_text (so_many_steps n 2000).lines) }
-{
-    let mut x = u64::from(n);
-    let mut done = 0;
-    'steps: while done < STEPS {
-        let first = next(x);
-        let second = next(first);
-        append_step(drawn(first, 16), 1 + drawn(second, 3), text)?;
-        x = second;
-        done += 1;
+    for line in lines {
+        append_line(alloc, &Entry::Echo(line), text)?;
     }
     Ok(())
 }
 
-/// The number behind this one in the row of draws.
-pub(crate) fn next(x: u64) -> u64
-    ensures { result ≡ next_number x }
+/// Appends a line of a schedule as a transcript repeats it, but for the mark before it.
+fn append_line(alloc: Global, repeated: &Entry, text: &mut Vec<u8>) -> Result<(), NoMemory>
+    requires marked { 2 ≤ length (entry_line repeated.now) }
+    ensures { OnOk result (text.new.items ≡ text.old.items ++ drop 2 (entry_line repeated.now)) }
 {
-    let product = u128::from(x) * 6_364_136_223_846_793_005 + 1_442_695_040_888_963_407;
-    (product % (1 << 64)) as u64
-}
-
-/// What is drawn of a number, below `below`.
-pub(crate) fn drawn(x: u64, below: u8) -> u8
-    requires { 0 < below }
-    ensures value { result ≡ drawn_of x % below }
-    ensures low { result < below }
-{
-    (x / (1 << 33) % u64::from(below)) as u8
-}
-
-fn append_step(d: u8, host: u8, text: &mut Vec<u8>) -> Result<(), AllocError>
-    requires { (1 ≤ host) × (host ≤ 3) }
-    ensures { OnOk result (text.new.items ≡ text.old.items ++ drawn_line (step_line d host)) }
-{
-    match d {
-        0..=4 => append(b"deliver 0", host, b"c\n", text),
-        5..=9 => append(b"deliver 0", host, b"h\n", text),
-        10 | 11 => append(b"send 0", host, b"h 01 0201\n", text),
-        12 => append(b"send 0", host, b"h 02 42AA\n", text),
-        13 => append(b"lose 0", host, b"c\n", text),
-        14 => append_text(b"tick 3\n", text),
-        _ => append(b"reset 0", host, b"h\n", text),
-    }
-}
-
-/// Appends a line with the digit of a host in it.
-fn append(front: &[u8], host: u8, back: &[u8], text: &mut Vec<u8>) -> Result<(), AllocError>
-    requires { host ≤ 9 }
-    ensures { OnOk result (text.new.items ≡ text.old.items ++ (front.now ++ ((48 + host) ∷ back.now))) }
-{
-    text.extend_from_slice(front)?;
-    text.push(b'0' + host)?;
-    text.extend_from_slice(back)
-}
-
-fn append_text(piece: &[u8], text: &mut Vec<u8>) -> Result<(), AllocError>
-    ensures { OnOk result (text.new.items ≡ text.old.items ++ piece.now) }
-{
-    text.extend_from_slice(piece)
+    let mut line = Vec::new(alloc);
+    write_entry(alloc, repeated, &mut line)?;
+    text.extend_from_slice(&line[MARK..])?;
+    Ok(())
 }
 
 /// The lines of such a schedule may stand below its header, which is one of nodes, and none of them damages a frame or lets a world settle.

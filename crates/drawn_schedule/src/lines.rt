@@ -1,14 +1,16 @@
 //! The lines of the schedule that is drawn from a number, as lines and not as text.
-ghost use Rattle.std.specs.Prelude.{◌≡◌, ◌++◌, ◌≤◌, [], ◌∷◌, IfOk, OnOk, None, Some};
+ghost use Rattle.std.specs.Prelude.{◌≡◌, ◌++◌, ◌+◌, ◌%◌, ◌<◌, ◌≤◌, [], ◌∷◌, IfOk, OnOk, None, Some};
 ghost use Rattle.trace_model.specs.declared.line.Line.TheVariants as line;
 ghost use Rattle.drawn_schedule.specs.Schedule.{at_controller, at_host_of, takes, sends_on, answered, joins, makes_a_pipe, first_lines, step_line};
-ghost use Rattle.drawn_schedule.specs.Schedule.{so_many_steps, drawn_lines, the_header};
+ghost use Rattle.drawn_schedule.specs.Schedule.{so_many_steps, drawn_lines, the_header, next_number, drawn_of};
 
-use crate::{STEPS, drawn, next};
 use arrayvec::ArrayVec;
 use std::alloc::{AllocError, Global};
 use swp_base::NoMemory;
 use trace_model::{End, Header, Line, Octets};
+
+/// How many steps there are (this project's own).
+const STEPS: u32 = 2000;
 
 /// The header of the schedule: hosts 01, 02 and 03.
 pub fn drawn_header() -> Header
@@ -106,6 +108,23 @@ fn answer(host: u8, lines: &mut Vec<Line>) -> Result<(), AllocError>
     lines.push(take(host_of(host)))?;
     lines.push(take(controller_of(host)))?;
     Ok(())
+}
+
+/// The number behind this one in the row of draws.
+fn next(x: u64) -> u64
+    ensures { result ≡ next_number x }
+{
+    let product = u128::from(x) * 6_364_136_223_846_793_005 + 1_442_695_040_888_963_407;
+    (product % (1 << 64)) as u64
+}
+
+/// What is drawn of a number, below `below`.
+fn drawn(x: u64, below: u8) -> u8
+    requires { 0 < below }
+    ensures value { result ≡ drawn_of x % below }
+    ensures low { result < below }
+{
+    (x / (1 << 33) % u64::from(below)) as u8
 }
 
 fn push_steps(alloc: Global, n: u32, lines: &mut Vec<Line>) -> Result<(), AllocError>

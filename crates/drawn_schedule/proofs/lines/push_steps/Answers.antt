@@ -1,4 +1,4 @@
-use Rattle.std.proofs.Common.{◌≡◌, ◌+◌, ◌%◌, ◌≤◌, ◌++◌, ◌∷◌, [], ◌∙◌, arith, sym, ap, ap₂}
+use Rattle.std.proofs.Common.{◌+◌, ◌%◌, ◌++◌, ◌∷◌, [], ◌∙◌, arith, ap, ap₂}
 use Rattle.drawn_schedule.specs.Schedule.{step_line, next_number, drawn_of}
 use Rattle.drawn_schedule.proofs.StepLemmas.{no_lines, first_number, step_lines, step_number}
 use Rattle.drawn_schedule.proofs.lines.push_steps.Goals as goal
