@@ -331,7 +331,7 @@ impl Text {
 
     /// Appends a word of four letters, an end and a byte, as the first ones of a line.
     #[inline(always)]
-    fn word_end_and_byte(&mut self, word: &[u8; 4], at: End, byte: u8)
+    pub(crate) fn word_end_and_byte(&mut self, word: &[u8; 4], at: End, byte: u8)
         ensures { (start : Start) → HoldsText start [] self.old
             → HoldsWords start (word.now ∷ end_text at ∷ byte_text byte ∷ []) self.new }
     {
@@ -390,7 +390,7 @@ impl Text {
 
     /// Appends two bytes as two hexadecimal digits each, a space before each.
     #[inline(always)]
-    fn byte_and_byte(&mut self, byte: u8, other: u8)
+    pub(crate) fn byte_and_byte(&mut self, byte: u8, other: u8)
         ensures { (start : Start) (first : List ℕ) (more : List (List ℕ)) → HoldsWords start (first ∷ more) self.old
             → HoldsWords start (first ∷ ((more ++ byte_text byte ∷ []) ++ byte_text other ∷ [])) self.new }
     {
@@ -476,7 +476,9 @@ impl Text {
     {
         let mut left = bytes;
         'pieces: while let Some((piece, more)) = left.split_first_chunk::<AT_ONCE>() {
-            self.push_few(&all_digits(piece));
+            let mut digits = [0; 64];
+            write_digits(piece, &mut digits);
+            self.push_few(&digits);
             left = more;
         }
         self.few_pairs(left);
@@ -492,15 +494,25 @@ impl Text {
         }
     }
 
-    /// Appends fewer than 32 bytes as pairs of hexadecimal digits, as the front of 32.
+    /// Appends fewer than 32 bytes as pairs of hexadecimal digits, as the front of 16 or of 32.
     fn few_pairs(&mut self, bytes: &[u8])
         requires { length bytes.now < 32 }
         ensures { (start : Start) (text : List ℕ) → HoldsText start text self.old
             → HoldsText start (text ++ encode_upper bytes.now) self.new }
     {
+        if bytes.len() <= 16 {
+            let mut piece = [0; 16];
+            piece[..bytes.len()].copy_from_slice(bytes);
+            let mut digits = [0; 32];
+            write_digits(&piece, &mut digits);
+            self.push_few(&digits[..2 * bytes.len()]);
+            return;
+        }
         let mut piece = [0; AT_ONCE];
         piece[..bytes.len()].copy_from_slice(bytes);
-        self.push_few(&all_digits(&piece)[..2 * bytes.len()]);
+        let mut digits = [0; 64];
+        write_digits(&piece, &mut digits);
+        self.push_few(&digits[..2 * bytes.len()]);
     }
 
     /// Appends a space and a decimal number.
@@ -576,16 +588,16 @@ impl Text {
     }
 }
 
-/// Bytes as pairs of hexadecimal digits.
-fn all_digits(bytes: &[u8; AT_ONCE]) -> [u8; 64]
-    ensures { result ≡ encode_upper bytes.now }
+/// Writes bytes as pairs of hexadecimal digits, for which there is just the room.
+#[inline(always)]
+fn write_digits(bytes: &[u8], digits: &mut [u8])
+    requires { length digits.old ≡ 2 * length bytes.now }
+    ensures { digits.new ≡ encode_upper bytes.now }
 {
-    let mut digits = [0; 64];
-    'bytes: for i in 0..AT_ONCE {
+    'bytes: for i in 0..bytes.len() {
         digits[2 * i] = digit(bytes[i] / 16);
         digits[2 * i + 1] = digit(bytes[i] % 16);
     }
-    digits
 }
 
 /// A hexadecimal digit, without a table, so that many digits are made at once.

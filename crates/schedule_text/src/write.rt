@@ -3,13 +3,12 @@ ghost use Rattle.std.specs.Prelude.{◌≡◌, List, ℕ, [], ◌∷◌, ◌++�
 ghost use Rattle.std.specs.Fmt.{decimal};
 ghost use Rattle.hex.specs.Hex.{encode_upper};
 ghost use Rattle.tables_text.specs.Tables.{hex_or_dash};
-ghost use Rattle.schedule_text.specs.Parts.{part_words};
 ghost use Rattle.schedule_text.specs.Entries.{end_text, byte_text, number_words, header_words, line_words, down_word, lost_word, cause_words, command_words};
 ghost use Rattle.schedule_text.specs.Entries.{count_words, entry_words, lines_behind, entry_line, entry_lines};
 ghost use Rattle.schedule_text.specs.Growth.{Start, all_text, HoldsText, HoldsWords};
 
 use crate::text::Part::{
-    self, Byte, Bytes, Count, EachByte, EachThree, End, Maybe, Number, Numbers, TwoBytes, Word,
+    Byte, Bytes, Count, EachByte, EachThree, End, Maybe, Number, Numbers, TwoBytes, Word,
 };
 use crate::text::Text;
 use crate::transcript::Transcript;
@@ -198,6 +197,8 @@ fn write_frequent(text: &mut Text, entry: &Entry)
             text, b"acked", *at, *session, *count,
         ),
         Entry::Turn { at, pid, message } => write_turn(text, *at, *pid, message.as_slice()),
+        Entry::Dropped { at, pid } => text.word_end_and_byte(b"drop", *at, *pid),
+        Entry::Settled { rounds } => write_settled(text, *rounds),
         Entry::No {
             cause: NoCause::Empty,
         } => write_empty(text),
@@ -252,7 +253,7 @@ fn write_words(text: &mut Text, entry: &Entry)
             u32::from(*spare),
         ),
         Entry::Ask { host, message } => write_ask(text, *host, message.as_slice()),
-        Entry::Dropped { at, pid } => write_at_byte(text, b"drop", *at, *pid),
+        Entry::Dropped { at, pid } => text.word_end_and_byte(b"drop", *at, *pid),
         Entry::Command { node, command } => {
             write_node(text, b"command", *node);
             write_command(text, command);
@@ -264,7 +265,7 @@ fn write_words(text: &mut Text, entry: &Entry)
         Entry::Cut { node } => write_node(text, b"cut", *node),
         Entry::Booted { node, count } => write_node_number(text, b"booted", *node, *count),
         Entry::Tables { node, tables } => write_counts(text, *node, tables.tables()),
-        Entry::Settled { rounds } => text.entry(b"settled", &[Number(*rounds)]),
+        Entry::Settled { rounds } => write_settled(text, *rounds),
         Entry::No { cause } => {
             text.push(b"no");
             write_cause(text, *cause);
@@ -288,14 +289,6 @@ fn write_at_word(text: &mut Text, word: &[u8], at: At, other: &[u8])
     text.push(word);
     text.end(at);
     text.word(other);
-}
-
-#[inline(never)]
-fn write_at_byte(text: &mut Text, word: &[u8], at: At, byte: u8)
-    ensures { (start : Start) → HoldsText start [] text.old
-        → HoldsWords start (word.now ∷ end_text at ∷ byte_text byte ∷ []) text.new }
-{
-    text.entry(word, &[End(at), Byte(byte)]);
 }
 
 #[inline(never)]
@@ -333,7 +326,8 @@ fn write_node(text: &mut Text, word: &[u8], node: u8)
     ensures { (start : Start) → HoldsText start [] text.old
         → HoldsWords start (word.now ∷ byte_text node ∷ []) text.new }
 {
-    text.entry(word, &[Byte(node)]);
+    text.push(word);
+    text.byte(node);
 }
 
 #[inline(never)]
@@ -341,7 +335,9 @@ fn write_node_number(text: &mut Text, word: &[u8], node: u8, number: u32)
     ensures { (start : Start) → HoldsText start [] text.old
         → HoldsWords start (word.now ∷ byte_text node ∷ decimal number ∷ []) text.new }
 {
-    text.entry(word, &[Byte(node), Number(number)]);
+    text.push(word);
+    text.byte(node);
+    text.short_number(number);
 }
 
 #[inline(never)]
@@ -363,6 +359,15 @@ fn write_turn(text: &mut Text, at: At, pid: u8, message: &[u8])
     text.push(b"turn");
     text.end_and_byte(at, pid);
     text.hex(message);
+}
+
+#[inline(always)]
+fn write_settled(text: &mut Text, rounds: u32)
+    ensures { (start : Start) → HoldsText start [] text.old
+        → HoldsWords start (codes "settled" ∷ decimal rounds ∷ []) text.new }
+{
+    text.push(b"settled");
+    text.short_number(rounds);
 }
 
 #[inline(always)]
@@ -473,6 +478,7 @@ fn write_line(text: &mut Text, line: &Line)
         Line::Lose { at } => write_lose(text, *at),
         Line::Tick { times } => write_tick(text, *times),
         Line::Reset { at, window } => write_reset(text, *at, *window),
+        Line::Settle { rounds } => write_settle(text, *rounds),
         _ => write_by_parts(text, line),
     }
 }
@@ -579,6 +585,15 @@ fn write_reset(text: &mut Text, at: At, window: Option<u8>)
     text.maybe(window);
 }
 
+#[inline(always)]
+fn write_settle(text: &mut Text, rounds: u32)
+    ensures { (start : Start) (first : List ℕ) (more : List (List ℕ)) → HoldsWords start (first ∷ more) text.old
+        → HoldsWords start (first ∷ (more ++ codes "settle" ∷ decimal rounds ∷ [])) text.new }
+{
+    text.push(b" settle");
+    text.short_number(rounds);
+}
+
 #[inline(never)]
 fn write_cause(text: &mut Text, cause: NoCause)
     ensures { (start : Start) (first : List ℕ) (more : List (List ℕ)) → HoldsWords start (first ∷ more) text.old
@@ -628,25 +643,31 @@ fn write_command(text: &mut Text, command: &Command)
             gate,
             param,
             value,
-        } => text.parts(&[
-            Word(b"set"),
-            Byte(*host),
-            Byte(*gate),
-            Byte(*param),
-            value_of(value.as_slice()),
-        ]),
+        } => write_setting(text, *host, *gate, *param, value.as_slice()),
         Command::Sync { host, id } => text.parts(&[Word(b"sync"), Byte(*host), TwoBytes(*id)]),
     }
 }
 
-/// The bytes of a value, and a dash where there are none.
-fn value_of(value: &[u8]) -> Part<'_>
-    ensures { part_words result ≡ hex_or_dash value.now ∷ [] }
+/// Appends the words of a command that sets a parameter.
+fn write_setting(text: &mut Text, host: u8, gate: u8, param: u8, value: &[u8])
+    ensures { (start : Start) (first : List ℕ) (more : List (List ℕ)) → HoldsWords start (first ∷ more) text.old
+        → HoldsWords start (first ∷ (more ++ codes "set" ∷ byte_text host ∷ byte_text gate ∷ byte_text param ∷ hex_or_dash value.now ∷ [])) text.new }
+{
+    text.word(b"set");
+    text.byte_and_byte(host, gate);
+    text.byte(param);
+    write_value(text, value);
+}
+
+/// Appends the bytes of a value, and a dash where there are none.
+fn write_value(text: &mut Text, value: &[u8])
+    ensures { (start : Start) (first : List ℕ) (more : List (List ℕ)) → HoldsWords start (first ∷ more) text.old
+        → HoldsWords start (first ∷ (more ++ hex_or_dash value.now ∷ [])) text.new }
 {
     if value.is_empty() {
-        Word(b"-")
+        text.word(b"-");
     } else {
-        Bytes(value)
+        text.hex(value);
     }
 }
 

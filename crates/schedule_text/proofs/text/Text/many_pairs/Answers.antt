@@ -26,7 +26,7 @@ pieces-preserved c =
         append_assoc front piece c.in-Some.more.now ∙ ap (λ xs. front ++ xs) (ap₂ (λ xs ys. xs ++ ys) cases.0 cases.1 ∙ take-append-drop 32 left)
             ∙ c.pieces.invariant.1.0,
         λ start text h.
-            holds_digits start text front piece _ _ c.all_digits.ensures (c.push_few.ensures start _ (c.pieces.invariant.1.1 start text h)),
+            holds_digits start text front piece _ _ c.write_digits.ensures (c.push_few.ensures start _ (c.pieces.invariant.1.1 start text h)),
       ),
     )
 

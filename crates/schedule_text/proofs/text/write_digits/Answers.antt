@@ -1,7 +1,7 @@
 use Rattle.std.proofs.Common.{◌+◌, ◌*◌, slice_set, length-set, ◌∙◌, arith}
 use Rattle.hex.specs.Hex.{upper_digits}
 use Rattle.hex.proofs.Pairs.{encode_step, encode_done}
-use Rattle.schedule_text.proofs.text.all_digits.Goals as goal
+use Rattle.schedule_text.proofs.text.write_digits.Goals as goal
 
 pub bytes-preserved : goal.bytes-preserved
 bytes-preserved c =

@@ -1,7 +1,7 @@
 use Rattle.std.proofs.Common.{◌≡◌, ◌*◌, ◌++◌, length, take, drop}
 use Rattle.hex.specs.Hex.{encode_upper}
-use Rattle.schedule_text.proofs.text.all_digits.Given as goal
+use Rattle.schedule_text.proofs.text.write_digits.Given as goal
 
 -- the digits of a front of the bytes are written
 abbrev pub invariant-bytes : goal.invariant-bytes
-invariant-bytes l = (length l.digits ≡ 64) × (take (2 * l.i) l.digits ++ encode_upper (drop l.i l.bytes) ≡ encode_upper l.bytes)
+invariant-bytes l = (length l.digits ≡ 2 * length l.bytes) × (take (2 * l.i) l.digits ++ encode_upper (drop l.i l.bytes) ≡ encode_upper l.bytes)
