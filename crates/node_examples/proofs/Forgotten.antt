@@ -1,332 +1,55 @@
 -- A creation whose asker loses its session: its notice stays unanswered, and holds off others until it is answered.
-use Rattle.std.proofs.Common.{◌≡◌, refl, List, [], ◌∷◌, Some, None}
-use Rattle.std.specs.Prelude.{true, false}
-use Rattle.swp_base.specs.declared.link_terms.Cause.TheVariants as cause
-use Rattle.trace_model.specs.declared.entry.NoCause.TheVariants as no
-use Rattle.trace_model.specs.declared.entry.Entry.TheVariants as entry
-use Rattle.trace_model.specs.declared.line.Line.{Line}
-use Rattle.trace_model.specs.declared.line.Line.TheVariants as line
-use Rattle.hci_tables.specs.declared.command.Command.TheVariants as command
-use Rattle.node_machine.specs.world.World.{new_world, end_c, end_h}
-use Rattle.node_machine.specs.world.Lines.{noted_lines}
-use Rattle.node_machine.specs.world.Lines.NotedBelow.{Entries, TablesOf}
-use Rattle.journal_laws.specs.Records.{found_from}
-use Rattle.gate_admin.specs.View.{hosts_where}
-use Rattle.pipe_table.specs.PipeRows.{lowest_free}
+use Rattle.std.proofs.Common.{◌≡◌, refl, [], ◌∷◌, ◌++◌}
+use Rattle.node_examples.specs.Openings.{host_begins, host_begins_told}
+use Rattle.node_examples.specs.Told.{told_text, text, found_from, hosts_where, lowest_free, encode_with, decode_pairs, digits}
 
-abbrev pub forgotten_lines : List Line
-forgotten_lines =
-    line.Boot 0 ∷
-    line.Boot 1 ∷
-    line.Boot 2 ∷
-    line.Boot 3 ∷
-    line.Activate 1 1 1 ∷
-    line.Deliver (end_c 1) None ∷
-    line.Deliver (end_h 1) None ∷
-    line.Deliver (end_c 1) None ∷
-    line.Reset (end_c 1) None ∷
-    line.Deliver (end_h 1) None ∷
-    line.Deliver (end_c 1) None ∷
-    line.Send (end_h 1) 1 (3 ∷ []) ∷
-    line.Deliver (end_c 1) None ∷
-    line.Deliver (end_h 1) None ∷
-    line.Deliver (end_c 1) None ∷
-    line.Activate 2 2 1 ∷
-    line.Deliver (end_c 2) None ∷
-    line.Deliver (end_h 2) None ∷
-    line.Deliver (end_c 2) None ∷
-    line.Reset (end_c 2) None ∷
-    line.Deliver (end_h 2) None ∷
-    line.Deliver (end_c 2) None ∷
-    line.Send (end_h 2) 1 (3 ∷ []) ∷
-    line.Deliver (end_c 2) None ∷
-    line.Deliver (end_h 2) None ∷
-    line.Deliver (end_c 2) None ∷
-    line.Activate 3 3 1 ∷
-    line.Deliver (end_c 3) None ∷
-    line.Deliver (end_h 3) None ∷
-    line.Deliver (end_c 3) None ∷
-    line.Reset (end_c 3) None ∷
-    line.Deliver (end_h 3) None ∷
-    line.Deliver (end_c 3) None ∷
-    line.Send (end_h 3) 1 (3 ∷ []) ∷
-    line.Deliver (end_c 3) None ∷
-    line.Deliver (end_h 3) None ∷
-    line.Deliver (end_c 3) None ∷
-    line.Send (end_h 1) 1 (1 ∷ 3 ∷ 2 ∷ 3 ∷ []) ∷
-    line.Deliver (end_c 1) None ∷
-    line.Deliver (end_h 1) None ∷
-    line.Deliver (end_c 1) None ∷
-    line.Send (end_h 2) 1 (16 ∷ 65 ∷ 1 ∷ 65 ∷ []) ∷
-    line.Deliver (end_c 2) None ∷
-    line.Deliver (end_h 2) None ∷
-    line.Deliver (end_c 2) None ∷
-    line.Reset (end_h 2) None ∷
-    line.Deliver (end_c 2) None ∷
-    line.Deliver (end_h 2) None ∷
-    line.Send (end_h 3) 1 (16 ∷ 65 ∷ 1 ∷ 65 ∷ []) ∷
-    line.Deliver (end_c 3) None ∷
-    line.Deliver (end_h 3) None ∷
-    line.Deliver (end_c 3) None ∷
-    line.Send (end_h 1) 1 (1 ∷ 3 ∷ 3 ∷ []) ∷
-    line.Deliver (end_c 1) None ∷
-    line.Deliver (end_h 1) (Some 1) ∷
-    line.Deliver (end_h 1) None ∷
-    line.Deliver (end_c 1) None ∷
-    line.Deliver (end_h 1) None ∷
-    line.Deliver (end_c 1) None ∷
-    line.Send (end_h 3) 1 (16 ∷ 65 ∷ 1 ∷ 65 ∷ []) ∷
-    line.Deliver (end_c 3) None ∷
-    line.Deliver (end_h 1) None ∷
-    line.Deliver (end_c 1) None ∷
-    line.Deliver (end_h 3) None ∷
-    line.Deliver (end_c 3) None ∷
-    line.Tables 0 ∷
-    line.Tables 1 ∷
-    []
-
-forgotten : noted_lines (new_world (1 ∷ 2 ∷ 3 ∷ [])) forgotten_lines ≡
-    Entries (entry.Booted 0 0 ∷ []) ∷
-    Entries (entry.Booted 1 0 ∷ []) ∷
-    Entries (entry.Booted 2 0 ∷ []) ∷
-    Entries (entry.Booted 3 0 ∷ []) ∷
-    Entries (entry.Emit (end_h 1) (97 ∷ 0 ∷ 1 ∷ []) ∷ []) ∷
-    Entries (entry.Took (end_c 1) (97 ∷ 0 ∷ 1 ∷ []) ∷
-    entry.Command 0 (command.Sync 1 1) ∷
-    entry.Emit (end_c 1) (98 ∷ 1 ∷ []) ∷ []) ∷
-    Entries (entry.Took (end_h 1) (98 ∷ 1 ∷ []) ∷
-    entry.Active (end_h 1) ∷
-    entry.Emit (end_h 1) (96 ∷ []) ∷ []) ∷
-    Entries (entry.Took (end_c 1) (96 ∷ []) ∷
-    entry.Active (end_c 1) ∷ []) ∷
-    Entries (entry.Emit (end_c 1) (249 ∷ 4 ∷ 0 ∷ []) ∷ []) ∷
-    Entries (entry.Took (end_h 1) (249 ∷ 4 ∷ 0 ∷ []) ∷
-    entry.Up (end_h 1) 1 ∷
-    entry.Emit (end_h 1) (230 ∷ []) ∷ []) ∷
-    Entries (entry.Took (end_c 1) (230 ∷ []) ∷
-    entry.Up (end_c 1) 1 ∷ []) ∷
-    Entries (entry.Sent (end_h 1) 1 1 (3 ∷ []) ∷
-    entry.Emit (end_h 1) (128 ∷ 129 ∷ 3 ∷ []) ∷ []) ∷
-    Entries (entry.Took (end_c 1) (128 ∷ 129 ∷ 3 ∷ []) ∷
-    entry.Got (end_c 1) 1 1 (3 ∷ []) ∷
-    entry.Turn (end_c 1) 1 (3 ∷ []) ∷
-    entry.Command 0 (command.SetOpened 1 1 true) ∷
-    entry.Sent (end_c 1) 1 1 (128 ∷ 0 ∷ []) ∷
-    entry.AnyOk 0 2 ∷
-    entry.Emit (end_c 1) (193 ∷ []) ∷
-    entry.Emit (end_c 1) (129 ∷ 129 ∷ 128 ∷ 0 ∷ []) ∷ []) ∷
-    Entries (entry.Took (end_h 1) (193 ∷ []) ∷
-    entry.Acked (end_h 1) 1 1 ∷
-    entry.Took (end_h 1) (129 ∷ 129 ∷ 128 ∷ 0 ∷ []) ∷
-    entry.Got (end_h 1) 1 1 (128 ∷ 0 ∷ []) ∷
-    entry.Turn (end_h 1) 1 (128 ∷ 0 ∷ []) ∷
-    entry.Emit (end_h 1) (193 ∷ []) ∷ []) ∷
-    Entries (entry.Took (end_c 1) (193 ∷ []) ∷
-    entry.Acked (end_c 1) 1 1 ∷ []) ∷
-    Entries (entry.Emit (end_h 2) (97 ∷ 0 ∷ 2 ∷ []) ∷ []) ∷
-    Entries (entry.Took (end_c 2) (97 ∷ 0 ∷ 2 ∷ []) ∷
-    entry.Command 0 (command.Sync 2 2) ∷
-    entry.Emit (end_c 2) (98 ∷ 1 ∷ []) ∷ []) ∷
-    Entries (entry.Took (end_h 2) (98 ∷ 1 ∷ []) ∷
-    entry.Active (end_h 2) ∷
-    entry.Emit (end_h 2) (96 ∷ []) ∷ []) ∷
-    Entries (entry.Took (end_c 2) (96 ∷ []) ∷
-    entry.Active (end_c 2) ∷ []) ∷
-    Entries (entry.Emit (end_c 2) (249 ∷ 4 ∷ 0 ∷ []) ∷ []) ∷
-    Entries (entry.Took (end_h 2) (249 ∷ 4 ∷ 0 ∷ []) ∷
-    entry.Up (end_h 2) 1 ∷
-    entry.Emit (end_h 2) (230 ∷ []) ∷ []) ∷
-    Entries (entry.Took (end_c 2) (230 ∷ []) ∷
-    entry.Up (end_c 2) 1 ∷ []) ∷
-    Entries (entry.Sent (end_h 2) 1 1 (3 ∷ []) ∷
-    entry.Emit (end_h 2) (128 ∷ 129 ∷ 3 ∷ []) ∷ []) ∷
-    Entries (entry.Took (end_c 2) (128 ∷ 129 ∷ 3 ∷ []) ∷
-    entry.Got (end_c 2) 1 1 (3 ∷ []) ∷
-    entry.Turn (end_c 2) 1 (3 ∷ []) ∷
-    entry.Command 0 (command.SetOpened 2 1 true) ∷
-    entry.Sent (end_c 2) 1 1 (128 ∷ 0 ∷ []) ∷
-    entry.AnyOk 0 4 ∷
-    entry.Emit (end_c 2) (193 ∷ []) ∷
-    entry.Emit (end_c 2) (129 ∷ 129 ∷ 128 ∷ 0 ∷ []) ∷ []) ∷
-    Entries (entry.Took (end_h 2) (193 ∷ []) ∷
-    entry.Acked (end_h 2) 1 1 ∷
-    entry.Took (end_h 2) (129 ∷ 129 ∷ 128 ∷ 0 ∷ []) ∷
-    entry.Got (end_h 2) 1 1 (128 ∷ 0 ∷ []) ∷
-    entry.Turn (end_h 2) 1 (128 ∷ 0 ∷ []) ∷
-    entry.Emit (end_h 2) (193 ∷ []) ∷ []) ∷
-    Entries (entry.Took (end_c 2) (193 ∷ []) ∷
-    entry.Acked (end_c 2) 1 1 ∷ []) ∷
-    Entries (entry.Emit (end_h 3) (97 ∷ 0 ∷ 3 ∷ []) ∷ []) ∷
-    Entries (entry.Took (end_c 3) (97 ∷ 0 ∷ 3 ∷ []) ∷
-    entry.Command 0 (command.Sync 3 3) ∷
-    entry.Emit (end_c 3) (98 ∷ 1 ∷ []) ∷ []) ∷
-    Entries (entry.Took (end_h 3) (98 ∷ 1 ∷ []) ∷
-    entry.Active (end_h 3) ∷
-    entry.Emit (end_h 3) (96 ∷ []) ∷ []) ∷
-    Entries (entry.Took (end_c 3) (96 ∷ []) ∷
-    entry.Active (end_c 3) ∷ []) ∷
-    Entries (entry.Emit (end_c 3) (249 ∷ 4 ∷ 0 ∷ []) ∷ []) ∷
-    Entries (entry.Took (end_h 3) (249 ∷ 4 ∷ 0 ∷ []) ∷
-    entry.Up (end_h 3) 1 ∷
-    entry.Emit (end_h 3) (230 ∷ []) ∷ []) ∷
-    Entries (entry.Took (end_c 3) (230 ∷ []) ∷
-    entry.Up (end_c 3) 1 ∷ []) ∷
-    Entries (entry.Sent (end_h 3) 1 1 (3 ∷ []) ∷
-    entry.Emit (end_h 3) (128 ∷ 129 ∷ 3 ∷ []) ∷ []) ∷
-    Entries (entry.Took (end_c 3) (128 ∷ 129 ∷ 3 ∷ []) ∷
-    entry.Got (end_c 3) 1 1 (3 ∷ []) ∷
-    entry.Turn (end_c 3) 1 (3 ∷ []) ∷
-    entry.Command 0 (command.SetOpened 3 1 true) ∷
-    entry.Sent (end_c 3) 1 1 (128 ∷ 0 ∷ []) ∷
-    entry.AnyOk 0 6 ∷
-    entry.Emit (end_c 3) (193 ∷ []) ∷
-    entry.Emit (end_c 3) (129 ∷ 129 ∷ 128 ∷ 0 ∷ []) ∷ []) ∷
-    Entries (entry.Took (end_h 3) (193 ∷ []) ∷
-    entry.Acked (end_h 3) 1 1 ∷
-    entry.Took (end_h 3) (129 ∷ 129 ∷ 128 ∷ 0 ∷ []) ∷
-    entry.Got (end_h 3) 1 1 (128 ∷ 0 ∷ []) ∷
-    entry.Turn (end_h 3) 1 (128 ∷ 0 ∷ []) ∷
-    entry.Emit (end_h 3) (193 ∷ []) ∷ []) ∷
-    Entries (entry.Took (end_c 3) (193 ∷ []) ∷
-    entry.Acked (end_c 3) 1 1 ∷ []) ∷
-    Entries (entry.Sent (end_h 1) 1 1 (1 ∷ 3 ∷ 2 ∷ 3 ∷ []) ∷
-    entry.Emit (end_h 1) (137 ∷ 129 ∷ 1 ∷ 3 ∷ 2 ∷ 3 ∷ []) ∷ []) ∷
-    Entries (entry.Took (end_c 1) (137 ∷ 129 ∷ 1 ∷ 3 ∷ 2 ∷ 3 ∷ []) ∷
-    entry.Got (end_c 1) 1 1 (1 ∷ 3 ∷ 2 ∷ 3 ∷ []) ∷
-    entry.Turn (end_c 1) 1 (1 ∷ 3 ∷ 2 ∷ 3 ∷ []) ∷
-    entry.Command 0 (command.Set 1 0 3 (record { items = (2 ∷ 3 ∷ []) })) ∷
-    entry.Sent (end_c 1) 1 1 (128 ∷ []) ∷
-    entry.AnyOk 0 7 ∷
-    entry.Emit (end_c 1) (194 ∷ []) ∷
-    entry.Emit (end_c 1) (138 ∷ 129 ∷ 128 ∷ []) ∷ []) ∷
-    Entries (entry.Took (end_h 1) (194 ∷ []) ∷
-    entry.Acked (end_h 1) 1 2 ∷
-    entry.Took (end_h 1) (138 ∷ 129 ∷ 128 ∷ []) ∷
-    entry.Got (end_h 1) 1 1 (128 ∷ []) ∷
-    entry.Turn (end_h 1) 1 (128 ∷ []) ∷
-    entry.Emit (end_h 1) (194 ∷ []) ∷ []) ∷
-    Entries (entry.Took (end_c 1) (194 ∷ []) ∷
-    entry.Acked (end_c 1) 1 2 ∷ []) ∷
-    Entries (entry.Sent (end_h 2) 1 1 (16 ∷ 65 ∷ 1 ∷ 65 ∷ []) ∷
-    entry.Emit (end_h 2) (137 ∷ 129 ∷ 16 ∷ 65 ∷ 1 ∷ 65 ∷ []) ∷ []) ∷
-    Entries (entry.Took (end_c 2) (137 ∷ 129 ∷ 16 ∷ 65 ∷ 1 ∷ 65 ∷ []) ∷
-    entry.Got (end_c 2) 1 1 (16 ∷ 65 ∷ 1 ∷ 65 ∷ []) ∷
-    entry.Turn (end_c 2) 1 (16 ∷ 65 ∷ 1 ∷ 65 ∷ []) ∷
-    entry.Ask 1 (18 ∷ 2 ∷ 65 ∷ 1 ∷ 65 ∷ 2 ∷ []) ∷
-    entry.Sent (end_c 1) 1 1 (18 ∷ 2 ∷ 65 ∷ 1 ∷ 65 ∷ 2 ∷ []) ∷
-    entry.Emit (end_c 1) (146 ∷ 129 ∷ 18 ∷ 2 ∷ 65 ∷ 1 ∷ 65 ∷ 2 ∷ []) ∷
-    entry.Emit (end_c 2) (194 ∷ []) ∷ []) ∷
-    Entries (entry.Took (end_h 2) (194 ∷ []) ∷
-    entry.Acked (end_h 2) 1 2 ∷ []) ∷
-    Entries (entry.No no.Empty ∷ []) ∷
-    Entries (entry.Down (end_h 2) cause.Asked ∷
-    entry.Emit (end_h 2) (249 ∷ 4 ∷ 0 ∷ []) ∷ []) ∷
-    Entries (entry.Took (end_c 2) (249 ∷ 4 ∷ 0 ∷ []) ∷
-    entry.Down (end_c 2) cause.Peer ∷
-    entry.Up (end_c 2) 2 ∷
-    entry.Emit (end_c 2) (230 ∷ []) ∷ []) ∷
-    Entries (entry.Took (end_h 2) (230 ∷ []) ∷
-    entry.Up (end_h 2) 2 ∷ []) ∷
-    Entries (entry.Sent (end_h 3) 1 1 (16 ∷ 65 ∷ 1 ∷ 65 ∷ []) ∷
-    entry.Emit (end_h 3) (137 ∷ 129 ∷ 16 ∷ 65 ∷ 1 ∷ 65 ∷ []) ∷ []) ∷
-    Entries (entry.Took (end_c 3) (137 ∷ 129 ∷ 16 ∷ 65 ∷ 1 ∷ 65 ∷ []) ∷
-    entry.Got (end_c 3) 1 1 (16 ∷ 65 ∷ 1 ∷ 65 ∷ []) ∷
-    entry.Turn (end_c 3) 1 (16 ∷ 65 ∷ 1 ∷ 65 ∷ []) ∷
-    entry.Sent (end_c 3) 1 1 (136 ∷ []) ∷
-    entry.Emit (end_c 3) (194 ∷ []) ∷
-    entry.Emit (end_c 3) (138 ∷ 129 ∷ 136 ∷ []) ∷ []) ∷
-    Entries (entry.Took (end_h 3) (194 ∷ []) ∷
-    entry.Acked (end_h 3) 1 2 ∷
-    entry.Took (end_h 3) (138 ∷ 129 ∷ 136 ∷ []) ∷
-    entry.Got (end_h 3) 1 1 (136 ∷ []) ∷
-    entry.Turn (end_h 3) 1 (136 ∷ []) ∷
-    entry.Emit (end_h 3) (194 ∷ []) ∷ []) ∷
-    Entries (entry.Took (end_c 3) (194 ∷ []) ∷
-    entry.Acked (end_c 3) 1 2 ∷ []) ∷
-    Entries (entry.Sent (end_h 1) 1 1 (1 ∷ 3 ∷ 3 ∷ []) ∷
-    entry.Emit (end_h 1) (146 ∷ 129 ∷ 1 ∷ 3 ∷ 3 ∷ []) ∷ []) ∷
-    Entries (entry.Took (end_c 1) (146 ∷ 129 ∷ 1 ∷ 3 ∷ 3 ∷ []) ∷
-    entry.Got (end_c 1) 1 1 (1 ∷ 3 ∷ 3 ∷ []) ∷
-    entry.Turn (end_c 1) 1 (1 ∷ 3 ∷ 3 ∷ []) ∷
-    entry.Sent (end_c 1) 1 1 (136 ∷ []) ∷
-    entry.Emit (end_c 1) (195 ∷ []) ∷
-    entry.Emit (end_c 1) (155 ∷ 129 ∷ 136 ∷ []) ∷ []) ∷
-    Entries (entry.Took (end_h 1) (146 ∷ 129 ∷ 18 ∷ 2 ∷ 65 ∷ 1 ∷ 65 ∷ 2 ∷ []) ∷
-    entry.Got (end_h 1) 1 1 (18 ∷ 2 ∷ 65 ∷ 1 ∷ 65 ∷ 2 ∷ []) ∷
-    entry.Turn (end_h 1) 1 (18 ∷ 2 ∷ 65 ∷ 1 ∷ 65 ∷ 2 ∷ []) ∷
-    entry.Command 1 (command.Create (record { pid = 2; creator = 2; creator_gate = 65; dest = 1; dest_gate = 65; opened = false })) ∷
-    entry.Sent (end_h 1) 1 1 (128 ∷ []) ∷
-    entry.AnyOk 1 1 ∷
-    entry.Emit (end_h 1) (195 ∷ []) ∷
-    entry.Emit (end_h 1) (155 ∷ 129 ∷ 128 ∷ []) ∷ []) ∷
-    Entries (entry.Took (end_h 1) (195 ∷ []) ∷
-    entry.Acked (end_h 1) 1 3 ∷
-    entry.Took (end_h 1) (155 ∷ 129 ∷ 136 ∷ []) ∷
-    entry.Got (end_h 1) 1 1 (136 ∷ []) ∷
-    entry.Turn (end_h 1) 1 (136 ∷ []) ∷
-    entry.Emit (end_h 1) (196 ∷ []) ∷ []) ∷
-    Entries (entry.Took (end_c 1) (195 ∷ []) ∷
-    entry.Acked (end_c 1) 1 3 ∷
-    entry.Took (end_c 1) (155 ∷ 129 ∷ 128 ∷ []) ∷
-    entry.Got (end_c 1) 1 1 (128 ∷ []) ∷
-    entry.Turn (end_c 1) 1 (128 ∷ []) ∷
-    entry.Emit (end_c 1) (196 ∷ []) ∷
-    entry.Took (end_c 1) (196 ∷ []) ∷
-    entry.Acked (end_c 1) 1 4 ∷ []) ∷
-    Entries (entry.Took (end_h 1) (196 ∷ []) ∷
-    entry.Acked (end_h 1) 1 4 ∷ []) ∷
-    Entries (entry.No no.Empty ∷ []) ∷
-    Entries (entry.Sent (end_h 3) 1 1 (16 ∷ 65 ∷ 1 ∷ 65 ∷ []) ∷
-    entry.Emit (end_h 3) (146 ∷ 129 ∷ 16 ∷ 65 ∷ 1 ∷ 65 ∷ []) ∷ []) ∷
-    Entries (entry.Took (end_c 3) (146 ∷ 129 ∷ 16 ∷ 65 ∷ 1 ∷ 65 ∷ []) ∷
-    entry.Got (end_c 3) 1 1 (16 ∷ 65 ∷ 1 ∷ 65 ∷ []) ∷
-    entry.Turn (end_c 3) 1 (16 ∷ 65 ∷ 1 ∷ 65 ∷ []) ∷
-    entry.Ask 1 (18 ∷ 3 ∷ 65 ∷ 1 ∷ 65 ∷ 2 ∷ []) ∷
-    entry.Sent (end_c 1) 1 1 (18 ∷ 3 ∷ 65 ∷ 1 ∷ 65 ∷ 2 ∷ []) ∷
-    entry.Emit (end_c 1) (164 ∷ 129 ∷ 18 ∷ 3 ∷ 65 ∷ 1 ∷ 65 ∷ 2 ∷ []) ∷
-    entry.Emit (end_c 3) (195 ∷ []) ∷ []) ∷
-    Entries (entry.Took (end_h 1) (164 ∷ 129 ∷ 18 ∷ 3 ∷ 65 ∷ 1 ∷ 65 ∷ 2 ∷ []) ∷
-    entry.Got (end_h 1) 1 1 (18 ∷ 3 ∷ 65 ∷ 1 ∷ 65 ∷ 2 ∷ []) ∷
-    entry.Turn (end_h 1) 1 (18 ∷ 3 ∷ 65 ∷ 1 ∷ 65 ∷ 2 ∷ []) ∷
-    entry.Command 1 (command.Create (record { pid = 2; creator = 3; creator_gate = 65; dest = 1; dest_gate = 65; opened = false })) ∷
-    entry.Sent (end_h 1) 1 1 (128 ∷ []) ∷
-    entry.AnyOk 1 2 ∷
-    entry.Emit (end_h 1) (197 ∷ []) ∷
-    entry.Emit (end_h 1) (165 ∷ 129 ∷ 128 ∷ []) ∷ []) ∷
-    Entries (entry.Took (end_c 1) (197 ∷ []) ∷
-    entry.Acked (end_c 1) 1 5 ∷
-    entry.Took (end_c 1) (165 ∷ 129 ∷ 128 ∷ []) ∷
-    entry.Got (end_c 1) 1 1 (128 ∷ []) ∷
-    entry.Turn (end_c 1) 1 (128 ∷ []) ∷
-    entry.Command 0 (command.Create (record { pid = 2; creator = 3; creator_gate = 65; dest = 1; dest_gate = 65; opened = false })) ∷
-    entry.Sent (end_c 3) 1 1 (128 ∷ 3 ∷ 65 ∷ 1 ∷ 65 ∷ 2 ∷ []) ∷
-    entry.AnyOk 0 8 ∷
-    entry.Emit (end_c 1) (197 ∷ []) ∷
-    entry.Emit (end_c 3) (147 ∷ 129 ∷ 128 ∷ 3 ∷ 65 ∷ 1 ∷ 65 ∷ 2 ∷ []) ∷ []) ∷
-    Entries (entry.Took (end_h 3) (195 ∷ []) ∷
-    entry.Acked (end_h 3) 1 3 ∷
-    entry.Took (end_h 3) (147 ∷ 129 ∷ 128 ∷ 3 ∷ 65 ∷ 1 ∷ 65 ∷ 2 ∷ []) ∷
-    entry.Got (end_h 3) 1 1 (128 ∷ 3 ∷ 65 ∷ 1 ∷ 65 ∷ 2 ∷ []) ∷
-    entry.Turn (end_h 3) 1 (128 ∷ 3 ∷ 65 ∷ 1 ∷ 65 ∷ 2 ∷ []) ∷
-    entry.Command 3 (command.Create (record { pid = 2; creator = 3; creator_gate = 65; dest = 1; dest_gate = 65; opened = false })) ∷
-    entry.Emit (end_h 3) (195 ∷ []) ∷ []) ∷
-    Entries (entry.Took (end_c 3) (195 ∷ []) ∷
-    entry.Acked (end_c 3) 1 3 ∷ []) ∷
-    TablesOf 0 (record {
-      rows = ((record { pid = 2; creator = 3; creator_gate = 65; dest = 1; dest_gate = 65; opened = false }) ∷
-          []);
-      statics = ((1, 1) ∷ (2, 1) ∷ (3, 1) ∷ []);
-      values = ((record { host = 1; gate = 0; param = 3; value = record { items = (2 ∷ 3 ∷ []) } }) ∷
-          []);
-      syncs = ((1, 1) ∷ (2, 2) ∷ (3, 3) ∷ []);
-    }) ∷
-    TablesOf 1 (record {
-      rows = ((record { pid = 2; creator = 3; creator_gate = 65; dest = 1; dest_gate = 65; opened = false }) ∷
-          []);
-      statics = [];
-      values = [];
-      syncs = [];
-    }) ∷
-    []
-unfolding found_from hosts_where lowest_free
+forgotten : told_text (
+    "swp 1 hci 01 02 03\nboot 00\nboot 01\nboot 02\nboot 03\n" ∷
+    host_begins "01" ++ host_begins "02" ++ host_begins "03" ++
+    "send 01h 01 01030203\ndeliver 01c\ndeliver 01h\ndeliver 01c\nsend 02h 01 10410141\ndeliver 02c\ndeliver 02h\ndeliver 02c\nreset 02h\ndeliver 02c\n" ∷
+    "deliver 02h\nsend 03h 01 10410141\ndeliver 03c\ndeliver 03h\ndeliver 03c\nsend 01h 01 010303\ndeliver 01c\ndeliver 01h 1\ndeliver 01h\ndeliver 01c\n" ∷
+    "deliver 01h\ndeliver 01c\nsend 03h 01 10410141\ndeliver 03c\ndeliver 01h\ndeliver 01c\ndeliver 03h\ndeliver 03c\ntables 00\ntables 01\n" ∷
+    []) ≡ text (
+    "> swp 1 hci 01 02 03\n> boot 00\nbooted 00 0\n> boot 01\nbooted 01 0\n> boot 02\nbooted 02 0\n> boot 03\nbooted 03 0\n" ∷
+    host_begins_told "01" "2" ++ host_begins_told "02" "4" ++ host_begins_told "03" "6" ++
+    "> send 01h 01 01030203\nsent 01h 1 01 01030203\nemit 01h 898101030203\n" ∷
+    "> deliver 01c\ntook 01c 898101030203\ngot 01c 1 01 01030203\nturn 01c 01 01030203\ncommand 00 set 01 00 03 0203\nsent 01c 1 01 80\nok 00 7\n" ∷
+    "emit 01c C2\nemit 01c 8A8180\n" ∷
+    "> deliver 01h\ntook 01h C2\nacked 01h 1 2\ntook 01h 8A8180\ngot 01h 1 01 80\nturn 01h 01 80\nemit 01h C2\n" ∷
+    "> deliver 01c\ntook 01c C2\nacked 01c 1 2\n" ∷
+    "> send 02h 01 10410141\nsent 02h 1 01 10410141\nemit 02h 898110410141\n" ∷
+    "> deliver 02c\ntook 02c 898110410141\ngot 02c 1 01 10410141\nturn 02c 01 10410141\nask 01 120241014102\nsent 01c 1 01 120241014102\n" ∷
+    "emit 01c 9281120241014102\nemit 02c C2\n" ∷
+    "> deliver 02h\ntook 02h C2\nacked 02h 1 2\n" ∷
+    "> deliver 02c\nno empty\n" ∷
+    "> reset 02h\ndown 02h asked\nemit 02h F90400\n" ∷
+    "> deliver 02c\ntook 02c F90400\ndown 02c peer\nup 02c 2\nemit 02c E6\n" ∷
+    "> deliver 02h\ntook 02h E6\nup 02h 2\n" ∷
+    "> send 03h 01 10410141\nsent 03h 1 01 10410141\nemit 03h 898110410141\n" ∷
+    "> deliver 03c\ntook 03c 898110410141\ngot 03c 1 01 10410141\nturn 03c 01 10410141\nsent 03c 1 01 88\nemit 03c C2\nemit 03c 8A8188\n" ∷
+    "> deliver 03h\ntook 03h C2\nacked 03h 1 2\ntook 03h 8A8188\ngot 03h 1 01 88\nturn 03h 01 88\nemit 03h C2\n" ∷
+    "> deliver 03c\ntook 03c C2\nacked 03c 1 2\n" ∷
+    "> send 01h 01 010303\nsent 01h 1 01 010303\nemit 01h 9281010303\n" ∷
+    "> deliver 01c\ntook 01c 9281010303\ngot 01c 1 01 010303\nturn 01c 01 010303\nsent 01c 1 01 88\nemit 01c C3\nemit 01c 9B8188\n" ∷
+    "> deliver 01h 1\ntook 01h 9281120241014102\ngot 01h 1 01 120241014102\nturn 01h 01 120241014102\ncommand 01 create 02 02 41 01 41\nsent 01h 1 01 80\n" ∷
+    "ok 01 1\nemit 01h C3\nemit 01h 9B8180\n" ∷
+    "> deliver 01h\ntook 01h C3\nacked 01h 1 3\ntook 01h 9B8188\ngot 01h 1 01 88\nturn 01h 01 88\nemit 01h C4\n" ∷
+    "> deliver 01c\ntook 01c C3\nacked 01c 1 3\ntook 01c 9B8180\ngot 01c 1 01 80\nturn 01c 01 80\nemit 01c C4\ntook 01c C4\nacked 01c 1 4\n" ∷
+    "> deliver 01h\ntook 01h C4\nacked 01h 1 4\n" ∷
+    "> deliver 01c\nno empty\n" ∷
+    "> send 03h 01 10410141\nsent 03h 1 01 10410141\nemit 03h 928110410141\n" ∷
+    "> deliver 03c\ntook 03c 928110410141\ngot 03c 1 01 10410141\nturn 03c 01 10410141\nask 01 120341014102\nsent 01c 1 01 120341014102\n" ∷
+    "emit 01c A481120341014102\nemit 03c C3\n" ∷
+    "> deliver 01h\ntook 01h A481120341014102\ngot 01h 1 01 120341014102\nturn 01h 01 120341014102\ncommand 01 create 02 03 41 01 41\nsent 01h 1 01 80\n" ∷
+    "ok 01 2\nemit 01h C5\nemit 01h A58180\n" ∷
+    "> deliver 01c\ntook 01c C5\nacked 01c 1 5\ntook 01c A58180\ngot 01c 1 01 80\nturn 01c 01 80\ncommand 00 create 02 03 41 01 41\n" ∷
+    "sent 03c 1 01 800341014102\nok 00 8\nemit 01c C5\nemit 03c 9381800341014102\n" ∷
+    "> deliver 03h\ntook 03h C3\nacked 03h 1 3\ntook 03h 9381800341014102\ngot 03h 1 01 800341014102\nturn 03h 01 800341014102\n" ∷
+    "command 03 create 02 03 41 01 41\nemit 03h C3\n" ∷
+    "> deliver 03c\ntook 03c C3\nacked 03c 1 3\n" ∷
+    "> tables 00\ntables 00 1 3 1 3\npipe 02 03 41 01 41 closed\nstatic 01 01\nstatic 02 01\nstatic 03 01\nreg 01 00 03 0203\nsync 01 0001\nsync 02 0002\n" ∷
+    "sync 03 0003\n" ∷
+    "> tables 01\ntables 01 1 0 0 0\npipe 02 03 41 01 41 closed\n" ∷
+    [])
+unfolding found_from hosts_where lowest_free encode_with decode_pairs digits
 forgotten = refl

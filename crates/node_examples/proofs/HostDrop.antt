@@ -1,260 +1,53 @@
 -- A message that is held at a host is dropped as its link is reset.
-use Rattle.std.proofs.Common.{◌≡◌, refl, List, [], ◌∷◌, ◌++◌, Some, None}
-use Rattle.std.specs.Prelude.{true, false, replicate}
-use Rattle.swp_base.specs.declared.link_terms.Cause.TheVariants as cause
-use Rattle.trace_model.specs.declared.entry.LostCause.TheVariants as lost
-use Rattle.trace_model.specs.declared.entry.Entry.TheVariants as entry
-use Rattle.trace_model.specs.declared.line.Line.{Line}
-use Rattle.trace_model.specs.declared.line.Line.TheVariants as line
-use Rattle.hci_tables.specs.declared.command.Command.TheVariants as command
-use Rattle.node_machine.specs.world.World.{new_world, end_c, end_h}
-use Rattle.node_machine.specs.world.Lines.{noted_lines}
-use Rattle.node_machine.specs.world.Lines.NotedBelow.{Entries, TablesOf}
-use Rattle.journal_laws.specs.Records.{found_from}
-use Rattle.gate_admin.specs.View.{hosts_where}
-use Rattle.pipe_table.specs.PipeRows.{lowest_free}
+use Rattle.std.proofs.Common.{◌≡◌, refl, [], ◌∷◌, ◌++◌}
+use Rattle.std.specs.Prelude.{replicate}
+use Rattle.node_examples.specs.Openings.{host_begins, host_begins_told}
+use Rattle.node_examples.specs.Told.{told_text, text, found_from, hosts_where, lowest_free, encode_with, decode_pairs, digits}
 
-abbrev pub host_drop_lines : List Line
-host_drop_lines =
-    line.Boot 0 ∷
-    line.Boot 1 ∷
-    line.Boot 2 ∷
-    line.Activate 1 1 1 ∷
-    line.Deliver (end_c 1) None ∷
-    line.Deliver (end_h 1) None ∷
-    line.Deliver (end_c 1) None ∷
-    line.Reset (end_c 1) None ∷
-    line.Deliver (end_h 1) None ∷
-    line.Deliver (end_c 1) None ∷
-    line.Send (end_h 1) 1 (3 ∷ []) ∷
-    line.Deliver (end_c 1) None ∷
-    line.Deliver (end_h 1) None ∷
-    line.Deliver (end_c 1) None ∷
-    line.Activate 2 2 1 ∷
-    line.Deliver (end_c 2) None ∷
-    line.Deliver (end_h 2) None ∷
-    line.Deliver (end_c 2) None ∷
-    line.Reset (end_c 2) None ∷
-    line.Deliver (end_h 2) None ∷
-    line.Deliver (end_c 2) None ∷
-    line.Send (end_h 2) 1 (3 ∷ []) ∷
-    line.Deliver (end_c 2) None ∷
-    line.Deliver (end_h 2) None ∷
-    line.Deliver (end_c 2) None ∷
-    line.Send (end_h 1) 1 (1 ∷ 3 ∷ 2 ∷ []) ∷
-    line.Deliver (end_c 1) None ∷
-    line.Deliver (end_h 1) None ∷
-    line.Deliver (end_c 1) None ∷
-    line.Send (end_h 2) 1 (16 ∷ 65 ∷ 1 ∷ 65 ∷ []) ∷
-    line.Deliver (end_c 2) None ∷
-    line.Deliver (end_h 1) None ∷
-    line.Deliver (end_c 1) None ∷
-    line.Deliver (end_h 2) None ∷
-    line.Deliver (end_c 2) None ∷
-    line.Deliver (end_h 1) None ∷
-    line.Send (end_h 1) 2 ((66 ∷ []) ++ replicate 4095 51) ∷
-    line.Send (end_h 2) 1 (17 ∷ 2 ∷ []) ∷
-    line.Deliver (end_c 2) None ∷
-    line.Deliver (end_h 1) None ∷
-    line.Tick None ∷
-    line.Reset (end_h 1) None ∷
-    line.Deliver (end_c 1) None ∷
-    line.Deliver (end_h 1) None ∷
-    line.Tick (Some 10) ∷
-    line.Tables 1 ∷
-    line.Tables 0 ∷
-    []
-
-host_drop : noted_lines (new_world (1 ∷ 2 ∷ [])) host_drop_lines ≡
-    Entries (entry.Booted 0 0 ∷ []) ∷
-    Entries (entry.Booted 1 0 ∷ []) ∷
-    Entries (entry.Booted 2 0 ∷ []) ∷
-    Entries (entry.Emit (end_h 1) (97 ∷ 0 ∷ 1 ∷ []) ∷ []) ∷
-    Entries (entry.Took (end_c 1) (97 ∷ 0 ∷ 1 ∷ []) ∷
-    entry.Command 0 (command.Sync 1 1) ∷
-    entry.Emit (end_c 1) (98 ∷ 1 ∷ []) ∷ []) ∷
-    Entries (entry.Took (end_h 1) (98 ∷ 1 ∷ []) ∷
-    entry.Active (end_h 1) ∷
-    entry.Emit (end_h 1) (96 ∷ []) ∷ []) ∷
-    Entries (entry.Took (end_c 1) (96 ∷ []) ∷
-    entry.Active (end_c 1) ∷ []) ∷
-    Entries (entry.Emit (end_c 1) (249 ∷ 4 ∷ 0 ∷ []) ∷ []) ∷
-    Entries (entry.Took (end_h 1) (249 ∷ 4 ∷ 0 ∷ []) ∷
-    entry.Up (end_h 1) 1 ∷
-    entry.Emit (end_h 1) (230 ∷ []) ∷ []) ∷
-    Entries (entry.Took (end_c 1) (230 ∷ []) ∷
-    entry.Up (end_c 1) 1 ∷ []) ∷
-    Entries (entry.Sent (end_h 1) 1 1 (3 ∷ []) ∷
-    entry.Emit (end_h 1) (128 ∷ 129 ∷ 3 ∷ []) ∷ []) ∷
-    Entries (entry.Took (end_c 1) (128 ∷ 129 ∷ 3 ∷ []) ∷
-    entry.Got (end_c 1) 1 1 (3 ∷ []) ∷
-    entry.Turn (end_c 1) 1 (3 ∷ []) ∷
-    entry.Command 0 (command.SetOpened 1 1 true) ∷
-    entry.Sent (end_c 1) 1 1 (128 ∷ 0 ∷ []) ∷
-    entry.AnyOk 0 2 ∷
-    entry.Emit (end_c 1) (193 ∷ []) ∷
-    entry.Emit (end_c 1) (129 ∷ 129 ∷ 128 ∷ 0 ∷ []) ∷ []) ∷
-    Entries (entry.Took (end_h 1) (193 ∷ []) ∷
-    entry.Acked (end_h 1) 1 1 ∷
-    entry.Took (end_h 1) (129 ∷ 129 ∷ 128 ∷ 0 ∷ []) ∷
-    entry.Got (end_h 1) 1 1 (128 ∷ 0 ∷ []) ∷
-    entry.Turn (end_h 1) 1 (128 ∷ 0 ∷ []) ∷
-    entry.Emit (end_h 1) (193 ∷ []) ∷ []) ∷
-    Entries (entry.Took (end_c 1) (193 ∷ []) ∷
-    entry.Acked (end_c 1) 1 1 ∷ []) ∷
-    Entries (entry.Emit (end_h 2) (97 ∷ 0 ∷ 2 ∷ []) ∷ []) ∷
-    Entries (entry.Took (end_c 2) (97 ∷ 0 ∷ 2 ∷ []) ∷
-    entry.Command 0 (command.Sync 2 2) ∷
-    entry.Emit (end_c 2) (98 ∷ 1 ∷ []) ∷ []) ∷
-    Entries (entry.Took (end_h 2) (98 ∷ 1 ∷ []) ∷
-    entry.Active (end_h 2) ∷
-    entry.Emit (end_h 2) (96 ∷ []) ∷ []) ∷
-    Entries (entry.Took (end_c 2) (96 ∷ []) ∷
-    entry.Active (end_c 2) ∷ []) ∷
-    Entries (entry.Emit (end_c 2) (249 ∷ 4 ∷ 0 ∷ []) ∷ []) ∷
-    Entries (entry.Took (end_h 2) (249 ∷ 4 ∷ 0 ∷ []) ∷
-    entry.Up (end_h 2) 1 ∷
-    entry.Emit (end_h 2) (230 ∷ []) ∷ []) ∷
-    Entries (entry.Took (end_c 2) (230 ∷ []) ∷
-    entry.Up (end_c 2) 1 ∷ []) ∷
-    Entries (entry.Sent (end_h 2) 1 1 (3 ∷ []) ∷
-    entry.Emit (end_h 2) (128 ∷ 129 ∷ 3 ∷ []) ∷ []) ∷
-    Entries (entry.Took (end_c 2) (128 ∷ 129 ∷ 3 ∷ []) ∷
-    entry.Got (end_c 2) 1 1 (3 ∷ []) ∷
-    entry.Turn (end_c 2) 1 (3 ∷ []) ∷
-    entry.Command 0 (command.SetOpened 2 1 true) ∷
-    entry.Sent (end_c 2) 1 1 (128 ∷ 0 ∷ []) ∷
-    entry.AnyOk 0 4 ∷
-    entry.Emit (end_c 2) (193 ∷ []) ∷
-    entry.Emit (end_c 2) (129 ∷ 129 ∷ 128 ∷ 0 ∷ []) ∷ []) ∷
-    Entries (entry.Took (end_h 2) (193 ∷ []) ∷
-    entry.Acked (end_h 2) 1 1 ∷
-    entry.Took (end_h 2) (129 ∷ 129 ∷ 128 ∷ 0 ∷ []) ∷
-    entry.Got (end_h 2) 1 1 (128 ∷ 0 ∷ []) ∷
-    entry.Turn (end_h 2) 1 (128 ∷ 0 ∷ []) ∷
-    entry.Emit (end_h 2) (193 ∷ []) ∷ []) ∷
-    Entries (entry.Took (end_c 2) (193 ∷ []) ∷
-    entry.Acked (end_c 2) 1 1 ∷ []) ∷
-    Entries (entry.Sent (end_h 1) 1 1 (1 ∷ 3 ∷ 2 ∷ []) ∷
-    entry.Emit (end_h 1) (137 ∷ 129 ∷ 1 ∷ 3 ∷ 2 ∷ []) ∷ []) ∷
-    Entries (entry.Took (end_c 1) (137 ∷ 129 ∷ 1 ∷ 3 ∷ 2 ∷ []) ∷
-    entry.Got (end_c 1) 1 1 (1 ∷ 3 ∷ 2 ∷ []) ∷
-    entry.Turn (end_c 1) 1 (1 ∷ 3 ∷ 2 ∷ []) ∷
-    entry.Command 0 (command.Set 1 0 3 (record { items = (2 ∷ []) })) ∷
-    entry.Sent (end_c 1) 1 1 (128 ∷ []) ∷
-    entry.AnyOk 0 5 ∷
-    entry.Emit (end_c 1) (194 ∷ []) ∷
-    entry.Emit (end_c 1) (138 ∷ 129 ∷ 128 ∷ []) ∷ []) ∷
-    Entries (entry.Took (end_h 1) (194 ∷ []) ∷
-    entry.Acked (end_h 1) 1 2 ∷
-    entry.Took (end_h 1) (138 ∷ 129 ∷ 128 ∷ []) ∷
-    entry.Got (end_h 1) 1 1 (128 ∷ []) ∷
-    entry.Turn (end_h 1) 1 (128 ∷ []) ∷
-    entry.Emit (end_h 1) (194 ∷ []) ∷ []) ∷
-    Entries (entry.Took (end_c 1) (194 ∷ []) ∷
-    entry.Acked (end_c 1) 1 2 ∷ []) ∷
-    Entries (entry.Sent (end_h 2) 1 1 (16 ∷ 65 ∷ 1 ∷ 65 ∷ []) ∷
-    entry.Emit (end_h 2) (137 ∷ 129 ∷ 16 ∷ 65 ∷ 1 ∷ 65 ∷ []) ∷ []) ∷
-    Entries (entry.Took (end_c 2) (137 ∷ 129 ∷ 16 ∷ 65 ∷ 1 ∷ 65 ∷ []) ∷
-    entry.Got (end_c 2) 1 1 (16 ∷ 65 ∷ 1 ∷ 65 ∷ []) ∷
-    entry.Turn (end_c 2) 1 (16 ∷ 65 ∷ 1 ∷ 65 ∷ []) ∷
-    entry.Ask 1 (18 ∷ 2 ∷ 65 ∷ 1 ∷ 65 ∷ 2 ∷ []) ∷
-    entry.Sent (end_c 1) 1 1 (18 ∷ 2 ∷ 65 ∷ 1 ∷ 65 ∷ 2 ∷ []) ∷
-    entry.Emit (end_c 1) (146 ∷ 129 ∷ 18 ∷ 2 ∷ 65 ∷ 1 ∷ 65 ∷ 2 ∷ []) ∷
-    entry.Emit (end_c 2) (194 ∷ []) ∷ []) ∷
-    Entries (entry.Took (end_h 1) (146 ∷ 129 ∷ 18 ∷ 2 ∷ 65 ∷ 1 ∷ 65 ∷ 2 ∷ []) ∷
-    entry.Got (end_h 1) 1 1 (18 ∷ 2 ∷ 65 ∷ 1 ∷ 65 ∷ 2 ∷ []) ∷
-    entry.Turn (end_h 1) 1 (18 ∷ 2 ∷ 65 ∷ 1 ∷ 65 ∷ 2 ∷ []) ∷
-    entry.Command 1 (command.Create (record { pid = 2; creator = 2; creator_gate = 65; dest = 1; dest_gate = 65; opened = false })) ∷
-    entry.Sent (end_h 1) 1 1 (128 ∷ []) ∷
-    entry.AnyOk 1 1 ∷
-    entry.Emit (end_h 1) (195 ∷ []) ∷
-    entry.Emit (end_h 1) (147 ∷ 129 ∷ 128 ∷ []) ∷ []) ∷
-    Entries (entry.Took (end_c 1) (195 ∷ []) ∷
-    entry.Acked (end_c 1) 1 3 ∷
-    entry.Took (end_c 1) (147 ∷ 129 ∷ 128 ∷ []) ∷
-    entry.Got (end_c 1) 1 1 (128 ∷ []) ∷
-    entry.Turn (end_c 1) 1 (128 ∷ []) ∷
-    entry.Command 0 (command.Create (record { pid = 2; creator = 2; creator_gate = 65; dest = 1; dest_gate = 65; opened = false })) ∷
-    entry.Sent (end_c 2) 1 1 (128 ∷ 2 ∷ 65 ∷ 1 ∷ 65 ∷ 2 ∷ []) ∷
-    entry.AnyOk 0 6 ∷
-    entry.Emit (end_c 1) (195 ∷ []) ∷
-    entry.Emit (end_c 2) (138 ∷ 129 ∷ 128 ∷ 2 ∷ 65 ∷ 1 ∷ 65 ∷ 2 ∷ []) ∷ []) ∷
-    Entries (entry.Took (end_h 2) (194 ∷ []) ∷
-    entry.Acked (end_h 2) 1 2 ∷
-    entry.Took (end_h 2) (138 ∷ 129 ∷ 128 ∷ 2 ∷ 65 ∷ 1 ∷ 65 ∷ 2 ∷ []) ∷
-    entry.Got (end_h 2) 1 1 (128 ∷ 2 ∷ 65 ∷ 1 ∷ 65 ∷ 2 ∷ []) ∷
-    entry.Turn (end_h 2) 1 (128 ∷ 2 ∷ 65 ∷ 1 ∷ 65 ∷ 2 ∷ []) ∷
-    entry.Command 2 (command.Create (record { pid = 2; creator = 2; creator_gate = 65; dest = 1; dest_gate = 65; opened = false })) ∷
-    entry.Emit (end_h 2) (194 ∷ []) ∷ []) ∷
-    Entries (entry.Took (end_c 2) (194 ∷ []) ∷
-    entry.Acked (end_c 2) 1 2 ∷ []) ∷
-    Entries (entry.Took (end_h 1) (195 ∷ []) ∷
-    entry.Acked (end_h 1) 1 3 ∷ []) ∷
-    Entries (entry.Sent (end_h 1) 1 2 ((66 ∷ []) ++ replicate 4095 51) ∷
-    entry.Emit (end_h 1) ((155 ∷ 2 ∷ 66 ∷ []) ++ replicate 27 51) ∷
-    entry.Emit (end_h 1) ((163 ∷ 2 ∷ []) ++ replicate 28 51) ∷
-    entry.Emit (end_h 1) ((171 ∷ 2 ∷ []) ++ replicate 28 51) ∷
-    entry.Emit (end_h 1) ((179 ∷ 2 ∷ []) ++ replicate 28 51) ∷ []) ∷
-    Entries (entry.Sent (end_h 2) 1 1 (17 ∷ 2 ∷ []) ∷
-    entry.Emit (end_h 2) (146 ∷ 129 ∷ 17 ∷ 2 ∷ []) ∷ []) ∷
-    Entries (entry.Took (end_c 2) (146 ∷ 129 ∷ 17 ∷ 2 ∷ []) ∷
-    entry.Got (end_c 2) 1 1 (17 ∷ 2 ∷ []) ∷
-    entry.Turn (end_c 2) 1 (17 ∷ 2 ∷ []) ∷
-    entry.Command 0 (command.Delete 2) ∷
-    entry.Sent (end_c 2) 1 1 (128 ∷ []) ∷
-    entry.AnyOk 0 7 ∷
-    entry.Sent (end_c 1) 1 1 (19 ∷ 2 ∷ []) ∷
-    entry.Emit (end_c 1) (155 ∷ 129 ∷ 19 ∷ 2 ∷ []) ∷
-    entry.Emit (end_c 2) (195 ∷ []) ∷
-    entry.Emit (end_c 2) (147 ∷ 129 ∷ 128 ∷ []) ∷ []) ∷
-    Entries (entry.Took (end_h 1) (155 ∷ 129 ∷ 19 ∷ 2 ∷ []) ∷
-    entry.Got (end_h 1) 1 1 (19 ∷ 2 ∷ []) ∷
-    entry.Held (end_h 1) 1 0 ∷
-    entry.Emit (end_h 1) (196 ∷ []) ∷ []) ∷
-    Entries [] ∷
-    Entries (entry.Down (end_h 1) cause.Asked ∷
-    entry.Turn (end_h 1) 1 (19 ∷ 2 ∷ []) ∷
-    entry.Dropped (end_h 1) 1 ∷
-    entry.Emit (end_h 1) (249 ∷ 4 ∷ 0 ∷ []) ∷ []) ∷
-    Entries (entry.Took (end_c 1) ((155 ∷ 2 ∷ 66 ∷ []) ++ replicate 27 51) ∷
-    entry.Emit (end_c 1) (196 ∷ []) ∷
-    entry.Took (end_c 1) ((163 ∷ 2 ∷ []) ++ replicate 28 51) ∷
-    entry.Emit (end_c 1) (197 ∷ []) ∷
-    entry.Took (end_c 1) ((171 ∷ 2 ∷ []) ++ replicate 28 51) ∷
-    entry.Emit (end_c 1) (198 ∷ []) ∷
-    entry.Took (end_c 1) ((179 ∷ 2 ∷ []) ++ replicate 28 51) ∷
-    entry.Emit (end_c 1) (199 ∷ []) ∷
-    entry.Took (end_c 1) (196 ∷ []) ∷
-    entry.Acked (end_c 1) 1 4 ∷
-    entry.Took (end_c 1) (249 ∷ 4 ∷ 0 ∷ []) ∷
-    entry.Down (end_c 1) cause.Peer ∷
-    entry.Up (end_c 1) 2 ∷
-    entry.Emit (end_c 1) (230 ∷ []) ∷ []) ∷
-    Entries (entry.Took (end_h 1) (196 ∷ []) ∷
-    entry.Took (end_h 1) (197 ∷ []) ∷
-    entry.Took (end_h 1) (198 ∷ []) ∷
-    entry.Took (end_h 1) (199 ∷ []) ∷
-    entry.Took (end_h 1) (230 ∷ []) ∷
-    entry.Up (end_h 1) 2 ∷ []) ∷
-    Entries (entry.Lost (end_h 2) (195 ∷ []) lost.Age ∷
-    entry.Lost (end_h 2) (147 ∷ 129 ∷ 128 ∷ []) lost.Age ∷
-    entry.Emit (end_c 2) (147 ∷ 129 ∷ 128 ∷ []) ∷
-    entry.Emit (end_h 2) (146 ∷ 129 ∷ 17 ∷ 2 ∷ []) ∷ []) ∷
-    TablesOf 1 (record {
-      rows = ((record { pid = 2; creator = 2; creator_gate = 65; dest = 1; dest_gate = 65; opened = false }) ∷
-          []);
-      statics = [];
-      values = [];
-      syncs = [];
-    }) ∷
-    TablesOf 0 (record {
-      rows = [];
-      statics = ((1, 1) ∷ (2, 1) ∷ []);
-      values = ((record { host = 1; gate = 0; param = 3; value = record { items = (2 ∷ []) } }) ∷
-          []);
-      syncs = ((1, 1) ∷ (2, 2) ∷ []);
-    }) ∷
-    []
-unfolding found_from hosts_where lowest_free
+host_drop : told_text (
+    "swp 1 hci 01 02\nboot 00\nboot 01\nboot 02\n" ∷
+    host_begins "01" ++ host_begins "02" ++
+    "send 01h 01 010302\ndeliver 01c\ndeliver 01h\ndeliver 01c\nsend 02h 01 10410141\ndeliver 02c\ndeliver 01h\ndeliver 01c\ndeliver 02h\ndeliver 02c\n" ∷
+    "deliver 01h\nsend 01h 02 42" ∷ replicate 4095 "33" ++
+    "\nsend 02h 01 1102\ndeliver 02c\ndeliver 01h\ntick\nreset 01h\ndeliver 01c\ndeliver 01h\ntick 10\ntables 01\ntables 00\n" ∷
+    []) ≡ text (
+    "> swp 1 hci 01 02\n> boot 00\nbooted 00 0\n> boot 01\nbooted 01 0\n> boot 02\nbooted 02 0\n" ∷
+    host_begins_told "01" "2" ++ host_begins_told "02" "4" ++
+    "> send 01h 01 010302\nsent 01h 1 01 010302\nemit 01h 8981010302\n" ∷
+    "> deliver 01c\ntook 01c 8981010302\ngot 01c 1 01 010302\nturn 01c 01 010302\ncommand 00 set 01 00 03 02\nsent 01c 1 01 80\nok 00 5\nemit 01c C2\n" ∷
+    "emit 01c 8A8180\n" ∷
+    "> deliver 01h\ntook 01h C2\nacked 01h 1 2\ntook 01h 8A8180\ngot 01h 1 01 80\nturn 01h 01 80\nemit 01h C2\n" ∷
+    "> deliver 01c\ntook 01c C2\nacked 01c 1 2\n" ∷
+    "> send 02h 01 10410141\nsent 02h 1 01 10410141\nemit 02h 898110410141\n" ∷
+    "> deliver 02c\ntook 02c 898110410141\ngot 02c 1 01 10410141\nturn 02c 01 10410141\nask 01 120241014102\nsent 01c 1 01 120241014102\n" ∷
+    "emit 01c 9281120241014102\nemit 02c C2\n" ∷
+    "> deliver 01h\ntook 01h 9281120241014102\ngot 01h 1 01 120241014102\nturn 01h 01 120241014102\ncommand 01 create 02 02 41 01 41\nsent 01h 1 01 80\n" ∷
+    "ok 01 1\nemit 01h C3\nemit 01h 938180\n" ∷
+    "> deliver 01c\ntook 01c C3\nacked 01c 1 3\ntook 01c 938180\ngot 01c 1 01 80\nturn 01c 01 80\ncommand 00 create 02 02 41 01 41\n" ∷
+    "sent 02c 1 01 800241014102\nok 00 6\nemit 01c C3\nemit 02c 8A81800241014102\n" ∷
+    "> deliver 02h\ntook 02h C2\nacked 02h 1 2\ntook 02h 8A81800241014102\ngot 02h 1 01 800241014102\nturn 02h 01 800241014102\n" ∷
+    "command 02 create 02 02 41 01 41\nemit 02h C2\n" ∷
+    "> deliver 02c\ntook 02c C2\nacked 02c 1 2\n" ∷
+    "> deliver 01h\ntook 01h C3\nacked 01h 1 3\n" ∷
+    "> send 01h 02 42" ∷ replicate 4095 "33" ++
+    "\nsent 01h 1 02 42" ∷ replicate 4095 "33" ++
+    "\nemit 01h 9B0242333333333333333333333333333333333333333333333333333333\nemit 01h A30233333333333333333333333333333333333333333333333333333333\n" ∷
+    "emit 01h AB0233333333333333333333333333333333333333333333333333333333\nemit 01h B30233333333333333333333333333333333333333333333333333333333\n" ∷
+    "> send 02h 01 1102\nsent 02h 1 01 1102\nemit 02h 92811102\n" ∷
+    "> deliver 02c\ntook 02c 92811102\ngot 02c 1 01 1102\nturn 02c 01 1102\ncommand 00 delete 02\nsent 02c 1 01 80\nok 00 7\nsent 01c 1 01 1302\n" ∷
+    "emit 01c 9B811302\nemit 02c C3\nemit 02c 938180\n" ∷
+    "> deliver 01h\ntook 01h 9B811302\ngot 01h 1 01 1302\nheld 01h 1 0\nemit 01h C4\n" ∷
+    "> tick\n" ∷
+    "> reset 01h\ndown 01h asked\nturn 01h 01 1302\ndrop 01h 01\nemit 01h F90400\n" ∷
+    "> deliver 01c\ntook 01c 9B0242333333333333333333333333333333333333333333333333333333\nemit 01c C4\n" ∷
+    "took 01c A30233333333333333333333333333333333333333333333333333333333\nemit 01c C5\n" ∷
+    "took 01c AB0233333333333333333333333333333333333333333333333333333333\nemit 01c C6\n" ∷
+    "took 01c B30233333333333333333333333333333333333333333333333333333333\nemit 01c C7\ntook 01c C4\nacked 01c 1 4\ntook 01c F90400\ndown 01c peer\n" ∷
+    "up 01c 2\nemit 01c E6\n" ∷
+    "> deliver 01h\ntook 01h C4\ntook 01h C5\ntook 01h C6\ntook 01h C7\ntook 01h E6\nup 01h 2\n" ∷
+    "> tick 10\nlost 02h C3 age\nlost 02h 938180 age\nemit 02c 938180\nemit 02h 92811102\n" ∷
+    "> tables 01\ntables 01 1 0 0 0\npipe 02 02 41 01 41 closed\n" ∷
+    "> tables 00\ntables 00 0 2 1 2\nstatic 01 01\nstatic 02 01\nreg 01 00 03 02\nsync 01 0001\nsync 02 0002\n" ∷
+    [])
+unfolding found_from hosts_where lowest_free encode_with decode_pairs digits
 host_drop = refl

@@ -1,409 +1,84 @@
 -- Pipes to gates of a host: posts go back, the identity gate is served, and what comes else is only noted.
-use Rattle.std.proofs.Common.{◌≡◌, refl, List, [], ◌∷◌, None}
-use Rattle.std.specs.Prelude.{true, false}
-use Rattle.trace_model.specs.declared.entry.NoCause.TheVariants as no
-use Rattle.trace_model.specs.declared.entry.Entry.TheVariants as entry
-use Rattle.trace_model.specs.declared.line.Line.{Line}
-use Rattle.trace_model.specs.declared.line.Line.TheVariants as line
-use Rattle.hci_tables.specs.declared.command.Command.TheVariants as command
-use Rattle.node_machine.specs.world.World.{new_world, end_c, end_h}
-use Rattle.node_machine.specs.world.Lines.{noted_lines}
-use Rattle.node_machine.specs.world.Lines.NotedBelow.{Entries}
-use Rattle.journal_laws.specs.Records.{found_from}
-use Rattle.gate_admin.specs.View.{hosts_where}
-use Rattle.pipe_table.specs.PipeRows.{lowest_free}
+use Rattle.std.proofs.Common.{◌≡◌, refl, [], ◌∷◌, ◌++◌}
+use Rattle.node_examples.specs.Openings.{host_begins, host_begins_told}
+use Rattle.node_examples.specs.Told.{told_text, text, found_from, hosts_where, lowest_free, encode_with, decode_pairs, digits}
 
-abbrev pub host_gates_lines : List Line
-host_gates_lines =
-    line.Boot 0 ∷
-    line.Boot 1 ∷
-    line.Boot 2 ∷
-    line.Activate 1 1 1 ∷
-    line.Deliver (end_c 1) None ∷
-    line.Deliver (end_h 1) None ∷
-    line.Deliver (end_c 1) None ∷
-    line.Reset (end_c 1) None ∷
-    line.Deliver (end_h 1) None ∷
-    line.Deliver (end_c 1) None ∷
-    line.Send (end_h 1) 1 (3 ∷ []) ∷
-    line.Deliver (end_c 1) None ∷
-    line.Deliver (end_h 1) None ∷
-    line.Deliver (end_c 1) None ∷
-    line.Activate 2 2 1 ∷
-    line.Deliver (end_c 2) None ∷
-    line.Deliver (end_h 2) None ∷
-    line.Deliver (end_c 2) None ∷
-    line.Reset (end_c 2) None ∷
-    line.Deliver (end_h 2) None ∷
-    line.Deliver (end_c 2) None ∷
-    line.Send (end_h 2) 1 (3 ∷ []) ∷
-    line.Deliver (end_c 2) None ∷
-    line.Deliver (end_h 2) None ∷
-    line.Deliver (end_c 2) None ∷
-    line.Send (end_h 1) 1 (1 ∷ 3 ∷ 2 ∷ []) ∷
-    line.Deliver (end_c 1) None ∷
-    line.Deliver (end_h 1) None ∷
-    line.Deliver (end_c 1) None ∷
-    line.Send (end_h 2) 1 (16 ∷ 65 ∷ 1 ∷ 4 ∷ []) ∷
-    line.Deliver (end_c 2) None ∷
-    line.Deliver (end_h 1) None ∷
-    line.Deliver (end_c 1) None ∷
-    line.Deliver (end_h 2) None ∷
-    line.Deliver (end_c 2) None ∷
-    line.Deliver (end_h 1) None ∷
-    line.Send (end_h 2) 1 (16 ∷ 65 ∷ 1 ∷ 5 ∷ []) ∷
-    line.Deliver (end_c 2) None ∷
-    line.Deliver (end_h 1) None ∷
-    line.Deliver (end_c 1) None ∷
-    line.Deliver (end_h 2) None ∷
-    line.Deliver (end_c 2) None ∷
-    line.Deliver (end_h 1) None ∷
-    line.Send (end_h 2) 1 (16 ∷ 65 ∷ 1 ∷ 6 ∷ []) ∷
-    line.Deliver (end_c 2) None ∷
-    line.Deliver (end_h 1) None ∷
-    line.Deliver (end_c 1) None ∷
-    line.Deliver (end_h 2) None ∷
-    line.Deliver (end_c 2) None ∷
-    line.Deliver (end_h 1) None ∷
-    line.Send (end_h 2) 2 (3 ∷ []) ∷
-    line.Deliver (end_c 2) None ∷
-    line.Deliver (end_h 2) None ∷
-    line.Deliver (end_c 2) None ∷
-    line.Send (end_h 2) 3 (3 ∷ []) ∷
-    line.Deliver (end_c 2) None ∷
-    line.Deliver (end_h 2) None ∷
-    line.Deliver (end_c 2) None ∷
-    line.Send (end_h 2) 2 (66 ∷ 170 ∷ 187 ∷ []) ∷
-    line.Deliver (end_c 2) None ∷
-    line.Deliver (end_h 1) None ∷
-    line.Deliver (end_c 1) None ∷
-    line.Deliver (end_h 2) None ∷
-    line.Deliver (end_c 2) None ∷
-    line.Send (end_h 2) 3 (2 ∷ 4 ∷ []) ∷
-    line.Deliver (end_c 2) None ∷
-    line.Deliver (end_h 1) None ∷
-    line.Deliver (end_c 1) None ∷
-    line.Deliver (end_h 2) None ∷
-    line.Deliver (end_c 2) None ∷
-    line.Send (end_h 2) 2 (2 ∷ 4 ∷ []) ∷
-    line.Deliver (end_c 2) None ∷
-    line.Deliver (end_h 1) None ∷
-    line.Deliver (end_c 1) None ∷
-    line.Deliver (end_c 2) None ∷
-    []
-
-host_gates : noted_lines (new_world (1 ∷ 2 ∷ [])) host_gates_lines ≡
-    Entries (entry.Booted 0 0 ∷ []) ∷
-    Entries (entry.Booted 1 0 ∷ []) ∷
-    Entries (entry.Booted 2 0 ∷ []) ∷
-    Entries (entry.Emit (end_h 1) (97 ∷ 0 ∷ 1 ∷ []) ∷ []) ∷
-    Entries (entry.Took (end_c 1) (97 ∷ 0 ∷ 1 ∷ []) ∷
-    entry.Command 0 (command.Sync 1 1) ∷
-    entry.Emit (end_c 1) (98 ∷ 1 ∷ []) ∷ []) ∷
-    Entries (entry.Took (end_h 1) (98 ∷ 1 ∷ []) ∷
-    entry.Active (end_h 1) ∷
-    entry.Emit (end_h 1) (96 ∷ []) ∷ []) ∷
-    Entries (entry.Took (end_c 1) (96 ∷ []) ∷
-    entry.Active (end_c 1) ∷ []) ∷
-    Entries (entry.Emit (end_c 1) (249 ∷ 4 ∷ 0 ∷ []) ∷ []) ∷
-    Entries (entry.Took (end_h 1) (249 ∷ 4 ∷ 0 ∷ []) ∷
-    entry.Up (end_h 1) 1 ∷
-    entry.Emit (end_h 1) (230 ∷ []) ∷ []) ∷
-    Entries (entry.Took (end_c 1) (230 ∷ []) ∷
-    entry.Up (end_c 1) 1 ∷ []) ∷
-    Entries (entry.Sent (end_h 1) 1 1 (3 ∷ []) ∷
-    entry.Emit (end_h 1) (128 ∷ 129 ∷ 3 ∷ []) ∷ []) ∷
-    Entries (entry.Took (end_c 1) (128 ∷ 129 ∷ 3 ∷ []) ∷
-    entry.Got (end_c 1) 1 1 (3 ∷ []) ∷
-    entry.Turn (end_c 1) 1 (3 ∷ []) ∷
-    entry.Command 0 (command.SetOpened 1 1 true) ∷
-    entry.Sent (end_c 1) 1 1 (128 ∷ 0 ∷ []) ∷
-    entry.AnyOk 0 2 ∷
-    entry.Emit (end_c 1) (193 ∷ []) ∷
-    entry.Emit (end_c 1) (129 ∷ 129 ∷ 128 ∷ 0 ∷ []) ∷ []) ∷
-    Entries (entry.Took (end_h 1) (193 ∷ []) ∷
-    entry.Acked (end_h 1) 1 1 ∷
-    entry.Took (end_h 1) (129 ∷ 129 ∷ 128 ∷ 0 ∷ []) ∷
-    entry.Got (end_h 1) 1 1 (128 ∷ 0 ∷ []) ∷
-    entry.Turn (end_h 1) 1 (128 ∷ 0 ∷ []) ∷
-    entry.Emit (end_h 1) (193 ∷ []) ∷ []) ∷
-    Entries (entry.Took (end_c 1) (193 ∷ []) ∷
-    entry.Acked (end_c 1) 1 1 ∷ []) ∷
-    Entries (entry.Emit (end_h 2) (97 ∷ 0 ∷ 2 ∷ []) ∷ []) ∷
-    Entries (entry.Took (end_c 2) (97 ∷ 0 ∷ 2 ∷ []) ∷
-    entry.Command 0 (command.Sync 2 2) ∷
-    entry.Emit (end_c 2) (98 ∷ 1 ∷ []) ∷ []) ∷
-    Entries (entry.Took (end_h 2) (98 ∷ 1 ∷ []) ∷
-    entry.Active (end_h 2) ∷
-    entry.Emit (end_h 2) (96 ∷ []) ∷ []) ∷
-    Entries (entry.Took (end_c 2) (96 ∷ []) ∷
-    entry.Active (end_c 2) ∷ []) ∷
-    Entries (entry.Emit (end_c 2) (249 ∷ 4 ∷ 0 ∷ []) ∷ []) ∷
-    Entries (entry.Took (end_h 2) (249 ∷ 4 ∷ 0 ∷ []) ∷
-    entry.Up (end_h 2) 1 ∷
-    entry.Emit (end_h 2) (230 ∷ []) ∷ []) ∷
-    Entries (entry.Took (end_c 2) (230 ∷ []) ∷
-    entry.Up (end_c 2) 1 ∷ []) ∷
-    Entries (entry.Sent (end_h 2) 1 1 (3 ∷ []) ∷
-    entry.Emit (end_h 2) (128 ∷ 129 ∷ 3 ∷ []) ∷ []) ∷
-    Entries (entry.Took (end_c 2) (128 ∷ 129 ∷ 3 ∷ []) ∷
-    entry.Got (end_c 2) 1 1 (3 ∷ []) ∷
-    entry.Turn (end_c 2) 1 (3 ∷ []) ∷
-    entry.Command 0 (command.SetOpened 2 1 true) ∷
-    entry.Sent (end_c 2) 1 1 (128 ∷ 0 ∷ []) ∷
-    entry.AnyOk 0 4 ∷
-    entry.Emit (end_c 2) (193 ∷ []) ∷
-    entry.Emit (end_c 2) (129 ∷ 129 ∷ 128 ∷ 0 ∷ []) ∷ []) ∷
-    Entries (entry.Took (end_h 2) (193 ∷ []) ∷
-    entry.Acked (end_h 2) 1 1 ∷
-    entry.Took (end_h 2) (129 ∷ 129 ∷ 128 ∷ 0 ∷ []) ∷
-    entry.Got (end_h 2) 1 1 (128 ∷ 0 ∷ []) ∷
-    entry.Turn (end_h 2) 1 (128 ∷ 0 ∷ []) ∷
-    entry.Emit (end_h 2) (193 ∷ []) ∷ []) ∷
-    Entries (entry.Took (end_c 2) (193 ∷ []) ∷
-    entry.Acked (end_c 2) 1 1 ∷ []) ∷
-    Entries (entry.Sent (end_h 1) 1 1 (1 ∷ 3 ∷ 2 ∷ []) ∷
-    entry.Emit (end_h 1) (137 ∷ 129 ∷ 1 ∷ 3 ∷ 2 ∷ []) ∷ []) ∷
-    Entries (entry.Took (end_c 1) (137 ∷ 129 ∷ 1 ∷ 3 ∷ 2 ∷ []) ∷
-    entry.Got (end_c 1) 1 1 (1 ∷ 3 ∷ 2 ∷ []) ∷
-    entry.Turn (end_c 1) 1 (1 ∷ 3 ∷ 2 ∷ []) ∷
-    entry.Command 0 (command.Set 1 0 3 (record { items = (2 ∷ []) })) ∷
-    entry.Sent (end_c 1) 1 1 (128 ∷ []) ∷
-    entry.AnyOk 0 5 ∷
-    entry.Emit (end_c 1) (194 ∷ []) ∷
-    entry.Emit (end_c 1) (138 ∷ 129 ∷ 128 ∷ []) ∷ []) ∷
-    Entries (entry.Took (end_h 1) (194 ∷ []) ∷
-    entry.Acked (end_h 1) 1 2 ∷
-    entry.Took (end_h 1) (138 ∷ 129 ∷ 128 ∷ []) ∷
-    entry.Got (end_h 1) 1 1 (128 ∷ []) ∷
-    entry.Turn (end_h 1) 1 (128 ∷ []) ∷
-    entry.Emit (end_h 1) (194 ∷ []) ∷ []) ∷
-    Entries (entry.Took (end_c 1) (194 ∷ []) ∷
-    entry.Acked (end_c 1) 1 2 ∷ []) ∷
-    Entries (entry.Sent (end_h 2) 1 1 (16 ∷ 65 ∷ 1 ∷ 4 ∷ []) ∷
-    entry.Emit (end_h 2) (137 ∷ 129 ∷ 16 ∷ 65 ∷ 1 ∷ 4 ∷ []) ∷ []) ∷
-    Entries (entry.Took (end_c 2) (137 ∷ 129 ∷ 16 ∷ 65 ∷ 1 ∷ 4 ∷ []) ∷
-    entry.Got (end_c 2) 1 1 (16 ∷ 65 ∷ 1 ∷ 4 ∷ []) ∷
-    entry.Turn (end_c 2) 1 (16 ∷ 65 ∷ 1 ∷ 4 ∷ []) ∷
-    entry.Ask 1 (18 ∷ 2 ∷ 65 ∷ 1 ∷ 4 ∷ 2 ∷ []) ∷
-    entry.Sent (end_c 1) 1 1 (18 ∷ 2 ∷ 65 ∷ 1 ∷ 4 ∷ 2 ∷ []) ∷
-    entry.Emit (end_c 1) (146 ∷ 129 ∷ 18 ∷ 2 ∷ 65 ∷ 1 ∷ 4 ∷ 2 ∷ []) ∷
-    entry.Emit (end_c 2) (194 ∷ []) ∷ []) ∷
-    Entries (entry.Took (end_h 1) (146 ∷ 129 ∷ 18 ∷ 2 ∷ 65 ∷ 1 ∷ 4 ∷ 2 ∷ []) ∷
-    entry.Got (end_h 1) 1 1 (18 ∷ 2 ∷ 65 ∷ 1 ∷ 4 ∷ 2 ∷ []) ∷
-    entry.Turn (end_h 1) 1 (18 ∷ 2 ∷ 65 ∷ 1 ∷ 4 ∷ 2 ∷ []) ∷
-    entry.Command 1 (command.Create (record { pid = 2; creator = 2; creator_gate = 65; dest = 1; dest_gate = 4; opened = false })) ∷
-    entry.Sent (end_h 1) 1 1 (128 ∷ []) ∷
-    entry.AnyOk 1 1 ∷
-    entry.Emit (end_h 1) (195 ∷ []) ∷
-    entry.Emit (end_h 1) (147 ∷ 129 ∷ 128 ∷ []) ∷ []) ∷
-    Entries (entry.Took (end_c 1) (195 ∷ []) ∷
-    entry.Acked (end_c 1) 1 3 ∷
-    entry.Took (end_c 1) (147 ∷ 129 ∷ 128 ∷ []) ∷
-    entry.Got (end_c 1) 1 1 (128 ∷ []) ∷
-    entry.Turn (end_c 1) 1 (128 ∷ []) ∷
-    entry.Command 0 (command.Create (record { pid = 2; creator = 2; creator_gate = 65; dest = 1; dest_gate = 4; opened = false })) ∷
-    entry.Sent (end_c 2) 1 1 (128 ∷ 2 ∷ 65 ∷ 1 ∷ 4 ∷ 2 ∷ []) ∷
-    entry.AnyOk 0 6 ∷
-    entry.Emit (end_c 1) (195 ∷ []) ∷
-    entry.Emit (end_c 2) (138 ∷ 129 ∷ 128 ∷ 2 ∷ 65 ∷ 1 ∷ 4 ∷ 2 ∷ []) ∷ []) ∷
-    Entries (entry.Took (end_h 2) (194 ∷ []) ∷
-    entry.Acked (end_h 2) 1 2 ∷
-    entry.Took (end_h 2) (138 ∷ 129 ∷ 128 ∷ 2 ∷ 65 ∷ 1 ∷ 4 ∷ 2 ∷ []) ∷
-    entry.Got (end_h 2) 1 1 (128 ∷ 2 ∷ 65 ∷ 1 ∷ 4 ∷ 2 ∷ []) ∷
-    entry.Turn (end_h 2) 1 (128 ∷ 2 ∷ 65 ∷ 1 ∷ 4 ∷ 2 ∷ []) ∷
-    entry.Command 2 (command.Create (record { pid = 2; creator = 2; creator_gate = 65; dest = 1; dest_gate = 4; opened = false })) ∷
-    entry.Emit (end_h 2) (194 ∷ []) ∷ []) ∷
-    Entries (entry.Took (end_c 2) (194 ∷ []) ∷
-    entry.Acked (end_c 2) 1 2 ∷ []) ∷
-    Entries (entry.Took (end_h 1) (195 ∷ []) ∷
-    entry.Acked (end_h 1) 1 3 ∷ []) ∷
-    Entries (entry.Sent (end_h 2) 1 1 (16 ∷ 65 ∷ 1 ∷ 5 ∷ []) ∷
-    entry.Emit (end_h 2) (146 ∷ 129 ∷ 16 ∷ 65 ∷ 1 ∷ 5 ∷ []) ∷ []) ∷
-    Entries (entry.Took (end_c 2) (146 ∷ 129 ∷ 16 ∷ 65 ∷ 1 ∷ 5 ∷ []) ∷
-    entry.Got (end_c 2) 1 1 (16 ∷ 65 ∷ 1 ∷ 5 ∷ []) ∷
-    entry.Turn (end_c 2) 1 (16 ∷ 65 ∷ 1 ∷ 5 ∷ []) ∷
-    entry.Ask 1 (18 ∷ 2 ∷ 65 ∷ 1 ∷ 5 ∷ 3 ∷ []) ∷
-    entry.Sent (end_c 1) 1 1 (18 ∷ 2 ∷ 65 ∷ 1 ∷ 5 ∷ 3 ∷ []) ∷
-    entry.Emit (end_c 1) (155 ∷ 129 ∷ 18 ∷ 2 ∷ 65 ∷ 1 ∷ 5 ∷ 3 ∷ []) ∷
-    entry.Emit (end_c 2) (195 ∷ []) ∷ []) ∷
-    Entries (entry.Took (end_h 1) (155 ∷ 129 ∷ 18 ∷ 2 ∷ 65 ∷ 1 ∷ 5 ∷ 3 ∷ []) ∷
-    entry.Got (end_h 1) 1 1 (18 ∷ 2 ∷ 65 ∷ 1 ∷ 5 ∷ 3 ∷ []) ∷
-    entry.Turn (end_h 1) 1 (18 ∷ 2 ∷ 65 ∷ 1 ∷ 5 ∷ 3 ∷ []) ∷
-    entry.Command 1 (command.Create (record { pid = 3; creator = 2; creator_gate = 65; dest = 1; dest_gate = 5; opened = false })) ∷
-    entry.Sent (end_h 1) 1 1 (128 ∷ []) ∷
-    entry.AnyOk 1 2 ∷
-    entry.Emit (end_h 1) (196 ∷ []) ∷
-    entry.Emit (end_h 1) (156 ∷ 129 ∷ 128 ∷ []) ∷ []) ∷
-    Entries (entry.Took (end_c 1) (196 ∷ []) ∷
-    entry.Acked (end_c 1) 1 4 ∷
-    entry.Took (end_c 1) (156 ∷ 129 ∷ 128 ∷ []) ∷
-    entry.Got (end_c 1) 1 1 (128 ∷ []) ∷
-    entry.Turn (end_c 1) 1 (128 ∷ []) ∷
-    entry.Command 0 (command.Create (record { pid = 3; creator = 2; creator_gate = 65; dest = 1; dest_gate = 5; opened = false })) ∷
-    entry.Sent (end_c 2) 1 1 (128 ∷ 2 ∷ 65 ∷ 1 ∷ 5 ∷ 3 ∷ []) ∷
-    entry.AnyOk 0 7 ∷
-    entry.Emit (end_c 1) (196 ∷ []) ∷
-    entry.Emit (end_c 2) (147 ∷ 129 ∷ 128 ∷ 2 ∷ 65 ∷ 1 ∷ 5 ∷ 3 ∷ []) ∷ []) ∷
-    Entries (entry.Took (end_h 2) (195 ∷ []) ∷
-    entry.Acked (end_h 2) 1 3 ∷
-    entry.Took (end_h 2) (147 ∷ 129 ∷ 128 ∷ 2 ∷ 65 ∷ 1 ∷ 5 ∷ 3 ∷ []) ∷
-    entry.Got (end_h 2) 1 1 (128 ∷ 2 ∷ 65 ∷ 1 ∷ 5 ∷ 3 ∷ []) ∷
-    entry.Turn (end_h 2) 1 (128 ∷ 2 ∷ 65 ∷ 1 ∷ 5 ∷ 3 ∷ []) ∷
-    entry.Command 2 (command.Create (record { pid = 3; creator = 2; creator_gate = 65; dest = 1; dest_gate = 5; opened = false })) ∷
-    entry.Emit (end_h 2) (195 ∷ []) ∷ []) ∷
-    Entries (entry.Took (end_c 2) (195 ∷ []) ∷
-    entry.Acked (end_c 2) 1 3 ∷ []) ∷
-    Entries (entry.Took (end_h 1) (196 ∷ []) ∷
-    entry.Acked (end_h 1) 1 4 ∷ []) ∷
-    Entries (entry.Sent (end_h 2) 1 1 (16 ∷ 65 ∷ 1 ∷ 6 ∷ []) ∷
-    entry.Emit (end_h 2) (155 ∷ 129 ∷ 16 ∷ 65 ∷ 1 ∷ 6 ∷ []) ∷ []) ∷
-    Entries (entry.Took (end_c 2) (155 ∷ 129 ∷ 16 ∷ 65 ∷ 1 ∷ 6 ∷ []) ∷
-    entry.Got (end_c 2) 1 1 (16 ∷ 65 ∷ 1 ∷ 6 ∷ []) ∷
-    entry.Turn (end_c 2) 1 (16 ∷ 65 ∷ 1 ∷ 6 ∷ []) ∷
-    entry.Ask 1 (18 ∷ 2 ∷ 65 ∷ 1 ∷ 6 ∷ 4 ∷ []) ∷
-    entry.Sent (end_c 1) 1 1 (18 ∷ 2 ∷ 65 ∷ 1 ∷ 6 ∷ 4 ∷ []) ∷
-    entry.Emit (end_c 1) (164 ∷ 129 ∷ 18 ∷ 2 ∷ 65 ∷ 1 ∷ 6 ∷ 4 ∷ []) ∷
-    entry.Emit (end_c 2) (196 ∷ []) ∷ []) ∷
-    Entries (entry.Took (end_h 1) (164 ∷ 129 ∷ 18 ∷ 2 ∷ 65 ∷ 1 ∷ 6 ∷ 4 ∷ []) ∷
-    entry.Got (end_h 1) 1 1 (18 ∷ 2 ∷ 65 ∷ 1 ∷ 6 ∷ 4 ∷ []) ∷
-    entry.Turn (end_h 1) 1 (18 ∷ 2 ∷ 65 ∷ 1 ∷ 6 ∷ 4 ∷ []) ∷
-    entry.Sent (end_h 1) 1 1 (131 ∷ []) ∷
-    entry.Emit (end_h 1) (197 ∷ []) ∷
-    entry.Emit (end_h 1) (165 ∷ 129 ∷ 131 ∷ []) ∷ []) ∷
-    Entries (entry.Took (end_c 1) (197 ∷ []) ∷
-    entry.Acked (end_c 1) 1 5 ∷
-    entry.Took (end_c 1) (165 ∷ 129 ∷ 131 ∷ []) ∷
-    entry.Got (end_c 1) 1 1 (131 ∷ []) ∷
-    entry.Turn (end_c 1) 1 (131 ∷ []) ∷
-    entry.Sent (end_c 2) 1 1 (131 ∷ []) ∷
-    entry.Emit (end_c 1) (197 ∷ []) ∷
-    entry.Emit (end_c 2) (156 ∷ 129 ∷ 131 ∷ []) ∷ []) ∷
-    Entries (entry.Took (end_h 2) (196 ∷ []) ∷
-    entry.Acked (end_h 2) 1 4 ∷
-    entry.Took (end_h 2) (156 ∷ 129 ∷ 131 ∷ []) ∷
-    entry.Got (end_h 2) 1 1 (131 ∷ []) ∷
-    entry.Turn (end_h 2) 1 (131 ∷ []) ∷
-    entry.Emit (end_h 2) (196 ∷ []) ∷ []) ∷
-    Entries (entry.Took (end_c 2) (196 ∷ []) ∷
-    entry.Acked (end_c 2) 1 4 ∷ []) ∷
-    Entries (entry.Took (end_h 1) (197 ∷ []) ∷
-    entry.Acked (end_h 1) 1 5 ∷ []) ∷
-    Entries (entry.Sent (end_h 2) 1 2 (3 ∷ []) ∷
-    entry.Emit (end_h 2) (164 ∷ 130 ∷ 3 ∷ []) ∷ []) ∷
-    Entries (entry.Took (end_c 2) (164 ∷ 130 ∷ 3 ∷ []) ∷
-    entry.Got (end_c 2) 1 2 (3 ∷ []) ∷
-    entry.Turn (end_c 2) 2 (3 ∷ []) ∷
-    entry.Command 0 (command.SetOpened 2 2 true) ∷
-    entry.Sent (end_c 2) 1 2 (128 ∷ 0 ∷ []) ∷
-    entry.AnyOk 0 8 ∷
-    entry.Emit (end_c 2) (197 ∷ []) ∷
-    entry.Emit (end_c 2) (165 ∷ 130 ∷ 128 ∷ 0 ∷ []) ∷ []) ∷
-    Entries (entry.Took (end_h 2) (197 ∷ []) ∷
-    entry.Acked (end_h 2) 1 5 ∷
-    entry.Took (end_h 2) (165 ∷ 130 ∷ 128 ∷ 0 ∷ []) ∷
-    entry.Got (end_h 2) 1 2 (128 ∷ 0 ∷ []) ∷
-    entry.Turn (end_h 2) 2 (128 ∷ 0 ∷ []) ∷
-    entry.Emit (end_h 2) (197 ∷ []) ∷ []) ∷
-    Entries (entry.Took (end_c 2) (197 ∷ []) ∷
-    entry.Acked (end_c 2) 1 5 ∷ []) ∷
-    Entries (entry.Sent (end_h 2) 1 3 (3 ∷ []) ∷
-    entry.Emit (end_h 2) (173 ∷ 131 ∷ 3 ∷ []) ∷ []) ∷
-    Entries (entry.Took (end_c 2) (173 ∷ 131 ∷ 3 ∷ []) ∷
-    entry.Got (end_c 2) 1 3 (3 ∷ []) ∷
-    entry.Turn (end_c 2) 3 (3 ∷ []) ∷
-    entry.Command 0 (command.SetOpened 2 3 true) ∷
-    entry.Sent (end_c 2) 1 3 (128 ∷ 0 ∷ []) ∷
-    entry.AnyOk 0 9 ∷
-    entry.Emit (end_c 2) (198 ∷ []) ∷
-    entry.Emit (end_c 2) (174 ∷ 131 ∷ 128 ∷ 0 ∷ []) ∷ []) ∷
-    Entries (entry.Took (end_h 2) (198 ∷ []) ∷
-    entry.Acked (end_h 2) 1 6 ∷
-    entry.Took (end_h 2) (174 ∷ 131 ∷ 128 ∷ 0 ∷ []) ∷
-    entry.Got (end_h 2) 1 3 (128 ∷ 0 ∷ []) ∷
-    entry.Turn (end_h 2) 3 (128 ∷ 0 ∷ []) ∷
-    entry.Emit (end_h 2) (198 ∷ []) ∷ []) ∷
-    Entries (entry.Took (end_c 2) (198 ∷ []) ∷
-    entry.Acked (end_c 2) 1 6 ∷ []) ∷
-    Entries (entry.Sent (end_h 2) 1 2 (66 ∷ 170 ∷ 187 ∷ []) ∷
-    entry.Emit (end_h 2) (182 ∷ 130 ∷ 66 ∷ 170 ∷ 187 ∷ []) ∷ []) ∷
-    Entries (entry.Took (end_c 2) (182 ∷ 130 ∷ 66 ∷ 170 ∷ 187 ∷ []) ∷
-    entry.Got (end_c 2) 1 2 (66 ∷ 170 ∷ 187 ∷ []) ∷
-    entry.Turn (end_c 2) 2 (66 ∷ 170 ∷ 187 ∷ []) ∷
-    entry.Sent (end_c 1) 1 2 (66 ∷ 170 ∷ 187 ∷ []) ∷
-    entry.Emit (end_c 1) (173 ∷ 130 ∷ 66 ∷ 170 ∷ 187 ∷ []) ∷
-    entry.Emit (end_c 2) (199 ∷ []) ∷ []) ∷
-    Entries (entry.Took (end_h 1) (173 ∷ 130 ∷ 66 ∷ 170 ∷ 187 ∷ []) ∷
-    entry.Got (end_h 1) 1 2 (66 ∷ 170 ∷ 187 ∷ []) ∷
-    entry.Turn (end_h 1) 2 (66 ∷ 170 ∷ 187 ∷ []) ∷
-    entry.Sent (end_h 1) 1 2 (66 ∷ 170 ∷ 187 ∷ []) ∷
-    entry.Emit (end_h 1) (198 ∷ []) ∷
-    entry.Emit (end_h 1) (174 ∷ 130 ∷ 66 ∷ 170 ∷ 187 ∷ []) ∷ []) ∷
-    Entries (entry.Took (end_c 1) (198 ∷ []) ∷
-    entry.Acked (end_c 1) 1 6 ∷
-    entry.Took (end_c 1) (174 ∷ 130 ∷ 66 ∷ 170 ∷ 187 ∷ []) ∷
-    entry.Got (end_c 1) 1 2 (66 ∷ 170 ∷ 187 ∷ []) ∷
-    entry.Turn (end_c 1) 2 (66 ∷ 170 ∷ 187 ∷ []) ∷
-    entry.Sent (end_c 2) 1 2 (66 ∷ 170 ∷ 187 ∷ []) ∷
-    entry.Emit (end_c 1) (198 ∷ []) ∷
-    entry.Emit (end_c 2) (183 ∷ 130 ∷ 66 ∷ 170 ∷ 187 ∷ []) ∷ []) ∷
-    Entries (entry.Took (end_h 2) (199 ∷ []) ∷
-    entry.Acked (end_h 2) 1 7 ∷
-    entry.Took (end_h 2) (183 ∷ 130 ∷ 66 ∷ 170 ∷ 187 ∷ []) ∷
-    entry.Got (end_h 2) 1 2 (66 ∷ 170 ∷ 187 ∷ []) ∷
-    entry.Turn (end_h 2) 2 (66 ∷ 170 ∷ 187 ∷ []) ∷
-    entry.Emit (end_h 2) (199 ∷ []) ∷ []) ∷
-    Entries (entry.Took (end_c 2) (199 ∷ []) ∷
-    entry.Acked (end_c 2) 1 7 ∷ []) ∷
-    Entries (entry.Sent (end_h 2) 1 3 (2 ∷ 4 ∷ []) ∷
-    entry.Emit (end_h 2) (191 ∷ 131 ∷ 2 ∷ 4 ∷ []) ∷ []) ∷
-    Entries (entry.Took (end_c 2) (191 ∷ 131 ∷ 2 ∷ 4 ∷ []) ∷
-    entry.Got (end_c 2) 1 3 (2 ∷ 4 ∷ []) ∷
-    entry.Turn (end_c 2) 3 (2 ∷ 4 ∷ []) ∷
-    entry.Sent (end_c 1) 1 3 (2 ∷ 4 ∷ []) ∷
-    entry.Emit (end_c 1) (182 ∷ 131 ∷ 2 ∷ 4 ∷ []) ∷
-    entry.Emit (end_c 2) (192 ∷ []) ∷ []) ∷
-    Entries (entry.Took (end_h 1) (198 ∷ []) ∷
-    entry.Acked (end_h 1) 1 6 ∷
-    entry.Took (end_h 1) (182 ∷ 131 ∷ 2 ∷ 4 ∷ []) ∷
-    entry.Got (end_h 1) 1 3 (2 ∷ 4 ∷ []) ∷
-    entry.Turn (end_h 1) 3 (2 ∷ 4 ∷ []) ∷
-    entry.Sent (end_h 1) 1 3 (128 ∷ 83 ∷ 87 ∷ 80 ∷ 32 ∷ 72 ∷ 67 ∷ 73 ∷ []) ∷
-    entry.Emit (end_h 1) (199 ∷ []) ∷
-    entry.Emit (end_h 1) (183 ∷ 131 ∷ 128 ∷ 83 ∷ 87 ∷ 80 ∷ 32 ∷ 72 ∷ 67 ∷ 73 ∷ []) ∷ []) ∷
-    Entries (entry.Took (end_c 1) (199 ∷ []) ∷
-    entry.Acked (end_c 1) 1 7 ∷
-    entry.Took (end_c 1) (183 ∷ 131 ∷ 128 ∷ 83 ∷ 87 ∷ 80 ∷ 32 ∷ 72 ∷ 67 ∷ 73 ∷ []) ∷
-    entry.Got (end_c 1) 1 3 (128 ∷ 83 ∷ 87 ∷ 80 ∷ 32 ∷ 72 ∷ 67 ∷ 73 ∷ []) ∷
-    entry.Turn (end_c 1) 3 (128 ∷ 83 ∷ 87 ∷ 80 ∷ 32 ∷ 72 ∷ 67 ∷ 73 ∷ []) ∷
-    entry.Sent (end_c 2) 1 3 (128 ∷ 83 ∷ 87 ∷ 80 ∷ 32 ∷ 72 ∷ 67 ∷ 73 ∷ []) ∷
-    entry.Emit (end_c 1) (199 ∷ []) ∷
-    entry.Emit (end_c 2) (184 ∷ 131 ∷ 128 ∷ 83 ∷ 87 ∷ 80 ∷ 32 ∷ 72 ∷ 67 ∷ 73 ∷ []) ∷ []) ∷
-    Entries (entry.Took (end_h 2) (192 ∷ []) ∷
-    entry.Acked (end_h 2) 1 8 ∷
-    entry.Took (end_h 2) (184 ∷ 131 ∷ 128 ∷ 83 ∷ 87 ∷ 80 ∷ 32 ∷ 72 ∷ 67 ∷ 73 ∷ []) ∷
-    entry.Got (end_h 2) 1 3 (128 ∷ 83 ∷ 87 ∷ 80 ∷ 32 ∷ 72 ∷ 67 ∷ 73 ∷ []) ∷
-    entry.Turn (end_h 2) 3 (128 ∷ 83 ∷ 87 ∷ 80 ∷ 32 ∷ 72 ∷ 67 ∷ 73 ∷ []) ∷
-    entry.Emit (end_h 2) (192 ∷ []) ∷ []) ∷
-    Entries (entry.Took (end_c 2) (192 ∷ []) ∷
-    entry.Acked (end_c 2) 1 8 ∷ []) ∷
-    Entries (entry.Sent (end_h 2) 1 2 (2 ∷ 4 ∷ []) ∷
-    entry.Emit (end_h 2) (128 ∷ 130 ∷ 2 ∷ 4 ∷ []) ∷ []) ∷
-    Entries (entry.Took (end_c 2) (128 ∷ 130 ∷ 2 ∷ 4 ∷ []) ∷
-    entry.Got (end_c 2) 1 2 (2 ∷ 4 ∷ []) ∷
-    entry.Turn (end_c 2) 2 (2 ∷ 4 ∷ []) ∷
-    entry.Sent (end_c 1) 1 2 (2 ∷ 4 ∷ []) ∷
-    entry.Emit (end_c 1) (191 ∷ 130 ∷ 2 ∷ 4 ∷ []) ∷
-    entry.Emit (end_c 2) (193 ∷ []) ∷ []) ∷
-    Entries (entry.Took (end_h 1) (199 ∷ []) ∷
-    entry.Acked (end_h 1) 1 7 ∷
-    entry.Took (end_h 1) (191 ∷ 130 ∷ 2 ∷ 4 ∷ []) ∷
-    entry.Got (end_h 1) 1 2 (2 ∷ 4 ∷ []) ∷
-    entry.Turn (end_h 1) 2 (2 ∷ 4 ∷ []) ∷
-    entry.Emit (end_h 1) (192 ∷ []) ∷ []) ∷
-    Entries (entry.Took (end_c 1) (192 ∷ []) ∷
-    entry.Acked (end_c 1) 1 8 ∷ []) ∷
-    Entries (entry.No no.Empty ∷ []) ∷
-    []
-unfolding found_from hosts_where lowest_free
+host_gates : told_text (
+    "swp 1 hci 01 02\nboot 00\nboot 01\nboot 02\n" ∷
+    host_begins "01" ++ host_begins "02" ++
+    "send 01h 01 010302\ndeliver 01c\ndeliver 01h\ndeliver 01c\nsend 02h 01 10410104\ndeliver 02c\ndeliver 01h\ndeliver 01c\ndeliver 02h\ndeliver 02c\n" ∷
+    "deliver 01h\nsend 02h 01 10410105\ndeliver 02c\ndeliver 01h\ndeliver 01c\ndeliver 02h\ndeliver 02c\ndeliver 01h\nsend 02h 01 10410106\ndeliver 02c\n" ∷
+    "deliver 01h\ndeliver 01c\ndeliver 02h\ndeliver 02c\ndeliver 01h\nsend 02h 02 03\ndeliver 02c\ndeliver 02h\ndeliver 02c\nsend 02h 03 03\ndeliver 02c\n" ∷
+    "deliver 02h\ndeliver 02c\nsend 02h 02 42AABB\ndeliver 02c\ndeliver 01h\ndeliver 01c\ndeliver 02h\ndeliver 02c\nsend 02h 03 0204\ndeliver 02c\n" ∷
+    "deliver 01h\ndeliver 01c\ndeliver 02h\ndeliver 02c\nsend 02h 02 0204\ndeliver 02c\ndeliver 01h\ndeliver 01c\ndeliver 02c\n" ∷
+    []) ≡ text (
+    "> swp 1 hci 01 02\n> boot 00\nbooted 00 0\n> boot 01\nbooted 01 0\n> boot 02\nbooted 02 0\n" ∷
+    host_begins_told "01" "2" ++ host_begins_told "02" "4" ++
+    "> send 01h 01 010302\nsent 01h 1 01 010302\nemit 01h 8981010302\n" ∷
+    "> deliver 01c\ntook 01c 8981010302\ngot 01c 1 01 010302\nturn 01c 01 010302\ncommand 00 set 01 00 03 02\nsent 01c 1 01 80\nok 00 5\nemit 01c C2\n" ∷
+    "emit 01c 8A8180\n" ∷
+    "> deliver 01h\ntook 01h C2\nacked 01h 1 2\ntook 01h 8A8180\ngot 01h 1 01 80\nturn 01h 01 80\nemit 01h C2\n" ∷
+    "> deliver 01c\ntook 01c C2\nacked 01c 1 2\n" ∷
+    "> send 02h 01 10410104\nsent 02h 1 01 10410104\nemit 02h 898110410104\n" ∷
+    "> deliver 02c\ntook 02c 898110410104\ngot 02c 1 01 10410104\nturn 02c 01 10410104\nask 01 120241010402\nsent 01c 1 01 120241010402\n" ∷
+    "emit 01c 9281120241010402\nemit 02c C2\n" ∷
+    "> deliver 01h\ntook 01h 9281120241010402\ngot 01h 1 01 120241010402\nturn 01h 01 120241010402\ncommand 01 create 02 02 41 01 04\nsent 01h 1 01 80\n" ∷
+    "ok 01 1\nemit 01h C3\nemit 01h 938180\n" ∷
+    "> deliver 01c\ntook 01c C3\nacked 01c 1 3\ntook 01c 938180\ngot 01c 1 01 80\nturn 01c 01 80\ncommand 00 create 02 02 41 01 04\n" ∷
+    "sent 02c 1 01 800241010402\nok 00 6\nemit 01c C3\nemit 02c 8A81800241010402\n" ∷
+    "> deliver 02h\ntook 02h C2\nacked 02h 1 2\ntook 02h 8A81800241010402\ngot 02h 1 01 800241010402\nturn 02h 01 800241010402\n" ∷
+    "command 02 create 02 02 41 01 04\nemit 02h C2\n" ∷
+    "> deliver 02c\ntook 02c C2\nacked 02c 1 2\n" ∷
+    "> deliver 01h\ntook 01h C3\nacked 01h 1 3\n" ∷
+    "> send 02h 01 10410105\nsent 02h 1 01 10410105\nemit 02h 928110410105\n" ∷
+    "> deliver 02c\ntook 02c 928110410105\ngot 02c 1 01 10410105\nturn 02c 01 10410105\nask 01 120241010503\nsent 01c 1 01 120241010503\n" ∷
+    "emit 01c 9B81120241010503\nemit 02c C3\n" ∷
+    "> deliver 01h\ntook 01h 9B81120241010503\ngot 01h 1 01 120241010503\nturn 01h 01 120241010503\ncommand 01 create 03 02 41 01 05\nsent 01h 1 01 80\n" ∷
+    "ok 01 2\nemit 01h C4\nemit 01h 9C8180\n" ∷
+    "> deliver 01c\ntook 01c C4\nacked 01c 1 4\ntook 01c 9C8180\ngot 01c 1 01 80\nturn 01c 01 80\ncommand 00 create 03 02 41 01 05\n" ∷
+    "sent 02c 1 01 800241010503\nok 00 7\nemit 01c C4\nemit 02c 9381800241010503\n" ∷
+    "> deliver 02h\ntook 02h C3\nacked 02h 1 3\ntook 02h 9381800241010503\ngot 02h 1 01 800241010503\nturn 02h 01 800241010503\n" ∷
+    "command 02 create 03 02 41 01 05\nemit 02h C3\n" ∷
+    "> deliver 02c\ntook 02c C3\nacked 02c 1 3\n" ∷
+    "> deliver 01h\ntook 01h C4\nacked 01h 1 4\n" ∷
+    "> send 02h 01 10410106\nsent 02h 1 01 10410106\nemit 02h 9B8110410106\n" ∷
+    "> deliver 02c\ntook 02c 9B8110410106\ngot 02c 1 01 10410106\nturn 02c 01 10410106\nask 01 120241010604\nsent 01c 1 01 120241010604\n" ∷
+    "emit 01c A481120241010604\nemit 02c C4\n" ∷
+    "> deliver 01h\ntook 01h A481120241010604\ngot 01h 1 01 120241010604\nturn 01h 01 120241010604\nsent 01h 1 01 83\nemit 01h C5\nemit 01h A58183\n" ∷
+    "> deliver 01c\ntook 01c C5\nacked 01c 1 5\ntook 01c A58183\ngot 01c 1 01 83\nturn 01c 01 83\nsent 02c 1 01 83\nemit 01c C5\nemit 02c 9C8183\n" ∷
+    "> deliver 02h\ntook 02h C4\nacked 02h 1 4\ntook 02h 9C8183\ngot 02h 1 01 83\nturn 02h 01 83\nemit 02h C4\n" ∷
+    "> deliver 02c\ntook 02c C4\nacked 02c 1 4\n" ∷
+    "> deliver 01h\ntook 01h C5\nacked 01h 1 5\n" ∷
+    "> send 02h 02 03\nsent 02h 1 02 03\nemit 02h A48203\n" ∷
+    "> deliver 02c\ntook 02c A48203\ngot 02c 1 02 03\nturn 02c 02 03\ncommand 00 opened 02 02 01\nsent 02c 1 02 8000\nok 00 8\nemit 02c C5\n" ∷
+    "emit 02c A5828000\n" ∷
+    "> deliver 02h\ntook 02h C5\nacked 02h 1 5\ntook 02h A5828000\ngot 02h 1 02 8000\nturn 02h 02 8000\nemit 02h C5\n" ∷
+    "> deliver 02c\ntook 02c C5\nacked 02c 1 5\n" ∷
+    "> send 02h 03 03\nsent 02h 1 03 03\nemit 02h AD8303\n" ∷
+    "> deliver 02c\ntook 02c AD8303\ngot 02c 1 03 03\nturn 02c 03 03\ncommand 00 opened 02 03 01\nsent 02c 1 03 8000\nok 00 9\nemit 02c C6\n" ∷
+    "emit 02c AE838000\n" ∷
+    "> deliver 02h\ntook 02h C6\nacked 02h 1 6\ntook 02h AE838000\ngot 02h 1 03 8000\nturn 02h 03 8000\nemit 02h C6\n" ∷
+    "> deliver 02c\ntook 02c C6\nacked 02c 1 6\n" ∷
+    "> send 02h 02 42AABB\nsent 02h 1 02 42AABB\nemit 02h B68242AABB\n" ∷
+    "> deliver 02c\ntook 02c B68242AABB\ngot 02c 1 02 42AABB\nturn 02c 02 42AABB\nsent 01c 1 02 42AABB\nemit 01c AD8242AABB\nemit 02c C7\n" ∷
+    "> deliver 01h\ntook 01h AD8242AABB\ngot 01h 1 02 42AABB\nturn 01h 02 42AABB\nsent 01h 1 02 42AABB\nemit 01h C6\nemit 01h AE8242AABB\n" ∷
+    "> deliver 01c\ntook 01c C6\nacked 01c 1 6\ntook 01c AE8242AABB\ngot 01c 1 02 42AABB\nturn 01c 02 42AABB\nsent 02c 1 02 42AABB\nemit 01c C6\n" ∷
+    "emit 02c B78242AABB\n" ∷
+    "> deliver 02h\ntook 02h C7\nacked 02h 1 7\ntook 02h B78242AABB\ngot 02h 1 02 42AABB\nturn 02h 02 42AABB\nemit 02h C7\n" ∷
+    "> deliver 02c\ntook 02c C7\nacked 02c 1 7\n" ∷
+    "> send 02h 03 0204\nsent 02h 1 03 0204\nemit 02h BF830204\n" ∷
+    "> deliver 02c\ntook 02c BF830204\ngot 02c 1 03 0204\nturn 02c 03 0204\nsent 01c 1 03 0204\nemit 01c B6830204\nemit 02c C0\n" ∷
+    "> deliver 01h\ntook 01h C6\nacked 01h 1 6\ntook 01h B6830204\ngot 01h 1 03 0204\nturn 01h 03 0204\nsent 01h 1 03 8053575020484349\nemit 01h C7\n" ∷
+    "emit 01h B7838053575020484349\n" ∷
+    "> deliver 01c\ntook 01c C7\nacked 01c 1 7\ntook 01c B7838053575020484349\ngot 01c 1 03 8053575020484349\nturn 01c 03 8053575020484349\n" ∷
+    "sent 02c 1 03 8053575020484349\nemit 01c C7\nemit 02c B8838053575020484349\n" ∷
+    "> deliver 02h\ntook 02h C0\nacked 02h 1 8\ntook 02h B8838053575020484349\ngot 02h 1 03 8053575020484349\nturn 02h 03 8053575020484349\nemit 02h C0\n" ∷
+    "> deliver 02c\ntook 02c C0\nacked 02c 1 8\n" ∷
+    "> send 02h 02 0204\nsent 02h 1 02 0204\nemit 02h 80820204\n" ∷
+    "> deliver 02c\ntook 02c 80820204\ngot 02c 1 02 0204\nturn 02c 02 0204\nsent 01c 1 02 0204\nemit 01c BF820204\nemit 02c C1\n" ∷
+    "> deliver 01h\ntook 01h C7\nacked 01h 1 7\ntook 01h BF820204\ngot 01h 1 02 0204\nturn 01h 02 0204\nemit 01h C0\n" ∷
+    "> deliver 01c\ntook 01c C0\nacked 01c 1 8\n" ∷
+    "> deliver 02c\nno empty\n" ∷
+    [])
+unfolding found_from hosts_where lowest_free encode_with decode_pairs digits
 host_gates = refl

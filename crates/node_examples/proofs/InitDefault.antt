@@ -1,701 +1,144 @@
 -- Inits with the identity that is the default, with a pipe that is refused, and with eight pipes.
-use Rattle.std.proofs.Common.{◌≡◌, refl, List, [], ◌∷◌, None}
-use Rattle.std.specs.Prelude.{true, false}
-use Rattle.trace_model.specs.declared.entry.NoCause.TheVariants as no
-use Rattle.trace_model.specs.declared.entry.Entry.TheVariants as entry
-use Rattle.trace_model.specs.declared.line.Line.{Line}
-use Rattle.trace_model.specs.declared.line.Line.TheVariants as line
-use Rattle.hci_tables.specs.declared.command.Command.TheVariants as command
-use Rattle.node_machine.specs.world.World.{new_world, end_c, end_h}
-use Rattle.node_machine.specs.world.Lines.{noted_lines}
-use Rattle.node_machine.specs.world.Lines.NotedBelow.{Entries, TablesOf}
-use Rattle.journal_laws.specs.Records.{found_from}
-use Rattle.gate_admin.specs.View.{hosts_where}
-use Rattle.pipe_table.specs.PipeRows.{lowest_free}
+use Rattle.std.proofs.Common.{◌≡◌, refl, [], ◌∷◌, ◌++◌}
+use Rattle.node_examples.specs.Openings.{host_begins, host_begins_told}
+use Rattle.node_examples.specs.Told.{told_text, text, found_from, hosts_where, lowest_free, encode_with, decode_pairs, digits}
 
-abbrev pub init_default_lines : List Line
-init_default_lines =
-    line.Boot 0 ∷
-    line.Boot 2 ∷
-    line.Activate 2 2 1 ∷
-    line.Deliver (end_c 2) None ∷
-    line.Deliver (end_h 2) None ∷
-    line.Deliver (end_c 2) None ∷
-    line.Reset (end_c 2) None ∷
-    line.Deliver (end_h 2) None ∷
-    line.Deliver (end_c 2) None ∷
-    line.Send (end_h 2) 1 (3 ∷ []) ∷
-    line.Deliver (end_c 2) None ∷
-    line.Deliver (end_h 2) None ∷
-    line.Deliver (end_c 2) None ∷
-    line.Init (end_h 2) (255 ∷ 255 ∷ 255 ∷ 255 ∷ 255 ∷ 255 ∷ 255 ∷ 255 ∷ []) (record { items = [] }) ∷
-    line.Deliver (end_c 2) None ∷
-    line.Deliver (end_h 2) None ∷
-    line.Deliver (end_c 2) None ∷
-    line.Deliver (end_h 2) None ∷
-    line.Deliver (end_c 2) None ∷
-    line.Deliver (end_h 2) None ∷
-    line.Deliver (end_c 2) None ∷
-    line.Deliver (end_h 2) None ∷
-    line.Deliver (end_c 2) None ∷
-    line.Deliver (end_h 2) None ∷
-    line.Init (end_h 2) (255 ∷ 255 ∷ 255 ∷ 255 ∷ 255 ∷ 255 ∷ 255 ∷ 255 ∷ []) (record { items = ((32 ∷ 0 ∷ 4 ∷ []) ∷ []) }) ∷
-    line.Deliver (end_c 2) None ∷
-    line.Deliver (end_h 2) None ∷
-    line.Deliver (end_c 2) None ∷
-    line.Deliver (end_h 2) None ∷
-    line.Deliver (end_c 2) None ∷
-    line.Deliver (end_h 2) None ∷
-    line.Deliver (end_c 2) None ∷
-    line.Deliver (end_h 2) None ∷
-    line.Deliver (end_c 2) None ∷
-    line.Deliver (end_h 2) None ∷
-    line.Deliver (end_c 2) None ∷
-    line.Deliver (end_h 2) None ∷
-    line.Deliver (end_c 2) None ∷
-    line.Deliver (end_h 2) None ∷
-    line.Init (end_h 2) (0 ∷ 0 ∷ 0 ∷ 0 ∷ 0 ∷ 0 ∷ 0 ∷ 1 ∷ []) (record { items = ((32 ∷ 0 ∷ 7 ∷ []) ∷ []) }) ∷
-    line.Deliver (end_c 2) None ∷
-    line.Deliver (end_h 2) None ∷
-    line.Deliver (end_c 2) None ∷
-    line.Deliver (end_h 2) None ∷
-    line.Deliver (end_c 2) None ∷
-    line.Deliver (end_h 2) None ∷
-    line.Deliver (end_c 2) None ∷
-    line.Deliver (end_h 2) None ∷
-    line.Deliver (end_c 2) None ∷
-    line.Deliver (end_h 2) None ∷
-    line.Deliver (end_c 2) None ∷
-    line.Deliver (end_h 2) None ∷
-    line.Init (end_h 2) (0 ∷ 0 ∷ 0 ∷ 0 ∷ 0 ∷ 0 ∷ 0 ∷ 1 ∷ []) (record {
-      items = ((32 ∷ 0 ∷ 4 ∷ []) ∷ (32 ∷ 0 ∷ 4 ∷ []) ∷ (32 ∷ 0 ∷ 4 ∷ []) ∷ (32 ∷ 0 ∷ 4 ∷ []) ∷
-          (32 ∷ 0 ∷ 5 ∷ []) ∷ (32 ∷ 0 ∷ 5 ∷ []) ∷ (32 ∷ 0 ∷ 5 ∷ []) ∷ (32 ∷ 0 ∷ 5 ∷ []) ∷ []);
-    }) ∷
-    line.Deliver (end_c 2) None ∷
-    line.Deliver (end_h 2) None ∷
-    line.Deliver (end_c 2) None ∷
-    line.Deliver (end_h 2) None ∷
-    line.Deliver (end_c 2) None ∷
-    line.Deliver (end_h 2) None ∷
-    line.Deliver (end_c 2) None ∷
-    line.Deliver (end_h 2) None ∷
-    line.Deliver (end_c 2) None ∷
-    line.Deliver (end_h 2) None ∷
-    line.Deliver (end_c 2) None ∷
-    line.Deliver (end_h 2) None ∷
-    line.Deliver (end_c 2) None ∷
-    line.Deliver (end_h 2) None ∷
-    line.Deliver (end_c 2) None ∷
-    line.Deliver (end_h 2) None ∷
-    line.Deliver (end_c 2) None ∷
-    line.Deliver (end_h 2) None ∷
-    line.Deliver (end_c 2) None ∷
-    line.Deliver (end_h 2) None ∷
-    line.Deliver (end_c 2) None ∷
-    line.Deliver (end_h 2) None ∷
-    line.Deliver (end_c 2) None ∷
-    line.Deliver (end_h 2) None ∷
-    line.Deliver (end_c 2) None ∷
-    line.Deliver (end_h 2) None ∷
-    line.Deliver (end_c 2) None ∷
-    line.Deliver (end_h 2) None ∷
-    line.Tables 2 ∷
-    line.Tables 0 ∷
-    []
-
-init_default : noted_lines (new_world (2 ∷ [])) init_default_lines ≡
-    Entries (entry.Booted 0 0 ∷ []) ∷
-    Entries (entry.Booted 2 0 ∷ []) ∷
-    Entries (entry.Emit (end_h 2) (97 ∷ 0 ∷ 2 ∷ []) ∷ []) ∷
-    Entries (entry.Took (end_c 2) (97 ∷ 0 ∷ 2 ∷ []) ∷
-    entry.Command 0 (command.Sync 2 2) ∷
-    entry.Emit (end_c 2) (98 ∷ 1 ∷ []) ∷ []) ∷
-    Entries (entry.Took (end_h 2) (98 ∷ 1 ∷ []) ∷
-    entry.Active (end_h 2) ∷
-    entry.Emit (end_h 2) (96 ∷ []) ∷ []) ∷
-    Entries (entry.Took (end_c 2) (96 ∷ []) ∷
-    entry.Active (end_c 2) ∷ []) ∷
-    Entries (entry.Emit (end_c 2) (249 ∷ 4 ∷ 0 ∷ []) ∷ []) ∷
-    Entries (entry.Took (end_h 2) (249 ∷ 4 ∷ 0 ∷ []) ∷
-    entry.Up (end_h 2) 1 ∷
-    entry.Emit (end_h 2) (230 ∷ []) ∷ []) ∷
-    Entries (entry.Took (end_c 2) (230 ∷ []) ∷
-    entry.Up (end_c 2) 1 ∷ []) ∷
-    Entries (entry.Sent (end_h 2) 1 1 (3 ∷ []) ∷
-    entry.Emit (end_h 2) (128 ∷ 129 ∷ 3 ∷ []) ∷ []) ∷
-    Entries (entry.Took (end_c 2) (128 ∷ 129 ∷ 3 ∷ []) ∷
-    entry.Got (end_c 2) 1 1 (3 ∷ []) ∷
-    entry.Turn (end_c 2) 1 (3 ∷ []) ∷
-    entry.Command 0 (command.SetOpened 2 1 true) ∷
-    entry.Sent (end_c 2) 1 1 (128 ∷ 0 ∷ []) ∷
-    entry.AnyOk 0 2 ∷
-    entry.Emit (end_c 2) (193 ∷ []) ∷
-    entry.Emit (end_c 2) (129 ∷ 129 ∷ 128 ∷ 0 ∷ []) ∷ []) ∷
-    Entries (entry.Took (end_h 2) (193 ∷ []) ∷
-    entry.Acked (end_h 2) 1 1 ∷
-    entry.Took (end_h 2) (129 ∷ 129 ∷ 128 ∷ 0 ∷ []) ∷
-    entry.Got (end_h 2) 1 1 (128 ∷ 0 ∷ []) ∷
-    entry.Turn (end_h 2) 1 (128 ∷ 0 ∷ []) ∷
-    entry.Emit (end_h 2) (193 ∷ []) ∷ []) ∷
-    Entries (entry.Took (end_c 2) (193 ∷ []) ∷
-    entry.Acked (end_c 2) 1 1 ∷ []) ∷
-    Entries (entry.Sent (end_h 2) 1 1 (3 ∷ []) ∷
-    entry.Emit (end_h 2) (137 ∷ 129 ∷ 3 ∷ []) ∷ []) ∷
-    Entries (entry.Took (end_c 2) (137 ∷ 129 ∷ 3 ∷ []) ∷
-    entry.Got (end_c 2) 1 1 (3 ∷ []) ∷
-    entry.Turn (end_c 2) 1 (3 ∷ []) ∷
-    entry.Sent (end_c 2) 1 1 (128 ∷ 0 ∷ []) ∷
-    entry.Emit (end_c 2) (194 ∷ []) ∷
-    entry.Emit (end_c 2) (138 ∷ 129 ∷ 128 ∷ 0 ∷ []) ∷ []) ∷
-    Entries (entry.Took (end_h 2) (194 ∷ []) ∷
-    entry.Acked (end_h 2) 1 2 ∷
-    entry.Took (end_h 2) (138 ∷ 129 ∷ 128 ∷ 0 ∷ []) ∷
-    entry.Got (end_h 2) 1 1 (128 ∷ 0 ∷ []) ∷
-    entry.Turn (end_h 2) 1 (128 ∷ 0 ∷ []) ∷
-    entry.Sent (end_h 2) 1 1 (2 ∷ 1 ∷ []) ∷
-    entry.Emit (end_h 2) (194 ∷ []) ∷
-    entry.Emit (end_h 2) (146 ∷ 129 ∷ 2 ∷ 1 ∷ []) ∷ []) ∷
-    Entries (entry.Took (end_c 2) (194 ∷ []) ∷
-    entry.Acked (end_c 2) 1 2 ∷
-    entry.Took (end_c 2) (146 ∷ 129 ∷ 2 ∷ 1 ∷ []) ∷
-    entry.Got (end_c 2) 1 1 (2 ∷ 1 ∷ []) ∷
-    entry.Turn (end_c 2) 1 (2 ∷ 1 ∷ []) ∷
-    entry.Sent (end_c 2) 1 1 (128 ∷ 255 ∷ 255 ∷ 255 ∷ 255 ∷ 255 ∷ 255 ∷ 255 ∷ 255 ∷ []) ∷
-    entry.Emit (end_c 2) (195 ∷ []) ∷
-    entry.Emit (end_c 2) (147 ∷ 129 ∷ 128 ∷ 255 ∷ 255 ∷ 255 ∷ 255 ∷ 255 ∷ 255 ∷ 255 ∷ 255 ∷ []) ∷ []) ∷
-    Entries (entry.Took (end_h 2) (195 ∷ []) ∷
-    entry.Acked (end_h 2) 1 3 ∷
-    entry.Took (end_h 2) (147 ∷ 129 ∷ 128 ∷ 255 ∷ 255 ∷ 255 ∷ 255 ∷ 255 ∷ 255 ∷ 255 ∷ 255 ∷ []) ∷
-    entry.Got (end_h 2) 1 1 (128 ∷ 255 ∷ 255 ∷ 255 ∷ 255 ∷ 255 ∷ 255 ∷ 255 ∷ 255 ∷ []) ∷
-    entry.Turn (end_h 2) 1 (128 ∷ 255 ∷ 255 ∷ 255 ∷ 255 ∷ 255 ∷ 255 ∷ 255 ∷ 255 ∷ []) ∷
-    entry.Sent (end_h 2) 1 1 (20 ∷ []) ∷
-    entry.Emit (end_h 2) (195 ∷ []) ∷
-    entry.Emit (end_h 2) (155 ∷ 129 ∷ 20 ∷ []) ∷ []) ∷
-    Entries (entry.Took (end_c 2) (195 ∷ []) ∷
-    entry.Acked (end_c 2) 1 3 ∷
-    entry.Took (end_c 2) (155 ∷ 129 ∷ 20 ∷ []) ∷
-    entry.Got (end_c 2) 1 1 (20 ∷ []) ∷
-    entry.Turn (end_c 2) 1 (20 ∷ []) ∷
-    entry.Command 0 (command.Clear 2) ∷
-    entry.Sent (end_c 2) 1 1 (128 ∷ []) ∷
-    entry.AnyOk 0 3 ∷
-    entry.Emit (end_c 2) (196 ∷ []) ∷
-    entry.Emit (end_c 2) (156 ∷ 129 ∷ 128 ∷ []) ∷ []) ∷
-    Entries (entry.Took (end_h 2) (196 ∷ []) ∷
-    entry.Acked (end_h 2) 1 4 ∷
-    entry.Took (end_h 2) (156 ∷ 129 ∷ 128 ∷ []) ∷
-    entry.Got (end_h 2) 1 1 (128 ∷ []) ∷
-    entry.Turn (end_h 2) 1 (128 ∷ []) ∷
-    entry.Command 2 (command.Clear 2) ∷
-    entry.Sent (end_h 2) 1 1 (3 ∷ []) ∷
-    entry.Emit (end_h 2) (196 ∷ []) ∷
-    entry.Emit (end_h 2) (164 ∷ 129 ∷ 3 ∷ []) ∷ []) ∷
-    Entries (entry.Took (end_c 2) (196 ∷ []) ∷
-    entry.Acked (end_c 2) 1 4 ∷
-    entry.Took (end_c 2) (164 ∷ 129 ∷ 3 ∷ []) ∷
-    entry.Got (end_c 2) 1 1 (3 ∷ []) ∷
-    entry.Turn (end_c 2) 1 (3 ∷ []) ∷
-    entry.Command 0 (command.SetOpened 2 1 true) ∷
-    entry.Sent (end_c 2) 1 1 (128 ∷ 0 ∷ []) ∷
-    entry.AnyOk 0 4 ∷
-    entry.Emit (end_c 2) (197 ∷ []) ∷
-    entry.Emit (end_c 2) (165 ∷ 129 ∷ 128 ∷ 0 ∷ []) ∷ []) ∷
-    Entries (entry.Took (end_h 2) (197 ∷ []) ∷
-    entry.Acked (end_h 2) 1 5 ∷
-    entry.Took (end_h 2) (165 ∷ 129 ∷ 128 ∷ 0 ∷ []) ∷
-    entry.Got (end_h 2) 1 1 (128 ∷ 0 ∷ []) ∷
-    entry.Turn (end_h 2) 1 (128 ∷ 0 ∷ []) ∷
-    entry.Sent (end_h 2) 1 1 (1 ∷ 1 ∷ 255 ∷ 255 ∷ 255 ∷ 255 ∷ 255 ∷ 255 ∷ 255 ∷ 255 ∷ []) ∷
-    entry.Emit (end_h 2) (197 ∷ []) ∷
-    entry.Emit (end_h 2) (173 ∷ 129 ∷ 1 ∷ 1 ∷ 255 ∷ 255 ∷ 255 ∷ 255 ∷ 255 ∷ 255 ∷ 255 ∷ 255 ∷ []) ∷ []) ∷
-    Entries (entry.Took (end_c 2) (197 ∷ []) ∷
-    entry.Acked (end_c 2) 1 5 ∷
-    entry.Took (end_c 2) (173 ∷ 129 ∷ 1 ∷ 1 ∷ 255 ∷ 255 ∷ 255 ∷ 255 ∷ 255 ∷ 255 ∷ 255 ∷ 255 ∷ []) ∷
-    entry.Got (end_c 2) 1 1 (1 ∷ 1 ∷ 255 ∷ 255 ∷ 255 ∷ 255 ∷ 255 ∷ 255 ∷ 255 ∷ 255 ∷ []) ∷
-    entry.Turn (end_c 2) 1 (1 ∷ 1 ∷ 255 ∷ 255 ∷ 255 ∷ 255 ∷ 255 ∷ 255 ∷ 255 ∷ 255 ∷ []) ∷
-    entry.Command 0 (command.Set 2 0 1 (record { items = (255 ∷ 255 ∷ 255 ∷ 255 ∷ 255 ∷ 255 ∷ 255 ∷ 255 ∷ []) })) ∷
-    entry.Sent (end_c 2) 1 1 (128 ∷ []) ∷
-    entry.AnyOk 0 5 ∷
-    entry.Emit (end_c 2) (198 ∷ []) ∷
-    entry.Emit (end_c 2) (174 ∷ 129 ∷ 128 ∷ []) ∷ []) ∷
-    Entries (entry.Took (end_h 2) (198 ∷ []) ∷
-    entry.Acked (end_h 2) 1 6 ∷
-    entry.Took (end_h 2) (174 ∷ 129 ∷ 128 ∷ []) ∷
-    entry.Got (end_h 2) 1 1 (128 ∷ []) ∷
-    entry.Turn (end_h 2) 1 (128 ∷ []) ∷
-    entry.Command 2 (command.Set 2 0 1 (record { items = (255 ∷ 255 ∷ 255 ∷ 255 ∷ 255 ∷ 255 ∷ 255 ∷ 255 ∷ []) })) ∷
-    entry.InitMade (end_h 2) 0 ∷
-    entry.Emit (end_h 2) (198 ∷ []) ∷ []) ∷
-    Entries (entry.Sent (end_h 2) 1 1 (3 ∷ []) ∷
-    entry.Emit (end_h 2) (182 ∷ 129 ∷ 3 ∷ []) ∷ []) ∷
-    Entries (entry.Took (end_c 2) (198 ∷ []) ∷
-    entry.Acked (end_c 2) 1 6 ∷
-    entry.Took (end_c 2) (182 ∷ 129 ∷ 3 ∷ []) ∷
-    entry.Got (end_c 2) 1 1 (3 ∷ []) ∷
-    entry.Turn (end_c 2) 1 (3 ∷ []) ∷
-    entry.Sent (end_c 2) 1 1 (128 ∷ 0 ∷ []) ∷
-    entry.Emit (end_c 2) (199 ∷ []) ∷
-    entry.Emit (end_c 2) (183 ∷ 129 ∷ 128 ∷ 0 ∷ []) ∷ []) ∷
-    Entries (entry.Took (end_h 2) (199 ∷ []) ∷
-    entry.Acked (end_h 2) 1 7 ∷
-    entry.Took (end_h 2) (183 ∷ 129 ∷ 128 ∷ 0 ∷ []) ∷
-    entry.Got (end_h 2) 1 1 (128 ∷ 0 ∷ []) ∷
-    entry.Turn (end_h 2) 1 (128 ∷ 0 ∷ []) ∷
-    entry.Sent (end_h 2) 1 1 (2 ∷ 1 ∷ []) ∷
-    entry.Emit (end_h 2) (199 ∷ []) ∷
-    entry.Emit (end_h 2) (191 ∷ 129 ∷ 2 ∷ 1 ∷ []) ∷ []) ∷
-    Entries (entry.Took (end_c 2) (199 ∷ []) ∷
-    entry.Acked (end_c 2) 1 7 ∷
-    entry.Took (end_c 2) (191 ∷ 129 ∷ 2 ∷ 1 ∷ []) ∷
-    entry.Got (end_c 2) 1 1 (2 ∷ 1 ∷ []) ∷
-    entry.Turn (end_c 2) 1 (2 ∷ 1 ∷ []) ∷
-    entry.Sent (end_c 2) 1 1 (128 ∷ 255 ∷ 255 ∷ 255 ∷ 255 ∷ 255 ∷ 255 ∷ 255 ∷ 255 ∷ []) ∷
-    entry.Emit (end_c 2) (192 ∷ []) ∷
-    entry.Emit (end_c 2) (184 ∷ 129 ∷ 128 ∷ 255 ∷ 255 ∷ 255 ∷ 255 ∷ 255 ∷ 255 ∷ 255 ∷ 255 ∷ []) ∷ []) ∷
-    Entries (entry.Took (end_h 2) (192 ∷ []) ∷
-    entry.Acked (end_h 2) 1 8 ∷
-    entry.Took (end_h 2) (184 ∷ 129 ∷ 128 ∷ 255 ∷ 255 ∷ 255 ∷ 255 ∷ 255 ∷ 255 ∷ 255 ∷ 255 ∷ []) ∷
-    entry.Got (end_h 2) 1 1 (128 ∷ 255 ∷ 255 ∷ 255 ∷ 255 ∷ 255 ∷ 255 ∷ 255 ∷ 255 ∷ []) ∷
-    entry.Turn (end_h 2) 1 (128 ∷ 255 ∷ 255 ∷ 255 ∷ 255 ∷ 255 ∷ 255 ∷ 255 ∷ 255 ∷ []) ∷
-    entry.Sent (end_h 2) 1 1 (20 ∷ []) ∷
-    entry.Emit (end_h 2) (192 ∷ []) ∷
-    entry.Emit (end_h 2) (128 ∷ 129 ∷ 20 ∷ []) ∷ []) ∷
-    Entries (entry.Took (end_c 2) (192 ∷ []) ∷
-    entry.Acked (end_c 2) 1 8 ∷
-    entry.Took (end_c 2) (128 ∷ 129 ∷ 20 ∷ []) ∷
-    entry.Got (end_c 2) 1 1 (20 ∷ []) ∷
-    entry.Turn (end_c 2) 1 (20 ∷ []) ∷
-    entry.Command 0 (command.Clear 2) ∷
-    entry.Sent (end_c 2) 1 1 (128 ∷ []) ∷
-    entry.AnyOk 0 6 ∷
-    entry.Emit (end_c 2) (193 ∷ []) ∷
-    entry.Emit (end_c 2) (129 ∷ 129 ∷ 128 ∷ []) ∷ []) ∷
-    Entries (entry.Took (end_h 2) (193 ∷ []) ∷
-    entry.Acked (end_h 2) 1 9 ∷
-    entry.Took (end_h 2) (129 ∷ 129 ∷ 128 ∷ []) ∷
-    entry.Got (end_h 2) 1 1 (128 ∷ []) ∷
-    entry.Turn (end_h 2) 1 (128 ∷ []) ∷
-    entry.Command 2 (command.Clear 2) ∷
-    entry.Sent (end_h 2) 1 1 (3 ∷ []) ∷
-    entry.Emit (end_h 2) (193 ∷ []) ∷
-    entry.Emit (end_h 2) (137 ∷ 129 ∷ 3 ∷ []) ∷ []) ∷
-    Entries (entry.Took (end_c 2) (193 ∷ []) ∷
-    entry.Acked (end_c 2) 1 9 ∷
-    entry.Took (end_c 2) (137 ∷ 129 ∷ 3 ∷ []) ∷
-    entry.Got (end_c 2) 1 1 (3 ∷ []) ∷
-    entry.Turn (end_c 2) 1 (3 ∷ []) ∷
-    entry.Command 0 (command.SetOpened 2 1 true) ∷
-    entry.Sent (end_c 2) 1 1 (128 ∷ 0 ∷ []) ∷
-    entry.AnyOk 0 7 ∷
-    entry.Emit (end_c 2) (194 ∷ []) ∷
-    entry.Emit (end_c 2) (138 ∷ 129 ∷ 128 ∷ 0 ∷ []) ∷ []) ∷
-    Entries (entry.Took (end_h 2) (194 ∷ []) ∷
-    entry.Acked (end_h 2) 1 10 ∷
-    entry.Took (end_h 2) (138 ∷ 129 ∷ 128 ∷ 0 ∷ []) ∷
-    entry.Got (end_h 2) 1 1 (128 ∷ 0 ∷ []) ∷
-    entry.Turn (end_h 2) 1 (128 ∷ 0 ∷ []) ∷
-    entry.Sent (end_h 2) 1 1 (16 ∷ 32 ∷ 0 ∷ 4 ∷ []) ∷
-    entry.Emit (end_h 2) (194 ∷ []) ∷
-    entry.Emit (end_h 2) (146 ∷ 129 ∷ 16 ∷ 32 ∷ 0 ∷ 4 ∷ []) ∷ []) ∷
-    Entries (entry.Took (end_c 2) (194 ∷ []) ∷
-    entry.Acked (end_c 2) 1 10 ∷
-    entry.Took (end_c 2) (146 ∷ 129 ∷ 16 ∷ 32 ∷ 0 ∷ 4 ∷ []) ∷
-    entry.Got (end_c 2) 1 1 (16 ∷ 32 ∷ 0 ∷ 4 ∷ []) ∷
-    entry.Turn (end_c 2) 1 (16 ∷ 32 ∷ 0 ∷ 4 ∷ []) ∷
-    entry.Command 0 (command.Create (record { pid = 2; creator = 2; creator_gate = 32; dest = 0; dest_gate = 4; opened = false })) ∷
-    entry.Sent (end_c 2) 1 1 (128 ∷ 2 ∷ 32 ∷ 0 ∷ 4 ∷ 2 ∷ []) ∷
-    entry.AnyOk 0 8 ∷
-    entry.Emit (end_c 2) (195 ∷ []) ∷
-    entry.Emit (end_c 2) (147 ∷ 129 ∷ 128 ∷ 2 ∷ 32 ∷ 0 ∷ 4 ∷ 2 ∷ []) ∷ []) ∷
-    Entries (entry.Took (end_h 2) (195 ∷ []) ∷
-    entry.Acked (end_h 2) 1 11 ∷
-    entry.Took (end_h 2) (147 ∷ 129 ∷ 128 ∷ 2 ∷ 32 ∷ 0 ∷ 4 ∷ 2 ∷ []) ∷
-    entry.Got (end_h 2) 1 1 (128 ∷ 2 ∷ 32 ∷ 0 ∷ 4 ∷ 2 ∷ []) ∷
-    entry.Turn (end_h 2) 1 (128 ∷ 2 ∷ 32 ∷ 0 ∷ 4 ∷ 2 ∷ []) ∷
-    entry.Command 2 (command.Create (record { pid = 2; creator = 2; creator_gate = 32; dest = 0; dest_gate = 4; opened = false })) ∷
-    entry.Sent (end_h 2) 1 1 (1 ∷ 1 ∷ 255 ∷ 255 ∷ 255 ∷ 255 ∷ 255 ∷ 255 ∷ 255 ∷ 255 ∷ []) ∷
-    entry.Emit (end_h 2) (195 ∷ []) ∷
-    entry.Emit (end_h 2) (155 ∷ 129 ∷ 1 ∷ 1 ∷ 255 ∷ 255 ∷ 255 ∷ 255 ∷ 255 ∷ 255 ∷ 255 ∷ 255 ∷ []) ∷ []) ∷
-    Entries (entry.Took (end_c 2) (195 ∷ []) ∷
-    entry.Acked (end_c 2) 1 11 ∷
-    entry.Took (end_c 2) (155 ∷ 129 ∷ 1 ∷ 1 ∷ 255 ∷ 255 ∷ 255 ∷ 255 ∷ 255 ∷ 255 ∷ 255 ∷ 255 ∷ []) ∷
-    entry.Got (end_c 2) 1 1 (1 ∷ 1 ∷ 255 ∷ 255 ∷ 255 ∷ 255 ∷ 255 ∷ 255 ∷ 255 ∷ 255 ∷ []) ∷
-    entry.Turn (end_c 2) 1 (1 ∷ 1 ∷ 255 ∷ 255 ∷ 255 ∷ 255 ∷ 255 ∷ 255 ∷ 255 ∷ 255 ∷ []) ∷
-    entry.Command 0 (command.Set 2 0 1 (record { items = (255 ∷ 255 ∷ 255 ∷ 255 ∷ 255 ∷ 255 ∷ 255 ∷ 255 ∷ []) })) ∷
-    entry.Sent (end_c 2) 1 1 (128 ∷ []) ∷
-    entry.AnyOk 0 9 ∷
-    entry.Emit (end_c 2) (196 ∷ []) ∷
-    entry.Emit (end_c 2) (156 ∷ 129 ∷ 128 ∷ []) ∷ []) ∷
-    Entries (entry.Took (end_h 2) (196 ∷ []) ∷
-    entry.Acked (end_h 2) 1 12 ∷
-    entry.Took (end_h 2) (156 ∷ 129 ∷ 128 ∷ []) ∷
-    entry.Got (end_h 2) 1 1 (128 ∷ []) ∷
-    entry.Turn (end_h 2) 1 (128 ∷ []) ∷
-    entry.Command 2 (command.Set 2 0 1 (record { items = (255 ∷ 255 ∷ 255 ∷ 255 ∷ 255 ∷ 255 ∷ 255 ∷ 255 ∷ []) })) ∷
-    entry.InitMade (end_h 2) 1 ∷
-    entry.Emit (end_h 2) (196 ∷ []) ∷ []) ∷
-    Entries (entry.Took (end_c 2) (196 ∷ []) ∷
-    entry.Acked (end_c 2) 1 12 ∷ []) ∷
-    Entries (entry.No no.Empty ∷ []) ∷
-    Entries (entry.Sent (end_h 2) 1 1 (3 ∷ []) ∷
-    entry.Emit (end_h 2) (164 ∷ 129 ∷ 3 ∷ []) ∷ []) ∷
-    Entries (entry.Took (end_c 2) (164 ∷ 129 ∷ 3 ∷ []) ∷
-    entry.Got (end_c 2) 1 1 (3 ∷ []) ∷
-    entry.Turn (end_c 2) 1 (3 ∷ []) ∷
-    entry.Sent (end_c 2) 1 1 (128 ∷ 0 ∷ []) ∷
-    entry.Emit (end_c 2) (197 ∷ []) ∷
-    entry.Emit (end_c 2) (165 ∷ 129 ∷ 128 ∷ 0 ∷ []) ∷ []) ∷
-    Entries (entry.Took (end_h 2) (197 ∷ []) ∷
-    entry.Acked (end_h 2) 1 13 ∷
-    entry.Took (end_h 2) (165 ∷ 129 ∷ 128 ∷ 0 ∷ []) ∷
-    entry.Got (end_h 2) 1 1 (128 ∷ 0 ∷ []) ∷
-    entry.Turn (end_h 2) 1 (128 ∷ 0 ∷ []) ∷
-    entry.Sent (end_h 2) 1 1 (2 ∷ 1 ∷ []) ∷
-    entry.Emit (end_h 2) (197 ∷ []) ∷
-    entry.Emit (end_h 2) (173 ∷ 129 ∷ 2 ∷ 1 ∷ []) ∷ []) ∷
-    Entries (entry.Took (end_c 2) (197 ∷ []) ∷
-    entry.Acked (end_c 2) 1 13 ∷
-    entry.Took (end_c 2) (173 ∷ 129 ∷ 2 ∷ 1 ∷ []) ∷
-    entry.Got (end_c 2) 1 1 (2 ∷ 1 ∷ []) ∷
-    entry.Turn (end_c 2) 1 (2 ∷ 1 ∷ []) ∷
-    entry.Sent (end_c 2) 1 1 (128 ∷ 255 ∷ 255 ∷ 255 ∷ 255 ∷ 255 ∷ 255 ∷ 255 ∷ 255 ∷ []) ∷
-    entry.Emit (end_c 2) (198 ∷ []) ∷
-    entry.Emit (end_c 2) (174 ∷ 129 ∷ 128 ∷ 255 ∷ 255 ∷ 255 ∷ 255 ∷ 255 ∷ 255 ∷ 255 ∷ 255 ∷ []) ∷ []) ∷
-    Entries (entry.Took (end_h 2) (198 ∷ []) ∷
-    entry.Acked (end_h 2) 1 14 ∷
-    entry.Took (end_h 2) (174 ∷ 129 ∷ 128 ∷ 255 ∷ 255 ∷ 255 ∷ 255 ∷ 255 ∷ 255 ∷ 255 ∷ 255 ∷ []) ∷
-    entry.Got (end_h 2) 1 1 (128 ∷ 255 ∷ 255 ∷ 255 ∷ 255 ∷ 255 ∷ 255 ∷ 255 ∷ 255 ∷ []) ∷
-    entry.Turn (end_h 2) 1 (128 ∷ 255 ∷ 255 ∷ 255 ∷ 255 ∷ 255 ∷ 255 ∷ 255 ∷ 255 ∷ []) ∷
-    entry.Sent (end_h 2) 1 1 (20 ∷ []) ∷
-    entry.Emit (end_h 2) (198 ∷ []) ∷
-    entry.Emit (end_h 2) (182 ∷ 129 ∷ 20 ∷ []) ∷ []) ∷
-    Entries (entry.Took (end_c 2) (198 ∷ []) ∷
-    entry.Acked (end_c 2) 1 14 ∷
-    entry.Took (end_c 2) (182 ∷ 129 ∷ 20 ∷ []) ∷
-    entry.Got (end_c 2) 1 1 (20 ∷ []) ∷
-    entry.Turn (end_c 2) 1 (20 ∷ []) ∷
-    entry.Command 0 (command.Clear 2) ∷
-    entry.Sent (end_c 2) 1 1 (128 ∷ []) ∷
-    entry.AnyOk 0 10 ∷
-    entry.Emit (end_c 2) (199 ∷ []) ∷
-    entry.Emit (end_c 2) (183 ∷ 129 ∷ 128 ∷ []) ∷ []) ∷
-    Entries (entry.Took (end_h 2) (199 ∷ []) ∷
-    entry.Acked (end_h 2) 1 15 ∷
-    entry.Took (end_h 2) (183 ∷ 129 ∷ 128 ∷ []) ∷
-    entry.Got (end_h 2) 1 1 (128 ∷ []) ∷
-    entry.Turn (end_h 2) 1 (128 ∷ []) ∷
-    entry.Command 2 (command.Clear 2) ∷
-    entry.Sent (end_h 2) 1 1 (3 ∷ []) ∷
-    entry.Emit (end_h 2) (199 ∷ []) ∷
-    entry.Emit (end_h 2) (191 ∷ 129 ∷ 3 ∷ []) ∷ []) ∷
-    Entries (entry.Took (end_c 2) (199 ∷ []) ∷
-    entry.Acked (end_c 2) 1 15 ∷
-    entry.Took (end_c 2) (191 ∷ 129 ∷ 3 ∷ []) ∷
-    entry.Got (end_c 2) 1 1 (3 ∷ []) ∷
-    entry.Turn (end_c 2) 1 (3 ∷ []) ∷
-    entry.Command 0 (command.SetOpened 2 1 true) ∷
-    entry.Sent (end_c 2) 1 1 (128 ∷ 0 ∷ []) ∷
-    entry.AnyOk 0 11 ∷
-    entry.Emit (end_c 2) (192 ∷ []) ∷
-    entry.Emit (end_c 2) (184 ∷ 129 ∷ 128 ∷ 0 ∷ []) ∷ []) ∷
-    Entries (entry.Took (end_h 2) (192 ∷ []) ∷
-    entry.Acked (end_h 2) 1 16 ∷
-    entry.Took (end_h 2) (184 ∷ 129 ∷ 128 ∷ 0 ∷ []) ∷
-    entry.Got (end_h 2) 1 1 (128 ∷ 0 ∷ []) ∷
-    entry.Turn (end_h 2) 1 (128 ∷ 0 ∷ []) ∷
-    entry.Sent (end_h 2) 1 1 (16 ∷ 32 ∷ 0 ∷ 7 ∷ []) ∷
-    entry.Emit (end_h 2) (192 ∷ []) ∷
-    entry.Emit (end_h 2) (128 ∷ 129 ∷ 16 ∷ 32 ∷ 0 ∷ 7 ∷ []) ∷ []) ∷
-    Entries (entry.Took (end_c 2) (192 ∷ []) ∷
-    entry.Acked (end_c 2) 1 16 ∷
-    entry.Took (end_c 2) (128 ∷ 129 ∷ 16 ∷ 32 ∷ 0 ∷ 7 ∷ []) ∷
-    entry.Got (end_c 2) 1 1 (16 ∷ 32 ∷ 0 ∷ 7 ∷ []) ∷
-    entry.Turn (end_c 2) 1 (16 ∷ 32 ∷ 0 ∷ 7 ∷ []) ∷
-    entry.Sent (end_c 2) 1 1 (131 ∷ []) ∷
-    entry.Emit (end_c 2) (193 ∷ []) ∷
-    entry.Emit (end_c 2) (129 ∷ 129 ∷ 131 ∷ []) ∷ []) ∷
-    Entries (entry.Took (end_h 2) (193 ∷ []) ∷
-    entry.Acked (end_h 2) 1 17 ∷
-    entry.Took (end_h 2) (129 ∷ 129 ∷ 131 ∷ []) ∷
-    entry.Got (end_h 2) 1 1 (131 ∷ []) ∷
-    entry.Turn (end_h 2) 1 (131 ∷ []) ∷
-    entry.InitFailed (end_h 2) 3 ∷
-    entry.Emit (end_h 2) (193 ∷ []) ∷ []) ∷
-    Entries (entry.Took (end_c 2) (193 ∷ []) ∷
-    entry.Acked (end_c 2) 1 17 ∷ []) ∷
-    Entries (entry.No no.Empty ∷ []) ∷
-    Entries (entry.Sent (end_h 2) 1 1 (3 ∷ []) ∷
-    entry.Emit (end_h 2) (137 ∷ 129 ∷ 3 ∷ []) ∷ []) ∷
-    Entries (entry.Took (end_c 2) (137 ∷ 129 ∷ 3 ∷ []) ∷
-    entry.Got (end_c 2) 1 1 (3 ∷ []) ∷
-    entry.Turn (end_c 2) 1 (3 ∷ []) ∷
-    entry.Sent (end_c 2) 1 1 (128 ∷ 0 ∷ []) ∷
-    entry.Emit (end_c 2) (194 ∷ []) ∷
-    entry.Emit (end_c 2) (138 ∷ 129 ∷ 128 ∷ 0 ∷ []) ∷ []) ∷
-    Entries (entry.Took (end_h 2) (194 ∷ []) ∷
-    entry.Acked (end_h 2) 1 18 ∷
-    entry.Took (end_h 2) (138 ∷ 129 ∷ 128 ∷ 0 ∷ []) ∷
-    entry.Got (end_h 2) 1 1 (128 ∷ 0 ∷ []) ∷
-    entry.Turn (end_h 2) 1 (128 ∷ 0 ∷ []) ∷
-    entry.Sent (end_h 2) 1 1 (2 ∷ 1 ∷ []) ∷
-    entry.Emit (end_h 2) (194 ∷ []) ∷
-    entry.Emit (end_h 2) (146 ∷ 129 ∷ 2 ∷ 1 ∷ []) ∷ []) ∷
-    Entries (entry.Took (end_c 2) (194 ∷ []) ∷
-    entry.Acked (end_c 2) 1 18 ∷
-    entry.Took (end_c 2) (146 ∷ 129 ∷ 2 ∷ 1 ∷ []) ∷
-    entry.Got (end_c 2) 1 1 (2 ∷ 1 ∷ []) ∷
-    entry.Turn (end_c 2) 1 (2 ∷ 1 ∷ []) ∷
-    entry.Sent (end_c 2) 1 1 (128 ∷ 255 ∷ 255 ∷ 255 ∷ 255 ∷ 255 ∷ 255 ∷ 255 ∷ 255 ∷ []) ∷
-    entry.Emit (end_c 2) (195 ∷ []) ∷
-    entry.Emit (end_c 2) (147 ∷ 129 ∷ 128 ∷ 255 ∷ 255 ∷ 255 ∷ 255 ∷ 255 ∷ 255 ∷ 255 ∷ 255 ∷ []) ∷ []) ∷
-    Entries (entry.Took (end_h 2) (195 ∷ []) ∷
-    entry.Acked (end_h 2) 1 19 ∷
-    entry.Took (end_h 2) (147 ∷ 129 ∷ 128 ∷ 255 ∷ 255 ∷ 255 ∷ 255 ∷ 255 ∷ 255 ∷ 255 ∷ 255 ∷ []) ∷
-    entry.Got (end_h 2) 1 1 (128 ∷ 255 ∷ 255 ∷ 255 ∷ 255 ∷ 255 ∷ 255 ∷ 255 ∷ 255 ∷ []) ∷
-    entry.Turn (end_h 2) 1 (128 ∷ 255 ∷ 255 ∷ 255 ∷ 255 ∷ 255 ∷ 255 ∷ 255 ∷ 255 ∷ []) ∷
-    entry.Sent (end_h 2) 1 1 (20 ∷ []) ∷
-    entry.Emit (end_h 2) (195 ∷ []) ∷
-    entry.Emit (end_h 2) (155 ∷ 129 ∷ 20 ∷ []) ∷ []) ∷
-    Entries (entry.Took (end_c 2) (195 ∷ []) ∷
-    entry.Acked (end_c 2) 1 19 ∷
-    entry.Took (end_c 2) (155 ∷ 129 ∷ 20 ∷ []) ∷
-    entry.Got (end_c 2) 1 1 (20 ∷ []) ∷
-    entry.Turn (end_c 2) 1 (20 ∷ []) ∷
-    entry.Command 0 (command.Clear 2) ∷
-    entry.Sent (end_c 2) 1 1 (128 ∷ []) ∷
-    entry.AnyOk 0 12 ∷
-    entry.Emit (end_c 2) (196 ∷ []) ∷
-    entry.Emit (end_c 2) (156 ∷ 129 ∷ 128 ∷ []) ∷ []) ∷
-    Entries (entry.Took (end_h 2) (196 ∷ []) ∷
-    entry.Acked (end_h 2) 1 20 ∷
-    entry.Took (end_h 2) (156 ∷ 129 ∷ 128 ∷ []) ∷
-    entry.Got (end_h 2) 1 1 (128 ∷ []) ∷
-    entry.Turn (end_h 2) 1 (128 ∷ []) ∷
-    entry.Command 2 (command.Clear 2) ∷
-    entry.Sent (end_h 2) 1 1 (3 ∷ []) ∷
-    entry.Emit (end_h 2) (196 ∷ []) ∷
-    entry.Emit (end_h 2) (164 ∷ 129 ∷ 3 ∷ []) ∷ []) ∷
-    Entries (entry.Took (end_c 2) (196 ∷ []) ∷
-    entry.Acked (end_c 2) 1 20 ∷
-    entry.Took (end_c 2) (164 ∷ 129 ∷ 3 ∷ []) ∷
-    entry.Got (end_c 2) 1 1 (3 ∷ []) ∷
-    entry.Turn (end_c 2) 1 (3 ∷ []) ∷
-    entry.Command 0 (command.SetOpened 2 1 true) ∷
-    entry.Sent (end_c 2) 1 1 (128 ∷ 0 ∷ []) ∷
-    entry.AnyOk 0 13 ∷
-    entry.Emit (end_c 2) (197 ∷ []) ∷
-    entry.Emit (end_c 2) (165 ∷ 129 ∷ 128 ∷ 0 ∷ []) ∷ []) ∷
-    Entries (entry.Took (end_h 2) (197 ∷ []) ∷
-    entry.Acked (end_h 2) 1 21 ∷
-    entry.Took (end_h 2) (165 ∷ 129 ∷ 128 ∷ 0 ∷ []) ∷
-    entry.Got (end_h 2) 1 1 (128 ∷ 0 ∷ []) ∷
-    entry.Turn (end_h 2) 1 (128 ∷ 0 ∷ []) ∷
-    entry.Sent (end_h 2) 1 1 (16 ∷ 32 ∷ 0 ∷ 4 ∷ []) ∷
-    entry.Emit (end_h 2) (197 ∷ []) ∷
-    entry.Emit (end_h 2) (173 ∷ 129 ∷ 16 ∷ 32 ∷ 0 ∷ 4 ∷ []) ∷ []) ∷
-    Entries (entry.Took (end_c 2) (197 ∷ []) ∷
-    entry.Acked (end_c 2) 1 21 ∷
-    entry.Took (end_c 2) (173 ∷ 129 ∷ 16 ∷ 32 ∷ 0 ∷ 4 ∷ []) ∷
-    entry.Got (end_c 2) 1 1 (16 ∷ 32 ∷ 0 ∷ 4 ∷ []) ∷
-    entry.Turn (end_c 2) 1 (16 ∷ 32 ∷ 0 ∷ 4 ∷ []) ∷
-    entry.Command 0 (command.Create (record { pid = 2; creator = 2; creator_gate = 32; dest = 0; dest_gate = 4; opened = false })) ∷
-    entry.Sent (end_c 2) 1 1 (128 ∷ 2 ∷ 32 ∷ 0 ∷ 4 ∷ 2 ∷ []) ∷
-    entry.AnyOk 0 14 ∷
-    entry.Emit (end_c 2) (198 ∷ []) ∷
-    entry.Emit (end_c 2) (174 ∷ 129 ∷ 128 ∷ 2 ∷ 32 ∷ 0 ∷ 4 ∷ 2 ∷ []) ∷ []) ∷
-    Entries (entry.Took (end_h 2) (198 ∷ []) ∷
-    entry.Acked (end_h 2) 1 22 ∷
-    entry.Took (end_h 2) (174 ∷ 129 ∷ 128 ∷ 2 ∷ 32 ∷ 0 ∷ 4 ∷ 2 ∷ []) ∷
-    entry.Got (end_h 2) 1 1 (128 ∷ 2 ∷ 32 ∷ 0 ∷ 4 ∷ 2 ∷ []) ∷
-    entry.Turn (end_h 2) 1 (128 ∷ 2 ∷ 32 ∷ 0 ∷ 4 ∷ 2 ∷ []) ∷
-    entry.Command 2 (command.Create (record { pid = 2; creator = 2; creator_gate = 32; dest = 0; dest_gate = 4; opened = false })) ∷
-    entry.Sent (end_h 2) 1 1 (16 ∷ 32 ∷ 0 ∷ 4 ∷ []) ∷
-    entry.Emit (end_h 2) (198 ∷ []) ∷
-    entry.Emit (end_h 2) (182 ∷ 129 ∷ 16 ∷ 32 ∷ 0 ∷ 4 ∷ []) ∷ []) ∷
-    Entries (entry.Took (end_c 2) (198 ∷ []) ∷
-    entry.Acked (end_c 2) 1 22 ∷
-    entry.Took (end_c 2) (182 ∷ 129 ∷ 16 ∷ 32 ∷ 0 ∷ 4 ∷ []) ∷
-    entry.Got (end_c 2) 1 1 (16 ∷ 32 ∷ 0 ∷ 4 ∷ []) ∷
-    entry.Turn (end_c 2) 1 (16 ∷ 32 ∷ 0 ∷ 4 ∷ []) ∷
-    entry.Command 0 (command.Create (record { pid = 3; creator = 2; creator_gate = 32; dest = 0; dest_gate = 4; opened = false })) ∷
-    entry.Sent (end_c 2) 1 1 (128 ∷ 2 ∷ 32 ∷ 0 ∷ 4 ∷ 3 ∷ []) ∷
-    entry.AnyOk 0 15 ∷
-    entry.Emit (end_c 2) (199 ∷ []) ∷
-    entry.Emit (end_c 2) (183 ∷ 129 ∷ 128 ∷ 2 ∷ 32 ∷ 0 ∷ 4 ∷ 3 ∷ []) ∷ []) ∷
-    Entries (entry.Took (end_h 2) (199 ∷ []) ∷
-    entry.Acked (end_h 2) 1 23 ∷
-    entry.Took (end_h 2) (183 ∷ 129 ∷ 128 ∷ 2 ∷ 32 ∷ 0 ∷ 4 ∷ 3 ∷ []) ∷
-    entry.Got (end_h 2) 1 1 (128 ∷ 2 ∷ 32 ∷ 0 ∷ 4 ∷ 3 ∷ []) ∷
-    entry.Turn (end_h 2) 1 (128 ∷ 2 ∷ 32 ∷ 0 ∷ 4 ∷ 3 ∷ []) ∷
-    entry.Command 2 (command.Create (record { pid = 3; creator = 2; creator_gate = 32; dest = 0; dest_gate = 4; opened = false })) ∷
-    entry.Sent (end_h 2) 1 1 (16 ∷ 32 ∷ 0 ∷ 4 ∷ []) ∷
-    entry.Emit (end_h 2) (199 ∷ []) ∷
-    entry.Emit (end_h 2) (191 ∷ 129 ∷ 16 ∷ 32 ∷ 0 ∷ 4 ∷ []) ∷ []) ∷
-    Entries (entry.Took (end_c 2) (199 ∷ []) ∷
-    entry.Acked (end_c 2) 1 23 ∷
-    entry.Took (end_c 2) (191 ∷ 129 ∷ 16 ∷ 32 ∷ 0 ∷ 4 ∷ []) ∷
-    entry.Got (end_c 2) 1 1 (16 ∷ 32 ∷ 0 ∷ 4 ∷ []) ∷
-    entry.Turn (end_c 2) 1 (16 ∷ 32 ∷ 0 ∷ 4 ∷ []) ∷
-    entry.Command 0 (command.Create (record { pid = 4; creator = 2; creator_gate = 32; dest = 0; dest_gate = 4; opened = false })) ∷
-    entry.Sent (end_c 2) 1 1 (128 ∷ 2 ∷ 32 ∷ 0 ∷ 4 ∷ 4 ∷ []) ∷
-    entry.AnyOk 0 16 ∷
-    entry.Emit (end_c 2) (192 ∷ []) ∷
-    entry.Emit (end_c 2) (184 ∷ 129 ∷ 128 ∷ 2 ∷ 32 ∷ 0 ∷ 4 ∷ 4 ∷ []) ∷ []) ∷
-    Entries (entry.Took (end_h 2) (192 ∷ []) ∷
-    entry.Acked (end_h 2) 1 24 ∷
-    entry.Took (end_h 2) (184 ∷ 129 ∷ 128 ∷ 2 ∷ 32 ∷ 0 ∷ 4 ∷ 4 ∷ []) ∷
-    entry.Got (end_h 2) 1 1 (128 ∷ 2 ∷ 32 ∷ 0 ∷ 4 ∷ 4 ∷ []) ∷
-    entry.Turn (end_h 2) 1 (128 ∷ 2 ∷ 32 ∷ 0 ∷ 4 ∷ 4 ∷ []) ∷
-    entry.Command 2 (command.Create (record { pid = 4; creator = 2; creator_gate = 32; dest = 0; dest_gate = 4; opened = false })) ∷
-    entry.Sent (end_h 2) 1 1 (16 ∷ 32 ∷ 0 ∷ 4 ∷ []) ∷
-    entry.Emit (end_h 2) (192 ∷ []) ∷
-    entry.Emit (end_h 2) (128 ∷ 129 ∷ 16 ∷ 32 ∷ 0 ∷ 4 ∷ []) ∷ []) ∷
-    Entries (entry.Took (end_c 2) (192 ∷ []) ∷
-    entry.Acked (end_c 2) 1 24 ∷
-    entry.Took (end_c 2) (128 ∷ 129 ∷ 16 ∷ 32 ∷ 0 ∷ 4 ∷ []) ∷
-    entry.Got (end_c 2) 1 1 (16 ∷ 32 ∷ 0 ∷ 4 ∷ []) ∷
-    entry.Turn (end_c 2) 1 (16 ∷ 32 ∷ 0 ∷ 4 ∷ []) ∷
-    entry.Command 0 (command.Create (record { pid = 5; creator = 2; creator_gate = 32; dest = 0; dest_gate = 4; opened = false })) ∷
-    entry.Sent (end_c 2) 1 1 (128 ∷ 2 ∷ 32 ∷ 0 ∷ 4 ∷ 5 ∷ []) ∷
-    entry.AnyOk 0 17 ∷
-    entry.Emit (end_c 2) (193 ∷ []) ∷
-    entry.Emit (end_c 2) (129 ∷ 129 ∷ 128 ∷ 2 ∷ 32 ∷ 0 ∷ 4 ∷ 5 ∷ []) ∷ []) ∷
-    Entries (entry.Took (end_h 2) (193 ∷ []) ∷
-    entry.Acked (end_h 2) 1 25 ∷
-    entry.Took (end_h 2) (129 ∷ 129 ∷ 128 ∷ 2 ∷ 32 ∷ 0 ∷ 4 ∷ 5 ∷ []) ∷
-    entry.Got (end_h 2) 1 1 (128 ∷ 2 ∷ 32 ∷ 0 ∷ 4 ∷ 5 ∷ []) ∷
-    entry.Turn (end_h 2) 1 (128 ∷ 2 ∷ 32 ∷ 0 ∷ 4 ∷ 5 ∷ []) ∷
-    entry.Command 2 (command.Create (record { pid = 5; creator = 2; creator_gate = 32; dest = 0; dest_gate = 4; opened = false })) ∷
-    entry.Sent (end_h 2) 1 1 (16 ∷ 32 ∷ 0 ∷ 5 ∷ []) ∷
-    entry.Emit (end_h 2) (193 ∷ []) ∷
-    entry.Emit (end_h 2) (137 ∷ 129 ∷ 16 ∷ 32 ∷ 0 ∷ 5 ∷ []) ∷ []) ∷
-    Entries (entry.Took (end_c 2) (193 ∷ []) ∷
-    entry.Acked (end_c 2) 1 25 ∷
-    entry.Took (end_c 2) (137 ∷ 129 ∷ 16 ∷ 32 ∷ 0 ∷ 5 ∷ []) ∷
-    entry.Got (end_c 2) 1 1 (16 ∷ 32 ∷ 0 ∷ 5 ∷ []) ∷
-    entry.Turn (end_c 2) 1 (16 ∷ 32 ∷ 0 ∷ 5 ∷ []) ∷
-    entry.Command 0 (command.Create (record { pid = 6; creator = 2; creator_gate = 32; dest = 0; dest_gate = 5; opened = false })) ∷
-    entry.Sent (end_c 2) 1 1 (128 ∷ 2 ∷ 32 ∷ 0 ∷ 5 ∷ 6 ∷ []) ∷
-    entry.AnyOk 0 18 ∷
-    entry.Emit (end_c 2) (194 ∷ []) ∷
-    entry.Emit (end_c 2) (138 ∷ 129 ∷ 128 ∷ 2 ∷ 32 ∷ 0 ∷ 5 ∷ 6 ∷ []) ∷ []) ∷
-    Entries (entry.Took (end_h 2) (194 ∷ []) ∷
-    entry.Acked (end_h 2) 1 26 ∷
-    entry.Took (end_h 2) (138 ∷ 129 ∷ 128 ∷ 2 ∷ 32 ∷ 0 ∷ 5 ∷ 6 ∷ []) ∷
-    entry.Got (end_h 2) 1 1 (128 ∷ 2 ∷ 32 ∷ 0 ∷ 5 ∷ 6 ∷ []) ∷
-    entry.Turn (end_h 2) 1 (128 ∷ 2 ∷ 32 ∷ 0 ∷ 5 ∷ 6 ∷ []) ∷
-    entry.Command 2 (command.Create (record { pid = 6; creator = 2; creator_gate = 32; dest = 0; dest_gate = 5; opened = false })) ∷
-    entry.Sent (end_h 2) 1 1 (16 ∷ 32 ∷ 0 ∷ 5 ∷ []) ∷
-    entry.Emit (end_h 2) (194 ∷ []) ∷
-    entry.Emit (end_h 2) (146 ∷ 129 ∷ 16 ∷ 32 ∷ 0 ∷ 5 ∷ []) ∷ []) ∷
-    Entries (entry.Took (end_c 2) (194 ∷ []) ∷
-    entry.Acked (end_c 2) 1 26 ∷
-    entry.Took (end_c 2) (146 ∷ 129 ∷ 16 ∷ 32 ∷ 0 ∷ 5 ∷ []) ∷
-    entry.Got (end_c 2) 1 1 (16 ∷ 32 ∷ 0 ∷ 5 ∷ []) ∷
-    entry.Turn (end_c 2) 1 (16 ∷ 32 ∷ 0 ∷ 5 ∷ []) ∷
-    entry.Command 0 (command.Create (record { pid = 7; creator = 2; creator_gate = 32; dest = 0; dest_gate = 5; opened = false })) ∷
-    entry.Sent (end_c 2) 1 1 (128 ∷ 2 ∷ 32 ∷ 0 ∷ 5 ∷ 7 ∷ []) ∷
-    entry.AnyOk 0 19 ∷
-    entry.Emit (end_c 2) (195 ∷ []) ∷
-    entry.Emit (end_c 2) (147 ∷ 129 ∷ 128 ∷ 2 ∷ 32 ∷ 0 ∷ 5 ∷ 7 ∷ []) ∷ []) ∷
-    Entries (entry.Took (end_h 2) (195 ∷ []) ∷
-    entry.Acked (end_h 2) 1 27 ∷
-    entry.Took (end_h 2) (147 ∷ 129 ∷ 128 ∷ 2 ∷ 32 ∷ 0 ∷ 5 ∷ 7 ∷ []) ∷
-    entry.Got (end_h 2) 1 1 (128 ∷ 2 ∷ 32 ∷ 0 ∷ 5 ∷ 7 ∷ []) ∷
-    entry.Turn (end_h 2) 1 (128 ∷ 2 ∷ 32 ∷ 0 ∷ 5 ∷ 7 ∷ []) ∷
-    entry.Command 2 (command.Create (record { pid = 7; creator = 2; creator_gate = 32; dest = 0; dest_gate = 5; opened = false })) ∷
-    entry.Sent (end_h 2) 1 1 (16 ∷ 32 ∷ 0 ∷ 5 ∷ []) ∷
-    entry.Emit (end_h 2) (195 ∷ []) ∷
-    entry.Emit (end_h 2) (155 ∷ 129 ∷ 16 ∷ 32 ∷ 0 ∷ 5 ∷ []) ∷ []) ∷
-    Entries (entry.Took (end_c 2) (195 ∷ []) ∷
-    entry.Acked (end_c 2) 1 27 ∷
-    entry.Took (end_c 2) (155 ∷ 129 ∷ 16 ∷ 32 ∷ 0 ∷ 5 ∷ []) ∷
-    entry.Got (end_c 2) 1 1 (16 ∷ 32 ∷ 0 ∷ 5 ∷ []) ∷
-    entry.Turn (end_c 2) 1 (16 ∷ 32 ∷ 0 ∷ 5 ∷ []) ∷
-    entry.Command 0 (command.Create (record { pid = 8; creator = 2; creator_gate = 32; dest = 0; dest_gate = 5; opened = false })) ∷
-    entry.Sent (end_c 2) 1 1 (128 ∷ 2 ∷ 32 ∷ 0 ∷ 5 ∷ 8 ∷ []) ∷
-    entry.AnyOk 0 20 ∷
-    entry.Emit (end_c 2) (196 ∷ []) ∷
-    entry.Emit (end_c 2) (156 ∷ 129 ∷ 128 ∷ 2 ∷ 32 ∷ 0 ∷ 5 ∷ 8 ∷ []) ∷ []) ∷
-    Entries (entry.Took (end_h 2) (196 ∷ []) ∷
-    entry.Acked (end_h 2) 1 28 ∷
-    entry.Took (end_h 2) (156 ∷ 129 ∷ 128 ∷ 2 ∷ 32 ∷ 0 ∷ 5 ∷ 8 ∷ []) ∷
-    entry.Got (end_h 2) 1 1 (128 ∷ 2 ∷ 32 ∷ 0 ∷ 5 ∷ 8 ∷ []) ∷
-    entry.Turn (end_h 2) 1 (128 ∷ 2 ∷ 32 ∷ 0 ∷ 5 ∷ 8 ∷ []) ∷
-    entry.Command 2 (command.Create (record { pid = 8; creator = 2; creator_gate = 32; dest = 0; dest_gate = 5; opened = false })) ∷
-    entry.Sent (end_h 2) 1 1 (16 ∷ 32 ∷ 0 ∷ 5 ∷ []) ∷
-    entry.Emit (end_h 2) (196 ∷ []) ∷
-    entry.Emit (end_h 2) (164 ∷ 129 ∷ 16 ∷ 32 ∷ 0 ∷ 5 ∷ []) ∷ []) ∷
-    Entries (entry.Took (end_c 2) (196 ∷ []) ∷
-    entry.Acked (end_c 2) 1 28 ∷
-    entry.Took (end_c 2) (164 ∷ 129 ∷ 16 ∷ 32 ∷ 0 ∷ 5 ∷ []) ∷
-    entry.Got (end_c 2) 1 1 (16 ∷ 32 ∷ 0 ∷ 5 ∷ []) ∷
-    entry.Turn (end_c 2) 1 (16 ∷ 32 ∷ 0 ∷ 5 ∷ []) ∷
-    entry.Command 0 (command.Create (record { pid = 9; creator = 2; creator_gate = 32; dest = 0; dest_gate = 5; opened = false })) ∷
-    entry.Sent (end_c 2) 1 1 (128 ∷ 2 ∷ 32 ∷ 0 ∷ 5 ∷ 9 ∷ []) ∷
-    entry.AnyOk 0 21 ∷
-    entry.Emit (end_c 2) (197 ∷ []) ∷
-    entry.Emit (end_c 2) (165 ∷ 129 ∷ 128 ∷ 2 ∷ 32 ∷ 0 ∷ 5 ∷ 9 ∷ []) ∷ []) ∷
-    Entries (entry.Took (end_h 2) (197 ∷ []) ∷
-    entry.Acked (end_h 2) 1 29 ∷
-    entry.Took (end_h 2) (165 ∷ 129 ∷ 128 ∷ 2 ∷ 32 ∷ 0 ∷ 5 ∷ 9 ∷ []) ∷
-    entry.Got (end_h 2) 1 1 (128 ∷ 2 ∷ 32 ∷ 0 ∷ 5 ∷ 9 ∷ []) ∷
-    entry.Turn (end_h 2) 1 (128 ∷ 2 ∷ 32 ∷ 0 ∷ 5 ∷ 9 ∷ []) ∷
-    entry.Command 2 (command.Create (record { pid = 9; creator = 2; creator_gate = 32; dest = 0; dest_gate = 5; opened = false })) ∷
-    entry.Sent (end_h 2) 1 1 (1 ∷ 1 ∷ 0 ∷ 0 ∷ 0 ∷ 0 ∷ 0 ∷ 0 ∷ 0 ∷ 1 ∷ []) ∷
-    entry.Emit (end_h 2) (197 ∷ []) ∷
-    entry.Emit (end_h 2) (173 ∷ 129 ∷ 1 ∷ 1 ∷ 0 ∷ 0 ∷ 0 ∷ 0 ∷ 0 ∷ 0 ∷ 0 ∷ 1 ∷ []) ∷ []) ∷
-    Entries (entry.Took (end_c 2) (197 ∷ []) ∷
-    entry.Acked (end_c 2) 1 29 ∷
-    entry.Took (end_c 2) (173 ∷ 129 ∷ 1 ∷ 1 ∷ 0 ∷ 0 ∷ 0 ∷ 0 ∷ 0 ∷ 0 ∷ 0 ∷ 1 ∷ []) ∷
-    entry.Got (end_c 2) 1 1 (1 ∷ 1 ∷ 0 ∷ 0 ∷ 0 ∷ 0 ∷ 0 ∷ 0 ∷ 0 ∷ 1 ∷ []) ∷
-    entry.Turn (end_c 2) 1 (1 ∷ 1 ∷ 0 ∷ 0 ∷ 0 ∷ 0 ∷ 0 ∷ 0 ∷ 0 ∷ 1 ∷ []) ∷
-    entry.Command 0 (command.Set 2 0 1 (record { items = (0 ∷ 0 ∷ 0 ∷ 0 ∷ 0 ∷ 0 ∷ 0 ∷ 1 ∷ []) })) ∷
-    entry.Sent (end_c 2) 1 1 (128 ∷ []) ∷
-    entry.AnyOk 0 22 ∷
-    entry.Emit (end_c 2) (198 ∷ []) ∷
-    entry.Emit (end_c 2) (174 ∷ 129 ∷ 128 ∷ []) ∷ []) ∷
-    Entries (entry.Took (end_h 2) (198 ∷ []) ∷
-    entry.Acked (end_h 2) 1 30 ∷
-    entry.Took (end_h 2) (174 ∷ 129 ∷ 128 ∷ []) ∷
-    entry.Got (end_h 2) 1 1 (128 ∷ []) ∷
-    entry.Turn (end_h 2) 1 (128 ∷ []) ∷
-    entry.Command 2 (command.Set 2 0 1 (record { items = (0 ∷ 0 ∷ 0 ∷ 0 ∷ 0 ∷ 0 ∷ 0 ∷ 1 ∷ []) })) ∷
-    entry.InitMade (end_h 2) 8 ∷
-    entry.Emit (end_h 2) (198 ∷ []) ∷ []) ∷
-    Entries (entry.Took (end_c 2) (198 ∷ []) ∷
-    entry.Acked (end_c 2) 1 30 ∷ []) ∷
-    Entries (entry.No no.Empty ∷ []) ∷
-    TablesOf 2 (record {
-      rows = ((record { pid = 2; creator = 2; creator_gate = 32; dest = 0; dest_gate = 4; opened = false }) ∷
-          (record { pid = 3; creator = 2; creator_gate = 32; dest = 0; dest_gate = 4; opened = false }) ∷
-          (record { pid = 4; creator = 2; creator_gate = 32; dest = 0; dest_gate = 4; opened = false }) ∷
-          (record { pid = 5; creator = 2; creator_gate = 32; dest = 0; dest_gate = 4; opened = false }) ∷
-          (record { pid = 6; creator = 2; creator_gate = 32; dest = 0; dest_gate = 5; opened = false }) ∷
-          (record { pid = 7; creator = 2; creator_gate = 32; dest = 0; dest_gate = 5; opened = false }) ∷
-          (record { pid = 8; creator = 2; creator_gate = 32; dest = 0; dest_gate = 5; opened = false }) ∷
-          (record { pid = 9; creator = 2; creator_gate = 32; dest = 0; dest_gate = 5; opened = false }) ∷
-          []);
-      statics = [];
-      values = ((record { host = 2; gate = 0; param = 1; value = record { items = (0 ∷ 0 ∷ 0 ∷ 0 ∷ 0 ∷ 0 ∷ 0 ∷ 1 ∷ []) } }) ∷
-          []);
-      syncs = [];
-    }) ∷
-    TablesOf 0 (record {
-      rows = ((record { pid = 2; creator = 2; creator_gate = 32; dest = 0; dest_gate = 4; opened = false }) ∷
-          (record { pid = 3; creator = 2; creator_gate = 32; dest = 0; dest_gate = 4; opened = false }) ∷
-          (record { pid = 4; creator = 2; creator_gate = 32; dest = 0; dest_gate = 4; opened = false }) ∷
-          (record { pid = 5; creator = 2; creator_gate = 32; dest = 0; dest_gate = 4; opened = false }) ∷
-          (record { pid = 6; creator = 2; creator_gate = 32; dest = 0; dest_gate = 5; opened = false }) ∷
-          (record { pid = 7; creator = 2; creator_gate = 32; dest = 0; dest_gate = 5; opened = false }) ∷
-          (record { pid = 8; creator = 2; creator_gate = 32; dest = 0; dest_gate = 5; opened = false }) ∷
-          (record { pid = 9; creator = 2; creator_gate = 32; dest = 0; dest_gate = 5; opened = false }) ∷
-          []);
-      statics = ((2, 1) ∷ []);
-      values = ((record { host = 2; gate = 0; param = 1; value = record { items = (0 ∷ 0 ∷ 0 ∷ 0 ∷ 0 ∷ 0 ∷ 0 ∷ 1 ∷ []) } }) ∷
-          []);
-      syncs = ((2, 2) ∷ []);
-    }) ∷
-    []
-unfolding found_from hosts_where lowest_free
+init_default : told_text (
+    "swp 1 hci 02\nboot 00\nboot 02\n" ∷
+    host_begins "02" ++
+    "init 02h FFFFFFFFFFFFFFFF\ndeliver 02c\ndeliver 02h\ndeliver 02c\ndeliver 02h\ndeliver 02c\ndeliver 02h\ndeliver 02c\ndeliver 02h\ndeliver 02c\n" ∷
+    "deliver 02h\ninit 02h FFFFFFFFFFFFFFFF 200004\ndeliver 02c\ndeliver 02h\ndeliver 02c\ndeliver 02h\ndeliver 02c\ndeliver 02h\ndeliver 02c\ndeliver 02h\n" ∷
+    "deliver 02c\ndeliver 02h\ndeliver 02c\ndeliver 02h\ndeliver 02c\ndeliver 02h\ninit 02h 0000000000000001 200007\ndeliver 02c\ndeliver 02h\ndeliver 02c\n" ∷
+    "deliver 02h\ndeliver 02c\ndeliver 02h\ndeliver 02c\ndeliver 02h\ndeliver 02c\ndeliver 02h\ndeliver 02c\ndeliver 02h\n" ∷
+    "init 02h 0000000000000001 200004 200004 200004 200004 200005 200005 200005 200005\ndeliver 02c\ndeliver 02h\ndeliver 02c\ndeliver 02h\ndeliver 02c\n" ∷
+    "deliver 02h\ndeliver 02c\ndeliver 02h\ndeliver 02c\ndeliver 02h\ndeliver 02c\ndeliver 02h\ndeliver 02c\ndeliver 02h\ndeliver 02c\ndeliver 02h\n" ∷
+    "deliver 02c\ndeliver 02h\ndeliver 02c\ndeliver 02h\ndeliver 02c\ndeliver 02h\ndeliver 02c\ndeliver 02h\ndeliver 02c\ndeliver 02h\ndeliver 02c\n" ∷
+    "deliver 02h\ntables 02\ntables 00\n" ∷
+    []) ≡ text (
+    "> swp 1 hci 02\n> boot 00\nbooted 00 0\n> boot 02\nbooted 02 0\n" ∷
+    host_begins_told "02" "2" ++
+    "> init 02h FFFFFFFFFFFFFFFF\nsent 02h 1 01 03\nemit 02h 898103\n" ∷
+    "> deliver 02c\ntook 02c 898103\ngot 02c 1 01 03\nturn 02c 01 03\nsent 02c 1 01 8000\nemit 02c C2\nemit 02c 8A818000\n" ∷
+    "> deliver 02h\ntook 02h C2\nacked 02h 1 2\ntook 02h 8A818000\ngot 02h 1 01 8000\nturn 02h 01 8000\nsent 02h 1 01 0201\nemit 02h C2\nemit 02h 92810201\n" ∷
+    "> deliver 02c\ntook 02c C2\nacked 02c 1 2\ntook 02c 92810201\ngot 02c 1 01 0201\nturn 02c 01 0201\nsent 02c 1 01 80FFFFFFFFFFFFFFFF\nemit 02c C3\n" ∷
+    "emit 02c 938180FFFFFFFFFFFFFFFF\n" ∷
+    "> deliver 02h\ntook 02h C3\nacked 02h 1 3\ntook 02h 938180FFFFFFFFFFFFFFFF\ngot 02h 1 01 80FFFFFFFFFFFFFFFF\nturn 02h 01 80FFFFFFFFFFFFFFFF\n" ∷
+    "sent 02h 1 01 14\nemit 02h C3\nemit 02h 9B8114\n" ∷
+    "> deliver 02c\ntook 02c C3\nacked 02c 1 3\ntook 02c 9B8114\ngot 02c 1 01 14\nturn 02c 01 14\ncommand 00 clear 02\nsent 02c 1 01 80\nok 00 3\n" ∷
+    "emit 02c C4\nemit 02c 9C8180\n" ∷
+    "> deliver 02h\ntook 02h C4\nacked 02h 1 4\ntook 02h 9C8180\ngot 02h 1 01 80\nturn 02h 01 80\ncommand 02 clear 02\nsent 02h 1 01 03\nemit 02h C4\n" ∷
+    "emit 02h A48103\n" ∷
+    "> deliver 02c\ntook 02c C4\nacked 02c 1 4\ntook 02c A48103\ngot 02c 1 01 03\nturn 02c 01 03\ncommand 00 opened 02 01 01\nsent 02c 1 01 8000\nok 00 4\n" ∷
+    "emit 02c C5\nemit 02c A5818000\n" ∷
+    "> deliver 02h\ntook 02h C5\nacked 02h 1 5\ntook 02h A5818000\ngot 02h 1 01 8000\nturn 02h 01 8000\nsent 02h 1 01 0101FFFFFFFFFFFFFFFF\nemit 02h C5\n" ∷
+    "emit 02h AD810101FFFFFFFFFFFFFFFF\n" ∷
+    "> deliver 02c\ntook 02c C5\nacked 02c 1 5\ntook 02c AD810101FFFFFFFFFFFFFFFF\ngot 02c 1 01 0101FFFFFFFFFFFFFFFF\nturn 02c 01 0101FFFFFFFFFFFFFFFF\n" ∷
+    "command 00 set 02 00 01 FFFFFFFFFFFFFFFF\nsent 02c 1 01 80\nok 00 5\nemit 02c C6\nemit 02c AE8180\n" ∷
+    "> deliver 02h\ntook 02h C6\nacked 02h 1 6\ntook 02h AE8180\ngot 02h 1 01 80\nturn 02h 01 80\ncommand 02 set 02 00 01 FFFFFFFFFFFFFFFF\ninit 02h made 0\n" ∷
+    "emit 02h C6\n" ∷
+    "> init 02h FFFFFFFFFFFFFFFF 200004\nsent 02h 1 01 03\nemit 02h B68103\n" ∷
+    "> deliver 02c\ntook 02c C6\nacked 02c 1 6\ntook 02c B68103\ngot 02c 1 01 03\nturn 02c 01 03\nsent 02c 1 01 8000\nemit 02c C7\nemit 02c B7818000\n" ∷
+    "> deliver 02h\ntook 02h C7\nacked 02h 1 7\ntook 02h B7818000\ngot 02h 1 01 8000\nturn 02h 01 8000\nsent 02h 1 01 0201\nemit 02h C7\nemit 02h BF810201\n" ∷
+    "> deliver 02c\ntook 02c C7\nacked 02c 1 7\ntook 02c BF810201\ngot 02c 1 01 0201\nturn 02c 01 0201\nsent 02c 1 01 80FFFFFFFFFFFFFFFF\nemit 02c C0\n" ∷
+    "emit 02c B88180FFFFFFFFFFFFFFFF\n" ∷
+    "> deliver 02h\ntook 02h C0\nacked 02h 1 8\ntook 02h B88180FFFFFFFFFFFFFFFF\ngot 02h 1 01 80FFFFFFFFFFFFFFFF\nturn 02h 01 80FFFFFFFFFFFFFFFF\n" ∷
+    "sent 02h 1 01 14\nemit 02h C0\nemit 02h 808114\n" ∷
+    "> deliver 02c\ntook 02c C0\nacked 02c 1 8\ntook 02c 808114\ngot 02c 1 01 14\nturn 02c 01 14\ncommand 00 clear 02\nsent 02c 1 01 80\nok 00 6\n" ∷
+    "emit 02c C1\nemit 02c 818180\n" ∷
+    "> deliver 02h\ntook 02h C1\nacked 02h 1 9\ntook 02h 818180\ngot 02h 1 01 80\nturn 02h 01 80\ncommand 02 clear 02\nsent 02h 1 01 03\nemit 02h C1\n" ∷
+    "emit 02h 898103\n" ∷
+    "> deliver 02c\ntook 02c C1\nacked 02c 1 9\ntook 02c 898103\ngot 02c 1 01 03\nturn 02c 01 03\ncommand 00 opened 02 01 01\nsent 02c 1 01 8000\nok 00 7\n" ∷
+    "emit 02c C2\nemit 02c 8A818000\n" ∷
+    "> deliver 02h\ntook 02h C2\nacked 02h 1 10\ntook 02h 8A818000\ngot 02h 1 01 8000\nturn 02h 01 8000\nsent 02h 1 01 10200004\nemit 02h C2\n" ∷
+    "emit 02h 928110200004\n" ∷
+    "> deliver 02c\ntook 02c C2\nacked 02c 1 10\ntook 02c 928110200004\ngot 02c 1 01 10200004\nturn 02c 01 10200004\ncommand 00 create 02 02 20 00 04\n" ∷
+    "sent 02c 1 01 800220000402\nok 00 8\nemit 02c C3\nemit 02c 9381800220000402\n" ∷
+    "> deliver 02h\ntook 02h C3\nacked 02h 1 11\ntook 02h 9381800220000402\ngot 02h 1 01 800220000402\nturn 02h 01 800220000402\n" ∷
+    "command 02 create 02 02 20 00 04\nsent 02h 1 01 0101FFFFFFFFFFFFFFFF\nemit 02h C3\nemit 02h 9B810101FFFFFFFFFFFFFFFF\n" ∷
+    "> deliver 02c\ntook 02c C3\nacked 02c 1 11\ntook 02c 9B810101FFFFFFFFFFFFFFFF\ngot 02c 1 01 0101FFFFFFFFFFFFFFFF\nturn 02c 01 0101FFFFFFFFFFFFFFFF\n" ∷
+    "command 00 set 02 00 01 FFFFFFFFFFFFFFFF\nsent 02c 1 01 80\nok 00 9\nemit 02c C4\nemit 02c 9C8180\n" ∷
+    "> deliver 02h\ntook 02h C4\nacked 02h 1 12\ntook 02h 9C8180\ngot 02h 1 01 80\nturn 02h 01 80\ncommand 02 set 02 00 01 FFFFFFFFFFFFFFFF\n" ∷
+    "init 02h made 1\nemit 02h C4\n" ∷
+    "> deliver 02c\ntook 02c C4\nacked 02c 1 12\n" ∷
+    "> deliver 02h\nno empty\n" ∷
+    "> init 02h 0000000000000001 200007\nsent 02h 1 01 03\nemit 02h A48103\n" ∷
+    "> deliver 02c\ntook 02c A48103\ngot 02c 1 01 03\nturn 02c 01 03\nsent 02c 1 01 8000\nemit 02c C5\nemit 02c A5818000\n" ∷
+    "> deliver 02h\ntook 02h C5\nacked 02h 1 13\ntook 02h A5818000\ngot 02h 1 01 8000\nturn 02h 01 8000\nsent 02h 1 01 0201\nemit 02h C5\nemit 02h AD810201\n" ∷
+    "> deliver 02c\ntook 02c C5\nacked 02c 1 13\ntook 02c AD810201\ngot 02c 1 01 0201\nturn 02c 01 0201\nsent 02c 1 01 80FFFFFFFFFFFFFFFF\nemit 02c C6\n" ∷
+    "emit 02c AE8180FFFFFFFFFFFFFFFF\n" ∷
+    "> deliver 02h\ntook 02h C6\nacked 02h 1 14\ntook 02h AE8180FFFFFFFFFFFFFFFF\ngot 02h 1 01 80FFFFFFFFFFFFFFFF\nturn 02h 01 80FFFFFFFFFFFFFFFF\n" ∷
+    "sent 02h 1 01 14\nemit 02h C6\nemit 02h B68114\n" ∷
+    "> deliver 02c\ntook 02c C6\nacked 02c 1 14\ntook 02c B68114\ngot 02c 1 01 14\nturn 02c 01 14\ncommand 00 clear 02\nsent 02c 1 01 80\nok 00 10\n" ∷
+    "emit 02c C7\nemit 02c B78180\n" ∷
+    "> deliver 02h\ntook 02h C7\nacked 02h 1 15\ntook 02h B78180\ngot 02h 1 01 80\nturn 02h 01 80\ncommand 02 clear 02\nsent 02h 1 01 03\nemit 02h C7\n" ∷
+    "emit 02h BF8103\n" ∷
+    "> deliver 02c\ntook 02c C7\nacked 02c 1 15\ntook 02c BF8103\ngot 02c 1 01 03\nturn 02c 01 03\ncommand 00 opened 02 01 01\nsent 02c 1 01 8000\nok 00 11\n" ∷
+    "emit 02c C0\nemit 02c B8818000\n" ∷
+    "> deliver 02h\ntook 02h C0\nacked 02h 1 16\ntook 02h B8818000\ngot 02h 1 01 8000\nturn 02h 01 8000\nsent 02h 1 01 10200007\nemit 02h C0\n" ∷
+    "emit 02h 808110200007\n" ∷
+    "> deliver 02c\ntook 02c C0\nacked 02c 1 16\ntook 02c 808110200007\ngot 02c 1 01 10200007\nturn 02c 01 10200007\nsent 02c 1 01 83\nemit 02c C1\n" ∷
+    "emit 02c 818183\n" ∷
+    "> deliver 02h\ntook 02h C1\nacked 02h 1 17\ntook 02h 818183\ngot 02h 1 01 83\nturn 02h 01 83\ninit 02h failed 03\nemit 02h C1\n" ∷
+    "> deliver 02c\ntook 02c C1\nacked 02c 1 17\n" ∷
+    "> deliver 02h\nno empty\n" ∷
+    "> init 02h 0000000000000001 200004 200004 200004 200004 200005 200005 200005 200005\nsent 02h 1 01 03\nemit 02h 898103\n" ∷
+    "> deliver 02c\ntook 02c 898103\ngot 02c 1 01 03\nturn 02c 01 03\nsent 02c 1 01 8000\nemit 02c C2\nemit 02c 8A818000\n" ∷
+    "> deliver 02h\ntook 02h C2\nacked 02h 1 18\ntook 02h 8A818000\ngot 02h 1 01 8000\nturn 02h 01 8000\nsent 02h 1 01 0201\nemit 02h C2\nemit 02h 92810201\n" ∷
+    "> deliver 02c\ntook 02c C2\nacked 02c 1 18\ntook 02c 92810201\ngot 02c 1 01 0201\nturn 02c 01 0201\nsent 02c 1 01 80FFFFFFFFFFFFFFFF\nemit 02c C3\n" ∷
+    "emit 02c 938180FFFFFFFFFFFFFFFF\n" ∷
+    "> deliver 02h\ntook 02h C3\nacked 02h 1 19\ntook 02h 938180FFFFFFFFFFFFFFFF\ngot 02h 1 01 80FFFFFFFFFFFFFFFF\nturn 02h 01 80FFFFFFFFFFFFFFFF\n" ∷
+    "sent 02h 1 01 14\nemit 02h C3\nemit 02h 9B8114\n" ∷
+    "> deliver 02c\ntook 02c C3\nacked 02c 1 19\ntook 02c 9B8114\ngot 02c 1 01 14\nturn 02c 01 14\ncommand 00 clear 02\nsent 02c 1 01 80\nok 00 12\n" ∷
+    "emit 02c C4\nemit 02c 9C8180\n" ∷
+    "> deliver 02h\ntook 02h C4\nacked 02h 1 20\ntook 02h 9C8180\ngot 02h 1 01 80\nturn 02h 01 80\ncommand 02 clear 02\nsent 02h 1 01 03\nemit 02h C4\n" ∷
+    "emit 02h A48103\n" ∷
+    "> deliver 02c\ntook 02c C4\nacked 02c 1 20\ntook 02c A48103\ngot 02c 1 01 03\nturn 02c 01 03\ncommand 00 opened 02 01 01\nsent 02c 1 01 8000\nok 00 13\n" ∷
+    "emit 02c C5\nemit 02c A5818000\n" ∷
+    "> deliver 02h\ntook 02h C5\nacked 02h 1 21\ntook 02h A5818000\ngot 02h 1 01 8000\nturn 02h 01 8000\nsent 02h 1 01 10200004\nemit 02h C5\n" ∷
+    "emit 02h AD8110200004\n" ∷
+    "> deliver 02c\ntook 02c C5\nacked 02c 1 21\ntook 02c AD8110200004\ngot 02c 1 01 10200004\nturn 02c 01 10200004\ncommand 00 create 02 02 20 00 04\n" ∷
+    "sent 02c 1 01 800220000402\nok 00 14\nemit 02c C6\nemit 02c AE81800220000402\n" ∷
+    "> deliver 02h\ntook 02h C6\nacked 02h 1 22\ntook 02h AE81800220000402\ngot 02h 1 01 800220000402\nturn 02h 01 800220000402\n" ∷
+    "command 02 create 02 02 20 00 04\nsent 02h 1 01 10200004\nemit 02h C6\nemit 02h B68110200004\n" ∷
+    "> deliver 02c\ntook 02c C6\nacked 02c 1 22\ntook 02c B68110200004\ngot 02c 1 01 10200004\nturn 02c 01 10200004\ncommand 00 create 03 02 20 00 04\n" ∷
+    "sent 02c 1 01 800220000403\nok 00 15\nemit 02c C7\nemit 02c B781800220000403\n" ∷
+    "> deliver 02h\ntook 02h C7\nacked 02h 1 23\ntook 02h B781800220000403\ngot 02h 1 01 800220000403\nturn 02h 01 800220000403\n" ∷
+    "command 02 create 03 02 20 00 04\nsent 02h 1 01 10200004\nemit 02h C7\nemit 02h BF8110200004\n" ∷
+    "> deliver 02c\ntook 02c C7\nacked 02c 1 23\ntook 02c BF8110200004\ngot 02c 1 01 10200004\nturn 02c 01 10200004\ncommand 00 create 04 02 20 00 04\n" ∷
+    "sent 02c 1 01 800220000404\nok 00 16\nemit 02c C0\nemit 02c B881800220000404\n" ∷
+    "> deliver 02h\ntook 02h C0\nacked 02h 1 24\ntook 02h B881800220000404\ngot 02h 1 01 800220000404\nturn 02h 01 800220000404\n" ∷
+    "command 02 create 04 02 20 00 04\nsent 02h 1 01 10200004\nemit 02h C0\nemit 02h 808110200004\n" ∷
+    "> deliver 02c\ntook 02c C0\nacked 02c 1 24\ntook 02c 808110200004\ngot 02c 1 01 10200004\nturn 02c 01 10200004\ncommand 00 create 05 02 20 00 04\n" ∷
+    "sent 02c 1 01 800220000405\nok 00 17\nemit 02c C1\nemit 02c 8181800220000405\n" ∷
+    "> deliver 02h\ntook 02h C1\nacked 02h 1 25\ntook 02h 8181800220000405\ngot 02h 1 01 800220000405\nturn 02h 01 800220000405\n" ∷
+    "command 02 create 05 02 20 00 04\nsent 02h 1 01 10200005\nemit 02h C1\nemit 02h 898110200005\n" ∷
+    "> deliver 02c\ntook 02c C1\nacked 02c 1 25\ntook 02c 898110200005\ngot 02c 1 01 10200005\nturn 02c 01 10200005\ncommand 00 create 06 02 20 00 05\n" ∷
+    "sent 02c 1 01 800220000506\nok 00 18\nemit 02c C2\nemit 02c 8A81800220000506\n" ∷
+    "> deliver 02h\ntook 02h C2\nacked 02h 1 26\ntook 02h 8A81800220000506\ngot 02h 1 01 800220000506\nturn 02h 01 800220000506\n" ∷
+    "command 02 create 06 02 20 00 05\nsent 02h 1 01 10200005\nemit 02h C2\nemit 02h 928110200005\n" ∷
+    "> deliver 02c\ntook 02c C2\nacked 02c 1 26\ntook 02c 928110200005\ngot 02c 1 01 10200005\nturn 02c 01 10200005\ncommand 00 create 07 02 20 00 05\n" ∷
+    "sent 02c 1 01 800220000507\nok 00 19\nemit 02c C3\nemit 02c 9381800220000507\n" ∷
+    "> deliver 02h\ntook 02h C3\nacked 02h 1 27\ntook 02h 9381800220000507\ngot 02h 1 01 800220000507\nturn 02h 01 800220000507\n" ∷
+    "command 02 create 07 02 20 00 05\nsent 02h 1 01 10200005\nemit 02h C3\nemit 02h 9B8110200005\n" ∷
+    "> deliver 02c\ntook 02c C3\nacked 02c 1 27\ntook 02c 9B8110200005\ngot 02c 1 01 10200005\nturn 02c 01 10200005\ncommand 00 create 08 02 20 00 05\n" ∷
+    "sent 02c 1 01 800220000508\nok 00 20\nemit 02c C4\nemit 02c 9C81800220000508\n" ∷
+    "> deliver 02h\ntook 02h C4\nacked 02h 1 28\ntook 02h 9C81800220000508\ngot 02h 1 01 800220000508\nturn 02h 01 800220000508\n" ∷
+    "command 02 create 08 02 20 00 05\nsent 02h 1 01 10200005\nemit 02h C4\nemit 02h A48110200005\n" ∷
+    "> deliver 02c\ntook 02c C4\nacked 02c 1 28\ntook 02c A48110200005\ngot 02c 1 01 10200005\nturn 02c 01 10200005\ncommand 00 create 09 02 20 00 05\n" ∷
+    "sent 02c 1 01 800220000509\nok 00 21\nemit 02c C5\nemit 02c A581800220000509\n" ∷
+    "> deliver 02h\ntook 02h C5\nacked 02h 1 29\ntook 02h A581800220000509\ngot 02h 1 01 800220000509\nturn 02h 01 800220000509\n" ∷
+    "command 02 create 09 02 20 00 05\nsent 02h 1 01 01010000000000000001\nemit 02h C5\nemit 02h AD8101010000000000000001\n" ∷
+    "> deliver 02c\ntook 02c C5\nacked 02c 1 29\ntook 02c AD8101010000000000000001\ngot 02c 1 01 01010000000000000001\nturn 02c 01 01010000000000000001\n" ∷
+    "command 00 set 02 00 01 0000000000000001\nsent 02c 1 01 80\nok 00 22\nemit 02c C6\nemit 02c AE8180\n" ∷
+    "> deliver 02h\ntook 02h C6\nacked 02h 1 30\ntook 02h AE8180\ngot 02h 1 01 80\nturn 02h 01 80\ncommand 02 set 02 00 01 0000000000000001\n" ∷
+    "init 02h made 8\nemit 02h C6\n" ∷
+    "> deliver 02c\ntook 02c C6\nacked 02c 1 30\n" ∷
+    "> deliver 02h\nno empty\n" ∷
+    "> tables 02\ntables 02 8 0 1 0\npipe 02 02 20 00 04 closed\npipe 03 02 20 00 04 closed\npipe 04 02 20 00 04 closed\npipe 05 02 20 00 04 closed\n" ∷
+    "pipe 06 02 20 00 05 closed\npipe 07 02 20 00 05 closed\npipe 08 02 20 00 05 closed\npipe 09 02 20 00 05 closed\nreg 02 00 01 0000000000000001\n" ∷
+    "> tables 00\ntables 00 8 1 1 1\npipe 02 02 20 00 04 closed\npipe 03 02 20 00 04 closed\npipe 04 02 20 00 04 closed\npipe 05 02 20 00 04 closed\n" ∷
+    "pipe 06 02 20 00 05 closed\npipe 07 02 20 00 05 closed\npipe 08 02 20 00 05 closed\npipe 09 02 20 00 05 closed\nstatic 02 01\n" ∷
+    "reg 02 00 01 0000000000000001\nsync 02 0002\n" ∷
+    [])
+unfolding found_from hosts_where lowest_free encode_with decode_pairs digits
 init_default = refl

@@ -1,295 +1,63 @@
 -- An init that the end of a session cut off does not go on; clearings with two bytes.
-use Rattle.std.proofs.Common.{◌≡◌, refl, List, [], ◌∷◌, None}
-use Rattle.std.specs.Prelude.{true}
-use Rattle.swp_base.specs.declared.link_terms.Cause.TheVariants as cause
-use Rattle.trace_model.specs.declared.entry.Entry.TheVariants as entry
-use Rattle.trace_model.specs.declared.line.Line.{Line}
-use Rattle.trace_model.specs.declared.line.Line.TheVariants as line
-use Rattle.hci_tables.specs.declared.command.Command.TheVariants as command
-use Rattle.node_machine.specs.world.World.{new_world, end_c, end_h}
-use Rattle.node_machine.specs.world.Lines.{noted_lines}
-use Rattle.node_machine.specs.world.Lines.NotedBelow.{Entries, TablesOf}
-use Rattle.journal_laws.specs.Records.{found_from}
-use Rattle.gate_admin.specs.View.{hosts_where}
-use Rattle.pipe_table.specs.PipeRows.{lowest_free}
+use Rattle.std.proofs.Common.{◌≡◌, refl, [], ◌∷◌, ◌++◌}
+use Rattle.node_examples.specs.Openings.{host_begins, host_begins_told}
+use Rattle.node_examples.specs.Told.{told_text, text, found_from, hosts_where, lowest_free, encode_with, decode_pairs, digits}
 
-abbrev pub init_forgotten_lines : List Line
-init_forgotten_lines =
-    line.Boot 0 ∷
-    line.Boot 2 ∷
-    line.Activate 2 2 1 ∷
-    line.Deliver (end_c 2) None ∷
-    line.Deliver (end_h 2) None ∷
-    line.Deliver (end_c 2) None ∷
-    line.Reset (end_c 2) None ∷
-    line.Deliver (end_h 2) None ∷
-    line.Deliver (end_c 2) None ∷
-    line.Send (end_h 2) 1 (3 ∷ []) ∷
-    line.Deliver (end_c 2) None ∷
-    line.Deliver (end_h 2) None ∷
-    line.Deliver (end_c 2) None ∷
-    line.Init (end_h 2) (1 ∷ 2 ∷ 3 ∷ 4 ∷ 5 ∷ 6 ∷ 7 ∷ 8 ∷ []) (record { items = ((32 ∷ 0 ∷ 4 ∷ []) ∷ []) }) ∷
-    line.Deliver (end_c 2) None ∷
-    line.Deliver (end_h 2) None ∷
-    line.Reset (end_h 2) None ∷
-    line.Deliver (end_c 2) None ∷
-    line.Deliver (end_h 2) None ∷
-    line.Send (end_h 2) 1 (3 ∷ []) ∷
-    line.Deliver (end_c 2) None ∷
-    line.Deliver (end_h 2) None ∷
-    line.Deliver (end_c 2) None ∷
-    line.Send (end_h 2) 1 (2 ∷ 4 ∷ []) ∷
-    line.Deliver (end_c 2) None ∷
-    line.Deliver (end_h 2) None ∷
-    line.Deliver (end_c 2) None ∷
-    line.Send (end_h 2) 1 (20 ∷ []) ∷
-    line.Deliver (end_c 2) None ∷
-    line.Deliver (end_h 2) None ∷
-    line.Deliver (end_c 2) None ∷
-    line.Send (end_h 2) 1 (3 ∷ []) ∷
-    line.Deliver (end_c 2) None ∷
-    line.Deliver (end_h 2) None ∷
-    line.Deliver (end_c 2) None ∷
-    line.Send (end_h 2) 1 (20 ∷ 0 ∷ 255 ∷ []) ∷
-    line.Deliver (end_c 2) None ∷
-    line.Deliver (end_h 2) None ∷
-    line.Deliver (end_c 2) None ∷
-    line.Send (end_h 2) 1 (3 ∷ []) ∷
-    line.Deliver (end_c 2) None ∷
-    line.Deliver (end_h 2) None ∷
-    line.Deliver (end_c 2) None ∷
-    line.Send (end_h 2) 1 (20 ∷ 0 ∷ []) ∷
-    line.Deliver (end_c 2) None ∷
-    line.Deliver (end_h 2) None ∷
-    line.Deliver (end_c 2) None ∷
-    line.Send (end_h 2) 1 (2 ∷ 1 ∷ []) ∷
-    line.Deliver (end_c 2) None ∷
-    line.Deliver (end_h 2) None ∷
-    line.Deliver (end_c 2) None ∷
-    line.Tables 2 ∷
-    line.Tables 0 ∷
-    []
-
-init_forgotten : noted_lines (new_world (2 ∷ [])) init_forgotten_lines ≡
-    Entries (entry.Booted 0 0 ∷ []) ∷
-    Entries (entry.Booted 2 0 ∷ []) ∷
-    Entries (entry.Emit (end_h 2) (97 ∷ 0 ∷ 2 ∷ []) ∷ []) ∷
-    Entries (entry.Took (end_c 2) (97 ∷ 0 ∷ 2 ∷ []) ∷
-    entry.Command 0 (command.Sync 2 2) ∷
-    entry.Emit (end_c 2) (98 ∷ 1 ∷ []) ∷ []) ∷
-    Entries (entry.Took (end_h 2) (98 ∷ 1 ∷ []) ∷
-    entry.Active (end_h 2) ∷
-    entry.Emit (end_h 2) (96 ∷ []) ∷ []) ∷
-    Entries (entry.Took (end_c 2) (96 ∷ []) ∷
-    entry.Active (end_c 2) ∷ []) ∷
-    Entries (entry.Emit (end_c 2) (249 ∷ 4 ∷ 0 ∷ []) ∷ []) ∷
-    Entries (entry.Took (end_h 2) (249 ∷ 4 ∷ 0 ∷ []) ∷
-    entry.Up (end_h 2) 1 ∷
-    entry.Emit (end_h 2) (230 ∷ []) ∷ []) ∷
-    Entries (entry.Took (end_c 2) (230 ∷ []) ∷
-    entry.Up (end_c 2) 1 ∷ []) ∷
-    Entries (entry.Sent (end_h 2) 1 1 (3 ∷ []) ∷
-    entry.Emit (end_h 2) (128 ∷ 129 ∷ 3 ∷ []) ∷ []) ∷
-    Entries (entry.Took (end_c 2) (128 ∷ 129 ∷ 3 ∷ []) ∷
-    entry.Got (end_c 2) 1 1 (3 ∷ []) ∷
-    entry.Turn (end_c 2) 1 (3 ∷ []) ∷
-    entry.Command 0 (command.SetOpened 2 1 true) ∷
-    entry.Sent (end_c 2) 1 1 (128 ∷ 0 ∷ []) ∷
-    entry.AnyOk 0 2 ∷
-    entry.Emit (end_c 2) (193 ∷ []) ∷
-    entry.Emit (end_c 2) (129 ∷ 129 ∷ 128 ∷ 0 ∷ []) ∷ []) ∷
-    Entries (entry.Took (end_h 2) (193 ∷ []) ∷
-    entry.Acked (end_h 2) 1 1 ∷
-    entry.Took (end_h 2) (129 ∷ 129 ∷ 128 ∷ 0 ∷ []) ∷
-    entry.Got (end_h 2) 1 1 (128 ∷ 0 ∷ []) ∷
-    entry.Turn (end_h 2) 1 (128 ∷ 0 ∷ []) ∷
-    entry.Emit (end_h 2) (193 ∷ []) ∷ []) ∷
-    Entries (entry.Took (end_c 2) (193 ∷ []) ∷
-    entry.Acked (end_c 2) 1 1 ∷ []) ∷
-    Entries (entry.Sent (end_h 2) 1 1 (3 ∷ []) ∷
-    entry.Emit (end_h 2) (137 ∷ 129 ∷ 3 ∷ []) ∷ []) ∷
-    Entries (entry.Took (end_c 2) (137 ∷ 129 ∷ 3 ∷ []) ∷
-    entry.Got (end_c 2) 1 1 (3 ∷ []) ∷
-    entry.Turn (end_c 2) 1 (3 ∷ []) ∷
-    entry.Sent (end_c 2) 1 1 (128 ∷ 0 ∷ []) ∷
-    entry.Emit (end_c 2) (194 ∷ []) ∷
-    entry.Emit (end_c 2) (138 ∷ 129 ∷ 128 ∷ 0 ∷ []) ∷ []) ∷
-    Entries (entry.Took (end_h 2) (194 ∷ []) ∷
-    entry.Acked (end_h 2) 1 2 ∷
-    entry.Took (end_h 2) (138 ∷ 129 ∷ 128 ∷ 0 ∷ []) ∷
-    entry.Got (end_h 2) 1 1 (128 ∷ 0 ∷ []) ∷
-    entry.Turn (end_h 2) 1 (128 ∷ 0 ∷ []) ∷
-    entry.Sent (end_h 2) 1 1 (2 ∷ 1 ∷ []) ∷
-    entry.Emit (end_h 2) (194 ∷ []) ∷
-    entry.Emit (end_h 2) (146 ∷ 129 ∷ 2 ∷ 1 ∷ []) ∷ []) ∷
-    Entries (entry.Down (end_h 2) cause.Asked ∷
-    entry.Emit (end_h 2) (249 ∷ 4 ∷ 0 ∷ []) ∷ []) ∷
-    Entries (entry.Took (end_c 2) (194 ∷ []) ∷
-    entry.Acked (end_c 2) 1 2 ∷
-    entry.Took (end_c 2) (146 ∷ 129 ∷ 2 ∷ 1 ∷ []) ∷
-    entry.Got (end_c 2) 1 1 (2 ∷ 1 ∷ []) ∷
-    entry.Turn (end_c 2) 1 (2 ∷ 1 ∷ []) ∷
-    entry.Sent (end_c 2) 1 1 (128 ∷ 255 ∷ 255 ∷ 255 ∷ 255 ∷ 255 ∷ 255 ∷ 255 ∷ 255 ∷ []) ∷
-    entry.Emit (end_c 2) (195 ∷ []) ∷
-    entry.Emit (end_c 2) (147 ∷ 129 ∷ 128 ∷ 255 ∷ 255 ∷ 255 ∷ 255 ∷ 255 ∷ 255 ∷ 255 ∷ 255 ∷ []) ∷
-    entry.Took (end_c 2) (249 ∷ 4 ∷ 0 ∷ []) ∷
-    entry.Down (end_c 2) cause.Peer ∷
-    entry.Up (end_c 2) 2 ∷
-    entry.Emit (end_c 2) (230 ∷ []) ∷ []) ∷
-    Entries (entry.Took (end_h 2) (195 ∷ []) ∷
-    entry.Took (end_h 2) (147 ∷ 129 ∷ 128 ∷ 255 ∷ 255 ∷ 255 ∷ 255 ∷ 255 ∷ 255 ∷ 255 ∷ 255 ∷ []) ∷
-    entry.Took (end_h 2) (230 ∷ []) ∷
-    entry.Up (end_h 2) 2 ∷ []) ∷
-    Entries (entry.Sent (end_h 2) 2 1 (3 ∷ []) ∷
-    entry.Emit (end_h 2) (128 ∷ 129 ∷ 3 ∷ []) ∷ []) ∷
-    Entries (entry.Took (end_c 2) (128 ∷ 129 ∷ 3 ∷ []) ∷
-    entry.Got (end_c 2) 2 1 (3 ∷ []) ∷
-    entry.Turn (end_c 2) 1 (3 ∷ []) ∷
-    entry.Sent (end_c 2) 2 1 (128 ∷ 0 ∷ []) ∷
-    entry.Emit (end_c 2) (193 ∷ []) ∷
-    entry.Emit (end_c 2) (129 ∷ 129 ∷ 128 ∷ 0 ∷ []) ∷ []) ∷
-    Entries (entry.Took (end_h 2) (193 ∷ []) ∷
-    entry.Acked (end_h 2) 2 1 ∷
-    entry.Took (end_h 2) (129 ∷ 129 ∷ 128 ∷ 0 ∷ []) ∷
-    entry.Got (end_h 2) 2 1 (128 ∷ 0 ∷ []) ∷
-    entry.Turn (end_h 2) 1 (128 ∷ 0 ∷ []) ∷
-    entry.Emit (end_h 2) (193 ∷ []) ∷ []) ∷
-    Entries (entry.Took (end_c 2) (193 ∷ []) ∷
-    entry.Acked (end_c 2) 2 1 ∷ []) ∷
-    Entries (entry.Sent (end_h 2) 2 1 (2 ∷ 4 ∷ []) ∷
-    entry.Emit (end_h 2) (137 ∷ 129 ∷ 2 ∷ 4 ∷ []) ∷ []) ∷
-    Entries (entry.Took (end_c 2) (137 ∷ 129 ∷ 2 ∷ 4 ∷ []) ∷
-    entry.Got (end_c 2) 2 1 (2 ∷ 4 ∷ []) ∷
-    entry.Turn (end_c 2) 1 (2 ∷ 4 ∷ []) ∷
-    entry.Sent (end_c 2) 2 1 (128 ∷ 0 ∷ 2 ∷ []) ∷
-    entry.Emit (end_c 2) (194 ∷ []) ∷
-    entry.Emit (end_c 2) (138 ∷ 129 ∷ 128 ∷ 0 ∷ 2 ∷ []) ∷ []) ∷
-    Entries (entry.Took (end_h 2) (194 ∷ []) ∷
-    entry.Acked (end_h 2) 2 2 ∷
-    entry.Took (end_h 2) (138 ∷ 129 ∷ 128 ∷ 0 ∷ 2 ∷ []) ∷
-    entry.Got (end_h 2) 2 1 (128 ∷ 0 ∷ 2 ∷ []) ∷
-    entry.Turn (end_h 2) 1 (128 ∷ 0 ∷ 2 ∷ []) ∷
-    entry.Emit (end_h 2) (194 ∷ []) ∷ []) ∷
-    Entries (entry.Took (end_c 2) (194 ∷ []) ∷
-    entry.Acked (end_c 2) 2 2 ∷ []) ∷
-    Entries (entry.Sent (end_h 2) 2 1 (20 ∷ []) ∷
-    entry.Emit (end_h 2) (146 ∷ 129 ∷ 20 ∷ []) ∷ []) ∷
-    Entries (entry.Took (end_c 2) (146 ∷ 129 ∷ 20 ∷ []) ∷
-    entry.Got (end_c 2) 2 1 (20 ∷ []) ∷
-    entry.Turn (end_c 2) 1 (20 ∷ []) ∷
-    entry.Command 0 (command.Clear 2) ∷
-    entry.Sent (end_c 2) 2 1 (128 ∷ []) ∷
-    entry.AnyOk 0 3 ∷
-    entry.Emit (end_c 2) (195 ∷ []) ∷
-    entry.Emit (end_c 2) (147 ∷ 129 ∷ 128 ∷ []) ∷ []) ∷
-    Entries (entry.Took (end_h 2) (195 ∷ []) ∷
-    entry.Acked (end_h 2) 2 3 ∷
-    entry.Took (end_h 2) (147 ∷ 129 ∷ 128 ∷ []) ∷
-    entry.Got (end_h 2) 2 1 (128 ∷ []) ∷
-    entry.Turn (end_h 2) 1 (128 ∷ []) ∷
-    entry.Command 2 (command.Clear 2) ∷
-    entry.Emit (end_h 2) (195 ∷ []) ∷ []) ∷
-    Entries (entry.Took (end_c 2) (195 ∷ []) ∷
-    entry.Acked (end_c 2) 2 3 ∷ []) ∷
-    Entries (entry.Sent (end_h 2) 2 1 (3 ∷ []) ∷
-    entry.Emit (end_h 2) (155 ∷ 129 ∷ 3 ∷ []) ∷ []) ∷
-    Entries (entry.Took (end_c 2) (155 ∷ 129 ∷ 3 ∷ []) ∷
-    entry.Got (end_c 2) 2 1 (3 ∷ []) ∷
-    entry.Turn (end_c 2) 1 (3 ∷ []) ∷
-    entry.Command 0 (command.SetOpened 2 1 true) ∷
-    entry.Sent (end_c 2) 2 1 (128 ∷ 0 ∷ []) ∷
-    entry.AnyOk 0 4 ∷
-    entry.Emit (end_c 2) (196 ∷ []) ∷
-    entry.Emit (end_c 2) (156 ∷ 129 ∷ 128 ∷ 0 ∷ []) ∷ []) ∷
-    Entries (entry.Took (end_h 2) (196 ∷ []) ∷
-    entry.Acked (end_h 2) 2 4 ∷
-    entry.Took (end_h 2) (156 ∷ 129 ∷ 128 ∷ 0 ∷ []) ∷
-    entry.Got (end_h 2) 2 1 (128 ∷ 0 ∷ []) ∷
-    entry.Turn (end_h 2) 1 (128 ∷ 0 ∷ []) ∷
-    entry.Emit (end_h 2) (196 ∷ []) ∷ []) ∷
-    Entries (entry.Took (end_c 2) (196 ∷ []) ∷
-    entry.Acked (end_c 2) 2 4 ∷ []) ∷
-    Entries (entry.Sent (end_h 2) 2 1 (20 ∷ 0 ∷ 255 ∷ []) ∷
-    entry.Emit (end_h 2) (164 ∷ 129 ∷ 20 ∷ 0 ∷ 255 ∷ []) ∷ []) ∷
-    Entries (entry.Took (end_c 2) (164 ∷ 129 ∷ 20 ∷ 0 ∷ 255 ∷ []) ∷
-    entry.Got (end_c 2) 2 1 (20 ∷ 0 ∷ 255 ∷ []) ∷
-    entry.Turn (end_c 2) 1 (20 ∷ 0 ∷ 255 ∷ []) ∷
-    entry.Command 0 (command.Clear 2) ∷
-    entry.Sent (end_c 2) 2 1 (128 ∷ []) ∷
-    entry.AnyOk 0 5 ∷
-    entry.Emit (end_c 2) (197 ∷ []) ∷
-    entry.Emit (end_c 2) (165 ∷ 129 ∷ 128 ∷ []) ∷ []) ∷
-    Entries (entry.Took (end_h 2) (197 ∷ []) ∷
-    entry.Acked (end_h 2) 2 5 ∷
-    entry.Took (end_h 2) (165 ∷ 129 ∷ 128 ∷ []) ∷
-    entry.Got (end_h 2) 2 1 (128 ∷ []) ∷
-    entry.Turn (end_h 2) 1 (128 ∷ []) ∷
-    entry.Command 2 (command.Clear 2) ∷
-    entry.Emit (end_h 2) (197 ∷ []) ∷ []) ∷
-    Entries (entry.Took (end_c 2) (197 ∷ []) ∷
-    entry.Acked (end_c 2) 2 5 ∷ []) ∷
-    Entries (entry.Sent (end_h 2) 2 1 (3 ∷ []) ∷
-    entry.Emit (end_h 2) (173 ∷ 129 ∷ 3 ∷ []) ∷ []) ∷
-    Entries (entry.Took (end_c 2) (173 ∷ 129 ∷ 3 ∷ []) ∷
-    entry.Got (end_c 2) 2 1 (3 ∷ []) ∷
-    entry.Turn (end_c 2) 1 (3 ∷ []) ∷
-    entry.Command 0 (command.SetOpened 2 1 true) ∷
-    entry.Sent (end_c 2) 2 1 (128 ∷ 0 ∷ []) ∷
-    entry.AnyOk 0 6 ∷
-    entry.Emit (end_c 2) (198 ∷ []) ∷
-    entry.Emit (end_c 2) (174 ∷ 129 ∷ 128 ∷ 0 ∷ []) ∷ []) ∷
-    Entries (entry.Took (end_h 2) (198 ∷ []) ∷
-    entry.Acked (end_h 2) 2 6 ∷
-    entry.Took (end_h 2) (174 ∷ 129 ∷ 128 ∷ 0 ∷ []) ∷
-    entry.Got (end_h 2) 2 1 (128 ∷ 0 ∷ []) ∷
-    entry.Turn (end_h 2) 1 (128 ∷ 0 ∷ []) ∷
-    entry.Emit (end_h 2) (198 ∷ []) ∷ []) ∷
-    Entries (entry.Took (end_c 2) (198 ∷ []) ∷
-    entry.Acked (end_c 2) 2 6 ∷ []) ∷
-    Entries (entry.Sent (end_h 2) 2 1 (20 ∷ 0 ∷ []) ∷
-    entry.Emit (end_h 2) (182 ∷ 129 ∷ 20 ∷ 0 ∷ []) ∷ []) ∷
-    Entries (entry.Took (end_c 2) (182 ∷ 129 ∷ 20 ∷ 0 ∷ []) ∷
-    entry.Got (end_c 2) 2 1 (20 ∷ 0 ∷ []) ∷
-    entry.Turn (end_c 2) 1 (20 ∷ 0 ∷ []) ∷
-    entry.Sent (end_c 2) 2 1 (130 ∷ []) ∷
-    entry.Emit (end_c 2) (199 ∷ []) ∷
-    entry.Emit (end_c 2) (183 ∷ 129 ∷ 130 ∷ []) ∷ []) ∷
-    Entries (entry.Took (end_h 2) (199 ∷ []) ∷
-    entry.Acked (end_h 2) 2 7 ∷
-    entry.Took (end_h 2) (183 ∷ 129 ∷ 130 ∷ []) ∷
-    entry.Got (end_h 2) 2 1 (130 ∷ []) ∷
-    entry.Turn (end_h 2) 1 (130 ∷ []) ∷
-    entry.Emit (end_h 2) (199 ∷ []) ∷ []) ∷
-    Entries (entry.Took (end_c 2) (199 ∷ []) ∷
-    entry.Acked (end_c 2) 2 7 ∷ []) ∷
-    Entries (entry.Sent (end_h 2) 2 1 (2 ∷ 1 ∷ []) ∷
-    entry.Emit (end_h 2) (191 ∷ 129 ∷ 2 ∷ 1 ∷ []) ∷ []) ∷
-    Entries (entry.Took (end_c 2) (191 ∷ 129 ∷ 2 ∷ 1 ∷ []) ∷
-    entry.Got (end_c 2) 2 1 (2 ∷ 1 ∷ []) ∷
-    entry.Turn (end_c 2) 1 (2 ∷ 1 ∷ []) ∷
-    entry.Sent (end_c 2) 2 1 (128 ∷ 255 ∷ 255 ∷ 255 ∷ 255 ∷ 255 ∷ 255 ∷ 255 ∷ 255 ∷ []) ∷
-    entry.Emit (end_c 2) (192 ∷ []) ∷
-    entry.Emit (end_c 2) (184 ∷ 129 ∷ 128 ∷ 255 ∷ 255 ∷ 255 ∷ 255 ∷ 255 ∷ 255 ∷ 255 ∷ 255 ∷ []) ∷ []) ∷
-    Entries (entry.Took (end_h 2) (192 ∷ []) ∷
-    entry.Acked (end_h 2) 2 8 ∷
-    entry.Took (end_h 2) (184 ∷ 129 ∷ 128 ∷ 255 ∷ 255 ∷ 255 ∷ 255 ∷ 255 ∷ 255 ∷ 255 ∷ 255 ∷ []) ∷
-    entry.Got (end_h 2) 2 1 (128 ∷ 255 ∷ 255 ∷ 255 ∷ 255 ∷ 255 ∷ 255 ∷ 255 ∷ 255 ∷ []) ∷
-    entry.Turn (end_h 2) 1 (128 ∷ 255 ∷ 255 ∷ 255 ∷ 255 ∷ 255 ∷ 255 ∷ 255 ∷ 255 ∷ []) ∷
-    entry.Emit (end_h 2) (192 ∷ []) ∷ []) ∷
-    Entries (entry.Took (end_c 2) (192 ∷ []) ∷
-    entry.Acked (end_c 2) 2 8 ∷ []) ∷
-    TablesOf 2 (record {
-      rows = [];
-      statics = [];
-      values = [];
-      syncs = [];
-    }) ∷
-    TablesOf 0 (record {
-      rows = [];
-      statics = ((2, 1) ∷ []);
-      values = [];
-      syncs = ((2, 2) ∷ []);
-    }) ∷
-    []
-unfolding found_from hosts_where lowest_free
+init_forgotten : told_text (
+    "swp 1 hci 02\nboot 00\nboot 02\n" ∷
+    host_begins "02" ++
+    "init 02h 0102030405060708 200004\ndeliver 02c\ndeliver 02h\nreset 02h\ndeliver 02c\ndeliver 02h\nsend 02h 01 03\ndeliver 02c\ndeliver 02h\ndeliver 02c\n" ∷
+    "send 02h 01 0204\ndeliver 02c\ndeliver 02h\ndeliver 02c\nsend 02h 01 14\ndeliver 02c\ndeliver 02h\ndeliver 02c\nsend 02h 01 03\ndeliver 02c\n" ∷
+    "deliver 02h\ndeliver 02c\nsend 02h 01 1400FF\ndeliver 02c\ndeliver 02h\ndeliver 02c\nsend 02h 01 03\ndeliver 02c\ndeliver 02h\ndeliver 02c\n" ∷
+    "send 02h 01 1400\ndeliver 02c\ndeliver 02h\ndeliver 02c\nsend 02h 01 0201\ndeliver 02c\ndeliver 02h\ndeliver 02c\ntables 02\ntables 00\n" ∷
+    []) ≡ text (
+    "> swp 1 hci 02\n> boot 00\nbooted 00 0\n> boot 02\nbooted 02 0\n" ∷
+    host_begins_told "02" "2" ++
+    "> init 02h 0102030405060708 200004\nsent 02h 1 01 03\nemit 02h 898103\n" ∷
+    "> deliver 02c\ntook 02c 898103\ngot 02c 1 01 03\nturn 02c 01 03\nsent 02c 1 01 8000\nemit 02c C2\nemit 02c 8A818000\n" ∷
+    "> deliver 02h\ntook 02h C2\nacked 02h 1 2\ntook 02h 8A818000\ngot 02h 1 01 8000\nturn 02h 01 8000\nsent 02h 1 01 0201\nemit 02h C2\nemit 02h 92810201\n" ∷
+    "> reset 02h\ndown 02h asked\nemit 02h F90400\n" ∷
+    "> deliver 02c\ntook 02c C2\nacked 02c 1 2\ntook 02c 92810201\ngot 02c 1 01 0201\nturn 02c 01 0201\nsent 02c 1 01 80FFFFFFFFFFFFFFFF\nemit 02c C3\n" ∷
+    "emit 02c 938180FFFFFFFFFFFFFFFF\ntook 02c F90400\ndown 02c peer\nup 02c 2\nemit 02c E6\n" ∷
+    "> deliver 02h\ntook 02h C3\ntook 02h 938180FFFFFFFFFFFFFFFF\ntook 02h E6\nup 02h 2\n" ∷
+    "> send 02h 01 03\nsent 02h 2 01 03\nemit 02h 808103\n" ∷
+    "> deliver 02c\ntook 02c 808103\ngot 02c 2 01 03\nturn 02c 01 03\nsent 02c 2 01 8000\nemit 02c C1\nemit 02c 81818000\n" ∷
+    "> deliver 02h\ntook 02h C1\nacked 02h 2 1\ntook 02h 81818000\ngot 02h 2 01 8000\nturn 02h 01 8000\nemit 02h C1\n" ∷
+    "> deliver 02c\ntook 02c C1\nacked 02c 2 1\n" ∷
+    "> send 02h 01 0204\nsent 02h 2 01 0204\nemit 02h 89810204\n" ∷
+    "> deliver 02c\ntook 02c 89810204\ngot 02c 2 01 0204\nturn 02c 01 0204\nsent 02c 2 01 800002\nemit 02c C2\nemit 02c 8A81800002\n" ∷
+    "> deliver 02h\ntook 02h C2\nacked 02h 2 2\ntook 02h 8A81800002\ngot 02h 2 01 800002\nturn 02h 01 800002\nemit 02h C2\n" ∷
+    "> deliver 02c\ntook 02c C2\nacked 02c 2 2\n" ∷
+    "> send 02h 01 14\nsent 02h 2 01 14\nemit 02h 928114\n" ∷
+    "> deliver 02c\ntook 02c 928114\ngot 02c 2 01 14\nturn 02c 01 14\ncommand 00 clear 02\nsent 02c 2 01 80\nok 00 3\nemit 02c C3\nemit 02c 938180\n" ∷
+    "> deliver 02h\ntook 02h C3\nacked 02h 2 3\ntook 02h 938180\ngot 02h 2 01 80\nturn 02h 01 80\ncommand 02 clear 02\nemit 02h C3\n" ∷
+    "> deliver 02c\ntook 02c C3\nacked 02c 2 3\n" ∷
+    "> send 02h 01 03\nsent 02h 2 01 03\nemit 02h 9B8103\n" ∷
+    "> deliver 02c\ntook 02c 9B8103\ngot 02c 2 01 03\nturn 02c 01 03\ncommand 00 opened 02 01 01\nsent 02c 2 01 8000\nok 00 4\nemit 02c C4\n" ∷
+    "emit 02c 9C818000\n" ∷
+    "> deliver 02h\ntook 02h C4\nacked 02h 2 4\ntook 02h 9C818000\ngot 02h 2 01 8000\nturn 02h 01 8000\nemit 02h C4\n" ∷
+    "> deliver 02c\ntook 02c C4\nacked 02c 2 4\n" ∷
+    "> send 02h 01 1400FF\nsent 02h 2 01 1400FF\nemit 02h A4811400FF\n" ∷
+    "> deliver 02c\ntook 02c A4811400FF\ngot 02c 2 01 1400FF\nturn 02c 01 1400FF\ncommand 00 clear 02\nsent 02c 2 01 80\nok 00 5\nemit 02c C5\n" ∷
+    "emit 02c A58180\n" ∷
+    "> deliver 02h\ntook 02h C5\nacked 02h 2 5\ntook 02h A58180\ngot 02h 2 01 80\nturn 02h 01 80\ncommand 02 clear 02\nemit 02h C5\n" ∷
+    "> deliver 02c\ntook 02c C5\nacked 02c 2 5\n" ∷
+    "> send 02h 01 03\nsent 02h 2 01 03\nemit 02h AD8103\n" ∷
+    "> deliver 02c\ntook 02c AD8103\ngot 02c 2 01 03\nturn 02c 01 03\ncommand 00 opened 02 01 01\nsent 02c 2 01 8000\nok 00 6\nemit 02c C6\n" ∷
+    "emit 02c AE818000\n" ∷
+    "> deliver 02h\ntook 02h C6\nacked 02h 2 6\ntook 02h AE818000\ngot 02h 2 01 8000\nturn 02h 01 8000\nemit 02h C6\n" ∷
+    "> deliver 02c\ntook 02c C6\nacked 02c 2 6\n" ∷
+    "> send 02h 01 1400\nsent 02h 2 01 1400\nemit 02h B6811400\n" ∷
+    "> deliver 02c\ntook 02c B6811400\ngot 02c 2 01 1400\nturn 02c 01 1400\nsent 02c 2 01 82\nemit 02c C7\nemit 02c B78182\n" ∷
+    "> deliver 02h\ntook 02h C7\nacked 02h 2 7\ntook 02h B78182\ngot 02h 2 01 82\nturn 02h 01 82\nemit 02h C7\n" ∷
+    "> deliver 02c\ntook 02c C7\nacked 02c 2 7\n" ∷
+    "> send 02h 01 0201\nsent 02h 2 01 0201\nemit 02h BF810201\n" ∷
+    "> deliver 02c\ntook 02c BF810201\ngot 02c 2 01 0201\nturn 02c 01 0201\nsent 02c 2 01 80FFFFFFFFFFFFFFFF\nemit 02c C0\nemit 02c B88180FFFFFFFFFFFFFFFF\n" ∷
+    "> deliver 02h\ntook 02h C0\nacked 02h 2 8\ntook 02h B88180FFFFFFFFFFFFFFFF\ngot 02h 2 01 80FFFFFFFFFFFFFFFF\nturn 02h 01 80FFFFFFFFFFFFFFFF\n" ∷
+    "emit 02h C0\n" ∷
+    "> deliver 02c\ntook 02c C0\nacked 02c 2 8\n" ∷
+    "> tables 02\ntables 02 0 0 0 0\n" ∷
+    "> tables 00\ntables 00 0 1 0 1\nstatic 02 01\nsync 02 0002\n" ∷
+    [])
+unfolding found_from hosts_where lowest_free encode_with decode_pairs digits
 init_forgotten = refl

@@ -1,280 +1,57 @@
 -- A notice is late in the very tick in which the session of its link ends: its asker is told that the host is not connected.
-use Rattle.std.proofs.Common.{◌≡◌, refl, List, [], ◌∷◌, Some, None}
-use Rattle.std.specs.Prelude.{true, false}
-use Rattle.swp_base.specs.declared.link_terms.Cause.TheVariants as cause
-use Rattle.trace_model.specs.declared.entry.LostCause.TheVariants as lost
-use Rattle.trace_model.specs.declared.entry.NoCause.TheVariants as no
-use Rattle.trace_model.specs.declared.entry.Entry.TheVariants as entry
-use Rattle.trace_model.specs.declared.line.Line.{Line}
-use Rattle.trace_model.specs.declared.line.Line.TheVariants as line
-use Rattle.hci_tables.specs.declared.command.Command.TheVariants as command
-use Rattle.node_machine.specs.world.World.{new_world, end_c, end_h}
-use Rattle.node_machine.specs.world.Lines.{noted_lines}
-use Rattle.node_machine.specs.world.Lines.NotedBelow.{Entries}
-use Rattle.journal_laws.specs.Records.{found_from}
-use Rattle.gate_admin.specs.View.{hosts_where}
-use Rattle.pipe_table.specs.PipeRows.{lowest_free}
+use Rattle.std.proofs.Common.{◌≡◌, refl, [], ◌∷◌, ◌++◌}
+use Rattle.node_examples.specs.Openings.{host_begins, host_begins_told}
+use Rattle.node_examples.specs.Told.{told_text, text, found_from, hosts_where, lowest_free, encode_with, decode_pairs, digits}
 
-abbrev pub late_and_noanswer_lines : List Line
-late_and_noanswer_lines =
-    line.Boot 0 ∷
-    line.Boot 1 ∷
-    line.Boot 2 ∷
-    line.Activate 1 1 1 ∷
-    line.Deliver (end_c 1) None ∷
-    line.Deliver (end_h 1) None ∷
-    line.Deliver (end_c 1) None ∷
-    line.Reset (end_c 1) None ∷
-    line.Deliver (end_h 1) None ∷
-    line.Deliver (end_c 1) None ∷
-    line.Send (end_h 1) 1 (3 ∷ []) ∷
-    line.Deliver (end_c 1) None ∷
-    line.Deliver (end_h 1) None ∷
-    line.Deliver (end_c 1) None ∷
-    line.Activate 2 2 1 ∷
-    line.Deliver (end_c 2) None ∷
-    line.Deliver (end_h 2) None ∷
-    line.Deliver (end_c 2) None ∷
-    line.Reset (end_c 2) None ∷
-    line.Deliver (end_h 2) None ∷
-    line.Deliver (end_c 2) None ∷
-    line.Send (end_h 2) 1 (3 ∷ []) ∷
-    line.Deliver (end_c 2) None ∷
-    line.Deliver (end_h 2) None ∷
-    line.Deliver (end_c 2) None ∷
-    line.Send (end_h 1) 1 (1 ∷ 3 ∷ 2 ∷ []) ∷
-    line.Deliver (end_c 1) None ∷
-    line.Deliver (end_h 1) None ∷
-    line.Deliver (end_c 1) None ∷
-    line.Send (end_h 2) 1 (16 ∷ 65 ∷ 1 ∷ 65 ∷ []) ∷
-    line.Deliver (end_c 2) None ∷
-    line.Deliver (end_h 1) None ∷
-    line.Deliver (end_c 1) None ∷
-    line.Deliver (end_h 2) None ∷
-    line.Deliver (end_c 2) None ∷
-    line.Deliver (end_h 1) None ∷
-    line.Send (end_h 2) 2 (3 ∷ []) ∷
-    line.Deliver (end_c 2) None ∷
-    line.Deliver (end_h 2) None ∷
-    line.Deliver (end_c 2) None ∷
-    line.Send (end_h 2) 1 (16 ∷ 66 ∷ 1 ∷ 66 ∷ []) ∷
-    line.Deliver (end_c 2) None ∷
-    line.Deliver (end_h 2) None ∷
-    line.Deliver (end_c 2) None ∷
-    line.Deliver (end_h 1) None ∷
-    line.Deliver (end_c 1) (Some 1) ∷
-    line.Lose (end_c 1) ∷
-    line.Cut 1 ∷
-    line.Tick (Some 40) ∷
-    line.Send (end_h 2) 2 (66 ∷ 170 ∷ []) ∷
-    line.Deliver (end_c 2) None ∷
-    line.Deliver (end_h 2) None ∷
-    line.Tick (Some 59) ∷
-    line.Tick (Some 1) ∷
-    line.Deliver (end_h 2) None ∷
-    line.Deliver (end_c 2) None ∷
-    []
-
-late_and_noanswer : noted_lines (new_world (1 ∷ 2 ∷ [])) late_and_noanswer_lines ≡
-    Entries (entry.Booted 0 0 ∷ []) ∷
-    Entries (entry.Booted 1 0 ∷ []) ∷
-    Entries (entry.Booted 2 0 ∷ []) ∷
-    Entries (entry.Emit (end_h 1) (97 ∷ 0 ∷ 1 ∷ []) ∷ []) ∷
-    Entries (entry.Took (end_c 1) (97 ∷ 0 ∷ 1 ∷ []) ∷
-    entry.Command 0 (command.Sync 1 1) ∷
-    entry.Emit (end_c 1) (98 ∷ 1 ∷ []) ∷ []) ∷
-    Entries (entry.Took (end_h 1) (98 ∷ 1 ∷ []) ∷
-    entry.Active (end_h 1) ∷
-    entry.Emit (end_h 1) (96 ∷ []) ∷ []) ∷
-    Entries (entry.Took (end_c 1) (96 ∷ []) ∷
-    entry.Active (end_c 1) ∷ []) ∷
-    Entries (entry.Emit (end_c 1) (249 ∷ 4 ∷ 0 ∷ []) ∷ []) ∷
-    Entries (entry.Took (end_h 1) (249 ∷ 4 ∷ 0 ∷ []) ∷
-    entry.Up (end_h 1) 1 ∷
-    entry.Emit (end_h 1) (230 ∷ []) ∷ []) ∷
-    Entries (entry.Took (end_c 1) (230 ∷ []) ∷
-    entry.Up (end_c 1) 1 ∷ []) ∷
-    Entries (entry.Sent (end_h 1) 1 1 (3 ∷ []) ∷
-    entry.Emit (end_h 1) (128 ∷ 129 ∷ 3 ∷ []) ∷ []) ∷
-    Entries (entry.Took (end_c 1) (128 ∷ 129 ∷ 3 ∷ []) ∷
-    entry.Got (end_c 1) 1 1 (3 ∷ []) ∷
-    entry.Turn (end_c 1) 1 (3 ∷ []) ∷
-    entry.Command 0 (command.SetOpened 1 1 true) ∷
-    entry.Sent (end_c 1) 1 1 (128 ∷ 0 ∷ []) ∷
-    entry.AnyOk 0 2 ∷
-    entry.Emit (end_c 1) (193 ∷ []) ∷
-    entry.Emit (end_c 1) (129 ∷ 129 ∷ 128 ∷ 0 ∷ []) ∷ []) ∷
-    Entries (entry.Took (end_h 1) (193 ∷ []) ∷
-    entry.Acked (end_h 1) 1 1 ∷
-    entry.Took (end_h 1) (129 ∷ 129 ∷ 128 ∷ 0 ∷ []) ∷
-    entry.Got (end_h 1) 1 1 (128 ∷ 0 ∷ []) ∷
-    entry.Turn (end_h 1) 1 (128 ∷ 0 ∷ []) ∷
-    entry.Emit (end_h 1) (193 ∷ []) ∷ []) ∷
-    Entries (entry.Took (end_c 1) (193 ∷ []) ∷
-    entry.Acked (end_c 1) 1 1 ∷ []) ∷
-    Entries (entry.Emit (end_h 2) (97 ∷ 0 ∷ 2 ∷ []) ∷ []) ∷
-    Entries (entry.Took (end_c 2) (97 ∷ 0 ∷ 2 ∷ []) ∷
-    entry.Command 0 (command.Sync 2 2) ∷
-    entry.Emit (end_c 2) (98 ∷ 1 ∷ []) ∷ []) ∷
-    Entries (entry.Took (end_h 2) (98 ∷ 1 ∷ []) ∷
-    entry.Active (end_h 2) ∷
-    entry.Emit (end_h 2) (96 ∷ []) ∷ []) ∷
-    Entries (entry.Took (end_c 2) (96 ∷ []) ∷
-    entry.Active (end_c 2) ∷ []) ∷
-    Entries (entry.Emit (end_c 2) (249 ∷ 4 ∷ 0 ∷ []) ∷ []) ∷
-    Entries (entry.Took (end_h 2) (249 ∷ 4 ∷ 0 ∷ []) ∷
-    entry.Up (end_h 2) 1 ∷
-    entry.Emit (end_h 2) (230 ∷ []) ∷ []) ∷
-    Entries (entry.Took (end_c 2) (230 ∷ []) ∷
-    entry.Up (end_c 2) 1 ∷ []) ∷
-    Entries (entry.Sent (end_h 2) 1 1 (3 ∷ []) ∷
-    entry.Emit (end_h 2) (128 ∷ 129 ∷ 3 ∷ []) ∷ []) ∷
-    Entries (entry.Took (end_c 2) (128 ∷ 129 ∷ 3 ∷ []) ∷
-    entry.Got (end_c 2) 1 1 (3 ∷ []) ∷
-    entry.Turn (end_c 2) 1 (3 ∷ []) ∷
-    entry.Command 0 (command.SetOpened 2 1 true) ∷
-    entry.Sent (end_c 2) 1 1 (128 ∷ 0 ∷ []) ∷
-    entry.AnyOk 0 4 ∷
-    entry.Emit (end_c 2) (193 ∷ []) ∷
-    entry.Emit (end_c 2) (129 ∷ 129 ∷ 128 ∷ 0 ∷ []) ∷ []) ∷
-    Entries (entry.Took (end_h 2) (193 ∷ []) ∷
-    entry.Acked (end_h 2) 1 1 ∷
-    entry.Took (end_h 2) (129 ∷ 129 ∷ 128 ∷ 0 ∷ []) ∷
-    entry.Got (end_h 2) 1 1 (128 ∷ 0 ∷ []) ∷
-    entry.Turn (end_h 2) 1 (128 ∷ 0 ∷ []) ∷
-    entry.Emit (end_h 2) (193 ∷ []) ∷ []) ∷
-    Entries (entry.Took (end_c 2) (193 ∷ []) ∷
-    entry.Acked (end_c 2) 1 1 ∷ []) ∷
-    Entries (entry.Sent (end_h 1) 1 1 (1 ∷ 3 ∷ 2 ∷ []) ∷
-    entry.Emit (end_h 1) (137 ∷ 129 ∷ 1 ∷ 3 ∷ 2 ∷ []) ∷ []) ∷
-    Entries (entry.Took (end_c 1) (137 ∷ 129 ∷ 1 ∷ 3 ∷ 2 ∷ []) ∷
-    entry.Got (end_c 1) 1 1 (1 ∷ 3 ∷ 2 ∷ []) ∷
-    entry.Turn (end_c 1) 1 (1 ∷ 3 ∷ 2 ∷ []) ∷
-    entry.Command 0 (command.Set 1 0 3 (record { items = (2 ∷ []) })) ∷
-    entry.Sent (end_c 1) 1 1 (128 ∷ []) ∷
-    entry.AnyOk 0 5 ∷
-    entry.Emit (end_c 1) (194 ∷ []) ∷
-    entry.Emit (end_c 1) (138 ∷ 129 ∷ 128 ∷ []) ∷ []) ∷
-    Entries (entry.Took (end_h 1) (194 ∷ []) ∷
-    entry.Acked (end_h 1) 1 2 ∷
-    entry.Took (end_h 1) (138 ∷ 129 ∷ 128 ∷ []) ∷
-    entry.Got (end_h 1) 1 1 (128 ∷ []) ∷
-    entry.Turn (end_h 1) 1 (128 ∷ []) ∷
-    entry.Emit (end_h 1) (194 ∷ []) ∷ []) ∷
-    Entries (entry.Took (end_c 1) (194 ∷ []) ∷
-    entry.Acked (end_c 1) 1 2 ∷ []) ∷
-    Entries (entry.Sent (end_h 2) 1 1 (16 ∷ 65 ∷ 1 ∷ 65 ∷ []) ∷
-    entry.Emit (end_h 2) (137 ∷ 129 ∷ 16 ∷ 65 ∷ 1 ∷ 65 ∷ []) ∷ []) ∷
-    Entries (entry.Took (end_c 2) (137 ∷ 129 ∷ 16 ∷ 65 ∷ 1 ∷ 65 ∷ []) ∷
-    entry.Got (end_c 2) 1 1 (16 ∷ 65 ∷ 1 ∷ 65 ∷ []) ∷
-    entry.Turn (end_c 2) 1 (16 ∷ 65 ∷ 1 ∷ 65 ∷ []) ∷
-    entry.Ask 1 (18 ∷ 2 ∷ 65 ∷ 1 ∷ 65 ∷ 2 ∷ []) ∷
-    entry.Sent (end_c 1) 1 1 (18 ∷ 2 ∷ 65 ∷ 1 ∷ 65 ∷ 2 ∷ []) ∷
-    entry.Emit (end_c 1) (146 ∷ 129 ∷ 18 ∷ 2 ∷ 65 ∷ 1 ∷ 65 ∷ 2 ∷ []) ∷
-    entry.Emit (end_c 2) (194 ∷ []) ∷ []) ∷
-    Entries (entry.Took (end_h 1) (146 ∷ 129 ∷ 18 ∷ 2 ∷ 65 ∷ 1 ∷ 65 ∷ 2 ∷ []) ∷
-    entry.Got (end_h 1) 1 1 (18 ∷ 2 ∷ 65 ∷ 1 ∷ 65 ∷ 2 ∷ []) ∷
-    entry.Turn (end_h 1) 1 (18 ∷ 2 ∷ 65 ∷ 1 ∷ 65 ∷ 2 ∷ []) ∷
-    entry.Command 1 (command.Create (record { pid = 2; creator = 2; creator_gate = 65; dest = 1; dest_gate = 65; opened = false })) ∷
-    entry.Sent (end_h 1) 1 1 (128 ∷ []) ∷
-    entry.AnyOk 1 1 ∷
-    entry.Emit (end_h 1) (195 ∷ []) ∷
-    entry.Emit (end_h 1) (147 ∷ 129 ∷ 128 ∷ []) ∷ []) ∷
-    Entries (entry.Took (end_c 1) (195 ∷ []) ∷
-    entry.Acked (end_c 1) 1 3 ∷
-    entry.Took (end_c 1) (147 ∷ 129 ∷ 128 ∷ []) ∷
-    entry.Got (end_c 1) 1 1 (128 ∷ []) ∷
-    entry.Turn (end_c 1) 1 (128 ∷ []) ∷
-    entry.Command 0 (command.Create (record { pid = 2; creator = 2; creator_gate = 65; dest = 1; dest_gate = 65; opened = false })) ∷
-    entry.Sent (end_c 2) 1 1 (128 ∷ 2 ∷ 65 ∷ 1 ∷ 65 ∷ 2 ∷ []) ∷
-    entry.AnyOk 0 6 ∷
-    entry.Emit (end_c 1) (195 ∷ []) ∷
-    entry.Emit (end_c 2) (138 ∷ 129 ∷ 128 ∷ 2 ∷ 65 ∷ 1 ∷ 65 ∷ 2 ∷ []) ∷ []) ∷
-    Entries (entry.Took (end_h 2) (194 ∷ []) ∷
-    entry.Acked (end_h 2) 1 2 ∷
-    entry.Took (end_h 2) (138 ∷ 129 ∷ 128 ∷ 2 ∷ 65 ∷ 1 ∷ 65 ∷ 2 ∷ []) ∷
-    entry.Got (end_h 2) 1 1 (128 ∷ 2 ∷ 65 ∷ 1 ∷ 65 ∷ 2 ∷ []) ∷
-    entry.Turn (end_h 2) 1 (128 ∷ 2 ∷ 65 ∷ 1 ∷ 65 ∷ 2 ∷ []) ∷
-    entry.Command 2 (command.Create (record { pid = 2; creator = 2; creator_gate = 65; dest = 1; dest_gate = 65; opened = false })) ∷
-    entry.Emit (end_h 2) (194 ∷ []) ∷ []) ∷
-    Entries (entry.Took (end_c 2) (194 ∷ []) ∷
-    entry.Acked (end_c 2) 1 2 ∷ []) ∷
-    Entries (entry.Took (end_h 1) (195 ∷ []) ∷
-    entry.Acked (end_h 1) 1 3 ∷ []) ∷
-    Entries (entry.Sent (end_h 2) 1 2 (3 ∷ []) ∷
-    entry.Emit (end_h 2) (146 ∷ 130 ∷ 3 ∷ []) ∷ []) ∷
-    Entries (entry.Took (end_c 2) (146 ∷ 130 ∷ 3 ∷ []) ∷
-    entry.Got (end_c 2) 1 2 (3 ∷ []) ∷
-    entry.Turn (end_c 2) 2 (3 ∷ []) ∷
-    entry.Command 0 (command.SetOpened 2 2 true) ∷
-    entry.Sent (end_c 2) 1 2 (128 ∷ 0 ∷ []) ∷
-    entry.AnyOk 0 7 ∷
-    entry.Emit (end_c 2) (195 ∷ []) ∷
-    entry.Emit (end_c 2) (147 ∷ 130 ∷ 128 ∷ 0 ∷ []) ∷ []) ∷
-    Entries (entry.Took (end_h 2) (195 ∷ []) ∷
-    entry.Acked (end_h 2) 1 3 ∷
-    entry.Took (end_h 2) (147 ∷ 130 ∷ 128 ∷ 0 ∷ []) ∷
-    entry.Got (end_h 2) 1 2 (128 ∷ 0 ∷ []) ∷
-    entry.Turn (end_h 2) 2 (128 ∷ 0 ∷ []) ∷
-    entry.Emit (end_h 2) (195 ∷ []) ∷ []) ∷
-    Entries (entry.Took (end_c 2) (195 ∷ []) ∷
-    entry.Acked (end_c 2) 1 3 ∷ []) ∷
-    Entries (entry.Sent (end_h 2) 1 1 (16 ∷ 66 ∷ 1 ∷ 66 ∷ []) ∷
-    entry.Emit (end_h 2) (155 ∷ 129 ∷ 16 ∷ 66 ∷ 1 ∷ 66 ∷ []) ∷ []) ∷
-    Entries (entry.Took (end_c 2) (155 ∷ 129 ∷ 16 ∷ 66 ∷ 1 ∷ 66 ∷ []) ∷
-    entry.Got (end_c 2) 1 1 (16 ∷ 66 ∷ 1 ∷ 66 ∷ []) ∷
-    entry.Turn (end_c 2) 1 (16 ∷ 66 ∷ 1 ∷ 66 ∷ []) ∷
-    entry.Ask 1 (18 ∷ 2 ∷ 66 ∷ 1 ∷ 66 ∷ 3 ∷ []) ∷
-    entry.Sent (end_c 1) 1 1 (18 ∷ 2 ∷ 66 ∷ 1 ∷ 66 ∷ 3 ∷ []) ∷
-    entry.Emit (end_c 1) (155 ∷ 129 ∷ 18 ∷ 2 ∷ 66 ∷ 1 ∷ 66 ∷ 3 ∷ []) ∷
-    entry.Emit (end_c 2) (196 ∷ []) ∷ []) ∷
-    Entries (entry.Took (end_h 2) (196 ∷ []) ∷
-    entry.Acked (end_h 2) 1 4 ∷ []) ∷
-    Entries (entry.No no.Empty ∷ []) ∷
-    Entries (entry.Took (end_h 1) (155 ∷ 129 ∷ 18 ∷ 2 ∷ 66 ∷ 1 ∷ 66 ∷ 3 ∷ []) ∷
-    entry.Got (end_h 1) 1 1 (18 ∷ 2 ∷ 66 ∷ 1 ∷ 66 ∷ 3 ∷ []) ∷
-    entry.Turn (end_h 1) 1 (18 ∷ 2 ∷ 66 ∷ 1 ∷ 66 ∷ 3 ∷ []) ∷
-    entry.Command 1 (command.Create (record { pid = 3; creator = 2; creator_gate = 66; dest = 1; dest_gate = 66; opened = false })) ∷
-    entry.Sent (end_h 1) 1 1 (128 ∷ []) ∷
-    entry.AnyOk 1 2 ∷
-    entry.Emit (end_h 1) (196 ∷ []) ∷
-    entry.Emit (end_h 1) (156 ∷ 129 ∷ 128 ∷ []) ∷ []) ∷
-    Entries (entry.Took (end_c 1) (196 ∷ []) ∷
-    entry.Acked (end_c 1) 1 4 ∷ []) ∷
-    Entries (entry.Lost (end_c 1) (156 ∷ 129 ∷ 128 ∷ []) lost.Asked ∷ []) ∷
-    Entries (entry.Cut 1 ∷ []) ∷
-    Entries [] ∷
-    Entries (entry.Sent (end_h 2) 1 2 (66 ∷ 170 ∷ []) ∷
-    entry.Emit (end_h 2) (163 ∷ 130 ∷ 66 ∷ 170 ∷ []) ∷ []) ∷
-    Entries (entry.Took (end_c 2) (163 ∷ 130 ∷ 66 ∷ 170 ∷ []) ∷
-    entry.Got (end_c 2) 1 2 (66 ∷ 170 ∷ []) ∷
-    entry.Turn (end_c 2) 2 (66 ∷ 170 ∷ []) ∷
-    entry.Sent (end_c 1) 1 2 (66 ∷ 170 ∷ []) ∷
-    entry.Emit (end_c 1) (163 ∷ 130 ∷ 66 ∷ 170 ∷ []) ∷
-    entry.Emit (end_c 2) (197 ∷ []) ∷ []) ∷
-    Entries (entry.Took (end_h 2) (197 ∷ []) ∷
-    entry.Acked (end_h 2) 1 5 ∷ []) ∷
-    Entries (entry.Lost (end_h 1) (163 ∷ 130 ∷ 66 ∷ 170 ∷ []) lost.Age ∷
-    entry.Emit (end_c 1) (163 ∷ 130 ∷ 66 ∷ 170 ∷ []) ∷
-    entry.Lost (end_h 1) (163 ∷ 130 ∷ 66 ∷ 170 ∷ []) lost.Age ∷
-    entry.Emit (end_c 1) (163 ∷ 130 ∷ 66 ∷ 170 ∷ []) ∷
-    entry.Lost (end_h 1) (163 ∷ 130 ∷ 66 ∷ 170 ∷ []) lost.Age ∷
-    entry.Emit (end_c 1) (163 ∷ 130 ∷ 66 ∷ 170 ∷ []) ∷
-    entry.Lost (end_h 1) (163 ∷ 130 ∷ 66 ∷ 170 ∷ []) lost.Age ∷
-    entry.Emit (end_c 1) (163 ∷ 130 ∷ 66 ∷ 170 ∷ []) ∷
-    entry.Lost (end_h 1) (163 ∷ 130 ∷ 66 ∷ 170 ∷ []) lost.Age ∷
-    entry.Emit (end_c 1) (163 ∷ 130 ∷ 66 ∷ 170 ∷ []) ∷
-    entry.Lost (end_h 1) (163 ∷ 130 ∷ 66 ∷ 170 ∷ []) lost.Age ∷ []) ∷
-    Entries (entry.Down (end_c 1) cause.NoAnswer ∷
-    entry.Sent (end_c 2) 1 1 (129 ∷ []) ∷
-    entry.Emit (end_c 1) (249 ∷ 4 ∷ 0 ∷ []) ∷
-    entry.Emit (end_c 2) (157 ∷ 129 ∷ 129 ∷ []) ∷ []) ∷
-    Entries (entry.Took (end_h 2) (157 ∷ 129 ∷ 129 ∷ []) ∷
-    entry.Got (end_h 2) 1 1 (129 ∷ []) ∷
-    entry.Turn (end_h 2) 1 (129 ∷ []) ∷
-    entry.Emit (end_h 2) (196 ∷ []) ∷ []) ∷
-    Entries (entry.Took (end_c 2) (196 ∷ []) ∷
-    entry.Acked (end_c 2) 1 4 ∷ []) ∷
-    []
-unfolding found_from hosts_where lowest_free
+late_and_noanswer : told_text (
+    "swp 1 hci 01 02\nboot 00\nboot 01\nboot 02\n" ∷
+    host_begins "01" ++ host_begins "02" ++
+    "send 01h 01 010302\ndeliver 01c\ndeliver 01h\ndeliver 01c\nsend 02h 01 10410141\ndeliver 02c\ndeliver 01h\ndeliver 01c\ndeliver 02h\ndeliver 02c\n" ∷
+    "deliver 01h\nsend 02h 02 03\ndeliver 02c\ndeliver 02h\ndeliver 02c\nsend 02h 01 10420142\ndeliver 02c\ndeliver 02h\ndeliver 02c\ndeliver 01h\n" ∷
+    "deliver 01c 1\nlose 01c\ncut 01\ntick 40\nsend 02h 02 42AA\ndeliver 02c\ndeliver 02h\ntick 59\ntick 1\ndeliver 02h\ndeliver 02c\n" ∷
+    []) ≡ text (
+    "> swp 1 hci 01 02\n> boot 00\nbooted 00 0\n> boot 01\nbooted 01 0\n> boot 02\nbooted 02 0\n" ∷
+    host_begins_told "01" "2" ++ host_begins_told "02" "4" ++
+    "> send 01h 01 010302\nsent 01h 1 01 010302\nemit 01h 8981010302\n" ∷
+    "> deliver 01c\ntook 01c 8981010302\ngot 01c 1 01 010302\nturn 01c 01 010302\ncommand 00 set 01 00 03 02\nsent 01c 1 01 80\nok 00 5\nemit 01c C2\n" ∷
+    "emit 01c 8A8180\n" ∷
+    "> deliver 01h\ntook 01h C2\nacked 01h 1 2\ntook 01h 8A8180\ngot 01h 1 01 80\nturn 01h 01 80\nemit 01h C2\n" ∷
+    "> deliver 01c\ntook 01c C2\nacked 01c 1 2\n" ∷
+    "> send 02h 01 10410141\nsent 02h 1 01 10410141\nemit 02h 898110410141\n" ∷
+    "> deliver 02c\ntook 02c 898110410141\ngot 02c 1 01 10410141\nturn 02c 01 10410141\nask 01 120241014102\nsent 01c 1 01 120241014102\n" ∷
+    "emit 01c 9281120241014102\nemit 02c C2\n" ∷
+    "> deliver 01h\ntook 01h 9281120241014102\ngot 01h 1 01 120241014102\nturn 01h 01 120241014102\ncommand 01 create 02 02 41 01 41\nsent 01h 1 01 80\n" ∷
+    "ok 01 1\nemit 01h C3\nemit 01h 938180\n" ∷
+    "> deliver 01c\ntook 01c C3\nacked 01c 1 3\ntook 01c 938180\ngot 01c 1 01 80\nturn 01c 01 80\ncommand 00 create 02 02 41 01 41\n" ∷
+    "sent 02c 1 01 800241014102\nok 00 6\nemit 01c C3\nemit 02c 8A81800241014102\n" ∷
+    "> deliver 02h\ntook 02h C2\nacked 02h 1 2\ntook 02h 8A81800241014102\ngot 02h 1 01 800241014102\nturn 02h 01 800241014102\n" ∷
+    "command 02 create 02 02 41 01 41\nemit 02h C2\n" ∷
+    "> deliver 02c\ntook 02c C2\nacked 02c 1 2\n" ∷
+    "> deliver 01h\ntook 01h C3\nacked 01h 1 3\n" ∷
+    "> send 02h 02 03\nsent 02h 1 02 03\nemit 02h 928203\n" ∷
+    "> deliver 02c\ntook 02c 928203\ngot 02c 1 02 03\nturn 02c 02 03\ncommand 00 opened 02 02 01\nsent 02c 1 02 8000\nok 00 7\nemit 02c C3\n" ∷
+    "emit 02c 93828000\n" ∷
+    "> deliver 02h\ntook 02h C3\nacked 02h 1 3\ntook 02h 93828000\ngot 02h 1 02 8000\nturn 02h 02 8000\nemit 02h C3\n" ∷
+    "> deliver 02c\ntook 02c C3\nacked 02c 1 3\n" ∷
+    "> send 02h 01 10420142\nsent 02h 1 01 10420142\nemit 02h 9B8110420142\n" ∷
+    "> deliver 02c\ntook 02c 9B8110420142\ngot 02c 1 01 10420142\nturn 02c 01 10420142\nask 01 120242014203\nsent 01c 1 01 120242014203\n" ∷
+    "emit 01c 9B81120242014203\nemit 02c C4\n" ∷
+    "> deliver 02h\ntook 02h C4\nacked 02h 1 4\n" ∷
+    "> deliver 02c\nno empty\n" ∷
+    "> deliver 01h\ntook 01h 9B81120242014203\ngot 01h 1 01 120242014203\nturn 01h 01 120242014203\ncommand 01 create 03 02 42 01 42\nsent 01h 1 01 80\n" ∷
+    "ok 01 2\nemit 01h C4\nemit 01h 9C8180\n" ∷
+    "> deliver 01c 1\ntook 01c C4\nacked 01c 1 4\n" ∷
+    "> lose 01c\nlost 01c 9C8180 asked\n" ∷
+    "> cut 01\ncut 01\n" ∷
+    "> tick 40\n" ∷
+    "> send 02h 02 42AA\nsent 02h 1 02 42AA\nemit 02h A38242AA\n" ∷
+    "> deliver 02c\ntook 02c A38242AA\ngot 02c 1 02 42AA\nturn 02c 02 42AA\nsent 01c 1 02 42AA\nemit 01c A38242AA\nemit 02c C5\n" ∷
+    "> deliver 02h\ntook 02h C5\nacked 02h 1 5\n" ∷
+    "> tick 59\nlost 01h A38242AA age\nemit 01c A38242AA\nlost 01h A38242AA age\nemit 01c A38242AA\nlost 01h A38242AA age\nemit 01c A38242AA\n" ∷
+    "lost 01h A38242AA age\nemit 01c A38242AA\nlost 01h A38242AA age\nemit 01c A38242AA\nlost 01h A38242AA age\n" ∷
+    "> tick 1\ndown 01c noanswer\nsent 02c 1 01 81\nemit 01c F90400\nemit 02c 9D8181\n" ∷
+    "> deliver 02h\ntook 02h 9D8181\ngot 02h 1 01 81\nturn 02h 01 81\nemit 02h C4\n" ∷
+    "> deliver 02c\ntook 02c C4\nacked 02c 1 4\n" ∷
+    [])
+unfolding found_from hosts_where lowest_free encode_with decode_pairs digits
 late_and_noanswer = refl

@@ -1,86 +1,36 @@
 -- Nodes that are off: refusals, ticks, and frames that grow too old.
-use Rattle.std.proofs.Common.{◌≡◌, refl, List, [], ◌∷◌, Some, None}
-use Rattle.trace_model.specs.declared.entry.LostCause.TheVariants as lost
-use Rattle.trace_model.specs.declared.entry.NoCause.TheVariants as no
-use Rattle.trace_model.specs.declared.entry.Entry.TheVariants as entry
-use Rattle.trace_model.specs.declared.line.Line.{Line}
-use Rattle.trace_model.specs.declared.line.Line.TheVariants as line
-use Rattle.hci_tables.specs.declared.command.Command.TheVariants as command
-use Rattle.node_machine.specs.world.World.{new_world, end_c, end_h}
-use Rattle.node_machine.specs.world.Lines.{noted_lines}
-use Rattle.node_machine.specs.world.Lines.NotedBelow.{Entries, TablesOf}
-use Rattle.journal_laws.specs.Records.{found_from}
-use Rattle.gate_admin.specs.View.{hosts_where}
-use Rattle.pipe_table.specs.PipeRows.{lowest_free}
+use Rattle.std.proofs.Common.{◌≡◌, refl, [], ◌∷◌}
+use Rattle.node_examples.specs.Told.{told_text, text, found_from, hosts_where, lowest_free, encode_with, decode_pairs, digits}
 
-abbrev pub off_lines : List Line
-off_lines =
-    line.Tick (Some 3) ∷
-    line.Boot 0 ∷
-    line.Activate 1 1 1 ∷
-    line.Boot 1 ∷
-    line.Activate 1 1 1 ∷
-    line.Cut 0 ∷
-    line.Deliver (end_c 1) None ∷
-    line.Lose (end_c 1) ∷
-    line.Tick (Some 4) ∷
-    line.Tick None ∷
-    line.Tick (Some 30) ∷
-    line.Boot 0 ∷
-    line.Activate 1 1 0 ∷
-    line.Cut 1 ∷
-    line.Deliver (end_c 1) None ∷
-    line.Tick (Some 30) ∷
-    line.Boot 1 ∷
-    line.Activate 1 1 0 ∷
-    line.Deliver (end_c 1) None ∷
-    line.Deliver (end_h 1) None ∷
-    line.Lose (end_c 1) ∷
-    line.Tick (Some 20) ∷
-    line.Tables 0 ∷
-    line.Tables 2 ∷
-    []
-
-off : noted_lines (new_world (1 ∷ 2 ∷ [])) off_lines ≡
-    Entries [] ∷
-    Entries (entry.Booted 0 0 ∷ []) ∷
-    Entries (entry.No no.Off ∷ []) ∷
-    Entries (entry.Booted 1 0 ∷ []) ∷
-    Entries (entry.Emit (end_h 1) (97 ∷ 0 ∷ 1 ∷ []) ∷ []) ∷
-    Entries (entry.Cut 0 ∷ []) ∷
-    Entries (entry.No no.Off ∷ []) ∷
-    Entries (entry.No no.Off ∷ []) ∷
-    Entries [] ∷
-    Entries [] ∷
-    Entries (entry.Emit (end_h 1) (97 ∷ 0 ∷ 1 ∷ []) ∷
-    entry.Lost (end_c 1) (97 ∷ 0 ∷ 1 ∷ []) lost.Age ∷
-    entry.Emit (end_h 1) (97 ∷ 0 ∷ 1 ∷ []) ∷
-    entry.Lost (end_c 1) (97 ∷ 0 ∷ 1 ∷ []) lost.Age ∷
-    entry.GaveUp (end_h 1) 3 ∷ []) ∷
-    Entries (entry.Booted 0 0 ∷ []) ∷
-    Entries (entry.Emit (end_h 1) (97 ∷ 0 ∷ 1 ∷ []) ∷ []) ∷
-    Entries (entry.Cut 1 ∷ []) ∷
-    Entries (entry.No no.Empty ∷ []) ∷
-    Entries [] ∷
-    Entries (entry.Booted 1 0 ∷ []) ∷
-    Entries (entry.Emit (end_h 1) (97 ∷ 0 ∷ 1 ∷ []) ∷ []) ∷
-    Entries (entry.Took (end_c 1) (97 ∷ 0 ∷ 1 ∷ []) ∷
-    entry.Command 0 (command.Sync 1 1) ∷
-    entry.Emit (end_c 1) (98 ∷ 0 ∷ []) ∷ []) ∷
-    Entries (entry.Took (end_h 1) (98 ∷ 0 ∷ []) ∷
-    entry.Active (end_h 1) ∷
-    entry.Emit (end_h 1) (96 ∷ []) ∷ []) ∷
-    Entries (entry.Lost (end_c 1) (96 ∷ []) lost.Asked ∷ []) ∷
-    Entries (entry.Emit (end_c 1) (98 ∷ 0 ∷ []) ∷
-    entry.Lost (end_h 1) (98 ∷ 0 ∷ []) lost.Age ∷
-    entry.Emit (end_c 1) (98 ∷ 0 ∷ []) ∷ []) ∷
-    TablesOf 0 (record {
-      rows = [];
-      statics = [];
-      values = [];
-      syncs = ((1, 1) ∷ []);
-    }) ∷
-    Entries (entry.No no.Off ∷ []) ∷
-    []
-unfolding found_from hosts_where lowest_free
+off : told_text (
+    "swp 1 hci 01 02\ntick 3\nboot 00\nactivate 01 0001 01\nboot 01\nactivate 01 0001 01\ncut 00\ndeliver 01c\nlose 01c\ntick 4\ntick\ntick 30\nboot 00\n" ∷
+    "activate 01 0001 00\ncut 01\ndeliver 01c\ntick 30\nboot 01\nactivate 01 0001 00\ndeliver 01c\ndeliver 01h\nlose 01c\ntick 20\ntables 00\ntables 02\n" ∷
+    []) ≡ text (
+    "> swp 1 hci 01 02\n" ∷
+    "> tick 3\n" ∷
+    "> boot 00\nbooted 00 0\n" ∷
+    "> activate 01 0001 01\nno off\n" ∷
+    "> boot 01\nbooted 01 0\n" ∷
+    "> activate 01 0001 01\nemit 01h 610001\n" ∷
+    "> cut 00\ncut 00\n" ∷
+    "> deliver 01c\nno off\n" ∷
+    "> lose 01c\nno off\n" ∷
+    "> tick 4\n" ∷
+    "> tick\n" ∷
+    "> tick 30\nemit 01h 610001\nlost 01c 610001 age\nemit 01h 610001\nlost 01c 610001 age\ngaveup 01h 3\n" ∷
+    "> boot 00\nbooted 00 0\n" ∷
+    "> activate 01 0001 00\nemit 01h 610001\n" ∷
+    "> cut 01\ncut 01\n" ∷
+    "> deliver 01c\nno empty\n" ∷
+    "> tick 30\n" ∷
+    "> boot 01\nbooted 01 0\n" ∷
+    "> activate 01 0001 00\nemit 01h 610001\n" ∷
+    "> deliver 01c\ntook 01c 610001\ncommand 00 sync 01 0001\nemit 01c 6200\n" ∷
+    "> deliver 01h\ntook 01h 6200\nactive 01h\nemit 01h 60\n" ∷
+    "> lose 01c\nlost 01c 60 asked\n" ∷
+    "> tick 20\nemit 01c 6200\nlost 01h 6200 age\nemit 01c 6200\n" ∷
+    "> tables 00\ntables 00 0 0 0 1\nsync 01 0001\n" ∷
+    "> tables 02\nno off\n" ∷
+    [])
+unfolding found_from hosts_where lowest_free encode_with decode_pairs digits
 off = refl

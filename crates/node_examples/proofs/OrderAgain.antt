@@ -1,656 +1,143 @@
 -- The order of the tests of a creation, of reading and of closing; pipes to the loopback gate and to the identity gate.
-use Rattle.std.proofs.Common.{◌≡◌, refl, List, [], ◌∷◌, None}
-use Rattle.std.specs.Prelude.{true, false}
-use Rattle.trace_model.specs.declared.entry.Entry.TheVariants as entry
-use Rattle.trace_model.specs.declared.line.Line.{Line}
-use Rattle.trace_model.specs.declared.line.Line.TheVariants as line
-use Rattle.hci_tables.specs.declared.command.Command.TheVariants as command
-use Rattle.node_machine.specs.world.World.{new_world, end_c, end_h}
-use Rattle.node_machine.specs.world.Lines.{noted_lines}
-use Rattle.node_machine.specs.world.Lines.NotedBelow.{Entries, TablesOf}
-use Rattle.journal_laws.specs.Records.{found_from}
-use Rattle.gate_admin.specs.View.{hosts_where}
-use Rattle.pipe_table.specs.PipeRows.{lowest_free}
+use Rattle.std.proofs.Common.{◌≡◌, refl, [], ◌∷◌, ◌++◌}
+use Rattle.node_examples.specs.Openings.{host_begins, host_begins_told}
+use Rattle.node_examples.specs.Told.{told_text, text, found_from, hosts_where, lowest_free, encode_with, decode_pairs, digits}
 
-abbrev pub order_again_lines : List Line
-order_again_lines =
-    line.Boot 0 ∷
-    line.Boot 1 ∷
-    line.Boot 2 ∷
-    line.Boot 3 ∷
-    line.Activate 1 1 1 ∷
-    line.Deliver (end_c 1) None ∷
-    line.Deliver (end_h 1) None ∷
-    line.Deliver (end_c 1) None ∷
-    line.Reset (end_c 1) None ∷
-    line.Deliver (end_h 1) None ∷
-    line.Deliver (end_c 1) None ∷
-    line.Send (end_h 1) 1 (3 ∷ []) ∷
-    line.Deliver (end_c 1) None ∷
-    line.Deliver (end_h 1) None ∷
-    line.Deliver (end_c 1) None ∷
-    line.Activate 2 2 1 ∷
-    line.Deliver (end_c 2) None ∷
-    line.Deliver (end_h 2) None ∷
-    line.Deliver (end_c 2) None ∷
-    line.Reset (end_c 2) None ∷
-    line.Deliver (end_h 2) None ∷
-    line.Deliver (end_c 2) None ∷
-    line.Send (end_h 2) 1 (3 ∷ []) ∷
-    line.Deliver (end_c 2) None ∷
-    line.Deliver (end_h 2) None ∷
-    line.Deliver (end_c 2) None ∷
-    line.Send (end_h 2) 1 (16 ∷ 65 ∷ 3 ∷ 65 ∷ []) ∷
-    line.Deliver (end_c 2) None ∷
-    line.Deliver (end_h 2) None ∷
-    line.Deliver (end_c 2) None ∷
-    line.Activate 3 3 1 ∷
-    line.Deliver (end_c 3) None ∷
-    line.Deliver (end_h 3) None ∷
-    line.Deliver (end_c 3) None ∷
-    line.Reset (end_c 3) None ∷
-    line.Deliver (end_h 3) None ∷
-    line.Deliver (end_c 3) None ∷
-    line.Send (end_h 2) 1 (16 ∷ 65 ∷ 3 ∷ 65 ∷ []) ∷
-    line.Deliver (end_c 2) None ∷
-    line.Deliver (end_h 2) None ∷
-    line.Deliver (end_c 2) None ∷
-    line.Send (end_h 3) 1 (3 ∷ []) ∷
-    line.Deliver (end_c 3) None ∷
-    line.Deliver (end_h 3) None ∷
-    line.Deliver (end_c 3) None ∷
-    line.Send (end_h 2) 1 (16 ∷ 65 ∷ 3 ∷ 65 ∷ []) ∷
-    line.Deliver (end_c 2) None ∷
-    line.Deliver (end_h 2) None ∷
-    line.Deliver (end_c 2) None ∷
-    line.Send (end_h 1) 1 (1 ∷ 3 ∷ 2 ∷ []) ∷
-    line.Deliver (end_c 1) None ∷
-    line.Deliver (end_h 1) None ∷
-    line.Deliver (end_c 1) None ∷
-    line.Send (end_h 2) 1 (16 ∷ 65 ∷ 1 ∷ 65 ∷ []) ∷
-    line.Deliver (end_c 2) None ∷
-    line.Deliver (end_h 2) None ∷
-    line.Send (end_h 3) 1 (16 ∷ 65 ∷ 1 ∷ 65 ∷ []) ∷
-    line.Deliver (end_c 3) None ∷
-    line.Deliver (end_h 3) None ∷
-    line.Deliver (end_c 3) None ∷
-    line.Send (end_h 2) 1 (128 ∷ []) ∷
-    line.Deliver (end_c 2) None ∷
-    line.Send (end_h 3) 1 (128 ∷ []) ∷
-    line.Deliver (end_c 3) None ∷
-    line.Deliver (end_h 3) None ∷
-    line.Deliver (end_h 1) None ∷
-    line.Deliver (end_c 1) None ∷
-    line.Deliver (end_h 2) None ∷
-    line.Deliver (end_c 2) None ∷
-    line.Deliver (end_h 1) None ∷
-    line.Send (end_h 2) 2 (4 ∷ []) ∷
-    line.Deliver (end_c 2) None ∷
-    line.Deliver (end_h 2) None ∷
-    line.Deliver (end_c 2) None ∷
-    line.Send (end_h 2) 2 (3 ∷ []) ∷
-    line.Deliver (end_c 2) None ∷
-    line.Deliver (end_h 2) None ∷
-    line.Deliver (end_c 2) None ∷
-    line.Send (end_h 2) 2 (3 ∷ []) ∷
-    line.Deliver (end_c 2) None ∷
-    line.Deliver (end_h 2) None ∷
-    line.Deliver (end_c 2) None ∷
-    line.Send (end_h 2) 2 (4 ∷ []) ∷
-    line.Deliver (end_c 2) None ∷
-    line.Deliver (end_h 2) None ∷
-    line.Deliver (end_c 2) None ∷
-    line.Send (end_h 3) 1 (16 ∷ 32 ∷ 0 ∷ 5 ∷ []) ∷
-    line.Deliver (end_c 3) None ∷
-    line.Deliver (end_h 3) None ∷
-    line.Deliver (end_c 3) None ∷
-    line.Send (end_h 3) 1 (16 ∷ 32 ∷ 0 ∷ 4 ∷ []) ∷
-    line.Deliver (end_c 3) None ∷
-    line.Deliver (end_h 3) None ∷
-    line.Deliver (end_c 3) None ∷
-    line.Send (end_h 3) 1 (16 ∷ 32 ∷ 0 ∷ 6 ∷ []) ∷
-    line.Deliver (end_c 3) None ∷
-    line.Deliver (end_h 3) None ∷
-    line.Deliver (end_c 3) None ∷
-    line.Send (end_h 3) 3 (3 ∷ []) ∷
-    line.Deliver (end_c 3) None ∷
-    line.Deliver (end_h 3) None ∷
-    line.Deliver (end_c 3) None ∷
-    line.Send (end_h 3) 3 (2 ∷ 4 ∷ []) ∷
-    line.Deliver (end_c 3) None ∷
-    line.Deliver (end_h 3) None ∷
-    line.Deliver (end_c 3) None ∷
-    line.Send (end_h 3) 3 (2 ∷ 6 ∷ []) ∷
-    line.Deliver (end_c 3) None ∷
-    line.Deliver (end_h 3) None ∷
-    line.Deliver (end_c 3) None ∷
-    line.Send (end_h 3) 3 (2 ∷ 7 ∷ []) ∷
-    line.Deliver (end_c 3) None ∷
-    line.Deliver (end_h 3) None ∷
-    line.Deliver (end_c 3) None ∷
-    line.Send (end_h 3) 3 (2 ∷ []) ∷
-    line.Deliver (end_c 3) None ∷
-    line.Deliver (end_h 3) None ∷
-    line.Deliver (end_c 3) None ∷
-    line.Send (end_h 3) 3 (1 ∷ 4 ∷ 18 ∷ []) ∷
-    line.Deliver (end_c 3) None ∷
-    line.Deliver (end_h 3) None ∷
-    line.Deliver (end_c 3) None ∷
-    line.Send (end_h 3) 3 (1 ∷ 7 ∷ []) ∷
-    line.Deliver (end_c 3) None ∷
-    line.Deliver (end_h 3) None ∷
-    line.Deliver (end_c 3) None ∷
-    line.Send (end_h 3) 4 (2 ∷ 4 ∷ []) ∷
-    line.Deliver (end_c 3) None ∷
-    line.Deliver (end_h 3) None ∷
-    line.Deliver (end_c 3) None ∷
-    line.Tables 0 ∷
-    []
-
-order_again : noted_lines (new_world (1 ∷ 2 ∷ 3 ∷ [])) order_again_lines ≡
-    Entries (entry.Booted 0 0 ∷ []) ∷
-    Entries (entry.Booted 1 0 ∷ []) ∷
-    Entries (entry.Booted 2 0 ∷ []) ∷
-    Entries (entry.Booted 3 0 ∷ []) ∷
-    Entries (entry.Emit (end_h 1) (97 ∷ 0 ∷ 1 ∷ []) ∷ []) ∷
-    Entries (entry.Took (end_c 1) (97 ∷ 0 ∷ 1 ∷ []) ∷
-    entry.Command 0 (command.Sync 1 1) ∷
-    entry.Emit (end_c 1) (98 ∷ 1 ∷ []) ∷ []) ∷
-    Entries (entry.Took (end_h 1) (98 ∷ 1 ∷ []) ∷
-    entry.Active (end_h 1) ∷
-    entry.Emit (end_h 1) (96 ∷ []) ∷ []) ∷
-    Entries (entry.Took (end_c 1) (96 ∷ []) ∷
-    entry.Active (end_c 1) ∷ []) ∷
-    Entries (entry.Emit (end_c 1) (249 ∷ 4 ∷ 0 ∷ []) ∷ []) ∷
-    Entries (entry.Took (end_h 1) (249 ∷ 4 ∷ 0 ∷ []) ∷
-    entry.Up (end_h 1) 1 ∷
-    entry.Emit (end_h 1) (230 ∷ []) ∷ []) ∷
-    Entries (entry.Took (end_c 1) (230 ∷ []) ∷
-    entry.Up (end_c 1) 1 ∷ []) ∷
-    Entries (entry.Sent (end_h 1) 1 1 (3 ∷ []) ∷
-    entry.Emit (end_h 1) (128 ∷ 129 ∷ 3 ∷ []) ∷ []) ∷
-    Entries (entry.Took (end_c 1) (128 ∷ 129 ∷ 3 ∷ []) ∷
-    entry.Got (end_c 1) 1 1 (3 ∷ []) ∷
-    entry.Turn (end_c 1) 1 (3 ∷ []) ∷
-    entry.Command 0 (command.SetOpened 1 1 true) ∷
-    entry.Sent (end_c 1) 1 1 (128 ∷ 0 ∷ []) ∷
-    entry.AnyOk 0 2 ∷
-    entry.Emit (end_c 1) (193 ∷ []) ∷
-    entry.Emit (end_c 1) (129 ∷ 129 ∷ 128 ∷ 0 ∷ []) ∷ []) ∷
-    Entries (entry.Took (end_h 1) (193 ∷ []) ∷
-    entry.Acked (end_h 1) 1 1 ∷
-    entry.Took (end_h 1) (129 ∷ 129 ∷ 128 ∷ 0 ∷ []) ∷
-    entry.Got (end_h 1) 1 1 (128 ∷ 0 ∷ []) ∷
-    entry.Turn (end_h 1) 1 (128 ∷ 0 ∷ []) ∷
-    entry.Emit (end_h 1) (193 ∷ []) ∷ []) ∷
-    Entries (entry.Took (end_c 1) (193 ∷ []) ∷
-    entry.Acked (end_c 1) 1 1 ∷ []) ∷
-    Entries (entry.Emit (end_h 2) (97 ∷ 0 ∷ 2 ∷ []) ∷ []) ∷
-    Entries (entry.Took (end_c 2) (97 ∷ 0 ∷ 2 ∷ []) ∷
-    entry.Command 0 (command.Sync 2 2) ∷
-    entry.Emit (end_c 2) (98 ∷ 1 ∷ []) ∷ []) ∷
-    Entries (entry.Took (end_h 2) (98 ∷ 1 ∷ []) ∷
-    entry.Active (end_h 2) ∷
-    entry.Emit (end_h 2) (96 ∷ []) ∷ []) ∷
-    Entries (entry.Took (end_c 2) (96 ∷ []) ∷
-    entry.Active (end_c 2) ∷ []) ∷
-    Entries (entry.Emit (end_c 2) (249 ∷ 4 ∷ 0 ∷ []) ∷ []) ∷
-    Entries (entry.Took (end_h 2) (249 ∷ 4 ∷ 0 ∷ []) ∷
-    entry.Up (end_h 2) 1 ∷
-    entry.Emit (end_h 2) (230 ∷ []) ∷ []) ∷
-    Entries (entry.Took (end_c 2) (230 ∷ []) ∷
-    entry.Up (end_c 2) 1 ∷ []) ∷
-    Entries (entry.Sent (end_h 2) 1 1 (3 ∷ []) ∷
-    entry.Emit (end_h 2) (128 ∷ 129 ∷ 3 ∷ []) ∷ []) ∷
-    Entries (entry.Took (end_c 2) (128 ∷ 129 ∷ 3 ∷ []) ∷
-    entry.Got (end_c 2) 1 1 (3 ∷ []) ∷
-    entry.Turn (end_c 2) 1 (3 ∷ []) ∷
-    entry.Command 0 (command.SetOpened 2 1 true) ∷
-    entry.Sent (end_c 2) 1 1 (128 ∷ 0 ∷ []) ∷
-    entry.AnyOk 0 4 ∷
-    entry.Emit (end_c 2) (193 ∷ []) ∷
-    entry.Emit (end_c 2) (129 ∷ 129 ∷ 128 ∷ 0 ∷ []) ∷ []) ∷
-    Entries (entry.Took (end_h 2) (193 ∷ []) ∷
-    entry.Acked (end_h 2) 1 1 ∷
-    entry.Took (end_h 2) (129 ∷ 129 ∷ 128 ∷ 0 ∷ []) ∷
-    entry.Got (end_h 2) 1 1 (128 ∷ 0 ∷ []) ∷
-    entry.Turn (end_h 2) 1 (128 ∷ 0 ∷ []) ∷
-    entry.Emit (end_h 2) (193 ∷ []) ∷ []) ∷
-    Entries (entry.Took (end_c 2) (193 ∷ []) ∷
-    entry.Acked (end_c 2) 1 1 ∷ []) ∷
-    Entries (entry.Sent (end_h 2) 1 1 (16 ∷ 65 ∷ 3 ∷ 65 ∷ []) ∷
-    entry.Emit (end_h 2) (137 ∷ 129 ∷ 16 ∷ 65 ∷ 3 ∷ 65 ∷ []) ∷ []) ∷
-    Entries (entry.Took (end_c 2) (137 ∷ 129 ∷ 16 ∷ 65 ∷ 3 ∷ 65 ∷ []) ∷
-    entry.Got (end_c 2) 1 1 (16 ∷ 65 ∷ 3 ∷ 65 ∷ []) ∷
-    entry.Turn (end_c 2) 1 (16 ∷ 65 ∷ 3 ∷ 65 ∷ []) ∷
-    entry.Sent (end_c 2) 1 1 (129 ∷ []) ∷
-    entry.Emit (end_c 2) (194 ∷ []) ∷
-    entry.Emit (end_c 2) (138 ∷ 129 ∷ 129 ∷ []) ∷ []) ∷
-    Entries (entry.Took (end_h 2) (194 ∷ []) ∷
-    entry.Acked (end_h 2) 1 2 ∷
-    entry.Took (end_h 2) (138 ∷ 129 ∷ 129 ∷ []) ∷
-    entry.Got (end_h 2) 1 1 (129 ∷ []) ∷
-    entry.Turn (end_h 2) 1 (129 ∷ []) ∷
-    entry.Emit (end_h 2) (194 ∷ []) ∷ []) ∷
-    Entries (entry.Took (end_c 2) (194 ∷ []) ∷
-    entry.Acked (end_c 2) 1 2 ∷ []) ∷
-    Entries (entry.Emit (end_h 3) (97 ∷ 0 ∷ 3 ∷ []) ∷ []) ∷
-    Entries (entry.Took (end_c 3) (97 ∷ 0 ∷ 3 ∷ []) ∷
-    entry.Command 0 (command.Sync 3 3) ∷
-    entry.Emit (end_c 3) (98 ∷ 1 ∷ []) ∷ []) ∷
-    Entries (entry.Took (end_h 3) (98 ∷ 1 ∷ []) ∷
-    entry.Active (end_h 3) ∷
-    entry.Emit (end_h 3) (96 ∷ []) ∷ []) ∷
-    Entries (entry.Took (end_c 3) (96 ∷ []) ∷
-    entry.Active (end_c 3) ∷ []) ∷
-    Entries (entry.Emit (end_c 3) (249 ∷ 4 ∷ 0 ∷ []) ∷ []) ∷
-    Entries (entry.Took (end_h 3) (249 ∷ 4 ∷ 0 ∷ []) ∷
-    entry.Up (end_h 3) 1 ∷
-    entry.Emit (end_h 3) (230 ∷ []) ∷ []) ∷
-    Entries (entry.Took (end_c 3) (230 ∷ []) ∷
-    entry.Up (end_c 3) 1 ∷ []) ∷
-    Entries (entry.Sent (end_h 2) 1 1 (16 ∷ 65 ∷ 3 ∷ 65 ∷ []) ∷
-    entry.Emit (end_h 2) (146 ∷ 129 ∷ 16 ∷ 65 ∷ 3 ∷ 65 ∷ []) ∷ []) ∷
-    Entries (entry.Took (end_c 2) (146 ∷ 129 ∷ 16 ∷ 65 ∷ 3 ∷ 65 ∷ []) ∷
-    entry.Got (end_c 2) 1 1 (16 ∷ 65 ∷ 3 ∷ 65 ∷ []) ∷
-    entry.Turn (end_c 2) 1 (16 ∷ 65 ∷ 3 ∷ 65 ∷ []) ∷
-    entry.Sent (end_c 2) 1 1 (129 ∷ []) ∷
-    entry.Emit (end_c 2) (195 ∷ []) ∷
-    entry.Emit (end_c 2) (147 ∷ 129 ∷ 129 ∷ []) ∷ []) ∷
-    Entries (entry.Took (end_h 2) (195 ∷ []) ∷
-    entry.Acked (end_h 2) 1 3 ∷
-    entry.Took (end_h 2) (147 ∷ 129 ∷ 129 ∷ []) ∷
-    entry.Got (end_h 2) 1 1 (129 ∷ []) ∷
-    entry.Turn (end_h 2) 1 (129 ∷ []) ∷
-    entry.Emit (end_h 2) (195 ∷ []) ∷ []) ∷
-    Entries (entry.Took (end_c 2) (195 ∷ []) ∷
-    entry.Acked (end_c 2) 1 3 ∷ []) ∷
-    Entries (entry.Sent (end_h 3) 1 1 (3 ∷ []) ∷
-    entry.Emit (end_h 3) (128 ∷ 129 ∷ 3 ∷ []) ∷ []) ∷
-    Entries (entry.Took (end_c 3) (128 ∷ 129 ∷ 3 ∷ []) ∷
-    entry.Got (end_c 3) 1 1 (3 ∷ []) ∷
-    entry.Turn (end_c 3) 1 (3 ∷ []) ∷
-    entry.Command 0 (command.SetOpened 3 1 true) ∷
-    entry.Sent (end_c 3) 1 1 (128 ∷ 0 ∷ []) ∷
-    entry.AnyOk 0 6 ∷
-    entry.Emit (end_c 3) (193 ∷ []) ∷
-    entry.Emit (end_c 3) (129 ∷ 129 ∷ 128 ∷ 0 ∷ []) ∷ []) ∷
-    Entries (entry.Took (end_h 3) (193 ∷ []) ∷
-    entry.Acked (end_h 3) 1 1 ∷
-    entry.Took (end_h 3) (129 ∷ 129 ∷ 128 ∷ 0 ∷ []) ∷
-    entry.Got (end_h 3) 1 1 (128 ∷ 0 ∷ []) ∷
-    entry.Turn (end_h 3) 1 (128 ∷ 0 ∷ []) ∷
-    entry.Emit (end_h 3) (193 ∷ []) ∷ []) ∷
-    Entries (entry.Took (end_c 3) (193 ∷ []) ∷
-    entry.Acked (end_c 3) 1 1 ∷ []) ∷
-    Entries (entry.Sent (end_h 2) 1 1 (16 ∷ 65 ∷ 3 ∷ 65 ∷ []) ∷
-    entry.Emit (end_h 2) (155 ∷ 129 ∷ 16 ∷ 65 ∷ 3 ∷ 65 ∷ []) ∷ []) ∷
-    Entries (entry.Took (end_c 2) (155 ∷ 129 ∷ 16 ∷ 65 ∷ 3 ∷ 65 ∷ []) ∷
-    entry.Got (end_c 2) 1 1 (16 ∷ 65 ∷ 3 ∷ 65 ∷ []) ∷
-    entry.Turn (end_c 2) 1 (16 ∷ 65 ∷ 3 ∷ 65 ∷ []) ∷
-    entry.Sent (end_c 2) 1 1 (139 ∷ []) ∷
-    entry.Emit (end_c 2) (196 ∷ []) ∷
-    entry.Emit (end_c 2) (156 ∷ 129 ∷ 139 ∷ []) ∷ []) ∷
-    Entries (entry.Took (end_h 2) (196 ∷ []) ∷
-    entry.Acked (end_h 2) 1 4 ∷
-    entry.Took (end_h 2) (156 ∷ 129 ∷ 139 ∷ []) ∷
-    entry.Got (end_h 2) 1 1 (139 ∷ []) ∷
-    entry.Turn (end_h 2) 1 (139 ∷ []) ∷
-    entry.Emit (end_h 2) (196 ∷ []) ∷ []) ∷
-    Entries (entry.Took (end_c 2) (196 ∷ []) ∷
-    entry.Acked (end_c 2) 1 4 ∷ []) ∷
-    Entries (entry.Sent (end_h 1) 1 1 (1 ∷ 3 ∷ 2 ∷ []) ∷
-    entry.Emit (end_h 1) (137 ∷ 129 ∷ 1 ∷ 3 ∷ 2 ∷ []) ∷ []) ∷
-    Entries (entry.Took (end_c 1) (137 ∷ 129 ∷ 1 ∷ 3 ∷ 2 ∷ []) ∷
-    entry.Got (end_c 1) 1 1 (1 ∷ 3 ∷ 2 ∷ []) ∷
-    entry.Turn (end_c 1) 1 (1 ∷ 3 ∷ 2 ∷ []) ∷
-    entry.Command 0 (command.Set 1 0 3 (record { items = (2 ∷ []) })) ∷
-    entry.Sent (end_c 1) 1 1 (128 ∷ []) ∷
-    entry.AnyOk 0 7 ∷
-    entry.Emit (end_c 1) (194 ∷ []) ∷
-    entry.Emit (end_c 1) (138 ∷ 129 ∷ 128 ∷ []) ∷ []) ∷
-    Entries (entry.Took (end_h 1) (194 ∷ []) ∷
-    entry.Acked (end_h 1) 1 2 ∷
-    entry.Took (end_h 1) (138 ∷ 129 ∷ 128 ∷ []) ∷
-    entry.Got (end_h 1) 1 1 (128 ∷ []) ∷
-    entry.Turn (end_h 1) 1 (128 ∷ []) ∷
-    entry.Emit (end_h 1) (194 ∷ []) ∷ []) ∷
-    Entries (entry.Took (end_c 1) (194 ∷ []) ∷
-    entry.Acked (end_c 1) 1 2 ∷ []) ∷
-    Entries (entry.Sent (end_h 2) 1 1 (16 ∷ 65 ∷ 1 ∷ 65 ∷ []) ∷
-    entry.Emit (end_h 2) (164 ∷ 129 ∷ 16 ∷ 65 ∷ 1 ∷ 65 ∷ []) ∷ []) ∷
-    Entries (entry.Took (end_c 2) (164 ∷ 129 ∷ 16 ∷ 65 ∷ 1 ∷ 65 ∷ []) ∷
-    entry.Got (end_c 2) 1 1 (16 ∷ 65 ∷ 1 ∷ 65 ∷ []) ∷
-    entry.Turn (end_c 2) 1 (16 ∷ 65 ∷ 1 ∷ 65 ∷ []) ∷
-    entry.Ask 1 (18 ∷ 2 ∷ 65 ∷ 1 ∷ 65 ∷ 2 ∷ []) ∷
-    entry.Sent (end_c 1) 1 1 (18 ∷ 2 ∷ 65 ∷ 1 ∷ 65 ∷ 2 ∷ []) ∷
-    entry.Emit (end_c 1) (146 ∷ 129 ∷ 18 ∷ 2 ∷ 65 ∷ 1 ∷ 65 ∷ 2 ∷ []) ∷
-    entry.Emit (end_c 2) (197 ∷ []) ∷ []) ∷
-    Entries (entry.Took (end_h 2) (197 ∷ []) ∷
-    entry.Acked (end_h 2) 1 5 ∷ []) ∷
-    Entries (entry.Sent (end_h 3) 1 1 (16 ∷ 65 ∷ 1 ∷ 65 ∷ []) ∷
-    entry.Emit (end_h 3) (137 ∷ 129 ∷ 16 ∷ 65 ∷ 1 ∷ 65 ∷ []) ∷ []) ∷
-    Entries (entry.Took (end_c 3) (137 ∷ 129 ∷ 16 ∷ 65 ∷ 1 ∷ 65 ∷ []) ∷
-    entry.Got (end_c 3) 1 1 (16 ∷ 65 ∷ 1 ∷ 65 ∷ []) ∷
-    entry.Turn (end_c 3) 1 (16 ∷ 65 ∷ 1 ∷ 65 ∷ []) ∷
-    entry.Sent (end_c 3) 1 1 (139 ∷ []) ∷
-    entry.Emit (end_c 3) (194 ∷ []) ∷
-    entry.Emit (end_c 3) (138 ∷ 129 ∷ 139 ∷ []) ∷ []) ∷
-    Entries (entry.Took (end_h 3) (194 ∷ []) ∷
-    entry.Acked (end_h 3) 1 2 ∷
-    entry.Took (end_h 3) (138 ∷ 129 ∷ 139 ∷ []) ∷
-    entry.Got (end_h 3) 1 1 (139 ∷ []) ∷
-    entry.Turn (end_h 3) 1 (139 ∷ []) ∷
-    entry.Emit (end_h 3) (194 ∷ []) ∷ []) ∷
-    Entries (entry.Took (end_c 3) (194 ∷ []) ∷
-    entry.Acked (end_c 3) 1 2 ∷ []) ∷
-    Entries (entry.Sent (end_h 2) 1 1 (128 ∷ []) ∷
-    entry.Emit (end_h 2) (172 ∷ 129 ∷ 128 ∷ []) ∷ []) ∷
-    Entries (entry.Took (end_c 2) (172 ∷ 129 ∷ 128 ∷ []) ∷
-    entry.Got (end_c 2) 1 1 (128 ∷ []) ∷
-    entry.Turn (end_c 2) 1 (128 ∷ []) ∷
-    entry.Dropped (end_c 2) 1 ∷
-    entry.Emit (end_c 2) (198 ∷ []) ∷ []) ∷
-    Entries (entry.Sent (end_h 3) 1 1 (128 ∷ []) ∷
-    entry.Emit (end_h 3) (146 ∷ 129 ∷ 128 ∷ []) ∷ []) ∷
-    Entries (entry.Took (end_c 3) (146 ∷ 129 ∷ 128 ∷ []) ∷
-    entry.Got (end_c 3) 1 1 (128 ∷ []) ∷
-    entry.Turn (end_c 3) 1 (128 ∷ []) ∷
-    entry.Dropped (end_c 3) 1 ∷
-    entry.Emit (end_c 3) (195 ∷ []) ∷ []) ∷
-    Entries (entry.Took (end_h 3) (195 ∷ []) ∷
-    entry.Acked (end_h 3) 1 3 ∷ []) ∷
-    Entries (entry.Took (end_h 1) (146 ∷ 129 ∷ 18 ∷ 2 ∷ 65 ∷ 1 ∷ 65 ∷ 2 ∷ []) ∷
-    entry.Got (end_h 1) 1 1 (18 ∷ 2 ∷ 65 ∷ 1 ∷ 65 ∷ 2 ∷ []) ∷
-    entry.Turn (end_h 1) 1 (18 ∷ 2 ∷ 65 ∷ 1 ∷ 65 ∷ 2 ∷ []) ∷
-    entry.Command 1 (command.Create (record { pid = 2; creator = 2; creator_gate = 65; dest = 1; dest_gate = 65; opened = false })) ∷
-    entry.Sent (end_h 1) 1 1 (128 ∷ []) ∷
-    entry.AnyOk 1 1 ∷
-    entry.Emit (end_h 1) (195 ∷ []) ∷
-    entry.Emit (end_h 1) (147 ∷ 129 ∷ 128 ∷ []) ∷ []) ∷
-    Entries (entry.Took (end_c 1) (195 ∷ []) ∷
-    entry.Acked (end_c 1) 1 3 ∷
-    entry.Took (end_c 1) (147 ∷ 129 ∷ 128 ∷ []) ∷
-    entry.Got (end_c 1) 1 1 (128 ∷ []) ∷
-    entry.Turn (end_c 1) 1 (128 ∷ []) ∷
-    entry.Command 0 (command.Create (record { pid = 2; creator = 2; creator_gate = 65; dest = 1; dest_gate = 65; opened = false })) ∷
-    entry.Sent (end_c 2) 1 1 (128 ∷ 2 ∷ 65 ∷ 1 ∷ 65 ∷ 2 ∷ []) ∷
-    entry.AnyOk 0 8 ∷
-    entry.Emit (end_c 1) (195 ∷ []) ∷
-    entry.Emit (end_c 2) (166 ∷ 129 ∷ 128 ∷ 2 ∷ 65 ∷ 1 ∷ 65 ∷ 2 ∷ []) ∷ []) ∷
-    Entries (entry.Took (end_h 2) (198 ∷ []) ∷
-    entry.Acked (end_h 2) 1 6 ∷
-    entry.Took (end_h 2) (166 ∷ 129 ∷ 128 ∷ 2 ∷ 65 ∷ 1 ∷ 65 ∷ 2 ∷ []) ∷
-    entry.Got (end_h 2) 1 1 (128 ∷ 2 ∷ 65 ∷ 1 ∷ 65 ∷ 2 ∷ []) ∷
-    entry.Turn (end_h 2) 1 (128 ∷ 2 ∷ 65 ∷ 1 ∷ 65 ∷ 2 ∷ []) ∷
-    entry.Command 2 (command.Create (record { pid = 2; creator = 2; creator_gate = 65; dest = 1; dest_gate = 65; opened = false })) ∷
-    entry.Emit (end_h 2) (197 ∷ []) ∷ []) ∷
-    Entries (entry.Took (end_c 2) (197 ∷ []) ∷
-    entry.Acked (end_c 2) 1 5 ∷ []) ∷
-    Entries (entry.Took (end_h 1) (195 ∷ []) ∷
-    entry.Acked (end_h 1) 1 3 ∷ []) ∷
-    Entries (entry.Sent (end_h 2) 1 2 (4 ∷ []) ∷
-    entry.Emit (end_h 2) (181 ∷ 130 ∷ 4 ∷ []) ∷ []) ∷
-    Entries (entry.Took (end_c 2) (181 ∷ 130 ∷ 4 ∷ []) ∷
-    entry.Got (end_c 2) 1 2 (4 ∷ []) ∷
-    entry.Turn (end_c 2) 2 (4 ∷ []) ∷
-    entry.Sent (end_c 2) 1 2 (134 ∷ []) ∷
-    entry.Emit (end_c 2) (199 ∷ []) ∷
-    entry.Emit (end_c 2) (175 ∷ 130 ∷ 134 ∷ []) ∷ []) ∷
-    Entries (entry.Took (end_h 2) (199 ∷ []) ∷
-    entry.Acked (end_h 2) 1 7 ∷
-    entry.Took (end_h 2) (175 ∷ 130 ∷ 134 ∷ []) ∷
-    entry.Got (end_h 2) 1 2 (134 ∷ []) ∷
-    entry.Turn (end_h 2) 2 (134 ∷ []) ∷
-    entry.Emit (end_h 2) (198 ∷ []) ∷ []) ∷
-    Entries (entry.Took (end_c 2) (198 ∷ []) ∷
-    entry.Acked (end_c 2) 1 6 ∷ []) ∷
-    Entries (entry.Sent (end_h 2) 1 2 (3 ∷ []) ∷
-    entry.Emit (end_h 2) (190 ∷ 130 ∷ 3 ∷ []) ∷ []) ∷
-    Entries (entry.Took (end_c 2) (190 ∷ 130 ∷ 3 ∷ []) ∷
-    entry.Got (end_c 2) 1 2 (3 ∷ []) ∷
-    entry.Turn (end_c 2) 2 (3 ∷ []) ∷
-    entry.Command 0 (command.SetOpened 2 2 true) ∷
-    entry.Sent (end_c 2) 1 2 (128 ∷ 0 ∷ []) ∷
-    entry.AnyOk 0 9 ∷
-    entry.Emit (end_c 2) (192 ∷ []) ∷
-    entry.Emit (end_c 2) (176 ∷ 130 ∷ 128 ∷ 0 ∷ []) ∷ []) ∷
-    Entries (entry.Took (end_h 2) (192 ∷ []) ∷
-    entry.Acked (end_h 2) 1 8 ∷
-    entry.Took (end_h 2) (176 ∷ 130 ∷ 128 ∷ 0 ∷ []) ∷
-    entry.Got (end_h 2) 1 2 (128 ∷ 0 ∷ []) ∷
-    entry.Turn (end_h 2) 2 (128 ∷ 0 ∷ []) ∷
-    entry.Emit (end_h 2) (199 ∷ []) ∷ []) ∷
-    Entries (entry.Took (end_c 2) (199 ∷ []) ∷
-    entry.Acked (end_c 2) 1 7 ∷ []) ∷
-    Entries (entry.Sent (end_h 2) 1 2 (3 ∷ []) ∷
-    entry.Emit (end_h 2) (135 ∷ 130 ∷ 3 ∷ []) ∷ []) ∷
-    Entries (entry.Took (end_c 2) (135 ∷ 130 ∷ 3 ∷ []) ∷
-    entry.Got (end_c 2) 1 2 (3 ∷ []) ∷
-    entry.Turn (end_c 2) 2 (3 ∷ []) ∷
-    entry.Sent (end_c 2) 1 2 (128 ∷ 0 ∷ []) ∷
-    entry.Emit (end_c 2) (193 ∷ []) ∷
-    entry.Emit (end_c 2) (185 ∷ 130 ∷ 128 ∷ 0 ∷ []) ∷ []) ∷
-    Entries (entry.Took (end_h 2) (193 ∷ []) ∷
-    entry.Acked (end_h 2) 1 9 ∷
-    entry.Took (end_h 2) (185 ∷ 130 ∷ 128 ∷ 0 ∷ []) ∷
-    entry.Got (end_h 2) 1 2 (128 ∷ 0 ∷ []) ∷
-    entry.Turn (end_h 2) 2 (128 ∷ 0 ∷ []) ∷
-    entry.Emit (end_h 2) (192 ∷ []) ∷ []) ∷
-    Entries (entry.Took (end_c 2) (192 ∷ []) ∷
-    entry.Acked (end_c 2) 1 8 ∷ []) ∷
-    Entries (entry.Sent (end_h 2) 1 2 (4 ∷ []) ∷
-    entry.Emit (end_h 2) (136 ∷ 130 ∷ 4 ∷ []) ∷ []) ∷
-    Entries (entry.Took (end_c 2) (136 ∷ 130 ∷ 4 ∷ []) ∷
-    entry.Got (end_c 2) 1 2 (4 ∷ []) ∷
-    entry.Turn (end_c 2) 2 (4 ∷ []) ∷
-    entry.Command 0 (command.SetOpened 2 2 false) ∷
-    entry.Sent (end_c 2) 1 2 (128 ∷ []) ∷
-    entry.AnyOk 0 10 ∷
-    entry.Emit (end_c 2) (194 ∷ []) ∷
-    entry.Emit (end_c 2) (130 ∷ 130 ∷ 128 ∷ []) ∷ []) ∷
-    Entries (entry.Took (end_h 2) (194 ∷ []) ∷
-    entry.Acked (end_h 2) 1 10 ∷
-    entry.Took (end_h 2) (130 ∷ 130 ∷ 128 ∷ []) ∷
-    entry.Got (end_h 2) 1 2 (128 ∷ []) ∷
-    entry.Turn (end_h 2) 2 (128 ∷ []) ∷
-    entry.Emit (end_h 2) (193 ∷ []) ∷ []) ∷
-    Entries (entry.Took (end_c 2) (193 ∷ []) ∷
-    entry.Acked (end_c 2) 1 9 ∷ []) ∷
-    Entries (entry.Sent (end_h 3) 1 1 (16 ∷ 32 ∷ 0 ∷ 5 ∷ []) ∷
-    entry.Emit (end_h 3) (154 ∷ 129 ∷ 16 ∷ 32 ∷ 0 ∷ 5 ∷ []) ∷ []) ∷
-    Entries (entry.Took (end_c 3) (154 ∷ 129 ∷ 16 ∷ 32 ∷ 0 ∷ 5 ∷ []) ∷
-    entry.Got (end_c 3) 1 1 (16 ∷ 32 ∷ 0 ∷ 5 ∷ []) ∷
-    entry.Turn (end_c 3) 1 (16 ∷ 32 ∷ 0 ∷ 5 ∷ []) ∷
-    entry.Command 0 (command.Create (record { pid = 3; creator = 3; creator_gate = 32; dest = 0; dest_gate = 5; opened = false })) ∷
-    entry.Sent (end_c 3) 1 1 (128 ∷ 3 ∷ 32 ∷ 0 ∷ 5 ∷ 3 ∷ []) ∷
-    entry.AnyOk 0 11 ∷
-    entry.Emit (end_c 3) (196 ∷ []) ∷
-    entry.Emit (end_c 3) (148 ∷ 129 ∷ 128 ∷ 3 ∷ 32 ∷ 0 ∷ 5 ∷ 3 ∷ []) ∷ []) ∷
-    Entries (entry.Took (end_h 3) (196 ∷ []) ∷
-    entry.Acked (end_h 3) 1 4 ∷
-    entry.Took (end_h 3) (148 ∷ 129 ∷ 128 ∷ 3 ∷ 32 ∷ 0 ∷ 5 ∷ 3 ∷ []) ∷
-    entry.Got (end_h 3) 1 1 (128 ∷ 3 ∷ 32 ∷ 0 ∷ 5 ∷ 3 ∷ []) ∷
-    entry.Turn (end_h 3) 1 (128 ∷ 3 ∷ 32 ∷ 0 ∷ 5 ∷ 3 ∷ []) ∷
-    entry.Command 3 (command.Create (record { pid = 3; creator = 3; creator_gate = 32; dest = 0; dest_gate = 5; opened = false })) ∷
-    entry.Emit (end_h 3) (195 ∷ []) ∷ []) ∷
-    Entries (entry.Took (end_c 3) (195 ∷ []) ∷
-    entry.Acked (end_c 3) 1 3 ∷ []) ∷
-    Entries (entry.Sent (end_h 3) 1 1 (16 ∷ 32 ∷ 0 ∷ 4 ∷ []) ∷
-    entry.Emit (end_h 3) (163 ∷ 129 ∷ 16 ∷ 32 ∷ 0 ∷ 4 ∷ []) ∷ []) ∷
-    Entries (entry.Took (end_c 3) (163 ∷ 129 ∷ 16 ∷ 32 ∷ 0 ∷ 4 ∷ []) ∷
-    entry.Got (end_c 3) 1 1 (16 ∷ 32 ∷ 0 ∷ 4 ∷ []) ∷
-    entry.Turn (end_c 3) 1 (16 ∷ 32 ∷ 0 ∷ 4 ∷ []) ∷
-    entry.Command 0 (command.Create (record { pid = 4; creator = 3; creator_gate = 32; dest = 0; dest_gate = 4; opened = false })) ∷
-    entry.Sent (end_c 3) 1 1 (128 ∷ 3 ∷ 32 ∷ 0 ∷ 4 ∷ 4 ∷ []) ∷
-    entry.AnyOk 0 12 ∷
-    entry.Emit (end_c 3) (197 ∷ []) ∷
-    entry.Emit (end_c 3) (157 ∷ 129 ∷ 128 ∷ 3 ∷ 32 ∷ 0 ∷ 4 ∷ 4 ∷ []) ∷ []) ∷
-    Entries (entry.Took (end_h 3) (197 ∷ []) ∷
-    entry.Acked (end_h 3) 1 5 ∷
-    entry.Took (end_h 3) (157 ∷ 129 ∷ 128 ∷ 3 ∷ 32 ∷ 0 ∷ 4 ∷ 4 ∷ []) ∷
-    entry.Got (end_h 3) 1 1 (128 ∷ 3 ∷ 32 ∷ 0 ∷ 4 ∷ 4 ∷ []) ∷
-    entry.Turn (end_h 3) 1 (128 ∷ 3 ∷ 32 ∷ 0 ∷ 4 ∷ 4 ∷ []) ∷
-    entry.Command 3 (command.Create (record { pid = 4; creator = 3; creator_gate = 32; dest = 0; dest_gate = 4; opened = false })) ∷
-    entry.Emit (end_h 3) (196 ∷ []) ∷ []) ∷
-    Entries (entry.Took (end_c 3) (196 ∷ []) ∷
-    entry.Acked (end_c 3) 1 4 ∷ []) ∷
-    Entries (entry.Sent (end_h 3) 1 1 (16 ∷ 32 ∷ 0 ∷ 6 ∷ []) ∷
-    entry.Emit (end_h 3) (172 ∷ 129 ∷ 16 ∷ 32 ∷ 0 ∷ 6 ∷ []) ∷ []) ∷
-    Entries (entry.Took (end_c 3) (172 ∷ 129 ∷ 16 ∷ 32 ∷ 0 ∷ 6 ∷ []) ∷
-    entry.Got (end_c 3) 1 1 (16 ∷ 32 ∷ 0 ∷ 6 ∷ []) ∷
-    entry.Turn (end_c 3) 1 (16 ∷ 32 ∷ 0 ∷ 6 ∷ []) ∷
-    entry.Sent (end_c 3) 1 1 (131 ∷ []) ∷
-    entry.Emit (end_c 3) (198 ∷ []) ∷
-    entry.Emit (end_c 3) (166 ∷ 129 ∷ 131 ∷ []) ∷ []) ∷
-    Entries (entry.Took (end_h 3) (198 ∷ []) ∷
-    entry.Acked (end_h 3) 1 6 ∷
-    entry.Took (end_h 3) (166 ∷ 129 ∷ 131 ∷ []) ∷
-    entry.Got (end_h 3) 1 1 (131 ∷ []) ∷
-    entry.Turn (end_h 3) 1 (131 ∷ []) ∷
-    entry.Emit (end_h 3) (197 ∷ []) ∷ []) ∷
-    Entries (entry.Took (end_c 3) (197 ∷ []) ∷
-    entry.Acked (end_c 3) 1 5 ∷ []) ∷
-    Entries (entry.Sent (end_h 3) 1 3 (3 ∷ []) ∷
-    entry.Emit (end_h 3) (181 ∷ 131 ∷ 3 ∷ []) ∷ []) ∷
-    Entries (entry.Took (end_c 3) (181 ∷ 131 ∷ 3 ∷ []) ∷
-    entry.Got (end_c 3) 1 3 (3 ∷ []) ∷
-    entry.Turn (end_c 3) 3 (3 ∷ []) ∷
-    entry.Command 0 (command.SetOpened 3 3 true) ∷
-    entry.Sent (end_c 3) 1 3 (128 ∷ 0 ∷ []) ∷
-    entry.AnyOk 0 13 ∷
-    entry.Emit (end_c 3) (199 ∷ []) ∷
-    entry.Emit (end_c 3) (175 ∷ 131 ∷ 128 ∷ 0 ∷ []) ∷ []) ∷
-    Entries (entry.Took (end_h 3) (199 ∷ []) ∷
-    entry.Acked (end_h 3) 1 7 ∷
-    entry.Took (end_h 3) (175 ∷ 131 ∷ 128 ∷ 0 ∷ []) ∷
-    entry.Got (end_h 3) 1 3 (128 ∷ 0 ∷ []) ∷
-    entry.Turn (end_h 3) 3 (128 ∷ 0 ∷ []) ∷
-    entry.Emit (end_h 3) (198 ∷ []) ∷ []) ∷
-    Entries (entry.Took (end_c 3) (198 ∷ []) ∷
-    entry.Acked (end_c 3) 1 6 ∷ []) ∷
-    Entries (entry.Sent (end_h 3) 1 3 (2 ∷ 4 ∷ []) ∷
-    entry.Emit (end_h 3) (190 ∷ 131 ∷ 2 ∷ 4 ∷ []) ∷ []) ∷
-    Entries (entry.Took (end_c 3) (190 ∷ 131 ∷ 2 ∷ 4 ∷ []) ∷
-    entry.Got (end_c 3) 1 3 (2 ∷ 4 ∷ []) ∷
-    entry.Turn (end_c 3) 3 (2 ∷ 4 ∷ []) ∷
-    entry.Sent (end_c 3) 1 3 (128 ∷ 83 ∷ 87 ∷ 80 ∷ 32 ∷ 72 ∷ 67 ∷ 73 ∷ []) ∷
-    entry.Emit (end_c 3) (192 ∷ []) ∷
-    entry.Emit (end_c 3) (176 ∷ 131 ∷ 128 ∷ 83 ∷ 87 ∷ 80 ∷ 32 ∷ 72 ∷ 67 ∷ 73 ∷ []) ∷ []) ∷
-    Entries (entry.Took (end_h 3) (192 ∷ []) ∷
-    entry.Acked (end_h 3) 1 8 ∷
-    entry.Took (end_h 3) (176 ∷ 131 ∷ 128 ∷ 83 ∷ 87 ∷ 80 ∷ 32 ∷ 72 ∷ 67 ∷ 73 ∷ []) ∷
-    entry.Got (end_h 3) 1 3 (128 ∷ 83 ∷ 87 ∷ 80 ∷ 32 ∷ 72 ∷ 67 ∷ 73 ∷ []) ∷
-    entry.Turn (end_h 3) 3 (128 ∷ 83 ∷ 87 ∷ 80 ∷ 32 ∷ 72 ∷ 67 ∷ 73 ∷ []) ∷
-    entry.Emit (end_h 3) (199 ∷ []) ∷ []) ∷
-    Entries (entry.Took (end_c 3) (199 ∷ []) ∷
-    entry.Acked (end_c 3) 1 7 ∷ []) ∷
-    Entries (entry.Sent (end_h 3) 1 3 (2 ∷ 6 ∷ []) ∷
-    entry.Emit (end_h 3) (135 ∷ 131 ∷ 2 ∷ 6 ∷ []) ∷ []) ∷
-    Entries (entry.Took (end_c 3) (135 ∷ 131 ∷ 2 ∷ 6 ∷ []) ∷
-    entry.Got (end_c 3) 1 3 (2 ∷ 6 ∷ []) ∷
-    entry.Turn (end_c 3) 3 (2 ∷ 6 ∷ []) ∷
-    entry.Sent (end_c 3) 1 3 (128 ∷ 4 ∷ 5 ∷ []) ∷
-    entry.Emit (end_c 3) (193 ∷ []) ∷
-    entry.Emit (end_c 3) (185 ∷ 131 ∷ 128 ∷ 4 ∷ 5 ∷ []) ∷ []) ∷
-    Entries (entry.Took (end_h 3) (193 ∷ []) ∷
-    entry.Acked (end_h 3) 1 9 ∷
-    entry.Took (end_h 3) (185 ∷ 131 ∷ 128 ∷ 4 ∷ 5 ∷ []) ∷
-    entry.Got (end_h 3) 1 3 (128 ∷ 4 ∷ 5 ∷ []) ∷
-    entry.Turn (end_h 3) 3 (128 ∷ 4 ∷ 5 ∷ []) ∷
-    entry.Emit (end_h 3) (192 ∷ []) ∷ []) ∷
-    Entries (entry.Took (end_c 3) (192 ∷ []) ∷
-    entry.Acked (end_c 3) 1 8 ∷ []) ∷
-    Entries (entry.Sent (end_h 3) 1 3 (2 ∷ 7 ∷ []) ∷
-    entry.Emit (end_h 3) (136 ∷ 131 ∷ 2 ∷ 7 ∷ []) ∷ []) ∷
-    Entries (entry.Took (end_c 3) (136 ∷ 131 ∷ 2 ∷ 7 ∷ []) ∷
-    entry.Got (end_c 3) 1 3 (2 ∷ 7 ∷ []) ∷
-    entry.Turn (end_c 3) 3 (2 ∷ 7 ∷ []) ∷
-    entry.Sent (end_c 3) 1 3 (133 ∷ []) ∷
-    entry.Emit (end_c 3) (194 ∷ []) ∷
-    entry.Emit (end_c 3) (130 ∷ 131 ∷ 133 ∷ []) ∷ []) ∷
-    Entries (entry.Took (end_h 3) (194 ∷ []) ∷
-    entry.Acked (end_h 3) 1 10 ∷
-    entry.Took (end_h 3) (130 ∷ 131 ∷ 133 ∷ []) ∷
-    entry.Got (end_h 3) 1 3 (133 ∷ []) ∷
-    entry.Turn (end_h 3) 3 (133 ∷ []) ∷
-    entry.Emit (end_h 3) (193 ∷ []) ∷ []) ∷
-    Entries (entry.Took (end_c 3) (193 ∷ []) ∷
-    entry.Acked (end_c 3) 1 9 ∷ []) ∷
-    Entries (entry.Sent (end_h 3) 1 3 (2 ∷ []) ∷
-    entry.Emit (end_h 3) (145 ∷ 131 ∷ 2 ∷ []) ∷ []) ∷
-    Entries (entry.Took (end_c 3) (145 ∷ 131 ∷ 2 ∷ []) ∷
-    entry.Got (end_c 3) 1 3 (2 ∷ []) ∷
-    entry.Turn (end_c 3) 3 (2 ∷ []) ∷
-    entry.Sent (end_c 3) 1 3 (130 ∷ []) ∷
-    entry.Emit (end_c 3) (195 ∷ []) ∷
-    entry.Emit (end_c 3) (139 ∷ 131 ∷ 130 ∷ []) ∷ []) ∷
-    Entries (entry.Took (end_h 3) (195 ∷ []) ∷
-    entry.Acked (end_h 3) 1 11 ∷
-    entry.Took (end_h 3) (139 ∷ 131 ∷ 130 ∷ []) ∷
-    entry.Got (end_h 3) 1 3 (130 ∷ []) ∷
-    entry.Turn (end_h 3) 3 (130 ∷ []) ∷
-    entry.Emit (end_h 3) (194 ∷ []) ∷ []) ∷
-    Entries (entry.Took (end_c 3) (194 ∷ []) ∷
-    entry.Acked (end_c 3) 1 10 ∷ []) ∷
-    Entries (entry.Sent (end_h 3) 1 3 (1 ∷ 4 ∷ 18 ∷ []) ∷
-    entry.Emit (end_h 3) (154 ∷ 131 ∷ 1 ∷ 4 ∷ 18 ∷ []) ∷ []) ∷
-    Entries (entry.Took (end_c 3) (154 ∷ 131 ∷ 1 ∷ 4 ∷ 18 ∷ []) ∷
-    entry.Got (end_c 3) 1 3 (1 ∷ 4 ∷ 18 ∷ []) ∷
-    entry.Turn (end_c 3) 3 (1 ∷ 4 ∷ 18 ∷ []) ∷
-    entry.Sent (end_c 3) 1 3 (138 ∷ []) ∷
-    entry.Emit (end_c 3) (196 ∷ []) ∷
-    entry.Emit (end_c 3) (148 ∷ 131 ∷ 138 ∷ []) ∷ []) ∷
-    Entries (entry.Took (end_h 3) (196 ∷ []) ∷
-    entry.Acked (end_h 3) 1 12 ∷
-    entry.Took (end_h 3) (148 ∷ 131 ∷ 138 ∷ []) ∷
-    entry.Got (end_h 3) 1 3 (138 ∷ []) ∷
-    entry.Turn (end_h 3) 3 (138 ∷ []) ∷
-    entry.Emit (end_h 3) (195 ∷ []) ∷ []) ∷
-    Entries (entry.Took (end_c 3) (195 ∷ []) ∷
-    entry.Acked (end_c 3) 1 11 ∷ []) ∷
-    Entries (entry.Sent (end_h 3) 1 3 (1 ∷ 7 ∷ []) ∷
-    entry.Emit (end_h 3) (163 ∷ 131 ∷ 1 ∷ 7 ∷ []) ∷ []) ∷
-    Entries (entry.Took (end_c 3) (163 ∷ 131 ∷ 1 ∷ 7 ∷ []) ∷
-    entry.Got (end_c 3) 1 3 (1 ∷ 7 ∷ []) ∷
-    entry.Turn (end_c 3) 3 (1 ∷ 7 ∷ []) ∷
-    entry.Sent (end_c 3) 1 3 (133 ∷ []) ∷
-    entry.Emit (end_c 3) (197 ∷ []) ∷
-    entry.Emit (end_c 3) (157 ∷ 131 ∷ 133 ∷ []) ∷ []) ∷
-    Entries (entry.Took (end_h 3) (197 ∷ []) ∷
-    entry.Acked (end_h 3) 1 13 ∷
-    entry.Took (end_h 3) (157 ∷ 131 ∷ 133 ∷ []) ∷
-    entry.Got (end_h 3) 1 3 (133 ∷ []) ∷
-    entry.Turn (end_h 3) 3 (133 ∷ []) ∷
-    entry.Emit (end_h 3) (196 ∷ []) ∷ []) ∷
-    Entries (entry.Took (end_c 3) (196 ∷ []) ∷
-    entry.Acked (end_c 3) 1 12 ∷ []) ∷
-    Entries (entry.Sent (end_h 3) 1 4 (2 ∷ 4 ∷ []) ∷
-    entry.Emit (end_h 3) (172 ∷ 132 ∷ 2 ∷ 4 ∷ []) ∷ []) ∷
-    Entries (entry.Took (end_c 3) (172 ∷ 132 ∷ 2 ∷ 4 ∷ []) ∷
-    entry.Got (end_c 3) 1 4 (2 ∷ 4 ∷ []) ∷
-    entry.Turn (end_c 3) 4 (2 ∷ 4 ∷ []) ∷
-    entry.Sent (end_c 3) 1 4 (134 ∷ []) ∷
-    entry.Emit (end_c 3) (198 ∷ []) ∷
-    entry.Emit (end_c 3) (166 ∷ 132 ∷ 134 ∷ []) ∷ []) ∷
-    Entries (entry.Took (end_h 3) (198 ∷ []) ∷
-    entry.Acked (end_h 3) 1 14 ∷
-    entry.Took (end_h 3) (166 ∷ 132 ∷ 134 ∷ []) ∷
-    entry.Got (end_h 3) 1 4 (134 ∷ []) ∷
-    entry.Turn (end_h 3) 4 (134 ∷ []) ∷
-    entry.Emit (end_h 3) (197 ∷ []) ∷ []) ∷
-    Entries (entry.Took (end_c 3) (197 ∷ []) ∷
-    entry.Acked (end_c 3) 1 13 ∷ []) ∷
-    TablesOf 0 (record {
-      rows = ((record { pid = 2; creator = 2; creator_gate = 65; dest = 1; dest_gate = 65; opened = false }) ∷
-          (record { pid = 3; creator = 3; creator_gate = 32; dest = 0; dest_gate = 5; opened = true }) ∷
-          (record { pid = 4; creator = 3; creator_gate = 32; dest = 0; dest_gate = 4; opened = false }) ∷
-          []);
-      statics = ((1, 1) ∷ (2, 1) ∷ (3, 1) ∷ []);
-      values = ((record { host = 1; gate = 0; param = 3; value = record { items = (2 ∷ []) } }) ∷
-          []);
-      syncs = ((1, 1) ∷ (2, 2) ∷ (3, 3) ∷ []);
-    }) ∷
-    []
-unfolding found_from hosts_where lowest_free
+order_again : told_text (
+    "swp 1 hci 01 02 03\nboot 00\nboot 01\nboot 02\nboot 03\n" ∷
+    host_begins "01" ++ host_begins "02" ++
+    "send 02h 01 10410341\ndeliver 02c\ndeliver 02h\ndeliver 02c\nactivate 03 0003 01\ndeliver 03c\ndeliver 03h\ndeliver 03c\nreset 03c\ndeliver 03h\n" ∷
+    "deliver 03c\nsend 02h 01 10410341\ndeliver 02c\ndeliver 02h\ndeliver 02c\nsend 03h 01 03\ndeliver 03c\ndeliver 03h\ndeliver 03c\nsend 02h 01 10410341\n" ∷
+    "deliver 02c\ndeliver 02h\ndeliver 02c\nsend 01h 01 010302\ndeliver 01c\ndeliver 01h\ndeliver 01c\nsend 02h 01 10410141\ndeliver 02c\ndeliver 02h\n" ∷
+    "send 03h 01 10410141\ndeliver 03c\ndeliver 03h\ndeliver 03c\nsend 02h 01 80\ndeliver 02c\nsend 03h 01 80\ndeliver 03c\ndeliver 03h\ndeliver 01h\n" ∷
+    "deliver 01c\ndeliver 02h\ndeliver 02c\ndeliver 01h\nsend 02h 02 04\ndeliver 02c\ndeliver 02h\ndeliver 02c\nsend 02h 02 03\ndeliver 02c\ndeliver 02h\n" ∷
+    "deliver 02c\nsend 02h 02 03\ndeliver 02c\ndeliver 02h\ndeliver 02c\nsend 02h 02 04\ndeliver 02c\ndeliver 02h\ndeliver 02c\nsend 03h 01 10200005\n" ∷
+    "deliver 03c\ndeliver 03h\ndeliver 03c\nsend 03h 01 10200004\ndeliver 03c\ndeliver 03h\ndeliver 03c\nsend 03h 01 10200006\ndeliver 03c\ndeliver 03h\n" ∷
+    "deliver 03c\nsend 03h 03 03\ndeliver 03c\ndeliver 03h\ndeliver 03c\nsend 03h 03 0204\ndeliver 03c\ndeliver 03h\ndeliver 03c\nsend 03h 03 0206\n" ∷
+    "deliver 03c\ndeliver 03h\ndeliver 03c\nsend 03h 03 0207\ndeliver 03c\ndeliver 03h\ndeliver 03c\nsend 03h 03 02\ndeliver 03c\ndeliver 03h\ndeliver 03c\n" ∷
+    "send 03h 03 010412\ndeliver 03c\ndeliver 03h\ndeliver 03c\nsend 03h 03 0107\ndeliver 03c\ndeliver 03h\ndeliver 03c\nsend 03h 04 0204\ndeliver 03c\n" ∷
+    "deliver 03h\ndeliver 03c\ntables 00\n" ∷
+    []) ≡ text (
+    "> swp 1 hci 01 02 03\n> boot 00\nbooted 00 0\n> boot 01\nbooted 01 0\n> boot 02\nbooted 02 0\n> boot 03\nbooted 03 0\n" ∷
+    host_begins_told "01" "2" ++ host_begins_told "02" "4" ++
+    "> send 02h 01 10410341\nsent 02h 1 01 10410341\nemit 02h 898110410341\n" ∷
+    "> deliver 02c\ntook 02c 898110410341\ngot 02c 1 01 10410341\nturn 02c 01 10410341\nsent 02c 1 01 81\nemit 02c C2\nemit 02c 8A8181\n" ∷
+    "> deliver 02h\ntook 02h C2\nacked 02h 1 2\ntook 02h 8A8181\ngot 02h 1 01 81\nturn 02h 01 81\nemit 02h C2\n" ∷
+    "> deliver 02c\ntook 02c C2\nacked 02c 1 2\n" ∷
+    "> activate 03 0003 01\nemit 03h 610003\n" ∷
+    "> deliver 03c\ntook 03c 610003\ncommand 00 sync 03 0003\nemit 03c 6201\n" ∷
+    "> deliver 03h\ntook 03h 6201\nactive 03h\nemit 03h 60\n" ∷
+    "> deliver 03c\ntook 03c 60\nactive 03c\n" ∷
+    "> reset 03c\nemit 03c F90400\n" ∷
+    "> deliver 03h\ntook 03h F90400\nup 03h 1\nemit 03h E6\n" ∷
+    "> deliver 03c\ntook 03c E6\nup 03c 1\n" ∷
+    "> send 02h 01 10410341\nsent 02h 1 01 10410341\nemit 02h 928110410341\n" ∷
+    "> deliver 02c\ntook 02c 928110410341\ngot 02c 1 01 10410341\nturn 02c 01 10410341\nsent 02c 1 01 81\nemit 02c C3\nemit 02c 938181\n" ∷
+    "> deliver 02h\ntook 02h C3\nacked 02h 1 3\ntook 02h 938181\ngot 02h 1 01 81\nturn 02h 01 81\nemit 02h C3\n" ∷
+    "> deliver 02c\ntook 02c C3\nacked 02c 1 3\n" ∷
+    "> send 03h 01 03\nsent 03h 1 01 03\nemit 03h 808103\n" ∷
+    "> deliver 03c\ntook 03c 808103\ngot 03c 1 01 03\nturn 03c 01 03\ncommand 00 opened 03 01 01\nsent 03c 1 01 8000\nok 00 6\nemit 03c C1\n" ∷
+    "emit 03c 81818000\n" ∷
+    "> deliver 03h\ntook 03h C1\nacked 03h 1 1\ntook 03h 81818000\ngot 03h 1 01 8000\nturn 03h 01 8000\nemit 03h C1\n" ∷
+    "> deliver 03c\ntook 03c C1\nacked 03c 1 1\n" ∷
+    "> send 02h 01 10410341\nsent 02h 1 01 10410341\nemit 02h 9B8110410341\n" ∷
+    "> deliver 02c\ntook 02c 9B8110410341\ngot 02c 1 01 10410341\nturn 02c 01 10410341\nsent 02c 1 01 8B\nemit 02c C4\nemit 02c 9C818B\n" ∷
+    "> deliver 02h\ntook 02h C4\nacked 02h 1 4\ntook 02h 9C818B\ngot 02h 1 01 8B\nturn 02h 01 8B\nemit 02h C4\n" ∷
+    "> deliver 02c\ntook 02c C4\nacked 02c 1 4\n" ∷
+    "> send 01h 01 010302\nsent 01h 1 01 010302\nemit 01h 8981010302\n" ∷
+    "> deliver 01c\ntook 01c 8981010302\ngot 01c 1 01 010302\nturn 01c 01 010302\ncommand 00 set 01 00 03 02\nsent 01c 1 01 80\nok 00 7\nemit 01c C2\n" ∷
+    "emit 01c 8A8180\n" ∷
+    "> deliver 01h\ntook 01h C2\nacked 01h 1 2\ntook 01h 8A8180\ngot 01h 1 01 80\nturn 01h 01 80\nemit 01h C2\n" ∷
+    "> deliver 01c\ntook 01c C2\nacked 01c 1 2\n" ∷
+    "> send 02h 01 10410141\nsent 02h 1 01 10410141\nemit 02h A48110410141\n" ∷
+    "> deliver 02c\ntook 02c A48110410141\ngot 02c 1 01 10410141\nturn 02c 01 10410141\nask 01 120241014102\nsent 01c 1 01 120241014102\n" ∷
+    "emit 01c 9281120241014102\nemit 02c C5\n" ∷
+    "> deliver 02h\ntook 02h C5\nacked 02h 1 5\n" ∷
+    "> send 03h 01 10410141\nsent 03h 1 01 10410141\nemit 03h 898110410141\n" ∷
+    "> deliver 03c\ntook 03c 898110410141\ngot 03c 1 01 10410141\nturn 03c 01 10410141\nsent 03c 1 01 8B\nemit 03c C2\nemit 03c 8A818B\n" ∷
+    "> deliver 03h\ntook 03h C2\nacked 03h 1 2\ntook 03h 8A818B\ngot 03h 1 01 8B\nturn 03h 01 8B\nemit 03h C2\n" ∷
+    "> deliver 03c\ntook 03c C2\nacked 03c 1 2\n" ∷
+    "> send 02h 01 80\nsent 02h 1 01 80\nemit 02h AC8180\n" ∷
+    "> deliver 02c\ntook 02c AC8180\ngot 02c 1 01 80\nturn 02c 01 80\ndrop 02c 01\nemit 02c C6\n" ∷
+    "> send 03h 01 80\nsent 03h 1 01 80\nemit 03h 928180\n" ∷
+    "> deliver 03c\ntook 03c 928180\ngot 03c 1 01 80\nturn 03c 01 80\ndrop 03c 01\nemit 03c C3\n" ∷
+    "> deliver 03h\ntook 03h C3\nacked 03h 1 3\n" ∷
+    "> deliver 01h\ntook 01h 9281120241014102\ngot 01h 1 01 120241014102\nturn 01h 01 120241014102\ncommand 01 create 02 02 41 01 41\nsent 01h 1 01 80\n" ∷
+    "ok 01 1\nemit 01h C3\nemit 01h 938180\n" ∷
+    "> deliver 01c\ntook 01c C3\nacked 01c 1 3\ntook 01c 938180\ngot 01c 1 01 80\nturn 01c 01 80\ncommand 00 create 02 02 41 01 41\n" ∷
+    "sent 02c 1 01 800241014102\nok 00 8\nemit 01c C3\nemit 02c A681800241014102\n" ∷
+    "> deliver 02h\ntook 02h C6\nacked 02h 1 6\ntook 02h A681800241014102\ngot 02h 1 01 800241014102\nturn 02h 01 800241014102\n" ∷
+    "command 02 create 02 02 41 01 41\nemit 02h C5\n" ∷
+    "> deliver 02c\ntook 02c C5\nacked 02c 1 5\n" ∷
+    "> deliver 01h\ntook 01h C3\nacked 01h 1 3\n" ∷
+    "> send 02h 02 04\nsent 02h 1 02 04\nemit 02h B58204\n" ∷
+    "> deliver 02c\ntook 02c B58204\ngot 02c 1 02 04\nturn 02c 02 04\nsent 02c 1 02 86\nemit 02c C7\nemit 02c AF8286\n" ∷
+    "> deliver 02h\ntook 02h C7\nacked 02h 1 7\ntook 02h AF8286\ngot 02h 1 02 86\nturn 02h 02 86\nemit 02h C6\n" ∷
+    "> deliver 02c\ntook 02c C6\nacked 02c 1 6\n" ∷
+    "> send 02h 02 03\nsent 02h 1 02 03\nemit 02h BE8203\n" ∷
+    "> deliver 02c\ntook 02c BE8203\ngot 02c 1 02 03\nturn 02c 02 03\ncommand 00 opened 02 02 01\nsent 02c 1 02 8000\nok 00 9\nemit 02c C0\n" ∷
+    "emit 02c B0828000\n" ∷
+    "> deliver 02h\ntook 02h C0\nacked 02h 1 8\ntook 02h B0828000\ngot 02h 1 02 8000\nturn 02h 02 8000\nemit 02h C7\n" ∷
+    "> deliver 02c\ntook 02c C7\nacked 02c 1 7\n" ∷
+    "> send 02h 02 03\nsent 02h 1 02 03\nemit 02h 878203\n" ∷
+    "> deliver 02c\ntook 02c 878203\ngot 02c 1 02 03\nturn 02c 02 03\nsent 02c 1 02 8000\nemit 02c C1\nemit 02c B9828000\n" ∷
+    "> deliver 02h\ntook 02h C1\nacked 02h 1 9\ntook 02h B9828000\ngot 02h 1 02 8000\nturn 02h 02 8000\nemit 02h C0\n" ∷
+    "> deliver 02c\ntook 02c C0\nacked 02c 1 8\n" ∷
+    "> send 02h 02 04\nsent 02h 1 02 04\nemit 02h 888204\n" ∷
+    "> deliver 02c\ntook 02c 888204\ngot 02c 1 02 04\nturn 02c 02 04\ncommand 00 opened 02 02 00\nsent 02c 1 02 80\nok 00 10\nemit 02c C2\nemit 02c 828280\n" ∷
+    "> deliver 02h\ntook 02h C2\nacked 02h 1 10\ntook 02h 828280\ngot 02h 1 02 80\nturn 02h 02 80\nemit 02h C1\n" ∷
+    "> deliver 02c\ntook 02c C1\nacked 02c 1 9\n" ∷
+    "> send 03h 01 10200005\nsent 03h 1 01 10200005\nemit 03h 9A8110200005\n" ∷
+    "> deliver 03c\ntook 03c 9A8110200005\ngot 03c 1 01 10200005\nturn 03c 01 10200005\ncommand 00 create 03 03 20 00 05\nsent 03c 1 01 800320000503\n" ∷
+    "ok 00 11\nemit 03c C4\nemit 03c 9481800320000503\n" ∷
+    "> deliver 03h\ntook 03h C4\nacked 03h 1 4\ntook 03h 9481800320000503\ngot 03h 1 01 800320000503\nturn 03h 01 800320000503\n" ∷
+    "command 03 create 03 03 20 00 05\nemit 03h C3\n" ∷
+    "> deliver 03c\ntook 03c C3\nacked 03c 1 3\n" ∷
+    "> send 03h 01 10200004\nsent 03h 1 01 10200004\nemit 03h A38110200004\n" ∷
+    "> deliver 03c\ntook 03c A38110200004\ngot 03c 1 01 10200004\nturn 03c 01 10200004\ncommand 00 create 04 03 20 00 04\nsent 03c 1 01 800320000404\n" ∷
+    "ok 00 12\nemit 03c C5\nemit 03c 9D81800320000404\n" ∷
+    "> deliver 03h\ntook 03h C5\nacked 03h 1 5\ntook 03h 9D81800320000404\ngot 03h 1 01 800320000404\nturn 03h 01 800320000404\n" ∷
+    "command 03 create 04 03 20 00 04\nemit 03h C4\n" ∷
+    "> deliver 03c\ntook 03c C4\nacked 03c 1 4\n" ∷
+    "> send 03h 01 10200006\nsent 03h 1 01 10200006\nemit 03h AC8110200006\n" ∷
+    "> deliver 03c\ntook 03c AC8110200006\ngot 03c 1 01 10200006\nturn 03c 01 10200006\nsent 03c 1 01 83\nemit 03c C6\nemit 03c A68183\n" ∷
+    "> deliver 03h\ntook 03h C6\nacked 03h 1 6\ntook 03h A68183\ngot 03h 1 01 83\nturn 03h 01 83\nemit 03h C5\n" ∷
+    "> deliver 03c\ntook 03c C5\nacked 03c 1 5\n" ∷
+    "> send 03h 03 03\nsent 03h 1 03 03\nemit 03h B58303\n" ∷
+    "> deliver 03c\ntook 03c B58303\ngot 03c 1 03 03\nturn 03c 03 03\ncommand 00 opened 03 03 01\nsent 03c 1 03 8000\nok 00 13\nemit 03c C7\n" ∷
+    "emit 03c AF838000\n" ∷
+    "> deliver 03h\ntook 03h C7\nacked 03h 1 7\ntook 03h AF838000\ngot 03h 1 03 8000\nturn 03h 03 8000\nemit 03h C6\n" ∷
+    "> deliver 03c\ntook 03c C6\nacked 03c 1 6\n" ∷
+    "> send 03h 03 0204\nsent 03h 1 03 0204\nemit 03h BE830204\n" ∷
+    "> deliver 03c\ntook 03c BE830204\ngot 03c 1 03 0204\nturn 03c 03 0204\nsent 03c 1 03 8053575020484349\nemit 03c C0\nemit 03c B0838053575020484349\n" ∷
+    "> deliver 03h\ntook 03h C0\nacked 03h 1 8\ntook 03h B0838053575020484349\ngot 03h 1 03 8053575020484349\nturn 03h 03 8053575020484349\nemit 03h C7\n" ∷
+    "> deliver 03c\ntook 03c C7\nacked 03c 1 7\n" ∷
+    "> send 03h 03 0206\nsent 03h 1 03 0206\nemit 03h 87830206\n" ∷
+    "> deliver 03c\ntook 03c 87830206\ngot 03c 1 03 0206\nturn 03c 03 0206\nsent 03c 1 03 800405\nemit 03c C1\nemit 03c B983800405\n" ∷
+    "> deliver 03h\ntook 03h C1\nacked 03h 1 9\ntook 03h B983800405\ngot 03h 1 03 800405\nturn 03h 03 800405\nemit 03h C0\n" ∷
+    "> deliver 03c\ntook 03c C0\nacked 03c 1 8\n" ∷
+    "> send 03h 03 0207\nsent 03h 1 03 0207\nemit 03h 88830207\n" ∷
+    "> deliver 03c\ntook 03c 88830207\ngot 03c 1 03 0207\nturn 03c 03 0207\nsent 03c 1 03 85\nemit 03c C2\nemit 03c 828385\n" ∷
+    "> deliver 03h\ntook 03h C2\nacked 03h 1 10\ntook 03h 828385\ngot 03h 1 03 85\nturn 03h 03 85\nemit 03h C1\n" ∷
+    "> deliver 03c\ntook 03c C1\nacked 03c 1 9\n" ∷
+    "> send 03h 03 02\nsent 03h 1 03 02\nemit 03h 918302\n" ∷
+    "> deliver 03c\ntook 03c 918302\ngot 03c 1 03 02\nturn 03c 03 02\nsent 03c 1 03 82\nemit 03c C3\nemit 03c 8B8382\n" ∷
+    "> deliver 03h\ntook 03h C3\nacked 03h 1 11\ntook 03h 8B8382\ngot 03h 1 03 82\nturn 03h 03 82\nemit 03h C2\n" ∷
+    "> deliver 03c\ntook 03c C2\nacked 03c 1 10\n" ∷
+    "> send 03h 03 010412\nsent 03h 1 03 010412\nemit 03h 9A83010412\n" ∷
+    "> deliver 03c\ntook 03c 9A83010412\ngot 03c 1 03 010412\nturn 03c 03 010412\nsent 03c 1 03 8A\nemit 03c C4\nemit 03c 94838A\n" ∷
+    "> deliver 03h\ntook 03h C4\nacked 03h 1 12\ntook 03h 94838A\ngot 03h 1 03 8A\nturn 03h 03 8A\nemit 03h C3\n" ∷
+    "> deliver 03c\ntook 03c C3\nacked 03c 1 11\n" ∷
+    "> send 03h 03 0107\nsent 03h 1 03 0107\nemit 03h A3830107\n" ∷
+    "> deliver 03c\ntook 03c A3830107\ngot 03c 1 03 0107\nturn 03c 03 0107\nsent 03c 1 03 85\nemit 03c C5\nemit 03c 9D8385\n" ∷
+    "> deliver 03h\ntook 03h C5\nacked 03h 1 13\ntook 03h 9D8385\ngot 03h 1 03 85\nturn 03h 03 85\nemit 03h C4\n" ∷
+    "> deliver 03c\ntook 03c C4\nacked 03c 1 12\n" ∷
+    "> send 03h 04 0204\nsent 03h 1 04 0204\nemit 03h AC840204\n" ∷
+    "> deliver 03c\ntook 03c AC840204\ngot 03c 1 04 0204\nturn 03c 04 0204\nsent 03c 1 04 86\nemit 03c C6\nemit 03c A68486\n" ∷
+    "> deliver 03h\ntook 03h C6\nacked 03h 1 14\ntook 03h A68486\ngot 03h 1 04 86\nturn 03h 04 86\nemit 03h C5\n" ∷
+    "> deliver 03c\ntook 03c C5\nacked 03c 1 13\n" ∷
+    "> tables 00\ntables 00 3 3 1 3\npipe 02 02 41 01 41 closed\npipe 03 03 20 00 05 opened\npipe 04 03 20 00 04 closed\nstatic 01 01\nstatic 02 01\n" ∷
+    "static 03 01\nreg 01 00 03 02\nsync 01 0001\nsync 02 0002\nsync 03 0003\n" ∷
+    [])
+unfolding found_from hosts_where lowest_free encode_with decode_pairs digits
 order_again = refl

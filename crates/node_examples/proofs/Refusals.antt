@@ -1,133 +1,63 @@
 -- Refusals in their order.
-use Rattle.std.proofs.Common.{◌≡◌, refl, List, [], ◌∷◌, ◌++◌, Some, None}
+use Rattle.std.proofs.Common.{◌≡◌, refl, [], ◌∷◌, ◌++◌}
 use Rattle.std.specs.Prelude.{replicate}
-use Rattle.swp_base.specs.declared.link_terms.Cause.TheVariants as cause
-use Rattle.trace_model.specs.declared.entry.LostCause.TheVariants as lost
-use Rattle.trace_model.specs.declared.entry.NoCause.TheVariants as no
-use Rattle.trace_model.specs.declared.entry.Entry.TheVariants as entry
-use Rattle.trace_model.specs.declared.line.Line.{Line}
-use Rattle.trace_model.specs.declared.line.Line.TheVariants as line
-use Rattle.hci_tables.specs.declared.command.Command.TheVariants as command
-use Rattle.node_machine.specs.world.World.{new_world, end_c, end_h}
-use Rattle.node_machine.specs.world.Lines.{noted_lines}
-use Rattle.node_machine.specs.world.Lines.NotedBelow.{Entries, TablesOf}
-use Rattle.journal_laws.specs.Records.{found_from}
-use Rattle.gate_admin.specs.View.{hosts_where}
-use Rattle.pipe_table.specs.PipeRows.{lowest_free}
-use Rattle.swp_base.specs.Bits.{bits_of_byte}
+use Rattle.node_examples.specs.Told.{told_text, text, found_from, hosts_where, lowest_free, encode_with, decode_pairs, digits, bits_of_byte}
 
-abbrev pub refusals_lines : List Line
-refusals_lines =
-    line.Activate 1 1 1 ∷
-    line.Boot 1 ∷
-    line.Activate 1 1 1 ∷
-    line.Boot 0 ∷
-    line.Boot 0 ∷
-    line.Cut 2 ∷
-    line.Deliver (end_c 2) None ∷
-    line.Deliver (end_h 2) None ∷
-    line.Tables 2 ∷
-    line.Reset (end_h 2) None ∷
-    line.Init (end_h 2) (1 ∷ 2 ∷ 3 ∷ 4 ∷ 5 ∷ 6 ∷ 7 ∷ 8 ∷ []) (record { items = [] }) ∷
-    line.Boot 2 ∷
-    line.Init (end_h 2) (1 ∷ 2 ∷ 3 ∷ 4 ∷ 5 ∷ 6 ∷ 7 ∷ 8 ∷ []) (record { items = [] }) ∷
-    line.Reset (end_h 2) None ∷
-    line.Send (end_h 2) 1 (3 ∷ []) ∷
-    line.Activate 2 2 1 ∷
-    line.Deliver (end_c 2) None ∷
-    line.Deliver (end_h 2) None ∷
-    line.Deliver (end_c 2) None ∷
-    line.Reset (end_c 2) None ∷
-    line.Deliver (end_h 2) None ∷
-    line.Deliver (end_c 2) None ∷
-    line.Send (end_h 2) 1 (3 ∷ []) ∷
-    line.Send (end_h 2) 1 (3 ∷ []) ∷
-    line.Init (end_h 2) (1 ∷ 2 ∷ 3 ∷ 4 ∷ 5 ∷ 6 ∷ 7 ∷ 8 ∷ []) (record { items = [] }) ∷
-    line.Reset (end_h 2) None ∷
-    line.Reset (end_h 2) None ∷
-    line.Send (end_h 2) 1 (3 ∷ []) ∷
-    line.Lose (end_c 2) ∷
-    line.Lose (end_c 2) ∷
-    line.Deliver (end_h 2) None ∷
-    line.Tick (Some 10) ∷
-    line.Damage (end_c 2) (record { items = (399 ∷ []) }) ∷
-    line.Deliver (end_c 2) None ∷
-    line.Deliver (end_h 2) None ∷
-    line.Send (end_h 2) 3 (replicate 4097 66) ∷
-    line.Send (end_h 2) 3 (replicate 4096 66) ∷
-    line.Send (end_h 2) 3 (66 ∷ 0 ∷ []) ∷
-    line.Tables 1 ∷
-    line.Arm 1 1 (record { items = (0 ∷ []) }) ∷
-    line.Cut 1 ∷
-    line.Cut 1 ∷
-    []
-
-refusals : noted_lines (new_world (1 ∷ 2 ∷ [])) refusals_lines ≡
-    Entries (entry.No no.Off ∷ []) ∷
-    Entries (entry.Booted 1 0 ∷ []) ∷
-    Entries (entry.No no.Off ∷ []) ∷
-    Entries (entry.Booted 0 0 ∷ []) ∷
-    Entries (entry.No no.Running ∷ []) ∷
-    Entries (entry.No no.Off ∷ []) ∷
-    Entries (entry.No no.Empty ∷ []) ∷
-    Entries (entry.No no.Off ∷ []) ∷
-    Entries (entry.No no.Off ∷ []) ∷
-    Entries (entry.No no.Off ∷ []) ∷
-    Entries (entry.No no.Off ∷ []) ∷
-    Entries (entry.Booted 2 0 ∷ []) ∷
-    Entries (entry.No no.NotUp ∷ []) ∷
-    Entries (entry.No no.Inactive ∷ []) ∷
-    Entries (entry.No no.NotUp ∷ []) ∷
-    Entries (entry.Emit (end_h 2) (97 ∷ 0 ∷ 2 ∷ []) ∷ []) ∷
-    Entries (entry.Took (end_c 2) (97 ∷ 0 ∷ 2 ∷ []) ∷
-    entry.Command 0 (command.Sync 2 2) ∷
-    entry.Emit (end_c 2) (98 ∷ 1 ∷ []) ∷ []) ∷
-    Entries (entry.Took (end_h 2) (98 ∷ 1 ∷ []) ∷
-    entry.Active (end_h 2) ∷
-    entry.Emit (end_h 2) (96 ∷ []) ∷ []) ∷
-    Entries (entry.Took (end_c 2) (96 ∷ []) ∷
-    entry.Active (end_c 2) ∷ []) ∷
-    Entries (entry.Emit (end_c 2) (249 ∷ 4 ∷ 0 ∷ []) ∷ []) ∷
-    Entries (entry.Took (end_h 2) (249 ∷ 4 ∷ 0 ∷ []) ∷
-    entry.Up (end_h 2) 1 ∷
-    entry.Emit (end_h 2) (230 ∷ []) ∷ []) ∷
-    Entries (entry.Took (end_c 2) (230 ∷ []) ∷
-    entry.Up (end_c 2) 1 ∷ []) ∷
-    Entries (entry.Sent (end_h 2) 1 1 (3 ∷ []) ∷
-    entry.Emit (end_h 2) (128 ∷ 129 ∷ 3 ∷ []) ∷ []) ∷
-    Entries (entry.No no.Waiting ∷ []) ∷
-    Entries (entry.No no.Waiting ∷ []) ∷
-    Entries (entry.Down (end_h 2) cause.Asked ∷
-    entry.Emit (end_h 2) (249 ∷ 4 ∷ 0 ∷ []) ∷ []) ∷
-    Entries (entry.No no.Waiting ∷ []) ∷
-    Entries (entry.No no.NotUp ∷ []) ∷
-    Entries (entry.Lost (end_c 2) (128 ∷ 129 ∷ 3 ∷ []) lost.Asked ∷ []) ∷
-    Entries (entry.Lost (end_c 2) (249 ∷ 4 ∷ 0 ∷ []) lost.Asked ∷ []) ∷
-    Entries (entry.No no.Empty ∷ []) ∷
-    Entries (entry.Emit (end_h 2) (249 ∷ 4 ∷ 0 ∷ []) ∷ []) ∷
-    Entries (entry.No (no.Beyond 57) ∷ []) ∷
-    Entries (entry.Took (end_c 2) (249 ∷ 4 ∷ 0 ∷ []) ∷
-    entry.Down (end_c 2) cause.Peer ∷
-    entry.Up (end_c 2) 3 ∷
-    entry.Emit (end_c 2) (230 ∷ []) ∷ []) ∷
-    Entries (entry.Took (end_h 2) (230 ∷ []) ∷
-    entry.Up (end_h 2) 3 ∷ []) ∷
-    Entries (entry.No no.TooLong ∷ []) ∷
-    Entries (entry.Sent (end_h 2) 3 3 (replicate 4096 66) ∷
-    entry.Emit (end_h 2) ((128 ∷ 3 ∷ []) ++ replicate 28 66) ∷
-    entry.Emit (end_h 2) ((136 ∷ 3 ∷ []) ++ replicate 28 66) ∷
-    entry.Emit (end_h 2) ((144 ∷ 3 ∷ []) ++ replicate 28 66) ∷
-    entry.Emit (end_h 2) ((152 ∷ 3 ∷ []) ++ replicate 28 66) ∷ []) ∷
-    Entries (entry.No (no.Full 1 0) ∷ []) ∷
-    TablesOf 1 (record {
-      rows = [];
-      statics = [];
-      values = [];
-      syncs = [];
-    }) ∷
-    Entries [] ∷
-    Entries (entry.Cut 1 ∷ []) ∷
-    Entries (entry.No no.Off ∷ []) ∷
-    []
-unfolding found_from hosts_where lowest_free bits_of_byte
+refusals : told_text (
+    "swp 1 hci 01 02\nactivate 01 0001 01\nboot 01\nactivate 01 0001 01\nboot 00\nboot 00\ncut 02\ndeliver 02c\ndeliver 02h\ntables 02\nreset 02h\n" ∷
+    "init 02h 0102030405060708\nboot 02\ninit 02h 0102030405060708\nreset 02h\nsend 02h 01 03\nactivate 02 0002 01\ndeliver 02c\ndeliver 02h\ndeliver 02c\n" ∷
+    "reset 02c\ndeliver 02h\ndeliver 02c\nsend 02h 01 03\nsend 02h 01 03\ninit 02h 0102030405060708\nreset 02h\nreset 02h\nsend 02h 01 03\nlose 02c\n" ∷
+    "lose 02c\ndeliver 02h\ntick 10\ndamage 02c 399\ndeliver 02c\ndeliver 02h\nsend 02h 03 " ∷ replicate 4097 "42" ++
+    "\nsend 02h 03 " ∷ replicate 4096 "42" ++
+    "\nsend 02h 03 4200\ntables 01\narm 01 1 00\ncut 01\ncut 01\n" ∷
+    []) ≡ text (
+    "> swp 1 hci 01 02\n" ∷
+    "> activate 01 0001 01\nno off\n" ∷
+    "> boot 01\nbooted 01 0\n" ∷
+    "> activate 01 0001 01\nno off\n" ∷
+    "> boot 00\nbooted 00 0\n" ∷
+    "> boot 00\nno running\n" ∷
+    "> cut 02\nno off\n" ∷
+    "> deliver 02c\nno empty\n" ∷
+    "> deliver 02h\nno off\n" ∷
+    "> tables 02\nno off\n" ∷
+    "> reset 02h\nno off\n" ∷
+    "> init 02h 0102030405060708\nno off\n" ∷
+    "> boot 02\nbooted 02 0\n" ∷
+    "> init 02h 0102030405060708\nno not-up\n" ∷
+    "> reset 02h\nno inactive\n" ∷
+    "> send 02h 01 03\nno not-up\n" ∷
+    "> activate 02 0002 01\nemit 02h 610002\n" ∷
+    "> deliver 02c\ntook 02c 610002\ncommand 00 sync 02 0002\nemit 02c 6201\n" ∷
+    "> deliver 02h\ntook 02h 6201\nactive 02h\nemit 02h 60\n" ∷
+    "> deliver 02c\ntook 02c 60\nactive 02c\n" ∷
+    "> reset 02c\nemit 02c F90400\n" ∷
+    "> deliver 02h\ntook 02h F90400\nup 02h 1\nemit 02h E6\n" ∷
+    "> deliver 02c\ntook 02c E6\nup 02c 1\n" ∷
+    "> send 02h 01 03\nsent 02h 1 01 03\nemit 02h 808103\n" ∷
+    "> send 02h 01 03\nno waiting\n" ∷
+    "> init 02h 0102030405060708\nno waiting\n" ∷
+    "> reset 02h\ndown 02h asked\nemit 02h F90400\n" ∷
+    "> reset 02h\nno waiting\n" ∷
+    "> send 02h 01 03\nno not-up\n" ∷
+    "> lose 02c\nlost 02c 808103 asked\n" ∷
+    "> lose 02c\nlost 02c F90400 asked\n" ∷
+    "> deliver 02h\nno empty\n" ∷
+    "> tick 10\nemit 02h F90400\n" ∷
+    "> damage 02c 399\nno beyond 57\n" ∷
+    "> deliver 02c\ntook 02c F90400\ndown 02c peer\nup 02c 3\nemit 02c E6\n" ∷
+    "> deliver 02h\ntook 02h E6\nup 02h 3\n" ∷
+    "> send 02h 03 " ∷ replicate 4097 "42" ++
+    "\nno too-long\n" ∷
+    "> send 02h 03 " ∷ replicate 4096 "42" ++
+    "\nsent 02h 3 03 " ∷ replicate 4096 "42" ++
+    "\nemit 02h 800342424242424242424242424242424242424242424242424242424242\nemit 02h 880342424242424242424242424242424242424242424242424242424242\n" ∷
+    "emit 02h 900342424242424242424242424242424242424242424242424242424242\nemit 02h 980342424242424242424242424242424242424242424242424242424242\n" ∷
+    "> send 02h 03 4200\nno full 1 0\n" ∷
+    "> tables 01\ntables 01 0 0 0 0\n" ∷
+    "> arm 01 1 00\n" ∷
+    "> cut 01\ncut 01\n" ∷
+    "> cut 01\nno off\n" ∷
+    [])
+unfolding found_from hosts_where lowest_free encode_with decode_pairs digits bits_of_byte
 refusals = refl

@@ -1,412 +1,89 @@
 -- A host is told of the deletion of a pipe that it does not know; gates that it takes; a command that waits, and is too long.
-use Rattle.std.proofs.Common.{◌≡◌, refl, List, [], ◌∷◌, ◌++◌, None}
-use Rattle.std.specs.Prelude.{true, false, replicate}
-use Rattle.swp_base.specs.declared.link_terms.Cause.TheVariants as cause
-use Rattle.trace_model.specs.declared.entry.NoCause.TheVariants as no
-use Rattle.trace_model.specs.declared.entry.Entry.TheVariants as entry
-use Rattle.trace_model.specs.declared.line.Line.{Line}
-use Rattle.trace_model.specs.declared.line.Line.TheVariants as line
-use Rattle.hci_tables.specs.declared.command.Command.TheVariants as command
-use Rattle.node_machine.specs.world.World.{new_world, end_c, end_h}
-use Rattle.node_machine.specs.world.Lines.{noted_lines}
-use Rattle.node_machine.specs.world.Lines.NotedBelow.{Entries, TablesOf}
-use Rattle.journal_laws.specs.Records.{found_from}
-use Rattle.gate_admin.specs.View.{hosts_where}
-use Rattle.pipe_table.specs.PipeRows.{lowest_free}
+use Rattle.std.proofs.Common.{◌≡◌, refl, [], ◌∷◌, ◌++◌}
+use Rattle.std.specs.Prelude.{replicate}
+use Rattle.node_examples.specs.Openings.{host_begins, host_begins_told}
+use Rattle.node_examples.specs.Told.{told_text, text, found_from, hosts_where, lowest_free, encode_with, decode_pairs, digits}
 
-abbrev pub unknown_pipe_lines : List Line
-unknown_pipe_lines =
-    line.Boot 0 ∷
-    line.Boot 1 ∷
-    line.Boot 2 ∷
-    line.Activate 1 1 1 ∷
-    line.Deliver (end_c 1) None ∷
-    line.Deliver (end_h 1) None ∷
-    line.Deliver (end_c 1) None ∷
-    line.Reset (end_c 1) None ∷
-    line.Deliver (end_h 1) None ∷
-    line.Deliver (end_c 1) None ∷
-    line.Send (end_h 1) 1 (3 ∷ []) ∷
-    line.Deliver (end_c 1) None ∷
-    line.Deliver (end_h 1) None ∷
-    line.Deliver (end_c 1) None ∷
-    line.Activate 2 2 1 ∷
-    line.Deliver (end_c 2) None ∷
-    line.Deliver (end_h 2) None ∷
-    line.Deliver (end_c 2) None ∷
-    line.Reset (end_c 2) None ∷
-    line.Deliver (end_h 2) None ∷
-    line.Deliver (end_c 2) None ∷
-    line.Send (end_h 2) 1 (3 ∷ []) ∷
-    line.Deliver (end_c 2) None ∷
-    line.Deliver (end_h 2) None ∷
-    line.Deliver (end_c 2) None ∷
-    line.Send (end_h 1) 1 (1 ∷ 3 ∷ 2 ∷ []) ∷
-    line.Deliver (end_c 1) None ∷
-    line.Deliver (end_h 1) None ∷
-    line.Deliver (end_c 1) None ∷
-    line.Send (end_h 2) 1 (16 ∷ 65 ∷ 1 ∷ 65 ∷ []) ∷
-    line.Deliver (end_c 2) None ∷
-    line.Deliver (end_h 1) None ∷
-    line.Deliver (end_c 1) None ∷
-    line.Reset (end_h 2) None ∷
-    line.Deliver (end_c 2) None ∷
-    line.Deliver (end_h 2) None ∷
-    line.Deliver (end_h 1) None ∷
-    line.Send (end_h 1) 1 (17 ∷ 2 ∷ []) ∷
-    line.Deliver (end_c 1) None ∷
-    line.Deliver (end_h 2) None ∷
-    line.Deliver (end_c 2) None ∷
-    line.Deliver (end_h 1) None ∷
-    line.Deliver (end_c 1) None ∷
-    line.Deliver (end_h 2) None ∷
-    line.Send (end_h 2) 1 (16 ∷ 65 ∷ 1 ∷ 10 ∷ []) ∷
-    line.Deliver (end_c 2) None ∷
-    line.Deliver (end_h 1) None ∷
-    line.Deliver (end_c 1) None ∷
-    line.Deliver (end_h 2) None ∷
-    line.Deliver (end_c 2) None ∷
-    line.Deliver (end_h 1) None ∷
-    line.Send (end_h 2) 1 (16 ∷ 65 ∷ 1 ∷ 15 ∷ []) ∷
-    line.Deliver (end_c 2) None ∷
-    line.Deliver (end_h 1) None ∷
-    line.Deliver (end_c 1) None ∷
-    line.Deliver (end_h 2) None ∷
-    line.Deliver (end_c 2) None ∷
-    line.Deliver (end_h 1) None ∷
-    line.Send (end_h 2) 1 (16 ∷ 65 ∷ 1 ∷ 16 ∷ []) ∷
-    line.Deliver (end_c 2) None ∷
-    line.Deliver (end_h 1) None ∷
-    line.Deliver (end_c 1) None ∷
-    line.Deliver (end_h 2) None ∷
-    line.Deliver (end_c 2) None ∷
-    line.Deliver (end_h 1) None ∷
-    line.Send (end_h 2) 1 (2 ∷ 1 ∷ []) ∷
-    line.Send (end_h 2) 1 ((20 ∷ []) ++ replicate 4096 0) ∷
-    line.Send (end_h 2) 1 (64 ∷ []) ∷
-    line.Send (end_h 2) 1 (replicate 4096 2) ∷
-    line.Deliver (end_c 2) None ∷
-    line.Deliver (end_h 2) None ∷
-    line.Send (end_h 2) 1 (replicate 4097 2) ∷
-    line.Tables 0 ∷
-    line.Tables 1 ∷
-    line.Tables 2 ∷
-    []
-
-unknown_pipe : noted_lines (new_world (1 ∷ 2 ∷ [])) unknown_pipe_lines ≡
-    Entries (entry.Booted 0 0 ∷ []) ∷
-    Entries (entry.Booted 1 0 ∷ []) ∷
-    Entries (entry.Booted 2 0 ∷ []) ∷
-    Entries (entry.Emit (end_h 1) (97 ∷ 0 ∷ 1 ∷ []) ∷ []) ∷
-    Entries (entry.Took (end_c 1) (97 ∷ 0 ∷ 1 ∷ []) ∷
-    entry.Command 0 (command.Sync 1 1) ∷
-    entry.Emit (end_c 1) (98 ∷ 1 ∷ []) ∷ []) ∷
-    Entries (entry.Took (end_h 1) (98 ∷ 1 ∷ []) ∷
-    entry.Active (end_h 1) ∷
-    entry.Emit (end_h 1) (96 ∷ []) ∷ []) ∷
-    Entries (entry.Took (end_c 1) (96 ∷ []) ∷
-    entry.Active (end_c 1) ∷ []) ∷
-    Entries (entry.Emit (end_c 1) (249 ∷ 4 ∷ 0 ∷ []) ∷ []) ∷
-    Entries (entry.Took (end_h 1) (249 ∷ 4 ∷ 0 ∷ []) ∷
-    entry.Up (end_h 1) 1 ∷
-    entry.Emit (end_h 1) (230 ∷ []) ∷ []) ∷
-    Entries (entry.Took (end_c 1) (230 ∷ []) ∷
-    entry.Up (end_c 1) 1 ∷ []) ∷
-    Entries (entry.Sent (end_h 1) 1 1 (3 ∷ []) ∷
-    entry.Emit (end_h 1) (128 ∷ 129 ∷ 3 ∷ []) ∷ []) ∷
-    Entries (entry.Took (end_c 1) (128 ∷ 129 ∷ 3 ∷ []) ∷
-    entry.Got (end_c 1) 1 1 (3 ∷ []) ∷
-    entry.Turn (end_c 1) 1 (3 ∷ []) ∷
-    entry.Command 0 (command.SetOpened 1 1 true) ∷
-    entry.Sent (end_c 1) 1 1 (128 ∷ 0 ∷ []) ∷
-    entry.AnyOk 0 2 ∷
-    entry.Emit (end_c 1) (193 ∷ []) ∷
-    entry.Emit (end_c 1) (129 ∷ 129 ∷ 128 ∷ 0 ∷ []) ∷ []) ∷
-    Entries (entry.Took (end_h 1) (193 ∷ []) ∷
-    entry.Acked (end_h 1) 1 1 ∷
-    entry.Took (end_h 1) (129 ∷ 129 ∷ 128 ∷ 0 ∷ []) ∷
-    entry.Got (end_h 1) 1 1 (128 ∷ 0 ∷ []) ∷
-    entry.Turn (end_h 1) 1 (128 ∷ 0 ∷ []) ∷
-    entry.Emit (end_h 1) (193 ∷ []) ∷ []) ∷
-    Entries (entry.Took (end_c 1) (193 ∷ []) ∷
-    entry.Acked (end_c 1) 1 1 ∷ []) ∷
-    Entries (entry.Emit (end_h 2) (97 ∷ 0 ∷ 2 ∷ []) ∷ []) ∷
-    Entries (entry.Took (end_c 2) (97 ∷ 0 ∷ 2 ∷ []) ∷
-    entry.Command 0 (command.Sync 2 2) ∷
-    entry.Emit (end_c 2) (98 ∷ 1 ∷ []) ∷ []) ∷
-    Entries (entry.Took (end_h 2) (98 ∷ 1 ∷ []) ∷
-    entry.Active (end_h 2) ∷
-    entry.Emit (end_h 2) (96 ∷ []) ∷ []) ∷
-    Entries (entry.Took (end_c 2) (96 ∷ []) ∷
-    entry.Active (end_c 2) ∷ []) ∷
-    Entries (entry.Emit (end_c 2) (249 ∷ 4 ∷ 0 ∷ []) ∷ []) ∷
-    Entries (entry.Took (end_h 2) (249 ∷ 4 ∷ 0 ∷ []) ∷
-    entry.Up (end_h 2) 1 ∷
-    entry.Emit (end_h 2) (230 ∷ []) ∷ []) ∷
-    Entries (entry.Took (end_c 2) (230 ∷ []) ∷
-    entry.Up (end_c 2) 1 ∷ []) ∷
-    Entries (entry.Sent (end_h 2) 1 1 (3 ∷ []) ∷
-    entry.Emit (end_h 2) (128 ∷ 129 ∷ 3 ∷ []) ∷ []) ∷
-    Entries (entry.Took (end_c 2) (128 ∷ 129 ∷ 3 ∷ []) ∷
-    entry.Got (end_c 2) 1 1 (3 ∷ []) ∷
-    entry.Turn (end_c 2) 1 (3 ∷ []) ∷
-    entry.Command 0 (command.SetOpened 2 1 true) ∷
-    entry.Sent (end_c 2) 1 1 (128 ∷ 0 ∷ []) ∷
-    entry.AnyOk 0 4 ∷
-    entry.Emit (end_c 2) (193 ∷ []) ∷
-    entry.Emit (end_c 2) (129 ∷ 129 ∷ 128 ∷ 0 ∷ []) ∷ []) ∷
-    Entries (entry.Took (end_h 2) (193 ∷ []) ∷
-    entry.Acked (end_h 2) 1 1 ∷
-    entry.Took (end_h 2) (129 ∷ 129 ∷ 128 ∷ 0 ∷ []) ∷
-    entry.Got (end_h 2) 1 1 (128 ∷ 0 ∷ []) ∷
-    entry.Turn (end_h 2) 1 (128 ∷ 0 ∷ []) ∷
-    entry.Emit (end_h 2) (193 ∷ []) ∷ []) ∷
-    Entries (entry.Took (end_c 2) (193 ∷ []) ∷
-    entry.Acked (end_c 2) 1 1 ∷ []) ∷
-    Entries (entry.Sent (end_h 1) 1 1 (1 ∷ 3 ∷ 2 ∷ []) ∷
-    entry.Emit (end_h 1) (137 ∷ 129 ∷ 1 ∷ 3 ∷ 2 ∷ []) ∷ []) ∷
-    Entries (entry.Took (end_c 1) (137 ∷ 129 ∷ 1 ∷ 3 ∷ 2 ∷ []) ∷
-    entry.Got (end_c 1) 1 1 (1 ∷ 3 ∷ 2 ∷ []) ∷
-    entry.Turn (end_c 1) 1 (1 ∷ 3 ∷ 2 ∷ []) ∷
-    entry.Command 0 (command.Set 1 0 3 (record { items = (2 ∷ []) })) ∷
-    entry.Sent (end_c 1) 1 1 (128 ∷ []) ∷
-    entry.AnyOk 0 5 ∷
-    entry.Emit (end_c 1) (194 ∷ []) ∷
-    entry.Emit (end_c 1) (138 ∷ 129 ∷ 128 ∷ []) ∷ []) ∷
-    Entries (entry.Took (end_h 1) (194 ∷ []) ∷
-    entry.Acked (end_h 1) 1 2 ∷
-    entry.Took (end_h 1) (138 ∷ 129 ∷ 128 ∷ []) ∷
-    entry.Got (end_h 1) 1 1 (128 ∷ []) ∷
-    entry.Turn (end_h 1) 1 (128 ∷ []) ∷
-    entry.Emit (end_h 1) (194 ∷ []) ∷ []) ∷
-    Entries (entry.Took (end_c 1) (194 ∷ []) ∷
-    entry.Acked (end_c 1) 1 2 ∷ []) ∷
-    Entries (entry.Sent (end_h 2) 1 1 (16 ∷ 65 ∷ 1 ∷ 65 ∷ []) ∷
-    entry.Emit (end_h 2) (137 ∷ 129 ∷ 16 ∷ 65 ∷ 1 ∷ 65 ∷ []) ∷ []) ∷
-    Entries (entry.Took (end_c 2) (137 ∷ 129 ∷ 16 ∷ 65 ∷ 1 ∷ 65 ∷ []) ∷
-    entry.Got (end_c 2) 1 1 (16 ∷ 65 ∷ 1 ∷ 65 ∷ []) ∷
-    entry.Turn (end_c 2) 1 (16 ∷ 65 ∷ 1 ∷ 65 ∷ []) ∷
-    entry.Ask 1 (18 ∷ 2 ∷ 65 ∷ 1 ∷ 65 ∷ 2 ∷ []) ∷
-    entry.Sent (end_c 1) 1 1 (18 ∷ 2 ∷ 65 ∷ 1 ∷ 65 ∷ 2 ∷ []) ∷
-    entry.Emit (end_c 1) (146 ∷ 129 ∷ 18 ∷ 2 ∷ 65 ∷ 1 ∷ 65 ∷ 2 ∷ []) ∷
-    entry.Emit (end_c 2) (194 ∷ []) ∷ []) ∷
-    Entries (entry.Took (end_h 1) (146 ∷ 129 ∷ 18 ∷ 2 ∷ 65 ∷ 1 ∷ 65 ∷ 2 ∷ []) ∷
-    entry.Got (end_h 1) 1 1 (18 ∷ 2 ∷ 65 ∷ 1 ∷ 65 ∷ 2 ∷ []) ∷
-    entry.Turn (end_h 1) 1 (18 ∷ 2 ∷ 65 ∷ 1 ∷ 65 ∷ 2 ∷ []) ∷
-    entry.Command 1 (command.Create (record { pid = 2; creator = 2; creator_gate = 65; dest = 1; dest_gate = 65; opened = false })) ∷
-    entry.Sent (end_h 1) 1 1 (128 ∷ []) ∷
-    entry.AnyOk 1 1 ∷
-    entry.Emit (end_h 1) (195 ∷ []) ∷
-    entry.Emit (end_h 1) (147 ∷ 129 ∷ 128 ∷ []) ∷ []) ∷
-    Entries (entry.Took (end_c 1) (195 ∷ []) ∷
-    entry.Acked (end_c 1) 1 3 ∷
-    entry.Took (end_c 1) (147 ∷ 129 ∷ 128 ∷ []) ∷
-    entry.Got (end_c 1) 1 1 (128 ∷ []) ∷
-    entry.Turn (end_c 1) 1 (128 ∷ []) ∷
-    entry.Command 0 (command.Create (record { pid = 2; creator = 2; creator_gate = 65; dest = 1; dest_gate = 65; opened = false })) ∷
-    entry.Sent (end_c 2) 1 1 (128 ∷ 2 ∷ 65 ∷ 1 ∷ 65 ∷ 2 ∷ []) ∷
-    entry.AnyOk 0 6 ∷
-    entry.Emit (end_c 1) (195 ∷ []) ∷
-    entry.Emit (end_c 2) (138 ∷ 129 ∷ 128 ∷ 2 ∷ 65 ∷ 1 ∷ 65 ∷ 2 ∷ []) ∷ []) ∷
-    Entries (entry.Down (end_h 2) cause.Asked ∷
-    entry.Emit (end_h 2) (249 ∷ 4 ∷ 0 ∷ []) ∷ []) ∷
-    Entries (entry.Took (end_c 2) (249 ∷ 4 ∷ 0 ∷ []) ∷
-    entry.Down (end_c 2) cause.Peer ∷
-    entry.Up (end_c 2) 2 ∷
-    entry.Emit (end_c 2) (230 ∷ []) ∷ []) ∷
-    Entries (entry.Took (end_h 2) (194 ∷ []) ∷
-    entry.Took (end_h 2) (138 ∷ 129 ∷ 128 ∷ 2 ∷ 65 ∷ 1 ∷ 65 ∷ 2 ∷ []) ∷
-    entry.Took (end_h 2) (230 ∷ []) ∷
-    entry.Up (end_h 2) 2 ∷ []) ∷
-    Entries (entry.Took (end_h 1) (195 ∷ []) ∷
-    entry.Acked (end_h 1) 1 3 ∷ []) ∷
-    Entries (entry.Sent (end_h 1) 1 1 (17 ∷ 2 ∷ []) ∷
-    entry.Emit (end_h 1) (155 ∷ 129 ∷ 17 ∷ 2 ∷ []) ∷ []) ∷
-    Entries (entry.Took (end_c 1) (155 ∷ 129 ∷ 17 ∷ 2 ∷ []) ∷
-    entry.Got (end_c 1) 1 1 (17 ∷ 2 ∷ []) ∷
-    entry.Turn (end_c 1) 1 (17 ∷ 2 ∷ []) ∷
-    entry.Command 0 (command.Delete 2) ∷
-    entry.Sent (end_c 1) 1 1 (128 ∷ []) ∷
-    entry.AnyOk 0 7 ∷
-    entry.Sent (end_c 2) 2 1 (19 ∷ 2 ∷ []) ∷
-    entry.Emit (end_c 1) (196 ∷ []) ∷
-    entry.Emit (end_c 1) (156 ∷ 129 ∷ 128 ∷ []) ∷
-    entry.Emit (end_c 2) (128 ∷ 129 ∷ 19 ∷ 2 ∷ []) ∷ []) ∷
-    Entries (entry.Took (end_h 2) (128 ∷ 129 ∷ 19 ∷ 2 ∷ []) ∷
-    entry.Got (end_h 2) 2 1 (19 ∷ 2 ∷ []) ∷
-    entry.Turn (end_h 2) 1 (19 ∷ 2 ∷ []) ∷
-    entry.Sent (end_h 2) 2 1 (128 ∷ []) ∷
-    entry.Emit (end_h 2) (193 ∷ []) ∷
-    entry.Emit (end_h 2) (129 ∷ 129 ∷ 128 ∷ []) ∷ []) ∷
-    Entries (entry.Took (end_c 2) (193 ∷ []) ∷
-    entry.Acked (end_c 2) 2 1 ∷
-    entry.Took (end_c 2) (129 ∷ 129 ∷ 128 ∷ []) ∷
-    entry.Got (end_c 2) 2 1 (128 ∷ []) ∷
-    entry.Turn (end_c 2) 1 (128 ∷ []) ∷
-    entry.Emit (end_c 2) (193 ∷ []) ∷ []) ∷
-    Entries (entry.Took (end_h 1) (196 ∷ []) ∷
-    entry.Acked (end_h 1) 1 4 ∷
-    entry.Took (end_h 1) (156 ∷ 129 ∷ 128 ∷ []) ∷
-    entry.Got (end_h 1) 1 1 (128 ∷ []) ∷
-    entry.Turn (end_h 1) 1 (128 ∷ []) ∷
-    entry.Command 1 (command.Delete 2) ∷
-    entry.Emit (end_h 1) (196 ∷ []) ∷ []) ∷
-    Entries (entry.Took (end_c 1) (196 ∷ []) ∷
-    entry.Acked (end_c 1) 1 4 ∷ []) ∷
-    Entries (entry.Took (end_h 2) (193 ∷ []) ∷
-    entry.Acked (end_h 2) 2 1 ∷ []) ∷
-    Entries (entry.Sent (end_h 2) 2 1 (16 ∷ 65 ∷ 1 ∷ 10 ∷ []) ∷
-    entry.Emit (end_h 2) (137 ∷ 129 ∷ 16 ∷ 65 ∷ 1 ∷ 10 ∷ []) ∷ []) ∷
-    Entries (entry.Took (end_c 2) (137 ∷ 129 ∷ 16 ∷ 65 ∷ 1 ∷ 10 ∷ []) ∷
-    entry.Got (end_c 2) 2 1 (16 ∷ 65 ∷ 1 ∷ 10 ∷ []) ∷
-    entry.Turn (end_c 2) 1 (16 ∷ 65 ∷ 1 ∷ 10 ∷ []) ∷
-    entry.Ask 1 (18 ∷ 2 ∷ 65 ∷ 1 ∷ 10 ∷ 2 ∷ []) ∷
-    entry.Sent (end_c 1) 1 1 (18 ∷ 2 ∷ 65 ∷ 1 ∷ 10 ∷ 2 ∷ []) ∷
-    entry.Emit (end_c 1) (164 ∷ 129 ∷ 18 ∷ 2 ∷ 65 ∷ 1 ∷ 10 ∷ 2 ∷ []) ∷
-    entry.Emit (end_c 2) (194 ∷ []) ∷ []) ∷
-    Entries (entry.Took (end_h 1) (164 ∷ 129 ∷ 18 ∷ 2 ∷ 65 ∷ 1 ∷ 10 ∷ 2 ∷ []) ∷
-    entry.Got (end_h 1) 1 1 (18 ∷ 2 ∷ 65 ∷ 1 ∷ 10 ∷ 2 ∷ []) ∷
-    entry.Turn (end_h 1) 1 (18 ∷ 2 ∷ 65 ∷ 1 ∷ 10 ∷ 2 ∷ []) ∷
-    entry.Sent (end_h 1) 1 1 (131 ∷ []) ∷
-    entry.Emit (end_h 1) (197 ∷ []) ∷
-    entry.Emit (end_h 1) (165 ∷ 129 ∷ 131 ∷ []) ∷ []) ∷
-    Entries (entry.Took (end_c 1) (197 ∷ []) ∷
-    entry.Acked (end_c 1) 1 5 ∷
-    entry.Took (end_c 1) (165 ∷ 129 ∷ 131 ∷ []) ∷
-    entry.Got (end_c 1) 1 1 (131 ∷ []) ∷
-    entry.Turn (end_c 1) 1 (131 ∷ []) ∷
-    entry.Sent (end_c 2) 2 1 (131 ∷ []) ∷
-    entry.Emit (end_c 1) (197 ∷ []) ∷
-    entry.Emit (end_c 2) (138 ∷ 129 ∷ 131 ∷ []) ∷ []) ∷
-    Entries (entry.Took (end_h 2) (194 ∷ []) ∷
-    entry.Acked (end_h 2) 2 2 ∷
-    entry.Took (end_h 2) (138 ∷ 129 ∷ 131 ∷ []) ∷
-    entry.Got (end_h 2) 2 1 (131 ∷ []) ∷
-    entry.Turn (end_h 2) 1 (131 ∷ []) ∷
-    entry.Emit (end_h 2) (194 ∷ []) ∷ []) ∷
-    Entries (entry.Took (end_c 2) (194 ∷ []) ∷
-    entry.Acked (end_c 2) 2 2 ∷ []) ∷
-    Entries (entry.Took (end_h 1) (197 ∷ []) ∷
-    entry.Acked (end_h 1) 1 5 ∷ []) ∷
-    Entries (entry.Sent (end_h 2) 2 1 (16 ∷ 65 ∷ 1 ∷ 15 ∷ []) ∷
-    entry.Emit (end_h 2) (146 ∷ 129 ∷ 16 ∷ 65 ∷ 1 ∷ 15 ∷ []) ∷ []) ∷
-    Entries (entry.Took (end_c 2) (146 ∷ 129 ∷ 16 ∷ 65 ∷ 1 ∷ 15 ∷ []) ∷
-    entry.Got (end_c 2) 2 1 (16 ∷ 65 ∷ 1 ∷ 15 ∷ []) ∷
-    entry.Turn (end_c 2) 1 (16 ∷ 65 ∷ 1 ∷ 15 ∷ []) ∷
-    entry.Ask 1 (18 ∷ 2 ∷ 65 ∷ 1 ∷ 15 ∷ 2 ∷ []) ∷
-    entry.Sent (end_c 1) 1 1 (18 ∷ 2 ∷ 65 ∷ 1 ∷ 15 ∷ 2 ∷ []) ∷
-    entry.Emit (end_c 1) (173 ∷ 129 ∷ 18 ∷ 2 ∷ 65 ∷ 1 ∷ 15 ∷ 2 ∷ []) ∷
-    entry.Emit (end_c 2) (195 ∷ []) ∷ []) ∷
-    Entries (entry.Took (end_h 1) (173 ∷ 129 ∷ 18 ∷ 2 ∷ 65 ∷ 1 ∷ 15 ∷ 2 ∷ []) ∷
-    entry.Got (end_h 1) 1 1 (18 ∷ 2 ∷ 65 ∷ 1 ∷ 15 ∷ 2 ∷ []) ∷
-    entry.Turn (end_h 1) 1 (18 ∷ 2 ∷ 65 ∷ 1 ∷ 15 ∷ 2 ∷ []) ∷
-    entry.Sent (end_h 1) 1 1 (131 ∷ []) ∷
-    entry.Emit (end_h 1) (198 ∷ []) ∷
-    entry.Emit (end_h 1) (174 ∷ 129 ∷ 131 ∷ []) ∷ []) ∷
-    Entries (entry.Took (end_c 1) (198 ∷ []) ∷
-    entry.Acked (end_c 1) 1 6 ∷
-    entry.Took (end_c 1) (174 ∷ 129 ∷ 131 ∷ []) ∷
-    entry.Got (end_c 1) 1 1 (131 ∷ []) ∷
-    entry.Turn (end_c 1) 1 (131 ∷ []) ∷
-    entry.Sent (end_c 2) 2 1 (131 ∷ []) ∷
-    entry.Emit (end_c 1) (198 ∷ []) ∷
-    entry.Emit (end_c 2) (147 ∷ 129 ∷ 131 ∷ []) ∷ []) ∷
-    Entries (entry.Took (end_h 2) (195 ∷ []) ∷
-    entry.Acked (end_h 2) 2 3 ∷
-    entry.Took (end_h 2) (147 ∷ 129 ∷ 131 ∷ []) ∷
-    entry.Got (end_h 2) 2 1 (131 ∷ []) ∷
-    entry.Turn (end_h 2) 1 (131 ∷ []) ∷
-    entry.Emit (end_h 2) (195 ∷ []) ∷ []) ∷
-    Entries (entry.Took (end_c 2) (195 ∷ []) ∷
-    entry.Acked (end_c 2) 2 3 ∷ []) ∷
-    Entries (entry.Took (end_h 1) (198 ∷ []) ∷
-    entry.Acked (end_h 1) 1 6 ∷ []) ∷
-    Entries (entry.Sent (end_h 2) 2 1 (16 ∷ 65 ∷ 1 ∷ 16 ∷ []) ∷
-    entry.Emit (end_h 2) (155 ∷ 129 ∷ 16 ∷ 65 ∷ 1 ∷ 16 ∷ []) ∷ []) ∷
-    Entries (entry.Took (end_c 2) (155 ∷ 129 ∷ 16 ∷ 65 ∷ 1 ∷ 16 ∷ []) ∷
-    entry.Got (end_c 2) 2 1 (16 ∷ 65 ∷ 1 ∷ 16 ∷ []) ∷
-    entry.Turn (end_c 2) 1 (16 ∷ 65 ∷ 1 ∷ 16 ∷ []) ∷
-    entry.Ask 1 (18 ∷ 2 ∷ 65 ∷ 1 ∷ 16 ∷ 2 ∷ []) ∷
-    entry.Sent (end_c 1) 1 1 (18 ∷ 2 ∷ 65 ∷ 1 ∷ 16 ∷ 2 ∷ []) ∷
-    entry.Emit (end_c 1) (182 ∷ 129 ∷ 18 ∷ 2 ∷ 65 ∷ 1 ∷ 16 ∷ 2 ∷ []) ∷
-    entry.Emit (end_c 2) (196 ∷ []) ∷ []) ∷
-    Entries (entry.Took (end_h 1) (182 ∷ 129 ∷ 18 ∷ 2 ∷ 65 ∷ 1 ∷ 16 ∷ 2 ∷ []) ∷
-    entry.Got (end_h 1) 1 1 (18 ∷ 2 ∷ 65 ∷ 1 ∷ 16 ∷ 2 ∷ []) ∷
-    entry.Turn (end_h 1) 1 (18 ∷ 2 ∷ 65 ∷ 1 ∷ 16 ∷ 2 ∷ []) ∷
-    entry.Command 1 (command.Create (record { pid = 2; creator = 2; creator_gate = 65; dest = 1; dest_gate = 16; opened = false })) ∷
-    entry.Sent (end_h 1) 1 1 (128 ∷ []) ∷
-    entry.AnyOk 1 3 ∷
-    entry.Emit (end_h 1) (199 ∷ []) ∷
-    entry.Emit (end_h 1) (183 ∷ 129 ∷ 128 ∷ []) ∷ []) ∷
-    Entries (entry.Took (end_c 1) (199 ∷ []) ∷
-    entry.Acked (end_c 1) 1 7 ∷
-    entry.Took (end_c 1) (183 ∷ 129 ∷ 128 ∷ []) ∷
-    entry.Got (end_c 1) 1 1 (128 ∷ []) ∷
-    entry.Turn (end_c 1) 1 (128 ∷ []) ∷
-    entry.Command 0 (command.Create (record { pid = 2; creator = 2; creator_gate = 65; dest = 1; dest_gate = 16; opened = false })) ∷
-    entry.Sent (end_c 2) 2 1 (128 ∷ 2 ∷ 65 ∷ 1 ∷ 16 ∷ 2 ∷ []) ∷
-    entry.AnyOk 0 8 ∷
-    entry.Emit (end_c 1) (199 ∷ []) ∷
-    entry.Emit (end_c 2) (156 ∷ 129 ∷ 128 ∷ 2 ∷ 65 ∷ 1 ∷ 16 ∷ 2 ∷ []) ∷ []) ∷
-    Entries (entry.Took (end_h 2) (196 ∷ []) ∷
-    entry.Acked (end_h 2) 2 4 ∷
-    entry.Took (end_h 2) (156 ∷ 129 ∷ 128 ∷ 2 ∷ 65 ∷ 1 ∷ 16 ∷ 2 ∷ []) ∷
-    entry.Got (end_h 2) 2 1 (128 ∷ 2 ∷ 65 ∷ 1 ∷ 16 ∷ 2 ∷ []) ∷
-    entry.Turn (end_h 2) 1 (128 ∷ 2 ∷ 65 ∷ 1 ∷ 16 ∷ 2 ∷ []) ∷
-    entry.Command 2 (command.Create (record { pid = 2; creator = 2; creator_gate = 65; dest = 1; dest_gate = 16; opened = false })) ∷
-    entry.Emit (end_h 2) (196 ∷ []) ∷ []) ∷
-    Entries (entry.Took (end_c 2) (196 ∷ []) ∷
-    entry.Acked (end_c 2) 2 4 ∷ []) ∷
-    Entries (entry.Took (end_h 1) (199 ∷ []) ∷
-    entry.Acked (end_h 1) 1 7 ∷ []) ∷
-    Entries (entry.Sent (end_h 2) 2 1 (2 ∷ 1 ∷ []) ∷
-    entry.Emit (end_h 2) (164 ∷ 129 ∷ 2 ∷ 1 ∷ []) ∷ []) ∷
-    Entries (entry.No no.Waiting ∷ []) ∷
-    Entries (entry.Sent (end_h 2) 2 1 (64 ∷ []) ∷
-    entry.Emit (end_h 2) (172 ∷ 129 ∷ 64 ∷ []) ∷ []) ∷
-    Entries (entry.No no.Waiting ∷ []) ∷
-    Entries (entry.Took (end_c 2) (164 ∷ 129 ∷ 2 ∷ 1 ∷ []) ∷
-    entry.Got (end_c 2) 2 1 (2 ∷ 1 ∷ []) ∷
-    entry.Turn (end_c 2) 1 (2 ∷ 1 ∷ []) ∷
-    entry.Sent (end_c 2) 2 1 (128 ∷ 255 ∷ 255 ∷ 255 ∷ 255 ∷ 255 ∷ 255 ∷ 255 ∷ 255 ∷ []) ∷
-    entry.Emit (end_c 2) (197 ∷ []) ∷
-    entry.Emit (end_c 2) (165 ∷ 129 ∷ 128 ∷ 255 ∷ 255 ∷ 255 ∷ 255 ∷ 255 ∷ 255 ∷ 255 ∷ 255 ∷ []) ∷
-    entry.Took (end_c 2) (172 ∷ 129 ∷ 64 ∷ []) ∷
-    entry.Got (end_c 2) 2 1 (64 ∷ []) ∷
-    entry.Turn (end_c 2) 1 (64 ∷ []) ∷
-    entry.Dropped (end_c 2) 1 ∷
-    entry.Emit (end_c 2) (198 ∷ []) ∷ []) ∷
-    Entries (entry.Took (end_h 2) (197 ∷ []) ∷
-    entry.Acked (end_h 2) 2 5 ∷
-    entry.Took (end_h 2) (165 ∷ 129 ∷ 128 ∷ 255 ∷ 255 ∷ 255 ∷ 255 ∷ 255 ∷ 255 ∷ 255 ∷ 255 ∷ []) ∷
-    entry.Got (end_h 2) 2 1 (128 ∷ 255 ∷ 255 ∷ 255 ∷ 255 ∷ 255 ∷ 255 ∷ 255 ∷ 255 ∷ []) ∷
-    entry.Turn (end_h 2) 1 (128 ∷ 255 ∷ 255 ∷ 255 ∷ 255 ∷ 255 ∷ 255 ∷ 255 ∷ 255 ∷ []) ∷
-    entry.Emit (end_h 2) (197 ∷ []) ∷
-    entry.Took (end_h 2) (198 ∷ []) ∷
-    entry.Acked (end_h 2) 2 6 ∷ []) ∷
-    Entries (entry.No no.TooLong ∷ []) ∷
-    TablesOf 0 (record {
-      rows = ((record { pid = 2; creator = 2; creator_gate = 65; dest = 1; dest_gate = 16; opened = false }) ∷
-          []);
-      statics = ((1, 1) ∷ (2, 1) ∷ []);
-      values = ((record { host = 1; gate = 0; param = 3; value = record { items = (2 ∷ []) } }) ∷
-          []);
-      syncs = ((1, 1) ∷ (2, 2) ∷ []);
-    }) ∷
-    TablesOf 1 (record {
-      rows = ((record { pid = 2; creator = 2; creator_gate = 65; dest = 1; dest_gate = 16; opened = false }) ∷
-          []);
-      statics = [];
-      values = [];
-      syncs = [];
-    }) ∷
-    TablesOf 2 (record {
-      rows = ((record { pid = 2; creator = 2; creator_gate = 65; dest = 1; dest_gate = 16; opened = false }) ∷
-          []);
-      statics = [];
-      values = [];
-      syncs = [];
-    }) ∷
-    []
-unfolding found_from hosts_where lowest_free
+unknown_pipe : told_text (
+    "swp 1 hci 01 02\nboot 00\nboot 01\nboot 02\n" ∷
+    host_begins "01" ++ host_begins "02" ++
+    "send 01h 01 010302\ndeliver 01c\ndeliver 01h\ndeliver 01c\nsend 02h 01 10410141\ndeliver 02c\ndeliver 01h\ndeliver 01c\nreset 02h\ndeliver 02c\n" ∷
+    "deliver 02h\ndeliver 01h\nsend 01h 01 1102\ndeliver 01c\ndeliver 02h\ndeliver 02c\ndeliver 01h\ndeliver 01c\ndeliver 02h\nsend 02h 01 1041010A\n" ∷
+    "deliver 02c\ndeliver 01h\ndeliver 01c\ndeliver 02h\ndeliver 02c\ndeliver 01h\nsend 02h 01 1041010F\ndeliver 02c\ndeliver 01h\ndeliver 01c\ndeliver 02h\n" ∷
+    "deliver 02c\ndeliver 01h\nsend 02h 01 10410110\ndeliver 02c\ndeliver 01h\ndeliver 01c\ndeliver 02h\ndeliver 02c\ndeliver 01h\nsend 02h 01 0201\n" ∷
+    "send 02h 01 14" ∷ replicate 4096 "00" ++
+    "\nsend 02h 01 40\nsend 02h 01 " ∷ replicate 4096 "02" ++
+    "\ndeliver 02c\ndeliver 02h\nsend 02h 01 " ∷ replicate 4097 "02" ++
+    "\ntables 00\ntables 01\ntables 02\n" ∷
+    []) ≡ text (
+    "> swp 1 hci 01 02\n> boot 00\nbooted 00 0\n> boot 01\nbooted 01 0\n> boot 02\nbooted 02 0\n" ∷
+    host_begins_told "01" "2" ++ host_begins_told "02" "4" ++
+    "> send 01h 01 010302\nsent 01h 1 01 010302\nemit 01h 8981010302\n" ∷
+    "> deliver 01c\ntook 01c 8981010302\ngot 01c 1 01 010302\nturn 01c 01 010302\ncommand 00 set 01 00 03 02\nsent 01c 1 01 80\nok 00 5\nemit 01c C2\n" ∷
+    "emit 01c 8A8180\n" ∷
+    "> deliver 01h\ntook 01h C2\nacked 01h 1 2\ntook 01h 8A8180\ngot 01h 1 01 80\nturn 01h 01 80\nemit 01h C2\n" ∷
+    "> deliver 01c\ntook 01c C2\nacked 01c 1 2\n" ∷
+    "> send 02h 01 10410141\nsent 02h 1 01 10410141\nemit 02h 898110410141\n" ∷
+    "> deliver 02c\ntook 02c 898110410141\ngot 02c 1 01 10410141\nturn 02c 01 10410141\nask 01 120241014102\nsent 01c 1 01 120241014102\n" ∷
+    "emit 01c 9281120241014102\nemit 02c C2\n" ∷
+    "> deliver 01h\ntook 01h 9281120241014102\ngot 01h 1 01 120241014102\nturn 01h 01 120241014102\ncommand 01 create 02 02 41 01 41\nsent 01h 1 01 80\n" ∷
+    "ok 01 1\nemit 01h C3\nemit 01h 938180\n" ∷
+    "> deliver 01c\ntook 01c C3\nacked 01c 1 3\ntook 01c 938180\ngot 01c 1 01 80\nturn 01c 01 80\ncommand 00 create 02 02 41 01 41\n" ∷
+    "sent 02c 1 01 800241014102\nok 00 6\nemit 01c C3\nemit 02c 8A81800241014102\n" ∷
+    "> reset 02h\ndown 02h asked\nemit 02h F90400\n" ∷
+    "> deliver 02c\ntook 02c F90400\ndown 02c peer\nup 02c 2\nemit 02c E6\n" ∷
+    "> deliver 02h\ntook 02h C2\ntook 02h 8A81800241014102\ntook 02h E6\nup 02h 2\n" ∷
+    "> deliver 01h\ntook 01h C3\nacked 01h 1 3\n" ∷
+    "> send 01h 01 1102\nsent 01h 1 01 1102\nemit 01h 9B811102\n" ∷
+    "> deliver 01c\ntook 01c 9B811102\ngot 01c 1 01 1102\nturn 01c 01 1102\ncommand 00 delete 02\nsent 01c 1 01 80\nok 00 7\nsent 02c 2 01 1302\n" ∷
+    "emit 01c C4\nemit 01c 9C8180\nemit 02c 80811302\n" ∷
+    "> deliver 02h\ntook 02h 80811302\ngot 02h 2 01 1302\nturn 02h 01 1302\nsent 02h 2 01 80\nemit 02h C1\nemit 02h 818180\n" ∷
+    "> deliver 02c\ntook 02c C1\nacked 02c 2 1\ntook 02c 818180\ngot 02c 2 01 80\nturn 02c 01 80\nemit 02c C1\n" ∷
+    "> deliver 01h\ntook 01h C4\nacked 01h 1 4\ntook 01h 9C8180\ngot 01h 1 01 80\nturn 01h 01 80\ncommand 01 delete 02\nemit 01h C4\n" ∷
+    "> deliver 01c\ntook 01c C4\nacked 01c 1 4\n" ∷
+    "> deliver 02h\ntook 02h C1\nacked 02h 2 1\n" ∷
+    "> send 02h 01 1041010A\nsent 02h 2 01 1041010A\nemit 02h 89811041010A\n" ∷
+    "> deliver 02c\ntook 02c 89811041010A\ngot 02c 2 01 1041010A\nturn 02c 01 1041010A\nask 01 120241010A02\nsent 01c 1 01 120241010A02\n" ∷
+    "emit 01c A481120241010A02\nemit 02c C2\n" ∷
+    "> deliver 01h\ntook 01h A481120241010A02\ngot 01h 1 01 120241010A02\nturn 01h 01 120241010A02\nsent 01h 1 01 83\nemit 01h C5\nemit 01h A58183\n" ∷
+    "> deliver 01c\ntook 01c C5\nacked 01c 1 5\ntook 01c A58183\ngot 01c 1 01 83\nturn 01c 01 83\nsent 02c 2 01 83\nemit 01c C5\nemit 02c 8A8183\n" ∷
+    "> deliver 02h\ntook 02h C2\nacked 02h 2 2\ntook 02h 8A8183\ngot 02h 2 01 83\nturn 02h 01 83\nemit 02h C2\n" ∷
+    "> deliver 02c\ntook 02c C2\nacked 02c 2 2\n" ∷
+    "> deliver 01h\ntook 01h C5\nacked 01h 1 5\n" ∷
+    "> send 02h 01 1041010F\nsent 02h 2 01 1041010F\nemit 02h 92811041010F\n" ∷
+    "> deliver 02c\ntook 02c 92811041010F\ngot 02c 2 01 1041010F\nturn 02c 01 1041010F\nask 01 120241010F02\nsent 01c 1 01 120241010F02\n" ∷
+    "emit 01c AD81120241010F02\nemit 02c C3\n" ∷
+    "> deliver 01h\ntook 01h AD81120241010F02\ngot 01h 1 01 120241010F02\nturn 01h 01 120241010F02\nsent 01h 1 01 83\nemit 01h C6\nemit 01h AE8183\n" ∷
+    "> deliver 01c\ntook 01c C6\nacked 01c 1 6\ntook 01c AE8183\ngot 01c 1 01 83\nturn 01c 01 83\nsent 02c 2 01 83\nemit 01c C6\nemit 02c 938183\n" ∷
+    "> deliver 02h\ntook 02h C3\nacked 02h 2 3\ntook 02h 938183\ngot 02h 2 01 83\nturn 02h 01 83\nemit 02h C3\n" ∷
+    "> deliver 02c\ntook 02c C3\nacked 02c 2 3\n" ∷
+    "> deliver 01h\ntook 01h C6\nacked 01h 1 6\n" ∷
+    "> send 02h 01 10410110\nsent 02h 2 01 10410110\nemit 02h 9B8110410110\n" ∷
+    "> deliver 02c\ntook 02c 9B8110410110\ngot 02c 2 01 10410110\nturn 02c 01 10410110\nask 01 120241011002\nsent 01c 1 01 120241011002\n" ∷
+    "emit 01c B681120241011002\nemit 02c C4\n" ∷
+    "> deliver 01h\ntook 01h B681120241011002\ngot 01h 1 01 120241011002\nturn 01h 01 120241011002\ncommand 01 create 02 02 41 01 10\nsent 01h 1 01 80\n" ∷
+    "ok 01 3\nemit 01h C7\nemit 01h B78180\n" ∷
+    "> deliver 01c\ntook 01c C7\nacked 01c 1 7\ntook 01c B78180\ngot 01c 1 01 80\nturn 01c 01 80\ncommand 00 create 02 02 41 01 10\n" ∷
+    "sent 02c 2 01 800241011002\nok 00 8\nemit 01c C7\nemit 02c 9C81800241011002\n" ∷
+    "> deliver 02h\ntook 02h C4\nacked 02h 2 4\ntook 02h 9C81800241011002\ngot 02h 2 01 800241011002\nturn 02h 01 800241011002\n" ∷
+    "command 02 create 02 02 41 01 10\nemit 02h C4\n" ∷
+    "> deliver 02c\ntook 02c C4\nacked 02c 2 4\n" ∷
+    "> deliver 01h\ntook 01h C7\nacked 01h 1 7\n" ∷
+    "> send 02h 01 0201\nsent 02h 2 01 0201\nemit 02h A4810201\n" ∷
+    "> send 02h 01 14" ∷ replicate 4096 "00" ++
+    "\nno waiting\n" ∷
+    "> send 02h 01 40\nsent 02h 2 01 40\nemit 02h AC8140\n" ∷
+    "> send 02h 01 " ∷ replicate 4096 "02" ++
+    "\nno waiting\n" ∷
+    "> deliver 02c\ntook 02c A4810201\ngot 02c 2 01 0201\nturn 02c 01 0201\nsent 02c 2 01 80FFFFFFFFFFFFFFFF\nemit 02c C5\nemit 02c A58180FFFFFFFFFFFFFFFF\n" ∷
+    "took 02c AC8140\ngot 02c 2 01 40\nturn 02c 01 40\ndrop 02c 01\nemit 02c C6\n" ∷
+    "> deliver 02h\ntook 02h C5\nacked 02h 2 5\ntook 02h A58180FFFFFFFFFFFFFFFF\ngot 02h 2 01 80FFFFFFFFFFFFFFFF\nturn 02h 01 80FFFFFFFFFFFFFFFF\n" ∷
+    "emit 02h C5\ntook 02h C6\nacked 02h 2 6\n" ∷
+    "> send 02h 01 " ∷ replicate 4097 "02" ++
+    "\nno too-long\n" ∷
+    "> tables 00\ntables 00 1 2 1 2\npipe 02 02 41 01 10 closed\nstatic 01 01\nstatic 02 01\nreg 01 00 03 02\nsync 01 0001\nsync 02 0002\n" ∷
+    "> tables 01\ntables 01 1 0 0 0\npipe 02 02 41 01 10 closed\n" ∷
+    "> tables 02\ntables 02 1 0 0 0\npipe 02 02 41 01 10 closed\n" ∷
+    [])
+unfolding found_from hosts_where lowest_free encode_with decode_pairs digits
 unknown_pipe = refl
