@@ -47,7 +47,13 @@ fn let_go(entry: Entry, spares: &mut Vec<Octets>) {
         | Entry::Got { message, .. }
         | Entry::Turn { message, .. }
         | Entry::Ask { message, .. } => keep(message, spares),
-        Entry::No { .. } | Entry::Acked { .. } | Entry::Up { .. } | Entry::Down { .. } => {}
+        Entry::No { .. }
+        | Entry::Acked { .. }
+        | Entry::Up { .. }
+        | Entry::Down { .. }
+        | Entry::Dropped { .. }
+        | Entry::Command { .. }
+        | Entry::AnyOk { .. } => {}
         other => drop(other),
     }
 }
