@@ -21,7 +21,7 @@ impl SignalReader {
     ghost use Rattle.swp_frame.specs.Signal.{break, bit_0, bit_1, symbol_of, run_of, HasNoMark};
     ghost use Rattle.swp_frame.specs.Words.{word_bits, part_bits, IsWordBehind, IsPartBehind};
     ghost use Rattle.swp_frame.specs.Verdicts.{verdict};
-    ghost use Rattle.swp_frame.specs.Found.{found_in, HasPayload};
+    ghost use Rattle.swp_frame.specs.Found.{fed_lying_in, HasPayload};
     ghost use Rattle.swp_frame.specs.Kept.{lying_bytes};
     ghost use Rattle.swp_decode.specs.Readings.{ReadSymbol, symbols, with_reading, readings_on};
     ghost use Rattle.swp_decode.specs.Decoded.{line_with};
@@ -43,7 +43,7 @@ impl SignalReader {
     fn read_bit(&mut self, bit: bool, place: u32) -> Found
         ensures reads { (older : List ReadSymbol) → ReadsSignal self.old older → ReadsSignal self.new (with_reading (Some (symbol_of bit)) place older) }
         ensures answer { (older : List ReadSymbol) → ReadsSignal self.old older
-            → found_in (lying_bytes self.new.deframer) result ≡ verdict (symbol_of bit ∷ symbols older) }
+            → fed_lying_in (lying_bytes self.new.deframer) result ≡ verdict (symbol_of bit ∷ symbols older) }
         ensures sized { HasPayload result }
     {
         if !bit && self.deframer.is_before_start() {

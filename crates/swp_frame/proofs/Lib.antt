@@ -6,3 +6,4 @@ pub mod Runs
 pub mod WritingLemmas
 pub mod FurtherBits
 pub mod Places
+pub mod PlainBytes

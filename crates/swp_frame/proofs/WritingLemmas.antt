@@ -1,16 +1,18 @@
--- A frame is written bit by bit.
+-- A frame is written, bits behind bits.
 use Rattle.std.proofs.Common.{◌≡◌, ℕ, suc, zero, ◌+◌, ◌-◌, ◌/◌, ◌%◌, ◌^◌, ◌≤◌, ◌<◌, Bool, false, List, [], ◌∷◌, ◌++◌, eqb, length, take, get_or, refl, sym, ap}
-use Rattle.std.proofs.Common.{◌∙◌, arith, append_assoc, append-nil}
+use Rattle.std.proofs.Common.{◌∙◌, true, map, subst, arith, append_assoc, append-nil, length-append}
+use Rattle.std.proofs.lemmas.List.{map-append}
 use Rattle.std.proofs.lemmas.List.{take_more}
 use Rattle.std.proofs.lemmas.Nat.Bits.{shr_and_one}
 use Rattle.std.specs.Int.{bit_at}
 use lib.Bits.{bit_and}
 use Rattle.swp_base.specs.Bits.{bits_of, bits_of_byte}
 use Rattle.swp_base.proofs.BitLemmas.{length-bits_of, length-bits_of_byte}
+use Rattle.swp_crc.proofs.Steps.{bits_of-push}
 use Rattle.swp_crc.specs.Crc.{crc_of}
-use Rattle.swp_frame.specs.Stuffing.{start_of_frame, end_of_frame, stuffed, with_crc}
-use Rattle.swp_frame.specs.declared.frame_bits.FrameWriter.{FrameWriter}
-use Rattle.swp_frame.specs.Writing.{Writes}
+use Rattle.swp_frame.specs.Stuffing.{start_of_frame, end_of_frame, stuffed, stuffed_after, with_crc}
+use Rattle.swp_frame.specs.declared.frame_bits.BitBytes.{BitBytes}
+use Rattle.swp_frame.specs.Writing.{byte_of_bit, WritesOn}
 
 bit_at_place : (b place : ℕ) → place < 8 → get_or (bits_of_byte b) place false ≡ eqb (bit_at b (7 - place)) 1
 unfolding bits_of_byte
@@ -42,18 +44,62 @@ take_all (x ∷ xs) (suc n) e = ap (λ ys. x ∷ ys) (take_all xs n (omega arith
 pub all_bits : (b place : ℕ) → 8 ≤ place → take place (bits_of_byte b) ≡ bits_of_byte b
 all_bits b place h = take_all (bits_of_byte b) place (rw (length-bits_of_byte b) h)
 
--- there is room for one more byte, and for the end of the frame
-pub room : (writer : FrameWriter) (bytes : List ℕ) → Writes writer (bits_of bytes) → length bytes ≤ 31 → length writer.bits.items + 16 ≤ 336
-room writer bytes writes h = omega (arith, writes.sized, length-bits_of bytes)
+pub writes_nothing : (b : BitBytes) (ones : ℕ) (old : List ℕ) → ones ≤ 4 → WritesOn b ones [] ones old old
+writes_nothing b ones old few = record {
+  spelled = λ more. refl;
+  few = few;
+  sized = omega arith;
+}
 
-pub room_for_end : (writer : FrameWriter) (bytes : List ℕ) → Writes writer (bits_of bytes) → length bytes ≤ 32 → length writer.bits.items + 8 ≤ 323
-room_for_end writer bytes writes h = omega (arith, writes.sized, length-bits_of bytes)
+pub writes_both : (b : BitBytes) (ones run last : ℕ) (first second : List Bool) (old middle new : List ℕ) → WritesOn b ones first run old middle
+    → WritesOn b run second last middle new → WritesOn b ones (first ++ second) last old new
+writes_both b ones run last first second old middle new w v = record {
+  spelled = λ more.
+      ap (λ xs. old ++ map (byte_of_bit b) (stuffed_after ones xs)) (append_assoc first second more)
+      ∙ w.spelled (second ++ more)
+      ∙ v.spelled more;
+  few = v.few;
+  sized = omega (arith, w.sized, v.sized, length-append first second);
+}
 
-pub ended : (writer : FrameWriter) (content : List Bool) → Writes writer content
-    → writer.bits.items ++ end_of_frame ≡ start_of_frame ++ stuffed content ++ end_of_frame
-ended writer content writes =
-    ap (λ xs. xs ++ end_of_frame)
-    (sym (append-nil writer.bits.items) ∙ sym (writes.spelled []) ∙ ap (λ xs. start_of_frame ++ stuffed xs) (append-nil content))
+-- one more byte of a content
+pub writes_byte : (b : BitBytes) (bytes : List ℕ) (byte run last : ℕ) (old middle new : List ℕ) → WritesOn b 0 (bits_of bytes) run old middle
+    → WritesOn b run (bits_of_byte byte) last middle new → WritesOn b 0 (bits_of (bytes ++ byte ∷ [])) last old new
+writes_byte b bytes byte run last old middle new w v =
+    subst (λ xs. WritesOn b 0 xs last old new) (sym (bits_of-push bytes byte)) (writes_both b 0 run last (bits_of bytes) (bits_of_byte byte) old middle new w v)
+
+pub start_length : (b : BitBytes) (old first : List ℕ) → first ≡ old ++ map (byte_of_bit b) start_of_frame → length first ≡ length old + 8
+start_length b old first e = omega (arith, ap length e, length-append old (map (byte_of_bit b) start_of_frame))
+
+-- there is room for the bits of one more byte, and for the end of a frame
+pub room : (b : BitBytes) (bytes : List ℕ) (run most : ℕ) (old first new : List ℕ) → length first ≡ length old + 8
+    → WritesOn b 0 (bits_of bytes) run first new → length bytes ≤ 31 → length old + 323 ≤ most → length new + 16 ≤ most
+room b bytes run most old first new start w few fits = omega (arith, w.sized, length-bits_of bytes, start, few, fits)
+
+pub room_for_end : (b : BitBytes) (bytes : List ℕ) (run : ℕ) (old first new : List ℕ) → length first ≡ length old + 8
+    → WritesOn b 0 (bits_of bytes) run first new → length bytes ≤ 32 → length new + 8 ≤ length old + 323
+room_for_end b bytes run old first new start w few = omega (arith, w.sized, length-bits_of bytes, start, few)
+
+-- a whole frame
+pub frame_is_written : (b : BitBytes) (run : ℕ) (content : List Bool) (old first last new : List ℕ) → first ≡ old ++ map (byte_of_bit b) start_of_frame
+    → WritesOn b 0 content run first last → new ≡ last ++ map (byte_of_bit b) end_of_frame
+    → new ≡ old ++ map (byte_of_bit b) (start_of_frame ++ stuffed content ++ end_of_frame)
+frame_is_written b run content old first last new start w end =
+    let f = byte_of_bit b in
+    let spelled : last ≡ first ++ map f (stuffed content) =
+    sym (append-nil last) ∙ sym (w.spelled []) ∙ ap (λ xs. first ++ map f (stuffed xs)) (append-nil content) in
+    end
+    ∙ ap (λ xs. xs ++ map f end_of_frame) (spelled ∙ ap (λ xs. xs ++ map f (stuffed content)) start)
+    ∙ append_assoc (old ++ map f start_of_frame) (map f (stuffed content)) (map f end_of_frame)
+    ∙ append_assoc old (map f start_of_frame) (map f (stuffed content) ++ map f end_of_frame)
+    ∙ ap (λ xs. old ++ (map f start_of_frame ++ xs)) (sym (map-append f (stuffed content) end_of_frame))
+    ∙ ap (λ xs. old ++ xs) (sym (map-append f start_of_frame (stuffed content ++ end_of_frame)))
+
+-- bits that were written as 0 and 1 are read again
+pub bits_again : (bits : List Bool) → map (λ byte. eqb byte 1) (map (byte_of_bit (record { zero = 0; one = 1 })) bits) ≡ bits
+bits_again [] = refl
+bits_again (true ∷ bits) = ap (λ xs. true ∷ xs) (bits_again bits)
+bits_again (false ∷ bits) = ap (λ xs. false ∷ xs) (bits_again bits)
 
 -- the bytes of an LPDU and the two of its CRC
 pub with_crc-pushed : (lpdu : List ℕ) (crc high low : ℕ) → crc ≡ crc_of lpdu → crc < 65536 → high ≡ crc / 256 % 256 → low ≡ crc % 256

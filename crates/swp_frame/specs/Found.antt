@@ -6,10 +6,10 @@ use Rattle.swp_frame.specs.declared.fed.Found.{Found}
 use Rattle.swp_frame.specs.declared.fed.Found.TheVariants as found
 
 -- what it gave, where a frame lies at the beginning of these bytes
-abbrev pub found_in : List ℕ → Found → Fed
-found_in bytes found.Nothing = Nothing
-found_in bytes (found.Frame len) = Frame (take len bytes)
-found_in bytes (found.Refused fault) = Refused fault
+abbrev pub fed_lying_in : List ℕ → Found → Fed
+fed_lying_in bytes found.Nothing = Nothing
+fed_lying_in bytes (found.Frame len) = Frame (take len bytes)
+fed_lying_in bytes (found.Refused fault) = Refused fault
 
 -- a frame that ended has a payload of 1 to 30 bytes
 abbrev pub HasPayload : Found → Type 0

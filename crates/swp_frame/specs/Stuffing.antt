@@ -1,5 +1,5 @@
 -- The bits of a frame.
-use Rattle.std.specs.Prelude.{ℕ, ◌+◌, ◌/◌, ◌%◌, ◌==◌, Bool, true, false, List, [], ◌∷◌, ◌++◌, if◌then◌else◌}
+use Rattle.std.specs.Prelude.{ℕ, ◌+◌, ◌/◌, ◌%◌, ◌==◌, Bool, true, false, List, [], ◌∷◌, ◌++◌, Option, Some, None, if◌then◌else◌}
 use Rattle.swp_base.specs.Bits.{bits_of}
 use Rattle.swp_crc.specs.Crc.{crc_of}
 
@@ -12,6 +12,12 @@ stuffed_after ones (true ∷ bits) = if ones == 4 then true ∷ false ∷ stuffe
 -- the bits with a 0 put in after each five 1 bits in a row; the count starts anew after each 0, also one put in
 abbrev pub stuffed : List Bool → List Bool
 stuffed bits = stuffed_after 0 bits
+
+-- the run of 1 bits after these bits, where so many stood before; none where the fifth 1 bit in a row is among them
+abbrev pub run_below_five : ℕ → List Bool → Option ℕ
+run_below_five ones [] = Some ones
+run_below_five ones (false ∷ bits) = run_below_five 0 bits
+run_below_five ones (true ∷ bits) = if ones == 4 then None else run_below_five (ones + 1) bits
 
 -- the start of a frame
 abbrev pub start_of_frame : List Bool

@@ -1,10 +1,16 @@
 -- A frame that is being written.
-use Rattle.std.specs.Prelude.{◌+◌, ◌*◌, ◌≡◌, ◌≤◌, Bool, List, ◌++◌, length}
-use Rattle.swp_frame.specs.declared.frame_bits.FrameWriter.{FrameWriter}
-use Rattle.swp_frame.specs.Stuffing.{start_of_frame, stuffed, stuffed_after}
+use Rattle.std.specs.Prelude.{ℕ, ◌+◌, ◌*◌, ◌≡◌, ◌≤◌, Bool, List, ◌++◌, length, map, if◌then◌else◌}
+use Rattle.swp_frame.specs.declared.frame_bits.BitBytes.{BitBytes}
+use Rattle.swp_frame.specs.Stuffing.{stuffed_after}
 
--- The writer has written the start of a frame and this content: whatever bits follow, they go on from it. Not more than one
--- bit in six is one put in.
-pub record Writes (writer : FrameWriter) (content : List Bool) : Type 0 where
-  pub spelled : (more : List Bool) → start_of_frame ++ stuffed (content ++ more) ≡ writer.bits.items ++ stuffed_after writer.ones more
-  pub sized : 5 * length writer.bits.items + writer.ones ≤ 40 + 6 * length content
+-- the byte that stands for a bit
+abbrev pub byte_of_bit : BitBytes → Bool → ℕ
+byte_of_bit bytes bit = if bit then bytes.one else bytes.zero
+
+-- Bits of a content were written behind so many 1 bits in a row: whatever bits follow, they go on from the 1 bits that then stand there.
+-- Not more than one bit in six is one put in.
+pub record WritesOn (bytes : BitBytes) (ones : ℕ) (bits : List Bool) (run : ℕ) (old new : List ℕ) : Type 0 where
+  pub spelled : (more : List Bool)
+      → old ++ map (byte_of_bit bytes) (stuffed_after ones (bits ++ more)) ≡ new ++ map (byte_of_bit bytes) (stuffed_after run more)
+  pub few : run ≤ 4
+  pub sized : 5 * length new + run ≤ 5 * length old + ones + 6 * length bits

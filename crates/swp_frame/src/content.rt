@@ -2,7 +2,7 @@
 ghost use Rattle.std.specs.Prelude.{ℕ, Bool, List, ◌≡◌, ◌+◌, ◌*◌, ◌/◌, ◌%◌, ◌^◌, ◌<◌, ◌≤◌, ◌++◌, [], ◌∷◌, length, take};
 ghost use Rattle.std.specs.Int.{w64, to_be_bytes};
 ghost use Rattle.swp_frame.specs.Content.{judged_bytes};
-ghost use Rattle.swp_frame.specs.Found.{found_in, HasPayload};
+ghost use Rattle.swp_frame.specs.Found.{fed_lying_in, HasPayload};
 
 use crate::fed::Found;
 use crate::word::Part;
@@ -118,7 +118,7 @@ impl Content {
     /// a frame is then the first of the bytes.
     #[inline(always)]
     pub fn judge(&mut self) -> Found
-        ensures judged { (bits : List Bool) → KeepsContent self.old (bits ++ run_bits self.old.zero 6) → found_in self.new.bytes result ≡ judged bits }
+        ensures judged { (bits : List Bool) → KeepsContent self.old (bits ++ run_bits self.old.zero 6) → fed_lying_in self.new.bytes result ≡ judged bits }
         ensures sized { HasPayload result }
     {
         let end = END_ONES + u32::from(self.zero);
@@ -151,7 +151,7 @@ fn put_word(bytes: &mut [u8; 40], place: u32, word: u64)
 fn judge_bytes(bytes: &[u8]) -> Found
     requires few { 3 ≤ length bytes.now }
     requires most { length bytes.now ≤ 32 }
-    ensures judged { (more : List ℕ) → found_in (bytes.now ++ more) result ≡ judged_bytes bytes.now }
+    ensures judged { (more : List ℕ) → fed_lying_in (bytes.now ++ more) result ≡ judged_bytes bytes.now }
     ensures sized { HasPayload result }
 {
     let len = bytes.len() - 2;

@@ -31,7 +31,7 @@ impl Deframer {
     ghost use Rattle.swp_frame.specs.Signal.{Symbol, bit_0, bit_1, break, symbol_of, mark_of, start_mark, run_of, read_on, HasNoMark};
     ghost use Rattle.swp_frame.specs.Words.{part_bits, IsWordBehind, IsPartBehind};
     ghost use Rattle.swp_frame.specs.Verdicts.{verdict};
-    ghost use Rattle.swp_frame.specs.Found.{found_in, HasPayload};
+    ghost use Rattle.swp_frame.specs.Found.{fed_lying_in, HasPayload};
     ghost use Rattle.swp_frame.specs.Kept.{DeframerStandsFor, lying_bytes};
 
     /// A deframer that has read nothing.
@@ -64,7 +64,7 @@ impl Deframer {
     pub fn feed_in_place(&mut self, bit: bool) -> Found
         ensures stands { (seen : List Symbol) → DeframerStandsFor self.old seen → DeframerStandsFor self.new (symbol_of bit ∷ seen) }
         ensures answer { (seen : List Symbol) → DeframerStandsFor self.old seen
-            → found_in (lying_bytes self.new) result ≡ verdict (symbol_of bit ∷ seen) }
+            → fed_lying_in (lying_bytes self.new) result ≡ verdict (symbol_of bit ∷ seen) }
         ensures sized { HasPayload result }
     {
         if self.ones == START_ONES {
@@ -152,7 +152,7 @@ impl Deframer {
         requires { self.old.ones ≡ 6 }
         ensures stands { (seen : List Symbol) → DeframerStandsFor self.old seen → DeframerStandsFor self.new (symbol_of bit ∷ seen) }
         ensures answer { (seen : List Symbol) → DeframerStandsFor self.old seen
-            → found_in (lying_bytes self.new) result ≡ verdict (symbol_of bit ∷ seen) }
+            → fed_lying_in (lying_bytes self.new) result ≡ verdict (symbol_of bit ∷ seen) }
         ensures sized { HasPayload result }
     {
         if bit {
@@ -167,7 +167,7 @@ impl Deframer {
     fn read_end(&mut self) -> Found
         requires { self.old.ones ≡ 6 }
         ensures stands { (seen : List Symbol) → DeframerStandsFor self.old seen → DeframerStandsFor self.new (bit_1 ∷ seen) }
-        ensures answer { (seen : List Symbol) → DeframerStandsFor self.old seen → found_in (lying_bytes self.new) result ≡ verdict (bit_1 ∷ seen) }
+        ensures answer { (seen : List Symbol) → DeframerStandsFor self.old seen → fed_lying_in (lying_bytes self.new) result ≡ verdict (bit_1 ∷ seen) }
         ensures sized { HasPayload result }
     {
         self.ones = START_ONES + 1;
@@ -184,7 +184,7 @@ impl Deframer {
     fn read_start(&mut self) -> Found
         requires { self.old.ones ≡ 6 }
         ensures stands { (seen : List Symbol) → DeframerStandsFor self.old seen → DeframerStandsFor self.new (bit_0 ∷ seen) }
-        ensures answer { (seen : List Symbol) → DeframerStandsFor self.old seen → found_in (lying_bytes self.new) result ≡ verdict (bit_0 ∷ seen) }
+        ensures answer { (seen : List Symbol) → DeframerStandsFor self.old seen → fed_lying_in (lying_bytes self.new) result ≡ verdict (bit_0 ∷ seen) }
         ensures sized { HasPayload result }
     {
         let was_open = self.is_open;

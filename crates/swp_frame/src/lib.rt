@@ -12,5 +12,5 @@ mod word;
 
 pub use deframer::Deframer;
 pub use fed::{Fed, Found};
-pub use frame_bits::{FrameBits, write_frame};
+pub use frame_bits::{BitBytes, FrameBits, append_frame, write_frame};
 pub use word::{Part, Word};

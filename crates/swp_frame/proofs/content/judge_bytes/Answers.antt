@@ -20,4 +20,5 @@ returns-clause-judged c = λ more.
     let got : c.from_be_bytes-got.result ≡ 256 * get_or bytes (length bytes - 2) 0 + get_or bytes (length bytes - 1) 0 =
     last_two c.from_be_bytes-got.result (length bytes) bytes bytes c.split_at.result.1.now c.from_be_bytes-got.ensures
     c.split_at.ensures.by_index.2 refl refl (omega (arith, c.requires.few)) in
-    ap Frame (take_front (length bytes - 2) bytes more (omega arith)) ∙ crc_is_right bytes c.crc-want.result c.from_be_bytes-got.result want got c.if-want-got.false
+    ap Frame (take_front (length bytes - 2) bytes more (omega arith))
+    ∙ crc_is_right bytes c.crc-want.result c.from_be_bytes-got.result want got c.if-want-got.false

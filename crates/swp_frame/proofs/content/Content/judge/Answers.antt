@@ -1,7 +1,7 @@
 use Rattle.std.proofs.Common.{◌≡◌, ◌∙◌, ◌++◌, ◌+◌, ◌-◌, ◌*◌, ◌/◌, ◌%◌, ◌^◌, ℕ, ap, sym, arith, w64, length, take, drop, length-append, take-append-drop}
 use Rattle.std.specs.Int.{to_be_bytes}
 use Rattle.swp_frame.specs.Content.{judged_bytes}
-use Rattle.swp_frame.specs.Found.{found_in}
+use Rattle.swp_frame.specs.Found.{fed_lying_in}
 use Rattle.swp_frame.specs.Kept.{run_bits}
 use Rattle.swp_frame.proofs.ContentLemmas.{length-end, judged_whole, content_bytes, take_within}
 use Rattle.swp_frame.proofs.content.Content.judge.Goals as goal
@@ -19,7 +19,7 @@ returns-clause-judged c = λ bits kept.
     let read : own.bits ≡ length bits + length tail = omega (arith, kept.count, all, behind.0, behind.1, c.from-end.ensures) in
     let bytes = content_bytes n bits tail (kept.few (omega (arith, all, behind.1, same))) (omega (arith, same)) behind.1
     (omega (arith, behind.0)) (ap (λ m. own.partial * 2 ^ (64 - m % 64) % 2 ^ 64) (read ∙ sym all)) in
-    ap (λ xs. found_in xs c.judge_bytes.result) (sym (take-append-drop n laid))
+    ap (λ xs. fed_lying_in xs c.judge_bytes.result) (sym (take-append-drop n laid))
     ∙ c.judge_bytes.ensures.judged (drop n laid)
     ∙ ap judged_bytes
     (sym (take_within n (8 * (own.bits / 64) + 8) laid (omega (arith, same, read)))
