@@ -56,7 +56,7 @@ pub kept : (bytes : List ℕ) → is_whole bytes ≡ false → emptied bytes ≡
 kept bytes e = rw e refl
 
 -- bytes that came one after another behind others, the newest first
-abbrev came : List ℕ → List ℕ → List ℕ
+abbrev pub came : List ℕ → List ℕ → List ℕ
 came seen [] = seen
 came seen (b ∷ bytes) = came (b ∷ seen) bytes
 
@@ -167,8 +167,12 @@ says_unit count [] low high long = absurd (omega (arith, long))
 says_unit count (x ∷ bytes) low high long =
     ap says_something (said_whole 0 count x count bytes (omega arith) low high long) ∙ says_checked (x ∷ bytes)
 
+pub said_rest : (count : ℕ) (bytes : List ℕ) → 0 < count → count ≤ 30 → length bytes ≡ count + 2 → unit_said (0 ∷ count ∷ bytes) ≡ checked bytes
+said_rest count [] low high long = absurd (omega (arith, long))
+said_rest count (x ∷ bytes) low high long = said_whole 0 count x count bytes (omega arith) low high long
+
 -- a unit gives what it says, and then nothing is under way
-unit_is_read : (seen bytes later : List ℕ) → unit_under_way seen ≡ [] → IsUnit bytes
+pub unit_is_read : (seen bytes later : List ℕ) → unit_under_way seen ≡ [] → IsUnit bytes
     → (filter says_something (units_given seen (bytes ++ later)) ≡ unit_said bytes ∷ filter says_something (units_given (came seen bytes) later))
     × (unit_under_way (came seen bytes) ≡ [])
 unit_is_read seen bytes later is (inl tick) =

@@ -1,16 +1,16 @@
 -- Bytes with which no unit ends.
 use Rattle.std.proofs.Common.{◌≡◌, ◌∙◌, ℕ, suc, ◌+◌, ◌-◌, ◌*◌, ◌≤◌, ◌<◌, true, false, List, [], ◌∷◌, ◌++◌, length, reverse, take, drop, refl, sym, ap, subst}
-use Rattle.std.proofs.Common.{inl, inr, arith, append-nil, append_assoc, length-append, length-take, take-add}
-use Rattle.std.specs.Prelude.{◌==◌}
-use Rattle.std.proofs.lemmas.Bool.{ne_eqb, eqb-true, le-leb, lt-leb, cases_lt, true≢false}
+use Rattle.std.proofs.Common.{zero, get_or, inl, inr, arith, append-nil, append_assoc, length-append, length-take, take-add, take-append-drop}
+use Rattle.std.specs.Prelude.{◌==◌, filter, Option, Some, None, IfSome}
+use Rattle.std.proofs.lemmas.Bool.{eq-eqb, ne_eqb, eqb-true, le-leb, lt-leb, cases_lt, true≢false}
 use Rattle.std.proofs.lemmas.List.{reverse-append}
-use Rattle.byte_link.specs.declared.unit.Unit.TheVariants.{Nothing}
+use Rattle.byte_link.specs.declared.unit.Unit.TheVariants.{Nothing, Frame}
 use Rattle.byte_link.specs.declared.link.ByteLink.{ByteLink}
-use Rattle.byte_link.specs.Units.{is_whole, unit_said}
-use Rattle.byte_link.specs.Reading.{emptied, unit_under_way, unit_given, units_given}
+use Rattle.byte_link.specs.Units.{is_whole, checked, unit_said, BeginsWithUnit}
+use Rattle.byte_link.specs.Reading.{emptied, unit_under_way, unit_given, units_given, says_something}
 use Rattle.byte_link.specs.Written.{units_behind}
 use Rattle.byte_link.specs.Kept.{IsPartial, IsLost, ByteLinkStandsFor}
-use Rattle.byte_link.proofs.ReadAgain.{skip, kept}
+use Rattle.byte_link.proofs.ReadAgain.{skip, kept, came, unit_is_read, said_rest}
 
 -- ---- a part of a unit
 
@@ -173,3 +173,87 @@ stands_lost link seen bytes lost stands = record {
 
 pub quiet_lost : (link : ByteLink) (seen bytes : List ℕ) → link.lost ≡ true → ByteLinkStandsFor link seen → units_behind seen bytes ≡ []
 quiet_lost link seen bytes lost stands = (all_lost bytes seen (stands.lost lost)).0
+
+-- ---- a whole unit at once
+
+came_is : (bytes seen : List ℕ) → came seen bytes ≡ reverse bytes ++ seen
+came_is [] seen = refl
+came_is (b ∷ bytes) seen = came_is bytes (b ∷ seen) ∙ sym (onto b bytes seen)
+
+unit_read : (seen rest lpdu : List ℕ) → unit_under_way seen ≡ [] → 0 < length lpdu → length lpdu ≤ 30 → length rest ≡ length lpdu + 2
+    → checked rest ≡ Frame lpdu
+    → (units_behind seen (0 ∷ length lpdu ∷ rest) ≡ Frame lpdu ∷ []) × (unit_under_way (reverse (0 ∷ length lpdu ∷ rest) ++ seen) ≡ [])
+unit_read seen rest lpdu is low high long said =
+    let unit = 0 ∷ length lpdu ∷ rest in
+    let read = unit_is_read seen unit [] is (inr (record {
+      count = length lpdu;
+      rest = rest;
+      spelled = refl;
+      some = low;
+      most = high;
+      long = long;
+    })) in (
+      ap (λ b. filter says_something (units_given seen b)) (sym (append-nil unit))
+          ∙ (read.0 ∙ ap (λ u. u ∷ []) (said_rest (length lpdu) rest low high long ∙ said)),
+      ap unit_under_way (sym (came_is unit seen)) ∙ read.1,
+    )
+
+front_is : (bytes lpdu : List ℕ) → (u : BeginsWithUnit bytes lpdu) → take (length lpdu + 4) bytes ≡ 0 ∷ length lpdu ∷ u.rest
+front_is bytes lpdu u =
+    let more : length lpdu + 4 ≡ suc (suc (length u.rest)) = omega (arith, u.long) in
+    ap (λ xs. take (length lpdu + 4) xs) u.front
+    ∙ ap (λ n. take n (0 ∷ length lpdu ∷ u.rest ++ u.later)) more
+    ∙ ap (λ xs. 0 ∷ length lpdu ∷ xs) (take_front u.rest u.later)
+  where
+    take_front : (xs ys : List ℕ) → take (length xs) (xs ++ ys) ≡ xs
+    take_front [] ys = none_of ys 0 refl
+    take_front (x ∷ xs) ys = ap (λ zs. x ∷ zs) (take_front xs ys)
+
+pub for_some : {X : Type 0} {P Q : X → Type 0} (o : Option X) → ((x : X) → P x → Q x) → IfSome o P → IfSome o Q
+for_some None f none = none
+for_some (Some x) f some = f x some
+
+pub whole_stands : (link : ByteLink) (bytes lpdu seen : List ℕ) → link.lost ≡ false → link.unit.items ≡ [] → BeginsWithUnit bytes lpdu
+    → ByteLinkStandsFor link seen → ByteLinkStandsFor link (reverse (take (length lpdu + 4) bytes) ++ seen)
+whole_stands link bytes lpdu seen reads empty u stands =
+    let read = unit_read seen u.rest lpdu (sym (stands.same reads) ∙ empty) u.sized.0 u.sized.1 u.long u.said in
+    let behind : unit_under_way (reverse (take (length lpdu + 4) bytes) ++ seen) ≡ [] =
+    ap (λ xs. unit_under_way (reverse xs ++ seen)) (front_is bytes lpdu u) ∙ read.1 in
+    record {
+      lost = λ lost. absurd (true≢false (sym lost ∙ reads));
+      same = λ _. empty ∙ sym behind;
+      partial = λ _. subst IsPartial (sym behind) tt;
+    }
+
+pub whole_gives : (link : ByteLink) (bytes lpdu seen : List ℕ) → link.lost ≡ false → link.unit.items ≡ [] → BeginsWithUnit bytes lpdu
+    → ByteLinkStandsFor link seen → units_behind seen (take (length lpdu + 4) bytes) ≡ Frame lpdu ∷ []
+whole_gives link bytes lpdu seen reads empty u stands =
+    ap (units_behind seen) (front_is bytes lpdu u)
+    ∙ (unit_read seen u.rest lpdu (sym (stands.same reads) ∙ empty) u.sized.0 u.sized.1 u.long u.said).0
+
+take_whole : (xs : List ℕ) (n : ℕ) → length xs ≤ n → take n xs ≡ xs
+take_whole [] zero over = refl
+take_whole [] (suc n) over = refl
+take_whole (x ∷ xs) zero over = absurd (omega (arith, over))
+take_whole (x ∷ xs) (suc n) over = ap (λ ys. x ∷ ys) (take_whole xs n (omega (arith, over)))
+
+-- a unit of which the parts were read
+pub first_unit : (bytes lpdu r : List ℕ) (count : ℕ) → 2 ≤ length bytes → r ≡ take (length bytes - 2) (drop 2 bytes) → get_or bytes 0 0 ≡ 0
+    → get_or bytes 1 0 ≡ count → 0 < count → count ≤ 30 → count + 2 ≤ length r → checked (take (count + 2) r) ≡ Frame lpdu
+    → length lpdu + 2 ≡ length (take (count + 2) r) → BeginsWithUnit bytes lpdu
+first_unit [] lpdu r count two is high low some most fits said long = absurd (omega (arith, two))
+first_unit (h ∷ []) lpdu r count two is high low some most fits said long = absurd (omega (arith, two))
+first_unit (h ∷ m ∷ bytes) lpdu r count two is high low some most fits said long =
+    let all : r ≡ bytes = is ∙ take_whole bytes (length (h ∷ m ∷ bytes) - 2) (omega arith) in
+    let same : count ≡ length lpdu = omega (arith, long, length-take (count + 2) r, fits) in
+    record {
+      rest = take (count + 2) r;
+      later = drop (count + 2) r;
+      front =
+          ap (λ x. x ∷ m ∷ bytes) high
+          ∙ ap (λ x. 0 ∷ x ∷ bytes) (low ∙ same)
+          ∙ ap (λ xs. 0 ∷ length lpdu ∷ xs) (sym all ∙ sym (take-append-drop (count + 2) r));
+      long = sym long;
+      said = said;
+      sized = (omega (arith, same, some), omega (arith, same, most));
+    }

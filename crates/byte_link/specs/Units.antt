@@ -1,5 +1,7 @@
 -- The units of a byte link.
-use Rattle.std.specs.Prelude.{ℕ, ◌+◌, ◌-◌, ◌*◌, ◌/◌, ◌%◌, ◌==◌, nat_le, ◌&&◌, Bool, true, false, List, [], ◌∷◌, ◌++◌, length, take, slice_index, if◌then◌else◌}
+use Rattle.std.specs.Prelude.{ℕ, ◌+◌, ◌-◌, ◌*◌, ◌/◌, ◌%◌, ◌==◌, ◌≡◌, nat_le, ◌&&◌, Bool, true, false, List, [], ◌∷◌, ◌++◌, length, take, slice_index}
+use Rattle.std.specs.Prelude.{if◌then◌else◌}
+use Rattle.swp_base.specs.DataUnits.{IsLpdu}
 use Rattle.swp_base.specs.declared.link_terms.FrameFault.TheVariants.{Length, Crc}
 use Rattle.swp_crc.specs.Crc.{crc_of}
 use Rattle.byte_link.specs.declared.unit.Unit as unit
@@ -35,3 +37,12 @@ unit_said (high ∷ low ∷ []) =
     if count == 0 then Tick else if nat_le count 30 then Nothing else Refused (Length (8 * count))
 unit_said (high ∷ low ∷ byte ∷ bytes) =
     if is_whole (high ∷ low ∷ byte ∷ bytes) then checked (byte ∷ bytes) else Nothing
+
+-- these bytes begin with a whole unit that says this LPDU
+pub record BeginsWithUnit (bytes lpdu : List ℕ) : Type 0 where
+  pub rest : List ℕ
+  pub later : List ℕ
+  pub front : bytes ≡ 0 ∷ length lpdu ∷ rest ++ later
+  pub long : length rest ≡ length lpdu + 2
+  pub said : checked rest ≡ Frame lpdu
+  pub sized : IsLpdu lpdu

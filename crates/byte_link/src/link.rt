@@ -1,6 +1,8 @@
 //! Reads the units of a byte link.
 ghost use Rattle.std.specs.Prelude.{ℕ, List, [], ◌∷◌, ◌++◌, ◌≡◌, ◌+◌, ◌<◌, ◌≤◌, length, reverse, take};
-ghost use Rattle.byte_link.specs.Units.{checked};
+ghost use Rattle.std.specs.Prelude.{IfSome, IfOk, IfErr};
+ghost use Rattle.swp_base.specs.DataUnits.{IsLpdu};
+ghost use Rattle.byte_link.specs.Units.{checked, BeginsWithUnit};
 
 use crate::unit::Unit;
 use arrayvec::ArrayVec;
@@ -85,6 +87,23 @@ impl ByteLink {
         few
     }
 
+    /// The LPDU of the unit with which these bytes begin, where no unit is under way and this one is whole; its CRC is right. The link is behind
+    /// the unit, four bytes longer than the LPDU, as it was before it.
+    #[inline(always)]
+    pub fn whole_lpdu<'a>(&self, bytes: &'a [u8]) -> Option<&'a [u8]>
+        ensures lpdu { IfSome result (λ lpdu. IsLpdu lpdu.now) }
+        ensures within { IfSome result (λ lpdu. length lpdu.now + 4 ≤ length bytes.now) }
+        ensures stands { IfSome result (λ lpdu. (seen : List ℕ) → ByteLinkStandsFor self.now seen
+            → ByteLinkStandsFor self.now (reverse (take (length lpdu.now + 4) bytes.now) ++ seen)) }
+        ensures answer { IfSome result (λ lpdu. (seen : List ℕ) → ByteLinkStandsFor self.now seen
+            → units_behind seen (take (length lpdu.now + 4) bytes.now) ≡ Unit.Frame lpdu.now ∷ []) }
+    {
+        if self.lost || !self.unit.is_empty() {
+            return None;
+        }
+        first_lpdu(bytes)
+    }
+
     // Appends bytes to the unit under way.
     #[inline(always)]
     fn append(&mut self, bytes: &[u8])
@@ -124,20 +143,53 @@ impl ByteLink {
     }
 }
 
+/// The LPDU that a unit says at the front of these bytes; none where no such unit stands there whole.
+#[inline(always)]
+fn first_lpdu(bytes: &[u8]) -> Option<&[u8]>
+    ensures { IfSome result (λ lpdu. BeginsWithUnit bytes.now lpdu.now) }
+{
+    let [high, low, rest @ ..] = bytes else {
+        return None;
+    };
+    if *high != 0 || *low == 0 || u16::from(*low) > MAX_COUNT {
+        return None;
+    }
+    let count = usize::from(*low) + 2;
+    if rest.len() < count {
+        return None;
+    }
+    match checked_bytes(&rest[..count]) {
+        Ok(lpdu) => Some(lpdu),
+        Err(_) => None,
+    }
+}
+
 /// What the bytes of an LPDU say with their CRC behind them.
 fn checked_unit(bytes: &[u8]) -> Unit
     requires more { 3 ≤ length bytes.now }
     requires less { length bytes.now ≤ 32 }
     ensures { result ≡ checked bytes.now }
 {
+    match checked_bytes(bytes) {
+        Ok(body) => Unit::Frame(Lpdu::new(body)),
+        Err(fault) => Unit::Refused(fault),
+    }
+}
+
+/// The bytes before the last two, which are to be their CRC.
+#[inline(always)]
+fn checked_bytes(bytes: &[u8]) -> Result<&[u8], FrameFault>
+    requires more { 3 ≤ length bytes.now }
+    requires less { length bytes.now ≤ 32 }
+    ensures said { IfOk result (λ body. checked bytes.now ≡ Unit.Frame body.now) }
+    ensures length { IfOk result (λ body. length body.now + 2 ≡ length bytes.now) }
+    ensures refused { IfErr result (λ fault. checked bytes.now ≡ Unit.Refused fault) }
+{
     let (body, crc_bytes) = bytes.split_at(bytes.len() - 2);
     let want = crc(body);
     let got = u16::from_be_bytes([crc_bytes[0], crc_bytes[1]]);
     if want != got {
-        return Unit::Refused(FrameFault::Crc { want, got });
+        return Err(FrameFault::Crc { want, got });
     }
-    match Lpdu::from_bytes(body) {
-        Some(lpdu) => Unit::Frame(lpdu),
-        None => unreachable!(),
-    }
+    Ok(body)
 }
