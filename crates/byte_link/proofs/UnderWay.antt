@@ -2,7 +2,7 @@
 use Rattle.std.proofs.Common.{◌≡◌, ◌∙◌, ℕ, suc, ◌+◌, ◌-◌, ◌*◌, ◌≤◌, ◌<◌, true, false, List, [], ◌∷◌, ◌++◌, length, reverse, take, drop, refl, sym, ap, subst}
 use Rattle.std.proofs.Common.{zero, get_or, inl, inr, arith, append-nil, append_assoc, length-append, length-take, take-add, take-append-drop}
 use Rattle.std.specs.Prelude.{◌==◌, filter, Option, Some, None, IfSome}
-use Rattle.std.proofs.lemmas.Bool.{eq-eqb, ne_eqb, eqb-true, le-leb, lt-leb, cases_lt, true≢false}
+use Rattle.std.proofs.lemmas.Bool.{ne_eqb, eqb-true, le-leb, lt-leb, cases_lt, true≢false}
 use Rattle.std.proofs.lemmas.List.{reverse-append}
 use Rattle.byte_link.specs.declared.unit.Unit.TheVariants.{Nothing, Frame}
 use Rattle.byte_link.specs.declared.link.ByteLink.{ByteLink}
