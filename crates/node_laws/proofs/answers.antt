@@ -16,3 +16,6 @@ pub mod WrongAnswers
 pub mod WrongActivated
 pub mod WrongParts
 pub mod WrongSettled
+pub mod Rows
+pub mod HostRows
+pub mod Rules

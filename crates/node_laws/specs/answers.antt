@@ -3,3 +3,5 @@ pub mod Order
 pub mod Unasked
 pub mod Answered
 pub mod Headline
+pub mod Rows
+pub mod Rules

@@ -31,6 +31,7 @@ pub mod passes_of_worlds;
 pub mod power_cuts;
 pub mod readings_in_steps;
 pub mod replies_as_read;
+pub mod replies_in_rows;
 pub mod replies_of_histories;
 pub mod replies_of_hosts;
 pub mod rooms_in_steps;
