@@ -59,8 +59,12 @@ goes_idly (h ∷ hosts) w live a =
     ap (λ (ms : List Message). unless_cut (goes_through_ends hosts) (have_turns h ms w)) i.0
     ∙ (ap (unless_cut (goes_through_ends hosts)) (stays h w i.1) ∙ (goes_on (goes_through_ends hosts) w live ∙ goes_idly hosts w live a))
 
+-- where no session ended and no identifier came, a step ends with its turns
+pub only_passes : (syncs : List Deed) (w : Work) → syncs ≡ [] → w.cut ≡ false → list_any is_over w.ports ≡ false → finishes syncs w ≡ passes w
+only_passes syncs w none live over =
+    ap (unless_cut passes) (nothing_ended syncs w over ∙ ap (λ (ds : List Deed). all_done 0 ds w) none) ∙ goes_on passes w live
+
 pub idle_finishes : (syncs : List Deed) (w : Work) → syncs ≡ [] → w.cut ≡ false → are_idle w.ports ≡ true → finishes syncs w ≡ w
 idle_finishes syncs w none live idle =
     let a = all_idle w.ports idle in
-    ap (unless_cut passes) (nothing_ended syncs w (none_over w.ports a) ∙ ap (λ (ds : List Deed). all_done 0 ds w) none)
-    ∙ (goes_on passes w live ∙ goes_idly (map (λ (p : Port). p.desk.host) w.ports) w live a)
+    only_passes syncs w none live (none_over w.ports a) ∙ goes_idly (map (λ (p : Port). p.desk.host) w.ports) w live a

@@ -1,7 +1,7 @@
 //! What comes to an end of a node.
 ghost use Rattle.std.specs.Prelude.{◌≡◌};
 
-use crate::node::Node;
+use crate::node::{InBuffer, Node};
 use crate::noting::note;
 use crate::reporting::{note_report, tells_nothing};
 use link_end::{LinkReport, ResetRefused};
@@ -27,23 +27,31 @@ impl<N: Nv + Drop> Node<N> {
     ghost use Rattle.node_machine.specs.Node.NodeInput.{AtEnd, TimePasses};
     ghost use Rattle.node_ends.specs.Holding.{kept_number};
     ghost use Rattle.node_ends.specs.Ends.{EndsStandFor, FewAreDue, IsHeldWhileOneWaits, MayStartAt, got_at};
-    ghost use Rattle.node_core.specs.Nodes.{IsInStep, IsSoundNode};
+    ghost use Rattle.node_core.specs.Nodes.{IsInStep, IsSoundNode, LiesInBuffer};
     ghost use Rattle.node_core.specs.Turning.{AreFewDue};
     ghost use Rattle.node_core.specs.Noting.{AreNotes, unnumbered};
 
-    // The message that came to the end of the link with this host, where one did, is noted. The buffer has 4,096 bytes.
-    fn note_message<W: Watch>(&self, host: u8, came: bool, buffer: &mut [u8], watch: &mut W)
+    // The message that came to the end of the link with this host, where one did, is noted: it lies in the front of the buffer then. The
+    // buffer has 4,096 bytes.
+    fn note_message<W: Watch>(
+        &self,
+        host: u8,
+        came: bool,
+        buffer: &mut [u8],
+        watch: &mut W,
+    ) -> Option<InBuffer>
         requires runs { IsSoundNode self.now }
         requires buffer { length buffer.old ≡ 4096 }
-        ensures { (ports : List Port) (core : Core) → EndsStandFor self.now.ends ports → core.node ≡ self.now.number
+        ensures lies { LiesInBuffer self.now.ends buffer.new result }
+        ensures notes { (ports : List Port) (core : Core) → EndsStandFor self.now.ends ports → core.node ≡ self.now.number
             → AreNotes (W.is_short watch.old) (W.is_short watch.new) (W.noted watch.old) (W.noted watch.new)
             (entries_for host (map (Got (own_side core) 0) (if came then got_at ports host else []))) }
     {
         if !came {
-            return;
+            return None;
         }
         let Some((pipe, len)) = self.ends.read(host, buffer) else {
-            return;
+            return None;
         };
         let got = Entry::Got {
             at: self.end_at(host),
@@ -52,6 +60,11 @@ impl<N: Nv + Drop> Node<N> {
             message: Octets::new(self.alloc),
         };
         note(watch, got, &buffer[..len]);
+        Some(InBuffer {
+            host,
+            pipe,
+            len: len as u16,
+        })
     }
 
     // How many messages of the session of the end of the link with this host are acknowledged, where there are more of them; else 0, which
@@ -67,12 +80,20 @@ impl<N: Nv + Drop> Node<N> {
         self.ends.acked(host)
     }
 
-    // What an input at the end of the link with this host did is noted, with the message that it brought. The buffer has 4,096 bytes.
+    // What an input at the end of the link with this host did is noted, with the message that it brought. That message, where one came, lies
+    // in the front of the buffer then. The buffer has 4,096 bytes.
     #[inline(never)]
-    fn note_news<W: Watch>(&self, host: u8, report: &LinkReport, buffer: &mut [u8], watch: &mut W)
+    fn note_news<W: Watch>(
+        &self,
+        host: u8,
+        report: &LinkReport,
+        buffer: &mut [u8],
+        watch: &mut W,
+    ) -> Option<InBuffer>
         requires runs { IsSoundNode self.now }
         requires buffer { length buffer.old ≡ 4096 }
-        ensures { (ports : List Port) (core : Core) (x : Report) (n acked : ℕ) → EndsStandFor self.now.ends ports → core.node ≡ self.now.number
+        ensures lies { LiesInBuffer self.now.ends buffer.new result }
+        ensures notes { (ports : List Port) (core : Core) (x : Report) (n acked : ℕ) → EndsStandFor self.now.ends ports → core.node ≡ self.now.number
             → report.now ≡ report_told x → option_map_or (λ (p : Port). kept_number (whole_acked p.side)) (port_at ports host) 0 ≡ kept_number acked
             → x.got ≡ (if report.now.got then got_at ports host else [])
             → AreNotes (W.is_short watch.old) (W.is_short watch.new) (W.noted watch.old) (W.noted watch.new)
@@ -80,11 +101,11 @@ impl<N: Nv + Drop> Node<N> {
     {
         let at = self.end_at(host);
         note_report(watch, at, report, self.acked(host, report.acked > 0));
-        self.note_message(host, report.got, buffer, watch);
+        self.note_message(host, report.got, buffer, watch)
     }
 
-    // What an input at the end of the link with this host did is noted, where anything of it is, with the message that it brought. The
-    // buffer has 4,096 bytes.
+    // What an input at the end of the link with this host did is noted, where anything of it is, with the message that it brought. That
+    // message, where one came, lies in the front of the buffer then. The buffer has 4,096 bytes.
     #[inline]
     pub(crate) fn note_input<W: Watch>(
         &self,
@@ -92,24 +113,25 @@ impl<N: Nv + Drop> Node<N> {
         report: &LinkReport,
         buffer: &mut [u8],
         watch: &mut W,
-    )
+    ) -> Option<InBuffer>
         requires runs { IsSoundNode self.now }
         requires buffer { length buffer.old ≡ 4096 }
-        ensures { (ports : List Port) (core : Core) (x : Report) (n acked : ℕ) → EndsStandFor self.now.ends ports → core.node ≡ self.now.number
+        ensures lies { LiesInBuffer self.now.ends buffer.new result }
+        ensures notes { (ports : List Port) (core : Core) (x : Report) (n acked : ℕ) → EndsStandFor self.now.ends ports → core.node ≡ self.now.number
             → report.now ≡ report_told x → option_map_or (λ (p : Port). kept_number (whole_acked p.side)) (port_at ports host) 0 ≡ kept_number acked
             → x.got ≡ (if report.now.got then got_at ports host else [])
             → AreNotes (W.is_short watch.old) (W.is_short watch.new) (W.noted watch.old) (W.noted watch.new)
             (map unnumbered (entries_for host (told (own_side core) n x acked))) }
     {
         if tells_nothing(report) {
-            return;
+            return None;
         }
-        self.note_news(host, report, buffer, watch);
+        self.note_news(host, report, buffer, watch)
     }
 
     /// What an LPDU says comes to the end of the link with this host, and is noted. At most six control frames wait there to be sent, and
     /// while a message waits there the end is held. The buffer has 4,096 bytes. What is told of it is put into `told`: `None` where there is
-    /// no such end.
+    /// no such end. The message that came, where one did, lies in the front of the buffer then.
     pub(crate) fn take<W: Watch>(
         &mut self,
         host: u8,
@@ -117,7 +139,7 @@ impl<N: Nv + Drop> Node<N> {
         buffer: &mut [u8],
         watch: &mut W,
         told: &mut Option<LinkReport>,
-    )
+    ) -> Option<InBuffer>
         requires runs { IsSoundNode self.old }
         requires buffer { length buffer.old ≡ 4096 }
         requires may { (start : List Noted) × (w : Work) × IsInStep self.old (W.noted watch.old) (W.is_short watch.old) start w
@@ -127,15 +149,16 @@ impl<N: Nv + Drop> Node<N> {
             → read.now ≡ control_of lpdu → IsInStep self.new (W.noted watch.new) (W.is_short watch.new) start (all_come (AtEnd host (lpdu_input lpdu)) w) }
         ensures answer { (start : List Noted) (w : Work) (lpdu : List ℕ) → IsInStep self.old (W.noted watch.old) (W.is_short watch.old) start w
             → read.now ≡ control_of lpdu → told.new ≡ option_map (λ (p : Port). report_told (report p.side (lpdu_input lpdu))) (port_at w.ports host) }
+        ensures lies { LiesInBuffer self.new.ends buffer.new result }
         ensures store { self.new.store ≡ self.old.store }
         ensures number { self.new.number ≡ self.old.number }
         ensures runs { IsSoundNode self.new }
     {
         self.ends.take(host, read, told);
         let Some(report) = told else {
-            return;
+            return None;
         };
-        self.note_input(host, report, buffer, watch);
+        self.note_input(host, report, buffer, watch)
     }
 
     /// Activation begins anew at the end of the link with this host, with the power mode of a CLF or the sync identifier of a UICC, and

@@ -2,7 +2,7 @@
 use crate::booting::{BootFault, BootRefused};
 use crate::hosts::hosts_of;
 use crate::node::Node;
-use crate::running::{Ran, how_it_ran};
+use crate::running::{Ran, Stepped, how_it_ran};
 use arrayvec::ArrayVec;
 use hci_store::Store;
 use link_end::ResetRefused;
@@ -54,7 +54,7 @@ impl<N: Nv + Drop> Controller<N> {
     ghost use Rattle.node_ends.specs.Making.{new_port};
     ghost use Rattle.node_core.specs.Booting.{found_in_memory, IsBootRefused};
     ghost use Rattle.node_core.specs.Bringing.{Brings};
-    ghost use Rattle.node_core.specs.Running.{RunsAs, BeginsStep, HasStepped, MayStep, ran_so, one_more_error, core_kept, reset_refusal_at};
+    ghost use Rattle.node_core.specs.Running.{RunsAs, BeginsStep, HasStepped, MayStep, ran_so, one_more_error, core_kept, reset_refusal_at, becomes_active_by};
 
     /// A controller boots from a memory of 65,536 bytes, with links to the hosts of this mask, in which bit h stands for host h. It takes
     /// all its memory here. A memory that says nothing is formatted; one of version 01 is written anew as a snapshot of version 02
@@ -99,7 +99,7 @@ impl<N: Nv + Drop> Controller<N> {
         ensures count { N.faults self.old.store.journal.nv ≤ N.faults self.new.store.journal.nv }
         ensures rose { result ≡ Ran.Stopped → Rose (N.faults self.old.store.journal.nv) (N.faults self.new.store.journal.nv) }
     {
-        self.take_read(host, &read_lpdu(lpdu), watch)
+        self.take_step(host, &read_lpdu(lpdu), watch).ran
     }
 
     /// What an LPDU says is taken from the link with this host, as `take` takes the LPDU.
@@ -118,11 +118,33 @@ impl<N: Nv + Drop> Controller<N> {
         ensures count { N.faults self.old.store.journal.nv ≤ N.faults self.new.store.journal.nv }
         ensures rose { result ≡ Ran.Stopped → Rose (N.faults self.old.store.journal.nv) (N.faults self.new.store.journal.nv) }
     {
-        let live = self
+        self.take_step(host, read, watch).ran
+    }
+
+    /// What an LPDU says is taken from the link with this host, as `take` takes the LPDU. The answer says, too, whether the end of the link
+    /// became active.
+    pub fn take_step<W: Watch>(
+        &mut self,
+        host: u8,
+        read: &Result<Control, LpduFault>,
+        watch: &mut W,
+    ) -> Stepped
+        requires may { MayStep self.old }
+        requires read { (lpdu : List ℕ) × (read.now ≡ control_of lpdu) }
+        ensures stepped { (start : List Noted) (w : Work) (lpdu : List ℕ) → BeginsStep self.old (W.noted watch.old) (W.is_short watch.old) start w
+            → read.now ≡ control_of lpdu → Brings N.writes self.old.store.journal.nv self.new.store.journal.nv
+            (HasStepped self.new (W.noted watch.new) (W.is_short watch.new) start) (steps (AtEnd host (lpdu_input lpdu))) w }
+        ensures active { (start : List Noted) (w : Work) (lpdu : List ℕ) → BeginsStep self.old (W.noted watch.old) (W.is_short watch.old) start w
+            → read.now ≡ control_of lpdu → result.became_active ≡ becomes_active_by (lpdu_input lpdu) (port_at w.ports host) }
+        ensures ran { result.ran ≡ ran_so self.new.store.journal.live }
+        ensures count { N.faults self.old.store.journal.nv ≤ N.faults self.new.store.journal.nv }
+        ensures rose { result.ran ≡ Ran.Stopped → Rose (N.faults self.old.store.journal.nv) (N.faults self.new.store.journal.nv) }
+    {
+        let stepped = self
             .node
             .take_step(host, read, self.buffer.as_mut_slice(), watch);
         self.node.end_step();
-        how_it_ran(live)
+        stepped
     }
 
     /// A tick passes at all links. Every frame of the step before was fetched.

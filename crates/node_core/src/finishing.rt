@@ -1,9 +1,10 @@
 //! The steps of a node.
 ghost use Rattle.std.specs.Prelude.{◌≡◌};
 ghost use Rattle.node_core.specs.Syncing.{sync_told};
-ghost use Rattle.node_core.specs.Running.{refused_in};
+ghost use Rattle.node_core.specs.Running.{refused_in, is_active_told};
 
-use crate::node::Node;
+use crate::node::{InBuffer, Node};
+use crate::running::{Stepped, how_it_ran};
 use link_end::{LinkReport, ResetRefused};
 use swp_base::{Control, Nv};
 use swp_lpdu::LpduFault;
@@ -19,6 +20,16 @@ fn sync_told(host: u8, told: &Option<LinkReport>) -> Option<(u8, u16)>
             None => None,
         },
         None => None,
+    }
+}
+
+// Whether the end of which this is told became active.
+fn is_active(told: &Option<LinkReport>) -> bool
+    ensures { result ≡ is_active_told told.now }
+{
+    match told {
+        Some(report) => report.became_active,
+        None => false,
     }
 }
 
@@ -44,11 +55,11 @@ impl<N: Nv + Drop> Node<N> {
     ghost use Rattle.trace_model.specs.declared.entry.Entry.{Entry as Noted};
     ghost use Rattle.node_machine.specs.Parts.{Work};
     ghost use Rattle.node_ends.specs.Ends.{IsHeldWhileOneWaits, MayStartAt};
-    ghost use Rattle.node_core.specs.Nodes.{IsInStep, IsSoundNode};
+    ghost use Rattle.node_core.specs.Nodes.{IsInStep, IsSoundNode, LiesInBuffer};
     ghost use Rattle.node_core.specs.Bringing.{Brings};
     ghost use Rattle.node_core.specs.Faults.{CountsFaults};
     ghost use Rattle.node_core.specs.Turning.{IsNodeInOrder, AreFewDue, AreAtMostDue, AreYoung};
-    ghost use Rattle.node_core.specs.Running.{HasNoneEnded, reset_refusal_at};
+    ghost use Rattle.node_core.specs.Running.{HasNoneEnded, reset_refusal_at, becomes_active_by, ran_so};
     ghost use Rattle.node_core.specs.Syncing.{sync_kept, finishes};
 
     // What came in a step is settled, and the messages that wait have their turns, as in `finish`.
@@ -57,12 +68,14 @@ impl<N: Nv + Drop> Node<N> {
     fn settle_and_pass<W: Watch>(
         &mut self,
         came: Option<(u8, u16)>,
+        lies: Option<InBuffer>,
         buffer: &mut [u8],
         watch: &mut W,
     ) -> bool
         requires runs { IsSoundNode self.old }
         requires live { IsTrue self.old.store.journal.live }
         requires buffer { length buffer.old ≡ 4096 }
+        requires lies { LiesInBuffer self.old.ends buffer.old lies }
         requires host { IfSome came (λ pair. (1 ≤ pair.0) × (pair.0 ≤ 7)) }
         requires may { (start : List Noted) × (w : Work) × IsInStep self.old (W.noted watch.old) (W.is_short watch.old) start w
             × IsNodeInOrder w.core w.ports × AreFewDue w.ports }
@@ -75,26 +88,31 @@ impl<N: Nv + Drop> Node<N> {
         ensures number { self.new.number ≡ self.old.number }
         ensures runs { IsSoundNode self.new }
     {
+        if came.is_none() && !self.is_over() {
+            return self.passes(lies, buffer, watch);
+        }
         if !self.settle_sessions(came, watch) {
             return false;
         }
-        self.passes(buffer, watch)
+        self.passes(None, buffer, watch)
     }
 
     /// Behind what came in a step: what sessions that ended there leave is settled, the identifier that came is kept, and the messages
     /// that wait have their turns. The node is in order, and at most six control frames wait at each end to be sent. The buffer has 4,096
-    /// bytes. Whether the node has its power still.
+    /// bytes; a message that waits lies in it already, or none does. Whether the node has its power still.
     #[inline(always)]
     #[tactic(auto, using(crate::proofs::Faults::faults_stay, crate::proofs::Faults::faults_then))]
     fn finish<W: Watch>(
         &mut self,
         came: Option<(u8, u16)>,
+        lies: Option<InBuffer>,
         buffer: &mut [u8],
         watch: &mut W,
     ) -> bool
         requires runs { IsSoundNode self.old }
         requires live { IsTrue self.old.store.journal.live }
         requires buffer { length buffer.old ≡ 4096 }
+        requires lies { LiesInBuffer self.old.ends buffer.old lies }
         requires host { IfSome came (λ pair. (1 ≤ pair.0) × (pair.0 ≤ 7)) }
         requires may { (start : List Noted) × (w : Work) × IsInStep self.old (W.noted watch.old) (W.is_short watch.old) start w
             × IsNodeInOrder w.core w.ports × AreFewDue w.ports }
@@ -110,12 +128,11 @@ impl<N: Nv + Drop> Node<N> {
         if came.is_none() && self.ends.are_idle() {
             return true;
         }
-        self.settle_and_pass(came, buffer, watch)
+        self.settle_and_pass(came, lies, buffer, watch)
     }
 
-    /// A step of a node that is in order: what an LPDU says comes to the end of the link with this
-    /// host. While a message waits there the end is held. At most
-    /// five control frames wait at each end to be sent. The buffer has 4,096 bytes. Whether the node has its power still.
+    /// A step of a node that is in order: what an LPDU says comes to the end of the link with this host. While a message waits there the end
+    /// is held. At most five control frames wait at each end to be sent. The buffer has 4,096 bytes.
     #[tactic(auto, using(crate::proofs::Faults::faults_stay, crate::proofs::Faults::faults_then))]
     pub fn take_step<W: Watch>(
         &mut self,
@@ -123,7 +140,7 @@ impl<N: Nv + Drop> Node<N> {
         read: &Result<Control, LpduFault>,
         buffer: &mut [u8],
         watch: &mut W,
-    ) -> bool
+    ) -> Stepped
         requires runs { IsSoundNode self.old }
         requires live { IsTrue self.old.store.journal.live }
         requires buffer { length buffer.old ≡ 4096 }
@@ -135,19 +152,25 @@ impl<N: Nv + Drop> Node<N> {
             → IsNodeInOrder w.core w.ports → AreAtMostDue 5 w.ports → read.now ≡ control_of lpdu
             → Brings N.writes self.old.store.journal.nv self.new.store.journal.nv
             (IsInStep self.new (W.noted watch.new) (W.is_short watch.new) start) (steps (AtEnd host (lpdu_input lpdu))) w }
-        ensures live { result ≡ self.new.store.journal.live }
+        ensures active { (start : List Noted) (w : Work) (lpdu : List ℕ) → IsInStep self.old (W.noted watch.old) (W.is_short watch.old) start w
+            → read.now ≡ control_of lpdu → result.became_active ≡ becomes_active_by (lpdu_input lpdu) (port_at w.ports host) }
+        ensures ran { result.ran ≡ ran_so self.new.store.journal.live }
         ensures faults { CountsFaults N.faults self.old.store self.new.store }
         ensures number { self.new.number ≡ self.old.number }
         ensures runs { IsSoundNode self.new }
     {
         let mut told = None;
-        self.take(host, read, buffer, watch, &mut told);
+        let lies = self.take(host, read, buffer, watch, &mut told);
         let came = sync_told(host, &told);
-        self.finish(came, buffer, watch)
+        let live = self.finish(came, lies, buffer, watch);
+        Stepped {
+            ran: how_it_ran(live),
+            became_active: is_active(&told),
+        }
     }
 
-    /// A step of a node that is in order: time passes at all of them. Notices have fewer than 255
-    /// ticks. At most four control frames wait at each end to be sent. The buffer has 4,096 bytes. Whether the node has its power still.
+    /// A step of a node that is in order: time passes at all of them. Notices have fewer than 255 ticks. At most four control frames wait at
+    /// each end to be sent. The buffer has 4,096 bytes. Whether the node has its power still.
     #[tactic(auto, using(crate::proofs::Faults::faults_stay, crate::proofs::Faults::faults_then))]
     pub fn tick_step<W: Watch>(&mut self, buffer: &mut [u8], watch: &mut W) -> bool
         requires runs { IsSoundNode self.old }
@@ -165,12 +188,12 @@ impl<N: Nv + Drop> Node<N> {
     {
         self.time_passes(buffer, watch);
         self.times_out(buffer, watch);
-        self.finish(None, buffer, watch)
+        self.finish(None, None, buffer, watch)
     }
 
-    /// A step of a node that is in order: a reset of the link with this host is asked for, with this
-    /// window, which is 1 to 4, or with the end's own one. At most
-    /// five control frames wait at each end to be sent. The buffer has 4,096 bytes. Whether the node has its power still.
+    /// A step of a node that is in order: a reset of the link with this host is asked for, with this window, which is 1 to 4, or with the
+    /// end's own one. At most five control frames wait at each end to be sent. The buffer has 4,096 bytes. Whether the node has its power
+    /// still.
     ///
     /// # Errors
     ///
@@ -208,12 +231,12 @@ impl<N: Nv + Drop> Node<N> {
         if let Some(why) = refusal(&told) {
             return Err(why);
         }
-        Ok(self.finish(None, buffer, watch))
+        Ok(self.finish(None, None, buffer, watch))
     }
 
-    /// A step of a node that is in order: activation begins anew at the end of the link with this
-    /// host, with the power mode of a CLF or the sync identifier of a UICC. At most
-    /// five control frames wait at each end to be sent. The buffer has 4,096 bytes. Whether the node has its power still.
+    /// A step of a node that is in order: activation begins anew at the end of the link with this host, with the power mode of a CLF or the
+    /// sync identifier of a UICC. At most five control frames wait at each end to be sent. The buffer has 4,096 bytes. Whether the node has
+    /// its power still.
     #[tactic(auto, using(crate::proofs::Faults::faults_stay, crate::proofs::Faults::faults_then))]
     pub fn activate_step<W: Watch>(
         &mut self,
@@ -237,12 +260,11 @@ impl<N: Nv + Drop> Node<N> {
         ensures runs { IsSoundNode self.new }
     {
         self.activate(host, value, buffer, watch);
-        self.finish(None, buffer, watch)
+        self.finish(None, None, buffer, watch)
     }
 
-    /// A step of a node that is in order: activation ends at the end of the link with this host,
-    /// and the link with it. At most
-    /// five control frames wait at each end to be sent. The buffer has 4,096 bytes. Whether the node has its power still.
+    /// A step of a node that is in order: activation ends at the end of the link with this host, and the link with it. At most five control
+    /// frames wait at each end to be sent. The buffer has 4,096 bytes. Whether the node has its power still.
     #[tactic(auto, using(crate::proofs::Faults::faults_stay, crate::proofs::Faults::faults_then))]
     pub fn deactivate_step<W: Watch>(&mut self, host: u8, buffer: &mut [u8], watch: &mut W) -> bool
         requires runs { IsSoundNode self.old }
@@ -259,6 +281,6 @@ impl<N: Nv + Drop> Node<N> {
         ensures runs { IsSoundNode self.new }
     {
         self.deactivate(host, buffer, watch);
-        self.finish(None, buffer, watch)
+        self.finish(None, None, buffer, watch)
     }
 }

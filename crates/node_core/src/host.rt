@@ -124,11 +124,11 @@ impl<N: Nv + Drop> Host<N> {
         ensures rose { result ≡ Ran.Stopped → Rose (N.faults self.old.store.journal.nv) (N.faults self.new.store.journal.nv) }
     {
         let host = self.node.number();
-        let live = self
+        let stepped = self
             .node
             .take_step(host, read, self.buffer.as_mut_slice(), watch);
         self.node.end_step();
-        how_it_ran(live)
+        stepped.ran
     }
 
     /// A tick passes at the link. Every frame of the step before was fetched.

@@ -28,6 +28,7 @@ pub use giving::HostRefused;
 pub use host::Host;
 pub use node::Node;
 pub use running::{
-    Ran, a_refused_frame_counts_at_its_desk, a_reset_of_an_end_that_became_active_is_not_refused,
-    frames_of_a_node_go_out, how_it_ran, numbers_of_sessions_are_not_kept,
+    Ran, Stepped, a_refused_frame_counts_at_its_desk,
+    a_reset_of_an_end_that_became_active_is_not_refused, frames_of_a_node_go_out, how_it_ran,
+    numbers_of_sessions_are_not_kept,
 };

@@ -16,6 +16,15 @@ pub struct Node<N: Nv + Drop> {
     pub(crate) tasks: Tasks,
 }
 
+/// A message that waits at the end of the link with a host and lies in the front of the buffer of its node.
+#[derive(Clone, Copy)]
+pub(crate) struct InBuffer {
+    pub(crate) host: u8,
+    pub(crate) pipe: u8,
+    /// How many bytes it has, at most 4,096.
+    pub(crate) len: u16,
+}
+
 impl<N: Nv + Drop> Node<N> {
     ghost use Rattle.std.specs.Prelude.{◌≡◌};
 

@@ -24,6 +24,14 @@ pub enum Ran {
     Stopped,
 }
 
+/// How a step of a node ended in which something came to one of its ends.
+#[derive(Clone, Copy, Debug, PartialEq, Eq)]
+pub struct Stepped {
+    pub ran: Ran,
+    /// Activation of that end was done in the step (ETSI TS 102 613, section 9.4).
+    pub became_active: bool,
+}
+
 /// How a step ends behind which the node has its power still, or hasn't.
 pub fn how_it_ran(live: bool) -> Ran
     ensures { result ≡ ran_so live }

@@ -1,13 +1,13 @@
 //! How a message has its turn.
 ghost use Rattle.std.specs.Prelude.{◌≡◌};
 
-use crate::node::Node;
+use crate::node::{InBuffer, Node};
 use node_deeds::{Deed, Deeds, Shortfall, lack, put_controller_deeds, put_host_deeds};
 use swp_base::Nv;
 use trace_model::Watch;
 
 impl<N: Nv + Drop> Node<N> {
-    ghost use Rattle.std.specs.Prelude.{◌≡◌, ◌≤◌, Bool, List, ◌∷◌, [], length, IsTrue};
+    ghost use Rattle.std.specs.Prelude.{◌≡◌, ◌≤◌, Bool, List, ◌∷◌, [], length, IsTrue, IfSome};
     ghost use Rattle.trace_model.specs.declared.entry.Entry.{Entry as Noted};
     ghost use Rattle.node_machine.specs.Parts.{Port, Work};
     ghost use Rattle.node_machine.specs.Carrying.{port_at};
@@ -20,8 +20,8 @@ impl<N: Nv + Drop> Node<N> {
     ghost use Rattle.node_deeds.specs.Shown.{deeds_shown};
     ghost use Rattle.node_deeds.specs.Cores.{AreDoable};
     ghost use Rattle.node_core.specs.Deeds.{handling};
-    ghost use Rattle.node_ends.specs.Ends.{EndsStandFor, FewAreDue, held_at, got_at};
-    ghost use Rattle.node_core.specs.Nodes.{IsInStep, IsSoundNode};
+    ghost use Rattle.node_ends.specs.Ends.{EndsStandFor, FewAreDue, held_at, got_at, message_read};
+    ghost use Rattle.node_core.specs.Nodes.{IsInStep, IsSoundNode, LiesInBuffer};
     ghost use Rattle.node_core.specs.Bringing.{Brings};
     ghost use Rattle.node_core.specs.Faults.{CountsFaults};
     ghost use Rattle.node_core.specs.Turning.{IsDecided, IsNodeInOrder, AreFewDue};
@@ -198,14 +198,36 @@ impl<N: Nv + Drop> Node<N> {
         self.turn_decided(host, deeds.as_slice(), short, held, pipe, message, watch)
     }
 
+    // The message that waits at the end of the link with this host, with its pipe and how many bytes of the buffer it has. It is read, unless
+    // it is the one that lies there. The buffer has 4,096 bytes.
+    #[inline(always)]
+    fn waiting(&self, host: u8, lies: Option<InBuffer>, buffer: &mut [u8]) -> Option<(u8, usize)>
+        requires runs { IsSoundNode self.now }
+        requires buffer { length buffer.old ≡ 4096 }
+        requires lies { LiesInBuffer self.now.ends buffer.old lies }
+        ensures waits { (ports : List Port) → EndsStandFor self.now.ends ports → got_at ports host ≡ message_read result buffer.new }
+        ensures inside { IfSome result (λ x. x.1 ≤ 4096) }
+    {
+        match lies {
+            Some(there) => {
+                if there.host == host {
+                    return Some((there.pipe, usize::from(there.len)));
+                }
+                self.ends.read(host, buffer)
+            }
+            None => self.ends.read(host, buffer),
+        }
+    }
+
     /// The message that waits at the end of the link with this host has its turn, where one does; then the end takes fragments again, unless
     /// the message is held back. The node is in order, and at most six control frames wait at this end to be sent. The buffer has 4,096
-    /// bytes. Whether the node has its power still.
+    /// bytes; a message that waits lies in it already, or none does. Whether the node has its power still.
     #[inline(never)]
     #[tactic(auto, using(crate::proofs::Faults::faults_stay, crate::proofs::Faults::faults_then))]
     pub(crate) fn have_turns<W: Watch>(
         &mut self,
         host: u8,
+        lies: Option<InBuffer>,
         buffer: &mut [u8],
         watch: &mut W,
     ) -> bool
@@ -214,6 +236,7 @@ impl<N: Nv + Drop> Node<N> {
         requires some { 1 ≤ host }
         requires host { host ≤ 7 }
         requires buffer { length buffer.old ≡ 4096 }
+        requires lies { LiesInBuffer self.old.ends buffer.old lies }
         requires may { (start : List Noted) × (w : Work) × IsInStep self.old (W.noted watch.old) (W.is_short watch.old) start w
             × IsNodeInOrder w.core w.ports × FewAreDue (port_at w.ports host) }
         ensures carried { (start : List Noted) (w : Work) → IsInStep self.old (W.noted watch.old) (W.is_short watch.old) start w
@@ -225,7 +248,7 @@ impl<N: Nv + Drop> Node<N> {
         ensures runs { IsSoundNode self.new }
     {
         let held = self.ends.is_held(host);
-        let Some((pipe, len)) = self.ends.read(host, buffer) else {
+        let Some((pipe, len)) = self.waiting(host, lies, buffer) else {
             self.let_go(host, held);
             return true;
         };
@@ -233,12 +256,20 @@ impl<N: Nv + Drop> Node<N> {
     }
 
     /// A node goes once through its ends, ascending, and the messages that wait there have their turns. It is in order, and at most six
-    /// control frames wait at each end to be sent. The buffer has 4,096 bytes. Whether the node has its power still.
+    /// control frames wait at each end to be sent. The buffer has 4,096 bytes; a message that waits lies in it already, or none does. Whether
+    /// the node has its power still.
+    #[inline(always)]
     #[tactic(auto, using(crate::proofs::Faults::faults_stay, crate::proofs::Faults::faults_then))]
-    pub(crate) fn passes<W: Watch>(&mut self, buffer: &mut [u8], watch: &mut W) -> bool
+    pub(crate) fn passes<W: Watch>(
+        &mut self,
+        mut lies: Option<InBuffer>,
+        buffer: &mut [u8],
+        watch: &mut W,
+    ) -> bool
         requires runs { IsSoundNode self.old }
         requires live { IsTrue self.old.store.journal.live }
         requires buffer { length buffer.old ≡ 4096 }
+        requires lies { LiesInBuffer self.old.ends buffer.old lies }
         requires may { (start : List Noted) × (w : Work) × IsInStep self.old (W.noted watch.old) (W.is_short watch.old) start w
             × IsNodeInOrder w.core w.ports × AreFewDue w.ports }
         ensures carried { (start : List Noted) (w : Work) → IsInStep self.old (W.noted watch.old) (W.is_short watch.old) start w
@@ -256,9 +287,10 @@ impl<N: Nv + Drop> Node<N> {
             let Some(host) = self.ends.host(i) else {
                 return true;
             };
-            if !self.have_turns(host, buffer, watch) {
+            if !self.have_turns(host, lies, buffer, watch) {
                 return false;
             }
+            lies = None;
         }
         true
     }

@@ -46,7 +46,7 @@ returns-clause-carried g c start w u =
     let G : LinkReport → Type 0 = λ r. (report p.side (Start c.args.value)).got
     ≡ (if r.got then got_at (with_port h (λ q. has_come q (Some (Start c.args.value))) w.ports) h else []) in
     subst P (sym (host_at h w.ports p at))
-    (c.note_input.ensures (with_port h (λ q. has_come q (Some (Start c.args.value))) w.ports) w.core (report p.side (Start c.args.value)) p.session
+    (c.note_input.ensures.notes (with_port h (λ q. has_come q (Some (Start c.args.value))) w.ports) w.core (report p.side (Start c.args.value)) p.session
     (whole_acked (after_input p.side (Start c.args.value))) stands u.node told_is (acked_is w.ports h (Start c.args.value) p at)
     (subst G (sym told_is) (brought_is c.activate.new.self w.ports h (Start c.args.value) p refl stands at))))
 

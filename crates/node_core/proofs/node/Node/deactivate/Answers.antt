@@ -45,7 +45,7 @@ returns-clause-carried g c start w u =
     let G : LinkReport → Type 0 = λ r. (report p.side Stop).got
     ≡ (if r.got then got_at (with_port h (λ q. has_come q (Some Stop)) w.ports) h else []) in
     subst P (sym (host_at h w.ports p at))
-    (c.note_input.ensures (with_port h (λ q. has_come q (Some Stop)) w.ports) w.core (report p.side Stop) p.session
+    (c.note_input.ensures.notes (with_port h (λ q. has_come q (Some Stop)) w.ports) w.core (report p.side Stop) p.session
     (whole_acked (after_input p.side Stop)) stands u.node told_is (acked_is w.ports h Stop p at)
     (subst G (sym told_is) (brought_is c.deactivate.new.self w.ports h Stop p refl stands at))))
 

@@ -16,8 +16,8 @@ use Rattle.node_core.proofs.node.Node.have_turns.Goals as goal
 pub returns-in_default-clause-carried : goal.returns-in_default-clause-carried
 returns-in_default-clause-carried g c start w u hosts few =
     let h = c.args.host in
-    let none = c.read.ensures.waits w.ports u.ends
-    ∙ ap (λ (o : Option (ℕ × ℕ)). message_read o c.read.new.buffer) (no_some c.read.result c.in_default.not-Some) in
+    let none = c.waiting.ensures.waits w.ports u.ends
+    ∙ ap (λ (o : Option (ℕ × ℕ)). message_read o c.waiting.new.buffer) (no_some c.waiting.result c.in_default.not-Some) in
     let P : List Message → Type 0 = λ ms. Brings g.N.Nv.writes c.args.self.now.store.journal.nv c.let_go.new.self.store.journal.nv
     (IsInStep c.let_go.new.self (g.W.Watch.noted c.args.watch.now) (g.W.Watch.is_short c.args.watch.now) start) (have_turns h ms) w in
     subst P (sym none)
@@ -29,7 +29,7 @@ have_turn-requires-clause-sendable g c =
     let r = c.requires.may in
     let w : Work = r.1 in
     let u = r.2 in
-    let got = c.read.ensures.waits w.ports u.ends ∙ ap (λ (o : Option (ℕ × ℕ)). message_read o c.read.new.buffer) c.in-Some.is in
+    let got = c.waiting.ensures.waits w.ports u.ends ∙ ap (λ (o : Option (ℕ × ℕ)). message_read o c.waiting.new.buffer) c.in-Some.is in
     let sendable = subst AreSendable got (got_at_sendable c.args.self.now.ends.pool c.args.self.now.ends.seats.items w.ports c.args.host u.ends.each) in
     sendable.0
 
@@ -38,20 +38,21 @@ have_turn-requires-clause-own g c =
     let r = c.requires.may in
     let w : Work = r.1 in
     let u = r.2 in
-    let got = c.read.ensures.waits w.ports u.ends ∙ ap (λ (o : Option (ℕ × ℕ)). message_read o c.read.new.buffer) c.in-Some.is in
+    let got = c.waiting.ensures.waits w.ports u.ends ∙ ap (λ (o : Option (ℕ × ℕ)). message_read o c.waiting.new.buffer) c.in-Some.is in
     λ some. own_host w c.args.host (λ none. some (sym u.node ∙ none)) r.3.own got ∙ u.node
 
 pub have_turn-requires-clause-may : goal.have_turn-requires-clause-may
 have_turn-requires-clause-may g c =
     let r = c.requires.may in
-    let got = c.read.ensures.waits r.1.ports r.2.ends ∙ ap (λ (o : Option (ℕ × ℕ)). message_read o c.read.new.buffer) c.in-Some.is in
+    let got = c.waiting.ensures.waits r.1.ports r.2.ends ∙ ap (λ (o : Option (ℕ × ℕ)). message_read o c.waiting.new.buffer) c.in-Some.is in
     (r.0, r.1, r.2, r.3, r.4, c.is_held-held.ensures r.1.ports r.2.ends, got)
 
 pub returns-clause-carried : goal.returns-clause-carried
 returns-clause-carried g c start w u order few =
     let h = c.args.host in
-    let m : Message = (c.in-Some.pipe, take c.in-Some.len c.read.new.buffer) in
-    let got : got_at w.ports h ≡ m ∷ [] = c.read.ensures.waits w.ports u.ends ∙ ap (λ (o : Option (ℕ × ℕ)). message_read o c.read.new.buffer) c.in-Some.is in
+    let m : Message = (c.in-Some.pipe, take c.in-Some.len c.waiting.new.buffer) in
+    let got : got_at w.ports h ≡ m ∷ [] =
+    c.waiting.ensures.waits w.ports u.ends ∙ ap (λ (o : Option (ℕ × ℕ)). message_read o c.waiting.new.buffer) c.in-Some.is in
     let t = c.have_turn in
     let P : List Message → Type 0 = λ ms. Brings g.N.Nv.writes c.args.self.now.store.journal.nv t.new.self.store.journal.nv
     (IsInStep t.new.self (g.W.Watch.noted t.new.watch) (g.W.Watch.is_short t.new.watch) start) (have_turns h ms) w in

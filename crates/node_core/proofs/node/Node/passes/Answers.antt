@@ -16,6 +16,7 @@ loop-i-init g c = record {
   number = refl;
   faults = faults_stay g.N.Nv.faults c.requires.live refl;
   buffer = c.requires.buffer;
+  lies = c.requires.lies;
   goes = λ start w u order few. pass_begins g.N.Nv.writes u order few;
 }
 
@@ -66,6 +67,7 @@ loop-i-preserved-then-rests g c =
       number = invariant.number;
       faults = invariant.faults;
       buffer = invariant.buffer;
+      lies = invariant.lies;
       goes = λ start w u order few.
           let k = invariant.goes start w u order few in
           let quiet = sym (c.rests.ensures k.now.ports k.under.ends) ∙ c.if-rests.true in
@@ -84,6 +86,7 @@ loop-i-preserved g c =
       number = t.ensures.number ∙ c.loop-i.invariant.number;
       faults = faults_then g.N.Nv.faults c.loop-i.invariant.faults t.ensures.faults;
       buffer = t.auto.buffer ∙ c.loop-i.invariant.buffer;
+      lies = tt;
       goes = λ start w u order few.
           let h = c.in-Some.host in
           let k = c.loop-i.invariant.goes start w u order few in

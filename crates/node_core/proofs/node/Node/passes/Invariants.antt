@@ -1,7 +1,7 @@
 use Rattle.std.proofs.Common.{◌≡◌, true, List, length}
 use Rattle.trace_model.specs.declared.entry.Entry.{Entry}
 use Rattle.node_machine.specs.Parts.{Work}
-use Rattle.node_core.specs.Nodes.{IsInStep, IsSoundNode}
+use Rattle.node_core.specs.Nodes.{IsInStep, IsSoundNode, LiesInBuffer}
 use Rattle.node_core.specs.Faults.{CountsFaults}
 use Rattle.node_core.specs.Turning.{IsNodeInOrder, AreFewDue}
 use Rattle.node_core.proofs.Passing.{PassesOn}
@@ -18,6 +18,7 @@ invariant-loop-i g l =
       number : l.self.number ≡ l.fn.self.number;
       faults : CountsFaults g.N.Nv.faults l.fn.self.store l.self.store;
       buffer : length l.buffer ≡ 4096;
+      lies : LiesInBuffer l.self.ends l.buffer l.lies;
       goes : (start : List Entry) (w : Work) → IsInStep l.fn.self (noted l.fn.watch) (short l.fn.watch) start w
           → IsNodeInOrder w.core w.ports → AreFewDue w.ports
           → PassesOn g.N.Nv.writes l.fn.self l.self (noted l.watch) (short l.watch) start l.i w;

@@ -50,7 +50,7 @@ returns-in-Ok-clause-carried g c start w u =
     let G : LinkReport → Type 0 = λ r. (report p.side (Reset c.args.window)).got
     ≡ (if r.got then got_at (with_port h (λ q. has_come q (Some (Reset c.args.window))) w.ports) h else []) in
     subst P (sym (host_at h w.ports p at))
-    (c.note_input.ensures (with_port h (λ q. has_come q (Some (Reset c.args.window))) w.ports) w.core (report p.side (Reset c.args.window)) p.session
+    (c.note_input.ensures.notes (with_port h (λ q. has_come q (Some (Reset c.args.window))) w.ports) w.core (report p.side (Reset c.args.window)) p.session
     (whole_acked (after_input p.side (Reset c.args.window))) stands u.node told_is (acked_is w.ports h (Reset c.args.window) p at)
     (subst G (sym told_is) (brought_is c.reset.new.self w.ports h (Reset c.args.window) p refl stands at))))
 

@@ -6,12 +6,13 @@ use Rattle.node_core.specs.Syncing.{settles, sync_kept}
 use Rattle.node_core.proofs.Joining.{brings_cut, brings_then}
 use Rattle.node_core.proofs.HavingTurns.{brings_same}
 use Rattle.node_core.proofs.Settling.{settled_ports, quiet_few}
+use Rattle.node_core.proofs.Idle.{none_came, only_passes}
 use Rattle.node_core.proofs.Ordering.{stays_in_order}
 use Rattle.node_core.proofs.Staying.{settles_fine}
 use Rattle.node_core.proofs.node.Node.settle_and_pass.Goals as goal
 
-pub passes-requires-clause-may : goal.passes-requires-clause-may
-passes-requires-clause-may g c =
+pub passes-requires-2-clause-may : goal.passes-requires-2-clause-may
+passes-requires-2-clause-may g c =
     let r = c.requires.may in
     let t = c.settle_sessions in
     let s = c.args.self.now.store in
@@ -22,6 +23,15 @@ passes-requires-clause-may g c =
     let same = settled_ports (sync_kept s.journal.state s.tables c.args.came) b live in
     let order = stays_in_order (settles_fine s.journal.state s.tables c.args.came) b live (r.2.power ∙ ap not c.requires.live) r.3 in
     (r.0, b.after, b.stands, order, quiet_few b.after.ports r.1.ports same r.4)
+
+pub returns-then-not-is_over-clause-carried : goal.returns-then-not-is_over-clause-carried
+returns-then-not-is_over-clause-carried g c start w u hosts few =
+    let s = c.args.self.now.store in
+    let live = u.power ∙ ap not c.requires.live in
+    let none = ap (sync_kept s.journal.state s.tables) (none_came c.args.came (c.is_none.ensures ∙ ap not c.if-is_none.true)) in
+    let over = sym (c.is_over.ensures w.ports u.ends) ∙ c.if-not-is_over.true in
+    brings_same (c.passes.ensures.carried start w u hosts few)
+    (λ plan. only_passes (sync_kept s.journal.state s.tables c.args.came) (record w { plan = plan }) none live over)
 
 pub returns-then-not-settle_sessions-clause-carried : goal.returns-then-not-settle_sessions-clause-carried
 returns-then-not-settle_sessions-clause-carried g c start w u hosts few =
@@ -42,5 +52,5 @@ returns-clause-carried g c start w u hosts few =
     let live = b.stands.power ∙ ap not (sym t.ensures.live ∙ c.if-not-settle_sessions.false) in
     let same = settled_ports (sync_kept s.journal.state s.tables c.args.came) b live in
     let order = stays_in_order (settles_fine s.journal.state s.tables c.args.came) b live (u.power ∙ ap not c.requires.live) hosts in
-    brings_same (brings_then g.N.Nv.writes b live (c.passes.ensures.carried start b.after b.stands order
+    brings_same (brings_then g.N.Nv.writes b live (c.passes-2.ensures.carried start b.after b.stands order
     (quiet_few b.after.ports w.ports same few))) (λ plan. refl)

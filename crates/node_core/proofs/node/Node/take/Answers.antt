@@ -45,9 +45,12 @@ returns-clause-carried g c start w lpdu u is =
     let G : LinkReport → Type 0 = λ r. (report p.side (lpdu_input lpdu)).got
     ≡ (if r.got then got_at (with_port h (λ q. has_come q (Some (lpdu_input lpdu))) w.ports) h else []) in
     subst P (sym (host_at h w.ports p at))
-    (c.note_input.ensures (with_port h (λ q. has_come q (Some (lpdu_input lpdu))) w.ports) w.core (report p.side (lpdu_input lpdu)) p.session
+    (c.note_input.ensures.notes (with_port h (λ q. has_come q (Some (lpdu_input lpdu))) w.ports) w.core (report p.side (lpdu_input lpdu)) p.session
     (whole_acked (after_input p.side (lpdu_input lpdu))) stands u.node told_is (acked_is w.ports h (lpdu_input lpdu) p at)
     (subst G (sym told_is) (brought_is c.take.new.self w.ports h (lpdu_input lpdu) p (lpdu_outside lpdu) stands at))))
+
+pub returns-clause-lies : goal.returns-clause-lies
+returns-clause-lies g c = c.note_input.ensures.lies
 
 pub returns-clause-runs : goal.returns-clause-runs
 returns-clause-runs g c =

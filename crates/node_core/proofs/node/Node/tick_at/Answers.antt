@@ -72,7 +72,7 @@ returns-clause-carried g c start w p u is =
     let G : LinkReport → Type 0 = λ r. (report q.side Tick).got
     ≡ (if r.got then got_at (with_port h (λ x. has_come x (Some Tick)) w.ports) h else []) in
     subst P (sym (host_at h w.ports q at))
-    (c.note_input.ensures (with_port h (λ x. has_come x (Some Tick)) w.ports) w.core (report q.side Tick) q.session
+    (c.note_input.ensures.notes (with_port h (λ x. has_come x (Some Tick)) w.ports) w.core (report q.side Tick) q.session
     (whole_acked (after_input q.side Tick)) stands u.node told_so (acked_is w.ports h Tick q at)
     (subst G (sym told_so) (brought_is c.tick.new.self w.ports h Tick q refl stands at)))))
 
