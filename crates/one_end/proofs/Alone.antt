@@ -2,13 +2,13 @@
 use Rattle.std.proofs.Common.{◌≡◌, ◌≤◌, ◌==◌, ℕ, Bool, true, false, cond, not, List, [], ◌∷◌, length, map, refl, sym, ap, ◌∙◌, subst, arith}
 use Rattle.std.specs.Prelude.{Option, Some, None, option_map, is_some, ◌&&◌, ◌+◌, min, nat_le, Result, Ok, Err, OnOk, MatchResult}
 use Rattle.std.specs.Option.{option_map_or}
-use Rattle.std.specs.List.{AllByRecursion, flat_map}
+use Rattle.std.specs.List.{flat_map}
 use Rattle.std.proofs.lemmas.Bool.{true≢false, and_right, and_parts, cond_both}
 use Rattle.swp_base.specs.declared.control_frames.Control.{Control}
 use Rattle.swp_base.specs.declared.link_terms.FrameFault.{FrameFault}
 use Rattle.swp_base.specs.InMemory.{Memory}
 use Rattle.swp_base.specs.declared.control_frames.Act.{Act}
-use Rattle.swp_act.specs.declared.ActEvent.TheVariants.{Tick as ActTick}
+use Rattle.swp_act.specs.declared.ActEvent.TheVariants.{Tick as ActTick, Start as ActStart, Stop as ActStop}
 use Rattle.swp_act.specs.declared.ActOut.{ActOut}
 use Rattle.swp_act.specs.declared.Phase.{Phase}
 use Rattle.swp_act.specs.declared.Phase.TheVariants.{Inactive, Awaiting, Active}
@@ -16,7 +16,7 @@ use Rattle.swp_act.specs.Activation.{out_ticked, no_act_out, sends}
 use Rattle.swp_lpdu.specs.Controls.{lpdu_of, control_of}
 use Rattle.swp_lpdu.specs.declared.LpduFault.{LpduFault}
 use Rattle.trace_model.specs.declared.entry.Entry.{Entry}
-use Rattle.link_laws.specs.machine.Machine.{LinkEnd, LinkInput, Role, act_event, next_frame, frame_fetched, frames_out, sent_all, report, reset_refusal}
+use Rattle.link_laws.specs.machine.Machine.{LinkEnd, LinkInput, Role, next_frame, frame_fetched, frames_out, sent_all, report, reset_refusal}
 use Rattle.link_laws.specs.machine.Machine.{lpdu_input}
 use Rattle.link_laws.specs.machine.Machine.{is_open, act_out, act_answer}
 use Rattle.link_laws.specs.machine.Machine.Role.{Bare, Clf, Uicc}
@@ -25,28 +25,25 @@ use Rattle.link_end.specs.declared.report.ResetRefused.{ResetRefused}
 use Rattle.link_end.specs.Reports.{reset_refused}
 use Rattle.node_machine.specs.Parts.{Desk, Core, Running, Port, Work}
 use Rattle.node_machine.specs.Carrying.{port_at, with_port, changed_if}
-use Rattle.node_machine.specs.Node.{NodeInput, steps, all_come, has_come, input_at, with_error}
+use Rattle.node_machine.specs.Node.{NodeInput, steps, with_error}
 use Rattle.node_machine.specs.Node.NodeInput.{AtEnd, TimePasses}
 use Rattle.node_machine.specs.world.World.{runs_on}
 use Rattle.node_ends.specs.Ends.{has_sent, frame_at}
 use Rattle.node_laws.specs.kept.Books.{hosts_of_ends}
 use Rattle.node_laws.proofs.telling.Keeping.{Keeps, steps_keep, tick_keeps}
 use Rattle.node_core.specs.declared.node.Node.{Node}
-use Rattle.node_core.specs.Running.{RunsAs, BeginsStep, HasStepped, MayStep, between, one_more_error, reset_refusal_at}
+use Rattle.node_core.specs.Running.{RunsAs, BeginsStep, HasStepped, MayStep, between, one_more_error, reset_refusal_at, becomes_active_by}
 use Rattle.node_core.specs.Bringing.{Brings, Foretells}
 use Rattle.node_core.proofs.Between.{all_one_by_one, kept_alike}
 use Rattle.lone_laws.specs.alone.Lone.{Lone, LoneCause, lone_input, node_input, lone_arrival, lone_port, lone_work, session_with, side_behind, frames_behind}
 use Rattle.lone_laws.specs.alone.Lone.{lone_behind_step, with_refusal, does_by_power}
 use Rattle.lone_laws.specs.alone.Lone.LoneCause.{FrameComes, FrameIsRefused, TickComes, ResetComes, StartComes, StopComes}
 use Rattle.lone_laws.specs.alone.Ends.{EndForm, entry_written, asks_reset}
-use Rattle.lone_laws.proofs.answered.Coming.{IsLoneInput, comes_there}
-use Rattle.lone_laws.proofs.answered.Stepping.{lone_comes}
-use Rattle.one_end.specs.Alone.{RunsAlone, role_behind}
+use Rattle.one_end.specs.Alone.{RunsAlone}
 use Rattle.one_end.specs.Running.{StepsAlone, HasSentFirst, cause_of}
 use Rattle.one_end.specs.declared.node.Coming.{Coming}
 use Rattle.one_end.specs.declared.node.Coming.TheVariants.{Frame}
 use Rattle.one_end.proofs.Fetching.{few_out, none_goes, one_goes}
-use Rattle.one_end.proofs.Roles.{input_role, steps_role, ticks_role}
 use Rattle.one_end.proofs.Steps.{steps_so, gone_silent}
 
 -- its one end is found
@@ -54,13 +51,13 @@ pub found_there : (p : Port) → p.desk.host ≡ 2 → port_at (p ∷ []) 2 ≡ 
 found_there p q = ap (λ n. cond (n == 2) (Some p) None) q
 
 -- the node that runs in it
-abbrev pub running : {N : Type 0} {number : ℕ} {Has : Role → Type 0} {n : Node N} {l : Lone} {frames : List Control} → RunsAlone number Has n l frames
+abbrev pub running : {N : Type 0} {number : ℕ} {n : Node N} {l : Lone} {frames : List Control} → RunsAlone number n l frames
     → Running
 running a = record { core = a.core; desks = a.port.desk ∷ [] }
 
 -- ## Its end has sent all
 
-module _ {N : Type 0} {number : ℕ} {Has : Role → Type 0} {n : Node N} {l : Lone} (a : RunsAlone number Has n l []) where
+module _ {N : Type 0} {number : ℕ} {n : Node N} {l : Lone} (a : RunsAlone number n l []) where
   pub is_idle : (next_frame a.port.side ≡ None) × (frame_fetched a.port.side ≡ a.port.side) × (sent_all a.port.side ≡ a.port.side)
   is_idle = none_goes a.port.side (all_one_by_one a.runs).0 a.due
 
@@ -87,10 +84,10 @@ module _ {N : Type 0} {number : ℕ} {Has : Role → Type 0} {n : Node N} {l : L
 
 -- ## Its frames go out
 
-pub sends_first : {N : Type 0} {number : ℕ} {Has : Role → Type 0} {n new : Node N} (l : Lone) (frames : List Control) (a : RunsAlone number Has n l frames)
+pub sends_first : {N : Type 0} {number : ℕ} {n new : Node N} (l : Lone) (frames : List Control) (a : RunsAlone number n l frames)
     (sent : Option (List ℕ)) → sent ≡ frame_at (port_at (a.port ∷ []) 2) → RunsAs new a.core (with_port 2 has_sent (a.port ∷ []))
-    → ((e : LinkEnd) → Has e.role → Has (frame_fetched e).role) → HasSentFirst (RunsAlone number Has new) l sent frames
-sends_first {N} {number} {Has} {n} {new} l frames a sent is runs same = go frames a.due where
+    → HasSentFirst (RunsAlone number new) l sent frames
+sends_first {N} {number} {n} {new} l frames a sent is runs = go frames a.due where
   p : Port
   p = a.port
 
@@ -109,14 +106,13 @@ sends_first {N} {number} {Has} {n} {new} l frames a sent is runs same = go frame
   later : RunsAs new a.core (q ∷ [])
   later = subst (λ ps. RunsAs new a.core ps) there runs
 
-  behind : (fs : List Control) → frames_out q.side ≡ fs → sent_all q.side ≡ sent_all e → RunsAlone number Has new l fs
+  behind : (fs : List Control) → frames_out q.side ≡ fs → sent_all q.side ≡ sent_all e → RunsAlone number new l fs
   behind fs due all = record {
     core = a.core;
     port = q;
     runs = later;
     own = a.own;
     host = a.host;
-    role = same e a.role;
     node_is = a.node_is;
     number_is = a.number_is;
     link_is = a.link_is;
@@ -124,7 +120,7 @@ sends_first {N} {number} {Has} {n} {new} l frames a sent is runs same = go frame
     due = due;
   }
 
-  go : (fs : List Control) → frames_out e ≡ fs → HasSentFirst (RunsAlone number Has new) l sent fs
+  go : (fs : List Control) → frames_out e ≡ fs → HasSentFirst (RunsAlone number new) l sent fs
   go [] due =
       let idle = none_goes e (all_one_by_one a.runs).0 due in
       let none : sent ≡ None = next ∙ ap (option_map lpdu_of) idle.0 in
@@ -135,10 +131,10 @@ sends_first {N} {number} {Has} {n} {new} l frames a sent is runs same = go frame
 
 -- ## A frame that is refused
 
-counts_refused : {N : Type 0} {number : ℕ} {Has : Role → Type 0} {n new : Node N} (Later : Role → Type 0) (writes : N → ℕ → List ℕ → Bool → N → Type 0)
-    (old_nv new_nv : N) (l : Lone) (fault : FrameFault) (a : RunsAlone number Has n l []) → RunsAs new a.core (with_port 2 one_more_error (a.port ∷ []))
-    → new_nv ≡ old_nv → ((r : Role) → Has r → Later r) → StepsAlone writes old_nv new_nv (RunsAlone number Later new) false number (FrameIsRefused fault) l
-counts_refused {N} {number} {Has} {n} {new} Later writes old_nv new_nv l fault a runs same goes = record {
+counts_refused : {N : Type 0} {number : ℕ} {n new : Node N} (writes : N → ℕ → List ℕ → Bool → N → Type 0)
+    (old_nv new_nv : N) (l : Lone) (fault : FrameFault) (a : RunsAlone number n l []) → RunsAs new a.core (with_port 2 one_more_error (a.port ∷ []))
+    → new_nv ≡ old_nv → StepsAlone writes old_nv new_nv (RunsAlone number new) false number (FrameIsRefused fault) l
+counts_refused {N} {number} {n} {new} writes old_nv new_nv l fault a runs same = record {
   after = record l { node = Some (with_refusal l.link (running a)) };
   frames = [];
   few = omega arith;
@@ -150,7 +146,6 @@ counts_refused {N} {number} {Has} {n} {new} Later writes old_nv new_nv l fault a
     runs = subst (λ ps. RunsAs new a.core ps) there runs;
     own = a.own;
     host = a.host;
-    role = goes a.port.side.role a.role;
     node_is = ap (λ ds. Some (record { core = a.core; desks = ds })) desks;
     number_is = a.number_is;
     link_is = a.link_is;
@@ -187,40 +182,28 @@ counts_refused {N} {number} {Has} {n} {new} Later writes old_nv new_nv l fault a
 
 -- ## Its one end behind a step
 
--- a node in a step whose one end is of the link with host 02, and has this role
-record HasOne (number : ℕ) (r : Role) (w : Work) : Type 0 where
+-- a node in a step whose one end is of the link with host 02
+record HasOne (number : ℕ) (w : Work) : Type 0 where
   port : Port
   ports_are : w.ports ≡ port ∷ []
   host : port.desk.host ≡ 2
-  role : port.side.role ≡ r
   own : w.core.node ≡ number
 
-has_one : (number : ℕ) (r : Role) (w : Work) → Keeps number (2 ∷ []) w → AllByRecursion (λ (p : Port). p.side.role ≡ r) w.ports → HasOne number r w
-has_one number r w k all = go w.ports refl k.ends all where
-  go : (ports : List Port) → w.ports ≡ ports → hosts_of_ends ports ≡ 2 ∷ [] → AllByRecursion (λ (p : Port). p.side.role ≡ r) ports → HasOne number r w
-  go [] q ends all = absurd (cc ends)
-  go (p ∷ []) q ends all = record { port = p; ports_are = q; host = cc; role = all.0; own = k.number }
-  go (p ∷ x ∷ ports) q ends all = absurd (cc ends)
+has_one : (number : ℕ) (w : Work) → Keeps number (2 ∷ []) w → HasOne number w
+has_one number w k = go w.ports refl k.ends where
+  go : (ports : List Port) → w.ports ≡ ports → hosts_of_ends ports ≡ 2 ∷ [] → HasOne number w
+  go [] q ends = absurd (cc ends)
+  go (p ∷ []) q ends = record { port = p; ports_are = q; host = cc; own = k.number }
+  go (p ∷ x ∷ ports) q ends = absurd (cc ends)
 
 keeps_ends : (number : ℕ) (x : NodeInput) (w : Work) → Keeps number (2 ∷ []) w → Keeps number (2 ∷ []) (steps x w)
 keeps_ends number (AtEnd k i) w a = steps_keep number (2 ∷ []) k i w a
 keeps_ends number TimePasses w a = tick_keeps number (2 ∷ []) w a
 
-keeps_role : (r : Role) (x : NodeInput) (w : Work) → AllByRecursion (λ (p : Port). p.side.role ≡ r) (all_come x w).ports
-    → AllByRecursion (λ (p : Port). p.side.role ≡ r) (steps x w).ports
-keeps_role r (AtEnd k i) w a = steps_role r k i w a
-keeps_role r TimePasses w a = ticks_role r w a
-
-one_behind : (number : ℕ) (p : Port) (i : LinkInput) (w : Work) → IsLoneInput i → w.ports ≡ p ∷ [] → p.desk.host ≡ 2 → w.core.node ≡ number
-    → HasOne number (role_behind p.side.role (act_event p.side i)) (steps (node_input 2 i) w)
-one_behind number p i w may ports host own =
-    let x : NodeInput = node_input 2 i in
-    let r : Role = role_behind p.side.role (act_event p.side i) in
-    let comes : has_come p (input_at x p) ≡ has_come p (Some i) = ap (has_come p) (comes_there 2 i p host) in
-    let came : (has_come p (input_at x p)).side.role ≡ r = ap (λ (q : Port). q.side.role) comes ∙ input_role p.side i may in
-    has_one number r (steps x w)
-    (keeps_ends number x w (record { number = own; ends = ap hosts_of_ends ports ∙ ap (λ h. h ∷ []) host }))
-    (keeps_role r x w (subst (λ ps. AllByRecursion (λ (q : Port). q.side.role ≡ r) (map (λ q. has_come q (input_at x q)) ps)) (sym ports) (came, tt)))
+one_behind : (number : ℕ) (p : Port) (x : NodeInput) (w : Work) → w.ports ≡ p ∷ [] → p.desk.host ≡ 2 → w.core.node ≡ number
+    → HasOne number (steps x w)
+one_behind number p x w ports host own =
+    has_one number (steps x w) (keeps_ends number x w (record { number = own; ends = ap hosts_of_ends ports ∙ ap (λ h. h ∷ []) host }))
 
 -- ## A step
 
@@ -253,11 +236,42 @@ answer_quiet Bare = refl
 answer_quiet (Clf s) = tick_quiet s.phase s.last
 answer_quiet (Uicc s) = tick_quiet s.phase s.last
 
-never_active : (e : LinkEnd) → (report e Tick).became_active ≡ false
+pub never_active : (e : LinkEnd) → (report e Tick).became_active ≡ false
 never_active e = go (is_open e.role) where
   go : (b : Bool) → (act_out e.role (cond b None (Some ActTick))).became_active ≡ false
   go true = refl
   go false = answer_quiet e.role
+
+-- nor does a start of activation, or its end
+pub start_quiet : (r : Role) (value : ℕ) → (act_answer r (ActStart value)).became_active ≡ false
+start_quiet Bare value = refl
+start_quiet (Clf s) value = refl
+start_quiet (Uicc s) value = refl
+
+pub stop_quiet : (r : Role) → (act_answer r ActStop).became_active ≡ false
+stop_quiet Bare = refl
+stop_quiet (Clf s) = refl
+stop_quiet (Uicc s) = refl
+
+quiet_at : (i : LinkInput) → ((e : LinkEnd) → (report e i).became_active ≡ false) → (o : Option Port) → becomes_active_by i o ≡ false
+quiet_at i quiet None = refl
+quiet_at i quiet (Some p) = quiet p.side
+
+-- no end becomes active by what comes, where this input never makes one so
+pub stays_inactive : {i : LinkInput} (x : Coming) (j : LinkInput) (o : Option Port) → lone_input (cause_of x) ≡ Some i → lone_input (cause_of x) ≡ Some j
+    → ((e : LinkEnd) → (report e j).became_active ≡ false) → false ≡ becomes_active_by i o
+stays_inactive {i} x j o comes is quiet =
+    let q : Some j ≡ Some i = sym is ∙ comes in
+    let same : j ≡ i = cc in
+    sym (ap (λ k. becomes_active_by k o) (sym same) ∙ quiet_at j quiet o)
+
+-- an end becomes active by a frame as its step says
+pub active_by : {x : Coming} {lpdu : List ℕ} {i : LinkInput} {b : Bool} (k : ℕ) (ports : List Port) → x ≡ Frame lpdu → lone_input (cause_of x) ≡ Some i
+    → b ≡ becomes_active_by (lpdu_input lpdu) (port_at ports k) → b ≡ becomes_active_by i (port_at ports k)
+active_by {x} {lpdu} {i} k ports is comes says =
+    let q : Some (lpdu_input lpdu) ≡ Some i = ap (λ y. lone_input (cause_of y)) (sym is) ∙ comes in
+    let same : lpdu_input lpdu ≡ i = cc in
+    says ∙ ap (λ j. becomes_active_by j (port_at ports k)) same
 
 -- what is known of a step at this end, where it becomes active by it: the end takes a reset behind the step
 abbrev pub IsReadyBehind : {N : Type 0} → Node N → LinkInput → Type 0
@@ -289,14 +303,14 @@ ready_by {n = n} l c i comes law w p b at same asks =
     go (FromNode t) law became = law w p b at became
     go Fetch law became = law w p b at became
 
-module _ {N : Type 0} (writes : N → ℕ → List ℕ → Bool → N → Type 0) {number : ℕ} {Has : Role → Type 0} {n : Node N} {l : Lone}
-    (a : RunsAlone number Has n l []) where
-  pub has_stepped_alone : (Later : Role → Type 0) {new : Node N} {old_nv new_nv : N} (c : LoneCause) (i : LinkInput) → lone_input c ≡ Some i
+module _ {N : Type 0} (writes : N → ℕ → List ℕ → Bool → N → Type 0) {number : ℕ} {n : Node N} {l : Lone}
+    (a : RunsAlone number n l []) where
+  pub has_stepped_alone : {new : Node N} {old_nv new_nv : N} (c : LoneCause) (i : LinkInput) → lone_input c ≡ Some i
       → Brings writes old_nv new_nv (HasStepped new [] true []) (steps (node_input 2 i)) (lone_work l (running a) i (lone_arrival l c))
-      → Later (role_behind l.side.role (act_event l.side i)) → (stopped : Bool) → stopped ≡ not new.store.journal.live
-      → IsReadyMemory n l c i → StepsAlone writes old_nv new_nv (RunsAlone number Later new) stopped number c l
-  has_stepped_alone Later {new} {old_nv} {new_nv} c i comes b later stopped is takes_reset =
-      let Runs : Lone → List Control → Type 0 = RunsAlone number Later new in
+      → (stopped : Bool) → stopped ≡ not new.store.journal.live
+      → IsReadyMemory n l c i → StepsAlone writes old_nv new_nv (RunsAlone number new) stopped number c l
+  has_stepped_alone {new} {old_nv} {new_nv} c i comes b stopped is takes_reset =
+      let Runs : Lone → List Control → Type 0 = RunsAlone number new in
       subst (λ k. StepsAlone writes old_nv new_nv Runs stopped k c l) a.number_is
       (steps_so writes Runs l (running a) c i (node_input 2 i) a.node_is comes (ap (λ k. node_input k i) (sym a.link_is)) b
       few stopped (b.stands.power ∙ sym is) runs ready)
@@ -316,14 +330,13 @@ module _ {N : Type 0} (writes : N → ℕ → List ℕ → Bool → N → Type 0
       same_core live =
           ap (λ (x : Work). x.core) (b.is None (subst (λ t. Foretells None b.sure b.torn t) (sym live) refl))
 
-      one : v.cut ≡ false → HasOne number (role_behind l.side.role (act_event l.side i)) v
+      one : v.cut ≡ false → HasOne number v
       one live =
-          let h = one_behind number (lone_port l.side (session_with l i) a.port.desk) i (record w { plan = None }) (lone_comes c i comes) refl a.host a.own in
+          let h = one_behind number (lone_port l.side (session_with l i) a.port.desk) (node_input 2 i) (record w { plan = None }) refl a.host a.own in
           record {
             port = h.port;
             ports_are = sym (same_ports live) ∙ h.ports_are;
             host = h.host;
-            role = h.role;
             own = ap (λ (x : Core). x.node) (sym (same_core live)) ∙ h.own;
           }
 
@@ -340,7 +353,7 @@ module _ {N : Type 0} (writes : N → ℕ → List ℕ → Bool → N → Type 0
         go false live =
             subst (λ e. length (frames_out e) ≤ 17) (sym (side_at live)) (few_out (one live).port.side (all_one_by_one (runs_there live)).0)
 
-      runs : stopped ≡ false → RunsAlone number Later new (lone_behind_step l i v) (frames_behind l v)
+      runs : stopped ≡ false → RunsAlone number new (lone_behind_step l i v) (frames_behind l v)
       runs on =
           let live : v.cut ≡ false = b.stands.power ∙ (sym is ∙ on) in
           let h = one live in
@@ -350,7 +363,6 @@ module _ {N : Type 0} (writes : N → ℕ → List ℕ → Bool → N → Type 0
             runs = runs_there live;
             own = h.own;
             host = h.host;
-            role = subst Later (sym h.role) later;
             node_is = runs_found v h.port live h.ports_are;
             number_is = a.number_is;
             link_is = a.link_is;
@@ -373,41 +385,52 @@ module _ {N : Type 0} (writes : N → ℕ → List ℕ → Bool → N → Type 0
           ap (λ e. reset_refusal (sent_all e)) (side_at live ∙ ap (λ (q : Port). q.side) (sym same)) ∙ r.2
 
   -- what comes is a frame that is refused, or makes a step
-  pub comes_alone : (Later : Role → Type 0) {new : Node N} {old_nv new_nv : N} (c : LoneCause) (stopped : Bool)
+  pub comes_alone : {new : Node N} {old_nv new_nv : N} (c : LoneCause) (stopped : Bool)
       → ((i : LinkInput) (w : Work) → lone_input c ≡ Some i → BeginsStep n [] true [] w
       → Brings writes old_nv new_nv (HasStepped new [] true []) (steps (node_input 2 i)) w)
       → ((i : LinkInput) → lone_input c ≡ Some i → stopped ≡ not new.store.journal.live)
-      → ((i : LinkInput) → lone_input c ≡ Some i → Later (role_behind l.side.role (act_event l.side i)))
-      → (lone_input c ≡ None → RunsAs new a.core (with_port 2 one_more_error (a.port ∷ [])) × (new_nv ≡ old_nv) × (stopped ≡ false)
-      × ((r : Role) → Has r → Later r))
+      → (lone_input c ≡ None → RunsAs new a.core (with_port 2 one_more_error (a.port ∷ [])) × (new_nv ≡ old_nv) × (stopped ≡ false))
       → ((i : LinkInput) → lone_input c ≡ Some i → IsReadyMemory n l c i)
-      → StepsAlone writes old_nv new_nv (RunsAlone number Later new) stopped number c l
-  comes_alone Later {new} {old_nv} {new_nv} c stopped steps_so is later refused ready = go (lone_input c) refl where
+      → StepsAlone writes old_nv new_nv (RunsAlone number new) stopped number c l
+  comes_alone {new} {old_nv} {new_nv} c stopped steps_so is refused ready = go (lone_input c) refl where
     none : (c : LoneCause) → lone_input c ≡ None
-        → RunsAs new a.core (with_port 2 one_more_error (a.port ∷ [])) × (new_nv ≡ old_nv) × (stopped ≡ false) × ((r : Role) → Has r → Later r)
-        → StepsAlone writes old_nv new_nv (RunsAlone number Later new) stopped number c l
+        → RunsAs new a.core (with_port 2 one_more_error (a.port ∷ [])) × (new_nv ≡ old_nv) × (stopped ≡ false)
+        → StepsAlone writes old_nv new_nv (RunsAlone number new) stopped number c l
     none (FrameIsRefused fault) q k =
-        subst (λ s. StepsAlone writes old_nv new_nv (RunsAlone number Later new) s number (FrameIsRefused fault) l) (sym k.2)
-        (counts_refused Later writes old_nv new_nv l fault a k.0 k.1 k.3)
+        subst (λ s. StepsAlone writes old_nv new_nv (RunsAlone number new) s number (FrameIsRefused fault) l) (sym k.2)
+        (counts_refused writes old_nv new_nv l fault a k.0 k.1)
     none (FrameComes bytes) q k = absurd (cc q)
     none TickComes q k = absurd (cc q)
     none (ResetComes window) q k = absurd (cc q)
     none (StartComes value) q k = absurd (cc q)
     none StopComes q k = absurd (cc q)
 
-    go : (o : Option LinkInput) → lone_input c ≡ o → StepsAlone writes old_nv new_nv (RunsAlone number Later new) stopped number c l
+    go : (o : Option LinkInput) → lone_input c ≡ o → StepsAlone writes old_nv new_nv (RunsAlone number new) stopped number c l
     go None q = none c q (refused q)
     go (Some i) q =
-        has_stepped_alone Later c i q (steps_so i (lone_work l (running a) i (lone_arrival l c)) q (begins_step a i (lone_arrival l c))) (later i q) stopped
-        (is i q) (ready i q)
+        has_stepped_alone c i q (steps_so i (lone_work l (running a) i (lone_arrival l c)) q (begins_step a i (lone_arrival l c))) stopped (is i q) (ready i q)
 
 -- a controller asks for a reset where its end becomes active
-pub asks_alone : {N : Type 0} {Has : Role → Type 0} {n : Node N} (l : Lone) → RunsAlone 0 Has n l [] → (c : LoneCause)
+pub asks_alone : {N : Type 0} {n : Node N} (l : Lone) → RunsAlone 0 n l [] → (c : LoneCause)
     → asks_reset l c ≡ option_map_or (λ i. (report l.side i).became_active) (lone_input c) false
 asks_alone l a c = rw (a.number_is, a.node_is) refl
 
+-- it asks so as its step says
+pub asks_so : {N : Type 0} {n : Node N} {b : Bool} (l : Lone) (a : RunsAlone 0 n l []) (c : LoneCause)
+    → ((i : LinkInput) (w : Work) → lone_input c ≡ Some i → BeginsStep n [] true [] w → b ≡ becomes_active_by i (port_at w.ports 2))
+    → (lone_input c ≡ None → b ≡ false) → b ≡ asks_reset l c
+asks_so {b = b} l a c active none = go (lone_input c) refl where
+  told : (o : Option LinkInput) → lone_input c ≡ o → option_map_or (λ i. (report l.side i).became_active) o false ≡ asks_reset l c
+  told o q = ap (λ o. option_map_or (λ i. (report l.side i).became_active) o false) (sym q) ∙ sym (asks_alone l a c)
+
+  go : (o : Option LinkInput) → lone_input c ≡ o → b ≡ asks_reset l c
+  go None q = none q ∙ told None q
+  go (Some i) q =
+      active i (lone_work l (running a) i (lone_arrival l c)) q (begins_step a i (lone_arrival l c))
+      ∙ (ap (becomes_active_by i) (found_there (lone_port l.side (session_with l i) a.port.desk) a.host) ∙ told (Some i) q)
+
 -- a host asks for none
-pub asks_never : {N : Type 0} {Has : Role → Type 0} {n : Node N} (l : Lone) → RunsAlone 2 Has n l [] → (c : LoneCause) → asks_reset l c ≡ false
+pub asks_never : {N : Type 0} {n : Node N} (l : Lone) → RunsAlone 2 n l [] → (c : LoneCause) → asks_reset l c ≡ false
 asks_never l a c = rw a.number_is refl
 
 -- ## What comes as a frame
@@ -428,13 +451,13 @@ frame_comes {N} {writes} {old} {new} {S} {w} k x lpdu i two is comes b =
     (subst (λ y. Brings writes old new S (steps y) w) (ap (λ h. AtEnd h (lpdu_input lpdu)) two ∙ frame_at_end lpdu) b)
 
 -- the node's own number
-pub own_number : {N : Type 0} {number : ℕ} {Has : Role → Type 0} {n : Node N} {l : Lone} {frames : List Control} → RunsAlone number Has n l frames
+pub own_number : {N : Type 0} {number : ℕ} {n : Node N} {l : Lone} {frames : List Control} → RunsAlone number n l frames
     → n.number ≡ number
 own_number a = sym a.runs.node ∙ a.own
 
 -- a reset that isn't refused was made
-pub taken_reset : {N : Type 0} {Has : Role → Type 0} {n new : Node N} {writes : N → ℕ → List ℕ → Bool → N → Type 0} {old_nv new_nv : N} {l : Lone}
-    (a : RunsAlone 2 Has n l []) → reset_refusal l.side ≡ None → (result : Result (Unit {0}) ResetRefused)
+pub taken_reset : {N : Type 0} {n new : Node N} {writes : N → ℕ → List ℕ → Bool → N → Type 0} {old_nv new_nv : N} {l : Lone}
+    (a : RunsAlone 2 n l []) → reset_refusal l.side ≡ None → (result : Result (Unit {0}) ResetRefused)
     → MatchResult result (λ done. reset_refusal_at (port_at (a.port ∷ []) n.number) ≡ None)
     (λ why. reset_refusal_at (port_at (a.port ∷ []) n.number) ≡ Some why)
     → OnOk result ((start : List Entry) (w : Work) → BeginsStep n [] true start w

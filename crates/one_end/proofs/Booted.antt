@@ -3,7 +3,7 @@ use Rattle.std.proofs.Common.{◌≡◌, ℕ, zero, suc, Bool, List, [], ◌∷�
 use Rattle.std.specs.Prelude.{Some, None}
 use Rattle.swp_base.specs.InMemory.{Memory}
 use Rattle.swp_base.specs.declared.control_frames.Control.{Control}
-use Rattle.link_laws.specs.machine.Machine.{Role, new_link_end}
+use Rattle.link_laws.specs.machine.Machine.{new_link_end}
 use Rattle.node_machine.specs.Parts.{Core}
 use Rattle.node_machine.specs.Node.{new_desk}
 use Rattle.node_core.specs.declared.node.Node.{Node}
@@ -11,8 +11,6 @@ use Rattle.node_core.specs.Booting.{found_in_memory}
 use Rattle.node_core.specs.Running.{RunsAs}
 use Rattle.node_ends.specs.Making.{new_port}
 use Rattle.swp_base.specs.declared.link_terms.Role.TheVariants.{Clf as ClfName, Uicc as UiccName}
-use Rattle.swp_act.specs.Activation.{new_clf, new_uicc}
-use Rattle.link_laws.specs.machine.Machine.Role.{Clf, Uicc}
 use Rattle.lone_laws.specs.alone.Lone.{Lone, role_alone}
 use Rattle.one_end.specs.Alone.{RunsAlone}
 use Rattle.one_end.specs.Standing.{HasBooted}
@@ -32,15 +30,14 @@ begun number core m = record {
 abbrev pub no_bytes : Memory
 no_bytes = record { content = []; plan = None; failing_read = None; faults = 0 }
 
-pub controller_begins : {N : Type 0} {n : Node N} {core : Core} {Has : Role → Type 0} (m : Memory) → RunsAs n core (new_port ClfName 2 ∷ []) → core.node ≡ 0
-    → Has (Clf new_clf) → RunsAlone 0 Has n (begun 0 core m) []
-controller_begins m runs own has = record {
+pub controller_begins : {N : Type 0} {n : Node N} {core : Core} (m : Memory) → RunsAs n core (new_port ClfName 2 ∷ []) → core.node ≡ 0
+    → RunsAlone 0 n (begun 0 core m) []
+controller_begins m runs own = record {
   core = _;
   port = new_port ClfName 2;
   runs = runs;
   own = own;
   host = refl;
-  role = has;
   node_is = refl;
   number_is = refl;
   link_is = refl;
@@ -48,15 +45,14 @@ controller_begins m runs own has = record {
   due = refl;
 }
 
-pub host_begins : {N : Type 0} {n : Node N} {core : Core} {Has : Role → Type 0} (m : Memory) → RunsAs n core (new_port UiccName 2 ∷ []) → core.node ≡ 2
-    → Has (Uicc new_uicc) → RunsAlone 2 Has n (begun 2 core m) []
-host_begins m runs own has = record {
+pub host_begins : {N : Type 0} {n : Node N} {core : Core} (m : Memory) → RunsAs n core (new_port UiccName 2 ∷ []) → core.node ≡ 2
+    → RunsAlone 2 n (begun 2 core m) []
+host_begins m runs own = record {
   core = _;
   port = new_port UiccName 2;
   runs = runs;
   own = own;
   host = refl;
-  role = has;
   node_is = refl;
   number_is = refl;
   link_is = refl;

@@ -6,9 +6,7 @@ pub mod Growing
 pub mod Muting
 pub mod Steps
 pub mod Fetching
-pub mod Roles
 pub mod Alone
-pub mod Activating
 pub mod Booted
 pub mod Bringing
 pub mod Ran

@@ -1,22 +1,20 @@
 -- For which states of its machine a node stands that runs alone: the controller or host 02, with the link between them and no other.
-use Rattle.std.specs.Prelude.{◌≡◌, ℕ, List, [], ◌∷◌, Option, Some, None, is_none, false}
+use Rattle.std.specs.Prelude.{◌≡◌, ℕ, List, [], ◌∷◌, Some, is_none, false}
 use Rattle.std.proofs.Common.{ap}
 use Rattle.swp_base.specs.declared.control_frames.Control.{Control}
-use Rattle.swp_act.specs.declared.ActEvent.{ActEvent}
-use Rattle.link_laws.specs.machine.Machine.{Role, role_after, frames_out, sent_all}
+use Rattle.link_laws.specs.machine.Machine.{frames_out, sent_all}
 use Rattle.node_machine.specs.Parts.{Core, Port}
 use Rattle.node_core.specs.declared.node.Node.{Node}
 use Rattle.node_core.specs.Running.{RunsAs}
 use Rattle.lone_laws.specs.alone.Lone.{Lone}
 
--- A node with this number runs alone in this state once these frames have gone out; its end has such a role.
-pub record RunsAlone {N : Type 0} (number : ℕ) (Has : Role → Type 0) (n : Node N) (l : Lone) (frames : List Control) : Type 0 where
+-- A node with this number runs alone in this state once these frames have gone out.
+pub record RunsAlone {N : Type 0} (number : ℕ) (n : Node N) (l : Lone) (frames : List Control) : Type 0 where
   pub core : Core
   pub port : Port
   pub runs : RunsAs n core (port ∷ [])
   pub own : core.node ≡ number
   pub host : port.desk.host ≡ 2
-  pub role : Has port.side.role
   pub node_is : l.node ≡ Some (record { core = core; desks = port.desk ∷ [] })
   pub number_is : l.number ≡ number
   pub link_is : l.link ≡ 2
@@ -24,11 +22,6 @@ pub record RunsAlone {N : Type 0} (number : ℕ) (Has : Role → Type 0) (n : No
   pub due : frames_out port.side ≡ frames
 
 -- it has its power
-pub alone_is_live : {N : Type 0} {number : ℕ} {Has : Role → Type 0} {n : Node N} {l : Lone} {frames : List Control} → RunsAlone number Has n l frames
+pub alone_is_live : {N : Type 0} {number : ℕ} {n : Node N} {l : Lone} {frames : List Control} → RunsAlone number n l frames
     → is_none l.node ≡ false
 alone_is_live a = ap (λ o. is_none o) a.node_is
-
--- the role of an end behind an event of activation, where there is one
-abbrev pub role_behind : Role → Option ActEvent → Role
-role_behind r None = r
-role_behind r (Some event) = role_after r event

@@ -12,7 +12,6 @@ use crate::nodes::{LoneController, LoneHost};
 use node_core::{BootFault, BootRefused, Controller, Host};
 use nv_journal::JournalFault;
 use std::alloc::Global;
-use swp_act::ClfAct;
 use swp_base::Nv;
 
 /// The mask of host 02.
@@ -63,10 +62,7 @@ pub fn boot_controller<N: Nv + Drop>(
     ensures refused { IfErr result (λ e. IsNotBooted N.reads N.writes N.faults N.tells N.content nv e.nv e.fault) }
 {
     match Controller::boot(alloc, HOST_MASK, nv) {
-        Ok(controller) => Ok(LoneController {
-            controller,
-            activation: ClfAct::new(),
-        }),
+        Ok(controller) => Ok(LoneController { controller }),
         Err(refused) => Err(not_booted(refused)),
     }
 }

@@ -2,7 +2,6 @@
 //! line or a byte link. All of it is this project's own.
 #![tactic(auto)]
 
-mod activity;
 mod booting;
 pub mod laws;
 mod line;

@@ -3,18 +3,19 @@ ghost use Rattle.std.specs.Prelude.{◌≡◌, ◌≤◌, ℕ, [], List, None, S
 ghost use Rattle.swp_base.specs.Outside.{Rose};
 ghost use Rattle.link_laws.specs.machine.Machine.{LinkInput};
 ghost use Rattle.node_machine.specs.Parts.{Core, Port, Work};
-ghost use Rattle.node_machine.specs.Carrying.{with_port};
+ghost use Rattle.node_machine.specs.Carrying.{port_at, with_port};
 ghost use Rattle.node_machine.specs.Node.{steps};
 ghost use Rattle.node_core.specs.Bringing.{Brings};
-ghost use Rattle.node_core.specs.Running.{RunsAs, BeginsStep, HasStepped, MayStep, ran_so, one_more_error};
+ghost use Rattle.node_core.specs.Running.{RunsAs, BeginsStep, HasStepped, MayStep, ran_so, one_more_error, becomes_active_by};
 ghost use Rattle.lone_laws.specs.alone.Lone.{lone_input, node_input};
 ghost use Rattle.one_end.specs.Running.{cause_of};
 
-use crate::activity::becomes_active;
 use crate::node::{Came, Coming, LoneNode};
-use node_core::{Controller, Host, Ran, a_reset_of_an_end_that_became_active_is_not_refused};
-use swp_act::ClfAct;
+use node_core::{
+    Controller, Host, Ran, Stepped, a_reset_of_an_end_that_became_active_is_not_refused,
+};
 use swp_base::{Lpdu, Nv};
+use swp_lpdu::read_lpdu;
 use trace_model::{Entry, Watch};
 
 /// The host of the one link.
@@ -48,8 +49,6 @@ impl Watch for Unwatched {
 #[derive(Drop)]
 pub struct LoneController<N: Nv + Drop> {
     pub(crate) controller: Controller<N>,
-    /// The activation of its end, as the end has it.
-    pub(crate) activation: ClfAct,
 }
 
 /// Host 02.
@@ -67,27 +66,42 @@ fn has_stopped(ran: Ran) -> bool
     matches!(ran, Ran::Stopped)
 }
 
-/// This comes to the controller.
-fn comes_to_controller<N: Nv + Drop>(controller: &mut Controller<N>, coming: &Coming) -> Ran
+/// This comes to the controller. No end becomes active but by a frame.
+fn comes_to_controller<N: Nv + Drop>(controller: &mut Controller<N>, coming: &Coming) -> Stepped
     requires may { MayStep controller.old }
     ensures stepped { (i : LinkInput) (w : Work) → lone_input (cause_of coming.now) ≡ Some i → BeginsStep controller.old [] true [] w
         → Brings N.writes controller.old.store.journal.nv controller.new.store.journal.nv (HasStepped controller.new [] true []) (steps (node_input 2 i)) w }
-    ensures ran { (i : LinkInput) → lone_input (cause_of coming.now) ≡ Some i → result ≡ ran_so controller.new.store.journal.live }
+    ensures active { (i : LinkInput) (w : Work) → lone_input (cause_of coming.now) ≡ Some i → BeginsStep controller.old [] true [] w
+        → result.became_active ≡ becomes_active_by i (port_at w.ports 2) }
+    ensures ran { (i : LinkInput) → lone_input (cause_of coming.now) ≡ Some i → result.ran ≡ ran_so controller.new.store.journal.live }
     ensures refused { (core : Core) (ports : List Port) → lone_input (cause_of coming.now) ≡ None → RunsAs controller.old core ports
         → RunsAs controller.new core (with_port 2 one_more_error ports) }
-    ensures kept { lone_input (cause_of coming.now) ≡ None → (result ≡ Ran.Done) × (controller.new.store ≡ controller.old.store) }
+    ensures kept { lone_input (cause_of coming.now) ≡ None
+        → (result.ran ≡ Ran.Done) × (result.became_active ≡ false) × (controller.new.store ≡ controller.old.store) }
     ensures count { N.faults controller.old.store.journal.nv ≤ N.faults controller.new.store.journal.nv }
-    ensures rose { result ≡ Ran.Stopped → Rose (N.faults controller.old.store.journal.nv) (N.faults controller.new.store.journal.nv) }
+    ensures rose { result.ran ≡ Ran.Stopped → Rose (N.faults controller.old.store.journal.nv) (N.faults controller.new.store.journal.nv) }
 {
     match coming {
-        Coming::Frame(lpdu) => controller.take(HOST, lpdu, &mut Unwatched),
+        Coming::Frame(lpdu) => controller.take_step(HOST, &read_lpdu(lpdu), &mut Unwatched),
         Coming::Refused(_) => {
             controller.refused(HOST);
-            Ran::Done
+            Stepped {
+                ran: Ran::Done,
+                became_active: false,
+            }
         }
-        Coming::Tick => controller.tick(&mut Unwatched),
-        Coming::Start => controller.activate(HOST, POWER, &mut Unwatched),
-        Coming::Stop => controller.deactivate(HOST, &mut Unwatched),
+        Coming::Tick => Stepped {
+            ran: controller.tick(&mut Unwatched),
+            became_active: false,
+        },
+        Coming::Start => Stepped {
+            ran: controller.activate(HOST, POWER, &mut Unwatched),
+            became_active: false,
+        },
+        Coming::Stop => Stepped {
+            ran: controller.deactivate(HOST, &mut Unwatched),
+            became_active: false,
+        },
     }
 }
 
@@ -123,12 +137,11 @@ fn comes_to_host<N: Nv + Drop>(host: &mut Host<N>, coming: &Coming) -> Ran
 }
 
 impl<N: Nv + Drop> LoneNode<N> for LoneController<N> {
-    ghost use Rattle.link_laws.specs.machine.Machine.Role.{Clf};
     ghost use Rattle.one_end.specs.Alone.{RunsAlone, alone_is_live};
 
     ghost nv = { λ c. c.controller.store.journal.nv };
 
-    ghost runs = { λ c l frames. RunsAlone 0 (λ r. r ≡ Clf c.activation) c.controller l frames };
+    ghost runs = { λ c l frames. RunsAlone 0 c.controller l frames };
 
     ghost number = { 0 };
 
@@ -136,11 +149,10 @@ impl<N: Nv + Drop> LoneNode<N> for LoneController<N> {
 
     fn comes(&mut self, coming: &Coming) -> Came {
         a_reset_of_an_end_that_became_active_is_not_refused::<N>();
-        let asks_reset = becomes_active(&mut self.activation, coming);
-        let ran = comes_to_controller(&mut self.controller, coming);
+        let stepped = comes_to_controller(&mut self.controller, coming);
         Came {
-            stopped: has_stopped(ran),
-            asks_reset,
+            stopped: has_stopped(stepped.ran),
+            asks_reset: stepped.became_active,
         }
     }
 
@@ -165,7 +177,7 @@ impl<N: Nv + Drop> LoneNode<N> for LoneHost<N> {
 
     ghost nv = { λ h. h.host.store.journal.nv };
 
-    ghost runs = { λ h l frames. RunsAlone 2 (λ r. Unit {0}) h.host l frames };
+    ghost runs = { λ h l frames. RunsAlone 2 h.host l frames };
 
     ghost number = { 2 };
 

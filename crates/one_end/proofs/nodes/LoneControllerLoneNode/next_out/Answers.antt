@@ -1,7 +1,6 @@
 -- The next frame of a controller goes out.
-use Rattle.std.proofs.Common.{◌∙◌, ◌∷◌, []}
+use Rattle.std.proofs.Common.{◌∷◌, []}
 use Rattle.one_end.proofs.Alone.{sends_first}
-use Rattle.one_end.proofs.Roles.{fetched_role}
 use Rattle.one_end.proofs.nodes.LoneControllerLoneNode.next_out.Goals as goal
 
 pub next_out-requires : goal.next_out-requires
@@ -10,4 +9,3 @@ next_out-requires g c = let a = c.requires.may.2 in record { runs = (a.core, a.p
 pub returns-clause-sent : goal.returns-clause-sent
 returns-clause-sent g c l frames a =
     sends_first l frames a c.next_out.result (c.next_out.ensures.answer a.core (a.port ∷ []) a.runs) (c.next_out.ensures.runs a.core (a.port ∷ []) a.runs)
-    (λ e is. fetched_role e ∙ is)

@@ -12,15 +12,13 @@ comes_to_host-ran-requires g c = record { may = may_step c.requires.may.1; numbe
 pub returns-clause-stepped : goal.returns-clause-stepped
 returns-clause-stepped g c l a =
     let k = c.comes_to_host-ran.ensures in
-    comes_alone g.N.Nv.writes a (λ r. Unit {0}) (cause_of c.args.coming.now) c.has_stopped.result
+    comes_alone g.N.Nv.writes a (cause_of c.args.coming.now) c.has_stopped.result
     (λ i w comes begun. k.stepped i w comes begun)
     (λ i comes. c.has_stopped.ensures.power _ (k.ran i comes))
-    (λ i comes. tt)
     (λ none. (
       k.refused a.core (a.port ∷ []) none a.runs,
       ap (λ (s : Stored g.row.N.Denot). s.journal.nv) (k.kept none).1,
       c.has_stopped.ensures.done (k.kept none).0,
-      λ r is. tt,
     ))
     (λ i comes w p b at same asks. absurd (true≢false (sym asks ∙ asks_never l a (cause_of c.args.coming.now))))
 

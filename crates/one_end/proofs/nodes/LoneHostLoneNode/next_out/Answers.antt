@@ -15,4 +15,3 @@ returns-clause-sent g c l frames a =
     sends_first l frames a c.next_out.result
     (c.next_out.ensures.answer a.core (a.port ∷ []) a.runs ∙ ap (λ h. frame_at (port_at (a.port ∷ []) h)) two)
     (subst (λ h. RunsAs c.next_out.new.self a.core (with_port h has_sent (a.port ∷ []))) two (c.next_out.ensures.runs a.core (a.port ∷ []) a.runs))
-    (λ e is. tt)

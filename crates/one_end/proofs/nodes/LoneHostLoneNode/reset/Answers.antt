@@ -11,7 +11,7 @@ reset-done-requires-clause-may g c = may_step c.requires.may.1
 
 pub returns-clause-stepped : goal.returns-clause-stepped
 returns-clause-stepped g c l a free =
-    has_stepped_alone g.N.Nv.writes a (λ r. Unit {0}) (ResetComes None) (Reset None) refl
+    has_stepped_alone g.N.Nv.writes a (ResetComes None) (Reset None) refl
     (taken_reset a free c.reset-done.result (c.reset-done.ensures.refusal a.core (a.port ∷ []) a.runs) c.reset-done.ensures.stepped)
-    tt false (ap not (sym c.reset-done.ensures.live))
+    false (ap not (sym c.reset-done.ensures.live))
     (λ w p b at same asks. absurd (true≢false (sym asks ∙ asks_never l a (ResetComes None))))
