@@ -1,7 +1,7 @@
 -- What is told of a schedule, from its text to the text of its transcript, without the line that ends it.
 use Prim.Native.String.{String}
 use Rattle.std.specs.Prelude.{ℕ, List, [], ◌∷◌, Option, Some, None, Result, Ok, codes}
-use Rattle.std.specs.List.{filter_map, flat_map}
+use Rattle.std.specs.List.{flat_map}
 use Rattle.std.specs.Option.{option_map_or}
 use Rattle.std.specs.Str.Lines.{lines}
 use Rattle.trace_model.specs.declared.line.Header.{Header}
@@ -10,7 +10,7 @@ use Rattle.schedule_text.specs.declared.fault.LineFault.{LineFault}
 use Rattle.schedule_text.specs.declared.read.Read.{Read}
 use Rattle.schedule_text.specs.declared.read.Read.TheVariants as read
 use Rattle.schedule_text.specs.Entries.{entry_lines}
-use Rattle.schedule_text.specs.Lines.{line_of}
+use Rattle.schedule_text.specs.Lines.{each_word, line_of}
 use Rattle.lines_told.specs.lines.Plays.{schedule_told}
 -- what an example opens beside, so that all is computed
 unfoldable pub use Rattle.swp_base.specs.Bits.{bits_of_byte}
@@ -29,9 +29,10 @@ abbrev pub line_read : Result Read LineFault → Option Line
 line_read (Ok (read.Line line)) = Some line
 line_read _ = None
 
--- the text of all that is told of the lines that these say below a header
+-- the text of all that is told of lines below a header; nothing where one of them is no such line
 abbrev pub told_below_header : List (List ℕ) → Header → List ℕ
-told_below_header said header = entry_lines (schedule_told header (filter_map (λ line. line_read (line_of (Some header) line)) said))
+told_below_header said header =
+    option_map_or (λ lines. entry_lines (schedule_told header lines)) (each_word (λ line. line_read (line_of (Some header) line)) said) []
 
 -- the same of a schedule, whose first line says its header
 abbrev pub told_of_said : List (List ℕ) → List ℕ
