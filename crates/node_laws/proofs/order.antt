@@ -6,10 +6,16 @@ pub mod Since
 pub mod Unnoticed
 pub mod Knowing
 pub mod Events
+pub mod Activating
 pub mod Ticking
 pub mod Strangers
 pub mod HostsStay
 pub mod Lines
+pub mod Activity
+pub mod Listing
+pub mod TickResets
+pub mod Numbered
+pub mod Readying
 pub mod Watches
 pub mod Wires
 pub mod Sessions

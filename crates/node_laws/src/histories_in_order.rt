@@ -13,8 +13,8 @@ ghost use Rattle.node_laws.specs.links.Runs.{ArePlayable};
 ghost use Rattle.node_laws.specs.kept.Hosts.{AreHosts, IsFew, IsSentByHost};
 ghost use Rattle.node_laws.specs.telling.Telling.{IsTimely, world_behind};
 ghost use Rattle.node_laws.specs.order.Legal.{LegalNodes, PrefixNodes};
-ghost use Rattle.node_laws.specs.order.Resets.{ResetNodes};
-ghost use Rattle.node_laws.specs.order.Told.{AreReadOff, AreSessionsRead, AreWiresRead, HasDelivered, HasDeliveredAll, HasSettled, IsLinkTold};
+ghost use Rattle.node_laws.specs.order.Resets.{ResetNodes, TickResetNodes};
+ghost use Rattle.node_laws.specs.order.Told.{AreEndsRead, AreReadOff, AreSessionsRead, AreWiresRead, HasDelivered, HasDeliveredAll, HasSettled, IsLinkTold};
 
 /// At the end of each event of a history of hosts from 01 to 07 that are all different, each end is new while its node doesn't run, a
 /// notice comes to its hundredth tick only at an end that is active and up, and none does at a host: so what is said of ticks of such
@@ -56,6 +56,16 @@ pub fn wires_are_read_off_histories_of_nodes()
         site_at (world_behind (new_world header.hosts.items) front).sites h ≡ Some s → AreWiresRead front h s.link }
 {}
 
+/// At the end of each event of such a history the ends of each link at which activation is done, and those that wait for the answer to a
+/// reset, are those that are read off the events: activation is done where it is noted so, until the power of the node is cut or an
+/// activation of the link begins, and an end waits once RSET went out of it, until its session begins, it gives up, or one of these two
+/// comes.
+pub fn ends_are_read_off_histories_of_nodes()
+    ensures { (header : Header) (lines : List Line) (t : NodeHistory) → FollowsNodes header lines t → AreHosts header.hosts.items →
+        ArePlayable lines → (front back : List Occurrence) → occurrences_in t ≡ front ++ back → (h : ℕ) (s : Site) →
+        site_at (world_behind (new_world header.hosts.items) front).sites h ≡ Some s → AreEndsRead front h s.link }
+{}
+
 /// At each moment of such a history, between any two entries, each end has got in each session a front of the good messages that the
 /// other end of its link sent in it; the good ones among those that count as acknowledged are a front of what the other got; and no
 /// more count than were sent. And no session ends by packets that can't be joined.
@@ -82,11 +92,15 @@ pub fn quiet_links_have_delivered_all_in_each_history()
 
 /// Where an end of a link was reset in such a history, as a line asked for, while the other end was active and not waiting, and the nodes
 /// of the link kept their power in that event, and behind it no frame of the link was lost, no other RSET put on it, no power of its nodes
-/// cut and no activation of it begun, both ends are up with one number once both wires are empty. All of it but how the other end stood at
-/// the reset is read off the events: `standing_behind` for the wires, `session_now` for the sessions.
+/// cut and no activation of it begun, both ends are up with one number once both wires are empty. All of it is read off the events:
+/// `standing_behind` for the ends and the wires, `session_now` for the sessions.
+/// So it is where the controller's end was reset in a tick, as for a notice that is late, and in that tick no frame of the link was lost and
+/// the host's end put no RSET on it (`in_tick`).
 pub fn resets_bring_both_up_in_each_history()
-    ensures { (header : Header) (lines : List Line) (t : NodeHistory) → FollowsNodes header lines t → AreHosts header.hosts.items →
+    ensures by_line { (header : Header) (lines : List Line) (t : NodeHistory) → FollowsNodes header lines t → AreHosts header.hosts.items →
         ArePlayable lines → ResetNodes t }
+    ensures in_tick { (header : Header) (lines : List Line) (t : NodeHistory) → FollowsNodes header lines t → AreHosts header.hosts.items →
+        ArePlayable lines → TickResetNodes t }
 {}
 
 /// At the end of each event of such a history, where both ends of a link are up in one session, no frame of the link was lost and no RNR

@@ -55,11 +55,12 @@ pub fn every_history_of_a_schedule_is_legal()
 /// The headline: every history that is played from a schedule whose header and lines are in their ranges is legal (`IsLegal`), with nothing
 /// else asked for. Below the header of one bare link: messages are in order, quiet links have delivered all, and settled links are quiet.
 /// Below a header of nodes: messages are in order, quiet links have delivered all, pipes are allowed, commands are kept, a cut ends its
-/// node's part of an event, and frames go out of a node behind all else that it does in one; and every message is answered. Messages have their turns in the order in which they came, at the ends of their
-/// node in order, behind all that comes to it; at the end of each event all that came to a node that runs have had them, or all before one
-/// that is held; each that has its turn is replied to as is read, and each that is held is held for what it lacks; where a node has made a
-/// step and runs on, the first message that is left at an end lacks room as the node leaves that end; what a node answers before its first
-/// turn in an event is exactly what is due; and sessions end by resets exactly where they are due.
+/// node's part of an event, and frames go out of a node behind all else that it does in one; and every message is answered. Messages have
+/// their turns in the order in which they came, at the ends of their node in order, behind all that comes to it; at the end of each event all
+/// that came to a node that runs have had them, or all before one that is held; each that has its turn is replied to as is read, and each
+/// that is held is held for what it lacks; where a node has made a step and runs on, the first message that is left at an end lacks room as
+/// the node leaves that end; what a node answers before its first turn in an event is exactly what is due; and sessions end by resets
+/// exactly where they are due.
 pub fn every_played_history_is_legal()
     ensures { (header : Header) (lines : List Line) (t : PlayedHistory) → IsPlayed header lines t → IsLegal t }
 {}

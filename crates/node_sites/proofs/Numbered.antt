@@ -3,6 +3,7 @@ use Rattle.std.proofs.Common.{◌≡◌, ℕ, ◌==◌, ◌≤◌, Bool, true, f
 use Rattle.std.specs.Prelude.{nat_lt, option_to_list}
 use Rattle.std.specs.List.{AllByRecursion, flat_map}
 use Rattle.std.specs.Option.{option_map_or}
+use Rattle.std.proofs.lemmas.Bool.{true≢false}
 use Rattle.swp_base.specs.declared.link_terms.Cause.{Cause}
 use Rattle.registry.proofs.ValueLemmas.{AllByRecursion-append as all_append}
 use Rattle.trace_model.specs.declared.entry.Entry.{Entry}
@@ -13,7 +14,7 @@ use Rattle.link_laws.specs.machine.Machine.Turn.{Give}
 use Rattle.link_laws.specs.entries.Entries.{End as Side, Entry as Noted, told, if_so, sent_unless}
 use Rattle.link_laws.specs.entries.Entries.End.{Controller, Host}
 use Rattle.link_laws.specs.entries.Entries.Entry.{Up, Down, Active, GaveUp, Acked, Got, Sent, Emit, Took, Lost, Tick, Restarted, Cut}
-use Rattle.history.specs.Filters.{said}
+use Rattle.link_laws.proofs.entries.Lasting.{same_number}
 use Rattle.history.specs.Steps.{end_of, entry_of, entries_for}
 use Rattle.node_machine.specs.Parts.{Desk, Core, Port, Work, Deed}
 use Rattle.node_machine.specs.Carrying.{own_side, noting, port_at, changed_if, with_port, with_desk, after_turn, noted_of, turn_at}
@@ -21,6 +22,7 @@ use Rattle.node_machine.specs.Node.{NodeInput, input_at, has_come, told_at, all_
 use Rattle.node_machine.specs.Controller.{asked_at}
 use Rattle.node_machine.specs.Node.{forgets, is_forgotten, all_owed, is_over, without_notice, after_sessions, synced, steps, begins_with}
 use Rattle.node_machine.specs.Node.NodeInput.{AtEnd, TimePasses}
+use Rattle.node_laws.specs.telling.Telling.{tells_of}
 use Rattle.node_laws.proofs.telling.Walks.{AreSilent, rest, all_do}
 use Rattle.node_laws.proofs.telling.Mute.{AreMute, forgotten_mute, all_owed_mute, all_synced_mute}
 use Rattle.node_sites.specs.Numbers.{IsNumbered, AreNumbered, CountsFew, StaysCounted}
@@ -30,11 +32,11 @@ end_link h Controller = refl
 end_link h Host = refl
 
 module _ (session : ℕ → ℕ) where
-  silent_one : (x : Entry) → said x ≡ None → IsNumbered session x
-  silent_one (entry.Up e n) q = cc
-  silent_one (entry.Sent e n pid message) q = cc
-  silent_one (entry.Got e n pid message) q = cc
-  silent_one (entry.Acked e n count) q = cc
+  silent_one : (x : Entry) → ((h : ℕ) → tells_of h x ≡ false) → IsNumbered session x
+  silent_one (entry.Up e n) q = absurd (true≢false (sym (same_number e.link) ∙ q e.link))
+  silent_one (entry.Sent e n pid message) q = absurd (true≢false (sym (same_number e.link) ∙ q e.link))
+  silent_one (entry.Got e n pid message) q = absurd (true≢false (sym (same_number e.link) ∙ q e.link))
+  silent_one (entry.Acked e n count) q = absurd (true≢false (sym (same_number e.link) ∙ q e.link))
   silent_one x q = tt
 
   silent_numbered : (t : List Entry) → AreSilent t → AreNumbered session t

@@ -1,5 +1,6 @@
 -- What walks over a history find says of each fact of `Answered` whether it holds.
-use Rattle.std.proofs.Common.{◌≡◌, refl, ap, ap₂, sym, subst, append_assoc, append-nil, ℕ, Bool, true, false, true≢false, cond, eqb, List, [], ◌∷◌, ◌++◌, drop, Option, Some, None}
+use Rattle.std.proofs.Common.{◌≡◌, refl, ap, ap₂, sym, subst, append_assoc, append-nil, ℕ, Bool, true}
+use Rattle.std.proofs.Common.{false, true≢false, cond, eqb, List, [], ◌∷◌, ◌++◌, drop, Option, Some, None}
 use Rattle.std.specs.Prelude.{◌==◌, ◌&&◌, not}
 use Rattle.std.specs.List.{AllByRecursion, list_any}
 use Rattle.std.specs.Option.{option_map_or}

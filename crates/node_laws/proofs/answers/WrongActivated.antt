@@ -2,17 +2,18 @@
 use Rattle.std.proofs.Common.{◌≡◌, refl, ap, sym, true, true≢false, List, [], ◌∷◌, ◌++◌, get_or, arith, Option, Some, None}
 use Rattle.std.specs.Prelude.{is_some, unwrap_or}
 use Rattle.trace_model.specs.declared.entry.Entry.{Entry}
-use Rattle.trace_model.specs.declared.entry.Entry.TheVariants.{Emit, Took, Active, Command}
+use Rattle.trace_model.specs.declared.entry.Entry.TheVariants.{Down, Emit, Took, Active, Command}
+use Rattle.swp_base.specs.declared.link_terms.Cause.TheVariants.{Asked}
 use Rattle.hci_tables.specs.declared.command.Command.TheVariants as command
 use Rattle.journal_laws.specs.Records.{found_from}
 use Rattle.gate_admin.specs.View.{hosts_where}
 use Rattle.pipe_table.specs.PipeRows.{lowest_free}
 use Rattle.swp_base.specs.InMemory.{Memory}
 use Rattle.node_machine.specs.world.World.{Site, new_site, new_world, site_at, end_c, end_h}
-use Rattle.node_machine.specs.world.World.Happening.{Resets, Activates}
+use Rattle.node_machine.specs.world.World.Happening.{Ticks, Resets, Activates}
 use Rattle.node_machine.specs.world.Lines.{Occurrence}
 use Rattle.node_laws.specs.telling.Telling.{world_behind}
-use Rattle.node_laws.specs.order.Resets.{IsUpheld}
+use Rattle.node_laws.specs.order.Resets.{IsUpheld, IsUpheldInTick}
 use Rattle.node_laws.specs.answers.Headline.{LegalWorld}
 use Rattle.node_laws.proofs.answers.Wrong.{told, boot, takes}
 use Rattle.node_laws.proofs.answers.WrongWorlds.{boots_host, host_takes}
@@ -49,19 +50,35 @@ asks = record { cause = Resets (end_h 2) None; entries = [] }
 
 reset_and_not_up : LegalWorld (told (activated ++ asks ∷ [])) → ⊥
 unfolding found_from hosts_where lowest_free
-reset_and_not_up w = true≢false (sym (ap is_some (w.legal.complete.upheld activated asks [] [] (end_h 2) None (site activated) refl upheld).up.host))
+reset_and_not_up w = true≢false (sym (ap is_some (w.legal.complete.upheld activated asks [] [] (end_h 2) None refl upheld).up.host))
   where
-    upheld : IsUpheld (2 ∷ []) activated asks [] (end_h 2) None (site activated)
+    upheld : IsUpheld activated asks [] (end_h 2) None
     upheld = record {
       cause = refl;
-      there = is_there (site_behind activated) refl;
       active = refl;
       free = refl;
       powered = refl;
-      undisturbed = refl;
-      unopened = refl;
-      to_controller = refl;
-      to_host = refl;
+      left = record { undisturbed = refl; unopened = refl; to_controller = refl; to_host = refl };
+    }
+
+-- the controller's end is reset in a tick, and no RSET is put on the wire
+abbrev ends : Occurrence
+ends = record { cause = Ticks; entries = Down (end_c 2) Asked ∷ [] }
+
+reset_in_a_tick_and_not_up : LegalWorld (told (activated ++ ends ∷ [])) → ⊥
+unfolding found_from hosts_where lowest_free
+reset_in_a_tick_and_not_up w = true≢false (sym (ap is_some (w.legal.complete.upheld_in_ticks activated ends [] [] 2 refl upheld).up.host))
+  where
+    upheld : IsUpheldInTick activated ends [] 2
+    upheld = record {
+      cause = refl;
+      reset = refl;
+      active = refl;
+      free = refl;
+      powered = refl;
+      lossless = refl;
+      alone = refl;
+      left = record { undisturbed = refl; unopened = refl; to_controller = refl; to_host = refl };
     }
 
 -- ## Frames

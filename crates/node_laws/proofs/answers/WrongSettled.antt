@@ -1,4 +1,4 @@
--- A small wrong history of a link that settles isn't legal.
+-- A small wrong history of a link that settles, which the law of what has settled refuses.
 use Rattle.std.proofs.Common.{◌≡◌, ◌∙◌, refl, ap, sym, ℕ, true≢false, List, [], ◌∷◌, ◌++◌, Some, None}
 use Rattle.std.specs.Prelude.{is_some}
 use Rattle.swp_base.specs.declared.control_frames.Act.TheVariants.{Ready, PowerMode}
@@ -20,10 +20,11 @@ use Rattle.node_machine.specs.world.World.{end_c, end_h}
 use Rattle.node_machine.specs.world.World.Happening.{Resets}
 use Rattle.node_machine.specs.world.Lines.{Occurrence}
 use Rattle.node_laws.specs.links.Runs.{IsRunOf, new_line}
-use Rattle.node_laws.specs.answers.Headline.{LegalWorld}
-use Rattle.node_laws.proofs.answers.Wrong.{told, takes}
+use Rattle.node_machine.specs.world.NodeHistories.{entries_in}
+use Rattle.node_laws.specs.order.Told.{HasSettled}
+use Rattle.node_laws.proofs.answers.Wrong.{takes}
 use Rattle.node_laws.proofs.answers.WrongWorlds.{host_takes}
-use Rattle.node_laws.proofs.answers.WrongActivated.{activated, site, site_behind, is_there}
+use Rattle.node_laws.proofs.answers.WrongActivated.{activated, site}
 
 -- It is reset, and its UA comes as the causes say; but it is noted as lost, and the host's end not as up. What is upheld is read off
 -- entries, so it says nothing of this one.
@@ -62,10 +63,9 @@ world_makes_it : (site settles).link ≡ settled_link
 unfolding found_from hosts_where lowest_free
 world_makes_it = refl
 
-settled_and_not_up : LegalWorld (told settles) → ⊥
+settled_and_not_up : HasSettled (entries_in settles) 2 (site settles).link → ⊥
 unfolding found_from hosts_where lowest_free
-settled_and_not_up w =
-    true≢false (sym (ap is_some (w.legal.complete.settled settles [] refl 2 (site settles) (is_there (site_behind settles) refl) happened run settled).up.host))
+settled_and_not_up law = true≢false (sym (ap is_some (law happened run settled).up.host))
   where
     run : IsRunOf happened (site settles).link
     run = record {

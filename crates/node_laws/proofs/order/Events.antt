@@ -1,9 +1,8 @@
 -- Each event of a world but a tick leaves each link told.
 use Rattle.std.proofs.Common.{◌≡◌, ℕ, ◌==◌, Bool, true, false, cond, List, [], ◌∷◌, ◌++◌, length, Option, Some, None, map, refl, ap, sym, subst, ◌∙◌}
-use Rattle.std.proofs.Common.{append_assoc}
-use Rattle.std.specs.Prelude.{is_some, min, ◌+◌}
+use Rattle.std.specs.Prelude.{min, ◌+◌}
 use Rattle.std.specs.List.{AllByRecursion}
-use Rattle.std.proofs.lemmas.Bool.{eqb-true, true≢false}
+use Rattle.std.proofs.lemmas.Bool.{eqb-true}
 use Rattle.swp_base.specs.InMemory.{Memory}
 use Rattle.swp_act.specs.Activation.{new_clf, new_uicc}
 use Rattle.trace_model.specs.declared.entry.Entry.{Entry}
@@ -12,18 +11,14 @@ use Rattle.trace_model.specs.declared.line.End.{End}
 use Rattle.journal_laws.specs.Journal.{count_of}
 use Rattle.journal_laws.specs.Planned.{fails_within, after_planned}
 use Rattle.link_laws.specs.machine.Machine.{LinkEnd, LinkInput, new_link_end}
-use Rattle.link_laws.specs.machine.Machine.LinkInput.{Start}
 use Rattle.link_laws.specs.machine.Machine.Role.{Clf, Uicc}
-use Rattle.link_laws.specs.messages.Links.{NumberedEnd, Link, Comes, Loss, EndEvent, LinkEvent, exchanged, happens_at_controller, happens, IsClf, IsEvent}
+use Rattle.link_laws.specs.messages.Links.{NumberedEnd, Link, Comes, Loss, EndEvent, LinkEvent, exchanged, happens_at_controller, happens}
+use Rattle.link_laws.specs.messages.Links.{IsClf, IsEvent}
 use Rattle.link_laws.specs.messages.Links.Ending.{CutOff}
-use Rattle.link_laws.specs.messages.Links.Comes.{Starts, NoInput}
+use Rattle.link_laws.specs.messages.Links.Comes.{NoInput}
 use Rattle.link_laws.specs.messages.Links.Loss.{OnDemand, Broken, Unread, TooOld, TooMany}
 use Rattle.link_laws.specs.messages.Links.EndEvent.{Step, Lose}
 use Rattle.link_laws.specs.messages.Links.LinkEvent.{AtController, AtHost}
-use Rattle.link_laws.specs.messages.Links.IsStart.{IsLine}
-use Rattle.link_laws.proofs.messages.Whole.{from_start}
-use Rattle.node_laws.specs.links.Runs.{new_line}
-use Rattle.node_machine.specs.world.World.Happening.{Activates}
 use Rattle.link_laws.specs.entries.Entries.{first_lost}
 use Rattle.link_laws.specs.entries.Entries.End.{Controller, Host}
 use Rattle.history.specs.Steps.{at, entries_for}
@@ -37,7 +32,6 @@ use Rattle.node_machine.specs.world.World.{comes_to, controller_work, link_after
 use Rattle.node_machine.specs.world.World.{host_does}
 use Rattle.node_machine.specs.world.World.{controller_cut, host_cut, loses_power_at, memory_at, with_memory, with_node, links_of, boots, counts}
 use Rattle.node_machine.specs.world.World.{frame_lost, comes_at}
-use Rattle.node_machine.specs.world.World.{end_c, end_h, activates}
 use Rattle.link_laws.proofs.entries.Lasting.{same_number}
 use Rattle.node_laws.proofs.links.Ends.{here_host}
 use Rattle.node_laws.proofs.links.Works.{IsFineWork, all_done_fine, steps_fine}
@@ -45,7 +39,7 @@ use Rattle.node_laws.proofs.links.Deeds.{AreFine}
 use Rattle.node_laws.proofs.links.Sites.{MayCome, clf_line, uicc_line, can_come, can_end}
 use Rattle.node_laws.proofs.links.Worlds.{AreTrueDesks, IsFineNode, IsFineSite, IsFineWorld, AtHostOnly, CanReach, near_end_clean, near_clean, fine_clean}
 use Rattle.node_laws.proofs.links.Worlds.{ports_fine, turns_fine, may_here, memory_fine}
-use Rattle.node_laws.proofs.links.Playing.{plain_reach, starts_fine, starts_then}
+use Rattle.node_laws.proofs.links.Playing.{plain_reach}
 use Rattle.node_laws.specs.telling.Telling.{of_link, TellOf, HasEnds, IfItRuns, hosts_in, IsOrderly, IfOff}
 use Rattle.node_laws.specs.telling.Standing.{StandsOf}
 use Rattle.node_laws.proofs.telling.Mute.{AreMute}
@@ -55,15 +49,14 @@ use Rattle.node_laws.proofs.telling.Accounts.{of_other}
 use Rattle.node_laws.proofs.telling.Parts.{IsStep}
 use Rattle.node_laws.proofs.telling.Nodes.{site_host, link_is, ports_for, own_power, other_power, is_step, controller_tells, controller_stands}
 use Rattle.node_laws.proofs.telling.Worlds.{site_is, node_is, HostDoes, host_does_step, host_does_begin}
-use Rattle.node_laws.proofs.telling.Events.{memory_goes, comes_goes}
+use Rattle.node_laws.proofs.telling.Events.{memory_goes}
 use Rattle.node_laws.proofs.readings.NoticedWorlds.{far_side}
 use Rattle.node_laws.specs.order.Told.{IsLinkTold}
 use Rattle.node_laws.proofs.order.Unnoticed.{IfNone, HasNoNotices, AreUnnoticed, all_done_none, steps_none, runs_none}
-use Rattle.node_laws.proofs.order.Watches.{IsStepOf, WatchedLink, watched, unwatched, opened, watch_begins, watched-append}
+use Rattle.node_laws.proofs.order.Watches.{IsStepOf, WatchedLink, watched, opened}
 use Rattle.node_laws.proofs.order.Knowing.{told_more, LeaveLink, told_same, cut_clf, cut_uicc, Knows, Each, later, each_empty, each_back, each_alike}
-use Rattle.node_laws.proofs.order.Knowing.{was_there}
 use Rattle.node_laws.proofs.order.Knowing.{each_map, each_site}
-use Rattle.node_laws.proofs.order.Wires.{Shown, shown_same, clear_unstarted, shown_more, step_shown, AreEmpty, started_empty, empty_shown}
+use Rattle.node_laws.proofs.order.Wires.{Shown, shown_same, clear_unstarted, shown_more, step_shown}
 
 -- a world that is orderly, and whose nodes send what may be sent
 pub record IsWell (w : NodeWorld) : Type 0 where
@@ -649,84 +642,3 @@ lost_each w t X e why each = go e.at_host refl
           none = none;
           stands = away_stands h u (entries_uncut e.link (first_lost Host why (link_to w.sites e.link).to_host)) none;
         }) each
-
--- ## Activation
-
--- the wires of the link are empty as activation has begun at the controller's end
-module _ (w : NodeWorld) (t : List Entry) (X : ℕ → WatchedLink) (a : IsWell w) (each : Each t X w) (h power : ℕ) where
-  abbrev AreOpened : NodeWorld → Type 0
-  AreOpened v = (s : Site) → site_at v.sites h ≡ Some s → AreEmpty s.link
-
-  opened_so : (r : Running) → w.controller ≡ Some r
-      → AreOpened (after_controller w h (Starts power) (controller_work w r h (Starts power) (steps (AtEnd h (Start power))))).0
-  opened_so r runs s there =
-      let v : Work = controller_work w r h (Starts power) (steps (AtEnd h (Start power))) in
-      let was = was_there (link_after_controller h (Starts power) v) (λ x. refl) w.sites h s there in
-      let l : Link = was.site.link in
-      let b : Knows t (X h) w.controller h was.site = each h was.site was.there in
-      let fine : IsFineSite was.site = site_is IsFineSite w.sites h was.site a.fine.sites was.there in
-      let P : Link → Type 0 = λ k. k.controller.side.acts ≡ [] in
-      let acts : l.controller.side.acts ≡ [] =
-      subst P b.told.run.is (from_start new_line IsLine b.told.events b.told.run.allowed).good.controller.now.acts in
-      let here : (was.site.host == h) ≡ true = ap (λ n. n == h) (site_host w.sites h was.site was.there) ∙ same_number h in
-      let Q : Comes → Type 0 = λ c. AreEmpty (happens l (AtController (Step c (turns_at v was.site.host) (ending_of v)))) in
-      let R : Site → Type 0 = λ z. AreEmpty z.link in
-      subst R was.is
-      (subst (λ b. Q (cond b (Starts power) NoInput)) (sym here)
-      (started_empty l power (turns_at v was.site.host) (ending_of v) fine.link.line.clf acts))
-
-begun_at : (b : Bool) (power : ℕ) (x : WatchedLink) → opened (cond b (Starts power) NoInput) x ≡ cond b (unwatched x) x
-begun_at true power x = refl
-begun_at false power x = refl
-
-pub activates_each : (w : NodeWorld) (t : List Entry) (X : ℕ → WatchedLink) (h sync power : ℕ) → is_some w.controller ≡ true → IsWell w → Each t X w
-    → Each (t ++ (activates w h sync power).1) (λ k. watched k (watch_begins k (Activates h sync power) (X k)) (activates w h sync power).1)
-    (activates w h sync power).0
-activates_each w t X h sync power runs a each = go w.controller refl runs
-  where
-    near : NodeWorld × List Entry
-    near = comes_at w (end_c h) (Starts power)
-
-    far : NodeWorld × List Entry
-    far = comes_at near.0 (end_h h) (Starts sync)
-
-    well : IsWell near.0
-    well = record { orderly = (comes_goes w (end_c h) (Starts power) a.orderly).orderly; fine = starts_fine w h power a.fine }
-
-    Z : ℕ → WatchedLink
-    Z k = watched k (opened (comes_to h (Starts power) k) (X k)) near.1
-
-    on_is : (r : Running) → w.controller ≡ Some r
-        → near ≡ after_controller w h (Starts power) (controller_work w r h (Starts power) (steps (AtEnd h (Start power))))
-    on_is r e = rw e refl
-
-    First : NodeWorld × List Entry → Type 0
-    First z = Each (t ++ z.1) (λ k. watched k (opened (comes_to h (Starts power) k) (X k)) z.1) z.0
-
-    unwatched_so : (Z h).since ≡ false
-    unwatched_so = let q = same_number h in rw q refl
-
-    then_far : Each (t ++ near.1) Z near.0 → AreOpened w t X a each h power near.0 → Each ((t ++ near.1) ++ far.1) (later Z far.1) far.0
-    then_far first clean =
-        host_each near.0 (t ++ near.1) Z well first h (Starts sync) (steps (AtEnd h (Start sync))) (starts_then w h sync power runs a.fine)
-        (λ s n found runs. host_does_step near.0 s n h well.orderly found runs (Starts sync) (Start sync) refl)
-        (λ v b. steps_fine (AtEnd h (Start sync)) v b) (λ v b. steps_none (AtEnd h (Start sync)) v b) (Some (Start sync)) tt (λ s found. refl)
-        (λ s found. empty_shown s.link (Z h) (clean s found) (first h s found).shown unwatched_so)
-
-    alike : (k : ℕ) → later Z far.1 k ≡ watched k (watch_begins k (Activates h sync power) (X k)) (near.1 ++ far.1)
-    alike k =
-        ap (λ x. watched k (watched k x near.1) far.1) (begun_at (k == h) power (X k))
-        ∙ watched-append k (watch_begins k (Activates h sync power) (X k)) near.1 far.1
-
-    go : (o : Option Running) → w.controller ≡ o → is_some o ≡ true
-        → Each (t ++ (near.1 ++ far.1)) (λ k. watched k (watch_begins k (Activates h sync power) (X k)) (near.1 ++ far.1)) far.0
-    go None e q = absurd (true≢false (sym q))
-    go (Some r) e q =
-        let first : Each (t ++ near.1) Z near.0 =
-        subst First (sym (on_is r e)) (after w t X a each h (Starts power) (Start power) tt refl r e) in
-        let clean : AreOpened w t X a each h power near.0 =
-        subst (λ (z : NodeWorld × List Entry). AreOpened w t X a each h power z.0) (sym (on_is r e)) (opened_so w t X a each h power r e) in
-        let P : List Entry → Type 0 = λ z. Each z (λ k. watched k (watch_begins k (Activates h sync power) (X k)) (near.1 ++ far.1)) far.0 in
-        subst P (append_assoc t near.1 far.1)
-        (each_alike ((t ++ near.1) ++ far.1) (later Z far.1) (λ k. watched k (watch_begins k (Activates h sync power) (X k)) (near.1 ++ far.1)) far.0 alike
-        (then_far first clean))

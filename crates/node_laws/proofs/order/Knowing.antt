@@ -33,6 +33,7 @@ use Rattle.node_laws.proofs.telling.Events.{site_map, entries-append}
 use Rattle.node_laws.specs.order.Told.{IsLinkTold}
 use Rattle.node_laws.proofs.order.Unnoticed.{IfNone}
 use Rattle.node_laws.proofs.order.Watches.{IsStepOf, WatchedLink, watched, kept_left}
+use Rattle.node_laws.proofs.order.Readying.{AreReady}
 use Rattle.node_laws.proofs.order.Wires.{ShownBy, Shown, shown_same}
 use Rattle.node_laws.proofs.turns.Works.{site_none}
 
@@ -151,12 +152,16 @@ later X u h = watched h (X h) u
 
 -- where each link stands alike, and no more is known of it
 pub each_known : (t : List Entry) (X Y : ℕ → WatchedLink) (w : NodeWorld) → ((h : ℕ) → (Y h).stands ≡ (X h).stands)
-    → ((h : ℕ) → (Y h).since ≡ true → (X h).since ≡ true) → Each t X w → Each t Y w
-each_known t X Y w stands since a h s found =
+    → ((h : ℕ) → (Y h).since ≡ true → (X h).since ≡ true) → ((h : ℕ) → (Y h).whole ≡ true → (X h).whole ≡ true) → Each t X w → Each t Y w
+each_known t X Y w stands since whole a h s found =
     let b : Knows t (X h) w.controller h s = a h s found in
     record {
       told = b.told;
-      shown = record { wires = subst (ShownBy (kept s.link)) (sym (stands h)) b.shown.wires; since = λ z. b.shown.since (since h z) };
+      shown = record {
+        wires = subst (ShownBy (kept s.link)) (sym (stands h)) b.shown.wires;
+        since = λ z. b.shown.since (since h z);
+        ready = λ z. subst (AreReady s.link) (sym (stands h)) (b.shown.ready (whole h z));
+      };
       near = b.near;
       far = b.far;
       none = b.none;
@@ -166,12 +171,12 @@ each_known t X Y w stands since a h s found =
 pub each_empty : (t : List Entry) (X : ℕ → WatchedLink) (w : NodeWorld) → Each t X w → Each (t ++ []) (later X []) w
 each_empty t X w a =
     let P : List Entry → Type 0 = λ z. Each z (later X []) w in
-    subst P (sym (append-nil t)) (each_known t X (later X []) w (λ h. refl) (λ h q. kept_left (X h).since true q) a)
+    subst P (sym (append-nil t)) (each_known t X (later X []) w (λ h. refl) (λ h q. kept_left (X h).since true q) (λ h q. q) a)
 
 pub each_back : (t : List Entry) (X : ℕ → WatchedLink) (w : NodeWorld) → Each (t ++ []) (later X []) w → Each t X w
 each_back t X w a =
     let P : List Entry → Type 0 = λ z. Each z X w in
-    subst P (append-nil t) (each_known (t ++ []) (later X []) X w (λ h. refl) (λ h q. rw q refl) a)
+    subst P (append-nil t) (each_known (t ++ []) (later X []) X w (λ h. refl) (λ h q. rw q refl) (λ h q. q) a)
 
 pub each_alike : (t : List Entry) (X Y : ℕ → WatchedLink) (w : NodeWorld) → ((h : ℕ) → X h ≡ Y h) → Each t X w → Each t Y w
 each_alike t X Y w same a h s found = subst (λ x. Knows t x w.controller h s) (same h) (a h s found)

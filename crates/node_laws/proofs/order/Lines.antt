@@ -21,7 +21,7 @@ use Rattle.node_laws.proofs.links.Playing.{MayHappen, AreLasting, plain_reach, s
 use Rattle.node_laws.specs.kept.Hosts.{AreHosts}
 use Rattle.node_laws.specs.telling.Telling.{of_link, hosts_in, IsOrderly, world_behind}
 use Rattle.node_laws.proofs.telling.Lasting.{AllMay, events_of_steps, occurs, EachHolds, front_each, lines_each, behind_lines}
-use Rattle.node_laws.specs.telling.Standing.{Standing, new_standing, as_event_begins, standing, standing_behind}
+use Rattle.node_laws.specs.telling.Standing.{Standing, new_standing, as_event_begins, as_event_ends, standing, standing_behind}
 use Rattle.node_laws.proofs.telling.Accounts.{of-append}
 use Rattle.node_laws.proofs.telling.Orderly.{step_orderly, new_orderly}
 use Rattle.node_laws.proofs.telling.Nodes.{site_host}
@@ -30,15 +30,17 @@ use Rattle.node_laws.proofs.telling.Events.{sending_mute}
 use Rattle.node_laws.specs.readings.Noticed.{NoticesAreUp}
 use Rattle.node_laws.proofs.readings.NoticedWorlds.{event_up, numbers, lines_up}
 use Rattle.node_laws.proofs.order.Unnoticed.{AreUnnoticed}
-use Rattle.node_laws.proofs.order.Watches.{WatchedLink, watched, watch_begins, watch_begins_stands, since_known}
+use Rattle.node_laws.proofs.order.Watches.{WatchedLink, watched, watch_begins, watch_begins_stands, watch_ends_stands, watch_ends_since, ends_whole}
+use Rattle.node_laws.proofs.order.Watches.{untouched, since_known}
 use Rattle.node_laws.proofs.order.Knowing.{Knows, Each, each_known}
-use Rattle.node_laws.proofs.order.Events.{IsWell, comes_each, begins_each, memory_each, power_each, boots_each, lost_each, activates_each}
+use Rattle.node_laws.proofs.order.Events.{IsWell, comes_each, begins_each, memory_each, power_each, boots_each, lost_each}
+use Rattle.node_laws.proofs.order.Activating.{behind, activates_each}
 use Rattle.node_laws.proofs.order.Ticking.{ticks_each}
 use Rattle.node_laws.proofs.order.Strangers.{IsStrange, step_kept, step_none}
 
 -- how each link stands behind these events, and of which of them it is known that nothing withheld the answer to a reset
 abbrev pub watches : (ℕ → Bool) → List Occurrence → ℕ → WatchedLink
-watches known os h = record { stands = standing_behind h os; since = known h }
+watches known os h = record { stands = standing_behind h os; since = known h; whole = true }
 
 -- a world, and what happened until then
 pub record IsSoSince (known : ℕ → Bool) (hosts : List ℕ) (os : List Occurrence) (w : NodeWorld) : Type 0 where
@@ -71,7 +73,7 @@ sending_unnoticed h m = go _
 
 module _ (known : ℕ → Bool) (hosts : List ℕ) where
   step_each : (w : NodeWorld) (os : List Occurrence) (c : Happening) → MayHappen w c → IsSoSince known hosts os w
-      → Each (entries_in os ++ (world_step w c).1) (λ h. watched h (watch_begins h c (watches known os h)) (world_step w c).1) (world_step w c).0
+      → Each (entries_in os ++ (world_step w c).1) (behind c (watches known os) (world_step w c).1) (world_step w c).0
   step_each w os (Boots n) m a = boots_each w (entries_in os) (watches known os) n a.well a.each
   step_each w os (IsCut n) m a = power_each n w (entries_in os) (watches known os) a.well a.each
   step_each w os (Gives e message) m a =
@@ -92,7 +94,7 @@ module _ (known : ℕ → Bool) (hosts : List ℕ) where
 
   -- what happens withholds no answer of the links of which it is known
   abbrev pub LeavesKnown : NodeWorld → Happening → Type 0
-  LeavesKnown w c = (h : ℕ) → known h ≡ true → (watched h (watch_begins h c (record { stands = new_standing; since = true })) (world_step w c).1).since ≡ true
+  LeavesKnown w c = (h : ℕ) → known h ≡ true → (watched h (watch_begins h c untouched) (world_step w c).1).since ≡ true
 
   pub next_so : (os : List Occurrence) (w : NodeWorld) (c : Happening) → IsSoSince known hosts os w → MayHappen w c → LeavesKnown w c
       → IsSoSince known hosts (os ++ occurs w c ∷ []) (world_step w c).0
@@ -101,17 +103,22 @@ module _ (known : ℕ → Bool) (hosts : List ℕ) where
       let v : NodeWorld = (world_step w c).0 in
       let more : entries_in os ++ u ≡ entries_in (os ++ occurs w c ∷ []) =
       sym (flat_map-append (λ (o : Occurrence). o.entries) os (occurs w c ∷ []) ∙ ap (λ z. entries_in os ++ z) (append-nil u)) in
-      let stands : (h : ℕ) → standing_behind h (os ++ occurs w c ∷ []) ≡ standing h (as_event_begins h c (standing_behind h os)) u = λ h.
-      fold-append (λ (x : Standing) (o : Occurrence). standing h (as_event_begins h o.cause x) o.entries) new_standing os (occurs w c ∷ []) in
+      let stands : (h : ℕ) → standing_behind h (os ++ occurs w c ∷ []) ≡ as_event_ends h c (standing h (as_event_begins h c (standing_behind h os)) u) = λ h.
+      fold-append (λ (x : Standing) (o : Occurrence). as_event_ends h o.cause (standing h (as_event_begins h o.cause x) o.entries)) new_standing os
+      (occurs w c ∷ []) in
       let E : List Entry → Type 0 = λ z. Each z (watches known (os ++ occurs w c ∷ [])) v in
       record {
         hosts_are = step_kept w c ∙ a.hosts_are;
         well = record { orderly = step_orderly w c a.well.orderly; fine = step_fine w c m a.well.fine };
         up = event_up w c a.well.orderly a.up;
         each = subst E more
-            (each_known (entries_in os ++ u) (λ h. watched h (watch_begins h c (watches known os h)) u) (watches known (os ++ occurs w c ∷ [])) v
-            (λ h. stands h ∙ ap (λ x. standing h x u) (sym (watch_begins_stands h c (watches known os h))))
-            (λ h k. since_known h c (standing_behind h os) u (known h) k (leaves h k)) (step_each w os c m a));
+            (each_known (entries_in os ++ u) (behind c (watches known os) u) (watches known (os ++ occurs w c ∷ [])) v
+            (λ h. stands h
+            ∙ (ap (λ x. as_event_ends h c (standing h x u)) (sym (watch_begins_stands h c (watches known os h)))
+            ∙ sym (watch_ends_stands h c (watched h (watch_begins h c (watches known os h)) u))))
+            (λ h k. watch_ends_since h c (watched h (watch_begins h c (watches known os h)) u)
+            ∙ since_known h c (standing_behind h os) u (known h) k (leaves h k))
+            (λ h k. ends_whole h c (watches known os h) u refl) (step_each w os c m a));
         strange = λ h q.
             ap (of_link h) (sym more)
             ∙ (of-append h (entries_in os) u
@@ -153,7 +160,7 @@ line_may w (line.Settle n) p q = tt
 -- ## Schedules
 
 abbrev new_watch : WatchedLink
-new_watch = record { stands = new_standing; since = false }
+new_watch = record { stands = new_standing; since = false; whole = true }
 
 new_each : (content : List ℕ) (hosts : List ℕ) (h : ℕ) (s : Site) → site_at (map (new_site content) hosts) h ≡ Some s → Knows [] new_watch None h s
 new_each content [] h s q = absurd (cc q)
@@ -166,7 +173,11 @@ new_each content (k ∷ hosts) h s q = go (k == h) refl (new_each content hosts 
         let P : Site → Type 0 = λ z. Knows [] new_watch None h z in
         subst P one (record {
           told = record { events = []; run = record { allowed = tt; is = refl }; told = refl; stands = refl; stands_from = λ x. refl };
-          shown = record { wires = record { to_controller = refl; to_host = refl }; since = λ z. absurd (true≢false (sym z)) };
+          shown = record {
+            wires = record { to_controller = refl; to_host = refl };
+            since = λ z. absurd (true≢false (sym z));
+            ready = λ z. record { near = refl; far = refl };
+          };
           near = refl;
           far = refl;
           none = tt;

@@ -20,8 +20,8 @@ use Rattle.history.proofs.legal.Noted.{fault-all}
 use Rattle.history.proofs.legal.Ordered.{IsOneAtMost, front_given, one_entry, AtEnd, read_as, empty, order_at}
 use Rattle.history.proofs.legal.Reading.{or_right}
 use Rattle.node_laws.specs.links.Runs.{new_line}
-use Rattle.node_laws.specs.telling.Telling.{is_of, of_link}
-use Rattle.node_laws.proofs.telling.Accounts.{of-append}
+use Rattle.node_laws.specs.telling.Telling.{is_of, tells_of, of_link}
+use Rattle.node_laws.proofs.telling.Accounts.{untold, of-append}
 use Rattle.node_laws.specs.order.Told.{IsLinkTold}
 
 -- ## What is said of an end is said of its link
@@ -35,29 +35,29 @@ unheard h e (Some (f, saying)) q r =
 filter_kept : {Y : Type 0} (g : Option Saying → Option Y) → g None ≡ None → (h : ℕ) (e : End) → e.link ≡ h → (t : List Entry)
     → filter_map (λ x. g (said_of e x)) t ≡ filter_map (λ x. g (said_of e x)) (of_link h t)
 filter_kept g none h e q [] = refl
-filter_kept {Y} g none h e q (x ∷ t) = go (is_of h (said x)) refl (filter_kept g none h e q t)
+filter_kept {Y} g none h e q (x ∷ t) = go (tells_of h x) refl (filter_kept g none h e q t)
   where
     Goal : Type 0
     Goal = filter_map (λ x. g (said_of e x)) (x ∷ t) ≡ filter_map (λ x. g (said_of e x)) (of_link h (x ∷ t))
 
-    go : (b : Bool) → is_of h (said x) ≡ b → filter_map (λ x. g (said_of e x)) t ≡ filter_map (λ x. g (said_of e x)) (of_link h t) → Goal
+    go : (b : Bool) → tells_of h x ≡ b → filter_map (λ x. g (said_of e x)) t ≡ filter_map (λ x. g (said_of e x)) (of_link h t) → Goal
     go true r later = rw r (ap (cons_option (g (said_of e x))) later)
     go false r later =
-        let off : g (said_of e x) ≡ None = ap g (unheard h e (said x) q r) ∙ none in
+        let off : g (said_of e x) ≡ None = ap g (unheard h e (said x) q (untold h x r)) ∙ none in
         rw r (ap (λ o. cons_option o (filter_map (λ x. g (said_of e x)) t)) off ∙ later)
 
 acked_kept : (n : ℕ) (h : ℕ) (e : End) → e.link ≡ h → (t : List Entry) (before : ℕ)
     → fold (λ before x. acked_after n before (said_of e x)) before t ≡ fold (λ before x. acked_after n before (said_of e x)) before (of_link h t)
 acked_kept n h e q [] before = refl
-acked_kept n h e q (x ∷ t) before = go (is_of h (said x)) refl (acked_kept n h e q t)
+acked_kept n h e q (x ∷ t) before = go (tells_of h x) refl (acked_kept n h e q t)
   where
     more : ℕ → List Entry → ℕ
     more b t = fold (λ before x. acked_after n before (said_of e x)) b t
 
-    go : (b : Bool) → is_of h (said x) ≡ b → ((b : ℕ) → more b t ≡ more b (of_link h t)) → more before (x ∷ t) ≡ more before (of_link h (x ∷ t))
+    go : (b : Bool) → tells_of h x ≡ b → ((b : ℕ) → more b t ≡ more b (of_link h t)) → more before (x ∷ t) ≡ more before (of_link h (x ∷ t))
     go true r later = rw r (later (acked_after n before (said_of e x)))
     go false r later =
-        let off : acked_after n before (said_of e x) ≡ before = ap (acked_after n before) (unheard h e (said x) q r) in
+        let off : acked_after n before (said_of e x) ≡ before = ap (acked_after n before) (unheard h e (said x) q (untold h x r)) in
         rw r (ap (λ b. more b t) off ∙ later before)
 
 -- where the entries of its link are alike, so is what is read of an end
@@ -100,7 +100,7 @@ of_flat h (x ∷ notes) = of-append h (entry_of h x) (entries_for h notes) ∙ a
 pub at_moment : (h : ℕ) (l : Link) (t front back : List Entry) → IsLinkTold h l t → t ≡ front ++ back → (e : End) (n : ℕ) → e.link ≡ h → AtEnd front e n
 at_moment h l t front back a q e n is =
     let notes : List Noted = entries new_line a.events in
-    let parts = front_given (λ x. of_link h (entry_of h x)) (λ x. one_filtered (λ y. is_of h (said y)) (entry_of h x) (one_entry h x)) notes
+    let parts = front_given (λ x. of_link h (entry_of h x)) (λ x. one_filtered (tells_of h) (entry_of h x) (one_entry h x)) notes
     (of_link h front) (of_link h back) (sym (of_flat h notes) ∙ (sym a.told ∙ (ap (of_link h) q ∙ of-append h front back))) in
     let p : List Noted = parts.0 in
     let order : (who : Side) (n : ℕ) → InOrderIn p who n = at_each_moment new_line IsLine a.events a.run.allowed p parts.1 in
@@ -136,13 +136,13 @@ pub told_chains : (h : ℕ) (l : Link) (t : List Entry) → IsLinkTold h l t →
 told_chains h l t a =
     let notes : List Noted = entries new_line a.events in
     ap (list_any is_chain_fault) a.told
-    ∙ none_filtered is_chain_fault (λ y. is_of h (said y)) (entries_for h notes)
+    ∙ none_filtered is_chain_fault (tells_of h) (entries_for h notes)
     (fault-all h notes ∙ no_chain_noted new_line IsLine a.events a.run.allowed)
 
 -- a chain fault is told of a link
 record TellsOf (x : Entry) : Type 0 where
   link : ℕ
-  is : is_of link (said x) ≡ true
+  is : tells_of link x ≡ true
 
 fault_tells : (x : Entry) → is_chain_fault x ≡ true → TellsOf x
 fault_tells (entry.Down e cause) q = record { link = e.link; is = same_number e.link }
@@ -153,16 +153,16 @@ no_faults [] a = refl
 no_faults (x ∷ t) a = go (is_chain_fault x) refl (no_faults t (λ h. less h))
   where
     less : (h : ℕ) → list_any is_chain_fault (of_link h t) ≡ false
-    less h = by (is_of h (said x)) refl (a h)
+    less h = by (tells_of h x) refl (a h)
       where
-        by : (b : Bool) → is_of h (said x) ≡ b → list_any is_chain_fault (of_link h (x ∷ t)) ≡ false → list_any is_chain_fault (of_link h t) ≡ false
+        by : (b : Bool) → tells_of h x ≡ b → list_any is_chain_fault (of_link h (x ∷ t)) ≡ false → list_any is_chain_fault (of_link h t) ≡ false
         by true r z = or_right (is_chain_fault x) (list_any is_chain_fault (of_link h t)) (rw r at z)
         by false r z = rw r at z
 
     go : (b : Bool) → is_chain_fault x ≡ b → list_any is_chain_fault t ≡ false → list_any is_chain_fault (x ∷ t) ≡ false
     go true r later =
         let tells : TellsOf x = fault_tells x r in
-        let here : is_of tells.link (said x) ≡ true = tells.is in
+        let here : tells_of tells.link x ≡ true = tells.is in
         let z : list_any is_chain_fault (x ∷ of_link tells.link t) ≡ false = rw here at (a tells.link) in
         let w : true ≡ false = rw r at z in
         absurd (cc w)

@@ -1,9 +1,8 @@
 -- A reset whose answer nothing withheld has brought both ends of its link up, in each history.
-use Rattle.std.proofs.Common.{◌≡◌, ℕ, ◌==◌, Bool, true, false, cond, List, [], ◌∷◌, ◌++◌, Option, Some, None, refl, ap, sym, subst, ◌∙◌}
-use Rattle.std.specs.Prelude.{◌||◌, is_some}
+use Rattle.std.proofs.Common.{◌≡◌, ℕ, ◌==◌, Bool, true, false, cond, List, [], ◌∷◌, Option, Some, None, refl, ap, sym, subst, ◌∙◌}
+use Rattle.std.specs.Prelude.{is_some}
 use Rattle.std.specs.List.{list_any}
 use Rattle.std.proofs.lemmas.Bool.{true≢false}
-use Rattle.std.proofs.lemmas.List.Folds.{list_any-append}
 use Rattle.trace_model.specs.declared.entry.Entry.{Entry}
 use Rattle.trace_model.specs.declared.entry.NoCause.TheVariants as no
 use Rattle.trace_model.specs.declared.line.End.{End}
@@ -11,19 +10,18 @@ use Rattle.trace_model.specs.declared.line.Line.TheVariants as line
 use Rattle.trace_model.specs.Ends.{other_end}
 use Rattle.shdlc_core.specs.Machine.{is_waiting}
 use Rattle.link_laws.specs.sessions.Sessions.{OnWire}
-use Rattle.link_laws.specs.machine.Machine.{LinkEnd, LinkInput, Refused, Turn, is_open, after_input, ended_by, reset_refusal}
+use Rattle.link_laws.specs.machine.Machine.{Refused, Turn, is_open, reset_refusal}
 use Rattle.link_laws.specs.machine.Machine.LinkInput.{Reset}
-use Rattle.link_laws.specs.messages.Links.{Link, Ending, Comes, LinkEvent, exchanged, number_of, with_ended, happens, IsEvent, IsWindow}
+use Rattle.link_laws.specs.messages.Links.{Link, Ending, Comes, LinkEvent, exchanged, number_of, happens, IsWindow}
 use Rattle.link_laws.specs.messages.Links.Ending.{GoesOut, CutOff}
 use Rattle.link_laws.specs.messages.Links.Comes.{AsksReset, NoInput}
 use Rattle.link_laws.specs.messages.Links.EndEvent.{Step}
 use Rattle.link_laws.specs.messages.Links.LinkEvent.{AtController, AtHost}
 use Rattle.link_laws.specs.messages.Links.IsStart.{IsLine}
 use Rattle.link_laws.specs.messages.Settled.{AreUpTogether}
-use Rattle.link_laws.specs.entries.Entries.{End as Side, Entry as Noted, told_of, turn_entries, rest_entries, input_entries, event_entries}
+use Rattle.link_laws.specs.entries.Entries.{event_entries}
 use Rattle.link_laws.specs.entries.Entries.End.{Controller, Host}
-use Rattle.link_laws.specs.entries.Entries.Entry.{Cut}
-use Rattle.link_laws.specs.entries.Settled.{withholds, FindsReady, IsReset, rest_of}
+use Rattle.link_laws.specs.entries.Settled.{FindsReady}
 use Rattle.link_laws.proofs.entries.Hearing.{up_session}
 use Rattle.link_laws.proofs.entries.Lasting.{same_number}
 use Rattle.link_laws.proofs.entries.Together.{together}
@@ -37,7 +35,6 @@ use Rattle.node_machine.specs.world.World.{after_controller, controller_does, ho
 use Rattle.node_machine.specs.world.World.Happening.{Resets}
 use Rattle.node_machine.specs.world.Lines.{if_off, machine_in, refusal_in}
 use Rattle.node_laws.specs.links.Runs.{new_line, IsRunOf}
-use Rattle.node_laws.proofs.links.Sites.{run_of_more}
 use Rattle.node_laws.proofs.links.Works.{steps_fine}
 use Rattle.node_laws.proofs.links.Playing.{plain_reach}
 use Rattle.node_laws.proofs.kept.Lines.{first_none}
@@ -47,42 +44,13 @@ use Rattle.node_laws.proofs.telling.Worlds.{host_does_step}
 use Rattle.node_laws.proofs.telling.Events.{site_map}
 use Rattle.node_laws.specs.order.Told.{AreSessionsRead, AreBothUp, frames_on}
 use Rattle.node_laws.specs.order.Resets.{cuts_on}
-use Rattle.node_laws.proofs.order.Watches.{IsStepOf, WatchedLink, IsSince, is_cut, no_cut}
+use Rattle.node_laws.proofs.order.Watches.{IsStepOf, WatchedLink, IsSince, no_cut, since_reset, input_cut}
 use Rattle.node_laws.proofs.order.Knowing.{Each, was_there}
 use Rattle.node_laws.proofs.order.Unnoticed.{steps_none}
 use Rattle.node_laws.proofs.order.Events.{IsWell, near_step, far_step}
 use Rattle.node_laws.proofs.order.Lines.{host_number}
 
 -- ## A reset on a link
-
-since_reset : (l : Link) (e : LinkEvent) (events : List LinkEvent) → IsRunOf events l → IsEvent l e → IsReset l e → rest_of l e ≡ [] → IsSince (happens l e)
-since_reset l e events run can ready alone =
-    let R : Link → Type 0 = λ k. IsReset k e in
-    record {
-      before = events;
-      reset = e;
-      behind = [];
-      run = run_of_more events l e can run;
-      asked = subst R (sym run.is) ready;
-      undisturbed = ap (λ k. list_any withholds (rest_of k e ++ [])) run.is ∙ ap (λ z. list_any withholds (z ++ [])) alone;
-    }
-
-or_true : (b : Bool) → (b || true) ≡ true
-or_true true = refl
-or_true false = refl
-
-cut_behind : (xs ys : List Noted) → list_any is_cut ys ≡ true → list_any is_cut (xs ++ ys) ≡ true
-cut_behind xs ys q = list_any-append is_cut xs ys ∙ (ap (λ b. list_any is_cut xs || b) q ∙ or_true (list_any is_cut xs))
-
--- where the power goes in a step, that is noted
-rest_cut : (who : Side) (l : Link) (e : LinkEnd) (ts : List Turn) → list_any is_cut (rest_entries who l e ts CutOff) ≡ true
-rest_cut who l e ts = cut_behind (turn_entries who (number_of l.controller) e ts) (Cut who ∷ []) refl
-
-input_cut : (who : Side) (l : Link) (i : LinkInput) (ts : List Turn) → list_any is_cut (input_entries who l i ts CutOff) ≡ true
-input_cut who l i ts =
-    let m : Link = with_ended l (is_some (ended_by l.controller.side i)) in
-    let e : LinkEnd = after_input l.controller.side i in
-    cut_behind (told_of who l.controller i) (rest_entries who m e ts CutOff) (rest_cut who m e ts)
 
 module _ (h : ℕ) (l : Link) (window : Option ℕ) (ts : List Turn) (u : List Entry) (events : List LinkEvent) (run : IsRunOf events l)
     (powered : list_any (cuts_on h) u ≡ false) where

@@ -21,7 +21,7 @@ use Rattle.history.specs.Steps.{end_of}
 use Rattle.history.proofs.legal.Noted.{same_as, if_said}
 use Rattle.node_laws.specs.links.Runs.{new_line}
 use Rattle.node_laws.specs.telling.Standing.{Standing, new_standing, said_near, said_far, stands_said, without_power, after_power, stands_noted}
-use Rattle.node_laws.specs.telling.Standing.{standing, law_noted}
+use Rattle.node_laws.specs.telling.Standing.{Readiness, made_active, no_longer_waits, becomes_at, standing, law_noted}
 use Rattle.node_laws.specs.telling.Standing.{standing_by_law}
 use Rattle.node_laws.specs.order.Told.{IsLinkTold, AreSessionsRead}
 
@@ -140,6 +140,20 @@ module _ (h : ℕ) (who : Side) (host : (h == 0) ≡ false) where
   cut_part Controller n x = cut_near (n == 0) (n == h) x
   cut_part Host n x = cut_far n (n == 0) (n == h) refl refl x
 
+  -- how ready an end is says nothing of sessions
+  ready_part : (b far : Bool) (f : Readiness → Readiness) (x : Standing) → part who (cond b (becomes_at far f x) x) ≡ part who x
+  ready_part true true f x = either who
+    where
+      either : (w : Side) → part w (becomes_at true f x) ≡ part w x
+      either Controller = refl
+      either Host = refl
+  ready_part true false f x = either who
+    where
+      either : (w : Side) → part w (becomes_at false f x) ≡ part w x
+      either Controller = refl
+      either Host = refl
+  ready_part false far f x = refl
+
   one_read : (x : Standing) (y : Entry) → part who (stands_noted h x y) ≡ after e (node_on h who) (part who x) y
   one_read x (entry.Up f n) = said_part h who x (Some (f, Begins n)) ∙ begins_same (same_end f e) n (part who x)
   one_read x (entry.Down f cause) = said_part h who x (Some (f, Ends)) ∙ ends_same (same_end f e) (part who x)
@@ -150,6 +164,8 @@ module _ (h : ℕ) (who : Side) (host : (h == 0) ≡ false) where
   one_read x (entry.Emit f lpdu) = said_part h who x (Some (f, Puts lpdu)) ∙ stays_same (same_end f e) (Puts lpdu) (part who x) refl
   one_read x (entry.Took f lpdu) = said_part h who x (Some (f, Takes lpdu)) ∙ stays_same (same_end f e) (Takes lpdu) (part who x) refl
   one_read x (entry.Lost f lpdu cause) = said_part h who x (Some (f, Loses lpdu)) ∙ stays_same (same_end f e) (Loses lpdu) (part who x) refl
+  one_read x (entry.Active f) = ready_part (f.link == h) f.at_host made_active x
+  one_read x (entry.GaveUp f tries) = ready_part (f.link == h) f.at_host no_longer_waits x
   one_read x y = refl
 
   pub all_read : (t : List Entry) (x : Standing) → part who (standing h x t) ≡ fold (after e (node_on h who)) (part who x) t
@@ -181,8 +197,8 @@ module _ (h : ℕ) (who : Side) (host : (h == 0) ≡ false) where
   one_law x (Took w c) = said_part h who x (Some (end_of h w, Takes (lpdu_of c))) ∙ stays_same (same_end (end_of h w) e) (Takes (lpdu_of c)) (part who x) refl
   one_law x (Lost w c why) = said_part h who x (Some (end_of h w, Loses (lpdu_of c)))
       ∙ stays_same (same_end (end_of h w) e) (Loses (lpdu_of c)) (part who x) refl
-  one_law x (Active w) = refl
-  one_law x (GaveUp w tries) = refl
+  one_law x (Active w) = ready_part ((end_of h w).link == h) (end_of h w).at_host made_active x
+  one_law x (GaveUp w tries) = ready_part ((end_of h w).link == h) (end_of h w).at_host no_longer_waits x
   one_law x Tick = refl
   one_law x (Restarted w) = refl
 

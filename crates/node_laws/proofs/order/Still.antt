@@ -1,11 +1,8 @@
 -- A link that is still, as it is read off the events of a history, has delivered all.
-use Rattle.std.proofs.Common.{◌≡◌, ℕ, ◌<◌, Bool, true, false, List, [], ◌∷◌, ◌++◌, length, Option, Some, None, refl, ap, sym, subst, ◌∙◌}
-use Rattle.std.specs.Prelude.{◌==◌, ◌&&◌, ◌||◌, not, nat_lt, if◌then◌else◌}
-use Rattle.std.specs.List.{AllByRecursion, fold, list_any}
-use Rattle.std.proofs.lemmas.Bool.{true≢false, ltb-true, lt-ltb}
-use Rattle.swp_base.specs.declared.control_frames.Control.{Control}
-use Rattle.swp_base.specs.declared.control_frames.Control.TheVariants.{I, S, Rset, Ua, Act, Clt}
-use Rattle.swp_lpdu.specs.Controls.{HasNumbers}
+use Rattle.std.proofs.Common.{◌≡◌, ℕ, Bool, true, false, List, [], ◌∷◌, ◌++◌, length, Option, Some, None, refl, ap, sym, subst, ◌∙◌}
+use Rattle.std.specs.Prelude.{◌==◌, ◌||◌, if◌then◌else◌}
+use Rattle.std.specs.List.{fold, list_any}
+use Rattle.std.proofs.lemmas.Bool.{true≢false}
 use Rattle.trace_model.specs.declared.entry.Entry.{Entry}
 use Rattle.trace_model.specs.declared.entry.Entry.TheVariants as entry
 use Rattle.trace_model.specs.declared.line.End.{End}
@@ -13,10 +10,10 @@ use Rattle.trace_model.specs.declared.line.Header.{Header}
 use Rattle.trace_model.specs.declared.line.Line.{Line}
 use Rattle.hcp_packet.specs.Packets.{good_of}
 use Rattle.shdlc_core.specs.declared.answers.LinkState.TheVariants.{Up as IsUpNow}
-use Rattle.link_laws.specs.machine.Machine.{Message, frames_out}
+use Rattle.link_laws.specs.machine.Machine.{Message}
 use Rattle.link_laws.specs.messages.Links.{Link, number_of, after_link_events as link_after}
 use Rattle.link_laws.specs.messages.Links.IsStart.{IsLine}
-use Rattle.link_laws.specs.entries.Entries.{End as Side, Entry as Noted, entries}
+use Rattle.link_laws.specs.entries.Entries.{Entry as Noted, entries}
 use Rattle.link_laws.specs.entries.Entries.End.{Controller, Host}
 use Rattle.link_laws.specs.entries.Entries.Entry.{Up, Down, Active, GaveUp, Acked, Got, Sent, Emit, Took, Lost, Tick, Restarted, Cut}
 use Rattle.link_laws.specs.entries.Quiet.{disturbs, begins, since, IsQuietSince, IsDeliveredOnLink as LinkDelivered}
@@ -28,7 +25,7 @@ use Rattle.history.specs.Filters.Saying.{Begins, Ends, Sends, Gets, Counts, Puts
 use Rattle.history.specs.Legal.{begins_on, loses_on, rejects_on, since_up, has_lost, has_rnr}
 use Rattle.history.specs.Steps.{entries_for}
 use Rattle.history.proofs.legal.Noted.{sent-all, got-all, acked-all}
-use Rattle.history.proofs.legal.Plain.{ArePlain, out_numbers}
+use Rattle.history.proofs.legal.Plain.{ArePlain}
 use Rattle.history.proofs.legal.Reading.{no_bytes, since-all, undisturbed}
 use Rattle.node_laws.specs.kept.Hosts.{AreHosts}
 use Rattle.node_machine.specs.world.World.{Site, NodeWorld, new_world, site_at, end_c, end_h}
@@ -36,13 +33,15 @@ use Rattle.node_machine.specs.world.Lines.{Occurrence}
 use Rattle.node_machine.specs.world.NodeFilters.{session_now}
 use Rattle.node_machine.specs.world.NodeHistories.{FollowsNodes, NodeHistory, entries_in, occurrences_in}
 use Rattle.node_laws.specs.links.Runs.{ArePlayable, new_line}
-use Rattle.node_laws.specs.telling.Telling.{is_of, of_link, hosts_in, world_behind}
+use Rattle.node_laws.specs.telling.Telling.{is_of, tells_of, of_link, hosts_in, world_behind}
+use Rattle.node_laws.proofs.telling.Accounts.{untold}
 use Rattle.node_laws.specs.order.Told.{IsLinkTold, AreWiresRead, IsStillInSession, HasDeliveredAll}
 use Rattle.node_laws.proofs.order.Prefix.{sent_alike, got_alike, acked_alike}
 use Rattle.node_laws.proofs.order.Lines.{IsSo, host_number, history_so}
 use Rattle.node_laws.proofs.order.Sessions.{after, are_read}
 use Rattle.node_laws.proofs.order.Strangers.{IsStrange}
-use Rattle.node_laws.proofs.order.Silencing.{HearsNone, events_mute}
+use Rattle.node_laws.proofs.order.Silencing.{events_mute}
+use Rattle.node_laws.proofs.order.Numbered.{misnumbered, misnumbered_mute, numbered}
 use Rattle.node_laws.proofs.order.Since.{none_silenced}
 
 -- ## What is read since an end came up is read of the entries of its link
@@ -83,23 +82,23 @@ module _ (h : ℕ) where
 
   since_of : (n : ℕ) (t : List Entry) → of_link h (since_up h n t) ≡ since_up h n (of_link h t)
   since_of n [] = refl
-  since_of n (x ∷ t) = go (is_of h (said x)) (begins_on h n (said x)) refl refl (since_of n t)
+  since_of n (x ∷ t) = go (tells_of h x) (begins_on h n (said x)) refl refl (since_of n t)
     where
-      go : (b c : Bool) → is_of h (said x) ≡ b → begins_on h n (said x) ≡ c → of_link h (since_up h n t) ≡ since_up h n (of_link h t)
+      go : (b c : Bool) → tells_of h x ≡ b → begins_on h n (said x) ≡ c → of_link h (since_up h n t) ≡ since_up h n (of_link h t)
           → of_link h (since_up h n (x ∷ t)) ≡ since_up h n (of_link h (x ∷ t))
       go true true p q later = rw (p, q) refl
       go true false p q later = rw (p, q) later
-      go false c p q later = let z = begins_of n (said x) p in rw (p, z) later
+      go false c p q later = let z = begins_of n (said x) (untold h x p) in rw (p, z) later
 
   any_of : (f : Option (End × Saying) → Bool) → ((o : Option (End × Saying)) → is_of h o ≡ false → f o ≡ false) → (t : List Entry)
       → list_any (λ x. f (said x)) t ≡ list_any (λ x. f (said x)) (of_link h t)
   any_of f off [] = refl
-  any_of f off (x ∷ t) = go (is_of h (said x)) refl (any_of f off t)
+  any_of f off (x ∷ t) = go (tells_of h x) refl (any_of f off t)
     where
-      go : (b : Bool) → is_of h (said x) ≡ b → list_any (λ x. f (said x)) t ≡ list_any (λ x. f (said x)) (of_link h t)
+      go : (b : Bool) → tells_of h x ≡ b → list_any (λ x. f (said x)) t ≡ list_any (λ x. f (said x)) (of_link h t)
           → list_any (λ x. f (said x)) (x ∷ t) ≡ list_any (λ x. f (said x)) (of_link h (x ∷ t))
       go true p later = rw p (ap (λ b. f (said x) || b) later)
-      go false p later = let z = off (said x) p in rw (p, z) later
+      go false p later = let z = off (said x) (untold h x p) in rw (p, z) later
 
   since_alike : (f : Option (End × Saying) → Bool) → ((o : Option (End × Saying)) → is_of h o ≡ false → f o ≡ false) → (n : ℕ) (t v : List Entry)
       → of_link h t ≡ of_link h v → list_any (λ x. f (said x)) (since_up h n t) ≡ list_any (λ x. f (said x)) (since_up h n v)
@@ -113,45 +112,7 @@ module _ (h : ℕ) where
   pub rnr_alike : (n : ℕ) (t v : List Entry) → of_link h t ≡ of_link h v → has_rnr h (since_up h n t) ≡ has_rnr h (since_up h n v)
   rnr_alike n t v q = since_alike (rejects_on h) rejects_of n t v q
 
--- ## Frames that are put on a link have their numbers
-
-abbrev misnumbered : Noted → Bool
-misnumbered (Emit who (I ns nr info)) = not (nat_lt ns 8 && nat_lt nr 8)
-misnumbered (Emit who (S kind nr)) = not (nat_lt nr 8)
-misnumbered _ = false
-
-low_number : (n : ℕ) → n < 8 → nat_lt n 8 ≡ true
-low_number n q = lt-ltb n 8 q
-
-numbers_fit : (who : Side) (cs : List Control) → AllByRecursion HasNumbers cs → AllByRecursion (λ c. misnumbered (Emit who c) ≡ false) cs
-numbers_fit who [] a = tt
-numbers_fit who (I ns nr info ∷ cs) a =
-    let x = low_number ns a.0.0 in let y = low_number nr a.0.1 in (rw (x, y) refl, numbers_fit who cs a.1)
-numbers_fit who (S kind nr ∷ cs) a = let x = low_number nr a.0 in (rw x refl, numbers_fit who cs a.1)
-numbers_fit who (Rset window caps ∷ cs) a = (refl, numbers_fit who cs a.1)
-numbers_fit who (Ua ∷ cs) a = (refl, numbers_fit who cs a.1)
-numbers_fit who (Act act again ∷ cs) a = (refl, numbers_fit who cs a.1)
-numbers_fit who (Clt ∷ cs) a = (refl, numbers_fit who cs a.1)
-
-misnumbered_mute : HearsNone misnumbered
-misnumbered_mute =
-    record {
-      deaf = record {
-        down = λ w c. refl;
-        active = λ w. refl;
-        gave_up = λ w t. refl;
-        acked = λ w n c. refl;
-        got = λ w n m. refl;
-        sent = λ w n m. refl;
-        emit = λ w e. numbers_fit w (frames_out e) (out_numbers e);
-        took = λ w c. refl;
-        lost = λ w c y. refl;
-        tick = refl;
-      };
-      up = λ w n. refl;
-      restarted = λ w. refl;
-      cut = λ w. refl;
-    }
+-- ## Entries in which no activation begins
 
 since_none : (f : Noted → Bool) (n : ℕ) (t : List Noted) → list_any f t ≡ false → list_any f (since n t) ≡ false
 since_none f n [] q = refl
@@ -163,23 +124,6 @@ since_none f n (e ∷ t) q = go (begins n e) refl (since_none f n t)
     go : (b : Bool) → begins n e ≡ b → (list_any f t ≡ false → list_any f (since n t) ≡ false) → list_any f (since n (e ∷ t)) ≡ false
     go true p more = rw p later
     go false p more = rw p (more later)
-
-numbered : (who : Side) (c : Control) → misnumbered (Emit who c) ≡ false → HasNumbers c
-numbered who (I ns nr info) q = go (nat_lt ns 8) (nat_lt nr 8) refl refl
-  where
-    go : (a b : Bool) → nat_lt ns 8 ≡ a → nat_lt nr 8 ≡ b → (ns < 8) × (nr < 8)
-    go true true x y = (ltb-true ns 8 x, ltb-true nr 8 y)
-    go true false x y = absurd (true≢false (rw (x, y) at q))
-    go false b x y = absurd (true≢false (rw x at q))
-numbered who (S kind nr) q = go (nat_lt nr 8) refl
-  where
-    go : (a : Bool) → nat_lt nr 8 ≡ a → nr < 8
-    go true x = ltb-true nr 8 x
-    go false x = absurd (true≢false (rw x at q))
-numbered who (Rset window caps) q = tt
-numbered who Ua q = tt
-numbered who (Act act again) q = tt
-numbered who Clt q = tt
 
 are_plain : (t : List Noted) → list_any silences t ≡ false → list_any misnumbered t ≡ false → ArePlain t
 are_plain [] a b = tt
@@ -284,18 +228,18 @@ none_after h far node x q = refl
 
 unread : (h : ℕ) (far : Bool) (node : ℕ) (t : List Entry) → of_link h t ≡ [] → session_now t (record { link = h; at_host = far }) node ≡ None
 unread h far node [] q = refl
-unread h far node (x ∷ t) q = go (is_of h (said x)) refl (unread h far node t)
+unread h far node (x ∷ t) q = go (tells_of h x) refl (unread h far node t)
   where
     e : End
     e = record { link = h; at_host = far }
 
-    go : (b : Bool) → is_of h (said x) ≡ b → (of_link h t ≡ [] → session_now t e node ≡ None) → session_now (x ∷ t) e node ≡ None
+    go : (b : Bool) → tells_of h x ≡ b → (of_link h t ≡ [] → session_now t e node ≡ None) → session_now (x ∷ t) e node ≡ None
     go true p later = absurd (cc (rw p at q))
     go false p later =
         let others : of_link h t ≡ [] = rw p at q in
-        ap (λ s. fold (after e node) s t) (none_after h far node x p) ∙ later others
+        ap (λ s. fold (after e node) s t) (none_after h far node x (untold h x p)) ∙ later others
 
-strange_of : (sites : List Site) (h : ℕ) → site_at sites h ≡ None → IsStrange h (hosts_in sites)
+pub strange_of : (sites : List Site) (h : ℕ) → site_at sites h ≡ None → IsStrange h (hosts_in sites)
 strange_of [] h q = tt
 strange_of (s ∷ sites) h q = go (s.host == h) refl (strange_of sites h)
   where

@@ -8,7 +8,8 @@ use Rattle.trace_model.specs.declared.entry.Entry.{Entry}
 use Rattle.shdlc_core.specs.declared.answers.LinkState.TheVariants.{Up, Down}
 use Rattle.shdlc_core.specs.Machine.{is_waiting}
 use Rattle.journal_laws.specs.Planned.{after_planned}
-use Rattle.link_laws.specs.machine.Machine.{LinkEnd, Turn, is_open, new_link_end, turned, after_input, sent_all}
+use Rattle.link_laws.specs.machine.Machine.{LinkEnd, Turn, is_open, new_link_end, turned, after_input, sent_all, reset_refusal}
+use Rattle.link_laws.specs.entries.Settled.{FindsReady}
 use Rattle.link_laws.specs.machine.Machine.LinkInput.{Tick, Reset}
 use Rattle.link_laws.specs.machine.Machine.Role.{Clf, Uicc}
 use Rattle.link_laws.specs.messages.Links.{NumberedEnd, Link, Ending, LinkEvent, exchanged, aged, has_input, ticks_at_controller, AreSendableTurns}
@@ -41,7 +42,8 @@ use Rattle.node_laws.proofs.readings.NoticedWorlds.{host_tick_side}
 use Rattle.node_laws.specs.order.Told.{IsLinkTold}
 use Rattle.node_laws.proofs.order.Unnoticed.{IfNone, steps_none, runs_none}
 use Rattle.node_laws.proofs.order.Knowing.{told_more, renewed_clf, renewed_uicc, Knows, Each, later, WasThere, was_there}
-use Rattle.node_laws.proofs.order.Watches.{IsStepOf, WatchedLink}
+use Rattle.node_laws.proofs.order.TickResets.{IsAnsweredTick, reset_in_tick}
+use Rattle.node_laws.proofs.order.Watches.{IsStepOf, WatchedLink, IsSince}
 use Rattle.node_laws.proofs.order.Wires.{Shown, tick_unstarted, shown_more}
 use Rattle.node_laws.proofs.order.Events.{IsWell}
 use Rattle.node_laws.proofs.turns.Works.{site_none}
@@ -289,6 +291,49 @@ near_none w h q = go w.controller refl
           link = ticked_so s.link (is_late_at (near_tick w r) s.host) (turns_at (near_tick w r) s.host) (ending_of (near_tick w r));
         }) (λ s. refl) w.sites h q)
 
+-- a tick of one link
+module _ (w : NodeWorld) (t : List Entry) (X : ℕ → WatchedLink) (a : IsWell w) (up : NoticesAreUp w) (each : Each t X w) (h : ℕ) (s : Site)
+    (found : site_at w.sites h ≡ Some s) where
+  abbrev pub goes : Ticking w h s
+  goes = ticking w h s a.orderly found (timely w t (X h) h s up found (each h s found))
+
+  pub tick_step : IsStepOf h s.link (tick_event goes.late goes.near goes.far) (world_ticks w).1
+  tick_step = record { can = allowed goes.late goes.ready; tells = goes.told; stands = goes.stands }
+    where
+      c : Ticking w h s
+      c = goes
+
+      fine : IsFineSite s
+      fine = site_is IsFineSite w.sites h s a.fine.sites found
+
+      x : Site
+      x = record s { link = between c.late (aged s.link) c.near }
+
+      sends : AreNodes c.near c.far
+      sends =
+          let C : LinkEnd → Type 0 = Clean in
+          let far_is : x.link.host.side ≡ s.link.host.side = between_far c.late (aged s.link) c.near in
+          record {
+            controller = subst AreSendableTurns (sym c.near_had)
+                (near_sends (all_aged w).0 h w.controller (aged_clean w.sites a.fine.sites) a.fine.controller);
+            host = subst AreSendableTurns (sym c.far_had) (far_sends x s.node (subst C (sym far_is) fine.link.line.far) fine.node);
+          }
+
+      allowed : (late : Bool) → (late ≡ true → is_waiting s.link.controller.side.shdlc ≡ false) → IsEvent s.link (tick_event late c.near c.far)
+      allowed true ready = reset_allowed s.link c.near c.far sends fine.link.line (ready refl)
+      allowed false ready = tick_allowed s.link c.near c.far sends fine.link.line
+
+  -- one in which the controller's end was reset, while the host's end was ready
+  pub ticked_since : IsAnsweredTick h (world_ticks w).1 → (reset_refusal s.link.controller.side ≡ None → FindsReady s.link)
+      → (v : Site) → site_at (world_ticks w).0.sites h ≡ Some v → IsSince v.link
+  ticked_since says ready v there =
+      let one : Some (host_ticks (record s { link = between goes.late (aged s.link) goes.near })).0 ≡ Some v = sym goes.there ∙ there in
+      let is : (host_ticks (record s { link = between goes.late (aged s.link) goes.near })).0 ≡ v = cc in
+      let told = (each h s found).told in
+      let S : Link → Type 0 = λ l. IsSince l in
+      subst S (goes.is ∙ ap (λ (y : Site). y.link) is)
+      (reset_in_tick h s.link goes.near goes.far (world_ticks w).1 told.events told.run says goes.late tick_step ready)
+
 pub ticks_each : (w : NodeWorld) (t : List Entry) (X : ℕ → WatchedLink) → IsWell w → NoticesAreUp w → Each t X w
     → Each (t ++ (world_ticks w).1) (later X (world_ticks w).1) (world_ticks w).0
 ticks_each w t X a up each h v q = go (site_at w.sites h) refl
@@ -349,20 +394,8 @@ ticks_each w t X a up each h v q = go (site_at w.sites h) refl
         far_is : x.link.host.side ≡ s.link.host.side
         far_is = between_far c.late (aged s.link) c.near
 
-        sends : AreNodes c.near c.far
-        sends =
-            let C : LinkEnd → Type 0 = Clean in
-            record {
-              controller = subst AreSendableTurns (sym c.near_had) (near_sends old h w.controller (aged_clean w.sites a.fine.sites) a.fine.controller);
-              host = subst AreSendableTurns (sym c.far_had) (far_sends x s.node (subst C (sym far_is) fine.link.line.far) fine.node);
-            }
-
-        allowed : (late : Bool) → (late ≡ true → is_waiting s.link.controller.side.shdlc ≡ false) → IsEvent s.link (tick_event late c.near c.far)
-        allowed true ready = reset_allowed s.link c.near c.far sends fine.link.line (ready refl)
-        allowed false ready = tick_allowed s.link c.near c.far sends fine.link.line
-
         n : IsStepOf h s.link event u
-        n = record { can = allowed c.late c.ready; tells = c.told; stands = c.stands }
+        n = tick_step w t X a up each h s found
 
         after_it : FarAfter x
         after_it =

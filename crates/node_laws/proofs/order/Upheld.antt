@@ -1,26 +1,41 @@
 -- In each history a reset whose answer nothing withheld has brought both ends of its link up.
-use Rattle.std.proofs.Common.{◌≡◌, ℕ, ◌==◌, Bool, true, false, List, [], ◌∷◌, ◌++◌, Option, Some, refl, ap, sym, subst, ◌∙◌, append-nil, append_assoc}
-use Rattle.std.specs.List.{list_any}
-use Rattle.std.proofs.lemmas.Bool.{eqb-true}
+use Rattle.std.proofs.Common.{◌≡◌, ℕ, ◌==◌, Bool, true, false, cond, List, [], ◌∷◌}
+use Rattle.std.proofs.Common.{◌++◌, Option, Some, None, refl, ap, sym, subst, ◌∙◌, append-nil, append_assoc}
+use Rattle.std.specs.List.{fold, list_any}
+use Rattle.std.proofs.lemmas.Bool.{eqb-true, true≢false}
 use Rattle.std.proofs.lemmas.List.Folds.{list_any-append}
 use Rattle.trace_model.specs.declared.entry.Entry.{Entry}
+use Rattle.trace_model.specs.declared.entry.Entry.TheVariants as entry
 use Rattle.trace_model.specs.declared.line.Header.{Header}
 use Rattle.trace_model.specs.declared.line.Line.{Line}
 use Rattle.trace_model.specs.declared.line.End.{End}
+use Rattle.trace_model.specs.Ends.{other_end}
+use Rattle.link_laws.specs.messages.Links.{Link}
+use Rattle.link_laws.specs.entries.Entries.End.{Controller, Host}
 use Rattle.link_laws.proofs.entries.Lasting.{same_number}
 use Rattle.link_laws.proofs.entries.Sparing.{or_none}
-use Rattle.node_machine.specs.world.World.{Site, NodeWorld, Happening, new_world, site_at, world_step}
+use Rattle.history.specs.Filters.{said}
+use Rattle.history.specs.Follows.{machine_of}
+use Rattle.node_machine.specs.world.World.{Site, NodeWorld, Happening, new_world, site_at, world_step, world_ticks}
 use Rattle.node_machine.specs.world.World.Happening.{Resets, Activates}
 use Rattle.node_machine.specs.world.Lines.{Occurrence}
 use Rattle.node_machine.specs.world.NodeHistories.{NodeHistory, FollowsNodes, entries_in, occurrences_in}
 use Rattle.node_laws.specs.links.Runs.{ArePlayable}
 use Rattle.node_laws.specs.kept.Hosts.{AreHosts}
-use Rattle.node_laws.specs.telling.Telling.{hosts_in, world_behind}
-use Rattle.node_laws.specs.telling.Standing.{new_standing, standing_behind}
+use Rattle.node_laws.specs.telling.Telling.{tells_of, of_link, hosts_in, world_behind}
+use Rattle.node_laws.specs.telling.Standing.{Readiness, Standing, new_standing, without_power, stands_noted, with_empty_wires, with_inactive_ends, standing}
+use Rattle.node_laws.specs.telling.Standing.{as_event_begins, as_event_ends, standing_behind}
+use Rattle.node_laws.proofs.telling.Accounts.{of-append}
+use Rattle.node_laws.proofs.telling.Powers.{other_said}
 use Rattle.node_laws.proofs.telling.Lasting.{occurs}
-use Rattle.node_laws.specs.order.Told.{AreBothUp}
-use Rattle.node_laws.specs.order.Resets.{cuts_on, withholds_on, opens_on, IsUpheld, ResetNodes}
-use Rattle.node_laws.proofs.order.Watches.{IsSince, watch_begins, watched}
+use Rattle.node_laws.specs.order.Told.{readiness_of, AreBothUp}
+use Rattle.node_laws.specs.order.Resets.{cuts_on, withholds_on, opens_on, ready_at, IsLeftAlone, IsUpheld, ResetNodes, IsUpheldInTick, TickResetNodes}
+use Rattle.node_laws.proofs.order.Ticking.{ticked_since}
+use Rattle.node_laws.proofs.order.TickResets.{IsAnsweredTick}
+use Rattle.node_laws.proofs.order.Readying.{AreReady}
+use Rattle.node_laws.proofs.order.Still.{strange_of}
+use Rattle.node_laws.proofs.order.Strangers.{IsStrange}
+use Rattle.node_laws.proofs.order.Watches.{IsSince, untouched, watch_begins, watched}
 use Rattle.node_laws.proofs.order.Knowing.{Knows}
 use Rattle.node_laws.proofs.order.Lines.{watches, of_none, IsSo, IsSoSince, LeavesKnown, next_so, host_number, history_so}
 use Rattle.node_laws.proofs.order.Sessions.{are_read}
@@ -49,6 +64,7 @@ module _ (k : ℕ) (hosts : List ℕ) where
               shown = record {
                 wires = b.shown.wires;
                 since = λ q. let P : ℕ → Type 0 = λ n. site_at w.sites n ≡ Some s in since s (subst P (eqb-true h k q) found);
+                ready = b.shown.ready;
               };
               near = b.near;
               far = b.far;
@@ -59,14 +75,14 @@ module _ (k : ℕ) (hosts : List ℕ) where
 
   -- an event that withholds nothing
   leaves : (c : Happening) (u : List Entry) → opens_on k c ≡ false → list_any (withholds_on k) u ≡ false
-      → (watched k (watch_begins k c (record { stands = new_standing; since = true })) u).since ≡ true
+      → (watched k (watch_begins k c untouched) u).since ≡ true
   leaves (Activates j sync power) u p q = rw (p, q) refl
   leaves c u p q = rw q refl
 
   leaves_known : (w : NodeWorld) (c : Happening) → opens_on k c ≡ false → list_any (withholds_on k) (world_step w c).1 ≡ false
       → LeavesKnown (of_one k) hosts w c
   leaves_known w c p q h is =
-      let P : ℕ → Type 0 = λ n. (watched n (watch_begins n c (record { stands = new_standing; since = true })) (world_step w c).1).since ≡ true in
+      let P : ℕ → Type 0 = λ n. (watched n (watch_begins n c untouched) (world_step w c).1).since ≡ true in
       subst P (sym (eqb-true h k is)) (leaves c (world_step w c).1 p q)
 
   -- over events that withhold nothing
@@ -87,6 +103,72 @@ module _ (k : ℕ) (hosts : List ℕ) where
       subst P is (next_so (of_one k) hosts os w c a done.0.1.0 (leaves_known w c opens.0 left)) in
       subst (λ z. IsSoSince (of_one k) hosts z (world_behind w (o ∷ events))) (append_assoc os (o ∷ []) events)
       (known_behind events (os ++ o ∷ []) (world_step w c).0 done.1 both.1 opens.1 next)
+
+-- ## How ready ends are
+
+-- what is read of an end of a told link is how ready it is
+ready_machine : (l : Link) (x : Standing) → AreReady l x → (e : End) → ready_at e x ≡ readiness_of (machine_of l e)
+ready_machine l x a e = go e.at_host
+  where
+    go : (b : Bool) → ready_at (record { link = e.link; at_host = b }) x ≡ readiness_of (machine_of l (record { link = e.link; at_host = b }))
+    go true = a.far
+    go false = a.near
+
+-- no end is active
+abbrev IsIdle : Standing → Type 0
+IsIdle x = (x.near.active ≡ false) × (x.far.active ≡ false)
+
+idle_at : (e : End) (x : Standing) → IsIdle x → (ready_at e x).active ≡ false
+idle_at e x a = go e.at_host
+  where
+    go : (b : Bool) → (ready_at (record { link = e.link; at_host = b }) x).active ≡ false
+    go true = a.1
+    go false = a.0
+
+module _ (k : ℕ) where
+  -- entries that tell nothing of a link let none become so
+  idle_noted : (x : Standing) (e : Entry) → tells_of k e ≡ false → IsIdle x → IsIdle (stands_noted k x e)
+  idle_noted x (entry.Cut n) q a = go (n == 0) (n == k)
+    where
+      go : (b c : Bool) → IsIdle (cond b (without_power Controller x) (cond c (without_power Host x) x))
+      go true c = (refl, a.1)
+      go false true = (a.0, refl)
+      go false false = a
+  idle_noted x (entry.Active f) q a = rw q a
+  idle_noted x (entry.GaveUp f tries) q a = rw q a
+  idle_noted x e q a = subst IsIdle (sym (other_said k x (said e) q)) a
+
+  idle_all : (t : List Entry) (x : Standing) → of_link k t ≡ [] → IsIdle x → IsIdle (standing k x t)
+  idle_all [] x q a = a
+  idle_all (e ∷ t) x q a = go (tells_of k e) refl (idle_all t (stands_noted k x e))
+    where
+      go : (b : Bool) → tells_of k e ≡ b → (of_link k t ≡ [] → IsIdle (stands_noted k x e) → IsIdle (standing k (stands_noted k x e) t))
+          → IsIdle (standing k x (e ∷ t))
+      go true p later = absurd (cc (rw p at q))
+      go false p later = later (rw p at q) (idle_noted x e p a)
+
+  idle_event : (c : Happening) (t : List Entry) (x : Standing) → of_link k t ≡ [] → IsIdle x
+      → IsIdle (as_event_ends k c (standing k (as_event_begins k c x) t))
+  idle_event (Activates j sync power) t x q a = go (k == j)
+    where
+      go : (b : Bool) → IsIdle (cond b (with_inactive_ends (standing k (cond b (with_empty_wires x) x) t)) (standing k (cond b (with_empty_wires x) x) t))
+      go true = (refl, refl)
+      go false = idle_all t x q a
+  idle_event c t x q a = idle_all t x q a
+
+  idle_from : (events : List Occurrence) (x : Standing) → of_link k (entries_in events) ≡ [] → IsIdle x
+      → IsIdle (fold (λ y (o : Occurrence). as_event_ends k o.cause (standing k (as_event_begins k o.cause y) o.entries)) x events)
+  idle_from [] x q a = a
+  idle_from (o ∷ events) x q a =
+      let both = none_both (of_link k o.entries) (of_link k (entries_in events)) (sym (of-append k o.entries (entries_in events)) ∙ q) in
+      idle_from events (as_event_ends k o.cause (standing k (as_event_begins k o.cause x) o.entries)) both.1 (idle_event o.cause o.entries x both.0 a)
+    where
+      none_both : (xs ys : List Entry) → xs ++ ys ≡ [] → (xs ≡ []) × (ys ≡ [])
+      none_both [] ys e = (refl, e)
+      none_both (x ∷ xs) ys e = absurd (cc e)
+
+  idle_behind : (events : List Occurrence) → of_link k (entries_in events) ≡ [] → IsIdle (standing_behind k events)
+  idle_behind events q = idle_from events new_standing q (refl, refl)
 
 -- ## Sites stay
 
@@ -122,13 +204,14 @@ module _ (header : Header) (lines : List Line) (t : NodeHistory) (follows : Foll
   abbrev first : NodeWorld
   first = new_world hosts_of
 
-  both_up : (before : List Occurrence) (reset : Occurrence) (behind back : List Occurrence) (e : End) (window : Option ℕ) (s : Site)
-      → occurrences_in t ≡ before ++ (reset ∷ behind ++ back) → IsUpheld hosts_of before reset behind e window s
-      → AreBothUp (entries_in (before ++ reset ∷ behind)) e.link
-  both_up before reset behind back e window s q a =
+  -- an event in which an end of the link with this host was reset, and nothing has withheld the answer since
+  left_alone : (before : List Occurrence) (reset : Occurrence) (behind back : List Occurrence) (k : ℕ) (s : Site)
+      → occurrences_in t ≡ before ++ (reset ∷ behind ++ back) → site_at (world_behind first before).sites k ≡ Some s
+      → ((x : Site) → site_at (world_step (world_behind first before) reset.cause).0.sites k ≡ Some x → IsSince x.link)
+      → IsLeftAlone before reset behind k → AreBothUp (entries_in (before ++ reset ∷ behind)) k
+  left_alone before reset behind back k s q there since a =
       let w : NodeWorld = world_behind first before in
       let v : NodeWorld = (world_step w reset.cause).0 in
-      let k : ℕ = e.link in
       let all : AreDone first (before ++ (reset ∷ behind ++ back)) = subst (AreDone first) q (history_done header lines t follows playable) in
       let done : AreDone w (reset ∷ behind ++ back) = done_back before (reset ∷ behind ++ back) first all in
       let so : IsSo hosts_of before w = history_so header lines t follows are playable before (reset ∷ behind ++ back) q in
@@ -136,30 +219,103 @@ module _ (header : Header) (lines : List Line) (t : NodeHistory) (follows : Foll
       history_so header lines t follows are playable (before ++ reset ∷ []) (behind ++ back)
       (q ∙ sym (append_assoc before (reset ∷ []) (behind ++ back))) in
       let next : IsSo hosts_of (before ++ reset ∷ []) v = subst (IsSo hosts_of (before ++ reset ∷ [])) (behind_push before reset first) after in
-      let M : Happening → Type 0 = λ c. MayBeAsked w c in
-      let may : MayBeAsked w (Resets e window) = subst M a.cause done.0.1 in
-      let told : list_any (cuts_on k) (world_step w (Resets e window)).1 ≡ false =
-      ap (λ c. list_any (cuts_on k) (world_step w c).1) (sym a.cause) ∙ (ap (list_any (cuts_on k)) (sym done.0.0) ∙ a.powered) in
-      let N : Happening → Type 0 = λ c. (x : Site) → site_at (world_step w c).0.sites k ≡ Some x → IsSince x.link in
-      let since : N reset.cause =
-      subst N (sym a.cause)
-      (reset_since w (entries_in before) (watches of_none before) so.well so.each k window may.0 s a.there e.at_host may.1 a.active a.free told) in
       let known : IsSoSince (of_one k) hosts_of (before ++ reset ∷ []) v = known_from k hosts_of (before ++ reset ∷ []) v next since in
       let last : IsSoSince (of_one k) hosts_of ((before ++ reset ∷ []) ++ behind) (world_behind v behind) =
       known_behind k hosts_of behind (before ++ reset ∷ []) v (done_front behind back v done.1) a.undisturbed a.unopened known in
       let P : List Occurrence → Type 0 = λ z. IsSoSince (of_one k) hosts_of z (world_behind v behind) in
       let end : IsSoSince (of_one k) hosts_of (before ++ reset ∷ behind) (world_behind v behind) = subst P (append_assoc before (reset ∷ []) behind) last in
       let found : IsFound (world_behind v behind).sites k =
-      found_too w.sites (world_behind v behind).sites (so.hosts_are ∙ sym end.hosts_are) k s a.there in
+      found_too w.sites (world_behind v behind).sites (so.hosts_are ∙ sym end.hosts_are) k s there in
       let x : Site = found.site in
       let b = end.each k x found.there in
       brought_up k x.link (entries_in (before ++ reset ∷ behind)) (standing_behind k (before ++ reset ∷ behind))
       (are_read k x.link (entries_in (before ++ reset ∷ behind)) (host_number (world_behind v behind) k x end.well.orderly found.there) b.told)
       (b.shown.since (same_number k)) b.shown.wires.to_controller b.shown.wires.to_host a.to_controller a.to_host
 
+  -- what a world does in an event
+  done_at : (before : List Occurrence) (o : Occurrence) (after : List Occurrence) → occurrences_in t ≡ before ++ (o ∷ after)
+      → (o.entries ≡ (world_step (world_behind first before) o.cause).1) × MayBeAsked (world_behind first before) o.cause
+  done_at before o after q = (done_back before (o ∷ after) first (subst (AreDone first) q (history_done header lines t follows playable))).0
+
+  both_up_at : (before : List Occurrence) (reset : Occurrence) (behind back : List Occurrence) (e : End) (window : Option ℕ) (s : Site)
+      → occurrences_in t ≡ before ++ (reset ∷ behind ++ back) → site_at (world_behind first before).sites e.link ≡ Some s
+      → IsUpheld before reset behind e window → AreBothUp (entries_in (before ++ reset ∷ behind)) e.link
+  both_up_at before reset behind back e window s q there a =
+      let w : NodeWorld = world_behind first before in
+      let k : ℕ = e.link in
+      let done = done_at before reset (behind ++ back) q in
+      let so : IsSo hosts_of before w = history_so header lines t follows are playable before (reset ∷ behind ++ back) q in
+      let ready : ready_at (other_end e) (standing_behind k before) ≡ readiness_of (machine_of s.link (other_end e)) =
+      ready_machine s.link (standing_behind k before) ((so.each k s there).shown.ready refl) (other_end e) in
+      let M : Happening → Type 0 = λ c. MayBeAsked w c in
+      let may : MayBeAsked w (Resets e window) = subst M a.cause done.1 in
+      let told : list_any (cuts_on k) (world_step w (Resets e window)).1 ≡ false =
+      ap (λ c. list_any (cuts_on k) (world_step w c).1) (sym a.cause) ∙ (ap (list_any (cuts_on k)) (sym done.0) ∙ a.powered) in
+      let N : Happening → Type 0 = λ c. (x : Site) → site_at (world_step w c).0.sites k ≡ Some x → IsSince x.link in
+      let active = ap (λ (r : Readiness). r.active) (sym ready) ∙ a.active in
+      let free = ap (λ (r : Readiness). r.waits) (sym ready) ∙ a.free in
+      let since : N reset.cause =
+      subst N (sym a.cause)
+      (reset_since w (entries_in before) (watches of_none before) so.well so.each k window may.0 s there e.at_host may.1 active free told) in
+      left_alone before reset behind back k s q there since a.left
+
+  ticked_up_at : (before : List Occurrence) (tick : Occurrence) (behind back : List Occurrence) (h : ℕ) (s : Site)
+      → occurrences_in t ≡ before ++ (tick ∷ behind ++ back) → site_at (world_behind first before).sites h ≡ Some s
+      → IsUpheldInTick before tick behind h → AreBothUp (entries_in (before ++ tick ∷ behind)) h
+  ticked_up_at before tick behind back h s q there a =
+      let w : NodeWorld = world_behind first before in
+      let done = done_at before tick (behind ++ back) q in
+      let so : IsSo hosts_of before w = history_so header lines t follows are playable before (tick ∷ behind ++ back) q in
+      let ready : AreReady s.link (standing_behind h before) = (so.each h s there).shown.ready refl in
+      let entries : tick.entries ≡ (world_ticks w).1 = done.0 ∙ ap (λ c. (world_step w c).1) a.cause in
+      let A : List Entry → Type 0 = IsAnsweredTick h in
+      let says : IsAnsweredTick h (world_ticks w).1 =
+      subst A entries (record { reset = a.reset; powered = a.powered; lossless = a.lossless; alone = a.alone }) in
+      let N : Happening → Type 0 = λ c. (x : Site) → site_at (world_step w c).0.sites h ≡ Some x → IsSince x.link in
+      let active = ap (λ (r : Readiness). r.active) (sym ready.far) ∙ a.active in
+      let free = ap (λ (r : Readiness). r.waits) (sym ready.far) ∙ a.free in
+      let since : N tick.cause =
+      subst N (sym a.cause)
+      (λ x found. ticked_since w (entries_in before) (watches of_none before) so.well so.up so.each h s there says
+      (λ granted. record { granted = granted; active = active; free = free }) x found) in
+      left_alone before tick behind back h s q there since a.left
+
+  both_up : (before : List Occurrence) (reset : Occurrence) (behind back : List Occurrence) (e : End) (window : Option ℕ)
+      → occurrences_in t ≡ before ++ (reset ∷ behind ++ back) → IsUpheld before reset behind e window
+      → AreBothUp (entries_in (before ++ reset ∷ behind)) e.link
+  both_up before reset behind back e window q a = go (site_at w.sites e.link) refl
+    where
+      w : NodeWorld
+      w = world_behind first before
+
+      so : IsSo hosts_of before w
+      so = history_so header lines t follows are playable before (reset ∷ behind ++ back) q
+
+      go : (o : Option Site) → site_at w.sites e.link ≡ o → AreBothUp (entries_in (before ++ reset ∷ behind)) e.link
+      go (Some s) there = both_up_at before reset behind back e window s q there a
+      go None none =
+          let strange : IsStrange e.link hosts_of = subst (IsStrange e.link) so.hosts_are (strange_of w.sites e.link none) in
+          let idle = idle_behind e.link before (so.strange e.link strange) in
+          absurd (true≢false (sym a.active ∙ idle_at (other_end e) (standing_behind e.link before) idle))
+
+  ticked_up : (before : List Occurrence) (tick : Occurrence) (behind back : List Occurrence) (h : ℕ)
+      → occurrences_in t ≡ before ++ (tick ∷ behind ++ back) → IsUpheldInTick before tick behind h → AreBothUp (entries_in (before ++ tick ∷ behind)) h
+  ticked_up before tick behind back h q a = go (site_at w.sites h) refl
+    where
+      w : NodeWorld
+      w = world_behind first before
+
+      so : IsSo hosts_of before w
+      so = history_so header lines t follows are playable before (tick ∷ behind ++ back) q
+
+      go : (o : Option Site) → site_at w.sites h ≡ o → AreBothUp (entries_in (before ++ tick ∷ behind)) h
+      go (Some s) there = ticked_up_at before tick behind back h s q there a
+      go None none =
+          let strange : IsStrange h hosts_of = subst (IsStrange h) so.hosts_are (strange_of w.sites h none) in
+          absurd (true≢false (sym a.active ∙ (idle_behind h before (so.strange h strange)).1))
+
+  pub ticks_upheld : TickResetNodes t
+  ticks_upheld = ticked_up
+
   pub resets_upheld : ResetNodes t
-  resets_upheld =
-      let P : Header → Type 0 = λ z. (before : List Occurrence) (reset : Occurrence) (behind back : List Occurrence) (e : End) (window : Option ℕ) (s : Site)
-      → occurrences_in t ≡ before ++ (reset ∷ behind ++ back) → IsUpheld z.hosts.items before reset behind e window s
-      → AreBothUp (entries_in (before ++ reset ∷ behind)) e.link in
-      subst P (sym follows.header_is) both_up
+  resets_upheld = both_up

@@ -1,7 +1,7 @@
 -- How a link stands, and whether nothing has withheld the answer to a reset of it.
 use Rattle.std.proofs.Common.{◌≡◌, ℕ, suc, ◌+◌, ◌≤◌, Bool, true, false, cond, List, [], ◌∷◌, ◌++◌, length, replicate, Option, Some, None, refl, ap, sym, subst}
 use Rattle.std.proofs.Common.{◌∙◌, append-nil, append_assoc, length-append, arith}
-use Rattle.std.specs.Prelude.{◌==◌, ◌&&◌, ◌||◌, not, drop, if◌then◌else◌}
+use Rattle.std.specs.Prelude.{◌==◌, ◌&&◌, ◌||◌, not, drop, is_some, if◌then◌else◌}
 use Rattle.std.specs.List.{AllByRecursion, list_any}
 use Rattle.std.proofs.lemmas.Bool.{true≢false}
 use Rattle.std.proofs.lemmas.List.{length-replicate}
@@ -13,8 +13,11 @@ use Rattle.trace_model.specs.declared.line.End.{End}
 use Rattle.swp_base.specs.declared.control_frames.Control.TheVariants.{I, S, Rset, Ua, Act, Clt}
 use Rattle.swp_lpdu.specs.Controls.{lpdu_of}
 use Rattle.link_laws.specs.messages.Links.{Link, Comes, LinkEvent, happens, after_link_events, IsEvent}
+use Rattle.link_laws.specs.machine.Machine.{LinkEnd, LinkInput, Turn, after_input, ended_by}
+use Rattle.link_laws.specs.messages.Links.{number_of, with_ended}
+use Rattle.link_laws.specs.messages.Links.Ending.{CutOff}
 use Rattle.link_laws.specs.messages.Links.Comes.{Starts, Stops}
-use Rattle.link_laws.specs.entries.Entries.{Entry as Noted, event_entries, entries}
+use Rattle.link_laws.specs.entries.Entries.{End as Side, Entry as Noted, told_of, turn_entries, rest_entries, input_entries, event_entries, entries}
 use Rattle.link_laws.specs.entries.Entries.End.{Controller, Host}
 use Rattle.link_laws.specs.entries.Entries.Entry.{Up, Down, Active, GaveUp, Acked, Got, Sent, Emit, Took, Lost, Tick, Restarted, Cut}
 use Rattle.link_laws.specs.entries.Settled.{withholds, IsReset, rest_of}
@@ -28,23 +31,27 @@ use Rattle.node_machine.specs.world.World.{Happening}
 use Rattle.node_machine.specs.world.World.Happening.{Activates}
 use Rattle.node_laws.specs.links.Runs.{new_line, IsRunOf}
 use Rattle.node_laws.proofs.links.Sites.{run_of_more}
-use Rattle.node_laws.specs.telling.Telling.{is_of, of_link, TellOf}
-use Rattle.node_laws.specs.telling.Standing.{Standing, new_standing, with_empty_wires, as_event_begins, said_near, said_far, stands_said}
+use Rattle.node_laws.specs.telling.Telling.{is_of, tells_of, of_link, TellOf}
+use Rattle.node_laws.specs.telling.Standing.{Standing, new_standing, with_empty_wires, as_event_begins, with_inactive_ends, as_event_ends, said_near, said_far}
+use Rattle.node_laws.specs.telling.Standing.{stands_said, made_active, no_longer_waits, becomes_at, stands_told}
 use Rattle.node_laws.specs.telling.Standing.{stands_noted, standing}
 use Rattle.node_laws.specs.telling.Standing.{law_noted, standing_by_law, StandsOf}
+use Rattle.node_laws.proofs.telling.Accounts.{untold}
 use Rattle.node_laws.proofs.telling.Events.{after-append, entries-append}
 use Rattle.node_laws.specs.order.Resets.{cuts_on, spoils_on, withholds_on}
 
 -- ## A link since a reset
 
--- how a link stands, and whether it is known that nothing withheld the answer to a reset
+-- how a link stands, whether it is known that nothing withheld the answer to a reset, and whether its ends are as they are read, as they
+-- aren't between the two steps by which activation begins
 pub record WatchedLink : Type 0 where
   pub stands : Standing
   pub since : Bool
+  pub whole : Bool
 
 -- behind more entries
 abbrev pub watched : ℕ → WatchedLink → List Entry → WatchedLink
-watched h x u = record { stands = standing h x.stands u; since = x.since && not (list_any (withholds_on h) u) }
+watched h x u = record { stands = standing h x.stands u; since = x.since && not (list_any (withholds_on h) u); whole = x.whole }
 
 -- Events of a new link in which a reset found the other end ready, and nothing that was noted behind it withheld the answer, have made
 -- this link.
@@ -145,6 +152,21 @@ module _ (h : ℕ) where
       go true false = near_said s x
       go false c = near_same x x refl
 
+  told_one : (x : Standing) (e : Entry) → IsOneOff x (stands_told h x e)
+  told_one x (entry.Active e) = go (e.link == h) e.at_host
+    where
+      go : (b c : Bool) → IsOneOff x (cond b (becomes_at c made_active x) x)
+      go true true = near_same x (becomes_at true made_active x) refl
+      go true false = near_same x (becomes_at false made_active x) refl
+      go false c = near_same x x refl
+  told_one x (entry.GaveUp e tries) = go (e.link == h) e.at_host
+    where
+      go : (b c : Bool) → IsOneOff x (cond b (becomes_at c no_longer_waits x) x)
+      go true true = near_same x (becomes_at true no_longer_waits x) refl
+      go true false = near_same x (becomes_at false no_longer_waits x) refl
+      go false c = near_same x x refl
+  told_one x e = one_off x (said e)
+
   -- entries that cut no power of its nodes take at most one frame each
   uncut_one : (x : Standing) (e : Entry) → cuts_on h e ≡ false → length x.to_host ≤ suc (length (stands_noted h x e).to_host)
   uncut_one x (entry.Cut n) q =
@@ -153,7 +175,7 @@ module _ (h : ℕ) where
       let r = a.1 in
       let same : stands_noted h x (entry.Cut n) ≡ x = rw (p, r) refl in
       (near_same x (stands_noted h x (entry.Cut n)) (ap (λ (z : Standing). z.to_host) same)).less
-  uncut_one x e q = (one_off x (said e)).less
+  uncut_one x e q = (told_one x e).less
 
   uncut_all : (u : List Entry) (x : Standing) → list_any (cuts_on h) u ≡ false → length x.to_host ≤ length (standing h x u).to_host + length u
   uncut_all [] x q = omega arith
@@ -167,8 +189,8 @@ module _ (h : ℕ) where
   law_one : (x : Standing) (n : Noted) → length (law_noted h x n).to_host ≤ suc (length x.to_host)
   law_one x (Up w k) = (one_off x (Some (end_of h w, Begins k))).more
   law_one x (Down w cause) = (one_off x (Some (end_of h w, Ends))).more
-  law_one x (Active w) = omega arith
-  law_one x (GaveUp w tries) = omega arith
+  law_one x (Active w) = (told_one x (entry.Active (end_of h w))).more
+  law_one x (GaveUp w tries) = (told_one x (entry.GaveUp (end_of h w) tries)).more
   law_one x (Acked w k count) = (one_off x (Some (end_of h w, Counts k count))).more
   law_one x (Got w k m) = (one_off x (Some (end_of h w, Gets k m))).more
   law_one x (Sent w k m) = (one_off x (Some (end_of h w, Sends k m))).more
@@ -213,7 +235,7 @@ module _ (h : ℕ) where
 -- ## What is told of frames
 
 module _ (h : ℕ) where
-  spoils_none : (o : Option (End × Saying)) → is_of h o ≡ false → (loses_on h o || resets_on h o) ≡ false
+  pub spoils_none : (o : Option (End × Saying)) → is_of h o ≡ false → (loses_on h o || resets_on h o) ≡ false
   spoils_none None q = refl
   spoils_none (Some (e, Puts f)) q = rw q refl
   spoils_none (Some (e, Loses f)) q = rw q refl
@@ -227,12 +249,12 @@ module _ (h : ℕ) where
   -- only what says something of the link spoils
   spoils_of : (t : List Entry) → list_any (spoils_on h) t ≡ list_any (spoils_on h) (of_link h t)
   spoils_of [] = refl
-  spoils_of (e ∷ t) = go (is_of h (said e)) refl (spoils_of t)
+  spoils_of (e ∷ t) = go (tells_of h e) refl (spoils_of t)
     where
-      go : (b : Bool) → is_of h (said e) ≡ b → list_any (spoils_on h) t ≡ list_any (spoils_on h) (of_link h t)
+      go : (b : Bool) → tells_of h e ≡ b → list_any (spoils_on h) t ≡ list_any (spoils_on h) (of_link h t)
           → list_any (spoils_on h) (e ∷ t) ≡ list_any (spoils_on h) (of_link h (e ∷ t))
       go true q later = rw q (ap (λ b. spoils_on h e || b) later)
-      go false q later = rw q (ap (λ b. b || list_any (spoils_on h) t) (spoils_none (said e) q) ∙ later)
+      go false q later = rw q (ap (λ b. b || list_any (spoils_on h) t) (spoils_none (said e) (untold h e q)) ∙ later)
 
   -- where no frame was lost and no RSET put on the link, as entries tell it, the law of the link notes none
   spared_of : (t : List Noted) → list_any (spoils_on h) (entries_for h t) ≡ false → Spared t
@@ -306,7 +328,7 @@ since_step h l e u n plain x since q =
 
 -- activation that begins or ends empties the wires, and may withhold an answer
 abbrev pub unwatched : WatchedLink → WatchedLink
-unwatched x = record { stands = with_empty_wires x.stands; since = false }
+unwatched x = record { stands = with_empty_wires x.stands; since = false; whole = false }
 
 abbrev pub opened : Comes → WatchedLink → WatchedLink
 opened (Starts value) x = unwatched x
@@ -317,6 +339,14 @@ opened _ x = x
 abbrev pub watch_begins : ℕ → Happening → WatchedLink → WatchedLink
 watch_begins h (Activates k sync power) x = if h == k then unwatched x else x
 watch_begins h _ x = x
+
+-- as it ends
+abbrev pub rewatched : WatchedLink → WatchedLink
+rewatched x = record { stands = with_inactive_ends x.stands; since = x.since; whole = true }
+
+abbrev pub watch_ends : ℕ → Happening → WatchedLink → WatchedLink
+watch_ends h (Activates k sync power) x = if h == k then rewatched x else x
+watch_ends h _ x = x
 
 pub kept_left : (a b : Bool) → (a && b) ≡ true → a ≡ true
 kept_left true b q = refl
@@ -333,8 +363,8 @@ watched-append h x u v =
     let since : ((x.since && not (list_any (withholds_on h) u)) && not (list_any (withholds_on h) v)) ≡ (x.since && not (list_any (withholds_on h) (u ++ v))) =
     kept_assoc x.since (list_any (withholds_on h) u) (list_any (withholds_on h) v)
     ∙ ap (λ b. x.since && not b) (sym (list_any-append (withholds_on h) u v)) in
-    ap (λ z. record { stands = z; since = (watched h (watched h x u) v).since }) stands
-    ∙ ap (λ b. record { stands = standing h x.stands (u ++ v); since = b }) since
+    ap (λ z. record { stands = z; since = (watched h (watched h x u) v).since; whole = x.whole }) stands
+    ∙ ap (λ b. record { stands = standing h x.stands (u ++ v); since = b; whole = x.whole }) since
 
 pub watch_begins_stands : (h : ℕ) (c : Happening) (x : WatchedLink) → (watch_begins h c x).stands ≡ as_event_begins h c x.stands
 watch_begins_stands h (Activates k sync power) x = go (h == k)
@@ -344,25 +374,86 @@ watch_begins_stands h (Activates k sync power) x = go (h == k)
     go false = refl
 watch_begins_stands h c x = refl
 
+pub watch_ends_stands : (h : ℕ) (c : Happening) (x : WatchedLink) → (watch_ends h c x).stands ≡ as_event_ends h c x.stands
+watch_ends_stands h (Activates k sync power) x = go (h == k)
+  where
+    go : (b : Bool) → (cond b (rewatched x) x).stands ≡ cond b (with_inactive_ends x.stands) x.stands
+    go true = refl
+    go false = refl
+watch_ends_stands h c x = refl
+
+pub watch_ends_since : (h : ℕ) (c : Happening) (x : WatchedLink) → (watch_ends h c x).since ≡ x.since
+watch_ends_since h (Activates k sync power) x = go (h == k)
+  where
+    go : (b : Bool) → (cond b (rewatched x) x).since ≡ x.since
+    go true = refl
+    go false = refl
+watch_ends_since h c x = refl
+
+-- a link whose ends were as they are read before an event is so behind it
+pub ends_whole : (h : ℕ) (c : Happening) (x : WatchedLink) (u : List Entry) → x.whole ≡ true → (watch_ends h c (watched h (watch_begins h c x) u)).whole ≡ true
+ends_whole h (Activates k sync power) x u q = go (h == k)
+  where
+    go : (b : Bool) → (cond b (rewatched (watched h (cond b (unwatched x) x) u)) (watched h (cond b (unwatched x) x) u)).whole ≡ true
+    go true = refl
+    go false = q
+ends_whole h c x u q = q
+
+-- nothing was noted yet, and nothing withheld an answer
+abbrev pub untouched : WatchedLink
+untouched = record { stands = new_standing; since = true; whole = true }
+
 -- what is known lasts over an event that withholds no answer
 pub since_known : (h : ℕ) (c : Happening) (x : Standing) (u : List Entry) (b : Bool) → b ≡ true
-    → (watched h (watch_begins h c (record { stands = new_standing; since = true })) u).since ≡ true
-    → (watched h (watch_begins h c (record { stands = x; since = b })) u).since ≡ true
+    → (watched h (watch_begins h c untouched) u).since ≡ true
+    → (watched h (watch_begins h c (record { stands = x; since = b; whole = true })) u).since ≡ true
 since_known h c x u b q leaves = subst P (sym q) (same c leaves)
   where
     P : Bool → Type 0
-    P z = (watched h (watch_begins h c (record { stands = x; since = z })) u).since ≡ true
+    P z = (watched h (watch_begins h c (record { stands = x; since = z; whole = true })) u).since ≡ true
 
     rest : Bool
     rest = not (list_any (withholds_on h) u)
 
     go : (b : Bool)
-        → ((cond b (unwatched (record { stands = new_standing; since = true })) (record { stands = new_standing; since = true })).since && rest) ≡ true
-        → ((cond b (unwatched (record { stands = x; since = true })) (record { stands = x; since = true })).since && rest) ≡ true
+        → ((cond b (unwatched untouched) untouched).since && rest) ≡ true
+        → ((cond b (unwatched (record { stands = x; since = true; whole = true })) (record { stands = x; since = true; whole = true })).since && rest) ≡ true
     go true z = z
     go false z = z
 
-    same : (c : Happening) → (watched h (watch_begins h c (record { stands = new_standing; since = true })) u).since ≡ true
-        → (watched h (watch_begins h c (record { stands = x; since = true })) u).since ≡ true
+    same : (c : Happening) → (watched h (watch_begins h c untouched) u).since ≡ true
+        → (watched h (watch_begins h c (record { stands = x; since = true; whole = true })) u).since ≡ true
     same (Activates k sync power) z = go (h == k) z
     same c z = z
+
+-- ## A link with a reset
+
+pub since_reset : (l : Link) (e : LinkEvent) (events : List LinkEvent) → IsRunOf events l → IsEvent l e → IsReset l e
+    → list_any withholds (rest_of l e) ≡ false → IsSince (happens l e)
+since_reset l e events run can ready alone =
+    let R : Link → Type 0 = λ k. IsReset k e in
+    record {
+      before = events;
+      reset = e;
+      behind = [];
+      run = run_of_more events l e can run;
+      asked = subst R (sym run.is) ready;
+      undisturbed = ap (λ k. list_any withholds (rest_of k e ++ [])) run.is ∙ (ap (list_any withholds) (append-nil (rest_of l e)) ∙ alone);
+    }
+
+or_true : (b : Bool) → (b || true) ≡ true
+or_true true = refl
+or_true false = refl
+
+cut_behind : (xs ys : List Noted) → list_any is_cut ys ≡ true → list_any is_cut (xs ++ ys) ≡ true
+cut_behind xs ys q = list_any-append is_cut xs ys ∙ (ap (λ b. list_any is_cut xs || b) q ∙ or_true (list_any is_cut xs))
+
+-- where the power goes in a step, that is noted
+rest_cut : (who : Side) (l : Link) (e : LinkEnd) (ts : List Turn) → list_any is_cut (rest_entries who l e ts CutOff) ≡ true
+rest_cut who l e ts = cut_behind (turn_entries who (number_of l.controller) e ts) (Cut who ∷ []) refl
+
+pub input_cut : (who : Side) (l : Link) (i : LinkInput) (ts : List Turn) → list_any is_cut (input_entries who l i ts CutOff) ≡ true
+input_cut who l i ts =
+    let m : Link = with_ended l (is_some (ended_by l.controller.side i)) in
+    let e : LinkEnd = after_input l.controller.side i in
+    cut_behind (told_of who l.controller i) (rest_entries who m e ts CutOff) (rest_cut who m e ts)

@@ -29,13 +29,16 @@ use Rattle.history.specs.Filters.{Saying}
 use Rattle.history.specs.Filters.Saying.{Begins, Ends, Sends, Gets, Counts, Puts, Takes, Loses}
 use Rattle.history.specs.Steps.{end_of}
 use Rattle.node_laws.specs.links.Runs.{new_line}
-use Rattle.node_laws.specs.telling.Standing.{Standing, said_near, said_far, stands_said, with_empty_wires, standing, law_noted, standing_by_law}
+use Rattle.node_laws.specs.telling.Standing.{Standing, made_active, no_longer_waits, becomes_at, inactive, said_near}
+use Rattle.node_laws.specs.telling.Standing.{said_far, stands_said, with_empty_wires, standing, law_noted, standing_by_law}
 use Rattle.node_laws.proofs.telling.Powers.{AreClear}
 use Rattle.node_laws.proofs.telling.Shapes.{last_of, IsShaped, shaped_tick, shaped_step, opened_by, IsStepShaped, opened_stands, clear_aged}
 use Rattle.node_laws.proofs.telling.Events.{after-append, entries-append}
 use Rattle.node_laws.proofs.telling.WorldTicks.{between, near_notes, tick_event}
-use Rattle.node_laws.specs.order.Told.{IsLinkTold, frames_on}
+use Rattle.node_laws.specs.order.Told.{IsLinkTold, readiness_of, frames_on}
 use Rattle.node_laws.specs.order.Resets.{withholds_on}
+use Rattle.node_laws.proofs.order.Activity.{IsLined}
+use Rattle.node_laws.proofs.order.Readying.{AreReady, ready_more, started_unready}
 use Rattle.node_laws.proofs.order.Watches.{IsStepOf, WatchedLink, watched, IsSince, IsUnstarted, AreUnstarted, since_step, unwatched, opened, kept_left}
 
 -- ## Wires that are seen
@@ -44,10 +47,12 @@ pub record ShownBy (s : Seen) (x : Standing) : Type 0 where
   pub to_controller : x.to_controller ≡ frames_on s.to_controller
   pub to_host : x.to_host ≡ frames_on s.to_host
 
--- the wires of a link are those of the watched one, and where it is known so, nothing withheld the answer to a reset
+-- the wires of a link are those of the watched one, and where it is known so, nothing withheld the answer to a reset; and its ends are so
+-- ready, but between the two steps by which activation begins
 pub record Shown (l : Link) (x : WatchedLink) : Type 0 where
   pub wires : ShownBy (kept l) x.stands
   pub since : x.since ≡ true → IsSince l
+  pub ready : x.whole ≡ true → AreReady l x.stands
 
 -- behind entries that tell nothing of it
 pub shown_same : (h : ℕ) (l : Link) (x : WatchedLink) (u : List Entry) → standing h x.stands u ≡ x.stands → Shown l x → Shown l (watched h x u)
@@ -55,6 +60,8 @@ shown_same h l x u q s =
     record {
       wires = subst (ShownBy (kept l)) (sym q) s.wires;
       since = λ z. s.since (kept_left x.since (not (list_any (withholds_on h) u)) z);
+      ready = λ z. let a = s.ready z in
+          record { near = ap (λ (y : Standing). y.near) q ∙ a.near; far = ap (λ (y : Standing). y.far) q ∙ a.far };
     }
 
 frames_push : (w : List OnWire) (y : OnWire) → frames_on (w ++ y ∷ []) ≡ frames_on w ++ lpdu_of y.frame ∷ []
@@ -90,8 +97,10 @@ module _ (h : ℕ) where
   note_shown s x (Up Host k) u a = far_so s x (Begins k) (same s x (said_far (Begins k) x) refl refl a)
   note_shown s x (Down Controller cause) u a = near_so s x Ends (same s x (said_near Ends x) refl refl a)
   note_shown s x (Down Host cause) u a = far_so s x Ends (same s x (said_far Ends x) refl refl a)
-  note_shown s x (Active w) u a = a
-  note_shown s x (GaveUp w tries) u a = a
+  note_shown s x (Active Controller) u a = let q = same_number h in rw q (same s x (becomes_at false made_active x) refl refl a)
+  note_shown s x (Active Host) u a = let q = same_number h in rw q (same s x (becomes_at true made_active x) refl refl a)
+  note_shown s x (GaveUp Controller tries) u a = let q = same_number h in rw q (same s x (becomes_at false no_longer_waits x) refl refl a)
+  note_shown s x (GaveUp Host tries) u a = let q = same_number h in rw q (same s x (becomes_at true no_longer_waits x) refl refl a)
   note_shown s x (Acked Controller k count) u a = near_so s x (Counts k count) a
   note_shown s x (Acked Host k count) u a = far_so s x (Counts k count) a
   note_shown s x (Got Controller k m) u a = near_so s x (Gets k m) a
@@ -196,6 +205,7 @@ module _ (h : ℕ) (l : Link) (e : LinkEvent) (t u : List Entry) (x : WatchedLin
       record {
         wires = subst (ShownBy (kept (happens l e))) (sym (n.stands x.stands)) (subst P (event_seen h l t e a) all);
         since = since_step h l e u n plain x shown.since;
+        ready = λ z. ready_more h l e t u x.stands a n plain (shown.ready z);
       }
 
   pub step_shown : (who : Side) (comes : Comes) (ending : Ending) → IsStepShaped who comes ending (event_entries l e)
@@ -211,6 +221,7 @@ module _ (h : ℕ) (l : Link) (e : LinkEvent) (t u : List Entry) (x : WatchedLin
       record {
         wires = subst (ShownBy (kept (happens l e))) (sym (n.stands y ∙ opened_stands h who comes (event_entries l e) s.rest s.is y)) (subst P seen all);
         since = goes comes s.is;
+        ready = begins comes s.is;
       }
     where
       opens : (c : Comes) → ShownBy (see_all (kept l) (opened_by who c)) (opened c x).stands
@@ -225,6 +236,17 @@ module _ (h : ℕ) (l : Link) (e : LinkEvent) (t u : List Entry) (x : WatchedLin
 
       plainly : event_entries l e ≡ s.rest → (watched h x u).since ≡ true → IsSince (happens l e)
       plainly q = since_step h l e u n (subst (λ z. AreUnstarted z) (sym q) rest_unstarted) x shown.since
+
+      ready_so : event_entries l e ≡ s.rest → (watched h x u).whole ≡ true → AreReady (happens l e) (watched h x u).stands
+      ready_so q z = ready_more h l e t u x.stands a n (subst (λ z. AreUnstarted z) (sym q) rest_unstarted) (shown.ready z)
+
+      begins : (c : Comes) → event_entries l e ≡ opened_by who c ++ s.rest → (watched h (opened c x) u).whole ≡ true
+          → AreReady (happens l e) (watched h (opened c x) u).stands
+      begins NextFrame q = ready_so q
+      begins (AsksReset window) q = ready_so q
+      begins (Starts value) q = λ z. absurd (true≢false (sym z))
+      begins Stops q = λ z. absurd (true≢false (sym z))
+      begins NoInput q = ready_so q
 
       goes : (c : Comes) → event_entries l e ≡ opened_by who c ++ s.rest → (watched h (opened c x) u).since ≡ true → IsSince (happens l e)
       goes NextFrame q = plainly q
@@ -305,26 +327,35 @@ clf_blank e value clf acts = go e.role refl clf
     go (Uicc s) q c = absurd c
     go (Clf s) q c = rw q (record { acts = rw acts refl; due = refl; session = refl; down = refl })
 
--- so both wires are empty as activation has begun there
+-- so both wires are empty as activation has begun there, and the end isn't active
 pub record AreEmpty (l : Link) : Type 0 where
   pub to_controller : l.to_controller ≡ []
   pub to_host : l.to_host ≡ []
+  pub unready : readiness_of l.controller.side ≡ inactive
+
+clf_lined : (r : Role) → IsClf r → IsLined r
+clf_lined (Clf s) c = refl
+clf_lined (Uicc s) c = absurd c
+clf_lined Bare c = absurd c
 
 pub started_empty : (l : Link) (value : ℕ) (ts : List Turn) (ending : Ending) → IsClf l.controller.side.role → l.controller.side.acts ≡ []
     → AreEmpty (happens l (AtController (Step (Starts value) ts ending)))
-started_empty l value ts CutOff clf acts = record { to_controller = refl; to_host = refl }
+started_empty l value ts CutOff clf acts =
+    record { to_controller = refl; to_host = refl; unready = started_unready l value ts CutOff (clf_lined l.controller.side.role clf) }
 started_empty l value ts GoesOut clf acts =
     let e : LinkEnd = started l.controller.side value in
     let out : frames_out (turned e ts) ≡ [] = blank_out (turned e ts) (blank_turned ts e (clf_blank l.controller.side value clf acts)) in
     record {
       to_controller = ap (λ cs. (put_all (silent l e) cs).to_controller) out;
       to_host = ap (λ cs. (put_all (silent l e) cs).to_host) out;
+      unready = started_unready l value ts GoesOut (clf_lined l.controller.side.role clf);
     }
 
-pub empty_shown : (l : Link) (x : WatchedLink) → AreEmpty l → Shown l x → x.since ≡ false → unwatched x ≡ x
-empty_shown l x e s q =
+pub empty_shown : (l : Link) (x : WatchedLink) → AreEmpty l → Shown l x → x.since ≡ false → x.whole ≡ false → unwatched x ≡ x
+empty_shown l x e s q r =
     let y : Standing = x.stands in
     let wires : with_empty_wires y ≡ y =
     ap (λ w. record y { to_controller = w; to_host = [] }) (sym (s.wires.to_controller ∙ ap frames_on e.to_controller))
     ∙ ap (λ w. record y { to_host = w }) (sym (s.wires.to_host ∙ ap frames_on e.to_host)) in
-    ap (λ z. record { stands = z; since = false }) wires ∙ ap (λ b. record { stands = y; since = b }) (sym q)
+    ap (λ z. record { stands = z; since = false; whole = false }) wires
+    ∙ (ap (λ b. record { stands = y; since = b; whole = false }) (sym q) ∙ ap (λ b. record { stands = y; since = x.since; whole = b }) (sym r))

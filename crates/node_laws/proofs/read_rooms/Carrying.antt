@@ -164,5 +164,5 @@ module _ (t : List Entry) (who : Side) where
             let n : ℕ = number_of c.end in
             let b : List Entry = of_link h (entries_for h c.came) in
             carries_on t h who w c (loses_power writes w)
-            (λ x. note h who n c.end.side b c.late (entry.Cut w.core.node ∷ []) v (refl, tt) (beside h who n c.end.side b c.late w v refl refl refl x));
+            (λ x. note h who n c.end.side b c.late (entry.Cut w.core.node ∷ []) v ((λ k. refl), tt) (beside h who n c.end.side b c.late w v refl refl refl x));
       }

@@ -6,6 +6,7 @@ use Rattle.std.proofs.lemmas.Bool.{true≢false, eqb-true, ne_eqb}
 use Rattle.std.proofs.lemmas.List.Concat.{flat_map-append}
 use Rattle.link_laws.proofs.entries.Lasting.{same_number}
 use Rattle.trace_model.specs.declared.entry.Entry.{Entry}
+use Rattle.trace_model.specs.declared.entry.Entry.TheVariants as entry
 use Rattle.link_laws.specs.machine.Machine.{LinkEnd, Turn, turn, turned}
 use Rattle.link_laws.specs.entries.Entries.{End as Side, Entry as Noted, turn_entry, turn_entries}
 use Rattle.link_laws.specs.entries.Entries.End.{Controller, Host}
@@ -15,22 +16,28 @@ use Rattle.history.specs.Steps.{end_of, entry_of, entries_for}
 use Rattle.node_machine.specs.Parts.{Desk, Port, Work}
 use Rattle.node_machine.specs.Carrying.{own_side, noting, port_at, changed_if, with_port, with_desk, after_turn, noted_of, turn_at, keeps}
 use Rattle.node_laws.proofs.telling.Walks.{AreSilent}
-use Rattle.node_laws.specs.telling.Telling.{is_of, of_link}
+use Rattle.node_laws.specs.telling.Telling.{is_of, tells_of, of_link}
 use Rattle.node_laws.proofs.steps.Ports.{changed_host}
 
 -- ## Entries
 
 pub of-append : (h : ℕ) (a b : List Entry) → of_link h (a ++ b) ≡ of_link h a ++ of_link h b
 of-append h [] b = refl
-of-append h (x ∷ a) b = go (is_of h (said x)) refl (of-append h a b)
+of-append h (x ∷ a) b = go (tells_of h x) refl (of-append h a b)
   where
-    go : (c : Bool) → is_of h (said x) ≡ c → of_link h (a ++ b) ≡ of_link h a ++ of_link h b → of_link h ((x ∷ a) ++ b) ≡ of_link h (x ∷ a) ++ of_link h b
+    go : (c : Bool) → tells_of h x ≡ c → of_link h (a ++ b) ≡ of_link h a ++ of_link h b → of_link h ((x ∷ a) ++ b) ≡ of_link h (x ∷ a) ++ of_link h b
     go true q later = rw q (ap (λ z. x ∷ z) later)
     go false q later = rw q later
 
+-- what tells nothing of it says nothing of it
+pub untold : (h : ℕ) (x : Entry) → tells_of h x ≡ false → is_of h (said x) ≡ false
+untold h (entry.Active e) q = refl
+untold h (entry.GaveUp e tries) q = refl
+untold h x q = q
+
 pub of_silent : (h : ℕ) (t : List Entry) → AreSilent t → of_link h t ≡ []
 of_silent h [] a = refl
-of_silent h (x ∷ t) a = rw a.0 (of_silent h t a.1)
+of_silent h (x ∷ t) a = let none = a.0 h in rw none (of_silent h t a.1)
 
 other_end : (k h : ℕ) (w : Side) → (k == h) ≡ false → ((end_of k w).link == h) ≡ false
 other_end k h Controller q = q
@@ -41,8 +48,8 @@ pub of_other : (k h : ℕ) (t : List Noted) → (k == h) ≡ false → of_link h
 of_other k h [] q = refl
 of_other k h (Up w n ∷ t) q = let z = other_end k h w q in rw z (of_other k h t q)
 of_other k h (Down w cause ∷ t) q = let z = other_end k h w q in rw z (of_other k h t q)
-of_other k h (Active w ∷ t) q = of_other k h t q
-of_other k h (GaveUp w tries ∷ t) q = of_other k h t q
+of_other k h (Active w ∷ t) q = let z = other_end k h w q in rw z (of_other k h t q)
+of_other k h (GaveUp w tries ∷ t) q = let z = other_end k h w q in rw z (of_other k h t q)
 of_other k h (Acked w n count ∷ t) q = let z = other_end k h w q in rw z (of_other k h t q)
 of_other k h (Got w n m ∷ t) q = let z = other_end k h w q in rw z (of_other k h t q)
 of_other k h (Sent w n m ∷ t) q = let z = other_end k h w q in rw z (of_other k h t q)

@@ -1,15 +1,14 @@
 -- What nodes do notes nothing of a link but by what it does to an end.
-use Rattle.std.proofs.Common.{◌≡◌, ℕ, List, refl}
-use Rattle.std.specs.Prelude.{None}
+use Rattle.std.proofs.Common.{◌≡◌, ℕ, false, List, refl}
 use Rattle.std.specs.List.{AllByRecursion, flat_map}
 use Rattle.trace_model.specs.declared.entry.Entry.{Entry}
 use Rattle.trace_model.specs.declared.entry.Entry.TheVariants as entry
-use Rattle.history.specs.Filters.{said}
 use Rattle.link_laws.specs.machine.Machine.{Message}
 use Rattle.node_machine.specs.Parts.{Core, Port, Deed}
 use Rattle.node_machine.specs.Parts.Deed.{Ends}
 use Rattle.node_machine.specs.Turns.{deeds_of}
 use Rattle.node_machine.specs.Node.{NodeInput, forgotten, all_owed, synced}
+use Rattle.node_laws.specs.telling.Telling.{tells_of}
 use Rattle.node_machine.proofs.Walks.{Plain, OfHost, any_of_controller, all_of_host, deeds_hold, forgotten_hold, all_owed_hold, all_synced_hold}
 
 -- what a node notes beside its links, its turns, its boots and its power
@@ -25,16 +24,16 @@ IsPlain (entry.InitFailed e code) = Unit {0}
 IsPlain _ = ⊥
 
 -- it tells of no link
-pub plain_said : (x : Entry) → IsPlain x → said x ≡ None
-plain_said (entry.Held e need spare) p = refl
-plain_said (entry.Ask host message) p = refl
-plain_said (entry.Dropped e pid) p = refl
-plain_said (entry.Command node command) p = refl
-plain_said (entry.AnyOk node count) p = refl
-plain_said (entry.InitSame e) p = refl
-plain_said (entry.InitMade e count) p = refl
-plain_said (entry.InitFailed e code) p = refl
-plain_said x p = absurd p
+pub plain_untold : (x : Entry) → IsPlain x → (h : ℕ) → tells_of h x ≡ false
+plain_untold (entry.Held e need spare) p h = refl
+plain_untold (entry.Ask host message) p h = refl
+plain_untold (entry.Dropped e pid) p h = refl
+plain_untold (entry.Command node command) p h = refl
+plain_untold (entry.AnyOk node count) p h = refl
+plain_untold (entry.InitSame e) p h = refl
+plain_untold (entry.InitMade e count) p h = refl
+plain_untold (entry.InitFailed e code) p h = refl
+plain_untold x p h = absurd p
 
 -- what is noted as an init ends is so
 abbrev pub IsMute : Deed → Type 0

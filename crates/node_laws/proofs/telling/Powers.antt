@@ -20,8 +20,9 @@ use Rattle.node_machine.specs.Carrying.{own_side, noting, port_at, with_desk, no
 use Rattle.node_machine.specs.Node.{NodeInput, input_at, told_at, all_come, with_older, is_late, told_late, times_out, forgotten, forgets, all_owed}
 use Rattle.node_machine.specs.Node.{without_notice, after_sessions, synced, steps, begins_with}
 use Rattle.node_machine.specs.Node.NodeInput.{AtEnd, TimePasses}
-use Rattle.node_laws.specs.telling.Telling.{is_of, of_link}
-use Rattle.node_laws.specs.telling.Standing.{Standing, said_near, said_far, stands_said, after_power, stands_noted, standing, law_noted, standing_by_law}
+use Rattle.node_laws.specs.telling.Telling.{is_of, tells_of, of_link}
+use Rattle.node_laws.specs.telling.Standing.{Standing, said_near, said_far, stands_said, stands_told}
+use Rattle.node_laws.specs.telling.Standing.{after_power, stands_noted, standing, law_noted, standing_by_law}
 use Rattle.node_laws.proofs.telling.Mute.{AreMute, forgotten_mute, all_owed_mute, all_synced_mute}
 use Rattle.node_laws.proofs.steps.Ports.{sessions_node}
 use Rattle.node_laws.proofs.telling.Walks.{AreSilent, IsUncut, AreUncut, all_last, rest_lasts}
@@ -30,29 +31,34 @@ use Rattle.node_laws.proofs.telling.Walks.{AreSilent, IsUncut, AreUncut, all_las
 
 -- how a link stands behind entries, as far as they say something of it
 abbrev pub standing_said : ℕ → Standing → List Entry → Standing
-standing_said h x t = fold (λ y e. stands_said h y (said e)) x t
+standing_said h x t = fold (stands_told h) x t
 
-one_uncut : (h : ℕ) (x : Standing) (e : Entry) → IsUncut e → stands_noted h x e ≡ stands_said h x (said e)
+one_uncut : (h : ℕ) (x : Standing) (e : Entry) → IsUncut e → stands_noted h x e ≡ stands_told h x e
 one_uncut h x (entry.Cut n) u = absurd u
 one_uncut h x e u = refl
 
 pub uncut_said : (h : ℕ) (t : List Entry) → AreUncut t → (x : Standing) → standing h x t ≡ standing_said h x t
 uncut_said h [] u x = refl
-uncut_said h (e ∷ t) u x = ap (λ y. standing h y t) (one_uncut h x e u.0) ∙ uncut_said h t u.1 (stands_said h x (said e))
+uncut_said h (e ∷ t) u x = ap (λ y. standing h y t) (one_uncut h x e u.0) ∙ uncut_said h t u.1 (stands_told h x e)
 
 -- what is said of other links says nothing of this one
-other_said : (h : ℕ) (x : Standing) (o : Option (End × Saying)) → is_of h o ≡ false → stands_said h x o ≡ x
+pub other_said : (h : ℕ) (x : Standing) (o : Option (End × Saying)) → is_of h o ≡ false → stands_said h x o ≡ x
 other_said h x None q = refl
 other_said h x (Some (e, s)) q = rw q refl
 
+other_told : (h : ℕ) (x : Standing) (e : Entry) → tells_of h e ≡ false → stands_told h x e ≡ x
+other_told h x (entry.Active e) q = rw q refl
+other_told h x (entry.GaveUp e tries) q = rw q refl
+other_told h x e q = other_said h x (said e) q
+
 pub said_of_link : (h : ℕ) (t : List Entry) (x : Standing) → standing_said h x t ≡ standing_said h x (of_link h t)
 said_of_link h [] x = refl
-said_of_link h (e ∷ t) x = go (is_of h (said e)) refl (said_of_link h t)
+said_of_link h (e ∷ t) x = go (tells_of h e) refl (said_of_link h t)
   where
-    go : (b : Bool) → is_of h (said e) ≡ b → ((y : Standing) → standing_said h y t ≡ standing_said h y (of_link h t))
+    go : (b : Bool) → tells_of h e ≡ b → ((y : Standing) → standing_said h y t ≡ standing_said h y (of_link h t))
         → standing_said h x (e ∷ t) ≡ standing_said h x (of_link h (e ∷ t))
-    go true q later = rw q (later (stands_said h x (said e)))
-    go false q later = rw q (ap (λ y. standing_said h y t) (other_said h x (said e) q) ∙ later x)
+    go true q later = rw q (later (stands_told h x e))
+    go false q later = rw q (ap (λ y. standing_said h y t) (other_told h x e q) ∙ later x)
 
 -- ## What the law of one link notes
 
@@ -74,7 +80,7 @@ clear_said h [] c x = refl
 clear_said h (n ∷ notes) c x =
     ap (λ y. standing_by_law h y notes) (one_clear h x n c.0)
     ∙ (clear_said h notes c.1 (standing_said h x (entry_of h n))
-    ∙ sym (fold-append (λ y e. stands_said h y (said e)) x (entry_of h n) (entries_for h notes)))
+    ∙ sym (fold-append (stands_told h) x (entry_of h n) (entries_for h notes)))
 
 pub uncut-append : (t u : List Entry) → AreUncut t → AreUncut u → AreUncut (t ++ u)
 uncut-append [] u a b = b
@@ -122,7 +128,7 @@ IsNeutral h t = (x : Standing) → (standing h x t ≡ x) × (standing_said h x 
 
 silent_said : (h : ℕ) (t : List Entry) → AreSilent t → (x : Standing) → standing_said h x t ≡ x
 silent_said h [] s x = refl
-silent_said h (e ∷ t) s x = ap (λ o. standing_said h (stands_said h x o) t) s.0 ∙ silent_said h t s.1 x
+silent_said h (e ∷ t) s x = ap (λ y. standing_said h y t) (other_told h x e (s.0 h)) ∙ silent_said h t s.1 x
 
 silent_neutral : (h : ℕ) (t : List Entry) → AreSilent t → AreUncut t → IsNeutral h t
 silent_neutral h t s u x = (uncut_said h t u x ∙ silent_said h t s x, silent_said h t s x)
@@ -160,7 +166,7 @@ module _ (h n : ℕ) (off : Standing → Standing) (powers : (x : Standing) → 
   more : (es : List Entry) (w v : Work) → IsNeutral h es → v.core.node ≡ w.core.node → v.cut ≡ w.cut → v.entries ≡ w.entries ++ es → Powered w → Powered v
   more es w v z node cut entries a =
       let same : (x : Standing) → standing_said h x v.entries ≡ standing_said h x w.entries = λ x.
-      ap (standing_said h x) entries ∙ (fold-append (λ y e. stands_said h y (said e)) x w.entries es ∙ (z (standing_said h x w.entries)).1) in
+      ap (standing_said h x) entries ∙ (fold-append (stands_told h) x w.entries es ∙ (z (standing_said h x w.entries)).1) in
       record {
         node = node ∙ a.node;
         stands = λ x.
@@ -201,7 +207,7 @@ module _ (h n : ℕ) (off : Standing → Standing) (powers : (x : Standing) → 
             ∙ (powers (standing h x w.entries)
             ∙ (ap off (a.stands x)
             ∙ (gone w.cut (standing_said h x w.entries)
-            ∙ ap off (sym (fold-append (λ y e. stands_said h y (said e)) x w.entries (entry.Cut w.core.node ∷ [])))))));
+            ∙ ap off (sym (fold-append (stands_told h) x w.entries (entry.Cut w.core.node ∷ [])))))));
       }
     where
       gone : (b : Bool) (y : Standing) → off (cond b (off y) y) ≡ off y

@@ -23,13 +23,12 @@ use Rattle.link_laws.specs.entries.Entries.{wire_with, puts_entries, ending_entr
 use Rattle.link_laws.specs.entries.Entries.{tick_entries}
 use Rattle.link_laws.specs.entries.Entries.End.{Controller, Host}
 use Rattle.link_laws.specs.entries.Entries.Entry.{Up, Down, Active, GaveUp, Acked, Got, Took, Lost, Restarted, Cut}
-use Rattle.history.specs.Filters.{said}
 use Rattle.history.specs.Steps.{entry_of, entries_for}
 use Rattle.node_machine.specs.Parts.{Port, Work}
 use Rattle.node_machine.specs.Carrying.{port_at}
 use Rattle.node_machine.specs.world.World.{Site, input_of, ending_of, frames_noted}
 use Rattle.node_laws.specs.telling.Telling.{of_link}
-use Rattle.node_laws.specs.telling.Standing.{Standing, stands_said, without_power, stands_noted, after_power, standing, law_noted, standing_by_law}
+use Rattle.node_laws.specs.telling.Standing.{Standing, stands_told, without_power, stands_noted, after_power, standing, law_noted, standing_by_law}
 use Rattle.node_laws.proofs.telling.Walks.{AreUncut}
 use Rattle.node_laws.proofs.telling.Powers.{standing_said, uncut_said, said_of_link, AreClear, clear_said, uncut_flat, entries_uncut, Powered}
 use Rattle.node_laws.proofs.telling.Parts.{IsStep}
@@ -283,7 +282,7 @@ module _ (h n : ℕ) (who : Side) (powers : (x : Standing) → after_power h n x
           fold-append (stands_noted h) x w.entries frames
           ∙ (ap (λ y. standing h y frames) (a.stands x ∙ ap here q)
           ∙ (uncut_said h frames out.0 (standing_said h x w.entries)
-          ∙ (sym (fold-append (λ y e. stands_said h y (said e)) x w.entries frames)
+          ∙ (sym (fold-append (stands_told h) x w.entries frames)
           ∙ (said_is ∙ sym (law_is false q)))))
       go true q =
           let all : w.entries ++ frames ≡ w.entries = ap (λ z. w.entries ++ z) (out.1 q) ∙ append-nil w.entries in
@@ -305,7 +304,7 @@ step_away h n powers w frames a uncut none x =
     fold-append (stands_noted h) x w.entries frames
     ∙ (ap (λ y. standing h y frames) (a.stands x ∙ same w.cut (standing_said h x w.entries))
     ∙ (uncut_said h frames uncut (standing_said h x w.entries)
-    ∙ (sym (fold-append (λ y e. stands_said h y (said e)) x w.entries frames)
+    ∙ (sym (fold-append (stands_told h) x w.entries frames)
     ∙ (said_of_link h (w.entries ++ frames) x ∙ ap (standing_said h x) none))))
   where
     same : (b : Bool) (y : Standing) → cond b y y ≡ y

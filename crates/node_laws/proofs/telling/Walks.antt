@@ -12,7 +12,6 @@ use Rattle.hci_tables.specs.Bodies.{body_of}
 use Rattle.hci_store.specs.Committing.{commit_writes}
 use Rattle.link_laws.specs.machine.Machine.{Message, Turn}
 use Rattle.link_laws.specs.machine.Machine.Turn.{Give, Hold, FetchMessage, SetAside, Release}
-use Rattle.history.specs.Filters.{said}
 use Rattle.node_machine.specs.Parts.{About, Desk, Work, Deed}
 use Rattle.node_machine.specs.Parts.About.{Waits, Removed}
 use Rattle.node_machine.specs.Parts.Deed.{Commits, Sends, SaysOk, Asks, Releases, Tells, IsAnswered, Drops, SetsErrors, Orders, Hears, GoesOn, Ends}
@@ -21,11 +20,12 @@ use Rattle.node_machine.specs.Turns.{handles, holds_back, lets_go}
 use Rattle.node_machine.specs.Node.{answers_and_passes}
 use Rattle.node_laws.proofs.steps.StepWalks.{got_at, all_do as all_done_so, lets as lets_as, holds as holds_as, Lasts, handled, rest_lasts as rest_as}
 use Rattle.node_machine.proofs.Walks.{anyone}
-use Rattle.node_laws.proofs.telling.Mute.{IsPlain, plain_said, IsMute, AreMute, deeds_mute}
+use Rattle.node_laws.specs.telling.Telling.{tells_of}
+use Rattle.node_laws.proofs.telling.Mute.{IsPlain, plain_untold, IsMute, AreMute, deeds_mute}
 
 -- they tell of no link
 abbrev pub AreSilent : List Entry → Type 0
-AreSilent t = AllByRecursion (λ (x : Entry). said x ≡ None) t
+AreSilent t = AllByRecursion (λ (x : Entry). (h : ℕ) → tells_of h x ≡ false) t
 
 -- they are noted beside links, turns and boots
 abbrev pub ArePlain : List Entry → Type 0
@@ -33,7 +33,7 @@ ArePlain t = AllByRecursion IsPlain t
 
 plain_silent : (t : List Entry) → ArePlain t → AreSilent t
 plain_silent [] a = tt
-plain_silent (x ∷ t) a = (plain_said x a.0, plain_silent t a.1)
+plain_silent (x ∷ t) a = (plain_untold x a.0, plain_silent t a.1)
 
 -- they tell of no loss of power
 abbrev pub IsUncut : Entry → Type 0
@@ -153,7 +153,7 @@ module _ (Of : Work → Type 0)
   all_of_it : Lasts Of IsMute Any
   all_of_it = record {
     does = does Of plainly desk any beside loses;
-    turn_told = λ k m w comes a. note (entry.Turn (end_of_node w.core k) m.0 m.1 ∷ []) w (refl, tt) (tt, tt) a;
+    turn_told = λ k m w comes a. note (entry.Turn (end_of_node w.core k) m.0 m.1 ∷ []) w ((λ h. refl), tt) (tt, tt) a;
     held_told = held_told Of plainly desk any beside loses;
     fetched = λ k w a. turns k FetchMessage w a;
     held = held Of plainly desk any beside loses;
@@ -178,7 +178,7 @@ module _ (Of : Work → Type 0)
   lost : (writes : List Write) (w : Work) → Of w → Of (loses_power writes w)
   lost writes w a =
       let v : Work = record w { writes = w.writes ++ writes; plan = None; cut = true } in
-      note (entry.Cut w.core.node ∷ []) v (refl, tt) (beside w v refl refl refl a)
+      note (entry.Cut w.core.node ∷ []) v ((λ h. refl), tt) (beside w v refl refl refl a)
 
   pub all_do : (k : ℕ) (deeds : List Deed) (w : Work) → AreMute deeds → Of w → Of (all_done k deeds w)
   all_do k deeds w i a =

@@ -16,14 +16,12 @@ use Rattle.node_laws.specs.schedules.Ranges.{AreNodeLinesOf, lines_asking}
 
 -- What a history of nodes must be: messages come in order, quiet links have delivered all, pipes are allowed, commands are kept, a cut ends
 -- its node's part of an event, frames go out of a node behind all else that it does in one, and every message is answered: with what the
--- decision of a node makes of its inputs as they are read off the history (`answered.replied`). Three things in it are no readings of
--- entries. How the other end stood as a line reset an end (active, and not waiting) is asked of the world behind the events before it
--- (`legal.complete.upheld`): in a history of nodes no law ties the entries that tell of it to the machine yet. That a link has settled
--- (`legal.complete.settled`) is said of a run of the link's law that leads to the world behind these events; of a reset for a late notice nothing
--- else tells. And which writes a command or a boot makes is what the bytes say that are read of the memory (`legal.kept`), where `commit_writes`
--- and `start_writes` count them: a command makes two, its record behind a closed gate and then the gate, the first one at place 12 of a bank and
--- each other one behind the last; where its record doesn't fit, two more come before for a snapshot in the other bank, so four, or five where
--- the gate of that bank stood open and is closed first; a boot makes two or none.
+-- decision of a node makes of its inputs as they are read off the history (`answered.replied`). One thing in it is no reading of entries and
+-- causes: that the history stands in the memories (`legal.kept.stands`) is said of those of the world behind the events, since no entry tells
+-- of bytes. Which writes a command or a boot makes is counted over the bytes of the memory that is read, where `commit_writes` and
+-- `boot_writes` say it: a command makes two, its record behind a closed gate and then the gate, the first one at place 12 of a bank and each
+-- other one behind the last; where its record doesn't fit, two more come before for a snapshot in the other bank, so four, or five where the
+-- gate of that bank stood open and is closed first; a boot makes two or none.
 pub record LegalWorld (t : NodeHistory) : Type 0 where
   pub legal : LegalNodes t
   pub ended : CutsEndParts t

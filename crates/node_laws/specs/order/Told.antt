@@ -2,7 +2,8 @@
 use Rattle.std.specs.Prelude.{◌≡◌, ℕ, false, List, [], map, Some}
 use Rattle.trace_model.specs.declared.entry.Entry.{Entry}
 use Rattle.trace_model.specs.declared.line.End.{End}
-use Rattle.link_laws.specs.machine.Machine.{messages_got, whole_among}
+use Rattle.shdlc_core.specs.Machine.{is_waiting}
+use Rattle.link_laws.specs.machine.Machine.{LinkEnd, is_open, messages_got, whole_among}
 use Rattle.swp_lpdu.specs.Controls.{lpdu_of}
 use Rattle.link_laws.specs.sessions.Sessions.{OnWire}
 use Rattle.link_laws.specs.sessions.Losses.{Losses, sans}
@@ -20,7 +21,7 @@ use Rattle.node_machine.specs.world.NodeHistories.{entries_in}
 use Rattle.node_machine.specs.world.NodeFilters.{session_now}
 use Rattle.node_laws.specs.links.Runs.{IsRunOf, new_line}
 use Rattle.node_laws.specs.telling.Telling.{of_link}
-use Rattle.node_laws.specs.telling.Standing.{Standing, new_standing, standing, standing_behind, standing_by_law}
+use Rattle.node_laws.specs.telling.Standing.{Readiness, Standing, new_standing, standing, standing_behind, standing_by_law}
 
 -- Some events of the law of one link, each of which may happen, make the link with this host of a new one, what these entries tell
 -- of it is what that law notes of them, and so they tell how it stands, with all cuts of the power of its nodes: from the beginning on, and
@@ -46,6 +47,15 @@ frames_on w = map (λ (x : OnWire). lpdu_of x.frame) w
 pub record AreWiresRead (events : List Occurrence) (h : ℕ) (l : Link) : Type 0 where
   pub to_controller : (standing_behind h events).to_controller ≡ frames_on l.to_controller
   pub to_host : (standing_behind h events).to_host ≡ frames_on l.to_host
+
+-- of an end, whether activation of it is done, and whether it waits for the answer to a reset
+abbrev pub readiness_of : LinkEnd → Readiness
+readiness_of e = record { active = is_open e.role; waits = is_waiting e.shdlc }
+
+-- It is so with both ends of the link with this host, as it is read off these events.
+pub record AreEndsRead (events : List Occurrence) (h : ℕ) (l : Link) : Type 0 where
+  pub controller : (standing_behind h events).near ≡ readiness_of l.controller.side
+  pub host : (standing_behind h events).far ≡ readiness_of l.host.side
 
 -- what an end has of a session is what is read off these entries: the messages sent and got, and how many are acknowledged whole
 pub record IsReadOff (t : List Entry) (e : End) (n : ℕ) (talk : Talk) : Type 0 where

@@ -3,6 +3,7 @@ use Rattle.std.specs.Prelude.{◌+◌, nat_le, ◌≡◌, ℕ, ◌==◌, Bool, t
 use Rattle.std.specs.List.{filter, find, AllByRecursion}
 use Rattle.std.specs.Option.{option_map_or}
 use Rattle.trace_model.specs.declared.entry.Entry.{Entry}
+use Rattle.trace_model.specs.declared.entry.Entry.TheVariants as entry
 use Rattle.trace_model.specs.declared.line.End.{End}
 use Rattle.trace_model.specs.declared.line.Line.{Line}
 use Rattle.trace_model.specs.declared.line.Line.TheVariants.{Tick}
@@ -25,9 +26,16 @@ abbrev pub is_of : ℕ → Option (End × Saying) → Bool
 is_of h None = false
 is_of h (Some (e, saying)) = e.link == h
 
--- the entries that say something of it: sessions that begin or end, messages sent, got or counted, frames put, taken or lost
+-- an entry tells of it: it says something of it, or that activation of one of its ends is done, or that one gave up
+abbrev pub tells_of : ℕ → Entry → Bool
+tells_of h (entry.Active e) = e.link == h
+tells_of h (entry.GaveUp e tries) = e.link == h
+tells_of h x = is_of h (said x)
+
+-- the entries that do: sessions that begin or end, messages sent, got or counted, frames put, taken or lost, activation that is done, and
+-- resets or activation given up
 abbrev pub of_link : ℕ → List Entry → List Entry
-of_link h t = filter (λ x. is_of h (said x)) t
+of_link h t = filter (tells_of h) t
 
 -- what these entries tell of the link with this host is what the law of one link notes of an event there
 abbrev pub TellOf : ℕ → Link → LinkEvent → List Entry → Type 0

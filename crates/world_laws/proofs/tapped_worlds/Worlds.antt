@@ -15,7 +15,8 @@ use Rattle.node_machine.specs.world.World.{new_world}
 use Rattle.node_machine.specs.world.Lines.{Occurrence}
 use Rattle.node_machine.specs.world.NodeHistories.{FollowsNodes, NodeHistory, entries_in, occurrences_in}
 use Rattle.node_laws.specs.kept.Hosts.{AreHosts}
-use Rattle.node_laws.specs.telling.Telling.{is_of, of_link, world_behind}
+use Rattle.node_laws.specs.telling.Telling.{is_of, tells_of, of_link, world_behind}
+use Rattle.node_laws.proofs.telling.Accounts.{untold}
 use Rattle.node_laws.specs.links.Runs.{ArePlayable, new_line}
 use Rattle.node_laws.specs.order.Resets.{cuts_on}
 use Rattle.node_laws.specs.order.Told.{IsLinkTold}
@@ -59,14 +60,14 @@ module _ (h : ℕ) where
   of_link_alone : {X : Type 0} (f : Option (End × Saying) → Option X) → ((o : Option (End × Saying)) → is_of h o ≡ false → f o ≡ None) → (t : List Entry)
       → filter_map (λ x. f (said x)) t ≡ filter_map (λ x. f (said x)) (of_link h t)
   of_link_alone f none [] = refl
-  of_link_alone {X} f none (x ∷ t) = go (is_of h (said x)) refl (of_link_alone f none t)
+  of_link_alone {X} f none (x ∷ t) = go (tells_of h x) refl (of_link_alone f none t)
     where
       Goal : Type 0
       Goal = filter_map (λ y. f (said y)) (x ∷ t) ≡ filter_map (λ y. f (said y)) (of_link h (x ∷ t))
 
-      go : (b : Bool) → is_of h (said x) ≡ b → filter_map (λ y. f (said y)) t ≡ filter_map (λ y. f (said y)) (of_link h t) → Goal
+      go : (b : Bool) → tells_of h x ≡ b → filter_map (λ y. f (said y)) t ≡ filter_map (λ y. f (said y)) (of_link h t) → Goal
       go true r later = rw r (ap (cons_option (f (said x))) later)
-      go false r later = rw r (ap (λ o. cons_option o (filter_map (λ y. f (said y)) t)) (none (said x) r) ∙ later)
+      go false r later = rw r (ap (λ o. cons_option o (filter_map (λ y. f (said y)) t)) (none (said x) (untold h x r)) ∙ later)
 
   lpdus_alone : (t : List Entry) → lpdus_on h t ≡ lpdus_on h (of_link h t)
   lpdus_alone t = of_link_alone (put_on h) put_none t

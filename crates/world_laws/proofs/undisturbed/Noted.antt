@@ -14,7 +14,8 @@ use Rattle.history.specs.Filters.Saying.{Begins, Ends, Sends, Gets, Counts, Puts
 use Rattle.history.specs.Legal.{has_lost, loses_on}
 use Rattle.history.specs.Steps.{end_of, entries_for}
 use Rattle.history.proofs.legal.Reading.{link_same}
-use Rattle.node_laws.specs.telling.Telling.{of_link, is_of, TellOf}
+use Rattle.node_laws.specs.telling.Telling.{of_link, is_of, tells_of, TellOf}
+use Rattle.node_laws.proofs.telling.Accounts.{untold}
 use Rattle.node_laws.specs.telling.Standing.{Standing, standing, standing_by_law, StandsOf}
 use Rattle.node_laws.specs.order.Resets.{cuts_on}
 use Rattle.node_laws.proofs.order.Watches.{AreUnstarted, is_cut, no_cut}
@@ -71,12 +72,12 @@ loses_off h (Some (e, Takes f)) q = refl
 module _ (h : ℕ) (f : Option (End × Saying) → Bool) (off : (o : Option (End × Saying)) → is_of h o ≡ false → f o ≡ false) where
   any_of : (t : List Entry) → list_any (λ x. f (said x)) t ≡ list_any (λ x. f (said x)) (of_link h t)
   any_of [] = refl
-  any_of (x ∷ t) = go (is_of h (said x)) refl (any_of t)
+  any_of (x ∷ t) = go (tells_of h x) refl (any_of t)
     where
-      go : (b : Bool) → is_of h (said x) ≡ b → list_any (λ x. f (said x)) t ≡ list_any (λ x. f (said x)) (of_link h t)
+      go : (b : Bool) → tells_of h x ≡ b → list_any (λ x. f (said x)) t ≡ list_any (λ x. f (said x)) (of_link h t)
           → list_any (λ x. f (said x)) (x ∷ t) ≡ list_any (λ x. f (said x)) (of_link h (x ∷ t))
       go true p later = rw p (ap (λ b. f (said x) || b) later)
-      go false p later = let z = off (said x) p in rw (p, z) later
+      go false p later = let z = off (said x) (untold h x p) in rw (p, z) later
 
   -- entries that tell the same of the link
   same_of : (t u : List Entry) → of_link h t ≡ of_link h u → list_any (λ x. f (said x)) t ≡ list_any (λ x. f (said x)) u

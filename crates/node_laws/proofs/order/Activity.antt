@@ -1,0 +1,585 @@
+-- What is noted of a link says at which of its ends activation is done.
+use Rattle.std.proofs.Common.{◌≡◌, ℕ, Bool, true, false, List, [], ◌∷◌, ◌++◌, map, Option, Some, None, refl, ap, sym, subst, ◌∙◌}
+use Rattle.std.specs.Prelude.{◌+◌, is_some, nat_lt, nat_le, option_to_list, if◌then◌else◌}
+use Rattle.std.specs.List.{AllByRecursion, fold}
+use Rattle.std.proofs.lemmas.Bool.{true≢false}
+use Rattle.std.proofs.lemmas.List.Sums.{fold-append}
+use Rattle.swp_base.specs.declared.control_frames.Act.{Act as Activation}
+use Rattle.swp_base.specs.declared.control_frames.Act.TheVariants.{Ready, SyncId, PowerMode}
+use Rattle.swp_base.specs.declared.control_frames.Control.{Control}
+use Rattle.swp_base.specs.declared.control_frames.Control.TheVariants.{I, S, Rset, Ua, Act, Clt}
+use Rattle.swp_act.specs.declared.ActEvent.{ActEvent}
+use Rattle.swp_act.specs.declared.ActEvent.TheVariants.{Start as ActStart, Take as ActTake, Tick as ActTick, Stop as ActStop}
+use Rattle.swp_act.specs.declared.ActOut.{ActOut}
+use Rattle.swp_act.specs.declared.uicc.UiccAct.{UiccAct}
+use Rattle.swp_act.specs.Activation.{is_active, no_act_out, sends, uicc_step}
+use Rattle.swp_act.specs.declared.Phase.{Phase}
+use Rattle.swp_act.specs.declared.Phase.TheVariants.{Inactive, Awaiting, Active as IsActive}
+use Rattle.shdlc_core.specs.Machine.{ticked, tick_answer, stopped}
+use Rattle.link_laws.specs.sessions.Sessions.{OnWire, took_with}
+use Rattle.link_laws.specs.machine.Machine.{LinkEnd, Role, LinkInput, Turn, Report}
+use Rattle.link_laws.specs.machine.Machine.{report, turned, took, heard, after_input}
+use Rattle.link_laws.specs.machine.Machine.{ended_by, whole_acked, frames_out, is_open, moved, activated, role_after, act_answer, renewed, act_event, act_out}
+use Rattle.link_laws.specs.machine.Machine.Role.{Bare, Clf, Uicc}
+use Rattle.link_laws.specs.machine.Machine.LinkInput.{Take, Tick as HasTick, Reset, Start, Stop}
+use Rattle.link_laws.specs.messages.Links.{NumberedEnd, Link, Ending, Node, EndEvent, LinkEvent, exchanged, aged, number_of, silent, finished}
+use Rattle.link_laws.specs.messages.Links.{with_ended, has_taken, happens_at_controller, all_at_controller, ticks_at_controller, happens, after_link_events}
+use Rattle.link_laws.specs.messages.Links.{IsOwn, AreOwn, IsEvent, AllAllowed}
+use Rattle.link_laws.specs.messages.Links.Ending.{GoesOut, CutOff}
+use Rattle.link_laws.specs.messages.Links.Comes.{NextFrame, AsksReset, Starts, Stops, NoInput}
+use Rattle.link_laws.specs.messages.Links.EndEvent.{Step, Lose}
+use Rattle.link_laws.specs.messages.Links.LinkEvent.{AtController, AtHost, Ticks, TicksWithout, Activate}
+use Rattle.link_laws.specs.messages.Links.IsStart.{IsLine}
+use Rattle.link_laws.proofs.messages.ActsInOrder.{ActsInOrder, LinkInOrder, ended_means}
+use Rattle.link_laws.proofs.messages.Project.{turned_role}
+use Rattle.link_laws.proofs.messages.Steps.{activated_role}
+use Rattle.link_laws.proofs.messages.Finishing.{tick_open}
+use Rattle.link_laws.specs.entries.Entries.{End, Entry as Noted, far, if_so, told, told_of, turn_entries, first_lost}
+use Rattle.link_laws.specs.entries.Entries.{puts_entries, rest_entries, input_entries, restart_entries, step_entries, here_entries, tick_entries}
+use Rattle.link_laws.specs.entries.Entries.{left_after, taken_entries, aged_entries, entries_of_events, event_entries, entries}
+use Rattle.link_laws.specs.entries.Entries.End.{Controller, Host}
+use Rattle.link_laws.specs.entries.Entries.Entry.{Up, Down, Active, GaveUp, Acked, Got, Tick, Restarted, Cut}
+use Rattle.link_laws.specs.entries.Filters.{same_link_end}
+use Rattle.link_laws.proofs.entries.Books.{same_self, same_far}
+use Rattle.link_laws.proofs.entries.Noting.{reset_role}
+use Rattle.link_laws.proofs.entries.Settling.{heard_role}
+use Rattle.link_laws.proofs.entries.Running.{Sounds, before_here, before_there, IsUnderWay, goes_on, start_under_way}
+use Rattle.link_laws.proofs.entries.Together.{ticks_host}
+use Rattle.node_laws.specs.links.Runs.{new_line}
+use Rattle.node_laws.proofs.order.Listing.{Holds, are-append, are_so, are_mapped, are_last, are_turns, are_lost, are_puts, are_aged}
+use Rattle.node_laws.proofs.links.Ends.{here_is, tick_is, here_host, role_input}
+
+-- ## What is read
+
+-- whether activation of an end is done, after one more note: it is, until activation begins or ends there, or its node loses power
+abbrev pub acting : End → Bool → Noted → Bool
+acting who b (Active w) = if same_link_end w who then true else b
+acting who b (Restarted w) = if same_link_end w who then false else b
+acting who b (Cut w) = if same_link_end w who then false else b
+acting who b _ = b
+
+-- after these notes, one after another
+abbrev pub all_acting : End → Bool → List Noted → Bool
+all_acting who b t = fold (acting who) b t
+
+-- it is done
+abbrev pub acts : NumberedEnd → Bool
+acts h = is_open h.side.role
+
+pub acting-append : (who : End) (b : Bool) (t u : List Noted) → all_acting who b (t ++ u) ≡ all_acting who (all_acting who b t) u
+acting-append who b t u = fold-append (acting who) b t u
+
+-- a note that says nothing of it
+abbrev IsDull : Noted → Type 0
+IsDull (Active w) = ⊥
+IsDull (Restarted w) = ⊥
+IsDull (Cut w) = ⊥
+IsDull _ = Unit {0}
+
+abbrev AreDull : List Noted → Type 0
+AreDull t = AllByRecursion IsDull t
+
+dull_passes : (who : End) (t : List Noted) → AreDull t → (b : Bool) → all_acting who b t ≡ b
+dull_passes who [] a b = refl
+dull_passes who (Active w ∷ t) a b = absurd a.0
+dull_passes who (Restarted w ∷ t) a b = absurd a.0
+dull_passes who (Cut w ∷ t) a b = absurd a.0
+dull_passes who (_ ∷ t) a b = dull_passes who t a.1 b
+
+dull_holds : (who : End) → Holds IsDull who
+dull_holds who = record {
+  up = λ n. tt;
+  gave_up = λ tries. tt;
+  acked = λ n count. tt;
+  got = λ n m. tt;
+  sent = λ n m. tt;
+  emit = λ c. tt;
+  lost = λ w c why. tt;
+}
+
+-- ## What is told of an input
+
+-- what activation makes of it
+abbrev if_became : Bool → Bool → Bool
+if_became became b = if became then true else b
+
+became_so : (who : End) (c b : Bool) → all_acting who b (if_so c (Active who)) ≡ if_became c b
+became_so who false b = refl
+became_so who true b = let q = same_self who in rw q refl
+
+became_far : (who : End) (c b : Bool) → all_acting (far who) b (if_so c (Active who)) ≡ b
+became_far who false b = refl
+became_far who true b = let q = same_far who in rw q refl
+
+told_parts : (w who : End) (n : ℕ) (r : Report) (acked : ℕ) (b : Bool)
+    → all_acting w b (told who n r acked) ≡ all_acting w b (if_so r.became_active (Active who))
+told_parts w who n r acked b =
+    let active : List Noted = if_so r.became_active (Active who) in
+    let last : List Noted =
+    map (GaveUp who) (option_to_list r.gave_up) ++ (if_so (nat_lt 0 r.acked) (Acked who n acked) ++ map (Got who n) r.got) in
+    acting-append w b (map (Down who) (option_to_list r.ended)) (if_so r.began (Up who n) ++ (active ++ last))
+    ∙ (ap (λ z. all_acting w z (if_so r.began (Up who n) ++ (active ++ last)))
+    (dull_passes w (map (Down who) (option_to_list r.ended)) (are_mapped IsDull who (dull_holds who) (Down who) (option_to_list r.ended) (λ x. tt)) b)
+    ∙ (acting-append w b (if_so r.began (Up who n)) (active ++ last)
+    ∙ (ap (λ z. all_acting w z (active ++ last)) (dull_passes w (if_so r.began (Up who n)) (are_so IsDull who (dull_holds who) r.began (Up who n) tt) b)
+    ∙ (acting-append w b active last ∙ dull_passes w last (are_last IsDull who (dull_holds who) n r acked) (all_acting w b active)))))
+
+-- ## Roles
+
+-- an end with this role isn't active once its node has lost power
+abbrev pub IsLined : Role → Type 0
+IsLined r = is_open (renewed r) ≡ false
+
+pub lined_acts : (r : Role) (event : ActEvent) → IsLined r → IsLined (role_after r event)
+lined_acts Bare event a = a
+lined_acts (Clf s) event a = refl
+lined_acts (Uicc s) event a = refl
+
+lined_renewed : (r : Role) → IsLined r → IsLined (renewed r)
+lined_renewed Bare a = a
+lined_renewed (Clf s) a = refl
+lined_renewed (Uicc s) a = refl
+
+abbrev HasLine : LinkEnd → Type 0
+HasLine e = IsLined e.role
+
+pub lined_input : (e : LinkEnd) (i : LinkInput) → HasLine e → HasLine (after_input e i)
+lined_input e i a = role_input IsLined lined_acts e i a
+
+lined_turns : (e : LinkEnd) (ts : List Turn) → HasLine e → HasLine (turned e ts)
+lined_turns e ts a = subst IsLined (sym (turned_role e ts)) a
+
+lined_here : (l : Link) (x : EndEvent) → HasLine l.controller.side → HasLine (happens_at_controller l x).controller.side
+lined_here l x a = here_is HasLine lined_input lined_turns (λ e b. b) (λ e b. lined_renewed e.role b) l x a
+
+lined_tick : (l : Link) (ts : List Turn) (ending : Ending) → HasLine l.controller.side → HasLine (ticks_at_controller l ts ending).controller.side
+lined_tick l ts ending a = tick_is HasLine lined_input lined_turns (λ e b. b) (λ e b. lined_renewed e.role b) l ts ending a
+
+-- what an input tells of activation is what it makes of the end
+abbrev BecomesSo : LinkEnd → LinkInput → Bool → Type 0
+BecomesSo e i b = if_became (report e i).became_active b ≡ is_open (after_input e i).role
+
+tick_shut : (r : Role) → is_open r ≡ false → ((act_answer r ActTick).became_active ≡ false) × (is_open (role_after r ActTick) ≡ false)
+tick_shut Bare q = absurd (true≢false q)
+tick_shut (Clf s) q = go s.phase refl
+  where
+    go : (p : Phase) → s.phase ≡ p → ((act_answer (Clf s) ActTick).became_active ≡ false) × (is_open (role_after (Clf s) ActTick) ≡ false)
+    go Inactive p = (rw p refl, rw p refl)
+    go IsActive p = absurd (true≢false (let z = q in rw p at z))
+    go (Awaiting tries ticks) p = by (nat_le 10 (ticks + 1)) (nat_le 3 tries) refl refl
+      where
+        by : (a b : Bool) → nat_le 10 (ticks + 1) ≡ a → nat_le 3 tries ≡ b
+            → ((act_answer (Clf s) ActTick).became_active ≡ false) × (is_open (role_after (Clf s) ActTick) ≡ false)
+        by true true x y = (rw (p, x, y) refl, rw (p, x, y) refl)
+        by true false x y = (rw (p, x, y) refl, rw (p, x, y) refl)
+        by false b x y = (rw (p, x) refl, rw (p, x) refl)
+tick_shut (Uicc s) q = go s.phase refl
+  where
+    go : (p : Phase) → s.phase ≡ p → ((act_answer (Uicc s) ActTick).became_active ≡ false) × (is_open (role_after (Uicc s) ActTick) ≡ false)
+    go Inactive p = (rw p refl, rw p refl)
+    go IsActive p = absurd (true≢false (let z = q in rw p at z))
+    go (Awaiting tries ticks) p = by (nat_le 10 (ticks + 1)) (nat_le 3 tries) refl refl
+      where
+        by : (a b : Bool) → nat_le 10 (ticks + 1) ≡ a → nat_le 3 tries ≡ b
+            → ((act_answer (Uicc s) ActTick).became_active ≡ false) × (is_open (role_after (Uicc s) ActTick) ≡ false)
+        by true true x y = (rw (p, x, y) refl, rw (p, x, y) refl)
+        by true false x y = (rw (p, x, y) refl, rw (p, x, y) refl)
+        by false b x y = (rw (p, x) refl, rw (p, x) refl)
+
+ticks_so : (e : LinkEnd) → BecomesSo e HasTick (is_open e.role)
+ticks_so e = go (is_open e.role) refl
+  where
+    go : (o : Bool) → is_open e.role ≡ o → BecomesSo e HasTick (is_open e.role)
+    go true o =
+        let none : (report e HasTick).became_active ≡ false = rw o refl in
+        let role : (after_input e HasTick).role ≡ e.role =
+        ap (λ (f : LinkEnd). f.role) (tick_open e o).0 ∙ moved_same e (is_some (tick_answer e.shdlc).ended) in
+        ap (λ c. if_became c (is_open e.role)) none ∙ sym (ap is_open role)
+      where
+        moved_same : (e : LinkEnd) (b : Bool) → (moved e b (ticked e.shdlc)).role ≡ e.role
+        moved_same e true = refl
+        moved_same e false = refl
+    go false o =
+        let shut = tick_shut e.role o in
+        let event : act_event e HasTick ≡ Some ActTick = rw o refl in
+        let none : (report e HasTick).became_active ≡ false = ap (λ x. (act_out e.role x).became_active) event ∙ shut.0 in
+        let is : after_input e HasTick ≡ activated e ActTick = rw o refl in
+        let role : (after_input e HasTick).role ≡ role_after e.role ActTick = ap (λ (f : LinkEnd). f.role) is ∙ activated_role e ActTick in
+        ap (λ c. if_became c (is_open e.role)) none ∙ (o ∙ sym (ap is_open role ∙ shut.1))
+
+resets_so : (e : LinkEnd) (window : Option ℕ) → BecomesSo e (Reset window) (is_open e.role)
+resets_so e window = sym (ap is_open (reset_role e window))
+
+-- activation that begins or ends leaves the end inactive
+starts_so : (e : LinkEnd) (value : ℕ) → HasLine e → BecomesSo e (Start value) false
+starts_so e value a = go e.role refl a
+  where
+    role : (after_input e (Start value)).role ≡ role_after e.role (ActStart value)
+    role = activated_role (moved e true (stopped e.shdlc)) (ActStart value)
+
+    go : (r : Role) → e.role ≡ r → IsLined r → BecomesSo e (Start value) false
+    go Bare q z = absurd (true≢false z)
+    go (Clf s) q z =
+        ap (λ x. if_became (act_answer x (ActStart value)).became_active false) q ∙ sym (ap is_open role ∙ ap (λ x. is_open (role_after x (ActStart value))) q)
+    go (Uicc s) q z =
+        ap (λ x. if_became (act_answer x (ActStart value)).became_active false) q ∙ sym (ap is_open role ∙ ap (λ x. is_open (role_after x (ActStart value))) q)
+
+stops_so : (e : LinkEnd) → HasLine e → BecomesSo e Stop false
+stops_so e a = go e.role refl a
+  where
+    role : (after_input e Stop).role ≡ role_after e.role ActStop
+    role = activated_role (moved e true (stopped e.shdlc)) ActStop
+
+    go : (r : Role) → e.role ≡ r → IsLined r → BecomesSo e Stop false
+    go Bare q z = absurd (true≢false z)
+    go (Clf s) q z = ap (λ x. if_became (act_answer x ActStop).became_active false) q ∙ sym (ap is_open role ∙ ap (λ x. is_open (role_after x ActStop)) q)
+    go (Uicc s) q z = ap (λ x. if_became (act_answer x ActStop).became_active false) q ∙ sym (ap is_open role ∙ ap (λ x. is_open (role_after x ActStop)) q)
+
+-- a frame of activation
+act_so : (r f : Role) (x : OnWire) (w v : List OnWire) (act : Activation) (again : Bool) → x.frame ≡ Act act again → ActsInOrder r f (x ∷ w) v
+    → if_became (act_answer r (ActTake act again)).became_active (is_open r) ≡ is_open (role_after r (ActTake act again))
+act_so Bare f x w v act again q h = refl
+act_so (Clf s) f x w v act true q h = refl
+act_so (Clf s) f x w v (PowerMode code) false q h = refl
+act_so (Clf s) f x w v (SyncId id) false q h = go s.phase refl
+  where
+    ended : s.phase ≡ IsActive → (act_answer (Clf s) (ActTake (SyncId id) false)).ended_link ≡ true
+    ended p = rw p refl
+
+    go : (p : Phase) → s.phase ≡ p
+        → if_became (act_answer (Clf s) (ActTake (SyncId id) false)).became_active (is_open (Clf s)) ≡ is_open (role_after (Clf s) (ActTake (SyncId id) false))
+    go Inactive p = rw p refl
+    go (Awaiting tries ticks) p = rw p refl
+    go IsActive p = absurd (true≢false (let z = ended_means (Clf s) f x w v (SyncId id) false q h (ended p) in sym (ap is_active p) ∙ z))
+act_so (Clf s) f x w v Ready false q h = go s.phase refl
+  where
+    go : (p : Phase) → s.phase ≡ p
+        → if_became (act_answer (Clf s) (ActTake Ready false)).became_active (is_open (Clf s)) ≡ is_open (role_after (Clf s) (ActTake Ready false))
+    go Inactive p = rw p refl
+    go (Awaiting tries ticks) p = rw p refl
+    go IsActive p = rw p refl
+act_so (Uicc s) f x w v act true q h = refl
+act_so (Uicc s) f x w v Ready false q h = refl
+act_so (Uicc s) f x w v (SyncId id) false q h = refl
+act_so (Uicc s) f x w v (PowerMode code) false q h = go s.phase (nat_le code 1) refl refl
+  where
+    step : UiccAct × ActOut
+    step = uicc_step s (ActTake (PowerMode code) false)
+
+    P : UiccAct × ActOut → Type 0
+    P z = if_became z.1.became_active (is_active s.phase) ≡ is_active z.0.phase
+
+    go : (p : Phase) (b : Bool) → s.phase ≡ p → nat_le code 1 ≡ b → P step
+    go p false a c = let is : step ≡ (s, no_act_out) = rw c refl in subst P (sym is) refl
+    go Inactive true a c = let is : step ≡ (s, no_act_out) = rw (c, a) refl in subst P (sym is) refl
+    go (Awaiting tries ticks) true a c =
+        let is : step ≡ (
+          record { phase = IsActive; last = Some Ready },
+          record { send = Some Ready; became_active = true; ended_link = false; sync = None; gave_up = None },
+        ) = rw (c, a) refl in subst P (sym is) refl
+    go IsActive true a c =
+        let is : step ≡ (record { phase = IsActive; last = Some Ready }, sends (Some Ready)) = rw (c, a) refl in subst P (sym is) (ap is_active a)
+
+takes_so : (e : LinkEnd) (f : Role) (x : OnWire) (w v : List OnWire) → ActsInOrder e.role f (x ∷ w) v → BecomesSo e (Take x.frame) (is_open e.role)
+takes_so e f x w v h = go x.frame refl
+  where
+    Q : Control → Type 0
+    Q c = BecomesSo e (Take c) (is_open e.role)
+
+    -- a frame of SHDLC
+    open_or_not : (b : Bool) (c : Control) → is_open e.role ≡ is_open (if b then heard e c else e).role
+    open_or_not true c = sym (ap is_open (heard_role e c))
+    open_or_not false c = refl
+
+    go : (c : Control) → x.frame ≡ c → Q x.frame
+    go (Act act again) q =
+        subst Q (sym q) (act_so e.role f x w v act again q h ∙ sym (ap is_open (activated_role e (ActTake act again))))
+    go Clt q = subst Q (sym q) refl
+    go (I ns nr info) q = subst Q (sym q) (open_or_not (is_open e.role) (I ns nr info))
+    go (S kind nr) q = subst Q (sym q) (open_or_not (is_open e.role) (S kind nr))
+    go (Rset window caps) q = subst Q (sym q) (open_or_not (is_open e.role) (Rset window caps))
+    go Ua q = subst Q (sym q) (open_or_not (is_open e.role) Ua)
+
+-- ## A step of an end
+
+-- a step tells whether activation of its end is done, and nothing of the other end
+pub record Acted (who : End) (l m : Link) (u : List Noted) : Type 0 where
+  pub here : all_acting who (acts l.controller) u ≡ acts m.controller
+  pub there : (b : Bool) → all_acting (far who) b u ≡ b
+
+-- turns, and frames that go out
+dull_rest : (who : End) (k : Link) (f : LinkEnd) (ts : List Turn) → AreDull (rest_entries who k f ts GoesOut)
+dull_rest who k f ts =
+    are-append IsDull who (dull_holds who) (turn_entries who (number_of k.controller) f ts) (puts_entries who k (frames_out (turned f ts)))
+    (are_turns IsDull who (dull_holds who) (number_of k.controller) f ts) (are_puts IsDull who (dull_holds who) (frames_out (turned f ts)) k)
+
+-- how it ends
+rest_acted : (who : End) (k : Link) (f : LinkEnd) (ts : List Turn) (ending : Ending) (b : Bool) → b ≡ is_open f.role → HasLine f
+    → all_acting who b (rest_entries who k f ts ending) ≡ acts (finished k (turned f ts) ending).controller
+rest_acted who k f ts GoesOut b q a =
+    dull_passes who (rest_entries who k f ts GoesOut)
+    (dull_rest who k f ts) b
+    ∙ (q ∙ sym (ap is_open (turned_role f ts)))
+rest_acted who k f ts CutOff b q a =
+    let last : (c : Bool) → all_acting who c (Cut who ∷ []) ≡ false = λ c. let q = same_self who in rw q refl in
+    acting-append who b (turn_entries who (number_of k.controller) f ts) (Cut who ∷ [])
+    ∙ (last (all_acting who b (turn_entries who (number_of k.controller) f ts)) ∙ sym (lined_turns f ts a))
+
+rest_beside : (who : End) (k : Link) (f : LinkEnd) (ts : List Turn) (ending : Ending) (b : Bool) → all_acting (far who) b (rest_entries who k f ts ending) ≡ b
+rest_beside who k f ts GoesOut b =
+    dull_passes (far who) (rest_entries who k f ts GoesOut)
+    (dull_rest who k f ts) b
+rest_beside who k f ts CutOff b =
+    let last : (c : Bool) → all_acting (far who) c (Cut who ∷ []) ≡ c = λ c. let q = same_far who in rw q refl in
+    acting-append (far who) b (turn_entries who (number_of k.controller) f ts) (Cut who ∷ [])
+    ∙ (last (all_acting (far who) b (turn_entries who (number_of k.controller) f ts))
+    ∙ dull_passes (far who) (turn_entries who (number_of k.controller) f ts) (are_turns IsDull who (dull_holds who) (number_of k.controller) f ts) b)
+
+module _ (who : End) (l k : Link) (number : ℕ) (i : LinkInput) (ts : List Turn) (ending : Ending) where
+  abbrev noted : List Noted
+  noted = told_of who (record l.controller { took = number }) i ++ rest_entries who k (after_input l.controller.side i) ts ending
+
+  input_acted : (b : Bool) → BecomesSo l.controller.side i b → HasLine l.controller.side
+      → all_acting who b noted ≡ acts (finished k (turned (after_input l.controller.side i) ts) ending).controller
+  input_acted b so a =
+      let e : LinkEnd = l.controller.side in
+      let n : ℕ = number_of (record l.controller { took = number }) in
+      let first : List Noted = told who n (report e i) (whole_acked (after_input e i)) in
+      acting-append who b first (rest_entries who k (after_input e i) ts ending)
+      ∙ (ap (λ z. all_acting who z (rest_entries who k (after_input e i) ts ending))
+      (told_parts who who n (report e i) (whole_acked (after_input e i)) b ∙ became_so who (report e i).became_active b)
+      ∙ rest_acted who k (after_input e i) ts ending (if_became (report e i).became_active b) so (lined_input e i a))
+
+  input_beside : (b : Bool) → all_acting (far who) b noted ≡ b
+  input_beside b =
+      let e : LinkEnd = l.controller.side in
+      let n : ℕ = number_of (record l.controller { took = number }) in
+      let first : List Noted = told who n (report e i) (whole_acked (after_input e i)) in
+      acting-append (far who) b first (rest_entries who k (after_input e i) ts ending)
+      ∙ (ap (λ z. all_acting (far who) z (rest_entries who k (after_input e i) ts ending))
+      (told_parts (far who) who n (report e i) (whole_acked (after_input e i)) b ∙ became_far who (report e i).became_active b)
+      ∙ rest_beside who k (after_input e i) ts ending b)
+
+-- an input of its own
+own_input : (who : End) (l : Link) (i : LinkInput) (ts : List Turn) (ending : Ending) → BecomesSo l.controller.side i (acts l.controller)
+    → HasLine l.controller.side
+    → Acted who l (finished (with_ended l (is_some (ended_by l.controller.side i))) (turned (after_input l.controller.side i) ts) ending)
+    (input_entries who l i ts ending)
+own_input who l i ts ending so a =
+    let k : Link = with_ended l (is_some (ended_by l.controller.side i)) in
+    record {
+      here = input_acted who l k l.controller.took i ts ending (acts l.controller) so a;
+      there = input_beside who l k l.controller.took i ts ending;
+    }
+
+tick_acted : (who : End) (l : Link) (node : Node) → HasLine l.controller.side
+    → Acted who l (ticks_at_controller l node.turns node.ending) (tick_entries who l node)
+tick_acted who l node a = own_input who l HasTick node.turns node.ending (ticks_so l.controller.side) a
+
+-- activation begins or ends
+restart_acted : (who : End) (l : Link) (i : LinkInput) (ts : List Turn) (ending : Ending) → BecomesSo l.controller.side i false → HasLine l.controller.side
+    → Acted who l (finished (silent l (after_input l.controller.side i)) (turned (after_input l.controller.side i) ts) ending)
+    (restart_entries who l i ts ending)
+restart_acted who l i ts ending so a =
+    let k : Link = silent l (after_input l.controller.side i) in
+    let us : List Noted = told_of who l.controller i ++ rest_entries who k (after_input l.controller.side i) ts ending in
+    let q = same_self who in
+    let p = same_far who in
+    record {
+      here = ap (λ x. all_acting who (if x then false else acts l.controller) us) q ∙ input_acted who l k l.controller.took i ts ending false so a;
+      there = λ b. ap (λ x. all_acting (far who) (if x then false else b) us) p ∙ input_beside who l k l.controller.took i ts ending b;
+    }
+
+-- a step that takes no frame
+own_acted : (who : End) (l : Link) (e : EndEvent) → IsOwn e → HasLine l.controller.side → Acted who l (happens_at_controller l e) (here_entries who l e)
+own_acted who l (Lose why) o a = absurd o
+own_acted who l (Step NextFrame ts ending) o a = absurd o
+own_acted who l (Step (AsksReset window) ts ending) o a = own_input who l (Reset window) ts ending (resets_so l.controller.side window) a
+own_acted who l (Step (Starts v) ts ending) o a = restart_acted who l (Start v) ts ending (starts_so l.controller.side v a) a
+own_acted who l (Step Stops ts ending) o a = restart_acted who l Stop ts ending (stops_so l.controller.side a) a
+own_acted who l (Step NoInput ts ending) o a =
+    record { here = rest_acted who l l.controller.side ts ending (acts l.controller) refl a; there = rest_beside who l l.controller.side ts ending }
+
+frame_acted : (who : End) (l : Link) (ts : List Turn) (ending : Ending) → LinkInOrder l → HasLine l.controller.side
+    → Acted who l (happens_at_controller l (Step NextFrame ts ending)) (step_entries who l NextFrame ts ending)
+frame_acted who l ts ending order a = go l.to_controller refl
+  where
+    m : Link
+    m = happens_at_controller l (Step NextFrame ts ending)
+
+    u : List Noted
+    u = step_entries who l NextFrame ts ending
+
+    P : Link → Type 0
+    P k = Acted who l k u
+
+    go : (w : List OnWire) → l.to_controller ≡ w → Acted who l m u
+    go [] q =
+        let none : u ≡ [] = rw q refl in
+        let same : m ≡ l = rw q refl in
+        let Q : List Noted → Type 0 = λ z. Acted who l l z in
+        subst P (sym same) (subst Q (sym none) (record { here = refl; there = λ b. refl }))
+    go (x ∷ xs) q =
+        let some : u ≡ taken_entries who l x xs ts ending = rw q refl in
+        let next : m ≡ has_taken l x xs ts ending = rw q refl in
+        let Q : List Noted → Type 0 = λ z. Acted who l (has_taken l x xs ts ending) z in
+        let W : List OnWire → Type 0 = λ w. ActsInOrder l.controller.side.role l.host.side.role w l.to_host in
+        let so : BecomesSo l.controller.side (Take x.frame) (acts l.controller) =
+        takes_so l.controller.side l.host.side.role x xs l.to_host (subst W q order) in
+        let k : Link = left_after l x xs in
+        let number : ℕ = took_with l.controller.took x in
+        subst P (sym next) (subst Q (sym some) (record {
+          here = input_acted who l k number (Take x.frame) ts ending (acts l.controller) so a;
+          there = input_beside who l k number (Take x.frame) ts ending;
+        }))
+
+pub here_acted : (who : End) (l : Link) (e : EndEvent) → LinkInOrder l → HasLine l.controller.side
+    → Acted who l (happens_at_controller l e) (here_entries who l e)
+here_acted who l (Lose why) order a = record {
+  here = dull_passes who (first_lost who why l.to_controller) (are_lost IsDull who (dull_holds who) who why l.to_controller) (acts l.controller);
+  there = dull_passes (far who) (first_lost who why l.to_controller) (are_lost IsDull who (dull_holds who) who why l.to_controller);
+}
+here_acted who l (Step NextFrame ts ending) order a = frame_acted who l ts ending order a
+here_acted who l (Step (AsksReset window) ts ending) order a = own_acted who l (Step (AsksReset window) ts ending) tt a
+here_acted who l (Step (Starts v) ts ending) order a = own_acted who l (Step (Starts v) ts ending) tt a
+here_acted who l (Step Stops ts ending) order a = own_acted who l (Step Stops ts ending) tt a
+here_acted who l (Step NoInput ts ending) order a = own_acted who l (Step NoInput ts ending) tt a
+
+-- ## Events
+
+-- what is noted as l becomes m says of both ends whether activation is done
+pub record BothActed (l m : Link) (u : List Noted) : Type 0 where
+  pub controller : all_acting Controller (acts l.controller) u ≡ acts m.controller
+  pub host : all_acting Host (acts l.host) u ≡ acts m.host
+
+both_then : (l k m : Link) (u v : List Noted) → BothActed l k u → BothActed k m v → BothActed l m (u ++ v)
+both_then l k m u v a b =
+    record {
+      controller = acting-append Controller (acts l.controller) u v ∙ (ap (λ z. all_acting Controller z v) a.controller ∙ b.controller);
+      host = acting-append Host (acts l.host) u v ∙ (ap (λ z. all_acting Host z v) a.host ∙ b.host);
+    }
+
+both_dull : (l m : Link) (u : List Noted) → AreDull u → m.controller.side ≡ l.controller.side → m.host.side ≡ l.host.side → BothActed l m u
+both_dull l m u a p q =
+    record {
+      controller = dull_passes Controller u a (acts l.controller) ∙ sym (ap (λ (e : LinkEnd). is_open e.role) p);
+      host = dull_passes Host u a (acts l.host) ∙ sym (ap (λ (e : LinkEnd). is_open e.role) q);
+    }
+
+near_both : (l m : Link) (u : List Noted) → m.host ≡ l.host → Acted Controller l m u → BothActed l m u
+near_both l m u q a = record { controller = a.here; host = a.there (acts l.host) ∙ sym (ap acts q) }
+
+far_both : (l m : Link) (u : List Noted) → m.host ≡ l.controller → Acted Host (exchanged l) m u → BothActed l (exchanged m) u
+far_both l m u q a = record { controller = a.there (acts l.controller) ∙ sym (ap acts q); host = a.here }
+
+all_acted : (es : List EndEvent) (l : Link) → AreOwn l es → HasLine l.controller.side
+    → BothActed l (all_at_controller l es) (entries_of_events Controller l es) × HasLine (all_at_controller l es).controller.side
+    × ((all_at_controller l es).host ≡ l.host)
+all_acted [] l o a = (both_dull l l [] tt refl refl, a, refl)
+all_acted (e ∷ es) l o a =
+    let k : Link = happens_at_controller l e in
+    let more = all_acted es k o.2 (lined_here l e a) in (
+      both_then l k (all_at_controller k es) (here_entries Controller l e) (entries_of_events Controller k es)
+          (near_both l k (here_entries Controller l e) (here_host l e) (own_acted Controller l e o.0 a)) more.0,
+      more.1,
+      more.2 ∙ here_host l e,
+    )
+
+aged_both : (l m : Link) (u : List Noted) → BothActed (aged l) m u
+    → BothActed l m (Tick ∷ (aged_entries Controller l.to_controller ++ (aged_entries Host l.to_host ++ u)))
+aged_both l m u a =
+    both_then l (aged l) m (Tick ∷ []) _ (both_dull l (aged l) (Tick ∷ []) (tt, tt) refl refl)
+    (both_then (aged l) (aged l) m (aged_entries Controller l.to_controller) _
+    (both_dull (aged l) (aged l) (aged_entries Controller l.to_controller)
+    (are_aged IsDull Controller (dull_holds Controller) Controller l.to_controller) refl refl)
+    (both_then (aged l) (aged l) m (aged_entries Host l.to_host) u
+    (both_dull (aged l) (aged l) (aged_entries Host l.to_host) (are_aged IsDull Controller (dull_holds Controller) Host l.to_host) refl refl) a))
+
+host_tick_both : (l : Link) (h : Node) → HasLine l.host.side
+    → BothActed l (exchanged (ticks_at_controller (exchanged l) h.turns h.ending)) (tick_entries Host (exchanged l) h)
+host_tick_both l h a =
+    far_both l (ticks_at_controller (exchanged l) h.turns h.ending) (tick_entries Host (exchanged l) h) (ticks_host (exchanged l) h.turns h.ending)
+    (tick_acted Host (exchanged l) h a)
+
+event_acted : (l : Link) (e : LinkEvent) → IsEvent l e → LinkInOrder l → LinkInOrder (exchanged l) → HasLine l.controller.side → HasLine l.host.side
+    → BothActed l (happens l e) (event_entries l e)
+event_acted l (AtController e) can near far_order a b =
+    near_both l (happens_at_controller l e) (here_entries Controller l e) (here_host l e) (here_acted Controller l e near a)
+event_acted l (AtHost e) can near far_order a b =
+    far_both l (happens_at_controller (exchanged l) e) (here_entries Host (exchanged l) e) (here_host (exchanged l) e)
+    (here_acted Host (exchanged l) e far_order b)
+event_acted l (Ticks c es h) can near far_order a b =
+    let k : Link = ticks_at_controller (aged l) c.turns c.ending in
+    let m : Link = all_at_controller k es in
+    let more = all_acted es k can.1 (lined_tick (aged l) c.turns c.ending a) in
+    let H : NumberedEnd → Type 0 = λ x. HasLine x.side in
+    let host : HasLine m.host.side = subst H (sym (more.2 ∙ ticks_host (aged l) c.turns c.ending)) b in
+    aged_both l (happens l (Ticks c es h)) _
+    (both_then (aged l) k (happens l (Ticks c es h)) (tick_entries Controller (aged l) c) _
+    (near_both (aged l) k (tick_entries Controller (aged l) c) (ticks_host (aged l) c.turns c.ending) (tick_acted Controller (aged l) c a))
+    (both_then k m (happens l (Ticks c es h)) (entries_of_events Controller k es) (tick_entries Host (exchanged m) h) more.0 (host_tick_both m h host)))
+event_acted l (TicksWithout es h) can near far_order a b =
+    let m : Link = all_at_controller (aged l) es in
+    let more = all_acted es (aged l) can.1 a in
+    let H : NumberedEnd → Type 0 = λ x. HasLine x.side in
+    let host : HasLine m.host.side = subst H (sym more.2) b in
+    aged_both l (happens l (TicksWithout es h)) _
+    (both_then (aged l) m (happens l (TicksWithout es h)) (entries_of_events Controller (aged l) es) (tick_entries Host (exchanged m) h) more.0
+    (host_tick_both m h host))
+event_acted l (Activate power c id h) can near far_order a b =
+    let x : EndEvent = Step (Starts power) c.turns c.ending in
+    let y : EndEvent = Step (Starts id) h.turns h.ending in
+    let k : Link = happens_at_controller l x in
+    let H : NumberedEnd → Type 0 = λ z. HasLine z.side in
+    let host : HasLine k.host.side = subst H (sym (here_host l x)) b in
+    both_then l k (happens l (Activate power c id h)) (here_entries Controller l x) (here_entries Host (exchanged k) y)
+    (near_both l k (here_entries Controller l x) (here_host l x) (own_acted Controller l x tt a))
+    (far_both k (happens_at_controller (exchanged k) y) (here_entries Host (exchanged k) y) (here_host (exchanged k) y)
+    (own_acted Host (exchanged k) y tt host))
+
+lined_event : (l : Link) (e : LinkEvent) → IsEvent l e → HasLine l.controller.side → HasLine l.host.side
+    → HasLine (happens l e).controller.side × HasLine (happens l e).host.side
+lined_event l (AtController e) can a b =
+    let H : NumberedEnd → Type 0 = λ x. HasLine x.side in (lined_here l e a, subst H (sym (here_host l e)) b)
+lined_event l (AtHost e) can a b =
+    let H : NumberedEnd → Type 0 = λ x. HasLine x.side in (subst H (sym (here_host (exchanged l) e)) a, lined_here (exchanged l) e b)
+lined_event l (Ticks c es h) can a b =
+    let k : Link = ticks_at_controller (aged l) c.turns c.ending in
+    let m : Link = all_at_controller k es in
+    let more = all_acted es k can.1 (lined_tick (aged l) c.turns c.ending a) in
+    let H : NumberedEnd → Type 0 = λ x. HasLine x.side in (
+      subst H (sym (ticks_host (exchanged m) h.turns h.ending)) more.1,
+      lined_tick (exchanged m) h.turns h.ending (subst H (sym (more.2 ∙ ticks_host (aged l) c.turns c.ending)) b),
+    )
+lined_event l (TicksWithout es h) can a b =
+    let m : Link = all_at_controller (aged l) es in
+    let more = all_acted es (aged l) can.1 a in
+    let H : NumberedEnd → Type 0 = λ x. HasLine x.side in (
+      subst H (sym (ticks_host (exchanged m) h.turns h.ending)) more.1,
+      lined_tick (exchanged m) h.turns h.ending (subst H (sym more.2) b),
+    )
+lined_event l (Activate power c id h) can a b =
+    let x : EndEvent = Step (Starts power) c.turns c.ending in
+    let y : EndEvent = Step (Starts id) h.turns h.ending in
+    let k : Link = happens_at_controller l x in
+    let H : NumberedEnd → Type 0 = λ z. HasLine z.side in (
+      subst H (sym (here_host (exchanged k) y)) (lined_here l x a),
+      lined_here (exchanged k) y (subst H (sym (here_host l x)) b),
+    )
+
+-- ## Runs
+
+events_acted : (es : List LinkEvent) (t : List Noted) (l : Link) → AllAllowed l es → IsUnderWay t l → HasLine l.controller.side → HasLine l.host.side
+    → BothActed l (after_link_events l es) (entries l es)
+events_acted [] t l can w a b = both_dull l l [] tt refl refl
+events_acted (e ∷ es) t l can w a b =
+    let m : Link = happens l e in
+    let s : Sounds l = w.noted.sounds in
+    let lined = lined_event l e can.0 a b in
+    both_then l m (after_link_events m es) (event_entries l e) (entries m es)
+    (event_acted l e can.0 (before_here l w.good w.reached s).in_order (before_there l w.good w.reached s).in_order a b)
+    (events_acted es (t ++ event_entries l e) m can.1 (goes_on l e can.0 w) lined.0 lined.1)
+
+-- what is noted of a link with activation from its beginning on
+pub acted : (es : List LinkEvent) → AllAllowed new_line es → BothActed new_line (after_link_events new_line es) (entries new_line es)
+acted es can = events_acted es [] new_line can (start_under_way new_line IsLine) refl refl

@@ -1,0 +1,393 @@
+-- A tick in which the controller's end of a link is reset, as its notice is late, is read off what is noted of it.
+use Rattle.std.proofs.Common.{◌≡◌, ℕ, Bool, true, false, List, [], ◌∷◌, ◌++◌, Option, Some, None, map, refl, ap, sym, ◌∙◌}
+use Rattle.std.specs.Prelude.{◌+◌, ◌||◌, is_some, nat_lt, option_to_list, if◌then◌else◌}
+use Rattle.std.specs.List.{AllByRecursion, list_any}
+use Rattle.std.proofs.lemmas.Bool.{true≢false}
+use Rattle.std.proofs.lemmas.List.Folds.{list_any-append}
+use Rattle.trace_model.specs.declared.entry.Entry.{Entry}
+use Rattle.trace_model.specs.declared.entry.Entry.TheVariants as entry
+use Rattle.swp_base.specs.declared.control_frames.Control.{Control}
+use Rattle.swp_lpdu.specs.Controls.{lpdu_of}
+use Rattle.swp_base.specs.declared.control_frames.Control.TheVariants.{I, S, Rset, Ua, Act, Clt}
+use Rattle.swp_base.specs.declared.link_terms.Cause.{Cause}
+use Rattle.swp_base.specs.declared.link_terms.Cause.TheVariants.{Asked, NoAnswer, Peer, Act as ByAct, Chain}
+use Rattle.swp_act.specs.declared.ActEvent.TheVariants.{Tick as ActTick}
+use Rattle.shdlc_core.specs.declared.answers.LinkState.{LinkState}
+use Rattle.shdlc_core.specs.declared.answers.LinkState.TheVariants.{Down as IsDown, Waiting as IsWaitingNow, Up as IsUpNow}
+use Rattle.shdlc_core.specs.Machine.{EndState, tick_answer, runs_timer}
+use Rattle.link_laws.specs.machine.Machine.{LinkEnd, Refused, LinkInput, Turn, Report, report, turned, after_input, ended_by, ended_by_reset, whole_acked}
+use Rattle.link_laws.specs.machine.Machine.{is_open, act_answer, if_up, frames_out, reset_refusal}
+use Rattle.link_laws.specs.machine.Machine.LinkInput.{Tick as HasTick, Reset}
+use Rattle.link_laws.specs.messages.Links.{Link, Ending, Node, LinkEvent, exchanged}
+use Rattle.link_laws.specs.messages.Links.{aged, number_of, with_ended, happens, happens_at_controller}
+use Rattle.link_laws.specs.messages.Links.{ticks_at_controller}
+use Rattle.link_laws.specs.messages.Links.Ending.{GoesOut, CutOff}
+use Rattle.link_laws.specs.messages.Links.Comes.{AsksReset}
+use Rattle.link_laws.specs.messages.Links.EndEvent.{Step}
+use Rattle.link_laws.specs.messages.Links.LinkEvent.{TicksWithout}
+use Rattle.link_laws.specs.sessions.Sessions.{is_rset}
+use Rattle.link_laws.specs.entries.Entries.{End as Side, Entry as Noted, if_so, told, told_of, turn_entries, puts_entries, rest_entries, tick_entries}
+use Rattle.link_laws.specs.entries.Entries.{step_entries, aged_entries, event_entries}
+use Rattle.link_laws.specs.entries.Entries.End.{Controller, Host}
+use Rattle.link_laws.specs.entries.Entries.Entry.{Up, Down, Active, GaveUp, Acked, Got, Emit, Lost, Tick, Restarted, Cut}
+use Rattle.link_laws.specs.entries.Settled.{withholds, FindsReady}
+use Rattle.link_laws.proofs.entries.Lasting.{same_number}
+use Rattle.link_laws.proofs.entries.Sparing.{or_none}
+use Rattle.history.specs.Filters.{said}
+use Rattle.history.specs.Legal.{loses_on, has_lost}
+use Rattle.history.specs.Steps.{end_of, entries_for}
+use Rattle.history.proofs.legal.Reading.{link_same}
+use Rattle.node_machine.specs.world.World.{end_c, end_h}
+use Rattle.node_laws.specs.links.Runs.{IsRunOf}
+use Rattle.node_laws.specs.telling.Telling.{tells_of, of_link}
+use Rattle.node_laws.specs.order.Resets.{cuts_on, asks_at}
+use Rattle.node_laws.specs.answers.Unasked.{is_own_reset, is_reset_down}
+use Rattle.node_laws.proofs.telling.Accounts.{untold}
+use Rattle.node_laws.proofs.telling.WorldTicks.{tick_event}
+use Rattle.node_laws.proofs.order.Listing.{Holds, are-append, are_so, are_mapped, are_last, are_turns, are_puts, are_aged}
+use Rattle.node_laws.proofs.order.Watches.{IsStepOf, IsSince, is_cut, no_cut, spoils_none, since_reset, input_cut}
+
+-- ## Notes of a reset
+
+-- the controller's end was reset: its session ended so
+abbrev pub asked : Noted → Bool
+asked (Down Controller cause) = is_own_reset cause
+asked _ = false
+
+none_all : (f : Noted → Bool) (t : List Noted) → AllByRecursion (λ n. f n ≡ false) t → list_any f t ≡ false
+none_all f [] a = refl
+none_all f (n ∷ t) a = ap (λ b. b || list_any f t) a.0 ∙ none_all f t a.1
+
+any_last : (f : Noted → Bool) (t u : List Noted) → list_any f t ≡ false → list_any f (t ++ u) ≡ true → list_any f u ≡ true
+any_last f t u none some = sym (ap (λ b. b || list_any f u) none) ∙ (sym (list_any-append f t u) ∙ some)
+
+any_first : (f : Noted → Bool) (t u : List Noted) → list_any f u ≡ false → list_any f (t ++ u) ≡ true → list_any f t ≡ true
+any_first f t u none some = either (list_any f t) (list_any f u) none (sym (list_any-append f t u) ∙ some)
+  where
+    either : (a b : Bool) → b ≡ false → (a || b) ≡ true → a ≡ true
+    either true b q r = refl
+    either false b q r = absurd (true≢false (sym r ∙ q))
+
+abbrev Unasked : Noted → Type 0
+Unasked n = asked n ≡ false
+
+unasked : (who : Side) → Holds Unasked who
+unasked who = record {
+  up = λ n. refl;
+  gave_up = λ tries. refl;
+  acked = λ n count. refl;
+  got = λ n m. refl;
+  sent = λ n m. refl;
+  emit = λ c. refl;
+  lost = λ w c why. refl;
+}
+
+-- behind the end of a session
+rest_unasked : (who : Side) (n : ℕ) (r : Report) (acked : ℕ)
+    → AllByRecursion Unasked (if_so r.began (Up who n) ++ (if_so r.became_active (Active who)
+    ++ (map (GaveUp who) (option_to_list r.gave_up) ++ (if_so (nat_lt 0 r.acked) (Acked who n acked) ++ map (Got who n) r.got))))
+rest_unasked who n r acked =
+    let k : Holds Unasked who = unasked who in
+    are-append Unasked who k (if_so r.began (Up who n)) _ (are_so Unasked who k r.began (Up who n) refl)
+    (are-append Unasked who k (if_so r.became_active (Active who)) _ (are_so Unasked who k r.became_active (Active who) refl)
+    (are_last Unasked who k n r acked))
+
+told_asked : (n : ℕ) (r : Report) (acked : ℕ) → list_any asked (told Controller n r acked) ≡ true → r.ended ≡ Some Asked
+told_asked n r acked q =
+    go r.ended (any_first asked (map (Down Controller) (option_to_list r.ended)) _ (none_all asked _ (rest_unasked Controller n r acked)) q)
+  where
+    go : (o : Option Cause) → list_any asked (map (Down Controller) (option_to_list o)) ≡ true → o ≡ Some Asked
+    go None z = absurd (true≢false (sym z))
+    go (Some Asked) z = refl
+    go (Some NoAnswer) z = absurd (true≢false (sym z))
+    go (Some Peer) z = absurd (true≢false (sym z))
+    go (Some ByAct) z = absurd (true≢false (sym z))
+    go (Some Chain) z = absurd (true≢false (sym z))
+
+ending_unasked : (who : Side) (l : Link) (e : LinkEnd) (ts : List Turn) (ending : Ending) → AllByRecursion Unasked (rest_entries who l e ts ending)
+ending_unasked who l e ts GoesOut =
+    are-append Unasked who (unasked who) (turn_entries who (number_of l.controller) e ts) (puts_entries who l (frames_out (turned e ts)))
+    (are_turns Unasked who (unasked who) (number_of l.controller) e ts) (are_puts Unasked who (unasked who) (frames_out (turned e ts)) l)
+ending_unasked who l e ts CutOff =
+    are-append Unasked who (unasked who) (turn_entries who (number_of l.controller) e ts) (Cut who ∷ [])
+    (are_turns Unasked who (unasked who) (number_of l.controller) e ts) (refl, tt)
+
+-- an input of the controller's end
+input_asked : (l k : Link) (i : LinkInput) (ts : List Turn) (ending : Ending)
+    → list_any asked (told_of Controller l.controller i ++ rest_entries Controller k (after_input l.controller.side i) ts ending) ≡ true
+    → ended_by l.controller.side i ≡ Some Asked
+input_asked l k i ts ending q =
+    told_asked (number_of l.controller) (report l.controller.side i) (whole_acked (after_input l.controller.side i))
+    (any_first asked (told_of Controller l.controller i) (rest_entries Controller k (after_input l.controller.side i) ts ending)
+    (none_all asked _ (ending_unasked Controller k (after_input l.controller.side i) ts ending)) q)
+
+-- a tick ends no session as asked
+tick_unasked : (e : LinkEnd) → ended_by e HasTick ≡ Some Asked → ⊥
+tick_unasked e q = go (is_open e.role) refl
+  where
+    timed_out : (s : EndState) → (tick_answer s).ended ≡ Some Asked → ⊥
+    timed_out s z = by s.phase (runs_timer s.session) (nat_lt (s.timer + 1) 10) (nat_lt s.tries 5) refl refl refl refl
+      where
+        by : (p : LinkState) (a b c : Bool) → s.phase ≡ p → runs_timer s.session ≡ a → nat_lt (s.timer + 1) 10 ≡ b → nat_lt s.tries 5 ≡ c → ⊥
+        by IsDown a b c p x y w = cc (rw p at z)
+        by IsUpNow false b c p x y w = cc (rw (p, x) at z)
+        by IsUpNow true true c p x y w = cc (rw (p, x, y) at z)
+        by IsUpNow true false true p x y w = cc (rw (p, x, y, w) at z)
+        by IsUpNow true false false p x y w = cc (rw (p, x, y, w) at z)
+        by IsWaitingNow a true c p x y w = cc (rw (p, y) at z)
+        by IsWaitingNow a false true p x y w = cc (rw (p, y, w) at z)
+        by IsWaitingNow a false false p x y w = cc (rw (p, y, w) at z)
+
+    put_out : (b : Bool) → (if b then if_up e.shdlc ByAct else None) ≡ Some Asked → ⊥
+    put_out false z = cc z
+    put_out true z = by e.shdlc.phase refl
+      where
+        by : (p : LinkState) → e.shdlc.phase ≡ p → ⊥
+        by IsUpNow p = cc (rw p at z)
+        by IsWaitingNow p = cc (rw p at z)
+        by IsDown p = cc (rw p at z)
+
+    go : (b : Bool) → is_open e.role ≡ b → ⊥
+    go true o = timed_out e.shdlc (rw o at q)
+    go false o = put_out (act_answer e.role ActTick).ended_link (rw o at q)
+
+-- a reset that does is granted
+reset_granted : (e : LinkEnd) (window : Option ℕ) → ended_by e (Reset window) ≡ Some Asked → reset_refusal e ≡ None
+reset_granted e window q = go (reset_refusal e) q
+  where
+    go : (o : Option Refused) → ended_by_reset e o ≡ Some Asked → o ≡ None
+    go None z = refl
+    go (Some why) z = absurd (cc z)
+
+-- ## A tick
+
+aged_none : (f : Noted → Bool) (l : Link) (t : List Noted) → Holds (λ n. f n ≡ false) Controller → f Tick ≡ false
+    → list_any f (Tick ∷ (aged_entries Controller l.to_controller ++ (aged_entries Host l.to_host ++ t))) ≡ true → list_any f t ≡ true
+aged_none f l t k tick q =
+    let D : Noted → Type 0 = λ n. f n ≡ false in
+    any_last f (aged_entries Host l.to_host) t (none_all f _ (are_aged D Controller k Host l.to_host))
+    (any_last f (aged_entries Controller l.to_controller) (aged_entries Host l.to_host ++ t) (none_all f _ (are_aged D Controller k Controller l.to_controller))
+    (any_last f (Tick ∷ []) (aged_entries Controller l.to_controller ++ (aged_entries Host l.to_host ++ t)) (ap (λ b. b || false) tick) q))
+
+-- the host's tick says nothing of a reset of the controller's end
+host_unasked : (k : Link) (n : Node) → list_any asked (tick_entries Host k n) ≡ false
+host_unasked k n =
+    let e : LinkEnd = k.controller.side in
+    let m : Link = with_ended k (is_some (ended_by e HasTick)) in
+    let r : Report = report e HasTick in
+    none_all asked (tick_entries Host k n)
+    (are-append Unasked Host (unasked Host) (told_of Host k.controller HasTick) (rest_entries Host m (after_input e HasTick) n.turns n.ending)
+    (are-append Unasked Host (unasked Host) (map (Down Host) (option_to_list r.ended)) _
+    (are_mapped Unasked Host (unasked Host) (Down Host) (option_to_list r.ended) (λ cause. refl))
+    (rest_unasked Host (number_of k.controller) r (whole_acked (after_input e HasTick))))
+    (ending_unasked Host m (after_input e HasTick) n.turns n.ending))
+
+-- where such a reset is noted of a tick, the tick had it, and it was granted
+pub record IsResetInTick (late : Bool) (l : Link) : Type 0 where
+  pub late_is : late ≡ true
+  pub granted : reset_refusal l.controller.side ≡ None
+
+pub tick_asked : (late : Bool) (l : Link) (c n : Node) → list_any asked (event_entries l (tick_event late c n)) ≡ true → IsResetInTick late l
+tick_asked false l c n q =
+    let near : List Noted = tick_entries Controller (aged l) c in
+    let k : Link = exchanged (ticks_at_controller (aged l) c.turns c.ending) in
+    absurd (tick_unasked l.controller.side
+    (input_asked (aged l) (with_ended (aged l) (is_some (ended_by l.controller.side HasTick))) HasTick c.turns c.ending
+    (any_first asked near (tick_entries Host k n) (host_unasked k n)
+    (aged_none asked l (near ++ tick_entries Host k n) (unasked Controller) refl q))))
+tick_asked true l c n q =
+    let near : List Noted = step_entries Controller (aged l) (AsksReset None) c.turns c.ending in
+    let k : Link = exchanged (happens_at_controller (aged l) (Step (AsksReset None) c.turns c.ending)) in
+    record {
+      late_is = refl;
+      granted = reset_granted l.controller.side None
+          (input_asked (aged l) (with_ended (aged l) (is_some (ended_by l.controller.side (Reset None)))) (Reset None) c.turns c.ending
+          (any_first asked near [] refl
+          (any_first asked (near ++ []) (tick_entries Host k n) (host_unasked k n)
+          (aged_none asked l ((near ++ []) ++ tick_entries Host k n) (unasked Controller) refl q))));
+    }
+
+-- ## What is told of it
+
+module _ (h : ℕ) where
+  -- only what tells of the link counts
+  kept_any : (f : Entry → Bool) → ((e : Entry) → tells_of h e ≡ false → f e ≡ false) → (t : List Entry) → list_any f t ≡ list_any f (of_link h t)
+  kept_any f off [] = refl
+  kept_any f off (e ∷ t) = go (tells_of h e) refl (kept_any f off t)
+    where
+      go : (b : Bool) → tells_of h e ≡ b → list_any f t ≡ list_any f (of_link h t) → list_any f (e ∷ t) ≡ list_any f (of_link h (e ∷ t))
+      go true q later = rw q (ap (λ b. f e || b) later)
+      go false q later = rw q (ap (λ b. b || list_any f t) (off e q) ∙ later)
+
+  alike : (f : Entry → Bool) → ((e : Entry) → tells_of h e ≡ false → f e ≡ false) → (t u : List Entry) → of_link h t ≡ of_link h u
+      → list_any f t ≡ list_any f u
+  alike f off t u q = kept_any f off t ∙ (ap (list_any f) q ∙ sym (kept_any f off u))
+
+  down_off : (e : Entry) → tells_of h e ≡ false → is_reset_down (end_c h) e ≡ false
+  down_off (entry.Down f cause) q = rw q refl
+  down_off e q = refl
+
+  lost_off : (e : Entry) → tells_of h e ≡ false → loses_on h (said e) ≡ false
+  lost_off e q = (or_none _ _ (spoils_none h (said e) (untold h e q))).0
+
+  asks_off : (e : Entry) → tells_of h e ≡ false → asks_at (end_h h) e ≡ false
+  asks_off (entry.Emit f lpdu) q = rw q refl
+  asks_off e q = refl
+
+  -- notes
+  asked_notes : (t : List Noted) → list_any (is_reset_down (end_c h)) (entries_for h t) ≡ list_any asked t
+  asked_notes [] = refl
+  asked_notes (Down Controller cause ∷ t) = let q = same_number h in rw q (ap (λ b. is_own_reset cause || b) (asked_notes t))
+  asked_notes (Down Host cause ∷ t) = let q = same_number h in rw q (asked_notes t)
+  asked_notes (_ ∷ t) = asked_notes t
+
+  abbrev is_lost : Noted → Bool
+  is_lost (Lost w c why) = true
+  is_lost _ = false
+
+  lost_notes : (t : List Noted) → list_any (λ e. loses_on h (said e)) (entries_for h t) ≡ list_any is_lost t
+  lost_notes [] = refl
+  lost_notes (Lost w c why ∷ t) = ap (λ b. b || list_any (λ e. loses_on h (said e)) (entries_for h t)) (link_same h w)
+  lost_notes (_ ∷ t) = lost_notes t
+
+  abbrev asks_far : Noted → Bool
+  asks_far (Emit Host c) = is_rset c
+  asks_far _ = false
+
+  -- what is told of a frame that goes out
+  abbrev asks_by : Side → Control → Bool
+  asks_by w c = asks_at (end_h h) (entry.Emit (end_of h w) (lpdu_of c))
+
+  far_notes : (t : List Noted) → list_any (asks_at (end_h h)) (entries_for h t) ≡ false → list_any asks_far t ≡ false
+  far_notes [] q = refl
+  far_notes (Emit Controller c ∷ t) q = far_notes t (or_none (asks_by Controller c) (list_any (asks_at (end_h h)) (entries_for h t)) q).1
+  far_notes (Emit Host (Rset window caps) ∷ t) q =
+      let z = (or_none (asks_by Host (Rset window caps)) (list_any (asks_at (end_h h)) (entries_for h t)) q).0 in
+      absurd (true≢false (let r = same_number h in rw r at z))
+  far_notes (Emit Host (I ns nr info) ∷ t) q = far_notes t (or_none (asks_by Host (I ns nr info)) (list_any (asks_at (end_h h)) (entries_for h t)) q).1
+  far_notes (Emit Host (S kind nr) ∷ t) q = far_notes t (or_none (asks_by Host (S kind nr)) (list_any (asks_at (end_h h)) (entries_for h t)) q).1
+  far_notes (Emit Host Ua ∷ t) q = far_notes t (or_none (asks_by Host Ua) (list_any (asks_at (end_h h)) (entries_for h t)) q).1
+  far_notes (Emit Host (Act act again) ∷ t) q = far_notes t (or_none (asks_by Host (Act act again)) (list_any (asks_at (end_h h)) (entries_for h t)) q).1
+  far_notes (Emit Host Clt ∷ t) q = far_notes t (or_none (asks_by Host Clt) (list_any (asks_at (end_h h)) (entries_for h t)) q).1
+  far_notes (_ ∷ t) q = far_notes t q
+
+-- ## What withholds no answer
+
+-- it is no frame that goes out of the controller's end, and begins or ends no activation
+abbrev IsFar : Noted → Type 0
+IsFar (Emit Controller c) = ⊥
+IsFar (Restarted w) = ⊥
+IsFar _ = Unit {0}
+
+far_holds : Holds IsFar Host
+far_holds = record {
+  up = λ n. tt;
+  gave_up = λ tries. tt;
+  acked = λ n count. tt;
+  got = λ n m. tt;
+  sent = λ n m. tt;
+  emit = λ c. tt;
+  lost = λ w c why. tt;
+}
+
+far_ending : (k : Link) (e : LinkEnd) (ts : List Turn) (ending : Ending) → AllByRecursion IsFar (rest_entries Host k e ts ending)
+far_ending k e ts GoesOut =
+    are-append IsFar Host far_holds (turn_entries Host (number_of k.controller) e ts) (puts_entries Host k (frames_out (turned e ts)))
+    (are_turns IsFar Host far_holds (number_of k.controller) e ts) (are_puts IsFar Host far_holds (frames_out (turned e ts)) k)
+far_ending k e ts CutOff =
+    are-append IsFar Host far_holds (turn_entries Host (number_of k.controller) e ts) (Cut Host ∷ [])
+    (are_turns IsFar Host far_holds (number_of k.controller) e ts) (tt, tt)
+
+far_tick : (k : Link) (n : Node) → AllByRecursion IsFar (tick_entries Host k n)
+far_tick k n =
+    let e : LinkEnd = k.controller.side in
+    let r : Report = report e HasTick in
+    are-append IsFar Host far_holds (told_of Host k.controller HasTick) _
+    (are-append IsFar Host far_holds (map (Down Host) (option_to_list r.ended)) _
+    (are_mapped IsFar Host far_holds (Down Host) (option_to_list r.ended) (λ cause. tt))
+    (are-append IsFar Host far_holds (if_so r.began (Up Host (number_of k.controller))) _
+    (are_so IsFar Host far_holds r.began (Up Host (number_of k.controller)) tt)
+    (are-append IsFar Host far_holds (if_so r.became_active (Active Host)) _ (are_so IsFar Host far_holds r.became_active (Active Host) tt)
+    (are_last IsFar Host far_holds (number_of k.controller) r (whole_acked (after_input e HasTick))))))
+    (far_ending (with_ended k (is_some (ended_by e HasTick))) (after_input e HasTick) n.turns n.ending)
+
+left_alone : (h : ℕ) (t : List Noted) → AllByRecursion IsFar t → list_any (is_lost h) t ≡ false → list_any (asks_far h) t ≡ false → list_any is_cut t ≡ false
+    → list_any withholds t ≡ false
+left_alone h [] a q r s = refl
+left_alone h (Lost w c why ∷ t) a q r s = absurd (true≢false q)
+left_alone h (Restarted w ∷ t) a q r s = absurd a.0
+left_alone h (Cut w ∷ t) a q r s = absurd (true≢false s)
+left_alone h (Emit Controller c ∷ t) a q r s = absurd a.0
+left_alone h (Emit Host c ∷ t) a q r s =
+    let z = or_none (is_rset c) (list_any (asks_far h) t) r in ap (λ b. b || list_any withholds t) z.0 ∙ left_alone h t a.1 q z.1 s
+left_alone h (_ ∷ t) a q r s = left_alone h t a.1 q r s
+
+-- ## The link behind it
+
+-- of a tick with such a reset: what its entries say of the link
+pub record IsAnsweredTick (h : ℕ) (u : List Entry) : Type 0 where
+  pub reset : list_any (is_reset_down (end_c h)) u ≡ true
+  pub powered : list_any (cuts_on h) u ≡ false
+  pub lossless : has_lost h u ≡ false
+  pub alone : list_any (asks_at (end_h h)) u ≡ false
+
+module _ (h : ℕ) (l : Link) (c n : Node) (u : List Entry) (events : List LinkEvent) (run : IsRunOf events l) (says : IsAnsweredTick h u) where
+  -- no later part of what is noted says anything
+  parts_none : (f : Noted → Bool) (a b s x : List Noted) → list_any f (Tick ∷ (a ++ (b ++ (s ++ x)))) ≡ false → f Tick ≡ false → list_any f x ≡ false
+  parts_none f a b s x q t =
+      let one = or_none (f Tick) (list_any f (a ++ (b ++ (s ++ x)))) q in
+      (or_none (list_any f s) (list_any f x) (sym (list_any-append f s x)
+      ∙ (or_none (list_any f b) (list_any f (s ++ x)) (sym (list_any-append f b (s ++ x))
+      ∙ (or_none (list_any f a) (list_any f (b ++ (s ++ x))) (sym (list_any-append f a (b ++ (s ++ x))) ∙ one.1)).1)).1)).1
+
+  abbrev turned_out : Ending → LinkEvent
+  turned_out ending = TicksWithout (Step (AsksReset None) c.turns ending ∷ []) n
+
+  tick_reset : (ending : Ending) → IsStepOf h l (turned_out ending) u → FindsReady l → IsSince (happens l (turned_out ending))
+  tick_reset CutOff m ready =
+      let notes : List Noted = event_entries l (turned_out CutOff) in
+      let cut : list_any is_cut (step_entries Controller (aged l) (AsksReset None) c.turns CutOff) ≡ true =
+      input_cut Controller (aged l) (Reset None) c.turns in
+      absurd (true≢false (sym cut ∙ first_none (no_cut h u notes says.powered m.stands)))
+    where
+      first_none : list_any is_cut (event_entries l (turned_out CutOff)) ≡ false
+          → list_any is_cut (step_entries Controller (aged l) (AsksReset None) c.turns CutOff) ≡ false
+      first_none q =
+          let s : List Noted = step_entries Controller (aged l) (AsksReset None) c.turns CutOff in
+          let a : List Noted = aged_entries Controller l.to_controller in
+          let b : List Noted = aged_entries Host l.to_host in
+          let last = parts_none is_cut a b [] _ q refl in
+          (or_none (list_any is_cut s) _ (sym (list_any-append is_cut s []) ∙ (or_none (list_any is_cut (s ++ [])) _ (sym (list_any-append is_cut (s ++ []) _)
+          ∙ last)).0)).0
+  tick_reset GoesOut m ready =
+      let e : LinkEvent = turned_out GoesOut in
+      let notes : List Noted = event_entries l e in
+      let k : Link = happens_at_controller (aged l) (Step (AsksReset None) c.turns GoesOut) in
+      let s : List Noted = step_entries Controller (aged l) (AsksReset None) c.turns GoesOut in
+      let x : List Noted = tick_entries Host (exchanged k) n in
+      let a : List Noted = aged_entries Controller l.to_controller in
+      let b : List Noted = aged_entries Host l.to_host in
+      let tells : of_link h u ≡ of_link h (entries_for h notes) = m.tells in
+      let lost : list_any (is_lost h) notes ≡ false =
+      sym (lost_notes h notes) ∙ (sym (alike h (λ e. loses_on h (said e)) (lost_off h) u (entries_for h notes) tells) ∙ says.lossless) in
+      let far : list_any (asks_far h) notes ≡ false =
+      far_notes h notes (sym (alike h (asks_at (end_h h)) (asks_off h) u (entries_for h notes) tells) ∙ says.alone) in
+      let cut : list_any is_cut notes ≡ false = no_cut h u notes says.powered m.stands in
+      let last : list_any withholds x ≡ false =
+      left_alone h x (far_tick (exchanged k) n) (parts_none (is_lost h) a b (s ++ []) x lost refl) (parts_none (asks_far h) a b (s ++ []) x far refl)
+      (parts_none is_cut a b (s ++ []) x cut refl) in
+      since_reset l e events run m.can ready last
+
+  -- where the host's end was ready
+  pub reset_in_tick : (late : Bool) → IsStepOf h l (tick_event late c n) u → (reset_refusal l.controller.side ≡ None → FindsReady l)
+      → IsSince (happens l (tick_event late c n))
+  reset_in_tick late m ready =
+      let notes : List Noted = event_entries l (tick_event late c n) in
+      let some : list_any asked notes ≡ true =
+      sym (asked_notes h notes) ∙ (sym (alike h (is_reset_down (end_c h)) (down_off h) u (entries_for h notes) m.tells) ∙ says.reset) in
+      let it = tick_asked late l c n some in
+      go late it.late_is m (ready it.granted)
+    where
+      go : (b : Bool) → b ≡ true → IsStepOf h l (tick_event b c n) u → FindsReady l → IsSince (happens l (tick_event b c n))
+      go true q z r = tick_reset c.ending z r
+      go false q z r = absurd (true≢false (sym q))
