@@ -32,7 +32,7 @@ ghost use Rattle.node_laws.specs.kept.Books.{StillRuns};
 ghost use Rattle.node_laws.specs.kept.Finds.{BootFinds, Knows, FindsRoom};
 ghost use Rattle.node_laws.specs.kept.Gates.{opens_gate};
 ghost use Rattle.node_laws.specs.kept.Reckonings.{Reckoning, writes_of};
-ghost use Rattle.node_laws.specs.cuts.Histories.{AreCutAsPlanned, AreFoundExactly, BootsWriteSo, StandsInMemories};
+ghost use Rattle.node_laws.specs.cuts.Histories.{AreCutAsPlanned, AreFoundExactly, BootsWriteSo, CommandsWriteSo, MemoriesHold, StandsInMemories};
 
 /// A node commits a command that may be recorded and finds room, and one of its writes fails. The last of them is that of the record's
 /// gate, also where a snapshot is written first. A boot finds the command exactly where that one failed and left 5A; wherever else the
@@ -102,22 +102,28 @@ pub fn power_goes_exactly_as_planned()
 {}
 
 /// Such a history stands in the memories of its nodes: at the end of each event the memory of each node, its bytes and the plan that is
-/// left, is the one that is read off the history until then. It asks for what `boots_find_exactly_the_commands_that_are_read` asks for.
+/// left, is the one that is read off the history until then (`stands`). And a boot over it would find the tables of all commands that are
+/// read, but for a last one that is lost, and count them (`holds`). It asks for what `boots_find_exactly_the_commands_that_are_read` asks for.
 pub fn histories_stand_in_memories()
-    ensures { (header : Header) (lines : List Line) (t : NodeHistory) → FollowsNodes header lines t → AreHosts header.hosts.items →
+    ensures stands { (header : Header) (lines : List Line) (t : NodeHistory) → FollowsNodes header lines t → AreHosts header.hosts.items →
         AllByRecursion IsSentByHost lines → IsFew (node_entries t) → StandsInMemories t }
+    ensures holds { (header : Header) (lines : List Line) (t : NodeHistory) → FollowsNodes header lines t → AreHosts header.hosts.items →
+        AllByRecursion IsSentByHost lines → IsFew (node_entries t) → MemoriesHold t }
 {}
 
 /// A command whose record fits makes two writes. One whose record doesn't, where a bank is in use, makes four, and five where the gate
 /// of the other bank stands open. Over every history that follows a schedule a boot makes none where the node has booted before, and the
-/// two of a format where no boot of it was begun yet; after boots that were cut the bytes in its memory decide. It asks of histories for
-/// what `boots_find_exactly_the_commands_that_are_read` asks for.
+/// two of a format where no boot of it was begun yet; after boots that were cut the bytes in its memory decide. So where it has booted,
+/// each command would make two, four or five at the end of each event (`commands`). It asks of histories for what
+/// `boots_find_exactly_the_commands_that_are_read` asks for.
 pub fn commands_and_boots_make_so_many_writes()
     ensures fits { (c : Command) (r : Reckoning) → record_fits (state_of r.memory.content) (body_of c) ≡ true → length (writes_of c r) ≡ 2 }
     ensures snapshot { (c : Command) (r : Reckoning) → record_fits (state_of r.memory.content) (body_of c) ≡ false → IsSome (current r.memory.content) →
         length (writes_of c r) ≡ (if is_open_beside r.memory.content then 5 else 4) }
     ensures boots { (header : Header) (lines : List Line) (t : NodeHistory) → FollowsNodes header lines t → AreHosts header.hosts.items →
         AllByRecursion IsSentByHost lines → IsFew (node_entries t) → BootsWriteSo t }
+    ensures commands { (header : Header) (lines : List Line) (t : NodeHistory) → FollowsNodes header lines t → AreHosts header.hosts.items →
+        AllByRecursion IsSentByHost lines → IsFew (node_entries t) → CommandsWriteSo t }
 {}
 
 /// A step of a node in which it loses its power ends with that: the last two of its entries are the command in whose writes the power

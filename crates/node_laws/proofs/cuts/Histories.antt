@@ -6,6 +6,10 @@ use Rattle.std.proofs.lemmas.List.Folds.{list_any-append}
 use Rattle.swp_base.specs.InMemory.{Memory}
 use Rattle.journal_laws.specs.declared.banks.Side.{Side}
 use Rattle.journal_laws.specs.Banks.{current}
+use Rattle.journal_laws.specs.Journal.{state_of, is_open_beside}
+use Rattle.hci_tables.specs.declared.command.Command.{Command}
+use Rattle.hci_tables.specs.Bodies.{body_of}
+use Rattle.hci_store.specs.Committing.{record_fits}
 use Rattle.journal_laws.specs.Operations.{format_writes}
 use Rattle.std.specs.Prelude.{Option, IsSome, Some, None, replicate}
 use Rattle.std.specs.List.{AllByRecursion, list_any, flat_map, fold}
@@ -25,7 +29,7 @@ use Rattle.node_machine.specs.world.World.{NodeWorld, Site, Happening, new_memor
 use Rattle.node_machine.specs.world.Lines.{Occurrence, happenings}
 use Rattle.node_machine.specs.world.NodeHistories.{LineStep, NodeHistory, FollowsNodes, occurrences_of, occurrences_in, entries_in, node_entries}
 use Rattle.node_machine.specs.world.NodeFilters.{Book, new_book, with_found, book_in, commands_in}
-use Rattle.node_laws.specs.kept.Reckonings.{Reckoning, reckoning_of, with_written, reckoned, IsAsRead, EachIsAsRead}
+use Rattle.node_laws.specs.kept.Reckonings.{Reckoning, reckoning_of, writes_of, with_written, reckoned, IsAsRead, EachIsAsRead}
 use Rattle.node_laws.specs.kept.Hosts.{AreHosts, IsFew, IsSentByHost}
 use Rattle.node_laws.specs.kept.Worlds.{AllKeep, MayHappen}
 use Rattle.node_laws.proofs.kept.Lines.{MayAllHappen, line_may, world_goes}
@@ -33,10 +37,12 @@ use Rattle.node_laws.proofs.kept.Kept.{all_begin, blank_finds, are_kept}
 use Rattle.journal_laws.proofs.Opening.{fresh}
 use Rattle.node_laws.specs.telling.Telling.{world_behind}
 use Rattle.node_laws.proofs.telling.Lasting.{AllMay, AreCaused, lines_caused}
+use Rattle.node_laws.specs.cuts.Histories.{CommandsWriteSo, MemoriesHold}
 use Rattle.node_laws.specs.cuts.Histories.{boots_it, BootsWriteSo, FindsBy, FindsExactly, begun_by, with_event, reckoned_within, reckoning_in}
 use Rattle.trace_model.specs.Lines.{IsNodeOf}
 use Rattle.node_laws.specs.cuts.Histories.{AreFoundExactly, StandsInMemories, IsCutAsPlanned, AreCutAsPlanned, KeptExactly}
-use Rattle.node_laws.proofs.cuts.Standing.{Stands, book_then}
+use Rattle.node_laws.proofs.cuts.Counting.{two_writes, snapshot_writes}
+use Rattle.node_laws.proofs.cuts.Standing.{FindsMany, Stands, book_then}
 use Rattle.node_laws.proofs.cuts.Worlds.{IsThere, StandsAt, memory_far, node_far}
 use Rattle.node_laws.proofs.cuts.Events.{GoesExactly, event_exact}
 
@@ -311,11 +317,43 @@ module _ (header : Header) (lines : List Line) (t : NodeHistory) (follows : Foll
         λ none. ap boot_writes (k.new none).content ∙ ap (λ p. option_map_or (λ _. []) p format_writes) (fresh 65536 (omega arith)).closed,
       )
 
+  pub commands_write_so : CommandsWriteSo t
+  commands_write_so front back n c node is booted = by_room (record_fits (state_of content) (body_of c)) refl
+    where
+      k : IsKnown header.hosts.items are n front (world_behind w0 front) back
+      k = known n node front back is
+
+      r : Reckoning
+      r = reckoning_in front n
+
+      content : List ℕ
+      content = r.memory.content
+
+      used : IsSome (current content)
+      used = subst (λ (m : Memory). IsSome (current m.content)) (sym k.stands.memory_is) (k.stands.used booted)
+
+      by_room : (b : Bool) → record_fits (state_of content) (body_of c) ≡ b
+          → length (writes_of c r) ≡ cond (record_fits (state_of content) (body_of c)) 2 (cond (is_open_beside content) 5 4)
+      by_room true fits = two_writes c r fits ∙ sym (ap (λ b. cond b 2 (cond (is_open_beside content) 5 4)) fits)
+      by_room false full = snapshot_writes c r full used ∙ sym (ap (λ b. cond b 2 (cond (is_open_beside content) 5 4)) full)
+
+  pub memories_hold : MemoriesHold t
+  memories_hold front back n node is =
+      let k : IsKnown header.hosts.items are n front (world_behind w0 front) back = known n node front back is in
+      let r : Reckoning = reckoning_in front n in
+      record {
+        many = k.stands.many;
+        which = k.stands.which;
+        finds = subst (λ (m : Memory). FindsMany m.content r.book.commands k.stands.many) (sym k.stands.memory_is) k.stands.finds;
+      }
+
   pub kept_exactly : KeptExactly t
   kept_exactly = record {
     kept = are_kept header lines t follows are sides few;
     found = found_exactly;
     cut = cut_as_planned;
     boots = boots_write_so;
+    commands = commands_write_so;
+    holds = memories_hold;
     stands = stands_in_memories;
   }

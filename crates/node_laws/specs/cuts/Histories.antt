@@ -1,9 +1,15 @@
 -- What is read of a node with its memory off a history: which commands its boots find, and where its power goes.
-use Rattle.std.specs.Prelude.{◌≡◌, ℕ, suc, ◌==◌, Bool, true, false, if◌then◌else◌, List, [], ◌∷◌, ◌++◌, length, replicate, Some}
+use Rattle.std.specs.Prelude.{◌≡◌, ℕ, suc, ◌-◌, ◌^◌, ◌==◌, min, take, Bool, true, false, if◌then◌else◌, List, [], ◌∷◌, ◌++◌, length, replicate, Some}
 use Rattle.std.specs.List.{fold, list_any}
 use Rattle.trace_model.specs.declared.entry.Entry.{Entry}
 use Rattle.trace_model.specs.declared.entry.Entry.TheVariants as entry
 use Rattle.trace_model.specs.Lines.{IsNodeOf}
+use Rattle.swp_base.specs.InMemory.{Memory}
+use Rattle.hci_tables.specs.declared.command.Command.{Command}
+use Rattle.hci_tables.specs.Bodies.{body_of}
+use Rattle.hci_tables.specs.Tables.{no_tables, after_commands}
+use Rattle.hci_store.specs.Committing.{record_fits}
+use Rattle.journal_laws.specs.Journal.{state_of, is_open_beside}
 use Rattle.journal_laws.specs.Operations.{format_writes}
 use Rattle.journal_laws.specs.Planned.{fails_within, after_planned}
 use Rattle.node_machine.specs.Node.{boot_writes}
@@ -14,7 +20,8 @@ use Rattle.node_machine.specs.world.NodeHistories.{NodeHistory, occurrences_in, 
 use Rattle.node_machine.specs.world.NodeFilters.{new_book, commands_in}
 use Rattle.node_machine.specs.world.NodeLegal.{Kept, last_in}
 use Rattle.node_machine.specs.world.NodeLegal.Last.{CutBehindCommand}
-use Rattle.node_laws.specs.kept.Reckonings.{Reckoning, reckoning_of, reckoned, EachIsAsRead}
+use Rattle.node_laws.specs.kept.Finds.{BootFinds}
+use Rattle.node_laws.specs.kept.Reckonings.{Reckoning, reckoning_of, writes_of, reckoned, EachIsAsRead}
 use Rattle.node_laws.specs.telling.Telling.{world_behind}
 
 -- ## Reckonings
@@ -109,10 +116,36 @@ BootsWriteSo t =
     → (list_any (is_boot_of n) (entries_in front) ≡ true → boot_writes (reckoning_in front n).memory.content ≡ [])
     × (list_any (λ (o : Occurrence). boots_it n o.cause) front ≡ false → boot_writes (reckoning_in front n).memory.content ≡ format_writes)
 
+-- A command makes two writes. Where its record doesn't fit, two more make a snapshot before, and a third one closes the gate of the other
+-- bank where that stands open.
+abbrev pub so_many_writes : Command → Memory → ℕ
+so_many_writes c m = if record_fits (state_of m.content) (body_of c) then 2 else (if is_open_beside m.content then 5 else 4)
+
+-- Where a node has booted, each command would make so many at the end of each event.
+abbrev pub CommandsWriteSo : NodeHistory → Type 0
+CommandsWriteSo t =
+    (front back : List Occurrence) (n : ℕ) (c : Command) → IsNodeOf t.header.hosts.items n → occurrences_in t ≡ front ++ back
+    → list_any (is_boot_of n) (entries_in front) ≡ true → length (writes_of c (reckoning_in front n)) ≡ so_many_writes c (reckoning_in front n).memory
+
+-- ## What stands in a memory
+
+-- A boot would find the tables of all commands that are read, but for a last one that is lost, and count them.
+pub record HoldsCommands (r : Reckoning) : Type 0 where
+  pub many : ℕ
+  pub which : FindsBy r.lost many (length r.book.commands)
+  pub finds : BootFinds r.memory.content (after_commands no_tables (take many r.book.commands)) (min many (2 ^ 32 - 1))
+
+-- So it is with each node at the end of each event.
+abbrev pub MemoriesHold : NodeHistory → Type 0
+MemoriesHold t =
+    (front back : List Occurrence) (n : ℕ) → IsNodeOf t.header.hosts.items n → occurrences_in t ≡ front ++ back → HoldsCommands (reckoning_in front n)
+
 -- Commands are kept over power cuts, and exactly these; the power goes as it is planned, and the history stands in the memories.
 pub record KeptExactly (t : NodeHistory) : Type 0 where
   pub kept : Kept t
   pub found : AreFoundExactly t
   pub cut : AreCutAsPlanned t
   pub boots : BootsWriteSo t
+  pub commands : CommandsWriteSo t
+  pub holds : MemoriesHold t
   pub stands : StandsInMemories t
