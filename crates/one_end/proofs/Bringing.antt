@@ -1,6 +1,7 @@
 -- What a byte brought.
-use Rattle.std.proofs.Common.{◌≡◌, ℕ, List, ◌∷◌, Bool, true, false, [], ◌++◌, refl}
+use Rattle.std.proofs.Common.{◌≡◌, ◌∙◌, ℕ, List, ◌∷◌, Bool, true, false, [], ◌++◌, refl, ap}
 use Rattle.std.specs.Prelude.{◌&&◌, not, filter}
+use Rattle.std.specs.List.{flat_map}
 use Rattle.byte_link.specs.declared.unit.Unit.{Unit}
 use Rattle.byte_link.specs.declared.unit.Unit.TheVariants as unit
 use Rattle.byte_link.specs.Reading.{unit_given, units_given, says_something}
@@ -8,7 +9,7 @@ use Rattle.byte_link.specs.Written.{units_behind}
 use Rattle.swp_frame.specs.declared.fed.Fed.{Fed}
 use Rattle.swp_frame.specs.declared.fed.Fed.TheVariants as fed
 use Rattle.lone_laws.specs.alone.Lone.{LoneCause}
-use Rattle.lone_laws.specs.alone.Lone.LoneCause.{TickComes, StartComes, StopComes}
+use Rattle.lone_laws.specs.alone.Lone.LoneCause.{FrameComes, TickComes, StartComes, StopComes}
 use Rattle.lone_laws.specs.alone.Ends.{comes_if, verdict_brings, unit_brings, bytes_bring}
 use Rattle.lone_laws.specs.alone.Ends.EndForm.{OnBytes}
 use Rattle.one_end.specs.declared.reading.Brought.{Brought}
@@ -26,16 +27,25 @@ nothing_brought b is = go b.starts b.fed b.stops b.ticks is where
   go starts (fed.Frame lpdu) stops ticks is = absurd (cc)
   go starts (fed.Refused fault) stops ticks is = absurd (cc)
 
-none_before : (u : Unit) (units : List Unit) (later : List LoneCause) → filter says_something (u ∷ units) ≡ []
-    → (filter says_something units ≡ [] → later ≡ []) → unit_brings u ++ later ≡ []
-none_before unit.Nothing units later is none = none is
-none_before unit.Tick units later is none = absurd (cc)
-none_before (unit.Frame lpdu) units later is none = absurd (cc)
-none_before (unit.Refused fault) units later is none = absurd (cc)
+brought_by : (u : Unit) (units : List Unit) → unit_brings u ++ flat_map unit_brings (filter says_something units)
+    ≡ flat_map unit_brings (filter says_something (u ∷ units))
+brought_by unit.Nothing units = refl
+brought_by unit.Tick units = refl
+brought_by (unit.Frame lpdu) units = refl
+brought_by (unit.Refused fault) units = refl
 
--- bytes of a byte link that give nothing bring nothing
+-- bytes of a byte link bring what their units bring
+pub units_bring : (number : ℕ) (bytes older : List ℕ) → bytes_bring OnBytes number older bytes ≡ flat_map unit_brings (units_behind older bytes)
+units_bring number [] older = refl
+units_bring number (byte ∷ bytes) older =
+    ap (λ causes. unit_brings (unit_given (byte ∷ older)) ++ causes) (units_bring number bytes (byte ∷ older))
+    ∙ brought_by (unit_given (byte ∷ older)) (units_given (byte ∷ older) bytes)
+
+-- so those that give nothing bring nothing
 pub no_units : (number : ℕ) (bytes older : List ℕ) → units_behind older bytes ≡ [] → bytes_bring OnBytes number older bytes ≡ []
-no_units number [] older is = refl
-no_units number (byte ∷ bytes) older is =
-    none_before (unit_given (byte ∷ older)) (units_given (byte ∷ older) bytes) (bytes_bring OnBytes number (byte ∷ older) bytes) is
-    (λ none. no_units number bytes (byte ∷ older) none)
+no_units number bytes older is = units_bring number bytes older ∙ ap (flat_map unit_brings) is
+
+-- and those that give an LPDU bring its frame
+pub one_frame : (number : ℕ) (bytes older lpdu : List ℕ) → units_behind older bytes ≡ unit.Frame lpdu ∷ []
+    → bytes_bring OnBytes number older bytes ≡ FrameComes lpdu ∷ []
+one_frame number bytes older lpdu is = units_bring number bytes older ∙ ap (flat_map unit_brings) is

@@ -12,3 +12,4 @@ pub mod Bringing
 pub mod Ran
 pub mod Passing
 pub mod Hearing
+pub mod Periods

@@ -13,7 +13,7 @@ use crate::reading::{Brought, Reader, Stretch};
 use crate::stepping::answer_all;
 use crate::writing::{Form, Output, ROOM};
 use arrayvec::ArrayVec;
-use swp_base::Nv;
+use swp_base::{Lpdu, Nv};
 use swp_frame::Fed;
 
 /// A node alone at the end of a link whose other end is live: it has its power.
@@ -139,6 +139,12 @@ fn hear_stretch<N: Nv, T: LoneNode<N>>(end: &mut OneEnd<T>, bytes: &[u8], out: &
     ensures count { N.faults (T.nv end.old.node) ≤ N.faults (T.nv end.new.node) }
     ensures rose { IsTrue result.stopped → Rose (N.faults (T.nv end.old.node)) (N.faults (T.nv end.new.node)) }
 {
+    if let Some(lpdu) = end.reader.whole_frame(bytes) {
+        let count = lpdu.len() + 4;
+        let comings = [Coming::Frame(Lpdu::new(lpdu))];
+        let stopped = answer_all(&mut end.node, end.form, end.is_clf, &comings, out);
+        return Heard { count, stopped };
+    }
     let Stretch { count, brought } = end.reader.hear_stretch(bytes);
     if brought.is_nothing() {
         return Heard {

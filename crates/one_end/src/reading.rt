@@ -1,6 +1,8 @@
 //! What a node alone reads, byte by byte.
-ghost use Rattle.std.specs.Prelude.{◌≡◌, ◌==◌, ◌<◌, ◌≤◌, ◌++◌, List, ℕ, [], ◌∷◌, true, length, reverse, take};
+ghost use Rattle.std.specs.Prelude.{◌≡◌, ◌==◌, ◌<◌, ◌≤◌, ◌+◌, ◌++◌, List, ℕ, [], ◌∷◌, true, length, reverse, take, IfSome};
+ghost use Rattle.swp_base.specs.DataUnits.{IsLpdu};
 ghost use Rattle.byte_link.specs.Kept.{ByteLinkStandsFor};
+ghost use Rattle.lone_laws.specs.alone.Lone.LoneCause.{FrameComes};
 ghost use Rattle.lone_laws.specs.alone.Ends.{unit_brings, bytes_bring};
 ghost use Rattle.lone_laws.specs.alone.Ends.EndForm.{OnBytes};
 ghost use Rattle.one_end.specs.Reading.{causes_brought, is_nothing_brought};
@@ -100,6 +102,23 @@ impl Reader {
         }
     }
 
+    /// The LPDU of the frame that the first of these bytes bring, where they are a whole unit of a byte link. The unit is four bytes longer than the
+    /// LPDU, and the reader is behind it as it was before it.
+    #[inline(always)]
+    pub fn whole_frame<'a>(&self, bytes: &'a [u8]) -> Option<&'a [u8]>
+        ensures lpdu { IfSome result (λ lpdu. IsLpdu lpdu.now) }
+        ensures within { IfSome result (λ lpdu. length lpdu.now + 4 ≤ length bytes.now) }
+        ensures stands { IfSome result (λ lpdu. (number : ℕ) (older : List ℕ) → ReaderStandsFor self.now number older
+            → ReaderStandsFor self.now number (reverse (take (length lpdu.now + 4) bytes.now) ++ older)) }
+        ensures brings { IfSome result (λ lpdu. (number : ℕ) (older : List ℕ) → ReaderStandsFor self.now number older
+            → bytes_bring (form_read self.now) number older (take (length lpdu.now + 4) bytes.now) ≡ FrameComes lpdu.now ∷ []) }
+    {
+        match self {
+            Reader::Line(_) => None,
+            Reader::Bytes(link) => whole_unit(link, bytes),
+        }
+    }
+
     /// Takes the first of these bytes, up to the first one that brings something to the node, or all where none does.
     pub fn hear_stretch(&mut self, bytes: &[u8]) -> Stretch
         ensures form { form_read self.new ≡ form_read self.old }
@@ -155,6 +174,19 @@ fn pass_units(link: &mut ByteLink, bytes: &[u8]) -> usize
     ensures quiet { (number : ℕ) (older : List ℕ) → ByteLinkStandsFor link.old older → bytes_bring OnBytes number older (take result bytes.now) ≡ [] }
 {
     link.pass(bytes)
+}
+
+/// The LPDU of the unit of a byte link with which these bytes begin, where it is whole.
+#[inline(always)]
+fn whole_unit<'a>(link: &ByteLink, bytes: &'a [u8]) -> Option<&'a [u8]>
+    ensures lpdu { IfSome result (λ lpdu. IsLpdu lpdu.now) }
+    ensures within { IfSome result (λ lpdu. length lpdu.now + 4 ≤ length bytes.now) }
+    ensures stands { IfSome result (λ lpdu. (older : List ℕ) → ByteLinkStandsFor link.now older
+        → ByteLinkStandsFor link.now (reverse (take (length lpdu.now + 4) bytes.now) ++ older)) }
+    ensures brings { IfSome result (λ lpdu. (number : ℕ) (older : List ℕ) → ByteLinkStandsFor link.now older
+        → bytes_bring OnBytes number older (take (length lpdu.now + 4) bytes.now) ≡ FrameComes lpdu.now ∷ []) }
+{
+    link.whole_lpdu(bytes)
 }
 
 /// What a unit of a byte link brings.

@@ -7,7 +7,7 @@ ghost use Rattle.one_end.specs.Writing.{form_named};
 use arrayvec::ArrayVec;
 use byte_link::write_unit;
 use swp_base::Lpdu;
-use swp_frame::write_frame;
+use swp_frame::{BitBytes, append_frame};
 use swp_line::{Period, byte_of};
 
 /// What the bytes are that a node alone reads and writes.
@@ -47,33 +47,11 @@ fn write_periods(is_clf: bool, lpdu: &Lpdu, out: &mut Output)
     ensures written { (number : ℕ) → (number == 0) ≡ is_clf → out.new.items ≡ out.old.items ++ frame_written OnLine number lpdu.now }
     ensures sized { length out.new.items ≤ length out.old.items + 323 }
 {
-    let frame = write_frame(lpdu);
-    let bits = frame.bits.as_slice();
-    let periods = periods_of(is_clf, bits);
-    let _fits = out.try_extend_from_slice(&periods[..bits.len()]);
-}
-
-/// The periods of so many bits, at the front of these bytes.
-#[inline(always)]
-fn periods_of(is_clf: bool, bits: &[bool]) -> [u8; 336]
-    requires few { length bits.now ≤ 336 }
-    ensures written { (number : ℕ) → (number == 0) ≡ is_clf → take (length bits.now) result ≡ map (bit_written number) bits.now }
-{
-    let zero = period_of_bit(is_clf, false);
-    let one = period_of_bit(is_clf, true);
-    let mut periods = [zero; 336];
-    for (place, bit) in bits.iter().enumerate() {
-        periods[place] = either(*bit, one, zero);
-    }
-    periods
-}
-
-/// The first of two bytes where this is so, else the second.
-#[inline(always)]
-fn either(first: bool, one: u8, other: u8) -> u8
-    ensures { result ≡ (if first then one else other) }
-{
-    if first { one } else { other }
+    let periods = BitBytes {
+        zero: period_of_bit(is_clf, false),
+        one: period_of_bit(is_clf, true),
+    };
+    append_frame(lpdu, periods, out);
 }
 
 /// The period that carries a bit of one end, while the other end sends nothing.

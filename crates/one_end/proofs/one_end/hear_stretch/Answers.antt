@@ -1,6 +1,8 @@
 -- Bytes come, of which the last may bring something.
-use Rattle.std.proofs.Common.{◌≡◌, ◌∙◌, ◌++◌, [], false, List, ℕ, map, reverse, take, ap, sym}
+use Rattle.std.proofs.Common.{◌≡◌, ◌∙◌, ◌+◌, ◌++◌, [], ◌∷◌, false, List, ℕ, length, map, reverse, take, ap, sym}
 use Rattle.lone_laws.specs.alone.Ends.{bytes_bring}
+use Rattle.lone_laws.specs.alone.Lone.LoneCause.{FrameComes}
+use Rattle.one_end.specs.declared.node.Coming.TheVariants as coming
 use Rattle.one_end.specs.Running.{cause_of, RunsYet}
 use Rattle.one_end.specs.Standing.{IsAlone}
 use Rattle.one_end.specs.Writing.{form_named}
@@ -18,10 +20,10 @@ returns-clause-heard g c l older s =
     let given : map cause_of c.as_slice.result.now ≡ bytes_bring form g.T.LoneNode.number older came =
     ap (map cause_of) c.as_slice.ensures.value ∙ causes in
     same_causes g.N.Nv.writes form (bytes_bring form g.T.LoneNode.number older came) l given
-    (stands_as g.N.Nv.writes form (RunsYet (g.T.LoneNode.runs c.answer_all-stopped.new.node) c.answer_all-stopped.result)
+    (stands_as g.N.Nv.writes form (RunsYet (g.T.LoneNode.runs c.answer_all-stopped-2.new.node) c.answer_all-stopped-2.result)
     (IsAlone g.T.LoneNode.runs g.T.LoneNode.number
-    (record { form = c.args.end.now.form; is_clf = c.args.end.now.is_clf; reader = c.hear_stretch-count.new.self; node = c.answer_all-stopped.new.node })
-    (reverse came ++ older) c.answer_all-stopped.result) (map cause_of c.as_slice.result.now) l
+    (record { form = c.args.end.now.form; is_clf = c.args.end.now.is_clf; reader = c.hear_stretch-count.new.self; node = c.answer_all-stopped-2.new.node })
+    (reverse came ++ older) c.answer_all-stopped-2.result) (map cause_of c.as_slice.result.now) l
     (λ k b. (
       b.0,
       λ on. record {
@@ -29,6 +31,30 @@ returns-clause-heard g c l older s =
         role = s.role;
         form_is = c.hear_stretch-count.ensures.form ∙ s.form_is;
         reads = c.hear_stretch-count.ensures.stands g.T.LoneNode.number older s.reads;
+      },
+    )) (c.answer_all-stopped-2.ensures.done l s.runs))
+
+-- they begin with a whole unit
+pub returns-in-Some-clause-heard : goal.returns-in-Some-clause-heard
+returns-in-Some-clause-heard g c l older s =
+    let form = form_named c.args.end.now.form in
+    let lpdu : List ℕ = c.in-Some.lpdu.now in
+    let came : List ℕ = take (length lpdu + 4) c.args.bytes.now in
+    let given : map cause_of (coming.Frame c.new.result ∷ []) ≡ bytes_bring form g.T.LoneNode.number older came =
+    ap (λ xs. FrameComes xs ∷ []) c.new.ensures
+    ∙ (sym (c.in-Some.ensures.brings g.T.LoneNode.number older s.reads) ∙ ap (λ f. bytes_bring f g.T.LoneNode.number older came) s.form_is) in
+    same_causes g.N.Nv.writes form (bytes_bring form g.T.LoneNode.number older came) l given
+    (stands_as g.N.Nv.writes form (RunsYet (g.T.LoneNode.runs c.answer_all-stopped.new.node) c.answer_all-stopped.result)
+    (IsAlone g.T.LoneNode.runs g.T.LoneNode.number
+    (record { form = c.args.end.now.form; is_clf = c.args.end.now.is_clf; reader = c.args.end.now.reader; node = c.answer_all-stopped.new.node })
+    (reverse came ++ older) c.answer_all-stopped.result) (map cause_of (coming.Frame c.new.result ∷ [])) l
+    (λ k b. (
+      b.0,
+      λ on. record {
+        runs = b.1 on;
+        role = s.role;
+        form_is = s.form_is;
+        reads = c.in-Some.ensures.stands g.T.LoneNode.number older s.reads;
       },
     )) (c.answer_all-stopped.ensures.done l s.runs))
 
