@@ -1,5 +1,5 @@
 //! What a node keeps of one of its ends beside the end itself.
-ghost use Rattle.std.specs.Prelude.{◌≡◌};
+ghost use Rattle.std.specs.Prelude.{◌≡◌, option_map};
 ghost use Rattle.node_deeds.specs.Desks.{desk_of};
 
 use pipe_table::PipeRow;
@@ -57,8 +57,8 @@ impl Desk {
 }
 
 /// The desk of the end of the link with a host.
-pub(crate) fn desk_at(desks: &[Desk], host: u8) -> Option<Desk>
-    ensures { result ≡ desk_of desks.now host }
+pub(crate) fn desk_at(desks: &[Desk], host: u8) -> Option<&Desk>
+    ensures { option_map (λ desk. desk.now) result ≡ desk_of desks.now host }
 {
-    desks.iter().copied().find(|desk| desk.host == host)
+    desks.iter().find(|desk| desk.host == host)
 }
