@@ -104,8 +104,10 @@ module _ {N T : Type 0} (writes : N → ℕ → List ℕ → Bool → N → Type
     record {
       bytes = h.1.bytes;
       byte = h.1.byte;
-      rest = h.1.rest;
+      ahead = h.1.ahead;
       input_is = h.1.input_is;
+      near = h.1.near;
+      at_once = h.1.at_once;
       most = h.1.most;
       run = heard_is tells e false h.1.bytes before after h.1.heard;
     },
@@ -275,19 +277,22 @@ module _ {N T : Type 0} (writes : N → ℕ → List ℕ → Bool → N → Type
   }
 
   -- the last of them is one too many
-  pub too_long_in : (e : OneEnd T) (bytes piece left before now : List ℕ) (n : ℕ) → n < length piece → length bytes + n ≡ most_bytes
+  pub too_long_in : (given : ℕ) (e : OneEnd T) (bytes piece left before now : List ℕ) (n : ℕ) → length piece ≤ 8192 → length piece ≤ given
+      → n < length piece → length bytes + n ≡ most_bytes
       → HasHeardAlone writes nv Runs number tells o e false (bytes ++ take n piece) before now
-      → IsTooLongAlone writes nv Runs number tells o e (bytes ++ piece ++ left) before now
-  too_long_in e bytes piece left before now n within most h =
+      → IsTooLongAlone writes nv Runs number tells given o e (bytes ++ piece ++ left) left before now
+  too_long_in given e bytes piece left before now n near some within most h =
       let front = bytes ++ take n piece in
       let byte = get_or piece n 0 in
       let rest = drop (n + 1) piece in
       record {
         bytes = front;
         byte = byte;
-        rest = rest ++ left;
+        ahead = rest;
         input_is = ap (λ l. l ++ left) (sym (whole_piece bytes piece n within))
             ∙ (append_assoc (front ++ byte ∷ []) rest left ∙ append_assoc front (byte ∷ []) (rest ++ left));
+        near = let l = length-drop (n + 1) piece in omega (arith, l, near);
+        at_once = let l = length-drop (n + 1) piece in omega (arith, l, some);
         most = let l1 = length-append bytes (take n piece) in
             let l2 = length-take-le n piece (omega (arith, within)) in
             omega (arith, most, l1, l2);

@@ -62,7 +62,7 @@ module _ {N : Type 0} (reads : N → Bool → N → Type 0) (writes : N → ℕ 
       inr (whole status.NvFault b.first b.booted true b.ran.bytes (b.ran.ahead ++ left) b.ran.input_is (λ q. absurd (cc q)) (λ q. absurd (cc q)) b.ran.run)
   ran (status.TooMany count) b =
       let r = b.ran.1 in
-      whole (status.TooMany count) b.first b.booted false r.bytes (r.byte ∷ r.rest) r.input_is (λ q. absurd (cc q)) (λ q. absurd (cc q)) r.run
+      whole (status.TooMany count) b.first b.booted false r.bytes (r.byte ∷ (r.ahead ++ left)) r.input_is (λ q. absurd (cc q)) (λ q. absurd (cc q)) r.run
   ran status.NoMemory b = absurd b.ran
   ran status.BadWords b = absurd b.ran
   ran (status.BadSchedule line why) b = absurd b.ran

@@ -43,7 +43,7 @@ module _ {N : Type 0} (reads : N → Bool → N → Type 0) (writes : N → ℕ 
   complete_ended status.NvFault h kind few read write nv = absurd (nv refl)
   complete_ended (status.TooMany n) h kind few read write nv =
       let r = h.ran.1 in
-      let more = more_came r.bytes r.rest input r.byte r.input_is r.most in
+      let more = more_came r.bytes (r.ahead ++ left) input r.byte r.input_is r.most in
       absurd (omega (arith, more, few))
   complete_ended (status.BadImage why) h kind few read write nv = absurd (not_refused reads content tells old new why input left before after h sound next)
   complete_ended status.BadWords h kind few read write nv = absurd kind

@@ -94,13 +94,15 @@ pub record IsStoppedAlone {N T : Type 0} (writes : N → ℕ → List ℕ → Bo
   pub at_once : length ahead ≤ given
   pub heard : HasHeardAlone writes nv Runs number tells o e true bytes before after
 
--- one byte came more than may come
+-- One byte came more than may come. Behind it no more was read than the last read gave.
 pub record IsTooLongAlone {N T : Type 0} (writes : N → ℕ → List ℕ → Bool → N → Type 0) (nv : T → N) (Runs : T → Lone → List Control → Type 0)
-    (number : ℕ) (tells : Bool) (o : Began N) (e : OneEnd T) (input before after : List ℕ) : Type 0 where
+    (number : ℕ) (tells : Bool) (given : ℕ) (o : Began N) (e : OneEnd T) (input left before after : List ℕ) : Type 0 where
   pub bytes : List ℕ
   pub byte : ℕ
-  pub rest : List ℕ
-  pub input_is : input ≡ bytes ++ byte ∷ rest
+  pub ahead : List ℕ
+  pub input_is : input ≡ bytes ++ byte ∷ (ahead ++ left)
+  pub near : length ahead ≤ 8192
+  pub at_once : length ahead ≤ given
   pub most : length bytes ≡ most_bytes
   pub heard : HasHeardAlone writes nv Runs number tells o e false bytes before after
 
@@ -112,7 +114,7 @@ EndedInBytes writes nv Runs number tells given o e status.WriteFault input left 
 EndedInBytes writes nv Runs number tells given o e status.NvFault input left before after =
     IsStoppedAlone writes nv Runs number tells given o e input left before after
 EndedInBytes writes nv Runs number tells given o e (status.TooMany count) input left before after =
-    (count ≡ 16777217) × IsTooLongAlone writes nv Runs number tells o e input before after
+    (count ≡ 16777217) × IsTooLongAlone writes nv Runs number tells given o e input left before after
 EndedInBytes writes nv Runs number tells given o e _ input left before after = ⊥
 
 -- how a run with the word `end` can end while bytes come
@@ -195,13 +197,15 @@ pub record IsRunBrokenOff {N : Type 0} (writes : N → ℕ → List ℕ → Bool
   pub n : ℕ
   pub after_is : IsTrue tells → after ≡ before ++ (earlier ++ take n last)
 
--- one byte came more than may come
-pub record IsOneTooMany {N : Type 0} (writes : N → ℕ → List ℕ → Bool → N → Type 0) (tells : Bool) (form : EndForm) (is_clf : Bool) (content : List ℕ)
-    (first now : N) (input before after : List ℕ) : Type 0 where
+-- One byte came more than may come. Behind it no more was read than the last read gave.
+pub record IsOneTooMany {N : Type 0} (writes : N → ℕ → List ℕ → Bool → N → Type 0) (tells : Bool) (given : ℕ) (form : EndForm) (is_clf : Bool)
+    (content : List ℕ) (first now : N) (input left before after : List ℕ) : Type 0 where
   pub bytes : List ℕ
   pub byte : ℕ
-  pub rest : List ℕ
-  pub input_is : input ≡ bytes ++ byte ∷ rest
+  pub ahead : List ℕ
+  pub input_is : input ≡ bytes ++ byte ∷ (ahead ++ left)
+  pub near : length ahead ≤ 8192
+  pub at_once : length ahead ≤ given
   pub most : length bytes ≡ most_bytes
   pub run : HasRunAlone writes tells form is_clf content first now false bytes before after
 
@@ -238,7 +242,7 @@ RanSo writes tells given form is_clf content first now status.WriteFault input l
 RanSo writes tells given form is_clf content first now status.NvFault input left before after =
     IsRunStopped writes tells given form is_clf content first now input left before after
 RanSo writes tells given form is_clf content first now (status.TooMany count) input left before after =
-    (count ≡ 16777217) × IsOneTooMany writes tells form is_clf content first now input before after
+    (count ≡ 16777217) × IsOneTooMany writes tells given form is_clf content first now input left before after
 RanSo writes tells given form is_clf content first now _ input left before after = ⊥
 
 -- nothing was read or written

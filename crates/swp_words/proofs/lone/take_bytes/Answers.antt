@@ -101,8 +101,8 @@ returns-then-few-piece-clause-ends g c given o bytes left before count some h =
     before mid now k c.in-Ok-put_out.ensures.wrote) in
     let most : length bytes + few ≡ most_bytes = omega (arith, c.min-few.ensures, c.if-few-piece.true, c.requires.few, count) in (
       refl,
-      too_long_in g.N.Nv.writes g.T.LoneNode.nv g.T.LoneNode.runs g.T.LoneNode.number g.K.Sink.tells o e bytes piece left before now few c.if-few-piece.true
-          most
+      too_long_in g.N.Nv.writes g.T.LoneNode.nv g.T.LoneNode.runs g.T.LoneNode.number g.K.Sink.tells o given e bytes piece left before now few
+          c.requires.size some c.if-few-piece.true most
           (subst (λ m. HasHeardAlone g.N.Nv.writes g.T.LoneNode.nv g.T.LoneNode.runs g.T.LoneNode.number g.K.Sink.tells o e false (bytes ++ take m piece)
           before now) all heard),
     )
