@@ -156,7 +156,7 @@ event_few l (Activate power c id h) a =
     swapped_few (steps_at_controller (exchanged near) (Starts id) h.turns h.ending)
     (step_few (exchanged near) (Starts id) h.turns h.ending (swapped_few near fine))
 
-after_few : (es : List LinkEvent) (l : Link) → IsFewWires l → IsFewWires (after_link_events l es)
+pub after_few : (es : List LinkEvent) (l : Link) → IsFewWires l → IsFewWires (after_link_events l es)
 after_few [] l a = a
 after_few (e ∷ es) l a = after_few es (happens l e) (event_few l e a)
 

@@ -16,7 +16,8 @@ use Rattle.node_laws.proofs.rounds.Allowing.{fine_there}
 use Rattle.world_laws.proofs.worlds.Rounds.{IsReached}
 use Rattle.world_laws.proofs.worlds.Replayed.{happens_first, none_happens, causes-append, both}
 use Rattle.world_laws.proofs.worlds.CausesOfRounds.{kept_end, kept_round, kept_rounds}
-use Rattle.world_laws.proofs.worlds.FewOnWires.{few_by_sites, takes_few, ticks_few, run_few}
+use Rattle.node_laws.proofs.schedules.Wires.{run_few}
+use Rattle.world_laws.proofs.worlds.FewOnWires.{few_by_sites, takes_few, ticks_few}
 
 count_both : (first later : NodeWorld × List Occurrence)
     → length (happened_in (both first later).1) ≡ length (happened_in first.1) + length (happened_in later.1)
