@@ -9,7 +9,7 @@ use Rattle.node_machine.specs.Parts.{Work, Deed}
 use Rattle.node_machine.specs.Carrying.{end_of_node}
 use Rattle.node_machine.specs.Turns.{deeds_of, handles, holds_back, lets_go}
 use Rattle.node_laws.specs.passes.Noting.{noted_by_deeds}
-use Rattle.node_laws.specs.passes.Passing.{IsNoTurn, AreNoTurns, waiting_at, is_held_at, takes_up, LastsOverTurns, ComesTo, waits_after}
+use Rattle.node_laws.specs.passes.Passing.{IsNoTurn, AreNoTurns, waiting_at, is_held_at, takes_up, LastsOverTurns, ComesTo, waiting_after}
 use Rattle.node_laws.specs.passes.Passing.{waits_behind, IsWaitingRead}
 use Rattle.node_laws.proofs.passes.Ends.{SeesAt, lets_see}
 use Rattle.node_laws.proofs.passes.Turnless.{reply_none}
@@ -21,9 +21,9 @@ State = List Message × Bool
 
 behind-append : (k : ℕ) (s : State) (es more : List Entry) → waits_behind k s (es ++ more) ≡ waits_behind k (waits_behind k s es) more
 behind-append k s [] more = refl
-behind-append k s (x ∷ es) more = behind-append k (waits_after k s x) es more
+behind-append k s (x ∷ es) more = behind-append k (waiting_after k s x) es more
 
-no_turn_same : (k : ℕ) (s : State) (x : Entry) → IsNoTurn x → waits_after k s x ≡ s
+no_turn_same : (k : ℕ) (s : State) (x : Entry) → IsNoTurn x → waiting_after k s x ≡ s
 no_turn_same k s (entry.Turn e pid message) n = absurd (cc n)
 no_turn_same k s (entry.Held e need spare) n = absurd (cc n)
 no_turn_same k s x n = refl
@@ -74,7 +74,7 @@ module _ (k : ℕ) (w : Work) where
 
       same : waits_behind k s (turn ∷ told) ≡ cond (h == k) (drop 1 s.0, false) s
       same =
-          no_turns_same k (waits_after k s turn) told (reply_none v.core v.ports h m (takes_up h m v))
+          no_turns_same k (waiting_after k s turn) told (reply_none v.core v.ports h m (takes_up h m v))
           ∙ ap (λ n. cond (n == k) (drop 1 s.0, false) s) (link_is v.core h)
 
       go : (b : Bool) → (h == k) ≡ b → SeesAt k (cond b (drop 1 s.0, false) s).0 (cond b (drop 1 s.0, false) s).1 u
@@ -103,7 +103,7 @@ module _ (k : ℕ) (w : Work) where
       told : (b : Bool) → State
       told b = waits_behind k s (cond b [] (one ∷ []))
 
-      after : waits_after k s one ≡ cond (h == k) (s.0, true) s
+      after : waiting_after k s one ≡ cond (h == k) (s.0, true) s
       after = ap (λ n. cond (n == k) (s.0, true) s) (link_is v.core h)
 
       own : h ≡ k → SeesAt k s.0 true u

@@ -28,7 +28,7 @@ use Rattle.node_laws.proofs.telling.Steps.{sessions_side}
 use Rattle.node_laws.proofs.steps.StepWalks.{unless}
 use Rattle.node_laws.specs.passes.Steps.{has_come_so, has_freed, has_synced, comes_to_pass, syncs_in, owed_in_step}
 use Rattle.node_laws.proofs.passes.Passing.{comes_so}
-use Rattle.node_laws.specs.passes.Passing.{ComesTo, ArePassed, IsTurnSo, AreNoTurns, IsNoTurn, waits_after, waits_behind}
+use Rattle.node_laws.specs.passes.Passing.{ComesTo, ArePassed, IsTurnSo, AreNoTurns, IsNoTurn, waiting_after, waits_behind}
 use Rattle.node_laws.specs.answers.Moments.{holds_in}
 
 -- ## No boots
@@ -216,7 +216,7 @@ module _ (k : ℕ) (b : Bool) where
   e = record { link = k; at_host = b }
 
   told_one : (s : List Entry) (x : Entry) (ms : List Message) → IsOnSide b x
-      → holds_in (s ++ x ∷ []) e ≡ (waits_after k (ms, holds_in s e) x).1
+      → holds_in (s ++ x ∷ []) e ≡ (waiting_after k (ms, holds_in s e) x).1
   told_one s (entry.Turn f pid message) ms on =
       fold-append _ false s (entry.Turn f pid message ∷ [])
       ∙ (ap (λ c. cond c false (holds_in s e)) (same_by f k b on) ∙ by (eqb f.link k)) where
@@ -237,8 +237,8 @@ module _ (k : ℕ) (b : Bool) where
   told_all s [] ms on = ap (λ l. holds_in l e) (append-nil s)
   told_all s (x ∷ es) ms on =
       ap (λ l. holds_in l e) (sym (append_assoc s (x ∷ []) es))
-      ∙ (told_all (s ++ x ∷ []) es (waits_after k (ms, holds_in s e) x).0 on.1
-      ∙ ap (λ c. (waits_behind k ((waits_after k (ms, holds_in s e) x).0, c) es).1) (told_one s x ms on.0))
+      ∙ (told_all (s ++ x ∷ []) es (waiting_after k (ms, holds_in s e) x).0 on.1
+      ∙ ap (λ c. (waits_behind k ((waiting_after k (ms, holds_in s e) x).0, c) es).1) (told_one s x ms on.0))
 
   far_one : (s : List Entry) (x : Entry) → IsOnSide (not b) x → holds_in (s ++ x ∷ []) e ≡ holds_in s e
   far_one s (entry.Turn f pid message) on =

@@ -170,14 +170,14 @@ pub record IsBehind (J : Work → Type 0) (w v : Work) (earlier : List ℕ) (h :
 -- ## What waits, as it is read
 
 -- the messages that wait at the end of the link with this host, and whether the first of them was noted as held, after an entry of a pass
-abbrev pub waits_after : ℕ → List Message × Bool → Entry → List Message × Bool
-waits_after h s (entry.Turn e pid message) = if e.link == h then (drop 1 s.0, false) else s
-waits_after h s (entry.Held e need spare) = if e.link == h then (s.0, true) else s
-waits_after h s _ = s
+abbrev pub waiting_after : ℕ → List Message × Bool → Entry → List Message × Bool
+waiting_after h s (entry.Turn e pid message) = if e.link == h then (drop 1 s.0, false) else s
+waiting_after h s (entry.Held e need spare) = if e.link == h then (s.0, true) else s
+waiting_after h s _ = s
 
 -- behind these entries
 abbrev pub waits_behind : ℕ → List Message × Bool → List Entry → List Message × Bool
-waits_behind h s es = fold (waits_after h) s es
+waits_behind h s es = fold (waiting_after h) s es
 
 -- what waits at that end as a node has come from w by turns is read off what was noted since
 pub record IsWaitingRead (h : ℕ) (w v : Work) : Type 0 where
