@@ -1,5 +1,5 @@
 //! The reader of a text.
-ghost use Rattle.std.specs.Prelude.{IfOk};
+ghost use Rattle.std.specs.Prelude.{◌≡◌, IfOk, IfErr, IfSome, None, Some};
 
 use crate::fault::{VcdFault, VcdRefusal};
 use crate::number::{femtoseconds_of, number_of};
@@ -72,7 +72,7 @@ pub struct VcdReader {
     code_is_longer: bool,
     s1_code: Option<Code>,
     s2_code: Option<Code>,
-    now: Option<u64>,
+    last_time: Option<u64>,
     s1: bool,
     s2: bool,
     told_s1: bool,
@@ -82,8 +82,11 @@ pub struct VcdReader {
 impl VcdReader {
     ghost use Rattle.vcd_text.specs.Times.{FitsTold};
 
-    /// In front of the first byte.
-    pub fn new() -> Self {
+    /// In front of the first byte, which stands in line 1, and of the first time.
+    pub fn new() -> Self
+        ensures line { result.line ≡ 1 }
+        ensures time { result.last_time ≡ None }
+    {
         VcdReader {
             line: 1,
             word: Word::new(),
@@ -95,7 +98,7 @@ impl VcdReader {
             code_is_longer: false,
             s1_code: None,
             s2_code: None,
-            now: None,
+            last_time: None,
             s1: false,
             s2: false,
             told_s1: false,
@@ -128,12 +131,17 @@ impl VcdReader {
     }
 
     /// The number of the line that the next byte stands in.
-    pub fn line(&self) -> u64 {
+    pub fn line(&self) -> u64
+        ensures { result ≡ self.now.line }
+    {
         self.line
     }
 
-    /// The text has ended; the last byte taken ended a word.
-    pub fn finish(&self) -> Result<VcdEnd, VcdRefusal> {
+    /// The text has ended, at the last time; the last byte taken ended a word.
+    pub fn finish(&self) -> Result<VcdEnd, VcdRefusal>
+        ensures time { IfOk result (λ end. self.now.last_time ≡ Some end.time) }
+        ensures refused { IfErr result (λ refusal. refusal.line ≡ self.now.line) }
+    {
         let line = self.line;
         match self.place {
             Place::Changes | Place::Comment | Place::OtherCode => {}
@@ -144,7 +152,7 @@ impl VcdReader {
                 });
             }
         }
-        match self.now {
+        match self.last_time {
             Some(time) => Ok(VcdEnd {
                 change: self.change_at(time),
                 time,
@@ -328,8 +336,8 @@ impl VcdReader {
             Some(time) if time < MOST_TIME => time,
             _ => return Err(VcdFault::TimeTooLarge),
         };
-        let Some(now) = self.now else {
-            self.now = Some(time);
+        let Some(now) = self.last_time else {
+            self.last_time = Some(time);
             return Ok(Told::Begins(time));
         };
         if time < now {
@@ -339,7 +347,7 @@ impl VcdReader {
             return Ok(Told::Nothing);
         }
         let change = self.change_at(now);
-        self.now = Some(time);
+        self.last_time = Some(time);
         self.told_s1 = self.s1;
         self.told_s2 = self.s2;
         match change {
@@ -349,7 +357,9 @@ impl VcdReader {
     }
 
     /// The change at this time, where the levels are other than those told last.
-    fn change_at(&self, time: u64) -> Option<Change> {
+    fn change_at(&self, time: u64) -> Option<Change>
+        ensures { IfSome result (λ change. change.time ≡ time) }
+    {
         if self.s1 == self.told_s1 && self.s2 == self.told_s2 {
             return None;
         }
