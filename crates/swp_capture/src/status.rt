@@ -1,6 +1,6 @@
 //! How a run of the program ended.
-ghost use Rattle.std.specs.Prelude.{◌≡◌};
-ghost use Rattle.swp_capture.specs.Statuses.{capture_code_of};
+ghost use Rattle.std.specs.Prelude.{◌≡◌, IfOk, string_bytes};
+ghost use Rattle.swp_capture.specs.Statuses.{capture_code_of, capture_line, capture_fault_text};
 
 use std::alloc::{AllocError, Global};
 use vcd_text::VcdFault;
@@ -43,7 +43,9 @@ pub fn exit_code(status: &Status) -> u8
 }
 
 /// What the program says of a status on standard error; of `Done` it says nothing.
-pub fn status_text(alloc: Global, status: &Status) -> Result<String, AllocError> {
+pub fn status_text(alloc: Global, status: &Status) -> Result<String, AllocError>
+    ensures { IfOk result (λ text. string_bytes text ≡ capture_line status.now) }
+{
     match status {
         Status::Done => Ok(String::new(alloc)),
         Status::BadWords => String::from_str(alloc, "usage: swp_capture vcd RATE|auto"),
@@ -59,7 +61,9 @@ pub fn status_text(alloc: Global, status: &Status) -> Result<String, AllocError>
     }
 }
 
-fn fault_words(fault: VcdFault) -> &'static str {
+fn fault_words(fault: VcdFault) -> &'static str
+    ensures { result.now ≡ capture_fault_text fault }
+{
     match fault {
         VcdFault::NoVcd => "no declaration",
         VcdFault::NoDefinitions => "no end of the declarations",
