@@ -50,7 +50,7 @@ impl<N: Nv + Drop> Controller<N> {
     ghost use Rattle.node_machine.specs.Carrying.{port_at, with_port};
     ghost use Rattle.node_machine.specs.Node.{steps};
     ghost use Rattle.node_machine.specs.Node.NodeInput.{AtEnd, TimePasses};
-    ghost use Rattle.node_ends.specs.Ends.{has_sent, frame_at, are_at_rest};
+    ghost use Rattle.node_ends.specs.Ends.{has_sent, frame_at, are_at_rest, HasNoneDue};
     ghost use Rattle.node_ends.specs.Making.{new_port};
     ghost use Rattle.node_core.specs.Booting.{found_in_memory, IsBootRefused};
     ghost use Rattle.node_core.specs.Bringing.{Brings};
@@ -254,6 +254,16 @@ impl<N: Nv + Drop> Controller<N> {
         ensures store { self.new.store ≡ self.old.store }
     {
         self.node.next_out(host)
+    }
+
+    /// Whether no frame is due to this host. False says nothing, as where the ends of other hosts stand otherwise than from 01 on.
+    #[inline(always)]
+    pub fn has_none_due(&self, host: u8) -> bool
+        requires runs { (core : Core) × (ports : List Port) × RunsAs self.now core ports }
+        ensures { (core : Core) (ports : List Port) (p : Port) → RunsAs self.now core ports → port_at ports host ≡ Some p → IsTrue result → HasNoneDue p.side }
+    {
+        self.node
+            .has_none_due(usize::from(host.saturating_sub(1)), host)
     }
 
     /// Whether all its ends are at rest: none waits for the acceptance of a reset, and at each that is Up all messages that were sent in

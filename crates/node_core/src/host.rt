@@ -55,7 +55,7 @@ impl<N: Nv + Drop> Host<N> {
     ghost use Rattle.node_machine.specs.Node.NodeInput.{AtEnd, TimePasses};
     ghost use Rattle.node_machine.specs.world.World.{sending, beginning};
     ghost use Rattle.node_machine.specs.world.Lines.{if_waiting};
-    ghost use Rattle.node_ends.specs.Ends.{has_sent, frame_at, are_at_rest};
+    ghost use Rattle.node_ends.specs.Ends.{has_sent, frame_at, are_at_rest, HasNoneDue};
     ghost use Rattle.node_ends.specs.Making.{new_port};
     ghost use Rattle.node_core.specs.Booting.{found_in_memory, IsBootRefused};
     ghost use Rattle.node_core.specs.Bringing.{Brings};
@@ -244,6 +244,17 @@ impl<N: Nv + Drop> Host<N> {
     {
         let host = self.node.number();
         self.node.next_out(host)
+    }
+
+    /// Whether no frame is due. False says nothing.
+    #[inline(always)]
+    pub fn has_none_due(&self) -> bool
+        requires runs { (core : Core) × (ports : List Port) × RunsAs self.now core ports }
+        ensures { (core : Core) (ports : List Port) (p : Port) → RunsAs self.now core ports → port_at ports self.now.number ≡ Some p
+            → IsTrue result → HasNoneDue p.side }
+    {
+        let host = self.node.number();
+        self.node.has_none_due(0, host)
     }
 
     /// A message, which isn't empty, is sent on a pipe that isn't reserved (ETSI TS 102 622, section 5). Nothing is committed.

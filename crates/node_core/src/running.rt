@@ -40,12 +40,12 @@ pub fn how_it_ran(live: bool) -> Ran
 }
 
 impl<N: Nv + Drop> Node<N> {
-    ghost use Rattle.std.specs.Prelude.{◌≡◌, List, map, Some, None, IfSome, Ok, option_map, slice_get};
+    ghost use Rattle.std.specs.Prelude.{◌≡◌, List, map, Some, None, IfSome, IsTrue, Ok, option_map, slice_get};
     ghost use Rattle.swp_lpdu.specs.Controls.{lpdu_of, control_of};
     ghost use Rattle.link_laws.specs.machine.Machine.{next_frame};
     ghost use Rattle.node_machine.specs.Parts.{Core, Port};
     ghost use Rattle.node_machine.specs.Carrying.{port_at, with_port};
-    ghost use Rattle.node_ends.specs.Ends.{EndsStandFor, has_sent, frame_at, are_at_rest};
+    ghost use Rattle.node_ends.specs.Ends.{EndsStandFor, has_sent, frame_at, are_at_rest, HasNoneDue};
     ghost use Rattle.node_core.specs.Nodes.{IsSoundNode};
     ghost use Rattle.node_core.specs.Running.{RunsAs, between, one_more_error};
 
@@ -105,6 +105,21 @@ impl<N: Nv + Drop> Node<N> {
             return None;
         };
         self.ends.next_out(i)
+    }
+
+    /// Whether no frame is due at the end of the link with this host, which is looked for at this place alone. False says nothing.
+    #[inline(always)]
+    pub fn has_none_due(&self, near: usize, host: u8) -> bool
+        requires runs { (core : Core) × (ports : List Port) × RunsAs self.now core ports }
+        ensures { (core : Core) (ports : List Port) (p : Port) → RunsAs self.now core ports → port_at ports host ≡ Some p → IsTrue result → HasNoneDue p.side }
+    {
+        let Some(there) = self.ends.host(near) else {
+            return false;
+        };
+        if there != host {
+            return false;
+        }
+        self.ends.is_idle(near)
     }
 
     /// Whether all its ends are at rest: none waits for the acceptance of a reset, and at each that is Up all messages that were sent in

@@ -4,7 +4,7 @@ use Rattle.std.specs.Prelude.{◌&&◌, not, Some, None, option_map}
 use Rattle.std.specs.List.{AllByRecursion, list_all}
 use Rattle.std.specs.Option.{option_map_or}
 use Rattle.block_pool.specs.Pool.{PoolState}
-use Rattle.link_laws.specs.machine.Machine.{Message, is_held, give_refusal, whole_acked, next_frame, frame_fetched}
+use Rattle.link_laws.specs.machine.Machine.{LinkEnd as Machine, Message, is_held, give_refusal, whole_acked, next_frame, frame_fetched, frames_out, sent_all}
 use Rattle.link_laws.specs.machine.AtRest.{end_rests}
 use Rattle.swp_lpdu.specs.Controls.{lpdu_of}
 use Rattle.swp_act.specs.declared.ActEvent.TheVariants.{Start as ActStart}
@@ -136,3 +136,8 @@ has_sent p = record p { side = frame_fetched p.side }
 abbrev pub frame_at : Option Port → Option (List ℕ)
 frame_at None = None
 frame_at (Some p) = option_map lpdu_of (next_frame p.side)
+
+-- an end at which no frame is due
+pub record HasNoneDue (m : Machine) : Type 0 where
+  pub frames : frames_out m ≡ []
+  pub sent : sent_all m ≡ m

@@ -2,7 +2,7 @@
 ghost use Rattle.link_laws.specs.machine.Machine.{whole_acked};
 ghost use Rattle.std.specs.Prelude.{IfNone, take, ◌∷◌, []};
 ghost use Rattle.node_ends.specs.Holding.{kept_number};
-ghost use Rattle.std.specs.Prelude.{◌≡◌, ◌<◌, ◌≤◌, ◌+◌, min, ℕ, List, Some, IfSome, Ok, false, length, option_map, slice_get};
+ghost use Rattle.std.specs.Prelude.{◌≡◌, ◌<◌, ◌≤◌, ◌+◌, min, ℕ, List, Some, IfSome, IsTrue, Ok, false, length, option_map, slice_get};
 ghost use Rattle.link_laws.specs.machine.Machine.LinkInput.{Tick, Reset, Start, Stop};
 ghost use Rattle.link_end.specs.Reports.{reset_told};
 ghost use Rattle.swp_lpdu.specs.Controls.{lpdu_of, control_of};
@@ -18,7 +18,7 @@ ghost use Rattle.link_laws.specs.machine.Machine.{spare};
 ghost use Rattle.node_machine.specs.Controller.{has_link};
 ghost use Rattle.node_machine.specs.Parts.{Port};
 ghost use Rattle.node_machine.specs.Carrying.{port_at, with_port, after_turn};
-ghost use Rattle.node_ends.specs.Ends.{AreEnds, FewAreDue, IsHeldWhileOneWaits, MayStartAt, held_at, takes_at, place_in, at_place, has_sent, frame_at};
+ghost use Rattle.node_ends.specs.Ends.{AreEnds, FewAreDue, IsHeldWhileOneWaits, MayStartAt, held_at, takes_at, place_in, at_place, has_sent, frame_at, HasNoneDue};
 
 use crate::new_seats::add_seats;
 use crate::places::place_of;
@@ -52,7 +52,7 @@ impl Ends {
     ghost use Rattle.node_machine.specs.Node.{with_older, without_notice, reset_late, is_over_at, forgets};
     ghost use Rattle.node_ends.specs.Holding.{kept_number};
     ghost use Rattle.node_ends.specs.Desks.{IsYoung};
-    ghost use Rattle.std.specs.Prelude.{◌≡◌, ◌≤◌, ◌+◌, min, [], ℕ, List, Some, IfSome, Ok, false, length, option_map, slice_get};
+    ghost use Rattle.std.specs.Prelude.{◌≡◌, ◌≤◌, ◌+◌, min, [], ℕ, List, Some, IfSome, IsTrue, Ok, false, length, option_map, slice_get};
     ghost use Rattle.swp_lpdu.specs.Controls.{lpdu_of, control_of};
     ghost use Rattle.link_laws.specs.machine.Machine.{lpdu_input, next_frame, report};
     ghost use Rattle.link_laws.specs.machine.Machine.LinkInput.{Tick, Reset, Start, Stop};
@@ -68,7 +68,7 @@ impl Ends {
     ghost use Rattle.node_machine.specs.Controller.{has_link};
     ghost use Rattle.node_machine.specs.Carrying.{port_at, with_port, after_turn};
     ghost use Rattle.node_ends.specs.Ends.{EndsStandFor, FewAreDue, IsHeldWhileOneWaits, MayStartAt, held_at, takes_at, at_place, late_told};
-    ghost use Rattle.node_ends.specs.Ends.{has_sent, frame_at};
+    ghost use Rattle.node_ends.specs.Ends.{has_sent, frame_at, HasNoneDue};
 
     /// New ends of the links with these hosts, at most seven, in a pool with 128 blocks of each end for what it sends, and 512 for what
     /// comes there.
@@ -365,6 +365,18 @@ impl Ends {
         send_place(&mut self.seats, i, &self.pool)
     }
 
+    /// Whether nothing is under way at the end at this place, so that no frame is due there. False says nothing.
+    #[inline(always)]
+    pub fn is_idle(&self, i: usize) -> bool
+        requires { (ports : List Port) × EndsStandFor self.now ports }
+        ensures { (ports : List Port) (p : Port) → EndsStandFor self.now ports → slice_get ports i ≡ Some p → IsTrue result → HasNoneDue p.side }
+    {
+        if i >= self.seats.len() {
+            return false;
+        }
+        idle_place(self.seats.as_slice(), i, &self.pool)
+    }
+
     /// The notice at the end at this place is one of a creation that was forgotten, where the session of the creation's asker has ended in
     /// this step. Nothing changes behind the last end.
     pub fn forget(&mut self, i: usize)
@@ -646,6 +658,15 @@ fn send_place(seats: &mut [Seat], i: usize, pool: &Pool) -> Option<Lpdu>
         → IfSome (next_frame p.side) (λ c. control_of (lpdu_of c) ≡ Ok c) }
 {
     seats[i].next_out(pool)
+}
+
+#[inline(always)]
+fn idle_place(seats: &[Seat], i: usize, pool: &Pool) -> bool
+    requires inside { i < length seats.now }
+    requires stands { (ports : List Port) × AreEnds pool.now seats.now ports }
+    ensures { (ports : List Port) (p : Port) → AreEnds pool.now seats.now ports → slice_get ports i ≡ Some p → IsTrue result → HasNoneDue p.side }
+{
+    seats[i].side.is_idle()
 }
 
 fn holds_at(seats: &[Seat], i: usize, pool: &Pool, host: u8) -> bool

@@ -1,5 +1,5 @@
 //! What the world asks of a node: of a controller and a host, and of one of them alone.
-ghost use Rattle.std.specs.Prelude.{◌≡◌, ◌<◌, ◌≤◌, ◌==◌, ◌&&◌, ℕ, Bool, true, [], ◌∷◌, List, length, map, is_some, None, Some, Ok, IfOk, IfSome};
+ghost use Rattle.std.specs.Prelude.{◌≡◌, ◌<◌, ◌≤◌, ◌==◌, ◌&&◌, ℕ, Bool, true, [], ◌∷◌, List, length, map, is_some, None, Some, Ok, IfOk, IfSome, IsTrue};
 ghost use Rattle.std.specs.Prelude.{MatchResult, OnOk, OnErr};
 ghost use Rattle.std.specs.List.{AllByRecursion};
 ghost use Rattle.swp_base.specs.InMemory.{Memory};
@@ -18,7 +18,7 @@ ghost use Rattle.node_machine.specs.Node.{steps, begins_with};
 ghost use Rattle.node_machine.specs.Node.NodeInput.{AtEnd, TimePasses};
 ghost use Rattle.node_machine.specs.world.World.{sending, beginning};
 ghost use Rattle.node_machine.specs.world.Lines.{if_waiting};
-ghost use Rattle.node_ends.specs.Ends.{are_at_rest, has_sent, frame_at};
+ghost use Rattle.node_ends.specs.Ends.{are_at_rest, has_sent, frame_at, HasNoneDue};
 ghost use Rattle.node_core.specs.Giving.{refused_as};
 ghost use Rattle.node_core.specs.Running.{one_more_error, reset_refusal_at};
 ghost use Rattle.node_sites.specs.WorldNodes.{GoesOutWhole, as_kept, BeginsOver, BeginsAt, MayBeginStep, MayBeginAt, HasEndOf, HasGone, IsNotedSo};
@@ -104,6 +104,12 @@ pub trait WorldNode {
         ensures read { (core : Core) (ports : List Port) (p : Port) → runs self.old core ports → port_at ports host ≡ Some p
             → IfSome (next_frame p.side) (λ c. control_of (lpdu_of c) ≡ Ok c) }
         ensures memory { memory self.new ≡ memory self.old };
+
+    /// Whether no frame is due at the end of the link with this host. False says nothing.
+    fn has_none_due(&self, host: u8) -> bool
+        requires has { HasEndOf runs self.now host }
+        ensures { (core : Core) (ports : List Port) (p : Port) → runs self.now core ports → port_at ports host ≡ Some p
+            → IsTrue result → HasNoneDue p.side };
 
     /// Plans that the `nth` write of the memory from now fails, where 1 is the next, and what its range is filled with. An earlier plan is
     /// given up. Nothing else changes.

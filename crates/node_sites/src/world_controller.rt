@@ -60,6 +60,10 @@ impl WorldNode for Controller<MemNv> {
         Controller::next_out(self, host)
     }
 
+    fn has_none_due(&self, host: u8) -> bool {
+        Controller::has_none_due(self, host)
+    }
+
     fn arm(&mut self, nth: u32, fill: ArrayVec<u8, 64>) {
         Controller::arm(self, nth, fill);
     }

@@ -48,6 +48,10 @@ impl WorldNode for Host<MemNv> {
         Host::next_out(self)
     }
 
+    fn has_none_due(&self, _host: u8) -> bool {
+        Host::has_none_due(self)
+    }
+
     fn arm(&mut self, nth: u32, fill: ArrayVec<u8, 64>) {
         Host::arm(self, nth, fill);
     }

@@ -1,0 +1,80 @@
+use Rattle.std.proofs.Common.{◌≡◌, ℕ, ◌-◌, List, refl, sym, subst, ap, ◌∙◌, arith}
+use Rattle.std.specs.Prelude.{None, option_map}
+use Rattle.swp_lpdu.specs.Controls.{lpdu_of, control_of}
+use Rattle.link_laws.specs.machine.Machine.{next_frame}
+use Rattle.link_laws.specs.machine.Laws.{most_fetches}
+use Rattle.node_machine.specs.Parts.{Core, Port}
+use Rattle.node_machine.specs.Carrying.{with_port}
+use Rattle.node_sites.specs.WorldNodes.{GoesOutWhole}
+use Rattle.node_sites.proofs.FramesGoOut.{Sending, sending_starts, sending_next, sending_stops, sending_over, at_found, found_with, with_side}
+use Rattle.node_sites.proofs.FramesGoOut.{fetched_is, none_fetched, read_of}
+use Rattle.node_sites.proofs.sending.send_each.Goals as goal
+
+pub loop-init : goal.loop-init
+loop-init g c = record {
+  goes = λ core ports p m is w.
+      let whole = at_found (λ (q : Port). GoesOutWhole q.side) c.args.at.link p ports (g.met.P.WorldNode.whole c.args.node.now core ports is.runs) is.here in
+      let Runs : List Port → Type 0 = g.P.WorldNode.runs c.args.node.now core in
+      let P : ℕ → Type 0 = λ n. Sending Runs c.args.wires.now c.args.at ports p m c.args.entries.now.items c.args.entries.now.items n in
+      let all : most_fetches p.side ≡ most_fetches p.side - 0 = omega arith in
+      subst P all (sending_starts is.runs is.only whole w);
+  memory = refl;
+  grows = omega arith;
+}
+
+pub next_out-requires : goal.next_out-requires
+next_out-requires g c =
+    let r = c.requires.state in
+    let core : Core = r.0 in
+    let ports : List Port = r.1 in
+    let p : Port = r.2 in
+    let s = c.loop.invariant.goes core ports p r.3 r.4 r.5 in
+    record {
+      has = record {
+        core = core;
+        ports = with_port c.args.at.link (with_side s.e) ports;
+        runs = s.runs;
+        port = with_side s.e p;
+        here = found_with c.args.at.link s.e p ports r.4.here;
+      };
+    }
+
+pub returns-in_default-clause-stands : goal.returns-in_default-clause-stands
+returns-in_default-clause-stands g c core ports p l is w =
+    let n = c.next_out in
+    let h : ℕ = c.args.at.link in
+    let s = c.loop.invariant.goes core ports p l is w in
+    let now : List Port = with_port h (with_side s.e) ports in
+    let found = found_with h s.e p ports is.here in
+    let none : None ≡ option_map lpdu_of (next_frame s.e) = sym c.in_default.is ∙ n.ensures.answer core now (with_side s.e p) s.runs found in
+    let whole = at_found (λ (q : Port). GoesOutWhole q.side) h (with_side s.e p) now (g.met.P.WorldNode.whole c.loop.node core now s.runs) found in
+    sending_stops (g.P.WorldNode.runs n.new.self core) c.args.entries.now.items s is.only whole (none_fetched (next_frame s.e) none)
+    (n.ensures.runs core now (with_side s.e p) s.runs found)
+
+pub loop-preserved : goal.loop-preserved
+loop-preserved g c =
+    let n = c.next_out in
+    let h : ℕ = c.args.at.link in
+    record {
+      goes = λ core ports p l is w.
+          let s = c.loop.invariant.goes core ports p l is w in
+          let now : List Port = with_port h (with_side s.e) ports in
+          let found = found_with h s.e p ports is.here in
+          let one = fetched_is s.e c.in-Some.lpdu (sym c.in-Some.is ∙ n.ensures.answer core now (with_side s.e p) s.runs found) in
+          let read = read_of (next_frame s.e) one.frame one.next (n.ensures.read core now (with_side s.e p) s.runs found) in
+          let whole = at_found (λ (q : Port). GoesOutWhole q.side) h p ports (g.met.P.WorldNode.whole c.args.node.now core ports is.runs) is.here in
+          sending_next c.args.entries.now.items (most_fetches p.side) c.loop.counter (most_fetches p.side - c.loop.counter) one.frame refl s whole one.next
+          (n.ensures.runs core now (with_side s.e p) s.runs found)
+          (c.in_ok-put.ensures.stands s.link one.frame s.wires one.bytes (ap control_of one.bytes ∙ read));
+      memory = n.ensures.memory ∙ c.loop.invariant.memory;
+      grows = let i = c.loop.invariant.grows in let j = c.put.ensures.grows in omega (arith, i, j);
+    }
+
+pub returns-clause-stands : goal.returns-clause-stands
+returns-clause-stands g c core ports p l is w =
+    let h : ℕ = c.args.at.link in
+    let s = c.loop.invariant.goes core ports p l is w in
+    let whole = at_found (λ (q : Port). GoesOutWhole q.side) h p ports (g.met.P.WorldNode.whole c.args.node.now core ports is.runs) is.here in
+    let few = whole.few in
+    let over : most_fetches p.side - c.loop.counter ≡ 0 = omega (arith, few, c.loop-test.false) in
+    sending_over c.args.entries.now.items (most_fetches p.side - c.loop.counter) s is.only over
