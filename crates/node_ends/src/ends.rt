@@ -18,7 +18,8 @@ ghost use Rattle.link_laws.specs.machine.Machine.{spare};
 ghost use Rattle.node_machine.specs.Controller.{has_link};
 ghost use Rattle.node_machine.specs.Parts.{Port};
 ghost use Rattle.node_machine.specs.Carrying.{port_at, with_port, after_turn};
-ghost use Rattle.node_ends.specs.Ends.{AreEnds, FewAreDue, IsHeldWhileOneWaits, MayStartAt, held_at, takes_at, place_in, at_place, has_sent, frame_at, HasNoneDue};
+ghost use Rattle.node_ends.specs.Ends.{AreEnds, FewAreDue, IsHeldWhileOneWaits, MayStartAt, held_at, takes_at, place_in, at_place};
+ghost use Rattle.node_ends.specs.Ends.{has_sent, frame_at, HasNoneDue};
 
 use crate::new_seats::add_seats;
 use crate::places::place_of;
