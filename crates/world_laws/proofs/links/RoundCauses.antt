@@ -16,7 +16,7 @@ use Rattle.world_laws.specs.links.Settling.{rounds_to_settle, settling_causes}
 use Rattle.world_laws.specs.links.RoundCauses.{AreRoundCauses, times_ticked}
 use Rattle.world_laws.proofs.links.Settling.{wire_after, rounds}
 use Rattle.node_laws.proofs.rounds.BareRounds.{after_causes}
-use Rattle.world_laws.proofs.worlds.FewOnWires.{IsFewWires, after_few}
+use Rattle.node_laws.proofs.schedules.Wires.{IsFewWires, after_few}
 
 -- ## One list behind another
 
