@@ -19,7 +19,7 @@ use Rattle.node_laws.specs.passes.Passing.{LastsOverTurns, ComesTo, IsTurnSo, Be
 use Rattle.node_laws.specs.passes.Noting.{noted_by_deeds}
 use Rattle.node_laws.proofs.passes.Passing.{comes_so}
 use Rattle.lone_laws.specs.alone.Lone.{Lone, LoneCause, end_of_node_alone, lone_input, emits_behind, session_with}
-use Rattle.lone_laws.specs.alone.Known.{RecErrors, talk_since, reply_since, lack_since, first_lack_since}
+use Rattle.lone_laws.specs.alone.Known.{errors_found, talk_since, reply_since, lack_since, first_lack_since}
 use Rattle.lone_laws.specs.alone.Answers.{IsHeldAlone, noted_since, entries_of_deeds}
 use Rattle.lone_laws.proofs.answered.Mine.{AnswersOwn, IsRepliedOwn}
 use Rattle.lone_laws.proofs.answered.Reading.{Read, left_is}
@@ -29,8 +29,8 @@ use Rattle.lone_laws.proofs.answered.Ordered.{begin_read, OrderAt, pass_noted, b
 use Rattle.lone_laws.proofs.answered.Knowing.{KnowsAlone, knows_lasts}
 use Rattle.node_laws.proofs.worlds.Late.{BeginsBehind}
 use Rattle.lone_laws.proofs.answered.Replying.{session_of_end, IsMuteEntry, AreUntil, mute_then, mutes_then, turn_then, deeds_answer, noted_answers}
-use Rattle.lone_laws.proofs.answered.Errors.{errs_all, errs-append, IsSettled, settled_errs, desk_errors, errors_with}
-use Rattle.lone_laws.proofs.answered.Replied.{begin_errs, found, KnowsAll, lack_read, deeds_read, core_read, session_read, same_link, own_port}
+use Rattle.lone_laws.proofs.answered.Errors.{ErrorsAre, IsSettled, errors_then, desk_errors, errors_with}
+use Rattle.lone_laws.proofs.answered.Replied.{found, KnowsAll, lack_read, deeds_read, core_read, session_read, same_link, own_port}
 use Rattle.lone_laws.proofs.answered.Replied.{noted_so, errs_handled}
 
 pub emits_mute : (f : End) (frames : List Control) → AllByRecursion IsMuteEntry (map (λ c. entry.Emit f (lpdu_of c)) frames)
@@ -63,20 +63,20 @@ module _ (rest : Core) (number h : ℕ) (some : 1 ≤ h) (most : h ≤ 7) (s : �
   Of w = KnowsAll rest number h some most s t w
 
   abbrev Errs : Work → Type 0
-  Errs w = (errs_all e (begin_errs F) (t ++ w.entries)).errors ≡ desk_errors w.ports
+  Errs w = ErrorsAre e (errors_found F) (t ++ w.entries) (desk_errors w.ports)
 
   -- more is noted that leaves REC_ERROR
   pub errs_more : (w : Work) (es : List Entry) → AllByRecursion (IsSettled e) es → Errs w
-      → (errs_all e (begin_errs F) (t ++ (w.entries ++ es))).errors ≡ desk_errors w.ports
+      → ErrorsAre e (errors_found F) (t ++ (w.entries ++ es)) (desk_errors w.ports)
   errs_more w es settled a =
-      ap (λ l. (errs_all e (begin_errs F) l).errors) (sym (append_assoc t w.entries es))
-      ∙ (ap (λ (r : RecErrors). r.errors) (errs-append e (begin_errs F) (t ++ w.entries) es)
-      ∙ (settled_errs e es settled (errs_all e (begin_errs F) (t ++ w.entries)) ∙ a))
+      subst (λ l. ErrorsAre e (errors_found F) l (desk_errors w.ports)) (append_assoc t w.entries es)
+      (errors_then e (errors_found F) (t ++ w.entries) es (desk_errors w.ports) settled a)
 
   errs_hold : (k : ℕ) (b : Bool) (w : Work) → Errs w → Errs (turn_at k (Hold b) w)
   errs_hold k b w a =
-      ap (λ es. (errs_all e (begin_errs F) (t ++ (w.entries ++ es))).errors) (hold_noted_none w.core b (port_at w.ports k))
-      ∙ (errs_more w [] tt a ∙ sym (errors_with k (after_turn (Hold b)) (λ p. refl) w.ports))
+      subst (λ es. ErrorsAre e (errors_found F) (t ++ (w.entries ++ es)) (desk_errors (turn_at k (Hold b) w).ports))
+      (sym (hold_noted_none w.core b (port_at w.ports k)))
+      (subst (ErrorsAre e (errors_found F) (t ++ (w.entries ++ []))) (sym (errors_with k (after_turn (Hold b)) (λ p. refl) w.ports)) (errs_more w [] tt a))
 
   errs_held : (k : ℕ) (short : ℕ × ℕ) (w : Work) → Errs w → Errs (holds_back k short w)
   errs_held k short w a = go (option_map_or (λ (p : Port). p.desk.holds) (port_at w.ports k) false) where
@@ -91,8 +91,9 @@ module _ (rest : Core) (number h : ℕ) (some : 1 ≤ h) (most : h ≤ 7) (s : �
     go true = errs_hold k true w a
     go false =
         errs_hold k true marked
-        (errs_more w (entry.Held (end_of_node w.core k) short.0 short.1 ∷ []) ((λ r. refl), tt) a
-        ∙ sym (errors_with k (λ p. record p { desk = record p.desk { holds = true } }) (λ p. refl) w.ports))
+        (subst (ErrorsAre e (errors_found F) (t ++ marked.entries))
+        (sym (errors_with k (λ p. record p { desk = record p.desk { holds = true } }) (λ p. refl) w.ports))
+        (errs_more w (entry.Held (end_of_node w.core k) short.0 short.1 ∷ []) (((λ r. refl), tt), tt) a))
 
   abbrev knows : LastsOverTurns (KnowsAlone number h s (begin_read F) t)
   knows = knows_lasts number h some most s (begin_read F) t

@@ -3,7 +3,7 @@ use Rattle.std.proofs.Common.{◌≡◌, ℕ, Bool, true, false, cond, eqb, ◌&
 use Rattle.std.specs.Prelude.{Option, Some, None, unwrap_or, option_to_list, nat_lt}
 use Rattle.std.specs.List.{AllByRecursion, fold}
 use Rattle.std.specs.Option.{option_map_or}
-use Rattle.std.proofs.lemmas.Bool.{true≢false}
+use Rattle.std.proofs.lemmas.Bool.{true≢false, eqb-true}
 use Rattle.std.proofs.lemmas.List.Sums.{fold-append}
 use Rattle.registry.proofs.ValueLemmas.{AllByRecursion-append}
 use Rattle.swp_base.specs.declared.link_terms.Cause.{Cause as EndedBy}
@@ -15,6 +15,7 @@ use Rattle.link_laws.specs.sessions.Sessions.{is_up}
 use Rattle.gate_answers.specs.declared.response.Response.TheVariants as response
 use Rattle.gate_answers.specs.Answers.{answer_of}
 use Rattle.hci_tables.specs.declared.command.Command.{Command}
+use Rattle.hci_tables.specs.Tables.{HciTables, apply}
 use Rattle.link_laws.specs.machine.Machine.{Message, Report, Turn}
 use Rattle.link_laws.specs.machine.Machine.Turn.{Give}
 use Rattle.link_laws.specs.entries.Entries.{End as Side, Entry as Noted, told, if_so}
@@ -26,11 +27,14 @@ use Rattle.node_machine.specs.Parts.Deed.{Commits, Sends, SaysOk, IsAnswered, Dr
 use Rattle.node_machine.specs.Carrying.{port_at, changed_if, with_port, after_turn, turn_at, done, all_done, unless_cut, own_view, end_view}
 use Rattle.node_machine.specs.Controller.{own_gate, controller_deeds, view_of}
 use Rattle.node_machine.specs.HostReplies.{host_deeds}
-use Rattle.node_laws.specs.views.Errors.{errors_set_by, is_any_ok, leads_to_link_gate}
+use Rattle.node_machine.specs.world.World.{end_c, end_h}
+use Rattle.node_machine.specs.world.NodeFilters.{with_command}
+use Rattle.node_laws.specs.views.Errors.{ErrorCount, errors_after, errors_set_by, is_any_ok, leads_to_link_gate}
+use Rattle.node_laws.proofs.reply_passes.Sides.{IsNoBoot, AreNoBoots}
 use Rattle.node_laws.proofs.views.Setting.{AreUnset, is_link_gate, SetsNone, IsUpAt, SetDeeds, controller_unset, controller_sets, host_unset, host_sets}
 use Rattle.node_laws.proofs.views.Setting.SetDeeds.{IsSet as IsSetSo, IsRefused as IsRefusedSo, IsDropped as IsDroppedSo}
 use Rattle.lone_laws.specs.alone.Lone.{end_of_node_alone}
-use Rattle.lone_laws.specs.alone.Known.{core_noted, RecErrors, errors_noted}
+use Rattle.lone_laws.specs.alone.Known.{core_noted, core_with, errors_found}
 use Rattle.lone_laws.specs.alone.Answers.{entries_of_deeds}
 use Rattle.lone_laws.proofs.answered.Turning.{same_self}
 use Rattle.lone_laws.proofs.answered.Replying.{session_of_end, sent_alone, unless_on}
@@ -39,30 +43,86 @@ use Rattle.lone_laws.proofs.answered.Shapes.IsLoneReply.{IsNone, IsDrop, IsSend,
 
 -- ## What is read
 
-abbrev pub errs_all : End → RecErrors → List Entry → RecErrors
-errs_all e x t = fold (errors_noted e) x t
+abbrev pub errs_all : End → ErrorCount → List Entry → ErrorCount
+errs_all e x t = fold (errors_after e) x t
 
-pub errs-append : (e : End) (x : RecErrors) (t u : List Entry) → errs_all e x (t ++ u) ≡ errs_all e (errs_all e x t) u
-errs-append e x t u = fold-append (errors_noted e) x t u
+pub errs-append : (e : End) (x : ErrorCount) (t u : List Entry) → errs_all e x (t ++ u) ≡ errs_all e (errs_all e x t) u
+errs-append e x t u = fold-append (errors_after e) x t u
 
-noted_core : (e : End) (x : RecErrors) (y : Entry) → (errors_noted e x y).core ≡ core_noted x.core y
-noted_core e x (entry.Turn f pid message) = refl
-noted_core e x (entry.Sent f n pid message) = refl
-noted_core e x (entry.Lost f lpdu cause) = refl
-noted_core e x _ = refl
+-- ## Where pipes lead
 
--- beside REC_ERROR it is what the node keeps
-pub errs_core : (e : End) (t : List Entry) (x : RecErrors) → (errs_all e x t).core ≡ fold core_noted x.core t
-errs_core e [] x = refl
-errs_core e (y ∷ t) x = errs_core e t (errors_noted e x y) ∙ ap (λ c. fold core_noted c t) (noted_core e x y)
+module _ (number h : ℕ) where
+  abbrev its_end : End
+  its_end = end_of_node_alone number h
 
--- an entry leaves REC_ERROR
+  -- a controller's tables are read as those that it keeps
+  abbrev HasTables : ErrorCount → Core → Type 0
+  HasTables x c = (c.node ≡ number) × (eqb number 0 ≡ true → x.book.tables ≡ c.tables)
+
+  tables_noted : (y : Entry) (x : ErrorCount) (c : Core) → IsNoBoot y → HasTables x c → HasTables (errors_after its_end x y) (core_noted c y)
+  tables_noted (entry.Command n z) x c none a = (same (eqb n c.node), tables) where
+    same : (b : Bool) → (cond b (core_with c z) c).node ≡ number
+    same true = a.0
+    same false = a.0
+
+    tables : eqb number 0 ≡ true → (cond (eqb n 0) (with_command z x.book) x.book).tables ≡ (cond (eqb n c.node) (core_with c z) c).tables
+    tables zero =
+        by (eqb n 0) ∙ ap (λ (k : ℕ). (cond (eqb n k) (core_with c z) c).tables) (sym (a.0 ∙ eqb-true number 0 zero)) where
+          by : (b : Bool) → (cond b (with_command z x.book) x.book).tables ≡ (cond b (core_with c z) c).tables
+          by true = ap (λ t. apply t z) (a.1 zero)
+          by false = a.1 zero
+  tables_noted (entry.Booted n k) x c none a = absurd none
+  tables_noted (entry.Turn f pid message) x c none a = a
+  tables_noted (entry.Sent f n pid message) x c none a = a
+  tables_noted (entry.Lost f lpdu cause) x c none a = a
+  tables_noted _ x c none a = a
+
+  tables_all : (t : List Entry) (x : ErrorCount) (c : Core) → AreNoBoots t → HasTables x c → HasTables (errs_all its_end x t) (fold core_noted c t)
+  tables_all [] x c none a = a
+  tables_all (y ∷ t) x c none a = tables_all t (errors_after its_end x y) (core_noted c y) none.1 (tables_noted y x c none.0 a)
+
+  -- Where a pipe leads is read off the tables that the node keeps.
+  pub gate_read : (found : Core) (t : List Entry) (pid : ℕ) → found.node ≡ number → AreNoBoots t
+      → leads_to_link_gate (errs_all its_end (errors_found found) t).book.tables its_end pid
+      ≡ leads_to_link_gate (fold core_noted found t).tables its_end pid
+  gate_read found t pid node none = go (eqb number 0) refl where
+    go : (b : Bool) → eqb number 0 ≡ b
+        → leads_to_link_gate (errs_all its_end (errors_found found) t).book.tables its_end pid
+        ≡ leads_to_link_gate (fold core_noted found t).tables its_end pid
+    go true zero =
+        let read : HasTables (errs_all its_end (errors_found found) t) (fold core_noted found t) =
+        tables_all t (errors_found found) found none (node, λ _. refl) in
+        ap (λ d. leads_to_link_gate d its_end pid) (read.1 zero)
+    go false another =
+        at_host (errs_all its_end (errors_found found) t).book.tables ∙ sym (at_host (fold core_noted found t).tables) where
+          at_host : (d : HciTables) → leads_to_link_gate d its_end pid ≡ eqb pid 0
+          at_host d = ap (λ b. leads_to_link_gate d (cond b (end_c h) (end_h h)) pid) another
+
+-- ## What leaves it
+
+-- an entry leaves REC_ERROR, and is no boot
 abbrev pub IsSettled : End → Entry → Type 0
-IsSettled e y = (x : RecErrors) → (errors_noted e x y).errors ≡ x.errors
+IsSettled e y = ((x : ErrorCount) → (errors_after e x y).errors ≡ x.errors) × IsNoBoot y
 
-pub settled_errs : (e : End) (es : List Entry) → AllByRecursion (IsSettled e) es → (x : RecErrors) → (errs_all e x es).errors ≡ x.errors
+pub settled_errs : (e : End) (es : List Entry) → AllByRecursion (IsSettled e) es → (x : ErrorCount) → (errs_all e x es).errors ≡ x.errors
 settled_errs e [] a x = refl
-settled_errs e (y ∷ es) a x = settled_errs e es a.1 (errors_noted e x y) ∙ a.0 x
+settled_errs e (y ∷ es) a x = settled_errs e es a.1 (errors_after e x y) ∙ a.0.0 x
+
+settled_unbooted : (e : End) (es : List Entry) → AllByRecursion (IsSettled e) es → AreNoBoots es
+settled_unbooted e [] a = tt
+settled_unbooted e (y ∷ es) a = (a.0.1, settled_unbooted e es a.1)
+
+-- REC_ERROR is read so, off entries in which the node doesn't boot again.
+pub record ErrorsAre (e : End) (begin : ErrorCount) (t : List Entry) (errors : ℕ) : Type 0 where
+  pub are : (errs_all e begin t).errors ≡ errors
+  pub unbooted : AreNoBoots t
+
+pub errors_then : (e : End) (begin : ErrorCount) (t es : List Entry) (errors : ℕ) → AllByRecursion (IsSettled e) es → ErrorsAre e begin t errors
+    → ErrorsAre e begin (t ++ es) errors
+errors_then e begin t es errors settled a = record {
+  are = ap (λ (r : ErrorCount). r.errors) (errs-append e begin t es) ∙ (settled_errs e es settled (errs_all e begin t) ∙ a.are);
+  unbooted = AllByRecursion-append IsNoBoot t es a.unbooted (settled_unbooted e es settled);
+}
 
 abbrev pub IsToldNote : Noted → Type 0
 IsToldNote (Up who n) = Unit {0}
@@ -75,12 +135,12 @@ IsToldNote _ = ⊥
 
 notes_settled : (e : End) (h : ℕ) (xs : List Noted) → AllByRecursion IsToldNote xs → AllByRecursion (IsSettled e) (entries_for h xs)
 notes_settled e h [] a = tt
-notes_settled e h (Up who n ∷ xs) a = ((λ x. refl), notes_settled e h xs a.1)
-notes_settled e h (Down who cause ∷ xs) a = ((λ x. refl), notes_settled e h xs a.1)
-notes_settled e h (Active who ∷ xs) a = ((λ x. refl), notes_settled e h xs a.1)
-notes_settled e h (GaveUp who tries ∷ xs) a = ((λ x. refl), notes_settled e h xs a.1)
-notes_settled e h (Acked who n count ∷ xs) a = ((λ x. refl), notes_settled e h xs a.1)
-notes_settled e h (Got who n m ∷ xs) a = ((λ x. refl), notes_settled e h xs a.1)
+notes_settled e h (Up who n ∷ xs) a = (((λ x. refl), tt), notes_settled e h xs a.1)
+notes_settled e h (Down who cause ∷ xs) a = (((λ x. refl), tt), notes_settled e h xs a.1)
+notes_settled e h (Active who ∷ xs) a = (((λ x. refl), tt), notes_settled e h xs a.1)
+notes_settled e h (GaveUp who tries ∷ xs) a = (((λ x. refl), tt), notes_settled e h xs a.1)
+notes_settled e h (Acked who n count ∷ xs) a = (((λ x. refl), tt), notes_settled e h xs a.1)
+notes_settled e h (Got who n m ∷ xs) a = (((λ x. refl), tt), notes_settled e h xs a.1)
 notes_settled e h (_ ∷ xs) a = absurd a.0
 
 so_told : (b : Bool) (x : Noted) → IsToldNote x → AllByRecursion IsToldNote (if_so b x)
@@ -149,7 +209,7 @@ pub controller_fits : (core : Core) (ports : List Port) (k number h : ℕ) (m : 
 controller_fits core ports k number h m zero same =
     let e : End = end_of_node_alone number h in
     let here : leads_to_link_gate core.tables e m.0 ≡ is_link_gate (own_gate core.tables k m.0) =
-    ap (λ b. leads_to_link_gate core.tables (cond b (Rattle.node_machine.specs.world.World.end_c h) (Rattle.node_machine.specs.world.World.end_h h)) m.0) zero
+    ap (λ b. leads_to_link_gate core.tables (cond b (end_c h) (end_h h)) m.0) zero
     ∙ ap (λ z. is_link_gate (own_gate core.tables z m.0)) (sym same) in
     subst (FitsErrors ports k m.0 (controller_deeds (view_of core ports) k m)) (sym (ap (λ b. cond b (errors_set_by m.1) None) here))
     (fits_by ports k m (controller_deeds (view_of core ports) k m) (is_link_gate (own_gate core.tables k m.0)) (errors_set_by m.1)
@@ -161,7 +221,7 @@ pub host_fits : (core : Core) (ports : List Port) (p : Port) (k number h : ℕ) 
 host_fits core ports p k number h m another node here =
     let e : End = end_of_node_alone number h in
     let zero : leads_to_link_gate core.tables e m.0 ≡ eqb m.0 0 =
-    ap (λ b. leads_to_link_gate core.tables (cond b (Rattle.node_machine.specs.world.World.end_c h) (Rattle.node_machine.specs.world.World.end_h h)) m.0)
+    ap (λ b. leads_to_link_gate core.tables (cond b (end_c h) (end_h h)) m.0)
     another in
     subst (FitsErrors ports k m.0 (host_deeds (own_view core) (end_view p) m)) (sym (ap (λ b. cond b (errors_set_by m.1) None) zero))
     (fits_by ports k m (host_deeds (own_view core) (end_view p) m) (eqb m.0 0) (errors_set_by m.1) (host_unset core p m)
@@ -179,14 +239,14 @@ and_no true b q = q
 and_no false b q = refl
 
 module _ (e : End) where
-  sent_unset : (session : Option ℕ) (to : ℕ) (m : Message) (z : RecErrors) → z.sets ≡ None → (errs_all e z (sent_alone e session to m)).errors ≡ z.errors
+  sent_unset : (session : Option ℕ) (to : ℕ) (m : Message) (z : ErrorCount) → z.sets ≡ None → (errs_all e z (sent_alone e session to m)).errors ≡ z.errors
   sent_unset session to m z none = by (eqb to e.link) session where
     by : (b : Bool) (s : Option ℕ) → (errs_all e z (cond b (option_map_or (λ n. entry.Sent e n m.0 m.1 ∷ []) s []) [])).errors ≡ z.errors
     by true None = refl
     by true (Some n) = ap (λ o. cond (same_end e e && is_any_ok m.1) (unwrap_or o z.errors) z.errors) none ∙ same_both (same_end e e && is_any_ok m.1) z.errors
     by false s = refl
 
-  sent_other : (session : Option ℕ) (to : ℕ) (m : Message) (z : RecErrors) → is_any_ok m.1 ≡ false → (errs_all e z (sent_alone e session to m)).errors ≡
+  sent_other : (session : Option ℕ) (to : ℕ) (m : Message) (z : ErrorCount) → is_any_ok m.1 ≡ false → (errs_all e z (sent_alone e session to m)).errors ≡
       z.errors
   sent_other session to m z other = by (eqb to e.link) session where
     by : (b : Bool) (s : Option ℕ) → (errs_all e z (cond b (option_map_or (λ n. entry.Sent e n m.0 m.1 ∷ []) s []) [])).errors ≡ z.errors
@@ -194,23 +254,23 @@ module _ (e : End) where
     by true (Some n) = ap (λ b. cond b (unwrap_or z.sets z.errors) z.errors) (and_no (same_end e e) (is_any_ok m.1) other)
     by false s = refl
 
-  sent_ok : (n : ℕ) (to pid v : ℕ) (z : RecErrors) → eqb to e.link ≡ true → z.sets ≡ Some v
+  sent_ok : (n : ℕ) (to pid v : ℕ) (z : ErrorCount) → eqb to e.link ≡ true → z.sets ≡ Some v
       → (errs_all e z (sent_alone e (Some n) to (pid, answer_of response.Ok []))).errors ≡ v
   sent_ok n to pid v z there set =
       ap (λ b. (errs_all e z (cond b (entry.Sent e n pid (answer_of response.Ok []) ∷ []) [])).errors) there
       ∙ (ap (λ b. cond (b && true) (unwrap_or z.sets z.errors) z.errors) (same_self e) ∙ ap (λ o. unwrap_or o z.errors) set)
 
   -- deeds that set nothing, where no command that sets it waits for its answer
-  unset_errs : (core : Core) (session : Option ℕ) (deeds : List Deed) → IsLoneReply deeds → AreUnset deeds → (z : RecErrors) → z.sets ≡ None
+  unset_errs : (core : Core) (session : Option ℕ) (deeds : List Deed) → IsLoneReply deeds → AreUnset deeds → (z : ErrorCount) → z.sets ≡ None
       → (errs_all e z (entries_of_deeds core e session deeds)).errors ≡ z.errors
   unset_errs core session _ IsNone unset z none = refl
   unset_errs core session _ (IsDrop pid) unset z none = refl
   unset_errs core session _ (IsSend to m) unset z none =
       ap (λ es. (errs_all e z es).errors) (append-nil (sent_alone e session to m)) ∙ sent_unset session to m z none
   unset_errs core session _ (IsCommit c to m) unset z none =
-      let y : RecErrors = errors_noted e z (entry.Command core.node c) in
+      let y : ErrorCount = errors_after e z (entry.Command core.node c) in
       let last : List Entry = entry.AnyOk core.node _ ∷ [] in
-      ap (λ (x : RecErrors). x.errors) (errs-append e y (sent_alone e session to m) last) ∙ sent_unset session to m y refl
+      ap (λ (x : ErrorCount). x.errors) (errs-append e y (sent_alone e session to m) last) ∙ sent_unset session to m y refl
   unset_errs core session _ (IsSet v to m) unset z none = absurd unset.0
   unset_errs core session _ IsHeard unset z none = refl
 
@@ -268,7 +328,7 @@ module _ (k : ℕ) (u : Work) (on : u.cut ≡ false) where
       ∙ (kept_turn to (Give m) w ∙ ap desk_errors (ap (with_port k g) ports ∙ ap (λ b. changed_if b g p ∷ []) own))
 
   -- What is read behind deeds that fit what their message sets is what is kept behind them.
-  pub deeds_errs : (e : End) (core : Core) (p : Port) (ports : List Port) (pid : ℕ) (deeds : List Deed) (z : RecErrors) → IsLoneReply deeds
+  pub deeds_errs : (e : End) (core : Core) (p : Port) (ports : List Port) (pid : ℕ) (deeds : List Deed) (z : ErrorCount) → IsLoneReply deeds
       → u.ports ≡ p ∷ [] → eqb p.desk.host k ≡ true → eqb k e.link ≡ true → (IsUpAt ports k → p.side.shdlc.phase ≡ IsUpNow)
       → z.errors ≡ desk_errors u.ports → FitsErrors ports k pid deeds z.sets → (all_done k deeds u).cut ≡ false
       → (errs_all e z (entries_of_deeds core e (session_of_end p) deeds)).errors ≡ desk_errors (all_done k deeds u).ports

@@ -25,7 +25,7 @@ use Rattle.node_laws.proofs.passes.Before.{steps_are}
 use Rattle.lone_laws.specs.alone.Lone.{Lone, LoneCause, lone_end, lone_input, node_input, lone_arrival, lone_port, session_with, side_behind, emits_behind}
 use Rattle.lone_laws.specs.alone.Lone.{frames_behind, lone_behind_step}
 use Rattle.lone_laws.specs.alone.Lone.LoneCause.{FrameComes, FrameIsRefused, TickComes, ResetComes, StartComes, StopComes}
-use Rattle.lone_laws.specs.alone.Known.{RecErrors, no_session_now}
+use Rattle.lone_laws.specs.alone.Known.{errors_found, no_session_now}
 use Rattle.lone_laws.proofs.answered.Reading.{eqb_same, Read, Alone}
 use Rattle.lone_laws.proofs.answered.Coming.{IsLoneInput, pass_is, came_ports, came_entries}
 use Rattle.lone_laws.proofs.answered.Stepping.{lone_comes, passed}
@@ -34,8 +34,8 @@ use Rattle.lone_laws.proofs.answered.Ordered.{begin_read, start, begun, ended, s
 use Rattle.lone_laws.proofs.answered.Talking.{talk_all, talk-append, talk_of_side}
 use Rattle.lone_laws.proofs.answered.Rooms.{AreStill, still_talk, Talks, sent_same}
 use Rattle.lone_laws.proofs.answered.Knowing.{LoneTalks, passing_known}
-use Rattle.lone_laws.proofs.answered.Errors.{errs_all, errs-append, IsSettled, settled_errs, desk_errors, told_settled}
-use Rattle.lone_laws.proofs.answered.Replied.{begin_errs, KnowsAll, same_port}
+use Rattle.lone_laws.proofs.answered.Errors.{ErrorsAre, IsSettled, errors_then, desk_errors, told_settled}
+use Rattle.lone_laws.proofs.answered.Replied.{KnowsAll, same_port}
 use Rattle.lone_laws.proofs.answered.Answering.{errs_more, all_at}
 
 abbrev pub errors_of : List Desk → ℕ
@@ -57,10 +57,10 @@ core_of rest number = record rest { node = number }
 pub record KeepsAll (rest : Core) (t : List Entry) (l : Lone) (n : Running) : Type 0 where
   pub keep : LoneKeeps (begin_read (core_of rest l.number)) t l n
   pub talks : LoneTalks t l
-  pub errs : (errs_all (lone_end l) (begin_errs (core_of rest l.number)) t).errors ≡ errors_of n.desks
+  pub errs : ErrorsAre (lone_end l) (errors_found (core_of rest l.number)) t (errors_of n.desks)
 
 arrival_settled : (e : End) (l : Lone) (c : LoneCause) → AllByRecursion (IsSettled e) (lone_arrival l c)
-arrival_settled e l (FrameComes bytes) = ((λ z. refl), tt)
+arrival_settled e l (FrameComes bytes) = (((λ z. refl), tt), tt)
 arrival_settled e l (FrameIsRefused fault) = tt
 arrival_settled e l TickComes = tt
 arrival_settled e l (ResetComes window) = tt
@@ -69,7 +69,7 @@ arrival_settled e l StopComes = tt
 
 pub emits_settled : (e f : End) (frames : List Control) → AllByRecursion (IsSettled e) (map (λ c. entry.Emit f (lpdu_of c)) frames)
 emits_settled e f [] = tt
-emits_settled e f (c ∷ frames) = ((λ z. refl), emits_settled e f frames)
+emits_settled e f (c ∷ frames) = (((λ z. refl), tt), emits_settled e f frames)
 
 pub emits_still : (e f : End) (n : ℕ) (frames : List Control) → AreStill e n (map (λ c. entry.Emit f (lpdu_of c)) frames)
 emits_still e f n [] = tt
@@ -106,13 +106,12 @@ module _ (rest : Core) (t : List Entry) (l : Lone) (some : 1 ≤ l.link) (most :
   last = ended G t l some most n k.keep c i comes
 
   abbrev Errs : Work → Type 0
-  Errs w = (errs_all e (begin_errs G) (t ++ w.entries)).errors ≡ desk_errors w.ports
+  Errs w = ErrorsAre e (errors_found G) (t ++ w.entries) (desk_errors w.ports)
 
   errs_first : Errs first
   errs_first =
-      ap (λ (r : RecErrors). r.errors) (errs-append e (begin_errs G) t (lone_arrival l c))
-      ∙ (settled_errs e (lone_arrival l c) (arrival_settled e l c) (errs_all e (begin_errs G) t)
-      ∙ (k.errs ∙ sym (errors_work l.side s n.desks)))
+      subst (ErrorsAre e (errors_found G) (t ++ lone_arrival l c)) (sym (errors_work l.side s n.desks))
+      (errors_then e (errors_found G) t (lone_arrival l c) (errors_of n.desks) (arrival_settled e l c) k.errs)
 
   abbrev a : Alone l.number l.link R t first
   a = begins_alone R t l n i (lone_arrival l c) (arrival_nothing l c) k.keep
@@ -124,16 +123,17 @@ module _ (rest : Core) (t : List Entry) (l : Lone) (some : 1 ≤ l.link) (most :
   errs_come =
       let may : IsLoneInput i = lone_comes c i comes in
       let told_it : List Entry = told_at first.core a.port (Some i) in
-      ap (λ es. (errs_all e (begin_errs G) (t ++ es)).errors) (came_entries l.number l.link R t i may first a)
-      ∙ (errs_more rest l.number l.link some most s t its first told_it
-      (told_settled e a.port.desk.host (own_side first.core) s (whole_acked (after_input l.side i)) (report l.side i)) errs_first
-      ∙ (ap desk_errors a.ports_are ∙ ap desk_errors (sym (came_ports l.number l.link R t i may first a))))
+      subst (λ es. ErrorsAre e (errors_found G) (t ++ es) (desk_errors come.ports)) (sym (came_entries l.number l.link R t i may first a))
+      (subst (ErrorsAre e (errors_found G) (t ++ (first.entries ++ told_it)))
+      (ap desk_errors a.ports_are ∙ ap desk_errors (sym (came_ports l.number l.link R t i may first a)))
+      (errs_more rest l.number l.link some most s t its first told_it
+      (told_settled e a.port.desk.host (own_side first.core) s (whole_acked (after_input l.side i)) (report l.side i)) errs_first))
 
   commits_errs : (h : ℕ) (d : Deed) (v : Work) → IsCommits d → (v.cut ≡ false → Errs v) → (done h d v).cut ≡ false → Errs (done h d v)
   commits_errs h (Commits x) v may b = go (goes_in x v) refl where
     go : (z : Bool) → goes_in x v ≡ z → (done h (Commits x) v).cut ≡ false → Errs (done h (Commits x) v)
     go true q = rw q (λ still. absurd (true≢false still))
-    go false q = rw q (λ still. errs_more rest l.number l.link some most s t its v (entry.Command v.core.node x ∷ []) ((λ z. refl), tt) (b still))
+    go false q = rw q (λ still. errs_more rest l.number l.link some most s t its v (entry.Command v.core.node x ∷ []) (((λ z. refl), tt), tt) (b still))
   commits_errs h _ v may b = absurd may
 
   pub all_passing : passing.cut ≡ false → KnowsAll rest l.number l.link some most s t passing
@@ -187,10 +187,10 @@ module _ (rest : Core) (t : List Entry) (l : Lone) (some : 1 ≤ l.link) (most :
         clean = (fine_at last.ports l.link talks.port b.known.fine here).clean;
       })
 
-  errs_behind : last.cut ≡ false → (errs_all e (begin_errs G) (t ++ (last.entries ++ emits))).errors ≡ errors_of (map (λ (p : Port). p.desk) last.ports)
+  errs_behind : last.cut ≡ false → ErrorsAre e (errors_found G) (t ++ (last.entries ++ emits)) (errors_of (map (λ (p : Port). p.desk) last.ports))
   errs_behind still =
-      errs_more rest l.number l.link some most s t its last emits (emits_settled e e (frames_behind l last)) (all_ended still).errs
-      ∙ sym (errors_ports last.ports)
+      subst (ErrorsAre e (errors_found G) (t ++ (last.entries ++ emits))) (sym (errors_ports last.ports))
+      (errs_more rest l.number l.link some most s t its last emits (emits_settled e e (frames_behind l last)) (all_ended still).errs)
 
   abbrev now : Running
   now = record { core = last.core; desks = map (λ (p : Port). p.desk) last.ports }
@@ -203,4 +203,8 @@ module _ (rest : Core) (t : List Entry) (l : Lone) (some : 1 ≤ l.link) (most :
     go false on =
         let both : Some now ≡ Some m = sym (ap (λ b. cond b None (Some now)) on) ∙ runs in
         let is : now ≡ m = cc in
-        record { keep = keep; talks = talks_behind on; errs = errs_behind on ∙ ap (λ (x : Running). errors_of x.desks) is }
+        record {
+          keep = keep;
+          talks = talks_behind on;
+          errs = subst (λ (x : Running). ErrorsAre e (errors_found G) (t ++ (last.entries ++ emits)) (errors_of x.desks)) is (errs_behind on);
+        }

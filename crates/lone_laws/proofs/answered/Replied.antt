@@ -3,6 +3,7 @@ use Rattle.std.proofs.Common.{◌≡◌, ℕ, ◌≤◌, Bool, true, false, cond
 use Rattle.std.specs.Prelude.{Some, None, is_some, nat_lt}
 use Rattle.std.specs.Option.{option_map_or}
 use Rattle.std.proofs.lemmas.Bool.{eqb-true}
+use Rattle.registry.proofs.ValueLemmas.{AllByRecursion-append}
 use Rattle.trace_model.specs.declared.entry.Entry.{Entry}
 use Rattle.trace_model.specs.declared.entry.Entry.TheVariants as entry
 use Rattle.trace_model.specs.declared.line.End.{End}
@@ -24,9 +25,10 @@ use Rattle.node_laws.proofs.passes.Passing.{takes_entries}
 use Rattle.node_laws.proofs.passes.Counts.{taken_at_once}
 use Rattle.node_laws.proofs.views.Setting.{IsUpAt}
 use Rattle.lone_laws.specs.alone.Lone.{end_of_node_alone}
-use Rattle.lone_laws.specs.alone.Known.{RecErrors, LoneTalk, no_session_now, errors_noted, errors_since, spare_in_talk, talk_since, core_since}
+use Rattle.lone_laws.specs.alone.Known.{LoneTalk, no_session_now, errors_found, errors_since, spare_in_talk, talk_since, core_since}
 use Rattle.lone_laws.specs.alone.Known.{end_since, spare_since, spare_with_link, view_with_link, reply_since}
-use Rattle.node_laws.specs.views.Errors.{errors_set_by, leads_to_link_gate}
+use Rattle.node_laws.specs.views.Errors.{ErrorCount, errors_after, errors_set_by, leads_to_link_gate}
+use Rattle.node_laws.proofs.reply_passes.Sides.{IsNoBoot, AreNoBoots}
 use Rattle.lone_laws.specs.alone.Known.{lack_since}
 use Rattle.lone_laws.specs.alone.Answers.{entries_of_deeds}
 use Rattle.lone_laws.proofs.answered.Reading.{eqb_same, Read, core_is, Alone}
@@ -37,12 +39,9 @@ use Rattle.lone_laws.proofs.answered.Talking.{talk_of_side}
 use Rattle.lone_laws.proofs.answered.Rooms.{Talks, spare_is}
 use Rattle.lone_laws.proofs.answered.Knowing.{KnowsAlone}
 use Rattle.lone_laws.proofs.answered.Shapes.{IsLoneReply, controller_reply, host_reply}
-use Rattle.lone_laws.proofs.answered.Replying.{link_of_end, session_of_end, TakesIt, IsNotedSo, reply_noted}
-use Rattle.lone_laws.proofs.answered.Errors.{errs_all, errs-append, errs_core, desk_errors, FitsErrors, sets_there, controller_fits, host_fits, deeds_errs}
-
--- nothing was refused yet at a node whose boot found this
-abbrev pub begin_errs : Core → RecErrors
-begin_errs found = record { core = found; sets = None; errors = 0 }
+use Rattle.lone_laws.proofs.answered.Replying.{link_of_end, session_of_end, TakesIt, IsNotedSo, reply_noted, deeds_answer, answers_unbooted}
+use Rattle.lone_laws.proofs.answered.Errors.{errs_all, errs-append, ErrorsAre, gate_read, desk_errors}
+use Rattle.lone_laws.proofs.answered.Errors.{FitsErrors, sets_there, controller_fits, host_fits, deeds_errs}
 
 -- what lacks is decided by what is spare
 lack_same : (p q : Port) → p.desk.host ≡ q.desk.host → spare p.side ≡ spare q.side → (ns : List (ℕ × ℕ)) → lack (p ∷ []) ns ≡ lack (q ∷ []) ns
@@ -67,7 +66,7 @@ module _ (rest : Core) (number h : ℕ) (some : 1 ≤ h) (most : h ≤ 7) (s : �
   -- What is known of it in a step.
   pub record KnowsAll (w : Work) : Type 0 where
     pub known : KnowsAlone number h s (begin_read found) t w
-    pub errs : (errs_all e (begin_errs found) (t ++ w.entries)).errors ≡ desk_errors w.ports
+    pub errs : ErrorsAre e (errors_found found) (t ++ w.entries) (desk_errors w.ports)
 
   -- ## What is read
 
@@ -103,7 +102,7 @@ module _ (rest : Core) (number h : ℕ) (some : 1 ≤ h) (most : h ≤ 7) (s : �
       by false = refl
 
     errors_is : errors_since found e all ≡ its_port.desk.errors
-    errors_is = a.errs ∙ ap desk_errors alone.ports_are
+    errors_is = a.errs.are ∙ ap desk_errors alone.ports_are
 
     end_is : end_since found h all ≡ end_view its_port
     end_is = λ i. record { up = up_is i; errors = errors_is i }
@@ -208,32 +207,32 @@ module _ (rest : Core) (number h : ℕ) (some : 1 ≤ h) (most : h ≤ 7) (s : �
 
       -- ## REC_ERROR
 
-      abbrev pub x : RecErrors
-      x = errs_all e (begin_errs found) (t ++ w.entries)
+      abbrev pub x : ErrorCount
+      x = errs_all e (errors_found found) (t ++ w.entries)
 
-      abbrev pub z : RecErrors
-      z = errs_all e (begin_errs found) (t ++ u.entries)
+      abbrev pub z : ErrorCount
+      z = errs_all e (errors_found found) (t ++ u.entries)
 
       abbrev pub turned : Entry
       turned = entry.Turn (end_of_node w.core k) m.0 m.1
 
-      z_is : z ≡ errors_noted e x turned
+      z_is : z ≡ errors_after e x turned
       z_is =
-          ap (λ es. errs_all e (begin_errs found) (t ++ es)) (takes_entries k m w)
-          ∙ (ap (errs_all e (begin_errs found)) (sym (append_assoc t w.entries (turned ∷ [])))
-          ∙ errs-append e (begin_errs found) (t ++ w.entries) (turned ∷ []))
+          ap (λ es. errs_all e (errors_found found) (t ++ es)) (takes_entries k m w)
+          ∙ (ap (errs_all e (errors_found found)) (sym (append_assoc t w.entries (turned ∷ [])))
+          ∙ errs-append e (errors_found found) (t ++ w.entries) (turned ∷ []))
 
-      x_core : x.core ≡ w.core
-      x_core = errs_core e (t ++ w.entries) (begin_errs found) ∙ core_read w a
+      x_gate : leads_to_link_gate x.book.tables e m.0 ≡ leads_to_link_gate w.core.tables e m.0
+      x_gate = gate_read number h found (t ++ w.entries) m.0 refl a.errs.unbooted ∙ ap (λ (c : Core). leads_to_link_gate c.tables e m.0) (core_read w a)
 
       z_sets : z.sets ≡ sets_there w.core e m
       z_sets =
-          ap (λ (r : RecErrors). r.sets) z_is
-          ∙ (ap (λ (b : Bool). cond (b && leads_to_link_gate x.core.tables e m.0) (errors_set_by m.1) None) (ap (λ d. same_end d e) its_end_is ∙ same_self e)
-          ∙ ap (λ c. sets_there c e m) x_core)
+          ap (λ (r : ErrorCount). r.sets) z_is
+          ∙ (ap (λ (b : Bool). cond (b && leads_to_link_gate x.book.tables e m.0) (errors_set_by m.1) None) (ap (λ d. same_end d e) its_end_is ∙ same_self e)
+          ∙ ap (λ (b : Bool). cond b (errors_set_by m.1) None) x_gate)
 
       z_errors : z.errors ≡ desk_errors u.ports
-      z_errors = ap (λ (r : RecErrors). r.errors) z_is ∙ (a.errs ∙ (ap desk_errors al.ports_are ∙ ap desk_errors (sym u_ports)))
+      z_errors = ap (λ (r : ErrorCount). r.errors) z_is ∙ (a.errs.are ∙ (ap desk_errors al.ports_are ∙ ap desk_errors (sym u_ports)))
 
       up_then : IsUpAt w.ports k → q.side.shdlc.phase ≡ IsUpNow
       up_then i =
@@ -245,12 +244,26 @@ module _ (rest : Core) (number h : ℕ) (some : 1 ≤ h) (most : h ≤ 7) (s : �
       link_here = ap₂ eqb same_link (link_of_end number h) ∙ eqb_same h
 
       pub errs_handled : lacking w k m ≡ None → (handles k m D w).cut ≡ false
-          → (errs_all e (begin_errs found) (t ++ (handles k m D w).entries)).errors ≡ desk_errors (handles k m D w).ports
+          → ErrorsAre e (errors_found found) (t ++ (handles k m D w).entries) (desk_errors (handles k m D w).ports)
       errs_handled room still =
-          let reply : List Entry = entries_of_deeds w.core e (session_of_end own_port) D in
-          let noted : noted_by_deeds k D u ≡ reply = subst (λ b. IsNotedSo number h b (noted_by_deeds k D u) reply) still (noted_so room) in
-          ap (λ es. (errs_all e (begin_errs found) (t ++ es)).errors) (deeds_note k D u ∙ ap (λ es. u.entries ++ es) noted)
-          ∙ (ap (λ es. (errs_all e (begin_errs found) es).errors) (sym (append_assoc t u.entries reply))
-          ∙ (ap (λ (r : RecErrors). r.errors) (errs-append e (begin_errs found) (t ++ u.entries) reply)
-          ∙ deeds_errs k u on e w.core q w.ports m.0 D z (deeds_shape k m w al at_here.own) u_ports at_here.own link_here up_then z_errors
-          (subst (FitsErrors w.ports k m.0 D) (sym z_sets) (deeds_fit k m w al at_here.own same_link)) still))
+          subst (λ es. ErrorsAre e (errors_found found) es (desk_errors (handles k m D w).ports)) (sym all_entries) (record {
+            are = ap (λ (r : ErrorCount). r.errors) (errs-append e (errors_found found) (t ++ u.entries) reply)
+                ∙ deeds_errs k u on e w.core q w.ports m.0 D z (deeds_shape k m w al at_here.own) u_ports at_here.own link_here up_then z_errors
+                (subst (FitsErrors w.ports k m.0 D) (sym z_sets) (deeds_fit k m w al at_here.own same_link)) still;
+            unbooted =
+                AllByRecursion-append IsNoBoot (t ++ u.entries) reply
+                (subst AreNoBoots (sym turned_entries) (AllByRecursion-append IsNoBoot (t ++ w.entries) (turned ∷ []) a.errs.unbooted (tt, tt)))
+                (answers_unbooted reply (deeds_answer e (session_of_end own_port) D w.core));
+          })
+        where
+          reply : List Entry
+          reply = entries_of_deeds w.core e (session_of_end own_port) D
+
+          noted : noted_by_deeds k D u ≡ reply
+          noted = subst (λ b. IsNotedSo number h b (noted_by_deeds k D u) reply) still (noted_so room)
+
+          all_entries : t ++ (handles k m D w).entries ≡ (t ++ u.entries) ++ reply
+          all_entries = ap (λ es. t ++ es) (deeds_note k D u ∙ ap (λ es. u.entries ++ es) noted) ∙ sym (append_assoc t u.entries reply)
+
+          turned_entries : t ++ u.entries ≡ (t ++ w.entries) ++ turned ∷ []
+          turned_entries = ap (λ es. t ++ es) (takes_entries k m w) ∙ sym (append_assoc t w.entries (turned ∷ []))

@@ -28,6 +28,7 @@ use Rattle.lone_laws.specs.alone.Lone.{end_of_node_alone}
 use Rattle.lone_laws.specs.alone.Known.{core_with}
 use Rattle.node_laws.specs.answers.Answered.{to_command}
 use Rattle.lone_laws.specs.alone.Answers.{entries_of_deeds}
+use Rattle.node_laws.proofs.reply_passes.Sides.{IsNoBoot, AreNoBoots}
 use Rattle.lone_laws.proofs.answered.Mine.{is_own_answer, is_own_turn, is_own_cut, to_turn, AnswersOwn}
 use Rattle.lone_laws.proofs.answered.Reading.{eqb_same}
 use Rattle.lone_laws.proofs.answered.Turning.{own_end}
@@ -266,6 +267,14 @@ deeds_answer e session (Sends to m ∷ deeds) core = by (eqb to e.link) session 
 deeds_answer e session (SaysOk ∷ deeds) core = ((refl, refl, refl), deeds_answer e session deeds core)
 deeds_answer e session (Drops pid ∷ deeds) core = ((refl, refl, refl), deeds_answer e session deeds core)
 deeds_answer e session (_ ∷ deeds) core = deeds_answer e session deeds core
+
+answer_unbooted : (x : Entry) → IsAnswerEntry x → IsNoBoot x
+answer_unbooted (entry.Booted n k) a = absurd (true≢false (sym a.0))
+answer_unbooted x a = tt
+
+pub answers_unbooted : (es : List Entry) → AllByRecursion IsAnswerEntry es → AreNoBoots es
+answers_unbooted [] a = tt
+answers_unbooted (x ∷ es) a = (answer_unbooted x a.0, answers_unbooted es a.1)
 
 -- What is noted as a reply, and then nothing until the next turn, are the answers that are read.
 pub noted_answers : (number h : ℕ) (cut : Bool) (noted reply rest : List Entry) → AllByRecursion IsAnswerEntry reply → IsNotedSo number h cut noted reply

@@ -18,14 +18,15 @@ use Rattle.node_machine.specs.Turns.{deeds_for}
 use Rattle.node_laws.specs.answers.Moments.{unhandled_after, unhandled_in}
 use Rattle.node_laws.specs.passes.Passing.{BeginWithTurn, AreAlong, links_of_turns, ComesTo, IsBehind, Stays, waiting_at, is_held_at}
 use Rattle.lone_laws.specs.alone.Lone.{Lone, LoneCause, end_of_node_alone, lone_input, emits_behind, frames_behind, session_with}
-use Rattle.lone_laws.specs.alone.Known.{RecErrors, LoneTalk, core_noted, talk_noted, no_session_now, spare_in_talk, core_since}
+use Rattle.node_laws.specs.views.Errors.{ErrorCount}
+use Rattle.lone_laws.specs.alone.Known.{errors_found, LoneTalk, core_noted, talk_noted, no_session_now, spare_in_talk, core_since}
 use Rattle.lone_laws.specs.alone.Known.{spare_with_link, view_with_link}
 use Rattle.lone_laws.specs.alone.Known.{talk_since, errors_since, lack_since}
 use Rattle.lone_laws.specs.alone.Answers.{is_left_lacking}
 use Rattle.lone_laws.proofs.answered.Reading.{eqb_same, Read, Alone, left_is}
 use Rattle.lone_laws.proofs.answered.Ordered.{begin_read, begun, ended, was_on, left_so}
 use Rattle.lone_laws.proofs.answered.Errors.{errs_all, errs-append, IsSettled, settled_errs}
-use Rattle.lone_laws.proofs.answered.Replied.{begin_errs, KnowsAll}
+use Rattle.lone_laws.proofs.answered.Replied.{KnowsAll}
 use Rattle.lone_laws.proofs.answered.Answering.{all_at, its_lack}
 use Rattle.lone_laws.proofs.answered.Keeping.{core_of, KeepsAll, all_passing}
 
@@ -52,7 +53,7 @@ idle_settled e n (x ∷ es) a = (a.0.2, idle_settled e n es a.1)
 
 emits_idle : (e f : End) (n : ℕ) (frames : List Control) → AllByRecursion (IsIdle e n) (map (λ c. entry.Emit f (lpdu_of c)) frames)
 emits_idle e f n [] = tt
-emits_idle e f n (c ∷ frames) = (((λ z. refl), (λ z. refl), (λ z. refl), (λ z. refl)), emits_idle e f n frames)
+emits_idle e f n (c ∷ frames) = (((λ z. refl), (λ z. refl), ((λ z. refl), tt), (λ z. refl)), emits_idle e f n frames)
 
 -- what a message lacks, by what is read
 abbrev lacks_of : ℕ → Message → Core → LoneTalk → ℕ → Option (ℕ × ℕ)
@@ -73,8 +74,8 @@ module _ (F : Core) (h : ℕ) where
 
     errors_same : errors_since F e (T ++ X) ≡ errors_since F e T
     errors_same =
-        ap (λ (r : RecErrors). r.errors) (errs-append e (begin_errs F) T X)
-        ∙ settled_errs e X (idle_settled e F.node X idle) (errs_all e (begin_errs F) T)
+        ap (λ (r : ErrorCount). r.errors) (errs-append e (errors_found F) T X)
+        ∙ settled_errs e X (idle_settled e F.node X idle) (errs_all e (errors_found F) T)
 
     pub left_same : unhandled_in (T ++ X) e ≡ unhandled_in T e
     left_same = fold-append (unhandled_after e) [] T X ∙ idle_left e F.node X idle (unhandled_in T e)
@@ -117,7 +118,7 @@ module _ (rest : Core) (t : List Entry) (l : Lone) (some : 1 ≤ l.link) (most :
 
   held_idle : (b : Bool) (x : End) (short : ℕ × ℕ) → AllByRecursion (IsIdle f l.number) (cond b [] (entry.Held x short.0 short.1 ∷ []))
   held_idle true x short = tt
-  held_idle false x short = (((λ z. refl), (λ z. refl), (λ z. refl), (λ z. refl)), tt)
+  held_idle false x short = (((λ z. refl), (λ z. refl), ((λ z. refl), tt), (λ z. refl)), tt)
 
   pub short_behind : last.cut ≡ false → is_left_lacking G l.link (t ++ (last.entries ++ emits)) ≡ true
   short_behind still =

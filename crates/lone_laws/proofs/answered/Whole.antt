@@ -5,6 +5,7 @@ use Rattle.std.specs.List.{AllByRecursion, fold, list_any}
 use Rattle.std.specs.Option.{option_map_or}
 use Rattle.std.proofs.lemmas.Bool.{true≢false}
 use Rattle.std.proofs.lemmas.List.Sums.{fold-append}
+use Rattle.registry.proofs.ValueLemmas.{AllByRecursion-append}
 use Rattle.swp_base.specs.InMemory.{Memory}
 use Rattle.swp_base.specs.declared.link_terms.FrameFault.{FrameFault}
 use Rattle.swp_base.specs.declared.link_terms.FrameFault.TheVariants as fault
@@ -36,10 +37,12 @@ use Rattle.node_machine.specs.Node.{boot_writes, found, new_desk, with_error}
 use Rattle.node_machine.specs.world.NodeFilters.{was_refused}
 use Rattle.node_laws.specs.passes.Passing.{link_of_turn, AreNoTurns}
 use Rattle.node_laws.specs.answers.Order.{is_answer_of}
+use Rattle.node_laws.specs.views.Errors.{ErrorCount}
+use Rattle.node_laws.proofs.reply_passes.Sides.{IsNoBoot}
 use Rattle.lone_laws.specs.alone.Lone.{Lone, LoneCause, LoneEvent, lone_end, lone_input, node_input, lone_arrival, lone_work, emits_behind, with_refusal}
 use Rattle.lone_laws.specs.alone.Lone.{frames_behind, noted_of_refused, lone_behind_step, does_by_power, lone_step, lone_events, lone_booted, role_alone}
 use Rattle.lone_laws.specs.alone.Lone.LoneCause.{FrameComes, FrameIsRefused, TickComes, ResetComes, StartComes, StopComes}
-use Rattle.lone_laws.specs.alone.Known.{RecErrors, no_session_now}
+use Rattle.lone_laws.specs.alone.Known.{errors_found, no_session_now}
 use Rattle.lone_laws.specs.alone.Answers.{AtEachNoted, AtEachLoneEvent, entries_of_events_alone, runs_behind, is_at_rest, is_left_lacking}
 use Rattle.lone_laws.specs.alone.Answers.{is_done_alone}
 use Rattle.lone_laws.specs.alone.Answers.{is_short_alone, goes_through_end, IsRepliedAlone, IsHeldAlone, IsDueAlone, IsResetAlone}
@@ -55,7 +58,6 @@ use Rattle.lone_laws.proofs.answered.Roles.{kind_of}
 use Rattle.lone_laws.proofs.answered.Talking.{talk_all, talk-append, talk_of_side}
 use Rattle.lone_laws.proofs.answered.Rooms.{still_talk}
 use Rattle.lone_laws.proofs.answered.Errors.{errs_all, errs-append}
-use Rattle.lone_laws.proofs.answered.Replied.{begin_errs}
 use Rattle.lone_laws.proofs.answered.Answering.{replied_silent, answered_in_step}
 use Rattle.lone_laws.proofs.answered.Keeping.{core_of, errors_of, KeepsAll, all_passing, keeps_behind}
 use Rattle.lone_laws.proofs.answered.Shorting.{short_behind}
@@ -201,13 +203,13 @@ module _ (rest : Core) (t : List Entry) (l : Lone) (n : Running) (on : l.node �
   abbrev counted : Lone
   counted = record l { node = Some (with_refusal l.link n) }
 
-  counted_errors : (errs_all e (begin_errs J) (t ++ lost)).errors ≡ errors_of (with_error l.link n.desks)
+  counted_errors : (errs_all e (errors_found J) (t ++ lost)).errors ≡ errors_of (with_error l.link n.desks)
   counted_errors =
-      let x : RecErrors = errs_all e (begin_errs J) t in
+      let x : ErrorCount = errs_all e (errors_found J) t in
       let g : Desk → Desk = λ d. record d { errors = min 65535 (d.errors + 1) } in
-      ap (λ (r : RecErrors). r.errors) (errs-append e (begin_errs J) t lost)
+      ap (λ (r : ErrorCount). r.errors) (errs-append e (errors_found J) t lost)
       ∙ (ap₂ (λ a b. cond (a && b) (min 65535 (x.errors + 1)) x.errors) (same_self e) (refused_true f)
-      ∙ (ap (λ z. min 65535 (z + 1)) (k.errs ∙ ap errors_of k.keep.desks_are)
+      ∙ (ap (λ z. min 65535 (z + 1)) (k.errs.are ∙ ap errors_of k.keep.desks_are)
       ∙ sym (ap (λ ds. errors_of (with_error l.link ds)) k.keep.desks_are
       ∙ ap (λ b. (changed_if b g k.keep.desk).errors) (ap (λ z. eqb z l.link) k.keep.host ∙ eqb_same l.link))))
 
@@ -223,7 +225,7 @@ module _ (rest : Core) (t : List Entry) (l : Lone) (n : Running) (on : l.node �
       role = k.talks.role;
       clean = k.talks.clean;
     };
-    errs = counted_errors;
+    errs = record { are = counted_errors; unbooted = AllByRecursion-append IsNoBoot t lost k.errs.unbooted (tt, tt) };
   }
 
   rests_still : is_at_rest e t ≡ true → is_at_rest e (t ++ lost) ≡ true
@@ -374,7 +376,7 @@ module _ (number h : ℕ) (some : 1 ≤ h) (most : h ≤ 7) (its : eqb number 0 
             read = refl;
           };
           talks = record { talk = no_talk (eqb number 0); sound = new_sound (role_alone number); aside = refl; role = new_kind (eqb number 0); clean = tt };
-          errs = refl;
+          errs = record { are = refl; unbooted = tt };
         })
 
   pub begin_between : Between booted_core number h [] l

@@ -1,5 +1,5 @@
 -- What is read of a node alone, off what its boot found and what was noted since.
-use Rattle.std.specs.Prelude.{ℕ, ◌+◌, ◌-◌, ◌==◌, ◌&&◌, min, false, if◌then◌else◌, List, [], ◌∷◌, ◌++◌, drop, is_some, unwrap_or, Option, Some, None}
+use Rattle.std.specs.Prelude.{ℕ, ◌-◌, ◌==◌, ◌&&◌, false, if◌then◌else◌, List, [], ◌∷◌, ◌++◌, drop, is_some, Option, Some, None}
 use Rattle.std.specs.List.{fold}
 use Rattle.std.specs.Option.{option_and_then}
 use Rattle.trace_model.specs.declared.entry.Entry.{Entry}
@@ -15,9 +15,9 @@ use Rattle.history.specs.Filters.{same_end}
 use Rattle.node_machine.specs.Parts.{Core, Deed, EndView, NodeView}
 use Rattle.node_machine.specs.Carrying.{own_view, needs, first_lack}
 use Rattle.node_machine.specs.Turns.{deeds_for}
-use Rattle.node_machine.specs.world.NodeFilters.{was_refused}
+use Rattle.node_machine.specs.world.NodeFilters.{new_book}
 use Rattle.node_laws.specs.answers.Moments.{unhandled_in}
-use Rattle.node_laws.specs.views.Errors.{errors_set_by, is_any_ok, leads_to_link_gate}
+use Rattle.node_laws.specs.views.Errors.{ErrorCount, no_errors, errors_after}
 use Rattle.lone_laws.specs.alone.Lone.{end_of_node_alone}
 
 -- ## What it keeps
@@ -36,25 +36,13 @@ core_since found t = fold core_noted found t
 
 -- ## REC_ERROR
 
--- What is read of REC_ERROR: what the node keeps, which says where pipes lead; the value that a command sets whose turn was noted last,
--- until more is noted; and REC_ERROR.
-pub record RecErrors : Type 0 where
-  pub core : Core
-  pub sets : Option ℕ
-  pub errors : ℕ
+-- nothing was refused yet at a node whose boot found this: its tables say where pipes lead
+abbrev pub errors_found : Core → ErrorCount
+errors_found found = record no_errors { book = record new_book { tables = found.tables } }
 
--- after an entry: a command that sets it has its turn, and ANY_OK is sent next; a frame that was refused counts for one more, up to FFFF
-abbrev pub errors_noted : End → RecErrors → Entry → RecErrors
-errors_noted e x (entry.Turn f pid message) =
-    record x { sets = if same_end f e && leads_to_link_gate x.core.tables e pid then errors_set_by message else None }
-errors_noted e x (entry.Sent f n pid message) =
-    record x { sets = None; errors = if same_end f e && is_any_ok message then unwrap_or x.sets x.errors else x.errors }
-errors_noted e x (entry.Lost f lpdu cause) =
-    record x { sets = None; errors = if same_end f e && was_refused cause then min 65535 (x.errors + 1) else x.errors }
-errors_noted e x y = record x { core = core_noted x.core y; sets = None }
-
+-- REC_ERROR of an end, as it is read behind these entries.
 abbrev pub errors_since : Core → End → List Entry → ℕ
-errors_since found e t = (fold (errors_noted e) (record { core = found; sets = None; errors = 0 }) t).errors
+errors_since found e t = (fold (errors_after e) (errors_found found) t).errors
 
 -- ## The session of now
 
