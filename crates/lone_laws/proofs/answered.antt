@@ -13,6 +13,7 @@ pub mod Rooms
 pub mod Shapes
 pub mod Knowing
 pub mod Mine
+pub mod Told
 pub mod Replying
 pub mod Errors
 pub mod Linked

@@ -10,6 +10,7 @@ use Rattle.trace_model.specs.declared.entry.Entry.TheVariants as entry
 use Rattle.trace_model.specs.declared.line.End.{End}
 use Rattle.link_laws.specs.machine.Machine.{Message, LinkInput, oldest}
 use Rattle.link_laws.specs.machine.Machine.Turn.{Hold}
+use Rattle.journal_laws.specs.Journal.{count_of}
 use Rattle.node_machine.specs.Parts.{Core, Running, Port, Work, Deed}
 use Rattle.node_machine.specs.Carrying.{end_of_node, noting, noted_of, port_at, with_desk, after_turn, turn_at}
 use Rattle.node_machine.specs.Turns.{deeds_of, handles, holds_back}
@@ -20,7 +21,7 @@ use Rattle.node_laws.specs.passes.Noting.{noted_by_deeds}
 use Rattle.node_laws.proofs.passes.Passing.{comes_so}
 use Rattle.lone_laws.specs.alone.Lone.{Lone, LoneCause, end_of_node_alone, lone_input, emits_behind, session_with}
 use Rattle.lone_laws.specs.alone.Known.{errors_found, talk_since, reply_since, lack_since, first_lack_since}
-use Rattle.lone_laws.specs.alone.Answers.{IsHeldAlone, noted_since, entries_of_deeds}
+use Rattle.lone_laws.specs.alone.Answers.{IsHeldAlone, noted_since}
 use Rattle.lone_laws.proofs.answered.Mine.{AnswersOwn, IsRepliedOwn}
 use Rattle.lone_laws.proofs.answered.Reading.{Read, left_is}
 use Rattle.lone_laws.proofs.answered.Turning.{IsHere, alone_here}
@@ -28,9 +29,10 @@ use Rattle.lone_laws.proofs.answered.Lasting.{LoneKeeps}
 use Rattle.lone_laws.proofs.answered.Ordered.{begin_read, OrderAt, pass_noted, begun, ended, noted, entries_are, in_order}
 use Rattle.lone_laws.proofs.answered.Knowing.{KnowsAlone, knows_lasts}
 use Rattle.node_laws.proofs.worlds.Late.{BeginsBehind}
+use Rattle.lone_laws.proofs.answered.Told.{entries_of_deeds, noted_as_reply, reply_told}
 use Rattle.lone_laws.proofs.answered.Replying.{session_of_end, IsMuteEntry, AreUntil, mute_then, mutes_then, turn_then, deeds_answer, noted_answers}
 use Rattle.lone_laws.proofs.answered.Errors.{ErrorsAre, IsSettled, errors_then, desk_errors, errors_with}
-use Rattle.lone_laws.proofs.answered.Replied.{found, KnowsAll, lack_read, deeds_read, core_read, session_read, same_link, own_port}
+use Rattle.lone_laws.proofs.answered.Replied.{found, KnowsAll, deeds_shape, lack_read, deeds_read, core_read, session_read, same_link, own_port}
 use Rattle.lone_laws.proofs.answered.Replied.{noted_so, errs_handled}
 
 pub emits_mute : (f : End) (frames : List Control) → AllByRecursion IsMuteEntry (map (λ c. entry.Emit f (lpdu_of c)) frames)
@@ -139,9 +141,13 @@ module _ (rest : Core) (number h : ℕ) (some : 1 ≤ h) (most : h ≤ 7) (s : �
     its_reply : noted_since F h T (reply_since F h T m)
         ≡ entries_of_deeds w.core e (session_of_end (own_port rest number h some most s t its w a on k m messages waits)) (deeds_of w.core w.ports k m)
     its_reply =
+        let D : List Deed = deeds_of w.core w.ports k m in
         ap (λ d. noted_since F h T d) (deeds_read rest number h some most s t w a k m link_k)
-        ∙ (ap (λ c. entries_of_deeds c e (talk_since e number T).session (deeds_of w.core w.ports k m)) (core_read rest number h some most s t w a)
-        ∙ ap (λ o. entries_of_deeds w.core e o (deeds_of w.core w.ports k m)) (session_read rest number h some most s t w a))
+        ∙ (ap (λ (c : Core). noted_as_reply number h (talk_since e number T).session c (count_of c.journal) D) (core_read rest number h some most s t w a)
+        ∙ (ap (λ o. noted_as_reply number h o w.core (count_of w.core.journal) D) (session_read rest number h some most s t w a)
+        ∙ reply_told number h (session_of_end (own_port rest number h some most s t its w a on k m messages waits)) w.core a.known.keeps.node
+        (count_of w.core.journal) D (deeds_shape rest number h some most s t k m w a.known.keeps (alone_here number h some most (begin_read F) t k m messages
+        w a.known.keeps waits).own)))
 
     pub its_answers : (back later emits : List Entry) → lacking w k m ≡ None
         → back ≡ noted_by_deeds k (deeds_of w.core w.ports k m) (takes_up k m w) ++ later

@@ -36,11 +36,13 @@ use Rattle.node_laws.specs.passes.Steps.{syncs_in}
 use Rattle.node_laws.proofs.passes.Notes.{deeds_note}
 use Rattle.node_laws.proofs.worlds.Late.{BeginsBehind}
 use Rattle.node_laws.proofs.worlds.Uiccs.{tick_none, uicc_sync}
-use Rattle.lone_laws.specs.alone.Lone.{Lone, LoneCause, lone_end, lone_input, node_input, lone_arrival, emits_behind, frames_behind, session_with}
+use Rattle.journal_laws.specs.Journal.{count_of}
+use Rattle.lone_laws.specs.alone.Lone.{Lone, LoneCause, end_of_node_alone, lone_end, lone_input, node_input, lone_arrival, emits_behind}
+use Rattle.lone_laws.specs.alone.Lone.{frames_behind, session_with}
 use Rattle.lone_laws.specs.alone.Lone.LoneCause.{FrameComes, FrameIsRefused, TickComes, ResetComes, StartComes, StopComes}
 use Rattle.lone_laws.specs.alone.Known.{core_since, talk_since}
 use Rattle.node_laws.specs.answers.Answered.{to_command}
-use Rattle.lone_laws.specs.alone.Answers.{entries_of_deeds, noted_since, sync_due}
+use Rattle.lone_laws.specs.alone.Answers.{noted_since, sync_due}
 use Rattle.lone_laws.proofs.answered.Mine.{is_own_answer, is_own_cut, to_turn, AnswersOwn, IsDueOwn}
 use Rattle.lone_laws.proofs.answered.Reading.{Read, Alone, core_is}
 use Rattle.lone_laws.proofs.answered.Coming.{comes_there, came_entries, pass_is}
@@ -48,6 +50,7 @@ use Rattle.lone_laws.proofs.answered.Stepping.{lone_comes}
 use Rattle.lone_laws.proofs.answered.Lasting.{begins_alone, arrival_nothing}
 use Rattle.lone_laws.proofs.answered.Ordered.{begin_read, start, begun, ended, start_alone, pass_noted}
 use Rattle.lone_laws.proofs.answered.Roles.{kind_of}
+use Rattle.lone_laws.proofs.answered.Told.{entries_of_deeds, noted_as_reply, commit_told}
 use Rattle.lone_laws.proofs.answered.Replying.{IsMuteEntry, AreUntil, IsNotedSo, deeds_answer, noted_answers}
 use Rattle.lone_laws.proofs.answered.Errors.{IsToldNote, told_of_it}
 use Rattle.lone_laws.proofs.answered.Answering.{none_until, emits_mute}
@@ -213,6 +216,14 @@ sync_noted number h e session u (Some id) on node =
       commits true q = rw q (Sync h id, [], ap (λ n. entry.Command n (Sync h id) ∷ []) node, ap (λ n. entry.Command n (Sync h id) ∷ entry.Cut n ∷ []) node)
       commits false q = rw (q, on) (refl)
 
+due_as_reply : (number h : ℕ) (session : Option ℕ) (core : Core) (count : ℕ) (o : Option ℕ) → core.node ≡ number
+    → noted_as_reply number h session core count (of_sync core h o) ≡ entries_of_deeds core (end_of_node_alone number h) session (of_sync core h o)
+due_as_reply number h session core count None node = refl
+due_as_reply number h session core count (Some id) node =
+    cond_both (not (is_kept_sync core.tables.syncs h id) && finds_room core (Sync h id)) (Commits (Sync h id) ∷ []) []
+    (λ D. noted_as_reply number h session core count D ≡ entries_of_deeds core (end_of_node_alone number h) session D)
+    (λ _. commit_told number h session core node count (Sync h id)) (λ _. refl)
+
 -- ## A step
 
 module _ (rest : Core) (t : List Entry) (l : Lone) (some : 1 ≤ l.link) (most : l.link ≤ 7) (n : Running)
@@ -281,9 +292,10 @@ module _ (rest : Core) (t : List Entry) (l : Lone) (some : 1 ≤ l.link) (most :
 
   due_read : noted_since G l.link t (sync_due (core_since G t) l.link c) ≡ entries_of_deeds n.core e (talk_since e l.number t).session due
   due_read =
-      ap (λ x. entries_of_deeds x e (talk_since e l.number t).session (sync_due x l.link c)) core_read
-      ∙ ap (entries_of_deeds n.core e (talk_since e l.number t).session)
+      ap (λ (x : Core). noted_as_reply l.number l.link (talk_since e l.number t).session x (count_of x.journal) (sync_due x l.link c)) core_read
+      ∙ (ap (noted_as_reply l.number l.link (talk_since e l.number t).session n.core (count_of n.core.journal))
       (sym (input_due n.core l.link l.side c i comes (k.talks.role ∙ ap (λ z. Some (eqb z 0)) (sym k.keep.node))))
+      ∙ due_as_reply l.number l.link (talk_since e l.number t).session n.core (count_of n.core.journal) (report l.side i).sync k.keep.node)
 
   entries_are_so : last.entries ++ tail ≡ before ++ (noted_by_deeds 0 due come ++ (more ++ tail))
   entries_are_so =

@@ -35,9 +35,9 @@ use Rattle.node_laws.proofs.views.Setting.{AreUnset, is_link_gate, SetsNone, IsU
 use Rattle.node_laws.proofs.views.Setting.SetDeeds.{IsSet as IsSetSo, IsRefused as IsRefusedSo, IsDropped as IsDroppedSo}
 use Rattle.lone_laws.specs.alone.Lone.{end_of_node_alone}
 use Rattle.lone_laws.specs.alone.Known.{core_noted, core_with, errors_found}
-use Rattle.lone_laws.specs.alone.Answers.{entries_of_deeds}
 use Rattle.lone_laws.proofs.answered.Turning.{same_self}
 use Rattle.lone_laws.proofs.answered.Replying.{session_of_end, sent_alone, unless_on}
+use Rattle.lone_laws.proofs.answered.Told.{entries_of_deeds}
 use Rattle.lone_laws.proofs.answered.Shapes.{IsLoneReply}
 use Rattle.lone_laws.proofs.answered.Shapes.IsLoneReply.{IsNone, IsDrop, IsSend, IsCommit, IsSet, IsHeard}
 

@@ -30,7 +30,6 @@ use Rattle.lone_laws.specs.alone.Known.{end_since, spare_since, spare_with_link,
 use Rattle.node_laws.specs.views.Errors.{ErrorCount, errors_after, errors_set_by, leads_to_link_gate}
 use Rattle.node_laws.proofs.reply_passes.Sides.{IsNoBoot, AreNoBoots}
 use Rattle.lone_laws.specs.alone.Known.{lack_since}
-use Rattle.lone_laws.specs.alone.Answers.{entries_of_deeds}
 use Rattle.lone_laws.proofs.answered.Reading.{eqb_same, Read, core_is, Alone}
 use Rattle.lone_laws.proofs.answered.Linked.{one_deeds, one_lack}
 use Rattle.lone_laws.proofs.answered.Turning.{same_self, own_end, IsHere, alone_here, link_is}
@@ -39,7 +38,8 @@ use Rattle.lone_laws.proofs.answered.Talking.{talk_of_side}
 use Rattle.lone_laws.proofs.answered.Rooms.{Talks, spare_is}
 use Rattle.lone_laws.proofs.answered.Knowing.{KnowsAlone}
 use Rattle.lone_laws.proofs.answered.Shapes.{IsLoneReply, controller_reply, host_reply}
-use Rattle.lone_laws.proofs.answered.Replying.{link_of_end, session_of_end, TakesIt, IsNotedSo, reply_noted, deeds_answer, answers_unbooted}
+use Rattle.lone_laws.proofs.answered.Told.{entries_of_deeds, link_of_end}
+use Rattle.lone_laws.proofs.answered.Replying.{session_of_end, TakesIt, IsNotedSo, reply_noted, deeds_answer, answers_unbooted}
 use Rattle.lone_laws.proofs.answered.Errors.{errs_all, errs-append, ErrorsAre, gate_read, desk_errors}
 use Rattle.lone_laws.proofs.answered.Errors.{FitsErrors, sets_there, controller_fits, host_fits, deeds_errs}
 

@@ -27,19 +27,13 @@ use Rattle.node_laws.specs.passes.Noting.{noted_at, goes_in, noted_by_deeds}
 use Rattle.lone_laws.specs.alone.Lone.{end_of_node_alone}
 use Rattle.lone_laws.specs.alone.Known.{core_with}
 use Rattle.node_laws.specs.answers.Answered.{to_command}
-use Rattle.lone_laws.specs.alone.Answers.{entries_of_deeds}
 use Rattle.node_laws.proofs.reply_passes.Sides.{IsNoBoot, AreNoBoots}
 use Rattle.lone_laws.proofs.answered.Mine.{is_own_answer, is_own_turn, is_own_cut, to_turn, AnswersOwn}
 use Rattle.lone_laws.proofs.answered.Reading.{eqb_same}
 use Rattle.lone_laws.proofs.answered.Turning.{own_end}
+use Rattle.lone_laws.proofs.answered.Told.{entries_of_deeds, link_of_end}
 use Rattle.lone_laws.proofs.answered.Shapes.{IsLoneReply}
 use Rattle.lone_laws.proofs.answered.Shapes.IsLoneReply.{IsNone, IsDrop, IsSend, IsCommit, IsSet, IsHeard}
-
-pub link_of_end : (number h : ℕ) → (end_of_node_alone number h).link ≡ h
-link_of_end number h = go (eqb number 0) refl where
-  go : (b : Bool) → eqb number 0 ≡ b → (end_of_node_alone number h).link ≡ h
-  go true q = rw q refl
-  go false q = rw q refl
 
 -- the session of an end, while it is up
 abbrev pub session_of_end : Port → Option ℕ

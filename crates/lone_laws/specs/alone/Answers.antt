@@ -1,8 +1,7 @@
 -- What the history of a node alone must be as to its answers, by what its boot found and what was noted since.
-use Rattle.std.specs.Prelude.{◌≡◌, ℕ, ◌==◌, ◌&&◌, ◌||◌, Bool, true, false, not, if◌then◌else◌, List, [], ◌∷◌, ◌++◌, is_some, is_none, Option, Some, None}
+use Rattle.std.specs.Prelude.{◌≡◌, ℕ, ◌==◌, ◌&&◌, ◌||◌, Bool, true, false, not, if◌then◌else◌, List, [], ◌∷◌, ◌++◌, map, is_some, is_none, Option, Some, None}
 use Rattle.std.specs.Prelude.{Result, Ok}
 use Rattle.std.specs.List.{AllByRecursion, flat_map, filter_map, list_any}
-use Rattle.std.specs.Option.{option_map_or}
 use Rattle.swp_base.specs.declared.control_frames.Control.{Control}
 use Rattle.swp_base.specs.declared.control_frames.Control.TheVariants.{Act as ActFrame}
 use Rattle.swp_base.specs.declared.control_frames.Act.TheVariants.{SyncId}
@@ -17,16 +16,17 @@ use Rattle.hci_tables.specs.declared.command.Command.TheVariants.{Sync}
 use Rattle.hci_tables.specs.Tables.{is_kept_sync}
 use Rattle.link_laws.specs.machine.Machine.{oldest}
 use Rattle.node_machine.specs.Parts.{Core, Deed}
-use Rattle.node_machine.specs.Parts.Deed.{Commits, Sends, SaysOk, Drops}
+use Rattle.node_machine.specs.Parts.Deed.{Commits}
 use Rattle.node_machine.specs.Carrying.{finds_room}
 use Rattle.node_machine.specs.world.NodeLegal.{AreInTurn}
 use Rattle.node_laws.specs.answers.Moments.{holds_in, unhandled_in}
+use Rattle.node_laws.specs.passes.Noting.{entries_of_reply}
 use Rattle.node_laws.specs.kept.Reckonings.{is_cut_of}
 use Rattle.node_laws.specs.answers.Answered.{AnswersSo}
 use Rattle.node_laws.specs.answers.Order.{IsAscending, hears, is_answer_of, turn_link}
 use Rattle.lone_laws.specs.alone.Lone.{LoneCause, LoneEvent, end_of_node_alone}
 use Rattle.lone_laws.specs.alone.Lone.LoneCause.{FrameComes, FrameIsRefused, ResetComes}
-use Rattle.lone_laws.specs.alone.Known.{core_with, core_since, talk_since, reply_since, lack_since, first_lack_since}
+use Rattle.lone_laws.specs.alone.Known.{core_since, talk_since, reply_since, lack_since, first_lack_since}
 
 -- ## Where facts speak
 
@@ -46,20 +46,20 @@ AtEachLoneEvent events P = (past back : List LoneEvent) (o : LoneEvent) → even
 
 -- ## Answers
 
--- The entries of deeds of a node that keeps this, whose end has this session where it is up, as a message of that end is handled.
-abbrev pub entries_of_deeds : Core → End → Option ℕ → List Deed → List Entry
-entries_of_deeds core e session [] = []
-entries_of_deeds core e session (Commits c ∷ deeds) = entry.Command core.node c ∷ entries_of_deeds (core_with core c) e session deeds
-entries_of_deeds core e session (Sends to m ∷ deeds) =
-    (if to == e.link then option_map_or (λ n. entry.Sent e n m.0 m.1 ∷ []) session [] else []) ++ entries_of_deeds core e session deeds
-entries_of_deeds core e session (SaysOk ∷ deeds) = entry.AnyOk core.node (count_of core.journal) ∷ entries_of_deeds core e session deeds
-entries_of_deeds core e session (Drops pid ∷ deeds) = entry.Dropped e pid ∷ entries_of_deeds core e session deeds
-entries_of_deeds core e session (_ ∷ deeds) = entries_of_deeds core e session deeds
+-- ANY_OK tells how many commands the journal counts of a node that keeps this
+abbrev pub telling_count : Core → Entry → Entry
+telling_count core (entry.AnyOk n count) = entry.AnyOk n (count_of core.journal)
+telling_count core x = x
 
--- those of a node whose boot found this, behind these entries
+-- What is noted of deeds of a node whose boot found this, behind these entries: the entries of a reply of such a node, its one end in the session
+-- that is read. ANY_OK tells what the journal counts behind the commands of the reply: none, as long as its head names more records of a snapshot
+-- than it has.
 abbrev pub noted_since : Core → ℕ → List Entry → List Deed → List Entry
 noted_since found h t deeds =
-    let e : End = end_of_node_alone found.node h in entries_of_deeds (core_since found t) e (talk_since e found.node t).session deeds
+    let core : Core = core_since found t in
+    let session : Option ℕ = (talk_since (end_of_node_alone found.node h) found.node t).session in
+    let entries : List Entry = entries_of_reply found.node (λ k. if k == h then session else None) h (count_of core.journal) deeds in
+    map (telling_count (core_since core entries)) entries
 
 -- ## Turns
 
