@@ -123,6 +123,16 @@ errors_are_told : entries_of (lone_events (lone_after clf comes_up) asks_errors)
 unfolding bits_of_byte found_from hosts_where lowest_free
 errors_are_told = refl
 
+-- Where a head names seven records of a snapshot and there are none, the journal counts no command, and ANY_OK tells none.
+abbrev pub clf_owing : Lone
+clf_owing = end_node true (new_memory ((90 ∷ 2 ∷ 0 ∷ 0 ∷ 0 ∷ 1 ∷ 0 ∷ 0 ∷ 0 ∷ 0 ∷ 0 ∷ 7 ∷ []) ++ replicate 65524 255))
+
+none_is_counted : entries_of (lone_events (lone_after clf_owing comes_up) (FrameComes (128 ∷ 128 ∷ 3 ∷ []) ∷ [])) ≡
+    (Took (end_c 2) (128 ∷ 128 ∷ 3 ∷ []) ∷ Got (end_c 2) 1 0 (3 ∷ []) ∷ Turn (end_c 2) 0 (3 ∷ []) ∷ Command 0 (command.SetOpened 2 0 true) ∷
+    Sent (end_c 2) 1 0 (128 ∷ 0 ∷ []) ∷ AnyOk 0 0 ∷ Emit (end_c 2) (193 ∷ []) ∷ Emit (end_c 2) (129 ∷ 128 ∷ 128 ∷ 0 ∷ []) ∷ []) ∷ []
+unfolding bits_of_byte found_from hosts_where lowest_free
+none_is_counted = refl
+
 -- A UICC becomes active, and takes an RSET: its session is the first one.
 abbrev pub uicc_comes : List LoneCause
 uicc_comes = StartComes 1 ∷ FrameComes (98 ∷ 1 ∷ []) ∷ FrameComes (249 ∷ 4 ∷ 0 ∷ []) ∷ []
