@@ -145,6 +145,15 @@ impl<T> DerefMut for Vec<T> {
     }
 }
 
+impl<T> IntoIterator for Vec<T> {
+    type Item = T;
+    type IntoIter = on_heap::vec::IntoIter<T>;
+
+    fn into_iter(self) -> Self::IntoIter {
+        self.0.into_iter()
+    }
+}
+
 /// Iterators whose values are kept in a vector that says where it takes its memory.
 pub trait CollectIn: Iterator + Sized {
     /// The values.

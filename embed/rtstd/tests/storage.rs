@@ -27,6 +27,7 @@ fn vectors_grow_and_shrink_as_told() {
     assert!(list.is_empty());
     assert_eq!(Vec::from_elem(Global, 3u8, 2), Vec::from_slice(Global, &[3, 3]));
     assert_eq!((1..4).collect_in(Global), Vec::from_slice(Global, &[1, 2, 3]));
+    assert!(Vec::from_slice(Global, &[8, 9]).unwrap().into_iter().eq([8, 9]));
 }
 
 #[test]
