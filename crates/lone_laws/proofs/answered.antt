@@ -7,6 +7,9 @@ pub mod Lasting
 pub mod Events
 pub mod Powers
 pub mod Ordered
+pub mod Sessions
+pub mod Numbers
+pub mod Growing
 pub mod Talking
 pub mod Roles
 pub mod Rooms

@@ -14,13 +14,14 @@ use Rattle.journal_laws.specs.Journal.{count_of}
 use Rattle.node_machine.specs.Parts.{Core, Running, Port, Work, Deed}
 use Rattle.node_machine.specs.Carrying.{end_of_node, noting, noted_of, port_at, with_desk, after_turn, turn_at}
 use Rattle.node_machine.specs.Turns.{deeds_of, handles, holds_back}
+use Rattle.node_machine.specs.world.NodeFilters.{session_now}
 use Rattle.node_laws.specs.answers.Moments.{unhandled_in}
 use Rattle.node_laws.proofs.steps.StepWalks.{lets}
 use Rattle.node_laws.specs.passes.Passing.{LastsOverTurns, ComesTo, IsTurnSo, BeginWithTurn, link_of_turn, waiting_at, lacking, takes_up}
 use Rattle.node_laws.specs.passes.Noting.{noted_by_deeds}
 use Rattle.node_laws.proofs.passes.Passing.{comes_so}
 use Rattle.lone_laws.specs.alone.Lone.{Lone, LoneCause, end_of_node_alone, lone_input, emits_behind, session_with}
-use Rattle.lone_laws.specs.alone.Known.{errors_found, talk_since, reply_since, lack_since, first_lack_since}
+use Rattle.lone_laws.specs.alone.Known.{errors_found, reply_since, lack_since, first_lack_since}
 use Rattle.lone_laws.specs.alone.Answers.{IsHeldAlone, noted_since}
 use Rattle.lone_laws.proofs.answered.Mine.{AnswersOwn, IsRepliedOwn}
 use Rattle.lone_laws.proofs.answered.Reading.{Read, left_is}
@@ -128,7 +129,7 @@ module _ (rest : Core) (number h : ℕ) (some : 1 ≤ h) (most : h ≤ 7) (s : �
     link_k = same_link rest number h some most s t its w a on k m messages waits
 
     pub its_lack : lack_since F h T m ≡ lacking w k m
-    its_lack = lack_read rest number h some most s t w a k m link_k
+    its_lack = lack_read rest number h some most s t w a its k m link_k
 
     pub its_left : unhandled_in T e ≡ m ∷ messages
     its_left =
@@ -142,8 +143,8 @@ module _ (rest : Core) (number h : ℕ) (some : 1 ≤ h) (most : h ≤ 7) (s : �
         ≡ entries_of_deeds w.core e (session_of_end (own_port rest number h some most s t its w a on k m messages waits)) (deeds_of w.core w.ports k m)
     its_reply =
         let D : List Deed = deeds_of w.core w.ports k m in
-        ap (λ d. noted_since F h T d) (deeds_read rest number h some most s t w a k m link_k)
-        ∙ (ap (λ (c : Core). noted_as_reply number h (talk_since e number T).session c (count_of c.journal) D) (core_read rest number h some most s t w a)
+        ap (λ d. noted_since F h T d) (deeds_read rest number h some most s t w a its k m link_k)
+        ∙ (ap (λ (c : Core). noted_as_reply number h (session_now T e number) c (count_of c.journal) D) (core_read rest number h some most s t w a)
         ∙ (ap (λ o. noted_as_reply number h o w.core (count_of w.core.journal) D) (session_read rest number h some most s t w a)
         ∙ reply_told number h (session_of_end (own_port rest number h some most s t its w a on k m messages waits)) w.core a.known.keeps.node
         (count_of w.core.journal) D (deeds_shape rest number h some most s t k m w a.known.keeps (alone_here number h some most (begin_read F) t k m messages

@@ -30,6 +30,7 @@ use Rattle.node_machine.specs.Parts.{Core, Running, Port, Work, Deed}
 use Rattle.node_machine.specs.Parts.Deed.{Commits}
 use Rattle.node_machine.specs.Carrying.{own_side, all_done, finds_room}
 use Rattle.node_machine.specs.Node.{all_come, told_at, synced, input_at}
+use Rattle.node_machine.specs.world.NodeFilters.{session_now}
 use Rattle.node_laws.specs.passes.Noting.{noted_by_deeds, goes_in}
 use Rattle.node_laws.specs.passes.Passing.{ComesTo, IsTurnSo}
 use Rattle.node_laws.specs.passes.Steps.{syncs_in}
@@ -40,7 +41,7 @@ use Rattle.journal_laws.specs.Journal.{count_of}
 use Rattle.lone_laws.specs.alone.Lone.{Lone, LoneCause, end_of_node_alone, lone_end, lone_input, node_input, lone_arrival, emits_behind}
 use Rattle.lone_laws.specs.alone.Lone.{frames_behind, session_with}
 use Rattle.lone_laws.specs.alone.Lone.LoneCause.{FrameComes, FrameIsRefused, TickComes, ResetComes, StartComes, StopComes}
-use Rattle.lone_laws.specs.alone.Known.{core_since, talk_since}
+use Rattle.lone_laws.specs.alone.Known.{core_since}
 use Rattle.node_laws.specs.answers.Answered.{to_command}
 use Rattle.lone_laws.specs.alone.Answers.{noted_since, sync_due}
 use Rattle.lone_laws.proofs.answered.Mine.{is_own_answer, is_own_cut, to_turn, AnswersOwn, IsDueOwn}
@@ -290,12 +291,12 @@ module _ (rest : Core) (t : List Entry) (l : Lone) (some : 1 ≤ l.link) (most :
   core_read : core_since G t ≡ n.core
   core_read = sym (core_is e t R) ∙ ap (λ (z : Read). z.core) k.keep.read
 
-  due_read : noted_since G l.link t (sync_due (core_since G t) l.link c) ≡ entries_of_deeds n.core e (talk_since e l.number t).session due
+  due_read : noted_since G l.link t (sync_due (core_since G t) l.link c) ≡ entries_of_deeds n.core e (session_now t e l.number) due
   due_read =
-      ap (λ (x : Core). noted_as_reply l.number l.link (talk_since e l.number t).session x (count_of x.journal) (sync_due x l.link c)) core_read
-      ∙ (ap (noted_as_reply l.number l.link (talk_since e l.number t).session n.core (count_of n.core.journal))
+      ap (λ (x : Core). noted_as_reply l.number l.link (session_now t e l.number) x (count_of x.journal) (sync_due x l.link c)) core_read
+      ∙ (ap (noted_as_reply l.number l.link (session_now t e l.number) n.core (count_of n.core.journal))
       (sym (input_due n.core l.link l.side c i comes (k.talks.role ∙ ap (λ z. Some (eqb z 0)) (sym k.keep.node))))
-      ∙ due_as_reply l.number l.link (talk_since e l.number t).session n.core (count_of n.core.journal) (report l.side i).sync k.keep.node)
+      ∙ due_as_reply l.number l.link (session_now t e l.number) n.core (count_of n.core.journal) (report l.side i).sync k.keep.node)
 
   entries_are_so : last.entries ++ tail ≡ before ++ (noted_by_deeds 0 due come ++ (more ++ tail))
   entries_are_so =
@@ -305,7 +306,7 @@ module _ (rest : Core) (t : List Entry) (l : Lone) (some : 1 ≤ l.link) (most :
   -- The answers before the first turn are exactly those that are due.
   pub due_in_step : IsDueOwn G l.link t (record { cause = c; entries = last.entries ++ tail })
   due_in_step =
-      let session : Option ℕ = (talk_since e l.number t).session in
+      let session : Option ℕ = session_now t e l.number in
       let until : AreUntil [] false (more ++ tail) =
       none_until more tail (emits_mute e (frames_behind l last)) (pass_noted G t l some most n k.keep c i comes).begin each_is in
       let one : AnswersOwn (noted_by_deeds 0 due come ++ (more ++ tail)) (entries_of_deeds n.core e session due) =

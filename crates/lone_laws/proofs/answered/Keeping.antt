@@ -1,14 +1,15 @@
 -- Between events of a node alone all that is read of it is what it keeps.
-use Rattle.std.proofs.Common.{◌≡◌, ℕ, ◌≤◌, Bool, true, false, cond, eqb, List, [], ◌∷◌, ◌++◌, map, refl, sym, ap, subst, ◌∙◌, append_assoc}
-use Rattle.std.specs.Prelude.{Some, None}
-use Rattle.std.specs.List.{AllByRecursion}
+use Rattle.std.proofs.Common.{◌≡◌, ℕ, ◌≤◌, Bool, true, false, cond, eqb, List, [], ◌∷◌, ◌++◌, map, refl, sym, ap, subst, ◌∙◌, append_assoc, arith}
+use Rattle.std.specs.Prelude.{◌+◌, length, Some, None}
+use Rattle.std.specs.List.{AllByRecursion, filter}
 use Rattle.std.proofs.lemmas.Bool.{true≢false}
 use Rattle.swp_base.specs.declared.control_frames.Control.{Control}
 use Rattle.swp_lpdu.specs.Controls.{lpdu_of}
 use Rattle.trace_model.specs.declared.entry.Entry.{Entry}
 use Rattle.trace_model.specs.declared.entry.Entry.TheVariants as entry
 use Rattle.trace_model.specs.declared.line.End.{End}
-use Rattle.link_laws.specs.machine.Machine.{LinkEnd, LinkInput, after_input, report, whole_acked, sent_all}
+use Rattle.link_laws.specs.machine.Machine.{LinkEnd, LinkInput, after_input, report, whole_acked, frames_out, sent_all}
+use Rattle.link_laws.specs.sessions.Sessions.{is_rset}
 use Rattle.link_laws.proofs.entries.Stepping.{sound_sent}
 use Rattle.node_machine.specs.Parts.{Desk, Core, Running, Port, Work, Deed}
 use Rattle.node_machine.specs.Parts.Deed.{Commits}
@@ -22,17 +23,20 @@ use Rattle.node_laws.specs.passes.Noting.{goes_in}
 use Rattle.node_laws.specs.passes.Passing.{ComesTo}
 use Rattle.node_laws.specs.passes.Steps.{syncs_in}
 use Rattle.node_laws.proofs.passes.Before.{steps_are}
-use Rattle.lone_laws.specs.alone.Lone.{Lone, LoneCause, lone_end, lone_input, node_input, lone_arrival, lone_port, session_with, side_behind, emits_behind}
+use Rattle.lone_laws.specs.alone.Lone.{Lone, LoneCause, lone_end, lone_input, node_input, lone_arrival, lone_port, rsets_since, session_with, side_behind}
+use Rattle.lone_laws.specs.alone.Lone.{emits_behind}
 use Rattle.lone_laws.specs.alone.Lone.{frames_behind, lone_behind_step}
 use Rattle.lone_laws.specs.alone.Lone.LoneCause.{FrameComes, FrameIsRefused, TickComes, ResetComes, StartComes, StopComes}
-use Rattle.lone_laws.specs.alone.Known.{errors_found, no_session_now}
+use Rattle.lone_laws.specs.alone.Known.{errors_found}
 use Rattle.lone_laws.proofs.answered.Reading.{eqb_same, Read, Alone}
-use Rattle.lone_laws.proofs.answered.Coming.{IsLoneInput, pass_is, came_ports, came_entries}
+use Rattle.lone_laws.proofs.answered.Coming.{IsLoneInput, pass_is, came_is, came_ports, came_entries}
 use Rattle.lone_laws.proofs.answered.Stepping.{lone_comes, passed}
 use Rattle.lone_laws.proofs.answered.Lasting.{LoneKeeps, begins_alone, arrival_nothing, side_is}
 use Rattle.lone_laws.proofs.answered.Ordered.{begin_read, start, begun, ended, start_alone, was_on}
-use Rattle.lone_laws.proofs.answered.Talking.{talk_all, talk-append, talk_of_side}
-use Rattle.lone_laws.proofs.answered.Rooms.{AreStill, still_talk, Talks, sent_same}
+use Rattle.lone_laws.proofs.answered.Sessions.{AreSilent, Reads, reads_silent}
+use Rattle.lone_laws.proofs.answered.Growing.{IsTurned, AreTurned, IsTurnedWork, IsNumbered, steps_turned, numbered_then}
+use Rattle.lone_laws.proofs.answered.Talking.{talk_of_side}
+use Rattle.lone_laws.proofs.answered.Rooms.{Talks, sent_same}
 use Rattle.lone_laws.proofs.answered.Knowing.{LoneTalks, passing_known}
 use Rattle.lone_laws.proofs.answered.Errors.{ErrorsAre, IsSettled, errors_then, desk_errors, told_settled}
 use Rattle.lone_laws.proofs.answered.Replied.{KnowsAll, same_port}
@@ -71,9 +75,9 @@ pub emits_settled : (e f : End) (frames : List Control) → AllByRecursion (IsSe
 emits_settled e f [] = tt
 emits_settled e f (c ∷ frames) = (((λ z. refl), tt), emits_settled e f frames)
 
-pub emits_still : (e f : End) (n : ℕ) (frames : List Control) → AreStill e n (map (λ c. entry.Emit f (lpdu_of c)) frames)
-emits_still e f n [] = tt
-emits_still e f n (c ∷ frames) = ((λ z. refl), emits_still e f n frames)
+emits_silent : (f : End) (frames : List Control) → AreSilent (map (λ c. entry.Emit f (lpdu_of c)) frames)
+emits_silent f [] = tt
+emits_silent f (c ∷ frames) = (tt, emits_silent f frames)
 
 -- it is a commit
 abbrev IsCommits : Deed → Type 0
@@ -164,23 +168,35 @@ module _ (rest : Core) (t : List Entry) (l : Lone) (some : 1 ≤ l.link) (most :
   abbrev behind : Lone
   behind = lone_behind_step l i last
 
+  -- its end had its turns
+  last_turned : AreTurned (after_input l.side i) last.ports
+  last_turned =
+      steps_turned (after_input l.side i) (node_input l.link i) first
+      (subst (IsTurnedWork (after_input l.side i))
+      (sym (came_is l.number l.link R t i (lone_comes c i comes) first (start_alone G t l some most n k.keep c i comes)))
+      (subst (AreTurned (after_input l.side i)) (sym (came_ports l.number l.link R t i (lone_comes c i comes) first a))
+      (record { waits = refl; asks = omega arith; few = omega arith }, tt)))
+
   talks_behind : last.cut ≡ false → LoneTalks (t ++ (last.entries ++ emits)) behind
   talks_behind still =
       let b : KnowsAll rest l.number l.link some most s t last = all_ended still in
       let alone : Alone l.number l.link R t last = b.known.keeps in
-      let talks : Talks l.number l.link s no_session_now t last = b.known.talks in
+      let talks : Talks l.number l.link s t last = b.known.talks in
       let ports : talks.port ≡ alone.port = same_port rest l.number l.link some most s t last b in
       let side : side_behind l last ≡ talks.port.side = side_is R t l last alone still ∙ ap (λ (p : Port). p.side) (sym ports) in
       let own : eqb talks.port.desk.host l.link ≡ true = ap (λ x. eqb x l.link) talks.host ∙ eqb_same l.link in
+      let its_turns : IsTurned (after_input l.side i) talks.port.side = (subst (AreTurned (after_input l.side i)) talks.ports_are last_turned).0 in
       let here : port_at last.ports l.link ≡ Some talks.port =
       ap (λ ps. port_at ps l.link) talks.ports_are ∙ ap (λ z. cond z (Some talks.port) None) own in
       subst (λ (x : LinkEnd). LoneTalks (t ++ (last.entries ++ emits)) (record behind { side = sent_all x })) (sym side)
       (record {
         talk =
-            ap (talk_all e l.number no_session_now) (sym (append_assoc t last.entries emits))
-            ∙ (talk-append e l.number no_session_now (t ++ last.entries) emits
-            ∙ (still_talk e l.number emits (emits_still e e l.number (frames_behind l last)) (talk_all e l.number no_session_now (t ++ last.entries))
-            ∙ (talks.talk ∙ (ap (λ z. talk_of_side talks.port.side z) talks.same ∙ sym (sent_same talks.port.side s)))));
+            subst (Reads e l.number s (t ++ (last.entries ++ emits))) (sym (sent_same talks.port.side s))
+            (subst (λ es. Reads e l.number s es (talk_of_side talks.port.side s)) (append_assoc t last.entries emits)
+            (reads_silent e l.number s (t ++ last.entries) emits (talk_of_side talks.port.side s) (emits_silent e (frames_behind l last)) talks.talk));
+        numbers =
+            subst (λ (x : LinkEnd). IsNumbered (sent_all talks.port.side) s (rsets_since i l.rsets + length (filter is_rset (frames_out x)))) (sym side)
+            (numbered_then l.side l.session l.rsets k.talks.numbers k.talks.sound i (lone_comes c i comes) talks.port.side its_turns);
         sound = sound_sent talks.port.side talks.sound;
         aside = talks.aside;
         role = talks.role;

@@ -1,5 +1,5 @@
 -- What is known of a node alone at each turn of a step: what it keeps, its session and its blocks are read.
-use Rattle.std.proofs.Common.{◌≡◌, ℕ, ◌≤◌, Bool, true, false, cond, eqb, List, [], ◌∷◌, ◌++◌, map, refl, sym, ap, subst, ◌∙◌, append_assoc}
+use Rattle.std.proofs.Common.{◌≡◌, ℕ, ◌<◌, ◌≤◌, Bool, true, false, cond, eqb, List, [], ◌∷◌, ◌++◌, map, refl, sym, ap, subst, ◌∙◌, append_assoc}
 use Rattle.std.specs.Prelude.{Some, None}
 use Rattle.std.specs.List.{AllByRecursion}
 use Rattle.std.specs.Option.{option_map_or}
@@ -7,7 +7,7 @@ use Rattle.trace_model.specs.declared.entry.Entry.{Entry}
 use Rattle.trace_model.specs.declared.entry.Entry.TheVariants as entry
 use Rattle.trace_model.specs.declared.line.End.{End}
 use Rattle.hcp_packet.specs.Packets.{AreSendable}
-use Rattle.link_laws.specs.machine.Machine.{Message, LinkEnd, LinkInput, after_input, report, whole_acked}
+use Rattle.link_laws.specs.machine.Machine.{Message, LinkEnd, LinkInput, after_input, began_by, report, whole_acked}
 use Rattle.link_laws.specs.machine.Machine.LinkInput.{Take, TakeUnknown, TakeBroken, Tick, Reset, Start, Stop, FromNode, Fetch}
 use Rattle.link_laws.specs.machine.Machine.Turn.{Hold, FetchMessage}
 use Rattle.link_laws.proofs.machine.Runs.{Sound, sound_input}
@@ -24,7 +24,6 @@ use Rattle.node_laws.specs.passes.Steps.{syncs_in}
 use Rattle.node_laws.proofs.passes.Passing.{comes_so}
 use Rattle.lone_laws.specs.alone.Lone.{Lone, LoneCause, end_of_node_alone, lone_end, lone_input, node_input, lone_arrival, lone_port, lone_work, rsets_since}
 use Rattle.lone_laws.specs.alone.Lone.{session_with, side_behind, emits_behind}
-use Rattle.lone_laws.specs.alone.Known.{LoneTalk, no_session_now}
 use Rattle.lone_laws.proofs.answered.Own.{IsOwnDeed}
 use Rattle.lone_laws.proofs.answered.Reading.{Read, Alone}
 use Rattle.lone_laws.proofs.answered.Turning.{IsHere, alone_here, own_deeds, alone_handled, alone_held, alone_lasts}
@@ -33,8 +32,10 @@ use Rattle.lone_laws.proofs.answered.Stepping.{lone_comes, syncs_own}
 use Rattle.lone_laws.proofs.answered.Lasting.{LoneKeeps, begins_alone, arrival_nothing}
 use Rattle.lone_laws.proofs.answered.Ordered.{begin_read, start, begun, start_alone, begun_alone}
 use Rattle.lone_laws.proofs.answered.Roles.{kind_of, input_kind}
-use Rattle.lone_laws.proofs.answered.Talking.{talk_all, talk-append, talk_of_side, told_talk, input_talk, input_aside}
-use Rattle.lone_laws.proofs.answered.Rooms.{AreStill, still_talk, Talks, talks_note, talks_desk, talks_turn, talks_does}
+use Rattle.lone_laws.proofs.answered.Sessions.{Talk, AreSilent, Reads, reads_silent}
+use Rattle.lone_laws.proofs.answered.Growing.{IsNumbered, began_more}
+use Rattle.lone_laws.proofs.answered.Talking.{talk_of_side, told_reads, input_talk, input_grows, input_aside}
+use Rattle.lone_laws.proofs.answered.Rooms.{Talks, talks_note, talks_desk, talks_turn, talks_does}
 
 -- ## Turns
 
@@ -45,7 +46,7 @@ both_hold P Q (x ∷ xs) a b = ((a.0, b.0), both_hold P Q xs a.1 b.1)
 -- What is known of a node alone in a step.
 pub record KnowsAlone (number h s : ℕ) (r : Read) (t : List Entry) (w : Work) : Type 0 where
   pub keeps : Alone number h r t w
-  pub talks : Talks number h s no_session_now t w
+  pub talks : Talks number h s t w
   pub fine : IsFineWork w
 
 module _ (number h : ℕ) (some : 1 ≤ h) (most : h ≤ 7) (s : ℕ) (r : Read) (t : List Entry) where
@@ -53,14 +54,14 @@ module _ (number h : ℕ) (some : 1 ≤ h) (most : h ≤ 7) (s : ℕ) (r : Read)
   Of w = KnowsAlone number h s r t w
 
   abbrev TalkOf : Work → Type 0
-  TalkOf w = Talks number h s no_session_now t w
+  TalkOf w = Talks number h s t w
 
   talks_takes : (k : ℕ) (m : Message) (w : Work) → TalkOf w → TalkOf (takes_up k m w)
   talks_takes k m w a =
       let told : Work = noting (entry.Turn (end_of_node w.core k) m.0 m.1 ∷ []) w in
-      talks_desk number h s no_session_now t k (λ d. record d { holds = false }) (turn_at k FetchMessage told) (λ d. refl)
-      (talks_turn number h s no_session_now t k FetchMessage told tt
-      (talks_note number h s no_session_now t (entry.Turn (end_of_node w.core k) m.0 m.1 ∷ []) w ((λ z. refl), tt) a))
+      talks_desk number h s t k (λ d. record d { holds = false }) (turn_at k FetchMessage told) (λ d. refl)
+      (talks_turn number h s t k FetchMessage told tt
+      (talks_note number h s t (entry.Turn (end_of_node w.core k) m.0 m.1 ∷ []) w (tt, tt) a))
 
   known_handled : (k : ℕ) (m : Message) (messages : List Message) (w : Work) → Of w → waiting_at w.ports k ≡ m ∷ messages
       → (handles k m (deeds_of w.core w.ports k m) w).cut ≡ false → Of (handles k m (deeds_of w.core w.ports k m) w)
@@ -71,7 +72,7 @@ module _ (number h : ℕ) (some : 1 ≤ h) (most : h ≤ 7) (s : ℕ) (r : Read)
       let fine : AreFine (deeds_of w.core w.ports k m) = deeds_fine w.core w.ports k m a.fine came.0 in
       record {
         keeps = alone_handled number h some most r t k m messages w a.keeps waits still;
-        talks = all_do (λ v. v.cut ≡ false → TalkOf v) (λ d. IsFine d × IsOwnDeed number d) (talks_does number h s no_session_now t) k
+        talks = all_do (λ v. v.cut ≡ false → TalkOf v) (λ d. IsFine d × IsOwnDeed number d) (talks_does number h s t) k
             (deeds_of w.core w.ports k m) (takes_up k m w)
             (both_hold IsFine (IsOwnDeed number) (deeds_of w.core w.ports k m) fine (own_deeds number h some most r t k m w a.keeps here.own))
             (λ _. talks_takes k m w a.talks) still;
@@ -88,11 +89,11 @@ module _ (number h : ℕ) (some : 1 ≤ h) (most : h ≤ 7) (s : ℕ) (r : Read)
     by false = turn_at k (Hold true) (with_desk k (λ d. record d { holds = true }) told)
 
     go : (b : Bool) → TalkOf (by b)
-    go true = talks_turn number h s no_session_now t k (Hold true) w tt a
+    go true = talks_turn number h s t k (Hold true) w tt a
     go false =
-        talks_turn number h s no_session_now t k (Hold true) (with_desk k (λ d. record d { holds = true }) told) tt
-        (talks_desk number h s no_session_now t k (λ d. record d { holds = true }) told (λ d. refl)
-        (talks_note number h s no_session_now t (entry.Held (end_of_node w.core k) short.0 short.1 ∷ []) w ((λ z. refl), tt) a))
+        talks_turn number h s t k (Hold true) (with_desk k (λ d. record d { holds = true }) told) tt
+        (talks_desk number h s t k (λ d. record d { holds = true }) told (λ d. refl)
+        (talks_note number h s t (entry.Held (end_of_node w.core k) short.0 short.1 ∷ []) w (tt, tt) a))
 
   pub knows_lasts : LastsOverTurns Of
   knows_lasts = record {
@@ -104,7 +105,7 @@ module _ (number h : ℕ) (some : 1 ≤ h) (most : h ≤ 7) (s : ℕ) (r : Read)
     };
     let_go = λ w k a on waits. record {
       keeps = (alone_lasts number h some most r t).let_go w k a.keeps on waits;
-      talks = lets TalkOf (λ j flag v b. talks_turn number h s no_session_now t j (Hold flag) v tt b) k w a.talks;
+      talks = lets TalkOf (λ j flag v b. talks_turn number h s t j (Hold flag) v tt b) k w a.talks;
       fine = lets_fine k w a.fine;
     };
   }
@@ -116,19 +117,20 @@ module _ (number h : ℕ) (some : 1 ≤ h) (most : h ≤ 7) (s : ℕ) (r : Read)
 
 -- what is known of the session of a node alone between events
 pub record LoneTalks (t : List Entry) (l : Lone) : Type 0 where
-  pub talk : talk_all (lone_end l) l.number no_session_now t ≡ talk_of_side l.side l.session
+  pub talk : Reads (lone_end l) l.number l.session t (talk_of_side l.side l.session)
+  pub numbers : IsNumbered l.side l.session l.rsets
   pub sound : Sound l.side
   pub aside : l.side.aside ≡ 0
   pub role : kind_of l.side.role ≡ Some (eqb l.number 0)
   pub clean : AreSendable l.side.got
 
-pub arrival_still : (l : Lone) (c : LoneCause) → AreStill (lone_end l) l.number (lone_arrival l c)
-arrival_still l (Rattle.lone_laws.specs.alone.Lone.LoneCause.FrameComes bytes) = ((λ z. refl), tt)
-arrival_still l (Rattle.lone_laws.specs.alone.Lone.LoneCause.FrameIsRefused fault) = tt
-arrival_still l Rattle.lone_laws.specs.alone.Lone.LoneCause.TickComes = tt
-arrival_still l (Rattle.lone_laws.specs.alone.Lone.LoneCause.ResetComes window) = tt
-arrival_still l (Rattle.lone_laws.specs.alone.Lone.LoneCause.StartComes value) = tt
-arrival_still l Rattle.lone_laws.specs.alone.Lone.LoneCause.StopComes = tt
+arrival_silent : (l : Lone) (c : LoneCause) → AreSilent (lone_arrival l c)
+arrival_silent l (Rattle.lone_laws.specs.alone.Lone.LoneCause.FrameComes bytes) = (tt, tt)
+arrival_silent l (Rattle.lone_laws.specs.alone.Lone.LoneCause.FrameIsRefused fault) = tt
+arrival_silent l Rattle.lone_laws.specs.alone.Lone.LoneCause.TickComes = tt
+arrival_silent l (Rattle.lone_laws.specs.alone.Lone.LoneCause.ResetComes window) = tt
+arrival_silent l (Rattle.lone_laws.specs.alone.Lone.LoneCause.StartComes value) = tt
+arrival_silent l Rattle.lone_laws.specs.alone.Lone.LoneCause.StopComes = tt
 
 lone_sound : (s : LinkEnd) (i : LinkInput) → IsLoneInput i → Sound s → Sound (after_input s i)
 lone_sound s (Take c) may a = sound_input s (Take c) tt a
@@ -171,7 +173,7 @@ module _ (found : Core) (t : List Entry) (l : Lone) (some : 1 ≤ l.link) (most 
   come_fine = subst IsFineWork (came_is l.number l.link (begin_read found) t i (lone_comes c i comes) begins start_is) (came_fine
       (node_input l.link i) begins start_fine)
 
-  come_talks : Talks l.number l.link (session_with l i) no_session_now t come
+  come_talks : Talks l.number l.link (session_with l i) t come
   come_talks =
       let may : IsLoneInput i = lone_comes c i comes in
       let R : Read = begin_read found in
@@ -179,8 +181,10 @@ module _ (found : Core) (t : List Entry) (l : Lone) (some : 1 ≤ l.link) (most 
       let a : Alone l.number l.link R t begins = begins_alone R t l n i (lone_arrival l c) (arrival_nothing l c) keeps in
       let first : List Entry = lone_arrival l c in
       let told_it : List Entry = told_at begins.core p (Some i) in
-      let X : LoneTalk = talk_of_side l.side l.session in
+      let X : Talk = talk_of_side l.side l.session in
       let e : End = lone_end l in
+      let k : ℕ = session_with l i in
+      let same : began_by l.side i ≡ false → k ≡ l.session = λ q. ap (λ b. cond b (rsets_since i l.rsets) l.session) q in
       record {
         port = came_port l.number l.link R t i may begins a;
         ports_are = came_ports l.number l.link R t i may begins a;
@@ -191,15 +195,16 @@ module _ (found : Core) (t : List Entry) (l : Lone) (some : 1 ≤ l.link) (most 
         role = input_kind l.side i may ∙ talk.role;
         sound = lone_sound l.side i may talk.sound;
         talk =
-            ap (λ es. talk_all e l.number no_session_now (t ++ es)) (came_entries l.number l.link R t i may begins a)
-            ∙ (ap (talk_all e l.number no_session_now) (sym (append_assoc t first told_it))
-            ∙ (talk-append e l.number no_session_now (t ++ first) told_it
-            ∙ (ap (λ z. talk_all e l.number z told_it)
-            (talk-append e l.number no_session_now t first ∙ (ap (λ z. talk_all e l.number z first) talk.talk
-            ∙ still_talk e l.number first (arrival_still l c) X))
-            ∙ (told_talk e l.number keeps.desk.host (own_side begins.core) (own_side_end l.number l.link R t i may begins a) (session_with l i)
-            (whole_acked (after_input l.side i)) (report l.side i) X
-            ∙ input_talk l.side i may talk.sound (session_with l i) l.session (λ q. ap (λ b. cond b (rsets_since i l.rsets) l.session) q)))));
+            subst (λ es. Reads e l.number k (t ++ es) (talk_of_side (after_input l.side i) k))
+            (sym (came_entries l.number l.link R t i may begins a))
+            (subst (λ es. Reads e l.number k es (talk_of_side (after_input l.side i) k)) (append_assoc t first told_it)
+            (subst (Reads e l.number k ((t ++ first) ++ told_it)) (input_talk l.side i may talk.sound k l.session same)
+            (told_reads e l.number keeps.desk.host (own_side begins.core) (own_side_end l.number l.link R t i may begins a) l.session k
+            (whole_acked (after_input l.side i)) (t ++ first) (report l.side i) X
+            (λ q. subst (λ j. l.session < j) (sym (ap (λ b. cond b (rsets_since i l.rsets) l.session) q))
+            (began_more l.side i l.rsets l.session talk.numbers.low talk.numbers.waits q))
+            (λ q. sym (same q)) (λ q. input_grows l.side i may talk.sound k l.session same q)
+            (reads_silent e l.number l.session t first X (arrival_silent l c) talk.talk))));
       }
 
   syncs_fine : AllByRecursion IsFine (syncs_in (node_input l.link i) begins)
@@ -213,9 +218,9 @@ module _ (found : Core) (t : List Entry) (l : Lone) (some : 1 ≤ l.link) (most 
       let is : passing ≡ all_done 0 syncs come = pass_is l.number l.link R t i may begins start_is in
       record {
         keeps = begun_alone found t l some most n keeps c i comes on;
-        talks = subst (Talks l.number l.link (session_with l i) no_session_now t) (sym is)
-            (all_do (λ v. v.cut ≡ false → Talks l.number l.link (session_with l i) no_session_now t v) (λ d. IsFine d × IsOwnDeed l.number d)
-            (talks_does l.number l.link (session_with l i) no_session_now t) 0 syncs come
+        talks = subst (Talks l.number l.link (session_with l i) t) (sym is)
+            (all_do (λ v. v.cut ≡ false → Talks l.number l.link (session_with l i) t v) (λ d. IsFine d × IsOwnDeed l.number d)
+            (talks_does l.number l.link (session_with l i) t) 0 syncs come
             (both_hold IsFine (IsOwnDeed l.number) syncs syncs_fine (syncs_own l.number l.link some most R t i begins start_is)) (λ _. come_talks)
             (subst (λ v. v.cut ≡ false) is on));
         fine = subst IsFineWork (sym is) (all_done_fine 0 syncs come syncs_fine come_fine);

@@ -18,6 +18,8 @@ use Rattle.node_machine.specs.Parts.{Core, Port, Work, Deed}
 use Rattle.node_machine.specs.Parts.Deed.{Sends}
 use Rattle.node_machine.specs.Carrying.{end_of_node, end_view, port_at, changed_if, with_port, after_turn, all_done, needs, first_lack, lack}
 use Rattle.node_machine.specs.Turns.{deeds_for, deeds_of, handles}
+use Rattle.node_machine.specs.world.NodeFilters.{session_now}
+use Rattle.node_laws.specs.answers.Moments.{is_up_read}
 use Rattle.node_laws.specs.passes.Passing.{waiting_at, lacking, takes_up}
 use Rattle.node_laws.specs.passes.Noting.{noted_by_deeds}
 use Rattle.node_laws.proofs.passes.Notes.{deeds_note}
@@ -25,7 +27,7 @@ use Rattle.node_laws.proofs.passes.Passing.{takes_entries}
 use Rattle.node_laws.proofs.passes.Counts.{taken_at_once}
 use Rattle.node_laws.proofs.views.Setting.{IsUpAt}
 use Rattle.lone_laws.specs.alone.Lone.{end_of_node_alone}
-use Rattle.lone_laws.specs.alone.Known.{LoneTalk, no_session_now, errors_found, errors_since, spare_in_talk, talk_since, core_since}
+use Rattle.lone_laws.specs.alone.Known.{errors_found, errors_since, core_since}
 use Rattle.lone_laws.specs.alone.Known.{end_since, spare_since, spare_with_link, view_with_link, reply_since}
 use Rattle.node_laws.specs.views.Errors.{ErrorCount, errors_after, errors_set_by, leads_to_link_gate}
 use Rattle.node_laws.proofs.reply_passes.Sides.{IsNoBoot, AreNoBoots}
@@ -34,11 +36,10 @@ use Rattle.lone_laws.proofs.answered.Reading.{eqb_same, Read, core_is, Alone}
 use Rattle.lone_laws.proofs.answered.Linked.{one_deeds, one_lack}
 use Rattle.lone_laws.proofs.answered.Turning.{same_self, own_end, IsHere, alone_here, link_is}
 use Rattle.lone_laws.proofs.answered.Ordered.{begin_read}
-use Rattle.lone_laws.proofs.answered.Talking.{talk_of_side}
 use Rattle.lone_laws.proofs.answered.Rooms.{Talks, spare_is}
 use Rattle.lone_laws.proofs.answered.Knowing.{KnowsAlone}
 use Rattle.lone_laws.proofs.answered.Shapes.{IsLoneReply, controller_reply, host_reply}
-use Rattle.lone_laws.proofs.answered.Told.{entries_of_deeds, link_of_end}
+use Rattle.lone_laws.proofs.answered.Told.{entries_of_deeds, link_of_end, same_number}
 use Rattle.lone_laws.proofs.answered.Replying.{session_of_end, TakesIt, IsNotedSo, reply_noted, deeds_answer, answers_unbooted}
 use Rattle.lone_laws.proofs.answered.Errors.{errs_all, errs-append, ErrorsAre, gate_read, desk_errors}
 use Rattle.lone_laws.proofs.answered.Errors.{FitsErrors, sets_there, controller_fits, host_fits, deeds_errs}
@@ -74,7 +75,7 @@ module _ (rest : Core) (number h : ℕ) (some : 1 ≤ h) (most : h ≤ 7) (s : �
     abbrev pub alone : Alone number h (begin_read found) t w
     alone = a.known.keeps
 
-    abbrev talks : Talks number h s no_session_now t w
+    abbrev talks : Talks number h s t w
     talks = a.known.talks
 
     abbrev pub its_port : Port
@@ -89,14 +90,13 @@ module _ (rest : Core) (number h : ℕ) (some : 1 ≤ h) (most : h ≤ 7) (s : �
     pub core_read : core_since found all ≡ w.core
     core_read = sym (core_is e all (begin_read found)) ∙ ap (λ (z : Read). z.core) alone.read
 
-    pub talk_read : talk_since e number all ≡ talk_of_side its_port.side its_port.session
-    talk_read = talks.talk ∙ ap (λ (p : Port). talk_of_side p.side p.session) same_port
+    pub session_read : session_now all e number ≡ session_of_end its_port
+    session_read =
+        talks.talk.session
+        ∙ (ap (λ j. cond (is_up talks.port.side.shdlc.phase) (Some j) None) (sym talks.same) ∙ ap session_of_end same_port)
 
-    pub session_read : (talk_since e number all).session ≡ session_of_end its_port
-    session_read = ap (λ (x : LoneTalk). x.session) talk_read
-
-    up_is : is_some (talk_since e number all).session ≡ is_up its_port.side.shdlc.phase
-    up_is = ap is_some session_read ∙ by (is_up its_port.side.shdlc.phase) where
+    pub up_is : is_up_read all number h ≡ is_up its_port.side.shdlc.phase
+    up_is = ap (λ f. is_some (session_now all f number)) (same_number number h) ∙ (ap is_some session_read ∙ by (is_up its_port.side.shdlc.phase)) where
       by : (b : Bool) → is_some (cond b (Some its_port.session) None) ≡ b
       by true = refl
       by false = refl
@@ -107,23 +107,24 @@ module _ (rest : Core) (number h : ℕ) (some : 1 ≤ h) (most : h ≤ 7) (s : �
     end_is : end_since found h all ≡ end_view its_port
     end_is = λ i. record { up = up_is i; errors = errors_is i }
 
-    spare_at_it : spare_since found h all ≡ spare its_port.side
-    spare_at_it =
-        ap spare_in_talk talk_read ∙ spare_is its_port.side its_port.session (ap (λ (p : Port). p.side.aside) (sym same_port) ∙ talks.aside)
+    module _ (its : eqb number 0 ≡ false → number ≡ h) where
+      spare_at_it : spare_since found h all ≡ spare its_port.side
+      spare_at_it =
+          spare_is number h s all talks.port.side its talks.sound talks.aside talks.talk ∙ ap (λ (p : Port). spare p.side) same_port
 
-    pub deeds_read : (k : ℕ) (m : Message) → k ≡ h → reply_since found h all m ≡ deeds_of w.core w.ports k m
-    deeds_read k m same =
-        ap (λ c. deeds_for (view_with_link c h (end_since found h all) (spare_since found h all)) h m) core_read
-        ∙ (ap₂ (λ x n. deeds_for (view_with_link w.core h x n) h m) end_is spare_at_it
-        ∙ (sym (one_deeds w.core its_port h alone.host alone.none m)
-        ∙ (ap (λ n. deeds_of w.core (its_port ∷ []) n m) (sym same) ∙ ap (λ ps. deeds_of w.core ps k m) (sym alone.ports_are))))
+      pub deeds_read : (k : ℕ) (m : Message) → k ≡ h → reply_since found h all m ≡ deeds_of w.core w.ports k m
+      deeds_read k m same =
+          ap (λ c. deeds_for (view_with_link c h (end_since found h all) (spare_since found h all)) h m) core_read
+          ∙ (ap₂ (λ x n. deeds_for (view_with_link w.core h x n) h m) end_is spare_at_it
+          ∙ (sym (one_deeds w.core its_port h alone.host alone.none m)
+          ∙ (ap (λ n. deeds_of w.core (its_port ∷ []) n m) (sym same) ∙ ap (λ ps. deeds_of w.core ps k m) (sym alone.ports_are))))
 
-    pub lack_read : (k : ℕ) (m : Message) → k ≡ h → lack_since found h all m ≡ lacking w k m
-    lack_read k m same =
-        ap₂ (λ n d. first_lack (spare_with_link h n) (needs h d)) spare_at_it (deeds_read k m same)
-        ∙ (sym (one_lack w.core its_port h alone.host (needs h (deeds_of w.core w.ports k m)))
-        ∙ (ap (λ n. lack (its_port ∷ []) (needs n (deeds_of w.core w.ports k m))) (sym same)
-        ∙ ap (λ ps. lack ps (needs k (deeds_of w.core w.ports k m))) (sym alone.ports_are)))
+      pub lack_read : (k : ℕ) (m : Message) → k ≡ h → lack_since found h all m ≡ lacking w k m
+      lack_read k m same =
+          ap₂ (λ n d. first_lack (spare_with_link h n) (needs h d)) spare_at_it (deeds_read k m same)
+          ∙ (sym (one_lack w.core its_port h alone.host (needs h (deeds_of w.core w.ports k m)))
+          ∙ (ap (λ n. lack (its_port ∷ []) (needs n (deeds_of w.core w.ports k m))) (sym same)
+          ∙ ap (λ ps. lack ps (needs k (deeds_of w.core w.ports k m))) (sym alone.ports_are)))
 
   -- ## A message that has its turn
 

@@ -42,9 +42,10 @@ use Rattle.link_laws.specs.machine.Machine.Turn.{FetchMessage, Hold}
 use Rattle.node_machine.proofs.Walks.{anyone}
 use Rattle.node_laws.proofs.steps.StepWalks.{Lasts, rest_lasts}
 use Rattle.node_laws.proofs.passes.Notes.{deed_notes}
+use Rattle.node_machine.specs.world.NodeFilters.{session_now}
+use Rattle.node_laws.specs.answers.Moments.{is_up_read}
 use Rattle.lone_laws.specs.alone.Lone.{Lone, LoneCause, lone_end, lone_input, node_input, lone_arrival, emits_behind, frames_behind, session_with}
 use Rattle.lone_laws.specs.alone.Lone.LoneCause.{FrameComes, FrameIsRefused, TickComes, ResetComes, StartComes, StopComes}
-use Rattle.lone_laws.specs.alone.Known.{LoneTalk, talk_since}
 use Rattle.lone_laws.specs.alone.Answers.{is_asked_down, is_reset_alone, IsResetAlone}
 use Rattle.swp_act.specs.declared.ActEvent.TheVariants.{Tick as ActTick}
 use Rattle.link_laws.specs.machine.Machine.{ended_by_act, act_answer, is_faulty}
@@ -57,6 +58,7 @@ use Rattle.lone_laws.proofs.answered.Coming.{came_entries, came_is}
 use Rattle.lone_laws.proofs.answered.Stepping.{lone_comes}
 use Rattle.lone_laws.proofs.answered.Lasting.{begins_alone, arrival_nothing}
 use Rattle.lone_laws.proofs.answered.Ordered.{begin_read, start, ended}
+use Rattle.lone_laws.proofs.answered.Told.{same_number}
 use Rattle.lone_laws.proofs.answered.Keeping.{core_of, KeepsAll}
 use Rattle.node_laws.proofs.worlds.Causes.{act_asked, asked, frame_asked, tick_asked, up_asked}
 
@@ -307,11 +309,13 @@ module _ (rest : Core) (t : List Entry) (l : Lone) (some : 1 ≤ l.link) (most :
   pub reset_in_step : IsResetAlone G l.link t (record { cause = c; entries = last.entries ++ emits_behind l last })
   reset_in_step =
       any_quiet last.entries (emits_behind l last) (emits_quiet (lone_end l) (frames_behind l last)) ∙ (last_tells ∙ by c) where
-        up : is_up l.side.shdlc.phase ≡ is_some (talk_since (lone_end l) l.number t).session
-        up = sym (ap (λ (x : LoneTalk). is_some x.session) k.talks.talk ∙ go (is_up l.side.shdlc.phase)) where
-          go : (b : Bool) → is_some (cond b (Some l.session) None) ≡ b
-          go true = refl
-          go false = refl
+        up : is_up l.side.shdlc.phase ≡ is_up_read t l.number l.link
+        up =
+            sym (ap (λ f. is_some (session_now t f l.number)) (same_number l.number l.link)
+            ∙ (ap is_some k.talks.talk.session ∙ go (is_up l.side.shdlc.phase))) where
+              go : (b : Bool) → is_some (cond b (Some l.session) None) ≡ b
+              go true = refl
+              go false = refl
 
         by : (c : LoneCause) → resets c (is_up l.side.shdlc.phase) ≡ is_reset_alone G l.link t c
         by (ResetComes window) = up

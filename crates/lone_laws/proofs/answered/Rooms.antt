@@ -1,13 +1,14 @@
 -- The session of the end of a node alone, and the blocks that it has to spare, are what is read at each turn of a step.
-use Rattle.std.proofs.Common.{◌≡◌, ℕ, zero, suc, ◌<◌, ◌+◌, ◌-◌, Bool, true, false, cond, eqb, not, List, [], ◌∷◌, ◌++◌, length, refl, sym, ap, ◌∙◌}
-use Rattle.std.proofs.Common.{append_assoc, arith}
+use Rattle.std.proofs.Common.{◌≡◌, ℕ, zero, suc, ◌<◌, ◌+◌, ◌-◌, Bool, true, false, cond, eqb, not, List, [], ◌∷◌, ◌++◌, length, refl, sym, ap, subst}
+use Rattle.std.proofs.Common.{◌∙◌, append_assoc, append-nil, arith}
 use Rattle.std.specs.Prelude.{Option, Some, None}
-use Rattle.std.specs.List.{AllByRecursion}
 use Rattle.std.specs.Option.{option_map_or}
-use Rattle.std.proofs.lemmas.Bool.{true≢false}
+use Rattle.std.proofs.lemmas.Bool.{true≢false, eqb-true}
 use Rattle.trace_model.specs.declared.entry.Entry.{Entry}
 use Rattle.trace_model.specs.declared.entry.Entry.TheVariants as entry
 use Rattle.trace_model.specs.declared.line.End.{End}
+use Rattle.shdlc_core.specs.declared.answers.LinkState.{LinkState}
+use Rattle.shdlc_core.specs.declared.answers.LinkState.TheVariants.{Down as IsDown, Waiting as IsWaitingNow, Up as IsUpNow}
 use Rattle.shdlc_core.specs.Machine.{EndState, most_frames, after_frames, fetched}
 use Rattle.link_laws.specs.sessions.Sessions.{is_up}
 use Rattle.hcp_packet.specs.Packets.{IsSendable, packet_count, fragments_of}
@@ -17,6 +18,7 @@ use Rattle.hci_tables.specs.Bodies.{body_of}
 use Rattle.hci_store.specs.Committing.{commit_writes}
 use Rattle.link_laws.specs.machine.Machine.{Message, Refused, LinkEnd, Turn, turn, given, give_refusal, unless, sent_all, whole_among, whole_acked, in_use}
 use Rattle.link_laws.specs.machine.Machine.{spare}
+use Rattle.link_laws.specs.machine.Machine.Refused.{NotUp}
 use Rattle.link_laws.specs.machine.Machine.Turn.{Give, Hold, FetchMessage, SetAside, Release}
 use Rattle.link_laws.proofs.machine.Sound.{whole_given}
 use Rattle.link_laws.proofs.machine.Runs.{Sound, sound_turn}
@@ -30,25 +32,14 @@ use Rattle.node_machine.specs.Parts.{Desk, Port, Work, Deed}
 use Rattle.node_machine.specs.Parts.Deed.{Commits, Sends, SaysOk, Asks, Releases, Tells, IsAnswered, Drops, SetsErrors, Orders, Hears, GoesOn, Ends}
 use Rattle.node_machine.specs.Carrying.{own_side, end_of_node, noting, port_at, changed_if, with_port, with_desk, after_turn, noted_of, turn_at, loses_power}
 use Rattle.node_machine.specs.Carrying.{keeps, commit, done}
+use Rattle.node_machine.specs.world.NodeFilters.{spare_at}
 use Rattle.node_laws.proofs.links.Deeds.{IsFine}
 use Rattle.lone_laws.specs.alone.Lone.{end_of_node_alone}
-use Rattle.lone_laws.specs.alone.Known.{LoneTalk, talk_noted, spare_in_talk}
 use Rattle.lone_laws.proofs.answered.Own.{IsOwnDeed}
 use Rattle.lone_laws.proofs.answered.Roles.{kind_of}
 use Rattle.lone_laws.proofs.answered.Turning.{same_self, own_end}
-use Rattle.lone_laws.proofs.answered.Talking.{talk_all, talk-append, talk_of_side}
-
--- ## Entries that say nothing of it
-
-abbrev pub IsStill : End → ℕ → Entry → Type 0
-IsStill e n x = (z : LoneTalk) → talk_noted e n z x ≡ z
-
-abbrev pub AreStill : End → ℕ → List Entry → Type 0
-AreStill e n es = AllByRecursion (IsStill e n) es
-
-pub still_talk : (e : End) (n : ℕ) (es : List Entry) → AreStill e n es → (z : LoneTalk) → talk_all e n z es ≡ z
-still_talk e n [] a z = refl
-still_talk e n (x ∷ es) a z = ap (λ y. talk_all e n y es) (a.0 z) ∙ still_talk e n es a.1 z
+use Rattle.lone_laws.proofs.answered.Sessions.{AreSilent, Reads, reads_silent, reads_sent, spare_in}
+use Rattle.lone_laws.proofs.answered.Talking.{talk_of_side}
 
 -- ## A turn of its node
 
@@ -95,27 +86,41 @@ given_talk s m k may sound =
     ap (λ c. record (talk_of_side s k) { sent = s.sent ++ m ∷ []; acked = c })
     (whole_given s.sent m s.shdlc.session.acked count (omega (arith, len, sound.is.acked, sound.is.reached)))
 
-module _ (e : End) (n : ℕ) (who : Side) (h : ℕ) (own : same_end (end_of h who) e ≡ true) where
-  sent_talk : (s : LinkEnd) (k : ℕ) (m : Message) → IsSendable m → Sound s
-      → talk_all e n (talk_of_side s k) (entries_for h (turn_entry who k s (Give m))) ≡ talk_of_side (turn s (Give m)) k
-  sent_talk s k m may sound = by (give_refusal s m) where
-    by : (o : Option Refused) → talk_all e n (talk_of_side s k) (entries_for h (sent_unless o who k m)) ≡ talk_of_side (unless o s (given s m)) k
-    by None = ap (λ b. cond b (record (talk_of_side s k) { sent = s.sent ++ m ∷ [] }) (talk_of_side s k)) own ∙ sym (given_talk s m k may sound)
-    by (Some why) = refl
+-- where a message isn't refused the end is up
+given_up : (s : LinkEnd) (m : Message) (k : ℕ) → give_refusal s m ≡ None → (talk_of_side s k).session ≡ Some k
+given_up s m k taken = go s.shdlc.phase refl where
+  go : (p : LinkState) → s.shdlc.phase ≡ p → (talk_of_side s k).session ≡ Some k
+  go IsUpNow q = rw q refl
+  go IsWaitingNow q = absurd (let refused : Some NotUp ≡ None = sym (rw q refl) ∙ taken in cc refused)
+  go IsDown q = absurd (let refused : Some NotUp ≡ None = sym (rw q refl) ∙ taken in cc refused)
 
-  pub turn_talk : (s : LinkEnd) (k : ℕ) (x : Turn) → IsLoneTurn x → Sound s
-      → talk_all e n (talk_of_side s k) (entries_for h (turn_entry who k s x)) ≡ talk_of_side (turn s x) k
-  turn_talk s k (Give m) may sound = sent_talk s k m may sound
-  turn_talk s k (Hold held) may sound =
-      ready_cases (λ f. talk_of_side s k ≡ talk_of_side (record s { shdlc = f }) k) s.shdlc (not held) refl refl refl
-  turn_talk s k FetchMessage may sound = refl
-  turn_talk s k SetAside may sound = absurd may
-  turn_talk s k Release may sound = refl
+module _ (e : End) (n : ℕ) (who : Side) (h : ℕ) (own : same_end (end_of h who) e ≡ true) (t : List Entry) where
+  none_more : (k : ℕ) (s : LinkEnd) → Reads e n k t (talk_of_side s k) → Reads e n k (t ++ []) (talk_of_side s k)
+  none_more k s r = subst (λ l. Reads e n k l (talk_of_side s k)) (sym (append-nil t)) r
+
+  sent_reads : (s : LinkEnd) (k : ℕ) (m : Message) → IsSendable m → Sound s → Reads e n k t (talk_of_side s k)
+      → Reads e n k (t ++ entries_for h (turn_entry who k s (Give m))) (talk_of_side (turn s (Give m)) k)
+  sent_reads s k m may sound r = by (give_refusal s m) refl where
+    by : (o : Option Refused) → give_refusal s m ≡ o → Reads e n k (t ++ entries_for h (sent_unless o who k m)) (talk_of_side (unless o s (given s m)) k)
+    by None q =
+        subst (Reads e n k (t ++ entry.Sent (end_of h who) k m.0 m.1 ∷ [])) (sym (given_talk s m k may sound))
+        (reads_sent e n t (end_of h who) own k (talk_of_side s k) k m.0 m.1 (given_up s m k q) r)
+    by (Some why) q = none_more k s r
+
+  pub turn_reads : (s : LinkEnd) (k : ℕ) (x : Turn) → IsLoneTurn x → Sound s → Reads e n k t (talk_of_side s k)
+      → Reads e n k (t ++ entries_for h (turn_entry who k s x)) (talk_of_side (turn s x) k)
+  turn_reads s k (Give m) may sound r = sent_reads s k m may sound r
+  turn_reads s k (Hold held) may sound r =
+      subst (Reads e n k (t ++ []))
+      (ready_cases (λ f. talk_of_side s k ≡ talk_of_side (record s { shdlc = f }) k) s.shdlc (not held) refl refl refl) (none_more k s r)
+  turn_reads s k FetchMessage may sound r = none_more k s r
+  turn_reads s k SetAside may sound r = absurd may
+  turn_reads s k Release may sound r = none_more k s r
 
 -- ## A node alone in a step
 
 -- What is read of the session of its one end, which has this number, is what the end has.
-pub record Talks (number h s : ℕ) (x : LoneTalk) (t : List Entry) (w : Work) : Type 0 where
+pub record Talks (number h s : ℕ) (t : List Entry) (w : Work) : Type 0 where
   pub port : Port
   pub ports_are : w.ports ≡ port ∷ []
   pub host : port.desk.host ≡ h
@@ -124,24 +129,22 @@ pub record Talks (number h s : ℕ) (x : LoneTalk) (t : List Entry) (w : Work) :
   pub aside : port.side.aside ≡ 0
   pub role : kind_of port.side.role ≡ Some (eqb number 0)
   pub sound : Sound port.side
-  pub talk : talk_all (end_of_node_alone number h) number x (t ++ w.entries) ≡ talk_of_side port.side port.session
+  pub talk : Reads (end_of_node_alone number h) number s (t ++ w.entries) (talk_of_side port.side s)
 
-module _ (number h s : ℕ) (x : LoneTalk) (t : List Entry) where
+module _ (number h s : ℕ) (t : List Entry) where
   abbrev e : End
   e = end_of_node_alone number h
 
   abbrev Of : Work → Type 0
-  Of w = Talks number h s x t w
+  Of w = Talks number h s t w
 
   -- more is noted
-  pub talk_more : (w : Work) (es : List Entry) (y z : LoneTalk) → talk_all e number x (t ++ w.entries) ≡ y → talk_all e number y es ≡ z
-      → talk_all e number x (t ++ (w.entries ++ es)) ≡ z
-  talk_more w es y z a b =
-      ap (talk_all e number x) (sym (append_assoc t w.entries es))
-      ∙ (talk-append e number x (t ++ w.entries) es ∙ (ap (λ v. talk_all e number v es) a ∙ b))
+  then_noted : (w : Work) (es : List Entry) (side : LinkEnd) → Reads e number s ((t ++ w.entries) ++ es) (talk_of_side side s)
+      → Reads e number s (t ++ (w.entries ++ es)) (talk_of_side side s)
+  then_noted w es side r = subst (λ l. Reads e number s l (talk_of_side side s)) (append_assoc t w.entries es) r
 
-  pub talks_note : (es : List Entry) (w : Work) → AreStill e number es → Of w → Of (noting es w)
-  talks_note es w still a =
+  pub talks_note : (es : List Entry) (w : Work) → AreSilent es → Of w → Of (noting es w)
+  talks_note es w silent a =
       record {
         port = a.port;
         ports_are = a.ports_are;
@@ -151,8 +154,7 @@ module _ (number h s : ℕ) (x : LoneTalk) (t : List Entry) where
         aside = a.aside;
         role = a.role;
         sound = a.sound;
-        talk = talk_more w es (talk_of_side a.port.side a.port.session) (talk_of_side a.port.side a.port.session) a.talk
-            (still_talk e number es still (talk_of_side a.port.side a.port.session));
+        talk = then_noted w es a.port.side (reads_silent e number s (t ++ w.entries) es (talk_of_side a.port.side s) silent a.talk);
       }
 
   -- what is kept of the end changes
@@ -195,9 +197,6 @@ module _ (number h s : ℕ) (x : LoneTalk) (t : List Entry) where
     own : same_end (end_of a.port.desk.host (own_side w.core)) e ≡ true
     own = ap (λ z. same_end z e) (own_end w.core number h a.port.desk.host a.node a.host) ∙ same_self e
 
-    Y : LoneTalk
-    Y = talk_of_side a.port.side a.port.session
-
     es : List Entry
     es = option_map_or (noted_of w.core y) (port_at w.ports k) []
 
@@ -215,8 +214,10 @@ module _ (number h s : ℕ) (x : LoneTalk) (t : List Entry) where
           aside = lone_turn_aside a.port.side y may a.aside;
           role = lone_turn_kind a.port.side y may ∙ a.role;
           sound = lone_turn_sound a.port.side y may a.sound;
-          talk = talk_more w es Y (talk_of_side (turn a.port.side y) a.port.session) a.talk
-              (ap (talk_all e number Y) noted ∙ turn_talk e number (own_side w.core) a.port.desk.host own a.port.side a.port.session y may a.sound);
+          talk = then_noted w es (turn a.port.side y)
+              (subst (λ l. Reads e number s ((t ++ w.entries) ++ l) (talk_of_side (turn a.port.side y) s))
+              (sym (noted ∙ ap (λ k. entries_for a.port.desk.host (turn_entry (own_side w.core) k a.port.side y)) a.same))
+              (turn_reads e number (own_side w.core) a.port.desk.host own (t ++ w.entries) a.port.side s y may a.sound a.talk));
         }
     go false q =
         let noted : es ≡ [] =
@@ -231,7 +232,9 @@ module _ (number h s : ℕ) (x : LoneTalk) (t : List Entry) where
           aside = a.aside;
           role = a.role;
           sound = a.sound;
-          talk = talk_more w es Y Y a.talk (ap (talk_all e number Y) noted);
+          talk = then_noted w es a.port.side
+              (subst (λ l. Reads e number s ((t ++ w.entries) ++ l) (talk_of_side a.port.side s)) (sym noted)
+              (none_more e number (own_side w.core) a.port.desk.host own (t ++ w.entries) s a.port.side a.talk));
         }
 
   -- ## Deeds
@@ -251,7 +254,7 @@ module _ (number h s : ℕ) (x : LoneTalk) (t : List Entry) where
     go : (b : Bool) → While (by b)
     go true = λ q. absurd (true≢false q)
     go false = λ q.
-        let b : Of begun = talks_note (entry.Command w.core.node c ∷ []) w ((λ z. refl), tt) (a q) in
+        let b : Of begun = talks_note (entry.Command w.core.node c ∷ []) w (tt, tt) (a q) in
         record {
           port = b.port;
           ports_are = b.ports_are;
@@ -267,12 +270,12 @@ module _ (number h s : ℕ) (x : LoneTalk) (t : List Entry) where
   pub talks_does : (k : ℕ) (d : Deed) (w : Work) → IsFine d × IsOwnDeed number d → While w → While (done k d w)
   talks_does k (Commits c) w may a = talks_commit c w a
   talks_does k (Sends to m) w may a = λ q. talks_turn to (Give m) w may.0 (a q)
-  talks_does k SaysOk w may a = λ q. talks_note (entry.AnyOk w.core.node _ ∷ []) w ((λ z. refl), tt) (a q)
+  talks_does k SaysOk w may a = λ q. talks_note (entry.AnyOk w.core.node _ ∷ []) w (tt, tt) (a q)
   talks_does k (Asks to message c) w may a = absurd may.1
   talks_does k (Releases asker) w may a = λ q. talks_turn asker Release w tt (a q)
   talks_does k (Tells to message) w may a = absurd may.1
   talks_does k IsAnswered w may a = λ q. talks_desk k (λ d. record d { notice = None }) w (λ d. refl) (a q)
-  talks_does k (Drops pid) w may a = λ q. talks_note (entry.Dropped (end_of_node w.core k) pid ∷ []) w ((λ z. refl), tt) (a q)
+  talks_does k (Drops pid) w may a = λ q. talks_note (entry.Dropped (end_of_node w.core k) pid ∷ []) w (tt, tt) (a q)
   talks_does k (SetsErrors errors) w may a = λ q. talks_desk k (λ d. record d { errors = errors }) w (λ d. refl) (a q)
   talks_does k (Orders message) w may a = absurd may.1
   talks_does k Hears w may a = absurd may.1
@@ -281,8 +284,22 @@ module _ (number h s : ℕ) (x : LoneTalk) (t : List Entry) where
 
 -- ## Spare blocks
 
-pub spare_is : (s : LinkEnd) (k : ℕ) → s.aside ≡ 0 → spare_in_talk (talk_of_side s k) ≡ spare s
-spare_is s k none = ap (λ n. 128 - n) (sym (ap (λ a. in_use s + a) none ∙ omega arith))
+-- the node of the end
+node_is : (number h : ℕ) → (eqb number 0 ≡ false → number ≡ h)
+    → cond (end_of_node_alone number h).at_host (end_of_node_alone number h).link 0 ≡ number
+node_is number h its = go (eqb number 0) refl where
+  go : (b : Bool) → eqb number 0 ≡ b → cond (end_of_node_alone number h).at_host (end_of_node_alone number h).link 0 ≡ number
+  go true q = rw q (sym (eqb-true number 0 q))
+  go false q = rw q (sym (its q))
+
+-- The blocks that the end has to spare are read.
+pub spare_is : (number h s : ℕ) (t : List Entry) (side : LinkEnd) → (eqb number 0 ≡ false → number ≡ h) → Sound side → side.aside ≡ 0
+    → Reads (end_of_node_alone number h) number s t (talk_of_side side s) → spare_at t (end_of_node_alone number h) ≡ spare side
+spare_is number h s t side its sound none r =
+    spare_in (end_of_node_alone number h) number s t (talk_of_side side s) (node_is number h its) (λ q. sound.is.forgot (off side.shdlc.phase refl q)) r
+    ∙ ap (λ n. 128 - n) (sym (ap (λ a. in_use side + a) none ∙ omega arith)) where
+      off : (p : LinkState) → side.shdlc.phase ≡ p → (talk_of_side side s).session ≡ None → side.shdlc.phase ≡ IsUpNow → ⊥
+      off p is q up = let some : Some s ≡ None = sym (ap (λ x. cond (is_up x) (Some s) None) up) ∙ q in cc some
 
 -- ## Frames go out
 

@@ -13,17 +13,19 @@ use Rattle.trace_model.specs.declared.entry.Entry.TheVariants as entry
 use Rattle.trace_model.specs.declared.line.End.{End}
 use Rattle.link_laws.specs.machine.Machine.{Message, LinkInput, oldest}
 use Rattle.node_machine.specs.Parts.{Core, Running, Port, Work}
-use Rattle.node_machine.specs.Carrying.{end_of_node, needs, first_lack}
+use Rattle.node_machine.specs.Carrying.{end_of_node, end_of_number, needs, first_lack}
 use Rattle.node_machine.specs.Turns.{deeds_for}
-use Rattle.node_laws.specs.answers.Moments.{unhandled_after, unhandled_in}
+use Rattle.node_machine.specs.world.NodeFilters.{spare_at}
+use Rattle.node_laws.specs.answers.Moments.{is_up_read, unhandled_after, unhandled_in}
 use Rattle.node_laws.specs.passes.Passing.{BeginWithTurn, AreAlong, links_of_turns, ComesTo, IsBehind, Stays, waiting_at, is_held_at}
 use Rattle.lone_laws.specs.alone.Lone.{Lone, LoneCause, end_of_node_alone, lone_input, emits_behind, frames_behind, session_with}
 use Rattle.node_laws.specs.views.Errors.{ErrorCount}
-use Rattle.lone_laws.specs.alone.Known.{errors_found, LoneTalk, core_noted, talk_noted, no_session_now, spare_in_talk, core_since}
+use Rattle.lone_laws.specs.alone.Known.{errors_found, core_noted, core_since}
 use Rattle.lone_laws.specs.alone.Known.{spare_with_link, view_with_link}
-use Rattle.lone_laws.specs.alone.Known.{talk_since, errors_since, lack_since}
+use Rattle.lone_laws.specs.alone.Known.{errors_since, lack_since}
 use Rattle.lone_laws.specs.alone.Answers.{is_left_lacking}
 use Rattle.lone_laws.proofs.answered.Reading.{eqb_same, Read, Alone, left_is}
+use Rattle.lone_laws.proofs.answered.Sessions.{IsSilent, AreSilent, sessions_same, spares_same}
 use Rattle.lone_laws.proofs.answered.Ordered.{begin_read, begun, ended, was_on, left_so}
 use Rattle.lone_laws.proofs.answered.Errors.{errs_all, errs-append, IsSettled, settled_errs}
 use Rattle.lone_laws.proofs.answered.Replied.{KnowsAll}
@@ -33,15 +35,15 @@ use Rattle.lone_laws.proofs.answered.Keeping.{core_of, KeepsAll, all_passing}
 -- an entry that changes nothing of what is read of a reply
 abbrev pub IsIdle : End → ℕ → Entry → Type 0
 IsIdle e n x =
-    ((c : Core) → core_noted c x ≡ c) × ((z : LoneTalk) → talk_noted e n z x ≡ z) × IsSettled e x × ((ms : List Message) → unhandled_after e ms x ≡ ms)
+    ((c : Core) → core_noted c x ≡ c) × IsSilent x × IsSettled e x × ((ms : List Message) → unhandled_after e ms x ≡ ms)
 
 idle_core : (e : End) (n : ℕ) (es : List Entry) → AllByRecursion (IsIdle e n) es → (c : Core) → fold core_noted c es ≡ c
 idle_core e n [] a c = refl
 idle_core e n (x ∷ es) a c = ap (λ d. fold core_noted d es) (a.0.0 c) ∙ idle_core e n es a.1 c
 
-idle_talk : (e : End) (n : ℕ) (es : List Entry) → AllByRecursion (IsIdle e n) es → (z : LoneTalk) → fold (talk_noted e n) z es ≡ z
-idle_talk e n [] a z = refl
-idle_talk e n (x ∷ es) a z = ap (λ d. fold (talk_noted e n) d es) (a.0.1 z) ∙ idle_talk e n es a.1 z
+idle_silent : (e : End) (n : ℕ) (es : List Entry) → AllByRecursion (IsIdle e n) es → AreSilent es
+idle_silent e n [] a = tt
+idle_silent e n (x ∷ es) a = (a.0.1, idle_silent e n es a.1)
 
 idle_left : (e : End) (n : ℕ) (es : List Entry) → AllByRecursion (IsIdle e n) es → (ms : List Message) → fold (unhandled_after e) ms es ≡ ms
 idle_left e n [] a ms = refl
@@ -53,13 +55,12 @@ idle_settled e n (x ∷ es) a = (a.0.2, idle_settled e n es a.1)
 
 emits_idle : (e f : End) (n : ℕ) (frames : List Control) → AllByRecursion (IsIdle e n) (map (λ c. entry.Emit f (lpdu_of c)) frames)
 emits_idle e f n [] = tt
-emits_idle e f n (c ∷ frames) = (((λ z. refl), (λ z. refl), ((λ z. refl), tt), (λ z. refl)), emits_idle e f n frames)
+emits_idle e f n (c ∷ frames) = (((λ z. refl), tt, ((λ z. refl), tt), (λ z. refl)), emits_idle e f n frames)
 
 -- what a message lacks, by what is read
-abbrev lacks_of : ℕ → Message → Core → LoneTalk → ℕ → Option (ℕ × ℕ)
-lacks_of h m c x errors =
-    first_lack (spare_with_link h (spare_in_talk x))
-    (needs h (deeds_for (view_with_link c h (record { up = is_some x.session; errors = errors }) (spare_in_talk x)) h m))
+abbrev lacks_of : ℕ → Message → Core → Bool → ℕ → ℕ → Option (ℕ × ℕ)
+lacks_of h m c up spare errors =
+    first_lack (spare_with_link h spare) (needs h (deeds_for (view_with_link c h (record { up = up; errors = errors }) spare) h m))
 
 module _ (F : Core) (h : ℕ) where
   abbrev e : End
@@ -69,8 +70,11 @@ module _ (F : Core) (h : ℕ) where
     core_same : core_since F (T ++ X) ≡ core_since F T
     core_same = fold-append core_noted F T X ∙ idle_core e F.node X idle (core_since F T)
 
-    talk_same : talk_since e F.node (T ++ X) ≡ talk_since e F.node T
-    talk_same = fold-append (talk_noted e F.node) no_session_now T X ∙ idle_talk e F.node X idle (talk_since e F.node T)
+    up_same : is_up_read (T ++ X) F.node h ≡ is_up_read T F.node h
+    up_same = ap is_some (sessions_same (end_of_number F.node h) F.node T X (idle_silent e F.node X idle))
+
+    spare_same : spare_at (T ++ X) e ≡ spare_at T e
+    spare_same = spares_same e T X (idle_silent e F.node X idle)
 
     errors_same : errors_since F e (T ++ X) ≡ errors_since F e T
     errors_same =
@@ -83,9 +87,10 @@ module _ (F : Core) (h : ℕ) where
     pub lack_same_there : (m : Message) → lack_since F h (T ++ X) m ≡ lack_since F h T m
     lack_same_there m =
         let c : Core = core_since F T in
-        let x : LoneTalk = talk_since e F.node T in
-        ap (λ d. lacks_of h m d (talk_since e F.node (T ++ X)) (errors_since F e (T ++ X))) core_same
-        ∙ (ap (λ d. lacks_of h m c d (errors_since F e (T ++ X))) talk_same ∙ ap (λ d. lacks_of h m c x d) errors_same)
+        ap (λ d. lacks_of h m d (is_up_read (T ++ X) F.node h) (spare_at (T ++ X) e) (errors_since F e (T ++ X))) core_same
+        ∙ (ap (λ d. lacks_of h m c d (spare_at (T ++ X) e) (errors_since F e (T ++ X))) up_same
+        ∙ (ap (λ d. lacks_of h m c (is_up_read T F.node h) d (errors_since F e (T ++ X))) spare_same
+        ∙ ap (λ d. lacks_of h m c (is_up_read T F.node h) (spare_at T e) d) errors_same))
 
 -- nothing comes behind the one end
 none_behind : (back : List Entry) → BeginWithTurn back → AreAlong [] (links_of_turns back) → back ≡ []
@@ -118,7 +123,7 @@ module _ (rest : Core) (t : List Entry) (l : Lone) (some : 1 ≤ l.link) (most :
 
   held_idle : (b : Bool) (x : End) (short : ℕ × ℕ) → AllByRecursion (IsIdle f l.number) (cond b [] (entry.Held x short.0 short.1 ∷ []))
   held_idle true x short = tt
-  held_idle false x short = (((λ z. refl), (λ z. refl), ((λ z. refl), tt), (λ z. refl)), tt)
+  held_idle false x short = (((λ z. refl), tt, ((λ z. refl), tt), (λ z. refl)), tt)
 
   pub short_behind : last.cut ≡ false → is_left_lacking G l.link (t ++ (last.entries ++ emits)) ≡ true
   short_behind still =

@@ -1,9 +1,8 @@
 -- The session of an end, the messages sent in it and how many of them are acknowledged are what is read, over what comes to it.
-use Rattle.std.proofs.Common.{◌≡◌, ℕ, ◌≤◌, ◌-◌, Bool, true, false, cond, List, [], ◌∷◌, ◌++◌, map, refl, sym, ap, ap₂, subst, ◌∙◌, arith}
+use Rattle.std.proofs.Common.{◌≡◌, ℕ, ◌<◌, ◌≤◌, ◌-◌, Bool, true, false, cond, List, [], ◌∷◌, ◌++◌, map, refl, sym, ap, ap₂, subst, ◌∙◌, append_assoc}
+use Rattle.std.proofs.Common.{append-nil, arith}
 use Rattle.std.specs.Prelude.{nat_lt, Option, Some, None, is_some, option_to_list}
-use Rattle.std.specs.List.{fold}
-use Rattle.std.proofs.lemmas.Bool.{cond_both, ltb-false}
-use Rattle.std.proofs.lemmas.List.Sums.{fold-append}
+use Rattle.std.proofs.lemmas.Bool.{cond_both, ltb-true, ltb-false}
 use Rattle.std.proofs.lemmas.List.Concat.{flat_map-append}
 use Rattle.swp_base.specs.declared.control_frames.Control.{Control}
 use Rattle.swp_base.specs.declared.control_frames.Control.TheVariants.{I, S, Rset, Ua, Act as ActFrame, Clt}
@@ -31,90 +30,103 @@ use Rattle.link_laws.specs.entries.Entries.{End as Side, Entry as Noted, told, i
 use Rattle.link_laws.specs.entries.Entries.Entry.{Up, Down, Active, GaveUp, Acked, Got}
 use Rattle.history.specs.Filters.{same_end}
 use Rattle.history.specs.Steps.{end_of, entry_of, entries_for}
-use Rattle.lone_laws.specs.alone.Known.{LoneTalk, no_session_now, talk_noted}
 use Rattle.lone_laws.proofs.answered.Coming.{IsLoneInput}
-
--- ## What is read
-
-abbrev pub talk_all : End → ℕ → LoneTalk → List Entry → LoneTalk
-talk_all e n x t = fold (talk_noted e n) x t
-
-pub talk-append : (e : End) (n : ℕ) (x : LoneTalk) (t u : List Entry) → talk_all e n x (t ++ u) ≡ talk_all e n (talk_all e n x t) u
-talk-append e n x t u = fold-append (talk_noted e n) x t u
-
--- what an end has, whose session has this number
-abbrev pub talk_of_side : LinkEnd → ℕ → LoneTalk
-talk_of_side s m = record { session = cond (is_up s.shdlc.phase) (Some m) None; sent = s.sent; acked = whole_acked s }
+use Rattle.lone_laws.proofs.answered.Sessions.{Talk, no_session_now, AreSilent, Reads, reads_silent, reads_down, reads_up, reads_acked}
 
 -- ## What is told
 
-abbrev ended_if : Bool → LoneTalk → LoneTalk
+-- what an end has, whose session has this number
+abbrev pub talk_of_side : LinkEnd → ℕ → Talk
+talk_of_side s m = record { session = cond (is_up s.shdlc.phase) (Some m) None; sent = s.sent; acked = whole_acked s }
+
+abbrev ended_if : Bool → Talk → Talk
 ended_if b x = cond b no_session_now x
 
-abbrev began_if : Bool → ℕ → LoneTalk → LoneTalk
+abbrev began_if : Bool → ℕ → Talk → Talk
 began_if b k x = cond b (record { session = Some k; sent = []; acked = 0 }) x
 
-abbrev acked_if : Bool → ℕ → LoneTalk → LoneTalk
+abbrev acked_if : Bool → ℕ → Talk → Talk
 acked_if b count x = cond b (record x { acked = count }) x
 
 module _ (e : End) (n h : ℕ) (who : Side) (own : same_end (end_of h who) e ≡ true) where
-  notes_talk : (xs ys : List Noted) (x : LoneTalk)
-      → talk_all e n x (entries_for h (xs ++ ys)) ≡ talk_all e n (talk_all e n x (entries_for h xs)) (entries_for h ys)
-  notes_talk xs ys x = ap (talk_all e n x) (flat_map-append (entry_of h) xs ys) ∙ talk-append e n x (entries_for h xs) (entries_for h ys)
+  abbrev noted : List Noted → List Entry
+  noted xs = entries_for h xs
 
-  down_talk : (o : Option EndedBy) (x : LoneTalk) → talk_all e n x (entries_for h (map (Down who) (option_to_list o))) ≡ ended_if (is_some o) x
-  down_talk None x = refl
-  down_talk (Some cause) x = ap (λ b. cond b no_session_now x) own
+  -- what is told behind this, one part after another
+  both_told : (s : ℕ) (t : List Entry) (xs ys : List Noted) (x : Talk) → Reads e n s ((t ++ noted xs) ++ noted ys) x → Reads e n s (t ++ noted (xs ++ ys)) x
+  both_told s t xs ys x r =
+      subst (λ l. Reads e n s l x)
+      (append_assoc t (noted xs) (noted ys) ∙ ap (λ l. t ++ l) (sym (flat_map-append (entry_of h) xs ys))) r
 
-  up_talk : (b : Bool) (k : ℕ) (x : LoneTalk) → talk_all e n x (entries_for h (if_so b (Up who k))) ≡ began_if b k x
-  up_talk true k x = ap (λ b. cond b (record { session = Some k; sent = []; acked = 0 }) x) own
-  up_talk false k x = refl
+  none_told : (s : ℕ) (t : List Entry) (x : Talk) → Reads e n s t x → Reads e n s (t ++ []) x
+  none_told s t x r = subst (λ l. Reads e n s l x) (sym (append-nil t)) r
 
-  active_talk : (b : Bool) (x : LoneTalk) → talk_all e n x (entries_for h (if_so b (Active who))) ≡ x
-  active_talk true x = refl
-  active_talk false x = refl
+  down_told : (s : ℕ) (t : List Entry) (o : Option EndedBy) (x : Talk) → Reads e n s t x
+      → Reads e n s (t ++ noted (map (Down who) (option_to_list o))) (ended_if (is_some o) x)
+  down_told s t None x r = none_told s t x r
+  down_told s t (Some cause) x r = reads_down e n t (end_of h who) own s x cause r
 
-  tries_talk : (o : Option ℕ) (x : LoneTalk) → talk_all e n x (entries_for h (map (GaveUp who) (option_to_list o))) ≡ x
-  tries_talk None x = refl
-  tries_talk (Some k) x = refl
+  up_told : (s k : ℕ) (t : List Entry) (b : Bool) (x : Talk) → (b ≡ true → s < k) → (b ≡ false → s ≡ k) → Reads e n s t x
+      → Reads e n k (t ++ noted (if_so b (Up who k))) (began_if b k x)
+  up_told s k t true x more same r = reads_up e n t (end_of h who) own s x k (more refl) r
+  up_told s k t false x more same r = none_told k t x (subst (λ j. Reads e n j t x) (same refl) r)
 
-  acked_talk : (b : Bool) (k count : ℕ) (x : LoneTalk) → talk_all e n x (entries_for h (if_so b (Acked who k count))) ≡ acked_if b count x
-  acked_talk true k count x = ap (λ b. cond b (record x { acked = count }) x) own
-  acked_talk false k count x = refl
+  active_silent : (b : Bool) → AreSilent (noted (if_so b (Active who)))
+  active_silent true = (tt, tt)
+  active_silent false = tt
 
-  got_talk : (k : ℕ) (ms : List Message) (x : LoneTalk) → talk_all e n x (entries_for h (map (Got who k) ms)) ≡ x
-  got_talk k [] x = refl
-  got_talk k (m ∷ ms) x = got_talk k ms x
+  tries_silent : (o : Option ℕ) → AreSilent (noted (map (GaveUp who) (option_to_list o)))
+  tries_silent None = tt
+  tries_silent (Some k) = (tt, tt)
 
-  pub told_talk : (k acked : ℕ) (rep : Report) (x : LoneTalk)
-      → talk_all e n x (entries_for h (told who k rep acked)) ≡ acked_if (nat_lt 0 rep.acked) acked (began_if rep.began k (ended_if (is_some rep.ended) x))
-  told_talk k acked rep x =
-      let six : List Noted = map (Got who k) rep.got in
-      let five : List Noted = if_so (nat_lt 0 rep.acked) (Acked who k acked) in
-      let four : List Noted = map (GaveUp who) (option_to_list rep.gave_up) in
-      let three : List Noted = if_so rep.became_active (Active who) in
+  got_silent : (k : ℕ) (ms : List Message) → AreSilent (noted (map (Got who k) ms))
+  got_silent k [] = tt
+  got_silent k (m ∷ ms) = (tt, got_silent k ms)
+
+  acked_told : (s k count : ℕ) (t : List Entry) (b : Bool) (x : Talk) → (b ≡ true → (x.session ≡ Some k) × (x.acked ≤ count)) → Reads e n s t x
+      → Reads e n s (t ++ noted (if_so b (Acked who k count))) (acked_if b count x)
+  acked_told s k count t true x more r = let a = more refl in reads_acked e n t (end_of h who) own s x k count a.0 a.1 r
+  acked_told s k count t false x more r = none_told s t x r
+
+  -- What is told of an input is read, where a session that begins has a greater number, and what is acknowledged grows in the session of now.
+  pub told_reads : (s k acked : ℕ) (t : List Entry) (rep : Report) (x : Talk) → (rep.began ≡ true → s < k) → (rep.began ≡ false → s ≡ k)
+      → (nat_lt 0 rep.acked ≡ true
+      → ((began_if rep.began k (ended_if (is_some rep.ended) x)).session ≡ Some k) × ((began_if rep.began k (ended_if (is_some rep.ended) x)).acked ≤ acked))
+      → Reads e n s t x
+      → Reads e n k (t ++ entries_for h (told who k rep acked))
+      (acked_if (nat_lt 0 rep.acked) acked (began_if rep.began k (ended_if (is_some rep.ended) x)))
+  told_reads s k acked t rep x more same grows r =
+      let one : List Noted = map (Down who) (option_to_list rep.ended) in
       let two : List Noted = if_so rep.began (Up who k) in
-      let x1 : LoneTalk = ended_if (is_some rep.ended) x in
-      let x2 : LoneTalk = began_if rep.began k x1 in
-      notes_talk (map (Down who) (option_to_list rep.ended)) (two ++ (three ++ (four ++ (five ++ six)))) x
-      ∙ (ap (λ z. talk_all e n z (entries_for h (two ++ (three ++ (four ++ (five ++ six)))))) (down_talk rep.ended x)
-      ∙ (notes_talk two (three ++ (four ++ (five ++ six))) x1
-      ∙ (ap (λ z. talk_all e n z (entries_for h (three ++ (four ++ (five ++ six))))) (up_talk rep.began k x1)
-      ∙ (notes_talk three (four ++ (five ++ six)) x2
-      ∙ (ap (λ z. talk_all e n z (entries_for h (four ++ (five ++ six)))) (active_talk rep.became_active x2)
-      ∙ (notes_talk four (five ++ six) x2
-      ∙ (ap (λ z. talk_all e n z (entries_for h (five ++ six))) (tries_talk rep.gave_up x2)
-      ∙ (notes_talk five six x2
-      ∙ (ap (λ z. talk_all e n z (entries_for h six)) (acked_talk (nat_lt 0 rep.acked) k acked x2)
-      ∙ got_talk k rep.got (acked_if (nat_lt 0 rep.acked) acked x2))))))))))
+      let three : List Noted = if_so rep.became_active (Active who) in
+      let four : List Noted = map (GaveUp who) (option_to_list rep.gave_up) in
+      let five : List Noted = if_so (nat_lt 0 rep.acked) (Acked who k acked) in
+      let six : List Noted = map (Got who k) rep.got in
+      let x1 : Talk = ended_if (is_some rep.ended) x in
+      let x2 : Talk = began_if rep.began k x1 in
+      let x5 : Talk = acked_if (nat_lt 0 rep.acked) acked x2 in
+      let t1 : List Entry = t ++ noted one in
+      let t2 : List Entry = t1 ++ noted two in
+      let t3 : List Entry = t2 ++ noted three in
+      let t4 : List Entry = t3 ++ noted four in
+      let t5 : List Entry = t4 ++ noted five in
+      let r1 : Reads e n s t1 x1 = down_told s t rep.ended x r in
+      let r2 : Reads e n k t2 x2 = up_told s k t1 rep.began x1 more same r1 in
+      let r3 : Reads e n k t3 x2 = reads_silent e n k t2 (noted three) x2 (active_silent rep.became_active) r2 in
+      let r4 : Reads e n k t4 x2 = reads_silent e n k t3 (noted four) x2 (tries_silent rep.gave_up) r3 in
+      let r5 : Reads e n k t5 x5 = acked_told k k acked t4 (nat_lt 0 rep.acked) x2 grows r4 in
+      let r6 : Reads e n k (t5 ++ noted six) x5 = reads_silent e n k t5 (noted six) x5 (got_silent k rep.got) r5 in
+      both_told k t one (two ++ (three ++ (four ++ (five ++ six)))) x5
+      (both_told k t1 two (three ++ (four ++ (five ++ six))) x5
+      (both_told k t2 three (four ++ (five ++ six)) x5 (both_told k t3 four (five ++ six) x5 (both_told k t4 five six x5 r6))))
 
 -- ## What an input does
 
-same_acked : (b : Bool) (count : ℕ) (x : LoneTalk) → count ≡ x.acked → acked_if b count x ≡ x
+same_acked : (b : Bool) (count : ℕ) (x : Talk) → count ≡ x.acked → acked_if b count x ≡ x
 same_acked true count x q = ap (λ c. record x { acked = c }) q
 same_acked false count x q = refl
 
-grown_acked : (a c : ℕ) (x : LoneTalk) → x.acked ≡ a → a ≤ c → acked_if (nat_lt 0 (c - a)) c x ≡ record x { acked = c }
+grown_acked : (a c : ℕ) (x : Talk) → x.acked ≡ a → a ≤ c → acked_if (nat_lt 0 (c - a)) c x ≡ record x { acked = c }
 grown_acked a c x q low = go (nat_lt 0 (c - a)) refl where
   go : (b : Bool) → nat_lt 0 (c - a) ≡ b → acked_if b c x ≡ record x { acked = c }
   go true z = refl
@@ -186,6 +198,32 @@ module _ (e f : LinkEnd) (ended began : Bool) (k m : ℕ) (d : Data e) (number :
         ap (acked_if acked_more (whole_acked f)) (goes p q ∙ silent_side e m off (d.forgot off))
         ∙ (same_acked acked_more (whole_acked f) no_session_now (none_whole f none) ∙ sym (silent_side f k still none))
 
+  none_more : (P : Type 0) → f.sent ≡ [] → acked_more ≡ true → P
+  none_more P none q = let some = ltb-true 0 (whole_acked f - whole_acked e) q in let w = none_whole f none in absurd (omega (arith, some, w))
+
+  -- what is acknowledged grows in the session of now alone
+  shift_grows : (ms : List Message) → Becomes e f ended began ms → acked_more ≡ true
+      → ((began_if began k (ended_if ended (talk_of_side e m))).session ≡ Some k)
+      × ((began_if began k (ended_if ended (talk_of_side e m))).acked ≤ whole_acked f)
+  shift_grows ms b z = go b.shift where
+    Grows : Type 0
+    Grows = ((began_if began k (ended_if ended (talk_of_side e m))).session ≡ Some k)
+        × ((began_if began k (ended_if ended (talk_of_side e m))).acked ≤ whole_acked f)
+
+    go : Shift e.shdlc f.shdlc ended began → Grows
+    go (Stays p q g) =
+        let sent : f.sent ≡ e.sent = sent_still p b.sent in
+        let w : whole_acked f ≡ whole_among e.sent f.shdlc.session.acked = ap (λ xs. whole_among xs f.shdlc.session.acked) sent in
+        let more = whole_more e.sent e.shdlc.session.acked f.shdlc.session.acked g.low in
+        let now : (talk_of_side e m).session ≡ Some k =
+        ap (λ x. cond (is_up x) (Some m) None) g.was ∙ ap (λ j. Some j) (sym (number q)) in
+        subst (λ (x : Talk). (x.session ≡ Some k) × (x.acked ≤ whole_acked f))
+        (sym (ap₂ (λ x y. began_if y k (ended_if x (talk_of_side e m))) p q)) (now, omega (arith, more, w))
+    go (Ends p q up still s) = none_more Grows (sent_gone p b.sent) z
+    go (Renews p q up new) = none_more Grows (sent_gone p b.sent) z
+    go (Begins p q off new) = none_more Grows (sent_still p b.sent ∙ d.forgot off) z
+    go (Rests p q off still s) = none_more Grows (sent_still p b.sent ∙ d.forgot off) z
+
 -- Whatever comes to the end of a node alone, what is told of it says what the end has then.
 pub input_talk : (s : LinkEnd) (i : LinkInput) → IsLoneInput i → Sound s → (k m : ℕ) → (began_by s i ≡ false → k ≡ m)
     → acked_if (nat_lt 0 (report s i).acked) (whole_acked (after_input s i)) (began_if (report s i).began k (ended_if (is_some (report s i).ended)
@@ -209,6 +247,32 @@ input_talk s Stop may sound k m number =
 input_talk s (TakeBroken fault) may sound k m number = absurd may
 input_talk s (FromNode x) may sound k m number = absurd may
 input_talk s Fetch may sound k m number = absurd may
+
+-- what is acknowledged of an input
+abbrev pub Grows : LinkEnd → LinkInput → ℕ → ℕ → Type 0
+Grows s i k m =
+    ((began_if (report s i).began k (ended_if (is_some (report s i).ended) (talk_of_side s m))).session ≡ Some k)
+    × ((began_if (report s i).began k (ended_if (is_some (report s i).ended) (talk_of_side s m))).acked ≤ whole_acked (after_input s i))
+
+pub input_grows : (s : LinkEnd) (i : LinkInput) → IsLoneInput i → Sound s → (k m : ℕ) → (began_by s i ≡ false → k ≡ m)
+    → nat_lt 0 (report s i).acked ≡ true → Grows s i k m
+input_grows s (Take c) may sound k m number z =
+    shift_grows s (after_input s (Take c)) (is_some (ended_by s (Take c))) (began_by s (Take c)) k m sound.is number (got_by s (Take c)) (take_so s c sound) z
+input_grows s TakeUnknown may sound k m number z =
+    absurd (let some = ltb-true 0 (whole_acked s - whole_acked s) z in omega (arith, some))
+input_grows s Tick may sound k m number z =
+    shift_grows s (after_input s Tick) (is_some (ended_by s Tick)) false k m sound.is (λ q. number refl) (got_by s Tick) (tick_so s sound) z
+input_grows s (Reset window) may sound k m number z =
+    shift_grows s (after_input s (Reset window)) (is_some (ended_by s (Reset window))) false k m sound.is (λ q. number refl) (got_by s (Reset window))
+    (reset_so s window sound) z
+input_grows s (Start value) may sound k m number z =
+    shift_grows s (after_input s (Start value)) (is_some (ended_by s (Start value))) false k m sound.is (λ q. number refl) (got_by s (Start value))
+    (start_so s value sound) z
+input_grows s Stop may sound k m number z =
+    shift_grows s (after_input s Stop) (is_some (ended_by s Stop)) false k m sound.is (λ q. number refl) (got_by s Stop) (stop_so s sound) z
+input_grows s (TakeBroken fault) may sound k m number z = absurd may
+input_grows s (FromNode x) may sound k m number z = absurd may
+input_grows s Fetch may sound k m number z = absurd may
 
 -- ## Blocks set aside
 

@@ -37,18 +37,18 @@ link_of_end number h = go (eqb number 0) refl where
   go true q = rw q refl
   go false q = rw q refl
 
+pub same_number : (number h : ℕ) → end_of_number number h ≡ end_of_node_alone number h
+same_number number h = go (eqb number 0) refl where
+  go : (b : Bool) → eqb number 0 ≡ b → end_of_number number h ≡ end_of_node_alone number h
+  go true q = rw q refl
+  go false q = rw q refl
+
 module _ (number h : ℕ) (session : Option ℕ) where
   abbrev e : End
   e = end_of_node_alone number h
 
   abbrev sessions : ℕ → Option ℕ
   sessions k = cond (eqb k h) session None
-
-  same_number : end_of_number number h ≡ e
-  same_number = go (eqb number 0) refl where
-    go : (b : Bool) → eqb number 0 ≡ b → end_of_number number h ≡ e
-    go true q = rw q refl
-    go false q = rw q refl
 
   abbrev sent : ℕ → Message → List Entry
   sent to m = cond (eqb to e.link) (option_map_or (λ n. entry.Sent e n m.0 m.1 ∷ []) session []) []
@@ -61,7 +61,7 @@ module _ (number h : ℕ) (session : Option ℕ) where
             → option_map_or (λ n. entry.Sent (end_of_number number to) n m.0 m.1 ∷ []) (cond b session None) []
             ≡ cond b (option_map_or (λ n. entry.Sent e n m.0 m.1 ∷ []) session []) []
         go true q =
-            ap (λ (f : End). option_map_or (λ n. entry.Sent f n m.0 m.1 ∷ []) session []) (ap (end_of_number number) (eqb-true to h q) ∙ same_number)
+            ap (λ (f : End). option_map_or (λ n. entry.Sent f n m.0 m.1 ∷ []) session []) (ap (end_of_number number) (eqb-true to h q) ∙ same_number number h)
         go false q = refl
 
   -- a message that is sent changes nothing of what is kept, and tells no count
@@ -98,7 +98,7 @@ module _ (number h : ℕ) (session : Option ℕ) where
     -- a reply of a node alone
     pub reply_told : (count : ℕ) (deeds : List Deed) → IsLoneReply deeds → noted_as_reply core count deeds ≡ entries_of_deeds core e session deeds
     reply_told count _ IsNone = refl
-    reply_told count _ (IsDrop pid) = ap (λ (f : End). entry.Dropped f pid ∷ []) same_number
+    reply_told count _ (IsDrop pid) = ap (λ (f : End). entry.Dropped f pid ∷ []) (same_number number h)
     reply_told count _ (IsSend to m) = sends_told to m
     reply_told count _ (IsSet v to m) = sends_told to m
     reply_told count _ IsHeard = refl

@@ -1,5 +1,6 @@
 -- Every history of a node alone answers as is read.
 use Rattle.std.proofs.Common.{◌≡◌, ℕ, ◌≤◌, Bool, true, false, cond, eqb, ◌&&◌, ◌||◌, List, [], ◌∷◌, ◌++◌, map, refl, sym, ap, ap₂, subst, ◌∙◌}
+use Rattle.std.proofs.Common.{arith}
 use Rattle.std.specs.Prelude.{◌+◌, min, not, Option, Some, None, is_some, is_none, length}
 use Rattle.std.specs.List.{AllByRecursion, fold, list_any}
 use Rattle.std.specs.Option.{option_map_or}
@@ -42,7 +43,7 @@ use Rattle.node_laws.proofs.reply_passes.Sides.{IsNoBoot}
 use Rattle.lone_laws.specs.alone.Lone.{Lone, LoneCause, LoneEvent, lone_end, lone_input, node_input, lone_arrival, lone_work, emits_behind, with_refusal}
 use Rattle.lone_laws.specs.alone.Lone.{frames_behind, noted_of_refused, lone_behind_step, does_by_power, lone_step, lone_events, lone_booted, role_alone}
 use Rattle.lone_laws.specs.alone.Lone.LoneCause.{FrameComes, FrameIsRefused, TickComes, ResetComes, StartComes, StopComes}
-use Rattle.lone_laws.specs.alone.Known.{errors_found, no_session_now}
+use Rattle.lone_laws.specs.alone.Known.{errors_found}
 use Rattle.lone_laws.specs.alone.Answers.{AtEachNoted, AtEachLoneEvent, entries_of_events_alone, runs_behind, is_at_rest, is_left_lacking}
 use Rattle.lone_laws.specs.alone.Answers.{is_done_alone}
 use Rattle.lone_laws.specs.alone.Answers.{is_short_alone, goes_through_end, IsRepliedAlone, IsHeldAlone, IsDueAlone, IsResetAlone}
@@ -55,8 +56,9 @@ use Rattle.lone_laws.proofs.answered.Events.{at_each, none_at}
 use Rattle.lone_laws.proofs.answered.Powers.{cut_noted, any_more}
 use Rattle.lone_laws.proofs.answered.Ordered.{OrderAt, begin_read, ended, at_rest, at_own_end, in_order, order_silent}
 use Rattle.lone_laws.proofs.answered.Roles.{kind_of}
-use Rattle.lone_laws.proofs.answered.Talking.{talk_all, talk-append, talk_of_side}
-use Rattle.lone_laws.proofs.answered.Rooms.{still_talk}
+use Rattle.lone_laws.proofs.answered.Sessions.{no_session_now, Reads, reads_silent}
+use Rattle.lone_laws.proofs.answered.Growing.{IsNumbered}
+use Rattle.lone_laws.proofs.answered.Talking.{talk_of_side}
 use Rattle.lone_laws.proofs.answered.Errors.{errs_all, errs-append}
 use Rattle.lone_laws.proofs.answered.Answering.{replied_silent, answered_in_step}
 use Rattle.lone_laws.proofs.answered.Keeping.{core_of, errors_of, KeepsAll, all_passing, keeps_behind}
@@ -217,9 +219,8 @@ module _ (rest : Core) (t : List Entry) (l : Lone) (n : Running) (on : l.node �
   counted_all keep = record {
     keep = keep;
     talks = record {
-      talk =
-          talk-append e l.number no_session_now t lost
-          ∙ (still_talk e l.number lost ((λ z. refl), tt) (talk_all e l.number no_session_now t) ∙ k.talks.talk);
+      talk = reads_silent e l.number l.session t lost (talk_of_side l.side l.session) (tt, tt) k.talks.talk;
+      numbers = k.talks.numbers;
       sound = k.talks.sound;
       aside = k.talks.aside;
       role = k.talks.role;
@@ -349,9 +350,24 @@ module _ (number h : ℕ) (some : 1 ≤ h) (most : h ≤ 7) (its : eqb number 0 
   abbrev l : Lone
   l = lone_booted number h m
 
-  no_talk : (b : Bool) → no_session_now ≡ talk_of_side (new_link_end (cond b (Clf new_clf) (Uicc new_uicc))) 0
-  no_talk true = refl
-  no_talk false = refl
+  new_talk : (b : Bool) → no_session_now ≡ talk_of_side (new_link_end (cond b (Clf new_clf) (Uicc new_uicc))) 0
+  new_talk true = refl
+  new_talk false = refl
+
+  nothing_read : (e : End) (n : ℕ) → Reads e n 0 [] no_session_now
+  nothing_read e n = record {
+    session = refl;
+    low = λ k q. absurd (cc q);
+    sent = λ k q. absurd (cc q);
+    acked = λ k q. absurd (cc q);
+    none_sent = λ k q. refl;
+    none_acked = λ k q. refl;
+    unasked = refl;
+  }
+
+  new_numbers : (b : Bool) → IsNumbered (new_link_end (cond b (Clf new_clf) (Uicc new_uicc))) 0 0
+  new_numbers true = record { emptied = refl; low = omega arith; waits = λ q. absurd (true≢false (sym q)) }
+  new_numbers false = record { emptied = refl; low = omega arith; waits = λ q. absurd (true≢false (sym q)) }
 
   new_kind : (b : Bool) → kind_of (new_link_end (cond b (Clf new_clf) (Uicc new_uicc))).role ≡ Some b
   new_kind true = refl
@@ -375,7 +391,14 @@ module _ (number h : ℕ) (some : 1 ≤ h) (most : h ≤ 7) (its : eqb number 0 
             good = λ z. fine_tables m.content;
             read = refl;
           };
-          talks = record { talk = no_talk (eqb number 0); sound = new_sound (role_alone number); aside = refl; role = new_kind (eqb number 0); clean = tt };
+          talks = record {
+            talk = subst (Reads (lone_end l) number 0 []) (new_talk (eqb number 0)) (nothing_read (lone_end l) number);
+            numbers = new_numbers (eqb number 0);
+            sound = new_sound (role_alone number);
+            aside = refl;
+            role = new_kind (eqb number 0);
+            clean = tt;
+          };
           errs = record { are = refl; unbooted = tt };
         })
 

@@ -18,15 +18,16 @@ use Rattle.link_laws.specs.machine.Machine.{oldest}
 use Rattle.node_machine.specs.Parts.{Core, Deed}
 use Rattle.node_machine.specs.Parts.Deed.{Commits}
 use Rattle.node_machine.specs.Carrying.{finds_room}
+use Rattle.node_machine.specs.world.NodeFilters.{session_now}
 use Rattle.node_machine.specs.world.NodeLegal.{AreInTurn}
-use Rattle.node_laws.specs.answers.Moments.{holds_in, unhandled_in}
+use Rattle.node_laws.specs.answers.Moments.{holds_in, is_up_read, unhandled_in}
 use Rattle.node_laws.specs.passes.Noting.{entries_of_reply}
 use Rattle.node_laws.specs.kept.Reckonings.{is_cut_of}
 use Rattle.node_laws.specs.answers.Answered.{AnswersSo}
 use Rattle.node_laws.specs.answers.Order.{IsAscending, hears, is_answer_of, turn_link}
 use Rattle.lone_laws.specs.alone.Lone.{LoneCause, LoneEvent, end_of_node_alone}
 use Rattle.lone_laws.specs.alone.Lone.LoneCause.{FrameComes, FrameIsRefused, ResetComes}
-use Rattle.lone_laws.specs.alone.Known.{core_since, talk_since, reply_since, lack_since, first_lack_since}
+use Rattle.lone_laws.specs.alone.Known.{core_since, reply_since, lack_since, first_lack_since}
 
 -- ## Where facts speak
 
@@ -57,7 +58,7 @@ telling_count core x = x
 abbrev pub noted_since : Core → ℕ → List Entry → List Deed → List Entry
 noted_since found h t deeds =
     let core : Core = core_since found t in
-    let session : Option ℕ = (talk_since (end_of_node_alone found.node h) found.node t).session in
+    let session : Option ℕ = session_now t (end_of_node_alone found.node h) found.node in
     let entries : List Entry = entries_of_reply found.node (λ k. if k == h then session else None) h (count_of core.journal) deeds in
     map (telling_count (core_since core entries)) entries
 
@@ -122,7 +123,7 @@ is_asked_down _ = false
 
 -- a reset is asked for at an end that is up
 abbrev pub is_reset_alone : Core → ℕ → List Entry → LoneCause → Bool
-is_reset_alone found h t (ResetComes window) = is_some (talk_since (end_of_node_alone found.node h) found.node t).session
+is_reset_alone found h t (ResetComes window) = is_up_read t found.node h
 is_reset_alone found h t _ = false
 
 -- Sessions end by resets exactly where they are asked for.

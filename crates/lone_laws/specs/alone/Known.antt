@@ -1,5 +1,5 @@
 -- What is read of a node alone, off what its boot found and what was noted since.
-use Rattle.std.specs.Prelude.{ℕ, ◌-◌, ◌==◌, ◌&&◌, false, if◌then◌else◌, List, [], ◌∷◌, ◌++◌, drop, is_some, Option, Some, None}
+use Rattle.std.specs.Prelude.{ℕ, ◌==◌, ◌&&◌, false, if◌then◌else◌, List, [], Option, Some, None}
 use Rattle.std.specs.List.{fold}
 use Rattle.std.specs.Option.{option_and_then}
 use Rattle.trace_model.specs.declared.entry.Entry.{Entry}
@@ -10,13 +10,12 @@ use Rattle.hci_tables.specs.Bodies.{body_of}
 use Rattle.hci_tables.specs.Tables.{apply, is_opened}
 use Rattle.hci_store.specs.Committing.{committed}
 use Rattle.gate_admin.specs.View.{hosts_where, mask_of}
-use Rattle.link_laws.specs.machine.Machine.{Message, oldest, need_of_all}
-use Rattle.history.specs.Filters.{same_end}
+use Rattle.link_laws.specs.machine.Machine.{Message, oldest}
 use Rattle.node_machine.specs.Parts.{Core, Deed, EndView, NodeView}
 use Rattle.node_machine.specs.Carrying.{own_view, needs, first_lack}
 use Rattle.node_machine.specs.Turns.{deeds_for}
-use Rattle.node_machine.specs.world.NodeFilters.{new_book}
-use Rattle.node_laws.specs.answers.Moments.{unhandled_in}
+use Rattle.node_machine.specs.world.NodeFilters.{new_book, spare_at}
+use Rattle.node_laws.specs.answers.Moments.{is_up_read, unhandled_in}
 use Rattle.node_laws.specs.views.Errors.{ErrorCount, no_errors, errors_after}
 use Rattle.lone_laws.specs.alone.Lone.{end_of_node_alone}
 
@@ -43,33 +42,6 @@ errors_found found = record no_errors { book = record new_book { tables = found.
 -- REC_ERROR of an end, as it is read behind these entries.
 abbrev pub errors_since : Core → End → List Entry → ℕ
 errors_since found e t = (fold (errors_after e) (errors_found found) t).errors
-
--- ## The session of now
-
--- What is read of the session of now: its number, while there is one, the messages sent in it, and how many of them are acknowledged.
-pub record LoneTalk : Type 0 where
-  pub session : Option ℕ
-  pub sent : List Message
-  pub acked : ℕ
-
--- there is none
-abbrev pub no_session_now : LoneTalk
-no_session_now = record { session = None; sent = []; acked = 0 }
-
-abbrev pub talk_noted : End → ℕ → LoneTalk → Entry → LoneTalk
-talk_noted e n x (entry.Up f k) = if same_end f e then record { session = Some k; sent = []; acked = 0 } else x
-talk_noted e n x (entry.Down f cause) = if same_end f e then no_session_now else x
-talk_noted e n x (entry.Cut k) = if k == n then no_session_now else x
-talk_noted e n x (entry.Sent f k pid message) = if same_end f e then record x { sent = x.sent ++ (pid, message) ∷ [] } else x
-talk_noted e n x (entry.Acked f k count) = if same_end f e then record x { acked = count } else x
-talk_noted e n x _ = x
-
-abbrev pub talk_since : End → ℕ → List Entry → LoneTalk
-talk_since e n t = fold (talk_noted e n) no_session_now t
-
--- the blocks of 128 that the messages which aren't acknowledged leave: none is set aside where there is one link
-abbrev pub spare_in_talk : LoneTalk → ℕ
-spare_in_talk x = 128 - need_of_all (drop x.acked x.sent)
 
 -- ## Its view
 
@@ -99,13 +71,11 @@ view_with_link core h e blocks = record {
 
 -- the end of a node on the link with this host, as it is read
 abbrev pub end_since : Core → ℕ → List Entry → EndView
-end_since found h t =
-    let e : End = end_of_node_alone found.node h in
-    record { up = is_some (talk_since e found.node t).session; errors = errors_since found e t }
+end_since found h t = record { up = is_up_read t found.node h; errors = errors_since found (end_of_node_alone found.node h) t }
 
 -- the blocks that it has to spare
 abbrev pub spare_since : Core → ℕ → List Entry → ℕ
-spare_since found h t = spare_in_talk (talk_since (end_of_node_alone found.node h) found.node t)
+spare_since found h t = spare_at t (end_of_node_alone found.node h)
 
 -- What the node goes by, as it is read.
 abbrev pub view_since : Core → ℕ → List Entry → NodeView

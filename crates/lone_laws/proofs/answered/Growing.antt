@@ -1,0 +1,436 @@
+-- Each session of a node alone has a greater number than those before it.
+use Rattle.std.proofs.Common.{◌≡◌, ◌⊎◌, inl, inr, ℕ, zero, suc, ◌+◌, ◌-◌, ◌<◌, ◌≤◌, Bool, true, false, cond, eqb, List, [], ◌∷◌, ◌++◌, length, take, drop, map}
+use Rattle.std.proofs.Common.{refl, sym, ap, ◌∙◌, arith}
+use Rattle.std.specs.Prelude.{not, Option, Some, None}
+use Rattle.std.specs.List.{filter, flat_map, AllByRecursion}
+use Rattle.std.proofs.lemmas.Bool.{true≢false, and_parts}
+use Rattle.swp_base.specs.declared.control_frames.Control.{Control}
+use Rattle.swp_base.specs.declared.control_frames.Control.TheVariants.{I, S, Rset, Ua, Act as ActFrame, Clt}
+use Rattle.trace_model.specs.declared.entry.Entry.TheVariants as entry
+use Rattle.shdlc_core.specs.declared.answers.LinkState.{LinkState}
+use Rattle.shdlc_core.specs.declared.answers.LinkState.TheVariants.{Down, Waiting, Up}
+use Rattle.shdlc_core.specs.declared.answers.Due.{Due}
+use Rattle.shdlc_core.specs.declared.answers.Due.TheVariants.{Rr as Rr_due, Rej as Rej_due, Rnr as Rnr_due, Rset as Rset_due, Ua as Ua_due}
+use Rattle.shdlc_core.specs.Machine.{EndState, control_due, is_waiting, take_answer, with_ready, fetched, frames_of, after_frames, most_frames}
+use Rattle.journal_laws.specs.Planned.{fails_within}
+use Rattle.hci_tables.specs.declared.command.Command.{Command}
+use Rattle.hci_tables.specs.Bodies.{body_of}
+use Rattle.hci_store.specs.Committing.{commit_writes}
+use Rattle.link_laws.specs.sessions.Sessions.{is_rset}
+use Rattle.link_laws.specs.machine.Machine.{Message, LinkEnd, ActDue, Refused, LinkInput, Turn, is_open, unless, give_refusal}
+use Rattle.link_laws.specs.machine.Machine.{given, aside_refusal, turn, among}
+use Rattle.link_laws.specs.machine.Machine.{frames_out, sent_all, after_input, began_by}
+use Rattle.link_laws.specs.machine.Machine.LinkInput.{Take, TakeUnknown, TakeBroken, Tick, Reset, Start, Stop, FromNode, Fetch}
+use Rattle.link_laws.specs.machine.Machine.Turn.{Give, Hold, FetchMessage, SetAside, Release}
+use Rattle.link_laws.specs.messages.Rsets.{rsets_among, rsets_due}
+use Rattle.link_laws.proofs.places.Joined.{fetch_cases}
+use Rattle.link_laws.proofs.machine.Shifts.{Shift}
+use Rattle.link_laws.proofs.machine.Shifts.Shift.{Stays, Ends, Renews, Begins, Rests}
+use Rattle.link_laws.proofs.machine.Runs.{Sound}
+use Rattle.link_laws.proofs.machine.Reports.{take_so}
+use Rattle.node_machine.specs.Parts.{Desk, Port, Work, Deed}
+use Rattle.node_machine.specs.Parts.Deed.{Commits, Sends, SaysOk, Asks as AsksFor, Releases, Tells, IsAnswered, Drops, SetsErrors, Orders, Hears, GoesOn}
+use Rattle.node_machine.specs.Parts.Deed.{Ends as EndsInit}
+use Rattle.node_machine.specs.Parts.About.{Waits, Removed}
+use Rattle.node_machine.specs.Carrying.{noting, changed_if, with_port, with_desk, after_turn, turn_at, notified, commit, done}
+use Rattle.node_machine.specs.Node.{NodeInput, all_come, times_out, synced, steps, forgotten, forgets, all_owed, without_notice, after_sessions, is_over}
+use Rattle.node_machine.specs.Node.{is_forgotten}
+use Rattle.node_machine.specs.Controller.{asked_at}
+use Rattle.node_machine.specs.Parts.{About}
+use Rattle.node_laws.proofs.steps.StepWalks.{Lasts, rest_lasts, got_at}
+use Rattle.lone_laws.specs.alone.Lone.{rsets_since}
+use Rattle.lone_laws.proofs.answered.Coming.{IsLoneInput}
+use Rattle.lone_laws.proofs.answered.Numbers.{no_fewer, one_more, IsAsked, input_asked}
+
+-- ## What a node does to its end
+
+-- the frames that are due, and one more where RNR was answered
+abbrev pub most_due : EndState → ℕ
+most_due e = length e.due + cond e.session.answered_rnr 1 0
+
+-- what turns make of an end: it waits or not as before, it has no fewer RSETs to send, and no more frames are due in all
+pub record IsTurned (s f : LinkEnd) : Type 0 where
+  pub waits : is_waiting f.shdlc ≡ is_waiting s.shdlc
+  pub asks : rsets_due s ≤ rsets_due f
+  pub few : most_due f.shdlc ≤ most_due s.shdlc
+
+same_turned : (s f g : LinkEnd) → g.shdlc ≡ f.shdlc → IsTurned s f → IsTurned s g
+same_turned s f g q a = record {
+  waits = ap is_waiting q ∙ a.waits;
+  asks = let z = ap (λ (e : EndState). rsets_among e.due) q in let w = a.asks in omega (arith, z, w);
+  few = let z = ap most_due q in let w = a.few in omega (arith, z, w);
+}
+
+held_turned : (e : EndState) (r : Bool)
+    → (is_waiting (with_ready e r) ≡ is_waiting e) × (rsets_among e.due ≤ rsets_among (with_ready e r).due) × (most_due (with_ready e r) ≤ most_due e)
+held_turned e r = go e.ready r e.session.answered_rnr refl refl where
+  same : (f : EndState) → f ≡ e → (is_waiting f ≡ is_waiting e) × (rsets_among e.due ≤ rsets_among f.due) × (most_due f ≤ most_due e)
+  same f q = (
+    ap is_waiting q,
+    (let z = ap (λ (x : EndState). rsets_among x.due) q in omega (arith, z)),
+    (let z = ap most_due q in omega (arith, z)),
+  )
+
+  fewer : (b : Bool) → length e.due + 0 ≤ length e.due + cond b 1 0
+  fewer true = omega arith
+  fewer false = omega arith
+
+  go : (was now noted : Bool) → e.ready ≡ was → e.session.answered_rnr ≡ noted
+      → (let f : EndState = with_ready e now in
+      (is_waiting f ≡ is_waiting e) × (rsets_among e.due ≤ rsets_among f.due) × (most_due f ≤ most_due e))
+  go true true noted p q = same (with_ready e true) (rw p refl)
+  go false false noted p q = same (with_ready e false) (rw p refl)
+  go true false noted p q =
+      let is : with_ready e false ≡ record e { ready = false; session = record e.session { answered_rnr = false } } = rw p refl in (
+        ap is_waiting is,
+        (let z = ap (λ (x : EndState). rsets_among x.due) is in omega (arith, z)),
+        (let z = ap most_due is in let w = fewer e.session.answered_rnr in omega (arith, z, w)),
+      )
+  go false true true p q =
+      let is : with_ready e true ≡ record e { ready = true; due = e.due ++ Rr_due ∷ []; session = record e.session { answered_rnr = false } } =
+      rw (p, q) refl in (
+        ap is_waiting is,
+        (let z = ap (λ (x : EndState). rsets_among x.due) is in let w = no_fewer e.due Rr_due in omega (arith, z, w)),
+        (let z = ap most_due is in let w = one_more e.due Rr_due in let o = ap (λ b. length e.due + cond b 1 0) q in omega (arith, z, w, o)),
+      )
+  go false true false p q =
+      let is : with_ready e true ≡ record e { ready = true; session = record e.session { answered_rnr = false } } = rw (p, q) refl in (
+        ap is_waiting is,
+        (let z = ap (λ (x : EndState). rsets_among x.due) is in omega (arith, z)),
+        (let z = ap most_due is in let w = fewer e.session.answered_rnr in omega (arith, z, w)),
+      )
+
+turn_turned : (s f : LinkEnd) (x : Turn) → IsTurned s f → IsTurned s (turn f x)
+turn_turned s f (Give m) a = by (give_refusal f m) where
+  by : (o : Option Refused) → IsTurned s (unless o f (given f m))
+  by None = record { waits = a.waits; asks = a.asks; few = a.few }
+  by (Some why) = a
+turn_turned s f (Hold held) a =
+    let z = held_turned f.shdlc (not held) in
+    record {
+      waits = z.0 ∙ a.waits;
+      asks = let v = z.1 in let w = a.asks in omega (arith, v, w);
+      few = let v = z.2 in let w = a.few in omega (arith, v, w);
+    }
+turn_turned s f FetchMessage a = same_turned s f (turn f FetchMessage) refl a
+turn_turned s f SetAside a = by (aside_refusal f) where
+  by : (o : Option Refused) → IsTurned s (unless o f (record f { aside = f.aside + 1 }))
+  by None = record { waits = a.waits; asks = a.asks; few = a.few }
+  by (Some why) = a
+turn_turned s f Release a = same_turned s f (turn f Release) refl a
+
+-- ## A node in a step
+
+module _ (s : LinkEnd) where
+  abbrev pub AreTurned : List Port → Type 0
+  AreTurned ports = AllByRecursion (λ (p : Port). IsTurned s p.side) ports
+
+  abbrev pub IsTurnedWork : Work → Type 0
+  IsTurnedWork w = AreTurned w.ports
+
+  map_turned : (f : Port → Port) → ((p : Port) → IsTurned s p.side → IsTurned s (f p).side) → (ports : List Port) → AreTurned ports → AreTurned (map f ports)
+  map_turned f one [] a = tt
+  map_turned f one (p ∷ ports) a = (one p a.0, map_turned f one ports a.1)
+
+  changed_turned : (b : Bool) (f : Port → Port) (p : Port) → IsTurned s (f p).side → IsTurned s p.side → IsTurned s (changed_if b f p).side
+  changed_turned true f p one a = one
+  changed_turned false f p one a = a
+
+  port_turned : (h : ℕ) (f : Port → Port) → ((p : Port) → IsTurned s p.side → IsTurned s (f p).side) → (ports : List Port) → AreTurned ports
+      → AreTurned (with_port h f ports)
+  port_turned h f one ports a =
+      map_turned (λ (p : Port). changed_if (eqb p.desk.host h) f p) (λ p b. changed_turned (eqb p.desk.host h) f p (one p b) b) ports a
+
+  at_turned : (h : ℕ) (x : Turn) (w : Work) → IsTurnedWork w → IsTurnedWork (turn_at h x w)
+  at_turned h x w a = port_turned h (after_turn x) (λ p b. turn_turned s p.side x b) w.ports a
+
+  desk_turned : (h : ℕ) (f : Desk → Desk) (w : Work) → IsTurnedWork w → IsTurnedWork (with_desk h f w)
+  desk_turned h f w a = port_turned h (λ p. record p { desk = f p.desk }) (λ p b. b) w.ports a
+
+  notified_turned : (h : ℕ) (about : About) (message : List ℕ) (w : Work) → IsTurnedWork w → IsTurnedWork (notified h about message w)
+  notified_turned h about message w a =
+      desk_turned h (λ d. record d { notice = Some (record { about = about; age = 0 }) }) (turn_at h (Give (1, message)) w)
+      (at_turned h (Give (1, message)) w a)
+
+  commit_turned : (c : Command) (w : Work) → IsTurnedWork w → IsTurnedWork (commit c w)
+  commit_turned c w a = go (fails_within (length (commit_writes w.core.journal w.core.tables (body_of c))) w.plan) refl where
+    go : (b : Bool) → fails_within (length (commit_writes w.core.journal w.core.tables (body_of c))) w.plan ≡ b → IsTurnedWork (commit c w)
+    go true q = rw q a
+    go false q = rw q a
+
+  done_turned : (h : ℕ) (d : Deed) (w : Work) → Unit {0} → IsTurnedWork w → IsTurnedWork (done h d w)
+  done_turned h (Commits c) w may a = commit_turned c w a
+  done_turned h (Sends to m) w may a = at_turned to (Give m) w a
+  done_turned h SaysOk w may a = a
+  done_turned h (AsksFor to message c) w may a =
+      notified_turned to (Waits c) message
+      (noting (entry.Ask to message ∷ []) (turn_at c.asker SetAside w)) (at_turned c.asker SetAside w a)
+  done_turned h (Releases asker) w may a = at_turned asker Release w a
+  done_turned h (Tells to message) w may a = notified_turned to Removed message w a
+  done_turned h IsAnswered w may a = desk_turned h (λ d. record d { notice = None }) w a
+  done_turned h (Drops pid) w may a = a
+  done_turned h (SetsErrors errors) w may a = desk_turned h (λ d. record d { errors = errors }) w a
+  done_turned h (Orders message) w may a = at_turned h (Give (1, message)) (record w { core = record w.core { command = Some message } }) a
+  done_turned h Hears w may a = a
+  done_turned h (GoesOn i) w may a = a
+  done_turned h (EndsInit y) w may a = a
+
+  abbrev AnyDeed : Deed → Type 0
+  AnyDeed d = Unit {0}
+
+  abbrev AnyMessage : ℕ → Message → Type 0
+  AnyMessage h m = Unit {0}
+
+  any : {X : Type 0} (xs : List X) → AllByRecursion (λ x. Unit {0}) xs
+  any [] = tt
+  any (x ∷ xs) = (tt, any xs)
+
+  turned_lasts : Lasts IsTurnedWork AnyDeed AnyMessage
+  turned_lasts = record {
+    does = done_turned;
+    turn_told = λ h m w may a. a;
+    held_told = λ h need spare w a. a;
+    fetched = λ h w a. at_turned h FetchMessage w a;
+    held = λ h flag w a. at_turned h (Hold flag) w a;
+    marked = λ h flag w a. desk_turned h (λ d. record d { holds = flag }) w a;
+    come = λ h w a. any (got_at h w);
+    causes = λ h m w may a. any _;
+  }
+
+  without_turned : (p : Port) → IsTurned s p.side → IsTurned s (without_notice p).side
+  without_turned p a = go (is_over p) refl where
+    go : (b : Bool) → is_over p ≡ b → IsTurned s (without_notice p).side
+    go true q = rw q a
+    go false q = rw q a
+
+  forgets_turned : (ports : List Port) (p : Port) → IsTurned s p.side → IsTurned s (forgets ports p).side
+  forgets_turned ports p a = go (is_forgotten ports (asked_at p)) refl where
+    go : (b : Bool) → is_forgotten ports (asked_at p) ≡ b → IsTurned s (forgets ports p).side
+    go true q = rw q a
+    go false q = rw q a
+
+  -- what it does to its ends in a step, once something has come
+  pub steps_turned : (input : NodeInput) (w : Work) → IsTurnedWork (times_out input (all_come input w)) → IsTurnedWork (steps input w)
+  steps_turned input w a =
+      let came : Work = times_out input (all_come input w) in
+      let left : List Port = map (forgets came.ports) came.ports in
+      rest_lasts IsTurnedWork AnyDeed AnyMessage turned_lasts (forgotten came.ports) (flat_map (synced w.core input) w.ports) (all_owed left)
+      (record came { core = after_sessions came.core came.ports; ports = map without_notice left }) (any (forgotten came.ports))
+      (any (flat_map (synced w.core input) w.ports)) (any (all_owed left))
+      (map_turned without_notice without_turned left (map_turned (forgets came.ports) (forgets_turned came.ports) came.ports a))
+
+-- ## Frames that go out
+
+abbrev pub rsets_of : List Control → ℕ
+rsets_of frames = length (filter is_rset frames)
+
+rsets-cons : (c : Control) (cs : List Control) → rsets_of (c ∷ cs) ≡ cond (is_rset c) 1 0 + rsets_of cs
+rsets-cons c cs = go (is_rset c) where
+  go : (b : Bool) → length (cond b (c ∷ filter is_rset cs) (filter is_rset cs)) ≡ cond b 1 0 + rsets_of cs
+  go true = omega arith
+  go false = omega arith
+
+rsets-append : (xs ys : List Control) → rsets_of (xs ++ ys) ≡ rsets_of xs + rsets_of ys
+rsets-append [] ys = omega arith
+rsets-append (x ∷ xs) ys =
+    let z = rsets-append xs ys in let a = rsets-cons x (xs ++ ys) in let b = rsets-cons x xs in omega (arith, z, a, b)
+
+take_and_drop : (k : ℕ) (fs : List Control) → rsets_of (take k fs) + rsets_of (drop k fs) ≡ rsets_of fs
+take_and_drop zero fs = omega arith
+take_and_drop (suc k) [] = omega arith
+take_and_drop (suc k) (f ∷ fs) =
+    let z = take_and_drop k fs in let a = rsets-cons f fs in let b = rsets-cons f (take k fs) in omega (arith, z, a, b)
+
+among_rsets : (n : ℕ) (acts : List ActDue) (fs : List Control) → rsets_of (among n acts fs) ≡ rsets_of fs
+among_rsets n [] fs = refl
+among_rsets n (a ∷ acts) fs =
+    let k : ℕ = a.behind - n in
+    let rest : List Control = among a.behind acts (drop k fs) in
+    let all = rsets-append (take k fs) (ActFrame a.frame false ∷ rest) in
+    let back = among_rsets a.behind acts (drop k fs) in
+    let whole = take_and_drop k fs in
+    omega (arith, all, back, whole)
+
+frames_rsets : (n : ℕ) (e : EndState) → length e.due ≤ n → rsets_among e.due ≤ rsets_of (frames_of n e)
+frames_rsets zero e few = go e.due refl where
+  go : (ds : List Due) → e.due ≡ ds → rsets_among e.due ≤ 0
+  go [] q = rw q (omega arith)
+  go (d ∷ ds) q = absurd (let z = ap (λ (l : List Due). length l) q in omega (arith, few, z))
+frames_rsets (suc n) e few = go e.due refl (λ ds more. frames_rsets n (record e { due = ds }) more) where
+  go : (ds : List Due) → e.due ≡ ds
+      → ((ds : List Due) → length ds ≤ n → rsets_among ds ≤ rsets_of (frames_of n (record e { due = ds }))) → rsets_among e.due ≤ rsets_of (frames_of (suc n) e)
+  go [] q later = rw q (omega arith)
+  go (d ∷ ds) q later = let z = ap (λ (l : List Due). length l) q in rw q (by d (later ds (omega (arith, few, z)))) where
+    by : (d : Due) → rsets_among ds ≤ rsets_of (frames_of n (record e { due = ds }))
+        → rsets_among (d ∷ ds) ≤ rsets_of (control_due e d ∷ frames_of n (record e { due = ds }))
+    by Rset_due z = omega (arith, z)
+    by Rr_due z = z
+    by Rej_due z = z
+    by Rnr_due z = z
+    by Ua_due z = z
+
+-- all RSETs that are due go out
+out_rsets : (f : LinkEnd) → length f.shdlc.due ≤ most_frames → rsets_due f ≤ rsets_of (frames_out f)
+out_rsets f few =
+    let a = among_rsets 0 f.acts (frames_of most_frames f.shdlc) in let b = frames_rsets most_frames f.shdlc few in omega (arith, a, b)
+
+-- and nothing is due behind them
+none_left : (n : ℕ) (e : EndState) → length e.due ≤ n → (after_frames n e).due ≡ []
+none_left zero e few = go e.due refl where
+  go : (ds : List Due) → e.due ≡ ds → e.due ≡ []
+  go [] q = q
+  go (d ∷ ds) q = absurd (let z = ap (λ (l : List Due). length l) q in omega (arith, few, z))
+none_left (suc n) e few =
+    none_left n (fetched e)
+    (fetch_cases (λ f o. length f.due ≤ n) e (λ d ds q. let z = ap (λ (l : List Due). length l) q in omega (arith, few, z))
+    (λ q r. let z = ap (λ (l : List Due). length l) q in omega (arith, z)) (λ info q r. let z = ap (λ (l : List Due). length l) q in omega (arith, z)))
+
+after_waits : (n : ℕ) (e : EndState) → is_waiting (after_frames n e) ≡ is_waiting e
+after_waits zero e = refl
+after_waits (suc n) e =
+    after_waits n (fetched e) ∙ fetch_cases (λ f o. is_waiting f ≡ is_waiting e) e (λ d ds q. refl) (λ q r. refl) (λ info q r. refl)
+
+-- ## Sessions that begin
+
+no_input : (began : Bool) → began ≡ false → began ≡ true → ⊥
+no_input began q r = true≢false (sym r ∙ q)
+
+-- a session begins with a greater number, where each that waits has put an RSET on the link since the last one began
+pub began_more : (e : LinkEnd) (i : LinkInput) (rsets session : ℕ) → session ≤ rsets → (is_waiting e.shdlc ≡ true → session < rsets)
+    → began_by e i ≡ true → session < rsets_since i rsets
+began_more e (Take c) rsets session low waits began = go c (and_parts (is_open e.role) (take_answer e.shdlc c).began began).1 where
+  go : (c : Control) → (take_answer e.shdlc c).began ≡ true → session < rsets_since (Take c) rsets
+  go (Rset window caps) b = omega (arith, low)
+  go (I ns nr info) b = absurd (by e.shdlc.phase refl) where
+    by : (p : LinkState) → e.shdlc.phase ≡ p → ⊥
+    by Up p = no_input (take_answer e.shdlc (I ns nr info)).began (rw p refl) b
+    by Waiting p = no_input (take_answer e.shdlc (I ns nr info)).began (rw p refl) b
+    by Down p = no_input (take_answer e.shdlc (I ns nr info)).began (rw p refl) b
+  go (S kind nr) b = absurd (by e.shdlc.phase refl) where
+    by : (p : LinkState) → e.shdlc.phase ≡ p → ⊥
+    by Up p = no_input (take_answer e.shdlc (S kind nr)).began (rw p refl) b
+    by Waiting p = no_input (take_answer e.shdlc (S kind nr)).began (rw p refl) b
+    by Down p = no_input (take_answer e.shdlc (S kind nr)).began (rw p refl) b
+  go Ua b = by e.shdlc.phase refl where
+    by : (p : LinkState) → e.shdlc.phase ≡ p → session < rsets
+    by Up p = absurd (no_input (take_answer e.shdlc Ua).began (rw p refl) b)
+    by Waiting p = waits (rw p refl)
+    by Down p = absurd (no_input (take_answer e.shdlc Ua).began (rw p refl) b)
+  go (ActFrame act again) b = absurd (by e.shdlc.phase refl) where
+    by : (p : LinkState) → e.shdlc.phase ≡ p → ⊥
+    by Up p = no_input (take_answer e.shdlc (ActFrame act again)).began (rw p refl) b
+    by Waiting p = no_input (take_answer e.shdlc (ActFrame act again)).began (rw p refl) b
+    by Down p = no_input (take_answer e.shdlc (ActFrame act again)).began (rw p refl) b
+  go Clt b = absurd (by e.shdlc.phase refl) where
+    by : (p : LinkState) → e.shdlc.phase ≡ p → ⊥
+    by Up p = no_input (take_answer e.shdlc Clt).began (rw p refl) b
+    by Waiting p = no_input (take_answer e.shdlc Clt).began (rw p refl) b
+    by Down p = no_input (take_answer e.shdlc Clt).began (rw p refl) b
+began_more e TakeUnknown rsets session low waits began = absurd (true≢false (sym began))
+began_more e (TakeBroken fault) rsets session low waits began = absurd (true≢false (sym began))
+began_more e Tick rsets session low waits began = absurd (true≢false (sym began))
+began_more e (Reset window) rsets session low waits began = absurd (true≢false (sym began))
+began_more e (Start value) rsets session low waits began = absurd (true≢false (sym began))
+began_more e Stop rsets session low waits began = absurd (true≢false (sym began))
+began_more e (FromNode x) rsets session low waits began = absurd (true≢false (sym began))
+began_more e Fetch rsets session low waits began = absurd (true≢false (sym began))
+
+-- and the end is up then
+began_up : (e : LinkEnd) (i : LinkInput) → Sound e → began_by e i ≡ true → is_waiting (after_input e i).shdlc ≡ false
+began_up e (Take c) sound began = go (take_so e c sound).shift where
+  f : LinkEnd
+  f = after_input e (Take c)
+
+  up : f.shdlc.phase ≡ Up → is_waiting f.shdlc ≡ false
+  up p = rw p refl
+
+  go : {ended : Bool} → Shift e.shdlc f.shdlc ended (began_by e (Take c)) → is_waiting f.shdlc ≡ false
+  go (Stays p q g) = absurd (true≢false (sym began ∙ q))
+  go (Ends p q u n s) = absurd (true≢false (sym began ∙ q))
+  go (Renews p q u new) = up new.is
+  go (Begins p q n new) = up new.is
+  go (Rests p q n m s) = absurd (true≢false (sym began ∙ q))
+began_up e TakeUnknown sound began = absurd (true≢false (sym began))
+began_up e (TakeBroken fault) sound began = absurd (true≢false (sym began))
+began_up e Tick sound began = absurd (true≢false (sym began))
+began_up e (Reset window) sound began = absurd (true≢false (sym began))
+began_up e (Start value) sound began = absurd (true≢false (sym began))
+began_up e Stop sound began = absurd (true≢false (sym began))
+began_up e (FromNode x) sound began = absurd (true≢false (sym began))
+began_up e Fetch sound began = absurd (true≢false (sym began))
+
+since_more : (i : LinkInput) (rsets : ℕ) → rsets ≤ rsets_since i rsets
+since_more (Take c) rsets = go (is_rset c) where
+  go : (b : Bool) → rsets ≤ cond b (rsets + 1) rsets
+  go true = omega arith
+  go false = omega arith
+since_more TakeUnknown rsets = omega arith
+since_more (TakeBroken fault) rsets = omega arith
+since_more Tick rsets = omega arith
+since_more (Reset window) rsets = omega arith
+since_more (Start value) rsets = omega arith
+since_more Stop rsets = omega arith
+since_more (FromNode x) rsets = omega arith
+since_more Fetch rsets = omega arith
+
+-- ## Between events
+
+-- All that was due went out; the last session has no greater number than RSETs were put and taken, and a smaller one where the end waits.
+pub record IsNumbered (e : LinkEnd) (session rsets : ℕ) : Type 0 where
+  pub emptied : e.shdlc.due ≡ []
+  pub low : session ≤ rsets
+  pub waits : is_waiting e.shdlc ≡ true → session < rsets
+
+pub numbered_then : (e : LinkEnd) (session rsets : ℕ) → IsNumbered e session rsets → Sound e → (i : LinkInput) → IsLoneInput i → (f : LinkEnd)
+    → IsTurned (after_input e i) f
+    → IsNumbered (sent_all f) (cond (began_by e i) (rsets_since i rsets) session) (rsets_since i rsets + rsets_of (frames_out f))
+numbered_then e session rsets a sound i may f turned = go (began_by e i) refl where
+  s : LinkEnd
+  s = after_input e i
+
+  input : IsAsked e.shdlc s
+  input = input_asked e i may
+
+  few : length f.shdlc.due ≤ most_frames
+  few =
+      let one = input.0 in
+      let none = ap (λ (l : List Due). length l) a.emptied in
+      let turns = turned.few in
+      let rnr = at_most s.shdlc.session.answered_rnr in
+      let less = at_least f.shdlc.session.answered_rnr in
+      omega (arith, one, none, turns, rnr, less)
+    where
+      at_most : (b : Bool) → cond b 1 0 ≤ 1
+      at_most true = omega arith
+      at_most false = omega arith
+
+      at_least : (b : Bool) → 0 ≤ cond b 1 0
+      at_least true = omega arith
+      at_least false = omega arith
+
+  emptied : (sent_all f).shdlc.due ≡ []
+  emptied = none_left most_frames f.shdlc few
+
+  waits : is_waiting (sent_all f).shdlc ≡ is_waiting s.shdlc
+  waits = after_waits most_frames f.shdlc ∙ turned.waits
+
+  more : rsets ≤ rsets_since i rsets
+  more = since_more i rsets
+
+  out : rsets_due f ≤ rsets_of (frames_out f)
+  out = out_rsets f few
+
+  late : is_waiting s.shdlc ≡ true → (b : Bool) → is_waiting e.shdlc ≡ b → session < rsets_since i rsets + rsets_of (frames_out f)
+  late q true z = let less = a.waits z in omega (arith, less, more)
+  late q false z = by (input.1 z) where
+    by : (is_waiting s.shdlc ≡ false) ⊎ (1 ≤ rsets_due s) → session < rsets_since i rsets + rsets_of (frames_out f)
+    by (inl off) = absurd (true≢false (sym q ∙ off))
+    by (inr some) = let low = a.low in let asks = turned.asks in omega (arith, some, low, asks, out, more)
+
+  go : (b : Bool) → began_by e i ≡ b → IsNumbered (sent_all f) (cond b (rsets_since i rsets) session) (rsets_since i rsets + rsets_of (frames_out f))
+  go true q = record { emptied = emptied; low = omega arith; waits = λ z. absurd (true≢false (sym z ∙ (waits ∙ began_up e i sound q))) }
+  go false q = record {
+    emptied = emptied;
+    low = let low = a.low in omega (arith, low, more);
+    waits = λ z. late (sym waits ∙ z) (is_waiting e.shdlc) refl;
+  }
