@@ -60,9 +60,9 @@ pub fn quiet_session_has_delivered_all()
 {}
 
 /// Where a reset was asked for at an end, or at the controller's in place of its tick, not refused, while the other end was active
-/// and not waiting, and in what was noted behind it no frame was lost, no RSET put on the link and no end started, stopped or cut
-/// off, both ends are up with one number once both wires are empty, all as it is noted. Two ends that are active stay so as long as
-/// none is started, stopped or cut off, so that no end that isn't active takes a frame then.
+/// and not waiting, and in what was noted behind it no frame was lost but of activation, no RSET put on the link and no end started,
+/// stopped or cut off, both ends are up with one number once both wires hold no frames but of activation, all as it is noted. Two ends
+/// that are active stay so as long as none is started, stopped or cut off, so that no end that isn't active takes a frame then.
 pub fn reset_brings_both_up()
     ensures { (l : Link) → IsStart l → (before : List LinkEvent) (reset : LinkEvent) (behind : List LinkEvent) →
         AllAllowed l (before ++ reset ∷ behind) → IsSettledSince (trace l (before ++ reset ∷ behind)) (after_link_events l before) reset behind →

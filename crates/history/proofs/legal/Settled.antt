@@ -12,6 +12,7 @@ use Rattle.trace_model.specs.Ends.{other_end}
 use Rattle.trace_model.specs.Lines.{IsLineOf, IsHeader}
 use Rattle.shdlc_core.specs.Machine.{is_waiting}
 use Rattle.link_laws.specs.machine.Machine.{reset_refusal}
+use Rattle.link_laws.specs.places.Wire.{sans}
 use Rattle.link_laws.specs.messages.Links.Ending.{GoesOut}
 use Rattle.link_laws.specs.messages.Links.Comes.{AsksReset}
 use Rattle.link_laws.specs.messages.Links.EndEvent.{Step as EndStep}
@@ -117,7 +118,7 @@ run_together before reset behind a asked alone undisturbed near there =
     let m : Link = link_after_all bare_link (causes_of before) in
     let V : List Noted → Type 0 = λ z. list_any withholds (z ++ entries (happens m e) fs) ≡ false in
     let law : P (es ++ e ∷ fs) =
-    λ b c d. together bare_link IsBare es e fs b (subst R (sym same) asked) (subst W (sym same) (subst V (sym alone) undisturbed)) c d in
+    λ b c d. together bare_link IsBare es e fs b (subst R (sym same) asked) (subst W (sym same) (subst V (sym alone) undisturbed)) (ap sans c) (ap sans d) in
     subst P (sym is) law a near there
 
 -- ## Entries

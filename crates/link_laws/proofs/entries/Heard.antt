@@ -2,6 +2,7 @@
 use Rattle.std.proofs.Common.{◌≡◌, ℕ, List, [], ◌∷◌, ◌++◌, Option, Some, None, refl, ap, sym, subst, ◌∙◌}
 use Rattle.link_laws.proofs.sessions.Steps.{safe_aged}
 use Rattle.link_laws.proofs.machine.Runs.{Sound}
+use Rattle.link_laws.specs.places.Wire.{sans}
 use Rattle.link_laws.specs.messages.Links.{NumberedEnd, Link, IsStart, EndEvent, LinkEvent, number_of, exchanged, happens_at_controller, happens}
 use Rattle.link_laws.specs.messages.Links.{all_at_controller}
 use Rattle.link_laws.specs.messages.Links.{ticks_at_controller, aged, after_link_events, CanStart, IsUicc, IsNode, AreOwn, IsEvent, AllAllowed}
@@ -196,8 +197,8 @@ settled l s before reset behind a q =
     let es : List LinkEvent = before ++ reset ∷ behind in
     let m : Link = after_link_events l es in
     let seen = read_off l s es in
-    let up = together l s before reset behind a q.asked q.undisturbed (sym (ap (λ (z : Seen). z.to_controller) seen) ∙ q.to_controller)
-    (sym (ap (λ (z : Seen). z.to_host) seen) ∙ q.to_host) in
+    let up = together l s before reset behind a q.asked q.undisturbed (sym (ap (λ (z : Seen). sans z.to_controller) seen) ∙ q.to_controller)
+    (sym (ap (λ (z : Seen). sans z.to_host) seen) ∙ q.to_host) in
     record {
       number = number_of m.controller;
       controller = controller_heard l s es a ∙ up_session m.controller up.controller;

@@ -1,7 +1,7 @@
 -- From a reset on that finds the other end active and not waiting its answer is not kept back, where nothing is noted that
 -- withholds it.
 use Rattle.std.proofs.Common.{◌≡◌, ℕ, suc, Bool, true, false, List, [], ◌∷◌, ◌++◌, Option, Some, None, ◌⊎◌, inl, inr, refl, ap, sym, subst, ◌∙◌}
-use Rattle.std.specs.Prelude.{is_some}
+use Rattle.std.specs.Prelude.{not, is_some}
 use Rattle.std.specs.List.{list_any}
 use Rattle.std.proofs.lemmas.Bool.{true≢false}
 use Rattle.swp_base.specs.declared.control_frames.Control.{Control}
@@ -15,6 +15,7 @@ use Rattle.shdlc_core.specs.declared.answers.Due.{Due}
 use Rattle.shdlc_core.specs.declared.answers.Due.TheVariants.{Rr as Rr_due, Rset as Rset_due}
 use Rattle.shdlc_core.specs.Machine.{EndState, Fragment, due_left, reset_with, is_waiting, frames_of, most_frames, stopped, taken, take_answer}
 use Rattle.link_laws.proofs.places.Joined.{ready_cases, changed}
+use Rattle.link_laws.specs.places.Wire.{is_act}
 use Rattle.link_laws.specs.sessions.Sessions.{OnWire, ShdlcLink as CoreLink, ShdlcTurn as CoreTurn, ShdlcEndEvent as CoreEndEvent, shdlc_turn as core_turn}
 use Rattle.link_laws.specs.sessions.Sessions.{shdlc_turned as core_turned, is_rset, shdlc_happens_at_controller as core_happens_here}
 use Rattle.link_laws.specs.sessions.Sessions.ShdlcTurn.{Offer, SetReady}
@@ -228,7 +229,10 @@ lost_spares s who l why p q = go l.to_controller refl
   where
     go : (w : List OnWire) → l.to_controller ≡ w → sure_turns s (core_of l) (core_here l (Lose why)) ≡ true
     go [] r = rw (r, p) refl
-    go (x ∷ xs) r = absurd (let z : Spared (here_entries who l (Lose why)) = q in true≢false (rw r at z))
+    go (x ∷ xs) r =
+        let z : Spared (here_entries who l (Lose why)) = q in
+        let kept : not (is_act x.frame) ≡ false = (or_none (not (is_act x.frame)) false (rw r at z)).0 in
+        rw (r, p) (ap not kept)
 
 -- a frame is taken
 frame_spares : (s : Bool) (who : End) (l : Link) (ts : List Turn) → AreSendableTurns ts → Before l → is_open l.controller.side.role ≡ true

@@ -39,9 +39,9 @@ use Rattle.link_laws.proofs.entries.Disturbing.{left_core}
 
 -- ## What keeps an answer back
 
--- a frame is lost, or RSET put on the link
+-- a frame is lost that isn't of activation, or RSET put on the link
 abbrev pub spoils : Entry → Bool
-spoils (Lost who c why) = true
+spoils (Lost who c why) = not (is_act c)
 spoils (Emit who c) = is_rset c
 spoils _ = false
 
@@ -79,7 +79,8 @@ stands_parts t u s = any_parts silences t u s
 
 pub none_withheld : (t : List Entry) → Spared t → Stands t → list_any withholds t ≡ false
 none_withheld [] a b = refl
-none_withheld (Lost who c why ∷ t) a b = absurd (true≢false a)
+none_withheld (Lost who c why ∷ t) a b =
+    let x = or_none (not (is_act c)) (list_any spoils t) a in none_or (not (is_act c)) (list_any withholds t) x.0 (none_withheld t x.1 b)
 none_withheld (Restarted who ∷ t) a b = absurd (true≢false b)
 none_withheld (Cut who ∷ t) a b = absurd (true≢false b)
 none_withheld (Emit who c ∷ t) a b =
@@ -89,7 +90,10 @@ none_withheld (_ ∷ t) a b = none_withheld t a b
 -- nothing withholds an answer
 pub none_withholds : (t : List Entry) → list_any withholds t ≡ false → Spared t × Stands t
 none_withholds [] q = (refl, refl)
-none_withholds (Lost who c why ∷ t) q = absurd (true≢false q)
+none_withholds (Lost who c why ∷ t) q =
+    let a = or_none (not (is_act c)) (list_any withholds t) q in
+    let r = none_withholds t a.1 in
+    (none_or (not (is_act c)) (list_any spoils t) a.0 r.0, r.1)
 none_withholds (Restarted who ∷ t) q = absurd (true≢false q)
 none_withholds (Cut who ∷ t) q = absurd (true≢false q)
 none_withholds (Emit who c ∷ t) q =
@@ -115,7 +119,7 @@ none_over who (y ∷ ys) a b s = go (nat_lt 64 (length (y ∷ (ys ++ b ∷ [])))
     go false q = rw q refl
     go true q =
         let long : nat_lt 64 (length (y ∷ (ys ++ a ∷ []))) ≡ true = ap (nat_lt 64) (long_as (y ∷ ys) a b) ∙ q in
-        absurd (let z = subst P long s in true≢false z)
+        let z : Spared (Lost who y.frame TooMany ∷ []) = subst P long s in rw q ((or_none (not (is_act y.frame)) false z).0)
 
 put_sure : (s : Bool) (who : End) (l : Link) (c : Control) → s ≡ true → Spared (put_entries who l c) → sure_put s (core_of l) c ≡ true
 put_sure s who l c p q =

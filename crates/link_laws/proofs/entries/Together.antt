@@ -1,6 +1,6 @@
 -- A reset whose answer nothing withheld has brought both ends up.
 use Rattle.std.proofs.Common.{◌≡◌, ℕ, Bool, true, false, List, [], ◌∷◌, ◌++◌, map, Option, Some, refl, ap, sym, subst, ◌∙◌}
-use Rattle.std.specs.Prelude.{is_some, nat_lt}
+use Rattle.std.specs.Prelude.{is_some, nat_lt, not}
 use Rattle.std.specs.List.{list_any}
 use Rattle.std.proofs.lemmas.Bool.{true≢false}
 use Rattle.shdlc_core.specs.Machine.{is_waiting}
@@ -40,7 +40,7 @@ use Rattle.link_laws.proofs.entries.Running.{after_tick, without_tick}
 use Rattle.link_laws.proofs.entries.Running.{IsUnderWay, goes_on, start_under_way}
 use Rattle.link_laws.proofs.entries.Noting.{reset_role}
 use Rattle.link_laws.proofs.entries.Stepping.{host_finished}
-use Rattle.link_laws.proofs.entries.Sparing.{Spared, Stands, spared_parts, stands_parts, none_withholds, rest_sure, tick_sure}
+use Rattle.link_laws.proofs.entries.Sparing.{spoils, Spared, Stands, or_none, spared_parts, stands_parts, none_withholds, rest_sure, tick_sure}
 use Rattle.link_laws.proofs.entries.Settling.{Spares, rest_cut, reset_sure, own_spares, here_spares}
 
 -- ## How far it is kept back, over what happens at one end
@@ -89,7 +89,11 @@ none_aged who (x ∷ xs) q = go (nat_lt x.age 4) (is_act x.frame) refl refl (non
   where
     go : (a b : Bool) → nat_lt x.age 4 ≡ a → is_act x.frame ≡ b → (Spared (aged_entries who xs) → loses_aged (sans xs) ≡ false)
         → loses_aged (sans (x ∷ xs)) ≡ false
-    go false b r s later = absurd (let z : Spared (aged_entries who (x ∷ xs)) = q in true≢false (rw r at z))
+    go false true r s later =
+        let z : Spared (aged_entries who (x ∷ xs)) = q in rw s (later (or_none (not (is_act x.frame)) (list_any spoils (aged_entries who xs)) (rw r at z)).1)
+    go false false r s later =
+        let z : Spared (aged_entries who (x ∷ xs)) = q in
+        absurd (true≢false (sym (ap not s) ∙ (or_none (not (is_act x.frame)) (list_any spoils (aged_entries who xs)) (rw r at z)).0))
     go true true r s later = let z : Spared (aged_entries who (x ∷ xs)) = q in rw s (later (rw r at z))
     go true false r s later = let z : Spared (aged_entries who (x ∷ xs)) = q in rw (s, r) (later (rw r at z))
 
@@ -422,11 +426,11 @@ run_sure (x ∷ before) e behind t s l a w is none =
     sure_first s l x (before ++ e ∷ behind) (event_step l x a.0 w.good w.reached).core
     ∙ run_sure before e behind (t ++ event_entries l x) (sure_after s (core_of l) (core_event l x)) m a.1 (goes_on l x a.0 w) is none
 
--- where nothing withheld the answer to a reset, and both wires are empty now
+-- where nothing withheld the answer to a reset, and both wires hold no frames now but of activation
 pub together : (l : Link) → IsStart l → (before : List LinkEvent) (reset : LinkEvent) (behind : List LinkEvent) → AllAllowed l (before ++ reset ∷ behind)
     → IsReset (after_link_events l before) reset
     → list_any withholds (rest_of (after_link_events l before) reset ++ entries (happens (after_link_events l before) reset) behind) ≡ false
-    → (after_link_events l (before ++ reset ∷ behind)).to_controller ≡ [] → (after_link_events l (before ++ reset ∷ behind)).to_host ≡ []
+    → sans (after_link_events l (before ++ reset ∷ behind)).to_controller ≡ [] → sans (after_link_events l (before ++ reset ∷ behind)).to_host ≡ []
     → LinkTogether (after_link_events l (before ++ reset ∷ behind))
 together l s before reset behind a asked undisturbed near there =
     let none = none_withholds (rest_of (after_link_events l before) reset ++ entries (happens (after_link_events l before) reset) behind) undisturbed in
@@ -435,6 +439,6 @@ together l s before reset behind a asked undisturbed near there =
       undisturbed =
           run_sure before reset behind (first_entries l.controller.side.role) false l a (start_under_way l s) asked
           (record { spared = none.0; stands = none.1 });
-      to_controller = ap sans near;
-      to_host = ap sans there;
+      to_controller = near;
+      to_host = there;
     })

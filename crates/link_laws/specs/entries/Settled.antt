@@ -1,8 +1,9 @@
--- Where nothing kept the answer to a reset back, and nothing is on its way, both ends are up together.
-use Rattle.std.specs.Prelude.{◌≡◌, ℕ, Bool, true, false, List, [], ◌∷◌, ◌++◌, Some, None}
+-- Where nothing kept the answer to a reset back, and nothing is on its way but frames of activation, both ends are up together.
+use Rattle.std.specs.Prelude.{◌≡◌, ℕ, Bool, true, false, not, List, [], ◌∷◌, ◌++◌, Some, None}
 use Rattle.std.specs.List.{list_any}
 use Rattle.shdlc_core.specs.Machine.{is_waiting}
 use Rattle.link_laws.specs.machine.Machine.{is_open, reset_refusal}
+use Rattle.link_laws.specs.places.Wire.{is_act, sans}
 use Rattle.link_laws.specs.sessions.Sessions.{is_rset}
 use Rattle.link_laws.specs.messages.Links.{Link, LinkEvent, exchanged, aged, all_at_controller, happens_at_controller, happens}
 use Rattle.link_laws.specs.messages.Links.Ending.{GoesOut}
@@ -15,9 +16,9 @@ use Rattle.link_laws.specs.entries.Reading.{nothing_seen, see_all}
 use Rattle.link_laws.specs.entries.Sessions.{session_in}
 use Rattle.link_laws.specs.entries.Entries.Entry.{Emit, Lost, Restarted, Cut}
 
--- a frame is lost, RSET is put on the link, or an end is started, stopped or cut off, which empties both wires
+-- a frame is lost that isn't of activation, RSET is put on the link, or an end is started, stopped or cut off, which empties both wires
 abbrev pub withholds : Entry → Bool
-withholds (Lost who frame why) = true
+withholds (Lost who frame why) = not (is_act frame)
 withholds (Emit who frame) = is_rset frame
 withholds (Restarted who) = true
 withholds (Cut who) = true
@@ -44,12 +45,12 @@ rest_of l (TicksWithout (reset ∷ events) node) =
 rest_of l _ = []
 
 -- t is all that is noted of a link up to now. Where l is the link before a reset, which was such a one, nothing that was noted behind
--- it withholds its answer, and now both wires are empty.
+-- it withholds its answer, and now both wires hold no frames but of activation.
 pub record IsSettledSince (t : List Entry) (l : Link) (reset : LinkEvent) (behind : List LinkEvent) : Type 0 where
   pub asked : IsReset l reset
   pub undisturbed : list_any withholds (rest_of l reset ++ entries (happens l reset) behind) ≡ false
-  pub to_controller : (see_all nothing_seen t).to_controller ≡ []
-  pub to_host : (see_all nothing_seen t).to_host ≡ []
+  pub to_controller : sans (see_all nothing_seen t).to_controller ≡ []
+  pub to_host : sans (see_all nothing_seen t).to_host ≡ []
 
 -- both ends are up with one number, as it is noted
 pub record AreNotedUpTogether (t : List Entry) : Type 0 where

@@ -2,7 +2,8 @@
 use Rattle.std.proofs.Common.{◌≡◌, refl, ap, sym, true, true≢false, List, [], ◌∷◌, ◌++◌, get_or, arith, Option, Some, None}
 use Rattle.std.specs.Prelude.{is_some, unwrap_or}
 use Rattle.trace_model.specs.declared.entry.Entry.{Entry}
-use Rattle.trace_model.specs.declared.entry.Entry.TheVariants.{Down, Emit, Took, Active, Command}
+use Rattle.trace_model.specs.declared.entry.Entry.TheVariants.{Down, Emit, Took, Lost, Active, Command}
+use Rattle.trace_model.specs.declared.entry.LostCause.TheVariants as lost
 use Rattle.swp_base.specs.declared.link_terms.Cause.TheVariants.{Asked}
 use Rattle.hci_tables.specs.declared.command.Command.TheVariants as command
 use Rattle.journal_laws.specs.Records.{found_from}
@@ -61,6 +62,24 @@ reset_and_not_up w = true≢false (sym (ap is_some (w.legal.complete.upheld acti
       left = record { undisturbed = refl; unopened = refl; to_controller = refl; to_host = refl };
     }
 
+-- nor is it so where a frame of activation is lost behind that, and another one is on its way
+abbrev activation_goes_on : Occurrence
+activation_goes_on = host_takes (Lost (end_h 2) (98 ∷ 0 ∷ []) lost.Asked ∷ Emit (end_h 2) (96 ∷ []) ∷ [])
+
+reset_over_activation_and_not_up : LegalWorld (told (activated ++ asks ∷ activation_goes_on ∷ [])) → ⊥
+unfolding found_from hosts_where lowest_free
+reset_over_activation_and_not_up w =
+    true≢false (sym (ap is_some (w.legal.complete.upheld activated asks (activation_goes_on ∷ []) [] (end_h 2) None refl upheld).up.host))
+  where
+    upheld : IsUpheld activated asks (activation_goes_on ∷ []) (end_h 2) None
+    upheld = record {
+      cause = refl;
+      active = refl;
+      free = refl;
+      powered = refl;
+      left = record { undisturbed = refl; unopened = refl; to_controller = refl; to_host = refl };
+    }
+
 -- the controller's end is reset in a tick, and no RSET is put on the wire
 abbrev ends : Occurrence
 ends = record { cause = Ticks; entries = Down (end_c 2) Asked ∷ [] }
@@ -70,6 +89,27 @@ unfolding found_from hosts_where lowest_free
 reset_in_a_tick_and_not_up w = true≢false (sym (ap is_some (w.legal.complete.upheld_in_ticks activated ends [] [] 2 refl upheld).up.host))
   where
     upheld : IsUpheldInTick activated ends [] 2
+    upheld = record {
+      cause = refl;
+      reset = refl;
+      active = refl;
+      free = refl;
+      powered = refl;
+      lossless = refl;
+      alone = refl;
+      left = record { undisturbed = refl; unopened = refl; to_controller = refl; to_host = refl };
+    }
+
+-- nor is it so where a frame was too old before that in its tick
+abbrev ends_behind_an_old_frame : Occurrence
+ends_behind_an_old_frame = record { cause = Ticks; entries = Lost (end_h 2) (230 ∷ []) lost.Age ∷ Down (end_c 2) Asked ∷ [] }
+
+reset_behind_an_old_frame_and_not_up : LegalWorld (told (activated ++ ends_behind_an_old_frame ∷ [])) → ⊥
+unfolding found_from hosts_where lowest_free
+reset_behind_an_old_frame_and_not_up w =
+    true≢false (sym (ap is_some (w.legal.complete.upheld_in_ticks activated ends_behind_an_old_frame [] [] 2 refl upheld).up.host))
+  where
+    upheld : IsUpheldInTick activated ends_behind_an_old_frame [] 2
     upheld = record {
       cause = refl;
       reset = refl;

@@ -9,7 +9,7 @@ use Rattle.trace_model.specs.declared.line.End.{End}
 use Rattle.trace_model.specs.declared.line.Line.TheVariants as line
 use Rattle.trace_model.specs.Ends.{other_end}
 use Rattle.shdlc_core.specs.Machine.{is_waiting}
-use Rattle.link_laws.specs.sessions.Sessions.{OnWire}
+use Rattle.link_laws.specs.places.Wire.{sans}
 use Rattle.link_laws.specs.machine.Machine.{Refused, Turn, is_open, reset_refusal}
 use Rattle.link_laws.specs.machine.Machine.LinkInput.{Reset}
 use Rattle.link_laws.specs.messages.Links.{Link, Ending, Comes, LinkEvent, exchanged, number_of, happens, IsWindow}
@@ -43,7 +43,8 @@ use Rattle.node_laws.proofs.telling.Nodes.{site_host, link_is}
 use Rattle.node_laws.proofs.telling.Worlds.{host_does_step}
 use Rattle.node_laws.proofs.telling.Events.{site_map}
 use Rattle.node_laws.specs.order.Told.{AreSessionsRead, AreBothUp, frames_on}
-use Rattle.node_laws.specs.order.Resets.{cuts_on}
+use Rattle.node_laws.specs.order.Resets.{IsFreeOfLinkFrames, cuts_on}
+use Rattle.node_laws.proofs.order.Activations.{sans_none}
 use Rattle.node_laws.proofs.order.Watches.{IsStepOf, WatchedLink, IsSince, no_cut, since_reset, input_cut}
 use Rattle.node_laws.proofs.order.Knowing.{Each, was_there}
 use Rattle.node_laws.proofs.order.Unnoticed.{steps_none}
@@ -190,17 +191,14 @@ module _ (w : NodeWorld) (t : List Entry) (X : ℕ → WatchedLink) (a : IsWell 
 
 -- ## Both ends are up
 
-no_frames : (w : List OnWire) → frames_on w ≡ [] → w ≡ []
-no_frames [] q = refl
-no_frames (x ∷ w) q = absurd (cc q)
-
--- where nothing withheld the answer and both wires are empty
+-- where nothing withheld the answer and both wires hold no frames but of activation
 pub brought_up : (h : ℕ) (l : Link) (t : List Entry) (x : Standing) → AreSessionsRead t h l → IsSince l → x.to_controller ≡ frames_on l.to_controller
-    → x.to_host ≡ frames_on l.to_host → x.to_controller ≡ [] → x.to_host ≡ [] → AreBothUp t h
+    → x.to_host ≡ frames_on l.to_host → IsFreeOfLinkFrames x.to_controller → IsFreeOfLinkFrames x.to_host → AreBothUp t h
 brought_up h l t x read a near far to_controller to_host =
-    let P : Link → Type 0 = λ k. k.to_controller ≡ [] → k.to_host ≡ [] → AreUpTogether k in
+    let P : Link → Type 0 = λ k. sans k.to_controller ≡ [] → sans k.to_host ≡ [] → AreUpTogether k in
     let law : P l = subst P a.run.is (together new_line IsLine a.before a.reset a.behind a.run.allowed a.asked a.undisturbed) in
-    let both : AreUpTogether l = law (no_frames l.to_controller (sym near ∙ to_controller)) (no_frames l.to_host (sym far ∙ to_host)) in
+    let both : AreUpTogether l =
+    law (sans_none l.to_controller (subst IsFreeOfLinkFrames near to_controller)) (sans_none l.to_host (subst IsFreeOfLinkFrames far to_host)) in
     record {
       number = number_of l.controller;
       up = record {

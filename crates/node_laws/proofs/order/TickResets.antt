@@ -1,6 +1,7 @@
 -- A tick in which the controller's end of a link is reset, as its notice is late, is read off what is noted of it.
 use Rattle.std.proofs.Common.{◌≡◌, ℕ, Bool, true, false, List, [], ◌∷◌, ◌++◌, Option, Some, None, map, refl, ap, sym, ◌∙◌}
-use Rattle.std.specs.Prelude.{◌+◌, ◌||◌, is_some, nat_lt, option_to_list, if◌then◌else◌}
+use Rattle.std.proofs.Common.{cond, append_assoc}
+use Rattle.std.specs.Prelude.{◌+◌, ◌||◌, not, is_some, nat_lt, option_to_list, if◌then◌else◌}
 use Rattle.std.specs.List.{AllByRecursion, list_any}
 use Rattle.std.proofs.lemmas.Bool.{true≢false}
 use Rattle.std.proofs.lemmas.List.Folds.{list_any-append}
@@ -25,6 +26,7 @@ use Rattle.link_laws.specs.messages.Links.Ending.{GoesOut, CutOff}
 use Rattle.link_laws.specs.messages.Links.Comes.{AsksReset}
 use Rattle.link_laws.specs.messages.Links.EndEvent.{Step}
 use Rattle.link_laws.specs.messages.Links.LinkEvent.{TicksWithout}
+use Rattle.link_laws.specs.places.Wire.{is_act}
 use Rattle.link_laws.specs.sessions.Sessions.{is_rset}
 use Rattle.link_laws.specs.entries.Entries.{End as Side, Entry as Noted, if_so, told, told_of, turn_entries, puts_entries, rest_entries, tick_entries}
 use Rattle.link_laws.specs.entries.Entries.{step_entries, aged_entries, event_entries}
@@ -34,17 +36,16 @@ use Rattle.link_laws.specs.entries.Settled.{withholds, FindsReady}
 use Rattle.link_laws.proofs.entries.Lasting.{same_number}
 use Rattle.link_laws.proofs.entries.Sparing.{or_none}
 use Rattle.history.specs.Filters.{said}
-use Rattle.history.specs.Legal.{loses_on, has_lost}
-use Rattle.history.specs.Steps.{end_of, entries_for}
-use Rattle.history.proofs.legal.Reading.{link_same}
+use Rattle.history.specs.Steps.{end_of, entries_for, lost_as}
 use Rattle.node_machine.specs.world.World.{end_c, end_h}
 use Rattle.node_laws.specs.links.Runs.{IsRunOf}
 use Rattle.node_laws.specs.telling.Telling.{tells_of, of_link}
-use Rattle.node_laws.specs.order.Resets.{cuts_on, asks_at}
+use Rattle.node_laws.specs.order.Resets.{asks_at, behind_reset_of, cuts_on, loses_one_on}
 use Rattle.node_laws.specs.answers.Unasked.{is_own_reset, is_reset_down}
 use Rattle.node_laws.proofs.telling.Accounts.{untold}
 use Rattle.node_laws.proofs.telling.WorldTicks.{tick_event}
 use Rattle.node_laws.proofs.order.Listing.{Holds, are-append, are_so, are_mapped, are_last, are_turns, are_puts, are_aged}
+use Rattle.node_laws.proofs.order.Activations.{kept_act}
 use Rattle.node_laws.proofs.order.Watches.{IsStepOf, IsSince, is_cut, no_cut, spoils_none, since_reset, input_cut}
 
 -- ## Notes of a reset
@@ -223,11 +224,34 @@ module _ (h : ℕ) where
       → list_any f t ≡ list_any f u
   alike f off t u q = kept_any f off t ∙ (ap (list_any f) q ∙ sym (kept_any f off u))
 
+  -- behind a reset of the controller's end
+  kept_behind : (f : Entry → Bool) → ((e : Entry) → tells_of h e ≡ false → f e ≡ false)
+      → ((e : Entry) → tells_of h e ≡ false → is_reset_down (end_c h) e ≡ false) → (t : List Entry)
+      → list_any f (behind_reset_of (end_c h) t) ≡ list_any f (behind_reset_of (end_c h) (of_link h t))
+  kept_behind f off down [] = refl
+  kept_behind f off down (e ∷ t) = go (tells_of h e) refl (kept_behind f off down t)
+    where
+      by : (b : Bool) → list_any f (behind_reset_of (end_c h) t) ≡ list_any f (behind_reset_of (end_c h) (of_link h t))
+          → list_any f (cond b t (behind_reset_of (end_c h) t)) ≡ list_any f (cond b (of_link h t) (behind_reset_of (end_c h) (of_link h t)))
+      by true later = kept_any f off t
+      by false later = later
+
+      go : (b : Bool) → tells_of h e ≡ b → list_any f (behind_reset_of (end_c h) t) ≡ list_any f (behind_reset_of (end_c h) (of_link h t))
+          → list_any f (behind_reset_of (end_c h) (e ∷ t)) ≡ list_any f (behind_reset_of (end_c h) (of_link h (e ∷ t)))
+      go true q later = rw q (by (is_reset_down (end_c h) e) later)
+      go false q later = rw q (ap (λ b. list_any f (cond b t (behind_reset_of (end_c h) t))) (down e q) ∙ later)
+
+  alike_behind : (f : Entry → Bool) → ((e : Entry) → tells_of h e ≡ false → f e ≡ false)
+      → ((e : Entry) → tells_of h e ≡ false → is_reset_down (end_c h) e ≡ false) → (t u : List Entry) → of_link h t ≡ of_link h u
+      → list_any f (behind_reset_of (end_c h) t) ≡ list_any f (behind_reset_of (end_c h) u)
+  alike_behind f off down t u q =
+      kept_behind f off down t ∙ (ap (λ l. list_any f (behind_reset_of (end_c h) l)) q ∙ sym (kept_behind f off down u))
+
   down_off : (e : Entry) → tells_of h e ≡ false → is_reset_down (end_c h) e ≡ false
   down_off (entry.Down f cause) q = rw q refl
   down_off e q = refl
 
-  lost_off : (e : Entry) → tells_of h e ≡ false → loses_on h (said e) ≡ false
+  lost_off : (e : Entry) → tells_of h e ≡ false → loses_one_on h e ≡ false
   lost_off e q = (or_none _ _ (spoils_none h (said e) (untold h e q))).0
 
   asks_off : (e : Entry) → tells_of h e ≡ false → asks_at (end_h h) e ≡ false
@@ -241,14 +265,45 @@ module _ (h : ℕ) where
   asked_notes (Down Host cause ∷ t) = let q = same_number h in rw q (asked_notes t)
   asked_notes (_ ∷ t) = asked_notes t
 
+  -- a frame is lost that isn't of activation
   abbrev is_lost : Noted → Bool
-  is_lost (Lost w c why) = true
+  is_lost (Lost w c why) = not (is_act c)
   is_lost _ = false
 
-  lost_notes : (t : List Noted) → list_any (λ e. loses_on h (said e)) (entries_for h t) ≡ list_any is_lost t
-  lost_notes [] = refl
-  lost_notes (Lost w c why ∷ t) = ap (λ b. b || list_any (λ e. loses_on h (said e)) (entries_for h t)) (link_same h w)
-  lost_notes (_ ∷ t) = lost_notes t
+  lost_notes : (t : List Noted) → list_any (loses_one_on h) (entries_for h t) ≡ false → list_any is_lost t ≡ false
+  lost_notes [] q = refl
+  lost_notes (Lost w c why ∷ t) q =
+      let one = or_none (loses_one_on h (entry.Lost (end_of h w) (lpdu_of c) (lost_as why))) (list_any (loses_one_on h) (entries_for h t)) q in
+      ap (λ b. b || list_any is_lost t) (kept_act h w c why one.0) ∙ lost_notes t one.1
+  lost_notes (_ ∷ t) q = lost_notes t q
+
+  -- what is noted behind such a reset
+  abbrev behind_asked : List Noted → List Noted
+  behind_asked [] = []
+  behind_asked (n ∷ t) = cond (asked n) t (behind_asked t)
+
+  lost_behind : (t : List Noted) → list_any (loses_one_on h) (behind_reset_of (end_c h) (entries_for h t)) ≡ false
+      → list_any is_lost (behind_asked t) ≡ false
+  lost_behind [] q = refl
+  lost_behind (Down Controller cause ∷ t) q = by (is_own_reset cause) (let z = same_number h in rw z at q) (lost_behind t) where
+    by : (b : Bool) → list_any (loses_one_on h) (cond b (entries_for h t) (behind_reset_of (end_c h) (entries_for h t))) ≡ false
+        → (list_any (loses_one_on h) (behind_reset_of (end_c h) (entries_for h t)) ≡ false → list_any is_lost (behind_asked t) ≡ false)
+        → list_any is_lost (cond b t (behind_asked t)) ≡ false
+    by true z later = lost_notes t z
+    by false z later = later z
+  lost_behind (Down Host cause ∷ t) q = lost_behind t (let z = same_number h in rw z at q)
+  lost_behind (_ ∷ t) q = lost_behind t q
+
+  -- what stands last of them stands behind it
+  behind_last : (u x : List Noted) → list_any asked x ≡ false → list_any asked (u ++ x) ≡ true → list_any is_lost (behind_asked (u ++ x)) ≡ false
+      → list_any is_lost x ≡ false
+  behind_last [] x none some q = absurd (true≢false (sym some ∙ none))
+  behind_last (n ∷ u) x none some q = by (asked n) some q (behind_last u x none) where
+    by : (b : Bool) → (b || list_any asked (u ++ x)) ≡ true → list_any is_lost (cond b (u ++ x) (behind_asked (u ++ x))) ≡ false
+        → (list_any asked (u ++ x) ≡ true → list_any is_lost (behind_asked (u ++ x)) ≡ false → list_any is_lost x ≡ false)
+        → list_any is_lost x ≡ false
+    by true y z later = (or_none (list_any is_lost u) (list_any is_lost x) (sym (list_any-append is_lost u x) ∙ z)).1
+    by false y z later = later y z
 
   abbrev asks_far : Noted → Bool
   asks_far (Emit Host c) = is_rset c
@@ -314,7 +369,8 @@ far_tick k n =
 left_alone : (h : ℕ) (t : List Noted) → AllByRecursion IsFar t → list_any (is_lost h) t ≡ false → list_any (asks_far h) t ≡ false → list_any is_cut t ≡ false
     → list_any withholds t ≡ false
 left_alone h [] a q r s = refl
-left_alone h (Lost w c why ∷ t) a q r s = absurd (true≢false q)
+left_alone h (Lost w c why ∷ t) a q r s =
+    let z = or_none (not (is_act c)) (list_any (is_lost h) t) q in ap (λ b. b || list_any withholds t) z.0 ∙ left_alone h t a.1 z.1 r s
 left_alone h (Restarted w ∷ t) a q r s = absurd a.0
 left_alone h (Cut w ∷ t) a q r s = absurd (true≢false s)
 left_alone h (Emit Controller c ∷ t) a q r s = absurd a.0
@@ -328,7 +384,7 @@ left_alone h (_ ∷ t) a q r s = left_alone h t a.1 q r s
 pub record IsAnsweredTick (h : ℕ) (u : List Entry) : Type 0 where
   pub reset : list_any (is_reset_down (end_c h)) u ≡ true
   pub powered : list_any (cuts_on h) u ≡ false
-  pub lossless : has_lost h u ≡ false
+  pub lossless : list_any (loses_one_on h) (behind_reset_of (end_c h) u) ≡ false
   pub alone : list_any (asks_at (end_h h)) u ≡ false
 
 module _ (h : ℕ) (l : Link) (c n : Node) (u : List Entry) (events : List LinkEvent) (run : IsRunOf events l) (says : IsAnsweredTick h u) where
@@ -343,8 +399,9 @@ module _ (h : ℕ) (l : Link) (c n : Node) (u : List Entry) (events : List LinkE
   abbrev turned_out : Ending → LinkEvent
   turned_out ending = TicksWithout (Step (AsksReset None) c.turns ending ∷ []) n
 
-  tick_reset : (ending : Ending) → IsStepOf h l (turned_out ending) u → FindsReady l → IsSince (happens l (turned_out ending))
-  tick_reset CutOff m ready =
+  tick_reset : (ending : Ending) → IsStepOf h l (turned_out ending) u → list_any asked (event_entries l (turned_out ending)) ≡ true → FindsReady l
+      → IsSince (happens l (turned_out ending))
+  tick_reset CutOff m some ready =
       let notes : List Noted = event_entries l (turned_out CutOff) in
       let cut : list_any is_cut (step_entries Controller (aged l) (AsksReset None) c.turns CutOff) ≡ true =
       input_cut Controller (aged l) (Reset None) c.turns in
@@ -359,7 +416,7 @@ module _ (h : ℕ) (l : Link) (c n : Node) (u : List Entry) (events : List LinkE
           let last = parts_none is_cut a b [] _ q refl in
           (or_none (list_any is_cut s) _ (sym (list_any-append is_cut s []) ∙ (or_none (list_any is_cut (s ++ [])) _ (sym (list_any-append is_cut (s ++ []) _)
           ∙ last)).0)).0
-  tick_reset GoesOut m ready =
+  tick_reset GoesOut m some ready =
       let e : LinkEvent = turned_out GoesOut in
       let notes : List Noted = event_entries l e in
       let k : Link = happens_at_controller (aged l) (Step (AsksReset None) c.turns GoesOut) in
@@ -368,13 +425,19 @@ module _ (h : ℕ) (l : Link) (c n : Node) (u : List Entry) (events : List LinkE
       let a : List Noted = aged_entries Controller l.to_controller in
       let b : List Noted = aged_entries Host l.to_host in
       let tells : of_link h u ≡ of_link h (entries_for h notes) = m.tells in
-      let lost : list_any (is_lost h) notes ≡ false =
-      sym (lost_notes h notes) ∙ (sym (alike h (λ e. loses_on h (said e)) (lost_off h) u (entries_for h notes) tells) ∙ says.lossless) in
+      let first : List Noted = Tick ∷ (a ++ (b ++ (s ++ []))) in
+      let parts : first ++ x ≡ notes =
+      ap (λ z. Tick ∷ z) (append_assoc a (b ++ (s ++ [])) x ∙ ap (λ z. a ++ z) (append_assoc b (s ++ []) x)) in
+      let behind : list_any (is_lost h) (behind_asked h notes) ≡ false =
+      lost_behind h notes (sym (alike_behind h (loses_one_on h) (lost_off h) (down_off h) u (entries_for h notes) tells) ∙ says.lossless) in
+      let lost : list_any (is_lost h) x ≡ false =
+      behind_last h first x (host_unasked (exchanged k) n) (ap (list_any asked) parts ∙ some)
+      (ap (λ z. list_any (is_lost h) (behind_asked h z)) parts ∙ behind) in
       let far : list_any (asks_far h) notes ≡ false =
       far_notes h notes (sym (alike h (asks_at (end_h h)) (asks_off h) u (entries_for h notes) tells) ∙ says.alone) in
       let cut : list_any is_cut notes ≡ false = no_cut h u notes says.powered m.stands in
       let last : list_any withholds x ≡ false =
-      left_alone h x (far_tick (exchanged k) n) (parts_none (is_lost h) a b (s ++ []) x lost refl) (parts_none (asks_far h) a b (s ++ []) x far refl)
+      left_alone h x (far_tick (exchanged k) n) lost (parts_none (asks_far h) a b (s ++ []) x far refl)
       (parts_none is_cut a b (s ++ []) x cut refl) in
       since_reset l e events run m.can ready last
 
@@ -386,8 +449,9 @@ module _ (h : ℕ) (l : Link) (c n : Node) (u : List Entry) (events : List LinkE
       let some : list_any asked notes ≡ true =
       sym (asked_notes h notes) ∙ (sym (alike h (is_reset_down (end_c h)) (down_off h) u (entries_for h notes) m.tells) ∙ says.reset) in
       let it = tick_asked late l c n some in
-      go late it.late_is m (ready it.granted)
+      go late it.late_is m some (ready it.granted)
     where
-      go : (b : Bool) → b ≡ true → IsStepOf h l (tick_event b c n) u → FindsReady l → IsSince (happens l (tick_event b c n))
-      go true q z r = tick_reset c.ending z r
-      go false q z r = absurd (true≢false (sym q))
+      go : (b : Bool) → b ≡ true → IsStepOf h l (tick_event b c n) u → list_any asked (event_entries l (tick_event b c n)) ≡ true → FindsReady l
+          → IsSince (happens l (tick_event b c n))
+      go true q z y r = tick_reset c.ending z y r
+      go false q z y r = absurd (true≢false (sym q))

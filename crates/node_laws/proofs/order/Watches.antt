@@ -21,11 +21,11 @@ use Rattle.link_laws.specs.entries.Entries.{End as Side, Entry as Noted, told_of
 use Rattle.link_laws.specs.entries.Entries.End.{Controller, Host}
 use Rattle.link_laws.specs.entries.Entries.Entry.{Up, Down, Active, GaveUp, Acked, Got, Sent, Emit, Took, Lost, Tick, Restarted, Cut}
 use Rattle.link_laws.specs.entries.Settled.{withholds, IsReset, rest_of}
-use Rattle.link_laws.proofs.entries.Sparing.{Spared, Stands, or_none, none_withheld}
+use Rattle.link_laws.proofs.entries.Sparing.{spoils, Spared, Stands, or_none, none_withheld}
 use Rattle.history.specs.Filters.{Saying, said}
 use Rattle.history.specs.Filters.Saying.{Begins, Ends, Sends, Gets, Counts, Puts, Takes, Loses}
-use Rattle.history.specs.Legal.{loses_on, resets_on}
-use Rattle.history.specs.Steps.{end_of, entries_for}
+use Rattle.history.specs.Legal.{resets_on}
+use Rattle.history.specs.Steps.{end_of, entries_for, lost_as}
 use Rattle.history.proofs.legal.Reading.{link_same}
 use Rattle.node_machine.specs.world.World.{Happening}
 use Rattle.node_machine.specs.world.World.Happening.{Activates}
@@ -38,7 +38,8 @@ use Rattle.node_laws.specs.telling.Standing.{stands_noted, standing}
 use Rattle.node_laws.specs.telling.Standing.{law_noted, standing_by_law, StandsOf}
 use Rattle.node_laws.proofs.telling.Accounts.{untold}
 use Rattle.node_laws.proofs.telling.Events.{after-append, entries-append}
-use Rattle.node_laws.specs.order.Resets.{cuts_on, spoils_on, withholds_on}
+use Rattle.node_laws.specs.order.Resets.{cuts_on, drops_on, loses_one_on, spoils_on, withholds_on}
+use Rattle.node_laws.proofs.order.Activations.{kept_act}
 
 -- ## A link since a reset
 
@@ -235,7 +236,7 @@ module _ (h : ℕ) where
 -- ## What is told of frames
 
 module _ (h : ℕ) where
-  pub spoils_none : (o : Option (End × Saying)) → is_of h o ≡ false → (loses_on h o || resets_on h o) ≡ false
+  pub spoils_none : (o : Option (End × Saying)) → is_of h o ≡ false → (drops_on h o || resets_on h o) ≡ false
   spoils_none None q = refl
   spoils_none (Some (e, Puts f)) q = rw q refl
   spoils_none (Some (e, Loses f)) q = rw q refl
@@ -274,7 +275,10 @@ module _ (h : ℕ) where
   spared_of (Emit w (Act act again) ∷ t) q = spared_of t (or_none _ _ q).1
   spared_of (Emit w Clt ∷ t) q = spared_of t (or_none _ _ q).1
   spared_of (Took w c ∷ t) q = spared_of t q
-  spared_of (Lost w c why ∷ t) q = absurd (true≢false (sym (link_same h w) ∙ (or_none _ _ (or_none _ _ q).0).0))
+  spared_of (Lost w c why ∷ t) q =
+      let one = or_none (loses_one_on h (entry.Lost (end_of h w) (lpdu_of c) (lost_as why)) || false) (list_any (spoils_on h) (entries_for h t)) q in
+      let mine = (or_none (loses_one_on h (entry.Lost (end_of h w) (lpdu_of c) (lost_as why))) false one.0).0 in
+      ap (λ b. b || list_any spoils t) (kept_act h w c why mine) ∙ spared_of t one.1
   spared_of (Tick ∷ t) q = spared_of t q
   spared_of (Restarted w ∷ t) q = spared_of t q
   spared_of (Cut w ∷ t) q = spared_of t q

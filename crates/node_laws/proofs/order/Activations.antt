@@ -1,0 +1,95 @@
+-- Frames of activation are read off the bytes of frames.
+use Rattle.std.proofs.Common.{◌≡◌, ◌⊎◌, inl, inr, ℕ, ◌+◌, ◌*◌, ◌<◌, ◌≤◌, Bool, true, false, cond, List, [], ◌∷◌, length, Option, Some, None, refl, sym, ap, ◌∙◌, arith}
+use Rattle.std.specs.Prelude.{◌==◌, ◌&&◌, ◌||◌, not, find, nat_lt, nat_le, slice_index, Result, Ok, Err}
+use Rattle.std.specs.List.{AllByRecursion, list_any}
+use Rattle.std.proofs.lemmas.Bool.{true≢false, leb-true}
+use Rattle.swp_base.specs.declared.control_frames.Control.{Control}
+use Rattle.swp_base.specs.declared.control_frames.Control.TheVariants.{I, S, Rset, Ua, Act, Clt}
+use Rattle.swp_lpdu.specs.declared.LpduFault.{LpduFault}
+use Rattle.swp_lpdu.specs.Controls.{LpduRow, table, is_within, read_by, lpdu_of}
+use Rattle.link_laws.specs.places.Wire.{OnWire, is_act, sans}
+use Rattle.link_laws.specs.messages.Links.{Loss}
+use Rattle.link_laws.specs.entries.Entries.{End as Side}
+use Rattle.link_laws.proofs.entries.Sparing.{or_none}
+use Rattle.trace_model.specs.declared.entry.Entry.TheVariants as entry
+use Rattle.history.specs.Steps.{end_of, lost_as}
+use Rattle.history.proofs.legal.Reading.{link_same}
+use Rattle.node_laws.specs.order.Told.{frames_on}
+use Rattle.node_laws.specs.order.Resets.{IsFreeOfLinkFrames, is_act_lpdu, is_act_read, loses_one_on}
+
+-- ## Bytes
+
+-- a row says no frame of activation, or isn't that of this first byte
+abbrev IsFree : ℕ → LpduRow → Type 0
+IsFree byte r = (is_within r.first r.last byte ≡ false) ⊎ ((bytes : List ℕ) → is_act (r.says bytes) ≡ false)
+
+free_read : (r : LpduRow) (bytes : List ℕ) → is_act (r.says bytes) ≡ false → is_act_read (read_by (Some r) bytes) ≡ false
+free_read r bytes free = go (nat_lt (length bytes) r.need) (nat_lt r.most (length bytes)) where
+  go : (short long : Bool) → is_act_read (cond short (Err (Rattle.swp_lpdu.specs.declared.LpduFault.TheVariants.Short r.need (length bytes)))
+      (cond long (Err (Rattle.swp_lpdu.specs.declared.LpduFault.TheVariants.TooLong (length bytes))) (Ok (r.says bytes)))) ≡ false
+  go true long = refl
+  go false true = refl
+  go false false = free
+
+-- the row of a first byte
+row_free : (byte : ℕ) (rows : List LpduRow) → AllByRecursion (IsFree byte) rows → (bytes : List ℕ)
+    → is_act_read (read_by (find (λ (r : LpduRow). is_within r.first r.last byte) rows) bytes) ≡ false
+row_free byte [] a bytes = refl
+row_free byte (r ∷ rows) a bytes = go (is_within r.first r.last byte) refl (row_free byte rows a.1 bytes) where
+  go : (b : Bool) → is_within r.first r.last byte ≡ b
+      → is_act_read (read_by (find (λ (x : LpduRow). is_within x.first x.last byte) rows) bytes) ≡ false
+      → is_act_read (read_by (find (λ (x : LpduRow). is_within x.first x.last byte) (r ∷ rows)) bytes) ≡ false
+  go false q later = rw q later
+  go true q later = rw q (by a.0) where
+    by : IsFree byte r → is_act_read (read_by (Some r) bytes) ≡ false
+    by (inl other) = absurd (true≢false (sym q ∙ other))
+    by (inr free) = free_read r bytes (free bytes)
+
+low_row : (low high n : ℕ) → high < n → is_within low high n ≡ false
+low_row low high n less = go (nat_le low n) (nat_le n high) refl where
+  go : (a b : Bool) → nat_le n high ≡ b → (a && b) ≡ false
+  go true true q = absurd (let most = leb-true n high q in omega (arith, less, most))
+  go true false q = refl
+  go false b q = refl
+
+-- frames of SHDLC have greater first bytes than those of activation
+high_free : (n : ℕ) → 0x80 ≤ n → (bytes : List ℕ) → slice_index bytes 0 ≡ n → is_act_lpdu bytes ≡ false
+high_free n high bytes first =
+    ap (λ k. is_act_read (read_by (find (λ (r : LpduRow). is_within r.first r.last k) table) bytes)) first
+    ∙ row_free n table
+    (inr (λ b. refl), (inr (λ b. refl), (inr (λ b. refl), (inr (λ b. refl), (inr (λ b. refl), (inr (λ b. refl), (inr (λ b. refl), (inl (low_row 0x60 0x60 n (omega (arith, high))), (inl (low_row 0x68 0x68 n (omega (arith, high))), (inl (low_row 0x61 0x61 n (omega (arith, high))), (inl (low_row 0x69 0x69 n (omega (arith, high))), (inl (low_row 0x62 0x62 n (omega (arith, high))), (inl (low_row 0x6A 0x6A n (omega (arith, high))), (inr (λ b. refl), tt))))))))))))))
+    bytes
+
+-- what is read as a frame of activation is one
+pub act_read : (c : Control) → is_act c ≡ false → is_act_lpdu (lpdu_of c) ≡ false
+act_read (I ns nr info) other = high_free (0x80 + 8 * ns + nr) (omega arith) (lpdu_of (I ns nr info)) refl
+act_read (S kind nr) other = high_free (0xC0 + 8 * Rattle.swp_lpdu.specs.Controls.kind_number kind + nr) (omega arith) (lpdu_of (S kind nr)) refl
+act_read (Rset window caps) other = refl
+act_read Ua other = refl
+act_read (Act act again) other = absurd (true≢false other)
+act_read Clt other = refl
+
+pub kept_act_lpdu : (c : Control) → not (is_act_lpdu (lpdu_of c)) ≡ false → not (is_act c) ≡ false
+kept_act_lpdu c q = go (is_act c) refl where
+  go : (b : Bool) → is_act c ≡ b → not b ≡ false
+  go true z = refl
+  go false z = absurd (true≢false (sym (ap not (act_read c z)) ∙ q))
+
+-- ## What is lost
+
+-- where no frame is told as lost but of activation
+pub kept_act : (h : ℕ) (w : Side) (c : Control) (why : Loss) → loses_one_on h (entry.Lost (end_of h w) (lpdu_of c) (lost_as why)) ≡ false
+    → not (is_act c) ≡ false
+kept_act h w c why q = kept_act_lpdu c (sym (ap (λ b. b && not (is_act_lpdu (lpdu_of c))) (link_same h w)) ∙ q)
+
+-- ## Wires
+
+pub sans_none : (w : List OnWire) → IsFreeOfLinkFrames (frames_on w) → sans w ≡ []
+sans_none [] q = refl
+sans_none (x ∷ w) q =
+    let both = or_none (not (is_act_lpdu (lpdu_of x.frame))) (list_any (λ lpdu. not (is_act_lpdu lpdu)) (frames_on w)) q in
+    go (is_act x.frame) refl (kept_act_lpdu x.frame both.0) (sans_none w both.1)
+  where
+    go : (b : Bool) → is_act x.frame ≡ b → not (is_act x.frame) ≡ false → sans w ≡ [] → sans (x ∷ w) ≡ []
+    go true z kept later = rw z later
+    go false z kept later = absurd (true≢false (sym (ap not z) ∙ kept))
