@@ -9,4 +9,4 @@ mod link;
 mod unit;
 
 pub use link::ByteLink;
-pub use unit::{Unit, write_unit};
+pub use unit::{Unit, append_unit, write_unit};

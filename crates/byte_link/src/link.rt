@@ -2,6 +2,7 @@
 ghost use Rattle.std.specs.Prelude.{ℕ, List, [], ◌∷◌, ◌++◌, ◌≡◌, ◌+◌, ◌<◌, ◌≤◌, length, reverse, take};
 ghost use Rattle.std.specs.Prelude.{IfSome, IfOk, IfErr};
 ghost use Rattle.swp_base.specs.DataUnits.{IsLpdu};
+ghost use Rattle.swp_crc.specs.Crc.{crc_of};
 ghost use Rattle.byte_link.specs.Units.{checked, BeginsWithUnit};
 
 use crate::unit::Unit;
@@ -176,6 +177,17 @@ fn checked_unit(bytes: &[u8]) -> Unit
     }
 }
 
+/// The CRC of an LPDU. Most acknowledgements have a single byte.
+#[inline(always)]
+fn crc_of_lpdu(lpdu: &[u8]) -> u16
+    ensures { result ≡ crc_of lpdu.now }
+{
+    match lpdu {
+        [byte] => crc(&[*byte]),
+        _ => crc(lpdu),
+    }
+}
+
 /// The bytes before the last two, which are to be their CRC.
 #[inline(always)]
 fn checked_bytes(bytes: &[u8]) -> Result<&[u8], FrameFault>
@@ -186,7 +198,7 @@ fn checked_bytes(bytes: &[u8]) -> Result<&[u8], FrameFault>
     ensures refused { IfErr result (λ fault. checked bytes.now ≡ Unit.Refused fault) }
 {
     let (body, crc_bytes) = bytes.split_at(bytes.len() - 2);
-    let want = crc(body);
+    let want = crc_of_lpdu(body);
     let got = u16::from_be_bytes([crc_bytes[0], crc_bytes[1]]);
     if want != got {
         return Err(FrameFault::Crc { want, got });
