@@ -533,6 +533,19 @@ impl End {
         self.inbox.fetch()
     }
 
+    /// Whether no control frame waits to be fetched, ACT frames among them, and all fragments that were offered were sent: no frame is to
+    /// be sent then, and a fetch changes nothing. False says nothing.
+    #[inline(always)]
+    pub fn has_none_due(&self) -> bool
+        ensures { (pool : PoolState) (m : Machine) → EndStandsFor self.now pool m → IsTrue result
+            → (next_frame m ≡ None) × EndStandsFor self.now pool (after_input m Fetch) }
+    {
+        if !self.acts.is_empty() {
+            return false;
+        }
+        self.shdlc.has_none_due()
+    }
+
     /// Fetches the frame that is to be sent now: the control frames in the order in which they were made, ACT frames among them, and
     /// then the fragments. None where nothing is to be sent.
     pub fn next_out(&mut self) -> Option<Control>

@@ -301,7 +301,24 @@ impl LinkEnd {
 
     /// Fetches the LPDU that is to be sent now: the control frames in the order in which they were made, ACT frames among them, and
     /// then the fragments. None where nothing is to be sent.
+    #[inline(always)]
     pub fn next_out(&mut self, pool: &Pool) -> Option<Lpdu>
+        requires { (m : Machine) × EndStandsFor self.old.link pool.now m }
+        ensures stands { (m : Machine) → EndStandsFor self.old.link pool.now m → EndStandsFor self.new.link pool.now (after_input m Fetch) }
+        ensures answer { (m : Machine) → EndStandsFor self.old.link pool.now m → result ≡ option_map lpdu_of (next_frame m) }
+        ensures read { (m : Machine) → EndStandsFor self.old.link pool.now m → IfSome (next_frame m) (λ c. control_of (lpdu_of c) ≡ Ok c) }
+        ensures boxes { (self.new.link.outbox ≡ self.old.link.outbox) × (self.new.link.inbox ≡ self.old.link.inbox) }
+        ensures inputs { (self.new.deframer ≡ self.old.deframer) × (self.new.byte_link ≡ self.old.byte_link) }
+    {
+        // Most calls find nothing, since an end is asked until it has nothing more.
+        if self.link.has_none_due() {
+            return None;
+        }
+        self.next_due(pool)
+    }
+
+    // The same where something may be due.
+    fn next_due(&mut self, pool: &Pool) -> Option<Lpdu>
         requires { (m : Machine) × EndStandsFor self.old.link pool.now m }
         ensures stands { (m : Machine) → EndStandsFor self.old.link pool.now m → EndStandsFor self.new.link pool.now (after_input m Fetch) }
         ensures answer { (m : Machine) → EndStandsFor self.old.link pool.now m → result ≡ option_map lpdu_of (next_frame m) }

@@ -1,6 +1,6 @@
 //! The half of a session that sends: the fragments that aren't acknowledged, and where sending stands (ETSI TS 102 613,
 //! section 10).
-ghost use Rattle.std.specs.Prelude.{◌≡◌, ◌+◌, ◌<◌, ◌≤◌, ◌==◌, ◌++◌, ◌∷◌, [], length, drop, max, false, option_map, IfSome, OnSome, IfNone, ◌%◌, IsTrue, ◌↔◌};
+ghost use Rattle.std.specs.Prelude.{◌≡◌, ◌+◌, ◌<◌, ◌≤◌, ◌==◌, ◌++◌, ◌∷◌, [], length, drop, max, false, None, option_map, IfSome, OnSome, IfNone, ◌%◌, IsTrue, ◌↔◌};
 ghost use Rattle.shdlc_core.specs.Kept.{SendsFor};
 ghost use Rattle.shdlc_core.specs.Machine.{Session, place_of, fragment_due, sent_next, runs_timer, new_session};
 
@@ -116,6 +116,14 @@ impl Sender {
         self.sent > 0 || self.peer_busy && usize::from(self.sent) < self.queue.len()
     }
 
+    /// Whether all kept fragments were sent. None is to be sent then; false says nothing.
+    #[inline(always)]
+    pub fn has_none_due(&self) -> bool
+        ensures { (s : Session) → SendsFor self.now s → IsTrue result → fragment_due s ≡ None }
+    {
+        usize::from(self.sent) >= self.queue.len()
+    }
+
     /// The fragment to be sent next, where there is one.
     pub fn fragment_due(&self) -> Option<Info>
         ensures value { (s : Session) → SendsFor self.now s → result ≡ fragment_due s }
@@ -194,6 +202,10 @@ fn drop_first(queue: &mut ArrayVec<Info, 4>, count: usize)
     requires { count ≤ length queue.old.items }
     ensures { queue.new.items ≡ drop count queue.old.items }
 {
+    if count >= queue.len() {
+        queue.clear();
+        return;
+    }
     for _ in 0..count {
         queue.remove(0);
     }

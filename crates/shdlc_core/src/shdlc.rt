@@ -1,6 +1,6 @@
 //! One end of a link.
 ghost use Rattle.std.specs.Prelude.{◌≡◌, ◌≢◌, ◌⊎◌, ◌+◌, ◌<◌, ◌≤◌, ◌↔◌, [], length, IsTrue, OnSome, option_map, min, ℕ, ◌++◌, ◌∷◌, OnErr, IfNone, IfSome};
-ghost use Rattle.std.specs.Prelude.{MatchResult, false, true};
+ghost use Rattle.std.specs.Prelude.{MatchResult, None, false, true};
 ghost use Rattle.std.specs.Bool.{OnFalse};
 ghost use Rattle.shdlc_core.specs.Kept.{ShdlcStandsFor, ReceivesFor, frames_left};
 ghost use Rattle.shdlc_core.specs.Machine.{EndState, new_end, begun, up_with, offered, offer_refusal, control_due, frame_due, fetched, acknowledged, received};
@@ -178,6 +178,15 @@ impl Shdlc {
         }
         self.sender.push(info);
         Ok(())
+    }
+
+    /// Whether no control frame waits to be fetched, and all fragments that were offered were sent: no frame is to be sent then. False says
+    /// nothing.
+    #[inline(always)]
+    pub fn has_none_due(&self) -> bool
+        ensures { (e : EndState) → ShdlcStandsFor self.now e → IsTrue result → (frame_due e ≡ None) × (fetched e ≡ e) }
+    {
+        self.due.is_empty() && self.sender.has_none_due()
     }
 
     /// Fetches the frame that is to be sent now: first the control frames in the order in which they were made, then the

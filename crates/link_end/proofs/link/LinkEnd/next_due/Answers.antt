@@ -3,7 +3,7 @@ use Rattle.std.specs.Prelude.{Option, Some, Ok, IfSome, option_map}
 use Rattle.swp_base.specs.declared.control_frames.Control.{Control}
 use Rattle.swp_lpdu.specs.Controls.{lpdu_of, control_of}
 use Rattle.link_end.proofs.FormLemmas.{next_numbers}
-use Rattle.link_end.proofs.link.LinkEnd.next_out.Goals as goal
+use Rattle.link_end.proofs.link.LinkEnd.next_due.Goals as goal
 
 pub write_lpdu-requires : goal.write_lpdu-requires
 write_lpdu-requires c =
