@@ -51,7 +51,7 @@ has_bit test m (suc (suc (suc (suc (suc (suc (suc (suc n)))))))) some most a b c
 
 -- ## Each end is found by its host
 
-abbrev IsFound : List Port → Port → Type 0
+abbrev pub IsFound : List Port → Port → Type 0
 IsFound all q = port_at all q.desk.host ≡ Some q
 
 found_behind : (pool : PoolState) (s : Seat) (p : Port) (all : List Port) (seats : List Seat) (ports : List Port) → s.desk.host ≡ p.desk.host
@@ -67,7 +67,7 @@ found_behind pool s p all (t ∷ seats) (q ∷ ports) same differ g found =
     by true e = absurd (differ.0 (host_is g.0 ∙ (sym (eqb-true p.desk.host q.desk.host e) ∙ sym same)))
     by false e = rw e found.0
 
-all_found : (pool : PoolState) (seats : List Seat) (ports : List Port) → HaveOwnHosts seats → SeatsStandFor pool seats ports
+pub all_found : (pool : PoolState) (seats : List Seat) (ports : List Port) → HaveOwnHosts seats → SeatsStandFor pool seats ports
     → AllByRecursion (IsFound ports) ports
 all_found pool [] [] own g = tt
 all_found pool [] (p ∷ ports) own g = absurd g

@@ -19,6 +19,7 @@ mod Blocks
 pub mod Dues
 pub mod Sendable
 pub mod Gathering
+mod ByHost
 mod PassingOn
 mod Handing
 mod Relaying

@@ -7,6 +7,10 @@ ghost use Rattle.node_ends.specs.Ends.{AreEnds, place_in, got_at, message_read, 
 ghost use Rattle.std.specs.Prelude.{if◌then◌else◌, map, is_some};
 ghost use Rattle.std.specs.List.{list_any};
 ghost use Rattle.node_ends.specs.declared.seat.Seat.{Seat as Kept};
+ghost use Rattle.std.specs.Prelude.{ℕ, get_or};
+ghost use Rattle.std.specs.List.{AllByRecursion};
+ghost use Rattle.node_deeds.specs.Room.{AreSpares};
+ghost use Rattle.node_machine.specs.Controller.{has_link};
 
 use crate::ends::Ends;
 use crate::places::place_of;
@@ -38,6 +42,8 @@ impl Ends {
     ghost use Rattle.node_machine.specs.Controller.{has_link};
     ghost use Rattle.node_deeds.specs.Shown.{AreSeen};
     ghost use Rattle.node_deeds.specs.Cores.{AreSoundDesks};
+    ghost use Rattle.node_deeds.specs.Room.{AreSpares};
+    ghost use Rattle.std.specs.List.{AllByRecursion};
 
     /// Copies the message that waits at the end of the link with this host into the front of a buffer of 4,096 bytes. Its pipe, and
     /// how many bytes it has.
@@ -74,13 +80,22 @@ impl Ends {
         requires { (ports : List Port) × EndsStandFor self.now ports }
         ensures { (ports : List Port) → EndsStandFor self.now ports → (h : ℕ) → 1 ≤ h → h ≤ 7 → has result h ≡ has_link ports h }
     {
-        2 * bit(self.has_link(1))
-            + 4 * bit(self.has_link(2))
-            + 8 * bit(self.has_link(3))
-            + 16 * bit(self.has_link(4))
-            + 32 * bit(self.has_link(5))
-            + 64 * bit(self.has_link(6))
-            + 128 * bit(self.has_link(7))
+        let links = links_of(self.seats.as_slice(), &self.pool);
+        2 * bit(links[1])
+            + 4 * bit(links[2])
+            + 8 * bit(links[3])
+            + 16 * bit(links[4])
+            + 32 * bit(links[5])
+            + 64 * bit(links[6])
+            + 128 * bit(links[7])
+    }
+
+    /// How many blocks for messages are spare at the end of the link with each host, 0 to 7, by its number. No host is above 7.
+    pub fn spares(&self) -> [u16; 8]
+        requires { (ports : List Port) × EndsStandFor self.now ports }
+        ensures { (ports : List Port) → EndsStandFor self.now ports → AllByRecursion (λ (p : Port). p.desk.host ≤ 7) ports → AreSpares result ports }
+    {
+        spares_of(self.seats.as_slice(), &self.pool)
     }
 
     /// Whether the session of the end at this place ended in this step as something came there; `false` behind the last end.
@@ -243,6 +258,36 @@ fn desks_of(seats: &[Seat], pool: &Pool) -> ArrayVec<Desk, 7>
         desks.push(seat.desk);
     }
     desks
+}
+
+// Whether the link with each host, 0 to 7, is up, by its number.
+fn links_of(seats: &[Seat], pool: &Pool) -> [bool; 8]
+    requires { (ports : List Port) × AreEnds pool.now seats.now ports }
+    ensures { (ports : List Port) → AreEnds pool.now seats.now ports → (h : ℕ) → h ≤ 7 → get_or result h false ≡ has_link ports h }
+{
+    let mut links = [false; 8];
+    for seat in seats {
+        let host = usize::from(seat.desk.host);
+        if host < 8 {
+            links[host] = seat.is_up();
+        }
+    }
+    links
+}
+
+// How many blocks for messages are spare at the end of the link with each host, 0 to 7, by its number.
+fn spares_of(seats: &[Seat], pool: &Pool) -> [u16; 8]
+    requires { (ports : List Port) × AreEnds pool.now seats.now ports }
+    ensures { (ports : List Port) → AreEnds pool.now seats.now ports → AllByRecursion (λ (p : Port). p.desk.host ≤ 7) ports → AreSpares result ports }
+{
+    let mut spares = [0; 8];
+    for i in 0..seats.len() {
+        let host = usize::from(seats[i].desk.host);
+        if host < 8 {
+            spares[host] = pool.spare((2 * i) as u8);
+        }
+    }
+    spares
 }
 
 // 1 where it is so.

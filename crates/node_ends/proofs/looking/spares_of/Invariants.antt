@@ -1,0 +1,13 @@
+use Rattle.std.proofs.Common.{◌≡◌, List, length}
+use Rattle.link_laws.specs.machine.Machine.{spare}
+use Rattle.node_machine.specs.Parts.{Port}
+use Rattle.node_ends.specs.Ends.{AreEnds}
+use Rattle.node_ends.proofs.ByHost.{StandSoFar}
+use Rattle.node_ends.proofs.looking.spares_of.Given as goal
+
+-- those so far stand at the numbers of their hosts
+abbrev pub invariant-loop-i : goal.invariant-loop-i
+invariant-loop-i l = record {
+  eight : length l.spares ≡ 8;
+  far : (ports : List Port) → AreEnds l.fn.pool l.seats ports → StandSoFar (λ (p : Port). spare p.side) 0 l.spares l.i ports;
+}
