@@ -1,11 +1,10 @@
 -- What a host does by itself leaves it running.
-use Rattle.std.proofs.Common.{◌≡◌, ◌≢◌, ℕ, Bool, true, false, not, cond, ◌&&◌, ◌≤◌, List, [], ◌∷◌, map, refl, sym, ap, ◌∙◌, subst, arith, append-nil}
-use Rattle.std.specs.Prelude.{Option, Some, None, IfSome, is_some, option_map, ◌==◌}
-use Rattle.std.proofs.lemmas.Bool.{true≢false, and_parts, and_right}
+use Rattle.std.proofs.Common.{◌≡◌, ◌≢◌, ℕ, Bool, true, false, not, ◌&&◌, List, [], ◌∷◌, map, refl, sym, ap, ◌∙◌, subst, arith, append-nil}
+use Rattle.std.specs.Prelude.{Option, Some, None, IfSome, is_some, ◌==◌}
+use Rattle.std.proofs.lemmas.Bool.{true≢false}
 use Rattle.trace_model.specs.declared.entry.Entry.{Entry}
-use Rattle.trace_model.specs.declared.entry.NoCause.{NoCause}
 use Rattle.hci_store.specs.Stored.{Stored}
-use Rattle.link_laws.specs.machine.Machine.{Message, Refused, Role, give_refusal}
+use Rattle.link_laws.specs.machine.Machine.{Refused, Role, give_refusal}
 use Rattle.link_laws.specs.machine.Machine.Role.{Bare, Clf, Uicc}
 use Rattle.link_laws.specs.machine.Machine.Refused.{NotUp, TooLong, Full, Inactive, IsWaiting}
 use Rattle.node_machine.specs.Parts.{Init, Core, Port, Work, Deed}
@@ -20,6 +19,9 @@ use Rattle.link_end.specs.Roles.{MayStart}
 use Rattle.swp_act.specs.declared.ActEvent.TheVariants.{Start as ActStart}
 use Rattle.node_core.specs.declared.node.Node.{Node}
 use Rattle.node_core.specs.Nodes.{IsInStep, IsSoundNode}
+use Rattle.node_core.specs.declared.inputs.LinkInput.{LinkInput as ToEnd}
+use Rattle.node_core.specs.declared.inputs.LinkInput.TheVariants as asks
+use Rattle.node_core.specs.Inputs.{MayComeAt, IsAskedOf}
 use Rattle.node_core.specs.Deeds.{IsOnTask}
 use Rattle.node_core.specs.Turning.{IsNodeInOrder}
 use Rattle.node_core.specs.Running.{RunsAs, BeginsStep, HasStepped, IsAllSent, between}
@@ -29,7 +31,7 @@ use Rattle.node_core.proofs.Quiet.{done_quiet}
 use Rattle.node_core.proofs.Elsewhere.{same_links}
 use Rattle.node_core.proofs.EndKinds.{same_kinds}
 use Rattle.node_core.proofs.Lasting.{OfAll, Rests, rests_stays, all_done_so}
-use Rattle.node_core.proofs.Between.{ends_back, runs_rest, runs_so, core_with, kept_at, at_rest, kept_alike, kept_twice, kept_none_ended}
+use Rattle.node_core.proofs.Between.{ends_back, runs_rest, runs_so, core_with, at_rest, kept_alike, kept_twice, kept_none_ended}
 use Rattle.node_core.proofs.Ordering.{in_order_at, with_task}
 use Rattle.node_core.proofs.Deciders.{only, found_one}
 use Rattle.node_core.proofs.Sendings.{given_order, given_other, given_both}
@@ -146,15 +148,18 @@ uicc_starts (Clf s) value is = absurd is
 uicc_starts (Uicc s) value is = tt
 
 -- the end of a host is activated with any identifier
-pub uicc_may_start : (value host : ℕ) (core : Core) (ports : List Port) → core.node ≢ 0 → IsNodeInOrder core ports
-    → MayStartAt value (port_at (map between ports) host)
-uicc_may_start value host core ports some order =
-    let P : Option Port → Type 0 = λ o. MayStartAt value o in
-    subst P (sym (kept_at host ports)) (by (port_at ports host) (found_all (λ (p : Port). IsUicc p.side.role) ports host (order.roles.uicc some)))
-  where
-    by : (o : Option Port) → IfSome o (λ (p : Port). IsUicc p.side.role) → MayStartAt value (option_map between o)
-    by None is = tt
-    by (Some p) is = uicc_starts p.side.role value is
+uicc_may_start : (value : ℕ) (o : Option Port) → IfSome o (λ (p : Port). IsUicc p.side.role) → MayStartAt value o
+uicc_may_start value None is = tt
+uicc_may_start value (Some p) is = uicc_starts p.side.role value is
+
+-- what is asked of a host may come to its end
+pub asked_may : (what : ToEnd) (host : ℕ) (core : Core) (ports : List Port) → IsAskedOf what → core.node ≢ 0 → IsNodeInOrder core ports
+    → MayComeAt what (port_at ports host)
+asked_may (asks.Frame read) host core ports asked some order = absurd asked
+asked_may (asks.Reset window) host core ports asked some order = asked
+asked_may (asks.Start value) host core ports asked some order =
+    uicc_may_start value (port_at ports host) (found_all (λ (p : Port). IsUicc p.side.role) ports host (order.roles.uicc some))
+asked_may asks.Stop host core ports asked some order = tt
 
 -- ## A host that was asked
 

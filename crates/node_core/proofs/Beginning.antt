@@ -1,6 +1,5 @@
 -- A node that has booted runs.
 use Rattle.std.proofs.Common.{◌≡◌, ◌≢◌, ℕ, ◌+◌, ◌≤◌, List, [], ◌∷◌, map, length, refl, sym, ap, subst, arith}
-use Rattle.std.specs.Prelude.{None}
 use Rattle.std.specs.List.{AllByRecursion}
 use Rattle.link_laws.specs.messages.Links.{IsClf, IsUicc}
 use Rattle.swp_base.specs.declared.link_terms.Role.{Role as Named}

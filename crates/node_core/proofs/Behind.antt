@@ -8,7 +8,7 @@ use Rattle.hci_store.specs.Stored.{Stored}
 use Rattle.link_laws.specs.machine.Machine.{Role}
 use Rattle.link_laws.specs.machine.Machine.Role.{Bare, Clf, Uicc}
 use Rattle.link_end.specs.Roles.{MayStart}
-use Rattle.node_machine.specs.Parts.{Core, Port, Work}
+use Rattle.node_machine.specs.Parts.{Port, Work}
 use Rattle.node_machine.specs.Carrying.{port_at}
 use Rattle.node_machine.specs.Node.{NodeInput, steps}
 use Rattle.node_ends.specs.Ends.{EndsStandFor, IsHeldWhileOneWaits, MayStartAt}
@@ -18,21 +18,12 @@ use Rattle.node_core.specs.Bringing.{Brings, WereMade, Foretells, plan_left}
 use Rattle.node_core.specs.Turning.{IsNodeInOrder, AreAtMostDue, AreYoung}
 use Rattle.node_core.specs.Running.{BeginsStep, HasStepped, AreInTime, AreHeldWhileOneWaits, between}
 use Rattle.node_core.proofs.Elsewhere.{hosts_differ}
-use Rattle.node_core.proofs.EndKinds.{kept_kinds}
-use Rattle.node_core.proofs.Ordering.{in_order_at}
 use Rattle.node_core.proofs.Staying.{steps_fine}
 use Rattle.node_core.proofs.Lasting.{OfAll, Ready, Rests}
 use Rattle.node_core.proofs.Resting.{MakeOneMore, step_rests}
 use Rattle.node_core.proofs.Between.{begins_in_step, has_stepped, runs_ready}
 
 -- ## What a step asks for
-
-pub kept_order : (core : Core) (ports : List Port) → IsNodeInOrder core ports → IsNodeInOrder core (map between ports)
-kept_order core ports order = in_order_at core ports (map between ports) (kept_kinds ports) order
-
-pub kept_few : (n : ℕ) (ports : List Port) → AreAtMostDue n ports → AreAtMostDue n (map between ports)
-kept_few n [] few = tt
-kept_few n (p ∷ ports) few = (few.0, kept_few n ports few.1)
 
 pub ready_few : (ports : List Port) → OfAll (Ready 0) ports → AreAtMostDue 4 ports
 ready_few [] all = tt
@@ -42,16 +33,11 @@ pub in_time_young : (ports : List Port) → AreInTime ports → AreYoung ports
 in_time_young [] time = tt
 in_time_young (p ∷ ports) time = let t = time.0 in (omega (arith, t), in_time_young ports time.1)
 
-pub kept_young : (ports : List Port) → AreYoung ports → AreYoung (map between ports)
-kept_young [] young = tt
-kept_young (p ∷ ports) young = (young.0, kept_young ports young.1)
-
-pub kept_held : (h : ℕ) (ports : List Port) → AreHeldWhileOneWaits ports → IsHeldWhileOneWaits (port_at (map between ports) h)
-kept_held h [] held = tt
-kept_held h (p ∷ ports) held = by (kept_held h ports held.1) (p.desk.host == h) refl
+pub held_here : (h : ℕ) (ports : List Port) → AreHeldWhileOneWaits ports → IsHeldWhileOneWaits (port_at ports h)
+held_here h [] held = tt
+held_here h (p ∷ ports) held = by (held_here h ports held.1) (p.desk.host == h) refl
   where
-    by : IsHeldWhileOneWaits (port_at (map between ports) h) → (b : Bool) → (p.desk.host == h) ≡ b
-        → IsHeldWhileOneWaits (port_at (map between (p ∷ ports)) h)
+    by : IsHeldWhileOneWaits (port_at ports h) → (b : Bool) → (p.desk.host == h) ≡ b → IsHeldWhileOneWaits (port_at (p ∷ ports) h)
     by later true q = rw q held.0
     by later false q = rw q later
 

@@ -1,5 +1,5 @@
 -- What a node looks at as it decides.
-use Rattle.std.proofs.Common.{◌≡◌, ◌≢◌, ℕ, zero, suc, ◌≤◌, Bool, true, false, not, List, [], ◌∷◌, map, refl, sym, ap, ap₂, ◌∙◌, subst}
+use Rattle.std.proofs.Common.{◌≡◌, ◌≢◌, ℕ, ◌≤◌, Bool, true, false, not, List, [], ◌∷◌, map, refl, sym, ap, ap₂, ◌∙◌, subst}
 use Rattle.std.specs.Prelude.{Option, Some, None, option_map, slice_get, ◌==◌}
 use Rattle.std.specs.Option.{option_map_or}
 use Rattle.std.proofs.lemmas.Bool.{eqb-true, eq-eqb}
@@ -18,7 +18,6 @@ use Rattle.node_core.specs.declared.node.Node.{Node}
 use Rattle.node_core.specs.Deeds.{handling}
 use Rattle.node_core.specs.Nodes.{IsInStep}
 use Rattle.node_core.specs.Turning.{HasOwnLink, IsNodeInOrder}
-use Rattle.node_core.proofs.Doing.{host_at}
 
 -- ## Controllers
 

@@ -1,7 +1,7 @@
 -- The faults of the memory of a node, one thing after another.
-use Rattle.std.proofs.Common.{◌≡◌, ℕ, ◌≤◌, Bool, true, false, refl, sym, ap, ◌∙◌, subst, arith}
+use Rattle.std.proofs.Common.{◌≡◌, ℕ, ◌≤◌, true, sym, ◌∙◌, subst, arith}
 use Rattle.std.proofs.lemmas.Bool.{true≢false}
-use Rattle.swp_base.specs.Outside.{one_more, Rose}
+use Rattle.swp_base.specs.Outside.{Rose}
 use Rattle.hci_store.specs.Stored.{Stored}
 use Rattle.node_core.specs.Faults.{CountsFaults}
 

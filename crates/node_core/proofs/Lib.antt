@@ -26,6 +26,7 @@ pub mod Stepping
 pub mod Lasting
 pub mod Resting
 mod Refusing
+mod Came
 pub mod Between
 pub mod Behind
 mod Tasks
@@ -41,4 +42,3 @@ pub mod Beginning
 pub mod Faults
 mod Masks
 mod SeenAsNode
-mod Counting

@@ -1,8 +1,7 @@
 -- A reset that is refused changes nothing, and a tick brings no identifier.
 use Rattle.std.proofs.Common.{◌≡◌, ◌≢◌, ℕ, ◌+◌, ◌≤◌, Bool, true, false, List, [], ◌∷◌, ◌++◌, map, refl, sym, ap, ap₂, ◌∙◌, subst, arith, append-nil}
-use Rattle.std.specs.Prelude.{Option, Some, None, Result, Ok, Err, option_map, ◌==◌, nat_le}
+use Rattle.std.specs.Prelude.{Option, Some, None, Ok, Err, option_map, ◌==◌, nat_le}
 use Rattle.std.specs.List.{AllByRecursion, flat_map}
-use Rattle.std.specs.Option.{option_map_or}
 use Rattle.std.proofs.lemmas.Bool.{eqb-true}
 use Rattle.swp_act.specs.declared.Phase.{Phase}
 use Rattle.swp_act.specs.declared.Phase.TheVariants.{Inactive, Awaiting, Active}
@@ -14,17 +13,16 @@ use Rattle.swp_base.specs.declared.link_terms.Cause.TheVariants.{Asked}
 use Rattle.link_laws.specs.machine.Machine.{LinkEnd as Machine, Refused, Role, report, after_input, reset_refusal, is_open, act_answer, if_up}
 use Rattle.link_laws.specs.machine.Machine.LinkInput.{Reset, Tick}
 use Rattle.link_laws.specs.machine.Machine.Role.{Bare, Clf, Uicc}
-use Rattle.link_end.specs.declared.report.LinkReport.{LinkReport}
 use Rattle.link_end.specs.declared.report.ResetRefused.{ResetRefused}
 use Rattle.link_end.specs.Reports.{reset_refused, reset_told, nothing_told}
-use Rattle.node_machine.specs.Parts.{Core, Port, Work, Deed}
-use Rattle.node_machine.specs.Carrying.{port_at, with_port, noting}
-use Rattle.node_machine.specs.Node.{input_at, has_come, told_at, all_come, with_older, is_late, reset_late, synced}
+use Rattle.node_machine.specs.Parts.{Core, Port, Work}
+use Rattle.node_machine.specs.Carrying.{port_at, with_port}
+use Rattle.node_machine.specs.Node.{input_at, has_come, all_come, with_older, is_late, reset_late, synced}
 use Rattle.node_machine.specs.Node.NodeInput.{AtEnd, TimePasses}
 use Rattle.node_ends.specs.Making.{AreAllDifferent}
 use Rattle.node_ends.proofs.Dues.{due_count, tick_few, reset_few_due}
 use Rattle.node_core.specs.Turning.{AreFewDue, AreAtMostDue, AreYoung}
-use Rattle.node_core.specs.Running.{HasNoneEnded, reset_refusal_at, refused_in}
+use Rattle.node_core.specs.Running.{HasNoneEnded, reset_refusal_at}
 use Rattle.node_core.proofs.Elsewhere.{host_at}
 use Rattle.node_core.proofs.Arriving.{come_is}
 use Rattle.node_core.proofs.Ticking.{none_with}
@@ -32,19 +30,6 @@ use Rattle.node_core.proofs.Lateness.{reset_silent}
 use Rattle.node_core.proofs.Stepping.{silent_synced}
 
 -- ## Refusals
-
-told_refusal : (m : Machine) (window : Option ℕ) → refused_in (Some (reset_told m window)) ≡ option_map reset_refused (reset_refusal m)
-told_refusal m window = by (reset_refusal m) refl
-  where
-    by : (o : Option Refused) → reset_refusal m ≡ o → refused_in (Some (reset_told m window)) ≡ option_map reset_refused (reset_refusal m)
-    by None q = rw q refl
-    by (Some why) q = rw q refl
-
--- what is told says whether and why
-pub refusal_told : (window : Option ℕ) (o : Option Port) (t : Option (Result LinkReport ResetRefused))
-    → t ≡ option_map (λ (p : Port). reset_told p.side window) o → refused_in t ≡ reset_refusal_at o
-refusal_told window None t is = ap refused_in is
-refusal_told window (Some p) t is = ap refused_in is ∙ told_refusal p.side window
 
 refused_side : (p : Port) (window : Option ℕ) (why : ResetRefused) → Err why ≡ reset_told p.side window → p.ended ≡ false
     → has_come p (Some (Reset window)) ≡ p
@@ -84,11 +69,18 @@ refused_stays h window why w differ none is =
     (ap (λ es. w.entries ++ es) (reset_silent w.core w.ports h window why is) ∙ append-nil w.entries)
     (refused_ports h window why w.ports differ none is)
 
--- why it was refused
-pub as_refused : (t : Option (Result LinkReport ResetRefused)) (why : ResetRefused) → refused_in t ≡ Some why → t ≡ Some (Err why)
-as_refused None why is = cc
-as_refused (Some (Ok report)) why is = cc
-as_refused (Some (Err other)) why is = let e : other ≡ why = cc in ap (λ (r : ResetRefused). Some (Err r)) e
+-- so it was told
+pub refused_is : (window : Option ℕ) (o : Option Port) (why : ResetRefused) → reset_refusal_at o ≡ Some why
+    → Some (Err why) ≡ option_map (λ (p : Port). reset_told p.side window) o
+refused_is window None why is = cc
+refused_is window (Some p) why is = by (reset_refusal p.side) refl
+  where
+    by : (r : Option Refused) → reset_refusal p.side ≡ r → Some (Err why) ≡ Some (reset_told p.side window)
+    by None q = absurd (let z : None ≡ Some why = rw q at is in cc)
+    by (Some refused) q =
+        let z : Some (reset_refused refused) ≡ Some why = rw q at is in
+        let e : why ≡ reset_refused refused = cc in
+        rw q (ap (λ (x : ResetRefused). Some (Err x)) e)
 
 -- ## Ticks
 
@@ -116,10 +108,6 @@ tick_silent e = by (is_open e.role) refl
 
 pub tick_synced : (core : Core) (ports : List Port) → flat_map (synced core TimePasses) ports ≡ []
 tick_synced core ports = silent_synced core TimePasses (λ p. (let s = tick_silent p.side in rw s refl)) ports
-
-pub four_few : (ports : List Port) → AreAtMostDue 4 ports → AreFewDue ports
-four_few [] few = tt
-four_few (p ∷ ports) few = let f = few.0 in (omega (arith, f), four_few ports few.1)
 
 pub ticked_few : (ports : List Port) → AreAtMostDue 4 ports → AreFewDue (map (λ (p : Port). has_come p (input_at TimePasses p)) ports)
 ticked_few [] few = tt

@@ -3,7 +3,6 @@ use Rattle.std.proofs.Common.{◌≡◌, ℕ, Bool, true, false, List, [], ◌�
 use Rattle.std.specs.Prelude.{Option, Some, None, is_none, ◌==◌}
 use Rattle.std.specs.Option.{option_map_or}
 use Rattle.std.proofs.lemmas.Bool.{true≢false}
-use Rattle.swp_base.specs.InMemory.{Plan}
 use Rattle.trace_model.specs.declared.entry.Entry.{Entry}
 use Rattle.trace_model.specs.declared.entry.Entry.TheVariants as entry
 use Rattle.trace_model.specs.declared.line.End.{End}
@@ -11,7 +10,7 @@ use Rattle.link_laws.specs.machine.Machine.{Message, Refused, give_refusal}
 use Rattle.link_laws.specs.machine.Machine.Turn.{Give, FetchMessage}
 use Rattle.node_machine.specs.Parts.{Core, Port, Work, Deed as DeedOf}
 use Rattle.node_machine.specs.Parts.Deed.{Sends}
-use Rattle.node_machine.specs.Carrying.{port_at, noted_of, end_of_node, with_port, after_turn, turn_at, with_desk, done, all_done, noting}
+use Rattle.node_machine.specs.Carrying.{port_at, noted_of, end_of_node, with_port, after_turn, turn_at, with_desk, done, all_done}
 use Rattle.node_machine.specs.Turns.{handles}
 use Rattle.node_ends.specs.declared.ends.Ends.{Ends}
 use Rattle.node_ends.specs.Ends.{takes_at, EndsStandFor, got_at}

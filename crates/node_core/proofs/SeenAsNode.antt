@@ -1,41 +1,18 @@
 -- A controller is seen as its node: what its node's calls ensure.
-use Rattle.std.proofs.Common.{◌≡◌, ℕ, ◌≤◌, Bool, true, false, List, map, refl, sym, ap, ◌∙◌, subst}
-use Rattle.swp_base.specs.Outside.{Rose}
+use Rattle.std.proofs.Common.{◌≡◌, ℕ, Bool, true, List, map, refl, sym, ap, ◌∙◌, subst}
 use Rattle.hci_store.specs.Stored.{Stored}
 use Rattle.node_core.specs.declared.node.Node.{Node}
-use Rattle.node_core.specs.declared.running.Ran.{Ran}
-use Rattle.node_core.specs.declared.running.Ran.TheVariants.{Done, Stopped}
-use Rattle.std.specs.Prelude.{Option, Some, None, option_map, IsTrue}
+use Rattle.std.specs.Prelude.{Option, Some, None, option_map, IsTrue, Result, Ok, Err, is_ok, MatchResult}
+use Rattle.link_end.specs.declared.report.ResetRefused.{ResetRefused}
 use Rattle.trace_model.specs.declared.entry.Entry.{Entry}
 use Rattle.node_machine.specs.Parts.{Core, Port}
 use Rattle.node_machine.specs.Carrying.{port_at}
 use Rattle.node_core.specs.Nodes.{IsSoundNode, IsInStep}
-use Rattle.node_core.specs.Running.{RunsAs, MayStep, between, ran_so, reset_refusal_at}
+use Rattle.node_core.specs.Running.{RunsAs, MayStep, between, reset_refusal_at}
 use Rattle.node_core.proofs.Between.{at_rest, kept_at}
-use Rattle.node_core.specs.Faults.{CountsFaults}
 
 pub seen_may : {N : Type 0} {n v : Node N} → n ≡ v → MayStep v → MayStep n
 seen_may {N} same may = let P : Node N → Type 0 = λ x. MayStep x in subst P (sym same) may
-
-counts_seen : {N : Type 0} (faults : N → ℕ) {n v : Node N} {one two : Stored N} → n ≡ v → two ≡ one → CountsFaults faults n.store one
-    → CountsFaults faults v.store two
-counts_seen {N} faults {n} {v} {one} {two} same store counts =
-    let P : Stored N → Type 0 = λ s. CountsFaults faults n.store s in
-    let Q : Node N → Type 0 = λ x. CountsFaults faults x.store two in
-    subst Q same (subst P (sym store) counts)
-
-pub seen_count : {N : Type 0} (faults : N → ℕ) {n v : Node N} {one two : Stored N} → n ≡ v → two ≡ one → CountsFaults faults n.store one
-    → faults v.store.journal.nv ≤ faults two.journal.nv
-seen_count faults same store counts = (counts_seen faults same store counts).count
-
-stopped_so : (b : Bool) → ran_so b ≡ Stopped → b ≡ false
-stopped_so true is = cc
-stopped_so false is = refl
-
-pub seen_rose : {N : Type 0} (faults : N → ℕ) {n v : Node N} {one two : Stored N} → n ≡ v → two ≡ one → CountsFaults faults n.store one
-    → ran_so one.journal.live ≡ Stopped → Rose (faults v.store.journal.nv) (faults two.journal.nv)
-seen_rose {N} faults {n} {v} {one} {two} same store counts stopped =
-    (counts_seen faults same store counts).rose (ap (λ (s : Stored N). s.journal.live) store ∙ stopped_so one.journal.live stopped)
 
 pub seen_runs : {N : Type 0} {n v : Node N} {core : Core} {ports : List Port} → n ≡ v → RunsAs v core ports → RunsAs n core ports
 seen_runs {N} {core = core} {ports = ports} same r = let P : Node N → Type 0 = λ x. RunsAs x core ports in subst P (sym same) r
@@ -63,3 +40,11 @@ still_runs {N} r u sound store =
       in_time = r.in_time;
       held = r.held;
     }
+
+-- ## What a step ensures
+
+-- a step that is never refused was done
+pub never_refused : {X : Type 0} (r : Result X ResetRefused)
+    → MatchResult r (λ done. ◌≡◌ {A = Option ResetRefused} None None) (λ (why : ResetRefused). ◌≡◌ {A = Option ResetRefused} None (Some why)) → is_ok r ≡ true
+never_refused (Ok done) m = refl
+never_refused (Err why) m = cc

@@ -1,15 +1,15 @@
 -- A whole step of a controller.
-use Rattle.std.proofs.Common.{◌≡◌, ◌≢◌, ℕ, ◌+◌, ◌≤◌, Bool, true, false, not, List, [], ◌∷◌, ◌++◌, map, length, refl, sym, ap, ap₂, ◌∙◌, subst, arith}
+use Rattle.std.proofs.Common.{◌≡◌, ◌≢◌, ℕ, ◌+◌, ◌≤◌, Bool, true, false, not, List, [], ◌∷◌, ◌++◌, map, refl, sym, ap, ◌∙◌, subst, arith}
 use Rattle.std.proofs.Common.{append-nil}
-use Rattle.std.specs.Prelude.{Option, Some, None, ◌==◌, option_map, IfSome, nat_le, ◌&&◌}
+use Rattle.std.specs.Prelude.{Option, Some, None, ◌==◌, option_map, IfSome}
 use Rattle.std.specs.List.{AllByRecursion, flat_map}
 use Rattle.std.proofs.lemmas.Bool.{eqb-true}
 use Rattle.std.proofs.lemmas.List.Concat.{flat_map-cons}
 use Rattle.swp_base.specs.InMemory.{Plan}
 use Rattle.trace_model.specs.declared.entry.Entry.{Entry}
 use Rattle.hci_store.specs.Stored.{Stored}
-use Rattle.link_laws.specs.machine.Machine.{LinkEnd as Machine, LinkInput, Role, report, after_input, act_answer, lpdu_input}
-use Rattle.link_laws.specs.machine.Machine.LinkInput.{Reset, Start, Stop, Tick}
+use Rattle.link_laws.specs.machine.Machine.{LinkEnd as Machine, LinkInput, Role, report, after_input, act_answer}
+use Rattle.link_laws.specs.machine.Machine.LinkInput.{Reset, Start, Stop}
 use Rattle.link_laws.specs.machine.Machine.Role.{Bare, Clf, Uicc}
 use Rattle.swp_act.specs.declared.ActEvent.TheVariants.{Start as ActStart, Stop as ActStop}
 use Rattle.link_end.specs.declared.report.LinkReport.{LinkReport}
@@ -18,7 +18,7 @@ use Rattle.node_machine.specs.Parts.{Core, Port, Work, Deed}
 use Rattle.node_machine.specs.Carrying.{port_at}
 use Rattle.node_machine.specs.Node.{NodeInput, has_come, input_at, all_come, times_out, synced, steps}
 use Rattle.node_machine.specs.Node.NodeInput.{AtEnd}
-use Rattle.node_ends.specs.Ends.{AreOfHosts, FewAreDue}
+use Rattle.node_ends.specs.Ends.{AreOfHosts}
 use Rattle.node_ends.specs.Making.{AreAllDifferent}
 use Rattle.node_ends.proofs.Dues.{due_count}
 use Rattle.node_core.specs.declared.node.Node.{Node}
@@ -28,7 +28,7 @@ use Rattle.node_core.specs.Turning.{AreFewDue, AreAtMostDue}
 use Rattle.node_core.specs.Syncing.{id_kept, sync_kept, sync_told, finishes}
 use Rattle.node_core.proofs.Steps.{brings_after}
 use Rattle.node_core.proofs.HavingTurns.{brings_same}
-use Rattle.node_core.proofs.Elsewhere.{host_at, hosts_differ}
+use Rattle.node_core.proofs.Elsewhere.{host_at}
 use Rattle.node_core.proofs.Sendables.{found_all}
 use Rattle.node_core.proofs.Doing as doing
 

@@ -32,11 +32,11 @@ use Rattle.node_ends.specs.Ends.{got_at}
 use Rattle.trace_model.specs.declared.entry.Entry.{Entry}
 use Rattle.link_end.specs.Reports.{reset_refused}
 use Rattle.node_core.specs.declared.node.Node.{Node}
-use Rattle.node_ends.specs.Ends.{EndsStandFor}
-use Rattle.node_core.specs.Nodes.{IsInStep, IsSoundNode}
-use Rattle.node_core.specs.Running.{BeginsStep, HasStepped, between, reset_refusal_at}
-use Rattle.node_core.proofs.Resting.{MakeOneMore}
-use Rattle.node_core.proofs.Behind.{stepped}
+use Rattle.node_core.specs.declared.inputs.LinkInput.{LinkInput as ToEnd}
+use Rattle.node_core.specs.declared.inputs.LinkInput.TheVariants as asks
+use Rattle.node_core.specs.Inputs.{input_of_end, refusal_at, IsAskedOf}
+use Rattle.node_core.specs.Running.{BeginsStep, HasStepped, reset_refusal_at}
+use Rattle.node_core.proofs.Stepping.{reset_synced, start_synced, stop_synced}
 use Rattle.node_core.specs.Handling.{has_turn}
 use Rattle.node_core.specs.Turning.{HasOwnLink}
 use Rattle.node_core.specs.Syncing.{left_over, settles}
@@ -285,7 +285,7 @@ pub stop_down : (e : Machine) → is_up (after_input e Stop).shdlc.phase ≡ fal
 stop_down e = activated_down (moved e true (stopped e.shdlc)) ActStop refl
 
 -- the same for the end of a host's own link, and for all
-pub resets_down : (node : ℕ) (window : Option ℕ) (ports : List Port) → map host_at ports ≡ node ∷ [] → reset_refusal_at (port_at ports node) ≡ None
+resets_down : (node : ℕ) (window : Option ℕ) (ports : List Port) → map host_at ports ≡ node ∷ [] → reset_refusal_at (port_at ports node) ≡ None
     → AllByRecursion (λ (p : Port). is_up (after_input p.side (Reset window)).shdlc.phase ≡ false) ports
 resets_down node window [] own none = tt
 resets_down node window (p ∷ q ∷ ports) own none = cc
@@ -301,11 +301,11 @@ resets_down node window (p ∷ []) own none =
     not_refused None q = refl
     not_refused (Some why) q = cc
 
-pub starts_down : (value : ℕ) (ports : List Port) → AllByRecursion (λ (p : Port). is_up (after_input p.side (Start value)).shdlc.phase ≡ false) ports
+starts_down : (value : ℕ) (ports : List Port) → AllByRecursion (λ (p : Port). is_up (after_input p.side (Start value)).shdlc.phase ≡ false) ports
 starts_down value [] = tt
 starts_down value (p ∷ ports) = (start_down p.side value, starts_down value ports)
 
-pub stops_down : (ports : List Port) → AllByRecursion (λ (p : Port). is_up (after_input p.side Stop).shdlc.phase ≡ false) ports
+stops_down : (ports : List Port) → AllByRecursion (λ (p : Port). is_up (after_input p.side Stop).shdlc.phase ≡ false) ports
 stops_down [] = tt
 stops_down (p ∷ ports) = (stop_down p.side, stops_down ports)
 
@@ -387,21 +387,35 @@ stepped_still writes {n = n} {w = w} i b some own live none goes =
     (λ v plan s. record { power = s.power; runs = s.runs; noted_are = s.noted_are }) in
     (r.0, r.1, not-false n.store.journal.live (sym r.1.power ∙ (step_unwritten w i some own live none goes).1))
 
--- A whole step of a host in which something came to its end behind which that isn't up: it left the memory, and what was done to its
--- end isn't kept.
-pub host_still : {N : Type 0} (writes : N → ℕ → List ℕ → Bool → N → Type 0) {n n1 n2 : Node N} {noted noted2 start : List Entry} {short short2 : Bool}
-    {w : Work} (h : ℕ) (i : LinkInput) → h ≡ n.number → n.number ≢ 0 → MakeOneMore (AtEnd h i) → BeginsStep n noted short start w
-    → Brings writes n.store.journal.nv n1.store.journal.nv (IsInStep n1 noted2 short2 start) (steps (AtEnd h i)) w
-    → ((ports : List Port) → EndsStandFor n1.ends ports → EndsStandFor n2.ends (map between ports)) → n2.store ≡ n1.store
-    → n2.number ≡ n1.number → n2.tasks ≡ n1.tasks → IsSoundNode n2
-    → flat_map (synced w.core (AtEnd w.core.node i)) w.ports ≡ []
-    → AllByRecursion (λ (p : Port). is_up (after_input p.side i).shdlc.phase ≡ false) w.ports
-    → (n2.store.journal.nv ≡ n.store.journal.nv) × HasStepped n2 noted2 short2 start (steps (AtEnd n.number i) w) × IsTrue n2.store.journal.live
-host_still writes {n} {n1} {n2} {noted2 = noted2} {start = start} {short2 = short2} {w = w} h i same some more begins b ended store number tasks sound
-    none goes =
-    let whole = stepped writes {n2 = n2} (AtEnd h i) more begins b ended store number tasks sound in
+-- ## What is asked of a host
+
+still_synced : (core : Core) (h : ℕ) (what : ToEnd) (ports : List Port) → IsAskedOf what
+    → flat_map (synced core (AtEnd h (input_of_end what))) ports ≡ []
+still_synced core h (asks.Frame read) ports asked = absurd asked
+still_synced core h (asks.Reset window) ports asked = reset_synced core h window ports
+still_synced core h (asks.Start value) ports asked = start_synced core h value ports
+still_synced core h asks.Stop ports asked = stop_synced core h ports
+
+still_down : (node : ℕ) (what : ToEnd) (ports : List Port) → IsAskedOf what → map host_at ports ≡ node ∷ [] → refusal_at what (port_at ports node) ≡ None
+    → AllByRecursion (λ (p : Port). is_up (after_input p.side (input_of_end what)).shdlc.phase ≡ false) ports
+still_down node (asks.Frame read) ports asked own none = absurd asked
+still_down node (asks.Reset window) ports asked own none = resets_down node window ports own none
+still_down node (asks.Start value) ports asked own none = starts_down value ports
+still_down node asks.Stop ports asked own none = stops_down ports
+
+-- A step of a host that was asked for something at its end leaves its memory, and the host has its power behind it.
+pub host_still : {N : Type 0} (writes : N → ℕ → List ℕ → Bool → N → Type 0) {n n2 : Node N} {noted noted2 start : List Entry} {short short2 : Bool}
+    {w : Work} (what : ToEnd) → IsAskedOf what → n.number ≢ 0 → refusal_at what (port_at w.ports n.number) ≡ None → BeginsStep n noted short start w
+    → Brings writes n.store.journal.nv n2.store.journal.nv (HasStepped n2 noted2 short2 start) (steps (AtEnd n.number (input_of_end what))) w
+    → (n2.store.journal.nv ≡ n.store.journal.nv) × HasStepped n2 noted2 short2 start (steps (AtEnd n.number (input_of_end what)) w)
+    × IsTrue n2.store.journal.live
+host_still writes {n} {n2} {noted2 = noted2} {start = start} {short2 = short2} {w = w} what asked some none begins whole =
+    let node = begins.runs.node in
+    let i : LinkInput = input_of_end what in
     let P : ℕ → Type 0 = λ k. Brings writes n.store.journal.nv n2.store.journal.nv (HasStepped n2 noted2 short2 start) (steps (AtEnd k i)) w in
     let Q : ℕ → Type 0 = λ k. HasStepped n2 noted2 short2 start (steps (AtEnd k i) w) in
-    let r = stepped_still writes i (subst P (same ∙ sym begins.runs.node) whole) (λ zero. some (sym begins.runs.node ∙ zero)) begins.runs.order.own
-    begins.power none goes in
-    (r.0, subst Q begins.runs.node r.1, r.2)
+    let R : ℕ → Type 0 = λ k. refusal_at what (port_at w.ports k) ≡ None in
+    let nonzero : w.core.node ≢ 0 = λ zero. some (sym node ∙ zero) in
+    let r = stepped_still writes i (subst P (sym node) whole) nonzero begins.runs.order.own begins.power (still_synced w.core w.core.node what w.ports asked)
+    (still_down w.core.node what w.ports asked (begins.runs.order.own nonzero) (subst R (sym node) none)) in
+    (r.0, subst Q node r.1, r.2)

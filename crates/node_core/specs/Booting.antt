@@ -10,7 +10,7 @@ use Rattle.hci_store.specs.Refusals.{IsSpent, IsOnlyRead}
 use Rattle.hci_store.specs.Stored.{FindsSame}
 use Rattle.journal_laws.specs.Writes.{AreRead}
 use Rattle.hci_store.specs.Starting.{ready_state, ready_writes, HasWritten}
-use Rattle.node_machine.specs.Parts.{Core, Running}
+use Rattle.node_machine.specs.Parts.{Running}
 use Rattle.node_machine.specs.Node.{found}
 use Rattle.node_ends.specs.Ends.{EndsStandFor}
 use Rattle.node_ends.specs.Making.{new_port}

@@ -9,4 +9,5 @@ pub mod Booting
 pub mod Syncing
 pub mod Giving
 pub mod Running
+pub mod Inputs
 pub mod Faults

@@ -1,11 +1,10 @@
 -- A node between its steps and in them: for which states of its machine it stands, as far as the next step asks for it.
-use Rattle.std.specs.Prelude.{◌≡◌, ◌≤◌, ◌+◌, min, length, Bool, true, false, not, List, [], ◌++◌, map, Option, Some, None, option_map, Result, Ok, Err, IsTrue}
+use Rattle.std.specs.Prelude.{◌≡◌, ◌≤◌, ◌+◌, min, length, Bool, true, false, not, List, [], ◌++◌, map, Option, Some, None, option_map, IsTrue}
 use Rattle.std.specs.List.{AllByRecursion}
 use Rattle.std.specs.Option.{option_map_or}
 use Rattle.trace_model.specs.declared.entry.Entry.{Entry}
 use Rattle.link_laws.specs.machine.Machine.{LinkEnd, LinkInput, report, next_frame, frames_out, sent_all, reset_refusal}
 use Rattle.link_laws.specs.machine.Laws.{fetches, after_fetches, most_fetches}
-use Rattle.link_end.specs.declared.report.LinkReport.{LinkReport}
 use Rattle.link_end.specs.declared.report.ResetRefused.{ResetRefused}
 use Rattle.link_end.specs.Reports.{reset_refused}
 use Rattle.node_machine.specs.Parts.{Core, Port, Work}
@@ -90,19 +89,9 @@ abbrev pub reset_refusal_at : Option Port → Option ResetRefused
 reset_refusal_at None = None
 reset_refusal_at (Some p) = option_map reset_refused (reset_refusal p.side)
 
--- an end became active by what was told of it, where anything was
-abbrev pub is_active_told : Option LinkReport → Bool
-is_active_told told = option_map_or (λ (r : LinkReport). r.became_active) told false
-
 -- an end, where there is one, becomes active by this input
 abbrev pub becomes_active_by : LinkInput → Option Port → Bool
 becomes_active_by i port = option_map_or (λ (p : Port). (report p.side i).became_active) port false
-
--- why a reset was refused, of which this was told, where it was
-abbrev pub refused_in : Option (Result LinkReport ResetRefused) → Option ResetRefused
-refused_in None = None
-refused_in (Some (Ok report)) = None
-refused_in (Some (Err why)) = Some why
 
 -- The frames that are fetched of an end one after another are all that are due, at most five of them ACT frames. Behind them it has sent
 -- all, and none is due.

@@ -1,34 +1,44 @@
 //! What comes to an end of a node.
-ghost use Rattle.std.specs.Prelude.{◌≡◌};
+ghost use Rattle.std.specs.Prelude.{◌≡◌, Some};
+ghost use Rattle.node_core.specs.Syncing.{sync_told};
 
+use crate::inputs::{Came, LinkInput, comes_to};
 use crate::node::{InBuffer, Node};
 use crate::noting::note;
 use crate::reporting::{note_report, tells_nothing};
 use link_end::{LinkReport, ResetRefused};
-use swp_base::{Control, Nv};
-use swp_lpdu::LpduFault;
+use swp_base::Nv;
 use trace_model::{Entry, Octets, Watch};
 
+// The identifier that came by what is told of the end of the link with this host, where one did.
+fn sync_told(host: u8, report: &LinkReport) -> Option<(u8, u16)>
+    ensures { result ≡ sync_told host (Some report.now) }
+{
+    match report.sync {
+        Some(id) => Some((host, id)),
+        None => None,
+    }
+}
+
 impl<N: Nv + Drop> Node<N> {
-    ghost use Rattle.std.specs.Prelude.{◌≡◌, ◌≤◌, ℕ, IfSome, List, [], map, length, if◌then◌else◌, Some, None, Err, option_map, slice_get};
+    ghost use Rattle.std.specs.Prelude.{◌≡◌, ℕ, List, [], map, length, if◌then◌else◌, Some, None, slice_get, IfOk, OnErr, MatchResult};
     ghost use Rattle.std.specs.Option.{option_map_or};
     ghost use Rattle.trace_model.specs.declared.entry.Entry.{Entry as Noted};
-    ghost use Rattle.swp_lpdu.specs.Controls.{control_of};
-    ghost use Rattle.link_laws.specs.machine.Machine.{Report, report, lpdu_input, whole_acked};
-    ghost use Rattle.link_laws.specs.machine.Machine.LinkInput.{Reset, Start, Stop, Tick};
+    ghost use Rattle.link_laws.specs.machine.Machine.{Report, whole_acked};
+    ghost use Rattle.link_laws.specs.machine.Machine.LinkInput.{Tick};
     ghost use Rattle.link_laws.specs.entries.Entries.{told};
     ghost use Rattle.link_laws.specs.entries.Entries.Entry.{Got};
     ghost use Rattle.history.specs.Steps.{entries_for};
-    ghost use Rattle.link_end.specs.declared.report.ResetRefused.{ResetRefused as Refusal};
-    ghost use Rattle.link_end.specs.Reports.{report_told, reset_told};
+    ghost use Rattle.link_end.specs.Reports.{report_told};
     ghost use Rattle.node_machine.specs.Parts.{Core, Port, Work};
     ghost use Rattle.node_machine.specs.Carrying.{own_side, port_at};
     ghost use Rattle.node_machine.specs.Node.{all_come};
     ghost use Rattle.node_machine.specs.Node.NodeInput.{AtEnd, TimePasses};
     ghost use Rattle.node_ends.specs.Holding.{kept_number};
-    ghost use Rattle.node_ends.specs.Ends.{EndsStandFor, FewAreDue, IsHeldWhileOneWaits, MayStartAt, got_at};
+    ghost use Rattle.node_ends.specs.Ends.{EndsStandFor, FewAreDue, IsHeldWhileOneWaits, got_at};
     ghost use Rattle.node_core.specs.Nodes.{IsInStep, IsSoundNode, LiesInBuffer};
     ghost use Rattle.node_core.specs.Turning.{AreFewDue};
+    ghost use Rattle.node_core.specs.Inputs.{input_of_end, refusal_at, MayComeAt, IsWhatCame};
     ghost use Rattle.node_core.specs.Noting.{AreNotes, unnumbered};
 
     // The message that came to the end of the link with this host, where one did, is noted: it lies in the front of the buffer then. The
@@ -129,128 +139,48 @@ impl<N: Nv + Drop> Node<N> {
         self.note_news(host, report, buffer, watch)
     }
 
-    /// What an LPDU says comes to the end of the link with this host, and is noted. At most six control frames wait there to be sent, and
-    /// while a message waits there the end is held. The buffer has 4,096 bytes. What is told of it is put into `told`: `None` where there is
-    /// no such end. The message that came, where one did, lies in the front of the buffer then.
-    pub(crate) fn take<W: Watch>(
+    /// What comes to the end of the link with this host, and what that did is noted. While a message waits there the end is held, and at most
+    /// six control frames wait there to be sent. The buffer has 4,096 bytes. The message that came, where one did, lies in its front then.
+    ///
+    /// # Errors
+    ///
+    /// A reset is refused: nothing is noted.
+    #[inline(always)]
+    pub(crate) fn comes_at<W: Watch>(
         &mut self,
         host: u8,
-        read: &Result<Control, LpduFault>,
+        what: LinkInput<'_>,
         buffer: &mut [u8],
         watch: &mut W,
-        told: &mut Option<LinkReport>,
-    ) -> Option<InBuffer>
+    ) -> Result<Came, ResetRefused>
         requires runs { IsSoundNode self.old }
         requires buffer { length buffer.old ≡ 4096 }
         requires may { (start : List Noted) × (w : Work) × IsInStep self.old (W.noted watch.old) (W.is_short watch.old) start w
-            × FewAreDue (port_at w.ports host) × IsHeldWhileOneWaits (port_at w.ports host) }
-        requires read { (lpdu : List ℕ) × (read.now ≡ control_of lpdu) }
-        ensures carried { (start : List Noted) (w : Work) (lpdu : List ℕ) → IsInStep self.old (W.noted watch.old) (W.is_short watch.old) start w
-            → read.now ≡ control_of lpdu → IsInStep self.new (W.noted watch.new) (W.is_short watch.new) start (all_come (AtEnd host (lpdu_input lpdu)) w) }
-        ensures answer { (start : List Noted) (w : Work) (lpdu : List ℕ) → IsInStep self.old (W.noted watch.old) (W.is_short watch.old) start w
-            → read.now ≡ control_of lpdu → told.new ≡ option_map (λ (p : Port). report_told (report p.side (lpdu_input lpdu))) (port_at w.ports host) }
-        ensures lies { LiesInBuffer self.new.ends buffer.new result }
-        ensures store { self.new.store ≡ self.old.store }
-        ensures number { self.new.number ≡ self.old.number }
-        ensures runs { IsSoundNode self.new }
-    {
-        self.ends.take(host, read, told);
-        let Some(report) = told else {
-            return None;
-        };
-        self.note_input(host, report, buffer, watch)
-    }
-
-    /// Activation begins anew at the end of the link with this host, with the power mode of a CLF or the sync identifier of a UICC, and
-    /// what that did is noted. At most six control frames wait there to be sent. The buffer has 4,096 bytes. What is told of it; `None`
-    /// where there is no such end.
-    pub(crate) fn activate<W: Watch>(
-        &mut self,
-        host: u8,
-        value: u16,
-        buffer: &mut [u8],
-        watch: &mut W,
-    ) -> Option<LinkReport>
-        requires runs { IsSoundNode self.old }
-        requires buffer { length buffer.old ≡ 4096 }
-        requires may { (start : List Noted) × (w : Work) × IsInStep self.old (W.noted watch.old) (W.is_short watch.old) start w
-            × FewAreDue (port_at w.ports host) × MayStartAt value (port_at w.ports host) }
+            × FewAreDue (port_at w.ports host) × IsHeldWhileOneWaits (port_at w.ports host) × MayComeAt what (port_at w.ports host) }
         ensures carried { (start : List Noted) (w : Work) → IsInStep self.old (W.noted watch.old) (W.is_short watch.old) start w
-            → IsInStep self.new (W.noted watch.new) (W.is_short watch.new) start (all_come (AtEnd host (Start value)) w) }
-        ensures answer { (start : List Noted) (w : Work) → IsInStep self.old (W.noted watch.old) (W.is_short watch.old) start w
-            → result ≡ option_map (λ (p : Port). report_told (report p.side (Start value))) (port_at w.ports host) }
+            → IsInStep self.new (W.noted watch.new) (W.is_short watch.new) start (all_come (AtEnd host (input_of_end what.entry)) w) }
+        ensures came { (start : List Noted) (w : Work) → IsInStep self.old (W.noted watch.old) (W.is_short watch.old) start w
+            → MatchResult result
+            (λ came. IsWhatCame (AtEnd host (input_of_end what.entry)) w.ports came × (refusal_at what.entry (port_at w.ports host) ≡ None))
+            (λ why. refusal_at what.entry (port_at w.ports host) ≡ Some why) }
+        ensures lies { IfOk result (λ came. LiesInBuffer self.new.ends buffer.new came.lies) }
+        ensures quiet { OnErr result (watch.new ≡ watch.old) }
         ensures store { self.new.store ≡ self.old.store }
         ensures number { self.new.number ≡ self.old.number }
         ensures runs { IsSoundNode self.new }
     {
-        let Some(report) = self.ends.activate(host, value) else {
-            return None;
-        };
-        self.note_input(host, &report, buffer, watch);
-        Some(report)
-    }
-
-    /// Activation ends at the end of the link with this host, and the link with it, and what that did is noted. At most six control
-    /// frames wait there to be sent. The buffer has 4,096 bytes. What is told of it; `None` where there is no such end.
-    pub(crate) fn deactivate<W: Watch>(
-        &mut self,
-        host: u8,
-        buffer: &mut [u8],
-        watch: &mut W,
-    ) -> Option<LinkReport>
-        requires runs { IsSoundNode self.old }
-        requires buffer { length buffer.old ≡ 4096 }
-        requires may { (start : List Noted) × (w : Work) × IsInStep self.old (W.noted watch.old) (W.is_short watch.old) start w
-            × FewAreDue (port_at w.ports host) }
-        ensures carried { (start : List Noted) (w : Work) → IsInStep self.old (W.noted watch.old) (W.is_short watch.old) start w
-            → IsInStep self.new (W.noted watch.new) (W.is_short watch.new) start (all_come (AtEnd host Stop) w) }
-        ensures answer { (start : List Noted) (w : Work) → IsInStep self.old (W.noted watch.old) (W.is_short watch.old) start w
-            → result ≡ option_map (λ (p : Port). report_told (report p.side Stop)) (port_at w.ports host) }
-        ensures store { self.new.store ≡ self.old.store }
-        ensures number { self.new.number ≡ self.old.number }
-        ensures runs { IsSoundNode self.new }
-    {
-        let Some(report) = self.ends.deactivate(host) else {
-            return None;
-        };
-        self.note_input(host, &report, buffer, watch);
-        Some(report)
-    }
-
-    /// A reset of the link with this host is asked for, with this window, which is 1 to 4, or with the end's own one, and what that did is
-    /// noted. At most six control frames wait there to be sent. The buffer has 4,096 bytes. What is told of it; `None` where there is no
-    /// such end.
-    pub(crate) fn reset<W: Watch>(
-        &mut self,
-        host: u8,
-        window: Option<u8>,
-        buffer: &mut [u8],
-        watch: &mut W,
-    ) -> Option<Result<LinkReport, ResetRefused>>
-        requires runs { IsSoundNode self.old }
-        requires buffer { length buffer.old ≡ 4096 }
-        requires window { IfSome window (λ w. (1 ≤ w) × (w ≤ 4)) }
-        requires may { (start : List Noted) × (w : Work) × IsInStep self.old (W.noted watch.old) (W.is_short watch.old) start w
-            × FewAreDue (port_at w.ports host) }
-        ensures carried { (start : List Noted) (w : Work) → IsInStep self.old (W.noted watch.old) (W.is_short watch.old) start w
-            → IsInStep self.new (W.noted watch.new) (W.is_short watch.new) start (all_come (AtEnd host (Reset window)) w) }
-        ensures answer { (start : List Noted) (w : Work) → IsInStep self.old (W.noted watch.old) (W.is_short watch.old) start w
-            → result ≡ option_map (λ (p : Port). reset_told p.side window) (port_at w.ports host) }
-        ensures quiet { (why : Refusal) → result ≡ Some (Err why) → watch.new ≡ watch.old }
-        ensures store { self.new.store ≡ self.old.store }
-        ensures number { self.new.number ≡ self.old.number }
-        ensures runs { IsSoundNode self.new }
-    {
-        let Some(told) = self.ends.reset(host, window) else {
-            return None;
-        };
-        match told {
-            Ok(report) => {
-                self.note_input(host, &report, buffer, watch);
-                Some(Ok(report))
-            }
-            Err(why) => Some(Err(why)),
+        let mut told = None;
+        if let Err(why) = comes_to(&mut self.ends, host, what, &mut told) {
+            return Err(why);
         }
+        let Some(report) = &told else {
+            return Ok(Came::nothing());
+        };
+        Ok(Came {
+            sync: sync_told(host, report),
+            lies: self.note_input(host, report, buffer, watch),
+            became_active: report.became_active,
+        })
     }
 
     // A tick comes to the end at this place, where there is one, and what it did is noted. At most six control frames wait there to be

@@ -1,8 +1,9 @@
 //! A controller: a node with a link to each of its hosts, and the buffer in which it reads a message.
 use crate::booting::{BootFault, BootRefused};
 use crate::hosts::hosts_of;
+use crate::inputs::{LinkInput, NodeInput};
 use crate::node::Node;
-use crate::running::{Ran, Stepped, how_it_ran};
+use crate::running::{Ran, Stepped};
 use arrayvec::ArrayVec;
 use hci_store::Store;
 use link_end::ResetRefused;
@@ -140,11 +141,12 @@ impl<N: Nv + Drop> Controller<N> {
         ensures count { N.faults self.old.store.journal.nv ≤ N.faults self.new.store.journal.nv }
         ensures rose { result.ran ≡ Ran.Stopped → Rose (N.faults self.old.store.journal.nv) (N.faults self.new.store.journal.nv) }
     {
-        let stepped = self
-            .node
-            .take_step(host, read, self.buffer.as_mut_slice(), watch);
-        self.node.end_step();
-        stepped
+        let input = NodeInput::At {
+            host,
+            what: LinkInput::Frame(read),
+        };
+        let stepped = self.node.step(input, self.buffer.as_mut_slice(), watch);
+        stepped.unwrap()
     }
 
     /// A tick passes at all links. Every frame of the step before was fetched.
@@ -157,9 +159,10 @@ impl<N: Nv + Drop> Controller<N> {
         ensures count { N.faults self.old.store.journal.nv ≤ N.faults self.new.store.journal.nv }
         ensures rose { result ≡ Ran.Stopped → Rose (N.faults self.old.store.journal.nv) (N.faults self.new.store.journal.nv) }
     {
-        let live = self.node.tick_step(self.buffer.as_mut_slice(), watch);
-        self.node.end_step();
-        how_it_ran(live)
+        let stepped = self
+            .node
+            .step(NodeInput::Tick, self.buffer.as_mut_slice(), watch);
+        stepped.unwrap().ran
     }
 
     /// The link with this host is reset (ETSI TS 102 613, section 10.7), with this window, which is 1 to 4, or with the end's own one.
@@ -187,16 +190,15 @@ impl<N: Nv + Drop> Controller<N> {
         ensures count { N.faults self.old.store.journal.nv ≤ N.faults self.new.store.journal.nv }
         ensures rose { result ≡ Ok Ran.Stopped → Rose (N.faults self.old.store.journal.nv) (N.faults self.new.store.journal.nv) }
     {
-        match self
-            .node
-            .reset_step(host, window, self.buffer.as_mut_slice(), watch)
-        {
-            Ok(live) => {
-                self.node.end_step();
-                Ok(how_it_ran(live))
-            }
-            Err(why) => Err(why),
-        }
+        let input = NodeInput::At {
+            host,
+            what: LinkInput::Reset(window),
+        };
+        let stepped = match self.node.step(input, self.buffer.as_mut_slice(), watch) {
+            Ok(stepped) => stepped,
+            Err(why) => return Err(why),
+        };
+        Ok(stepped.ran)
     }
 
     /// Activation begins anew at the link with this host (ETSI TS 102 613, section 9.4), with this power mode, which is 00 or 01.
@@ -211,11 +213,12 @@ impl<N: Nv + Drop> Controller<N> {
         ensures count { N.faults self.old.store.journal.nv ≤ N.faults self.new.store.journal.nv }
         ensures rose { result ≡ Ran.Stopped → Rose (N.faults self.old.store.journal.nv) (N.faults self.new.store.journal.nv) }
     {
-        let live = self
-            .node
-            .activate_step(host, power as u16, self.buffer.as_mut_slice(), watch);
-        self.node.end_step();
-        how_it_ran(live)
+        let input = NodeInput::At {
+            host,
+            what: LinkInput::Start(power as u16),
+        };
+        let stepped = self.node.step(input, self.buffer.as_mut_slice(), watch);
+        stepped.unwrap().ran
     }
 
     /// Activation ends at the link with this host, and the link with it. Every frame of the step before was fetched.
@@ -228,11 +231,12 @@ impl<N: Nv + Drop> Controller<N> {
         ensures count { N.faults self.old.store.journal.nv ≤ N.faults self.new.store.journal.nv }
         ensures rose { result ≡ Ran.Stopped → Rose (N.faults self.old.store.journal.nv) (N.faults self.new.store.journal.nv) }
     {
-        let live = self
-            .node
-            .deactivate_step(host, self.buffer.as_mut_slice(), watch);
-        self.node.end_step();
-        how_it_ran(live)
+        let input = NodeInput::At {
+            host,
+            what: LinkInput::Stop,
+        };
+        let stepped = self.node.step(input, self.buffer.as_mut_slice(), watch);
+        stepped.unwrap().ran
     }
 
     /// A frame on its way from this host was refused: one more for REC_ERROR of its link (ETSI TS 102 622, section 7.1), which stops at FFFF.

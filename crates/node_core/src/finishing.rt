@@ -1,66 +1,23 @@
 //! The steps of a node.
-ghost use Rattle.std.specs.Prelude.{◌≡◌};
-ghost use Rattle.node_core.specs.Syncing.{sync_told};
-ghost use Rattle.node_core.specs.Running.{refused_in, is_active_told};
-
+use crate::inputs::{Came, NodeInput};
 use crate::node::{InBuffer, Node};
 use crate::running::{Stepped, how_it_ran};
-use link_end::{LinkReport, ResetRefused};
-use swp_base::{Control, Nv};
-use swp_lpdu::LpduFault;
+use link_end::ResetRefused;
+use swp_base::Nv;
 use trace_model::Watch;
 
-// The identifier that came by what is told of the end of the link with this host, where one did.
-fn sync_told(host: u8, told: &Option<LinkReport>) -> Option<(u8, u16)>
-    ensures { result ≡ sync_told host told.now }
-{
-    match told {
-        Some(report) => match report.sync {
-            Some(id) => Some((host, id)),
-            None => None,
-        },
-        None => None,
-    }
-}
-
-// Whether the end of which this is told became active.
-fn is_active(told: &Option<LinkReport>) -> bool
-    ensures { result ≡ is_active_told told.now }
-{
-    match told {
-        Some(report) => report.became_active,
-        None => false,
-    }
-}
-
-// Why the reset of which this is told was refused, where it was.
-fn refusal(told: &Option<Result<LinkReport, ResetRefused>>) -> Option<ResetRefused>
-    ensures { result ≡ refused_in told.now }
-{
-    match told {
-        Some(Ok(_report)) => None,
-        Some(Err(why)) => Some(*why),
-        None => None,
-    }
-}
-
 impl<N: Nv + Drop> Node<N> {
-    ghost use Rattle.std.specs.Prelude.{◌≡◌, ◌≤◌, ℕ, List, length, None, Some, IfSome, IfOk, OnOk, OnErr, MatchResult, IsTrue};
-    ghost use Rattle.swp_lpdu.specs.Controls.{control_of};
-    ghost use Rattle.link_laws.specs.machine.Machine.{lpdu_input};
-    ghost use Rattle.link_laws.specs.machine.Machine.LinkInput.{Reset, Start, Stop};
-    ghost use Rattle.node_machine.specs.Carrying.{port_at};
-    ghost use Rattle.node_machine.specs.Node.{steps};
-    ghost use Rattle.node_machine.specs.Node.NodeInput.{AtEnd, TimePasses};
+    ghost use Rattle.std.specs.Prelude.{◌≡◌, ◌≤◌, List, length, None, Some, IfSome, IfOk, OnOk, OnErr, MatchResult, IsTrue};
+    ghost use Rattle.node_machine.specs.Parts.{Core, Port, Work};
+    ghost use Rattle.node_machine.specs.Node.{all_come, times_out, steps};
     ghost use Rattle.trace_model.specs.declared.entry.Entry.{Entry as Noted};
-    ghost use Rattle.node_machine.specs.Parts.{Work};
-    ghost use Rattle.node_ends.specs.Ends.{IsHeldWhileOneWaits, MayStartAt};
     ghost use Rattle.node_core.specs.Nodes.{IsInStep, IsSoundNode, LiesInBuffer};
     ghost use Rattle.node_core.specs.Bringing.{Brings};
     ghost use Rattle.node_core.specs.Faults.{CountsFaults};
-    ghost use Rattle.node_core.specs.Turning.{IsNodeInOrder, AreFewDue, AreAtMostDue, AreYoung};
-    ghost use Rattle.node_core.specs.Running.{HasNoneEnded, reset_refusal_at, becomes_active_by, ran_so};
+    ghost use Rattle.node_core.specs.Turning.{IsNodeInOrder, AreFewDue};
+    ghost use Rattle.node_core.specs.Running.{RunsAs, BeginsStep, HasStepped, HasNoneEnded, IsAllSent, ran_so};
     ghost use Rattle.node_core.specs.Syncing.{sync_kept, finishes};
+    ghost use Rattle.node_core.specs.Inputs.{input_of_node, refusal_by, makes_active, MayComeToNode, IsWhatCame};
 
     // What came in a step is settled, and the messages that wait have their turns, as in `finish`.
     #[inline(never)]
@@ -131,156 +88,78 @@ impl<N: Nv + Drop> Node<N> {
         self.settle_and_pass(came, lies, buffer, watch)
     }
 
-    /// A step of a node that is in order: what an LPDU says comes to the end of the link with this host. While a message waits there the end
-    /// is held. At most five control frames wait at each end to be sent. The buffer has 4,096 bytes.
-    #[tactic(auto, using(crate::proofs::Faults::faults_stay, crate::proofs::Faults::faults_then))]
-    pub fn take_step<W: Watch>(
+    // What begins a step, and what that did is noted. The buffer has 4,096 bytes; the message that came, where one did, lies in its front then.
+    #[inline(always)]
+    fn comes<W: Watch>(
         &mut self,
-        host: u8,
-        read: &Result<Control, LpduFault>,
+        input: NodeInput<'_>,
         buffer: &mut [u8],
         watch: &mut W,
-    ) -> Stepped
-        requires runs { IsSoundNode self.old }
-        requires live { IsTrue self.old.store.journal.live }
+    ) -> Result<Came, ResetRefused>
         requires buffer { length buffer.old ≡ 4096 }
-        requires read { (lpdu : List ℕ) × (read.now ≡ control_of lpdu) }
-        requires may { (start : List Noted) × (w : Work) × IsInStep self.old (W.noted watch.old) (W.is_short watch.old) start w
-            × IsNodeInOrder w.core w.ports × AreAtMostDue 5 w.ports
-            × IsHeldWhileOneWaits (port_at w.ports host) }
-        ensures carried { (start : List Noted) (w : Work) (lpdu : List ℕ) → IsInStep self.old (W.noted watch.old) (W.is_short watch.old) start w
-            → IsNodeInOrder w.core w.ports → AreAtMostDue 5 w.ports → read.now ≡ control_of lpdu
-            → Brings N.writes self.old.store.journal.nv self.new.store.journal.nv
-            (IsInStep self.new (W.noted watch.new) (W.is_short watch.new) start) (steps (AtEnd host (lpdu_input lpdu))) w }
-        ensures active { (start : List Noted) (w : Work) (lpdu : List ℕ) → IsInStep self.old (W.noted watch.old) (W.is_short watch.old) start w
-            → read.now ≡ control_of lpdu → result.became_active ≡ becomes_active_by (lpdu_input lpdu) (port_at w.ports host) }
-        ensures ran { result.ran ≡ ran_so self.new.store.journal.live }
-        ensures faults { CountsFaults N.faults self.old.store self.new.store }
+        requires may { (start : List Noted) × (w : Work) × BeginsStep self.old (W.noted watch.old) (W.is_short watch.old) start w
+            × MayComeToNode input w.ports }
+        ensures carried { (start : List Noted) (w : Work) → BeginsStep self.old (W.noted watch.old) (W.is_short watch.old) start w
+            → IsInStep self.new (W.noted watch.new) (W.is_short watch.new) start
+            (times_out (input_of_node input.entry) (all_come (input_of_node input.entry) w)) }
+        ensures came { (start : List Noted) (w : Work) → IsInStep self.old (W.noted watch.old) (W.is_short watch.old) start w
+            → MatchResult result (λ came. IsWhatCame (input_of_node input.entry) w.ports came × (refusal_by input.entry w.ports ≡ None))
+            (λ why. refusal_by input.entry w.ports ≡ Some why) }
+        ensures unchanged { OnErr result ((start : List Noted) (w : Work) → IsInStep self.old (W.noted watch.old) (W.is_short watch.old) start w
+            → HasNoneEnded w.ports → IsInStep self.new (W.noted watch.new) (W.is_short watch.new) start w) }
+        ensures lies { IfOk result (λ came. LiesInBuffer self.new.ends buffer.new came.lies) }
+        ensures quiet { OnErr result (watch.new ≡ watch.old) }
+        ensures store { self.new.store ≡ self.old.store }
         ensures number { self.new.number ≡ self.old.number }
         ensures runs { IsSoundNode self.new }
     {
-        let mut told = None;
-        let lies = self.take(host, read, buffer, watch, &mut told);
-        let came = sync_told(host, &told);
-        let live = self.finish(came, lies, buffer, watch);
-        Stepped {
-            ran: how_it_ran(live),
-            became_active: is_active(&told),
+        match input {
+            NodeInput::At { host, what } => self.comes_at(host, what, buffer, watch),
+            NodeInput::Tick => {
+                self.time_passes(buffer, watch);
+                self.times_out(buffer, watch);
+                Ok(Came::nothing())
+            }
         }
     }
 
-    /// A step of a node that is in order: time passes at all of them. Notices have fewer than 255 ticks. At most four control frames wait at
-    /// each end to be sent. The buffer has 4,096 bytes. Whether the node has its power still.
-    #[tactic(auto, using(crate::proofs::Faults::faults_stay, crate::proofs::Faults::faults_then))]
-    pub fn tick_step<W: Watch>(&mut self, buffer: &mut [u8], watch: &mut W) -> bool
-        requires runs { IsSoundNode self.old }
-        requires live { IsTrue self.old.store.journal.live }
-        requires buffer { length buffer.old ≡ 4096 }
-        requires may { (start : List Noted) × (w : Work) × IsInStep self.old (W.noted watch.old) (W.is_short watch.old) start w
-            × IsNodeInOrder w.core w.ports × AreAtMostDue 4 w.ports × AreYoung w.ports }
-        ensures carried { (start : List Noted) (w : Work) → IsInStep self.old (W.noted watch.old) (W.is_short watch.old) start w
-            → IsNodeInOrder w.core w.ports → AreAtMostDue 4 w.ports → Brings N.writes self.old.store.journal.nv self.new.store.journal.nv
-            (IsInStep self.new (W.noted watch.new) (W.is_short watch.new) start) (steps TimePasses) w }
-        ensures live { result ≡ self.new.store.journal.live }
-        ensures faults { CountsFaults N.faults self.old.store self.new.store }
-        ensures number { self.new.number ≡ self.old.number }
-        ensures runs { IsSoundNode self.new }
-    {
-        self.time_passes(buffer, watch);
-        self.times_out(buffer, watch);
-        self.finish(None, None, buffer, watch)
-    }
-
-    /// A step of a node that is in order: a reset of the link with this host is asked for, with this window, which is 1 to 4, or with the
-    /// end's own one. At most five control frames wait at each end to be sent. The buffer has 4,096 bytes. Whether the node has its power
-    /// still.
+    /// A step of a node that runs, of which every frame of the step before was fetched. The buffer has 4,096 bytes, and keeps nothing.
     ///
     /// # Errors
     ///
-    /// The reset is refused: then nothing is done.
+    /// A reset is refused. Nothing changed.
+    #[inline(always)]
     #[tactic(auto, using(crate::proofs::Faults::faults_stay, crate::proofs::Faults::faults_then))]
-    pub fn reset_step<W: Watch>(
+    pub fn step<W: Watch>(
         &mut self,
-        host: u8,
-        window: Option<u8>,
+        input: NodeInput<'_>,
         buffer: &mut [u8],
         watch: &mut W,
-    ) -> Result<bool, ResetRefused>
-        requires runs { IsSoundNode self.old }
-        requires live { IsTrue self.old.store.journal.live }
+    ) -> Result<Stepped, ResetRefused>
+        requires may { (core : Core) × (ports : List Port) × RunsAs self.old core ports × IsAllSent ports × MayComeToNode input ports }
         requires buffer { length buffer.old ≡ 4096 }
-        requires window { IfSome window (λ w. (1 ≤ w) × (w ≤ 4)) }
-        requires may { (start : List Noted) × (w : Work) × IsInStep self.old (W.noted watch.old) (W.is_short watch.old) start w
-            × IsNodeInOrder w.core w.ports × AreAtMostDue 5 w.ports }
-        ensures refusal { (start : List Noted) (w : Work) → IsInStep self.old (W.noted watch.old) (W.is_short watch.old) start w
-            → MatchResult result (λ live. reset_refusal_at (port_at w.ports host) ≡ None)
-            (λ why. reset_refusal_at (port_at w.ports host) ≡ Some why) }
-        ensures carried { (start : List Noted) (w : Work) → IsInStep self.old (W.noted watch.old) (W.is_short watch.old) start w
-            → IsNodeInOrder w.core w.ports → AreAtMostDue 5 w.ports → OnOk result (Brings N.writes self.old.store.journal.nv self.new.store.journal.nv
-            (IsInStep self.new (W.noted watch.new) (W.is_short watch.new) start) (steps (AtEnd host (Reset window))) w) }
-        ensures unchanged { OnErr result ((start : List Noted) (w : Work)
-            → IsInStep self.old (W.noted watch.old) (W.is_short watch.old) start w → HasNoneEnded w.ports
-            → IsInStep self.new (W.noted watch.new) (W.is_short watch.new) start w) }
+        ensures refusal { (core : Core) (ports : List Port) → RunsAs self.old core ports → MatchResult result
+            (λ done. refusal_by input.entry ports ≡ None) (λ why. refusal_by input.entry ports ≡ Some why) }
+        ensures stepped { OnOk result ((start : List Noted) (w : Work) → BeginsStep self.old (W.noted watch.old) (W.is_short watch.old) start w
+            → Brings N.writes self.old.store.journal.nv self.new.store.journal.nv
+            (HasStepped self.new (W.noted watch.new) (W.is_short watch.new) start) (steps (input_of_node input.entry)) w) }
+        ensures active { IfOk result (λ done. (start : List Noted) (w : Work) → BeginsStep self.old (W.noted watch.old) (W.is_short watch.old) start w
+            → done.became_active ≡ makes_active (input_of_node input.entry) w.ports) }
+        ensures unchanged { OnErr result ((core : Core) (ports : List Port) → RunsAs self.old core ports → RunsAs self.new core ports) }
         ensures quiet { OnErr result ((watch.new ≡ watch.old) × (self.new.store ≡ self.old.store)) }
-        ensures live { IfOk result (λ live. live ≡ self.new.store.journal.live) }
+        ensures ran { IfOk result (λ done. done.ran ≡ ran_so self.new.store.journal.live) }
         ensures faults { CountsFaults N.faults self.old.store self.new.store }
         ensures number { self.new.number ≡ self.old.number }
-        ensures runs { IsSoundNode self.new }
     {
-        let told = self.reset(host, window, buffer, watch);
-        if let Some(why) = refusal(&told) {
-            return Err(why);
-        }
-        Ok(self.finish(None, None, buffer, watch))
-    }
-
-    /// A step of a node that is in order: activation begins anew at the end of the link with this host, with the power mode of a CLF or the
-    /// sync identifier of a UICC. At most five control frames wait at each end to be sent. The buffer has 4,096 bytes. Whether the node has
-    /// its power still.
-    #[tactic(auto, using(crate::proofs::Faults::faults_stay, crate::proofs::Faults::faults_then))]
-    pub fn activate_step<W: Watch>(
-        &mut self,
-        host: u8,
-        value: u16,
-        buffer: &mut [u8],
-        watch: &mut W,
-    ) -> bool
-        requires runs { IsSoundNode self.old }
-        requires live { IsTrue self.old.store.journal.live }
-        requires buffer { length buffer.old ≡ 4096 }
-        requires may { (start : List Noted) × (w : Work) × IsInStep self.old (W.noted watch.old) (W.is_short watch.old) start w
-            × IsNodeInOrder w.core w.ports × AreAtMostDue 5 w.ports
-            × MayStartAt value (port_at w.ports host) }
-        ensures carried { (start : List Noted) (w : Work) → IsInStep self.old (W.noted watch.old) (W.is_short watch.old) start w
-            → IsNodeInOrder w.core w.ports → AreAtMostDue 5 w.ports → Brings N.writes self.old.store.journal.nv self.new.store.journal.nv
-            (IsInStep self.new (W.noted watch.new) (W.is_short watch.new) start) (steps (AtEnd host (Start value))) w }
-        ensures live { result ≡ self.new.store.journal.live }
-        ensures faults { CountsFaults N.faults self.old.store self.new.store }
-        ensures number { self.new.number ≡ self.old.number }
-        ensures runs { IsSoundNode self.new }
-    {
-        self.activate(host, value, buffer, watch);
-        self.finish(None, None, buffer, watch)
-    }
-
-    /// A step of a node that is in order: activation ends at the end of the link with this host, and the link with it. At most five control
-    /// frames wait at each end to be sent. The buffer has 4,096 bytes. Whether the node has its power still.
-    #[tactic(auto, using(crate::proofs::Faults::faults_stay, crate::proofs::Faults::faults_then))]
-    pub fn deactivate_step<W: Watch>(&mut self, host: u8, buffer: &mut [u8], watch: &mut W) -> bool
-        requires runs { IsSoundNode self.old }
-        requires live { IsTrue self.old.store.journal.live }
-        requires buffer { length buffer.old ≡ 4096 }
-        requires may { (start : List Noted) × (w : Work) × IsInStep self.old (W.noted watch.old) (W.is_short watch.old) start w
-            × IsNodeInOrder w.core w.ports × AreAtMostDue 5 w.ports }
-        ensures carried { (start : List Noted) (w : Work) → IsInStep self.old (W.noted watch.old) (W.is_short watch.old) start w
-            → IsNodeInOrder w.core w.ports → AreAtMostDue 5 w.ports → Brings N.writes self.old.store.journal.nv self.new.store.journal.nv
-            (IsInStep self.new (W.noted watch.new) (W.is_short watch.new) start) (steps (AtEnd host Stop)) w }
-        ensures live { result ≡ self.new.store.journal.live }
-        ensures faults { CountsFaults N.faults self.old.store self.new.store }
-        ensures number { self.new.number ≡ self.old.number }
-        ensures runs { IsSoundNode self.new }
-    {
-        self.deactivate(host, buffer, watch);
-        self.finish(None, None, buffer, watch)
+        let came = match self.comes(input, buffer, watch) {
+            Ok(came) => came,
+            Err(why) => return Err(why),
+        };
+        let live = self.finish(came.sync, came.lies, buffer, watch);
+        self.end_step();
+        Ok(Stepped {
+            ran: how_it_ran(live),
+            became_active: came.became_active,
+        })
     }
 }

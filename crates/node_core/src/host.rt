@@ -1,8 +1,9 @@
 //! A host: a node with the link that has its number, and the buffer in which it reads a message.
 use crate::booting::{BootFault, BootRefused};
 use crate::giving::HostRefused;
+use crate::inputs::{LinkInput, NodeInput};
 use crate::node::Node;
-use crate::running::{Ran, how_it_ran};
+use crate::running::Ran;
 use arrayvec::ArrayVec;
 use hci_store::Store;
 use link_end::ResetRefused;
@@ -61,6 +62,7 @@ impl<N: Nv + Drop> Host<N> {
     ghost use Rattle.node_core.specs.Bringing.{Brings};
     ghost use Rattle.node_core.specs.Giving.{refused_as, TellsLength, IsAsked};
     ghost use Rattle.node_core.specs.Running.{RunsAs, BeginsStep, HasStepped, MayStep, ran_so, one_more_error, core_kept, reset_refusal_at};
+    ghost use Rattle.node_core.specs.Inputs.{input_of_end, refusal_at, IsAskedOf};
 
     /// A host with this number, 01 to 07, boots from a memory of 65,536 bytes, with the link that has its number. It takes all its memory
     /// here. A memory that says nothing is formatted; one of version 01 is written anew as a snapshot of version 02 before the host
@@ -124,11 +126,12 @@ impl<N: Nv + Drop> Host<N> {
         ensures rose { result ≡ Ran.Stopped → Rose (N.faults self.old.store.journal.nv) (N.faults self.new.store.journal.nv) }
     {
         let host = self.node.number();
-        let stepped = self
-            .node
-            .take_step(host, read, self.buffer.as_mut_slice(), watch);
-        self.node.end_step();
-        stepped.ran
+        let input = NodeInput::At {
+            host,
+            what: LinkInput::Frame(read),
+        };
+        let stepped = self.node.step(input, self.buffer.as_mut_slice(), watch);
+        stepped.unwrap().ran
     }
 
     /// A tick passes at the link. Every frame of the step before was fetched.
@@ -142,9 +145,45 @@ impl<N: Nv + Drop> Host<N> {
         ensures count { N.faults self.old.store.journal.nv ≤ N.faults self.new.store.journal.nv }
         ensures rose { result ≡ Ran.Stopped → Rose (N.faults self.old.store.journal.nv) (N.faults self.new.store.journal.nv) }
     {
-        let live = self.node.tick_step(self.buffer.as_mut_slice(), watch);
-        self.node.end_step();
-        how_it_ran(live)
+        let stepped = self
+            .node
+            .step(NodeInput::Tick, self.buffer.as_mut_slice(), watch);
+        stepped.unwrap().ran
+    }
+
+    // This is asked of the end of the host: nothing is committed.
+    //
+    // # Errors
+    //
+    // A reset is refused. Nothing changed then.
+    #[inline(always)]
+    fn step_unwritten<W: Watch>(
+        &mut self,
+        what: LinkInput<'_>,
+        watch: &mut W,
+    ) -> Result<(), ResetRefused>
+        requires may { MayStep self.old }
+        requires what { IsAskedOf what }
+        ensures refusal { (core : Core) (ports : List Port) → RunsAs self.old core ports → MatchResult result
+            (λ done. refusal_at what.entry (port_at ports self.old.number) ≡ None)
+            (λ why. refusal_at what.entry (port_at ports self.old.number) ≡ Some why) }
+        ensures stepped { OnOk result ((start : List Noted) (w : Work) → BeginsStep self.old (W.noted watch.old) (W.is_short watch.old) start w
+            → Brings N.writes self.old.store.journal.nv self.new.store.journal.nv
+            (HasStepped self.new (W.noted watch.new) (W.is_short watch.new) start) (steps (AtEnd self.old.number (input_of_end what.entry))) w) }
+        ensures quietly { OnOk result ((start : List Noted) (w : Work) → BeginsStep self.old (W.noted watch.old) (W.is_short watch.old) start w
+            → HasStepped self.new (W.noted watch.new) (W.is_short watch.new) start (steps (AtEnd self.old.number (input_of_end what.entry)) w)) }
+        ensures unchanged { OnErr result ((core : Core) (ports : List Port) → RunsAs self.old core ports → RunsAs self.new core ports) }
+        ensures quiet { OnErr result ((watch.new ≡ watch.old) × (self.new.store ≡ self.old.store)) }
+        ensures memory { self.new.store.journal.nv ≡ self.old.store.journal.nv }
+        ensures live { IsTrue self.new.store.journal.live }
+        ensures number { self.new.number ≡ self.old.number }
+    {
+        let host = self.node.number();
+        let input = NodeInput::At { host, what };
+        if let Err(why) = self.node.step(input, self.buffer.as_mut_slice(), watch) {
+            return Err(why);
+        }
+        Ok(())
     }
 
     /// The link is reset (ETSI TS 102 613, section 10.7), with this window, which is 1 to 4, or with the end's own one. Nothing is committed.
@@ -170,17 +209,7 @@ impl<N: Nv + Drop> Host<N> {
         ensures live { IsTrue self.new.store.journal.live }
         ensures number { self.new.number ≡ self.old.number }
     {
-        let host = self.node.number();
-        match self
-            .node
-            .reset_step(host, window, self.buffer.as_mut_slice(), watch)
-        {
-            Ok(_live) => {
-                self.node.end_step();
-                Ok(())
-            }
-            Err(why) => Err(why),
-        }
+        self.step_unwritten(LinkInput::Reset(window), watch)
     }
 
     /// Activation begins anew at the link (ETSI TS 102 613, section 9.4), with this sync identifier. Nothing is committed. Every frame of the
@@ -196,10 +225,7 @@ impl<N: Nv + Drop> Host<N> {
         ensures live { IsTrue self.new.store.journal.live }
         ensures number { self.new.number ≡ self.old.number }
     {
-        let host = self.node.number();
-        self.node
-            .activate_step(host, sync, self.buffer.as_mut_slice(), watch);
-        self.node.end_step();
+        self.step_unwritten(LinkInput::Start(sync), watch).unwrap();
     }
 
     /// Activation ends at the link, and the link with it. Nothing is committed. Every frame of the step before was fetched.
@@ -214,10 +240,7 @@ impl<N: Nv + Drop> Host<N> {
         ensures live { IsTrue self.new.store.journal.live }
         ensures number { self.new.number ≡ self.old.number }
     {
-        let host = self.node.number();
-        self.node
-            .deactivate_step(host, self.buffer.as_mut_slice(), watch);
-        self.node.end_step();
+        self.step_unwritten(LinkInput::Stop, watch).unwrap();
     }
 
     /// A frame on its way from the controller was refused: one more for REC_ERROR (ETSI TS 102 622, section 7.1), which stops at FFFF.

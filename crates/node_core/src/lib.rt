@@ -11,6 +11,7 @@ mod finishing;
 mod giving;
 mod host;
 mod hosts;
+mod inputs;
 mod node;
 mod noting;
 mod owing;
@@ -26,6 +27,7 @@ pub use booting::{BootFault, BootRefused, a_boot_of_version_02_is_that_of_a_worl
 pub use controller::Controller;
 pub use giving::HostRefused;
 pub use host::Host;
+pub use inputs::{LinkInput, NodeInput};
 pub use node::Node;
 pub use running::{
     Ran, Stepped, a_refused_frame_counts_at_its_desk,

@@ -1,4 +1,3 @@
-use Rattle.std.proofs.Common.{sym}
 use Rattle.node_core.proofs.SeenAsNode.{seen_runs}
 use Rattle.node_core.proofs.controller.«Controller+MemNv».arm.Goals as goal
 

@@ -1,4 +1,4 @@
-use Rattle.std.proofs.Common.{◌≡◌, ℕ, List, sym, ◌∙◌, subst}
+use Rattle.std.proofs.Common.{ℕ, List, sym, ◌∙◌, subst}
 use Rattle.swp_base.specs.declared.link_terms.Role.TheVariants.{Clf}
 use Rattle.gate_admin.specs.View.{has, hosts_where}
 use Rattle.node_ends.specs.Making.{AreAllDifferent}

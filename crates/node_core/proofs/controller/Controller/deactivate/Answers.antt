@@ -1,47 +1,13 @@
-use Rattle.std.proofs.Common.{◌≡◌, ℕ, List, map, sym, ap, ◌∙◌, subst}
-use Rattle.link_laws.specs.machine.Machine.LinkInput.{Stop}
-use Rattle.node_ends.proofs.Dues.{stop_few}
-use Rattle.node_machine.specs.Node.{steps}
-use Rattle.node_machine.specs.Node.NodeInput.{AtEnd}
-use Rattle.node_core.specs.declared.node.Node.{Node}
-use Rattle.node_core.specs.Bringing.{Brings}
-use Rattle.node_core.specs.Running.{BeginsStep, HasStepped, between, ran_so}
-use Rattle.node_core.proofs.Between.{begins_in_step, at_rest, rests_in_step, runs_ready}
-use Rattle.node_core.proofs.Behind.{kept_order, kept_few, kept_held, ready_few, in_time_young, kept_young, power_may_start, stepped}
-use Rattle.node_core.proofs.SeenAsNode.{seen_may, seen_count, seen_rose}
+use Rattle.std.proofs.lemmas.Result.{IfOk-at_ok}
+use Rattle.node_core.proofs.SeenAsNode.{seen_may, never_refused}
 use Rattle.node_core.proofs.controller.Controller.deactivate.Goals as goal
 
-pub deactivate_step-live-requires-clause-runs : goal.deactivate_step-live-requires-clause-runs
-deactivate_step-live-requires-clause-runs g c = (seen_may c.self.view_is c.requires.may).runs.sound
+pub step-stepped-requires-clause-may : goal.step-stepped-requires-clause-may
+step-stepped-requires-clause-may g c = let m = seen_may c.self.view_is c.requires.may in (m.core, m.ports, m.runs, m.sent, tt)
 
-pub deactivate_step-live-requires-clause-live : goal.deactivate_step-live-requires-clause-live
-deactivate_step-live-requires-clause-live g c = (seen_may c.self.view_is c.requires.may).runs.live
-
-pub deactivate_step-live-requires-clause-may : goal.deactivate_step-live-requires-clause-may
-deactivate_step-live-requires-clause-may g c =
-    let m = seen_may c.self.view_is c.requires.may in (
-      g.W.Watch.noted c.args.watch.now,
-      at_rest m.core m.ports,
-      rests_in_step (g.W.Watch.noted c.args.watch.now) (g.W.Watch.is_short c.args.watch.now) m.runs,
-      kept_order m.core m.ports m.runs.order,
-      kept_few 5 m.ports m.runs.few,
-    )
+pub unwrap-requires : goal.unwrap-requires
+unwrap-requires g c =
+    let m = seen_may c.self.view_is c.requires.may in never_refused c.step-stepped.result (c.step-stepped.ensures.refusal m.core m.ports m.runs)
 
 pub returns-clause-stepped : goal.returns-clause-stepped
-returns-clause-stepped g c start w begins =
-    let t = c.deactivate_step-live in
-    let e = c.end_step.ensures in
-    let F : Node g.row.N.Denot → Type 0 = λ n. BeginsStep n (g.W.Watch.noted c.args.watch.now) (g.W.Watch.is_short c.args.watch.now) start w
-    → Brings g.N.Nv.writes n.store.journal.nv c.end_step.new.self.store.journal.nv
-    (HasStepped c.end_step.new.self (g.W.Watch.noted t.new.watch) (g.W.Watch.is_short t.new.watch) start) (steps (AtEnd c.args.host Stop)) w in
-    let whole : F c.self.inside.node = λ b. stepped g.N.Nv.writes (AtEnd c.args.host Stop) stop_few b
-    (t.ensures.carried start w (begins_in_step b) b.runs.order b.runs.few) e.ended e.store e.number e.tasks e.runs in
-    subst F c.self.view_is whole begins
-
-pub returns-clause-count : goal.returns-clause-count
-returns-clause-count g c = seen_count g.N.Nv.faults c.self.view_is c.end_step.ensures.store c.deactivate_step-live.ensures.faults
-
-pub returns-clause-rose : goal.returns-clause-rose
-returns-clause-rose g c stopped =
-    seen_rose g.N.Nv.faults c.self.view_is c.end_step.ensures.store c.deactivate_step-live.ensures.faults
-    (ap ran_so (sym c.deactivate_step-live.ensures.live) ∙ (sym c.how_it_ran.ensures ∙ stopped))
+returns-clause-stepped g c = rw (← c.self.view_is) (IfOk-at_ok _ c.unwrap.ensures c.step-stepped.ensures.stepped)

@@ -1,4 +1,4 @@
-use Rattle.std.proofs.Common.{◌≡◌, ◌≢◌, ◌≤◌, ℕ, [], ◌∷◌, refl, sym, ap, ◌∙◌, arith}
+use Rattle.std.proofs.Common.{ℕ, [], ◌∷◌, sym, ap, arith}
 use Rattle.swp_base.specs.declared.link_terms.Role.TheVariants.{Uicc}
 use Rattle.node_core.proofs.Beginning.{new_runs, uicc_roles}
 use Rattle.node_core.proofs.host.Host.boot.Goals as goal

@@ -1,4 +1,4 @@
-use Rattle.std.proofs.Common.{◌≡◌, ℕ, subst}
+use Rattle.std.proofs.Common.{ℕ, subst}
 use Rattle.node_machine.specs.Carrying.{with_port}
 use Rattle.node_core.specs.declared.node.Node.{Node}
 use Rattle.node_core.specs.Running.{RunsAs, one_more_error}

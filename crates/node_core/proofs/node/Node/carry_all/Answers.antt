@@ -1,6 +1,6 @@
-use Rattle.std.proofs.Common.{◌≡◌, ◌+◌, true, not, List, ◌∷◌, map, drop, refl, sym, ap, ◌∙◌, subst}
+use Rattle.std.proofs.Common.{◌≡◌, ◌+◌, true, not, List, ◌∷◌, map, drop, sym, ap, ◌∙◌, subst}
 use Rattle.link_laws.specs.machine.Machine.{Message}
-use Rattle.node_machine.specs.Parts.{Work, Deed as DeedOf}
+use Rattle.node_machine.specs.Parts.{Deed as DeedOf}
 use Rattle.node_machine.specs.Carrying.{done}
 use Rattle.node_deeds.specs.declared.deeds.Deed.{Deed}
 use Rattle.node_deeds.specs.Shown.{Handling}

@@ -1,4 +1,4 @@
-use Rattle.std.proofs.Common.{◌≡◌, ℕ, List, ◌∷◌, refl, ap, subst}
+use Rattle.std.proofs.Common.{ℕ, List, ◌∷◌, refl, ap, subst}
 use Rattle.std.specs.Prelude.{None}
 use Rattle.gate_admin.specs.Decide.{ends_of}
 use Rattle.link_laws.specs.machine.Machine.Turn.{Give}

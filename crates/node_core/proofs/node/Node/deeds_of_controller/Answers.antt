@@ -1,4 +1,4 @@
-use Rattle.std.proofs.Common.{◌≡◌, List, not, refl, sym, ap, ◌∙◌, subst}
+use Rattle.std.proofs.Common.{◌≡◌, List, not, sym, ap, ◌∙◌, subst}
 use Rattle.hci_store.specs.Stored.{Stored}
 use Rattle.link_laws.specs.machine.Machine.{Message}
 use Rattle.node_machine.specs.Controller.{controller_deeds, view_of}

@@ -1,14 +1,12 @@
-use Rattle.std.proofs.Common.{◌≡◌, List, refl, sym, ap, subst}
+use Rattle.std.proofs.Common.{refl, sym, subst}
 use Rattle.std.specs.Prelude.{None}
 use Rattle.trace_model.specs.declared.entry.Entry.TheVariants as entry
 use Rattle.history.specs.Steps.{end_of}
 use Rattle.link_laws.specs.entries.Entries.End.{Host}
-use Rattle.node_machine.specs.Parts.{Work}
 use Rattle.node_machine.specs.Parts.Deed.{Ends}
 use Rattle.node_machine.specs.Carrying.{done}
 use Rattle.node_deeds.specs.declared.deeds.InitEnd.{InitEnd}
 use Rattle.node_deeds.specs.declared.host.Tasks.{Tasks}
-use Rattle.node_deeds.specs.declared.deeds.InitEnd.TheVariants.{Same, Made, Failed}
 use Rattle.node_deeds.specs.Shown.{end_shown}
 use Rattle.node_core.specs.Nodes.{IsInStep}
 use Rattle.node_core.proofs.Steps.{plain_noted}

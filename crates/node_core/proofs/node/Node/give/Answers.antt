@@ -1,4 +1,4 @@
-use Rattle.std.proofs.Common.{◌≡◌, refl, sym, ◌∙◌, subst}
+use Rattle.std.proofs.Common.{sym, ◌∙◌, subst}
 use Rattle.node_machine.specs.Parts.{Work}
 use Rattle.node_core.specs.Nodes.{IsInStep}
 use Rattle.node_core.proofs.Sendings.{given_order, given_other}

@@ -1,10 +1,10 @@
-use Rattle.std.proofs.Common.{◌≡◌, ◌&&◌, refl, sym, ap, ◌∙◌, subst}
-use Rattle.std.specs.Prelude.{Option, Some, None, ◌==◌, is_some, option_map}
+use Rattle.std.proofs.Common.{◌≡◌, ◌&&◌, refl, sym, ap, ◌∙◌}
+use Rattle.std.specs.Prelude.{is_some, option_map}
 use Rattle.std.specs.Prelude.{Bool}
 use Rattle.link_laws.specs.machine.Machine.{Message, give_refusal}
 use Rattle.node_machine.specs.world.Lines.{if_waiting}
 use Rattle.node_core.specs.declared.giving.HostRefused.{HostRefused}
-use Rattle.node_core.specs.Giving.{refusal_noted, TellsLength}
+use Rattle.node_core.specs.Giving.{refusal_noted}
 use Rattle.node_core.proofs.HavingTurns.{no_some}
 use Rattle.node_core.proofs.node.Node.give_step.Goals as goal
 

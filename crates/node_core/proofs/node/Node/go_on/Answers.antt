@@ -1,6 +1,5 @@
-use Rattle.std.proofs.Common.{◌≡◌, List, refl, sym, ap, subst}
+use Rattle.std.proofs.Common.{refl, sym, subst}
 use Rattle.std.specs.Prelude.{Option, Some, None}
-use Rattle.node_machine.specs.Parts.{Init, Work}
 use Rattle.node_machine.specs.Carrying.{done}
 use Rattle.node_deeds.specs.declared.inits.Init.{Init as KeptInit}
 use Rattle.node_deeds.specs.declared.host.Tasks.{Tasks}

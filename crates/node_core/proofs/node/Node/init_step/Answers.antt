@@ -1,6 +1,5 @@
-use Rattle.std.proofs.Common.{◌≡◌, ◌&&◌, ◌∷◌, [], true, not, refl, sym, ap, ◌∙◌, subst}
-use Rattle.std.specs.Prelude.{Option, Some, None, is_some, option_map}
-use Rattle.link_laws.specs.machine.Machine.{Message, give_refusal}
+use Rattle.std.proofs.Common.{◌∷◌, [], not, refl, sym, ap, ◌∙◌, subst}
+use Rattle.std.specs.Prelude.{option_map}
 use Rattle.node_machine.specs.Parts.{Init, Work}
 use Rattle.node_machine.specs.Parts.Deed.{GoesOn, Orders}
 use Rattle.node_machine.specs.Carrying.{done}

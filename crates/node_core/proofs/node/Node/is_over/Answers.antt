@@ -1,6 +1,4 @@
-use Rattle.std.proofs.Common.{◌≡◌, ◌+◌, true, false, refl, sym, ap, ◌∙◌, arith}
-use Rattle.std.specs.List.{list_any}
-use Rattle.node_machine.specs.Node.{is_over}
+use Rattle.std.proofs.Common.{refl, sym, ◌∙◌, arith}
 use Rattle.node_core.proofs.Tasks.{here_over, next_over, none_over}
 use Rattle.node_core.proofs.node.Node.is_over.Goals as goal
 

@@ -1,4 +1,4 @@
-use Rattle.std.proofs.Common.{◌≡◌, true, sym, ap, ◌∙◌}
+use Rattle.std.proofs.Common.{sym, ap, ◌∙◌}
 use Rattle.link_end.specs.declared.report.LinkReport.{LinkReport}
 use Rattle.node_machine.specs.Carrying.{own_side}
 use Rattle.node_core.specs.Noting.{tells_nothing}

@@ -1,11 +1,8 @@
-use Rattle.std.proofs.Common.{◌≡◌, ℕ, ◌+◌, ◌/◌, Bool, true, false, cond, ◌&&◌, List, length, refl, sym, ap, ◌∙◌, subst}
-use Rattle.std.specs.Prelude.{Option, Some, None, nat_lt, is_some, option_map}
+use Rattle.std.proofs.Common.{◌≡◌, ℕ, ◌+◌, ◌/◌, true, false, ◌&&◌, length, sym, ap, ◌∙◌}
+use Rattle.std.specs.Prelude.{Some, nat_lt, is_some}
 use Rattle.std.proofs.lemmas.Bool.{lt-ltb, le-ltb}
-use Rattle.trace_model.specs.declared.entry.NoCause.{NoCause}
 use Rattle.trace_model.specs.declared.entry.NoCause.TheVariants as no
-use Rattle.link_laws.specs.machine.Machine.{Message, give_refusal, need, spare}
-use Rattle.node_machine.specs.Parts.{Port}
-use Rattle.node_machine.specs.Carrying.{port_at}
+use Rattle.link_laws.specs.machine.Machine.{give_refusal, need, spare}
 use Rattle.node_machine.specs.world.Lines.{if_waiting}
 use Rattle.node_core.proofs.Sendings.{down_refuses, waiting_refuses, long_refuses, by_room, waits_same, linked, spare_at}
 use Rattle.node_core.proofs.node.Node.refusal.Goals as goal

@@ -1,5 +1,5 @@
-use Rattle.std.proofs.Common.{◌≡◌, ℕ, List, refl, sym, ap}
-use Rattle.std.specs.Prelude.{Option, Some}
+use Rattle.std.proofs.Common.{ℕ, List, refl, sym, ap}
+use Rattle.std.specs.Prelude.{Some}
 use Rattle.node_machine.specs.Parts.{Init}
 use Rattle.node_deeds.specs.declared.host.Tasks.{Tasks}
 use Rattle.node_deeds.specs.declared.inits.Init.{Init as KeptInit}

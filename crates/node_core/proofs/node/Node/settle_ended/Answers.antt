@@ -1,4 +1,4 @@
-use Rattle.std.proofs.Common.{◌≡◌, true, not, List, ◌++◌, map, sym, ap, ap₂, ◌∙◌, subst, refl}
+use Rattle.std.proofs.Common.{◌≡◌, true, not, List, ◌++◌, map, sym, ap, ap₂, ◌∙◌, subst}
 use Rattle.std.specs.List.{flat_map}
 use Rattle.hci_store.specs.Stored.{Stored}
 use Rattle.gate_answers.specs.declared.response.Response.TheVariants as response

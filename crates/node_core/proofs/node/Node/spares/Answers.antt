@@ -1,6 +1,6 @@
-use Rattle.std.proofs.Common.{◌≡◌, ◌<◌, ℕ, suc, set, sym, ◌∙◌, subst, arith, add-one, length-set}
+use Rattle.std.proofs.Common.{◌<◌, ℕ, suc, set, sym, ◌∙◌, subst, arith, add-one, length-set}
 use Rattle.node_core.proofs.HavingTurns.{no_some}
-use Rattle.node_core.proofs.Spares.{SparesSoFar, still_so_far, next_so_far, all_so_far, low_there}
+use Rattle.node_core.proofs.Spares.{SparesSoFar, still_so_far, next_so_far, all_so_far}
 use Rattle.node_core.proofs.node.Node.spares.Goals as goal
 
 pub loop-i-preserved-in_default : goal.loop-i-preserved-in_default

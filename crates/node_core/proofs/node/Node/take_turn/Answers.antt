@@ -1,4 +1,4 @@
-use Rattle.std.proofs.Common.{◌≡◌, ℕ, sym, ap, ◌∙◌, true, not, map}
+use Rattle.std.proofs.Common.{◌≡◌, ℕ, sym, ap, ◌∙◌, true, not}
 use Rattle.std.specs.Prelude.{option_map}
 use Rattle.node_deeds.specs.Room.{lack_shown}
 use Rattle.node_core.specs.Bringing.{Brings}

@@ -1,18 +1,14 @@
-use Rattle.std.proofs.Common.{◌≡◌, ℕ, true, not, List, [], ◌∷◌, refl, sym, ap, ◌∙◌, subst}
-use Rattle.std.specs.Prelude.{Option, None, option_map}
+use Rattle.std.proofs.Common.{◌≡◌, true, not, List, [], ◌∷◌, sym, ap, ◌∙◌}
+use Rattle.std.specs.Prelude.{option_map}
 use Rattle.hci_store.specs.Stored.{Stored}
 use Rattle.link_laws.specs.machine.Machine.{Message}
-use Rattle.node_machine.specs.Parts.{Work, Deed as DeedOf}
+use Rattle.node_machine.specs.Parts.{Deed as DeedOf}
 use Rattle.node_machine.specs.Parts.Deed.{Sends}
 use Rattle.node_machine.specs.Carrying.{lack, needs}
-use Rattle.node_machine.specs.Turns.{handles, lets_go}
-use Rattle.node_deeds.specs.declared.deeds.Deed.{Deed}
+use Rattle.node_machine.specs.Turns.{lets_go}
 use Rattle.node_deeds.specs.Room.{lack_shown}
 use Rattle.node_deeds.specs.Shown.{Handling, deeds_shown}
-use Rattle.node_core.specs.Bringing.{Brings}
-use Rattle.node_core.specs.Nodes.{IsInStep}
 use Rattle.node_core.specs.Deeds.{handling}
-use Rattle.node_core.specs.Turning.{IsDecided}
 use Rattle.node_core.proofs.Joining.{brings_then}
 use Rattle.node_core.proofs.Steps.{plainly}
 use Rattle.node_core.proofs.Quiet.{few_kept, held_kept}

@@ -1,0 +1,137 @@
+-- What begins a step of a node.
+use Rattle.std.proofs.Common.{◌≡◌, ℕ, ◌≤◌, true, List, [], ◌∷◌, map, refl, sym, ap, subst, arith}
+use Rattle.std.specs.Prelude.{Option, Some, None, option_map, IfSome, Result, Ok, Err, OnErr}
+use Rattle.std.specs.List.{flat_map}
+use Rattle.std.specs.Option.{option_map_or}
+use Rattle.swp_base.specs.InMemory.{Plan}
+use Rattle.link_laws.specs.machine.Machine.{LinkInput}
+use Rattle.link_end.specs.declared.report.ResetRefused.{ResetRefused}
+use Rattle.node_machine.specs.Parts.{Core, Port, Work}
+use Rattle.node_machine.specs.Carrying.{port_at}
+use Rattle.node_machine.specs.Node.{NodeInput, all_come, told_at, times_out, synced}
+use Rattle.node_machine.specs.Node.NodeInput.{AtEnd, TimePasses}
+use Rattle.node_ends.specs.Ends.{AreOfHosts}
+use Rattle.node_ends.specs.Making.{AreAllDifferent}
+use Rattle.node_ends.proofs.Apart.{is_outside}
+use Rattle.node_ends.proofs.Dues.{lpdu_few, reset_few_due, start_few, stop_few}
+use Rattle.node_core.specs.declared.inputs.LinkInput.{LinkInput as ToEnd}
+use Rattle.node_core.specs.declared.inputs.LinkInput.TheVariants.{Frame, Reset, Start, Stop}
+use Rattle.node_core.specs.declared.inputs.NodeInput.{NodeInput as ToNode}
+use Rattle.node_core.specs.declared.inputs.NodeInput.TheVariants.{At, Tick}
+use Rattle.node_core.specs.Turning.{IsNodeInOrder, AreFewDue, AreAtMostDue}
+use Rattle.node_core.specs.Syncing.{sync_kept}
+use Rattle.node_core.specs.Running.{HasNoneEnded, between}
+use Rattle.node_core.specs.Inputs.{frame_said, input_of_end, input_of_node, MayComeAt, MayComeToNode, refusal_at, refusal_by, sync_by}
+use Rattle.node_core.proofs.Elsewhere.{host_at}
+use Rattle.node_core.proofs.Arriving.{lpdu_outside}
+use Rattle.node_core.proofs.Lateness.{reset_silent}
+use Rattle.node_core.proofs.Refusing.{refused_is, refused_stays, tick_synced, late_few}
+use Rattle.node_core.proofs.Resting.{MakesOneMore, MakeOneMore}
+use Rattle.node_core.proofs.Staying.{come_order, late_order}
+use Rattle.node_core.proofs.Stepping.{synced_is, sync_of_host, come_few}
+use Rattle.node_core.proofs.Between.{kept_at}
+use Rattle.node_core.proofs.SeenAsNode.{kept_refusal}
+
+-- ## What may come
+
+-- it comes from outside of the node
+pub end_outside : (what : ToEnd) (o : Option Port) → MayComeAt what o → is_outside (input_of_end what) ≡ true
+end_outside (Frame read) o may =
+    let P : LinkInput → Type 0 = λ i. is_outside i ≡ true in subst P (ap frame_said (sym may.1)) (lpdu_outside may.0)
+end_outside (Reset window) o may = refl
+end_outside (Start value) o may = refl
+end_outside Stop o may = refl
+
+-- it makes at most one more control frame
+end_more : (what : ToEnd) (o : Option Port) → MayComeAt what o → MakesOneMore (input_of_end what)
+end_more (Frame read) o may =
+    let P : LinkInput → Type 0 = λ i. MakesOneMore i in subst P (ap frame_said (sym may.1)) (λ e. lpdu_few e may.0)
+end_more (Reset window) o may = λ e. reset_few_due e window
+end_more (Start value) o may = λ e. start_few e value
+end_more Stop o may = stop_few
+
+pub node_more : (input : ToNode) (ports : List Port) → MayComeToNode input ports → MakeOneMore (input_of_node input)
+node_more (At host what) ports may = end_more what (port_at ports host) may
+node_more Tick ports may = tt
+
+kept_may_at : (what : ToEnd) (o : Option Port) → MayComeAt what o → MayComeAt what (option_map between o)
+kept_may_at (Frame read) o may = may
+kept_may_at (Reset window) o may = may
+kept_may_at (Start value) None may = tt
+kept_may_at (Start value) (Some p) may = may
+kept_may_at Stop o may = tt
+
+-- what isn't kept of an end says nothing of it
+pub kept_may : (input : ToNode) (ports : List Port) → MayComeToNode input ports → MayComeToNode input (map between ports)
+kept_may (At host what) ports may =
+    let P : Option Port → Type 0 = λ o. MayComeAt what o in subst P (sym (kept_at host ports)) (kept_may_at what (port_at ports host) may)
+kept_may Tick ports may = tt
+
+-- ## What is refused
+
+pub kept_refused : (input : ToNode) (ports : List Port) → refusal_by input (map between ports) ≡ refusal_by input ports
+kept_refused (At host (Frame read)) ports = refl
+kept_refused (At host (Reset window)) ports = kept_refusal host ports
+kept_refused (At host (Start value)) ports = refl
+kept_refused (At host Stop) ports = refl
+kept_refused Tick ports = refl
+
+-- of what is refused nothing is noted
+pub silent_refused : (core : Core) (ports : List Port) (h : ℕ) (what : ToEnd) (why : ResetRefused) → refusal_at what (port_at ports h) ≡ Some why
+    → option_map_or (λ (p : Port). told_at core p (Some (input_of_end what))) (port_at ports h) [] ≡ []
+silent_refused core ports h (Frame read) why is = cc
+silent_refused core ports h (Reset window) why is = reset_silent core ports h window why (refused_is window (port_at ports h) why is)
+silent_refused core ports h (Start value) why is = cc
+silent_refused core ports h Stop why is = cc
+
+-- so it is where that was answered
+pub where_refused : {X Y Q : Type 0} (r : Result X Y) → ((why : Y) → r ≡ Err why → Q) → OnErr r Q
+where_refused (Ok x) so = tt
+where_refused (Err why) so = so why refl
+
+-- it leaves a step as it was
+pub refused_same : (input : ToNode) (why : ResetRefused) (w : Work) → AreAllDifferent (map host_at w.ports) → HasNoneEnded w.ports
+    → refusal_by input w.ports ≡ Some why → times_out (input_of_node input) (all_come (input_of_node input) w) ≡ w
+refused_same (At host (Frame read)) why w differ none is = cc
+refused_same (At host (Reset window)) why w differ none is =
+    refused_stays host window why w differ none (refused_is window (port_at w.ports host) why is)
+refused_same (At host (Start value)) why w differ none is = cc
+refused_same (At host Stop) why w differ none is = cc
+refused_same Tick why w differ none is = cc
+
+-- ## What is brought
+
+-- an identifier comes from a host that there is
+pub sync_of_hosts : (input : NodeInput) (ports : List Port) → AreOfHosts ports
+    → IfSome (sync_by input ports) (λ (pair : ℕ × ℕ). (1 ≤ pair.0) × (pair.0 ≤ 7))
+sync_of_hosts (AtEnd h i) ports hosts = sync_of_host h i ports _ hosts refl
+sync_of_hosts TimePasses ports hosts = tt
+
+-- the identifiers that come are kept
+pub synced_by : (core : Core) (input : NodeInput) (ports : List Port) → AreAllDifferent (map host_at ports)
+    → flat_map (synced core input) ports ≡ sync_kept core.journal core.tables (sync_by input ports)
+synced_by core (AtEnd h i) ports differ = synced_is core h i ports differ
+synced_by core TimePasses ports differ = tick_synced core ports
+
+-- ## Behind it
+
+pub came_order : (input : NodeInput) (w : Work) → IsNodeInOrder w.core w.ports
+    → IsNodeInOrder (times_out input (all_come input w)).core (times_out input (all_come input w)).ports
+came_order input w order = late_order input (all_come input w) (come_order input w order)
+
+five : (ports : List Port) → AreAtMostDue 4 ports → AreAtMostDue 5 ports
+five [] few = tt
+five (p ∷ ports) few = let f = few.0 in (omega (arith, f), five ports few.1)
+
+pub came_few : (input : NodeInput) → MakeOneMore input → (w : Work) → AreAtMostDue 4 w.ports → AreFewDue (times_out input (all_come input w)).ports
+came_few (AtEnd h i) more w few = come_few h i more w (five w.ports few)
+came_few TimePasses more w few = late_few w.ports few
+
+pub came_planned : (input : NodeInput) (w : Work) (plan : Option Plan)
+    → times_out input (all_come input (record w { plan = plan })) ≡ record (times_out input (all_come input w)) { plan = plan }
+came_planned (AtEnd h i) w plan = refl
+came_planned TimePasses w plan = refl
+
+pub came_written : (input : NodeInput) (w : Work) → (times_out input (all_come input w)).writes ≡ w.writes
+came_written (AtEnd h i) w = refl
+came_written TimePasses w = refl
