@@ -8,7 +8,6 @@ pub mod Quiet
 pub mod HavingTurns
 pub mod Allowing
 pub mod Passing
-pub mod Spares
 mod Sendables
 mod Relays
 mod Elsewhere

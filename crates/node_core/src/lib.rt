@@ -18,7 +18,6 @@ mod owing;
 mod relaying;
 mod reporting;
 mod running;
-mod seeing;
 mod syncing;
 mod timeouts;
 mod turns;

@@ -191,7 +191,7 @@ impl<N: Nv + Drop> Node<N> {
         ensures number { self.new.number ≡ self.old.number }
         ensures runs { IsSoundNode self.new }
     {
-        let spares = self.spares();
+        let spares = self.ends.spares();
         let mut deeds = Deeds::new();
         self.deeds_for(host, pipe, message, &mut deeds);
         let short = lack(deeds.as_slice(), host, message.len(), &spares);
