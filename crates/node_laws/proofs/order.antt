@@ -16,6 +16,7 @@ pub mod Listing
 pub mod TickResets
 pub mod Numbered
 pub mod Readying
+pub mod Withheld
 pub mod Activations
 pub mod Watches
 pub mod Wires

@@ -31,3 +31,4 @@ pub mod Done
 pub mod Due
 pub mod Short
 pub mod Schedules
+pub mod Lineless

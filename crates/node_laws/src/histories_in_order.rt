@@ -93,8 +93,8 @@ pub fn quiet_links_have_delivered_all_in_each_history()
 /// Where an end of a link was reset in such a history, as a line asked for, while the other end was active and not waiting, and the nodes
 /// of the link kept their power in that event, and behind it no frame of the link was lost but of activation, no other RSET put on it, no
 /// power of its nodes cut and no activation of it begun, both ends are up with one number once both wires hold no frames but of activation.
-/// All of it is read off the events: `standing_behind` for the ends and the wires, `session_now` for the sessions, and a frame of activation
-/// off its bytes.
+/// All of it is read off the events: `standing_behind` for the ends and the wires, `session_now` for the sessions, a frame of activation off
+/// its bytes; and that a line lost a frame counts in the event of such a line alone.
 /// So it is where the controller's end was reset in a tick, as for a notice that is late, and behind that in the tick no frame of the link was
 /// lost but of activation and in it the host's end put no RSET on the link (`in_tick`): what was too old was lost before.
 pub fn resets_bring_both_up_in_each_history()

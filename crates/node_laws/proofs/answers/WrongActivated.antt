@@ -64,7 +64,7 @@ reset_and_not_up w = true≢false (sym (ap is_some (w.legal.complete.upheld acti
 
 -- nor is it so where a frame of activation is lost behind that, and another one is on its way
 abbrev activation_goes_on : Occurrence
-activation_goes_on = host_takes (Lost (end_h 2) (98 ∷ 0 ∷ []) lost.Asked ∷ Emit (end_h 2) (96 ∷ []) ∷ [])
+activation_goes_on = host_takes (Lost (end_h 2) (98 ∷ 0 ∷ []) lost.Full ∷ Emit (end_h 2) (96 ∷ []) ∷ [])
 
 reset_over_activation_and_not_up : LegalWorld (told (activated ++ asks ∷ activation_goes_on ∷ [])) → ⊥
 unfolding found_from hosts_where lowest_free

@@ -1,4 +1,4 @@
--- Small wrong histories of a link that settles: one that the law of what has settled refuses, and one that isn't legal.
+-- A small wrong history of a link that settles isn't legal, and the law of what has settled refuses it too.
 use Rattle.std.proofs.Common.{◌≡◌, ◌∙◌, refl, ap, sym, ℕ, true≢false, List, [], ◌∷◌, ◌++◌, Some, None}
 use Rattle.std.specs.Prelude.{is_some}
 use Rattle.swp_base.specs.declared.control_frames.Act.TheVariants.{Ready, PowerMode}
@@ -28,15 +28,33 @@ use Rattle.node_laws.proofs.answers.Wrong.{told, takes}
 use Rattle.node_laws.proofs.answers.WrongWorlds.{host_takes}
 use Rattle.node_laws.proofs.answers.WrongActivated.{activated, site}
 
--- It is reset, and its UA comes as the causes say; but it is noted as lost, and the host's end not as up. What is upheld is read off
--- entries, so it says nothing of this one, in which a frame is noted as lost that isn't of activation.
-abbrev settles : List Occurrence
-settles =
-    activated
-    ++ record { cause = Resets (end_h 2) None; entries = Emit (end_h 2) (249 ∷ 4 ∷ 0 ∷ []) ∷ [] }
-    ∷ takes (Took (end_c 2) (249 ∷ 4 ∷ 0 ∷ []) ∷ Up (end_c 2) 1 ∷ Emit (end_c 2) (230 ∷ []) ∷ [])
+-- It is reset, and its UA comes as the causes say; but it is noted as lost by a line, where no line loses a frame, and the host's end not as up.
+abbrev resets : Occurrence
+resets = record { cause = Resets (end_h 2) None; entries = Emit (end_h 2) (249 ∷ 4 ∷ 0 ∷ []) ∷ [] }
+
+abbrev answers : List Occurrence
+answers =
+    takes (Took (end_c 2) (249 ∷ 4 ∷ 0 ∷ []) ∷ Up (end_c 2) 1 ∷ Emit (end_c 2) (230 ∷ []) ∷ [])
     ∷ host_takes (Lost (end_h 2) (230 ∷ []) lost.Asked ∷ [])
     ∷ []
+
+abbrev settles : List Occurrence
+settles = activated ++ resets ∷ answers
+
+settled_and_not_up : LegalWorld (told settles) → ⊥
+unfolding found_from hosts_where lowest_free
+settled_and_not_up w = true≢false (sym (ap is_some (w.legal.complete.upheld activated resets answers [] (end_h 2) None refl upheld).up.host))
+  where
+    upheld : IsUpheld activated resets answers (end_h 2) None
+    upheld = record {
+      cause = refl;
+      active = refl;
+      free = refl;
+      powered = refl;
+      left = record { undisturbed = refl; unopened = refl; to_controller = refl; to_host = refl };
+    }
+
+-- ## By the law
 
 -- what happens on the link as these events have it
 abbrev happened : List LinkEvent
@@ -65,9 +83,9 @@ world_makes_it : (site settles).link ≡ settled_link
 unfolding found_from hosts_where lowest_free
 world_makes_it = refl
 
-settled_and_not_up : HasSettled (entries_in settles) 2 (site settles).link → ⊥
+refused_by_law : HasSettled (entries_in settles) 2 (site settles).link → ⊥
 unfolding found_from hosts_where lowest_free
-settled_and_not_up law = true≢false (sym (ap is_some (law happened run settled).up.host))
+refused_by_law law = true≢false (sym (ap is_some (law happened run settled).up.host))
   where
     run : IsRunOf happened (site settles).link
     run = record {
@@ -89,29 +107,3 @@ settled_and_not_up law = true≢false (sym (ap is_some (law happened run settled
 
     settled : IsSettled (site settles).link (sure_of new_line happened)
     settled = record { undisturbed = refl; to_controller = refl; to_host = refl }
-
--- ## What is lost is of activation
-
--- So it is, but what is noted as lost in place of the UA is a frame of activation, which is no answer to a reset.
-abbrev resets : Occurrence
-resets = record { cause = Resets (end_h 2) None; entries = Emit (end_h 2) (249 ∷ 4 ∷ 0 ∷ []) ∷ [] }
-
-abbrev answers : List Occurrence
-answers =
-    takes (Took (end_c 2) (249 ∷ 4 ∷ 0 ∷ []) ∷ Up (end_c 2) 1 ∷ Emit (end_c 2) (230 ∷ []) ∷ [])
-    ∷ host_takes (Lost (end_h 2) (98 ∷ 0 ∷ []) lost.Asked ∷ [])
-    ∷ []
-
-settled_over_activation_and_not_up : LegalWorld (told (activated ++ resets ∷ answers)) → ⊥
-unfolding found_from hosts_where lowest_free
-settled_over_activation_and_not_up w =
-    true≢false (sym (ap is_some (w.legal.complete.upheld activated resets answers [] (end_h 2) None refl upheld).up.host))
-  where
-    upheld : IsUpheld activated resets answers (end_h 2) None
-    upheld = record {
-      cause = refl;
-      active = refl;
-      free = refl;
-      powered = refl;
-      left = record { undisturbed = refl; unopened = refl; to_controller = refl; to_host = refl };
-    }

@@ -1,12 +1,12 @@
 -- Frames of activation are read off the bytes of frames.
-use Rattle.std.proofs.Common.{◌≡◌, ◌⊎◌, inl, inr, ℕ, ◌+◌, ◌*◌, ◌<◌, ◌≤◌, Bool, true, false, cond, List, [], ◌∷◌, length, Option, Some, None, refl, sym, ap, ◌∙◌, arith}
-use Rattle.std.specs.Prelude.{◌==◌, ◌&&◌, ◌||◌, not, find, nat_lt, nat_le, slice_index, Result, Ok, Err}
+use Rattle.std.proofs.Common.{◌≡◌, ◌⊎◌, inl, inr, ℕ, ◌+◌, ◌*◌, ◌<◌, ◌≤◌, Bool, true, false, cond, List, [], ◌∷◌, length, Some, refl, sym, ap, ◌∙◌, arith}
+use Rattle.std.specs.Prelude.{drop, ◌&&◌, not, find, nat_lt, nat_le, slice_index, Ok, Err}
 use Rattle.std.specs.List.{AllByRecursion, list_any}
 use Rattle.std.proofs.lemmas.Bool.{true≢false, leb-true}
 use Rattle.swp_base.specs.declared.control_frames.Control.{Control}
 use Rattle.swp_base.specs.declared.control_frames.Control.TheVariants.{I, S, Rset, Ua, Act, Clt}
-use Rattle.swp_lpdu.specs.declared.LpduFault.{LpduFault}
-use Rattle.swp_lpdu.specs.Controls.{LpduRow, table, is_within, read_by, lpdu_of}
+use Rattle.swp_lpdu.specs.declared.LpduFault.TheVariants.{Short, TooLong}
+use Rattle.swp_lpdu.specs.Controls.{LpduRow, table, is_within, read_by, kind_number, lpdu_of}
 use Rattle.link_laws.specs.places.Wire.{OnWire, is_act, sans}
 use Rattle.link_laws.specs.messages.Links.{Loss}
 use Rattle.link_laws.specs.entries.Entries.{End as Side}
@@ -15,7 +15,8 @@ use Rattle.trace_model.specs.declared.entry.Entry.TheVariants as entry
 use Rattle.history.specs.Steps.{end_of, lost_as}
 use Rattle.history.proofs.legal.Reading.{link_same}
 use Rattle.node_laws.specs.order.Told.{frames_on}
-use Rattle.node_laws.specs.order.Resets.{IsFreeOfLinkFrames, is_act_lpdu, is_act_read, loses_one_on}
+use Rattle.node_laws.specs.order.Resets.{IsFreeOfLinkFrames, is_act_lpdu, is_act_read}
+use Rattle.node_laws.proofs.order.Withheld.{loses_one_on}
 
 -- ## Bytes
 
@@ -25,8 +26,8 @@ IsFree byte r = (is_within r.first r.last byte ≡ false) ⊎ ((bytes : List ℕ
 
 free_read : (r : LpduRow) (bytes : List ℕ) → is_act (r.says bytes) ≡ false → is_act_read (read_by (Some r) bytes) ≡ false
 free_read r bytes free = go (nat_lt (length bytes) r.need) (nat_lt r.most (length bytes)) where
-  go : (short long : Bool) → is_act_read (cond short (Err (Rattle.swp_lpdu.specs.declared.LpduFault.TheVariants.Short r.need (length bytes)))
-      (cond long (Err (Rattle.swp_lpdu.specs.declared.LpduFault.TheVariants.TooLong (length bytes))) (Ok (r.says bytes)))) ≡ false
+  go : (short long : Bool) → is_act_read (cond short (Err (Short r.need (length bytes)))
+      (cond long (Err (TooLong (length bytes))) (Ok (r.says bytes)))) ≡ false
   go true long = refl
   go false true = refl
   go false false = free
@@ -55,15 +56,33 @@ low_row low high n less = go (nat_le low n) (nat_le n high) refl where
 -- frames of SHDLC have greater first bytes than those of activation
 high_free : (n : ℕ) → 0x80 ≤ n → (bytes : List ℕ) → slice_index bytes 0 ≡ n → is_act_lpdu bytes ≡ false
 high_free n high bytes first =
-    ap (λ k. is_act_read (read_by (find (λ (r : LpduRow). is_within r.first r.last k) table) bytes)) first
-    ∙ row_free n table
-    (inr (λ b. refl), (inr (λ b. refl), (inr (λ b. refl), (inr (λ b. refl), (inr (λ b. refl), (inr (λ b. refl), (inr (λ b. refl), (inl (low_row 0x60 0x60 n (omega (arith, high))), (inl (low_row 0x68 0x68 n (omega (arith, high))), (inl (low_row 0x61 0x61 n (omega (arith, high))), (inl (low_row 0x69 0x69 n (omega (arith, high))), (inl (low_row 0x62 0x62 n (omega (arith, high))), (inl (low_row 0x6A 0x6A n (omega (arith, high))), (inr (λ b. refl), tt))))))))))))))
-    bytes
+    ap (λ k. is_act_read (read_by (find (λ (r : LpduRow). is_within r.first r.last k) table) bytes)) first ∙ row_free n table rows bytes
+  where
+    apart : (k : ℕ) → k < 0x80 → is_within k k n ≡ false
+    apart k less = low_row k k n (omega (arith, high, less))
+
+    acts : AllByRecursion (IsFree n) (drop 7 table)
+    acts = (
+      inl (apart 0x60 (omega arith)),
+      (
+        inl (apart 0x68 (omega arith)),
+        (
+          inl (apart 0x61 (omega arith)),
+          (inl (apart 0x69 (omega arith)), (inl (apart 0x62 (omega arith)), (inl (apart 0x6A (omega arith)), (inr (λ b. refl), tt)))),
+        ),
+      ),
+    )
+
+    rows : AllByRecursion (IsFree n) table
+    rows = (
+      inr (λ b. refl),
+      (inr (λ b. refl), (inr (λ b. refl), (inr (λ b. refl), (inr (λ b. refl), (inr (λ b. refl), (inr (λ b. refl), acts)))))),
+    )
 
 -- what is read as a frame of activation is one
 pub act_read : (c : Control) → is_act c ≡ false → is_act_lpdu (lpdu_of c) ≡ false
 act_read (I ns nr info) other = high_free (0x80 + 8 * ns + nr) (omega arith) (lpdu_of (I ns nr info)) refl
-act_read (S kind nr) other = high_free (0xC0 + 8 * Rattle.swp_lpdu.specs.Controls.kind_number kind + nr) (omega arith) (lpdu_of (S kind nr)) refl
+act_read (S kind nr) other = high_free (0xC0 + 8 * kind_number kind + nr) (omega arith) (lpdu_of (S kind nr)) refl
 act_read (Rset window caps) other = refl
 act_read Ua other = refl
 act_read (Act act again) other = absurd (true≢false other)

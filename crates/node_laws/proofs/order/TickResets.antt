@@ -40,7 +40,8 @@ use Rattle.history.specs.Steps.{end_of, entries_for, lost_as}
 use Rattle.node_machine.specs.world.World.{end_c, end_h}
 use Rattle.node_laws.specs.links.Runs.{IsRunOf}
 use Rattle.node_laws.specs.telling.Telling.{tells_of, of_link}
-use Rattle.node_laws.specs.order.Resets.{asks_at, behind_reset_of, cuts_on, loses_one_on}
+use Rattle.node_laws.specs.order.Resets.{asks_at, behind_reset_of, cuts_on}
+use Rattle.node_laws.proofs.order.Withheld.{loses_one_on}
 use Rattle.node_laws.specs.answers.Unasked.{is_own_reset, is_reset_down}
 use Rattle.node_laws.proofs.telling.Accounts.{untold}
 use Rattle.node_laws.proofs.telling.WorldTicks.{tick_event}

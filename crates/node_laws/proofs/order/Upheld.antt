@@ -3,7 +3,6 @@ use Rattle.std.proofs.Common.{◌≡◌, ℕ, ◌==◌, Bool, true, false, cond,
 use Rattle.std.proofs.Common.{◌++◌, Option, Some, None, refl, ap, sym, subst, ◌∙◌, append-nil, append_assoc}
 use Rattle.std.specs.List.{fold, list_any}
 use Rattle.std.proofs.lemmas.Bool.{eqb-true, true≢false}
-use Rattle.std.proofs.lemmas.List.Folds.{list_any-append}
 use Rattle.trace_model.specs.declared.entry.Entry.{Entry}
 use Rattle.trace_model.specs.declared.entry.Entry.TheVariants as entry
 use Rattle.trace_model.specs.declared.line.Header.{Header}
@@ -16,7 +15,7 @@ use Rattle.link_laws.proofs.entries.Lasting.{same_number}
 use Rattle.link_laws.proofs.entries.Sparing.{or_none}
 use Rattle.history.specs.Filters.{said}
 use Rattle.history.specs.Follows.{machine_of}
-use Rattle.node_machine.specs.world.World.{Site, NodeWorld, Happening, new_world, site_at, world_step, world_ticks}
+use Rattle.node_machine.specs.world.World.{Site, NodeWorld, Happening, end_c, new_world, site_at, world_step, world_ticks}
 use Rattle.node_machine.specs.world.World.Happening.{Resets, Activates}
 use Rattle.node_machine.specs.world.Lines.{Occurrence}
 use Rattle.node_machine.specs.world.NodeHistories.{NodeHistory, FollowsNodes, entries_in, occurrences_in}
@@ -29,7 +28,9 @@ use Rattle.node_laws.proofs.telling.Accounts.{of-append}
 use Rattle.node_laws.proofs.telling.Powers.{other_said}
 use Rattle.node_laws.proofs.telling.Lasting.{occurs}
 use Rattle.node_laws.specs.order.Told.{readiness_of, AreBothUp}
-use Rattle.node_laws.specs.order.Resets.{cuts_on, withholds_on, opens_on, ready_at, IsLeftAlone, IsUpheld, ResetNodes, IsUpheldInTick, TickResetNodes}
+use Rattle.node_laws.specs.order.Resets.{cuts_on, withheld_in, withholds_in, opens_on, ready_at, IsLeftAlone, IsUpheld, ResetNodes}
+use Rattle.node_laws.specs.order.Resets.{IsUpheldInTick, TickResetNodes, behind_reset_of}
+use Rattle.node_laws.proofs.order.Withheld.{AreBelieved, event_believed, loses_one_on, none_lost_behind, none_withheld_on, withholds_on}
 use Rattle.node_laws.proofs.order.Ticking.{ticked_since}
 use Rattle.node_laws.proofs.order.TickResets.{IsAnsweredTick}
 use Rattle.node_laws.proofs.order.Readying.{AreReady}
@@ -86,18 +87,18 @@ module _ (k : ℕ) (hosts : List ℕ) where
       subst P (sym (eqb-true h k is)) (leaves c (world_step w c).1 p q)
 
   -- over events that withhold nothing
-  known_behind : (events os : List Occurrence) (w : NodeWorld) → AreDone w events → list_any (withholds_on k) (entries_in events) ≡ false
+  known_behind : (events os : List Occurrence) (w : NodeWorld) → AreDone w events → list_any (withheld_in k) events ≡ false
       → list_any (λ (o : Occurrence). opens_on k o.cause) events ≡ false → IsSoSince (of_one k) hosts os w
       → IsSoSince (of_one k) hosts (os ++ events) (world_behind w events)
   known_behind [] os w done q p a = subst (λ z. IsSoSince (of_one k) hosts z w) (sym (append-nil os)) a
   known_behind (o ∷ events) os w done q p a =
       let c : Happening = o.cause in
       let u : List Entry = o.entries in
-      let both = or_none (list_any (withholds_on k) u) (list_any (withholds_on k) (entries_in events))
-      (sym (list_any-append (withholds_on k) u (entries_in events)) ∙ q) in
+      let both = or_none (withheld_in k o) (list_any (withheld_in k) events) q in
       let opens = or_none (opens_on k c) (list_any (λ (x : Occurrence). opens_on k x.cause) events) p in
       let is : occurs w c ≡ o = ap (λ (z : List Entry). record { cause = c; entries = z }) (sym done.0.0) in
-      let left : list_any (withholds_on k) (world_step w c).1 ≡ false = ap (list_any (withholds_on k)) (sym done.0.0) ∙ both.0 in
+      let left : list_any (withholds_on k) (world_step w c).1 ≡ false =
+      none_withheld_on k c (world_step w c).1 (event_believed k w c) (ap (list_any (withholds_in k c)) (sym done.0.0) ∙ both.0) in
       let P : Occurrence → Type 0 = λ z. IsSoSince (of_one k) hosts (os ++ z ∷ []) (world_step w c).0 in
       let next : IsSoSince (of_one k) hosts (os ++ o ∷ []) (world_step w c).0 =
       subst P is (next_so (of_one k) hosts os w c a done.0.1.0 (leaves_known w c opens.0 left)) in
@@ -268,9 +269,13 @@ module _ (header : Header) (lines : List Line) (t : NodeHistory) (follows : Foll
       let so : IsSo hosts_of before w = history_so header lines t follows are playable before (tick ∷ behind ++ back) q in
       let ready : AreReady s.link (standing_behind h before) = (so.each h s there).shown.ready refl in
       let entries : tick.entries ≡ (world_ticks w).1 = done.0 ∙ ap (λ c. (world_step w c).1) a.cause in
+      let believed : AreBelieved h tick.cause tick.entries =
+      subst (AreBelieved h tick.cause) (sym done.0) (event_believed h w tick.cause) in
+      let lossless : list_any (loses_one_on h) (behind_reset_of (end_c h) tick.entries) ≡ false =
+      none_lost_behind h tick.cause (end_c h) tick.entries believed a.lossless in
       let A : List Entry → Type 0 = IsAnsweredTick h in
       let says : IsAnsweredTick h (world_ticks w).1 =
-      subst A entries (record { reset = a.reset; powered = a.powered; lossless = a.lossless; alone = a.alone }) in
+      subst A entries (record { reset = a.reset; powered = a.powered; lossless = lossless; alone = a.alone }) in
       let N : Happening → Type 0 = λ c. (x : Site) → site_at (world_step w c).0.sites h ≡ Some x → IsSince x.link in
       let active = ap (λ (r : Readiness). r.active) (sym ready.far) ∙ a.active in
       let free = ap (λ (r : Readiness). r.waits) (sym ready.far) ∙ a.free in

@@ -38,7 +38,8 @@ use Rattle.node_laws.specs.telling.Standing.{stands_noted, standing}
 use Rattle.node_laws.specs.telling.Standing.{law_noted, standing_by_law, StandsOf}
 use Rattle.node_laws.proofs.telling.Accounts.{untold}
 use Rattle.node_laws.proofs.telling.Events.{after-append, entries-append}
-use Rattle.node_laws.specs.order.Resets.{cuts_on, drops_on, loses_one_on, spoils_on, withholds_on}
+use Rattle.node_laws.specs.order.Resets.{cuts_on, drops_on}
+use Rattle.node_laws.proofs.order.Withheld.{loses_one_on, spoils_on, withholds_on}
 use Rattle.node_laws.proofs.order.Activations.{kept_act}
 
 -- ## A link since a reset

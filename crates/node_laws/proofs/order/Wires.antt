@@ -36,7 +36,7 @@ use Rattle.node_laws.proofs.telling.Shapes.{last_of, IsShaped, shaped_tick, shap
 use Rattle.node_laws.proofs.telling.Events.{after-append, entries-append}
 use Rattle.node_laws.proofs.telling.WorldTicks.{between, near_notes, tick_event}
 use Rattle.node_laws.specs.order.Told.{IsLinkTold, readiness_of, frames_on}
-use Rattle.node_laws.specs.order.Resets.{withholds_on}
+use Rattle.node_laws.proofs.order.Withheld.{withholds_on}
 use Rattle.node_laws.proofs.order.Activity.{IsLined}
 use Rattle.node_laws.proofs.order.Readying.{AreReady, ready_more, started_unready}
 use Rattle.node_laws.proofs.order.Watches.{IsStepOf, WatchedLink, watched, IsSince, IsUnstarted, AreUnstarted, since_step, unwatched, opened, kept_left}

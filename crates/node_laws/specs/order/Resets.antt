@@ -7,6 +7,7 @@ use Rattle.swp_lpdu.specs.declared.LpduFault.{LpduFault}
 use Rattle.swp_lpdu.specs.Controls.{control_of}
 use Rattle.trace_model.specs.declared.entry.Entry.{Entry}
 use Rattle.trace_model.specs.declared.entry.Entry.TheVariants as entry
+use Rattle.trace_model.specs.declared.entry.LostCause.TheVariants as lost
 use Rattle.trace_model.specs.declared.line.End.{End}
 use Rattle.trace_model.specs.Ends.{other_end}
 use Rattle.link_laws.specs.places.Wire.{is_act}
@@ -14,7 +15,7 @@ use Rattle.history.specs.Filters.{Saying, same_end, said}
 use Rattle.history.specs.Filters.Saying.{Loses}
 use Rattle.history.specs.Legal.{is_rset_lpdu, resets_on}
 use Rattle.node_machine.specs.world.World.{Happening, end_c, end_h}
-use Rattle.node_machine.specs.world.World.Happening.{Ticks, Resets, Activates}
+use Rattle.node_machine.specs.world.World.Happening.{Loses as LosesFrame, Ticks, Resets, Activates}
 use Rattle.node_machine.specs.world.Lines.{Occurrence}
 use Rattle.node_machine.specs.world.NodeHistories.{NodeHistory, entries_in, occurrences_in}
 use Rattle.node_laws.specs.telling.Standing.{Readiness, Standing, standing_behind}
@@ -40,21 +41,37 @@ abbrev pub drops_on : ℕ → Option (End × Saying) → Bool
 drops_on h (Some (e, Loses lpdu)) = (e.link == h) && not (is_act_lpdu lpdu)
 drops_on h _ = false
 
--- a frame of that link is lost, but of activation
-abbrev pub loses_one_on : ℕ → Entry → Bool
-loses_one_on h e = drops_on h (said e)
+-- a frame is noted as lost or damaged by a line, and not for its age, nor since its wire was full
+abbrev pub is_lost_by_line : Entry → Bool
+is_lost_by_line (entry.Lost e lpdu lost.Age) = false
+is_lost_by_line (entry.Lost e lpdu lost.Full) = false
+is_lost_by_line (entry.Lost e lpdu cause) = true
+is_lost_by_line _ = false
+
+-- a line loses a frame of the link with this host, or damages it
+abbrev pub loses_at : ℕ → Happening → Bool
+loses_at h (LosesFrame e why) = e.link == h
+loses_at h _ = false
+
+-- where this happens a frame of that link is lost, but of activation: by a line only where it is a line that loses one
+abbrev pub loses_one_in : ℕ → Happening → Entry → Bool
+loses_one_in h c e = drops_on h (said e) && (loses_at h c || not (is_lost_by_line e))
 
 -- so it is, or RSET is put on the link
-abbrev pub spoils_on : ℕ → Entry → Bool
-spoils_on h e = loses_one_on h e || resets_on h (said e)
+abbrev pub spoils_in : ℕ → Happening → Entry → Bool
+spoils_in h c e = loses_one_in h c e || resets_on h (said e)
 
 -- there are no frames on a wire but of activation
 abbrev pub IsFreeOfLinkFrames : List (List ℕ) → Type 0
 IsFreeOfLinkFrames wire = list_any (λ lpdu. not (is_act_lpdu lpdu)) wire ≡ false
 
 -- what withholds the answer to a reset of it
-abbrev pub withholds_on : ℕ → Entry → Bool
-withholds_on h e = cuts_on h e || spoils_on h e
+abbrev pub withholds_in : ℕ → Happening → Entry → Bool
+withholds_in h c e = cuts_on h e || spoils_in h c e
+
+-- an event does
+abbrev pub withheld_in : ℕ → Occurrence → Bool
+withheld_in h o = list_any (withholds_in h o.cause) o.entries
 
 -- activation of it begins
 abbrev pub opens_on : ℕ → Happening → Bool
@@ -73,7 +90,7 @@ asks_at e _ = false
 -- Behind an event in which an end of the link with this host was reset no frame of the link was lost but of activation, no other RSET put on
 -- it, no power of its nodes cut and no activation of it begun, and now both its wires hold no frames but of activation.
 pub record IsLeftAlone (before : List Occurrence) (reset : Occurrence) (behind : List Occurrence) (h : ℕ) : Type 0 where
-  pub undisturbed : list_any (withholds_on h) (entries_in behind) ≡ false
+  pub undisturbed : list_any (withheld_in h) behind ≡ false
   pub unopened : list_any (λ (o : Occurrence). opens_on h o.cause) behind ≡ false
   pub to_controller : IsFreeOfLinkFrames (standing_behind h (before ++ reset ∷ behind)).to_controller
   pub to_host : IsFreeOfLinkFrames (standing_behind h (before ++ reset ∷ behind)).to_host
@@ -109,7 +126,7 @@ pub record IsUpheldInTick (before : List Occurrence) (tick : Occurrence) (behind
   pub active : (standing_behind h before).far.active ≡ true
   pub free : (standing_behind h before).far.waits ≡ false
   pub powered : list_any (cuts_on h) tick.entries ≡ false
-  pub lossless : list_any (loses_one_on h) (behind_reset_of (end_c h) tick.entries) ≡ false
+  pub lossless : list_any (loses_one_in h tick.cause) (behind_reset_of (end_c h) tick.entries) ≡ false
   pub alone : list_any (asks_at (end_h h)) tick.entries ≡ false
   pub left : IsLeftAlone before tick behind h
 

@@ -1,0 +1,137 @@
+-- What withholds the answer to a reset in an event of a world, as it is read off the entries alone.
+use Rattle.std.proofs.Common.{◌≡◌, ℕ, Bool, true, false, cond, List, [], ◌∷◌, refl, sym, ap, ◌∙◌}
+use Rattle.std.specs.Prelude.{◌==◌, ◌&&◌, ◌||◌, not}
+use Rattle.std.specs.List.{AllByRecursion, list_any}
+use Rattle.trace_model.specs.declared.entry.Entry.{Entry}
+use Rattle.trace_model.specs.declared.entry.Entry.TheVariants as entry
+use Rattle.trace_model.specs.declared.line.End.{End}
+use Rattle.swp_lpdu.specs.Controls.{lpdu_of}
+use Rattle.link_laws.specs.messages.Links.{Loss}
+use Rattle.link_laws.specs.sessions.Sessions.{OnWire}
+use Rattle.link_laws.specs.entries.Entries.{End as Side, first_lost}
+use Rattle.link_laws.specs.entries.Entries.End.{Controller, Host}
+use Rattle.link_laws.proofs.entries.Sparing.{or_none}
+use Rattle.history.specs.Filters.{said}
+use Rattle.history.specs.Legal.{resets_on}
+use Rattle.history.specs.Steps.{end_of, entries_for, lost_as}
+use Rattle.node_machine.specs.world.World.{NodeWorld, Happening, link_to, world_step}
+use Rattle.node_machine.specs.world.World.Happening.{Boots, IsCut, Gives, Inits, Takes, Loses, Ticks, Resets, Activates, Arms}
+use Rattle.node_machine.proofs.world.Cases.{by_loss}
+use Rattle.node_laws.specs.order.Resets.{behind_reset_of, cuts_on, drops_on, is_act_lpdu, is_lost_by_line, loses_at, loses_one_in, spoils_in, withholds_in}
+use Rattle.node_laws.specs.answers.Unasked.{is_reset_down}
+use Rattle.node_laws.proofs.worlds.Lineless.{AreLineless, event_lineless}
+
+-- a frame of a link is lost, but of activation
+abbrev pub loses_one_on : ℕ → Entry → Bool
+loses_one_on h e = drops_on h (said e)
+
+-- so it is, or RSET is put on the link
+abbrev pub spoils_on : ℕ → Entry → Bool
+spoils_on h e = loses_one_on h e || resets_on h (said e)
+
+-- what withholds the answer to a reset of it
+abbrev pub withholds_on : ℕ → Entry → Bool
+withholds_on h e = cuts_on h e || spoils_on h e
+
+-- ## Frames that a line loses
+
+-- an entry is believed: it tells of no frame of the link that a line loses, but where one does
+abbrev pub IsBelieved : ℕ → Happening → Entry → Type 0
+IsBelieved h c x = (loses_one_on h x && not (loses_at h c || not (is_lost_by_line x))) ≡ false
+
+abbrev pub AreBelieved : ℕ → Happening → List Entry → Type 0
+AreBelieved h c es = AllByRecursion (IsBelieved h c) es
+
+and_false : (b : Bool) → (b && false) ≡ false
+and_false true = refl
+and_false false = refl
+
+or_true : (b : Bool) → (b || true) ≡ true
+or_true true = refl
+or_true false = refl
+
+lineless_believed : (h : ℕ) (c : Happening) (es : List Entry) → AreLineless es → AreBelieved h c es
+lineless_believed h c [] a = tt
+lineless_believed h c (x ∷ es) a = (
+  ap (λ b. loses_one_on h x && not (loses_at h c || not b)) a.0 ∙ (ap (λ b. loses_one_on h x && not b) (or_true (loses_at h c))
+      ∙ and_false (loses_one_on h x)),
+  lineless_believed h c es a.1,
+)
+
+-- a line loses a frame of one link
+lost_believed : (h k : ℕ) (who : Side) (why : Loss) (e : End) (loss : Loss) (w : List OnWire) → e.link ≡ k
+    → AreBelieved h (Loses e loss) (entries_for k (first_lost who why w))
+lost_believed h k who why e loss [] same = tt
+lost_believed h k who why e loss (x ∷ w) same = (by (e.link == h) refl, tt) where
+  lost : Entry
+  lost = entry.Lost (end_of k who) (lpdu_of x.frame) (lost_as why)
+
+  kept : Bool
+  kept = not (is_act_lpdu (lpdu_of x.frame))
+
+  link : (end_of k who).link ≡ k
+  link = by_side who where
+    by_side : (s : Side) → (end_of k s).link ≡ k
+    by_side Controller = refl
+    by_side Host = refl
+
+  by : (b : Bool) → (e.link == h) ≡ b → IsBelieved h (Loses e loss) lost
+  by true q = ap (λ b. loses_one_on h lost && not (b || not (is_lost_by_line lost))) q ∙ and_false (loses_one_on h lost)
+  by false q =
+      let off : loses_one_on h lost ≡ false = ap (λ n. (n == h) && kept) (link ∙ sym same) ∙ ap (λ b. b && kept) q in
+      ap (λ b. b && not (loses_at h (Loses e loss) || not (is_lost_by_line lost))) off
+
+-- So it is with each entry of an event.
+pub event_believed : (h : ℕ) (w : NodeWorld) (c : Happening) → AreBelieved h c (world_step w c).1
+event_believed h w (Loses e why) =
+    by_loss (λ p. AreBelieved h (Loses e why) p.1) w e why (λ z. lost_believed h e.link Host why e why (link_to w.sites e.link).to_host refl)
+    (λ z. lost_believed h e.link Controller why e why (link_to w.sites e.link).to_controller refl)
+event_believed h w (Boots n) = lineless_believed h (Boots n) (world_step w (Boots n)).1 (event_lineless w (Boots n) tt)
+event_believed h w (IsCut n) = lineless_believed h (IsCut n) (world_step w (IsCut n)).1 (event_lineless w (IsCut n) tt)
+event_believed h w (Gives e m) = lineless_believed h (Gives e m) (world_step w (Gives e m)).1 (event_lineless w (Gives e m) tt)
+event_believed h w (Inits e identity pipes) =
+    lineless_believed h (Inits e identity pipes) (world_step w (Inits e identity pipes)).1 (event_lineless w (Inits e identity pipes) tt)
+event_believed h w (Takes e) = lineless_believed h (Takes e) (world_step w (Takes e)).1 (event_lineless w (Takes e) tt)
+event_believed h w Ticks = lineless_believed h Ticks (world_step w Ticks).1 (event_lineless w Ticks tt)
+event_believed h w (Resets e window) = lineless_believed h (Resets e window) (world_step w (Resets e window)).1 (event_lineless w (Resets e window) tt)
+event_believed h w (Activates k sync power) =
+    lineless_believed h (Activates k sync power) (world_step w (Activates k sync power)).1 (event_lineless w (Activates k sync power) tt)
+event_believed h w (Arms n plan) = lineless_believed h (Arms n plan) (world_step w (Arms n plan)).1 (event_lineless w (Arms n plan) tt)
+
+-- ## What is read by events and by entries
+
+one_lost : (a b : Bool) → (a && not b) ≡ false → (a && b) ≡ false → a ≡ false
+one_lost true true p q = q
+one_lost true false p q = p
+one_lost false b p q = refl
+
+none_lost : (h : ℕ) (c : Happening) (es : List Entry) → AreBelieved h c es → list_any (loses_one_in h c) es ≡ false → list_any (loses_one_on h) es ≡ false
+none_lost h c [] a q = refl
+none_lost h c (x ∷ es) a q =
+    let both = or_none (loses_one_in h c x) (list_any (loses_one_in h c) es) q in
+    ap (λ b. b || list_any (loses_one_on h) es) (one_lost (loses_one_on h x) (loses_at h c || not (is_lost_by_line x)) a.0 both.0)
+    ∙ none_lost h c es a.1 both.1
+
+pub none_withheld_on : (h : ℕ) (c : Happening) (es : List Entry) → AreBelieved h c es → list_any (withholds_in h c) es ≡ false
+    → list_any (withholds_on h) es ≡ false
+none_withheld_on h c [] a q = refl
+none_withheld_on h c (x ∷ es) a q =
+    let both = or_none (withholds_in h c x) (list_any (withholds_in h c) es) q in
+    let cut = or_none (cuts_on h x) (spoils_in h c x) both.0 in
+    let spoilt = or_none (loses_one_in h c x) (resets_on h (said x)) cut.1 in
+    let lost : loses_one_on h x ≡ false = one_lost (loses_one_on h x) (loses_at h c || not (is_lost_by_line x)) a.0 spoilt.0 in
+    ap (λ b. (b || spoils_on h x) || list_any (withholds_on h) es) cut.0
+    ∙ (ap (λ b. (b || resets_on h (said x)) || list_any (withholds_on h) es) lost
+    ∙ (ap (λ b. b || list_any (withholds_on h) es) spoilt.1 ∙ none_withheld_on h c es a.1 both.1))
+
+-- behind a reset in a tick
+believed_behind : (h : ℕ) (c : Happening) (e : End) (es : List Entry) → AreBelieved h c es → AreBelieved h c (behind_reset_of e es)
+believed_behind h c e [] a = tt
+believed_behind h c e (x ∷ es) a = go (is_reset_down e x) (believed_behind h c e es a.1) where
+  go : (b : Bool) → AreBelieved h c (behind_reset_of e es) → AreBelieved h c (cond b es (behind_reset_of e es))
+  go true later = a.1
+  go false later = later
+
+pub none_lost_behind : (h : ℕ) (c : Happening) (e : End) (es : List Entry) → AreBelieved h c es
+    → list_any (loses_one_in h c) (behind_reset_of e es) ≡ false → list_any (loses_one_on h) (behind_reset_of e es) ≡ false
+none_lost_behind h c e es a q = none_lost h c (behind_reset_of e es) (believed_behind h c e es a) q
