@@ -1,5 +1,6 @@
 //! A node alone at the end of a link.
 ghost use Rattle.std.specs.Prelude.{◌≡◌, ◌==◌, ◌++◌, ◌+◌, ◌≤◌, ◌<◌, [], List, ℕ, length, map, reverse, take, false, IsTrue};
+ghost use Rattle.swp_base.specs.DataUnits.{IsLpdu};
 ghost use Rattle.swp_base.specs.Outside.{Rose};
 ghost use Rattle.lone_laws.specs.alone.Lone.{Lone};
 ghost use Rattle.lone_laws.specs.alone.Ends.{bytes_bring, first_comes};
@@ -141,10 +142,33 @@ fn hear_stretch<N: Nv, T: LoneNode<N>>(end: &mut OneEnd<T>, bytes: &[u8], out: &
 {
     if let Some(lpdu) = end.reader.whole_frame(bytes) {
         let count = lpdu.len() + 4;
-        let comings = [Coming::Frame(Lpdu::new(lpdu))];
+        let comings = [Coming::Frame(lpdu_of(lpdu))];
         let stopped = answer_all(&mut end.node, end.form, end.is_clf, &comings, out);
         return Heard { count, stopped };
     }
+    hear_in_parts(end, bytes, out)
+}
+
+/// The same, byte by byte where one may bring something.
+#[inline(never)]
+fn hear_in_parts<N: Nv, T: LoneNode<N>>(
+    end: &mut OneEnd<T>,
+    bytes: &[u8],
+    out: &mut Output,
+) -> Heard
+    requires may { (l : Lone) × (older : List ℕ) × StandsAlone T.runs T.number end.old l older }
+    requires room { length out.old.items + ROOM ≤ 52224 }
+    ensures form { end.new.form ≡ end.old.form }
+    ensures some { 0 < length bytes.now → 0 < result.count }
+    ensures within { result.count ≤ length bytes.now }
+    ensures heard { (l : Lone) (older : List ℕ) → StandsAlone T.runs T.number end.old l older
+        → HasAnswered N.writes (T.nv end.old.node) (T.nv end.new.node)
+        (IsAlone T.runs T.number end.new (reverse (take result.count bytes.now) ++ older) result.stopped)
+        (λ m. all_answered (form_named end.old.form) (record l { memory = m })
+        (bytes_bring (form_named end.old.form) T.number older (take result.count bytes.now))) out.old.items out.new.items }
+    ensures count { N.faults (T.nv end.old.node) ≤ N.faults (T.nv end.new.node) }
+    ensures rose { IsTrue result.stopped → Rose (N.faults (T.nv end.old.node)) (N.faults (T.nv end.new.node)) }
+{
     let Stretch { count, brought } = end.reader.hear_stretch(bytes);
     if brought.is_nothing() {
         return Heard {
@@ -155,6 +179,18 @@ fn hear_stretch<N: Nv, T: LoneNode<N>>(end: &mut OneEnd<T>, bytes: &[u8], out: &
     let comings = comings_of(brought);
     let stopped = answer_all(&mut end.node, end.form, end.is_clf, comings.as_slice(), out);
     Heard { count, stopped }
+}
+
+/// The LPDU of these bytes. Most acknowledgements have a single byte.
+#[inline(always)]
+fn lpdu_of(bytes: &[u8]) -> Lpdu
+    requires { IsLpdu bytes.now }
+    ensures { result ≡ bytes.now }
+{
+    match bytes {
+        [byte] => Lpdu::new(&[*byte]),
+        _ => Lpdu::new(bytes),
+    }
 }
 
 /// The memory of a node that has run.

@@ -5,7 +5,7 @@ ghost use Rattle.lone_laws.specs.alone.Ends.EndForm.{OnLine};
 ghost use Rattle.one_end.specs.Writing.{form_named};
 
 use arrayvec::ArrayVec;
-use byte_link::write_unit;
+use byte_link::append_unit;
 use swp_base::Lpdu;
 use swp_frame::{BitBytes, append_frame};
 use swp_line::{Period, byte_of};
@@ -35,9 +35,7 @@ pub fn write_out(form: Form, is_clf: bool, lpdu: &Lpdu, out: &mut Output)
 {
     match form {
         Form::Line => write_periods(is_clf, lpdu, out),
-        Form::Bytes => {
-            let _fits = out.try_extend_from_slice(write_unit(lpdu).as_slice());
-        }
+        Form::Bytes => append_unit(lpdu, out),
     }
 }
 
