@@ -178,6 +178,7 @@ fn commanded<N: Nv + Drop>(
 }
 
 // The gate of the controller that serves a command, where the administration gate doesn't decide.
+#[inline(always)]
 fn gate_for(tables: &Tables, host: u8, pipe: u8, instruction: u8) -> Option<u8>
     ensures { result ≡ (if goes_through tables.now host pipe instruction then own_gate tables.now host pipe else None) }
 {

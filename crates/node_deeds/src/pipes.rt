@@ -29,6 +29,7 @@ pub(crate) fn goes_through(tables: &Tables, host: u8, pipe: u8, instruction: u8)
 }
 
 /// The other host, where a message on an opened pipe is for it: a command that opens or closes a pipe isn't.
+#[inline(always)]
 pub(crate) fn relayed_to(tables: &Tables, host: u8, pipe: u8, message: &[u8]) -> Option<u8>
     ensures { result ≡ relayed_to tables.now host (pipe, message.now) }
 {

@@ -76,6 +76,7 @@ impl Ends {
     }
 
     // The links that are up.
+    #[inline(always)]
     fn up(&self) -> u8
         requires { (ports : List Port) × EndsStandFor self.now ports }
         ensures { (ports : List Port) → EndsStandFor self.now ports → (h : ℕ) → 1 ≤ h → h ≤ 7 → has result h ≡ has_link ports h }
