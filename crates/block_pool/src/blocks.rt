@@ -279,6 +279,7 @@ impl Blocks {
     }
 
     /// Appends as many bytes to a chain as its last block has room for, or the first one in a new block, and says how many.
+    #[inline(always)]
     fn push_some(&mut self, first: u16, bytes: &[u8]) -> usize
         requires some { 0 < length (held_bytes self.old.slots first) }
         requires more { 0 < length bytes.now }
@@ -303,6 +304,7 @@ impl Blocks {
     }
 
     /// Appends bytes to a chain.
+    #[inline(always)]
     pub fn extend(&mut self, first: u16, bytes: &[u8])
         requires some { 0 < length (held_bytes self.old.slots first) }
         requires short { length (held_bytes self.old.slots first) + length bytes.now < 2 ^ 24 }
