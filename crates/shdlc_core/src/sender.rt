@@ -125,14 +125,12 @@ impl Sender {
     }
 
     /// The fragment to be sent next, where there is one.
-    pub fn fragment_due(&self) -> Option<Info>
-        ensures value { (s : Session) → SendsFor self.now s → result ≡ fragment_due s }
+    pub fn fragment_due(&self) -> Option<&Info>
+        ensures value { (s : Session) → SendsFor self.now s → option_map (λ info. info.now) result ≡ fragment_due s }
         ensures within { OnSome result (self.now.sent < length self.now.queue) }
     {
         if (!self.peer_busy || self.probe) && self.sent < self.window {
-            self.queue
-                .get(usize::from(self.sent))
-                .map(|info| info.copied())
+            self.queue.get(usize::from(self.sent))
         } else {
             None
         }
@@ -145,19 +143,15 @@ impl Sender {
         (self.first + self.sent) % 8
     }
 
-    /// The fragment to be sent next, where there is one, counts as sent.
-    pub fn send_next(&mut self) -> Option<Info>
-        ensures fragment { (s : Session) → SendsFor self.old s → result ≡ fragment_due s }
-        ensures sent { (s : Session) → SendsFor self.old s → OnSome result (SendsFor self.new (sent_next s)) }
-        ensures fewer { OnSome result (
-            (self.old.sent < length self.old.queue) × (self.new.queue ≡ self.old.queue) × (self.new.sent ≡ self.old.sent + 1)) }
-        ensures none { IfNone result (self.new ≡ self.old) }
+    /// The fragment to be sent next counts as sent.
+    pub fn count_next(&mut self)
+        requires { self.old.sent < length self.old.queue }
+        ensures stands { (s : Session) → SendsFor self.old s → SendsFor self.new (sent_next s) }
+        ensures fewer { (self.new.queue ≡ self.old.queue) × (self.new.sent ≡ self.old.sent + 1) }
     {
-        let info = self.fragment_due()?;
         self.sent += 1;
         self.reach = self.reach.max(self.sent);
         self.probe = false;
-        Some(info)
     }
 
     /// Forgets the first `count` fragments, which the other end has. What was sent behind them stays sent.

@@ -240,8 +240,16 @@ impl Shdlc {
     {
         let ns = self.sender.next_number();
         let nr = self.receiver.expected();
-        let info = self.sender.send_next()?;
-        Some(Control::I { ns, nr, info })
+        let Some(info) = self.sender.fragment_due() else {
+            return None;
+        };
+        let frame = Control::I {
+            ns,
+            nr,
+            info: info.copied(),
+        };
+        self.sender.count_next();
+        Some(frame)
     }
 
     /// Takes a frame from the other end. At most seven control frames wait to be fetched before.
