@@ -116,7 +116,10 @@ class Writer:
         return self.lead_of(item) + commented(text_of(item.head), indent_of(item.lead))
 
     def write_use(self, item, indent):
-        """A `use` without laws, and without what Rust has no need of."""
+        """A `use` without laws, and without what Rust has no need of. What it takes of `core` is `rtstd`'s, which has more than Rust's own `core`."""
+        first = next((t for t in item.head if t.text == "core"), None)
+        if first is not None:
+            first.text = "std"
         path = re.sub(r"\s+", "", text_of(item.head[1 + [t.text for t in item.head].index("use") :]))
         visible = text_of(item.head).lstrip().startswith("pub")
         head, names = path, None

@@ -23,6 +23,8 @@ directory = "{REGISTRY}"
 STATIC = '[lib]\ncrate-type = ["staticlib"]\ntest = false\ndoctest = false\n'
 SMALL = '[profile.release]\nopt-level = "s"\nlto = true\ncodegen-units = 1\npanic = "abort"\noverflow-checks = true\n'
 LINTS = '[lints.rust]\nunsafe_code = "forbid"\n'
+# `rtstd` has one function that says itself why it may.
+SAID = '[lints.rust]\nunsafe_code = "deny"\n'
 # A crate without tests of its own isn't built for them.
 UNTESTED = "[lib]\ntest = false\ndoctest = false\n\n"
 # Some arguments, fields, imports and labels are there for contracts alone.
@@ -117,7 +119,7 @@ def export_program(repository, out, with_real):
     write_crates(out, made, others)
     copy_folder("rtstd/src", f"{out}/rtstd/src")
     copy_folder("rtstd/tests", f"{out}/rtstd/tests")
-    write(f"{out}/rtstd/Cargo.toml", manifest("rtstd", [("arrayvec", others["arrayvec"].replace("../..", ".."))], UNTESTED + LINTS))
+    write(f"{out}/rtstd/Cargo.toml", manifest("rtstd", [("arrayvec", others["arrayvec"].replace("../..", ".."))], UNTESTED + SAID))
     names = ["drawn_schedule", "host_core", "router", "swp_base", "swp_tool", "trace_model"]
     below = [(name, at(f"../crates/{name}")) for name in names] + [("rtstd", at("../rtstd"))]
     write(f"{out}/swp/Cargo.toml", manifest("swp", below, LINTS))

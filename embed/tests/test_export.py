@@ -68,6 +68,9 @@ class Small(unittest.TestCase):
         for piece in ("Vec::from_elem(alloc, [0; 2], n)?", 'std::format_in!(alloc, "{x};")?', "a.try_clone()?", "b.collect_in(alloc)?", "c.collect()"):
             self.assertIn(piece, text)
 
+    def test_what_is_taken_of_core_is_taken_of_rtstd(self):
+        self.assertEqual(written("use core::mem::replace_with;\nfn f() -> u8 {\n    1\n}\n"), "use std::mem::replace_with;\nfn f() -> u8 {\n    1\n}\n")
+
     def test_a_law_and_its_calls_go(self):
         text = written("use laws::it_holds;\nfn f(x: u8) -> u8 {\n    it_holds(x);\n    x\n}\nfn it_holds(x: u8)\n    ensures { x ≡ x }\n{}\n", ["it_holds"])
         self.assertEqual(text, "fn f(x: u8) -> u8 {\n    x\n}\n")

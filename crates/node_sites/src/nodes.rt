@@ -24,6 +24,7 @@ ghost use Rattle.node_core.specs.Running.{one_more_error, reset_refusal_at};
 ghost use Rattle.node_sites.specs.WorldNodes.{GoesOutWhole, as_kept, BeginsOver, BeginsAt, MayBeginStep, MayBeginAt, HasEndOf, HasGone, IsNotedSo};
 ghost use Rattle.node_sites.specs.Memories.{IsSoundMemory};
 ghost use Rattle.node_sites.specs.WorldBoots.{EndsBoot};
+ghost use Rattle.node_sites.specs.declared.power.Power.TheVariants.{Off};
 
 use crate::noted::Noted;
 use crate::power::Power;
@@ -155,12 +156,13 @@ pub trait WorldHost: WorldNode {
     ///
     /// # Errors
     ///
-    /// No memory is left, or the one that it is to boot from hasn't 65,536 bytes.
-    fn boot(alloc: Global, host: u8, memory: MemNv) -> Result<Power<Self>, NoMemory>
+    /// No memory is left, or the one that it is to boot from hasn't 65,536 bytes. Its power is off then, and its memory lies there.
+    fn boot(alloc: Global, host: u8, memory: MemNv) -> (Power<Self>, Result<(), NoMemory>)
         requires some { 1 ≤ host }
         requires host { host ≤ 7 }
         requires memory { IsSoundMemory memory }
-        ensures { IfOk result (EndsBoot Self.runs Self.memory host (host ∷ []) Uicc memory) };
+        ensures booted { OnOk result.1 (EndsBoot Self.runs Self.memory host (host ∷ []) Uicc memory result.0) }
+        ensures unbooted { OnErr result.1 (result.0 ≡ Off memory) };
 
     /// Activation begins anew at the link with this host, which is its own, with this sync identifier. Whether it has its power still.
     fn activate(&mut self, host: u8, sync: u16, noted: &mut Noted) -> bool
@@ -230,10 +232,11 @@ pub trait WorldController: WorldNode {
     ///
     /// # Errors
     ///
-    /// No memory is left, or the one that it is to boot from hasn't 65,536 bytes.
-    fn boot(alloc: Global, hosts: u8, memory: MemNv) -> Result<Power<Self>, NoMemory>
+    /// No memory is left, or the one that it is to boot from hasn't 65,536 bytes. Its power is off then, and its memory lies there.
+    fn boot(alloc: Global, hosts: u8, memory: MemNv) -> (Power<Self>, Result<(), NoMemory>)
         requires memory { IsSoundMemory memory }
-        ensures { IfOk result (EndsBoot Self.runs Self.memory 0 (hosts_where (has hosts)) Clf memory) };
+        ensures booted { OnOk result.1 (EndsBoot Self.runs Self.memory 0 (hosts_where (has hosts)) Clf memory result.0) }
+        ensures unbooted { OnErr result.1 (result.0 ≡ Off memory) };
 
     /// Activation begins anew at the link with this host, with this power mode, which is 00 or 01. Whether it has its power still.
     fn activate(&mut self, host: u8, power: u8, noted: &mut Noted) -> bool

@@ -14,7 +14,6 @@ use crate::noted::Noted;
 use crate::power::Power;
 use crate::sending::send_frames;
 use crate::wires::Wires;
-use std::alloc::Global;
 use swp_base::NoMemory;
 use trace_model::End;
 
@@ -27,20 +26,13 @@ pub struct HostSite<P: Drop> {
 }
 
 /// The power of a host goes: both wires of its link are empty, and its memory stays.
-///
-/// # Errors
-///
-/// No memory is left; what the host stands for then isn't said.
-pub fn lose_power<P: WorldNode + Drop>(
-    site: &mut HostSite<P>,
-    alloc: Global,
-) -> Result<(), NoMemory>
-    ensures off { OnOk result (site.new.power ≡ Off (memory_kept P.memory site.old.power)) }
+pub fn lose_power<P: WorldNode + Drop>(site: &mut HostSite<P>)
+    ensures off { site.new.power ≡ Off (memory_kept P.memory site.old.power) }
     ensures host { site.new.host ≡ site.old.host }
     ensures wires { (l : Link) → WiresStandFor site.old.wires l → WiresStandFor site.new.wires (with_bare_wires l) }
 {
     site.wires.empty();
-    site.power.lose(alloc)
+    site.power.lose();
 }
 
 /// A step of a host ends: its frames go out unless it has lost its power.
@@ -68,7 +60,8 @@ pub fn finish_step<P: WorldNode + Drop>(
         return Err(NoMemory);
     }
     if !live {
-        return lose_power(site, *noted.entries.allocator());
+        lose_power(site);
+        return Ok(());
     }
     let at = End {
         link: site.host,

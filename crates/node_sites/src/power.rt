@@ -1,5 +1,5 @@
 //! The power of a node of the world.
-ghost use Rattle.std.specs.Prelude.{◌≡◌, ℕ, ◌<◌, length, Option, Some, IfOk, OnOk};
+ghost use Rattle.std.specs.Prelude.{◌≡◌, ℕ, ◌<◌, length, Option, Some};
 ghost use Rattle.swp_base.specs.InMemory.{Memory};
 ghost use Rattle.link_laws.specs.messages.Links.{NumberedEnd};
 ghost use Rattle.node_machine.specs.Parts.{Running};
@@ -8,9 +8,8 @@ ghost use Rattle.node_sites.specs.Powers.{IsNodePlace, memory_kept, is_on};
 
 use crate::nodes::WorldNode;
 use arrayvec::ArrayVec;
-use std::alloc::Global;
-use std::mem::replace;
-use swp_base::{MemNv, NoMemory};
+use core::mem::replace_with;
+use swp_base::MemNv;
 
 /// A node of the world while that runs, or the memory that it left.
 #[derive(Drop)]
@@ -19,6 +18,13 @@ pub enum Power<P> {
     On(P),
     /// Its power is off, and its memory lies here.
     Off(MemNv),
+}
+
+// A node whose power has gone: its memory stays.
+fn lost<P: WorldNode + Drop>(power: Power<P>, _nothing: ()) -> (Power<P>, ())
+    ensures { result.0 ≡ Off (memory_kept P.memory power) }
+{
+    (Power::Off(power.into_memory()), ())
 }
 
 impl<P: WorldNode + Drop> Power<P> {
@@ -42,28 +48,11 @@ impl<P: WorldNode + Drop> Power<P> {
         }
     }
 
-    /// Takes the memory of the node out, whether that runs or not, and leaves one without a byte.
-    ///
-    /// # Errors
-    ///
-    /// No memory is left.
-    pub fn take_memory(&mut self, alloc: Global) -> Result<MemNv, NoMemory>
-        ensures { IfOk result (λ memory. memory ≡ memory_kept P.memory self.old) }
-    {
-        let left = MemNv::new(alloc, 0)?;
-        Ok(replace(self, Power::Off(left)).into_memory())
-    }
-
     /// The power goes, and the memory stays.
-    ///
-    /// # Errors
-    ///
-    /// No memory is left.
-    pub fn lose(&mut self, alloc: Global) -> Result<(), NoMemory>
-        ensures { OnOk result (self.new ≡ Off (memory_kept P.memory self.old)) }
+    pub fn lose(&mut self)
+        ensures { self.new ≡ Off (memory_kept P.memory self.old) }
     {
-        *self = Power::Off(self.take_memory(alloc)?);
-        Ok(())
+        replace_with(self, (), lost);
     }
 
     /// Plans that the `nth` write of the memory from now fails, where 1 is the next, and what its range is filled with, whether the node

@@ -80,15 +80,15 @@ impl WorldNode for Host<MemNv> {
 }
 
 impl WorldHost for Host<MemNv> {
-    fn boot(alloc: Global, host: u8, memory: MemNv) -> Result<Power<Self>, NoMemory> {
+    fn boot(alloc: Global, host: u8, memory: MemNv) -> (Power<Self>, Result<(), NoMemory>) {
         if memory.size() != MEMORY_SIZE {
-            return Err(NoMemory);
+            return (Power::Off(memory), Err(NoMemory));
         }
         match Host::boot(alloc, host, memory) {
-            Ok(node) => Ok(Power::On(node)),
+            Ok(node) => (Power::On(node), Ok(())),
             Err(BootRefused { nv, fault }) => match fault {
-                BootFault::NoMemory => Err(NoMemory),
-                BootFault::Journal(_) => Ok(Power::Off(nv)),
+                BootFault::NoMemory => (Power::Off(nv), Err(NoMemory)),
+                BootFault::Journal(_) => (Power::Off(nv), Ok(())),
             },
         }
     }

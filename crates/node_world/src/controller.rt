@@ -14,24 +14,18 @@ use node_sites::nodes::WorldNode;
 use node_sites::noted::Noted;
 use node_sites::places::HostSite;
 use node_sites::power::Power;
-use std::alloc::Global;
 use swp_base::NoMemory;
 
 /// The power of the controller goes: the wires of all links are empty, and its memory stays.
-///
-/// # Errors
-///
-/// No memory is left; what the controller and the hosts stand for then isn't said.
 pub(crate) fn lose_controller<C: WorldNode + Drop, P: WorldNode + Drop>(
     controller: &mut Power<C>,
     sites: &mut [HostSite<P>],
-    alloc: Global,
-) -> Result<(), NoMemory>
-    ensures off { OnOk result (controller.new ≡ Off (memory_kept C.memory controller.old)) }
+)
+    ensures off { controller.new ≡ Off (memory_kept C.memory controller.old) }
     ensures wires { (hosts : List Site) → SitesAre P.runs P.memory sites.old hosts → SitesAre P.runs P.memory sites.new (map with_bare_link hosts) }
 {
     empty_all(sites);
-    controller.lose(alloc)
+    controller.lose();
 }
 
 /// A step of the controller ends: its frames go out at all its links, those of the first host first, unless it has lost its power.
@@ -59,7 +53,8 @@ pub(crate) fn finish_controller<C: WorldNode + Drop, P: WorldNode + Drop>(
         return Err(NoMemory);
     }
     if !live {
-        return lose_controller(controller, sites, *noted.entries.allocator());
+        lose_controller(controller, sites);
+        return Ok(());
     }
     if let Power::On(node) = controller {
         send_to_all(node, sites, &mut noted.entries)?;

@@ -1,5 +1,6 @@
 //! The controller boots, its power is cut, or a write to its memory is to fail; and frames on their way to its ends are lost.
 ghost use Rattle.std.specs.Prelude.{◌≡◌, ◌<◌, length, None, Some, OnOk};
+ghost use Rattle.swp_base.specs.declared.link_terms.Role.TheVariants.{Clf};
 ghost use Rattle.gate_admin.specs.View.{has, hosts_where};
 ghost use Rattle.link_laws.specs.messages.Links.{Loss};
 ghost use Rattle.history.specs.Steps.{lost_as};
@@ -8,6 +9,8 @@ ghost use Rattle.node_machine.specs.world.World.{NodeWorld, boots, frame_lost, e
 ghost use Rattle.node_machine.specs.world.World.Happening.{IsCut, Arms};
 ghost use Rattle.node_laws.specs.telling.Telling.{hosts_in};
 ghost use Rattle.node_sites.specs.Memories.{IsSoundMemory};
+ghost use Rattle.node_sites.specs.Powers.{memory_kept};
+ghost use Rattle.node_sites.specs.WorldBoots.{EndsBoot};
 ghost use Rattle.node_world.specs.Controllers.{WorldIs, WorldBecomes, MayGoOn, IsThere, AreTimely};
 
 use crate::controller::lose_controller;
@@ -15,6 +18,7 @@ use crate::controller_sites::{empty_all, place_of};
 use crate::host_boots::note_last;
 use crate::host_losses::{is_refusal, lose_for};
 use arrayvec::ArrayVec;
+use core::mem::replace_with;
 use node_sites::nodes::{WorldController, WorldNode};
 use node_sites::noted::Noted;
 use node_sites::places::HostSite;
@@ -22,6 +26,18 @@ use node_sites::power::Power;
 use std::alloc::Global;
 use swp_base::NoMemory;
 use trace_model::{End, Entry, LostCause};
+
+// The controller behind a boot from the memory that it left. Where no memory is left for it, its power stays off.
+fn booted<C: WorldController + Drop>(
+    power: Power<C>,
+    with: (Global, u8),
+) -> (Power<C>, Result<(), NoMemory>)
+    requires { IsSoundMemory (memory_kept C.memory power) }
+    ensures { OnOk result.1 (EndsBoot C.runs C.memory 0 (hosts_where (has with.1)) Clf (memory_kept C.memory power) result.0) }
+{
+    let (alloc, mask) = with;
+    C::boot(alloc, mask, power.into_memory())
+}
 
 /// The controller, which doesn't run, boots from its memory, with ends of the links with the hosts of this mask, in which bit h stands for
 /// host h.
@@ -43,8 +59,7 @@ pub(crate) fn boot_controller<C: WorldController + Drop, P: WorldNode + Drop>(
         (boots w 0)) }
     ensures short { noted.new.short ≡ noted.old.short }
 {
-    let memory = controller.take_memory(alloc)?;
-    *controller = C::boot(alloc, mask, memory)?;
+    replace_with(controller, (alloc, mask), booted)?;
     match controller {
         Power::On(node) => {
             let count = node.count();
@@ -72,7 +87,7 @@ pub(crate) fn cut_controller<C: WorldNode + Drop, P: WorldNode + Drop>(
         (world_step w (IsCut 0))) }
     ensures short { noted.new.short ≡ noted.old.short }
 {
-    lose_controller(controller, sites, *noted.entries.allocator())?;
+    lose_controller(controller, sites);
     note_last(noted, Entry::Cut { node: 0 })
 }
 

@@ -1,13 +1,17 @@
 //! A host of the world boots.
-ghost use Rattle.std.specs.Prelude.{◌≡◌, [], ◌∷◌, ◌++◌, None, Some, OnOk};
+ghost use Rattle.std.specs.Prelude.{◌≡◌, ◌≤◌, [], ◌∷◌, ◌++◌, None, Some, OnOk};
 ghost use Rattle.swp_act.specs.Activation.{new_uicc};
 ghost use Rattle.link_laws.specs.machine.Machine.{new_link_end};
+ghost use Rattle.swp_base.specs.declared.link_terms.Role.TheVariants.{Uicc as UiccName};
 ghost use Rattle.link_laws.specs.machine.Machine.Role.{Uicc};
 ghost use Rattle.node_machine.specs.world.World.{Site};
 ghost use Rattle.node_sites.specs.Places.{SiteIs};
 ghost use Rattle.node_sites.specs.Memories.{IsSoundMemory};
+ghost use Rattle.node_sites.specs.Powers.{memory_kept};
+ghost use Rattle.node_sites.specs.WorldBoots.{EndsBoot};
 ghost use Rattle.node_world.specs.HostSteps.{host_boots, IsHostOf, HasBecome};
 
+use core::mem::replace_with;
 use node_sites::nodes::WorldHost;
 use node_sites::noted::Noted;
 use node_sites::places::HostSite;
@@ -27,6 +31,20 @@ pub(crate) fn note_last(noted: &mut Noted, entry: Entry) -> Result<(), NoMemory>
     }
 }
 
+// A host behind a boot from the memory that it left. Where no memory is left for it, its power stays off.
+fn booted<P: WorldHost + Drop>(
+    power: Power<P>,
+    with: (Global, u8),
+) -> (Power<P>, Result<(), NoMemory>)
+    requires some { 1 ≤ with.1 }
+    requires host { with.1 ≤ 7 }
+    requires memory { IsSoundMemory (memory_kept P.memory power) }
+    ensures { OnOk result.1 (EndsBoot P.runs P.memory with.1 (with.1 ∷ []) UiccName (memory_kept P.memory power) result.0) }
+{
+    let (alloc, host) = with;
+    P::boot(alloc, host, power.into_memory())
+}
+
 /// A host that doesn't run boots from its memory.
 ///
 /// # Errors
@@ -44,8 +62,7 @@ pub(crate) fn boot_host<P: WorldHost + Drop>(
     ensures short { noted.new.short ≡ noted.old.short }
 {
     let node = site.host;
-    let memory = site.power.take_memory(alloc)?;
-    site.power = P::boot(alloc, node, memory)?;
+    replace_with(&mut site.power, (alloc, node), booted)?;
     match &site.power {
         Power::On(running) => {
             let count = running.count();

@@ -26,7 +26,7 @@ pub(crate) fn cut_host<P: WorldNode + Drop>(
         × (noted.new.entries.items ≡ noted.old.entries.items ++ note.Cut s.host ∷ [])) }
     ensures short { noted.new.short ≡ noted.old.short }
 {
-    lose_power(site, *noted.entries.allocator())?;
+    lose_power(site);
     match noted.entries.push(Entry::Cut { node: site.host }) {
         Ok(()) => Ok(()),
         Err(_) => Err(NoMemory),

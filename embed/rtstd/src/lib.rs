@@ -1,7 +1,7 @@
 //! What the exported sources name `std` and Rust has otherwise: calls that say where they take memory, and that answer want of it.
 //!
-//! Everything else of `std` that the sources name is `core`'s. Nothing here is unsafe: vectors and boxes are those of `alloc`, on the global
-//! allocator of the program. (The C library has the same names over a heap that its caller hands it.)
+//! Everything else of `std` that the sources name is `core`'s. Nothing here is unsafe but `mem::replace_with`: vectors and boxes are those of `alloc`,
+//! on the global allocator of the program. (The C library has the same names over a heap that its caller hands it.)
 #![no_std]
 
 extern crate alloc as on_heap;
@@ -9,6 +9,7 @@ extern crate alloc as on_heap;
 pub use core::*;
 
 pub mod clone;
+pub mod mem;
 pub mod simd;
 mod storage;
 mod text;

@@ -6,17 +6,14 @@ use Rattle.link_laws.specs.entries.Entries.End.{Host}
 use Rattle.history.specs.Steps.{entries_for}
 use Rattle.node_sites.specs.declared.power.Power.TheVariants.{On, Off}
 use Rattle.node_sites.specs.Powers.{memory_kept}
-use Rattle.link_wires.proofs.Results.{on_ok}
 use Rattle.node_sites.proofs.places.finish_step.Goals as goal
 
 pub returns-then-not-live-clause-cut : goal.returns-then-not-live-clause-cut
-returns-then-not-live-clause-cut g c n w p l before f noted off =
-    on_ok c.lose_power.result c.lose_power.ensures.off
-    (λ gone. record {
-      off = gone ∙ ap (λ k. Off (memory_kept g.P.WorldNode.memory k)) f.on;
-      wires = c.lose_power.ensures.wires (exchanged l) f.wires;
-      noted = noted c.if-noted.false;
-    })
+returns-then-not-live-clause-cut g c n w p l before f noted off = record {
+  off = c.lose_power.ensures.off ∙ ap (λ k. Off (memory_kept g.P.WorldNode.memory k)) f.on;
+  wires = c.lose_power.ensures.wires (exchanged l) f.wires;
+  noted = noted c.if-noted.false;
+}
 
 pub returns-in_ok-send_frames-clause-goes_on : goal.returns-in_ok-send_frames-clause-goes_on
 returns-in_ok-send_frames-clause-goes_on g c n w p l before f noted live =

@@ -3,7 +3,6 @@ use Rattle.swp_base.specs.InMemory.{Memory}
 use Rattle.node_sites.specs.declared.power.Power.{Power}
 use Rattle.node_sites.specs.declared.power.Power.TheVariants.{On, Off}
 use Rattle.node_sites.specs.Powers.{memory_kept}
-use Rattle.link_wires.proofs.Results.{on_ok}
 use Rattle.std.specs.List.{flat_map}
 use Rattle.node_world.specs.Controllers.{frames_emitted}
 use Rattle.node_world.proofs.controller.finish_controller.Goals as goal
@@ -12,13 +11,11 @@ abbrev memory_off : {C : Type 0} → (C → Memory) → Power C → Power C
 memory_off memory_of k = Off (memory_kept memory_of k)
 
 pub returns-then-not-live-clause-cut : goal.returns-then-not-live-clause-cut
-returns-then-not-live-clause-cut g c n v hosts before e noted off =
-    on_ok c.lose_controller.result c.lose_controller.ensures.off
-    (λ gone. record {
-      off = gone ∙ ap (memory_off g.C.WorldNode.memory) e.on;
-      sites = c.lose_controller.ensures.wires hosts e.sends.sites;
-      noted = noted c.if-noted.false;
-    })
+returns-then-not-live-clause-cut g c n v hosts before e noted off = record {
+  off = c.lose_controller.ensures.off ∙ ap (memory_off g.C.WorldNode.memory) e.on;
+  sites = c.lose_controller.ensures.wires hosts e.sends.sites;
+  noted = noted c.if-noted.false;
+}
 
 pub returns-in_ok-send_to_all-clause-goes_on : goal.returns-in_ok-send_to_all-clause-goes_on
 returns-in_ok-send_to_all-clause-goes_on g c n v hosts before e noted live =

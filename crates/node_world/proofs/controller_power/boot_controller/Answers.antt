@@ -1,31 +1,32 @@
-use Rattle.std.proofs.Common.{ℕ, List, refl, sym, subst, ◌∙◌}
+use Rattle.std.proofs.Common.{ℕ, List, refl, sym, subst}
 use Rattle.swp_base.specs.InMemory.{Memory}
 use Rattle.swp_base.specs.declared.link_terms.Role.TheVariants.{Clf}
 use Rattle.node_machine.specs.world.World.{link_to}
 use Rattle.link_wires.proofs.Results.{on_ok}
 use Rattle.node_laws.specs.telling.Telling.{hosts_in}
 use Rattle.node_sites.specs.Memories.{IsSoundMemory}
+use Rattle.node_sites.specs.Powers.{memory_kept}
 use Rattle.node_sites.specs.declared.power.Power.TheVariants.{On}
 use Rattle.node_sites.specs.WorldBoots.{EndsBoot}
 use Rattle.node_sites.proofs.Powers.{kept_is}
 use Rattle.node_world.proofs.ControllersPower.{boot_runs, boot_lost}
 use Rattle.node_world.proofs.controller_power.boot_controller.Goals as goal
 
-pub boot-requires : goal.boot-requires
-boot-requires g c =
+pub replace_with-requires : goal.replace_with-requires
+replace_with-requires g c =
     let q = c.requires.state in
-    let taken = c.in_ok-memory.ensures ∙ kept_is _ g.C.WorldNode.runs g.C.WorldNode.memory c.args.controller.now q.0.memory q.0.controller
-    (λ h. (link_to q.0.sites h).controller) q.1.controller in
-    record { memory = subst IsSoundMemory (sym taken) q.3 }
+    let taken = kept_is _ g.C.WorldNode.runs g.C.WorldNode.memory c.args.controller.now q.0.memory q.0.controller (λ h. (link_to q.0.sites h).controller)
+    q.1.controller in
+    subst IsSoundMemory (sym taken) q.3
 
 pub returns-in-On-clause-stands : goal.returns-in-On-clause-stands
 returns-in-On-clause-stands g c w world may timely off same =
     on_ok c.note_last.result c.note_last.ensures.items
-    (λ noted. (let taken = c.in_ok-memory.ensures ∙ kept_is _ g.C.WorldNode.runs g.C.WorldNode.memory c.args.controller.now w.memory w.controller
-    (λ h. (link_to w.sites h).controller) world.controller in
-    let E : List ℕ → Memory → Type 0 = λ hs m. EndsBoot g.C.WorldNode.runs g.C.WorldNode.memory 0 hs Clf m c.in_ok-controller.field-0 in
+    (λ noted. (let k = c.args.controller.now in
+    let taken = kept_is _ g.C.WorldNode.runs g.C.WorldNode.memory k w.memory w.controller (λ h. (link_to w.sites h).controller) world.controller in
+    let E : List ℕ → Memory → Type 0 = λ hs m. EndsBoot g.C.WorldNode.runs g.C.WorldNode.memory 0 hs Clf m c.replace_with.new.dest in
     let booted : E (hosts_in w.sites) w.memory =
-    subst (E (hosts_in w.sites)) taken (subst (λ hs. E hs c.in_ok-memory.memory) same c.in_ok-controller.ensures) in
+    subst (E (hosts_in w.sites)) taken (subst (λ hs. E hs (memory_kept g.C.WorldNode.memory k)) same c.in_ok-replace_with.ensures) in
     boot_runs _ g.P.WorldNode.runs g.P.WorldNode.memory _ g.C.WorldNode.runs g.C.WorldNode.memory g.met.C.WorldNode.kept
     (On c.in-On.node) c.args.sites.now w c.args.noted.now.entries.items c.note_last.new.noted.entries.items
     c.in-On.node c.count-count.result refl off may timely
@@ -35,10 +36,10 @@ returns-in-On-clause-stands g c w world may timely off same =
 pub returns-in-Off-clause-stands : goal.returns-in-Off-clause-stands
 returns-in-Off-clause-stands g c w world may timely off same =
     on_ok c.note_last-in-Off.result c.note_last-in-Off.ensures.items
-    (λ noted. (let taken = c.in_ok-memory.ensures ∙ kept_is _ g.C.WorldNode.runs g.C.WorldNode.memory c.args.controller.now w.memory w.controller
-    (λ h. (link_to w.sites h).controller) world.controller in
-    let E : List ℕ → Memory → Type 0 = λ hs m. EndsBoot g.C.WorldNode.runs g.C.WorldNode.memory 0 hs Clf m c.in_ok-controller.field-0 in
-    boot_lost _ g.P.WorldNode.runs g.P.WorldNode.memory _ g.C.WorldNode.runs g.C.WorldNode.memory c.in_ok-controller.field-0 c.empty_all.new.sites w
+    (λ noted. (let k = c.args.controller.now in
+    let taken = kept_is _ g.C.WorldNode.runs g.C.WorldNode.memory k w.memory w.controller (λ h. (link_to w.sites h).controller) world.controller in
+    let E : List ℕ → Memory → Type 0 = λ hs m. EndsBoot g.C.WorldNode.runs g.C.WorldNode.memory 0 hs Clf m c.replace_with.new.dest in
+    boot_lost _ g.P.WorldNode.runs g.P.WorldNode.memory _ g.C.WorldNode.runs g.C.WorldNode.memory c.replace_with.new.dest c.empty_all.new.sites w
     c.args.noted.now.entries.items c.note_last-in-Off.new.noted.entries.items _ c.in-Off.is
-    (subst (E (hosts_in w.sites)) taken (subst (λ hs. E hs c.in_ok-memory.memory) same c.in_ok-controller.ensures))
+    (subst (E (hosts_in w.sites)) taken (subst (λ hs. E hs (memory_kept g.C.WorldNode.memory k)) same c.in_ok-replace_with.ensures))
     (c.empty_all.ensures w.sites world.sites) noted))

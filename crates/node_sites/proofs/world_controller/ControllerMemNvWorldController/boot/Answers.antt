@@ -10,8 +10,8 @@ use Rattle.node_core.specs.Running.{RunsAs}
 use Rattle.node_sites.proofs.NodesBoot.{found_as_booted, boots_so, refused_so}
 use Rattle.node_sites.proofs.world_controller.ControllerMemNvWorldController.boot.Goals as goal
 
-pub returns-in-Ok : goal.returns-in-Ok
-returns-in-Ok c =
+pub returns-in-Ok-clause-booted : goal.returns-in-Ok-clause-booted
+returns-in-Ok-clause-booted c =
     let e = c.in-Ok.ensures in
     let m : Memory = c.args.memory in
     let hosts : List ℕ = hosts_where (has c.args.hosts) in
@@ -20,8 +20,8 @@ returns-in-Ok c =
     let P : Core → Type 0 = λ core. RunsAs c.in-Ok.node core (map (new_port Clf) hosts) in
     (booted.0, booted.1, subst P (e.found refl ∙ found_as_booted m.content may.version 0 hosts) e.runs)
 
-pub returns-in-Journal : goal.returns-in-Journal
-returns-in-Journal c =
+pub returns-in-Journal-clause-booted : goal.returns-in-Journal-clause-booted
+returns-in-Journal-clause-booted c =
     let m : Memory = c.args.memory in
     let P : BootFault → Type 0 = λ f. IsBootRefused ReadsAsPlanned WritesAsPlanned (λ (x : Memory). x.faults) true (λ (x : Memory). x.content) m
     c.in-Err.field-0.nv f in

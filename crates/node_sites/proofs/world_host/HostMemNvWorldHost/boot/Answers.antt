@@ -9,8 +9,8 @@ use Rattle.node_core.specs.Running.{RunsAs}
 use Rattle.node_sites.proofs.NodesBoot.{found_as_booted, boots_so, refused_so}
 use Rattle.node_sites.proofs.world_host.HostMemNvWorldHost.boot.Goals as goal
 
-pub returns-in-Ok : goal.returns-in-Ok
-returns-in-Ok c =
+pub returns-in-Ok-clause-booted : goal.returns-in-Ok-clause-booted
+returns-in-Ok-clause-booted c =
     let e = c.in-Ok.ensures in
     let m : Memory = c.args.memory in
     let host : ℕ = c.args.host in
@@ -23,8 +23,8 @@ returns-in-Ok c =
       record { runs = runs; number = λ none. (let low = c.requires.some in let same = e.number in omega (arith, low, same, none)) },
     )
 
-pub returns-in-Journal : goal.returns-in-Journal
-returns-in-Journal c =
+pub returns-in-Journal-clause-booted : goal.returns-in-Journal-clause-booted
+returns-in-Journal-clause-booted c =
     let m : Memory = c.args.memory in
     let P : BootFault → Type 0 = λ f. IsBootRefused ReadsAsPlanned WritesAsPlanned (λ (x : Memory). x.faults) true (λ (x : Memory). x.content) m
     c.in-Err.field-0.nv f in
