@@ -375,9 +375,10 @@ impl<N: Nv + Drop> Store<N> {
         self.journal.live()
     }
 
-    /// The memory.
+    /// The memory. It has 65,536 bytes.
     pub fn into_nv(self) -> N
-        ensures { result ≡ self.journal.nv }
+        ensures nv { result ≡ self.journal.nv }
+        ensures size { N.capacity result ≡ 65536 }
     {
         let Store { journal, tables: _ } = self;
         journal.into_nv()

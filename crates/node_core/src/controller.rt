@@ -286,9 +286,10 @@ impl<N: Nv + Drop> Controller<N> {
         self.node.store()
     }
 
-    /// The memory.
+    /// The memory. It has 65,536 bytes.
     pub fn into_nv(self) -> N
-        ensures { result ≡ self.store.journal.nv }
+        ensures nv { result ≡ self.store.journal.nv }
+        ensures size { N.capacity result ≡ 65536 }
     {
         let Controller { node, buffer: _ } = self;
         node.into_nv()

@@ -138,9 +138,10 @@ impl<N: Nv + Drop> Node<N> {
         &self.store
     }
 
-    /// The memory.
+    /// The memory. It has 65,536 bytes.
     pub fn into_nv(self) -> N
-        ensures { result ≡ self.store.journal.nv }
+        ensures nv { result ≡ self.store.journal.nv }
+        ensures size { N.capacity result ≡ 65536 }
     {
         let Node { store, .. } = self;
         store.into_nv()

@@ -224,9 +224,10 @@ impl<N: Nv + Drop> Journal<N> {
         self.state.left()
     }
 
-    /// The memory.
+    /// The memory. It has 65,536 bytes.
     pub fn into_nv(self) -> N
-        ensures { result ≡ self.nv }
+        ensures nv { result ≡ self.nv }
+        ensures size { N.capacity result ≡ 65536 }
     {
         let Journal { nv, .. } = self;
         nv
