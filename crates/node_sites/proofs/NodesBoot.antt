@@ -1,17 +1,18 @@
 -- A boot of a controller or a host over a memory that keeps its bytes, none of whose reads is to fail.
-use Rattle.std.proofs.Common.{◌≡◌, ◌⊎◌, inl, inr, ℕ, zero, suc, Bool, true, false, not, cond, List, [], ◌++◌, length, refl, sym, ap, ◌∙◌, subst}
+use Rattle.std.proofs.Common.{◌≡◌, ◌⊎◌, inl, inr, ℕ, zero, suc, ◌≤◌, Bool, true, false, not, cond, List, [], ◌++◌, length, refl, sym, ap, ◌∙◌, subst}
 use Rattle.std.proofs.Common.{arith, append-nil}
 use Rattle.std.specs.Prelude.{Option, Some, None, ◌==◌}
 use Rattle.std.specs.Option.{option_map_or}
-use Rattle.std.proofs.lemmas.Bool.{true≢false, not-false, not-true, eq-eqb}
+use Rattle.std.proofs.lemmas.Bool.{cases_Bool, true≢false, not-false, not-true, eq-eqb}
 use Rattle.swp_base.specs.InMemory.{Memory, ReadsAsPlanned, WritesAsPlanned, is_next_read, memory_read}
 use Rattle.journal_laws.specs.declared.banks.Side.{Side}
 use Rattle.journal_laws.specs.declared.state.State.{State}
 use Rattle.journal_laws.specs.Banks.{other, is_opened_gate, head, current}
 use Rattle.journal_laws.specs.Journal.{unformatted, journal_at, journal, state_by, state_of}
-use Rattle.journal_laws.specs.Operations.{started_state, start_writes, compact_writes, compacted}
+use Rattle.journal_laws.specs.Operations.{started_state, start_writes, compact_writes, compacted, format_writes}
 use Rattle.journal_laws.specs.Planned.{fails_within, after_planned}
-use Rattle.journal_laws.specs.Writes.{Write, AreRead, AreMade}
+use Rattle.journal_laws.specs.Writes.{Write, AreRead, AreMade, FitIn}
+use Rattle.journal_laws.proofs.Cuts.{length-after, length-cut}
 use Rattle.journal_laws.proofs.Planned.{planned_answer, planned_memory}
 use Rattle.nv_journal.specs.declared.JournalFault.{JournalFault}
 use Rattle.nv_journal.specs.declared.JournalFault.TheVariants.{NvFault, GenerationsSpent}
@@ -22,6 +23,7 @@ use Rattle.hci_store.specs.Image.{tables_of}
 use Rattle.hci_store.specs.Starting.{ready_writes, ready_state, HasWritten}
 use Rattle.node_machine.specs.Node.{found, boot_writes}
 use Rattle.node_core.specs.Booting.{found_in_memory, IsStartRefused}
+use Rattle.node_laws.proofs.kept.Planned.{planned_whole, planned_cut}
 use Rattle.node_sites.specs.Memories.{IsSoundMemory}
 
 -- ## Reads
@@ -124,3 +126,24 @@ module _ (m : Memory) (may : IsSoundMemory m) where
       by (inl is) = torn is (r.torn refl is)
       by (inr (inl spent)) = absurd (not_first m.content may.version (r.spent refl spent).version)
       by (inr (inr image)) = absurd (let z : None ≡ Some f = sym may.image ∙ r.image refl image in cc)
+
+-- ## The size of a memory
+
+boot_fits : (size : ℕ) (o : Option Side) → 65536 ≤ size → FitIn size (option_map_or (λ _. []) o format_writes)
+boot_fits size None large = (omega (arith, large), (omega (arith, large), tt))
+boot_fits size (Some side) large = tt
+
+-- a boot leaves it as it was
+pub size_kept : (m : Memory) → length m.content ≡ 65536 → length (after_planned (boot_writes m.content) m).content ≡ 65536
+size_kept m size = by (cases_Bool (fails_within (length (boot_writes m.content)) m.plan))
+  where
+    fits : FitIn (length m.content) (boot_writes m.content)
+    fits = boot_fits (length m.content) (state_of m.content).in_use (omega (arith, size))
+
+    by : (fails_within (length (boot_writes m.content)) m.plan ≡ true) ⊎ (fails_within (length (boot_writes m.content)) m.plan ≡ false)
+        → length (after_planned (boot_writes m.content) m).content ≡ 65536
+    by (inl fails) =
+        let cut = planned_cut (boot_writes m.content) m fails in
+        length-cut cut.0 (boot_writes m.content) m.content (after_planned (boot_writes m.content) m).content fits cut.1 ∙ size
+    by (inr none) =
+        ap length (planned_whole (boot_writes m.content) m none).0 ∙ (length-after (boot_writes m.content) m.content fits ∙ size)

@@ -3,6 +3,7 @@
 #![tactic(auto)]
 
 pub mod copying;
+pub mod memory;
 pub mod nodes;
 pub mod noted;
 pub mod places;

@@ -26,6 +26,7 @@ ghost use Rattle.node_sites.specs.Memories.{IsSoundMemory};
 ghost use Rattle.node_sites.specs.WorldBoots.{EndsBoot};
 ghost use Rattle.node_sites.specs.declared.power.Power.TheVariants.{Off};
 
+use crate::memory::NodeMemory;
 use crate::noted::Noted;
 use crate::power::Power;
 use arrayvec::ArrayVec;
@@ -33,11 +34,8 @@ use hci_tables::Tables;
 use link_end::ResetRefused;
 use node_core::HostRefused;
 use std::alloc::Global;
-use swp_base::{Control, Lpdu, MemNv, NoMemory};
+use swp_base::{Control, Lpdu, NoMemory};
 use swp_lpdu::LpduFault;
-
-/// The bytes of the memory from which a node boots.
-pub const MEMORY_SIZE: u32 = 65_536;
 
 /// A node that runs in the world, controller or host, over a memory that keeps its bytes over a cut. What is asked about the link with a
 /// host is asked where the node has an end of it.
@@ -135,7 +133,7 @@ pub trait WorldNode {
         ensures { (core : Core) (ports : List Port) → runs self.now core ports → result.now ≡ core.tables };
 
     /// Its memory.
-    fn into_memory(self) -> MemNv
+    fn into_memory(self) -> NodeMemory
         ensures { result ≡ memory self };
 
     // what is done in a step, and the numbers of sessions, aren't kept
@@ -156,8 +154,8 @@ pub trait WorldHost: WorldNode {
     ///
     /// # Errors
     ///
-    /// No memory is left, or the one that it is to boot from hasn't 65,536 bytes. Its power is off then, and its memory lies there.
-    fn boot(alloc: Global, host: u8, memory: MemNv) -> (Power<Self>, Result<(), NoMemory>)
+    /// No memory is left. Its power is off then, and its memory lies there.
+    fn boot(alloc: Global, host: u8, memory: NodeMemory) -> (Power<Self>, Result<(), NoMemory>)
         requires some { 1 ≤ host }
         requires host { host ≤ 7 }
         requires memory { IsSoundMemory memory }
@@ -232,8 +230,8 @@ pub trait WorldController: WorldNode {
     ///
     /// # Errors
     ///
-    /// No memory is left, or the one that it is to boot from hasn't 65,536 bytes. Its power is off then, and its memory lies there.
-    fn boot(alloc: Global, hosts: u8, memory: MemNv) -> (Power<Self>, Result<(), NoMemory>)
+    /// No memory is left. Its power is off then, and its memory lies there.
+    fn boot(alloc: Global, hosts: u8, memory: NodeMemory) -> (Power<Self>, Result<(), NoMemory>)
         requires memory { IsSoundMemory memory }
         ensures booted { OnOk result.1 (EndsBoot Self.runs Self.memory 0 (hosts_where (has hosts)) Clf memory result.0) }
         ensures unbooted { OnErr result.1 (result.0 ≡ Off memory) };

@@ -6,10 +6,10 @@ ghost use Rattle.node_machine.specs.Parts.{Running};
 ghost use Rattle.node_sites.specs.declared.power.Power.TheVariants.{Off};
 ghost use Rattle.node_sites.specs.Powers.{IsNodePlace, memory_kept, is_on};
 
+use crate::memory::NodeMemory;
 use crate::nodes::WorldNode;
 use arrayvec::ArrayVec;
 use core::mem::replace_with;
-use swp_base::MemNv;
 
 /// A node of the world while that runs, or the memory that it left.
 #[derive(Drop)]
@@ -17,7 +17,7 @@ pub enum Power<P> {
     /// The node runs.
     On(P),
     /// Its power is off, and its memory lies here.
-    Off(MemNv),
+    Off(NodeMemory),
 }
 
 // A node whose power has gone: its memory stays.
@@ -39,7 +39,7 @@ impl<P: WorldNode + Drop> Power<P> {
     }
 
     /// The memory of the node, whether that runs or not.
-    pub fn into_memory(self) -> MemNv
+    pub fn into_memory(self) -> NodeMemory
         ensures { result ≡ memory_kept P.memory self }
     {
         match self {

@@ -2,7 +2,8 @@
 ghost use Rattle.std.specs.Prelude.{◌≡◌, Bool};
 ghost use Rattle.node_core.specs.Running.{ran_so};
 
-use crate::nodes::{MEMORY_SIZE, WorldController, WorldNode};
+use crate::memory::NodeMemory;
+use crate::nodes::{WorldController, WorldNode};
 use crate::noted::Noted;
 use crate::power::Power;
 use arrayvec::ArrayVec;
@@ -10,7 +11,7 @@ use hci_tables::Tables;
 use link_end::ResetRefused;
 use node_core::{BootFault, BootRefused, Controller, Ran};
 use std::alloc::Global;
-use swp_base::{Control, Lpdu, MemNv, NoMemory, Nv};
+use swp_base::{Control, Lpdu, MemNv, NoMemory};
 use swp_lpdu::LpduFault;
 
 /// Whether a node has its power still behind a step.
@@ -80,8 +81,8 @@ impl WorldNode for Controller<MemNv> {
         self.store().tables()
     }
 
-    fn into_memory(self) -> MemNv {
-        self.into_nv()
+    fn into_memory(self) -> NodeMemory {
+        NodeMemory::of(self.into_nv())
     }
 
     ghost kept = { λ c core ports others same r. kept_alike ports others same r };
@@ -92,15 +93,12 @@ impl WorldNode for Controller<MemNv> {
 }
 
 impl WorldController for Controller<MemNv> {
-    fn boot(alloc: Global, hosts: u8, memory: MemNv) -> (Power<Self>, Result<(), NoMemory>) {
-        if memory.size() != MEMORY_SIZE {
-            return (Power::Off(memory), Err(NoMemory));
-        }
-        match Controller::boot(alloc, hosts, memory) {
+    fn boot(alloc: Global, hosts: u8, memory: NodeMemory) -> (Power<Self>, Result<(), NoMemory>) {
+        match Controller::boot(alloc, hosts, memory.into_nv()) {
             Ok(node) => (Power::On(node), Ok(())),
             Err(BootRefused { nv, fault }) => match fault {
-                BootFault::NoMemory => (Power::Off(nv), Err(NoMemory)),
-                BootFault::Journal(_) => (Power::Off(nv), Ok(())),
+                BootFault::NoMemory => (Power::Off(NodeMemory::of(nv)), Err(NoMemory)),
+                BootFault::Journal(_) => (Power::Off(NodeMemory::of(nv)), Ok(())),
             },
         }
     }

@@ -1,5 +1,6 @@
 //! A host as the world asks for it.
-use crate::nodes::{MEMORY_SIZE, WorldHost, WorldNode};
+use crate::memory::NodeMemory;
+use crate::nodes::{WorldHost, WorldNode};
 use crate::noted::Noted;
 use crate::power::Power;
 use crate::world_controller::has_power;
@@ -8,7 +9,7 @@ use hci_tables::Tables;
 use link_end::ResetRefused;
 use node_core::{BootFault, BootRefused, Host, HostRefused};
 use std::alloc::Global;
-use swp_base::{Control, Lpdu, MemNv, NoMemory, Nv};
+use swp_base::{Control, Lpdu, MemNv, NoMemory};
 use swp_lpdu::LpduFault;
 
 impl WorldNode for Host<MemNv> {
@@ -68,8 +69,8 @@ impl WorldNode for Host<MemNv> {
         self.store().tables()
     }
 
-    fn into_memory(self) -> MemNv {
-        self.into_nv()
+    fn into_memory(self) -> NodeMemory {
+        NodeMemory::of(self.into_nv())
     }
 
     ghost kept = { λ h core ports others same r. record { runs = kept_alike ports others same r.runs; number = r.number } };
@@ -80,15 +81,12 @@ impl WorldNode for Host<MemNv> {
 }
 
 impl WorldHost for Host<MemNv> {
-    fn boot(alloc: Global, host: u8, memory: MemNv) -> (Power<Self>, Result<(), NoMemory>) {
-        if memory.size() != MEMORY_SIZE {
-            return (Power::Off(memory), Err(NoMemory));
-        }
-        match Host::boot(alloc, host, memory) {
+    fn boot(alloc: Global, host: u8, memory: NodeMemory) -> (Power<Self>, Result<(), NoMemory>) {
+        match Host::boot(alloc, host, memory.into_nv()) {
             Ok(node) => (Power::On(node), Ok(())),
             Err(BootRefused { nv, fault }) => match fault {
-                BootFault::NoMemory => (Power::Off(nv), Err(NoMemory)),
-                BootFault::Journal(_) => (Power::Off(nv), Ok(())),
+                BootFault::NoMemory => (Power::Off(NodeMemory::of(nv)), Err(NoMemory)),
+                BootFault::Journal(_) => (Power::Off(NodeMemory::of(nv)), Ok(())),
             },
         }
     }

@@ -9,7 +9,7 @@ ghost use Rattle.node_world.specs.Controllers.{SitesAre};
 ghost use Rattle.node_world.specs.Worlds.{node_memory};
 
 use node_core::Host;
-use node_sites::nodes::MEMORY_SIZE;
+use node_sites::memory::NodeMemory;
 use node_sites::places::HostSite;
 use node_sites::power::Power;
 use node_sites::wires::Wires;
@@ -43,7 +43,7 @@ fn make_site(alloc: Global, host: u8) -> Result<HostSite<Host<MemNv>>, NoMemory>
     Ok(HostSite {
         host,
         wires: Wires::make(alloc)?,
-        power: Power::Off(MemNv::new(alloc, MEMORY_SIZE)?),
+        power: Power::Off(NodeMemory::new(alloc)?),
     })
 }
 

@@ -19,7 +19,7 @@ use crate::resting::all_rest;
 use crate::rounds::go_round;
 use link_wires::Misread;
 use node_core::{Controller, Host};
-use node_sites::nodes::MEMORY_SIZE;
+use node_sites::memory::NodeMemory;
 use node_sites::noted::Noted;
 use node_sites::places::HostSite;
 use node_sites::power::Power;
@@ -58,7 +58,7 @@ impl NodeWorld {
         ensures entries { IfOk result (λ k. nodes_entries k ≡ []) }
     {
         Ok(NodeWorld {
-            controller: Power::Off(MemNv::new(alloc, MEMORY_SIZE)?),
+            controller: Power::Off(NodeMemory::new(alloc)?),
             sites: make_sites(alloc, header.hosts.as_slice())?,
             mask: mask_of(header.hosts.as_slice()),
             stepped: 0,
@@ -191,10 +191,10 @@ impl NodeWorld {
             ..
         } = self;
         if node == 0 {
-            return controller.into_memory();
+            return controller.into_memory().into_nv();
         }
         match place_of(sites.as_slice(), node) {
-            Some(place) => sites.remove(place).power.into_memory(),
+            Some(place) => sites.remove(place).power.into_memory().into_nv(),
             None => unreachable!(),
         }
     }

@@ -1,4 +1,4 @@
-use Rattle.std.proofs.Common.{List, sym, subst}
+use Rattle.std.proofs.Common.{List, sym, subst, ◌∙◌}
 use Rattle.std.proofs.lemmas.Bool.{eq-eqb, ne_eqb}
 use Rattle.lines_told.specs.lines.Below.{nodes_behind}
 use Rattle.lines_told.specs.lines.Plays.{lines_played}
@@ -10,12 +10,14 @@ use Rattle.node_world.proofs.worlds.NodeWorld.into_memory.Goals as goal
 
 pub returns-then-node-eq0-clause-memory : goal.returns-then-node-eq0-clause-memory
 returns-then-node-eq0-clause-memory c header plays s node =
-    controller_kept c.args.self header plays c.args.node s (eq-eqb c.args.node 0 c.if-node-eq0.true) c.into_memory.result c.into_memory.ensures
+    controller_kept c.args.self header plays c.args.node s (eq-eqb c.args.node 0 c.if-node-eq0.true) c.into_nv.result
+    (c.into_nv.ensures.nv ∙ c.into_memory.ensures)
 
 pub returns-then-node-eq0-clause-found : goal.returns-then-node-eq0-clause-found
 returns-then-node-eq0-clause-found c header plays s node =
-    found_behind c.args.self header plays c.args.node s node c.into_memory.result
-    (controller_kept c.args.self header plays c.args.node s (eq-eqb c.args.node 0 c.if-node-eq0.true) c.into_memory.result c.into_memory.ensures)
+    found_behind c.args.self header plays c.args.node s node c.into_nv.result
+    (controller_kept c.args.self header plays c.args.node s (eq-eqb c.args.node 0 c.if-node-eq0.true) c.into_nv.result
+    (c.into_nv.ensures.nv ∙ c.into_memory.ensures))
 
 pub unreachable-requires : goal.unreachable-requires
 unreachable-requires c =
@@ -29,12 +31,12 @@ returns-clause-memory c header plays s node =
     let S : List _ → Type 0 = λ ks. SitesAre RunsAsHost node_memory ks (nodes_behind header (lines_played header plays)).sites in
     let a = c.in-Some.ensures.place (nodes_behind header (lines_played header plays)).sites (subst S (sym c.as_slice.ensures.value) s.stands.sites) in
     host_kept c.args.self header plays c.args.node c.in-Some.place s node (ne_eqb c.args.node 0 c.if-node-eq0.false) a c.remove.result
-    c.remove.ensures.value c.into_memory-in-Some.result c.into_memory-in-Some.ensures
+    c.remove.ensures.value c.into_nv-in-Some.result (c.into_nv-in-Some.ensures.nv ∙ c.into_memory-in-Some.ensures)
 
 pub returns-clause-found : goal.returns-clause-found
 returns-clause-found c header plays s node =
     let S : List _ → Type 0 = λ ks. SitesAre RunsAsHost node_memory ks (nodes_behind header (lines_played header plays)).sites in
     let a = c.in-Some.ensures.place (nodes_behind header (lines_played header plays)).sites (subst S (sym c.as_slice.ensures.value) s.stands.sites) in
-    found_behind c.args.self header plays c.args.node s node c.into_memory-in-Some.result
+    found_behind c.args.self header plays c.args.node s node c.into_nv-in-Some.result
     (host_kept c.args.self header plays c.args.node c.in-Some.place s node (ne_eqb c.args.node 0 c.if-node-eq0.false) a c.remove.result
-    c.remove.ensures.value c.into_memory-in-Some.result c.into_memory-in-Some.ensures)
+    c.remove.ensures.value c.into_nv-in-Some.result (c.into_nv-in-Some.ensures.nv ∙ c.into_memory-in-Some.ensures))
