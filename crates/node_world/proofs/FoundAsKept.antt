@@ -1,5 +1,5 @@
 -- A boot over the memory of a node finds what is kept.
-use Rattle.std.proofs.Common.{◌≡◌, ◌==◌, ◌⊎◌, inl, inr, ℕ, suc, ◌+◌, ◌-◌, ◌^◌, ◌≤◌, min, Bool, true, false, cond, eqb, List, [], ◌∷◌, ◌++◌, length, refl}
+use Rattle.std.proofs.Common.{◌≡◌, ◌==◌, ◌⊎◌, inl, inr, ℕ, suc, ◌-◌, ◌^◌, ◌≤◌, min, Bool, true, false, cond, eqb, List, [], ◌∷◌, ◌++◌, length, refl}
 use Rattle.std.proofs.Common.{append-nil, append_assoc, length-append, length-take, ap, sym, subst, ◌∙◌, arith}
 use Rattle.std.specs.Prelude.{Some, IsSome}
 use Rattle.std.specs.List.{AllByRecursion}

@@ -1,6 +1,6 @@
 -- What happens at a host leaves the controller as it is, and its ends of all links.
 use Rattle.std.proofs.Common.{◌≡◌, ℕ, ◌==◌, Bool, true, false, List, [], ◌∷◌, ◌++◌, length, map, refl, ap, sym, subst, ◌∙◌, arith}
-use Rattle.std.specs.Prelude.{Option, Some, None}
+use Rattle.std.specs.Prelude.{slice_set, Option, Some, None}
 use Rattle.std.specs.List.{AllByRecursion}
 use Rattle.swp_base.specs.InMemory.{Memory}
 use Rattle.trace_model.specs.declared.entry.Entry.{Entry}
@@ -22,12 +22,13 @@ use Rattle.node_sites.specs.declared.power.Power.TheVariants.{On, Off}
 use Rattle.node_sites.specs.declared.places.HostSite.{HostSite}
 use Rattle.node_world.specs.Bounds.{FewOnEach, FewBehind}
 use Rattle.node_world.specs.Controllers.{SitesAre, StandsAt, WorldIs, WorldBecomes, HaveRoom, FewAreCounted, FewAreCountedAt}
-use Rattle.node_world.specs.HostSteps.{host_stepped, host_hears, site_loses}
+use Rattle.node_world.specs.HostSteps.{host_stepped, host_hears, site_loses, HasBecome, BecomesUnless}
 use Rattle.node_sites.specs.Powers.{IsNodePlace}
 use Rattle.node_world.specs.Whole.{SitesBecome, if_accepted}
-use Rattle.node_world.proofs.AtHosts.{GivesSendable, from_outside, room_there, site_changes}
+use Rattle.node_world.proofs.AtHosts.{GivesSendable, becomes, from_outside, room_there, site_changes, site_stands}
 use Rattle.node_world.proofs.CountsStay.{acks_of_ports, counts_few_at_end, counts_few_in_tick, few_to}
 use Rattle.node_world.proofs.FewOnLinks.{far_stays}
+use Rattle.node_world.proofs.HostsFound.{becomes_unless}
 use Rattle.node_world.proofs.HostsInWorlds.{ChangesSite}
 
 -- a host became another one, with the same number and the same end of the controller
@@ -181,3 +182,25 @@ module _ (C : Type 0) (Runs : C → Core → List Port → Type 0) (memory_of : 
 
 pub cut_leaves : (s : Site) → LeavesNear s (host_cut s)
 cut_leaves s = record { host = refl; near = far_stays (exchanged s.link) NoInput [] CutOff }
+
+-- ## At a host that was found
+
+-- What happened at the host with this number, which stands at this place, happened in the world.
+module _ (w : NodeWorld) (i h : ℕ) (a : StandsAt i h w.sites) (o : IsOrderly w) (after : Site × List Entry) (now : NodeWorld × List Entry)
+    (c : ChangesSite w h a.site after now) (leaves : LeavesNear a.site after.0) (C P : Type 0) (CRuns : C → Core → List Port → Type 0)
+    (c_memory : C → Memory) (PRuns : P → Core → List Port → Type 0) (p_memory : P → Memory) (k : Power C) (ks : List (HostSite P)) (new : HostSite P)
+    (before later : List Entry) (world : WorldIs CRuns c_memory PRuns p_memory k ks w) where
+  found : site_at w.sites h ≡ Some a.site
+  found = site_stands w i h a o
+
+  pub found_becomes : HasBecome PRuns p_memory new before later after
+      → WorldBecomes CRuns c_memory PRuns p_memory k (slice_set ks i new) before later now
+  found_becomes b =
+      host_becomes w h a.site found o after now c leaves C P CRuns c_memory PRuns p_memory k ks (slice_set ks i new) before later world
+      (becomes P PRuns p_memory ks w i h a new before later after now o world.sites c b)
+
+  pub found_becomes_unless : (cause : Option NoCause) → BecomesUnless PRuns p_memory new before later a.site after cause
+      → WorldBecomes CRuns c_memory PRuns p_memory k (slice_set ks i new) before later (if_accepted cause w now)
+  found_becomes_unless cause b =
+      host_becomes_unless w h a.site found o after now c leaves C P CRuns c_memory PRuns p_memory k ks (slice_set ks i new) before later cause world
+      (becomes_unless P PRuns p_memory ks w i h a new before later after now cause o world.sites c b)

@@ -1,12 +1,12 @@
-//! The controller boots, its power is cut, or a write to its memory is to fail; and frames on their way to its ends are lost.
-ghost use Rattle.std.specs.Prelude.{◌≡◌, ◌<◌, length, None, Some, OnOk};
+//! The controller boots, or its power is cut; and frames on their way to its ends are lost.
+ghost use Rattle.std.specs.Prelude.{◌≡◌, None, Some, OnOk};
 ghost use Rattle.swp_base.specs.declared.link_terms.Role.TheVariants.{Clf};
 ghost use Rattle.gate_admin.specs.View.{has, hosts_where};
 ghost use Rattle.link_laws.specs.messages.Links.{Loss};
 ghost use Rattle.history.specs.Steps.{lost_as};
 ghost use Rattle.node_machine.specs.Parts.{Running};
 ghost use Rattle.node_machine.specs.world.World.{NodeWorld, boots, frame_lost, end_c, world_step};
-ghost use Rattle.node_machine.specs.world.World.Happening.{IsCut, Arms};
+ghost use Rattle.node_machine.specs.world.World.Happening.{IsCut};
 ghost use Rattle.node_laws.specs.telling.Telling.{hosts_in};
 ghost use Rattle.node_sites.specs.Memories.{IsSoundMemory};
 ghost use Rattle.node_sites.specs.Powers.{memory_kept};
@@ -17,7 +17,6 @@ use crate::controller::lose_controller;
 use crate::controller_sites::{empty_all, place_of};
 use crate::host_boots::note_last;
 use crate::host_losses::{is_refusal, lose_for};
-use arrayvec::ArrayVec;
 use core::mem::replace_with;
 use node_sites::nodes::{WorldController, WorldNode};
 use node_sites::noted::Noted;
@@ -89,21 +88,6 @@ pub(crate) fn cut_controller<C: WorldNode + Drop, P: WorldNode + Drop>(
 {
     lose_controller(controller, sites);
     note_last(noted, Entry::Cut { node: 0 })
-}
-
-/// One of the next writes to the memory of the controller will fail, whether it runs or not.
-pub(crate) fn arm_controller<C: WorldNode + Drop, P: WorldNode + Drop>(
-    controller: &mut Power<C>,
-    sites: &[HostSite<P>],
-    nth: u32,
-    fill: ArrayVec<u8, 64>,
-)
-    requires nth { 0 < nth }
-    requires fill { 0 < length fill.items }
-    ensures { (w : NodeWorld) → WorldIs C.runs C.memory P.runs P.memory controller.old sites.now w
-        → WorldIs C.runs C.memory P.runs P.memory controller.new sites.now (world_step w (Arms 0 (record { nth = nth; fill = fill.items }))).0 }
-{
-    controller.arm(nth, fill);
 }
 
 /// The first frame on the way to the controller's end of the link with this host is lost for this cause. A frame that was refused on its way

@@ -12,13 +12,12 @@ ghost use Rattle.node_world.specs.Bounds.{FewBehind};
 ghost use Rattle.node_world.specs.Controllers.{WorldIs, WorldBecomes, MayGoOn, IsThere};
 ghost use Rattle.node_world.specs.Whole.{IsWithinBounds, MayBootAt, MayStop, if_accepted};
 
-use crate::controller_power::{
-    arm_controller, boot_controller, cut_controller, lose_at_controller,
-};
+use crate::controller_power::{boot_controller, cut_controller, lose_at_controller};
+use crate::controller_sites::place_of;
 use crate::controller_steps::{activate_controller, reset_controller};
-use crate::hosts_do::{
-    host_activates, host_arms, host_loses, host_resets, host_starts, host_stops,
-};
+use crate::host_boots::{boot_host, cut_host};
+use crate::host_losses::lose_for;
+use crate::host_steps::{activate_host, reset_host};
 use arrayvec::ArrayVec;
 use node_sites::nodes::{WorldController, WorldHost, WorldNode};
 use node_sites::noted::Noted;
@@ -50,10 +49,12 @@ pub(crate) fn reset_end<C: WorldNode + Drop, P: WorldNode + Drop>(
         (if_accepted cause w (world_step w (Resets at window)))) }
     ensures memory { OnOk result (noted.new.short ≡ false) }
 {
-    if at.at_host {
-        host_resets(sites, at, window, noted)
-    } else {
-        reset_controller(controller, sites, at.link, window, noted)
+    if !at.at_host {
+        return reset_controller(controller, sites, at.link, window, noted);
+    }
+    match place_of(sites, at.link) {
+        Some(place) => reset_host(&mut sites[place], window, noted),
+        None => Ok(Some(NoCause::Off)),
     }
 }
 
@@ -77,10 +78,12 @@ pub(crate) fn lose_frame<C: WorldNode + Drop, P: WorldNode + Drop>(
         (world_step w (Loses at why))) }
     ensures short { noted.new.short ≡ noted.old.short }
 {
-    if at.at_host {
-        host_loses(sites, at, cause, noted)
-    } else {
-        lose_at_controller(controller, sites, at.link, cause, noted)
+    if !at.at_host {
+        return lose_at_controller(controller, sites, at.link, cause, noted);
+    }
+    match place_of(sites, at.link) {
+        Some(place) => lose_for(&mut sites[place], at, cause, noted),
+        None => Ok(()),
     }
 }
 
@@ -106,9 +109,11 @@ pub(crate) fn boot_node<C: WorldController + Drop, P: WorldHost + Drop>(
     ensures short { noted.new.short ≡ noted.old.short }
 {
     if node == 0 {
-        boot_controller(alloc, controller, sites, mask, noted)
-    } else {
-        host_starts(alloc, sites, node, noted)
+        return boot_controller(alloc, controller, sites, mask, noted);
+    }
+    match place_of(sites, node) {
+        Some(place) => boot_host(alloc, &mut sites[place], noted),
+        None => Ok(()),
     }
 }
 
@@ -129,9 +134,11 @@ pub(crate) fn cut_node<C: WorldNode + Drop, P: WorldNode + Drop>(
     ensures short { noted.new.short ≡ noted.old.short }
 {
     if node == 0 {
-        cut_controller(controller, sites, noted)
-    } else {
-        host_stops(sites, node, noted)
+        return cut_controller(controller, sites, noted);
+    }
+    match place_of(sites, node) {
+        Some(place) => cut_host(&mut sites[place], noted),
+        None => Ok(()),
     }
 }
 
@@ -149,9 +156,12 @@ pub(crate) fn arm_node<C: WorldNode + Drop, P: WorldNode + Drop>(
         → WorldIs C.runs C.memory P.runs P.memory controller.new sites.new (world_step w (Arms node (record { nth = nth; fill = fill.items }))).0 }
 {
     if node == 0 {
-        arm_controller(controller, sites, nth, fill);
-    } else {
-        host_arms(sites, node, nth, fill);
+        controller.arm(nth, fill);
+        return;
+    }
+    match place_of(sites, node) {
+        Some(place) => sites[place].power.arm(nth, fill),
+        None => {}
     }
 }
 
@@ -179,5 +189,8 @@ pub(crate) fn activate_link<C: WorldController + Drop, P: WorldHost + Drop>(
     ensures memory { OnOk result (noted.new.short ≡ false) }
 {
     activate_controller(controller, sites, host, power, noted)?;
-    host_activates(sites, host, sync, noted)
+    match place_of(sites, host) {
+        Some(place) => activate_host(&mut sites[place], sync, noted),
+        None => Ok(()),
+    }
 }

@@ -1,10 +1,12 @@
-//! A host of the world boots.
+//! A host of the world boots, or its power is cut.
 ghost use Rattle.std.specs.Prelude.{◌≡◌, ◌≤◌, [], ◌∷◌, ◌++◌, None, Some, OnOk};
 ghost use Rattle.swp_act.specs.Activation.{new_uicc};
 ghost use Rattle.link_laws.specs.machine.Machine.{new_link_end};
 ghost use Rattle.swp_base.specs.declared.link_terms.Role.TheVariants.{Uicc as UiccName};
 ghost use Rattle.link_laws.specs.machine.Machine.Role.{Uicc};
-ghost use Rattle.node_machine.specs.world.World.{Site};
+ghost use Rattle.trace_model.specs.declared.entry.Entry.TheVariants as note;
+ghost use Rattle.node_machine.specs.Parts.{Running};
+ghost use Rattle.node_machine.specs.world.World.{Site, host_cut};
 ghost use Rattle.node_sites.specs.Places.{SiteIs};
 ghost use Rattle.node_sites.specs.Memories.{IsSoundMemory};
 ghost use Rattle.node_sites.specs.Powers.{memory_kept};
@@ -12,9 +14,9 @@ ghost use Rattle.node_sites.specs.WorldBoots.{EndsBoot};
 ghost use Rattle.node_world.specs.HostSteps.{host_boots, IsHostOf, HasBecome};
 
 use core::mem::replace_with;
-use node_sites::nodes::WorldHost;
+use node_sites::nodes::{WorldHost, WorldNode};
 use node_sites::noted::Noted;
-use node_sites::places::HostSite;
+use node_sites::places::{HostSite, lose_power};
 use node_sites::power::Power;
 use std::alloc::Global;
 use swp_base::NoMemory;
@@ -73,4 +75,22 @@ pub(crate) fn boot_host<P: WorldHost + Drop>(
             note_last(noted, Entry::Cut { node })
         }
     }
+}
+
+/// The power of a host that runs is cut.
+///
+/// # Errors
+///
+/// No memory is left; what the host stands for then isn't said.
+pub(crate) fn cut_host<P: WorldNode + Drop>(
+    site: &mut HostSite<P>,
+    noted: &mut Noted,
+) -> Result<(), NoMemory>
+    ensures stands { (s : Site) (r : Running) → SiteIs P.runs P.memory site.old s → s.node ≡ Some r
+        → OnOk result (SiteIs P.runs P.memory site.new (host_cut s)
+        × (noted.new.entries.items ≡ noted.old.entries.items ++ note.Cut s.host ∷ [])) }
+    ensures short { noted.new.short ≡ noted.old.short }
+{
+    lose_power(site);
+    note_last(noted, Entry::Cut { node: site.host })
 }

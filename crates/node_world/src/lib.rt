@@ -19,7 +19,6 @@ mod hosts_do;
 mod looking;
 mod making;
 mod node_lines;
-mod plain_steps;
 mod playing;
 mod resting;
 mod rounds;

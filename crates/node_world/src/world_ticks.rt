@@ -5,9 +5,9 @@ ghost use Rattle.node_machine.specs.world.World.{NodeWorld, comes_at, world_tick
 ghost use Rattle.node_world.specs.Controllers.{SitesAre, WorldIs, WorldBecomes, AreTimely, IsThere};
 ghost use Rattle.node_world.specs.Whole.{IsWithinBounds, SitesTick, AreToTick};
 
+use crate::controller_sites::place_of;
 use crate::controller_steps::{begin_tick, take_at_controller};
-use crate::host_steps::tick_host;
-use crate::hosts_do::host_takes;
+use crate::host_steps::{take_at_host, tick_host};
 use node_sites::nodes::WorldNode;
 use node_sites::noted::Noted;
 use node_sites::places::HostSite;
@@ -33,10 +33,12 @@ pub(crate) fn take_frame<C: WorldNode + Drop, P: WorldNode + Drop>(
         (comes_at w at NextFrame)) }
     ensures memory { OnOk result (noted.new.short ≡ false) }
 {
-    if at.at_host {
-        host_takes(sites, at, noted)
-    } else {
-        take_at_controller(controller, sites, at.link, noted)
+    if !at.at_host {
+        return take_at_controller(controller, sites, at.link, noted);
+    }
+    match place_of(sites, at.link) {
+        Some(place) => take_at_host(&mut sites[place], noted),
+        None => Ok(()),
     }
 }
 

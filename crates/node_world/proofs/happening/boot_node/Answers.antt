@@ -1,16 +1,25 @@
-use Rattle.std.proofs.Common.{rules, ◌≡◌, ◌==◌, ℕ, Bool, true, false, length, refl, sym, subst}
-use Rattle.std.specs.Prelude.{None}
+use Rattle.std.proofs.Common.{rules, ◌≡◌, ◌==◌, ℕ, Bool, true, false, length, refl, sym, subst, ◌∙◌}
+use Rattle.std.specs.Prelude.{Option, None}
 use Rattle.std.proofs.lemmas.Bool.{ne_eqb}
 use Rattle.std.proofs.lemmas.Result.{on_ok_weaker}
+use Rattle.swp_act.specs.Activation.{new_uicc}
 use Rattle.journal_laws.specs.Planned.{fails_within, after_planned}
+use Rattle.link_laws.specs.machine.Machine.{new_link_end}
+use Rattle.link_laws.specs.machine.Machine.Role.{Uicc}
+use Rattle.node_machine.specs.Parts.{Running}
 use Rattle.node_machine.specs.Node.{boot_writes}
 use Rattle.node_machine.specs.world.World.{Site, boots, host_cut, memory_at, node_at}
-use Rattle.node_world.specs.Controllers.{WorldBecomes}
+use Rattle.node_laws.specs.telling.Telling.{IfOff}
+use Rattle.node_sites.specs.declared.places.HostSite.{HostSite}
+use Rattle.node_sites.specs.Places.{SiteIs}
+use Rattle.node_world.specs.Controllers.{StandsAt, WorldBecomes}
 use Rattle.node_world.specs.HostSteps.{host_boots}
 use Rattle.node_sites.specs.Memories.{IsSoundMemory}
+use Rattle.node_world.proofs.AtHosts.{is_host, nowhere, reads, site_stands}
 use Rattle.node_world.proofs.HostsBoot.{boot_goes, boot_stops}
 use Rattle.node_world.proofs.HostsInWorlds.{boots_in_world}
-use Rattle.node_world.proofs.NearKept.{LeavesNear, cut_leaves, host_becomes}
+use Rattle.node_world.proofs.HostsPower.{memory_there, node_there}
+use Rattle.node_world.proofs.NearKept.{LeavesNear, cut_leaves, found_becomes}
 use Rattle.node_world.proofs.happening.boot_node.Goals as goal
 
 -- a boot leaves the controller's end of the link as it is
@@ -32,11 +41,27 @@ boot_controller-requires g c =
     let M : ℕ → Type 0 = λ n. IsSoundMemory (memory_at q.0 n) in
     record { state = (q.0, q.1, subst O zero q.2.off, subst M zero q.2.memory) }
 
-pub host_starts-requires-clause-state : goal.host_starts-requires-clause-state
-host_starts-requires-clause-state g c = (c.requires.state.0, c.requires.state.1.sites, c.requires.state.2)
-
-pub host_starts-requires-clause-number : goal.host_starts-requires-clause-number
-host_starts-requires-clause-number g c = search (rules, ne_eqb)
+pub boot_host-requires : goal.boot_host-requires
+boot_host-requires g c =
+    let n = c.args.node in
+    let w = c.requires.state.0 in
+    let all = c.requires.state.1.sites in
+    let may = c.requires.state.2 in
+    let off : (n == 0) ≡ false = search (rules, ne_eqb) in
+    let a : StandsAt c.in-Some.place n w.sites = c.in-Some.ensures.place w.sites all in
+    let S : HostSite g.row.P.Denot → Type 0 = λ k. SiteIs g.P.WorldNode.runs g.P.WorldNode.memory k a.site in
+    let is = reads g.row.P.Denot g.P.WorldNode.runs g.P.WorldNode.memory c.args.sites.now w c.in-Some.place n a c.index-sites-place.result
+    all c.index-sites-place.is in
+    let found = site_stands w c.in-Some.place n a may.goes_on.orderly in
+    record {
+      state = (
+        a.site,
+        subst S c.index-sites-place.is is,
+        is_host w c.in-Some.place n a may.goes_on,
+        sym (node_there w n off a.site found) ∙ may.off,
+        subst IsSoundMemory (memory_there w n off a.site found) may.memory,
+      );
+    }
 
 pub returns-then-node-eq0-clause-stands : goal.returns-then-node-eq0-clause-stands
 returns-then-node-eq0-clause-stands g c w world may same =
@@ -47,13 +72,26 @@ returns-then-node-eq0-clause-stands g c w world may same =
     on_ok_weaker c.boot_controller.result (λ b. subst W (sym zero) b)
     (c.boot_controller.ensures.stands w world may.goes_on may.timely (subst O zero may.off) same)
 
-pub returns-else-node-eq0-clause-stands : goal.returns-else-node-eq0-clause-stands
-returns-else-node-eq0-clause-stands g c w world may same =
+pub returns-in-Some-clause-stands : goal.returns-in-Some-clause-stands
+returns-in-Some-clause-stands g c w world may same =
+    let n = c.args.node in
+    let o = may.goes_on.orderly in
+    let off : (n == 0) ≡ false = search (rules, ne_eqb) in
+    let a : StandsAt c.in-Some.place n w.sites = c.in-Some.ensures.place w.sites world.sites in
+    let S : HostSite g.row.P.Denot → Type 0 = λ k. SiteIs g.P.WorldNode.runs g.P.WorldNode.memory k a.site in
+    let is = reads g.row.P.Denot g.P.WorldNode.runs g.P.WorldNode.memory c.args.sites.now w c.in-Some.place n a c.index-sites-place.result
+    world.sites c.index-sites-place.is in
+    let found = site_stands w c.in-Some.place n a o in
+    let none = sym (node_there w n off a.site found) ∙ may.off in
+    let N : Option Running → Type 0 = λ x. IfOff x (new_link_end (Uicc new_uicc)) a.site.link.host.side in
+    on_ok_weaker c.boot_host.result
+    (found_becomes w c.in-Some.place n a o (host_boots a.site) (boots w n) (boots_in_world w n a.site found off) (boot_leaves a.site)
+    g.row.C.Denot g.row.P.Denot g.C.WorldNode.runs g.C.WorldNode.memory g.P.WorldNode.runs g.P.WorldNode.memory c.args.controller.now
+    c.args.sites.now c.boot_host.new.site c.args.noted.now.entries.items c.boot_host.new.noted.entries.items world)
+    (c.boot_host.ensures.stands a.site (subst S c.index-sites-place.is is) (is_host w c.in-Some.place n a may.goes_on) none
+    (subst N none (may.timely n a.site found).host))
+
+pub returns-in-None-clause-stands : goal.returns-in-None-clause-stands
+returns-in-None-clause-stands g c w world may same =
     let off : (c.args.node == 0) ≡ false = search (rules, ne_eqb) in
-    let there = may.there off in
-    on_ok_weaker c.host_starts.result
-    (host_becomes w c.args.node there.0 there.1 may.goes_on.orderly (host_boots there.0) (boots w c.args.node)
-    (boots_in_world w c.args.node there.0 there.1 off) (boot_leaves there.0) g.row.C.Denot g.row.P.Denot g.C.WorldNode.runs g.C.WorldNode.memory
-    g.P.WorldNode.runs g.P.WorldNode.memory c.args.controller.now c.args.sites.now c.host_starts.new.sites c.args.noted.now.entries.items
-    c.host_starts.new.noted.entries.items world)
-    (c.host_starts.ensures.stands w world.sites may)
+    nowhere w.sites c.args.node (may.there off) (c.in-None.ensures.place w.sites world.sites)

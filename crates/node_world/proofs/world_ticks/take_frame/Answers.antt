@@ -1,14 +1,15 @@
-use Rattle.std.proofs.Common.{sym, subst}
+use Rattle.std.proofs.Common.{subst}
+use Rattle.std.specs.Prelude.{slice_set}
+use Rattle.std.proofs.lemmas.Bool.{not-false, not-true}
 use Rattle.std.proofs.lemmas.Result.{on_ok_weaker}
 use Rattle.trace_model.specs.declared.line.End.{End}
 use Rattle.link_laws.specs.messages.Links.Comes.{NextFrame}
 use Rattle.node_machine.specs.world.World.{comes_at, end_h}
-use Rattle.node_world.specs.Controllers.{WorldBecomes}
+use Rattle.node_world.specs.Controllers.{StandsAt, WorldBecomes}
 use Rattle.node_world.specs.HostSteps.{host_hears}
-use Rattle.node_world.specs.Whole.{SitesBecome}
-use Rattle.node_world.proofs.AtHosts.{controller_end_is, end_is}
+use Rattle.node_world.proofs.AtHosts.{at_place, controller_end_is, counts_coming, end_is, nowhere, room_there, site_stands}
 use Rattle.node_world.proofs.HostsInWorlds.{hears_in_world}
-use Rattle.node_world.proofs.NearKept.{counted_at, hears_leaves, host_becomes, room_for_all}
+use Rattle.node_world.proofs.NearKept.{counted_at, found_becomes, hears_leaves, room_for_all}
 use Rattle.node_world.proofs.world_ticks.take_frame.Goals as goal
 
 pub take_at_controller-requires-clause-room : goal.take_at_controller-requires-clause-room
@@ -16,27 +17,56 @@ take_at_controller-requires-clause-room g c =
     room_for_all g.row.P.Denot g.P.WorldNode.runs g.P.WorldNode.memory c.args.sites.now c.requires.state.0 c.requires.state.1.sites
     c.requires.state.2.few
 
-pub returns-then-at-clause-stands : goal.returns-then-at-clause-stands
-returns-then-at-clause-stands g c w world ready there =
-    let is = end_is c.args.at c.if-at.true in
-    let B : End → Type 0 = λ e. SitesBecome g.P.WorldNode.runs g.P.WorldNode.memory c.host_takes.new.sites c.args.noted.now.entries.items
-    c.host_takes.new.noted.entries.items (comes_at w e NextFrame) in
-    let W : End → Type 0 = λ e. WorldBecomes g.C.WorldNode.runs g.C.WorldNode.memory g.P.WorldNode.runs g.P.WorldNode.memory c.args.controller.now
-    c.host_takes.new.sites c.args.noted.now.entries.items c.host_takes.new.noted.entries.items (comes_at w e NextFrame) in
-    on_ok_weaker c.host_takes.result
-    (λ b. subst W is
-    (host_becomes w c.args.at.link there.0 there.1 ready.goes_on.orderly (host_hears there.0 NextFrame) (comes_at w (end_h c.args.at.link) NextFrame)
-    (hears_in_world w c.args.at.link there.0 there.1 NextFrame) (hears_leaves there.0 NextFrame) g.row.C.Denot g.row.P.Denot g.C.WorldNode.runs
-    g.C.WorldNode.memory g.P.WorldNode.runs g.P.WorldNode.memory c.args.controller.now c.args.sites.now c.host_takes.new.sites
-    c.args.noted.now.entries.items c.host_takes.new.noted.entries.items world (subst B (sym is) b)))
-    (c.host_takes.ensures.stands w world.sites ready there)
+pub take_at_host-requires-clause-state : goal.take_at_host-requires-clause-state
+take_at_host-requires-clause-state g c =
+    let w = c.requires.state.0 in
+    let all = c.requires.state.1.sites in
+    let a : StandsAt c.in-Some.place c.args.at.link w.sites = c.in-Some.ensures.place w.sites all in
+    let t = at_place g.row.P.Denot g.P.WorldNode.runs g.P.WorldNode.memory c.args.sites.now w c.in-Some.place c.args.at.link a c.index-sites-place.result
+    all c.index-sites-place.is c.requires.state.2 in (
+      a.site,
+      t.is,
+      t.host,
+      counts_coming g.row.P.Denot g.P.WorldNode.runs g.P.WorldNode.memory _ a.site NextFrame g.met.P.WorldNode.given t.is t.host t.few,
+    )
 
-pub returns-else-at-clause-stands : goal.returns-else-at-clause-stands
-returns-else-at-clause-stands g c w world ready there =
+pub take_at_host-requires-clause-room : goal.take_at_host-requires-clause-room
+take_at_host-requires-clause-room g c =
+    let w = c.requires.state.0 in
+    let all = c.requires.state.1.sites in
+    let a : StandsAt c.in-Some.place c.args.at.link w.sites = c.in-Some.ensures.place w.sites all in
+    let t = at_place g.row.P.Denot g.P.WorldNode.runs g.P.WorldNode.memory c.args.sites.now w c.in-Some.place c.args.at.link a c.index-sites-place.result
+    all c.index-sites-place.is c.requires.state.2 in
+    room_there g.row.P.Denot g.P.WorldNode.runs g.P.WorldNode.memory _ a.site t.is t.few
+
+pub returns-then-not-at-clause-stands : goal.returns-then-not-at-clause-stands
+returns-then-not-at-clause-stands g c w world ready there =
     let W : End → Type 0 = λ e. WorldBecomes g.C.WorldNode.runs g.C.WorldNode.memory g.P.WorldNode.runs g.P.WorldNode.memory
     c.take_at_controller.new.controller c.take_at_controller.new.sites c.args.noted.now.entries.items c.take_at_controller.new.noted.entries.items
     (comes_at w e NextFrame) in
-    on_ok_weaker c.take_at_controller.result (λ b. subst W (controller_end_is c.args.at c.if-at.false) b)
+    on_ok_weaker c.take_at_controller.result (λ b. subst W (controller_end_is c.args.at (not-true c.args.at.at_host c.if-not-at.true)) b)
     (c.take_at_controller.ensures.stands w world ready.goes_on there
     (counted_at g.row.C.Denot g.C.WorldNode.runs g.C.WorldNode.memory g.met.C.WorldNode.given c.args.controller.now w c.args.at.link NextFrame
     world.controller ready.few))
+
+pub returns-in-Some-clause-stands : goal.returns-in-Some-clause-stands
+returns-in-Some-clause-stands g c w world ready there =
+    let h = c.args.at.link in
+    let o = ready.goes_on.orderly in
+    let a : StandsAt c.in-Some.place h w.sites = c.in-Some.ensures.place w.sites world.sites in
+    let t = at_place g.row.P.Denot g.P.WorldNode.runs g.P.WorldNode.memory c.args.sites.now w c.in-Some.place h a c.index-sites-place.result
+    world.sites c.index-sites-place.is ready in
+    let W : End → Type 0 = λ e. WorldBecomes g.C.WorldNode.runs g.C.WorldNode.memory g.P.WorldNode.runs g.P.WorldNode.memory c.args.controller.now
+    (slice_set c.args.sites.now c.in-Some.place c.take_at_host.new.site) c.args.noted.now.entries.items c.take_at_host.new.noted.entries.items
+    (comes_at w e NextFrame) in
+    on_ok_weaker c.take_at_host.result
+    (λ b. subst W (end_is c.args.at (not-false c.args.at.at_host c.if-not-at.false))
+    (found_becomes w c.in-Some.place h a o (host_hears a.site NextFrame) (comes_at w (end_h h) NextFrame)
+    (hears_in_world w h a.site (site_stands w c.in-Some.place h a o) NextFrame) (hears_leaves a.site NextFrame) g.row.C.Denot g.row.P.Denot
+    g.C.WorldNode.runs g.C.WorldNode.memory g.P.WorldNode.runs g.P.WorldNode.memory c.args.controller.now c.args.sites.now c.take_at_host.new.site
+    c.args.noted.now.entries.items c.take_at_host.new.noted.entries.items world b))
+    (c.take_at_host.ensures.stands a.site t.is t.host
+    (counts_coming g.row.P.Denot g.P.WorldNode.runs g.P.WorldNode.memory _ a.site NextFrame g.met.P.WorldNode.given t.is t.host t.few))
+
+pub returns-in-None-clause-stands : goal.returns-in-None-clause-stands
+returns-in-None-clause-stands g c w world ready there = nowhere w.sites c.args.at.link there (c.in-None.ensures.place w.sites world.sites)
