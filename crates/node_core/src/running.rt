@@ -92,6 +92,7 @@ impl<N: Nv + Drop> Node<N> {
     }
 
     /// Fetches the frame that the end of the link with this host is to send now; `None` where it has none to send.
+    #[inline(always)]
     pub fn next_out(&mut self, host: u8) -> Option<Lpdu>
         requires runs { (core : Core) × (ports : List Port) × RunsAs self.old core ports }
         ensures answer { (core : Core) (ports : List Port) → RunsAs self.old core ports → result ≡ frame_at (port_at ports host) }
