@@ -3,7 +3,7 @@ ghost use Rattle.std.specs.Prelude.{◌≡◌, Some};
 ghost use Rattle.node_core.specs.Syncing.{sync_told};
 
 use crate::inputs::{Came, LinkInput, comes_to};
-use crate::node::{InBuffer, Node};
+use crate::node::{InBuffer, MESSAGE, Node};
 use crate::noting::note;
 use crate::reporting::{note_report, tells_nothing};
 use link_end::{LinkReport, ResetRefused};
@@ -41,17 +41,15 @@ impl<N: Nv + Drop> Node<N> {
     ghost use Rattle.node_core.specs.Inputs.{input_of_end, refusal_at, MayComeAt, IsWhatCame};
     ghost use Rattle.node_core.specs.Noting.{AreNotes, unnumbered};
 
-    // The message that came to the end of the link with this host, where one did, is noted: it lies in the front of the buffer then. The
-    // buffer has 4,096 bytes.
+    // The message that came to the end of the link with this host, where one did, is noted: it lies in the front of the buffer then.
     fn note_message<W: Watch>(
         &self,
         host: u8,
         came: bool,
-        buffer: &mut [u8],
+        buffer: &mut [u8; MESSAGE],
         watch: &mut W,
     ) -> Option<InBuffer>
         requires runs { IsSoundNode self.now }
-        requires buffer { length buffer.old ≡ 4096 }
         ensures lies { LiesInBuffer self.now.ends buffer.new result }
         ensures notes { (ports : List Port) (core : Core) → EndsStandFor self.now.ends ports → core.node ≡ self.now.number
             → AreNotes (W.is_short watch.old) (W.is_short watch.new) (W.noted watch.old) (W.noted watch.new)
@@ -91,17 +89,16 @@ impl<N: Nv + Drop> Node<N> {
     }
 
     // What an input at the end of the link with this host did is noted, with the message that it brought. That message, where one came, lies
-    // in the front of the buffer then. The buffer has 4,096 bytes.
+    // in the front of the buffer then.
     #[inline(never)]
     fn note_news<W: Watch>(
         &self,
         host: u8,
         report: &LinkReport,
-        buffer: &mut [u8],
+        buffer: &mut [u8; MESSAGE],
         watch: &mut W,
     ) -> Option<InBuffer>
         requires runs { IsSoundNode self.now }
-        requires buffer { length buffer.old ≡ 4096 }
         ensures lies { LiesInBuffer self.now.ends buffer.new result }
         ensures notes { (ports : List Port) (core : Core) (x : Report) (n acked : ℕ) → EndsStandFor self.now.ends ports → core.node ≡ self.now.number
             → report.now ≡ report_told x → option_map_or (λ (p : Port). kept_number (whole_acked p.side)) (port_at ports host) 0 ≡ kept_number acked
@@ -115,17 +112,16 @@ impl<N: Nv + Drop> Node<N> {
     }
 
     // What an input at the end of the link with this host did is noted, where anything of it is, with the message that it brought. That
-    // message, where one came, lies in the front of the buffer then. The buffer has 4,096 bytes.
+    // message, where one came, lies in the front of the buffer then.
     #[inline]
     pub(crate) fn note_input<W: Watch>(
         &self,
         host: u8,
         report: &LinkReport,
-        buffer: &mut [u8],
+        buffer: &mut [u8; MESSAGE],
         watch: &mut W,
     ) -> Option<InBuffer>
         requires runs { IsSoundNode self.now }
-        requires buffer { length buffer.old ≡ 4096 }
         ensures lies { LiesInBuffer self.now.ends buffer.new result }
         ensures notes { (ports : List Port) (core : Core) (x : Report) (n acked : ℕ) → EndsStandFor self.now.ends ports → core.node ≡ self.now.number
             → report.now ≡ report_told x → option_map_or (λ (p : Port). kept_number (whole_acked p.side)) (port_at ports host) 0 ≡ kept_number acked
@@ -140,7 +136,7 @@ impl<N: Nv + Drop> Node<N> {
     }
 
     /// What comes to the end of the link with this host, and what that did is noted. While a message waits there the end is held, and at most
-    /// six control frames wait there to be sent. The buffer has 4,096 bytes. The message that came, where one did, lies in its front then.
+    /// six control frames wait there to be sent. The message that came, where one did, lies in the front of the buffer then.
     ///
     /// # Errors
     ///
@@ -150,11 +146,10 @@ impl<N: Nv + Drop> Node<N> {
         &mut self,
         host: u8,
         what: LinkInput<'_>,
-        buffer: &mut [u8],
+        buffer: &mut [u8; MESSAGE],
         watch: &mut W,
     ) -> Result<Came, ResetRefused>
         requires runs { IsSoundNode self.old }
-        requires buffer { length buffer.old ≡ 4096 }
         requires may { (start : List Noted) × (w : Work) × IsInStep self.old (W.noted watch.old) (W.is_short watch.old) start w
             × FewAreDue (port_at w.ports host) × IsHeldWhileOneWaits (port_at w.ports host) × MayComeAt what (port_at w.ports host) }
         ensures carried { (start : List Noted) (w : Work) → IsInStep self.old (W.noted watch.old) (W.is_short watch.old) start w
@@ -184,10 +179,9 @@ impl<N: Nv + Drop> Node<N> {
     }
 
     // A tick comes to the end at this place, where there is one, and what it did is noted. At most six control frames wait there to be
-    // sent. The buffer has 4,096 bytes.
-    fn tick_at<W: Watch>(&mut self, i: usize, buffer: &mut [u8], watch: &mut W)
+    // sent.
+    fn tick_at<W: Watch>(&mut self, i: usize, buffer: &mut [u8; MESSAGE], watch: &mut W)
         requires runs { IsSoundNode self.old }
-        requires buffer { length buffer.old ≡ 4096 }
         requires may { (start : List Noted) × (w : Work) × IsInStep self.old (W.noted watch.old) (W.is_short watch.old) start w
             × FewAreDue (slice_get w.ports i) }
         ensures carried { (start : List Noted) (w : Work) (p : Port) → IsInStep self.old (W.noted watch.old) (W.is_short watch.old) start w
@@ -210,10 +204,9 @@ impl<N: Nv + Drop> Node<N> {
     }
 
     /// Time passes at all ends, one after another, and what it did there is noted. At most six control frames wait at each to be sent.
-    /// The buffer has 4,096 bytes.
-    pub(crate) fn time_passes<W: Watch>(&mut self, buffer: &mut [u8], watch: &mut W)
+    ///
+    pub(crate) fn time_passes<W: Watch>(&mut self, buffer: &mut [u8; MESSAGE], watch: &mut W)
         requires runs { IsSoundNode self.old }
-        requires buffer { length buffer.old ≡ 4096 }
         requires may { (start : List Noted) × (w : Work) × IsInStep self.old (W.noted watch.old) (W.is_short watch.old) start w
             × AreFewDue w.ports }
         ensures carried { (start : List Noted) (w : Work) → IsInStep self.old (W.noted watch.old) (W.is_short watch.old) start w

@@ -2,7 +2,7 @@
 use crate::booting::{BootFault, BootRefused};
 use crate::hosts::hosts_of;
 use crate::inputs::{LinkInput, NodeInput};
-use crate::node::Node;
+use crate::node::{MESSAGE, Node};
 use crate::running::{Ran, Stepped};
 use arrayvec::ArrayVec;
 use hci_store::Store;
@@ -13,26 +13,23 @@ use swp_base::{Control, Lpdu, MemNv, Nv, Role};
 use swp_lpdu::{LpduFault, read_lpdu};
 use trace_model::Watch;
 
-/// The most bytes of a message. This project's own.
-const MESSAGE: usize = 4096;
-
 /// A controller that runs, a host controller of ETSI TS 102 622, section 4.2. Contracts see it as its node: the buffer keeps nothing from
 /// one call to the next. Its calls are this project's own.
 #[derive(Drop)]
 pub struct Controller<N: Nv + Drop> {
     node: Node<N>,
-    buffer: Vec<u8>,
+    buffer: Box<[u8; MESSAGE]>,
 }
 
 impl<N: Nv + Drop> Model for Controller<N> {
-    ghost use Rattle.std.specs.Prelude.{◌≡◌, length};
+    ghost use Rattle.std.specs.Prelude.{◌≡◌};
     ghost use Rattle.node_core.specs.declared.node.Node.{Node as Kept};
 
     ghost Value = { Kept N };
 
     ghost view = { λ c. c.node };
 
-    ghost invariant = { λ c. (length c.buffer.items ≡ 4096) × (c.node.number ≡ 0) };
+    ghost invariant = { λ c. c.node.number ≡ 0 };
 }
 
 impl<N: Nv + Drop> Controller<N> {
@@ -77,7 +74,7 @@ impl<N: Nv + Drop> Controller<N> {
         ensures count { IfOk result (λ c. N.faults nv ≤ N.faults c.store.journal.nv) }
         ensures refused { IfErr result (λ e. IsBootRefused N.reads N.writes N.faults N.tells N.content nv e.nv e.fault) }
     {
-        let Ok(buffer) = vec![in alloc; 0; MESSAGE] else {
+        let Ok(buffer) = Box::new(alloc, [0; MESSAGE]) else {
             return Err(BootRefused {
                 nv,
                 fault: BootFault::NoMemory,
@@ -145,7 +142,7 @@ impl<N: Nv + Drop> Controller<N> {
             host,
             what: LinkInput::Frame(read),
         };
-        let stepped = self.node.step(input, self.buffer.as_mut_slice(), watch);
+        let stepped = self.node.step(input, &mut self.buffer, watch);
         stepped.unwrap()
     }
 
@@ -159,9 +156,7 @@ impl<N: Nv + Drop> Controller<N> {
         ensures count { N.faults self.old.store.journal.nv ≤ N.faults self.new.store.journal.nv }
         ensures rose { result ≡ Ran.Stopped → Rose (N.faults self.old.store.journal.nv) (N.faults self.new.store.journal.nv) }
     {
-        let stepped = self
-            .node
-            .step(NodeInput::Tick, self.buffer.as_mut_slice(), watch);
+        let stepped = self.node.step(NodeInput::Tick, &mut self.buffer, watch);
         stepped.unwrap().ran
     }
 
@@ -194,7 +189,7 @@ impl<N: Nv + Drop> Controller<N> {
             host,
             what: LinkInput::Reset(window),
         };
-        let stepped = match self.node.step(input, self.buffer.as_mut_slice(), watch) {
+        let stepped = match self.node.step(input, &mut self.buffer, watch) {
             Ok(stepped) => stepped,
             Err(why) => return Err(why),
         };
@@ -217,7 +212,7 @@ impl<N: Nv + Drop> Controller<N> {
             host,
             what: LinkInput::Start(power as u16),
         };
-        let stepped = self.node.step(input, self.buffer.as_mut_slice(), watch);
+        let stepped = self.node.step(input, &mut self.buffer, watch);
         stepped.unwrap().ran
     }
 
@@ -235,7 +230,7 @@ impl<N: Nv + Drop> Controller<N> {
             host,
             what: LinkInput::Stop,
         };
-        let stepped = self.node.step(input, self.buffer.as_mut_slice(), watch);
+        let stepped = self.node.step(input, &mut self.buffer, watch);
         stepped.unwrap().ran
     }
 

@@ -1,6 +1,6 @@
 //! The steps of a node.
 use crate::inputs::{Came, NodeInput};
-use crate::node::{InBuffer, Node};
+use crate::node::{InBuffer, MESSAGE, Node};
 use crate::running::{Stepped, how_it_ran};
 use link_end::ResetRefused;
 use swp_base::Nv;
@@ -26,12 +26,11 @@ impl<N: Nv + Drop> Node<N> {
         &mut self,
         came: Option<(u8, u16)>,
         lies: Option<InBuffer>,
-        buffer: &mut [u8],
+        buffer: &mut [u8; MESSAGE],
         watch: &mut W,
     ) -> bool
         requires runs { IsSoundNode self.old }
         requires live { IsTrue self.old.store.journal.live }
-        requires buffer { length buffer.old ≡ 4096 }
         requires lies { LiesInBuffer self.old.ends buffer.old lies }
         requires host { IfSome came (λ pair. (1 ≤ pair.0) × (pair.0 ≤ 7)) }
         requires may { (start : List Noted) × (w : Work) × IsInStep self.old (W.noted watch.old) (W.is_short watch.old) start w
@@ -55,20 +54,19 @@ impl<N: Nv + Drop> Node<N> {
     }
 
     /// Behind what came in a step: what sessions that ended there leave is settled, the identifier that came is kept, and the messages
-    /// that wait have their turns. The node is in order, and at most six control frames wait at each end to be sent. The buffer has 4,096
-    /// bytes; a message that waits lies in it already, or none does. Whether the node has its power still.
+    /// that wait have their turns. The node is in order, and at most six control frames wait at each end to be sent. A
+    /// message that waits lies in the buffer already, or none does. Whether the node has its power still.
     #[inline(always)]
     #[tactic(auto, using(crate::proofs::Faults::faults_stay, crate::proofs::Faults::faults_then))]
     fn finish<W: Watch>(
         &mut self,
         came: Option<(u8, u16)>,
         lies: Option<InBuffer>,
-        buffer: &mut [u8],
+        buffer: &mut [u8; MESSAGE],
         watch: &mut W,
     ) -> bool
         requires runs { IsSoundNode self.old }
         requires live { IsTrue self.old.store.journal.live }
-        requires buffer { length buffer.old ≡ 4096 }
         requires lies { LiesInBuffer self.old.ends buffer.old lies }
         requires host { IfSome came (λ pair. (1 ≤ pair.0) × (pair.0 ≤ 7)) }
         requires may { (start : List Noted) × (w : Work) × IsInStep self.old (W.noted watch.old) (W.is_short watch.old) start w
@@ -88,16 +86,15 @@ impl<N: Nv + Drop> Node<N> {
         self.settle_and_pass(came, lies, buffer, watch)
     }
 
-    // What begins a step, and what that did is noted. The buffer has 4,096 bytes; the message that came, where one did, lies in its front then.
+    // What begins a step, and what that did is noted. The message that came, where one did, lies in the front of the buffer then.
     #[inline(always)]
     fn comes<W: Watch>(
         &mut self,
         input: NodeInput<'_>,
-        buffer: &mut [u8],
+        buffer: &mut [u8; MESSAGE],
         watch: &mut W,
     ) -> Result<Came, ResetRefused>
-        requires buffer { length buffer.old ≡ 4096 }
-        requires may { (start : List Noted) × (w : Work) × BeginsStep self.old (W.noted watch.old) (W.is_short watch.old) start w
+        requires { (start : List Noted) × (w : Work) × BeginsStep self.old (W.noted watch.old) (W.is_short watch.old) start w
             × MayComeToNode input w.ports }
         ensures carried { (start : List Noted) (w : Work) → BeginsStep self.old (W.noted watch.old) (W.is_short watch.old) start w
             → IsInStep self.new (W.noted watch.new) (W.is_short watch.new) start
@@ -123,7 +120,7 @@ impl<N: Nv + Drop> Node<N> {
         }
     }
 
-    /// A step of a node that runs, of which every frame of the step before was fetched. The buffer has 4,096 bytes, and keeps nothing.
+    /// A step of a node that runs, of which every frame of the step before was fetched. The buffer keeps nothing.
     ///
     /// # Errors
     ///
@@ -133,11 +130,10 @@ impl<N: Nv + Drop> Node<N> {
     pub fn step<W: Watch>(
         &mut self,
         input: NodeInput<'_>,
-        buffer: &mut [u8],
+        buffer: &mut [u8; MESSAGE],
         watch: &mut W,
     ) -> Result<Stepped, ResetRefused>
-        requires may { (core : Core) × (ports : List Port) × RunsAs self.old core ports × IsAllSent ports × MayComeToNode input ports }
-        requires buffer { length buffer.old ≡ 4096 }
+        requires { (core : Core) × (ports : List Port) × RunsAs self.old core ports × IsAllSent ports × MayComeToNode input ports }
         ensures refusal { (core : Core) (ports : List Port) → RunsAs self.old core ports → MatchResult result
             (λ done. refusal_by input.entry ports ≡ None) (λ why. refusal_by input.entry ports ≡ Some why) }
         ensures stepped { OnOk result ((start : List Noted) (w : Work) → BeginsStep self.old (W.noted watch.old) (W.is_short watch.old) start w

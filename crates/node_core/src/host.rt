@@ -2,7 +2,7 @@
 use crate::booting::{BootFault, BootRefused};
 use crate::giving::HostRefused;
 use crate::inputs::{LinkInput, NodeInput};
-use crate::node::Node;
+use crate::node::{MESSAGE, Node};
 use crate::running::Ran;
 use arrayvec::ArrayVec;
 use hci_store::Store;
@@ -13,26 +13,23 @@ use swp_base::{Control, Lpdu, MemNv, Nv, Role};
 use swp_lpdu::{LpduFault, read_lpdu};
 use trace_model::Watch;
 
-/// The most bytes of a message. This project's own.
-const MESSAGE: usize = 4096;
-
 /// A host that runs, of ETSI TS 102 622, section 4.2. Contracts see it as its node: the buffer keeps nothing from one call to the next. Its
 /// calls are this project's own.
 #[derive(Drop)]
 pub struct Host<N: Nv + Drop> {
     node: Node<N>,
-    buffer: Vec<u8>,
+    buffer: Box<[u8; MESSAGE]>,
 }
 
 impl<N: Nv + Drop> Model for Host<N> {
-    ghost use Rattle.std.specs.Prelude.{◌≡◌, ◌≤◌, length};
+    ghost use Rattle.std.specs.Prelude.{◌≤◌};
     ghost use Rattle.node_core.specs.declared.node.Node.{Node as Kept};
 
     ghost Value = { Kept N };
 
     ghost view = { λ h. h.node };
 
-    ghost invariant = { λ h. (length h.buffer.items ≡ 4096) × (1 ≤ h.node.number) };
+    ghost invariant = { λ h. 1 ≤ h.node.number };
 }
 
 impl<N: Nv + Drop> Host<N> {
@@ -87,7 +84,7 @@ impl<N: Nv + Drop> Host<N> {
         ensures count { IfOk result (λ h. N.faults nv ≤ N.faults h.store.journal.nv) }
         ensures refused { IfErr result (λ e. IsBootRefused N.reads N.writes N.faults N.tells N.content nv e.nv e.fault) }
     {
-        let Ok(buffer) = vec![in alloc; 0; MESSAGE] else {
+        let Ok(buffer) = Box::new(alloc, [0; MESSAGE]) else {
             return Err(BootRefused {
                 nv,
                 fault: BootFault::NoMemory,
@@ -130,7 +127,7 @@ impl<N: Nv + Drop> Host<N> {
             host,
             what: LinkInput::Frame(read),
         };
-        let stepped = self.node.step(input, self.buffer.as_mut_slice(), watch);
+        let stepped = self.node.step(input, &mut self.buffer, watch);
         stepped.unwrap().ran
     }
 
@@ -145,9 +142,7 @@ impl<N: Nv + Drop> Host<N> {
         ensures count { N.faults self.old.store.journal.nv ≤ N.faults self.new.store.journal.nv }
         ensures rose { result ≡ Ran.Stopped → Rose (N.faults self.old.store.journal.nv) (N.faults self.new.store.journal.nv) }
     {
-        let stepped = self
-            .node
-            .step(NodeInput::Tick, self.buffer.as_mut_slice(), watch);
+        let stepped = self.node.step(NodeInput::Tick, &mut self.buffer, watch);
         stepped.unwrap().ran
     }
 
@@ -180,7 +175,7 @@ impl<N: Nv + Drop> Host<N> {
     {
         let host = self.node.number();
         let input = NodeInput::At { host, what };
-        if let Err(why) = self.node.step(input, self.buffer.as_mut_slice(), watch) {
+        if let Err(why) = self.node.step(input, &mut self.buffer, watch) {
             return Err(why);
         }
         Ok(())

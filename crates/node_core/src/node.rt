@@ -5,6 +5,9 @@ use node_ends::Ends;
 use std::alloc::Global;
 use swp_base::Nv;
 
+/// The most bytes of a message. This project's own.
+pub(crate) const MESSAGE: usize = 4096;
+
 /// A node that runs. 00 is the controller, any other number is that of the host.
 #[derive(Drop)]
 pub struct Node<N: Nv + Drop> {

@@ -1,5 +1,5 @@
 //! Notices that aren't answered in time.
-use crate::node::Node;
+use crate::node::{MESSAGE, Node};
 use swp_base::Nv;
 use trace_model::Watch;
 
@@ -31,10 +31,9 @@ impl<N: Nv + Drop> Node<N> {
     }
 
     // The link of the end at this place is reset, where its notice is late, and what that did is noted. At most six control frames wait
-    // there to be sent. The buffer has 4,096 bytes.
-    fn reset_late_at<W: Watch>(&mut self, i: usize, buffer: &mut [u8], watch: &mut W)
+    // there to be sent.
+    fn reset_late_at<W: Watch>(&mut self, i: usize, buffer: &mut [u8; MESSAGE], watch: &mut W)
         requires runs { IsSoundNode self.old }
-        requires buffer { length buffer.old ≡ 4096 }
         requires may { (start : List Noted) × (w : Work) × IsInStep self.old (W.noted watch.old) (W.is_short watch.old) start w
             × FewAreDue (slice_get w.ports i) }
         ensures carried { (start : List Noted) (w : Work) (p : Port) → IsInStep self.old (W.noted watch.old) (W.is_short watch.old) start w
@@ -56,9 +55,8 @@ impl<N: Nv + Drop> Node<N> {
     }
 
     // The links of late notices are reset, one after another, and what that did is noted.
-    fn reset_late<W: Watch>(&mut self, buffer: &mut [u8], watch: &mut W)
+    fn reset_late<W: Watch>(&mut self, buffer: &mut [u8; MESSAGE], watch: &mut W)
         requires runs { IsSoundNode self.old }
-        requires buffer { length buffer.old ≡ 4096 }
         requires may { (start : List Noted) × (w : Work) × IsInStep self.old (W.noted watch.old) (W.is_short watch.old) start w
             × AreFewDue w.ports }
         ensures carried { (start : List Noted) (w : Work) → IsInStep self.old (W.noted watch.old) (W.is_short watch.old) start w
@@ -74,12 +72,11 @@ impl<N: Nv + Drop> Node<N> {
     }
 
     // Notices are a tick older, and the links of those that are late are reset, which is noted. At most six control frames wait at each
-    // end to be sent, and notices have fewer than 255 ticks. The buffer has 4,096 bytes.
+    // end to be sent, and notices have fewer than 255 ticks.
     #[cold]
     #[inline(never)]
-    fn notices_time_out<W: Watch>(&mut self, buffer: &mut [u8], watch: &mut W)
+    fn notices_time_out<W: Watch>(&mut self, buffer: &mut [u8; MESSAGE], watch: &mut W)
         requires runs { IsSoundNode self.old }
-        requires buffer { length buffer.old ≡ 4096 }
         requires may { (start : List Noted) × (w : Work) × IsInStep self.old (W.noted watch.old) (W.is_short watch.old) start w
             × AreFewDue w.ports × AreYoung w.ports }
         ensures carried { (start : List Noted) (w : Work) → IsInStep self.old (W.noted watch.old) (W.is_short watch.old) start w
@@ -93,10 +90,9 @@ impl<N: Nv + Drop> Node<N> {
     }
 
     /// Time has passed: notices are a tick older, and the links of those that are late are reset, which is noted. At most six control
-    /// frames wait at each end to be sent, and notices have fewer than 255 ticks. The buffer has 4,096 bytes.
-    pub(crate) fn times_out<W: Watch>(&mut self, buffer: &mut [u8], watch: &mut W)
+    /// frames wait at each end to be sent, and notices have fewer than 255 ticks.
+    pub(crate) fn times_out<W: Watch>(&mut self, buffer: &mut [u8; MESSAGE], watch: &mut W)
         requires runs { IsSoundNode self.old }
-        requires buffer { length buffer.old ≡ 4096 }
         requires may { (start : List Noted) × (w : Work) × IsInStep self.old (W.noted watch.old) (W.is_short watch.old) start w
             × AreFewDue w.ports × AreYoung w.ports }
         ensures carried { (start : List Noted) (w : Work) → IsInStep self.old (W.noted watch.old) (W.is_short watch.old) start w

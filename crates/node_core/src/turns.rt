@@ -1,7 +1,7 @@
 //! How a message has its turn.
 ghost use Rattle.std.specs.Prelude.{◌≡◌};
 
-use crate::node::{InBuffer, Node};
+use crate::node::{InBuffer, MESSAGE, Node};
 use node_deeds::{Deed, Deeds, Shortfall, lack, put_controller_deeds, put_host_deeds};
 use swp_base::Nv;
 use trace_model::Watch;
@@ -199,11 +199,15 @@ impl<N: Nv + Drop> Node<N> {
     }
 
     // The message that waits at the end of the link with this host, with its pipe and how many bytes of the buffer it has. It is read, unless
-    // it is the one that lies there. The buffer has 4,096 bytes.
+    // it is the one that lies there.
     #[inline(always)]
-    fn waiting(&self, host: u8, lies: Option<InBuffer>, buffer: &mut [u8]) -> Option<(u8, usize)>
+    fn waiting(
+        &self,
+        host: u8,
+        lies: Option<InBuffer>,
+        buffer: &mut [u8; MESSAGE],
+    ) -> Option<(u8, usize)>
         requires runs { IsSoundNode self.now }
-        requires buffer { length buffer.old ≡ 4096 }
         requires lies { LiesInBuffer self.now.ends buffer.old lies }
         ensures waits { (ports : List Port) → EndsStandFor self.now.ends ports → got_at ports host ≡ message_read result buffer.new }
         ensures inside { IfSome result (λ x. x.1 ≤ 4096) }
@@ -220,22 +224,21 @@ impl<N: Nv + Drop> Node<N> {
     }
 
     /// The message that waits at the end of the link with this host has its turn, where one does; then the end takes fragments again, unless
-    /// the message is held back. The node is in order, and at most six control frames wait at this end to be sent. The buffer has 4,096
-    /// bytes; a message that waits lies in it already, or none does. Whether the node has its power still.
+    /// the message is held back. The node is in order, and at most six control frames wait at this end to be sent. A
+    /// message that waits lies in the buffer already, or none does. Whether the node has its power still.
     #[inline(never)]
     #[tactic(auto, using(crate::proofs::Faults::faults_stay, crate::proofs::Faults::faults_then))]
     pub(crate) fn have_turns<W: Watch>(
         &mut self,
         host: u8,
         lies: Option<InBuffer>,
-        buffer: &mut [u8],
+        buffer: &mut [u8; MESSAGE],
         watch: &mut W,
     ) -> bool
         requires runs { IsSoundNode self.old }
         requires live { IsTrue self.old.store.journal.live }
         requires some { 1 ≤ host }
         requires host { host ≤ 7 }
-        requires buffer { length buffer.old ≡ 4096 }
         requires lies { LiesInBuffer self.old.ends buffer.old lies }
         requires may { (start : List Noted) × (w : Work) × IsInStep self.old (W.noted watch.old) (W.is_short watch.old) start w
             × IsNodeInOrder w.core w.ports × FewAreDue (port_at w.ports host) }
@@ -256,19 +259,18 @@ impl<N: Nv + Drop> Node<N> {
     }
 
     /// A node goes once through its ends, ascending, and the messages that wait there have their turns. It is in order, and at most six
-    /// control frames wait at each end to be sent. The buffer has 4,096 bytes; a message that waits lies in it already, or none does. Whether
-    /// the node has its power still.
+    /// control frames wait at each end to be sent. A message that waits lies in the buffer already, or none does. Whether the node has its
+    /// power still.
     #[inline(always)]
     #[tactic(auto, using(crate::proofs::Faults::faults_stay, crate::proofs::Faults::faults_then))]
     pub(crate) fn passes<W: Watch>(
         &mut self,
         mut lies: Option<InBuffer>,
-        buffer: &mut [u8],
+        buffer: &mut [u8; MESSAGE],
         watch: &mut W,
     ) -> bool
         requires runs { IsSoundNode self.old }
         requires live { IsTrue self.old.store.journal.live }
-        requires buffer { length buffer.old ≡ 4096 }
         requires lies { LiesInBuffer self.old.ends buffer.old lies }
         requires may { (start : List Noted) × (w : Work) × IsInStep self.old (W.noted watch.old) (W.is_short watch.old) start w
             × IsNodeInOrder w.core w.ports × AreFewDue w.ports }

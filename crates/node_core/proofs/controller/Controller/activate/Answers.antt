@@ -4,8 +4,8 @@ use Rattle.node_core.proofs.Behind.{power_may_start}
 use Rattle.node_core.proofs.SeenAsNode.{seen_may, never_refused}
 use Rattle.node_core.proofs.controller.Controller.activate.Goals as goal
 
-pub step-stepped-requires-clause-may : goal.step-stepped-requires-clause-may
-step-stepped-requires-clause-may g c =
+pub step-stepped-requires : goal.step-stepped-requires
+step-stepped-requires g c =
     let m = seen_may c.self.view_is c.requires.may in
     (m.core, m.ports, m.runs, m.sent, power_may_start c.args.power (port_at m.ports c.args.host) c.requires.power)
 

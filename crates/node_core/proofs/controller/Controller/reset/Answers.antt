@@ -1,8 +1,8 @@
 use Rattle.node_core.proofs.SeenAsNode.{seen_may}
 use Rattle.node_core.proofs.controller.Controller.reset.Goals as goal
 
-pub step-requires-clause-may : goal.step-requires-clause-may
-step-requires-clause-may g c = let m = seen_may c.self.view_is c.requires.may in (m.core, m.ports, m.runs, m.sent, c.requires.window)
+pub step-requires : goal.step-requires
+step-requires g c = let m = seen_may c.self.view_is c.requires.may in (m.core, m.ports, m.runs, m.sent, c.requires.window)
 
 pub returns-clause-refusal : goal.returns-clause-refusal
 returns-clause-refusal g c = rw (← c.self.view_is) c.in-Ok.ensures.refusal

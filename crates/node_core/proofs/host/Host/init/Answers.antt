@@ -63,7 +63,7 @@ returns-clause-begun g c start w asked =
     by ok a =
         let t = c.init_step in
         let e = c.end_step.ensures in
-        let nonzero = some c.self.inside.node.number c.self.invariant.1 in
+        let nonzero = some c.self.inside.node.number c.self.invariant in
         let G : Result (Unit {0}) HostRefused → Type 0 = λ x. OnOk x ((start : List Entry) (w : Work)
         → IsInStep c.self.inside.node (g.W.Watch.noted c.args.watch.now) (g.W.Watch.is_short c.args.watch.now) start w
         → IsInStep t.new.self (g.W.Watch.noted t.new.watch) (g.W.Watch.is_short t.new.watch) start

@@ -66,7 +66,7 @@ returns-clause-given g c start w asked =
     by ok a =
         let t = c.give_step in
         let e = c.end_step.ensures in
-        let nonzero = some c.self.inside.node.number c.self.invariant.1 in
+        let nonzero = some c.self.inside.node.number c.self.invariant in
         let taken : (p : Port) → port_at w.ports c.self.inside.node.number ≡ Some p
         → None ≡ if_waiting ((c.args.pipe == 1 && is_command_message c.args.message.now) && is_some w.core.command)
         (give_refusal p.side (c.args.pipe, c.args.message.now)) =

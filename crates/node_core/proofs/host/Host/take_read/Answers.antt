@@ -2,8 +2,8 @@ use Rattle.std.proofs.lemmas.Result.{IfOk-at_ok}
 use Rattle.node_core.proofs.SeenAsNode.{seen_may, never_refused}
 use Rattle.node_core.proofs.host.Host.take_read.Goals as goal
 
-pub step-stepped-requires-clause-may : goal.step-stepped-requires-clause-may
-step-stepped-requires-clause-may g c = let m = seen_may c.self.view_is c.requires.may in (m.core, m.ports, m.runs, m.sent, c.requires.read)
+pub step-stepped-requires : goal.step-stepped-requires
+step-stepped-requires g c = let m = seen_may c.self.view_is c.requires.may in (m.core, m.ports, m.runs, m.sent, c.requires.read)
 
 pub unwrap-requires : goal.unwrap-requires
 unwrap-requires g c =

@@ -15,17 +15,17 @@ use Rattle.node_core.proofs.node.Node.comes.Goals as goal
 
 pub comes_at-requires-clause-may : goal.comes_at-requires-clause-may
 comes_at-requires-clause-may g c =
-    let r = c.requires.may in
+    let r = c.requires in
     let h = c.in-At.host in
     let runs = r.2.runs in
     (r.0, r.1, begins_in_step r.2, few_at r.1.ports h (five_few r.1.ports runs.few), held_here h r.1.ports runs.held, rw c.in-At.is at r.3)
 
 pub time_passes-requires-clause-may : goal.time_passes-requires-clause-may
-time_passes-requires-clause-may g c = let r = c.requires.may in (r.0, r.1, begins_in_step r.2, five_few r.1.ports r.2.runs.few)
+time_passes-requires-clause-may g c = let r = c.requires in (r.0, r.1, begins_in_step r.2, five_few r.1.ports r.2.runs.few)
 
 pub times_out-requires-clause-may : goal.times_out-requires-clause-may
 times_out-requires-clause-may g c =
-    let r = c.requires.may in
+    let r = c.requires in
     let runs = r.2.runs in (
       r.0,
       all_come TimePasses r.1,

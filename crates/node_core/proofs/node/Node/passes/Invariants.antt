@@ -1,4 +1,4 @@
-use Rattle.std.proofs.Common.{◌≡◌, true, List, length}
+use Rattle.std.proofs.Common.{◌≡◌, true, List}
 use Rattle.trace_model.specs.declared.entry.Entry.{Entry}
 use Rattle.node_machine.specs.Parts.{Work}
 use Rattle.node_core.specs.Nodes.{IsInStep, IsSoundNode, LiesInBuffer}
@@ -17,7 +17,6 @@ invariant-loop-i g l =
       live : l.self.store.journal.live ≡ true;
       number : l.self.number ≡ l.fn.self.number;
       faults : CountsFaults g.N.Nv.faults l.fn.self.store l.self.store;
-      buffer : length l.buffer ≡ 4096;
       lies : LiesInBuffer l.self.ends l.buffer l.lies;
       goes : (start : List Entry) (w : Work) → IsInStep l.fn.self (noted l.fn.watch) (short l.fn.watch) start w
           → IsNodeInOrder w.core w.ports → AreFewDue w.ports

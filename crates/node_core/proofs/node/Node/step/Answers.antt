@@ -13,18 +13,18 @@ use Rattle.node_core.proofs.SeenAsNode.{still_runs}
 use Rattle.node_core.proofs.Came.{node_more, kept_may, kept_refused, sync_of_hosts, synced_by, came_order, came_few, came_planned, came_written}
 use Rattle.node_core.proofs.node.Node.step.Goals as goal
 
-pub comes-requires-clause-may : goal.comes-requires-clause-may
-comes-requires-clause-may g c =
-    let m = c.requires.may in
+pub comes-requires : goal.comes-requires
+comes-requires g c =
+    let m = c.requires in
     let noted = g.W.Watch.noted c.args.watch.now in
     (noted, at_rest m.0 m.1, begins_at_rest noted (g.W.Watch.is_short c.args.watch.now) m.2 m.3, kept_may c.args.input m.1 m.4)
 
 pub finish-live-requires-clause-live : goal.finish-live-requires-clause-live
-finish-live-requires-clause-live g c = ap (λ (s : Stored g.row.N.Denot). s.journal.live) c.comes.ensures.store ∙ c.requires.may.2.live
+finish-live-requires-clause-live g c = ap (λ (s : Stored g.row.N.Denot). s.journal.live) c.comes.ensures.store ∙ c.requires.2.live
 
 pub finish-live-requires-clause-host : goal.finish-live-requires-clause-host
 finish-live-requires-clause-host g c =
-    let m = c.requires.may in
+    let m = c.requires in
     let noted = g.W.Watch.noted c.args.watch.now in
     let b = begins_at_rest noted (g.W.Watch.is_short c.args.watch.now) m.2 m.3 in
     let has = (c.in-Ok.ensures.came noted (at_rest m.0 m.1) (begins_in_step b)).0 in
@@ -33,7 +33,7 @@ finish-live-requires-clause-host g c =
 
 pub finish-live-requires-clause-may : goal.finish-live-requires-clause-may
 finish-live-requires-clause-may g c =
-    let m = c.requires.may in
+    let m = c.requires in
     let i : NodeInput = input_of_node c.args.input in
     let noted = g.W.Watch.noted c.args.watch.now in
     let w = at_rest m.0 m.1 in
@@ -68,7 +68,7 @@ returns-clause-active g c start w b = (c.in-Ok.ensures.came start w (begins_in_s
 
 pub returns-clause-stepped : goal.returns-clause-stepped
 returns-clause-stepped g c start w b =
-    let m = c.requires.may in
+    let m = c.requires in
     let i : NodeInput = input_of_node c.args.input in
     let e = c.end_step.ensures in
     let n = c.args.self.now.ends in

@@ -39,10 +39,10 @@ returns-in_default-told-clause-runs g c =
     let r = c.requires.runs in
     record { ports = _; ends = c.tick.ensures.stands r.ports r.ends; started = r.started; version = r.version }
 
-pub note_input-requires-clause-runs : goal.note_input-requires-clause-runs
-note_input-requires-clause-runs g c =
+pub note_input-requires : goal.note_input-requires
+note_input-requires g c =
     let r = c.requires.runs in
-    record { ports = _; ends = c.tick.ensures.stands r.ports r.ends; started = r.started; version = r.version }
+    record { runs = record { ports = _; ends = c.tick.ensures.stands r.ports r.ends; started = r.started; version = r.version } }
 
 pub returns-clause-runs : goal.returns-clause-runs
 returns-clause-runs g c =

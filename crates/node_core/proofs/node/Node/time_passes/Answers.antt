@@ -12,7 +12,6 @@ loop-i-init g c = record {
   runs = c.requires.runs;
   store = refl;
   number = refl;
-  buffer = c.requires.buffer;
   goes = λ start w u few.
       let P : Work → Type 0 = λ v. IsInStep c.args.self.now (g.W.Watch.noted c.args.watch.now) (g.W.Watch.is_short c.args.watch.now) start v in
       subst P (sym (no_tick_yet w)) u;
@@ -35,7 +34,6 @@ loop-i-preserved g c =
       runs = t.ensures.runs;
       store = t.ensures.store ∙ c.loop-i.invariant.store;
       number = t.ensures.number ∙ c.loop-i.invariant.number;
-      buffer = t.auto.buffer ∙ c.loop-i.invariant.buffer;
       goes = λ start w u few.
           let i = c.loop-i.i in
           let P : Work → Type 0 = λ v. IsInStep t.new.self (g.W.Watch.noted t.new.watch) (g.W.Watch.is_short t.new.watch) start v in

@@ -1,4 +1,4 @@
-use Rattle.std.proofs.Common.{◌≡◌, List, length}
+use Rattle.std.proofs.Common.{◌≡◌, List}
 use Rattle.trace_model.specs.declared.entry.Entry.{Entry}
 use Rattle.node_machine.specs.Parts.{Work}
 use Rattle.node_core.specs.Nodes.{IsInStep, IsSoundNode}
@@ -15,7 +15,6 @@ invariant-loop-i g l =
       runs : IsSoundNode l.self;
       store : l.self.store ≡ l.fn.self.store;
       number : l.self.number ≡ l.fn.self.number;
-      buffer : length l.buffer ≡ 4096;
       goes : (start : List Entry) (w : Work) → IsInStep l.fn.self (noted l.fn.watch) (short l.fn.watch) start w → AreFewDue w.ports
           → IsInStep l.self (noted l.watch) (short l.watch) start (ticks_so_far l.i w);
     }
