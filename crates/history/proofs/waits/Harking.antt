@@ -239,7 +239,8 @@ data EndsSo (f : LinkEnd) (ts : List Turn) (b : Bool) : Type 0 where
   Quiet : b ≡ is_waiting f.shdlc → NoRset (frames_out (turned f ts)) → EndsSo f ts b
 
 turned_waits : (l : Link) (f : LinkEnd) (ts : List Turn) → waits (becomes l (turned f ts)).controller ≡ is_waiting f.shdlc
-turned_waits l f ts = same_waiting (becomes l (turned f ts)).controller.side.shdlc f.shdlc ((frames_alike most_frames (turned f ts).shdlc).phase ∙ turned_same ts f)
+turned_waits l f ts =
+    same_waiting (becomes l (turned f ts)).controller.side.shdlc f.shdlc ((frames_alike most_frames (turned f ts).shdlc).phase ∙ turned_same ts f)
 
 new_waits : (r : Role) → is_waiting (new_link_end (renewed r)).shdlc ≡ false
 new_waits Bare = refl

@@ -16,7 +16,7 @@ loop-seat-preserved c =
     let i = c.loop-seat.seat-index in
     let s : Seat = c.seat-item.result in
     elim c.if-host-lt8.branch [
-      then-host-lt8 w ↦ record {
+      | then-host-lt8 w ↦ record {
         eight = ap length w.links-is ∙ (length-set c.loop-seat.links c.from-host.result w.is_up.result ∙ c.loop-seat.invariant.eight);
         far = λ ports e.
             (let r = reads_here i s c.loop-seat-test.true e in
@@ -25,8 +25,8 @@ loop-seat-preserved c =
             goes_on up_there false ports e c.loop-seat.links c.if-host-lt8.links i c.from-host.result s r.port w.is_up.result g r.port_is
             c.from-host.ensures w.if-host-lt8.true (w.is_up.ensures c.args.pool.now r.port.side g.holds) w.links-is c.loop-seat.invariant.eight
             (c.loop-seat.invariant.far ports e));
-      } |
-      else-host-lt8 w ↦ record {
+      }
+      | else-host-lt8 w ↦ record {
         eight = ap length w.links-is ∙ c.loop-seat.invariant.eight;
         far = λ ports e.
             (let r = reads_here i s c.loop-seat-test.true e in

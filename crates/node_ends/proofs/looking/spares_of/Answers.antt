@@ -31,7 +31,7 @@ loop-i-preserved c =
     let s : Seat = c.index-seats-i.result in
     let host_there = c.from-host.ensures ∙ ap (λ (t : Seat). t.desk.host) (sym c.index-seats-i.is) in
     elim c.if-host-lt8.branch [
-      then-host-lt8 w ↦ record {
+      | then-host-lt8 w ↦ record {
         eight = ap length w.spares-is ∙ (length-set c.loop-i.spares c.from-host.result w.spare.result ∙ c.loop-i.invariant.eight);
         far = λ ports e.
             (let p = seated c.args.pool.now i c.args.seats.now ports c.loop-i-test.true e.each in
@@ -43,8 +43,8 @@ loop-i-preserved c =
             (w.spare.ensures.spare ∙ (ap (spare_of c.args.pool.now) (sym owner)
             ∙ sym (spare_is c.args.pool.now p.seat.side.link (without_got p.port.side) p.stands.holds.stands)))
             w.spares-is c.loop-i.invariant.eight (c.loop-i.invariant.far ports e));
-      } |
-      else-host-lt8 w ↦ record {
+      }
+      | else-host-lt8 w ↦ record {
         eight = ap length w.spares-is ∙ c.loop-i.invariant.eight;
         far = λ ports e.
             (let p = seated c.args.pool.now i c.args.seats.now ports c.loop-i-test.true e.each in
