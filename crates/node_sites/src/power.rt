@@ -49,6 +49,7 @@ impl<P: WorldNode + Drop> Power<P> {
     }
 
     /// The power goes, and the memory stays.
+    #[inline(never)]
     pub fn lose(&mut self)
         ensures { self.new ≡ Off (memory_kept P.memory self.old) }
     {
