@@ -103,10 +103,7 @@ impl WorldHost for Host<MemNv> {
         message: &[u8],
         noted: &mut Noted,
     ) -> Result<(), HostRefused> {
-        match Host::send(self, pipe, message, noted) {
-            Ok(()) => Ok(()),
-            Err(why) => Err(why),
-        }
+        Host::send(self, pipe, message, noted)
     }
 
     fn init(
@@ -116,9 +113,6 @@ impl WorldHost for Host<MemNv> {
         pipes: &[[u8; 3]],
         noted: &mut Noted,
     ) -> Result<(), HostRefused> {
-        match Host::init(self, identity, pipes, noted) {
-            Ok(()) => Ok(()),
-            Err(why) => Err(why),
-        }
+        Host::init(self, identity, pipes, noted)
     }
 }

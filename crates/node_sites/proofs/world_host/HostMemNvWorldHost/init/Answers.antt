@@ -1,4 +1,5 @@
 use Rattle.std.proofs.Common.{ℕ, true, ap, ◌∙◌, subst}
+use Rattle.std.proofs.lemmas.Result.{on_ok_weaker}
 use Rattle.node_machine.specs.Carrying.{port_at}
 use Rattle.node_machine.specs.Node.{begins_with}
 use Rattle.node_machine.specs.world.World.{beginning}
@@ -10,30 +11,29 @@ use Rattle.node_sites.proofs.NodesRun.{memory_in, own_host}
 use Rattle.node_sites.proofs.HostsGive.{asked_so, asked_bare, gives_so, beginning_writes}
 use Rattle.node_sites.proofs.world_host.HostMemNvWorldHost.init.Goals as goal
 
-pub returns-in-Ok-clause-begun : goal.returns-in-Ok-clause-begun
-returns-in-Ok-clause-begun c w begins =
+pub returns-clause-begun : goal.returns-clause-begun
+returns-clause-begun c w begins =
     let b = begins.begins in
-    let e = c.in-Ok.ensures in
+    let e = c.init.ensures in
     let n = c.args.self.now in
     let deeds = beginning c.args.identity.now c.args.pipes.now in
     let P : ℕ → Type 0 = λ h. HasGone RunsAsHost memory_in n c.init.new.self (begins_with h deeds w) true in
-    subst P (own_host b.runs begins.here)
+    let noted = as_told c.args.noted.now.sessions c.args.noted.now.entries.items in
+    on_ok_weaker c.init.result
+    (λ begun. subst P (own_host b.runs begins.here)
     (gives_so n.number deeds b e.store e.number (beginning_writes n.number c.args.identity.now c.args.pipes.now w b.power)
-    (let noted = as_told c.args.noted.now.sessions c.args.noted.now.entries.items in
-    e.begun noted (bare w) (asked_bare noted c.args.noted.now.short b)))
+    (begun noted (bare w) (asked_bare noted c.args.noted.now.short b))))
+    e.begun
 
-pub returns-in-Ok-clause-noted : goal.returns-in-Ok-clause-noted
-returns-in-Ok-clause-noted c sessions start w begins told =
+pub returns-clause-noted : goal.returns-clause-noted
+returns-clause-noted c sessions start w begins told =
     let b = begins.begins in
     let t = c.init.new.watch in
     let deeds = beginning c.args.identity.now c.args.pipes.now in
     let P : ℕ → Type 0 = λ h. IsNotedSo t sessions start (begins_with h deeds w).entries in
-    subst P (own_host b.runs begins.here) (as_noted t sessions start _ (c.in-Ok.ensures.begun (as_told sessions start) w (asked_so b told)).noted_are)
+    on_ok_weaker c.init.result
+    (λ begun. subst P (own_host b.runs begins.here) (as_noted t sessions start _ (begun (as_told sessions start) w (asked_so b told)).noted_are))
+    c.init.ensures.begun
 
-pub returns-in-Ok-clause-refusal : goal.returns-in-Ok-clause-refusal
-returns-in-Ok-clause-refusal c core ports p r here =
-    c.in-Ok.ensures.refusal core ports p r.runs (ap (port_at ports) (own_host r here) ∙ here)
-
-pub returns-in-Err-clause-refusal : goal.returns-in-Err-clause-refusal
-returns-in-Err-clause-refusal c core ports p r here =
-    c.in-Err.ensures.refusal core ports p r.runs (ap (port_at ports) (own_host r here) ∙ here)
+pub returns-clause-refusal : goal.returns-clause-refusal
+returns-clause-refusal c core ports p r here = c.init.ensures.refusal core ports p r.runs (ap (port_at ports) (own_host r here) ∙ here)

@@ -1,4 +1,5 @@
 use Rattle.std.proofs.Common.{ℕ, true, ap, ◌∙◌, subst}
+use Rattle.std.proofs.lemmas.Result.{on_ok_weaker}
 use Rattle.link_laws.specs.machine.Machine.{Message}
 use Rattle.node_machine.specs.Carrying.{port_at}
 use Rattle.node_machine.specs.Node.{begins_with}
@@ -11,30 +12,29 @@ use Rattle.node_sites.proofs.NodesRun.{memory_in, own_host}
 use Rattle.node_sites.proofs.HostsGive.{asked_so, asked_bare, gives_so, sending_writes}
 use Rattle.node_sites.proofs.world_host.HostMemNvWorldHost.send.Goals as goal
 
-pub returns-in-Ok-clause-given : goal.returns-in-Ok-clause-given
-returns-in-Ok-clause-given c w begins =
+pub returns-clause-given : goal.returns-clause-given
+returns-clause-given c w begins =
     let b = begins.begins in
-    let e = c.in-Ok.ensures in
+    let e = c.send.ensures in
     let n = c.args.self.now in
     let m : Message = (c.args.pipe, c.args.message.now) in
     let P : ℕ → Type 0 = λ h. HasGone RunsAsHost memory_in n c.send.new.self (begins_with h (sending h m) w) true in
-    subst P (own_host b.runs begins.here)
+    let noted = as_told c.args.noted.now.sessions c.args.noted.now.entries.items in
+    on_ok_weaker c.send.result
+    (λ given. subst P (own_host b.runs begins.here)
     (gives_so n.number (sending n.number m) b e.store e.number (sending_writes n.number c.args.pipe c.args.message.now w)
-    (let noted = as_told c.args.noted.now.sessions c.args.noted.now.entries.items in
-    e.given noted (bare w) (asked_bare noted c.args.noted.now.short b)))
+    (given noted (bare w) (asked_bare noted c.args.noted.now.short b))))
+    e.given
 
-pub returns-in-Ok-clause-noted : goal.returns-in-Ok-clause-noted
-returns-in-Ok-clause-noted c sessions start w begins told =
+pub returns-clause-noted : goal.returns-clause-noted
+returns-clause-noted c sessions start w begins told =
     let b = begins.begins in
     let m : Message = (c.args.pipe, c.args.message.now) in
     let t = c.send.new.watch in
     let P : ℕ → Type 0 = λ h. IsNotedSo t sessions start (begins_with h (sending h m) w).entries in
-    subst P (own_host b.runs begins.here) (as_noted t sessions start _ (c.in-Ok.ensures.given (as_told sessions start) w (asked_so b told)).noted_are)
+    on_ok_weaker c.send.result
+    (λ given. subst P (own_host b.runs begins.here) (as_noted t sessions start _ (given (as_told sessions start) w (asked_so b told)).noted_are))
+    c.send.ensures.given
 
-pub returns-in-Ok-clause-refusal : goal.returns-in-Ok-clause-refusal
-returns-in-Ok-clause-refusal c core ports p r here =
-    c.in-Ok.ensures.refusal core ports p r.runs (ap (port_at ports) (own_host r here) ∙ here)
-
-pub returns-in-Err-clause-refusal : goal.returns-in-Err-clause-refusal
-returns-in-Err-clause-refusal c core ports p r here =
-    c.in-Err.ensures.refusal core ports p r.runs (ap (port_at ports) (own_host r here) ∙ here)
+pub returns-clause-refusal : goal.returns-clause-refusal
+returns-clause-refusal c core ports p r here = c.send.ensures.refusal core ports p r.runs (ap (port_at ports) (own_host r here) ∙ here)
