@@ -204,7 +204,6 @@ impl<N: Nv + Drop> Node<N> {
     }
 
     /// Time passes at all ends, one after another, and what it did there is noted. At most six control frames wait at each to be sent.
-    ///
     pub(crate) fn time_passes<W: Watch>(&mut self, buffer: &mut [u8; MESSAGE], watch: &mut W)
         requires runs { IsSoundNode self.old }
         requires may { (start : List Noted) × (w : Work) × IsInStep self.old (W.noted watch.old) (W.is_short watch.old) start w

@@ -100,25 +100,6 @@ impl<N: Nv + Drop> Controller<N> {
         self.take_step(host, &read_lpdu(lpdu), watch).ran
     }
 
-    /// What an LPDU says is taken from the link with this host, as `take` takes the LPDU.
-    pub fn take_read<W: Watch>(
-        &mut self,
-        host: u8,
-        read: &Result<Control, LpduFault>,
-        watch: &mut W,
-    ) -> Ran
-        requires may { MayStep self.old }
-        requires read { (lpdu : List ℕ) × (read.now ≡ control_of lpdu) }
-        ensures stepped { (start : List Noted) (w : Work) (lpdu : List ℕ) → BeginsStep self.old (W.noted watch.old) (W.is_short watch.old) start w
-            → read.now ≡ control_of lpdu → Brings N.writes self.old.store.journal.nv self.new.store.journal.nv
-            (HasStepped self.new (W.noted watch.new) (W.is_short watch.new) start) (steps (AtEnd host (lpdu_input lpdu))) w }
-        ensures ran { result ≡ ran_so self.new.store.journal.live }
-        ensures count { N.faults self.old.store.journal.nv ≤ N.faults self.new.store.journal.nv }
-        ensures rose { result ≡ Ran.Stopped → Rose (N.faults self.old.store.journal.nv) (N.faults self.new.store.journal.nv) }
-    {
-        self.take_step(host, read, watch).ran
-    }
-
     /// What an LPDU says is taken from the link with this host, as `take` takes the LPDU. The answer says, too, whether the end of the link
     /// became active.
     pub fn take_step<W: Watch>(

@@ -34,7 +34,7 @@ impl WorldNode for Controller<MemNv> {
     ghost memory = { λ c. c.store.journal.nv };
 
     fn take(&mut self, host: u8, read: &Result<Control, LpduFault>, noted: &mut Noted) -> bool {
-        has_power(Controller::take_read(self, host, read, noted))
+        has_power(Controller::take_step(self, host, read, noted).ran)
     }
 
     fn tick(&mut self, noted: &mut Noted) -> bool {

@@ -9,12 +9,12 @@ use Rattle.node_sites.proofs.world_controller.ControllerMemNvWorldNode.take.Goal
 pub returns-clause-stepped : goal.returns-clause-stepped
 returns-clause-stepped c w lpdu begins says =
     let noted = as_told c.args.noted.now.sessions c.args.noted.now.entries.items in
-    let t = c.take_read in
+    let t = c.take_step in
     goes_so RunsPlainly plainly still_plainly c.has_power.result (steps_regardless (AtEnd c.args.host (lpdu_input lpdu))) begins.begins
     (t.ensures.stepped noted (bare w) lpdu (begins_bare RunsPlainly plainly noted c.args.noted.now.short begins.begins) says)
     (c.has_power.ensures t.new.self.store.journal.live t.ensures.ran)
 
 pub returns-clause-noted : goal.returns-clause-noted
 returns-clause-noted c sessions start w lpdu begins says told =
-    noted_so c.take_read.new.watch {f = steps (AtEnd c.args.host (lpdu_input lpdu))} begins.begins.plan
-    (c.take_read.ensures.stepped (as_told sessions start) w lpdu (begins_so RunsPlainly plainly begins.begins told) says)
+    noted_so c.take_step.new.watch {f = steps (AtEnd c.args.host (lpdu_input lpdu))} begins.begins.plan
+    (c.take_step.ensures.stepped (as_told sessions start) w lpdu (begins_so RunsPlainly plainly begins.begins told) says)
