@@ -149,11 +149,8 @@ not_rnr e c none answers is =
     control Ua_due ds h a q = absurd a
 
 no_rnr_rest : (d : Due) (ds : List Due) → NoRnr (d ∷ ds) → NoRnr ds
-no_rnr_rest Rr_due ds h = h
-no_rnr_rest Rej_due ds h = h
 no_rnr_rest Rnr_due ds h = absurd h
-no_rnr_rest Rset_due ds h = h
-no_rnr_rest Ua_due ds h = h
+no_rnr_rest _ ds h = h
 
 fetched_no_rnr : (e : EndState) → NoRnr e.due → NoRnr (fetched e).due
 fetched_no_rnr e h = fetch_cases (λ f o. NoRnr f.due) e (λ d ds p. no_rnr_rest d ds (rw p at h)) (λ p q. h) (λ info p q. h)

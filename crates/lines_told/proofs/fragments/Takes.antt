@@ -36,18 +36,11 @@ Brings a _ = ⊥
 pub answers_no_act : (a : ℕ) (c : Control) → is_act c ≡ true → Answers a c → ⊥
 answers_no_act a (I _ _ _) q h = let z : false ≡ true = q in cc
 answers_no_act a (S _ _) q h = let z : false ≡ true = q in cc
-answers_no_act a (Rset _ _) q h = h
-answers_no_act a Ua q h = h
-answers_no_act a (Act _ _) q h = h
-answers_no_act a Clt q h = h
+answers_no_act a _ q h = h
 
 pub brings_no_act : (a : ℕ) (c : Control) → is_act c ≡ true → Brings a c → ⊥
 brings_no_act a (I _ _ _) q h = let z : false ≡ true = q in cc
-brings_no_act a (S _ _) q h = h
-brings_no_act a (Rset _ _) q h = h
-brings_no_act a Ua q h = h
-brings_no_act a (Act _ _) q h = h
-brings_no_act a Clt q h = h
+brings_no_act a _ q h = h
 
 -- a length accepted that isn't a, where it is told modulo 8
 abbrev pub Differs : ℕ → ℕ → Type 0
@@ -186,7 +179,4 @@ module _ (e : EndState) (ready : e.ready ≡ true) (due : e.due ≡ []) (up : e.
       go [] shows counts = absurd (let k : IsData (Rset shows.0.0 shows.0.1) = rw shows.0.2 at d in k)
       go (I p n info ∷ ms) shows counts = rw shows.0 (took_I p n info (number n ms counts.1 counts.0) counts.0)
       go (S k n ∷ ms) shows counts = rw shows.0 (took_S k n (number n ms counts.1 counts.0) counts.0)
-      go (Rset _ _ ∷ ms) shows counts = absurd counts
-      go (Ua ∷ ms) shows counts = absurd counts
-      go (Act _ _ ∷ ms) shows counts = absurd counts
-      go (Clt ∷ ms) shows counts = absurd counts
+      go _ shows counts = absurd counts

@@ -63,12 +63,8 @@ at_host (e ∷ es) n k =
 
 -- a frame comes to an end that is open
 take_comes : (e : LinkEnd) (c : Control) (ts : List Turn) → is_open e.role ≡ true → Comes (core_take e c ts ++ []) 1
-take_comes e (I ns nr info) ts q = rw q (record { ordinary = (tt, tt); taken = refl })
-take_comes e (S k nr) ts q = rw q (record { ordinary = (tt, tt); taken = refl })
-take_comes e (Rset w c) ts q = rw q (record { ordinary = (tt, tt); taken = refl })
-take_comes e Ua ts q = rw q (record { ordinary = (tt, tt); taken = refl })
 take_comes e (Act a b) ts q = record { ordinary = (tt, (tt, tt)); taken = refl }
-take_comes e Clt ts q = rw q (record { ordinary = (tt, tt); taken = refl })
+take_comes e _ ts q = rw q (record { ordinary = (tt, tt); taken = refl })
 
 here_comes : (l : Link) (e : EndEvent) → IsOrdinaryStep e → is_open l.controller.side.role ≡ true → Comes (core_here l e) (come_here l e)
 here_comes l (Step NextFrame ts GoesOut) o q = go l.to_controller
@@ -78,22 +74,12 @@ here_comes l (Step NextFrame ts GoesOut) o q = go l.to_controller
     go [] = record { ordinary = tt; taken = refl }
     go (x ∷ xs) = take_comes l.controller.side x.frame ts q
 here_comes l (Step NoInput ts GoesOut) o q = record { ordinary = (tt, tt); taken = refl }
-here_comes l (Step NextFrame ts CutOff) o q = absurd o
-here_comes l (Step NoInput ts CutOff) o q = absurd o
-here_comes l (Step (AsksReset w) ts ending) o q = absurd o
-here_comes l (Step (Starts v) ts ending) o q = absurd o
-here_comes l (Step Stops ts ending) o q = absurd o
-here_comes l (Lose why) o q = absurd o
+here_comes l _ o q = absurd o
 
 own_turns : (es : List EndEvent) (l : Link) → AreOrdinaryOwn es → AreOrdinaryTurns (core_all l es)
 own_turns [] l o = tt
 own_turns (Step NoInput ts GoesOut ∷ es) l o = own_turns es (happens_at_controller l (Step NoInput ts GoesOut)) o
-own_turns (Step NoInput ts CutOff ∷ es) l o = absurd o
-own_turns (Step NextFrame ts ending ∷ es) l o = absurd o
-own_turns (Step (AsksReset w) ts ending ∷ es) l o = absurd o
-own_turns (Step (Starts v) ts ending ∷ es) l o = absurd o
-own_turns (Step Stops ts ending ∷ es) l o = absurd o
-own_turns (Lose why ∷ es) l o = absurd o
+own_turns _ l o = absurd o
 
 -- ## On the link
 
@@ -171,24 +157,15 @@ does_then es fs a b =
 come_more : (l : Link) (e : LinkEvent) (es : List LinkEvent)
     → come_to_controller l (e ∷ es) ≡ come_to_controller l (e ∷ []) + come_to_controller (happens l e) es
 come_more l (AtController e) es = omega arith
-come_more l (AtHost e) es = omega arith
-come_more l (Ticks c events h) es = omega arith
-come_more l (TicksWithout events h) es = omega arith
-come_more l (Activate power c id h) es = omega arith
+come_more l _ es = omega arith
 
 come_more_there : (l : Link) (e : LinkEvent) (es : List LinkEvent) → come_to_host l (e ∷ es) ≡ come_to_host l (e ∷ []) + come_to_host (happens l e) es
 come_more_there l (AtController e) es = omega arith
-come_more_there l (AtHost e) es = omega arith
-come_more_there l (Ticks c events h) es = omega arith
-come_more_there l (TicksWithout events h) es = omega arith
-come_more_there l (Activate power c id h) es = omega arith
+come_more_there l _ es = omega arith
 
 times_more : (e : LinkEvent) (es : List LinkEvent) → times_among (e ∷ es) ≡ times_among (e ∷ []) + times_among es
 times_more (AtController e) es = omega arith
-times_more (AtHost e) es = omega arith
-times_more (Ticks c events h) es = omega arith
-times_more (TicksWithout events h) es = omega arith
-times_more (Activate power c id h) es = omega arith
+times_more _ es = omega arith
 
 does_as : {es : List CoreLinkEvent} {c h t c' h' t' : ℕ} → c ≡ c' → h ≡ h' → t ≡ t' → Does es c h t → Does es c' h' t'
 does_as p q r d =
