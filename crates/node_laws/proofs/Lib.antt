@@ -1,3 +1,4 @@
+pub mod Cases
 pub mod steps
 pub mod kept
 pub mod telling

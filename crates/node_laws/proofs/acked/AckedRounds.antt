@@ -15,7 +15,7 @@ use Rattle.link_laws.specs.messages.Projection.{core_of}
 use Rattle.link_laws.proofs.messages.Runs.{Good, Reached}
 use Rattle.link_laws.proofs.messages.Whole.{from_start, reached}
 use Rattle.node_machine.specs.world.World.{Site, NodeWorld, Happening, new_site, new_world, site_at, world_step}
-use Rattle.node_machine.specs.world.World.Happening.{Boots, IsCut, Gives, Inits, Takes, Loses, Ticks as TimePassing, Resets, Activates, Arms}
+use Rattle.node_machine.specs.world.World.Happening.{Gives, Takes, Ticks as TimePassing, Resets, Activates}
 use Rattle.node_machine.specs.world.Lines.{Occurrence, all_happen, can_happen, happenings, frames_at}
 use Rattle.node_machine.specs.world.NodeHistories.{FollowsNodes, NodeHistory, occurrences_in}
 use Rattle.node_laws.specs.kept.Hosts.{AreDifferent, AreHosts}
@@ -268,13 +268,7 @@ pub may_come : (w : NodeWorld) (c : Happening) → MayCome w c → MayHappen w c
 may_come w (Gives e message) m = m
 may_come w (Resets e window) m = m
 may_come w (Activates h sync power) m = m
-may_come w (Boots n) m = tt
-may_come w (IsCut n) m = tt
-may_come w (Inits e identity pipes) m = tt
-may_come w (Takes e) m = tt
-may_come w (Loses e why) m = tt
-may_come w TimePassing m = tt
-may_come w (Arms n plan) m = tt
+may_come w _ m = tt
 
 sound_legs : (legs : List Leg) (w : NodeWorld) → AllMayCome w legs → IsSound w → IsSound (world_after_legs w legs)
 sound_legs [] w m s = s

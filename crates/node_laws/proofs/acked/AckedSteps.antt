@@ -8,7 +8,7 @@ use Rattle.journal_laws.specs.Planned.{after_planned}
 use Rattle.link_laws.specs.messages.Links.{Link, LinkEvent, NumberedEnd, Comes, Ending, Loss, exchanged, happens, IsEvent, CanCome, AreSendableTurns}
 use Rattle.link_laws.specs.messages.Links.{AllAllowed}
 use Rattle.link_laws.specs.messages.Links.Ending.{CutOff}
-use Rattle.link_laws.specs.messages.Links.Comes.{NextFrame, AsksReset, Starts, Stops, NoInput}
+use Rattle.link_laws.specs.messages.Links.Comes.{NextFrame, AsksReset, Starts, NoInput}
 use Rattle.link_laws.specs.messages.Links.EndEvent.{Step, Lose}
 use Rattle.link_laws.specs.messages.Links.LinkEvent.{AtController, AtHost}
 use Rattle.link_laws.specs.machine.Machine.{Turn}
@@ -71,10 +71,7 @@ IsNoFrame _ = Unit {0}
 
 takes_none : (comes : Comes) (ts : List Turn) (ending : Ending) → IsNoFrame comes → TakesNoFrame (Step comes ts ending)
 takes_none NextFrame ts ending n = n
-takes_none (AsksReset window) ts ending n = tt
-takes_none (Starts value) ts ending n = tt
-takes_none Stops ts ending n = tt
-takes_none NoInput ts ending n = tt
+takes_none _ ts ending n = tt
 
 none_here : (h : ℕ) (comes : Comes) (k : ℕ) → IsNoFrame comes → IsNoFrame (comes_to h comes k)
 none_here h comes k n = go (k == h)

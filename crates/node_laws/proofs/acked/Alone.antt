@@ -14,6 +14,7 @@ use Rattle.link_laws.specs.sessions.Sessions.ShdlcLinkEvent.{AtController, AtHos
 use Rattle.link_laws.proofs.sessions.Data.{Base, Below, none_ended, of_up}
 use Rattle.link_laws.proofs.sessions.Sending.{SafeLink}
 use Rattle.link_laws.proofs.sessions.Steps.{safe_event, safe_exchanged}
+use Rattle.node_laws.proofs.Cases.{by_test}
 
 -- ## What stays as the controller's end acts
 
@@ -37,11 +38,7 @@ beside l m k host past a = record { host = host ∙ a.host; past = go a.past }
     go (inr (x, q)) = inr (x, past ∙ q)
 
 put_beside : (l : ShdlcLink) (c : Control) → ((shdlc_put l c).host ≡ l.host) × ((shdlc_put l c).controller.past ≡ l.controller.past)
-put_beside l c = go (is_rset c) refl
-  where
-    go : (b : Bool) → is_rset c ≡ b → ((shdlc_put l c).host ≡ l.host) × ((shdlc_put l c).controller.past ≡ l.controller.past)
-    go true q = rw q (refl, refl)
-    go false q = rw q (refl, refl)
+put_beside l c = by_test (is_rset c) (λ q. rw q (refl, refl)) (λ q. rw q (refl, refl))
 
 puts_beside : (cs : List Control) (l : ShdlcLink)
     → ((shdlc_put_all l cs).host ≡ l.host) × ((shdlc_put_all l cs).controller.past ≡ l.controller.past)

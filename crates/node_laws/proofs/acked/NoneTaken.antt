@@ -13,6 +13,7 @@ use Rattle.link_laws.specs.sessions.Sessions.ShdlcEndEvent.{Turns, Deliver, Igno
 use Rattle.link_laws.specs.sessions.Sessions.ShdlcLinkEvent.{AtController, AtHost, Tick, TickWithout}
 use Rattle.link_laws.proofs.places.Joined.{ready_cases}
 use Rattle.link_laws.proofs.entries.Stepping.{fetched_acked}
+use Rattle.node_laws.proofs.Cases.{by_test}
 use Rattle.node_laws.proofs.acked.Alone.{acked_here, happens_alone, ended_alone, becomes_alone, silent_alone}
 
 -- ## What an end becomes
@@ -23,8 +24,7 @@ turn_acked e (Offer fragments) = go e.phase refl
   where
     go : (p : LinkState) → e.phase ≡ p → (shdlc_turn e (Offer fragments)).session.acked ≡ e.session.acked
     go Up q = rw q refl
-    go Waiting q = rw q refl
-    go Down q = rw q refl
+    go _ q = rw q refl
 
 turned_acked : (ts : List ShdlcTurn) (e : EndState) → (shdlc_turned e ts).session.acked ≡ e.session.acked
 turned_acked [] e = refl
@@ -59,8 +59,7 @@ silent_acked l e none = go l.controller.side.phase refl
   where
     go : (p : LinkState) → l.controller.side.phase ≡ p → acked_here (shdlc_silent l e) ≡ 0
     go Up q = rw q none
-    go Waiting q = rw q none
-    go Down q = rw q none
+    go _ q = rw q none
 
 -- ## What happens at the controller's end
 
@@ -109,14 +108,8 @@ adds_here : (l : ShdlcLink) (e : ShdlcEndEvent) → DeliversNone e → AddsNone 
 adds_here l e d = record { acked = none_here l e d; host = (happens_alone l e).host }
 
 is_turn : (e : ShdlcEndEvent) → IsTurn e → DeliversNone e
-is_turn (Turns ts) t = tt
 is_turn (Deliver ts) t = t
-is_turn (Ignore ts) t = tt
-is_turn (Acts acts ts) t = tt
-is_turn Lose t = tt
-is_turn (Reset w ts) t = tt
-is_turn Cut t = tt
-is_turn Stop t = tt
+is_turn _ t = tt
 
 turns_add : (es : List ShdlcEndEvent) (l : ShdlcLink) → AreTurns es → AddsNone l (shdlc_all_at_controller l es)
 turns_add [] l a = record { acked = omega arith; host = refl }
@@ -141,11 +134,7 @@ tick_or_cut_adds None l =
     let z = silent_acked l (new_end 4) refl in record { acked = omega (arith, z); host = (silent_alone l (new_end 4)).host }
 
 tick_if_waiting_adds : (l : ShdlcLink) → AddsNone l (ticks_if_waiting l)
-tick_if_waiting_adds l = go (is_waiting l.controller.side) refl
-  where
-    go : (b : Bool) → is_waiting l.controller.side ≡ b → AddsNone l (ticks_if_waiting l)
-    go true q = rw q (tick_adds l [])
-    go false q = rw q (record { acked = omega arith; host = refl })
+tick_if_waiting_adds l = by_test (is_waiting l.controller.side) (λ q. rw q (tick_adds l [])) (λ q. rw q (record { acked = omega arith; host = refl }))
 
 -- ## What happens on the link
 

@@ -19,6 +19,7 @@ use Rattle.node_machine.specs.world.World.Happening.{Takes, Ticks as TimePassing
 use Rattle.node_machine.specs.world.Lines.{can_happen, happenings, frames_at}
 use Rattle.node_laws.specs.kept.Hosts.{AreDifferent}
 use Rattle.node_laws.specs.telling.Telling.{hosts_in}
+use Rattle.node_laws.proofs.Cases.{by_test}
 use Rattle.node_laws.proofs.telling.Nodes.{site_host}
 use Rattle.node_laws.specs.acked.InTurn.{AllAtController, AllAtHost, TakeNoFrames, AreTakenInTurn}
 use Rattle.node_machine.specs.world.Rounds.{ends_in_order, end_takes_all, ends_take_all}
@@ -177,11 +178,7 @@ others P joins h near (k ∷ ks) w a =
 -- ## A tick
 
 tick_none : (l : Link) (late : Bool) (c d : Node) → TakeNoFrames (tick_so l late c d ∷ [])
-tick_none l late c d = go (late && not (is_waiting l.controller.side.shdlc)) refl
-  where
-    go : (b : Bool) → (late && not (is_waiting l.controller.side.shdlc)) ≡ b → TakeNoFrames (tick_so l late c d ∷ [])
-    go true q = rw q tt
-    go false q = rw q tt
+tick_none l late c d = by_test (late && not (is_waiting l.controller.side.shdlc)) (λ q. rw q tt) (λ q. rw q tt)
 
 pub time_none : (h : ℕ) (w : NodeWorld) → TakeNoFrames (link_events_in h w TimePassing)
 time_none h w = go (site_at w.sites h) (site_at (controller_ticks (all_aged w).0).0.sites h)

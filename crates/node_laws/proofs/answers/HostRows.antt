@@ -17,6 +17,7 @@ use Rattle.node_machine.specs.HostReplies.{is_welcome, pipe_named_in, is_gate, g
 use Rattle.node_machine.specs.Turns.{deeds_for}
 use Rattle.node_machine.proofs.Walks.{deeds_near, deeds_far}
 use Rattle.node_laws.specs.answers.Rows.{first_row, controller_rows, host_rows, answer_rows}
+use Rattle.node_laws.proofs.Cases.{by_test}
 use Rattle.node_laws.proofs.answers.Rows.{header_is, controller_by_rows}
 
 -- two bytes or more aren't one
@@ -32,26 +33,21 @@ module _ (own : OwnView) (e : EndView) (m : Message) where
       module _ (one : eqb m.0 1 ≡ true) where
         created : eqb (instruction_in m.1) 18 ≡ true → (o : Option PipeRow) → pipe_named_in (body_in m.1) ≡ o → AsRow
         created e18 None is = rw (up, x, one, e18, is) refl
-        created e18 (Some row) is = by (is_welcome own.node row) refl where
-          by : (b : Bool) → is_welcome own.node row ≡ b → AsRow
-          by true w = rw (up, x, one, e18, is, w) refl
-          by false w = rw (up, x, one, e18, is, w) refl
+        created e18 (Some row) is = by_test (is_welcome own.node row) (λ w. rw (up, x, one, e18, is, w) refl) (λ w. rw (up, x, one, e18, is, w) refl)
 
         deleted : eqb (instruction_in m.1) 18 ≡ false → eqb (instruction_in m.1) 19 ≡ true → (body : List ℕ) → body_in m.1 ≡ body → AsRow
         deleted e18 e19 [] is = rw (up, x, one, e18, e19, is) refl
-        deleted e18 e19 (pid ∷ []) is = by (is_some (pipe_at own.tables.rows pid)) refl where
-          by : (b : Bool) → is_some (pipe_at own.tables.rows pid) ≡ b → AsRow
-          by true k = rw (up, x, one, e18, e19, is, k) refl
-          by false k = rw (up, x, one, e18, e19, is, k) refl
+        deleted e18 e19 (pid ∷ []) is = by_test (is_some (pipe_at own.tables.rows pid))
+            (λ k. rw (up, x, one, e18, e19, is, k) refl)
+            (λ k. rw (up, x, one, e18, e19, is, k) refl)
         deleted e18 e19 (pid ∷ y ∷ more) is = rw (up, x, one, e18, e19, is, two pid y more) refl
 
         cleared : eqb (instruction_in m.1) 18 ≡ false → eqb (instruction_in m.1) 19 ≡ false → eqb (instruction_in m.1) 21 ≡ true
             → (body : List ℕ) → body_in m.1 ≡ body → AsRow
         cleared e18 e19 e21 [] is = rw (up, x, one, e18, e19, e21, is) refl
-        cleared e18 e19 e21 (host ∷ []) is = by (is_host host) refl where
-          by : (b : Bool) → is_host host ≡ b → AsRow
-          by true k = rw (up, x, one, e18, e19, e21, is, k) refl
-          by false k = rw (up, x, one, e18, e19, e21, is, k) refl
+        cleared e18 e19 e21 (host ∷ []) is = by_test (is_host host)
+            (λ k. rw (up, x, one, e18, e19, e21, is, k) refl)
+            (λ k. rw (up, x, one, e18, e19, e21, is, k) refl)
         cleared e18 e19 e21 (host ∷ y ∷ more) is = rw (up, x, one, e18, e19, e21, is, two host y more) refl
 
         noticed : (b18 b19 b21 : Bool) → eqb (instruction_in m.1) 18 ≡ b18 → eqb (instruction_in m.1) 19 ≡ b19 → eqb (instruction_in m.1) 21 ≡ b21 → AsRow
@@ -96,10 +92,7 @@ module _ (own : OwnView) (e : EndView) (m : Message) where
     by_header (Err fault) is = unread fault is (eqb m.0 1) refl
 
   pub host_by_rows : AsRow
-  host_by_rows = by e.up refl where
-    by : (b : Bool) → e.up ≡ b → AsRow
-    by true up = by_header up (header_of m.1) refl
-    by false up = rw up refl
+  host_by_rows = by_test e.up (λ up. by_header up (header_of m.1) refl) (λ up. rw up refl)
 
 pub done_by_rows : (v : NodeView) (h : ℕ) (m : Message) → deeds_for v h m ≡ first_row (answer_rows v h m)
 done_by_rows v h m = by (eqb v.own.node 0) (v.ends h) refl refl where

@@ -1,5 +1,5 @@
 -- That the ends of a node's turns and holds ascend in an event is found by one walk over its entries.
-use Rattle.std.proofs.Common.{◌≡◌, ℕ, ◌≤◌, arith, Bool, true, false, List, [], ◌∷◌, Option, Some, None, refl, sym, subst}
+use Rattle.std.proofs.Common.{◌≡◌, ℕ, ◌≤◌, arith, Bool, true, false, List, [], ◌∷◌, Option, Some, None, sym, subst}
 use Rattle.std.specs.Prelude.{◌==◌, ◌&&◌, not, nat_lt, if◌then◌else◌}
 use Rattle.std.specs.List.{AllByRecursion, cons_option, filter_map}
 use Rattle.std.specs.Option.{option_map_or}
@@ -10,6 +10,7 @@ use Rattle.trace_model.specs.declared.entry.Entry.TheVariants as entry
 use Rattle.trace_model.specs.declared.line.End.{End}
 use Rattle.node_machine.specs.world.World.{node_of}
 use Rattle.node_laws.specs.answers.Order.{turn_link, IsAscending}
+use Rattle.node_laws.proofs.Cases.{by_test}
 
 -- the end at which a message has its turn, or is held
 abbrev turn_end : Entry → Option End
@@ -41,14 +42,11 @@ low n e (x ∷ entries) is none =
     one x both.0 (low n e entries is both.1) where
       at : (f : End) → not (is_earlier e f) ≡ true → AllByRecursion (λ k. e.link ≤ k) (filter_map (turn_link n) entries)
           → AllByRecursion (λ k. e.link ≤ k) (cons_option (if node_of f == n then Some f.link else None) (filter_map (turn_link n) entries))
-      at f p later = go (node_of f == n) refl where
-        go : (c : Bool) → (node_of f == n) ≡ c
-            → AllByRecursion (λ k. e.link ≤ k) (cons_option (if node_of f == n then Some f.link else None) (filter_map (turn_link n) entries))
-        go false q = rw q later
-        go true q =
-            let same : (node_of f == node_of e) ≡ true = subst (λ k. (node_of f == k) ≡ true) (sym is) q in
-            let less : not (nat_lt f.link e.link) ≡ true = subst (λ b. not (b && nat_lt f.link e.link) ≡ true) same p in
-            rw q (not_below e.link f.link less, later)
+      at f p later = by_test (node_of f == n)
+          (λ q. let same : (node_of f == node_of e) ≡ true = subst (λ k. (node_of f == k) ≡ true) (sym is) q in
+          let less : not (nat_lt f.link e.link) ≡ true = subst (λ b. not (b && nat_lt f.link e.link) ≡ true) same p in
+          rw q (not_below e.link f.link less, later))
+          (λ q. rw q later)
 
       one : (x : Entry) → not (option_map_or (is_earlier e) (turn_end x) false) ≡ true
           → AllByRecursion (λ k. e.link ≤ k) (filter_map (turn_link n) entries) → AllByRecursion (λ k. e.link ≤ k) (filter_map (turn_link n) (x ∷ entries))
@@ -64,11 +62,7 @@ rise_ascends n (x ∷ entries) rise =
     one x both.0 (rise_ascends n entries both.1) where
       at : (e : End) → none_earlier e entries ≡ true → IsAscending (filter_map (turn_link n) entries)
           → IsAscending (cons_option (if node_of e == n then Some e.link else None) (filter_map (turn_link n) entries))
-      at e p later = go (node_of e == n) refl where
-        go : (c : Bool) → (node_of e == n) ≡ c
-            → IsAscending (cons_option (if node_of e == n then Some e.link else None) (filter_map (turn_link n) entries))
-        go false q = rw q later
-        go true q = rw q (low n e entries (eqb-true (node_of e) n q) p, later)
+      at e p later = by_test (node_of e == n) (λ q. rw q (low n e entries (eqb-true (node_of e) n q) p, later)) (λ q. rw q later)
 
       one : (x : Entry) → option_map_or (λ e. none_earlier e entries) (turn_end x) true ≡ true → IsAscending (filter_map (turn_link n) entries)
           → IsAscending (filter_map (turn_link n) (x ∷ entries))

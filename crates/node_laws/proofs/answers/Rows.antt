@@ -17,11 +17,12 @@ use Rattle.gate_admin.specs.Decide.{answers, commits, unless_refused, tests_of_p
 use Rattle.gate_admin.specs.Decide.{carried_out, decided}
 use Rattle.link_laws.specs.machine.Machine.{Message}
 use Rattle.node_machine.specs.Parts.{About, NodeView}
-use Rattle.node_machine.specs.Parts.About.{Waits, Forgotten, Removed}
+use Rattle.node_machine.specs.Parts.About.{Waits}
 use Rattle.node_machine.specs.Parts.Deed.{Sends, Drops}
 use Rattle.node_machine.specs.Controller.{relayed_to, unrelayed, unless_asking, kind_deeds, own_deeds, relay_deeds, deeds_by_relay, controller_deeds}
 use Rattle.node_machine.specs.Controller.{decision_deeds, gate_deeds, own_gate, goes_through, served_at}
 use Rattle.node_laws.specs.answers.Rows.{first_row, is_order, far_host, is_relayed, decides, controller_rows}
+use Rattle.node_laws.proofs.Cases.{by_option, by_test}
 
 and_false : (a : Bool) → (a && false) ≡ false
 and_false true = refl
@@ -46,14 +47,12 @@ module _ (v : NodeView) (h : ℕ) (m : Message) where
 
   -- a pipe whose other end isn't the controller isn't pipe 01
   not_one : (end : ℕ × ℕ) → far_end v.own.tables h m.0 ≡ Some end → eqb end.0 0 ≡ false → eqb m.0 1 ≡ false
-  not_one end f off = go (eqb m.0 1) refl where
-    go : (b : Bool) → eqb m.0 1 ≡ b → eqb m.0 1 ≡ false
-    go false q = q
-    go true q =
-        let one = eqb-true m.0 1 q in
-        let is : Some (0, 0) ≡ Some end = sym (ap (far_end v.own.tables h) one) ∙ f in
-        let z : (0, 0) ≡ end = cc is in
-        absurd (true≢false (ap (λ (e : ℕ × ℕ). eqb e.0 0) z ∙ off))
+  not_one end f off = by_test (eqb m.0 1)
+      (λ q. let one = eqb-true m.0 1 q in
+      let is : Some (0, 0) ≡ Some end = sym (ap (far_end v.own.tables h) one) ∙ f in
+      let z : (0, 0) ≡ end = cc is in
+      absurd (true≢false (ap (λ (e : ℕ × ℕ). eqb e.0 0) z ∙ off)))
+      (λ q. q)
 
   -- what is relayed goes over an opened pipe to the host at its other end, and isn't its opening or closing
   pub record IsRelayed (other : ℕ) : Type 0 where
@@ -69,13 +68,11 @@ module _ (v : NodeView) (h : ℕ) (m : Message) where
   relayed_so other relayed = by (is_opened v.own.tables h m.0) (far_end v.own.tables h m.0) (header_of m.1) refl refl refl where
     at_end : (o : is_opened v.own.tables h m.0 ≡ true) (e3 : is_order 3 m ≡ false) (e4 : is_order 4 m ≡ false) (end : ℕ × ℕ)
         → far_end v.own.tables h m.0 ≡ Some end → cond (eqb end.0 0) None (Some end.0) ≡ Some other → IsRelayed other
-    at_end o e3 e4 end f is = split (eqb end.0 0) refl where
-      split : (b : Bool) → eqb end.0 0 ≡ b → IsRelayed other
-      split true q = let z = rw q at is in absurd (cc z)
-      split false q =
-          let z : Some end.0 ≡ Some other = rw q at is in
-          let same : end.0 ≡ other = cc z in
-          record { opened = o; end = end; far = f; same = same; host = q; not_opening = e3; not_closing = e4 }
+    at_end o e3 e4 end f is = by_test (eqb end.0 0)
+        (λ q. let z = rw q at is in absurd (cc z))
+        (λ q. let z : Some end.0 ≡ Some other = rw q at is in
+        let same : end.0 ≡ other = cc z in
+        record { opened = o; end = end; far = f; same = same; host = q; not_opening = e3; not_closing = e4 })
 
     command : (n : ℕ) (p3 p4 : Bool) → header_of m.1 ≡ Ok (IsCommand, n) → eqb n 3 ≡ p3 → eqb n 4 ≡ p4 → is_opened v.own.tables h m.0 ≡ true
         → (f : Option (ℕ × ℕ)) → far_end v.own.tables h m.0 ≡ f → IsRelayed other
@@ -102,10 +99,7 @@ module _ (v : NodeView) (h : ℕ) (m : Message) where
   stays none = by (is_opened v.own.tables h m.0) (far_end v.own.tables h m.0) (header_of m.1) refl refl refl where
     at_end : (o : is_opened v.own.tables h m.0 ≡ true) (e3 : is_order 3 m ≡ false) (e4 : is_order 4 m ≡ false) (end : ℕ × ℕ)
         → far_end v.own.tables h m.0 ≡ Some end → cond (eqb end.0 0) None (Some end.0) ≡ None → is_relayed v h m ≡ false
-    at_end o e3 e4 end f is = split (eqb end.0 0) refl where
-      split : (b : Bool) → eqb end.0 0 ≡ b → is_relayed v h m ≡ false
-      split true q = rw (o, e3, e4, f, q) refl
-      split false q = let z = rw q at is in absurd (cc z)
+    at_end o e3 e4 end f is = by_test (eqb end.0 0) (λ q. rw (o, e3, e4, f, q) refl) (λ q. let z = rw q at is in absurd (cc z))
 
     command : (n : ℕ) (p3 p4 : Bool) → header_of m.1 ≡ Ok (IsCommand, n) → eqb (instruction_in m.1) 3 ≡ p3 → eqb (instruction_in m.1) 4 ≡ p4
         → is_opened v.own.tables h m.0 ≡ true → (f : Option (ℕ × ℕ)) → far_end v.own.tables h m.0 ≡ f → is_relayed v h m ≡ false
@@ -159,10 +153,7 @@ module _ (v : NodeView) (h : ℕ) (m : Message) where
           let e3 : eqb (instruction_in m.1) 3 ≡ false = rw x at so.not_opening in
           let e4 : eqb (instruction_in m.1) 4 ≡ false = rw x at so.not_closing in
           rw (off, up, x, so.far, one, so.opened, e3, e4, so.host) refl
-      kind (Ok (IsEvent, n)) x = by_post (eqb n 2) refl where
-        by_post : (p : Bool) → eqb n 2 ≡ p → unrelayed (v.up h) h m ≡ first_row (controller_rows v h m)
-        by_post true q = rw (off, up, x, q, so.opened, so.far, so.host) refl
-        by_post false q = rw (off, up, x, q) refl
+      kind (Ok (IsEvent, n)) x = by_test (eqb n 2) (λ q. rw (off, up, x, q, so.opened, so.far, so.host) refl) (λ q. rw (off, up, x, q) refl)
       kind (Ok (IsResponse, n)) x = rw (off, up, x, one) refl
       kind (Err fault) x = rw (off, up, x) refl
 
@@ -221,11 +212,7 @@ module _ (v : NodeView) (h : ℕ) (m : Message) where
 
           no_gate : (b : Bool) → eqb (instruction_in m.1) 3 ≡ b → (b || eqb (instruction_in m.1) 4) ≡ true
               → cond (goes_through v.own.tables h m.0 (instruction_in m.1)) (own_gate v.own.tables h m.0) None ≡ None
-          no_gate b e3 either = by (is_opened v.own.tables h m.0) refl where
-            by : (o : Bool) → is_opened v.own.tables h m.0 ≡ o
-                → cond (goes_through v.own.tables h m.0 (instruction_in m.1)) (own_gate v.own.tables h m.0) None ≡ None
-            by true o = rw (o, e3, either) refl
-            by false o = rw o refl
+          no_gate b e3 either = by_test (is_opened v.own.tables h m.0) (λ o. rw (o, e3, either) refl) (λ o. rw o refl)
 
           opens : eqb (instruction_in m.1) 3 ≡ true → (o l : Bool) → is_opened v.own.tables h m.0 ≡ o → eqb (length (body_in m.1)) 0 ≡ l → OfCommand
           opens e3 o l is e = by o l is e where
@@ -297,10 +284,7 @@ module _ (v : NodeView) (h : ℕ) (m : Message) where
           → eqb end.0 0 ≡ e0 → eqb end.1 0 ≡ e1 → kind_deeds v h m (Ok (IsEvent, n)) ≡ first_row (controller_rows v h m)
       at_gate end f o q false e1 z y = rw (off, up, x, o, q, f, z) refl
       at_gate end f o q true true z y = rw (off, up, x, o, q, f, z, eqb-true end.1 0 y) refl
-      at_gate end f o q true false z y = four (eqb end.1 4) refl where
-        four : (b : Bool) → eqb end.1 4 ≡ b → kind_deeds v h m (Ok (IsEvent, n)) ≡ first_row (controller_rows v h m)
-        four true is = rw (off, up, x, o, q, f, z, y, is) refl
-        four false is = rw (off, up, x, o, q, f, z, y, is) refl
+      at_gate end f o q true false z y = by_test (eqb end.1 4) (λ is. rw (off, up, x, o, q, f, z, y, is) refl) (λ is. rw (off, up, x, o, q, f, z, y, is) refl)
 
       by : (o p : Bool) (f : Option (ℕ × ℕ)) → is_opened v.own.tables h m.0 ≡ o → eqb n 2 ≡ p → far_end v.own.tables h m.0 ≡ f
           → kind_deeds v h m (Ok (IsEvent, n)) ≡ first_row (controller_rows v h m)
@@ -319,8 +303,7 @@ module _ (v : NodeView) (h : ℕ) (m : Message) where
           → kind_deeds v h m (Ok (IsResponse, instruction_in m.1)) ≡ first_row (controller_rows v h m)
       by false o one is = rw (off, up, x, one) refl
       by true (Some (Waits c)) one is = rw (off, up, x, one, is) refl
-      by true (Some Forgotten) one is = rw (off, up, x, one, is) refl
-      by true (Some Removed) one is = rw (off, up, x, one, is) refl
+      by true (Some _) one is = rw (off, up, x, one, is) refl
       by true None one is = rw (off, up, x, one, is) (ap (λ pid. Drops pid ∷ []) (sym (eqb-true m.0 1 one)))
 
     own_row : (hd : Result (MessageKind × ℕ) MessageFault) → header_of m.1 ≡ hd → AsRow
@@ -338,7 +321,7 @@ module _ (v : NodeView) (h : ℕ) (m : Message) where
   dropped none down = ap (deeds_by_relay v h m) none ∙ ap (own_deeds v h m) down ∙ rw (stays none, down) refl
 
   pub controller_by_rows : AsRow
-  controller_by_rows = by (relayed_to v.own.tables h m) refl where
+  controller_by_rows = by_option (relayed_to v.own.tables h m) (λ is. here (v.up h) is refl) (λ other is. at_other other (v.up other) is refl) where
     at_other : (other : ℕ) (b : Bool) → relayed_to v.own.tables h m ≡ Some other → v.up other ≡ b → AsRow
     at_other other true is up = sent other is up
     at_other other false is down = unsent other is down
@@ -346,7 +329,3 @@ module _ (v : NodeView) (h : ℕ) (m : Message) where
     here : (b : Bool) → relayed_to v.own.tables h m ≡ None → v.up h ≡ b → AsRow
     here true none up = own_row none up (header_of m.1) refl
     here false none down = dropped none down
-
-    by : (o : Option ℕ) → relayed_to v.own.tables h m ≡ o → AsRow
-    by (Some other) is = at_other other (v.up other) is refl
-    by None is = here (v.up h) is refl

@@ -4,7 +4,7 @@ use Rattle.std.specs.Prelude.{is_some, not, ◌&&◌}
 use Rattle.std.specs.List.{AllByRecursion}
 use Rattle.std.proofs.lemmas.Bool.{cond_both}
 use Rattle.swp_base.specs.declared.control_frames.Control.{Control}
-use Rattle.swp_base.specs.declared.control_frames.Control.TheVariants.{I, S, Rset, Ua, Act as ActFrame, Clt}
+use Rattle.swp_base.specs.declared.control_frames.Control.TheVariants.{Act as ActFrame}
 use Rattle.link_laws.specs.sessions.Sessions.{OnWire}
 use Rattle.shdlc_core.specs.Machine.{is_waiting}
 use Rattle.link_laws.specs.machine.Machine.{LinkEnd, Role, LinkInput, Turn, turned, after_input, ended_by}
@@ -53,11 +53,7 @@ plain_wire (Uicc u) f w v a b line = absurd a
 
 once_frame : (c : Control) → is_again c ≡ false → ComesOnce (Take c)
 once_frame (ActFrame act again) off = off
-once_frame (I ns nr info) off = tt
-once_frame (S kind nr) off = tt
-once_frame (Rset w caps) off = tt
-once_frame Ua off = tt
-once_frame Clt off = tt
+once_frame _ off = tt
 
 first_once : (w : List OnWire) → Without is_again w → FirstOnce w
 first_once [] none = tt

@@ -10,7 +10,7 @@ use Rattle.trace_model.specs.Ends.{other_end}
 use Rattle.hcp_packet.specs.Packets.{good_of, IsFrontOf}
 use Rattle.history.specs.Filters.{sent_in, got_in}
 use Rattle.node_machine.specs.world.World.{NodeWorld, Site, Happening, new_world, world_step}
-use Rattle.node_machine.specs.world.World.Happening.{Boots, IsCut, Gives, Inits, Takes, Loses, Ticks, Resets, Activates, Arms}
+use Rattle.node_machine.specs.world.World.Happening.{Boots, Gives, Resets, Activates}
 use Rattle.node_machine.specs.world.Lines.{Occurrence, can_happen, all_happen}
 use Rattle.node_machine.specs.world.NodeHistories.{FollowsNodes, NodeHistory, entries_in}
 use Rattle.node_laws.specs.kept.Hosts.{AreHosts}
@@ -33,28 +33,14 @@ use Rattle.node_laws.proofs.bounds.Paying.{few_committed, other_twice}
 
 -- what may come may happen
 may_happen : (w : NodeWorld) (c : Happening) → MayBeCaused w c → MayHappen w c
-may_happen w (Boots n) may = tt
-may_happen w (IsCut n) may = tt
 may_happen w (Gives e m) may = may
-may_happen w (Inits e identity pipes) may = tt
-may_happen w (Takes e) may = tt
-may_happen w (Loses e why) may = tt
-may_happen w Ticks may = tt
 may_happen w (Resets e window) may = may
 may_happen w (Activates h sync power) may = may
-may_happen w (Arms n plan) may = tt
+may_happen w _ may = tt
 
 may_boot : (w : NodeWorld) (c : Happening) → MayBeCaused w c → MayBoot w c
 may_boot w (Boots n) may = may
-may_boot w (IsCut n) may = tt
-may_boot w (Gives e m) may = tt
-may_boot w (Inits e identity pipes) may = tt
-may_boot w (Takes e) may = tt
-may_boot w (Loses e why) may = tt
-may_boot w Ticks may = tt
-may_boot w (Resets e window) may = tt
-may_boot w (Activates h sync power) may = tt
-may_boot w (Arms n plan) may = tt
+may_boot w _ may = tt
 
 -- A world and what happened until then: its links are told, what waits at its ends is read, and all was paid for, but for what came of
 -- the causes.

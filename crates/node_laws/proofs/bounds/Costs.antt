@@ -10,7 +10,7 @@ use Rattle.trace_model.specs.declared.entry.Entry.TheVariants as entry
 use Rattle.link_laws.specs.machine.Machine.{Message, Report, Refused}
 use Rattle.link_laws.specs.entries.Entries.{End as Side, Entry as Noted, if_so, told, sent_unless}
 use Rattle.link_laws.specs.entries.Entries.End.{Controller, Host}
-use Rattle.link_laws.specs.entries.Entries.Entry.{Up, Down, Active, GaveUp, Acked, Got, Sent, Emit, Took, Lost, Tick as Ticked, Restarted, Cut}
+use Rattle.link_laws.specs.entries.Entries.Entry.{Up, Down, Active, GaveUp, Acked, Got, Sent}
 use Rattle.history.specs.Steps.{entry_of, entries_for}
 use Rattle.node_machine.specs.Controller.{is_command_message}
 
@@ -101,19 +101,8 @@ abbrev pub AreNoSents : List Noted → Type 0
 AreNoSents notes = AllByRecursion IsNoSent notes
 
 note_free : (h : ℕ) (x : Noted) → IsNoSent x → costs (entry_of h x) ≡ 0
-note_free h (Up who n) a = refl
-note_free h (Down who cause) a = refl
-note_free h (Active who) a = refl
-note_free h (GaveUp who tries) a = refl
-note_free h (Acked who n count) a = refl
-note_free h (Got who n m) a = refl
 note_free h (Sent who n m) a = absurd a
-note_free h (Emit who frame) a = refl
-note_free h (Took who frame) a = refl
-note_free h (Lost who frame why) a = refl
-note_free h Ticked a = refl
-note_free h (Restarted who) a = refl
-note_free h (Cut who) a = refl
+note_free h _ a = refl
 
 pub notes_free : (h : ℕ) (notes : List Noted) → AreNoSents notes → costs_at h notes ≡ 0
 notes_free h [] a = refl

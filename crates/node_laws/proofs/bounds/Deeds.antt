@@ -12,7 +12,7 @@ use Rattle.hci_tables.specs.declared.command.Command.{Command}
 use Rattle.hci_tables.specs.Bodies.{body_of}
 use Rattle.hci_store.specs.Committing.{commit_writes}
 use Rattle.link_laws.specs.machine.Machine.{Message, Turn, give_refusal}
-use Rattle.link_laws.specs.machine.Machine.Turn.{Give, Hold, FetchMessage, SetAside, Release}
+use Rattle.link_laws.specs.machine.Machine.Turn.{Give, SetAside, Release}
 use Rattle.link_laws.specs.entries.Entries.{End as Side}
 use Rattle.node_machine.specs.Parts.{Init, Creation, Notice, Core, Port, Work, Deed}
 use Rattle.node_machine.specs.Parts.About.{Waits, Removed}
@@ -100,10 +100,7 @@ module _ (side : Side) (all : ℕ) where
       ap (λ s. message_cost (is_host_side s) m.0 m.1) is in
       let few = most m refl in
       omega (arith, one, same, few)
-  turn_most core (Hold held) k is (Some p) most = omega arith
-  turn_most core FetchMessage k is (Some p) most = omega arith
-  turn_most core SetAside k is (Some p) most = omega arith
-  turn_most core Release k is (Some p) most = omega arith
+  turn_most core _ k is (Some p) most = omega arith
 
   turned_so : (left k h : ℕ) (t : Turn) (w : Work) → ((m : Message) → t ≡ Give m → message_cost (is_host_side side) m.0 m.1 ≤ k)
       → Owes side (left + k) all w → Owes side left all (turn_at h t w)

@@ -10,7 +10,7 @@ use Rattle.trace_model.specs.declared.line.Line.{Line}
 use Rattle.trace_model.specs.declared.line.Line.TheVariants as line
 use Rattle.trace_model.specs.Lines.{IsNodeHeader}
 use Rattle.history.specs.Damage.{Verdict}
-use Rattle.history.specs.Damage.Verdict.{Same, LostFor, Undetected}
+use Rattle.history.specs.Damage.Verdict.{Same}
 use Rattle.history.specs.Follows.{first_verdict, taken_of}
 use Rattle.node_machine.specs.Parts.{Running}
 use Rattle.node_machine.specs.world.World.{NodeWorld, Happening, node_at, new_world, world_step}
@@ -40,19 +40,16 @@ both_on false why q = absurd (cc q)
 line_may : (w : NodeWorld) (l : Line) → IsPlayable l → refusal_in w l ≡ None → AllMay MayBeCaused w (happenings w l)
 line_may w (line.Send e pid message) p q = (p, tt)
 line_may w (line.Deliver e count) p q = repeated_may MayBeCaused (Takes e) (λ v. tt) (taken_of count (frames_at w e)) w
-line_may w (line.Lose e) p q = (tt, tt)
 line_may w (line.Damage e places) p q = damaged_may MayBeCaused w e tt (λ why. tt) (first_verdict (frames_at w e) places.items)
 line_may w (line.Tick times) p q = repeated_may MayBeCaused Ticks (λ v. tt) (unwrap_or times 1) w
 line_may w (line.Reset e window) p q = (p, tt)
 line_may w (line.Busy e) p q = tt
 line_may w (line.Ready e) p q = tt
 line_may w (line.Boot n) p q = (off_none (node_at w n) q, tt)
-line_may w (line.Cut n) p q = (tt, tt)
 line_may w (line.Activate host sync power) p q = (both_on (is_some w.controller) (if_off w host) q, tt)
-line_may w (line.Arm n nth fill) p q = (tt, tt)
-line_may w (line.Init e identity pipes) p q = (tt, tt)
 line_may w (line.Tables n) p q = tt
 line_may w (line.Settle n) p q = tt
+line_may w _ p q = (tt, tt)
 
 caused_so : (events : List Occurrence) (w : NodeWorld) → AreCaused MayBeCaused w events → AreCausedSo w events
 caused_so [] w are = tt
@@ -84,25 +81,14 @@ none_by (suc n) c none = let rest = none_by n c none in omega (arith, none, rest
 damaged_by : (e : End) (o : Option Verdict) → commands_by_all (happens_by e o) ≡ 0
 damaged_by e None = refl
 damaged_by e (Some Same) = refl
-damaged_by e (Some (LostFor why)) = refl
-damaged_by e (Some (Undetected read)) = refl
+damaged_by e (Some _) = refl
 
 line_most : (header : Header) (w : NodeWorld) (l : Line) → IsNodeLineOf header l → commands_by_all (happenings w l) ≤ 234 * asking l
-line_most header w (line.Send e pid message) is = omega arith
 line_most header w (line.Deliver e count) is = let none = none_by (taken_of count (frames_at w e)) (Takes e) refl in omega (arith, none)
-line_most header w (line.Lose e) is = omega arith
 line_most header w (line.Damage e places) is = let none = damaged_by e (first_verdict (frames_at w e) places.items) in omega (arith, none)
 line_most header w (line.Tick times) is = let none = none_by (unwrap_or times 1) Ticks refl in omega (arith, none)
-line_most header w (line.Reset e window) is = omega arith
-line_most header w (line.Busy e) is = omega arith
-line_most header w (line.Ready e) is = omega arith
-line_most header w (line.Boot n) is = omega arith
-line_most header w (line.Cut n) is = omega arith
-line_most header w (line.Activate host sync power) is = omega arith
-line_most header w (line.Arm n nth fill) is = omega arith
 line_most header w (line.Init e identity pipes) is = let few = is.few in omega (arith, few)
-line_most header w (line.Tables n) is = omega arith
-line_most header w (line.Settle n) is = omega arith
+line_most header w _ is = omega arith
 
 by-append : (xs ys : List Occurrence) → commands_by_events (xs ++ ys) ≡ commands_by_events xs + commands_by_events ys
 by-append [] ys = omega arith
@@ -135,14 +121,12 @@ goes_most w (line.Lose e) = happened_most (happenings w (line.Lose e)) w
 goes_most w (line.Damage e places) = happened_most (happenings w (line.Damage e places)) w
 goes_most w (line.Tick times) = happened_most (happenings w (line.Tick times)) w
 goes_most w (line.Reset e window) = happened_most (happenings w (line.Reset e window)) w
-goes_most w (line.Busy e) = happened_most [] w
-goes_most w (line.Ready e) = happened_most [] w
 goes_most w (line.Boot n) = happened_most (happenings w (line.Boot n)) w
 goes_most w (line.Cut n) = happened_most (happenings w (line.Cut n)) w
 goes_most w (line.Activate host sync power) = happened_most (happenings w (line.Activate host sync power)) w
 goes_most w (line.Arm n nth fill) = happened_most (happenings w (line.Arm n nth fill)) w
 goes_most w (line.Init e identity pipes) = happened_most (happenings w (line.Init e identity pipes)) w
-goes_most w (line.Settle n) = happened_most [] w
+goes_most w _ = happened_most [] w
 
 step_most : (header : Header) (w : NodeWorld) (l : Line) → IsNodeLineOf header l → commands_by_events (occurrences_of (line_step w l).1) ≤ 234 * asking l
 step_most header w l is = go (refusal_in w l) where

@@ -3,15 +3,15 @@ use Rattle.std.proofs.Common.{◌≡◌, ℕ, zero, suc, ◌+◌, ◌-◌, ◌�
 use Rattle.std.proofs.Common.{arith, Some}
 use Rattle.std.specs.Prelude.{nat_lt, is_some}
 use Rattle.swp_base.specs.declared.control_frames.Control.{Control}
-use Rattle.swp_base.specs.declared.control_frames.Control.TheVariants.{I, S, Rset, Ua, Act as ActFrame, Clt}
+use Rattle.swp_base.specs.declared.control_frames.Control.TheVariants.{Act as ActFrame}
 use Rattle.shdlc_core.specs.Machine.{most_frames}
 use Rattle.swp_base.specs.declared.control_frames.Act.{Act}
-use Rattle.swp_base.specs.declared.control_frames.Act.TheVariants.{Ready, SyncId, PowerMode}
+use Rattle.swp_base.specs.declared.control_frames.Act.TheVariants.{Ready}
 use Rattle.link_laws.specs.sessions.Sessions.{OnWire, fits, aged_wire, is_rset}
 use Rattle.link_laws.specs.sessions.Losses.{is_act}
 use Rattle.link_laws.specs.machine.Machine.{LinkEnd, ActDue, Role, LinkInput, Turn, among, frames_out, after_input, turned, renewed, started, deactivated}
 use Rattle.link_laws.specs.machine.Machine.{ended_by}
-use Rattle.link_laws.specs.machine.Machine.Role.{Bare, Clf, Uicc}
+use Rattle.link_laws.specs.machine.Machine.Role.{Bare}
 use Rattle.link_laws.specs.machine.Machine.LinkInput.{Take, Tick, Reset, Start, Stop}
 use Rattle.link_laws.specs.messages.Links.{Link, Ending, Comes, IsUicc, put, put_all, with_ended, finished, has_input, has_taken, silent}
 use Rattle.link_laws.specs.messages.Links.{steps_at_controller, ticks_at_controller}
@@ -58,11 +58,7 @@ in-append (c ∷ xs) ys = let rest = in-append xs ys in omega (arith, rest)
 
 plain_frame : (c : Control) → is_act c ≡ false → sync_frame c ≡ 0
 plain_frame (ActFrame act again) off = absurd (cc off)
-plain_frame (I ns nr info) off = refl
-plain_frame (S kind nr) off = refl
-plain_frame (Rset w caps) off = refl
-plain_frame Ua off = refl
-plain_frame Clt off = refl
+plain_frame _ off = refl
 
 none_in : (cs : List Control) → NoActs cs → syncs_in cs ≡ 0
 unfolding syncs_in
@@ -83,8 +79,7 @@ act_frame_is : (a : ActDue) → sync_frame (ActFrame a.frame false) ≡ sync_act
 act_frame_is a = by a.frame where
   by : (act : Act) → sync_frame (ActFrame act false) ≡ sync_act (Some act)
   by Ready = refl
-  by (SyncId id) = refl
-  by (PowerMode code) = refl
+  by _ = refl
 
 among_syncs : (n : ℕ) (acts : List ActDue) (cs : List Control) → NoActs cs → syncs_in (among n acts cs) ≡ syncs_due acts
 unfolding syncs_in
@@ -139,8 +134,7 @@ out_holds l = syncs_on l.to_host + tries_of l.controller.side.role
 
 renewed_none : (r : Role) → tries_of (renewed r) ≡ 0
 renewed_none Bare = refl
-renewed_none (Clf s) = refl
-renewed_none (Uicc s) = refl
+renewed_none _ = refl
 
 finished_out : (l : Link) (e : LinkEnd) (ending : Ending) → out_holds (finished l e ending) ≤ syncs_on l.to_host + may_send e
 finished_out l e GoesOut = let put = put_all_syncs (frames_out e) l in let is = out_syncs e in omega (arith, put, is)

@@ -13,7 +13,7 @@ use Rattle.hcp_packet.specs.Packets.{good_of, is_good, IsFrontOf}
 use Rattle.link_laws.specs.machine.Machine.{Message}
 use Rattle.link_laws.specs.entries.Entries.{End as Side}
 use Rattle.history.specs.Filters.{Saying, said, at_end, same_end, said_of, sent_by, sent_in, got_in_session, got_in}
-use Rattle.history.specs.Filters.Saying.{Begins, Ends, Sends, Gets, Counts, Puts, Takes, Loses}
+use Rattle.history.specs.Filters.Saying.{Gets}
 use Rattle.node_machine.specs.Parts.{Port, Work}
 use Rattle.node_machine.specs.Carrying.{end_of_node, port_at}
 use Rattle.node_machine.specs.Turns.{deeds_of, handles, holds_back, lets_go}
@@ -65,14 +65,8 @@ SaysNoGet (Some (f, saying)) = IsNoGet saying
 
 said_none : (b : Bool) (n : ℕ) (saying : Saying) → IsNoGet saying → got_in_session n (if b then Some saying else None) ≡ None
 said_none false n saying none = refl
-said_none true n (Begins k) none = refl
-said_none true n Ends none = refl
-said_none true n (Sends k m) none = refl
 said_none true n (Gets k m) none = absurd none
-said_none true n (Counts k c) none = refl
-said_none true n (Puts bytes) none = refl
-said_none true n (Takes bytes) none = refl
-said_none true n (Loses bytes) none = refl
+said_none true n _ none = refl
 
 ungot : (n : ℕ) (f : End) (o : Option (End × Saying)) → SaysNoGet o → got_in_session n (at_end f o) ≡ None
 ungot n f None none = refl

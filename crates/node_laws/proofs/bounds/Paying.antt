@@ -7,7 +7,7 @@ use Rattle.trace_model.specs.declared.line.End.{End}
 use Rattle.trace_model.specs.Ends.{other_end}
 use Rattle.hcp_packet.specs.Packets.{good_of, IsFrontOf}
 use Rattle.history.specs.Filters.{Saying, said, at_end, same_end, said_of, sent_by, sent_in, got_in}
-use Rattle.history.specs.Filters.Saying.{Begins, Ends, Sends, Gets, Counts, Puts, Takes, Loses}
+use Rattle.history.specs.Filters.Saying.{Sends}
 use Rattle.history.proofs.Filters.{same_end_itself}
 use Rattle.node_machine.specs.world.NodeLegal.{AreInTurn}
 use Rattle.node_laws.proofs.schedules.Ends.{count, one_at, ends_same, fewer}
@@ -92,14 +92,8 @@ SaysNoSend (Some (f, saying)) = IsNoSend saying
 
 said_none : (b : Bool) (n : ℕ) (saying : Saying) → IsNoSend saying → sent_by n (if b then Some saying else None) ≡ None
 said_none false n saying none = refl
-said_none true n (Begins k) none = refl
-said_none true n Ends none = refl
 said_none true n (Sends k m) none = absurd none
-said_none true n (Gets k m) none = refl
-said_none true n (Counts k c) none = refl
-said_none true n (Puts bytes) none = refl
-said_none true n (Takes bytes) none = refl
-said_none true n (Loses bytes) none = refl
+said_none true n _ none = refl
 
 unsent : (n : ℕ) (f : End) (o : Option (End × Saying)) → SaysNoSend o → sent_by n (at_end f o) ≡ None
 unsent n f None none = refl

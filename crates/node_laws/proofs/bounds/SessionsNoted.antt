@@ -9,7 +9,7 @@ use Rattle.link_laws.specs.sessions.Sessions.{OnWire, is_rset, is_up, took_with}
 use Rattle.link_laws.specs.machine.Machine.{LinkEnd, LinkInput, Refused, Report, Turn, after_input, deactivated, ended_by, frames_out, give_refusal, report}
 use Rattle.link_laws.specs.machine.Machine.{started, turn, turned, whole_acked, new_link_end, renewed, sent_all}
 use Rattle.link_laws.specs.machine.Machine.LinkInput.{Take, Tick as HasTick, Reset, Start, Stop}
-use Rattle.link_laws.specs.machine.Machine.Turn.{Give, Hold, FetchMessage, SetAside, Release}
+use Rattle.link_laws.specs.machine.Machine.Turn.{Give}
 use Rattle.link_laws.specs.messages.Links.{NumberedEnd, Link, Ending, Comes, Loss, EndEvent, LinkEvent, Node, IsStart, number_of, put, put_all}
 use Rattle.link_laws.specs.messages.Links.{with_controller, with_ended, silent, finished, has_input, has_taken, has_restarted, steps_at_controller}
 use Rattle.link_laws.specs.messages.Links.{ticks_at_controller, exchanged, aged, happens_at_controller, all_at_controller, happens, after_link_events}
@@ -23,10 +23,11 @@ use Rattle.link_laws.specs.entries.Entries.{put_entries, puts_entries, ending_en
 use Rattle.link_laws.specs.entries.Entries.{restart_entries, step_entries, here_entries, entries_of_events, aged_entries, tick_entries, event_entries}
 use Rattle.link_laws.specs.entries.Entries.{entries, far}
 use Rattle.link_laws.specs.entries.Entries.End.{Controller, Host}
-use Rattle.link_laws.specs.entries.Entries.Entry.{Up, Down, Active, GaveUp, Acked, Got, Sent, Emit, Took, Lost, Tick, Restarted, Cut}
+use Rattle.link_laws.specs.entries.Entries.Entry.{Up, Down, Active, GaveUp, Acked, Got, Sent, Tick, Restarted, Cut}
 use Rattle.history.specs.Steps.{entry_of, entries_for}
 use Rattle.link_laws.specs.messages.Rsets.{HasLowNumbers}
 use Rattle.node_laws.specs.bounds.Resets.{NotedWithin, AreNotedWithin, SessionWithin, AreSessionsWithin}
+use Rattle.node_laws.proofs.Cases.{by_test}
 use Rattle.link_laws.proofs.messages.RsetNumbers.{number_low, exchanged_numbered, aged_numbered, silent_numbered, took_low}
 use Rattle.link_laws.proofs.messages.RsetNumbers.{steps_numbered, tick_numbered, here_numbered, all_numbered, event_numbered, start_numbered}
 
@@ -74,10 +75,7 @@ turn_within n who k e (Give m) q = go (give_refusal e m)
     go : (o : Option Refused) → AreNotedWithin n (sent_unless o who k m)
     go None = (q, tt)
     go (Some why) = tt
-turn_within n who k e (Hold held) q = tt
-turn_within n who k e FetchMessage q = tt
-turn_within n who k e SetAside q = tt
-turn_within n who k e Release q = tt
+turn_within n who k e _ q = tt
 
 turns_within : (n : ℕ) (who : End) (k : ℕ) (ts : List Turn) (e : LinkEnd) → k ≤ n → AreNotedWithin n (turn_entries who k e ts)
 turns_within n who k [] e q = tt
@@ -211,11 +209,7 @@ here_within who l (Lose why) a = lost_within l.resets who why l.to_controller
 -- ## The numbers grow
 
 put_grows : (l : Link) (c : Control) → l.resets ≤ (put l c).resets
-put_grows l c = go (is_rset c) refl
-  where
-    go : (b : Bool) → is_rset c ≡ b → l.resets ≤ (put l c).resets
-    go true q = rw q (omega arith)
-    go false q = rw q (omega arith)
+put_grows l c = by_test (is_rset c) (λ q. rw q (omega arith)) (λ q. rw q (omega arith))
 
 puts_grow : (cs : List Control) (l : Link) → l.resets ≤ (put_all l cs).resets
 puts_grow [] l = omega arith
@@ -368,18 +362,13 @@ run_within l start events = events_within events l (start_numbered l start)
 
 one_entry : (h n : ℕ) (x : Entry) → NotedWithin n x → AreSessionsWithin n (entry_of h x)
 one_entry h n (Up who k) a = (a, tt)
-one_entry h n (Down who cause) a = (tt, tt)
-one_entry h n (Active who) a = (tt, tt)
-one_entry h n (GaveUp who tries) a = (tt, tt)
 one_entry h n (Acked who k count) a = (a, tt)
 one_entry h n (Got who k m) a = (a, tt)
 one_entry h n (Sent who k m) a = (a, tt)
-one_entry h n (Emit who c) a = (tt, tt)
-one_entry h n (Took who c) a = (tt, tt)
-one_entry h n (Lost who c why) a = (tt, tt)
 one_entry h n Tick a = tt
 one_entry h n (Restarted who) a = tt
 one_entry h n (Cut who) a = tt
+one_entry h n _ a = (tt, tt)
 
 pub entries_within : (h n : ℕ) (t : List Entry) → AreNotedWithin n t → AreSessionsWithin n (entries_for h t)
 entries_within h n [] a = tt

@@ -25,7 +25,7 @@ use Rattle.link_laws.specs.machine.Machine.{turn, turned, after_input, unless, g
 use Rattle.link_laws.specs.machine.Machine.{role_after, act_answer, act_event, act_out, report}
 use Rattle.link_laws.specs.machine.Machine.Role.{Bare, Clf, Uicc}
 use Rattle.link_laws.specs.machine.Machine.LinkInput.{Take, TakeUnknown, TakeBroken, Tick, Reset, Start, Stop, FromNode, Fetch}
-use Rattle.link_laws.specs.machine.Machine.Turn.{Give, Hold, FetchMessage, SetAside, Release}
+use Rattle.link_laws.specs.machine.Machine.Turn.{Give, SetAside}
 use Rattle.link_laws.specs.messages.Links.{IsUicc}
 
 -- ## Frames with an identifier
@@ -84,8 +84,7 @@ IsOnce _ = Unit {0}
 one_most : (o : Option Act) → sync_act o ≤ 1
 one_most None = omega arith
 one_most (Some Ready) = omega arith
-one_most (Some (SyncId id)) = omega arith
-one_most (Some (PowerMode code)) = omega arith
+one_most (Some _) = omega arith
 
 uicc_sends : (s : UiccAct) (event : ActEvent) → IsOnce event
     → sync_act (uicc_step s event).1.send + tries_left (uicc_step s event).0.phase ≤ tries_left s.phase + start_event event
@@ -99,8 +98,7 @@ uicc_sends s (ActTake (PowerMode code) false) once =
   where
     powered : (p : Phase) → sync_act (uicc_powered p s).1.send + tries_left (uicc_powered p s).0.phase ≤ tries_left s.phase + 0
     powered Inactive = omega arith
-    powered (Awaiting tries ticks) = omega arith
-    powered Active = omega arith
+    powered _ = omega arith
 uicc_sends s ActTick once = ticks s.phase where
   ticks : (p : Phase) → sync_act (out_ticked p s.last).send + tries_left (phase_ticked p) ≤ tries_left p + 0
   ticks Inactive = omega arith
@@ -150,8 +148,7 @@ down_due true e = by e.shdlc.phase where
 
   by : (p : LinkState) → syncs_due (by_phase p).acts ≡ syncs_due e.acts
   by Up = due_front e.acts
-  by Waiting = due_front e.acts
-  by Down = due_front e.acts
+  by _ = due_front e.acts
 
 down_role : (b : Bool) (e : LinkEnd) → (put_down b e).role ≡ e.role
 down_role false e = refl
@@ -163,8 +160,7 @@ down_role true e = by e.shdlc.phase where
 
   by : (p : LinkState) → (by_phase p).role ≡ e.role
   by Up = refl
-  by Waiting = refl
-  by Down = refl
+  by _ = refl
 
 activated_sends : (e : LinkEnd) (event : ActEvent) → IsUicc e.role → IsOnce event → may_send (activated e event) ≤ may_send e + start_event event
 activated_sends e event is once = by e.role refl is where
@@ -255,13 +251,11 @@ turn_sends e (Give m) = by (give_refusal e m) where
   by : (o : Option Refused) → may_send (unless o e (given e m)) ≡ may_send e
   by None = refl
   by (Some why) = refl
-turn_sends e (Hold held) = refl
-turn_sends e FetchMessage = refl
 turn_sends e SetAside = by (aside_refusal e) where
   by : (o : Option Refused) → may_send (unless o e (record e { aside = e.aside + 1 })) ≡ may_send e
   by None = refl
   by (Some why) = refl
-turn_sends e Release = refl
+turn_sends e _ = refl
 
 pub turned_sends : (e : LinkEnd) (ts : List Turn) → may_send (turned e ts) ≡ may_send e
 turned_sends e [] = refl
@@ -299,26 +293,22 @@ uicc_none s (ActTake (PowerMode code) false) =
   where
     powered : (p : Phase) → sync_told (uicc_powered p s).1.sync ≡ 0
     powered Inactive = refl
-    powered (Awaiting tries ticks) = refl
-    powered Active = refl
+    powered _ = refl
 uicc_none s ActTick = tick_none s.phase s.last
 uicc_none s ActStop = refl
 
 clf_tells : (s : ClfAct) (event : ActEvent) → sync_told (clf_step s event).1.sync ≤ event_sync event
 clf_tells s (ActStart value) = omega arith
 clf_tells s (ActTake Ready true) = omega arith
-clf_tells s (ActTake (SyncId id) true) = omega arith
-clf_tells s (ActTake (PowerMode code) true) = omega arith
+clf_tells s (ActTake _ true) = omega arith
 clf_tells s (ActTake Ready false) = by s.phase where
   by : (p : Phase) → sync_told (clf_readied p s).1.sync ≤ 0
   by Inactive = omega arith
-  by (Awaiting tries ticks) = omega arith
-  by Active = omega arith
+  by _ = omega arith
 clf_tells s (ActTake (SyncId id) false) = by s.phase where
   by : (p : Phase) → sync_told (clf_synced p s id).1.sync ≤ 1
   by Inactive = omega arith
-  by (Awaiting tries ticks) = omega arith
-  by Active = omega arith
+  by _ = omega arith
 clf_tells s (ActTake (PowerMode code) false) = omega arith
 clf_tells s ActTick = let none = tick_none s.phase s.last in omega (arith, none)
 clf_tells s ActStop = omega arith
@@ -333,22 +323,14 @@ pub near_tells : (e : LinkEnd) (i : LinkInput) → sync_told (report e i).sync �
 near_tells e (Take (ActFrame Ready again)) = role_tells e.role (ActTake Ready again)
 near_tells e (Take (ActFrame (SyncId id) again)) = role_tells e.role (ActTake (SyncId id) again)
 near_tells e (Take (ActFrame (PowerMode code) again)) = role_tells e.role (ActTake (PowerMode code) again)
-near_tells e (Take Clt) = omega arith
-near_tells e (Take (I ns nr info)) = omega arith
-near_tells e (Take (S kind nr)) = omega arith
-near_tells e (Take (Rset w caps)) = omega arith
-near_tells e (Take Ua) = omega arith
-near_tells e TakeUnknown = omega arith
-near_tells e (TakeBroken fault) = omega arith
+near_tells e (Take _) = omega arith
 near_tells e Tick = by (is_open e.role) where
   by : (b : Bool) → sync_told (act_out e.role (cond b None (Some ActTick))).sync ≤ 0
   by true = omega arith
   by false = role_tells e.role ActTick
-near_tells e (Reset window) = omega arith
 near_tells e (Start value) = role_tells e.role (ActStart value)
 near_tells e Stop = role_tells e.role ActStop
-near_tells e (FromNode t) = omega arith
-near_tells e Fetch = omega arith
+near_tells e _ = omega arith
 
 -- that of a host never does
 pub far_tells : (e : LinkEnd) (i : LinkInput) → IsUicc e.role → sync_told (report e i).sync ≡ 0

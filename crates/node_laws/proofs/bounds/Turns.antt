@@ -46,17 +46,7 @@ use Rattle.node_laws.proofs.bounds.Deeds.{Owes, weight, weights, weights-append,
 -- an answer is no command
 pub answer_plain : (r : Response) (value : List ℕ) → is_command_message (answer_of r value) ≡ false
 answer_plain response.Ok value = refl
-answer_plain response.NotConnected value = refl
-answer_plain response.CommandParameterUnknown value = refl
-answer_plain response.NotOk value = refl
-answer_plain response.NoPipesAvailable value = refl
-answer_plain response.RegistryParameterUnknown value = refl
-answer_plain response.PipeNotOpened value = refl
-answer_plain response.CommandNotSupported value = refl
-answer_plain response.Inhibited value = refl
-answer_plain response.Timeout value = refl
-answer_plain response.RegistryAccessDenied value = refl
-answer_plain response.PipeAccessDenied value = refl
+answer_plain _ value = refl
 
 pub answer_free : (b : Bool) (pid : ℕ) (r : Response) (value : List ℕ) → message_cost b pid (answer_of r value) ≡ 0
 answer_free b pid r value = plain_free b pid (answer_of r value) (answer_plain r value)

@@ -20,7 +20,7 @@ use Rattle.link_laws.specs.messages.Links.{happens}
 use Rattle.link_laws.specs.messages.Links.Ending.{GoesOut, CutOff}
 use Rattle.link_laws.specs.messages.Links.EndEvent.{Step}
 use Rattle.link_laws.specs.messages.Links.LinkEvent.{AtController}
-use Rattle.link_laws.specs.messages.Links.Loss.{OnDemand, Broken, Unread, TooOld, TooMany}
+use Rattle.link_laws.specs.messages.Links.Loss.{Broken}
 use Rattle.link_laws.specs.entries.Entries.{End as Side, first_lost, ending_entries, aged_entries}
 use Rattle.link_laws.specs.entries.Entries.End.{Controller, Host}
 use Rattle.history.specs.Steps.{entries_for}
@@ -223,10 +223,7 @@ near_side l NextFrame = first l.to_controller where
   first : (w : List OnWire) → (near w).side ≡ l.controller.side
   first [] = refl
   first (x ∷ xs) = refl
-near_side l (AsksReset window) = refl
-near_side l (Starts value) = refl
-near_side l Stops = refl
-near_side l NoInput = refl
+near_side l _ = refl
 
 -- an end of a controller tells of an identifier as a frame with one comes
 one_told : (h : ℕ) (i : LinkInput) (p : Port) → option_map_or (λ j. sync_told (report p.side j).sync) (input_at (AtEnd h i) p) 0
@@ -304,10 +301,7 @@ came_from sites h comes i seen = go (site_at sites h) refl where
     where
       nothing : (comes : Comes) → taken_by comes [] ≡ 0
       nothing NextFrame = refl
-      nothing (AsksReset window) = refl
-      nothing (Starts value) = refl
-      nothing Stops = refl
-      nothing NoInput = refl
+      nothing _ = refl
   go (Some s) here =
       let is : link_to sites h ≡ s.link = link_is sites h s here in
       let most = on_link s.link comes i (ap (λ l. input_of l comes) (sym is) ∙ seen) in
@@ -618,10 +612,7 @@ errors_hold h (d ∷ desks) =
 counts_hold : (why : Loss) (h : ℕ) (o : Option Running) → node_holds (counts why h o) ≡ node_holds o
 counts_hold (Broken fault) h None = refl
 counts_hold (Broken fault) h (Some r) = ap (λ n. core_holds r.core + n) (errors_hold h r.desks)
-counts_hold OnDemand h o = refl
-counts_hold Unread h o = refl
-counts_hold TooOld h o = refl
-counts_hold TooMany h o = refl
+counts_hold _ h o = refl
 
 lost_paid : (w : NodeWorld) (e : End) (why : Loss) → IsPaid 0 w (frame_lost w e why)
 lost_paid w e why =

@@ -7,13 +7,14 @@ use Rattle.swp_base.specs.declared.control_frames.Act.{Act}
 use Rattle.swp_act.specs.declared.ActEvent.{ActEvent}
 use Rattle.swp_act.specs.declared.ActEvent.TheVariants.{Start as ActStart, Take as ActTake, Tick as ActTick, Stop as ActStop}
 use Rattle.shdlc_core.specs.declared.answers.LinkState.{LinkState}
-use Rattle.shdlc_core.specs.declared.answers.LinkState.TheVariants.{Down, Waiting, Up}
+use Rattle.shdlc_core.specs.declared.answers.LinkState.TheVariants.{Up}
 use Rattle.shdlc_core.specs.Machine.{taken, take_answer, ticked, tick_answer, stopped}
-use Rattle.link_laws.specs.machine.Machine.{LinkEnd, LinkInput, Refused, is_faulty, is_open, act_answer, role_after, with_act, moved, put_down, activated}
+use Rattle.link_laws.specs.machine.Machine.{LinkEnd, LinkInput, is_faulty, is_open, act_answer, role_after, with_act, moved, put_down, activated}
 use Rattle.link_laws.specs.machine.Machine.{heard}
 use Rattle.link_laws.specs.machine.Machine.{had_tick, took, reset_refusal, after_input}
-use Rattle.link_laws.specs.machine.Machine.LinkInput.{Take, TakeUnknown, TakeBroken, Tick, Reset, Start, Stop, FromNode, Fetch}
+use Rattle.link_laws.specs.machine.Machine.LinkInput.{Take, Tick, Reset, Start, Stop}
 use Rattle.node_laws.specs.links.Notices.{IsComing}
+use Rattle.node_laws.proofs.Cases.{by_option, by_test}
 use Rattle.node_laws.proofs.links.Blocks.{moved_aside}
 
 down_aside : (b : Bool) (e : LinkEnd) → (put_down b e).aside ≡ e.aside
@@ -21,8 +22,7 @@ down_aside false e = refl
 down_aside true e = go e.shdlc.phase refl where
   go : (p : LinkState) → e.shdlc.phase ≡ p → (put_down true e).aside ≡ e.aside
   go Up q = rw q refl
-  go Waiting q = rw q refl
-  go Down q = rw q refl
+  go _ q = rw q refl
 
 act_aside : (o : Option Act) (e : LinkEnd) → (with_act o e).aside ≡ e.aside
 act_aside None e = refl
@@ -35,10 +35,9 @@ activated_aside e event =
 
 heard_aside : (e : LinkEnd) (c : Control) (b : Bool) → (cond b (heard e c) e).aside ≡ e.aside
 heard_aside e c false = refl
-heard_aside e c true = go (is_faulty (taken e.shdlc c).session) refl where
-  go : (b : Bool) → is_faulty (taken e.shdlc c).session ≡ b → (heard e c).aside ≡ e.aside
-  go true q = rw q (down_aside true e)
-  go false q = rw q (moved_aside e (is_some (take_answer e.shdlc c).ended) (taken e.shdlc c))
+heard_aside e c true = by_test (is_faulty (taken e.shdlc c).session)
+    (λ q. rw q (down_aside true e))
+    (λ q. rw q (moved_aside e (is_some (take_answer e.shdlc c).ended) (taken e.shdlc c)))
 
 took_aside : (e : LinkEnd) (c : Control) → (took e c).aside ≡ e.aside
 took_aside e (ActFrame act again) = activated_aside e (ActTake act again)
@@ -49,24 +48,17 @@ took_aside e (Rset w caps) = heard_aside e (Rset w caps) (is_open e.role)
 took_aside e Ua = heard_aside e Ua (is_open e.role)
 
 tick_aside : (e : LinkEnd) → (had_tick e).aside ≡ e.aside
-tick_aside e = go (is_open e.role) refl where
-  go : (b : Bool) → is_open e.role ≡ b → (had_tick e).aside ≡ e.aside
-  go true o = rw o (moved_aside e (is_some (tick_answer e.shdlc).ended) (ticked e.shdlc))
-  go false o = rw o (activated_aside e ActTick)
+tick_aside e = by_test (is_open e.role)
+    (λ o. rw o (moved_aside e (is_some (tick_answer e.shdlc).ended) (ticked e.shdlc)))
+    (λ o. rw o (activated_aside e ActTick))
 
 reset_aside : (e : LinkEnd) (window : Option ℕ) → (after_input e (Reset window)).aside ≡ e.aside
-reset_aside e window = go (reset_refusal e) refl where
-  go : (o : Option Refused) → reset_refusal e ≡ o → (after_input e (Reset window)).aside ≡ e.aside
-  go None q = rw q (moved_aside e _ _)
-  go (Some why) q = rw q refl
+reset_aside e window = by_option (reset_refusal e) (λ q. rw q (moved_aside e _ _)) (λ why q. rw q refl)
 
 pub input_aside : (e : LinkEnd) (i : LinkInput) → IsComing i → (after_input e i).aside ≡ e.aside
 input_aside e (Take c) is = took_aside e c
-input_aside e TakeUnknown is = absurd is
-input_aside e (TakeBroken fault) is = absurd is
 input_aside e Tick is = tick_aside e
 input_aside e (Reset window) is = reset_aside e window
 input_aside e (Start value) is = activated_aside (moved e true (stopped e.shdlc)) (ActStart value)
 input_aside e Stop is = activated_aside (moved e true (stopped e.shdlc)) ActStop
-input_aside e (FromNode t) is = absurd is
-input_aside e Fetch is = absurd is
+input_aside e _ is = absurd is

@@ -20,6 +20,7 @@ use Rattle.node_machine.specs.Node.{is_over, is_over_at}
 use Rattle.node_machine.specs.Node.NodeInput.{AtEnd, TimePasses}
 use Rattle.node_machine.specs.world.NodeFilters.{book_in}
 use Rattle.node_laws.specs.links.Notices.{IsComing, IsOutside}
+use Rattle.node_laws.proofs.Cases.{by_test}
 use Rattle.node_laws.proofs.links.Staying.{stays_up}
 use Rattle.node_laws.proofs.links.Noticing.{UpAt, at_all, at_host, outside as from_outside}
 use Rattle.node_laws.proofs.links.Blocks.{IsWithin, input_within}
@@ -107,10 +108,7 @@ older_asked p = go p.desk.notice where
   go (Some n) = refl
 
 reset_asked : (p : Port) → asked_at (reset_late p) ≡ asked_at p
-reset_asked p = go (is_late p) refl where
-  go : (b : Bool) → is_late p ≡ b → asked_at (reset_late p) ≡ asked_at p
-  go true e = rw e refl
-  go false e = rw e refl
+reset_asked p = by_test (is_late p) (λ e. rw e refl) (λ e. rw e refl)
 
 come_asked : (p : Port) (o : Option LinkInput) → asked_at (has_come p o) ≡ asked_at p
 come_asked p None = refl
@@ -159,18 +157,16 @@ late_is n l q r s fresh up shut a = go (is_late q) refl where
       subst (λ z. IsCome n l r z (Some (reset_late q))) (sym gone) (subst (λ z. IsCome n l r None (Some z)) (sym is) here)
 
 pub late_flag : (q : Port) → q.late ≡ false → (reset_late q).late ≡ true → (reset_late q).ended ≡ false
-late_flag q fresh = go (is_late q) refl where
-  second : (c d : Bool) → (c && d) ≡ true → d ≡ true
-  second true d e = e
-  second false d e = absurd (true≢false (sym e))
+late_flag q fresh = by_test (is_late q)
+    (λ e. rw e (λ z. not_of q.ended (second (option_map_or (λ (n : Notice). nat_le 100 n.age) q.desk.notice false) (not q.ended) e)))
+    (λ e. rw e (λ z. absurd (true≢false (sym z ∙ fresh)))) where
+      second : (c d : Bool) → (c && d) ≡ true → d ≡ true
+      second true d e = e
+      second false d e = absurd (true≢false (sym e))
 
-  not_of : (b : Bool) → not b ≡ true → b ≡ false
-  not_of true e = sym e
-  not_of false e = refl
-
-  go : (b : Bool) → is_late q ≡ b → (reset_late q).late ≡ true → (reset_late q).ended ≡ false
-  go true e = rw e (λ z. not_of q.ended (second (option_map_or (λ (n : Notice). nat_le 100 n.age) q.desk.notice false) (not q.ended) e))
-  go false e = rw e (λ z. absurd (true≢false (sym z ∙ fresh)))
+      not_of : (b : Bool) → not b ≡ true → b ≡ false
+      not_of true e = sym e
+      not_of false e = refl
 
 abbrev pub AreFlagged : List Port → Type 0
 AreFlagged ports = AllByRecursion (λ (p : Port). p.late ≡ true → p.ended ≡ false) ports

@@ -16,7 +16,7 @@ use Rattle.link_laws.specs.machine.Machine.{LinkEnd, turn, spare}
 use Rattle.link_laws.specs.machine.Machine.Turn.{Give, SetAside, Release}
 use Rattle.node_machine.specs.Parts.{Creation, Port, Work, Deed}
 use Rattle.node_machine.specs.Parts.About.{Waits, Removed}
-use Rattle.node_machine.specs.Parts.Deed.{Commits, Sends, SaysOk, Asks, Releases, Tells, IsAnswered, Drops, SetsErrors, Orders, Hears, GoesOn, Ends}
+use Rattle.node_machine.specs.Parts.Deed.{Commits, Sends, SaysOk, Asks, Releases, Tells, IsAnswered, Drops, SetsErrors}
 use Rattle.node_machine.specs.Carrying.{noting, unless_cut, port_at, with_port, after_turn, noted_of, turn_at, notified, commit, done, all_done, end_of_node}
 use Rattle.node_machine.specs.Controller.{agreed}
 use Rattle.node_machine.specs.world.NodeFilters.{is_response, book_in}
@@ -102,13 +102,7 @@ module _ (x : ℕ) (before : List Entry) (hosts : List ℕ) where
       then Fine asked [] (many x before hosts asked []) (all_done k deeds) (done k (SetsErrors errors) w)
       (inl (errors_set asked [] (many x before hosts asked []) k errors w a))
       (λ lost. inr lost) (λ b. leaves k asked deeds (done k (SetsErrors errors) w) may.1 b)
-  leaves k asked (Asks to message c ∷ deeds) w may a = absurd may.0
-  leaves k asked (Releases asker ∷ deeds) w may a = absurd may.0
-  leaves k asked (IsAnswered ∷ deeds) w may a = absurd may.0
-  leaves k asked (Orders order ∷ deeds) w may a = absurd may.0
-  leaves k asked (Hears ∷ deeds) w may a = absurd may.0
-  leaves k asked (GoesOn i ∷ deeds) w may a = absurd may.0
-  leaves k asked (Ends e ∷ deeds) w may a = absurd may.0
+  leaves k asked (_ ∷ deeds) w may a = absurd may.0
 
   -- ## Answers
 

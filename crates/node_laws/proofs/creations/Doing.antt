@@ -13,7 +13,7 @@ use Rattle.hci_tables.specs.declared.command.Command.{Command}
 use Rattle.hci_tables.specs.Bodies.{body_of}
 use Rattle.hci_store.specs.Committing.{commit_writes}
 use Rattle.shdlc_core.specs.declared.answers.LinkState.TheVariants.{Up}
-use Rattle.link_laws.specs.machine.Machine.{LinkEnd, Message, Turn, Refused, turn, give_refusal, in_use, spare, need}
+use Rattle.link_laws.specs.machine.Machine.{LinkEnd, Message, Turn, turn, give_refusal, in_use, spare, need}
 use Rattle.link_laws.specs.machine.Machine.Turn.{Give, Hold, FetchMessage, SetAside, Release}
 use Rattle.link_laws.specs.entries.Entries.{sent_unless, turn_entry}
 use Rattle.link_laws.specs.entries.Entries.End.{Controller}
@@ -25,6 +25,7 @@ use Rattle.node_machine.specs.Carrying.{own_side, noting, unless_cut, port_at, c
 use Rattle.node_machine.specs.Carrying.{loses_power, keeps, commit, done}
 use Rattle.node_machine.specs.Controller.{creation_in, asked_at}
 use Rattle.node_machine.specs.world.NodeFilters.{Book, is_response, book_after, book_in, asking_in}
+use Rattle.node_laws.proofs.Cases.{by_option}
 use Rattle.node_laws.proofs.links.Noticing.{turn-phase, at_all, at_host}
 use Rattle.node_laws.proofs.links.Blocks.{IsWithin, turn_within}
 use Rattle.node_laws.proofs.kept.Books.{plain_fold, book_command, book_more}
@@ -52,10 +53,7 @@ EndAt n l None = (n ≡ 0) × (l ≡ [])
 EndAt n l (Some p) = EndHas n l p.side
 
 pub give_aside : (e : LinkEnd) (m : Message) → (turn e (Give m)).aside ≡ e.aside
-give_aside e m = go (give_refusal e m) refl where
-  go : (o : Option Refused) → give_refusal e m ≡ o → (turn e (Give m)).aside ≡ e.aside
-  go None q = rw q refl
-  go (Some why) q = rw q refl
+give_aside e m = by_option (give_refusal e m) (λ q. rw q refl) (λ why q. rw q refl)
 
 -- a turn that sets nothing aside
 abbrev pub IsPlainTurn : Turn → Type 0

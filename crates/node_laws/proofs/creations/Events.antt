@@ -18,7 +18,7 @@ use Rattle.link_laws.specs.messages.Links.{Link, NumberedEnd, Loss, Comes, excha
 use Rattle.link_laws.specs.messages.Links.{has_input, has_taken}
 use Rattle.link_laws.specs.messages.Links.Ending.{GoesOut, CutOff}
 use Rattle.link_laws.specs.messages.Links.Comes.{NextFrame, AsksReset, Starts, NoInput, Stops}
-use Rattle.link_laws.specs.messages.Links.Loss.{OnDemand, Broken, Unread, TooOld, TooMany}
+use Rattle.link_laws.specs.messages.Links.Loss.{Broken}
 use Rattle.link_laws.specs.messages.Links.EndEvent.{Step}
 use Rattle.link_laws.specs.messages.Links.LinkEvent.{AtController}
 use Rattle.link_laws.specs.entries.Entries.{first_lost}
@@ -41,6 +41,7 @@ use Rattle.node_machine.specs.world.NodeFilters.{book_in, asking_in}
 use Rattle.node_laws.specs.kept.Hosts.{AreHosts}
 use Rattle.node_laws.specs.kept.Worlds.{AllKeep, IfRuns, RunsSo}
 use Rattle.node_laws.specs.telling.Telling.{HasEnds, hosts_in}
+use Rattle.node_laws.proofs.Cases.{by_list, by_option}
 use Rattle.node_laws.proofs.telling.Events.{site_map}
 use Rattle.node_laws.proofs.telling.Nodes.{site_host, link_is}
 use Rattle.node_laws.specs.readings.Noticed.{IfNoticedUp}
@@ -58,7 +59,6 @@ use Rattle.node_laws.proofs.creations.Near.{Reads, far_book, far_reading, new_re
 use Rattle.node_laws.proofs.creations.Sides.{near_made, tick_made, after_tick, near_side, tick_side}
 use Rattle.link_laws.specs.machine.Machine.LinkInput.{Reset, Tick, Take}
 use Rattle.shdlc_core.specs.Machine.{is_waiting}
-use Rattle.link_laws.specs.sessions.Sessions.{OnWire}
 use Rattle.hci_tables.specs.Tables.{HciTables}
 use Rattle.node_laws.proofs.kept.Books.{book_more}
 
@@ -96,55 +96,50 @@ sites_beside w h f es far host side =
 -- a host acts
 host_beside : (w : NodeWorld) (h : ℕ) (comes : Comes) (f : Work → Work) → AreGood w.sites → ((k : Work) → IsFarWork k → IsFarWork (f k))
     → BesideBy w (host_does w h comes f)
-host_beside w h comes f good keeps = by_site (site_at w.sites h) refl where
-  none_is : site_at w.sites h ≡ None → host_does w h comes f ≡ (w, [])
-  none_is e = rw e refl
+host_beside w h comes f good keeps = by_option (site_at w.sites h)
+    (λ e. subst (BesideBy w) (sym (none_is e)) (stays w))
+    (λ s e. by_node s e (good_at w.sites h s good e) s.node refl) where
+      none_is : site_at w.sites h ≡ None → host_does w h comes f ≡ (w, [])
+      none_is e = rw e refl
 
-  off_is : (s : Site) → site_at w.sites h ≡ Some s → s.node ≡ None → host_does w h comes f ≡ (w, [])
-  off_is s here e = rw here (rw e refl)
+      off_is : (s : Site) → site_at w.sites h ≡ Some s → s.node ≡ None → host_does w h comes f ≡ (w, [])
+      off_is s here e = rw here (rw e refl)
 
-  on_is : (s : Site) (r : Running) → site_at w.sites h ≡ Some s → s.node ≡ Some r → host_does w h comes f
-      ≡ (
-        record w { sites = with_site h (after_host comes (host_work s r comes f)) w.sites },
-        (host_work s r comes f).entries ++ frames_noted Host h (wires_for (exchanged s.link) comes) (host_work s r comes f),
-      )
-  on_is s r here e = rw here (rw e refl)
+      on_is : (s : Site) (r : Running) → site_at w.sites h ≡ Some s → s.node ≡ Some r → host_does w h comes f
+          ≡ (
+            record w { sites = with_site h (after_host comes (host_work s r comes f)) w.sites },
+            (host_work s r comes f).entries ++ frames_noted Host h (wires_for (exchanged s.link) comes) (host_work s r comes f),
+          )
+      on_is s r here e = rw here (rw e refl)
 
-  by_node : (s : Site) → site_at w.sites h ≡ Some s → IsGoodSite s → (o : Option Running) → s.node ≡ o → BesideBy w (host_does w h comes f)
-  by_node s here fine None e = subst (BesideBy w) (sym (off_is s here e)) (stays w)
-  by_node s here fine (Some r) e =
-      subst (BesideBy w) (sym (on_is s r here e))
-      (sites_beside w h (after_host comes k) (k.entries ++ frames) (far-append k.entries frames far.far (frames_quiet Host h
-      (wires_for (exchanged s.link) comes) k)) (λ z. refl) (λ z. far_side z.link (Step comes (turns_at k z.host) (ending_of k))))
-    where
-      k : Work
-      k = host_work s r comes f
+      by_node : (s : Site) → site_at w.sites h ≡ Some s → IsGoodSite s → (o : Option Running) → s.node ≡ o → BesideBy w (host_does w h comes f)
+      by_node s here fine None e = subst (BesideBy w) (sym (off_is s here e)) (stays w)
+      by_node s here fine (Some r) e =
+          subst (BesideBy w) (sym (on_is s r here e))
+          (sites_beside w h (after_host comes k) (k.entries ++ frames) (far-append k.entries frames far.far (frames_quiet Host h
+          (wires_for (exchanged s.link) comes) k)) (λ z. refl) (λ z. far_side z.link (Step comes (turns_at k z.host) (ending_of k))))
+        where
+          k : Work
+          k = host_work s r comes f
 
-      frames : List Entry
-      frames = frames_noted Host h (wires_for (exchanged s.link) comes) k
+          frames : List Entry
+          frames = frames_noted Host h (wires_for (exchanged s.link) comes) k
 
-      far : IsFarWork k
-      far =
-          keeps (work_of r s.memory.plan (λ n. near_end_in (exchanged s.link) comes) (entries_for s.host (arrival Host (exchanged s.link) comes)))
-          (record { number = subst IfHostNode e fine.node; far = arrival_quiet Host s.host (exchanged s.link) comes })
-
-  by_site : (o : Option Site) → site_at w.sites h ≡ o → BesideBy w (host_does w h comes f)
-  by_site None e = subst (BesideBy w) (sym (none_is e)) (stays w)
-  by_site (Some s) e = by_node s e (good_at w.sites h s good e) s.node refl
+          far : IsFarWork k
+          far =
+              keeps (work_of r s.memory.plan (λ n. near_end_in (exchanged s.link) comes) (entries_for s.host (arrival Host (exchanged s.link) comes)))
+              (record { number = subst IfHostNode e fine.node; far = arrival_quiet Host s.host (exchanged s.link) comes })
 
 pub far_beside : (w : NodeWorld) (e : End) (comes : Comes) → AreGood w.sites → e.at_host ≡ true → BesideBy w (comes_at w e comes)
-far_beside w e comes good far = go (input_of (seen_from e (link_to w.sites e.link)) comes) refl where
-  none_is : input_of (seen_from e (link_to w.sites e.link)) comes ≡ None → comes_at w e comes ≡ (w, [])
-  none_is q = rw q refl
+far_beside w e comes good far = by_option (input_of (seen_from e (link_to w.sites e.link)) comes)
+    (λ q. subst (BesideBy w) (sym (none_is q)) (stays w))
+    (λ i q. subst (BesideBy w) (sym (far_is i q)) (host_beside w e.link comes (steps (AtEnd e.link i)) good (λ k b. steps_far (AtEnd e.link i) k b))) where
+      none_is : input_of (seen_from e (link_to w.sites e.link)) comes ≡ None → comes_at w e comes ≡ (w, [])
+      none_is q = rw q refl
 
-  far_is : (i : LinkInput) → input_of (seen_from e (link_to w.sites e.link)) comes ≡ Some i
-      → comes_at w e comes ≡ host_does w e.link comes (steps (AtEnd e.link i))
-  far_is i q = rw q (rw far refl)
-
-  go : (o : Option LinkInput) → input_of (seen_from e (link_to w.sites e.link)) comes ≡ o → BesideBy w (comes_at w e comes)
-  go None q = subst (BesideBy w) (sym (none_is q)) (stays w)
-  go (Some i) q =
-      subst (BesideBy w) (sym (far_is i q)) (host_beside w e.link comes (steps (AtEnd e.link i)) good (λ k b. steps_far (AtEnd e.link i) k b))
+      far_is : (i : LinkInput) → input_of (seen_from e (link_to w.sites e.link)) comes ≡ Some i
+          → comes_at w e comes ≡ host_does w e.link comes (steps (AtEnd e.link i))
+      far_is i q = rw q (rw far refl)
 
 pub begins_beside : (w : NodeWorld) (h : ℕ) (deeds : List Deed) → AreGood w.sites → AreOwn deeds
     → BesideBy w (host_does w h NoInput (begins_with h deeds))
@@ -184,18 +179,12 @@ due_counted h (d ∷ desks) a = (by (eqb d.host h), due_counted h desks a.1) whe
 counted_creations : (why : Loss) (h : ℕ) (o : Option Running) (x : ℕ) → creations_of (counts why h o) x ≡ creations_of o x
 counted_creations (Broken fault) h None x = refl
 counted_creations (Broken fault) h (Some r) x = creations_counted h r.desks x
-counted_creations OnDemand h o x = refl
-counted_creations Unread h o x = refl
-counted_creations TooOld h o x = refl
-counted_creations TooMany h o x = refl
+counted_creations _ h o x = refl
 
 counted_due : (why : Loss) (h : ℕ) (o : Option Running) → AreAwaited o → AreAwaited (counts why h o)
 counted_due (Broken fault) h None a = tt
 counted_due (Broken fault) h (Some r) a = due_counted h r.desks a
-counted_due OnDemand h o a = a
-counted_due Unread h o a = a
-counted_due TooOld h o a = a
-counted_due TooMany h o a = a
+counted_due _ h o a = a
 
 pub lost_beside : (w : NodeWorld) (e : End) (why : Loss) → BesideBy w (frame_lost w e why)
 lost_beside w e why =
@@ -356,15 +345,12 @@ module _ (hosts : List ℕ) (are : AreHosts hosts) (t : List Entry) (w : NodeWor
   -- an end of a controller that lost its power in a step is new
   step_new : (l : Link) (comes : Comes) (ts : List Turn) (i : LinkInput) → input_of l comes ≡ Some i
       → (role : Role) × ((steps_at_controller l comes ts CutOff).controller.side ≡ new_link_end (renewed role))
-  step_new l NextFrame ts i e = go l.to_controller refl where
-    go : (xs : List OnWire) → l.to_controller ≡ xs
-        → (role : Role) × ((steps_at_controller l NextFrame ts CutOff).controller.side ≡ new_link_end (renewed role))
-    go [] q = let z : None ≡ Some i = rw q at e in absurd (cc z)
-    go (y ∷ ys) q =
-        let is : steps_at_controller l NextFrame ts CutOff ≡ has_taken l y ys ts CutOff = rw q refl in (
-          (sent_all (turned (after_input l.controller.side (Take y.frame)) ts)).role,
-          ap (λ (k : Link). k.controller.side) is,
-        )
+  step_new l NextFrame ts i e = by_list l.to_controller
+      (λ q. let z : None ≡ Some i = rw q at e in absurd (cc z))
+      (λ y ys q. let is : steps_at_controller l NextFrame ts CutOff ≡ has_taken l y ys ts CutOff = rw q refl in (
+        (sent_all (turned (after_input l.controller.side (Take y.frame)) ts)).role,
+        ap (λ (k : Link). k.controller.side) is,
+      ))
   step_new l (AsksReset window) ts i e =
       ((sent_all (turned (after_input l.controller.side (Reset window)) ts)).role, refl)
   step_new l (Starts value) ts i e = ((sent_all (turned (started l.controller.side value) ts)).role, refl)

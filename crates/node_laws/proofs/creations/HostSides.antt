@@ -8,7 +8,6 @@ use Rattle.journal_laws.specs.Planned.{fails_within}
 use Rattle.hci_tables.specs.declared.command.Command.{Command}
 use Rattle.hci_tables.specs.Bodies.{body_of}
 use Rattle.hci_store.specs.Committing.{commit_writes}
-use Rattle.link_laws.specs.sessions.Sessions.{OnWire}
 use Rattle.link_laws.specs.machine.Machine.{LinkEnd, LinkInput, Message, Turn, after_input, turn, turned}
 use Rattle.link_laws.specs.machine.Machine.LinkInput.{Take, Tick, Reset, Start, Stop}
 use Rattle.link_laws.specs.machine.Machine.Turn.{Give, Hold, FetchMessage, SetAside, Release}
@@ -22,6 +21,7 @@ use Rattle.node_machine.specs.Carrying.{noting, port_at, changed_if, with_desk, 
 use Rattle.node_machine.specs.Node.{NodeInput, input_at, has_come, all_come, with_older, is_late, reset_late, times_out, forgotten, forgets, all_owed}
 use Rattle.node_machine.specs.Node.{without_notice, after_sessions, synced, steps}
 use Rattle.node_machine.specs.Node.NodeInput.{AtEnd, TimePasses}
+use Rattle.node_laws.proofs.Cases.{by_list, by_test}
 use Rattle.node_laws.proofs.telling.Steps.{without_same, forgets_same}
 use Rattle.node_laws.proofs.notices.Own.{IsOwn, AreOwn, deeds_own, forgotten_own, all_owed_own, all_synced_own}
 use Rattle.node_laws.proofs.notices.Doing.{all_map}
@@ -59,14 +59,12 @@ finished_none l e CutOff a = refl
 
 pub step_none : (l : Link) (comes : Comes) (ts : List Turn) (ending : Ending) → SetNone ts → l.controller.side.aside ≡ 0
     → (steps_at_controller l comes ts ending).controller.side.aside ≡ 0
-step_none l NextFrame ts ending none a = go l.to_controller refl where
-  go : (xs : List OnWire) → l.to_controller ≡ xs → (steps_at_controller l NextFrame ts ending).controller.side.aside ≡ 0
-  go [] q = let is : steps_at_controller l NextFrame ts ending ≡ l = rw q refl in ap (λ (k : Link). k.controller.side.aside) is ∙ a
-  go (y ∷ ys) q =
-      let is : steps_at_controller l NextFrame ts ending ≡ has_taken l y ys ts ending = rw q refl in
-      ap (λ (k : Link). k.controller.side.aside) is
-      ∙ finished_none _ (turned (after_input l.controller.side (Take y.frame)) ts) ending
-      (turns_none (after_input l.controller.side (Take y.frame)) ts none (input_aside l.controller.side (Take y.frame) tt ∙ a))
+step_none l NextFrame ts ending none a = by_list l.to_controller
+    (λ q. let is : steps_at_controller l NextFrame ts ending ≡ l = rw q refl in ap (λ (k : Link). k.controller.side.aside) is ∙ a)
+    (λ y ys q. let is : steps_at_controller l NextFrame ts ending ≡ has_taken l y ys ts ending = rw q refl in
+    ap (λ (k : Link). k.controller.side.aside) is
+    ∙ finished_none _ (turned (after_input l.controller.side (Take y.frame)) ts) ending
+    (turns_none (after_input l.controller.side (Take y.frame)) ts none (input_aside l.controller.side (Take y.frame) tt ∙ a)))
 step_none l (AsksReset window) ts ending none a =
     finished_none _ (turned (after_input l.controller.side (Reset window)) ts) ending
     (turns_none (after_input l.controller.side (Reset window)) ts none (input_aside l.controller.side (Reset window) tt ∙ a))
@@ -122,10 +120,9 @@ tells h about message w a =
     desks h (λ d. record d { notice = Some (record { about = about; age = 0 }) }) (turn_at h (Give (1, message)) w) (turns h (Give (1, message)) w tt a)
 
 commits : (c : Command) (w : Work) → SetsNoneAside w → SetsNoneAside (commit c w)
-commits c w a = go (fails_within (length (commit_writes w.core.journal w.core.tables (body_of c))) w.plan) refl where
-  go : (b : Bool) → fails_within (length (commit_writes w.core.journal w.core.tables (body_of c))) w.plan ≡ b → SetsNoneAside (commit c w)
-  go true q = rw q (record { number = a.number; turns = a.turns })
-  go false q = rw q (record { number = a.number; turns = a.turns })
+commits c w a = by_test (fails_within (length (commit_writes w.core.journal w.core.tables (body_of c))) w.plan)
+    (λ q. rw q (record { number = a.number; turns = a.turns }))
+    (λ q. rw q (record { number = a.number; turns = a.turns }))
 
 does : (h : ℕ) (d : Deed) (w : Work) → IsOwn d → SetsNoneAside w → SetsNoneAside (done h d w)
 does h (Commits c) w q a = commits c w a
@@ -171,10 +168,7 @@ come_turns p None b = b
 come_turns p (Some i) b = b
 
 reset_turns : (p : Port) → SetNone p.turns → SetNone (reset_late p).turns
-reset_turns p b = go (is_late p) refl where
-  go : (c : Bool) → is_late p ≡ c → SetNone (reset_late p).turns
-  go true z = rw z b
-  go false z = rw z b
+reset_turns p b = by_test (is_late p) (λ z. rw z b) (λ z. rw z b)
 
 came_none : (input : NodeInput) (w : Work) → SetsNoneAside w → SetsNoneAside (all_come input w)
 came_none input w a = record {

@@ -30,6 +30,7 @@ use Rattle.node_machine.specs.world.World.{all_aged, is_late_at, ticked_so, cont
 use Rattle.node_machine.specs.world.World.{new_site, end_c}
 use Rattle.node_machine.specs.world.World.{end_h, world_step}
 use Rattle.node_machine.specs.world.World.Happening.{Boots, IsCut, Gives, Inits, Takes, Loses, Ticks, Resets, Activates, Arms}
+use Rattle.node_laws.proofs.Cases.{by_option, by_test}
 use Rattle.node_laws.proofs.links.Ends.{here_host}
 use Rattle.link_laws.proofs.entries.Together.{ticks_host as tick_host}
 use Rattle.node_laws.specs.notices.Worlds.{IfHostNode, IsGoodSite, KeepsNotices}
@@ -68,46 +69,44 @@ ticked_same l late ts ending a =
 
 host_none : (w : NodeWorld) (h : ℕ) (comes : Comes) (f : Work → Work) → AreGood w.sites → ((k : Work) → SetsNoneAside k → SetsNoneAside (f k))
     → HaveNoneAside w.sites → HaveNoneAside (host_does w h comes f).0.sites
-host_none w h comes f good keeps a = by_site (site_at w.sites h) refl where
-  none_is : site_at w.sites h ≡ None → (host_does w h comes f).0 ≡ w
-  none_is e = rw e refl
+host_none w h comes f good keeps a = by_option (site_at w.sites h)
+    (λ e. subst Fine (sym (none_is e)) a)
+    (λ s e. by_node s e (good_at w.sites h s good e) s.node refl) where
+      none_is : site_at w.sites h ≡ None → (host_does w h comes f).0 ≡ w
+      none_is e = rw e refl
 
-  off_is : (s : Site) → site_at w.sites h ≡ Some s → s.node ≡ None → (host_does w h comes f).0 ≡ w
-  off_is s here e = rw here (rw e refl)
+      off_is : (s : Site) → site_at w.sites h ≡ Some s → s.node ≡ None → (host_does w h comes f).0 ≡ w
+      off_is s here e = rw here (rw e refl)
 
-  on_is : (s : Site) (r : Running) → site_at w.sites h ≡ Some s → s.node ≡ Some r
-      → (host_does w h comes f).0 ≡ record w { sites = with_site h (after_host comes (host_work s r comes f)) w.sites }
-  on_is s r here e = rw here (rw e refl)
+      on_is : (s : Site) (r : Running) → site_at w.sites h ≡ Some s → s.node ≡ Some r
+          → (host_does w h comes f).0 ≡ record w { sites = with_site h (after_host comes (host_work s r comes f)) w.sites }
+      on_is s r here e = rw here (rw e refl)
 
-  Fine : NodeWorld → Type 0
-  Fine v = HaveNoneAside v.sites
+      Fine : NodeWorld → Type 0
+      Fine v = HaveNoneAside v.sites
 
-  start_none : (r : Running) (near_ends : ℕ → NumberedEnd) → AllByRecursion (λ (p : Port). SetNone p.turns)
-      (map (λ (d : Desk). port_for (near_ends d.host) d) r.desks)
-  start_none r near_ends = go r.desks where
-    go : (desks : List Desk) → AllByRecursion (λ (p : Port). SetNone p.turns)
-        (map (λ (d : Desk). port_for (near_ends d.host) d) desks)
-    go [] = tt
-    go (d ∷ desks) = (tt, go desks)
+      start_none : (r : Running) (near_ends : ℕ → NumberedEnd) → AllByRecursion (λ (p : Port). SetNone p.turns)
+          (map (λ (d : Desk). port_for (near_ends d.host) d) r.desks)
+      start_none r near_ends = go r.desks where
+        go : (desks : List Desk) → AllByRecursion (λ (p : Port). SetNone p.turns)
+            (map (λ (d : Desk). port_for (near_ends d.host) d) desks)
+        go [] = tt
+        go (d ∷ desks) = (tt, go desks)
 
-  by_node : (s : Site) → site_at w.sites h ≡ Some s → IsGoodSite s → (o : Option Running) → s.node ≡ o → Fine (host_does w h comes f).0
-  by_node s here fine None e = subst Fine (sym (off_is s here e)) a
-  by_node s here fine (Some r) e =
-      subst Fine (sym (on_is s r here e))
-      (none_with h (after_host comes k) (λ z b. step_none (exchanged z.link) comes (turns_at k z.host) (ending_of k) (none_at k z.host none) b) w.sites a)
-    where
-      k : Work
-      k = host_work s r comes f
+      by_node : (s : Site) → site_at w.sites h ≡ Some s → IsGoodSite s → (o : Option Running) → s.node ≡ o → Fine (host_does w h comes f).0
+      by_node s here fine None e = subst Fine (sym (off_is s here e)) a
+      by_node s here fine (Some r) e =
+          subst Fine (sym (on_is s r here e))
+          (none_with h (after_host comes k) (λ z b. step_none (exchanged z.link) comes (turns_at k z.host) (ending_of k) (none_at k z.host none) b) w.sites a)
+        where
+          k : Work
+          k = host_work s r comes f
 
-      none : SetsNoneAside k
-      none =
-          keeps (work_of r s.memory.plan (λ n. near_end_in (exchanged s.link) comes) (entries_for s.host
-          (arrival Host (exchanged s.link) comes)))
-          (record { number = subst IfHostNode e fine.node; turns = start_none r (λ n. near_end_in (exchanged s.link) comes) })
-
-  by_site : (o : Option Site) → site_at w.sites h ≡ o → Fine (host_does w h comes f).0
-  by_site None e = subst Fine (sym (none_is e)) a
-  by_site (Some s) e = by_node s e (good_at w.sites h s good e) s.node refl
+          none : SetsNoneAside k
+          none =
+              keeps (work_of r s.memory.plan (λ n. near_end_in (exchanged s.link) comes) (entries_for s.host
+              (arrival Host (exchanged s.link) comes)))
+              (record { number = subst IfHostNode e fine.node; turns = start_none r (λ n. near_end_in (exchanged s.link) comes) })
 
 comes_none : (w : NodeWorld) (e : End) (comes : Comes) → AreGood w.sites → HaveNoneAside w.sites → HaveNoneAside (comes_at w e comes).0.sites
 comes_none w e comes good a = go (input_of (seen_from e (link_to w.sites e.link)) comes) refl (cases_Bool e.at_host) where
@@ -126,20 +125,17 @@ comes_none w e comes good a = go (input_of (seen_from e (link_to w.sites e.link)
   far_is i q b = rw q (rw b refl)
 
   near : (i : LinkInput) → Fine (controller_does w e.link comes (steps (AtEnd e.link i))).0
-  near i = by_node w.controller refl where
-    off_is : w.controller ≡ None → (controller_does w e.link comes (steps (AtEnd e.link i))).0 ≡ w
-    off_is z = rw z refl
+  near i = by_option w.controller
+      (λ z. subst Fine (sym (off_is z)) a)
+      (λ r z. let k : Work = controller_work w r e.link comes (steps (AtEnd e.link i)) in
+      subst Fine (sym (on_is r z)) (none_map (link_after_controller e.link comes k)
+      (λ s b. near_same s.link (Step (comes_to e.link comes s.host) (turns_at k s.host) (ending_of k)) b) w.sites a)) where
+        off_is : w.controller ≡ None → (controller_does w e.link comes (steps (AtEnd e.link i))).0 ≡ w
+        off_is z = rw z refl
 
-    on_is : (r : Running) → w.controller ≡ Some r → (controller_does w e.link comes (steps (AtEnd e.link i))).0
-        ≡ (after_controller w e.link comes (controller_work w r e.link comes (steps (AtEnd e.link i)))).0
-    on_is r z = rw z refl
-
-    by_node : (o : Option Running) → w.controller ≡ o → Fine (controller_does w e.link comes (steps (AtEnd e.link i))).0
-    by_node None z = subst Fine (sym (off_is z)) a
-    by_node (Some r) z =
-        let k : Work = controller_work w r e.link comes (steps (AtEnd e.link i)) in
-        subst Fine (sym (on_is r z)) (none_map (link_after_controller e.link comes k)
-        (λ s b. near_same s.link (Step (comes_to e.link comes s.host) (turns_at k s.host) (ending_of k)) b) w.sites a)
+        on_is : (r : Running) → w.controller ≡ Some r → (controller_does w e.link comes (steps (AtEnd e.link i))).0
+            ≡ (after_controller w e.link comes (controller_work w r e.link comes (steps (AtEnd e.link i)))).0
+        on_is r z = rw z refl
 
   go : (o : Option LinkInput) → input_of (seen_from e (link_to w.sites e.link)) comes ≡ o → (e.at_host ≡ true) ⊎ (e.at_host ≡ false)
       → Fine (comes_at w e comes).0
@@ -183,10 +179,7 @@ lost_none w e why a = by_side (cases_Bool e.at_host) where
   lost s = record s { link = happens s.link (at e (Lose why)) }
 
   one : (s : Site) → HasNoneAside s → HasNoneAside (lost s)
-  one s b = go e.at_host refl where
-    go : (c : Bool) → e.at_host ≡ c → (happens s.link (at e (Lose why))).host.side.aside ≡ 0
-    go true q = rw q b
-    go false q = rw q b
+  one s b = by_test e.at_host (λ q. rw q b) (λ q. rw q b)
 
   near_is : e.at_host ≡ false → (frame_lost w e why).0.sites ≡ with_site e.link lost w.sites
   near_is b = rw b refl
@@ -234,23 +227,21 @@ all_ticked [] good a = tt
 all_ticked (s ∷ sites) good a = (host_tick_none s good.0 a.0, all_ticked sites good.1 a.1)
 
 near_none : (w : NodeWorld) → HaveNoneAside w.sites → HaveNoneAside (controller_ticks w).0.sites
-near_none w a = go w.controller refl where
-  k : Running → Work
-  k r = steps TimePasses (work_of r w.memory.plan (λ h. (link_to w.sites h).controller) [])
+near_none w a = by_option w.controller
+    (λ e. subst HaveNoneAside (sym (off_is e)) (none_map (λ (s : Site). record s { link = ticks_at_controller s.link [] GoesOut })
+    (λ s b. ap (λ (h : NumberedEnd). h.side.aside) (tick_host s.link [] GoesOut) ∙ b) w.sites a))
+    (λ r e. subst HaveNoneAside (sym (on_is r e)) (none_map
+    (λ (s : Site). record s { link = ticked_so s.link (is_late_at (k r) s.host) (turns_at (k r) s.host) (ending_of (k r)) })
+    (λ s b. ticked_same s.link (is_late_at (k r) s.host) (turns_at (k r) s.host) (ending_of (k r)) b) w.sites a)) where
+      k : Running → Work
+      k r = steps TimePasses (work_of r w.memory.plan (λ h. (link_to w.sites h).controller) [])
 
-  off_is : w.controller ≡ None → (controller_ticks w).0.sites ≡ map (λ (s : Site). record s { link = ticks_at_controller s.link [] GoesOut }) w.sites
-  off_is e = rw e refl
+      off_is : w.controller ≡ None → (controller_ticks w).0.sites ≡ map (λ (s : Site). record s { link = ticks_at_controller s.link [] GoesOut }) w.sites
+      off_is e = rw e refl
 
-  on_is : (r : Running) → w.controller ≡ Some r → (controller_ticks w).0.sites
-      ≡ map (λ (s : Site). record s { link = ticked_so s.link (is_late_at (k r) s.host) (turns_at (k r) s.host) (ending_of (k r)) }) w.sites
-  on_is r e = rw e refl
-
-  go : (o : Option Running) → w.controller ≡ o → HaveNoneAside (controller_ticks w).0.sites
-  go None e = subst HaveNoneAside (sym (off_is e)) (none_map (λ (s : Site). record s { link = ticks_at_controller s.link [] GoesOut })
-      (λ s b. ap (λ (h : NumberedEnd). h.side.aside) (tick_host s.link [] GoesOut) ∙ b) w.sites a)
-  go (Some r) e = subst HaveNoneAside (sym (on_is r e)) (none_map
-      (λ (s : Site). record s { link = ticked_so s.link (is_late_at (k r) s.host) (turns_at (k r) s.host) (ending_of (k r)) })
-      (λ s b. ticked_same s.link (is_late_at (k r) s.host) (turns_at (k r) s.host) (ending_of (k r)) b) w.sites a)
+      on_is : (r : Running) → w.controller ≡ Some r → (controller_ticks w).0.sites
+          ≡ map (λ (s : Site). record s { link = ticked_so s.link (is_late_at (k r) s.host) (turns_at (k r) s.host) (ending_of (k r)) }) w.sites
+      on_is r e = rw e refl
 
 pub aged_none : (w : NodeWorld) → HaveNoneAside w.sites → HaveNoneAside (all_aged w).0.sites
 aged_none w a = none_map (λ (s : Site). record s { link = aged s.link }) (λ s b. b) w.sites a

@@ -18,6 +18,7 @@ use Rattle.node_laws.specs.telling.Telling.{hosts_in}
 use Rattle.node_laws.specs.readings.Noticed.{ends_between}
 use Rattle.node_laws.specs.creations.Creations.{creations_at, creations_of, IsReadSo, is_asked_pipe, asked_pipes, KnowsAsRead, IfKnowsAsRead, AsidesAreRead}
 use Rattle.node_laws.specs.creations.Worlds.{HasNoneAside, HasSetAside, KeepsCreations}
+use Rattle.node_laws.proofs.Cases.{by_option}
 use Rattle.node_laws.proofs.creations.Doing.{takes_short}
 use Rattle.node_laws.proofs.creations.Asks.{asked_of, one_of, waits, desks_wait}
 use Rattle.node_laws.proofs.creations.Near.{none_side, desks_back}
@@ -114,22 +115,16 @@ module _ (pid : ℕ) where
     go None q later = rw q (later (rw q at e))
     go (Some c) q later = by (cases_Bool (eqb c.asker x)) where
       skip : list_any is_it (waiting_pipes ports) ≡ true → list_any is_it (waiting_pipes (p ∷ ports)) ≡ true
-      skip tail = by_pipe (pipe_of c.command) refl where
+      skip tail = by_option (pipe_of c.command) (λ z. rw (q, z) tail) (λ n z. rw (q, z) (yes (eqb n pid))) where
         yes : (b : Bool) → (b || list_any is_it (waiting_pipes ports)) ≡ true
         yes true = refl
         yes false = tail
 
-        by_pipe : (n : Option ℕ) → pipe_of c.command ≡ n → list_any is_it (waiting_pipes (p ∷ ports)) ≡ true
-        by_pipe None z = rw (q, z) tail
-        by_pipe (Some n) z = rw (q, z) (yes (eqb n pid))
-
       here : is_of_pipe pid c ≡ true → list_any is_it (waiting_pipes (p ∷ ports)) ≡ true
-      here first = by_pipe (pipe_of c.command) refl where
-        by_pipe : (n : Option ℕ) → pipe_of c.command ≡ n → list_any is_it (waiting_pipes (p ∷ ports)) ≡ true
-        by_pipe None z = absurd (true≢false (sym first ∙ ap (λ o. option_map_or (λ (n : ℕ). eqb n pid) o false) z))
-        by_pipe (Some n) z =
-            let is : eqb n pid ≡ true = sym (ap (λ o. option_map_or (λ (n : ℕ). eqb n pid) o false) z) ∙ first in
-            rw (q, z) (ap (λ b. b || list_any is_it (waiting_pipes ports)) is)
+      here first = by_option (pipe_of c.command)
+          (λ z. absurd (true≢false (sym first ∙ ap (λ o. option_map_or (λ (n : ℕ). eqb n pid) o false) z)))
+          (λ n z. let is : eqb n pid ≡ true = sym (ap (λ o. option_map_or (λ (n : ℕ). eqb n pid) o false) z) ∙ first in
+          rw (q, z) (ap (λ b. b || list_any is_it (waiting_pipes ports)) is))
 
       by : (eqb c.asker x ≡ true) ⊎ (eqb c.asker x ≡ false) → list_any is_it (waiting_pipes (p ∷ ports)) ≡ true
       by (inr off) = skip (later (rw (q, off) at e))
@@ -220,19 +215,15 @@ module _ (hosts : List ℕ) (t : List Entry) (w : NodeWorld) (a : KeepsCreations
 
   -- an asker is a host of the world
   in_hosts : (pid x : ℕ) → list_any (is_of_pipe pid) (waits x (asked_of ports)) ≡ true → list_any (is_asked_pipe t pid) hosts ≡ true
-  in_hosts pid x e = go (site_at w.sites x) refl where
-    empty : (l : List Creation) → length l ≡ 0 → list_any (is_of_pipe pid) l ≡ false
-    empty [] q = refl
-    empty (c ∷ l) q = absurd (omega (arith, q))
-
-    go : (o : Option Site) → site_at w.sites x ≡ o → list_any (is_asked_pipe t pid) hosts ≡ true
-    go None q =
-        let none : length (waits x (asked_of ports)) ≡ 0 =
-        ap length (sym (list_is x)) ∙ (sym (a.ends x).aside ∙ ap (λ (z : LinkEnd). z.aside) (none_side w.sites x q)) in
-        absurd (true≢false (sym e ∙ empty (waits x (asked_of ports)) none))
-    go (Some s) q =
-        subst (λ l. list_any (is_asked_pipe t pid) l ≡ true) a.kept.hosts_are
-        (any_site pid (is_asked_pipe t pid) w.sites x s q (sym (pipe_is pid x) ∙ e))
+  in_hosts pid x e = by_option (site_at w.sites x)
+      (λ q. let none : length (waits x (asked_of ports)) ≡ 0 =
+      ap length (sym (list_is x)) ∙ (sym (a.ends x).aside ∙ ap (λ (z : LinkEnd). z.aside) (none_side w.sites x q)) in
+      absurd (true≢false (sym e ∙ empty (waits x (asked_of ports)) none)))
+      (λ s q. subst (λ l. list_any (is_asked_pipe t pid) l ≡ true) a.kept.hosts_are
+      (any_site pid (is_asked_pipe t pid) w.sites x s q (sym (pipe_is pid x) ∙ e))) where
+        empty : (l : List Creation) → length l ≡ 0 → list_any (is_of_pipe pid) l ≡ false
+        empty [] q = refl
+        empty (c ∷ l) q = absurd (omega (arith, q))
 
   waiting_is : (pid : ℕ) → list_any (λ p. eqb p pid) (waiting_pipes ports) ≡ list_any (is_asked_pipe t pid) hosts
   waiting_is pid =

@@ -11,7 +11,7 @@ use Rattle.trace_model.specs.declared.entry.Entry.{Entry}
 use Rattle.trace_model.specs.declared.entry.Entry.TheVariants as entry
 use Rattle.link_laws.specs.sessions.Sessions.{is_up}
 use Rattle.link_laws.specs.machine.Machine.{LinkEnd, Role, sent_all, new_link_end, renewed}
-use Rattle.link_laws.specs.machine.Machine.Role.{Bare, Clf, Uicc}
+use Rattle.link_laws.specs.machine.Machine.Role.{Bare}
 use Rattle.link_laws.specs.messages.Links.{NumberedEnd, new_link}
 use Rattle.node_machine.specs.Parts.{Creation, Desk, Running, Port, Work}
 use Rattle.node_machine.specs.Carrying.{port_at}
@@ -20,6 +20,7 @@ use Rattle.node_machine.specs.Node.{NodeInput, steps}
 use Rattle.node_machine.specs.world.World.{NodeWorld, Site, site_at, link_to, runs_on, port_for, work_of}
 use Rattle.node_machine.specs.world.NodeFilters.{Book, book_after, book_in, asking_in}
 use Rattle.node_laws.specs.links.Notices.{IsOutside, IsNoticedUp, OnFirst}
+use Rattle.node_laws.proofs.Cases.{by_option}
 use Rattle.node_laws.proofs.links.Noticing.{UpAt, at_host}
 use Rattle.node_laws.proofs.links.Blocks.{IsWithin, sent_within}
 use Rattle.node_laws.specs.kept.Hosts.{AreDifferent}
@@ -70,8 +71,7 @@ has_is n l e same a = record { within = record { room = a.room; forgot = a.forgo
 
 pub new_ready : (r : Role) → HasSetAside [] (new_link_end (renewed r))
 new_ready Bare = record { room = omega arith; forgot = λ n. refl; aside = refl; up = λ some. absurd (some refl) }
-new_ready (Clf s) = record { room = omega arith; forgot = λ n. refl; aside = refl; up = λ some. absurd (some refl) }
-new_ready (Uicc s) = record { room = omega arith; forgot = λ n. refl; aside = refl; up = λ some. absurd (some refl) }
+new_ready _ = record { room = omega arith; forgot = λ n. refl; aside = refl; up = λ some. absurd (some refl) }
 
 pub bare_ready : (l : List Creation) → l ≡ [] → HasSetAside l (new_link Bare Bare).controller.side
 bare_ready l e = subst (λ k. HasSetAside k (new_link Bare Bare).controller.side) (sym e) (new_ready Bare)
@@ -196,26 +196,21 @@ module _ (t : List Entry) (w : NodeWorld) (r : Running) (runs : w.controller ≡
       ∙ (ap (λ l. creations_at l x) (sym (desks_back near_ends r.desks)) ∙ (desks_wait x begun.ports ∙ sym (append-nil (waits x asked))))
 
   end_of : (x : ℕ) → EndAt (many x t (hosts_in w.sites) asked []) (waits x asked ++ []) (port_at begun.ports x)
-  end_of x = go (find (λ (d : Desk). eqb d.host x) r.desks) refl where
-    ready : HasSetAside (waits x asked ++ []) (link_to w.sites x).controller.side
-    ready = subst (λ l. HasSetAside l (link_to w.sites x).controller.side) (list_is x) (old.ends x)
+  end_of x = by_option (find (λ (d : Desk). eqb d.host x) r.desks)
+      (λ e. let none : length (waits x asked ++ []) ≡ 0 =
+      sym ready.aside ∙ ap (λ (z : LinkEnd). z.aside) (none_side w.sites x (no_desk r.desks w.sites x has.ends e)) in
+      subst (EndAt (many x t (hosts_in w.sites) asked []) (waits x asked ++ []))
+      (sym (port_of near_ends r.desks x ∙ ap (option_map (λ d. port_for (near_ends x) d)) e)) (none, empty (waits x asked ++ []) none))
+      (λ d e. let b : IsBegun x (port_for (near_ends x) d) = begun_at x d e in
+      subst (EndAt (many x t (hosts_in w.sites) asked []) (waits x asked ++ [])) (sym b.here)
+      (has_is (many x t (hosts_in w.sites) asked []) (waits x asked ++ []) (near_ends x).side refl
+      (subst (HasSetAside (waits x asked ++ [])) (sym (same x)) ready))) where
+        ready : HasSetAside (waits x asked ++ []) (link_to w.sites x).controller.side
+        ready = subst (λ l. HasSetAside l (link_to w.sites x).controller.side) (list_is x) (old.ends x)
 
-    empty : (l : List Creation) → length l ≡ 0 → l ≡ []
-    empty [] q = refl
-    empty (c ∷ l) q = absurd (omega (arith, q))
-
-    go : (o : Option Desk) → find (λ (d : Desk). eqb d.host x) r.desks ≡ o
-        → EndAt (many x t (hosts_in w.sites) asked []) (waits x asked ++ []) (port_at begun.ports x)
-    go None e =
-        let none : length (waits x asked ++ []) ≡ 0 =
-        sym ready.aside ∙ ap (λ (z : LinkEnd). z.aside) (none_side w.sites x (no_desk r.desks w.sites x has.ends e)) in
-        subst (EndAt (many x t (hosts_in w.sites) asked []) (waits x asked ++ []))
-        (sym (port_of near_ends r.desks x ∙ ap (option_map (λ d. port_for (near_ends x) d)) e)) (none, empty (waits x asked ++ []) none)
-    go (Some d) e =
-        let b : IsBegun x (port_for (near_ends x) d) = begun_at x d e in
-        subst (EndAt (many x t (hosts_in w.sites) asked []) (waits x asked ++ [])) (sym b.here)
-        (has_is (many x t (hosts_in w.sites) asked []) (waits x asked ++ []) (near_ends x).side refl
-        (subst (HasSetAside (waits x asked ++ [])) (sym (same x)) ready))
+        empty : (l : List Creation) → length l ≡ 0 → l ≡ []
+        empty [] q = refl
+        empty (c ∷ l) q = absurd (omega (arith, q))
 
   pub begins : (x : ℕ) → Good x t (hosts_in w.sites) asked [] begun
   begins x = record {
@@ -236,10 +231,9 @@ module _ (t : List Entry) (w : NodeWorld) (r : Running) (runs : w.controller ≡
     after_it = steps input begun
 
     pub up_at : (x : ℕ) → UpAt (port_at begun.ports x)
-    up_at x = go (find (λ (d : Desk). eqb d.host x) r.desks) refl where
-      go : (o : Option Desk) → find (λ (d : Desk). eqb d.host x) r.desks ≡ o → UpAt (port_at begun.ports x)
-      go None e = subst UpAt (sym (port_of near_ends r.desks x ∙ ap (option_map (λ d. port_for (near_ends x) d)) e)) tt
-      go (Some d) e = let b : IsBegun x (port_for (near_ends x) d) = begun_at x d e in subst UpAt (sym b.here) b.up
+    up_at x = by_option (find (λ (d : Desk). eqb d.host x) r.desks)
+        (λ e. subst UpAt (sym (port_of near_ends r.desks x ∙ ap (option_map (λ d. port_for (near_ends x) d)) e)) tt)
+        (λ d e. let b : IsBegun x (port_for (near_ends x) d) = begun_at x d e in subst UpAt (sym b.here) b.up)
 
     fine : (x : ℕ) → Fine x t (hosts_in w.sites) after_it
     fine x =

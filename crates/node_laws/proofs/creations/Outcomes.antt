@@ -17,7 +17,7 @@ use Rattle.gate_identity.specs.Identity.{identity_served}
 use Rattle.node_laws.specs.kept.Hosts.{AreDifferent}
 use Rattle.link_laws.specs.machine.Machine.{Message}
 use Rattle.node_machine.specs.Parts.{Creation, Notice, Core, Port, Deed}
-use Rattle.node_machine.specs.Parts.Deed.{Commits, Sends, SaysOk, Asks, Releases, Tells, IsAnswered, Drops, SetsErrors, Orders, Hears, GoesOn, Ends}
+use Rattle.node_machine.specs.Parts.Deed.{Commits, Sends, SaysOk, Asks, Tells, IsAnswered, Drops, SetsErrors}
 use Rattle.node_machine.specs.Carrying.{port_at, finds_room, own_view}
 use Rattle.node_machine.specs.Controller.{has_link, creation_in, asked_at, asks_for, view_for, commit_deeds, decision_deeds, link_deeds, gates, own_gate}
 use Rattle.node_machine.specs.Controller.{goes_through, agreed, controller_deeds, view_of}
@@ -184,10 +184,4 @@ all_leave x ports (SaysOk ∷ deeds) d a free = (tt, all_leave x ports deeds d a
 all_leave x ports (Tells to message ∷ deeds) d a free = ((a.0, unasked ports to free.0 d), all_leave x ports deeds d a.1 free.1)
 all_leave x ports (Drops pid ∷ deeds) d a free = (tt, all_leave x ports deeds d a.1 free.1)
 all_leave x ports (SetsErrors errors ∷ deeds) d a free = (tt, all_leave x ports deeds d a.1 free.1)
-all_leave x ports (Asks to message c ∷ deeds) d a free = absurd a.0
-all_leave x ports (Releases asker ∷ deeds) d a free = absurd a.0
-all_leave x ports (IsAnswered ∷ deeds) d a free = absurd a.0
-all_leave x ports (Orders order ∷ deeds) d a free = absurd a.0
-all_leave x ports (Hears ∷ deeds) d a free = absurd a.0
-all_leave x ports (GoesOn i ∷ deeds) d a free = absurd a.0
-all_leave x ports (Ends e ∷ deeds) d a free = absurd a.0
+all_leave x ports (_ ∷ deeds) d a free = absurd a.0

@@ -1,11 +1,10 @@
 -- The end of a controller on a link of its world is what its step makes of it.
-use Rattle.std.proofs.Common.{◌≡◌, ◌⊎◌, inl, inr, ℕ, Bool, true, false, not, cond, eqb, List, [], ◌∷◌, map, sym, refl, ap, ◌∙◌, subst}
+use Rattle.std.proofs.Common.{◌≡◌, ◌⊎◌, inl, inr, ℕ, Bool, true, false, not, cond, eqb, List, [], map, sym, refl, ap, ◌∙◌, subst}
 use Rattle.std.specs.Prelude.{Option, Some, None, is_some}
 use Rattle.std.specs.List.{flat_map}
 use Rattle.std.specs.Option.{option_map}
 use Rattle.std.proofs.lemmas.Bool.{cases_Bool, true≢false}
 use Rattle.trace_model.specs.declared.entry.Entry.{Entry}
-use Rattle.link_laws.specs.sessions.Sessions.{OnWire}
 use Rattle.shdlc_core.specs.Machine.{is_waiting}
 use Rattle.shdlc_core.specs.declared.answers.LinkState.TheVariants.{Up, Down}
 use Rattle.link_laws.specs.machine.Machine.{LinkEnd, LinkInput, Turn, is_open, after_input, turn, turned, sent_all}
@@ -19,6 +18,7 @@ use Rattle.node_machine.specs.Node.{NodeInput, input_at, has_come, all_come, wit
 use Rattle.node_machine.specs.Node.{without_notice, after_sessions, synced, steps}
 use Rattle.node_machine.specs.Node.NodeInput.{AtEnd, TimePasses}
 use Rattle.node_machine.specs.world.World.{input_of, ticked_so}
+use Rattle.node_laws.proofs.Cases.{by_list, by_test}
 use Rattle.node_laws.proofs.links.Noticing.{UpAt, at_all}
 use Rattle.node_laws.proofs.telling.Accounts.{at_changed, turned-append}
 use Rattle.node_laws.proofs.telling.Walks.{AreSilent, rest}
@@ -94,10 +94,7 @@ come_turns p None e = e
 come_turns p (Some i) e = e
 
 reset_turns : (p : Port) → p.turns ≡ [] → (reset_late p).turns ≡ []
-reset_turns p e = go (is_late p) refl where
-  go : (b : Bool) → is_late p ≡ b → (reset_late p).turns ≡ []
-  go true z = rw z e
-  go false z = rw z e
+reset_turns p e = by_test (is_late p) (λ z. rw z e) (λ z. rw z e)
 
 pub near_made : (x h : ℕ) (i : LinkInput) (w : Work) (p : Port) → port_at w.ports x ≡ Some p → p.turns ≡ []
     → IsMade x (has_come p (input_at (AtEnd h i) p)).side (has_come p (input_at (AtEnd h i) p)).late (steps (AtEnd h i) w)
@@ -124,15 +121,12 @@ tick_made x w p here none =
 
 input_side : (l : Link) (comes : Comes) (ts : List Turn) (i : LinkInput) → input_of l comes ≡ Some i
     → (steps_at_controller l comes ts GoesOut).controller.side ≡ sent_all (turned (after_input l.controller.side i) ts)
-input_side l NextFrame ts i e = go l.to_controller refl where
-  go : (xs : List OnWire) → l.to_controller ≡ xs
-      → (steps_at_controller l NextFrame ts GoesOut).controller.side ≡ sent_all (turned (after_input l.controller.side i) ts)
-  go [] q = let z : None ≡ Some i = rw q at e in absurd (cc z)
-  go (y ∷ ys) q =
-      let z : Some (Take y.frame) ≡ Some i = rw q at e in
-      let one : Take y.frame ≡ i = cc in
-      let is : steps_at_controller l NextFrame ts GoesOut ≡ has_taken l y ys ts GoesOut = rw q refl in
-      ap (λ (k : Link). k.controller.side) is ∙ ap (λ j. sent_all (turned (after_input l.controller.side j) ts)) one
+input_side l NextFrame ts i e = by_list l.to_controller
+    (λ q. let z : None ≡ Some i = rw q at e in absurd (cc z))
+    (λ y ys q. let z : Some (Take y.frame) ≡ Some i = rw q at e in
+    let one : Take y.frame ≡ i = cc in
+    let is : steps_at_controller l NextFrame ts GoesOut ≡ has_taken l y ys ts GoesOut = rw q refl in
+    ap (λ (k : Link). k.controller.side) is ∙ ap (λ j. sent_all (turned (after_input l.controller.side j) ts)) one)
 input_side l (AsksReset window) ts i e =
     let one : Reset window ≡ i = cc in ap (λ j. sent_all (turned (after_input l.controller.side j) ts)) one
 input_side l (Starts value) ts i e =
@@ -184,7 +178,4 @@ tick_side l ts p side fresh noticed shut = go (is_late (with_older (has_come p (
       ∙ ap (λ z. sent_all (turned z ts)) (sym (is ∙ reset_same p.side lasting))))
     where
       is_active : p.side.shdlc.phase ≡ Up → is_open p.side.role ≡ true
-      is_active up = by (is_open p.side.role) refl where
-        by : (b : Bool) → is_open p.side.role ≡ b → is_open p.side.role ≡ true
-        by true z = z
-        by false z = let w : Up ≡ Down = sym up ∙ shut z in absurd (cc w)
+      is_active up = by_test (is_open p.side.role) (λ z. z) (λ z. let w : Up ≡ Down = sym up ∙ shut z in absurd (cc w))

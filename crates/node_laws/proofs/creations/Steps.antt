@@ -12,7 +12,7 @@ use Rattle.hci_tables.specs.Tables.{HciTables, is_kept_sync}
 use Rattle.gate_answers.specs.declared.response.Response.{Response}
 use Rattle.gate_answers.specs.declared.response.Response.TheVariants as response
 use Rattle.gate_answers.specs.Answers.{answer_of}
-use Rattle.link_laws.specs.machine.Machine.{LinkInput, report}
+use Rattle.link_laws.specs.machine.Machine.{report}
 use Rattle.link_laws.specs.machine.Machine.Turn.{Release}
 use Rattle.node_machine.specs.Parts.{Creation, Notice, Core, Port, Work, Deed}
 use Rattle.node_machine.specs.Parts.Deed.{Commits, Releases, Sends}
@@ -25,6 +25,7 @@ use Rattle.node_machine.specs.Node.{without_notice, after_sessions, synced, answ
 use Rattle.node_machine.specs.Node.NodeInput.{AtEnd, TimePasses}
 use Rattle.node_machine.specs.world.NodeFilters.{is_response}
 use Rattle.node_laws.specs.links.Notices.{IsOutside}
+use Rattle.node_laws.proofs.Cases.{by_option, by_test}
 use Rattle.node_laws.proofs.links.Noticing.{UpAt, at_all}
 use Rattle.node_laws.proofs.telling.Steps.{without_same, forgets_same}
 use Rattle.node_laws.specs.kept.Hosts.{AreDifferent}
@@ -44,17 +45,7 @@ use Rattle.node_laws.proofs.steps.Ports.{forgets_host, sessions_node, without_ho
 
 answer_response : (r : Response) → is_response (answer_of r []) ≡ true
 answer_response response.Ok = refl
-answer_response response.NotConnected = refl
-answer_response response.CommandParameterUnknown = refl
-answer_response response.NotOk = refl
-answer_response response.NoPipesAvailable = refl
-answer_response response.RegistryParameterUnknown = refl
-answer_response response.PipeNotOpened = refl
-answer_response response.CommandNotSupported = refl
-answer_response response.Inhibited = refl
-answer_response response.Timeout = refl
-answer_response response.RegistryAccessDenied = refl
-answer_response response.PipeAccessDenied = refl
+answer_response _ = refl
 
 -- ## What is due
 
@@ -75,20 +66,13 @@ due_map f one [] a = tt
 due_map f one (p ∷ ports) a = (one p a.0, due_map f one ports a.1)
 
 forgets_due : (all : List Port) (p : Port) → IfAwaited (asked_at p) → IfAwaited (asked_at (forgets all p))
-forgets_due all p a = go (is_forgotten all (asked_at p)) refl where
+forgets_due all p a = by_test (is_forgotten all (asked_at p)) (λ e. rw e (by p.desk.notice)) (λ e. rw e a) where
   by : (o : Option Notice) → IfAwaited (creation_in (option_map_or (λ (n : Notice). Some (record n { about = Forgotten })) o None))
   by None = tt
   by (Some n) = tt
 
-  go : (b : Bool) → is_forgotten all (asked_at p) ≡ b → IfAwaited (asked_at (forgets all p))
-  go true e = rw e (by p.desk.notice)
-  go false e = rw e a
-
 without_due : (p : Port) → IfAwaited (asked_at p) → IfAwaited (asked_at (without_notice p))
-without_due p a = go (is_over p) refl where
-  go : (b : Bool) → is_over p ≡ b → IfAwaited (asked_at (without_notice p))
-  go true e = rw e tt
-  go false e = rw e a
+without_due p a = by_test (is_over p) (λ e. rw e tt) (λ e. rw e a)
 
 owed_due : (test : Port → Bool) (ports : List Port) → AllAwaited ports → AllByRecursion IsAwaited (filter_map asked_at (filter test ports))
 owed_due test [] a = tt
@@ -104,10 +88,7 @@ owed_due test (p ∷ ports) a = by_test (test p) refl (owed_due test ports a.1) 
 -- ## What stays of an end
 
 forgets_ended : (all : List Port) (p : Port) → (forgets all p).ended ≡ p.ended
-forgets_ended all p = go (is_forgotten all (asked_at p)) refl where
-  go : (b : Bool) → is_forgotten all (asked_at p) ≡ b → (forgets all p).ended ≡ p.ended
-  go true e = rw e refl
-  go false e = rw e refl
+forgets_ended all p = by_test (is_forgotten all (asked_at p)) (λ e. rw e refl) (λ e. rw e refl)
 
 flags_left : (all ports : List Port) → AreFlagged ports → AreFlagged (map (forgets all) ports)
 flags_left all [] f = tt
@@ -174,17 +155,14 @@ module _ (x : ℕ) (before : List Entry) (hosts : List ℕ) where
   kept_append ds es a b = all_joined IsKept ds es a b
 
   synced_kept : (core : Core) (input : NodeInput) (p : Port) → AllByRecursion IsKept (synced core input p)
-  synced_kept core input p = go (input_at input p) refl where
-    either : (b : Bool) (id : ℕ) → AllByRecursion IsKept (cond b (Commits (Sync p.desk.host id) ∷ []) [])
-    either true id = (tt, tt)
-    either false id = tt
-
-    go : (o : Option LinkInput) → input_at input p ≡ o → AllByRecursion IsKept (synced core input p)
-    go None q = rw q tt
-    go (Some i) q = by (report p.side i).sync refl where
-      by : (o : Option ℕ) → (report p.side i).sync ≡ o → AllByRecursion IsKept (synced core input p)
-      by None e = rw (q, e) tt
-      by (Some id) e = rw (q, e) (either (not (is_kept_sync core.tables.syncs p.desk.host id) && finds_room core (Sync p.desk.host id)) id)
+  synced_kept core input p = by_option (input_at input p)
+      (λ q. rw q tt)
+      (λ i q. by_option (report p.side i).sync
+      (λ e. rw (q, e) tt)
+      (λ id e. rw (q, e) (either (not (is_kept_sync core.tables.syncs p.desk.host id) && finds_room core (Sync p.desk.host id)) id))) where
+        either : (b : Bool) (id : ℕ) → AllByRecursion IsKept (cond b (Commits (Sync p.desk.host id) ∷ []) [])
+        either true id = (tt, tt)
+        either false id = tt
 
   pub all_kept : (core : Core) (input : NodeInput) (ports : List Port) → AllByRecursion IsKept (flat_map (synced core input) ports)
   all_kept core input [] = tt
@@ -340,22 +318,18 @@ module _ (x : ℕ) (before : List Entry) (hosts : List ℕ) where
 
       -- as many blocks are freed as creations are forgotten
       pub shared : n ≡ length (owes x freed) + many x before hosts now owing
-      shared = go over refl where
-        freed_is : owes x freed ≡ cond over (waits x asked) []
-        freed_is = freed_are x v.ports v.ports ∙ ap (λ l. cond over (waits x l) []) c.asked_are
+      shared = by_test over
+          (λ e. let f : length (owes x freed) ≡ length (waits x asked) = ap length freed_is ∙ ap (λ b. length (cond b (waits x asked) [])) e in
+          let z : many x before hosts now owing ≡ 0 = same_length ∙ ap (λ b. length (cond b [] (waits x asked))) e in
+          omega (arith, all_are, f, z))
+          (λ e. let f : length (owes x freed) ≡ 0 = ap length freed_is ∙ ap (λ b. length (cond b (waits x asked) [])) e in
+          let z : many x before hosts now owing ≡ length (waits x asked) = same_length ∙ ap (λ b. length (cond b [] (waits x asked))) e in
+          omega (arith, all_are, f, z)) where
+            freed_is : owes x freed ≡ cond over (waits x asked) []
+            freed_is = freed_are x v.ports v.ports ∙ ap (λ l. cond over (waits x l) []) c.asked_are
 
-        all_are : n ≡ length (waits x asked)
-        all_are = ap length (append-nil (waits x asked))
-
-        go : (b : Bool) → over ≡ b → n ≡ length (owes x freed) + many x before hosts now owing
-        go true e =
-            let f : length (owes x freed) ≡ length (waits x asked) = ap length freed_is ∙ ap (λ b. length (cond b (waits x asked) [])) e in
-            let z : many x before hosts now owing ≡ 0 = same_length ∙ ap (λ b. length (cond b [] (waits x asked))) e in
-            omega (arith, all_are, f, z)
-        go false e =
-            let f : length (owes x freed) ≡ 0 = ap length freed_is ∙ ap (λ b. length (cond b (waits x asked) [])) e in
-            let z : many x before hosts now owing ≡ length (waits x asked) = same_length ∙ ap (λ b. length (cond b [] (waits x asked))) e in
-            omega (arith, all_are, f, z)
+            all_are : n ≡ length (waits x asked)
+            all_are = ap length (append-nil (waits x asked))
 
       goes_on : (syncs : List Deed) → AllByRecursion IsKept syncs
           → Fine x before hosts (answers_and_passes (forgotten v.ports) syncs (all_owed left) begun)

@@ -28,6 +28,7 @@ use Rattle.node_machine.specs.world.World.{activates, sending}
 use Rattle.node_machine.specs.world.World.{beginning, new_site, new_world, end_c, end_h, world_step}
 use Rattle.node_machine.specs.world.World.Happening.{Boots, IsCut, Gives, Inits, Takes, Loses, Ticks, Resets, Activates, Arms}
 use Rattle.node_machine.specs.world.NodeFilters.{commands_in}
+use Rattle.node_laws.proofs.Cases.{by_option}
 use Rattle.node_laws.proofs.links.Blocks.{IsWithin, input_within, sent_within}
 use Rattle.node_laws.specs.kept.Hosts.{AreHosts}
 use Rattle.node_laws.specs.kept.Worlds.{AllKeep, MayHappen}
@@ -103,21 +104,19 @@ pub aged_good : (w : NodeWorld) → AreGood w.sites → AreGood (all_aged w).0.s
 aged_good w a = good_map (λ (s : Site). record s { link = aged s.link }) (λ s b. record { host = b.host; node = b.node; shut = b.shut }) w.sites a
 
 pub near_good : (w : NodeWorld) → AreGood w.sites → AreGood (controller_ticks w).0.sites
-near_good w a = go w.controller refl where
-  k : Running → Work
-  k r = steps TimePasses (work_of r w.memory.plan (λ h. (link_to w.sites h).controller) [])
+near_good w a = by_option w.controller
+    (λ e. subst AreGood (sym (off_is e)) (good_map (λ (s : Site). record s { link = ticks_at_controller s.link [] GoesOut })
+    (λ s b. record { host = b.host; node = b.node; shut = ticks_shut s.link [] GoesOut b.shut }) w.sites a))
+    (λ r e. subst AreGood (sym (on_is r e)) (ticked_good (k r) w.sites a)) where
+      k : Running → Work
+      k r = steps TimePasses (work_of r w.memory.plan (λ h. (link_to w.sites h).controller) [])
 
-  off_is : w.controller ≡ None → (controller_ticks w).0.sites ≡ map (λ (s : Site). record s { link = ticks_at_controller s.link [] GoesOut }) w.sites
-  off_is e = rw e refl
+      off_is : w.controller ≡ None → (controller_ticks w).0.sites ≡ map (λ (s : Site). record s { link = ticks_at_controller s.link [] GoesOut }) w.sites
+      off_is e = rw e refl
 
-  on_is : (r : Running) → w.controller ≡ Some r → (controller_ticks w).0.sites
-      ≡ map (λ (s : Site). record s { link = ticked_so s.link (is_late_at (k r) s.host) (turns_at (k r) s.host) (ending_of (k r)) }) w.sites
-  on_is r e = rw e refl
-
-  go : (o : Option Running) → w.controller ≡ o → AreGood (controller_ticks w).0.sites
-  go None e = subst AreGood (sym (off_is e)) (good_map (λ (s : Site). record s { link = ticks_at_controller s.link [] GoesOut })
-      (λ s b. record { host = b.host; node = b.node; shut = ticks_shut s.link [] GoesOut b.shut }) w.sites a)
-  go (Some r) e = subst AreGood (sym (on_is r e)) (ticked_good (k r) w.sites a)
+      on_is : (r : Running) → w.controller ≡ Some r → (controller_ticks w).0.sites
+          ≡ map (λ (s : Site). record s { link = ticked_so s.link (is_late_at (k r) s.host) (turns_at (k r) s.host) (ending_of (k r)) }) w.sites
+      on_is r e = rw e refl
 
 module _ (hosts : List ℕ) (are : AreHosts hosts) (t : List Entry) (w : NodeWorld) (kept : AllKeep hosts t w) (notices : KeepsNotices t w) (a : Reads t w) where
   controller_ticked : Reads (t ++ ((all_aged w).1 ++ (controller_ticks (all_aged w).0).1)) (controller_ticks (all_aged w).0).0

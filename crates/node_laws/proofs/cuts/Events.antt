@@ -14,7 +14,7 @@ use Rattle.journal_laws.specs.Planned.{fails_within, after_planned}
 use Rattle.link_laws.specs.machine.Machine.{Message, LinkInput}
 use Rattle.link_laws.specs.messages.Links.{Comes, Loss, happens}
 use Rattle.link_laws.specs.messages.Links.Comes.{NextFrame, AsksReset, Starts, NoInput}
-use Rattle.link_laws.specs.messages.Links.Loss.{OnDemand, Broken, Unread, TooOld, TooMany}
+use Rattle.link_laws.specs.messages.Links.Loss.{Broken}
 use Rattle.link_laws.specs.messages.Links.EndEvent.{Lose}
 use Rattle.link_laws.specs.entries.Entries.{first_lost}
 use Rattle.link_laws.specs.entries.Entries.End.{Controller, Host}
@@ -31,7 +31,7 @@ use Rattle.node_machine.specs.world.World.{NodeWorld, Site, Happening, node_at, 
 use Rattle.node_machine.specs.world.World.{with_memory, with_node, links_of, boots, counts, frame_lost, sending, beginning, comes_at, activates, end_c, end_h}
 use Rattle.node_machine.specs.world.World.{world_step}
 use Rattle.node_machine.specs.world.World.Happening.{Boots, IsCut, Gives, Inits, Takes, Loses, Ticks, Resets, Activates, Arms}
-use Rattle.node_machine.specs.world.NodeFilters.{book_in, commands_in}
+use Rattle.node_machine.specs.world.NodeFilters.{commands_in}
 use Rattle.node_laws.specs.kept.Reckonings.{Reckoning, reckoned, EachIsAsRead}
 use Rattle.node_laws.specs.kept.Deeds.{MayBeDone}
 use Rattle.node_machine.specs.Orders.{IsOnOrder}
@@ -150,10 +150,7 @@ module _ (hosts : List ℕ) (are : AreHosts hosts) (n : ℕ) where
   counts_on : (why : Loss) (h : ℕ) (o : Option Running) → is_some (counts why h o) ≡ is_some o
   counts_on (Broken fault) h None = refl
   counts_on (Broken fault) h (Some q) = refl
-  counts_on OnDemand h o = refl
-  counts_on Unread h o = refl
-  counts_on TooOld h o = refl
-  counts_on TooMany h o = refl
+  counts_on _ h o = refl
 
   lost_exact : (t : List Entry) (r : Reckoning) (w : NodeWorld) (e : End) (why : Loss) → IsThere w n → StandsAt n t r w → ExactAt n t r (frame_lost w e why)
   lost_exact t r w e why there stands = by_side (cases_Bool e.at_host) where

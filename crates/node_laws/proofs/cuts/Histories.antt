@@ -22,16 +22,17 @@ use Rattle.trace_model.specs.declared.line.Header.{Header}
 use Rattle.trace_model.specs.declared.line.Line.{Line}
 use Rattle.journal_laws.specs.Planned.{after_planned}
 use Rattle.node_machine.specs.Node.{boot_writes}
-use Rattle.node_machine.specs.world.World.Happening.{Boots, IsCut, Gives, Inits, Takes, Loses, Ticks, Resets, Activates, Arms}
+use Rattle.node_machine.specs.world.World.Happening.{Boots, IsCut, Arms}
 use Rattle.node_machine.specs.world.NodeLegal.{last_in, FindsCommands}
 use Rattle.node_machine.specs.world.NodeLegal.Last.{CutBehindCommand}
 use Rattle.node_machine.specs.world.World.{NodeWorld, Site, Happening, new_memory, new_site, new_world, node_at, site_at, memory_at, world_step}
 use Rattle.node_machine.specs.world.Lines.{Occurrence, happenings}
 use Rattle.node_machine.specs.world.NodeHistories.{LineStep, NodeHistory, FollowsNodes, occurrences_of, occurrences_in, entries_in, node_entries}
 use Rattle.node_machine.specs.world.NodeFilters.{Book, new_book, with_found, book_in, commands_in}
-use Rattle.node_laws.specs.kept.Reckonings.{Reckoning, reckoning_of, writes_of, with_written, reckoned, IsAsRead, EachIsAsRead}
+use Rattle.node_laws.specs.kept.Reckonings.{Reckoning, reckoning_of, with_written, reckoned, IsAsRead, EachIsAsRead}
 use Rattle.node_laws.specs.kept.Hosts.{AreHosts, IsFew, IsSentByHost}
 use Rattle.node_laws.specs.kept.Worlds.{AllKeep, MayHappen}
+use Rattle.node_laws.proofs.Cases.{by_test}
 use Rattle.node_laws.proofs.kept.Lines.{MayAllHappen, line_may, world_goes}
 use Rattle.node_laws.proofs.kept.Kept.{all_begin, blank_finds, are_kept}
 use Rattle.journal_laws.proofs.Opening.{fresh}
@@ -148,13 +149,7 @@ new_event n r (IsCut k) es none planned new =
 new_event n r (Arms k plan) es none planned new =
     new_all n (begun_by n (Arms k plan) r) es planned.0
     (cond_both (eqb k n) (record r { memory = record r.memory { plan = Some plan } }) r IsNew (λ _. record { off = new.off; content = new.content }) (λ _. new))
-new_event n r (Gives e m) es none planned new = new_all n r es planned.0 new
-new_event n r (Inits e identity pipes) es none planned new = new_all n r es planned.0 new
-new_event n r (Takes e) es none planned new = new_all n r es planned.0 new
-new_event n r (Loses e why) es none planned new = new_all n r es planned.0 new
-new_event n r Ticks es none planned new = new_all n r es planned.0 new
-new_event n r (Resets e window) es none planned new = new_all n r es planned.0 new
-new_event n r (Activates h sync power) es none planned new = new_all n r es planned.0 new
+new_event n r _ es none planned new = new_all n r es planned.0 new
 
 module _ (hosts : List ℕ) (are : AreHosts hosts) (n : ℕ) where
   -- what is known before each of these events, and behind all of them
@@ -318,7 +313,9 @@ module _ (header : Header) (lines : List Line) (t : NodeHistory) (follows : Foll
       )
 
   pub commands_write_so : CommandsWriteSo t
-  commands_write_so front back n c node is booted = by_room (record_fits (state_of content) (body_of c)) refl
+  commands_write_so front back n c node is booted = by_test (record_fits (state_of content) (body_of c))
+      (λ fits. two_writes c r fits ∙ sym (ap (λ b. cond b 2 (cond (is_open_beside content) 5 4)) fits))
+      (λ full. snapshot_writes c r full used ∙ sym (ap (λ b. cond b 2 (cond (is_open_beside content) 5 4)) full))
     where
       k : IsKnown header.hosts.items are n front (world_behind w0 front) back
       k = known n node front back is
@@ -331,11 +328,6 @@ module _ (header : Header) (lines : List Line) (t : NodeHistory) (follows : Foll
 
       used : IsSome (current content)
       used = subst (λ (m : Memory). IsSome (current m.content)) (sym k.stands.memory_is) (k.stands.used booted)
-
-      by_room : (b : Bool) → record_fits (state_of content) (body_of c) ≡ b
-          → length (writes_of c r) ≡ cond (record_fits (state_of content) (body_of c)) 2 (cond (is_open_beside content) 5 4)
-      by_room true fits = two_writes c r fits ∙ sym (ap (λ b. cond b 2 (cond (is_open_beside content) 5 4)) fits)
-      by_room false full = snapshot_writes c r full used ∙ sym (ap (λ b. cond b 2 (cond (is_open_beside content) 5 4)) full)
 
   pub memories_hold : MemoriesHold t
   memories_hold front back n node is =

@@ -8,7 +8,6 @@ use Rattle.std.proofs.lemmas.Bool.{eq-eqb, true≢false}
 use Rattle.swp_base.specs.InMemory.{Memory, Plan}
 use Rattle.trace_model.specs.declared.entry.Entry.{Entry}
 use Rattle.trace_model.specs.declared.entry.Entry.TheVariants as entry
-use Rattle.journal_laws.specs.declared.banks.Side.{Side}
 use Rattle.journal_laws.specs.Writes.{IsCut}
 use Rattle.journal_laws.specs.Banks.{current}
 use Rattle.journal_laws.specs.Journal.{state_of, count_of}
@@ -24,6 +23,7 @@ use Rattle.node_laws.specs.kept.Reckonings.{Reckoning, reckoned}
 use Rattle.node_laws.specs.cuts.Histories.{FindsBy, FindsExactly}
 use Rattle.node_laws.specs.kept.Finds.{BootFinds}
 use Rattle.node_laws.specs.kept.Worlds.{RunsSo}
+use Rattle.node_laws.proofs.Cases.{by_option}
 use Rattle.node_laws.proofs.kept.Books.{closed_book}
 use Rattle.node_laws.proofs.kept.Planned.{planned_cut}
 use Rattle.node_laws.proofs.kept.Commits.{finds_closed, used_of}
@@ -33,23 +33,18 @@ use Rattle.node_laws.proofs.cuts.Standing.{all_found, Stands, book_then, still_b
 -- a boot whose writes are cut leaves what it would have found
 finds_cut : (m : Memory) (t : HciTables) (many : ℕ) → BootFinds m.content t many → fails_within (length (boot_writes m.content)) m.plan ≡ true
     → BootFinds (after_planned (boot_writes m.content) m).content t many
-finds_cut m t many f fails = by_bank (current m.content) refl where
-  by_bank : (o : Option Side) → current m.content ≡ o → BootFinds (after_planned (boot_writes m.content) m).content t many
-  by_bank (Some side) is =
-      absurd (true≢false (sym fails ∙ ap (λ p. fails_within (length (option_map_or (λ _. []) p format_writes)) m.plan) is ∙ none_within m.plan))
-  by_bank None is =
-      let cut = planned_cut (boot_writes m.content) m fails in
-      let formats : boot_writes m.content ≡ format_writes = ap (λ p. option_map_or (λ _. []) p format_writes) is in
-      left_formatted m.content t many f is cut.0 (after_planned (boot_writes m.content) m).content
-      (subst (λ w. IsCut cut.0 w m.content (after_planned (boot_writes m.content) m).content) formats cut.1)
+finds_cut m t many f fails = by_option (current m.content)
+    (λ is. let cut = planned_cut (boot_writes m.content) m fails in
+    let formats : boot_writes m.content ≡ format_writes = ap (λ p. option_map_or (λ _. []) p format_writes) is in
+    left_formatted m.content t many f is cut.0 (after_planned (boot_writes m.content) m).content
+    (subst (λ w. IsCut cut.0 w m.content (after_planned (boot_writes m.content) m).content) formats cut.1))
+    (λ side is. absurd (true≢false (sym fails ∙ ap (λ p. fails_within (length (option_map_or (λ _. []) p format_writes)) m.plan) is ∙ none_within m.plan)))
 
 -- only a boot that formats can be cut
 blank_then : (m : Memory) → fails_within (length (boot_writes m.content)) m.plan ≡ true → current m.content ≡ None
-blank_then m fails = by_bank (current m.content) refl where
-  by_bank : (o : Option Side) → current m.content ≡ o → current m.content ≡ None
-  by_bank None is = is
-  by_bank (Some side) is =
-      absurd (true≢false (sym fails ∙ ap (λ p. fails_within (length (option_map_or (λ _. []) p format_writes)) m.plan) is ∙ none_within m.plan))
+blank_then m fails = by_option (current m.content)
+    (λ is. is)
+    (λ side is. absurd (true≢false (sym fails ∙ ap (λ p. fails_within (length (option_map_or (λ _. []) p format_writes)) m.plan) is ∙ none_within m.plan)))
 
 least : (lost : Bool) (many all : ℕ) → FindsBy lost many all → many ≤ all
 least true many all is = omega (arith, is)

@@ -22,6 +22,7 @@ use Rattle.node_machine.specs.Orders.{IsOnOrder}
 use Rattle.node_laws.specs.kept.Hosts.{AreHosts}
 use Rattle.node_laws.specs.kept.Worlds.{NodeKeeps, SiteKeeps, AllKeep}
 use Rattle.registry.proofs.ValueLemmas.{AllByRecursion-append as all_append}
+use Rattle.node_laws.proofs.Cases.{by_option}
 use Rattle.node_laws.proofs.kept.Plainly.{plain_entries, plain_flat}
 use Rattle.node_laws.proofs.kept.Doing.{GoesOn_or_lost}
 use Rattle.node_laws.proofs.kept.Standing.{runs_begun, told_ended}
@@ -260,43 +261,40 @@ module _ (hosts : List ℕ) (are : AreHosts hosts) where
       → (before : List Entry) (work : Work) → work.core ≡ q.core → StillRuns x.host (x.host ∷ []) x.memory before work
       → GoesOn_or_lost x.host (x.host ∷ []) x.memory before (f work))
       → IsThere w n → StandsAt n t r w → ExactAt n t r (host_does w h comes f)
-  host_exact n t r w h comes f all step there stands = by_site (site_at w.sites h) refl where
-    by_node : (x : Site) → site_at w.sites h ≡ Some x → (o : Option Running) → x.node ≡ o → NodeKeeps x.host (x.host ∷ []) t x.memory o
-        → IsHost x.host → x.host ≡ h → ExactAt n t r (host_does w h comes f)
-    by_node x here None e k host same =
-        let off_is : host_does w h comes f ≡ (w, []) = rw here (rw e refl) in
-        subst (ExactAt n t r) (sym off_is) (none_exact n t r w there stands)
-    by_node x here (Some q) e k host same =
-        let work : Work = host_work x q comes f in
-        let begun : List Entry = entries_for x.host (arrival Host (exchanged x.link) comes) in
-        let start : Work = work_of q x.memory.plan (λ k. near_end_in (exchanged x.link) comes) begun in
-        let more : List Entry = frames_noted Host h (wires_for (exchanged x.link) comes) work in
-        let on_is : host_does w h comes f ≡ (record w { sites = with_site h (after_host comes work) w.sites }, work.entries ++ more) = rw here (rw e refl) in
-        let fine : GoesOn_or_lost x.host (x.host ∷ []) x.memory t work =
-        step x q here e host k.runs.on t start refl
-        (runs_begun x.host (x.host ∷ []) t x.memory q (λ k. near_end_in (exchanged x.link) comes) begun
-        (plain_entries x.host (arrival Host (exchanged x.link) comes)) k.runs) in
-        host_run_exact n t r w h (host_does w h comes f) (record {
-          site = x;
-          there = here;
-          is_host = subst IsHost same host;
-          running = q;
-          was = e;
-          work = work;
-          more = more;
-          plain = plain_frames Host h (wires_for (exchanged x.link) comes) work;
-          fine = subst (λ k. GoesOn_or_lost k (k ∷ []) x.memory t work) same fine;
-          change = after_host comes work;
-          host = λ s. refl;
-          memory_is = refl;
-          node_is = refl;
-          is = on_is;
-        }) there stands
-
-    by_site : (o : Option Site) → site_at w.sites h ≡ o → ExactAt n t r (host_does w h comes f)
-    by_site None here =
-        let off_is : host_does w h comes f ≡ (w, []) = rw here refl in
-        subst (ExactAt n t r) (sym off_is) (none_exact n t r w there stands)
-    by_site (Some x) here =
-        let known = site_found (SiteKeeps t) IsHost w.sites h x all.sites (subst (AllByRecursion IsHost) (sym all.hosts_are) are.all) here in
-        by_node x here x.node refl known.0 known.1 known.2
+  host_exact n t r w h comes f all step there stands = by_option (site_at w.sites h)
+      (λ here. let off_is : host_does w h comes f ≡ (w, []) = rw here refl in
+      subst (ExactAt n t r) (sym off_is) (none_exact n t r w there stands))
+      (λ x here. let known = site_found (SiteKeeps t) IsHost w.sites h x all.sites (subst (AllByRecursion IsHost) (sym all.hosts_are) are.all) here in
+      by_node x here x.node refl known.0 known.1 known.2) where
+        by_node : (x : Site) → site_at w.sites h ≡ Some x → (o : Option Running) → x.node ≡ o → NodeKeeps x.host (x.host ∷ []) t x.memory o
+            → IsHost x.host → x.host ≡ h → ExactAt n t r (host_does w h comes f)
+        by_node x here None e k host same =
+            let off_is : host_does w h comes f ≡ (w, []) = rw here (rw e refl) in
+            subst (ExactAt n t r) (sym off_is) (none_exact n t r w there stands)
+        by_node x here (Some q) e k host same =
+            let work : Work = host_work x q comes f in
+            let begun : List Entry = entries_for x.host (arrival Host (exchanged x.link) comes) in
+            let start : Work = work_of q x.memory.plan (λ k. near_end_in (exchanged x.link) comes) begun in
+            let more : List Entry = frames_noted Host h (wires_for (exchanged x.link) comes) work in
+            let on_is : host_does w h comes f ≡ (record w { sites = with_site h (after_host comes work) w.sites }, work.entries ++ more) = rw here (rw e refl)
+            in
+            let fine : GoesOn_or_lost x.host (x.host ∷ []) x.memory t work =
+            step x q here e host k.runs.on t start refl
+            (runs_begun x.host (x.host ∷ []) t x.memory q (λ k. near_end_in (exchanged x.link) comes) begun
+            (plain_entries x.host (arrival Host (exchanged x.link) comes)) k.runs) in
+            host_run_exact n t r w h (host_does w h comes f) (record {
+              site = x;
+              there = here;
+              is_host = subst IsHost same host;
+              running = q;
+              was = e;
+              work = work;
+              more = more;
+              plain = plain_frames Host h (wires_for (exchanged x.link) comes) work;
+              fine = subst (λ k. GoesOn_or_lost k (k ∷ []) x.memory t work) same fine;
+              change = after_host comes work;
+              host = λ s. refl;
+              memory_is = refl;
+              node_is = refl;
+              is = on_is;
+            }) there stands

@@ -16,7 +16,7 @@ use Rattle.gate_answers.specs.declared.response.Response.TheVariants as response
 use Rattle.hci_tables.specs.declared.command.Command.{Command}
 use Rattle.hci_tables.specs.Tables.{HciTables}
 use Rattle.shdlc_core.specs.declared.answers.LinkState.{LinkState}
-use Rattle.shdlc_core.specs.declared.answers.LinkState.TheVariants.{Down as IsDown, Up as IsUpNow, Waiting as IsWaitingNow}
+use Rattle.shdlc_core.specs.declared.answers.LinkState.TheVariants.{Up as IsUpNow}
 use Rattle.link_laws.specs.sessions.Sessions.{OnWire}
 use Rattle.link_laws.specs.machine.Machine.{LinkEnd, LinkInput, ended_by, report}
 use Rattle.link_laws.specs.machine.Machine.LinkInput.{Reset, Start, Stop, Take}
@@ -41,6 +41,7 @@ use Rattle.node_laws.specs.kept.Books.{hosts_of_ends}
 use Rattle.node_laws.specs.kept.Hosts.{AreDifferent, AreHosts}
 use Rattle.node_laws.specs.kept.Worlds.{IfRuns, RunsSo}
 use Rattle.node_laws.specs.telling.Telling.{HasEnds, IsOrderly, hosts_in}
+use Rattle.node_laws.proofs.Cases.{by_option, by_test}
 use Rattle.node_laws.proofs.telling.Nodes.{Stands, hosts_same, link_is, stands}
 use Rattle.node_laws.specs.order.Told.{AreSessionsRead}
 use Rattle.node_laws.specs.passes.Noting.{session_of_port}
@@ -106,16 +107,13 @@ tookless_own = record {
 }
 
 far_down : (k : ℕ) (f : End) → (node_of f == 0) ≡ false → (same_end f (end_c k) && true) ≡ false
-far_down k f off = by f.at_host refl where
-  none : (b : Bool) → ((b && false) && true) ≡ false
-  none true = refl
-  none false = refl
-
-  by : (b : Bool) → f.at_host ≡ b → (same_end f (end_c k) && true) ≡ false
-  by true q = rw q (none (eqb f.link k))
-  by false q =
-      let zero : node_of f ≡ 0 = rw q refl in
-      absurd (true≢false (sym (ap (λ n. n == 0) zero) ∙ off))
+far_down k f off = by_test f.at_host
+    (λ q. rw q (none (eqb f.link k)))
+    (λ q. let zero : node_of f ≡ 0 = rw q refl in
+    absurd (true≢false (sym (ap (λ n. n == 0) zero) ∙ off))) where
+      none : (b : Bool) → ((b && false) && true) ≡ false
+      none true = refl
+      none false = refl
 
 other_down : (k : ℕ) (x : Entry) → is_of_node 0 x ≡ false → ends_session any_cause (end_c k) x ≡ false
 other_down k (entry.Down f cause) off = far_down k f off
@@ -170,8 +168,7 @@ pub session_is : (e : NumberedEnd) (d : Desk) → session_in (Some (port_for e d
 session_is e d = go e.side.shdlc.phase refl where
   go : (s : LinkState) → e.side.shdlc.phase ≡ s → session_in (Some (port_for e d)) ≡ number_now e
   go IsUpNow q = rw q refl
-  go IsWaitingNow q = rw q refl
-  go IsDown q = rw q refl
+  go _ q = rw q refl
 
 -- ## What is taken
 
@@ -205,10 +202,7 @@ arrival_read t h l NoInput i is e clf = absurd (cc is)
 -- nothing comes where no link is
 no_arrival : (h : ℕ) (comes : Comes) → entries_for h (arrival Controller (new_link Bare Bare) comes) ≡ []
 no_arrival h NextFrame = refl
-no_arrival h (AsksReset window) = refl
-no_arrival h (Starts value) = refl
-no_arrival h Stops = refl
-no_arrival h NoInput = refl
+no_arrival h _ = refl
 
 pub front_flat : (t : HciTables) (xs ys : List Entry) → AllByRecursion (IsUnread t) ys → flat_map (new_sync t) (xs ++ ys) ≡ flat_map (new_sync t) xs
 front_flat t xs ys a =
@@ -298,12 +292,10 @@ module _ (hosts : List ℕ) (are : AreHosts hosts) (past : List Occurrence) (w :
     syncs = synced_at begun.core h i begun.ports different ∙ syncs_at (port_at begun.ports h) refl
 
     no_link : port_at begun.ports h ≡ None → l ≡ new_link Bare Bare
-    no_link none = go (site_at w.sites h) refl where
-      go : (o : Option Site) → site_at w.sites h ≡ o → l ≡ new_link Bare Bare
-      go None e = ap (λ o. option_map_or (λ (s : Site). s.link) o (new_link Bare Bare)) e
-      go (Some s) e =
-          let at : Stands near_ends r.desks h = stands near_ends r.desks w.sites h s has.ends e in
-          let no : None ≡ Some (port_for (near_ends h) at.desk) = sym none ∙ at.here in absurd (cc no)
+    no_link none = by_option (site_at w.sites h)
+        (λ e. ap (λ o. option_map_or (λ (s : Site). s.link) o (new_link Bare Bare)) e)
+        (λ s e. let at : Stands near_ends r.desks h = stands near_ends r.desks w.sites h s has.ends e in
+        let no : None ≡ Some (port_for (near_ends h) at.desk) = sym none ∙ at.here in absurd (cc no))
 
     arrived_read : (o : Option Port) → port_at begun.ports h ≡ o
         → flat_map (new_sync (tables_in t 0)) begun.entries ≡ option_map_or (synced begun.core (AtEnd h i)) o []
@@ -371,12 +363,10 @@ module _ (hosts : List ℕ) (are : AreHosts hosts) (past : List Occurrence) (w :
     -- an end behind what came was one before
     was : (k : ℕ) (q : Port) → port_at (has_come_so (AtEnd h i) begun).ports k ≡ Some q
         → (p : Port) × (port_at begun.ports k ≡ Some p) × (q ≡ come_so (AtEnd h i) p)
-    was k q found = go (port_at begun.ports k) refl where
-      go : (o : Option Port) → port_at begun.ports k ≡ o → (p : Port) × (port_at begun.ports k ≡ Some p) × (q ≡ come_so (AtEnd h i) p)
-      go None e =
-          let none : port_at (has_come_so (AtEnd h i) begun).ports k ≡ None = come_none (AtEnd h i) begun k e in
-          let no : None ≡ Some q = sym none ∙ found in absurd (cc no)
-      go (Some p) e = (p, e, same_port q (come_so (AtEnd h i) p) (sym found ∙ come_found (AtEnd h i) begun k p e))
+    was k q found = by_option (port_at begun.ports k)
+        (λ e. let none : port_at (has_come_so (AtEnd h i) begun).ports k ≡ None = come_none (AtEnd h i) begun k e in
+        let no : None ≡ Some q = sym none ∙ found in absurd (cc no))
+        (λ p e. (p, e, same_port q (come_so (AtEnd h i) p) (sym found ∙ come_found (AtEnd h i) begun k p e)))
 
     sessions : (a : ℕ) (p : Port) → port_at begun.ports a ≡ Some p → IsElse (AtEnd h i) a → session_of_port begun.ports a ≡ session_now t (end_c a) 0
     sessions a p found else =

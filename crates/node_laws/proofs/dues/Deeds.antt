@@ -16,6 +16,7 @@ use Rattle.node_machine.specs.world.NodeHistories.{entries_in}
 use Rattle.node_machine.specs.world.NodeFilters.{asking_in, notice_in}
 use Rattle.node_laws.specs.kept.Books.{hosts_of_ends}
 use Rattle.node_laws.specs.kept.Hosts.{AreDifferent, AreHosts}
+use Rattle.node_laws.proofs.Cases.{by_option}
 use Rattle.node_laws.proofs.telling.Steps.{forgets_same}
 use Rattle.node_laws.specs.passes.Steps.{has_come_so, owed_in_step}
 use Rattle.node_laws.proofs.links.Noticing.{at_host}
@@ -105,24 +106,20 @@ module _ (hosts : List ℕ) (are : AreHosts hosts) (t : List Entry) (input : Nod
 
   -- an asker has an end
   asker_over : (k : ℕ) (p : Port) (c : Creation) → port_at ports k ≡ Some p → asked_at p ≡ Some c → is_over_at ports c.asker ≡ goes_down o c.asker
-  asker_over k p c found waiting = go (port_at ports c.asker) refl where
-    some : IsIn c (waits c.asker (asked_of w.ports))
-    some = subst (λ (a : Asked). IsIn c (waits c.asker a)) (come hosts are t input w b 0).asked_are (in_waits c.asker ports k p c found waiting refl)
+  asker_over k p c found waiting = by_option (port_at ports c.asker)
+      (λ e. let at : ComeAt (many c.asker t hosts (asked_of w.ports) []) (waits c.asker (asked_of w.ports) ++ []) None =
+      subst (ComeAt (many c.asker t hosts (asked_of w.ports) []) (waits c.asker (asked_of w.ports) ++ [])) e (come hosts are t input w b c.asker).end in
+      absurd (filled at.1))
+      (λ q e. over_at ports c.asker (come_different hosts are t input w b)
+      ∙ (ap (λ o. option_map_or is_over o false) e ∙ sym (ends c.asker q e))) where
+        some : IsIn c (waits c.asker (asked_of w.ports))
+        some = subst (λ (a : Asked). IsIn c (waits c.asker a)) (come hosts are t input w b 0).asked_are (in_waits c.asker ports k p c found waiting refl)
 
-    filled : waits c.asker (asked_of w.ports) ++ [] ≡ [] → ⊥
-    filled none = by some.front (sym some.is ∙ (sym (append-nil (waits c.asker (asked_of w.ports))) ∙ none)) where
-      by : (front : List Creation) → front ++ (c ∷ some.back) ≡ [] → ⊥
-      by [] e = cc e
-      by (d ∷ front) e = cc e
-
-    go : (q : Option Port) → port_at ports c.asker ≡ q → is_over_at ports c.asker ≡ goes_down o c.asker
-    go None e =
-        let at : ComeAt (many c.asker t hosts (asked_of w.ports) []) (waits c.asker (asked_of w.ports) ++ []) None =
-        subst (ComeAt (many c.asker t hosts (asked_of w.ports) []) (waits c.asker (asked_of w.ports) ++ [])) e (come hosts are t input w b c.asker).end in
-        absurd (filled at.1)
-    go (Some q) e =
-        over_at ports c.asker (come_different hosts are t input w b)
-        ∙ (ap (λ o. option_map_or is_over o false) e ∙ sym (ends c.asker q e))
+        filled : waits c.asker (asked_of w.ports) ++ [] ≡ [] → ⊥
+        filled none = by some.front (sym some.is ∙ (sym (append-nil (waits c.asker (asked_of w.ports))) ∙ none)) where
+          by : (front : List Creation) → front ++ (c ∷ some.back) ≡ [] → ⊥
+          by [] e = cc e
+          by (d ∷ front) e = cc e
 
   asking_read : (k : ℕ) → asking_in (entries_in past ++ down_in o) k ≡ cond (goes_down o k) None (asking_in now k)
   asking_read k =

@@ -21,6 +21,7 @@ use Rattle.node_machine.specs.world.World.{end_c}
 use Rattle.node_machine.specs.world.NodeFilters.{asking_in, session_now}
 use Rattle.node_laws.specs.answers.Moments.{creation_read}
 use Rattle.node_laws.specs.answers.Unasked.{ends_session, is_down}
+use Rattle.node_laws.proofs.Cases.{by_option, by_test}
 use Rattle.node_laws.proofs.worlds.Downs.{ends_in_list}
 
 -- ## Entries that tell of sessions that end
@@ -141,28 +142,24 @@ read_behind over t u reads (Some m) = go (eqb (instruction_in m) 18) refl where
   go true i = by_row (pipe_named_in (body_in m)) refl where
     by_row : (o : Option PipeRow) → pipe_named_in (body_in m) ≡ o → Goal
     by_row None q = rw (i, q) refl
-    by_row (Some row) q = by_over (over row.creator) refl where
-      was : (b : Bool) → option_map_or (same_bytes m) (asking_in t row.creator) false ≡ b → over row.creator ≡ true
-          → option_map_or (same_bytes m) (asking_in u row.creator) false ≡ false → Goal
-      was true s z none = rw (i, q, none, s, z) refl
-      was false s z none = rw (i, q, none, s) refl
+    by_row (Some row) q = by_test (over row.creator)
+        (λ z. was (option_map_or (same_bytes m) (asking_in t row.creator) false) refl z
+        (ap (λ o. option_map_or (same_bytes m) o false) (reads row.creator ∙ ap (λ b. cond b None (asking_in t row.creator)) z)))
+        (λ z. still (option_map_or (same_bytes m) (asking_in t row.creator) false) refl z
+        (ap (λ o. option_map_or (same_bytes m) o false) (reads row.creator ∙ ap (λ b. cond b None (asking_in t row.creator)) z))) where
+          was : (b : Bool) → option_map_or (same_bytes m) (asking_in t row.creator) false ≡ b → over row.creator ≡ true
+              → option_map_or (same_bytes m) (asking_in u row.creator) false ≡ false → Goal
+          was true s z none = rw (i, q, none, s, z) refl
+          was false s z none = rw (i, q, none, s) refl
 
-      still : (b : Bool) → option_map_or (same_bytes m) (asking_in t row.creator) false ≡ b → over row.creator ≡ false
-          → option_map_or (same_bytes m) (asking_in u row.creator) false ≡ b → Goal
-      still true s z now = rw (i, q, now, s, z) refl
-      still false s z now = rw (i, q, now, s) refl
-
-      by_over : (b : Bool) → over row.creator ≡ b → Goal
-      by_over true z =
-          was (option_map_or (same_bytes m) (asking_in t row.creator) false) refl z
-          (ap (λ o. option_map_or (same_bytes m) o false) (reads row.creator ∙ ap (λ b. cond b None (asking_in t row.creator)) z))
-      by_over false z =
-          still (option_map_or (same_bytes m) (asking_in t row.creator) false) refl z
-          (ap (λ o. option_map_or (same_bytes m) o false) (reads row.creator ∙ ap (λ b. cond b None (asking_in t row.creator)) z))
+          still : (b : Bool) → option_map_or (same_bytes m) (asking_in t row.creator) false ≡ b → over row.creator ≡ false
+              → option_map_or (same_bytes m) (asking_in u row.creator) false ≡ b → Goal
+          still true s z now = rw (i, q, now, s, z) refl
+          still false s z now = rw (i, q, now, s) refl
 
 -- so it is with what an end keeps
 pub kept_behind : (all : List Port) (p : Port) → asked_at (forgets all p) ≡ unless_over (is_over_at all) (asked_at p)
-kept_behind all p = go p.desk.notice refl where
+kept_behind all p = by_option p.desk.notice (λ q. none_asked (ap creation_in q)) (λ n q. by n q (asked_at p) refl) where
   Goal : Type 0
   Goal = asked_at (forgets all p) ≡ unless_over (is_over_at all) (asked_at p)
 
@@ -185,7 +182,3 @@ kept_behind all p = go p.desk.notice refl where
   by : (n : Notice) → p.desk.notice ≡ Some n → (o : Option Creation) → asked_at p ≡ o → Goal
   by n q None e = none_asked e
   by n q (Some c) e = by_over n c q e (is_over_at all c.asker) refl
-
-  go : (o : Option Notice) → p.desk.notice ≡ o → Goal
-  go None q = none_asked (ap creation_in q)
-  go (Some n) q = by n q (asked_at p) refl

@@ -1,6 +1,6 @@
 -- In each event of a history what the controller answers before its first turn is exactly what is due.
-use Rattle.std.proofs.Common.{◌≡◌, ℕ, ◌≤◌, Bool, true, false, cond, List, [], ◌∷◌, ◌++◌, length, sym, refl, ap, ◌∙◌, subst, append_assoc, append-nil}
-use Rattle.std.specs.Prelude.{◌==◌, IsTrue, Option, Some, None, unwrap_or}
+use Rattle.std.proofs.Common.{◌≡◌, ℕ, ◌≤◌, false, cond, List, [], ◌∷◌, ◌++◌, length, sym, refl, ap, ◌∙◌, subst, append_assoc, append-nil}
+use Rattle.std.specs.Prelude.{◌==◌, IsTrue, Some, None, unwrap_or}
 use Rattle.std.specs.List.{AllByRecursion, flat_map}
 use Rattle.std.proofs.lemmas.Bool.{true≢false}
 use Rattle.trace_model.specs.Lines.{IsNodeHeader}
@@ -32,6 +32,7 @@ use Rattle.node_machine.specs.world.NodeFilters.{tables_in}
 use Rattle.node_machine.proofs.world.Cases.{after_near_tick, boot_found, by_boot, by_coming, by_controller, by_loss, near_tick}
 use Rattle.node_laws.specs.kept.Hosts.{AreHosts, IsFew, IsSentByHost}
 use Rattle.node_laws.specs.telling.Telling.{IsOrderly, world_behind}
+use Rattle.node_laws.proofs.Cases.{by_option, by_test}
 use Rattle.node_laws.proofs.telling.Events.{comes_goes}
 use Rattle.node_laws.proofs.telling.Frames.{lost_all}
 use Rattle.node_laws.proofs.telling.Lasting.{AllMay, AreCaused, damaged_may, events_of_steps, lines_caused, repeated_may}
@@ -88,19 +89,14 @@ module _ (header : Header) (nodes : IsNodeHeader header) where
   line_begins : (w : NodeWorld) (l : Line) → IsPlain header l → refusal_in w l ≡ None → AllMay MayBegin w (happenings w l)
   line_begins w (line.Send e pid message) is none = ((is.1, off_zero header nodes e.link is.0.known), tt)
   line_begins w (line.Deliver e count) is none = repeated_may MayBegin (Takes e) (λ v. tt) (taken_of count (frames_at w e)) w
-  line_begins w (line.Lose e) is none = (tt, tt)
   line_begins w (line.Damage e places) is none = damaged_may MayBegin w e tt (λ why. tt) (first_verdict (frames_at w e) places.items)
   line_begins w (line.Tick times) is none = repeated_may MayBegin Ticks (λ v. tt) (unwrap_or times 1) w
-  line_begins w (line.Reset e window) is none = (tt, tt)
   line_begins w (line.Busy e) is none = tt
   line_begins w (line.Ready e) is none = tt
-  line_begins w (line.Boot n) is none = (tt, tt)
-  line_begins w (line.Cut n) is none = (tt, tt)
-  line_begins w (line.Activate host sync power) is none = (tt, tt)
-  line_begins w (line.Arm n nth fill) is none = (tt, tt)
   line_begins w (line.Init e identity pipes) is none = ((is.2, off_zero header nodes e.link is.0.known), tt)
   line_begins w (line.Tables n) is none = tt
   line_begins w (line.Settle rounds) is none = tt
+  line_begins w _ is none = (tt, tt)
 
 -- ## Events
 
@@ -150,13 +146,10 @@ module _ (header : Header) (lines : List Line) (t : NodeHistory) (follows : Foll
 
   coming : (c : Happening) (e : End) (comes : Comes) → begun_at 0 c ≡ [] → is_tick c ≡ false → (rest : List Entry) → AreNotOf 0 rest
       → Due c ((comes_at w e comes).1 ++ rest)
-  coming c e comes begun still rest other = go e.at_host refl where
-    go : (b : Bool) → e.at_host ≡ b → Due c ((comes_at w e comes).1 ++ rest)
-    go true q =
-        others c ((comes_at w e comes).1 ++ rest) begun still (all_append _ (comes_at w e comes).1 rest (far_not w e comes a q) other)
-    go false q =
-        by_coming (λ p. Due c (p.1 ++ rest)) w e comes (others c rest begun still other) (λ i z seen. absurd (true≢false (sym z ∙ q)))
-        (λ i z seen. near c e.link comes i seen begun still rest other)
+  coming c e comes begun still rest other = by_test e.at_host
+      (λ q. others c ((comes_at w e comes).1 ++ rest) begun still (all_append _ (comes_at w e comes).1 rest (far_not w e comes a q) other))
+      (λ q. by_coming (λ p. Due c (p.1 ++ rest)) w e comes (others c rest begun still other) (λ i z seen. absurd (true≢false (sym z ∙ q)))
+      (λ i z seen. near c e.link comes i seen begun still rest other))
 
   alone : (c : Happening) (e : End) (comes : Comes) → begun_at 0 c ≡ [] → is_tick c ≡ false → Due c (comes_at w e comes).1
   alone c e comes begun still =
@@ -199,27 +192,23 @@ module _ (header : Header) (lines : List Line) (t : NodeHistory) (follows : Foll
             nothing_due hosts past o refl none unread (owed_calm hosts past o still (λ k. refl))
 
   ticks : Due Ticks (world_ticks w).1
-  ticks = go w.controller refl where
-    old : NodeWorld
-    old = (all_aged w).0
+  ticks = by_option w.controller
+      (λ q. subst (λ es. Due Ticks ((all_aged w).1 ++ (es ++ far))) (sym (off_of old q)) (off_due hosts are past w between before clfs q))
+      (λ r q. let v : Work = near_tick old r in
+      let frames : List Entry = flat_map (λ (s : Site). frames_noted Controller s.host s.link v) old.sites in
+      subst (λ es. Due Ticks ((all_aged w).1 ++ (es ++ far))) (sym (on_of old r q))
+      (subst (λ es. Due Ticks ((all_aged w).1 ++ es)) (sym (append_assoc v.entries frames far)) (on_due hosts are past w between before clfs r q))) where
+        old : NodeWorld
+        old = (all_aged w).0
 
-    off_of : (v : NodeWorld) → v.controller ≡ None → (controller_ticks v).1 ≡ []
-    off_of v q = rw q refl
+        off_of : (v : NodeWorld) → v.controller ≡ None → (controller_ticks v).1 ≡ []
+        off_of v q = rw q refl
 
-    on_of : (v : NodeWorld) (r : Running) → v.controller ≡ Some r → (controller_ticks v).1 ≡ (after_near_tick v (near_tick v r)).1
-    on_of v r q = rw q refl
+        on_of : (v : NodeWorld) (r : Running) → v.controller ≡ Some r → (controller_ticks v).1 ≡ (after_near_tick v (near_tick v r)).1
+        on_of v r q = rw q refl
 
-    far : List Entry
-    far = (hosts_tick (controller_ticks old).0.sites).1
-
-    go : (o : Option Running) → w.controller ≡ o → Due Ticks ((all_aged w).1 ++ ((controller_ticks old).1 ++ far))
-    go None q =
-        subst (λ es. Due Ticks ((all_aged w).1 ++ (es ++ far))) (sym (off_of old q)) (off_due hosts are past w between before clfs q)
-    go (Some r) q =
-        let v : Work = near_tick old r in
-        let frames : List Entry = flat_map (λ (s : Site). frames_noted Controller s.host s.link v) old.sites in
-        subst (λ es. Due Ticks ((all_aged w).1 ++ (es ++ far))) (sym (on_of old r q))
-        (subst (λ es. Due Ticks ((all_aged w).1 ++ es)) (sym (append_assoc v.entries frames far)) (on_due hosts are past w between before clfs r q))
+        far : List Entry
+        far = (hosts_tick (controller_ticks old).0.sites).1
 
   pub event_due : (c : Happening) → MayBegin w c → Due c (world_step w c).1
   event_due (Boots n) may = booted n

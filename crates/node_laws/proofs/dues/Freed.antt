@@ -23,6 +23,7 @@ use Rattle.node_machine.specs.Node.{with_older, without_notice}
 use Rattle.node_machine.specs.Node.NodeInput.{AtEnd, TimePasses}
 use Rattle.node_laws.specs.kept.Books.{hosts_of_ends}
 use Rattle.node_laws.specs.kept.Hosts.{AreDifferent, AreHosts}
+use Rattle.node_laws.proofs.Cases.{by_test}
 use Rattle.node_laws.proofs.steps.Ports.{at_port, come_host, forgets_host, late_host, without_host}
 use Rattle.node_machine.proofs.Walks.{all_synced_hold, forgotten_hold}
 use Rattle.node_laws.proofs.telling.Away.{at_map, none_map}
@@ -47,10 +48,7 @@ use Rattle.node_laws.proofs.read_steps.Starting.{IsBegun}
 -- ## Sessions
 
 commit_session : (c : Command) (w : Work) (k : ℕ) → session_of_port (commit c w).ports k ≡ session_of_port w.ports k
-commit_session c w k = go (goes_in c w) refl where
-  go : (b : Bool) → goes_in c w ≡ b → session_of_port (commit c w).ports k ≡ session_of_port w.ports k
-  go true q = rw q refl
-  go false q = rw q refl
+commit_session c w k = by_test (goes_in c w) (λ q. rw q refl) (λ q. rw q refl)
 
 -- a deed that sends nothing
 abbrev SendsNothing : Deed → Type 0
@@ -105,10 +103,7 @@ pub same_port : (p q : Port) → Some p ≡ Some q → p ≡ q
 same_port p q e = cc
 
 late_session : (p : Port) → (reset_late p).session ≡ p.session
-late_session p = go (is_late p) refl where
-  go : (b : Bool) → is_late p ≡ b → (reset_late p).session ≡ p.session
-  go true q = rw q refl
-  go false q = rw q refl
+late_session p = by_test (is_late p) (λ q. rw q refl) (λ q. rw q refl)
 
 come_number : (input : NodeInput) (p : Port) → (come_so input p).session ≡ p.session
 come_number (AtEnd h i) p = come_session p (input_at (AtEnd h i) p)
@@ -121,19 +116,14 @@ IsElse TimePasses k = Unit {0}
 
 -- nothing ends the session of another end
 else_goes : (h : ℕ) (i : LinkInput) (p : Port) → IsFresh p → is_over (come_so (AtEnd h i) p) ≡ true → eqb p.desk.host h ≡ true
-else_goes h i p fresh over = go (eqb p.desk.host h) refl where
-  go : (b : Bool) → eqb p.desk.host h ≡ b → eqb p.desk.host h ≡ true
-  go true q = q
-  go false q =
-      let same : come_so (AtEnd h i) p ≡ p = rw q refl in
-      let off : is_over p ≡ false = rw (fresh.0, fresh.1) refl in
-      absurd (true≢false (sym over ∙ (ap is_over same ∙ off)))
+else_goes h i p fresh over = by_test (eqb p.desk.host h)
+    (λ q. q)
+    (λ q. let same : come_so (AtEnd h i) p ≡ p = rw q refl in
+    let off : is_over p ≡ false = rw (fresh.0, fresh.1) refl in
+    absurd (true≢false (sym over ∙ (ap is_over same ∙ off))))
 
 pub forgets_ended : (all : List Port) (p : Port) → (forgets all p).ended ≡ p.ended
-forgets_ended all p = go (is_forgotten all (asked_at p)) refl where
-  go : (b : Bool) → is_forgotten all (asked_at p) ≡ b → (forgets all p).ended ≡ p.ended
-  go true q = rw q refl
-  go false q = rw q refl
+forgets_ended all p = by_test (is_forgotten all (asked_at p)) (λ q. rw q refl) (λ q. rw q refl)
 
 pub forgets_over : (all : List Port) (p : Port) → is_over (forgets all p) ≡ is_over p
 forgets_over all p = ap (λ b. b || (forgets all p).late) (forgets_ended all p) ∙ ap (λ b. p.ended || b) (forgets_same all p).late
@@ -145,13 +135,11 @@ record WaitsStill (over : ℕ → Bool) (o : Option Creation) (c : Creation) : T
 
 still_waits : (over : ℕ → Bool) (o : Option Creation) (c : Creation) → unless_over over o ≡ Some c → WaitsStill over o c
 still_waits over None c is = absurd (cc is)
-still_waits over (Some d) c is = go (over d.asker) refl where
-  go : (b : Bool) → over d.asker ≡ b → WaitsStill over (Some d) c
-  go true q = let none : None ≡ Some c = sym (ap (λ b. cond b None (Some d)) q) ∙ is in absurd (cc none)
-  go false q =
-      let some : Some d ≡ Some c = sym (ap (λ b. cond b None (Some d)) q) ∙ is in
-      let same : d ≡ c = cc in
-      record { was = some; goes = subst (λ (x : Creation). over x.asker ≡ false) same q }
+still_waits over (Some d) c is = by_test (over d.asker)
+    (λ q. let none : None ≡ Some c = sym (ap (λ b. cond b None (Some d)) q) ∙ is in absurd (cc none))
+    (λ q. let some : Some d ≡ Some c = sym (ap (λ b. cond b None (Some d)) q) ∙ is in
+    let same : d ≡ c = cc in
+    record { was = some; goes = subst (λ (x : Creation). over x.asker ≡ false) same q })
 
 -- ## A step
 

@@ -1,5 +1,5 @@
 -- What a controller notes in a step of its deeds before its pass: the identifier that it keeps, and what it owes.
-use Rattle.std.proofs.Common.{◌≡◌, ℕ, Bool, true, false, cond, List, [], ◌∷◌, ◌++◌, sym, refl, ap, ◌∙◌, subst, arith}
+use Rattle.std.proofs.Common.{◌≡◌, ℕ, true, false, cond, List, [], ◌∷◌, ◌++◌, sym, refl, ap, ◌∙◌, subst, arith}
 use Rattle.std.specs.Prelude.{Option, Some, None}
 use Rattle.std.specs.List.{AllByRecursion}
 use Rattle.trace_model.specs.declared.entry.Entry.{Entry}
@@ -10,6 +10,7 @@ use Rattle.node_machine.specs.Parts.{Deed, Work}
 use Rattle.node_machine.specs.Parts.Deed.{Commits}
 use Rattle.node_machine.specs.Carrying.{all_done, commit, unless_cut}
 use Rattle.node_laws.specs.passes.Noting.{IsReplyNoted, entries_of_reply, goes_in, next_count, noted_by_deeds, session_of_port}
+use Rattle.node_laws.proofs.Cases.{by_test}
 use Rattle.node_laws.proofs.passes.Replying.{noted_so}
 use Rattle.node_laws.proofs.creations.Doing.{off_is, on_is}
 use Rattle.node_laws.proofs.dues.Owed.{Goes, IsOwing, SentSo, owed_counts, owed_entries, owed_same}
@@ -64,10 +65,7 @@ module _ (hosts : List ℕ) (t : List Entry) (read : ℕ → Option ℕ) (owed :
       Goal s = IsReplyNoted (unless_cut (all_done 0 owed) s).cut 0 (first ++ cond s.cut [] (noted_by_deeds 0 owed s)) (entry.Command 0 c ∷ rest)
 
       one_is : all_done 0 (Commits c ∷ []) f ≡ v
-      one_is = go v.cut refl where
-        go : (b : Bool) → v.cut ≡ b → unless_cut (all_done 0 []) v ≡ v
-        go true q = rw q refl
-        go false q = rw q refl
+      one_is = by_test v.cut (λ q. rw q refl) (λ q. rw q refl)
 
       lost : goes_in c f ≡ true → v.cut ≡ true
       lost q = rw q refl
@@ -99,10 +97,7 @@ module _ (hosts : List ℕ) (t : List Entry) (read : ℕ → Option ℕ) (owed :
           subst (λ b. IsReplyNoted b 0 (first ++ cond v.cut [] X) (entry.Command 0 c ∷ rest)) (sym cut) is
 
       some_noted : (v.cut ≡ false → Goes hosts t owed v) → AllByRecursion (SentSo (session_of_port v.ports) read) owed → NotedSo (Some c) f count
-      some_noted goes sent = subst Goal (sym one_is) (go (goes_in c f) refl) where
-        go : (b : Bool) → goes_in c f ≡ b → Goal v
-        go true q = gone q
-        go false q = goes_on q goes sent
+      some_noted goes sent = subst Goal (sym one_is) (by_test (goes_in c f) (λ q. gone q) (λ q. goes_on q goes sent))
 
     -- The deeds before a pass are noted so.
     pub both_noted : (few : Option Command) → ((all_done 0 (one_command few) f).cut ≡ false → Goes hosts t owed (all_done 0 (one_command few) f))

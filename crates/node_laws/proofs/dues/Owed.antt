@@ -28,17 +28,7 @@ use Rattle.node_laws.proofs.replies.Answering.{AreReplyEntries, commands_told}
 
 is_answer : (r : Response) → is_response (answer_of r []) ≡ true
 is_answer response.Ok = refl
-is_answer response.NotConnected = refl
-is_answer response.CommandParameterUnknown = refl
-is_answer response.NotOk = refl
-is_answer response.NoPipesAvailable = refl
-is_answer response.RegistryParameterUnknown = refl
-is_answer response.PipeNotOpened = refl
-is_answer response.CommandNotSupported = refl
-is_answer response.Inhibited = refl
-is_answer response.Timeout = refl
-is_answer response.RegistryAccessDenied = refl
-is_answer response.PipeAccessDenied = refl
+is_answer _ = refl
 
 -- ## Room
 

@@ -10,7 +10,7 @@ use Rattle.hci_tables.specs.declared.command.Command.{Command}
 use Rattle.link_laws.specs.machine.Machine.{LinkInput, after_input, report, whole_acked}
 use Rattle.link_laws.specs.machine.Machine.LinkInput.{Reset}
 use Rattle.link_laws.specs.entries.Entries.{Entry as Noted, told}
-use Rattle.link_laws.specs.entries.Entries.Entry.{Acked, Active, Cut, Down, Emit, GaveUp, Got, Lost, Restarted, Sent, Tick as Ticked, Took, Up}
+use Rattle.link_laws.specs.entries.Entries.Entry.{Cut, Restarted, Tick as Ticked}
 use Rattle.history.specs.Steps.{entries_for}
 use Rattle.node_machine.specs.Parts.{Core, Deed, Port, Work}
 use Rattle.node_machine.specs.Carrying.{all_done, own_side, port_at, unless_cut}
@@ -53,19 +53,10 @@ AreOfLink es = AllByRecursion IsOfLink es
 
 pub links_are : (h : ℕ) (xs : List Noted) → AreOfLink (entries_for h xs)
 links_are h [] = tt
-links_are h (Up who n ∷ xs) = ((refl, refl), links_are h xs)
-links_are h (Down who cause ∷ xs) = ((refl, refl), links_are h xs)
-links_are h (Active who ∷ xs) = ((refl, refl), links_are h xs)
-links_are h (GaveUp who tries ∷ xs) = ((refl, refl), links_are h xs)
-links_are h (Acked who n count ∷ xs) = ((refl, refl), links_are h xs)
-links_are h (Got who n m ∷ xs) = ((refl, refl), links_are h xs)
-links_are h (Sent who n m ∷ xs) = ((refl, refl), links_are h xs)
-links_are h (Emit who frame ∷ xs) = ((refl, refl), links_are h xs)
-links_are h (Took who frame ∷ xs) = ((refl, refl), links_are h xs)
-links_are h (Lost who frame why ∷ xs) = ((refl, refl), links_are h xs)
 links_are h (Ticked ∷ xs) = links_are h xs
 links_are h (Restarted who ∷ xs) = links_are h xs
 links_are h (Cut who ∷ xs) = links_are h xs
+links_are h (_ ∷ xs) = ((refl, refl), links_are h xs)
 
 at_are : (core : Core) (p : Port) (o : Option LinkInput) → AreOfLink (told_at core p o)
 at_are core p None = tt

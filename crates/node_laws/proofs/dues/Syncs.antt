@@ -10,7 +10,7 @@ use Rattle.swp_base.specs.declared.control_frames.Control.{Control}
 use Rattle.swp_base.specs.declared.control_frames.Control.TheVariants as control
 use Rattle.swp_act.specs.declared.ActEvent.TheVariants.{Start as ActStart, Stop as ActStop, Take as ActTake, Tick as ActTick}
 use Rattle.swp_act.specs.declared.Phase.{Phase}
-use Rattle.swp_act.specs.declared.Phase.TheVariants.{Active as ActiveNow, Awaiting, Inactive}
+use Rattle.swp_act.specs.declared.Phase.TheVariants.{Inactive}
 use Rattle.swp_act.specs.declared.clf.ClfAct.{ClfAct}
 use Rattle.swp_act.specs.Activation.{clf_step}
 use Rattle.hci_tables.specs.declared.command.Command.{Command}
@@ -35,18 +35,15 @@ use Rattle.node_laws.proofs.worlds.Uiccs.{tick_none}
 
 clf_brings : (s : ClfAct) (act : Act) (again : Bool) → (clf_step s (ActTake act again)).1.sync ≡ brought (control.Act act again)
 clf_brings s (SyncId id) true = refl
-clf_brings s Ready true = refl
-clf_brings s (PowerMode code) true = refl
+clf_brings s _ true = refl
 clf_brings s (SyncId id) false = go s.phase refl where
   go : (p : Phase) → s.phase ≡ p → (clf_step s (ActTake (SyncId id) false)).1.sync ≡ Some id
   go Inactive q = rw q refl
-  go (Awaiting tries ticks) q = rw q refl
-  go ActiveNow q = rw q refl
+  go _ q = rw q refl
 clf_brings s Ready false = go s.phase refl where
   go : (p : Phase) → s.phase ≡ p → (clf_step s (ActTake Ready false)).1.sync ≡ None
   go Inactive q = rw q refl
-  go (Awaiting tries ticks) q = rw q refl
-  go ActiveNow q = rw q refl
+  go _ q = rw q refl
 clf_brings s (PowerMode code) false = refl
 
 act_brings : (r : Role) (act : Act) (again : Bool) → IsClf r → (act_out r (Some (ActTake act again))).sync ≡ brought (control.Act act again)
@@ -56,11 +53,7 @@ act_brings (Clf s) act again a = clf_brings s act again
 
 pub take_brings : (e : LinkEnd) (c : Control) → IsClf e.role → (report e (Take c)).sync ≡ brought c
 take_brings e (control.Act act again) a = act_brings e.role act again a
-take_brings e (control.I ns nr info) a = refl
-take_brings e (control.S kind nr) a = refl
-take_brings e (control.Rset window caps) a = refl
-take_brings e control.Ua a = refl
-take_brings e control.Clt a = refl
+take_brings e _ a = refl
 
 pub reset_brings : (e : LinkEnd) (window : Option ℕ) → (report e (Reset window)).sync ≡ None
 reset_brings e window = refl

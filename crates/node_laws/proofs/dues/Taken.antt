@@ -25,7 +25,7 @@ use Rattle.link_laws.specs.messages.Links.Ending.{CutOff, GoesOut}
 use Rattle.link_laws.specs.messages.Links.Loss.{TooMany, TooOld}
 use Rattle.link_laws.specs.entries.Entries.{End as Side, Entry as Noted, aged_entries, ending_entries, far, first_lost, if_so, pushed_out, put_entries}
 use Rattle.link_laws.specs.entries.Entries.{puts_entries, told, wire_with}
-use Rattle.link_laws.specs.entries.Entries.Entry.{Acked, Active, Cut, Down, Emit, GaveUp, Got, Lost, Restarted, Sent, Tick as Ticked, Took, Up}
+use Rattle.link_laws.specs.entries.Entries.Entry.{Acked, Active, Cut, Down, GaveUp, Got, Lost, Restarted, Tick as Ticked, Took, Up}
 use Rattle.link_laws.specs.entries.Entries.End.{Controller, Host}
 use Rattle.history.specs.Steps.{entries_for}
 use Rattle.node_machine.specs.Parts.{Core, Deed, Port, Work}
@@ -37,6 +37,7 @@ use Rattle.node_machine.specs.world.World.{Site, end_c, ending_of, frames_noted,
 use Rattle.node_laws.specs.passes.Steps.{told_of_coming, told_of_late}
 use Rattle.node_laws.specs.power.Powers.{AreNotOf, is_of_node}
 use Rattle.node_laws.specs.answers.Unasked.{new_sync}
+use Rattle.node_laws.proofs.Cases.{by_test}
 
 -- ## LPDUs
 
@@ -108,15 +109,13 @@ module _ (bytes : List ℕ) where
 pub written : (c : Control) → brought_by (control_of (lpdu_of c)) ≡ brought c
 written (control.I ns nr info) = high_brings (lpdu_of (control.I ns nr info)) (0x80 + 8 * ns + nr) (omega arith)
 written (control.S kind nr) = high_brings (lpdu_of (control.S kind nr)) (0xC0 + 8 * kind_number kind + nr) (omega arith)
-written (control.Rset window caps) = refl
-written control.Ua = refl
-written control.Clt = refl
 written (control.Act Ready true) = refl
 written (control.Act Ready false) = refl
 written (control.Act (PowerMode power) true) = refl
 written (control.Act (PowerMode power) false) = refl
 written (control.Act (SyncId id) true) = refl
 written (control.Act (SyncId id) false) = let q : 256 * (id / 256) + id % 256 ≡ id = omega arith in rw q refl
+written _ = refl
 
 -- ## Entries
 
@@ -129,15 +128,11 @@ pub took_read : (t : HciTables) (h : ℕ) (lpdu : List ℕ) → new_sync t (entr
 took_read t h lpdu = go (control_of lpdu) refl where
   go : (x : Result Control LpduFault) → control_of lpdu ≡ x → new_sync t (entry.Took (end_c h) lpdu) ≡ keeps_new t h (brought_by (control_of lpdu))
   go (Err fault) q = rw q refl
-  go (Ok (control.I ns nr info)) q = rw q refl
-  go (Ok (control.S kind nr)) q = rw q refl
-  go (Ok (control.Rset window caps)) q = rw q refl
-  go (Ok control.Ua) q = rw q refl
-  go (Ok control.Clt) q = rw q refl
   go (Ok (control.Act (SyncId id) false)) q = rw q refl
   go (Ok (control.Act (SyncId id) true)) q = rw q refl
   go (Ok (control.Act Ready again)) q = rw q refl
   go (Ok (control.Act (PowerMode code) again)) q = rw q refl
+  go (Ok _) q = rw q refl
 
 -- a frame is taken
 abbrev pub is_took : Entry → Bool
@@ -163,12 +158,10 @@ tookless_all t [] a = tt
 tookless_all t (x ∷ es) a = (tookless_one t x a.0, tookless_all t es a.1)
 
 far_unread : (t : HciTables) (e : End) (lpdu : List ℕ) → (node_of e == 0) ≡ false → IsUnread t (entry.Took e lpdu)
-far_unread t e lpdu off = by e.at_host refl where
-  by : (b : Bool) → e.at_host ≡ b → IsUnread t (entry.Took e lpdu)
-  by true q = rw q refl
-  by false q =
-      let zero : node_of e ≡ 0 = rw q refl in
-      absurd (true≢false (sym (ap (λ n. n == 0) zero) ∙ off))
+far_unread t e lpdu off = by_test e.at_host
+    (λ q. rw q refl)
+    (λ q. let zero : node_of e ≡ 0 = rw q refl in
+    absurd (true≢false (sym (ap (λ n. n == 0) zero) ∙ off)))
 
 other_unread : (t : HciTables) (x : Entry) → is_of_node 0 x ≡ false → IsUnread t x
 other_unread t (entry.Took e lpdu) off = far_unread t e lpdu off
@@ -194,19 +187,11 @@ AreNoTakes xs = AllByRecursion IsNoTake xs
 
 pub notes_tookless : (h : ℕ) (xs : List Noted) → AreNoTakes xs → AreTookless (entries_for h xs)
 notes_tookless h [] a = tt
-notes_tookless h (Up who n ∷ xs) a = (refl, notes_tookless h xs a.1)
-notes_tookless h (Down who cause ∷ xs) a = (refl, notes_tookless h xs a.1)
-notes_tookless h (Active who ∷ xs) a = (refl, notes_tookless h xs a.1)
-notes_tookless h (GaveUp who tries ∷ xs) a = (refl, notes_tookless h xs a.1)
-notes_tookless h (Acked who n count ∷ xs) a = (refl, notes_tookless h xs a.1)
-notes_tookless h (Got who n m ∷ xs) a = (refl, notes_tookless h xs a.1)
-notes_tookless h (Sent who n m ∷ xs) a = (refl, notes_tookless h xs a.1)
-notes_tookless h (Emit who frame ∷ xs) a = (refl, notes_tookless h xs a.1)
 notes_tookless h (Took who frame ∷ xs) a = absurd a.0
-notes_tookless h (Lost who frame why ∷ xs) a = (refl, notes_tookless h xs a.1)
 notes_tookless h (Ticked ∷ xs) a = notes_tookless h xs a.1
 notes_tookless h (Restarted who ∷ xs) a = notes_tookless h xs a.1
 notes_tookless h (Cut who ∷ xs) a = notes_tookless h xs a.1
+notes_tookless h (_ ∷ xs) a = (refl, notes_tookless h xs a.1)
 
 map_takes : {X : Type 0} (f : X → Noted) → ((x : X) → IsNoTake (f x)) → (xs : List X) → AreNoTakes (map f xs)
 map_takes f one [] = tt

@@ -26,6 +26,7 @@ use Rattle.node_machine.proofs.world.Cases.{after_near_tick, near_tick}
 use Rattle.node_laws.specs.kept.Books.{hosts_of_ends}
 use Rattle.node_laws.specs.kept.Hosts.{AreDifferent, AreHosts}
 use Rattle.node_laws.specs.telling.Telling.{HasEnds, IsOrderly, hosts_in}
+use Rattle.node_laws.proofs.Cases.{by_test}
 use Rattle.node_laws.proofs.kept.Sites.{hosts_same as sites_same}
 use Rattle.node_laws.proofs.telling.Events.{orderly_map}
 use Rattle.node_laws.proofs.telling.Nodes.{Stands, hosts_same, link_is, stands}
@@ -70,16 +71,10 @@ use Rattle.node_laws.proofs.worlds.Ticking.{at, other_end_is, p as port_there, q
 
 -- an end that is reset where its notice is late
 reset_ended : (p : Port) → (reset_late p).ended ≡ p.ended
-reset_ended p = go (is_late p) refl where
-  go : (b : Bool) → is_late p ≡ b → (reset_late p).ended ≡ p.ended
-  go true z = rw z refl
-  go false z = rw z refl
+reset_ended p = by_test (is_late p) (λ z. rw z refl) (λ z. rw z refl)
 
 reset_flag : (p : Port) → p.late ≡ false → (reset_late p).late ≡ is_late p
-reset_flag p fresh = go (is_late p) refl where
-  go : (b : Bool) → is_late p ≡ b → (reset_late p).late ≡ is_late p
-  go true z = rw z refl
-  go false z = rw z fresh
+reset_flag p fresh = by_test (is_late p) (λ z. rw z refl) (λ z. rw z fresh)
 
 every_cause : (cause : EndedBy) → (is_own_reset cause || otherwise cause) ≡ true
 every_cause cause = go (is_own_reset cause) where

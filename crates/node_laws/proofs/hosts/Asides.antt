@@ -18,6 +18,7 @@ use Rattle.node_machine.specs.Node.{NodeInput, after_sessions, all_come, forgets
 use Rattle.node_machine.specs.Node.{is_forgotten, with_older, without_notice}
 use Rattle.node_machine.specs.Controller.{asked_at}
 use Rattle.node_machine.specs.Node.NodeInput.{AtEnd, TimePasses}
+use Rattle.node_laws.proofs.Cases.{by_test}
 use Rattle.node_laws.proofs.steps.StepWalks.{Lasts, all_last, got_at, handled, holds, lets, unless}
 use Rattle.node_laws.proofs.steps.Ports.{sessions_node}
 use Rattle.node_machine.proofs.Walks.{anyone}
@@ -61,10 +62,9 @@ tells h about message w a =
     desks h (λ d. record d { notice = Some (record { about = about; age = 0 }) }) (turn_at h (Give (1, message)) w) (turns h (Give (1, message)) w tt a)
 
 commits : (c : Command) (w : Work) → HaveNone w → HaveNone (commit c w)
-commits c w a = go (fails_within (length (commit_writes w.core.journal w.core.tables (body_of c))) w.plan) refl where
-  go : (b : Bool) → fails_within (length (commit_writes w.core.journal w.core.tables (body_of c))) w.plan ≡ b → HaveNone (commit c w)
-  go true q = rw q (record { number = a.number; ends = a.ends })
-  go false q = rw q (record { number = a.number; ends = a.ends })
+commits c w a = by_test (fails_within (length (commit_writes w.core.journal w.core.tables (body_of c))) w.plan)
+    (λ q. rw q (record { number = a.number; ends = a.ends }))
+    (λ q. rw q (record { number = a.number; ends = a.ends }))
 
 same : (w v : Work) → v.core.node ≡ w.core.node → v.ports ≡ w.ports → HaveNone w → HaveNone v
 same w v node ports a = record { number = ap (λ n. eqb n 0) node ∙ a.number; ends = subst (AllByRecursion HasNone) (sym ports) a.ends }
@@ -110,10 +110,7 @@ come_none (AtEnd h i) p outside a = go (eqb p.desk.host h) where
 come_none TimePasses p outside a = input_aside p.side Tick tt ∙ a
 
 late_none : (p : Port) → HasNone p → HasNone (reset_late p)
-late_none p a = go (is_late p) refl where
-  go : (b : Bool) → is_late p ≡ b → HasNone (reset_late p)
-  go true q = rw q (input_aside p.side (Reset None) tt ∙ a)
-  go false q = rw q a
+late_none p a = by_test (is_late p) (λ q. rw q (input_aside p.side (Reset None) tt ∙ a)) (λ q. rw q a)
 
 all_came : (input : NodeInput) (w : Work) → IsOutside input → HaveNone w → HaveNone (all_come input w)
 all_came input w outside a =
@@ -128,16 +125,10 @@ came_none TimePasses w outside a =
     }
 
 without_none : (p : Port) → HasNone p → HasNone (without_notice p)
-without_none p a = go (is_over p) refl where
-  go : (b : Bool) → is_over p ≡ b → HasNone (without_notice p)
-  go true q = rw q a
-  go false q = rw q a
+without_none p a = by_test (is_over p) (λ q. rw q a) (λ q. rw q a)
 
 forgets_none : (ports : List Port) (p : Port) → HasNone p → HasNone (forgets ports p)
-forgets_none ports p a = go (is_forgotten ports (asked_at p)) refl where
-  go : (b : Bool) → is_forgotten ports (asked_at p) ≡ b → HasNone (forgets ports p)
-  go true q = rw q a
-  go false q = rw q a
+forgets_none ports p a = by_test (is_forgotten ports (asked_at p)) (λ q. rw q a) (λ q. rw q a)
 
 -- as its pass begins
 pub begun_none : (input : NodeInput) (w : Work) → IsOutside input → HaveNone w → HaveNone (comes_to_pass input w)

@@ -1,5 +1,5 @@
 -- What is replied in a pass of a host, among the entries of an event.
-use Rattle.std.proofs.Common.{◌≡◌, ℕ, ◌≤◌, Bool, true, false, List, [], ◌∷◌, ◌++◌, Some, None, refl, sym, ap, ◌∙◌, subst, append_assoc, arith}
+use Rattle.std.proofs.Common.{◌≡◌, ℕ, ◌≤◌, false, List, [], ◌∷◌, ◌++◌, Some, None, refl, sym, ap, ◌∙◌, subst, append_assoc, arith}
 use Rattle.std.specs.Prelude.{Option}
 use Rattle.std.specs.List.{AllByRecursion}
 use Rattle.registry.proofs.ValueLemmas.{AllByRecursion-append as all_append}
@@ -14,6 +14,7 @@ use Rattle.node_machine.specs.world.Lines.{Occurrence}
 use Rattle.node_machine.specs.world.NodeHistories.{entries_in}
 use Rattle.node_laws.specs.kept.Books.{hosts_of_ends}
 use Rattle.node_laws.specs.kept.Reckonings.{is_cut_of}
+use Rattle.node_laws.proofs.Cases.{by_test}
 use Rattle.node_laws.proofs.telling.Walks.{AreUncut, IsUncut}
 use Rattle.node_laws.specs.passes.Passing.{AreNoTurns, ArePassed, ComesTo, IsNoTurn}
 use Rattle.node_laws.specs.passes.Passing.ComesTo.{Begins}
@@ -143,23 +144,20 @@ module _ (hosts : List ℕ) (n : ℕ) (host : IsHost n) (past : List Occurrence)
       → AreUnanswered n rest → ((comes_to_pass input start).cut ≡ false → BeginsSo n host (t ++ lead) i (comes_to_pass input start))
       → AreNoBoots (steps input start).entries → commits (t ++ (lead ++ ((steps input start).entries ++ rest))) ≤ 4000000000
       → reads_init n lead i ≡ i → RepliesSo (lead ++ ((steps input start).entries ++ rest))
-  step_so lead rest input start none own after quiet begins boots few stays = go v.cut refl where
-    v : Work
-    v = comes_to_pass input start
+  step_so lead rest input start none own after quiet begins boots few stays = by_test v.cut
+      (λ q. let is : steps input start ≡ v = steps_are input start ∙ rw q refl in
+      subst Goal (sym is)
+      (λ _ _. none_so (lead ++ (v.entries ++ rest)) (all_append _ lead (v.entries ++ rest) none (all_append _ v.entries rest early after))) boots few)
+      (λ q. let is : steps input start ≡ passes v = steps_are input start ∙ rw q refl in
+      subst Goal (sym is) (λ unbooted low. pass_so lead rest v q none early after quiet (begins q) unbooted low stays) boots few) where
+        v : Work
+        v = comes_to_pass input start
 
-    early : NoneAt n v.entries
-    early =
-        turnless_there n v.entries
-        (subst AreNoTurns (sym (before_entries input start)) (all_append IsNoTurn start.entries (noted_before_pass input start) own (before_none input start)))
+        early : NoneAt n v.entries
+        early =
+            turnless_there n v.entries
+            (subst AreNoTurns (sym (before_entries input start)) (all_append IsNoTurn start.entries (noted_before_pass input start) own
+            (before_none input start)))
 
-    Goal : Work → Type 0
-    Goal u = AreNoBoots u.entries → commits (t ++ (lead ++ (u.entries ++ rest))) ≤ 4000000000 → RepliesSo (lead ++ (u.entries ++ rest))
-
-    go : (b : Bool) → v.cut ≡ b → RepliesSo (lead ++ ((steps input start).entries ++ rest))
-    go true q =
-        let is : steps input start ≡ v = steps_are input start ∙ rw q refl in
-        subst Goal (sym is)
-        (λ _ _. none_so (lead ++ (v.entries ++ rest)) (all_append _ lead (v.entries ++ rest) none (all_append _ v.entries rest early after))) boots few
-    go false q =
-        let is : steps input start ≡ passes v = steps_are input start ∙ rw q refl in
-        subst Goal (sym is) (λ unbooted low. pass_so lead rest v q none early after quiet (begins q) unbooted low stays) boots few
+        Goal : Work → Type 0
+        Goal u = AreNoBoots u.entries → commits (t ++ (lead ++ (u.entries ++ rest))) ≤ 4000000000 → RepliesSo (lead ++ (u.entries ++ rest))

@@ -106,22 +106,17 @@ module _ (n : ℕ) where
   -- each end gets one message at most
   pub once_given : (may : Bool) (deeds : List Deed) → GivesOnce n may deeds → GiveOnce n (cond may [] (n ∷ [])) deeds
   once_given may [] o = tt
-  once_given may (Commits c ∷ deeds) o = once_given may deeds o
   once_given may (Sends to m ∷ deeds) o =
       subst (λ b. GiveOnce n (cond b [] (n ∷ [])) (Sends to m ∷ deeds)) (sym o.0)
       (tt, subst (λ k. GiveOnce n (k ∷ []) deeds) (sym o.1) (once_given false deeds o.2))
-  once_given may (SaysOk ∷ deeds) o = once_given may deeds o
   once_given may (Asks to message c ∷ deeds) o = absurd o
   once_given may (Releases asker ∷ deeds) o = absurd o
   once_given may (Tells to message ∷ deeds) o = absurd o
   once_given may (IsAnswered ∷ deeds) o = absurd o
-  once_given may (Drops pid ∷ deeds) o = once_given may deeds o
-  once_given may (SetsErrors errors ∷ deeds) o = once_given may deeds o
   once_given may (Orders message ∷ deeds) o =
       subst (λ b. GiveOnce n (cond b [] (n ∷ [])) (Orders message ∷ deeds)) (sym o.0) (tt, once_given false deeds o.1)
-  once_given may (Hears ∷ deeds) o = once_given may deeds o
-  once_given may (GoesOn i ∷ deeds) o = once_given may deeds o
   once_given may (Ends e ∷ deeds) o = once_given may deeds o.1
+  once_given may (_ ∷ deeds) o = once_given may deeds o
 
   module _ (off : eqb n 0 ≡ false) where
     own_number : (to : ℕ) → to ≡ n → eqb (node_of (end_of_number n to)) n ≡ true
@@ -144,10 +139,6 @@ module _ (n : ℕ) where
       reply_answers count may (Sends to m ∷ deeds) o =
           sent_answers to m (entries_of_reply n sessions n count deeds) o.1 (reply_answers count false deeds o.2)
       reply_answers count may (SaysOk ∷ deeds) o = (eq-eqb n n refl, reply_answers count may deeds o)
-      reply_answers count may (Asks to message c ∷ deeds) o = absurd o
-      reply_answers count may (Releases asker ∷ deeds) o = absurd o
-      reply_answers count may (Tells to message ∷ deeds) o = absurd o
-      reply_answers count may (IsAnswered ∷ deeds) o = absurd o
       reply_answers count may (Drops pid ∷ deeds) o = (own_number n refl, reply_answers count may deeds o)
       reply_answers count may (SetsErrors errors ∷ deeds) o = reply_answers count may deeds o
       reply_answers count may (Orders message ∷ deeds) o =
@@ -155,6 +146,7 @@ module _ (n : ℕ) where
       reply_answers count may (Hears ∷ deeds) o = reply_answers count may deeds o
       reply_answers count may (GoesOn i ∷ deeds) o = reply_answers count may deeds o
       reply_answers count may (Ends e ∷ deeds) o = (o.0, reply_answers count may deeds o.1)
+      reply_answers count may (_ ∷ deeds) o = absurd o
 
   -- of the sessions the host's own one counts
   module _ (sessions others : ℕ → Option ℕ) (same : sessions n ≡ others n) where
@@ -168,16 +160,13 @@ module _ (n : ℕ) where
     reply_sessions count may (Commits c ∷ deeds) o = ap (λ l. entry.Command n c ∷ l) (reply_sessions (next_count count) may deeds o)
     reply_sessions count may (Sends to m ∷ deeds) o = ap₂ (λ a b. a ++ b) (sent_same to m o.1) (reply_sessions count false deeds o.2)
     reply_sessions count may (SaysOk ∷ deeds) o = ap (λ l. entry.AnyOk n count ∷ l) (reply_sessions count may deeds o)
-    reply_sessions count may (Asks to message c ∷ deeds) o = absurd o
-    reply_sessions count may (Releases asker ∷ deeds) o = absurd o
-    reply_sessions count may (Tells to message ∷ deeds) o = absurd o
-    reply_sessions count may (IsAnswered ∷ deeds) o = absurd o
     reply_sessions count may (Drops pid ∷ deeds) o = ap (λ l. entry.Dropped (end_of_number n n) pid ∷ l) (reply_sessions count may deeds o)
     reply_sessions count may (SetsErrors errors ∷ deeds) o = reply_sessions count may deeds o
     reply_sessions count may (Orders message ∷ deeds) o = ap₂ (λ a b. a ++ b) (sent_same n (1, message) refl) (reply_sessions count false deeds o.1)
     reply_sessions count may (Hears ∷ deeds) o = reply_sessions count may deeds o
     reply_sessions count may (GoesOn i ∷ deeds) o = reply_sessions count may deeds o
     reply_sessions count may (Ends e ∷ deeds) o = ap (λ l. e ∷ l) (reply_sessions count may deeds o.1)
+    reply_sessions count may (_ ∷ deeds) o = absurd o
 
 -- ## Commands
 
@@ -206,7 +195,6 @@ module _ (n : ℕ) (sessions : ℕ → Option ℕ) (h : ℕ) where
       below (sent_in_session n sessions to m ++ entries_of_reply n sessions h count deeds) (entries_of_reply n sessions h count deeds) (most_of journal)
       (sent_none to m (entries_of_reply n sessions h count deeds))
       (reply_few count journal command init deeds may)
-  reply_few count journal command init (SaysOk ∷ deeds) may = reply_few count journal command init deeds may
   reply_few count None command init (Asks to message c ∷ deeds) may = absurd may.0
   reply_few count (Some s) command init (Asks to message c ∷ deeds) may =
       let later = reply_few count None command init deeds may.1 in
@@ -215,7 +203,6 @@ module _ (n : ℕ) (sessions : ℕ → Option ℕ) (h : ℕ) where
       below (sent_in_session n sessions to (1, message) ++ entries_of_reply n sessions h count deeds) (entries_of_reply n sessions h count deeds)
       (most_of journal) (sent_none to (1, message) (entries_of_reply n sessions h count deeds))
       (reply_few count journal command init deeds may)
-  reply_few count journal command init (Drops pid ∷ deeds) may = reply_few count journal command init deeds may
   reply_few count journal command init (Orders message ∷ deeds) may =
       below (sent_in_session n sessions h (1, message) ++ entries_of_reply n sessions h count deeds) (entries_of_reply n sessions h count deeds)
       (most_of journal) (sent_none h (1, message) (entries_of_reply n sessions h count deeds))
@@ -226,6 +213,4 @@ module _ (n : ℕ) (sessions : ℕ → Option ℕ) (h : ℕ) where
       below (e ∷ entries_of_reply n sessions h count deeds) (entries_of_reply n sessions h count deeds) (most_of journal)
       (plain_none e (entries_of_reply n sessions h count deeds) may.0)
       (reply_few count journal command None deeds may.1)
-  reply_few count journal command init (Releases asker ∷ deeds) may = reply_few count journal command init deeds may
-  reply_few count journal command init (IsAnswered ∷ deeds) may = reply_few count journal command init deeds may
-  reply_few count journal command init (SetsErrors errors ∷ deeds) may = reply_few count journal command init deeds may
+  reply_few count journal command init (_ ∷ deeds) may = reply_few count journal command init deeds may

@@ -15,7 +15,7 @@ use Rattle.journal_laws.specs.Planned.{fails_within, after_planned}
 use Rattle.link_laws.specs.machine.Machine.{Message, LinkInput}
 use Rattle.link_laws.specs.messages.Links.{NumberedEnd, Comes, Loss, happens}
 use Rattle.link_laws.specs.messages.Links.Comes.{Starts, NoInput}
-use Rattle.link_laws.specs.messages.Links.Loss.{OnDemand, Broken, Unread, TooOld, TooMany}
+use Rattle.link_laws.specs.messages.Links.Loss.{Broken}
 use Rattle.link_laws.specs.entries.Entries.{first_lost}
 use Rattle.link_laws.specs.entries.Entries.End.{Controller, Host}
 use Rattle.link_laws.specs.messages.Links.{LinkEvent}
@@ -121,10 +121,7 @@ runs_counting n hosts content t (Broken fault) h (Some x) r = record {
       (with_error h x.desks))
       (error_new near_ends h x.desks) (r.allowed z near_ends);
 }
-runs_counting n hosts content t OnDemand h o r = r
-runs_counting n hosts content t Unread h o r = r
-runs_counting n hosts content t TooOld h o r = r
-runs_counting n hosts content t TooMany h o r = r
+runs_counting n hosts content t _ h o r = r
 
 keeps_counting : (n : ℕ) (hosts : List ℕ) (t : List Entry) (m : Memory) (why : Loss) (h : ℕ) (o : Option Running) → NodeKeeps n hosts t m o
     → NodeKeeps n hosts t m (counts why h o)

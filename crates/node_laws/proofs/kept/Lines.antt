@@ -30,6 +30,7 @@ use Rattle.node_machine.specs.world.NodeFilters.{commands_in, tables_in}
 use Rattle.node_laws.specs.kept.Hosts.{AreHosts, IsFew, IsSentByHost}
 use Rattle.node_laws.specs.kept.Worlds.{IfRuns, SiteKeeps, AllKeep, MayHappen}
 use Rattle.node_machine.specs.world.NodeHistories.{world_after}
+use Rattle.node_laws.proofs.Cases.{by_option}
 use Rattle.node_laws.proofs.kept.Sites.{site_found}
 use Rattle.node_laws.proofs.kept.Worlds.{Goes, goes_not, goes_then}
 use Rattle.node_laws.proofs.kept.Events.{GoesBy, comes_goes, activates_goes, gives_goes, inits_goes, lost_goes, cut_goes, arms_goes, boots_goes}
@@ -158,19 +159,14 @@ module _ (hosts : List ℕ) (are : AreHosts hosts) where
   line_may w (line.Send e pid message) side e2 =
       (send_may w e pid message side (first_none (if_off w (node_of e)) (if_not_sent w e (pid, message)) e2).1, tt)
   line_may w (line.Deliver e count) side none = takes_may e (taken_of count (frames_at w e)) w
-  line_may w (line.Lose e) side none = (tt, tt)
   line_may w (line.Damage e places) side none = damage_may w e (first_verdict (frames_at w e) places.items)
   line_may w (line.Tick times) side none = ticks_may _ w
-  line_may w (line.Reset e window) side none = (tt, tt)
   line_may w (line.Busy e) side none = tt
   line_may w (line.Ready e) side none = tt
-  line_may w (line.Boot n) side none = (tt, tt)
   line_may w (line.Cut n) side none = (off_none (node_at w n) none, tt)
-  line_may w (line.Activate host sync power) side none = (tt, tt)
-  line_may w (line.Arm n nth fill) side none = (tt, tt)
-  line_may w (line.Init e identity pipes) side none = (tt, tt)
   line_may w (line.Tables n) side none = tt
   line_may w (line.Settle n) side none = tt
+  line_may w _ side none = (tt, tt)
 
   -- a line goes on, but for one that tells tables
   abbrev LineFine : List Entry → NodeWorld × LineOutcome → Type 0
@@ -207,12 +203,10 @@ module _ (hosts : List ℕ) (are : AreHosts hosts) where
 
   line_goes : (t : List Entry) (w : NodeWorld) (l : Line) → AllKeep hosts t w → IsSentByHost l
       → IsFew (t ++ entries_in (occurrences_of (line_step w l).1)) → LineFine t (line_step w l)
-  line_goes t w l all side few = by_refusal (refusal_in w l) refl where
-    by_refusal : (o : Option NoCause) → refusal_in w l ≡ o → LineFine t (line_step w l)
-    by_refusal (Some cause) e = subst (LineFine t) (sym (refused_is w l cause e)) (goes_not hosts are t w all)
-    by_refusal None e =
-        subst (LineFine t) (sym (goes_is w l e))
-        (on_goes t w l all (line_may w l side e) (subst (λ (p : NodeWorld × LineOutcome). IsFew (t ++ entries_in (occurrences_of p.1))) (goes_is w l e) few))
+  line_goes t w l all side few = by_option (refusal_in w l)
+      (λ e. subst (LineFine t) (sym (goes_is w l e))
+      (on_goes t w l all (line_may w l side e) (subst (λ (p : NodeWorld × LineOutcome). IsFew (t ++ entries_in (occurrences_of p.1))) (goes_is w l e) few)))
+      (λ cause e. subst (LineFine t) (sym (refused_is w l cause e)) (goes_not hosts are t w all))
 
   -- ## Tables that are told
 
@@ -243,26 +237,12 @@ module _ (hosts : List ℕ) (are : AreHosts hosts) where
 
   on_right : (t : List Entry) (w : NodeWorld) (l : Line) → AllKeep hosts t w → TellsRight t (goes_on w l).1
   on_right t w (line.Tables n) all = told_right t w n all (node_at w n) refl
-  on_right t w (line.Send e pid message) all = tt
-  on_right t w (line.Deliver e count) all = tt
-  on_right t w (line.Lose e) all = tt
-  on_right t w (line.Damage e places) all = tt
-  on_right t w (line.Tick times) all = tt
-  on_right t w (line.Reset e window) all = tt
-  on_right t w (line.Busy e) all = tt
-  on_right t w (line.Settle n) all = tt
-  on_right t w (line.Ready e) all = tt
-  on_right t w (line.Boot n) all = tt
-  on_right t w (line.Cut n) all = tt
-  on_right t w (line.Activate host sync power) all = tt
-  on_right t w (line.Arm n nth fill) all = tt
-  on_right t w (line.Init e identity pipes) all = tt
+  on_right t w _ all = tt
 
   line_right : (t : List Entry) (w : NodeWorld) (l : Line) → AllKeep hosts t w → TellsRight t (line_step w l).1
-  line_right t w l all = by_refusal (refusal_in w l) refl where
-    by_refusal : (o : Option NoCause) → refusal_in w l ≡ o → TellsRight t (line_step w l).1
-    by_refusal (Some cause) e = subst (λ (p : NodeWorld × LineOutcome). TellsRight t p.1) (sym (refused_is w l cause e)) tt
-    by_refusal None e = subst (λ (p : NodeWorld × LineOutcome). TellsRight t p.1) (sym (goes_is w l e)) (on_right t w l all)
+  line_right t w l all = by_option (refusal_in w l)
+      (λ e. subst (λ (p : NodeWorld × LineOutcome). TellsRight t p.1) (sym (goes_is w l e)) (on_right t w l all))
+      (λ cause e. subst (λ (p : NodeWorld × LineOutcome). TellsRight t p.1) (sym (refused_is w l cause e)) tt)
 
   -- ## Schedules
 

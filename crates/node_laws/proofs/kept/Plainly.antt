@@ -11,7 +11,7 @@ use Rattle.journal_laws.specs.Planned.{after_planned}
 use Rattle.link_laws.specs.machine.Machine.{Turn}
 use Rattle.link_laws.specs.machine.Machine.Turn.{Give, FetchMessage}
 use Rattle.link_laws.specs.entries.Entries.{Entry as Noted, turn_entry}
-use Rattle.link_laws.specs.entries.Entries.Entry.{Up, Down, Active, GaveUp, Acked, Got, Sent, Emit, Took, Lost, Tick, Restarted, Cut}
+use Rattle.link_laws.specs.entries.Entries.Entry.{Tick, Restarted, Cut}
 use Rattle.history.specs.Steps.{entry_of, entries_for}
 use Rattle.hci_tables.specs.Tables.{AreTables}
 use Rattle.hci_store.specs.Recordable.{IsRecordable}
@@ -88,19 +88,10 @@ runs_plainly n hosts old before w v r p = record {
 -- ## Entries of links
 
 plain_entry : (h : ℕ) (x : Noted) → AllByRecursion IsPlain (entry_of h x)
-plain_entry h (Up who n) = (tt, tt)
-plain_entry h (Down who n) = (tt, tt)
-plain_entry h (Active who) = (tt, tt)
-plain_entry h (GaveUp who n) = (tt, tt)
-plain_entry h (Acked who n count) = (tt, tt)
-plain_entry h (Got who n m) = (tt, tt)
-plain_entry h (Sent who n m) = (tt, tt)
-plain_entry h (Emit who frame) = (tt, tt)
-plain_entry h (Took who frame) = (tt, tt)
-plain_entry h (Lost who frame why) = (tt, tt)
 plain_entry h Tick = tt
 plain_entry h (Restarted who) = tt
 plain_entry h (Cut who) = tt
+plain_entry h _ = (tt, tt)
 
 pub plain_flat : {X : Type 0} (f : X → List Entry) → ((x : X) → AllByRecursion IsPlain (f x)) → (xs : List X) → AllByRecursion IsPlain (flat_map f xs)
 plain_flat f one [] = tt

@@ -29,6 +29,7 @@ use Rattle.node_machine.specs.Parts.Deed.{Commits, Sends, Releases}
 use Rattle.node_machine.specs.Carrying.{own_side, unless_cut, turn_at, all_done, finds_room}
 use Rattle.node_machine.specs.Controller.{creation_in, asked_at}
 use Rattle.node_laws.specs.steps.Waiting.{MayWait, IsAllowedStill}
+use Rattle.node_laws.proofs.Cases.{by_option}
 use Rattle.node_laws.proofs.steps.Values.{whitelist_left}
 use Rattle.node_laws.proofs.steps.Waits.{within, same_list}
 use Rattle.node_laws.proofs.kept.Asking.{same_new}
@@ -265,7 +266,7 @@ module _ (t : HciTables) (ports : List Port) (sorted : AreTables t) (may : MayWa
       same_list t (apply t (Sync h id)) x c.command (whitelist_left t (Sync h id) x sorted command host.0 host.1 tt) now
 
   sync_fit : (core : Core) (input : NodeInput) (p : Port) → AllByRecursion (IsAllowedStill t ports) (synced core input p)
-  sync_fit core input p = by_input (input_at input p) refl where
+  sync_fit core input p = by_option (input_at input p) (λ e. rw e tt) (λ i e. by_id i e (report p.side i).sync refl) where
     by_id : (i : LinkInput) → input_at input p ≡ Some i → (o : Option ℕ) → (report p.side i).sync ≡ o
         → AllByRecursion (IsAllowedStill t ports) (synced core input p)
     by_id i e None is = rw e (rw is tt)
@@ -273,10 +274,6 @@ module _ (t : HciTables) (ports : List Port) (sorted : AreTables t) (may : MayWa
         rw e (rw is (cond_both (not (is_kept_sync core.tables.syncs p.desk.host id) && finds_room core (Sync p.desk.host id)) (Commits
         (Sync p.desk.host id) ∷ []) []
         (AllByRecursion (IsAllowedStill t ports)) (λ _. ((tt, sync_kept p.desk.host id), tt)) (λ _. tt)))
-
-    by_input : (o : Option LinkInput) → input_at input p ≡ o → AllByRecursion (IsAllowedStill t ports) (synced core input p)
-    by_input None e = rw e tt
-    by_input (Some i) e = by_id i e (report p.side i).sync refl
 
   pub syncs_fit : (core : Core) (input : NodeInput) (ends : List Port) → AllByRecursion (IsAllowedStill t ports) (flat_map (synced core input) ends)
   syncs_fit core input [] = tt

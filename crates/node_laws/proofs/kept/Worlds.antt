@@ -17,10 +17,11 @@ use Rattle.node_machine.specs.Carrying.{port_at}
 use Rattle.node_machine.specs.world.World.{NodeWorld, Site, site_at, with_site, link_to, ending_of, runs_on, near_end_in, arrival, wires_for, work_of}
 use Rattle.node_machine.specs.world.World.{frames_noted}
 use Rattle.node_machine.specs.world.World.{comes_to, controller_work, link_after_controller, controller_does, host_work, after_host, host_does}
-use Rattle.node_laws.specs.kept.Books.{IsPlain, IsOf, AreToldBehind, WaitsFor}
+use Rattle.node_laws.specs.kept.Books.{IsPlain, IsOf, AreToldBehind}
 use Rattle.node_machine.specs.Orders.{IsOnOrder}
 use Rattle.node_laws.specs.kept.Hosts.{AreDifferent, AreHosts}
 use Rattle.node_laws.specs.kept.Worlds.{NodeKeeps, SiteKeeps, AllKeep}
+use Rattle.node_laws.proofs.Cases.{by_option}
 use Rattle.node_laws.proofs.kept.Books.{plain_told, plain_own, told_append}
 use Rattle.registry.proofs.ValueLemmas.{AllByRecursion-append as all_append}
 use Rattle.node_laws.proofs.kept.Plainly.{plain_entries, plain_flat}
@@ -159,36 +160,33 @@ module _ (hosts : List ℕ) (are : AreHosts hosts) where
       → (before : List Entry) (work : Work) → work.core ≡ r.core → Rattle.node_laws.specs.kept.Books.StillRuns x.host (x.host ∷ []) x.memory before work
       → GoesOn_or_lost x.host (x.host ∷ []) x.memory before (f work))
       → Goes t (host_does w h comes f).0 (host_does w h comes f).1
-  host_steps t w h comes f all step = by_site (site_at w.sites h) refl where
-    by_node : (x : Site) → site_at w.sites h ≡ Some x → (o : Option Running) → x.node ≡ o → NodeKeeps x.host (x.host ∷ []) t x.memory o
-        → IsHost x.host → x.host ≡ h → Goes t (host_does w h comes f).0 (host_does w h comes f).1
-    by_node x here None e k host same = rw here (rw e (goes_not t w all))
-    by_node x here (Some r) e k host same = rw here (rw e (
-        host_goes t w (work.entries ++ frames) h x (after_host comes work) all here done.0 done.1 (subst (λ n. AllByRecursion (IsOf n)
-        (work.entries ++ frames)) same done.2) (λ s. refl))) where
-          work : Work
-          work = host_work x r comes f
+  host_steps t w h comes f all step = by_option (site_at w.sites h)
+      (λ here. rw here (goes_not t w all))
+      (λ x here. let known = site_found (SiteKeeps t) IsHost w.sites h x all.sites (hosts_of_sites t w all) here in
+      by_node x here x.node refl known.0 known.1 known.2) where
+        by_node : (x : Site) → site_at w.sites h ≡ Some x → (o : Option Running) → x.node ≡ o → NodeKeeps x.host (x.host ∷ []) t x.memory o
+            → IsHost x.host → x.host ≡ h → Goes t (host_does w h comes f).0 (host_does w h comes f).1
+        by_node x here None e k host same = rw here (rw e (goes_not t w all))
+        by_node x here (Some r) e k host same = rw here (rw e (
+            host_goes t w (work.entries ++ frames) h x (after_host comes work) all here done.0 done.1 (subst (λ n. AllByRecursion (IsOf n)
+            (work.entries ++ frames)) same done.2) (λ s. refl))) where
+              work : Work
+              work = host_work x r comes f
 
-          frames : List Entry
-          frames = frames_noted Host h (wires_for (exchanged x.link) comes) work
+              frames : List Entry
+              frames = frames_noted Host h (wires_for (exchanged x.link) comes) work
 
-          begun : List Entry
-          begun = entries_for x.host (arrival Host (exchanged x.link) comes)
+              begun : List Entry
+              begun = entries_for x.host (arrival Host (exchanged x.link) comes)
 
-          start : Work
-          start = work_of r x.memory.plan (λ k. near_end_in (exchanged x.link) comes) begun
+              start : Work
+              start = work_of r x.memory.plan (λ k. near_end_in (exchanged x.link) comes) begun
 
-          fine : GoesOn_or_lost x.host (x.host ∷ []) x.memory t work
-          fine = step x r here e host k.runs.on t start refl
-              (runs_begun x.host (x.host ∷ []) t x.memory r (λ k. near_end_in (exchanged x.link) comes) begun (plain_arrival Host x.host
-              (exchanged x.link) comes) k.runs)
+              fine : GoesOn_or_lost x.host (x.host ∷ []) x.memory t work
+              fine = step x r here e host k.runs.on t start refl
+                  (runs_begun x.host (x.host ∷ []) t x.memory r (λ k. near_end_in (exchanged x.link) comes) begun (plain_arrival Host x.host
+                  (exchanged x.link) comes) k.runs)
 
-          done : NodeKeeps x.host (x.host ∷ []) (t ++ (work.entries ++ frames)) (after_planned work.writes x.memory) (runs_on work) × AreToldBehind t
-              (work.entries ++ frames) × AllByRecursion (IsOf x.host) (work.entries ++ frames)
-          done = step_keeps x.host (x.host ∷ []) t x.memory work frames fine (plain_frames Host h (wires_for (exchanged x.link) comes) work)
-
-    by_site : (o : Option Site) → site_at w.sites h ≡ o → Goes t (host_does w h comes f).0 (host_does w h comes f).1
-    by_site None here = rw here (goes_not t w all)
-    by_site (Some x) here =
-        let known = site_found (SiteKeeps t) IsHost w.sites h x all.sites (hosts_of_sites t w all) here in
-        by_node x here x.node refl known.0 known.1 known.2
+              done : NodeKeeps x.host (x.host ∷ []) (t ++ (work.entries ++ frames)) (after_planned work.writes x.memory) (runs_on work) × AreToldBehind t
+                  (work.entries ++ frames) × AllByRecursion (IsOf x.host) (work.entries ++ frames)
+              done = step_keeps x.host (x.host ∷ []) t x.memory work frames fine (plain_frames Host h (wires_for (exchanged x.link) comes) work)

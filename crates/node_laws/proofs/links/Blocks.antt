@@ -15,13 +15,13 @@ use Rattle.shdlc_core.specs.declared.answers.LinkState.TheVariants.{Down, Waitin
 use Rattle.shdlc_core.specs.Machine.{EndState, taken, take_answer, ticked, tick_answer, reset_with, stopped, with_ready, fetched, most_frames}
 use Rattle.link_laws.proofs.sessions.Ties.{fetched-phase, after_frames-phase}
 use Rattle.hcp_packet.specs.Packets.{packet_count}
-use Rattle.link_laws.specs.machine.Machine.{Message, LinkEnd, LinkInput, ActDue, Role, Turn, Refused, is_faulty, is_open, act_answer, role_after, with_act}
+use Rattle.link_laws.specs.machine.Machine.{Message, LinkEnd, LinkInput, Role, Turn, is_faulty, is_open, act_answer, role_after, with_act}
 use Rattle.link_laws.specs.machine.Machine.{moved}
 use Rattle.link_laws.specs.machine.Machine.{put_down, activated, heard, had_tick, took, reset_refusal, reset_by, window_of, renewed, new_link_end, sent_all}
 use Rattle.link_laws.specs.machine.Machine.{frame_fetched, after_input, turn, turned, give_refusal, given, whole_among, need_of_all, need, in_use, spare, if_up}
 use Rattle.link_laws.specs.machine.Machine.LinkInput.{Take, TakeUnknown, TakeBroken, Tick, Reset, Start, Stop, FromNode, Fetch}
 use Rattle.link_laws.specs.machine.Machine.Turn.{Give, Hold, FetchMessage, SetAside, Release}
-use Rattle.link_laws.specs.machine.Machine.Role.{Bare, Clf, Uicc}
+use Rattle.link_laws.specs.machine.Machine.Role.{Bare}
 use Rattle.link_laws.proofs.machine.Shifts.{IsNotUp, Shift, taken_shift, ticked_shift, reset_shift}
 use Rattle.link_laws.proofs.machine.Shifts.Shift.{Stays, Ends, Renews, Begins, Rests}
 use Rattle.link_laws.proofs.machine.Sound.{SentAfter, whole_more, whole_few, need_less, need_more}
@@ -34,6 +34,7 @@ use Rattle.link_laws.proofs.messages.Finishing.{reset_tells}
 use Rattle.node_machine.specs.world.World.{Site, new_world}
 use Rattle.node_machine.specs.world.NodeHistories.{world_after}
 use Rattle.node_laws.specs.links.Runs.{new_line, ArePlayable, SharesOut}
+use Rattle.node_laws.proofs.Cases.{by_list, by_option, by_test}
 use Rattle.node_laws.proofs.links.Ends.{here_is, tick_is, here_host}
 use Rattle.link_laws.proofs.entries.Together.{ticks_host as tick_host}
 use Rattle.node_laws.proofs.links.Obeying.{obey}
@@ -141,20 +142,17 @@ ready_acked s r = go s.ready r refl s.session.answered_rnr refl where
   go false true p false q = rw (p, q) refl
 
 pub turn_within : (e : LinkEnd) (t : Turn) → IsWithin e → IsWithin (turn e t)
-turn_within e (Give m) a = go (give_refusal e m) refl where
-  go : (o : Option Refused) → give_refusal e m ≡ o → IsWithin (turn e (Give m))
-  go None q = let is : turn e (Give m) ≡ given e m = rw q refl in subst IsWithin (sym is) (given_within e m q a)
-  go (Some why) q = let is : turn e (Give m) ≡ e = rw q refl in subst IsWithin (sym is) a
+turn_within e (Give m) a = by_option (give_refusal e m)
+    (λ q. let is : turn e (Give m) ≡ given e m = rw q refl in subst IsWithin (sym is) (given_within e m q a))
+    (λ why q. let is : turn e (Give m) ≡ e = rw q refl in subst IsWithin (sym is) a)
 turn_within e (Hold held) a =
     same_within e (turn e (Hold held)) refl (ready_acked e.shdlc (not held)) (Rattle.link_laws.proofs.sessions.Ties.ready-phase e.shdlc (not held)) refl a
 turn_within e FetchMessage a = same_within e (turn e FetchMessage) refl refl refl refl a
-turn_within e SetAside a = go (nat_lt 0 (spare e)) refl where
-  go : (b : Bool) → nat_lt 0 (spare e) ≡ b → IsWithin (turn e SetAside)
-  go true q =
-      let is : turn e SetAside ≡ record e { aside = e.aside + 1 } = rw q refl in
-      let some = ltb-true 0 (spare e) q in
-      subst IsWithin (sym is) (record { room = omega (arith, some, a.room); forgot = a.forgot })
-  go false q = let is : turn e SetAside ≡ e = rw q refl in subst IsWithin (sym is) a
+turn_within e SetAside a = by_test (nat_lt 0 (spare e))
+    (λ q. let is : turn e SetAside ≡ record e { aside = e.aside + 1 } = rw q refl in
+    let some = ltb-true 0 (spare e) q in
+    subst IsWithin (sym is) (record { room = omega (arith, some, a.room); forgot = a.forgot }))
+    (λ q. let is : turn e SetAside ≡ e = rw q refl in subst IsWithin (sym is) a)
 turn_within e Release a = record { room = omega (arith, a.room); forgot = a.forgot }
 
 pub turns_within : (e : LinkEnd) (ts : List Turn) → IsWithin e → IsWithin (turned e ts)
@@ -167,20 +165,16 @@ pub sent_within : (e : LinkEnd) → IsWithin e → IsWithin (sent_all e)
 sent_within e a = same_within e (sent_all e) refl (frames_acked most_frames e.shdlc) (after_frames-phase most_frames e.shdlc) refl a
 
 fetch_within : (e : LinkEnd) → IsWithin e → IsWithin (frame_fetched e)
-fetch_within e a = go e.acts refl where
-  fetch : (f : LinkEnd) → f.sent ≡ e.sent → f.shdlc ≡ fetched e.shdlc → f.aside ≡ e.aside → IsWithin f
-  fetch f sent shdlc aside =
-      same_within e f sent (ap (λ (s : EndState). s.session.acked) shdlc ∙ one_fetched_acked e.shdlc)
-      (ap (λ (s : EndState). s.phase) shdlc ∙ fetched-phase e.shdlc)
-      aside a
-
-  go : (acts : List ActDue) → e.acts ≡ acts → IsWithin (frame_fetched e)
-  go [] q = fetch (frame_fetched e) (rw q refl) (rw q refl) (rw q refl)
-  go (d ∷ acts) q = by (d.behind == 0) refl where
-    by : (b : Bool) → (d.behind == 0) ≡ b → IsWithin (frame_fetched e)
-    by true z =
-        same_within e (frame_fetched e) (rw (q, z) refl) (rw (q, z) refl) (rw (q, z) refl) (rw (q, z) refl) a
-    by false z = fetch (frame_fetched e) (rw (q, z) refl) (rw (q, z) refl) (rw (q, z) refl)
+fetch_within e a = by_list e.acts
+    (λ q. fetch (frame_fetched e) (rw q refl) (rw q refl) (rw q refl))
+    (λ d acts q. by_test (d.behind == 0)
+    (λ z. same_within e (frame_fetched e) (rw (q, z) refl) (rw (q, z) refl) (rw (q, z) refl) (rw (q, z) refl) a)
+    (λ z. fetch (frame_fetched e) (rw (q, z) refl) (rw (q, z) refl) (rw (q, z) refl))) where
+      fetch : (f : LinkEnd) → f.sent ≡ e.sent → f.shdlc ≡ fetched e.shdlc → f.aside ≡ e.aside → IsWithin f
+      fetch f sent shdlc aside =
+          same_within e f sent (ap (λ (s : EndState). s.session.acked) shdlc ∙ one_fetched_acked e.shdlc)
+          (ap (λ (s : EndState). s.phase) shdlc ∙ fetched-phase e.shdlc)
+          aside a
 
 -- ## Inputs
 
@@ -216,14 +210,12 @@ activated_within e event a =
 
 heard_within : (e : LinkEnd) (c : Control) (b : Bool) → IsWithin e → IsWithin (cond b (heard e c) e)
 heard_within e c false a = a
-heard_within e c true a = go (is_faulty (taken e.shdlc c).session) refl where
-  go : (b : Bool) → is_faulty (taken e.shdlc c).session ≡ b → IsWithin (heard e c)
-  go true q = let is : heard e c ≡ put_down true e = rw q refl in subst IsWithin (sym is) (down_within e true a)
-  go false q =
-      let ended : Bool = is_some (take_answer e.shdlc c).ended in
-      let f : LinkEnd = moved e ended (taken e.shdlc c) in
-      let b : IsWithin f = moved_within e ended (take_answer e.shdlc c).began (taken e.shdlc c) (taken_shift e.shdlc c) a in
-      same_within f (heard e c) (rw q refl) (rw q refl) (rw q refl) (rw q refl) b
+heard_within e c true a = by_test (is_faulty (taken e.shdlc c).session)
+    (λ q. let is : heard e c ≡ put_down true e = rw q refl in subst IsWithin (sym is) (down_within e true a))
+    (λ q. let ended : Bool = is_some (take_answer e.shdlc c).ended in
+    let f : LinkEnd = moved e ended (taken e.shdlc c) in
+    let b : IsWithin f = moved_within e ended (take_answer e.shdlc c).began (taken e.shdlc c) (taken_shift e.shdlc c) a in
+    same_within f (heard e c) (rw q refl) (rw q refl) (rw q refl) (rw q refl) b)
 
 took_within : (e : LinkEnd) (c : Control) → IsWithin e → IsWithin (took e c)
 took_within e (ActFrame act again) a = activated_within e (ActTake act again) a
@@ -234,24 +226,19 @@ took_within e (Rset w caps) a = heard_within e (Rset w caps) (is_open e.role) a
 took_within e Ua a = heard_within e Ua (is_open e.role) a
 
 tick_within : (e : LinkEnd) → IsWithin e → IsWithin (had_tick e)
-tick_within e a = go (is_open e.role) refl where
-  go : (b : Bool) → is_open e.role ≡ b → IsWithin (had_tick e)
-  go true o =
-      let ended : Bool = is_some (tick_answer e.shdlc).ended in
-      let is : had_tick e ≡ moved e ended (ticked e.shdlc) = rw o refl in
-      subst IsWithin (sym is) (moved_within e ended false (ticked e.shdlc) (ticked_shift e.shdlc) a)
-  go false o =
-      let is : had_tick e ≡ activated e ActTick = rw o refl in
-      subst IsWithin (sym is) (activated_within e ActTick a)
+tick_within e a = by_test (is_open e.role)
+    (λ o. let ended : Bool = is_some (tick_answer e.shdlc).ended in
+    let is : had_tick e ≡ moved e ended (ticked e.shdlc) = rw o refl in
+    subst IsWithin (sym is) (moved_within e ended false (ticked e.shdlc) (ticked_shift e.shdlc) a))
+    (λ o. let is : had_tick e ≡ activated e ActTick = rw o refl in
+    subst IsWithin (sym is) (activated_within e ActTick a))
 
 reset_within : (e : LinkEnd) (window : Option ℕ) → IsWithin e → IsWithin (after_input e (Reset window))
-reset_within e window a = go (reset_refusal e) refl where
-  go : (o : Option Refused) → reset_refusal e ≡ o → IsWithin (after_input e (Reset window))
-  go None q =
-      let w : ℕ = window_of e window in
-      let is : after_input e (Reset window) ≡ reset_by e w = rw q refl in
-      subst IsWithin (sym is) (moved_within e (is_some (if_up e.shdlc Asked)) false (reset_with e.shdlc w) (reset_shift e.shdlc w Asked (reset_tells e q).1) a)
-  go (Some why) q = let is : after_input e (Reset window) ≡ e = rw q refl in subst IsWithin (sym is) a
+reset_within e window a = by_option (reset_refusal e)
+    (λ q. let w : ℕ = window_of e window in
+    let is : after_input e (Reset window) ≡ reset_by e w = rw q refl in
+    subst IsWithin (sym is) (moved_within e (is_some (if_up e.shdlc Asked)) false (reset_with e.shdlc w) (reset_shift e.shdlc w Asked (reset_tells e q).1) a))
+    (λ why q. let is : after_input e (Reset window) ≡ e = rw q refl in subst IsWithin (sym is) a)
 
 pub input_within : (e : LinkEnd) (i : LinkInput) → IsWithin e → IsWithin (after_input e i)
 input_within e (Take c) a = took_within e c a
@@ -268,8 +255,7 @@ pub new_within : (e : LinkEnd) → IsWithin e → IsWithin (new_link_end (renewe
 new_within e a = go e.role where
   go : (r : Role) → IsWithin (new_link_end (renewed r))
   go Bare = record { room = omega arith; forgot = λ no. refl }
-  go (Clf s) = record { room = omega arith; forgot = λ no. refl }
-  go (Uicc s) = record { room = omega arith; forgot = λ no. refl }
+  go _ = record { room = omega arith; forgot = λ no. refl }
 
 -- ## Links
 

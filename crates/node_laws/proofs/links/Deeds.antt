@@ -14,7 +14,7 @@ use Rattle.gate_link.specs.Link.{link_served}
 use Rattle.gate_identity.specs.Identity.{identity_served}
 use Rattle.link_laws.specs.machine.Machine.{Message}
 use Rattle.node_machine.specs.Parts.{Creation, Desk, Core, Port, Deed}
-use Rattle.node_machine.specs.Parts.Deed.{Commits, Sends, SaysOk, Asks, Releases, Tells, IsAnswered, Drops, SetsErrors, Orders, Hears, GoesOn, Ends}
+use Rattle.node_machine.specs.Parts.Deed.{Sends, Asks, Tells, Orders}
 use Rattle.node_machine.specs.Carrying.{finds_room, own_view}
 use Rattle.node_machine.specs.Controller.{creation_in, view_for, answers_on, commit_deeds, decision_deeds, link_deeds, gates, agreed, controller_deeds, view_of}
 use Rattle.node_laws.proofs.steps.Ports.{at_port}
@@ -39,15 +39,7 @@ IsFine (Sends to m) = IsSendable m
 IsFine (Asks to message c) = IsSpoken message × IsSpoken c.answer
 IsFine (Tells to message) = IsSpoken message
 IsFine (Orders message) = IsSpoken message
-IsFine (Commits c) = Unit {0}
-IsFine SaysOk = Unit {0}
-IsFine (Releases asker) = Unit {0}
-IsFine IsAnswered = Unit {0}
-IsFine (Drops pid) = Unit {0}
-IsFine (SetsErrors errors) = Unit {0}
-IsFine Hears = Unit {0}
-IsFine (GoesOn i) = Unit {0}
-IsFine (Ends e) = Unit {0}
+IsFine _ = Unit {0}
 
 abbrev pub AreFine : List Deed → Type 0
 AreFine deeds = AllByRecursion IsFine deeds

@@ -6,8 +6,8 @@ use Rattle.swp_base.specs.declared.control_frames.Control.TheVariants.{I, S, Rse
 use Rattle.swp_act.specs.declared.ActEvent.{ActEvent}
 use Rattle.swp_act.specs.declared.ActEvent.TheVariants.{Take as ActTake, Tick as ActTick, Start as ActStart, Stop as ActStop}
 use Rattle.shdlc_core.specs.Machine.{taken, ticked, tick_answer, take_answer, stopped}
-use Rattle.link_laws.specs.sessions.Sessions.{OnWire, is_up}
-use Rattle.link_laws.specs.machine.Machine.{LinkEnd, ActDue, Role, LinkInput, Turn, is_faulty, is_open, role_after, renewed, moved, put_down, activated, heard}
+use Rattle.link_laws.specs.sessions.Sessions.{is_up}
+use Rattle.link_laws.specs.machine.Machine.{LinkEnd, Role, LinkInput, Turn, is_faulty, is_open, role_after, renewed, moved, put_down, activated, heard}
 use Rattle.link_laws.specs.machine.Machine.{took}
 use Rattle.link_laws.specs.machine.Machine.{had_tick, turned, after_input, ended_by, frame_fetched, sent_all, new_link_end}
 use Rattle.link_laws.specs.machine.Machine.LinkInput.{Take, TakeUnknown, TakeBroken, Tick, Reset, Start, Stop, FromNode, Fetch}
@@ -22,6 +22,7 @@ use Rattle.link_laws.proofs.messages.Project.{turned_role, moved_role, host_ende
 use Rattle.link_laws.proofs.messages.Steps.{activated_role}
 use Rattle.link_laws.proofs.entries.Stepping.{host_finished}
 use Rattle.link_laws.proofs.entries.Noting.{reset_role}
+use Rattle.node_laws.proofs.Cases.{by_list, by_test}
 use Rattle.node_laws.proofs.links.Got.{Clean, input_clean, turned_clean}
 use Rattle.link_laws.proofs.entries.Settling.{down_role}
 
@@ -42,16 +43,12 @@ module _ (P : LinkEnd → Type 0)
       finished_is m (turned (after_input l.controller.side i) ts) ending (turns (after_input l.controller.side i) ts (has l.controller.side i a))
 
   step_is : (l : Link) (comes : Comes) (ts : List Turn) (ending : Ending) → P l.controller.side → P (steps_at_controller l comes ts ending).controller.side
-  step_is l NextFrame ts ending a = go l.to_controller refl
-    where
-      go : (w : List OnWire) → l.to_controller ≡ w → P (steps_at_controller l NextFrame ts ending).controller.side
-      go [] q =
-          let is : steps_at_controller l NextFrame ts ending ≡ l = rw q refl in
-          let Q : Link → Type 0 = λ k. P k.controller.side in subst Q (sym is) a
-      go (x ∷ xs) q =
-          let is : steps_at_controller l NextFrame ts ending ≡ has_taken l x xs ts ending = rw q refl in
-          let Q : Link → Type 0 = λ k. P k.controller.side in
-          subst Q (sym is) (input_is l (Take x.frame) ts ending a _)
+  step_is l NextFrame ts ending a = by_list l.to_controller
+      (λ q. let is : steps_at_controller l NextFrame ts ending ≡ l = rw q refl in
+      let Q : Link → Type 0 = λ k. P k.controller.side in subst Q (sym is) a)
+      (λ x xs q. let is : steps_at_controller l NextFrame ts ending ≡ has_taken l x xs ts ending = rw q refl in
+      let Q : Link → Type 0 = λ k. P k.controller.side in
+      subst Q (sym is) (input_is l (Take x.frame) ts ending a _))
   step_is l (AsksReset window) ts ending a = input_is l (Reset window) ts ending a (with_ended l (is_some (ended_by l.controller.side (Reset window))))
   step_is l (Starts value) ts ending a = input_is l (Start value) ts ending a (silent l (after_input l.controller.side (Start value)))
   step_is l Stops ts ending a = input_is l Stop ts ending a (silent l (after_input l.controller.side Stop))
@@ -70,15 +67,12 @@ silent_host : (l : Link) (e : LinkEnd) → (silent l e).host ≡ l.host
 silent_host l e = host_ended l (is_up l.controller.side.shdlc.phase)
 
 step_host : (l : Link) (comes : Comes) (ts : List Turn) (ending : Ending) → (steps_at_controller l comes ts ending).host ≡ l.host
-step_host l NextFrame ts ending = go l.to_controller refl
-  where
-    go : (w : List OnWire) → l.to_controller ≡ w → (steps_at_controller l NextFrame ts ending).host ≡ l.host
-    go [] q = let is : steps_at_controller l NextFrame ts ending ≡ l = rw q refl in ap (λ (k : Link). k.host) is
-    go (x ∷ xs) q =
-        let is : steps_at_controller l NextFrame ts ending ≡ has_taken l x xs ts ending = rw q refl in
-        let b : Bool = is_some (ended_by l.controller.side (Take x.frame)) in
-        ap (λ (k : Link). k.host) is
-        ∙ (host_finished _ (turned (after_input l.controller.side (Take x.frame)) ts) ending ∙ host_ended (record l { to_controller = xs }) b)
+step_host l NextFrame ts ending = by_list l.to_controller
+    (λ q. let is : steps_at_controller l NextFrame ts ending ≡ l = rw q refl in ap (λ (k : Link). k.host) is)
+    (λ x xs q. let is : steps_at_controller l NextFrame ts ending ≡ has_taken l x xs ts ending = rw q refl in
+    let b : Bool = is_some (ended_by l.controller.side (Take x.frame)) in
+    ap (λ (k : Link). k.host) is
+    ∙ (host_finished _ (turned (after_input l.controller.side (Take x.frame)) ts) ending ∙ host_ended (record l { to_controller = xs }) b))
 step_host l (AsksReset window) ts ending =
     let b : Bool = is_some (ended_by l.controller.side (Reset window)) in
     host_finished (with_ended l b) (turned (after_input l.controller.side (Reset window)) ts) ending ∙ host_ended l b
@@ -105,13 +99,10 @@ module _ (Q : Role → Type 0) (acts : (r : Role) (event : ActEvent) → Q r →
 
   heard_is : (e : LinkEnd) (c : Control) (b : Bool) → Q e.role → Q (cond b (heard e c) e).role
   heard_is e c false a = a
-  heard_is e c true a = go (is_faulty (taken e.shdlc c).session) refl
-    where
-      go : (b : Bool) → is_faulty (taken e.shdlc c).session ≡ b → Q (heard e c).role
-      go true q = rw q (same e (put_down true e) (down_role e) a)
-      go false q =
-          let b : Bool = is_some (take_answer e.shdlc c).ended in
-          rw q (same e (moved e b (taken e.shdlc c)) (moved_role e b (taken e.shdlc c)) a)
+  heard_is e c true a = by_test (is_faulty (taken e.shdlc c).session)
+      (λ q. rw q (same e (put_down true e) (down_role e) a))
+      (λ q. let b : Bool = is_some (take_answer e.shdlc c).ended in
+      rw q (same e (moved e b (taken e.shdlc c)) (moved_role e b (taken e.shdlc c)) a))
 
   took_is : (e : LinkEnd) (c : Control) → Q e.role → Q (took e c).role
   took_is e (ActFrame act again) a = activated_is e (ActTake act again) a
@@ -137,15 +128,9 @@ module _ (Q : Role → Type 0) (acts : (r : Role) (event : ActEvent) → Q r →
           subst R (sym is) (activated_is e ActTick a)
 
   fetch_is : (e : LinkEnd) → Q e.role → Q (frame_fetched e).role
-  fetch_is e a = go e.acts refl
-    where
-      go : (acts : List ActDue) → e.acts ≡ acts → Q (frame_fetched e).role
-      go [] q = same e (frame_fetched e) (rw q refl) a
-      go (x ∷ acts) q = by (x.behind == 0) refl
-        where
-          by : (b : Bool) → (x.behind == 0) ≡ b → Q (frame_fetched e).role
-          by true z = same e (frame_fetched e) (rw (q, z) refl) a
-          by false z = same e (frame_fetched e) (rw (q, z) refl) a
+  fetch_is e a = by_list e.acts
+      (λ q. same e (frame_fetched e) (rw q refl) a)
+      (λ x acts q. by_test (x.behind == 0) (λ z. same e (frame_fetched e) (rw (q, z) refl) a) (λ z. same e (frame_fetched e) (rw (q, z) refl) a))
 
   pub role_input : (e : LinkEnd) (i : LinkInput) → Q e.role → Q (after_input e i).role
   role_input e (Take c) a = took_is e c a

@@ -1,5 +1,5 @@
 -- What came at an end may be sent on: its messages aren't empty, and their pipes aren't reserved.
-use Rattle.std.proofs.Common.{◌≡◌, ℕ, zero, suc, ◌<◌, Bool, true, false, cond, List, [], ◌∷◌, ◌++◌, length, Option, Some, None, refl, sym, subst, ◌∙◌, arith}
+use Rattle.std.proofs.Common.{◌≡◌, ℕ, zero, suc, ◌<◌, Bool, true, false, cond, List, [], ◌∷◌, ◌++◌, length, Option, refl, sym, subst, ◌∙◌, arith}
 use Rattle.std.specs.Prelude.{drop, nat_lt, is_some, ◌%◌, ◌==◌}
 use Rattle.std.specs.List.{AllByRecursion}
 use Rattle.std.proofs.lemmas.Bool.{ltb-true, true≢false}
@@ -11,13 +11,14 @@ use Rattle.shdlc_core.specs.Machine.{Session, taken, ticked, tick_answer, reset_
 use Rattle.hcp_packet.specs.declared.Packet.{Packet}
 use Rattle.hcp_packet.specs.Packets.{packets_in, is_good, good_of, AreSendable}
 use Rattle.hcp_chain.specs.Joining.{join_step, message_in, given_by, is_fifth, grown}
-use Rattle.link_laws.specs.machine.Machine.{Message, LinkEnd, ActDue, Refused, LinkInput, Turn, is_faulty, messages_got, is_open, moved, put_down, activated}
+use Rattle.link_laws.specs.machine.Machine.{Message, LinkEnd, ActDue, LinkInput, Turn, is_faulty, messages_got, is_open, moved, put_down, activated}
 use Rattle.link_laws.specs.machine.Machine.{started, deactivated, news, heard, took, had_tick, give_refusal, aside_refusal, turn, turned, reset_refusal}
 use Rattle.link_laws.specs.machine.Machine.{reset_by}
 use Rattle.link_laws.specs.machine.Machine.{if_up, window_of, after_input, frame_fetched}
 use Rattle.link_laws.specs.machine.Machine.LinkInput.{Take, TakeUnknown, TakeBroken, Tick, Reset, Start, Stop, FromNode, Fetch}
 use Rattle.link_laws.specs.machine.Machine.Turn.{Give, Hold, FetchMessage, SetAside, Release}
 use Rattle.link_laws.proofs.machine.Kept.{moved_got, down_got, activated_got}
+use Rattle.node_laws.proofs.Cases.{by_option, by_test}
 
 -- ## Lists
 
@@ -89,13 +90,10 @@ got_same : (e f : LinkEnd) → f.got ≡ e.got → Clean e → Clean f
 got_same e f q c = let P : List Message → Type 0 = λ ms. AreSendable ms in subst P (sym q) c
 
 heard_clean : (e : LinkEnd) (c : Control) → Clean e → Clean (heard e c)
-heard_clean e c a = go (is_faulty (taken e.shdlc c).session) refl
-  where
-    go : (b : Bool) → is_faulty (taken e.shdlc c).session ≡ b → Clean (heard e c)
-    go true q = rw q (got_same e (put_down true e) (down_got e true) a)
-    go false q =
-        rw q (sendable-append e.got (news e.shdlc.session (taken e.shdlc c)) a
-        (sendable-drop (length (messages_got e.shdlc.session)) (messages_got (taken e.shdlc c).session) (got_sendable (taken e.shdlc c).session)))
+heard_clean e c a = by_test (is_faulty (taken e.shdlc c).session)
+    (λ q. rw q (got_same e (put_down true e) (down_got e true) a))
+    (λ q. rw q (sendable-append e.got (news e.shdlc.session (taken e.shdlc c)) a
+    (sendable-drop (length (messages_got e.shdlc.session)) (messages_got (taken e.shdlc c).session) (got_sendable (taken e.shdlc c).session))))
 
 open_clean : (e : LinkEnd) (c : Control) (b : Bool) → Clean e → Clean (cond b (heard e c) e)
 open_clean e c true a = heard_clean e c a
@@ -110,36 +108,22 @@ took_clean e (Rset w caps) a = open_clean e (Rset w caps) (is_open e.role) a
 took_clean e Ua a = open_clean e Ua (is_open e.role) a
 
 tick_clean : (e : LinkEnd) → Clean e → Clean (had_tick e)
-tick_clean e a = go (is_open e.role) refl
-  where
-    go : (b : Bool) → is_open e.role ≡ b → Clean (had_tick e)
-    go true q =
-        let b : Bool = is_some (tick_answer e.shdlc).ended in
-        rw q (got_same e (moved e b (ticked e.shdlc)) (moved_got e b (ticked e.shdlc)) a)
-    go false q = rw q (got_same e (activated e ActTick) (activated_got e ActTick) a)
+tick_clean e a = by_test (is_open e.role)
+    (λ q. let b : Bool = is_some (tick_answer e.shdlc).ended in
+    rw q (got_same e (moved e b (ticked e.shdlc)) (moved_got e b (ticked e.shdlc)) a))
+    (λ q. rw q (got_same e (activated e ActTick) (activated_got e ActTick) a))
 
 reset_clean : (e : LinkEnd) (window : Option ℕ) → Clean e → Clean (after_input e (Reset window))
-reset_clean e window a = go (reset_refusal e) refl
-  where
-    go : (o : Option Refused) → reset_refusal e ≡ o → Clean (after_input e (Reset window))
-    go None q =
-        let w : ℕ = window_of e window in
-        rw q (got_same e (reset_by e w) (moved_got e (is_some (if_up e.shdlc Asked)) (reset_with e.shdlc w)) a)
-    go (Some why) q = rw q a
+reset_clean e window a = by_option (reset_refusal e)
+    (λ q. let w : ℕ = window_of e window in
+    rw q (got_same e (reset_by e w) (moved_got e (is_some (if_up e.shdlc Asked)) (reset_with e.shdlc w)) a))
+    (λ why q. rw q a)
 
 turn_clean : (e : LinkEnd) (t : Turn) → Clean e → Clean (turn e t)
-turn_clean e (Give m) a = go (give_refusal e m) refl
-  where
-    go : (o : Option Refused) → give_refusal e m ≡ o → Clean (turn e (Give m))
-    go None q = rw q a
-    go (Some why) q = rw q a
+turn_clean e (Give m) a = by_option (give_refusal e m) (λ q. rw q a) (λ why q. rw q a)
 turn_clean e (Hold held) a = a
 turn_clean e FetchMessage a = sendable-drop 1 e.got a
-turn_clean e SetAside a = go (aside_refusal e) refl
-  where
-    go : (o : Option Refused) → aside_refusal e ≡ o → Clean (turn e SetAside)
-    go None q = rw q a
-    go (Some why) q = rw q a
+turn_clean e SetAside a = by_option (aside_refusal e) (λ q. rw q a) (λ why q. rw q a)
 turn_clean e Release a = a
 
 pub turned_clean : (e : LinkEnd) (ts : List Turn) → Clean e → Clean (turned e ts)
@@ -163,8 +147,4 @@ input_clean e Fetch a = got_same e (frame_fetched e) (fetched_got e.acts refl) a
   where
     fetched_got : (acts : List ActDue) → e.acts ≡ acts → (frame_fetched e).got ≡ e.got
     fetched_got [] q = rw q refl
-    fetched_got (x ∷ acts) q = by (x.behind == 0) refl
-      where
-        by : (b : Bool) → (x.behind == 0) ≡ b → (frame_fetched e).got ≡ e.got
-        by true z = rw (q, z) refl
-        by false z = rw (q, z) refl
+    fetched_got (x ∷ acts) q = by_test (x.behind == 0) (λ z. rw (q, z) refl) (λ z. rw (q, z) refl)

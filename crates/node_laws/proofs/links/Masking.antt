@@ -4,6 +4,7 @@ use Rattle.std.specs.Prelude.{nat_le}
 use Rattle.std.specs.List.{filter, AllByRecursion}
 use Rattle.std.proofs.lemmas.Bool.{true≢false, leb-true}
 use Rattle.gate_admin.specs.View.{has, hosts_where, mask_of}
+use Rattle.node_laws.proofs.Cases.{by_test}
 use Rattle.node_laws.proofs.steps.Masks.{bit_most, bit_none, digits}
 
 zero_one : (n : ℕ) → n ≡ 0 → eqb n 1 ≡ true → ⊥
@@ -44,34 +45,23 @@ from_mask test x q = by_host x q where
 
   by_host : (x : ℕ) → has m x ≡ true → test x ≡ true
   by_host zero q = absurd (true≢false (sym q))
-  by_host (suc zero) q = go (test 1) refl where
-    go : (b : Bool) → test 1 ≡ b → test 1 ≡ true
-    go true e = e
-    go false e = absurd (zero_one (m / 2 % 2) (omega (arith, digits test, bit_none (test 1) e, bit_most)) q)
-  by_host (suc (suc zero)) q = go (test 2) refl where
-    go : (b : Bool) → test 2 ≡ b → test 2 ≡ true
-    go true e = e
-    go false e = absurd (zero_one (m / 4 % 2) (omega (arith, digits test, bit_none (test 2) e, bit_most)) q)
-  by_host (suc (suc (suc zero))) q = go (test 3) refl where
-    go : (b : Bool) → test 3 ≡ b → test 3 ≡ true
-    go true e = e
-    go false e = absurd (zero_one (m / 8 % 2) (omega (arith, digits test, bit_none (test 3) e, bit_most)) q)
-  by_host (suc (suc (suc (suc zero)))) q = go (test 4) refl where
-    go : (b : Bool) → test 4 ≡ b → test 4 ≡ true
-    go true e = e
-    go false e = absurd (zero_one (m / 16 % 2) (omega (arith, digits test, bit_none (test 4) e, bit_most)) q)
-  by_host (suc (suc (suc (suc (suc zero))))) q = go (test 5) refl where
-    go : (b : Bool) → test 5 ≡ b → test 5 ≡ true
-    go true e = e
-    go false e = absurd (zero_one (m / 32 % 2) (omega (arith, digits test, bit_none (test 5) e, bit_most)) q)
-  by_host (suc (suc (suc (suc (suc (suc zero)))))) q = go (test 6) refl where
-    go : (b : Bool) → test 6 ≡ b → test 6 ≡ true
-    go true e = e
-    go false e = absurd (zero_one (m / 64 % 2) (omega (arith, digits test, bit_none (test 6) e, bit_most)) q)
-  by_host (suc (suc (suc (suc (suc (suc (suc zero))))))) q = go (test 7) refl where
-    go : (b : Bool) → test 7 ≡ b → test 7 ≡ true
-    go true e = e
-    go false e = absurd (zero_one (m / 128 % 2) (omega (arith, digits test, bit_none (test 7) e, bit_most)) q)
+  by_host (suc zero) q = by_test (test 1) (λ e. e) (λ e. absurd (zero_one (m / 2 % 2) (omega (arith, digits test, bit_none (test 1) e, bit_most)) q))
+  by_host (suc (suc zero)) q = by_test (test 2) (λ e. e) (λ e. absurd (zero_one (m / 4 % 2) (omega (arith, digits test, bit_none (test 2) e, bit_most)) q))
+  by_host (suc (suc (suc zero))) q = by_test (test 3)
+      (λ e. e)
+      (λ e. absurd (zero_one (m / 8 % 2) (omega (arith, digits test, bit_none (test 3) e, bit_most)) q))
+  by_host (suc (suc (suc (suc zero)))) q = by_test (test 4)
+      (λ e. e)
+      (λ e. absurd (zero_one (m / 16 % 2) (omega (arith, digits test, bit_none (test 4) e, bit_most)) q))
+  by_host (suc (suc (suc (suc (suc zero))))) q = by_test (test 5)
+      (λ e. e)
+      (λ e. absurd (zero_one (m / 32 % 2) (omega (arith, digits test, bit_none (test 5) e, bit_most)) q))
+  by_host (suc (suc (suc (suc (suc (suc zero)))))) q = by_test (test 6)
+      (λ e. e)
+      (λ e. absurd (zero_one (m / 64 % 2) (omega (arith, digits test, bit_none (test 6) e, bit_most)) q))
+  by_host (suc (suc (suc (suc (suc (suc (suc zero))))))) q = by_test (test 7)
+      (λ e. e)
+      (λ e. absurd (zero_one (m / 128 % 2) (omega (arith, digits test, bit_none (test 7) e, bit_most)) q))
   by_host (suc (suc (suc (suc (suc (suc (suc (suc n)))))))) q = absurd (omega (arith, has_small m (suc (suc (suc (suc (suc (suc (suc (suc n)))))))) q))
 
 -- each of the hosts that pass a test passes it

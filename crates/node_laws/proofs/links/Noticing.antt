@@ -12,7 +12,7 @@ use Rattle.shdlc_core.specs.declared.answers.LinkState.TheVariants.{Up, Waiting,
 use Rattle.hci_tables.specs.declared.command.Command.{Command}
 use Rattle.hci_tables.specs.Bodies.{body_of}
 use Rattle.hci_store.specs.Committing.{commit_writes}
-use Rattle.link_laws.specs.machine.Machine.{Message, LinkEnd, LinkInput, Refused, Turn, turn, give_refusal, aside_refusal, ended_by}
+use Rattle.link_laws.specs.machine.Machine.{Message, LinkEnd, LinkInput, Turn, turn, give_refusal, aside_refusal, ended_by}
 use Rattle.link_laws.specs.machine.Machine.LinkInput.{Tick}
 use Rattle.link_laws.specs.machine.Machine.Turn.{Give, Hold, FetchMessage, SetAside, Release}
 use Rattle.link_laws.proofs.sessions.Ties.{ready-phase as ready_phase}
@@ -26,6 +26,7 @@ use Rattle.node_machine.specs.Node.{NodeInput, input_at, has_come, all_come, old
 use Rattle.node_machine.specs.Node.{forgets, without_notice, after_sessions, forgotten, all_owed, synced, steps}
 use Rattle.node_machine.specs.Node.NodeInput.{AtEnd, TimePasses}
 use Rattle.node_laws.specs.links.Notices.{Reaches, AllReach, IsComing, IsOutside, IsNoticedUp, IsBegun, OnFirst}
+use Rattle.node_laws.proofs.Cases.{by_option, by_test}
 use Rattle.node_laws.proofs.links.Staying.{stays_up}
 use Rattle.node_laws.proofs.links.Reaching.{controller_reach}
 use Rattle.node_laws.proofs.steps.StepWalks.{Lasts, rest_lasts}
@@ -36,18 +37,10 @@ use Rattle.node_laws.proofs.steps.Ports.{come_host, forgets_host, late_host, wit
 
 -- a turn leaves the phase of an end
 pub turn-phase : (e : LinkEnd) (t : Turn) → (turn e t).shdlc.phase ≡ e.shdlc.phase
-turn-phase e (Give m) = go (give_refusal e m) refl
-  where
-    go : (o : Option Refused) → give_refusal e m ≡ o → (turn e (Give m)).shdlc.phase ≡ e.shdlc.phase
-    go None q = rw q refl
-    go (Some why) q = rw q refl
+turn-phase e (Give m) = by_option (give_refusal e m) (λ q. rw q refl) (λ why q. rw q refl)
 turn-phase e (Hold held) = ready_phase e.shdlc _
 turn-phase e FetchMessage = refl
-turn-phase e SetAside = go (aside_refusal e) refl
-  where
-    go : (o : Option Refused) → aside_refusal e ≡ o → (turn e SetAside).shdlc.phase ≡ e.shdlc.phase
-    go None q = rw q refl
-    go (Some why) q = rw q refl
+turn-phase e SetAside = by_option (aside_refusal e) (λ q. rw q refl) (λ why q. rw q refl)
 turn-phase e Release = refl
 
 -- an end is up
@@ -150,11 +143,9 @@ module _ (U : ℕ → Bool) where
       (λ p found c n. ap up_at (sym found) ∙ (b.links k ∙ up)) b
 
   commits : (c : Command) (w : Work) → Sure w → Sure (commit c w)
-  commits c w a = go (fails_within (length (commit_writes w.core.journal w.core.tables (body_of c))) w.plan) refl
-    where
-      go : (b : Bool) → fails_within (length (commit_writes w.core.journal w.core.tables (body_of c))) w.plan ≡ b → Sure (commit c w)
-      go true q = beside w (commit c w) (rw q refl) (rw q refl) a
-      go false q = beside w (commit c w) (rw q refl) (rw q refl) a
+  commits c w a = by_test (fails_within (length (commit_writes w.core.journal w.core.tables (body_of c))) w.plan)
+      (λ q. beside w (commit c w) (rw q refl) (rw q refl) a)
+      (λ q. beside w (commit c w) (rw q refl) (rw q refl) a)
 
   -- notices go where links are up
   abbrev Goes : Deed → Type 0
@@ -192,24 +183,12 @@ module _ (U : ℕ → Bool) where
       one : (d : Deed) → Reaches w.ports d → Goes d
       one (Asks to message c) q = sym (a.links to) ∙ q
       one (Tells to message) q = sym (a.links to) ∙ q
-      one (Commits c) q = tt
-      one (Sends to m) q = tt
-      one SaysOk q = tt
-      one (Releases asker) q = tt
-      one IsAnswered q = tt
-      one (Drops pid) q = tt
-      one (SetsErrors errors) q = tt
-      one (Orders message) q = tt
-      one Hears q = tt
-      one (GoesOn i) q = tt
-      one (Ends e) q = tt
+      one _ q = tt
 
   deeds_go : (k : ℕ) (m : Message) (w : Work) → Sure w → AllGo (deeds_of w.core w.ports k m)
-  deeds_go k m w a = go (w.core.node == 0) refl
-    where
-      go : (b : Bool) → (w.core.node == 0) ≡ b → AllGo (deeds_of w.core w.ports k m)
-      go true q = rw q (goes_of w a (controller_deeds (view_of w.core w.ports) k m) (controller_reach w.core w.ports k m))
-      go false q = absurd (true≢false (sym (ap (λ n. n == 0) a.node) ∙ q))
+  deeds_go k m w a = by_test (w.core.node == 0)
+      (λ q. rw q (goes_of w a (controller_deeds (view_of w.core w.ports) k m) (controller_reach w.core w.ports k m)))
+      (λ q. absurd (true≢false (sym (ap (λ n. n == 0) a.node) ∙ q)))
 
   sure_lasts : Lasts Sure Goes (λ k m. Unit {0})
   sure_lasts = record {
@@ -257,15 +236,11 @@ older_ok p b n over = b (go p.desk.notice n) over
     go (Some n) z = refl
 
 late_ok : (p : Port) → IsOk p → IsOk (reset_late p)
-late_ok p b = go (is_late p) refl
+late_ok p b = by_test (is_late p) (λ q. rw q (λ n over. absurd (over_late p.ended over))) (λ q. rw q b)
   where
     over_late : (c : Bool) → (c || true) ≡ false → ⊥
     over_late true z = true≢false z
     over_late false z = true≢false z
-
-    go : (c : Bool) → is_late p ≡ c → IsOk (reset_late p)
-    go true q = rw q (λ n over. absurd (over_late p.ended over))
-    go false q = rw q b
 
 forgets_ok : (ports : List Port) (p : Port) → IsOk p → IsOk (forgets ports p)
 forgets_ok ports p b = go (is_forgotten ports (asked_at p)) refl p.desk.notice refl
@@ -276,24 +251,17 @@ forgets_ok ports p b = go (is_forgotten ports (asked_at p)) refl p.desk.notice r
     go true q (Some n) r = rw (q, r) (λ z over. b (rw r refl) over)
 
 without_up : (p : Port) → IsOk p → UpAt (Some (without_notice p))
-without_up p b = go (is_over p) refl
-  where
-    go : (c : Bool) → is_over p ≡ c → UpAt (Some (without_notice p))
-    go true q = rw q (λ n. absurd (true≢false (sym n)))
-    go false q = rw q (λ n. ap is_up (b n q))
+without_up p b = by_test (is_over p) (λ q. rw q (λ n. absurd (true≢false (sym n)))) (λ q. rw q (λ n. ap is_up (b n q)))
 
 -- ## Steps
 
 -- what comes in a step comes from outside
 pub outside : (input : NodeInput) → IsOutside input → (p : Port) (i : LinkInput) → input_at input p ≡ Some i → IsComing i
-outside (AtEnd h j) k p i q = go (p.desk.host == h) refl
-  where
-    go : (c : Bool) → (p.desk.host == h) ≡ c → IsComing i
-    go true z =
-        let same : Some j ≡ Some i = rw z at q in
-        let is : j ≡ i = cc in
-        subst IsComing is k
-    go false z = let none : None ≡ Some i = rw z at q in cc
+outside (AtEnd h j) k p i q = by_test (p.desk.host == h)
+    (λ z. let same : Some j ≡ Some i = rw z at q in
+    let is : j ≡ i = cc in
+    subst IsComing is k)
+    (λ z. let none : None ≡ Some i = rw z at q in cc)
 outside TimePasses k p i q = let is : Tick ≡ i = cc in subst IsComing is tt
 
 came_ok : (input : NodeInput) (w : Work) (x : ℕ) → IsOutside input → OnFirst IsBegun (port_at w.ports x)

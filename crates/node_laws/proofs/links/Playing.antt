@@ -154,13 +154,7 @@ abbrev pub MayHappen : NodeWorld → Happening → Type 0
 MayHappen w (Gives e m) = IsSendable m
 MayHappen w (Resets e window) = IsWindow window
 MayHappen w (Activates h sync power) = is_some w.controller ≡ true
-MayHappen w (Boots n) = Unit {0}
-MayHappen w (IsCut n) = Unit {0}
-MayHappen w (Inits e identity pipes) = Unit {0}
-MayHappen w (Takes e) = Unit {0}
-MayHappen w (Loses e why) = Unit {0}
-MayHappen w Ticks = Unit {0}
-MayHappen w (Arms n plan) = Unit {0}
+MayHappen w _ = Unit {0}
 
 pub step_fine : (w : NodeWorld) (c : Happening) → MayHappen w c → IsFineWorld w → IsFineWorld (world_step w c).0
 step_fine w (Boots n) m fine = boots_fine w n fine
@@ -219,16 +213,13 @@ goes_fine w (line.Damage e places) p q fine =
     all_fine (happens_by e (first_verdict (frames_at w e) places.items)) w (damaged e (first_verdict (frames_at w e) places.items)) fine
 goes_fine w (line.Tick times) p q fine = all_fine (replicate (unwrap_or times 1) Ticks) w (repeated (unwrap_or times 1) Ticks (λ v. tt)) fine
 goes_fine w (line.Reset e window) p q fine = all_fine (Resets e window ∷ []) w ((λ v. p), tt) fine
-goes_fine w (line.Busy e) p q fine = fine
-goes_fine w (line.Settle rounds) p q fine = fine
-goes_fine w (line.Ready e) p q fine = fine
 goes_fine w (line.Boot node) p q fine = all_fine (Boots node ∷ []) w ((λ v. tt), tt) fine
 goes_fine w (line.Cut node) p q fine = all_fine (IsCut node ∷ []) w ((λ v. tt), tt) fine
 goes_fine w (line.Activate host sync power) p q fine =
     step_fine w (Activates host sync power) (runs_then (is_some w.controller) (if_off w host) q) fine
 goes_fine w (line.Arm node nth fill) p q fine = all_fine (Arms node _ ∷ []) w ((λ v. tt), tt) fine
 goes_fine w (line.Init e identity pipes) p q fine = all_fine (Inits e identity pipes.items ∷ []) w ((λ v. tt), tt) fine
-goes_fine w (line.Tables node) p q fine = fine
+goes_fine w _ p q fine = fine
 
 line_fine : (w : NodeWorld) (l : Line) → IsPlayable l → IsFineWorld w → IsFineWorld (line_step w l).0
 line_fine w l p fine = go (refusal_in w l) refl

@@ -5,7 +5,7 @@ use Rattle.std.specs.List.{AllByRecursion}
 use Rattle.std.specs.Option.{option_map_or}
 use Rattle.link_laws.specs.sessions.Sessions.{is_up}
 use Rattle.hci_tables.specs.declared.command.Command.{Command}
-use Rattle.hci_tables.specs.declared.command.Command.TheVariants.{Create, Delete, Clear, SetOpened, Set, Sync}
+use Rattle.hci_tables.specs.declared.command.Command.TheVariants.{Create}
 use Rattle.hci_tables.specs.Tables.{HciTables, is_opened}
 use Rattle.gate_answers.specs.Answers.{body_in}
 use Rattle.gate_admin.specs.declared.view.LinkView.{LinkView}
@@ -41,11 +41,7 @@ linked_of t ports h x q = go (port_at ports x) (from_mask (λ k. option_map_or (
 
 asked_reach : (t : HciTables) (ports : List Port) (h dest : ℕ) (c : Command) → IsAskedFor t (view_for t ports h) h dest c → IsLinked ports dest
 asked_reach t ports h dest (Create row) a = linked_of t ports h dest a.connected
-asked_reach t ports h dest (Delete pid) a = absurd a
-asked_reach t ports h dest (Clear other) a = absurd a
-asked_reach t ports h dest (SetOpened other pid opened) a = absurd a
-asked_reach t ports h dest (Set other gate param value) a = absurd a
-asked_reach t ports h dest (Sync other id) a = absurd a
+asked_reach t ports h dest _ a = absurd a
 
 plain : (ports : List Port) → Plain (Reaches ports)
 plain ports = record { sends = λ to x. tt; says_ok = tt; releases = λ asker. tt; is_answered = tt; drops = λ pid. tt }

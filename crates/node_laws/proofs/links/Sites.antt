@@ -103,11 +103,8 @@ line_there l x a =
 
 -- what may come to a controller
 abbrev pub MayCome : Comes → Type 0
-MayCome NextFrame = Unit {0}
 MayCome (AsksReset window) = IsWindow window
-MayCome (Starts value) = Unit {0}
-MayCome Stops = Unit {0}
-MayCome NoInput = Unit {0}
+MayCome _ = Unit {0}
 
 pub can_come : (l : Link) (comes : Comes) → MayCome comes → IsClf l.controller.side.role → CanCome l comes
 can_come l NextFrame m a = tt

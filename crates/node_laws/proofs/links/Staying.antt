@@ -11,14 +11,15 @@ use Rattle.swp_act.specs.declared.ActEvent.{ActEvent}
 use Rattle.swp_act.specs.declared.ActEvent.TheVariants.{Take as ActTake, Tick as ActTick}
 use Rattle.shdlc_core.specs.declared.answers.LinkState.TheVariants.{Up}
 use Rattle.shdlc_core.specs.Machine.{EndState, taken, take_answer, ticked, tick_answer}
-use Rattle.link_laws.specs.machine.Machine.{LinkEnd, Refused, LinkInput, is_faulty, is_open, act_answer, role_after, with_act, moved, put_down, activated}
+use Rattle.link_laws.specs.machine.Machine.{LinkEnd, LinkInput, is_faulty, is_open, act_answer, role_after, with_act, moved, put_down, activated}
 use Rattle.link_laws.specs.machine.Machine.{heard}
 use Rattle.link_laws.specs.machine.Machine.{had_tick, reset_refusal, if_up, after_input, ended_by, ended_by_act}
-use Rattle.link_laws.specs.machine.Machine.LinkInput.{Take, TakeUnknown, TakeBroken, Tick, Reset, Start, Stop, FromNode, Fetch}
+use Rattle.link_laws.specs.machine.Machine.LinkInput.{Take, Tick, Reset, Start, Stop}
 use Rattle.link_laws.proofs.machine.Shifts.{Shift, taken_shift, ticked_shift}
 use Rattle.link_laws.proofs.machine.Shifts.Shift.{Stays, Ends, Renews, Begins, Rests}
 use Rattle.link_laws.proofs.machine.Reports.{shdlc_is as shdlc_moved}
 use Rattle.node_laws.specs.links.Notices.{IsComing}
+use Rattle.node_laws.proofs.Cases.{by_option, by_test}
 
 abbrev pub IsUpEnd : LinkEnd → Type 0
 IsUpEnd e = e.shdlc.phase ≡ Up
@@ -38,32 +39,26 @@ act_stays None e = refl
 act_stays (Some act) e = refl
 
 activated_up : (e : LinkEnd) (event : ActEvent) → IsUpEnd e → is_some (ended_by_act e event) ≡ false → IsUpEnd (activated e event)
-activated_up e event up q = go (act_answer e.role event).ended_link refl
+activated_up e event up q = by_test (act_answer e.role event).ended_link
+    (λ z. absurd (up_ends e.shdlc ByAct up (rw z at q)))
+    (λ z. let down : (put_down (act_answer e.role event).ended_link e).shdlc ≡ e.shdlc = ap (λ b. (put_down b e).shdlc) z in
+    let P : EndState → Type 0 = λ s. s.phase ≡ Up in
+    subst P (sym (act_stays (act_answer e.role event).send (f (act_answer e.role event).ended_link) ∙ down)) up)
   where
     f : Bool → LinkEnd
     f b = record (put_down b e) { role = role_after e.role event }
-
-    go : (b : Bool) → (act_answer e.role event).ended_link ≡ b → IsUpEnd (activated e event)
-    go true z = absurd (up_ends e.shdlc ByAct up (rw z at q))
-    go false z =
-        let down : (put_down (act_answer e.role event).ended_link e).shdlc ≡ e.shdlc = ap (λ b. (put_down b e).shdlc) z in
-        let P : EndState → Type 0 = λ s. s.phase ≡ Up in
-        subst P (sym (act_stays (act_answer e.role event).send (f (act_answer e.role event).ended_link) ∙ down)) up
 
 moved_up : (e : LinkEnd) (b : Bool) (s : EndState) → s.phase ≡ Up → IsUpEnd (moved e b s)
 moved_up e b s up = let P : EndState → Type 0 = λ z. z.phase ≡ Up in subst P (sym (shdlc_moved e b s)) up
 
 heard_up : (e : LinkEnd) (c : Control) → IsUpEnd e
     → is_some (cond (is_faulty (taken e.shdlc c).session) (Some Chain) (take_answer e.shdlc c).ended) ≡ false → IsUpEnd (heard e c)
-heard_up e c up q = go (is_faulty (taken e.shdlc c).session) refl
-  where
-    go : (b : Bool) → is_faulty (taken e.shdlc c).session ≡ b → IsUpEnd (heard e c)
-    go true z = absurd (true≢false (rw z at q))
-    go false z =
-        let same : is_some (take_answer e.shdlc c).ended ≡ false = rw z at q in
-        let s : EndState = taken e.shdlc c in
-        let b : Bool = is_some (take_answer e.shdlc c).ended in
-        rw z (moved_up e b s (goes_on e.shdlc s b (take_answer e.shdlc c).began up same (taken_shift e.shdlc c)))
+heard_up e c up q = by_test (is_faulty (taken e.shdlc c).session)
+    (λ z. absurd (true≢false (rw z at q)))
+    (λ z. let same : is_some (take_answer e.shdlc c).ended ≡ false = rw z at q in
+    let s : EndState = taken e.shdlc c in
+    let b : Bool = is_some (take_answer e.shdlc c).ended in
+    rw z (moved_up e b s (goes_on e.shdlc s b (take_answer e.shdlc c).began up same (taken_shift e.shdlc c))))
 
 open_up : (e : LinkEnd) (c : Control) (b : Bool) → IsUpEnd e
     → is_some (cond b (cond (is_faulty (taken e.shdlc c).session) (Some Chain) (take_answer e.shdlc c).ended) None) ≡ false → IsUpEnd (cond b (heard e c) e)
@@ -77,26 +72,15 @@ stays_up e (Take (I ns nr info)) k up q = open_up e (I ns nr info) (is_open e.ro
 stays_up e (Take (S kind nr)) k up q = open_up e (S kind nr) (is_open e.role) up q
 stays_up e (Take (Rset w caps)) k up q = open_up e (Rset w caps) (is_open e.role) up q
 stays_up e (Take Ua) k up q = open_up e Ua (is_open e.role) up q
-stays_up e Tick k up q = go (is_open e.role) refl
-  where
-    go : (b : Bool) → is_open e.role ≡ b → IsUpEnd (had_tick e)
-    go true z =
-        let b : Bool = is_some (tick_answer e.shdlc).ended in
-        let same : b ≡ false = rw z at q in
-        let is : had_tick e ≡ moved e b (ticked e.shdlc) = rw z refl in
-        subst IsUpEnd (sym is) (moved_up e b (ticked e.shdlc) (goes_on e.shdlc (ticked e.shdlc) b false up same (ticked_shift e.shdlc)))
-    go false z =
-        let same : is_some (ended_by_act e ActTick) ≡ false = rw z at q in
-        let is : had_tick e ≡ activated e ActTick = rw z refl in
-        subst IsUpEnd (sym is) (activated_up e ActTick up same)
-stays_up e (Reset window) k up q = go (reset_refusal e) refl
-  where
-    go : (o : Option Refused) → reset_refusal e ≡ o → IsUpEnd (after_input e (Reset window))
-    go None z = absurd (up_ends e.shdlc Asked up (rw z at q))
-    go (Some why) z = rw z up
+stays_up e Tick k up q = by_test (is_open e.role)
+    (λ z. let b : Bool = is_some (tick_answer e.shdlc).ended in
+    let same : b ≡ false = rw z at q in
+    let is : had_tick e ≡ moved e b (ticked e.shdlc) = rw z refl in
+    subst IsUpEnd (sym is) (moved_up e b (ticked e.shdlc) (goes_on e.shdlc (ticked e.shdlc) b false up same (ticked_shift e.shdlc))))
+    (λ z. let same : is_some (ended_by_act e ActTick) ≡ false = rw z at q in
+    let is : had_tick e ≡ activated e ActTick = rw z refl in
+    subst IsUpEnd (sym is) (activated_up e ActTick up same))
+stays_up e (Reset window) k up q = by_option (reset_refusal e) (λ z. absurd (up_ends e.shdlc Asked up (rw z at q))) (λ why z. rw z up)
 stays_up e (Start value) k up q = absurd (up_ends e.shdlc ByAct up q)
 stays_up e Stop k up q = absurd (up_ends e.shdlc ByAct up q)
-stays_up e TakeUnknown k up q = absurd k
-stays_up e (TakeBroken fault) k up q = absurd k
-stays_up e (FromNode t) k up q = absurd k
-stays_up e Fetch k up q = absurd k
+stays_up e _ k up q = absurd k

@@ -15,7 +15,7 @@ use Rattle.link_laws.specs.machine.Machine.Turn.{Give, Hold, FetchMessage, SetAs
 use Rattle.link_laws.specs.messages.Links.{AreSendableTurns}
 use Rattle.node_machine.specs.Parts.{About, Notice, Desk, Core, Port, Work, Deed}
 use Rattle.node_machine.specs.Parts.About.{Waits, Forgotten, Removed}
-use Rattle.node_machine.specs.Parts.Deed.{Commits, Sends, SaysOk, Asks, Releases, Tells, IsAnswered, Drops, SetsErrors, Orders, Hears, GoesOn, Ends}
+use Rattle.node_machine.specs.Parts.Deed.{Commits, Sends, Asks, Releases, Tells, IsAnswered, SetsErrors, Orders}
 use Rattle.node_machine.specs.Carrying.{noting, port_at, changed_if, with_port, with_desk, after_turn, turn_at, notified, commit, done}
 use Rattle.node_machine.specs.Carrying.{all_done}
 use Rattle.node_machine.specs.Controller.{creation_in, asked_at}
@@ -23,6 +23,7 @@ use Rattle.node_machine.specs.Turns.{deeds_of, handles, holds_back, lets_go}
 use Rattle.node_machine.specs.Node.{NodeInput, input_at, has_come, all_come, older_notice, with_older, is_late, reset_late, times_out, is_over, is_forgotten}
 use Rattle.node_machine.specs.Node.{forgotten, forgets, all_owed, without_notice, after_sessions, synced, steps}
 use Rattle.node_machine.specs.Node.NodeInput.{AtEnd, TimePasses}
+use Rattle.node_laws.proofs.Cases.{by_option, by_test}
 use Rattle.node_laws.proofs.links.Got.{Clean, one_clean, input_clean}
 use Rattle.node_laws.proofs.links.Decisions.{IsSpoken}
 use Rattle.node_laws.proofs.links.Deeds.{HasAnswer, IsTrueDesk, IsFine, AreFine, AreTrue, low, controller_fine}
@@ -78,10 +79,7 @@ are_true (p ∷ ports) a = (a.0.desk, are_true ports a.1)
 turns_push : (ts : List Turn) (t : Turn) → AreSendableTurns ts → AreSendableTurns (t ∷ []) → AreSendableTurns (ts ++ t ∷ [])
 turns_push [] t a b = b
 turns_push (Give m ∷ ts) t a b = (a.0, turns_push ts t a.1 b)
-turns_push (Hold held ∷ ts) t a b = turns_push ts t a b
-turns_push (FetchMessage ∷ ts) t a b = turns_push ts t a b
-turns_push (SetAside ∷ ts) t a b = turns_push ts t a b
-turns_push (Release ∷ ts) t a b = turns_push ts t a b
+turns_push (_ ∷ ts) t a b = turns_push ts t a b
 
 turn_fine : (h : ℕ) (t : Turn) (w : Work) → AreSendableTurns (t ∷ []) → IsFineWork w → IsFineWork (turn_at h t w)
 turn_fine h t w s a =
@@ -102,27 +100,19 @@ notified_fine h about message w spoken answer a =
 -- ## Deeds
 
 commit_fine : (c : Command) (w : Work) → IsFineWork w → IsFineWork (commit c w)
-commit_fine c w a = go (fails_within (length (commit_writes w.core.journal w.core.tables (body_of c))) w.plan) refl
-  where
-    go : (b : Bool) → fails_within (length (commit_writes w.core.journal w.core.tables (body_of c))) w.plan ≡ b → IsFineWork (commit c w)
-    go true q = rw q a
-    go false q = rw q a
+commit_fine c w a = by_test (fails_within (length (commit_writes w.core.journal w.core.tables (body_of c))) w.plan) (λ q. rw q a) (λ q. rw q a)
 
 done_fine : (h : ℕ) (d : Deed) (w : Work) → IsFine d → IsFineWork w → IsFineWork (done h d w)
 done_fine h (Commits c) w f a = commit_fine c w a
 done_fine h (Sends to m) w f a = turn_fine to (Give m) w (f, tt) a
-done_fine h SaysOk w f a = a
 done_fine h (Asks to message c) w f a =
     notified_fine to (Waits c) message (noting (entry.Ask to message ∷ []) (turn_at c.asker SetAside w)) f.0 f.1 (turn_fine c.asker SetAside w tt a)
 done_fine h (Releases asker) w f a = turn_fine asker Release w tt a
 done_fine h (Tells to message) w f a = notified_fine to Removed message w f tt a
 done_fine h IsAnswered w f a = desk_fine h (λ d. record d { notice = None }) w (λ d fine. tt) a
-done_fine h (Drops pid) w f a = a
 done_fine h (SetsErrors errors) w f a = desk_fine h (λ d. record d { errors = errors }) w (λ d fine. fine) a
 done_fine h (Orders message) w f a = turn_fine h (Give (1, message)) (record w { core = record w.core { command = Some message } }) ((low, f), tt) a
-done_fine h Hears w f a = a
-done_fine h (GoesOn i) w f a = a
-done_fine h (Ends e) w f a = a
+done_fine h _ w f a = a
 
 pub all_done_fine : (h : ℕ) (deeds : List Deed) (w : Work) → AreFine deeds → IsFineWork w → IsFineWork (all_done h deeds w)
 all_done_fine h deeds w f a = all_do IsFineWork IsFine done_fine h deeds w f a
@@ -138,11 +128,7 @@ deeds_fine core ports h m a s = go (core.node == 0) (port_at ports h) refl refl
 -- ## The pass over its ends
 
 pub got_fine : (ports : List Port) (h : ℕ) → AreFinePorts ports → AreSendable (option_map_or (λ (p : Port). p.side.got) (port_at ports h) [])
-got_fine ports h a = go (port_at ports h) refl
-  where
-    go : (o : Option Port) → port_at ports h ≡ o → AreSendable (option_map_or (λ (p : Port). p.side.got) (port_at ports h) [])
-    go None q = rw q tt
-    go (Some p) q = rw q (fine_at ports h p a q).clean
+got_fine ports h a = by_option (port_at ports h) (λ q. rw q tt) (λ p q. rw q (fine_at ports h p a q).clean)
 
 abbrev pub MaySend : ℕ → Message → Type 0
 MaySend h m = IsSendable m
@@ -190,11 +176,7 @@ older_fine p a = record { turns = a.turns; clean = a.clean; desk = go p.desk.not
     go (Some n) q = let d = a.desk in rw q (aged_about n (rw q at d))
 
 late_fine : (p : Port) → IsFinePort p → IsFinePort (reset_late p)
-late_fine p a = go (is_late p) refl
-  where
-    go : (b : Bool) → is_late p ≡ b → IsFinePort (reset_late p)
-    go true q = rw q (record { turns = a.turns; clean = input_clean p.side (Reset None) a.clean; desk = a.desk })
-    go false q = rw q a
+late_fine p a = by_test (is_late p) (λ q. rw q (record { turns = a.turns; clean = input_clean p.side (Reset None) a.clean; desk = a.desk })) (λ q. rw q a)
 
 time_fine : (input : NodeInput) (w : Work) → IsFineWork w → IsFineWork (times_out input w)
 time_fine (AtEnd h i) w a = a
@@ -206,11 +188,7 @@ came_fine input w a =
     (map_fine (λ p. has_come p (input_at input p)) (λ p fine. come_fine p (input_at input p) fine) w.ports a)
 
 pub without_fine : (p : Port) → IsFinePort p → IsFinePort (without_notice p)
-without_fine p a = go (is_over p) refl
-  where
-    go : (b : Bool) → is_over p ≡ b → IsFinePort (without_notice p)
-    go true q = rw q (record { turns = a.turns; clean = a.clean; desk = tt })
-    go false q = rw q a
+without_fine p a = by_test (is_over p) (λ q. rw q (record { turns = a.turns; clean = a.clean; desk = tt })) (λ q. rw q a)
 
 pub forgets_fine : (ports : List Port) (p : Port) → IsFinePort p → IsFinePort (forgets ports p)
 forgets_fine ports p a = go (is_forgotten ports (asked_at p)) p.desk.notice refl refl

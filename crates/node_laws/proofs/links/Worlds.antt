@@ -14,8 +14,8 @@ use Rattle.link_laws.specs.machine.Machine.Role.{Bare}
 use Rattle.link_laws.specs.messages.Links.{Link, NumberedEnd, Ending, Comes, Loss, Node, new_link, exchanged, aged, has_input, ticks_at_controller, happens}
 use Rattle.link_laws.specs.messages.Links.{AreSendableTurns, CanCome}
 use Rattle.link_laws.specs.messages.Links.Ending.{GoesOut, CutOff}
-use Rattle.link_laws.specs.messages.Links.Comes.{NextFrame, AsksReset, Starts, Stops, NoInput}
-use Rattle.link_laws.specs.messages.Links.Loss.{OnDemand, Broken, Unread, TooOld, TooMany}
+use Rattle.link_laws.specs.messages.Links.Comes.{NextFrame, AsksReset, NoInput}
+use Rattle.link_laws.specs.messages.Links.Loss.{Broken}
 use Rattle.link_laws.specs.messages.Links.EndEvent.{Step, Lose}
 use Rattle.link_laws.specs.messages.Links.LinkEvent.{AtController, AtHost}
 use Rattle.history.specs.Steps.{at}
@@ -30,6 +30,7 @@ use Rattle.node_machine.specs.world.World.{counts, frame_lost}
 use Rattle.node_machine.specs.world.World.{all_aged, is_late_at, ticked_so, controller_ticks, host_ticks, hosts_tick, world_ticks}
 use Rattle.node_machine.proofs.world.Cases.{by_controller, by_host, by_power, by_memory, by_running, boot_written, boot_found, by_boot, site_lost, by_loss}
 use Rattle.node_machine.proofs.world.Cases.{near_tick, by_controller_tick, host_tick, by_host_tick}
+use Rattle.node_laws.proofs.Cases.{by_option}
 use Rattle.node_laws.proofs.links.Got.{Clean}
 use Rattle.node_laws.proofs.links.Deeds.{IsTrueDesk}
 use Rattle.node_laws.proofs.links.Works.{AreFinePorts, IsFineWork, fine_at, steps_fine}
@@ -120,14 +121,12 @@ clean_site (x ∷ sites) h s a q = go (x.host == h) refl (clean_site sites h s a
     go false e later = later (rw e at q)
 
 pub near_clean : (sites : List Site) (h : ℕ) → AreClean sites → Clean (link_to sites h).controller.side
-near_clean sites h a = go (site_at sites h) refl
+near_clean sites h a = by_option (site_at sites h)
+    (λ q. let P : Option Site → Type 0 = λ z. Clean (by z).controller.side in subst P (sym q) tt)
+    (λ s q. let P : Option Site → Type 0 = λ z. Clean (by z).controller.side in subst P (sym q) (clean_site sites h s a q))
   where
     by : Option Site → Link
     by o = option_map_or (λ (s : Site). s.link) o (new_link Bare Bare)
-
-    go : (o : Option Site) → site_at sites h ≡ o → Clean (by (site_at sites h)).controller.side
-    go None q = let P : Option Site → Type 0 = λ z. Clean (by z).controller.side in subst P (sym q) tt
-    go (Some s) q = let P : Option Site → Type 0 = λ z. Clean (by z).controller.side in subst P (sym q) (clean_site sites h s a q)
 
 -- ## A step of a node
 
@@ -141,10 +140,7 @@ near_end_clean l NextFrame a = go l.to_controller
     go : (w : List OnWire) → Clean (by w).side
     go [] = a
     go (x ∷ xs) = a
-near_end_clean l (AsksReset window) a = a
-near_end_clean l (Starts value) a = a
-near_end_clean l Stops a = a
-near_end_clean l NoInput a = a
+near_end_clean l _ a = a
 
 pub ports_fine : (near_ends : ℕ → NumberedEnd) → ((h : ℕ) → Clean (near_ends h).side) → (desks : List Desk) → AreTrueDesks desks
     → AreFinePorts (map (λ (d : Desk). port_for (near_ends d.host) d) desks)
@@ -167,14 +163,12 @@ runs_fine k a = go k.cut
     go false = desks_of k.ports a
 
 pub turns_fine : (k : Work) (h : ℕ) → IsFineWork k → AreSendableTurns (turns_at k h)
-turns_fine k h a = go (port_at k.ports h) refl
+turns_fine k h a = by_option (port_at k.ports h)
+    (λ q. let P : Option Port → Type 0 = λ z. AreSendableTurns (by z) in subst P (sym q) tt)
+    (λ p q. let P : Option Port → Type 0 = λ z. AreSendableTurns (by z) in subst P (sym q) (fine_at k.ports h p a q).turns)
   where
     by : Option Port → List Turn
     by o = option_map_or (λ (p : Port). p.turns) o []
-
-    go : (o : Option Port) → port_at k.ports h ≡ o → AreSendableTurns (by (port_at k.ports h))
-    go None q = let P : Option Port → Type 0 = λ z. AreSendableTurns (by z) in subst P (sym q) tt
-    go (Some p) q = let P : Option Port → Type 0 = λ z. AreSendableTurns (by z) in subst P (sym q) (fine_at k.ports h p a q).turns
 
 -- what a node does in a step may be done
 abbrev pub KeepsFine : (Work → Work) → Type 0
@@ -300,10 +294,7 @@ errors_fine h (d ∷ desks) a = (go (d.host == h), errors_fine h desks a.1)
 counts_fine : (why : Loss) (h : ℕ) (o : Option Running) → IsFineNode o → IsFineNode (counts why h o)
 counts_fine (Broken fault) h None a = tt
 counts_fine (Broken fault) h (Some r) a = errors_fine h r.desks a
-counts_fine OnDemand h o a = a
-counts_fine Unread h o a = a
-counts_fine TooOld h o a = a
-counts_fine TooMany h o a = a
+counts_fine _ h o a = a
 
 pub lost_fine : (w : NodeWorld) (e : End) (why : Loss) → IsFineWorld w → IsFineWorld (frame_lost w e why).0
 lost_fine w e why fine =

@@ -46,17 +46,7 @@ pub record IsAsking (h : ℕ) (notice : List ℕ) (c : Command) (answer : List �
 
 pub answer_other : (r : Response) (value : List ℕ) → IsOther (answer_of r value)
 answer_other response.Ok value = refl
-answer_other response.NotConnected value = refl
-answer_other response.CommandParameterUnknown value = refl
-answer_other response.NotOk value = refl
-answer_other response.NoPipesAvailable value = refl
-answer_other response.RegistryParameterUnknown value = refl
-answer_other response.PipeNotOpened value = refl
-answer_other response.CommandNotSupported value = refl
-answer_other response.Inhibited value = refl
-answer_other response.Timeout value = refl
-answer_other response.RegistryAccessDenied value = refl
-answer_other response.PipeAccessDenied value = refl
+answer_other _ value = refl
 
 deleted_notice : (pid : ℕ) → IsRemoval (19 ∷ pid ∷ [])
 deleted_notice pid = record { test = refl; short = omega arith; about = inl refl }

@@ -26,10 +26,11 @@ use Rattle.link_laws.specs.entries.Entries.End.{Controller}
 use Rattle.history.specs.Steps.{entries_for}
 use Rattle.node_machine.specs.Parts.{About, Notice, Desk, Core, Port, Work, Deed}
 use Rattle.node_machine.specs.Parts.About.{Waits, Removed}
-use Rattle.node_machine.specs.Parts.Deed.{Commits, Sends, SaysOk, Asks, Releases, Tells, IsAnswered, Drops, SetsErrors, Orders, Hears, GoesOn, Ends}
+use Rattle.node_machine.specs.Parts.Deed.{Commits, Sends, SaysOk, Asks, Releases, Tells, Drops, SetsErrors}
 use Rattle.node_machine.specs.Carrying.{own_side, noting, unless_cut, port_at, changed_if, with_port, with_desk, after_turn, noted_of, turn_at, notified}
 use Rattle.node_machine.specs.Carrying.{loses_power, keeps, commit, done, all_done}
 use Rattle.node_machine.specs.world.NodeFilters.{is_notice, notice_in}
+use Rattle.node_laws.proofs.Cases.{by_test}
 use Rattle.node_laws.proofs.links.Noticing.{turn-phase, UpAt, at_all, at_host}
 use Rattle.node_laws.specs.notices.Notices.{IsAbout, IsKeptNotice}
 use Rattle.node_laws.proofs.notices.Reading.{reads, read_more, sent_reads, sent_elsewhere, notice_reads}
@@ -320,10 +321,7 @@ module _ (x : ℕ) (before : List Entry) where
   }
 
   pub commit_ports : (c : Command) (w : Work) → (commit c w).ports ≡ w.ports
-  commit_ports c w = go (fails_within (length (commit_writes w.core.journal w.core.tables (body_of c))) w.plan) refl where
-    go : (b : Bool) → fails_within (length (commit_writes w.core.journal w.core.tables (body_of c))) w.plan ≡ b → (commit c w).ports ≡ w.ports
-    go true e = rw e refl
-    go false e = rw e refl
+  commit_ports c w = by_test (fails_within (length (commit_writes w.core.journal w.core.tables (body_of c))) w.plan) (λ e. rw e refl) (λ e. rw e refl)
 
   commits : (c : Command) (w : Work) → IsCommand c → IsOn w → Stands (commit c w)
   commits c w may a = by_plan (cases_Bool (fails_within (length writes) w.plan)) where
@@ -388,7 +386,6 @@ module _ (x : ℕ) (before : List Entry) where
       (λ n f. still_takes to (λ p. record p { desk = record p.desk { notice = Some (record { about = Removed; age = 0 }) } })
       (with_port to (after_turn (Give (1, message))) w.ports) (λ q. refl) n f.0
       (still_takes to (after_turn (Give (1, message))) w.ports (λ q. refl) n f.0 (fits n f.1))) may.2)
-  all_stand k F (IsAnswered ∷ deeds) w fits may a = absurd may
   all_stand k F (Drops pid ∷ deeds) w fits may a =
       then (all_done k deeds) (done k (Drops pid) w) (inl (hushed IsKeptNotice _ w (λ r. refl) a)) (all_stand k F deeds (done k (Drops pid) w) fits may)
   all_stand k F (SetsErrors errors ∷ deeds) w fits may a =
@@ -404,7 +401,4 @@ module _ (x : ℕ) (before : List Entry) where
               go : (o : Option Port) → Takes o m → Takes (option_map (λ (p : Port). changed_if (eqb p.desk.host k) set p) o) m
               go None t = tt
               go (Some p) t = changed_is (λ q r. give_refusal r.side (1, m) ≡ None) (eqb p.desk.host k) set p t t
-  all_stand k F (Orders order ∷ deeds) w fits may a = absurd may
-  all_stand k F (Hears ∷ deeds) w fits may a = absurd may
-  all_stand k F (GoesOn i ∷ deeds) w fits may a = absurd may
-  all_stand k F (Ends e ∷ deeds) w fits may a = absurd may
+  all_stand k F (_ ∷ deeds) w fits may a = absurd may

@@ -22,7 +22,7 @@ use Rattle.hci_store.specs.Image.{applied, tables_of}
 use Rattle.link_laws.specs.messages.Links.{Link, Loss, happens}
 use Rattle.link_laws.specs.messages.Links.Ending.{CutOff}
 use Rattle.link_laws.specs.messages.Links.Comes.{NextFrame, AsksReset, NoInput}
-use Rattle.link_laws.specs.messages.Links.Loss.{OnDemand, Broken, Unread, TooOld, TooMany}
+use Rattle.link_laws.specs.messages.Links.Loss.{Broken}
 use Rattle.link_laws.specs.messages.Links.EndEvent.{Step, Lose}
 use Rattle.link_laws.specs.messages.Links.LinkEvent.{AtController, AtHost}
 use Rattle.link_laws.specs.entries.Entries.{first_lost}
@@ -185,18 +185,12 @@ counted_reads t (Broken fault) h (Some r) a = record {
   right = right_counted h r.desks a.right;
   kept = λ x. subst (IsKeptNotice (notice_in t x)) (sym (noticed_counted h r.desks x)) (a.kept x);
 }
-counted_reads t OnDemand h o a = a
-counted_reads t Unread h o a = a
-counted_reads t TooOld h o a = a
-counted_reads t TooMany h o a = a
+counted_reads t _ h o a = a
 
 counted_node : (why : Loss) (h : ℕ) (o : Option Running) → IfHostNode o → IfHostNode (counts why h o)
 counted_node (Broken fault) h None a = tt
 counted_node (Broken fault) h (Some r) a = a
-counted_node OnDemand h o a = a
-counted_node Unread h o a = a
-counted_node TooOld h o a = a
-counted_node TooMany h o a = a
+counted_node _ h o a = a
 
 lost_reads : (t : List Entry) (w : NodeWorld) (e : End) (why : Loss) → Reads t w → Reads (t ++ (frame_lost w e why).1) (frame_lost w e why).0
 lost_reads t w e why a = by_side (cases_Bool e.at_host) where

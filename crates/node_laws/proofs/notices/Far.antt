@@ -14,10 +14,10 @@ use Rattle.hci_tables.specs.Bodies.{body_of}
 use Rattle.hci_store.specs.Committing.{commit_writes}
 use Rattle.link_laws.specs.machine.Machine.{Message, LinkInput, Refused, Turn, Report, give_refusal, report, whole_acked, after_input}
 use Rattle.link_laws.specs.machine.Machine.LinkInput.{Reset}
-use Rattle.link_laws.specs.machine.Machine.Turn.{Give, Hold, FetchMessage, SetAside, Release}
+use Rattle.link_laws.specs.machine.Machine.Turn.{Give, Hold, FetchMessage, Release}
 use Rattle.link_laws.specs.entries.Entries.{Entry as Noted, told, sent_unless}
 use Rattle.link_laws.specs.entries.Entries.End.{Host}
-use Rattle.link_laws.specs.entries.Entries.Entry.{Up, Down, Active, GaveUp, Acked, Got, Sent, Emit, Took, Lost, Tick, Restarted, Cut}
+use Rattle.link_laws.specs.entries.Entries.Entry.{Down, Sent, Tick, Restarted, Cut}
 use Rattle.history.specs.Filters.{same_end, same_side}
 use Rattle.history.specs.Steps.{entries_for, end_of}
 use Rattle.node_machine.specs.Parts.{About, Desk, Core, Port, Work, Deed}
@@ -64,32 +64,12 @@ module _ (x : ℕ) where
   off_all a b c y z e = rw e refl
 
   one_far : (e : Entry) → IsFar e → (r : Option (List ℕ)) → reads x (e ∷ []) r ≡ r
-  one_far (entry.Head header) a r = refl
-  one_far (entry.Echo line) a r = refl
-  one_far (entry.Up e n) a r = refl
   one_far (entry.Down e cause) a r = off_one (same_end e (end_c x)) None r (not_near e x a)
-  one_far (entry.Active e) a r = refl
-  one_far (entry.GaveUp e tries) a r = refl
   one_far (entry.Sent e n pid message) a r = off_all (same_end e (end_c x)) (eqb pid 1) (is_notice message) (Some message) r (not_near e x a)
-  one_far (entry.Got e n pid message) a r = refl
-  one_far (entry.Acked e n count) a r = refl
-  one_far (entry.Emit e lpdu) a r = refl
-  one_far (entry.Took e lpdu) a r = refl
-  one_far (entry.Lost e lpdu cause) a r = refl
   one_far (entry.Turn e pid message) a r = off_all (same_end e (end_c x)) (eqb pid 1) (is_response message) None r (not_near e x a)
-  one_far (entry.Held e need spare) a r = refl
   one_far (entry.Ask h message) a r = absurd a
-  one_far (entry.Dropped e pid) a r = refl
-  one_far (entry.Command n c) a r = refl
-  one_far (entry.AnyOk n k) a r = refl
-  one_far (entry.InitSame e) a r = refl
-  one_far (entry.InitMade e count) a r = refl
-  one_far (entry.InitFailed e code) a r = refl
   one_far (entry.Cut n) a r = off_one (eqb n 0) None r a
-  one_far (entry.Booted n k) a r = refl
-  one_far (entry.Tables n tables) a r = refl
-  one_far (entry.Settled rounds) a r = refl
-  one_far (entry.No cause) a r = refl
+  one_far _ a r = refl
 
   pub far_reads : (es : List Entry) → AreFar es → (r : Option (List ℕ)) → reads x es r ≡ r
   far_reads [] a r = refl
@@ -104,32 +84,11 @@ module _ (x : ℕ) where
   asking_more t es = fold-append (asking_after x) None t es
 
   one_asks : (e : Entry) → IsFar e → (r : Option (List ℕ)) → asks (e ∷ []) r ≡ r
-  one_asks (entry.Head header) a r = refl
-  one_asks (entry.Echo line) a r = refl
-  one_asks (entry.Up e n) a r = refl
   one_asks (entry.Down e cause) a r = off_one (same_end e (end_c x)) None r (not_near e x a)
-  one_asks (entry.Active e) a r = refl
-  one_asks (entry.GaveUp e tries) a r = refl
   one_asks (entry.Sent e n pid message) a r = off_all (same_end e (end_c x)) (eqb pid 1) (is_response message) None r (not_near e x a)
-  one_asks (entry.Got e n pid message) a r = refl
-  one_asks (entry.Acked e n count) a r = refl
-  one_asks (entry.Emit e lpdu) a r = refl
-  one_asks (entry.Took e lpdu) a r = refl
-  one_asks (entry.Lost e lpdu cause) a r = refl
-  one_asks (entry.Turn e pid message) a r = refl
-  one_asks (entry.Held e need spare) a r = refl
   one_asks (entry.Ask h message) a r = absurd a
-  one_asks (entry.Dropped e pid) a r = refl
-  one_asks (entry.Command n c) a r = refl
-  one_asks (entry.AnyOk n k) a r = refl
-  one_asks (entry.InitSame e) a r = refl
-  one_asks (entry.InitMade e count) a r = refl
-  one_asks (entry.InitFailed e code) a r = refl
   one_asks (entry.Cut n) a r = off_one (eqb n 0) None r a
-  one_asks (entry.Booted n k) a r = refl
-  one_asks (entry.Tables n tables) a r = refl
-  one_asks (entry.Settled rounds) a r = refl
-  one_asks (entry.No cause) a r = refl
+  one_asks _ a r = refl
 
   pub far_asks : (es : List Entry) → AreFar es → (r : Option (List ℕ)) → asks es r ≡ r
   far_asks [] a r = refl
@@ -139,19 +98,12 @@ module _ (x : ℕ) where
 
 pub quiet_far : (h : ℕ) (notes : List Noted) → AllByRecursion IsQuiet notes → AreFar (entries_for h notes)
 quiet_far h [] all = tt
-quiet_far h (Up who n ∷ notes) all = (tt, quiet_far h notes all.1)
 quiet_far h (Down who cause ∷ notes) all = absurd all.0
-quiet_far h (Active who ∷ notes) all = (tt, quiet_far h notes all.1)
-quiet_far h (GaveUp who tries ∷ notes) all = (tt, quiet_far h notes all.1)
-quiet_far h (Acked who n count ∷ notes) all = (tt, quiet_far h notes all.1)
-quiet_far h (Got who n m ∷ notes) all = (tt, quiet_far h notes all.1)
 quiet_far h (Sent who n m ∷ notes) all = absurd all.0
-quiet_far h (Emit who frame ∷ notes) all = (tt, quiet_far h notes all.1)
-quiet_far h (Took who frame ∷ notes) all = (tt, quiet_far h notes all.1)
-quiet_far h (Lost who frame why ∷ notes) all = (tt, quiet_far h notes all.1)
 quiet_far h (Tick ∷ notes) all = quiet_far h notes all.1
 quiet_far h (Restarted who ∷ notes) all = quiet_far h notes all.1
 quiet_far h (Cut who ∷ notes) all = quiet_far h notes all.1
+quiet_far h (_ ∷ notes) all = (tt, quiet_far h notes all.1)
 
 told_far : (h n acked : ℕ) (r : Report) → AreFar (entries_for h (told Host n r acked))
 told_far h n acked r = go r.ended where
@@ -179,10 +131,7 @@ turn_far : (core : Core) (t : Turn) (p : Port) → own_side core ≡ Host → Ar
 turn_far core (Give m) p side =
     subst (λ s. AreFar (entries_for p.desk.host (sent_unless (give_refusal p.side m) s p.session m))) (sym side)
     (sent_far p.desk.host p.session m (give_refusal p.side m))
-turn_far core (Hold held) p side = tt
-turn_far core FetchMessage p side = tt
-turn_far core SetAside p side = tt
-turn_far core Release p side = tt
+turn_far core _ p side = tt
 
 -- ## Works
 

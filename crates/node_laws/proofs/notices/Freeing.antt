@@ -20,6 +20,7 @@ use Rattle.gate_admin.proofs.CreationLemmas.{AllFalse, all_false}
 use Rattle.link_laws.specs.machine.Machine.{Message}
 use Rattle.node_machine.specs.Parts.{Core, Port}
 use Rattle.node_machine.specs.Controller.{view_for, controller_deeds, view_of}
+use Rattle.node_laws.proofs.Cases.{by_test}
 use Rattle.node_laws.proofs.steps.Masks.{is_in_mask}
 use Rattle.node_machine.proofs.Walks.{Plain, OfDecision, all_of_controller}
 use Rattle.tables_laws.proofs.gate.Decisions.{decided_holds}
@@ -39,10 +40,7 @@ Frees v (Ask dest notice c answer) = IsFree v dest
 
 -- a host in a mask is 01 at least
 has_some : (m y : ℕ) → has m y ≡ true → 1 ≤ y
-has_some m y q = go (nat_le 1 y) refl where
-  go : (b : Bool) → nat_le 1 y ≡ b → 1 ≤ y
-  go true p = leb-true 1 y p
-  go false p = absurd (true≢false (sym (rw p at q)))
+has_some m y q = by_test (nat_le 1 y) (λ p. leb-true 1 y p) (λ p. absurd (true≢false (sym (rw p at q))))
 
 module _ (v : LinkView) where
   free_of : (m y : ℕ) → has m y ≡ true → is_noticed v y ≡ false → IsFree v y

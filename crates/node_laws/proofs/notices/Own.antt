@@ -1,6 +1,5 @@
 -- What a host does: it neither asks nor tells anybody by a notice, and what it notes is of its own end.
-use Rattle.std.proofs.Common.{◌≡◌, ℕ, true, false, eqb, List, refl}
-use Rattle.std.specs.Prelude.{Option, Some, None}
+use Rattle.std.proofs.Common.{◌≡◌, ℕ, true, false, eqb, List}
 use Rattle.std.specs.List.{AllByRecursion, flat_map}
 use Rattle.trace_model.specs.declared.entry.Entry.{Entry}
 use Rattle.trace_model.specs.declared.entry.Entry.TheVariants as entry
@@ -12,6 +11,7 @@ use Rattle.node_machine.specs.Turns.{deeds_of}
 use Rattle.node_machine.specs.Carrying.{port_at, own_view, end_view}
 use Rattle.node_machine.specs.Node.{NodeInput, forgotten, all_owed, synced}
 use Rattle.node_machine.proofs.Walks.{Plain, OfHost, all_of_host, forgotten_hold, all_owed_hold, all_synced_hold}
+use Rattle.node_laws.proofs.Cases.{by_option}
 
 -- a host may note it: it tells of no end of a controller, of no creation that is asked for, and neither of the power nor of the
 -- commands of a controller
@@ -46,10 +46,7 @@ host_own : (core : Core) (p : Port) (m : Message) → AreOwn (host_deeds (own_vi
 host_own core p m = all_of_host IsOwn core plain (own core) p m (λ n value command zero sets. tt)
 
 pub deeds_own : (core : Core) (ports : List Port) (h : ℕ) (m : Message) → eqb core.node 0 ≡ false → AreOwn (deeds_of core ports h m)
-deeds_own core ports h m off = go (port_at ports h) refl where
-  go : (o : Option Port) → port_at ports h ≡ o → AreOwn (deeds_of core ports h m)
-  go None here = rw (off, here) tt
-  go (Some p) here = rw (off, here) (host_own core p m)
+deeds_own core ports h m off = by_option (port_at ports h) (λ here. rw (off, here) tt) (λ p here. rw (off, here) (host_own core p m))
 
 pub forgotten_own : (ports : List Port) → AreOwn (forgotten ports)
 forgotten_own ports = forgotten_hold IsOwn (λ asker. tt) ports

@@ -9,7 +9,7 @@ use Rattle.swp_base.specs.declared.link_terms.Cause.{Cause}
 use Rattle.link_laws.specs.machine.Machine.{Message, LinkInput, Refused, ended_by, report, whole_acked, after_input}
 use Rattle.link_laws.specs.entries.Entries.{End as Side, Entry as Noted, sent_unless}
 use Rattle.link_laws.specs.entries.Entries.End.{Controller}
-use Rattle.link_laws.specs.entries.Entries.Entry.{Up, Down, Active, GaveUp, Acked, Got, Sent, Emit, Took, Lost, Tick, Restarted, Cut}
+use Rattle.link_laws.specs.entries.Entries.Entry.{Down, Sent}
 use Rattle.history.specs.Filters.{same_end}
 use Rattle.history.specs.Steps.{entries_for, end_of}
 use Rattle.node_machine.specs.Parts.{Core, Port}
@@ -44,19 +44,9 @@ module _ (x : ℕ) where
 
   pub quiet_reads : (k : ℕ) (notes : List Noted) (c : Option (List ℕ)) → AllByRecursion IsQuiet notes → reads (entries_for k notes) c ≡ c
   quiet_reads k [] c all = refl
-  quiet_reads k (Up who n ∷ notes) c all = quiet_reads k notes c all.1
   quiet_reads k (Down who cause ∷ notes) c all = absurd all.0
-  quiet_reads k (Active who ∷ notes) c all = quiet_reads k notes c all.1
-  quiet_reads k (GaveUp who tries ∷ notes) c all = quiet_reads k notes c all.1
-  quiet_reads k (Acked who n count ∷ notes) c all = quiet_reads k notes c all.1
-  quiet_reads k (Got who n m ∷ notes) c all = quiet_reads k notes c all.1
   quiet_reads k (Sent who n m ∷ notes) c all = absurd all.0
-  quiet_reads k (Emit who frame ∷ notes) c all = quiet_reads k notes c all.1
-  quiet_reads k (Took who frame ∷ notes) c all = quiet_reads k notes c all.1
-  quiet_reads k (Lost who frame why ∷ notes) c all = quiet_reads k notes c all.1
-  quiet_reads k (Tick ∷ notes) c all = quiet_reads k notes c all.1
-  quiet_reads k (Restarted who ∷ notes) c all = quiet_reads k notes c all.1
-  quiet_reads k (Cut who ∷ notes) c all = quiet_reads k notes c all.1
+  quiet_reads k (_ ∷ notes) c all = quiet_reads k notes c all.1
 
   -- with the session of its link a notice is read no more
   pub told_reads : (core : Core) (p : Port) (i : LinkInput) (c : Option (List ℕ)) → own_side core ≡ Controller

@@ -1,6 +1,6 @@
 -- An end that isn't active is Down.
 use Rattle.std.proofs.Common.{◌≡◌, ◌⊎◌, inl, inr, Bool, true, false, cond, List, [], ◌∷◌, Option, Some, None, refl, ap, sym, subst, ◌∙◌}
-use Rattle.std.specs.Prelude.{◌+◌, ◌==◌}
+use Rattle.std.specs.Prelude.{◌==◌}
 use Rattle.std.proofs.lemmas.Bool.{true≢false}
 use Rattle.swp_base.specs.declared.control_frames.Control.{Control}
 use Rattle.swp_base.specs.declared.control_frames.Control.TheVariants.{I, S, Rset, Ua, Act as ActFrame, Clt}
@@ -8,10 +8,10 @@ use Rattle.swp_base.specs.declared.control_frames.Act.{Act}
 use Rattle.swp_act.specs.declared.ActEvent.{ActEvent}
 use Rattle.swp_act.specs.declared.ActEvent.TheVariants.{Start as ActStart, Take as ActTake, Tick as ActTick, Stop as ActStop}
 use Rattle.shdlc_core.specs.declared.answers.LinkState.{LinkState}
-use Rattle.shdlc_core.specs.declared.answers.LinkState.TheVariants.{Down, Waiting, Up}
+use Rattle.shdlc_core.specs.declared.answers.LinkState.TheVariants.{Down, Up}
 use Rattle.shdlc_core.specs.Machine.{ticked, tick_answer, stopped}
 use Rattle.link_laws.proofs.sessions.Ties.{fetched-phase}
-use Rattle.link_laws.specs.machine.Machine.{LinkEnd, LinkInput, ActDue, Role, Turn, Refused, is_open, act_answer, role_after, with_act, moved, put_down}
+use Rattle.link_laws.specs.machine.Machine.{LinkEnd, LinkInput, Role, Turn, Refused, is_open, act_answer, role_after, with_act, moved, put_down}
 use Rattle.link_laws.specs.machine.Machine.{activated}
 use Rattle.link_laws.specs.machine.Machine.{heard, had_tick, took, reset_refusal, renewed, new_link_end, sent_all, frame_fetched, after_input, turn, turned}
 use Rattle.link_laws.specs.machine.Machine.LinkInput.{Take, TakeUnknown, TakeBroken, Tick, Reset, Start, Stop, FromNode, Fetch}
@@ -20,6 +20,7 @@ use Rattle.link_laws.specs.messages.Links.{Link, Ending, EndEvent, happens_at_co
 use Rattle.link_laws.proofs.messages.Project.{moved_role, turned_role}
 use Rattle.link_laws.proofs.messages.Steps.{activated_role, role_closes}
 use Rattle.link_laws.proofs.messages.Finishing.{tick_role}
+use Rattle.node_laws.proofs.Cases.{by_list, by_test}
 use Rattle.node_laws.proofs.links.Ends.{here_is, tick_is}
 use Rattle.node_laws.proofs.links.Noticing.{turn-phase}
 use Rattle.node_laws.proofs.readings.Sites.{sent_phase}
@@ -43,8 +44,7 @@ down_phase : (e : LinkEnd) → (put_down true e).shdlc.phase ≡ Down
 down_phase e = go e.shdlc.phase refl where
   go : (p : LinkState) → e.shdlc.phase ≡ p → (put_down true e).shdlc.phase ≡ Down
   go Up q = rw q refl
-  go Waiting q = rw q refl
-  go Down q = rw q refl
+  go _ q = rw q refl
 
 down_either : (b : Bool) (e : LinkEnd) → (b ≡ false → e.shdlc.phase ≡ Down) → (put_down b e).shdlc.phase ≡ Down
 down_either true e a = down_phase e
@@ -81,37 +81,28 @@ took_shut e (Rset w caps) a = heard_shut e (Rset w caps) (is_open e.role) refl a
 took_shut e Ua a = heard_shut e Ua (is_open e.role) refl a
 
 tick_shut : (e : LinkEnd) → IsShut e → IsShut (had_tick e)
-tick_shut e a = go (is_open e.role) refl where
-  go : (b : Bool) → is_open e.role ≡ b → IsShut (had_tick e)
-  go true o =
-      let ended : Bool = Rattle.std.specs.Prelude.is_some (tick_answer e.shdlc).ended in
-      let is : had_tick e ≡ moved e ended (ticked e.shdlc) = rw o refl in
-      subst IsShut (sym is) (open_shut e (moved e ended (ticked e.shdlc)) (moved_role e ended (ticked e.shdlc)) o)
-  go false o =
-      let is : had_tick e ≡ activated e ActTick = rw o refl in
-      subst IsShut (sym is) (activated_shut e ActTick (λ q n. a (tick_role e.role q)))
+tick_shut e a = by_test (is_open e.role)
+    (λ o. let ended : Bool = Rattle.std.specs.Prelude.is_some (tick_answer e.shdlc).ended in
+    let is : had_tick e ≡ moved e ended (ticked e.shdlc) = rw o refl in
+    subst IsShut (sym is) (open_shut e (moved e ended (ticked e.shdlc)) (moved_role e ended (ticked e.shdlc)) o))
+    (λ o. let is : had_tick e ≡ activated e ActTick = rw o refl in
+    subst IsShut (sym is) (activated_shut e ActTick (λ q n. a (tick_role e.role q))))
 
 reset_shut : (e : LinkEnd) (window : Option Rattle.std.specs.Prelude.ℕ) → IsShut e → IsShut (after_input e (Reset window))
-reset_shut e window a = go (is_open e.role) refl where
-  role : (o : Option Refused) → reset_refusal e ≡ o → (after_input e (Reset window)).role ≡ e.role
-  role None q = rw q (moved_role e _ _)
-  role (Some why) q = rw q refl
-
-  go : (b : Bool) → is_open e.role ≡ b → IsShut (after_input e (Reset window))
-  go true o = open_shut e (after_input e (Reset window)) (role (reset_refusal e) refl) o
-  go false o = let is : after_input e (Reset window) ≡ e = rw o refl in subst IsShut (sym is) a
+reset_shut e window a = by_test (is_open e.role)
+    (λ o. open_shut e (after_input e (Reset window)) (role (reset_refusal e) refl) o)
+    (λ o. let is : after_input e (Reset window) ≡ e = rw o refl in subst IsShut (sym is) a) where
+      role : (o : Option Refused) → reset_refusal e ≡ o → (after_input e (Reset window)).role ≡ e.role
+      role None q = rw q (moved_role e _ _)
+      role (Some why) q = rw q refl
 
 turn_shut : (e : LinkEnd) (t : Turn) → IsShut e → IsShut (turn e t)
 turn_shut e t a = same_shut e (turn e t) (turned_role e (t ∷ [])) (turn-phase e t) a
 
 fetch_shut : (e : LinkEnd) → IsShut e → IsShut (frame_fetched e)
-fetch_shut e a = go e.acts refl where
-  go : (acts : List ActDue) → e.acts ≡ acts → IsShut (frame_fetched e)
-  go [] q = rw q (λ o. fetched-phase e.shdlc ∙ a o)
-  go (d ∷ acts) q = by (d.behind == 0) refl where
-    by : (b : Bool) → (d.behind == 0) ≡ b → IsShut (frame_fetched e)
-    by true z = rw (q, z) a
-    by false z = rw (q, z) (λ o. fetched-phase e.shdlc ∙ a o)
+fetch_shut e a = by_list e.acts
+    (λ q. rw q (λ o. fetched-phase e.shdlc ∙ a o))
+    (λ d acts q. by_test (d.behind == 0) (λ z. rw (q, z) a) (λ z. rw (q, z) (λ o. fetched-phase e.shdlc ∙ a o)))
 
 pub input_shut : (e : LinkEnd) (i : LinkInput) → IsShut e → IsShut (after_input e i)
 input_shut e (Take c) a = took_shut e c a

@@ -7,11 +7,11 @@ use Rattle.std.proofs.lemmas.Bool.{cases_Bool, cond_both, true≢false}
 use Rattle.trace_model.specs.declared.entry.Entry.{Entry}
 use Rattle.trace_model.specs.declared.line.End.{End}
 use Rattle.link_laws.specs.sessions.Sessions.{OnWire}
-use Rattle.link_laws.specs.machine.Machine.{Message, LinkEnd, LinkInput, new_link_end}
+use Rattle.link_laws.specs.machine.Machine.{Message, LinkInput}
 use Rattle.link_laws.specs.machine.Machine.Role.{Bare}
 use Rattle.link_laws.specs.messages.Links.{Link, NumberedEnd, Comes, Ending, EndEvent, exchanged, happens, ticks_at_controller}
 use Rattle.link_laws.specs.messages.Links.Ending.{GoesOut}
-use Rattle.link_laws.specs.messages.Links.Comes.{NextFrame, AsksReset, Starts, Stops, NoInput}
+use Rattle.link_laws.specs.messages.Links.Comes.{NextFrame, NoInput}
 use Rattle.link_laws.specs.messages.Links.EndEvent.{Step}
 use Rattle.link_laws.specs.messages.Links.LinkEvent.{AtHost}
 use Rattle.link_laws.specs.entries.Entries.{End as Side, ending_entries}
@@ -28,6 +28,7 @@ use Rattle.node_machine.specs.world.World.{NodeWorld, Site, site_at, with_site, 
 use Rattle.node_machine.specs.world.World.{wires_for}
 use Rattle.node_machine.specs.world.World.{work_of, frames_noted, host_work, after_host, host_does, host_ticks, hosts_tick, comes_at, sending, beginning}
 use Rattle.node_machine.specs.world.NodeFilters.{notice_in, asking_in}
+use Rattle.node_laws.proofs.Cases.{by_option}
 use Rattle.node_laws.proofs.links.Ends.{here_host}
 use Rattle.link_laws.proofs.entries.Together.{ticks_host as tick_host}
 use Rattle.node_laws.proofs.readings.Sites.{ending_quiet}
@@ -116,10 +117,7 @@ arrival_quiet who h l NextFrame = go l.to_controller where
   go : (xs : List OnWire) → AreFar (entries_for h (first xs))
   go [] = tt
   go (x ∷ xs) = (tt, tt)
-arrival_quiet who h l (AsksReset window) = tt
-arrival_quiet who h l (Starts value) = tt
-arrival_quiet who h l Stops = tt
-arrival_quiet who h l NoInput = tt
+arrival_quiet who h l _ = tt
 
 -- ## A host acts
 
@@ -141,63 +139,59 @@ module _ (t : List Entry) (w : NodeWorld) (a : Reads t w) where
 
   pub host_reads : (h : ℕ) (comes : Comes) (f : Work → Work) → ((k : Work) → IsFarWork k → IsFarWork (f k))
       → Reads (t ++ (host_does w h comes f).1) (host_does w h comes f).0
-  host_reads h comes f keeps = by_site (site_at w.sites h) refl where
-    Fine : NodeWorld × List Entry → Type 0
-    Fine p = Reads (t ++ p.1) p.0
+  host_reads h comes f keeps = by_option (site_at w.sites h)
+      (λ e. subst Fine (sym (none_is e)) nothing)
+      (λ s e. by_node s e (good_at w.sites h s a.sites e) s.node refl) where
+        Fine : NodeWorld × List Entry → Type 0
+        Fine p = Reads (t ++ p.1) p.0
 
-    none_is : site_at w.sites h ≡ None → host_does w h comes f ≡ (w, [])
-    none_is e = rw e refl
+        none_is : site_at w.sites h ≡ None → host_does w h comes f ≡ (w, [])
+        none_is e = rw e refl
 
-    off_is : (s : Site) → site_at w.sites h ≡ Some s → s.node ≡ None → host_does w h comes f ≡ (w, [])
-    off_is s here e = rw here (rw e refl)
+        off_is : (s : Site) → site_at w.sites h ≡ Some s → s.node ≡ None → host_does w h comes f ≡ (w, [])
+        off_is s here e = rw here (rw e refl)
 
-    on_is : (s : Site) (r : Running) → site_at w.sites h ≡ Some s → s.node ≡ Some r → host_does w h comes f
-        ≡ (
-          record w { sites = with_site h (after_host comes (host_work s r comes f)) w.sites },
-          (host_work s r comes f).entries ++ frames_noted Host h (wires_for (exchanged s.link) comes) (host_work s r comes f),
-        )
-    on_is s r here e = rw here (rw e refl)
+        on_is : (s : Site) (r : Running) → site_at w.sites h ≡ Some s → s.node ≡ Some r → host_does w h comes f
+            ≡ (
+              record w { sites = with_site h (after_host comes (host_work s r comes f)) w.sites },
+              (host_work s r comes f).entries ++ frames_noted Host h (wires_for (exchanged s.link) comes) (host_work s r comes f),
+            )
+        on_is s r here e = rw here (rw e refl)
 
-    by_node : (s : Site) → site_at w.sites h ≡ Some s → IsGoodSite s → (o : Option Running) → s.node ≡ o → Fine (host_does w h comes f)
-    by_node s here good None e = subst Fine (sym (off_is s here e)) nothing
-    by_node s here good (Some r) e = subst Fine (sym (on_is s r here e)) (record {
-      sites = good_with h (after_host comes k)
-          (λ z b. record { host = b.host; node = runs_far k far; shut = far_shut z.link (Step comes (turns_at k z.host) (ending_of k)) b.shut })
-          w.sites a.sites;
-      reads_so = still_reads t (k.entries ++ frames) w.controller
-          (far_hushed (k.entries ++ frames) (far-append k.entries frames far.far (frames_quiet Host h (wires_for (exchanged s.link) comes) k))) a.reads_so;
-    }) where
-      k : Work
-      k = host_work s r comes f
+        by_node : (s : Site) → site_at w.sites h ≡ Some s → IsGoodSite s → (o : Option Running) → s.node ≡ o → Fine (host_does w h comes f)
+        by_node s here good None e = subst Fine (sym (off_is s here e)) nothing
+        by_node s here good (Some r) e = subst Fine (sym (on_is s r here e)) (record {
+          sites = good_with h (after_host comes k)
+              (λ z b. record { host = b.host; node = runs_far k far; shut = far_shut z.link (Step comes (turns_at k z.host) (ending_of k)) b.shut })
+              w.sites a.sites;
+          reads_so = still_reads t (k.entries ++ frames) w.controller
+              (far_hushed (k.entries ++ frames) (far-append k.entries frames far.far (frames_quiet Host h (wires_for (exchanged s.link) comes) k))) a.reads_so;
+        }) where
+          k : Work
+          k = host_work s r comes f
 
-      frames : List Entry
-      frames = frames_noted Host h (wires_for (exchanged s.link) comes) k
+          frames : List Entry
+          frames = frames_noted Host h (wires_for (exchanged s.link) comes) k
 
-      far : IsFarWork k
-      far =
-          keeps (work_of r s.memory.plan (λ n. near_end_in (exchanged s.link) comes) (entries_for s.host (arrival Host (exchanged s.link) comes)))
-          (record { number = subst IfHostNode e good.node; far = arrival_quiet Host s.host (exchanged s.link) comes })
-
-    by_site : (o : Option Site) → site_at w.sites h ≡ o → Fine (host_does w h comes f)
-    by_site None e = subst Fine (sym (none_is e)) nothing
-    by_site (Some s) e = by_node s e (good_at w.sites h s a.sites e) s.node refl
+          far : IsFarWork k
+          far =
+              keeps (work_of r s.memory.plan (λ n. near_end_in (exchanged s.link) comes) (entries_for s.host (arrival Host (exchanged s.link) comes)))
+              (record { number = subst IfHostNode e good.node; far = arrival_quiet Host s.host (exchanged s.link) comes })
 
   -- something comes to the end of a host
   pub far_reads_so : (e : End) (comes : Comes) → e.at_host ≡ true → Reads (t ++ (comes_at w e comes).1) (comes_at w e comes).0
-  far_reads_so e comes far = go (input_of (seen_from e (link_to w.sites e.link)) comes) refl where
-    Fine : NodeWorld × List Entry → Type 0
-    Fine p = Reads (t ++ p.1) p.0
+  far_reads_so e comes far = by_option (input_of (seen_from e (link_to w.sites e.link)) comes)
+      (λ q. subst Fine (sym (none_is q)) nothing)
+      (λ i q. subst Fine (sym (far_is i q)) (host_reads e.link comes (steps (AtEnd e.link i)) (λ k b. steps_far (AtEnd e.link i) k b))) where
+        Fine : NodeWorld × List Entry → Type 0
+        Fine p = Reads (t ++ p.1) p.0
 
-    none_is : input_of (seen_from e (link_to w.sites e.link)) comes ≡ None → comes_at w e comes ≡ (w, [])
-    none_is q = rw q refl
+        none_is : input_of (seen_from e (link_to w.sites e.link)) comes ≡ None → comes_at w e comes ≡ (w, [])
+        none_is q = rw q refl
 
-    far_is : (i : LinkInput) → input_of (seen_from e (link_to w.sites e.link)) comes ≡ Some i
-        → comes_at w e comes ≡ host_does w e.link comes (steps (AtEnd e.link i))
-    far_is i q = rw q (rw far refl)
-
-    go : (o : Option LinkInput) → input_of (seen_from e (link_to w.sites e.link)) comes ≡ o → Fine (comes_at w e comes)
-    go None q = subst Fine (sym (none_is q)) nothing
-    go (Some i) q = subst Fine (sym (far_is i q)) (host_reads e.link comes (steps (AtEnd e.link i)) (λ k b. steps_far (AtEnd e.link i) k b))
+        far_is : (i : LinkInput) → input_of (seen_from e (link_to w.sites e.link)) comes ≡ Some i
+            → comes_at w e comes ≡ host_does w e.link comes (steps (AtEnd e.link i))
+        far_is i q = rw q (rw far refl)
 
   -- a host begins by deeds of its own
   pub begins_reads : (h : ℕ) (deeds : List Deed) → AreOwn deeds

@@ -18,13 +18,14 @@ use Rattle.link_laws.specs.machine.Machine.LinkInput.{Reset}
 use Rattle.link_laws.specs.entries.Entries.End.{Controller}
 use Rattle.node_machine.specs.Parts.{Creation, About, Notice, Core, Port, Deed}
 use Rattle.node_machine.specs.Parts.About.{Waits, Forgotten, Removed}
-use Rattle.node_machine.specs.Parts.Deed.{Commits, Sends, SaysOk, Asks, Releases, Tells, IsAnswered, Drops, SetsErrors, Orders, Hears, GoesOn, Ends}
+use Rattle.node_machine.specs.Parts.Deed.{Commits, Sends, Releases}
 use Rattle.node_machine.specs.Carrying.{own_side, port_at, finds_room}
 use Rattle.node_machine.specs.Controller.{asked_at, creation_in}
 use Rattle.node_machine.specs.Node.{NodeInput, input_at, has_come, told_at, older_notice, with_older, is_late, reset_late, told_late, is_over, is_forgotten}
 use Rattle.node_machine.specs.Node.{forgets, owed, without_notice, synced}
 use Rattle.node_machine.specs.world.NodeFilters.{is_notice}
 use Rattle.node_laws.specs.links.Notices.{IsComing}
+use Rattle.node_laws.proofs.Cases.{by_option, by_test}
 use Rattle.node_laws.proofs.links.Staying.{stays_up}
 use Rattle.node_laws.proofs.links.Noticing.{UpAt}
 use Rattle.node_laws.specs.kept.Hosts.{AreDifferent}
@@ -67,36 +68,24 @@ no_notices_may x F [] a = tt
 no_notices_may x F (Commits c ∷ deeds) a = (a.0, no_notices_may x F deeds a.1)
 no_notices_may x F (Sends to m ∷ deeds) a = (a.0, no_notices_may x (λ n. (eqb to x ≡ false) × F n) deeds a.1)
 no_notices_may x F (Releases asker ∷ deeds) a = no_notices_may x (λ n. ⊥) deeds a.1
-no_notices_may x F (SaysOk ∷ deeds) a = absurd a.0
-no_notices_may x F (Asks to message c ∷ deeds) a = absurd a.0
-no_notices_may x F (Tells to message ∷ deeds) a = absurd a.0
-no_notices_may x F (IsAnswered ∷ deeds) a = absurd a.0
-no_notices_may x F (Drops pid ∷ deeds) a = absurd a.0
-no_notices_may x F (SetsErrors errors ∷ deeds) a = absurd a.0
-no_notices_may x F (Orders order ∷ deeds) a = absurd a.0
-no_notices_may x F (Hears ∷ deeds) a = absurd a.0
-no_notices_may x F (GoesOn i ∷ deeds) a = absurd a.0
-no_notices_may x F (Ends e ∷ deeds) a = absurd a.0
+no_notices_may x F (_ ∷ deeds) a = absurd a.0
 
 pub owed_no_notices : (r : Response) (o : Option Creation) → TellNoNotices (owed r o)
 owed_no_notices r None = tt
 owed_no_notices r (Some c) = (tt, (answer_other r [], tt))
 
 pub synced_no_notices : (core : Core) (input : NodeInput) (p : Port) → IsHost p.desk.host → TellNoNotices (synced core input p)
-synced_no_notices core input p host = go (input_at input p) refl where
-  may : (id : ℕ) → IsCommand (Sync p.desk.host id)
-  may id = and_from (nat_le 1 p.desk.host) (nat_le p.desk.host 7) (le-leb 1 p.desk.host host.0) (le-leb p.desk.host 7 host.1)
+synced_no_notices core input p host = by_option (input_at input p)
+    (λ q. rw q tt)
+    (λ i q. by_option (report p.side i).sync
+    (λ e. rw (q, e) tt)
+    (λ id e. rw (q, e) (either (not (is_kept_sync core.tables.syncs p.desk.host id) && finds_room core (Sync p.desk.host id)) id))) where
+      may : (id : ℕ) → IsCommand (Sync p.desk.host id)
+      may id = and_from (nat_le 1 p.desk.host) (nat_le p.desk.host 7) (le-leb 1 p.desk.host host.0) (le-leb p.desk.host 7 host.1)
 
-  either : (b : Bool) (id : ℕ) → TellNoNotices (cond b (Commits (Sync p.desk.host id) ∷ []) [])
-  either true id = (may id, tt)
-  either false id = tt
-
-  go : (o : Option LinkInput) → input_at input p ≡ o → TellNoNotices (synced core input p)
-  go None q = rw q tt
-  go (Some i) q = by (report p.side i).sync refl where
-    by : (o : Option ℕ) → (report p.side i).sync ≡ o → TellNoNotices (synced core input p)
-    by None e = rw (q, e) tt
-    by (Some id) e = rw (q, e) (either (not (is_kept_sync core.tables.syncs p.desk.host id) && finds_room core (Sync p.desk.host id)) id)
+      either : (b : Bool) (id : ℕ) → TellNoNotices (cond b (Commits (Sync p.desk.host id) ∷ []) [])
+      either true id = (may id, tt)
+      either false id = tt
 
 -- ## What is read of many ends
 
@@ -204,10 +193,7 @@ older_is r q a = record { kept = λ n. kept q.desk.notice (a.kept n); gone = a.g
 
 -- an end that is up loses its session by a reset
 pub reset_ends : (e : LinkEnd) → IsShut e → e.shdlc.phase ≡ Up → is_some (ended_by e (Reset None)) ≡ true
-reset_ends e shut up = go (is_open e.role) refl where
-  go : (b : Bool) → is_open e.role ≡ b → is_some (ended_by e (Reset None)) ≡ true
-  go true o = rw (o, up) refl
-  go false o = let z : Up ≡ Down = sym up ∙ shut o in absurd (cc z)
+reset_ends e shut up = by_test (is_open e.role) (λ o. rw (o, up) refl) (λ o. let z : Up ≡ Down = sym up ∙ shut o in absurd (cc z))
 
 pub late_is : (core : Core) (r : Option (List ℕ)) (q : Port) → q.late ≡ false → IsCome r q
     → IsCome (cond (is_late q) (cond (is_some (ended_by q.side (Reset None))) None r) r) (reset_late q)
@@ -290,7 +276,6 @@ pub record IsReady (r : Option (List ℕ)) (q : Port) : Type 0 where
   pub up : UpAt (Some q)
 
 pub without_is : (r : Option (List ℕ)) (q : Port) → IsCome r q → IsReady r (without_notice q)
-without_is r q a = go (is_over q) refl where
-  go : (b : Bool) → is_over q ≡ b → IsReady r (without_notice q)
-  go true e = rw e (record { kept = subst (λ z. IsKeptNotice z None) (sym (a.gone e)) tt; up = λ n. absurd (true≢false (sym n)) })
-  go false e = rw e (record { kept = a.kept e; up = λ n. ap is_up (a.up e n) })
+without_is r q a = by_test (is_over q)
+    (λ e. rw e (record { kept = subst (λ z. IsKeptNotice z None) (sym (a.gone e)) tt; up = λ n. absurd (true≢false (sym n)) }))
+    (λ e. rw e (record { kept = a.kept e; up = λ n. ap is_up (a.up e n) }))

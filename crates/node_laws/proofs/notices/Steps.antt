@@ -21,6 +21,7 @@ use Rattle.node_machine.specs.Node.{NodeInput, input_at, has_come, told_at, all_
 use Rattle.node_machine.specs.Node.{is_over, is_forgotten, forgets, owed, all_owed, without_notice, after_sessions, synced, answers_and_passes, steps}
 use Rattle.node_machine.specs.Node.NodeInput.{AtEnd, TimePasses}
 use Rattle.node_laws.specs.links.Notices.{IsComing, IsOutside}
+use Rattle.node_laws.proofs.Cases.{by_test}
 use Rattle.node_laws.proofs.links.Noticing.{UpAt, at_all, at_host, outside as from_outside}
 use Rattle.node_laws.specs.kept.Hosts.{AreDifferent}
 use Rattle.node_laws.specs.readings.Orders.{IsFresh}
@@ -57,33 +58,20 @@ older_right p a = go p.desk.notice a where
   go (Some n) b = b
 
 reset_right : (p : Port) → IsRightNotice p.desk.notice → IsRightNotice (reset_late p).desk.notice
-reset_right p a = go (is_late p) refl where
-  go : (b : Bool) → is_late p ≡ b → IsRightNotice (reset_late p).desk.notice
-  go true e = rw e a
-  go false e = rw e a
+reset_right p a = by_test (is_late p) (λ e. rw e a) (λ e. rw e a)
 
 forgets_right : (ports : List Port) (p : Port) → IsRightNotice p.desk.notice → IsRightNotice (forgets ports p).desk.notice
-forgets_right ports p a = go (is_forgotten ports (asked_at p)) refl where
+forgets_right ports p a = by_test (is_forgotten ports (asked_at p)) (λ e. rw e (by p.desk.notice)) (λ e. rw e a) where
   by : (o : Option Notice) → IsRightNotice (option_map_or (λ (n : Notice). Some (record n { about = Forgotten })) o None)
   by None = tt
   by (Some n) = tt
 
-  go : (b : Bool) → is_forgotten ports (asked_at p) ≡ b → IsRightNotice (forgets ports p).desk.notice
-  go true e = rw e (by p.desk.notice)
-  go false e = rw e a
-
 without_right : (p : Port) → IsRightNotice p.desk.notice → IsRightNotice (without_notice p).desk.notice
-without_right p a = go (is_over p) refl where
-  go : (b : Bool) → is_over p ≡ b → IsRightNotice (without_notice p).desk.notice
-  go true e = rw e tt
-  go false e = rw e a
+without_right p a = by_test (is_over p) (λ e. rw e tt) (λ e. rw e a)
 
 -- with sessions a controller doesn't forget its tables
 pub sessions_tables : (core : Core) (ports : List Port) → (after_sessions core ports).tables ≡ core.tables
-sessions_tables core ports = go (list_any is_over ports) refl where
-  go : (b : Bool) → list_any is_over ports ≡ b → (after_sessions core ports).tables ≡ core.tables
-  go true q = rw q refl
-  go false q = rw q refl
+sessions_tables core ports = by_test (list_any is_over ports) (λ q. rw q refl) (λ q. rw q refl)
 
 module _ (x : ℕ) (before : List Entry) (w : Work) (a : IsOn x before w) where
   -- the work behind what came

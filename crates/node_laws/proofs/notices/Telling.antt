@@ -29,6 +29,7 @@ use Rattle.node_machine.specs.Carrying.{port_at, finds_room, own_view}
 use Rattle.node_machine.specs.Controller.{has_link, creation_in, asked_at, view_for, answers_on, commit_deeds, decision_deeds, link_deeds, gates, own_gate}
 use Rattle.node_machine.specs.Controller.{agreed, controller_deeds, view_of}
 use Rattle.node_machine.specs.world.NodeFilters.{is_response, is_notice}
+use Rattle.node_laws.proofs.Cases.{by_test}
 use Rattle.node_laws.proofs.links.Noticing.{UpAt}
 use Rattle.node_laws.proofs.steps.Ports.{at_port}
 use Rattle.node_machine.proofs.Walks.{AnswersNone, controller_holds}
@@ -232,10 +233,7 @@ module _ (x : ℕ) where
       own_gate_one pipe e = subst (λ n. own_gate core.tables h n ≡ None) (sym (eqb-true pipe 1 e)) refl
 
       gate_off : (pipe gate : ℕ) → own_gate core.tables h pipe ≡ Some gate → eqb pipe 1 ≡ false
-      gate_off pipe gate is = go (eqb pipe 1) refl where
-        go : (b : Bool) → eqb pipe 1 ≡ b → eqb pipe 1 ≡ false
-        go true e = let z : None ≡ Some gate = sym (own_gate_one pipe e) ∙ is in absurd (cc z)
-        go false e = e
+      gate_off pipe gate is = by_test (eqb pipe 1) (λ e. let z : None ≡ Some gate = sym (own_gate_one pipe e) ∙ is in absurd (cc z)) (λ e. e)
 
       right_there : (p : Port) (c : Creation) → port_at ports h ≡ Some p → asked_at p ≡ Some c → IsRight c
       right_there p c here waits = go p.desk.notice (at_port (λ (p : Port). IsRightNotice p.desk.notice) ports h p right here) waits where
@@ -267,13 +265,11 @@ module _ (x : ℕ) where
         go (Some p) u off = by p p.desk.notice refl u refl off
 
       dropped : (m : Message) → AnswersNone core ports h m → (eqb h x && answers m) ≡ true → noticed ports x ≡ None
-      dropped m none e = go (has_link ports h) refl where
-        both : (eqb h x ≡ true) × (answers m ≡ true)
-        both = and_parts (eqb h x) (answers m) e
-
-        go : (b : Bool) → has_link ports h ≡ b → noticed ports x ≡ None
-        go true up = subst (λ n. noticed ports n ≡ None) (eqb-true h x both.0) (none both.1 up)
-        go false down = none_down down both.0
+      dropped m none e = by_test (has_link ports h)
+          (λ up. subst (λ n. noticed ports n ≡ None) (eqb-true h x both.0) (none both.1 up))
+          (λ down. none_down down both.0) where
+            both : (eqb h x ≡ true) × (answers m ≡ true)
+            both = and_parts (eqb h x) (answers m) e
 
       pub controller_outcome : (m : Message) → Outcome ports m (controller_deeds (view_of core ports) h m)
       controller_outcome m =

@@ -13,7 +13,7 @@ use Rattle.history.specs.Filters.{same_end}
 use Rattle.link_laws.specs.machine.Machine.{Message, give_refusal, spare, need, is_held}
 use Rattle.link_laws.specs.machine.Machine.Turn.{FetchMessage, Hold}
 use Rattle.node_machine.specs.Parts.{Notice, Port, Work, Deed}
-use Rattle.node_machine.specs.Parts.Deed.{Commits, Sends, SaysOk, Asks, Releases, Tells, IsAnswered, Drops, SetsErrors, Orders, Hears, GoesOn, Ends}
+use Rattle.node_machine.specs.Parts.Deed.{Commits, Sends, SaysOk, Asks, Releases, Tells, IsAnswered, Drops, SetsErrors}
 use Rattle.node_machine.specs.Carrying.{noting, unless_cut, port_at, changed_if, with_port, with_desk, after_turn, turn_at, end_of_node, done, all_done, needs}
 use Rattle.node_machine.specs.Carrying.{lack}
 use Rattle.node_machine.specs.Controller.{has_link, controller_deeds, view_of}
@@ -78,13 +78,9 @@ module _ (x : ℕ) where
         may.1,
         ready k (λ n. (eqb to x ≡ false) × F n) (λ n. (eqb to x ≡ false) × G n) ports (λ n f has. (f.0, gives n f.1 has)) deeds may.2 reach.1 parts.1,
       )
-  ready k F G ports gives (IsAnswered ∷ deeds) may reach none = absurd may
   ready k F G ports gives (Drops pid ∷ deeds) may reach none = ready k F G ports gives deeds may reach.1 none
   ready k F G ports gives (SetsErrors errors ∷ deeds) may reach none = ready k F G ports gives deeds may reach.1 none
-  ready k F G ports gives (Orders order ∷ deeds) may reach none = absurd may
-  ready k F G ports gives (Hears ∷ deeds) may reach none = absurd may
-  ready k F G ports gives (GoesOn i ∷ deeds) may reach none = absurd may
-  ready k F G ports gives (Ends e ∷ deeds) may reach none = absurd may
+  ready k F G ports gives (_ ∷ deeds) may reach none = absurd may
 
 changed_takes : (b : Bool) (g : Port → Port) (p : Port) (m : List ℕ) → ((q : Port) → give_refusal (g q).side (1, m) ≡ give_refusal q.side (1, m))
     → give_refusal (changed_if b g p).side (1, m) ≡ give_refusal p.side (1, m)

@@ -1,7 +1,7 @@
 -- An activation of a link, first at the controller's end and then at the host's, leaves each link told.
 use Rattle.std.proofs.Common.{◌≡◌, ℕ, ◌==◌, Bool, true, false, cond, List, [], ◌++◌, Option, Some, None, refl, ap, sym, subst, ◌∙◌}
 use Rattle.std.proofs.Common.{append_assoc}
-use Rattle.std.specs.Prelude.{is_some, ◌+◌}
+use Rattle.std.specs.Prelude.{is_some}
 use Rattle.std.proofs.lemmas.Bool.{eqb-true, true≢false}
 use Rattle.swp_act.specs.Activation.{new_uicc}
 use Rattle.trace_model.specs.declared.entry.Entry.{Entry}
@@ -28,6 +28,7 @@ use Rattle.node_machine.specs.world.World.{host_does}
 use Rattle.node_machine.specs.world.World.{comes_at}
 use Rattle.node_machine.specs.world.World.{end_c, end_h, activates}
 use Rattle.link_laws.proofs.entries.Lasting.{same_number}
+use Rattle.node_laws.proofs.Cases.{by_option}
 use Rattle.node_laws.proofs.links.Ends.{here_host}
 use Rattle.node_laws.proofs.links.Works.{steps_fine}
 use Rattle.node_laws.proofs.links.Worlds.{IsFineSite}
@@ -114,7 +115,9 @@ module _ (w : NodeWorld) (h sync : ℕ) (hosts : (s : Site) → site_at w.sites 
       }
 
   host_unready : AreAllUnready (host_does w h (Starts sync) begins).0
-  host_unready = go (site_at w.sites h) refl
+  host_unready = by_option (site_at w.sites h)
+      (λ e. subst (λ (z : NodeWorld × List Entry). AreAllUnready z.0) (sym (none_is e)) (λ v found. let is : None ≡ Some v = sym e ∙ found in absurd (cc is)))
+      (λ s e. runs s e s.node refl)
     where
       none_is : site_at w.sites h ≡ None → host_does w h (Starts sync) begins ≡ (w, [])
       none_is e = rw e refl
@@ -156,11 +159,6 @@ module _ (w : NodeWorld) (h sync : ℕ) (hosts : (s : Site) → site_at w.sites 
           let one : s ≡ v = cc in
           let S : Site → Type 0 = λ y. AreUnready y.link in subst S one (off_unready s there n))
       runs s there (Some r) n = subst AreAllUnready (sym (on_is s r there n)) (on_so s r there)
-
-      go : (o : Option Site) → site_at w.sites h ≡ o → AreAllUnready (host_does w h (Starts sync) begins).0
-      go None e =
-          subst (λ (z : NodeWorld × List Entry). AreAllUnready z.0) (sym (none_is e)) (λ v found. let is : None ≡ Some v = sym e ∙ found in absurd (cc is))
-      go (Some s) e = runs s e s.node refl
 
 pub activates_each : (w : NodeWorld) (t : List Entry) (X : ℕ → WatchedLink) (h sync power : ℕ) → is_some w.controller ≡ true → IsWell w → Each t X w
     → Each (t ++ (activates w h sync power).1) (behind (Activates h sync power) X (activates w h sync power).1) (activates w h sync power).0

@@ -4,7 +4,7 @@ use Rattle.std.specs.Prelude.{drop, ◌&&◌, not, find, nat_lt, nat_le, slice_i
 use Rattle.std.specs.List.{AllByRecursion, list_any}
 use Rattle.std.proofs.lemmas.Bool.{true≢false, leb-true}
 use Rattle.swp_base.specs.declared.control_frames.Control.{Control}
-use Rattle.swp_base.specs.declared.control_frames.Control.TheVariants.{I, S, Rset, Ua, Act, Clt}
+use Rattle.swp_base.specs.declared.control_frames.Control.TheVariants.{I, S, Act}
 use Rattle.swp_lpdu.specs.declared.LpduFault.TheVariants.{Short, TooLong}
 use Rattle.swp_lpdu.specs.Controls.{LpduRow, table, is_within, read_by, kind_number, lpdu_of}
 use Rattle.link_laws.specs.places.Wire.{OnWire, is_act, sans}
@@ -83,10 +83,8 @@ high_free n high bytes first =
 pub act_read : (c : Control) → is_act c ≡ false → is_act_lpdu (lpdu_of c) ≡ false
 act_read (I ns nr info) other = high_free (0x80 + 8 * ns + nr) (omega arith) (lpdu_of (I ns nr info)) refl
 act_read (S kind nr) other = high_free (0xC0 + 8 * kind_number kind + nr) (omega arith) (lpdu_of (S kind nr)) refl
-act_read (Rset window caps) other = refl
-act_read Ua other = refl
 act_read (Act act again) other = absurd (true≢false other)
-act_read Clt other = refl
+act_read _ other = refl
 
 pub kept_act_lpdu : (c : Control) → not (is_act_lpdu (lpdu_of c)) ≡ false → not (is_act c) ≡ false
 kept_act_lpdu c q = go (is_act c) refl where

@@ -256,8 +256,7 @@ act_so (Clf s) f x w v Ready false q h = go s.phase refl
     go : (p : Phase) → s.phase ≡ p
         → if_became (act_answer (Clf s) (ActTake Ready false)).became_active (is_open (Clf s)) ≡ is_open (role_after (Clf s) (ActTake Ready false))
     go Inactive p = rw p refl
-    go (Awaiting tries ticks) p = rw p refl
-    go IsActive p = rw p refl
+    go _ p = rw p refl
 act_so (Uicc s) f x w v act true q h = refl
 act_so (Uicc s) f x w v Ready false q h = refl
 act_so (Uicc s) f x w v (SyncId id) false q h = refl

@@ -25,21 +25,15 @@ abbrev pub MayBeAsked : NodeWorld → Happening → Type 0
 MayBeAsked w c = MayHappen w c × IsAskedIn w c
 
 asked_may : (w : NodeWorld) (l : Line) → refusal_in w l ≡ None → AllMay IsAskedIn w (happenings w l)
-asked_may w (line.Send e pid message) none = (tt, tt)
 asked_may w (line.Deliver e count) none = repeated_may IsAskedIn (Takes e) (λ v. tt) (taken_of count (frames_at w e)) w
-asked_may w (line.Lose e) none = (tt, tt)
 asked_may w (line.Damage e places) none = damaged_may IsAskedIn w e tt (λ why. tt) (first_verdict (frames_at w e) places.items)
 asked_may w (line.Tick times) none = repeated_may IsAskedIn Ticks (λ v. tt) (unwrap_or times 1) w
 asked_may w (line.Reset e window) none = (none, tt)
 asked_may w (line.Busy e) none = tt
 asked_may w (line.Ready e) none = tt
-asked_may w (line.Boot n) none = (tt, tt)
-asked_may w (line.Cut n) none = (tt, tt)
-asked_may w (line.Activate host sync power) none = (tt, tt)
-asked_may w (line.Arm n nth fill) none = (tt, tt)
-asked_may w (line.Init e identity pipes) none = (tt, tt)
 asked_may w (line.Tables n) none = tt
 asked_may w (line.Settle n) none = tt
+asked_may w _ none = (tt, tt)
 
 both_may : (causes : List Happening) (w : NodeWorld) → AllMay MayHappen w causes → AllMay IsAskedIn w causes → AllMay MayBeAsked w causes
 both_may [] w a b = tt

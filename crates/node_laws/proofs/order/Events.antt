@@ -16,7 +16,7 @@ use Rattle.link_laws.specs.messages.Links.{NumberedEnd, Link, Comes, Loss, EndEv
 use Rattle.link_laws.specs.messages.Links.{IsClf, IsEvent}
 use Rattle.link_laws.specs.messages.Links.Ending.{CutOff}
 use Rattle.link_laws.specs.messages.Links.Comes.{NoInput}
-use Rattle.link_laws.specs.messages.Links.Loss.{OnDemand, Broken, Unread, TooOld, TooMany}
+use Rattle.link_laws.specs.messages.Links.Loss.{Broken}
 use Rattle.link_laws.specs.messages.Links.EndEvent.{Step, Lose}
 use Rattle.link_laws.specs.messages.Links.LinkEvent.{AtController, AtHost}
 use Rattle.link_laws.specs.entries.Entries.{first_lost}
@@ -33,6 +33,7 @@ use Rattle.node_machine.specs.world.World.{host_does}
 use Rattle.node_machine.specs.world.World.{controller_cut, host_cut, loses_power_at, memory_at, with_memory, with_node, links_of, boots, counts}
 use Rattle.node_machine.specs.world.World.{frame_lost, comes_at}
 use Rattle.link_laws.proofs.entries.Lasting.{same_number}
+use Rattle.node_laws.proofs.Cases.{by_option}
 use Rattle.node_laws.proofs.links.Ends.{here_host}
 use Rattle.node_laws.proofs.links.Works.{IsFineWork, all_done_fine, steps_fine}
 use Rattle.node_laws.proofs.links.Deeds.{AreFine}
@@ -177,7 +178,10 @@ module _ (w : NodeWorld) (t : List Entry) (X : ℕ → WatchedLink) (a : IsWell 
   pub controller_each : ((h : ℕ) → opened (comes_to k comes h) (X h) ≡ X h)
       → Each (t ++ (controller_does w k comes (steps (AtEnd k i))).1) (later X (controller_does w k comes (steps (AtEnd k i))).1)
       (controller_does w k comes (steps (AtEnd k i))).0
-  controller_each plain = go w.controller refl
+  controller_each plain = by_option w.controller
+      (λ e. subst P (sym (off_is e)) (each_empty t X w each))
+      (λ r e. subst P (sym (on_is r e)) (each_alike (t ++ u r e) (Y r e) (later X (u r e)) (after_controller w k comes (v r e)).0
+      (λ h. ap (λ x. watched h x (u r e)) (plain h)) (after r e)))
     where
       off_is : w.controller ≡ None → controller_does w k comes (steps (AtEnd k i)) ≡ (w, [])
       off_is e = rw e refl
@@ -188,12 +192,6 @@ module _ (w : NodeWorld) (t : List Entry) (X : ℕ → WatchedLink) (a : IsWell 
 
       P : NodeWorld × List Entry → Type 0
       P z = Each (t ++ z.1) (later X z.1) z.0
-
-      go : (o : Option Running) → w.controller ≡ o → P (controller_does w k comes (steps (AtEnd k i)))
-      go None e = subst P (sym (off_is e)) (each_empty t X w each)
-      go (Some r) e =
-          subst P (sym (on_is r e)) (each_alike (t ++ u r e) (Y r e) (later X (u r e)) (after_controller w k comes (v r e)).0
-          (λ h. ap (λ x. watched h x (u r e)) (plain h)) (after r e))
 
 -- ## Steps of a host
 
@@ -302,7 +300,7 @@ module _ (w : NodeWorld) (t : List Entry) (X : ℕ → WatchedLink) (a : IsWell 
             subst G (sym some) tt
 
   pub host_each : Each (t ++ (host_does w k comes f).1) (later X (host_does w k comes f).1) (host_does w k comes f).0
-  host_each = go (site_at w.sites k) refl
+  host_each = by_option (site_at w.sites k) (λ e. subst P (sym (none_is e)) (each_empty t X w each)) (λ s e. runs s e s.node refl)
     where
       P : NodeWorld × List Entry → Type 0
       P z = Each (t ++ z.1) (later X z.1) z.0
@@ -331,10 +329,6 @@ module _ (w : NodeWorld) (t : List Entry) (X : ℕ → WatchedLink) (a : IsWell 
           → Knows (t ++ u) (later X u k) w.controller k (after_host comes (host_work s r comes f) z) in
           subst R one (own s there r n) b)
           (λ h z. record { none = (does s r there n).others h z; stands = (does s r there n).leaves h z }) each)
-
-      go : (x : Option Site) → site_at w.sites k ≡ x → P (host_does w k comes f)
-      go None e = subst P (sym (none_is e)) (each_empty t X w each)
-      go (Some s) e = runs s e s.node refl
 
 -- ## What comes to an end
 
@@ -527,18 +521,12 @@ errors_none h (d ∷ desks) a = (go (d.host == h), errors_none h desks a.1)
 counts_none : (why : Loss) (h : ℕ) (o : Option Running) → IfNone o → IfNone (counts why h o)
 counts_none (Broken fault) h None a = a
 counts_none (Broken fault) h (Some r) a = errors_none h r.desks a
-counts_none OnDemand h o a = a
-counts_none Unread h o a = a
-counts_none TooOld h o a = a
-counts_none TooMany h o a = a
+counts_none _ h o a = a
 
 counts_off : (why : Loss) (h : ℕ) (o : Option Running) (new e : LinkEnd) → IfOff o new e → IfOff (counts why h o) new e
 counts_off (Broken fault) h None new e a = a
 counts_off (Broken fault) h (Some r) new e a = tt
-counts_off OnDemand h o new e a = a
-counts_off Unread h o new e a = a
-counts_off TooOld h o new e a = a
-counts_off TooMany h o new e a = a
+counts_off _ h o new e a = a
 
 pub lost_each : (w : NodeWorld) (t : List Entry) (X : ℕ → WatchedLink) (e : End) (why : Loss) → Each t X w
     → Each (t ++ (frame_lost w e why).1) (later X (frame_lost w e why).1) (frame_lost w e why).0

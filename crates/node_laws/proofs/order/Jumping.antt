@@ -4,12 +4,13 @@ use Rattle.std.specs.Prelude.{nat_lt, if◌then◌else◌}
 use Rattle.std.specs.List.{list_any}
 use Rattle.std.proofs.lemmas.Bool.{true≢false, ltb-true, ltb-false}
 use Rattle.swp_base.specs.declared.control_frames.Control.{Control}
-use Rattle.link_laws.specs.sessions.Sessions.{OnWire, is_rset, older, took_with}
+use Rattle.link_laws.specs.sessions.Sessions.{OnWire, is_rset, older}
 use Rattle.link_laws.specs.entries.Entries.{End, Entry}
 use Rattle.link_laws.specs.entries.Entries.End.{Controller, Host}
-use Rattle.link_laws.specs.entries.Entries.Entry.{Up, Down, Active, GaveUp, Acked, Got, Sent, Emit, Took, Lost, Tick, Restarted, Cut}
+use Rattle.link_laws.specs.entries.Entries.Entry.{Emit, Took, Lost, Tick, Restarted, Cut}
 use Rattle.link_laws.specs.entries.Reading.{Seen, numbered, taken_first, see, see_all}
 use Rattle.link_laws.proofs.entries.Sparing.{silences}
+use Rattle.node_laws.proofs.Cases.{by_test}
 
 -- the frames on their way to an end, and the greatest number that it has put on the link and taken
 abbrev pub mail : End → Seen → List OnWire
@@ -68,11 +69,9 @@ module _ (n : ℕ) where
 
   not_taken : (w : List OnWire) (m : ℕ) → AreOver w → (m ≡ n → ⊥) → taken_first m w ≡ n → ⊥
   not_taken [] m a d q = d q
-  not_taken (x ∷ w) m a d q = go (is_rset x.frame) refl
-    where
-      go : (b : Bool) → is_rset x.frame ≡ b → ⊥
-      go false p = d (let z = q in rw p at z)
-      go true p = let over : n < x.number = a.0 p in let z : max m x.number ≡ n = rw p at q in absurd (omega (arith, over, z))
+  not_taken (x ∷ w) m a d q = by_test (is_rset x.frame)
+      (λ p. let over : n < x.number = a.0 p in let z : max m x.number ≡ n = rw p at q in absurd (omega (arith, over, z)))
+      (λ p. d (let z = q in rw p at z))
 
   pub see_jumps : (who : End) (s : Seen) (e : Entry) → Jumps who s → Jumps who (see s e)
   see_jumps Controller s (Emit Controller c) j =
@@ -110,13 +109,7 @@ module _ (n : ℕ) where
   see_jumps Host s (Restarted w) j = record { over = tt; resets = j.resets; gave = j.gave; took = j.took }
   see_jumps Controller s (Cut w) j = record { over = tt; resets = j.resets; gave = j.gave; took = j.took }
   see_jumps Host s (Cut w) j = record { over = tt; resets = j.resets; gave = j.gave; took = j.took }
-  see_jumps who s (Up w k) j = j
-  see_jumps who s (Down w cause) j = j
-  see_jumps who s (Active w) j = j
-  see_jumps who s (GaveUp w tries) j = j
-  see_jumps who s (Acked w k count) j = j
-  see_jumps who s (Got w k m) j = j
-  see_jumps who s (Sent w k m) j = j
+  see_jumps who s _ j = j
 
   pub all_jump : (who : End) (t : List Entry) (s : Seen) → Jumps who s → Jumps who (see_all s t)
   all_jump who [] s j = j
@@ -155,13 +148,7 @@ see_within Controller s (Restarted x) w = w
 see_within Host s (Restarted x) w = w
 see_within Controller s (Cut x) w = w
 see_within Host s (Cut x) w = w
-see_within who s (Up x k) w = w
-see_within who s (Down x cause) w = w
-see_within who s (Active x) w = w
-see_within who s (GaveUp x tries) w = w
-see_within who s (Acked x k count) w = w
-see_within who s (Got x k m) w = w
-see_within who s (Sent x k m) w = w
+see_within who s _ w = w
 
 more_resets : (b : Bool) (k : ℕ) → k ≤ (if b then k + 1 else k)
 more_resets true k = omega arith
@@ -174,16 +161,7 @@ see_resets s (Took Controller c) = omega arith
 see_resets s (Took Host c) = omega arith
 see_resets s (Lost Controller c why) = omega arith
 see_resets s (Lost Host c why) = omega arith
-see_resets s Tick = omega arith
-see_resets s (Restarted x) = omega arith
-see_resets s (Cut x) = omega arith
-see_resets s (Up x k) = omega arith
-see_resets s (Down x cause) = omega arith
-see_resets s (Active x) = omega arith
-see_resets s (GaveUp x tries) = omega arith
-see_resets s (Acked x k count) = omega arith
-see_resets s (Got x k m) = omega arith
-see_resets s (Sent x k m) = omega arith
+see_resets s _ = omega arith
 
 more_given : (b : Bool) (k m t : ℕ) → m ≤ k → max m t ≤ max (if b then k + 1 else m) t
 more_given true k m t r = omega (arith, r)
@@ -191,11 +169,7 @@ more_given false k m t r = omega arith
 
 more_taken : (w : List OnWire) (g m : ℕ) → max g m ≤ max g (taken_first m w)
 more_taken [] g m = omega arith
-more_taken (x ∷ w) g m = go (is_rset x.frame) refl
-  where
-    go : (b : Bool) → is_rset x.frame ≡ b → max g m ≤ max g (took_with m x)
-    go true q = rw q (omega arith)
-    go false q = rw q (omega arith)
+more_taken (x ∷ w) g m = by_test (is_rset x.frame) (λ q. rw q (omega arith)) (λ q. rw q (omega arith))
 
 same : (m : ℕ) → m ≤ m
 same m = omega arith
@@ -219,13 +193,7 @@ see_number Controller s (Restarted x) w = same (max s.by_controller s.at_control
 see_number Host s (Restarted x) w = same (max s.by_host s.at_host)
 see_number Controller s (Cut x) w = same (max s.by_controller s.at_controller)
 see_number Host s (Cut x) w = same (max s.by_host s.at_host)
-see_number who s (Up x k) w = same (number_seen who s)
-see_number who s (Down x cause) w = same (number_seen who s)
-see_number who s (Active x) w = same (number_seen who s)
-see_number who s (GaveUp x tries) w = same (number_seen who s)
-see_number who s (Acked x k count) w = same (number_seen who s)
-see_number who s (Got x k m) w = same (number_seen who s)
-see_number who s (Sent x k m) w = same (number_seen who s)
+see_number who s _ w = same (number_seen who s)
 
 pub all_resets : (t : List Entry) (s : Seen) → s.resets ≤ (see_all s t).resets
 all_resets [] s = same s.resets
@@ -253,17 +221,7 @@ silenced n who (e ∷ t) s w r q =
         by Host (Restarted x) p = refl
         by Controller (Cut x) p = refl
         by Host (Cut x) p = refl
-        by who (Emit x c) p = absurd (true≢false (sym p))
-        by who (Took x c) p = absurd (true≢false (sym p))
-        by who (Lost x c why) p = absurd (true≢false (sym p))
-        by who Tick p = absurd (true≢false (sym p))
-        by who (Up x k) p = absurd (true≢false (sym p))
-        by who (Down x cause) p = absurd (true≢false (sym p))
-        by who (Active x) p = absurd (true≢false (sym p))
-        by who (GaveUp x tries) p = absurd (true≢false (sym p))
-        by who (Acked x k count) p = absurd (true≢false (sym p))
-        by who (Got x k m) p = absurd (true≢false (sym p))
-        by who (Sent x k m) p = absurd (true≢false (sym p))
+        by who _ p = absurd (true≢false (sym p))
 
     over : (w : List OnWire) → w ≡ [] → AreOver n w
     over w p = rw p tt

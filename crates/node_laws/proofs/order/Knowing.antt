@@ -13,7 +13,6 @@ use Rattle.link_laws.specs.messages.Links.{after_link_events, IsClf, IsUicc}
 use Rattle.link_laws.specs.messages.Links.Ending.{CutOff}
 use Rattle.link_laws.specs.messages.Links.Comes.{NextFrame, AsksReset, Starts, Stops, NoInput}
 use Rattle.link_laws.specs.messages.Links.EndEvent.{Step}
-use Rattle.link_laws.specs.sessions.Sessions.{OnWire}
 use Rattle.link_laws.specs.entries.Entries.{event_entries, entries}
 use Rattle.link_laws.specs.entries.Reading.{kept}
 use Rattle.history.specs.Steps.{entries_for}
@@ -21,6 +20,7 @@ use Rattle.node_machine.specs.Parts.{Running}
 use Rattle.node_machine.specs.Carrying.{changed_if}
 use Rattle.node_machine.specs.world.World.{Site, NodeWorld, site_at, input_of}
 use Rattle.node_laws.specs.links.Runs.{new_line}
+use Rattle.node_laws.proofs.Cases.{by_list, by_option}
 use Rattle.node_laws.proofs.links.Ends.{here_clf, here_uicc}
 use Rattle.node_laws.proofs.links.Sites.{run_of_more}
 use Rattle.node_laws.specs.telling.Telling.{of_link, IfOff}
@@ -105,13 +105,10 @@ record IsCutNew (e : LinkEnd) : Type 0 where
 cut_new : (l : Link) (comes : Comes) (ts : List Turn) (o : Option LinkInput) → input_of l comes ≡ o → IsStep comes o
     → IsCutNew (happens_at_controller l (Step comes ts CutOff)).controller.side
 cut_new l NextFrame ts None q c = absurd c
-cut_new l NextFrame ts (Some i) q c = go l.to_controller refl
-  where
-    go : (w : List OnWire) → l.to_controller ≡ w → IsCutNew (happens_at_controller l (Step NextFrame ts CutOff)).controller.side
-    go [] e = let z : None ≡ Some i = rw e at q in absurd (cc z)
-    go (x ∷ xs) e =
-        let is : steps_at_controller l NextFrame ts CutOff ≡ has_taken l x xs ts CutOff = rw e refl in
-        record { role = (turned (after_input l.controller.side (Take x.frame)) ts).role; is = ap (λ (k : Link). k.controller.side) is }
+cut_new l NextFrame ts (Some i) q c = by_list l.to_controller
+    (λ e. let z : None ≡ Some i = rw e at q in absurd (cc z))
+    (λ x xs e. let is : steps_at_controller l NextFrame ts CutOff ≡ has_taken l x xs ts CutOff = rw e refl in
+    record { role = (turned (after_input l.controller.side (Take x.frame)) ts).role; is = ap (λ (k : Link). k.controller.side) is })
 cut_new l (AsksReset window) ts o q c = record { role = (turned (after_input l.controller.side (Reset window)) ts).role; is = refl }
 cut_new l (Starts value) ts o q c = record { role = (turned (after_input l.controller.side (Start value)) ts).role; is = refl }
 cut_new l Stops ts o q c = record { role = (turned (after_input l.controller.side Stop) ts).role; is = refl }
@@ -189,13 +186,10 @@ pub record WasThere (f : Site → Site) (sites : List Site) (h : ℕ) (v : Site)
 
 pub was_there : (f : Site → Site) → ((s : Site) → (f s).host ≡ s.host) → (sites : List Site) (h : ℕ) (v : Site) → site_at (map f sites) h ≡ Some v
     → WasThere f sites h v
-was_there f keeps sites h v q = go (site_at sites h) refl
-  where
-    go : (o : Option Site) → site_at sites h ≡ o → WasThere f sites h v
-    go None e = let is : None ≡ Some v = sym (site_none f keeps sites h e) ∙ q in absurd (cc is)
-    go (Some s) e =
-        let is : Some (f s) ≡ Some v = sym (site_map f keeps sites h s e) ∙ q in
-        record { site = s; there = e; is = cc }
+was_there f keeps sites h v q = by_option (site_at sites h)
+    (λ e. let is : None ≡ Some v = sym (site_none f keeps sites h e) ∙ q in absurd (cc is))
+    (λ s e. let is : Some (f s) ≡ Some v = sym (site_map f keeps sites h s e) ∙ q in
+    record { site = s; there = e; is = cc })
 
 module _ (w : NodeWorld) (memory : Memory) (o : Option Running) (t u : List Entry) (X : ℕ → WatchedLink) where
   -- each site becomes another one

@@ -142,20 +142,16 @@ pub line_may : (w : NodeWorld) (l : Line) → IsPlayable l → refusal_in w l �
 line_may w (line.Send e pid message) p q = (p, tt)
 line_may w (line.Deliver e count) p q =
     lasting_may (happenings w (line.Deliver e count)) w (repeated (taken_of count (frames_at w e)) (Takes e) (λ v. tt))
-line_may w (line.Lose e) p q = (tt, tt)
 line_may w (line.Damage e places) p q =
     lasting_may (happenings w (line.Damage e places)) w (damaged e (first_verdict (frames_at w e) places.items))
 line_may w (line.Tick times) p q = lasting_may (happenings w (line.Tick times)) w (repeated (unwrap_or times 1) Ticks (λ v. tt))
 line_may w (line.Reset e window) p q = (p, tt)
 line_may w (line.Busy e) p q = tt
 line_may w (line.Ready e) p q = tt
-line_may w (line.Boot node) p q = (tt, tt)
-line_may w (line.Cut node) p q = (tt, tt)
 line_may w (line.Activate host sync power) p q = (runs_then (is_some w.controller) (if_off w host) q, tt)
-line_may w (line.Arm node nth fill) p q = (tt, tt)
-line_may w (line.Init e identity pipes) p q = (tt, tt)
 line_may w (line.Tables n) p q = tt
 line_may w (line.Settle n) p q = tt
+line_may w _ p q = (tt, tt)
 
 -- ## Schedules
 

@@ -5,7 +5,7 @@ use Rattle.std.specs.List.{AllByRecursion}
 use Rattle.swp_base.specs.declared.control_frames.Control.{Control}
 use Rattle.link_laws.specs.sessions.Sessions.{OnWire}
 use Rattle.link_laws.specs.machine.Machine.{LinkEnd, Refused, Turn, Report, Message, turn, give_refusal}
-use Rattle.link_laws.specs.machine.Machine.Turn.{Give, Hold, FetchMessage, SetAside, Release}
+use Rattle.link_laws.specs.machine.Machine.Turn.{Give}
 use Rattle.link_laws.specs.messages.Links.{Link, Loss, put}
 use Rattle.link_laws.specs.messages.Links.Loss.{TooOld, TooMany}
 use Rattle.link_laws.specs.entries.Entries.{End, Entry as Noted, far, if_so, turn_entry, turn_entries, sent_unless, first_lost, wire_with, pushed_out}
@@ -56,10 +56,7 @@ module _ (D : Noted → Type 0) (who : End) (holds : Holds D who) where
     where
       one : (t : Turn) → Are (turn_entry who n e t)
       one (Give m) = are_sent (give_refusal e m) n m
-      one (Hold held) = tt
-      one FetchMessage = tt
-      one SetAside = tt
-      one Release = tt
+      one _ = tt
 
   pub are_lost : (w : End) (why : Loss) (xs : List OnWire) → Are (first_lost w why xs)
   are_lost w why [] = tt

@@ -18,6 +18,7 @@ use Rattle.link_laws.proofs.sessions.Data.{Base, OnLive, Below, bound}
 use Rattle.link_laws.proofs.sessions.Wire.{live}
 use Rattle.link_laws.proofs.sessions.Sending.{SafeLink}
 use Rattle.link_laws.proofs.sessions.Steps.{safe_turns, safe_event}
+use Rattle.node_laws.proofs.Cases.{by_test}
 
 -- an end below whose ended sessions these stand
 abbrev pub below : List (ℕ × Session) → NumberedShdlc → NumberedShdlc
@@ -52,11 +53,7 @@ waiting_first l ts x = rw x refl
 
 module _ (p q : List (ℕ × Session)) where
   put_marked : (l : ShdlcLink) (c : Control) → shdlc_put (marked p q l) c ≡ marked p q (shdlc_put l c)
-  put_marked l c = go (is_rset c) refl
-    where
-      go : (b : Bool) → is_rset c ≡ b → shdlc_put (marked p q l) c ≡ marked p q (shdlc_put l c)
-      go true e = rw e refl
-      go false e = rw e refl
+  put_marked l c = by_test (is_rset c) (λ e. rw e refl) (λ e. rw e refl)
 
   puts_marked : (cs : List Control) (l : ShdlcLink) → shdlc_put_all (marked p q l) cs ≡ marked p q (shdlc_put_all l cs)
   puts_marked [] l = refl
@@ -75,8 +72,7 @@ module _ (p q : List (ℕ × Session)) where
     where
       go : (s : LinkState) → l.controller.side.phase ≡ s → shdlc_silent (marked p q l) e ≡ marked p q (shdlc_silent l e)
       go Up x = rw x refl
-      go Waiting x = rw x refl
-      go Down x = rw x refl
+      go _ x = rw x refl
 
   then_becomes : (l k : ShdlcLink) (e : EndState) → k ≡ marked p q l → shdlc_becomes k e ≡ marked p q (shdlc_becomes l e)
   then_becomes l k e x = ap (λ z. shdlc_becomes z e) x ∙ becomes_marked l e
@@ -129,11 +125,7 @@ module _ (p q : List (ℕ × Session)) where
   tick_marked None l = silent_marked l (new_end 4)
 
   waits_marked : (l : ShdlcLink) → ticks_if_waiting (marked p q l) ≡ marked p q (ticks_if_waiting l)
-  waits_marked l = go (is_waiting l.controller.side) refl
-    where
-      go : (b : Bool) → is_waiting l.controller.side ≡ b → ticks_if_waiting (marked p q l) ≡ marked p q (ticks_if_waiting l)
-      go true x = rw x (ticks_marked l [])
-      go false x = rw x refl
+  waits_marked l = by_test (is_waiting l.controller.side) (λ x. rw x (ticks_marked l [])) (λ x. rw x refl)
 
 module _ (p q : List (ℕ × Session)) where
   then_there : (es : List ShdlcEndEvent) (o : Option (List ShdlcTurn)) (l k : ShdlcLink) → k ≡ marked p q l
@@ -186,8 +178,7 @@ bound_below p h = go h.side.phase refl
   where
     go : (s : LinkState) → h.side.phase ≡ s → bound (below p h) ≡ bound h
     go Up x = rw x refl
-    go Waiting x = rw x refl
-    go Down x = rw x refl
+    go _ x = rw x refl
 
 below_both : (b : ℕ) (past p : List (ℕ × Session)) → Below b past → Below b p → Below b (past ++ p)
 below_both b [] p x y = y

@@ -4,7 +4,7 @@ use Rattle.std.specs.Prelude.{◌&&◌, not, nat_lt, nat_le, slice_index}
 use Rattle.std.specs.List.{AllByRecursion}
 use Rattle.std.proofs.lemmas.Bool.{true≢false, ltb-true, lt-ltb, le-leb}
 use Rattle.swp_base.specs.declared.control_frames.Control.{Control}
-use Rattle.swp_base.specs.declared.control_frames.Control.TheVariants.{I, S, Rset, Ua, Act, Clt}
+use Rattle.swp_base.specs.declared.control_frames.Control.TheVariants.{I, S, Act}
 use Rattle.swp_base.specs.declared.control_frames.Act.TheVariants.{Ready, SyncId, PowerMode}
 use Rattle.swp_base.specs.declared.control_frames.Kind.TheVariants.{Rr, Rej, Rnr, Srej}
 use Rattle.swp_lpdu.specs.Controls.{HasNumbers, lpdu_of, lpdu_row, lpdu_row_of, i_frame}
@@ -14,6 +14,7 @@ use Rattle.link_laws.specs.entries.Entries.{End as Side, Entry as Noted}
 use Rattle.link_laws.specs.entries.Entries.Entry.{Emit}
 use Rattle.history.specs.Legal.{is_rset_lpdu}
 use Rattle.history.proofs.legal.Plain.{out_numbers}
+use Rattle.node_laws.proofs.Cases.{by_test}
 use Rattle.node_laws.proofs.order.Silencing.{HearsNone}
 
 -- ## Numbers
@@ -31,10 +32,7 @@ numbers_fit who [] a = tt
 numbers_fit who (I ns nr info ∷ cs) a =
     let x = low_number ns a.0.0 in let y = low_number nr a.0.1 in (rw (x, y) refl, numbers_fit who cs a.1)
 numbers_fit who (S kind nr ∷ cs) a = let x = low_number nr a.0 in (rw x refl, numbers_fit who cs a.1)
-numbers_fit who (Rset window caps ∷ cs) a = (refl, numbers_fit who cs a.1)
-numbers_fit who (Ua ∷ cs) a = (refl, numbers_fit who cs a.1)
-numbers_fit who (Act act again ∷ cs) a = (refl, numbers_fit who cs a.1)
-numbers_fit who (Clt ∷ cs) a = (refl, numbers_fit who cs a.1)
+numbers_fit who (_ ∷ cs) a = (refl, numbers_fit who cs a.1)
 
 pub misnumbered_mute : HearsNone misnumbered
 misnumbered_mute =
@@ -63,15 +61,8 @@ numbered who (I ns nr info) q = go (nat_lt ns 8) (nat_lt nr 8) refl refl
     go true true x y = (ltb-true ns 8 x, ltb-true nr 8 y)
     go true false x y = absurd (true≢false (rw (x, y) at q))
     go false b x y = absurd (true≢false (rw x at q))
-numbered who (S kind nr) q = go (nat_lt nr 8) refl
-  where
-    go : (a : Bool) → nat_lt nr 8 ≡ a → nr < 8
-    go true x = ltb-true nr 8 x
-    go false x = absurd (true≢false (rw x at q))
-numbered who (Rset window caps) q = tt
-numbered who Ua q = tt
-numbered who (Act act again) q = tt
-numbered who Clt q = tt
+numbered who (S kind nr) q = by_test (nat_lt nr 8) (λ x. ltb-true nr 8 x) (λ x. absurd (true≢false (rw x at q)))
+numbered who _ q = tt
 
 -- ## RSET
 
@@ -110,12 +101,10 @@ rset_read (S Rnr nr) low =
     each_below (λ n. is_rset_lpdu (lpdu_of (S Rnr n)) ≡ false) 8 (refl, (refl, (refl, (refl, (refl, (refl, (refl, (refl, tt)))))))) nr low
 rset_read (S Srej nr) low =
     each_below (λ n. is_rset_lpdu (lpdu_of (S Srej n)) ≡ false) 8 (refl, (refl, (refl, (refl, (refl, (refl, (refl, (refl, tt)))))))) nr low
-rset_read (Rset window caps) low = refl
-rset_read Ua low = refl
 rset_read (Act Ready true) low = refl
 rset_read (Act Ready false) low = refl
 rset_read (Act (SyncId id) true) low = refl
 rset_read (Act (SyncId id) false) low = refl
 rset_read (Act (PowerMode power) true) low = refl
 rset_read (Act (PowerMode power) false) low = refl
-rset_read Clt low = refl
+rset_read _ low = refl

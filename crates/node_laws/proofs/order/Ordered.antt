@@ -1,5 +1,5 @@
 -- Messages are in order in each history of a world of nodes.
-use Rattle.std.proofs.Common.{◌≡◌, ℕ, ◌==◌, Bool, true, false, List, [], ◌∷◌, ◌++◌, Option, Some, None, refl, ap, subst}
+use Rattle.std.proofs.Common.{◌≡◌, ℕ, ◌==◌, Bool, true, false, List, [], ◌∷◌, ◌++◌, Some, None, refl, ap, subst}
 use Rattle.std.specs.List.{list_any}
 use Rattle.trace_model.specs.declared.entry.Entry.{Entry}
 use Rattle.trace_model.specs.declared.line.End.{End}
@@ -13,6 +13,7 @@ use Rattle.node_machine.specs.world.NodeHistories.{FollowsNodes, NodeHistory, en
 use Rattle.node_laws.specs.links.Runs.{ArePlayable}
 use Rattle.node_laws.specs.kept.Hosts.{AreHosts}
 use Rattle.node_laws.specs.telling.Telling.{of_link, hosts_in, world_behind}
+use Rattle.node_laws.proofs.Cases.{by_option}
 use Rattle.node_laws.proofs.order.Strangers.{IsStrange}
 use Rattle.node_laws.specs.order.Legal.{PrefixNodes}
 use Rattle.node_laws.proofs.order.Lines.{IsSo, all_so_behind}
@@ -24,7 +25,7 @@ pub data Whether (w : NodeWorld) (h : ℕ) : Type 0 where
   IsNone : IsStrange h (hosts_in w.sites) → Whether w h
 
 pub whether : (w : NodeWorld) (h : ℕ) → Whether w h
-whether w h = go (site_at w.sites h) refl
+whether w h = by_option (site_at w.sites h) (λ q. IsNone (none w.sites q)) (λ s q. Stands s q)
   where
     none : (sites : List Site) → site_at sites h ≡ None → IsStrange h (hosts_in sites)
     none [] q = tt
@@ -33,10 +34,6 @@ whether w h = go (site_at w.sites h) refl
         by : (b : Bool) → (x.host == h) ≡ b → (site_at sites h ≡ None → IsStrange h (hosts_in sites)) → IsStrange h (hosts_in (x ∷ sites))
         by true e later = let is : Some x ≡ None = rw e at q in absurd (cc is)
         by false e later = (e, later (rw e at q))
-
-    go : (o : Option Site) → site_at w.sites h ≡ o → Whether w h
-    go None q = IsNone (none w.sites q)
-    go (Some s) q = Stands s q
 
 module _ (hosts : List ℕ) (os : List Occurrence) (w : NodeWorld) (a : IsSo hosts os w) where
   abbrev t : List Entry

@@ -21,6 +21,7 @@ use Rattle.history.proofs.legal.Ordered.{IsOneAtMost, front_given, one_entry, At
 use Rattle.history.proofs.legal.Reading.{or_right}
 use Rattle.node_laws.specs.links.Runs.{new_line}
 use Rattle.node_laws.specs.telling.Telling.{is_of, tells_of, of_link}
+use Rattle.node_laws.proofs.Cases.{by_test}
 use Rattle.node_laws.proofs.telling.Accounts.{untold, of-append}
 use Rattle.node_laws.specs.order.Told.{IsLinkTold}
 
@@ -85,11 +86,7 @@ end_alike t v e n q a =
 
 one_filtered : (p : Entry → Bool) (xs : List Entry) → IsOneAtMost xs → IsOneAtMost (filter p xs)
 one_filtered p [] a = tt
-one_filtered p (x ∷ []) a = go (p x) refl
-  where
-    go : (b : Bool) → p x ≡ b → IsOneAtMost (filter p (x ∷ []))
-    go true q = rw q tt
-    go false q = rw q tt
+one_filtered p (x ∷ []) a = by_test (p x) (λ q. rw q tt) (λ q. rw q tt)
 one_filtered p (x ∷ y ∷ xs) a = absurd a
 
 of_flat : (h : ℕ) (notes : List Noted) → of_link h (entries_for h notes) ≡ flat_map (λ x. of_link h (entry_of h x)) notes

@@ -153,8 +153,7 @@ started_unready l value ts CutOff a =
   where
     new_free : (r : Role) → is_waiting (new_link_end (renewed r)).shdlc ≡ false
     new_free Bare = refl
-    new_free (Clf s) = refl
-    new_free (Uicc s) = refl
+    new_free _ = refl
 started_unready l value ts GoesOut a = go l.controller.side.role refl a
   where
     e : LinkEnd

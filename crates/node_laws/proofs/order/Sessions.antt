@@ -35,41 +35,17 @@ part Host x = x.host
 said_own : (who : Side) (s : Saying) (x : Standing)
     → part who (cond (end_of 0 who).at_host (said_far s x) (said_near s x)) ≡ session_after (part who x) (Some s)
 said_own Controller (Begins n) x = refl
-said_own Controller Ends x = refl
-said_own Controller (Sends n m) x = refl
-said_own Controller (Gets n m) x = refl
-said_own Controller (Counts n k) x = refl
-said_own Controller (Puts l) x = refl
-said_own Controller (Takes l) x = refl
-said_own Controller (Loses l) x = refl
+said_own Controller _ x = refl
 said_own Host (Begins n) x = refl
-said_own Host Ends x = refl
-said_own Host (Sends n m) x = refl
-said_own Host (Gets n m) x = refl
-said_own Host (Counts n k) x = refl
-said_own Host (Puts l) x = refl
-said_own Host (Takes l) x = refl
-said_own Host (Loses l) x = refl
+said_own Host _ x = refl
 
 near_far : (s : Saying) (x : Standing) → (said_far s x).controller ≡ x.controller
 near_far (Begins n) x = refl
-near_far Ends x = refl
-near_far (Sends n m) x = refl
-near_far (Gets n m) x = refl
-near_far (Counts n k) x = refl
-near_far (Puts l) x = refl
-near_far (Takes l) x = refl
-near_far (Loses l) x = refl
+near_far _ x = refl
 
 far_near : (s : Saying) (x : Standing) → (said_near s x).host ≡ x.host
 far_near (Begins n) x = refl
-far_near Ends x = refl
-far_near (Sends n m) x = refl
-far_near (Gets n m) x = refl
-far_near (Counts n k) x = refl
-far_near (Puts l) x = refl
-far_near (Takes l) x = refl
-far_near (Loses l) x = refl
+far_near _ x = refl
 
 -- at the ends of this link
 said_here : (who : Side) (far : Bool) (s : Saying) (x : Standing)

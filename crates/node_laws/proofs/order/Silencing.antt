@@ -16,7 +16,7 @@ use Rattle.link_laws.specs.machine.Machine.{Message, LinkEnd, Role, Refused, Lin
 use Rattle.link_laws.specs.machine.Machine.{activated, moved, took as took_frame, renewed, new_link_end, frames_out, whole_acked}
 use Rattle.link_laws.specs.machine.Machine.Role.{Bare, Clf, Uicc}
 use Rattle.link_laws.specs.machine.Machine.LinkInput.{Take, Tick as HasTick, Reset, Start, Stop}
-use Rattle.link_laws.specs.machine.Machine.Turn.{Give, Hold, FetchMessage, SetAside, Release}
+use Rattle.link_laws.specs.machine.Machine.Turn.{Give}
 use Rattle.link_laws.specs.messages.Links.{NumberedEnd, Link, Ending, Comes, Loss, EndEvent, Node, LinkEvent, exchanged, number_of, put}
 use Rattle.link_laws.specs.messages.Links.{with_ended, silent, finished}
 use Rattle.link_laws.specs.messages.Links.{steps_at_controller, happens_at_controller, happens, all_at_controller, ticks_at_controller, aged, CanEnd, IsNode}
@@ -37,6 +37,7 @@ use Rattle.link_laws.specs.entries.Entries.End.{Controller, Host}
 use Rattle.link_laws.specs.entries.Entries.Entry.{Up, Down, Active, GaveUp, Acked, Got, Sent, Emit, Took, Lost, Tick, Restarted, Cut}
 use Rattle.link_laws.proofs.entries.Noting.{turned_same, reset_role, restart_can, tick_can}
 use Rattle.link_laws.proofs.entries.Sparing.{silences}
+use Rattle.node_laws.proofs.Cases.{by_list, by_test}
 
 -- ## What is noted of a step
 
@@ -129,10 +130,7 @@ module _ (f : Entry → Bool) where
 
     none_turn : (who : End) (n : ℕ) (e : LinkEnd) (t : Turn) → Hears (turn_entry who n e t) → ⊥
     none_turn who n e (Give m) q = none_sent (give_refusal e m) who n m q
-    none_turn who n e (Hold held) q = true≢false (sym q)
-    none_turn who n e FetchMessage q = true≢false (sym q)
-    none_turn who n e SetAside q = true≢false (sym q)
-    none_turn who n e Release q = true≢false (sym q)
+    none_turn who n e _ q = true≢false (sym q)
 
     none_turns : (who : End) (n : ℕ) (ts : List Turn) (e : LinkEnd) → Hears (turn_entries who n e ts) → ⊥
     none_turns who n [] e q = true≢false (sym q)
@@ -144,11 +142,9 @@ module _ (f : Entry → Bool) where
     none_first who why (x ∷ xs) q = true≢false (sym (let r = deaf.lost who x.frame why in let z = q in rw r at z))
 
     none_pushed : (who : End) (w : List OnWire) → Hears (pushed_out who w) → ⊥
-    none_pushed who w q = go (nat_lt 64 (length w)) refl
-      where
-        go : (b : Bool) → nat_lt 64 (length w) ≡ b → ⊥
-        go true p = none_first who TooMany w (let z = q in rw p at z)
-        go false p = true≢false (sym (let z = q in rw p at z))
+    none_pushed who w q = by_test (nat_lt 64 (length w))
+        (λ p. none_first who TooMany w (let z = q in rw p at z))
+        (λ p. true≢false (sym (let z = q in rw p at z)))
 
     none_puts : (who : End) (cs : List Control) (l : Link) → AllByRecursion (λ c. f (Emit who c) ≡ false) cs → Hears (puts_entries who l cs) → ⊥
     none_puts who [] l a q = true≢false (sym q)
@@ -312,15 +308,12 @@ module _ (f : Entry → Bool) (mute : HearsNone f) where
       go (inr x) = true≢false (sym x.1 ∙ mute.cut who)
 
   step_mute : (who : End) (l : Link) (comes : Comes) (ts : List Turn) (ending : Ending) → Hears f (step_entries who l comes ts ending) → ⊥
-  step_mute who l NextFrame ts ending q = go l.to_controller refl
-    where
-      go : (w : List OnWire) → l.to_controller ≡ w → ⊥
-      go [] p = true≢false (sym (rw p at q))
-      go (x ∷ xs) p =
-          let h : NumberedEnd = record l.controller { took = took_with l.controller.took x } in
-          let z : Hears f (taken_entries who l x xs ts ending) = rw p at q in
-          let r = mute.deaf.took who x.frame in
-          input_mute who h (Take x.frame) (left_after l x xs) (after_input l.controller.side (Take x.frame)) ts ending (rw r at z)
+  step_mute who l NextFrame ts ending q = by_list l.to_controller
+      (λ p. true≢false (sym (rw p at q)))
+      (λ x xs p. let h : NumberedEnd = record l.controller { took = took_with l.controller.took x } in
+      let z : Hears f (taken_entries who l x xs ts ending) = rw p at q in
+      let r = mute.deaf.took who x.frame in
+      input_mute who h (Take x.frame) (left_after l x xs) (after_input l.controller.side (Take x.frame)) ts ending (rw r at z))
   step_mute who l (AsksReset window) ts ending q =
       let i : LinkInput = Reset window in
       input_mute who l.controller i (with_ended l (is_some (ended_by l.controller.side i))) (after_input l.controller.side i) ts ending q

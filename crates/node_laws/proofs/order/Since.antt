@@ -17,6 +17,7 @@ use Rattle.link_laws.proofs.entries.Ages.{read_off}
 use Rattle.link_laws.proofs.entries.Seeing.{see_all-append}
 use Rattle.link_laws.proofs.entries.Sparing.{silences}
 use Rattle.node_laws.specs.links.Runs.{new_line}
+use Rattle.node_laws.proofs.Cases.{by_test}
 use Rattle.node_laws.proofs.telling.Events.{after-append, entries-append}
 use Rattle.node_laws.proofs.order.Marking.{IsPast}
 use Rattle.node_laws.proofs.order.Jumping.{all_resets}
@@ -140,11 +141,9 @@ watched n es a =
 
 -- an end that is up has none that is gone
 jumped_none : (n emitted took : ℕ) → (emitted ≡ n → ⊥) → (took ≡ n → ⊥) → max emitted took ≡ n → ⊥
-jumped_none n emitted took x y q = go (nat_lt emitted took) refl
-  where
-    go : (b : Bool) → nat_lt emitted took ≡ b → ⊥
-    go true p = let z = ltb-true emitted took p in y (omega (arith, z, q))
-    go false p = let z = ltb-false emitted took p in x (omega (arith, z, q))
+jumped_none n emitted took x y q = by_test (nat_lt emitted took)
+    (λ p. let z = ltb-true emitted took p in y (omega (arith, z, q)))
+    (λ p. let z = ltb-false emitted took p in x (omega (arith, z, q)))
 
 past_none : (n : ℕ) (h : NumberedEnd) → h.side.shdlc.phase ≡ IsUpNow → number_of h ≡ n → IsPast n (core_end h) → ⊥
 past_none n h up q p = let z : n < number_of h = rw up at p in absurd (omega (arith, z, q))
@@ -160,8 +159,6 @@ pub none_silenced : (n : ℕ) (es : List LinkEvent) → AllAllowed new_line es
     → (let l : Link = after_link_events new_line es in
     l.controller.side.shdlc.phase ≡ IsUpNow → l.host.side.shdlc.phase ≡ IsUpNow → number_of l.controller ≡ n → number_of l.host ≡ n
     → list_any silences (since n (entries new_line es)) ≡ false)
-none_silenced n es a near far p q = go (list_any silences (since n (entries new_line es))) refl
-  where
-    go : (b : Bool) → list_any silences (since n (entries new_line es)) ≡ b → list_any silences (since n (entries new_line es)) ≡ false
-    go false x = x
-    go true x = absurd (up_not_gone n (after_link_events new_line es) near far p q ((watched n es a).gone x))
+none_silenced n es a near far p q = by_test (list_any silences (since n (entries new_line es)))
+    (λ x. absurd (up_not_gone n (after_link_events new_line es) near far p q ((watched n es a).gone x)))
+    (λ x. x)

@@ -15,13 +15,13 @@ use Rattle.link_laws.specs.messages.Links.{Link, number_of, after_link_events as
 use Rattle.link_laws.specs.messages.Links.IsStart.{IsLine}
 use Rattle.link_laws.specs.entries.Entries.{Entry as Noted, entries}
 use Rattle.link_laws.specs.entries.Entries.End.{Controller, Host}
-use Rattle.link_laws.specs.entries.Entries.Entry.{Up, Down, Active, GaveUp, Acked, Got, Sent, Emit, Took, Lost, Tick, Restarted, Cut}
+use Rattle.link_laws.specs.entries.Entries.Entry.{Up, Down, Emit, Restarted, Cut}
 use Rattle.link_laws.specs.entries.Quiet.{disturbs, begins, since, IsQuietSince, IsDeliveredOnLink as LinkDelivered}
 use Rattle.link_laws.proofs.entries.Delivering.{quiet_here, quiet_there}
 use Rattle.link_laws.proofs.entries.Hearing.{session_up}
 use Rattle.link_laws.proofs.entries.Sparing.{silences, or_none}
 use Rattle.history.specs.Filters.{Saying, said}
-use Rattle.history.specs.Filters.Saying.{Begins, Ends, Sends, Gets, Counts, Puts, Takes, Loses}
+use Rattle.history.specs.Filters.Saying.{Begins, Puts, Loses}
 use Rattle.history.specs.Legal.{begins_on, loses_on, rejects_on, since_up, has_lost, has_rnr}
 use Rattle.history.specs.Steps.{entries_for}
 use Rattle.history.proofs.legal.Noted.{sent-all, got-all, acked-all}
@@ -34,6 +34,7 @@ use Rattle.node_machine.specs.world.NodeFilters.{session_now}
 use Rattle.node_machine.specs.world.NodeHistories.{FollowsNodes, NodeHistory, entries_in, occurrences_in}
 use Rattle.node_laws.specs.links.Runs.{ArePlayable, new_line}
 use Rattle.node_laws.specs.telling.Telling.{is_of, tells_of, of_link, hosts_in, world_behind}
+use Rattle.node_laws.proofs.Cases.{by_option}
 use Rattle.node_laws.proofs.telling.Accounts.{untold}
 use Rattle.node_laws.specs.order.Told.{IsLinkTold, AreWiresRead, IsStillInSession, HasDeliveredAll}
 use Rattle.node_laws.proofs.order.Prefix.{sent_alike, got_alike, acked_alike}
@@ -50,35 +51,17 @@ module _ (h : ℕ) where
   begins_of : (n : ℕ) (o : Option (End × Saying)) → is_of h o ≡ false → begins_on h n o ≡ false
   begins_of n None q = refl
   begins_of n (Some (e, Begins k)) q = rw q refl
-  begins_of n (Some (e, Ends)) q = refl
-  begins_of n (Some (e, Sends k m)) q = refl
-  begins_of n (Some (e, Gets k m)) q = refl
-  begins_of n (Some (e, Counts k c)) q = refl
-  begins_of n (Some (e, Puts l)) q = refl
-  begins_of n (Some (e, Takes l)) q = refl
-  begins_of n (Some (e, Loses l)) q = refl
+  begins_of n (Some (e, _)) q = refl
 
   loses_of : (o : Option (End × Saying)) → is_of h o ≡ false → loses_on h o ≡ false
   loses_of None q = refl
-  loses_of (Some (e, Begins k)) q = refl
-  loses_of (Some (e, Ends)) q = refl
-  loses_of (Some (e, Sends k m)) q = refl
-  loses_of (Some (e, Gets k m)) q = refl
-  loses_of (Some (e, Counts k c)) q = refl
-  loses_of (Some (e, Puts l)) q = refl
-  loses_of (Some (e, Takes l)) q = refl
   loses_of (Some (e, Loses l)) q = q
+  loses_of (Some (e, _)) q = refl
 
   rejects_of : (o : Option (End × Saying)) → is_of h o ≡ false → rejects_on h o ≡ false
   rejects_of None q = refl
-  rejects_of (Some (e, Begins k)) q = refl
-  rejects_of (Some (e, Ends)) q = refl
-  rejects_of (Some (e, Sends k m)) q = refl
-  rejects_of (Some (e, Gets k m)) q = refl
-  rejects_of (Some (e, Counts k c)) q = refl
   rejects_of (Some (e, Puts l)) q = rw q refl
-  rejects_of (Some (e, Takes l)) q = refl
-  rejects_of (Some (e, Loses l)) q = refl
+  rejects_of (Some (e, _)) q = refl
 
   since_of : (n : ℕ) (t : List Entry) → of_link h (since_up h n t) ≡ since_up h n (of_link h t)
   since_of n [] = refl
@@ -131,16 +114,7 @@ are_plain (Restarted who ∷ t) a b = absurd (true≢false a)
 are_plain (Cut who ∷ t) a b = absurd (true≢false a)
 are_plain (Emit who c ∷ t) a b =
     let x = or_none (misnumbered (Emit who c)) (list_any misnumbered t) b in (numbered who c x.0, are_plain t a x.1)
-are_plain (Up who n ∷ t) a b = (tt, are_plain t a b)
-are_plain (Down who cause ∷ t) a b = (tt, are_plain t a b)
-are_plain (Active who ∷ t) a b = (tt, are_plain t a b)
-are_plain (GaveUp who tries ∷ t) a b = (tt, are_plain t a b)
-are_plain (Acked who n count ∷ t) a b = (tt, are_plain t a b)
-are_plain (Got who n m ∷ t) a b = (tt, are_plain t a b)
-are_plain (Sent who n m ∷ t) a b = (tt, are_plain t a b)
-are_plain (Took who c ∷ t) a b = (tt, are_plain t a b)
-are_plain (Lost who c why ∷ t) a b = (tt, are_plain t a b)
-are_plain (Tick ∷ t) a b = (tt, are_plain t a b)
+are_plain (_ ∷ t) a b = (tt, are_plain t a b)
 
 -- ## A link that is still
 
@@ -251,7 +225,12 @@ strange_of (s ∷ sites) h q = go (s.host == h) refl (strange_of sites h)
 
 pub history_delivered : (header : Header) (lines : List Line) (t : NodeHistory) → FollowsNodes header lines t → AreHosts header.hosts.items
     → ArePlayable lines → (front back : List Occurrence) → occurrences_in t ≡ front ++ back → (h : ℕ) → HasDeliveredAll front h
-history_delivered header lines t follows are playable front back q h = go (site_at w.sites h) refl
+history_delivered header lines t follows are playable front back q h = by_option (site_at w.sites h)
+    (λ found. let strange : IsStrange h header.hosts.items = subst (IsStrange h) a.hosts_are (strange_of w.sites h found) in
+    record { to_host = λ n s. absurd (never n strange s); to_controller = λ n s. absurd (never n strange s) })
+    (λ s found. let b = a.each h s found in
+    delivered_all h s.link front (host_number w h s a.well.orderly found) b.told
+    (record { to_controller = b.shown.wires.to_controller; to_host = b.shown.wires.to_host }))
   where
     w : NodeWorld
     w = world_behind (new_world header.hosts.items) front
@@ -261,12 +240,3 @@ history_delivered header lines t follows are playable front back q h = go (site_
 
     never : (n : ℕ) → IsStrange h header.hosts.items → IsStillInSession front h n → ⊥
     never n strange s = absurd (cc (sym (unread h false 0 (entries_in front) (a.strange h strange)) ∙ s.up.controller))
-
-    go : (o : Option Site) → site_at w.sites h ≡ o → HasDeliveredAll front h
-    go (Some s) found =
-        let b = a.each h s found in
-        delivered_all h s.link front (host_number w h s a.well.orderly found) b.told
-        (record { to_controller = b.shown.wires.to_controller; to_host = b.shown.wires.to_host })
-    go None found =
-        let strange : IsStrange h header.hosts.items = subst (IsStrange h) a.hosts_are (strange_of w.sites h found) in
-        record { to_host = λ n s. absurd (never n strange s); to_controller = λ n s. absurd (never n strange s) }

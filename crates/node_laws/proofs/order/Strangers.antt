@@ -11,7 +11,7 @@ use Rattle.journal_laws.specs.Planned.{fails_within, after_planned}
 use Rattle.link_laws.specs.machine.Machine.{LinkInput}
 use Rattle.link_laws.specs.machine.Machine.Role.{Bare}
 use Rattle.link_laws.specs.messages.Links.{NumberedEnd, Link, Comes, Loss, new_link, exchanged, aged, happens}
-use Rattle.link_laws.specs.messages.Links.Comes.{NextFrame, AsksReset, Starts, Stops, NoInput}
+use Rattle.link_laws.specs.messages.Links.Comes.{NextFrame, AsksReset, Starts, NoInput}
 use Rattle.link_laws.specs.messages.Links.Ending.{CutOff}
 use Rattle.link_laws.specs.messages.Links.EndEvent.{Step}
 use Rattle.link_laws.specs.messages.Links.LinkEvent.{AtController}
@@ -28,6 +28,7 @@ use Rattle.node_machine.specs.world.World.{frames_noted, wires_for, host_cut, lo
 use Rattle.node_machine.specs.world.World.{counts, frame_lost, sending, beginning, comes_at, end_c, end_h, all_aged, controller_ticks}
 use Rattle.node_machine.specs.world.World.{hosts_tick, world_ticks, world_step}
 use Rattle.node_machine.specs.world.World.Happening.{Boots, IsCut, Gives, Inits, Takes, Loses, Ticks, Resets, Activates, Arms}
+use Rattle.node_laws.proofs.Cases.{by_option, by_test}
 use Rattle.node_laws.proofs.kept.Sites.{hosts_same, hosts_with}
 use Rattle.node_laws.specs.telling.Telling.{of_link, HasEnds, IfItRuns, hosts_in, IsOrderly}
 use Rattle.node_laws.proofs.telling.Mute.{AreMute}
@@ -142,19 +143,13 @@ module _ (h : ℕ) (w : NodeWorld) (orderly : IsOrderly w) (strange : IsStrange 
       rw none refl
 
   arrival_none : (k : ℕ) (comes : Comes) → of_link h (entries_for k (arrival Controller (link_to w.sites k) comes)) ≡ []
-  arrival_none k comes = go (k == h) refl
+  arrival_none k comes = by_test (k == h)
+      (λ q. ap (λ l. of_link h (entries_for k (arrival Controller l comes))) (link_none k q) ∙ ap (λ z. of_link h (entries_for k z)) (empty comes))
+      (λ q. of_other k h (arrival Controller (link_to w.sites k) comes) q)
     where
       empty : (c : Comes) → arrival Controller (new_link Bare Bare) c ≡ []
       empty NextFrame = refl
-      empty (AsksReset window) = refl
-      empty (Starts value) = refl
-      empty Stops = refl
-      empty NoInput = refl
-
-      go : (b : Bool) → (k == h) ≡ b → of_link h (entries_for k (arrival Controller (link_to w.sites k) comes)) ≡ []
-      go true q =
-          ap (λ l. of_link h (entries_for k (arrival Controller l comes))) (link_none k q) ∙ ap (λ z. of_link h (entries_for k z)) (empty comes)
-      go false q = of_other k h (arrival Controller (link_to w.sites k) comes) q
+      empty _ = refl
 
   controller_none : (k : ℕ) (comes : Comes) (i : LinkInput) → of_link h (controller_does w k comes (steps (AtEnd k i))).1 ≡ []
   controller_none k comes i =
@@ -180,7 +175,7 @@ module _ (h : ℕ) (w : NodeWorld) (orderly : IsOrderly w) (strange : IsStrange 
 
       by_number : (b : Bool) → (k == h) ≡ b → of_link h (host_does w k comes f).1 ≡ []
       by_number true q = ap (of_link h) (no_one (ap (site_at w.sites) (eqb-true k h q) ∙ no_site w.sites h strange))
-      by_number false q = go (site_at w.sites k) refl
+      by_number false q = by_option (site_at w.sites k) (λ e. ap (of_link h) (no_one e)) (λ s e. runs s e s.node refl)
         where
           off_is : (s : Site) → site_at w.sites k ≡ Some s → s.node ≡ None → (host_does w k comes f).1 ≡ []
           off_is s e n = rw (e, n) refl
@@ -188,10 +183,6 @@ module _ (h : ℕ) (w : NodeWorld) (orderly : IsOrderly w) (strange : IsStrange 
           runs : (s : Site) → site_at w.sites k ≡ Some s → (x : Option Running) → s.node ≡ x → of_link h (host_does w k comes f).1 ≡ []
           runs s e None n = ap (of_link h) (off_is s e n)
           runs s e (Some r) n = (does s r e n).others h q
-
-          go : (o : Option Site) → site_at w.sites k ≡ o → of_link h (host_does w k comes f).1 ≡ []
-          go None e = ap (of_link h) (no_one e)
-          go (Some s) e = runs s e s.node refl
 
   comes_none : (e : End) (comes : Comes) → of_link h (comes_at w e comes).1 ≡ []
   comes_none e comes =

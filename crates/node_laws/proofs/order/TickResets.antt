@@ -11,7 +11,7 @@ use Rattle.swp_base.specs.declared.control_frames.Control.{Control}
 use Rattle.swp_lpdu.specs.Controls.{lpdu_of}
 use Rattle.swp_base.specs.declared.control_frames.Control.TheVariants.{I, S, Rset, Ua, Act, Clt}
 use Rattle.swp_base.specs.declared.link_terms.Cause.{Cause}
-use Rattle.swp_base.specs.declared.link_terms.Cause.TheVariants.{Asked, NoAnswer, Peer, Act as ByAct, Chain}
+use Rattle.swp_base.specs.declared.link_terms.Cause.TheVariants.{Asked, Act as ByAct}
 use Rattle.swp_act.specs.declared.ActEvent.TheVariants.{Tick as ActTick}
 use Rattle.shdlc_core.specs.declared.answers.LinkState.{LinkState}
 use Rattle.shdlc_core.specs.declared.answers.LinkState.TheVariants.{Down as IsDown, Waiting as IsWaitingNow, Up as IsUpNow}
@@ -41,6 +41,7 @@ use Rattle.node_machine.specs.world.World.{end_c, end_h}
 use Rattle.node_laws.specs.links.Runs.{IsRunOf}
 use Rattle.node_laws.specs.telling.Telling.{tells_of, of_link}
 use Rattle.node_laws.specs.order.Resets.{asks_at, behind_reset_of, cuts_on}
+use Rattle.node_laws.proofs.Cases.{by_test}
 use Rattle.node_laws.proofs.order.Withheld.{loses_one_on}
 use Rattle.node_laws.specs.answers.Unasked.{is_own_reset, is_reset_down}
 use Rattle.node_laws.proofs.telling.Accounts.{untold}
@@ -101,10 +102,7 @@ told_asked n r acked q =
     go : (o : Option Cause) → list_any asked (map (Down Controller) (option_to_list o)) ≡ true → o ≡ Some Asked
     go None z = absurd (true≢false (sym z))
     go (Some Asked) z = refl
-    go (Some NoAnswer) z = absurd (true≢false (sym z))
-    go (Some Peer) z = absurd (true≢false (sym z))
-    go (Some ByAct) z = absurd (true≢false (sym z))
-    go (Some Chain) z = absurd (true≢false (sym z))
+    go (Some _) z = absurd (true≢false (sym z))
 
 ending_unasked : (who : Side) (l : Link) (e : LinkEnd) (ts : List Turn) (ending : Ending) → AllByRecursion Unasked (rest_entries who l e ts ending)
 ending_unasked who l e ts GoesOut =
@@ -125,7 +123,7 @@ input_asked l k i ts ending q =
 
 -- a tick ends no session as asked
 tick_unasked : (e : LinkEnd) → ended_by e HasTick ≡ Some Asked → ⊥
-tick_unasked e q = go (is_open e.role) refl
+tick_unasked e q = by_test (is_open e.role) (λ o. timed_out e.shdlc (rw o at q)) (λ o. put_out (act_answer e.role ActTick).ended_link (rw o at q))
   where
     timed_out : (s : EndState) → (tick_answer s).ended ≡ Some Asked → ⊥
     timed_out s z = by s.phase (runs_timer s.session) (nat_lt (s.timer + 1) 10) (nat_lt s.tries 5) refl refl refl refl
@@ -146,12 +144,7 @@ tick_unasked e q = go (is_open e.role) refl
       where
         by : (p : LinkState) → e.shdlc.phase ≡ p → ⊥
         by IsUpNow p = cc (rw p at z)
-        by IsWaitingNow p = cc (rw p at z)
-        by IsDown p = cc (rw p at z)
-
-    go : (b : Bool) → is_open e.role ≡ b → ⊥
-    go true o = timed_out e.shdlc (rw o at q)
-    go false o = put_out (act_answer e.role ActTick).ended_link (rw o at q)
+        by _ p = cc (rw p at z)
 
 -- a reset that does is granted
 reset_granted : (e : LinkEnd) (window : Option ℕ) → ended_by e (Reset window) ≡ Some Asked → reset_refusal e ≡ None

@@ -20,13 +20,14 @@ use Rattle.link_laws.specs.messages.Links.Comes.{AsksReset}
 use Rattle.link_laws.specs.messages.Links.EndEvent.{Step}
 use Rattle.link_laws.specs.messages.Links.IsStart.{IsLine}
 use Rattle.link_laws.proofs.messages.Whole.{from_start}
-use Rattle.node_machine.specs.Parts.{Notice, Desk, Running}
+use Rattle.node_machine.specs.Parts.{Desk, Running}
 use Rattle.node_machine.specs.Carrying.{port_at}
 use Rattle.node_machine.specs.Node.NodeInput.{TimePasses}
 use Rattle.node_machine.specs.world.World.{Site, NodeWorld, site_at, link_to, port_for, work_of, ending_of, turns_at, runs_on, all_aged, is_late_at, ticked_so}
 use Rattle.node_machine.specs.world.World.{controller_ticks, host_ticks, hosts_tick, world_ticks}
 use Rattle.node_laws.specs.links.Runs.{new_line}
 use Rattle.node_laws.specs.links.Notices.{IsNoticedUp, OnFirst}
+use Rattle.node_laws.proofs.Cases.{by_option, by_test}
 use Rattle.node_laws.proofs.links.Got.{Clean}
 use Rattle.node_laws.proofs.links.Ends.{here_clf, tick_clf, tick_uicc}
 use Rattle.node_laws.proofs.links.Works.{steps_fine}
@@ -74,7 +75,7 @@ end_found near_ends (x ∷ desks) h d q = go (x.host == h) refl (end_found near_
 
 -- an end of such a link that is up is active
 up_open : (h : ℕ) (l : Link) (t : List Entry) → IsLinkTold h l t → l.controller.side.shdlc.phase ≡ Up → is_open l.controller.side.role ≡ true
-up_open h l t a up = go (is_open l.controller.side.role) refl
+up_open h l t a up = by_test (is_open l.controller.side.role) (λ q. q) (λ q. let z : Up ≡ Down = sym up ∙ closed q in absurd (cc z))
   where
     P : Link → Type 0
     P k = is_open k.controller.side.role ≡ false → k.controller.side.shdlc.phase ≡ Down
@@ -82,16 +83,8 @@ up_open h l t a up = go (is_open l.controller.side.role) refl
     closed : P l
     closed = subst P a.run.is (from_start new_line IsLine a.events a.run.allowed).good.controller.now.closed
 
-    go : (b : Bool) → is_open l.controller.side.role ≡ b → is_open l.controller.side.role ≡ true
-    go true q = q
-    go false q = let z : Up ≡ Down = sym up ∙ closed q in absurd (cc z)
-
 due_some : (d : Desk) → is_due d ≡ true → is_some d.notice ≡ true
-due_some d q = go d.notice refl
-  where
-    go : (o : Option Notice) → d.notice ≡ o → is_some d.notice ≡ true
-    go None e = let z : false ≡ true = rw e at q in absurd (true≢false (sym z))
-    go (Some n) e = rw e refl
+due_some d q = by_option d.notice (λ e. let z : false ≡ true = rw e at q in absurd (true≢false (sym z))) (λ n e. rw e refl)
 
 pub timely : (w : NodeWorld) (t : List Entry) (x : WatchedLink) (h : ℕ) (s : Site) → NoticesAreUp w → site_at w.sites h ≡ Some s
     → Knows t x w.controller h s → IsTimely w h s
@@ -148,7 +141,7 @@ near_after : (w : NodeWorld) → ((h : ℕ) (s : Site) → site_at w.sites h ≡
     → ((h : ℕ) (s : Site) → site_at w.sites h ≡ Some s → IfOff w.controller (new_link_end (Clf new_clf)) s.link.controller.side)
     → (h : ℕ) (v : Site) → site_at (controller_ticks w).0.sites h ≡ Some v
     → IfOff (controller_ticks w).0.controller (new_link_end (Clf new_clf)) v.link.controller.side
-near_after w clf off h v q = go w.controller refl
+near_after w clf off h v q = by_option w.controller (λ e. subst Goal (sym (none_is e)) (off_goal e) q) (λ r e. subst Goal (sym (some_is r e)) (on_goal r) q)
   where
     Goal : NodeWorld → Type 0
     Goal z = site_at z.sites h ≡ Some v → IfOff z.controller (new_link_end (Clf new_clf)) v.link.controller.side
@@ -206,10 +199,6 @@ near_after w clf off h v q = go w.controller refl
             let some : runs_on (near_tick w r) ≡ Some (record { core = (near_tick w r).core; desks = map (λ p. p.desk) (near_tick w r).ports }) = rw e refl in
             let G : Option Running → Type 0 = λ o. IfOff o (new_link_end (Clf new_clf)) v.link.controller.side in
             subst G (sym some) tt
-
-    go : (o : Option Running) → w.controller ≡ o → IfOff (controller_ticks w).0.controller (new_link_end (Clf new_clf)) v.link.controller.side
-    go None e = subst Goal (sym (none_is e)) (off_goal e) q
-    go (Some r) e = subst Goal (sym (some_is r e)) (on_goal r) q
 
 -- a host after its tick
 record FarAfter (x : Site) : Type 0 where
@@ -282,14 +271,11 @@ hosts_none (x ∷ sites) h q = go (x.host == h) refl (hosts_none sites h)
         rw fails (later (rw e at q))
 
 pub near_none : (w : NodeWorld) (h : ℕ) → site_at w.sites h ≡ None → site_at (controller_ticks w).0.sites h ≡ None
-near_none w h q = go w.controller refl
-  where
-    go : (o : Option Running) → w.controller ≡ o → site_at (controller_ticks w).0.sites h ≡ None
-    go None e = rw e (site_none (λ (s : Site). record s { link = ticks_at_controller s.link [] GoesOut }) (λ s. refl) w.sites h q)
-    go (Some r) e =
-        rw e (site_none (λ (s : Site). record s {
-          link = ticked_so s.link (is_late_at (near_tick w r) s.host) (turns_at (near_tick w r) s.host) (ending_of (near_tick w r));
-        }) (λ s. refl) w.sites h q)
+near_none w h q = by_option w.controller
+    (λ e. rw e (site_none (λ (s : Site). record s { link = ticks_at_controller s.link [] GoesOut }) (λ s. refl) w.sites h q))
+    (λ r e. rw e (site_none (λ (s : Site). record s {
+      link = ticked_so s.link (is_late_at (near_tick w r) s.host) (turns_at (near_tick w r) s.host) (ending_of (near_tick w r));
+    }) (λ s. refl) w.sites h q))
 
 -- a tick of one link
 module _ (w : NodeWorld) (t : List Entry) (X : ℕ → WatchedLink) (a : IsWell w) (up : NoticesAreUp w) (each : Each t X w) (h : ℕ) (s : Site)
@@ -336,7 +322,7 @@ module _ (w : NodeWorld) (t : List Entry) (X : ℕ → WatchedLink) (a : IsWell 
 
 pub ticks_each : (w : NodeWorld) (t : List Entry) (X : ℕ → WatchedLink) → IsWell w → NoticesAreUp w → Each t X w
     → Each (t ++ (world_ticks w).1) (later X (world_ticks w).1) (world_ticks w).0
-ticks_each w t X a up each h v q = go (site_at w.sites h) refl
+ticks_each w t X a up each h v q = by_option (site_at w.sites h) (λ e. none e) (λ s e. some s e)
   where
     old : NodeWorld
     old = (all_aged w).0
@@ -410,7 +396,3 @@ ticks_each w t X a up each h v q = go (site_at w.sites h) refl
 
         one : (host_ticks x).0 ≡ v
         one = let is : Some (host_ticks x).0 ≡ Some v = sym c.there ∙ q in cc
-
-    go : (o : Option Site) → site_at w.sites h ≡ o → Knows (t ++ u) (later X u h) (world_ticks w).0.controller h v
-    go None e = none e
-    go (Some s) e = some s e

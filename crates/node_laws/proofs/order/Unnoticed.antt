@@ -9,7 +9,7 @@ use Rattle.hci_store.specs.Committing.{commit_writes}
 use Rattle.link_laws.specs.machine.Machine.{Message, LinkInput, Turn}
 use Rattle.link_laws.specs.machine.Machine.Turn.{Give, Hold, FetchMessage, Release}
 use Rattle.node_machine.specs.Parts.{Desk, Core, Running, Port, Work, Deed}
-use Rattle.node_machine.specs.Parts.Deed.{Commits, Sends, SaysOk, Asks, Releases, Tells, IsAnswered, Drops, SetsErrors, Orders, Hears, GoesOn, Ends}
+use Rattle.node_machine.specs.Parts.Deed.{Commits, Sends, Asks, Releases, Tells, IsAnswered, SetsErrors, Orders}
 use Rattle.node_machine.specs.Carrying.{port_at, changed_if, with_port, with_desk, after_turn, turn_at, commit, done, all_done}
 use Rattle.node_machine.specs.Controller.{asked_at}
 use Rattle.node_machine.specs.Turns.{deeds_of}
@@ -18,6 +18,7 @@ use Rattle.node_machine.specs.Node.{forgets, all_owed, without_notice, after_ses
 use Rattle.node_machine.specs.Node.NodeInput.{AtEnd, TimePasses}
 use Rattle.node_machine.specs.world.World.{runs_on}
 use Rattle.node_machine.proofs.Walks.{Plain, OfHost, all_of_host, forgotten_hold, all_owed_hold, all_synced_hold, anyone}
+use Rattle.node_laws.proofs.Cases.{by_option, by_test}
 use Rattle.node_laws.proofs.links.Noticing.{came_node}
 use Rattle.node_laws.proofs.steps.StepWalks.{got_at, all_do, Lasts, rest_lasts}
 use Rattle.node_laws.proofs.steps.Ports.{sessions_node}
@@ -69,27 +70,21 @@ desk_none : (h : ℕ) (f : Desk → Desk) (w : Work) → ((d : Desk) → d.notic
 desk_none h f w one a = record { host = a.host; none = port_none h (λ p. record p { desk = f p.desk }) (λ p b. one p.desk b) w.ports a.none }
 
 commit_none : (c : Command) (w : Work) → HasNoNotices w → HasNoNotices (commit c w)
-commit_none c w a = go (fails_within (length (commit_writes w.core.journal w.core.tables (body_of c))) w.plan) refl
-  where
-    go : (b : Bool) → fails_within (length (commit_writes w.core.journal w.core.tables (body_of c))) w.plan ≡ b → HasNoNotices (commit c w)
-    go true q = rw q (record { host = a.host; none = a.none })
-    go false q = rw q (record { host = a.host; none = a.none })
+commit_none c w a = by_test (fails_within (length (commit_writes w.core.journal w.core.tables (body_of c))) w.plan)
+    (λ q. rw q (record { host = a.host; none = a.none }))
+    (λ q. rw q (record { host = a.host; none = a.none }))
 
 done_none : (h : ℕ) (d : Deed) (w : Work) → IsUnnoticed d → HasNoNotices w → HasNoNotices (done h d w)
 done_none h (Commits c) w u a = commit_none c w a
 done_none h (Sends to m) w u a = turn_none to (Give m) w a
-done_none h SaysOk w u a = record { host = a.host; none = a.none }
 done_none h (Asks to message c) w u a = absurd u
 done_none h (Releases asker) w u a = turn_none asker Release w a
 done_none h (Tells to message) w u a = absurd u
 done_none h IsAnswered w u a = desk_none h (λ d. record d { notice = None }) w (λ d b. refl) a
-done_none h (Drops pid) w u a = record { host = a.host; none = a.none }
 done_none h (SetsErrors errors) w u a = desk_none h (λ d. record d { errors = errors }) w (λ d b. b) a
 done_none h (Orders message) w u a =
     turn_none h (Give (1, message)) (record w { core = record w.core { command = Some message } }) (record { host = a.host; none = a.none })
-done_none h Hears w u a = record { host = a.host; none = a.none }
-done_none h (GoesOn i) w u a = record { host = a.host; none = a.none }
-done_none h (Ends e) w u a = record { host = a.host; none = a.none }
+done_none h _ w u a = record { host = a.host; none = a.none }
 
 pub all_done_none : (h : ℕ) (deeds : List Deed) (w : Work) → AreUnnoticed deeds → HasNoNotices w → HasNoNotices (all_done h deeds w)
 all_done_none h deeds w u a = all_do HasNoNotices IsUnnoticed done_none h deeds w u a
@@ -97,11 +92,9 @@ all_done_none h deeds w u a = all_do HasNoNotices IsUnnoticed done_none h deeds 
 -- ## The pass over its ends
 
 deeds_unnoticed : (core : Core) (ports : List Port) (h : ℕ) (m : Message) → (core.node == 0) ≡ false → AreUnnoticed (deeds_of core ports h m)
-deeds_unnoticed core ports h m off = go (port_at ports h) refl
-  where
-    go : (o : Option Port) → port_at ports h ≡ o → AreUnnoticed (deeds_of core ports h m)
-    go None q = rw (off, q) tt
-    go (Some p) q = rw (off, q) (all_of_host IsUnnoticed core plain (own core) p m (λ n value command zero is. tt))
+deeds_unnoticed core ports h m off = by_option (port_at ports h)
+    (λ q. rw (off, q) tt)
+    (λ p q. rw (off, q) (all_of_host IsUnnoticed core plain (own core) p m (λ n value command zero is. tt)))
 
 abbrev Any : ℕ → Message → Type 0
 Any h m = Unit {0}
@@ -128,25 +121,13 @@ older_none : (p : Port) → HasNone p → HasNone (with_older p)
 older_none p a = rw a refl
 
 late_none : (p : Port) → HasNone p → HasNone (reset_late p)
-late_none p a = go (is_late p) refl
-  where
-    go : (b : Bool) → is_late p ≡ b → HasNone (reset_late p)
-    go true q = rw q a
-    go false q = rw q a
+late_none p a = by_test (is_late p) (λ q. rw q a) (λ q. rw q a)
 
 without_none : (p : Port) → HasNone p → HasNone (without_notice p)
-without_none p a = go (is_over p) refl
-  where
-    go : (b : Bool) → is_over p ≡ b → HasNone (without_notice p)
-    go true q = rw q refl
-    go false q = rw q a
+without_none p a = by_test (is_over p) (λ q. rw q refl) (λ q. rw q a)
 
 forgets_none : (ports : List Port) (p : Port) → HasNone p → HasNone (forgets ports p)
-forgets_none ports p a = go (is_forgotten ports (asked_at p)) refl
-  where
-    go : (b : Bool) → is_forgotten ports (asked_at p) ≡ b → HasNone (forgets ports p)
-    go true q = rw (q, a) refl
-    go false q = rw q a
+forgets_none ports p a = by_test (is_forgotten ports (asked_at p)) (λ q. rw (q, a) refl) (λ q. rw q a)
 
 came_none : (input : NodeInput) (w : Work) → HasNoNotices w → AllByRecursion HasNone (times_out input (all_come input w)).ports
 came_none (AtEnd h i) w a = none_map (λ p. has_come p (input_at (AtEnd h i) p)) (λ p b. come_none p (input_at (AtEnd h i) p) b) w.ports a.none

@@ -1,6 +1,6 @@
 -- In each history a reset whose answer nothing withheld has brought both ends of its link up.
 use Rattle.std.proofs.Common.{◌≡◌, ℕ, ◌==◌, Bool, true, false, cond, List, [], ◌∷◌}
-use Rattle.std.proofs.Common.{◌++◌, Option, Some, None, refl, ap, sym, subst, ◌∙◌, append-nil, append_assoc}
+use Rattle.std.proofs.Common.{◌++◌, Option, Some, refl, ap, sym, subst, ◌∙◌, append-nil, append_assoc}
 use Rattle.std.specs.List.{fold, list_any}
 use Rattle.std.proofs.lemmas.Bool.{eqb-true, true≢false}
 use Rattle.trace_model.specs.declared.entry.Entry.{Entry}
@@ -24,6 +24,7 @@ use Rattle.node_laws.specs.kept.Hosts.{AreHosts}
 use Rattle.node_laws.specs.telling.Telling.{tells_of, of_link, hosts_in, world_behind}
 use Rattle.node_laws.specs.telling.Standing.{Readiness, Standing, new_standing, without_power, stands_noted, with_empty_wires, with_inactive_ends, standing}
 use Rattle.node_laws.specs.telling.Standing.{as_event_begins, as_event_ends, standing_behind}
+use Rattle.node_laws.proofs.Cases.{by_option}
 use Rattle.node_laws.proofs.telling.Accounts.{of-append}
 use Rattle.node_laws.proofs.telling.Powers.{other_said}
 use Rattle.node_laws.proofs.telling.Lasting.{occurs}
@@ -288,7 +289,11 @@ module _ (header : Header) (lines : List Line) (t : NodeHistory) (follows : Foll
   both_up : (before : List Occurrence) (reset : Occurrence) (behind back : List Occurrence) (e : End) (window : Option ℕ)
       → occurrences_in t ≡ before ++ (reset ∷ behind ++ back) → IsUpheld before reset behind e window
       → AreBothUp (entries_in (before ++ reset ∷ behind)) e.link
-  both_up before reset behind back e window q a = go (site_at w.sites e.link) refl
+  both_up before reset behind back e window q a = by_option (site_at w.sites e.link)
+      (λ none. let strange : IsStrange e.link hosts_of = subst (IsStrange e.link) so.hosts_are (strange_of w.sites e.link none) in
+      let idle = idle_behind e.link before (so.strange e.link strange) in
+      absurd (true≢false (sym a.active ∙ idle_at (other_end e) (standing_behind e.link before) idle)))
+      (λ s there. both_up_at before reset behind back e window s q there a)
     where
       w : NodeWorld
       w = world_behind first before
@@ -296,28 +301,18 @@ module _ (header : Header) (lines : List Line) (t : NodeHistory) (follows : Foll
       so : IsSo hosts_of before w
       so = history_so header lines t follows are playable before (reset ∷ behind ++ back) q
 
-      go : (o : Option Site) → site_at w.sites e.link ≡ o → AreBothUp (entries_in (before ++ reset ∷ behind)) e.link
-      go (Some s) there = both_up_at before reset behind back e window s q there a
-      go None none =
-          let strange : IsStrange e.link hosts_of = subst (IsStrange e.link) so.hosts_are (strange_of w.sites e.link none) in
-          let idle = idle_behind e.link before (so.strange e.link strange) in
-          absurd (true≢false (sym a.active ∙ idle_at (other_end e) (standing_behind e.link before) idle))
-
   ticked_up : (before : List Occurrence) (tick : Occurrence) (behind back : List Occurrence) (h : ℕ)
       → occurrences_in t ≡ before ++ (tick ∷ behind ++ back) → IsUpheldInTick before tick behind h → AreBothUp (entries_in (before ++ tick ∷ behind)) h
-  ticked_up before tick behind back h q a = go (site_at w.sites h) refl
+  ticked_up before tick behind back h q a = by_option (site_at w.sites h)
+      (λ none. let strange : IsStrange h hosts_of = subst (IsStrange h) so.hosts_are (strange_of w.sites h none) in
+      absurd (true≢false (sym a.active ∙ (idle_behind h before (so.strange h strange)).1)))
+      (λ s there. ticked_up_at before tick behind back h s q there a)
     where
       w : NodeWorld
       w = world_behind first before
 
       so : IsSo hosts_of before w
       so = history_so header lines t follows are playable before (tick ∷ behind ++ back) q
-
-      go : (o : Option Site) → site_at w.sites h ≡ o → AreBothUp (entries_in (before ++ tick ∷ behind)) h
-      go (Some s) there = ticked_up_at before tick behind back h s q there a
-      go None none =
-          let strange : IsStrange h hosts_of = subst (IsStrange h) so.hosts_are (strange_of w.sites h none) in
-          absurd (true≢false (sym a.active ∙ (idle_behind h before (so.strange h strange)).1))
 
   pub ticks_upheld : TickResetNodes t
   ticks_upheld = ticked_up

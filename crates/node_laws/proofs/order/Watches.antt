@@ -123,22 +123,18 @@ near_put x y f q =
 near_said : (s : Saying) (x : Standing) → IsOneOff x (said_near s x)
 near_said (Begins n) x = near_same x (said_near (Begins n) x) refl
 near_said Ends x = near_same x (said_near Ends x) refl
-near_said (Sends n m) x = near_same x x refl
-near_said (Gets n m) x = near_same x x refl
-near_said (Counts n k) x = near_same x x refl
 near_said (Puts f) x = near_put x (said_near (Puts f) x) f refl
 near_said (Takes f) x = near_same x (said_near (Takes f) x) refl
 near_said (Loses f) x = near_same x (said_near (Loses f) x) refl
+near_said _ x = near_same x x refl
 
 far_said : (s : Saying) (x : Standing) → IsOneOff x (said_far s x)
 far_said (Begins n) x = near_same x (said_far (Begins n) x) refl
 far_said Ends x = near_same x (said_far Ends x) refl
-far_said (Sends n m) x = near_same x x refl
-far_said (Gets n m) x = near_same x x refl
-far_said (Counts n k) x = near_same x x refl
 far_said (Puts f) x = near_same x (said_far (Puts f) x) refl
 far_said (Takes f) x = near_dropped x (said_far (Takes f) x) refl
 far_said (Loses f) x = near_dropped x (said_far (Loses f) x) refl
+far_said _ x = near_same x x refl
 
 abbrev pub is_cut : Noted → Bool
 is_cut (Cut who) = true
@@ -241,12 +237,7 @@ module _ (h : ℕ) where
   spoils_none None q = refl
   spoils_none (Some (e, Puts f)) q = rw q refl
   spoils_none (Some (e, Loses f)) q = rw q refl
-  spoils_none (Some (e, Begins n)) q = refl
-  spoils_none (Some (e, Ends)) q = refl
-  spoils_none (Some (e, Sends n m)) q = refl
-  spoils_none (Some (e, Gets n m)) q = refl
-  spoils_none (Some (e, Counts n k)) q = refl
-  spoils_none (Some (e, Takes f)) q = refl
+  spoils_none (Some (e, _)) q = refl
 
   -- only what says something of the link spoils
   spoils_of : (t : List Entry) → list_any (spoils_on h) t ≡ list_any (spoils_on h) (of_link h t)
@@ -261,13 +252,6 @@ module _ (h : ℕ) where
   -- where no frame was lost and no RSET put on the link, as entries tell it, the law of the link notes none
   spared_of : (t : List Noted) → list_any (spoils_on h) (entries_for h t) ≡ false → Spared t
   spared_of [] q = refl
-  spared_of (Up w k ∷ t) q = spared_of t q
-  spared_of (Down w cause ∷ t) q = spared_of t q
-  spared_of (Active w ∷ t) q = spared_of t q
-  spared_of (GaveUp w tries ∷ t) q = spared_of t q
-  spared_of (Acked w k count ∷ t) q = spared_of t q
-  spared_of (Got w k m ∷ t) q = spared_of t q
-  spared_of (Sent w k m ∷ t) q = spared_of t q
   spared_of (Emit w (I ns nr info) ∷ t) q = spared_of t (or_none _ _ q).1
   spared_of (Emit w (S kind nr) ∷ t) q = spared_of t (or_none _ _ q).1
   spared_of (Emit w (Rset window caps) ∷ t) q =
@@ -275,14 +259,11 @@ module _ (h : ℕ) where
   spared_of (Emit w Ua ∷ t) q = spared_of t (or_none _ _ q).1
   spared_of (Emit w (Act act again) ∷ t) q = spared_of t (or_none _ _ q).1
   spared_of (Emit w Clt ∷ t) q = spared_of t (or_none _ _ q).1
-  spared_of (Took w c ∷ t) q = spared_of t q
   spared_of (Lost w c why ∷ t) q =
       let one = or_none (loses_one_on h (entry.Lost (end_of h w) (lpdu_of c) (lost_as why)) || false) (list_any (spoils_on h) (entries_for h t)) q in
       let mine = (or_none (loses_one_on h (entry.Lost (end_of h w) (lpdu_of c) (lost_as why))) false one.0).0 in
       ap (λ b. b || list_any spoils t) (kept_act h w c why mine) ∙ spared_of t one.1
-  spared_of (Tick ∷ t) q = spared_of t q
-  spared_of (Restarted w ∷ t) q = spared_of t q
-  spared_of (Cut w ∷ t) q = spared_of t q
+  spared_of (_ ∷ t) q = spared_of t q
 
   withheld_parts : (u : List Entry) → list_any (withholds_on h) u ≡ false → (list_any (cuts_on h) u ≡ false) × (list_any (spoils_on h) u ≡ false)
   withheld_parts [] q = (refl, refl)

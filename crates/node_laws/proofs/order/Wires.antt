@@ -14,7 +14,7 @@ use Rattle.link_laws.specs.machine.Machine.Role.{Bare, Clf, Uicc}
 use Rattle.link_laws.specs.machine.Machine.Turn.{Give, Hold, FetchMessage, SetAside, Release}
 use Rattle.link_laws.specs.messages.Links.{Link, Ending, Comes, Node, LinkEvent, exchanged, aged, put_all, silent, happens, after_link_events, IsClf}
 use Rattle.link_laws.specs.messages.Links.Ending.{GoesOut, CutOff}
-use Rattle.link_laws.specs.messages.Links.Comes.{NextFrame, AsksReset, Starts, Stops, NoInput}
+use Rattle.link_laws.specs.messages.Links.Comes.{AsksReset, Starts, Stops}
 use Rattle.link_laws.specs.messages.Links.EndEvent.{Step}
 use Rattle.link_laws.specs.messages.Links.LinkEvent.{AtController}
 use Rattle.link_laws.specs.messages.Links.IsStart.{IsLine}
@@ -225,11 +225,9 @@ module _ (h : ℕ) (l : Link) (e : LinkEvent) (t u : List Entry) (x : WatchedLin
       }
     where
       opens : (c : Comes) → ShownBy (see_all (kept l) (opened_by who c)) (opened c x).stands
-      opens NextFrame = shown.wires
-      opens (AsksReset window) = shown.wires
       opens (Starts value) = record { to_controller = refl; to_host = refl }
       opens Stops = record { to_controller = refl; to_host = refl }
-      opens NoInput = shown.wires
+      opens _ = shown.wires
 
       rest_unstarted : AreUnstarted s.rest
       rest_unstarted = shaped_unstarted who ending s.rest s.shaped
@@ -242,18 +240,14 @@ module _ (h : ℕ) (l : Link) (e : LinkEvent) (t u : List Entry) (x : WatchedLin
 
       begins : (c : Comes) → event_entries l e ≡ opened_by who c ++ s.rest → (watched h (opened c x) u).whole ≡ true
           → AreReady (happens l e) (watched h (opened c x) u).stands
-      begins NextFrame q = ready_so q
-      begins (AsksReset window) q = ready_so q
       begins (Starts value) q = λ z. absurd (true≢false (sym z))
       begins Stops q = λ z. absurd (true≢false (sym z))
-      begins NoInput q = ready_so q
+      begins _ q = ready_so q
 
       goes : (c : Comes) → event_entries l e ≡ opened_by who c ++ s.rest → (watched h (opened c x) u).since ≡ true → IsSince (happens l e)
-      goes NextFrame q = plainly q
-      goes (AsksReset window) q = plainly q
       goes (Starts value) q = λ z. absurd (true≢false (sym z))
       goes Stops q = λ z. absurd (true≢false (sym z))
-      goes NoInput q = plainly q
+      goes _ q = plainly q
 
 -- ## Activation at the controller's end puts nothing on the wire
 

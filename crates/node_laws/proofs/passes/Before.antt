@@ -6,13 +6,14 @@ use Rattle.trace_model.specs.declared.entry.Entry.{Entry}
 use Rattle.link_laws.specs.machine.Machine.{LinkInput, after_input, report, whole_acked}
 use Rattle.link_laws.specs.machine.Machine.LinkInput.{Reset}
 use Rattle.link_laws.specs.entries.Entries.{Entry as Told, told}
-use Rattle.link_laws.specs.entries.Entries.Entry.{Up, Down, Active, GaveUp, Acked, Got, Sent, Emit, Took, Lost, Tick, Restarted, Cut}
+use Rattle.link_laws.specs.entries.Entries.Entry.{Tick, Restarted, Cut}
 use Rattle.history.specs.Steps.{entry_of, entries_for}
 use Rattle.node_machine.specs.Parts.{Creation, Core, Port, Work, Deed}
 use Rattle.node_machine.specs.Parts.Deed.{Releases}
 use Rattle.link_laws.specs.machine.Machine.Turn.{Release}
 use Rattle.node_machine.specs.Carrying.{own_side, unless_cut, changed_if, with_port, after_turn, turn_at, all_done}
 use Rattle.node_laws.specs.kept.Books.{hosts_of_ends}
+use Rattle.node_laws.proofs.Cases.{by_test}
 use Rattle.node_laws.proofs.kept.Plainly.{hosts_map}
 use Rattle.node_laws.proofs.steps.Ports.{come_host, forgets_host, changed_host, without_host}
 use Rattle.node_laws.proofs.telling.Mute.{AreMute, forgotten_mute, all_owed_mute, all_synced_mute}
@@ -60,7 +61,11 @@ synced_entries input w =
     ∙ (ap (λ es. es ++ more) (freed_entries input w) ∙ append_assoc w.entries (told_of_coming input w) more)
 
 pub before_entries : (input : NodeInput) (w : Work) → (comes_to_pass input w).entries ≡ w.entries ++ noted_before_pass input w
-before_entries input w = go v.cut refl
+before_entries input w = by_test v.cut
+    (λ q. rw q (synced_entries input w ∙ ap (λ es. w.entries ++ (first ++ es)) (sym (append-nil syncs))))
+    (λ q. rw q (deeds_note 0 (owed_in_step input w) v
+    ∙ (ap (λ es. es ++ owing) (synced_entries input w)
+    ∙ (append_assoc w.entries (first ++ syncs) owing ∙ ap (λ es. w.entries ++ es) (append_assoc first syncs owing)))))
   where
     v : Work
     v = has_synced input w
@@ -74,14 +79,6 @@ before_entries input w = go v.cut refl
     owing : List Entry
     owing = noted_by_deeds 0 (owed_in_step input w) v
 
-    go : (b : Bool) → v.cut ≡ b
-        → (unless_cut (all_done 0 (owed_in_step input w)) v).entries ≡ w.entries ++ (first ++ (syncs ++ cond v.cut [] owing))
-    go true q = rw q (synced_entries input w ∙ ap (λ es. w.entries ++ (first ++ es)) (sym (append-nil syncs)))
-    go false q =
-        rw q (deeds_note 0 (owed_in_step input w) v
-        ∙ (ap (λ es. es ++ owing) (synced_entries input w)
-        ∙ (append_assoc w.entries (first ++ syncs) owing ∙ ap (λ es. w.entries ++ es) (append_assoc first syncs owing))))
-
 pub steps_are : (input : NodeInput) (w : Work) → steps input w ≡ unless_cut passes (comes_to_pass input w)
 steps_are input w = refl
 
@@ -92,19 +89,10 @@ flat_none f one [] = tt
 flat_none f one (x ∷ xs) = all_append IsNoTurn (f x) (flat_map f xs) (one x) (flat_none f one xs)
 
 one_none : (h : ℕ) (x : Told) → AreNoTurns (entry_of h x)
-one_none h (Up who n) = (refl, tt)
-one_none h (Down who cause) = (refl, tt)
-one_none h (Active who) = (refl, tt)
-one_none h (GaveUp who tries) = (refl, tt)
-one_none h (Acked who n count) = (refl, tt)
-one_none h (Got who n m) = (refl, tt)
-one_none h (Sent who n m) = (refl, tt)
-one_none h (Emit who frame) = (refl, tt)
-one_none h (Took who frame) = (refl, tt)
-one_none h (Lost who frame why) = (refl, tt)
 one_none h Tick = tt
 one_none h (Restarted who) = tt
 one_none h (Cut who) = tt
+one_none h _ = (refl, tt)
 
 pub links_none : (h : ℕ) (xs : List Told) → AreNoTurns (entries_for h xs)
 links_none h xs = flat_none (entry_of h) (one_none h) xs
@@ -115,11 +103,7 @@ at_none core p (Some i) =
     links_none p.desk.host (told (own_side core) p.session (report p.side i) (whole_acked (after_input p.side i)))
 
 late_none : (core : Core) (p : Port) → AreNoTurns (told_late core p)
-late_none core p = go (is_late p) refl
-  where
-    go : (b : Bool) → is_late p ≡ b → AreNoTurns (told_late core p)
-    go true q = rw q (at_none core p (Some (Reset None)))
-    go false q = rw q tt
+late_none core p = by_test (is_late p) (λ q. rw q (at_none core p (Some (Reset None)))) (λ q. rw q tt)
 
 all_late_none : (input : NodeInput) (w : Work) → AreNoTurns (told_of_late input w)
 all_late_none (AtEnd h i) w = tt
@@ -171,11 +155,7 @@ come_hosts TimePasses w =
     ∙ hosts_map (λ p. has_come p (input_at TimePasses p)) (λ p. come_host p (input_at TimePasses p)) w.ports)
   where
     reset_host : (p : Port) → (reset_late p).desk.host ≡ p.desk.host
-    reset_host p = go (is_late p) refl
-      where
-        go : (b : Bool) → is_late p ≡ b → (reset_late p).desk.host ≡ p.desk.host
-        go true q = rw q refl
-        go false q = rw q refl
+    reset_host p = by_test (is_late p) (λ q. rw q refl) (λ q. rw q refl)
 
 pub before_hosts : (input : NodeInput) (w : Work) → hosts_of_ends (comes_to_pass input w).ports ≡ hosts_of_ends w.ports
 before_hosts input w =

@@ -11,6 +11,7 @@ use Rattle.link_laws.specs.machine.Machine.Turn.{Hold, FetchMessage}
 use Rattle.node_machine.specs.Parts.{Desk, Port, Work, Deed}
 use Rattle.node_machine.specs.Carrying.{noting, unless_cut, with_desk, after_turn, turn_at, end_of_node}
 use Rattle.node_machine.specs.Turns.{deeds_of, handles, holds_back, lets_go, have_turns, goes_through_ends}
+use Rattle.node_laws.proofs.Cases.{by_test}
 use Rattle.node_laws.proofs.steps.StepWalks.{unless as unless_lost}
 use Rattle.node_laws.specs.passes.Noting.{noted_by_deeds}
 use Rattle.node_laws.specs.passes.Passing.{link_of_turn, AreAlong, links_of_turns, waiting_at, is_held_at, lacking, takes_up, LastsOverTurns, ArePassed, Stays}
@@ -49,16 +50,13 @@ module _ (k : ℕ) (ms : List Message) (b : Bool) where
       deeds_see k ms b h deeds (takes_up h m w) (other_desk h (λ d. record d { holds = false }) (turn_at h FetchMessage told) (λ d. refl) off fetched)
 
   pub other_holds : (h : ℕ) (short : ℕ × ℕ) (w : Work) → (h == k) ≡ false → Same w → Same (holds_back h short w)
-  other_holds h short w off s = go (is_held_at w.ports h) refl
+  other_holds h short w off s = by_test (is_held_at w.ports h)
+      (λ q. rw q (turn_sees k ms b h (Hold true) w tt s))
+      (λ q. rw q (turn_sees k ms b h (Hold true) (with_desk h (λ d. record d { holds = true }) told) tt
+      (other_desk h (λ d. record d { holds = true }) told (λ d. refl) off s)))
     where
       told : Work
       told = noting (entry.Held (end_of_node w.core h) short.0 short.1 ∷ []) w
-
-      go : (c : Bool) → is_held_at w.ports h ≡ c → Same (holds_back h short w)
-      go true q = rw q (turn_sees k ms b h (Hold true) w tt s)
-      go false q =
-          rw q (turn_sees k ms b h (Hold true) (with_desk h (λ d. record d { holds = true }) told) tt
-          (other_desk h (λ d. record d { holds = true }) told (λ d. refl) off s))
 
   other_turns : (h : ℕ) (messages : List Message) (w : Work) → (h == k) ≡ false → Same w → Same (have_turns h messages w)
   other_turns h [] w off s = lets_see k ms b h w s
@@ -81,21 +79,18 @@ module _ (k : ℕ) (ms : List Message) (b : Bool) where
 
 pub held_own : (h : ℕ) (short : ℕ × ℕ) (w : Work) (m : Message) (messages : List Message) → waiting_at w.ports h ≡ m ∷ messages
     → SeesAt h (waiting_at w.ports h) true (holds_back h short w)
-held_own h short w m messages waiting = go (is_held_at w.ports h) refl
+held_own h short w m messages waiting = by_test (is_held_at w.ports h)
+    (λ q. rw q (turn_sees h (waiting_at w.ports h) true h (Hold true) w tt (refl, q)))
+    (λ q. let is = own_changed h (λ (p : Port). record p { desk = record p.desk { holds = true } }) (λ p. refl) w.ports first.port first.here in
+    let got : first.port.side.got ≡ waiting_at w.ports h = first.got ∙ sym waiting in
+    rw q (turn_sees h (waiting_at w.ports h) true h (Hold true) (with_desk h (λ d. record d { holds = true }) told) tt
+    (subst (Sees (waiting_at w.ports h) true) (sym is) (got, refl))))
   where
     told : Work
     told = noting (entry.Held (end_of_node w.core h) short.0 short.1 ∷ []) w
 
     first : HasFirst w.ports h m messages
     first = has_first w.ports h m messages waiting
-
-    go : (c : Bool) → is_held_at w.ports h ≡ c → SeesAt h (waiting_at w.ports h) true (holds_back h short w)
-    go true q = rw q (turn_sees h (waiting_at w.ports h) true h (Hold true) w tt (refl, q))
-    go false q =
-        let is = own_changed h (λ (p : Port). record p { desk = record p.desk { holds = true } }) (λ p. refl) w.ports first.port first.here in
-        let got : first.port.side.got ≡ waiting_at w.ports h = first.got ∙ sym waiting in
-        rw q (turn_sees h (waiting_at w.ports h) true h (Hold true) (with_desk h (λ d. record d { holds = true }) told) tt
-        (subst (Sees (waiting_at w.ports h) true) (sym is) (got, refl)))
 
 -- as the node leaves an end
 pub record StopsAt (J : Work → Type 0) (h : ℕ) (v u : Work) : Type 0 where
@@ -184,21 +179,18 @@ module _ (J : Work → Type 0) (lasts : LastsOverTurns J) (h : ℕ) where
           → ((x : Work) → J x → x.cut ≡ false → waiting_at x.ports h ≡ messages → (have_turns h messages x).cut ≡ false
           → StopsAt J h x (have_turns h messages x))
           → StopsAt J h w (have_turns h (m ∷ messages) w)
-      go None q later = by v.cut refl
+      go None q later = by_test v.cut
+          (λ off. absurd (true≢false (sym off ∙ subst P (stays_cut (have_turns h messages) v off) goes)))
+          (λ o. subst (StopsAt J h w) (sym (have_handled h m messages w q ∙ uncut (have_turns h messages) v o))
+          (handled_stop w m (have_turns h messages v)
+          (later v (lasts.handled w h m messages j on waiting q o) o (handles_sees h m messages deeds w waiting).0
+          (subst P (uncut (have_turns h messages) v o) goes))))
         where
           P : Work → Type 0
           P x = x.cut ≡ false
 
           goes : (unless_cut (have_turns h messages) v).cut ≡ false
           goes = subst P (have_handled h m messages w q) still
-
-          by : (b : Bool) → v.cut ≡ b → StopsAt J h w (have_turns h (m ∷ messages) w)
-          by true off = absurd (true≢false (sym off ∙ subst P (stays_cut (have_turns h messages) v off) goes))
-          by false o =
-              subst (StopsAt J h w) (sym (have_handled h m messages w q ∙ uncut (have_turns h messages) v o))
-              (handled_stop w m (have_turns h messages v)
-              (later v (lasts.handled w h m messages j on waiting q o) o (handles_sees h m messages deeds w waiting).0
-              (subst P (uncut (have_turns h messages) v o) goes)))
       go (Some short) q later = subst (StopsAt J h w) (sym (have_held h m messages w short q)) (held_stop w j on m messages waiting short q)
 
 -- ## A pass
@@ -224,11 +216,7 @@ goes_apart (k ∷ earlier) later w on = go v.cut refl (goes_apart earlier later 
 
 -- what lost no power had none to lose
 was_on : (f : Work → Work) (w : Work) → (unless_cut f w).cut ≡ false → w.cut ≡ false
-was_on f w on = go w.cut refl
-  where
-    go : (b : Bool) → w.cut ≡ b → w.cut ≡ false
-    go true off = let P : Work → Type 0 = λ x. x.cut ≡ false in absurd (true≢false (sym off ∙ subst P (stays_cut f w off) on))
-    go false o = o
+was_on f w on = by_test w.cut (λ off. let P : Work → Type 0 = λ x. x.cut ≡ false in absurd (true≢false (sym off ∙ subst P (stays_cut f w off) on))) (λ o. o)
 
 module _ (J : Work → Type 0) (lasts : LastsOverTurns J) where
   pub leaves_behind : (earlier : List ℕ) (h : ℕ) (later : List ℕ) (w : Work) → J w → w.cut ≡ false

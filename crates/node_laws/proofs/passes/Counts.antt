@@ -10,7 +10,7 @@ use Rattle.hci_store.specs.Recordable.{IsRecordable}
 use Rattle.link_laws.specs.machine.Machine.{Message}
 use Rattle.link_laws.specs.machine.Machine.Turn.{FetchMessage}
 use Rattle.node_machine.specs.Parts.{Init, Work, Deed}
-use Rattle.node_machine.specs.Parts.Deed.{Commits, Sends, SaysOk, Asks, Releases, Tells, IsAnswered, Drops, SetsErrors, Orders, Hears, GoesOn, Ends}
+use Rattle.node_machine.specs.Parts.Deed.{Commits, Asks, Orders, Hears, GoesOn, Ends}
 use Rattle.node_machine.specs.Carrying.{noting, turn_at, end_of_node, needs, lack}
 use Rattle.node_machine.specs.Turns.{handles}
 use Rattle.node_laws.specs.kept.Finds.{Knows}
@@ -25,18 +25,12 @@ counts_none : (s : State) (t : HciTables) (command : Option (List ℕ)) (init : 
     → CountsCommands s t deeds
 counts_none s t command init [] may = tt
 counts_none s t command init (Commits c ∷ deeds) may = absurd may.0
-counts_none s t command init (Sends to m ∷ deeds) may = counts_none s t command init deeds may
-counts_none s t command init (SaysOk ∷ deeds) may = counts_none s t command init deeds may
 counts_none s t command init (Asks to message c ∷ deeds) may = absurd may.0
-counts_none s t command init (Releases asker ∷ deeds) may = counts_none s t command init deeds may
-counts_none s t command init (Tells to message ∷ deeds) may = counts_none s t command init deeds may
-counts_none s t command init (IsAnswered ∷ deeds) may = counts_none s t command init deeds may
-counts_none s t command init (Drops pid ∷ deeds) may = counts_none s t command init deeds may
-counts_none s t command init (SetsErrors errors ∷ deeds) may = counts_none s t command init deeds may
 counts_none s t command init (Orders message ∷ deeds) may = counts_none s t (Some message) init deeds may
 counts_none s t command init (Hears ∷ deeds) may = counts_none s t None init deeds may
 counts_none s t command init (GoesOn i ∷ deeds) may = counts_none s t command (Some i) deeds may
 counts_none s t command init (Ends e ∷ deeds) may = counts_none s t command None deeds may.1
+counts_none s t command init (_ ∷ deeds) may = counts_none s t command init deeds may
 
 module _ (content : List ℕ) (s : State) (t : HciTables) (knows : Knows content s t) (are : AreTables t) (recordable : IsRecordable t) where
   pub counts_one : (command : Option (List ℕ)) (init : Option Init) (deeds : List Deed) → MayBeDone (Some s) command init deeds → CountsCommands s t deeds
@@ -45,18 +39,12 @@ module _ (content : List ℕ) (s : State) (t : HciTables) (knows : Knows content
     commit_count content s t c knows are recordable may.0.0 may.0.1,
     counts_none (committed s t (body_of c)) (apply t c) command init deeds may.1,
   )
-  counts_one command init (Sends to m ∷ deeds) may = counts_one command init deeds may
-  counts_one command init (SaysOk ∷ deeds) may = counts_one command init deeds may
   counts_one command init (Asks to message c ∷ deeds) may = counts_none s t command init deeds may.1
-  counts_one command init (Releases asker ∷ deeds) may = counts_one command init deeds may
-  counts_one command init (Tells to message ∷ deeds) may = counts_one command init deeds may
-  counts_one command init (IsAnswered ∷ deeds) may = counts_one command init deeds may
-  counts_one command init (Drops pid ∷ deeds) may = counts_one command init deeds may
-  counts_one command init (SetsErrors errors ∷ deeds) may = counts_one command init deeds may
   counts_one command init (Orders message ∷ deeds) may = counts_one (Some message) init deeds may
   counts_one command init (Hears ∷ deeds) may = counts_one None init deeds may
   counts_one command init (GoesOn i ∷ deeds) may = counts_one command (Some i) deeds may
   counts_one command init (Ends e ∷ deeds) may = counts_one command None deeds may.1
+  counts_one command init (_ ∷ deeds) may = counts_one command init deeds may
 
 -- ## The reply to a message
 

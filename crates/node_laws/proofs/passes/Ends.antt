@@ -9,9 +9,10 @@ use Rattle.link_laws.specs.machine.Machine.{Message, LinkEnd, Refused, Turn, tur
 use Rattle.link_laws.specs.machine.Machine.Turn.{Give, Hold, FetchMessage, SetAside, Release}
 use Rattle.node_machine.specs.Parts.{About, Desk, Port, Work, Deed}
 use Rattle.node_machine.specs.Parts.About.{Waits, Removed}
-use Rattle.node_machine.specs.Parts.Deed.{Commits, Sends, SaysOk, Asks, Releases, Tells, IsAnswered, Drops, SetsErrors, Orders, Hears, GoesOn, Ends}
+use Rattle.node_machine.specs.Parts.Deed.{Commits, Sends, Asks, Releases, Tells, IsAnswered, SetsErrors, Orders}
 use Rattle.node_machine.specs.Carrying.{noting, port_at, changed_if, with_port, with_desk, after_turn, turn_at, notified, commit, done, all_done}
 use Rattle.node_machine.specs.Turns.{lets_go}
+use Rattle.node_laws.proofs.Cases.{by_option, by_test}
 use Rattle.node_laws.proofs.steps.Ports.{changed_host}
 use Rattle.node_laws.proofs.telling.Accounts.{at_host}
 use Rattle.node_laws.proofs.telling.Away.{at_map, none_map}
@@ -30,13 +31,10 @@ SeesAt k ms b w = Sees ms b (port_at w.ports k)
 pub map_sees : (f : Port → Port) → ((p : Port) → (f p).desk.host ≡ p.desk.host) → ((p : Port) → (f p).side.got ≡ p.side.got)
     → ((p : Port) → (f p).desk.holds ≡ p.desk.holds) → (ports : List Port) (k : ℕ) (ms : List Message) (b : Bool) → Sees ms b (port_at ports k)
     → Sees ms b (port_at (map f ports) k)
-map_sees f host got holds ports k ms b s = go (port_at ports k) refl
-  where
-    go : (o : Option Port) → port_at ports k ≡ o → Sees ms b (port_at (map f ports) k)
-    go None q = subst (Sees ms b) (sym (none_map f host ports k q)) (subst (Sees ms b) q s)
-    go (Some p) q =
-        let was : Sees ms b (Some p) = subst (Sees ms b) q s in
-        subst (Sees ms b) (sym (at_map f host ports k p q)) (got p ∙ was.0, holds p ∙ was.1)
+map_sees f host got holds ports k ms b s = by_option (port_at ports k)
+    (λ q. subst (Sees ms b) (sym (none_map f host ports k q)) (subst (Sees ms b) q s))
+    (λ p q. let was : Sees ms b (Some p) = subst (Sees ms b) q s in
+    subst (Sees ms b) (sym (at_map f host ports k p q)) (got p ∙ was.0, holds p ∙ was.1))
 
 -- the end with another number stays as it is
 pub other_stays : (j k : ℕ) (f : Port → Port) → ((p : Port) → (f p).desk.host ≡ p.desk.host) → (ports : List Port) → (j == k) ≡ false
@@ -100,38 +98,26 @@ module _ (k : ℕ) (ms : List Message) (b : Bool) where
       (turn_sees j (Give (1, message)) w tt s)
 
   commit_sees : (c : Command) (w : Work) → Same w → Same (commit c w)
-  commit_sees c w s = go (goes_in c w) refl
-    where
-      go : (f : Bool) → goes_in c w ≡ f → Same (commit c w)
-      go true q = rw q s
-      go false q = rw q s
+  commit_sees c w s = by_test (goes_in c w) (λ q. rw q s) (λ q. rw q s)
 
   deed_sees : (h : ℕ) (d : Deed) (w : Work) → Same w → Same (done h d w)
   deed_sees h (Commits c) w s = commit_sees c w s
   deed_sees h (Sends to m) w s = turn_sees to (Give m) w tt s
-  deed_sees h SaysOk w s = s
   deed_sees h (Asks to message c) w s =
       notified_sees to (Waits c) message (noting (entry.Ask to message ∷ []) (turn_at c.asker SetAside w)) (turn_sees c.asker SetAside w tt s)
   deed_sees h (Releases asker) w s = turn_sees asker Release w tt s
   deed_sees h (Tells to message) w s = notified_sees to Removed message w s
   deed_sees h IsAnswered w s = desk_sees h (λ d. record d { notice = None }) w (λ d. refl) (λ d. refl) s
-  deed_sees h (Drops pid) w s = s
   deed_sees h (SetsErrors errors) w s = desk_sees h (λ d. record d { errors = errors }) w (λ d. refl) (λ d. refl) s
   deed_sees h (Orders message) w s = turn_sees h (Give (1, message)) (record w { core = record w.core { command = Some message } }) tt s
-  deed_sees h Hears w s = s
-  deed_sees h (GoesOn i) w s = s
-  deed_sees h (Ends e) w s = s
+  deed_sees h _ w s = s
 
   pub deeds_see : (h : ℕ) (deeds : List Deed) (w : Work) → Same w → Same (all_done h deeds w)
   deeds_see h [] w s = s
   deeds_see h (d ∷ deeds) w s = unless_lost Same (all_done h deeds) (done h d w) (λ v t. deeds_see h deeds v t) (deed_sees h d w s)
 
   pub lets_see : (h : ℕ) (w : Work) → Same w → Same (lets_go h w)
-  lets_see h w s = go (option_map_or (λ (p : Port). is_held p.side) (port_at w.ports h) false) refl
-    where
-      go : (f : Bool) → option_map_or (λ (p : Port). is_held p.side) (port_at w.ports h) false ≡ f → Same (lets_go h w)
-      go true q = rw q (turn_sees h (Hold false) w tt s)
-      go false q = rw q s
+  lets_see h w s = by_test (option_map_or (λ (p : Port). is_held p.side) (port_at w.ports h) false) (λ q. rw q (turn_sees h (Hold false) w tt s)) (λ q. rw q s)
 
 -- ## An end with messages
 
@@ -142,14 +128,12 @@ pub record HasFirst (ports : List Port) (h : ℕ) (m : Message) (messages : List
   pub got : port.side.got ≡ m ∷ messages
 
 pub has_first : (ports : List Port) (h : ℕ) (m : Message) (messages : List Message) → waiting_at ports h ≡ m ∷ messages → HasFirst ports h m messages
-has_first ports h m messages e = go (port_at ports h) refl
+has_first ports h m messages e = by_option (port_at ports h)
+    (λ q. let none : [] ≡ m ∷ messages = subst P q e in absurd (cc none))
+    (λ p q. record { port = p; here = q; got = subst P q e })
   where
     P : Option Port → Type 0
     P o = option_map_or (λ (p : Port). p.side.got) o [] ≡ m ∷ messages
-
-    go : (o : Option Port) → port_at ports h ≡ o → HasFirst ports h m messages
-    go None q = let none : [] ≡ m ∷ messages = subst P q e in absurd (cc none)
-    go (Some p) q = record { port = p; here = q; got = subst P q e }
 
 -- its own end, as it is changed
 pub own_changed : (h : ℕ) (f : Port → Port) → ((p : Port) → (f p).desk.host ≡ p.desk.host) → (ports : List Port) (p : Port) → port_at ports h ≡ Some p

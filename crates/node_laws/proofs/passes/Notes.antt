@@ -6,9 +6,10 @@ use Rattle.trace_model.specs.declared.entry.Entry.TheVariants as entry
 use Rattle.hci_tables.specs.declared.command.Command.{Command}
 use Rattle.link_laws.specs.machine.Machine.Turn.{Give, SetAside, Release}
 use Rattle.node_machine.specs.Parts.{Core, Port, Work, Deed}
-use Rattle.node_machine.specs.Parts.Deed.{Commits, Sends, SaysOk, Asks, Releases, Tells, IsAnswered, Drops, SetsErrors, Orders, Hears, GoesOn, Ends}
+use Rattle.node_machine.specs.Parts.Deed.{Commits, Asks, Releases, IsAnswered, SetsErrors, Hears, GoesOn}
 use Rattle.node_machine.specs.Carrying.{port_at, noted_of, turn_at, commit, done, all_done}
 use Rattle.node_laws.specs.passes.Noting.{noted_at, goes_in, noted_by_deed, noted_by_deeds}
+use Rattle.node_laws.proofs.Cases.{by_test}
 
 -- a block that is set aside or released isn't noted
 aside_none : (core : Core) (o : Option Port) → option_map_or (noted_of core SetAside) o [] ≡ []
@@ -20,30 +21,21 @@ release_none core None = refl
 release_none core (Some p) = refl
 
 commit_notes : (c : Command) (w : Work) → (commit c w).entries ≡ w.entries ++ noted_by_deed 0 (Commits c) w
-commit_notes c w = go (goes_in c w) refl
-  where
-    go : (b : Bool) → goes_in c w ≡ b → (commit c w).entries ≡ w.entries ++ noted_by_deed 0 (Commits c) w
-    go true q = rw q (append_assoc w.entries (entry.Command w.core.node c ∷ []) (entry.Cut w.core.node ∷ []))
-    go false q = rw q refl
+commit_notes c w = by_test (goes_in c w) (λ q. rw q (append_assoc w.entries (entry.Command w.core.node c ∷ []) (entry.Cut w.core.node ∷ []))) (λ q. rw q refl)
 
 -- one deed
 pub deed_notes : (h : ℕ) (d : Deed) (w : Work) → (done h d w).entries ≡ w.entries ++ noted_by_deed h d w
 deed_notes h (Commits c) w = commit_notes c w
-deed_notes h (Sends to m) w = refl
-deed_notes h SaysOk w = refl
 deed_notes h (Asks to message c) w =
     let more : List Entry = noted_at to (Give (1, message)) (turn_at c.asker SetAside w) in
     ap (λ es. ((w.entries ++ es) ++ entry.Ask to message ∷ []) ++ more) (aside_none w.core (port_at w.ports c.asker))
     ∙ (ap (λ es. (es ++ entry.Ask to message ∷ []) ++ more) (append-nil w.entries) ∙ append_assoc w.entries (entry.Ask to message ∷ []) more)
 deed_notes h (Releases asker) w = ap (λ es. w.entries ++ es) (release_none w.core (port_at w.ports asker))
-deed_notes h (Tells to message) w = refl
 deed_notes h IsAnswered w = sym (append-nil w.entries)
-deed_notes h (Drops pid) w = refl
 deed_notes h (SetsErrors errors) w = sym (append-nil w.entries)
-deed_notes h (Orders message) w = refl
 deed_notes h Hears w = sym (append-nil w.entries)
 deed_notes h (GoesOn i) w = sym (append-nil w.entries)
-deed_notes h (Ends e) w = refl
+deed_notes h _ w = refl
 
 -- deeds, one after another
 pub deeds_note : (h : ℕ) (deeds : List Deed) (w : Work) → (all_done h deeds w).entries ≡ w.entries ++ noted_by_deeds h deeds w

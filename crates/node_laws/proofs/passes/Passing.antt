@@ -16,6 +16,7 @@ use Rattle.node_laws.specs.passes.Passing.{BeginWithTurn, AreAlong, links_of_tur
 use Rattle.node_laws.specs.passes.Passing.{ComesTo, IsTurnSo}
 use Rattle.node_laws.specs.passes.Passing.{ArePassed}
 use Rattle.node_laws.specs.passes.Passing.ComesTo.{Begins, Handles, Holds, LetsGo}
+use Rattle.node_laws.proofs.Cases.{by_test}
 use Rattle.node_laws.proofs.passes.Notes.{deeds_note}
 use Rattle.node_laws.proofs.passes.Ends.{HasFirst, has_first, own_changed, deeds_see, SeesAt, Sees}
 use Rattle.node_laws.proofs.passes.Turnless.{reply_none}
@@ -38,29 +39,24 @@ holding_notes : (h : ℕ) (held : Bool) (w : Work) → Notes w (turn_at h (Hold 
 holding_notes h held w = record { entries = ap (λ es. w.entries ++ es) (hold_none w.core held (port_at w.ports h)); power = refl }
 
 pub lets_notes : (h : ℕ) (w : Work) → Notes w (lets_go h w) []
-lets_notes h w = go (option_map_or (λ (p : Port). is_held p.side) (port_at w.ports h) false) refl
-  where
-    go : (b : Bool) → option_map_or (λ (p : Port). is_held p.side) (port_at w.ports h) false ≡ b → Notes w (lets_go h w) []
-    go true q = rw q (holding_notes h false w)
-    go false q = rw q (record { entries = sym (append-nil w.entries); power = refl })
+lets_notes h w = by_test (option_map_or (λ (p : Port). is_held p.side) (port_at w.ports h) false)
+    (λ q. rw q (holding_notes h false w))
+    (λ q. rw q (record { entries = sym (append-nil w.entries); power = refl }))
 
 abbrev pub own_held : ℕ → ℕ × ℕ → Work → List Entry
 own_held h short w = cond (is_held_at w.ports h) [] (entry.Held (end_of_node w.core h) short.0 short.1 ∷ [])
 
 pub holds_notes : (h : ℕ) (short : ℕ × ℕ) (w : Work) → Notes w (holds_back h short w) (own_held h short w)
-holds_notes h short w = go (is_held_at w.ports h) refl
+holds_notes h short w = by_test (is_held_at w.ports h)
+    (λ q. rw q (holding_notes h true w))
+    (λ q. let a : Notes told (turn_at h (Hold true) told) [] = holding_notes h true told in
+    rw q (record { entries = a.entries ∙ append-nil (w.entries ++ one); power = a.power }))
   where
     one : List Entry
     one = entry.Held (end_of_node w.core h) short.0 short.1 ∷ []
 
     told : Work
     told = with_desk h (λ d. record d { holds = true }) (noting one w)
-
-    go : (b : Bool) → is_held_at w.ports h ≡ b → Notes w (holds_back h short w) (own_held h short w)
-    go true q = rw q (holding_notes h true w)
-    go false q =
-        let a : Notes told (turn_at h (Hold true) told) [] = holding_notes h true told in
-        rw q (record { entries = a.entries ∙ append-nil (w.entries ++ one); power = a.power })
 
 -- a message is the node's
 pub takes_entries : (h : ℕ) (m : Message) (w : Work) → (takes_up h m w).entries ≡ w.entries ++ entry.Turn (end_of_node w.core h) m.0 m.1 ∷ []
@@ -91,11 +87,7 @@ pub handles_sees : (h : ℕ) (m : Message) (messages : List Message) (deeds : Li
 handles_sees h m messages deeds w e = deeds_see h messages false h deeds (takes_up h m w) (takes_sees h m messages w e)
 
 pub link_is : (core : Core) (h : ℕ) → (end_of_node core h).link ≡ h
-link_is core h = go (core.node == 0) refl
-  where
-    go : (b : Bool) → (core.node == 0) ≡ b → (end_of_node core h).link ≡ h
-    go true q = rw q refl
-    go false q = rw q refl
+link_is core h = by_test (core.node == 0) (λ q. rw q refl) (λ q. rw q refl)
 
 pub along_more : (h : ℕ) (hosts links : List ℕ) → AreAlong hosts links → AreAlong (h ∷ hosts) links
 along_more h hosts [] a = tt
@@ -176,7 +168,14 @@ module _ (J : Work → Type 0) (lasts : LastsOverTurns J) where
         → ((v : Work) → J v → v.cut ≡ false → waiting_at v.ports h ≡ messages → Goes v (have_turns h messages v))
         → Goes w (unless_cut (have_turns h messages) (handles h m (deeds_of w.core w.ports h m) w))
     unfolding stops
-    handled w j on m messages waiting room next = go v.cut refl
+    handled w j on m messages waiting room next = by_test v.cut
+        (λ off. subst (λ u. ArePassed J (h ∷ hosts) w u)
+        (sym (ap (λ u. unless_cut (goes_through_ends hosts) u) (stays_cut (have_turns h messages) v off) ∙ stays_cut (goes_through_ends hosts) v off))
+        (more_of v (stops (h ∷ hosts) v off) (λ z. refl)))
+        (λ still. subst (λ u. Goes w u) (sym (uncut (have_turns h messages) v still))
+        (more_of (unless_cut (goes_through_ends hosts) (have_turns h messages v))
+        (next v (lasts.handled w h m messages j on waiting room still) still (handles_sees h m messages deeds w waiting).0)
+        (λ off. absurd (true≢false (sym off ∙ still)))))
       where
         deeds : List Deed
         deeds = deeds_of w.core w.ports h m
@@ -196,17 +195,6 @@ module _ (J : Work → Type 0) (lasts : LastsOverTurns J) where
         more_of u rest power =
             goes_further J lasts w v (entry.Turn (end_of_node w.core h) m.0 m.1 ∷ told) (handles_entries h m deeds w) (h ∷ hosts) u (h ∷ hosts) rest
             (turned_passed J lasts w j on h m messages waiting room rest.more rest.begin power) refl (along rest.more rest.along)
-
-        go : (b : Bool) → v.cut ≡ b → Goes w (unless_cut (have_turns h messages) v)
-        go true off =
-            subst (λ u. ArePassed J (h ∷ hosts) w u)
-            (sym (ap (λ u. unless_cut (goes_through_ends hosts) u) (stays_cut (have_turns h messages) v off) ∙ stays_cut (goes_through_ends hosts) v off))
-            (more_of v (stops (h ∷ hosts) v off) (λ z. refl))
-        go false still =
-            subst (λ u. Goes w u) (sym (uncut (have_turns h messages) v still))
-            (more_of (unless_cut (goes_through_ends hosts) (have_turns h messages v))
-            (next v (lasts.handled w h m messages j on waiting room still) still (handles_sees h m messages deeds w waiting).0)
-            (λ off. absurd (true≢false (sym off ∙ still))))
 
     pub turning : (messages : List Message) (w : Work) → J w → w.cut ≡ false → waiting_at w.ports h ≡ messages → Goes w (have_turns h messages w)
     turning [] w j on waiting = let_go w j on waiting

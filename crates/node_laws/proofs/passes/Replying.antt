@@ -19,6 +19,7 @@ use Rattle.node_machine.specs.Parts.About.{Waits, Removed}
 use Rattle.node_machine.specs.Parts.Deed.{Commits, Sends, SaysOk, Asks, Releases, Tells, IsAnswered, Drops, SetsErrors, Orders, Hears, GoesOn, Ends}
 use Rattle.node_machine.specs.Carrying.{noting, port_at, changed_if, with_desk, after_turn, noted_of, turn_at, notified, loses_power, keeps, commit, done}
 use Rattle.node_machine.specs.Carrying.{all_done, end_of_node}
+use Rattle.node_laws.proofs.Cases.{by_option, by_test}
 use Rattle.node_laws.proofs.steps.Ports.{changed_host}
 use Rattle.node_laws.proofs.telling.Accounts.{at_host}
 use Rattle.node_laws.proofs.telling.Away.{at_map, none_map}
@@ -34,11 +35,9 @@ session_in o = option_and_then (λ (p : Port). cond (is_up p.side.shdlc.phase) (
 
 pub session_map : (f : Port → Port) → ((p : Port) → (f p).desk.host ≡ p.desk.host) → ((p : Port) → session_in (Some (f p)) ≡ session_in (Some p))
     → (ports : List Port) (k : ℕ) → session_of_port (map f ports) k ≡ session_of_port ports k
-session_map f host same ports k = go (port_at ports k) refl
-  where
-    go : (o : Option Port) → port_at ports k ≡ o → session_of_port (map f ports) k ≡ session_of_port ports k
-    go None q = ap session_in (none_map f host ports k q) ∙ sym (ap session_in q)
-    go (Some p) q = ap session_in (at_map f host ports k p q) ∙ (same p ∙ sym (ap session_in q))
+session_map f host same ports k = by_option (port_at ports k)
+    (λ q. ap session_in (none_map f host ports k q) ∙ sym (ap session_in q))
+    (λ p q. ap session_in (at_map f host ports k p q) ∙ (same p ∙ sym (ap session_in q)))
 
 changed_session : (b : Bool) (f : Port → Port) (p : Port) → session_in (Some (f p)) ≡ session_in (Some p)
     → session_in (Some (changed_if b f p)) ≡ session_in (Some p)
@@ -68,51 +67,28 @@ notified_sessions j about message w k =
     ∙ turn_sessions j (Give (1, message)) w k
 
 commit_sessions : (c : Command) (w : Work) (k : ℕ) → session_of_port (commit c w).ports k ≡ session_of_port w.ports k
-commit_sessions c w k = go (goes_in c w) refl
-  where
-    go : (b : Bool) → goes_in c w ≡ b → session_of_port (commit c w).ports k ≡ session_of_port w.ports k
-    go true q = rw q refl
-    go false q = rw q refl
+commit_sessions c w k = by_test (goes_in c w) (λ q. rw q refl) (λ q. rw q refl)
 
 deed_sessions : (h : ℕ) (d : Deed) (w : Work) (k : ℕ) → session_of_port (done h d w).ports k ≡ session_of_port w.ports k
 deed_sessions h (Commits c) w k = commit_sessions c w k
 deed_sessions h (Sends to m) w k = turn_sessions to (Give m) w k
-deed_sessions h SaysOk w k = refl
 deed_sessions h (Asks to message c) w k =
     notified_sessions to (Waits c) message (noting (entry.Ask to message ∷ []) (turn_at c.asker SetAside w)) k ∙ turn_sessions c.asker SetAside w k
 deed_sessions h (Releases asker) w k = turn_sessions asker Release w k
 deed_sessions h (Tells to message) w k = notified_sessions to Removed message w k
 deed_sessions h IsAnswered w k = desk_sessions h (λ d. record d { notice = None }) w (λ d. refl) k
-deed_sessions h (Drops pid) w k = refl
 deed_sessions h (SetsErrors errors) w k = desk_sessions h (λ d. record d { errors = errors }) w (λ d. refl) k
 deed_sessions h (Orders message) w k = turn_sessions h (Give (1, message)) (record w { core = record w.core { command = Some message } }) k
-deed_sessions h Hears w k = refl
-deed_sessions h (GoesOn i) w k = refl
-deed_sessions h (Ends e) w k = refl
+deed_sessions h _ w k = refl
 
 -- ## Numbers
 
 commit_node : (c : Command) (w : Work) → (commit c w).core.node ≡ w.core.node
-commit_node c w = go (goes_in c w) refl
-  where
-    go : (b : Bool) → goes_in c w ≡ b → (commit c w).core.node ≡ w.core.node
-    go true q = rw q refl
-    go false q = rw q refl
+commit_node c w = by_test (goes_in c w) (λ q. rw q refl) (λ q. rw q refl)
 
 deed_node : (h : ℕ) (d : Deed) (w : Work) → (done h d w).core.node ≡ w.core.node
 deed_node h (Commits c) w = commit_node c w
-deed_node h (Sends to m) w = refl
-deed_node h SaysOk w = refl
-deed_node h (Asks to message c) w = refl
-deed_node h (Releases asker) w = refl
-deed_node h (Tells to message) w = refl
-deed_node h IsAnswered w = refl
-deed_node h (Drops pid) w = refl
-deed_node h (SetsErrors errors) w = refl
-deed_node h (Orders message) w = refl
-deed_node h Hears w = refl
-deed_node h (GoesOn i) w = refl
-deed_node h (Ends e) w = refl
+deed_node h _ w = refl
 
 -- ## Messages
 

@@ -12,6 +12,7 @@ use Rattle.node_machine.specs.Parts.{About, Desk, Port, Work, Deed}
 use Rattle.node_machine.specs.Parts.About.{Waits, Removed}
 use Rattle.node_machine.specs.Parts.Deed.{Commits, Sends, SaysOk, Asks, Releases, Tells, IsAnswered, Drops, SetsErrors, Orders, Hears, GoesOn, Ends}
 use Rattle.node_machine.specs.Carrying.{noting, port_at, changed_if, with_desk, after_turn, turn_at, notified, commit, done, needs, lack}
+use Rattle.node_laws.proofs.Cases.{by_option, by_test}
 use Rattle.node_laws.proofs.steps.Ports.{changed_host}
 use Rattle.node_laws.proofs.telling.Away.{at_map}
 use Rattle.node_laws.specs.passes.Noting.{goes_in, TakesMessage, AreTaken, IsNoneOf, GiveOnce}
@@ -45,11 +46,9 @@ has_room ports h m room p here up =
 
 more_spare : (f : Port → Port) → ((p : Port) → (f p).desk.host ≡ p.desk.host) → ((p : Port) → spare p.side ≤ spare (f p).side) → (ports : List Port) (k : ℕ)
     → spare_of ports k ≤ spare_of (map f ports) k
-more_spare f host more ports k = go (port_at ports k) refl
-  where
-    go : (o : Option Port) → port_at ports k ≡ o → spare_of ports k ≤ spare_of (map f ports) k
-    go None q = omega (arith, ap spare_in q)
-    go (Some p) q = omega (arith, ap spare_in q, ap spare_in (at_map f host ports k p q), more p)
+more_spare f host more ports k = by_option (port_at ports k)
+    (λ q. omega (arith, ap spare_in q))
+    (λ p q. omega (arith, ap spare_in q, ap spare_in (at_map f host ports k p q), more p))
 
 changed_more : (b : Bool) (f : Port → Port) (p : Port) → spare p.side ≤ spare (f p).side → spare p.side ≤ spare (changed_if b f p).side
 changed_more true f p q = q
@@ -90,11 +89,7 @@ notified_spare j about message w k off =
     let two = desk_spare j f (turn_at j (Give (1, message)) w) (λ d. refl) k in omega arith
 
 commit_spare : (c : Command) (w : Work) (k : ℕ) → spare_of w.ports k ≤ spare_of (commit c w).ports k
-commit_spare c w k = go (goes_in c w) refl
-  where
-    go : (b : Bool) → goes_in c w ≡ b → spare_of w.ports k ≤ spare_of (commit c w).ports k
-    go true q = rw q (same_most (spare_of w.ports k))
-    go false q = rw q (same_most (spare_of w.ports k))
+commit_spare c w k = by_test (goes_in c w) (λ q. rw q (same_most (spare_of w.ports k))) (λ q. rw q (same_most (spare_of w.ports k)))
 
 lack_first : (ports : List Port) (k n : ℕ) (later : List (ℕ × ℕ)) → lack ports ((k, n) ∷ later) ≡ None → (n ≤ spare_of ports k) × (lack ports later ≡ None)
 lack_first ports k n later none = go (nat_lt (spare_of ports k) n) refl none

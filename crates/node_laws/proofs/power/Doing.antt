@@ -23,6 +23,7 @@ use Rattle.node_machine.specs.Carrying.{end_of_number}
 use Rattle.node_machine.specs.Carrying.{notified, loses_power, keeps, commit, done, all_done}
 use Rattle.node_machine.specs.Turns.{deeds_of, handles, holds_back, lets_go, have_turns, goes_through_ends, passes}
 use Rattle.node_machine.specs.world.World.{node_of}
+use Rattle.node_laws.proofs.Cases.{by_test}
 use Rattle.node_laws.proofs.steps.Ports.{changed_host}
 use Rattle.node_laws.proofs.telling.Walks.{IsUncut, AreUncut}
 use Rattle.node_laws.proofs.telling.Powers.{entries_uncut}
@@ -144,7 +145,7 @@ module _ (k : ℕ) where
       (turn_runs j (Give (1, message)) w r)
 
   commit_fine : (c : Command) (w : Work) → Runs w → Fine (commit c w)
-  commit_fine c w r = go (goes_in c w) refl
+  commit_fine c w r = by_test (goes_in c w) (λ q. rw q (inr lost)) (λ q. rw q (inl (beside_runs begun (keeps c writes begun) refl refl refl refl noted)))
     where
       writes : List Write
       writes = commit_writes w.core.journal w.core.tables (body_of c)
@@ -163,10 +164,6 @@ module _ (k : ℕ) where
         own = noted.own;
         uncut = noted.uncut;
       }
-
-      go : (b : Bool) → goes_in c w ≡ b → Fine (commit c w)
-      go true q = rw q (inr lost)
-      go false q = rw q (inl (beside_runs begun (keeps c writes begun) refl refl refl refl noted))
 
   -- ## Deeds
 
@@ -207,11 +204,7 @@ module _ (k : ℕ) where
 
   -- the end of a node on the link with its own number is its own
   self_end : (core : Core) → node_of (end_of_node core core.node) ≡ core.node
-  self_end core = go (core.node == 0) refl
-    where
-      go : (b : Bool) → (core.node == 0) ≡ b → node_of (end_of_node core core.node) ≡ core.node
-      go true q = rw q (sym (eqb-true core.node 0 q))
-      go false q = rw q refl
+  self_end core = by_test (core.node == 0) (λ q. rw q (sym (eqb-true core.node 0 q))) (λ q. rw q refl)
 
   plain_mine : (h : ℕ) → IsEndOf h → Plain (IsMine h)
   plain_mine h is = record { sends = λ to x. tt; says_ok = tt; releases = λ asker. tt; is_answered = tt; drops = λ pid. is }
@@ -247,7 +240,10 @@ module _ (k : ℕ) where
       (desk_runs h (λ d. record d { holds = false }) (turn_at h FetchMessage told) (λ d. refl) (turn_runs h FetchMessage told noted))
 
   holds_fine : (h : ℕ) (short : ℕ × ℕ) (w : Work) → IsEndOf h → Runs w → Fine (holds_back h short w)
-  holds_fine h short w is r = go (is_held_at w.ports h) refl
+  holds_fine h short w is r = by_test (is_held_at w.ports h)
+      (λ q. rw q (inl (turn_runs h (Hold true) w r)))
+      (λ q. rw q (inl (turn_runs h (Hold true) (with_desk h (λ d. record d { holds = true }) told)
+      (desk_runs h (λ d. record d { holds = true }) told (λ d. refl) noted))))
     where
       told : Work
       told = noting (entry.Held (end_of_node w.core h) short.0 short.1 ∷ []) w
@@ -255,18 +251,10 @@ module _ (k : ℕ) where
       noted : Runs told
       noted = note_runs (entry.Held (end_of_node w.core h) short.0 short.1 ∷ []) w (at_own w.core h r.number is, tt) (tt, tt) r
 
-      go : (b : Bool) → is_held_at w.ports h ≡ b → Fine (holds_back h short w)
-      go true q = rw q (inl (turn_runs h (Hold true) w r))
-      go false q =
-          rw q (inl (turn_runs h (Hold true) (with_desk h (λ d. record d { holds = true }) told)
-          (desk_runs h (λ d. record d { holds = true }) told (λ d. refl) noted)))
-
   lets_fine : (h : ℕ) (w : Work) → Runs w → Fine (lets_go h w)
-  lets_fine h w r = go (option_map_or (λ (p : Port). is_held p.side) (port_at w.ports h) false) refl
-    where
-      go : (b : Bool) → option_map_or (λ (p : Port). is_held p.side) (port_at w.ports h) false ≡ b → Fine (lets_go h w)
-      go true q = rw q (inl (turn_runs h (Hold false) w r))
-      go false q = rw q (inl r)
+  lets_fine h w r = by_test (option_map_or (λ (p : Port). is_held p.side) (port_at w.ports h) false)
+      (λ q. rw q (inl (turn_runs h (Hold false) w r)))
+      (λ q. rw q (inl r))
 
   turns_fine : (h : ℕ) (messages : List Message) (w : Work) → IsEndOf h → Runs w → Fine (have_turns h messages w)
   turns_fine h [] w is r = lets_fine h w r

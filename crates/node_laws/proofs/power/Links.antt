@@ -6,15 +6,15 @@ use Rattle.registry.proofs.ValueLemmas.{AllByRecursion-append as all_append}
 use Rattle.swp_base.specs.declared.control_frames.Control.{Control}
 use Rattle.link_laws.specs.sessions.Sessions.{OnWire}
 use Rattle.link_laws.specs.machine.Machine.{Message, LinkEnd, Refused, Turn, Report, frames_out, give_refusal}
-use Rattle.link_laws.specs.machine.Machine.Turn.{Give, Hold, FetchMessage, SetAside, Release}
+use Rattle.link_laws.specs.machine.Machine.Turn.{Give}
 use Rattle.link_laws.specs.messages.Links.{Link, Comes, Loss, put}
 use Rattle.link_laws.specs.messages.Links.Ending.{GoesOut}
-use Rattle.link_laws.specs.messages.Links.Comes.{NextFrame, AsksReset, Starts, Stops, NoInput}
+use Rattle.link_laws.specs.messages.Links.Comes.{NextFrame}
 use Rattle.link_laws.specs.messages.Links.Loss.{TooMany}
 use Rattle.link_laws.specs.entries.Entries.{End as Side, Entry as Noted, far, if_so, told, sent_unless, turn_entry, first_lost, pushed_out}
 use Rattle.link_laws.specs.entries.Entries.{wire_with, put_entries}
 use Rattle.link_laws.specs.entries.Entries.{puts_entries, ending_entries}
-use Rattle.link_laws.specs.entries.Entries.Entry.{Up, Down, Active, GaveUp, Acked, Got, Sent, Emit, Took, Lost, Tick, Restarted, Cut}
+use Rattle.link_laws.specs.entries.Entries.Entry.{Up, Down, Active, GaveUp, Acked, Got, Sent, Emit, Took, Lost}
 use Rattle.history.specs.Steps.{end_of, entry_of, entries_for}
 use Rattle.node_machine.specs.world.World.{node_of, arrival}
 use Rattle.node_laws.proofs.power.Parts.{IsOwn, AreOwn}
@@ -34,10 +34,7 @@ IsOfSide who (Got s n m) = s ≡ who
 IsOfSide who (Sent s n m) = s ≡ who
 IsOfSide who (Emit s frame) = s ≡ who
 IsOfSide who (Took s frame) = s ≡ who
-IsOfSide who (Lost s frame why) = Unit {0}
-IsOfSide who Tick = Unit {0}
-IsOfSide who (Restarted s) = Unit {0}
-IsOfSide who (Cut s) = Unit {0}
+IsOfSide who _ = Unit {0}
 
 abbrev pub AreOfSide : Side → List Noted → Type 0
 AreOfSide who xs = AllByRecursion (IsOfSide who) xs
@@ -57,9 +54,7 @@ module _ (k h : ℕ) (who : Side) (own : node_of (end_of h who) ≡ k) where
   one_own (Emit s frame) a = (at s a, tt)
   one_own (Took s frame) a = (at s a, tt)
   one_own (Lost s frame why) a = (tt, tt)
-  one_own Tick a = tt
-  one_own (Restarted s) a = tt
-  one_own (Cut s) a = tt
+  one_own _ a = tt
 
   pub links_own : (xs : List Noted) → AreOfSide who xs → AreOwn k (entries_for h xs)
   links_own [] a = tt
@@ -90,10 +85,7 @@ sent_of_side (Some why) who n m = tt
 
 pub turn_of_side : (who : Side) (n : ℕ) (e : LinkEnd) (t : Turn) → AreOfSide who (turn_entry who n e t)
 turn_of_side who n e (Give m) = sent_of_side (give_refusal e m) who n m
-turn_of_side who n e (Hold held) = tt
-turn_of_side who n e FetchMessage = tt
-turn_of_side who n e SetAside = tt
-turn_of_side who n e Release = tt
+turn_of_side who n e _ = tt
 
 lost_of_side : (who s : Side) (why : Loss) (xs : List OnWire) → AreOfSide who (first_lost s why xs)
 lost_of_side who s why [] = tt
@@ -125,7 +117,4 @@ arrival_of_side who l NextFrame = go l.to_controller
     go : (xs : List OnWire) → AreOfSide who (first xs)
     go [] = tt
     go (x ∷ xs) = (refl, tt)
-arrival_of_side who l (AsksReset window) = tt
-arrival_of_side who l (Starts value) = tt
-arrival_of_side who l Stops = tt
-arrival_of_side who l NoInput = tt
+arrival_of_side who l _ = tt

@@ -26,6 +26,7 @@ use Rattle.node_machine.specs.Node.{after_sessions, synced, steps}
 use Rattle.node_machine.specs.Node.NodeInput.{AtEnd, TimePasses}
 use Rattle.node_machine.specs.world.World.{node_of, frames_noted}
 use Rattle.node_laws.specs.kept.Books.{hosts_of_ends}
+use Rattle.node_laws.proofs.Cases.{by_option, by_test}
 use Rattle.node_laws.proofs.kept.Plainly.{hosts_map}
 use Rattle.node_laws.proofs.steps.Ports.{come_host, forgets_host, sessions_node, without_host}
 use Rattle.node_laws.proofs.telling.Walks.{IsUncut, AreUncut}
@@ -69,18 +70,10 @@ module _ (k : ℕ) where
   at_uncut core p (Some i) = entries_uncut p.desk.host (told (own_side core) p.session (report p.side i) (whole_acked (after_input p.side i)))
 
   late_told : (core : Core) (p : Port) → core.node ≡ k → IsEndOf k p.desk.host → AreOwn k (told_late core p)
-  late_told core p number is = go (is_late p) refl
-    where
-      go : (b : Bool) → is_late p ≡ b → AreOwn k (told_late core p)
-      go true q = rw q (at_told core p (Some (Reset None)) number is)
-      go false q = rw q tt
+  late_told core p number is = by_test (is_late p) (λ q. rw q (at_told core p (Some (Reset None)) number is)) (λ q. rw q tt)
 
   late_uncut : (core : Core) (p : Port) → AreUncut (told_late core p)
-  late_uncut core p = go (is_late p) refl
-    where
-      go : (b : Bool) → is_late p ≡ b → AreUncut (told_late core p)
-      go true q = rw q (at_uncut core p (Some (Reset None)))
-      go false q = rw q tt
+  late_uncut core p = by_test (is_late p) (λ q. rw q (at_uncut core p (Some (Reset None)))) (λ q. rw q tt)
 
   flat_own : (f : Port → List Entry) (ports : List Port) → AreEnds k ports → ((p : Port) → IsEndOf k p.desk.host → AreOwn k (f p))
       → AreOwn k (flat_map f ports)
@@ -163,17 +156,13 @@ module _ (k : ℕ) where
   either_mine false d a = tt
 
   synced_mine : (core : Core) (input : NodeInput) (p : Port) → AreMine (synced core input p)
-  synced_mine core input p = go (input_at input p) refl
+  synced_mine core input p = by_option (input_at input p) (λ q. rw q tt) (λ i q. by i (report p.side i).sync refl q)
     where
       by : (i : LinkInput) (o : Option ℕ) → (report p.side i).sync ≡ o → input_at input p ≡ Some i → AreMine (synced core input p)
       by i None e q = rw (q, e) tt
       by i (Some id) e q =
           rw (q, e) (either_mine (not (is_kept_sync core.tables.syncs p.desk.host id) && finds_room core (Sync p.desk.host id))
           (Commits (Sync p.desk.host id) ∷ []) (tt, tt))
-
-      go : (o : Option LinkInput) → input_at input p ≡ o → AreMine (synced core input p)
-      go None q = rw q tt
-      go (Some i) q = by i (report p.side i).sync refl q
 
   -- ## A step
 
@@ -218,12 +207,8 @@ module _ (k : ℕ) where
 -- ## Frames
 
 pub frames_own : (k : ℕ) (who : Side) (h : ℕ) (l : Link) (v : Work) → node_of (end_of h who) ≡ k → AreOwn k (frames_noted who h l v)
-frames_own k who h l v at = by v.cut refl
-  where
-    by : (b : Bool) → v.cut ≡ b → AreOwn k (frames_noted who h l v)
-    by true off = subst (AreOwn k) (sym (frames_none who h l v off)) tt
-    by false on = go (port_at v.ports h) refl
-      where
-        go : (o : Option Port) → port_at v.ports h ≡ o → AreOwn k (frames_noted who h l v)
-        go None q = rw q tt
-        go (Some p) q = rw (q, on) (links_own k h who at (ending_entries who l p.side GoesOut) (out_of_side who l p.side))
+frames_own k who h l v at = by_test v.cut
+    (λ off. subst (AreOwn k) (sym (frames_none who h l v off)) tt)
+    (λ on. by_option (port_at v.ports h)
+    (λ q. rw q tt)
+    (λ p q. rw (q, on) (links_own k h who at (ending_entries who l p.side GoesOut) (out_of_side who l p.side))))

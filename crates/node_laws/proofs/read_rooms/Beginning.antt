@@ -6,7 +6,7 @@ use Rattle.trace_model.specs.declared.entry.Entry.{Entry}
 use Rattle.link_laws.specs.sessions.Sessions.{OnWire}
 use Rattle.link_laws.specs.machine.Machine.{LinkEnd, LinkInput, report, whole_acked, after_input}
 use Rattle.link_laws.specs.messages.Links.{NumberedEnd, Link, Comes, number_of}
-use Rattle.link_laws.specs.messages.Links.Comes.{NextFrame, AsksReset, Starts, Stops, NoInput}
+use Rattle.link_laws.specs.messages.Links.Comes.{NextFrame}
 use Rattle.link_laws.specs.entries.Entries.{End as Side, Entry as Noted}
 use Rattle.link_laws.specs.entries.Entries.End.{Controller}
 use Rattle.link_laws.proofs.entries.Noting.{FramesFor}
@@ -52,10 +52,7 @@ arrival_clear who l NextFrame = go l.to_controller
     go : (w : List OnWire) → AreClear (arrival who (record l { to_controller = w }) NextFrame)
     go [] = tt
     go (x ∷ xs) = (tt, tt)
-arrival_clear who l (AsksReset window) = tt
-arrival_clear who l (Starts value) = tt
-arrival_clear who l Stops = tt
-arrival_clear who l NoInput = tt
+arrival_clear who l _ = tt
 
 coming_clear : (who : Side) (h : NumberedEnd) (o : Option LinkInput) → AreClear (told_coming who h o)
 coming_clear who h None = tt
@@ -86,10 +83,7 @@ module _ (t : List Entry) (h : ℕ) (who : Side) (l : Link) (comes : Comes) (o :
 -- what is known of a frame that is taken
 pub frames_for : (l : Link) (comes : Comes) → Before l → FramesFor comes l []
 frames_for l NextFrame b = frame_facts l [] tt b
-frames_for l (AsksReset window) b = tt
-frames_for l (Starts value) b = tt
-frames_for l Stops b = tt
-frames_for l NoInput b = tt
+frames_for l _ b = tt
 
 -- ## All ends
 

@@ -13,6 +13,7 @@ use Rattle.history.specs.Steps.{entries_for}
 use Rattle.node_machine.specs.Parts.{Desk, Core, Port, Work}
 use Rattle.node_machine.specs.Carrying.{own_side, noting, port_at, changed_if, with_desk, after_turn, noted_of, turn_at, loses_power}
 use Rattle.node_laws.specs.telling.Telling.{of_link}
+use Rattle.node_laws.proofs.Cases.{by_option}
 use Rattle.node_laws.proofs.telling.Walks.{AreSilent, AreUncut}
 use Rattle.node_laws.proofs.telling.Powers.{AreClear, uncut-append, entries_uncut}
 use Rattle.node_laws.proofs.telling.Shapes.{clear-append, clear_turns}
@@ -94,11 +95,9 @@ record WasPort (ports : List Port) (h : ℕ) : Type 0 where
 
 was_port : (f : Port → Port) → ((p : Port) → (f p).desk.host ≡ p.desk.host) → (ports : List Port) (h : ℕ) (p : Port) → port_at (map f ports) h ≡ Some p
     → WasPort ports h
-was_port f keeps ports h p q = go (port_at ports h) refl
-  where
-    go : (o : Option Port) → port_at ports h ≡ o → WasPort ports h
-    go None e = let z : None ≡ Some p = sym (none_map f keeps ports h e) ∙ q in absurd (cc z)
-    go (Some x) e = record { port = x; here = e }
+was_port f keeps ports h p q = by_option (port_at ports h)
+    (λ e. let z : None ≡ Some p = sym (none_map f keeps ports h e) ∙ q in absurd (cc z))
+    (λ x e. record { port = x; here = e })
 
 module _ (t : List Entry) (who : Side) where
   abbrev Of : Work → Type 0

@@ -40,12 +40,10 @@ next_came t who l i (x ∷ xs) q frames a =
 
 pub has_come_so : (t : List Noted) (who : Side) (l : Link) (comes : Comes) (o : Option LinkInput) → input_of l comes ≡ o → IsStep comes o
     → FramesFor comes l [] → Says t who l.controller → Came t who l comes o
-has_come_so t who l NextFrame None q c frames a = absurd c
 has_come_so t who l NextFrame (Some i) q c frames a = next_came t who l i l.to_controller q frames a
 has_come_so t who l NoInput None q c frames a =
     record { end = l.controller; side = refl; number = refl; says = says_silent t [] who l.controller (λ y n. refl) (λ s. refl) a }
 has_come_so t who l NoInput (Some i) q c frames a = absurd (cc q)
-has_come_so t who l (AsksReset window) None q c frames a = absurd c
 has_come_so t who l (AsksReset window) (Some i) q c frames a =
     let j : LinkInput = Reset window in
     let is : j ≡ i = cc in
@@ -56,7 +54,6 @@ has_come_so t who l (AsksReset window) (Some i) q c frames a =
       number = refl;
       says = says_plain t who l.controller j (reset_so l.controller.side window a.sound) refl (sound_input l.controller.side j tt a.sound) a;
     })
-has_come_so t who l (Starts value) None q c frames a = absurd c
 has_come_so t who l (Starts value) (Some i) q c frames a =
     let j : LinkInput = Start value in
     let is : j ≡ i = cc in
@@ -67,7 +64,7 @@ has_come_so t who l (Starts value) (Some i) q c frames a =
       number = refl;
       says = says_plain t who l.controller j (start_so l.controller.side value a.sound) refl (sound_input l.controller.side j tt a.sound) a;
     })
-has_come_so t who l Stops None q c frames a = absurd c
+has_come_so t who l _ None q c frames a = absurd c
 has_come_so t who l Stops (Some i) q c frames a =
     let is : Stop ≡ i = cc in
     let Q : LinkInput → Type 0 = λ z. Came t who l Stops (Some z) in

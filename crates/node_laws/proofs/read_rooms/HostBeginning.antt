@@ -1,5 +1,5 @@
 -- What is known of the end of a host as it begins to go through its messages in a step.
-use Rattle.std.proofs.Common.{◌≡◌, ℕ, ◌==◌, Bool, true, false, cond, List, [], ◌∷◌, Some, None, map, refl, ap, sym, subst, ◌∙◌}
+use Rattle.std.proofs.Common.{◌≡◌, ℕ, ◌==◌, false, cond, List, [], ◌∷◌, Some, None, map, refl, ap, sym, subst, ◌∙◌}
 use Rattle.std.proofs.lemmas.Bool.{eqb-true}
 use Rattle.trace_model.specs.declared.entry.Entry.{Entry}
 use Rattle.link_laws.specs.machine.Machine.{LinkInput}
@@ -13,6 +13,7 @@ use Rattle.node_machine.specs.Node.{input_at, has_come, all_come, forgets, witho
 use Rattle.node_machine.specs.Node.NodeInput.{AtEnd}
 use Rattle.node_machine.specs.world.World.{Site, input_of, near_end_in, arrival}
 use Rattle.node_laws.specs.kept.Books.{hosts_of_ends}
+use Rattle.node_laws.proofs.Cases.{by_test}
 use Rattle.node_laws.proofs.kept.Plainly.{hosts_map}
 use Rattle.node_laws.proofs.links.Worlds.{IsFineSite, near_end_clean, ports_fine}
 use Rattle.node_laws.specs.telling.Telling.{HasEnds}
@@ -38,14 +39,10 @@ use Rattle.node_laws.specs.passes.Steps.{comes_to_pass}
 pub only_end : (ports : List Port) (n h : ℕ) (p : Port) → hosts_of_ends ports ≡ n ∷ [] → port_at ports h ≡ Some p → n ≡ h
 only_end [] n h p e q = absurd (cc q)
 only_end (x ∷ y ∷ ports) n h p e q = absurd (cc e)
-only_end (x ∷ []) n h p e q = go (x.desk.host == h) refl
+only_end (x ∷ []) n h p e q = by_test (x.desk.host == h) (λ f. sym one ∙ eqb-true x.desk.host h f) (λ f. let is : None ≡ Some p = rw f at q in absurd (cc is))
   where
     one : x.desk.host ≡ n
     one = cc
-
-    go : (b : Bool) → (x.desk.host == h) ≡ b → n ≡ h
-    go true f = sym one ∙ eqb-true x.desk.host h f
-    go false f = let is : None ≡ Some p = rw f at q in absurd (cc is)
 
 module _ (t : List Entry) (s : Site) (fine : IsFineSite s) (told : IsLinkTold s.host s.link t) (r : Running) (runs : s.node ≡ Some r)
     (number : (s.host == 0) ≡ false) (node : HasEnds s.host (s.host ∷ []) r) where

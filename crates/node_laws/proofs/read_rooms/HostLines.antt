@@ -1,5 +1,5 @@
 -- Of hosts in worlds behind the events of a history.
-use Rattle.std.proofs.Common.{◌≡◌, ℕ, ◌==◌, false, List, [], ◌∷◌, ◌++◌, Option, Some, None, refl, sym, subst, append-nil}
+use Rattle.std.proofs.Common.{◌≡◌, ℕ, ◌==◌, false, List, [], ◌∷◌, ◌++◌, Some, None, refl, sym, subst, append-nil}
 use Rattle.trace_model.specs.declared.entry.Entry.{Entry}
 use Rattle.link_laws.specs.machine.Machine.{LinkInput}
 use Rattle.link_laws.specs.machine.Machine.LinkInput.{Start}
@@ -16,6 +16,7 @@ use Rattle.node_machine.specs.world.World.{after_controller}
 use Rattle.node_machine.specs.world.World.{controller_does, all_aged, controller_ticks, hosts_tick, comes_at, end_c}
 use Rattle.node_machine.specs.world.Lines.{Occurrence}
 use Rattle.node_machine.specs.world.NodeHistories.{entries_in}
+use Rattle.node_laws.proofs.Cases.{by_option}
 use Rattle.node_laws.proofs.links.Works.{steps_fine}
 use Rattle.node_laws.proofs.links.Worlds.{IsFineSite, IsFineWorld, controller_fine}
 use Rattle.node_laws.specs.telling.Telling.{HasEnds, IfItRuns, IsOrderly}
@@ -73,7 +74,7 @@ module _ (hosts : List ℕ) (os : List Occurrence) (w : NodeWorld) (a : IsSo hos
     near_fine = controller_fine w h (Starts power) f tt (λ v fine. steps_fine (AtEnd h (Start power)) v fine) a.well.fine
 
     near_told : (s : Site) → site_at near.0.sites h ≡ Some s → IsLinkTold h s.link (entries_in os ++ near.1)
-    near_told s = go w.controller refl
+    near_told s = by_option w.controller (λ e. subst Goal (sym (off_is e)) off_goal) (λ r e. subst Goal (sym (on_is r e)) (on_goal r e))
       where
         Goal : NodeWorld × List Entry → Type 0
         Goal z = site_at z.0.sites h ≡ Some s → IsLinkTold h s.link (entries_in os ++ z.1)
@@ -101,10 +102,6 @@ module _ (hosts : List ℕ) (os : List Occurrence) (w : NodeWorld) (a : IsSo hos
             near_step w (entries_in os) (watches of_none os) a.well a.each h (Starts power) (Start power) tt refl r e h x was.there in
             let P : Site → Type 0 = λ z. IsLinkTold h z.link (entries_in os ++ u) in
             subst P was.is (told_more h x.link event (entries_in os) u n (a.each h x was.there).told)
-
-        go : (o : Option Running) → w.controller ≡ o → Goal (controller_does w h (Starts power) f)
-        go None e = subst Goal (sym (off_is e)) off_goal
-        go (Some r) e = subst Goal (sym (on_is r e)) (on_goal r e)
 
     pub activated_read : (s : Site) → site_at near.0.sites h ≡ Some s → (r : Running) → s.node ≡ Some r → (sync : ℕ)
         → HoldsInStep (ArePortsRead Host (entries_in os ++ near.1)) (AtEnd h (Start sync)) (host_begins_step s r (Starts sync))

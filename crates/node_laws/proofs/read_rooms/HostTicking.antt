@@ -1,6 +1,6 @@
 -- What is known of the end of a host as it begins to go through its messages in its tick, behind the ticks of the controller and of other
 -- hosts.
-use Rattle.std.proofs.Common.{◌≡◌, ℕ, ◌==◌, Bool, true, false, List, [], ◌∷◌, ◌++◌, Option, Some, None, map, refl, ap, sym, subst, ◌∙◌, append-nil}
+use Rattle.std.proofs.Common.{◌≡◌, ℕ, ◌==◌, Bool, true, false, List, [], ◌∷◌, ◌++◌, Some, None, map, refl, ap, sym, subst, ◌∙◌, append-nil}
 use Rattle.std.proofs.Common.{append_assoc}
 use Rattle.std.specs.Prelude.{is_some}
 use Rattle.std.specs.List.{AllByRecursion}
@@ -29,6 +29,7 @@ use Rattle.node_machine.specs.Node.NodeInput.{TimePasses}
 use Rattle.node_machine.specs.world.World.{Site, NodeWorld, site_at, all_aged, controller_ticks, hosts_tick}
 use Rattle.node_laws.specs.kept.Books.{hosts_of_ends}
 use Rattle.node_laws.specs.kept.Hosts.{AreDifferent}
+use Rattle.node_laws.proofs.Cases.{by_option}
 use Rattle.node_laws.proofs.kept.Plainly.{hosts_map}
 use Rattle.node_laws.proofs.links.Got.{Clean}
 use Rattle.node_laws.proofs.links.Sites.{clf_line, can_end}
@@ -250,7 +251,11 @@ module _ (w : NodeWorld) (t : List Entry) (orderly : IsOrderly w) (fine : IsFine
         first_all (λ (s : Site). IfItRuns s.host (s.host ∷ []) s.node) before (x ∷ behind) (subst A split near_well.nodes)
 
     pub host_tick_read : HoldsInStep (ArePortsRead Host (t ++ ((all_aged w).1 ++ (near.1 ++ (hosts_tick before).1)))) TimePasses (host_tick_begins x r)
-    host_tick_read = go (site_at w.sites x.host) refl
+    host_tick_read = by_option (site_at w.sites x.host)
+        (λ e. let none : None ≡ Some x =
+        sym (near_none old x.host (site_none (λ (s : Site). record s { link = aged s.link }) (λ s. refl) w.sites x.host e)) ∙ there in
+        absurd (cc none))
+        (λ s e. some s e runs)
       where
         all : List Entry
         all = t ++ ((all_aged w).1 ++ (near.1 ++ (hosts_tick before).1))
@@ -269,10 +274,3 @@ module _ (w : NodeWorld) (t : List Entry) (orderly : IsOrderly w) (fine : IsFine
             (step_read Host (front x.host s found before others numbers nodes) TimePasses (host_tick_begins z r)
             (host_tick_carried x.host s found before others numbers nodes r q)) in
             subst Goal is own
-
-        go : (o : Option Site) → site_at w.sites x.host ≡ o → HoldsInStep (ArePortsRead Host all) TimePasses (host_tick_begins x r)
-        go None e =
-            let none : None ≡ Some x =
-            sym (near_none old x.host (site_none (λ (s : Site). record s { link = aged s.link }) (λ s. refl) w.sites x.host e)) ∙ there in
-            absurd (cc none)
-        go (Some s) e = some s e runs

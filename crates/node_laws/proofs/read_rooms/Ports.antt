@@ -4,7 +4,7 @@ use Rattle.std.specs.Prelude.{if◌then◌else◌, drop}
 use Rattle.trace_model.specs.declared.entry.Entry.{Entry}
 use Rattle.trace_model.specs.declared.line.End.{End}
 use Rattle.shdlc_core.specs.declared.answers.LinkState.{LinkState}
-use Rattle.shdlc_core.specs.declared.answers.LinkState.TheVariants.{Up, Waiting, Down}
+use Rattle.shdlc_core.specs.declared.answers.LinkState.TheVariants.{Up}
 use Rattle.link_laws.specs.sessions.Sessions.{is_up}
 use Rattle.link_laws.specs.machine.Machine.{LinkEnd, spare, whole_acked}
 use Rattle.link_laws.specs.messages.Links.{NumberedEnd, number_of, talk_of, AreSendableTurns}
@@ -34,8 +34,7 @@ own_is k = go k.side.shdlc.phase refl
   where
     go : (p : LinkState) → k.side.shdlc.phase ≡ p → own_session k ≡ session_at k.side (number_of k)
     go Up q = rw q refl
-    go Waiting q = rw q refl
-    go Down q = rw q refl
+    go _ q = rw q refl
 
 node_is : (h : ℕ) (who : Side) → node_of (end_of h who) ≡ node_on h who
 node_is h Controller = refl

@@ -17,6 +17,7 @@ use Rattle.node_machine.specs.Node.{has_come, all_come, with_older, is_late, res
 use Rattle.node_machine.specs.Node.NodeInput.{TimePasses}
 use Rattle.node_machine.specs.world.World.{Site, NodeWorld, site_at, link_to, all_aged}
 use Rattle.node_laws.specs.kept.Books.{hosts_of_ends}
+use Rattle.node_laws.proofs.Cases.{by_test}
 use Rattle.node_laws.proofs.kept.Plainly.{hosts_map}
 use Rattle.node_laws.proofs.links.Worlds.{IsFineWorld, near_clean, ports_fine}
 use Rattle.node_laws.specs.telling.Telling.{HasEnds, hosts_in, IsOrderly, IfDue, IsTimely}
@@ -120,17 +121,13 @@ module _ (w : NodeWorld) (t : List Entry) (orderly : IsOrderly w) (fine : IsFine
     number = host_number w h s orderly found
 
     carries_tick : Carries since h Controller begun
-    carries_tick = go (is_late (older begins.port)) refl
-      where
-        go : (b : Bool) → is_late (older begins.port) ≡ b → Carries since h Controller begun
-        go false q =
-            carries_from since h Controller (aged s.link) NoInput (Some Tick) false notes begun number noted
-            (has_ticked_so notes Controller (aged s.link) says) (in_time h Controller (aged s.link) start begins come.ports q)
-        go true q =
-            carries_from since h Controller (aged s.link) (AsksReset None) (Some (Reset None)) true notes begun number noted
-            (has_come_so notes Controller (aged s.link) (AsksReset None) (Some (Reset None)) refl tt tt says)
-            (too_late h Controller (aged s.link) start begins come.ports q
-            (up_late old h (older_site s) its_orderly (old_found w h s orderly found (timely h s found)) r runs node due true q))
+    carries_tick = by_test (is_late (older begins.port))
+        (λ q. carries_from since h Controller (aged s.link) (AsksReset None) (Some (Reset None)) true notes begun number noted
+        (has_come_so notes Controller (aged s.link) (AsksReset None) (Some (Reset None)) refl tt tt says)
+        (too_late h Controller (aged s.link) start begins come.ports q
+        (up_late old h (older_site s) its_orderly (old_found w h s orderly found (timely h s found)) r runs node due true q)))
+        (λ q. carries_from since h Controller (aged s.link) NoInput (Some Tick) false notes begun number noted
+        (has_ticked_so notes Controller (aged s.link) says) (in_time h Controller (aged s.link) start begins come.ports q))
 
   begun_hosts : map (λ (d : Desk). d.host) r.desks ≡ hosts_in old.sites → hosts_of_ends begun.ports ≡ hosts_in old.sites
   begun_hosts ends =

@@ -1,5 +1,5 @@
 -- Whatever happens to a world, each notice of a creation that the controller sends names the host that it goes to.
-use Rattle.std.proofs.Common.{◌≡◌, ◌⊎◌, inl, inr, ℕ, Bool, true, false, List, [], ◌∷◌, ◌++◌, length, sym, refl, ap, ◌∙◌, subst, append_assoc, append-nil}
+use Rattle.std.proofs.Common.{◌≡◌, ◌⊎◌, inl, inr, ℕ, true, false, List, [], ◌∷◌, ◌++◌, length, sym, refl, ap, ◌∙◌, subst, append_assoc, append-nil}
 use Rattle.std.specs.Prelude.{Option, Some, None}
 use Rattle.std.specs.List.{AllByRecursion, flat_map}
 use Rattle.std.proofs.lemmas.Bool.{cases_Bool}
@@ -27,6 +27,7 @@ use Rattle.node_machine.specs.world.Lines.{Occurrence}
 use Rattle.node_machine.specs.world.NodeHistories.{NodeHistory, FollowsNodes, entries_in, node_entries, occurrences_in, steps_from}
 use Rattle.node_laws.specs.kept.Hosts.{AreHosts, IsFew, IsSentByHost}
 use Rattle.node_laws.specs.telling.Telling.{world_behind}
+use Rattle.node_laws.proofs.Cases.{by_option, by_test}
 use Rattle.node_laws.proofs.telling.Lasting.{Any, AnyLine, AreCaused, all_any, all_lines, events_of_steps, lines_caused}
 use Rattle.registry.proofs.ValueLemmas.{AllByRecursion-append}
 use Rattle.node_laws.proofs.notices.Far.{far_flat}
@@ -45,13 +46,9 @@ join : (xs ys : List Entry) → AreNamed xs → AreNamed ys → AreNamed (xs ++ 
 join xs ys a b = AllByRecursion-append IsNamed xs ys a b
 
 boots_named : (w : NodeWorld) (n : ℕ) → AreNamed (boots w n).1
-boots_named w n = go (fails_within (length (boot_writes m.content)) m.plan) refl where
+boots_named w n = by_test (fails_within (length (boot_writes m.content)) m.plan) (λ e. rw e (tt, tt)) (λ e. rw e (tt, tt)) where
   m : Memory
   m = memory_at w n
-
-  go : (b : Bool) → fails_within (length (boot_writes m.content)) m.plan ≡ b → AreNamed (boots w n).1
-  go true e = rw e (tt, tt)
-  go false e = rw e (tt, tt)
 
 module _ (hosts : List ℕ) (are : AreHosts hosts) (t : List Entry) (w : NodeWorld) (k : KeepsBetween hosts t w) where
   good : AreGood w.sites
@@ -113,37 +110,34 @@ module _ (hosts : List ℕ) (are : AreHosts hosts) (t : List Entry) (w : NodeWor
   -- ## Time
 
   near_tick_named : AreNamed (controller_ticks (all_aged w).0).1
-  near_tick_named = by_node w.controller refl where
-    old : NodeWorld
-    old = (all_aged w).0
+  near_tick_named = by_option w.controller
+      (λ e. subst AreNamed (sym (off_is e)) tt)
+      (λ r e. subst AreNamed (sym (on_is r e)) (join (c r).entries (frames r) (tick_named hosts are t w k r e) (far_named (frames r)
+      (far_flat (λ (s : Site). frames_noted Controller s.host s.link (c r)) (λ s. frames_quiet Controller s.host s.link (c r)) old.sites)))) where
+        old : NodeWorld
+        old = (all_aged w).0
 
-    off_of : (v : NodeWorld) → v.controller ≡ None → (controller_ticks v).1 ≡ []
-    off_of v e = rw e refl
+        off_of : (v : NodeWorld) → v.controller ≡ None → (controller_ticks v).1 ≡ []
+        off_of v e = rw e refl
 
-    off_is : w.controller ≡ None → (controller_ticks old).1 ≡ []
-    off_is e = off_of old e
+        off_is : w.controller ≡ None → (controller_ticks old).1 ≡ []
+        off_is e = off_of old e
 
-    c : Running → Work
-    c r = steps TimePasses (as_it_ticks w r)
+        c : Running → Work
+        c r = steps TimePasses (as_it_ticks w r)
 
-    frames : Running → List Entry
-    frames r = flat_map (λ (s : Site). frames_noted Controller s.host s.link (c r)) old.sites
+        frames : Running → List Entry
+        frames r = flat_map (λ (s : Site). frames_noted Controller s.host s.link (c r)) old.sites
 
-    step_of : NodeWorld → Running → Work
-    step_of v r = steps TimePasses (work_of r v.memory.plan (λ h. (link_to v.sites h).controller) [])
+        step_of : NodeWorld → Running → Work
+        step_of v r = steps TimePasses (work_of r v.memory.plan (λ h. (link_to v.sites h).controller) [])
 
-    on_of : (v : NodeWorld) (r : Running) → v.controller ≡ Some r
-        → (controller_ticks v).1 ≡ (step_of v r).entries ++ flat_map (λ (s : Site). frames_noted Controller s.host s.link (step_of v r)) v.sites
-    on_of v r e = rw e refl
+        on_of : (v : NodeWorld) (r : Running) → v.controller ≡ Some r
+            → (controller_ticks v).1 ≡ (step_of v r).entries ++ flat_map (λ (s : Site). frames_noted Controller s.host s.link (step_of v r)) v.sites
+        on_of v r e = rw e refl
 
-    on_is : (r : Running) → w.controller ≡ Some r → (controller_ticks old).1 ≡ (c r).entries ++ frames r
-    on_is r e = on_of old r e
-
-    by_node : (o : Option Running) → w.controller ≡ o → AreNamed (controller_ticks old).1
-    by_node None e = subst AreNamed (sym (off_is e)) tt
-    by_node (Some r) e =
-        subst AreNamed (sym (on_is r e)) (join (c r).entries (frames r) (tick_named hosts are t w k r e) (far_named (frames r)
-        (far_flat (λ (s : Site). frames_noted Controller s.host s.link (c r)) (λ s. frames_quiet Controller s.host s.link (c r)) old.sites)))
+        on_is : (r : Running) → w.controller ≡ Some r → (controller_ticks old).1 ≡ (c r).entries ++ frames r
+        on_is r e = on_of old r e
 
   ticks_named : AreNamed (world_step w Ticks).1
   ticks_named =

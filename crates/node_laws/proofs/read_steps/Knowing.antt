@@ -13,6 +13,7 @@ use Rattle.node_machine.specs.Carrying.{port_at}
 use Rattle.node_machine.specs.Controller.{is_asked_at, is_connected_at, view_for, waiting_pipes}
 use Rattle.node_machine.specs.world.World.{end_c}
 use Rattle.node_machine.specs.world.NodeFilters.{tables_in, notice_in, asking_in, aside_in, session_now, is_connected_in}
+use Rattle.node_laws.proofs.Cases.{by_option}
 use Rattle.node_laws.proofs.links.Noticing.{at_host}
 use Rattle.node_laws.specs.kept.Books.{hosts_of_ends}
 use Rattle.node_laws.specs.kept.Hosts.{AreHosts}
@@ -107,15 +108,12 @@ module _ (hosts : List ℕ) (are : AreHosts hosts) (t : List Entry) (w : Work) (
 
   -- an asker is a host of the world
   in_hosts : (pid x : ℕ) → list_any (is_of_pipe pid) (waits x (asked_of w.ports)) ≡ true → list_any (is_asked_pipe now pid) hosts ≡ true
-  in_hosts pid x e = go (port_at w.ports x) refl where
-    go : (o : Option Port) → port_at w.ports x ≡ o → list_any (is_asked_pipe now pid) hosts ≡ true
-    go None q =
-        let none : waits x (asked_of w.ports) ≡ [] =
-        sym (list_is x) ∙ subst (λ o. HasAsideAt (creations_at (desks_of w.ports) x) o) q (a.asides x) in
-        absurd (true≢false (sym e ∙ ap (list_any (is_of_pipe pid)) none))
-    go (Some p) q =
-        subst (λ hs. list_any (is_asked_pipe now pid) hs ≡ true) a.hosts_are
-        (any_end (is_asked_pipe now pid) w.ports x p q (sym (pipe_is pid x) ∙ e))
+  in_hosts pid x e = by_option (port_at w.ports x)
+      (λ q. let none : waits x (asked_of w.ports) ≡ [] =
+      sym (list_is x) ∙ subst (λ o. HasAsideAt (creations_at (desks_of w.ports) x) o) q (a.asides x) in
+      absurd (true≢false (sym e ∙ ap (list_any (is_of_pipe pid)) none)))
+      (λ p q. subst (λ hs. list_any (is_asked_pipe now pid) hs ≡ true) a.hosts_are
+      (any_end (is_asked_pipe now pid) w.ports x p q (sym (pipe_is pid x) ∙ e)))
 
   waiting_is : (pid : ℕ) → list_any (λ p. eqb p pid) (waiting_pipes w.ports) ≡ list_any (is_asked_pipe now pid) hosts
   waiting_is pid =

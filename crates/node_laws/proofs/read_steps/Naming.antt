@@ -23,13 +23,14 @@ use Rattle.link_laws.specs.entries.Entries.Entry.{Down}
 use Rattle.history.specs.Filters.{same_end, same_side}
 use Rattle.history.specs.Steps.{entries_for}
 use Rattle.node_machine.specs.Parts.{Creation, Core, Port, Work, Deed}
-use Rattle.node_machine.specs.Parts.Deed.{Commits, Sends, SaysOk, Asks, Releases, Tells, IsAnswered, Drops, SetsErrors, Orders, Hears, GoesOn, Ends}
+use Rattle.node_machine.specs.Parts.Deed.{Commits, Sends, SaysOk, Asks, Releases, Tells, Drops, SetsErrors, Orders, Ends}
 use Rattle.node_machine.specs.Carrying.{own_side, noting, unless_cut, port_at, with_desk, noted_of, turn_at, commit, done, all_done, end_of_node}
 use Rattle.node_machine.specs.Turns.{handles, holds_back, lets_go}
 use Rattle.node_machine.specs.Node.{told_at, told_late, is_late}
 use Rattle.node_machine.specs.world.World.{end_c}
 use Rattle.node_machine.specs.world.NodeFilters.{is_notice, is_response, awaited_after, notice_in}
 use Rattle.node_laws.specs.steps.Waiting.{IsAllowedFor, IsAllowedStill}
+use Rattle.node_laws.proofs.Cases.{by_test}
 use Rattle.node_laws.proofs.links.Noticing.{at_host}
 use Rattle.node_laws.proofs.readings.Silent.{told_rest, rest_quiet}
 use Rattle.registry.proofs.ValueLemmas.{AllByRecursion-append}
@@ -119,10 +120,7 @@ GoesBy k _ = Unit {0}
 
 noted_named : (core : Core) (t : Turn) (p : Port) → GoesBy p.desk.host t → AreNamed (noted_of core t p)
 noted_named core (Give m) p goes = sent_named p.desk.host p.session (own_side core) m (give_refusal p.side m) goes
-noted_named core (Hold held) p goes = tt
-noted_named core FetchMessage p goes = tt
-noted_named core SetAside p goes = tt
-noted_named core Release p goes = tt
+noted_named core _ p goes = tt
 
 turn_named : (k : ℕ) (t : Turn) (w : Work) → GoesBy k t → AreNamed w.entries → AreNamed (turn_at k t w).entries
 turn_named k t w goes a = AllByRecursion-append IsNamed w.entries (option_map_or (noted_of w.core t) (port_at w.ports k) []) a
@@ -145,13 +143,11 @@ NamesSo (Ends x) = IsNamed x
 NamesSo _ = Unit {0}
 
 commit_named : (c : Command) (w : Work) → AreNamed w.entries → AreNamed (commit c w).entries
-commit_named c w a = go (fails_within (length (commit_writes w.core.journal w.core.tables (body_of c))) w.plan) refl where
-  noted : AreNamed (noting (entry.Command w.core.node c ∷ []) w).entries
-  noted = note_named (entry.Command w.core.node c) w tt a
-
-  go : (b : Bool) → fails_within (length (commit_writes w.core.journal w.core.tables (body_of c))) w.plan ≡ b → AreNamed (commit c w).entries
-  go true e = rw e (note_named (entry.Cut w.core.node) (noting (entry.Command w.core.node c ∷ []) w) tt noted)
-  go false e = rw e noted
+commit_named c w a = by_test (fails_within (length (commit_writes w.core.journal w.core.tables (body_of c))) w.plan)
+    (λ e. rw e (note_named (entry.Cut w.core.node) (noting (entry.Command w.core.node c ∷ []) w) tt noted))
+    (λ e. rw e noted) where
+      noted : AreNamed (noting (entry.Command w.core.node c ∷ []) w).entries
+      noted = note_named (entry.Command w.core.node c) w tt a
 
 done_named : (k : ℕ) (d : Deed) (w : Work) → NamesSo d → AreNamed w.entries → AreNamed (done k d w).entries
 done_named k (Commits c) w names a = commit_named c w a
@@ -162,25 +158,20 @@ done_named k (Asks to message c) w names a =
     (note_named (entry.Ask to message) (turn_at c.asker SetAside w) tt (turn_named c.asker SetAside w tt a))
 done_named k (Releases asker) w names a = turn_named asker Release w tt a
 done_named k (Tells to message) w names a = turn_named to (Give (1, message)) w names a
-done_named k IsAnswered w names a = a
 done_named k (Drops pid) w names a = note_named (entry.Dropped (end_of_node w.core k) pid) w tt a
-done_named k (SetsErrors errors) w names a = a
 done_named k (Orders message) w names a = absurd names
-done_named k Hears w names a = a
-done_named k (GoesOn i) w names a = a
 done_named k (Ends x) w names a = note_named x (record w { core = record w.core { init = None } }) names a
+done_named k _ w names a = a
 
 pub unless_named : (f : Work → Work) (w : Work) → (w.cut ≡ false → AreNamed (f w).entries) → AreNamed w.entries → AreNamed (unless_cut f w).entries
-unless_named f w one a = go w.cut refl where
-  on_is : w.cut ≡ false → unless_cut f w ≡ f w
-  on_is e = rw e refl
+unless_named f w one a = by_test w.cut
+    (λ e. subst (λ (v : Work). AreNamed v.entries) (sym (off_is e)) a)
+    (λ e. subst (λ (v : Work). AreNamed v.entries) (sym (on_is e)) (one e)) where
+      on_is : w.cut ≡ false → unless_cut f w ≡ f w
+      on_is e = rw e refl
 
-  off_is : w.cut ≡ true → unless_cut f w ≡ w
-  off_is e = rw e refl
-
-  go : (b : Bool) → w.cut ≡ b → AreNamed (unless_cut f w).entries
-  go true e = subst (λ (v : Work). AreNamed v.entries) (sym (off_is e)) a
-  go false e = subst (λ (v : Work). AreNamed v.entries) (sym (on_is e)) (one e)
+      off_is : w.cut ≡ true → unless_cut f w ≡ w
+      off_is e = rw e refl
 
 pub all_done_named : (k : ℕ) (deeds : List Deed) (w : Work) → AllByRecursion NamesSo deeds → AreNamed w.entries → AreNamed (all_done k deeds w).entries
 all_done_named k [] w names a = a
@@ -252,29 +243,16 @@ may_name x F t ports (Asks to message c ∷ deeds) may allowed =
 may_name x F t ports (Releases asker ∷ deeds) may allowed = (tt, may_name x (λ n. ⊥) t ports deeds may allowed.1)
 may_name x F t ports (Tells to message ∷ deeds) may allowed =
     (removal to message may.1, may_name x (λ n. (eqb to x ≡ false) × F n) t ports deeds may.2 allowed.1)
-may_name x F t ports (IsAnswered ∷ deeds) may allowed = absurd may
 may_name x F t ports (Drops pid ∷ deeds) may allowed = (tt, may_name x F t ports deeds may allowed.1)
 may_name x F t ports (SetsErrors errors ∷ deeds) may allowed = (tt, may_name x F t ports deeds may allowed.1)
-may_name x F t ports (Orders order ∷ deeds) may allowed = absurd may
-may_name x F t ports (Hears ∷ deeds) may allowed = absurd may
-may_name x F t ports (GoesOn i ∷ deeds) may allowed = absurd may
-may_name x F t ports (Ends e ∷ deeds) may allowed = absurd may
+may_name x F t ports (_ ∷ deeds) may allowed = absurd may
 
 pub no_notices_name : (deeds : List Deed) → TellNoNotices deeds → AllByRecursion NamesSo deeds
 no_notices_name [] a = tt
 no_notices_name (Commits c ∷ deeds) a = (tt, no_notices_name deeds a.1)
 no_notices_name (Sends to m ∷ deeds) a = (no_notice to m a.0, no_notices_name deeds a.1)
 no_notices_name (Releases asker ∷ deeds) a = (tt, no_notices_name deeds a.1)
-no_notices_name (SaysOk ∷ deeds) a = absurd a.0
-no_notices_name (Asks to message c ∷ deeds) a = absurd a.0
-no_notices_name (Tells to message ∷ deeds) a = absurd a.0
-no_notices_name (IsAnswered ∷ deeds) a = absurd a.0
-no_notices_name (Drops pid ∷ deeds) a = absurd a.0
-no_notices_name (SetsErrors errors ∷ deeds) a = absurd a.0
-no_notices_name (Orders order ∷ deeds) a = absurd a.0
-no_notices_name (Hears ∷ deeds) a = absurd a.0
-no_notices_name (GoesOn i ∷ deeds) a = absurd a.0
-no_notices_name (Ends e ∷ deeds) a = absurd a.0
+no_notices_name (_ ∷ deeds) a = absurd a.0
 
 -- ## What comes
 

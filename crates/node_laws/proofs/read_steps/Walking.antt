@@ -17,6 +17,7 @@ use Rattle.node_machine.specs.Node.NodeInput.{AtEnd, TimePasses}
 use Rattle.node_laws.specs.steps.Waiting.{IsAllowedStill}
 use Rattle.node_laws.specs.kept.Books.{hosts_of_ends}
 use Rattle.node_laws.specs.kept.Hosts.{AreHosts}
+use Rattle.node_laws.proofs.Cases.{by_test}
 use Rattle.node_laws.proofs.kept.Turning.{deeds_fit}
 use Rattle.node_laws.specs.notices.Notices.{IsKeptNotice}
 use Rattle.node_laws.proofs.notices.Doing.{Holds}
@@ -113,16 +114,12 @@ module _ (hosts : List ℕ) (are : AreHosts hosts) (t : List Entry) where
     pub named : AreNamed w.entries
 
   unless_walked : (f : Work → Work) (w : Work) → Walked w → (RunsInStep hosts t w → AreNamed w.entries → Walked (f w)) → Walked (unless_cut f w)
-  unless_walked f w a next = go w.cut refl where
+  unless_walked f w a next = by_test w.cut (λ e. subst Walked (sym (off_is e)) a) (λ e. subst Walked (sym (on_is e)) (next (a.keeps e) a.named)) where
     on_is : w.cut ≡ false → unless_cut f w ≡ f w
     on_is e = rw e refl
 
     off_is : w.cut ≡ true → unless_cut f w ≡ w
     off_is e = rw e refl
-
-    go : (b : Bool) → w.cut ≡ b → Walked (unless_cut f w)
-    go true e = subst Walked (sym (off_is e)) a
-    go false e = subst Walked (sym (on_is e)) (next (a.keeps e) a.named)
 
   turns_walked : (h : ℕ) → IsHost h → is_one_of hosts h ≡ true → (messages : List Message) (w : Work) → RunsInStep hosts t w → AreNamed w.entries
       → Walked (have_turns h messages w)

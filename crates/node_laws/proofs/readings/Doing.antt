@@ -20,11 +20,12 @@ use Rattle.link_laws.specs.entries.Entries.{sent_unless}
 use Rattle.link_laws.specs.entries.Entries.End.{Host}
 use Rattle.history.specs.Steps.{entries_for}
 use Rattle.node_machine.specs.Parts.{Desk, Core, Port, Work, Deed}
-use Rattle.node_machine.specs.Parts.Deed.{Commits, Sends, SaysOk, Asks, Releases, Tells, IsAnswered, Drops, SetsErrors, Orders, Hears, GoesOn, Ends}
+use Rattle.node_machine.specs.Parts.Deed.{Commits, Sends, SaysOk, Releases, Drops, SetsErrors, Orders, GoesOn, Ends}
 use Rattle.node_machine.specs.Controller.{is_command_message}
 use Rattle.node_machine.specs.Carrying.{own_side, noting, unless_cut, port_at, changed_if, with_port, with_desk, after_turn, noted_of, turn_at, commit, done}
 use Rattle.node_machine.specs.Carrying.{all_done}
 use Rattle.node_machine.specs.world.NodeFilters.{order_in}
+use Rattle.node_laws.proofs.Cases.{by_test}
 use Rattle.node_laws.proofs.links.Noticing.{turn-phase}
 use Rattle.node_laws.specs.readings.Orders.{AreInitsShort, IsItsEnd, KeepsOrder, Fits, MayDo}
 use Rattle.node_laws.proofs.readings.Silent.{reads, order_more, host_side, sent_reads, order_reads}
@@ -263,22 +264,15 @@ module _ (h : ℕ) (host : IsHost h) (before : List Entry) (now : LinkState) whe
   all_stand k F (Commits c ∷ deeds) w fits may r = then (all_done k deeds) (commit c w) (commit_stands c w r) (λ s. all_stand k F deeds (commit c w)
       (subst (λ ps. (order : List ℕ) → F order → (k ≡ h) × Fits ps order) (sym (commit_ports c w)) fits) may s) where
         commit_ports : (c : Command) (w : Work) → (commit c w).ports ≡ w.ports
-        commit_ports c w = go (fails_within (length (commit_writes w.core.journal w.core.tables (body_of c))) w.plan) refl where
-          go : (b : Bool) → fails_within (length (commit_writes w.core.journal w.core.tables (body_of c))) w.plan ≡ b
-              → (commit c w).ports ≡ w.ports
-          go true e = rw e refl
-          go false e = rw e refl
+        commit_ports c w = by_test (fails_within (length (commit_writes w.core.journal w.core.tables (body_of c))) w.plan) (λ e. rw e refl) (λ e. rw e refl)
   all_stand k F (Sends to m ∷ deeds) w fits may r =
       then (all_done k deeds) (turn_at to (Give m) w) (inl (give_runs to m w may.0 r)) (all_stand k (λ o. ⊥) deeds (turn_at to (Give m) w)
       (λ o x. absurd x) may.1)
   all_stand k F (SaysOk ∷ deeds) w fits may r =
       then (all_done k deeds) (done k SaysOk w) (inl (noting_runs w _ refl r)) (all_stand k F deeds (done k SaysOk w) fits may)
-  all_stand k F (Asks to message c ∷ deeds) w fits may r = absurd may
   all_stand k F (Releases asker ∷ deeds) w fits may r =
       then (all_done k deeds) (turn_at asker Release w) (inl (turn_runs asker Release w (λ p. refl) r)) (all_stand k (λ o. ⊥) deeds (turn_at asker Release w)
       (λ o x. absurd x) may)
-  all_stand k F (Tells to message ∷ deeds) w fits may r = absurd may
-  all_stand k F (IsAnswered ∷ deeds) w fits may r = absurd may
   all_stand k F (Drops pid ∷ deeds) w fits may r =
       then (all_done k deeds) (done k (Drops pid) w) (inl (noting_runs w _ refl r)) (all_stand k F deeds (done k (Drops pid) w) fits may)
   all_stand k F (SetsErrors errors ∷ deeds) w fits may r =
@@ -288,7 +282,6 @@ module _ (h : ℕ) (host : IsHost h) (before : List Entry) (now : LinkState) whe
       then (all_done k deeds) (done k (Orders order) w) (inl (order_runs k (fits order may.0).0 order w (fits order may.0).1 may.1 r)) (all_stand k
       (λ o. ⊥) deeds (done k (Orders order) w)
       (λ o x. absurd x) may.2)
-  all_stand k F (Hears ∷ deeds) w fits may r = absurd may
   all_stand k F (GoesOn i ∷ deeds) w fits may r =
       then (all_done k deeds) (done k (GoesOn i) w) (inl record {
         on = r.on;
@@ -311,3 +304,4 @@ module _ (h : ℕ) (host : IsHost h) (before : List Entry) (now : LinkState) whe
         short = tt;
         order = read_more w (e ∷ []) w.core.command w.core.command r.order (may.0 w.core.command);
       }) (all_stand k F deeds (done k (Ends e) w) fits may.1)
+  all_stand k F (_ ∷ deeds) w fits may r = absurd may

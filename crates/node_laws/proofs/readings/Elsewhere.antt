@@ -5,7 +5,7 @@ use Rattle.std.specs.List.{AllByRecursion, flat_map}
 use Rattle.trace_model.specs.declared.entry.Entry.{Entry}
 use Rattle.trace_model.specs.declared.entry.Entry.TheVariants as entry
 use Rattle.link_laws.specs.entries.Entries.{End as Side, Entry as Noted}
-use Rattle.link_laws.specs.entries.Entries.Entry.{Up, Down, Active, GaveUp, Acked, Got, Sent, Emit, Took, Lost, Tick, Restarted, Cut}
+use Rattle.link_laws.specs.entries.Entries.Entry.{Up, Down, Active, GaveUp, Acked, Got, Sent, Tick, Restarted, Cut}
 use Rattle.history.specs.Filters.{same_end}
 use Rattle.history.specs.Steps.{entry_of, entries_for, end_of}
 use Rattle.node_machine.specs.Parts.{Work, Deed}
@@ -35,19 +35,12 @@ silent_flat k f one (x ∷ xs) = silent-append k (f x) (flat_map f xs) (one x) (
 
 pub quiet_silent : (k h : ℕ) (notes : List Noted) → AllByRecursion IsQuiet notes → AreSilent k (entries_for h notes)
 quiet_silent k h [] all = tt
-quiet_silent k h (Up who n ∷ notes) all = ((λ c. refl), quiet_silent k h notes all.1)
 quiet_silent k h (Down who cause ∷ notes) all = absurd all.0
-quiet_silent k h (Active who ∷ notes) all = ((λ c. refl), quiet_silent k h notes all.1)
-quiet_silent k h (GaveUp who tries ∷ notes) all = ((λ c. refl), quiet_silent k h notes all.1)
-quiet_silent k h (Acked who n count ∷ notes) all = ((λ c. refl), quiet_silent k h notes all.1)
-quiet_silent k h (Got who n m ∷ notes) all = ((λ c. refl), quiet_silent k h notes all.1)
 quiet_silent k h (Sent who n m ∷ notes) all = absurd all.0
-quiet_silent k h (Emit who frame ∷ notes) all = ((λ c. refl), quiet_silent k h notes all.1)
-quiet_silent k h (Took who frame ∷ notes) all = ((λ c. refl), quiet_silent k h notes all.1)
-quiet_silent k h (Lost who frame why ∷ notes) all = ((λ c. refl), quiet_silent k h notes all.1)
 quiet_silent k h (Tick ∷ notes) all = quiet_silent k h notes all.1
 quiet_silent k h (Restarted who ∷ notes) all = quiet_silent k h notes all.1
 quiet_silent k h (Cut who ∷ notes) all = quiet_silent k h notes all.1
+quiet_silent k h (_ ∷ notes) all = ((λ c. refl), quiet_silent k h notes all.1)
 
 module _ (k : ℕ) where
   abbrev pub Away : Side → ℕ → Type 0

@@ -25,6 +25,7 @@ use Rattle.node_machine.specs.world.World.{NodeWorld, Site, site_at, with_site, 
 use Rattle.node_machine.specs.world.World.{frames_noted, host_work}
 use Rattle.node_machine.specs.world.World.{after_host, host_does, sending, beginning, new_site, new_world, is_late_at, ticked_so, all_aged, controller_ticks}
 use Rattle.node_machine.specs.world.World.{host_ticks, hosts_tick, world_ticks}
+use Rattle.node_laws.proofs.Cases.{by_option}
 use Rattle.node_laws.proofs.links.Ends.{here_host}
 use Rattle.link_laws.proofs.entries.Together.{ticks_host as tick_host}
 use Rattle.node_laws.specs.kept.Hosts.{AreDifferent, AreHosts}
@@ -58,63 +59,61 @@ module _ (hosts : List ℕ) (are : AreHosts hosts) where
   pub far_acts : (t : List Entry) (w : NodeWorld) (h : ℕ) (deeds : List Deed) → AllRead hosts t w → ((k : ℕ) → AreHushed k deeds)
       → ((x : Site) → site_at w.sites h ≡ Some x → MayDo h (λ order. give_refusal x.link.host.side (1, order) ≡ None) deeds)
       → AllRead hosts (t ++ (host_does w h NoInput (begins_with h deeds)).1) (host_does w h NoInput (begins_with h deeds)).0
-  far_acts t w h deeds all hushed may = by_site (site_at w.sites h) refl where
-    f : Work → Work
-    f = begins_with h deeds
+  far_acts t w h deeds all hushed may = by_option (site_at w.sites h)
+      (λ e. subst Fine (sym (none_is e)) nothing)
+      (λ x e. let known = site_found (SiteReads t) IsHost w.sites h x all.sites (subst (AllByRecursion IsHost) (sym all.hosts_are) are.all) e in
+      by_node x e known.0 known.1 known.2 x.node refl) where
+        f : Work → Work
+        f = begins_with h deeds
 
-    Fine : NodeWorld × List Entry → Type 0
-    Fine p = AllRead hosts (t ++ p.1) p.0
+        Fine : NodeWorld × List Entry → Type 0
+        Fine p = AllRead hosts (t ++ p.1) p.0
 
-    nothing : Fine (w, [])
-    nothing = subst (λ l. AllRead hosts l w) (sym (append-nil t)) all
+        nothing : Fine (w, [])
+        nothing = subst (λ l. AllRead hosts l w) (sym (append-nil t)) all
 
-    none_is : site_at w.sites h ≡ None → host_does w h NoInput f ≡ (w, [])
-    none_is e = rw e refl
+        none_is : site_at w.sites h ≡ None → host_does w h NoInput f ≡ (w, [])
+        none_is e = rw e refl
 
-    off_is : (x : Site) → site_at w.sites h ≡ Some x → x.node ≡ None → host_does w h NoInput f ≡ (w, [])
-    off_is x here e = rw here (rw e refl)
+        off_is : (x : Site) → site_at w.sites h ≡ Some x → x.node ≡ None → host_does w h NoInput f ≡ (w, [])
+        off_is x here e = rw here (rw e refl)
 
-    on_is : (x : Site) (r : Running) → site_at w.sites h ≡ Some x → x.node ≡ Some r → host_does w h NoInput f
-        ≡ (
-          record w { sites = with_site h (after_host NoInput (host_work x r NoInput f)) w.sites },
-          (host_work x r NoInput f).entries ++ frames_noted Host h (wires_for (exchanged x.link) NoInput) (host_work x r NoInput f),
-        )
-    on_is x r here e = rw here (rw e refl)
+        on_is : (x : Site) (r : Running) → site_at w.sites h ≡ Some x → x.node ≡ Some r → host_does w h NoInput f
+            ≡ (
+              record w { sites = with_site h (after_host NoInput (host_work x r NoInput f)) w.sites },
+              (host_work x r NoInput f).entries ++ frames_noted Host h (wires_for (exchanged x.link) NoInput) (host_work x r NoInput f),
+            )
+        on_is x r here e = rw here (rw e refl)
 
-    by_node : (x : Site) → site_at w.sites h ≡ Some x → SiteReads t x → IsHost x.host → x.host ≡ h → (o : Option Running) → x.node ≡ o
-        → Fine (host_does w h NoInput f)
-    by_node x here keeps host same None e = subst Fine (sym (off_is x here e)) nothing
-    by_node x here keeps host same (Some r) e = subst Fine (sym (on_is x r here e)) (record {
-      controller = all.controller;
-      hosts_are = hosts_with h (after_host NoInput k) (λ s. refl) w.sites ∙ all.hosts_are;
-      sites = with_reads t (k.entries ++ frames) h (after_host NoInput k)
-          (λ n off. silent-append n k.entries frames (away n off).so (frames_silent n Host h (wires_for (exchanged x.link) NoInput) k)) w.sites x
-          (subst AreDifferent (sym all.hosts_are) are.different) here changed all.sites;
-    }) where
-      k : Work
-      k = host_work x r NoInput f
+        by_node : (x : Site) → site_at w.sites h ≡ Some x → SiteReads t x → IsHost x.host → x.host ≡ h → (o : Option Running) → x.node ≡ o
+            → Fine (host_does w h NoInput f)
+        by_node x here keeps host same None e = subst Fine (sym (off_is x here e)) nothing
+        by_node x here keeps host same (Some r) e = subst Fine (sym (on_is x r here e)) (record {
+          controller = all.controller;
+          hosts_are = hosts_with h (after_host NoInput k) (λ s. refl) w.sites ∙ all.hosts_are;
+          sites = with_reads t (k.entries ++ frames) h (after_host NoInput k)
+              (λ n off. silent-append n k.entries frames (away n off).so (frames_silent n Host h (wires_for (exchanged x.link) NoInput) k)) w.sites x
+              (subst AreDifferent (sym all.hosts_are) are.different) here changed all.sites;
+        }) where
+          k : Work
+          k = host_work x r NoInput f
 
-      frames : List Entry
-      frames = frames_noted Host h (wires_for (exchanged x.link) NoInput) k
+          frames : List Entry
+          frames = frames_noted Host h (wires_for (exchanged x.link) NoInput) k
 
-      changed : SiteReads (t ++ (k.entries ++ frames)) (after_host NoInput k x)
-      changed =
-          subst (λ n. SiteReads (t ++ ((host_work x r NoInput (begins_with n deeds)).entries
-          ++ frames_noted Host n (wires_for (exchanged x.link) NoInput) (host_work x r NoInput (begins_with n deeds)))) (after_host NoInput
-          (host_work x r NoInput
-          (begins_with n deeds)) x)) same (acts_reads t x r deeds host keeps e (subst (λ n. MayDo n (λ order. give_refusal x.link.host.side (1, order) ≡ None)
-          deeds) (sym same) (may x here)))
+          changed : SiteReads (t ++ (k.entries ++ frames)) (after_host NoInput k x)
+          changed =
+              subst (λ n. SiteReads (t ++ ((host_work x r NoInput (begins_with n deeds)).entries
+              ++ frames_noted Host n (wires_for (exchanged x.link) NoInput) (host_work x r NoInput (begins_with n deeds)))) (after_host NoInput
+              (host_work x r NoInput
+              (begins_with n deeds)) x)) same (acts_reads t x r deeds host keeps e
+              (subst (λ n. MayDo n (λ order. give_refusal x.link.host.side (1, order) ≡ None)
+              deeds) (sym same) (may x here)))
 
-      away : (n : ℕ) (off : eqb h n ≡ false) → IsAway n x.host (ap (λ m. eqb m n) same ∙ off) Host k
-      away n off =
-          all_do n x.host (ap (λ m. eqb m n) same ∙ off) Host h deeds (work_of r x.memory.plan (λ m. x.link.host) []) (hushed n)
-          (host_away x r host (subst (IfHostRuns x.host x.link) e keeps.runs) n (ap (λ m. eqb m n) same ∙ off) x.link.host [] tt)
-
-    by_site : (o : Option Site) → site_at w.sites h ≡ o → Fine (host_does w h NoInput f)
-    by_site None e = subst Fine (sym (none_is e)) nothing
-    by_site (Some x) e =
-        let known = site_found (SiteReads t) IsHost w.sites h x all.sites (subst (AllByRecursion IsHost) (sym all.hosts_are) are.all) e in
-        by_node x e known.0 known.1 known.2 x.node refl
+          away : (n : ℕ) (off : eqb h n ≡ false) → IsAway n x.host (ap (λ m. eqb m n) same ∙ off) Host k
+          away n off =
+              all_do n x.host (ap (λ m. eqb m n) same ∙ off) Host h deeds (work_of r x.memory.plan (λ m. x.link.host) []) (hushed n)
+              (host_away x r host (subst (IfHostRuns x.host x.link) e keeps.runs) n (ap (λ m. eqb m n) same ∙ off) x.link.host [] tt)
 
   link_is : (w : NodeWorld) (h : ℕ) (x : Site) → site_at w.sites h ≡ Some x → link_to w.sites h ≡ x.link
   link_is w h x here = rw here refl
@@ -240,10 +239,7 @@ module _ (hosts : List ℕ) (are : AreHosts hosts) where
   )
 
   tick_host_same : (s : Site) → (host_ticks s).0.host ≡ s.host
-  tick_host_same s = by_node s.node refl where
-    by_node : (o : Option Running) → s.node ≡ o → (host_ticks s).0.host ≡ s.host
-    by_node None e = rw e refl
-    by_node (Some r) e = rw e refl
+  tick_host_same s = by_option s.node (λ e. rw e refl) (λ r e. rw e refl)
 
   sites_tick : (sites : List Site) (t : List Entry) → AreDifferent (hosts_in sites) → AllByRecursion IsHost (hosts_in sites) → AllByRecursion
       (SiteReads t) sites

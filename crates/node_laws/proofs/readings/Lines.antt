@@ -56,19 +56,15 @@ is_taken w e m side none =
 line_may : (w : NodeWorld) (l : Line) → IsSentByHost l → IsInitOfHost l → refusal_in w l ≡ None → AllMay MayBeRead w (happenings w l)
 line_may w (line.Send e pid message) side init none = (is_taken w e (pid, message) side none, tt)
 line_may w (line.Deliver e count) side init none = repeated_may MayBeRead (Takes e) (λ v. tt) (taken_of count (frames_at w e)) w
-line_may w (line.Lose e) side init none = (tt, tt)
 line_may w (line.Damage e places) side init none = damaged_may MayBeRead w e tt (λ why. tt) (first_verdict (frames_at w e) places.items)
 line_may w (line.Tick times) side init none = repeated_may MayBeRead Ticks (λ v. tt) (unwrap_or times 1) w
-line_may w (line.Reset e window) side init none = (tt, tt)
 line_may w (line.Busy e) side init none = tt
 line_may w (line.Ready e) side init none = tt
 line_may w (line.Boot n) side init none = (stands_none (node_at w n) none, tt)
-line_may w (line.Cut n) side init none = (tt, tt)
-line_may w (line.Activate host sync power) side init none = (tt, tt)
-line_may w (line.Arm n nth fill) side init none = (tt, tt)
 line_may w (line.Init e identity pipes) side init none = ((is_taken w e (1, 3 ∷ []) init.0 none, init.1), tt)
 line_may w (line.Tables n) side init none = tt
 line_may w (line.Settle n) side init none = tt
+line_may w _ side init none = (tt, tt)
 
 module _ (hosts : List ℕ) (are : AreHosts hosts) where
   -- ## Events

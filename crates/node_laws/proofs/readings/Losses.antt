@@ -5,7 +5,7 @@ use Rattle.std.specs.List.{AllByRecursion}
 use Rattle.trace_model.specs.declared.entry.Entry.{Entry}
 use Rattle.trace_model.specs.declared.line.End.{End}
 use Rattle.link_laws.specs.messages.Links.{Link, Loss, happens}
-use Rattle.link_laws.specs.messages.Links.Loss.{OnDemand, Broken, Unread, TooOld, TooMany}
+use Rattle.link_laws.specs.messages.Links.Loss.{Broken}
 use Rattle.link_laws.specs.messages.Links.EndEvent.{Lose}
 use Rattle.link_laws.specs.messages.Links.LinkEvent.{AtController, AtHost}
 use Rattle.link_laws.specs.entries.Entries.{first_lost}
@@ -23,10 +23,7 @@ use Rattle.node_laws.proofs.readings.Elsewhere.{AreSilent, quiet_silent}
 zero_counts : (why : Loss) (h : ℕ) (o : Option Running) → IfZero o → IfZero (counts why h o)
 zero_counts (Broken fault) h None z = tt
 zero_counts (Broken fault) h (Some r) z = z
-zero_counts OnDemand h o z = z
-zero_counts Unread h o z = z
-zero_counts TooOld h o z = z
-zero_counts TooMany h o z = z
+zero_counts _ h o z = z
 
 changed_desk : (b : Bool) (f : Desk → Desk) (d : Desk) (P : Desk → Type 0) → P d → P (f d) → P (changed_if b f d)
 changed_desk true f d P x y = y
@@ -36,10 +33,7 @@ changed_desk false f d P x y = x
 order_counts : (why : Loss) (h : ℕ) (o : Option Running) → order_of (counts why h o) ≡ order_of o
 order_counts (Broken fault) h None = refl
 order_counts (Broken fault) h (Some r) = refl
-order_counts OnDemand h o = refl
-order_counts Unread h o = refl
-order_counts TooOld h o = refl
-order_counts TooMany h o = refl
+order_counts _ h o = refl
 
 runs_counts : (why : Loss) (h n : ℕ) (l : Link) (o : Option Running) → IfHostRuns n l o → IfHostRuns n l (counts why h o)
 runs_counts (Broken fault) h n l None so = tt
@@ -54,10 +48,7 @@ runs_counts (Broken fault) h n l (Some r) so = record {
 } where
   more : Desk → Desk
   more d = record d { errors = Rattle.std.specs.Prelude.min 65535 (d.errors + 1) }
-runs_counts OnDemand h n l o so = so
-runs_counts Unread h n l o so = so
-runs_counts TooOld h n l o so = so
-runs_counts TooMany h n l o so = so
+runs_counts _ h n l o so = so
 
 each_site : (t es : List Entry) (g : Site → Site) → ((s : Site) → SiteReads t s → SiteReads (t ++ es) (g s)) → (sites : List Site)
     → AllByRecursion (SiteReads t) sites → AllByRecursion (SiteReads (t ++ es)) (map g sites)

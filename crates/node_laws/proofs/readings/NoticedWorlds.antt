@@ -19,7 +19,7 @@ use Rattle.link_laws.specs.messages.Links.{ticks_at_controller}
 use Rattle.link_laws.specs.messages.Links.{happens}
 use Rattle.link_laws.specs.messages.Links.Ending.{GoesOut, CutOff}
 use Rattle.link_laws.specs.messages.Links.Comes.{NextFrame, AsksReset, Starts, NoInput}
-use Rattle.link_laws.specs.messages.Links.Loss.{OnDemand, Broken, Unread, TooOld, TooMany}
+use Rattle.link_laws.specs.messages.Links.Loss.{Broken}
 use Rattle.link_laws.specs.messages.Links.EndEvent.{Step, Lose}
 use Rattle.link_laws.specs.messages.Links.LinkEvent.{AtHost}
 use Rattle.link_laws.specs.entries.Entries.End.{Controller}
@@ -39,6 +39,7 @@ use Rattle.node_machine.specs.world.World.Happening.{Boots, IsCut, Gives, Inits,
 use Rattle.node_machine.specs.world.Lines.{happenings}
 use Rattle.node_machine.specs.world.NodeHistories.{world_after}
 use Rattle.node_laws.specs.links.Notices.{IsNoticedUp, OnFirst}
+use Rattle.node_laws.proofs.Cases.{by_option, by_test}
 use Rattle.node_laws.proofs.links.Ends.{here_host}
 use Rattle.link_laws.proofs.entries.Together.{ticks_host as tick_host}
 use Rattle.node_laws.proofs.links.Noticing.{at_all, at_host}
@@ -116,10 +117,7 @@ far_tick : (l : Link) (ts : List Turn) (ending : Ending) → (exchanged (ticks_a
 far_tick l ts ending = ap (λ (h : NumberedEnd). h.side) (tick_host (exchanged l) ts ending)
 
 pub lost_side : (e : End) (why : Loss) (l : Link) → (happens l (at e (Lose why))).controller.side ≡ l.controller.side
-lost_side e why l = go e.at_host refl where
-  go : (b : Bool) → e.at_host ≡ b → (happens l (at e (Lose why))).controller.side ≡ l.controller.side
-  go true q = rw q refl
-  go false q = rw q refl
+lost_side e why l = by_test e.at_host (λ q. rw q refl) (λ q. rw q refl)
 
 -- ## Steps of the controller
 
@@ -131,26 +129,24 @@ desks_map g (p ∷ ports) = ap (λ l. g p.desk ∷ l) (desks_map g ports)
 runs_up : (sites : List Site) (k : Work)
     → ((x : ℕ) (p : Port) → k.cut ≡ false → port_at k.ports x ≡ Some p → is_some p.desk.notice ≡ true → (link_to sites x).controller.side.shdlc.phase ≡ Up)
     → IfNoticedUp sites (runs_on k)
-runs_up sites k ups = go k.cut refl where
-  g : Desk → Port
-  g d = port_for (link_to sites d.host).controller d
+runs_up sites k ups = by_test k.cut
+    (λ z. subst (IfNoticedUp sites) (sym (off_is z)) tt)
+    (λ z. subst (IfNoticedUp sites) (sym (on_is z)) (λ x. subst (OnFirst IsNoticedUp) (sym (at_is x)) (one x z (port_at k.ports x) refl))) where
+      g : Desk → Port
+      g d = port_for (link_to sites d.host).controller d
 
-  on_is : k.cut ≡ false → runs_on k ≡ Some (record { core = k.core; desks = map (λ (p : Port). p.desk) k.ports })
-  on_is z = rw z refl
+      on_is : k.cut ≡ false → runs_on k ≡ Some (record { core = k.core; desks = map (λ (p : Port). p.desk) k.ports })
+      on_is z = rw z refl
 
-  off_is : k.cut ≡ true → runs_on k ≡ None
-  off_is z = rw z refl
+      off_is : k.cut ≡ true → runs_on k ≡ None
+      off_is z = rw z refl
 
-  at_is : (x : ℕ) → port_at (map g (map (λ (p : Port). p.desk) k.ports)) x ≡ option_map (λ (p : Port). g p.desk) (port_at k.ports x)
-  at_is x = ap (λ l. port_at l x) (desks_map g k.ports) ∙ at_all k.ports x (λ (p : Port). g p.desk) (λ q. refl)
+      at_is : (x : ℕ) → port_at (map g (map (λ (p : Port). p.desk) k.ports)) x ≡ option_map (λ (p : Port). g p.desk) (port_at k.ports x)
+      at_is x = ap (λ l. port_at l x) (desks_map g k.ports) ∙ at_all k.ports x (λ (p : Port). g p.desk) (λ q. refl)
 
-  one : (x : ℕ) → k.cut ≡ false → (o : Option Port) → port_at k.ports x ≡ o → OnFirst IsNoticedUp (option_map (λ (p : Port). g p.desk) o)
-  one x z None e = tt
-  one x z (Some p) e = λ some. ap (λ n. (link_to sites n).controller.side.shdlc.phase) (at_host k.ports x p e) ∙ ups x p z e some
-
-  go : (b : Bool) → k.cut ≡ b → IfNoticedUp sites (runs_on k)
-  go true z = subst (IfNoticedUp sites) (sym (off_is z)) tt
-  go false z = subst (IfNoticedUp sites) (sym (on_is z)) (λ x. subst (OnFirst IsNoticedUp) (sym (at_is x)) (one x z (port_at k.ports x) refl))
+      one : (x : ℕ) → k.cut ≡ false → (o : Option Port) → port_at k.ports x ≡ o → OnFirst IsNoticedUp (option_map (λ (p : Port). g p.desk) o)
+      one x z None e = tt
+      one x z (Some p) e = λ some. ap (λ n. (link_to sites n).controller.side.shdlc.phase) (at_host k.ports x p e) ∙ ups x p z e some
 
 -- a controller has ends only on links with hosts
 record HasSite (sites : List Site) (x : ℕ) : Type 0 where
@@ -287,7 +283,7 @@ controller_up w h comes i orderly a input = go w.controller refl orderly.control
   go (Some r) e has b = subst NoticesAreUp (sym (on_is r e)) (near_step w r e has b h comes i input)
 
 host_up : (w : NodeWorld) (h : ℕ) (comes : Comes) (f : Work → Work) → NoticesAreUp w → NoticesAreUp (host_does w h comes f).0
-host_up w h comes f a = by_site (site_at w.sites h) refl where
+host_up w h comes f a = by_option (site_at w.sites h) (λ e. subst NoticesAreUp (sym (none_is e)) a) (λ x e. by_node x e x.node refl) where
   none_is : site_at w.sites h ≡ None → (host_does w h comes f).0 ≡ w
   none_is e = rw e refl
 
@@ -305,10 +301,6 @@ host_up w h comes f a = by_site (site_at w.sites h) refl where
       (kept (with_site h (after_host comes (host_work x r comes f)) w.sites) w.sites w.controller
       (side_with h (after_host comes (host_work x r comes f)) (λ s. refl) (λ s. far_side s.link (Step comes (turns_at (host_work x r comes f) s.host) (ending_of
       (host_work x r comes f)))) w.sites) a)
-
-  by_site : (o : Option Site) → site_at w.sites h ≡ o → NoticesAreUp (host_does w h comes f).0
-  by_site None e = subst NoticesAreUp (sym (none_is e)) a
-  by_site (Some x) e = by_node x e x.node refl
 
 comes_up : (w : NodeWorld) (e : End) (comes : Comes) → IsOrderly w → NoticesAreUp w → NoticesAreUp (comes_at w e comes).0
 comes_up w e comes orderly a = go (input_of (seen_from e (link_to w.sites e.link)) comes) refl e.at_host refl where
@@ -374,31 +366,24 @@ counted near_ends h (d ∷ desks) x a = by_error (eqb d.host h) (cases_Bool (eqb
 counts_up : (sites : List Site) (why : Loss) (h : ℕ) (o : Option Running) → IfNoticedUp sites o → IfNoticedUp sites (counts why h o)
 counts_up sites (Broken fault) h None a = tt
 counts_up sites (Broken fault) h (Some r) a = λ x. counted (λ n. (link_to sites n).controller) h r.desks x (a x)
-counts_up sites OnDemand h o a = a
-counts_up sites Unread h o a = a
-counts_up sites TooOld h o a = a
-counts_up sites TooMany h o a = a
+counts_up sites _ h o a = a
 
 lost_up : (w : NodeWorld) (e : End) (why : Loss) → NoticesAreUp w → NoticesAreUp (frame_lost w e why).0
-lost_up w e why a = go e.at_host refl where
-  lost : Site → Site
-  lost s = record s { link = happens s.link (at e (Lose why)) }
+lost_up w e why a = by_test e.at_host
+    (λ b. subst NoticesAreUp (sym (far_is b))
+    (kept (with_site e.link (λ (s : Site). record (lost s) { node = counts why e.link s.node }) w.sites) w.sites w.controller
+    (side_with e.link (λ (s : Site). record (lost s) { node = counts why e.link s.node }) (λ s. refl) (λ s. lost_side e why s.link) w.sites) a))
+    (λ b. subst NoticesAreUp (sym (near_is b)) (kept (with_site e.link lost w.sites) w.sites (counts why e.link w.controller)
+    (side_with e.link lost (λ s. refl) (λ s. lost_side e why s.link) w.sites) (counts_up w.sites why e.link w.controller a))) where
+      lost : Site → Site
+      lost s = record s { link = happens s.link (at e (Lose why)) }
 
-  near_is : e.at_host ≡ false → (frame_lost w e why).0 ≡ record w { controller = counts why e.link w.controller; sites = with_site e.link lost w.sites }
-  near_is b = rw b refl
+      near_is : e.at_host ≡ false → (frame_lost w e why).0 ≡ record w { controller = counts why e.link w.controller; sites = with_site e.link lost w.sites }
+      near_is b = rw b refl
 
-  far_is : e.at_host ≡ true
-      → (frame_lost w e why).0 ≡ record w { sites = with_site e.link (λ (s : Site). record (lost s) { node = counts why e.link s.node }) w.sites }
-  far_is b = rw b refl
-
-  go : (b : Bool) → e.at_host ≡ b → NoticesAreUp (frame_lost w e why).0
-  go false b =
-      subst NoticesAreUp (sym (near_is b)) (kept (with_site e.link lost w.sites) w.sites (counts why e.link w.controller)
-      (side_with e.link lost (λ s. refl) (λ s. lost_side e why s.link) w.sites) (counts_up w.sites why e.link w.controller a))
-  go true b =
-      subst NoticesAreUp (sym (far_is b))
-      (kept (with_site e.link (λ (s : Site). record (lost s) { node = counts why e.link s.node }) w.sites) w.sites w.controller
-      (side_with e.link (λ (s : Site). record (lost s) { node = counts why e.link s.node }) (λ s. refl) (λ s. lost_side e why s.link) w.sites) a)
+      far_is : e.at_host ≡ true
+          → (frame_lost w e why).0 ≡ record w { sites = with_site e.link (λ (s : Site). record (lost s) { node = counts why e.link s.node }) w.sites }
+      far_is b = rw b refl
 
 -- ## Ticks
 
@@ -422,13 +407,9 @@ controller_tick_up w orderly a = go w.controller refl orderly.controller a where
   go (Some r) e has b = subst NoticesAreUp (sym (on_is r e)) (near_tick w r e has b)
 
 pub host_tick_side : (s : Site) → (host_ticks s).0.link.controller.side ≡ s.link.controller.side
-host_tick_side s = go s.node refl where
+host_tick_side s = by_option s.node (λ e. rw e (far_tick s.link [] GoesOut)) (λ r e. rw e (far_tick s.link (turns_at (k r) s.host) (ending_of (k r)))) where
   k : Running → Work
   k r = steps TimePasses (work_of r s.memory.plan (λ n. s.link.host) [])
-
-  go : (o : Option Running) → s.node ≡ o → (host_ticks s).0.link.controller.side ≡ s.link.controller.side
-  go None e = rw e (far_tick s.link [] GoesOut)
-  go (Some r) e = rw e (far_tick s.link (turns_at (k r) s.host) (ending_of (k r)))
 
 pub hosts_tick_side : (sites : List Site) (n : ℕ) → (link_to (hosts_tick sites).0 n).controller.side ≡ (link_to sites n).controller.side
 hosts_tick_side [] n = refl

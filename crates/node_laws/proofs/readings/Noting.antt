@@ -119,10 +119,7 @@ turn_notes core who (Give m) p is = go (give_refusal p.side m) where
   go : (o : Option Refused) → AllByRecursion (IsOwnNote who) (sent_unless o (own_side core) p.session m)
   go None = (is, tt)
   go (Some why) = tt
-turn_notes core who (Hold held) p is = tt
-turn_notes core who FetchMessage p is = tt
-turn_notes core who SetAside p is = tt
-turn_notes core who Release p is = tt
+turn_notes core who _ p is = tt
 
 -- ## A node
 

@@ -24,17 +24,7 @@ use Rattle.node_laws.specs.readings.Orders.{AreInitsShort, MayDo}
 -- an answer is no command
 pub no_command : (r : Response) (value : List ℕ) → is_command_message (answer_of r value) ≡ false
 no_command response.Ok value = refl
-no_command response.NotConnected value = refl
-no_command response.CommandParameterUnknown value = refl
-no_command response.NotOk value = refl
-no_command response.NoPipesAvailable value = refl
-no_command response.RegistryParameterUnknown value = refl
-no_command response.PipeNotOpened value = refl
-no_command response.CommandNotSupported value = refl
-no_command response.Inhibited value = refl
-no_command response.Timeout value = refl
-no_command response.RegistryAccessDenied value = refl
-no_command response.PipeAccessDenied value = refl
+no_command _ value = refl
 
 module _ (h : ℕ) (F : List ℕ → Type 0) where
   abbrev May : List Deed → Type 0

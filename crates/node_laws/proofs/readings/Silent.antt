@@ -10,7 +10,7 @@ use Rattle.swp_base.specs.declared.link_terms.Cause.{Cause}
 use Rattle.link_laws.specs.machine.Machine.{Message, LinkInput, Refused, Report, ended_by, report, whole_acked, after_input}
 use Rattle.link_laws.specs.entries.Entries.{End as Side, Entry as Noted, if_so, sent_unless}
 use Rattle.link_laws.specs.entries.Entries.End.{Host}
-use Rattle.link_laws.specs.entries.Entries.Entry.{Up, Down, Active, GaveUp, Acked, Got, Sent, Emit, Took, Lost, Tick, Restarted, Cut}
+use Rattle.link_laws.specs.entries.Entries.Entry.{Up, Down, Active, GaveUp, Acked, Got, Sent}
 use Rattle.history.specs.Filters.{same_end}
 use Rattle.history.specs.Steps.{entries_for, end_of}
 use Rattle.node_machine.specs.Parts.{Core, Port}
@@ -46,19 +46,9 @@ IsQuiet _ = Unit {0}
 
 pub quiet_reads : (h k : ℕ) (notes : List Noted) (c : Option (List ℕ)) → AllByRecursion IsQuiet notes → reads h (entries_for k notes) c ≡ c
 quiet_reads h k [] c all = refl
-quiet_reads h k (Up who n ∷ notes) c all = quiet_reads h k notes c all.1
 quiet_reads h k (Down who cause ∷ notes) c all = absurd all.0
-quiet_reads h k (Active who ∷ notes) c all = quiet_reads h k notes c all.1
-quiet_reads h k (GaveUp who tries ∷ notes) c all = quiet_reads h k notes c all.1
-quiet_reads h k (Acked who n count ∷ notes) c all = quiet_reads h k notes c all.1
-quiet_reads h k (Got who n m ∷ notes) c all = quiet_reads h k notes c all.1
 quiet_reads h k (Sent who n m ∷ notes) c all = absurd all.0
-quiet_reads h k (Emit who frame ∷ notes) c all = quiet_reads h k notes c all.1
-quiet_reads h k (Took who frame ∷ notes) c all = quiet_reads h k notes c all.1
-quiet_reads h k (Lost who frame why ∷ notes) c all = quiet_reads h k notes c all.1
-quiet_reads h k (Tick ∷ notes) c all = quiet_reads h k notes c all.1
-quiet_reads h k (Restarted who ∷ notes) c all = quiet_reads h k notes c all.1
-quiet_reads h k (Cut who ∷ notes) c all = quiet_reads h k notes c all.1
+quiet_reads h k (_ ∷ notes) c all = quiet_reads h k notes c all.1
 
 pub quiet-append : (xs ys : List Noted) → AllByRecursion IsQuiet xs → AllByRecursion IsQuiet ys → AllByRecursion IsQuiet (xs ++ ys)
 quiet-append [] ys a b = b

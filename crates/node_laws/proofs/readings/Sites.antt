@@ -33,6 +33,7 @@ use Rattle.node_machine.specs.world.World.{wires_for, port_for}
 use Rattle.node_machine.specs.world.World.{work_of, frames_noted, host_work, after_host, host_ticks}
 use Rattle.node_machine.specs.world.NodeFilters.{order_in}
 use Rattle.node_laws.specs.links.Notices.{IsComing}
+use Rattle.node_laws.proofs.Cases.{by_list}
 use Rattle.node_laws.proofs.links.Noticing.{turn-phase}
 use Rattle.node_laws.proofs.telling.Frames.{lost_all, ending_all, arrival_all}
 use Rattle.node_laws.specs.readings.Orders.{order_of, AreInitsShort, IsSilent, Fits, MayDo}
@@ -77,14 +78,11 @@ finished_phase l e ts = sent_phase e ts
 -- an end after something comes to it, in a step that doesn't lose its power
 pub stepped_phase : (l : Link) (comes : Comes) (ts : List Turn) (i : LinkInput) → input_of l comes ≡ Some i
     → (steps_at_controller l comes ts GoesOut).controller.side.shdlc.phase ≡ (after_input l.controller.side i).shdlc.phase
-stepped_phase l NextFrame ts i e = go l.to_controller refl where
-  go : (xs : List OnWire) → l.to_controller ≡ xs
-      → (steps_at_controller l NextFrame ts GoesOut).controller.side.shdlc.phase ≡ (after_input l.controller.side i).shdlc.phase
-  go [] q = let z : None ≡ Some i = rw q at e in absurd (cc z)
-  go (x ∷ xs) q =
-      let z : Some (Take x.frame) ≡ Some i = rw q at e in
-      let is : Take x.frame ≡ i = cc in
-      rw q (sent_phase (after_input l.controller.side (Take x.frame)) ts ∙ ap (λ j. (after_input l.controller.side j).shdlc.phase) is)
+stepped_phase l NextFrame ts i e = by_list l.to_controller
+    (λ q. let z : None ≡ Some i = rw q at e in absurd (cc z))
+    (λ x xs q. let z : Some (Take x.frame) ≡ Some i = rw q at e in
+    let is : Take x.frame ≡ i = cc in
+    rw q (sent_phase (after_input l.controller.side (Take x.frame)) ts ∙ ap (λ j. (after_input l.controller.side j).shdlc.phase) is))
 stepped_phase l (AsksReset window) ts i e =
     let is : Reset window ≡ i = cc in
     sent_phase (after_input l.controller.side (Reset window)) ts ∙ ap (λ j. (after_input l.controller.side j).shdlc.phase) is
@@ -98,10 +96,9 @@ stepped_phase l NoInput ts i e = let z : None ≡ Some i = e in absurd (cc z)
 
 -- what comes so comes from outside
 pub comes_outside : (l : Link) (comes : Comes) (i : LinkInput) → input_of l comes ≡ Some i → IsComing i
-comes_outside l NextFrame i e = go l.to_controller refl where
-  go : (xs : List OnWire) → l.to_controller ≡ xs → IsComing i
-  go [] q = let z : None ≡ Some i = rw q at e in absurd (cc z)
-  go (x ∷ xs) q = let z : Some (Take x.frame) ≡ Some i = rw q at e in let is : Take x.frame ≡ i = cc in subst IsComing is tt
+comes_outside l NextFrame i e = by_list l.to_controller
+    (λ q. let z : None ≡ Some i = rw q at e in absurd (cc z))
+    (λ x xs q. let z : Some (Take x.frame) ≡ Some i = rw q at e in let is : Take x.frame ≡ i = cc in subst IsComing is tt)
 comes_outside l (AsksReset window) i e = let is : Reset window ≡ i = cc in subst IsComing is tt
 comes_outside l (Starts value) i e = let is : Start value ≡ i = cc in subst IsComing is tt
 comes_outside l Stops i e = let is : Stop ≡ i = cc in subst IsComing is tt
@@ -117,10 +114,7 @@ near_end_side l NextFrame = go l.to_controller where
   go : (xs : List OnWire) → (first xs).side ≡ l.controller.side
   go [] = refl
   go (x ∷ xs) = refl
-near_end_side l (AsksReset window) = refl
-near_end_side l (Starts value) = refl
-near_end_side l Stops = refl
-near_end_side l NoInput = refl
+near_end_side l _ = refl
 
 -- ## A host that runs
 

@@ -17,6 +17,7 @@ use Rattle.node_machine.specs.Node.{NodeInput, input_at, has_come, told_at, all_
 use Rattle.node_machine.specs.Node.{all_owed, without_notice, after_sessions, synced, steps, begins_with}
 use Rattle.node_machine.specs.Node.NodeInput.{AtEnd, TimePasses}
 use Rattle.node_laws.specs.links.Notices.{IsComing, IsOutside}
+use Rattle.node_laws.proofs.Cases.{by_option, by_test}
 use Rattle.node_laws.proofs.links.Staying.{stays_up}
 use Rattle.node_laws.specs.passes.Steps.{comes_to_pass}
 use Rattle.node_laws.specs.readings.Orders.{IsItsEnd, KeepsOrder, IsFresh, Fits, MayDo}
@@ -40,10 +41,7 @@ pub forgets_same : (ports : List Port) (q : Port) → q.desk.notice ≡ None →
 forgets_same ports q e = rw e refl
 
 pub without_same : (q : Port) → q.desk.notice ≡ None → without_notice q ≡ q
-without_same q e = go (q.ended || q.late) refl where
-  go : (b : Bool) → (q.ended || q.late) ≡ b → without_notice q ≡ q
-  go true z = rw z (ap (λ n. record q { desk = record q.desk { notice = n } }) (sym e))
-  go false z = rw z refl
+without_same q e = by_test (q.ended || q.late) (λ z. rw z (ap (λ n. record q { desk = record q.desk { notice = n } }) (sym e))) (λ z. rw z refl)
 
 pub none_forgotten : (q : Port) → q.desk.notice ≡ None → forgotten (q ∷ []) ≡ []
 none_forgotten q e = rw e refl
@@ -64,17 +62,12 @@ behind syncs came =
     (record came { core = after_sessions came.core came.ports; ports = map without_notice (map (forgets came.ports) came.ports) })))
 
 synced_may : (h : ℕ) (F : List ℕ → Type 0) (core : Core) (input : NodeInput) (p : Port) → MayDo h F (synced core input p)
-synced_may h F core input p = go (input_at input p) refl where
-  either : (b : Bool) (d : List Deed) → MayDo h F d → MayDo h F (cond b d [])
-  either true d x = x
-  either false d x = tt
-
-  go : (o : Option LinkInput) → input_at input p ≡ o → MayDo h F (synced core input p)
-  go None q = rw q tt
-  go (Some i) q = by (report p.side i).sync refl where
-    by : (o : Option ℕ) → (report p.side i).sync ≡ o → MayDo h F (synced core input p)
-    by None e = rw (q, e) tt
-    by (Some id) e = rw (q, e) (either _ (Commits (Sync p.desk.host id) ∷ []) tt)
+synced_may h F core input p = by_option (input_at input p)
+    (λ q. rw q tt)
+    (λ i q. by_option (report p.side i).sync (λ e. rw (q, e) tt) (λ id e. rw (q, e) (either _ (Commits (Sync p.desk.host id) ∷ []) tt))) where
+      either : (b : Bool) (d : List Deed) → MayDo h F d → MayDo h F (cond b d [])
+      either true d x = x
+      either false d x = tt
 
 module _ (h : ℕ) (host : IsHost h) (before : List Entry) where
   -- what came to the end of a host

@@ -18,7 +18,7 @@ use Rattle.link_laws.specs.machine.Machine.{Message, LinkEnd, give_refusal, spar
 use Rattle.link_laws.specs.machine.Machine.Turn.{Hold, FetchMessage}
 use Rattle.gate_loopback.specs.Loopback.{posts_back}
 use Rattle.node_machine.specs.Parts.{Port, Work, Deed}
-use Rattle.node_machine.specs.Parts.Deed.{Commits, Sends, SaysOk, Asks, Releases, Tells, IsAnswered, Drops, SetsErrors, Orders, Hears, GoesOn, Ends}
+use Rattle.node_machine.specs.Parts.Deed.{Commits, Sends, SaysOk, Releases, Drops, SetsErrors, Orders, Hears, GoesOn, Ends}
 use Rattle.node_machine.specs.Controller.{is_command_message}
 use Rattle.node_machine.specs.Carrying.{noting, unless_cut, port_at, changed_if, with_port, with_desk, after_turn, turn_at, end_of_node, done, all_done, needs}
 use Rattle.node_machine.specs.Carrying.{lack, own_view, end_view}
@@ -57,17 +57,14 @@ roomy h k F ports [] may none = tt
 roomy h k F ports (Commits c ∷ deeds) may none = roomy h k F ports deeds may none
 roomy h k F ports (Sends to m ∷ deeds) may none = may
 roomy h k F ports (SaysOk ∷ deeds) may none = roomy h k F ports deeds may none
-roomy h k F ports (Asks to message c ∷ deeds) may none = absurd may
 roomy h k F ports (Releases asker ∷ deeds) may none = may
-roomy h k F ports (Tells to message ∷ deeds) may none = absurd may
-roomy h k F ports (IsAnswered ∷ deeds) may none = absurd may
 roomy h k F ports (Drops pid ∷ deeds) may none = roomy h k F ports deeds may none
 roomy h k F ports (SetsErrors errors ∷ deeds) may none = may
 roomy h k F ports (Orders order ∷ deeds) may none =
     ((may.0, (lack_parts ports k (need order) (needs k deeds) none).0), may.1, may.2)
-roomy h k F ports (Hears ∷ deeds) may none = absurd may
 roomy h k F ports (GoesOn i ∷ deeds) may none = (may.0, roomy h k F ports deeds may.1 none)
 roomy h k F ports (Ends e ∷ deeds) may none = (may.0, roomy h k F ports deeds may.1 none)
+roomy h k F ports (_ ∷ deeds) may none = absurd may
 
 -- an end that is up takes an order that isn't too long and finds room
 takes_it : (e : LinkEnd) (order : List ℕ) → e.shdlc.phase ≡ Up → NotLong order → nat_lt (spare e) (need order) ≡ false → give_refusal e (1, order) ≡ None

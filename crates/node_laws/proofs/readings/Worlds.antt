@@ -25,7 +25,8 @@ use Rattle.node_machine.specs.world.World.{NodeWorld, Site, site_at, with_site, 
 use Rattle.node_machine.specs.world.World.{wires_for}
 use Rattle.node_machine.specs.world.World.{port_for, work_of, frames_noted, comes_to, controller_work, link_after_controller, controller_does}
 use Rattle.node_machine.specs.world.World.{host_work, after_host}
-use Rattle.node_machine.specs.world.World.{host_does, comes_at, activates, sending, beginning, end_c, end_h}
+use Rattle.node_machine.specs.world.World.{host_does, comes_at, activates, end_c, end_h}
+use Rattle.node_laws.proofs.Cases.{by_option, by_test}
 use Rattle.node_laws.proofs.links.Ends.{here_host}
 use Rattle.node_laws.specs.kept.Hosts.{AreDifferent, AreHosts}
 use Rattle.node_laws.proofs.kept.Sites.{site_found, hosts_same, hosts_with}
@@ -122,16 +123,12 @@ controller_away r number k host plan near_ends es silent = record {
 }
 
 pub runs_zero : (k : Work) → k.core.node ≡ 0 → IfZero (runs_on k)
-runs_zero k e = go k.cut refl where
+runs_zero k e = by_test k.cut (λ z. subst IfZero (sym (off_is z)) tt) (λ z. subst IfZero (sym (on_is z)) e) where
   on_is : k.cut ≡ false → runs_on k ≡ Some (record { core = k.core; desks = map (λ (p : Port). p.desk) k.ports })
   on_is z = rw z refl
 
   off_is : k.cut ≡ true → runs_on k ≡ None
   off_is z = rw z refl
-
-  go : (b : Bool) → k.cut ≡ b → IfZero (runs_on k)
-  go true z = subst IfZero (sym (off_is z)) tt
-  go false z = subst IfZero (sym (on_is z)) e
 
 -- a host begins a step away from each other one
 pub host_away : (x : Site) (r : Running) → IsHost x.host → HostRuns x.host x.link r → (k : ℕ) (other : eqb x.host k ≡ false) (near_end : NumberedEnd)
@@ -196,62 +193,60 @@ module _ (hosts : List ℕ) (are : AreHosts hosts) where
   far_comes : (t : List Entry) (w : NodeWorld) (h : ℕ) (comes : Comes) (i : LinkInput) → AllRead hosts t w
       → input_of (exchanged (link_to w.sites h)) comes ≡ Some i
       → AllRead hosts (t ++ (host_does w h comes (steps (AtEnd h i))).1) (host_does w h comes (steps (AtEnd h i))).0
-  far_comes t w h comes i all input = by_site (site_at w.sites h) refl where
-    f : Work → Work
-    f = steps (AtEnd h i)
+  far_comes t w h comes i all input = by_option (site_at w.sites h)
+      (λ e. subst Fine (sym (none_is e)) (nothing t w all))
+      (λ x e. let known = site_found (SiteReads t) IsHost w.sites h x all.sites (all_hosts t w all) e in by_node x e known.0 known.1 known.2 x.node refl) where
+        f : Work → Work
+        f = steps (AtEnd h i)
 
-    Fine : NodeWorld × List Entry → Type 0
-    Fine p = AllRead hosts (t ++ p.1) p.0
+        Fine : NodeWorld × List Entry → Type 0
+        Fine p = AllRead hosts (t ++ p.1) p.0
 
-    none_is : site_at w.sites h ≡ None → host_does w h comes f ≡ (w, [])
-    none_is e = rw e refl
+        none_is : site_at w.sites h ≡ None → host_does w h comes f ≡ (w, [])
+        none_is e = rw e refl
 
-    off_is : (x : Site) → site_at w.sites h ≡ Some x → x.node ≡ None → host_does w h comes f ≡ (w, [])
-    off_is x here e = rw here (rw e refl)
+        off_is : (x : Site) → site_at w.sites h ≡ Some x → x.node ≡ None → host_does w h comes f ≡ (w, [])
+        off_is x here e = rw here (rw e refl)
 
-    on_is : (x : Site) (r : Running) → site_at w.sites h ≡ Some x → x.node ≡ Some r → host_does w h comes f
-        ≡ (
-          record w { sites = with_site h (after_host comes (host_work x r comes f)) w.sites },
-          (host_work x r comes f).entries ++ frames_noted Host h (wires_for (exchanged x.link) comes) (host_work x r comes f),
-        )
-    on_is x r here e = rw here (rw e refl)
+        on_is : (x : Site) (r : Running) → site_at w.sites h ≡ Some x → x.node ≡ Some r → host_does w h comes f
+            ≡ (
+              record w { sites = with_site h (after_host comes (host_work x r comes f)) w.sites },
+              (host_work x r comes f).entries ++ frames_noted Host h (wires_for (exchanged x.link) comes) (host_work x r comes f),
+            )
+        on_is x r here e = rw here (rw e refl)
 
-    by_node : (x : Site) → site_at w.sites h ≡ Some x → SiteReads t x → IsHost x.host → x.host ≡ h → (o : Option Running) → x.node ≡ o
-        → Fine (host_does w h comes f)
-    by_node x here keeps host same None e = subst Fine (sym (off_is x here e)) (nothing t w all)
-    by_node x here keeps host same (Some r) e = subst Fine (sym (on_is x r here e)) (record {
-      controller = all.controller;
-      hosts_are = hosts_with h (after_host comes k) (λ s. refl) w.sites ∙ all.hosts_are;
-      sites = with_reads t (k.entries ++ frames) h (after_host comes k)
-          (λ n off. silent-append n k.entries frames (away n off).so (frames_silent n Host h (wires_for (exchanged x.link) comes) k)) w.sites x
-          (subst AreDifferent (sym all.hosts_are) are.different) here changed all.sites;
-    }) where
-      k : Work
-      k = host_work x r comes f
+        by_node : (x : Site) → site_at w.sites h ≡ Some x → SiteReads t x → IsHost x.host → x.host ≡ h → (o : Option Running) → x.node ≡ o
+            → Fine (host_does w h comes f)
+        by_node x here keeps host same None e = subst Fine (sym (off_is x here e)) (nothing t w all)
+        by_node x here keeps host same (Some r) e = subst Fine (sym (on_is x r here e)) (record {
+          controller = all.controller;
+          hosts_are = hosts_with h (after_host comes k) (λ s. refl) w.sites ∙ all.hosts_are;
+          sites = with_reads t (k.entries ++ frames) h (after_host comes k)
+              (λ n off. silent-append n k.entries frames (away n off).so (frames_silent n Host h (wires_for (exchanged x.link) comes) k)) w.sites x
+              (subst AreDifferent (sym all.hosts_are) are.different) here changed all.sites;
+        }) where
+          k : Work
+          k = host_work x r comes f
 
-      frames : List Entry
-      frames = frames_noted Host h (wires_for (exchanged x.link) comes) k
+          frames : List Entry
+          frames = frames_noted Host h (wires_for (exchanged x.link) comes) k
 
-      link_is : link_to w.sites h ≡ x.link
-      link_is = rw here refl
+          link_is : link_to w.sites h ≡ x.link
+          link_is = rw here refl
 
-      changed : SiteReads (t ++ (k.entries ++ frames)) (after_host comes k x)
-      changed =
-          subst (λ n. SiteReads (t ++ ((host_work x r comes (steps (AtEnd n i))).entries
-          ++ frames_noted Host n (wires_for (exchanged x.link) comes) (host_work x r comes (steps (AtEnd n i))))) (after_host comes (host_work x r comes
-          (steps (AtEnd n i))) x)) same (comes_reads t x r comes i host keeps e (ap (λ l. input_of (exchanged l) comes) (sym link_is) ∙ input))
+          changed : SiteReads (t ++ (k.entries ++ frames)) (after_host comes k x)
+          changed =
+              subst (λ n. SiteReads (t ++ ((host_work x r comes (steps (AtEnd n i))).entries
+              ++ frames_noted Host n (wires_for (exchanged x.link) comes) (host_work x r comes (steps (AtEnd n i))))) (after_host comes (host_work x r comes
+              (steps (AtEnd n i))) x)) same (comes_reads t x r comes i host keeps e (ap (λ l. input_of (exchanged l) comes) (sym link_is) ∙ input))
 
-      away : (n : ℕ) (off : eqb h n ≡ false) → IsAway n x.host (ap (λ m. eqb m n) same ∙ off) Host k
-      away n off =
-          steps_away n x.host (ap (λ m. eqb m n) same ∙ off) Host (AtEnd h i) (work_of r x.memory.plan (λ m. near_end_in (exchanged x.link) comes) (entries_for
-          x.host (arrival Host (exchanged x.link) comes)))
-          (host_away x r host (subst (IfHostRuns x.host x.link) e keeps.runs) n (ap (λ m. eqb m n) same ∙ off) (near_end_in
-          (exchanged x.link) comes) (entries_for x.host (arrival Host (exchanged x.link) comes)) (arrival_silent n Host x.host (exchanged x.link) comes))
-
-    by_site : (o : Option Site) → site_at w.sites h ≡ o → Fine (host_does w h comes f)
-    by_site None e = subst Fine (sym (none_is e)) (nothing t w all)
-    by_site (Some x) e =
-        let known = site_found (SiteReads t) IsHost w.sites h x all.sites (all_hosts t w all) e in by_node x e known.0 known.1 known.2 x.node refl
+          away : (n : ℕ) (off : eqb h n ≡ false) → IsAway n x.host (ap (λ m. eqb m n) same ∙ off) Host k
+          away n off =
+              steps_away n x.host (ap (λ m. eqb m n) same ∙ off) Host (AtEnd h i)
+              (work_of r x.memory.plan (λ m. near_end_in (exchanged x.link) comes) (entries_for
+              x.host (arrival Host (exchanged x.link) comes)))
+              (host_away x r host (subst (IfHostRuns x.host x.link) e keeps.runs) n (ap (λ m. eqb m n) same ∙ off) (near_end_in
+              (exchanged x.link) comes) (entries_for x.host (arrival Host (exchanged x.link) comes)) (arrival_silent n Host x.host (exchanged x.link) comes))
 
   pub comes_read : (t : List Entry) (w : NodeWorld) (e : End) (comes : Comes) → AllRead hosts t w
       → AllRead hosts (t ++ (comes_at w e comes).1) (comes_at w e comes).0

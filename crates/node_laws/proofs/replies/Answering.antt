@@ -18,6 +18,7 @@ use Rattle.node_laws.specs.passes.Noting.{IsReplyNoted, next_count, sent_in_sess
 use Rattle.node_laws.specs.answers.Answered.{AnswersSo, before_turn, is_turn_of, to_command}
 use Rattle.node_laws.specs.answers.Order.{is_answer_of}
 use Rattle.node_laws.specs.replies.Known.{IsNoAnswer}
+use Rattle.node_laws.proofs.Cases.{by_option}
 use Rattle.node_laws.proofs.replies.Apart.{SendsOver}
 
 -- ## The entries of a reply
@@ -61,10 +62,7 @@ most_of (Some s) = 1
 module _ (ports : List Port) (sessions : ℕ → Option ℕ) (h : ℕ) where
   -- a message that is sent tells no command
   with_sent : (to : ℕ) (m : Message) (es : List Entry) (most : ℕ) → AreOfReply most es → AreOfReply most (sent_in_session 0 sessions to m ++ es)
-  with_sent to m es most a = go (sessions to) refl where
-    go : (o : Option ℕ) → sessions to ≡ o → AreOfReply most (sent_in_session 0 sessions to m ++ es)
-    go None e = rw e a
-    go (Some n) e = rw e (record { entries = (refl, a.entries); few = a.few })
+  with_sent to m es most a = by_option (sessions to) (λ e. rw e a) (λ n e. rw e (record { entries = (refl, a.entries); few = a.few }))
 
   pub reply_entries : (count : ℕ) (journal : Option State) (command : Option (List ℕ)) (init : Option Init) (deeds : List Deed)
       → AllByRecursion (SendsOver ports) deeds → MayBeDone journal command init deeds

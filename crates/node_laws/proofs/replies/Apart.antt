@@ -175,13 +175,9 @@ may_apart h (Tells to message ∷ deeds) given b first F free may sent = (
   may_apart h deeds (to ∷ given) false (λ z. absurd (true≢false (sym z))) (λ x n. (eqb to x ≡ false) × F x n) (λ x n f. (f.0, free x n f.1))
       (λ x. (may x).2) sent,
 )
-may_apart h (IsAnswered ∷ deeds) given b first F free may sent = absurd (may 0)
 may_apart h (Drops pid ∷ deeds) given b first F free may sent = may_apart h deeds given b first F free may sent
 may_apart h (SetsErrors errors ∷ deeds) given b first F free may sent = may_apart h deeds given b first F free may sent
-may_apart h (Orders message ∷ deeds) given b first F free may sent = absurd (may 0)
-may_apart h (Hears ∷ deeds) given b first F free may sent = absurd (may 0)
-may_apart h (GoesOn i ∷ deeds) given b first F free may sent = absurd (may 0)
-may_apart h (Ends e ∷ deeds) given b first F free may sent = absurd (may 0)
+may_apart h (_ ∷ deeds) given b first F free may sent = absurd (may 0)
 
 -- what may be told, but for a notice that is answered first
 abbrev MayFrom : ℕ → List Deed → Type 0
@@ -191,18 +187,7 @@ MayFrom x deeds = MayTell x IsShort deeds
 may_from : (x : ℕ) (deeds : List Deed) → MayTell x IsShort deeds → MayFrom x deeds
 may_from x [] may = may
 may_from x (IsAnswered ∷ deeds) may = absurd may
-may_from x (Commits c ∷ deeds) may = may
-may_from x (Sends to m ∷ deeds) may = may
-may_from x (SaysOk ∷ deeds) may = may
-may_from x (Asks to message c ∷ deeds) may = may
-may_from x (Releases asker ∷ deeds) may = may
-may_from x (Tells to message ∷ deeds) may = may
-may_from x (Drops pid ∷ deeds) may = may
-may_from x (SetsErrors errors ∷ deeds) may = may
-may_from x (Orders message ∷ deeds) may = may
-may_from x (Hears ∷ deeds) may = may
-may_from x (GoesOn i ∷ deeds) may = may
-may_from x (Ends e ∷ deeds) may = may
+may_from x (_ ∷ deeds) may = may
 
 from_apart : (h : ℕ) (deeds : List Deed) → ((x : ℕ) → MayFrom x deeds) → FirstSent true deeds → GiveOnce h [] deeds
 from_apart h [] may sent = tt
@@ -215,10 +200,7 @@ from_apart h (Releases asker ∷ deeds) may sent = may_apart h (Releases asker �
 from_apart h (Tells to n ∷ deeds) may sent = may_apart h (Tells to n ∷ deeds) [] true (λ z. refl) (λ x n. IsShort n) (λ x n f. tt) may sent
 from_apart h (Drops pid ∷ deeds) may sent = may_apart h (Drops pid ∷ deeds) [] true (λ z. refl) (λ x n. IsShort n) (λ x n f. tt) may sent
 from_apart h (SetsErrors e ∷ deeds) may sent = may_apart h (SetsErrors e ∷ deeds) [] true (λ z. refl) (λ x n. IsShort n) (λ x n f. tt) may sent
-from_apart h (Orders message ∷ deeds) may sent = absurd (may 0)
-from_apart h (Hears ∷ deeds) may sent = absurd (may 0)
-from_apart h (GoesOn i ∷ deeds) may sent = absurd (may 0)
-from_apart h (Ends e ∷ deeds) may sent = absurd (may 0)
+from_apart h (_ ∷ deeds) may sent = absurd (may 0)
 
 module _ (core : Core) (ports : List Port) (h : ℕ) (sorted : AreTables core.tables) (two : JoinTwo core.tables.rows) (some : 1 ≤ h) (most : h ≤ 7)
     (right : AreRight ports) (up : (x : ℕ) → UpAt (port_at ports x)) where

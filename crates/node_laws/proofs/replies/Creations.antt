@@ -19,6 +19,7 @@ use Rattle.node_machine.specs.Carrying.{port_at}
 use Rattle.node_machine.specs.Controller.{creation_of, creation_in, about_of, asked_at}
 use Rattle.node_machine.specs.HostReplies.{pipe_named_in}
 use Rattle.node_machine.specs.world.NodeFilters.{notice_in, asking_in}
+use Rattle.node_laws.proofs.Cases.{by_option, by_test}
 use Rattle.node_laws.proofs.telling.Accounts.{at_host}
 use Rattle.node_laws.specs.kept.Books.{hosts_of_ends}
 use Rattle.node_laws.specs.kept.Hosts.{AreHosts, AreDifferent}
@@ -237,28 +238,25 @@ module _ (hosts : List ℕ) (are : AreHosts hosts) (t : List Entry) (w : Work) (
 
     -- a creation with this notice waits at no other end
     clash : (c : Creation) → n.about ≡ Forgotten → instruction_in m ≡ 18 → (end : WaitsAtEnd w.ports c) → IsNoticeOf c m → ⊥
-    clash c about is end of = go end.port.desk.notice refl where
-      near : (z : Notice) → end.port.desk.notice ≡ Some z → z.about ≡ Waits c → (y : List ℕ) → notice_in now end.host ≡ Some y → IsNoticeOf c y → ⊥
-      near z e waits y r kept_of =
-          let there_too : notice_in now end.host ≡ Some m = r ∙ ap (λ u. Some u) (notice_same c y m kept_of of) in
-          let host : end.host ≡ k = sym (names_read now named end.host m there_too is) ∙ names_read now named k m reads is in
-          let ports : Some end.port ≡ Some p = sym end.found ∙ (ap (port_at w.ports) host ∙ found) in
-          let one : end.port ≡ p = cc in
-          let notices : Some z ≡ Some n = sym e ∙ (ap (λ (q : Port). q.desk.notice) one ∙ there) in
-          let two : z ≡ n = cc in
-          let abouts : Waits c ≡ Forgotten = sym waits ∙ (ap (λ (z : Notice). z.about) two ∙ about) in
-          absurd (cc abouts)
+    clash c about is end of = by_option end.port.desk.notice
+        (λ e. let none : None ≡ Some c = sym (ap creation_in e) ∙ end.asked in absurd (cc none))
+        (λ z e. read_there z e (about_waits z c (sym (ap creation_in e) ∙ end.asked)) (notice_in now end.host) refl
+        (subst (IsKeptNotice (notice_in now end.host)) e (kept end.host end.port end.found))) where
+          near : (z : Notice) → end.port.desk.notice ≡ Some z → z.about ≡ Waits c → (y : List ℕ) → notice_in now end.host ≡ Some y → IsNoticeOf c y → ⊥
+          near z e waits y r kept_of =
+              let there_too : notice_in now end.host ≡ Some m = r ∙ ap (λ u. Some u) (notice_same c y m kept_of of) in
+              let host : end.host ≡ k = sym (names_read now named end.host m there_too is) ∙ names_read now named k m reads is in
+              let ports : Some end.port ≡ Some p = sym end.found ∙ (ap (port_at w.ports) host ∙ found) in
+              let one : end.port ≡ p = cc in
+              let notices : Some z ≡ Some n = sym e ∙ (ap (λ (q : Port). q.desk.notice) one ∙ there) in
+              let two : z ≡ n = cc in
+              let abouts : Waits c ≡ Forgotten = sym waits ∙ (ap (λ (z : Notice). z.about) two ∙ about) in
+              absurd (cc abouts)
 
-      read_there : (z : Notice) → end.port.desk.notice ≡ Some z → z.about ≡ Waits c → (r : Option (List ℕ)) → notice_in now end.host ≡ r
-          → IsKeptNotice r (Some z) → ⊥
-      read_there z e waits None r k = k
-      read_there z e waits (Some y) r k = near z e waits y r (subst (λ b. IsAbout b y) waits k)
-
-      go : (o : Option Notice) → end.port.desk.notice ≡ o → ⊥
-      go None e = let none : None ≡ Some c = sym (ap creation_in e) ∙ end.asked in absurd (cc none)
-      go (Some z) e =
-          read_there z e (about_waits z c (sym (ap creation_in e) ∙ end.asked)) (notice_in now end.host) refl
-          (subst (IsKeptNotice (notice_in now end.host)) e (kept end.host end.port end.found))
+          read_there : (z : Notice) → end.port.desk.notice ≡ Some z → z.about ≡ Waits c → (r : Option (List ℕ)) → notice_in now end.host ≡ r
+              → IsKeptNotice r (Some z) → ⊥
+          read_there z e waits None r k = k
+          read_there z e waits (Some y) r k = near z e waits y r (subst (λ b. IsAbout b y) waits k)
 
     -- a creation of a notice that is forgotten isn't read: its asker asks for none by the same message
     not_asked : n.about ≡ Forgotten → instruction_in m ≡ 18 → (row : PipeRow) → option_map_or (same_bytes m) (asking_in now row.creator) false ≡ true → ⊥
@@ -275,13 +273,11 @@ module _ (hosts : List ℕ) (are : AreHosts hosts) (t : List Entry) (w : Work) (
             clash c about is (waits_at_end row.creator w.ports w.ports c [] own_found z) (subst (IsNoticeOf c) (sym same) so)
 
     forgotten : n.about ≡ Forgotten → instruction_in m ≡ 18 → read_of now m ≡ Some None
-    forgotten about is = go (pipe_named_in (body_in m)) refl where
-      go : (o : Option PipeRow) → pipe_named_in (body_in m) ≡ o → read_of now m ≡ Some None
-      go None q = rw (is, q) refl
-      go (Some row) q = by (option_map_or (same_bytes m) (asking_in now row.creator) false) refl where
-        by : (b : Bool) → option_map_or (same_bytes m) (asking_in now row.creator) false ≡ b → read_of now m ≡ Some None
-        by true e = absurd (not_asked about is row e)
-        by false e = rw (is, q, e) refl
+    forgotten about is = by_option (pipe_named_in (body_in m))
+        (λ q. rw (is, q) refl)
+        (λ row q. by_test (option_map_or (same_bytes m) (asking_in now row.creator) false)
+        (λ e. absurd (not_asked about is row e))
+        (λ e. rw (is, q, e) refl))
 
     removed : (i : ℕ) → instruction_in m ≡ i → eqb i 18 ≡ false → read_of now m ≡ Some None
     removed i is off = let no : eqb (instruction_in m) 18 ≡ false = ap (λ i. eqb i 18) is ∙ off in rw no refl

@@ -17,6 +17,7 @@ use Rattle.node_machine.specs.world.NodeFilters.{session_now}
 use Rattle.node_laws.specs.links.Notices.{AllReach}
 use Rattle.node_laws.specs.passes.Noting.{next_count, sent_in_session, entries_of_reply, session_of_port}
 use Rattle.node_laws.specs.replies.Known.{EndsAreRead}
+use Rattle.node_laws.proofs.Cases.{by_option}
 use Rattle.node_laws.proofs.replies.Apart.{SendsOver}
 
 module _ (t : List Entry) (ports : List Port) (ends : EndsAreRead t ports) (h : ℕ) where
@@ -25,11 +26,9 @@ module _ (t : List Entry) (ports : List Port) (ends : EndsAreRead t ports) (h : 
 
   -- an end that is up has the session that is read
   same_session : (k : ℕ) → has_link ports k ≡ true → read_session k ≡ session_of_port ports k
-  same_session k up = go (port_at ports k) refl where
-    go : (o : Option Port) → port_at ports k ≡ o → read_session k ≡ session_of_port ports k
-    go None q = absurd (true≢false (sym up ∙ ap (λ o. option_map_or (λ (p : Port). is_up p.side.shdlc.phase) o false) q))
-    go (Some p) q =
-        ends.sessions k p q ∙ sym (ap (λ o. option_and_then (λ (p : Port). cond (is_up p.side.shdlc.phase) (Some p.session) None) o) q)
+  same_session k up = by_option (port_at ports k)
+      (λ q. absurd (true≢false (sym up ∙ ap (λ o. option_map_or (λ (p : Port). is_up p.side.shdlc.phase) o false) q)))
+      (λ p q. ends.sessions k p q ∙ sym (ap (λ o. option_and_then (λ (p : Port). cond (is_up p.side.shdlc.phase) (Some p.session) None) o) q))
 
   same_sent : (k : ℕ) (m : Message) → has_link ports k ≡ true → sent_in_session 0 read_session k m ≡ sent_in_session 0 (session_of_port ports) k m
   same_sent k m up = ap (λ o. option_map_or (λ n. entry.Sent (end_c k) n m.0 m.1 ∷ []) o []) (same_session k up)

@@ -15,6 +15,7 @@ use Rattle.node_machine.specs.Turns.{deeds_of, handles}
 use Rattle.node_machine.specs.world.World.{end_c}
 use Rattle.node_machine.specs.world.NodeFilters.{session_now, spare_at}
 use Rattle.node_laws.specs.links.Notices.{AllReach}
+use Rattle.node_laws.proofs.Cases.{by_option}
 use Rattle.node_laws.proofs.links.Reaching.{controller_reach}
 use Rattle.node_laws.specs.kept.Books.{StillRuns}
 use Rattle.node_laws.specs.kept.Deeds.{MayBeDone}
@@ -95,22 +96,19 @@ module _ (hosts : List ℕ) (are : AreHosts hosts) (t : List Entry) (w : Work) (
 
   -- an asker whose creation waits is up
   asker_up : (p : Port) (c : Creation) → port_at w.ports h ≡ Some p → asked_at p ≡ Some c → has_link w.ports c.asker ≡ true
-  asker_up p c found asked = go (port_at w.ports c.asker) refl where
-    some : IsIn c (creations_at (desks_of w.ports) c.asker)
-    some = subst (IsIn c) (sym (desks_wait c.asker w.ports)) (in_waits c.asker w.ports h p c found asked refl)
+  asker_up p c found asked = by_option (port_at w.ports c.asker)
+      (λ q. absurd (filled (subst (HasAsideAt (creations_at (desks_of w.ports) c.asker)) q (a.asides c.asker))))
+      (λ x q. let aside : HasAsideAt (creations_at (desks_of w.ports) c.asker) (Some x) =
+      subst (HasAsideAt (creations_at (desks_of w.ports) c.asker)) q (a.asides c.asker) in
+      ap (λ o. option_map_or (λ (p : Port). is_up p.side.shdlc.phase) o false) q ∙ ap is_up (aside.up filled)) where
+        some : IsIn c (creations_at (desks_of w.ports) c.asker)
+        some = subst (IsIn c) (sym (desks_wait c.asker w.ports)) (in_waits c.asker w.ports h p c found asked refl)
 
-    filled : creations_at (desks_of w.ports) c.asker ≡ [] → ⊥
-    filled none = by some.front (sym some.is ∙ none) where
-      by : (front : List Creation) → front ++ (c ∷ some.back) ≡ [] → ⊥
-      by [] e = cc e
-      by (d ∷ front) e = cc e
-
-    go : (o : Option Port) → port_at w.ports c.asker ≡ o → has_link w.ports c.asker ≡ true
-    go None q = absurd (filled (subst (HasAsideAt (creations_at (desks_of w.ports) c.asker)) q (a.asides c.asker)))
-    go (Some x) q =
-        let aside : HasAsideAt (creations_at (desks_of w.ports) c.asker) (Some x) =
-        subst (HasAsideAt (creations_at (desks_of w.ports) c.asker)) q (a.asides c.asker) in
-        ap (λ o. option_map_or (λ (p : Port). is_up p.side.shdlc.phase) o false) q ∙ ap is_up (aside.up filled)
+        filled : creations_at (desks_of w.ports) c.asker ≡ [] → ⊥
+        filled none = by some.front (sym some.is ∙ none) where
+          by : (front : List Creation) → front ++ (c ∷ some.back) ≡ [] → ⊥
+          by [] e = cc e
+          by (d ∷ front) e = cc e
 
   sends : FirstSent true (controller_deeds (view_of w.core w.ports) h message)
       × AllByRecursion (SendsOver w.ports) (controller_deeds (view_of w.core w.ports) h message)

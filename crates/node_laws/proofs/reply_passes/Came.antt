@@ -26,6 +26,7 @@ use Rattle.node_laws.specs.kept.Books.{hosts_of_ends}
 use Rattle.node_laws.specs.kept.Hosts.{AreDifferent}
 use Rattle.node_laws.specs.cuts.Histories.{is_one_of}
 use Rattle.node_laws.specs.links.Notices.{IsComing, IsOutside}
+use Rattle.node_laws.proofs.Cases.{by_test}
 use Rattle.node_laws.proofs.steps.Ports.{come_host, forgets_host, without_host, late_host}
 use Rattle.node_laws.proofs.steps.StepWalks.{unless}
 use Rattle.node_laws.proofs.telling.Mute.{AreMute, forgotten_mute, all_owed_mute, all_synced_mute}
@@ -83,10 +84,7 @@ comes_outside (AtEnd h i) p a = by (eqb p.desk.host h) where
 comes_outside TimePasses p a = tt
 
 reset_side : (p : Port) → (reset_late p).side.got ≡ p.side.got
-reset_side p = go (is_late p) refl where
-  go : (b : Bool) → is_late p ≡ b → (reset_late p).side.got ≡ p.side.got
-  go true q = rw q (reset_got p.side None)
-  go false q = rw q refl
+reset_side p = by_test (is_late p) (λ q. rw q (reset_got p.side None)) (λ q. rw q refl)
 
 -- an end of a node on this side
 module _ (k : ℕ) (who : Side) where

@@ -13,7 +13,7 @@ use Rattle.link_laws.specs.sessions.Sessions.{OnWire}
 use Rattle.link_laws.specs.messages.Links.{Link, exchanged, new_link}
 use Rattle.link_laws.specs.machine.Machine.Role.{Bare}
 use Rattle.history.specs.Damage.{Verdict}
-use Rattle.history.specs.Damage.Verdict.{Same, LostFor, Undetected}
+use Rattle.history.specs.Damage.Verdict.{Same}
 use Rattle.history.specs.Follows.{taken_of, first_verdict}
 use Rattle.node_machine.specs.Parts.{Running}
 use Rattle.node_machine.specs.world.World.{NodeWorld, Site, Happening, node_at, site_at, link_to, new_world, world_step}
@@ -56,30 +56,18 @@ taken_few (Some n) wire few = omega (arith, few)
 damage_few : (e : End) (v : Option Verdict) → length (happens_by e v) ≤ 100
 damage_few e None = omega arith
 damage_few e (Some Same) = omega arith
-damage_few e (Some (LostFor why)) = omega arith
-damage_few e (Some (Undetected read)) = omega arith
+damage_few e (Some _) = omega arith
 
 -- a line causes 100 events at most
 causes_few : (header : Header) (w : NodeWorld) (l : Line) → AreFewWires w.sites → IsNodeLineOf header l → length (happenings w l) ≤ 100
-causes_few header w (line.Send e pid message) few is = omega arith
 causes_few header w (line.Deliver e count) few is =
     let most = taken_few count (frames_at w e) (frames_few w e few) in
     let long = length-replicate (taken_of count (frames_at w e)) (Takes e) in
     omega (arith, most, long)
-causes_few header w (line.Lose e) few is = omega arith
 causes_few header w (line.Damage e places) few is = damage_few e (first_verdict (frames_at w e) places.items)
 causes_few header w (line.Tick None) few is = omega arith
 causes_few header w (line.Tick (Some n)) few is = let long = length-replicate n Ticks in let most = is.1 in omega (arith, long, most)
-causes_few header w (line.Reset e window) few is = omega arith
-causes_few header w (line.Busy e) few is = omega arith
-causes_few header w (line.Ready e) few is = omega arith
-causes_few header w (line.Boot node) few is = omega arith
-causes_few header w (line.Cut node) few is = omega arith
-causes_few header w (line.Activate host sync power) few is = omega arith
-causes_few header w (line.Arm node nth fill) few is = omega arith
-causes_few header w (line.Init e identity pipes) few is = omega arith
-causes_few header w (line.Tables node) few is = omega arith
-causes_few header w (line.Settle rounds) few is = omega arith
+causes_few header w _ few is = omega arith
 
 -- ## Events
 
@@ -103,20 +91,7 @@ none_long n (Some r) = omega arith
 
 on_long : (w : NodeWorld) (l : Line) → length (all_happen w (happenings w l)).1 ≤ 100 → length (occurrences_of (goes_on w l).1) ≤ 100
 on_long w (line.Tables n) a = none_long n (node_at w n)
-on_long w (line.Send e pid message) a = a
-on_long w (line.Deliver e count) a = a
-on_long w (line.Lose e) a = a
-on_long w (line.Damage e places) a = a
-on_long w (line.Tick times) a = a
-on_long w (line.Reset e window) a = a
-on_long w (line.Busy e) a = a
-on_long w (line.Ready e) a = a
-on_long w (line.Boot n) a = a
-on_long w (line.Cut n) a = a
-on_long w (line.Activate host sync power) a = a
-on_long w (line.Arm n nth fill) a = a
-on_long w (line.Init e identity pipes) a = a
-on_long w (line.Settle rounds) a = a
+on_long w _ a = a
 
 line_long : (header : Header) (w : NodeWorld) (l : Line) → AreFewWires w.sites → IsNodeLineOf header l → length (occurrences_of (line_step w l).1) ≤ 100
 line_long header w l few is = go (refusal_in w l) where

@@ -16,11 +16,12 @@ use Rattle.link_laws.specs.machine.Machine.{Message, Turn}
 use Rattle.link_laws.specs.machine.Machine.Turn.{Give, Hold, FetchMessage, SetAside, Release}
 use Rattle.node_machine.specs.Parts.{About, Core, Port, Work, Deed}
 use Rattle.node_machine.specs.Parts.About.{Waits, Removed}
-use Rattle.node_machine.specs.Parts.Deed.{Commits, Sends, SaysOk, Asks, Releases, Tells, IsAnswered, Drops, SetsErrors, Orders, Hears, GoesOn, Ends}
+use Rattle.node_machine.specs.Parts.Deed.{Commits, Sends, SaysOk, Asks, Releases, Tells, Drops, Orders, Ends}
 use Rattle.node_machine.specs.Carrying.{noting, turn_at, commit, done, all_done, notified, end_of_node, finds_room}
 use Rattle.node_machine.specs.Turns.{deeds_of}
 use Rattle.node_machine.specs.Node.{NodeInput, steps, after_sessions, forgets, forgotten, without_notice, all_come, is_over}
 use Rattle.node_machine.specs.Node.NodeInput.{AtEnd, TimePasses}
+use Rattle.node_laws.proofs.Cases.{by_test}
 use Rattle.node_laws.proofs.steps.StepWalks.{Lasts, all_last, got_at, handled, holds, lets, rest_lasts, unless}
 use Rattle.node_machine.proofs.Walks.{anyone}
 use Rattle.node_laws.specs.passes.Passing.{ComesTo}
@@ -35,10 +36,7 @@ commits-append (x ∷ s) t = commits-append s t
 
 -- a commit makes one more generation at most
 pub commit_grows : (s : State) (t : HciTables) (body : List ℕ) → (committed s t body).generation ≤ s.generation + 1
-commit_grows s t body = by (record_fits s body) refl where
-  by : (b : Bool) → record_fits s body ≡ b → (committed s t body).generation ≤ s.generation + 1
-  by true q = rw q (omega arith)
-  by false q = rw q (omega arith)
+commit_grows s t body = by_test (record_fits s body) (λ q. rw q (omega arith)) (λ q. rw q (omega arith))
 
 -- where the power has gone, a generation more may have been written
 abbrev pub spent : Bool → ℕ
@@ -97,13 +95,10 @@ module _ (t : List Entry) where
       (note_grow (entry.Ask to message ∷ []) (turn_at c.asker SetAside w) (turns_grow c.asker SetAside w a))
   done_grow h (Releases asker) w a = turns_grow asker Release w a
   done_grow h (Tells to message) w a = tells_grow to Removed message w a
-  done_grow h IsAnswered w a = a
   done_grow h (Drops pid) w a = note_grow (entry.Dropped (end_of_node w.core h) pid ∷ []) w a
-  done_grow h (SetsErrors errors) w a = a
   done_grow h (Orders message) w a = turns_grow h (Give (1, message)) (record w { core = record w.core { command = Some message } }) a
-  done_grow h Hears w a = a
-  done_grow h (GoesOn i) w a = a
   done_grow h (Ends e) w a = note_grow (e ∷ []) (record w { core = record w.core { init = None } }) a
+  done_grow h _ w a = a
 
   abbrev Any : Deed → Type 0
   Any d = Unit {0}
@@ -131,10 +126,7 @@ module _ (t : List Entry) where
   all_grow h deeds w a = all_last Grows Any AnyMessage grow_lasts h deeds w (any_deeds deeds) a
 
   sessions_journal : (core : Core) (ports : List Port) → (after_sessions core ports).journal ≡ core.journal
-  sessions_journal core ports = by (list_any is_over ports) refl where
-    by : (b : Bool) → list_any is_over ports ≡ b → (after_sessions core ports).journal ≡ core.journal
-    by true q = rw q refl
-    by false q = rw q refl
+  sessions_journal core ports = by_test (list_any is_over ports) (λ q. rw q refl) (λ q. rw q refl)
 
   come_grow : (input : NodeInput) (w : Work) → Grows w → Grows (has_come_so input w)
   come_grow (AtEnd h i) w a = more w (has_come_so (AtEnd h i) w) _ refl refl refl a
@@ -177,10 +169,7 @@ module _ (t : List Entry) where
 
 -- where few commands were noted, any command finds room
 pub few_find_room : (t : List Entry) (w : Work) → Grows t w → commits (t ++ w.entries) ≤ 4000000000 → (c : Command) → finds_room w.core c ≡ true
-few_find_room t w a few c = by (record_fits w.core.journal (body_of c)) refl where
-  low : w.core.journal.generation < 4294967295
-  low = omega (arith, a, few)
-
-  by : (b : Bool) → record_fits w.core.journal (body_of c) ≡ b → finds_room w.core c ≡ true
-  by true q = rw q refl
-  by false q = rw q (lt-ltb w.core.journal.generation 4294967295 low)
+few_find_room t w a few c = by_test (record_fits w.core.journal (body_of c)) (λ q. rw q refl) (λ q. rw q (lt-ltb w.core.journal.generation 4294967295 low))
+  where
+    low : w.core.journal.generation < 4294967295
+    low = omega (arith, a, few)

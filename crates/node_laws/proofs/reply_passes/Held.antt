@@ -14,7 +14,7 @@ use Rattle.link_laws.specs.machine.Machine.{Message, LinkInput, Turn}
 use Rattle.link_laws.specs.machine.Machine.Turn.{Give}
 use Rattle.link_laws.specs.messages.Links.{NumberedEnd, Link, Comes, Loss, exchanged, aged}
 use Rattle.link_laws.specs.messages.Links.Comes.{AsksReset, NextFrame, NoInput, Starts}
-use Rattle.link_laws.specs.messages.Links.Loss.{OnDemand, Broken, Unread, TooOld, TooMany}
+use Rattle.link_laws.specs.messages.Links.Loss.{Broken}
 use Rattle.link_laws.specs.entries.Entries.{End as Side, aged_entries, ending_entries, first_lost, turn_entry}
 use Rattle.link_laws.specs.entries.Entries.End.{Controller, Host}
 use Rattle.history.specs.Steps.{entries_for}
@@ -303,15 +303,12 @@ module _ (t : List Entry) (w : NodeWorld) (before : HoldsRead t w) where
 
   counted : (why : Loss) (h : ℕ) (o : Option Running) → o ≡ w.controller → (r : Running) → counts why h o ≡ Some r → (k : ℕ)
       → holds_in t (end_c k) ≡ is_held_among r.desks k
-  counted OnDemand h o same r q k = before r (sym same ∙ q) k
-  counted Unread h o same r q k = before r (sym same ∙ q) k
-  counted TooOld h o same r q k = before r (sym same ∙ q) k
-  counted TooMany h o same r q k = before r (sym same ∙ q) k
   counted (Broken fault) h None same r q k = absurd (cc q)
   counted (Broken fault) h (Some x) same r q k =
       let all : Some (record x { desks = with_error h x.desks }) ≡ Some r = q in
       let is : record x { desks = with_error h x.desks } ≡ r = cc in
       before x (sym same) k ∙ (sym (error_held h x.desks k) ∙ ap (λ (y : Running). is_held_among y.desks k) is)
+  counted _ h o same r q k = before r (sym same ∙ q) k
 
   lost_read : (e : End) (why : Loss) → ThenRead t (frame_lost w e why)
   lost_read e why =

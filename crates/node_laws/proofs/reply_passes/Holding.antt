@@ -17,6 +17,7 @@ use Rattle.node_machine.specs.Node.{steps, is_forgotten, after_sessions}
 use Rattle.node_machine.specs.Controller.{asked_at}
 use Rattle.node_machine.specs.Node.NodeInput.{AtEnd, TimePasses}
 use Rattle.node_laws.specs.kept.Books.{hosts_of_ends}
+use Rattle.node_laws.proofs.Cases.{by_test}
 use Rattle.node_laws.proofs.steps.Ports.{come_host, forgets_host, without_host, late_host}
 use Rattle.node_laws.proofs.steps.StepWalks.{unless}
 use Rattle.node_laws.proofs.turns.Passing.{map_is}
@@ -45,22 +46,13 @@ come_holds p None = refl
 come_holds p (Some i) = refl
 
 late_holds : (p : Port) → (reset_late p).desk.holds ≡ p.desk.holds
-late_holds p = by (is_late p) refl where
-  by : (b : Bool) → is_late p ≡ b → (reset_late p).desk.holds ≡ p.desk.holds
-  by true q = rw q refl
-  by false q = rw q refl
+late_holds p = by_test (is_late p) (λ q. rw q refl) (λ q. rw q refl)
 
 without_holds : (p : Port) → (without_notice p).desk.holds ≡ p.desk.holds
-without_holds p = by (is_over p) refl where
-  by : (b : Bool) → is_over p ≡ b → (without_notice p).desk.holds ≡ p.desk.holds
-  by true q = rw q refl
-  by false q = rw q refl
+without_holds p = by_test (is_over p) (λ q. rw q refl) (λ q. rw q refl)
 
 forgets_holds : (ports : List Port) (p : Port) → (forgets ports p).desk.holds ≡ p.desk.holds
-forgets_holds ports p = by (is_forgotten ports (asked_at p)) refl where
-  by : (b : Bool) → is_forgotten ports (asked_at p) ≡ b → (forgets ports p).desk.holds ≡ p.desk.holds
-  by true q = rw q refl
-  by false q = rw q refl
+forgets_holds ports p = by_test (is_forgotten ports (asked_at p)) (λ q. rw q refl) (λ q. rw q refl)
 
 -- ## As a pass begins
 
@@ -129,10 +121,9 @@ module _ (n : ℕ) (who : Side) (t : List Entry) (input : NodeInput) (w : Work) 
 
   -- what is noted before the pass tells of no turn, and of no boot
   begun_unbooted : AreNoBoots begun.entries
-  begun_unbooted = by begun.cut refl where
-    by : (b : Bool) → begun.cut ≡ b → AreNoBoots begun.entries
-    by true off = subst (λ (v : Work). AreNoBoots v.entries) (off_is off) all_unbooted
-    by false on = (front_unbooted begun.entries (walk on).more (subst AreNoBoots (ap (λ (v : Work). v.entries) (on_is on) ∙ (walk on).entries) all_unbooted)).0
+  begun_unbooted = by_test begun.cut
+      (λ off. subst (λ (v : Work). AreNoBoots v.entries) (off_is off) all_unbooted)
+      (λ on. (front_unbooted begun.entries (walk on).more (subst AreNoBoots (ap (λ (v : Work). v.entries) (on_is on) ∙ (walk on).entries) all_unbooted)).0)
 
   begun_quiet : AreNoTurns begun.entries
   begun_quiet = subst AreNoTurns (sym (before_entries input w))
@@ -153,15 +144,12 @@ module _ (n : ℕ) (who : Side) (t : List Entry) (input : NodeInput) (w : Work) 
 
   -- all that is noted in the step of turns stands at this side
   pub all_sided : AreOnSide (is_host_side who) ended.entries
-  all_sided = by begun.cut refl where
-    first : AreOnSide (is_host_side who) begun.entries
-    first = quiet_sided (is_host_side who) begun.entries begun_quiet begun_unbooted
-
-    by : (b : Bool) → begun.cut ≡ b → AreOnSide (is_host_side who) ended.entries
-    by true off = subst (λ (v : Work). AreOnSide (is_host_side who) v.entries) (sym (off_is off)) first
-    by false on =
-        subst (AreOnSide (is_host_side who)) (sym (ap (λ (v : Work). v.entries) (on_is on) ∙ (walk on).entries))
-        (AllByRecursion-append (IsOnSide (is_host_side who)) begun.entries (walk on).more first (more_sided on))
+  all_sided = by_test begun.cut
+      (λ off. subst (λ (v : Work). AreOnSide (is_host_side who) v.entries) (sym (off_is off)) first)
+      (λ on. subst (AreOnSide (is_host_side who)) (sym (ap (λ (v : Work). v.entries) (on_is on) ∙ (walk on).entries))
+      (AllByRecursion-append (IsOnSide (is_host_side who)) begun.entries (walk on).more first (more_sided on))) where
+        first : AreOnSide (is_host_side who) begun.entries
+        first = quiet_sided (is_host_side who) begun.entries begun_quiet begun_unbooted
 
   -- at one end
   pub ended_read_at : (k : ℕ) → ended.cut ≡ false → holds_in t (at_end k) ≡ is_held_at w.ports k

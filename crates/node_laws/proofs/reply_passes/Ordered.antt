@@ -16,7 +16,7 @@ use Rattle.link_laws.specs.entries.Entries.End.{Controller, Host}
 use Rattle.history.specs.Filters.{same_end}
 use Rattle.history.specs.Steps.{end_of, entries_for}
 use Rattle.node_machine.specs.Parts.{Core, Port, Work, Deed}
-use Rattle.node_machine.specs.Parts.Deed.{Commits, Sends, SaysOk, Asks, Releases, Tells, IsAnswered, Drops, SetsErrors, Orders, Hears, GoesOn, Ends}
+use Rattle.node_machine.specs.Parts.Deed.{Commits, Sends, SaysOk, Asks, Tells, Drops, Orders, Ends}
 use Rattle.node_machine.specs.Carrying.{own_side, end_of_node, noted_of, port_at, turn_at, done}
 use Rattle.node_machine.specs.Turns.{deeds_of, handles, holds_back, lets_go}
 use Rattle.node_machine.specs.Node.{NodeInput, input_at, told_at, told_late, with_older, is_late, all_come, forgets}
@@ -60,15 +60,11 @@ module _ (e : End) where
   deed_still h SaysOk w mute = (refl, tt)
   deed_still h (Asks to message c) w mute =
       (refl, given_still (turn_at c.asker SetAside w).core (1, message) (port_at (turn_at c.asker SetAside w).ports to))
-  deed_still h (Releases asker) w mute = tt
   deed_still h (Tells to message) w mute = given_still w.core (1, message) (port_at w.ports to)
-  deed_still h IsAnswered w mute = tt
   deed_still h (Drops pid) w mute = (refl, tt)
-  deed_still h (SetsErrors errors) w mute = tt
   deed_still h (Orders message) w mute = given_still w.core (1, message) (port_at w.ports h)
-  deed_still h Hears w mute = tt
-  deed_still h (GoesOn i) w mute = tt
   deed_still h (Ends x) w mute = all_still e (x ∷ []) (mute, tt)
+  deed_still h _ w mute = tt
 
   pub deeds_still : (h : ℕ) (deeds : List Deed) (w : Work) → AreMute deeds → AreStill e (noted_by_deeds h deeds w)
   deeds_still h [] w mute = tt

@@ -12,15 +12,16 @@ use Rattle.registry.proofs.ValueLemmas.{AllByRecursion-append}
 use Rattle.link_laws.specs.machine.Machine.{Message, is_held}
 use Rattle.link_laws.specs.entries.Entries.{End as Side, Entry as Noted}
 use Rattle.link_laws.specs.entries.Entries.End.{Controller, Host}
-use Rattle.link_laws.specs.entries.Entries.Entry.{Up, Down, Active, GaveUp, Acked, Got, Sent, Emit, Took, Lost, Tick, Restarted, Cut}
+use Rattle.link_laws.specs.entries.Entries.Entry.{Tick, Restarted, Cut}
 use Rattle.history.specs.Filters.{same_end, same_side}
 use Rattle.history.specs.Steps.{end_of, entries_for, entry_of}
 use Rattle.node_machine.specs.Parts.{Port, Work, Deed}
-use Rattle.node_machine.specs.Parts.Deed.{Commits, Sends, SaysOk, Asks, Releases, Tells, IsAnswered, Drops, SetsErrors, Orders, Hears, GoesOn, Ends}
+use Rattle.node_machine.specs.Parts.Deed.{Sends, Ends}
 use Rattle.node_machine.specs.Carrying.{own_side, port_at, all_done}
 use Rattle.node_machine.specs.Turns.{deeds_of, holds_back, lets_go}
 use Rattle.node_machine.specs.Node.{NodeInput, steps, begins_with, after_sessions, without_notice, forgets, forgotten}
 use Rattle.node_machine.specs.Node.NodeInput.{AtEnd, TimePasses}
+use Rattle.node_laws.proofs.Cases.{by_test}
 use Rattle.node_laws.proofs.telling.Mute.{IsPlain, IsMute, AreMute, deeds_mute, forgotten_mute, all_owed_mute, all_synced_mute}
 use Rattle.node_laws.proofs.readings.Noting.{IsBeside, NotesSo, Notes, all_do as notes_do, steps_note}
 use Rattle.node_laws.proofs.telling.Walks.{all_last, handling}
@@ -41,19 +42,10 @@ abbrev pub AreNoBoots : List Entry → Type 0
 AreNoBoots es = AllByRecursion IsNoBoot es
 
 note_unbooted : (h : ℕ) (x : Noted) → AreNoBoots (entry_of h x)
-note_unbooted h (Up who n) = (tt, tt)
-note_unbooted h (Down who cause) = (tt, tt)
-note_unbooted h (Active who) = (tt, tt)
-note_unbooted h (GaveUp who tries) = (tt, tt)
-note_unbooted h (Acked who n count) = (tt, tt)
-note_unbooted h (Got who n m) = (tt, tt)
-note_unbooted h (Sent who n m) = (tt, tt)
-note_unbooted h (Emit who frame) = (tt, tt)
-note_unbooted h (Took who frame) = (tt, tt)
-note_unbooted h (Lost who frame why) = (tt, tt)
 note_unbooted h Tick = tt
 note_unbooted h (Restarted who) = tt
 note_unbooted h (Cut who) = tt
+note_unbooted h _ = (tt, tt)
 
 pub notes_unbooted : (h : ℕ) (xs : List Noted) → AreNoBoots (entries_for h xs)
 notes_unbooted h [] = tt
@@ -71,19 +63,9 @@ mute_unbooted : (deeds : List Deed) → AreMute deeds → AllByRecursion (NotesS
 mute_unbooted [] all = tt
 mute_unbooted (d ∷ deeds) all = (one d all.0, mute_unbooted deeds all.1) where
   one : (d : Deed) → IsMute d → NotesSo IsNoBoot d
-  one (Commits c) m = tt
   one (Sends to m) i = tt
-  one SaysOk m = tt
-  one (Asks to message c) m = tt
-  one (Releases asker) m = tt
-  one (Tells to message) m = tt
-  one IsAnswered m = tt
-  one (Drops pid) m = tt
-  one (SetsErrors errors) m = tt
-  one (Orders message) m = tt
-  one Hears m = tt
-  one (GoesOn i) m = tt
   one (Ends y) m = plain_unbooted y m
+  one _ m = tt
 
 any_ends : (ports : List Port) → AllByRecursion (λ (p : Port). Unit {0}) ports
 any_ends [] = tt
@@ -165,16 +147,10 @@ module _ (who : Side) where
   }) w side v c where
     held_side : (h : ℕ) (short : ℕ × ℕ) (v : Work) → IsSide v → IsSide (holds_back h short v)
     held_side h short v a =
-        by (option_map_or (λ (p : Port). p.desk.holds) (port_at v.ports h) false) refl where
-          by : (b : Bool) → option_map_or (λ (p : Port). p.desk.holds) (port_at v.ports h) false ≡ b → IsSide (holds_back h short v)
-          by true q = rw q a
-          by false q = rw q a
+        by_test (option_map_or (λ (p : Port). p.desk.holds) (port_at v.ports h) false) (λ q. rw q a) (λ q. rw q a)
 
     lets_side : (h : ℕ) (v : Work) → IsSide v → IsSide (lets_go h v)
-    lets_side h v a = by (option_map_or (λ (p : Port). is_held p.side) (port_at v.ports h) false) refl where
-      by : (b : Bool) → option_map_or (λ (p : Port). is_held p.side) (port_at v.ports h) false ≡ b → IsSide (lets_go h v)
-      by true q = rw q a
-      by false q = rw q a
+    lets_side h v a = by_test (option_map_or (λ (p : Port). is_held p.side) (port_at v.ports h) false) (λ q. rw q a) (λ q. rw q a)
 
   turn_sided : (w : Work) → IsSide w → (front back : List Entry) (x : Entry) → IsTurnSo (ComesTo w) w front x back → IsNoBoot x
       → IsOnSide (is_host_side who) x

@@ -19,6 +19,7 @@ use Rattle.node_machine.specs.world.World.{Site, NodeWorld, Happening, site_at, 
 use Rattle.node_machine.specs.world.World.{comes_to, turns_at, ending_of, work_of, all_aged, world_step}
 use Rattle.node_machine.specs.world.World.Happening.{Takes, Ticks as TimePassing}
 use Rattle.node_machine.specs.world.Lines.{all_happen, can_happen, happenings, frames_at}
+use Rattle.node_laws.proofs.Cases.{by_test}
 use Rattle.node_laws.proofs.telling.Worlds.{site_is}
 use Rattle.node_laws.proofs.links.Got.{Clean}
 use Rattle.node_laws.proofs.links.Playing.{step_fine}
@@ -135,17 +136,13 @@ module _ (w : NodeWorld) (h : ℕ) (s : Site) (fine : IsFineWorld w) (q : site_a
           is (Some n) r = rw r refl
 
   tick_so_allowed : (late : Bool) (c d : Node) → AreNodes c d → IsEvent s.link (tick_so s.link late c d)
-  tick_so_allowed late c d sends = go (late && not (is_waiting s.link.controller.side.shdlc)) refl
-    where
-      go : (b : Bool) → (late && not (is_waiting s.link.controller.side.shdlc)) ≡ b → IsEvent s.link (tick_so s.link late c d)
-      go true r =
-          let is : tick_so s.link late c d ≡ TicksWithout (Step (AsksReset None) c.turns c.ending ∷ []) d = rw r refl in
-          let waits : is_waiting s.link.controller.side.shdlc ≡ false =
-          not-true (is_waiting s.link.controller.side.shdlc) (and_parts late (not (is_waiting s.link.controller.side.shdlc)) r).1 in
-          subst (IsEvent s.link) (sym is) (reset_allowed s.link c d sends here.link.line waits)
-      go false r =
-          let is : tick_so s.link late c d ≡ Ticks c [] d = rw r refl in
-          subst (IsEvent s.link) (sym is) (tick_allowed s.link c d sends here.link.line)
+  tick_so_allowed late c d sends = by_test (late && not (is_waiting s.link.controller.side.shdlc))
+      (λ r. let is : tick_so s.link late c d ≡ TicksWithout (Step (AsksReset None) c.turns c.ending ∷ []) d = rw r refl in
+      let waits : is_waiting s.link.controller.side.shdlc ≡ false =
+      not-true (is_waiting s.link.controller.side.shdlc) (and_parts late (not (is_waiting s.link.controller.side.shdlc)) r).1 in
+      subst (IsEvent s.link) (sym is) (reset_allowed s.link c d sends here.link.line waits))
+      (λ r. let is : tick_so s.link late c d ≡ Ticks c [] d = rw r refl in
+      subst (IsEvent s.link) (sym is) (tick_allowed s.link c d sends here.link.line))
 
   pub ticks_allowed : AllAllowed s.link (link_events_in h w TimePassing)
   ticks_allowed =

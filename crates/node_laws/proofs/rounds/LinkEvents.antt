@@ -17,6 +17,7 @@ use Rattle.node_machine.specs.world.World.{Site, NodeWorld, site_at, link_to, in
 use Rattle.node_machine.specs.world.World.{comes_to, turns_at, ending_of, after_host, with_site, world_step, end_c, end_h}
 use Rattle.node_machine.specs.world.World.Happening.{Takes, Ticks}
 use Rattle.node_machine.specs.world.World.{all_aged, controller_ticks, host_ticks, hosts_tick, ticked_so, is_late_at, work_of}
+use Rattle.node_laws.proofs.Cases.{by_option, by_test}
 use Rattle.node_laws.proofs.links.Worlds.{so_host}
 use Rattle.node_laws.specs.rounds.LinkEvents.{GoesOnLink, link_events_in, controller_takes, site_takes, takes_on, site_ticks, tick_so, controller_tick_on}
 use Rattle.node_laws.specs.rounds.LinkEvents.{ticks_on}
@@ -166,12 +167,7 @@ hosts_tick_map (s ∷ sites) = ap (λ ss. (host_ticks s).0 ∷ ss) (hosts_tick_m
 -- what a tick of a host leaves of it
 site_ticked : (s : Site) → ((host_ticks s).0.host ≡ s.host)
     × ((host_ticks s).0.link ≡ exchanged (ticks_at_controller (exchanged s.link) (site_ticks s).turns (site_ticks s).ending))
-site_ticked s = go s.node refl
-  where
-    go : (c : Option Running) → s.node ≡ c → ((host_ticks s).0.host ≡ s.host)
-        × ((host_ticks s).0.link ≡ exchanged (ticks_at_controller (exchanged s.link) (site_ticks s).turns (site_ticks s).ending))
-    go None q = (rw q refl, rw q refl)
-    go (Some r) q = (rw q refl, rw q refl)
+site_ticked s = by_option s.node (λ q. (rw q refl, rw q refl)) (λ r q. (rw q refl, rw q refl))
 
 -- the link after the tick of the controller, with what was late there
 abbrev near_ticked : Link → Node × Bool → Link
@@ -201,12 +197,7 @@ controller_ticked w h s q = go w.controller refl
 -- the link after both
 tick_is : (l : Link) (late : Bool) (c h : Node)
     → exchanged (ticks_at_controller (exchanged (ticked_so (aged l) late c.turns c.ending)) h.turns h.ending) ≡ happens l (tick_so l late c h)
-tick_is l late c h = go (late && not (is_waiting l.controller.side.shdlc)) refl
-  where
-    go : (b : Bool) → (late && not (is_waiting l.controller.side.shdlc)) ≡ b
-        → exchanged (ticks_at_controller (exchanged (ticked_so (aged l) late c.turns c.ending)) h.turns h.ending) ≡ happens l (tick_so l late c h)
-    go true q = rw q refl
-    go false q = rw q refl
+tick_is l late c h = by_test (late && not (is_waiting l.controller.side.shdlc)) (λ q. rw q refl) (λ q. rw q refl)
 
 -- a tick of the world
 pub record Ticked (w v : NodeWorld) (h : ℕ) (s : Site) : Type 0 where

@@ -10,7 +10,7 @@ use Rattle.link_laws.specs.machine.Machine.LinkInput.{Reset}
 use Rattle.link_laws.specs.messages.Links.{Link, Comes, Ending, Loss, LinkEvent, exchanged, aged, has_input, happens, ticks_at_controller}
 use Rattle.link_laws.specs.messages.Links.{NumberedEnd, number_of}
 use Rattle.link_laws.specs.messages.Links.Ending.{GoesOut, CutOff}
-use Rattle.link_laws.specs.messages.Links.Comes.{NextFrame, AsksReset, Starts, Stops, NoInput}
+use Rattle.link_laws.specs.messages.Links.Comes.{NextFrame, AsksReset, Starts, NoInput}
 use Rattle.link_laws.specs.messages.Links.EndEvent.{Step, Lose}
 use Rattle.link_laws.specs.messages.Links.LinkEvent.{AtController, AtHost}
 use Rattle.node_machine.specs.Parts.{Running, Work}
@@ -91,10 +91,7 @@ near_low n l NextFrame f = go l.to_controller refl
         let t = took_low l.resets l.controller.took x f.numbered.controller.took wire.0 in
         let e = f.numbered.controller.emitted in
         omega (arith, t, e, few)
-near_low n l (AsksReset window) f = near_stays n l f
-near_low n l (Starts value) f = near_stays n l f
-near_low n l Stops f = near_stays n l f
-near_low n l NoInput f = near_stays n l f
+near_low n l _ f = near_stays n l f
 
 -- ## Sites
 
@@ -268,15 +265,7 @@ few_behind_step n w c a = go c
 
 by_one_more : (c : Happening) (causes : List Happening) → rsets_by_all (c ∷ causes) ≡ rsets_by c + rsets_by_all causes
 by_one_more (Boots node) causes = omega arith
-by_one_more (IsCut node) causes = omega arith
-by_one_more (Gives e m) causes = omega arith
-by_one_more (Inits e identity pipes) causes = omega arith
-by_one_more (Takes e) causes = omega arith
-by_one_more (Loses e why) causes = omega arith
-by_one_more Ticks causes = omega arith
-by_one_more (Resets e window) causes = omega arith
-by_one_more (Activates h sync power) causes = omega arith
-by_one_more (Arms node plan) causes = omega arith
+by_one_more _ causes = omega arith
 
 pub few_behind_all : (causes : List Happening) (n : ℕ) (w : NodeWorld) → FewRsetsOnEach n w.sites
     → FewRsetsOnEach (n + rsets_by_all causes) (all_happen w causes).0.sites
@@ -352,16 +341,10 @@ numbers_behind hosts events =
 
 resets_are_others : (causes : List Happening) → resets_among causes ≤ others_among causes
 resets_are_others [] = omega arith
-resets_are_others (Boots node ∷ causes) = let z = resets_are_others causes in omega (arith, z)
-resets_are_others (IsCut node ∷ causes) = let z = resets_are_others causes in omega (arith, z)
-resets_are_others (Gives e m ∷ causes) = let z = resets_are_others causes in omega (arith, z)
-resets_are_others (Inits e identity pipes ∷ causes) = let z = resets_are_others causes in omega (arith, z)
 resets_are_others (Takes e ∷ causes) = resets_are_others causes
 resets_are_others (Loses e why ∷ causes) = resets_are_others causes
 resets_are_others (Ticks ∷ causes) = resets_are_others causes
-resets_are_others (Resets e window ∷ causes) = let z = resets_are_others causes in omega (arith, z)
-resets_are_others (Activates h sync power ∷ causes) = let z = resets_are_others causes in omega (arith, z)
-resets_are_others (Arms node plan ∷ causes) = let z = resets_are_others causes in omega (arith, z)
+resets_are_others (_ ∷ causes) = let z = resets_are_others causes in omega (arith, z)
 
 numbers_longer : (m n : ℕ) (sites : List Site) → m ≤ n → NumbersWithinOnEach m sites → NumbersWithinOnEach n sites
 numbers_longer m n [] q a = tt

@@ -76,52 +76,20 @@ in_range header (line.Arm node nth fill) is other = is.1
 in_range header (line.Init e identity pipes) is other = is.1
 in_range header (line.Tables node) is other = is.1
 in_range header (line.Settle rounds) is other = absurd (other rounds refl)
-in_range header (line.Send e pid message) is other = is
-in_range header (line.Reset e window) is other = is
-in_range header (line.Deliver e count) is other = is
-in_range header (line.Lose e) is other = is
-in_range header (line.Damage e places) is other = is
-in_range header (line.Tick times) is other = is
-in_range header (line.Busy e) is other = is
-in_range header (line.Ready e) is other = is
+in_range header _ is other = is
 
 playable_line : (header : Header) (l : Line) → IsNodeLineOf header l → IsPlayable l
 playable_line header (line.Send e pid message) is = (is.pipe, is.some)
 playable_line header (line.Reset e None) is = tt
 playable_line header (line.Reset e (Some w)) is = let low = is.1.0 in (omega (arith, low), is.1.1)
-playable_line header (line.Deliver e count) is = tt
-playable_line header (line.Lose e) is = tt
-playable_line header (line.Damage e places) is = tt
-playable_line header (line.Tick times) is = tt
-playable_line header (line.Busy e) is = tt
-playable_line header (line.Ready e) is = tt
-playable_line header (line.Boot node) is = tt
-playable_line header (line.Cut node) is = tt
-playable_line header (line.Activate host sync power) is = tt
-playable_line header (line.Arm node nth fill) is = tt
-playable_line header (line.Init e identity pipes) is = tt
-playable_line header (line.Tables node) is = tt
-playable_line header (line.Settle rounds) is = tt
+playable_line header _ is = tt
 
 pub playable : (header : Header) (lines : List Line) → AreNodeLinesOf header lines → ArePlayable lines
 playable header lines are = each_line (IsNodeLineOf header) IsPlayable (playable_line header) lines are
 
 sent_line : (header : Header) → IsNodeHeader header → (l : Line) → IsNodeLineOf header l → IsSentByHost l
 sent_line header nodes (line.Send e pid message) is = is.sender nodes.nodes
-sent_line header nodes (line.Reset e window) is = tt
-sent_line header nodes (line.Deliver e count) is = tt
-sent_line header nodes (line.Lose e) is = tt
-sent_line header nodes (line.Damage e places) is = tt
-sent_line header nodes (line.Tick times) is = tt
-sent_line header nodes (line.Busy e) is = tt
-sent_line header nodes (line.Ready e) is = tt
-sent_line header nodes (line.Boot node) is = tt
-sent_line header nodes (line.Cut node) is = tt
-sent_line header nodes (line.Activate host sync power) is = tt
-sent_line header nodes (line.Arm node nth fill) is = tt
-sent_line header nodes (line.Init e identity pipes) is = tt
-sent_line header nodes (line.Tables node) is = tt
-sent_line header nodes (line.Settle rounds) is = tt
+sent_line header nodes _ is = tt
 
 pub sent_by_hosts : (header : Header) (lines : List Line) → IsNodeHeader header → AreNodeLinesOf header lines → AllByRecursion IsSentByHost lines
 sent_by_hosts header lines nodes are = each_line (IsNodeLineOf header) IsSentByHost (sent_line header nodes) lines are
@@ -144,20 +112,7 @@ inits_short header identity pipes long are = (
 
 init_line : (header : Header) (l : Line) → IsNodeLineOf header l → IsInitOfHost l
 init_line header (line.Init e identity pipes) is = (is.host, inits_short header identity pipes.items is.long is.each)
-init_line header (line.Send e pid message) is = tt
-init_line header (line.Reset e window) is = tt
-init_line header (line.Deliver e count) is = tt
-init_line header (line.Lose e) is = tt
-init_line header (line.Damage e places) is = tt
-init_line header (line.Tick times) is = tt
-init_line header (line.Busy e) is = tt
-init_line header (line.Ready e) is = tt
-init_line header (line.Boot node) is = tt
-init_line header (line.Cut node) is = tt
-init_line header (line.Activate host sync power) is = tt
-init_line header (line.Arm node nth fill) is = tt
-init_line header (line.Tables node) is = tt
-init_line header (line.Settle rounds) is = tt
+init_line header _ is = tt
 
 pub inits_of_hosts : (header : Header) (lines : List Line) → AreNodeLinesOf header lines → AllByRecursion IsInitOfHost lines
 inits_of_hosts header lines are = each_line (IsNodeLineOf header) IsInitOfHost (init_line header) lines are

@@ -17,6 +17,7 @@ use Rattle.node_machine.specs.world.Lines.{Occurrence}
 use Rattle.node_machine.specs.world.NodeHistories.{FollowsNodes, NodeHistory, entries_in, node_entries, occurrences_in}
 use Rattle.node_laws.specs.kept.Hosts.{AreHosts, IsFew, IsSentByHost}
 use Rattle.node_laws.specs.telling.Telling.{world_behind}
+use Rattle.node_laws.proofs.Cases.{by_option}
 use Rattle.node_laws.proofs.cuts.Worlds.{node_far}
 use Rattle.node_laws.proofs.telling.Lasting.{AreCaused, events_of_steps, lines_caused}
 use Rattle.node_laws.specs.links.Runs.{ArePlayable}
@@ -66,10 +67,7 @@ module _ (header : Header) (lines : List Line) (t : NodeHistory) (follows : Foll
       IsOff = (s : Site) → site_at here.sites n ≡ Some s → s.node ≡ None
 
       node_off : IsOff → node_at here n ≡ None
-      node_off all = by (site_at here.sites n) refl where
-        by : (x : Option Site) → site_at here.sites n ≡ x → node_at here n ≡ None
-        by None q = rw off (rw q refl)
-        by (Some s) q = node_far here n s off q ∙ all s q
+      node_off all = by_option (site_at here.sites n) (λ q. rw off (rw q refl)) (λ s q. node_far here n s off q ∙ all s q)
 
       -- a host that doesn't run doesn't run behind what is noted of others
       off_short : (c : Happening) (es : List Entry) → IsOff → AreCalmAt n es → Short c es

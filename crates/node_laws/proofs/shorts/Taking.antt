@@ -22,6 +22,7 @@ use Rattle.node_machine.specs.world.World.Happening.{Takes, Ticks}
 use Rattle.node_machine.specs.world.Lines.{frames_at, happenings, happens_by, refusal_in}
 use Rattle.node_machine.proofs.world.Cases.{by_coming, by_host}
 use Rattle.node_laws.specs.kept.Hosts.{IsSentByHost}
+use Rattle.node_laws.proofs.Cases.{by_test}
 use Rattle.node_laws.proofs.cuts.Worlds.{with_here}
 use Rattle.node_laws.proofs.telling.Lasting.{AllMay, repeated_may}
 use Rattle.node_laws.proofs.telling.Nodes.{link_is}
@@ -87,24 +88,15 @@ damage_may w e places (x ∷ xs) here = by (verdict_on (lpdu_of x.frame) places)
   by (Undetected read) = tt
 
 pub line_takes : (w : NodeWorld) (l : Line) → IsSentByHost l → refusal_in w l ≡ None → AllMay MayTake w (happenings w l)
-line_takes w (line.Send e pid message) is none = (tt, tt)
-line_takes w (line.Deliver e count) is none = by e.at_host refl where
-  by : (b : Bool) → e.at_host ≡ b → AllMay MayTake w (replicate (taken_of count (frames_at w e)) (Takes e))
-  by false near = repeated_may MayTake (Takes e) (λ v far. absurd (true≢false (sym far ∙ near))) (taken_of count (frames_at w e)) w
-  by true far =
-      takes_may (taken_of count (frames_at w e)) w e far
-      (λ s found on. let most = taken_most count (frames_at w e) in
-      let same = ap (λ (xs : List OnWire). length xs) (frames_far w e s far found) in omega (arith, most, same))
-line_takes w (line.Lose e) is none = (tt, tt)
+line_takes w (line.Deliver e count) is none = by_test e.at_host
+    (λ far. takes_may (taken_of count (frames_at w e)) w e far
+    (λ s found on. let most = taken_most count (frames_at w e) in
+    let same = ap (λ (xs : List OnWire). length xs) (frames_far w e s far found) in omega (arith, most, same)))
+    (λ near. repeated_may MayTake (Takes e) (λ v far. absurd (true≢false (sym far ∙ near))) (taken_of count (frames_at w e)) w)
 line_takes w (line.Damage e places) is none = damage_may w e places.items (frames_at w e) refl
 line_takes w (line.Tick times) is none = repeated_may MayTake Ticks (λ v. tt) (unwrap_or times 1) w
-line_takes w (line.Reset e window) is none = (tt, tt)
 line_takes w (line.Busy e) is none = tt
 line_takes w (line.Ready e) is none = tt
-line_takes w (line.Boot n) is none = (tt, tt)
-line_takes w (line.Cut n) is none = (tt, tt)
-line_takes w (line.Activate host sync power) is none = (tt, tt)
-line_takes w (line.Arm n nth fill) is none = (tt, tt)
-line_takes w (line.Init e identity pipes) is none = (tt, tt)
 line_takes w (line.Tables n) is none = tt
 line_takes w (line.Settle rounds) is none = tt
+line_takes w _ is none = (tt, tt)

@@ -8,6 +8,7 @@ use Rattle.node_machine.specs.Parts.{Core, Port}
 use Rattle.node_machine.specs.Carrying.{port_at, changed_if}
 use Rattle.node_machine.specs.Controller.{asked_at}
 use Rattle.node_machine.specs.Node.{has_come, is_late, reset_late, is_over, is_forgotten, forgets, without_notice, after_sessions}
+use Rattle.node_laws.proofs.Cases.{by_test}
 
 pub come_host : (p : Port) (o : Option LinkInput) → (has_come p o).desk.host ≡ p.desk.host
 come_host p None = refl
@@ -27,11 +28,7 @@ changed_host true g p keeps = keeps p
 changed_host false g p keeps = refl
 
 pub sessions_node : (core : Core) (ports : List Port) → (after_sessions core ports).node ≡ core.node
-sessions_node core ports = go (list_any is_over ports) refl
-  where
-    go : (b : Bool) → list_any is_over ports ≡ b → (after_sessions core ports).node ≡ core.node
-    go true q = rw q refl
-    go false q = rw q refl
+sessions_node core ports = by_test (list_any is_over ports) (λ q. rw q refl) (λ q. rw q refl)
 
 -- what holds of all ends holds of the end with this host
 pub at_port : (P : Port → Type 0) (ports : List Port) (h : ℕ) (p : Port) → AllByRecursion P ports → port_at ports h ≡ Some p → P p

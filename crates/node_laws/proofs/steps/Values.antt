@@ -4,7 +4,7 @@ use Rattle.std.specs.Prelude.{IsTrue}
 use Rattle.std.proofs.lemmas.Bool.{and_from, le-leb, cases_Bool}
 use Rattle.registry.specs.Values.{value_at, is_kept, default_of}
 use Rattle.hci_tables.specs.declared.command.Command.{Command}
-use Rattle.hci_tables.specs.declared.command.Command.TheVariants.{Create, Delete, Clear, SetOpened, Set, Sync}
+use Rattle.hci_tables.specs.declared.command.Command.TheVariants.{Clear, Set, Sync}
 use Rattle.hci_tables.specs.Commands.{IsCommand}
 use Rattle.hci_tables.specs.Tables.{HciTables, AreTables, apply, is_kept_sync}
 use Rattle.tables_laws.specs.tables.Changes.{told_value}
@@ -21,9 +21,7 @@ left : (t : HciTables) (c : Command) (x : ℕ) → LeavesWhitelist x c → told_
 left t (Set h gate p value) x leaves = ap (λ b. cond b value.items (value_at t.values x 0 3)) leaves
 left t (Clear h) x leaves = ap (λ b. cond b (default_of 3) (value_at t.values x 0 3)) leaves
 left t (Sync h id) x leaves = synced t h id x
-left t (Create row) x leaves = refl
-left t (Delete pid) x leaves = refl
-left t (SetOpened h pid opened) x leaves = refl
+left t _ x leaves = refl
 
 kept : (x : ℕ) → 1 ≤ x → x ≤ 7 → IsTrue (is_kept x 0 3)
 kept x some most =

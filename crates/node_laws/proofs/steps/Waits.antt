@@ -6,7 +6,7 @@ use Rattle.std.proofs.lemmas.Bool.{and_parts, leb-true, eq-eqb, or_left, or_righ
 use Rattle.whitelist.specs.Whitelist.{holds}
 use Rattle.registry.specs.Values.{value_at}
 use Rattle.hci_tables.specs.declared.command.Command.{Command}
-use Rattle.hci_tables.specs.declared.command.Command.TheVariants.{Create, Delete, Clear, SetOpened, Set, Sync}
+use Rattle.hci_tables.specs.declared.command.Command.TheVariants.{Create}
 use Rattle.hci_tables.specs.Commands.{IsCommand}
 use Rattle.hci_tables.specs.Tables.{HciTables, AreTables, apply}
 use Rattle.gate_admin.specs.declared.view.LinkView.{LinkView}
@@ -28,56 +28,32 @@ use Rattle.node_laws.proofs.steps.Whitelists.{whitelists_stay}
 
 making : (t : HciTables) (h : ℕ) (c : Command) → IsAllowedFor t h c → IsMaking c
 making t h (Create row) is = tt
-making t h (Delete pid) is = absurd is
-making t h (Clear host) is = absurd is
-making t h (SetOpened host pid opened) is = absurd is
-making t h (Set host gate param value) is = absurd is
-making t h (Sync host id) is = absurd is
+making t h _ is = absurd is
 
 -- the host is one from 01 to 07
 pub within : (t : HciTables) (h : ℕ) (c : Command) → IsAllowedFor t h c → (1 ≤ h) × (h ≤ 7)
 within t h (Create row) is =
     let both = and_parts (leb 1 h) (leb h 7) (and_parts (leb 1 h && leb h 7) (holds (value_at t.values h 0 3) row.creator) is.1).0 in
     (leb-true 1 h both.0, leb-true h 7 both.1)
-within t h (Delete pid) is = absurd is
-within t h (Clear host) is = absurd is
-within t h (SetOpened host pid opened) is = absurd is
-within t h (Set host gate param value) is = absurd is
-within t h (Sync host id) is = absurd is
+within t h _ is = absurd is
 
 -- tables with the same whitelist allow the same
 pub same_list : (t u : HciTables) (h : ℕ) (c : Command) → value_at u.values h 0 3 ≡ value_at t.values h 0 3 → IsAllowedFor t h c → IsAllowedFor u h c
 same_list t u h (Create row) same is = (is.0, ap (λ l. leb 1 h && leb h 7 && holds l row.creator) same ∙ is.1)
-same_list t u h (Delete pid) same is = absurd is
-same_list t u h (Clear host) same is = absurd is
-same_list t u h (SetOpened host pid opened) same is = absurd is
-same_list t u h (Set host gate param value) same is = absurd is
-same_list t u h (Sync host id) same is = absurd is
+same_list t u h _ same is = absurd is
 
 allowed_by : (t : HciTables) (h : ℕ) (c : Command) → IsAllowedFor t h c → IsAllowedBy t c
 allowed_by t h (Create row) is =
     or_right (eqb row.dest 0) (allows t row.dest row.creator) (ap (λ x. allows t x row.creator) is.0 ∙ is.1)
-allowed_by t h (Delete pid) is = tt
-allowed_by t h (Clear host) is = tt
-allowed_by t h (SetOpened host pid opened) is = tt
-allowed_by t h (Set host gate param value) is = tt
-allowed_by t h (Sync host id) is = tt
+allowed_by t h _ is = tt
 
 at_once : (t : HciTables) (c : Command) → EndsAtController c → IsAllowedBy t c
 at_once t (Create row) ends = or_left (eqb row.dest 0) (allows t row.dest row.creator) (eq-eqb row.dest 0 ends)
-at_once t (Delete pid) ends = tt
-at_once t (Clear host) ends = tt
-at_once t (SetOpened host pid opened) ends = tt
-at_once t (Set host gate param value) ends = tt
-at_once t (Sync host id) ends = tt
+at_once t _ ends = tt
 
 asked_for : (t : HciTables) (v : LinkView) (h to : ℕ) (c : Command) → IsAskedFor t v h to c → IsAllowedFor t to c
 asked_for t v h to (Create row) is = (is.asked, ap (allows t to) is.creator ∙ is.allowed)
-asked_for t v h to (Delete pid) is = absurd is
-asked_for t v h to (Clear host) is = absurd is
-asked_for t v h to (SetOpened host pid opened) is = absurd is
-asked_for t v h to (Set host gate param value) is = absurd is
-asked_for t v h to (Sync host id) is = absurd is
+asked_for t v h to _ is = absurd is
 
 -- ## Hosts that are asked
 

@@ -4,7 +4,7 @@ use Rattle.std.specs.List.{AllByRecursion}
 use Rattle.std.specs.Option.{option_map_or}
 use Rattle.std.proofs.lemmas.Bool.{cases_Bool, eqb-true, true≢false}
 use Rattle.hci_tables.specs.declared.command.Command.{Command}
-use Rattle.hci_tables.specs.declared.command.Command.TheVariants.{Create, Delete, Clear, SetOpened, Set, Sync}
+use Rattle.hci_tables.specs.declared.command.Command.TheVariants.{Clear, Set}
 use Rattle.hci_tables.specs.Tables.{HciTables}
 use Rattle.gate_answers.specs.Answers.{body_in, param_in}
 use Rattle.gate_admin.specs.declared.view.LinkView.{LinkView}
@@ -68,12 +68,9 @@ decided_leaves t v h pipe instruction x body asked =
 -- ## Deeds
 
 making : (x : ℕ) (c : Command) → IsMaking c → LeavesWhitelist x c
-making x (Create row) is = tt
-making x (Delete pid) is = tt
 making x (Clear host) is = absurd is
-making x (SetOpened host pid opened) is = tt
 making x (Set host gate param value) is = absurd is
-making x (Sync host id) is = tt
+making x _ is = tt
 
 plain : (x : ℕ) → Plain (DeedLeavesWhitelist x)
 plain x = record { sends = λ to x. tt; says_ok = tt; releases = λ asker. tt; is_answered = tt; drops = λ pid. tt }

@@ -10,11 +10,12 @@ use Rattle.trace_model.specs.declared.entry.Entry.TheVariants as entry
 use Rattle.link_laws.specs.machine.Machine.{LinkEnd, Turn, turn, turned}
 use Rattle.link_laws.specs.entries.Entries.{End as Side, Entry as Noted, turn_entry, turn_entries}
 use Rattle.link_laws.specs.entries.Entries.End.{Controller, Host}
-use Rattle.link_laws.specs.entries.Entries.Entry.{Up, Down, Active, GaveUp, Acked, Got, Sent, Emit, Took, Lost, Tick, Restarted, Cut}
+use Rattle.link_laws.specs.entries.Entries.Entry.{Up, Down, Active, GaveUp, Acked, Got, Sent, Emit, Took, Lost}
 use Rattle.history.specs.Filters.{said}
 use Rattle.history.specs.Steps.{end_of, entry_of, entries_for}
 use Rattle.node_machine.specs.Parts.{Desk, Port, Work}
 use Rattle.node_machine.specs.Carrying.{own_side, noting, port_at, changed_if, with_port, with_desk, after_turn, noted_of, turn_at, keeps}
+use Rattle.node_laws.proofs.Cases.{by_test}
 use Rattle.node_laws.proofs.telling.Walks.{AreSilent}
 use Rattle.node_laws.specs.telling.Telling.{is_of, tells_of, of_link}
 use Rattle.node_laws.proofs.steps.Ports.{changed_host}
@@ -56,9 +57,7 @@ of_other k h (Sent w n m ∷ t) q = let z = other_end k h w q in rw z (of_other 
 of_other k h (Emit w c ∷ t) q = let z = other_end k h w q in rw z (of_other k h t q)
 of_other k h (Took w c ∷ t) q = let z = other_end k h w q in rw z (of_other k h t q)
 of_other k h (Lost w c why ∷ t) q = let z = other_end k h w q in rw z (of_other k h t q)
-of_other k h (Tick ∷ t) q = of_other k h t q
-of_other k h (Restarted w ∷ t) q = of_other k h t q
-of_other k h (Cut w ∷ t) q = of_other k h t q
+of_other k h (_ ∷ t) q = of_other k h t q
 
 -- ## Ends
 
@@ -167,7 +166,7 @@ module _ (h : ℕ) (who : Side) (n : ℕ) (e : LinkEnd) (before : List Entry) (l
       }
 
   pub turns : (k : ℕ) (t : Turn) (w : Work) → Of w → Of (turn_at k t w)
-  turns k t w a = go (h == k) refl
+  turns k t w a = by_test (h == k) (λ q. mine (eqb-true h k q)) (λ q. others q)
     where
       p : Port
       p = a.port
@@ -237,10 +236,6 @@ module _ (h : ℕ) (who : Side) (n : ℕ) (e : LinkEnd) (before : List Entry) (l
             where
               swapped : (k == h) ≡ false
               swapped = ne_eqb k h (λ z. true≢false (sym (ap (λ y. h == y) z ∙ same_number h) ∙ q))
-
-      go : (b : Bool) → (h == k) ≡ b → Of (turn_at k t w)
-      go true q = mine (eqb-true h k q)
-      go false q = others q
 
   -- what is no end and no entry may change
   pub beside : (w v : Work) → v.core.node ≡ w.core.node → v.ports ≡ w.ports → v.entries ≡ w.entries → Of w → Of v

@@ -14,7 +14,7 @@ use Rattle.link_laws.specs.machine.Machine.{Message, LinkInput}
 use Rattle.link_laws.specs.messages.Links.{NumberedEnd, Link, Comes, Loss, LinkEvent, exchanged, happens, after_link_events}
 use Rattle.link_laws.specs.messages.Links.Comes.{NextFrame, AsksReset, Starts, NoInput}
 use Rattle.link_laws.specs.messages.Links.Ending.{CutOff}
-use Rattle.link_laws.specs.messages.Links.Loss.{OnDemand, Broken, Unread, TooOld, TooMany}
+use Rattle.link_laws.specs.messages.Links.Loss.{Broken}
 use Rattle.link_laws.specs.messages.Links.EndEvent.{Step, Lose}
 use Rattle.link_laws.specs.messages.Links.LinkEvent.{AtController, AtHost}
 use Rattle.link_laws.specs.entries.Entries.{event_entries, entries, first_lost}
@@ -323,10 +323,7 @@ boots_goes w n a =
 counts_runs : (n : ℕ) (hosts : List ℕ) (why : Loss) (h : ℕ) (o : Option Running) → IfItRuns n hosts o → IfItRuns n hosts (counts why h o)
 counts_runs n hosts (Broken fault) h None a = tt
 counts_runs n hosts (Broken fault) h (Some r) a = record { number = a.number; ends = errors_ends h r.desks ∙ a.ends }
-counts_runs n hosts OnDemand h o a = a
-counts_runs n hosts Unread h o a = a
-counts_runs n hosts TooOld h o a = a
-counts_runs n hosts TooMany h o a = a
+counts_runs n hosts _ h o a = a
 
 pub lost_goes : (w : NodeWorld) (e : End) (why : Loss) → IsOrderly w → EachGoesSo w (frame_lost w e why).0 (frame_lost w e why).1
 lost_goes w e why a =

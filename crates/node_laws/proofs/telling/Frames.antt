@@ -6,7 +6,7 @@ use Rattle.swp_base.specs.declared.control_frames.Control.{Control}
 use Rattle.link_laws.specs.sessions.Sessions.{OnWire}
 use Rattle.link_laws.specs.machine.Machine.{LinkEnd, frames_out}
 use Rattle.link_laws.specs.messages.Links.{Link, Ending, Comes, Loss, put}
-use Rattle.link_laws.specs.messages.Links.Comes.{NextFrame, AsksReset, Starts, Stops, NoInput}
+use Rattle.link_laws.specs.messages.Links.Comes.{NextFrame}
 use Rattle.link_laws.specs.messages.Links.Ending.{GoesOut, CutOff}
 use Rattle.link_laws.specs.messages.Links.Loss.{TooOld, TooMany}
 use Rattle.link_laws.specs.entries.Entries.{End as Side, Entry as Noted, far, first_lost, pushed_out, wire_with, put_entries, puts_entries, ending_entries}
@@ -53,10 +53,7 @@ module _ (P : Noted → Type 0) (emit : (who : Side) (c : Control) → P (Emit w
       go : (xs : List OnWire) → All (first xs)
       go [] = tt
       go (x ∷ xs) = (took who x.frame, tt)
-  arrival_all who l (AsksReset window) = tt
-  arrival_all who l (Starts value) = tt
-  arrival_all who l Stops = tt
-  arrival_all who l NoInput = tt
+  arrival_all who l _ = tt
 
   aged_all : (who : Side) (xs : List OnWire) → All (aged_entries who xs)
   aged_all who [] = tt

@@ -36,22 +36,15 @@ damaged e (Some (Undetected read)) = tt
 
 line_untimed : (w : NodeWorld) (l : Line) → IsUntimedLine l → refusal_in w l ≡ None → AllMay MayBeUntimed w (happenings w l)
 line_untimed w (line.Tick times) u q = absurd u
-line_untimed w (line.Send e pid message) u q = (tt, tt)
 line_untimed w (line.Deliver e count) u q =
     all_untimed (happenings w (line.Deliver e count)) w (repeated (taken_of count (frames_at w e)) (Takes e) tt)
-line_untimed w (line.Lose e) u q = (tt, tt)
 line_untimed w (line.Damage e places) u q =
     all_untimed (happenings w (line.Damage e places)) w (damaged e (first_verdict (frames_at w e) places.items))
-line_untimed w (line.Reset e window) u q = (tt, tt)
 line_untimed w (line.Busy e) u q = tt
 line_untimed w (line.Ready e) u q = tt
-line_untimed w (line.Boot node) u q = (tt, tt)
-line_untimed w (line.Cut node) u q = (tt, tt)
-line_untimed w (line.Activate host sync power) u q = (tt, tt)
-line_untimed w (line.Arm node nth fill) u q = (tt, tt)
-line_untimed w (line.Init e identity pipes) u q = (tt, tt)
 line_untimed w (line.Tables n) u q = tt
 line_untimed w (line.Settle n) u q = tt
+line_untimed w _ u q = (tt, tt)
 
 pub lines_go : (lines : List Line) (w : NodeWorld) → AreUntimed lines → IsOrderly w → EachGoesSo w (world_after w lines) (entries_of_steps (steps_from w lines))
 lines_go lines w u a =

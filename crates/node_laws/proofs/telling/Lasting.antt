@@ -21,6 +21,7 @@ use Rattle.node_machine.specs.world.Lines.{goes_on, line_step}
 use Rattle.node_machine.specs.world.Lines.LineOutcome.{WasRefused}
 use Rattle.node_machine.specs.world.NodeHistories.{LineStep, steps_from, occurrences_of, entries_in, world_after}
 use Rattle.node_laws.specs.telling.Telling.{world_behind, MayBoot}
+use Rattle.node_laws.proofs.Cases.{by_option}
 
 -- events that may happen one after another
 abbrev pub AllMay : (NodeWorld → Happening → Type 0) → NodeWorld → List Happening → Type 0
@@ -62,21 +63,15 @@ stands_none (Some r) e = absurd (cc e)
 
 -- a line that isn't refused boots a node only while it doesn't run
 pub boots_may : (w : NodeWorld) (l : Line) → AnyLine l → refusal_in w l ≡ None → AllMay MayBoot w (happenings w l)
-boots_may w (line.Send e pid message) any none = (tt, tt)
 boots_may w (line.Deliver e count) any none = repeated_may MayBoot (Takes e) (λ v. tt) (taken_of count (frames_at w e)) w
-boots_may w (line.Lose e) any none = (tt, tt)
 boots_may w (line.Damage e places) any none = damaged_may MayBoot w e tt (λ why. tt) (first_verdict (frames_at w e) places.items)
 boots_may w (line.Tick times) any none = repeated_may MayBoot Ticks (λ v. tt) (unwrap_or times 1) w
-boots_may w (line.Reset e window) any none = (tt, tt)
 boots_may w (line.Busy e) any none = tt
 boots_may w (line.Ready e) any none = tt
 boots_may w (line.Boot n) any none = (stands_none (node_at w n) none, tt)
-boots_may w (line.Cut n) any none = (tt, tt)
-boots_may w (line.Activate host sync power) any none = (tt, tt)
-boots_may w (line.Arm n nth fill) any none = (tt, tt)
-boots_may w (line.Init e identity pipes) any none = (tt, tt)
 boots_may w (line.Tables n) any none = tt
 boots_may w (line.Settle n) any none = tt
+boots_may w _ any none = (tt, tt)
 
 -- the events of the steps of a history, and their entries
 abbrev pub events_of_steps : List LineStep → List Occurrence
@@ -113,37 +108,11 @@ told_nothing n (Some r) = refl
 -- what a line that isn't refused causes is what happens
 caused_is : (w : NodeWorld) (l : Line) → occurrences_of (goes_on w l).1 ≡ (all_happen w (happenings w l)).1
 caused_is w (line.Tables n) = told_nothing n (node_at w n)
-caused_is w (line.Send e pid message) = refl
-caused_is w (line.Deliver e count) = refl
-caused_is w (line.Lose e) = refl
-caused_is w (line.Damage e places) = refl
-caused_is w (line.Tick times) = refl
-caused_is w (line.Reset e window) = refl
-caused_is w (line.Busy e) = refl
-caused_is w (line.Settle n) = refl
-caused_is w (line.Ready e) = refl
-caused_is w (line.Boot n) = refl
-caused_is w (line.Cut n) = refl
-caused_is w (line.Activate host sync power) = refl
-caused_is w (line.Arm n nth fill) = refl
-caused_is w (line.Init e identity pipes) = refl
+caused_is w _ = refl
 
 left_is : (w : NodeWorld) (l : Line) → (goes_on w l).0 ≡ (all_happen w (happenings w l)).0
 left_is w (line.Tables n) = refl
-left_is w (line.Send e pid message) = refl
-left_is w (line.Deliver e count) = refl
-left_is w (line.Lose e) = refl
-left_is w (line.Damage e places) = refl
-left_is w (line.Tick times) = refl
-left_is w (line.Reset e window) = refl
-left_is w (line.Busy e) = refl
-left_is w (line.Settle n) = refl
-left_is w (line.Ready e) = refl
-left_is w (line.Boot n) = refl
-left_is w (line.Cut n) = refl
-left_is w (line.Activate host sync power) = refl
-left_is w (line.Arm n nth fill) = refl
-left_is w (line.Init e identity pipes) = refl
+left_is w _ = refl
 
 refused_is : (w : NodeWorld) (l : Line) (cause : NoCause) → refusal_in w l ≡ Some cause → line_step w l ≡ (w, WasRefused cause)
 refused_is w l cause e = rw e refl
@@ -152,16 +121,13 @@ goes_is : (w : NodeWorld) (l : Line) → refusal_in w l ≡ None → line_step w
 goes_is w l e = rw e refl
 
 behind_line : (w : NodeWorld) (l : Line) → world_behind w (occurrences_of (line_step w l).1) ≡ (line_step w l).0
-behind_line w l = go (refusal_in w l) refl
+behind_line w l = by_option (refusal_in w l)
+    (λ e. subst IsBehind (sym (goes_is w l e))
+    (ap (world_behind w) (caused_is w l) ∙ (behind_all (happenings w l) w ∙ sym (left_is w l))))
+    (λ cause e. subst IsBehind (sym (refused_is w l cause e)) refl)
   where
     IsBehind : NodeWorld × LineOutcome → Type 0
     IsBehind o = world_behind w (occurrences_of o.1) ≡ o.0
-
-    go : (o : Option NoCause) → refusal_in w l ≡ o → IsBehind (line_step w l)
-    go (Some cause) e = subst IsBehind (sym (refused_is w l cause e)) refl
-    go None e =
-        subst IsBehind (sym (goes_is w l e))
-        (ap (world_behind w) (caused_is w l) ∙ (behind_all (happenings w l) w ∙ sym (left_is w l)))
 
 pub behind_lines : (lines : List Line) (w : NodeWorld) → world_behind w (events_of_steps (steps_from w lines)) ≡ world_after w lines
 behind_lines [] w = refl
@@ -199,14 +165,11 @@ module _ (May : NodeWorld → Happening → Type 0) (Is : Line → Type 0)
       go false z = tt
 
   line_caused : (w : NodeWorld) (l : Line) → Is l → AreCaused May w (occurrences_of (line_step w l).1)
-  line_caused w l is = by_refusal (refusal_in w l) refl where
-    Fine : NodeWorld × LineOutcome → Type 0
-    Fine o = AreCaused May w (occurrences_of o.1)
-
-    by_refusal : (o : Option NoCause) → refusal_in w l ≡ o → Fine (line_step w l)
-    by_refusal (Some cause) e = subst Fine (sym (refused_is w l cause e)) tt
-    by_refusal None e =
-        subst Fine (sym (goes_is w l e)) (subst (AreCaused May w) (sym (caused_is w l)) (all_caused (happenings w l) w (line_may w l is e)))
+  line_caused w l is = by_option (refusal_in w l)
+      (λ e. subst Fine (sym (goes_is w l e)) (subst (AreCaused May w) (sym (caused_is w l)) (all_caused (happenings w l) w (line_may w l is e))))
+      (λ cause e. subst Fine (sym (refused_is w l cause e)) tt) where
+        Fine : NodeWorld × LineOutcome → Type 0
+        Fine o = AreCaused May w (occurrences_of o.1)
 
   pub lines_caused : (lines : List Line) (w : NodeWorld) → AllByRecursion Is lines → AreCaused May w (events_of_steps (steps_from w lines))
   lines_caused [] w are = tt
@@ -274,15 +237,12 @@ module _ (Holds : List Occurrence → NodeWorld → Type 0) (May : NodeWorld →
   -- ## Lines
 
   line_holds : (os : List Occurrence) (w : NodeWorld) (l : Line) → Holds os w → Is l → EachHolds os w (occurrences_of (line_step w l).1)
-  line_holds os w l all is = by_refusal (refusal_in w l) refl where
-    Fine : NodeWorld × LineOutcome → Type 0
-    Fine o = EachHolds os w (occurrences_of o.1)
-
-    by_refusal : (o : Option NoCause) → refusal_in w l ≡ o → Fine (line_step w l)
-    by_refusal (Some cause) e = subst Fine (sym (refused_is w l cause e)) all
-    by_refusal None e =
-        subst Fine (sym (goes_is w l e))
-        (subst (EachHolds os w) (sym (caused_is w l)) (all_happen_hold (happenings w l) os w all (line_may w l is e)))
+  line_holds os w l all is = by_option (refusal_in w l)
+      (λ e. subst Fine (sym (goes_is w l e))
+      (subst (EachHolds os w) (sym (caused_is w l)) (all_happen_hold (happenings w l) os w all (line_may w l is e))))
+      (λ cause e. subst Fine (sym (refused_is w l cause e)) all) where
+        Fine : NodeWorld × LineOutcome → Type 0
+        Fine o = EachHolds os w (occurrences_of o.1)
 
   -- ## Schedules
 

@@ -42,8 +42,7 @@ none_given_up s up = ap (λ (z : Ticked). z.gave_up) answer ∙ go (runs_timer s
 
     go : (b : Bool) (t : Timed) → (cond b (by t) nothing_ticked).gave_up ≡ None
     go true Runs = refl
-    go true Over = refl
-    go true Spent = refl
+    go true _ = refl
     go false t = refl
 
 left : (s : EndState) → s.phase ≡ Up → is_some (tick_answer s).ended ≡ false → IsLeft s (ticked s)

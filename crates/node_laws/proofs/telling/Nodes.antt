@@ -9,7 +9,7 @@ use Rattle.link_laws.proofs.entries.Lasting.{same_number}
 use Rattle.link_laws.specs.machine.Machine.{LinkInput}
 use Rattle.link_laws.specs.machine.Machine.Role.{Bare}
 use Rattle.link_laws.specs.messages.Links.{NumberedEnd, Comes, new_link, exchanged, number_of}
-use Rattle.link_laws.specs.messages.Links.Comes.{NextFrame, AsksReset, Starts, Stops, NoInput}
+use Rattle.link_laws.specs.messages.Links.Comes.{NextFrame, NoInput}
 use Rattle.link_laws.specs.messages.Links.EndEvent.{Step}
 use Rattle.link_laws.specs.messages.Links.LinkEvent.{AtController, AtHost}
 use Rattle.link_laws.specs.entries.Entries.{step_entries}
@@ -91,10 +91,7 @@ stands near_ends (d ∷ desks) (x ∷ sites) h s e q = go (x.host == h) refl (st
 
 pub is_step : (comes : Comes) (i : LinkInput) → IsStep comes (Some i)
 is_step NextFrame i = tt
-is_step (AsksReset window) i = tt
-is_step (Starts value) i = tt
-is_step Stops i = tt
-is_step NoInput i = tt
+is_step _ i = tt
 
 -- ## The controller
 

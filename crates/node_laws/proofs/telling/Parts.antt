@@ -77,14 +77,8 @@ told_coming who h (Some i) = told_of who h i
 -- something comes, or nothing is to come
 abbrev pub IsStep : Comes → Option LinkInput → Type 0
 IsStep NoInput o = Unit {0}
-IsStep NextFrame None = ⊥
-IsStep NextFrame (Some i) = Unit {0}
-IsStep (AsksReset window) None = ⊥
-IsStep (AsksReset window) (Some i) = Unit {0}
-IsStep (Starts value) None = ⊥
-IsStep (Starts value) (Some i) = Unit {0}
-IsStep Stops None = ⊥
-IsStep Stops (Some i) = Unit {0}
+IsStep _ None = ⊥
+IsStep _ (Some i) = Unit {0}
 
 -- what arrives, what is told of it, what the node does, and the frames that go out
 abbrev pub parts_of : Side → Link → Comes → Option LinkInput → List Turn → Ending → List Noted
@@ -134,7 +128,6 @@ module _ (h : ℕ) (who : Side) (turns : List Turn) (ending : Ending) where
   step_is l NextFrame o q c = next_is l o l.to_controller q c
   step_is l NoInput None q c = refl
   step_is l NoInput (Some i) q c = absurd (cc q)
-  step_is l (AsksReset window) None q c = absurd c
   step_is l (AsksReset window) (Some i) q c =
       let f : LinkInput = Reset window in
       let is : f ≡ i = cc in
@@ -144,7 +137,6 @@ module _ (h : ℕ) (who : Side) (turns : List Turn) (ending : Ending) where
       (rest_is who (with_ended l b) l (number_of l.controller) (after_input l.controller.side f) turns ending (ended_number l b) (ended_alike l b)) in
       let P : LinkInput → Type 0 = λ j. IsParts (AsksReset window) (Some j) l in
       subst P is all
-  step_is l (Starts value) None q c = absurd c
   step_is l (Starts value) (Some i) q c =
       let f : LinkInput = Start value in
       let is : f ≡ i = cc in
@@ -152,7 +144,7 @@ module _ (h : ℕ) (who : Side) (turns : List Turn) (ending : Ending) where
       ap (λ z. entries_for h (told_of who l.controller f ++ z)) (silent_is l f (wires_for l (Starts value)) (record { to_host = refl; resets = refl })) in
       let P : LinkInput → Type 0 = λ j. IsParts (Starts value) (Some j) l in
       subst P is all
-  step_is l Stops None q c = absurd c
+  step_is l _ None q c = absurd c
   step_is l Stops (Some i) q c =
       let f : LinkInput = Stop in
       let is : f ≡ i = cc in

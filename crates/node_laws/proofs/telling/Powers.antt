@@ -9,9 +9,9 @@ use Rattle.trace_model.specs.declared.line.End.{End}
 use Rattle.journal_laws.specs.Writes.{Write}
 use Rattle.link_laws.specs.machine.Machine.{LinkInput, Refused, Turn, Message, give_refusal, report, whole_acked, after_input}
 use Rattle.link_laws.specs.machine.Machine.LinkInput.{Reset}
-use Rattle.link_laws.specs.machine.Machine.Turn.{Give, Hold, FetchMessage, SetAside, Release}
+use Rattle.link_laws.specs.machine.Machine.Turn.{Give}
 use Rattle.link_laws.specs.entries.Entries.{End as Side, Entry as Noted, told, sent_unless}
-use Rattle.link_laws.specs.entries.Entries.Entry.{Up, Down, Active, GaveUp, Acked, Got, Sent, Emit, Took, Lost, Tick, Restarted, Cut}
+use Rattle.link_laws.specs.entries.Entries.Entry.{Active, GaveUp, Tick, Restarted, Cut}
 use Rattle.history.specs.Filters.{Saying, said}
 use Rattle.history.specs.Filters.Saying.{Sends}
 use Rattle.history.specs.Steps.{end_of, entry_of, entries_for}
@@ -91,19 +91,10 @@ uncut_flat f one [] = tt
 uncut_flat f one (x ∷ xs) = uncut-append (f x) (flat_map f xs) (one x) (uncut_flat f one xs)
 
 pub entry_uncut : (h : ℕ) (n : Noted) → AreUncut (entry_of h n)
-entry_uncut h (Up w n) = (tt, tt)
-entry_uncut h (Down w cause) = (tt, tt)
-entry_uncut h (Active w) = (tt, tt)
-entry_uncut h (GaveUp w tries) = (tt, tt)
-entry_uncut h (Acked w n count) = (tt, tt)
-entry_uncut h (Got w n m) = (tt, tt)
-entry_uncut h (Sent w n m) = (tt, tt)
-entry_uncut h (Emit w c) = (tt, tt)
-entry_uncut h (Took w c) = (tt, tt)
-entry_uncut h (Lost w c why) = (tt, tt)
 entry_uncut h Tick = tt
 entry_uncut h (Restarted w) = tt
 entry_uncut h (Cut w) = tt
+entry_uncut h _ = (tt, tt)
 
 pub entries_uncut : (h : ℕ) (notes : List Noted) → AreUncut (entries_for h notes)
 entries_uncut h notes = uncut_flat (entry_of h) (entry_uncut h) notes
@@ -147,10 +138,7 @@ sent_neutral h k n who m (Some why) x = (refl, refl)
 
 turn_neutral : (h : ℕ) (core : Core) (t : Turn) (p : Port) → IsNeutral h (noted_of core t p)
 turn_neutral h core (Give m) p x = sent_neutral h p.desk.host p.session (own_side core) m (give_refusal p.side m) x
-turn_neutral h core (Hold held) p x = (refl, refl)
-turn_neutral h core FetchMessage p x = (refl, refl)
-turn_neutral h core SetAside p x = (refl, refl)
-turn_neutral h core Release p x = (refl, refl)
+turn_neutral h core _ p x = (refl, refl)
 
 at_neutral : (h : ℕ) (core : Core) (t : Turn) (o : Option Port) → IsNeutral h (option_map_or (noted_of core t) o [])
 at_neutral h core t None x = (refl, refl)

@@ -12,7 +12,7 @@ use Rattle.link_laws.specs.sessions.Sessions.{OnWire, took_with}
 use Rattle.link_laws.specs.machine.Machine.{LinkEnd, LinkInput, Refused, Report, Turn, Message, report, whole_acked, after_input, ended_by, turn, turned}
 use Rattle.link_laws.specs.machine.Machine.{give_refusal, frames_out}
 use Rattle.link_laws.specs.machine.Machine.LinkInput.{Take, Tick as HasTick, Reset, Start, Stop}
-use Rattle.link_laws.specs.machine.Machine.Turn.{Give, Hold, FetchMessage, SetAside, Release}
+use Rattle.link_laws.specs.machine.Machine.Turn.{Give}
 use Rattle.link_laws.specs.messages.Links.{NumberedEnd, Link, Ending, Comes, Loss, Node, number_of, put, with_ended, silent}
 use Rattle.link_laws.specs.messages.Links.Ending.{GoesOut, CutOff}
 use Rattle.link_laws.specs.messages.Links.Comes.{NextFrame, AsksReset, Starts, Stops, NoInput}
@@ -64,10 +64,7 @@ clear_sent (Some why) who n m = tt
 
 clear_turn : (who : Side) (n : ℕ) (e : LinkEnd) (t : Turn) → AreClear (turn_entry who n e t)
 clear_turn who n e (Give m) = clear_sent (give_refusal e m) who n m
-clear_turn who n e (Hold held) = tt
-clear_turn who n e FetchMessage = tt
-clear_turn who n e SetAside = tt
-clear_turn who n e Release = tt
+clear_turn who n e _ = tt
 
 pub clear_turns : (who : Side) (n : ℕ) (e : LinkEnd) (ts : List Turn) → AreClear (turn_entries who n e ts)
 clear_turns who n e [] = tt
@@ -203,10 +200,7 @@ opened_same h who comes notes rest q = ap (λ z. of_link h (entries_for h z)) q 
   where
     by : (c : Comes) → of_link h (entries_for h (opened_by who c ++ rest)) ≡ of_link h (entries_for h rest)
     by NextFrame = refl
-    by (AsksReset window) = refl
-    by (Starts value) = refl
-    by Stops = refl
-    by NoInput = refl
+    by _ = refl
 
 pub opened_stands : (h : ℕ) (who : Side) (comes : Comes) (notes rest : List Noted) → notes ≡ opened_by who comes ++ rest → (x : Standing)
     → standing_by_law h x notes ≡ standing_by_law h x rest
@@ -214,10 +208,7 @@ opened_stands h who comes notes rest q x = ap (standing_by_law h x) q ∙ by com
   where
     by : (c : Comes) → standing_by_law h x (opened_by who c ++ rest) ≡ standing_by_law h x rest
     by NextFrame = refl
-    by (AsksReset window) = refl
-    by (Starts value) = refl
-    by Stops = refl
-    by NoInput = refl
+    by _ = refl
 
 -- ## Nodes
 

@@ -20,6 +20,7 @@ use Rattle.node_machine.specs.world.World.{input_of, near_end_in, arrival, wires
 use Rattle.node_laws.specs.kept.Books.{hosts_of_ends}
 use Rattle.node_laws.specs.kept.Hosts.{AreDifferent}
 use Rattle.node_laws.specs.telling.Telling.{of_link}
+use Rattle.node_laws.proofs.Cases.{by_test}
 use Rattle.node_laws.proofs.telling.Mute.{AreMute, forgotten_mute, all_owed_mute, all_synced_mute}
 use Rattle.node_laws.proofs.telling.Walks.{all_do, rest}
 use Rattle.node_laws.proofs.telling.Accounts.{of-append, of_other, at_host, SameEnd, Account, note, desk, turns, beside}
@@ -66,18 +67,14 @@ four h a t u f =
 -- ## What a step keeps of an end
 
 pub without_same : (p : Port) → SameEnd p (without_notice p)
-without_same p = go (is_over p) refl
-  where
-    go : (b : Bool) → is_over p ≡ b → SameEnd p (without_notice p)
-    go true q = rw q (record { session = refl; late = refl; side = refl; turns = refl })
-    go false q = rw q (record { session = refl; late = refl; side = refl; turns = refl })
+without_same p = by_test (is_over p)
+    (λ q. rw q (record { session = refl; late = refl; side = refl; turns = refl }))
+    (λ q. rw q (record { session = refl; late = refl; side = refl; turns = refl }))
 
 pub forgets_same : (ports : List Port) (p : Port) → SameEnd p (forgets ports p)
-forgets_same ports p = go (is_forgotten ports (asked_at p)) refl
-  where
-    go : (b : Bool) → is_forgotten ports (asked_at p) ≡ b → SameEnd p (forgets ports p)
-    go true q = rw q (record { session = refl; late = refl; side = refl; turns = refl })
-    go false q = rw q (record { session = refl; late = refl; side = refl; turns = refl })
+forgets_same ports p = by_test (is_forgotten ports (asked_at p))
+    (λ q. rw q (record { session = refl; late = refl; side = refl; turns = refl }))
+    (λ q. rw q (record { session = refl; late = refl; side = refl; turns = refl }))
 
 pub come_session : (p : Port) (o : Option LinkInput) → (has_come p o).session ≡ p.session
 come_session p None = refl
@@ -96,11 +93,7 @@ come_side p None = refl
 come_side p (Some i) = refl
 
 pub sessions_side : (core : Core) (ports : List Port) → own_side (after_sessions core ports) ≡ own_side core
-sessions_side core ports = go (list_any is_over ports) refl
-  where
-    go : (b : Bool) → list_any is_over ports ≡ b → own_side (after_sessions core ports) ≡ own_side core
-    go true q = rw q refl
-    go false q = rw q refl
+sessions_side core ports = by_test (list_any is_over ports) (λ q. rw q refl) (λ q. rw q refl)
 
 -- ## A step of a node
 

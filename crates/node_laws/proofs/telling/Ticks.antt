@@ -17,6 +17,7 @@ use Rattle.node_machine.specs.Node.{has_come, told_at, all_come, with_older, is_
 use Rattle.node_machine.specs.Node.{without_notice, after_sessions, synced, steps}
 use Rattle.node_machine.specs.Node.NodeInput.{TimePasses}
 use Rattle.node_laws.specs.kept.Hosts.{AreDifferent}
+use Rattle.node_laws.proofs.Cases.{by_option, by_test}
 use Rattle.node_laws.proofs.kept.Plainly.{hosts_map}
 use Rattle.node_laws.specs.telling.Telling.{of_link, is_due}
 use Rattle.node_laws.proofs.telling.Mute.{forgotten_mute, all_owed_mute, all_synced_mute}
@@ -34,11 +35,7 @@ abbrev pub older : Port → Port
 older p = with_older (has_come p (Some Tick))
 
 pub not_late : (p : Port) → is_due p.desk ≡ false → is_late (older p) ≡ false
-not_late p d = go p.desk.notice refl
-  where
-    go : (o : Option Notice) → p.desk.notice ≡ o → is_late (older p) ≡ false
-    go None r = rw r refl
-    go (Some n) r = let young : nat_le 100 (n.age + 1) ≡ false = rw r at d in rw (r, young) refl
+not_late p d = by_option p.desk.notice (λ r. rw r refl) (λ n r. let young : nat_le 100 (n.age + 1) ≡ false = rw r at d in rw (r, young) refl)
 
 -- the notice of an end that is late came to its hundredth tick, and its session goes on
 pub record IsLate (p : Port) : Type 0 where
@@ -67,18 +64,10 @@ reset_same_end : (p : Port) → is_late p ≡ false → SameEnd p (reset_late p)
 reset_same_end p q = rw q (record { session = refl; late = refl; side = refl; turns = refl })
 
 reset_session : (p : Port) → (reset_late p).session ≡ p.session
-reset_session p = go (is_late p) refl
-  where
-    go : (b : Bool) → is_late p ≡ b → (reset_late p).session ≡ p.session
-    go true q = rw q refl
-    go false q = rw q refl
+reset_session p = by_test (is_late p) (λ q. rw q refl) (λ q. rw q refl)
 
 pub reset_turns : (p : Port) → (reset_late p).turns ≡ p.turns
-reset_turns p = go (is_late p) refl
-  where
-    go : (b : Bool) → is_late p ≡ b → (reset_late p).turns ≡ p.turns
-    go true q = rw q refl
-    go false q = rw q refl
+reset_turns p = by_test (is_late p) (λ q. rw q refl) (λ q. rw q refl)
 
 -- what is noted of other links
 told_other : (h : ℕ) (core : Core) (i : LinkInput) (p : Port) → (p.desk.host == h) ≡ false → of_link h (told_at core p (Some i)) ≡ []

@@ -12,7 +12,7 @@ use Rattle.swp_base.specs.declared.link_terms.Cause.{Cause}
 use Rattle.link_laws.specs.machine.Machine.{Message, LinkEnd, LinkInput, Report, after_input, report, whole_acked}
 use Rattle.link_laws.specs.machine.Machine.LinkInput.{Tick, Reset}
 use Rattle.link_laws.specs.entries.Entries.{End as Side, Entry as Noted, if_so, told}
-use Rattle.link_laws.specs.entries.Entries.Entry.{Up, Down, Active, GaveUp, Acked, Got, Sent, Emit, Took, Lost, Tick as Ticked, Restarted, Cut}
+use Rattle.link_laws.specs.entries.Entries.Entry.{Up, Down, Active, GaveUp, Acked, Got, Tick as Ticked, Restarted, Cut}
 use Rattle.history.specs.Filters.{same_end}
 use Rattle.history.specs.Steps.{end_of, entry_of, entries_for}
 use Rattle.node_machine.specs.Parts.{Core, Port, Work, Deed}
@@ -23,6 +23,7 @@ use Rattle.node_machine.specs.Node.NodeInput.{AtEnd, TimePasses}
 use Rattle.node_laws.specs.kept.Books.{hosts_of_ends}
 use Rattle.node_laws.specs.kept.Hosts.{AreDifferent}
 use Rattle.node_laws.specs.links.Notices.{IsComing, IsOutside}
+use Rattle.node_laws.proofs.Cases.{by_test}
 use Rattle.node_laws.proofs.telling.Mute.{AreMute, forgotten_mute, all_owed_mute, all_synced_mute}
 use Rattle.node_laws.proofs.telling.Parts.{after_coming}
 use Rattle.node_laws.proofs.telling.Accounts.{at_host}
@@ -47,19 +48,11 @@ AreNoGots notes = AllByRecursion IsNoGot notes
 
 pub notes_still : (e : End) (h : ℕ) (notes : List Noted) → AreNoGots notes → AreStill e (entries_for h notes)
 notes_still e h [] a = tt
-notes_still e h (Up who n ∷ notes) a = (refl, notes_still e h notes a.1)
-notes_still e h (Down who cause ∷ notes) a = (refl, notes_still e h notes a.1)
-notes_still e h (Active who ∷ notes) a = (refl, notes_still e h notes a.1)
-notes_still e h (GaveUp who tries ∷ notes) a = (refl, notes_still e h notes a.1)
-notes_still e h (Acked who n count ∷ notes) a = (refl, notes_still e h notes a.1)
 notes_still e h (Got who n m ∷ notes) a = absurd a.0
-notes_still e h (Sent who n m ∷ notes) a = (refl, notes_still e h notes a.1)
-notes_still e h (Emit who frame ∷ notes) a = (refl, notes_still e h notes a.1)
-notes_still e h (Took who frame ∷ notes) a = (refl, notes_still e h notes a.1)
-notes_still e h (Lost who frame why ∷ notes) a = (refl, notes_still e h notes a.1)
 notes_still e h (Ticked ∷ notes) a = notes_still e h notes a.1
 notes_still e h (Restarted who ∷ notes) a = notes_still e h notes a.1
 notes_still e h (Cut who ∷ notes) a = notes_still e h notes a.1
+notes_still e h (_ ∷ notes) a = (refl, notes_still e h notes a.1)
 
 -- messages that came wait behind the others
 pub gots_go : (e : End) (h : ℕ) (who : Side) (n : ℕ) (ms q : List Message) → same_end (end_of h who) e ≡ true
@@ -139,11 +132,7 @@ Fresh e who true s begin (Some p) = (p.turns ≡ []) × (p.side ≡ s) × (s.got
 Fresh e who false s begin (Some p) = has_side who e ≡ false
 
 reset_side : (p : Port) → (reset_late p).side.got ≡ p.side.got
-reset_side p = go (is_late p) refl
-  where
-    go : (b : Bool) → is_late p ≡ b → (reset_late p).side.got ≡ p.side.got
-    go true q = rw q (reset_got p.side None)
-    go false q = rw q refl
+reset_side p = by_test (is_late p) (λ q. rw q (reset_got p.side None)) (λ q. rw q refl)
 
 module _ (e : End) (who : Side) (own : Bool) (mine : own ≡ true → has_side who e ≡ true) (begin : List Message) (s : LinkEnd) where
   off_side : (k : ℕ) → has_side who e ≡ false → same_end (end_of k who) e ≡ false

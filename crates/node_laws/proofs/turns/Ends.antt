@@ -3,17 +3,17 @@ use Rattle.std.proofs.Common.{◌≡◌, Bool, true, false, cond, List, [], ◌�
 use Rattle.std.specs.Prelude.{drop, is_some, not, ◌&&◌}
 use Rattle.swp_act.specs.declared.ActEvent.TheVariants.{Start as ActStart, Tick as ActTick, Stop as ActStop}
 use Rattle.shdlc_core.specs.Machine.{is_waiting, ticked, tick_answer, stopped}
-use Rattle.link_laws.specs.sessions.Sessions.{OnWire}
-use Rattle.link_laws.specs.machine.Machine.{Message, LinkEnd, Refused, LinkInput, Turn, is_open, moved, started, deactivated, had_tick, give_refusal}
+use Rattle.link_laws.specs.machine.Machine.{Message, LinkEnd, LinkInput, Turn, is_open, moved, started, deactivated, give_refusal}
 use Rattle.link_laws.specs.machine.Machine.{aside_refusal}
 use Rattle.link_laws.specs.machine.Machine.{turn, turned, after_input, ended_by, got_by}
-use Rattle.link_laws.specs.machine.Machine.LinkInput.{Take, TakeUnknown, TakeBroken, Tick, Reset, Start, Stop, FromNode, Fetch}
-use Rattle.link_laws.specs.machine.Machine.Turn.{Give, Hold, FetchMessage, SetAside, Release}
+use Rattle.link_laws.specs.machine.Machine.LinkInput.{Take, Tick, Reset, Start, Stop}
+use Rattle.link_laws.specs.machine.Machine.Turn.{Give, FetchMessage, SetAside}
 use Rattle.link_laws.specs.messages.Links.{Link, Ending, Comes, with_ended, finished, silent, has_input, steps_at_controller, ticks_at_controller}
 use Rattle.link_laws.specs.messages.Links.Ending.{GoesOut, CutOff}
 use Rattle.link_laws.specs.messages.Links.Comes.{NextFrame, AsksReset, Starts, Stops, NoInput}
 use Rattle.node_laws.specs.links.Notices.{IsComing}
 use Rattle.node_machine.specs.world.World.{input_of, ticked_so}
+use Rattle.node_laws.proofs.Cases.{by_list, by_option, by_test}
 use Rattle.node_laws.proofs.telling.Parts.{after_coming, IsStep}
 use Rattle.link_laws.proofs.machine.Kept.{moved_got, activated_got, reset_got, took_got}
 
@@ -34,19 +34,9 @@ left-append [] t ms = refl
 left-append (x ∷ ts) t ms = left-append ts t (kept_by x ms)
 
 pub turn_got : (e : LinkEnd) (t : Turn) → (turn e t).got ≡ kept_by t e.got
-turn_got e (Give m) = go (give_refusal e m) refl
-  where
-    go : (o : Option Refused) → give_refusal e m ≡ o → (turn e (Give m)).got ≡ e.got
-    go None q = rw q refl
-    go (Some why) q = rw q refl
-turn_got e (Hold held) = refl
-turn_got e FetchMessage = refl
-turn_got e SetAside = go (aside_refusal e) refl
-  where
-    go : (o : Option Refused) → aside_refusal e ≡ o → (turn e SetAside).got ≡ e.got
-    go None q = rw q refl
-    go (Some why) q = rw q refl
-turn_got e Release = refl
+turn_got e (Give m) = by_option (give_refusal e m) (λ q. rw q refl) (λ why q. rw q refl)
+turn_got e SetAside = by_option (aside_refusal e) (λ q. rw q refl) (λ why q. rw q refl)
+turn_got e _ = refl
 
 turned_got : (e : LinkEnd) (ts : List Turn) → (turned e ts).got ≡ left_by ts e.got
 turned_got e [] = refl
@@ -58,11 +48,9 @@ more : (e f : LinkEnd) → f.got ≡ e.got → f.got ≡ e.got ++ []
 more e f q = q ∙ sym (append-nil e.got)
 
 pub tick_got : (e : LinkEnd) → (after_input e Tick).got ≡ e.got
-tick_got e = go (is_open e.role) refl
-  where
-    go : (b : Bool) → is_open e.role ≡ b → (had_tick e).got ≡ e.got
-    go true q = let b : Bool = is_some (tick_answer e.shdlc).ended in rw q (moved_got e b (ticked e.shdlc))
-    go false q = rw q (activated_got e ActTick)
+tick_got e = by_test (is_open e.role)
+    (λ q. let b : Bool = is_some (tick_answer e.shdlc).ended in rw q (moved_got e b (ticked e.shdlc)))
+    (λ q. rw q (activated_got e ActTick))
 
 -- what comes brings messages behind those that wait
 pub input_got : (e : LinkEnd) (i : LinkInput) → IsComing i → (after_input e i).got ≡ e.got ++ got_by e i
@@ -73,10 +61,7 @@ input_got e (Start value) a =
     more e (started e value) (activated_got (moved e true (stopped e.shdlc)) (ActStart value) ∙ moved_got e true (stopped e.shdlc))
 input_got e Stop a =
     more e (deactivated e) (activated_got (moved e true (stopped e.shdlc)) ActStop ∙ moved_got e true (stopped e.shdlc))
-input_got e TakeUnknown a = absurd a
-input_got e (TakeBroken fault) a = absurd a
-input_got e (FromNode t) a = absurd a
-input_got e Fetch a = absurd a
+input_got e _ a = absurd a
 
 -- ## Steps
 
@@ -95,33 +80,26 @@ all_got l e ts ending = finished_got l (turned e ts) ending ∙ ap (ended_with e
 
 pub step_got : (l : Link) (comes : Comes) (o : Option LinkInput) (ts : List Turn) (ending : Ending) → input_of l comes ≡ o → IsStep comes o
     → (steps_at_controller l comes ts ending).controller.side.got ≡ ended_with ending (left_by ts (after_coming l.controller.side o).got)
-step_got l NextFrame None ts ending q s = absurd s
-step_got l NextFrame (Some i) ts ending q s = go l.to_controller refl
-  where
-    go : (xs : List OnWire) → l.to_controller ≡ xs
-        → (steps_at_controller l NextFrame ts ending).controller.side.got ≡ ended_with ending (left_by ts (after_input l.controller.side i).got)
-    go [] z = let none : None ≡ Some i = rw z at q in absurd (cc none)
-    go (x ∷ xs) z =
-        let one : Some (Take x.frame) ≡ Some i = rw z at q in
-        let is : Take x.frame ≡ i = cc in
-        rw z (all_got _ (after_input l.controller.side (Take x.frame)) ts ending
-        ∙ ap (λ j. ended_with ending (left_by ts (after_input l.controller.side j).got)) is)
-step_got l (AsksReset window) None ts ending q s = absurd s
+step_got l NextFrame (Some i) ts ending q s = by_list l.to_controller
+    (λ z. let none : None ≡ Some i = rw z at q in absurd (cc none))
+    (λ x xs z. let one : Some (Take x.frame) ≡ Some i = rw z at q in
+    let is : Take x.frame ≡ i = cc in
+    rw z (all_got _ (after_input l.controller.side (Take x.frame)) ts ending
+    ∙ ap (λ j. ended_with ending (left_by ts (after_input l.controller.side j).got)) is))
 step_got l (AsksReset window) (Some i) ts ending q s =
     let is : Reset window ≡ i = cc in
     all_got (with_ended l (is_some (ended_by l.controller.side (Reset window)))) (after_input l.controller.side (Reset window)) ts ending
     ∙ ap (λ j. ended_with ending (left_by ts (after_input l.controller.side j).got)) is
-step_got l (Starts value) None ts ending q s = absurd s
 step_got l (Starts value) (Some i) ts ending q s =
     let is : Start value ≡ i = cc in
     all_got (silent l (after_input l.controller.side (Start value))) (after_input l.controller.side (Start value)) ts ending
     ∙ ap (λ j. ended_with ending (left_by ts (after_input l.controller.side j).got)) is
-step_got l Stops None ts ending q s = absurd s
 step_got l Stops (Some i) ts ending q s =
     let is : Stop ≡ i = cc in
     all_got (silent l (after_input l.controller.side Stop)) (after_input l.controller.side Stop) ts ending
     ∙ ap (λ j. ended_with ending (left_by ts (after_input l.controller.side j).got)) is
 step_got l NoInput None ts ending q s = all_got l l.controller.side ts ending
+step_got l _ None ts ending q s = absurd s
 step_got l NoInput (Some i) ts ending q s = absurd (cc q)
 
 input_had : (l : Link) (i : LinkInput) (ts : List Turn) (ending : Ending)

@@ -30,6 +30,7 @@ use Rattle.node_machine.specs.world.World.{ticked_so, end_c, end_h}
 use Rattle.node_laws.specs.kept.Books.{hosts_of_ends}
 use Rattle.node_laws.specs.kept.Hosts.{AreDifferent}
 use Rattle.node_laws.specs.links.Notices.{IsOutside}
+use Rattle.node_laws.proofs.Cases.{by_test}
 use Rattle.node_laws.proofs.links.Ends.{here_host}
 use Rattle.link_laws.proofs.entries.Together.{ticks_host as tick_host}
 use Rattle.node_laws.specs.telling.Telling.{HasEnds, hosts_in}
@@ -80,17 +81,14 @@ module _ (n : ℕ) (hosts : List ℕ) (who : Side) (sides : ℕ → LinkEnd) (be
 other_fresh : (e : End) (s : LinkEnd) (q : List Message) (m : ℕ) (ports : List Port) → hosts_of_ends ports ≡ m ∷ [] → same_end (end_h m) e ≡ false
     → Fresh e Host false s q (port_at ports e.link)
 other_fresh e s q m [] h off = tt
-other_fresh e s q m (p ∷ []) h off = go (p.desk.host == e.link) refl
+other_fresh e s q m (p ∷ []) h off = by_test (p.desk.host == e.link)
+    (λ z. let here : (m == e.link) ≡ true = ap (λ n. n == e.link) (sym one) ∙ z in
+    let out : e.at_host ≡ false = rw here at off in
+    rw z out)
+    (λ z. rw z tt)
   where
     one : p.desk.host ≡ m
     one = cc
-
-    go : (b : Bool) → (p.desk.host == e.link) ≡ b → Fresh e Host false s q (port_at (p ∷ []) e.link)
-    go true z =
-        let here : (m == e.link) ≡ true = ap (λ n. n == e.link) (sym one) ∙ z in
-        let out : e.at_host ≡ false = rw here at off in
-        rw z out
-    go false z = rw z tt
 other_fresh e s q m (p ∷ x ∷ ports) h off = absurd (cc h)
 
 -- a host becomes v in a step, as its node does so

@@ -8,7 +8,7 @@ use Rattle.trace_model.specs.declared.entry.Entry.TheVariants as entry
 use Rattle.trace_model.specs.declared.line.End.{End}
 use Rattle.journal_laws.specs.Writes.{Write}
 use Rattle.link_laws.specs.machine.Machine.{Message, Refused, Turn, give_refusal}
-use Rattle.link_laws.specs.machine.Machine.Turn.{Give, Hold, FetchMessage, SetAside, Release}
+use Rattle.link_laws.specs.machine.Machine.Turn.{Give, FetchMessage}
 use Rattle.link_laws.specs.entries.Entries.{End as Side, sent_unless}
 use Rattle.link_laws.specs.entries.Entries.End.{Controller, Host}
 use Rattle.history.specs.Filters.{same_end}
@@ -18,6 +18,7 @@ use Rattle.node_machine.specs.Carrying.{own_side, end_of_node, noting, unless_cu
 use Rattle.node_machine.specs.Carrying.{needs, lack, all_done}
 use Rattle.node_machine.specs.Turns.{deeds_of, handles, holds_back, have_turns}
 use Rattle.node_machine.specs.Node.{answers_and_passes}
+use Rattle.node_laws.proofs.Cases.{by_option, by_test}
 use Rattle.node_laws.proofs.telling.Mute.{IsMute, AreMute, deeds_mute}
 use Rattle.node_laws.proofs.telling.Walks.{ArePlain, IsNoFetch, every_do, holds, lets}
 use Rattle.node_laws.proofs.steps.StepWalks.{unless, rest as rest_of}
@@ -41,11 +42,9 @@ same_is Host k e = refl
 
 pub map_is : (f : Port → Port) → ((p : Port) → (f p).desk.host ≡ p.desk.host) → (ports : List Port) (h : ℕ) (P : Option Port → Type 0)
     → (port_at ports h ≡ None → P None) → ((p : Port) → port_at ports h ≡ Some p → P (Some (f p))) → P (port_at (map f ports) h)
-map_is f keeps ports h P none some = go (port_at ports h) refl
-  where
-    go : (o : Option Port) → port_at ports h ≡ o → P (port_at (map f ports) h)
-    go None q = subst P (sym (none_map f keeps ports h q)) (none q)
-    go (Some p) q = subst P (sym (at_map f keeps ports h p q)) (some p q)
+map_is f keeps ports h P none some = by_option (port_at ports h)
+    (λ q. subst P (sym (none_map f keeps ports h q)) (none q))
+    (λ p q. subst P (sym (at_map f keeps ports h p q)) (some p q))
 
 -- ## What is known
 
@@ -58,11 +57,8 @@ Knows e who begin came false ms None = ms ≡ begin
 Knows e who begin came false ms (Some p) = (ms ≡ begin) × (has_side who e ≡ false)
 
 kept_same : (t : Turn) (ms : List Message) → IsNoFetch t → kept_by t ms ≡ ms
-kept_same (Give m) ms n = refl
-kept_same (Hold held) ms n = refl
 kept_same FetchMessage ms n = absurd n
-kept_same SetAside ms n = refl
-kept_same Release ms n = refl
+kept_same _ ms n = refl
 
 module _ (e : End) (who : Side) (own : Bool) (mine : own ≡ true → has_side who e ≡ true) (begin came : List Message) where
   abbrev pub Known : List Message → Option Port → Type 0
@@ -109,10 +105,7 @@ module _ (e : End) (who : Side) (own : Bool) (mine : own ≡ true → has_side w
 
   turn_still : (core : Core) (t : Turn) (p : Port) → AreStill e (noted_of core t p)
   turn_still core (Give m) p = sent_still p.desk.host p.session m (own_side core) (give_refusal p.side m)
-  turn_still core (Hold held) p = tt
-  turn_still core FetchMessage p = tt
-  turn_still core SetAside p = tt
-  turn_still core Release p = tt
+  turn_still core _ p = tt
 
   at_still : (core : Core) (t : Turn) (o : Option Port) → AreStill e (option_map_or (noted_of core t) o [])
   at_still core t None = tt
@@ -291,7 +284,10 @@ module _ (e : End) (who : Side) (own : Bool) (mine : own ≡ true → has_side w
   does k deeds w m a = record { waiting = a.waiting; at = all_do a.waiting k deeds w m a.at }
 
   having : (k : ℕ) (w : Work) → Stands w → Stands (have_turns k (option_map_or (λ (p : Port). p.side.got) (port_at w.ports k) []) w)
-  having k w a = go (same_end (end_of k who) e) refl
+  having k w a = by_test (same_end (end_of k who) e)
+      (λ on. by own (port_at w.ports k) on refl
+      (subst (λ n. Known ms (port_at w.ports n)) (sym (eqb-true k e.link (link_is k on).0)) a.at.port))
+      (λ off. record { waiting = ms; at = have_other ms k off _ w a.at })
     where
       ms : List Message
       ms = a.waiting
@@ -301,12 +297,6 @@ module _ (e : End) (who : Side) (own : Bool) (mine : own ≡ true → has_side w
       by b None on q known = record { waiting = ms; at = lets (At ms) (note ms) (desk ms) (turns ms) (beside ms) (loses ms) k w a.at }
       by true (Some p) on q known = subst (λ l. Stands (have_turns k l w)) (sym known.1) (have_mine k on q ms w a.at)
       by false (Some p) on q known = absurd (true≢false (sym (link_is k on).1 ∙ known.1))
-
-      go : (b : Bool) → same_end (end_of k who) e ≡ b → Stands (have_turns k (option_map_or (λ (p : Port). p.side.got) (port_at w.ports k) []) w)
-      go true on =
-          by own (port_at w.ports k) on refl
-          (subst (λ n. Known ms (port_at w.ports n)) (sym (eqb-true k e.link (link_is k on).0)) a.at.port)
-      go false off = record { waiting = ms; at = have_other ms k off _ w a.at }
 
   -- what is left to do in a step once something has come
   pub rest : (freed syncs owing : List Deed) (w : Work) → AreMute freed → AreMute syncs → AreMute owing → Stands w

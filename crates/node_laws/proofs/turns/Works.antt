@@ -18,6 +18,7 @@ use Rattle.node_machine.specs.Parts.{Running, Port, Work}
 use Rattle.node_machine.specs.Carrying.{port_at, changed_if}
 use Rattle.node_machine.specs.world.World.{Site, NodeWorld, site_at, with_site, turns_at, ending_of, runs_on, arrival, frames_noted, end_c, end_h}
 use Rattle.node_laws.specs.kept.Books.{hosts_of_ends}
+use Rattle.node_laws.proofs.Cases.{by_option, by_test}
 use Rattle.node_laws.proofs.telling.Nodes.{swapped, site_host}
 use Rattle.node_laws.proofs.telling.Events.{site_map}
 use Rattle.node_laws.proofs.telling.Frames.{lost_all, ending_all, arrival_all, wires_all}
@@ -116,11 +117,9 @@ site_none f keeps (x ∷ sites) h q = go (x.host == h) refl (site_none f keeps s
 
 pub sites_is : (f : Site → Site) → ((s : Site) → (f s).host ≡ s.host) → (sites : List Site) (h : ℕ) (P : Option Site → Type 0)
     → (site_at sites h ≡ None → P None) → ((s : Site) → site_at sites h ≡ Some s → P (Some (f s))) → P (site_at (map f sites) h)
-sites_is f keeps sites h P none some = go (site_at sites h) refl
-  where
-    go : (o : Option Site) → site_at sites h ≡ o → P (site_at (map f sites) h)
-    go None q = subst P (sym (site_none f keeps sites h q)) (none q)
-    go (Some s) q = subst P (sym (site_map f keeps sites h s q)) (some s q)
+sites_is f keeps sites h P none some = by_option (site_at sites h)
+    (λ q. subst P (sym (site_none f keeps sites h q)) (none q))
+    (λ s q. subst P (sym (site_map f keeps sites h s q)) (some s q))
 
 -- what waits at the end of a host as it becomes v
 pub record OwnMoves (h : ℕ) (v : Site) (t : List Entry) (q : List Message) : Type 0 where
@@ -157,18 +156,15 @@ module _ (w : NodeWorld) (c : Option Running) (k : ℕ) (g : Site → Site) (t :
   -- the site there is this one, or another
   there : (s : Site) → site_at w.sites k ≡ Some s → (h : ℕ) (x : Site) → site_at w.sites h ≡ Some x → (P : Site → Type 0)
       → (h ≡ k → s ≡ x → P (g x)) → ((k == h) ≡ false → P x) → P (f x)
-  there s found h x q P mine other = go (x.host == k) refl
+  there s found h x q P mine other = by_test (x.host == k)
+      (λ e. let is : h ≡ k = sym here ∙ eqb-true x.host k e in
+      let same : Some x ≡ Some s = sym q ∙ (ap (site_at w.sites) is ∙ found) in
+      let one : s ≡ x = cc in
+      rw e (mine is one))
+      (λ e. rw e (other (swapped h k (ap (λ n. n == k) (sym here) ∙ e))))
     where
       here : x.host ≡ h
       here = site_host w.sites h x q
-
-      go : (b : Bool) → (x.host == k) ≡ b → P (f x)
-      go true e =
-          let is : h ≡ k = sym here ∙ eqb-true x.host k e in
-          let same : Some x ≡ Some s = sym q ∙ (ap (site_at w.sites) is ∙ found) in
-          let one : s ≡ x = cc in
-          rw e (mine is one)
-      go false e = rw e (other (swapped h k (ap (λ n. n == k) (sym here) ∙ e)))
 
   site_moves : (s : Site) → site_at w.sites k ≡ Some s → SiteGoes s (g s) t → AllMove w After t
   site_moves s found a false h q x = record {
@@ -215,13 +211,10 @@ module _ (w : NodeWorld) (c : Option Running) (k : ℕ) (g : Site → Site) (t :
   -- where there is none with this number, nothing changes
   pub at_site : ((s : Site) → site_at w.sites k ≡ Some s → SiteGoes s (g s) t)
       → (site_at w.sites k ≡ None → AllMove w (record w { controller = c }) t) → AllMove w After t
-  at_site some none = go (site_at w.sites k) refl
-    where
-      go : (o : Option Site) → site_at w.sites k ≡ o → AllMove w After t
-      go None q =
-          let P : List Site → Type 0 = λ l. AllMove w (record w { controller = c; sites = l }) t in
-          subst P (sym (with_none k g w.sites q)) (none q)
-      go (Some s) q = site_moves s q (some s q)
+  at_site some none = by_option (site_at w.sites k)
+      (λ q. let P : List Site → Type 0 = λ l. AllMove w (record w { controller = c; sites = l }) t in
+      subst P (sym (with_none k g w.sites q)) (none q))
+      (λ s q. site_moves s q (some s q))
 
 -- ## Steps of nodes
 

@@ -15,7 +15,7 @@ use Rattle.link_laws.specs.machine.Machine.{Message, LinkInput}
 use Rattle.link_laws.specs.messages.Links.{NumberedEnd, Link, Comes, Loss, exchanged, aged, happens, ticks_at_controller}
 use Rattle.link_laws.specs.messages.Links.Comes.{NextFrame, AsksReset, Starts, NoInput}
 use Rattle.link_laws.specs.messages.Links.Ending.{GoesOut, CutOff}
-use Rattle.link_laws.specs.messages.Links.Loss.{OnDemand, Broken, Unread, TooOld, TooMany}
+use Rattle.link_laws.specs.messages.Links.Loss.{Broken}
 use Rattle.link_laws.specs.messages.Links.EndEvent.{Step, Lose}
 use Rattle.link_laws.specs.messages.Links.LinkEvent.{AtController, AtHost}
 use Rattle.link_laws.specs.entries.Entries.{End as Side, aged_entries, first_lost}
@@ -33,6 +33,7 @@ use Rattle.node_machine.specs.world.World.{end_c, end_h}
 use Rattle.node_machine.specs.world.World.{world_step}
 use Rattle.node_machine.specs.world.World.Happening.{Boots, IsCut, Gives, Inits, Takes, Loses, Ticks, Resets, Activates, Arms}
 use Rattle.node_machine.specs.world.NodeLegal.{node_number}
+use Rattle.node_laws.proofs.Cases.{by_test}
 use Rattle.node_laws.proofs.kept.Sites.{with_site_twice}
 use Rattle.node_laws.proofs.links.Ends.{here_host}
 use Rattle.link_laws.proofs.entries.Together.{ticks_host as tick_host}
@@ -50,7 +51,7 @@ use Rattle.node_laws.proofs.turns.Queues.Doing.{Clears, Nothing}
 use Rattle.node_laws.proofs.turns.Queues.{Becomes, Goes, goes-append, doing}
 use Rattle.node_laws.proofs.turns.Ends.{ticks_got}
 use Rattle.node_laws.proofs.turns.Coming.{notes_still}
-use Rattle.node_laws.proofs.turns.Works.{lost_none, aged_none, ByPower, NearWaits, FarWaits, Waits, end_at, Moves, AllMove, move_then, Leaves, leaves-append}
+use Rattle.node_laws.proofs.turns.Works.{lost_none, aged_none, ByPower, NearWaits, FarWaits, Waits, end_at, AllMove, move_then, Leaves, leaves-append}
 use Rattle.node_laws.proofs.turns.Works.{still_leaves, flat_leaves, sites_is, OwnMoves, SiteGoes, at_site}
 use Rattle.node_laws.proofs.turns.Nodes.{host_steps, host_begins, host_ticked, controller_steps, controller_ticked}
 
@@ -216,13 +217,10 @@ module _ (w : NodeWorld) (n : ℕ) (r : Running) (m : Memory) (count : ℕ) (a :
       by (Some s) y =
           let new : s.link.controller.side.got ≡ [] = let P : Option Running → Type 0 = λ o. NearWaits o q (Some s) in subst P none y in
           sym new
-  near_boots z true h q x = go (n == h) refl
-    where
-      go : (b : Bool) → (n == h) ≡ b → Moves true h (record w { memory = m; controller = Some r }) booted q
-      go true e =
-          let none : site_at w.sites h ≡ None = no_zero h (sym (eqb-true n h e) ∙ eqb-true n 0 z) in
-          record { left = []; goes = clears (end_h h) n count q e; waits = subst (FarWaits []) (sym none) tt }
-      go false e = record { left = q; goes = clears_not (end_h h) n count e q; waits = x }
+  near_boots z true h q x = by_test (n == h)
+      (λ e. let none : site_at w.sites h ≡ None = no_zero h (sym (eqb-true n h e) ∙ eqb-true n 0 z) in
+      record { left = []; goes = clears (end_h h) n count q e; waits = subst (FarWaits []) (sym none) tt })
+      (λ e. record { left = q; goes = clears_not (end_h h) n count e q; waits = x })
 
   abbrev runs_there : Site → Site
   runs_there s = record s { memory = m; node = Some r }
@@ -259,13 +257,10 @@ module _ (w : NodeWorld) (n : ℕ) (r : Running) (m : Memory) (count : ℕ) (a :
 
       nobody : site_at w.sites n ≡ None → AllMove w w booted
       nobody none false h q x = record { left = q; goes = clears_not (end_c h) n count z q; waits = x }
-      nobody none true h q x = go (n == h) refl
-        where
-          go : (b : Bool) → (n == h) ≡ b → Moves true h w booted q
-          go true e =
-              let here : site_at w.sites h ≡ None = ap (site_at w.sites) (sym (eqb-true n h e)) ∙ none in
-              record { left = []; goes = clears (end_h h) n count q e; waits = subst (FarWaits []) (sym here) tt }
-          go false e = record { left = q; goes = clears_not (end_h h) n count e q; waits = x }
+      nobody none true h q x = by_test (n == h)
+          (λ e. let here : site_at w.sites h ≡ None = ap (site_at w.sites) (sym (eqb-true n h e)) ∙ none in
+          record { left = []; goes = clears (end_h h) n count q e; waits = subst (FarWaits []) (sym here) tt })
+          (λ e. record { left = q; goes = clears_not (end_h h) n count e q; waits = x })
 
   node_moves : AllMove w (with_node n r (with_memory n m w)) booted
   node_moves = go (n == 0) refl
@@ -299,10 +294,7 @@ boots_move w n a off =
 counts_power : (why : Loss) (h : ℕ) (o : Option Running) → is_some (counts why h o) ≡ is_some o
 counts_power (Broken fault) h None = refl
 counts_power (Broken fault) h (Some r) = refl
-counts_power OnDemand h o = refl
-counts_power Unread h o = refl
-counts_power TooOld h o = refl
-counts_power TooMany h o = refl
+counts_power _ h o = refl
 
 lost_moves : (w : NodeWorld) (e : End) (why : Loss) → AllMove w (frame_lost w e why).0 (frame_lost w e why).1
 lost_moves w e why =

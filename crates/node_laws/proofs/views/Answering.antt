@@ -23,7 +23,7 @@ use Rattle.link_laws.specs.entries.Entries.End.{Host}
 use Rattle.history.specs.Filters.{same_end}
 use Rattle.history.specs.Steps.{end_of}
 use Rattle.node_machine.specs.Parts.{Init, Core, Port, Deed}
-use Rattle.node_machine.specs.Parts.Deed.{Commits, Sends, SaysOk, Asks, Releases, Tells, IsAnswered, Drops, SetsErrors, Orders, Hears, GoesOn, Ends}
+use Rattle.node_machine.specs.Parts.Deed.{Sends, Asks, Tells, Drops, Orders, Hears, GoesOn, Ends}
 use Rattle.node_machine.specs.Carrying.{own_side, end_of_node, own_view, end_view}
 use Rattle.node_machine.specs.HostReplies.{learns, init_deeds, learned, response_deeds, is_gate, gate_of_pipe, ordered_deeds, host_deeds}
 use Rattle.node_machine.specs.world.World.{end_h}
@@ -82,19 +82,13 @@ module _ (h : ℕ) (now : LinkState) where
   neutral_go : (y : Option Init) (command : Option (List ℕ)) (init : Option Init) (deeds more : List Deed) → AreNeutral deeds → MayGo y command init more
       → MayGo y command init (deeds ++ more)
   neutral_go y command init [] more all go = go
-  neutral_go y command init (Commits c ∷ deeds) more all go = neutral_go y command init deeds more all.1 go
-  neutral_go y command init (Sends to m ∷ deeds) more all go = neutral_go y command init deeds more all.1 go
-  neutral_go y command init (SaysOk ∷ deeds) more all go = neutral_go y command init deeds more all.1 go
   neutral_go y command init (Asks to message c ∷ deeds) more all go = absurd all.0
-  neutral_go y command init (Releases asker ∷ deeds) more all go = neutral_go y command init deeds more all.1 go
   neutral_go y command init (Tells to message ∷ deeds) more all go = absurd all.0
-  neutral_go y command init (IsAnswered ∷ deeds) more all go = neutral_go y command init deeds more all.1 go
-  neutral_go y command init (Drops pid ∷ deeds) more all go = neutral_go y command init deeds more all.1 go
-  neutral_go y command init (SetsErrors errors ∷ deeds) more all go = neutral_go y command init deeds more all.1 go
   neutral_go y command init (Orders order ∷ deeds) more all go = absurd all.0
   neutral_go y command init (Hears ∷ deeds) more all go = absurd all.0
   neutral_go y command init (GoesOn i ∷ deeds) more all go = absurd all.0
   neutral_go y command init (Ends x ∷ deeds) more all go = absurd all.0
+  neutral_go y command init (_ ∷ deeds) more all go = neutral_go y command init deeds more all.1 go
 
   pub neutral_stays : (y : Option Init) (command : Option (List ℕ)) (init : Option Init) (deeds : List Deed) → y ≡ init
       → (is_some init ≡ true → (is_some command ≡ true) × (now ≡ Up)) → AreNeutral deeds → MayGo y command init deeds

@@ -16,7 +16,7 @@ use Rattle.hci_tables.specs.Bodies.{body_of}
 use Rattle.hci_tables.specs.Tables.{apply}
 use Rattle.hci_store.specs.Committing.{commit_writes}
 use Rattle.link_laws.specs.machine.Machine.{Refused, Turn, give_refusal, is_held}
-use Rattle.link_laws.specs.machine.Machine.Turn.{Give, Hold, FetchMessage, SetAside, Release}
+use Rattle.link_laws.specs.machine.Machine.Turn.{Give, Hold, SetAside, Release}
 use Rattle.link_laws.specs.entries.Entries.{End as Side, sent_unless, turn_entry}
 use Rattle.link_laws.specs.entries.Entries.End.{Controller, Host}
 use Rattle.history.specs.Filters.{same_end}
@@ -31,6 +31,7 @@ use Rattle.node_machine.specs.world.World.{node_of}
 use Rattle.node_machine.specs.world.NodeFilters.{Book, with_command}
 use Rattle.node_laws.specs.kept.Books.{hosts_of_ends}
 use Rattle.node_laws.specs.views.Errors.{ErrorCount, errors_after}
+use Rattle.node_laws.proofs.Cases.{by_test}
 use Rattle.node_laws.proofs.views.Leaving.{reads, reads_append, IsRead, IsStill, still_all, notes_still, IsUndamaged, plainly, beside_leaves}
 use Rattle.node_laws.proofs.views.Setting.{IsUnset, AreUnset, IsInitEnd}
 use Rattle.node_laws.proofs.kept.Plainly.{hosts_map}
@@ -40,14 +41,10 @@ abbrev pub side_of : End → Side
 side_of e = cond e.at_host Host Controller
 
 pub own_is : (e : End) (h : ℕ) → same_end (end_of h (side_of e)) e ≡ eqb h e.link
-own_is e h = by e.at_host refl where
+own_is e h = by_test e.at_host (λ q. rw q (right (eqb h e.link))) (λ q. rw q (right (eqb h e.link))) where
   right : (b : Bool) → (b && true) ≡ b
   right true = refl
   right false = refl
-
-  by : (b : Bool) → e.at_host ≡ b → same_end (end_of h (side_of e)) e ≡ eqb h e.link
-  by true q = rw q (right (eqb h e.link))
-  by false q = rw q (right (eqb h e.link))
 
 -- the end itself, where it is this one, has had so many errors
 abbrev pub HasErrors : End → ℕ → Port → Type 0
@@ -64,10 +61,7 @@ turn_undamaged who (Give m) p = go (give_refusal p.side m) where
   go : (o : Option Refused) → AllByRecursion IsUndamaged (sent_unless o who p.session m)
   go None = (tt, tt)
   go (Some why) = tt
-turn_undamaged who (Hold held) p = tt
-turn_undamaged who FetchMessage p = tt
-turn_undamaged who SetAside p = tt
-turn_undamaged who Release p = tt
+turn_undamaged who _ p = tt
 
 pub turn_still : (e : End) (core : Core) (t : Turn) (o : Option Port) → AllByRecursion (IsStill e) (option_map_or (noted_of core t) o [])
 turn_still e core t None = tt
@@ -217,19 +211,9 @@ module _ (e : End) (hosts : List ℕ) (x0 : ErrorCount) where
   unset_fine k [] all = tt
   unset_fine k (d ∷ deeds) all = (one d all.0, unset_fine k deeds all.1) where
     one : (d : Deed) → IsUnset d → IsFine k d
-    one (Commits c) u = tt
-    one (Sends to m) u = tt
-    one SaysOk u = tt
-    one (Asks to message c) u = tt
-    one (Releases asker) u = tt
-    one (Tells to message) u = tt
-    one IsAnswered u = tt
-    one (Drops pid) u = tt
     one (SetsErrors errors) u = absurd u
-    one (Orders message) u = tt
-    one Hears u = tt
-    one (GoesOn i) u = tt
     one (Ends y) u = u
+    one _ u = tt
 
   -- it is set at another end
   sets_other : (k v : ℕ) (w : Work) → eqb k e.link ≡ false → Right w → Right (done k (SetsErrors v) w)
@@ -270,16 +254,12 @@ module _ (e : End) (hosts : List ℕ) (x0 : ErrorCount) where
       note (y ∷ []) (record w { core = record w.core { init = None } }) (init_still e y q, tt) (with_core w (record w.core { init = None }) refl refl r)
 
   pub unless : (f : Work → Work) (w : Work) → (w.cut ≡ false → Right w → Right (f w)) → Right w → Right (unless_cut f w)
-  unless f w one r = go w.cut refl where
+  unless f w one r = by_test w.cut (λ q. subst Right (sym (off_is q)) r) (λ q. subst Right (sym (on_is q)) (one q r)) where
     on_is : w.cut ≡ false → unless_cut f w ≡ f w
     on_is q = rw q refl
 
     off_is : w.cut ≡ true → unless_cut f w ≡ w
     off_is q = rw q refl
-
-    go : (b : Bool) → w.cut ≡ b → Right (unless_cut f w)
-    go true q = subst Right (sym (off_is q)) r
-    go false q = subst Right (sym (on_is q)) (one q r)
 
   pub all_do : (k : ℕ) (deeds : List Deed) (w : Work) → AllByRecursion (IsFine k) deeds → Right w → Right (all_done k deeds w)
   all_do k [] w q r = r

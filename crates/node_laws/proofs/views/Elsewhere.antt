@@ -11,7 +11,7 @@ use Rattle.link_laws.specs.machine.Machine.{Message}
 use Rattle.link_laws.specs.messages.Links.{NumberedEnd}
 use Rattle.link_laws.specs.entries.Entries.{End as Side, Entry as Noted}
 use Rattle.link_laws.specs.entries.Entries.End.{Controller, Host}
-use Rattle.link_laws.specs.entries.Entries.Entry.{Up, Down, Active, GaveUp, Acked, Got, Sent, Emit, Took, Lost, Tick, Restarted, Cut}
+use Rattle.link_laws.specs.entries.Entries.Entry.{Up, Down, Active, GaveUp, Acked, Got, Sent, Tick, Restarted, Cut}
 use Rattle.history.specs.Filters.{same_end}
 use Rattle.history.specs.Steps.{entries_for, entry_of, end_of}
 use Rattle.node_machine.specs.Parts.{Init, Core, Desk, Running, Port, Deed}
@@ -37,19 +37,12 @@ off_both a b x y e = rw e refl
 
 pub quiet_leaves : (h k : ℕ) (notes : List Noted) → AllByRecursion IsQuiet notes → AllByRecursion (LeavesInit h) (entries_for k notes)
 quiet_leaves h k [] all = tt
-quiet_leaves h k (Up who n ∷ notes) all = ((λ y. refl), quiet_leaves h k notes all.1)
 quiet_leaves h k (Down who cause ∷ notes) all = absurd all.0
-quiet_leaves h k (Active who ∷ notes) all = ((λ y. refl), quiet_leaves h k notes all.1)
-quiet_leaves h k (GaveUp who tries ∷ notes) all = ((λ y. refl), quiet_leaves h k notes all.1)
-quiet_leaves h k (Acked who n count ∷ notes) all = ((λ y. refl), quiet_leaves h k notes all.1)
-quiet_leaves h k (Got who n m ∷ notes) all = ((λ y. refl), quiet_leaves h k notes all.1)
 quiet_leaves h k (Sent who n m ∷ notes) all = absurd all.0
-quiet_leaves h k (Emit who frame ∷ notes) all = ((λ y. refl), quiet_leaves h k notes all.1)
-quiet_leaves h k (Took who frame ∷ notes) all = ((λ y. refl), quiet_leaves h k notes all.1)
-quiet_leaves h k (Lost who frame why ∷ notes) all = ((λ y. refl), quiet_leaves h k notes all.1)
 quiet_leaves h k (Tick ∷ notes) all = quiet_leaves h k notes all.1
 quiet_leaves h k (Restarted who ∷ notes) all = quiet_leaves h k notes all.1
 quiet_leaves h k (Cut who ∷ notes) all = quiet_leaves h k notes all.1
+quiet_leaves h k (_ ∷ notes) all = ((λ y. refl), quiet_leaves h k notes all.1)
 
 -- ## Another node
 

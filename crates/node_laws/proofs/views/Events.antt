@@ -26,6 +26,7 @@ use Rattle.node_machine.specs.world.World.{host_cut, loses_power_at, memory_at, 
 use Rattle.node_machine.specs.world.World.{controller_ticks, host_ticks, hosts_tick, world_ticks}
 use Rattle.node_machine.specs.world.NodeFilters.{Book}
 use Rattle.node_laws.specs.telling.Telling.{HasEnds, IfItRuns, hosts_in, IsOrderly}
+use Rattle.node_laws.proofs.Cases.{by_test}
 use Rattle.node_laws.proofs.telling.WorldTicks.{tick_host}
 use Rattle.node_machine.proofs.world.Cases.{by_power, by_memory, by_running, boot_written, boot_found, by_boot}
 use Rattle.node_laws.specs.views.Errors.{ErrorCount}
@@ -238,15 +239,13 @@ module _ (e : End) (real : e.at_host ≡ true → eqb e.link 0 ≡ false) where
             (subst (IfKeeps e (far_node (site_at later.0 e.link))) (sym (reads_append e first.1 later.1 x)) (next there))
 
   far_ticks : (w : NodeWorld) (x : ErrorCount) → AreFine w.sites → So w x → Then (record w { sites = (hosts_tick w.sites).0 }, (hosts_tick w.sites).1) x
-  far_ticks w x fine k = by_side e.at_host refl where
-    v : NodeWorld
-    v = record w { sites = (hosts_tick w.sites).0 }
-
-    by_side : (b : Bool) → e.at_host ≡ b → Then (v, (hosts_tick w.sites).1) x
-    by_side false near = left e real w v (hosts_tick w.sites).1 x (near_node e real v near ∙ sym (near_node e real w near))
-        (ticks_leave w.sites fine (λ far. no_near e real far near)) k
-    by_side true far = subst (λ o. IfKeeps e o (reads e (hosts_tick w.sites).1 x)) (sym (host_node e real v far))
-        (ticks_own w.sites x fine far (subst (λ o. IfKeeps e o x) (host_node e real w far) k))
+  far_ticks w x fine k = by_test e.at_host
+      (λ far. subst (λ o. IfKeeps e o (reads e (hosts_tick w.sites).1 x)) (sym (host_node e real v far))
+      (ticks_own w.sites x fine far (subst (λ o. IfKeeps e o x) (host_node e real w far) k)))
+      (λ near. left e real w v (hosts_tick w.sites).1 x (near_node e real v near ∙ sym (near_node e real w near))
+      (ticks_leave w.sites fine (λ far. no_near e real far near)) k) where
+        v : NodeWorld
+        v = record w { sites = (hosts_tick w.sites).0 }
 
   pub ticks_kept : (w : NodeWorld) (x : ErrorCount) → IsOrderly w → Known e real w x → So w x → Then (world_ticks w) x
   ticks_kept w x orderly known k =

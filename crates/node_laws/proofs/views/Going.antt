@@ -16,10 +16,10 @@ use Rattle.shdlc_core.specs.declared.answers.LinkState.TheVariants.{Up}
 use Rattle.hci_tables.specs.Bodies.{body_of}
 use Rattle.hci_store.specs.Committing.{commit_writes}
 use Rattle.link_laws.specs.machine.Machine.{Message, LinkInput, Refused, Turn, ended_by, give_refusal, is_held, report, whole_acked, after_input}
-use Rattle.link_laws.specs.machine.Machine.Turn.{Give, Hold, FetchMessage, SetAside, Release}
-use Rattle.link_laws.specs.entries.Entries.{End as Side, Entry as Noted, sent_unless, turn_entry}
+use Rattle.link_laws.specs.machine.Machine.Turn.{Give, Hold, FetchMessage, Release}
+use Rattle.link_laws.specs.entries.Entries.{End as Side, Entry as Noted, sent_unless}
 use Rattle.link_laws.specs.entries.Entries.End.{Host}
-use Rattle.link_laws.specs.entries.Entries.Entry.{Up as IsUp, Down as IsDown, Active, GaveUp, Acked, Got, Sent, Emit, Took, Lost, Tick, Restarted, Cut}
+use Rattle.link_laws.specs.entries.Entries.Entry.{Down as IsDown, Sent, Cut}
 use Rattle.history.specs.Filters.{same_end}
 use Rattle.history.specs.Steps.{end_of, entries_for}
 use Rattle.node_machine.specs.Parts.{Init, Desk, Core, Port, Work, Deed}
@@ -40,19 +40,9 @@ use Rattle.node_laws.proofs.views.Answering.{reads_init, init_append, MayGo, ans
 
 pub quiet_init : (h k : ℕ) (notes : List Noted) (y : Option Init) → AllByRecursion IsQuiet notes → reads_init h (entries_for k notes) y ≡ y
 quiet_init h k [] y all = refl
-quiet_init h k (IsUp who n ∷ notes) y all = quiet_init h k notes y all.1
 quiet_init h k (IsDown who cause ∷ notes) y all = absurd all.0
-quiet_init h k (Active who ∷ notes) y all = quiet_init h k notes y all.1
-quiet_init h k (GaveUp who tries ∷ notes) y all = quiet_init h k notes y all.1
-quiet_init h k (Acked who n count ∷ notes) y all = quiet_init h k notes y all.1
-quiet_init h k (Got who n m ∷ notes) y all = quiet_init h k notes y all.1
 quiet_init h k (Sent who n m ∷ notes) y all = absurd all.0
-quiet_init h k (Emit who frame ∷ notes) y all = quiet_init h k notes y all.1
-quiet_init h k (Took who frame ∷ notes) y all = quiet_init h k notes y all.1
-quiet_init h k (Lost who frame why ∷ notes) y all = quiet_init h k notes y all.1
-quiet_init h k (Tick ∷ notes) y all = quiet_init h k notes y all.1
-quiet_init h k (Restarted who ∷ notes) y all = quiet_init h k notes y all.1
-quiet_init h k (Cut who ∷ notes) y all = quiet_init h k notes y all.1
+quiet_init h k (_ ∷ notes) y all = quiet_init h k notes y all.1
 
 pub told_init : (h : ℕ) (core : Core) (p : Port) (i : LinkInput) (y : Option Init) → own_side core ≡ Host → p.desk.host ≡ h
     → reads_init h (told_at core p (Some i)) y ≡ cond (is_some (ended_by p.side i)) None y
@@ -76,10 +66,7 @@ sent_init h k who n m (Some why) y = refl
 turn_init : (h : ℕ) (core : Core) (t : Turn) (o : Option Port) (y : Option Init) → reads_init h (option_map_or (noted_of core t) o []) y ≡ y
 turn_init h core t None y = refl
 turn_init h core (Give m) (Some p) y = sent_init h p.desk.host (own_side core) p.session m (give_refusal p.side m) y
-turn_init h core (Hold held) (Some p) y = refl
-turn_init h core FetchMessage (Some p) y = refl
-turn_init h core SetAside (Some p) y = refl
-turn_init h core Release (Some p) y = refl
+turn_init h core _ (Some p) y = refl
 
 module _ (h : ℕ) (host : IsHost h) (i0 : Option Init) where
   -- the host and its one end, which is in this phase

@@ -13,7 +13,7 @@ use Rattle.trace_model.specs.declared.line.End.{End}
 use Rattle.link_laws.specs.messages.Links.{NumberedEnd, Link, Loss, exchanged, aged, ticks_at_controller, happens}
 use Rattle.link_laws.specs.messages.Links.Ending.{GoesOut, CutOff}
 use Rattle.link_laws.specs.messages.Links.Comes.{NextFrame, AsksReset, NoInput}
-use Rattle.link_laws.specs.messages.Links.Loss.{OnDemand, Broken, Unread, TooOld, TooMany}
+use Rattle.link_laws.specs.messages.Links.Loss.{Broken}
 use Rattle.link_laws.specs.messages.Links.EndEvent.{Step, Lose}
 use Rattle.link_laws.specs.messages.Links.LinkEvent.{AtController, AtHost}
 use Rattle.link_laws.specs.entries.Entries.{aged_entries, first_lost}
@@ -29,6 +29,7 @@ use Rattle.node_machine.specs.world.World.{controller_cut, host_cut, loses_power
 use Rattle.node_machine.specs.world.World.{ticked_so, all_aged, controller_ticks, host_ticks, hosts_tick, world_ticks, world_step}
 use Rattle.node_machine.specs.world.World.Happening.{Boots, IsCut, Gives, Inits, Takes, Loses, Ticks, Resets, Activates, Arms}
 use Rattle.node_laws.specs.telling.Telling.{IfItRuns, hosts_in, IsOrderly}
+use Rattle.node_laws.proofs.Cases.{by_option}
 use Rattle.node_laws.proofs.links.Ends.{here_host}
 use Rattle.link_laws.proofs.entries.Together.{ticks_host as tick_host}
 use Rattle.node_laws.proofs.telling.Nodes.{site_host}
@@ -50,20 +51,14 @@ use Rattle.node_laws.proofs.turns.Works.{sites_is}
 use Rattle.node_laws.proofs.kept.Sites.{hosts_same}
 
 tick_same : (s : Site) → (host_ticks s).0.host ≡ s.host
-tick_same s = by_node s.node refl where
-  by_node : (o : Option Running) → s.node ≡ o → (host_ticks s).0.host ≡ s.host
-  by_node None q = rw q refl
-  by_node (Some r) q = rw q refl
+tick_same s = by_option s.node (λ q. rw q refl) (λ r q. rw q refl)
 
 -- ## A frame that was refused leaves the init of a node
 
 counts_init : (why : Loss) (k : ℕ) (o : Option Running) → init_of_running (counts why k o) ≡ init_of_running o
 counts_init (Broken fault) k None = refl
 counts_init (Broken fault) k (Some r) = refl
-counts_init OnDemand k o = refl
-counts_init Unread k o = refl
-counts_init TooOld k o = refl
-counts_init TooMany k o = refl
+counts_init _ k o = refl
 
 counts_runs : (why : Loss) (k n : ℕ) (l : Link) (o : Option Running) → IfRunsInit n l o → IfRunsInit n l (counts why k o)
 counts_runs (Broken fault) k n l None so = tt
@@ -81,10 +76,7 @@ counts_runs (Broken fault) k n l (Some r) so = record {
   changed : {Y : Type 0} (p : Desk → Y) (b : Bool) (d : Desk) → ((d : Desk) → p (more d) ≡ p d) → p (changed_if b more d) ≡ p d
   changed p true d same = same d
   changed p false d same = refl
-counts_runs OnDemand k n l o so = so
-counts_runs Unread k n l o so = so
-counts_runs TooOld k n l o so = so
-counts_runs TooMany k n l o so = so
+counts_runs _ k n l o so = so
 
 lost_keeps : (k : ℕ) (why : Loss) (i : Option Init) (s : Site) → SiteKeepsInit i s
     → SiteKeepsInit i (record s { link = happens s.link (AtHost (Lose why)); node = counts why k s.node })
@@ -345,10 +337,7 @@ module _ (h : ℕ) (host : IsHost h) where
   -- ## Boots
 
   node_is : (w : NodeWorld) → node_at w h ≡ far_node (site_at w.sites h)
-  node_is w = by (site_at w.sites h) refl where
-    by : (o : Option Site) → site_at w.sites h ≡ o → node_at w h ≡ far_node (site_at w.sites h)
-    by None z = absent w h (zero h host) z ∙ sym (ap far_node z)
-    by (Some s) z = present w h (zero h host) s z ∙ sym (ap far_node z)
+  node_is w = by_option (site_at w.sites h) (λ z. absent w h (zero h host) z ∙ sym (ap far_node z)) (λ s z. present w h (zero h host) s z ∙ sym (ap far_node z))
 
   module _ (w : NodeWorld) (n : ℕ) (i : Option Init) (keeps : Has w i) (may : node_at w n ≡ None) where
     abbrev before : Memory

@@ -62,22 +62,17 @@ init_may w e side none =
       end_is = rw side refl
 
 pub line_may : (w : NodeWorld) (l : Line) → IsBegunByHost l → refusal_in w l ≡ None → AllMay MayKeep w (happenings w l)
-line_may w (line.Send e pid message) side none = (tt, tt)
 line_may w (line.Deliver e count) side none = repeated_may MayKeep (Takes e) (λ v. tt) (taken_of count (frames_at w e)) w
-line_may w (line.Lose e) side none = (tt, tt)
 line_may w (line.Damage e places) side none = damaged_may MayKeep w e tt (λ why. tt) (first_verdict (frames_at w e) places.items)
 line_may w (line.Tick times) side none = repeated_may MayKeep Ticks (λ v. tt) (unwrap_or times 1) w
-line_may w (line.Reset e window) side none = (tt, tt)
 line_may w (line.Busy e) side none = tt
 line_may w (line.Ready e) side none = tt
 line_may w (line.Boot n) side none = (stands_none (node_at w n) none, tt)
-line_may w (line.Cut n) side none = (tt, tt)
-line_may w (line.Activate host sync power) side none = (tt, tt)
-line_may w (line.Arm n nth fill) side none = (tt, tt)
 line_may w (line.Init e identity pipes) side none =
     (init_may w e side (first_none (if_off w (node_of e)) (if_not_sent w e (1, 3 ∷ [])) none), tt)
 line_may w (line.Tables n) side none = tt
 line_may w (line.Settle n) side none = tt
+line_may w _ side none = (tt, tt)
 
 module _ (h : ℕ) (host : IsHost h) where
   -- ## Events

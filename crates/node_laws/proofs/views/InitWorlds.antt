@@ -28,6 +28,7 @@ use Rattle.node_machine.specs.world.World.{work_of, frames_noted, comes_to, link
 use Rattle.node_machine.specs.world.World.{after_host, host_does}
 use Rattle.node_machine.specs.world.World.{sending, beginning, comes_at, activates, end_c, end_h}
 use Rattle.node_machine.specs.world.World.Happening.{Inits}
+use Rattle.node_laws.proofs.Cases.{by_option}
 use Rattle.node_laws.proofs.links.Ends.{here_host}
 use Rattle.node_laws.specs.telling.Telling.{HasEnds, IfItRuns, hosts_in, IsOrderly}
 use Rattle.node_laws.proofs.telling.Nodes.{site_host}
@@ -221,7 +222,7 @@ module _ (h : ℕ) (host : IsHost h) where
     other_acts : (i : Option Init) → eqb h k ≡ false
         → ((s : Site) (r : Running) → site_at w.sites k ≡ Some s → s.node ≡ Some r → AllByRecursion (LeavesInit h) (host_work s r comes f).entries)
         → Keeps w i → Then (host_does w k comes f) i
-    other_acts i off others keeps = by_site (site_at w.sites k) refl where
+    other_acts i off others keeps = by_option (site_at w.sites k) (λ q. subst (λ p. Then p i) (sym (no_site q)) keeps) (λ s q. by_node s q s.node refl) where
       by_node : (s : Site) → site_at w.sites k ≡ Some s → (o : Option Running) → s.node ≡ o → Then (host_does w k comes f) i
       by_node s here None q = subst (λ p. Then p i) (sym (no_node s here q)) keeps
       by_node s here (Some r) q = subst (λ p. Then p i) (sym (acts_is s r here q)) (left (record w { sites = with_site k (after_host comes c) w.sites })
@@ -233,10 +234,6 @@ module _ (h : ℕ) (host : IsHost h) where
 
             frames : List Entry
             frames = frames_noted Host k (wires_for (exchanged s.link) comes) c
-
-      by_site : (o : Option Site) → site_at w.sites k ≡ o → Then (host_does w k comes f) i
-      by_site None q = subst (λ p. Then p i) (sym (no_site q)) keeps
-      by_site (Some s) q = by_node s q s.node refl
 
   -- this one, which runs
   pub own_runs : (w : NodeWorld) (comes : Comes) (f : ℕ → Work → Work) (b : Option Init) (s : Site) (r : Running) → site_at w.sites h ≡ Some s
@@ -256,14 +253,12 @@ module _ (h : ℕ) (host : IsHost h) where
       → ((s : Site) (r : Running) → site_at w.sites h ≡ Some s → s.node ≡ Some r → SiteKeepsInit i s
       → SiteKeepsInit (reads_init s.host (host_does_so s r comes (f s.host)).1 i) (host_does_so s r comes (f s.host)).0) → Keeps w i
       → Then (host_does w h comes (f h)) i
-  own_acts w comes f i one keeps = by_site (site_at w.sites h) refl where
-    by_node : (s : Site) → site_at w.sites h ≡ Some s → (o : Option Running) → s.node ≡ o → Then (host_does w h comes (f h)) i
-    by_node s here None q = subst (λ p. Then p i) (sym (no_node w h comes (f h) s here q)) keeps
-    by_node s here (Some r) q = own_runs w comes f i s r here q (one s r here q (subst (AtSite i) here keeps))
-
-    by_site : (o : Option Site) → site_at w.sites h ≡ o → Then (host_does w h comes (f h)) i
-    by_site None q = subst (λ p. Then p i) (sym (no_site w h comes (f h) q)) keeps
-    by_site (Some s) q = by_node s q s.node refl
+  own_acts w comes f i one keeps = by_option (site_at w.sites h)
+      (λ q. subst (λ p. Then p i) (sym (no_site w h comes (f h) q)) keeps)
+      (λ s q. by_node s q s.node refl) where
+        by_node : (s : Site) → site_at w.sites h ≡ Some s → (o : Option Running) → s.node ≡ o → Then (host_does w h comes (f h)) i
+        by_node s here None q = subst (λ p. Then p i) (sym (no_node w h comes (f h) s here q)) keeps
+        by_node s here (Some r) q = own_runs w comes f i s r here q (one s r here q (subst (AtSite i) here keeps))
 
   -- something comes to a host
   link_is : (w : NodeWorld) (s : Site) → site_at w.sites h ≡ Some s → link_to w.sites h ≡ s.link

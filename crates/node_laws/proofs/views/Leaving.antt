@@ -10,7 +10,7 @@ use Rattle.trace_model.specs.declared.entry.LostCause.{LostCause}
 use Rattle.trace_model.specs.declared.line.End.{End}
 use Rattle.link_laws.specs.messages.Links.Loss.{OnDemand, Broken, Unread, TooOld, TooMany}
 use Rattle.link_laws.specs.entries.Entries.{Entry as Noted}
-use Rattle.link_laws.specs.entries.Entries.Entry.{Up, Down, Active, GaveUp, Acked, Got, Sent, Emit, Took, Lost, Tick, Restarted, Cut}
+use Rattle.link_laws.specs.entries.Entries.Entry.{Sent, Lost, Tick, Restarted, Cut}
 use Rattle.history.specs.Filters.{same_end}
 use Rattle.history.specs.Steps.{entries_for, entry_of, end_of, lost_as}
 use Rattle.swp_lpdu.specs.Controls.{lpdu_of}
@@ -101,15 +101,7 @@ pub plainly : (e : End) (x : ErrorCount) (n : ℕ) → IsRead x n → IsRead (re
 plainly e x n r = record { sets = refl; is = r.is }
 
 pub note_still : (e : End) (h : ℕ) (x : Noted) → IsUndamaged x → AllByRecursion (IsStill e) (entry_of h x)
-note_still e h (Up who k) un = ((λ x n r. (plainly e x n r, refl)), tt)
-note_still e h (Down who cause) un = ((λ x n r. (plainly e x n r, refl)), tt)
-note_still e h (Active who) un = ((λ x n r. (plainly e x n r, refl)), tt)
-note_still e h (GaveUp who tries) un = ((λ x n r. (plainly e x n r, refl)), tt)
-note_still e h (Acked who k count) un = ((λ x n r. (plainly e x n r, refl)), tt)
-note_still e h (Got who k m) un = ((λ x n r. (plainly e x n r, refl)), tt)
 note_still e h (Sent who k m) un = (sent_still e (end_of h who) k m.0 m.1, tt)
-note_still e h (Emit who frame) un = ((λ x n r. (plainly e x n r, refl)), tt)
-note_still e h (Took who frame) un = ((λ x n r. (plainly e x n r, refl)), tt)
 note_still e h (Lost who frame OnDemand) un = (lost_leaves e (end_of h who) (lpdu_of frame) (lost_as OnDemand) refl, tt)
 note_still e h (Lost who frame (Broken fault)) un = absurd un
 note_still e h (Lost who frame Unread) un = (lost_leaves e (end_of h who) (lpdu_of frame) (lost_as Unread) refl, tt)
@@ -118,6 +110,7 @@ note_still e h (Lost who frame TooMany) un = (lost_leaves e (end_of h who) (lpdu
 note_still e h Tick un = tt
 note_still e h (Restarted who) un = tt
 note_still e h (Cut who) un = tt
+note_still e h _ un = ((λ x n r. (plainly e x n r, refl)), tt)
 
 pub notes_still : (e : End) (h : ℕ) (xs : List Noted) → AllByRecursion IsUndamaged xs → AllByRecursion (IsStill e) (entries_for h xs)
 notes_still e h [] all = tt
@@ -137,31 +130,7 @@ beside_leaves e k y b = absurd b
 
 book_of : (e : End) (x : ErrorCount) (y : Entry) → (errors_after e x y).book ≡ book_after 0 x.book y
 book_of e x (entry.Head header) = refl
-book_of e x (entry.Echo line) = refl
-book_of e x (entry.Up f n) = refl
-book_of e x (entry.Down f cause) = refl
-book_of e x (entry.Active f) = refl
-book_of e x (entry.GaveUp f tries) = refl
-book_of e x (entry.Sent f n pid message) = refl
-book_of e x (entry.Got f n pid message) = refl
-book_of e x (entry.Acked f n count) = refl
-book_of e x (entry.Emit f lpdu) = refl
-book_of e x (entry.Took f lpdu) = refl
-book_of e x (entry.Lost f lpdu cause) = refl
-book_of e x (entry.Turn f pid message) = refl
-book_of e x (entry.Held f need spare) = refl
-book_of e x (entry.Ask host message) = refl
-book_of e x (entry.Dropped f pid) = refl
-book_of e x (entry.Command node command) = refl
-book_of e x (entry.AnyOk node count) = refl
-book_of e x (entry.InitSame f) = refl
-book_of e x (entry.InitMade f count) = refl
-book_of e x (entry.InitFailed f code) = refl
-book_of e x (entry.Cut node) = refl
-book_of e x (entry.Booted node count) = refl
-book_of e x (entry.Tables node tables) = refl
-book_of e x (entry.Settled rounds) = refl
-book_of e x (entry.No cause) = refl
+book_of e x _ = refl
 
 -- it is what is read of it without REC_ERROR
 pub book_reads : (e : End) (es : List Entry) (x : ErrorCount) → (reads e es x).book ≡ fold (book_after 0) x.book es

@@ -28,6 +28,7 @@ use Rattle.node_machine.specs.world.Lines.{Occurrence}
 use Rattle.node_machine.specs.world.NodeHistories.{NodeHistory, FollowsNodes, steps_from, occurrences_in, entries_in, node_entries, world_after}
 use Rattle.node_laws.specs.kept.Hosts.{AreHosts, IsSentByHost, IsFew}
 use Rattle.node_laws.specs.kept.Worlds.{AllKeep, IfRuns, MayHappen}
+use Rattle.node_laws.proofs.Cases.{by_test}
 use Rattle.node_laws.proofs.kept.Kept.{all_begin}
 use Rattle.node_laws.proofs.kept.Lines.{world_goes, few_front, first_none, off_none, send_may}
 use Rattle.node_laws.specs.telling.Telling.{HasEnds, IfItRuns, hosts_in, IsOrderly, MayBoot, world_behind}
@@ -167,31 +168,26 @@ line_may w (line.Lose e) side none =
     ((tt, not_empty (frames_at w e) (first_none (if_off w (node_of e)) (if_empty (frames_at w e)) none).1, tt), tt)
 line_may w (line.Damage e places) side none = damage_may w e places.items (frames_at w e) refl
 line_may w (line.Tick times) side none = repeated_may May Ticks (λ v. (tt, tt, tt)) (unwrap_or times 1) w
-line_may w (line.Reset e window) side none = ((tt, tt, tt), tt)
 line_may w (line.Busy e) side none = tt
 line_may w (line.Ready e) side none = tt
 line_may w (line.Boot n) side none = ((tt, tt, stands_none (node_at w n) none), tt)
 line_may w (line.Cut n) side none = ((off_none (node_at w n) none, tt, tt), tt)
-line_may w (line.Activate host sync power) side none = ((tt, tt, tt), tt)
-line_may w (line.Arm n nth fill) side none = ((tt, tt, tt), tt)
-line_may w (line.Init e identity pipes) side none = ((tt, tt, tt), tt)
 line_may w (line.Tables n) side none = tt
 line_may w (line.Settle n) side none = tt
+line_may w _ side none = ((tt, tt, tt), tt)
 
 -- ## Schedules
 
 pub begun_kept : (hosts : List ℕ) → AllKept [] (new_world hosts)
-begun_kept hosts e host = by e.at_host refl where
-  real : e.at_host ≡ true → eqb e.link 0 ≡ false
-  real = real_of e host
+begun_kept hosts e host = by_test e.at_host
+    (λ q. subst (λ o. IfKeeps e o no_errors) (sym (host_node e real (new_world hosts) q ∙ none_runs hosts)) refl)
+    (λ q. subst (λ o. IfKeeps e o no_errors) (sym (near_node e real (new_world hosts) q)) refl) where
+      real : e.at_host ≡ true → eqb e.link 0 ≡ false
+      real = real_of e host
 
-  none_runs : (hosts : List ℕ) → far_node (site_at (new_world hosts).sites e.link) ≡ None
-  none_runs [] = refl
-  none_runs (h ∷ hosts) = cond_both (eqb h e.link) _ _ (λ o. far_node o ≡ None) (λ _. refl) (λ _. none_runs hosts)
-
-  by : (b : Bool) → e.at_host ≡ b → Kept e real (new_world hosts) no_errors
-  by true q = subst (λ o. IfKeeps e o no_errors) (sym (host_node e real (new_world hosts) q ∙ none_runs hosts)) refl
-  by false q = subst (λ o. IfKeeps e o no_errors) (sym (near_node e real (new_world hosts) q)) refl
+      none_runs : (hosts : List ℕ) → far_node (site_at (new_world hosts).sites e.link) ≡ None
+      none_runs [] = refl
+      none_runs (h ∷ hosts) = cond_both (eqb h e.link) _ _ (λ o. far_node o ≡ None) (λ _. refl) (λ _. none_runs hosts)
 
 pub none_zero : (hosts : List ℕ) → AllByRecursion IsHost hosts → AllByRecursion (λ h. (eqb h 0) ≡ false) hosts
 none_zero [] all = tt

@@ -25,6 +25,7 @@ use Rattle.node_machine.specs.world.World.{NodeWorld, Site, site_at, with_site, 
 use Rattle.node_machine.specs.world.Lines.{frames_at}
 use Rattle.node_machine.specs.world.NodeFilters.{was_refused}
 use Rattle.node_laws.specs.views.Errors.{ErrorCount, errors_after}
+use Rattle.node_laws.proofs.Cases.{by_option, by_test}
 use Rattle.node_laws.proofs.views.Leaving.{Leaves, still_leaves, IsUndamaged, notes_still}
 use Rattle.node_laws.proofs.views.Doing.{own_is}
 use Rattle.node_laws.proofs.views.Nodes.{IfKeeps}
@@ -41,24 +42,16 @@ IsRefusal _ = Unit {0}
 
 refused_is : (f : FrameFault) → was_refused (lost_as (Broken f)) ≡ true
 refused_is (fault.Length bits) = refl
-refused_is (fault.Alignment bits) = refl
-refused_is (fault.Crc want got) = refl
-refused_is fault.Broken = refl
+refused_is _ = refl
 
 lost_undamaged : (who : Side) (why : Loss) (xs : List OnWire) → IsRefusal why → AllByRecursion IsUndamaged (first_lost who why xs)
 lost_undamaged who why [] not = tt
-lost_undamaged who OnDemand (x ∷ xs) not = (tt, tt)
 lost_undamaged who (Broken fault) (x ∷ xs) not = absurd not
-lost_undamaged who Unread (x ∷ xs) not = (tt, tt)
-lost_undamaged who TooOld (x ∷ xs) not = (tt, tt)
-lost_undamaged who TooMany (x ∷ xs) not = (tt, tt)
+lost_undamaged who _ (x ∷ xs) not = (tt, tt)
 
 counts_same : (why : Loss) (h : ℕ) (o : Option Running) → IsRefusal why → counts why h o ≡ o
-counts_same OnDemand h o not = refl
 counts_same (Broken fault) h o not = absurd not
-counts_same Unread h o not = refl
-counts_same TooOld h o not = refl
-counts_same TooMany h o not = refl
+counts_same _ h o not = refl
 
 -- the desks of a node count one more at the end itself, or at another one
 own_errors : (e : End) (h n : ℕ) → eqb h e.link ≡ true → (desks : List Desk) → AllByRecursion (λ (d : Desk). eqb d.host e.link ≡ true → d.errors ≡ n) desks
@@ -168,27 +161,20 @@ module _ (e : End) (real : e.at_host ≡ true → eqb e.link 0 ≡ false) where
 
     -- and to a host
     far_hosts : (why : Loss) → e.at_host ≡ true → eqb a.link e.link ≡ true → own_node e real (far_v why) ≡ counts why a.link (own_node e real w)
-    far_hosts why far is = by (site_at w.sites e.link) refl where
-      link : a.link ≡ e.link
-      link = eqb-true a.link e.link is
+    far_hosts why far is = by_option (site_at w.sites e.link)
+        (λ here. host_node e real (far_v why) far
+        ∙ (with_none a.link (far_lost a why) (λ s. refl) w.sites e.link here
+        ∙ (sym (none_counts why) ∙ ap (counts why a.link) (sym (host_node e real w far ∙ ap far_node here)))))
+        (λ s here. host_node e real (far_v why) far
+        ∙ (ap (λ n. far_node (site_at (far_v why).sites n)) (sym link)
+        ∙ (with_own a.link (far_lost a why) (λ s. refl) w.sites s (ap (site_at w.sites) link ∙ here)
+        ∙ ap (counts why a.link) (sym (host_node e real w far ∙ ap far_node here))))) where
+          link : a.link ≡ e.link
+          link = eqb-true a.link e.link is
 
-      none_counts : (why : Loss) → counts why a.link None ≡ None
-      none_counts OnDemand = refl
-      none_counts (Broken fault) = refl
-      none_counts Unread = refl
-      none_counts TooOld = refl
-      none_counts TooMany = refl
-
-      by : (o : Option Site) → site_at w.sites e.link ≡ o → own_node e real (far_v why) ≡ counts why a.link (own_node e real w)
-      by None here =
-          host_node e real (far_v why) far
-          ∙ (with_none a.link (far_lost a why) (λ s. refl) w.sites e.link here
-          ∙ (sym (none_counts why) ∙ ap (counts why a.link) (sym (host_node e real w far ∙ ap far_node here))))
-      by (Some s) here =
-          host_node e real (far_v why) far
-          ∙ (ap (λ n. far_node (site_at (far_v why).sites n)) (sym link)
-          ∙ (with_own a.link (far_lost a why) (λ s. refl) w.sites s (ap (site_at w.sites) link ∙ here)
-          ∙ ap (counts why a.link) (sym (host_node e real w far ∙ ap far_node here))))
+          none_counts : (why : Loss) → counts why a.link None ≡ None
+          none_counts OnDemand = refl
+          none_counts _ = refl
 
     far_others : (why : Loss) → e.at_host ≡ true → eqb a.link e.link ≡ false → own_node e real (far_v why) ≡ own_node e real w
     far_others why far off =
@@ -257,27 +243,25 @@ module _ (e : End) (real : e.at_host ≡ true → eqb e.link 0 ≡ false) where
           (lost_leaves e (end_of a.link Host) (lpdu_of y.frame) f (far_same a.link far ∙ off), tt) k
 
     pub lost_kept : (why : Loss) → (frames_at w a ≡ [] → ⊥) → After e real (frame_lost w a why) x
-    lost_kept why some = by_side a.at_host refl where
-      near_wire : a.at_host ≡ false → frames_at w a ≡ wire_near
-      near_wire q = rw q refl
+    lost_kept why some = by_test a.at_host
+        (λ q. subst (λ p. After e real p x) (sym (far_is why q)) (far_why why (λ none. some (far_wire q ∙ none))))
+        (λ q. subst (λ p. After e real p x) (sym (near_is why q)) (near_why why (λ none. some (near_wire q ∙ none)))) where
+          near_wire : a.at_host ≡ false → frames_at w a ≡ wire_near
+          near_wire q = rw q refl
 
-      far_wire : a.at_host ≡ true → frames_at w a ≡ wire_far
-      far_wire q = rw q refl
+          far_wire : a.at_host ≡ true → frames_at w a ≡ wire_far
+          far_wire q = rw q refl
 
-      near_why : (why : Loss) → (wire_near ≡ [] → ⊥) → After e real (near_v why, entries_for a.link (first_lost Controller why wire_near)) x
-      near_why OnDemand there = near_plain OnDemand tt
-      near_why (Broken f) there = near_counted f wire_near refl there
-      near_why Unread there = near_plain Unread tt
-      near_why TooOld there = near_plain TooOld tt
-      near_why TooMany there = near_plain TooMany tt
+          near_why : (why : Loss) → (wire_near ≡ [] → ⊥) → After e real (near_v why, entries_for a.link (first_lost Controller why wire_near)) x
+          near_why OnDemand there = near_plain OnDemand tt
+          near_why (Broken f) there = near_counted f wire_near refl there
+          near_why Unread there = near_plain Unread tt
+          near_why TooOld there = near_plain TooOld tt
+          near_why TooMany there = near_plain TooMany tt
 
-      far_why : (why : Loss) → (wire_far ≡ [] → ⊥) → After e real (far_v why, entries_for a.link (first_lost Host why wire_far)) x
-      far_why OnDemand there = far_plain OnDemand tt
-      far_why (Broken f) there = far_counted f wire_far refl there
-      far_why Unread there = far_plain Unread tt
-      far_why TooOld there = far_plain TooOld tt
-      far_why TooMany there = far_plain TooMany tt
-
-      by_side : (b : Bool) → a.at_host ≡ b → After e real (frame_lost w a why) x
-      by_side false q = subst (λ p. After e real p x) (sym (near_is why q)) (near_why why (λ none. some (near_wire q ∙ none)))
-      by_side true q = subst (λ p. After e real p x) (sym (far_is why q)) (far_why why (λ none. some (far_wire q ∙ none)))
+          far_why : (why : Loss) → (wire_far ≡ [] → ⊥) → After e real (far_v why, entries_for a.link (first_lost Host why wire_far)) x
+          far_why OnDemand there = far_plain OnDemand tt
+          far_why (Broken f) there = far_counted f wire_far refl there
+          far_why Unread there = far_plain Unread tt
+          far_why TooOld there = far_plain TooOld tt
+          far_why TooMany there = far_plain TooMany tt

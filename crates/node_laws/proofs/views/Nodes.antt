@@ -11,7 +11,7 @@ use Rattle.trace_model.specs.declared.line.End.{End}
 use Rattle.link_laws.specs.sessions.Sessions.{OnWire}
 use Rattle.link_laws.specs.machine.Machine.{Message, LinkEnd, frames_out}
 use Rattle.link_laws.specs.messages.Links.{NumberedEnd, Link, Ending, Comes, put}
-use Rattle.link_laws.specs.messages.Links.Comes.{NextFrame, AsksReset, Starts, Stops, NoInput}
+use Rattle.link_laws.specs.messages.Links.Comes.{NextFrame}
 use Rattle.link_laws.specs.messages.Links.Ending.{GoesOut, CutOff}
 use Rattle.link_laws.specs.messages.Links.Loss.{TooOld, TooMany}
 use Rattle.link_laws.specs.entries.Entries.{End as Side, Entry as Noted, far, first_lost, pushed_out, wire_with, put_entries, puts_entries, ending_entries}
@@ -21,11 +21,12 @@ use Rattle.link_laws.specs.entries.Entries.Entry.{Took, Lost}
 use Rattle.history.specs.Filters.{same_end}
 use Rattle.history.specs.Steps.{entries_for, entry_of, end_of}
 use Rattle.node_machine.specs.Parts.{Desk, Core, Running, Port, Work, Deed}
-use Rattle.node_machine.specs.Parts.Deed.{Commits, Sends, SaysOk, Asks, Releases, Tells, IsAnswered, Drops, SetsErrors, Orders, Hears, GoesOn, Ends}
+use Rattle.node_machine.specs.Parts.Deed.{Sends, Ends}
 use Rattle.node_machine.specs.Carrying.{own_side, port_at}
 use Rattle.node_machine.specs.Node.{NodeInput, steps, begins_with}
 use Rattle.node_machine.specs.world.World.{node_of, runs_on, work_of, ending_of, frames_noted, arrival}
 use Rattle.node_laws.specs.telling.Telling.{HasEnds}
+use Rattle.node_laws.proofs.Cases.{by_test}
 use Rattle.node_laws.proofs.telling.Mute.{IsPlain, IsMute, AreMute, deeds_mute}
 use Rattle.node_laws.proofs.telling.Nodes.{hosts_same, ports_for}
 use Rattle.node_laws.specs.views.Errors.{ErrorCount}
@@ -67,10 +68,7 @@ arrival_undamaged who l NextFrame = go l.to_controller where
   go : (xs : List OnWire) → AllByRecursion IsUndamaged (first xs)
   go [] = tt
   go (x ∷ xs) = (tt, tt)
-arrival_undamaged who l (AsksReset window) = tt
-arrival_undamaged who l (Starts value) = tt
-arrival_undamaged who l Stops = tt
-arrival_undamaged who l NoInput = tt
+arrival_undamaged who l _ = tt
 
 aged_undamaged : (who : Side) (xs : List OnWire) → AllByRecursion IsUndamaged (aged_entries who xs)
 aged_undamaged who [] = tt
@@ -125,10 +123,7 @@ leaves_kept e (Some r) x es all k =
 
 module _ (e : End) (real : e.at_host ≡ true → eqb e.link 0 ≡ false) (hosts : List ℕ) (single : e.at_host ≡ true → hosts ≡ e.link ∷ []) where
   side_is : (core : Core) → core.node ≡ node_of e → own_side core ≡ side_of e
-  side_is core number = ap (λ n. cond (eqb n 0) Controller Host) number ∙ by e.at_host refl where
-    by : (b : Bool) → e.at_host ≡ b → cond (eqb (node_of e) 0) Controller Host ≡ side_of e
-    by true q = rw (q, real q) refl
-    by false q = rw q refl
+  side_is core number = ap (λ n. cond (eqb n 0) Controller Host) number ∙ by_test e.at_host (λ q. rw (q, real q) refl) (λ q. rw q refl)
 
   ends_has : (x : ErrorCount) (near_ends : ℕ → NumberedEnd) (desks : List Desk)
       → AllByRecursion (λ (d : Desk). eqb d.host e.link ≡ true → d.errors ≡ x.errors) desks
@@ -158,17 +153,15 @@ module _ (e : End) (real : e.at_host ≡ true → eqb e.link 0 ≡ false) (hosts
 
   -- it ends
   ended_keeps : (x : ErrorCount) (k : Work) → Right e hosts x k → IfKeeps e (runs_on k) (reads e k.entries x)
-  ended_keeps x k r = by k.cut refl where
-    on_is : k.cut ≡ false → runs_on k ≡ Some (record { core = k.core; desks = map (λ (p : Port). p.desk) k.ports })
-    on_is q = rw q refl
+  ended_keeps x k r = by_test k.cut
+      (λ q. subst (λ o. IfKeeps e o (reads e k.entries x)) (sym (off_is q)) r.read.sets)
+      (λ q. subst (λ o. IfKeeps e o (reads e k.entries x)) (sym (on_is q))
+      (record { sets = r.read.sets; desks = desks_has r.errors (reads e k.entries x).errors r.read.is k.ports r.ends })) where
+        on_is : k.cut ≡ false → runs_on k ≡ Some (record { core = k.core; desks = map (λ (p : Port). p.desk) k.ports })
+        on_is q = rw q refl
 
-    off_is : k.cut ≡ true → runs_on k ≡ None
-    off_is q = rw q refl
-
-    by : (b : Bool) → k.cut ≡ b → IfKeeps e (runs_on k) (reads e k.entries x)
-    by true q = subst (λ o. IfKeeps e o (reads e k.entries x)) (sym (off_is q)) r.read.sets
-    by false q = subst (λ o. IfKeeps e o (reads e k.entries x)) (sym (on_is q))
-        (record { sets = r.read.sets; desks = desks_has r.errors (reads e k.entries x).errors r.read.is k.ports r.ends })
+        off_is : k.cut ≡ true → runs_on k ≡ None
+        off_is q = rw q refl
 
   pub own_steps : (x : ErrorCount) (r : Running) (plan : Option Plan) (near_ends : ℕ → NumberedEnd) (es frames : List Entry) (input : NodeInput)
       → HasEnds (node_of e) hosts r → AllByRecursion (IsStill e) es → AllByRecursion (IsStill e) frames
@@ -211,19 +204,9 @@ mute_leaves : (e : End) (deeds : List Deed) → AreMute deeds → AllByRecursion
 mute_leaves e [] all = tt
 mute_leaves e (d ∷ deeds) all = (one d all.0, mute_leaves e deeds all.1) where
   one : (d : Deed) → IsMute d → NotesSo (Leaves e) d
-  one (Commits c) m = tt
   one (Sends to m) i = tt
-  one SaysOk m = tt
-  one (Asks to message c) m = tt
-  one (Releases asker) m = tt
-  one (Tells to message) m = tt
-  one IsAnswered m = tt
-  one (Drops pid) m = tt
-  one (SetsErrors errors) m = tt
-  one (Orders message) m = tt
-  one Hears m = tt
-  one (GoesOn i) m = tt
   one (Ends y) m = plain_leaves e y m
+  one _ m = tt
 
 -- the node isn't that of the end
 abbrev pub IsOther : End → Side → ℕ → Type 0

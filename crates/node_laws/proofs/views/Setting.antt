@@ -32,6 +32,7 @@ use Rattle.node_machine.specs.Controller.{unless_asking, kind_deeds, own_deeds, 
 use Rattle.node_machine.specs.HostReplies.{ordered_deeds, host_deeds}
 use Rattle.node_machine.proofs.Walks.{Plain, OfDecision, OfHost, anyone, all_of_controller, all_of_host}
 use Rattle.node_laws.specs.views.Errors.{errors_set_by}
+use Rattle.node_laws.proofs.Cases.{by_option, by_test}
 use Rattle.node_laws.proofs.readings.Noticed.{up_is}
 
 -- an init ends so
@@ -76,11 +77,9 @@ set_is errors instruction body v sets = by (eqb instruction 1) (eqb instruction 
         let is : Some (count_in (value_in body)) ≡ Some v = rw (p, z) at s in
         rw (p, z) (ap (λ o. (answer_of response.Ok [], o)) is)
     tests (Some r) z = let none : None ≡ Some v = rw (p, z) at s in absurd (cc none)
-  by false true p q s = tests (first_of (tests_to_get 6 body)) refl where
-    tests : (o : Option Response) → first_of (tests_to_get 6 body) ≡ o
-        → (link_served errors instruction body ≡ (answer_of response.Ok [], Some v)) × (eqb instruction 1 ≡ true)
-    tests None z = let none : None ≡ Some v = rw (p, q, z) at s in absurd (cc none)
-    tests (Some r) z = let none : None ≡ Some v = rw (p, q, z) at s in absurd (cc none)
+  by false true p q s = by_option (first_of (tests_to_get 6 body))
+      (λ z. let none : None ≡ Some v = rw (p, q, z) at s in absurd (cc none))
+      (λ r z. let none : None ≡ Some v = rw (p, q, z) at s in absurd (cc none))
   by false false p q s = let none : None ≡ Some v = rw (p, q) at s in absurd (cc none)
 
 -- what a message sets by its header
@@ -255,23 +254,20 @@ controller_sets core ports h m v leads sets =
 
 pub host_sets : (core : Core) (ports : List Port) (p : Port) (m : Message) (v : ℕ) → port_at ports core.node ≡ Some p → eqb m.0 0 ≡ true
     → errors_set_by m.1 ≡ Some v → SetDeeds ports core.node m.0 v (host_deeds (own_view core) (end_view p) m)
-host_sets core ports p m v here zero sets = go (is_up p.side.shdlc.phase) refl where
-  s : SetsBy m.1 v
-  s = sets_by m.1 v sets
+host_sets core ports p m v here zero sets = by_test (is_up p.side.shdlc.phase)
+    (λ q. let shown : host_deeds (own_view core) (end_view p) m
+    ≡ ordered_deeds (own_view core) p.desk.errors m.0 s.instruction (body_in m.1) = rw (q, s.header) refl in
+    IsSet (record { port = p; here = here; up = up_is p.side.shdlc.phase q })
+    (shown ∙ (ordered_is ∙ set_deeds core.node m.0 p.desk.errors s.instruction v (body_in m.1) s.sets)))
+    (λ q. IsDropped (rw q refl)) where
+      s : SetsBy m.1 v
+      s = sets_by m.1 v sets
 
-  zero_is : m.0 ≡ 0
-  zero_is = eqb-true m.0 0 zero
+      zero_is : m.0 ≡ 0
+      zero_is = eqb-true m.0 0 zero
 
-  ordered_is : ordered_deeds (own_view core) p.desk.errors m.0 s.instruction (body_in m.1)
-      ≡ link_deeds core.node m.0 (link_served p.desk.errors s.instruction (body_in m.1))
-  ordered_is =
-      ap (λ n. ordered_deeds (own_view core) p.desk.errors n s.instruction (body_in m.1)) zero_is
-      ∙ ap (λ n. link_deeds core.node n (link_served p.desk.errors s.instruction (body_in m.1))) (sym zero_is)
-
-  go : (b : Bool) → is_up p.side.shdlc.phase ≡ b → SetDeeds ports core.node m.0 v (host_deeds (own_view core) (end_view p) m)
-  go false q = IsDropped (rw q refl)
-  go true q =
-      let shown : host_deeds (own_view core) (end_view p) m
-      ≡ ordered_deeds (own_view core) p.desk.errors m.0 s.instruction (body_in m.1) = rw (q, s.header) refl in
-      IsSet (record { port = p; here = here; up = up_is p.side.shdlc.phase q })
-      (shown ∙ (ordered_is ∙ set_deeds core.node m.0 p.desk.errors s.instruction v (body_in m.1) s.sets))
+      ordered_is : ordered_deeds (own_view core) p.desk.errors m.0 s.instruction (body_in m.1)
+          ≡ link_deeds core.node m.0 (link_served p.desk.errors s.instruction (body_in m.1))
+      ordered_is =
+          ap (λ n. ordered_deeds (own_view core) p.desk.errors n s.instruction (body_in m.1)) zero_is
+          ∙ ap (λ n. link_deeds core.node n (link_served p.desk.errors s.instruction (body_in m.1))) (sym zero_is)

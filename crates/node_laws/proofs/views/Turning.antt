@@ -26,6 +26,7 @@ use Rattle.node_machine.specs.HostReplies.{host_deeds}
 use Rattle.node_machine.specs.Turns.{deeds_of, handles, holds_back, have_turns, goes_through_ends, passes}
 use Rattle.node_machine.specs.world.NodeFilters.{Book}
 use Rattle.node_laws.specs.kept.Books.{hosts_of_ends}
+use Rattle.node_laws.proofs.Cases.{by_test}
 use Rattle.node_laws.proofs.telling.Away.{at_map}
 use Rattle.node_laws.proofs.links.Noticing.{at_host}
 use Rattle.node_laws.proofs.readings.Turning.{lack_parts}
@@ -123,10 +124,7 @@ module _ (e : End) (hosts : List ℕ) (x0 : ErrorCount) (single : e.at_host ≡ 
   sets_now w h m = cond (eqb h e.link && leads_to_link_gate w.core.tables e m.0) (errors_set_by m.1) None
 
   leads_same : (w : Work) (pid : ℕ) → w.cut ≡ false → So w → leads_to_link_gate (seen w).book.tables e pid ≡ leads_to_link_gate w.core.tables e pid
-  leads_same w pid on r = by e.at_host refl where
-    by : (b : Bool) → e.at_host ≡ b → leads_to_link_gate (seen w).book.tables e pid ≡ leads_to_link_gate w.core.tables e pid
-    by true q = rw q refl
-    by false q = ap (λ t. leads_to_link_gate t e pid) (sym (r.tables on q))
+  leads_same w pid on r = by_test e.at_host (λ q. rw q refl) (λ q. ap (λ t. leads_to_link_gate t e pid) (sym (r.tables on q)))
 
   turn_reads : (w : Work) (h : ℕ) (m : Message) → w.cut ≡ false → So w → errors_after e (seen w) (turn_of w h m) ≡ record (seen w) { sets = sets_now w h m }
   turn_reads w h m on r =
@@ -281,13 +279,11 @@ module _ (e : End) (hosts : List ℕ) (x0 : ErrorCount) (single : e.at_host ≡ 
   alone : (ports : List Port) (h : ℕ) (p : Port) → hosts_of_ends ports ≡ e.link ∷ [] → port_at ports h ≡ Some p → h ≡ e.link
   alone [] h p same q = absurd (cc q)
   alone (x ∷ y ∷ ports) h p same q = absurd (cc same)
-  alone (x ∷ []) h p same q = by (eqb x.desk.host h) refl where
-    one : x.desk.host ≡ e.link
-    one = cc
-
-    by : (b : Bool) → eqb x.desk.host h ≡ b → h ≡ e.link
-    by true z = sym (eqb-true x.desk.host h z) ∙ one
-    by false z = let none : None ≡ Some p = sym (ap (λ b. cond b (Some x) None) z) ∙ q in absurd (cc none)
+  alone (x ∷ []) h p same q = by_test (eqb x.desk.host h)
+      (λ z. sym (eqb-true x.desk.host h z) ∙ one)
+      (λ z. let none : None ≡ Some p = sym (ap (λ b. cond b (Some x) None) z) ∙ q in absurd (cc none)) where
+        one : x.desk.host ≡ e.link
+        one = cc
 
   set_fine : (ports : List Port) (h pid v : ℕ) (deeds : List Deed) → eqb h e.link ≡ false → SetDeeds ports h pid v deeds
       → AllByRecursion (IsFine e hosts x0 h) deeds
@@ -303,74 +299,71 @@ module _ (e : End) (hosts : List ℕ) (x0 : ErrorCount) (single : e.at_host ≡ 
 
   pub handled : (h : ℕ) (m : Message) (p : Port) (w : Work) → w.cut ≡ false → port_at w.ports h ≡ Some p
       → lack w.ports (needs h (deeds_of w.core w.ports h m)) ≡ None → So w → So (handles h m (deeds_of w.core w.ports h m) w)
-  handled h m p w on there room r = by_side e.at_host refl where
-    Fine : List Deed → Type 0
-    Fine deeds = lack w.ports (needs h deeds) ≡ None → So (handles h m deeds w)
+  handled h m p w on there room r = by_test e.at_host (λ q. subst Fine (sym (deeds_far q)) (far q) room) (λ q. subst Fine (sym (deeds_near q)) (near_by q) room)
+    where
+      Fine : List Deed → Type 0
+      Fine deeds = lack w.ports (needs h deeds) ≡ None → So (handles h m deeds w)
 
-    -- at a host
-    far : e.at_host ≡ true → Fine (host_deeds (own_view w.core) (end_view p) m)
-    far near = by_set (cond (eqb m.0 0) (errors_set_by m.1) None) refl where
-      link : h ≡ e.link
-      link = alone w.ports h p (r.hosts_are ∙ single near) there
+      -- at a host
+      far : e.at_host ≡ true → Fine (host_deeds (own_view w.core) (end_view p) m)
+      far near = by_set (cond (eqb m.0 0) (errors_set_by m.1) None) refl where
+        link : h ≡ e.link
+        link = alone w.ports h p (r.hosts_are ∙ single near) there
 
-      node : w.core.node ≡ h
-      node = r.number ∙ (rw near refl ∙ sym link)
+        node : w.core.node ≡ h
+        node = r.number ∙ (rw near refl ∙ sym link)
 
-      now_is : sets_now w h m ≡ cond (eqb m.0 0) (errors_set_by m.1) None
-      now_is = both_so (eqb h e.link) (leads_to_link_gate w.core.tables e m.0) (errors_set_by m.1) (eq-eqb h e.link link) ∙ rw near refl
+        now_is : sets_now w h m ≡ cond (eqb m.0 0) (errors_set_by m.1) None
+        now_is = both_so (eqb h e.link) (leads_to_link_gate w.core.tables e m.0) (errors_set_by m.1) (eq-eqb h e.link link) ∙ rw near refl
 
-      by_set : (o : Option ℕ) → cond (eqb m.0 0) (errors_set_by m.1) None ≡ o → Fine (host_deeds (own_view w.core) (end_view p) m)
-      by_set None q =
-          λ none. plain_handled h m (host_deeds (own_view w.core) (end_view p) m) w on (now_is ∙ q)
-          (unset_fine e hosts x0 h (host_deeds (own_view w.core) (end_view p) m) (host_unset w.core p m q)) r
-      by_set (Some v) q = λ none.
-          let both = some_so (eqb m.0 0) (errors_set_by m.1) v q in
-          set_handled h m (host_deeds (own_view w.core) (end_view p) m) v w on (eq-eqb h e.link link) (now_is ∙ q) none
-          (subst (λ n. SetDeeds w.ports n m.0 v (host_deeds (own_view w.core) (end_view p) m)) node
-          (host_sets w.core w.ports p m v (ap (port_at w.ports) node ∙ there) both.0 both.1)) r
+        by_set : (o : Option ℕ) → cond (eqb m.0 0) (errors_set_by m.1) None ≡ o → Fine (host_deeds (own_view w.core) (end_view p) m)
+        by_set None q =
+            λ none. plain_handled h m (host_deeds (own_view w.core) (end_view p) m) w on (now_is ∙ q)
+            (unset_fine e hosts x0 h (host_deeds (own_view w.core) (end_view p) m) (host_unset w.core p m q)) r
+        by_set (Some v) q = λ none.
+            let both = some_so (eqb m.0 0) (errors_set_by m.1) v q in
+            set_handled h m (host_deeds (own_view w.core) (end_view p) m) v w on (eq-eqb h e.link link) (now_is ∙ q) none
+            (subst (λ n. SetDeeds w.ports n m.0 v (host_deeds (own_view w.core) (end_view p) m)) node
+            (host_sets w.core w.ports p m v (ap (port_at w.ports) node ∙ there) both.0 both.1)) r
 
-    -- at the controller
-    near_by : e.at_host ≡ false → Fine (controller_deeds (view_of w.core w.ports) h m)
-    near_by near = by_set (cond (is_link_gate (own_gate w.core.tables h m.0)) (errors_set_by m.1) None) refl where
-      here_is : eqb h e.link ≡ true → sets_now w h m ≡ cond (is_link_gate (own_gate w.core.tables h m.0)) (errors_set_by m.1) None
-      here_is z =
-          both_so (eqb h e.link) (leads_to_link_gate w.core.tables e m.0) (errors_set_by m.1) z
-          ∙ (ap (λ b. cond (cond b (eqb m.0 0) (is_link_gate (own_gate w.core.tables e.link m.0))) (errors_set_by m.1) None) near
-          ∙ ap (λ l. cond (is_link_gate (own_gate w.core.tables l m.0)) (errors_set_by m.1) None) (sym (eqb-true h e.link z)))
+      -- at the controller
+      near_by : e.at_host ≡ false → Fine (controller_deeds (view_of w.core w.ports) h m)
+      near_by near = by_set (cond (is_link_gate (own_gate w.core.tables h m.0)) (errors_set_by m.1) None) refl where
+        here_is : eqb h e.link ≡ true → sets_now w h m ≡ cond (is_link_gate (own_gate w.core.tables h m.0)) (errors_set_by m.1) None
+        here_is z =
+            both_so (eqb h e.link) (leads_to_link_gate w.core.tables e m.0) (errors_set_by m.1) z
+            ∙ (ap (λ b. cond (cond b (eqb m.0 0) (is_link_gate (own_gate w.core.tables e.link m.0))) (errors_set_by m.1) None) near
+            ∙ ap (λ l. cond (is_link_gate (own_gate w.core.tables l m.0)) (errors_set_by m.1) None) (sym (eqb-true h e.link z)))
 
-      away_is : eqb h e.link ≡ false → sets_now w h m ≡ None
-      away_is z = not_so (eqb h e.link) (leads_to_link_gate w.core.tables e m.0) (errors_set_by m.1) z
+        away_is : eqb h e.link ≡ false → sets_now w h m ≡ None
+        away_is z = not_so (eqb h e.link) (leads_to_link_gate w.core.tables e m.0) (errors_set_by m.1) z
 
-      by_set : (o : Option ℕ) → cond (is_link_gate (own_gate w.core.tables h m.0)) (errors_set_by m.1) None ≡ o
-          → Fine (controller_deeds (view_of w.core w.ports) h m)
-      by_set None q = λ none. plain_handled h m (controller_deeds (view_of w.core w.ports) h m) w on (by_host (cases_Bool (eqb h e.link)))
-          (unset_fine e hosts x0 h (controller_deeds (view_of w.core w.ports) h m) (controller_unset w.core w.ports h m q)) r where
-            by_host : (eqb h e.link ≡ true) ⊎ (eqb h e.link ≡ false) → sets_now w h m ≡ None
-            by_host (inl z) = here_is z ∙ q
-            by_host (inr z) = away_is z
-      by_set (Some v) q = λ none. by_host none (cases_Bool (eqb h e.link)) where
-        both : (is_link_gate (own_gate w.core.tables h m.0) ≡ true) × (errors_set_by m.1 ≡ Some v)
-        both = some_so (is_link_gate (own_gate w.core.tables h m.0)) (errors_set_by m.1) v q
+        by_set : (o : Option ℕ) → cond (is_link_gate (own_gate w.core.tables h m.0)) (errors_set_by m.1) None ≡ o
+            → Fine (controller_deeds (view_of w.core w.ports) h m)
+        by_set None q = λ none. plain_handled h m (controller_deeds (view_of w.core w.ports) h m) w on (by_host (cases_Bool (eqb h e.link)))
+            (unset_fine e hosts x0 h (controller_deeds (view_of w.core w.ports) h m) (controller_unset w.core w.ports h m q)) r where
+              by_host : (eqb h e.link ≡ true) ⊎ (eqb h e.link ≡ false) → sets_now w h m ≡ None
+              by_host (inl z) = here_is z ∙ q
+              by_host (inr z) = away_is z
+        by_set (Some v) q = λ none. by_host none (cases_Bool (eqb h e.link)) where
+          both : (is_link_gate (own_gate w.core.tables h m.0) ≡ true) × (errors_set_by m.1 ≡ Some v)
+          both = some_so (is_link_gate (own_gate w.core.tables h m.0)) (errors_set_by m.1) v q
 
-        set : SetDeeds w.ports h m.0 v (controller_deeds (view_of w.core w.ports) h m)
-        set = controller_sets w.core w.ports h m v both.0 both.1
+          set : SetDeeds w.ports h m.0 v (controller_deeds (view_of w.core w.ports) h m)
+          set = controller_sets w.core w.ports h m v both.0 both.1
 
-        by_host : lack w.ports (needs h (controller_deeds (view_of w.core w.ports) h m)) ≡ None → (eqb h e.link ≡ true) ⊎ (eqb h e.link ≡ false)
-            → So (handles h m (controller_deeds (view_of w.core w.ports) h m) w)
-        by_host none (inl z) = set_handled h m (controller_deeds (view_of w.core w.ports) h m) v w on z (here_is z ∙ q) none set r
-        by_host none (inr z) =
-            plain_handled h m (controller_deeds (view_of w.core w.ports) h m) w on (away_is z)
-            (set_fine w.ports h m.0 v (controller_deeds (view_of w.core w.ports) h m) z set) r
+          by_host : lack w.ports (needs h (controller_deeds (view_of w.core w.ports) h m)) ≡ None → (eqb h e.link ≡ true) ⊎ (eqb h e.link ≡ false)
+              → So (handles h m (controller_deeds (view_of w.core w.ports) h m) w)
+          by_host none (inl z) = set_handled h m (controller_deeds (view_of w.core w.ports) h m) v w on z (here_is z ∙ q) none set r
+          by_host none (inr z) =
+              plain_handled h m (controller_deeds (view_of w.core w.ports) h m) w on (away_is z)
+              (set_fine w.ports h m.0 v (controller_deeds (view_of w.core w.ports) h m) z set) r
 
-    deeds_far : e.at_host ≡ true → deeds_of w.core w.ports h m ≡ host_deeds (own_view w.core) (end_view p) m
-    deeds_far near = rw (side_zero w.core r.side near, there) refl
+      deeds_far : e.at_host ≡ true → deeds_of w.core w.ports h m ≡ host_deeds (own_view w.core) (end_view p) m
+      deeds_far near = rw (side_zero w.core r.side near, there) refl
 
-    deeds_near : e.at_host ≡ false → deeds_of w.core w.ports h m ≡ controller_deeds (view_of w.core w.ports) h m
-    deeds_near near = let zero : w.core.node ≡ 0 = r.number ∙ rw near refl in rw zero refl
-
-    by_side : (b : Bool) → e.at_host ≡ b → So (handles h m (deeds_of w.core w.ports h m) w)
-    by_side true q = subst Fine (sym (deeds_far q)) (far q) room
-    by_side false q = subst Fine (sym (deeds_near q)) (near_by q) room
+      deeds_near : e.at_host ≡ false → deeds_of w.core w.ports h m ≡ controller_deeds (view_of w.core w.ports) h m
+      deeds_near near = let zero : w.core.node ≡ 0 = r.number ∙ rw near refl in rw zero refl
 
   -- ## Turns
 

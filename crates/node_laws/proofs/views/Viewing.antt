@@ -8,7 +8,7 @@ use Rattle.trace_model.specs.Lines.{IsHost}
 use Rattle.trace_model.specs.declared.entry.Entry.{Entry}
 use Rattle.link_laws.specs.sessions.Sessions.{is_up}
 use Rattle.shdlc_core.specs.declared.answers.LinkState.{LinkState}
-use Rattle.shdlc_core.specs.declared.answers.LinkState.TheVariants.{Up, Waiting, Down}
+use Rattle.shdlc_core.specs.declared.answers.LinkState.TheVariants.{Up}
 use Rattle.hci_tables.specs.Tables.{HciTables, is_opened}
 use Rattle.pipe_table.specs.PipeRows.{lowest_free}
 use Rattle.gate_admin.specs.declared.view.LinkView.{LinkView}
@@ -98,8 +98,7 @@ up_is : (near_end : NumberedEnd) → is_some (session_at near_end) ≡ is_up nea
 up_is near_end = by near_end.side.shdlc.phase refl where
   by : (s : LinkState) → near_end.side.shdlc.phase ≡ s → is_some (session_at near_end) ≡ is_up near_end.side.shdlc.phase
   by Up q = rw q refl
-  by Waiting q = rw q refl
-  by Down q = rw q refl
+  by _ q = rw q refl
 
 -- ## Pipes
 

@@ -22,6 +22,7 @@ use Rattle.node_machine.specs.world.World.{host_work, after_host}
 use Rattle.node_machine.specs.world.World.{host_does, comes_at, activates, end_c, end_h}
 use Rattle.node_laws.specs.kept.Hosts.{AreDifferent}
 use Rattle.node_laws.specs.telling.Telling.{HasEnds, IfItRuns, hosts_in, IsOrderly}
+use Rattle.node_laws.proofs.Cases.{by_option, by_test}
 use Rattle.node_laws.proofs.telling.Mute.{AreMute}
 use Rattle.node_laws.proofs.telling.Nodes.{site_host}
 use Rattle.node_laws.specs.views.Errors.{ErrorCount}
@@ -120,15 +121,13 @@ module _ (e : End) (real : e.at_host ≡ true → eqb e.link 0 ≡ false) where
   own_node w = cond e.at_host (far_node (site_at w.sites e.link)) w.controller
 
   pub own_node_is : (w : NodeWorld) → node_at w (node_of e) ≡ own_node w
-  own_node_is w = by e.at_host refl where
-    far_is : (o : Option Site) → site_at w.sites e.link ≡ o → e.at_host ≡ true → node_at w e.link ≡ far_node (site_at w.sites e.link)
-    far_is None z q = rw (real q, z) refl
-    far_is (Some s) z q = rw (real q, z) refl
-
-    by : (b : Bool) → e.at_host ≡ b → node_at w (node_of e) ≡ own_node w
-    by true q = ap (λ b. node_at w (cond b e.link 0)) q
-        ∙ (far_is (site_at w.sites e.link) refl q ∙ sym (ap (λ b. cond b (far_node (site_at w.sites e.link)) w.controller) q))
-    by false q = ap (λ b. node_at w (cond b e.link 0)) q ∙ sym (ap (λ b. cond b (far_node (site_at w.sites e.link)) w.controller) q)
+  own_node_is w = by_test e.at_host
+      (λ q. ap (λ b. node_at w (cond b e.link 0)) q
+      ∙ (far_is (site_at w.sites e.link) refl q ∙ sym (ap (λ b. cond b (far_node (site_at w.sites e.link)) w.controller) q)))
+      (λ q. ap (λ b. node_at w (cond b e.link 0)) q ∙ sym (ap (λ b. cond b (far_node (site_at w.sites e.link)) w.controller) q)) where
+        far_is : (o : Option Site) → site_at w.sites e.link ≡ o → e.at_host ≡ true → node_at w e.link ≡ far_node (site_at w.sites e.link)
+        far_is None z q = rw (real q, z) refl
+        far_is (Some s) z q = rw (real q, z) refl
 
   pub near_node : (w : NodeWorld) → e.at_host ≡ false → own_node w ≡ w.controller
   near_node w q = rw q refl
@@ -170,14 +169,10 @@ module _ (e : End) (real : e.at_host ≡ true → eqb e.link 0 ≡ false) where
 
   -- the end of a host is another one where this one is the controller's, or another host's
   pub far_other : (h : ℕ) → (e.at_host ≡ true → eqb h e.link ≡ false) → IsOther e Host h
-  far_other h off = by e.at_host refl where
+  far_other h off = by_test e.at_host (λ q. rw (q, off q) refl) (λ q. rw q (right (eqb h e.link))) where
     right : (b : Bool) → (b && false) ≡ false
     right true = refl
     right false = refl
-
-    by : (b : Bool) → e.at_host ≡ b → IsOther e Host h
-    by true q = rw (q, off q) refl
-    by false q = rw q (right (eqb h e.link))
 
   -- ## Something comes
 
@@ -238,7 +233,7 @@ module _ (e : End) (real : e.at_host ≡ true → eqb e.link 0 ≡ false) where
       → ((s : Site) (r : Running) → site_at w.sites h ≡ Some s → s.node ≡ Some r → (e.at_host ≡ true → eqb h e.link ≡ false)
       → AllByRecursion (Leaves e) (host_work s r comes f).entries)
       → After (host_does w h comes f) x
-  host_acts w x h comes f k own others = by_site (site_at w.sites h) refl where
+  host_acts w x h comes f k own others = by_option (site_at w.sites h) (λ q. subst (λ p. After p x) (sym (none_is q)) k) (λ s q. by_node s q s.node refl) where
     none_is : site_at w.sites h ≡ None → host_does w h comes f ≡ (w, [])
     none_is q = rw q refl
 
@@ -280,10 +275,6 @@ module _ (e : End) (real : e.at_host ≡ true → eqb e.link 0 ≡ false) where
           ∙ (ap (λ n. far_node (site_at v.sites n)) link ∙ with_own h (after_host comes c) (λ z. refl) w.sites s here) in
           let was : own_node w ≡ Some r = host_node w far ∙ (ap (λ n. far_node (site_at w.sites n)) link ∙ (ap far_node here ∙ q)) in
           subst (λ o. IfKeeps e o (reads e (c.entries ++ frames) x)) (sym node) (own s r here q far is (subst (λ o. IfKeeps e o x) was k))
-
-    by_site : (o : Option Site) → site_at w.sites h ≡ o → After (host_does w h comes f) x
-    by_site None q = subst (λ p. After p x) (sym (none_is q)) k
-    by_site (Some s) q = by_node s q s.node refl
 
   -- a host that runs has an end on its own link
   pub has_own : (w : NodeWorld) (h : ℕ) (s : Site) (r : Running) → AreFine w.sites → site_at w.sites h ≡ Some s → s.node ≡ Some r
@@ -368,17 +359,15 @@ module _ (e : End) (real : e.at_host ≡ true → eqb e.link 0 ≡ false) where
 
   -- to the end of a host
   pub far_comes : (w : NodeWorld) (x : ErrorCount) (h : ℕ) (comes : Comes) → AreFine w.sites → Kept w x → After (comes_at w (end_h h) comes) x
-  far_comes w x h comes fine k = go (input_of (seen_from (end_h h) (link_to w.sites h)) comes) refl where
-    none_is : input_of (seen_from (end_h h) (link_to w.sites h)) comes ≡ None → comes_at w (end_h h) comes ≡ (w, [])
-    none_is q = rw q refl
+  far_comes w x h comes fine k = by_option (input_of (seen_from (end_h h) (link_to w.sites h)) comes)
+      (λ q. subst (λ p. After p x) (sym (none_is q)) k)
+      (λ i q. subst (λ p. After p x) (sym (far_is i q)) (far_does w x h comes i fine k)) where
+        none_is : input_of (seen_from (end_h h) (link_to w.sites h)) comes ≡ None → comes_at w (end_h h) comes ≡ (w, [])
+        none_is q = rw q refl
 
-    far_is : (i : LinkInput) → input_of (seen_from (end_h h) (link_to w.sites h)) comes ≡ Some i
-        → comes_at w (end_h h) comes ≡ host_does w h comes (steps (AtEnd h i))
-    far_is i q = rw q refl
-
-    go : (o : Option LinkInput) → input_of (seen_from (end_h h) (link_to w.sites h)) comes ≡ o → After (comes_at w (end_h h) comes) x
-    go None q = subst (λ p. After p x) (sym (none_is q)) k
-    go (Some i) q = subst (λ p. After p x) (sym (far_is i q)) (far_does w x h comes i fine k)
+        far_is : (i : LinkInput) → input_of (seen_from (end_h h) (link_to w.sites h)) comes ≡ Some i
+            → comes_at w (end_h h) comes ≡ host_does w h comes (steps (AtEnd h i))
+        far_is i q = rw q refl
 
   -- something that comes to the controller leaves the hosts as they are
   near_fine : (w : NodeWorld) (h : ℕ) (comes : Comes) → AreFine w.sites → AreFine (comes_at w (end_c h) comes).0.sites

@@ -16,12 +16,13 @@ use Rattle.link_laws.specs.entries.Entries.End.{Controller, Host}
 use Rattle.history.specs.Filters.{same_end, same_side}
 use Rattle.history.specs.Steps.{end_of, entries_for}
 use Rattle.node_machine.specs.Parts.{About, Notice, Desk, Core, Port, Work, Deed}
-use Rattle.node_machine.specs.Parts.Deed.{Commits, Sends, SaysOk, Asks, Releases, Tells, IsAnswered, Drops, SetsErrors, Orders, Hears, GoesOn, Ends}
+use Rattle.node_machine.specs.Parts.Deed.{Commits, Sends, SaysOk, Asks, Releases, Tells, IsAnswered, Drops, SetsErrors, Orders, Ends}
 use Rattle.node_machine.specs.Controller.{controller_deeds, view_of}
 use Rattle.node_machine.specs.Carrying.{own_side, port_at, changed_if, with_port, with_desk, after_turn, noted_of, turn_at, done, all_done}
 use Rattle.node_machine.specs.Turns.{handles}
 use Rattle.node_machine.specs.world.World.{end_c}
 use Rattle.node_machine.specs.world.NodeFilters.{is_notice, notice_in, awaited_after}
+use Rattle.node_laws.proofs.Cases.{by_option}
 use Rattle.node_laws.proofs.steps.StepWalks.{all_do}
 use Rattle.node_laws.proofs.links.Noticing.{at_all, at_host}
 use Rattle.node_laws.specs.notices.Notices.{IsKeptNotice, GoesToFree, has_notice}
@@ -142,17 +143,11 @@ module _ (x : ℕ) where
     go true = refl
     go false = refl
   else_notes h (Sends to m) w a = gives_other w.core m (port_at w.ports to) a
-  else_notes h SaysOk w a = refl
   else_notes h (Asks to message c) w a = gives_else w.core (1, message) (turn_at c.asker SetAside w).ports to a
-  else_notes h (Releases asker) w a = refl
   else_notes h (Tells to message) w a = gives_else w.core (1, message) w.ports to a
-  else_notes h IsAnswered w a = refl
-  else_notes h (Drops pid) w a = refl
-  else_notes h (SetsErrors errors) w a = refl
   else_notes h (Orders message) w a = absurd a
-  else_notes h Hears w a = refl
-  else_notes h (GoesOn i) w a = refl
   else_notes h (Ends e) w a = absurd a
+  else_notes h _ w a = refl
 
   -- ## What they keep
 
@@ -189,23 +184,21 @@ module _ (x : ℕ) where
     each_same w v same a n q = a n (sym same ∙ q)
 
     each_set : (k : ℕ) (o : Option Notice) (w : Work) → ((n : Notice) → o ≡ Some n → P n) → Each w → Each (with_desk k (λ d. record d { notice = o }) w)
-    each_set k o w new a n q = go (port_at w.ports x) refl where
-      g : Port → Port
-      g p = record p { desk = record p.desk { notice = o } }
+    each_set k o w new a n q = by_option (port_at w.ports x)
+        (λ z. let none : None ≡ Some n = rw z at there in absurd (cc none))
+        (λ p z. by (eqb p.desk.host k) p z (rw z at there)) where
+          g : Port → Port
+          g p = record p { desk = record p.desk { notice = o } }
 
-      is : port_at (with_port k g w.ports) x ≡ option_map (λ (p : Port). changed_if (eqb p.desk.host k) g p) (port_at w.ports x)
-      is = at_all w.ports x (λ p. changed_if (eqb p.desk.host k) g p) (λ q. changed (λ (p : Port). p.desk.host) (eqb q.desk.host k) g q refl)
+          is : port_at (with_port k g w.ports) x ≡ option_map (λ (p : Port). changed_if (eqb p.desk.host k) g p) (port_at w.ports x)
+          is = at_all w.ports x (λ p. changed_if (eqb p.desk.host k) g p) (λ q. changed (λ (p : Port). p.desk.host) (eqb q.desk.host k) g q refl)
 
-      there : option_and_then (λ (p : Port). p.desk.notice) (option_map (λ (p : Port). changed_if (eqb p.desk.host k) g p) (port_at w.ports x)) ≡ Some n
-      there = ap (λ z. option_and_then (λ (p : Port). p.desk.notice) z) (sym is) ∙ q
+          there : option_and_then (λ (p : Port). p.desk.notice) (option_map (λ (p : Port). changed_if (eqb p.desk.host k) g p) (port_at w.ports x)) ≡ Some n
+          there = ap (λ z. option_and_then (λ (p : Port). p.desk.notice) z) (sym is) ∙ q
 
-      by : (b : Bool) (p : Port) → port_at w.ports x ≡ Some p → (changed_if b g p).desk.notice ≡ Some n → P n
-      by true p z y = new n y
-      by false p z y = a n (ap (λ u. option_and_then (λ (p : Port). p.desk.notice) u) z ∙ y)
-
-      go : (u : Option Port) → port_at w.ports x ≡ u → P n
-      go None z = let none : None ≡ Some n = rw z at there in absurd (cc none)
-      go (Some p) z = by (eqb p.desk.host k) p z (rw z at there)
+          by : (b : Bool) (p : Port) → port_at w.ports x ≡ Some p → (changed_if b g p).desk.notice ≡ Some n → P n
+          by true p z y = new n y
+          by false p z y = a n (ap (λ u. option_and_then (λ (p : Port). p.desk.notice) u) z ∙ y)
 
     notified_each : (to : ℕ) (about : About) (message : List ℕ) (w : Work)
         → ((n : Notice) → n.age ≡ 0 → P n) → Each w → Each (Rattle.node_machine.specs.Carrying.notified to about message w)
@@ -218,7 +211,6 @@ module _ (x : ℕ) where
     pub each_done : ((n : Notice) → n.age ≡ 0 → P n) → (h : ℕ) (d : Deed) (w : Work) → Each w → Each (done h d w)
     each_done new h (Commits c) w a = each_same w (done h (Commits c) w) (ap (λ ps. noticed ps x) (commit_ports x [] c w)) a
     each_done new h (Sends to m) w a = each_same w (done h (Sends to m) w) (turn_noticed to (Give m) w) a
-    each_done new h SaysOk w a = a
     each_done new h (Asks to message c) w a =
         notified_each to (Rattle.node_machine.specs.Parts.About.Waits c) message
         (Rattle.node_machine.specs.Carrying.noting (entry.Ask to message ∷ []) (turn_at c.asker SetAside w)) new
@@ -226,15 +218,12 @@ module _ (x : ℕ) where
     each_done new h (Releases asker) w a = each_same w (done h (Releases asker) w) (turn_noticed asker Release w) a
     each_done new h (Tells to message) w a = notified_each to Rattle.node_machine.specs.Parts.About.Removed message w new a
     each_done new h IsAnswered w a = each_set h None w (λ n q. absurd (cc q)) a
-    each_done new h (Drops pid) w a = a
     each_done new h (SetsErrors errors) w a =
         each_same w (done h (SetsErrors errors) w) (desk_noticed h (λ d. record d { errors = errors }) w (λ d. refl) (λ d. refl)) a
     each_done new h (Orders message) w a =
         each_same w (done h (Orders message) w) (turn_noticed h (Give (1, message))
         (record w { core = record w.core { command = Some message } })) a
-    each_done new h Hears w a = a
-    each_done new h (GoesOn i) w a = a
-    each_done new h (Ends e) w a = a
+    each_done new h _ w a = a
 
     else_same_at : (to : ℕ) (about : About) (message : List ℕ) (w : Work) → eqb to x ≡ false
         → noticed (Rattle.node_machine.specs.Carrying.notified to about message w).ports x ≡ noticed w.ports x
@@ -247,7 +236,6 @@ module _ (x : ℕ) where
     pub else_done : (h : ℕ) (d : Deed) (w : Work) → IsElse d → Each w → Each (done h d w)
     else_done h (Commits c) w may a = each_same w (done h (Commits c) w) (ap (λ ps. noticed ps x) (commit_ports x [] c w)) a
     else_done h (Sends to m) w may a = each_same w (done h (Sends to m) w) (turn_noticed to (Give m) w) a
-    else_done h SaysOk w may a = a
     else_done h (Asks to message c) w may a =
         each_same w (done h (Asks to message c) w)
         (else_same_at to (Rattle.node_machine.specs.Parts.About.Waits c) message
@@ -256,13 +244,11 @@ module _ (x : ℕ) where
     else_done h (Tells to message) w may a =
         each_same w (done h (Tells to message) w) (else_same_at to Rattle.node_machine.specs.Parts.About.Removed message w may) a
     else_done h IsAnswered w may a = each_set h None w (λ n q. absurd (cc q)) a
-    else_done h (Drops pid) w may a = a
     else_done h (SetsErrors errors) w may a =
         each_same w (done h (SetsErrors errors) w) (desk_noticed h (λ d. record d { errors = errors }) w (λ d. refl) (λ d. refl)) a
     else_done h (Orders message) w may a = absurd may
-    else_done h Hears w may a = a
-    else_done h (GoesOn i) w may a = a
     else_done h (Ends e) w may a = absurd may
+    else_done h _ w may a = a
 
   -- ## A message
 
@@ -289,13 +275,9 @@ module _ (x : ℕ) where
         other : (b : Bool) → eqb to x ≡ b → eqb to x ≡ false
         other true q = absurd (true≢false (sym has ∙ (ap (has_notice ports) (sym (eqb-true to x q)) ∙ free.0)))
         other false q = q
-  free_else F ports (IsAnswered ∷ deeds) has may free = absurd may
   free_else F ports (Drops pid ∷ deeds) has may free = (tt, free_else F ports deeds has may free.1)
   free_else F ports (SetsErrors errors ∷ deeds) has may free = (tt, free_else F ports deeds has may free.1)
-  free_else F ports (Orders order ∷ deeds) has may free = absurd may
-  free_else F ports (Hears ∷ deeds) has may free = absurd may
-  free_else F ports (GoesOn i ∷ deeds) has may free = absurd may
-  free_else F ports (Ends e ∷ deeds) has may free = absurd may
+  free_else F ports (_ ∷ deeds) has may free = absurd may
 
   -- deeds that notify others leave the ages that are read
   pub else_ages : (base : ℕ) (h : ℕ) (deeds : List Deed) (w : Work) → AllByRecursion IsElse deeds → AgesIn base w → AgesIn base (all_done h deeds w)
@@ -308,11 +290,9 @@ module _ (x : ℕ) where
             subst (λ b. Each (AgeIs base b) (done h d w)) (sym same) (else_done (AgeIs base (notified w.entries)) h d w may a)
 
   has_of : (ports : List Port) (n : Notice) → noticed ports x ≡ Some n → has_notice ports x ≡ true
-  has_of ports n q = go (port_at ports x) refl where
-    go : (o : Option Port) → port_at ports x ≡ o → has_notice ports x ≡ true
-    go None z = let none : None ≡ Some n = rw z at q in absurd (cc none)
-    go (Some p) z =
-        let there : p.desk.notice ≡ Some n = rw z at q in rw z (ap (λ (o : Option Notice). is_some o) there)
+  has_of ports n q = by_option (port_at ports x)
+      (λ z. let none : None ≡ Some n = rw z at q in absurd (cc none))
+      (λ p z. let there : p.desk.notice ≡ Some n = rw z at q in rw z (ap (λ (o : Option Notice). is_some o) there))
 
   module _ (t : List Entry) (base k : ℕ) (m : Message) (w : Work) (host : IsHost k) (a : IsOn x t w) (old : AgesIn base w) where
     abbrev deeds : List Deed
@@ -386,7 +366,4 @@ module _ (x : ℕ) where
       sent = ap notified entries ∙ (more_notified w.entries more ∙ (ap (λ c. notified w.entries || c) (go (notified more) refl) ∙ or_true (notified w.entries)))
 
     pub handled_ages : IsOn x t after → AgesIn base after
-    handled_ages b = go (noticed w.ports x) refl where
-      go : (o : Option Notice) → noticed w.ports x ≡ o → AgesIn base after
-      go None q = none_ages b q
-      go (Some n) q = some_ages n q
+    handled_ages b = by_option (noticed w.ports x) (λ q. none_ages b q) (λ n q. some_ages n q)

@@ -10,9 +10,9 @@ use Rattle.trace_model.specs.declared.entry.Entry.{Entry}
 use Rattle.trace_model.specs.declared.entry.Entry.TheVariants as entry
 use Rattle.trace_model.specs.declared.line.End.{End}
 use Rattle.link_laws.specs.machine.Machine.{LinkInput}
-use Rattle.link_laws.specs.messages.Links.{Link, Loss, Comes, NumberedEnd, exchanged}
+use Rattle.link_laws.specs.messages.Links.{Loss, Comes, NumberedEnd, exchanged}
 use Rattle.link_laws.specs.messages.Links.Comes.{NextFrame, AsksReset, Starts, NoInput}
-use Rattle.link_laws.specs.messages.Links.Loss.{OnDemand, Broken, Unread, TooOld, TooMany}
+use Rattle.link_laws.specs.messages.Links.Loss.{Broken}
 use Rattle.link_laws.specs.entries.Entries.{first_lost}
 use Rattle.link_laws.specs.entries.Entries.End.{Controller, Host}
 use Rattle.history.specs.Steps.{entries_for}
@@ -20,12 +20,12 @@ use Rattle.node_machine.specs.Parts.{Desk, Notice, Running, Port, Work, Deed}
 use Rattle.node_machine.specs.Carrying.{changed_if}
 use Rattle.node_machine.specs.Node.{NodeInput, steps, begins_with, new_desk, with_error}
 use Rattle.node_machine.specs.Node.NodeInput.{AtEnd, TimePasses}
-use Rattle.node_machine.specs.world.World.{NodeWorld, Site, Happening, site_at, link_to, near_end_in, arrival, wires_for}
+use Rattle.node_machine.specs.world.World.{NodeWorld, Site, Happening, link_to, near_end_in, arrival, wires_for}
 use Rattle.node_machine.specs.world.World.{work_of, frames_noted, comes_to, runs_on, counts}
-use Rattle.node_machine.specs.world.World.{controller_does, controller_work, host_work, host_does, comes_at, end_c, end_h}
+use Rattle.node_machine.specs.world.World.{controller_does, controller_work, host_does, comes_at, end_c, end_h}
 use Rattle.node_machine.specs.world.World.{all_aged, controller_ticks, hosts_tick, world_ticks}
-use Rattle.node_machine.specs.world.World.{input_of, world_step, activates, sending, beginning, frame_lost, boots, node_at}
-use Rattle.node_machine.specs.world.World.{loses_power_at, with_memory, controller_cut, memory_at}
+use Rattle.node_machine.specs.world.World.{input_of, world_step, activates, sending, beginning, frame_lost, boots}
+use Rattle.node_machine.specs.world.World.{loses_power_at, with_memory, memory_at}
 use Rattle.node_machine.specs.world.World.Happening.{Boots, IsCut, Gives, Inits, Takes, Loses, Ticks, Resets, Activates, Arms}
 use Rattle.node_machine.specs.world.Lines.{Occurrence}
 use Rattle.node_machine.specs.world.NodeHistories.{entries_in}
@@ -35,6 +35,7 @@ use Rattle.node_laws.specs.kept.Hosts.{AreDifferent}
 use Rattle.node_laws.specs.links.Notices.{IsOutside}
 use Rattle.node_laws.specs.readings.Noticed.{IfNoticedUp}
 use Rattle.node_laws.specs.readings.Orders.{IsFresh}
+use Rattle.node_laws.proofs.Cases.{by_test}
 use Rattle.node_laws.proofs.readings.Sites.{near_end_side, comes_outside, lost_quiet}
 use Rattle.node_laws.specs.telling.Telling.{HasEnds, IfItRuns, hosts_in}
 use Rattle.node_laws.proofs.telling.Lasting.{occurs}
@@ -104,17 +105,14 @@ module _ (t : List Entry) (w : NodeWorld) (r : Running) (has : HasEnds 0 (hosts_
       by TimePasses out = came_tick x t begun (on x) apart fresh shut
 
     pub step_aged : AreAged (λ x. grown x input (age x)) (steps input begun).entries (runs_on (steps input begun))
-    step_aged = go (steps input begun).cut refl where
-      v : Work
-      v = steps input begun
-
-      go : (b : Bool) → v.cut ≡ b → AreAged (λ x. grown x input (age x)) v.entries (runs_on v)
-      go true z = let off : runs_on v ≡ None = rw z refl in subst (AreAged (λ x. grown x input (age x)) v.entries) (sym off) tt
-      go false z =
-          let is : runs_on v ≡ Some (record { core = v.core; desks = map (λ (p : Port). p.desk) v.ports }) = rw z refl in
-          subst (AreAged (λ x. grown x input (age x)) v.entries) (sym is)
-          (λ x n q. step_ages x t input begun (on x) (come x) (age x) (far_notifies x es quiet)
-          (λ m y. ages x m (sym (noticed_ports near_ends r.desks x) ∙ y)) z n (noticed_desks v.ports x ∙ q))
+    step_aged = by_test (steps input begun).cut
+        (λ z. let off : runs_on v ≡ None = rw z refl in subst (AreAged (λ x. grown x input (age x)) v.entries) (sym off) tt)
+        (λ z. let is : runs_on v ≡ Some (record { core = v.core; desks = map (λ (p : Port). p.desk) v.ports }) = rw z refl in
+        subst (AreAged (λ x. grown x input (age x)) v.entries) (sym is)
+        (λ x n q. step_ages x t input begun (on x) (come x) (age x) (far_notifies x es quiet)
+        (λ m y. ages x m (sym (noticed_ports near_ends r.desks x) ∙ y)) z n (noticed_desks v.ports x ∙ q))) where
+          v : Work
+          v = steps input begun
 
 -- ## Worlds
 
@@ -216,10 +214,7 @@ module _ (age : ℕ → ℕ) where
   counts_old : (why : Loss) (h : ℕ) (o : Option Running) → AreOld age o → AreOld age (counts why h o)
   counts_old (Broken fault) h None a = tt
   counts_old (Broken fault) h (Some r) a = λ x n q. a x n (sym (counted h r.desks x) ∙ q)
-  counts_old OnDemand h o a = a
-  counts_old Unread h o a = a
-  counts_old TooOld h o a = a
-  counts_old TooMany h o a = a
+  counts_old _ h o a = a
 
   lost_aged : (w : NodeWorld) → AreOld age w.controller → (e : End) (why : Loss) → AreAged age (frame_lost w e why).1 (frame_lost w e why).0.controller
   lost_aged w old e why =

@@ -60,8 +60,7 @@ tick_asked s = go s.phase refl where
 
   waits : (z : Timed) → timed s ≡ z → s.phase ≡ IsWaitingNow → asked (tick_answer s).ended ≡ false
   waits Runs z q = rw (q, z) refl
-  waits Over z q = rw (q, z) refl
-  waits Spent z q = rw (q, z) refl
+  waits _ z q = rw (q, z) refl
 
   go : (p : LinkState) → s.phase ≡ p → asked (tick_answer s).ended ≡ false
   go IsUpNow q = up (timed s) refl q
@@ -105,16 +104,14 @@ pub reset_asked : (s : LinkEnd) (window : Option ℕ) → reset_refusal s ≡ No
 reset_asked s window free = ap (λ o. asked (ended_by_reset s o)) free ∙ go s.shdlc.phase refl where
   go : (p : LinkState) → s.shdlc.phase ≡ p → asked (if_up s.shdlc Asked) ≡ is_up s.shdlc.phase
   go IsUpNow q = rw q refl
-  go IsWaitingNow q = rw q refl
-  go IsDown q = rw q refl
+  go _ q = rw q refl
 
 -- a reset ends it for no other cause
 pub reset_only : (s : LinkEnd) (window : Option ℕ) → asked (ended_by s (Reset window)) ≡ is_some (ended_by s (Reset window))
 reset_only s window = go (reset_refusal s) where
   by : (p : LinkState) → s.shdlc.phase ≡ p → asked (if_up s.shdlc Asked) ≡ is_some (if_up s.shdlc Asked)
   by IsUpNow q = rw q refl
-  by IsWaitingNow q = rw q refl
-  by IsDown q = rw q refl
+  by _ q = rw q refl
 
   go : (o : Option Refused) → asked (ended_by_reset s o) ≡ is_some (ended_by_reset s o)
   go None = by s.shdlc.phase refl
@@ -124,8 +121,7 @@ pub reset_other : (s : LinkEnd) (window : Option ℕ) → option_map_or otherwis
 reset_other s window = go (reset_refusal s) where
   by : (p : LinkState) → s.shdlc.phase ≡ p → option_map_or otherwise (if_up s.shdlc Asked) false ≡ false
   by IsUpNow q = rw q refl
-  by IsWaitingNow q = rw q refl
-  by IsDown q = rw q refl
+  by _ q = rw q refl
 
   go : (o : Option Refused) → option_map_or otherwise (ended_by_reset s o) false ≡ false
   go None = by s.shdlc.phase refl

@@ -1,5 +1,5 @@
 -- Behind each event of a history all messages at the ends of nodes that run have had their turns, or all before one that is held.
-use Rattle.std.proofs.Common.{◌≡◌, ℕ, Bool, true, false, List, [], ◌∷◌, ◌++◌, refl, sym, ap, subst, ◌∙◌, append_assoc, append-nil}
+use Rattle.std.proofs.Common.{◌≡◌, ℕ, true, false, List, [], ◌∷◌, ◌++◌, refl, sym, ap, subst, ◌∙◌, append_assoc, append-nil}
 use Rattle.std.specs.Prelude.{◌==◌, Some, None}
 use Rattle.std.specs.List.{AllByRecursion, flat_map}
 use Rattle.std.proofs.lemmas.Bool.{true≢false}
@@ -28,6 +28,7 @@ use Rattle.node_machine.specs.world.NodeHistories.{FollowsNodes, NodeHistory, en
 use Rattle.node_machine.proofs.world.Cases.{by_coming, by_controller_tick, by_host_tick, host_tick, near_tick, site_ticked, site_unticked}
 use Rattle.node_laws.specs.kept.Hosts.{AreDifferent, AreHosts}
 use Rattle.node_laws.specs.telling.Telling.{HasEnds, IfItRuns, IsOrderly, MayBoot, hosts_in, world_behind}
+use Rattle.node_laws.proofs.Cases.{by_test}
 use Rattle.node_laws.proofs.kept.Sites.{hosts_same as sites_same}
 use Rattle.node_laws.proofs.telling.Events.{comes_goes, orderly_map, sending_mute}
 use Rattle.node_laws.proofs.telling.Lasting.{AllHold, AnyLine, all_lines, boots_may, events_of_steps, front_holds, lines_hold}
@@ -198,15 +199,13 @@ module _ (t : List Entry) (w : NodeWorld) (reads : WaitsRead t w) (rests : AllAt
       (λ i at q. absurd (true≢false (sym at))) (λ i at q. near_comes t w reads begins h comes i q)
 
   coming_rests : (e : End) (comes : Comes) → AllAtRest (t ++ (comes_at w e comes).1) (comes_at w e comes).0.sites
-  coming_rests e comes = go e.at_host refl where
-    Goal : End → Type 0
-    Goal f = AllAtRest (t ++ (comes_at w f comes).1) (comes_at w f comes).0.sites
-
-    go : (b : Bool) → e.at_host ≡ b → Goal e
-    go true q = let is : end_h e.link ≡ e = ap (λ b. let f : End = record { link = e.link; at_host = b } in f) (sym q) in
-        subst Goal is (far_coming t w o begins e.link comes)
-    go false q = let is : end_c e.link ≡ e = ap (λ b. let f : End = record { link = e.link; at_host = b } in f) (sym q) in
-        subst Goal is (all_rests _ (comes_at w (end_c e.link) comes).0.sites (near_coming e.link comes))
+  coming_rests e comes = by_test e.at_host
+      (λ q. let is : end_h e.link ≡ e = ap (λ b. let f : End = record { link = e.link; at_host = b } in f) (sym q) in
+      subst Goal is (far_coming t w o begins e.link comes))
+      (λ q. let is : end_c e.link ≡ e = ap (λ b. let f : End = record { link = e.link; at_host = b } in f) (sym q) in
+      subst Goal is (all_rests _ (comes_at w (end_c e.link) comes).0.sites (near_coming e.link comes))) where
+        Goal : End → Type 0
+        Goal f = AllAtRest (t ++ (comes_at w f comes).1) (comes_at w f comes).0.sites
 
   pub event_rests : (c : Happening) → AllAtRest (t ++ (world_step w c).1) (world_step w c).0.sites
   event_rests (Boots n) = boot_rests t w o rests n

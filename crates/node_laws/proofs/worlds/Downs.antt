@@ -16,7 +16,7 @@ use Rattle.link_laws.specs.machine.Machine.{Message, Refused, Turn, LinkInput, R
 use Rattle.link_laws.specs.machine.Machine.Turn.{Give, Hold, FetchMessage, SetAside}
 use Rattle.link_laws.specs.messages.Links.{Link, Comes}
 use Rattle.link_laws.specs.entries.Entries.{End as Side, Entry as Noted, sent_unless, told, ending_entries}
-use Rattle.link_laws.specs.entries.Entries.Entry.{Up, Down, Active, GaveUp, Acked, Got, Sent, Emit, Took, Lost, Tick, Restarted, Cut}
+use Rattle.link_laws.specs.entries.Entries.Entry.{Down, Sent, Tick, Restarted, Cut}
 use Rattle.history.specs.Filters.{same_end}
 use Rattle.history.specs.Steps.{end_of, entries_for}
 use Rattle.node_machine.specs.Parts.{Creation, Core, Port, Work, Deed}
@@ -101,19 +101,12 @@ beginning_none identity pipes = ((λ k w. tt), ((λ k w. given_none w.core (1, 3
 
 quiet_none : (h : ℕ) (notes : List Noted) → AllByRecursion IsQuiet notes → AreDownless (entries_for h notes)
 quiet_none h [] all = tt
-quiet_none h (Up who n ∷ notes) all = (refl, quiet_none h notes all.1)
 quiet_none h (Down who cause ∷ notes) all = absurd all.0
-quiet_none h (Active who ∷ notes) all = (refl, quiet_none h notes all.1)
-quiet_none h (GaveUp who tries ∷ notes) all = (refl, quiet_none h notes all.1)
-quiet_none h (Acked who n count ∷ notes) all = (refl, quiet_none h notes all.1)
-quiet_none h (Got who n m ∷ notes) all = (refl, quiet_none h notes all.1)
 quiet_none h (Sent who n m ∷ notes) all = absurd all.0
-quiet_none h (Emit who frame ∷ notes) all = (refl, quiet_none h notes all.1)
-quiet_none h (Took who frame ∷ notes) all = (refl, quiet_none h notes all.1)
-quiet_none h (Lost who frame why ∷ notes) all = (refl, quiet_none h notes all.1)
 quiet_none h (Tick ∷ notes) all = quiet_none h notes all.1
 quiet_none h (Restarted who ∷ notes) all = quiet_none h notes all.1
 quiet_none h (Cut who ∷ notes) all = quiet_none h notes all.1
+quiet_none h (_ ∷ notes) all = (refl, quiet_none h notes all.1)
 
 pub notes_downless : (h : ℕ) (notes : List Noted) → AllByRecursion IsQuiet notes → AreDownless (entries_for h notes)
 notes_downless = quiet_none

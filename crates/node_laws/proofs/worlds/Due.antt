@@ -35,6 +35,7 @@ use Rattle.node_machine.specs.world.NodeFilters.{session_now}
 use Rattle.node_laws.specs.kept.Hosts.{AreHosts, IsFew, IsSentByHost}
 use Rattle.node_laws.specs.kept.Reckonings.{is_cut_of}
 use Rattle.node_laws.specs.telling.Telling.{HasEnds, IsOrderly, world_behind}
+use Rattle.node_laws.proofs.Cases.{by_option, by_test}
 use Rattle.node_laws.proofs.kept.Lines.{first_none, off_none}
 use Rattle.node_laws.proofs.telling.Lasting.{AllMay, AreCaused, damaged_may, events_of_steps, lines_caused, repeated_may}
 use Rattle.node_laws.proofs.telling.Nodes.{Stands, link_is, site_host, stands}
@@ -196,20 +197,15 @@ line_starts : (w : NodeWorld) (l : Line) → IsPlain l → refusal_in w l ≡ No
 line_starts w (line.Send e pid message) plain none =
     (start_at w e (pid, message) plain.0 (first_none (if_off w (node_of e)) (if_not_sent w e (pid, message)) none) none, tt)
 line_starts w (line.Deliver e count) plain none = repeated_may MayStart (Takes e) (λ v. tt) (taken_of count (frames_at w e)) w
-line_starts w (line.Lose e) plain none = (tt, tt)
 line_starts w (line.Damage e places) plain none = damaged_may MayStart w e tt (λ why. tt) (first_verdict (frames_at w e) places.items)
 line_starts w (line.Tick times) plain none = repeated_may MayStart Ticks (λ v. tt) (unwrap_or times 1) w
-line_starts w (line.Reset e window) plain none = (tt, tt)
 line_starts w (line.Busy e) plain none = tt
 line_starts w (line.Ready e) plain none = tt
-line_starts w (line.Boot n) plain none = (tt, tt)
-line_starts w (line.Cut n) plain none = (tt, tt)
-line_starts w (line.Activate host sync power) plain none = (tt, tt)
-line_starts w (line.Arm n nth fill) plain none = (tt, tt)
 line_starts w (line.Init e identity pipes) plain none =
     (start_at w e (1, 3 ∷ []) plain.1 (first_none (if_off w (node_of e)) (if_not_sent w e (1, 3 ∷ [])) none) none, tt)
 line_starts w (line.Tables n) plain none = tt
 line_starts w (line.Settle rounds) plain none = tt
+line_starts w _ plain none = (tt, tt)
 
 both_plain : (lines : List Line) → AllByRecursion IsSentByHost lines → AllByRecursion IsBegunByHost lines → AllByRecursion IsPlain lines
 both_plain [] sent begun = tt
@@ -219,10 +215,9 @@ both_plain (l ∷ lines) sent begun = ((sent.0, begun.0), both_plain lines sent.
 
 site_of : (w : NodeWorld) (k : ℕ) (r : Running) → (k == 0) ≡ false → node_at w k ≡ Some r
     → (s : Site) × (site_at w.sites k ≡ Some s) × (s.node ≡ Some r)
-site_of w k r off runs = go (site_at w.sites k) refl where
-  go : (o : Option Site) → site_at w.sites k ≡ o → (s : Site) × (site_at w.sites k ≡ Some s) × (s.node ≡ Some r)
-  go None q = let none : node_at w k ≡ None = rw (off, q) refl in let no : None ≡ Some r = sym none ∙ runs in absurd (cc no)
-  go (Some s) q = (s, q, sym (present w k off s q) ∙ runs)
+site_of w k r off runs = by_option (site_at w.sites k)
+    (λ q. let none : node_at w k ≡ None = rw (off, q) refl in let no : None ≡ Some r = sym none ∙ runs in absurd (cc no))
+    (λ s q. (s, q, sym (present w k off s q) ∙ runs))
 
 begins_noted : (w : NodeWorld) (k : ℕ) (s : Site) (r : Running) (deeds : List Deed) → site_at w.sites k ≡ Some s → s.node ≡ Some r
     → (host_does w k NoInput (begins_with k deeds)).1
@@ -311,19 +306,16 @@ module _ (t : List Entry) (w : NodeWorld) (a : IsOrderly w) (sites : AreHostSite
 
   inits_due : (e : End) (identity : List ℕ) (pipes : List (List ℕ)) → MayStartAt w e (1, 3 ∷ [])
       → IsDue (world_step w (Inits e identity pipes)).1 (begun_at n (Inits e identity pipes))
-  inits_due e identity pipes may = go (node_of e == n) refl where
-    Goal : Bool → Type 0
-    Goal b = IsDue (Begins (λ k. beginning identity pipes) e.link) (cond b (beginning identity pipes) [])
+  inits_due e identity pipes may = by_test (node_of e == n)
+      (λ q. subst Goal (sym q)
+      (own_due e (1, 3 ∷ []) may (sym same ∙ q) (λ k. beginning identity pipes) (λ s r taken. (tt, (taken, tt))) (λ s r. tt) (λ s r. refl)
+      (λ h node named count. refl)))
+      (λ q. subst Goal (sym q) (other_due e (sym same ∙ q) (beginning identity pipes) (tt, (tt, tt)))) where
+        Goal : Bool → Type 0
+        Goal b = IsDue (Begins (λ k. beginning identity pipes) e.link) (cond b (beginning identity pipes) [])
 
-    same : (node_of e == n) ≡ (e.link == n)
-    same = ap (λ k. k == n) (node_is_link e may.side)
-
-    go : (b : Bool) → (node_of e == n) ≡ b → IsDue (world_step w (Inits e identity pipes)).1 (begun_at n (Inits e identity pipes))
-    go false q = subst Goal (sym q) (other_due e (sym same ∙ q) (beginning identity pipes) (tt, (tt, tt)))
-    go true q =
-        subst Goal (sym q)
-        (own_due e (1, 3 ∷ []) may (sym same ∙ q) (λ k. beginning identity pipes) (λ s r taken. (tt, (taken, tt))) (λ s r. tt) (λ s r. refl)
-        (λ h node named count. refl))
+        same : (node_of e == n) ≡ (e.link == n)
+        same = ap (λ k. k == n) (node_is_link e may.side)
 
   pub event_due : (c : Happening) → MayStart w c → IsDue (world_step w c).1 (begun_at n c)
   event_due (Boots k) may = late_due n (world_step w (Boots k)).1 (boots_late n off w k)

@@ -16,7 +16,7 @@ use Rattle.link_laws.specs.messages.Links.Comes.{NoInput}
 use Rattle.link_laws.specs.messages.Links.Ending.{CutOff}
 use Rattle.link_laws.specs.messages.Links.EndEvent.{Step}
 use Rattle.link_laws.specs.messages.Links.LinkEvent.{AtController}
-use Rattle.link_laws.specs.messages.Links.Loss.{OnDemand, Broken, Unread, TooOld, TooMany}
+use Rattle.link_laws.specs.messages.Links.Loss.{Broken}
 use Rattle.link_laws.specs.entries.Entries.{Entry as Noted, first_lost}
 use Rattle.link_laws.specs.entries.Entries.End.{Controller, Host}
 use Rattle.link_laws.proofs.entries.Lasting.{same_number}
@@ -36,6 +36,7 @@ use Rattle.node_machine.proofs.world.Cases.{by_controller, by_host, by_coming, b
 use Rattle.node_machine.proofs.world.Cases.{by_memory, by_running, boot_found, boot_written, site_lost}
 use Rattle.node_laws.specs.kept.Hosts.{AreDifferent}
 use Rattle.node_laws.specs.telling.Telling.{HasEnds, IsOrderly, hosts_in}
+use Rattle.node_laws.proofs.Cases.{by_test}
 use Rattle.node_laws.proofs.telling.Mute.{AreMute}
 use Rattle.node_laws.proofs.telling.Nodes.{link_is, site_host}
 use Rattle.node_laws.proofs.telling.Powers.{entries_uncut}
@@ -80,10 +81,7 @@ abbrev pub AllAtRest : List Entry → List Site → Type 0
 AllAtRest t sites = AllByRecursion (SiteRests t) sites
 
 pub same_sym : (a b : ℕ) → eqb a b ≡ false → eqb b a ≡ false
-same_sym a b off = by (eqb b a) refl where
-  by : (c : Bool) → eqb b a ≡ c → eqb b a ≡ false
-  by true q = absurd (true≢false (sym (subst (λ n. eqb a n ≡ true) (sym (eqb-true b a q)) (same_number a)) ∙ off))
-  by false q = q
+same_sym a b off = by_test (eqb b a) (λ q. absurd (true≢false (sym (subst (λ n. eqb a n ≡ true) (sym (eqb-true b a q)) (same_number a)) ∙ off))) (λ q. q)
 
 -- each site of a world with different hosts is the one with its number
 each_there : (sites : List Site) → AreDifferent (hosts_in sites) → AllByRecursion (λ (s : Site). site_at sites s.host ≡ Some s) sites
@@ -207,14 +205,12 @@ module _ (t : List Entry) (w : NodeWorld) (reads : WaitsRead t w) (before : AllW
 -- ## Steps of hosts
 
 kept : (v : Work) (k : ℕ) (x : Running) → runs_on v ≡ Some x → is_held_at v.ports k ≡ is_held_among x.desks k
-kept v k x q = by v.cut refl where
-  by : (b : Bool) → v.cut ≡ b → is_held_at v.ports k ≡ is_held_among x.desks k
-  by true lost = let off : runs_on v ≡ None = rw lost refl in let no : None ≡ Some x = sym off ∙ q in absurd (cc no)
-  by false on =
-      let on_is : runs_on v ≡ Some (record { core = v.core; desks = map (λ (p : Port). p.desk) v.ports }) = rw on refl in
-      let all : Some x ≡ Some (record { core = v.core; desks = map (λ (p : Port). p.desk) v.ports }) = sym q ∙ on_is in
-      let is : x ≡ record { core = v.core; desks = map (λ (p : Port). p.desk) v.ports } = cc in
-      sym (desks_held v.ports k) ∙ ap (λ (y : Running). is_held_among y.desks k) (sym is)
+kept v k x q = by_test v.cut
+    (λ lost. let off : runs_on v ≡ None = rw lost refl in let no : None ≡ Some x = sym off ∙ q in absurd (cc no))
+    (λ on. let on_is : runs_on v ≡ Some (record { core = v.core; desks = map (λ (p : Port). p.desk) v.ports }) = rw on refl in
+    let all : Some x ≡ Some (record { core = v.core; desks = map (λ (p : Port). p.desk) v.ports }) = sym q ∙ on_is in
+    let is : x ≡ record { core = v.core; desks = map (λ (p : Port). p.desk) v.ports } = cc in
+    sym (desks_held v.ports k) ∙ ap (λ (y : Running). is_held_among y.desks k) (sym is))
 
 module _ (t : List Entry) (w : NodeWorld) (a : IsOrderly w) (before : AllWaiting t w.sites) where
   -- what tells of one host alone leaves the other ones
@@ -449,15 +445,12 @@ module _ (t : List Entry) (w : NodeWorld) (o : IsOrderly w) (a : AllAtRest t w.s
 
   counted : (why : Loss) (h k : ℕ) (node : Option Running) (r : Running) → counts why h node ≡ Some r
       → (x : Running) × (node ≡ Some x) × (is_held_among x.desks k ≡ is_held_among r.desks k)
-  counted OnDemand h k node r q = (r, q, refl)
-  counted Unread h k node r q = (r, q, refl)
-  counted TooOld h k node r q = (r, q, refl)
-  counted TooMany h k node r q = (r, q, refl)
   counted (Broken fault) h k None r q = absurd (cc q)
   counted (Broken fault) h k (Some x) r q =
       let all : Some (record x { desks = with_error h x.desks }) ≡ Some r = q in
       let is : record x { desks = with_error h x.desks } ≡ r = cc in
       (x, refl, sym (error_held h x.desks k) ∙ ap (λ (y : Running). is_held_among y.desks k) is)
+  counted _ h k node r q = (r, q, refl)
 
   pub lost_rests : (e : End) (why : Loss) → AllAtRest (t ++ (frame_lost w e why).1) (frame_lost w e why).0.sites
   lost_rests e why =

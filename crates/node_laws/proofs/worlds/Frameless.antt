@@ -16,12 +16,12 @@ use Rattle.link_laws.specs.machine.Machine.{Message, Refused, Turn, LinkInput, L
 use Rattle.link_laws.specs.machine.Machine.LinkInput.{Reset}
 use Rattle.link_laws.specs.machine.Machine.Turn.{Give, Hold, FetchMessage, SetAside}
 use Rattle.link_laws.specs.messages.Links.{Link, Ending, Comes, Loss, put}
-use Rattle.link_laws.specs.messages.Links.Comes.{NextFrame, AsksReset, Starts, Stops, NoInput}
+use Rattle.link_laws.specs.messages.Links.Comes.{NextFrame}
 use Rattle.link_laws.specs.messages.Links.Ending.{GoesOut, CutOff}
 use Rattle.link_laws.specs.messages.Links.Loss.{TooOld, TooMany}
 use Rattle.link_laws.specs.entries.Entries.{End as Side, Entry as Noted, if_so, sent_unless, told, far, first_lost, pushed_out, wire_with, put_entries}
 use Rattle.link_laws.specs.entries.Entries.{puts_entries, ending_entries, aged_entries}
-use Rattle.link_laws.specs.entries.Entries.Entry.{Up, Down, Active, GaveUp, Acked, Got, Sent, Emit, Took, Lost, Tick, Restarted, Cut}
+use Rattle.link_laws.specs.entries.Entries.Entry.{Up, Down, Active, GaveUp, Acked, Got, Emit, Took, Lost, Tick, Restarted, Cut}
 use Rattle.history.specs.Steps.{entries_for}
 use Rattle.node_machine.specs.Parts.{Creation, Core, Port, Work, Deed}
 use Rattle.node_machine.specs.Parts.Deed.{Commits, Asks, Tells, Sends, Orders}
@@ -126,19 +126,11 @@ AreStaying notes = AllByRecursion IsStaying notes
 
 notes_inside : (h : ℕ) (notes : List Noted) → AreStaying notes → AreInside (entries_for h notes)
 notes_inside h [] all = tt
-notes_inside h (Up who n ∷ notes) all = (refl, notes_inside h notes all.1)
-notes_inside h (Down who cause ∷ notes) all = (refl, notes_inside h notes all.1)
-notes_inside h (Active who ∷ notes) all = (refl, notes_inside h notes all.1)
-notes_inside h (GaveUp who tries ∷ notes) all = (refl, notes_inside h notes all.1)
-notes_inside h (Acked who n count ∷ notes) all = (refl, notes_inside h notes all.1)
-notes_inside h (Got who n m ∷ notes) all = (refl, notes_inside h notes all.1)
-notes_inside h (Sent who n m ∷ notes) all = (refl, notes_inside h notes all.1)
 notes_inside h (Emit who frame ∷ notes) all = absurd all.0
-notes_inside h (Took who frame ∷ notes) all = (refl, notes_inside h notes all.1)
-notes_inside h (Lost who frame why ∷ notes) all = (refl, notes_inside h notes all.1)
 notes_inside h (Tick ∷ notes) all = notes_inside h notes all.1
 notes_inside h (Restarted who ∷ notes) all = notes_inside h notes all.1
 notes_inside h (Cut who ∷ notes) all = notes_inside h notes all.1
+notes_inside h (_ ∷ notes) all = (refl, notes_inside h notes all.1)
 
 so_stays : (b : Bool) (x : Noted) → IsStaying x → AreStaying (if_so b x)
 so_stays true x a = (a, tt)
@@ -177,10 +169,7 @@ arrival_stays who l NextFrame = go l.to_controller where
   go : (xs : List OnWire) → AreStaying (first xs)
   go [] = tt
   go (x ∷ xs) = (tt, tt)
-arrival_stays who l (AsksReset window) = tt
-arrival_stays who l (Starts value) = tt
-arrival_stays who l Stops = tt
-arrival_stays who l NoInput = tt
+arrival_stays who l _ = tt
 
 pub arrival_inside : (who : Side) (h : ℕ) (l : Link) (comes : Comes) → AreInside (entries_for h (arrival who l comes))
 arrival_inside who h l comes = notes_inside h (arrival who l comes) (arrival_stays who l comes)

@@ -28,6 +28,7 @@ use Rattle.node_machine.specs.world.NodeHistories.{LineStep, NodeHistory, Follow
 use Rattle.node_machine.proofs.world.Cases.{by_controller, by_host, by_coming, by_boot, by_loss, near_tick, by_controller_tick, host_tick, by_host_tick}
 use Rattle.node_laws.specs.kept.Hosts.{AreDifferent}
 use Rattle.node_laws.specs.telling.Telling.{hosts_in, IsOrderly}
+use Rattle.node_laws.proofs.Cases.{by_test}
 use Rattle.node_laws.proofs.telling.Lasting.{Any, AnyLine, all_any, all_lines, AreCaused, lines_caused}
 use Rattle.node_laws.proofs.telling.Orderly.{step_orderly, new_orderly}
 use Rattle.node_laws.proofs.telling.Events.{orderly_map, comes_goes}
@@ -99,30 +100,26 @@ boots_framed w n = by_boot (λ p. IsFramed p.1) w n (only_front _ (refl, tt)) (o
 -- ## Activation
 
 activates_framed : (n : ℕ) (w : NodeWorld) → IsOrderly w → (h sync power : ℕ) → IsFramedFor n (activates w h sync power).1
-activates_framed n w a h sync power = go (0 == n) refl where
-  near : NodeWorld × List Entry
-  near = comes_at w (end_c h) (Starts power)
+activates_framed n w a h sync power = by_test (0 == n)
+    (λ q. others_behind n near.1 far.1 (framed_for n near.1 (comes_framed w (end_c h) (Starts power)))
+    (subst (λ m. AreNotOf m far.1) (eqb-true 0 n q) (zero_far (h == 0) refl)))
+    (λ q. others_before n far.1 near.1 (own_not 0 n near.1 q (part_own 0 near.1 (comes_part w (end_c h) (Starts power) a)))
+    (framed_for n far.1 (comes_framed near.0 (end_h h) (Starts sync)))) where
+      near : NodeWorld × List Entry
+      near = comes_at w (end_c h) (Starts power)
 
-  far : NodeWorld × List Entry
-  far = comes_at near.0 (end_h h) (Starts sync)
+      far : NodeWorld × List Entry
+      far = comes_at near.0 (end_h h) (Starts sync)
 
-  b : IsOrderly near.0
-  b = (comes_goes w (end_c h) (Starts power) a).orderly
+      b : IsOrderly near.0
+      b = (comes_goes w (end_c h) (Starts power) a).orderly
 
-  zero_far : (c : Bool) → (h == 0) ≡ c → AreNotOf 0 far.1
-  zero_far false q = own_not h 0 far.1 q (part_own h far.1 (comes_part near.0 (end_h h) (Starts sync) b))
-  zero_far true q =
-      let none : site_at near.0.sites h ≡ None = no_site near.0.sites h q b.hosts in
-      let is : far.1 ≡ [] = rw none refl in
-      subst (AreNotOf 0) (sym is) tt
-
-  go : (c : Bool) → (0 == n) ≡ c → IsFramedFor n (near.1 ++ far.1)
-  go false q =
-      others_before n far.1 near.1 (own_not 0 n near.1 q (part_own 0 near.1 (comes_part w (end_c h) (Starts power) a)))
-      (framed_for n far.1 (comes_framed near.0 (end_h h) (Starts sync)))
-  go true q =
-      others_behind n near.1 far.1 (framed_for n near.1 (comes_framed w (end_c h) (Starts power)))
-      (subst (λ m. AreNotOf m far.1) (eqb-true 0 n q) (zero_far (h == 0) refl))
+      zero_far : (c : Bool) → (h == 0) ≡ c → AreNotOf 0 far.1
+      zero_far false q = own_not h 0 far.1 q (part_own h far.1 (comes_part near.0 (end_h h) (Starts sync) b))
+      zero_far true q =
+          let none : site_at near.0.sites h ≡ None = no_site near.0.sites h q b.hosts in
+          let is : far.1 ≡ [] = rw none refl in
+          subst (AreNotOf 0) (sym is) tt
 
 -- ## Ticks
 

@@ -2,7 +2,7 @@
 use Rattle.std.proofs.Common.{◌≡◌, inl, inr, ℕ, ◌≤◌, Bool, true, false, cond, List, [], ◌∷◌, ◌++◌, map, Option, Some, None, refl}
 use Rattle.std.proofs.Common.{sym, ap, ap₂, subst, ◌∙◌, ◌||◌, ◌&&◌, eqb, arith}
 use Rattle.std.specs.Prelude.{◌+◌, not, nat_le, option_to_list}
-use Rattle.std.specs.List.{AllByRecursion, flat_map, list_any}
+use Rattle.std.specs.List.{flat_map}
 use Rattle.std.specs.Option.{option_map, option_map_or, option_and_then}
 use Rattle.std.proofs.lemmas.Bool.{true≢false, eq-eqb}
 use Rattle.swp_base.specs.declared.link_terms.Cause.{Cause as EndedBy}
@@ -21,10 +21,11 @@ use Rattle.node_machine.specs.Carrying.{own_side, port_at, noted_of, noting, tur
 use Rattle.node_machine.specs.Turns.{deeds_of, handles, holds_back, passes}
 use Rattle.node_machine.specs.Node.{NodeInput, input_at, told_at, has_come, all_come, with_older, reset_late, is_late}
 use Rattle.node_machine.specs.Node.{told_late, is_over, is_forgotten, forgets, forgotten}
-use Rattle.node_machine.specs.Node.{without_notice, after_sessions, synced, all_owed, steps}
+use Rattle.node_machine.specs.Node.{without_notice, after_sessions, synced, steps}
 use Rattle.node_machine.specs.Node.NodeInput.{AtEnd, TimePasses}
 use Rattle.node_laws.specs.kept.Books.{hosts_of_ends}
 use Rattle.node_machine.proofs.Walks.{all_owed_hold, all_synced_hold, forgotten_hold}
+use Rattle.node_laws.proofs.Cases.{by_option, by_test}
 use Rattle.node_laws.proofs.steps.Ports.{at_port}
 use Rattle.node_laws.proofs.steps.StepWalks.{holds, lets, unless}
 use Rattle.node_laws.proofs.links.Noticing.{at_all, at_host}
@@ -74,10 +75,9 @@ module _ (x : ℕ) (t : List Entry) (base : ℕ) where
       refl refl refl a) h short w a
 
   waiting_host : (ports : List Port) (h : ℕ) (m : Message) (messages : List Message) → AreHostEnds ports → waiting_at ports h ≡ m ∷ messages → IsHost h
-  waiting_host ports h m messages hosts q = go (port_at ports h) refl where
-    go : (o : Option Port) → port_at ports h ≡ o → IsHost h
-    go None z = let none : [] ≡ m ∷ messages = rw z at q in absurd (cc none)
-    go (Some p) z = subst IsHost (at_host ports h p z) (at_port (λ (u : Port). IsHost u.desk.host) ports h p hosts z)
+  waiting_host ports h m messages hosts q = by_option (port_at ports h)
+      (λ z. let none : [] ≡ m ∷ messages = rw z at q in absurd (cc none))
+      (λ p z. subst IsHost (at_host ports h p z) (at_port (λ (u : Port). IsHost u.desk.host) ports h p hosts z))
 
   on_of : (v : Work) → Stands x t v → v.cut ≡ false → IsOn x t v
   on_of v (inl a) on = a
@@ -148,28 +148,23 @@ module _ (x : ℕ) where
     off : is_over q ≡ false
 
   stayed : (ports : List Port) (q : Port) (n : Notice) → (without_notice (forgets ports q)).desk.notice ≡ Some n → Stayed q n
-  stayed ports q n is = go (is_forgotten ports (asked_at q)) refl where
-    over : (r : Port) → (without_notice r).desk.notice ≡ Some n → (is_over r ≡ false) × (r.desk.notice ≡ Some n)
-    over r z = by (is_over r) refl where
-      by : (b : Bool) → is_over r ≡ b → (is_over r ≡ false) × (r.desk.notice ≡ Some n)
-      by true y = let none : None ≡ Some n = rw y at z in absurd (cc none)
-      by false y = (y, rw y at z)
+  stayed ports q n is = by_test (is_forgotten ports (asked_at q))
+      (λ z. by_notice (rw z at parts.0) q.desk.notice refl (rw z at parts.1))
+      (λ z. record { was = n; here = rw z at parts.1; age = refl; off = rw z at parts.0 }) where
+        over : (r : Port) → (without_notice r).desk.notice ≡ Some n → (is_over r ≡ false) × (r.desk.notice ≡ Some n)
+        over r z = by_test (is_over r) (λ y. let none : None ≡ Some n = rw y at z in absurd (cc none)) (λ y. (y, rw y at z))
 
-    parts : (is_over (forgets ports q) ≡ false) × ((forgets ports q).desk.notice ≡ Some n)
-    parts = over (forgets ports q) is
+        parts : (is_over (forgets ports q) ≡ false) × ((forgets ports q).desk.notice ≡ Some n)
+        parts = over (forgets ports q) is
 
-    forgot : Option Notice → Option Notice
-    forgot o = option_map_or (λ (n : Notice). Some (record n { about = Rattle.node_machine.specs.Parts.About.Forgotten })) o None
+        forgot : Option Notice → Option Notice
+        forgot o = option_map_or (λ (n : Notice). Some (record n { about = Rattle.node_machine.specs.Parts.About.Forgotten })) o None
 
-    by_notice : is_over q ≡ false → (o : Option Notice) → q.desk.notice ≡ o → forgot o ≡ Some n → Stayed q n
-    by_notice off None z y = absurd (cc y)
-    by_notice off (Some m) z y =
-        let same : record m { about = Rattle.node_machine.specs.Parts.About.Forgotten } ≡ n = cc in
-        record { was = m; here = z; age = sym (ap (λ (k : Notice). k.age) same); off = off }
-
-    go : (b : Bool) → is_forgotten ports (asked_at q) ≡ b → Stayed q n
-    go true z = by_notice (rw z at parts.0) q.desk.notice refl (rw z at parts.1)
-    go false z = record { was = n; here = rw z at parts.1; age = refl; off = rw z at parts.0 }
+        by_notice : is_over q ≡ false → (o : Option Notice) → q.desk.notice ≡ o → forgot o ≡ Some n → Stayed q n
+        by_notice off None z y = absurd (cc y)
+        by_notice off (Some m) z y =
+            let same : record m { about = Rattle.node_machine.specs.Parts.About.Forgotten } ≡ n = cc in
+            record { was = m; here = z; age = sym (ap (λ (k : Notice). k.age) same); off = off }
 
   -- how old it was, and is as the turns begin
   abbrev pub grown : NodeInput → ℕ → ℕ
@@ -186,10 +181,7 @@ module _ (x : ℕ) where
   come_host p (Some i) = refl
 
   reset_desk : (p : Port) → (reset_late p).desk ≡ p.desk
-  reset_desk p = go (is_late p) refl where
-    go : (b : Bool) → is_late p ≡ b → (reset_late p).desk ≡ p.desk
-    go true z = rw z refl
-    go false z = rw z refl
+  reset_desk p = by_test (is_late p) (λ z. rw z refl) (λ z. rw z refl)
 
   came_is : (input : NodeInput) (w : Work) → port_at (has_come_so input w).ports x ≡ option_map (came input) (port_at w.ports x)
   came_is (AtEnd h i) w = at_all w.ports x (λ p. has_come p (input_at (AtEnd h i) p)) (λ q. ap (λ
@@ -224,17 +216,13 @@ module _ (x : ℕ) where
     here = ap (λ (d : Rattle.node_machine.specs.Parts.Desk). d.notice) (sym (reset_desk y)) ∙ s.here
 
     fresh : (is_late y ≡ false) × (y.ended ≡ false)
-    fresh = go (is_late y) refl where
-      over_true : (b : Bool) → (b || true) ≡ true
-      over_true true = refl
-      over_true false = refl
-
-      go : (b : Bool) → is_late y ≡ b → (is_late y ≡ false) × (y.ended ≡ false)
-      go true z =
-          let late : is_over (reset_late y) ≡ true = rw z (over_true y.ended) in absurd (true≢false (sym late ∙ s.off))
-      go false z =
-          let same : reset_late y ≡ y = rw z refl in
-          (z, (no_or y.ended y.late (ap is_over (sym same) ∙ s.off)).0)
+    fresh = by_test (is_late y)
+        (λ z. let late : is_over (reset_late y) ≡ true = rw z (over_true y.ended) in absurd (true≢false (sym late ∙ s.off)))
+        (λ z. let same : reset_late y ≡ y = rw z refl in
+        (z, (no_or y.ended y.late (ap is_over (sym same) ∙ s.off)).0)) where
+          over_true : (b : Bool) → (b || true) ≡ true
+          over_true true = refl
+          over_true false = refl
 
     and_not : (a b : Bool) → (a && not b) ≡ false → b ≡ false → a ≡ false
     and_not true true q z = absurd (true≢false z)
@@ -264,16 +252,10 @@ module _ (x : ℕ) where
     u = record v { core = after_sessions v.core v.ports; ports = map without_notice (map (forgets v.ports) v.ports) }
 
     forgets_host : (ports : List Port) (q : Port) → (forgets ports q).desk.host ≡ q.desk.host
-    forgets_host ports q = go (is_forgotten ports (asked_at q)) refl where
-      go : (b : Bool) → is_forgotten ports (asked_at q) ≡ b → (forgets ports q).desk.host ≡ q.desk.host
-      go true z = rw z refl
-      go false z = rw z refl
+    forgets_host ports q = by_test (is_forgotten ports (asked_at q)) (λ z. rw z refl) (λ z. rw z refl)
 
     without_host : (q : Port) → (without_notice q).desk.host ≡ q.desk.host
-    without_host q = go (is_over q) refl where
-      go : (b : Bool) → is_over q ≡ b → (without_notice q).desk.host ≡ q.desk.host
-      go true z = rw z refl
-      go false z = rw z refl
+    without_host q = by_test (is_over q) (λ z. rw z refl) (λ z. rw z refl)
 
     is : noticed u.ports x
         ≡ option_and_then (λ (p : Port). p.desk.notice) (option_map without_notice (option_map (forgets v.ports) (option_map (came input) (port_at w.ports x))))

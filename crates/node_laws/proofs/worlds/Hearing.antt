@@ -16,7 +16,7 @@ use Rattle.link_laws.specs.machine.Machine.LinkInput.{Reset}
 use Rattle.link_laws.specs.machine.Machine.Turn.{Give, Hold, FetchMessage, SetAside}
 use Rattle.link_laws.specs.messages.Links.{Link, Comes}
 use Rattle.link_laws.specs.entries.Entries.{End as Side, Entry as Noted, sent_unless, told, ending_entries}
-use Rattle.link_laws.specs.entries.Entries.Entry.{Up, Down, Active, GaveUp, Acked, Got, Sent, Emit, Took, Lost, Tick, Restarted, Cut}
+use Rattle.link_laws.specs.entries.Entries.Entry.{Up, Down, Acked, Got, Sent, Emit, Took, Lost, Tick, Restarted, Cut}
 use Rattle.history.specs.Steps.{entries_for}
 use Rattle.node_machine.specs.Parts.{Creation, Core, Port, Work, Deed}
 use Rattle.node_machine.specs.Parts.Deed.{Commits, Asks, Tells, Sends, Orders}
@@ -154,19 +154,12 @@ arrival_unanswered who h l comes =
 
 quiet_unanswered : (h : ℕ) (notes : List Noted) → AllByRecursion IsQuiet notes → AreUnanswered (entries_for h notes)
 quiet_unanswered h [] all = tt
-quiet_unanswered h (Up who n ∷ notes) all = (refl, quiet_unanswered h notes all.1)
 quiet_unanswered h (Down who cause ∷ notes) all = absurd all.0
-quiet_unanswered h (Active who ∷ notes) all = (refl, quiet_unanswered h notes all.1)
-quiet_unanswered h (GaveUp who tries ∷ notes) all = (refl, quiet_unanswered h notes all.1)
-quiet_unanswered h (Acked who n count ∷ notes) all = (refl, quiet_unanswered h notes all.1)
-quiet_unanswered h (Got who n m ∷ notes) all = (refl, quiet_unanswered h notes all.1)
 quiet_unanswered h (Sent who n m ∷ notes) all = absurd all.0
-quiet_unanswered h (Emit who frame ∷ notes) all = (refl, quiet_unanswered h notes all.1)
-quiet_unanswered h (Took who frame ∷ notes) all = (refl, quiet_unanswered h notes all.1)
-quiet_unanswered h (Lost who frame why ∷ notes) all = (refl, quiet_unanswered h notes all.1)
 quiet_unanswered h (Tick ∷ notes) all = quiet_unanswered h notes all.1
 quiet_unanswered h (Restarted who ∷ notes) all = quiet_unanswered h notes all.1
 quiet_unanswered h (Cut who ∷ notes) all = quiet_unanswered h notes all.1
+quiet_unanswered h (_ ∷ notes) all = (refl, quiet_unanswered h notes all.1)
 
 told_unanswered : (h : ℕ) (who : Side) (n acked : ℕ) (r : Report) → AreUnanswered (entries_for h (told who n r acked))
 told_unanswered h who n acked r = go r.ended where

@@ -1,5 +1,5 @@
 -- Over histories sessions end by resets exactly where those are due.
-use Rattle.std.proofs.Common.{◌≡◌, ℕ, Bool, true, false, List, [], ◌∷◌, ◌++◌, Option, Some, None, refl, sym, ap, subst, ◌∙◌, eqb}
+use Rattle.std.proofs.Common.{◌≡◌, ℕ, false, List, [], ◌∷◌, ◌++◌, Option, Some, None, refl, sym, ap, subst, ◌∙◌, eqb}
 use Rattle.std.specs.List.{AllByRecursion, fold, list_any}
 use Rattle.std.proofs.lemmas.Bool.{eqb-true, eqb-false, eq-eqb}
 use Rattle.trace_model.specs.Lines.{IsHost}
@@ -14,6 +14,7 @@ use Rattle.node_machine.specs.world.NodeHistories.{NodeHistory, FollowsNodes, en
 use Rattle.node_laws.specs.kept.Hosts.{AreHosts, AreDifferent, IsFew, IsSentByHost}
 use Rattle.node_laws.specs.links.Runs.{ArePlayable}
 use Rattle.node_laws.specs.telling.Telling.{hosts_in, world_behind}
+use Rattle.node_laws.proofs.Cases.{by_test}
 use Rattle.node_laws.proofs.telling.Lasting.{AreCaused, lines_caused, events_of_steps}
 use Rattle.node_laws.proofs.telling.Nodes.{site_host}
 use Rattle.node_laws.proofs.telling.Orderly.{new_orderly}
@@ -55,14 +56,10 @@ all_found : (P : Site → Type 0) (sites : List Site) → AreDifferent (hosts_in
 all_found P [] d f = tt
 all_found P (s ∷ sites) d f = (f s.host s (rw (eq-eqb s.host s.host refl) refl), all_found P sites d.1 later) where
   later : (h : ℕ) (z : Site) → site_at sites h ≡ Some z → P z
-  later h z found = go (eqb s.host h) refl where
+  later h z found = by_test (eqb s.host h) (λ q. absurd (eqb-false h s.host other (sym (eqb-true s.host h q)))) (λ q. f h z (rw q found)) where
     other : eqb h s.host ≡ false
     other = subst (λ n. eqb n s.host ≡ false) (site_host sites h z found)
         (site_is (λ (x : Site). eqb x.host s.host ≡ false) sites h z (of_hosts (λ k. eqb k s.host ≡ false) sites d.0) found)
-
-    go : (b : Bool) → eqb s.host h ≡ b → P z
-    go true q = absurd (eqb-false h s.host other (sym (eqb-true s.host h q)))
-    go false q = f h z (rw q found)
 
 -- each host has its site
 abbrev IsFound : List Site → ℕ → Type 0
@@ -72,10 +69,7 @@ each_found : (sites : List Site) → AllByRecursion (IsFound sites) (hosts_in si
 each_found [] = tt
 each_found (s ∷ sites) = ((s, rw (eq-eqb s.host s.host refl) refl), more (hosts_in sites) (each_found sites)) where
   one : (h : ℕ) → IsFound sites h → IsFound (s ∷ sites) h
-  one h found = go (eqb s.host h) refl where
-    go : (b : Bool) → eqb s.host h ≡ b → IsFound (s ∷ sites) h
-    go true q = (s, rw q refl)
-    go false q = (found.0, rw q found.1)
+  one h found = by_test (eqb s.host h) (λ q. (s, rw q refl)) (λ q. (found.0, rw q found.1))
 
   more : (hosts : List ℕ) → AllByRecursion (IsFound sites) hosts → AllByRecursion (IsFound (s ∷ sites)) hosts
   more [] a = tt

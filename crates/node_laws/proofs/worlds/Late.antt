@@ -31,6 +31,7 @@ use Rattle.node_machine.proofs.world.Cases.{by_boot, by_coming, by_controller, b
 use Rattle.node_machine.proofs.world.Cases.{site_ticked, site_unticked}
 use Rattle.node_laws.specs.kept.Hosts.{AreDifferent}
 use Rattle.node_laws.specs.telling.Telling.{IsOrderly, hosts_in}
+use Rattle.node_laws.proofs.Cases.{by_test}
 use Rattle.node_laws.proofs.telling.Events.{comes_goes, orderly_map}
 use Rattle.node_laws.proofs.telling.Frames.{lost_all}
 use Rattle.node_laws.proofs.telling.Nodes.{ports_for}
@@ -86,10 +87,9 @@ BeginsBehind (entry.Held f need spare) back = BeginWithTurn back
 BeginsBehind _ back = Unit {0}
 
 pub ticked_host : (v : Work) (s : Site) → (site_ticked v s).link.host ≡ s.link.host
-ticked_host v s = go (is_late_at v s.host && not (is_waiting s.link.controller.side.shdlc)) refl where
-  go : (b : Bool) → (is_late_at v s.host && not (is_waiting s.link.controller.side.shdlc)) ≡ b → (site_ticked v s).link.host ≡ s.link.host
-  go true q = rw q (here_host s.link (Step (AsksReset None) (turns_at v s.host) (ending_of v)))
-  go false q = rw q (ticks_host s.link (turns_at v s.host) (ending_of v))
+ticked_host v s = by_test (is_late_at v s.host && not (is_waiting s.link.controller.side.shdlc))
+    (λ q. rw q (here_host s.link (Step (AsksReset None) (turns_at v s.host) (ending_of v))))
+    (λ q. rw q (ticks_host s.link (turns_at v s.host) (ending_of v)))
 
 module _ (n : ℕ) where
   -- nothing is answered before the first turn
@@ -120,10 +120,7 @@ module _ (n : ℕ) where
       (take_while-cons (λ y. not (is_turn_of n y)) x es ∙ ap (λ b. cond (not b) (x ∷ before_turn n es) []) q)
 
   late_one : (x : Entry) (es : List Entry) → NoAnswer x → IsLate es → IsLate (x ∷ es)
-  late_one x es none late = go (is_turn_of n x) refl where
-    go : (b : Bool) → is_turn_of n x ≡ b → IsLate (x ∷ es)
-    go true q = late_turn x es q
-    go false q = rest_is x es q none ∙ late
+  late_one x es none late = by_test (is_turn_of n x) (λ q. late_turn x es q) (λ q. rest_is x es q none ∙ late)
 
   pub late_before : (front es : List Entry) → AllByRecursion NoAnswer front → IsLate es → IsLate (front ++ es)
   late_before [] es none late = late

@@ -20,6 +20,7 @@ use Rattle.node_machine.specs.world.NodeHistories.{entries_in}
 use Rattle.node_laws.specs.kept.Hosts.{AreHosts}
 use Rattle.node_laws.specs.passes.Passing.{AreAlong, AreNoTurns, BeginWithTurn, IsNoTurn, link_of_turn, links_of_turns}
 use Rattle.node_laws.specs.passes.Steps.{comes_to_pass, noted_before_pass}
+use Rattle.node_laws.proofs.Cases.{by_test}
 use Rattle.node_laws.proofs.passes.Before.{before_entries, before_none, steps_are}
 use Rattle.node_laws.proofs.power.Doing.{Fine, Lost, Runs}
 use Rattle.node_laws.proofs.power.Steps.{steps_fine}
@@ -98,12 +99,10 @@ module _ (k : ℕ) where
       ∙ (ap (λ b. cond (not b) (y ∷ take_while before_it (es ++ (x ∷ rest))) []) a.0 ∙ ap (λ l. y ∷ l) (take_to es x rest a.1 late))
 
   far_end : (f : End) → cond (node_of f == 0) (Some f.link) None ≡ None → (not f.at_host && nat_lt k f.link) ≡ false
-  far_end f none = by f.at_host refl where
-    by : (b : Bool) → f.at_host ≡ b → (not f.at_host && nat_lt k f.link) ≡ false
-    by true q = rw q refl
-    by false q =
-        let zero : node_of f ≡ 0 = rw q refl in
-        let some : Some f.link ≡ None = sym (ap (λ n. cond (n == 0) (Some f.link) None) zero) ∙ none in absurd (cc some)
+  far_end f none = by_test f.at_host
+      (λ q. rw q refl)
+      (λ q. let zero : node_of f ≡ 0 = rw q refl in
+      let some : Some f.link ≡ None = sym (ap (λ n. cond (n == 0) (Some f.link) None) zero) ∙ none in absurd (cc some))
 
   not_later : (x : Entry) → turn_link 0 x ≡ None → is_later (end_c k) x ≡ false
   not_later (entry.Turn f pid message) none = far_end f none
@@ -245,14 +244,12 @@ module _ (hosts : List ℕ) (are : AreHosts hosts) (up : IsAscending hosts) (pas
     by (inr lacks) = by_back lacks l.back refl
 
   gone : Lost 0 last → runs_in (through past (seen last.entries)) 0 ≡ false
-  gone l = by (runs_in (through past (seen last.entries)) 0) refl where
-    by : (b : Bool) → runs_in (through past (seen last.entries)) 0 ≡ b → runs_in (through past (seen last.entries)) 0 ≡ false
-    by false q = q
-    by true q =
-        let on : runs_in (t ++ last.entries) 0 ≡ true = idle_on k (t ++ last.entries) rest idle (ap (λ x. runs_in x 0) (sym (all_of last.entries)) ∙ q) in
-        let lost : runs_in (t ++ last.entries) 0 ≡ false =
-        ap (λ x. runs_in x 0) (ap (λ x. t ++ x) l.entries ∙ sym (append_assoc t l.front (entry.Cut 0 ∷ []))) ∙ cut_off 0 (t ++ l.front) in
-        absurd (true≢false (sym on ∙ lost))
+  gone l = by_test (runs_in (through past (seen last.entries)) 0)
+      (λ q. let on : runs_in (t ++ last.entries) 0 ≡ true = idle_on k (t ++ last.entries) rest idle (ap (λ x. runs_in x 0) (sym (all_of last.entries)) ∙ q) in
+      let lost : runs_in (t ++ last.entries) 0 ≡ false =
+      ap (λ x. runs_in x 0) (ap (λ x. t ++ x) l.entries ∙ sym (append_assoc t l.front (entry.Cut 0 ∷ []))) ∙ cut_off 0 (t ++ l.front) in
+      absurd (true≢false (sym on ∙ lost)))
+      (λ q. q)
 
   pub step_short : IsShort last.entries
   step_short = by_fine (steps_fine 0 input w runs) where

@@ -1,5 +1,5 @@
 -- In each event each message that has its turn at the controller, or is noted as held there, is one of a pass that replies as is read.
-use Rattle.std.proofs.Common.{◌≡◌, ℕ, ◌≤◌, Bool, true, false, List, [], ◌∷◌, ◌++◌, Some, None, refl, sym, ap, subst, ◌∙◌, append_assoc, append-nil, length}
+use Rattle.std.proofs.Common.{◌≡◌, ℕ, ◌≤◌, true, false, List, [], ◌∷◌, ◌++◌, Some, None, refl, sym, ap, subst, ◌∙◌, append_assoc, append-nil, length}
 use Rattle.std.specs.Prelude.{◌==◌}
 use Rattle.std.specs.List.{AllByRecursion, flat_map}
 use Rattle.std.proofs.lemmas.Bool.{true≢false}
@@ -27,6 +27,7 @@ use Rattle.node_machine.proofs.world.Cases.{by_controller, by_host, by_coming, b
 use Rattle.node_laws.specs.kept.Reckonings.{is_cut_of}
 use Rattle.node_laws.specs.kept.Hosts.{AreHosts, IsFew, IsSentByHost}
 use Rattle.node_laws.specs.telling.Telling.{IsOrderly, world_behind}
+use Rattle.node_laws.proofs.Cases.{by_test}
 use Rattle.node_laws.proofs.telling.Events.{comes_goes, orderly_map}
 use Rattle.node_laws.proofs.telling.Shapes.{frames_uncut}
 use Rattle.node_laws.proofs.telling.Walks.{AreUncut, IsUncut}
@@ -147,23 +148,19 @@ pass_so hosts t lead rest w on none own after quiet replied front behind x m k i
 step_so : (hosts : List ℕ) (t lead rest : List Entry) (input : NodeInput) (w : Work) → NoneThere lead → AreNoTurns w.entries → NoneThere rest
     → AllByRecursion IsNoAnswer rest → ((comes_to_pass input w).cut ≡ false → AreRepliedIn hosts (t ++ lead) (comes_to_pass input w))
     → PassesSo hosts t (lead ++ ((steps input w).entries ++ rest))
-step_so hosts t lead rest input w none own after quiet replied = go v.cut refl where
-  v : Work
-  v = comes_to_pass input w
+step_so hosts t lead rest input w none own after quiet replied = by_test v.cut
+    (λ q. let is : steps input w ≡ v = steps_are input w ∙ rw q refl in
+    subst (λ (u : Work). PassesSo hosts t (lead ++ (u.entries ++ rest))) (sym is)
+    (none_so hosts t (lead ++ (v.entries ++ rest)) (all_append _ lead (v.entries ++ rest) none (all_append _ v.entries rest early after))))
+    (λ q. let is : steps input w ≡ passes v = steps_are input w ∙ rw q refl in
+    subst (λ (u : Work). PassesSo hosts t (lead ++ (u.entries ++ rest))) (sym is) (pass_so hosts t lead rest v q none early after quiet (replied q))) where
+      v : Work
+      v = comes_to_pass input w
 
-  early : NoneThere v.entries
-  early =
-      turnless_there 0 v.entries
-      (subst AreNoTurns (sym (before_entries input w)) (all_append IsNoTurn w.entries (noted_before_pass input w) own (before_none input w)))
-
-  go : (b : Bool) → v.cut ≡ b → PassesSo hosts t (lead ++ ((steps input w).entries ++ rest))
-  go true q =
-      let is : steps input w ≡ v = steps_are input w ∙ rw q refl in
-      subst (λ (u : Work). PassesSo hosts t (lead ++ (u.entries ++ rest))) (sym is)
-      (none_so hosts t (lead ++ (v.entries ++ rest)) (all_append _ lead (v.entries ++ rest) none (all_append _ v.entries rest early after)))
-  go false q =
-      let is : steps input w ≡ passes v = steps_are input w ∙ rw q refl in
-      subst (λ (u : Work). PassesSo hosts t (lead ++ (u.entries ++ rest))) (sym is) (pass_so hosts t lead rest v q none early after quiet (replied q))
+      early : NoneThere v.entries
+      early =
+          turnless_there 0 v.entries
+          (subst AreNoTurns (sym (before_entries input w)) (all_append IsNoTurn w.entries (noted_before_pass input w) own (before_none input w)))
 
 -- ## Frames
 
@@ -192,18 +189,15 @@ frames_none f v sites =
 -- ## Events
 
 pub far_not : (w : NodeWorld) (e : End) (comes : Comes) → IsOrderly w → e.at_host ≡ true → AreNotOf 0 (comes_at w e comes).1
-far_not w e comes a far = go (e.link == 0) refl where
-  number : node_of e ≡ e.link
-  number = rw far refl
-
-  go : (b : Bool) → (e.link == 0) ≡ b → AreNotOf 0 (comes_at w e comes).1
-  go false q = own_not e.link 0 (comes_at w e comes).1 q (part_own e.link (comes_at w e comes).1 (subst (λ k. IsPart k (comes_at w e comes).1) number
-      (comes_part w e comes a)))
-  go true q =
-      by_coming (λ p. AreNotOf 0 p.1) w e comes tt
-      (λ i z seen. by_host (λ p. AreNotOf 0 p.1) w e.link comes (steps (AtEnd e.link i)) tt
-      (λ s r found y. absurd (true≢false (sym (ap (λ k. k == 0) (site_host w.sites e.link s found) ∙ q) ∙ far_number w e.link s a found))))
-      (λ i z seen. absurd (true≢false (sym far ∙ z)))
+far_not w e comes a far = by_test (e.link == 0)
+    (λ q. by_coming (λ p. AreNotOf 0 p.1) w e comes tt
+    (λ i z seen. by_host (λ p. AreNotOf 0 p.1) w e.link comes (steps (AtEnd e.link i)) tt
+    (λ s r found y. absurd (true≢false (sym (ap (λ k. k == 0) (site_host w.sites e.link s found) ∙ q) ∙ far_number w e.link s a found))))
+    (λ i z seen. absurd (true≢false (sym far ∙ z))))
+    (λ q. own_not e.link 0 (comes_at w e comes).1 q (part_own e.link (comes_at w e comes).1 (subst (λ k. IsPart k (comes_at w e comes).1) number
+    (comes_part w e comes a)))) where
+      number : node_of e ≡ e.link
+      number = rw far refl
 
 module _ (hosts : List ℕ) (t : List Entry) (w : NodeWorld) (a : IsOrderly w)
     (comes_so : (r : Running) → w.controller ≡ Some r → (h : ℕ) (comes : Comes) (i : LinkInput) → input_of (link_to w.sites h) comes ≡ Some i
@@ -228,14 +222,12 @@ module _ (hosts : List ℕ) (t : List Entry) (w : NodeWorld) (a : IsOrderly w)
       (comes_so r q h comes i input on))))
 
   coming_so : (e : End) (comes : Comes) (rest : List Entry) → AreNotOf 0 rest → PassesSo hosts t ((comes_at w e comes).1 ++ rest)
-  coming_so e comes rest other = go e.at_host refl where
-    go : (b : Bool) → e.at_host ≡ b → PassesSo hosts t ((comes_at w e comes).1 ++ rest)
-    go true q = none_so hosts t ((comes_at w e comes).1 ++ rest)
-        (all_append _ (comes_at w e comes).1 rest (other_turns 0 (comes_at w e comes).1 (far_not w e comes a q)) (other_turns 0 rest other))
-    go false q =
-        by_coming (λ p. PassesSo hosts t (p.1 ++ rest)) w e comes (none_so hosts t rest (other_turns 0 rest other))
-        (λ i z seen. absurd (true≢false (sym z ∙ q)))
-        (λ i z seen. near_so e.link comes i seen rest other)
+  coming_so e comes rest other = by_test e.at_host
+      (λ q. none_so hosts t ((comes_at w e comes).1 ++ rest)
+      (all_append _ (comes_at w e comes).1 rest (other_turns 0 (comes_at w e comes).1 (far_not w e comes a q)) (other_turns 0 rest other)))
+      (λ q. by_coming (λ p. PassesSo hosts t (p.1 ++ rest)) w e comes (none_so hosts t rest (other_turns 0 rest other))
+      (λ i z seen. absurd (true≢false (sym z ∙ q)))
+      (λ i z seen. near_so e.link comes i seen rest other))
 
   ticking_so : PassesSo hosts t (world_ticks w).1
   ticking_so =

@@ -16,13 +16,13 @@ use Rattle.link_laws.specs.machine.Machine.{Message, Refused, Turn, LinkInput, L
 use Rattle.link_laws.specs.machine.Machine.LinkInput.{Reset}
 use Rattle.link_laws.specs.machine.Machine.Turn.{Give, Hold, FetchMessage, SetAside}
 use Rattle.link_laws.specs.messages.Links.{Link, Ending, Comes, put, exchanged}
-use Rattle.link_laws.specs.messages.Links.Comes.{NextFrame, AsksReset, Starts, Stops, NoInput}
+use Rattle.link_laws.specs.messages.Links.Comes.{NextFrame, AsksReset, Starts, NoInput}
 use Rattle.link_laws.specs.messages.Links.Ending.{GoesOut, CutOff}
 use Rattle.link_laws.specs.messages.Links.Loss.{TooOld, TooMany}
 use Rattle.link_laws.specs.entries.Entries.{End as Side, Entry as Noted, if_so, sent_unless, told, far, pushed_out, wire_with, put_entries, first_lost}
 use Rattle.link_laws.specs.entries.Entries.{puts_entries, ending_entries, aged_entries}
 use Rattle.link_laws.specs.entries.Entries.End.{Controller, Host}
-use Rattle.link_laws.specs.entries.Entries.Entry.{Up, Down, Active, GaveUp, Acked, Got, Sent, Emit, Took, Lost, Tick, Restarted, Cut}
+use Rattle.link_laws.specs.entries.Entries.Entry.{Up, Down, Active, GaveUp, Acked, Got, Took, Lost, Tick, Restarted, Cut}
 use Rattle.history.specs.Steps.{entries_for}
 use Rattle.node_machine.specs.Parts.{Creation, Core, Port, Work, Deed}
 use Rattle.node_machine.specs.Parts.Deed.{Commits, Asks, Tells, Sends, Orders}
@@ -123,21 +123,13 @@ AreOfWire notes = AllByRecursion IsOfWire notes
 
 notes_lineless : (h : ℕ) (notes : List Noted) → AreOfWire notes → AreLineless (entries_for h notes)
 notes_lineless h [] all = tt
-notes_lineless h (Up who n ∷ notes) all = (refl, notes_lineless h notes all.1)
-notes_lineless h (Down who cause ∷ notes) all = (refl, notes_lineless h notes all.1)
-notes_lineless h (Active who ∷ notes) all = (refl, notes_lineless h notes all.1)
-notes_lineless h (GaveUp who tries ∷ notes) all = (refl, notes_lineless h notes all.1)
-notes_lineless h (Acked who n count ∷ notes) all = (refl, notes_lineless h notes all.1)
-notes_lineless h (Got who n m ∷ notes) all = (refl, notes_lineless h notes all.1)
-notes_lineless h (Sent who n m ∷ notes) all = (refl, notes_lineless h notes all.1)
-notes_lineless h (Emit who frame ∷ notes) all = (refl, notes_lineless h notes all.1)
-notes_lineless h (Took who frame ∷ notes) all = (refl, notes_lineless h notes all.1)
 notes_lineless h (Lost who frame TooOld ∷ notes) all = (refl, notes_lineless h notes all.1)
 notes_lineless h (Lost who frame TooMany ∷ notes) all = (refl, notes_lineless h notes all.1)
 notes_lineless h (Lost who frame _ ∷ notes) all = absurd all.0
 notes_lineless h (Tick ∷ notes) all = notes_lineless h notes all.1
 notes_lineless h (Restarted who ∷ notes) all = notes_lineless h notes all.1
 notes_lineless h (Cut who ∷ notes) all = notes_lineless h notes all.1
+notes_lineless h (_ ∷ notes) all = (refl, notes_lineless h notes all.1)
 
 so_of_wire : (b : Bool) (x : Noted) → IsOfWire x → AreOfWire (if_so b x)
 so_of_wire true x a = (a, tt)
@@ -172,10 +164,7 @@ arrival_of_wire who l NextFrame = go l.to_controller where
   go : (xs : List OnWire) → AreOfWire (first xs)
   go [] = tt
   go (x ∷ xs) = (tt, tt)
-arrival_of_wire who l (AsksReset window) = tt
-arrival_of_wire who l (Starts value) = tt
-arrival_of_wire who l Stops = tt
-arrival_of_wire who l NoInput = tt
+arrival_of_wire who l _ = tt
 
 arrival_lineless : (who : Side) (h : ℕ) (l : Link) (comes : Comes) → AreLineless (entries_for h (arrival who l comes))
 arrival_lineless who h l comes = notes_lineless h (arrival who l comes) (arrival_of_wire who l comes)

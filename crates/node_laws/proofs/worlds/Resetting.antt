@@ -8,8 +8,8 @@ use Rattle.trace_model.specs.declared.entry.Entry.{Entry}
 use Rattle.trace_model.specs.declared.line.End.{End}
 use Rattle.trace_model.specs.declared.line.Line.TheVariants as line
 use Rattle.shdlc_core.specs.declared.answers.LinkState.{LinkState}
-use Rattle.shdlc_core.specs.declared.answers.LinkState.TheVariants.{Up as IsUpNow, Waiting as IsWaitingNow, Down as IsDown}
-use Rattle.link_laws.specs.sessions.Sessions.{is_up, OnWire}
+use Rattle.shdlc_core.specs.declared.answers.LinkState.TheVariants.{Up as IsUpNow}
+use Rattle.link_laws.specs.sessions.Sessions.{is_up}
 use Rattle.link_laws.specs.machine.Machine.{LinkInput, LinkEnd, Refused, ended_by, reset_refusal}
 use Rattle.link_laws.specs.machine.Machine.LinkInput.{Take, Reset, Start}
 use Rattle.link_laws.specs.messages.Links.{Link, Loss, NumberedEnd}
@@ -29,6 +29,7 @@ use Rattle.node_machine.specs.world.Lines.{Occurrence, refusal_in, if_off, machi
 use Rattle.node_machine.specs.world.NodeHistories.{entries_in}
 use Rattle.node_machine.specs.world.NodeFilters.{notice_in, session_now}
 use Rattle.node_machine.proofs.world.Cases.{by_boot, by_loss}
+use Rattle.node_laws.proofs.Cases.{by_list, by_option}
 use Rattle.node_laws.proofs.kept.Lines.{first_none, off_none}
 use Rattle.node_laws.specs.order.Told.{AreSessionsRead}
 use Rattle.node_laws.proofs.order.Asked.{IsAskedIn}
@@ -65,8 +66,7 @@ up_is : (h : NumberedEnd) → is_some (session_at h) ≡ is_up h.side.shdlc.phas
 up_is h = go h.side.shdlc.phase refl where
   go : (l : LinkState) → h.side.shdlc.phase ≡ l → is_some (session_at h) ≡ is_up h.side.shdlc.phase
   go IsUpNow z = rw z refl
-  go IsWaitingNow z = rw z refl
-  go IsDown z = rw z refl
+  go _ z = rw z refl
 
 noted_none : (o : Option Refused) → as_noted o ≡ None → o ≡ None
 noted_none None z = refl
@@ -90,13 +90,11 @@ and_true false = refl
 
 -- what comes ends no session by a reset unless it is one
 frames_none : (side : LinkEnd) (i : LinkInput) (l : Link) → input_of l NextFrame ≡ Some i → option_map_or is_own_reset (ended_by side i) false ≡ false
-frames_none side i l is = go l.to_controller refl where
-  go : (xs : List OnWire) → l.to_controller ≡ xs → option_map_or is_own_reset (ended_by side i) false ≡ false
-  go [] z = let none : None ≡ Some i = rw z at is in absurd (cc none)
-  go (x ∷ xs) z =
-      let some : Some (Take x.frame) ≡ Some i = rw z at is in
-      let same : Take x.frame ≡ i = cc in
-      subst (λ j. option_map_or is_own_reset (ended_by side j) false ≡ false) same (frame_asked side x.frame)
+frames_none side i l is = by_list l.to_controller
+    (λ z. let none : None ≡ Some i = rw z at is in absurd (cc none))
+    (λ x xs z. let some : Some (Take x.frame) ≡ Some i = rw z at is in
+    let same : Take x.frame ≡ i = cc in
+    subst (λ j. option_map_or is_own_reset (ended_by side j) false ≡ false) same (frame_asked side x.frame))
 
 starts_none : (value : ℕ) (side : LinkEnd) (i : LinkInput) (l : Link) → input_of l (Starts value) ≡ Some i
     → option_map_or is_own_reset (ended_by side i) false ≡ false
@@ -163,12 +161,10 @@ module _ (past : List Occurrence) (w : NodeWorld) (k : IsReadBefore past w) (x :
     parts = first_none (if_off w f) (as_noted (reset_refusal (machine_in w (end_h f)))) free
 
     of_site : (z : Site) → site_at w.sites f ≡ Some z → eqb f x ≡ false → tells is_own_reset (end_h x) M.1 ≡ false
-    of_site z there off = by z.node refl where
-      by : (o : Option Running) → z.node ≡ o → tells is_own_reset (end_h x) M.1 ≡ false
-      by None runs = rw (there, runs) refl
-      by (Some r) runs =
-          far_reset w k.orderly f window x s found z r there runs (λ y. absurd (true≢false (sym y ∙ off)))
-          ∙ ap (λ b. b && is_up s.link.host.side.shdlc.phase) off
+    of_site z there off = by_option z.node
+        (λ runs. rw (there, runs) refl)
+        (λ r runs. far_reset w k.orderly f window x s found z r there runs (λ y. absurd (true≢false (sym y ∙ off)))
+        ∙ ap (λ b. b && is_up s.link.host.side.shdlc.phase) off)
 
     off_site : (o : Option Site) → site_at w.sites f ≡ o → eqb f x ≡ false → tells is_own_reset (end_h x) M.1 ≡ false
     off_site None there off = rw there refl
@@ -223,13 +219,11 @@ module _ (past : List Occurrence) (w : NodeWorld) (k : IsReadBefore past w) (x :
           rw z (below n.age age.1 ∙ (ap (λ a. eqb a 99) age.0 ∙ ap (λ b. b && eqb (age_in past x) 99) (sym (ap (λ (o : Option Notice). is_some o) z) ∙ same)))
 
   near_ticks : tells is_own_reset (end_c x) (world_ticks w).1 ≡ is_late_in past (occurs w Ticks) x
-  near_ticks = go w.controller refl where
-    go : (o : Option Running) → w.controller ≡ o → tells is_own_reset (end_c x) (world_ticks w).1 ≡ is_late_in past (occurs w Ticks) x
-    go None z =
-        let none : notice_in t x ≡ None = (subst (IfReads t) z k.notices.controller x).0 in
-        off_tick w k.orderly t k.notices x s found is_own_reset z
-        ∙ sym (ap (λ (o : Option (List ℕ)). (is_some o && eqb (age_in past x) 99) && not (tells otherwise (end_c x) (world_ticks w).1)) none)
-    go (Some r) z = late_is r z
+  near_ticks = by_option w.controller
+      (λ z. let none : notice_in t x ≡ None = (subst (IfReads t) z k.notices.controller x).0 in
+      off_tick w k.orderly t k.notices x s found is_own_reset z
+      ∙ sym (ap (λ (o : Option (List ℕ)). (is_some o && eqb (age_in past x) 99) && not (tells otherwise (end_c x) (world_ticks w).1)) none))
+      (λ r z. late_is r z)
 
   -- ## Events
 

@@ -1,6 +1,6 @@
 -- Behind a step of a node all messages at its ends have had their turns, or all before one that is held, as it is read.
 use Rattle.std.proofs.Common.{◌≡◌, inl, inr, ℕ, Bool, true, false, cond, eqb, List, [], ◌∷◌, ◌++◌, refl, sym, ap, subst, ◌∙◌, append_assoc, append-nil}
-use Rattle.std.specs.Prelude.{◌==◌, ◌&&◌, ◌||◌, not, is_none, Option, Some, None}
+use Rattle.std.specs.Prelude.{◌==◌, ◌||◌, not, is_none, Option, Some}
 use Rattle.std.specs.List.{AllByRecursion}
 use Rattle.std.proofs.lemmas.Bool.{true≢false, eqb-true}
 use Rattle.std.proofs.lemmas.List.Sums.{fold-append}
@@ -23,6 +23,7 @@ use Rattle.node_laws.specs.passes.Passing.{AreNoTurns, IsNoTurn, ComesTo, IsBehi
 use Rattle.node_laws.specs.passes.Passing.ComesTo.{Begins}
 use Rattle.node_laws.specs.passes.Steps.{comes_to_pass}
 use Rattle.node_laws.specs.power.Powers.{AreNotOf, is_of_node}
+use Rattle.node_laws.proofs.Cases.{by_test}
 use Rattle.node_laws.proofs.passes.Before.{before_hosts, steps_are}
 use Rattle.node_laws.proofs.passes.Behind.{leaves_behind}
 use Rattle.node_laws.proofs.passes.Passing.{comes_lasts, through}
@@ -72,12 +73,10 @@ AreIdle e es = AllByRecursion (IsIdle e) es
 
 module _ (e : End) where
   pub other_end : (f : End) → (node_of f == node_of e) ≡ false → same_end f e ≡ false
-  other_end f off = by (same_end f e) refl where
-    by : (b : Bool) → same_end f e ≡ b → same_end f e ≡ false
-    by true q =
-        let same : f ≡ e = ends_same f e q in
-        absurd (true≢false (sym (ap (λ z. node_of z == node_of e) same ∙ same_number (node_of e)) ∙ off))
-    by false q = q
+  other_end f off = by_test (same_end f e)
+      (λ q. let same : f ≡ e = ends_same f e q in
+      absurd (true≢false (sym (ap (λ z. node_of z == node_of e) same ∙ same_number (node_of e)) ∙ off)))
+      (λ q. q)
 
   idle_other : (x : Entry) → is_of_node (node_of e) x ≡ false → IsIdle e x
   idle_other (entry.Got f n pid message) off = other_end f off
@@ -91,10 +90,9 @@ module _ (e : End) where
   others_idle (x ∷ es) a = (idle_other x a.0, others_idle es a.1)
 
   idle_quiet : (x : Entry) → doing e x ≡ Nothing → IsNoTurn x → IsNoBoot x → IsIdle e x
-  idle_quiet (entry.Got f n pid message) still turn boot = by (same_end f e) refl where
-    by : (b : Bool) → same_end f e ≡ b → same_end f e ≡ false
-    by true q = let no : Adds (pid, message) ≡ Nothing = rw q at still in absurd (cc no)
-    by false q = q
+  idle_quiet (entry.Got f n pid message) still turn boot = by_test (same_end f e)
+      (λ q. let no : Adds (pid, message) ≡ Nothing = rw q at still in absurd (cc no))
+      (λ q. q)
   idle_quiet (entry.Turn f pid message) still turn boot = absurd (cc turn)
   idle_quiet (entry.Held f need spare) still turn boot = absurd (cc turn)
   idle_quiet (entry.Booted n k) still turn boot = absurd boot
@@ -135,12 +133,10 @@ module _ (e : End) where
   idle_runs s x idle on = sym (fold-append _ false s (x ∷ [])) ∙ on
 
   idle_one : (s : List Entry) (x : Entry) → IsIdle e x → is_done s e ≡ true → is_done (s ++ x ∷ []) e ≡ true
-  idle_one s x idle done = by (runs_in (s ++ x ∷ []) (node_of e)) refl where
-    by : (b : Bool) → runs_in (s ++ x ∷ []) (node_of e) ≡ b → is_done (s ++ x ∷ []) e ≡ true
-    by false q = done_off (s ++ x ∷ []) e q
-    by true q =
-        rw (q, idle_unhandled s x idle, idle_holds s x idle)
-        (subst (λ b. ((not b || is_none (oldest (unhandled_in s e))) || holds_in s e) ≡ true) (idle_runs s x idle q) done)
+  idle_one s x idle done = by_test (runs_in (s ++ x ∷ []) (node_of e))
+      (λ q. rw (q, idle_unhandled s x idle, idle_holds s x idle)
+      (subst (λ b. ((not b || is_none (oldest (unhandled_in s e))) || holds_in s e) ≡ true) (idle_runs s x idle q) done))
+      (λ q. done_off (s ++ x ∷ []) e q)
 
   pub idle_done : (s es : List Entry) → AreIdle e es → is_done s e ≡ true → is_done (s ++ es) e ≡ true
   idle_done s [] idle done = subst (λ l. is_done l e ≡ true) (sym (append-nil s)) done

@@ -35,6 +35,7 @@ use Rattle.node_machine.specs.world.NodeHistories.{FollowsNodes, NodeHistory, en
 use Rattle.node_machine.proofs.world.Cases.{after_near_tick, by_coming, by_host, near_tick}
 use Rattle.node_laws.specs.kept.Hosts.{AreDifferent, AreHosts, IsFew, IsSentByHost}
 use Rattle.node_laws.specs.telling.Telling.{HasEnds, IsOrderly, world_behind}
+use Rattle.node_laws.proofs.Cases.{by_option, by_test}
 use Rattle.node_laws.proofs.telling.Events.{comes_goes, orderly_map}
 use Rattle.node_laws.proofs.telling.Frames.{ending_all}
 use Rattle.node_laws.proofs.telling.Lasting.{AreCaused, events_of_steps, lines_caused}
@@ -110,12 +111,10 @@ frames_calm f v sites = record {
 }
 
 far_side : (f : End) → (node_of f == 0) ≡ false → f.at_host ≡ true
-far_side f off = by f.at_host refl where
-  by : (b : Bool) → f.at_host ≡ b → f.at_host ≡ true
-  by true q = q
-  by false q =
-      let zero : node_of f ≡ 0 = rw q refl in
-      absurd (true≢false (sym (ap (λ n. n == 0) zero) ∙ off))
+far_side f off = by_test f.at_host
+    (λ q. q)
+    (λ q. let zero : node_of f ≡ 0 = rw q refl in
+    absurd (true≢false (sym (ap (λ n. n == 0) zero) ∙ off)))
 
 other_unheard : (x : Entry) → is_of_node 0 x ≡ false → IsUnheard x
 other_unheard (entry.Up f n) off = far_side f off
@@ -235,31 +234,26 @@ module _ (header : Header) (lines : List Line) (t : NodeHistory) (follows : Foll
   elsewhere e zero far = let is : node_of e ≡ e.link = rw far refl in ap (λ n. n == 0) is ∙ zero
 
   takes_short : (e : End) → MayStep w (Takes e) → Short (Takes e) (world_step w (Takes e)).1
-  takes_short e may = go e.at_host refl where
-    by_wire : e.at_host ≡ false → (xs : List _) → (link_to w.sites e.link).to_controller ≡ xs → Short (Takes e) (comes_at w e NextFrame).1
-    by_wire near [] q =
-        by_node w.controller refl where
-          empty : frames_at w e ≡ []
-          empty = rw near q
+  takes_short e may = by_test e.at_host
+      (λ q. still (Takes e) (world_step w (Takes e)).1 (elsewhere e may.0 q))
+      (λ q. by_wire q (link_to w.sites e.link).to_controller refl) where
+        by_wire : e.at_host ≡ false → (xs : List _) → (link_to w.sites e.link).to_controller ≡ xs → Short (Takes e) (comes_at w e NextFrame).1
+        by_wire near [] q =
+            by_option w.controller
+            (λ z. subst (λ (p : NodeWorld × List Entry). Short (Takes e) p.1) (sym none_is) (stands_off (Takes e) [] z tt))
+            (λ r z. absurd (may.1 near (ap is_some z) empty)) where
+              empty : frames_at w e ≡ []
+              empty = rw near q
 
-          none_is : comes_at w e NextFrame ≡ (w, [])
-          none_is = let no : input_of (seen_from e (link_to w.sites e.link)) NextFrame ≡ None = rw near (rw q refl) in rw no refl
-
-          by_node : (o : Option Running) → w.controller ≡ o → Short (Takes e) (comes_at w e NextFrame).1
-          by_node None z = subst (λ (p : NodeWorld × List Entry). Short (Takes e) p.1) (sym none_is) (stands_off (Takes e) [] z tt)
-          by_node (Some r) z = absurd (may.1 near (ap is_some z) empty)
-    by_wire near (x ∷ xs) q = let input : input_of (link_to w.sites e.link) NextFrame ≡ Some (Take x.frame) = rw q refl in
-        coming_short (Takes e) e NextFrame (Take x.frame) near input
-
-    go : (b : Bool) → e.at_host ≡ b → Short (Takes e) (world_step w (Takes e)).1
-    go true q = still (Takes e) (world_step w (Takes e)).1 (elsewhere e may.0 q)
-    go false q = by_wire q (link_to w.sites e.link).to_controller refl
+              none_is : comes_at w e NextFrame ≡ (w, [])
+              none_is = let no : input_of (seen_from e (link_to w.sites e.link)) NextFrame ≡ None = rw near (rw q refl) in rw no refl
+        by_wire near (x ∷ xs) q = let input : input_of (link_to w.sites e.link) NextFrame ≡ Some (Take x.frame) = rw q refl in
+            coming_short (Takes e) e NextFrame (Take x.frame) near input
 
   resets_short : (e : End) (window : _) → MayStep w (Resets e window) → Short (Resets e window) (world_step w (Resets e window)).1
-  resets_short e window may = go e.at_host refl where
-    go : (b : Bool) → e.at_host ≡ b → Short (Resets e window) (world_step w (Resets e window)).1
-    go true q = still (Resets e window) (world_step w (Resets e window)).1 (elsewhere e may q)
-    go false q = coming_short (Resets e window) e (AsksReset window) (Reset window) q refl
+  resets_short e window may = by_test e.at_host
+      (λ q. still (Resets e window) (world_step w (Resets e window)).1 (elsewhere e may q))
+      (λ q. coming_short (Resets e window) e (AsksReset window) (Reset window) q refl)
 
   activates_short : (h sync power : ℕ) → Short (Activates h sync power) (world_step w (Activates h sync power)).1
   activates_short h sync power =

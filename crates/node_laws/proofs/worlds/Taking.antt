@@ -27,6 +27,7 @@ use Rattle.node_machine.specs.world.World.{link_to, runs_on, site_at, turns_at, 
 use Rattle.node_machine.specs.world.World.Happening.{Resets, Takes, Ticks}
 use Rattle.node_machine.specs.world.Lines.{frames_at, happenings, happens_by, refusal_in}
 use Rattle.node_machine.proofs.world.Cases.{by_coming, by_controller}
+use Rattle.node_laws.proofs.Cases.{by_test}
 use Rattle.node_laws.proofs.telling.Lasting.{AllMay, repeated_may}
 use Rattle.node_laws.specs.schedules.Ranges.{IsNodeLineOf}
 
@@ -168,27 +169,18 @@ damage_may w e off places (x ∷ xs) here = by (verdict_on (lpdu_of x.frame) pla
 
 module _ (header : Header) (nodes : IsNodeHeader header) where
   pub line_steps : (w : NodeWorld) (l : Line) → IsNodeLineOf header l → refusal_in w l ≡ None → AllMay MayStep w (happenings w l)
-  line_steps w (line.Send e pid message) is none = (tt, tt)
-  line_steps w (line.Deliver e count) is none = by e.at_host refl where
-    off : (e.link == 0) ≡ false
-    off = off_zero header nodes e.link is.0
-
-    by : (b : Bool) → e.at_host ≡ b → AllMay MayStep w (replicate (taken_of count (frames_at w e)) (Takes e))
-    by true far = repeated_may MayStep (Takes e) (λ v. (off, λ near. absurd (true≢false (sym far ∙ near)))) (taken_of count (frames_at w e)) w
-    by false near =
-        takes_may (taken_of count (frames_at w e)) w e off near
-        (λ on. let most = taken_most count (frames_at w e) in
-        let same = ap (λ (xs : List OnWire). length xs) (frames_near w e near) in omega (arith, most, same))
-  line_steps w (line.Lose e) is none = (tt, tt)
+  line_steps w (line.Deliver e count) is none = by_test e.at_host
+      (λ far. repeated_may MayStep (Takes e) (λ v. (off, λ near. absurd (true≢false (sym far ∙ near)))) (taken_of count (frames_at w e)) w)
+      (λ near. takes_may (taken_of count (frames_at w e)) w e off near
+      (λ on. let most = taken_most count (frames_at w e) in
+      let same = ap (λ (xs : List OnWire). length xs) (frames_near w e near) in omega (arith, most, same))) where
+        off : (e.link == 0) ≡ false
+        off = off_zero header nodes e.link is.0
   line_steps w (line.Damage e places) is none = damage_may w e (off_zero header nodes e.link is.0) places.items (frames_at w e) refl
   line_steps w (line.Tick times) is none = repeated_may MayStep Ticks (λ v. tt) (unwrap_or times 1) w
   line_steps w (line.Reset e window) is none = (off_zero header nodes e.link is.0, tt)
   line_steps w (line.Busy e) is none = tt
   line_steps w (line.Ready e) is none = tt
-  line_steps w (line.Boot n) is none = (tt, tt)
-  line_steps w (line.Cut n) is none = (tt, tt)
-  line_steps w (line.Activate host sync power) is none = (tt, tt)
-  line_steps w (line.Arm n nth fill) is none = (tt, tt)
-  line_steps w (line.Init e identity pipes) is none = (tt, tt)
   line_steps w (line.Tables n) is none = tt
   line_steps w (line.Settle rounds) is none = tt
+  line_steps w _ is none = (tt, tt)

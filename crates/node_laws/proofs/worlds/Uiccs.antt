@@ -24,6 +24,7 @@ use Rattle.node_machine.specs.Node.{NodeInput, all_come, all_owed, forgets, has_
 use Rattle.node_machine.specs.Node.NodeInput.{AtEnd, TimePasses}
 use Rattle.node_laws.specs.passes.Noting.{noted_by_deeds}
 use Rattle.node_laws.specs.passes.Steps.{has_come_so, has_freed, has_synced, noted_before_pass, owed_in_step, told_of_coming}
+use Rattle.node_laws.proofs.Cases.{by_option, by_test}
 use Rattle.node_laws.proofs.readings.Stepping.{forgets_same}
 
 -- ## Identifiers
@@ -46,8 +47,7 @@ uicc_sync s (ActTake Ready false) = refl
 uicc_sync s (ActTake (PowerMode code) false) = go (nat_le code 1) refl s.phase refl where
   go : (b : Bool) → nat_le code 1 ≡ b → (p : Phase) → s.phase ≡ p → (uicc_step s (ActTake (PowerMode code) false)).1.sync ≡ None
   go true z Inactive q = rw (z, q) refl
-  go true z (Awaiting tries ticks) q = rw (z, q) refl
-  go true z ActiveNow q = rw (z, q) refl
+  go true z _ q = rw (z, q) refl
   go false z p q = rw z refl
 uicc_sync s ActTick = tick_none s.phase s.last
 uicc_sync s ActStop = refl
@@ -63,10 +63,9 @@ abbrev pub IsOfHost : Port → Type 0
 IsOfHost p = IsUicc p.side.role × (p.desk.notice ≡ None)
 
 synced_none : (core : Core) (input : NodeInput) (p : Port) → IsUicc p.side.role → synced core input p ≡ []
-synced_none core input p a = go (input_at input p) refl where
-  go : (o : Option LinkInput) → input_at input p ≡ o → synced core input p ≡ []
-  go None q = rw q refl
-  go (Some i) q = let none : (report p.side i).sync ≡ None = out_none p.side.role (act_event p.side i) a in rw (q, none) refl
+synced_none core input p a = by_option (input_at input p)
+    (λ q. rw q refl)
+    (λ i q. let none : (report p.side i).sync ≡ None = out_none p.side.role (act_event p.side i) a in rw (q, none) refl)
 
 syncs_none : (core : Core) (input : NodeInput) (ports : List Port) → AllByRecursion IsOfHost ports → flat_map (synced core input) ports ≡ []
 syncs_none core input [] a = refl
@@ -86,10 +85,7 @@ older_quiet : (p : Port) → HasNoNotice p → HasNoNotice (with_older p)
 older_quiet p a = rw a refl
 
 reset_quiet : (p : Port) → HasNoNotice p → HasNoNotice (reset_late p)
-reset_quiet p a = go (is_late p) refl where
-  go : (b : Bool) → is_late p ≡ b → HasNoNotice (reset_late p)
-  go true q = rw q a
-  go false q = rw q a
+reset_quiet p a = by_test (is_late p) (λ q. rw q a) (λ q. rw q a)
 
 ports_come : (input : NodeInput) (ports : List Port) → AllByRecursion IsOfHost ports
     → AllByRecursion HasNoNotice (map (λ p. has_come p (input_at input p)) ports)

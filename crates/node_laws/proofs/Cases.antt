@@ -1,0 +1,14 @@
+-- What holds in each case of a value holds; each case knows that the value is its own.
+use Rattle.std.proofs.Common.{◌≡◌, Bool, true, false, List, [], ◌∷◌, Option, Some, None, refl}
+
+pub by_test {ℓ} : {P : Type ℓ} (b : Bool) → (b ≡ true → P) → (b ≡ false → P) → P
+by_test true one other = one refl
+by_test false one other = other refl
+
+pub by_option {ℓ} : {A : Type 0} {P : Type ℓ} (o : Option A) → (o ≡ None → P) → ((a : A) → o ≡ Some a → P) → P
+by_option None none some = none refl
+by_option (Some a) none some = some a refl
+
+pub by_list {ℓ} : {A : Type 0} {P : Type ℓ} (xs : List A) → (xs ≡ [] → P) → ((x : A) (rest : List A) → xs ≡ x ∷ rest → P) → P
+by_list [] none more = none refl
+by_list (x ∷ rest) none more = more x rest refl
