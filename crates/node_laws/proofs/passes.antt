@@ -1,4 +1,5 @@
 pub mod Notes
+pub mod Kinds
 pub mod Ends
 pub mod Turnless
 pub mod Walking
@@ -7,5 +8,6 @@ pub mod Behind
 pub mod Replying
 pub mod Roomy
 pub mod Before
+pub mod InSteps
 pub mod Counts
 pub mod Waiting

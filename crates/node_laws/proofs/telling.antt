@@ -14,6 +14,7 @@ pub mod Worlds
 pub mod Events
 pub mod WorldTicks
 pub mod Frames
+pub mod Reported
 pub mod Lasting
 pub mod Orderly
 pub mod Histories

@@ -22,7 +22,7 @@ use Rattle.node_laws.specs.answers.Moments.{AtEachEntry, AtEachOccurrence, Momen
 use Rattle.node_laws.specs.answers.Order.{HearsFirst, NodesHearFirst, TurnsAscend, answerer, hears}
 use Rattle.node_laws.specs.answers.Unasked.{down_in, due, is_reset_due, is_reset_down}
 use Rattle.node_laws.proofs.answers.Rising.{rise_ascends}
-use Rattle.node_laws.proofs.answers.Splits.{same_at_each, at_events, same_at_events, at_entries, same_at_entries}
+use Rattle.node_laws.proofs.answers.Splits.{same_at_each, at_events, same_at_events, at_entries, same_at_entries, first_or, rest_of}
 use Rattle.node_laws.proofs.answers.Walks.{answers_found, answers_wanted, found, held_found, held_wanted, turn_found, turn_wanted, wanted}
 
 -- ## Messages have their turns in order
@@ -44,14 +44,6 @@ abbrev pub firsts_wanted : List Entry → List (Option (Option Message))
 firsts_wanted [] = []
 firsts_wanted (x ∷ t) = first_wanted x ∷ firsts_wanted t
 
-abbrev first_or : {X : Type 0} → X → List X → X
-first_or x [] = x
-first_or x (y ∷ ys) = y
-
-abbrev rest_of : {X : Type 0} → List X → List X
-rest_of [] = []
-rest_of (y ∷ ys) = ys
-
 both_true : (a b : Bool) → (a && b) ≡ true → (a ≡ true) × (b ≡ true)
 both_true a b q = and_parts a b q
 
@@ -70,7 +62,7 @@ first_dropped : (ms : List Message) (m : Message) → oldest ms ≡ Some m → m
 first_dropped [] m q = absurd (cc q)
 first_dropped (k ∷ ms) m q = let same : k ≡ m = cc in ap (λ z. z ∷ ms) same
 
-some_is : {X : Type 0} (x y : X) → Some x ≡ Some y → x ≡ y
+pub some_is : {X : Type 0} (x y : X) → Some x ≡ Some y → x ≡ y
 some_is x y q = cc
 
 -- a message that has its turn is the first that came and had none
@@ -139,14 +131,14 @@ in_turn t same =
 
 -- ## Nothing comes behind an answer
 
-abbrev none_heard : ℕ → List Entry → Bool
+abbrev pub none_heard : ℕ → List Entry → Bool
 none_heard n [] = true
 none_heard n (x ∷ entries) = not (hears n x) && none_heard n entries
 
 abbrev pub heard_found : Moment → Entry → List Entry → Bool
 heard_found m x behind = option_map_or (λ n. none_heard n behind) (answerer x) true
 
-none_hears : (n : ℕ) (entries : List Entry) → none_heard n entries ≡ true → AllByRecursion (λ y. hears n y ≡ false) entries
+pub none_hears : (n : ℕ) (entries : List Entry) → none_heard n entries ≡ true → AllByRecursion (λ y. hears n y ≡ false) entries
 none_hears n [] q = tt
 none_hears n (x ∷ entries) q =
     let both = and_parts (not (hears n x)) (none_heard n entries) q in (not-true (hears n x) both.0, none_hears n entries both.1)
@@ -186,6 +178,13 @@ number_of Heard = 8
 abbrev pub is_fact : Fact → Fact → Bool
 is_fact f g = number_of f == number_of g
 
+pub both_are : {X Y : Type 0} (p q : X × Y) → Some p ≡ Some q → (p.0 ≡ q.0) × (p.1 ≡ q.1)
+both_are {X} {Y} p q s = let same : p ≡ q = some_is p q s in (ap (λ (z : X × Y). z.0) same, ap (λ (z : X × Y). z.1) same)
+
+abbrev pub Unless : Bool → Type 0 → Type 0
+Unless true X = Unit {0}
+Unless false X = X
+
 module _ (t : NodeHistory) where
   abbrev hosts : List ℕ
   hosts = t.header.hosts.items
@@ -204,9 +203,6 @@ module _ (t : NodeHistory) where
       same_at_entries f g past o.cause [] front behind x
       (subst (λ l. at_entries f past o.cause [] l ≡ at_entries g past o.cause [] l) inside
       (agree_here (λ past o. at_entries f past o.cause [] o.entries) (λ past o. at_entries g past o.cause [] o.entries) same past back o at))
-
-  both_are : {X Y : Type 0} (p q : X × Y) → Some p ≡ Some q → (p.0 ≡ q.0) × (p.1 ≡ q.1)
-  both_are {X} {Y} p q s = let same : p ≡ q = some_is p q s in (ap (λ (z : X × Y). z.0) same, ap (λ (z : X × Y). z.1) same)
 
   turn_so : (m : Moment) (x : Entry) (behind : List Entry) → turn_found hosts m x behind ≡ turn_wanted hosts m x behind → IsReplied hosts m x behind
   turn_so m (entry.Turn e pid message) behind same = both_are _ _ same
@@ -279,10 +275,6 @@ module _ (t : NodeHistory) where
   -- this fact refuses the history, and each other one holds of it
   abbrev pub RefusedByOnly : Fact → Type 0
   RefusedByOnly f = (FactOf f → ⊥) × ((g : Fact) → is_fact f g ≡ false → FactOf g)
-
-  abbrev Unless : Bool → Type 0 → Type 0
-  Unless true X = Unit {0}
-  Unless false X = X
 
   abbrev One : Fact → Fact → Type 0
   One f g = Unless (is_fact f g) (IsFound g)

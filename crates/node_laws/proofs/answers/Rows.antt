@@ -3,6 +3,7 @@ use Rattle.std.proofs.Common.{◌≡◌, ℕ, ◌/◌, ◌%◌, Bool, true, fals
 use Rattle.std.specs.Prelude.{Option, Some, None, Result, Ok, Err}
 use Rattle.std.specs.Option.{option_map_or}
 use Rattle.std.proofs.lemmas.Bool.{cond_both, eqb-true, true≢false}
+use mathlib.Core.Bool.{and-false}
 use Rattle.hcp_packet.specs.declared.MessageKind.{MessageKind}
 use Rattle.hcp_packet.specs.declared.MessageKind.TheVariants.{Command as IsCommand, Event as IsEvent, Response as IsResponse}
 use Rattle.hcp_packet.specs.declared.MessageFault.{MessageFault}
@@ -23,10 +24,6 @@ use Rattle.node_machine.specs.Controller.{relayed_to, unrelayed, unless_asking, 
 use Rattle.node_machine.specs.Controller.{decision_deeds, gate_deeds, own_gate, goes_through, served_at}
 use Rattle.node_laws.specs.answers.Rows.{first_row, is_order, far_host, is_relayed, decides, controller_rows}
 use Rattle.node_laws.proofs.Cases.{by_option, by_test}
-
-and_false : (a : Bool) → (a && false) ≡ false
-and_false true = refl
-and_false false = refl
 
 -- the instruction of a header is the one of its message
 pub header_is : (message : List ℕ) (k : MessageKind) (n : ℕ) → header_of message ≡ Ok (k, n) → n ≡ instruction_in message
@@ -294,7 +291,7 @@ module _ (v : NodeView) (h : ℕ) (m : Message) where
       by true true (Some end) o q is = at_gate end is o q (eqb end.0 0) (eqb end.1 0) refl refl
       by true false f o q is =
           rw (off, up, x, o, q) (ap (λ b. cond b (Sends h m ∷ []) (Drops m.0 ∷ []))
-          (and_false (option_map_or (λ gate. eqb gate 4) (own_gate v.own.tables h m.0) false)))
+          (and-false (option_map_or (λ gate. eqb gate 4) (own_gate v.own.tables h m.0) false)))
 
     response_row : header_of m.1 ≡ Ok (IsResponse, instruction_in m.1)
         → kind_deeds v h m (Ok (IsResponse, instruction_in m.1)) ≡ first_row (controller_rows v h m)

@@ -7,11 +7,11 @@ use Rattle.node_machine.specs.world.Lines.{Occurrence}
 use Rattle.node_laws.specs.answers.Moments.{Moment}
 
 -- the first element, or this one
-abbrev first_or : {X : Type 0} → X → List X → X
+abbrev pub first_or : {X : Type 0} → X → List X → X
 first_or x [] = x
 first_or x (y ∷ ys) = y
 
-abbrev rest_of : {X : Type 0} → List X → List X
+abbrev pub rest_of : {X : Type 0} → List X → List X
 rest_of [] = []
 rest_of (y ∷ ys) = ys
 

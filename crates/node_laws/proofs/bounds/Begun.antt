@@ -330,7 +330,7 @@ module _ (hosts : List ℕ) (most : length hosts ≤ 7) (all : ℕ) (os : List O
       gone_free [] = refl
       gone_free (s ∷ sites) =
           let first = notes_free s.host (aged_entries Controller s.link.to_controller ++ aged_entries Host s.link.to_host)
-          (wires_all IsNoSent (λ w c. tt) (λ w c. tt) (λ w c why. tt) (λ w. tt) Controller Host s.link.to_controller s.link.to_host) in
+          (wires_all IsNoSent (λ w c. tt) Controller Host s.link.to_controller s.link.to_host) in
           let rest = gone_free sites in
           let both = costs-append (gone s) (flat_map gone sites) in
           omega (arith, first, rest, both)

@@ -163,11 +163,11 @@ frames_free who h l k = go (port_at k.ports h) where
   go None = refl
   go (Some p) =
       notes_free h (ending_entries who l p.side (ending_of k))
-      (ending_all IsNoSent (λ w c. tt) (λ w c. tt) (λ w c why. tt) (λ w. tt) who l p.side (ending_of k))
+      (ending_all IsNoSent (λ w c. tt) (λ w c. tt) (λ w. tt) who l p.side (ending_of k))
 
 pub arrival_free : (who : Side) (h : ℕ) (l : Link) (comes : Comes) → costs (entries_for h (arrival who l comes)) ≡ 0
 arrival_free who h l comes =
-    notes_free h (arrival who l comes) (arrival_all IsNoSent (λ w c. tt) (λ w c. tt) (λ w c why. tt) (λ w. tt) who l comes)
+    notes_free h (arrival who l comes) (arrival_all IsNoSent (λ w c. tt) who l comes)
 
 -- ## Nodes
 
@@ -547,7 +547,7 @@ ticks_paid w calm orderly few =
     let f : Site → List Entry = λ s. entries_for s.host (aged_entries Controller s.link.to_controller ++ aged_entries Host s.link.to_host) in
     let none : costs old.1 ≡ 0 =
     flat_free f (λ s. notes_free s.host (aged_entries Controller s.link.to_controller ++ aged_entries Host s.link.to_host)
-    (wires_all IsNoSent (λ w c. tt) (λ w c. tt) (λ w c why. tt) (λ w. tt) Controller Host s.link.to_controller s.link.to_host)) w.sites in
+    (wires_all IsNoSent (λ w c. tt) Controller Host s.link.to_controller s.link.to_host)) w.sites in
     let fine : IsOrderly old.0 = orderly_map w w.memory w.controller age (λ s. refl) orderly orderly.controller (λ s n. n) in
     let old_long : length old.0.sites ≡ length w.sites = length-map w.sites age in
     let less = sites_less age (λ s. let link = aged_holds s.link in omega (arith, link)) w.sites in
@@ -631,7 +631,7 @@ lost_paid w e why =
     omega (arith, none, less, same))
   where
     losses : (who : Side) (xs : List OnWire) → AllByRecursion IsNoSent (first_lost who why xs)
-    losses who xs = lost_all IsNoSent (λ w c. tt) (λ w c. tt) (λ w c why. tt) (λ w. tt) who why xs
+    losses who xs = lost_all IsNoSent (λ w c why. tt) who why xs
 
 -- ## Events
 

@@ -5,6 +5,7 @@ use Rattle.std.specs.Prelude.{Option, Some, None, is_some, nat_le}
 use Rattle.std.specs.List.{AllByRecursion, flat_map}
 use Rattle.std.specs.Option.{option_map, option_map_or}
 use Rattle.std.proofs.lemmas.Bool.{cases_Bool, eqb-true, eqb-false, ne_eqb, true≢false}
+use mathlib.Core.Bool.{or-false, or-true}
 use Rattle.trace_model.specs.declared.entry.Entry.{Entry}
 use Rattle.shdlc_core.specs.declared.answers.LinkState.TheVariants.{Up}
 use Rattle.link_laws.specs.machine.Machine.{LinkEnd, LinkInput, after_input, ended_by}
@@ -43,10 +44,6 @@ use Rattle.node_laws.proofs.creations.Asides.{input_aside}
 use Rattle.node_laws.proofs.creations.Doing.{EndHas, EndAt, IsOn, reading}
 use Rattle.node_laws.proofs.steps.Ports.{at_port, come_host, late_host}
 
-or_false : (b : Bool) → (b || false) ≡ b
-or_false true = refl
-or_false false = refl
-
 -- whether the session of the end with a host has ended
 pub over_at : (ports : List Port) (x : ℕ) → AreDifferent (map (λ (p : Port). p.desk.host) ports)
     → is_over_at ports x ≡ option_map_or is_over (port_at ports x) false
@@ -61,7 +58,7 @@ over_at (p ∷ ports) x d = go (cases_Bool (eqb p.desk.host x)) (over_at ports x
 
   go : (eqb p.desk.host x ≡ true) ⊎ (eqb p.desk.host x ≡ false) → is_over_at ports x ≡ option_map_or is_over (port_at ports x) false
       → is_over_at (p ∷ ports) x ≡ option_map_or is_over (port_at (p ∷ ports) x) false
-  go (inl is) later = rw is (ap (λ b. is_over p || b) (none ports d.0 is) ∙ or_false (is_over p))
+  go (inl is) later = rw is (ap (λ b. is_over p || b) (none ports d.0 is) ∙ or-false (is_over p))
   go (inr off) later = rw off later
 
 -- an end behind what came: of one whose session ended it isn't said that it is up
@@ -83,7 +80,7 @@ module _ (n : ℕ) (l : List Creation) (p : Port) (fresh : IsFresh p) where
   not_over = rw (fresh.0, fresh.1) refl
 
   come_over : (i : LinkInput) → is_over (has_come p (Some i)) ≡ is_some (ended_by p.side i)
-  come_over i = ap (λ c. is_some (ended_by p.side i) || c) fresh.1 ∙ or_false (is_some (ended_by p.side i))
+  come_over i = ap (λ c. is_some (ended_by p.side i) || c) fresh.1 ∙ or-false (is_some (ended_by p.side i))
 
   pub come_is : (o : Option LinkInput) (r : Option (List ℕ)) → ((i : LinkInput) → o ≡ Some i → IsComing i) → EndHas n l p.side
       → IsCome n l r (option_map_or (λ i. cond (is_some (ended_by p.side i)) None r) o r) (Some (has_come p o))
@@ -131,10 +128,6 @@ late_is n l q r s fresh up shut a = go (is_late q) refl where
   not_of true e = sym e
   not_of false e = refl
 
-  late_over : (b : Bool) → (b || true) ≡ true
-  late_over true = refl
-  late_over false = refl
-
   go : (b : Bool) → is_late q ≡ b → IsCome n l r (cond (is_late q) (cond (is_some (ended_by q.side (Reset None))) None s) s) (Some (reset_late q))
   go false e = rw e a
   go true e =
@@ -143,7 +136,7 @@ late_is n l q r s fresh up shut a = go (is_late q) refl where
       reset_ends q.side shut (up (not_of q.ended parts.1) (some_of q.desk.notice parts.0)) in
       let reset : Port = record q { side = after_input q.side (Reset None); late = true } in
       let is : reset_late q ≡ reset = rw e refl in
-      let over : is_over reset ≡ true = late_over q.ended in
+      let over : is_over reset ≡ true = or-true q.ended in
       let gone : cond (is_late q) (cond (is_some (ended_by q.side (Reset None))) None s) s ≡ None =
       ap (λ b. cond b (cond (is_some (ended_by q.side (Reset None))) None s) s) e ∙ ap (λ b. cond b None s) ends in
       let here : IsCome n l r None (Some reset) = (

@@ -4,6 +4,7 @@ use Rattle.std.specs.Prelude.{◌&&◌, not, is_none, Option, Some, None, is_som
 use Rattle.std.specs.List.{AllByRecursion, find, list_any, range_with_len}
 use Rattle.std.specs.Option.{option_map_or}
 use Rattle.std.proofs.lemmas.Bool.{cases_Bool, eqb-true, eq-eqb, true≢false}
+use mathlib.Core.Bool.{or-false}
 use Rattle.trace_model.specs.declared.entry.Entry.{Entry}
 use Rattle.hci_tables.specs.declared.command.Command.{Command}
 use Rattle.link_laws.specs.machine.Machine.{LinkEnd, turn, give_refusal}
@@ -140,11 +141,7 @@ module _ (pid : ℕ) where
   read_pipe None [] k = refl
   read_pipe (Some m) (c ∷ []) k =
       ap (λ (d : Command). option_map_or (λ (n : ℕ). eqb n pid) (pipe_of d) false || false) k.command
-      ∙ (or_none (eqb k.row.pid pid) ∙ ap (λ (z : List ℕ). eqb (slice_index z 5) pid) (sym k.message_is))
-    where
-      or_none : (b : Bool) → (b || false) ≡ b
-      or_none true = refl
-      or_none false = refl
+      ∙ (or-false (eqb k.row.pid pid) ∙ ap (λ (z : List ℕ). eqb (slice_index z 5) pid) (sym k.message_is))
   read_pipe None (c ∷ l) k = absurd k
   read_pipe (Some m) [] k = absurd k
   read_pipe (Some m) (c ∷ d ∷ l) k = absurd k

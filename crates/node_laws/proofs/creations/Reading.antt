@@ -1,8 +1,9 @@
 -- What is read of a creation that a host asked for, over what a controller notes.
-use Rattle.std.proofs.Common.{◌≡◌, ℕ, ◌&&◌, ◌||◌, Bool, true, false, cond, eqb, List, [], ◌∷◌, ◌++◌, map, sym, refl, ap, ◌∙◌, append_assoc}
+use Rattle.std.proofs.Common.{◌≡◌, ℕ, ◌&&◌, Bool, true, false, cond, eqb, List, [], ◌∷◌, ◌++◌, map, sym, refl, ap, ◌∙◌, append_assoc}
 use Rattle.std.specs.Prelude.{Option, Some, None, is_some, option_to_list, take, drop}
 use Rattle.std.specs.List.{flat_map, list_any}
 use Rattle.std.proofs.lemmas.List.Sums.{fold-append}
+use mathlib.Core.Bool.{and-false, or-false}
 use Rattle.trace_model.specs.declared.entry.Entry.{Entry}
 use Rattle.trace_model.specs.declared.entry.Entry.TheVariants as entry
 use Rattle.swp_base.specs.declared.link_terms.Cause.{Cause}
@@ -43,13 +44,9 @@ module _ (x : ℕ) where
           far_asks x (entries_for p.desk.host rest) (quiet_far p.desk.host rest (rest_quiet Controller p.session (whole_acked (after_input p.side i))
           (report p.side i))) c
 
-      off : (b : Bool) → (b && false) ≡ false
-      off true = refl
-      off false = refl
-
       go : (o : Option Cause) → asks x (entries_for p.desk.host (map (Down Controller) (option_to_list o) ++ rest)) r
           ≡ cond (eqb p.desk.host x && is_some o) None r
-      go None = quiet r ∙ ap (λ b. cond b None r) (sym (off (eqb p.desk.host x)))
+      go None = quiet r ∙ ap (λ b. cond b None r) (sym (and-false (eqb p.desk.host x)))
       go (Some cause) = quiet (cond (same_end (end_of p.desk.host Controller) (end_c x)) None r)
 
   -- what is told of an input tells of creations what it tells of notices
@@ -88,8 +85,4 @@ module _ (x : ℕ) where
       → asks x (entry.Ask to message ∷ []) r ≡ cond (eqb c.asker x) (Some message) r
   asked_reads to message c r is =
       ap (λ b. cond b (Some message) r) (ap (λ (m : List ℕ). list_any (λ y. eqb y x) (take 1 (drop 1 m))) is.message_is
-      ∙ (or_none (eqb is.row.creator x) ∙ ap (λ n. eqb n x) is.asker))
-    where
-      or_none : (b : Bool) → (b || false) ≡ b
-      or_none true = refl
-      or_none false = refl
+      ∙ (or-false (eqb is.row.creator x) ∙ ap (λ n. eqb n x) is.asker))

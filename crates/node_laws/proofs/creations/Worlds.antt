@@ -63,7 +63,7 @@ nothing t w a = subst (λ l. Reads l w) (sym (append-nil t)) a
 aged_far : (w : NodeWorld) → AreFar (all_aged w).1
 aged_far w = far_flat (λ (s : Site). entries_for s.host (aged_entries Controller s.link.to_controller ++ aged_entries Host s.link.to_host))
     (λ s. quiet_far s.host (aged_entries Controller s.link.to_controller ++ aged_entries Host s.link.to_host)
-    (wires_all IsQuiet (λ w c. tt) (λ w c. tt) (λ w c why. tt) (λ w. tt) Controller Host s.link.to_controller s.link.to_host)) w.sites
+    (wires_all IsQuiet (λ w c. tt) Controller Host s.link.to_controller s.link.to_host)) w.sites
 
 -- an end of a controller that doesn't run has a tick
 tick_ready : (e : LinkEnd) → HasSetAside [] e → HasSetAside [] (sent_all (after_input e Tick))

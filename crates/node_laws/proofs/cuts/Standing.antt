@@ -6,6 +6,7 @@ use Rattle.std.specs.List.{AllByRecursion, fold, list_any}
 use Rattle.std.proofs.lemmas.List.Folds.{list_any-append}
 use Rattle.std.proofs.lemmas.Bool.{cases_Bool, ne_eqb, eq-eqb, true≢false}
 use Rattle.std.proofs.Math.Seq.{take-append_seam, take-length}
+use mathlib.Core.Bool.{or-false}
 use Rattle.swp_base.specs.InMemory.{Memory}
 use Rattle.trace_model.specs.declared.entry.Entry.{Entry}
 use Rattle.trace_model.specs.declared.entry.Entry.TheVariants as entry
@@ -86,10 +87,7 @@ none_boots n r (e ∷ es) all =
 -- entries without a boot of the node
 pub still_booted : (n : ℕ) (t es : List Entry) → list_any (is_boot_of n) es ≡ false → list_any (is_boot_of n) (t ++ es) ≡ list_any (is_boot_of n) t
 still_booted n t es none =
-    list_any-append (is_boot_of n) t es ∙ ap (λ b. list_any (is_boot_of n) t || b) none ∙ either (list_any (is_boot_of n) t) where
-      either : (b : Bool) → (b || false) ≡ b
-      either true = refl
-      either false = refl
+    list_any-append (is_boot_of n) t es ∙ ap (λ b. list_any (is_boot_of n) t || b) none ∙ or-false (list_any (is_boot_of n) t)
 
 -- ## Nothing of the node
 

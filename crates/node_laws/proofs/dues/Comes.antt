@@ -6,6 +6,7 @@ use Rattle.std.specs.List.{AllByRecursion, filter, flat_map, list_any}
 use Rattle.std.specs.Option.{option_map_or}
 use Rattle.std.proofs.lemmas.Bool.{true≢false}
 use Rattle.std.proofs.lemmas.List.Concat.{flat_map-append}
+use mathlib.Core.Bool.{or-false}
 use Rattle.registry.proofs.ValueLemmas.{AllByRecursion-append as all_append}
 use Rattle.trace_model.specs.declared.entry.Entry.{Entry}
 use Rattle.trace_model.specs.declared.entry.Entry.TheVariants as entry
@@ -337,24 +338,17 @@ module _ (hosts : List ℕ) (are : AreHosts hosts) (past : List Occurrence) (w :
         (any_none any_cause (end_c k) frames
         (flat_downless (λ (s : Site). frames_noted Controller s.host (wires_for s.link (comes_to h comes s.host)) last)
         (λ s. frames_downless Controller s.host (wires_for s.link (comes_to h comes s.host)) last) w.sites)) (others_down k rest other))
-        ∙ (or_none (ends_at k last.entries)
+        ∙ (or-false (ends_at k last.entries)
         ∙ step_at any_cause (end_c k) k begun (arrival_downless Controller h l comes) different
         (λ j. ap (λ z. same_end (end_of j z) (end_c k)) (controller_side r.core has.number) ∙ near_same j k) h i))
-      where
-        or_none : (b : Bool) → (b || false) ≡ b
-        or_none true = refl
-        or_none false = refl
 
     come_over : (p : Port) → IsFresh p → (o : Option LinkInput) → ends_by any_cause (end_c p.desk.host) p o ≡ is_over (has_come p o)
     come_over p fresh None = sym (rw (fresh.0, fresh.1) refl)
-    come_over p fresh (Some j) = go (ended_by p.side j) ∙ sym (ap (λ b. is_some (ended_by p.side j) || b) fresh.1 ∙ or_none (is_some (ended_by p.side j))) where
-      or_none : (b : Bool) → (b || false) ≡ b
-      or_none true = refl
-      or_none false = refl
-
-      go : (o : Option _) → option_map_or any_cause o false ≡ is_some o
-      go None = refl
-      go (Some cause) = refl
+    come_over p fresh (Some j) =
+        go (ended_by p.side j) ∙ sym (ap (λ b. is_some (ended_by p.side j) || b) fresh.1 ∙ or-false (is_some (ended_by p.side j))) where
+          go : (o : Option _) → option_map_or any_cause o false ≡ is_some o
+          go None = refl
+          go (Some cause) = refl
 
     come_late : (p : Port) → IsFresh p → (o : Option LinkInput) → (has_come p o).late ≡ false
     come_late p fresh None = fresh.1

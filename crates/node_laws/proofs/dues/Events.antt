@@ -175,7 +175,7 @@ module _ (header : Header) (lines : List Line) (t : NodeHistory) (follows : Foll
             let o : Occurrence = record { cause = Loses e why; entries = es } in
             nothing_due hosts past o refl
             (unanswered_all 0 es (frames_unheard e.link (first_lost who why xs)
-            (lost_all IsFrame (λ w c. tt) (λ w c. tt) (λ w c why. tt) (λ w. tt) who why xs)).1)
+            (lost_all IsFrame (λ w c why. tt) who why xs)).1)
             (tookless_all (tables_in (entries_in past) 0) es (first_tookless e.link who why xs))
             (owed_calm hosts past o (λ k. any_none any_cause (end_c k) es (notes_downless e.link (first_lost who why xs) (lost_quiet who why xs)))
             (λ k. refl))

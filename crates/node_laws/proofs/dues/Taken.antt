@@ -2,7 +2,7 @@
 use Rattle.std.proofs.Common.{◌≡◌, ◌⊎◌, inl, inr, ℕ, ◌+◌, ◌*◌, ◌/◌, ◌%◌, ◌≤◌, Bool}
 use Rattle.std.proofs.Common.{true, false, cond, List, [], ◌∷◌, ◌++◌, length, map, sym, refl, ap, ◌∙◌}
 use Rattle.std.proofs.Common.{subst, arith}
-use Rattle.std.specs.Prelude.{◌==◌, find, nat_le, nat_lt, option_to_list, Option, Some, None, Result, Ok, Err}
+use Rattle.std.specs.Prelude.{◌==◌, find, nat_le, nat_lt, Option, Some, None, Result, Ok, Err}
 use Rattle.std.specs.List.{AllByRecursion, flat_map}
 use Rattle.std.specs.Option.{option_map_or}
 use Rattle.std.proofs.lemmas.Bool.{and_right, lt-leb, true≢false}
@@ -23,9 +23,9 @@ use Rattle.link_laws.specs.machine.Machine.LinkInput.{Reset}
 use Rattle.link_laws.specs.messages.Links.{Ending, Link, Loss, put}
 use Rattle.link_laws.specs.messages.Links.Ending.{CutOff, GoesOut}
 use Rattle.link_laws.specs.messages.Links.Loss.{TooMany, TooOld}
-use Rattle.link_laws.specs.entries.Entries.{End as Side, Entry as Noted, aged_entries, ending_entries, far, first_lost, if_so, pushed_out, put_entries}
+use Rattle.link_laws.specs.entries.Entries.{End as Side, Entry as Noted, aged_entries, ending_entries, far, first_lost, pushed_out, put_entries}
 use Rattle.link_laws.specs.entries.Entries.{puts_entries, told, wire_with}
-use Rattle.link_laws.specs.entries.Entries.Entry.{Acked, Active, Cut, Down, GaveUp, Got, Lost, Restarted, Tick as Ticked, Took, Up}
+use Rattle.link_laws.specs.entries.Entries.Entry.{Cut, Lost, Restarted, Tick as Ticked, Took}
 use Rattle.link_laws.specs.entries.Entries.End.{Controller, Host}
 use Rattle.history.specs.Steps.{entries_for}
 use Rattle.node_machine.specs.Parts.{Core, Deed, Port, Work}
@@ -37,6 +37,7 @@ use Rattle.node_machine.specs.world.World.{Site, end_c, ending_of, frames_noted,
 use Rattle.node_laws.specs.passes.Steps.{told_of_coming, told_of_late}
 use Rattle.node_laws.specs.power.Powers.{AreNotOf, is_of_node}
 use Rattle.node_laws.specs.answers.Unasked.{new_sync}
+use Rattle.node_laws.proofs.telling.Reported.{told_all}
 use Rattle.node_laws.proofs.Cases.{by_test}
 
 -- ## LPDUs
@@ -193,22 +194,8 @@ notes_tookless h (Restarted who ∷ xs) a = notes_tookless h xs a.1
 notes_tookless h (Cut who ∷ xs) a = notes_tookless h xs a.1
 notes_tookless h (_ ∷ xs) a = (refl, notes_tookless h xs a.1)
 
-map_takes : {X : Type 0} (f : X → Noted) → ((x : X) → IsNoTake (f x)) → (xs : List X) → AreNoTakes (map f xs)
-map_takes f one [] = tt
-map_takes f one (x ∷ xs) = (one x, map_takes f one xs)
-
-if_takes : (b : Bool) (x : Noted) → IsNoTake x → AreNoTakes (if_so b x)
-if_takes true x a = (a, tt)
-if_takes false x a = tt
-
 told_takes : (who : Side) (n : ℕ) (r : Report) (acked : ℕ) → AreNoTakes (told who n r acked)
-told_takes who n r acked =
-    all_append IsNoTake (map (Down who) (option_to_list r.ended)) _ (map_takes (Down who) (λ x. tt) (option_to_list r.ended))
-    (all_append IsNoTake (if_so r.began (Up who n)) _ (if_takes r.began (Up who n) tt)
-    (all_append IsNoTake (if_so r.became_active (Active who)) _ (if_takes r.became_active (Active who) tt)
-    (all_append IsNoTake (map (GaveUp who) (option_to_list r.gave_up)) _ (map_takes (GaveUp who) (λ x. tt) (option_to_list r.gave_up))
-    (all_append IsNoTake (if_so (nat_lt 0 r.acked) (Acked who n acked)) _ (if_takes (nat_lt 0 r.acked) (Acked who n acked) tt)
-    (map_takes (Got who n) (λ x. tt) r.got)))))
+told_takes who n r acked = told_all IsNoTake who n acked tt tt (λ k. tt) tt (λ m. tt) (λ c. tt) r
 
 at_tookless : (core : Core) (p : Port) (o : Option LinkInput) → AreTookless (told_at core p o)
 at_tookless core p None = tt

@@ -63,6 +63,7 @@ use Rattle.node_laws.specs.answers.Answered.{IsHeldFor, IsReplied, is_left_short
 use Rattle.node_laws.specs.answers.Order.{turn_link}
 use Rattle.node_laws.specs.reply_passes.Counts.{commands_noted as commits}
 use Rattle.node_laws.specs.read_rooms.Moments.{ArePortsRead, HoldsInStep, host_begins_step}
+use Rattle.node_laws.proofs.passes.Turnless.{beginning_turnless, sending_turnless}
 use Rattle.node_laws.proofs.read_rooms.HostLines.{activated_read, host_read, ticked_read}
 use Rattle.node_laws.proofs.reply_passes.Sides.{AreNoBoots}
 use Rattle.node_laws.proofs.worlds.Ascending.{frames_turnless}
@@ -70,7 +71,7 @@ use Rattle.node_laws.proofs.worlds.Hearing.{out_unanswered}
 use Rattle.node_laws.proofs.worlds.Late.{ticked_host}
 use Rattle.node_laws.proofs.worlds.Order.{unanswered_all}
 use Rattle.node_laws.proofs.worlds.Steps.{near_node}
-use Rattle.node_laws.proofs.worlds.Turns.{begun_turnless, beginning_turnless, boots_turnless, lost_turnless, other_turns, sending_turnless, turnless_there}
+use Rattle.node_laws.proofs.worlds.Turns.{begun_turnless, boots_turnless, lost_turnless, other_turns, turnless_there}
 use Rattle.node_laws.proofs.hosts.Answering.{AreUnanswered}
 use Rattle.node_laws.proofs.hosts.Beginning.{OpensQuietly, arrival_opens, begins_so, blank_opens, power, steps_boot}
 use Rattle.node_laws.proofs.hosts.Lifting.{NoneAt, is_none, others_quiet, quiet_if, step_so}

@@ -1,11 +1,12 @@
 -- At its turn a message gets from a host the reply that is read, and lacks what is read.
-use Rattle.std.proofs.Common.{◌≡◌, ◌⊎◌, inl, inr, ℕ, ◌-◌, ◌^◌, ◌||◌, Bool, true, false, cond, eqb, List, [], ◌∷◌, ◌++◌, length, sym, refl, ap, ap₂, ◌∙◌}
+use Rattle.std.proofs.Common.{◌≡◌, ◌⊎◌, inl, inr, ℕ, ◌-◌, ◌^◌, Bool, true, false, cond, eqb, List, [], ◌∷◌, ◌++◌, length, sym, refl, ap, ap₂, ◌∙◌}
 use Rattle.std.proofs.Common.{subst, arith}
 use Rattle.std.specs.Prelude.{min, is_some, Option, Some, None}
 use mathlib.Core.Path.{fun_ext}
 use Rattle.std.specs.List.{AllByRecursion}
 use Rattle.std.specs.Option.{option_and_then, option_map_or}
 use Rattle.std.proofs.lemmas.Bool.{cases_Bool, cond-true, eq-eqb, eqb-true, ne_eqb}
+use mathlib.Core.Bool.{or-false}
 use Rattle.swp_base.specs.InMemory.{Memory}
 use Rattle.trace_model.specs.Lines.{IsHost}
 use Rattle.trace_model.specs.declared.entry.Entry.{Entry}
@@ -49,13 +50,9 @@ use Rattle.node_laws.proofs.hosts.Shapes.{GivesOnce, host_once, once_given, repl
 abbrev pub errors_behind : ℕ → List Entry → ErrorCount
 errors_behind n u = reads (end_h n) u no_errors
 
-or_false : (b : Bool) → (b || false) ≡ b
-or_false true = refl
-or_false false = refl
-
 -- a host has one link, its own
 pub linked_far : (hosts : List ℕ) (n : ℕ) → eqb n 0 ≡ false → (j : ℕ) → is_linked hosts n j ≡ eqb n j
-linked_far hosts n off j = ap (λ b. is_one_of (cond b hosts (n ∷ [])) j) off ∙ or_false (eqb n j)
+linked_far hosts n off j = ap (λ b. is_one_of (cond b hosts (n ∷ [])) j) off ∙ or-false (eqb n j)
 
 -- the reply of a host, by what is read of it and of its end
 pub far_reply : (hosts : List ℕ) (n : ℕ) → eqb n 0 ≡ false → (m : Moment) (message : Message)

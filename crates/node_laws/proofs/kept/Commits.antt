@@ -72,17 +72,17 @@ knows_from content s t says some version enough holds = record {
   };
 }
 
-after-append : (first later : List Write) (c : List ℕ) → after_writes (first ++ later) c ≡ after_writes later (after_writes first c)
+pub after-append : (first later : List Write) (c : List ℕ) → after_writes (first ++ later) c ≡ after_writes later (after_writes first c)
 after-append [] later c = refl
 after-append (w ∷ first) later c = after-append first later (overwritten c w.at w.bytes)
 
-cut-append : (k : ℕ) (first later : List Write) (c left : List ℕ) → IsCut k (first ++ later) c left
+pub cut-append : (k : ℕ) (first later : List Write) (c left : List ℕ) → IsCut k (first ++ later) c left
     → IsCut k first c left ⊎ ((j : ℕ) × IsCut j later (after_writes first c) left)
 cut-append k [] later c left cut = inr (k, cut)
 cut-append zero (w ∷ first) later c left cut = inl cut
 cut-append (suc k) (w ∷ first) later c left cut = cut-append k first later (overwritten c w.at w.bytes) left cut
 
-some_other : (o : Option Side) → IsSome o → IsSome (option_map other o)
+pub some_other : (o : Option Side) → IsSome o → IsSome (option_map other o)
 some_other None some = some
 some_other (Some side) some = refl
 
@@ -93,7 +93,7 @@ pub record IsLeftBetween (writes : List Write) (content left : List ℕ) : Type 
   pub cut : IsCut at writes content left
 
 -- so it says what the memory said before, or behind all of them
-says_either : (writes : List Write) (content left : List ℕ) → IsLeftBetween writes content left
+pub says_either : (writes : List Write) (content left : List ℕ) → IsLeftBetween writes content left
     → (journal left ≡ journal content) ⊎ (journal left ≡ journal (after_writes writes content))
 says_either writes content left b =
     journal_left writes content left (record { whole = b.at; cut = b.cut; says = b.whole.says b.at left b.cut })

@@ -4,6 +4,7 @@ use Rattle.std.specs.Prelude.{Option, Some, None, option_to_list}
 use Rattle.std.specs.List.{AllByRecursion, flat_map, fold}
 use Rattle.std.proofs.lemmas.List.Sums.{fold-append}
 use Rattle.std.specs.Option.{option_map_or}
+use mathlib.Core.Bool.{and-false}
 use Rattle.trace_model.specs.declared.entry.Entry.{Entry}
 use Rattle.trace_model.specs.declared.entry.Entry.TheVariants as entry
 use Rattle.trace_model.specs.declared.line.End.{End}
@@ -51,10 +52,7 @@ far_flat f one (x ∷ xs) = far-append (f x) (flat_map f xs) (one x) (far_flat f
 
 -- an end of a host is no end of the controller
 pub not_near : (e : End) (x : ℕ) → e.at_host ≡ true → same_end e (end_c x) ≡ false
-not_near e x far = ap (λ b. eqb e.link x && same_side b false) far ∙ off (eqb e.link x) where
-  off : (b : Bool) → (b && false) ≡ false
-  off true = refl
-  off false = refl
+not_near e x far = ap (λ b. eqb e.link x && same_side b false) far ∙ and-false (eqb e.link x)
 
 module _ (x : ℕ) where
   off_one : (b : Bool) (y z : Option (List ℕ)) → b ≡ false → cond b y z ≡ z

@@ -246,7 +246,7 @@ module _ (t : List Entry) (w : NodeWorld) (orderly : IsOrderly w) (ups : Notices
   pub aged_far : AreFar (all_aged w).1
   aged_far = far_flat (λ (s : Site). entries_for s.host (aged_entries Controller s.link.to_controller ++ aged_entries Host s.link.to_host))
       (λ s. quiet_far s.host (aged_entries Controller s.link.to_controller ++ aged_entries Host s.link.to_host)
-      (wires_all IsQuiet (λ w c. tt) (λ w c. tt) (λ w c why. tt) (λ w. tt) Controller Host s.link.to_controller s.link.to_host)) w.sites
+      (wires_all IsQuiet (λ w c. tt) Controller Host s.link.to_controller s.link.to_host)) w.sites
 
   aged_good : AreGood (all_aged w).0.sites
   aged_good = good_map (λ (s : Site). record s { link = aged s.link }) (λ s b. record { host = b.host; node = b.node; shut = b.shut }) w.sites a.sites

@@ -4,6 +4,7 @@ use Rattle.std.specs.Prelude.{Option, Some, None, is_some, option_to_list}
 use Rattle.std.specs.List.{AllByRecursion, fold}
 use Rattle.std.proofs.Math.Bool.{and-true}
 use Rattle.std.proofs.lemmas.List.Sums.{fold-append}
+use mathlib.Core.Bool.{and-false}
 use Rattle.trace_model.specs.declared.entry.Entry.{Entry}
 use Rattle.swp_base.specs.declared.link_terms.Cause.{Cause}
 use Rattle.link_laws.specs.machine.Machine.{Message, LinkInput, Refused, ended_by, report, whole_acked, after_input}
@@ -59,13 +60,9 @@ module _ (x : ℕ) where
       quiet : AllByRecursion IsQuiet rest
       quiet = rest_quiet Controller p.session (whole_acked (after_input p.side i)) (report p.side i)
 
-      off : (b : Bool) → (b && false) ≡ false
-      off true = refl
-      off false = refl
-
       go : (o : Option Cause) → reads (entries_for p.desk.host (map (Down Controller) (option_to_list o) ++ rest)) c
           ≡ cond (eqb p.desk.host x && is_some o) None c
-      go None = quiet_reads p.desk.host rest c quiet ∙ ap (λ b. cond b None c) (sym (off (eqb p.desk.host x)))
+      go None = quiet_reads p.desk.host rest c quiet ∙ ap (λ b. cond b None c) (sym (and-false (eqb p.desk.host x)))
       go (Some cause) = quiet_reads p.desk.host rest (cond (same_end (end_of p.desk.host Controller) (end_c x)) None c) quiet
 
   -- a message that is no notice on pipe 01 reads as nothing

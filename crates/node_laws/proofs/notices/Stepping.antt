@@ -4,6 +4,7 @@ use Rattle.std.specs.Prelude.{Option, Some, None, is_some, nat_le}
 use Rattle.std.specs.List.{AllByRecursion, flat_map}
 use Rattle.std.specs.Option.{option_map_or}
 use Rattle.std.proofs.lemmas.Bool.{cases_Bool, eqb-true, eqb-false, ne_eqb, eq-eqb, true≢false, and_from, le-leb}
+use mathlib.Core.Bool.{or-false, or-true}
 use Rattle.trace_model.specs.Lines.{IsHost}
 use Rattle.trace_model.specs.declared.entry.Entry.{Entry}
 use Rattle.hci_tables.specs.declared.command.Command.TheVariants.{Sync}
@@ -154,10 +155,7 @@ module _ (p : Port) (fresh : IsFresh p) (up : UpAt (Some p)) (shut : IsShut p.si
       }
   come_is r (Some i) coming kept = go (is_some (ended_by p.side i)) refl where
     over : (b : Bool) → is_some (ended_by p.side i) ≡ b → is_over (has_come p (Some i)) ≡ b
-    over b e = ap (λ c. c || p.late) e ∙ (ap (λ c. b || c) fresh.1 ∙ same b) where
-      same : (b : Bool) → (b || false) ≡ b
-      same true = refl
-      same false = refl
+    over b e = ap (λ c. c || p.late) e ∙ (ap (λ c. b || c) fresh.1 ∙ or-false b)
 
     go : (b : Bool) → is_some (ended_by p.side i) ≡ b → IsCome (cond (is_some (ended_by p.side i)) None r) (has_come p (Some i))
     go true e = subst (λ c. IsCome (cond c None r) (has_come p (Some i))) (sym e) (record {
@@ -210,10 +208,6 @@ late_is core r q fresh a = go (is_late q) refl where
   not_of true e = sym e
   not_of false e = refl
 
-  late_over : (b : Bool) → (b || true) ≡ true
-  late_over true = refl
-  late_over false = refl
-
   go : (b : Bool) → is_late q ≡ b → IsCome (cond (is_late q) (cond (is_some (ended_by q.side (Reset None))) None r) r) (reset_late q)
   go false e = rw e a
   go true e =
@@ -221,7 +215,7 @@ late_is core r q fresh a = go (is_late q) refl where
       let not_over : is_over q ≡ false = ap (λ b. b || q.late) (not_of q.ended parts.1) ∙ fresh in
       let ends : is_some (ended_by q.side (Reset None)) ≡ true = reset_ends q.side a.shut (a.up not_over (some_of q.desk.notice parts.0)) in
       let reset : Port = record q { side = after_input q.side (Reset None); late = true } in
-      let over : is_over reset ≡ true = late_over q.ended in
+      let over : is_over reset ≡ true = or-true q.ended in
       let here : IsCome None reset = record {
         kept = λ n. absurd (true≢false (sym over ∙ n));
         gone = λ y. refl;

@@ -7,6 +7,7 @@ use Rattle.std.proofs.lemmas.Bool.{true≢false}
 use Rattle.std.proofs.lemmas.List.{length-replicate}
 use Rattle.std.proofs.lemmas.List.Folds.{list_any-append}
 use Rattle.std.proofs.lemmas.List.Sums.{fold-append}
+use mathlib.Core.Bool.{or-true}
 use Rattle.trace_model.specs.declared.entry.Entry.{Entry}
 use Rattle.trace_model.specs.declared.entry.Entry.TheVariants as entry
 use Rattle.trace_model.specs.declared.line.End.{End}
@@ -427,12 +428,8 @@ since_reset l e events run can ready alone =
       undisturbed = ap (λ k. list_any withholds (rest_of k e ++ [])) run.is ∙ (ap (list_any withholds) (append-nil (rest_of l e)) ∙ alone);
     }
 
-or_true : (b : Bool) → (b || true) ≡ true
-or_true true = refl
-or_true false = refl
-
 cut_behind : (xs ys : List Noted) → list_any is_cut ys ≡ true → list_any is_cut (xs ++ ys) ≡ true
-cut_behind xs ys q = list_any-append is_cut xs ys ∙ (ap (λ b. list_any is_cut xs || b) q ∙ or_true (list_any is_cut xs))
+cut_behind xs ys q = list_any-append is_cut xs ys ∙ (ap (λ b. list_any is_cut xs || b) q ∙ or-true (list_any is_cut xs))
 
 -- where the power goes in a step, that is noted
 rest_cut : (who : Side) (l : Link) (e : LinkEnd) (ts : List Turn) → list_any is_cut (rest_entries who l e ts CutOff) ≡ true

@@ -2,6 +2,7 @@
 use Rattle.std.proofs.Common.{◌≡◌, ℕ, Bool, true, false, cond, List, [], ◌∷◌, refl, sym, ap, ◌∙◌}
 use Rattle.std.specs.Prelude.{◌==◌, ◌&&◌, ◌||◌, not}
 use Rattle.std.specs.List.{AllByRecursion, list_any}
+use mathlib.Core.Bool.{and-false, or-true}
 use Rattle.trace_model.specs.declared.entry.Entry.{Entry}
 use Rattle.trace_model.specs.declared.entry.Entry.TheVariants as entry
 use Rattle.trace_model.specs.declared.line.End.{End}
@@ -42,19 +43,11 @@ IsBelieved h c x = (loses_one_on h x && not (loses_at h c || not (is_lost_by_lin
 abbrev pub AreBelieved : ℕ → Happening → List Entry → Type 0
 AreBelieved h c es = AllByRecursion (IsBelieved h c) es
 
-and_false : (b : Bool) → (b && false) ≡ false
-and_false true = refl
-and_false false = refl
-
-or_true : (b : Bool) → (b || true) ≡ true
-or_true true = refl
-or_true false = refl
-
 lineless_believed : (h : ℕ) (c : Happening) (es : List Entry) → AreLineless es → AreBelieved h c es
 lineless_believed h c [] a = tt
 lineless_believed h c (x ∷ es) a = (
-  ap (λ b. loses_one_on h x && not (loses_at h c || not b)) a.0 ∙ (ap (λ b. loses_one_on h x && not b) (or_true (loses_at h c))
-      ∙ and_false (loses_one_on h x)),
+  ap (λ b. loses_one_on h x && not (loses_at h c || not b)) a.0 ∙ (ap (λ b. loses_one_on h x && not b) (or-true (loses_at h c))
+      ∙ and-false (loses_one_on h x)),
   lineless_believed h c es a.1,
 )
 
@@ -76,7 +69,7 @@ lost_believed h k who why e loss (x ∷ w) same = (by (e.link == h) refl, tt) wh
     by_side Host = refl
 
   by : (b : Bool) → (e.link == h) ≡ b → IsBelieved h (Loses e loss) lost
-  by true q = ap (λ b. loses_one_on h lost && not (b || not (is_lost_by_line lost))) q ∙ and_false (loses_one_on h lost)
+  by true q = ap (λ b. loses_one_on h lost && not (b || not (is_lost_by_line lost))) q ∙ and-false (loses_one_on h lost)
   by false q =
       let off : loses_one_on h lost ≡ false = ap (λ n. (n == h) && kept) (link ∙ sym same) ∙ ap (λ b. b && kept) q in
       ap (λ b. b && not (loses_at h (Loses e loss) || not (is_lost_by_line lost))) off

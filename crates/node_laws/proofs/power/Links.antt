@@ -1,6 +1,6 @@
 -- What is noted of an end tells of its node, and of no loss of power.
-use Rattle.std.proofs.Common.{◌≡◌, ℕ, Bool, true, false, cond, List, [], ◌∷◌, length, Option, Some, None, map, refl}
-use Rattle.std.specs.Prelude.{nat_lt, option_to_list}
+use Rattle.std.proofs.Common.{◌≡◌, ℕ, Bool, true, false, cond, List, [], ◌∷◌, length, Option, Some, None, refl}
+use Rattle.std.specs.Prelude.{nat_lt}
 use Rattle.std.specs.List.{AllByRecursion}
 use Rattle.registry.proofs.ValueLemmas.{AllByRecursion-append as all_append}
 use Rattle.swp_base.specs.declared.control_frames.Control.{Control}
@@ -11,13 +11,14 @@ use Rattle.link_laws.specs.messages.Links.{Link, Comes, Loss, put}
 use Rattle.link_laws.specs.messages.Links.Ending.{GoesOut}
 use Rattle.link_laws.specs.messages.Links.Comes.{NextFrame}
 use Rattle.link_laws.specs.messages.Links.Loss.{TooMany}
-use Rattle.link_laws.specs.entries.Entries.{End as Side, Entry as Noted, far, if_so, told, sent_unless, turn_entry, first_lost, pushed_out}
+use Rattle.link_laws.specs.entries.Entries.{End as Side, Entry as Noted, far, told, sent_unless, turn_entry, first_lost, pushed_out}
 use Rattle.link_laws.specs.entries.Entries.{wire_with, put_entries}
 use Rattle.link_laws.specs.entries.Entries.{puts_entries, ending_entries}
 use Rattle.link_laws.specs.entries.Entries.Entry.{Up, Down, Active, GaveUp, Acked, Got, Sent, Emit, Took, Lost}
 use Rattle.history.specs.Steps.{end_of, entry_of, entries_for}
 use Rattle.node_machine.specs.world.World.{node_of, arrival}
 use Rattle.node_laws.proofs.power.Parts.{IsOwn, AreOwn}
+use Rattle.node_laws.proofs.telling.Reported.{told_all}
 
 -- ## No power
 
@@ -60,24 +61,8 @@ module _ (k h : ℕ) (who : Side) (own : node_of (end_of h who) ≡ k) where
   links_own [] a = tt
   links_own (x ∷ xs) a = all_append (IsOwn k) (entry_of h x) (entries_for h xs) (one_own x a.0) (links_own xs a.1)
 
--- ## What is noted of one end
-
-map_of : {X : Type 0} (who : Side) (f : X → Noted) → ((x : X) → IsOfSide who (f x)) → (xs : List X) → AreOfSide who (map f xs)
-map_of who f one [] = tt
-map_of who f one (x ∷ xs) = (one x, map_of who f one xs)
-
-if_of : (who : Side) (b : Bool) (x : Noted) → IsOfSide who x → AreOfSide who (if_so b x)
-if_of who true x a = (a, tt)
-if_of who false x a = tt
-
 pub told_of_side : (who : Side) (n : ℕ) (r : Report) (acked : ℕ) → AreOfSide who (told who n r acked)
-told_of_side who n r acked =
-    all_append (IsOfSide who) (map (Down who) (option_to_list r.ended)) _ (map_of who (Down who) (λ x. refl) (option_to_list r.ended))
-    (all_append (IsOfSide who) (if_so r.began (Up who n)) _ (if_of who r.began (Up who n) refl)
-    (all_append (IsOfSide who) (if_so r.became_active (Active who)) _ (if_of who r.became_active (Active who) refl)
-    (all_append (IsOfSide who) (map (GaveUp who) (option_to_list r.gave_up)) _ (map_of who (GaveUp who) (λ x. refl) (option_to_list r.gave_up))
-    (all_append (IsOfSide who) (if_so (nat_lt 0 r.acked) (Acked who n acked)) _ (if_of who (nat_lt 0 r.acked) (Acked who n acked) refl)
-    (map_of who (Got who n) (λ x. refl) r.got)))))
+told_of_side who n r acked = told_all (IsOfSide who) who n acked refl refl (λ k. refl) refl (λ m. refl) (λ c. refl) r
 
 sent_of_side : (o : Option Refused) (who : Side) (n : ℕ) (m : Message) → AreOfSide who (sent_unless o who n m)
 sent_of_side None who n m = (refl, tt)

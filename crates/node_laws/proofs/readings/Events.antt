@@ -142,7 +142,7 @@ module _ (hosts : List ℕ) (are : AreHosts hosts) where
     hosts_are = hosts_same (λ (s : Site). record s { link = aged s.link }) (λ s. refl) w.sites ∙ all.hosts_are;
     sites = map_reads t (all_aged w).1 (λ (s : Site). record s { link = aged s.link }) (λ s. refl) (λ s. refl) (λ s. refl)
         (λ k host. silent_flat k (λ (s : Site). entries_for s.host (aged_entries Controller s.link.to_controller ++ aged_entries Host s.link.to_host))
-        (λ s. quiet_silent k s.host _ (wires_all IsQuiet (λ w c. tt) (λ w c. tt) (λ w c why. tt) (λ w. tt) Controller Host s.link.to_controller
+        (λ s. quiet_silent k s.host _ (wires_all IsQuiet (λ w c. tt) Controller Host s.link.to_controller
         s.link.to_host)) w.sites) w.sites (subst (AllByRecursion IsHost) (sym all.hosts_are) are.all) all.sites;
   }
 

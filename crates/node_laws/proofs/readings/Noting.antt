@@ -1,7 +1,7 @@
 -- What a node notes in a step: a fact of entries holds of all of them, where it holds of what is noted of its own ends, of what it
 -- notes beside them, and of what its deeds note.
 use Rattle.std.proofs.Common.{◌≡◌, ℕ, Bool, true, false, cond, eqb, List, [], ◌∷◌, ◌++◌, length, map, sym, refl, ap, ◌∙◌, subst}
-use Rattle.std.specs.Prelude.{Option, Some, None, option_to_list, nat_lt}
+use Rattle.std.specs.Prelude.{Option, Some, None}
 use Rattle.std.specs.List.{AllByRecursion, flat_map}
 use Rattle.std.specs.Option.{option_map_or}
 use Rattle.std.proofs.lemmas.Bool.{cond_both}
@@ -9,14 +9,13 @@ use Rattle.trace_model.specs.declared.entry.Entry.{Entry}
 use Rattle.trace_model.specs.declared.entry.Entry.TheVariants as entry
 use Rattle.journal_laws.specs.Planned.{fails_within}
 use Rattle.journal_laws.specs.Journal.{count_of}
-use Rattle.swp_base.specs.declared.link_terms.Cause.{Cause}
 use Rattle.hci_tables.specs.declared.command.Command.{Command}
 use Rattle.hci_tables.specs.Bodies.{body_of}
 use Rattle.hci_store.specs.Committing.{commit_writes}
 use Rattle.link_laws.specs.machine.Machine.{Message, LinkInput, Refused, Turn, Report, give_refusal, report, whole_acked, after_input}
 use Rattle.link_laws.specs.machine.Machine.LinkInput.{Reset}
 use Rattle.link_laws.specs.machine.Machine.Turn.{Give, Hold, FetchMessage, SetAside, Release}
-use Rattle.link_laws.specs.entries.Entries.{End as Side, Entry as Noted, if_so, told, sent_unless}
+use Rattle.link_laws.specs.entries.Entries.{End as Side, Entry as Noted, told, sent_unless}
 use Rattle.link_laws.specs.entries.Entries.End.{Controller, Host}
 use Rattle.link_laws.specs.entries.Entries.Entry.{Up, Down, Active, GaveUp, Acked, Got, Sent}
 use Rattle.history.specs.Steps.{entries_for, entry_of, end_of}
@@ -36,6 +35,7 @@ use Rattle.node_machine.proofs.Walks.{Plain, OfHost, any_of_controller, all_of_h
 use Rattle.node_laws.proofs.steps.StepWalks.{got_at, all_do as all_note, Lasts, rest_lasts}
 use Rattle.node_laws.proofs.steps.Ports.{come_host, forgets_host, late_host, without_host, changed_host, sessions_node, at_port}
 use Rattle.node_laws.proofs.links.Noticing.{at_host}
+use Rattle.node_laws.proofs.telling.Reported.{told_all}
 
 -- this is noted of an end of this side
 abbrev pub IsOwnNote : Side → Noted → Type 0
@@ -87,31 +87,8 @@ module _ (P : Entry → Type 0) (core : Core) (same : P (entry.InitSame (end_of_
   pub host_notes : (p : Port) (m : Message) → AllByRecursion (NotesSo P) (host_deeds (own_view core) (end_view p) m)
   host_notes p m = all_of_host (NotesSo P) core (plain P) of_host p m (λ n value command zero is. tt)
 
--- ## What is told of an end
-
 pub all_notes : (who : Side) (n acked : ℕ) (r : Report) → AllByRecursion (IsOwnNote who) (told who n r acked)
-all_notes who n acked r =
-    AllByRecursion-append (IsOwnNote who) (map (Down who) (option_to_list r.ended)) _ (ended r.ended)
-    (AllByRecursion-append (IsOwnNote who) (if_so r.began (Up who n)) _ (so r.began (Up who n) refl)
-    (AllByRecursion-append (IsOwnNote who) (if_so r.became_active (Active who)) _ (so r.became_active (Active who) refl)
-    (AllByRecursion-append (IsOwnNote who) (map (GaveUp who) (option_to_list r.gave_up)) _ (tries r.gave_up)
-    (AllByRecursion-append (IsOwnNote who) (if_so (nat_lt 0 r.acked) (Acked who n acked)) _ (so (nat_lt 0 r.acked) (Acked who n acked) refl)
-    (got r.got))))) where
-      so : (b : Bool) (x : Noted) → IsOwnNote who x → AllByRecursion (IsOwnNote who) (if_so b x)
-      so true x is = (is, tt)
-      so false x is = tt
-
-      ended : (o : Option Cause) → AllByRecursion (IsOwnNote who) (map (Down who) (option_to_list o))
-      ended None = tt
-      ended (Some cause) = (refl, tt)
-
-      tries : (o : Option ℕ) → AllByRecursion (IsOwnNote who) (map (GaveUp who) (option_to_list o))
-      tries None = tt
-      tries (Some k) = (refl, tt)
-
-      got : (ms : List Message) → AllByRecursion (IsOwnNote who) (map (Got who n) ms)
-      got [] = tt
-      got (m ∷ ms) = (refl, got ms)
+all_notes who n acked r = told_all (IsOwnNote who) who n acked refl refl (λ k. refl) refl (λ m. refl) (λ c. refl) r
 
 turn_notes : (core : Core) (who : Side) (t : Turn) (p : Port) → own_side core ≡ who
     → AllByRecursion (IsOwnNote who) (Rattle.link_laws.specs.entries.Entries.turn_entry (own_side core) p.session p.side t)

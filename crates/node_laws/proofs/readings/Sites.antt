@@ -45,13 +45,13 @@ use Rattle.node_laws.proofs.readings.Stepping.{steps_stand}
 -- ## Frames
 
 pub lost_quiet : (who : Side) (why : Loss) (xs : List OnWire) → AllByRecursion IsQuiet (first_lost who why xs)
-lost_quiet = lost_all IsQuiet (λ w c. tt) (λ w c. tt) (λ w c why. tt) (λ w. tt)
+lost_quiet = lost_all IsQuiet (λ w c why. tt)
 
 pub ending_quiet : (who : Side) (l : Link) (e : LinkEnd) (ending : Ending) → AllByRecursion IsQuiet (ending_entries who l e ending)
-ending_quiet = ending_all IsQuiet (λ w c. tt) (λ w c. tt) (λ w c why. tt) (λ w. tt)
+ending_quiet = ending_all IsQuiet (λ w c. tt) (λ w c. tt) (λ w. tt)
 
 pub arrival_quiet : (who : Side) (l : Link) (comes : Comes) → AllByRecursion IsQuiet (arrival who l comes)
-arrival_quiet = arrival_all IsQuiet (λ w c. tt) (λ w c. tt) (λ w c why. tt) (λ w. tt)
+arrival_quiet = arrival_all IsQuiet (λ w c. tt)
 
 pub frames_read : (h : ℕ) (who : Side) (k : ℕ) (l : Link) (w : Work) (c : Option (List ℕ)) → reads h (frames_noted who k l w) c ≡ c
 frames_read h who k l w c = go (port_at w.ports k) where

@@ -1,10 +1,11 @@
 -- What is read of all hosts of a world over an event.
-use Rattle.std.proofs.Common.{◌≡◌, ◌⊎◌, inl, inr, ℕ, ◌&&◌, Bool, true, false, cond, eqb, List, [], ◌∷◌, ◌++◌, map, sym, refl, ap, ◌∙◌, subst, arith, append-nil}
+use Rattle.std.proofs.Common.{◌≡◌, ◌⊎◌, inl, inr, ℕ, Bool, true, false, cond, eqb, List, [], ◌∷◌, ◌++◌, map, sym, refl, ap, ◌∙◌, subst, arith, append-nil}
 use Rattle.std.proofs.Common.{append_assoc}
 use Rattle.std.specs.Prelude.{Option, Some, None}
 use Rattle.std.specs.List.{AllByRecursion, flat_map}
 use Rattle.std.specs.Option.{option_map_or}
 use Rattle.std.proofs.lemmas.Bool.{cases_Bool, eqb-true, eqb-false, ne_eqb, cond-true, cond-false}
+use mathlib.Core.Bool.{and-false}
 use Rattle.swp_base.specs.InMemory.{Plan}
 use Rattle.trace_model.specs.Lines.{IsHost}
 use Rattle.trace_model.specs.declared.entry.Entry.{Entry}
@@ -42,10 +43,7 @@ hosts_in sites = map (λ (s : Site). s.host) sites
 
 -- the controller's ends are no host's
 pub near_away : (k h : ℕ) → Away k Controller h
-near_away k h = off (eqb h k) where
-  off : (b : Bool) → (b && false) ≡ false
-  off true = refl
-  off false = refl
+near_away k h = and-false (eqb h k)
 
 -- nor is another host's
 pub far_away : (k h : ℕ) → eqb h k ≡ false → Away k Host h

@@ -1,9 +1,10 @@
 -- In the turns of a pass of the controller the messages at each end have them in the order in which they came.
-use Rattle.std.proofs.Common.{◌≡◌, ℕ, ◌&&◌, Bool, true, false, cond, eqb, List, [], ◌∷◌, ◌++◌, map, sym, refl, ap, ◌∙◌, subst}
+use Rattle.std.proofs.Common.{◌≡◌, ℕ, Bool, true, false, cond, eqb, List, [], ◌∷◌, ◌++◌, map, sym, refl, ap, ◌∙◌, subst}
 use Rattle.std.proofs.Common.{append-nil}
 use Rattle.std.specs.Prelude.{Option, Some, None, is_some}
 use Rattle.std.specs.Option.{option_map_or}
 use Rattle.std.specs.List.{AllByRecursion}
+use mathlib.Core.Bool.{and-false}
 use Rattle.trace_model.specs.declared.entry.Entry.{Entry}
 use Rattle.trace_model.specs.declared.line.End.{End}
 use Rattle.link_laws.specs.machine.Machine.{LinkEnd, Message}
@@ -80,10 +81,7 @@ module _ (t : List Entry) (w : NodeWorld) (r : Running) (number : r.core.node �
   far_off : (k : ℕ) (ports : List Port)
       → AllByRecursion (λ (p : Port). same_end (end_of p.desk.host Controller) (record { link = k; at_host = true }) ≡ false) ports
   far_off k [] = tt
-  far_off k (p ∷ ports) = (same_is Controller p.desk.host (record { link = k; at_host = true }) ∙ none (eqb p.desk.host k), far_off k ports) where
-    none : (b : Bool) → (b && false) ≡ false
-    none true = refl
-    none false = refl
+  far_off k (p ∷ ports) = (same_is Controller p.desk.host (record { link = k; at_host = true }) ∙ and-false (eqb p.desk.host k), far_off k ports)
 
   all_goes : (v : Work) → ComesTo begun v → (b : Bool) (k : ℕ)
       → (q : List Message) × Goes (record { link = k; at_host = b }) [] (t ++ v.entries) q

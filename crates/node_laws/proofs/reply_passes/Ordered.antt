@@ -4,6 +4,7 @@ use Rattle.std.specs.Prelude.{Option, Some, None}
 use Rattle.std.specs.List.{AllByRecursion, flat_map}
 use Rattle.std.specs.Option.{option_map_or}
 use Rattle.std.proofs.lemmas.Bool.{eqb-true}
+use mathlib.Core.Bool.{and-false}
 use Rattle.trace_model.specs.declared.entry.Entry.{Entry}
 use Rattle.trace_model.specs.declared.entry.Entry.TheVariants as entry
 use Rattle.trace_model.specs.declared.line.End.{End}
@@ -192,10 +193,7 @@ module _ (t : List Entry) (who : Side) (f : End) (off : has_side who f ≡ false
       (goes-append f (t ++ v.entries) es [] z z a (still_goes f es z still))
 
   off_end : (h : ℕ) → same_end (end_of h who) f ≡ false
-  off_end h = same_is who h f ∙ (ap (λ b. eqb h f.link && b) off ∙ none (eqb h f.link)) where
-    none : (b : Bool) → (b && false) ≡ false
-    none true = refl
-    none false = refl
+  off_end h = same_is who h f ∙ (ap (λ b. eqb h f.link && b) off ∙ and-false (eqb h f.link))
 
   pub apart_comes : (w v : Work) → own_side w.core ≡ who → Apart w → ComesTo w v → Apart v
   apart_comes w v side a c = (comes_so (λ u. (own_side u.core ≡ who) × Apart u) (record {

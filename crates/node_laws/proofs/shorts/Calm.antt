@@ -78,7 +78,7 @@ module _ (n : ℕ) where
     go None = tt
     go (Some p) =
         frames_all h (ending_entries who l p.side (ending_of v))
-        (ending_all IsFrame (λ w c. tt) (λ w c. tt) (λ w c why. tt) (λ w. tt) who l p.side (ending_of v))
+        (ending_all IsFrame (λ w c. tt) (λ w c. tt) (λ w. tt) who l p.side (ending_of v))
 
   -- what is folded over them stays
   module _ {A : Type 0} (f : A → Entry → A) (stays : (a : A) (x : Entry) → IsCalmAt x → f a x ≡ a) where

@@ -13,39 +13,19 @@ use Rattle.link_laws.specs.entries.Entries.{End as Side, Entry as Noted, far, fi
 use Rattle.link_laws.specs.entries.Entries.{aged_entries}
 use Rattle.link_laws.specs.entries.Entries.Entry.{Emit, Took, Lost, Cut}
 use Rattle.node_machine.specs.world.World.{arrival}
+use Rattle.registry.proofs.ValueLemmas.{AllByRecursion-append as all_append}
 
-module _ (P : Noted → Type 0) (emit : (who : Side) (c : Control) → P (Emit who c)) (took : (who : Side) (c : Control) → P (Took who c))
-    (lost : (who : Side) (c : Control) (why : Loss) → P (Lost who c why)) (cut : (who : Side) → P (Cut who)) where
+module _ (P : Noted → Type 0) where
   abbrev All : List Noted → Type 0
   All notes = AllByRecursion P notes
 
-  pub all-append : (xs ys : List Noted) → All xs → All ys → All (xs ++ ys)
-  all-append [] ys a b = b
-  all-append (x ∷ xs) ys a b = (a.0, all-append xs ys a.1 b)
+  pub lost_all : ((who : Side) (c : Control) (why : Loss) → P (Lost who c why)) → (who : Side) (why : Loss) (xs : List OnWire) → All (first_lost who why xs)
+  lost_all lost who why [] = tt
+  lost_all lost who why (x ∷ xs) = (lost who x.frame why, tt)
 
-  pub lost_all : (who : Side) (why : Loss) (xs : List OnWire) → All (first_lost who why xs)
-  lost_all who why [] = tt
-  lost_all who why (x ∷ xs) = (lost who x.frame why, tt)
-
-  pushed_all : (who : Side) (wire : List OnWire) → All (pushed_out who wire)
-  pushed_all who wire = go (nat_lt 64 (length wire))
-    where
-      go : (b : Bool) → All (cond b (first_lost who TooMany wire) [])
-      go true = lost_all who TooMany wire
-      go false = tt
-
-  puts_all : (who : Side) (l : Link) (cs : List Control) → All (puts_entries who l cs)
-  puts_all who l [] = tt
-  puts_all who l (c ∷ cs) =
-      all-append (put_entries who l c) (puts_entries who (put l c) cs) (emit who c, pushed_all (far who) (wire_with l c)) (puts_all who (put l c) cs)
-
-  pub ending_all : (who : Side) (l : Link) (e : LinkEnd) (ending : Ending) → All (ending_entries who l e ending)
-  ending_all who l e GoesOut = puts_all who l (frames_out e)
-  ending_all who l e CutOff = (cut who, tt)
-
-  pub arrival_all : (who : Side) (l : Link) (comes : Comes) → All (arrival who l comes)
-  arrival_all who l NextFrame = go l.to_controller
-    where
+  module _ (took : (who : Side) (c : Control) → P (Took who c)) where
+    pub arrival_all : (who : Side) (l : Link) (comes : Comes) → All (arrival who l comes)
+    arrival_all who l NextFrame = go l.to_controller where
       first : List OnWire → List Noted
       first [] = []
       first (x ∷ xs) = Took who x.frame ∷ []
@@ -53,16 +33,34 @@ module _ (P : Noted → Type 0) (emit : (who : Side) (c : Control) → P (Emit w
       go : (xs : List OnWire) → All (first xs)
       go [] = tt
       go (x ∷ xs) = (took who x.frame, tt)
-  arrival_all who l _ = tt
+    arrival_all who l _ = tt
 
-  aged_all : (who : Side) (xs : List OnWire) → All (aged_entries who xs)
-  aged_all who [] = tt
-  aged_all who (x ∷ xs) = go (nat_lt x.age 4) (aged_all who xs)
-    where
+  module _ (old : (who : Side) (c : Control) → P (Lost who c TooOld)) where
+    aged_all : (who : Side) (xs : List OnWire) → All (aged_entries who xs)
+    aged_all who [] = tt
+    aged_all who (x ∷ xs) = go (nat_lt x.age 4) (aged_all who xs) where
       go : (b : Bool) → All (aged_entries who xs) → All (cond b (aged_entries who xs) (Lost who x.frame TooOld ∷ aged_entries who xs))
       go true later = later
-      go false later = (lost who x.frame TooOld, later)
+      go false later = (old who x.frame, later)
 
-  -- on both wires of a link
-  pub wires_all : (one other : Side) (xs ys : List OnWire) → All (aged_entries one xs ++ aged_entries other ys)
-  wires_all one other xs ys = all-append (aged_entries one xs) (aged_entries other ys) (aged_all one xs) (aged_all other ys)
+    -- on both wires of a link
+    pub wires_all : (one other : Side) (xs ys : List OnWire) → All (aged_entries one xs ++ aged_entries other ys)
+    wires_all one other xs ys = all_append P (aged_entries one xs) (aged_entries other ys) (aged_all one xs) (aged_all other ys)
+
+  module _ (emit : (who : Side) (c : Control) → P (Emit who c)) (full : (who : Side) (c : Control) → P (Lost who c TooMany))
+      (cut : (who : Side) → P (Cut who)) where
+    pushed_all : (who : Side) (wire : List OnWire) → All (pushed_out who wire)
+    pushed_all who wire = go (nat_lt 64 (length wire)) wire where
+      go : (b : Bool) (xs : List OnWire) → All (cond b (first_lost who TooMany xs) [])
+      go true [] = tt
+      go true (x ∷ xs) = (full who x.frame, tt)
+      go false xs = tt
+
+    puts_all : (who : Side) (l : Link) (cs : List Control) → All (puts_entries who l cs)
+    puts_all who l [] = tt
+    puts_all who l (c ∷ cs) =
+        all_append P (put_entries who l c) (puts_entries who (put l c) cs) (emit who c, pushed_all (far who) (wire_with l c)) (puts_all who (put l c) cs)
+
+    pub ending_all : (who : Side) (l : Link) (e : LinkEnd) (ending : Ending) → All (ending_entries who l e ending)
+    ending_all who l e GoesOut = puts_all who l (frames_out e)
+    ending_all who l e CutOff = (cut who, tt)

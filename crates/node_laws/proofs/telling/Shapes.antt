@@ -1,8 +1,8 @@
 -- What the law of one link notes of a step ends with a cut exactly where the step does, and tells of no other one. So how the link
 -- stands by that law is read off the step of a node.
-use Rattle.std.proofs.Common.{◌≡◌, ℕ, Bool, true, false, cond, List, [], ◌∷◌, ◌++◌, length, map, Option, Some, None, refl, ap, sym, ◌∙◌, append-nil}
+use Rattle.std.proofs.Common.{◌≡◌, ℕ, Bool, true, false, cond, List, [], ◌∷◌, ◌++◌, length, Option, Some, None, refl, ap, sym, ◌∙◌, append-nil}
 use Rattle.std.proofs.Common.{append_assoc}
-use Rattle.std.specs.Prelude.{nat_lt, is_some, option_to_list}
+use Rattle.std.specs.Prelude.{nat_lt, is_some}
 use Rattle.std.specs.List.{flat_map}
 use Rattle.std.specs.Option.{option_map_or}
 use Rattle.std.proofs.lemmas.List.Sums.{fold-append}
@@ -17,20 +17,21 @@ use Rattle.link_laws.specs.messages.Links.{NumberedEnd, Link, Ending, Comes, Los
 use Rattle.link_laws.specs.messages.Links.Ending.{GoesOut, CutOff}
 use Rattle.link_laws.specs.messages.Links.Comes.{NextFrame, AsksReset, Starts, Stops, NoInput}
 use Rattle.link_laws.specs.messages.Links.Loss.{TooOld, TooMany}
-use Rattle.link_laws.specs.entries.Entries.{End as Side, Entry as Noted, far, if_so, told, told_of, turn_entry, sent_unless, turn_entries}
+use Rattle.link_laws.specs.entries.Entries.{End as Side, Entry as Noted, far, told, told_of, turn_entry, sent_unless, turn_entries}
 use Rattle.link_laws.specs.entries.Entries.{first_lost, pushed_out}
 use Rattle.link_laws.specs.entries.Entries.{wire_with, puts_entries, ending_entries, rest_entries, input_entries, left_after, step_entries, aged_entries}
 use Rattle.link_laws.specs.entries.Entries.{tick_entries}
 use Rattle.link_laws.specs.entries.Entries.End.{Controller, Host}
-use Rattle.link_laws.specs.entries.Entries.Entry.{Up, Down, Active, GaveUp, Acked, Got, Took, Lost, Restarted, Cut}
+use Rattle.link_laws.specs.entries.Entries.Entry.{Took, Lost, Restarted, Cut}
 use Rattle.history.specs.Steps.{entry_of, entries_for}
 use Rattle.node_machine.specs.Parts.{Port, Work}
 use Rattle.node_machine.specs.Carrying.{port_at}
 use Rattle.node_machine.specs.world.World.{Site, input_of, ending_of, frames_noted}
 use Rattle.node_laws.specs.telling.Telling.{of_link}
 use Rattle.node_laws.specs.telling.Standing.{Standing, stands_told, without_power, stands_noted, after_power, standing, law_noted, standing_by_law}
+use Rattle.node_laws.proofs.telling.Reported.{told_all}
 use Rattle.node_laws.proofs.telling.Walks.{AreUncut}
-use Rattle.node_laws.proofs.telling.Powers.{standing_said, uncut_said, said_of_link, AreClear, clear_said, uncut_flat, entries_uncut, Powered}
+use Rattle.node_laws.proofs.telling.Powers.{standing_said, uncut_said, said_of_link, AreClear, clear_said, uncut_flat, entries_uncut, Powered, IsClear}
 use Rattle.node_laws.proofs.telling.Parts.{IsStep}
 
 -- ## Clear notes
@@ -41,22 +42,8 @@ clear-append (Cut w ∷ xs) ys a b = absurd a.0
 clear-append (Restarted w ∷ xs) ys a b = absurd a.0
 clear-append (x ∷ xs) ys a b = (a.0, clear-append xs ys a.1 b)
 
-clear_so : (b : Bool) (x : Noted) → AreClear (x ∷ []) → AreClear (if_so b x)
-clear_so true x a = a
-clear_so false x a = tt
-
-clear_map : {X : Type 0} (f : X → Noted) (xs : List X) → ((x : X) → AreClear (f x ∷ [])) → AreClear (map f xs)
-clear_map f [] one = tt
-clear_map f (x ∷ xs) one = ((one x).0, clear_map f xs one)
-
 pub clear_told : (who : Side) (n : ℕ) (r : Report) (acked : ℕ) → AreClear (told who n r acked)
-clear_told who n r acked =
-    clear-append (map (Down who) (option_to_list r.ended)) _ (clear_map (Down who) (option_to_list r.ended) (λ c. (tt, tt)))
-    (clear-append (if_so r.began (Up who n)) _ (clear_so r.began (Up who n) (tt, tt))
-    (clear-append (if_so r.became_active (Active who)) _ (clear_so r.became_active (Active who) (tt, tt))
-    (clear-append (map (GaveUp who) (option_to_list r.gave_up)) _ (clear_map (GaveUp who) (option_to_list r.gave_up) (λ c. (tt, tt)))
-    (clear-append (if_so (nat_lt 0 r.acked) (Acked who n acked)) _ (clear_so (nat_lt 0 r.acked) (Acked who n acked) (tt, tt))
-    (clear_map (Got who n) r.got (λ m. (tt, tt)))))))
+clear_told who n r acked = told_all IsClear who n acked tt tt (λ k. tt) tt (λ m. tt) (λ c. tt) r
 
 clear_sent : (o : Option Refused) (who : Side) (n : ℕ) (m : Message) → AreClear (sent_unless o who n m)
 clear_sent None who n m = (tt, tt)

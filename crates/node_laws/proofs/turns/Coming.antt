@@ -1,10 +1,11 @@
 -- What waits at an end over a step of its node, and over one of another node.
-use Rattle.std.proofs.Common.{◌≡◌, ℕ, ◌==◌, ◌&&◌, Bool, true, false, cond, List, [], ◌∷◌, ◌++◌, Option, Some, None, map, refl, ap, sym, subst, ◌∙◌, append-nil}
+use Rattle.std.proofs.Common.{◌≡◌, ℕ, ◌==◌, Bool, true, false, cond, List, [], ◌∷◌, ◌++◌, Option, Some, None, map, refl, ap, sym, subst, ◌∙◌, append-nil}
 use Rattle.std.proofs.Common.{append_assoc}
 use Rattle.std.specs.Prelude.{if◌then◌else◌, nat_lt, option_to_list}
 use Rattle.std.specs.List.{AllByRecursion, flat_map}
 use Rattle.std.proofs.lemmas.Bool.{eqb-true}
 use Rattle.std.proofs.lemmas.List.Concat.{flat_map-append}
+use mathlib.Core.Bool.{and-false}
 use Rattle.trace_model.specs.declared.entry.Entry.{Entry}
 use Rattle.trace_model.specs.declared.entry.Entry.TheVariants as entry
 use Rattle.trace_model.specs.declared.line.End.{End}
@@ -136,11 +137,7 @@ reset_side p = by_test (is_late p) (λ q. rw q (reset_got p.side None)) (λ q. r
 
 module _ (e : End) (who : Side) (own : Bool) (mine : own ≡ true → has_side who e ≡ true) (begin : List Message) (s : LinkEnd) where
   off_side : (k : ℕ) → has_side who e ≡ false → same_end (end_of k who) e ≡ false
-  off_side k q = same_is who k e ∙ rw q (none (k == e.link))
-    where
-      none : (b : Bool) → (b && false) ≡ false
-      none true = refl
-      none false = refl
+  off_side k q = same_is who k e ∙ rw q (and-false (k == e.link))
 
   off_link : (k : ℕ) → (k == e.link) ≡ false → same_end (end_of k who) e ≡ false
   off_link k q = same_is who k e ∙ rw q refl

@@ -31,10 +31,10 @@ use Rattle.node_laws.proofs.kept.Sites.{changed_host as changed_site}
 -- ## Entries that tell of no message that came
 
 pub lost_none : (who : Side) (why : Loss) (xs : List OnWire) → AreNoGots (first_lost who why xs)
-lost_none = lost_all IsNoGot (λ w c. tt) (λ w c. tt) (λ w c why. tt) (λ w. tt)
+lost_none = lost_all IsNoGot (λ w c why. tt)
 
 pub aged_none : (one other : Side) (xs ys : List OnWire) → AreNoGots (aged_entries one xs ++ aged_entries other ys)
-aged_none = wires_all IsNoGot (λ w c. tt) (λ w c. tt) (λ w c why. tt) (λ w. tt)
+aged_none = wires_all IsNoGot (λ w c. tt)
 
 pub frames_still : (e : End) (who : Side) (h : ℕ) (l : Link) (k : Work) → AreStill e (frames_noted who h l k)
 frames_still e who h l k = go (port_at k.ports h)
@@ -42,11 +42,11 @@ frames_still e who h l k = go (port_at k.ports h)
     go : (o : Option Port) → AreStill e (option_map_or (λ (p : Port). entries_for h (ending_entries who l p.side (ending_of k))) o [])
     go None = tt
     go (Some p) = notes_still e h (ending_entries who l p.side (ending_of k))
-        (ending_all IsNoGot (λ w c. tt) (λ w c. tt) (λ w c why. tt) (λ w. tt) who l p.side (ending_of k))
+        (ending_all IsNoGot (λ w c. tt) (λ w c. tt) (λ w. tt) who l p.side (ending_of k))
 
 pub arrival_still : (e : End) (who : Side) (h : ℕ) (l : Link) (comes : Comes) → AreStill e (entries_for h (arrival who l comes))
 arrival_still e who h l comes =
-    notes_still e h (arrival who l comes) (arrival_all IsNoGot (λ w c. tt) (λ w c. tt) (λ w c why. tt) (λ w. tt) who l comes)
+    notes_still e h (arrival who l comes) (arrival_all IsNoGot (λ w c. tt) who l comes)
 
 -- ## Worlds
 

@@ -1,9 +1,10 @@
 -- A node does deeds that don't set REC_ERROR of its end: what is read of it stays what the node keeps.
-use Rattle.std.proofs.Common.{◌≡◌, ◌⊎◌, inl, inr, ℕ, ◌&&◌, Bool, true, false, cond, eqb, List, [], ◌∷◌, ◌++◌, length, map, sym, refl, ap, ◌∙◌, subst}
+use Rattle.std.proofs.Common.{◌≡◌, ◌⊎◌, inl, inr, ℕ, Bool, true, false, cond, eqb, List, [], ◌∷◌, ◌++◌, length, map, sym, refl, ap, ◌∙◌, subst}
 use Rattle.std.specs.Prelude.{Option, Some, None}
 use Rattle.std.specs.List.{AllByRecursion}
 use Rattle.std.specs.Option.{option_map_or}
 use Rattle.std.proofs.lemmas.Bool.{cases_Bool, eqb-true, true≢false}
+use mathlib.Core.Bool.{and-true}
 use Rattle.trace_model.specs.declared.entry.Entry.{Entry}
 use Rattle.trace_model.specs.declared.entry.Entry.TheVariants as entry
 use Rattle.trace_model.specs.declared.entry.Entry.TheVariants.{InitSame, InitMade, InitFailed}
@@ -41,10 +42,7 @@ abbrev pub side_of : End → Side
 side_of e = cond e.at_host Host Controller
 
 pub own_is : (e : End) (h : ℕ) → same_end (end_of h (side_of e)) e ≡ eqb h e.link
-own_is e h = by_test e.at_host (λ q. rw q (right (eqb h e.link))) (λ q. rw q (right (eqb h e.link))) where
-  right : (b : Bool) → (b && true) ≡ b
-  right true = refl
-  right false = refl
+own_is e h = by_test e.at_host (λ q. rw q (and-true (eqb h e.link))) (λ q. rw q (and-true (eqb h e.link)))
 
 -- the end itself, where it is this one, has had so many errors
 abbrev pub HasErrors : End → ℕ → Port → Type 0

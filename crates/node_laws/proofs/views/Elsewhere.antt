@@ -3,6 +3,7 @@ use Rattle.std.proofs.Common.{◌≡◌, ℕ, ◌&&◌, Bool, true, false, cond,
 use Rattle.std.specs.Prelude.{Option, Some, None}
 use Rattle.std.specs.List.{AllByRecursion}
 use Rattle.std.specs.Option.{option_map, option_map_or}
+use mathlib.Core.Bool.{and-true}
 use Rattle.swp_base.specs.InMemory.{Plan}
 use Rattle.trace_model.specs.declared.entry.Entry.{Entry}
 use Rattle.trace_model.specs.declared.entry.Entry.TheVariants as entry
@@ -81,10 +82,7 @@ module _ (h n : ℕ) (other : eqb n h ≡ false) (who : Side) (is_side : cond (e
 
     own_off : eqb core.node 0 ≡ false → same_end (end_of_node core core.node) (end_h h) ≡ false
     own_off q = ap (λ b. same_end (end_of core.node (cond b Controller Host)) (end_h h)) q
-        ∙ (right (eqb core.node h) ∙ (ap (λ m. eqb m h) number ∙ other)) where
-          right : (b : Bool) → (b && true) ≡ b
-          right true = refl
-          right false = refl
+        ∙ (and-true (eqb core.node h) ∙ (ap (λ m. eqb m h) number ∙ other))
 
     one : eqb core.node 0 ≡ false → (o : Option Port)
         → AllByRecursion (NotesSo (LeavesInit h)) (option_map_or (λ e. host_deeds (own_view core) e m) (option_map end_view o) [])

@@ -106,8 +106,8 @@ module _ (h : ℕ) (host : IsHost h) where
   aged_keep : (w : NodeWorld) (i : Option Init) → Has w i → So (all_aged w) i
   aged_keep w i keeps = left h host (all_aged w).0 (all_aged w).1 i (all_flat (LeavesInit h) (λ (s : Site). entries_for s.host
       (aged_entries Controller s.link.to_controller ++ aged_entries Host s.link.to_host))
-      (λ s. quiet_leaves h s.host (aged_entries Controller s.link.to_controller ++ aged_entries Host s.link.to_host) (wires_all IsQuiet (λ w c. tt) (λ w c. tt)
-      (λ w c why. tt) (λ w. tt) Controller Host s.link.to_controller s.link.to_host)) w.sites)
+      (λ s. quiet_leaves h s.host (aged_entries Controller s.link.to_controller ++ aged_entries Host s.link.to_host)
+      (wires_all IsQuiet (λ w c. tt) Controller Host s.link.to_controller s.link.to_host)) w.sites)
       (map_keeps h host (λ (s : Site). record s { link = aged s.link }) (λ s. refl) (λ s. refl) (λ s. refl) w.sites i keeps)
 
   near_ticks : (w : NodeWorld) (i : Option Init) → IfItRuns 0 (hosts_in w.sites) w.controller → Has w i → So (controller_ticks w) i

@@ -3,6 +3,7 @@ use Rattle.std.proofs.Common.{◌≡◌, ◌⊎◌, inl, inr, ℕ, ◌&&◌, Boo
 use Rattle.std.specs.Prelude.{Option, Some, None}
 use Rattle.std.specs.List.{AllByRecursion, flat_map}
 use Rattle.std.proofs.lemmas.Bool.{cases_Bool, cond_both, eqb-true, eq-eqb, eqb-false, ne_eqb}
+use mathlib.Core.Bool.{and-false}
 use Rattle.trace_model.specs.Lines.{IsHost}
 use Rattle.trace_model.specs.declared.entry.Entry.{Entry}
 use Rattle.shdlc_core.specs.declared.answers.LinkState.TheVariants.{Up}
@@ -141,10 +142,7 @@ module _ (h : ℕ) (host : IsHost h) where
 
   pub near_off : (hosts : List ℕ) → AllByRecursion (λ k. same_end (end_of k Controller) (end_h h) ≡ false) hosts
   near_off [] = tt
-  near_off (k ∷ hosts) = (right (eqb k h), near_off hosts) where
-    right : (b : Bool) → (b && false) ≡ false
-    right true = refl
-    right false = refl
+  near_off (k ∷ hosts) = (and-false (eqb k h), near_off hosts)
 
   far_off : (k : ℕ) → eqb k h ≡ false → same_end (end_of k Host) (end_h h) ≡ false
   far_off k off = rw off refl

@@ -3,6 +3,7 @@ use Rattle.std.proofs.Common.{◌≡◌, ◌⊎◌, inl, inr, ℕ, ◌+◌, ◌&
 use Rattle.std.specs.Prelude.{Option, Some, None, min}
 use Rattle.std.specs.List.{AllByRecursion}
 use Rattle.std.proofs.lemmas.Bool.{cases_Bool, eqb-true, eq-eqb, true≢false, ne_eqb, eqb-false}
+use mathlib.Core.Bool.{and-false}
 use Rattle.swp_base.specs.declared.link_terms.FrameFault.{FrameFault}
 use Rattle.swp_base.specs.declared.link_terms.FrameFault.TheVariants as fault
 use Rattle.swp_lpdu.specs.Controls.{lpdu_of}
@@ -112,19 +113,13 @@ module _ (e : End) (real : e.at_host ≡ true → eqb e.link 0 ≡ false) where
   near_same h near = ap (λ s. same_end (end_of h s) e) (sym (ap (λ b. cond b Host Controller) near)) ∙ own_is e h
 
   near_off : (h : ℕ) → e.at_host ≡ true → same_end (end_of h Controller) e ≡ false
-  near_off h far = rw far (right (eqb h e.link)) where
-    right : (b : Bool) → (b && false) ≡ false
-    right true = refl
-    right false = refl
+  near_off h far = rw far (and-false (eqb h e.link))
 
   far_same : (h : ℕ) → e.at_host ≡ true → same_end (end_of h Host) e ≡ eqb h e.link
   far_same h far = ap (λ s. same_end (end_of h s) e) (sym (ap (λ b. cond b Host Controller) far)) ∙ own_is e h
 
   far_off : (h : ℕ) → e.at_host ≡ false → same_end (end_of h Host) e ≡ false
-  far_off h near = rw near (right (eqb h e.link)) where
-    right : (b : Bool) → (b && false) ≡ false
-    right true = refl
-    right false = refl
+  far_off h near = rw near (and-false (eqb h e.link))
 
   module _ (w : NodeWorld) (a : End) (x : ErrorCount) (k : Kept e real w x) where
     abbrev wire_near : List OnWire

@@ -5,6 +5,7 @@ use Rattle.std.specs.Prelude.{Option, Some, None, Result, Ok, Err}
 use Rattle.std.specs.List.{AllByRecursion}
 use Rattle.std.specs.Option.{option_map_or}
 use Rattle.std.proofs.lemmas.Bool.{cond_both, eqb-true, true≢false}
+use mathlib.Core.Bool.{and-true}
 use Rattle.trace_model.specs.declared.entry.Entry.{Entry}
 use Rattle.trace_model.specs.declared.entry.Entry.TheVariants.{InitSame, InitMade, InitFailed}
 use Rattle.link_laws.specs.sessions.Sessions.{is_up}
@@ -228,10 +229,7 @@ controller_sets core ports h m v leads sets =
       view = view_for core.tables ports h
 
       through_is : goes_through core.tables h m.0 s.instruction ≡ is_opened core.tables h m.0
-      through_is = ap (λ n. is_opened core.tables h m.0 && not (eqb n 3 || eqb n 4)) one_is ∙ right (is_opened core.tables h m.0) where
-        right : (b : Bool) → (b && true) ≡ b
-        right true = refl
-        right false = refl
+      through_is = ap (λ n. is_opened core.tables h m.0 && not (eqb n 3 || eqb n 4)) one_is ∙ and-true (is_opened core.tables h m.0)
 
       command_is : (b : Bool) → is_opened core.tables h m.0 ≡ b
           → command_deeds (view_of core ports) h m.0 s.instruction (body_in m.1)

@@ -1,8 +1,9 @@
 -- What happens to a world: a node that runs keeps what is read of REC_ERROR of its end.
-use Rattle.std.proofs.Common.{◌≡◌, ◌⊎◌, inl, inr, ℕ, ◌&&◌, Bool, true, false, cond, eqb, List, [], ◌∷◌, ◌++◌, map, sym, refl, ap, ◌∙◌, subst}
+use Rattle.std.proofs.Common.{◌≡◌, ◌⊎◌, inl, inr, ℕ, Bool, true, false, cond, eqb, List, [], ◌∷◌, ◌++◌, map, sym, refl, ap, ◌∙◌, subst}
 use Rattle.std.specs.Prelude.{Option, Some, None}
 use Rattle.std.specs.List.{AllByRecursion, flat_map}
 use Rattle.std.proofs.lemmas.Bool.{cases_Bool, eqb-true, eq-eqb, true≢false, ne_eqb, eqb-false}
+use mathlib.Core.Bool.{and-false}
 use Rattle.trace_model.specs.declared.entry.Entry.{Entry}
 use Rattle.trace_model.specs.declared.line.End.{End}
 use Rattle.link_laws.specs.machine.Machine.{LinkInput}
@@ -162,17 +163,11 @@ module _ (e : End) (real : e.at_host ≡ true → eqb e.link 0 ≡ false) where
   -- ends of the controller are others where this one is a host's
   pub near_other : e.at_host ≡ true → (hosts : List ℕ) → AllByRecursion (IsOther e Controller) hosts
   near_other far [] = tt
-  near_other far (h ∷ hosts) = (rw far (right (eqb h e.link)), near_other far hosts) where
-    right : (b : Bool) → (b && false) ≡ false
-    right true = refl
-    right false = refl
+  near_other far (h ∷ hosts) = (rw far (and-false (eqb h e.link)), near_other far hosts)
 
   -- the end of a host is another one where this one is the controller's, or another host's
   pub far_other : (h : ℕ) → (e.at_host ≡ true → eqb h e.link ≡ false) → IsOther e Host h
-  far_other h off = by_test e.at_host (λ q. rw (q, off q) refl) (λ q. rw q (right (eqb h e.link))) where
-    right : (b : Bool) → (b && false) ≡ false
-    right true = refl
-    right false = refl
+  far_other h off = by_test e.at_host (λ q. rw (q, off q) refl) (λ q. rw q (and-false (eqb h e.link)))
 
   -- ## Something comes
 

@@ -5,6 +5,7 @@ use Rattle.std.specs.Prelude.{is_some}
 use Rattle.std.specs.List.{AllByRecursion, list_any}
 use Rattle.std.specs.Option.{option_map, option_map_or, option_and_then}
 use Rattle.std.proofs.lemmas.Bool.{true≢false, eqb-true}
+use mathlib.Core.Bool.{and-false, or-false, or-true}
 use Rattle.trace_model.specs.Lines.{IsHost}
 use Rattle.trace_model.specs.declared.entry.Entry.{Entry}
 use Rattle.trace_model.specs.declared.entry.Entry.TheVariants as entry
@@ -41,10 +42,7 @@ use Rattle.node_laws.proofs.passes.Passing.{takes_entries}
 use Rattle.node_laws.specs.answers.Unasked.{notifies}
 
 not_near : (e : End) (x : ℕ) → e.at_host ≡ true → same_end e (end_c x) ≡ false
-not_near e x far = ap (λ b. eqb e.link x && same_side b false) far ∙ off (eqb e.link x) where
-  off : (b : Bool) → (b && false) ≡ false
-  off true = refl
-  off false = refl
+not_near e x far = ap (λ b. eqb e.link x && same_side b false) far ∙ and-false (eqb e.link x)
 
 module _ (x : ℕ) where
   -- a notice to the host x is sent among these
@@ -58,12 +56,8 @@ module _ (x : ℕ) where
     assoc true = refl
     assoc false = refl
 
-  or_none : (b : Bool) → (b || false) ≡ b
-  or_none true = refl
-  or_none false = refl
-
   pub still_notified : (a b : List Entry) → notified b ≡ false → notified (a ++ b) ≡ notified a
-  still_notified a b q = more_notified a b ∙ (ap (λ z. notified a || z) q ∙ or_none (notified a))
+  still_notified a b q = more_notified a b ∙ (ap (λ z. notified a || z) q ∙ or-false (notified a))
 
   one_far : (e : Entry) → IsFar e → notifies x e ≡ false
   one_far (entry.Sent e n pid message) a = ap (λ b. b && eqb pid 1 && is_notice message) (not_near e x a)
@@ -108,7 +102,7 @@ module _ (x : ℕ) where
   sent_other h n m side None q = go (same_end (end_of h side) (end_c x)) (eqb m.0 1) (is_notice m.1) q where
     go : (a b c : Bool) → (b && c) ≡ false → ((a && b && c) || false) ≡ false
     go false b c z = refl
-    go true true c z = or_none c ∙ z
+    go true true c z = or-false c ∙ z
     go true false c z = refl
 
   sent_else : (h n : ℕ) (m : Message) (side : Side) (o : Option Refused) → eqb h x ≡ false → notified (entries_for h (sent_unless o side n m)) ≡ false
@@ -358,12 +352,8 @@ module _ (x : ℕ) where
           ap (λ es. notice_in (t ++ es) x) entries ∙ read_more x t w.entries more None None was (none_reads more z) in
           absurd (subst (λ o. IsKeptNotice o (Some n)) read (subst (IsKeptNotice (notice_in (t ++ after.entries) x)) there b.kept))
 
-      or_true : (c : Bool) → (c || true) ≡ true
-      or_true true = refl
-      or_true false = refl
-
       sent : notified after.entries ≡ true
-      sent = ap notified entries ∙ (more_notified w.entries more ∙ (ap (λ c. notified w.entries || c) (go (notified more) refl) ∙ or_true (notified w.entries)))
+      sent = ap notified entries ∙ (more_notified w.entries more ∙ (ap (λ c. notified w.entries || c) (go (notified more) refl) ∙ or-true (notified w.entries)))
 
     pub handled_ages : IsOn x t after → AgesIn base after
     handled_ages b = by_option (noticed w.ports x) (λ q. none_ages b q) (λ n q. some_ages n q)

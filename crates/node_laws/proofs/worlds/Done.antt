@@ -41,6 +41,7 @@ use Rattle.node_laws.proofs.turns.Queues.{Goes, goes-append, still_goes}
 use Rattle.node_laws.proofs.turns.Works.{aged_none, sites_is}
 use Rattle.node_laws.specs.answers.Answered.{AreDone, ends_in, is_done, through}
 use Rattle.node_laws.specs.answers.Moments.{AtEachOccurrence}
+use Rattle.node_laws.proofs.passes.Turnless.{beginning_turnless, sending_turnless}
 use Rattle.node_laws.proofs.reply_passes.Begins.{WaitsRead, new_reads, reads_last}
 use Rattle.node_laws.proofs.reply_passes.Held.{aged_leave}
 use Rattle.node_laws.proofs.reply_passes.InTurn.{near_goes}
@@ -51,7 +52,6 @@ use Rattle.node_laws.proofs.power.Events.{far_tick, near_ticks_part, sending_min
 use Rattle.node_laws.proofs.worlds.Resting.{AreIdle, idle_done, others_idle}
 use Rattle.node_laws.proofs.power.Events.{AreNodes, both_nodes, others_tick}
 use Rattle.node_laws.proofs.worlds.Late.{ticked_host}
-use Rattle.node_laws.proofs.worlds.Turns.{beginning_turnless, sending_turnless}
 
 -- ## Time
 

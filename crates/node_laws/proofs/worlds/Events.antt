@@ -48,7 +48,7 @@ use Rattle.node_laws.specs.passes.Passing.{AreNoTurns, is_held_at, waiting_at}
 use Rattle.node_laws.proofs.links.Ends.{here_host}
 use Rattle.node_laws.proofs.passes.Ends.{SeesAt, deeds_see}
 use Rattle.node_laws.proofs.passes.Notes.{deeds_note}
-use Rattle.node_laws.proofs.passes.Turnless.{noted_none}
+use Rattle.node_laws.proofs.passes.Turnless.{noted_none, NotesNoTurn}
 use Rattle.node_laws.proofs.power.Doing.{IsMine}
 use Rattle.node_laws.proofs.power.Links.{arrival_of_side, links_own}
 use Rattle.node_laws.proofs.power.Parts.{IsPart, own_not, part_own}
@@ -69,7 +69,6 @@ use Rattle.node_laws.proofs.reply_passes.InTurn.{near_goes}
 use Rattle.node_laws.proofs.worlds.AtRest.{SiteRests, SiteWaits, far_site, flat_idle, frames_idle, near_rests, site_on}
 use Rattle.node_laws.proofs.power.Events.{begins_part, controller_part, host_part}
 use Rattle.node_laws.proofs.worlds.Steps.{host_begins}
-use Rattle.node_laws.proofs.worlds.Turns.{NotesNoTurn}
 use Rattle.node_laws.proofs.worlds.Resting.{AreIdle, IsIdle, done_empty, idle_done, idle_held, others_idle, quiet_idle}
 
 -- ## All sites

@@ -5,6 +5,7 @@ use Rattle.std.specs.Prelude.{◌+◌, not, nat_le, option_to_list}
 use Rattle.std.specs.List.{flat_map}
 use Rattle.std.specs.Option.{option_map, option_map_or, option_and_then}
 use Rattle.std.proofs.lemmas.Bool.{true≢false, eq-eqb}
+use mathlib.Core.Bool.{or-true}
 use Rattle.swp_base.specs.declared.link_terms.Cause.{Cause as EndedBy}
 use Rattle.trace_model.specs.Lines.{IsHost}
 use Rattle.trace_model.specs.declared.entry.Entry.{Entry}
@@ -217,12 +218,9 @@ module _ (x : ℕ) where
 
     fresh : (is_late y ≡ false) × (y.ended ≡ false)
     fresh = by_test (is_late y)
-        (λ z. let late : is_over (reset_late y) ≡ true = rw z (over_true y.ended) in absurd (true≢false (sym late ∙ s.off)))
+        (λ z. let late : is_over (reset_late y) ≡ true = rw z (or-true y.ended) in absurd (true≢false (sym late ∙ s.off)))
         (λ z. let same : reset_late y ≡ y = rw z refl in
-        (z, (no_or y.ended y.late (ap is_over (sym same) ∙ s.off)).0)) where
-          over_true : (b : Bool) → (b || true) ≡ true
-          over_true true = refl
-          over_true false = refl
+        (z, (no_or y.ended y.late (ap is_over (sym same) ∙ s.off)).0))
 
     and_not : (a b : Bool) → (a && not b) ≡ false → b ≡ false → a ≡ false
     and_not true true q z = absurd (true≢false z)

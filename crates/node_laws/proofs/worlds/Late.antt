@@ -312,11 +312,11 @@ module _ (n : ℕ) where
         (λ z. late_all (entries_for e.link (first_lost Host why (link_to w.sites e.link).to_host))
         (unanswered_all n (entries_for e.link (first_lost Host why (link_to w.sites e.link).to_host))
         (frames_unheard e.link (first_lost Host why (link_to w.sites e.link).to_host)
-        (lost_all IsFrame (λ w c. tt) (λ w c. tt) (λ w c why. tt) (λ w. tt) Host why (link_to w.sites e.link).to_host)).1))
+        (lost_all IsFrame (λ w c why. tt) Host why (link_to w.sites e.link).to_host)).1))
         (λ z. late_all (entries_for e.link (first_lost Controller why (link_to w.sites e.link).to_controller))
         (unanswered_all n (entries_for e.link (first_lost Controller why (link_to w.sites e.link).to_controller))
         (frames_unheard e.link (first_lost Controller why (link_to w.sites e.link).to_controller)
-        (lost_all IsFrame (λ w c. tt) (λ w c. tt) (λ w c why. tt) (λ w. tt) Controller why (link_to w.sites e.link).to_controller)).1))
+        (lost_all IsFrame (λ w c why. tt) Controller why (link_to w.sites e.link).to_controller)).1))
 
     pub boots_late : (w : NodeWorld) (k : ℕ) → IsLate (boots w k).1
     boots_late w k = by_boot (λ p. IsLate p.1) w k refl refl

@@ -5,6 +5,7 @@ use Rattle.std.specs.Prelude.{◌==◌, Some, None, is_some, is_none, nat_lt, no
 use Rattle.std.specs.List.{AllByRecursion, take_while}
 use Rattle.std.proofs.lemmas.Bool.{le-ltb, lt-ltb, eq-eqb, true≢false}
 use Rattle.std.proofs.lemmas.List.Sums.{take_while-cons}
+use mathlib.Core.Bool.{or-true}
 use Rattle.registry.proofs.ValueLemmas.{AllByRecursion-append as all_append}
 use Rattle.trace_model.specs.declared.entry.Entry.{Entry}
 use Rattle.trace_model.specs.declared.entry.Entry.TheVariants as entry
@@ -67,10 +68,7 @@ module _ (hosts : List ℕ) (past : List Occurrence) (o : Occurrence) (e : End) 
   pub short_lacks : is_some (lack_at hosts (as_left past o e) e) ≡ true → is_left_short hosts past o e ≡ true
   short_lacks lacks =
       ap (λ b. (not (steps_there && runs_in (through past o) (node_of e)) || is_none (oldest (unhandled_in (through past o) e))) || b) lacks
-      ∙ by (not (steps_there && runs_in (through past o) (node_of e)) || is_none (oldest (unhandled_in (through past o) e))) where
-        by : (a : Bool) → (a || true) ≡ true
-        by true = refl
-        by false = refl
+      ∙ or-true (not (steps_there && runs_in (through past o) (node_of e)) || is_none (oldest (unhandled_in (through past o) e)))
 
 -- entries that tell nothing of the controller's power leave it as it was
 pub idle_on : (k : ℕ) (s es : List Entry) → AreIdle (end_c k) es → runs_in (s ++ es) 0 ≡ true → runs_in s 0 ≡ true

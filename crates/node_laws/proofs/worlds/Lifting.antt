@@ -38,6 +38,7 @@ use Rattle.node_laws.specs.passes.Passing.{AreNoTurns, IsNoTurn, ComesTo, ArePas
 use Rattle.node_laws.specs.passes.Passing.ComesTo.{Begins}
 use Rattle.node_laws.specs.passes.Steps.{comes_to_pass, controller_begins, noted_before_pass}
 use Rattle.node_laws.specs.power.Powers.{AreNotOf, is_of_node}
+use Rattle.node_laws.proofs.passes.Turnless.{sending_turnless, beginning_turnless}
 use Rattle.node_laws.proofs.passes.Before.{before_entries, before_none, links_none, steps_are}
 use Rattle.node_laws.proofs.passes.Passing.{through, comes_lasts}
 use Rattle.node_laws.proofs.power.Parts.{own_not, part_own, IsPart}
@@ -60,7 +61,7 @@ use Rattle.node_laws.proofs.power.Events.{comes_part}
 use Rattle.node_laws.proofs.worlds.Steps.{far_number}
 use Rattle.node_laws.proofs.power.Events.{both_nodes, none_zero, others_tick}
 use Rattle.node_laws.proofs.worlds.Turns.{flat_turnless, turnless_there, other_turns, aged_turnless}
-use Rattle.node_laws.proofs.worlds.Turns.{begun_turnless, lost_turnless, boots_turnless, sending_turnless, beginning_turnless}
+use Rattle.node_laws.proofs.worlds.Turns.{begun_turnless, lost_turnless, boots_turnless}
 
 -- ## Where an entry stands
 

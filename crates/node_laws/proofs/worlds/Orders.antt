@@ -91,9 +91,9 @@ lost_parted : (w : NodeWorld) (e : End) (why : Loss) → IsParted (frame_lost w 
 lost_parted w e why =
     by_loss (λ p. IsParted p.1) w e why
     (λ z. only_back _ (frames_unheard e.link (first_lost Host why (link_to w.sites e.link).to_host)
-    (lost_all IsFrame (λ w c. tt) (λ w c. tt) (λ w c why. tt) (λ w. tt) Host why (link_to w.sites e.link).to_host)).0)
+    (lost_all IsFrame (λ w c why. tt) Host why (link_to w.sites e.link).to_host)).0)
     (λ z. only_back _ (frames_unheard e.link (first_lost Controller why (link_to w.sites e.link).to_controller)
-    (lost_all IsFrame (λ w c. tt) (λ w c. tt) (λ w c why. tt) (λ w. tt) Controller why (link_to w.sites e.link).to_controller)).0)
+    (lost_all IsFrame (λ w c why. tt) Controller why (link_to w.sites e.link).to_controller)).0)
 
 boots_parted : (w : NodeWorld) (n : ℕ) → IsParted (boots w n).1
 boots_parted w n = by_boot (λ p. IsParted p.1) w n (only_back _ (refl, tt)) (only_back _ (refl, tt))
@@ -147,7 +147,7 @@ aged_unanswered [] = tt
 aged_unanswered (s ∷ sites) =
     all_append IsUnanswered (entries_for s.host (aged_entries Controller s.link.to_controller ++ aged_entries Host s.link.to_host)) _
     (frames_unheard s.host (aged_entries Controller s.link.to_controller ++ aged_entries Host s.link.to_host)
-    (wires_all IsFrame (λ w c. tt) (λ w c. tt) (λ w c why. tt) (λ w. tt) Controller Host s.link.to_controller s.link.to_host)).1
+    (wires_all IsFrame (λ w c. tt) Controller Host s.link.to_controller s.link.to_host)).1
     (aged_unanswered sites)
 
 ticks_parted : (n : ℕ) (w : NodeWorld) → IsOrderly w → IsPartedFor n (world_ticks w).1

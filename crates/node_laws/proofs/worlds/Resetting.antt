@@ -4,6 +4,7 @@ use Rattle.std.specs.Prelude.{◌+◌, is_some, not, nat_le}
 use Rattle.std.specs.List.{list_any}
 use Rattle.std.specs.Option.{option_map_or, option_and_then}
 use Rattle.std.proofs.lemmas.Bool.{true≢false, eqb-true, eqb-false}
+use mathlib.Core.Bool.{and-false, and-true}
 use Rattle.trace_model.specs.declared.entry.Entry.{Entry}
 use Rattle.trace_model.specs.declared.line.End.{End}
 use Rattle.trace_model.specs.declared.line.Line.TheVariants as line
@@ -80,14 +81,6 @@ noticed_ports near_ends (d ∷ desks) x = go (eqb d.host x) refl (noticed_ports 
   go true is later = rw is refl
   go false off later = rw off later
 
-and_none : (b : Bool) → (b && false) ≡ false
-and_none true = refl
-and_none false = refl
-
-and_true : (b : Bool) → (b && true) ≡ b
-and_true true = refl
-and_true false = refl
-
 -- what comes ends no session by a reset unless it is one
 frames_none : (side : LinkEnd) (i : LinkInput) (l : Link) → input_of l NextFrame ≡ Some i → option_map_or is_own_reset (ended_by side i) false ≡ false
 frames_none side i l is = by_list l.to_controller
@@ -139,20 +132,20 @@ module _ (past : List Occurrence) (w : NodeWorld) (k : IsReadBefore past w) (x :
       ≡ is_reset_due past (occurs w (Resets (record { link = f; at_host = far }) window)) (end_c x)
   near_resets f true window free =
       far_other is_own_reset (end_c x) w f (AsksReset window) (Reset window) k.orderly (λ h. far_near h x)
-      ∙ sym (ap (λ b. b && is_some (session_now t (end_c x) 0)) (and_none (eqb f x)))
+      ∙ sym (ap (λ b. b && is_some (session_now t (end_c x) 0)) (and-false (eqb f x)))
   near_resets f false window free =
       let parts = first_none (if_off w 0) (as_noted (reset_refusal (machine_in w (end_c f)))) free in
       let runs : (r : Running) × (node_at w 0 ≡ Some r) = off_none (node_at w 0) parts.0 in
       near_reset w k.orderly f window x s found runs.0 runs.1
       (λ z. ap (λ (l : Link). reset_refusal l.controller.side) (sym (linked f z)) ∙ noted_none (reset_refusal (machine_in w (end_c f))) parts.1)
-      ∙ ap₂ (λ a b. a && b) (sym (and_true (eqb f x))) (sym (ap is_some (k.sessions x s found).controller ∙ up_is s.link.controller))
+      ∙ ap₂ (λ a b. a && b) (sym (and-true (eqb f x))) (sym (ap is_some (k.sessions x s found).controller ∙ up_is s.link.controller))
 
   far_resets : (f : ℕ) (far : Bool) (window : Option ℕ) → refusal_in w (line.Reset (record { link = f; at_host = far }) window) ≡ None
       → tells is_own_reset (end_h x) (comes_at w (record { link = f; at_host = far }) (AsksReset window)).1
       ≡ is_reset_due past (occurs w (Resets (record { link = f; at_host = far }) window)) (end_h x)
   far_resets f false window free =
       near_other is_own_reset (end_h x) w f (AsksReset window) (Reset window) k.orderly (λ h. near_far h x)
-      ∙ sym (ap (λ b. b && is_some (session_now t (end_h x) x)) (and_none (eqb f x)))
+      ∙ sym (ap (λ b. b && is_some (session_now t (end_h x) x)) (and-false (eqb f x)))
   far_resets f true window free = go (eqb f x) refl where
     M : NodeWorld × List Entry
     M = host_does w f (AsksReset window) (steps (AtEnd f (Reset window)))
@@ -180,7 +173,7 @@ module _ (past : List Occurrence) (w : NodeWorld) (k : IsReadBefore past w) (x :
         let runs : (r : Running) × (node_at w f ≡ Some r) = off_none (node_at w f) parts.0 in
         far_reset w k.orderly f window x s found s runs.0 there (sym (present w f zero s there) ∙ runs.1)
         (λ z. ap (λ (l : Link). reset_refusal l.host.side) (sym (linked f z)) ∙ noted_none (reset_refusal (machine_in w (end_h f))) parts.1)
-        ∙ ap₂ (λ a b. a && b) (sym (and_true (eqb f x))) (sym (ap is_some (k.sessions x s found).host ∙ up_is s.link.host))
+        ∙ ap₂ (λ a b. a && b) (sym (and-true (eqb f x))) (sym (ap is_some (k.sessions x s found).host ∙ up_is s.link.host))
 
   -- ## Ticks
 

@@ -4,6 +4,7 @@ use Rattle.std.specs.Prelude.{◌==◌, ◌||◌, not, is_none, Option, Some}
 use Rattle.std.specs.List.{AllByRecursion}
 use Rattle.std.proofs.lemmas.Bool.{true≢false, eqb-true}
 use Rattle.std.proofs.lemmas.List.Sums.{fold-append}
+use mathlib.Core.Bool.{or-true}
 use Rattle.trace_model.specs.declared.entry.Entry.{Entry}
 use Rattle.trace_model.specs.declared.entry.Entry.TheVariants as entry
 use Rattle.trace_model.specs.declared.line.End.{End}
@@ -53,10 +54,7 @@ module _ (t : List Entry) (e : End) where
     by false b = refl
 
   pub done_held : holds_in t e ≡ true → is_done t e ≡ true
-  done_held held = rw held (by (not (runs_in t (node_of e)) || is_none (oldest (unhandled_in t e)))) where
-    by : (a : Bool) → (a || true) ≡ true
-    by true = refl
-    by false = refl
+  done_held held = rw held (or-true (not (runs_in t (node_of e)) || is_none (oldest (unhandled_in t e))))
 
 -- ## Entries that leave it
 

@@ -99,7 +99,7 @@ out_unheard who h l v = go (port_at v.ports h) where
   go None = tt
   go (Some p) =
       frames_unheard h (ending_entries who l p.side (ending_of v))
-      (ending_all IsFrame (λ w c. tt) (λ w c. tt) (λ w c why. tt) (λ w. tt) who l p.side (ending_of v))
+      (ending_all IsFrame (λ w c. tt) (λ w c. tt) (λ w. tt) who l p.side (ending_of v))
 
 frames_calm : (f : Site → Link) (v : Work) (sites : List Site) → AreCalm (flat_map (λ (s : Site). frames_noted Controller s.host (f s) v) sites)
 frames_calm f v sites = record {

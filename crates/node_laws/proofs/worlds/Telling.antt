@@ -4,6 +4,7 @@ use Rattle.std.proofs.Common.{ap, ap₂, subst, ◌∙◌, ◌||◌, ◌&&◌, e
 use Rattle.std.specs.List.{AllByRecursion, flat_map}
 use Rattle.std.specs.Option.{option_map_or, option_map}
 use Rattle.std.proofs.lemmas.Bool.{eqb-true, eqb-false, ne_eqb}
+use mathlib.Core.Bool.{and-false, and-true, or-false}
 use Rattle.swp_base.specs.declared.link_terms.Cause.{Cause as EndedBy}
 use Rattle.trace_model.specs.declared.entry.Entry.{Entry}
 use Rattle.trace_model.specs.declared.line.End.{End}
@@ -24,25 +25,17 @@ use Rattle.node_laws.proofs.links.Noticing.{at_all}
 use Rattle.node_laws.specs.passes.Steps.{told_of_coming, told_of_late}
 use Rattle.node_laws.proofs.worlds.Downs.{AreDownless, ends_in_list, any_append, any_front, ends_by, at_any, step_tells}
 
-and_none : (b : Bool) → (b && false) ≡ false
-and_none true = refl
-and_none false = refl
-
-and_true : (b : Bool) → (b && true) ≡ b
-and_true true = refl
-and_true false = refl
-
 pub near_same : (h x : ℕ) → same_end (end_of h Controller) (end_c x) ≡ eqb h x
-near_same h x = and_true (eqb h x)
+near_same h x = and-true (eqb h x)
 
 pub far_same : (h x : ℕ) → same_end (end_of h Host) (end_h x) ≡ eqb h x
-far_same h x = and_true (eqb h x)
+far_same h x = and-true (eqb h x)
 
 pub near_far : (h x : ℕ) → same_end (end_of h Controller) (end_h x) ≡ false
-near_far h x = and_none (eqb h x)
+near_far h x = and-false (eqb h x)
 
 pub far_near : (h x : ℕ) → same_end (end_of h Host) (end_c x) ≡ false
-far_near h x = and_none (eqb h x)
+far_near h x = and-false (eqb h x)
 
 -- an end as a tick has come to it
 abbrev pub ticked : Port → Port
@@ -75,7 +68,7 @@ module _ (test : EndedBy → Bool) (e : End) where
       ∙ flat_none (λ p. told_at w.core p (input_at (AtEnd k i) p)) one w.ports)) where
         one : (p : Port) → tells (told_at w.core p (input_at (AtEnd k i) p)) ≡ false
         one p = at_any test e w.core p (input_at (AtEnd k i) p) ∙ (ap (λ b. same_end (end_of p.desk.host (own_side w.core)) e && b)
-            (go (eqb p.desk.host k)) ∙ and_none (same_end (end_of p.desk.host (own_side w.core)) e)) where
+            (go (eqb p.desk.host k)) ∙ and-false (same_end (end_of p.desk.host (own_side w.core)) e)) where
               go : (b : Bool) → ends_by test e p (cond b (Some i) None) ≡ false
               go true = none p
               go false = refl
@@ -94,7 +87,7 @@ module _ (test : EndedBy → Bool) (e : End) where
         late : (input : NodeInput) → tells (told_of_late input (all_come input w)) ≡ false
         late (AtEnd h i) = refl
         late TimePasses =
-            flat_none (told_late w.core) (λ p. late_one w.core p ∙ (ap (λ b. is_late p && b) (one p (Some (Reset None))) ∙ and_none (is_late p)))
+            flat_none (told_late w.core) (λ p. late_one w.core p ∙ (ap (λ b. is_late p && b) (one p (Some (Reset None))) ∙ and-false (is_late p)))
             (map with_older (all_come TimePasses w).ports)
 
   -- ## Something
@@ -107,10 +100,6 @@ module _ (test : EndedBy → Bool) (e : End) where
         any_append test e (f p) (flat_map f ports) ∙ (ap (λ b. b || tells (flat_map f ports)) (one p) ∙ go (eqb p.desk.host x) refl
         (flat_any f g one ports d.1))
       where
-        or_none : (b : Bool) → (b || false) ≡ b
-        or_none true = refl
-        or_none false = refl
-
         others : (ports : List Port) → AllByRecursion (λ (k : ℕ). eqb k p.desk.host ≡ false) (hosts_of_ends ports) → eqb p.desk.host x ≡ true
             → tells (flat_map f ports) ≡ false
         others [] a q = refl
@@ -121,7 +110,7 @@ module _ (test : EndedBy → Bool) (e : End) where
 
         go : (b : Bool) → eqb p.desk.host x ≡ b → tells (flat_map f ports) ≡ option_map_or g (port_at ports x) false
             → ((b && g p) || tells (flat_map f ports)) ≡ option_map_or g (port_at (p ∷ ports) x) false
-        go true q later = rw q (ap (λ b. g p || b) (others ports d.0 q) ∙ or_none (g p))
+        go true q later = rw q (ap (λ b. g p || b) (others ports d.0 q) ∙ or-false (g p))
         go false q later = rw q later
 
     module _ (w : Work) (quiet : AreDownless w.entries) (different : AreDifferent (hosts_of_ends w.ports))

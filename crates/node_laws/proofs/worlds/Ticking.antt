@@ -5,6 +5,7 @@ use Rattle.std.specs.Prelude.{◌==◌, is_some, not, nat_le}
 use Rattle.std.specs.List.{AllByRecursion, flat_map}
 use Rattle.std.specs.Option.{option_map_or, option_and_then}
 use Rattle.std.proofs.lemmas.Bool.{and_parts}
+use mathlib.Core.Bool.{and-false, or-false}
 use Rattle.swp_base.specs.declared.link_terms.Cause.{Cause as EndedBy}
 use Rattle.trace_model.specs.declared.entry.Entry.{Entry}
 use Rattle.trace_model.specs.declared.line.End.{End}
@@ -33,7 +34,7 @@ use Rattle.node_laws.proofs.telling.Nodes.{ports_for, hosts_same, Stands, stands
 use Rattle.node_laws.proofs.telling.Events.{orderly_map}
 use Rattle.node_laws.proofs.telling.WorldTicks.{near_orderly}
 use Rattle.node_laws.specs.notices.Notices.{IsKeptNotice}
-use Rattle.node_laws.specs.notices.Worlds.{IfReads, ControllerReads, KeepsNotices}
+use Rattle.node_laws.specs.notices.Worlds.{IfReads, KeepsNotices}
 use Rattle.node_laws.proofs.notices.Doing.{IsOn, controller_side}
 use Rattle.node_laws.proofs.notices.Near.{begins, aged_side}
 use Rattle.node_laws.proofs.notices.Sites.{link_shut}
@@ -52,7 +53,7 @@ aged_downless : (w : NodeWorld) → AreDownless (all_aged w).1
 aged_downless w =
     flat_downless (λ (s : Site). entries_for s.host (aged_entries Controller s.link.to_controller ++ aged_entries Host s.link.to_host))
     (λ s. notes_downless s.host (aged_entries Controller s.link.to_controller ++ aged_entries Host s.link.to_host)
-    (wires_all IsQuiet (λ w c. tt) (λ w c. tt) (λ w c why. tt) (λ w. tt) Controller Host s.link.to_controller s.link.to_host)) w.sites
+    (wires_all IsQuiet (λ w c. tt) Controller Host s.link.to_controller s.link.to_host)) w.sites
 
 -- ## Hosts
 
@@ -90,12 +91,8 @@ module _ (test : EndedBy → Bool) (e : End) where
       ∙ ap₂ (λ x y. x || y)
       (flat_none test e (λ p. told_at w.core p (Some Tick)) (λ p. at_any test e w.core p (Some Tick) ∙ one p) w.ports)
       (late_none w.core w.ports a))) where
-        and_none : (b : Bool) → (b && false) ≡ false
-        and_none true = refl
-        and_none false = refl
-
         one : (p : Port) → (same_end (end_of p.desk.host (own_side w.core)) e && ends_by test e p (Some Tick)) ≡ false
-        one p = ap (λ b. same_end (end_of p.desk.host (own_side w.core)) e && b) (none p) ∙ and_none (same_end (end_of p.desk.host (own_side w.core)) e)
+        one p = ap (λ b. same_end (end_of p.desk.host (own_side w.core)) e && b) (none p) ∙ and-false (same_end (end_of p.desk.host (own_side w.core)) e)
 
 host_own : (e : End) (s : Site) → IfNoNotices s.node → tells is_own_reset e (host_ticks s).1 ≡ false
 host_own e s quiet =
@@ -144,10 +141,7 @@ module _ (w : NodeWorld) (a : IsOrderly w) where
       any_front test (end_c x) (all_aged w).1 ((controller_ticks old).1 ++ (hosts_tick (controller_ticks old).0.sites).1) (aged_downless w)
       ∙ (any_append test (end_c x) (controller_ticks old).1 (hosts_tick (controller_ticks old).0.sites).1
       ∙ (ap (λ b. tells test (end_c x) (controller_ticks old).1 || b) (hosts_other test x (controller_ticks old).0.sites kept.hosts kept.nodes)
-      ∙ or_none (tells test (end_c x) (controller_ticks old).1))) where
-        or_none : (b : Bool) → (b || false) ≡ b
-        or_none true = refl
-        or_none false = refl
+      ∙ or-false (tells test (end_c x) (controller_ticks old).1)))
 
   near_frames : (v : Work) → AreDownless (flat_map (λ (s : Site). frames_noted Controller s.host s.link v) old.sites)
   near_frames v =

@@ -1,5 +1,5 @@
 -- In each event a node's turns are in the order of its ends.
-use Rattle.std.proofs.Common.{◌≡◌, ℕ, ◌&&◌, cond, Bool, true, false, List, [], ◌∷◌, ◌++◌, Option, Some, None, refl, sym, ap, subst, ◌∙◌, eqb}
+use Rattle.std.proofs.Common.{◌≡◌, ℕ, cond, Bool, true, false, List, [], ◌∷◌, ◌++◌, Some, None, refl, sym, ap, subst, ◌∙◌}
 use Rattle.std.specs.Prelude.{◌==◌}
 use Rattle.std.specs.List.{AllByRecursion, flat_map}
 use Rattle.std.proofs.lemmas.Bool.{eqb-true}
@@ -39,22 +39,16 @@ use Rattle.node_laws.proofs.power.Events.{AreNodes, both_nodes, comes_part, far_
 use Rattle.std.specs.List.{filter_map}
 use Rattle.std.proofs.Common.{append-nil}
 use Rattle.trace_model.specs.declared.entry.Entry.TheVariants as entry
-use Rattle.std.specs.Option.{option_map_or}
-use Rattle.link_laws.specs.machine.Machine.{LinkInput, Message, Refused, give_refusal}
-use Rattle.link_laws.specs.machine.Machine.Turn.{Give}
-use Rattle.link_laws.specs.entries.Entries.{sent_unless}
-use Rattle.node_machine.specs.Parts.{Core, Port}
-use Rattle.node_machine.specs.Parts.Deed.{Sends, Orders}
-use Rattle.node_machine.specs.Carrying.{noted_of, own_side, port_at, all_done}
-use Rattle.node_machine.specs.Controller.{is_command_message}
+use Rattle.link_laws.specs.machine.Machine.{LinkInput}
+use Rattle.node_machine.specs.Carrying.{all_done}
 use Rattle.node_machine.specs.world.World.{near_end_in, arrival}
 use Rattle.node_laws.specs.telling.Telling.{HasEnds, world_behind}
 use Rattle.node_laws.proofs.telling.Nodes.{hosts_same}
-use Rattle.node_laws.specs.passes.Noting.{noted_by_deed, noted_by_deeds}
+use Rattle.node_laws.specs.passes.Noting.{noted_by_deeds}
 use Rattle.node_laws.specs.passes.Passing.{AreNoTurns, IsNoTurn}
 use Rattle.node_laws.proofs.passes.Before.{links_none}
 use Rattle.node_laws.proofs.passes.Notes.{deeds_note}
-use Rattle.node_laws.proofs.passes.Turnless.{noted_none}
+use Rattle.node_laws.proofs.passes.Turnless.{noted_none, NotesNoTurn, sending_turnless, beginning_turnless}
 use Rattle.node_laws.specs.power.Powers.{is_of_node}
 use Rattle.node_laws.specs.kept.Hosts.{AreHosts}
 use Rattle.node_laws.specs.links.Runs.{ArePlayable}
@@ -66,28 +60,6 @@ use Rattle.node_laws.proofs.worlds.Ascending.{AllAscend, ascends_part, turnless_
 pub flat_turnless : (f : Site → List Entry) → ((s : Site) → AreNoTurns (f s)) → (sites : List Site) → AreNoTurns (flat_map f sites)
 flat_turnless f one [] = tt
 flat_turnless f one (s ∷ sites) = all_append IsNoTurn (f s) (flat_map f sites) (one s) (flat_turnless f one sites)
-
--- ## What begins at a host
-
-given_turnless : (core : Core) (m : Message) (o : Option Port) → AreNoTurns (option_map_or (noted_of core (Give m)) o [])
-given_turnless core m None = tt
-given_turnless core m (Some p) = go (give_refusal p.side m) where
-  go : (o : Option Refused) → AreNoTurns (entries_for p.desk.host (sent_unless o (own_side core) p.session m))
-  go None = (refl, tt)
-  go (Some why) = tt
-
--- what a deed notes has no turn
-abbrev pub NotesNoTurn : Deed → Type 0
-NotesNoTurn d = (h : ℕ) (w : Work) → AreNoTurns (noted_by_deed h d w)
-
-pub sending_turnless : (h : ℕ) (m : Message) → AllByRecursion NotesNoTurn (sending h m)
-sending_turnless h m = go (eqb m.0 1 && is_command_message m.1) where
-  go : (b : Bool) → AllByRecursion NotesNoTurn (cond b (Orders m.1 ∷ []) (Sends h m ∷ []))
-  go true = ((λ k w. given_turnless w.core (1, m.1) (port_at w.ports k)), tt)
-  go false = ((λ k w. given_turnless w.core m (port_at w.ports h)), tt)
-
-pub beginning_turnless : (identity : List ℕ) (pipes : List (List ℕ)) → AllByRecursion NotesNoTurn (beginning identity pipes)
-beginning_turnless identity pipes = ((λ k w. tt), ((λ k w. given_turnless w.core (1, 3 ∷ []) (port_at w.ports k)), tt))
 
 -- ## Steps
 

@@ -1,0 +1,114 @@
+-- What deeds note is of a few kinds: where a fact holds of each entry of these kinds, it holds of all that a deed notes.
+use Rattle.std.proofs.Common.{ℕ, Bool, true, false, cond, eqb, ◌&&◌, List, [], ◌∷◌, Option, Some, None}
+use Rattle.std.specs.List.{AllByRecursion, flat_map}
+use Rattle.std.specs.Option.{option_map_or}
+use Rattle.trace_model.specs.declared.entry.Entry.{Entry}
+use Rattle.trace_model.specs.declared.entry.Entry.TheVariants as entry
+use Rattle.journal_laws.specs.Journal.{count_of}
+use Rattle.hci_tables.specs.declared.command.Command.{Command}
+use Rattle.hci_tables.specs.declared.command.Command.TheVariants.{Sync}
+use Rattle.gate_answers.specs.Answers.{answer_of}
+use Rattle.link_laws.specs.machine.Machine.{Message, Refused, Turn, give_refusal}
+use Rattle.link_laws.specs.machine.Machine.Turn.{Give, SetAside}
+use Rattle.link_laws.specs.entries.Entries.{End as Side, sent_unless}
+use Rattle.history.specs.Steps.{end_of, entries_for}
+use Rattle.node_machine.specs.Parts.{Creation, Core, Port, Work, Deed}
+use Rattle.node_machine.specs.Parts.Deed.{Commits, Asks, Tells, Sends, Orders}
+use Rattle.node_machine.specs.Controller.{is_command_message}
+use Rattle.node_machine.specs.Carrying.{own_side, port_at, noted_of, turn_at, end_of_node}
+use Rattle.node_machine.specs.Turns.{deeds_of}
+use Rattle.node_machine.specs.Node.{NodeInput, all_owed, synced, forgotten}
+use Rattle.node_machine.specs.world.World.{sending, beginning}
+use Rattle.node_machine.proofs.Walks.{Plain, OfHost, any_of_controller, all_of_host, deeds_hold, all_owed_hold, all_synced_hold, forgotten_hold}
+use Rattle.node_laws.specs.passes.Noting.{goes_in, noted_by_deed}
+
+-- an entry of a kind that deeds note
+abbrev pub IsOfDeed : Entry → Type 0
+IsOfDeed (entry.Sent e n pid message) = Unit {0}
+IsOfDeed (entry.Ask host message) = Unit {0}
+IsOfDeed (entry.Dropped e pid) = Unit {0}
+IsOfDeed (entry.Command node command) = Unit {0}
+IsOfDeed (entry.AnyOk node count) = Unit {0}
+IsOfDeed (entry.InitSame e) = Unit {0}
+IsOfDeed (entry.InitMade e count) = Unit {0}
+IsOfDeed (entry.InitFailed e code) = Unit {0}
+IsOfDeed (entry.Cut node) = Unit {0}
+IsOfDeed _ = ⊥
+
+-- it holds of what a deed notes, whatever the node is
+abbrev pub NotesOnly : (Entry → Type 0) → Deed → Type 0
+NotesOnly P d = (h : ℕ) (w : Work) → AllByRecursion P (noted_by_deed h d w)
+
+module _ (P : Entry → Type 0) (of_deed : (x : Entry) → IsOfDeed x → P x) where
+  sent : (h n : ℕ) (m : Message) (side : Side) (o : Option Refused) → AllByRecursion P (entries_for h (sent_unless o side n m))
+  sent h n m side None = (of_deed (entry.Sent (end_of h side) n m.0 m.1) tt, tt)
+  sent h n m side (Some why) = tt
+
+  given : (core : Core) (m : Message) (o : Option Port) → AllByRecursion P (option_map_or (noted_of core (Give m)) o [])
+  given core m None = tt
+  given core m (Some p) = sent p.desk.host p.session m (own_side core) (give_refusal p.side m)
+
+  -- what a turn notes
+  pub turn_notes : (core : Core) (y : Turn) (o : Option Port) → AllByRecursion P (option_map_or (noted_of core y) o [])
+  turn_notes core (Give m) o = given core m o
+  turn_notes core y None = tt
+  turn_notes core _ (Some p) = tt
+
+  cut : (b : Bool) (n : ℕ) → AllByRecursion P (cond b (entry.Cut n ∷ []) [])
+  cut true n = (of_deed (entry.Cut n) tt, tt)
+  cut false n = tt
+
+  plain : Plain (NotesOnly P)
+  plain = record {
+    sends = λ to m h w. given w.core m (port_at w.ports to);
+    says_ok = λ h w. (of_deed (entry.AnyOk w.core.node (count_of w.core.journal)) tt, tt);
+    releases = λ asker h w. tt;
+    is_answered = λ h w. tt;
+    drops = λ pid h w. (of_deed (entry.Dropped (end_of_node w.core h) pid) tt, tt);
+  }
+
+  commits : (c : Command) → NotesOnly P (Commits c)
+  commits c h w = (of_deed (entry.Command w.core.node c) tt, cut (goes_in c w) w.core.node)
+
+  tells : (to : ℕ) (message : List ℕ) → NotesOnly P (Tells to message)
+  tells to message h w = given w.core (1, message) (port_at w.ports to)
+
+  asks : (to : ℕ) (message : List ℕ) (c : Creation) → NotesOnly P (Asks to message c)
+  asks to message c h w = (of_deed (entry.Ask to message) tt, given w.core (1, message) (port_at (turn_at c.asker SetAside w).ports to))
+
+  own : (core : Core) → OfHost (NotesOnly P) core
+  own core = record {
+    commits = commits;
+    hears = λ h w. tt;
+    goes_on = λ i h w. tt;
+    orders = λ i k order is h w. given w.core (1, order) (port_at w.ports h);
+    same = λ h w. (of_deed (entry.InitSame (end_of_node core core.node)) tt, tt);
+    made = λ count h w. (of_deed (entry.InitMade (end_of_node core core.node) count) tt, tt);
+    failed = λ code h w. (of_deed (entry.InitFailed (end_of_node core core.node) code) tt, tt);
+  }
+
+  -- what a message that a node handles causes
+  pub causes_note : (core : Core) (ports : List Port) (h : ℕ) (m : Message) → AllByRecursion (NotesOnly P) (deeds_of core ports h m)
+  causes_note core ports h m =
+      deeds_hold (AllByRecursion (NotesOnly P)) core ports h m
+      (any_of_controller (NotesOnly P) plain commits tells asks (λ errors h w. tt) core ports h m) tt
+      (λ p. all_of_host (NotesOnly P) core plain (own core) p m (λ n value is zero sets h w. tt))
+
+  pub forgotten_note : (ports : List Port) → AllByRecursion (NotesOnly P) (forgotten ports)
+  forgotten_note ports = forgotten_hold (NotesOnly P) plain.releases ports
+
+  pub owed_note : (ports : List Port) → AllByRecursion (NotesOnly P) (all_owed ports)
+  owed_note ports = all_owed_hold (NotesOnly P) (λ asker. plain.releases asker) (λ to r. plain.sends to (1, answer_of r [])) ports
+
+  pub synced_note : (core : Core) (input : NodeInput) (ports : List Port) → AllByRecursion (NotesOnly P) (flat_map (synced core input) ports)
+  synced_note core input ports = all_synced_hold (NotesOnly P) (λ host id. commits (Sync host id)) core input ports
+
+  -- what begins at a host
+  pub sending_notes : (h : ℕ) (m : Message) → AllByRecursion (NotesOnly P) (sending h m)
+  sending_notes h m = go (eqb m.0 1 && is_command_message m.1) where
+    go : (b : Bool) → AllByRecursion (NotesOnly P) (cond b (Orders m.1 ∷ []) (Sends h m ∷ []))
+    go true = ((λ k w. given w.core (1, m.1) (port_at w.ports k)), tt)
+    go false = ((λ k w. given w.core m (port_at w.ports h)), tt)
+
+  pub beginning_notes : (identity : List ℕ) (pipes : List (List ℕ)) → AllByRecursion (NotesOnly P) (beginning identity pipes)
+  beginning_notes identity pipes = ((λ k w. tt), ((λ k w. given w.core (1, 3 ∷ []) (port_at w.ports k)), tt))
