@@ -1,5 +1,6 @@
 pub mod Notes
 pub mod Kinds
+pub mod Coming
 pub mod Ends
 pub mod Turnless
 pub mod Walking

@@ -1,18 +1,19 @@
 -- What is noted is counted: commands that are committed cost, and so do messages that are sent and may bring about others; messages that have
 -- their turns pay for them.
-use Rattle.std.proofs.Common.{◌≡◌, ℕ, ◌+◌, ◌≤◌, ◌&&◌, Bool, true, false, eqb, List, [], ◌∷◌, ◌++◌, map, refl, ap, ◌∙◌, arith, Option}
+use Rattle.std.proofs.Common.{◌≡◌, ℕ, ◌+◌, ◌≤◌, ◌&&◌, Bool, true, false, eqb, List, [], ◌∷◌, ◌++◌, refl, ap, ◌∙◌, arith, Option}
 use Rattle.std.proofs.Common.{Some, None}
-use Rattle.std.specs.Prelude.{not, nat_lt, option_to_list}
+use Rattle.std.specs.Prelude.{not}
 use Rattle.std.specs.List.{AllByRecursion}
 use Rattle.std.proofs.lemmas.List.Concat.{flat_map-append}
 use Rattle.trace_model.specs.declared.entry.Entry.{Entry}
 use Rattle.trace_model.specs.declared.entry.Entry.TheVariants as entry
 use Rattle.link_laws.specs.machine.Machine.{Message, Report, Refused}
-use Rattle.link_laws.specs.entries.Entries.{End as Side, Entry as Noted, if_so, told, sent_unless}
+use Rattle.link_laws.specs.entries.Entries.{End as Side, Entry as Noted, told, sent_unless}
 use Rattle.link_laws.specs.entries.Entries.End.{Controller, Host}
-use Rattle.link_laws.specs.entries.Entries.Entry.{Up, Down, Active, GaveUp, Acked, Got, Sent}
+use Rattle.link_laws.specs.entries.Entries.Entry.{Sent}
 use Rattle.history.specs.Steps.{entry_of, entries_for}
 use Rattle.node_machine.specs.Controller.{is_command_message}
+use Rattle.node_laws.proofs.telling.Reported.{told_all}
 
 -- ## Entries
 
@@ -112,28 +113,9 @@ notes_free h (x ∷ notes) a =
     let rest = notes_free h notes a.1 in
     omega (arith, both, first, rest)
 
-none-append : (xs ys : List Noted) → AreNoSents xs → AreNoSents ys → AreNoSents (xs ++ ys)
-none-append [] ys a b = b
-none-append (x ∷ xs) ys a b = (a.0, none-append xs ys a.1 b)
-
-so_none : (b : Bool) (x : Noted) → IsNoSent x → AreNoSents (if_so b x)
-so_none true x a = (a, tt)
-so_none false x a = tt
-
-each_none : {X : Type 0} (f : X → Noted) → ((x : X) → IsNoSent (f x)) → (xs : List X) → AreNoSents (map f xs)
-each_none f one [] = tt
-each_none f one (x ∷ xs) = (one x, each_none f one xs)
-
 -- what is told of an input costs nothing
 pub told_free : (h : ℕ) (who : Side) (n : ℕ) (r : Report) (acked : ℕ) → costs_at h (told who n r acked) ≡ 0
-told_free h who n r acked =
-    notes_free h (told who n r acked)
-    (none-append (map (Down who) (option_to_list r.ended)) _ (each_none (Down who) (λ x. tt) (option_to_list r.ended))
-    (none-append (if_so r.began (Up who n)) _ (so_none r.began (Up who n) tt)
-    (none-append (if_so r.became_active (Active who)) _ (so_none r.became_active (Active who) tt)
-    (none-append (map (GaveUp who) (option_to_list r.gave_up)) _ (each_none (GaveUp who) (λ x. tt) (option_to_list r.gave_up))
-    (none-append (if_so (nat_lt 0 r.acked) (Acked who n acked)) _ (so_none (nat_lt 0 r.acked) (Acked who n acked) tt)
-    (each_none (Got who n) (λ x. tt) r.got))))))
+told_free h who n r acked = notes_free h (told who n r acked) (told_all IsNoSent who n acked tt tt (λ k. tt) tt (λ m. tt) (λ c. tt) r)
 
 -- a message that is given costs what a sent one does, unless it is refused
 pub sent_most : (h n : ℕ) (m : Message) (side : Side) (o : Option Refused)

@@ -1,8 +1,7 @@
 -- No session that is noted of a link has a greater number than how many RSETs were put on the link until then.
-use Rattle.std.proofs.Common.{◌≡◌, ℕ, ◌≤◌, Bool, true, false, cond, List, [], ◌∷◌, ◌++◌, length, map, Option, Some, None, refl, arith}
+use Rattle.std.proofs.Common.{◌≡◌, ℕ, ◌≤◌, Bool, true, false, cond, List, [], ◌∷◌, ◌++◌, length, Option, Some, None, refl, arith}
 use Rattle.std.specs.Prelude.{nat_lt, is_some}
 use Rattle.std.specs.List.{AllByRecursion}
-use Rattle.std.specs.Option.{option_to_list}
 use Rattle.registry.proofs.ValueLemmas.{AllByRecursion-append as each_append}
 use Rattle.swp_base.specs.declared.control_frames.Control.{Control}
 use Rattle.link_laws.specs.sessions.Sessions.{OnWire, is_rset, is_up, took_with}
@@ -18,15 +17,16 @@ use Rattle.link_laws.specs.messages.Links.Comes.{NextFrame, AsksReset, Starts, S
 use Rattle.link_laws.specs.messages.Links.Loss.{TooMany}
 use Rattle.link_laws.specs.messages.Links.EndEvent.{Step, Lose}
 use Rattle.link_laws.specs.messages.Links.LinkEvent.{AtController, AtHost, Ticks, TicksWithout, Activate}
-use Rattle.link_laws.specs.entries.Entries.{End, Entry, if_so, told, told_of, sent_unless, turn_entry, turn_entries, first_lost, pushed_out, wire_with}
+use Rattle.link_laws.specs.entries.Entries.{End, Entry, told, told_of, sent_unless, turn_entry, turn_entries, first_lost, pushed_out, wire_with}
 use Rattle.link_laws.specs.entries.Entries.{put_entries, puts_entries, ending_entries, rest_entries, input_entries, left_after, taken_entries}
 use Rattle.link_laws.specs.entries.Entries.{restart_entries, step_entries, here_entries, entries_of_events, aged_entries, tick_entries, event_entries}
 use Rattle.link_laws.specs.entries.Entries.{entries, far}
 use Rattle.link_laws.specs.entries.Entries.End.{Controller, Host}
-use Rattle.link_laws.specs.entries.Entries.Entry.{Up, Down, Active, GaveUp, Acked, Got, Sent, Tick, Restarted, Cut}
+use Rattle.link_laws.specs.entries.Entries.Entry.{Up, Acked, Got, Sent, Tick, Restarted, Cut}
 use Rattle.history.specs.Steps.{entry_of, entries_for}
 use Rattle.link_laws.specs.messages.Rsets.{HasLowNumbers}
 use Rattle.node_laws.specs.bounds.Resets.{NotedWithin, AreNotedWithin, SessionWithin, AreSessionsWithin}
+use Rattle.node_laws.proofs.telling.Reported.{told_all}
 use Rattle.node_laws.proofs.Cases.{by_test}
 use Rattle.link_laws.proofs.messages.RsetNumbers.{number_low, exchanged_numbered, aged_numbered, silent_numbered, took_low}
 use Rattle.link_laws.proofs.messages.RsetNumbers.{steps_numbered, tick_numbered, here_numbered, all_numbered, event_numbered, start_numbered}
@@ -44,27 +44,10 @@ pub more : (m n : ℕ) (t : List Entry) → m ≤ n → AreNotedWithin m t → A
 more m n [] q a = tt
 more m n (x ∷ t) q a = (within_more m n q x a.0, more m n t q a.1)
 
-join : (n : ℕ) (t u : List Entry) → AreNotedWithin n t → AreNotedWithin n u → AreNotedWithin n (t ++ u)
-join n t u a b = each_append (NotedWithin n) t u a b
-
-mapped : {X : Type 0} (n : ℕ) (f : X → Entry) (xs : List X) → ((x : X) → NotedWithin n (f x)) → AreNotedWithin n (map f xs)
-mapped {X} n f [] a = tt
-mapped {X} n f (x ∷ xs) a = (a x, mapped n f xs a)
-
-so : (n : ℕ) (b : Bool) (x : Entry) → NotedWithin n x → AreNotedWithin n (if_so b x)
-so n true x a = (a, tt)
-so n false x a = tt
-
 -- ## What comes, and turns
 
 told_within : (n : ℕ) (who : End) (k : ℕ) (r : Report) (acked : ℕ) → k ≤ n → AreNotedWithin n (told who k r acked)
-told_within n who k r acked q =
-    let got = mapped n (Got who k) r.got (λ m. q) in
-    let counted = join n (if_so (nat_lt 0 r.acked) (Acked who k acked)) _ (so n (nat_lt 0 r.acked) (Acked who k acked) q) got in
-    let gave = join n (map (GaveUp who) (option_to_list r.gave_up)) _ (mapped n (GaveUp who) (option_to_list r.gave_up) (λ m. tt)) counted in
-    let active = join n (if_so r.became_active (Active who)) _ (so n r.became_active (Active who) tt) gave in
-    let began = join n (if_so r.began (Up who k)) _ (so n r.began (Up who k) q) active in
-    join n (map (Down who) (option_to_list r.ended)) _ (mapped n (Down who) (option_to_list r.ended) (λ m. tt)) began
+told_within n who k r acked q = told_all (NotedWithin n) who k acked q tt (λ t. tt) q (λ m. q) (λ c. tt) r
 
 input_told : (n : ℕ) (who : End) (h : NumberedEnd) (i : LinkInput) → number_of h ≤ n → AreNotedWithin n (told_of who h i)
 input_told n who h i q = told_within n who (number_of h) (report h.side i) (whole_acked (after_input h.side i)) q
@@ -80,7 +63,7 @@ turn_within n who k e _ q = tt
 turns_within : (n : ℕ) (who : End) (k : ℕ) (ts : List Turn) (e : LinkEnd) → k ≤ n → AreNotedWithin n (turn_entries who k e ts)
 turns_within n who k [] e q = tt
 turns_within n who k (t ∷ ts) e q =
-    join n (turn_entry who k e t) (turn_entries who k (turn e t) ts) (turn_within n who k e t q) (turns_within n who k ts (turn e t) q)
+    each_append (NotedWithin n) (turn_entry who k e t) (turn_entries who k (turn e t) ts) (turn_within n who k e t q) (turns_within n who k ts (turn e t) q)
 
 -- ## Frames
 
@@ -98,7 +81,8 @@ pushed_within n who wire = go (nat_lt 64 (length wire))
 puts_within : (n : ℕ) (who : End) (cs : List Control) (l : Link) → AreNotedWithin n (puts_entries who l cs)
 puts_within n who [] l = tt
 puts_within n who (c ∷ cs) l =
-    join n (put_entries who l c) (puts_entries who (put l c) cs) (tt, pushed_within n (far who) (wire_with l c)) (puts_within n who cs (put l c))
+    each_append (NotedWithin n) (put_entries who l c) (puts_entries who (put l c) cs) (tt, pushed_within n (far who) (wire_with l c))
+    (puts_within n who cs (put l c))
 
 ending_within : (n : ℕ) (who : End) (l : Link) (e : LinkEnd) (ending : Ending) → AreNotedWithin n (ending_entries who l e ending)
 ending_within n who l e GoesOut = puts_within n who (frames_out e) l
@@ -117,7 +101,7 @@ aged_within n who (x ∷ wire) = go (nat_lt x.age 4) refl (aged_within n who wir
 rest_within : (n : ℕ) (who : End) (l : Link) (e : LinkEnd) (ts : List Turn) (ending : Ending) → number_of l.controller ≤ n
     → AreNotedWithin n (rest_entries who l e ts ending)
 rest_within n who l e ts ending q =
-    join n (turn_entries who (number_of l.controller) e ts) (ending_entries who l (turned e ts) ending)
+    each_append (NotedWithin n) (turn_entries who (number_of l.controller) e ts) (ending_entries who l (turned e ts) ending)
     (turns_within n who (number_of l.controller) ts e q) (ending_within n who l (turned e ts) ending)
 
 ended_number : (l : Link) (b : Bool) → number_of (with_ended l b).controller ≡ number_of l.controller
@@ -130,7 +114,7 @@ input_within who l i ts ending a =
     let m : Link = with_ended l (is_some (ended_by l.controller.side i)) in
     let low = number_low l.resets l.controller a.controller in
     let same = ended_number l (is_some (ended_by l.controller.side i)) in
-    join l.resets (told_of who l.controller i) (rest_entries who m (after_input l.controller.side i) ts ending)
+    each_append (NotedWithin l.resets) (told_of who l.controller i) (rest_entries who m (after_input l.controller.side i) ts ending)
     (input_told l.resets who l.controller i low) (rest_within l.resets who m (after_input l.controller.side i) ts ending (omega (arith, low, same)))
 
 taken_within : (who : End) (l : Link) (x : OnWire) (xs : List OnWire) (ts : List Turn) (ending : Ending) → l.to_controller ≡ x ∷ xs → HasLowNumbers l
@@ -139,7 +123,7 @@ taken_within who l x xs ts ending q a =
     let near : NumberedEnd = record l.controller { took = took_with l.controller.took x } in
     let e : LinkEnd = after_input l.controller.side (Take x.frame) in (
       tt,
-      join l.resets (told_of who near (Take x.frame)) (rest_entries who (left_after l x xs) e ts ending)
+      each_append (NotedWithin l.resets) (told_of who near (Take x.frame)) (rest_entries who (left_after l x xs) e ts ending)
           (input_told l.resets who near (Take x.frame) heard) (rest_within l.resets who (left_after l x xs) e ts ending left),
     )
   where
@@ -175,7 +159,7 @@ restart_within who l i ts ending a =
     let e : LinkEnd = after_input l.controller.side i in
     let low = number_low l.resets l.controller a.controller in (
       tt,
-      join l.resets (told_of who l.controller i) (rest_entries who (silent l e) e ts ending) (input_told l.resets who l.controller i low)
+      each_append (NotedWithin l.resets) (told_of who l.controller i) (rest_entries who (silent l e) e ts ending) (input_told l.resets who l.controller i low)
           (rest_within l.resets who (silent l e) e ts ending (silent_low e)),
     )
   where
@@ -296,7 +280,7 @@ all_within (e ∷ es) who l a =
     let end : Link = all_at_controller m es in
     let x = here_grows l e in
     let y = all_grow es m in
-    join end.resets (here_entries who l e) (entries_of_events who m es)
+    each_append (NotedWithin end.resets) (here_entries who l e) (entries_of_events who m es)
     (more l.resets end.resets (here_entries who l e) (omega (arith, x, y)) (here_within who l e a)) (all_within es who m (here_numbered l e a))
 
 tick_within : (n : ℕ) (who : End) (l : Link) (node : Node) → l.resets ≤ n → HasLowNumbers l → AreNotedWithin n (tick_entries who l node)
@@ -306,8 +290,8 @@ tick_within n who l node q a = more l.resets n (tick_entries who l node) q (inpu
 behind_aged : (n : ℕ) (l : Link) (t : List Entry) → AreNotedWithin n t
     → AreNotedWithin n (aged_entries Controller l.to_controller ++ (aged_entries Host l.to_host ++ t))
 behind_aged n l t a =
-    join n (aged_entries Controller l.to_controller) _ (aged_within n Controller l.to_controller)
-    (join n (aged_entries Host l.to_host) t (aged_within n Host l.to_host) a)
+    each_append (NotedWithin n) (aged_entries Controller l.to_controller) _ (aged_within n Controller l.to_controller)
+    (each_append (NotedWithin n) (aged_entries Host l.to_host) t (aged_within n Host l.to_host) a)
 
 pub event_within : (l : Link) (e : LinkEvent) → HasLowNumbers l → AreNotedWithin (happens l e).resets (event_entries l e)
 event_within l (AtController e) a =
@@ -326,8 +310,11 @@ event_within l (Ticks c events h) a =
     let z : k.resets ≤ n = input_grows (exchanged k) HasTick h.turns h.ending in
     let middle = more k.resets n (entries_of_events Controller near events) z (all_within events Controller near d) in
     let last = tick_within n Host (exchanged k) h z (exchanged_numbered k (all_numbered events near d)) in
-    let first = tick_within n Controller (aged l) c (omega (arith, x, y, z)) b in
-    (tt, behind_aged n l _ (join n (tick_entries Controller (aged l) c) _ first (join n (entries_of_events Controller near events) _ middle last)))
+    let first = tick_within n Controller (aged l) c (omega (arith, x, y, z)) b in (
+      tt,
+      behind_aged n l _ (each_append (NotedWithin n) (tick_entries Controller (aged l) c) _ first
+          (each_append (NotedWithin n) (entries_of_events Controller near events) _ middle last)),
+    )
 event_within l (TicksWithout events h) a =
     let k : Link = all_at_controller (aged l) events in
     let n : ℕ = (happens l (TicksWithout events h)).resets in
@@ -335,13 +322,13 @@ event_within l (TicksWithout events h) a =
     let z : k.resets ≤ n = input_grows (exchanged k) HasTick h.turns h.ending in
     let middle = more k.resets n (entries_of_events Controller (aged l) events) z (all_within events Controller (aged l) b) in
     let last = tick_within n Host (exchanged k) h z (exchanged_numbered k (all_numbered events (aged l) b)) in
-    (tt, behind_aged n l _ (join n (entries_of_events Controller (aged l) events) _ middle last))
+    (tt, behind_aged n l _ (each_append (NotedWithin n) (entries_of_events Controller (aged l) events) _ middle last))
 event_within l (Activate power c id h) a =
     let near : Link = steps_at_controller l (Starts power) c.turns c.ending in
     let n : ℕ = (happens l (Activate power c id h)).resets in
     let x : l.resets ≤ near.resets = step_grows l (Starts power) c.turns c.ending in
     let y : near.resets ≤ n = step_grows (exchanged near) (Starts id) h.turns h.ending in
-    join n (step_entries Controller l (Starts power) c.turns c.ending) (step_entries Host (exchanged near) (Starts id) h.turns h.ending)
+    each_append (NotedWithin n) (step_entries Controller l (Starts power) c.turns c.ending) (step_entries Host (exchanged near) (Starts id) h.turns h.ending)
     (more l.resets n (step_entries Controller l (Starts power) c.turns c.ending) (omega (arith, x, y))
     (step_within Controller l (Starts power) c.turns c.ending a))
     (more near.resets n (step_entries Host (exchanged near) (Starts id) h.turns h.ending) y
@@ -352,7 +339,7 @@ events_within [] l a = tt
 events_within (e ∷ es) l a =
     let m : Link = happens l e in
     let end : Link = after_link_events m es in
-    join end.resets (event_entries l e) (entries m es)
+    each_append (NotedWithin end.resets) (event_entries l e) (entries m es)
     (more m.resets end.resets (event_entries l e) (events_grow es m) (event_within l e a)) (events_within es m (event_numbered l e a))
 
 pub run_within : (l : Link) → IsStart l → (events : List LinkEvent) → AreNotedWithin (after_link_events l events).resets (entries l events)

@@ -42,6 +42,7 @@ use Rattle.node_laws.specs.kept.Books.{hosts_of_ends}
 use Rattle.node_laws.specs.kept.Hosts.{AreDifferent, AreHosts}
 use Rattle.node_laws.specs.kept.Worlds.{IfRuns, RunsSo}
 use Rattle.node_laws.specs.telling.Telling.{HasEnds, IsOrderly, hosts_in}
+use Rattle.node_laws.proofs.All.{all_flat}
 use Rattle.node_laws.proofs.Cases.{by_option, by_test}
 use Rattle.node_laws.proofs.telling.Nodes.{Stands, hosts_same, link_is, stands}
 use Rattle.node_laws.specs.order.Told.{AreSessionsRead}
@@ -209,10 +210,6 @@ pub front_flat : (t : HciTables) (xs ys : List Entry) → AllByRecursion (IsUnre
 front_flat t xs ys a =
     flat_map-append (new_sync t) xs ys ∙ (ap (λ ds. flat_map (new_sync t) xs ++ ds) (unread_flat t ys a) ∙ append-nil (flat_map (new_sync t) xs))
 
-pub flat_took : {X : Type 0} (f : X → List Entry) → ((x : X) → AllByRecursion IsTookless (f x)) → (xs : List X) → AllByRecursion IsTookless (flat_map f xs)
-flat_took f one [] = tt
-flat_took f one (x ∷ xs) = all_append IsTookless (f x) (flat_map f xs) (one x) (flat_took f one xs)
-
 pub front_own : (xs ys : List Entry) → AreOwn 0 (xs ++ ys) → AreOwn 0 xs
 front_own [] ys a = tt
 front_own (x ∷ xs) ys a = (a.0, front_own xs ys a.1)
@@ -317,7 +314,7 @@ module _ (hosts : List ℕ) (are : AreHosts hosts) (past : List Occurrence) (w :
         front_flat z last.entries tail
         (all_append (IsUnread z) frames rest
         (tookless_all z frames
-        (flat_took (λ (s : Site). frames_noted Controller s.host (wires_for s.link (comes_to h comes s.host)) last)
+        (all_flat IsTookless (λ (s : Site). frames_noted Controller s.host (wires_for s.link (comes_to h comes s.host)) last)
         (λ s. frames_tookless Controller s.host (wires_for s.link (comes_to h comes s.host)) last) w.sites))
         (others_unread z rest other))
         ∙ (ap (flat_map (new_sync z)) own_part.is

@@ -1,22 +1,19 @@
 -- Before its first turn in a step a controller answers with the identifier that it keeps and with what it owes, and with nothing else.
 use Rattle.std.proofs.Common.{◌≡◌, ℕ, Bool, true, false, cond, List, [], ◌∷◌, ◌++◌, map, sym, refl, ap, ◌∙◌, subst, append_assoc, append-nil}
-use Rattle.std.specs.Prelude.{Option, Some, None}
-use Rattle.std.specs.List.{AllByRecursion, flat_map}
+use Rattle.std.specs.Prelude.{Option, Some}
+use Rattle.std.specs.List.{AllByRecursion}
 use Rattle.std.proofs.lemmas.Bool.{true≢false}
 use Rattle.registry.proofs.ValueLemmas.{AllByRecursion-append as all_append}
 use Rattle.trace_model.specs.declared.entry.Entry.{Entry}
 use Rattle.trace_model.specs.declared.entry.Entry.TheVariants as entry
 use Rattle.hci_tables.specs.declared.command.Command.{Command}
-use Rattle.link_laws.specs.machine.Machine.{LinkInput, after_input, report, whole_acked}
-use Rattle.link_laws.specs.machine.Machine.LinkInput.{Reset}
 use Rattle.link_laws.specs.entries.Entries.{Entry as Noted, told}
 use Rattle.link_laws.specs.entries.Entries.Entry.{Cut, Restarted, Tick as Ticked}
 use Rattle.history.specs.Steps.{entries_for}
-use Rattle.node_machine.specs.Parts.{Core, Deed, Port, Work}
-use Rattle.node_machine.specs.Carrying.{all_done, own_side, port_at, unless_cut}
+use Rattle.node_machine.specs.Parts.{Deed, Port, Work}
+use Rattle.node_machine.specs.Carrying.{all_done, port_at, unless_cut}
 use Rattle.node_machine.specs.Turns.{passes}
-use Rattle.node_machine.specs.Node.{NodeInput, all_come, forgets, input_at, is_late, is_over_at, steps, told_at, told_late, with_older}
-use Rattle.node_machine.specs.Node.NodeInput.{AtEnd, TimePasses}
+use Rattle.node_machine.specs.Node.{NodeInput, forgets, is_over_at, steps}
 use Rattle.node_laws.specs.kept.Books.{hosts_of_ends}
 use Rattle.node_laws.specs.kept.Hosts.{AreHosts}
 use Rattle.node_laws.specs.kept.Reckonings.{is_cut_of}
@@ -25,7 +22,8 @@ use Rattle.node_laws.specs.passes.Noting.{IsReplyNoted, entries_of_reply, noted_
 use Rattle.node_laws.specs.passes.Passing.{ArePassed, BeginWithTurn, ComesTo, IsTurnSo}
 use Rattle.node_laws.specs.passes.Passing.ComesTo.{Begins}
 use Rattle.node_laws.specs.passes.Steps.{comes_to_pass, has_come_so, has_freed, has_synced}
-use Rattle.node_laws.specs.passes.Steps.{owed_in_step, syncs_in, told_of_coming, told_of_late}
+use Rattle.node_laws.specs.passes.Steps.{owed_in_step, syncs_in, told_of_coming}
+use Rattle.node_laws.proofs.passes.Coming.{coming_all}
 use Rattle.node_laws.proofs.passes.Before.{before_entries, steps_are}
 use Rattle.node_laws.proofs.passes.Passing.{comes_lasts, through}
 use Rattle.node_laws.proofs.power.Parts.{AreOwn}
@@ -58,27 +56,8 @@ links_are h (Restarted who ∷ xs) = links_are h xs
 links_are h (Cut who ∷ xs) = links_are h xs
 links_are h (_ ∷ xs) = ((refl, refl), links_are h xs)
 
-at_are : (core : Core) (p : Port) (o : Option LinkInput) → AreOfLink (told_at core p o)
-at_are core p None = tt
-at_are core p (Some i) = links_are p.desk.host (told (own_side core) p.session (report p.side i) (whole_acked (after_input p.side i)))
-
-late_are : (core : Core) (p : Port) → AreOfLink (told_late core p)
-late_are core p = go (is_late p) where
-  go : (b : Bool) → AreOfLink (cond b (told_at core p (Some (Reset None))) [])
-  go true = at_are core p (Some (Reset None))
-  go false = tt
-
-pub flat_are : {X : Type 0} (f : X → List Entry) → ((x : X) → AreOfLink (f x)) → (xs : List X) → AreOfLink (flat_map f xs)
-flat_are f one [] = tt
-flat_are f one (x ∷ xs) = all_append IsOfLink (f x) (flat_map f xs) (one x) (flat_are f one xs)
-
 coming_are : (input : NodeInput) (w : Work) → AreOfLink (told_of_coming input w)
-coming_are input w =
-    all_append IsOfLink (flat_map (λ p. told_at w.core p (input_at input p)) w.ports) (told_of_late input (all_come input w))
-    (flat_are (λ p. told_at w.core p (input_at input p)) (λ p. at_are w.core p (input_at input p)) w.ports) (late input) where
-      late : (input : NodeInput) → AreOfLink (told_of_late input (all_come input w))
-      late (AtEnd h i) = tt
-      late TimePasses = flat_are (told_late w.core) (late_are w.core) (map with_older (all_come TimePasses w).ports)
+coming_are input w = coming_all IsOfLink (λ h who n acked r. links_are h (told who n r acked)) input w
 
 pub mute_both : (es : List Entry) → AreOfLink es → AllByRecursion (λ x. is_answer_of 0 x ≡ false) es → AreMute es
 mute_both [] a b = tt

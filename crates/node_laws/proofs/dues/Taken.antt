@@ -1,6 +1,6 @@
 -- What a controller takes as identifiers are those that are read off LPDUs, and nothing else in a step is read so.
 use Rattle.std.proofs.Common.{◌≡◌, ◌⊎◌, inl, inr, ℕ, ◌+◌, ◌*◌, ◌/◌, ◌%◌, ◌≤◌, Bool}
-use Rattle.std.proofs.Common.{true, false, cond, List, [], ◌∷◌, ◌++◌, length, map, sym, refl, ap, ◌∙◌}
+use Rattle.std.proofs.Common.{true, false, cond, List, [], ◌∷◌, ◌++◌, length, sym, refl, ap, ◌∙◌}
 use Rattle.std.proofs.Common.{subst, arith}
 use Rattle.std.specs.Prelude.{◌==◌, find, nat_le, nat_lt, Option, Some, None, Result, Ok, Err}
 use Rattle.std.specs.List.{AllByRecursion, flat_map}
@@ -18,8 +18,7 @@ use Rattle.trace_model.specs.declared.line.End.{End}
 use Rattle.hci_tables.specs.declared.command.Command.TheVariants.{Sync}
 use Rattle.hci_tables.specs.Tables.{HciTables, is_kept_sync}
 use Rattle.link_laws.specs.sessions.Sessions.{OnWire}
-use Rattle.link_laws.specs.machine.Machine.{LinkEnd, LinkInput, Report, after_input, frames_out, report, whole_acked}
-use Rattle.link_laws.specs.machine.Machine.LinkInput.{Reset}
+use Rattle.link_laws.specs.machine.Machine.{LinkEnd, Report, frames_out}
 use Rattle.link_laws.specs.messages.Links.{Ending, Link, Loss, put}
 use Rattle.link_laws.specs.messages.Links.Ending.{CutOff, GoesOut}
 use Rattle.link_laws.specs.messages.Links.Loss.{TooMany, TooOld}
@@ -28,15 +27,15 @@ use Rattle.link_laws.specs.entries.Entries.{puts_entries, told, wire_with}
 use Rattle.link_laws.specs.entries.Entries.Entry.{Cut, Lost, Restarted, Tick as Ticked, Took}
 use Rattle.link_laws.specs.entries.Entries.End.{Controller, Host}
 use Rattle.history.specs.Steps.{entries_for}
-use Rattle.node_machine.specs.Parts.{Core, Deed, Port, Work}
+use Rattle.node_machine.specs.Parts.{Deed, Port, Work}
 use Rattle.node_machine.specs.Parts.Deed.{Commits}
-use Rattle.node_machine.specs.Carrying.{own_side, port_at}
-use Rattle.node_machine.specs.Node.{NodeInput, all_come, input_at, is_late, told_at, told_late, with_older}
-use Rattle.node_machine.specs.Node.NodeInput.{AtEnd, TimePasses}
+use Rattle.node_machine.specs.Carrying.{port_at}
+use Rattle.node_machine.specs.Node.{NodeInput}
 use Rattle.node_machine.specs.world.World.{Site, end_c, ending_of, frames_noted, node_of}
-use Rattle.node_laws.specs.passes.Steps.{told_of_coming, told_of_late}
+use Rattle.node_laws.specs.passes.Steps.{told_of_coming}
 use Rattle.node_laws.specs.power.Powers.{AreNotOf, is_of_node}
 use Rattle.node_laws.specs.answers.Unasked.{new_sync}
+use Rattle.node_laws.proofs.passes.Coming.{coming_all}
 use Rattle.node_laws.proofs.telling.Reported.{told_all}
 use Rattle.node_laws.proofs.Cases.{by_test}
 
@@ -197,29 +196,8 @@ notes_tookless h (_ ∷ xs) a = (refl, notes_tookless h xs a.1)
 told_takes : (who : Side) (n : ℕ) (r : Report) (acked : ℕ) → AreNoTakes (told who n r acked)
 told_takes who n r acked = told_all IsNoTake who n acked tt tt (λ k. tt) tt (λ m. tt) (λ c. tt) r
 
-at_tookless : (core : Core) (p : Port) (o : Option LinkInput) → AreTookless (told_at core p o)
-at_tookless core p None = tt
-at_tookless core p (Some i) =
-    notes_tookless p.desk.host (told (own_side core) p.session (report p.side i) (whole_acked (after_input p.side i)))
-    (told_takes (own_side core) p.session (report p.side i) (whole_acked (after_input p.side i)))
-
-late_tookless : (core : Core) (p : Port) → AreTookless (told_late core p)
-late_tookless core p = go (is_late p) where
-  go : (b : Bool) → AreTookless (cond b (told_at core p (Some (Reset None))) [])
-  go true = at_tookless core p (Some (Reset None))
-  go false = tt
-
-flat_tookless : (f : Port → List Entry) → ((p : Port) → AreTookless (f p)) → (ports : List Port) → AreTookless (flat_map f ports)
-flat_tookless f one [] = tt
-flat_tookless f one (p ∷ ports) = all_append IsTookless (f p) (flat_map f ports) (one p) (flat_tookless f one ports)
-
 pub coming_tookless : (input : NodeInput) (w : Work) → AreTookless (told_of_coming input w)
-coming_tookless input w =
-    all_append IsTookless (flat_map (λ p. told_at w.core p (input_at input p)) w.ports) (told_of_late input (all_come input w))
-    (flat_tookless (λ p. told_at w.core p (input_at input p)) (λ p. at_tookless w.core p (input_at input p)) w.ports) (late input) where
-      late : (input : NodeInput) → AreTookless (told_of_late input (all_come input w))
-      late (AtEnd h i) = tt
-      late TimePasses = flat_tookless (told_late w.core) (late_tookless w.core) (map with_older (all_come TimePasses w).ports)
+coming_tookless input w = coming_all IsTookless (λ h who n acked r. notes_tookless h (told who n r acked) (told_takes who n r acked)) input w
 
 -- frames that go out, or are lost
 lost_takes : (who : Side) (why : Loss) (xs : List OnWire) → AreNoTakes (first_lost who why xs)

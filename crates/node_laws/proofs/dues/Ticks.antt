@@ -26,6 +26,7 @@ use Rattle.node_machine.proofs.world.Cases.{after_near_tick, near_tick}
 use Rattle.node_laws.specs.kept.Books.{hosts_of_ends}
 use Rattle.node_laws.specs.kept.Hosts.{AreDifferent, AreHosts}
 use Rattle.node_laws.specs.telling.Telling.{HasEnds, IsOrderly, hosts_in}
+use Rattle.node_laws.proofs.All.{all_flat}
 use Rattle.node_laws.proofs.Cases.{by_test}
 use Rattle.node_laws.proofs.kept.Sites.{hosts_same as sites_same}
 use Rattle.node_laws.proofs.telling.Events.{orderly_map}
@@ -48,12 +49,12 @@ use Rattle.node_laws.specs.answers.Unasked.{is_late_in, is_own_reset, new_sync}
 use Rattle.node_laws.specs.replies.Known.{IsNoAnswer}
 use Rattle.node_laws.specs.read_steps.Names.{IsNamed}
 use Rattle.node_laws.specs.read_steps.Worlds.{ReadsBetween, as_it_ticks}
-use Rattle.node_laws.proofs.dues.Comes.{flat_took, front_own, nothing_due, owed_off, session_is, tookless_own}
+use Rattle.node_laws.proofs.dues.Comes.{front_own, nothing_due, owed_off, session_is, tookless_own}
 use Rattle.node_laws.proofs.dues.Ended.{either_ends, ends_at}
 use Rattle.node_laws.proofs.dues.Freed.{IsElse, come_found, come_none, come_so, same_port}
 use Rattle.node_laws.proofs.dues.Near.{near_due}
 use Rattle.node_laws.proofs.dues.Own.{IsBehindThem, step_own}
-use Rattle.node_laws.proofs.dues.Steps.{AreOfLink, flat_are, links_are, mute_both}
+use Rattle.node_laws.proofs.dues.Steps.{AreOfLink, links_are, mute_both, IsOfLink}
 use Rattle.node_laws.proofs.dues.Syncs.{ticks_none}
 use Rattle.node_laws.proofs.dues.Taken.{IsTookless, IsUnread, aged_tookless, coming_tookless, frames_tookless, others_unread, tookless_all, unread_flat}
 use Rattle.node_laws.proofs.replies.Ends.{all_found}
@@ -118,7 +119,7 @@ module _ (hosts : List ℕ) (are : AreHosts hosts) (past : List Occurrence) (w :
 
   lead_links : AreOfLink lead
   lead_links =
-      flat_are (λ (s : Site). entries_for s.host (aged_entries Controller s.link.to_controller ++ aged_entries Host s.link.to_host))
+      all_flat IsOfLink (λ (s : Site). entries_for s.host (aged_entries Controller s.link.to_controller ++ aged_entries Host s.link.to_host))
       (λ s. links_are s.host (aged_entries Controller s.link.to_controller ++ aged_entries Host s.link.to_host)) w.sites
 
   quiet : AreFar lead
@@ -217,7 +218,7 @@ module _ (hosts : List ℕ) (are : AreHosts hosts) (past : List Occurrence) (w :
         (all_append (IsUnread z) last.entries (frames ++ far) (tookless_all z last.entries own)
         (all_append (IsUnread z) frames far
         (tookless_all z frames
-        (flat_took (λ (s : Site). frames_noted Controller s.host s.link last) (λ s. frames_tookless Controller s.host s.link last) old.sites))
+        (all_flat IsTookless (λ (s : Site). frames_noted Controller s.host s.link last) (λ s. frames_tookless Controller s.host s.link last) old.sites))
         (others_unread z far others))))
         ∙ sym syncs
 

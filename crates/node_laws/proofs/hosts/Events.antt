@@ -38,6 +38,7 @@ use Rattle.node_machine.proofs.world.Cases.{after_host_step, by_coming, by_contr
 use Rattle.node_machine.proofs.world.Cases.{site_unticked}
 use Rattle.node_laws.specs.kept.Hosts.{AreDifferent}
 use Rattle.node_laws.specs.telling.Telling.{IfItRuns, IsOrderly, hosts_in}
+use Rattle.node_laws.proofs.All.{all_flat}
 use Rattle.node_laws.proofs.telling.Events.{comes_goes, orderly_map, site_map}
 use Rattle.node_laws.proofs.telling.Nodes.{link_is, site_host}
 use Rattle.node_laws.proofs.telling.Shapes.{frames_uncut}
@@ -52,7 +53,6 @@ use Rattle.node_laws.proofs.order.Lines.{IsSo}
 use Rattle.node_laws.proofs.power.Doing.{Runs as Power}
 use Rattle.node_laws.proofs.power.Events.{AreNodes, both_nodes, comes_part, near_ticks_part, others_tick}
 use Rattle.node_laws.proofs.power.Parts.{own_not, part_own}
-use Rattle.node_laws.proofs.readings.Noting.{all_flat}
 use Rattle.node_laws.proofs.readings.Sites.{comes_outside, near_end_side}
 use Rattle.node_laws.specs.views.Inits.{init_begun, init_in}
 use Rattle.node_laws.proofs.views.Events.{aged_entries_still, ticks_leave}

@@ -19,6 +19,7 @@ use Rattle.link_laws.specs.machine.Machine.LinkInput.{Take, TakeUnknown, TakeBro
 use Rattle.link_laws.specs.machine.Machine.Turn.{Give, Hold, FetchMessage, SetAside, Release}
 use Rattle.link_laws.proofs.machine.Kept.{moved_got, down_got, activated_got}
 use Rattle.node_laws.proofs.Cases.{by_option, by_test}
+use Rattle.registry.proofs.ValueLemmas.{AllByRecursion-append as all_append}
 
 -- ## Lists
 
@@ -48,10 +49,6 @@ have_pipes ((first ∷ rest) ∷ fs) = go (nat_lt (first % 128) 112) refl (have_
     go true q later = rw q (ltb-true (first % 128) 112 q, later)
     go false q later = rw q later
 
-on_pipes-append : (ms ns : List Message) → OnPipes ms → OnPipes ns → OnPipes (ms ++ ns)
-on_pipes-append [] ns a b = b
-on_pipes-append (m ∷ ms) ns a b = (a.0, on_pipes-append ms ns a.1 b)
-
 joined_pipe : (begun : List Message) (p : Packet) → p.pipe < 112 → OnPipes (message_in (join_step begun p).0)
 joined_pipe begun p fits = go (is_fifth begun p.pipe) (nat_lt 4096 (length (grown begun p))) p.last refl refl refl
   where
@@ -64,7 +61,8 @@ joined_pipe begun p fits = go (is_fifth begun p.pipe) (nat_lt 4096 (length (grow
 on_pipes : (begun : List Message) (ps : List Packet) → HavePipes ps → OnPipes (given_by begun ps)
 on_pipes begun [] a = tt
 on_pipes begun (p ∷ ps) a =
-    on_pipes-append (message_in (join_step begun p).0) (given_by (join_step begun p).1 ps) (joined_pipe begun p a.0) (on_pipes (join_step begun p).1 ps a.1)
+    all_append (λ (m : Message). m.0 < 112) (message_in (join_step begun p).0) (given_by (join_step begun p).1 ps) (joined_pipe begun p a.0)
+    (on_pipes (join_step begun p).1 ps a.1)
 
 good_sendable : (ms : List Message) → OnPipes ms → AreSendable (good_of ms)
 good_sendable [] a = tt

@@ -1,5 +1,5 @@
 -- A controller has a step: its unanswered notice to a host stays the one that is read.
-use Rattle.std.proofs.Common.{◌≡◌, ◌⊎◌, inl, inr, ℕ, ◌&&◌, ◌||◌, Bool, true, false, not, cond, eqb, List, [], ◌∷◌, ◌++◌, map, sym, refl, ap, ◌∙◌, subst}
+use Rattle.std.proofs.Common.{◌≡◌, ◌⊎◌, inl, inr, ℕ, ◌&&◌, ◌||◌, Bool, true, false, not, cond, eqb, List, [], ◌∷◌, map, sym, refl, ap, ◌∙◌, subst}
 use Rattle.std.specs.Prelude.{Option, Some, None, is_some, nat_le}
 use Rattle.std.specs.List.{AllByRecursion, flat_map}
 use Rattle.std.specs.Option.{option_map_or}
@@ -38,6 +38,7 @@ use Rattle.node_laws.proofs.notices.Deciding.{answer_other}
 use Rattle.node_laws.proofs.notices.Telling.{MayTell}
 use Rattle.node_laws.proofs.notices.Shut.{input_shut}
 use Rattle.node_laws.specs.notices.Worlds.{IsShut}
+use Rattle.registry.proofs.ValueLemmas.{AllByRecursion-append as all_append}
 
 -- ## Quiet deeds
 
@@ -51,18 +52,10 @@ TellsNoNotice _ = ⊥
 abbrev pub TellNoNotices : List Deed → Type 0
 TellNoNotices deeds = AllByRecursion TellsNoNotice deeds
 
-pub no_notices-append : (ds es : List Deed) → TellNoNotices ds → TellNoNotices es → TellNoNotices (ds ++ es)
-no_notices-append [] es a b = b
-no_notices-append (d ∷ ds) es a b = (a.0, no_notices-append ds es a.1 b)
-
 pub no_notices_flat : (f : Port → List Deed) (P : Port → Type 0) → ((p : Port) → P p → TellNoNotices (f p)) → (ports : List Port) → AllByRecursion P ports
     → TellNoNotices (flat_map f ports)
 no_notices_flat f P one [] a = tt
-no_notices_flat f P one (p ∷ ports) a = no_notices-append (f p) (flat_map f ports) (one p a.0) (no_notices_flat f P one ports a.1)
-
-pub no_notices_all : (f : Port → List Deed) → ((p : Port) → TellNoNotices (f p)) → (ports : List Port) → TellNoNotices (flat_map f ports)
-no_notices_all f one [] = tt
-no_notices_all f one (p ∷ ports) = no_notices-append (f p) (flat_map f ports) (one p) (no_notices_all f one ports)
+no_notices_flat f P one (p ∷ ports) a = all_append TellsNoNotice (f p) (flat_map f ports) (one p a.0) (no_notices_flat f P one ports a.1)
 
 pub no_notices_may : (x : ℕ) (F : List ℕ → Type 0) (deeds : List Deed) → TellNoNotices deeds → MayTell x F deeds
 no_notices_may x F [] a = tt

@@ -21,6 +21,7 @@ use Rattle.node_machine.specs.Node.{NodeInput, input_at, has_come, told_at, all_
 use Rattle.node_machine.specs.Node.{is_over, is_forgotten, forgets, owed, all_owed, without_notice, after_sessions, synced, answers_and_passes, steps}
 use Rattle.node_machine.specs.Node.NodeInput.{AtEnd, TimePasses}
 use Rattle.node_laws.specs.links.Notices.{IsComing, IsOutside}
+use Rattle.node_laws.proofs.All.{all_flat}
 use Rattle.node_laws.proofs.Cases.{by_test}
 use Rattle.node_laws.proofs.links.Noticing.{UpAt, at_all, at_host, outside as from_outside}
 use Rattle.node_laws.specs.kept.Hosts.{AreDifferent}
@@ -30,10 +31,11 @@ use Rattle.node_laws.proofs.notices.Reading.{reads, read_more}
 use Rattle.node_laws.proofs.notices.Telling.{AreRight}
 use Rattle.node_laws.proofs.notices.Doing.{AreHostEnds, all_map, controller_side, IsOn, Stands, then, turns, all_stand, read_in}
 use Rattle.node_laws.proofs.notices.Turning.{passes_stand, kept_none}
-use Rattle.node_laws.proofs.notices.Stepping.{TellNoNotices, no_notices-append, no_notices_flat, no_notices_all, no_notices_may, owed_no_notices}
+use Rattle.node_laws.proofs.notices.Stepping.{TellNoNotices, no_notices_flat, no_notices_may, owed_no_notices, TellsNoNotice}
 use Rattle.node_laws.proofs.notices.Stepping.{synced_no_notices, flat_reads, told_elsewhere, told_here, late_elsewhere, IsCome, IsComeAt, come_is, older_is}
 use Rattle.node_laws.proofs.notices.Stepping.{late_is, forgets_is, without_is}
 use Rattle.node_laws.specs.notices.Worlds.{IsRightNotice, IsShut}
+use Rattle.registry.proofs.ValueLemmas.{AllByRecursion-append as all_append}
 use Rattle.node_laws.proofs.steps.Ports.{at_port, come_host, forgets_host, sessions_node, without_host, late_host}
 
 -- the hosts of ends that keep theirs
@@ -144,9 +146,11 @@ module _ (x : ℕ) (before : List Entry) (w : Work) (a : IsOn x before w) where
 
   pub owed_all : (left : List Port) → TellNoNotices (all_owed left)
   owed_all left =
-      no_notices-append _ _ (no_notices_all (λ p. owed response.NotConnected (asked_at p)) (λ p. owed_no_notices response.NotConnected (asked_at p))
+      all_append TellsNoNotice _ _ (all_flat TellsNoNotice (λ p. owed response.NotConnected (asked_at p))
+      (λ p. owed_no_notices response.NotConnected (asked_at p))
       (filter (λ (p : Port). p.ended) left))
-      (no_notices_all (λ p. owed response.Timeout (asked_at p)) (λ p. owed_no_notices response.Timeout (asked_at p)) (filter (λ (p : Port). p.late) left))
+      (all_flat TellsNoNotice (λ p. owed response.Timeout (asked_at p)) (λ p. owed_no_notices response.Timeout (asked_at p))
+      (filter (λ (p : Port). p.late) left))
 
   -- ## What comes
 

@@ -44,6 +44,7 @@ use Rattle.node_laws.specs.order.Resets.{asks_at, behind_reset_of, cuts_on}
 use Rattle.node_laws.proofs.Cases.{by_test}
 use Rattle.node_laws.proofs.order.Withheld.{loses_one_on}
 use Rattle.node_laws.specs.answers.Unasked.{is_own_reset, is_reset_down}
+use Rattle.node_laws.proofs.telling.Reported.{rest_all}
 use Rattle.node_laws.proofs.telling.Accounts.{untold}
 use Rattle.node_laws.proofs.telling.WorldTicks.{tick_event}
 use Rattle.node_laws.proofs.order.Listing.{Holds, are-append, are_so, are_mapped, are_last, are_turns, are_puts, are_aged}
@@ -89,11 +90,7 @@ unasked who = record {
 rest_unasked : (who : Side) (n : ℕ) (r : Report) (acked : ℕ)
     → AllByRecursion Unasked (if_so r.began (Up who n) ++ (if_so r.became_active (Active who)
     ++ (map (GaveUp who) (option_to_list r.gave_up) ++ (if_so (nat_lt 0 r.acked) (Acked who n acked) ++ map (Got who n) r.got))))
-rest_unasked who n r acked =
-    let k : Holds Unasked who = unasked who in
-    are-append Unasked who k (if_so r.began (Up who n)) _ (are_so Unasked who k r.began (Up who n) refl)
-    (are-append Unasked who k (if_so r.became_active (Active who)) _ (are_so Unasked who k r.became_active (Active who) refl)
-    (are_last Unasked who k n r acked))
+rest_unasked who n r acked = rest_all Unasked who n acked refl refl (λ k. refl) refl (λ m. refl) r
 
 told_asked : (n : ℕ) (r : Report) (acked : ℕ) → list_any asked (told Controller n r acked) ≡ true → r.ended ≡ Some Asked
 told_asked n r acked q =

@@ -36,6 +36,7 @@ use Rattle.node_laws.proofs.telling.Shapes.{last_of, IsShaped, shaped_tick, shap
 use Rattle.node_laws.proofs.telling.Events.{after-append, entries-append}
 use Rattle.node_laws.proofs.telling.WorldTicks.{between, near_notes, tick_event}
 use Rattle.node_laws.specs.order.Told.{IsLinkTold, readiness_of, frames_on}
+use Rattle.registry.proofs.ValueLemmas.{AllByRecursion-append as all_append}
 use Rattle.node_laws.proofs.order.Withheld.{withholds_on}
 use Rattle.node_laws.proofs.order.Activity.{IsLined}
 use Rattle.node_laws.proofs.order.Readying.{AreReady, ready_more, started_unready}
@@ -137,10 +138,6 @@ module _ (h : ℕ) where
 
 -- ## Notes in which no activation begins
 
-unstarted-append : (xs ys : List Noted) → AreUnstarted xs → AreUnstarted ys → AreUnstarted (xs ++ ys)
-unstarted-append [] ys a b = b
-unstarted-append (x ∷ xs) ys a b = (a.0, unstarted-append xs ys a.1 b)
-
 pub clear_unstarted : (xs : List Noted) → AreClear xs → AreUnstarted xs
 clear_unstarted [] a = tt
 clear_unstarted (Restarted w ∷ xs) a = absurd a.0
@@ -153,24 +150,24 @@ last_unstarted who CutOff = (tt, tt)
 shaped_unstarted : (who : Side) (ending : Ending) (notes : List Noted) → IsShaped who ending notes → AreUnstarted notes
 shaped_unstarted who ending notes s =
     subst (λ z. AreUnstarted z) (sym s.is)
-    (unstarted-append s.body (last_of who ending) (clear_unstarted s.body s.clear) (last_unstarted who ending))
+    (all_append IsUnstarted s.body (last_of who ending) (clear_unstarted s.body s.clear) (last_unstarted who ending))
 
 pub tick_unstarted : (b : Bool) (l : Link) (c n : Node) → AreUnstarted (event_entries l (tick_event b c n))
 tick_unstarted false l c n = (
   tt,
-  unstarted-append (aged_entries Controller l.to_controller) _ (clear_unstarted _ (clear_aged Controller l.to_controller))
-      (unstarted-append (aged_entries Host l.to_host) _ (clear_unstarted _ (clear_aged Host l.to_host))
-      (unstarted-append (tick_entries Controller (aged l) c) (tick_entries Host (exchanged (between false (aged l) c)) n)
+  all_append IsUnstarted (aged_entries Controller l.to_controller) _ (clear_unstarted _ (clear_aged Controller l.to_controller))
+      (all_append IsUnstarted (aged_entries Host l.to_host) _ (clear_unstarted _ (clear_aged Host l.to_host))
+      (all_append IsUnstarted (tick_entries Controller (aged l) c) (tick_entries Host (exchanged (between false (aged l) c)) n)
       (shaped_unstarted Controller c.ending _ (shaped_tick Controller (aged l) c))
       (shaped_unstarted Host n.ending _ (shaped_tick Host (exchanged (between false (aged l) c)) n)))),
 )
 tick_unstarted true l c n =
     let step = shaped_step Controller (aged l) (AsksReset None) c.turns c.ending (Some (Reset None)) refl tt in (
       tt,
-      unstarted-append (aged_entries Controller l.to_controller) _ (clear_unstarted _ (clear_aged Controller l.to_controller))
-          (unstarted-append (aged_entries Host l.to_host) _ (clear_unstarted _ (clear_aged Host l.to_host))
-          (unstarted-append (near_notes true (aged l) c) (tick_entries Host (exchanged (between true (aged l) c)) n)
-          (unstarted-append (step_entries Controller (aged l) (AsksReset None) c.turns c.ending) []
+      all_append IsUnstarted (aged_entries Controller l.to_controller) _ (clear_unstarted _ (clear_aged Controller l.to_controller))
+          (all_append IsUnstarted (aged_entries Host l.to_host) _ (clear_unstarted _ (clear_aged Host l.to_host))
+          (all_append IsUnstarted (near_notes true (aged l) c) (tick_entries Host (exchanged (between true (aged l) c)) n)
+          (all_append IsUnstarted (step_entries Controller (aged l) (AsksReset None) c.turns c.ending) []
           (subst (λ z. AreUnstarted z) (sym step.is) (shaped_unstarted Controller c.ending step.rest step.shaped)) tt)
           (shaped_unstarted Host n.ending _ (shaped_tick Host (exchanged (between true (aged l) c)) n)))),
     )

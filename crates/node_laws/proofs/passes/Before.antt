@@ -1,18 +1,17 @@
 -- What a node notes in a step before its pass.
-use Rattle.std.proofs.Common.{◌≡◌, ℕ, ◌==◌, Bool, true, false, cond, List, [], ◌∷◌, ◌++◌, Option, Some, None, map, refl, ap, sym, ◌∙◌, append_assoc, append-nil}
+use Rattle.std.proofs.Common.{◌≡◌, ℕ, ◌==◌, Bool, true, false, cond, List, [], ◌∷◌, ◌++◌, map, refl, ap, sym, ◌∙◌, append_assoc, append-nil}
 use Rattle.std.specs.List.{flat_map}
 use Rattle.registry.proofs.ValueLemmas.{AllByRecursion-append as all_append}
 use Rattle.trace_model.specs.declared.entry.Entry.{Entry}
-use Rattle.link_laws.specs.machine.Machine.{LinkInput, after_input, report, whole_acked}
-use Rattle.link_laws.specs.machine.Machine.LinkInput.{Reset}
 use Rattle.link_laws.specs.entries.Entries.{Entry as Told, told}
 use Rattle.link_laws.specs.entries.Entries.Entry.{Tick, Restarted, Cut}
 use Rattle.history.specs.Steps.{entry_of, entries_for}
-use Rattle.node_machine.specs.Parts.{Creation, Core, Port, Work, Deed}
+use Rattle.node_machine.specs.Parts.{Creation, Port, Work, Deed}
 use Rattle.node_machine.specs.Parts.Deed.{Releases}
 use Rattle.link_laws.specs.machine.Machine.Turn.{Release}
-use Rattle.node_machine.specs.Carrying.{own_side, unless_cut, changed_if, with_port, after_turn, turn_at, all_done}
+use Rattle.node_machine.specs.Carrying.{unless_cut, changed_if, with_port, after_turn, turn_at, all_done}
 use Rattle.node_laws.specs.kept.Books.{hosts_of_ends}
+use Rattle.node_laws.proofs.All.{all_flat}
 use Rattle.node_laws.proofs.Cases.{by_test}
 use Rattle.node_laws.proofs.kept.Plainly.{hosts_map}
 use Rattle.node_laws.proofs.steps.Ports.{come_host, forgets_host, changed_host, without_host}
@@ -20,13 +19,14 @@ use Rattle.node_laws.proofs.telling.Mute.{AreMute, forgotten_mute, all_owed_mute
 use Rattle.node_laws.proofs.telling.Walks.{every_do}
 use Rattle.node_laws.proofs.steps.StepWalks.{unless}
 use Rattle.node_machine.specs.Turns.{passes}
-use Rattle.node_machine.specs.Node.{NodeInput, input_at, has_come, told_at, all_come, with_older, is_late, reset_late, told_late, forgotten, after_sessions}
+use Rattle.node_machine.specs.Node.{NodeInput, input_at, has_come, told_at, all_come, with_older, is_late, reset_late, forgotten, after_sessions}
 use Rattle.node_machine.specs.Node.{forgets, without_notice, steps}
 use Rattle.node_machine.specs.Node.NodeInput.{AtEnd, TimePasses}
 use Rattle.node_laws.specs.passes.Noting.{noted_by_deeds}
 use Rattle.node_laws.specs.passes.Passing.{IsNoTurn, AreNoTurns}
 use Rattle.node_laws.specs.passes.Steps.{has_come_so, told_of_late, told_of_coming, syncs_in, owed_in_step, has_freed, has_synced, comes_to_pass}
 use Rattle.node_laws.specs.passes.Steps.{noted_before_pass}
+use Rattle.node_laws.proofs.passes.Coming.{coming_all}
 use Rattle.node_laws.proofs.passes.Notes.{deeds_note}
 use Rattle.node_laws.proofs.passes.Turnless.{synced_none, owed_none}
 
@@ -84,10 +84,6 @@ steps_are input w = refl
 
 -- ## No turns
 
-flat_none : {X : Type 0} (f : X → List Entry) → ((x : X) → AreNoTurns (f x)) → (xs : List X) → AreNoTurns (flat_map f xs)
-flat_none f one [] = tt
-flat_none f one (x ∷ xs) = all_append IsNoTurn (f x) (flat_map f xs) (one x) (flat_none f one xs)
-
 one_none : (h : ℕ) (x : Told) → AreNoTurns (entry_of h x)
 one_none h Tick = tt
 one_none h (Restarted who) = tt
@@ -95,24 +91,10 @@ one_none h (Cut who) = tt
 one_none h _ = (refl, tt)
 
 pub links_none : (h : ℕ) (xs : List Told) → AreNoTurns (entries_for h xs)
-links_none h xs = flat_none (entry_of h) (one_none h) xs
-
-at_none : (core : Core) (p : Port) (o : Option LinkInput) → AreNoTurns (told_at core p o)
-at_none core p None = tt
-at_none core p (Some i) =
-    links_none p.desk.host (told (own_side core) p.session (report p.side i) (whole_acked (after_input p.side i)))
-
-late_none : (core : Core) (p : Port) → AreNoTurns (told_late core p)
-late_none core p = by_test (is_late p) (λ q. rw q (at_none core p (Some (Reset None)))) (λ q. rw q tt)
-
-all_late_none : (input : NodeInput) (w : Work) → AreNoTurns (told_of_late input w)
-all_late_none (AtEnd h i) w = tt
-all_late_none TimePasses w = flat_none (told_late w.core) (late_none w.core) (map with_older w.ports)
+links_none h xs = all_flat IsNoTurn (entry_of h) (one_none h) xs
 
 coming_none : (input : NodeInput) (w : Work) → AreNoTurns (told_of_coming input w)
-coming_none input w =
-    all_append IsNoTurn (flat_map (λ p. told_at w.core p (input_at input p)) w.ports) (told_of_late input (all_come input w))
-    (flat_none (λ p. told_at w.core p (input_at input p)) (λ p. at_none w.core p (input_at input p)) w.ports) (all_late_none input (all_come input w))
+coming_none input w = coming_all IsNoTurn (λ h who n acked r. links_none h (told who n r acked)) input w
 
 pub before_none : (input : NodeInput) (w : Work) → AreNoTurns (noted_before_pass input w)
 before_none input w =

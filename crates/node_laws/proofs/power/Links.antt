@@ -61,6 +61,8 @@ module _ (k h : ℕ) (who : Side) (own : node_of (end_of h who) ≡ k) where
   links_own [] a = tt
   links_own (x ∷ xs) a = all_append (IsOwn k) (entry_of h x) (entries_for h xs) (one_own x a.0) (links_own xs a.1)
 
+-- ## What is noted of one end
+
 pub told_of_side : (who : Side) (n : ℕ) (r : Report) (acked : ℕ) → AreOfSide who (told who n r acked)
 told_of_side who n r acked = told_all (IsOfSide who) who n acked refl refl (λ k. refl) refl (λ m. refl) (λ c. refl) r
 

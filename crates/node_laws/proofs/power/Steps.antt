@@ -33,6 +33,7 @@ use Rattle.node_laws.proofs.telling.Walks.{IsUncut, AreUncut}
 use Rattle.node_laws.proofs.telling.Powers.{entries_uncut}
 use Rattle.node_laws.proofs.telling.Shapes.{frames_none}
 use Rattle.node_laws.specs.passes.Steps.{has_come_so, told_of_late, told_of_coming, syncs_in, owed_in_step, has_freed, has_synced, comes_to_pass}
+use Rattle.node_laws.proofs.passes.Coming.{coming_all}
 use Rattle.node_laws.proofs.passes.Before.{come_entries, come_hosts}
 use Rattle.node_laws.proofs.power.Parts.{IsOwn, AreOwn, IsPart}
 use Rattle.node_laws.proofs.power.Links.{links_own, told_of_side, out_of_side}
@@ -65,33 +66,18 @@ module _ (k : ℕ) where
       (told (own_side core) p.session (report p.side i) (whole_acked (after_input p.side i)))
       (told_of_side (own_side core) p.session (report p.side i) (whole_acked (after_input p.side i)))
 
-  at_uncut : (core : Core) (p : Port) (o : Option LinkInput) → AreUncut (told_at core p o)
-  at_uncut core p None = tt
-  at_uncut core p (Some i) = entries_uncut p.desk.host (told (own_side core) p.session (report p.side i) (whole_acked (after_input p.side i)))
-
   late_told : (core : Core) (p : Port) → core.node ≡ k → IsEndOf k p.desk.host → AreOwn k (told_late core p)
   late_told core p number is = by_test (is_late p) (λ q. rw q (at_told core p (Some (Reset None)) number is)) (λ q. rw q tt)
-
-  late_uncut : (core : Core) (p : Port) → AreUncut (told_late core p)
-  late_uncut core p = by_test (is_late p) (λ q. rw q (at_uncut core p (Some (Reset None)))) (λ q. rw q tt)
 
   flat_own : (f : Port → List Entry) (ports : List Port) → AreEnds k ports → ((p : Port) → IsEndOf k p.desk.host → AreOwn k (f p))
       → AreOwn k (flat_map f ports)
   flat_own f [] a one = tt
   flat_own f (p ∷ ports) a one = all_append (IsOwn k) (f p) (flat_map f ports) (one p a.0) (flat_own f ports a.1 one)
 
-  flat_uncut : (f : Port → List Entry) (ports : List Port) → ((p : Port) → AreUncut (f p)) → AreUncut (flat_map f ports)
-  flat_uncut f [] one = tt
-  flat_uncut f (p ∷ ports) one = all_append IsUncut (f p) (flat_map f ports) (one p) (flat_uncut f ports one)
-
   all_late_own : (input : NodeInput) (w : Work) → w.core.node ≡ k → AreEnds k w.ports → AreOwn k (told_of_late input w)
   all_late_own (AtEnd h i) w number a = tt
   all_late_own TimePasses w number a =
       flat_own (told_late w.core) (map with_older w.ports) (map_ends k with_older (λ p. refl) w.ports a) (λ p is. late_told w.core p number is)
-
-  all_late_uncut : (input : NodeInput) (w : Work) → AreUncut (told_of_late input w)
-  all_late_uncut (AtEnd h i) w = tt
-  all_late_uncut TimePasses w = flat_uncut (told_late w.core) (map with_older w.ports) (late_uncut w.core)
 
   come_ends : (input : NodeInput) (w : Work) → AreEnds k w.ports → AreEnds k (all_come input w).ports
   come_ends input w a = map_ends k _ (λ p. come_host p (input_at input p)) w.ports a
@@ -103,10 +89,7 @@ module _ (k : ℕ) where
       (all_late_own input (all_come input w) r.number (come_ends input w r.ends))
 
   coming_uncut : (input : NodeInput) (w : Work) → AreUncut (told_of_coming input w)
-  coming_uncut input w =
-      all_append IsUncut (flat_map (λ p. told_at w.core p (input_at input p)) w.ports) (told_of_late input (all_come input w))
-      (flat_uncut (λ p. told_at w.core p (input_at input p)) w.ports (λ p. at_uncut w.core p (input_at input p)))
-      (all_late_uncut input (all_come input w))
+  coming_uncut input w = coming_all IsUncut (λ h who n acked r. entries_uncut h (told who n r acked)) input w
 
   begun : NodeInput → Work → Work
   begun input w = record (has_come_so input w) {

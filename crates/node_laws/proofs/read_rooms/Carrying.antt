@@ -13,9 +13,10 @@ use Rattle.history.specs.Steps.{entries_for}
 use Rattle.node_machine.specs.Parts.{Desk, Core, Port, Work}
 use Rattle.node_machine.specs.Carrying.{own_side, noting, port_at, changed_if, with_desk, after_turn, noted_of, turn_at, loses_power}
 use Rattle.node_laws.specs.telling.Telling.{of_link}
+use Rattle.registry.proofs.ValueLemmas.{AllByRecursion-append as all_append}
 use Rattle.node_laws.proofs.Cases.{by_option}
-use Rattle.node_laws.proofs.telling.Walks.{AreSilent, AreUncut}
-use Rattle.node_laws.proofs.telling.Powers.{AreClear, uncut-append, entries_uncut}
+use Rattle.node_laws.proofs.telling.Walks.{AreSilent, AreUncut, IsUncut}
+use Rattle.node_laws.proofs.telling.Powers.{AreClear, entries_uncut}
 use Rattle.node_laws.proofs.telling.Shapes.{clear-append, clear_turns}
 use Rattle.node_laws.proofs.telling.Accounts.{Account, note, desk, turns, beside}
 use Rattle.node_laws.proofs.telling.Away.{none_map}
@@ -106,7 +107,7 @@ module _ (t : List Entry) (who : Side) where
   pub carry_note : (es : List Entry) (w : Work) → AreSilent es → AreUncut es → Of w → Of (noting es w)
   carry_note es w silent uncut a =
       record {
-        uncut = λ q. uncut-append w.entries es (a.uncut q) uncut;
+        uncut = λ q. all_append IsUncut w.entries es (a.uncut q) uncut;
         each = λ h p q.
             let c : Carries t h who w = a.each h p q in
             carries_on t h who w c (noting es w)
@@ -133,7 +134,7 @@ module _ (t : List Entry) (who : Side) where
   pub carry_turns : (k : ℕ) (x : Turn) (w : Work) → Of w → Of (turn_at k x w)
   carry_turns k x w a =
       record {
-        uncut = λ q. uncut-append w.entries (option_map_or (noted_of w.core x) (port_at w.ports k) []) (a.uncut q)
+        uncut = λ q. all_append IsUncut w.entries (option_map_or (noted_of w.core x) (port_at w.ports k) []) (a.uncut q)
             (turn_uncut w.core x (port_at w.ports k));
         each = λ h p q.
             let o : WasPort w.ports h =

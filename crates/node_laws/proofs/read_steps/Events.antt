@@ -42,9 +42,6 @@ use Rattle.node_laws.proofs.read_steps.Naming.{far_named}
 use Rattle.node_laws.proofs.read_steps.Starting.{comes_named, tick_named}
 use Rattle.node_laws.proofs.order.Asked.{behind_push}
 
-join : (xs ys : List Entry) → AreNamed xs → AreNamed ys → AreNamed (xs ++ ys)
-join xs ys a b = AllByRecursion-append IsNamed xs ys a b
-
 boots_named : (w : NodeWorld) (n : ℕ) → AreNamed (boots w n).1
 boots_named w n = by_test (fails_within (length (boot_writes m.content)) m.plan) (λ e. rw e (tt, tt)) (λ e. rw e (tt, tt)) where
   m : Memory
@@ -75,7 +72,7 @@ module _ (hosts : List ℕ) (are : AreHosts hosts) (t : List Entry) (w : NodeWor
         let c : Work = controller_work w r h comes (steps (AtEnd h i)) in
         let frames : List Entry = flat_map (λ (s : Site). frames_noted Controller s.host (wires_for s.link (comes_to h comes s.host)) c) w.sites in
         subst (λ (p : NodeWorld × List Entry). AreNamed p.1) (sym (on_is r e))
-        (join c.entries frames (comes_named hosts are t w k r e h comes i input) (far_named frames
+        (AllByRecursion-append IsNamed c.entries frames (comes_named hosts are t w k r e h comes i input) (far_named frames
         (far_flat (λ (s : Site). frames_noted Controller s.host (wires_for s.link (comes_to h comes s.host)) c)
         (λ s. frames_quiet Controller s.host (wires_for s.link (comes_to h comes s.host)) c) w.sites)))
 
@@ -105,14 +102,15 @@ module _ (hosts : List ℕ) (are : AreHosts hosts) (t : List Entry) (w : NodeWor
       let near : NodeWorld × List Entry = comes_at w (end_c h) (Starts power) in
       let far : NodeWorld × List Entry = comes_at near.0 (end_h h) (Starts sync) in
       let after : Reads (t ++ near.1) near.0 = comes_reads t w k.creations.notices.orderly k.creations.notices.up reads_so (end_c h) (Starts power) in
-      join near.1 far.1 (comes_named_at (end_c h) (Starts power)) (far_named far.1 (far_beside near.0 (end_h h) (Starts sync) after.sites refl).far)
+      AllByRecursion-append IsNamed near.1 far.1 (comes_named_at (end_c h) (Starts power))
+      (far_named far.1 (far_beside near.0 (end_h h) (Starts sync) after.sites refl).far)
 
   -- ## Time
 
   near_tick_named : AreNamed (controller_ticks (all_aged w).0).1
   near_tick_named = by_option w.controller
       (λ e. subst AreNamed (sym (off_is e)) tt)
-      (λ r e. subst AreNamed (sym (on_is r e)) (join (c r).entries (frames r) (tick_named hosts are t w k r e) (far_named (frames r)
+      (λ r e. subst AreNamed (sym (on_is r e)) (AllByRecursion-append IsNamed (c r).entries (frames r) (tick_named hosts are t w k r e) (far_named (frames r)
       (far_flat (λ (s : Site). frames_noted Controller s.host s.link (c r)) (λ s. frames_quiet Controller s.host s.link (c r)) old.sites)))) where
         old : NodeWorld
         old = (all_aged w).0
@@ -144,8 +142,8 @@ module _ (hosts : List ℕ) (are : AreHosts hosts) (t : List Entry) (w : NodeWor
       let old : NodeWorld × List Entry = all_aged w in
       let near : NodeWorld × List Entry = controller_ticks old.0 in
       let far : List Site × List Entry = hosts_tick near.0.sites in
-      join old.1 (near.1 ++ far.1) (far_named old.1 (aged_far t w k.creations.notices.orderly k.creations.notices.up reads_so))
-      (join near.1 far.1 near_tick_named (far_named far.1 (all_tick near.0.sites (near_good old.0 (aged_good w good))).1))
+      AllByRecursion-append IsNamed old.1 (near.1 ++ far.1) (far_named old.1 (aged_far t w k.creations.notices.orderly k.creations.notices.up reads_so))
+      (AllByRecursion-append IsNamed near.1 far.1 near_tick_named (far_named far.1 (all_tick near.0.sites (near_good old.0 (aged_good w good))).1))
 
   -- ## Events
 
@@ -179,7 +177,7 @@ module _ (hosts : List ℕ) (are : AreHosts hosts) (events : List Occurrence)
       subst (λ l. AreNamed (entries_in l)) (append_assoc done (o ∷ []) front)
       (fronts_named (done ++ o ∷ []) front back (is ∙ sym (append_assoc done (o ∷ []) (front ++ back)))
       (subst (λ v. AreCaused Any v (front ++ back)) (sym (behind_push done o (new_world hosts))) caused.2)
-      (subst AreNamed (sym (entries_one done o)) (join (entries_in done) o.entries named now)))
+      (subst AreNamed (sym (entries_one done o)) (AllByRecursion-append IsNamed (entries_in done) o.entries named now)))
 
 pub history_named : (header : Header) (lines : List Line) (t : NodeHistory) → FollowsNodes header lines t → AreHosts header.hosts.items
     → AllByRecursion IsSentByHost lines → IsFew (node_entries t) → (front back : List Occurrence) → occurrences_in t ≡ front ++ back

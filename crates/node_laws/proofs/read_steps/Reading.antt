@@ -45,9 +45,6 @@ split_named : (xs ys : List Entry) → AreNamed (xs ++ ys) → AreNamed xs × Ar
 split_named [] ys a = (tt, a)
 split_named (x ∷ xs) ys a = let rest = split_named xs ys a.1 in ((a.0, rest.0), rest.1)
 
-join : (xs ys : List Entry) → AreNamed xs → AreNamed ys → AreNamed (xs ++ ys)
-join xs ys a b = AllByRecursion-append IsNamed xs ys a b
-
 module _ (hosts : List ℕ) (are : AreHosts hosts) (t : List Entry) where
   module _ (w : NodeWorld) (k : ReadsBetween hosts t w) (r : Running) (runs : w.controller ≡ Some r) where
     pub comes_reads : (h : ℕ) (comes : Comes) (i : LinkInput) → input_of (link_to w.sites h) comes ≡ Some i
@@ -55,7 +52,7 @@ module _ (hosts : List ℕ) (are : AreHosts hosts) (t : List Entry) where
         → ReadsInStep hosts t (comes_to_pass (AtEnd h i) (controller_begins w r h comes))
     comes_reads h comes i input on = record {
       runs = comes_begins hosts are t w k.keeps r runs h comes i input on;
-      named = join t (comes_to_pass (AtEnd h i) (controller_begins w r h comes)).entries k.named
+      named = AllByRecursion-append IsNamed t (comes_to_pass (AtEnd h i) (controller_begins w r h comes)).entries k.named
           (comes_pass_named hosts are t w k.keeps r runs h comes i input);
     }
 
@@ -63,8 +60,9 @@ module _ (hosts : List ℕ) (are : AreHosts hosts) (t : List Entry) where
         → ReadsInStep hosts (t ++ (all_aged w).1) (comes_to_pass TimePasses (as_it_ticks w r))
     tick_reads on = record {
       runs = tick_begins hosts are t w k.keeps r runs on;
-      named = join (t ++ (all_aged w).1) (comes_to_pass TimePasses (as_it_ticks w r)).entries
-          (join t (all_aged w).1 k.named (far_named (all_aged w).1 (aged_far t w k.keeps.creations.notices.orderly k.keeps.creations.notices.up
+      named = AllByRecursion-append IsNamed (t ++ (all_aged w).1) (comes_to_pass TimePasses (as_it_ticks w r)).entries
+          (AllByRecursion-append IsNamed t (all_aged w).1 k.named (far_named (all_aged w).1
+          (aged_far t w k.keeps.creations.notices.orderly k.keeps.creations.notices.up
           (record { sites = k.keeps.creations.notices.sites; reads_so = k.keeps.creations.notices.controller }))))
           (tick_pass_named hosts are t w k.keeps r runs);
     }
@@ -82,16 +80,20 @@ module _ (hosts : List ℕ) (are : AreHosts hosts) (t : List Entry) where
       let parts = split_named t w.entries a.named in
       record {
         runs = runs_handled hosts are t h m found.0 w a.runs found.1 room on;
-        named = join t (handles h m (deeds_of w.core w.ports h m) w).entries parts.0
+        named = AllByRecursion-append IsNamed t (handles h m (deeds_of w.core w.ports h m) w).entries parts.0
             (handles_named h m (deeds_of w.core w.ports h m) w (deeds_name hosts are t h m w a.runs host) parts.1);
       }
 
   pub holds_reads : (h : ℕ) (short : ℕ × ℕ) (w : Work) → J w → J (holds_back h short w)
   holds_reads h short w a =
       let parts = split_named t w.entries a.named in
-      record { runs = runs_holds hosts are t h short w a.runs; named = join t (holds_back h short w).entries parts.0 (holds_named h short w parts.1) }
+      record {
+        runs = runs_holds hosts are t h short w a.runs;
+        named = AllByRecursion-append IsNamed t (holds_back h short w).entries parts.0
+            (holds_named h short w parts.1);
+      }
 
   pub lets_reads : (h : ℕ) (w : Work) → J w → J (lets_go h w)
   lets_reads h w a =
       let parts = split_named t w.entries a.named in
-      record { runs = runs_lets hosts are t h w a.runs; named = join t (lets_go h w).entries parts.0 (lets_named h w parts.1) }
+      record { runs = runs_lets hosts are t h w a.runs; named = AllByRecursion-append IsNamed t (lets_go h w).entries parts.0 (lets_named h w parts.1) }

@@ -17,6 +17,7 @@ use Rattle.node_machine.specs.Node.NodeInput.{AtEnd, TimePasses}
 use Rattle.node_laws.specs.steps.Waiting.{IsAllowedStill}
 use Rattle.node_laws.specs.kept.Books.{hosts_of_ends}
 use Rattle.node_laws.specs.kept.Hosts.{AreHosts}
+use Rattle.node_laws.proofs.All.{all_flat}
 use Rattle.node_laws.proofs.Cases.{by_test}
 use Rattle.node_laws.proofs.kept.Turning.{deeds_fit}
 use Rattle.node_laws.specs.notices.Notices.{IsKeptNotice}
@@ -26,7 +27,6 @@ use Rattle.node_laws.proofs.notices.Telling.{IsShort, Outcome, controller_outcom
 use Rattle.node_laws.proofs.notices.Telling.Outcome.{Leaves, IsHeard}
 use Rattle.registry.proofs.ValueLemmas.{AllByRecursion-append}
 use Rattle.node_laws.specs.cuts.Histories.{is_one_of}
-use Rattle.node_laws.proofs.readings.Noting.{all_flat}
 use Rattle.node_laws.specs.read_steps.Names.{IsNamed, AreNamed}
 use Rattle.node_laws.specs.read_steps.Works.{RunsInStep}
 use Rattle.node_laws.proofs.read_steps.Parts.{to_notices}

@@ -63,10 +63,6 @@ abbrev pub NotesSo : (Entry → Type 0) → Deed → Type 0
 NotesSo P (Ends x) = P x
 NotesSo P _ = Unit {0}
 
-pub all_flat : {X Y : Type 0} (P : Y → Type 0) (f : X → List Y) → ((x : X) → AllByRecursion P (f x)) → (xs : List X) → AllByRecursion P (flat_map f xs)
-all_flat P f one [] = tt
-all_flat P f one (x ∷ xs) = AllByRecursion-append P (f x) (flat_map f xs) (one x) (all_flat P f one xs)
-
 -- ## Deeds
 
 plain : (P : Entry → Type 0) → Plain (NotesSo P)
@@ -86,6 +82,8 @@ module _ (P : Entry → Type 0) (core : Core) (same : P (entry.InitSame (end_of_
 
   pub host_notes : (p : Port) (m : Message) → AllByRecursion (NotesSo P) (host_deeds (own_view core) (end_view p) m)
   host_notes p m = all_of_host (NotesSo P) core (plain P) of_host p m (λ n value command zero is. tt)
+
+-- ## What is told of an end
 
 pub all_notes : (who : Side) (n acked : ℕ) (r : Report) → AllByRecursion (IsOwnNote who) (told who n r acked)
 all_notes who n acked r = told_all (IsOwnNote who) who n acked refl refl (λ k. refl) refl (λ m. refl) (λ c. refl) r

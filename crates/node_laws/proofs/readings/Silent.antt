@@ -19,6 +19,7 @@ use Rattle.node_machine.specs.Node.{told_at}
 use Rattle.node_machine.specs.Controller.{is_command_message}
 use Rattle.node_machine.specs.world.World.{end_h}
 use Rattle.node_machine.specs.world.NodeFilters.{awaited_after, order_in}
+use Rattle.node_laws.proofs.telling.Reported.{rest_all}
 
 -- what is read after these entries, where this was read before
 abbrev pub reads : ℕ → List Entry → Option (List ℕ) → Option (List ℕ)
@@ -50,22 +51,6 @@ quiet_reads h k (Down who cause ∷ notes) c all = absurd all.0
 quiet_reads h k (Sent who n m ∷ notes) c all = absurd all.0
 quiet_reads h k (_ ∷ notes) c all = quiet_reads h k notes c all.1
 
-pub quiet-append : (xs ys : List Noted) → AllByRecursion IsQuiet xs → AllByRecursion IsQuiet ys → AllByRecursion IsQuiet (xs ++ ys)
-quiet-append [] ys a b = b
-quiet-append (x ∷ xs) ys a b = (a.0, quiet-append xs ys a.1 b)
-
-so_quiet : (b : Bool) (e : Noted) → IsQuiet e → AllByRecursion IsQuiet (if_so b e)
-so_quiet true e q = (q, tt)
-so_quiet false e q = tt
-
-got_quiet : (who : Side) (n : ℕ) (ms : List Message) → AllByRecursion IsQuiet (map (Got who n) ms)
-got_quiet who n [] = tt
-got_quiet who n (m ∷ ms) = (tt, got_quiet who n ms)
-
-tries_quiet : (who : Side) (o : Option ℕ) → AllByRecursion IsQuiet (map (GaveUp who) (option_to_list o))
-tries_quiet who None = tt
-tries_quiet who (Some n) = (tt, tt)
-
 -- what is told of an input behind the end of a session
 abbrev pub told_rest : Side → ℕ → ℕ → Report → List Noted
 told_rest who n acked r =
@@ -73,11 +58,7 @@ told_rest who n acked r =
     ++ (if_so (nat_lt 0 r.acked) (Acked who n acked) ++ map (Got who n) r.got)))
 
 pub rest_quiet : (who : Side) (n acked : ℕ) (r : Report) → AllByRecursion IsQuiet (told_rest who n acked r)
-rest_quiet who n acked r =
-    quiet-append (if_so r.began (Up who n)) _ (so_quiet r.began (Up who n) tt)
-    (quiet-append (if_so r.became_active (Active who)) _ (so_quiet r.became_active (Active who) tt)
-    (quiet-append (map (GaveUp who) (option_to_list r.gave_up)) _ (tries_quiet who r.gave_up)
-    (quiet-append (if_so (nat_lt 0 r.acked) (Acked who n acked)) _ (so_quiet (nat_lt 0 r.acked) (Acked who n acked) tt) (got_quiet who n r.got))))
+rest_quiet who n acked r = rest_all IsQuiet who n acked tt tt (λ k. tt) tt (λ m. tt) r
 
 -- what is told of an input reads as nothing but for the end of a session
 pub told_reads : (h : ℕ) (core : Core) (p : Port) (i : LinkInput) (c : Option (List ℕ)) → own_side core ≡ Host → p.desk.host ≡ h

@@ -18,6 +18,7 @@ use Rattle.node_laws.specs.passes.Noting.{IsReplyNoted, next_count, sent_in_sess
 use Rattle.node_laws.specs.answers.Answered.{AnswersSo, before_turn, is_turn_of, to_command}
 use Rattle.node_laws.specs.answers.Order.{is_answer_of}
 use Rattle.node_laws.specs.replies.Known.{IsNoAnswer}
+use Rattle.registry.proofs.ValueLemmas.{AllByRecursion-append as all_append}
 use Rattle.node_laws.proofs.Cases.{by_option}
 use Rattle.node_laws.proofs.replies.Apart.{SendsOver}
 
@@ -45,10 +46,6 @@ commands_told (_ ∷ es) = commands_told es
 pub record AreOfReply (most : ℕ) (es : List Entry) : Type 0 where
   pub entries : AreReplyEntries es
   pub few : commands_told es ≤ most
-
-entries_append : (a b : List Entry) → AreReplyEntries a → AreReplyEntries b → AreReplyEntries (a ++ b)
-entries_append [] b x y = y
-entries_append (e ∷ a) b x y = (x.0, entries_append a b x.1 y)
 
 entries_front : (a b : List Entry) → AreReplyEntries (a ++ b) → AreReplyEntries a
 entries_front [] b x = tt
@@ -204,7 +201,7 @@ answers_so true noted reply later rest is all trails power none =
     let front : List Entry = is.0 in
     let c : Command = is.1 in
     let fronts : AreReplyEntries front = entries_front front (entry.Command 0 c ∷ is.2) (subst AreReplyEntries is.3 all.entries) in
-    let first : AreReplyEntries (front ++ (entry.Command 0 c ∷ [])) = entries_append front (entry.Command 0 c ∷ []) fronts (refl, tt) in
+    let first : AreReplyEntries (front ++ (entry.Command 0 c ∷ [])) = all_append IsReplyEntry front (entry.Command 0 c ∷ []) fronts (refl, tt) in
     let es : (noted ++ later) ++ rest ≡ (front ++ (entry.Command 0 c ∷ [])) ++ (entry.Cut 0 ∷ rest) =
     ap₂ (λ a b. (a ++ b) ++ rest) is.4 (power refl)
     ∙ (ap (λ l. l ++ rest) (append-nil (front ++ (entry.Command 0 c ∷ entry.Cut 0 ∷ [])))

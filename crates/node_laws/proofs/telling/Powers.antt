@@ -23,6 +23,7 @@ use Rattle.node_machine.specs.Node.NodeInput.{AtEnd, TimePasses}
 use Rattle.node_laws.specs.telling.Telling.{is_of, tells_of, of_link}
 use Rattle.node_laws.specs.telling.Standing.{Standing, said_near, said_far, stands_said, stands_told}
 use Rattle.node_laws.specs.telling.Standing.{after_power, stands_noted, standing, law_noted, standing_by_law}
+use Rattle.registry.proofs.ValueLemmas.{AllByRecursion-append as all_append}
 use Rattle.node_laws.proofs.telling.Mute.{AreMute, forgotten_mute, all_owed_mute, all_synced_mute}
 use Rattle.node_laws.proofs.steps.Ports.{sessions_node}
 use Rattle.node_laws.proofs.telling.Walks.{AreSilent, IsUncut, AreUncut, all_last, rest_lasts}
@@ -82,13 +83,9 @@ clear_said h (n ∷ notes) c x =
     ∙ (clear_said h notes c.1 (standing_said h x (entry_of h n))
     ∙ sym (fold-append (stands_told h) x (entry_of h n) (entries_for h notes)))
 
-pub uncut-append : (t u : List Entry) → AreUncut t → AreUncut u → AreUncut (t ++ u)
-uncut-append [] u a b = b
-uncut-append (x ∷ t) u a b = (a.0, uncut-append t u a.1 b)
-
 pub uncut_flat : {X : Type 0} (f : X → List Entry) → ((x : X) → AreUncut (f x)) → (xs : List X) → AreUncut (flat_map f xs)
 uncut_flat f one [] = tt
-uncut_flat f one (x ∷ xs) = uncut-append (f x) (flat_map f xs) (one x) (uncut_flat f one xs)
+uncut_flat f one (x ∷ xs) = all_append IsUncut (f x) (flat_map f xs) (one x) (uncut_flat f one xs)
 
 pub entry_uncut : (h : ℕ) (n : Noted) → AreUncut (entry_of h n)
 entry_uncut h Tick = tt
@@ -232,10 +229,10 @@ module _ (h n : ℕ) (off : Standing → Standing) (powers : (x : Standing) → 
 
   pub came_uncut : (input : NodeInput) (w : Work) → AreUncut w.entries → AreUncut (times_out input (all_come input w)).entries
   came_uncut (AtEnd k i) w u =
-      uncut-append w.entries _ u (uncut_flat (λ p. told_at w.core p (input_at (AtEnd k i) p)) (λ p. told_uncut w.core p (input_at (AtEnd k i) p)) w.ports)
+      all_append IsUncut w.entries _ u (uncut_flat (λ p. told_at w.core p (input_at (AtEnd k i) p)) (λ p. told_uncut w.core p (input_at (AtEnd k i) p)) w.ports)
   came_uncut TimePasses w u =
-      uncut-append _ _
-      (uncut-append w.entries _ u (uncut_flat (λ p. told_at w.core p (input_at TimePasses p)) (λ p. told_uncut w.core p (input_at TimePasses p)) w.ports))
+      all_append IsUncut _ _
+      (all_append IsUncut w.entries _ u (uncut_flat (λ p. told_at w.core p (input_at TimePasses p)) (λ p. told_uncut w.core p (input_at TimePasses p)) w.ports))
       (uncut_flat (told_late w.core) (late_uncut w.core) (map with_older (all_come TimePasses w).ports))
 
   pub came_cut : (input : NodeInput) (w : Work) → (times_out input (all_come input w)).cut ≡ w.cut

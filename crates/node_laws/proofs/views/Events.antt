@@ -26,11 +26,11 @@ use Rattle.node_machine.specs.world.World.{host_cut, loses_power_at, memory_at, 
 use Rattle.node_machine.specs.world.World.{controller_ticks, host_ticks, hosts_tick, world_ticks}
 use Rattle.node_machine.specs.world.NodeFilters.{Book}
 use Rattle.node_laws.specs.telling.Telling.{HasEnds, IfItRuns, hosts_in, IsOrderly}
+use Rattle.node_laws.proofs.All.{all_flat}
 use Rattle.node_laws.proofs.Cases.{by_test}
 use Rattle.node_laws.proofs.telling.WorldTicks.{tick_host}
 use Rattle.node_machine.proofs.world.Cases.{by_power, by_memory, by_running, boot_written, boot_found, by_boot}
 use Rattle.node_laws.specs.views.Errors.{ErrorCount}
-use Rattle.node_laws.proofs.readings.Noting.{all_flat}
 use Rattle.node_laws.proofs.views.Leaving.{reads, reads_append, Leaves, IsStill, still_all, still_leaves}
 use Rattle.node_laws.proofs.views.Nodes.{IfKeeps, keeps_sets, leaves_kept, own_steps, others_step, frames_still, aged_still}
 use Rattle.node_laws.proofs.views.Worlds.{far_node, AreFine, orderly_fine, map_fine, node_map, with_kept, with_other, with_own, with_none}

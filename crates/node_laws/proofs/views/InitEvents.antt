@@ -29,6 +29,7 @@ use Rattle.node_machine.specs.world.World.{controller_cut, host_cut, loses_power
 use Rattle.node_machine.specs.world.World.{ticked_so, all_aged, controller_ticks, host_ticks, hosts_tick, world_ticks, world_step}
 use Rattle.node_machine.specs.world.World.Happening.{Boots, IsCut, Gives, Inits, Takes, Loses, Ticks, Resets, Activates, Arms}
 use Rattle.node_laws.specs.telling.Telling.{IfItRuns, hosts_in, IsOrderly}
+use Rattle.node_laws.proofs.All.{all_flat}
 use Rattle.node_laws.proofs.Cases.{by_option}
 use Rattle.node_laws.proofs.links.Ends.{here_host}
 use Rattle.link_laws.proofs.entries.Together.{ticks_host as tick_host}
@@ -38,7 +39,6 @@ use Rattle.node_laws.proofs.readings.Silent.{IsQuiet}
 use Rattle.node_laws.proofs.readings.Sites.{lost_quiet}
 use Rattle.node_machine.proofs.world.Cases.{by_power, by_memory, by_running, boot_written, boot_found, by_boot}
 use Rattle.node_laws.specs.views.Inits.{init_begun, init_of_running, IfRunsInit, LeavesInit, SiteKeepsInit}
-use Rattle.node_laws.proofs.readings.Noting.{all_flat}
 use Rattle.node_laws.proofs.views.Answering.{reads_init, init_append}
 use Rattle.node_laws.proofs.views.Elsewhere.{quiet_leaves, others_step}
 use Rattle.node_laws.proofs.views.HostInits.{ticks_keep, cut_keeps, boot_keeps}

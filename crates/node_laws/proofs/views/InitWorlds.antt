@@ -29,6 +29,7 @@ use Rattle.node_machine.specs.world.World.{work_of, frames_noted, comes_to, link
 use Rattle.node_machine.specs.world.World.{after_host, host_does}
 use Rattle.node_machine.specs.world.World.{sending, beginning, comes_at, activates, end_c, end_h}
 use Rattle.node_machine.specs.world.World.Happening.{Inits}
+use Rattle.node_laws.proofs.All.{all_flat}
 use Rattle.node_laws.proofs.Cases.{by_option}
 use Rattle.node_laws.proofs.links.Ends.{here_host}
 use Rattle.node_laws.specs.telling.Telling.{HasEnds, IfItRuns, hosts_in, IsOrderly}
@@ -37,7 +38,7 @@ use Rattle.node_laws.proofs.telling.Events.{comes_goes}
 use Rattle.node_laws.specs.readings.Worlds.{host_does_so, init_of}
 use Rattle.node_laws.proofs.readings.Sites.{ending_quiet, arrival_quiet}
 use Rattle.node_laws.specs.views.Inits.{init_begun, init_of_running, IfRunsInit, LeavesInit, SiteKeepsInit}
-use Rattle.node_laws.proofs.readings.Noting.{NotesSo, all_flat}
+use Rattle.node_laws.proofs.readings.Noting.{NotesSo}
 use Rattle.node_laws.proofs.views.Answering.{reads_init, init_append}
 use Rattle.node_laws.proofs.views.Elsewhere.{quiet_leaves, others_step, others_begin}
 use Rattle.node_laws.proofs.views.HostInits.{comes_keeps, sends_keeps, begins_keeps}

@@ -40,9 +40,6 @@ use Rattle.registry.proofs.ValueLemmas.{AllByRecursion-append}
 
 -- ## Frames
 
-undamaged-append : (xs ys : List Noted) → AllByRecursion IsUndamaged xs → AllByRecursion IsUndamaged ys → AllByRecursion IsUndamaged (xs ++ ys)
-undamaged-append = AllByRecursion-append IsUndamaged
-
 pushed_undamaged : (who : Side) (wire : List OnWire) → AllByRecursion IsUndamaged (pushed_out who wire)
 pushed_undamaged who wire = go (nat_lt 64 (length wire)) wire where
   go : (b : Bool) (xs : List OnWire) → AllByRecursion IsUndamaged (cond b (first_lost who TooMany xs) [])
@@ -53,7 +50,8 @@ pushed_undamaged who wire = go (nat_lt 64 (length wire)) wire where
 puts_undamaged : (who : Side) (l : Link) (cs : List Control) → AllByRecursion IsUndamaged (puts_entries who l cs)
 puts_undamaged who l [] = tt
 puts_undamaged who l (c ∷ cs) =
-    undamaged-append (put_entries who l c) (puts_entries who (put l c) cs) (tt, pushed_undamaged (far who) (wire_with l c)) (puts_undamaged who (put l c) cs)
+    AllByRecursion-append IsUndamaged (put_entries who l c) (puts_entries who (put l c) cs) (tt, pushed_undamaged (far who) (wire_with l c))
+    (puts_undamaged who (put l c) cs)
 
 ending_undamaged : (who : Side) (l : Link) (e : LinkEnd) (ending : Ending) → AllByRecursion IsUndamaged (ending_entries who l e ending)
 ending_undamaged who l e GoesOut = puts_undamaged who l (frames_out e)
@@ -90,7 +88,7 @@ arrival_still e who h l comes = notes_still e h (arrival who l comes) (arrival_u
 pub aged_still : (e : End) (h : ℕ) (l : Link)
     → AllByRecursion (IsStill e) (entries_for h (aged_entries Controller l.to_controller ++ aged_entries Host l.to_host))
 aged_still e h l = notes_still e h (aged_entries Controller l.to_controller ++ aged_entries Host l.to_host)
-    (undamaged-append (aged_entries Controller l.to_controller) (aged_entries Host l.to_host) (aged_undamaged Controller l.to_controller)
+    (AllByRecursion-append IsUndamaged (aged_entries Controller l.to_controller) (aged_entries Host l.to_host) (aged_undamaged Controller l.to_controller)
     (aged_undamaged Host l.to_host))
 
 -- ## What a node keeps

@@ -15,7 +15,8 @@ use Rattle.node_machine.specs.Node.{NodeInput, input_at, has_come, told_at, all_
 use Rattle.node_machine.specs.Node.{all_owed, without_notice, after_sessions, synced, steps}
 use Rattle.node_machine.specs.Node.NodeInput.{AtEnd, TimePasses}
 use Rattle.node_laws.specs.views.Errors.{ErrorCount}
-use Rattle.node_laws.proofs.readings.Noting.{IsOwnNote, all_notes, all_flat}
+use Rattle.node_laws.proofs.All.{all_flat}
+use Rattle.node_laws.proofs.readings.Noting.{IsOwnNote, all_notes}
 use Rattle.node_laws.proofs.views.Leaving.{IsStill, notes_still, IsUndamaged}
 use Rattle.node_laws.proofs.views.Setting.{IsUnset, AreUnset}
 use Rattle.node_laws.proofs.views.Doing.{Right, note, maps, with_core, unless, unset_fine, all_do}

@@ -23,11 +23,11 @@ use Rattle.node_machine.specs.world.World.{host_work, after_host}
 use Rattle.node_machine.specs.world.World.{host_does, comes_at, activates, end_c, end_h}
 use Rattle.node_laws.specs.kept.Hosts.{AreDifferent}
 use Rattle.node_laws.specs.telling.Telling.{HasEnds, IfItRuns, hosts_in, IsOrderly}
+use Rattle.node_laws.proofs.All.{all_flat}
 use Rattle.node_laws.proofs.Cases.{by_option, by_test}
 use Rattle.node_laws.proofs.telling.Mute.{AreMute}
 use Rattle.node_laws.proofs.telling.Nodes.{site_host}
 use Rattle.node_laws.specs.views.Errors.{ErrorCount}
-use Rattle.node_laws.proofs.readings.Noting.{all_flat}
 use Rattle.node_laws.proofs.views.Leaving.{reads, reads_append, Leaves, IsStill, still_leaves}
 use Rattle.node_laws.proofs.views.Setting.{AreUnset}
 use Rattle.node_laws.proofs.views.Nodes.{IfKeeps, KeepsErrors, leaves_kept, own_steps, own_begins, IsOther, others_step, others_begin, frames_still}

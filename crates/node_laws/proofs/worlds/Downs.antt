@@ -101,6 +101,8 @@ module _ (test : EndedBy → Bool) (e : End) where
   pub any_back : (a es : List Entry) → AreDownless es → ends_in_list (a ++ es) ≡ ends_in_list a
   any_back a es none = any_append a es ∙ (ap (λ b. ends_in_list a || b) (any_none es none) ∙ or-false (ends_in_list a))
 
+  -- ## In a step
+
   -- what begins at a host tells of none
   pub deeds_tell : (h : ℕ) (deeds : List Deed) (w : Work) → AllByRecursion NotesNoEnd deeds → ends_in_list (all_done h deeds w).entries ≡ ends_in_list w.entries
   deeds_tell h deeds w may =

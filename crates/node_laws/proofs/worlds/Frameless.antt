@@ -18,8 +18,9 @@ use Rattle.node_machine.specs.Carrying.{port_at, all_done}
 use Rattle.node_machine.specs.Node.{NodeInput, steps}
 use Rattle.node_machine.specs.world.World.{arrival, frames_noted, ending_of, sending, beginning}
 use Rattle.node_laws.specs.passes.Steps.{told_of_coming}
+use Rattle.node_laws.proofs.passes.Coming.{coming_all}
 use Rattle.node_laws.proofs.passes.Kinds.{NotesOnly, sending_notes, beginning_notes}
-use Rattle.node_laws.proofs.passes.InSteps.{IsOfStep, of_deeds, step_keeps, deeds_keep, coming_all}
+use Rattle.node_laws.proofs.passes.InSteps.{IsOfStep, of_deeds, step_keeps, deeds_keep}
 use Rattle.node_laws.specs.answers.Order.{emitter}
 use Rattle.node_laws.proofs.telling.Reported.{told_all}
 use Rattle.node_laws.proofs.telling.Frames.{lost_all, arrival_all, ending_all, wires_all}
@@ -49,6 +50,8 @@ IsOut x = is_out x ≡ true
 
 abbrev pub AreOut : List Entry → Type 0
 AreOut es = AllByRecursion IsOut es
+
+-- ## Deeds
 
 abbrev pub NotesInside : Deed → Type 0
 NotesInside d = NotesOnly IsInside d
@@ -106,6 +109,8 @@ frames_out_of who h l k = go (port_at k.ports h) where
   go None = tt
   go (Some p) =
       notes_out h (ending_entries who l p.side (ending_of k)) (ending_all IsGoing (λ w c. tt) (λ w c. tt) (λ w. tt) who l p.side (ending_of k))
+
+-- ## What comes
 
 coming_inside : (input : NodeInput) (w : Work) → AreInside (told_of_coming input w)
 coming_inside input w =

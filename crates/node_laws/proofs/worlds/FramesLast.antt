@@ -28,6 +28,7 @@ use Rattle.node_machine.specs.world.NodeHistories.{LineStep, NodeHistory, Follow
 use Rattle.node_machine.proofs.world.Cases.{by_controller, by_host, by_coming, by_boot, by_loss, near_tick, by_controller_tick, host_tick, by_host_tick}
 use Rattle.node_laws.specs.kept.Hosts.{AreDifferent}
 use Rattle.node_laws.specs.telling.Telling.{hosts_in, IsOrderly}
+use Rattle.node_laws.proofs.All.{all_flat}
 use Rattle.node_laws.proofs.Cases.{by_test}
 use Rattle.node_laws.proofs.telling.Lasting.{Any, AnyLine, all_any, all_lines, AreCaused, lines_caused}
 use Rattle.node_laws.proofs.telling.Orderly.{step_orderly, new_orderly}
@@ -45,10 +46,6 @@ use Rattle.node_laws.proofs.worlds.Frameless.{IsInside, AreInside, IsOut, AreOut
 use Rattle.node_laws.proofs.worlds.Frameless.{aged_inside, frames_out_of, step_inside, deeds_inside}
 use Rattle.node_laws.proofs.worlds.Framed.{IsFramed, IsFramedFor, framed_for, others_behind, others_before, inside_before, frames_behind}
 
-flat_out : (f : Site → List Entry) → ((s : Site) → AreOut (f s)) → (sites : List Site) → AreOut (flat_map f sites)
-flat_out f one [] = tt
-flat_out f one (s ∷ sites) = all_append IsOut (f s) (flat_map f sites) (one s) (flat_out f one sites)
-
 only_front : (es : List Entry) → AreInside es → IsFramed es
 only_front es a = record { front = es; back = []; is = sym (append-nil es); inside = a; out = tt }
 
@@ -64,7 +61,7 @@ near_framed w k comes i =
     let v : Work = controller_work w r k comes (steps (AtEnd k i)) in
     step_framed v (flat_map (λ (s : Site). frames_noted Controller s.host (wires_for s.link (comes_to k comes s.host)) v) w.sites)
     (step_inside (AtEnd k i) (controller_begins w r k comes) (arrival_inside Controller k (link_to w.sites k) comes))
-    (flat_out (λ (s : Site). frames_noted Controller s.host (wires_for s.link (comes_to k comes s.host)) v)
+    (all_flat IsOut (λ (s : Site). frames_noted Controller s.host (wires_for s.link (comes_to k comes s.host)) v)
     (λ s. frames_out_of Controller s.host (wires_for s.link (comes_to k comes s.host)) v) w.sites))
 
 far_framed : (w : NodeWorld) (k : ℕ) (comes : Comes) (i : LinkInput) → IsFramed (host_does w k comes (steps (AtEnd k i))).1
@@ -169,7 +166,7 @@ ticks_framed n w a = inside_before n (near.1 ++ (hosts_tick near.0.sites).1) (al
       by_controller_tick (λ p. IsFramed p.1) old (λ q. only_front [] tt)
       (λ r q. step_framed (near_tick old r) (flat_map (λ (s : Site). frames_noted Controller s.host s.link (near_tick old r)) old.sites)
       (step_inside TimePasses (controller_tick_begins old r) tt)
-      (flat_out (λ (s : Site). frames_noted Controller s.host s.link (near_tick old r)) (λ s. frames_out_of Controller s.host s.link (near_tick old r))
+      (all_flat IsOut (λ (s : Site). frames_noted Controller s.host s.link (near_tick old r)) (λ s. frames_out_of Controller s.host s.link (near_tick old r))
       old.sites))
 
   go : (c : Bool) → (0 == n) ≡ c → IsFramedFor n (near.1 ++ (hosts_tick near.0.sites).1)

@@ -20,8 +20,9 @@ use Rattle.node_machine.specs.world.World.{arrival, frames_noted, ending_of, sen
 use Rattle.node_laws.proofs.readings.Silent.{told_rest, rest_quiet, IsQuiet}
 use Rattle.node_laws.proofs.telling.Frames.{ending_all, arrival_all}
 use Rattle.node_laws.specs.passes.Steps.{told_of_coming}
+use Rattle.node_laws.proofs.passes.Coming.{coming_all}
 use Rattle.node_laws.proofs.passes.Kinds.{NotesOnly, sending_notes, beginning_notes}
-use Rattle.node_laws.proofs.passes.InSteps.{IsOfStep, of_deeds, step_keeps, deeds_keep, coming_all}
+use Rattle.node_laws.proofs.passes.InSteps.{IsOfStep, of_deeds, step_keeps, deeds_keep}
 use Rattle.node_laws.specs.answers.Order.{answerer}
 
 -- an entry tells of something that comes to an end

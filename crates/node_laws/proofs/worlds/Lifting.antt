@@ -27,6 +27,7 @@ use Rattle.node_machine.proofs.world.Cases.{by_controller, by_host, by_coming, b
 use Rattle.node_laws.specs.kept.Reckonings.{is_cut_of}
 use Rattle.node_laws.specs.kept.Hosts.{AreHosts, IsFew, IsSentByHost}
 use Rattle.node_laws.specs.telling.Telling.{IsOrderly, world_behind}
+use Rattle.node_laws.proofs.All.{all_flat}
 use Rattle.node_laws.proofs.Cases.{by_test}
 use Rattle.node_laws.proofs.telling.Events.{comes_goes, orderly_map}
 use Rattle.node_laws.proofs.telling.Shapes.{frames_uncut}
@@ -60,7 +61,7 @@ use Rattle.node_laws.proofs.worlds.Order.{other_answers, unanswered_all}
 use Rattle.node_laws.proofs.power.Events.{comes_part}
 use Rattle.node_laws.proofs.worlds.Steps.{far_number}
 use Rattle.node_laws.proofs.power.Events.{both_nodes, none_zero, others_tick}
-use Rattle.node_laws.proofs.worlds.Turns.{flat_turnless, turnless_there, other_turns, aged_turnless}
+use Rattle.node_laws.proofs.worlds.Turns.{turnless_there, other_turns, aged_turnless}
 use Rattle.node_laws.proofs.worlds.Turns.{begun_turnless, lost_turnless, boots_turnless}
 
 -- ## Where an entry stands
@@ -185,7 +186,7 @@ frames_quiet f v (s ∷ sites) =
 pub frames_none : (f : Site → Link) (v : Work) (sites : List Site) → NoneThere (flat_map (λ (s : Site). frames_noted Controller s.host (f s) v) sites)
 frames_none f v sites =
     turnless_there 0 (flat_map (λ (s : Site). frames_noted Controller s.host (f s) v) sites)
-    (flat_turnless (λ (s : Site). frames_noted Controller s.host (f s) v) (λ s. frames_turnless Controller s.host (f s) v) sites)
+    (all_flat IsNoTurn (λ (s : Site). frames_noted Controller s.host (f s) v) (λ s. frames_turnless Controller s.host (f s) v) sites)
 
 -- ## Events
 

@@ -26,8 +26,10 @@ use Rattle.node_machine.specs.world.World.{all_aged, activates, comes_at, end_c,
 use Rattle.node_machine.specs.world.World.Happening.{Boots, IsCut, Gives, Inits, Takes, Loses, Ticks, Resets, Activates, Arms}
 use Rattle.node_machine.proofs.world.Cases.{by_controller, by_host, by_coming, by_boot, near_tick, by_controller_tick, host_tick, by_host_tick}
 use Rattle.node_laws.specs.passes.Steps.{told_of_coming, controller_begins, controller_tick_begins}
+use Rattle.node_laws.proofs.All.{all_flat}
+use Rattle.node_laws.proofs.passes.Coming.{coming_all}
 use Rattle.node_laws.proofs.passes.Kinds.{NotesOnly, sending_notes, beginning_notes}
-use Rattle.node_laws.proofs.passes.InSteps.{IsOfStep, step_keeps, deeds_keep, coming_all, of_deeds}
+use Rattle.node_laws.proofs.passes.InSteps.{IsOfStep, step_keeps, deeds_keep, of_deeds}
 use Rattle.node_laws.proofs.worlds.Steps.{host_begins}
 use Rattle.node_laws.specs.order.Resets.{is_lost_by_line}
 use Rattle.node_laws.proofs.telling.Reported.{told_all}
@@ -80,12 +82,12 @@ frames_lineless who h l k = go (port_at k.ports h) where
       notes_lineless h (ending_entries who l p.side (ending_of k))
       (ending_all IsOfWire (λ w c. tt) (λ w c. tt) (λ w. tt) who l p.side (ending_of k))
 
-flat_lineless : {X : Type 0} (f : X → List Entry) → ((x : X) → AreLineless (f x)) → (xs : List X) → AreLineless (flat_map f xs)
-flat_lineless f one [] = tt
-flat_lineless f one (x ∷ xs) = all_append IsLineless (f x) (flat_map f xs) (one x) (flat_lineless f one xs)
+-- ## What comes
 
 coming_lineless : (input : NodeInput) (w : Work) → AreLineless (told_of_coming input w)
 coming_lineless input w = coming_all IsLineless told_of_wire input w
+
+-- ## A step
 
 step_lineless : (input : NodeInput) (w : Work) → AreLineless w.entries → AreLineless (steps input w).entries
 step_lineless input w none =
@@ -104,7 +106,7 @@ near_lineless w k comes i =
     let v : Work = controller_work w r k comes (steps (AtEnd k i)) in
     all_append IsLineless v.entries (flat_map (λ (s : Site). frames_noted Controller s.host (wires_for s.link (comes_to k comes s.host)) v) w.sites)
     (step_lineless (AtEnd k i) (controller_begins w r k comes) (arrival_lineless Controller k (link_to w.sites k) comes))
-    (flat_lineless (λ (s : Site). frames_noted Controller s.host (wires_for s.link (comes_to k comes s.host)) v)
+    (all_flat IsLineless (λ (s : Site). frames_noted Controller s.host (wires_for s.link (comes_to k comes s.host)) v)
     (λ s. frames_lineless Controller s.host (wires_for s.link (comes_to k comes s.host)) v) w.sites))
 
 far_lineless : (w : NodeWorld) (k : ℕ) (comes : Comes) (i : LinkInput) → AreLineless (host_does w k comes (steps (AtEnd k i))).1
@@ -156,12 +158,14 @@ ticks_lineless w =
     let old : NodeWorld = (all_aged w).0 in
     let near : NodeWorld × List Entry = controller_ticks old in
     all_append IsLineless (all_aged w).1 (near.1 ++ (hosts_tick near.0.sites).1)
-    (flat_lineless (λ (s : Site). entries_for s.host (aged_entries Controller s.link.to_controller ++ aged_entries Host s.link.to_host)) aged_lineless w.sites)
+    (all_flat IsLineless (λ (s : Site). entries_for s.host (aged_entries Controller s.link.to_controller ++ aged_entries Host s.link.to_host)) aged_lineless
+    w.sites)
     (all_append IsLineless near.1 (hosts_tick near.0.sites).1
     (by_controller_tick (λ p. AreLineless p.1) old (λ q. tt)
     (λ r q. all_append IsLineless (near_tick old r).entries (flat_map (λ (s : Site). frames_noted Controller s.host s.link (near_tick old r)) old.sites)
     (step_lineless TimePasses (controller_tick_begins old r) tt)
-    (flat_lineless (λ (s : Site). frames_noted Controller s.host s.link (near_tick old r)) (λ s. frames_lineless Controller s.host s.link (near_tick old r))
+    (all_flat IsLineless (λ (s : Site). frames_noted Controller s.host s.link (near_tick old r))
+    (λ s. frames_lineless Controller s.host s.link (near_tick old r))
     old.sites)))
     (hosts_lineless near.0.sites))
 

@@ -27,6 +27,7 @@ use Rattle.node_machine.specs.world.NodeHistories.{LineStep, NodeHistory, Follow
 use Rattle.node_machine.proofs.world.Cases.{by_controller, by_host, by_coming, by_boot, by_loss, near_tick, by_controller_tick, host_tick, by_host_tick}
 use Rattle.node_laws.specs.kept.Hosts.{AreDifferent}
 use Rattle.node_laws.specs.telling.Telling.{hosts_in, IsOrderly}
+use Rattle.node_laws.proofs.All.{all_flat}
 use Rattle.node_laws.proofs.Cases.{by_test}
 use Rattle.node_laws.proofs.telling.Lasting.{Any, AnyLine, all_any, all_lines, AreCaused, lines_caused}
 use Rattle.node_laws.proofs.telling.Orderly.{step_orderly, new_orderly}
@@ -44,10 +45,6 @@ use Rattle.node_laws.proofs.worlds.Hearing.{step_parted, deeds_parted, sending_u
 use Rattle.node_laws.proofs.power.Events.{AreNodes, both_nodes, comes_part, far_tick, near_ticks_part, no_site, none_zero, others_tick}
 use Rattle.node_laws.proofs.worlds.Order.{IsPartedFor, parted_for, others_behind, not_of_before, unanswered_before, first_heard}
 
-flat_unheard : (f : Site → List Entry) → ((s : Site) → AreUnheard (f s)) → (sites : List Site) → AreUnheard (flat_map f sites)
-flat_unheard f one [] = tt
-flat_unheard f one (s ∷ sites) = all_append IsUnheard (f s) (flat_map f sites) (one s) (flat_unheard f one sites)
-
 only_back : (es : List Entry) → AreUnheard es → IsParted es
 only_back es a = record { front = []; back = es; is = refl; unanswered = tt; unheard = a }
 
@@ -62,7 +59,7 @@ near_parted w k comes i =
     step_parted (AtEnd k i) (controller_begins w r k comes)
     (flat_map (λ (s : Site). frames_noted Controller s.host (wires_for s.link (comes_to k comes s.host)) v) w.sites)
     (arrival_unanswered Controller k (link_to w.sites k) comes)
-    (flat_unheard (λ (s : Site). frames_noted Controller s.host (wires_for s.link (comes_to k comes s.host)) v)
+    (all_flat IsUnheard (λ (s : Site). frames_noted Controller s.host (wires_for s.link (comes_to k comes s.host)) v)
     (λ s. out_unheard Controller s.host (wires_for s.link (comes_to k comes s.host)) v) w.sites))
 
 far_parted : (w : NodeWorld) (k : ℕ) (comes : Comes) (i : Rattle.link_laws.specs.machine.Machine.LinkInput)
@@ -172,7 +169,7 @@ ticks_parted n w a = unanswered_before n (near.1 ++ (hosts_tick near.0.sites).1)
       by_controller_tick (λ p. IsParted p.1) old (λ q. only_back [] tt)
       (λ r q. step_parted TimePasses (controller_tick_begins old r)
       (flat_map (λ (s : Site). frames_noted Controller s.host s.link (near_tick old r)) old.sites) tt
-      (flat_unheard (λ (s : Site). frames_noted Controller s.host s.link (near_tick old r)) (λ s. out_unheard Controller s.host s.link (near_tick old r))
+      (all_flat IsUnheard (λ (s : Site). frames_noted Controller s.host s.link (near_tick old r)) (λ s. out_unheard Controller s.host s.link (near_tick old r))
       old.sites))
 
   go : (c : Bool) → (0 == n) ≡ c → IsPartedFor n (near.1 ++ (hosts_tick near.0.sites).1)

@@ -35,6 +35,7 @@ use Rattle.node_machine.specs.world.NodeHistories.{FollowsNodes, NodeHistory, en
 use Rattle.node_machine.proofs.world.Cases.{after_near_tick, by_coming, by_host, near_tick}
 use Rattle.node_laws.specs.kept.Hosts.{AreDifferent, AreHosts, IsFew, IsSentByHost}
 use Rattle.node_laws.specs.telling.Telling.{HasEnds, IsOrderly, world_behind}
+use Rattle.node_laws.proofs.All.{all_flat}
 use Rattle.node_laws.proofs.Cases.{by_option, by_test}
 use Rattle.node_laws.proofs.telling.Events.{comes_goes, orderly_map}
 use Rattle.node_laws.proofs.telling.Frames.{ending_all}
@@ -48,7 +49,6 @@ use Rattle.node_laws.proofs.order.Lines.{IsSo, history_so}
 use Rattle.node_laws.proofs.passes.Before.{links_none}
 use Rattle.node_laws.proofs.power.Events.{both_nodes, near_runs, none_zero, others_tick}
 use Rattle.node_laws.proofs.power.Links.{arrival_of_side, links_own}
-use Rattle.node_laws.proofs.readings.Noting.{all_flat}
 use Rattle.node_laws.proofs.creations.Events.{far_beside}
 use Rattle.node_laws.proofs.creations.Worlds.{aged_good, near_good}
 use Rattle.node_laws.proofs.notices.Far.{far_flat, not_near}

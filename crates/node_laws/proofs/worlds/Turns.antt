@@ -27,6 +27,7 @@ use Rattle.node_machine.specs.world.NodeHistories.{NodeHistory, FollowsNodes}
 use Rattle.node_machine.proofs.world.Cases.{by_controller, by_host, by_coming, by_boot, by_loss, near_tick, by_controller_tick, host_tick, by_host_tick}
 use Rattle.node_laws.specs.kept.Hosts.{AreDifferent}
 use Rattle.node_laws.specs.telling.Telling.{IfItRuns, hosts_in, IsOrderly}
+use Rattle.node_laws.proofs.All.{all_flat}
 use Rattle.node_laws.proofs.Cases.{by_test}
 use Rattle.node_laws.proofs.telling.Events.{orderly_map, comes_goes}
 use Rattle.node_laws.proofs.telling.WorldTicks.{near_orderly}
@@ -57,10 +58,6 @@ use Rattle.node_laws.proofs.order.Asked.{AreDone, done_back, history_done}
 use Rattle.node_laws.proofs.worlds.Steps.{near_node, far_node}
 use Rattle.node_laws.proofs.worlds.Ascending.{AllAscend, ascends_part, turnless_ascend, frames_turnless, step_ascends, links_append, none_there}
 
-pub flat_turnless : (f : Site → List Entry) → ((s : Site) → AreNoTurns (f s)) → (sites : List Site) → AreNoTurns (flat_map f sites)
-flat_turnless f one [] = tt
-flat_turnless f one (s ∷ sites) = all_append IsNoTurn (f s) (flat_map f sites) (one s) (flat_turnless f one sites)
-
 -- ## Steps
 
 module _ (w : NodeWorld) (a : IsOrderly w) (up : IsAscending (hosts_in w.sites)) where
@@ -73,7 +70,7 @@ module _ (w : NodeWorld) (a : IsOrderly w) (up : IsAscending (hosts_in w.sites))
       (flat_map (λ (s : Site). frames_noted Controller s.host (wires_for s.link (comes_to k comes s.host)) v) w.sites)
       (links_none k (arrival Controller (link_to w.sites k) comes))
       (subst IsAscending (sym (hosts_same (λ j. near_end_in (link_to w.sites j) (comes_to k comes j)) r.desks ∙ (near_node w r a q).ends)) up)
-      (flat_turnless (λ (s : Site). frames_noted Controller s.host (wires_for s.link (comes_to k comes s.host)) v)
+      (all_flat IsNoTurn (λ (s : Site). frames_noted Controller s.host (wires_for s.link (comes_to k comes s.host)) v)
       (λ s. frames_turnless Controller s.host (wires_for s.link (comes_to k comes s.host)) v) w.sites))
 
 far_ascends : (w : NodeWorld) → IsOrderly w → (k : ℕ) (comes : Comes) (i : LinkInput) → AllAscend (host_does w k comes (steps (AtEnd k i))).1
@@ -188,7 +185,7 @@ pub aged_turnless : (sites : List Site)
     → AreNoTurns (flat_map (λ (s : Site). entries_for s.host
     (aged_entries Controller s.link.to_controller ++ aged_entries Host s.link.to_host)) sites)
 aged_turnless =
-    flat_turnless (λ (s : Site). entries_for s.host (aged_entries Controller s.link.to_controller ++ aged_entries Host s.link.to_host))
+    all_flat IsNoTurn (λ (s : Site). entries_for s.host (aged_entries Controller s.link.to_controller ++ aged_entries Host s.link.to_host))
     (λ s. links_none s.host (aged_entries Controller s.link.to_controller ++ aged_entries Host s.link.to_host))
 
 turnless_one : (n : ℕ) (x : Entry) → IsNoTurn x → turn_link n x ≡ None
@@ -227,7 +224,7 @@ ticks_own n w a up =
           (λ r q. step_ascends TimePasses (controller_tick_begins old r)
           (flat_map (λ (s : Site). frames_noted Controller s.host s.link (near_tick old r)) old.sites) tt
           (subst IsAscending (sym (hosts_same (λ k. (link_to old.sites k).controller) r.desks ∙ (near_node w r a q).ends)) up)
-          (flat_turnless (λ (s : Site). frames_noted Controller s.host s.link (near_tick old r)) (λ s. frames_turnless Controller s.host s.link
+          (all_flat IsNoTurn (λ (s : Site). frames_noted Controller s.host s.link (near_tick old r)) (λ s. frames_turnless Controller s.host s.link
           (near_tick old r))
           old.sites))
 
