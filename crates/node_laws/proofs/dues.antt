@@ -2,7 +2,6 @@ pub mod Until
 pub mod Owed
 pub mod Ended
 pub mod Taken
-pub mod Own
 pub mod Freed
 pub mod Noted
 pub mod Steps

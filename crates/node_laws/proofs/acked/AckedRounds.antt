@@ -20,6 +20,7 @@ use Rattle.node_machine.specs.world.Lines.{Occurrence, all_happen, can_happen, h
 use Rattle.node_machine.specs.world.NodeHistories.{FollowsNodes, NodeHistory, occurrences_in}
 use Rattle.node_laws.specs.kept.Hosts.{AreDifferent, AreHosts}
 use Rattle.node_laws.specs.telling.Telling.{hosts_in, world_behind}
+use Rattle.node_laws.proofs.Cases.{by_test}
 use Rattle.node_laws.proofs.telling.Nodes.{swapped}
 use Rattle.node_laws.proofs.telling.Worlds.{site_is}
 use Rattle.node_laws.specs.links.Runs.{ArePlayable, new_line}
@@ -54,12 +55,7 @@ sound_step w c m s = record { fine = step_fine w c m s.fine; different = subst A
 pub sound_many : (causes : List Happening) (w : NodeWorld) → ArePassing causes → IsSound w → IsSound (all_happen w causes).0
 sound_many [] w p s = s
 sound_many (Takes e ∷ causes) w p s =
-    go (can_happen w (Takes e)) refl (sound_many causes (world_step w (Takes e)).0 p (sound_step w (Takes e) tt s))
-  where
-    go : (b : Bool) → can_happen w (Takes e) ≡ b → IsSound (all_happen (world_step w (Takes e)).0 causes).0
-        → IsSound (all_happen w (Takes e ∷ causes)).0
-    go true q a = rw q a
-    go false q a = rw q s
+    by_test (can_happen w (Takes e)) (λ q. rw q (sound_many causes (world_step w (Takes e)).0 p (sound_step w (Takes e) tt s))) (λ q. rw q s)
 sound_many (TimePassing ∷ causes) w p s = sound_many causes (world_step w TimePassing).0 p (sound_step w TimePassing tt s)
 sound_many (_ ∷ causes) w p s = absurd p
 
@@ -164,11 +160,9 @@ amid_acks w h s a q front back e k order few =
 other_number : (sites : List Site) (h n : ℕ) (s : Site) → AllByRecursion (λ k. (k == n) ≡ false) (hosts_in sites) → site_at sites h ≡ Some s
     → (n == h) ≡ false
 other_number [] h n s a q = cc
-other_number (x ∷ sites) h n s a q = go (x.host == h) refl (other_number sites h n s a.1)
-  where
-    go : (b : Bool) → (x.host == h) ≡ b → (site_at sites h ≡ Some s → (n == h) ≡ false) → (n == h) ≡ false
-    go true p later = let same : x.host ≡ h = eqb-true x.host h p in swapped h n (ap (λ k. k == n) (sym same) ∙ a.0)
-    go false p later = later (rw p at q)
+other_number (x ∷ sites) h n s a q = by_test (x.host == h)
+    (λ p. let same : x.host ≡ h = eqb-true x.host h p in swapped h n (ap (λ k. k == n) (sym same) ∙ a.0))
+    (λ p. other_number sites h n s a.1 (rw p at q))
 
 -- what holds of the site with each number holds of all
 all_of : (P : Site → Type 0) (sites : List Site) → AreDifferent (hosts_in sites) → ((h : ℕ) (s : Site) → site_at sites h ≡ Some s → P s)
@@ -187,21 +181,17 @@ found_before : (sites later : List Site) (h : ℕ) (t : Site) → hosts_in later
     → (s : Site) × (site_at sites h ≡ Some s)
 found_before sites [] h t same q = absurd (cc q)
 found_before [] (y ∷ later) h t same q = absurd (let z : y.host ∷ hosts_in later ≡ [] = same in cc)
-found_before (x ∷ sites) (y ∷ later) h t same q = go (x.host == h) refl (found_before sites later h t rest)
+found_before (x ∷ sites) (y ∷ later) h t same q = by_test (x.host == h)
+    (λ p. (x, rw p refl))
+    (λ p. let not_here : (y.host == h) ≡ false = ap (λ k. k == h) first ∙ p in
+    let there = found_before sites later h t rest (rw not_here at q) in
+    (there.0, rw p there.1))
   where
     first : y.host ≡ x.host
     first = let z : y.host ∷ hosts_in later ≡ x.host ∷ hosts_in sites = same in cc
 
     rest : hosts_in later ≡ hosts_in sites
     rest = let z : y.host ∷ hosts_in later ≡ x.host ∷ hosts_in sites = same in cc
-
-    go : (b : Bool) → (x.host == h) ≡ b → (site_at later h ≡ Some t → (s : Site) × (site_at sites h ≡ Some s))
-        → (s : Site) × (site_at (x ∷ sites) h ≡ Some s)
-    go true p more = (x, rw p refl)
-    go false p more =
-        let not_here : (y.host == h) ≡ false = ap (λ k. k == h) first ∙ p in
-        let there = more (rw not_here at q) in
-        (there.0, rw p there.1)
 
 pub all_within : (more b : ℕ) (w v : NodeWorld) → IsSound w → hosts_in v.sites ≡ hosts_in w.sites
     → ((h : ℕ) (s : Site) → site_at w.sites h ≡ Some s → HostAcksAtMost more h s v) → AreAckedWithin b w → AreAckedWithin (b + more) v
@@ -224,12 +214,9 @@ all_within more b w v s same each a = all_of (λ (t : Site). IsAckedWithin (b + 
 -- hosts stay as frames are taken and time passes
 many_kept : (causes : List Happening) (w : NodeWorld) → ArePassing causes → hosts_in (all_happen w causes).0.sites ≡ hosts_in w.sites
 many_kept [] w p = refl
-many_kept (Takes e ∷ causes) w p = go (can_happen w (Takes e)) refl (many_kept causes (world_step w (Takes e)).0 p ∙ step_kept w (Takes e))
-  where
-    go : (b : Bool) → can_happen w (Takes e) ≡ b → hosts_in (all_happen (world_step w (Takes e)).0 causes).0.sites ≡ hosts_in w.sites
-        → hosts_in (all_happen w (Takes e ∷ causes)).0.sites ≡ hosts_in w.sites
-    go true q a = rw q a
-    go false q a = rw q refl
+many_kept (Takes e ∷ causes) w p = by_test (can_happen w (Takes e))
+    (λ q. rw q (many_kept causes (world_step w (Takes e)).0 p ∙ step_kept w (Takes e)))
+    (λ q. rw q refl)
 many_kept (TimePassing ∷ causes) w p = many_kept causes (world_step w TimePassing).0 p ∙ step_kept w TimePassing
 many_kept (_ ∷ causes) w p = absurd p
 

@@ -26,6 +26,7 @@ use Rattle.node_machine.specs.world.Lines.{frames_at}
 use Rattle.node_machine.proofs.world.Cases.{by_controller, by_host, by_coming, by_power, by_memory, by_running, boot_written, boot_found, by_boot, site_lost}
 use Rattle.node_machine.proofs.world.Cases.{by_loss}
 use Rattle.node_laws.specs.kept.Hosts.{AreDifferent}
+use Rattle.node_laws.proofs.Cases.{by_test}
 use Rattle.node_laws.proofs.telling.Worlds.{site_is}
 use Rattle.node_laws.proofs.links.Deeds.{AreFine}
 use Rattle.node_laws.proofs.links.Works.{IsFineWork, all_done_fine, steps_fine}
@@ -74,11 +75,7 @@ takes_none NextFrame ts ending n = n
 takes_none _ ts ending n = tt
 
 none_here : (h : ℕ) (comes : Comes) (k : ℕ) → IsNoFrame comes → IsNoFrame (comes_to h comes k)
-none_here h comes k n = go (k == h)
-  where
-    go : (b : Bool) → IsNoFrame (cond b comes NoInput)
-    go true = n
-    go false = tt
+none_here h comes k n = by_test (k == h) (λ q. rw q n) (λ q. rw q tt)
 
 near_quiet : (b : ℕ) (l : Link) (comes : Comes) (ts : List Turn) (ending : Ending) → IsNoFrame comes → MayCome comes → AreSendableTurns ts → IsFineLink l
     → IsAckedWithin b l → IsAckedWithin b (happens l (AtController (Step comes ts ending)))

@@ -19,6 +19,7 @@ use Rattle.link_laws.specs.messages.Projection.{is_lost_tick}
 use Rattle.link_laws.proofs.messages.Project.{Tells}
 use Rattle.link_laws.proofs.messages.Runs.{Good, Reached, run, safe_reached}
 use Rattle.link_laws.proofs.messages.Whole.{sendable}
+use Rattle.node_laws.proofs.Cases.{by_test}
 use Rattle.node_laws.proofs.telling.Events.{after-append}
 use Rattle.node_laws.specs.acked.InTurn.{AllAtController, AllAtHost, TakesNoFrame, TakeNoFrames, AreTakenInTurn, AcksAtMost}
 use Rattle.node_laws.specs.acked.InTurn.{acked_at_controller, acked_at_host}
@@ -275,15 +276,11 @@ front_acks es front back l q a k t =
 
 whole_within : (ms : List Message) (places : ℕ) → AreSendable ms → whole_among ms places ≤ places
 whole_within [] places a = omega arith
-whole_within (m ∷ ms) places a = go (nat_le (packet_count (length m.1)) places) refl (whole_within ms (places - packet_count (length m.1)) a.1)
-  where
-    go : (b : Bool) → nat_le (packet_count (length m.1)) places ≡ b
-        → whole_among ms (places - packet_count (length m.1)) ≤ places - packet_count (length m.1) → whole_among (m ∷ ms) places ≤ places
-    go true q later =
-        let some : 1 ≤ packet_count (length m.1) = let z = a.0.1 in omega (arith, z) in
-        let fits = leb-true (packet_count (length m.1)) places q in
-        rw q (omega (arith, some, fits, later))
-    go false q later = rw q (omega arith)
+whole_within (m ∷ ms) places a = by_test (nat_le (packet_count (length m.1)) places)
+    (λ q. let some : 1 ≤ packet_count (length m.1) = let z = a.0.1 in omega (arith, z) in
+    let fits = leb-true (packet_count (length m.1)) places q in
+    rw q (omega (arith, some, fits, whole_within ms (places - packet_count (length m.1)) a.1)))
+    (λ q. rw q (omega arith))
 
 -- no more messages count as acknowledged than fragments
 pub whole_few : (h : NumberedEnd) → Tells h → whole_acked h.side ≤ h.side.shdlc.session.acked

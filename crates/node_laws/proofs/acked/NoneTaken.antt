@@ -1,9 +1,9 @@
 -- While no end of a link takes a frame, no more fragments count as acknowledged.
-use Rattle.std.proofs.Common.{◌≡◌, ℕ, ◌+◌, ◌≤◌, Bool, true, false, cond, List, [], ◌∷◌, Option, Some, None, refl, ap, ◌∙◌, arith, map}
+use Rattle.std.proofs.Common.{◌≡◌, ℕ, ◌+◌, ◌≤◌, Bool, true, false, List, [], ◌∷◌, Option, Some, None, refl, ap, ◌∙◌, arith, map}
 use Rattle.std.specs.Prelude.{is_some, nat_lt}
 use Rattle.shdlc_core.specs.declared.answers.LinkState.{LinkState}
 use Rattle.shdlc_core.specs.declared.answers.LinkState.TheVariants.{Down, Waiting, Up}
-use Rattle.shdlc_core.specs.Machine.{EndState, new_end, stopped, ticked, tick_answer, reset_with, waiting_from, is_waiting, runs_timer, most_frames}
+use Rattle.shdlc_core.specs.Machine.{EndState, new_end, stopped, ticked, tick_answer, reset_with, is_waiting, runs_timer, most_frames}
 use Rattle.link_laws.specs.sessions.Sessions.{OnWire, ShdlcLink, ShdlcTurn, shdlc_exchanged, is_up, shdlc_put_all, shdlc_becomes, with_shdlc_ended}
 use Rattle.link_laws.specs.sessions.Sessions.{shdlc_turn, shdlc_turned, act_frame, took_with, ShdlcEndEvent, ShdlcLinkEvent, AllShdlcAllowed, AreTurns, IsTurn}
 use Rattle.link_laws.specs.sessions.Sessions.{shdlc_silent, shdlc_happens_at_controller, shdlc_all_at_controller, shdlc_ticks_at_controller, shdlc_aged}
@@ -48,11 +48,7 @@ ticked_acked e = go e.phase (runs_timer e.session) (nat_lt (e.timer + 1) 10) (na
     go Up true false false p t u v = rw (p, t, u, v) (omega arith)
 
 reset_acked : (e : EndState) (w : ℕ) → (reset_with e w).session.acked ≤ e.session.acked
-reset_acked e w = go (is_waiting e)
-  where
-    go : (b : Bool) → (cond b e (waiting_from (record e { own_window = w }))).session.acked ≤ e.session.acked
-    go true = omega arith
-    go false = omega arith
+reset_acked e w = by_test (is_waiting e) (λ q. rw q (omega arith)) (λ q. rw q (omega arith))
 
 silent_acked : (l : ShdlcLink) (e : EndState) → e.session.acked ≡ 0 → acked_here (shdlc_silent l e) ≡ 0
 silent_acked l e none = go l.controller.side.phase refl

@@ -19,11 +19,11 @@ use Rattle.node_machine.specs.world.World.Happening.{Takes, Ticks as TimePassing
 use Rattle.node_machine.specs.world.Lines.{can_happen, happenings, frames_at}
 use Rattle.node_laws.specs.kept.Hosts.{AreDifferent}
 use Rattle.node_laws.specs.telling.Telling.{hosts_in}
-use Rattle.node_laws.proofs.Cases.{by_test}
+use Rattle.node_laws.proofs.Cases.{by_test, by_option}
 use Rattle.node_laws.proofs.telling.Nodes.{site_host}
 use Rattle.node_laws.specs.acked.InTurn.{AllAtController, AllAtHost, TakeNoFrames, AreTakenInTurn}
 use Rattle.node_machine.specs.world.Rounds.{ends_in_order, end_takes_all, ends_take_all}
-use Rattle.node_laws.specs.rounds.LinkEvents.{link_events_in, controller_takes, site_takes, takes_on, tick_so, ticks_on, on_site}
+use Rattle.node_laws.specs.rounds.LinkEvents.{link_events_in, controller_takes, site_takes, tick_so, ticks_on, on_site}
 use Rattle.node_laws.specs.rounds.RoundEvents.{events_on, ends_events, round_events}
 use Rattle.node_laws.proofs.rounds.Ends.{ends_of, order_is, ends-append, AreOthers, Split, split, events-append}
 
@@ -76,42 +76,28 @@ far_at s = go (input_of (exchanged s.link) NextFrame) s.node
     go (Some i) (Some r) = tt
 
 pub near_takes : (h k : ℕ) (w : NodeWorld) → AllAtController (link_events_in h w (Takes (end_c k)))
-near_takes h k w = go (site_at w.sites h)
-  where
-    go : (o : Option Site) → AllAtController (on_site o (λ s. takes_on s w (end_c k)))
-    go None = tt
-    go (Some s) = near_at s.host w k
+near_takes h k w = by_option (site_at w.sites h) (λ q. rw q tt) (λ s q. rw q (near_at s.host w k))
 
 pub far_takes : (h k : ℕ) (w : NodeWorld) → AllAtHost (link_events_in h w (Takes (end_h k)))
-far_takes h k w = go (site_at w.sites h)
+far_takes h k w = by_option (site_at w.sites h) (λ q. rw q tt) (λ s q. rw q (own (s.host == k) s))
   where
     own : (b : Bool) (s : Site) → AllAtHost (cond b (site_takes s) [])
     own true s = far_at s
     own false s = tt
 
-    go : (o : Option Site) → AllAtHost (on_site o (λ s. takes_on s w (end_h k)))
-    go None = tt
-    go (Some s) = own (s.host == k) s
-
 -- the end of another link
 other_near : (h k : ℕ) → (h == k) ≡ false → (w : NodeWorld) → TakeNoFrames (link_events_in h w (Takes (end_c k)))
-other_near h k other w = go (site_at w.sites h) refl
-  where
-    go : (o : Option Site) → site_at w.sites h ≡ o → TakeNoFrames (on_site o (λ s. takes_on s w (end_c k)))
-    go None q = tt
-    go (Some s) q =
-        let number : s.host ≡ h = site_host w.sites h s q in
-        near_none s.host w k (ap (λ n. n == k) number ∙ other)
+other_near h k other w = by_option (site_at w.sites h)
+    (λ q. rw q tt)
+    (λ s q. rw q (let number : s.host ≡ h = site_host w.sites h s q in
+    near_none s.host w k (ap (λ n. n == k) number ∙ other)))
 
 other_far : (h k : ℕ) → (h == k) ≡ false → (w : NodeWorld) → link_events_in h w (Takes (end_h k)) ≡ []
-other_far h k other w = go (site_at w.sites h) refl
-  where
-    go : (o : Option Site) → site_at w.sites h ≡ o → on_site o (λ s. takes_on s w (end_h k)) ≡ []
-    go None q = refl
-    go (Some s) q =
-        let number : s.host ≡ h = site_host w.sites h s q in
-        let not_own : (s.host == k) ≡ false = ap (λ n. n == k) number ∙ other in
-        rw not_own refl
+other_far h k other w = by_option (site_at w.sites h)
+    (λ q. rw q refl)
+    (λ s q. rw q (let number : s.host ≡ h = site_host w.sites h s q in
+    let not_own : (s.host == k) ≡ false = ap (λ n. n == k) number ∙ other in
+    rw not_own refl))
 
 -- ## Many frames
 
@@ -149,17 +135,15 @@ none_joins = record { none = tt; both = both }
 many : (P : List LinkEvent → Type 0) → Joins P → (h : ℕ) (e : End) → ((w : NodeWorld) → P (link_events_in h w (Takes e))) → (n : ℕ) (w : NodeWorld)
     → P (events_on h w (replicate n (Takes e)))
 many P joins h e each zero w = joins.none
-many P joins h e each (suc n) w = go (can_happen w (Takes e)) (many P joins h e each n (world_step w (Takes e)).0)
+many P joins h e each (suc n) w = by_test (can_happen w (Takes e))
+    (λ q. rw q (joins.both now later (each w) (many P joins h e each n (world_step w (Takes e)).0)))
+    (λ q. rw q joins.none)
   where
     now : List LinkEvent
     now = link_events_in h w (Takes e)
 
     later : List LinkEvent
     later = events_on h (world_step w (Takes e)).0 (replicate n (Takes e))
-
-    go : (b : Bool) → P later → P (cond b (now ++ later) [])
-    go true more = joins.both now later (each w) more
-    go false more = joins.none
 
 -- the ends of other links take frames
 others : (P : List LinkEvent → Type 0) → Joins P → (h : ℕ) → ((k : ℕ) → (h == k) ≡ false → (w : NodeWorld) → P (link_events_in h w (Takes (end_c k))))

@@ -1,6 +1,6 @@
 -- What walks over a history find says of each fact of `Answered` whether it holds.
 use Rattle.std.proofs.Common.{◌≡◌, refl, ap, ap₂, sym, subst, append_assoc, append-nil, ℕ, Bool, true}
-use Rattle.std.proofs.Common.{false, true≢false, cond, eqb, List, [], ◌∷◌, ◌++◌, drop, Option, Some, None}
+use Rattle.std.proofs.Common.{false, true≢false, eqb, List, [], ◌∷◌, ◌++◌, drop, Option, Some, None}
 use Rattle.std.specs.Prelude.{◌==◌, ◌&&◌, not}
 use Rattle.std.specs.List.{AllByRecursion, list_any}
 use Rattle.std.specs.Option.{option_map_or}
@@ -15,8 +15,8 @@ use Rattle.node_machine.specs.world.World.{node_of}
 use Rattle.node_machine.specs.world.Lines.{Occurrence}
 use Rattle.node_machine.specs.world.NodeHistories.{NodeHistory, entries_in, node_entries, occurrences_in}
 use Rattle.node_machine.specs.world.NodeLegal.{AreInTurn}
+use Rattle.node_laws.proofs.Cases.{by_test}
 use Rattle.node_laws.proofs.turns.Queues.{Becomes, Front, Goes, all_left, doing, front_goes}
-use Rattle.node_laws.proofs.turns.Queues.Doing.{Adds, Clears, Nothing, Takes}
 use Rattle.node_laws.specs.answers.Answered.{AreDone, AreDue, AreLeftShort, AreReset, IsHeldFor, IsReplied, ends_in, is_done, is_left_short, through}
 use Rattle.node_laws.specs.answers.Moments.{AtEachEntry, AtEachOccurrence, Moment, noted_of_deeds, unhandled_after, unhandled_in}
 use Rattle.node_laws.specs.answers.Order.{HearsFirst, NodesHearFirst, TurnsAscend, answerer, hears}
@@ -77,22 +77,12 @@ AreFirst before t = (front back : List Entry) (x : Entry) → t ≡ front ++ (x 
 module _ (e : End) where
   becomes : (before : List Entry) (x : Entry) → IsFirstThere before x
       → Becomes (doing e x) (unhandled_in before e) (unhandled_after e (unhandled_in before e) x)
-  becomes before (entry.Got f n pid message) first = by (same_end f e) where
-    by : (b : Bool) → Becomes (cond b (Adds (pid, message)) Nothing) (unhandled_in before e)
-        (cond b (unhandled_in before e ++ (pid, message) ∷ []) (unhandled_in before e))
-    by true = refl
-    by false = refl
-  becomes before (entry.Turn f pid message) first = by (same_end f e) refl where
-    by : (b : Bool) → same_end f e ≡ b
-        → Becomes (cond b (Takes (pid, message)) Nothing) (unhandled_in before e) (cond b (drop 1 (unhandled_in before e)) (unhandled_in before e))
-    by true z =
-        first_dropped (unhandled_in before e) (pid, message)
-        (subst (λ g. oldest (unhandled_in before g) ≡ Some (pid, message)) (end_is f e z) first)
-    by false z = refl
-  becomes before (entry.Booted node k) first = by (node == node_of e) where
-    by : (b : Bool) → Becomes (cond b Clears Nothing) (unhandled_in before e) (cond b [] (unhandled_in before e))
-    by true = refl
-    by false = refl
+  becomes before (entry.Got f n pid message) first = by_test (same_end f e) (λ q. rw q refl) (λ q. rw q refl)
+  becomes before (entry.Turn f pid message) first = by_test (same_end f e)
+      (λ z. rw z (first_dropped (unhandled_in before e) (pid, message)
+      (subst (λ g. oldest (unhandled_in before g) ≡ Some (pid, message)) (end_is f e z) first)))
+      (λ z. rw z refl)
+  becomes before (entry.Booted node k) first = by_test (node == node_of e) (λ q. rw q refl) (λ q. rw q refl)
   becomes before x first = refl
 
   goes_on : (t before : List Entry) → AreFirst before t → Goes e (unhandled_in before e) t (unhandled_in (before ++ t) e)

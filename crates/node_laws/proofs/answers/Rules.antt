@@ -32,6 +32,7 @@ use Rattle.node_machine.specs.Turns.{deeds_for}
 use Rattle.node_machine.proofs.Walks.{deeds_near, deeds_far}
 use Rattle.node_laws.specs.answers.Rows.{first_row, far_host, is_order, is_relayed, leads_to_gate, waiting_for, decides, controller_rows, host_rows}
 use Rattle.node_laws.specs.answers.Rules.{IsForAsker, IsSentAsAllowed, IsAskedAsAllowed, commits_first}
+use Rattle.node_laws.proofs.Cases.{by_option, by_test}
 use Rattle.node_laws.proofs.answers.Rows.{controller_by_rows}
 use Rattle.node_laws.proofs.answers.HostRows.{host_by_rows}
 
@@ -66,28 +67,22 @@ module _ (v : NodeView) (h : ℕ) (m : Message) where
 
   decided_fine : (d : Decision) → Fine (decides v h m d)
   decided_fine (Answer answer) = (inl refl, tt)
-  decided_fine (Commit c answer tell notice) = by (v.own.has_room c) where
-    by : (b : Bool) → Fine (commit_deeds b h m.0 c answer.items (map (λ y. Tells y notice.items) (hosts_where (has tell))))
-    by true = (tt, (inl refl, (tt, told_fine notice.items (hosts_where (has tell)))))
-    by false = (inl refl, tt)
+  decided_fine (Commit c answer tell notice) = by_test (v.own.has_room c)
+      (λ q. rw q (tt, (inl refl, (tt, told_fine notice.items (hosts_where (has tell))))))
+      (λ q. rw q (inl refl, tt))
   decided_fine (Ask dest notice c answer) = (tt, tt)
 
   counted_fine : (answer : List ℕ × Option ℕ) → Fine (link_deeds h m.0 answer)
-  counted_fine answer = by answer.1 where
-    by : (o : Option ℕ) → Fine (link_deeds h m.0 (answer.0, o))
-    by None = (inl refl, tt)
-    by (Some errors) = (tt, (inl refl, tt))
+  counted_fine answer = by_option answer.1 (λ q. rw q (inl refl, tt)) (λ errors q. rw q (tt, (inl refl, tt)))
 
   agreed_fine : (o : Option Creation) → waiting_for v h ≡ o
       → Fine (option_map_or (λ c. agreed (eqb (instruction_in m.1) 0 && v.own.has_room c.command) c) o [])
   agreed_fine None is = tt
-  agreed_fine (Some c) is = by (eqb (instruction_in m.1) 0 && v.own.has_room c.command) where
-    asker : IsForAsker v h c.asker
-    asker = record { creation = c; waits = is; asker = refl }
-
-    by : (b : Bool) → Fine (agreed b c)
-    by true = (tt, (tt, (tt, (inr (inr asker), (tt, tt)))))
-    by false = (tt, (tt, (inr (inr asker), tt)))
+  agreed_fine (Some c) is = by_test (eqb (instruction_in m.1) 0 && v.own.has_room c.command)
+      (λ q. rw q (tt, (tt, (tt, (inr (inr asker), (tt, tt))))))
+      (λ q. rw q (tt, (tt, (inr (inr asker), tt)))) where
+        asker : IsForAsker v h c.asker
+        asker = record { creation = c; waits = is; asker = refl }
 
   relayed_fine : is_relayed v h m ≡ true → Fine (Sends (far_host v h m) m ∷ [])
   relayed_fine on =
@@ -158,24 +153,19 @@ module _ (v : NodeView) (h : ℕ) (m : Message) where
 
   decided_asked : (d : Decision) → AsksAsAllowed v.own.tables (v.links h) h d → Asked (decides v h m d)
   decided_asked (Answer answer) allowed = (tt, tt)
-  decided_asked (Commit c answer tell notice) allowed = by (v.own.has_room c) where
-    by : (b : Bool) → Asked (commit_deeds b h m.0 c answer.items (map (λ y. Tells y notice.items) (hosts_where (has tell))))
-    by true = (tt, (tt, (tt, told_asked notice.items (hosts_where (has tell)))))
-    by false = (tt, tt)
+  decided_asked (Commit c answer tell notice) allowed = by_test (v.own.has_room c)
+      (λ q. rw q (tt, (tt, (tt, told_asked notice.items (hosts_where (has tell))))))
+      (λ q. rw q (tt, tt))
   decided_asked (Ask dest notice c answer) allowed = ((refl, allowed), tt)
 
   counted_asked : (answer : List ℕ × Option ℕ) → Asked (link_deeds h m.0 answer)
-  counted_asked answer = by answer.1 where
-    by : (o : Option ℕ) → Asked (link_deeds h m.0 (answer.0, o))
-    by None = (tt, tt)
-    by (Some errors) = (tt, (tt, tt))
+  counted_asked answer = by_option answer.1 (λ q. rw q (tt, tt)) (λ errors q. rw q (tt, (tt, tt)))
 
   agreed_asked : (o : Option Creation) → Asked (option_map_or (λ c. agreed (eqb (instruction_in m.1) 0 && v.own.has_room c.command) c) o [])
   agreed_asked None = tt
-  agreed_asked (Some c) = by (eqb (instruction_in m.1) 0 && v.own.has_room c.command) where
-    by : (b : Bool) → Asked (agreed b c)
-    by true = (tt, (tt, (tt, (tt, (tt, tt)))))
-    by false = (tt, (tt, (tt, tt)))
+  agreed_asked (Some c) = by_test (eqb (instruction_in m.1) 0 && v.own.has_room c.command)
+      (λ q. rw q (tt, (tt, (tt, (tt, (tt, tt))))))
+      (λ q. rw q (tt, (tt, (tt, tt))))
 
   -- a command that administration decides is on an opened pipe of the host, and neither opens nor closes it
   administered : is_command_message m.1 ≡ true → (is_command_message m.1 && is_none (far_end v.own.tables h m.0)) ≡ false
@@ -271,10 +261,7 @@ committed_in_order true h pipe c answer message hosts = told_last false true mes
 committed_in_order false h pipe c answer message hosts = refl
 
 counted_in_order : (h pipe : ℕ) (answer : List ℕ × Option ℕ) → InOrder (link_deeds h pipe answer)
-counted_in_order h pipe answer = by answer.1 where
-  by : (o : Option ℕ) → InOrder (link_deeds h pipe (answer.0, o))
-  by None = refl
-  by (Some errors) = refl
+counted_in_order h pipe answer = by_option answer.1 (λ q. rw q refl) (λ errors q. rw q refl)
 
 module _ (v : NodeView) (h : ℕ) (m : Message) where
   decided_in_order : (d : Decision) → InOrder (decides v h m d)
@@ -284,10 +271,7 @@ module _ (v : NodeView) (h : ℕ) (m : Message) where
 
   agreed_in_order : (o : Option Creation) → InOrder (option_map_or (λ c. agreed (eqb (instruction_in m.1) 0 && v.own.has_room c.command) c) o [])
   agreed_in_order None = refl
-  agreed_in_order (Some c) = by (eqb (instruction_in m.1) 0 && v.own.has_room c.command) where
-    by : (b : Bool) → InOrder (agreed b c)
-    by true = refl
-    by false = refl
+  agreed_in_order (Some c) = by_test (eqb (instruction_in m.1) 0 && v.own.has_room c.command) (λ q. rw q refl) (λ q. rw q refl)
 
   near_in_order : HoldsInRows InOrder (controller_rows v h m)
   near_in_order = (
@@ -345,10 +329,6 @@ module _ (own : OwnView) where
   accepted_in_order : (c : Command) → InOrder (accepts own c)
   accepted_in_order c = committed_in_order (own.has_room c) own.node 1 c (answer_of response.Ok []) [] []
 
-  created_in_order : (o : Option PipeRow) → InOrder (option_map_or (λ row. accepts own (Create row)) o [])
-  created_in_order None = refl
-  created_in_order (Some row) = accepted_in_order (Create row)
-
   learns_then : (deeds : List Deed) → IsUnsent deeds → (c : Command) → IsUnsent (learns own c ++ deeds)
   learns_then deeds rest c begun =
       cond_both (is_command c && own.has_room c) (Commits c ∷ []) [] (λ xs. commits_first begun false (xs ++ deeds) ≡ true) (λ _. rest true) (λ _. rest begun)
@@ -403,7 +383,7 @@ module _ (own : OwnView) where
   far_in_order e m = (
     λ _. refl,
     λ _. (
-      λ _. created_in_order (pipe_named_in (body_in m.1)),
+      λ _. by_option (pipe_named_in (body_in m.1)) (λ q. rw q refl) (λ row q. rw q (accepted_in_order (Create row))),
       λ _. (
         λ _. refl,
         λ _. (

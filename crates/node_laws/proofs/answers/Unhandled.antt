@@ -15,6 +15,7 @@ use Rattle.node_machine.specs.world.World.{node_of}
 use Rattle.node_machine.specs.world.NodeLegal.{since_boot, got_entry, turn_entry_at, AreInTurn}
 use Rattle.node_laws.specs.turns.Turns.{AreLeft}
 use Rattle.node_laws.specs.answers.Moments.{unhandled_after, unhandled_in}
+use Rattle.node_laws.proofs.Cases.{by_test}
 use Rattle.history.proofs.Filters.{same_end_itself}
 
 -- what was noted since a node booted, with one entry more
@@ -84,27 +85,18 @@ module _ (e : End) where
 
   over_one : (t : List Entry) (x : Entry) → AreLeft e t (unhandled_in t e) → IsFrontOf (turns (t ++ x ∷ [])) (gots (t ++ x ∷ []))
       → Over t x (unhandled_after e (unhandled_in t e) x)
-  over_one t (entry.Got f n pid message) left front = go (same_end f e) refl
-    where
-      go : (b : Bool) → same_end f e ≡ b
-          → Over t (entry.Got f n pid message) (if b then unhandled_in t e ++ (pid, message) ∷ [] else unhandled_in t e)
-      go true z = came t (entry.Got f n pid message) (unhandled_in t e) (pid, message) refl (rw z refl) refl left
-      go false z = same t (entry.Got f n pid message) (unhandled_in t e) refl (rw z refl) refl left
-  over_one t (entry.Turn f pid message) left front = go (same_end f e) refl
-    where
-      go : (b : Bool) → same_end f e ≡ b → Over t (entry.Turn f pid message) (if b then drop 1 (unhandled_in t e) else unhandled_in t e)
-      go true z =
-          let first : unhandled_in t e ≡ (pid, message) ∷ front.0 =
-          is_first t (entry.Turn f pid message) (unhandled_in t e) front.0 (pid, message) refl refl (rw z refl) left front.1 in
-          sym front.1 ∙ ap (λ l. turns (t ++ entry.Turn f pid message ∷ []) ++ l) (sym (ap (drop 1) first))
-      go false z = same t (entry.Turn f pid message) (unhandled_in t e) refl refl (rw z refl) left
-  over_one t (entry.Booted node k) left front = go (node == node_of e) refl
-    where
-      go : (b : Bool) → (node == node_of e) ≡ b → Over t (entry.Booted node k) (if b then [] else unhandled_in t e)
-      go true z =
-          let none : since_boot (node_of e) [] (t ++ entry.Booted node k ∷ []) ≡ [] = since_with (node_of e) t [] (entry.Booted node k) ∙ rw z refl in
-          ap (filter_map (got_entry e)) none ∙ sym (ap (λ l. filter_map (turn_entry_at e) l ++ []) none)
-      go false z = same t (entry.Booted node k) (unhandled_in t e) (rw z refl) refl refl left
+  over_one t (entry.Got f n pid message) left front = by_test (same_end f e)
+      (λ z. rw z (came t (entry.Got f n pid message) (unhandled_in t e) (pid, message) refl (rw z refl) refl left))
+      (λ z. rw z (same t (entry.Got f n pid message) (unhandled_in t e) refl (rw z refl) refl left))
+  over_one t (entry.Turn f pid message) left front = by_test (same_end f e)
+      (λ z. rw z (let first : unhandled_in t e ≡ (pid, message) ∷ front.0 =
+      is_first t (entry.Turn f pid message) (unhandled_in t e) front.0 (pid, message) refl refl (rw z refl) left front.1 in
+      sym front.1 ∙ ap (λ l. turns (t ++ entry.Turn f pid message ∷ []) ++ l) (sym (ap (drop 1) first))))
+      (λ z. rw z (same t (entry.Turn f pid message) (unhandled_in t e) refl refl (rw z refl) left))
+  over_one t (entry.Booted node k) left front = by_test (node == node_of e)
+      (λ z. rw z (let none : since_boot (node_of e) [] (t ++ entry.Booted node k ∷ []) ≡ [] = since_with (node_of e) t [] (entry.Booted node k) ∙ rw z refl in
+      ap (filter_map (got_entry e)) none ∙ sym (ap (λ l. filter_map (turn_entry_at e) l ++ []) none)))
+      (λ z. rw z (same t (entry.Booted node k) (unhandled_in t e) (rw z refl) refl refl left))
   over_one t x left front = same t x (unhandled_in t e) refl refl refl left
 
   reads_on : (t front more back : List Entry) → AreInTurn t → t ≡ front ++ (more ++ back) → AreLeft e front (unhandled_in front e)

@@ -1,5 +1,5 @@
 -- Whatever happens to a new world, what its nodes commit is paid for by what came of the causes.
-use Rattle.std.proofs.Common.{◌≡◌, ℕ, ◌+◌, ◌≤◌, Bool, true, false, List, [], ◌∷◌, ◌++◌, length, sym, refl, ap, ◌∙◌, subst, arith, append-nil, append_assoc}
+use Rattle.std.proofs.Common.{◌≡◌, ℕ, ◌+◌, ◌≤◌, Bool, true, List, [], ◌∷◌, ◌++◌, length, sym, refl, ap, ◌∙◌, subst, arith, append-nil, append_assoc}
 use Rattle.std.proofs.lemmas.Bool.{true≢false}
 use Rattle.std.proofs.lemmas.List.{length-map}
 use Rattle.std.proofs.lemmas.List.Concat.{flat_map-append}
@@ -15,6 +15,7 @@ use Rattle.node_machine.specs.world.Lines.{Occurrence, can_happen, all_happen}
 use Rattle.node_machine.specs.world.NodeHistories.{FollowsNodes, NodeHistory, entries_in}
 use Rattle.node_laws.specs.kept.Hosts.{AreHosts}
 use Rattle.node_laws.specs.telling.Telling.{MayBoot, world_behind}
+use Rattle.node_laws.proofs.Cases.{by_test}
 use Rattle.node_laws.proofs.telling.Lasting.{occurs}
 use Rattle.node_laws.proofs.links.Playing.{MayHappen}
 use Rattle.node_laws.proofs.order.Lines.{IsSo, of_none, next_so, history_so}
@@ -94,25 +95,16 @@ module _ (hosts : List ℕ) (most : length hosts ≤ 7) where
       let same : commands_noted (entries_in (os ++ [])) ≡ commands_noted (entries_in os) = ap (λ l. commands_noted (entries_in l)) (append-nil os) in
       omega (arith, few, same)
   all_so (c ∷ causes) all os w a may =
-      go (can_happen w c) (all_so causes (all + commands_by c) (os ++ occurs w c ∷ []) (world_step w c).0 (more_so all os w c a may.0) may.1)
+      by_test (can_happen w c)
+      (λ q. rw q (let same : commands_noted (entries_in ((os ++ occurs w c ∷ []) ++ later.1)) ≡ commands_noted (entries_in (os ++ (occurs w c ∷ later.1))) =
+      ap (λ l. commands_noted (entries_in l)) (append_assoc os (occurs w c ∷ []) later.1) in
+      omega (arith, all_so causes (all + commands_by c) (os ++ occurs w c ∷ []) (world_step w c).0 (more_so all os w c a may.0) may.1, same)))
+      (λ q. rw q (let few = few_so all os w a in
+      let same : commands_noted (entries_in (os ++ [])) ≡ commands_noted (entries_in os) = ap (λ l. commands_noted (entries_in l)) (append-nil os) in
+      omega (arith, few, same)))
     where
       later : NodeWorld × List Occurrence
       later = all_happen (world_step w c).0 causes
-
-      by : Bool → NodeWorld × List Occurrence
-      by true = (later.0, occurs w c ∷ later.1)
-      by false = (w, [])
-
-      go : (b : Bool) → commands_noted (entries_in ((os ++ occurs w c ∷ []) ++ later.1)) ≤ (all + commands_by c) + commands_by_all causes
-          → commands_noted (entries_in (os ++ (by b).1)) ≤ all + commands_by_all (c ∷ causes)
-      go true rest =
-          let same : commands_noted (entries_in ((os ++ occurs w c ∷ []) ++ later.1)) ≡ commands_noted (entries_in (os ++ (occurs w c ∷ later.1))) =
-          ap (λ l. commands_noted (entries_in l)) (append_assoc os (occurs w c ∷ []) later.1) in
-          omega (arith, rest, same)
-      go false rest =
-          let few = few_so all os w a in
-          let same : commands_noted (entries_in (os ++ [])) ≡ commands_noted (entries_in os) = ap (λ l. commands_noted (entries_in l)) (append-nil os) in
-          omega (arith, few, same)
 
   all_events : (events : List Occurrence) (all : ℕ) (os : List Occurrence) (w : NodeWorld) → PaidSo hosts all os w → AreCausedSo w events
       → commands_noted (entries_in (os ++ events)) ≤ all + commands_by_events events

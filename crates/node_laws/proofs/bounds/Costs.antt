@@ -1,10 +1,9 @@
 -- What is noted is counted: commands that are committed cost, and so do messages that are sent and may bring about others; messages that have
 -- their turns pay for them.
-use Rattle.std.proofs.Common.{◌≡◌, ℕ, ◌+◌, ◌≤◌, ◌&&◌, Bool, true, false, eqb, List, [], ◌∷◌, ◌++◌, refl, ap, ◌∙◌, arith, Option}
+use Rattle.std.proofs.Common.{◌≡◌, ℕ, ◌+◌, ◌≤◌, ◌&&◌, Bool, true, false, eqb, List, [], ◌∷◌, ◌++◌, refl, ap, arith, Option}
 use Rattle.std.proofs.Common.{Some, None}
 use Rattle.std.specs.Prelude.{not}
 use Rattle.std.specs.List.{AllByRecursion}
-use Rattle.std.proofs.lemmas.List.Concat.{flat_map-append}
 use Rattle.trace_model.specs.declared.entry.Entry.{Entry}
 use Rattle.trace_model.specs.declared.entry.Entry.TheVariants as entry
 use Rattle.link_laws.specs.machine.Machine.{Message, Report, Refused}
@@ -89,9 +88,6 @@ off_free pid m off = ap (λ c. worth 1 (c && is_command_message m)) off
 
 abbrev pub costs_at : ℕ → List Noted → ℕ
 costs_at h notes = costs (entries_for h notes)
-
-costs_at-append : (h : ℕ) (xs ys : List Noted) → costs_at h (xs ++ ys) ≡ costs_at h xs + costs_at h ys
-costs_at-append h xs ys = ap costs (flat_map-append (entry_of h) xs ys) ∙ costs-append (entries_for h xs) (entries_for h ys)
 
 -- it tells of no message that is sent
 abbrev pub IsNoSent : Noted → Type 0

@@ -14,14 +14,15 @@ use Rattle.hci_store.specs.Committing.{commit_writes}
 use Rattle.link_laws.specs.machine.Machine.{Message, Turn, give_refusal}
 use Rattle.link_laws.specs.machine.Machine.Turn.{Give, SetAside, Release}
 use Rattle.link_laws.specs.entries.Entries.{End as Side}
-use Rattle.node_machine.specs.Parts.{Init, Creation, Notice, Core, Port, Work, Deed}
+use Rattle.node_machine.specs.Parts.{Init, Notice, Core, Port, Work, Deed}
 use Rattle.node_machine.specs.Parts.About.{Waits, Removed}
 use Rattle.node_machine.specs.Parts.Deed.{Commits, Sends, SaysOk, Asks, Releases, Tells, IsAnswered, Drops, SetsErrors, Orders, Hears, GoesOn, Ends}
-use Rattle.node_machine.specs.Carrying.{own_side, end_of_node, noting, port_at, with_port, with_desk, after_turn, noted_of, turn_at, loses_power, keeps}
+use Rattle.node_machine.specs.Carrying.{own_side, end_of_node, noting, port_at, with_port, with_desk, after_turn, noted_of, turn_at}
 use Rattle.node_machine.specs.Carrying.{commit, done, all_done}
 use Rattle.node_machine.specs.Controller.{creation_in}
+use Rattle.node_laws.proofs.Cases.{by_option, by_test}
 use Rattle.node_laws.proofs.bounds.Costs.{costs, pays, cost, message_cost, costs-append, pays-append, is_host_side, sent_most}
-use Rattle.node_laws.proofs.bounds.Holding.{core_holds, ports_hold, notice_holds, waiting, order_holds, init_holds, init_left, holds_at, with_less}
+use Rattle.node_laws.proofs.bounds.Holding.{core_holds, ports_hold, notice_holds, order_holds, init_holds, init_left, holds_at, with_less}
 use Rattle.node_laws.proofs.bounds.Holding.{with_more, frees}
 
 -- What was noted so far, with what the node keeps and what it may still spend, is paid for by what had its turn and by what was there.
@@ -126,25 +127,18 @@ module _ (side : Side) (all : ℕ) where
   -- ## Deeds
 
   pub committed : (left : ℕ) (c : Command) (w : Work) → Owes side (left + 1) all w → Owes side left all (commit c w)
-  committed left c w a = go (fails_within (length writes) w.plan) where
-    writes : List Write
-    writes = commit_writes w.core.journal w.core.tables (body_of c)
+  committed left c w a = by_test (fails_within (length writes) w.plan)
+      (λ q. rw q (let v : Work = record begun { writes = begun.writes ++ writes; plan = None; cut = true } in
+      noted left left (entry.Cut w.core.node ∷ []) v (omega arith) (record { side_is = told.side_is; few = told.few; owes = told.owes })))
+      (λ q. rw q (record { side_is = told.side_is; few = told.few; owes = told.owes })) where
+        writes : List Write
+        writes = commit_writes w.core.journal w.core.tables (body_of c)
 
-    begun : Work
-    begun = noting (entry.Command w.core.node c ∷ []) w
+        begun : Work
+        begun = noting (entry.Command w.core.node c ∷ []) w
 
-    told : Owes side left all begun
-    told = noted left (left + 1) (entry.Command w.core.node c ∷ []) w (omega arith) a
-
-    by : Bool → Work
-    by true = loses_power writes begun
-    by false = keeps c writes begun
-
-    go : (b : Bool) → Owes side left all (by b)
-    go true =
-        let v : Work = record begun { writes = begun.writes ++ writes; plan = None; cut = true } in
-        noted left left (entry.Cut w.core.node ∷ []) v (omega arith) (record { side_is = told.side_is; few = told.few; owes = told.owes })
-    go false = record { side_is = told.side_is; few = told.few; owes = told.owes }
+        told : Owes side left all begun
+        told = noted left (left + 1) (entry.Command w.core.node c ∷ []) w (omega arith) a
 
   -- a notice goes to a host: one of a creation holds two at its end
   asked : (left h : ℕ) (notice : Notice) (message : List ℕ) (w : Work) → Owes side (left + (message_cost (is_host_side side) 1 message + 14)) all w
@@ -158,10 +152,7 @@ module _ (side : Side) (all : ℕ) where
       ended left (left + 14) h f (turn_at h (Give (1, message)) w) (omega (arith, more, few)) sent
     where
       holds_two : (n : Notice) → notice_holds (Some n) ≤ 0 + 2
-      holds_two n = most (creation_in (Some n)) where
-        most : (o : Option Creation) → waiting o ≤ 2
-        most None = omega arith
-        most (Some c) = omega arith
+      holds_two n = by_option (creation_in (Some n)) (λ q. rw q (omega arith)) (λ c q. rw q (omega arith))
 
   told : (left h : ℕ) (message : List ℕ) (w : Work) → Owes side (left + message_cost (is_host_side side) 1 message) all w
       → Owes side left all (with_desk h (λ d. record d { notice = Some (record { about = Removed; age = 0 }) }) (turn_at h (Give (1, message)) w))

@@ -7,6 +7,7 @@ use Rattle.node_machine.specs.Parts.{Init, Creation, Notice, Desk, Core, Running
 use Rattle.node_machine.specs.Carrying.{port_at, changed_if, with_port}
 use Rattle.node_machine.specs.Controller.{creation_in, asked_at}
 use Rattle.node_machine.specs.HostReplies.{orders_of}
+use Rattle.node_laws.proofs.Cases.{by_test}
 
 -- of a creation that waits come its command and an answer
 abbrev pub waiting : Option Creation → ℕ
@@ -88,23 +89,17 @@ holds_at h ports = option_map_or (λ (p : Port). waiting (asked_at p)) (port_at 
 pub stays_at : (h : ℕ) (f : Port → Port) → ((p : Port) → (f p).desk.host ≡ p.desk.host) → ((p : Port) → (f p).desk.notice ≡ p.desk.notice)
     → (ports : List Port) → holds_at h (with_port h f ports) ≡ holds_at h ports
 stays_at h f host notice [] = refl
-stays_at h f host notice (p ∷ ports) = go (eqb p.desk.host h) refl (stays_at h f host notice ports) where
-  go : (b : Bool) → eqb p.desk.host h ≡ b → holds_at h (with_port h f ports) ≡ holds_at h ports
-      → holds_at h (with_port h f (p ∷ ports)) ≡ holds_at h (p ∷ ports)
-  go true q rest =
-      let is : eqb (f p).desk.host h ≡ true = ap (λ n. eqb n h) (host p) ∙ q in
-      rw (q, is) (ap notice_holds (notice p))
-  go false q rest = rw (q, q) rest
+stays_at h f host notice (p ∷ ports) = by_test (eqb p.desk.host h)
+    (λ q. let is : eqb (f p).desk.host h ≡ true = ap (λ n. eqb n h) (host p) ∙ q in
+    rw (q, is) (ap notice_holds (notice p)))
+    (λ q. rw (q, q) (stays_at h f host notice ports))
 
 -- where the notice is answered, it holds nothing any more
 pub frees : (h : ℕ) (f : Port → Port) → ((p : Port) → notice_holds (f p).desk.notice ≡ 0) → (ports : List Port)
     → ports_hold (with_port h f ports) + holds_at h ports ≤ ports_hold ports
 frees h f none [] = omega arith
-frees h f none (p ∷ ports) = go (eqb p.desk.host h) refl (frees h f none ports) where
-  less : ports_hold (with_port h f ports) ≤ ports_hold ports
-  less = with_less h f (λ p. let z = none p in omega (arith, z)) ports
-
-  go : (b : Bool) → eqb p.desk.host h ≡ b → ports_hold (with_port h f ports) + holds_at h ports ≤ ports_hold ports
-      → ports_hold (with_port h f (p ∷ ports)) + holds_at h (p ∷ ports) ≤ ports_hold (p ∷ ports)
-  go true q rest = let z = none p in rw q (omega (arith, less, z))
-  go false q rest = rw q (omega (arith, rest))
+frees h f none (p ∷ ports) = by_test (eqb p.desk.host h)
+    (λ q. let z = none p in rw q (omega (arith, less, z)))
+    (λ q. rw q (omega (arith, frees h f none ports))) where
+      less : ports_hold (with_port h f ports) ≤ ports_hold ports
+      less = with_less h f (λ p. let z = none p in omega (arith, z)) ports

@@ -16,10 +16,10 @@ use Rattle.node_machine.specs.Parts.{Running}
 use Rattle.node_machine.specs.world.World.{NodeWorld, Happening, node_at, new_world, world_step}
 use Rattle.node_machine.specs.world.World.Happening.{Takes, Ticks}
 use Rattle.node_machine.specs.world.Lines.{if_true, if_off, first_cause, frames_at, refusal_in, happens_by, happenings, Occurrence, can_happen, all_happen}
-use Rattle.node_machine.specs.world.Lines.{LineOutcome, tables_told, goes_on, line_step}
-use Rattle.node_machine.specs.world.Lines.LineOutcome.{WasRefused}
+use Rattle.node_machine.specs.world.Lines.{tables_told, goes_on, line_step}
 use Rattle.node_machine.specs.world.NodeHistories.{FollowsNodes, NodeHistory, steps_from, occurrences_of, occurrences_in, entries_in}
 use Rattle.node_laws.specs.links.Runs.{ArePlayable, IsPlayable}
+use Rattle.node_laws.proofs.Cases.{by_option, by_test}
 use Rattle.node_laws.proofs.telling.Lasting.{AllMay, AreCaused, events_of_steps, lines_caused, repeated_may, damaged_may}
 use Rattle.node_laws.specs.reply_passes.Counts.{commands_noted}
 use Rattle.node_laws.specs.schedules.Ranges.{IsNodeLineOf, AreNodeLinesOf, asking, lines_asking}
@@ -97,17 +97,7 @@ by-append (o ∷ xs) ys = let rest = by-append xs ys in omega (arith, rest)
 -- what happens comes of no more than was to happen
 happened_most : (causes : List Happening) (w : NodeWorld) → commands_by_events (all_happen w causes).1 ≤ commands_by_all causes
 happened_most [] w = omega arith
-happened_most (c ∷ causes) w = go (can_happen w c) (happened_most causes (world_step w c).0) where
-  later : NodeWorld × List Occurrence
-  later = all_happen (world_step w c).0 causes
-
-  by : Bool → NodeWorld × List Occurrence
-  by true = (later.0, record { cause = c; entries = (world_step w c).1 } ∷ later.1)
-  by false = (w, [])
-
-  go : (b : Bool) → commands_by_events later.1 ≤ commands_by_all causes → commands_by_events (by b).1 ≤ commands_by_all (c ∷ causes)
-  go true rest = omega (arith, rest)
-  go false rest = omega arith
+happened_most (c ∷ causes) w = by_test (can_happen w c) (λ q. rw q (omega (arith, happened_most causes (world_step w c).0))) (λ q. rw q (omega arith))
 
 told_none : (n : ℕ) (o : Option Running) → commands_by_events (occurrences_of (tables_told n o)) ≡ 0
 told_none n None = refl
@@ -129,14 +119,9 @@ goes_most w (line.Init e identity pipes) = happened_most (happenings w (line.Ini
 goes_most w _ = happened_most [] w
 
 step_most : (header : Header) (w : NodeWorld) (l : Line) → IsNodeLineOf header l → commands_by_events (occurrences_of (line_step w l).1) ≤ 234 * asking l
-step_most header w l is = go (refusal_in w l) where
-  by : Option NoCause → NodeWorld × LineOutcome
-  by (Some why) = (w, WasRefused why)
-  by None = goes_on w l
-
-  go : (o : Option NoCause) → commands_by_events (occurrences_of (by o).1) ≤ 234 * asking l
-  go (Some why) = omega arith
-  go None = let one = goes_most w l in let most = line_most header w l is in omega (arith, one, most)
+step_most header w l is = by_option (refusal_in w l)
+    (λ q. rw q (let one = goes_most w l in let most = line_most header w l is in omega (arith, one, most)))
+    (λ why q. rw q (omega arith))
 
 steps_most : (header : Header) (lines : List Line) (w : NodeWorld) → AreNodeLinesOf header lines
     → commands_by_events (events_of_steps (steps_from w lines)) ≤ 234 * lines_asking lines

@@ -1,5 +1,5 @@
 -- Identifiers of UICCs on a link: those on the wire and those that the host may still send, over what happens there.
-use Rattle.std.proofs.Common.{◌≡◌, ℕ, zero, suc, ◌+◌, ◌-◌, ◌≤◌, Bool, true, false, cond, List, [], ◌∷◌, ◌++◌, length, take, drop, refl, ap, ◌∙◌}
+use Rattle.std.proofs.Common.{◌≡◌, ℕ, zero, suc, ◌+◌, ◌-◌, ◌≤◌, Bool, true, false, List, [], ◌∷◌, ◌++◌, length, take, drop, refl, ap, ◌∙◌}
 use Rattle.std.proofs.Common.{arith, Some}
 use Rattle.std.specs.Prelude.{nat_lt, is_some}
 use Rattle.swp_base.specs.declared.control_frames.Control.{Control}
@@ -20,6 +20,7 @@ use Rattle.link_laws.specs.messages.Links.Comes.{NextFrame, AsksReset, Starts, S
 use Rattle.link_laws.specs.entries.Entries.{left_after}
 use Rattle.link_laws.proofs.messages.ActsInOrder.{NoActs, no_acts}
 use Rattle.link_laws.proofs.messages.Project.{beside-put_all}
+use Rattle.node_laws.proofs.Cases.{by_test}
 use Rattle.node_laws.proofs.bounds.Syncs.{sync_frame, sync_act, syncs_on, syncs_due, tries_of, may_send, start_of, ComesOnce, input_sends, turned_sends}
 
 -- ## Wires
@@ -33,17 +34,11 @@ drop_less [] = omega arith
 drop_less (x ∷ xs) = omega arith
 
 fits_less : (w : List OnWire) → syncs_on (fits w) ≤ syncs_on w
-fits_less w = by (nat_lt 64 (length w)) where
-  by : (b : Bool) → syncs_on (cond b (drop 1 w) w) ≤ syncs_on w
-  by true = drop_less w
-  by false = omega arith
+fits_less w = by_test (nat_lt 64 (length w)) (λ q. rw q (drop_less w)) (λ q. rw q (omega arith))
 
 pub aged_less : (w : List OnWire) → syncs_on (aged_wire w) ≤ syncs_on w
 aged_less [] = omega arith
-aged_less (x ∷ xs) = by (nat_lt x.age 4) refl (aged_less xs) where
-  by : (b : Bool) → nat_lt x.age 4 ≡ b → syncs_on (aged_wire xs) ≤ syncs_on xs → syncs_on (aged_wire (x ∷ xs)) ≤ syncs_on (x ∷ xs)
-  by true q rest = rw q (omega (arith, rest))
-  by false q rest = rw q (omega (arith, rest))
+aged_less (x ∷ xs) = by_test (nat_lt x.age 4) (λ q. rw q (omega (arith, aged_less xs))) (λ q. rw q (omega (arith, aged_less xs)))
 
 -- ## Frames that go out
 
@@ -97,7 +92,7 @@ out_syncs : (e : LinkEnd) → syncs_in (frames_out e) ≡ syncs_due e.acts
 out_syncs e = among_syncs 0 e.acts _ (no_acts most_frames e.shdlc)
 
 put_syncs : (l : Link) (c : Control) → syncs_on (put l c).to_host ≤ syncs_on l.to_host + sync_frame c
-put_syncs l c = by (is_rset c) where
+put_syncs l c = by_test (is_rset c) (λ q. rw q (pushed (l.resets + 1))) (λ q. rw q (pushed 0)) where
   number : Bool → ℕ
   number true = l.resets + 1
   number false = 0
@@ -108,19 +103,6 @@ put_syncs l c = by (is_rset c) where
       let less = fits_less (l.to_host ++ x ∷ []) in
       let both = on-append l.to_host (x ∷ []) in
       omega (arith, less, both)
-
-  by_kind : Bool → Link
-  by_kind true =
-      record l {
-        to_host = fits (l.to_host ++ record { frame = c; age = 0; number = l.resets + 1 } ∷ []);
-        controller = record l.controller { emitted = l.resets + 1 };
-        resets = l.resets + 1;
-      }
-  by_kind false = record l { to_host = fits (l.to_host ++ record { frame = c; age = 0; number = 0 } ∷ []) }
-
-  by : (b : Bool) → syncs_on (by_kind b).to_host ≤ syncs_on l.to_host + sync_frame c
-  by true = pushed (l.resets + 1)
-  by false = pushed 0
 
 put_all_syncs : (cs : List Control) (l : Link) → syncs_on (put_all l cs).to_host ≤ syncs_on l.to_host + syncs_in cs
 unfolding syncs_in

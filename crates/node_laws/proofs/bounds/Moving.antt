@@ -1,7 +1,7 @@
 -- Messages that have their turns were sent: what they pay was paid for, message by message, by the end from which they came.
 use Rattle.std.proofs.Common.{◌≡◌, ℕ, zero, suc, ◌+◌, ◌≤◌, ◌<◌, ◌==◌, Bool, true, false, List, [], ◌∷◌, ◌++◌, refl, ap, ◌∙◌, arith}
 use Rattle.std.proofs.Common.{Option, Some, None}
-use Rattle.std.specs.Prelude.{not, if◌then◌else◌}
+use Rattle.std.specs.Prelude.{not}
 use Rattle.std.specs.List.{cons_option, filter_map}
 use Rattle.std.proofs.lemmas.Bool.{eqb-true, eqb-false, ne_eqb}
 use Rattle.std.proofs.lemmas.List.Elements.{filter_map-append}
@@ -13,6 +13,7 @@ use Rattle.hcp_packet.specs.Packets.{good_of, is_good, IsFrontOf}
 use Rattle.link_laws.specs.machine.Machine.{Message}
 use Rattle.history.specs.Filters.{same_end, said_of, sent_by, sent_in, got_in_session, got_in}
 use Rattle.node_machine.specs.world.NodeLegal.{since_boot, got_entry, turn_entry_at, node_number, AreInTurn}
+use Rattle.node_laws.proofs.Cases.{by_test}
 use Rattle.node_laws.proofs.bounds.Costs.{message_cost, worth}
 
 -- ## Messages that weigh
@@ -31,10 +32,7 @@ front_worth b xs ys front = let both = worth-append b xs front.0 in let all = ap
 
 good_worth : (b : Bool) (xs : List Message) → worth_of b (good_of xs) ≤ worth_of b xs
 good_worth b [] = omega arith
-good_worth b (m ∷ xs) = by (is_good m.1) refl (good_worth b xs) where
-  by : (g : Bool) → is_good m.1 ≡ g → worth_of b (good_of xs) ≤ worth_of b xs → worth_of b (good_of (m ∷ xs)) ≤ worth_of b (m ∷ xs)
-  by true q rest = rw q (omega (arith, rest))
-  by false q rest = rw q (omega (arith, rest))
+good_worth b (m ∷ xs) = by_test (is_good m.1) (λ q. rw q (omega (arith, good_worth b xs))) (λ q. rw q (omega (arith, good_worth b xs)))
 
 -- ## At one end
 
@@ -142,26 +140,21 @@ not_yet k w (suc n) below =
 
 pub hits_most : (k w n : ℕ) → hits k w n ≤ w
 hits_most k w zero = omega arith
-hits_most k w (suc n) = go (k == n) refl (hits_most k w n) where
-  go : (b : Bool) → (k == n) ≡ b → hits k w n ≤ w → hits k w (suc n) ≤ w
-  go true q most =
-      let is : k ≡ n = eqb-true k n q in
-      let rest = not_yet k w n (omega (arith, is)) in
-      let one : worth w (k == n) ≡ w = ap (worth w) q in
-      omega (arith, one, rest)
-  go false q most =
-      let one : worth w (k == n) ≡ 0 = ap (worth w) q in
-      omega (arith, one, most)
+hits_most k w (suc n) = by_test (k == n)
+    (λ q. let is : k ≡ n = eqb-true k n q in
+    let rest = not_yet k w n (omega (arith, is)) in
+    let one : worth w (k == n) ≡ w = ap (worth w) q in
+    omega (arith, one, rest))
+    (λ q. let one : worth w (k == n) ≡ 0 = ap (worth w) q in
+    omega (arith, one, hits_most k w n))
 
 hits_once : (k w n : ℕ) → k < n → w ≤ hits k w n
 hits_once k w zero below = absurd (omega (arith, below))
-hits_once k w (suc n) below = go (k == n) refl (hits_once k w n) where
-  go : (b : Bool) → (k == n) ≡ b → (k < n → w ≤ hits k w n) → w ≤ hits k w (suc n)
-  go true q later = let one : worth w (k == n) ≡ w = ap (worth w) q in omega (arith, one)
-  go false q later =
-      let apart : k ≡ n → ⊥ = eqb-false k n q in
-      let rest = later (omega (arith, below, apart)) in
-      omega (arith, rest)
+hits_once k w (suc n) below = by_test (k == n)
+    (λ q. let one : worth w (k == n) ≡ w = ap (worth w) q in omega (arith, one))
+    (λ q. let apart : k ≡ n → ⊥ = eqb-false k n q in
+    let rest = hits_once k w n (omega (arith, below, apart)) in
+    omega (arith, rest))
 
 module _ (e : End) where
   -- what one entry tells of the sessions below a number
@@ -192,12 +185,8 @@ module _ (e : End) where
   hit_got f k pid m (suc n) on =
       let rest = hit_got f k pid m n on in
       let one : worth_if e.at_host (got_in_session n (said_of e (entry.Got f k pid m))) ≡ worth (message_cost (not e.at_host) pid m) (k == n) =
-      rw on (by (k == n)) in
+      rw on (by_test (k == n) (λ q. rw q refl) (λ q. rw q refl)) in
       omega (arith, one, rest)
-    where
-      by : (b : Bool) → worth_if e.at_host (if b then Some (pid, m) else None) ≡ worth (message_cost (not e.at_host) pid m) b
-      by true = refl
-      by false = refl
 
   -- the greatest number of a session in which a message came, and one more
   abbrev pub top : List Entry → ℕ

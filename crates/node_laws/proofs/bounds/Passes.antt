@@ -1,5 +1,5 @@
 -- In the turns of a pass too, in whatever order the ends have them, no more commands are noted than are paid for.
-use Rattle.std.proofs.Common.{◌≡◌, ℕ, ◌+◌, ◌≤◌, Bool, true, false, cond, List, [], ◌∷◌, ◌++◌, sym, refl, ap, ◌∙◌, subst, arith, append-nil}
+use Rattle.std.proofs.Common.{◌≡◌, ℕ, ◌+◌, ◌≤◌, Bool, true, false, List, [], ◌∷◌, ◌++◌, sym, refl, ap, ◌∙◌, subst, arith, append-nil}
 use Rattle.std.proofs.Common.{append_assoc, Option, Some, None}
 use Rattle.std.specs.Prelude.{if◌then◌else◌}
 use Rattle.std.specs.List.{cons_option}
@@ -20,6 +20,7 @@ use Rattle.node_machine.specs.Turns.{deeds_of, handles, holds_back, lets_go}
 use Rattle.node_machine.specs.world.NodeLegal.{AreInTurn}
 use Rattle.node_laws.specs.passes.Noting.{noted_by_deeds}
 use Rattle.node_laws.specs.passes.Passing.{ComesTo, takes_up}
+use Rattle.node_laws.proofs.Cases.{by_test}
 use Rattle.node_laws.proofs.passes.Passing.{comes_so, handles_entries, holds_notes, lets_notes, own_held}
 use Rattle.node_laws.proofs.turns.Queues.{AreStill}
 use Rattle.node_laws.proofs.turns.Queues.Doing.{Nothing, Adds}
@@ -113,10 +114,7 @@ comes_behind w v c = comes_so (Behind w) (record {
 }) w (record { es = []; is = sym (append-nil w.entries); none = λ e n. refl }) v c
   where
     held_gets : (u : Work) (h : ℕ) (short : ℕ × ℕ) → NoGets (own_held h short u)
-    held_gets u h short e n = by (option_map_or (λ (p : Port). p.desk.holds) (port_at u.ports h) false) where
-      by : (b : Bool) → got_in (cond b [] (entry.Held (end_of_node u.core h) short.0 short.1 ∷ [])) e n ≡ []
-      by true = refl
-      by false = refl
+    held_gets u h short e n = by_test (option_map_or (λ (p : Port). p.desk.holds) (port_at u.ports h) false) (λ q. rw q refl) (λ q. rw q refl)
 
 -- ## Fronts stay fronts
 

@@ -10,6 +10,7 @@ use Rattle.history.specs.Filters.{Saying, said, at_end, same_end, said_of, sent_
 use Rattle.history.specs.Filters.Saying.{Sends}
 use Rattle.history.proofs.Filters.{same_end_itself}
 use Rattle.node_machine.specs.world.NodeLegal.{AreInTurn}
+use Rattle.node_laws.proofs.Cases.{by_test}
 use Rattle.node_laws.proofs.schedules.Ends.{count, one_at, ends_same, fewer}
 use Rattle.node_laws.specs.reply_passes.Counts.{commands_noted}
 use Rattle.node_laws.proofs.bounds.Costs.{message_cost, worth, costs, pays}
@@ -63,20 +64,16 @@ count_off e f (suc n) fs off = let rest = count_off e f n fs off in let one : on
 module _ (e : End) where
   turns_are : (t : List Entry) → count e (turn_list t) ≡ turns e t
   turns_are [] = refl
-  turns_are (entry.Turn f pid m ∷ t) = go (same_end f e) refl (turns_are t) where
-    n : ℕ
-    n = message_cost (not f.at_host) pid m
-
-    go : (b : Bool) → same_end f e ≡ b → count e (turn_list t) ≡ turns e t → count e (turn_list (entry.Turn f pid m ∷ t)) ≡ turns e (entry.Turn f pid m ∷ t)
-    go true q rest =
-        let many = count_on e f n (turn_list t) q in
-        let same : n ≡ message_cost (not e.at_host) pid m = ap (λ (x : End). message_cost (not x.at_host) pid m) (ends_same f e q) in
-        let is : turns e (entry.Turn f pid m ∷ t) ≡ message_cost (not e.at_host) pid m + turns e t = rw q refl in
-        omega (arith, many, same, is, rest)
-    go false q rest =
-        let many = count_off e f n (turn_list t) q in
-        let is : turns e (entry.Turn f pid m ∷ t) ≡ turns e t = rw q refl in
-        omega (arith, many, is, rest)
+  turns_are (entry.Turn f pid m ∷ t) = by_test (same_end f e)
+      (λ q. let many = count_on e f n (turn_list t) q in
+      let same : n ≡ message_cost (not e.at_host) pid m = ap (λ (x : End). message_cost (not x.at_host) pid m) (ends_same f e q) in
+      let is : turns e (entry.Turn f pid m ∷ t) ≡ message_cost (not e.at_host) pid m + turns e t = rw q refl in
+      omega (arith, many, same, is, turns_are t))
+      (λ q. let many = count_off e f n (turn_list t) q in
+      let is : turns e (entry.Turn f pid m ∷ t) ≡ turns e t = rw q refl in
+      omega (arith, many, is, turns_are t)) where
+        n : ℕ
+        n = message_cost (not f.at_host) pid m
   turns_are (x ∷ t) = turns_are t
 
 -- ## What was sent
@@ -119,12 +116,8 @@ module _ (e : End) where
   hit_sent f k pid m (suc n) on =
       let rest = hit_sent f k pid m n on in
       let one : worth_if e.at_host (sent_by n (said_of (other_end e) (entry.Sent f k pid m))) ≡ worth (message_cost (not e.at_host) pid m) (k == n) =
-      rw on (by (k == n)) in
+      rw on (by_test (k == n) (λ q. rw q refl) (λ q. rw q refl)) in
       omega (arith, one, rest)
-    where
-      by : (b : Bool) → worth_if e.at_host (if b then Some (pid, m) else None) ≡ worth (message_cost (not e.at_host) pid m) b
-      by true = refl
-      by false = refl
 
   miss_sent : (f : End) (k pid : ℕ) (m : List ℕ) (n : ℕ) → same_end f (other_end e) ≡ false → sent_of e (entry.Sent f k pid m) n ≡ 0
   miss_sent f k pid m zero off = refl

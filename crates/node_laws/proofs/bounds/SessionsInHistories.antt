@@ -1,6 +1,6 @@
 -- The sessions that histories note have numbers no greater than two for each tick and one for each reset that was asked for.
 use Rattle.std.proofs.Common.{◌≡◌, ℕ, ◌≤◌, List, [], ◌∷◌, ◌++◌, map, Some, refl, ap, subst, sym, arith}
-use Rattle.std.specs.Prelude.{◌==◌, Bool, true, false}
+use Rattle.std.specs.Prelude.{◌==◌}
 use Rattle.std.specs.List.{AllByRecursion}
 use Rattle.registry.proofs.ValueLemmas.{AllByRecursion-filter as each_filter}
 use Rattle.trace_model.specs.declared.entry.Entry.{Entry}
@@ -22,6 +22,7 @@ use Rattle.node_laws.specs.kept.Hosts.{AreHosts}
 use Rattle.node_laws.specs.telling.Telling.{of_link, world_behind}
 use Rattle.node_laws.specs.links.Runs.{ArePlayable, new_line}
 use Rattle.node_laws.specs.order.Told.{IsLinkTold}
+use Rattle.node_laws.proofs.Cases.{by_test}
 use Rattle.node_laws.proofs.order.Lines.{history_so}
 use Rattle.link_laws.specs.messages.Rsets.{NumbersWithin}
 use Rattle.node_laws.specs.rsets.Causes.{NumbersWithinOnEach, happened_in, rsets_by_all}
@@ -35,14 +36,11 @@ use Rattle.history.proofs.RsetsInBareWorlds.{numbers_in_bare}
 
 found : (n h : ℕ) (s : Site) (sites : List Site) → NumbersWithinOnEach n sites → site_at sites h ≡ Some s → NumbersWithin n s.link
 found n h s [] a q = cc
-found n h s (x ∷ sites) a q = go (x.host == h) refl (found n h s sites a.1)
-  where
-    go : (b : Bool) → (x.host == h) ≡ b → (site_at sites h ≡ Some s → NumbersWithin n s.link) → NumbersWithin n s.link
-    go true r later =
-        let is : Some x ≡ Some s = rw r at q in
-        let one : x ≡ s = cc in
-        subst (λ (y : Site). NumbersWithin n y.link) one a.0
-    go false r later = later (rw r at q)
+found n h s (x ∷ sites) a q = by_test (x.host == h)
+    (λ r. let is : Some x ≡ Some s = rw r at q in
+    let one : x ≡ s = cc in
+    subst (λ (y : Site). NumbersWithin n y.link) one a.0)
+    (λ r. found n h s sites a.1 (rw r at q))
 
 -- what is told of a link on which few RSETs were put
 told_within : (n h : ℕ) (l : Link) (t : List Entry) → l.resets ≤ n → IsLinkTold h l t → AreSessionsWithin n (of_link h t)

@@ -1,11 +1,11 @@
 -- No session that is noted of a link has a greater number than how many RSETs were put on the link until then.
-use Rattle.std.proofs.Common.{◌≡◌, ℕ, ◌≤◌, Bool, true, false, cond, List, [], ◌∷◌, ◌++◌, length, Option, Some, None, refl, arith}
+use Rattle.std.proofs.Common.{◌≡◌, ℕ, ◌≤◌, Bool, true, false, List, [], ◌∷◌, ◌++◌, length, refl, arith}
 use Rattle.std.specs.Prelude.{nat_lt, is_some}
 use Rattle.std.specs.List.{AllByRecursion}
 use Rattle.registry.proofs.ValueLemmas.{AllByRecursion-append as each_append}
 use Rattle.swp_base.specs.declared.control_frames.Control.{Control}
 use Rattle.link_laws.specs.sessions.Sessions.{OnWire, is_rset, is_up, took_with}
-use Rattle.link_laws.specs.machine.Machine.{LinkEnd, LinkInput, Refused, Report, Turn, after_input, deactivated, ended_by, frames_out, give_refusal, report}
+use Rattle.link_laws.specs.machine.Machine.{LinkEnd, LinkInput, Report, Turn, after_input, deactivated, ended_by, frames_out, give_refusal, report}
 use Rattle.link_laws.specs.machine.Machine.{started, turn, turned, whole_acked, new_link_end, renewed, sent_all}
 use Rattle.link_laws.specs.machine.Machine.LinkInput.{Take, Tick as HasTick, Reset, Start, Stop}
 use Rattle.link_laws.specs.machine.Machine.Turn.{Give}
@@ -17,7 +17,7 @@ use Rattle.link_laws.specs.messages.Links.Comes.{NextFrame, AsksReset, Starts, S
 use Rattle.link_laws.specs.messages.Links.Loss.{TooMany}
 use Rattle.link_laws.specs.messages.Links.EndEvent.{Step, Lose}
 use Rattle.link_laws.specs.messages.Links.LinkEvent.{AtController, AtHost, Ticks, TicksWithout, Activate}
-use Rattle.link_laws.specs.entries.Entries.{End, Entry, told, told_of, sent_unless, turn_entry, turn_entries, first_lost, pushed_out, wire_with}
+use Rattle.link_laws.specs.entries.Entries.{End, Entry, told, told_of, turn_entry, turn_entries, first_lost, pushed_out, wire_with}
 use Rattle.link_laws.specs.entries.Entries.{put_entries, puts_entries, ending_entries, rest_entries, input_entries, left_after, taken_entries}
 use Rattle.link_laws.specs.entries.Entries.{restart_entries, step_entries, here_entries, entries_of_events, aged_entries, tick_entries, event_entries}
 use Rattle.link_laws.specs.entries.Entries.{entries, far}
@@ -27,7 +27,7 @@ use Rattle.history.specs.Steps.{entry_of, entries_for}
 use Rattle.link_laws.specs.messages.Rsets.{HasLowNumbers}
 use Rattle.node_laws.specs.bounds.Resets.{NotedWithin, AreNotedWithin, SessionWithin, AreSessionsWithin}
 use Rattle.node_laws.proofs.telling.Reported.{told_all}
-use Rattle.node_laws.proofs.Cases.{by_test}
+use Rattle.node_laws.proofs.Cases.{by_test, by_list, by_option}
 use Rattle.link_laws.proofs.messages.RsetNumbers.{number_low, exchanged_numbered, aged_numbered, silent_numbered, took_low}
 use Rattle.link_laws.proofs.messages.RsetNumbers.{steps_numbered, tick_numbered, here_numbered, all_numbered, event_numbered, start_numbered}
 
@@ -53,11 +53,7 @@ input_told : (n : ℕ) (who : End) (h : NumberedEnd) (i : LinkInput) → number_
 input_told n who h i q = told_within n who (number_of h) (report h.side i) (whole_acked (after_input h.side i)) q
 
 turn_within : (n : ℕ) (who : End) (k : ℕ) (e : LinkEnd) (t : Turn) → k ≤ n → AreNotedWithin n (turn_entry who k e t)
-turn_within n who k e (Give m) q = go (give_refusal e m)
-  where
-    go : (o : Option Refused) → AreNotedWithin n (sent_unless o who k m)
-    go None = (q, tt)
-    go (Some why) = tt
+turn_within n who k e (Give m) q = by_option (give_refusal e m) (λ is. rw is (q, tt)) (λ why is. rw is tt)
 turn_within n who k e _ q = tt
 
 turns_within : (n : ℕ) (who : End) (k : ℕ) (ts : List Turn) (e : LinkEnd) → k ≤ n → AreNotedWithin n (turn_entries who k e ts)
@@ -72,11 +68,7 @@ lost_within n who why [] = tt
 lost_within n who why (x ∷ wire) = (tt, tt)
 
 pushed_within : (n : ℕ) (who : End) (wire : List OnWire) → AreNotedWithin n (pushed_out who wire)
-pushed_within n who wire = go (nat_lt 64 (length wire))
-  where
-    go : (b : Bool) → AreNotedWithin n (cond b (first_lost who TooMany wire) [])
-    go true = lost_within n who TooMany wire
-    go false = tt
+pushed_within n who wire = by_test (nat_lt 64 (length wire)) (λ q. rw q (lost_within n who TooMany wire)) (λ q. rw q tt)
 
 puts_within : (n : ℕ) (who : End) (cs : List Control) (l : Link) → AreNotedWithin n (puts_entries who l cs)
 puts_within n who [] l = tt
@@ -90,11 +82,7 @@ ending_within n who l e CutOff = (tt, tt)
 
 aged_within : (n : ℕ) (who : End) (wire : List OnWire) → AreNotedWithin n (aged_entries who wire)
 aged_within n who [] = tt
-aged_within n who (x ∷ wire) = go (nat_lt x.age 4) refl (aged_within n who wire)
-  where
-    go : (b : Bool) → nat_lt x.age 4 ≡ b → AreNotedWithin n (aged_entries who wire) → AreNotedWithin n (aged_entries who (x ∷ wire))
-    go true q later = rw q later
-    go false q later = rw q (tt, later)
+aged_within n who (x ∷ wire) = by_test (nat_lt x.age 4) (λ q. rw q (aged_within n who wire)) (λ q. rw q (tt, aged_within n who wire))
 
 -- ## Steps of the near end
 
@@ -135,23 +123,10 @@ taken_within who l x xs ts ending q a =
         let t = took_low l.resets l.controller.took x a.controller.took wire.0 in let e = a.controller.emitted in omega (arith, t, e)
 
     left : number_of (left_after l x xs).controller ≤ l.resets
-    left = go (is_some (ended_by l.controller.side (Take x.frame)))
-      where
-        by : Bool → Link
-        by b =
-            let m : Link = with_ended (record l { to_controller = xs }) b in
-            record m { controller = record m.controller { took = took_with l.controller.took x } }
-
-        go : (b : Bool) → number_of (by b).controller ≤ l.resets
-        go true = heard
-        go false = heard
+    left = by_test (is_some (ended_by l.controller.side (Take x.frame))) (λ q. rw q heard) (λ q. rw q heard)
 
 silent_resets : (l : Link) (e : LinkEnd) → (silent l e).resets ≡ l.resets
-silent_resets l e = go (is_up l.controller.side.shdlc.phase)
-  where
-    go : (b : Bool) → (with_ended l b).resets ≡ l.resets
-    go true = refl
-    go false = refl
+silent_resets l e = by_test (is_up l.controller.side.shdlc.phase) (λ q. rw q refl) (λ q. rw q refl)
 
 restart_within : (who : End) (l : Link) (i : LinkInput) (ts : List Turn) (ending : Ending) → HasLowNumbers l
     → AreNotedWithin l.resets (restart_entries who l i ts ending)
@@ -171,15 +146,7 @@ restart_within who l i ts ending a =
 
 step_within : (who : End) (l : Link) (comes : Comes) (ts : List Turn) (ending : Ending) → HasLowNumbers l
     → AreNotedWithin l.resets (step_entries who l comes ts ending)
-step_within who l NextFrame ts ending a = go l.to_controller refl
-  where
-    by : List OnWire → List Entry
-    by [] = []
-    by (x ∷ xs) = taken_entries who l x xs ts ending
-
-    go : (w : List OnWire) → l.to_controller ≡ w → AreNotedWithin l.resets (by w)
-    go [] q = tt
-    go (x ∷ xs) q = taken_within who l x xs ts ending q a
+step_within who l NextFrame ts ending a = by_list l.to_controller (λ q. rw q tt) (λ x xs q. rw q (taken_within who l x xs ts ending q a))
 step_within who l (AsksReset window) ts ending a = input_within who l (Reset window) ts ending a
 step_within who l (Starts value) ts ending a = restart_within who l (Start value) ts ending a
 step_within who l Stops ts ending a = restart_within who l Stop ts ending a
@@ -227,15 +194,7 @@ restarted_grows : (l : Link) (e : LinkEnd) (ts : List Turn) (ending : Ending) �
 restarted_grows l e ts ending = let z = finished_grows (silent l e) (turned e ts) ending in let r = silent_resets l e in omega (arith, z, r)
 
 step_grows : (l : Link) (comes : Comes) (ts : List Turn) (ending : Ending) → l.resets ≤ (steps_at_controller l comes ts ending).resets
-step_grows l NextFrame ts ending = go l.to_controller
-  where
-    by : List OnWire → Link
-    by [] = l
-    by (x ∷ xs) = has_taken l x xs ts ending
-
-    go : (w : List OnWire) → l.resets ≤ (by w).resets
-    go [] = omega arith
-    go (x ∷ xs) = taken_grows l x xs ts ending
+step_grows l NextFrame ts ending = by_list l.to_controller (λ q. rw q (omega arith)) (λ x xs q. rw q (taken_grows l x xs ts ending))
 step_grows l (AsksReset window) ts ending = input_grows l (Reset window) ts ending
 step_grows l (Starts value) ts ending = restarted_grows l (started l.controller.side value) ts ending
 step_grows l Stops ts ending = restarted_grows l (deactivated l.controller.side) ts ending

@@ -19,14 +19,15 @@ use Rattle.shdlc_core.specs.declared.answers.LinkState.{LinkState}
 use Rattle.shdlc_core.specs.declared.answers.LinkState.TheVariants.{Down, Waiting, Up}
 use Rattle.shdlc_core.specs.Machine.{EndState, taken, take_answer, ticked, tick_answer, stopped, reset_with}
 use Rattle.link_laws.specs.sessions.Sessions.{OnWire}
-use Rattle.link_laws.specs.machine.Machine.{LinkEnd, ActDue, Role, Refused, LinkInput, Turn, in_front, with_act, moved, put_down, activated, heard, took}
+use Rattle.link_laws.specs.machine.Machine.{LinkEnd, ActDue, Role, LinkInput, Turn, in_front, with_act, moved, put_down, activated, heard, took}
 use Rattle.link_laws.specs.machine.Machine.{is_open, is_faulty}
-use Rattle.link_laws.specs.machine.Machine.{turn, turned, after_input, unless, give_refusal, given, aside_refusal, reset_refusal, reset_by, window_of, if_up}
+use Rattle.link_laws.specs.machine.Machine.{turn, turned, after_input, give_refusal, aside_refusal, reset_refusal, window_of, if_up}
 use Rattle.link_laws.specs.machine.Machine.{role_after, act_answer, act_event, act_out, report}
 use Rattle.link_laws.specs.machine.Machine.Role.{Bare, Clf, Uicc}
 use Rattle.link_laws.specs.machine.Machine.LinkInput.{Take, TakeUnknown, TakeBroken, Tick, Reset, Start, Stop, FromNode, Fetch}
 use Rattle.link_laws.specs.machine.Machine.Turn.{Give, SetAside}
 use Rattle.link_laws.specs.messages.Links.{IsUicc}
+use Rattle.node_laws.proofs.Cases.{by_option, by_test}
 
 -- ## Frames with an identifier
 
@@ -134,10 +135,6 @@ moved_sends : (e : LinkEnd) (b : Bool) (s : EndState) → may_send (moved e b s)
 moved_sends e true s = ap (λ n. n + tries_of e.role) (due_front e.acts)
 moved_sends e false s = refl
 
-moved_uicc : (e : LinkEnd) (b : Bool) (s : EndState) → IsUicc e.role → IsUicc (moved e b s).role
-moved_uicc e true s is = is
-moved_uicc e false s is = is
-
 down_due : (b : Bool) (e : LinkEnd) → syncs_due (put_down b e).acts ≡ syncs_due e.acts
 down_due false e = refl
 down_due true e = by e.shdlc.phase where
@@ -234,27 +231,19 @@ input_sends e Tick is once =
     (λ (f : LinkEnd). may_send f ≤ may_send e + 0)
     (λ _. let same = moved_sends e (is_some (tick_answer e.shdlc).ended) (ticked e.shdlc) in omega (arith, same))
     (λ _. activated_sends e ActTick is tt)
-input_sends e (Reset window) is once = by (reset_refusal e) where
-  w : ℕ
-  w = window_of e window
-
-  by : (o : Option Refused) → may_send (unless o e (reset_by e w)) ≤ may_send e + 0
-  by None = let same = moved_sends e (is_some (if_up e.shdlc Asked)) (reset_with e.shdlc w) in omega (arith, same)
-  by (Some why) = omega arith
+input_sends e (Reset window) is once = by_option (reset_refusal e)
+    (λ q. rw q (let same = moved_sends e (is_some (if_up e.shdlc Asked)) (reset_with e.shdlc w) in omega (arith, same)))
+    (λ why q. rw q (omega arith)) where
+      w : ℕ
+      w = window_of e window
 input_sends e (Start value) is once = restarted_sends e (ActStart value) is tt
 input_sends e Stop is once = restarted_sends e ActStop is tt
 input_sends e (FromNode t) is once = absurd once
 input_sends e Fetch is once = absurd once
 
 turn_sends : (e : LinkEnd) (t : Turn) → may_send (turn e t) ≡ may_send e
-turn_sends e (Give m) = by (give_refusal e m) where
-  by : (o : Option Refused) → may_send (unless o e (given e m)) ≡ may_send e
-  by None = refl
-  by (Some why) = refl
-turn_sends e SetAside = by (aside_refusal e) where
-  by : (o : Option Refused) → may_send (unless o e (record e { aside = e.aside + 1 })) ≡ may_send e
-  by None = refl
-  by (Some why) = refl
+turn_sends e (Give m) = by_option (give_refusal e m) (λ q. rw q refl) (λ why q. rw q refl)
+turn_sends e SetAside = by_option (aside_refusal e) (λ q. rw q refl) (λ why q. rw q refl)
 turn_sends e _ = refl
 
 pub turned_sends : (e : LinkEnd) (ts : List Turn) → may_send (turned e ts) ≡ may_send e
@@ -324,10 +313,7 @@ near_tells e (Take (ActFrame Ready again)) = role_tells e.role (ActTake Ready ag
 near_tells e (Take (ActFrame (SyncId id) again)) = role_tells e.role (ActTake (SyncId id) again)
 near_tells e (Take (ActFrame (PowerMode code) again)) = role_tells e.role (ActTake (PowerMode code) again)
 near_tells e (Take _) = omega arith
-near_tells e Tick = by (is_open e.role) where
-  by : (b : Bool) → sync_told (act_out e.role (cond b None (Some ActTick))).sync ≤ 0
-  by true = omega arith
-  by false = role_tells e.role ActTick
+near_tells e Tick = by_test (is_open e.role) (λ q. rw q (omega arith)) (λ q. rw q (role_tells e.role ActTick))
 near_tells e (Start value) = role_tells e.role (ActStart value)
 near_tells e Stop = role_tells e.role ActStop
 near_tells e _ = omega arith

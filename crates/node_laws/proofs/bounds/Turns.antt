@@ -32,11 +32,12 @@ use Rattle.link_laws.specs.entries.Entries.{End as Side}
 use Rattle.link_laws.specs.entries.Entries.End.{Controller, Host}
 use Rattle.node_machine.specs.Parts.{Init, Creation, Core, Port, Work, Deed}
 use Rattle.node_machine.specs.Parts.Deed.{Commits, Sends, SaysOk, Releases, Tells, IsAnswered, Drops, Orders, Hears, GoesOn, Ends}
-use Rattle.node_machine.specs.Carrying.{end_of_node, noting, port_at, commit, loses_power, keeps, done, all_done, finds_room, own_view, end_view}
-use Rattle.node_machine.specs.Controller.{asked_at, view_for, answers_on, commit_deeds, decision_deeds, link_deeds, gates, agreed, is_command_message, view_of}
+use Rattle.node_machine.specs.Carrying.{end_of_node, port_at, commit, done, all_done, finds_room, own_view, end_view}
+use Rattle.node_machine.specs.Controller.{asked_at, view_for, answers_on, decision_deeds, link_deeds, gates, agreed, is_command_message, view_of}
 use Rattle.node_machine.specs.Controller.{controller_deeds}
 use Rattle.node_machine.specs.HostReplies.{accepts, learns, orders_of, init_deeds, learned, response_deeds, is_gate, gate_of_pipe, ordered_deeds, host_deeds}
 use Rattle.node_machine.proofs.Walks.{controller_holds, ordered_holds, learns_holds, learned_holds, init_holds as init_walks}
+use Rattle.node_laws.proofs.Cases.{by_test}
 use Rattle.node_laws.proofs.bounds.Costs.{message_cost, plain_free, near_most, far_most, off_free}
 use Rattle.node_laws.proofs.bounds.Holding.{holds_at, init_left}
 use Rattle.node_laws.proofs.bounds.Deeds.{Owes, weight, weights, weights-append, less, all_owe, and_then, committed, answered, heard, went_on}
@@ -103,10 +104,7 @@ link_weighs side h pipe answer k most = by answer.0 answer.1 most where
 
 filter_few : (p : ℕ → Bool) (xs : List ℕ) → length (filter p xs) ≤ length xs
 filter_few p [] = omega arith
-filter_few p (x ∷ xs) = by (p x) (filter_few p xs) where
-  by : (b : Bool) → length (filter p xs) ≤ length xs → length (cond b (x ∷ filter p xs) (filter p xs)) ≤ length (x ∷ xs)
-  by true rest = omega (arith, rest)
-  by false rest = omega (arith, rest)
+filter_few p (x ∷ xs) = by_test (p x) (λ q. rw q (omega (arith, filter_few p xs))) (λ q. rw q (omega (arith, filter_few p xs)))
 
 few_hosts : (test : ℕ → Bool) → length (hosts_where test) ≤ 7
 unfolding hosts_where
@@ -118,17 +116,12 @@ told_weigh message (x ∷ hosts) = let one = near_most 1 message in let rest = t
 
 decision_weighs : (core : Core) (h pipe : ℕ) (d : Decision) → weights Controller (decision_deeds (own_view core) h pipe d) ≤ 16
 decision_weighs core h pipe (Answer answer) = let one = near_most pipe answer.items in omega (arith, one)
-decision_weighs core h pipe (Commit c answer tell notice) = by (finds_room core c) where
-  told : List Deed
-  told = map (λ x. Tells x notice.items) (hosts_where (has tell))
-
-  by : (room : Bool) → weights Controller (commit_deeds room h pipe c answer.items told) ≤ 16
-  by true =
-      let other = near_most pipe answer.items in
-      let more = told_weigh notice.items (hosts_where (has tell)) in
-      let few = few_hosts (has tell) in
-      omega (arith, other, more, few)
-  by false = let one = near_most pipe (answer_of response.NotOk []) in omega (arith, one)
+decision_weighs core h pipe (Commit c answer tell notice) = by_test (finds_room core c)
+    (λ q. rw q (let other = near_most pipe answer.items in
+    let more = told_weigh notice.items (hosts_where (has tell)) in
+    let few = few_hosts (has tell) in
+    omega (arith, other, more, few)))
+    (λ q. rw q (let one = near_most pipe (answer_of response.NotOk []) in omega (arith, one)))
 decision_weighs core h pipe (Ask asked notice c answer) = let one = near_most 1 notice.items in omega (arith, one)
 
 module _ (all : ℕ) (core : Core) (ports : List Port) (h : ℕ) (m : Message) where
@@ -142,28 +135,24 @@ module _ (all : ℕ) (core : Core) (ports : List Port) (h : ℕ) (m : Message) w
       all_owe Controller all 0 h deeds w (less Controller all (message_cost true m.0 m.1) (0 + weights Controller deeds) w (omega (arith, most)) a)
 
   agreed_paid : (flag : Bool) (p : Port) (c : Creation) → port_at ports h ≡ Some p → asked_at p ≡ Some c → IsPaidNear (agreed flag c)
-  agreed_paid flag p c here asked w same a = by flag where
-    two : holds_at h ports ≡ 2
-    two = rw here (rw asked refl)
+  agreed_paid flag p c here asked w same a = by_test flag
+      (λ q. rw q (rest (Commits c.command ∷ Releases c.asker ∷ Sends c.asker (1, c.answer) ∷ SaysOk ∷ [])
+      (let other = near_most 1 c.answer in omega (arith, other))))
+      (λ q. rw q (rest (Releases c.asker ∷ Sends c.asker (1, answer_of response.NotOk []) ∷ [])
+      (let one = near_most 1 (answer_of response.NotOk []) in omega (arith, one)))) where
+        two : holds_at h ports ≡ 2
+        two = rw here (rw asked refl)
 
-    start : Owes Controller 0 all w
-    start = less Controller all (message_cost true m.0 m.1) 0 w (omega arith) a
+        start : Owes Controller 0 all w
+        start = less Controller all (message_cost true m.0 m.1) 0 w (omega arith) a
 
-    freed : Owes Controller 2 all (done h IsAnswered w)
-    freed = less Controller all (0 + holds_at h w.ports) 2 (done h IsAnswered w) (omega (arith, same, two)) (answered Controller all 0 h w start)
+        freed : Owes Controller 2 all (done h IsAnswered w)
+        freed = less Controller all (0 + holds_at h w.ports) 2 (done h IsAnswered w) (omega (arith, same, two)) (answered Controller all 0 h w start)
 
-    rest : (deeds : List Deed) → weights Controller deeds ≤ 2 → Owes Controller 0 all (all_done h (IsAnswered ∷ deeds) w)
-    rest deeds most =
-        and_then Controller all 0 2 h IsAnswered deeds w (omega arith) freed
-        (λ v is b. all_owe Controller all 0 h deeds v (less Controller all 2 (0 + weights Controller deeds) v (omega (arith, most)) b))
-
-    by : (flag : Bool) → Owes Controller 0 all (all_done h (agreed flag c) w)
-    by true =
-        rest (Commits c.command ∷ Releases c.asker ∷ Sends c.asker (1, c.answer) ∷ SaysOk ∷ [])
-        (let other = near_most 1 c.answer in omega (arith, other))
-    by false =
-        rest (Releases c.asker ∷ Sends c.asker (1, answer_of response.NotOk []) ∷ [])
-        (let one = near_most 1 (answer_of response.NotOk []) in omega (arith, one))
+        rest : (deeds : List Deed) → weights Controller deeds ≤ 2 → Owes Controller 0 all (all_done h (IsAnswered ∷ deeds) w)
+        rest deeds most =
+            and_then Controller all 0 2 h IsAnswered deeds w (omega arith) freed
+            (λ v is b. all_owe Controller all 0 h deeds v (less Controller all 2 (0 + weights Controller deeds) v (omega (arith, most)) b))
 
   pub controller_pays : IsPaidNear (controller_deeds (view_of core ports) h m)
   controller_pays = controller_holds IsPaidNear core ports h m (record {
@@ -192,10 +181,9 @@ module _ (all : ℕ) (core : Core) (ports : List Port) (h : ℕ) (m : Message) w
 -- ## Hosts
 
 accepts_weigh : (core : Core) (c : Command) → weights Host (accepts (own_view core) c) ≤ 1
-accepts_weigh core c = by (finds_room core c) where
-  by : (room : Bool) → weights Host (commit_deeds room core.node 1 c (answer_of response.Ok []) []) ≤ 1
-  by true = let none = answer_free true 1 response.Ok [] in omega (arith, none)
-  by false = let none = answer_free true 1 response.NotOk [] in omega (arith, none)
+accepts_weigh core c = by_test (finds_room core c)
+    (λ q. rw q (let none = answer_free true 1 response.Ok [] in omega (arith, none)))
+    (λ q. rw q (let none = answer_free true 1 response.NotOk [] in omega (arith, none)))
 
 -- what a host does with a command on pipe 01, or on another one
 ordered_weighs : (core : Core) (errors pipe n : ℕ) (body : List ℕ) → weights Host (ordered_deeds (own_view core) errors pipe n body) ≤ 1
@@ -221,20 +209,9 @@ ordered_free core errors pipe n body off =
 
 -- a commit leaves the init
 commit_init : (c : Command) (w : Work) → (commit c w).core.init ≡ w.core.init
-commit_init c w = go (fails_within (length writes) w.plan) where
+commit_init c w = by_test (fails_within (length writes) w.plan) (λ q. rw q refl) (λ q. rw q refl) where
   writes : List Write
   writes = commit_writes w.core.journal w.core.tables (body_of c)
-
-  begun : Work
-  begun = noting (entry.Command w.core.node c ∷ []) w
-
-  by : Bool → Work
-  by true = loses_power writes begun
-  by false = keeps c writes begun
-
-  go : (b : Bool) → (by b).core.init ≡ w.core.init
-  go true = refl
-  go false = refl
 
 module _ (all : ℕ) (core : Core) (h : ℕ) where
   -- what is left to do of an init costs one command, where its commands that are left are counted

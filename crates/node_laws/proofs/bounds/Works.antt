@@ -17,8 +17,7 @@ use Rattle.link_laws.specs.machine.Machine.Turn.{FetchMessage, Hold}
 use Rattle.link_laws.specs.entries.Entries.{End as Side}
 use Rattle.link_laws.specs.entries.Entries.End.{Controller, Host}
 use Rattle.history.specs.Steps.{end_of}
-use Rattle.node_machine.specs.Parts.{Creation, Notice, Core, Port, Work, Deed}
-use Rattle.node_machine.specs.Parts.About.{Forgotten}
+use Rattle.node_machine.specs.Parts.{Creation, Core, Port, Work, Deed}
 use Rattle.node_machine.specs.Parts.Deed.{Commits, Releases}
 use Rattle.node_machine.specs.Carrying.{own_side, end_of_node, noting, unless_cut, port_at, with_desk, after_turn, turn_at, all_done, needs, lack, finds_room}
 use Rattle.node_machine.specs.Carrying.{own_view, end_view}
@@ -31,6 +30,7 @@ use Rattle.node_machine.specs.Node.{is_forgotten, forgotten, forgets, owed, all_
 use Rattle.node_machine.specs.Node.{steps, begins_with}
 use Rattle.node_machine.specs.Node.NodeInput.{AtEnd, TimePasses}
 use Rattle.node_laws.specs.passes.Steps.{comes_to_pass}
+use Rattle.node_laws.proofs.Cases.{by_option, by_test}
 use Rattle.node_laws.proofs.steps.StepWalks.{unless, lets, holds, got_at}
 use Rattle.node_laws.proofs.steps.Ports.{sessions_node}
 use Rattle.node_laws.proofs.bounds.Costs.{costs, message_cost, costs-append, is_host_side, told_free}
@@ -62,26 +62,22 @@ module _ (side : Side) (all : ℕ) where
 module _ (side : Side) (all : ℕ) (core : Core) (ports : List Port) (h : ℕ) (m : Message) (v : Work) (side_is : own_side core ≡ side) (core_is : v.core ≡ core)
     (same : holds_at h v.ports ≡ holds_at h ports) (a : Owes side (turn_pay side all m) all v) where
   deeds_pay : Owes side 0 all (all_done h (deeds_of core ports h m) v)
-  deeds_pay = go (eqb core.node 0) refl where
-    by : Bool → List Deed
-    by true = controller_deeds (view_of core ports) h m
-    by false = option_map_or (λ e. host_deeds (own_view core) e m) (option_map end_view (port_at ports h)) []
+  deeds_pay = by_test (eqb core.node 0)
+      (λ q. rw q (let is : Controller ≡ side = sym (ap (λ c. cond c Controller Host) q) ∙ side_is in
+      subst (λ s. Goal s true) is (controller_pays all core ports h m v same) a))
+      (λ q. rw q (let is : Host ≡ side = sym (ap (λ c. cond c Controller Host) q) ∙ side_is in
+      subst (λ s. Goal s false) is (far (port_at ports h)) a)) where
+        by : Bool → List Deed
+        by true = controller_deeds (view_of core ports) h m
+        by false = option_map_or (λ e. host_deeds (own_view core) e m) (option_map end_view (port_at ports h)) []
 
-    Goal : Side → Bool → Type 0
-    Goal s b = Owes s (turn_pay s all m) all v → Owes s 0 all (all_done h (by b) v)
+        Goal : Side → Bool → Type 0
+        Goal s b = Owes s (turn_pay s all m) all v → Owes s 0 all (all_done h (by b) v)
 
-    far : (o : Option Port) → Owes Host (message_cost false m.0 m.1) all v
-        → Owes Host 0 all (all_done h (option_map_or (λ e. host_deeds (own_view core) e m) (option_map end_view o) []) v)
-    far None b = less Host all (message_cost false m.0 m.1) 0 v (omega arith) b
-    far (Some p) b = host_pays all core h m p v core_is b
-
-    go : (b : Bool) → eqb core.node 0 ≡ b → Owes side 0 all (all_done h (by b) v)
-    go true q =
-        let is : Controller ≡ side = sym (ap (λ c. cond c Controller Host) q) ∙ side_is in
-        subst (λ s. Goal s true) is (controller_pays all core ports h m v same) a
-    go false q =
-        let is : Host ≡ side = sym (ap (λ c. cond c Controller Host) q) ∙ side_is in
-        subst (λ s. Goal s false) is (far (port_at ports h)) a
+        far : (o : Option Port) → Owes Host (message_cost false m.0 m.1) all v
+            → Owes Host 0 all (all_done h (option_map_or (λ e. host_deeds (own_view core) e m) (option_map end_view o) []) v)
+        far None b = less Host all (message_cost false m.0 m.1) 0 v (omega arith) b
+        far (Some p) b = host_pays all core h m p v core_is b
 
 module _ (side : Side) (all : ℕ) where
   pub handled : (h : ℕ) (m : Message) (w : Work) → Owes side 0 all w → Owes side 0 all (handles h m (deeds_of w.core w.ports h m) w)
@@ -165,15 +161,13 @@ synced_weighs side core input p = by_input (input_at input p) where
   by None = []
   by (Some i) = by_id (report p.side i).sync
 
-  each : (o : Option ℕ) → weights side (by_id o) ≤ sync_told o
-  each None = omega arith
-  each (Some id) =
-      cond_both (not (is_kept_sync core.tables.syncs p.desk.host id) && finds_room core (Sync p.desk.host id)) (Commits (Sync p.desk.host id) ∷ []) []
-      (λ deeds. weights side deeds ≤ 1) (λ _. omega arith) (λ _. omega arith)
-
   by_input : (o : Option LinkInput) → weights side (by o) ≤ option_map_or (λ i. sync_told (report p.side i).sync) o 0
   by_input None = omega arith
-  by_input (Some i) = each (report p.side i).sync
+  by_input (Some i) = by_option (report p.side i).sync
+      (λ q. rw q (omega arith))
+      (λ id q. rw q (cond_both (not (is_kept_sync core.tables.syncs p.desk.host id) && finds_room core (Sync p.desk.host id))
+      (Commits (Sync p.desk.host id) ∷ []) []
+      (λ deeds. weights side deeds ≤ 1) (λ _. omega arith) (λ _. omega arith)))
 
 all_synced : (side : Side) (core : Core) (input : NodeInput) (ports : List Port) → weights side (flat_map (synced core input) ports) ≤ syncs_told input ports
 all_synced side core input [] = omega arith
@@ -202,14 +196,7 @@ come_desk p None = omega arith
 come_desk p (Some i) = omega arith
 
 older_desk : (p : Port) → notice_holds (with_older p).desk.notice ≤ notice_holds p.desk.notice
-older_desk p = by p.desk.notice where
-  older : Option Notice → Option Notice
-  older None = None
-  older (Some n) = Some (record n { age = n.age + 1 })
-
-  by : (o : Option Notice) → notice_holds (older o) ≤ notice_holds o
-  by None = omega arith
-  by (Some n) = omega arith
+older_desk p = by_option p.desk.notice (λ q. rw q (omega arith)) (λ n q. rw q (omega arith))
 
 late_desk : (p : Port) → notice_holds (reset_late p).desk.notice ≤ notice_holds p.desk.notice
 late_desk p =
@@ -218,11 +205,7 @@ late_desk p =
 forgets_desk : (ports : List Port) (p : Port) → notice_holds (forgets ports p).desk.notice ≤ notice_holds p.desk.notice
 forgets_desk ports p =
     cond_both (is_forgotten ports (asked_at p)) _ p (λ (q : Port). notice_holds q.desk.notice ≤ notice_holds p.desk.notice)
-    (λ _. by p.desk.notice) (λ _. omega arith)
-  where
-    by : (o : Option Notice) → notice_holds (option_map_or (λ (n : Notice). Some (record n { about = Forgotten })) o None) ≤ notice_holds o
-    by None = omega arith
-    by (Some n) = omega arith
+    (λ _. by_option p.desk.notice (λ q. rw q (omega arith)) (λ n q. rw q (omega arith))) (λ _. omega arith)
 
 without_desk : (p : Port) → notice_holds (without_notice p).desk.notice ≤ notice_holds p.desk.notice
 without_desk p = cond_both (is_over p) _ p (λ (q : Port). notice_holds q.desk.notice ≤ notice_holds p.desk.notice) (λ _. omega arith) (λ _. omega arith)

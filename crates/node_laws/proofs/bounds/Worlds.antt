@@ -2,7 +2,7 @@
 use Rattle.std.proofs.Common.{◌≡◌, ℕ, ◌+◌, ◌*◌, ◌≤◌, ◌==◌, ◌&&◌, Bool, true, false, cond, eqb, List, [], ◌∷◌, ◌++◌, length, map, sym, refl, ap, ◌∙◌, arith}
 use Rattle.std.proofs.Common.{Option, Some, None, subst}
 use Rattle.std.specs.Prelude.{min}
-use Rattle.link_laws.specs.sessions.Sessions.{OnWire, took_with}
+use Rattle.link_laws.specs.sessions.Sessions.{OnWire}
 use Rattle.std.proofs.lemmas.Bool.{true≢false, cond_both, eqb-true, eq-eqb}
 use Rattle.std.proofs.lemmas.List.{length-map, length-append}
 use Rattle.std.specs.List.{AllByRecursion, flat_map}
@@ -25,7 +25,6 @@ use Rattle.link_laws.specs.entries.Entries.{End as Side, first_lost, ending_entr
 use Rattle.link_laws.specs.entries.Entries.End.{Controller, Host}
 use Rattle.history.specs.Steps.{entries_for}
 use Rattle.node_machine.specs.Parts.{Init, Desk, Running, Port, Work, Deed}
-use Rattle.node_machine.specs.Parts.Deed.{Sends, Orders}
 use Rattle.node_machine.specs.Carrying.{own_side, port_at, changed_if}
 use Rattle.node_machine.specs.Controller.{is_command_message}
 use Rattle.node_machine.specs.Node.{NodeInput, boot_writes, input_at, new_desk, with_error, steps, begins_with}
@@ -44,6 +43,7 @@ use Rattle.node_machine.proofs.world.Cases.{by_host_tick, site_ticked, site_unti
 use Rattle.node_laws.specs.kept.Books.{hosts_of_ends}
 use Rattle.node_laws.specs.kept.Hosts.{AreDifferent}
 use Rattle.node_laws.specs.telling.Telling.{HasEnds, IfItRuns, hosts_in, IsOrderly}
+use Rattle.node_laws.proofs.Cases.{by_test, by_list, by_option}
 use Rattle.node_laws.proofs.telling.Nodes.{hosts_same, link_is, site_host}
 use Rattle.node_laws.proofs.telling.Worlds.{site_is}
 use Rattle.node_laws.proofs.links.Ends.{here_host}
@@ -83,9 +83,6 @@ pub pays_then : (a b c m n : ℕ) (s t : List Entry) → Pays a b m s → Pays b
 pays_then a b c m n s t first later =
     let cs = costs-append s t in let ps = pays-append s t in omega (arith, cs, ps, first, later)
 
-free_pays : (a b : ℕ) (t : List Entry) → costs t ≡ 0 → b ≤ a → Pays a b 0 t
-free_pays a b t none most = omega (arith, none, most)
-
 flat_free : {X : Type 0} (f : X → List Entry) → ((x : X) → costs (f x) ≡ 0) → (xs : List X) → costs (flat_map f xs) ≡ 0
 flat_free f one [] = refl
 flat_free f one (x ∷ xs) =
@@ -115,20 +112,14 @@ sites_take : (g : Site → Site) (taken : Site → ℕ) → ((s : Site) → site
 sites_take g taken less [] = omega arith
 sites_take g taken less (s ∷ sites) = let one = less s in let rest = sites_take g taken less sites in omega (arith, one, rest)
 
-none_taken : (sites : List Site) → all_taken (λ s. 0) sites ≡ 0
-none_taken [] = refl
-none_taken (s ∷ sites) = let rest = none_taken sites in omega (arith, rest)
-
 one_taken : (taken : Site → ℕ) (h : ℕ) (sites : List Site) (s : Site) → site_at sites h ≡ Some s → taken s ≤ all_taken taken sites
 one_taken taken h [] s here = absurd (cc here)
-one_taken taken h (x ∷ sites) s here = go (eqb x.host h) refl (one_taken taken h sites s) where
-  go : (b : Bool) → eqb x.host h ≡ b → (site_at sites h ≡ Some s → taken s ≤ all_taken taken sites) → taken s ≤ all_taken taken (x ∷ sites)
-  go true q later =
-      let found : Some x ≡ Some s = rw q at here in
-      let is : x ≡ s = cc in
-      let same : taken x ≡ taken s = ap taken is in
-      omega (arith, same)
-  go false q later = let rest = later (rw q at here) in omega (arith, rest)
+one_taken taken h (x ∷ sites) s here = by_test (eqb x.host h)
+    (λ q. let found : Some x ≡ Some s = rw q at here in
+    let is : x ≡ s = cc in
+    let same : taken x ≡ taken s = ap taken is in
+    omega (arith, same))
+    (λ q. let rest = one_taken taken h sites s (rw q at here) in omega (arith, rest))
 
 -- a host that isn't there changes nothing
 off_same : (h : ℕ) (g : Site → Site) (sites : List Site) → AllByRecursion (λ k. (k == h) ≡ false) (hosts_in sites)
@@ -158,12 +149,10 @@ one_swaps h g (x ∷ sites) s apart here = go (eqb x.host h) refl (one_swaps h g
 -- ## Frames
 
 frames_free : (who : Side) (h : ℕ) (l : Link) (k : Work) → costs (frames_noted who h l k) ≡ 0
-frames_free who h l k = go (port_at k.ports h) where
-  go : (o : Option Port) → costs (option_map_or (λ (p : Port). entries_for h (ending_entries who l p.side (ending_of k))) o []) ≡ 0
-  go None = refl
-  go (Some p) =
-      notes_free h (ending_entries who l p.side (ending_of k))
-      (ending_all IsNoSent (λ w c. tt) (λ w c. tt) (λ w. tt) who l p.side (ending_of k))
+frames_free who h l k = by_option (port_at k.ports h)
+    (λ q. rw q refl)
+    (λ p q. rw q (notes_free h (ending_entries who l p.side (ending_of k))
+    (ending_all IsNoSent (λ w c. tt) (λ w c. tt) (λ w. tt) who l p.side (ending_of k))))
 
 pub arrival_free : (who : Side) (h : ℕ) (l : Link) (comes : Comes) → costs (entries_for h (arrival who l comes)) ≡ 0
 arrival_free who h l comes =
@@ -215,23 +204,13 @@ hosts_long sites = length-map sites (λ (s : Site). s.host)
 -- ## Identifiers
 
 near_side : (l : Link) (comes : Comes) → (near_end_in l comes).side ≡ l.controller.side
-near_side l NextFrame = first l.to_controller where
-  near : List OnWire → NumberedEnd
-  near [] = l.controller
-  near (x ∷ xs) = record l.controller { took = took_with l.controller.took x }
-
-  first : (w : List OnWire) → (near w).side ≡ l.controller.side
-  first [] = refl
-  first (x ∷ xs) = refl
+near_side l NextFrame = by_list l.to_controller (λ q. rw q refl) (λ x xs q. rw q refl)
 near_side l _ = refl
 
 -- an end of a controller tells of an identifier as a frame with one comes
 one_told : (h : ℕ) (i : LinkInput) (p : Port) → option_map_or (λ j. sync_told (report p.side j).sync) (input_at (AtEnd h i) p) 0
     ≤ worth (input_sync i) (eqb p.desk.host h)
-one_told h i p = by (eqb p.desk.host h) where
-  by : (b : Bool) → option_map_or (λ j. sync_told (report p.side j).sync) (cond b (Some i) None) 0 ≤ worth (input_sync i) b
-  by true = near_tells p.side i
-  by false = omega arith
+one_told h i p = by_test (eqb p.desk.host h) (λ q. rw q (near_tells p.side i)) (λ q. rw q (omega arith))
 
 none_told : (h : ℕ) (i : LinkInput) (ports : List Port) → AllByRecursion (λ k. (k == h) ≡ false) (hosts_of_ends ports) → syncs_told (AtEnd h i) ports ≡ 0
 none_told h i [] off = refl
@@ -469,10 +448,9 @@ begins_paid w h deeds most few calm orderly =
     omega (arith, paid, few)
 
 sending_weighs : (h : ℕ) (m : Message) → weights Host (sending h m) ≤ 18
-sending_weighs h m = go (m.0 == 1 && is_command_message m.1) where
-  go : (b : Bool) → weights Host (cond b (Orders m.1 ∷ []) (Sends h m ∷ [])) ≤ 18
-  go true = let most = far_most 1 m.1 in omega (arith, most)
-  go false = let most = far_most m.0 m.1 in omega (arith, most)
+sending_weighs h m = by_test (m.0 == 1 && is_command_message m.1)
+    (λ q. rw q (let most = far_most 1 m.1 in omega (arith, most)))
+    (λ q. rw q (let most = far_most m.0 m.1 in omega (arith, most)))
 
 beginning_weighs : (identity : List ℕ) (pipes : List (List ℕ)) → weights Host (beginning identity pipes) ≤ 18 * (5 + length pipes)
 beginning_weighs identity pipes =

@@ -10,6 +10,7 @@ use Rattle.node_machine.specs.Carrying.{port_at, changed_if, with_port}
 use Rattle.node_machine.specs.Controller.{creation_in, asked_at, asks_for}
 use Rattle.node_machine.specs.Node.{forgets, without_notice, is_over_at}
 use Rattle.node_laws.specs.creations.Creations.{creations_at, IsReadSo}
+use Rattle.node_laws.proofs.Cases.{by_option, by_test}
 
 -- the creation for which each host is asked
 abbrev pub Asked : Type 0
@@ -231,16 +232,13 @@ module _ (x : ℕ) (asked : Asked) (k : ℕ) where
 -- one that asks for none
 pub none_waits : (x : ℕ) (ports : List Port) → asks_for ports x ≡ false → waits x (asked_of ports) ≡ []
 none_waits x [] e = refl
-none_waits x (p ∷ ports) e = go (asked_at p) refl (none_waits x ports) where
-  parts : (a b : Bool) → (a || b) ≡ false → (a ≡ false) × (b ≡ false)
-  parts true b z = absurd (true≢false z)
-  parts false b z = (refl, z)
-
-  go : (o : Option Creation) → asked_at p ≡ o → (asks_for ports x ≡ false → waits x (asked_of ports) ≡ []) → waits x (asked_of (p ∷ ports)) ≡ []
-  go None q later = rw q (later (rw q at e))
-  go (Some c) q later =
-      let two = parts (eqb c.asker x) (asks_for ports x) (rw q at e) in
-      rw q (ap (λ l. l ++ waits x (asked_of ports)) (one_else x c two.0) ∙ later two.1)
+none_waits x (p ∷ ports) e = by_option (asked_at p)
+    (λ q. rw q (none_waits x ports (rw q at e)))
+    (λ c q. let two = parts (eqb c.asker x) (asks_for ports x) (rw q at e) in
+    rw q (ap (λ l. l ++ waits x (asked_of ports)) (one_else x c two.0) ∙ none_waits x ports two.1)) where
+      parts : (a b : Bool) → (a || b) ≡ false → (a ≡ false) × (b ≡ false)
+      parts true b z = absurd (true≢false z)
+      parts false b z = (refl, z)
 
 -- ## Sessions that ended
 
@@ -285,10 +283,7 @@ module _ (x : ℕ) where
     go : (l : List Creation) (b : Bool) → l ≡ cond b l l
     go l true = refl
     go l false = refl
-  forgot all (p ∷ ports) = ap₂ (λ a b. a ++ b) (forgot_one all p) (forgot all ports) ∙ go (is_over_at all x) where
-    go : (b : Bool) → cond b [] (one_of x (asked_at p)) ++ cond b [] (waits x (asked_of ports)) ≡ cond b [] (one_of x (asked_at p) ++ waits x (asked_of ports))
-    go true = refl
-    go false = refl
+  forgot all (p ∷ ports) = ap₂ (λ a b. a ++ b) (forgot_one all p) (forgot all ports) ∙ by_test (is_over_at all x) (λ q. rw q refl) (λ q. rw q refl)
 
   -- of the others those of ends whose sessions ended are owed an answer
   abbrev pub stays : List Port → List Creation

@@ -15,13 +15,13 @@ use Rattle.link_laws.specs.entries.Entries.{told}
 use Rattle.link_laws.specs.machine.Machine.{report, whole_acked}
 use Rattle.node_machine.specs.Parts.{Creation, Notice, Port, Work}
 use Rattle.node_machine.specs.Carrying.{own_side, port_at}
-use Rattle.node_machine.specs.Controller.{asked_at, creation_in}
+use Rattle.node_machine.specs.Controller.{asked_at}
 use Rattle.node_machine.specs.Node.{NodeInput, input_at, has_come, told_at, all_come, older_notice, with_older, is_late, reset_late, told_late, times_out}
 use Rattle.node_machine.specs.Node.{is_over, is_over_at}
 use Rattle.node_machine.specs.Node.NodeInput.{AtEnd, TimePasses}
 use Rattle.node_machine.specs.world.NodeFilters.{book_in}
 use Rattle.node_laws.specs.links.Notices.{IsComing, IsOutside}
-use Rattle.node_laws.proofs.Cases.{by_test}
+use Rattle.node_laws.proofs.Cases.{by_test, by_option}
 use Rattle.node_laws.proofs.links.Staying.{stays_up}
 use Rattle.node_laws.proofs.links.Noticing.{UpAt, at_all, at_host, outside as from_outside}
 use Rattle.node_laws.proofs.links.Blocks.{IsWithin, input_within}
@@ -95,14 +95,7 @@ module _ (n : ℕ) (l : List Creation) (p : Port) (fresh : IsFresh p) where
   )
 
 older_asked : (p : Port) → asked_at (with_older p) ≡ asked_at p
-older_asked p = go p.desk.notice where
-  by : Option Notice → Option Notice
-  by None = None
-  by (Some n) = Some (older_notice n)
-
-  go : (o : Option Notice) → creation_in (by o) ≡ creation_in o
-  go None = refl
-  go (Some n) = refl
+older_asked p = by_option p.desk.notice (λ q. rw q refl) (λ n q. rw q refl)
 
 reset_asked : (p : Port) → asked_at (reset_late p) ≡ asked_at p
 reset_asked p = by_test (is_late p) (λ e. rw e refl) (λ e. rw e refl)
@@ -197,10 +190,7 @@ module _ (x : ℕ) (before : List Entry) (hosts : List ℕ) (asked : Asked) (n :
   plain_told p (Some i) = plain_entries p.desk.host (told (own_side w.core) p.session (report p.side i) (whole_acked (after_input p.side i)))
 
   plain_late : (p : Port) → AllByRecursion IsPlain (told_late w.core p)
-  plain_late p = go (is_late p) where
-    go : (b : Bool) → AllByRecursion IsPlain (cond b (told_at w.core p (Some (Reset None))) [])
-    go true = plain_told p (Some (Reset None))
-    go false = tt
+  plain_late p = by_test (is_late p) (λ q. rw q (plain_told p (Some (Reset None)))) (λ q. rw q tt)
 
   book_plain : (now es : List Entry) → AllByRecursion IsPlain es → IsProperBook (book_in (before ++ now) 0) → IsProperBook (book_in (before ++ (now ++ es)) 0)
   book_plain now es plain b =
@@ -247,10 +237,7 @@ module _ (x : ℕ) (before : List Entry) (hosts : List ℕ) (asked : Asked) (n :
 
     no_late : (ports : List Port) → AllByRecursion IsFresh ports → AllByRecursion (λ (p : Port). p.late ≡ false) (map come ports)
     no_late [] f = tt
-    no_late (p ∷ ports) f = (by (input_at input p), no_late ports f.1) where
-      by : (o : Option LinkInput) → (has_come p o).late ≡ false
-      by None = f.0.1
-      by (Some i) = f.0.1
+    no_late (p ∷ ports) f = (by_option (input_at input p) (λ q. rw q f.0.1) (λ i q. rw q f.0.1), no_late ports f.1)
 
     flagged : (ports : List Port) → AllByRecursion (λ (p : Port). p.late ≡ false) ports → AreFlagged ports
     flagged [] f = tt
@@ -292,10 +279,7 @@ module _ (x : ℕ) (before : List Entry) (hosts : List ℕ) (asked : Asked) (n :
     last_hosts = hosts_map reset_late late_host olds ∙ old_hosts
 
     late_same : (p : Port) (s : Option (List ℕ)) → asks x (told_late w.core p) s ≡ reads x (told_late w.core p) s
-    late_same p s = go (is_late p) where
-      go : (b : Bool) → asks x (cond b (told_at w.core p (Some (Reset None))) []) s ≡ reads x (cond b (told_at w.core p (Some (Reset None))) []) s
-      go true = told_same x w.core p (Some (Reset None)) s side
-      go false = refl
+    late_same p s = by_test (is_late p) (λ q. rw q (told_same x w.core p (Some (Reset None)) s side)) (λ q. rw q refl)
 
     last_at : IsCome n list r (asks x late first) (port_at (map reset_late olds) x)
     last_at =
@@ -311,11 +295,7 @@ module _ (x : ℕ) (before : List Entry) (hosts : List ℕ) (asked : Asked) (n :
       where
         read_late : (q : Port) → q.desk.host ≡ x
             → reads x (told_late w.core q) first ≡ cond (is_late q) (cond (is_some (ended_by q.side (Reset None))) None first) first
-        read_late q e = by (is_late q) where
-          by : (b : Bool) → reads x (cond b (told_at w.core q (Some (Reset None))) []) first
-              ≡ cond b (cond (is_some (ended_by q.side (Reset None))) None first) first
-          by true = told_here x w.core side q (Reset None) first e
-          by false = refl
+        read_late q e = by_test (is_late q) (λ is. rw is (told_here x w.core side q (Reset None) first e)) (λ is. rw is refl)
 
         older : Option Notice → Option Notice
         older None = None

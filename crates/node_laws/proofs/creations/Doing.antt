@@ -25,7 +25,7 @@ use Rattle.node_machine.specs.Carrying.{own_side, noting, unless_cut, port_at, c
 use Rattle.node_machine.specs.Carrying.{loses_power, keeps, commit, done}
 use Rattle.node_machine.specs.Controller.{creation_in, asked_at}
 use Rattle.node_machine.specs.world.NodeFilters.{Book, is_response, book_after, book_in, asking_in}
-use Rattle.node_laws.proofs.Cases.{by_option}
+use Rattle.node_laws.proofs.Cases.{by_option, by_test}
 use Rattle.node_laws.proofs.links.Noticing.{turn-phase, at_all, at_host}
 use Rattle.node_laws.proofs.links.Blocks.{IsWithin, turn_within}
 use Rattle.node_laws.proofs.kept.Books.{plain_fold, book_command, book_more}
@@ -75,9 +75,6 @@ plain_has n l e t is a = record {
   up = λ some. turn-phase e t ∙ a.up some;
 }
 
-pub end_same : (n : ℕ) (l m : List Creation) (o : Option Port) → l ≡ m → EndAt n l o → EndAt n m o
-end_same n l m o is a = subst (λ k. EndAt n k o) is a
-
 module _ (x : ℕ) where
   end_map : (n : ℕ) (l : List Creation) (k : ℕ) (g : Port → Port) (ports : List Port) → ((p : Port) → (g p).desk.host ≡ p.desk.host)
       → ((p : Port) → EndHas n l p.side → EndHas n l (g p).side) → EndAt n l (port_at ports x) → EndAt n l (port_at (with_port k g ports) x)
@@ -109,10 +106,7 @@ hosts_with k g (p ∷ ports) host = ap₂ (λ h l. h ∷ l) (changed_host (eqb p
 due_set : (k : ℕ) (o : Option Creation) (asked : Asked) → IfAwaited o → AllByRecursion (λ (e : ℕ × Option Creation). IfAwaited e.1) asked
     → AllByRecursion (λ (e : ℕ × Option Creation). IfAwaited e.1) (set_asked k o asked)
 due_set k o [] may a = tt
-due_set k o (e ∷ asked) may a = (go (eqb e.0 k), due_set k o asked may a.1) where
-  go : (b : Bool) → IfAwaited (cond b (e.0, o) e).1
-  go true = may
-  go false = a.0
+due_set k o (e ∷ asked) may a = (by_test (eqb e.0 k) (λ q. rw q may) (λ q. rw q a.0), due_set k o asked may a.1)
 
 pub plain_of : (core : Core) (t : Turn) (o : Option Port) (b : Book) → fold (book_after 0) b (option_map_or (noted_of core t) o []) ≡ b
 plain_of core t None b = refl
@@ -256,12 +250,8 @@ module _ (x : ℕ) (before : List Entry) (hosts : List ℕ) where
       → IsOn asked owed n w → IsOn asked owed n (turn_at k t w)
   turns asked owed n k t w is silent a =
       notes asked owed n (option_map_or (noted_of w.core t) (port_at w.ports k) []) (record w { ports = with_port k (after_turn t) w.ports })
-      (plain_of w.core t (port_at w.ports k)) (go (port_at w.ports k) refl)
+      (plain_of w.core t (port_at w.ports k)) (by_option (port_at w.ports k) (λ e. rw e refl) (λ p e. rw e (silent p e)))
       (alters asked owed n k (after_turn t) w (λ p. refl) (λ p. refl) (λ p z. plain_has n (waits x asked ++ owes x owed) p.side t is z) a)
-    where
-      go : (o : Option Port) → port_at w.ports k ≡ o → asks x (option_map_or (noted_of w.core t) o []) (reading w) ≡ reading w
-      go None e = refl
-      go (Some p) e = silent p e
 
   -- no response on pipe 01 to a host whose creation waits
   pub gives : (asked : Asked) (owed : List Creation) (n k : ℕ) (m : Message) (w : Work)
@@ -285,15 +275,11 @@ module _ (x : ℕ) (before : List Entry) (hosts : List ℕ) where
   released asked owed n k w a =
       let m : ℕ = cond (eqb k x) (n - 1) n in
       notes asked owed m (option_map_or (noted_of w.core Release) (port_at w.ports k) []) (record w { ports = with_port k (after_turn Release) w.ports })
-      (plain_of w.core Release (port_at w.ports k)) (silent (port_at w.ports k))
+      (plain_of w.core Release (port_at w.ports k)) (by_option (port_at w.ports k) (λ q. rw q refl) (λ p q. rw q refl))
       (alters_so asked owed n m k (after_turn Release) w (λ p. refl) (λ p. refl) (end (cases_Bool (eqb k x))) a)
     where
       l : List Creation
       l = waits x asked ++ owes x owed
-
-      silent : (o : Option Port) → asks x (option_map_or (noted_of w.core Release) o []) (reading w) ≡ reading w
-      silent None = refl
-      silent (Some p) = refl
 
       here : (o : Option Port) → port_at w.ports x ≡ o → eqb k x ≡ true → EndAt n l o → EndAt (n - 1) l (port_at (with_port k (after_turn Release) w.ports) x)
       here None e is z =
@@ -398,9 +384,6 @@ module _ (x : ℕ) (before : List Entry) (hosts : List ℕ) where
         took : give_refusal p.side (1, answer) ≡ None
         took = takes_short p.side answer (z.up some) short (fewer (released_room (port_at w.ports x) refl a.end))
           where
-            q_end : ℕ
-            q_end = in_use p.side
-
             fewer : in_use p.side + 1 ≤ 128 → in_use p.side + p.side.aside ≤ 127
             fewer r = omega (arith, r, z.aside)
 

@@ -1,5 +1,5 @@
 -- What is read of creations over whatever happens.
-use Rattle.std.proofs.Common.{◌≡◌, ◌⊎◌, inl, inr, ℕ, ◌+◌, ◌&&◌, Bool, true, false, not, cond, eqb, List, [], ◌∷◌, ◌++◌, map, min, sym, refl, ap, ◌∙◌}
+use Rattle.std.proofs.Common.{◌≡◌, ◌⊎◌, inl, inr, ℕ, ◌&&◌, Bool, true, false, not, cond, eqb, List, [], ◌∷◌, ◌++◌, map, sym, refl, ap, ◌∙◌}
 use Rattle.std.proofs.Common.{subst, append-nil}
 use Rattle.std.specs.Prelude.{Option, Some, None}
 use Rattle.std.specs.List.{AllByRecursion, flat_map, find, cons_option, filter_map}
@@ -14,8 +14,8 @@ use Rattle.trace_model.specs.declared.entry.Entry.TheVariants as entry
 use Rattle.trace_model.specs.declared.line.End.{End}
 use Rattle.link_laws.specs.machine.Machine.{LinkInput, Role, Turn, new_link_end, renewed, sent_all, turned, after_input, deactivated, started}
 use Rattle.link_laws.specs.machine.Machine.Role.{Bare}
-use Rattle.link_laws.specs.messages.Links.{Link, NumberedEnd, Loss, Comes, exchanged, aged, happens, ticks_at_controller, steps_at_controller}
-use Rattle.link_laws.specs.messages.Links.{has_input, has_taken}
+use Rattle.link_laws.specs.messages.Links.{Link, NumberedEnd, Loss, Comes, exchanged, aged, happens, steps_at_controller}
+use Rattle.link_laws.specs.messages.Links.{has_taken}
 use Rattle.link_laws.specs.messages.Links.Ending.{GoesOut, CutOff}
 use Rattle.link_laws.specs.messages.Links.Comes.{NextFrame, AsksReset, Starts, NoInput, Stops}
 use Rattle.link_laws.specs.messages.Links.Loss.{Broken}
@@ -26,7 +26,7 @@ use Rattle.link_laws.specs.entries.Entries.End.{Controller, Host}
 use Rattle.history.specs.Steps.{entries_for}
 use Rattle.history.specs.Follows.{seen_from}
 use Rattle.node_machine.specs.Parts.{Desk, Running, Port, Work, Deed}
-use Rattle.node_machine.specs.Carrying.{changed_if, port_at}
+use Rattle.node_machine.specs.Carrying.{port_at}
 use Rattle.node_machine.specs.Controller.{creation_in}
 use Rattle.node_machine.specs.Node.{steps, begins_with, boot_writes, found, new_desk, with_error, has_come, input_at}
 use Rattle.node_machine.specs.Node.NodeInput.{AtEnd, TimePasses}
@@ -41,7 +41,7 @@ use Rattle.node_machine.specs.world.NodeFilters.{book_in, asking_in}
 use Rattle.node_laws.specs.kept.Hosts.{AreHosts}
 use Rattle.node_laws.specs.kept.Worlds.{AllKeep, IfRuns, RunsSo}
 use Rattle.node_laws.specs.telling.Telling.{HasEnds, hosts_in}
-use Rattle.node_laws.proofs.Cases.{by_list, by_option}
+use Rattle.node_laws.proofs.Cases.{by_list, by_option, by_test}
 use Rattle.node_laws.proofs.telling.Events.{site_map}
 use Rattle.node_laws.proofs.telling.Nodes.{site_host, link_is}
 use Rattle.node_laws.specs.readings.Noticed.{IfNoticedUp}
@@ -157,24 +157,14 @@ creations_counted h desks x = ap (λ l. of_asker x l) (go desks) where
   go : (desks : List Desk) → filter_map (λ (d : Desk). creation_in d.notice) (with_error h desks)
       ≡ filter_map (λ (d : Desk). creation_in d.notice) desks
   go [] = refl
-  go (d ∷ desks) = by (eqb d.host h) (go desks) where
-    more : Desk → Desk
-    more c = record c { errors = min 65535 (c.errors + 1) }
-
-    by : (b : Bool) → filter_map (λ (d : Desk). creation_in d.notice) (with_error h desks)
-        ≡ filter_map (λ (d : Desk). creation_in d.notice) desks
-        → filter_map (λ (d : Desk). creation_in d.notice) (changed_if b more d ∷ with_error h desks)
-        ≡ filter_map (λ (d : Desk). creation_in d.notice) (d ∷ desks)
-    by true later = ap (λ l. cons_option (creation_in d.notice) l) later
-    by false later = ap (λ l. cons_option (creation_in d.notice) l) later
+  go (d ∷ desks) = by_test (eqb d.host h)
+      (λ q. rw q (ap (λ l. cons_option (creation_in d.notice) l) (go desks)))
+      (λ q. rw q (ap (λ l. cons_option (creation_in d.notice) l) (go desks)))
 
 due_counted : (h : ℕ) (desks : List Desk) → AllByRecursion (λ (d : Desk). IfAwaited (creation_in d.notice)) desks
     → AllByRecursion (λ (d : Desk). IfAwaited (creation_in d.notice)) (with_error h desks)
 due_counted h [] a = tt
-due_counted h (d ∷ desks) a = (by (eqb d.host h), due_counted h desks a.1) where
-  by : (b : Bool) → IfAwaited (creation_in (changed_if b (λ c. record c { errors = min 65535 (c.errors + 1) }) d).notice)
-  by true = a.0
-  by false = a.0
+due_counted h (d ∷ desks) a = (by_test (eqb d.host h) (λ q. rw q a.0) (λ q. rw q a.0), due_counted h desks a.1)
 
 counted_creations : (why : Loss) (h : ℕ) (o : Option Running) (x : ℕ) → creations_of (counts why h o) x ≡ creations_of o x
 counted_creations (Broken fault) h None x = refl
@@ -273,17 +263,15 @@ boots_reads t w n a stands =
 -- an end of a controller that lost its power in a tick is new
 tick_new : (l : Link) (late : Bool) (ts : List Turn)
     → (role : Role) × ((ticked_so l late ts CutOff).controller.side ≡ new_link_end (renewed role))
-tick_new l late ts = go (late && not (is_waiting l.controller.side.shdlc)) where
-  go : (b : Bool) → (role : Role) × ((cond b (has_input l (Reset None) ts CutOff)
-      (ticks_at_controller l ts CutOff)).controller.side ≡ new_link_end (renewed role))
-  go true = (
-    (sent_all (turned (after_input l.controller.side (Reset None)) ts)).role,
-    refl,
-  )
-  go false = (
-    (sent_all (turned (after_input l.controller.side Tick) ts)).role,
-    refl,
-  )
+tick_new l late ts = by_test (late && not (is_waiting l.controller.side.shdlc))
+    (λ q. rw q (
+      (sent_all (turned (after_input l.controller.side (Reset None)) ts)).role,
+      refl,
+    ))
+    (λ q. rw q (
+      (sent_all (turned (after_input l.controller.side Tick) ts)).role,
+      refl,
+    ))
 
 module _ (hosts : List ℕ) (are : AreHosts hosts) (t : List Entry) (w : NodeWorld) (kept : AllKeep hosts t w) (notices : KeepsNotices t w) (a : Reads t w) where
   sites_are : hosts_in w.sites ≡ hosts

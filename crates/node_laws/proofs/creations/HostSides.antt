@@ -21,7 +21,7 @@ use Rattle.node_machine.specs.Carrying.{noting, port_at, changed_if, with_desk, 
 use Rattle.node_machine.specs.Node.{NodeInput, input_at, has_come, all_come, with_older, is_late, reset_late, times_out, forgotten, forgets, all_owed}
 use Rattle.node_machine.specs.Node.{without_notice, after_sessions, synced, steps}
 use Rattle.node_machine.specs.Node.NodeInput.{AtEnd, TimePasses}
-use Rattle.node_laws.proofs.Cases.{by_list, by_test}
+use Rattle.node_laws.proofs.Cases.{by_list, by_test, by_option}
 use Rattle.node_laws.proofs.telling.Steps.{without_same, forgets_same}
 use Rattle.node_laws.proofs.notices.Own.{IsOwn, AreOwn, deeds_own, forgotten_own, all_owed_own, all_synced_own}
 use Rattle.node_laws.proofs.notices.Doing.{all_map}
@@ -201,7 +201,4 @@ steps_none input w a =
     (forgotten_own came.ports) (all_synced_own w.core input w.ports) (all_owed_own left) first
 
 pub none_at : (k : Work) (h : ℕ) → SetsNoneAside k → SetNone (option_map_or (λ (p : Port). p.turns) (port_at k.ports h) [])
-none_at k h a = go (port_at k.ports h) refl where
-  go : (o : Option Port) → port_at k.ports h ≡ o → SetNone (option_map_or (λ (p : Port). p.turns) o [])
-  go None e = tt
-  go (Some p) e = at_port (λ (q : Port). SetNone q.turns) k.ports h p a.turns e
+none_at k h a = by_option (port_at k.ports h) (λ e. rw e tt) (λ p e. rw e (at_port (λ (q : Port). SetNone q.turns) k.ports h p a.turns e))

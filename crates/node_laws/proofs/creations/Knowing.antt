@@ -19,7 +19,7 @@ use Rattle.node_laws.specs.telling.Telling.{hosts_in}
 use Rattle.node_laws.specs.readings.Noticed.{ends_between}
 use Rattle.node_laws.specs.creations.Creations.{creations_at, creations_of, IsReadSo, is_asked_pipe, asked_pipes, KnowsAsRead, IfKnowsAsRead, AsidesAreRead}
 use Rattle.node_laws.specs.creations.Worlds.{HasNoneAside, HasSetAside, KeepsCreations}
-use Rattle.node_laws.proofs.Cases.{by_option}
+use Rattle.node_laws.proofs.Cases.{by_option, by_test}
 use Rattle.node_laws.proofs.creations.Doing.{takes_short}
 use Rattle.node_laws.proofs.creations.Asks.{asked_of, one_of, waits, desks_wait}
 use Rattle.node_laws.proofs.creations.Near.{none_side, desks_back}
@@ -61,10 +61,7 @@ is_of_pipe pid c = option_map_or (λ (n : ℕ). eqb n pid) (pipe_of c.command) f
 
 any_behind : {X : Type 0} (test : X → Bool) (xs ys : List X) → list_any test ys ≡ true → list_any test (xs ++ ys) ≡ true
 any_behind test [] ys e = e
-any_behind test (x ∷ xs) ys e = go (test x) (any_behind test xs ys e) where
-  go : (b : Bool) → list_any test (xs ++ ys) ≡ true → (b || list_any test (xs ++ ys)) ≡ true
-  go true later = refl
-  go false later = later
+any_behind test (x ∷ xs) ys e = by_test (test x) (λ q. rw q refl) (λ q. rw q (any_behind test xs ys e))
 
 either_true : (a b : Bool) → (a || b) ≡ true → (a ≡ true) ⊎ (b ≡ true)
 either_true true b e = inl refl
@@ -116,10 +113,7 @@ module _ (pid : ℕ) where
     go None q later = rw q (later (rw q at e))
     go (Some c) q later = by (cases_Bool (eqb c.asker x)) where
       skip : list_any is_it (waiting_pipes ports) ≡ true → list_any is_it (waiting_pipes (p ∷ ports)) ≡ true
-      skip tail = by_option (pipe_of c.command) (λ z. rw (q, z) tail) (λ n z. rw (q, z) (yes (eqb n pid))) where
-        yes : (b : Bool) → (b || list_any is_it (waiting_pipes ports)) ≡ true
-        yes true = refl
-        yes false = tail
+      skip tail = by_option (pipe_of c.command) (λ z. rw (q, z) tail) (λ n z. rw (q, z) (by_test (eqb n pid) (λ q. rw q refl) (λ q. rw q tail)))
 
       here : is_of_pipe pid c ≡ true → list_any is_it (waiting_pipes (p ∷ ports)) ≡ true
       here first = by_option (pipe_of c.command)
@@ -174,12 +168,9 @@ module _ (pid : ℕ) where
 
 pub any_asked : (t : List Entry) (pid : ℕ) (hosts : List ℕ) → list_any (λ p. eqb p pid) (asked_pipes t hosts) ≡ list_any (is_asked_pipe t pid) hosts
 any_asked t pid [] = refl
-any_asked t pid (h ∷ hosts) = go (asking_in t h) refl (any_asked t pid hosts) where
-  go : (r : Option (List ℕ)) → asking_in t h ≡ r
-      → list_any (λ p. eqb p pid) (asked_pipes t hosts) ≡ list_any (is_asked_pipe t pid) hosts
-      → list_any (λ p. eqb p pid) (asked_pipes t (h ∷ hosts)) ≡ list_any (is_asked_pipe t pid) (h ∷ hosts)
-  go None e later = rw e later
-  go (Some m) e later = rw e (ap (λ b. eqb (slice_index m 5) pid || b) later)
+any_asked t pid (h ∷ hosts) = by_option (asking_in t h)
+    (λ e. rw e (any_asked t pid hosts))
+    (λ m e. rw e (ap (λ b. eqb (slice_index m 5) pid || b) (any_asked t pid hosts)))
 
 pub find_same : (f g : ℕ → Bool) → ((n : ℕ) → f n ≡ g n) → (ns : List ℕ) → find f ns ≡ find g ns
 find_same f g same [] = refl
@@ -237,10 +228,7 @@ module _ (hosts : List ℕ) (t : List Entry) (w : NodeWorld) (a : KeepsCreations
   }
 
 pub if_known : (hosts : List ℕ) (t : List Entry) (w : NodeWorld) → KeepsCreations hosts t w → IfKnowsAsRead hosts t w.sites w.controller
-if_known hosts t w a = go w.controller refl where
-  go : (o : Option Running) → w.controller ≡ o → IfKnowsAsRead hosts t w.sites o
-  go None e = tt
-  go (Some r) e = known_is hosts t w a r e
+if_known hosts t w a = by_option w.controller (λ e. rw e tt) (λ r e. rw e (known_is hosts t w a r e))
 
 -- ## Blocks
 

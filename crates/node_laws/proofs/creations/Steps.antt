@@ -14,11 +14,10 @@ use Rattle.gate_answers.specs.declared.response.Response.TheVariants as response
 use Rattle.gate_answers.specs.Answers.{answer_of}
 use Rattle.link_laws.specs.machine.Machine.{report}
 use Rattle.link_laws.specs.machine.Machine.Turn.{Release}
-use Rattle.node_machine.specs.Parts.{Creation, Notice, Core, Port, Work, Deed}
+use Rattle.node_machine.specs.Parts.{Creation, Core, Port, Work, Deed}
 use Rattle.node_machine.specs.Parts.Deed.{Commits, Releases, Sends}
-use Rattle.node_machine.specs.Parts.About.{Forgotten}
 use Rattle.node_machine.specs.Carrying.{unless_cut, port_at, turn_at, commit, all_done, finds_room}
-use Rattle.node_machine.specs.Controller.{asked_at, creation_in}
+use Rattle.node_machine.specs.Controller.{asked_at}
 use Rattle.node_machine.specs.Turns.{passes}
 use Rattle.node_machine.specs.Node.{NodeInput, input_at, all_come, times_out, is_over, is_over_at, is_forgotten, forgets, forgotten, owed, all_owed}
 use Rattle.node_machine.specs.Node.{without_notice, after_sessions, synced, answers_and_passes, steps}
@@ -66,10 +65,7 @@ due_map f one [] a = tt
 due_map f one (p ∷ ports) a = (one p a.0, due_map f one ports a.1)
 
 forgets_due : (all : List Port) (p : Port) → IfAwaited (asked_at p) → IfAwaited (asked_at (forgets all p))
-forgets_due all p a = by_test (is_forgotten all (asked_at p)) (λ e. rw e (by p.desk.notice)) (λ e. rw e a) where
-  by : (o : Option Notice) → IfAwaited (creation_in (option_map_or (λ (n : Notice). Some (record n { about = Forgotten })) o None))
-  by None = tt
-  by (Some n) = tt
+forgets_due all p a = by_test (is_forgotten all (asked_at p)) (λ e. rw e (by_option p.desk.notice (λ q. rw q tt) (λ n q. rw q tt))) (λ e. rw e a)
 
 without_due : (p : Port) → IfAwaited (asked_at p) → IfAwaited (asked_at (without_notice p))
 without_due p a = by_test (is_over p) (λ e. rw e tt) (λ e. rw e a)
@@ -246,10 +242,7 @@ module _ (x : ℕ) (before : List Entry) (hosts : List ℕ) where
 
       read_left : IsReadSo (reading x before hosts v) (waits x (asked_of left))
       read_left = subst (λ l. IsReadSo (reading x before hosts v) l) (sym left_are) (subst (λ r. IsReadSo r (cond over [] (waits x asked))) (sym c.read)
-          (go over)) where
-            go : (b : Bool) → IsReadSo (cond b None (reading x before hosts w)) (cond b [] (waits x asked))
-            go true = tt
-            go false = subst (IsReadSo (reading x before hosts w)) (append-nil (waits x asked)) a.read
+          (by_test over (λ q. rw q tt) (λ q. rw q (subst (IsReadSo (reading x before hosts w)) (append-nil (waits x asked)) a.read))))
 
       same_length : length (waits x now ++ owes x owing) ≡ length (cond over [] (waits x asked))
       same_length = ap length in_parts ∙ (parts.many ∙ ap length left_are)

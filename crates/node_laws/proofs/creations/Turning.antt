@@ -16,6 +16,7 @@ use Rattle.node_machine.specs.Carrying.{noting, unless_cut, port_at, changed_if,
 use Rattle.node_machine.specs.Controller.{has_link, asked_at, creation_in, controller_deeds, asks_for, view_of}
 use Rattle.node_machine.specs.Turns.{deeds_of, handles, holds_back, lets_go, have_turns, goes_through_ends, passes}
 use Rattle.node_laws.specs.links.Notices.{AllReach}
+use Rattle.node_laws.proofs.Cases.{by_test}
 use Rattle.node_laws.proofs.links.Noticing.{at_all}
 use Rattle.node_laws.proofs.links.Reaching.{controller_reach}
 use Rattle.node_laws.proofs.readings.Noticed.{up_is}
@@ -146,33 +147,21 @@ module _ (x : ℕ) (before : List Entry) (hosts : List ℕ) (different : AreDiff
             (agrees x before hosts k asked c flag (fetched m w) s (due_at asked k c s a.due) (fetched_good asked m w a))
 
     pub holds_good : (asked : Asked) (short : ℕ × ℕ) (w : Work) → Good x before hosts asked [] w → Good x before hosts asked [] (holds_back k short w)
-    holds_good asked short w a = go (option_map_or (λ (p : Port). p.desk.holds) (port_at w.ports k) false) where
-      n : ℕ
-      n = many x before hosts asked []
+    holds_good asked short w a = by_test (option_map_or (λ (p : Port). p.desk.holds) (port_at w.ports k) false)
+        (λ q. rw q (turns x before hosts asked [] n k (Hold true) w tt (λ p e. refl) a))
+        (λ q. rw q (turns x before hosts asked [] n k (Hold true) (with_desk k (λ d. record d { holds = true }) told) tt (λ p e. refl)
+        (desks x before hosts asked [] n k (λ d. record d { holds = true }) told (λ d. refl) (λ d. refl)
+        (notes x before hosts asked [] n (entry.Held (end_of_node w.core k) short.0 short.1 ∷ []) w (λ b. refl) refl a)))) where
+          n : ℕ
+          n = many x before hosts asked []
 
-      told : Work
-      told = noting (entry.Held (end_of_node w.core k) short.0 short.1 ∷ []) w
-
-      by : Bool → Work
-      by true = turn_at k (Hold true) w
-      by false = turn_at k (Hold true) (with_desk k (λ d. record d { holds = true }) told)
-
-      go : (b : Bool) → Good x before hosts asked [] (by b)
-      go true = turns x before hosts asked [] n k (Hold true) w tt (λ p e. refl) a
-      go false =
-          turns x before hosts asked [] n k (Hold true) (with_desk k (λ d. record d { holds = true }) told) tt (λ p e. refl)
-          (desks x before hosts asked [] n k (λ d. record d { holds = true }) told (λ d. refl) (λ d. refl)
-          (notes x before hosts asked [] n (entry.Held (end_of_node w.core k) short.0 short.1 ∷ []) w (λ b. refl) refl a))
+          told : Work
+          told = noting (entry.Held (end_of_node w.core k) short.0 short.1 ∷ []) w
 
     pub lets_good : (asked : Asked) (w : Work) → Good x before hosts asked [] w → Good x before hosts asked [] (lets_go k w)
-    lets_good asked w a = go (option_map_or (λ (p : Port). is_held p.side) (port_at w.ports k) false) where
-      by : Bool → Work
-      by true = turn_at k (Hold false) w
-      by false = w
-
-      go : (b : Bool) → Good x before hosts asked [] (by b)
-      go true = turns x before hosts asked [] (many x before hosts asked []) k (Hold false) w tt (λ p e. refl) a
-      go false = a
+    lets_good asked w a = by_test (option_map_or (λ (p : Port). is_held p.side) (port_at w.ports k) false)
+        (λ q. rw q (turns x before hosts asked [] (many x before hosts asked []) k (Hold false) w tt (λ p e. refl) a))
+        (λ q. rw q a)
 
     have_good : (messages : List Message) (asked : Asked) (w : Work) → Good x before hosts asked [] w → Fine x before hosts (have_turns k messages w)
     have_good [] asked w a = inl (record { asked = asked; good = lets_good asked w a })

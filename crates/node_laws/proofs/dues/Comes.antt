@@ -51,6 +51,7 @@ use Rattle.node_laws.specs.passes.Steps.{controller_begins, has_come_so, syncs_i
 use Rattle.node_laws.specs.power.Powers.{AreNotOf, is_of_node}
 use Rattle.node_laws.specs.readings.Orders.{IsFresh}
 use Rattle.node_laws.proofs.links.Noticing.{at_host}
+use Rattle.node_laws.proofs.passes.InSteps.{IsBehind, step_notes, IsOfStep}
 use Rattle.node_laws.proofs.passes.Replying.{session_in}
 use Rattle.node_laws.proofs.power.Events.{controller_part}
 use Rattle.node_laws.proofs.power.Parts.{AreOwn, part_own}
@@ -74,7 +75,6 @@ use Rattle.node_laws.proofs.dues.Ended.{any_cause, ends_at}
 use Rattle.node_laws.proofs.dues.Freed.{IsElse, come_found, come_none, come_so, same_port}
 use Rattle.node_laws.proofs.dues.Near.{near_due}
 use Rattle.node_laws.proofs.dues.Noted.{one_command}
-use Rattle.node_laws.proofs.dues.Own.{HoldsOfOwn, IsBehindThem, step_own}
 use Rattle.node_laws.proofs.dues.Steps.{links_mute}
 use Rattle.node_laws.proofs.dues.Syncs.{few_is, few_of, reset_brings, start_brings, stop_brings, synced_at, synced_here, take_brings}
 use Rattle.node_laws.proofs.dues.Taken.{IsTookless, IsUnread, coming_tookless, frames_tookless, keeps_new, others_unread}
@@ -93,29 +93,15 @@ use Rattle.node_laws.proofs.worlds.Telling.{near_same, step_at}
 
 -- ## Where nothing is due
 
-pub tookless_own : HoldsOfOwn IsTookless
-tookless_own = record {
-  command = λ n c. refl;
-  cut = λ n. refl;
-  sent = λ e n pid message. refl;
-  ok = λ n count. refl;
-  ask = λ host message. refl;
-  dropped = λ e pid. refl;
-  same = λ e. refl;
-  made = λ e count. refl;
-  failed = λ e code. refl;
-  turn = λ e pid message. refl;
-  held = λ e need spare. refl;
-}
+pub tookless_own : (x : Entry) → IsOfStep x → IsTookless x
+tookless_own (entry.Took e lpdu) a = absurd a
+tookless_own x a = refl
 
 far_down : (k : ℕ) (f : End) → (node_of f == 0) ≡ false → (same_end f (end_c k) && true) ≡ false
 far_down k f off = by_test f.at_host
-    (λ q. rw q (none (eqb f.link k)))
+    (λ q. rw q (by_test (eqb f.link k) (λ q. rw q refl) (λ q. rw q refl)))
     (λ q. let zero : node_of f ≡ 0 = rw q refl in
-    absurd (true≢false (sym (ap (λ n. n == 0) zero) ∙ off))) where
-      none : (b : Bool) → ((b && false) && true) ≡ false
-      none true = refl
-      none false = refl
+    absurd (true≢false (sym (ap (λ n. n == 0) zero) ∙ off)))
 
 other_down : (k : ℕ) (x : Entry) → is_of_node 0 x ≡ false → ends_session any_cause (end_c k) x ≡ false
 other_down k (entry.Down f cause) off = far_down k f off
@@ -305,8 +291,8 @@ module _ (hosts : List ℕ) (are : AreHosts hosts) (past : List Occurrence) (w :
         ∙ (ap (λ z. keeps_new z h (report p.side i).sync) (sym tables)
         ∙ sym (synced_here begun.core room h i p (report p.side i).sync (at_host begun.ports h p e) refl))
 
-    own_part : IsBehindThem IsTookless tookless_own (begun.entries ++ told_of_coming (AtEnd h i) begun) last
-    own_part = step_own IsTookless tookless_own (AtEnd h i) begun
+    own_part : IsBehind IsTookless (begun.entries ++ told_of_coming (AtEnd h i) begun) last.entries
+    own_part = step_notes IsTookless tookless_own (AtEnd h i) begun
 
     taken : flat_map (new_sync (tables_in t 0)) (last.entries ++ tail) ≡ syncs_in (AtEnd h i) begun
     taken =
@@ -342,10 +328,9 @@ module _ (hosts : List ℕ) (are : AreHosts hosts) (past : List Occurrence) (w :
     come_over : (p : Port) → IsFresh p → (o : Option LinkInput) → ends_by any_cause (end_c p.desk.host) p o ≡ is_over (has_come p o)
     come_over p fresh None = sym (rw (fresh.0, fresh.1) refl)
     come_over p fresh (Some j) =
-        go (ended_by p.side j) ∙ sym (ap (λ b. is_some (ended_by p.side j) || b) fresh.1 ∙ or-false (is_some (ended_by p.side j))) where
-          go : (o : Option _) → option_map_or any_cause o false ≡ is_some o
-          go None = refl
-          go (Some cause) = refl
+        by_option (ended_by p.side j)
+        (λ q. rw q refl)
+        (λ cause q. rw q refl) ∙ sym (ap (λ b. is_some (ended_by p.side j) || b) fresh.1 ∙ or-false (is_some (ended_by p.side j)))
 
     come_late : (p : Port) → IsFresh p → (o : Option LinkInput) → (has_come p o).late ≡ false
     come_late p fresh None = fresh.1

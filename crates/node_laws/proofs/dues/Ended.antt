@@ -38,10 +38,9 @@ AreDowns es = AllByRecursion (λ x. is_down x ≡ true) es
 
 pub downs_are : (es : List Entry) → AreDowns (filter is_down es)
 downs_are [] = tt
-downs_are (x ∷ es) = by (is_down x) refl (downs_are es) where
-  by : (b : Bool) → is_down x ≡ b → AreDowns (filter is_down es) → AreDowns (cond (is_down x) (x ∷ filter is_down es) (filter is_down es))
-  by true q later = subst (λ b. AreDowns (cond b (x ∷ filter is_down es) (filter is_down es))) (sym q) (q, later)
-  by false q later = subst (λ b. AreDowns (cond b (x ∷ filter is_down es) (filter is_down es))) (sym q) later
+downs_are (x ∷ es) = by_test (is_down x)
+    (λ q. subst (λ b. AreDowns (cond b (x ∷ filter is_down es) (filter is_down es))) (sym q) (q, downs_are es))
+    (λ q. subst (λ b. AreDowns (cond b (x ∷ filter is_down es) (filter is_down es))) (sym q) (downs_are es))
 
 module _ (test : EndedBy → Bool) (e : End) where
   no_end : (x : Entry) → is_down x ≡ false → ends_session test e x ≡ false
@@ -50,14 +49,10 @@ module _ (test : EndedBy → Bool) (e : End) where
 
   pub downs_end : (es : List Entry) → ends_in_list test e (filter is_down es) ≡ ends_in_list test e es
   downs_end [] = refl
-  downs_end (x ∷ es) = by (is_down x) refl (downs_end es) where
-    by : (b : Bool) → is_down x ≡ b → ends_in_list test e (filter is_down es) ≡ ends_in_list test e es
-        → ends_in_list test e (cond (is_down x) (x ∷ filter is_down es) (filter is_down es)) ≡ ends_in_list test e (x ∷ es)
-    by true q later =
-        ap (λ b. ends_in_list test e (cond b (x ∷ filter is_down es) (filter is_down es))) q ∙ ap (λ b. ends_session test e x || b) later
-    by false q later =
-        ap (λ b. ends_in_list test e (cond b (x ∷ filter is_down es) (filter is_down es))) q
-        ∙ (later ∙ ap (λ b. b || ends_in_list test e es) (sym (no_end x q)))
+  downs_end (x ∷ es) = by_test (is_down x)
+      (λ q. ap (λ b. ends_in_list test e (cond b (x ∷ filter is_down es) (filter is_down es))) q ∙ ap (λ b. ends_session test e x || b) (downs_end es))
+      (λ q. ap (λ b. ends_in_list test e (cond b (x ∷ filter is_down es) (filter is_down es))) q
+      ∙ (downs_end es ∙ ap (λ b. b || ends_in_list test e es) (sym (no_end x q))))
 
 -- two causes together
 pub either_ends : (one other : EndedBy → Bool) → ((cause : EndedBy) → (one cause || other cause) ≡ true) → (e : End) → (es : List Entry)
@@ -91,18 +86,12 @@ both_none false o = refl
 module _ (x : ℕ) where
   down_session : (t : List Entry) (y : Entry) → is_down y ≡ true
       → session_now (t ++ y ∷ []) (end_c x) 0 ≡ cond (ends_session any_cause (end_c x) y) None (session_now t (end_c x) 0)
-  down_session t (entry.Down f cause) q = fold-append _ None t (entry.Down f cause ∷ []) ∙ by (same_end f (end_c x)) where
-    by : (b : Bool) → cond b None (session_now t (end_c x) 0) ≡ cond (b && true) None (session_now t (end_c x) 0)
-    by true = refl
-    by false = refl
+  down_session t (entry.Down f cause) q = fold-append _ None t (entry.Down f cause ∷ []) ∙ by_test (same_end f (end_c x)) (λ q. rw q refl) (λ q. rw q refl)
   down_session t _ q = absurd (true≢false (sym q))
 
   down_asking : (t : List Entry) (y : Entry) → is_down y ≡ true
       → asking_in (t ++ y ∷ []) x ≡ cond (ends_session any_cause (end_c x) y) None (asking_in t x)
-  down_asking t (entry.Down f cause) q = fold-append _ None t (entry.Down f cause ∷ []) ∙ by (same_end f (end_c x)) where
-    by : (b : Bool) → cond b None (asking_in t x) ≡ cond (b && true) None (asking_in t x)
-    by true = refl
-    by false = refl
+  down_asking t (entry.Down f cause) q = fold-append _ None t (entry.Down f cause ∷ []) ∙ by_test (same_end f (end_c x)) (λ q. rw q refl) (λ q. rw q refl)
   down_asking t _ q = absurd (true≢false (sym q))
 
   module _ {X : Type 0} (read : List Entry → Option X)

@@ -15,7 +15,7 @@ use Rattle.link_laws.specs.machine.Machine.LinkInput.{Tick}
 use Rattle.link_laws.specs.machine.Machine.Turn.{Release}
 use Rattle.node_machine.specs.Parts.{Creation, Deed, Port, Work}
 use Rattle.node_machine.specs.Parts.Deed.{Commits, Releases}
-use Rattle.node_machine.specs.Carrying.{all_done, commit, done, port_at, unless_cut}
+use Rattle.node_machine.specs.Carrying.{all_done, commit, done, port_at}
 use Rattle.node_machine.specs.Controller.{asked_at}
 use Rattle.node_machine.specs.Node.{NodeInput, after_sessions, forgets, forgotten, has_come, input_at}
 use Rattle.node_machine.specs.Node.{is_forgotten, is_late, is_over, is_over_at, owed, reset_late}
@@ -64,14 +64,9 @@ one_session _ w k is = absurd is
 deeds_session : (deeds : List Deed) (w : Work) (k : ℕ) → AllByRecursion SendsNothing deeds
     → session_of_port (all_done 0 deeds w).ports k ≡ session_of_port w.ports k
 deeds_session [] w k a = refl
-deeds_session (d ∷ deeds) w k a = go v.cut refl (deeds_session deeds v k a.1) where
+deeds_session (d ∷ deeds) w k a = by_test v.cut (λ q. rw q (one_session d w k a.0)) (λ q. rw q (deeds_session deeds v k a.1 ∙ one_session d w k a.0)) where
   v : Work
   v = done 0 d w
-
-  go : (b : Bool) → v.cut ≡ b → session_of_port (all_done 0 deeds v).ports k ≡ session_of_port v.ports k
-      → session_of_port (unless_cut (all_done 0 deeds) v).ports k ≡ session_of_port w.ports k
-  go true q later = rw q (one_session d w k a.0)
-  go false q later = rw q (later ∙ one_session d w k a.0)
 
 -- ## Ends behind what came
 

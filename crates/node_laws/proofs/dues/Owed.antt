@@ -22,6 +22,7 @@ use Rattle.node_machine.specs.Controller.{asked_at}
 use Rattle.node_machine.specs.Node.{all_owed, owed}
 use Rattle.node_machine.specs.world.NodeFilters.{is_response}
 use Rattle.node_laws.specs.passes.Noting.{AreTaken, CountsCommands, TakesMessage, entries_of_reply}
+use Rattle.node_laws.proofs.Cases.{by_test}
 use Rattle.node_laws.proofs.creations.Asks.{Asked, waits, owes}
 use Rattle.node_laws.proofs.creations.Doing.{EndAt, Good, at_here, on_is, pays, takes_short}
 use Rattle.node_laws.proofs.replies.Answering.{AreReplyEntries, commands_told}
@@ -145,18 +146,14 @@ module _ (Q : Deed → Type 0) where
   some_owed : (r : Response) (test : Port → Bool) → ((p : Port) → test p ≡ true → (p.ended || p.late) ≡ true) → (ports : List Port)
       → AllByRecursion IfOwed ports → AllByRecursion Q (flat_map (λ p. owed r (asked_at p)) (filter test ports))
   some_owed r test over [] a = tt
-  some_owed r test over (p ∷ ports) a = by (test p) refl (some_owed r test over ports a.1) where
-    of : (o : Option Creation) → asked_at p ≡ o → test p ≡ true → AllByRecursion Q (owed r o)
-    of None q z = tt
-    of (Some c) q z = let both = a.0 (over p z) c q in (both.0, (both.1 (1, answer_of r []), tt))
-
-    by : (b : Bool) → test p ≡ b → AllByRecursion Q (flat_map (λ p. owed r (asked_at p)) (filter test ports))
-        → AllByRecursion Q (flat_map (λ p. owed r (asked_at p)) (filter test (p ∷ ports)))
-    by true z later =
-        subst (λ b. AllByRecursion Q (flat_map (λ p. owed r (asked_at p)) (cond b (p ∷ filter test ports) (filter test ports)))) (sym z)
-        (all_append Q (owed r (asked_at p)) (flat_map (λ p. owed r (asked_at p)) (filter test ports)) (of (asked_at p) refl z) later)
-    by false z later =
-        subst (λ b. AllByRecursion Q (flat_map (λ p. owed r (asked_at p)) (cond b (p ∷ filter test ports) (filter test ports)))) (sym z) later
+  some_owed r test over (p ∷ ports) a = by_test (test p)
+      (λ z. subst (λ b. AllByRecursion Q (flat_map (λ p. owed r (asked_at p)) (cond b (p ∷ filter test ports) (filter test ports)))) (sym z)
+      (all_append Q (owed r (asked_at p)) (flat_map (λ p. owed r (asked_at p)) (filter test ports)) (of (asked_at p) refl z) (some_owed r test over ports a.1)))
+      (λ z. subst (λ b. AllByRecursion Q (flat_map (λ p. owed r (asked_at p)) (cond b (p ∷ filter test ports) (filter test ports)))) (sym z)
+      (some_owed r test over ports a.1)) where
+        of : (o : Option Creation) → asked_at p ≡ o → test p ≡ true → AllByRecursion Q (owed r o)
+        of None q z = tt
+        of (Some c) q z = let both = a.0 (over p z) c q in (both.0, (both.1 (1, answer_of r []), tt))
 
   pub owed_all : (ports : List Port) → AllByRecursion IfOwed ports → AllByRecursion Q (all_owed ports)
   owed_all ports a =

@@ -27,6 +27,7 @@ use Rattle.node_machine.specs.Node.{input_at, synced}
 use Rattle.node_machine.specs.Node.NodeInput.{AtEnd, TimePasses}
 use Rattle.node_laws.specs.kept.Books.{hosts_of_ends}
 use Rattle.node_laws.specs.kept.Hosts.{AreDifferent}
+use Rattle.node_laws.proofs.Cases.{by_test}
 use Rattle.node_laws.proofs.dues.Noted.{one_command}
 use Rattle.node_laws.proofs.dues.Taken.{brought, keeps_new}
 use Rattle.node_laws.proofs.worlds.Uiccs.{tick_none}
@@ -90,10 +91,7 @@ few_of t h (Some id) = cond (is_kept_sync t.syncs h id) None (Some (Sync h id))
 
 pub few_is : (t : HciTables) (h : ℕ) (o : Option ℕ) → keeps_new t h o ≡ one_command (few_of t h o)
 few_is t h None = refl
-few_is t h (Some id) = go (is_kept_sync t.syncs h id) where
-  go : (b : Bool) → cond b [] (Commits (Sync h id) ∷ []) ≡ one_command (cond b None (Some (Sync h id)))
-  go true = refl
-  go false = refl
+few_is t h (Some id) = by_test (is_kept_sync t.syncs h id) (λ q. rw q refl) (λ q. rw q refl)
 
 module _ (core : Core) (room : (c : Command) → finds_room core c ≡ true) where
   pub synced_here : (h : ℕ) (i : LinkInput) (p : Port) (o : Option ℕ) → p.desk.host ≡ h → (report p.side i).sync ≡ o
@@ -130,16 +128,12 @@ none_else core h i k (p ∷ ports) a same =
 pub synced_at : (core : Core) (h : ℕ) (i : LinkInput) (ports : List Port) → AreDifferent (hosts_of_ends ports)
     → flat_map (synced core (AtEnd h i)) ports ≡ option_map_or (synced core (AtEnd h i)) (port_at ports h) []
 synced_at core h i [] d = refl
-synced_at core h i (p ∷ ports) d = go (eqb p.desk.host h) refl (synced_at core h i ports d.1) where
-  go : (b : Bool) → eqb p.desk.host h ≡ b → flat_map (synced core (AtEnd h i)) ports ≡ option_map_or (synced core (AtEnd h i)) (port_at ports h) []
-      → flat_map (synced core (AtEnd h i)) (p ∷ ports) ≡ option_map_or (synced core (AtEnd h i)) (port_at (p ∷ ports) h) []
-  go true q later =
-      ap (λ ds. synced core (AtEnd h i) p ++ ds) (none_else core h i p.desk.host ports d.0 (eqb-true p.desk.host h q))
-      ∙ (append-nil (synced core (AtEnd h i) p)
-      ∙ sym (ap (λ b. option_map_or (synced core (AtEnd h i)) (cond b (Some p) (port_at ports h)) []) q))
-  go false q later =
-      ap (λ ds. ds ++ flat_map (synced core (AtEnd h i)) ports) (synced_else core h i p q)
-      ∙ (later ∙ sym (ap (λ b. option_map_or (synced core (AtEnd h i)) (cond b (Some p) (port_at ports h)) []) q))
+synced_at core h i (p ∷ ports) d = by_test (eqb p.desk.host h)
+    (λ q. ap (λ ds. synced core (AtEnd h i) p ++ ds) (none_else core h i p.desk.host ports d.0 (eqb-true p.desk.host h q))
+    ∙ (append-nil (synced core (AtEnd h i) p)
+    ∙ sym (ap (λ b. option_map_or (synced core (AtEnd h i)) (cond b (Some p) (port_at ports h)) []) q)))
+    (λ q. ap (λ ds. ds ++ flat_map (synced core (AtEnd h i)) ports) (synced_else core h i p q)
+    ∙ (synced_at core h i ports d.1 ∙ sym (ap (λ b. option_map_or (synced core (AtEnd h i)) (cond b (Some p) (port_at ports h)) []) q)))
 
 -- a tick brings none
 pub ticks_none : (core : Core) (ports : List Port) → AllByRecursion (λ (p : Port). IsClf p.side.role) ports → flat_map (synced core TimePasses) ports ≡ []

@@ -4,7 +4,6 @@ use Rattle.std.proofs.Common.{true, false, cond, List, [], ◌∷◌, ◌++◌, 
 use Rattle.std.proofs.Common.{subst, arith}
 use Rattle.std.specs.Prelude.{◌==◌, find, nat_le, nat_lt, Option, Some, None, Result, Ok, Err}
 use Rattle.std.specs.List.{AllByRecursion, flat_map}
-use Rattle.std.specs.Option.{option_map_or}
 use Rattle.std.proofs.lemmas.Bool.{and_right, lt-leb, true≢false}
 use Rattle.registry.proofs.ValueLemmas.{AllByRecursion-append as all_append}
 use Rattle.swp_base.specs.declared.control_frames.Control.{Control}
@@ -21,13 +20,13 @@ use Rattle.link_laws.specs.sessions.Sessions.{OnWire}
 use Rattle.link_laws.specs.machine.Machine.{LinkEnd, Report, frames_out}
 use Rattle.link_laws.specs.messages.Links.{Ending, Link, Loss, put}
 use Rattle.link_laws.specs.messages.Links.Ending.{CutOff, GoesOut}
-use Rattle.link_laws.specs.messages.Links.Loss.{TooMany, TooOld}
+use Rattle.link_laws.specs.messages.Links.Loss.{TooMany}
 use Rattle.link_laws.specs.entries.Entries.{End as Side, Entry as Noted, aged_entries, ending_entries, far, first_lost, pushed_out, put_entries}
 use Rattle.link_laws.specs.entries.Entries.{puts_entries, told, wire_with}
-use Rattle.link_laws.specs.entries.Entries.Entry.{Cut, Lost, Restarted, Tick as Ticked, Took}
+use Rattle.link_laws.specs.entries.Entries.Entry.{Cut, Restarted, Tick as Ticked, Took}
 use Rattle.link_laws.specs.entries.Entries.End.{Controller, Host}
 use Rattle.history.specs.Steps.{entries_for}
-use Rattle.node_machine.specs.Parts.{Deed, Port, Work}
+use Rattle.node_machine.specs.Parts.{Deed, Work}
 use Rattle.node_machine.specs.Parts.Deed.{Commits}
 use Rattle.node_machine.specs.Carrying.{port_at}
 use Rattle.node_machine.specs.Node.{NodeInput}
@@ -37,7 +36,7 @@ use Rattle.node_laws.specs.power.Powers.{AreNotOf, is_of_node}
 use Rattle.node_laws.specs.answers.Unasked.{new_sync}
 use Rattle.node_laws.proofs.passes.Coming.{coming_all}
 use Rattle.node_laws.proofs.telling.Reported.{told_all}
-use Rattle.node_laws.proofs.Cases.{by_test}
+use Rattle.node_laws.proofs.Cases.{by_test, by_option}
 
 -- ## LPDUs
 
@@ -205,10 +204,7 @@ lost_takes who why [] = tt
 lost_takes who why (x ∷ xs) = (tt, tt)
 
 pushed_takes : (who : Side) (wire : List OnWire) → AreNoTakes (pushed_out who wire)
-pushed_takes who wire = go (nat_lt 64 (length wire)) where
-  go : (b : Bool) → AreNoTakes (cond b (first_lost who TooMany wire) [])
-  go true = lost_takes who TooMany wire
-  go false = tt
+pushed_takes who wire = by_test (nat_lt 64 (length wire)) (λ q. rw q (lost_takes who TooMany wire)) (λ q. rw q tt)
 
 puts_takes : (who : Side) (l : Link) (cs : List Control) → AreNoTakes (puts_entries who l cs)
 puts_takes who l [] = tt
@@ -220,20 +216,16 @@ ending_takes who l e GoesOut = puts_takes who l (frames_out e)
 ending_takes who l e CutOff = (tt, tt)
 
 pub frames_tookless : (who : Side) (h : ℕ) (l : Link) (k : Work) → AreTookless (frames_noted who h l k)
-frames_tookless who h l k = go (port_at k.ports h) where
-  go : (o : Option Port) → AreTookless (option_map_or (λ (p : Port). entries_for h (ending_entries who l p.side (ending_of k))) o [])
-  go None = tt
-  go (Some p) = notes_tookless h (ending_entries who l p.side (ending_of k)) (ending_takes who l p.side (ending_of k))
+frames_tookless who h l k = by_option (port_at k.ports h)
+    (λ q. rw q tt)
+    (λ p q. rw q (notes_tookless h (ending_entries who l p.side (ending_of k)) (ending_takes who l p.side (ending_of k))))
 
 pub first_tookless : (h : ℕ) (who : Side) (why : Loss) (xs : List OnWire) → AreTookless (entries_for h (first_lost who why xs))
 first_tookless h who why xs = notes_tookless h (first_lost who why xs) (lost_takes who why xs)
 
 aged_takes : (who : Side) (xs : List OnWire) → AreNoTakes (aged_entries who xs)
 aged_takes who [] = tt
-aged_takes who (x ∷ xs) = go (nat_lt x.age 4) (aged_takes who xs) where
-  go : (b : Bool) → AreNoTakes (aged_entries who xs) → AreNoTakes (cond b (aged_entries who xs) (Lost who x.frame TooOld ∷ aged_entries who xs))
-  go true later = later
-  go false later = (tt, later)
+aged_takes who (x ∷ xs) = by_test (nat_lt x.age 4) (λ q. rw q (aged_takes who xs)) (λ q. rw q (tt, aged_takes who xs))
 
 pub aged_tookless : (sites : List Site)
     → AreTookless (flat_map (λ (s : Site). entries_for s.host (aged_entries Controller s.link.to_controller ++ aged_entries Host s.link.to_host)) sites)

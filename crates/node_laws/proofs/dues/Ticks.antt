@@ -1,7 +1,7 @@
 -- In a tick of the world the controller answers before its first turn exactly what is due.
 use Rattle.std.proofs.Common.{◌≡◌, ℕ, ◌||◌, Bool, true, false, eqb, List, [], ◌∷◌, ◌++◌, map, sym, refl, ap, ap₂, ◌∙◌, subst, append_assoc}
 use Rattle.std.proofs.Common.{append-nil}
-use Rattle.std.specs.Prelude.{not, Option, Some, None}
+use Rattle.std.specs.Prelude.{Option, Some, None}
 use Rattle.std.specs.List.{AllByRecursion, flat_map}
 use Rattle.registry.proofs.ValueLemmas.{AllByRecursion-append as all_append}
 use Rattle.trace_model.specs.declared.entry.Entry.{Entry}
@@ -28,13 +28,13 @@ use Rattle.node_laws.specs.kept.Hosts.{AreDifferent, AreHosts}
 use Rattle.node_laws.specs.telling.Telling.{HasEnds, IsOrderly, hosts_in}
 use Rattle.node_laws.proofs.All.{all_flat}
 use Rattle.node_laws.proofs.Cases.{by_test}
-use Rattle.node_laws.proofs.kept.Sites.{hosts_same as sites_same}
 use Rattle.node_laws.proofs.telling.Events.{orderly_map}
 use Rattle.node_laws.proofs.telling.Nodes.{Stands, hosts_same, link_is, stands}
 use Rattle.node_laws.proofs.telling.WorldTicks.{near_orderly}
 use Rattle.node_laws.specs.passes.Noting.{session_of_port}
 use Rattle.node_laws.specs.passes.Steps.{has_come_so, syncs_in, told_of_coming}
 use Rattle.node_laws.specs.power.Powers.{AreNotOf}
+use Rattle.node_laws.proofs.passes.InSteps.{IsBehind, step_notes}
 use Rattle.node_laws.proofs.passes.Replying.{session_in}
 use Rattle.node_laws.proofs.power.Events.{both_nodes, near_ticks_part, none_zero, others_tick}
 use Rattle.node_laws.proofs.power.Parts.{AreOwn, part_own}
@@ -53,7 +53,6 @@ use Rattle.node_laws.proofs.dues.Comes.{front_own, nothing_due, owed_off, sessio
 use Rattle.node_laws.proofs.dues.Ended.{either_ends, ends_at}
 use Rattle.node_laws.proofs.dues.Freed.{IsElse, come_found, come_none, come_so, same_port}
 use Rattle.node_laws.proofs.dues.Near.{near_due}
-use Rattle.node_laws.proofs.dues.Own.{IsBehindThem, step_own}
 use Rattle.node_laws.proofs.dues.Steps.{AreOfLink, links_are, mute_both, IsOfLink}
 use Rattle.node_laws.proofs.dues.Syncs.{ticks_none}
 use Rattle.node_laws.proofs.dues.Taken.{IsTookless, IsUnread, aged_tookless, coming_tookless, frames_tookless, others_unread, tookless_all, unread_flat}
@@ -78,10 +77,7 @@ reset_flag : (p : Port) → p.late ≡ false → (reset_late p).late ≡ is_late
 reset_flag p fresh = by_test (is_late p) (λ z. rw z refl) (λ z. rw z fresh)
 
 every_cause : (cause : EndedBy) → (is_own_reset cause || otherwise cause) ≡ true
-every_cause cause = go (is_own_reset cause) where
-  go : (b : Bool) → (b || not b) ≡ true
-  go true = refl
-  go false = refl
+every_cause cause = by_test (is_own_reset cause) (λ q. rw q refl) (λ q. rw q refl)
 
 module _ (hosts : List ℕ) (are : AreHosts hosts) (past : List Occurrence) (w : NodeWorld) (between : ReadsBetween hosts (entries_in past) w)
     (before : IsReadBefore past w)
@@ -110,9 +106,6 @@ module _ (hosts : List ℕ) (are : AreHosts hosts) (past : List Occurrence) (w :
       let kept : IsOrderly (record { memory = old.memory; controller = None; sites = (controller_ticks old).0.sites }) = near_orderly old orderly in
       others_tick 0 (controller_ticks old).0.sites (none_zero (controller_ticks old).0.sites kept.hosts)
       (both_nodes (controller_ticks old).0.sites kept.hosts kept.nodes)
-
-  gone : Site → List Entry
-  gone s = entries_for s.host (aged_entries Controller s.link.to_controller ++ aged_entries Host s.link.to_host)
 
   lead_answers : AllByRecursion (λ x. is_answer_of 0 x ≡ false) lead
   lead_answers = unanswered_all 0 lead (aged_unanswered w.sites)
@@ -155,9 +148,6 @@ module _ (hosts : List ℕ) (are : AreHosts hosts) (past : List Occurrence) (w :
     has : HasEnds 0 (hosts_in w.sites) r
     has = near_node w r before.orderly runs
 
-    old_hosts : hosts_in old.sites ≡ hosts_in w.sites
-    old_hosts = sites_same (λ (s : Site). record s { link = aged s.link }) (λ s. refl) w.sites
-
     hosts_are : hosts_of_ends begun.ports ≡ hosts_in w.sites
     hosts_are = hosts_same near_ends r.desks ∙ has.ends
 
@@ -182,15 +172,11 @@ module _ (hosts : List ℕ) (are : AreHosts hosts) (past : List Occurrence) (w :
         aged_site : (sites : List Site) → site_at sites k ≡ Some s
             → site_at (map (λ (x : Site). record x { link = aged x.link }) sites) k ≡ Some (record s { link = aged s.link })
         aged_site [] e = absurd (cc e)
-        aged_site (x ∷ sites) e = go (eqb x.host k) refl (aged_site sites) where
-          go : (b : Bool) → eqb x.host k ≡ b
-              → (site_at sites k ≡ Some s → site_at (map (λ (x : Site). record x { link = aged x.link }) sites) k ≡ Some (record s { link = aged s.link }))
-              → site_at (map (λ (x : Site). record x { link = aged x.link }) (x ∷ sites)) k ≡ Some (record s { link = aged s.link })
-          go true z later =
-              let same : Some x ≡ Some s = rw z at e in
-              let one : x ≡ s = cc in
-              rw z (ap (λ (y : Site). Some (record y { link = aged y.link })) one)
-          go false z later = rw z (later (rw z at e))
+        aged_site (x ∷ sites) e = by_test (eqb x.host k)
+            (λ z. let same : Some x ≡ Some s = rw z at e in
+            let one : x ≡ s = cc in
+            rw z (ap (λ (y : Site). Some (record y { link = aged y.link })) one))
+            (λ z. rw z (aged_site sites (rw z at e)))
 
     clf_at : (k : ℕ) (p : Port) → port_at begun.ports k ≡ Some p → IsClf p.side.role
     clf_at k p found =
@@ -204,8 +190,8 @@ module _ (hosts : List ℕ) (are : AreHosts hosts) (past : List Occurrence) (w :
         ticks_none begun.core begun.ports
         (all_found (λ (p : Port). IsClf p.side.role) begun.ports (subst AreDifferent (sym hosts_are) before.orderly.different) clf_at)
 
-    own_part : IsBehindThem IsTookless tookless_own (begun.entries ++ told_of_coming TimePasses begun) last
-    own_part = step_own IsTookless tookless_own TimePasses begun
+    own_part : IsBehind IsTookless (begun.entries ++ told_of_coming TimePasses begun) last.entries
+    own_part = step_notes IsTookless tookless_own TimePasses begun
 
     taken : flat_map (new_sync (tables_in t 0)) es ≡ syncs_in TimePasses begun
     taken =

@@ -1,10 +1,11 @@
 -- The answers of the controller before its first turn, behind entries that tell of none.
-use Rattle.std.proofs.Common.{◌≡◌, ◌||◌, Bool, true, false, cond, List, [], ◌∷◌, ◌++◌, refl, sym, ap, ◌∙◌}
+use Rattle.std.proofs.Common.{◌≡◌, ◌||◌, false, cond, List, [], ◌∷◌, ◌++◌, refl, sym, ap, ◌∙◌}
 use Rattle.std.specs.List.{AllByRecursion, filter, list_any}
 use Rattle.trace_model.specs.declared.entry.Entry.{Entry}
 use Rattle.node_laws.specs.kept.Reckonings.{is_cut_of}
 use Rattle.node_laws.specs.answers.Answered.{AnswersSo, before_turn, is_turn_of, to_command}
 use Rattle.node_laws.specs.answers.Order.{is_answer_of}
+use Rattle.node_laws.proofs.Cases.{by_test}
 use Rattle.node_laws.proofs.worlds.Late.{before_first, late_all}
 
 -- an entry is no turn of the controller, no answer of it and no loss of its power
@@ -27,7 +28,4 @@ mutes_answer (x ∷ xs) es answers mute a = mute_answers x (xs ++ es) answers mu
 
 -- where nothing is answered nothing is due
 pub none_due : (es : List Entry) → AllByRecursion (λ x. is_answer_of 0 x ≡ false) es → AnswersSo 0 es []
-none_due es none = late_all 0 es none ∙ sym (neither (list_any (is_cut_of 0) (before_turn 0 es))) where
-  neither : (b : Bool) → cond b (to_command []) [] ≡ []
-  neither true = refl
-  neither false = refl
+none_due es none = late_all 0 es none ∙ sym (by_test (list_any (is_cut_of 0) (before_turn 0 es)) (λ q. rw q refl) (λ q. rw q refl))

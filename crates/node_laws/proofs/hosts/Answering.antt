@@ -18,9 +18,6 @@ use Rattle.node_laws.proofs.worlds.Late.{before_first}
 
 -- ## Up to a command
 
-one_too_many : (a b : ℕ) → 1 + (a + b) ≤ 0 → ⊥
-one_too_many a b few = omega (arith, few)
-
 -- behind entries that tell of no command this is the first one
 first_command : (front back : List Entry) (n : ℕ) (c : Command) → commands_noted front ≡ 0
     → to_command (front ++ (entry.Command n c ∷ back)) ≡ front ++ (entry.Command n c ∷ [])

@@ -1,5 +1,5 @@
 -- No end of a host has a block set aside, at each turn of a step.
-use Rattle.std.proofs.Common.{◌≡◌, ℕ, Bool, true, false, cond, eqb, List, [], ◌∷◌, map, length, sym, refl, ap, ◌∙◌, subst}
+use Rattle.std.proofs.Common.{◌≡◌, ℕ, Bool, true, false, eqb, List, [], ◌∷◌, map, length, sym, refl, ap, ◌∙◌, subst}
 use Rattle.std.specs.Prelude.{Some, None}
 use Rattle.std.specs.List.{AllByRecursion}
 use Rattle.journal_laws.specs.Planned.{fails_within}
@@ -103,10 +103,7 @@ none_lasts = record {
 -- ## Steps
 
 come_none : (input : NodeInput) (p : Port) → IsOutside input → HasNone p → HasNone (has_come p (input_at input p))
-come_none (AtEnd h i) p outside a = go (eqb p.desk.host h) where
-  go : (b : Bool) → HasNone (has_come p (cond b (Some i) None))
-  go true = input_aside p.side i outside ∙ a
-  go false = a
+come_none (AtEnd h i) p outside a = by_test (eqb p.desk.host h) (λ q. rw q (input_aside p.side i outside ∙ a)) (λ q. rw q a)
 come_none TimePasses p outside a = input_aside p.side Tick tt ∙ a
 
 late_none : (p : Port) → HasNone p → HasNone (reset_late p)

@@ -1,6 +1,6 @@
 -- In each event a host makes a step, or nothing is noted of it: so each message that has its turn there, or is noted as held, is answered as is
 -- read, and the first one that is left lacks room.
-use Rattle.std.proofs.Common.{◌≡◌, ◌⊎◌, inl, inr, ℕ, ◌≤◌, ◌||◌, Bool, true, false, cond, eqb, List, [], ◌∷◌, ◌++◌, Some, None, map, refl, sym, ap, ap₂, ◌∙◌}
+use Rattle.std.proofs.Common.{◌≡◌, ◌⊎◌, inl, inr, ℕ, ◌≤◌, ◌||◌, Bool, true, false, eqb, List, [], ◌∷◌, ◌++◌, Some, None, map, refl, sym, ap, ap₂, ◌∙◌}
 use Rattle.std.proofs.Common.{subst, append_assoc, append-nil}
 use Rattle.std.specs.Prelude.{◌==◌, Option}
 use Rattle.std.specs.List.{AllByRecursion, flat_map}
@@ -16,7 +16,6 @@ use Rattle.link_laws.specs.messages.Links.{Comes, Link, NumberedEnd, aged, excha
 use Rattle.link_laws.specs.messages.Links.Comes.{AsksReset, NextFrame, Starts}
 use Rattle.link_laws.specs.messages.Links.Ending.{GoesOut}
 use Rattle.link_laws.specs.messages.Links.EndEvent.{Step}
-use Rattle.link_laws.specs.messages.Links.Loss.{TooOld}
 use Rattle.link_laws.specs.entries.Entries.{Entry as Noted, aged_entries}
 use Rattle.link_laws.specs.entries.Entries.Entry.{Lost}
 use Rattle.link_laws.specs.entries.Entries.End.{Controller, Host}
@@ -38,6 +37,7 @@ use Rattle.node_machine.proofs.world.Cases.{after_host_step, by_coming, by_contr
 use Rattle.node_machine.proofs.world.Cases.{site_unticked}
 use Rattle.node_laws.specs.kept.Hosts.{AreDifferent}
 use Rattle.node_laws.specs.telling.Telling.{IfItRuns, IsOrderly, hosts_in}
+use Rattle.node_laws.proofs.Cases.{by_test}
 use Rattle.node_laws.proofs.All.{all_flat}
 use Rattle.node_laws.proofs.telling.Events.{comes_goes, orderly_map, site_map}
 use Rattle.node_laws.proofs.telling.Nodes.{link_is, site_host}
@@ -88,11 +88,7 @@ IsLoss _ = ⊥
 
 lost_only : (who : Side) (xs : List OnWire) → AllByRecursion IsLoss (aged_entries who xs)
 lost_only who [] = tt
-lost_only who (x ∷ xs) = go (Rattle.std.specs.Prelude.nat_lt x.age 4) (lost_only who xs) where
-  go : (b : Bool) → AllByRecursion IsLoss (aged_entries who xs)
-      → AllByRecursion IsLoss (cond b (aged_entries who xs) (Lost who x.frame TooOld ∷ aged_entries who xs))
-  go true rest = rest
-  go false rest = (tt, rest)
+lost_only who (x ∷ xs) = by_test (Rattle.std.specs.Prelude.nat_lt x.age 4) (λ q. rw q (lost_only who xs)) (λ q. rw q (tt, lost_only who xs))
 
 losses_of_none : (n h : ℕ) (xs : List Noted) → AllByRecursion IsLoss xs → AreNotOf n (entries_for h xs)
 losses_of_none n h [] a = tt
@@ -117,23 +113,16 @@ record SplitSites (sites : List Site) (n : ℕ) (x : Site) : Type 0 where
 
 split_sites : (sites : List Site) (n : ℕ) (x : Site) → site_at sites n ≡ Some x → SplitSites sites n x
 split_sites [] n x there = absurd (cc there)
-split_sites (s ∷ sites) n x there = by (eqb s.host n) refl (split_sites sites n x) where
-  by : (b : Bool) → eqb s.host n ≡ b → (site_at sites n ≡ Some x → SplitSites sites n x) → SplitSites (s ∷ sites) n x
-  by true q later =
-      let same : Some s ≡ Some x = rw q at there in
-      let one : s ≡ x = cc in
-      record { before = []; behind = sites; is = ap (λ y. y ∷ sites) one; off = tt }
-  by false q later =
-      let rest : SplitSites sites n x = later (rw q at there) in
-      record { before = s ∷ rest.before; behind = rest.behind; is = ap (λ l. s ∷ l) rest.is; off = (q, rest.off) }
+split_sites (s ∷ sites) n x there = by_test (eqb s.host n)
+    (λ q. let same : Some s ≡ Some x = rw q at there in
+    let one : s ≡ x = cc in
+    record { before = []; behind = sites; is = ap (λ y. y ∷ sites) one; off = tt })
+    (λ q. let rest : SplitSites sites n x = split_sites sites n x (rw q at there) in
+    record { before = s ∷ rest.before; behind = rest.behind; is = ap (λ l. s ∷ l) rest.is; off = (q, rest.off) })
 
 none_off : (sites : List Site) (n : ℕ) → site_at sites n ≡ None → AllByRecursion (λ k. eqb k n ≡ false) (hosts_in sites)
 none_off [] n none = tt
-none_off (s ∷ sites) n none = by (eqb s.host n) refl (none_off sites n) where
-  by : (b : Bool) → eqb s.host n ≡ b → (site_at sites n ≡ None → AllByRecursion (λ k. eqb k n ≡ false) (hosts_in sites))
-      → AllByRecursion (λ k. eqb k n ≡ false) (hosts_in (s ∷ sites))
-  by true q later = let no : Some s ≡ None = rw q at none in absurd (cc no)
-  by false q later = (q, later (rw q at none))
+none_off (s ∷ sites) n none = by_test (eqb s.host n) (λ q. let no : Some s ≡ None = rw q at none in absurd (cc no)) (λ q. (q, none_off sites n (rw q at none)))
 
 ticks_split : (before : List Site) (x : Site) (behind : List Site)
     → (hosts_tick (before ++ (x ∷ behind))).1 ≡ (hosts_tick before).1 ++ ((host_ticks x).1 ++ (hosts_tick behind).1)

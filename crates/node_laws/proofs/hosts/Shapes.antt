@@ -9,14 +9,14 @@ use Rattle.trace_model.specs.declared.entry.Entry.TheVariants as entry
 use Rattle.journal_laws.specs.declared.state.State.{State}
 use Rattle.hci_tables.specs.declared.command.Command.{Command}
 use Rattle.hci_tables.specs.declared.command.Command.TheVariants.{Create, Delete, Clear, Set}
-use Rattle.gate_answers.specs.Answers.{answer_of, body_in}
+use Rattle.gate_answers.specs.Answers.{body_in}
 use Rattle.gate_answers.specs.declared.response.Response.TheVariants as response
 use Rattle.gate_link.specs.Link.{link_served}
 use Rattle.link_laws.specs.machine.Machine.{Message}
 use Rattle.node_machine.specs.Parts.{Init, Core, Port, Deed}
 use Rattle.node_machine.specs.Parts.Deed.{Commits, Sends, SaysOk, Asks, Releases, Tells, IsAnswered, Drops, SetsErrors, Orders, Hears, GoesOn, Ends}
 use Rattle.node_machine.specs.Carrying.{end_of_node, finds_room, own_view, end_view, end_of_number}
-use Rattle.node_machine.specs.Controller.{commit_deeds, link_deeds}
+use Rattle.node_machine.specs.Controller.{link_deeds}
 use Rattle.node_machine.specs.HostReplies.{accepts, host_deeds, init_deeds, learned, learns, ordered_deeds}
 use Rattle.node_machine.specs.world.World.{node_of}
 use Rattle.node_laws.specs.kept.Books.{IsPlain}
@@ -25,6 +25,7 @@ use Rattle.node_machine.proofs.Walks.{host_holds, init_holds, learned_holds, lea
 use Rattle.node_laws.specs.passes.Noting.{GiveOnce, entries_of_reply, next_count, sent_in_session}
 use Rattle.node_laws.specs.answers.Order.{is_answer_of}
 use Rattle.node_laws.specs.reply_passes.Counts.{commands_noted}
+use Rattle.node_laws.proofs.Cases.{by_option, by_test}
 use Rattle.node_laws.proofs.replies.Answering.{most_of}
 
 -- ## Deeds
@@ -51,16 +52,10 @@ module _ (core : Core) (off : eqb core.node 0 ≡ false) where
   own_told = rw off (eq-eqb core.node core.node refl)
 
   accepts_once : (c : Command) → Once (accepts (own_view core) c)
-  accepts_once c = by (finds_room core c) where
-    by : (b : Bool) → Once (commit_deeds b core.node 1 c (answer_of response.Ok []) [])
-    by true = (refl, refl, tt)
-    by false = (refl, refl, tt)
+  accepts_once c = by_test (finds_room core c) (λ q. rw q (refl, refl, tt)) (λ q. rw q (refl, refl, tt))
 
   link_once : (pipe : ℕ) (answer : List ℕ × Option ℕ) → Once (link_deeds core.node pipe answer)
-  link_once pipe answer = by answer.1 where
-    by : (o : Option ℕ) → Once (link_deeds core.node pipe (answer.0, o))
-    by None = (refl, refl, tt)
-    by (Some v) = (refl, refl, tt)
+  link_once pipe answer = by_option answer.1 (λ q. rw q (refl, refl, tt)) (λ v q. rw q (refl, refl, tt))
 
   ordered_once : (errors pipe n : ℕ) (body : List ℕ) → Once (ordered_deeds (own_view core) errors pipe n body)
   ordered_once errors pipe n body = ordered_holds Once core errors pipe n body (record {
@@ -127,10 +122,7 @@ module _ (n : ℕ) where
 
     module _ (sessions : ℕ → Option ℕ) where
       sent_answers : (to : ℕ) (m : Message) (es : List Entry) → to ≡ n → AreAnswers es → AreAnswers (sent_in_session n sessions to m ++ es)
-      sent_answers to m es is all = go (sessions to) where
-        go : (o : Option ℕ) → AreAnswers (option_map_or (λ k. entry.Sent (end_of_number n to) k m.0 m.1 ∷ []) o [] ++ es)
-        go None = all
-        go (Some k) = (own_number to is, all)
+      sent_answers to m es is all = by_option (sessions to) (λ q. rw q all) (λ k q. rw q (own_number to is, all))
 
       -- all that they note is answers of the host
       pub reply_answers : (count : ℕ) (may : Bool) (deeds : List Deed) → GivesOnce n may deeds → AreAnswers (entries_of_reply n sessions n count deeds)
@@ -172,10 +164,7 @@ module _ (n : ℕ) where
 
 module _ (n : ℕ) (sessions : ℕ → Option ℕ) (h : ℕ) where
   sent_none : (to : ℕ) (m : Message) (es : List Entry) → commands_noted (sent_in_session n sessions to m ++ es) ≡ commands_noted es
-  sent_none to m es = go (sessions to) where
-    go : (o : Option ℕ) → commands_noted (option_map_or (λ k. entry.Sent (end_of_number n to) k m.0 m.1 ∷ []) o [] ++ es) ≡ commands_noted es
-    go None = refl
-    go (Some k) = refl
+  sent_none to m es = by_option (sessions to) (λ q. rw q refl) (λ k q. rw q refl)
 
   plain_none : (e : Entry) (es : List Entry) → IsPlain e → commands_noted (e ∷ es) ≡ commands_noted es
   plain_none (entry.Command m c) es plain = absurd plain

@@ -29,6 +29,7 @@ use Rattle.node_machine.specs.Parts.Deed.{Sends, Orders}
 use Rattle.node_machine.specs.Carrying.{port_at, changed_if}
 use Rattle.node_machine.specs.Controller.{creation_in, asked_at, is_command_message}
 use Rattle.node_laws.specs.steps.Waiting.{IsAllowedStill}
+use Rattle.node_laws.proofs.Cases.{by_test}
 use Rattle.node_laws.proofs.kept.Asking.{NoneNew, same_new, may_still, map_found, map_two}
 use Rattle.node_machine.specs.Node.{steps, begins_with, boot_writes, found, with_error}
 use Rattle.node_machine.specs.Node.NodeInput.{AtEnd}
@@ -60,35 +61,23 @@ no_order (Some c) order init off on = absurd (true≢false off)
 -- ends count one more error
 pub error_hosts : (h : ℕ) (desks : List Desk) → map (λ (d : Desk). d.host) (with_error h desks) ≡ map (λ (d : Desk). d.host) desks
 error_hosts h [] = refl
-error_hosts h (d ∷ desks) = ap₂ (λ x l. x ∷ l) (by_host (eqb d.host h)) (error_hosts h desks) where
-  by_host : (b : Bool) → (changed_if b (λ (d : Desk). record d { errors = min 65535 (d.errors + 1) }) d).host ≡ d.host
-  by_host true = refl
-  by_host false = refl
+error_hosts h (d ∷ desks) = ap₂ (λ x l. x ∷ l) (by_test (eqb d.host h) (λ q. rw q refl) (λ q. rw q refl)) (error_hosts h desks)
 
 error_waits : (h : ℕ) (desks : List Desk) → AllByRecursion (λ (d : Desk). WaitsFor d.notice) desks
     → AllByRecursion (λ (d : Desk). WaitsFor d.notice) (with_error h desks)
 error_waits h [] all = tt
-error_waits h (d ∷ desks) all = (by_host (eqb d.host h), error_waits h desks all.1) where
-  by_host : (b : Bool) → WaitsFor (changed_if b (λ (d : Desk). record d { errors = min 65535 (d.errors + 1) }) d).notice
-  by_host true = all.0
-  by_host false = all.0
+error_waits h (d ∷ desks) all = (by_test (eqb d.host h) (λ q. rw q all.0) (λ q. rw q all.0), error_waits h desks all.1)
 
 more_errors : ℕ → Desk → Desk
 more_errors h d = changed_if (eqb d.host h) (λ (d : Desk). record d { errors = min 65535 (d.errors + 1) }) d
 
 more_host : (h : ℕ) (d : Desk) → (more_errors h d).host ≡ d.host
 unfolding more_errors
-more_host h d = by_host (eqb d.host h) where
-  by_host : (b : Bool) → (changed_if b (λ (d : Desk). record d { errors = min 65535 (d.errors + 1) }) d).host ≡ d.host
-  by_host true = refl
-  by_host false = refl
+more_host h d = by_test (eqb d.host h) (λ q. rw q refl) (λ q. rw q refl)
 
 more_notice : (h : ℕ) (d : Desk) → (more_errors h d).notice ≡ d.notice
 unfolding more_errors
-more_notice h d = by_host (eqb d.host h) where
-  by_host : (b : Bool) → (changed_if b (λ (d : Desk). record d { errors = min 65535 (d.errors + 1) }) d).notice ≡ d.notice
-  by_host true = refl
-  by_host false = refl
+more_notice h d = by_test (eqb d.host h) (λ q. rw q refl) (λ q. rw q refl)
 
 more_all : (h : ℕ) (desks : List Desk) → with_error h desks ≡ map (more_errors h) desks
 unfolding more_errors

@@ -3,7 +3,6 @@ use Rattle.std.proofs.Common.{◌≡◌, ◌⊎◌, inl, inr, ℕ, ◌+◌, true
 use Rattle.std.proofs.Common.{append-nil}
 use Rattle.std.specs.Prelude.{Option, Some, None}
 use Rattle.std.specs.List.{AllByRecursion, flat_map, list_any}
-use Rattle.std.specs.Option.{option_map_or}
 use Rattle.std.proofs.lemmas.Bool.{cond_both, cases_Bool, and_parts, and_from, le-leb, eqb-true, true≢false}
 use Rattle.swp_base.specs.InMemory.{Memory}
 use Rattle.swp_act.specs.declared.ActEvent.TheVariants.{Tick as ActTick}
@@ -24,7 +23,6 @@ use Rattle.link_laws.specs.machine.Machine.LinkInput.{Reset}
 use Rattle.link_laws.specs.machine.Machine.Turn.{Give, Release}
 use Rattle.link_laws.specs.entries.Entries.{told}
 use Rattle.node_machine.specs.Parts.{Creation, Notice, Init, Core, Port, Work, Deed}
-use Rattle.node_machine.specs.Parts.About.{Forgotten}
 use Rattle.node_machine.specs.Parts.Deed.{Commits, Sends, Releases}
 use Rattle.node_machine.specs.Carrying.{own_side, unless_cut, turn_at, all_done, finds_room}
 use Rattle.node_machine.specs.Controller.{creation_in, asked_at}
@@ -79,10 +77,9 @@ older_waits p w = by_notice p.desk.notice refl w where
   by_notice (Some n) e w = rw e w
 
 older_new : (p : Port) (c : Creation) → asked_at (with_older p) ≡ Some c → asked_at p ≡ Some c
-older_new p c asked = by_notice p.desk.notice refl asked where
-  by_notice : (o : Option Notice) → p.desk.notice ≡ o → asked_at (with_older p) ≡ Some c → asked_at p ≡ Some c
-  by_notice None e a = let none : None ≡ Some c = rw e at a in absurd (cc none)
-  by_notice (Some n) e a = let same : creation_in (Some n) ≡ Some c = rw e at a in rw e same
+older_new p c asked = by_option p.desk.notice
+    (λ e. let none : None ≡ Some c = rw e at asked in absurd (cc none))
+    (λ n e. let same : creation_in (Some n) ≡ Some c = rw e at asked in rw e same)
 
 late_new : (p : Port) (c : Creation) → asked_at (reset_late p) ≡ Some c → asked_at p ≡ Some c
 late_new p c asked =
@@ -111,22 +108,15 @@ core_late TimePasses w = refl
 -- ## Sessions that ended
 
 forgets_waits : (ports : List Port) (p : Port) → WaitsAt p → WaitsAt (forgets ports p)
-forgets_waits ports p w = cond_both (is_forgotten ports (asked_at p)) _ p WaitsAt (λ _. by_notice p.desk.notice) (λ _. w) where
-  by_notice : (o : Option Notice) → WaitsFor (option_map_or (λ (n : Notice). Some (record n { about = Forgotten })) o None)
-  by_notice None = tt
-  by_notice (Some n) = tt
+forgets_waits ports p w = cond_both (is_forgotten ports (asked_at p)) _ p WaitsAt (λ _. by_option p.desk.notice (λ q. rw q tt) (λ n q. rw q tt)) (λ _. w)
 
 without_waits : (p : Port) → WaitsAt p → WaitsAt (without_notice p)
 without_waits p w = cond_both (is_over p) (record p { desk = record p.desk { notice = None } }) p WaitsAt (λ _. tt) (λ _. w)
 
-forgot : (o : Option Notice) → creation_in (option_map_or (λ (n : Notice). Some (record n { about = Forgotten })) o None) ≡ None
-forgot None = refl
-forgot (Some n) = refl
-
 forgets_new : (ports : List Port) (p : Port) (c : Creation) → asked_at (forgets ports p) ≡ Some c → asked_at p ≡ Some c
 forgets_new ports p c asked =
     cond_both (is_forgotten ports (asked_at p)) _ p (λ q. asked_at q ≡ Some c → asked_at p ≡ Some c)
-    (λ _ e. let none : None ≡ Some c = sym (forgot p.desk.notice) ∙ e in absurd (cc none)) (λ _ e. e) asked
+    (λ _ e. let none : None ≡ Some c = sym (by_option p.desk.notice (λ q. rw q refl) (λ n q. rw q refl)) ∙ e in absurd (cc none)) (λ _ e. e) asked
 
 without_new : (p : Port) (c : Creation) → asked_at (without_notice p) ≡ Some c → asked_at p ≡ Some c
 without_new p c asked =

@@ -71,10 +71,6 @@ moved t u h es is own (s ∷ sites) off all = (
   moved t u h es is own sites off.1 all.1,
 )
 
-turned : (h : ℕ) (hosts : List ℕ) → AllByRecursion (λ k. eqb k h ≡ false) hosts → AllByRecursion (λ k. eqb h k ≡ false) hosts
-turned h [] all = tt
-turned h (k ∷ hosts) all = (ne_eqb h k (λ e. eqb-false k h all.0 (sym e)), turned h hosts all.1)
-
 sites_tick : (sites : List Site) (t : List Entry) → AreDifferent (hosts_in sites) → AllByRecursion IsHost (hosts_in sites)
     → AllByRecursion (SiteKeeps t) sites → SitesTick t sites (hosts_tick sites)
 sites_tick [] t different hosts all = record {

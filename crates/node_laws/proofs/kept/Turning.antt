@@ -2,8 +2,9 @@
 use Rattle.std.proofs.Common.{◌∙◌, ◌≡◌, ◌⊎◌, inl, inr, ℕ, ◌≤◌, true, false, eqb, List, [], ◌∷◌, sym, refl, subst, arith}
 use Rattle.std.specs.Prelude.{Option, Some, None}
 use Rattle.std.specs.List.{AllByRecursion}
-use Rattle.std.specs.Option.{option_map, option_map_or}
+use Rattle.std.specs.Option.{option_map_or}
 use Rattle.node_laws.specs.steps.Waiting.{IsAllowedStill}
+use Rattle.node_laws.proofs.Cases.{by_option}
 use Rattle.node_laws.proofs.steps.Waits.{message_allowed}
 use Rattle.std.proofs.lemmas.Bool.{eq-eqb, cases_Bool}
 use Rattle.swp_base.specs.InMemory.{Memory}
@@ -13,8 +14,7 @@ use Rattle.trace_model.specs.declared.entry.Entry.TheVariants as entry
 use Rattle.link_laws.specs.machine.Machine.{Message, is_held}
 use Rattle.link_laws.specs.machine.Machine.Turn.{FetchMessage, Hold}
 use Rattle.node_machine.specs.Parts.{Port, Work, Deed}
-use Rattle.node_machine.specs.Carrying.{noting, unless_cut, port_at, with_desk, turn_at, end_of_node, needs, lack, own_view, end_view}
-use Rattle.node_machine.specs.HostReplies.{host_deeds}
+use Rattle.node_machine.specs.Carrying.{noting, unless_cut, port_at, with_desk, turn_at, end_of_node, needs, lack}
 use Rattle.node_machine.specs.Turns.{deeds_of, handles, holds_back, lets_go, have_turns, goes_through_ends, passes}
 use Rattle.node_laws.specs.kept.Books.{hosts_of_ends, StillRuns}
 use Rattle.node_laws.specs.kept.Deeds.{MayBeDone}
@@ -51,12 +51,7 @@ module _ (n : ℕ) (hosts : List ℕ) (old : Memory) (before : List Entry) where
       by_node : (eqb w.core.node 0 ≡ true) ⊎ (eqb w.core.node 0 ≡ false)
           → MayBeDone (Some w.core.journal) w.core.command w.core.init (deeds_of w.core w.ports h m)
       by_node (inl e) = rw e (controller_may w.core on r.sorted w.ports r.waits h host.0 host.1 m)
-      by_node (inr e) = rw e (go (port_at w.ports h)) where
-        go : (o : Option Port)
-            → MayBeDone (Some w.core.journal) w.core.command w.core.init
-            (option_map_or (λ e. host_deeds (own_view w.core) e m) (option_map end_view o) [])
-        go None = on
-        go (Some p) = host_may w.core on r.sorted small p m
+      by_node (inr e) = rw e (by_option (port_at w.ports h) (λ q. rw q on) (λ p q. rw q (host_may w.core on r.sorted small p m)))
 
     pub deeds_fit : (w : Work) (h : ℕ) (m : Message) → Runs w → n ≡ 0 → AllByRecursion (IsAllowedStill w.core.tables w.ports) (deeds_of w.core w.ports h m)
     deeds_fit w h m r z =

@@ -46,14 +46,9 @@ use Rattle.link_laws.proofs.entries.Stepping.{fetched_acked as frames_acked, one
 -- a message more leaves those before it whole
 whole_front : (ms : List Message) (m : Message) (a : ℕ) → whole_among ms a ≤ whole_among (ms ++ m ∷ []) a
 whole_front [] m a = omega arith
-whole_front (x ∷ ms) m a = go (nat_le n a) refl (whole_front ms m (a - n)) where
+whole_front (x ∷ ms) m a = by_test (nat_le n a) (λ q. rw q (omega (arith, whole_front ms m (a - n)))) (λ q. rw q (omega arith)) where
   n : ℕ
   n = packet_count (length x.1)
-
-  go : (b : Bool) → nat_le n a ≡ b → whole_among ms (a - n) ≤ whole_among (ms ++ m ∷ []) (a - n)
-      → whole_among (x ∷ ms) a ≤ whole_among (x ∷ (ms ++ m ∷ [])) a
-  go true q later = rw q (omega (arith, later))
-  go false q later = rw q (omega arith)
 
 -- ## One end
 

@@ -15,6 +15,7 @@ use Rattle.gate_admin.specs.Decide.{far_end_of}
 use Rattle.gate_admin.specs.Decide.{shares, decided}
 use Rattle.gate_admin.specs.Decide.{told_of_clearing}
 use Rattle.tables_laws.proofs.gate.Decisions.{decided_holds}
+use Rattle.node_laws.proofs.Cases.{by_test}
 use Rattle.node_laws.proofs.links.Masking.{nobody, alone, from_mask, all_in}
 
 -- they are connected
@@ -34,11 +35,7 @@ module _ (v : LinkView) where
   deletion : (o : Option (ℕ × ℕ))
       → AreConnected v (hosts_where (has (mask_of (option_map_or (λ (end : ℕ × ℕ). cond (is_connected v end.0) (end.0 ∷ []) []) o []))))
   deletion None = none_told
-  deletion (Some end) = go (is_connected v end.0) refl
-    where
-      go : (b : Bool) → is_connected v end.0 ≡ b → AreConnected v (hosts_where (has (mask_of (cond b (end.0 ∷ []) []))))
-      go true q = alone (λ x. is_connected v x ≡ true) v.connected end.0 q q
-      go false q = none_told
+  deletion (Some end) = by_test (is_connected v end.0) (λ q. rw q (alone (λ x. is_connected v x ≡ true) v.connected end.0 q q)) (λ q. rw q none_told)
 
   -- each that is in the mask of the hosts that share a pipe is connected
   sharing : (t : HciTables) (host : ℕ) (hosts : List ℕ) → AllByRecursion (λ x. has (mask_of (told_of_clearing t v host)) x ≡ true) hosts → AreConnected v hosts

@@ -43,11 +43,7 @@ OnPipes ms = AllByRecursion (λ (m : Message). m.0 < 112) ms
 have_pipes : (fs : List (List ℕ)) → HavePipes (packets_in fs)
 have_pipes [] = tt
 have_pipes ([] ∷ fs) = have_pipes fs
-have_pipes ((first ∷ rest) ∷ fs) = go (nat_lt (first % 128) 112) refl (have_pipes fs)
-  where
-    go : (b : Bool) → nat_lt (first % 128) 112 ≡ b → HavePipes (packets_in fs) → HavePipes (packets_in ((first ∷ rest) ∷ fs))
-    go true q later = rw q (ltb-true (first % 128) 112 q, later)
-    go false q later = rw q later
+have_pipes ((first ∷ rest) ∷ fs) = by_test (nat_lt (first % 128) 112) (λ q. rw q (ltb-true (first % 128) 112 q, have_pipes fs)) (λ q. rw q (have_pipes fs))
 
 joined_pipe : (begun : List Message) (p : Packet) → p.pipe < 112 → OnPipes (message_in (join_step begun p).0)
 joined_pipe begun p fits = go (is_fifth begun p.pipe) (nat_lt 4096 (length (grown begun p))) p.last refl refl refl
@@ -66,15 +62,11 @@ on_pipes begun (p ∷ ps) a =
 
 good_sendable : (ms : List Message) → OnPipes ms → AreSendable (good_of ms)
 good_sendable [] a = tt
-good_sendable (m ∷ ms) a = by (is_good m.1) refl (good_sendable ms a.1)
+good_sendable (m ∷ ms) a = by_test (is_good m.1) (λ q. rw q ((a.0, long m.1 q), good_sendable ms a.1)) (λ q. rw q (good_sendable ms a.1))
   where
     long : (bytes : List ℕ) → is_good bytes ≡ true → 0 < length bytes
     long [] z = absurd (true≢false (sym z))
     long (first ∷ rest) z = omega arith
-
-    by : (b : Bool) → is_good m.1 ≡ b → AreSendable (good_of ms) → AreSendable (good_of (m ∷ ms))
-    by true q later = rw q ((a.0, long m.1 q), later)
-    by false q later = rw q later
 
 pub got_sendable : (s : Session) → AreSendable (messages_got s)
 got_sendable s = good_sendable (given_by [] (packets_in s.acc)) (on_pipes [] (packets_in s.acc) (have_pipes s.acc))

@@ -67,10 +67,7 @@ from_mask test x q = by_host x q where
 -- each of the hosts that pass a test passes it
 all_pass : (test : ℕ → Bool) (hosts : List ℕ) → AllByRecursion (λ x. test x ≡ true) (filter test hosts)
 all_pass test [] = tt
-all_pass test (x ∷ hosts) = go (test x) refl (all_pass test hosts) where
-  go : (b : Bool) → test x ≡ b → AllByRecursion (λ y. test y ≡ true) (filter test hosts) → AllByRecursion (λ y. test y ≡ true) (filter test (x ∷ hosts))
-  go true q later = rw q (q, later)
-  go false q later = rw q later
+all_pass test (x ∷ hosts) = by_test (test x) (λ q. rw q (q, all_pass test hosts)) (λ q. rw q (all_pass test hosts))
 
 pub all_in : (test : ℕ → Bool) → AllByRecursion (λ x. test x ≡ true) (hosts_where test)
 unfolding hosts_where

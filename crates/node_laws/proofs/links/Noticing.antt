@@ -56,23 +56,17 @@ UpAt (Some p) = is_some p.desk.notice ≡ true → is_up p.side.shdlc.phase ≡ 
 pub at_all : (ports : List Port) (x : ℕ) (g : Port → Port) → ((q : Port) → (g q).desk.host ≡ q.desk.host)
     → port_at (map g ports) x ≡ option_map g (port_at ports x)
 at_all [] x g keeps = refl
-at_all (p ∷ ports) x g keeps = go (p.desk.host == x) refl (at_all ports x g keeps)
-  where
-    go : (b : Bool) → (p.desk.host == x) ≡ b → port_at (map g ports) x ≡ option_map g (port_at ports x)
-        → port_at (map g (p ∷ ports)) x ≡ option_map g (port_at (p ∷ ports) x)
-    go true e later = let f : ((g p).desk.host == x) ≡ true = ap (λ z. z == x) (keeps p) ∙ e in rw (e, f) refl
-    go false e later = let f : ((g p).desk.host == x) ≡ false = ap (λ z. z == x) (keeps p) ∙ e in rw (e, f) later
+at_all (p ∷ ports) x g keeps = by_test (p.desk.host == x)
+    (λ e. let f : ((g p).desk.host == x) ≡ true = ap (λ z. z == x) (keeps p) ∙ e in rw (e, f) refl)
+    (λ e. let f : ((g p).desk.host == x) ≡ false = ap (λ z. z == x) (keeps p) ∙ e in rw (e, f) (at_all ports x g keeps))
 
 pub at_host : (ports : List Port) (h : ℕ) (p : Port) → port_at ports h ≡ Some p → p.desk.host ≡ h
 at_host [] h p q = cc
-at_host (x ∷ ports) h p q = go (x.desk.host == h) refl (at_host ports h p)
-  where
-    go : (b : Bool) → (x.desk.host == h) ≡ b → (port_at ports h ≡ Some p → p.desk.host ≡ h) → p.desk.host ≡ h
-    go true e later =
-        let is : Some x ≡ Some p = rw e at q in
-        let one : x ≡ p = cc in
-        ap (λ (z : Port). z.desk.host) (sym one) ∙ eqb-true x.desk.host h e
-    go false e later = later (rw e at q)
+at_host (x ∷ ports) h p q = by_test (x.desk.host == h)
+    (λ e. let is : Some x ≡ Some p = rw e at q in
+    let one : x ≡ p = cc in
+    ap (λ (z : Port). z.desk.host) (sym one) ∙ eqb-true x.desk.host h e)
+    (λ e. at_host ports h p (rw e at q))
 
 -- ## Works
 
@@ -103,24 +97,17 @@ module _ (U : ℕ → Bool) where
 
       same : (o : Option Port) → up_at (option_map f o) ≡ up_at o
       same None = refl
-      same (Some p) = by (p.desk.host == k)
-        where
-          by : (b : Bool) → is_up (changed_if b g p).side.shdlc.phase ≡ is_up p.side.shdlc.phase
-          by true = ap is_up (phase p)
-          by false = refl
+      same (Some p) = by_test (p.desk.host == k) (λ q. rw q (ap is_up (phase p))) (λ q. rw q refl)
 
       links : (x : ℕ) → has_link (with_port k g w.ports) x ≡ U x
       links x = ap up_at (at x) ∙ (same (port_at w.ports x) ∙ a.links x)
 
       one : (x : ℕ) (o : Option Port) → port_at w.ports x ≡ o → UpAt o → UpAt (option_map f o)
       one x None q b = tt
-      one x (Some p) q b = by (p.desk.host == k) refl
-        where
-          by : (c : Bool) → (p.desk.host == k) ≡ c → UpAt (Some (changed_if c g p))
-          by false z = b
-          by true z =
-              let is : x ≡ k = sym (at_host w.ports x p q) ∙ eqb-true p.desk.host k z in
-              up p (ap (port_at w.ports) (sym is) ∙ q) b
+      one x (Some p) q b = by_test (p.desk.host == k)
+          (λ z. rw z (let is : x ≡ k = sym (at_host w.ports x p q) ∙ eqb-true p.desk.host k z in
+          up p (ap (port_at w.ports) (sym is) ∙ q) b))
+          (λ z. rw z b)
 
       ups : (x : ℕ) → UpAt (port_at (with_port k g w.ports) x)
       ups x = subst UpAt (sym (at x)) (one x (port_at w.ports x) refl (a.up x))

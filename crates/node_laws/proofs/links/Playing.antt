@@ -22,7 +22,6 @@ use Rattle.history.specs.Damage.{Verdict}
 use Rattle.history.specs.Damage.Verdict.{Same, LostFor, Undetected}
 use Rattle.history.specs.Follows.{seen_from, first_verdict, taken_of}
 use Rattle.node_machine.specs.Parts.{Running, Work, Deed}
-use Rattle.node_machine.specs.Parts.Deed.{Sends, Orders}
 use Rattle.node_machine.specs.Controller.{is_command_message}
 use Rattle.node_machine.specs.Node.{steps, begins_with}
 use Rattle.node_machine.specs.Node.NodeInput.{AtEnd}
@@ -31,11 +30,11 @@ use Rattle.node_machine.specs.world.World.{link_after_controller, after_controll
 use Rattle.node_machine.specs.world.World.{comes_at, end_c, end_h}
 use Rattle.node_machine.specs.world.World.{activates, world_step}
 use Rattle.node_machine.specs.world.World.Happening.{Boots, IsCut, Gives, Inits, Takes, Loses, Ticks, Resets, Activates, Arms}
-use Rattle.node_machine.specs.world.Lines.{first_cause, if_off, refusal_in, happens_by, frames_at, Occurrence, can_happen, all_happen, LineOutcome}
+use Rattle.node_machine.specs.world.Lines.{first_cause, if_off, refusal_in, happens_by, frames_at, can_happen, all_happen}
 use Rattle.node_machine.specs.world.Lines.{goes_on, line_step}
-use Rattle.node_machine.specs.world.Lines.LineOutcome.{WasRefused}
 use Rattle.node_laws.specs.links.Runs.{IsRun, IsPlayable, ArePlayable}
 use Rattle.node_machine.specs.world.NodeHistories.{world_after}
+use Rattle.node_laws.proofs.Cases.{by_test, by_option}
 use Rattle.node_laws.proofs.links.Deeds.{AreFine}
 use Rattle.node_laws.proofs.links.Works.{all_done_fine, steps_fine}
 use Rattle.node_laws.proofs.links.Sites.{MayCome, new_fine}
@@ -94,11 +93,7 @@ begins_fine w h deeds a fine =
     host_fine w h NoInput (begins_with h deeds) (plain_reach h NoInput tt w.sites) (λ v b. all_done_fine h deeds v a b) fine
 
 pub sending_fine : (h : ℕ) (m : Message) → IsSendable m → AreFine (sending h m)
-sending_fine h m s = go (m.0 == 1 && is_command_message m.1)
-  where
-    go : (b : Bool) → AreFine (cond b (Orders m.1 ∷ []) (Sends h m ∷ []))
-    go true = (s.1, tt)
-    go false = (s, tt)
+sending_fine h m s = by_test (m.0 == 1 && is_command_message m.1) (λ q. rw q (s.1, tt)) (λ q. rw q (s, tt))
 
 -- ## Activation
 
@@ -176,18 +171,7 @@ AreLasting causes = AllByRecursion (λ c. (w : NodeWorld) → MayHappen w c) cau
 
 all_fine : (causes : List Happening) (w : NodeWorld) → AreLasting causes → IsFineWorld w → IsFineWorld (all_happen w causes).0
 all_fine [] w m fine = fine
-all_fine (c ∷ causes) w m fine = go (can_happen w c) (all_fine causes (world_step w c).0 m.1 (step_fine w c (m.0 w) fine))
-  where
-    by : Bool → NodeWorld × List Occurrence
-    by true = (
-      (all_happen (world_step w c).0 causes).0,
-      record { cause = c; entries = (world_step w c).1 } ∷ (all_happen (world_step w c).0 causes).1,
-    )
-    by false = (w, [])
-
-    go : (b : Bool) → IsFineWorld (all_happen (world_step w c).0 causes).0 → IsFineWorld (by b).0
-    go true a = a
-    go false a = fine
+all_fine (c ∷ causes) w m fine = by_test (can_happen w c) (λ q. rw q (all_fine causes (world_step w c).0 m.1 (step_fine w c (m.0 w) fine))) (λ q. rw q fine)
 
 pub repeated : (n : ℕ) (c : Happening) → ((w : NodeWorld) → MayHappen w c) → AreLasting (replicate n c)
 repeated zero c m = tt
@@ -222,15 +206,7 @@ goes_fine w (line.Init e identity pipes) p q fine = all_fine (Inits e identity p
 goes_fine w _ p q fine = fine
 
 line_fine : (w : NodeWorld) (l : Line) → IsPlayable l → IsFineWorld w → IsFineWorld (line_step w l).0
-line_fine w l p fine = go (refusal_in w l) refl
-  where
-    by : Option NoCause → NodeWorld × LineOutcome
-    by (Some cause) = (w, WasRefused cause)
-    by None = goes_on w l
-
-    go : (o : Option NoCause) → refusal_in w l ≡ o → IsFineWorld (by o).0
-    go (Some cause) q = fine
-    go None q = goes_fine w l p q fine
+line_fine w l p fine = by_option (refusal_in w l) (λ q. rw q (goes_fine w l p q fine)) (λ cause q. rw q fine)
 
 -- ## Schedules
 

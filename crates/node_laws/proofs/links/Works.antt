@@ -60,14 +60,11 @@ port_fine h f one ports a = map_fine (λ (p : Port). changed_if (p.desk.host == 
 -- the end of the link with a host is one of them
 pub fine_at : (ports : List Port) (h : ℕ) (p : Port) → AreFinePorts ports → port_at ports h ≡ Some p → IsFinePort p
 fine_at [] h p a q = cc
-fine_at (x ∷ ports) h p a q = go (x.desk.host == h) refl (fine_at ports h p a.1)
-  where
-    go : (b : Bool) → (x.desk.host == h) ≡ b → (port_at ports h ≡ Some p → IsFinePort p) → IsFinePort p
-    go true e later =
-        let same : Some x ≡ Some p = rw e at q in
-        let is : x ≡ p = cc in
-        let P : Port → Type 0 = λ z. IsFinePort z in subst P is a.0
-    go false e later = later (rw e at q)
+fine_at (x ∷ ports) h p a q = by_test (x.desk.host == h)
+    (λ e. let same : Some x ≡ Some p = rw e at q in
+    let is : x ≡ p = cc in
+    let P : Port → Type 0 = λ z. IsFinePort z in subst P is a.0)
+    (λ e. fine_at ports h p a.1 (rw e at q))
 
 are_true : (ports : List Port) → AreFinePorts ports → AreTrue ports
 are_true [] a = tt

@@ -1,23 +1,21 @@
 -- Each link of a world of nodes is a run of the law of one link.
-use Rattle.std.proofs.Common.{◌≡◌, ℕ, ◌==◌, Bool, true, false, cond, List, [], ◌∷◌, refl, ap, sym, subst}
-use Rattle.std.specs.Prelude.{Option, Some, None, map, not, ◌&&◌, min, ◌+◌}
+use Rattle.std.proofs.Common.{◌≡◌, ℕ, ◌==◌, Bool, true, false, List, [], ◌∷◌, refl, ap, sym, subst}
+use Rattle.std.specs.Prelude.{Option, Some, None, map, not, ◌&&◌}
 use Rattle.std.specs.List.{AllByRecursion}
 use Rattle.std.specs.Option.{option_map_or}
 use Rattle.swp_base.specs.InMemory.{Memory}
 use Rattle.trace_model.specs.declared.line.End.{End}
 use Rattle.shdlc_core.specs.Machine.{is_waiting}
-use Rattle.link_laws.specs.sessions.Sessions.{OnWire}
 use Rattle.journal_laws.specs.Planned.{after_planned}
 use Rattle.link_laws.specs.machine.Machine.{Turn}
-use Rattle.link_laws.specs.machine.Machine.LinkInput.{Reset}
 use Rattle.link_laws.specs.machine.Machine.Role.{Bare}
-use Rattle.link_laws.specs.messages.Links.{Link, NumberedEnd, Ending, Comes, Loss, Node, new_link, exchanged, aged, has_input, ticks_at_controller, happens}
+use Rattle.link_laws.specs.messages.Links.{Link, NumberedEnd, Ending, Comes, Loss, Node, new_link, exchanged, aged, ticks_at_controller, happens}
 use Rattle.link_laws.specs.messages.Links.{AreSendableTurns, CanCome}
 use Rattle.link_laws.specs.messages.Links.Ending.{GoesOut, CutOff}
 use Rattle.link_laws.specs.messages.Links.Comes.{NextFrame, AsksReset, NoInput}
 use Rattle.link_laws.specs.messages.Links.Loss.{Broken}
 use Rattle.link_laws.specs.messages.Links.EndEvent.{Step, Lose}
-use Rattle.link_laws.specs.messages.Links.LinkEvent.{AtController, AtHost}
+use Rattle.link_laws.specs.messages.Links.LinkEvent.{AtController}
 use Rattle.history.specs.Steps.{at}
 use Rattle.node_machine.specs.Parts.{Desk, Running, Port, Work}
 use Rattle.node_machine.specs.Carrying.{changed_if, port_at}
@@ -30,7 +28,7 @@ use Rattle.node_machine.specs.world.World.{counts, frame_lost}
 use Rattle.node_machine.specs.world.World.{all_aged, is_late_at, ticked_so, controller_ticks, host_ticks, hosts_tick, world_ticks}
 use Rattle.node_machine.proofs.world.Cases.{by_controller, by_host, by_power, by_memory, by_running, boot_written, boot_found, by_boot, site_lost, by_loss}
 use Rattle.node_machine.proofs.world.Cases.{near_tick, by_controller_tick, host_tick, by_host_tick}
-use Rattle.node_laws.proofs.Cases.{by_option}
+use Rattle.node_laws.proofs.Cases.{by_option, by_test, by_list}
 use Rattle.node_laws.proofs.links.Got.{Clean}
 use Rattle.node_laws.proofs.links.Deeds.{IsTrueDesk}
 use Rattle.node_laws.proofs.links.Works.{AreFinePorts, IsFineWork, fine_at, steps_fine}
@@ -92,14 +90,11 @@ site_fine h f one sites a = site_changed (λ s. Unit {0}) h f (λ s k fine. one 
 -- the site with a number is one of them
 fine_site : (sites : List Site) (h : ℕ) (s : Site) → AreFineSites sites → site_at sites h ≡ Some s → IsFineSite s
 fine_site [] h s a q = cc
-fine_site (x ∷ sites) h s a q = go (x.host == h) refl (fine_site sites h s a.1)
-  where
-    go : (b : Bool) → (x.host == h) ≡ b → (site_at sites h ≡ Some s → IsFineSite s) → IsFineSite s
-    go true e later =
-        let same : Some x ≡ Some s = rw e at q in
-        let is : x ≡ s = cc in
-        let P : Site → Type 0 = λ z. IsFineSite z in subst P is a.0
-    go false e later = later (rw e at q)
+fine_site (x ∷ sites) h s a q = by_test (x.host == h)
+    (λ e. let same : Some x ≡ Some s = rw e at q in
+    let is : x ≡ s = cc in
+    let P : Site → Type 0 = λ z. IsFineSite z in subst P is a.0)
+    (λ e. fine_site sites h s a.1 (rw e at q))
 
 -- what came at the controller's ends may be sent on
 abbrev pub AreClean : List Site → Type 0
@@ -111,14 +106,11 @@ fine_clean (s ∷ sites) a = (a.0.link.line.near, fine_clean sites a.1)
 
 clean_site : (sites : List Site) (h : ℕ) (s : Site) → AreClean sites → site_at sites h ≡ Some s → Clean s.link.controller.side
 clean_site [] h s a q = cc
-clean_site (x ∷ sites) h s a q = go (x.host == h) refl (clean_site sites h s a.1)
-  where
-    go : (b : Bool) → (x.host == h) ≡ b → (site_at sites h ≡ Some s → Clean s.link.controller.side) → Clean s.link.controller.side
-    go true e later =
-        let same : Some x ≡ Some s = rw e at q in
-        let is : x ≡ s = cc in
-        let P : Site → Type 0 = λ z. Clean z.link.controller.side in subst P is a.0
-    go false e later = later (rw e at q)
+clean_site (x ∷ sites) h s a q = by_test (x.host == h)
+    (λ e. let same : Some x ≡ Some s = rw e at q in
+    let is : x ≡ s = cc in
+    let P : Site → Type 0 = λ z. Clean z.link.controller.side in subst P is a.0)
+    (λ e. clean_site sites h s a.1 (rw e at q))
 
 pub near_clean : (sites : List Site) (h : ℕ) → AreClean sites → Clean (link_to sites h).controller.side
 near_clean sites h a = by_option (site_at sites h)
@@ -131,15 +123,7 @@ near_clean sites h a = by_option (site_at sites h)
 -- ## A step of a node
 
 pub near_end_clean : (l : Link) (comes : Comes) → Clean l.controller.side → Clean (near_end_in l comes).side
-near_end_clean l NextFrame a = go l.to_controller
-  where
-    by : List OnWire → NumberedEnd
-    by [] = l.controller
-    by (x ∷ xs) = (near_end_in (record l { to_controller = x ∷ xs }) NextFrame)
-
-    go : (w : List OnWire) → Clean (by w).side
-    go [] = a
-    go (x ∷ xs) = a
+near_end_clean l NextFrame a = by_list l.to_controller (λ q. rw q a) (λ x xs q. rw q a)
 near_end_clean l _ a = a
 
 pub ports_fine : (near_ends : ℕ → NumberedEnd) → ((h : ℕ) → Clean (near_ends h).side) → (desks : List Desk) → AreTrueDesks desks
@@ -153,14 +137,7 @@ desks_of [] a = tt
 desks_of (p ∷ ports) a = (a.0.desk, desks_of ports a.1)
 
 runs_fine : (k : Work) → IsFineWork k → IsFineNode (runs_on k)
-runs_fine k a = go k.cut
-  where
-    by : Bool → Option Running
-    by b = cond b None (Some (record { core = k.core; desks = map (λ (p : Port). p.desk) k.ports }))
-
-    go : (b : Bool) → IsFineNode (by b)
-    go true = tt
-    go false = desks_of k.ports a
+runs_fine k a = by_test k.cut (λ q. rw q tt) (λ q. rw q (desks_of k.ports a))
 
 pub turns_fine : (k : Work) (h : ℕ) → IsFineWork k → AreSendableTurns (turns_at k h)
 turns_fine k h a = by_option (port_at k.ports h)
@@ -177,11 +154,7 @@ KeepsFine f = (v : Work) → IsFineWork v → IsFineWork (f v)
 -- ## Steps of the controller
 
 pub may_here : (h : ℕ) (comes : Comes) (k : ℕ) → MayCome comes → MayCome (comes_to h comes k)
-may_here h comes k m = go (k == h)
-  where
-    go : (b : Bool) → MayCome (cond b comes NoInput)
-    go true = m
-    go false = tt
+may_here h comes k m = by_test (k == h) (λ q. rw q m) (λ q. rw q tt)
 
 here_fine : (h : ℕ) (comes : Comes) (k : Work) → MayCome comes → IsFineWork k → (s : Site) → IsFineSite s → IsFineSite (link_after_controller h comes k s)
 here_fine h comes k m a s fine =
@@ -282,14 +255,7 @@ boots_fine w n fine =
 
 errors_fine : (h : ℕ) (desks : List Desk) → AreTrueDesks desks → AreTrueDesks (with_error h desks)
 errors_fine h [] a = tt
-errors_fine h (d ∷ desks) a = (go (d.host == h), errors_fine h desks a.1)
-  where
-    more : Desk → Desk
-    more x = record x { errors = min 65535 (x.errors + 1) }
-
-    go : (b : Bool) → IsTrueDesk (changed_if b more d)
-    go true = a.0
-    go false = a.0
+errors_fine h (d ∷ desks) a = (by_test (d.host == h) (λ q. rw q a.0) (λ q. rw q a.0), errors_fine h desks a.1)
 
 counts_fine : (why : Loss) (h : ℕ) (o : Option Running) → IsFineNode o → IsFineNode (counts why h o)
 counts_fine (Broken fault) h None a = tt
@@ -310,11 +276,7 @@ lost_fine w e why fine =
     })
   where
     loses : (s : Site) → IsFineSite s → IsFineLink (happens s.link (at e (Lose why)))
-    loses s a = by e.at_host
-      where
-        by : (b : Bool) → IsFineLink (happens s.link (cond b (AtHost (Lose why)) (AtController (Lose why))))
-        by true = host_loses s.link why a.link
-        by false = controller_loses s.link why a.link
+    loses s a = by_test e.at_host (λ q. rw q (host_loses s.link why a.link)) (λ q. rw q (controller_loses s.link why a.link))
 
 -- ## Time
 
@@ -382,11 +344,9 @@ controller_ticks_fine w old runs =
     })
 
 pub so_host : (l : Link) (late : Bool) (ts : List Turn) (ending : Ending) → (ticked_so l late ts ending).host ≡ l.host
-so_host l late ts ending = go (late && not (is_waiting l.controller.side.shdlc))
-  where
-    go : (b : Bool) → (cond b (has_input l (Reset None) ts ending) (ticks_at_controller l ts ending)).host ≡ l.host
-    go true = here_host l (Step (AsksReset None) ts ending)
-    go false = tick_host l ts ending
+so_host l late ts ending = by_test (late && not (is_waiting l.controller.side.shdlc))
+    (λ q. rw q (here_host l (Step (AsksReset None) ts ending)))
+    (λ q. rw q (tick_host l ts ending))
 
 host_ticks_fine : (s : Site) → IsNear s → IsFineSite (host_ticks s).0
 host_ticks_fine s a =

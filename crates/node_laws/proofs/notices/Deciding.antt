@@ -22,6 +22,7 @@ use Rattle.gate_admin.specs.Decide.{shares, decided, others_opened}
 use Rattle.gate_admin.specs.Decide.{told_of_deletion, told_of_clearing}
 use Rattle.node_machine.specs.Parts.About.{Removed}
 use Rattle.tables_laws.proofs.gate.Decisions.{new_row, decided_holds, joins_two}
+use Rattle.node_laws.proofs.Cases.{by_test}
 use Rattle.node_laws.proofs.links.Masking.{nobody, alone, from_mask, all_in}
 use Rattle.node_machine.specs.world.NodeFilters.{is_notice}
 use Rattle.node_laws.specs.notices.Notices.{IsAbout}
@@ -83,10 +84,7 @@ module _ (v : LinkView) (h : ℕ) where
   one_told o = option_map_or (λ (end : ℕ × ℕ). cond (is_connected v end.0) (end.0 ∷ []) []) o []
 
   one_else : (y g : ℕ) → eqb y h ≡ false → AreElse (hosts_where (has (mask_of (one_told (Some (y, g))))))
-  one_else y g e = go (is_connected v y) refl where
-    go : (b : Bool) → is_connected v y ≡ b → AreElse (hosts_where (has (mask_of (cond b (y ∷ []) []))))
-    go true q = alone (λ k. eqb k h ≡ false) v.connected y q e
-    go false q = none_else
+  one_else y g e = by_test (is_connected v y) (λ q. rw q (alone (λ k. eqb k h ≡ false) v.connected y q e)) (λ q. rw q none_else)
 
   deletion_else : (o : Option PipeRow) → ((row : PipeRow) → o ≡ Some row → eqb row.creator row.dest ≡ false)
       → AreElse (hosts_where (has (mask_of (one_told (option_and_then (far_end_of h) o)))))

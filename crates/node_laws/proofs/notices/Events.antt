@@ -36,6 +36,7 @@ use Rattle.node_machine.specs.world.World.{host_cut, loses_power_at, boots, coun
 use Rattle.node_machine.specs.world.World.Happening.{Boots, IsCut, Gives, Inits, Takes, Loses, Ticks, Resets, Activates, Arms}
 use Rattle.node_machine.specs.world.NodeFilters.{notice_in}
 use Rattle.node_laws.specs.kept.Hosts.{AreHosts}
+use Rattle.node_laws.proofs.Cases.{by_test}
 use Rattle.node_laws.proofs.telling.Orderly.{new_orderly, step_orderly}
 use Rattle.node_laws.proofs.readings.NoticedWorlds.{event_up, numbers}
 use Rattle.node_laws.proofs.readings.Sites.{lost_quiet}
@@ -172,10 +173,7 @@ noticed_counted h (d ∷ desks) x = by_error (eqb d.host h) (cases_Bool (eqb d.h
 right_counted : (h : ℕ) (desks : List Desk) → AllByRecursion (λ (d : Desk). IsRightNotice d.notice) desks
     → AllByRecursion (λ (d : Desk). IsRightNotice d.notice) (with_error h desks)
 right_counted h [] a = tt
-right_counted h (d ∷ desks) a = (by (eqb d.host h), right_counted h desks a.1) where
-  by : (b : Bool) → IsRightNotice (changed_if b (λ c. record c { errors = min 65535 (c.errors + 1) }) d).notice
-  by true = a.0
-  by false = a.0
+right_counted h (d ∷ desks) a = (by_test (eqb d.host h) (λ q. rw q a.0) (λ q. rw q a.0), right_counted h desks a.1)
 
 counted_reads : (t : List Entry) (why : Loss) (h : ℕ) (o : Option Running) → IfReads t o → IfReads t (counts why h o)
 counted_reads t (Broken fault) h None a = a

@@ -1,6 +1,6 @@
 -- What a host notes tells nothing of the notices of a controller.
 use Rattle.std.proofs.Common.{◌≡◌, ℕ, ◌&&◌, Bool, true, false, cond, eqb, List, [], ◌∷◌, ◌++◌, length, map, sym, refl, ap, ◌∙◌, subst}
-use Rattle.std.specs.Prelude.{Option, Some, None, option_to_list}
+use Rattle.std.specs.Prelude.{Option, Some, None}
 use Rattle.std.specs.List.{AllByRecursion, flat_map, fold}
 use Rattle.std.proofs.lemmas.List.Sums.{fold-append}
 use Rattle.std.specs.Option.{option_map_or}
@@ -9,7 +9,6 @@ use Rattle.trace_model.specs.declared.entry.Entry.{Entry}
 use Rattle.trace_model.specs.declared.entry.Entry.TheVariants as entry
 use Rattle.trace_model.specs.declared.line.End.{End}
 use Rattle.journal_laws.specs.Planned.{fails_within}
-use Rattle.swp_base.specs.declared.link_terms.Cause.{Cause}
 use Rattle.hci_tables.specs.declared.command.Command.{Command}
 use Rattle.hci_tables.specs.Bodies.{body_of}
 use Rattle.hci_store.specs.Committing.{commit_writes}
@@ -30,6 +29,7 @@ use Rattle.node_machine.specs.Node.{after_sessions, synced, steps}
 use Rattle.node_machine.specs.Node.NodeInput.{AtEnd, TimePasses}
 use Rattle.node_machine.specs.world.World.{end_c}
 use Rattle.node_machine.specs.world.NodeFilters.{is_response, is_notice, asking_after, asking_in}
+use Rattle.node_laws.proofs.Cases.{by_option, by_test}
 use Rattle.node_laws.proofs.readings.Silent.{IsQuiet, told_rest, rest_quiet}
 use Rattle.node_laws.proofs.notices.Reading.{reads}
 use Rattle.node_laws.proofs.notices.Own.{IsFar, IsOwn, AreOwn, deeds_own, forgotten_own, all_owed_own, all_synced_own}
@@ -104,16 +104,12 @@ quiet_far h (Cut who ∷ notes) all = quiet_far h notes all.1
 quiet_far h (_ ∷ notes) all = (tt, quiet_far h notes all.1)
 
 told_far : (h n acked : ℕ) (r : Report) → AreFar (entries_for h (told Host n r acked))
-told_far h n acked r = go r.ended where
+told_far h n acked r = by_option r.ended (λ q. rw q (quiet_far h rest quiet)) (λ cause q. rw q (refl, quiet_far h rest quiet)) where
   rest : List Noted
   rest = told_rest Host n acked r
 
   quiet : AllByRecursion IsQuiet rest
   quiet = rest_quiet Host n acked r
-
-  go : (o : Option Cause) → AreFar (entries_for h (map (Down Host) (option_to_list o) ++ rest))
-  go None = quiet_far h rest quiet
-  go (Some cause) = (refl, quiet_far h rest quiet)
 
 come_far : (core : Core) (p : Port) (o : Option LinkInput) → own_side core ≡ Host → AreFar (told_at core p o)
 come_far core p None side = tt
@@ -213,10 +209,7 @@ far_lasts = record {
 -- ## Steps
 
 late_far : (core : Core) (p : Port) → own_side core ≡ Host → AreFar (told_late core p)
-late_far core p side = go (is_late p) where
-  go : (b : Bool) → AreFar (cond b (told_at core p (Some (Reset None))) [])
-  go true = come_far core p (Some (Reset None)) side
-  go false = tt
+late_far core p side = by_test (is_late p) (λ q. rw q (come_far core p (Some (Reset None)) side)) (λ q. rw q tt)
 
 came_far : (input : NodeInput) (w : Work) → IsFarWork w → IsFarWork (all_come input w)
 came_far input w a = record {

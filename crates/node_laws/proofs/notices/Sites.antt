@@ -2,13 +2,10 @@
 use Rattle.std.proofs.Common.{◌≡◌, ◌⊎◌, inl, inr, ℕ, ◌&&◌, Bool, true, false, eqb, List, [], ◌∷◌, ◌++◌, map, sym, refl, ◌∙◌, subst, append-nil}
 use Rattle.std.specs.Prelude.{Option, Some, None}
 use Rattle.std.specs.List.{AllByRecursion}
-use Rattle.std.specs.Option.{option_map_or}
 use Rattle.std.proofs.lemmas.Bool.{cases_Bool, cond_both, true≢false}
 use Rattle.trace_model.specs.declared.entry.Entry.{Entry}
 use Rattle.trace_model.specs.declared.line.End.{End}
-use Rattle.link_laws.specs.sessions.Sessions.{OnWire}
 use Rattle.link_laws.specs.machine.Machine.{Message, LinkInput}
-use Rattle.link_laws.specs.machine.Machine.Role.{Bare}
 use Rattle.link_laws.specs.messages.Links.{Link, NumberedEnd, Comes, Ending, EndEvent, exchanged, happens, ticks_at_controller}
 use Rattle.link_laws.specs.messages.Links.Ending.{GoesOut}
 use Rattle.link_laws.specs.messages.Links.Comes.{NextFrame, NoInput}
@@ -28,7 +25,7 @@ use Rattle.node_machine.specs.world.World.{NodeWorld, Site, site_at, with_site, 
 use Rattle.node_machine.specs.world.World.{wires_for}
 use Rattle.node_machine.specs.world.World.{work_of, frames_noted, host_work, after_host, host_does, host_ticks, hosts_tick, comes_at, sending, beginning}
 use Rattle.node_machine.specs.world.NodeFilters.{notice_in, asking_in}
-use Rattle.node_laws.proofs.Cases.{by_option}
+use Rattle.node_laws.proofs.Cases.{by_option, by_list}
 use Rattle.node_laws.proofs.links.Ends.{here_host}
 use Rattle.link_laws.proofs.entries.Together.{ticks_host as tick_host}
 use Rattle.node_laws.proofs.readings.Sites.{ending_quiet}
@@ -86,11 +83,7 @@ good_at (z ∷ sites) h s a e =
     (λ is f. let same : z ≡ s = cc in subst IsGoodSite same a.0) (λ off f. good_at sites h s a.1 f) e
 
 pub link_shut : (sites : List Site) (n : ℕ) → AreGood sites → IsShut (link_to sites n).controller.side
-link_shut sites n a = go (site_at sites n) refl where
-  go : (o : Option Site) → site_at sites n ≡ o
-      → IsShut (option_map_or (λ (s : Site). s.link) o (Rattle.link_laws.specs.messages.Links.new_link Bare Bare)).controller.side
-  go None e = λ q. absurd (true≢false q)
-  go (Some s) e = (good_at sites n s a e).shut
+link_shut sites n a = by_option (site_at sites n) (λ e. rw e (λ q. absurd (true≢false q))) (λ s e. rw e (good_at sites n s a e).shut)
 
 -- what happens at the host's end leaves the controller's
 pub far_shut : (l : Link) (x : EndEvent) → IsShut l.controller.side → IsShut (happens l (AtHost x)).controller.side
@@ -103,20 +96,12 @@ far_tick_shut l ts ending a = subst (λ (h : NumberedEnd). IsShut h.side) (sym (
 -- ## Notes
 
 pub frames_quiet : (who : Side) (h : ℕ) (l : Link) (k : Work) → AreFar (frames_noted who h l k)
-frames_quiet who h l k = go (port_at k.ports h) where
-  go : (o : Option Port) → AreFar (option_map_or (λ (p : Port). entries_for h (ending_entries who l p.side (ending_of k))) o [])
-  go None = tt
-  go (Some p) = quiet_far h (ending_entries who l p.side (ending_of k)) (ending_quiet who l p.side (ending_of k))
+frames_quiet who h l k = by_option (port_at k.ports h)
+    (λ q. rw q tt)
+    (λ p q. rw q (quiet_far h (ending_entries who l p.side (ending_of k)) (ending_quiet who l p.side (ending_of k))))
 
 pub arrival_quiet : (who : Side) (h : ℕ) (l : Link) (comes : Comes) → AreFar (entries_for h (arrival who l comes))
-arrival_quiet who h l NextFrame = go l.to_controller where
-  first : List OnWire → List Rattle.link_laws.specs.entries.Entries.Entry
-  first [] = []
-  first (x ∷ xs) = Rattle.link_laws.specs.entries.Entries.Entry.Took who x.frame ∷ []
-
-  go : (xs : List OnWire) → AreFar (entries_for h (first xs))
-  go [] = tt
-  go (x ∷ xs) = (tt, tt)
+arrival_quiet who h l NextFrame = by_list l.to_controller (λ q. rw q tt) (λ x xs q. rw q (tt, tt))
 arrival_quiet who h l _ = tt
 
 -- ## A host acts

@@ -117,10 +117,7 @@ module _ (x : ℕ) where
 
   pub late_elsewhere : (core : Core) → own_side core ≡ Controller → (p : Port) (r : Option (List ℕ)) → eqb p.desk.host x ≡ false
       → reads x (told_late core p) r ≡ r
-  late_elsewhere core side p r e = go (is_late p) where
-    go : (b : Bool) → reads x (cond b (told_at core p (Some (Reset None))) []) r ≡ r
-    go true = told_elsewhere core side p (Some (Reset None)) r e
-    go false = refl
+  late_elsewhere core side p r e = by_test (is_late p) (λ q. rw q (told_elsewhere core side p (Some (Reset None)) r e)) (λ q. rw q refl)
 
 -- ## An end behind what came
 

@@ -1,5 +1,5 @@
 -- A whole step of a controller: its unanswered notice to a host stays the one that is read.
-use Rattle.std.proofs.Common.{◌≡◌, ℕ, Bool, true, false, cond, List, [], ◌∷◌, ◌++◌, map, sym, refl, ap, ◌∙◌, subst}
+use Rattle.std.proofs.Common.{◌≡◌, ℕ, false, cond, List, [], ◌∷◌, ◌++◌, map, sym, refl, ap, ◌∙◌, subst}
 use Rattle.std.specs.Prelude.{Option, Some, None, is_some}
 use Rattle.std.specs.List.{AllByRecursion, flat_map, filter, filter_map, list_any}
 use Rattle.std.specs.Option.{option_map, option_map_or, option_and_then}
@@ -12,7 +12,6 @@ use Rattle.link_laws.specs.machine.Machine.LinkInput.{Tick, Reset}
 use Rattle.link_laws.specs.machine.Machine.Turn.{Release}
 use Rattle.link_laws.specs.entries.Entries.End.{Controller}
 use Rattle.node_machine.specs.Parts.{Creation, Notice, Core, Port, Work, Deed}
-use Rattle.node_machine.specs.Parts.About.{Forgotten}
 use Rattle.node_machine.specs.Parts.Deed.{Releases}
 use Rattle.node_machine.specs.Carrying.{own_side, unless_cut, port_at, turn_at, all_done}
 use Rattle.node_machine.specs.Controller.{asked_at}
@@ -22,7 +21,7 @@ use Rattle.node_machine.specs.Node.{is_over, is_forgotten, forgets, owed, all_ow
 use Rattle.node_machine.specs.Node.NodeInput.{AtEnd, TimePasses}
 use Rattle.node_laws.specs.links.Notices.{IsComing, IsOutside}
 use Rattle.node_laws.proofs.All.{all_flat}
-use Rattle.node_laws.proofs.Cases.{by_test}
+use Rattle.node_laws.proofs.Cases.{by_test, by_option}
 use Rattle.node_laws.proofs.links.Noticing.{UpAt, at_all, at_host, outside as from_outside}
 use Rattle.node_laws.specs.kept.Hosts.{AreDifferent}
 use Rattle.node_laws.specs.readings.Orders.{IsFresh}
@@ -63,10 +62,7 @@ reset_right : (p : Port) → IsRightNotice p.desk.notice → IsRightNotice (rese
 reset_right p a = by_test (is_late p) (λ e. rw e a) (λ e. rw e a)
 
 forgets_right : (ports : List Port) (p : Port) → IsRightNotice p.desk.notice → IsRightNotice (forgets ports p).desk.notice
-forgets_right ports p a = by_test (is_forgotten ports (asked_at p)) (λ e. rw e (by p.desk.notice)) (λ e. rw e a) where
-  by : (o : Option Notice) → IsRightNotice (option_map_or (λ (n : Notice). Some (record n { about = Forgotten })) o None)
-  by None = tt
-  by (Some n) = tt
+forgets_right ports p a = by_test (is_forgotten ports (asked_at p)) (λ e. rw e (by_option p.desk.notice (λ q. rw q tt) (λ n q. rw q tt))) (λ e. rw e a)
 
 without_right : (p : Port) → IsRightNotice p.desk.notice → IsRightNotice (without_notice p).desk.notice
 without_right p a = by_test (is_over p) (λ e. rw e tt) (λ e. rw e a)
@@ -102,9 +98,6 @@ module _ (x : ℕ) (before : List Entry) (w : Work) (a : IsOn x before w) where
   } where
     tables : (after_sessions v.core v.ports).tables ≡ w.core.tables
     tables = sessions_tables v.core v.ports ∙ ap (λ (k : Core). k.tables) c.core
-
-    last : Option Port → Option Port
-    last o = option_map without_notice (option_map (forgets v.ports) o)
 
     same : port_at (map without_notice (map (forgets v.ports) v.ports)) x ≡ option_map without_notice (option_map (forgets v.ports) (port_at v.ports x))
     same = at_all (map (forgets v.ports) v.ports) x without_notice without_host
@@ -255,10 +248,7 @@ module _ (x : ℕ) (before : List Entry) (w : Work) (a : IsOn x before w) where
 
     read_late : (q : Port) (r : Option (List ℕ)) → q.desk.host ≡ x
         → reads x (told_late w.core q) r ≡ cond (is_late q) (cond (is_some (ended_by q.side (Reset None))) None r) r
-    read_late q r e = by (is_late q) where
-      by : (b : Bool) → reads x (cond b (told_at w.core q (Some (Reset None))) []) r ≡ cond b (cond (is_some (ended_by q.side (Reset None))) None r) r
-      by true = told_here x w.core (controller_side w.core a.node) q (Reset None) r e
-      by false = refl
+    read_late q r e = by_test (is_late q) (λ is. rw is (told_here x w.core (controller_side w.core a.node) q (Reset None) r e)) (λ is. rw is refl)
 
     go : (o : Option Port) → port_at ticked x ≡ o → IsComeAt (reads x noted (read_in x before w)) o
         → IsComeAt (option_map_or (λ (p : Port). reads x (told_late w.core p) (reads x noted (read_in x before w))) (option_map with_older o)

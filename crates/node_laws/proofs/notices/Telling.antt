@@ -159,18 +159,12 @@ module _ (x : ℕ) where
     -- no host is twice in a mask
     filter_different : (test : ℕ → Bool) (hosts : List ℕ) → AreDifferent hosts → AreDifferent (filter test hosts)
     filter_different test [] d = tt
-    filter_different test (y ∷ hosts) d = go (test y) refl (filter_different test hosts d.1) where
-      fewer : (hosts : List ℕ) → AllByRecursion (λ (k : ℕ). eqb k y ≡ false) hosts → AllByRecursion (λ (k : ℕ). eqb k y ≡ false) (filter test hosts)
-      fewer [] a = tt
-      fewer (k ∷ hosts) a = by (test k) refl (fewer hosts a.1) where
-        by : (b : Bool) → test k ≡ b → AllByRecursion (λ (k : ℕ). eqb k y ≡ false) (filter test hosts)
-            → AllByRecursion (λ (k : ℕ). eqb k y ≡ false) (filter test (k ∷ hosts))
-        by true q later = rw q (a.0, later)
-        by false q later = rw q later
-
-      go : (b : Bool) → test y ≡ b → AreDifferent (filter test hosts) → AreDifferent (filter test (y ∷ hosts))
-      go true q later = rw q (fewer hosts d.0, later)
-      go false q later = rw q later
+    filter_different test (y ∷ hosts) d = by_test (test y)
+        (λ q. rw q (fewer hosts d.0, filter_different test hosts d.1))
+        (λ q. rw q (filter_different test hosts d.1)) where
+          fewer : (hosts : List ℕ) → AllByRecursion (λ (k : ℕ). eqb k y ≡ false) hosts → AllByRecursion (λ (k : ℕ). eqb k y ≡ false) (filter test hosts)
+          fewer [] a = tt
+          fewer (k ∷ hosts) a = by_test (test k) (λ q. rw q (a.0, fewer hosts a.1)) (λ q. rw q (fewer hosts a.1))
 
     mask_different : (test : ℕ → Bool) → AreDifferent (hosts_where test)
     unfolding hosts_where

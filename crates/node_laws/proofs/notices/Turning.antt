@@ -21,6 +21,7 @@ use Rattle.node_machine.specs.Turns.{deeds_of, handles, holds_back, lets_go, hav
 use Rattle.node_machine.specs.world.World.{end_c}
 use Rattle.node_machine.specs.world.NodeFilters.{is_response}
 use Rattle.node_laws.specs.links.Notices.{AllReach}
+use Rattle.node_laws.proofs.Cases.{by_test}
 use Rattle.node_laws.proofs.links.Noticing.{UpAt, at_all, at_host}
 use Rattle.node_laws.proofs.links.Reaching.{controller_reach}
 use Rattle.node_laws.proofs.readings.Noticed.{up_is}
@@ -166,17 +167,11 @@ module _ (x : ℕ) (before : List Entry) (k : ℕ) where
     host p = changed_host (eqb p.desk.host k) none p (λ q. refl)
 
     right : (p : Port) → IsRightNotice p.desk.notice → IsRightNotice (f p).desk.notice
-    right p b = by (eqb p.desk.host k) where
-      by : (c : Bool) → IsRightNotice (changed_if c none p).desk.notice
-      by true = tt
-      by false = b
+    right p b = by_test (eqb p.desk.host k) (λ q. rw q tt) (λ q. rw q b)
 
     ups : (o : Option Port) → UpAt o → UpAt (option_map f o)
     ups None u = tt
-    ups (Some p) u = by (eqb p.desk.host k) where
-      by : (c : Bool) → UpAt (Some (changed_if c none p))
-      by true = λ n. absurd (true≢false (sym n))
-      by false = u
+    ups (Some p) u = by_test (eqb p.desk.host k) (λ q. rw q (λ n. absurd (true≢false (sym n)))) (λ q. rw q u)
 
     go : (eqb k x ≡ true) ⊎ (eqb k x ≡ false) → (o : Option Port) → port_at w.ports x ≡ o
         → pending m (read_in x before w) (option_and_then (λ (p : Port). p.desk.notice) o)
@@ -266,30 +261,18 @@ module _ (x : ℕ) (before : List Entry) (k : ℕ) where
             (ap (λ d. lack w.ports (needs k d)) (sym e) ∙ room))
 
   pub holds_stand : (short : ℕ × ℕ) (w : Work) → On w → On (holds_back k short w)
-  holds_stand short w a = go (option_map_or (λ (p : Port). p.desk.holds) (port_at w.ports k) false) where
-    told : Work
-    told = noting (entry.Held (end_of_node w.core k) short.0 short.1 ∷ []) w
-
-    by : Bool → Work
-    by true = turn_at k (Hold true) w
-    by false = turn_at k (Hold true) (with_desk k (λ d. record d { holds = true }) told)
-
-    go : (b : Bool) → On (by b)
-    go true = turns x before IsKeptNotice k (Hold true) w (λ p r. refl) a
-    go false =
-        turns x before IsKeptNotice k (Hold true) (with_desk k (λ d. record d { holds = true }) told) (λ p r. refl)
-        (desks x before IsKeptNotice k (λ d. record d { holds = true }) told (λ d. refl) (λ d. refl)
-        (hushed x before IsKeptNotice (entry.Held (end_of_node w.core k) short.0 short.1 ∷ []) w (λ r. refl) a))
+  holds_stand short w a = by_test (option_map_or (λ (p : Port). p.desk.holds) (port_at w.ports k) false)
+      (λ q. rw q (turns x before IsKeptNotice k (Hold true) w (λ p r. refl) a))
+      (λ q. rw q (turns x before IsKeptNotice k (Hold true) (with_desk k (λ d. record d { holds = true }) told) (λ p r. refl)
+      (desks x before IsKeptNotice k (λ d. record d { holds = true }) told (λ d. refl) (λ d. refl)
+      (hushed x before IsKeptNotice (entry.Held (end_of_node w.core k) short.0 short.1 ∷ []) w (λ r. refl) a)))) where
+        told : Work
+        told = noting (entry.Held (end_of_node w.core k) short.0 short.1 ∷ []) w
 
   pub lets_stand : (w : Work) → On w → On (lets_go k w)
-  lets_stand w a = go (option_map_or (λ (p : Port). is_held p.side) (port_at w.ports k) false) where
-    by : Bool → Work
-    by true = turn_at k (Hold false) w
-    by false = w
-
-    go : (b : Bool) → On (by b)
-    go true = turns x before IsKeptNotice k (Hold false) w (λ p r. refl) a
-    go false = a
+  lets_stand w a = by_test (option_map_or (λ (p : Port). is_held p.side) (port_at w.ports k) false)
+      (λ q. rw q (turns x before IsKeptNotice k (Hold false) w (λ p r. refl) a))
+      (λ q. rw q a)
 
   pub have_stand : (messages : List Message) (w : Work) → IsHost k → On w → Fine (have_turns k messages w)
   have_stand [] w host a = inl (lets_stand w a)

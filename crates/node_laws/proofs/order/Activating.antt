@@ -28,7 +28,7 @@ use Rattle.node_machine.specs.world.World.{host_does}
 use Rattle.node_machine.specs.world.World.{comes_at}
 use Rattle.node_machine.specs.world.World.{end_c, end_h, activates}
 use Rattle.link_laws.proofs.entries.Lasting.{same_number}
-use Rattle.node_laws.proofs.Cases.{by_option}
+use Rattle.node_laws.proofs.Cases.{by_option, by_test}
 use Rattle.node_laws.proofs.links.Ends.{here_host}
 use Rattle.node_laws.proofs.links.Works.{steps_fine}
 use Rattle.node_laws.proofs.links.Worlds.{IsFineSite}
@@ -132,11 +132,7 @@ module _ (w : NodeWorld) (h sync : ℕ) (hosts : (s : Site) → site_at w.sites 
       changed s r x = changed_if (x.host == h) (after_site s r) x
 
       keeps : (s : Site) (r : Running) (x : Site) → (changed s r x).host ≡ x.host
-      keeps s r x = by (x.host == h)
-        where
-          by : (b : Bool) → (changed_if b (after_site s r) x).host ≡ x.host
-          by true = refl
-          by false = refl
+      keeps s r x = by_test (x.host == h) (λ q. rw q refl) (λ q. rw q refl)
 
       on_is : (s : Site) (r : Running) → site_at w.sites h ≡ Some s → s.node ≡ Some r
           → (host_does w h (Starts sync) begins).0 ≡ record w { sites = with_site h (after_site s r) w.sites }

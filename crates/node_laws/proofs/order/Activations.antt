@@ -16,6 +16,7 @@ use Rattle.history.specs.Steps.{end_of, lost_as}
 use Rattle.history.proofs.legal.Reading.{link_same}
 use Rattle.node_laws.specs.order.Told.{frames_on}
 use Rattle.node_laws.specs.order.Resets.{IsFreeOfLinkFrames, is_act_lpdu, is_act_read}
+use Rattle.node_laws.proofs.Cases.{by_test}
 use Rattle.node_laws.proofs.order.Withheld.{loses_one_on}
 
 -- ## Bytes
@@ -87,10 +88,7 @@ act_read (Act act again) other = absurd (true≢false other)
 act_read _ other = refl
 
 pub kept_act_lpdu : (c : Control) → not (is_act_lpdu (lpdu_of c)) ≡ false → not (is_act c) ≡ false
-kept_act_lpdu c q = go (is_act c) refl where
-  go : (b : Bool) → is_act c ≡ b → not b ≡ false
-  go true z = refl
-  go false z = absurd (true≢false (sym (ap not (act_read c z)) ∙ q))
+kept_act_lpdu c q = by_test (is_act c) (λ z. rw z refl) (λ z. rw z (absurd (true≢false (sym (ap not (act_read c z)) ∙ q))))
 
 -- ## What is lost
 
@@ -105,8 +103,4 @@ pub sans_none : (w : List OnWire) → IsFreeOfLinkFrames (frames_on w) → sans 
 sans_none [] q = refl
 sans_none (x ∷ w) q =
     let both = or_none (not (is_act_lpdu (lpdu_of x.frame))) (list_any (λ lpdu. not (is_act_lpdu lpdu)) (frames_on w)) q in
-    go (is_act x.frame) refl (kept_act_lpdu x.frame both.0) (sans_none w both.1)
-  where
-    go : (b : Bool) → is_act x.frame ≡ b → not (is_act x.frame) ≡ false → sans w ≡ [] → sans (x ∷ w) ≡ []
-    go true z kept later = rw z later
-    go false z kept later = absurd (true≢false (sym (ap not z) ∙ kept))
+    by_test (is_act x.frame) (λ z. rw z (sans_none w both.1)) (λ z. absurd (true≢false (sym (ap not z) ∙ kept_act_lpdu x.frame both.0)))

@@ -1,6 +1,5 @@
 -- Each event of a world but a tick leaves each link told.
 use Rattle.std.proofs.Common.{◌≡◌, ℕ, ◌==◌, Bool, true, false, cond, List, [], ◌∷◌, ◌++◌, length, Option, Some, None, map, refl, ap, sym, subst, ◌∙◌}
-use Rattle.std.specs.Prelude.{min, ◌+◌}
 use Rattle.std.specs.List.{AllByRecursion}
 use Rattle.std.proofs.lemmas.Bool.{eqb-true}
 use Rattle.swp_base.specs.InMemory.{Memory}
@@ -13,7 +12,7 @@ use Rattle.journal_laws.specs.Planned.{fails_within, after_planned}
 use Rattle.link_laws.specs.machine.Machine.{LinkEnd, LinkInput, new_link_end}
 use Rattle.link_laws.specs.machine.Machine.Role.{Clf, Uicc}
 use Rattle.link_laws.specs.messages.Links.{NumberedEnd, Link, Comes, Loss, EndEvent, LinkEvent, exchanged, happens_at_controller, happens}
-use Rattle.link_laws.specs.messages.Links.{IsClf, IsEvent}
+use Rattle.link_laws.specs.messages.Links.{IsClf}
 use Rattle.link_laws.specs.messages.Links.Ending.{CutOff}
 use Rattle.link_laws.specs.messages.Links.Comes.{NoInput}
 use Rattle.link_laws.specs.messages.Links.Loss.{Broken}
@@ -24,7 +23,6 @@ use Rattle.link_laws.specs.entries.Entries.End.{Controller, Host}
 use Rattle.history.specs.Steps.{at, entries_for}
 use Rattle.history.specs.Follows.{seen_from}
 use Rattle.node_machine.specs.Parts.{Desk, Running, Work, Deed}
-use Rattle.node_machine.specs.Carrying.{changed_if}
 use Rattle.node_machine.specs.Node.{steps, begins_with, found, boot_writes, with_error, new_desk}
 use Rattle.node_machine.specs.Node.NodeInput.{AtEnd}
 use Rattle.node_machine.specs.world.World.{Site, NodeWorld, site_at, with_site, link_to, input_of, near_end_in, arrival, work_of, ending_of, turns_at, runs_on}
@@ -33,7 +31,7 @@ use Rattle.node_machine.specs.world.World.{host_does}
 use Rattle.node_machine.specs.world.World.{controller_cut, host_cut, loses_power_at, memory_at, with_memory, with_node, links_of, boots, counts}
 use Rattle.node_machine.specs.world.World.{frame_lost, comes_at}
 use Rattle.link_laws.proofs.entries.Lasting.{same_number}
-use Rattle.node_laws.proofs.Cases.{by_option}
+use Rattle.node_laws.proofs.Cases.{by_option, by_test}
 use Rattle.node_laws.proofs.links.Ends.{here_host}
 use Rattle.node_laws.proofs.links.Works.{IsFineWork, all_done_fine, steps_fine}
 use Rattle.node_laws.proofs.links.Deeds.{AreFine}
@@ -392,15 +390,13 @@ each_beside w t u X k memory node changes q each =
     (λ h z. q h) each
 
 pub memory_each : (n : ℕ) (m : Memory) (w : NodeWorld) (t : List Entry) (X : ℕ → WatchedLink) → Each t X w → Each (t ++ []) (later X []) (with_memory n m w)
-memory_each n m w t X each = go (n == 0)
+memory_each n m w t X each = by_test (n == 0)
+    (λ q. rw q (each_empty t X (by true) (λ h s found. each h s found)))
+    (λ q. rw q (each_beside w t [] X n (λ s. m) (λ s. s.node) (λ s. (λ b. b, λ b. b)) (λ h. record { none = refl; stands = λ x. refl }) each))
   where
     by : Bool → NodeWorld
     by true = record w { memory = m }
     by false = record w { sites = with_site n (λ s. record s { memory = m }) w.sites }
-
-    go : (b : Bool) → Each (t ++ []) (later X []) (by b)
-    go true = each_empty t X (by true) (λ h s found. each h s found)
-    go false = each_beside w t [] X n (λ s. m) (λ s. s.node) (λ s. (λ b. b, λ b. b)) (λ h. record { none = refl; stands = λ x. refl }) each
 
 pub power_each : (n : ℕ) (w : NodeWorld) (t : List Entry) (X : ℕ → WatchedLink) → IsWell w → Each t X w
     → Each (t ++ entry.Cut n ∷ []) (later X (entry.Cut n ∷ [])) (loses_power_at n w)
@@ -478,7 +474,10 @@ node_each n r w t u X none q each = go (n == 0)
 
 pub boots_each : (w : NodeWorld) (t : List Entry) (X : ℕ → WatchedLink) (n : ℕ) → IsWell w → Each t X w
     → Each (t ++ (boots w n).1) (later X (boots w n).1) (boots w n).0
-boots_each w t X n a each = go (fails_within (length (boot_writes (memory_at w n).content)) (memory_at w n).plan)
+boots_each w t X n a each = by_test (fails_within (length (boot_writes (memory_at w n).content)) (memory_at w n).plan)
+    (λ q. rw q (power_each n written t X well kept))
+    (λ q. rw q (node_each n r written t (entry.Booted n (count_of r.core.journal) ∷ []) X (new_none (links_of w n))
+    (λ h. record { none = refl; stands = λ x. refl }) kept))
   where
     m : Memory
     m = after_planned (boot_writes (memory_at w n).content) (memory_at w n)
@@ -495,28 +494,12 @@ boots_each w t X n a each = go (fails_within (length (boot_writes (memory_at w n
     well : IsWell written
     well = record { orderly = (memory_goes n m w a.orderly).orderly; fine = memory_fine n m w a.fine }
 
-    by : Bool → NodeWorld × List Entry
-    by true = (loses_power_at n written, entry.Cut n ∷ [])
-    by false = (with_node n r written, entry.Booted n (count_of r.core.journal) ∷ [])
-
-    go : (b : Bool) → Each (t ++ (by b).1) (later X (by b).1) (by b).0
-    go true = power_each n written t X well kept
-    go false = node_each n r written t (entry.Booted n (count_of r.core.journal) ∷ []) X (new_none (links_of w n))
-        (λ h. record { none = refl; stands = λ x. refl }) kept
-
 -- ## Losses
 
 errors_none : (h : ℕ) (desks : List Desk) → AllByRecursion (λ (d : Desk). d.notice ≡ None) desks
     → AllByRecursion (λ (d : Desk). d.notice ≡ None) (with_error h desks)
 errors_none h [] a = tt
-errors_none h (d ∷ desks) a = (go (d.host == h), errors_none h desks a.1)
-  where
-    more : Desk → Desk
-    more x = record x { errors = min 65535 (x.errors + 1) }
-
-    go : (b : Bool) → (changed_if b more d).notice ≡ None
-    go true = a.0
-    go false = a.0
+errors_none h (d ∷ desks) a = (by_test (d.host == h) (λ q. rw q a.0) (λ q. rw q a.0), errors_none h desks a.1)
 
 counts_none : (why : Loss) (h : ℕ) (o : Option Running) → IfNone o → IfNone (counts why h o)
 counts_none (Broken fault) h None a = a
@@ -562,10 +545,6 @@ lost_each w t X e why each = go e.at_host refl
     far_left : (b : Bool) (l : Link) → (happens l (event b)).host.side ≡ l.host.side
     far_left true l = refl
     far_left false l = refl
-
-    allowed : (b : Bool) (l : Link) → IsEvent l (event b)
-    allowed true l = tt
-    allowed false l = tt
 
     go : (b : Bool) → e.at_host ≡ b → Each (t ++ (by b).1) (later X (by b).1) (by b).0
     go false q =

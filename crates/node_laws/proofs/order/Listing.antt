@@ -1,6 +1,6 @@
 -- What holds of all notes that an end makes but for a few kinds of them holds of what is noted of its steps.
 use Rattle.std.proofs.Common.{ℕ, Bool, true, false, List, [], ◌∷◌, ◌++◌, map, Option, Some, None}
-use Rattle.std.specs.Prelude.{nat_lt, option_to_list, length, if◌then◌else◌}
+use Rattle.std.specs.Prelude.{nat_lt, option_to_list, length}
 use Rattle.std.specs.List.{AllByRecursion}
 use Rattle.swp_base.specs.declared.control_frames.Control.{Control}
 use Rattle.link_laws.specs.sessions.Sessions.{OnWire}
@@ -11,6 +11,7 @@ use Rattle.link_laws.specs.messages.Links.Loss.{TooOld, TooMany}
 use Rattle.link_laws.specs.entries.Entries.{End, Entry as Noted, far, if_so, turn_entry, turn_entries, sent_unless, first_lost, wire_with, pushed_out}
 use Rattle.link_laws.specs.entries.Entries.{puts_entries, aged_entries}
 use Rattle.link_laws.specs.entries.Entries.Entry.{Up, GaveUp, Acked, Got, Sent, Emit, Lost}
+use Rattle.node_laws.proofs.Cases.{by_test}
 
 -- It holds of the notes of messages, and of frames that go out of this end, or are lost.
 pub record Holds (D : Noted → Type 0) (who : End) : Type 0 where
@@ -63,11 +64,7 @@ module _ (D : Noted → Type 0) (who : End) (holds : Holds D who) where
   are_lost w why (x ∷ xs) = (holds.lost w x.frame why, tt)
 
   are_pushed : (w : End) (wire : List OnWire) → Are (pushed_out w wire)
-  are_pushed w wire = go (nat_lt 64 (length wire))
-    where
-      go : (b : Bool) → Are (if b then first_lost w TooMany wire else [])
-      go true = are_lost w TooMany wire
-      go false = tt
+  are_pushed w wire = by_test (nat_lt 64 (length wire)) (λ q. rw q (are_lost w TooMany wire)) (λ q. rw q tt)
 
   pub are_puts : (cs : List Control) (l : Link) → Are (puts_entries who l cs)
   are_puts [] l = tt
@@ -78,8 +75,4 @@ module _ (D : Noted → Type 0) (who : End) (holds : Holds D who) where
 
   pub are_aged : (w : End) (xs : List OnWire) → Are (aged_entries w xs)
   are_aged w [] = tt
-  are_aged w (x ∷ xs) = go (nat_lt x.age 4) (are_aged w xs)
-    where
-      go : (b : Bool) → Are (aged_entries w xs) → Are (if b then aged_entries w xs else Lost w x.frame TooOld ∷ aged_entries w xs)
-      go true later = later
-      go false later = (holds.lost w x.frame TooOld, later)
+  are_aged w (x ∷ xs) = by_test (nat_lt x.age 4) (λ q. rw q (are_aged w xs)) (λ q. rw q (holds.lost w x.frame TooOld, are_aged w xs))

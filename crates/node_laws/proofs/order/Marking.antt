@@ -152,11 +152,7 @@ Blank (x ∷ xs) = (x.1 ≡ no_session) × Blank xs
 
 none_in : (p : List (ℕ × Session)) (k : ℕ) → Blank p → ended_session p k ≡ no_session
 none_in [] k b = refl
-none_in (x ∷ xs) k b = go (k == x.0) refl (none_in xs k b.1)
-  where
-    go : (c : Bool) → (k == x.0) ≡ c → ended_session xs k ≡ no_session → ended_session (x ∷ xs) k ≡ no_session
-    go true q later = rw q b.0
-    go false q later = rw q later
+none_in (x ∷ xs) k b = by_test (k == x.0) (λ q. rw q b.0) (λ q. rw q (none_in xs k b.1))
 
 ended_below : (past p : List (ℕ × Session)) (k : ℕ) → Blank p → ended_session (past ++ p) k ≡ ended_session past k
 ended_below [] p k b = none_in p k b

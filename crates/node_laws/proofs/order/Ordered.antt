@@ -1,5 +1,5 @@
 -- Messages are in order in each history of a world of nodes.
-use Rattle.std.proofs.Common.{◌≡◌, ℕ, ◌==◌, Bool, true, false, List, [], ◌∷◌, ◌++◌, Some, None, refl, ap, subst}
+use Rattle.std.proofs.Common.{◌≡◌, ℕ, ◌==◌, false, List, [], ◌∷◌, ◌++◌, Some, None, refl, ap, subst}
 use Rattle.std.specs.List.{list_any}
 use Rattle.trace_model.specs.declared.entry.Entry.{Entry}
 use Rattle.trace_model.specs.declared.line.End.{End}
@@ -13,7 +13,7 @@ use Rattle.node_machine.specs.world.NodeHistories.{FollowsNodes, NodeHistory, en
 use Rattle.node_laws.specs.links.Runs.{ArePlayable}
 use Rattle.node_laws.specs.kept.Hosts.{AreHosts}
 use Rattle.node_laws.specs.telling.Telling.{of_link, hosts_in, world_behind}
-use Rattle.node_laws.proofs.Cases.{by_option}
+use Rattle.node_laws.proofs.Cases.{by_option, by_test}
 use Rattle.node_laws.proofs.order.Strangers.{IsStrange}
 use Rattle.node_laws.specs.order.Legal.{PrefixNodes}
 use Rattle.node_laws.proofs.order.Lines.{IsSo, all_so_behind}
@@ -29,11 +29,7 @@ whether w h = by_option (site_at w.sites h) (λ q. IsNone (none w.sites q)) (λ 
   where
     none : (sites : List Site) → site_at sites h ≡ None → IsStrange h (hosts_in sites)
     none [] q = tt
-    none (x ∷ sites) q = by (x.host == h) refl (none sites)
-      where
-        by : (b : Bool) → (x.host == h) ≡ b → (site_at sites h ≡ None → IsStrange h (hosts_in sites)) → IsStrange h (hosts_in (x ∷ sites))
-        by true e later = let is : Some x ≡ None = rw e at q in absurd (cc is)
-        by false e later = (e, later (rw e at q))
+    none (x ∷ sites) q = by_test (x.host == h) (λ e. let is : Some x ≡ None = rw e at q in absurd (cc is)) (λ e. (e, none sites (rw e at q)))
 
 module _ (hosts : List ℕ) (os : List Occurrence) (w : NodeWorld) (a : IsSo hosts os w) where
   abbrev t : List Entry

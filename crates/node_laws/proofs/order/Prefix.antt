@@ -36,16 +36,10 @@ unheard h e (Some (f, saying)) q r =
 filter_kept : {Y : Type 0} (g : Option Saying → Option Y) → g None ≡ None → (h : ℕ) (e : End) → e.link ≡ h → (t : List Entry)
     → filter_map (λ x. g (said_of e x)) t ≡ filter_map (λ x. g (said_of e x)) (of_link h t)
 filter_kept g none h e q [] = refl
-filter_kept {Y} g none h e q (x ∷ t) = go (tells_of h x) refl (filter_kept g none h e q t)
-  where
-    Goal : Type 0
-    Goal = filter_map (λ x. g (said_of e x)) (x ∷ t) ≡ filter_map (λ x. g (said_of e x)) (of_link h (x ∷ t))
-
-    go : (b : Bool) → tells_of h x ≡ b → filter_map (λ x. g (said_of e x)) t ≡ filter_map (λ x. g (said_of e x)) (of_link h t) → Goal
-    go true r later = rw r (ap (cons_option (g (said_of e x))) later)
-    go false r later =
-        let off : g (said_of e x) ≡ None = ap g (unheard h e (said x) q (untold h x r)) ∙ none in
-        rw r (ap (λ o. cons_option o (filter_map (λ x. g (said_of e x)) t)) off ∙ later)
+filter_kept {Y} g none h e q (x ∷ t) = by_test (tells_of h x)
+    (λ r. rw r (ap (cons_option (g (said_of e x))) (filter_kept g none h e q t)))
+    (λ r. let off : g (said_of e x) ≡ None = ap g (unheard h e (said x) q (untold h x r)) ∙ none in
+    rw r (ap (λ o. cons_option o (filter_map (λ x. g (said_of e x)) t)) off ∙ filter_kept g none h e q t))
 
 acked_kept : (n : ℕ) (h : ℕ) (e : End) → e.link ≡ h → (t : List Entry) (before : ℕ)
     → fold (λ before x. acked_after n before (said_of e x)) before t ≡ fold (λ before x. acked_after n before (said_of e x)) before (of_link h t)
@@ -150,11 +144,7 @@ no_faults [] a = refl
 no_faults (x ∷ t) a = go (is_chain_fault x) refl (no_faults t (λ h. less h))
   where
     less : (h : ℕ) → list_any is_chain_fault (of_link h t) ≡ false
-    less h = by (tells_of h x) refl (a h)
-      where
-        by : (b : Bool) → tells_of h x ≡ b → list_any is_chain_fault (of_link h (x ∷ t)) ≡ false → list_any is_chain_fault (of_link h t) ≡ false
-        by true r z = or_right (is_chain_fault x) (list_any is_chain_fault (of_link h t)) (rw r at z)
-        by false r z = rw r at z
+    less h = by_test (tells_of h x) (λ r. or_right (is_chain_fault x) (list_any is_chain_fault (of_link h t)) (rw r at (a h))) (λ r. rw r at (a h))
 
     go : (b : Bool) → is_chain_fault x ≡ b → list_any is_chain_fault t ≡ false → list_any is_chain_fault (x ∷ t) ≡ false
     go true r later =

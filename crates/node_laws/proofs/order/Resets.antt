@@ -35,6 +35,7 @@ use Rattle.node_machine.specs.world.World.{after_controller, controller_does, ho
 use Rattle.node_machine.specs.world.World.Happening.{Resets}
 use Rattle.node_machine.specs.world.Lines.{if_off, machine_in, refusal_in}
 use Rattle.node_laws.specs.links.Runs.{new_line, IsRunOf}
+use Rattle.node_laws.proofs.Cases.{by_test}
 use Rattle.node_laws.proofs.links.Works.{steps_fine}
 use Rattle.node_laws.proofs.links.Playing.{plain_reach}
 use Rattle.node_laws.proofs.kept.Lines.{first_none}
@@ -135,11 +136,7 @@ module _ (w : NodeWorld) (t : List Entry) (X : ℕ → WatchedLink) (a : IsWell 
       changed r x = changed_if (x.host == k) (after_site r) x
 
       keeps : (r : Running) (x : Site) → (changed r x).host ≡ x.host
-      keeps r x = by (x.host == k)
-        where
-          by : (b : Bool) → (changed_if b (after_site r) x).host ≡ x.host
-          by true = refl
-          by false = refl
+      keeps r x = by_test (x.host == k) (λ q. rw q refl) (λ q. rw q refl)
 
       on_is : (r : Running) → s.node ≡ Some r → (host_does w k comes f).0 ≡ record w { sites = with_site k (after_site r) w.sites }
       on_is r e = rw (there, e) refl

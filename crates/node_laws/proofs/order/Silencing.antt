@@ -59,10 +59,6 @@ module _ (f : Entry → Bool) where
   abbrev pub Hears : List Entry → Type 0
   Hears t = list_any f t ≡ true
 
-  hears_either : (a b : Bool) → (a || b) ≡ true → (a ≡ true) ⊎ (b ≡ true)
-  hears_either true b q = inl refl
-  hears_either false b q = inr q
-
   pub hears_parts : (t u : List Entry) → Hears (t ++ u) → Hears t ⊎ Hears u
   hears_parts [] u q = inr q
   hears_parts (e ∷ t) u q = go (f e) refl (hears_parts t u)
@@ -182,12 +178,10 @@ module _ (f : Entry → Bool) where
 
     pub none_aged : (who : End) (w : List OnWire) → Hears (aged_entries who w) → ⊥
     none_aged who [] q = true≢false (sym q)
-    none_aged who (x ∷ xs) q = go (nat_lt x.age 4) refl (none_aged who xs)
-      where
-        go : (b : Bool) → nat_lt x.age 4 ≡ b → (Hears (aged_entries who xs) → ⊥) → ⊥
-        go true p later = later (let z = q in rw p at z)
-        go false p later = later (let y : Hears (Lost who x.frame TooOld ∷ aged_entries who xs) = rw p at q in
-            let r = deaf.lost who x.frame TooOld in rw r at y)
+    none_aged who (x ∷ xs) q = by_test (nat_lt x.age 4)
+        (λ p. none_aged who xs (let z = q in rw p at z))
+        (λ p. none_aged who xs (let y : Hears (Lost who x.frame TooOld ∷ aged_entries who xs) = rw p at q in
+        let r = deaf.lost who x.frame TooOld in rw r at y))
 
 -- ## Down behind it
 

@@ -28,19 +28,11 @@ use Rattle.node_laws.proofs.order.Gone.{Gone, event_silenced, event_keeps, event
 
 pub since_more : (n : ℕ) (t u : List Entry) → list_any (begins n) t ≡ true → since n (t ++ u) ≡ since n t ++ u
 since_more n [] u h = absurd (true≢false (sym h))
-since_more n (e ∷ t) u h = go (begins n e) refl (since_more n t u)
-  where
-    go : (b : Bool) → begins n e ≡ b → (list_any (begins n) t ≡ true → since n (t ++ u) ≡ since n t ++ u) → since n (e ∷ (t ++ u)) ≡ since n (e ∷ t) ++ u
-    go true q later = rw q refl
-    go false q later = rw q (later (let z = h in rw q at z))
+since_more n (e ∷ t) u h = by_test (begins n e) (λ q. rw q refl) (λ q. rw q (since_more n t u (let z = h in rw q at z)))
 
 since_later : (n : ℕ) (t u : List Entry) → list_any (begins n) t ≡ false → since n (t ++ u) ≡ since n u
 since_later n [] u h = refl
-since_later n (e ∷ t) u h = go (begins n e) refl (since_later n t u)
-  where
-    go : (b : Bool) → begins n e ≡ b → (list_any (begins n) t ≡ false → since n (t ++ u) ≡ since n u) → since n (e ∷ (t ++ u)) ≡ since n u
-    go true q later = absurd (true≢false (let z = h in rw q at z))
-    go false q later = rw q (later (let z = h in rw q at z))
+since_later n (e ∷ t) u h = by_test (begins n e) (λ q. absurd (true≢false (let z = h in rw q at z))) (λ q. rw q (since_later n t u (let z = h in rw q at z)))
 
 -- what is heard since then is heard, and an end came up
 since_hears : (n : ℕ) (u : List Entry) → Hears silences (since n u) → Hears (begins n) u × Hears silences u

@@ -34,7 +34,7 @@ use Rattle.node_machine.specs.world.NodeFilters.{session_now}
 use Rattle.node_machine.specs.world.NodeHistories.{FollowsNodes, NodeHistory, entries_in, occurrences_in}
 use Rattle.node_laws.specs.links.Runs.{ArePlayable, new_line}
 use Rattle.node_laws.specs.telling.Telling.{is_of, tells_of, of_link, hosts_in, world_behind}
-use Rattle.node_laws.proofs.Cases.{by_option}
+use Rattle.node_laws.proofs.Cases.{by_option, by_test}
 use Rattle.node_laws.proofs.telling.Accounts.{untold}
 use Rattle.node_laws.specs.order.Told.{IsLinkTold, AreWiresRead, IsStillInSession, HasDeliveredAll}
 use Rattle.node_laws.proofs.order.Prefix.{sent_alike, got_alike, acked_alike}
@@ -76,12 +76,9 @@ module _ (h : ℕ) where
   any_of : (f : Option (End × Saying) → Bool) → ((o : Option (End × Saying)) → is_of h o ≡ false → f o ≡ false) → (t : List Entry)
       → list_any (λ x. f (said x)) t ≡ list_any (λ x. f (said x)) (of_link h t)
   any_of f off [] = refl
-  any_of f off (x ∷ t) = go (tells_of h x) refl (any_of f off t)
-    where
-      go : (b : Bool) → tells_of h x ≡ b → list_any (λ x. f (said x)) t ≡ list_any (λ x. f (said x)) (of_link h t)
-          → list_any (λ x. f (said x)) (x ∷ t) ≡ list_any (λ x. f (said x)) (of_link h (x ∷ t))
-      go true p later = rw p (ap (λ b. f (said x) || b) later)
-      go false p later = let z = off (said x) (untold h x p) in rw (p, z) later
+  any_of f off (x ∷ t) = by_test (tells_of h x)
+      (λ p. rw p (ap (λ b. f (said x) || b) (any_of f off t)))
+      (λ p. let z = off (said x) (untold h x p) in rw (p, z) (any_of f off t))
 
   since_alike : (f : Option (End × Saying) → Bool) → ((o : Option (End × Saying)) → is_of h o ≡ false → f o ≡ false) → (n : ℕ) (t v : List Entry)
       → of_link h t ≡ of_link h v → list_any (λ x. f (said x)) (since_up h n t) ≡ list_any (λ x. f (said x)) (since_up h n v)
@@ -99,14 +96,10 @@ module _ (h : ℕ) where
 
 since_none : (f : Noted → Bool) (n : ℕ) (t : List Noted) → list_any f t ≡ false → list_any f (since n t) ≡ false
 since_none f n [] q = refl
-since_none f n (e ∷ t) q = go (begins n e) refl (since_none f n t)
+since_none f n (e ∷ t) q = by_test (begins n e) (λ p. rw p later) (λ p. rw p (since_none f n t later))
   where
     later : list_any f t ≡ false
     later = (or_none (f e) (list_any f t) q).1
-
-    go : (b : Bool) → begins n e ≡ b → (list_any f t ≡ false → list_any f (since n t) ≡ false) → list_any f (since n (e ∷ t)) ≡ false
-    go true p more = rw p later
-    go false p more = rw p (more later)
 
 are_plain : (t : List Noted) → list_any silences t ≡ false → list_any misnumbered t ≡ false → ArePlain t
 are_plain [] a b = tt
@@ -202,24 +195,17 @@ none_after h far node x q = refl
 
 unread : (h : ℕ) (far : Bool) (node : ℕ) (t : List Entry) → of_link h t ≡ [] → session_now t (record { link = h; at_host = far }) node ≡ None
 unread h far node [] q = refl
-unread h far node (x ∷ t) q = go (tells_of h x) refl (unread h far node t)
+unread h far node (x ∷ t) q = by_test (tells_of h x)
+    (λ p. absurd (cc (rw p at q)))
+    (λ p. let others : of_link h t ≡ [] = rw p at q in
+    ap (λ s. fold (after e node) s t) (none_after h far node x (untold h x p)) ∙ unread h far node t others)
   where
     e : End
     e = record { link = h; at_host = far }
 
-    go : (b : Bool) → tells_of h x ≡ b → (of_link h t ≡ [] → session_now t e node ≡ None) → session_now (x ∷ t) e node ≡ None
-    go true p later = absurd (cc (rw p at q))
-    go false p later =
-        let others : of_link h t ≡ [] = rw p at q in
-        ap (λ s. fold (after e node) s t) (none_after h far node x (untold h x p)) ∙ later others
-
 pub strange_of : (sites : List Site) (h : ℕ) → site_at sites h ≡ None → IsStrange h (hosts_in sites)
 strange_of [] h q = tt
-strange_of (s ∷ sites) h q = go (s.host == h) refl (strange_of sites h)
-  where
-    go : (b : Bool) → (s.host == h) ≡ b → (site_at sites h ≡ None → IsStrange h (hosts_in sites)) → ((s.host == h) ≡ false) × IsStrange h (hosts_in sites)
-    go true p later = absurd (cc (rw p at q))
-    go false p later = (p, later (rw p at q))
+strange_of (s ∷ sites) h q = by_test (s.host == h) (λ p. absurd (cc (rw p at q))) (λ p. (p, strange_of sites h (rw p at q)))
 
 -- ## Each history
 

@@ -6,7 +6,6 @@ use Rattle.swp_base.specs.InMemory.{Memory}
 use Rattle.trace_model.specs.declared.entry.Entry.{Entry}
 use Rattle.trace_model.specs.declared.entry.Entry.TheVariants as entry
 use Rattle.trace_model.specs.declared.line.End.{End}
-use Rattle.journal_laws.specs.Journal.{count_of}
 use Rattle.journal_laws.specs.Planned.{fails_within, after_planned}
 use Rattle.link_laws.specs.machine.Machine.{LinkInput}
 use Rattle.link_laws.specs.machine.Machine.Role.{Bare}
@@ -24,7 +23,7 @@ use Rattle.node_machine.specs.Node.{steps, begins_with, found, boot_writes}
 use Rattle.node_machine.specs.Node.NodeInput.{AtEnd}
 use Rattle.node_machine.specs.world.World.{Site, NodeWorld, Happening, site_at, link_to, input_of, near_end_in, arrival, work_of}
 use Rattle.node_machine.specs.world.World.{comes_to, controller_work, link_after_controller, controller_does, host_work, after_host, host_does}
-use Rattle.node_machine.specs.world.World.{frames_noted, wires_for, host_cut, loses_power_at, memory_at, with_memory, with_node, links_of, boots}
+use Rattle.node_machine.specs.world.World.{frames_noted, wires_for, host_cut, loses_power_at, memory_at, with_memory, with_node, boots}
 use Rattle.node_machine.specs.world.World.{counts, frame_lost, sending, beginning, comes_at, end_c, end_h, all_aged, controller_ticks}
 use Rattle.node_machine.specs.world.World.{hosts_tick, world_ticks, world_step}
 use Rattle.node_machine.specs.world.World.Happening.{Boots, IsCut, Gives, Inits, Takes, Loses, Ticks, Resets, Activates, Arms}
@@ -250,21 +249,7 @@ ticks_none h w orderly strange =
         (λ x q. of_other x.host h (aged_entries Controller x.link.to_controller ++ aged_entries Host x.link.to_host) q) w.sites strange
 
 pub step_none : (h : ℕ) (w : NodeWorld) (c : Happening) → IsOrderly w → IsStrange h (hosts_in w.sites) → of_link h (world_step w c).1 ≡ []
-step_none h w (Boots n) a q = go (fails_within (length (boot_writes (memory_at w n).content)) (memory_at w n).plan)
-  where
-    written : NodeWorld
-    written = with_memory n (after_planned (boot_writes (memory_at w n).content) (memory_at w n)) w
-
-    r : Running
-    r = found n (links_of w n) (memory_at w n).content
-
-    by : Bool → NodeWorld × List Entry
-    by true = (loses_power_at n written, entry.Cut n ∷ [])
-    by false = (with_node n r written, entry.Booted n (count_of r.core.journal) ∷ [])
-
-    go : (b : Bool) → of_link h (by b).1 ≡ []
-    go true = refl
-    go false = refl
+step_none h w (Boots n) a q = by_test (fails_within (length (boot_writes (memory_at w n).content)) (memory_at w n).plan) (λ q. rw q refl) (λ q. rw q refl)
 step_none h w (IsCut n) a q = refl
 step_none h w (Gives e m) a q = begins_none h w a q e.link (sending e.link m) (sending_mute e.link m)
 step_none h w (Inits e identity pipes) a q = begins_none h w a q e.link (beginning identity pipes) (tt, (tt, tt))

@@ -205,11 +205,9 @@ module _ (h : ℕ) where
   -- only what tells of the link counts
   kept_any : (f : Entry → Bool) → ((e : Entry) → tells_of h e ≡ false → f e ≡ false) → (t : List Entry) → list_any f t ≡ list_any f (of_link h t)
   kept_any f off [] = refl
-  kept_any f off (e ∷ t) = go (tells_of h e) refl (kept_any f off t)
-    where
-      go : (b : Bool) → tells_of h e ≡ b → list_any f t ≡ list_any f (of_link h t) → list_any f (e ∷ t) ≡ list_any f (of_link h (e ∷ t))
-      go true q later = rw q (ap (λ b. f e || b) later)
-      go false q later = rw q (ap (λ b. b || list_any f t) (off e q) ∙ later)
+  kept_any f off (e ∷ t) = by_test (tells_of h e)
+      (λ q. rw q (ap (λ b. f e || b) (kept_any f off t)))
+      (λ q. rw q (ap (λ b. b || list_any f t) (off e q) ∙ kept_any f off t))
 
   alike : (f : Entry → Bool) → ((e : Entry) → tells_of h e ≡ false → f e ≡ false) → (t u : List Entry) → of_link h t ≡ of_link h u
       → list_any f t ≡ list_any f u
@@ -220,17 +218,9 @@ module _ (h : ℕ) where
       → ((e : Entry) → tells_of h e ≡ false → is_reset_down (end_c h) e ≡ false) → (t : List Entry)
       → list_any f (behind_reset_of (end_c h) t) ≡ list_any f (behind_reset_of (end_c h) (of_link h t))
   kept_behind f off down [] = refl
-  kept_behind f off down (e ∷ t) = go (tells_of h e) refl (kept_behind f off down t)
-    where
-      by : (b : Bool) → list_any f (behind_reset_of (end_c h) t) ≡ list_any f (behind_reset_of (end_c h) (of_link h t))
-          → list_any f (cond b t (behind_reset_of (end_c h) t)) ≡ list_any f (cond b (of_link h t) (behind_reset_of (end_c h) (of_link h t)))
-      by true later = kept_any f off t
-      by false later = later
-
-      go : (b : Bool) → tells_of h e ≡ b → list_any f (behind_reset_of (end_c h) t) ≡ list_any f (behind_reset_of (end_c h) (of_link h t))
-          → list_any f (behind_reset_of (end_c h) (e ∷ t)) ≡ list_any f (behind_reset_of (end_c h) (of_link h (e ∷ t)))
-      go true q later = rw q (by (is_reset_down (end_c h) e) later)
-      go false q later = rw q (ap (λ b. list_any f (cond b t (behind_reset_of (end_c h) t))) (down e q) ∙ later)
+  kept_behind f off down (e ∷ t) = by_test (tells_of h e)
+      (λ q. rw q (by_test (is_reset_down (end_c h) e) (λ q. rw q (kept_any f off t)) (λ q. rw q (kept_behind f off down t))))
+      (λ q. rw q (ap (λ b. list_any f (cond b t (behind_reset_of (end_c h) t))) (down e q) ∙ kept_behind f off down t))
 
   alike_behind : (f : Entry → Bool) → ((e : Entry) → tells_of h e ≡ false → f e ≡ false)
       → ((e : Entry) → tells_of h e ≡ false → is_reset_down (end_c h) e ≡ false) → (t u : List Entry) → of_link h t ≡ of_link h u

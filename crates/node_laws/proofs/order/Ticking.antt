@@ -1,5 +1,5 @@
 -- A tick of a world leaves each link told.
-use Rattle.std.proofs.Common.{◌≡◌, ℕ, ◌==◌, Bool, true, false, cond, List, [], ◌∷◌, ◌++◌, Option, Some, None, map, refl, ap, sym, subst, ◌∙◌}
+use Rattle.std.proofs.Common.{◌≡◌, ℕ, ◌==◌, Bool, true, false, List, [], ◌∷◌, ◌++◌, Option, Some, None, map, refl, ap, sym, subst, ◌∙◌}
 use Rattle.std.specs.Prelude.{is_some, not, ◌&&◌}
 use Rattle.std.specs.List.{AllByRecursion, find}
 use Rattle.std.proofs.lemmas.Bool.{eqb-true, true≢false}
@@ -12,7 +12,7 @@ use Rattle.link_laws.specs.machine.Machine.{LinkEnd, Turn, is_open, new_link_end
 use Rattle.link_laws.specs.entries.Settled.{FindsReady}
 use Rattle.link_laws.specs.machine.Machine.LinkInput.{Tick, Reset}
 use Rattle.link_laws.specs.machine.Machine.Role.{Clf, Uicc}
-use Rattle.link_laws.specs.messages.Links.{NumberedEnd, Link, Ending, LinkEvent, exchanged, aged, has_input, ticks_at_controller, AreSendableTurns}
+use Rattle.link_laws.specs.messages.Links.{NumberedEnd, Link, Ending, LinkEvent, exchanged, aged, ticks_at_controller, AreSendableTurns}
 use Rattle.link_laws.specs.messages.Links.{IsClf, IsUicc}
 use Rattle.link_laws.specs.messages.Links.{IsEvent}
 use Rattle.link_laws.specs.messages.Links.Ending.{GoesOut, CutOff}
@@ -63,15 +63,11 @@ none_due (Some r) a = all r.desks a
 end_found : (near_ends : ℕ → NumberedEnd) (desks : List Desk) (h : ℕ) (d : Desk) → find (λ d. d.host == h) desks ≡ Some d
     → port_at (ports_for near_ends desks) h ≡ Some (port_for (near_ends h) d)
 end_found near_ends [] h d q = absurd (cc q)
-end_found near_ends (x ∷ desks) h d q = go (x.host == h) refl (end_found near_ends desks h d)
-  where
-    go : (b : Bool) → (x.host == h) ≡ b → (find (λ d. d.host == h) desks ≡ Some d → port_at (ports_for near_ends desks) h ≡ Some (port_for (near_ends h) d))
-        → port_at (ports_for near_ends (x ∷ desks)) h ≡ Some (port_for (near_ends h) d)
-    go true e later =
-        let is : Some x ≡ Some d = rw e at q in
-        let one : x ≡ d = cc in
-        rw e (ap (λ n. Some (port_for (near_ends n) x)) (eqb-true x.host h e) ∙ ap (λ z. Some (port_for (near_ends h) z)) one)
-    go false e later = rw e (later (rw e at q))
+end_found near_ends (x ∷ desks) h d q = by_test (x.host == h)
+    (λ e. let is : Some x ≡ Some d = rw e at q in
+    let one : x ≡ d = cc in
+    rw e (ap (λ n. Some (port_for (near_ends n) x)) (eqb-true x.host h e) ∙ ap (λ z. Some (port_for (near_ends h) z)) one))
+    (λ e. rw e (end_found near_ends desks h d (rw e at q)))
 
 -- an end of such a link that is up is active
 up_open : (h : ℕ) (l : Link) (t : List Entry) → IsLinkTold h l t → l.controller.side.shdlc.phase ≡ Up → is_open l.controller.side.role ≡ true
@@ -128,14 +124,9 @@ far_sends x (Some n) clean a =
 -- the controller's end after a tick in which its power went
 near_cut : (l : Link) (late : Bool) (ts : List Turn) → IsClf l.controller.side.role
     → (ticked_so l late ts CutOff).controller.side ≡ new_link_end (Clf new_clf)
-near_cut l late ts a = go (late && not (is_waiting l.controller.side.shdlc))
-  where
-    by : Bool → Link
-    by b = cond b (has_input l (Reset None) ts CutOff) (ticks_at_controller l ts CutOff)
-
-    go : (b : Bool) → (by b).controller.side ≡ new_link_end (Clf new_clf)
-    go true = renewed_clf (turned (after_input l.controller.side (Reset None)) ts).role (here_clf l (Step (AsksReset None) ts CutOff) a)
-    go false = renewed_clf (turned (after_input l.controller.side Tick) ts).role (tick_clf l ts CutOff a)
+near_cut l late ts a = by_test (late && not (is_waiting l.controller.side.shdlc))
+    (λ q. rw q (renewed_clf (turned (after_input l.controller.side (Reset None)) ts).role (here_clf l (Step (AsksReset None) ts CutOff) a)))
+    (λ q. rw q (renewed_clf (turned (after_input l.controller.side Tick) ts).role (tick_clf l ts CutOff a)))
 
 near_after : (w : NodeWorld) → ((h : ℕ) (s : Site) → site_at w.sites h ≡ Some s → IsClf s.link.controller.side.role)
     → ((h : ℕ) (s : Site) → site_at w.sites h ≡ Some s → IfOff w.controller (new_link_end (Clf new_clf)) s.link.controller.side)
@@ -259,16 +250,13 @@ far_after x host node uicc off none = go x.node refl node off none
 
 hosts_none : (sites : List Site) (h : ℕ) → site_at sites h ≡ None → site_at (hosts_tick sites).0 h ≡ None
 hosts_none [] h q = refl
-hosts_none (x ∷ sites) h q = go (x.host == h) refl (hosts_none sites h)
+hosts_none (x ∷ sites) h q = by_test (x.host == h)
+    (λ e. let is : Some x ≡ None = rw e at q in absurd (cc is))
+    (λ e. let fails : ((host_ticks x).0.host == h) ≡ false = same ∙ e in
+    rw fails (hosts_none sites h (rw e at q)))
   where
     same : ((host_ticks x).0.host == h) ≡ (x.host == h)
     same = ap (λ n. n == h) (tick_host x)
-
-    go : (b : Bool) → (x.host == h) ≡ b → (site_at sites h ≡ None → site_at (hosts_tick sites).0 h ≡ None) → site_at (hosts_tick (x ∷ sites)).0 h ≡ None
-    go true e later = let is : Some x ≡ None = rw e at q in absurd (cc is)
-    go false e later =
-        let fails : ((host_ticks x).0.host == h) ≡ false = same ∙ e in
-        rw fails (later (rw e at q))
 
 pub near_none : (w : NodeWorld) (h : ℕ) → site_at w.sites h ≡ None → site_at (controller_ticks w).0.sites h ≡ None
 near_none w h q = by_option w.controller

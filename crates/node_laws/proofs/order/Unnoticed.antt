@@ -1,5 +1,5 @@
 -- A host keeps no notice of a controller: nothing that it does in a step gives it one.
-use Rattle.std.proofs.Common.{◌≡◌, ◌∙◌, ℕ, ◌==◌, Bool, true, false, cond, List, [], ◌∷◌, refl, ap, length}
+use Rattle.std.proofs.Common.{◌≡◌, ◌∙◌, ℕ, ◌==◌, Bool, true, false, List, [], ◌∷◌, refl, ap, length}
 use Rattle.std.specs.Prelude.{Option, Some, None, map}
 use Rattle.std.specs.List.{AllByRecursion, flat_map}
 use Rattle.journal_laws.specs.Planned.{fails_within}
@@ -161,11 +161,4 @@ desks_none [] a = tt
 desks_none (p ∷ ports) a = (a.0, desks_none ports a.1)
 
 pub runs_none : (k : Work) → HasNoNotices k → IfNone (runs_on k)
-runs_none k a = go k.cut
-  where
-    by : Bool → Option Running
-    by b = cond b None (Some (record { core = k.core; desks = map (λ (p : Port). p.desk) k.ports }))
-
-    go : (b : Bool) → IfNone (by b)
-    go true = tt
-    go false = desks_none k.ports a.none
+runs_none k a = by_test k.cut (λ q. rw q tt) (λ q. rw q (desks_none k.ports a.none))

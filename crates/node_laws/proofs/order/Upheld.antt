@@ -22,9 +22,9 @@ use Rattle.node_machine.specs.world.NodeHistories.{NodeHistory, FollowsNodes, en
 use Rattle.node_laws.specs.links.Runs.{ArePlayable}
 use Rattle.node_laws.specs.kept.Hosts.{AreHosts}
 use Rattle.node_laws.specs.telling.Telling.{tells_of, of_link, hosts_in, world_behind}
-use Rattle.node_laws.specs.telling.Standing.{Readiness, Standing, new_standing, without_power, stands_noted, with_empty_wires, with_inactive_ends, standing}
+use Rattle.node_laws.specs.telling.Standing.{Readiness, Standing, new_standing, without_power, stands_noted, standing}
 use Rattle.node_laws.specs.telling.Standing.{as_event_begins, as_event_ends, standing_behind}
-use Rattle.node_laws.proofs.Cases.{by_option}
+use Rattle.node_laws.proofs.Cases.{by_option, by_test}
 use Rattle.node_laws.proofs.telling.Accounts.{of-append}
 use Rattle.node_laws.proofs.telling.Powers.{other_said}
 use Rattle.node_laws.proofs.telling.Lasting.{occurs}
@@ -110,22 +110,14 @@ module _ (k : ℕ) (hosts : List ℕ) where
 
 -- what is read of an end of a told link is how ready it is
 ready_machine : (l : Link) (x : Standing) → AreReady l x → (e : End) → ready_at e x ≡ readiness_of (machine_of l e)
-ready_machine l x a e = go e.at_host
-  where
-    go : (b : Bool) → ready_at (record { link = e.link; at_host = b }) x ≡ readiness_of (machine_of l (record { link = e.link; at_host = b }))
-    go true = a.far
-    go false = a.near
+ready_machine l x a e = by_test e.at_host (λ q. rw q a.far) (λ q. rw q a.near)
 
 -- no end is active
 abbrev IsIdle : Standing → Type 0
 IsIdle x = (x.near.active ≡ false) × (x.far.active ≡ false)
 
 idle_at : (e : End) (x : Standing) → IsIdle x → (ready_at e x).active ≡ false
-idle_at e x a = go e.at_host
-  where
-    go : (b : Bool) → (ready_at (record { link = e.link; at_host = b }) x).active ≡ false
-    go true = a.1
-    go false = a.0
+idle_at e x a = by_test e.at_host (λ q. rw q a.1) (λ q. rw q a.0)
 
 module _ (k : ℕ) where
   -- entries that tell nothing of a link let none become so
@@ -142,20 +134,11 @@ module _ (k : ℕ) where
 
   idle_all : (t : List Entry) (x : Standing) → of_link k t ≡ [] → IsIdle x → IsIdle (standing k x t)
   idle_all [] x q a = a
-  idle_all (e ∷ t) x q a = go (tells_of k e) refl (idle_all t (stands_noted k x e))
-    where
-      go : (b : Bool) → tells_of k e ≡ b → (of_link k t ≡ [] → IsIdle (stands_noted k x e) → IsIdle (standing k (stands_noted k x e) t))
-          → IsIdle (standing k x (e ∷ t))
-      go true p later = absurd (cc (rw p at q))
-      go false p later = later (rw p at q) (idle_noted x e p a)
+  idle_all (e ∷ t) x q a = by_test (tells_of k e) (λ p. absurd (cc (rw p at q))) (λ p. idle_all t (stands_noted k x e) (rw p at q) (idle_noted x e p a))
 
   idle_event : (c : Happening) (t : List Entry) (x : Standing) → of_link k t ≡ [] → IsIdle x
       → IsIdle (as_event_ends k c (standing k (as_event_begins k c x) t))
-  idle_event (Activates j sync power) t x q a = go (k == j)
-    where
-      go : (b : Bool) → IsIdle (cond b (with_inactive_ends (standing k (cond b (with_empty_wires x) x) t)) (standing k (cond b (with_empty_wires x) x) t))
-      go true = (refl, refl)
-      go false = idle_all t x q a
+  idle_event (Activates j sync power) t x q a = by_test (k == j) (λ is. rw is (refl, refl)) (λ is. rw is (idle_all t x q a))
   idle_event c t x q a = idle_all t x q a
 
   idle_from : (events : List Occurrence) (x : Standing) → of_link k (entries_in events) ≡ [] → IsIdle x
@@ -181,20 +164,17 @@ record IsFound (sites : List Site) (h : ℕ) : Type 0 where
 found_too : (xs ys : List Site) → hosts_in xs ≡ hosts_in ys → (h : ℕ) (s : Site) → site_at xs h ≡ Some s → IsFound ys h
 found_too [] ys q h s found = absurd (cc found)
 found_too (x ∷ xs) [] q h s found = absurd (cc q)
-found_too (x ∷ xs) (y ∷ ys) q h s found = go (x.host == h) refl (found_too xs ys)
+found_too (x ∷ xs) (y ∷ ys) q h s found = by_test (x.host == h)
+    (λ e. let z : (y.host == h) ≡ true = ap (λ n. n == h) (sym host) ∙ e in record { site = y; there = rw z refl })
+    (λ e. let z : (y.host == h) ≡ false = ap (λ n. n == h) (sym host) ∙ e in
+    let later : IsFound ys h = found_too xs ys rest h s (rw e at found) in
+    record { site = later.site; there = rw z later.there })
   where
     host : x.host ≡ y.host
     host = cc
 
     rest : hosts_in xs ≡ hosts_in ys
     rest = cc
-
-    go : (b : Bool) → (x.host == h) ≡ b → (hosts_in xs ≡ hosts_in ys → (h : ℕ) (s : Site) → site_at xs h ≡ Some s → IsFound ys h) → IsFound (y ∷ ys) h
-    go true e more = let z : (y.host == h) ≡ true = ap (λ n. n == h) (sym host) ∙ e in record { site = y; there = rw z refl }
-    go false e more =
-        let z : (y.host == h) ≡ false = ap (λ n. n == h) (sym host) ∙ e in
-        let later : IsFound ys h = more rest h s (rw e at found) in
-        record { site = later.site; there = rw z later.there }
 
 -- ## Histories
 

@@ -31,6 +31,7 @@ use Rattle.history.proofs.legal.Reading.{link_same}
 use Rattle.node_machine.specs.world.World.{Happening}
 use Rattle.node_machine.specs.world.World.Happening.{Activates}
 use Rattle.node_laws.specs.links.Runs.{new_line, IsRunOf}
+use Rattle.node_laws.proofs.Cases.{by_test}
 use Rattle.node_laws.proofs.links.Sites.{run_of_more}
 use Rattle.node_laws.specs.telling.Telling.{is_of, tells_of, of_link, TellOf}
 use Rattle.node_laws.specs.telling.Standing.{Standing, new_standing, with_empty_wires, as_event_begins, with_inactive_ends, as_event_ends, said_near, said_far}
@@ -243,12 +244,9 @@ module _ (h : ℕ) where
   -- only what says something of the link spoils
   spoils_of : (t : List Entry) → list_any (spoils_on h) t ≡ list_any (spoils_on h) (of_link h t)
   spoils_of [] = refl
-  spoils_of (e ∷ t) = go (tells_of h e) refl (spoils_of t)
-    where
-      go : (b : Bool) → tells_of h e ≡ b → list_any (spoils_on h) t ≡ list_any (spoils_on h) (of_link h t)
-          → list_any (spoils_on h) (e ∷ t) ≡ list_any (spoils_on h) (of_link h (e ∷ t))
-      go true q later = rw q (ap (λ b. spoils_on h e || b) later)
-      go false q later = rw q (ap (λ b. b || list_any (spoils_on h) t) (spoils_none (said e) (untold h e q)) ∙ later)
+  spoils_of (e ∷ t) = by_test (tells_of h e)
+      (λ q. rw q (ap (λ b. spoils_on h e || b) (spoils_of t)))
+      (λ q. rw q (ap (λ b. b || list_any (spoils_on h) t) (spoils_none (said e) (untold h e q)) ∙ spoils_of t))
 
   -- where no frame was lost and no RSET put on the link, as entries tell it, the law of the link notes none
   spared_of : (t : List Noted) → list_any (spoils_on h) (entries_for h t) ≡ false → Spared t
@@ -354,36 +352,20 @@ watched-append h x u v =
     ∙ ap (λ b. record { stands = standing h x.stands (u ++ v); since = b; whole = x.whole }) since
 
 pub watch_begins_stands : (h : ℕ) (c : Happening) (x : WatchedLink) → (watch_begins h c x).stands ≡ as_event_begins h c x.stands
-watch_begins_stands h (Activates k sync power) x = go (h == k)
-  where
-    go : (b : Bool) → (cond b (unwatched x) x).stands ≡ cond b (with_empty_wires x.stands) x.stands
-    go true = refl
-    go false = refl
+watch_begins_stands h (Activates k sync power) x = by_test (h == k) (λ q. rw q refl) (λ q. rw q refl)
 watch_begins_stands h c x = refl
 
 pub watch_ends_stands : (h : ℕ) (c : Happening) (x : WatchedLink) → (watch_ends h c x).stands ≡ as_event_ends h c x.stands
-watch_ends_stands h (Activates k sync power) x = go (h == k)
-  where
-    go : (b : Bool) → (cond b (rewatched x) x).stands ≡ cond b (with_inactive_ends x.stands) x.stands
-    go true = refl
-    go false = refl
+watch_ends_stands h (Activates k sync power) x = by_test (h == k) (λ q. rw q refl) (λ q. rw q refl)
 watch_ends_stands h c x = refl
 
 pub watch_ends_since : (h : ℕ) (c : Happening) (x : WatchedLink) → (watch_ends h c x).since ≡ x.since
-watch_ends_since h (Activates k sync power) x = go (h == k)
-  where
-    go : (b : Bool) → (cond b (rewatched x) x).since ≡ x.since
-    go true = refl
-    go false = refl
+watch_ends_since h (Activates k sync power) x = by_test (h == k) (λ q. rw q refl) (λ q. rw q refl)
 watch_ends_since h c x = refl
 
 -- a link whose ends were as they are read before an event is so behind it
 pub ends_whole : (h : ℕ) (c : Happening) (x : WatchedLink) (u : List Entry) → x.whole ≡ true → (watch_ends h c (watched h (watch_begins h c x) u)).whole ≡ true
-ends_whole h (Activates k sync power) x u q = go (h == k)
-  where
-    go : (b : Bool) → (cond b (rewatched (watched h (cond b (unwatched x) x) u)) (watched h (cond b (unwatched x) x) u)).whole ≡ true
-    go true = refl
-    go false = q
+ends_whole h (Activates k sync power) x u q = by_test (h == k) (λ is. rw is refl) (λ is. rw is q)
 ends_whole h c x u q = q
 
 -- nothing was noted yet, and nothing withheld an answer

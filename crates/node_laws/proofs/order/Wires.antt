@@ -1,6 +1,6 @@
 -- The frames on the wires of a link are read off what is noted of it.
 use Rattle.std.proofs.Common.{◌≡◌, ℕ, Bool, true, false, List, [], ◌∷◌, ◌++◌, refl, ap, sym, subst, ◌∙◌}
-use Rattle.std.specs.Prelude.{◌+◌, drop, not, Option, Some, None}
+use Rattle.std.specs.Prelude.{drop, not, Some, None}
 use Rattle.std.specs.List.{list_any}
 use Rattle.std.proofs.lemmas.Bool.{true≢false}
 use Rattle.trace_model.specs.declared.entry.Entry.{Entry}
@@ -8,7 +8,7 @@ use Rattle.swp_lpdu.specs.Controls.{lpdu_of}
 use Rattle.shdlc_core.specs.declared.answers.LinkState.TheVariants.{Down as IsDown}
 use Rattle.shdlc_core.specs.Machine.{EndState, Session, no_session, frame_due, with_ready}
 use Rattle.link_laws.specs.sessions.Sessions.{OnWire, older}
-use Rattle.link_laws.specs.machine.Machine.{LinkEnd, Role, Refused, Turn, aside_refusal, unless, turn, turned, started, frames_out}
+use Rattle.link_laws.specs.machine.Machine.{LinkEnd, Role, Turn, aside_refusal, turn, turned, started, frames_out}
 use Rattle.link_laws.specs.machine.Machine.LinkInput.{Reset}
 use Rattle.link_laws.specs.machine.Machine.Role.{Bare, Clf, Uicc}
 use Rattle.link_laws.specs.machine.Machine.Turn.{Give, Hold, FetchMessage, SetAside, Release}
@@ -31,6 +31,7 @@ use Rattle.history.specs.Steps.{end_of}
 use Rattle.node_laws.specs.links.Runs.{new_line}
 use Rattle.node_laws.specs.telling.Standing.{Standing, made_active, no_longer_waits, becomes_at, inactive, said_near}
 use Rattle.node_laws.specs.telling.Standing.{said_far, stands_said, with_empty_wires, standing, law_noted, standing_by_law}
+use Rattle.node_laws.proofs.Cases.{by_option}
 use Rattle.node_laws.proofs.telling.Powers.{AreClear}
 use Rattle.node_laws.proofs.telling.Shapes.{last_of, IsShaped, shaped_tick, shaped_step, opened_by, IsStepShaped, opened_stands, clear_aged}
 use Rattle.node_laws.proofs.telling.Events.{after-append, entries-append}
@@ -291,11 +292,7 @@ blank_turn : (e : LinkEnd) (t : Turn) → IsBlank e → IsBlank (turn e t)
 blank_turn e (Give m) a = let q = a.down in let same : turn e (Give m) ≡ e = rw q refl in subst IsBlank (sym same) a
 blank_turn e (Hold held) a = blank_ready e (not held) a
 blank_turn e FetchMessage a = record { acts = a.acts; due = a.due; session = a.session; down = a.down }
-blank_turn e SetAside a = go (aside_refusal e)
-  where
-    go : (o : Option Refused) → IsBlank (unless o e (record e { aside = e.aside + 1 }))
-    go None = record { acts = a.acts; due = a.due; session = a.session; down = a.down }
-    go (Some why) = a
+blank_turn e SetAside a = by_option (aside_refusal e) (λ q. rw q (record { acts = a.acts; due = a.due; session = a.session; down = a.down })) (λ why q. rw q a)
 blank_turn e Release a = record { acts = a.acts; due = a.due; session = a.session; down = a.down }
 
 blank_turned : (ts : List Turn) (e : LinkEnd) → IsBlank e → IsBlank (turned e ts)

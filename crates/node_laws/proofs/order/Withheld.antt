@@ -1,5 +1,5 @@
 -- What withholds the answer to a reset in an event of a world, as it is read off the entries alone.
-use Rattle.std.proofs.Common.{◌≡◌, ℕ, Bool, true, false, cond, List, [], ◌∷◌, refl, sym, ap, ◌∙◌}
+use Rattle.std.proofs.Common.{◌≡◌, ℕ, Bool, true, false, List, [], ◌∷◌, refl, sym, ap, ◌∙◌}
 use Rattle.std.specs.Prelude.{◌==◌, ◌&&◌, ◌||◌, not}
 use Rattle.std.specs.List.{AllByRecursion, list_any}
 use mathlib.Core.Bool.{and-false, or-true}
@@ -20,6 +20,7 @@ use Rattle.node_machine.specs.world.World.Happening.{Boots, IsCut, Gives, Inits,
 use Rattle.node_machine.proofs.world.Cases.{by_loss}
 use Rattle.node_laws.specs.order.Resets.{behind_reset_of, cuts_on, drops_on, is_act_lpdu, is_lost_by_line, loses_at, loses_one_in, spoils_in, withholds_in}
 use Rattle.node_laws.specs.answers.Unasked.{is_reset_down}
+use Rattle.node_laws.proofs.Cases.{by_test}
 use Rattle.node_laws.proofs.worlds.Lineless.{AreLineless, event_lineless}
 
 -- a frame of a link is lost, but of activation
@@ -120,10 +121,7 @@ none_withheld_on h c (x ∷ es) a q =
 -- behind a reset in a tick
 believed_behind : (h : ℕ) (c : Happening) (e : End) (es : List Entry) → AreBelieved h c es → AreBelieved h c (behind_reset_of e es)
 believed_behind h c e [] a = tt
-believed_behind h c e (x ∷ es) a = go (is_reset_down e x) (believed_behind h c e es a.1) where
-  go : (b : Bool) → AreBelieved h c (behind_reset_of e es) → AreBelieved h c (cond b es (behind_reset_of e es))
-  go true later = a.1
-  go false later = later
+believed_behind h c e (x ∷ es) a = by_test (is_reset_down e x) (λ q. rw q a.1) (λ q. rw q (believed_behind h c e es a.1))
 
 pub none_lost_behind : (h : ℕ) (c : Happening) (e : End) (es : List Entry) → AreBelieved h c es
     → list_any (loses_one_in h c) (behind_reset_of e es) ≡ false → list_any (loses_one_on h) (behind_reset_of e es) ≡ false

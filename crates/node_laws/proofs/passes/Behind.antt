@@ -11,7 +11,7 @@ use Rattle.link_laws.specs.machine.Machine.Turn.{Hold, FetchMessage}
 use Rattle.node_machine.specs.Parts.{Desk, Port, Work, Deed}
 use Rattle.node_machine.specs.Carrying.{noting, unless_cut, with_desk, after_turn, turn_at, end_of_node}
 use Rattle.node_machine.specs.Turns.{deeds_of, handles, holds_back, lets_go, have_turns, goes_through_ends}
-use Rattle.node_laws.proofs.Cases.{by_test}
+use Rattle.node_laws.proofs.Cases.{by_test, by_option}
 use Rattle.node_laws.proofs.steps.StepWalks.{unless as unless_lost}
 use Rattle.node_laws.specs.passes.Noting.{noted_by_deeds}
 use Rattle.node_laws.specs.passes.Passing.{link_of_turn, AreAlong, links_of_turns, waiting_at, is_held_at, lacking, takes_up, LastsOverTurns, ArePassed, Stays}
@@ -60,14 +60,11 @@ module _ (k : ℕ) (ms : List Message) (b : Bool) where
 
   other_turns : (h : ℕ) (messages : List Message) (w : Work) → (h == k) ≡ false → Same w → Same (have_turns h messages w)
   other_turns h [] w off s = lets_see k ms b h w s
-  other_turns h (m ∷ messages) w off s = go (lacking w h m) refl (λ v t. other_turns h messages v off t)
-    where
-      go : (o : Option (ℕ × ℕ)) → lacking w h m ≡ o → ((v : Work) → Same v → Same (have_turns h messages v)) → Same (have_turns h (m ∷ messages) w)
-      go None q later =
-          subst Same (sym (have_handled h m messages w q))
-          (unless_lost Same (have_turns h messages) (handles h m (deeds_of w.core w.ports h m) w) later
-          (other_handles h m (deeds_of w.core w.ports h m) w off s))
-      go (Some short) q later = subst Same (sym (have_held h m messages w short q)) (other_holds h short w off s)
+  other_turns h (m ∷ messages) w off s = by_option (lacking w h m)
+      (λ q. subst Same (sym (have_handled h m messages w q))
+      (unless_lost Same (have_turns h messages) (handles h m (deeds_of w.core w.ports h m) w) (λ v t. other_turns h messages v off t)
+      (other_handles h m (deeds_of w.core w.ports h m) w off s)))
+      (λ short q. subst Same (sym (have_held h m messages w short q)) (other_holds h short w off s))
 
   pub others_pass : (hosts : List ℕ) (w : Work) → AllByRecursion (λ j. (j == k) ≡ false) hosts → Same w → Same (goes_through_ends hosts w)
   others_pass [] w off s = s
@@ -199,20 +196,14 @@ module _ (J : Work → Type 0) (lasts : LastsOverTurns J) (h : ℕ) where
 pub goes_apart : (earlier later : List ℕ) (w : Work) → w.cut ≡ false
     → goes_through_ends (earlier ++ later) w ≡ unless_cut (goes_through_ends later) (goes_through_ends earlier w)
 goes_apart [] later w on = sym (uncut (goes_through_ends later) w on)
-goes_apart (k ∷ earlier) later w on = go v.cut refl (goes_apart earlier later v)
+goes_apart (k ∷ earlier) later w on = by_test v.cut
+    (λ off. stays_cut (goes_through_ends (earlier ++ later)) v off
+    ∙ sym (ap (unless_cut (goes_through_ends later)) (stays_cut (goes_through_ends earlier) v off) ∙ stays_cut (goes_through_ends later) v off))
+    (λ o. uncut (goes_through_ends (earlier ++ later)) v o
+    ∙ (goes_apart earlier later v o ∙ sym (ap (unless_cut (goes_through_ends later)) (uncut (goes_through_ends earlier) v o))))
   where
     v : Work
     v = have_turns k (waiting_at w.ports k) w
-
-    go : (b : Bool) → v.cut ≡ b
-        → (v.cut ≡ false → goes_through_ends (earlier ++ later) v ≡ unless_cut (goes_through_ends later) (goes_through_ends earlier v))
-        → unless_cut (goes_through_ends (earlier ++ later)) v ≡ unless_cut (goes_through_ends later) (unless_cut (goes_through_ends earlier) v)
-    go true off next =
-        stays_cut (goes_through_ends (earlier ++ later)) v off
-        ∙ sym (ap (unless_cut (goes_through_ends later)) (stays_cut (goes_through_ends earlier) v off) ∙ stays_cut (goes_through_ends later) v off)
-    go false o next =
-        uncut (goes_through_ends (earlier ++ later)) v o
-        ∙ (next o ∙ sym (ap (unless_cut (goes_through_ends later)) (uncut (goes_through_ends earlier) v o)))
 
 -- what lost no power had none to lose
 was_on : (f : Work → Work) (w : Work) → (unless_cut f w).cut ≡ false → w.cut ≡ false

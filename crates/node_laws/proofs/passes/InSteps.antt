@@ -1,5 +1,5 @@
 -- What lasts as entries of the kinds that deeds and turns note are added lasts over a step of a node, once something has come.
-use Rattle.std.proofs.Common.{ℕ, List, [], ◌∷◌, ◌++◌, map, sym, subst}
+use Rattle.std.proofs.Common.{◌≡◌, ℕ, List, [], ◌∷◌, ◌++◌, map, sym, subst, ap, ◌∙◌, append_assoc, append-nil}
 use Rattle.std.specs.List.{AllByRecursion, flat_map}
 use Rattle.std.specs.Option.{option_map_or}
 use Rattle.trace_model.specs.declared.entry.Entry.{Entry}
@@ -13,6 +13,7 @@ use Rattle.node_machine.proofs.Walks.{anyone}
 use Rattle.node_laws.proofs.steps.StepWalks.{Lasts, rest_lasts, all_last}
 use Rattle.node_laws.specs.passes.Noting.{noted_by_deed}
 use Rattle.node_laws.specs.passes.Steps.{told_of_coming}
+use Rattle.registry.proofs.ValueLemmas.{AllByRecursion-append as all_append}
 use Rattle.node_laws.proofs.passes.Kinds.{IsOfDeed, NotesOnly, turn_notes, causes_note, forgotten_note, owed_note, synced_note}
 use Rattle.node_laws.proofs.passes.Notes.{deed_notes}
 use Rattle.node_laws.proofs.passes.Before.{come_entries}
@@ -23,6 +24,22 @@ IsOfStep (entry.Turn e pid message) = Unit {0}
 IsOfStep (entry.Held e need spare) = Unit {0}
 IsOfStep x = IsOfDeed x
 
+-- these entries, and behind them more, of which this holds
+pub record IsBehind (P : Entry → Type 0) (front es : List Entry) : Type 0 where
+  pub more : List Entry
+  pub is : es ≡ front ++ more
+  pub all : AllByRecursion P more
+
+nothing : (P : Entry → Type 0) (front : List Entry) → IsBehind P front front
+nothing P front = record { more = []; is = sym (append-nil front); all = tt }
+
+grown : (P : Entry → Type 0) (front es more : List Entry) → AllByRecursion P more → IsBehind P front es → IsBehind P front (es ++ more)
+grown P front es more all a = record {
+  more = a.more ++ more;
+  is = ap (λ l. l ++ more) a.is ∙ append_assoc front a.more more;
+  all = all_append P a.more more a.all all;
+}
+
 module _ (P : Entry → Type 0) (of_step : (x : Entry) → IsOfStep x → P x) where
   -- so is each that deeds note
   pub of_deeds : (x : Entry) → IsOfDeed x → P x
@@ -30,34 +47,47 @@ module _ (P : Entry → Type 0) (of_step : (x : Entry) → IsOfStep x → P x) w
   of_deeds (entry.Held e need spare) a = absurd a
   of_deeds x a = of_step x a
 
-  module _ (F : List Entry → Type 0) (grows : (es more : List Entry) → AllByRecursion P more → F es → F (es ++ more)) where
+  module _ (front : List Entry) where
     abbrev Has : Work → Type 0
-    Has w = F w.entries
+    Has w = IsBehind P front w.entries
+
+    adds : (w : Work) (more : List Entry) → AllByRecursion P more → Has w → IsBehind P front (w.entries ++ more)
+    adds w more all a = grown P front w.entries more all a
 
     lasts : Lasts Has (NotesOnly P) (λ h m. Unit {0})
     lasts = record {
-      does = λ h d w may a. subst F (sym (deed_notes h d w)) (grows w.entries (noted_by_deed h d w) (may h w) a);
-      turn_told = λ h m w c a. grows w.entries (entry.Turn (end_of_node w.core h) m.0 m.1 ∷ [])
-          (of_step (entry.Turn (end_of_node w.core h) m.0 m.1) tt, tt) a;
-      held_told = λ h need spare w a. grows w.entries (entry.Held (end_of_node w.core h) need spare ∷ [])
+      does = λ h d w may a. subst (IsBehind P front) (sym (deed_notes h d w)) (adds w (noted_by_deed h d w) (may h w) a);
+      turn_told = λ h m w c a. adds w (entry.Turn (end_of_node w.core h) m.0 m.1 ∷ []) (of_step (entry.Turn (end_of_node w.core h) m.0 m.1) tt, tt) a;
+      held_told = λ h need spare w a. adds w (entry.Held (end_of_node w.core h) need spare ∷ [])
           (of_step (entry.Held (end_of_node w.core h) need spare) tt, tt) a;
-      fetched = λ h w a. grows w.entries (option_map_or (noted_of w.core FetchMessage) (port_at w.ports h) [])
+      fetched = λ h w a. adds w (option_map_or (noted_of w.core FetchMessage) (port_at w.ports h) [])
           (turn_notes P of_deeds w.core FetchMessage (port_at w.ports h)) a;
-      held = λ h flag w a. grows w.entries (option_map_or (noted_of w.core (Hold flag)) (port_at w.ports h) [])
+      held = λ h flag w a. adds w (option_map_or (noted_of w.core (Hold flag)) (port_at w.ports h) [])
           (turn_notes P of_deeds w.core (Hold flag) (port_at w.ports h)) a;
-      marked = λ h flag w a. a;
+      marked = λ h flag w a. record { more = a.more; is = a.is; all = a.all };
       come = λ h w a. anyone (λ m. Unit {0}) (λ m. tt) _;
       causes = λ h m w c a. causes_note P of_deeds w.core w.ports h m;
     }
 
+  pub deeds_note : (h : ℕ) (deeds : List Deed) (w : Work) → AllByRecursion (NotesOnly P) deeds → IsBehind P w.entries (all_done h deeds w).entries
+  deeds_note h deeds w may = all_last (Has w.entries) (NotesOnly P) (λ h m. Unit {0}) (lasts w.entries) h deeds w may (nothing P w.entries)
+
+  -- behind what is noted as something comes, a step notes such entries alone
+  pub step_notes : (input : NodeInput) (w : Work) → IsBehind P (w.entries ++ told_of_coming input w) (steps input w).entries
+  step_notes input w =
+      let front : List Entry = w.entries ++ told_of_coming input w in
+      let came : Work = times_out input (all_come input w) in
+      let left : List Port = map (forgets came.ports) came.ports in
+      rest_lasts (Has front) (NotesOnly P)
+      (λ h m. Unit {0}) (lasts front) (forgotten came.ports) (flat_map (synced w.core input) w.ports) (all_owed left)
+      (record came { core = after_sessions came.core came.ports; ports = map without_notice left })
+      (forgotten_note P of_deeds came.ports) (synced_note P of_deeds w.core input w.ports) (owed_note P of_deeds left)
+      (subst (IsBehind P front) (sym (come_entries input w)) (nothing P front))
+
+  -- so what lasts as such entries are added lasts
+  module _ (F : List Entry → Type 0) (grows : (es more : List Entry) → AllByRecursion P more → F es → F (es ++ more)) where
     pub deeds_keep : (h : ℕ) (deeds : List Deed) (w : Work) → AllByRecursion (NotesOnly P) deeds → F w.entries → F (all_done h deeds w).entries
-    deeds_keep h deeds w may a = all_last Has (NotesOnly P) (λ h m. Unit {0}) lasts h deeds w may a
+    deeds_keep h deeds w may a = let b = deeds_note h deeds w may in subst F (sym b.is) (grows w.entries b.more b.all a)
 
     pub step_keeps : (input : NodeInput) (w : Work) → F (w.entries ++ told_of_coming input w) → F (steps input w).entries
-    step_keeps input w a =
-        let came : Work = times_out input (all_come input w) in
-        let left : List Port = map (forgets came.ports) came.ports in
-        rest_lasts Has (NotesOnly P) (λ h m. Unit {0}) lasts (forgotten came.ports) (flat_map (synced w.core input) w.ports) (all_owed left)
-        (record came { core = after_sessions came.core came.ports; ports = map without_notice left })
-        (forgotten_note P of_deeds came.ports) (synced_note P of_deeds w.core input w.ports) (owed_note P of_deeds left)
-        (subst F (sym (come_entries input w)) a)
+    step_keeps input w a = let b = step_notes input w in subst F (sym b.is) (grows (w.entries ++ told_of_coming input w) b.more b.all a)

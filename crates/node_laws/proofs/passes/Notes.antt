@@ -1,5 +1,5 @@
 -- What deeds note, and what they leave as it is.
-use Rattle.std.proofs.Common.{◌≡◌, ℕ, Bool, true, false, cond, List, [], ◌∷◌, ◌++◌, Option, Some, None, refl, ap, sym, ◌∙◌, append_assoc, append-nil}
+use Rattle.std.proofs.Common.{◌≡◌, ℕ, List, [], ◌∷◌, ◌++◌, Option, Some, None, refl, ap, sym, ◌∙◌, append_assoc, append-nil}
 use Rattle.std.specs.Option.{option_map_or}
 use Rattle.trace_model.specs.declared.entry.Entry.{Entry}
 use Rattle.trace_model.specs.declared.entry.Entry.TheVariants as entry
@@ -40,16 +40,13 @@ deed_notes h _ w = refl
 -- deeds, one after another
 pub deeds_note : (h : ℕ) (deeds : List Deed) (w : Work) → (all_done h deeds w).entries ≡ w.entries ++ noted_by_deeds h deeds w
 deeds_note h [] w = sym (append-nil w.entries)
-deeds_note h (d ∷ deeds) w = go (done h d w).cut refl (deeds_note h deeds (done h d w))
+deeds_note h (d ∷ deeds) w = by_test (done h d w).cut
+    (λ q. rw q (deed_notes h d w ∙ ap (λ es. w.entries ++ es) (sym (append-nil one))))
+    (λ q. rw q (deeds_note h deeds (done h d w) ∙ (ap (λ es. es ++ noted_by_deeds h deeds v) (deed_notes h d w) ∙ append_assoc w.entries one
+    (noted_by_deeds h deeds v))))
   where
     v : Work
     v = done h d w
 
     one : List Entry
     one = noted_by_deed h d w
-
-    go : (b : Bool) → (done h d w).cut ≡ b → (all_done h deeds (done h d w)).entries ≡ (done h d w).entries ++ noted_by_deeds h deeds (done h d w)
-        → (all_done h (d ∷ deeds) w).entries ≡ w.entries ++ (one ++ cond (done h d w).cut [] (noted_by_deeds h deeds (done h d w)))
-    go true q later = rw q (deed_notes h d w ∙ ap (λ es. w.entries ++ es) (sym (append-nil one)))
-    go false q later =
-        rw q (later ∙ (ap (λ es. es ++ noted_by_deeds h deeds v) (deed_notes h d w) ∙ append_assoc w.entries one (noted_by_deeds h deeds v)))

@@ -16,7 +16,7 @@ use Rattle.node_laws.specs.passes.Passing.{BeginWithTurn, AreAlong, links_of_tur
 use Rattle.node_laws.specs.passes.Passing.{ComesTo, IsTurnSo}
 use Rattle.node_laws.specs.passes.Passing.{ArePassed}
 use Rattle.node_laws.specs.passes.Passing.ComesTo.{Begins, Handles, Holds, LetsGo}
-use Rattle.node_laws.proofs.Cases.{by_test}
+use Rattle.node_laws.proofs.Cases.{by_test, by_option}
 use Rattle.node_laws.proofs.passes.Notes.{deeds_note}
 use Rattle.node_laws.proofs.passes.Ends.{HasFirst, has_first, own_changed, deeds_see, SeesAt, Sees}
 use Rattle.node_laws.proofs.passes.Turnless.{reply_none}
@@ -198,13 +198,10 @@ module _ (J : Work → Type 0) (lasts : LastsOverTurns J) where
 
     pub turning : (messages : List Message) (w : Work) → J w → w.cut ≡ false → waiting_at w.ports h ≡ messages → Goes w (have_turns h messages w)
     turning [] w j on waiting = let_go w j on waiting
-    turning (m ∷ messages) w j on waiting = go (lacking w h m) refl (λ v k still rest. turning messages v k still rest)
-      where
-        go : (o : Option (ℕ × ℕ)) → lacking w h m ≡ o
-            → ((v : Work) → J v → v.cut ≡ false → waiting_at v.ports h ≡ messages → Goes v (have_turns h messages v))
-            → Goes w (have_turns h (m ∷ messages) w)
-        go None q next = subst (λ u. Goes w u) (sym (have_handled h m messages w q)) (handled w j on m messages waiting q next)
-        go (Some short) q next = subst (λ u. Goes w u) (sym (have_held h m messages w short q)) (held w j on m messages waiting short q)
+    turning (m ∷ messages) w j on waiting = by_option (lacking w h m)
+        (λ q. subst (λ u. Goes w u) (sym (have_handled h m messages w q))
+        (handled w j on m messages waiting q (λ v k still rest. turning messages v k still rest)))
+        (λ short q. subst (λ u. Goes w u) (sym (have_held h m messages w short q)) (held w j on m messages waiting short q))
 
   -- the node goes through these ends
   pub through : (hosts : List ℕ) (w : Work) → J w → w.cut ≡ false → ArePassed J hosts w (goes_through_ends hosts w)

@@ -12,7 +12,7 @@ use Rattle.hci_tables.specs.Bodies.{body_of}
 use Rattle.journal_laws.specs.Writes.{Write}
 use Rattle.hci_store.specs.Committing.{commit_writes}
 use Rattle.link_laws.specs.sessions.Sessions.{is_up}
-use Rattle.link_laws.specs.machine.Machine.{Message, LinkEnd, Refused, Turn, unless, give_refusal}
+use Rattle.link_laws.specs.machine.Machine.{Message, Turn, give_refusal}
 use Rattle.link_laws.specs.machine.Machine.Turn.{Give, SetAside, Release}
 use Rattle.node_machine.specs.Parts.{About, Desk, Core, Port, Work, Deed}
 use Rattle.node_machine.specs.Parts.About.{Waits, Removed}
@@ -43,10 +43,6 @@ changed_session : (b : Bool) (f : Port → Port) (p : Port) → session_in (Some
     → session_in (Some (changed_if b f p)) ≡ session_in (Some p)
 changed_session true f p q = q
 changed_session false f p q = refl
-
-unless_phase : (o : Option Refused) (e f : LinkEnd) → f.shdlc.phase ≡ e.shdlc.phase → (unless o e f).shdlc.phase ≡ e.shdlc.phase
-unless_phase None e f q = q
-unless_phase (Some why) e f q = refl
 
 pub turn_sessions : (j : ℕ) (t : Turn) (w : Work) (k : ℕ) → session_of_port (turn_at j t w).ports k ≡ session_of_port w.ports k
 turn_sessions j t w k =
@@ -82,13 +78,6 @@ deed_sessions h (Orders message) w k = turn_sessions h (Give (1, message)) (reco
 deed_sessions h _ w k = refl
 
 -- ## Numbers
-
-commit_node : (c : Command) (w : Work) → (commit c w).core.node ≡ w.core.node
-commit_node c w = by_test (goes_in c w) (λ q. rw q refl) (λ q. rw q refl)
-
-deed_node : (h : ℕ) (d : Deed) (w : Work) → (done h d w).core.node ≡ w.core.node
-deed_node h (Commits c) w = commit_node c w
-deed_node h _ w = refl
 
 -- ## Messages
 

@@ -1,5 +1,5 @@
 -- What deeds note tells of no turn.
-use Rattle.std.proofs.Common.{ℕ, Bool, true, false, cond, List, [], ◌∷◌, refl}
+use Rattle.std.proofs.Common.{ℕ, List, [], ◌∷◌, refl}
 use Rattle.std.specs.List.{AllByRecursion, flat_map}
 use Rattle.registry.proofs.ValueLemmas.{AllByRecursion-append as all_append}
 use Rattle.trace_model.specs.declared.entry.Entry.{Entry}
@@ -12,6 +12,7 @@ use Rattle.node_machine.specs.Node.{NodeInput, all_owed, synced}
 use Rattle.node_laws.specs.passes.Noting.{noted_by_deed, noted_by_deeds}
 use Rattle.node_laws.specs.passes.Passing.{IsNoTurn, AreNoTurns}
 use Rattle.node_machine.specs.world.World.{sending, beginning}
+use Rattle.node_laws.proofs.Cases.{by_test}
 use Rattle.node_laws.proofs.passes.Kinds.{IsOfDeed, NotesOnly, causes_note, owed_note, synced_note, sending_notes, beginning_notes}
 
 of_deed : (x : Entry) → IsOfDeed x → IsNoTurn x
@@ -26,11 +27,7 @@ NotesNoTurn d = NotesOnly IsNoTurn d
 pub noted_none : (h : ℕ) (deeds : List Deed) (w : Work) → AllByRecursion NotesNoTurn deeds → AreNoTurns (noted_by_deeds h deeds w)
 noted_none h [] w a = tt
 noted_none h (d ∷ deeds) w a =
-    all_append IsNoTurn (noted_by_deed h d w) _ (a.0 h w) (go (done h d w).cut (noted_none h deeds (done h d w) a.1))
-  where
-    go : (b : Bool) → AreNoTurns (noted_by_deeds h deeds (done h d w)) → AreNoTurns (cond b [] (noted_by_deeds h deeds (done h d w)))
-    go true later = tt
-    go false later = later
+    all_append IsNoTurn (noted_by_deed h d w) _ (a.0 h w) (by_test (done h d w).cut (λ q. rw q tt) (λ q. rw q (noted_none h deeds (done h d w) a.1)))
 
 pub reply_none : (core : Core) (ports : List Port) (h : ℕ) (m : Message) (w : Work) → AreNoTurns (noted_by_deeds h (deeds_of core ports h m) w)
 reply_none core ports h m w = noted_none h (deeds_of core ports h m) w (causes_note IsNoTurn of_deed core ports h m)

@@ -11,6 +11,7 @@ use Rattle.node_machine.specs.Turns.{deeds_of, handles, holds_back, lets_go}
 use Rattle.node_laws.specs.passes.Noting.{noted_by_deeds}
 use Rattle.node_laws.specs.passes.Passing.{IsNoTurn, AreNoTurns, waiting_at, is_held_at, takes_up, LastsOverTurns, ComesTo, waiting_after}
 use Rattle.node_laws.specs.passes.Passing.{waits_behind, IsWaitingRead}
+use Rattle.node_laws.proofs.Cases.{by_test}
 use Rattle.node_laws.proofs.passes.Ends.{SeesAt, lets_see}
 use Rattle.node_laws.proofs.passes.Turnless.{reply_none}
 use Rattle.node_laws.proofs.passes.Passing.{lets_notes, own_held, holds_notes, handles_entries, handles_sees, link_is, comes_so}
@@ -115,11 +116,7 @@ module _ (k : ℕ) (w : Work) where
       by : (b : Bool) → is_held_at v.ports h ≡ b → (c : Bool) → (h == k) ≡ c → SeesAt k (told b).0 (told b).1 u
       by b q false off =
           let other : SeesAt k s.0 s.1 u = other_holds k s.0 s.1 h short v off (sees v a) in
-          subst (λ (z : State). SeesAt k z.0 z.1 u) (sym (none b)) other
-        where
-          none : (b : Bool) → told b ≡ s
-          none true = refl
-          none false = after ∙ ap (λ c. cond c (s.0, true) s) off
+          subst (λ (z : State). SeesAt k z.0 z.1 u) (sym (by_test b (λ q. rw q refl) (λ q. rw q (after ∙ ap (λ c. cond c (s.0, true) s) off)))) other
       by true q true e =
           let is : h ≡ k = eqb-true h k e in
           let flag : true ≡ s.1 = sym q ∙ (ap (is_held_at v.ports) is ∙ a.held) in

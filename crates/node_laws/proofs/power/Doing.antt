@@ -23,7 +23,7 @@ use Rattle.node_machine.specs.Carrying.{end_of_number}
 use Rattle.node_machine.specs.Carrying.{notified, loses_power, keeps, commit, done, all_done}
 use Rattle.node_machine.specs.Turns.{deeds_of, handles, holds_back, lets_go, have_turns, goes_through_ends, passes}
 use Rattle.node_machine.specs.world.World.{node_of}
-use Rattle.node_laws.proofs.Cases.{by_test}
+use Rattle.node_laws.proofs.Cases.{by_test, by_option}
 use Rattle.node_laws.proofs.steps.Ports.{changed_host}
 use Rattle.node_laws.proofs.telling.Walks.{IsUncut, AreUncut}
 use Rattle.node_laws.proofs.telling.Powers.{entries_uncut}
@@ -81,14 +81,11 @@ module _ (k : ℕ) where
 
   port_end : (ports : List Port) (j : ℕ) (p : Port) → AreEnds ports → port_at ports j ≡ Some p → IsEndOf p.desk.host
   port_end [] j p a q = absurd (cc q)
-  port_end (x ∷ ports) j p a q = go (x.desk.host == j) refl (port_end ports j p a.1)
-    where
-      go : (b : Bool) → (x.desk.host == j) ≡ b → (port_at ports j ≡ Some p → IsEndOf p.desk.host) → IsEndOf p.desk.host
-      go true e later =
-          let same : Some x ≡ Some p = rw e at q in
-          let one : x ≡ p = cc in
-          let P : Port → Type 0 = λ z. IsEndOf z.desk.host in subst P one a.0
-      go false e later = later (rw e at q)
+  port_end (x ∷ ports) j p a q = by_test (x.desk.host == j)
+      (λ e. let same : Some x ≡ Some p = rw e at q in
+      let one : x ≡ p = cc in
+      let P : Port → Type 0 = λ z. IsEndOf z.desk.host in subst P one a.0)
+      (λ e. port_end ports j p a.1 (rw e at q))
 
   -- ## What a node does
 
@@ -258,16 +255,13 @@ module _ (k : ℕ) where
 
   turns_fine : (h : ℕ) (messages : List Message) (w : Work) → IsEndOf h → Runs w → Fine (have_turns h messages w)
   turns_fine h [] w is r = lets_fine h w r
-  turns_fine h (m ∷ messages) w is r = go (lacking w h m) refl (λ v s. turns_fine h messages v is s)
+  turns_fine h (m ∷ messages) w is r = by_option (lacking w h m)
+      (λ q. subst Fine (sym (have_handled h m messages w q))
+      (then_on (have_turns h messages) (handles h m deeds w) (handles_fine h m deeds w is (reply_mine h m w is r) r) (λ v s. turns_fine h messages v is s)))
+      (λ short q. subst Fine (sym (have_held h m messages w short q)) (holds_fine h short w is r))
     where
       deeds : List Deed
       deeds = deeds_of w.core w.ports h m
-
-      go : (o : Option (ℕ × ℕ)) → lacking w h m ≡ o → ((v : Work) → Runs v → Fine (have_turns h messages v)) → Fine (have_turns h (m ∷ messages) w)
-      go None q later =
-          subst Fine (sym (have_handled h m messages w q))
-          (then_on (have_turns h messages) (handles h m deeds w) (handles_fine h m deeds w is (reply_mine h m w is r) r) later)
-      go (Some short) q later = subst Fine (sym (have_held h m messages w short q)) (holds_fine h short w is r)
 
   ends_fine : (hosts : List ℕ) (w : Work) → AllByRecursion IsEndOf hosts → Runs w → Fine (goes_through_ends hosts w)
   ends_fine [] w is r = inl r

@@ -1,5 +1,5 @@
 -- In each event nothing of a node stands behind its cut.
-use Rattle.std.proofs.Common.{◌≡◌, ℕ, ◌==◌, Bool, true, false, cond, List, [], ◌∷◌, ◌++◌, Option, None, refl, ap, sym, subst, ◌∙◌, append-nil}
+use Rattle.std.proofs.Common.{◌≡◌, ℕ, ◌==◌, Bool, true, false, List, [], ◌∷◌, ◌++◌, Option, None, refl, ap, sym, subst, ◌∙◌, append-nil}
 use Rattle.std.specs.Prelude.{◌&&◌}
 use Rattle.std.specs.List.{AllByRecursion, flat_map}
 use Rattle.std.proofs.lemmas.Bool.{eqb-true, true≢false}
@@ -15,7 +15,6 @@ use Rattle.link_laws.specs.entries.Entries.{Entry as Noted, first_lost, aged_ent
 use Rattle.link_laws.specs.entries.Entries.End.{Controller, Host}
 use Rattle.history.specs.Steps.{entries_for}
 use Rattle.node_machine.specs.Parts.{Running, Port, Work, Deed}
-use Rattle.node_machine.specs.Parts.Deed.{Sends, Orders}
 use Rattle.node_machine.specs.Controller.{is_command_message}
 use Rattle.node_machine.specs.Node.{steps, begins_with}
 use Rattle.node_machine.specs.Node.NodeInput.{AtEnd, TimePasses}
@@ -28,6 +27,7 @@ use Rattle.node_machine.proofs.world.Cases.{by_controller, by_host, by_coming, b
 use Rattle.node_laws.specs.kept.Books.{hosts_of_ends}
 use Rattle.node_laws.specs.kept.Hosts.{AreDifferent}
 use Rattle.node_laws.specs.telling.Telling.{HasEnds, IfItRuns, hosts_in, IsOrderly}
+use Rattle.node_laws.proofs.Cases.{by_test}
 use Rattle.node_laws.proofs.telling.Walks.{IsUncut, AreUncut}
 use Rattle.node_laws.proofs.telling.Nodes.{site_host, ports_for, hosts_same}
 use Rattle.node_laws.proofs.telling.Worlds.{site_is}
@@ -144,11 +144,7 @@ pub begins_part : (w : NodeWorld) (h : ℕ) (deeds : List Deed) → AllByRecursi
 begins_part w h deeds mine a = host_part w h NoInput (begins_with h deeds) (λ v r. deeds_fine h h deeds v mine r) a
 
 pub sending_mine : (h : ℕ) (m : Message) → AllByRecursion (IsMine h h) (sending h m)
-sending_mine h m = go (m.0 == 1 && is_command_message m.1)
-  where
-    go : (b : Bool) → AllByRecursion (IsMine h h) (cond b (Orders m.1 ∷ []) (Sends h m ∷ []))
-    go true = (tt, tt)
-    go false = (tt, tt)
+sending_mine h m = by_test (m.0 == 1 && is_command_message m.1) (λ q. rw q (tt, tt)) (λ q. rw q (tt, tt))
 
 -- ## Ticks
 
@@ -242,11 +238,9 @@ lost_over w e why =
 -- no host has the number of the controller
 pub no_site : (sites : List Site) (h : ℕ) → (h == 0) ≡ true → AllByRecursion (λ (s : Site). (s.host == 0) ≡ false) sites → site_at sites h ≡ None
 no_site [] h zero a = refl
-no_site (s ∷ sites) h zero a = go (s.host == h) refl (no_site sites h zero a.1)
-  where
-    go : (b : Bool) → (s.host == h) ≡ b → site_at sites h ≡ None → site_at (s ∷ sites) h ≡ None
-    go true e later = absurd (true≢false (sym (ap (λ n. n == 0) (eqb-true s.host h e) ∙ zero) ∙ a.0))
-    go false e later = rw e later
+no_site (s ∷ sites) h zero a = by_test (s.host == h)
+    (λ e. absurd (true≢false (sym (ap (λ n. n == 0) (eqb-true s.host h e) ∙ zero) ∙ a.0)))
+    (λ e. rw e (no_site sites h zero a.1))
 
 host_none : (w : NodeWorld) (h : ℕ) (comes : Comes) (f : Work → Work) → site_at w.sites h ≡ None → (host_does w h comes f).1 ≡ []
 host_none w h comes f q = rw q refl

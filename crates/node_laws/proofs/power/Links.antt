@@ -1,5 +1,5 @@
 -- What is noted of an end tells of its node, and of no loss of power.
-use Rattle.std.proofs.Common.{◌≡◌, ℕ, Bool, true, false, cond, List, [], ◌∷◌, length, Option, Some, None, refl}
+use Rattle.std.proofs.Common.{◌≡◌, ℕ, List, [], ◌∷◌, length, Option, Some, None, refl}
 use Rattle.std.specs.Prelude.{nat_lt}
 use Rattle.std.specs.List.{AllByRecursion}
 use Rattle.registry.proofs.ValueLemmas.{AllByRecursion-append as all_append}
@@ -17,6 +17,7 @@ use Rattle.link_laws.specs.entries.Entries.{puts_entries, ending_entries}
 use Rattle.link_laws.specs.entries.Entries.Entry.{Up, Down, Active, GaveUp, Acked, Got, Sent, Emit, Took, Lost}
 use Rattle.history.specs.Steps.{end_of, entry_of, entries_for}
 use Rattle.node_machine.specs.world.World.{node_of, arrival}
+use Rattle.node_laws.proofs.Cases.{by_list, by_test}
 use Rattle.node_laws.proofs.power.Parts.{IsOwn, AreOwn}
 use Rattle.node_laws.proofs.telling.Reported.{told_all}
 
@@ -79,11 +80,7 @@ lost_of_side who s why [] = tt
 lost_of_side who s why (x ∷ xs) = (tt, tt)
 
 pushed_of_side : (who s : Side) (wire : List OnWire) → AreOfSide who (pushed_out s wire)
-pushed_of_side who s wire = go (nat_lt 64 (length wire))
-  where
-    go : (b : Bool) → AreOfSide who (cond b (first_lost s TooMany wire) [])
-    go true = lost_of_side who s TooMany wire
-    go false = tt
+pushed_of_side who s wire = by_test (nat_lt 64 (length wire)) (λ q. rw q (lost_of_side who s TooMany wire)) (λ q. rw q tt)
 
 puts_of_side : (who : Side) (l : Link) (cs : List Control) → AreOfSide who (puts_entries who l cs)
 puts_of_side who l [] = tt
@@ -95,13 +92,5 @@ pub out_of_side : (who : Side) (l : Link) (e : LinkEnd) → AreOfSide who (endin
 out_of_side who l e = puts_of_side who l (frames_out e)
 
 pub arrival_of_side : (who : Side) (l : Link) (comes : Comes) → AreOfSide who (arrival who l comes)
-arrival_of_side who l NextFrame = go l.to_controller
-  where
-    first : List OnWire → List Noted
-    first [] = []
-    first (x ∷ xs) = Took who x.frame ∷ []
-
-    go : (xs : List OnWire) → AreOfSide who (first xs)
-    go [] = tt
-    go (x ∷ xs) = (refl, tt)
+arrival_of_side who l NextFrame = by_list l.to_controller (λ q. rw q tt) (λ x xs q. rw q (refl, tt))
 arrival_of_side who l _ = tt

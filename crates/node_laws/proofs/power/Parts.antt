@@ -6,6 +6,7 @@ use Rattle.std.specs.Option.{option_map_or}
 use Rattle.registry.proofs.ValueLemmas.{AllByRecursion-append as all_append}
 use Rattle.trace_model.specs.declared.entry.Entry.{Entry}
 use Rattle.trace_model.specs.declared.entry.Entry.TheVariants as entry
+use Rattle.node_laws.proofs.Cases.{by_test}
 use Rattle.node_laws.proofs.telling.Walks.{IsUncut, AreUncut}
 use Rattle.node_laws.specs.power.Powers.{node_told, AreNotOf}
 
@@ -79,11 +80,7 @@ pub over_part : (k : ℕ) (t es : List Entry) → IsPart k t → AreNotOf k es �
 over_part k t es p none a =
     subst (λ l. AreOver (l ++ es)) (sym p.is)
     (subst AreOver (sym (append_assoc p.front (cond p.lost (entry.Cut k ∷ []) []) es))
-    (over_front p.front (cond p.lost (entry.Cut k ∷ []) [] ++ es) p.uncut (go p.lost)))
-  where
-    go : (b : Bool) → AreOver (cond b (entry.Cut k ∷ []) [] ++ es)
-    go true = (none, a)
-    go false = a
+    (over_front p.front (cond p.lost (entry.Cut k ∷ []) [] ++ es) p.uncut (by_test p.lost (λ q. rw q (none, a)) (λ q. rw q a))))
 
 pub nothing_part : (k : ℕ) → IsPart k []
 nothing_part k = record { front = []; lost = false; is = refl; uncut = tt; own = tt }

@@ -116,10 +116,6 @@ module _ (k : ℕ) where
   abbrev AreMine : List Deed → Type 0
   AreMine deeds = AllByRecursion (IsMine k 0) deeds
 
-  releases_mine : (cs : List Creation) → AreMine (map (λ (c : Creation). Releases c.asker) cs)
-  releases_mine [] = tt
-  releases_mine (c ∷ cs) = (tt, releases_mine cs)
-
   owed_mine : (r : Response) (o : Option Creation) → AreMine (owed r o)
   owed_mine r None = tt
   owed_mine r (Some c) = (tt, (tt, tt))

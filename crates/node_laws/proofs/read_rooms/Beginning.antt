@@ -3,7 +3,6 @@ use Rattle.std.proofs.Common.{◌≡◌, ℕ, ◌==◌, Bool, true, false, cond,
 use Rattle.std.specs.List.{flat_map}
 use Rattle.std.proofs.lemmas.Bool.{eqb-true}
 use Rattle.trace_model.specs.declared.entry.Entry.{Entry}
-use Rattle.link_laws.specs.sessions.Sessions.{OnWire}
 use Rattle.link_laws.specs.machine.Machine.{LinkEnd, LinkInput, report, whole_acked, after_input}
 use Rattle.link_laws.specs.messages.Links.{NumberedEnd, Link, Comes, number_of}
 use Rattle.link_laws.specs.messages.Links.Comes.{NextFrame}
@@ -18,6 +17,7 @@ use Rattle.node_machine.specs.Node.{NodeInput, input_at, has_come, all_come, tim
 use Rattle.node_machine.specs.Node.NodeInput.{AtEnd}
 use Rattle.node_machine.specs.world.World.{Site, NodeWorld, site_at, link_to, input_of, near_end_in, arrival, comes_to}
 use Rattle.node_laws.specs.kept.Books.{hosts_of_ends}
+use Rattle.node_laws.proofs.Cases.{by_test, by_list}
 use Rattle.node_laws.proofs.kept.Plainly.{hosts_map}
 use Rattle.node_laws.proofs.links.Works.{IsFineWork, map_fine, came_fine, without_fine, forgets_fine}
 use Rattle.node_laws.proofs.links.Worlds.{IsFineWorld, near_end_clean, near_clean, fine_clean, ports_fine}
@@ -47,11 +47,7 @@ use Rattle.node_laws.specs.passes.Steps.{comes_to_pass, controller_begins}
 -- ## One end
 
 arrival_clear : (who : Side) (l : Link) (comes : Comes) → AreClear (arrival who l comes)
-arrival_clear who l NextFrame = go l.to_controller
-  where
-    go : (w : List OnWire) → AreClear (arrival who (record l { to_controller = w }) NextFrame)
-    go [] = tt
-    go (x ∷ xs) = (tt, tt)
+arrival_clear who l NextFrame = by_list l.to_controller (λ q. rw q tt) (λ x xs q. rw q (tt, tt))
 arrival_clear who l _ = tt
 
 coming_clear : (who : Side) (h : NumberedEnd) (o : Option LinkInput) → AreClear (told_coming who h o)
@@ -96,20 +92,17 @@ pub site_for : (ports : List Port) (sites : List Site) (h : ℕ) (p : Port) → 
     → HasSite sites h
 site_for [] sites h p e q = absurd (cc q)
 site_for (x ∷ ports) [] h p e q = absurd (cc e)
-site_for (x ∷ ports) (s ∷ sites) h p e q = go (x.desk.host == h) refl (site_for ports sites h p)
+site_for (x ∷ ports) (s ∷ sites) h p e q = by_test (x.desk.host == h)
+    (λ f. let found : (s.host == h) ≡ true = ap (λ n. n == h) (sym one) ∙ f in record { site = s; there = rw found refl })
+    (λ f. let passed : (s.host == h) ≡ false = ap (λ n. n == h) (sym one) ∙ f in
+    let rest : HasSite sites h = site_for ports sites h p others (rw f at q) in
+    record { site = rest.site; there = rw passed rest.there })
   where
     one : x.desk.host ≡ s.host
     one = cc
 
     others : hosts_of_ends ports ≡ hosts_in sites
     others = cc
-
-    go : (b : Bool) → (x.desk.host == h) ≡ b → (hosts_of_ends ports ≡ hosts_in sites → port_at ports h ≡ Some p → HasSite sites h) → HasSite (s ∷ sites) h
-    go true f later = let found : (s.host == h) ≡ true = ap (λ n. n == h) (sym one) ∙ f in record { site = s; there = rw found refl }
-    go false f later =
-        let passed : (s.host == h) ≡ false = ap (λ n. n == h) (sym one) ∙ f in
-        let rest : HasSite sites h = later others (rw f at q) in
-        record { site = rest.site; there = rw passed rest.there }
 
 -- what is left to do before a node goes through its ends
 pub pass_carried : (t : List Entry) (who : Side) (input : NodeInput) (w : Work)

@@ -1,5 +1,5 @@
 -- What is known of the ends of the controller as it begins to go through them in its tick.
-use Rattle.std.proofs.Common.{◌≡◌, ℕ, ◌==◌, Bool, true, false, cond, List, [], ◌∷◌, ◌++◌, Option, Some, None, map, refl, subst, ◌∙◌}
+use Rattle.std.proofs.Common.{◌≡◌, ℕ, ◌==◌, true, false, List, [], ◌∷◌, ◌++◌, Option, Some, None, map, refl, subst, ◌∙◌}
 use Rattle.std.specs.Prelude.{nat_lt}
 use Rattle.trace_model.specs.declared.entry.Entry.{Entry}
 use Rattle.link_laws.specs.sessions.Sessions.{OnWire}
@@ -46,11 +46,9 @@ use Rattle.node_laws.specs.passes.Steps.{comes_to_pass, controller_tick_begins}
 
 silent_aged : (who : Side) (xs : List OnWire) → Silent (aged_entries who xs)
 silent_aged who [] = λ w n. refl
-silent_aged who (x ∷ xs) = go (nat_lt x.age 4) (silent_aged who xs)
-  where
-    go : (b : Bool) → Silent (aged_entries who xs) → Silent (cond b (aged_entries who xs) (Lost who x.frame TooOld ∷ aged_entries who xs))
-    go true later = later
-    go false later = silent_cons (Lost who x.frame TooOld) (aged_entries who xs) (λ w n. refl) later
+silent_aged who (x ∷ xs) = by_test (nat_lt x.age 4)
+    (λ q. rw q (silent_aged who xs))
+    (λ q. rw q (silent_cons (Lost who x.frame TooOld) (aged_entries who xs) (λ w n. refl) (silent_aged who xs)))
 
 abbrev pub aged_notes : Link → List Noted
 aged_notes l = aged_entries Controller l.to_controller ++ aged_entries Host l.to_host

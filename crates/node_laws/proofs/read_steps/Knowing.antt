@@ -84,16 +84,14 @@ module _ (hosts : List ℕ) (are : AreHosts hosts) (t : List Entry) (w : Work) (
   kept_at h o q = subst (λ o. IsKeptNotice (notice_in now h) (option_and_then (λ (p : Port). p.desk.notice) o)) q (notice_is h)
 
   pub noticed : (h : ℕ) → option_map_or (λ (p : Port). is_some p.desk.notice) (port_at w.ports h) false ≡ is_some (notice_in now h)
-  noticed h = by (port_at w.ports h) refl where
-    by : (o : Option Port) → port_at w.ports h ≡ o → option_map_or (λ (p : Port). is_some p.desk.notice) o false ≡ is_some (notice_in now h)
-    by None q = sym (ap is_some (kept_none (notice_in now h) None refl (kept_at h None q)))
-    by (Some p) q = noticed_is (notice_in now h) p (kept_at h (Some p) q)
+  noticed h = by_option (port_at w.ports h)
+      (λ q. rw q (sym (ap is_some (kept_none (notice_in now h) None refl (kept_at h None q)))))
+      (λ p q. rw q (noticed_is (notice_in now h) p (kept_at h (Some p) q)))
 
   pub asked : (h : ℕ) → option_map_or is_asked_at (port_at w.ports h) false ≡ is_of_creation (notice_in now h)
-  asked h = by (port_at w.ports h) refl where
-    by : (o : Option Port) → port_at w.ports h ≡ o → option_map_or is_asked_at o false ≡ is_of_creation (notice_in now h)
-    by None q = sym (ap is_of_creation (kept_none (notice_in now h) None refl (kept_at h None q)))
-    by (Some p) q = asked_is (notice_in now h) p (kept_at h (Some p) q)
+  asked h = by_option (port_at w.ports h)
+      (λ q. rw q (sym (ap is_of_creation (kept_none (notice_in now h) None refl (kept_at h None q)))))
+      (λ p q. rw q (asked_is (notice_in now h) p (kept_at h (Some p) q)))
 
   -- ## Creations
 
@@ -154,10 +152,7 @@ module _ (hosts : List ℕ) (are : AreHosts hosts) (t : List Entry) (w : Work) (
   -- ## The view
 
   configured : (h : ℕ) → option_map_or (λ (p : Port). true) (port_at w.ports h) false ≡ is_one_of hosts h
-  configured h = by (port_at w.ports h) ∙ there_is h where
-    by : (o : Option Port) → option_map_or (λ (p : Port). true) o false ≡ is_some o
-    by None = refl
-    by (Some p) = refl
+  configured h = by_option (port_at w.ports h) (λ q. rw q refl) (λ p q. rw q refl) ∙ there_is h
 
   connected : LinksAreRead hosts now w.ports → (h : ℕ) → option_map_or (is_connected_at w.core.tables) (port_at w.ports h) false
       ≡ (is_one_of hosts h && is_connected_in now h)
@@ -173,10 +168,9 @@ module _ (hosts : List ℕ) (are : AreHosts hosts) (t : List Entry) (w : Work) (
         ap₂ (λ x y. x && y) up open_is ∙ sym (ap (λ b. b && is_connected_in now h) one)
 
   counted : (h : ℕ) → is_one_of hosts h ≡ true → option_map_or (λ (p : Port). p.desk.errors) (port_at w.ports h) 0 ≡ errors_in now (end_c h)
-  counted h one = by (port_at w.ports h) refl where
-    by : (o : Option Port) → port_at w.ports h ≡ o → option_map_or (λ (p : Port). p.desk.errors) o 0 ≡ errors_in now (end_c h)
-    by None q = absurd (true≢false (sym one ∙ (sym (there_is h) ∙ ap is_some q)))
-    by (Some p) q = errors_known h p q
+  counted h one = by_option (port_at w.ports h)
+      (λ q. rw q (absurd (true≢false (sym one ∙ (sym (there_is h) ∙ ap is_some q)))))
+      (λ p q. rw q (errors_known h p q))
 
   pub view_known : LinksAreRead hosts now w.ports → (h : ℕ) → is_one_of hosts h ≡ true
       → IsSameView (view_for w.core.tables w.ports h) (view_at hosts now h)

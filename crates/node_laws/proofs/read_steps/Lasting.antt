@@ -1,5 +1,5 @@
 -- What a controller keeps in a step lasts over the handling of a message, where one is held, and where none is.
-use Rattle.std.proofs.Common.{◌≡◌, ◌⊎◌, inl, inr, ℕ, Bool, true, false, cond, eqb, List, [], ◌∷◌, sym, refl, ap, ◌∙◌, subst}
+use Rattle.std.proofs.Common.{◌≡◌, ◌⊎◌, inl, inr, ℕ, true, false, cond, eqb, List, [], ◌∷◌, sym, refl, ap, ◌∙◌, subst}
 use Rattle.std.specs.Prelude.{Option, Some, None}
 use Rattle.std.specs.List.{AllByRecursion}
 use Rattle.std.specs.Option.{option_map_or}
@@ -10,13 +10,14 @@ use Rattle.trace_model.specs.declared.entry.Entry.TheVariants as entry
 use Rattle.link_laws.specs.machine.Machine.{Message, is_held}
 use Rattle.link_laws.specs.machine.Machine.Turn.{Hold}
 use Rattle.node_machine.specs.Parts.{Port, Work}
-use Rattle.node_machine.specs.Carrying.{noting, port_at, with_desk, turn_at, end_of_node, needs, lack}
+use Rattle.node_machine.specs.Carrying.{noting, port_at, with_desk, end_of_node, needs, lack}
 use Rattle.node_machine.specs.Controller.{controller_deeds, view_of}
 use Rattle.node_machine.specs.Turns.{deeds_of, handles, holds_back, lets_go}
 use Rattle.node_machine.specs.world.World.{end_c}
 use Rattle.node_laws.specs.kept.Books.{hosts_of_ends}
 use Rattle.node_laws.specs.kept.Hosts.{AreHosts}
 use Rattle.node_laws.specs.notices.Notices.{IsKeptNotice}
+use Rattle.node_laws.proofs.Cases.{by_test}
 use Rattle.node_laws.proofs.notices.Doing.{Holds, Stands}
 use Rattle.node_laws.proofs.notices.Turning.{handled_stand, holds_stand, lets_stand}
 use Rattle.node_laws.proofs.creations.Asks.{asked_of}
@@ -88,23 +89,16 @@ module _ (hosts : List ℕ) (are : AreHosts hosts) (t : List Entry) where
   -- ## A message is held, or none is
 
   holds_made : (k x : ℕ) (short : ℕ × ℕ) (w : Work) → Good x t hosts (asked_of w.ports) [] w → Good x t hosts (asked_of w.ports) [] (holds_back k short w)
-  holds_made k x short w a = go (option_map_or (λ (p : Port). p.desk.holds) (port_at w.ports k) false) where
-    n : ℕ
-    n = many x t hosts (asked_of w.ports) []
+  holds_made k x short w a = by_test (option_map_or (λ (p : Port). p.desk.holds) (port_at w.ports k) false)
+      (λ q. rw q (turns x t hosts (asked_of w.ports) [] n k (Hold true) w tt (λ p e. refl) a))
+      (λ q. rw q (turns x t hosts (asked_of w.ports) [] n k (Hold true) (with_desk k (λ d. record d { holds = true }) told) tt (λ p e. refl)
+      (desks x t hosts (asked_of w.ports) [] n k (λ d. record d { holds = true }) told (λ d. refl) (λ d. refl)
+      (notes x t hosts (asked_of w.ports) [] n (entry.Held (end_of_node w.core k) short.0 short.1 ∷ []) w (λ b. refl) refl a)))) where
+        n : ℕ
+        n = many x t hosts (asked_of w.ports) []
 
-    told : Work
-    told = noting (entry.Held (end_of_node w.core k) short.0 short.1 ∷ []) w
-
-    by : Bool → Work
-    by true = turn_at k (Hold true) w
-    by false = turn_at k (Hold true) (with_desk k (λ d. record d { holds = true }) told)
-
-    go : (b : Bool) → Good x t hosts (asked_of w.ports) [] (by b)
-    go true = turns x t hosts (asked_of w.ports) [] n k (Hold true) w tt (λ p e. refl) a
-    go false =
-        turns x t hosts (asked_of w.ports) [] n k (Hold true) (with_desk k (λ d. record d { holds = true }) told) tt (λ p e. refl)
-        (desks x t hosts (asked_of w.ports) [] n k (λ d. record d { holds = true }) told (λ d. refl) (λ d. refl)
-        (notes x t hosts (asked_of w.ports) [] n (entry.Held (end_of_node w.core k) short.0 short.1 ∷ []) w (λ b. refl) refl a))
+        told : Work
+        told = noting (entry.Held (end_of_node w.core k) short.0 short.1 ∷ []) w
 
   pub holds_keeps : (h : ℕ) (short : ℕ × ℕ) (w : Work) → J w → J (holds_back h short w)
   holds_keeps h short w a =
@@ -115,14 +109,9 @@ module _ (hosts : List ℕ) (are : AreHosts hosts) (t : List Entry) where
       (λ k real. holds (end_c k) hosts (errors_before t k) h short w (to_errors hosts t w a k real))
 
   lets_made : (k x : ℕ) (w : Work) → Good x t hosts (asked_of w.ports) [] w → Good x t hosts (asked_of w.ports) [] (lets_go k w)
-  lets_made k x w a = go (option_map_or (λ (p : Port). is_held p.side) (port_at w.ports k) false) where
-    by : Bool → Work
-    by true = turn_at k (Hold false) w
-    by false = w
-
-    go : (b : Bool) → Good x t hosts (asked_of w.ports) [] (by b)
-    go true = turns x t hosts (asked_of w.ports) [] (many x t hosts (asked_of w.ports) []) k (Hold false) w tt (λ p e. refl) a
-    go false = a
+  lets_made k x w a = by_test (option_map_or (λ (p : Port). is_held p.side) (port_at w.ports k) false)
+      (λ q. rw q (turns x t hosts (asked_of w.ports) [] (many x t hosts (asked_of w.ports) []) k (Hold false) w tt (λ p e. refl) a))
+      (λ q. rw q a)
 
   pub lets_keeps : (h : ℕ) (w : Work) → J w → J (lets_go h w)
   lets_keeps h w a =

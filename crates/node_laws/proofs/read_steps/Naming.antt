@@ -1,10 +1,9 @@
 -- What a controller notes in a turn: a notice of a creation names the host that it goes to.
-use Rattle.std.proofs.Common.{◌≡◌, ◌⊎◌, inl, inr, ℕ, ◌&&◌, Bool, true, false, cond, eqb, List, [], ◌∷◌, ◌++◌, length, map, sym, refl, ap, ◌∙◌, subst}
-use Rattle.std.specs.Prelude.{Option, Some, None, option_to_list, slice_index}
+use Rattle.std.proofs.Common.{◌≡◌, ◌⊎◌, inl, inr, ℕ, ◌&&◌, Bool, true, false, eqb, List, [], ◌∷◌, length, sym, refl, ap, ◌∙◌, subst}
+use Rattle.std.specs.Prelude.{Option, Some, None, slice_index}
 use Rattle.std.specs.List.{AllByRecursion, fold}
 use Rattle.std.specs.Option.{option_map_or}
 use Rattle.std.proofs.lemmas.Bool.{eqb-true, true≢false}
-use Rattle.swp_base.specs.declared.link_terms.Cause.{Cause}
 use Rattle.trace_model.specs.declared.entry.Entry.{Entry}
 use Rattle.trace_model.specs.declared.entry.Entry.TheVariants as entry
 use Rattle.journal_laws.specs.Planned.{fails_within}
@@ -30,7 +29,7 @@ use Rattle.node_machine.specs.Node.{told_at, told_late, is_late}
 use Rattle.node_machine.specs.world.World.{end_c}
 use Rattle.node_machine.specs.world.NodeFilters.{is_notice, is_response, awaited_after, notice_in}
 use Rattle.node_laws.specs.steps.Waiting.{IsAllowedFor, IsAllowedStill}
-use Rattle.node_laws.proofs.Cases.{by_test}
+use Rattle.node_laws.proofs.Cases.{by_test, by_option}
 use Rattle.node_laws.proofs.links.Noticing.{at_host}
 use Rattle.node_laws.proofs.readings.Silent.{told_rest, rest_quiet}
 use Rattle.registry.proofs.ValueLemmas.{AllByRecursion-append}
@@ -50,22 +49,10 @@ NamesHost x None = Unit {0}
 NamesHost x (Some m) = instruction_in m ≡ 18 → slice_index m 3 ≡ x
 
 one_named : (x : ℕ) (e : Entry) (r : Option (List ℕ)) → IsNamed e → NamesHost x r → NamesHost x (awaited_after is_notice (end_c x) 0 r e)
-one_named x (entry.Sent f n pid message) r named a = go (same_end f (end_c x) && eqb pid 1 && is_notice message) refl where
-  go : (b : Bool) → (same_end f (end_c x) && eqb pid 1 && is_notice message) ≡ b → NamesHost x (cond b (Some message) r)
-  go true e = named x e
-  go false e = a
-one_named x (entry.Turn f pid message) r named a = go (same_end f (end_c x) && eqb pid 1 && is_response message) where
-  go : (b : Bool) → NamesHost x (cond b None r)
-  go true = tt
-  go false = a
-one_named x (entry.Down f cause) r named a = go (same_end f (end_c x)) where
-  go : (b : Bool) → NamesHost x (cond b None r)
-  go true = tt
-  go false = a
-one_named x (entry.Cut n) r named a = go (eqb n 0) where
-  go : (b : Bool) → NamesHost x (cond b None r)
-  go true = tt
-  go false = a
+one_named x (entry.Sent f n pid message) r named a = by_test (same_end f (end_c x) && eqb pid 1 && is_notice message) (λ e. rw e (named x e)) (λ e. rw e a)
+one_named x (entry.Turn f pid message) r named a = by_test (same_end f (end_c x) && eqb pid 1 && is_response message) (λ q. rw q tt) (λ q. rw q a)
+one_named x (entry.Down f cause) r named a = by_test (same_end f (end_c x)) (λ q. rw q tt) (λ q. rw q a)
+one_named x (entry.Cut n) r named a = by_test (eqb n 0) (λ q. rw q tt) (λ q. rw q a)
 one_named x _ r named a = a
 
 all_named : (x : ℕ) (t : List Entry) (r : Option (List ℕ)) → AreNamed t → NamesHost x r → NamesHost x (fold (awaited_after is_notice (end_c x) 0) r t)
@@ -124,10 +111,7 @@ noted_named core _ p goes = tt
 
 turn_named : (k : ℕ) (t : Turn) (w : Work) → GoesBy k t → AreNamed w.entries → AreNamed (turn_at k t w).entries
 turn_named k t w goes a = AllByRecursion-append IsNamed w.entries (option_map_or (noted_of w.core t) (port_at w.ports k) []) a
-    (go (port_at w.ports k) refl) where
-      go : (o : Option Port) → port_at w.ports k ≡ o → AreNamed (option_map_or (noted_of w.core t) o [])
-      go None e = tt
-      go (Some p) e = noted_named w.core t p (subst (λ n. GoesBy n t) (sym (at_host w.ports k p e)) goes)
+    (by_option (port_at w.ports k) (λ e. rw e tt) (λ p e. rw e (noted_named w.core t p (subst (λ n. GoesBy n t) (sym (at_host w.ports k p e)) goes))))
 
 note_named : (x : Entry) (w : Work) → IsNamed x → AreNamed w.entries → AreNamed (noting (x ∷ []) w).entries
 note_named x w is a = AllByRecursion-append IsNamed w.entries (x ∷ []) a (is, tt)
@@ -189,28 +173,17 @@ handles_named h m deeds w names a =
     (turn_named h FetchMessage noted tt (note_named (entry.Turn (end_of_node w.core h) m.0 m.1) w tt a))
 
 pub holds_named : (h : ℕ) (short : ℕ × ℕ) (w : Work) → AreNamed w.entries → AreNamed (holds_back h short w).entries
-holds_named h short w a = go (option_map_or (λ (p : Port). p.desk.holds) (port_at w.ports h) false) where
-  told : Work
-  told = noting (entry.Held (end_of_node w.core h) short.0 short.1 ∷ []) w
-
-  by : Bool → Work
-  by true = turn_at h (Hold true) w
-  by false = turn_at h (Hold true) (with_desk h (λ d. record d { holds = true }) told)
-
-  go : (b : Bool) → AreNamed (by b).entries
-  go true = turn_named h (Hold true) w tt a
-  go false = turn_named h (Hold true) (with_desk h (λ d. record d { holds = true }) told) tt
-      (note_named (entry.Held (end_of_node w.core h) short.0 short.1) w tt a)
+holds_named h short w a = by_test (option_map_or (λ (p : Port). p.desk.holds) (port_at w.ports h) false)
+    (λ q. rw q (turn_named h (Hold true) w tt a))
+    (λ q. rw q (turn_named h (Hold true) (with_desk h (λ d. record d { holds = true }) told) tt
+    (note_named (entry.Held (end_of_node w.core h) short.0 short.1) w tt a))) where
+      told : Work
+      told = noting (entry.Held (end_of_node w.core h) short.0 short.1 ∷ []) w
 
 pub lets_named : (h : ℕ) (w : Work) → AreNamed w.entries → AreNamed (lets_go h w).entries
-lets_named h w a = go (option_map_or (λ (p : Port). is_held p.side) (port_at w.ports h) false) where
-  by : Bool → Work
-  by true = turn_at h (Hold false) w
-  by false = w
-
-  go : (b : Bool) → AreNamed (by b).entries
-  go true = turn_named h (Hold false) w tt a
-  go false = a
+lets_named h w a = by_test (option_map_or (λ (p : Port). is_held p.side) (port_at w.ports h) false)
+    (λ q. rw q (turn_named h (Hold false) w tt a))
+    (λ q. rw q a)
 
 -- ## What deeds name
 
@@ -258,7 +231,7 @@ no_notices_name (_ ∷ deeds) a = absurd a.0
 
 pub told_named : (core : Core) (p : Port) (o : Option LinkInput) → AreNamed (told_at core p o)
 told_named core p None = tt
-told_named core p (Some i) = go (ended_by p.side i) where
+told_named core p (Some i) = by_option (ended_by p.side i) (λ q. rw q later) (λ cause q. rw q (tt, later)) where
   rest : List Noted
   rest = told_rest (own_side core) p.session (whole_acked (after_input p.side i)) (report p.side i)
 
@@ -266,12 +239,5 @@ told_named core p (Some i) = go (ended_by p.side i) where
   later = far_named (entries_for p.desk.host rest)
       (quiet_far p.desk.host rest (rest_quiet (own_side core) p.session (whole_acked (after_input p.side i)) (report p.side i)))
 
-  go : (o : Option Cause) → AreNamed (entries_for p.desk.host (map (Down (own_side core)) (option_to_list o) ++ rest))
-  go None = later
-  go (Some cause) = (tt, later)
-
 pub late_named : (core : Core) (p : Port) → AreNamed (told_late core p)
-late_named core p = go (is_late p) where
-  go : (b : Bool) → AreNamed (cond b (told_at core p (Some (Reset None))) [])
-  go true = told_named core p (Some (Reset None))
-  go false = tt
+late_named core p = by_test (is_late p) (λ q. rw q (told_named core p (Some (Reset None)))) (λ q. rw q tt)

@@ -12,10 +12,10 @@ use Rattle.journal_laws.specs.Journal.{count_of}
 use Rattle.hci_tables.specs.declared.command.Command.{Command}
 use Rattle.hci_tables.specs.Bodies.{body_of}
 use Rattle.hci_store.specs.Committing.{commit_writes}
-use Rattle.link_laws.specs.machine.Machine.{Message, LinkInput, Refused, Turn, Report, give_refusal, report, whole_acked, after_input}
+use Rattle.link_laws.specs.machine.Machine.{Message, LinkInput, Turn, Report, give_refusal, report, whole_acked, after_input}
 use Rattle.link_laws.specs.machine.Machine.LinkInput.{Reset}
 use Rattle.link_laws.specs.machine.Machine.Turn.{Give, Hold, FetchMessage, SetAside, Release}
-use Rattle.link_laws.specs.entries.Entries.{End as Side, Entry as Noted, told, sent_unless}
+use Rattle.link_laws.specs.entries.Entries.{End as Side, Entry as Noted, told}
 use Rattle.link_laws.specs.entries.Entries.End.{Controller, Host}
 use Rattle.link_laws.specs.entries.Entries.Entry.{Up, Down, Active, GaveUp, Acked, Got, Sent}
 use Rattle.history.specs.Steps.{entries_for, entry_of, end_of}
@@ -32,6 +32,7 @@ use Rattle.node_machine.specs.Node.{all_owed, without_notice, after_sessions, sy
 use Rattle.node_machine.specs.Node.NodeInput.{AtEnd, TimePasses}
 use Rattle.registry.proofs.ValueLemmas.{AllByRecursion-append}
 use Rattle.node_machine.proofs.Walks.{Plain, OfHost, any_of_controller, all_of_host, forgotten_hold, all_owed_hold, all_synced_hold, anyone}
+use Rattle.node_laws.proofs.Cases.{by_option}
 use Rattle.node_laws.proofs.steps.StepWalks.{got_at, all_do as all_note, Lasts, rest_lasts}
 use Rattle.node_laws.proofs.steps.Ports.{come_host, forgets_host, late_host, without_host, changed_host, sessions_node, at_port}
 use Rattle.node_laws.proofs.links.Noticing.{at_host}
@@ -90,10 +91,7 @@ all_notes who n acked r = told_all (IsOwnNote who) who n acked refl refl (λ k. 
 
 turn_notes : (core : Core) (who : Side) (t : Turn) (p : Port) → own_side core ≡ who
     → AllByRecursion (IsOwnNote who) (Rattle.link_laws.specs.entries.Entries.turn_entry (own_side core) p.session p.side t)
-turn_notes core who (Give m) p is = go (give_refusal p.side m) where
-  go : (o : Option Refused) → AllByRecursion (IsOwnNote who) (sent_unless o (own_side core) p.session m)
-  go None = (is, tt)
-  go (Some why) = tt
+turn_notes core who (Give m) p is = by_option (give_refusal p.side m) (λ q. rw q (is, tt)) (λ why q. rw q tt)
 turn_notes core who _ p is = tt
 
 -- ## A node
@@ -206,11 +204,9 @@ module _ (P : Entry → Type 0) (n : ℕ) (who : Side) (At : ℕ → Type 0) whe
 
     -- each message comes at an end of the node
     come_at : (h : ℕ) (w : Work) → Notes w → AllByRecursion (ComesAt h) (got_at h w)
-    come_at h w a = go (port_at w.ports h) refl where
-      go : (o : Option Port) → port_at w.ports h ≡ o → AllByRecursion (ComesAt h) (option_map_or (λ (p : Port). p.side.got) o [])
-      go None q = tt
-      go (Some p) q =
-          anyone (ComesAt h) (λ m. subst At (at_host w.ports h p q) (at_port (λ (p : Port). At p.desk.host) w.ports h p a.ends q)) p.side.got
+    come_at h w a = by_option (port_at w.ports h)
+        (λ q. rw q tt)
+        (λ p q. rw q (anyone (ComesAt h) (λ m. subst At (at_host w.ports h p q) (at_port (λ (p : Port). At p.desk.host) w.ports h p a.ends q)) p.side.got))
 
     notes_last : Lasts Notes (NotesSo P) ComesAt
     notes_last = record {

@@ -16,10 +16,11 @@ use Rattle.registry.proofs.ValueLemmas.{AllByRecursion-get}
 use Rattle.node_machine.specs.Parts.{Init, Core, Deed}
 use Rattle.node_machine.specs.Parts.Deed.{Sends, Ends}
 use Rattle.node_machine.specs.Carrying.{end_of_node, finds_room, own_view}
-use Rattle.node_machine.specs.Controller.{answers_on, commit_deeds, link_deeds, gates, is_command_message}
+use Rattle.node_machine.specs.Controller.{answers_on, link_deeds, gates, is_command_message}
 use Rattle.node_machine.specs.HostReplies.{accepts, orders_of, learns, init_deeds, learned, ordered_deeds}
 use Rattle.node_machine.proofs.Walks.{ordered_holds, learns_holds, learned_holds, init_holds, orders_hold}
 use Rattle.node_laws.specs.readings.Orders.{AreInitsShort, MayDo}
+use Rattle.node_laws.proofs.Cases.{by_test}
 
 -- an answer is no command
 pub no_command : (r : Response) (value : List ℕ) → is_command_message (answer_of r value) ≡ false
@@ -37,10 +38,7 @@ module _ (h : ℕ) (F : List ℕ → Type 0) where
   -- ## Answers
 
   accepts_may : (core : Core) (c : Command) → May (accepts (own_view core) c)
-  accepts_may core c = go (finds_room core c) where
-    go : (b : Bool) → May (commit_deeds b core.node 1 c (answer_of response.Ok []) [])
-    go true = (refl, tt)
-    go false = (refl, tt)
+  accepts_may core c = by_test (finds_room core c) (λ q. rw q (refl, tt)) (λ q. rw q (refl, tt))
 
   -- an answer on another pipe than 01
   other_may : (to pipe : ℕ) (answer : List ℕ) → eqb pipe 1 ≡ false → May (answers_on to pipe answer)
@@ -63,10 +61,7 @@ module _ (h : ℕ) (F : List ℕ → Type 0) where
 
   -- an event that is posted back is no command
   pub posted_may : (core : Core) (m : Message) (b : Bool) → is_command_message m.1 ≡ false → May (cond b (Sends core.node m ∷ []) [])
-  posted_may core m b off = either b (Sends core.node m ∷ []) [] (none (eqb m.0 1), tt) tt where
-    none : (a : Bool) → (a && is_command_message m.1) ≡ false
-    none true = off
-    none false = refl
+  posted_may core m b off = either b (Sends core.node m ∷ []) [] (by_test (eqb m.0 1) (λ q. rw q off) (λ q. rw q refl), tt) tt
 
   -- ## Init
 

@@ -3,7 +3,6 @@ use Rattle.std.proofs.Common.{◌≡◌, inl, inr, ℕ, ◌&&◌, Bool, true, fa
 use Rattle.std.proofs.Common.{append_assoc}
 use Rattle.std.specs.Prelude.{Option, Some, None, is_some}
 use Rattle.std.specs.List.{AllByRecursion}
-use Rattle.std.specs.Option.{option_map_or}
 use Rattle.std.proofs.lemmas.Bool.{eq-eqb, eqb-true, true≢false, cond-true}
 use Rattle.trace_model.specs.Lines.{IsHost}
 use Rattle.trace_model.specs.declared.entry.Entry.{Entry}
@@ -23,7 +22,6 @@ use Rattle.swp_base.specs.InMemory.{Memory}
 use Rattle.journal_laws.specs.Planned.{after_planned}
 use Rattle.trace_model.specs.declared.entry.Entry.TheVariants as entry
 use Rattle.node_machine.specs.Parts.{Desk, Running, Port, Work, Deed}
-use Rattle.node_machine.specs.Parts.Deed.{Sends, Orders}
 use Rattle.node_machine.specs.Controller.{is_command_message}
 use Rattle.node_machine.specs.Carrying.{port_at}
 use Rattle.node_machine.specs.Node.{input_at, has_come, steps, begins_with, found, new_desk}
@@ -33,7 +31,7 @@ use Rattle.node_machine.specs.world.World.{wires_for, port_for}
 use Rattle.node_machine.specs.world.World.{work_of, frames_noted, host_work, after_host, host_ticks}
 use Rattle.node_machine.specs.world.NodeFilters.{order_in}
 use Rattle.node_laws.specs.links.Notices.{IsComing}
-use Rattle.node_laws.proofs.Cases.{by_list}
+use Rattle.node_laws.proofs.Cases.{by_list, by_option, by_test}
 use Rattle.node_laws.proofs.links.Noticing.{turn-phase}
 use Rattle.node_laws.proofs.telling.Frames.{lost_all, ending_all, arrival_all}
 use Rattle.node_laws.specs.readings.Orders.{order_of, AreInitsShort, IsSilent, Fits, MayDo}
@@ -54,10 +52,9 @@ pub arrival_quiet : (who : Side) (l : Link) (comes : Comes) → AllByRecursion I
 arrival_quiet = arrival_all IsQuiet (λ w c. tt)
 
 pub frames_read : (h : ℕ) (who : Side) (k : ℕ) (l : Link) (w : Work) (c : Option (List ℕ)) → reads h (frames_noted who k l w) c ≡ c
-frames_read h who k l w c = go (port_at w.ports k) where
-  go : (o : Option Port) → reads h (option_map_or (λ (p : Port). entries_for k (ending_entries who l p.side (ending_of w))) o []) c ≡ c
-  go None = refl
-  go (Some p) = quiet_reads h k (ending_entries who l p.side (ending_of w)) c (ending_quiet who l p.side (ending_of w))
+frames_read h who k l w c = by_option (port_at w.ports k)
+    (λ q. rw q refl)
+    (λ p q. rw q (quiet_reads h k (ending_entries who l p.side (ending_of w)) c (ending_quiet who l p.side (ending_of w))))
 
 pub arrival_read : (h : ℕ) (who : Side) (k : ℕ) (l : Link) (comes : Comes) (c : Option (List ℕ)) → reads h (entries_for k (arrival who l comes)) c ≡ c
 arrival_read h who k l comes c = quiet_reads h k (arrival who l comes) c (arrival_quiet who l comes)
@@ -106,14 +103,7 @@ comes_outside l NoInput i e = let z : None ≡ Some i = e in absurd (cc z)
 
 -- hearing of the number of an RSET leaves the machine of an end
 pub near_end_side : (l : Link) (comes : Comes) → (near_end_in l comes).side ≡ l.controller.side
-near_end_side l NextFrame = go l.to_controller where
-  first : List OnWire → NumberedEnd
-  first [] = l.controller
-  first (x ∷ xs) = record l.controller { took = Rattle.link_laws.specs.sessions.Sessions.took_with l.controller.took x }
-
-  go : (xs : List OnWire) → (first xs).side ≡ l.controller.side
-  go [] = refl
-  go (x ∷ xs) = refl
+near_end_side l NextFrame = by_list l.to_controller (λ q. rw q refl) (λ x xs q. rw q refl)
 near_end_side l _ = refl
 
 -- ## A host that runs
@@ -259,18 +249,14 @@ acts_reads t s r deeds host reads_so node may =
 
 -- what a host sends or begins may be done, where its end takes it
 pub sending_may : (h : ℕ) (e : LinkEnd) (m : Message) → give_refusal e m ≡ None → MayDo h (λ order. give_refusal e (1, order) ≡ None) (sending h m)
-sending_may h e m taken = go (eqb m.0 1 && is_command_message m.1) refl where
-  parts : (a b : Bool) → (a && b) ≡ true → (a ≡ true) × (b ≡ true)
-  parts true true z = (refl, refl)
-  parts true false z = absurd (true≢false (sym z))
-  parts false b z = absurd (true≢false (sym z))
-
-  go : (b : Bool) → (eqb m.0 1 && is_command_message m.1) ≡ b
-      → MayDo h (λ order. give_refusal e (1, order) ≡ None) (cond b (Orders m.1 ∷ []) (Sends h m ∷ []))
-  go true z =
-      let both = parts (eqb m.0 1) (is_command_message m.1) z in
-      (ap (λ n. give_refusal e (n, m.1)) (sym (eqb-true m.0 1 both.0)) ∙ taken, both.1, tt)
-  go false z = (z, tt)
+sending_may h e m taken = by_test (eqb m.0 1 && is_command_message m.1)
+    (λ z. rw z (let both = parts (eqb m.0 1) (is_command_message m.1) z in
+    (ap (λ n. give_refusal e (n, m.1)) (sym (eqb-true m.0 1 both.0)) ∙ taken, both.1, tt)))
+    (λ z. rw z (z, tt)) where
+      parts : (a b : Bool) → (a && b) ≡ true → (a ≡ true) × (b ≡ true)
+      parts true true z = (refl, refl)
+      parts true false z = absurd (true≢false (sym z))
+      parts false b z = absurd (true≢false (sym z))
 
 pub beginning_may : (h : ℕ) (e : LinkEnd) (identity : List ℕ) (pipes : List (List ℕ)) → give_refusal e (1, 3 ∷ []) ≡ None
     → AreInitsShort (Some (record { identity = identity; pipes = pipes; answered = 0 }))

@@ -3,7 +3,6 @@ use Rattle.std.proofs.Common.{◌≡◌, ◌⊎◌, inl, inr, ℕ, Bool, true, f
 use Rattle.std.proofs.Common.{append_assoc}
 use Rattle.std.specs.Prelude.{Option, Some, None}
 use Rattle.std.specs.List.{AllByRecursion, flat_map}
-use Rattle.std.specs.Option.{option_map_or}
 use Rattle.std.proofs.lemmas.Bool.{cases_Bool, eqb-true, eqb-false, ne_eqb, cond-true, cond-false}
 use mathlib.Core.Bool.{and-false}
 use Rattle.swp_base.specs.InMemory.{Plan}
@@ -56,11 +55,7 @@ all_ends P f host (d ∷ desks) all = (subst P (sym (host d)) (all d), all_ends 
 
 -- frames and arrivals tell nothing
 pub frames_silent : (k : ℕ) (who : Side) (h : ℕ) (l : Link) (w : Work) → AreSilent k (frames_noted who h l w)
-frames_silent k who h l w = go (port_at w.ports h) where
-  go : (o : Option Port) → AreSilent k (option_map_or (λ (p : Port). entries_for h (Rattle.link_laws.specs.entries.Entries.ending_entries who l p.side
-      (ending_of w))) o [])
-  go None = tt
-  go (Some p) = quiet_silent k h _ (ending_quiet who l p.side (ending_of w))
+frames_silent k who h l w = by_option (port_at w.ports h) (λ q. rw q tt) (λ p q. rw q (quiet_silent k h _ (ending_quiet who l p.side (ending_of w))))
 
 arrival_silent : (k : ℕ) (who : Side) (h : ℕ) (l : Link) (comes : Comes) → AreSilent k (entries_for h (arrival who l comes))
 arrival_silent k who h l comes = quiet_silent k h (arrival who l comes) (arrival_quiet who l comes)

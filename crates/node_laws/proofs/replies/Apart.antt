@@ -19,13 +19,14 @@ use Rattle.gate_admin.specs.Decide.{decided}
 use Rattle.gate_link.specs.Link.{link_served}
 use Rattle.gate_identity.specs.Identity.{identity_served}
 use Rattle.link_laws.specs.machine.Machine.{Message}
-use Rattle.node_machine.specs.Parts.{Creation, Notice, Core, Port, Deed}
+use Rattle.node_machine.specs.Parts.{Creation, Core, Port, Deed}
 use Rattle.node_machine.specs.Parts.Deed.{Commits, Sends, SaysOk, Asks, Releases, Tells, IsAnswered, Drops, SetsErrors, Orders, Hears, GoesOn, Ends}
 use Rattle.node_machine.specs.Carrying.{port_at, finds_room, own_view}
 use Rattle.node_machine.specs.Controller.{has_link, creation_in, asked_at, asks_for, view_for, answers_on, commit_deeds, decision_deeds, link_deeds, gates}
 use Rattle.node_machine.specs.Controller.{gate_deeds, own_gate, goes_through, served_at, agreed, creation_deeds, notice_deeds, is_command_message}
 use Rattle.node_machine.specs.Controller.{relayed_to, unrelayed, event_deeds, unless_asking, if_notice, kind_deeds, own_deeds, relay_deeds, deeds_by_relay}
-use Rattle.node_machine.specs.Controller.{controller_deeds, view_of, about_at, about_of}
+use Rattle.node_machine.specs.Controller.{controller_deeds, view_of, about_at}
+use Rattle.node_laws.proofs.Cases.{by_option, by_test}
 use Rattle.node_laws.proofs.links.Noticing.{UpAt}
 use Rattle.node_laws.proofs.notices.Telling.{AreRight, IsShort, MayTell, Outcome, controller_outcome}
 use Rattle.node_laws.proofs.notices.Telling.Outcome.{Leaves, IsHeard}
@@ -88,12 +89,10 @@ module _ (ports : List Port) (h : ℕ) where
   event_fair up core m = cond_both _ (Sends h m ∷ []) (Drops m.0 ∷ []) Fair (λ _. ((refl, tt), (up, tt))) (λ _. (tt, (tt, tt)))
 
   unrelayed_fair : (m : Message) → Fair (unrelayed (has_link ports h) h m)
-  unrelayed_fair m = go (has_link ports h) refl where
-    go : (b : Bool) → has_link ports h ≡ b → Fair (unrelayed b h m)
-    go true up =
-        cond_both (is_command_message m.1) (answers_on h m.0 (answer_of response.NotConnected [])) (Drops m.0 ∷ []) Fair
-        (λ _. ((refl, tt), (up, tt))) (λ _. (tt, (tt, tt)))
-    go false down = (tt, (tt, tt))
+  unrelayed_fair m = by_test (has_link ports h)
+      (λ up. rw up (cond_both (is_command_message m.1) (answers_on h m.0 (answer_of response.NotConnected [])) (Drops m.0 ∷ []) Fair
+      (λ _. ((refl, tt), (up, tt))) (λ _. (tt, (tt, tt)))))
+      (λ down. rw down (tt, (tt, tt)))
 
   relay_fair : (m : Message) (other : ℕ) (up : Bool) → has_link ports other ≡ up → Fair (relay_deeds (has_link ports) h m other up)
   relay_fair m other true up = ((refl, tt), (up, tt))
@@ -121,10 +120,9 @@ module _ (ports : List Port) (h : ℕ) where
 
     response_fair : (code : ℕ) (o : Option Port) → port_at ports h ≡ o → Fair (notice_deeds (own_view core) code (about_at o))
     response_fair code None here = (tt, (tt, tt))
-    response_fair code (Some p) here = by_notice p.desk.notice refl where
-      by_notice : (o : Option Notice) → p.desk.notice ≡ o → Fair (notice_deeds (own_view core) code (about_of o))
-      by_notice None is = (tt, (tt, tt))
-      by_notice (Some n) is = creation_fair core code (creation_in (Some n)) (λ c q. askers p c here (ap creation_in is ∙ q))
+    response_fair code (Some p) here = by_option p.desk.notice
+        (λ is. rw is (tt, (tt, tt)))
+        (λ n is. rw is (creation_fair core code (creation_in (Some n)) (λ c q. askers p c here (ap creation_in is ∙ q))))
 
     notices_fair : (m : Message) (code : ℕ) (b : Bool) → Fair (if_notice (view_of core ports) h m code b)
     notices_fair m code true = response_fair code (port_at ports h) refl

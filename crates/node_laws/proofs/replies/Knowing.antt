@@ -1,6 +1,6 @@
 -- A controller knows what is read, so that it does with a message what is read.
 use Rattle.std.proofs.Common.{◌≡◌, ℕ, ◌&&◌, true, false, eqb, List, ◌++◌, sym, refl, ap, ◌∙◌, subst}
-use Rattle.std.specs.Prelude.{Option, Some, None, is_some}
+use Rattle.std.specs.Prelude.{Some, None, is_some}
 use Rattle.std.specs.Option.{option_map, option_map_or, option_and_then}
 use Rattle.std.proofs.lemmas.Bool.{and_parts, eq-eqb}
 use Rattle.trace_model.specs.declared.entry.Entry.{Entry}
@@ -16,6 +16,7 @@ use Rattle.node_laws.specs.kept.Books.{hosts_of_ends}
 use Rattle.node_laws.specs.kept.Hosts.{AreHosts}
 use Rattle.node_laws.specs.cuts.Histories.{is_one_of}
 use Rattle.node_laws.specs.notices.Notices.{IsKeptNotice}
+use Rattle.node_laws.proofs.Cases.{by_option}
 use Rattle.node_laws.proofs.notices.Turning.{kept_none}
 use Rattle.node_laws.specs.views.Views.{IsSameView, view_at}
 use Rattle.node_laws.specs.read_steps.Alike.{KnowsTheSame}
@@ -55,24 +56,19 @@ module _ (hosts : List ℕ) (are : AreHosts hosts) (t : List Entry) (w : Work) (
   none_at k q = sym (ap is_some q) ∙ there_is hosts are t w a k
 
   links_same : (k : ℕ) → has_link w.ports k ≡ (is_one_of hosts k && is_up_read now 0 k)
-  links_same k = by (port_at w.ports k) refl where
-    by : (o : Option Port) → port_at w.ports k ≡ o
-        → option_map_or (λ (p : Port). is_up p.side.shdlc.phase) o false ≡ (is_one_of hosts k && is_up_read now 0 k)
-    by None q = ap (λ b. b && is_up_read now 0 k) (none_at k q)
-    by (Some p) q = ups k p q ∙ sym (ap (λ b. b && is_up_read now 0 k) (one_at k p q))
+  links_same k = by_option (port_at w.ports k)
+      (λ q. rw q (ap (λ b. b && is_up_read now 0 k) (none_at k q)))
+      (λ p q. rw q (ups k p q ∙ sym (ap (λ b. b && is_up_read now 0 k) (one_at k p q))))
 
   links_read : LinksAreRead hosts now w.ports
   links_read k one = links_same k ∙ ap (λ b. b && is_up_read now 0 k) one
 
   notices_same : (k : ℕ) → option_map creation_of (about_at (port_at w.ports k)) ≡ option_map creation_of (about_read now (notice_in now k))
-  notices_same k = by (port_at w.ports k) refl where
-    by : (o : Option Port) → port_at w.ports k ≡ o
-        → option_map creation_of (about_at o) ≡ option_map creation_of (about_read now (notice_in now k))
-    by None q =
-        let kept : IsKeptNotice (notice_in now k) None =
-        subst (λ o. IsKeptNotice (notice_in now k) (option_and_then (λ (p : Port). p.desk.notice) o)) q (notice_is hosts are t w a k) in
-        sym (ap (λ r. option_map creation_of (about_read now r)) (kept_none (notice_in now k) None refl kept))
-    by (Some p) q = awaited_same hosts are t w a names k p q
+  notices_same k = by_option (port_at w.ports k)
+      (λ q. rw q (let kept : IsKeptNotice (notice_in now k) None =
+      subst (λ o. IsKeptNotice (notice_in now k) (option_and_then (λ (p : Port). p.desk.notice) o)) q (notice_is hosts are t w a k) in
+      sym (ap (λ r. option_map creation_of (about_read now r)) (kept_none (notice_in now k) None refl kept))))
+      (λ p q. rw q (awaited_same hosts are t w a names k p q))
 
   view_same : (h : ℕ) → has_link w.ports h ≡ true → IsSameView (view_for w.core.tables w.ports h) (view_at hosts now h)
   view_same h up =

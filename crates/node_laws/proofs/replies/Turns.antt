@@ -7,7 +7,7 @@ use Rattle.trace_model.specs.Lines.{IsHost}
 use Rattle.trace_model.specs.declared.entry.Entry.{Entry}
 use Rattle.link_laws.specs.sessions.Sessions.{is_up}
 use Rattle.journal_laws.specs.Journal.{count_of}
-use Rattle.link_laws.specs.machine.Machine.{Message, spare}
+use Rattle.link_laws.specs.machine.Machine.{Message}
 use Rattle.node_machine.specs.Parts.{Creation, Core, Port, Work, Deed}
 use Rattle.node_machine.specs.Carrying.{port_at, needs, first_lack, spare_with, lack}
 use Rattle.node_machine.specs.Controller.{has_link, asked_at, controller_deeds, view_of}
@@ -65,13 +65,11 @@ module _ (hosts : List ℕ) (are : AreHosts hosts) (t : List Entry) (w : Work) (
   now = t ++ w.entries
 
   spares_alike : (k : ℕ) → spare_with w.ports k ≡ spare_read hosts now 0 k
-  spares_alike k = by (port_at w.ports k) refl where
-    there : (o : Option Port) → port_at w.ports k ≡ o → is_some o ≡ is_one_of hosts k
-    there o q = sym (ap is_some q) ∙ there_is hosts are t w a k
-
-    by : (o : Option Port) → port_at w.ports k ≡ o → option_map_or (λ (p : Port). spare p.side) o 0 ≡ spare_read hosts now 0 k
-    by None q = ap (λ b. cond b (spare_at now (end_c k)) 0) (there None q)
-    by (Some p) q = sym (ends.spares k p q) ∙ ap (λ b. cond b (spare_at now (end_c k)) 0) (there (Some p) q)
+  spares_alike k = by_option (port_at w.ports k)
+      (λ q. rw q (ap (λ b. cond b (spare_at now (end_c k)) 0) (there None q)))
+      (λ p q. rw q (sym (ends.spares k p q) ∙ ap (λ b. cond b (spare_at now (end_c k)) 0) (there (Some p) q))) where
+        there : (o : Option Port) → port_at w.ports k ≡ o → is_some o ≡ is_one_of hosts k
+        there o q = sym (ap is_some q) ∙ there_is hosts are t w a k
 
   pub lack_so : (m : Moment) → until m ≡ now → (h : ℕ) (message : Message) → lack_of hosts m (end_c h) message ≡ lacking w h message
   lack_so m same h message =

@@ -77,10 +77,7 @@ IfComing None = Unit {0}
 IfComing (Some i) = IsComing i
 
 comes_outside : (input : NodeInput) (p : Port) → IsOutside input → IfComing (input_at input p)
-comes_outside (AtEnd h i) p a = by (eqb p.desk.host h) where
-  by : (b : Bool) → IfComing (cond b (Some i) None)
-  by true = a
-  by false = tt
+comes_outside (AtEnd h i) p a = by_test (eqb p.desk.host h) (λ q. rw q a) (λ q. rw q tt)
 comes_outside TimePasses p a = tt
 
 reset_side : (p : Port) → (reset_late p).side.got ≡ p.side.got

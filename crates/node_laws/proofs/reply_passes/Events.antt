@@ -4,7 +4,6 @@ use Rattle.std.proofs.Common.{arith, Option, Some, None}
 use Rattle.std.specs.List.{AllByRecursion}
 use Rattle.std.specs.Option.{option_map_or}
 use Rattle.std.proofs.lemmas.List.{length-replicate}
-use Rattle.trace_model.specs.declared.entry.NoCause.{NoCause}
 use Rattle.trace_model.specs.declared.line.End.{End}
 use Rattle.trace_model.specs.declared.line.Header.{Header}
 use Rattle.trace_model.specs.declared.line.Line.{Line}
@@ -18,11 +17,11 @@ use Rattle.history.specs.Follows.{taken_of, first_verdict}
 use Rattle.node_machine.specs.Parts.{Running}
 use Rattle.node_machine.specs.world.World.{NodeWorld, Site, Happening, node_at, site_at, link_to, new_world, world_step}
 use Rattle.node_machine.specs.world.World.Happening.{Takes, Ticks}
-use Rattle.node_machine.specs.world.Lines.{frames_at, refusal_in, happens_by, happenings, Occurrence, can_happen, all_happen, LineOutcome, tables_told, goes_on}
+use Rattle.node_machine.specs.world.Lines.{frames_at, refusal_in, happens_by, happenings, Occurrence, can_happen, all_happen, tables_told, goes_on}
 use Rattle.node_machine.specs.world.Lines.{line_step}
-use Rattle.node_machine.specs.world.Lines.LineOutcome.{WasRefused}
 use Rattle.node_machine.specs.world.NodeHistories.{NodeHistory, FollowsNodes, steps_from, occurrences_of, occurrences_in}
 use Rattle.node_laws.specs.links.Runs.{ArePlayable}
+use Rattle.node_laws.proofs.Cases.{by_option, by_test}
 use Rattle.node_laws.proofs.links.Worlds.{AreFineSites, IsFineWorld}
 use Rattle.node_laws.proofs.links.Playing.{lines_fine, world_fine}
 use Rattle.node_laws.proofs.telling.Lasting.{events_of_steps}
@@ -73,17 +72,7 @@ causes_few header w _ few is = omega arith
 
 happen_long : (causes : List Happening) (w : NodeWorld) → length (all_happen w causes).1 ≤ length causes
 happen_long [] w = omega arith
-happen_long (c ∷ causes) w = go (can_happen w c) (happen_long causes (world_step w c).0) where
-  later : NodeWorld × List Occurrence
-  later = all_happen (world_step w c).0 causes
-
-  by : Bool → NodeWorld × List Occurrence
-  by true = (later.0, record { cause = c; entries = (world_step w c).1 } ∷ later.1)
-  by false = (w, [])
-
-  go : (b : Bool) → length later.1 ≤ length causes → length (by b).1 ≤ length (c ∷ causes)
-  go true rest = omega (arith, rest)
-  go false rest = omega arith
+happen_long (c ∷ causes) w = by_test (can_happen w c) (λ q. rw q (omega (arith, happen_long causes (world_step w c).0))) (λ q. rw q (omega arith))
 
 none_long : (n : ℕ) (o : Option Running) → length (occurrences_of (tables_told n o)) ≤ 100
 none_long n None = omega arith
@@ -94,14 +83,9 @@ on_long w (line.Tables n) a = none_long n (node_at w n)
 on_long w _ a = a
 
 line_long : (header : Header) (w : NodeWorld) (l : Line) → AreFewWires w.sites → IsNodeLineOf header l → length (occurrences_of (line_step w l).1) ≤ 100
-line_long header w l few is = go (refusal_in w l) where
-  by : Option NoCause → NodeWorld × LineOutcome
-  by (Some cause) = (w, WasRefused cause)
-  by None = goes_on w l
-
-  go : (o : Option NoCause) → length (occurrences_of (by o).1) ≤ 100
-  go (Some cause) = omega arith
-  go None = on_long w l (let one = happen_long (happenings w l) w in let two = causes_few header w l few is in omega (arith, one, two))
+line_long header w l few is = by_option (refusal_in w l)
+    (λ q. rw q (on_long w l (let one = happen_long (happenings w l) w in let two = causes_few header w l few is in omega (arith, one, two))))
+    (λ cause q. rw q (omega arith))
 
 -- as many lines cause 100 events each at most
 pub lines_long : (header : Header) (lines : List Line) (w : NodeWorld) → IsFineWorld w → AreNodeLinesOf header lines → ArePlayable lines

@@ -19,7 +19,6 @@ use Rattle.link_laws.specs.entries.Entries.{End as Side, aged_entries, ending_en
 use Rattle.link_laws.specs.entries.Entries.End.{Controller, Host}
 use Rattle.history.specs.Steps.{entries_for}
 use Rattle.node_machine.specs.Parts.{Core, Desk, Running, Port, Work, Deed}
-use Rattle.node_machine.specs.Parts.Deed.{Sends, Orders}
 use Rattle.node_machine.specs.Carrying.{port_at, own_side, noted_of}
 use Rattle.node_machine.specs.Controller.{is_command_message}
 use Rattle.node_machine.specs.Node.{steps, begins_with, new_desk, with_error}
@@ -37,6 +36,7 @@ use Rattle.node_machine.proofs.world.Cases.{after_host_step, by_controller, by_h
 use Rattle.node_machine.proofs.world.Cases.{by_controller_tick}
 use Rattle.node_machine.proofs.world.Cases.{by_host_tick, after_near_tick, near_tick, host_tick, boot_written, boot_found, site_ticked, site_unticked}
 use Rattle.node_laws.specs.telling.Telling.{HasEnds, IfItRuns, hosts_in, IsOrderly}
+use Rattle.node_laws.proofs.Cases.{by_test, by_option}
 use Rattle.node_laws.proofs.telling.Mute.{AreMute}
 use Rattle.node_laws.proofs.telling.Worlds.{site_is, node_is}
 use Rattle.node_laws.proofs.telling.Events.{sending_mute}
@@ -58,19 +58,11 @@ is_held_among desks k = option_map_or (λ (d : Desk). d.holds) (find (λ (d : De
 pub ports_held : (near_ends : ℕ → NumberedEnd) (desks : List Desk) (k : ℕ)
     → is_held_at (map (λ (d : Desk). port_for (near_ends d.host) d) desks) k ≡ is_held_among desks k
 ports_held near_ends [] k = refl
-ports_held near_ends (d ∷ desks) k = by (eqb d.host k) refl (ports_held near_ends desks k) where
-  by : (b : Bool) → eqb d.host k ≡ b → is_held_at (map (λ (d : Desk). port_for (near_ends d.host) d) desks) k ≡ is_held_among desks k
-      → is_held_at (map (λ (d : Desk). port_for (near_ends d.host) d) (d ∷ desks)) k ≡ is_held_among (d ∷ desks) k
-  by true q later = rw q refl
-  by false q later = rw q later
+ports_held near_ends (d ∷ desks) k = by_test (eqb d.host k) (λ q. rw q refl) (λ q. rw q (ports_held near_ends desks k))
 
 pub desks_held : (ports : List Port) (k : ℕ) → is_held_among (map (λ (p : Port). p.desk) ports) k ≡ is_held_at ports k
 desks_held [] k = refl
-desks_held (p ∷ ports) k = by (eqb p.desk.host k) refl (desks_held ports k) where
-  by : (b : Bool) → eqb p.desk.host k ≡ b → is_held_among (map (λ (p : Port). p.desk) ports) k ≡ is_held_at ports k
-      → is_held_among (map (λ (p : Port). p.desk) (p ∷ ports)) k ≡ is_held_at (p ∷ ports) k
-  by true q later = rw q refl
-  by false q later = rw q later
+desks_held (p ∷ ports) k = by_test (eqb p.desk.host k) (λ q. rw q refl) (λ q. rw q (desks_held ports k))
 
 pub error_held : (h : ℕ) (desks : List Desk) (k : ℕ) → is_held_among (with_error h desks) k ≡ is_held_among desks k
 error_held h [] k = refl
@@ -84,10 +76,7 @@ error_held h (d ∷ desks) k = by (eqb d.host h) refl (eqb d.host k) refl (error
 
 pub new_held : (hosts : List ℕ) (k : ℕ) → is_held_among (map new_desk hosts) k ≡ false
 new_held [] k = refl
-new_held (h ∷ hosts) k = by (eqb h k) refl (new_held hosts k) where
-  by : (b : Bool) → eqb h k ≡ b → is_held_among (map new_desk hosts) k ≡ false → is_held_among (map new_desk (h ∷ hosts)) k ≡ false
-  by true q later = rw q refl
-  by false q later = rw q later
+new_held (h ∷ hosts) k = by_test (eqb h k) (λ q. rw q refl) (λ q. rw q (new_held hosts k))
 
 -- ## Entries that tell nothing of it
 
@@ -115,10 +104,7 @@ flat_leaves f one [] = none_leaves
 flat_leaves f one (x ∷ xs) = leaves-append (f x) (flat_map f xs) (one x) (flat_leaves f one xs)
 
 pub frames_leave : (who : Side) (h : ℕ) (l : Link) (v : Work) → Leaves (frames_noted who h l v)
-frames_leave who h l v = by (port_at v.ports h) where
-  by : (o : Option Port) → Leaves (option_map_or (λ (p : Port). entries_for h (ending_entries who l p.side (ending_of v))) o [])
-  by None = none_leaves
-  by (Some p) = links_leave h (ending_entries who l p.side (ending_of v))
+frames_leave who h l v = by_option (port_at v.ports h) (λ q. rw q none_leaves) (λ p q. rw q (links_leave h (ending_entries who l p.side (ending_of v))))
 
 pub aged_leave : (w : NodeWorld) → Leaves (all_aged w).1
 aged_leave w =
@@ -151,10 +137,9 @@ begins_leave h n r plan near_ends deeds number mute none =
     (begins_unbooted n (own_side r.core) h deeds w mute number refl tt)
 
 pub sending_quiet : (h : ℕ) (m : Message) → AllByRecursion (λ (d : Deed). (k : ℕ) (w : Work) → AreNoTurns (noted_by_deed k d w)) (sending h m)
-sending_quiet h m = by (eqb m.0 1 && is_command_message m.1) where
-  by : (b : Bool) → AllByRecursion (λ (d : Deed). (k : ℕ) (w : Work) → AreNoTurns (noted_by_deed k d w)) (cond b (Orders m.1 ∷ []) (Sends h m ∷ []))
-  by true = ((λ k w. turn_quiet w.core (Give (1, m.1)) (port_at w.ports k)), tt)
-  by false = ((λ k w. turn_quiet w.core (Give m) (port_at w.ports h)), tt)
+sending_quiet h m = by_test (eqb m.0 1 && is_command_message m.1)
+    (λ q. rw q ((λ k w. turn_quiet w.core (Give (1, m.1)) (port_at w.ports k)), tt))
+    (λ q. rw q ((λ k w. turn_quiet w.core (Give m) (port_at w.ports h)), tt))
 
 -- ## Sites
 

@@ -21,6 +21,7 @@ use Rattle.node_laws.specs.kept.Books.{hosts_of_ends}
 use Rattle.node_laws.specs.kept.Hosts.{AreDifferent}
 use Rattle.node_laws.specs.links.Notices.{IsOutside}
 use Rattle.node_laws.specs.telling.Telling.{hosts_in}
+use Rattle.node_laws.proofs.Cases.{by_test}
 use Rattle.node_laws.proofs.telling.Nodes.{hosts_same, link_is}
 use Rattle.node_laws.proofs.read_rooms.Beginning.{HasSite, site_for}
 use Rattle.node_laws.proofs.turns.Lines.{AllWait, Waiting}
@@ -71,12 +72,9 @@ module _ (t : List Entry) (w : NodeWorld) (r : Running) (number : r.core.node �
   none_off : (k : ℕ) (ports : List Port) → port_at ports k ≡ None
       → AllByRecursion (λ (p : Port). same_end (end_of p.desk.host Controller) (end_c k) ≡ false) ports
   none_off k [] here = tt
-  none_off k (p ∷ ports) here = by (eqb p.desk.host k) refl (none_off k ports) where
-    by : (b : Bool) → eqb p.desk.host k ≡ b
-        → (port_at ports k ≡ None → AllByRecursion (λ (p : Port). same_end (end_of p.desk.host Controller) (end_c k) ≡ false) ports)
-        → AllByRecursion (λ (p : Port). same_end (end_of p.desk.host Controller) (end_c k) ≡ false) (p ∷ ports)
-    by true q later = let no : Some p ≡ None = rw q at here in absurd (cc no)
-    by false q later = (rw q refl, later (rw q at here))
+  none_off k (p ∷ ports) here = by_test (eqb p.desk.host k)
+      (λ q. let no : Some p ≡ None = rw q at here in absurd (cc no))
+      (λ q. (rw q refl, none_off k ports (rw q at here)))
 
   far_off : (k : ℕ) (ports : List Port)
       → AllByRecursion (λ (p : Port). same_end (end_of p.desk.host Controller) (record { link = k; at_host = true }) ≡ false) ports

@@ -23,6 +23,7 @@ use Rattle.node_machine.specs.Turns.{deeds_of, handles, holds_back, lets_go}
 use Rattle.node_machine.specs.Node.{NodeInput, input_at, told_at, told_late, with_older, is_late, all_come, forgets}
 use Rattle.node_machine.specs.Node.NodeInput.{AtEnd, TimePasses}
 use Rattle.node_machine.specs.world.NodeLegal.{AreInTurn}
+use Rattle.node_laws.proofs.Cases.{by_test}
 use Rattle.node_laws.proofs.telling.Mute.{IsMute, AreMute, deeds_mute, all_owed_mute, all_synced_mute}
 use Rattle.node_laws.proofs.turns.Queues.Doing.{Nothing, Takes}
 use Rattle.node_laws.proofs.turns.Queues.{Becomes, Front, Goes, goes-append, AreStill, all_left, all_still, doing, front_goes, still_goes}
@@ -71,16 +72,10 @@ module _ (e : End) where
   deeds_still h [] w mute = tt
   deeds_still h (d ∷ deeds) w mute =
       AllByRecursion-append (λ (x : Entry). doing e x ≡ Nothing) (noted_by_deed h d w) _ (deed_still h d w mute.0)
-      (by (done h d w).cut (deeds_still h deeds (done h d w) mute.1)) where
-        by : (b : Bool) → AreStill e (noted_by_deeds h deeds (done h d w)) → AreStill e (cond b [] (noted_by_deeds h deeds (done h d w)))
-        by true later = tt
-        by false later = later
+      (by_test (done h d w).cut (λ q. rw q tt) (λ q. rw q (deeds_still h deeds (done h d w) mute.1)))
 
   held_still : (h : ℕ) (short : ℕ × ℕ) (w : Work) → AreStill e (own_held h short w)
-  held_still h short w = by (option_map_or (λ (p : Port). p.desk.holds) (port_at w.ports h) false) where
-    by : (b : Bool) → AreStill e (cond b [] (entry.Held (end_of_node w.core h) short.0 short.1 ∷ []))
-    by true = tt
-    by false = (refl, tt)
+  held_still h short w = by_test (option_map_or (λ (p : Port). p.desk.holds) (port_at w.ports h) false) (λ q. rw q tt) (λ q. rw q (refl, tt))
 
 -- ## Turns
 

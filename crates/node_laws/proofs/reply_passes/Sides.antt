@@ -1,7 +1,7 @@
 -- Turns and messages that are held are noted at the node's own ends.
 use Rattle.std.proofs.Common.{◌≡◌, ℕ, ◌&&◌, Bool, true, false, cond, eqb, List, [], ◌∷◌, ◌++◌, map, sym, refl, ap, ◌∙◌, subst, append_assoc}
 use Rattle.std.proofs.Common.{append-nil}
-use Rattle.std.specs.Prelude.{drop, not}
+use Rattle.std.specs.Prelude.{not}
 use Rattle.std.specs.Option.{option_map_or}
 use Rattle.std.specs.List.{AllByRecursion}
 use Rattle.std.proofs.lemmas.List.Sums.{fold-append}
@@ -195,16 +195,10 @@ module _ (k : ℕ) (b : Bool) where
       → holds_in (s ++ x ∷ []) e ≡ (waiting_after k (ms, holds_in s e) x).1
   told_one s (entry.Turn f pid message) ms on =
       fold-append _ false s (entry.Turn f pid message ∷ [])
-      ∙ (ap (λ c. cond c false (holds_in s e)) (same_by f k b on) ∙ by (eqb f.link k)) where
-        by : (c : Bool) → cond c false (holds_in s e) ≡ (cond {A = List Message × Bool} c (drop 1 ms, false) (ms, holds_in s e)).1
-        by true = refl
-        by false = refl
+      ∙ (ap (λ c. cond c false (holds_in s e)) (same_by f k b on) ∙ by_test (eqb f.link k) (λ q. rw q refl) (λ q. rw q refl))
   told_one s (entry.Held f need spare) ms on =
       fold-append _ false s (entry.Held f need spare ∷ [])
-      ∙ (ap (λ c. cond c true (holds_in s e)) (same_by f k b on) ∙ by (eqb f.link k)) where
-        by : (c : Bool) → cond c true (holds_in s e) ≡ (cond {A = List Message × Bool} c (ms, true) (ms, holds_in s e)).1
-        by true = refl
-        by false = refl
+      ∙ (ap (λ c. cond c true (holds_in s e)) (same_by f k b on) ∙ by_test (eqb f.link k) (λ q. rw q refl) (λ q. rw q refl))
   told_one s (entry.Booted n count) ms on = absurd on
   told_one s x ms on = fold-append _ false s (x ∷ [])
 

@@ -181,12 +181,9 @@ on_allowed (_ ∷ causes) w h s p fine q = absurd p
 -- what happens leaves a world in which nodes send what may be sent
 pub on_fine : (causes : List Happening) (w : NodeWorld) → ArePassing causes → IsFineWorld w → IsFineWorld (all_happen w causes).0
 on_fine [] w p fine = fine
-on_fine (Takes e ∷ causes) w p fine = go (can_happen w (Takes e)) refl (on_fine causes (world_step w (Takes e)).0 p (step_fine w (Takes e) tt fine))
-  where
-    go : (b : Bool) → can_happen w (Takes e) ≡ b → IsFineWorld (all_happen (world_step w (Takes e)).0 causes).0
-        → IsFineWorld (all_happen w (Takes e ∷ causes)).0
-    go true r a = rw r a
-    go false r a = rw r fine
+on_fine (Takes e ∷ causes) w p fine = by_test (can_happen w (Takes e))
+    (λ r. rw r (on_fine causes (world_step w (Takes e)).0 p (step_fine w (Takes e) tt fine)))
+    (λ r. rw r fine)
 on_fine (TimePassing ∷ causes) w p fine = on_fine causes (world_step w TimePassing).0 p (step_fine w TimePassing tt fine)
 on_fine (_ ∷ causes) w p fine = absurd p
 

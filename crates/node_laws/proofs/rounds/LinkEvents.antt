@@ -27,18 +27,13 @@ use Rattle.node_laws.specs.rounds.LinkEvents.{ticks_on}
 pub site_map : (f : Site → Site) → ((s : Site) → (f s).host ≡ s.host) → (sites : List Site) (h : ℕ) (s : Site) → site_at sites h ≡ Some s
     → (site_at (map f sites) h ≡ Some (f s)) × (s.host ≡ h)
 site_map f keeps [] h s q = cc
-site_map f keeps (x ∷ sites) h s q = go (x.host == h) refl (site_map f keeps sites h s)
-  where
-    go : (b : Bool) → (x.host == h) ≡ b → (site_at sites h ≡ Some s → (site_at (map f sites) h ≡ Some (f s)) × (s.host ≡ h))
-        → (site_at (map f (x ∷ sites)) h ≡ Some (f s)) × (s.host ≡ h)
-    go true p later =
-        let same : x ≡ s = (let z : Some x ≡ Some s = rw p at q in cc) in
-        let kept : ((f x).host == h) ≡ true = ap (λ (k : ℕ). k == h) (keeps x) ∙ p in
-        (rw kept (ap (λ (y : Site). Some (f y)) same), ap (λ (y : Site). y.host) (sym same) ∙ eqb-true x.host h p)
-    go false p later =
-        let r = later (rw p at q) in
-        let kept : ((f x).host == h) ≡ false = ap (λ (k : ℕ). k == h) (keeps x) ∙ p in
-        (rw kept r.0, r.1)
+site_map f keeps (x ∷ sites) h s q = by_test (x.host == h)
+    (λ p. let same : x ≡ s = (let z : Some x ≡ Some s = rw p at q in cc) in
+    let kept : ((f x).host == h) ≡ true = ap (λ (k : ℕ). k == h) (keeps x) ∙ p in
+    (rw kept (ap (λ (y : Site). Some (f y)) same), ap (λ (y : Site). y.host) (sym same) ∙ eqb-true x.host h p))
+    (λ p. let r = site_map f keeps sites h s (rw p at q) in
+    let kept : ((f x).host == h) ≡ false = ap (λ (k : ℕ). k == h) (keeps x) ∙ p in
+    (rw kept r.0, r.1))
 
 -- the controller's end of the link with the host k takes a frame
 controller_took : (w : NodeWorld) (k h : ℕ) (s : Site) → site_at w.sites h ≡ Some s
@@ -88,9 +83,6 @@ changed_site k f keeps sites h s q =
 host_took_own : (w : NodeWorld) (s : Site) → site_at w.sites s.host ≡ Some s → GoesOnLink (world_step w (Takes (end_h s.host))).0 s.host s (site_takes s)
 host_took_own w s q = go (input_of (exchanged s.link) NextFrame) s.node refl refl
   where
-    k : ℕ
-    k = s.host
-
     link : link_to w.sites s.host ≡ s.link
     link = rw q refl
 
@@ -120,9 +112,6 @@ host_took_other : (w : NodeWorld) (k h : ℕ) (s : Site) → site_at w.sites h �
     → GoesOnLink (world_step w (Takes (end_h k))).0 h s []
 host_took_other w k h s q other = go (input_of (exchanged (link_to w.sites k)) NextFrame) (site_at w.sites k) refl refl
   where
-    v : NodeWorld
-    v = (world_step w (Takes (end_h k))).0
-
     by_node : (x : Site) (i : LinkInput) (c : Option Running) → input_of (exchanged (link_to w.sites k)) NextFrame ≡ Some i → site_at w.sites k ≡ Some x
         → x.node ≡ c → GoesOnLink (world_step w (Takes (end_h k))).0 h s []
     by_node x i None p r t = stays w (world_step w (Takes (end_h k))).0 h s (rw (p, r, t) refl) q
@@ -237,15 +226,7 @@ world_ticked w h s q =
 
 pub takes_go : (w : NodeWorld) (e : End) (h : ℕ) (s : Site) → site_at w.sites h ≡ Some s
     → GoesOnLink (world_step w (Takes e)).0 h s (link_events_in h w (Takes e))
-takes_go w e h s q = go e.at_host
-  where
-    at : Bool → End
-    at b = record { link = e.link; at_host = b }
-
-    go : (b : Bool) → GoesOnLink (world_step w (Takes (record { link = e.link; at_host = b }))).0 h s (link_events_in h w (Takes
-        (record { link = e.link; at_host = b })))
-    go false = rw q (controller_took w e.link h s q)
-    go true = rw q (host_took w e.link h s q)
+takes_go w e h s q = by_test e.at_host (λ is. rw is (rw q (host_took w e.link h s q))) (λ is. rw is (rw q (controller_took w e.link h s q)))
 
 pub ticks_go : (w : NodeWorld) (h : ℕ) (s : Site) → site_at w.sites h ≡ Some s → GoesOnLink (world_step w Ticks).0 h s (link_events_in h w Ticks)
 ticks_go w h s q =

@@ -38,9 +38,6 @@ pub all_go : (causes : List Happening) (w : NodeWorld) (h : ℕ) (s : Site) → 
 all_go [] w h s p q = rests_so w h s q
 all_go (Takes e ∷ causes) w h s p q = go (can_happen w (Takes e)) refl (takes_go w e h s q) (λ t r. all_go causes (world_step w (Takes e)).0 h t p r)
   where
-    c : Happening
-    c = Takes e
-
     go : (b : Bool) → can_happen w (Takes e) ≡ b → GoesOnLink (world_step w (Takes e)).0 h s (link_events_in h w (Takes e))
         → ((t : Site) → site_at (world_step w (Takes e)).0.sites h ≡ Some t
         → GoesOnLink (all_happen (world_step w (Takes e)).0 causes).0 h t (events_on h (world_step w (Takes e)).0 causes))

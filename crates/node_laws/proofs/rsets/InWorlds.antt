@@ -1,14 +1,12 @@
 -- Few RSETs are put on the links of a world: two at most in each tick, and one where a reset is asked for.
-use Rattle.std.proofs.Common.{◌≡◌, ℕ, ◌+◌, ◌≤◌, ◌==◌, Bool, true, false, cond, List, [], ◌∷◌, map, refl, arith}
+use Rattle.std.proofs.Common.{◌≡◌, ℕ, ◌+◌, ◌≤◌, ◌==◌, Bool, true, false, List, [], ◌∷◌, map, refl, arith}
 use Rattle.std.specs.Prelude.{Some, None, not, ◌&&◌, replicate}
 use Rattle.swp_base.specs.InMemory.{Memory}
 use Rattle.trace_model.specs.declared.line.End.{End}
 use Rattle.shdlc_core.specs.Machine.{is_waiting}
-use Rattle.link_laws.specs.sessions.Sessions.{OnWire, took_with}
 use Rattle.link_laws.specs.machine.Machine.{Turn}
-use Rattle.link_laws.specs.machine.Machine.LinkInput.{Reset}
-use Rattle.link_laws.specs.messages.Links.{Link, Comes, Ending, Loss, LinkEvent, exchanged, aged, has_input, happens, ticks_at_controller}
-use Rattle.link_laws.specs.messages.Links.{NumberedEnd, number_of}
+use Rattle.link_laws.specs.messages.Links.{Link, Comes, Ending, Loss, LinkEvent, exchanged, aged, happens, ticks_at_controller}
+use Rattle.link_laws.specs.messages.Links.{number_of}
 use Rattle.link_laws.specs.messages.Links.Ending.{GoesOut, CutOff}
 use Rattle.link_laws.specs.messages.Links.Comes.{NextFrame, AsksReset, Starts, NoInput}
 use Rattle.link_laws.specs.messages.Links.EndEvent.{Step, Lose}
@@ -31,6 +29,7 @@ use Rattle.node_laws.specs.telling.Telling.{world_behind}
 use Rattle.link_laws.specs.messages.Rsets.{FewRsets, WireIsLow, resets_in_coming, rset_causes}
 use Rattle.node_laws.specs.rsets.Causes.{FewRsetsOnEach, NumbersWithinOnEach, happened_in, world_ticks_in}
 use Rattle.node_laws.specs.rsets.Causes.{resets_among, others_among, rsets_by, rsets_by_all}
+use Rattle.node_laws.proofs.Cases.{by_test, by_list}
 use Rattle.link_laws.proofs.messages.RsetsOnLinks.{made_by_event, made_in_tick, made_in_tick_there}
 use Rattle.link_laws.proofs.messages.RsetNumbers.{number_low, took_low, exchanged_numbered, aged_numbered, tick_numbered, tick_there_numbered}
 use Rattle.link_laws.proofs.messages.RsetNumbers.{event_numbered, numbers_within}
@@ -61,11 +60,9 @@ few_ticked_there n l ts ending f =
 
 -- an end whose notice is late is reset in place of having its tick
 few_ticked_so : (n : ℕ) (l : Link) (late : Bool) (ts : List Turn) (ending : Ending) → FewRsets n l → FewRsets (n + 1) (ticked_so l late ts ending)
-few_ticked_so n l late ts ending f = go (late && not (is_waiting l.controller.side.shdlc))
-  where
-    go : (b : Bool) → FewRsets (n + 1) (cond b (has_input l (Reset None) ts ending) (ticks_at_controller l ts ending))
-    go true = few_by_event n l (AtController (Step (AsksReset None) ts ending)) f
-    go false = few_ticked n l ts ending f
+few_ticked_so n l late ts ending f = by_test (late && not (is_waiting l.controller.side.shdlc))
+    (λ q. rw q (few_by_event n l (AtController (Step (AsksReset None) ts ending)) f))
+    (λ q. rw q (few_ticked n l ts ending f))
 
 near_stays : (n : ℕ) (l : Link) → FewRsets n l → number_of l.controller ≤ n
 near_stays n l f = let z = number_low l.resets l.controller f.numbered.controller in let a = f.made in omega (arith, z, a)
@@ -75,22 +72,15 @@ few_exchanged n l f = record { made = let a = f.made in omega (arith, a); number
 
 -- an end as it has heard of the number of an RSET that comes has no session with a greater number
 pub near_low : (n : ℕ) (l : Link) (comes : Comes) → FewRsets n l → number_of (near_end_in l comes) ≤ n
-near_low n l NextFrame f = go l.to_controller refl
+near_low n l NextFrame f = by_list l.to_controller
+    (λ q. rw q (let z = number_low l.resets l.controller f.numbered.controller in omega (arith, z, few)))
+    (λ x xs q. rw q (let wire : WireIsLow l.resets (x ∷ xs) = rw q at f.numbered.to_controller in
+    let t = took_low l.resets l.controller.took x f.numbered.controller.took wire.0 in
+    let e = f.numbered.controller.emitted in
+    omega (arith, t, e, few)))
   where
-    by : List OnWire → NumberedEnd
-    by [] = l.controller
-    by (x ∷ xs) = record l.controller { took = took_with l.controller.took x }
-
     few : l.resets ≤ n
     few = let z = f.made in omega (arith, z)
-
-    go : (w : List OnWire) → l.to_controller ≡ w → number_of (by w) ≤ n
-    go [] q = let z = number_low l.resets l.controller f.numbered.controller in omega (arith, z, few)
-    go (x ∷ xs) q =
-        let wire : WireIsLow l.resets (x ∷ xs) = rw q at f.numbered.to_controller in
-        let t = took_low l.resets l.controller.took x f.numbered.controller.took wire.0 in
-        let e = f.numbered.controller.emitted in
-        omega (arith, t, e, few)
 near_low n l _ f = near_stays n l f
 
 -- ## Sites
@@ -118,11 +108,7 @@ each_longer m n (s ∷ sites) q a = (few_longer m n s.link q a.0, each_longer m 
 
 -- what comes to an end of the link with the host h is nothing at the other links
 comes_few : (h : ℕ) (comes : Comes) (k : ℕ) → resets_in_coming (comes_to h comes k) ≤ resets_in_coming comes
-comes_few h comes k = go (k == h)
-  where
-    go : (b : Bool) → resets_in_coming (cond b comes NoInput) ≤ resets_in_coming comes
-    go true = omega arith
-    go false = omega arith
+comes_few h comes k = by_test (k == h) (λ q. rw q (omega arith)) (λ q. rw q (omega arith))
 
 few_behind_controller : (n : ℕ) (w : NodeWorld) (h : ℕ) (comes : Comes) (f : Work → Work) → FewRsetsOnEach n w.sites
     → FewRsetsOnEach (n + resets_in_coming comes) (controller_does w h comes f).0.sites
@@ -197,11 +183,9 @@ few_behind_boot n w node a =
     by_boot (λ p. FewRsetsOnEach n p.0.sites) w node (few_behind_cut n node v b) (few_with_node n node (boot_found w node) v b)
 
 lost_here : (n : ℕ) (e : End) (why : Loss) (s : Site) → FewRsets n s.link → FewRsets n (site_lost e why s).link
-lost_here n e why s a = go e.at_host
-  where
-    go : (b : Bool) → FewRsets n (happens s.link (cond b (AtHost (Lose why)) (AtController (Lose why))))
-    go true = few_longer (n + 0) n (happens s.link (AtHost (Lose why))) (omega arith) (few_by_event n s.link (AtHost (Lose why)) a)
-    go false = few_longer (n + 0) n (happens s.link (AtController (Lose why))) (omega arith) (few_by_event n s.link (AtController (Lose why)) a)
+lost_here n e why s a = by_test e.at_host
+    (λ q. rw q (few_longer (n + 0) n (happens s.link (AtHost (Lose why))) (omega arith) (few_by_event n s.link (AtHost (Lose why)) a)))
+    (λ q. rw q (few_longer (n + 0) n (happens s.link (AtController (Lose why))) (omega arith) (few_by_event n s.link (AtController (Lose why)) a)))
 
 few_behind_loss : (n : ℕ) (w : NodeWorld) (e : End) (why : Loss) → FewRsetsOnEach n w.sites → FewRsetsOnEach n (frame_lost w e why).0.sites
 few_behind_loss n w e why a =
@@ -271,22 +255,11 @@ pub few_behind_all : (causes : List Happening) (n : ℕ) (w : NodeWorld) → Few
     → FewRsetsOnEach (n + rsets_by_all causes) (all_happen w causes).0.sites
 few_behind_all [] n w a = each_longer n (n + rsets_by_all []) w.sites (omega arith) a
 few_behind_all (c ∷ causes) n w a =
-    go (can_happen w c) (few_behind_all causes (n + rsets_by c) (world_step w c).0 (few_behind_step n w c a))
-  where
-    by : Bool → NodeWorld × List Occurrence
-    by true = (
-      (all_happen (world_step w c).0 causes).0,
-      record { cause = c; entries = (world_step w c).1 } ∷ (all_happen (world_step w c).0 causes).1,
-    )
-    by false = (w, [])
-
-    go : (b : Bool) → FewRsetsOnEach (n + rsets_by c + rsets_by_all causes) (all_happen (world_step w c).0 causes).0.sites
-        → FewRsetsOnEach (n + rsets_by_all (c ∷ causes)) (by b).0.sites
-    go true later =
-        let z = by_one_more c causes in
-        each_longer (n + rsets_by c + rsets_by_all causes) (n + rsets_by_all (c ∷ causes)) (all_happen (world_step w c).0 causes).0.sites
-        (omega (arith, z)) later
-    go false later = each_longer n (n + rsets_by_all (c ∷ causes)) w.sites (omega arith) a
+    by_test (can_happen w c)
+    (λ q. rw q (let z = by_one_more c causes in
+    each_longer (n + rsets_by c + rsets_by_all causes) (n + rsets_by_all (c ∷ causes)) (all_happen (world_step w c).0 causes).0.sites
+    (omega (arith, z)) (few_behind_all causes (n + rsets_by c) (world_step w c).0 (few_behind_step n w c a))))
+    (λ q. rw q (each_longer n (n + rsets_by_all (c ∷ causes)) w.sites (omega arith) a))
 
 pub few_behind_events : (events : List Occurrence) (n : ℕ) (w : NodeWorld) → FewRsetsOnEach n w.sites
     → FewRsetsOnEach (n + rsets_by_all (happened_in events)) (world_behind w events).sites

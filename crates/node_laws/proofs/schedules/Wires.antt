@@ -1,5 +1,5 @@
 -- No wire of a link holds more than 64 frames.
-use Rattle.std.proofs.Common.{◌≡◌, ◌+◌, ◌≤◌, Bool, true, false, cond, List, [], ◌∷◌, ◌++◌, length, length-append, length-drop, drop, sym, refl, subst, arith}
+use Rattle.std.proofs.Common.{◌≡◌, ◌+◌, ◌≤◌, Bool, true, false, List, [], ◌∷◌, ◌++◌, length, length-append, length-drop, subst, arith}
 use Rattle.std.specs.Prelude.{nat_lt, is_some}
 use Rattle.std.proofs.lemmas.Bool.{ltb-false}
 use Rattle.swp_base.specs.declared.control_frames.Control.{Control}
@@ -14,6 +14,7 @@ use Rattle.link_laws.specs.messages.Links.Comes.{NextFrame, AsksReset, Starts, S
 use Rattle.link_laws.specs.messages.Links.EndEvent.{Step, Lose}
 use Rattle.link_laws.specs.messages.Links.LinkEvent.{AtController, AtHost, Ticks, TicksWithout, Activate}
 use Rattle.node_laws.specs.links.Runs.{IsRun, new_line}
+use Rattle.node_laws.proofs.Cases.{by_test}
 
 -- both wires hold 64 frames at most
 pub record IsFewWires (l : Link) : Type 0 where
@@ -23,41 +24,22 @@ pub record IsFewWires (l : Link) : Type 0 where
 -- ## Frames go out
 
 fits_few : (wire : List OnWire) (x : OnWire) → length wire ≤ 64 → length (fits (wire ++ x ∷ [])) ≤ 64
-fits_few wire x few = go (nat_lt 64 (length (wire ++ x ∷ []))) refl where
-  long : length (wire ++ x ∷ []) ≡ length wire + 1
-  long = length-append wire (x ∷ [])
-
-  go : (b : Bool) → nat_lt 64 (length (wire ++ x ∷ [])) ≡ b → length (cond b (drop 1 (wire ++ x ∷ [])) (wire ++ x ∷ [])) ≤ 64
-  go true q = let less = length-drop 1 (wire ++ x ∷ []) in omega (arith, less, long, few)
-  go false q = let low = ltb-false 64 (length (wire ++ x ∷ [])) q in omega (arith, low)
+fits_few wire x few = by_test (nat_lt 64 (length (wire ++ x ∷ [])))
+    (λ q. rw q (let less = length-drop 1 (wire ++ x ∷ []) in omega (arith, less, long, few)))
+    (λ q. rw q (let low = ltb-false 64 (length (wire ++ x ∷ [])) q in omega (arith, low))) where
+      long : length (wire ++ x ∷ []) ≡ length wire + 1
+      long = length-append wire (x ∷ [])
 
 put_few : (l : Link) (c : Control) → IsFewWires l → IsFewWires (put l c)
-put_few l c a = go (is_rset c) where
-  by : Bool → Link
-  by true =
-      record l {
-        to_host = fits (l.to_host ++ record { frame = c; age = 0; number = l.resets + 1 } ∷ []);
-        controller = record l.controller { emitted = l.resets + 1 };
-        resets = l.resets + 1;
-      }
-  by false = record l { to_host = fits (l.to_host ++ record { frame = c; age = 0; number = 0 } ∷ []) }
-
-  go : (b : Bool) → IsFewWires (by b)
-  go true = record { to_controller = a.to_controller; to_host = fits_few l.to_host (record { frame = c; age = 0; number = l.resets + 1 }) a.to_host }
-  go false = record { to_controller = a.to_controller; to_host = fits_few l.to_host (record { frame = c; age = 0; number = 0 }) a.to_host }
+put_few l c a = by_test (is_rset c)
+    (λ q. rw q (record { to_controller = a.to_controller; to_host = fits_few l.to_host (record { frame = c; age = 0; number = l.resets + 1 }) a.to_host }))
+    (λ q. rw q (record { to_controller = a.to_controller; to_host = fits_few l.to_host (record { frame = c; age = 0; number = 0 }) a.to_host }))
 
 puts_few : (l : Link) (cs : List Control) → IsFewWires l → IsFewWires (put_all l cs)
 puts_few l [] a = a
 puts_few l (c ∷ cs) a = puts_few (put l c) cs (put_few l c a)
 
 -- ## Steps of one end
-
--- a link with these wires
-same_few : (l m : Link) → m.to_controller ≡ l.to_controller → m.to_host ≡ l.to_host → IsFewWires l → IsFewWires m
-same_few l m p q a = record {
-  to_controller = subst (λ (w : List OnWire). length w ≤ 64) (sym p) a.to_controller;
-  to_host = subst (λ (w : List OnWire). length w ≤ 64) (sym q) a.to_host;
-}
 
 ended_few : (l : Link) (b : Bool) → IsFewWires l → IsFewWires (with_ended l b)
 ended_few l true a = record { to_controller = a.to_controller; to_host = a.to_host }
@@ -121,11 +103,7 @@ swapped_few l a = record { to_controller = a.to_host; to_host = a.to_controller 
 
 aged_wire_few : (wire : List OnWire) → length (aged_wire wire) ≤ length wire
 aged_wire_few [] = omega arith
-aged_wire_few (x ∷ wire) = go (nat_lt x.age 4) (aged_wire_few wire) where
-  go : (b : Bool) → length (aged_wire wire) ≤ length wire
-      → length (cond b (record x { age = x.age + 1 } ∷ aged_wire wire) (aged_wire wire)) ≤ length (x ∷ wire)
-  go true rest = omega (arith, rest)
-  go false rest = omega (arith, rest)
+aged_wire_few (x ∷ wire) = by_test (nat_lt x.age 4) (λ q. rw q (omega (arith, aged_wire_few wire))) (λ q. rw q (omega (arith, aged_wire_few wire)))
 
 aged_few : (l : Link) → IsFewWires l → IsFewWires (aged l)
 aged_few l a =

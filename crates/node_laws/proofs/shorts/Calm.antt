@@ -3,7 +3,6 @@ use Rattle.std.proofs.Common.{◌≡◌, ◌⊎◌, inl, inr, ℕ, ◌-◌, ◌+
 use Rattle.std.proofs.Common.{append_assoc, append-nil}
 use Rattle.std.specs.Prelude.{Option, Some, None, is_some}
 use Rattle.std.specs.List.{AllByRecursion, fold, filter_map}
-use Rattle.std.specs.Option.{option_map_or}
 use Rattle.std.proofs.lemmas.Bool.{cases_Bool, eqb-true}
 use Rattle.std.proofs.lemmas.List.Elements.{filter_map-append}
 use Rattle.std.proofs.lemmas.List.Sums.{fold-append}
@@ -17,11 +16,12 @@ use Rattle.link_laws.specs.entries.Entries.Entry.{Cut, Emit, Lost, Took}
 use Rattle.history.specs.Steps.{entries_for}
 use Rattle.history.specs.Filters.{Saying, acked_after, acked_in, said_of, same_end, sent_by, sent_in}
 use Rattle.history.specs.Filters.Saying.{Begins, Counts, Ends, Gets, Loses, Puts, Sends, Takes}
-use Rattle.node_machine.specs.Parts.{Init, Port, Work}
+use Rattle.node_machine.specs.Parts.{Init, Work}
 use Rattle.node_machine.specs.Carrying.{end_of_number, first_lack, needs, port_at}
 use Rattle.node_machine.specs.HostReplies.{host_deeds}
 use Rattle.node_machine.specs.world.World.{end_h, ending_of, frames_noted}
 use Rattle.node_machine.specs.world.NodeFilters.{Book, book_after, book_in, order_in, session_now, spare_at, tables_in, unacknowledged_in}
+use Rattle.node_laws.proofs.Cases.{by_option}
 use Rattle.node_laws.proofs.kept.Books.{book_more}
 use Rattle.node_laws.proofs.telling.Frames.{ending_all}
 use Rattle.node_laws.specs.power.Powers.{AreNotOf, is_of_node}
@@ -73,12 +73,10 @@ module _ (n : ℕ) where
   frames_all h (_ ∷ notes) all = absurd all.0
 
   pub frames_calm : (who : Side) (h : ℕ) (l : Link) (v : Work) → AreCalmAt (frames_noted who h l v)
-  frames_calm who h l v = go (port_at v.ports h) where
-    go : (o : Option Port) → AreCalmAt (option_map_or (λ (p : Port). entries_for h (ending_entries who l p.side (ending_of v))) o [])
-    go None = tt
-    go (Some p) =
-        frames_all h (ending_entries who l p.side (ending_of v))
-        (ending_all IsFrame (λ w c. tt) (λ w c. tt) (λ w. tt) who l p.side (ending_of v))
+  frames_calm who h l v = by_option (port_at v.ports h)
+      (λ q. rw q tt)
+      (λ p q. rw q (frames_all h (ending_entries who l p.side (ending_of v))
+      (ending_all IsFrame (λ w c. tt) (λ w c. tt) (λ w. tt) who l p.side (ending_of v))))
 
   -- what is folded over them stays
   module _ {A : Type 0} (f : A → Entry → A) (stays : (a : A) (x : Entry) → IsCalmAt x → f a x ≡ a) where

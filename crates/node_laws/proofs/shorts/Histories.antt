@@ -1,5 +1,5 @@
 -- At the end of each event in which a host made a step and runs on, the first message that is left at its end lacks room.
-use Rattle.std.proofs.Common.{◌≡◌, inl, inr, ℕ, ◌≤◌, ◌||◌, Bool, true, false, eqb, List, [], ◌∷◌, ◌++◌, refl, sym, ap, ap₂, subst, ◌∙◌}
+use Rattle.std.proofs.Common.{◌≡◌, inl, inr, ℕ, ◌≤◌, ◌||◌, true, false, eqb, List, [], ◌∷◌, ◌++◌, refl, sym, ap, ap₂, subst, ◌∙◌}
 use Rattle.std.proofs.Common.{append_assoc, arith}
 use Rattle.std.specs.Prelude.{None, Option, Some, is_some}
 use Rattle.std.specs.List.{AllByRecursion, list_any}
@@ -17,7 +17,7 @@ use Rattle.node_machine.specs.world.Lines.{Occurrence}
 use Rattle.node_machine.specs.world.NodeHistories.{FollowsNodes, NodeHistory, entries_in, node_entries, occurrences_in}
 use Rattle.node_laws.specs.kept.Hosts.{AreHosts, IsFew, IsSentByHost}
 use Rattle.node_laws.specs.telling.Telling.{world_behind}
-use Rattle.node_laws.proofs.Cases.{by_option}
+use Rattle.node_laws.proofs.Cases.{by_option, by_test}
 use Rattle.node_laws.proofs.cuts.Worlds.{node_far}
 use Rattle.node_laws.proofs.telling.Lasting.{AreCaused, events_of_steps, lines_caused}
 use Rattle.node_laws.specs.links.Runs.{ArePlayable}
@@ -44,10 +44,7 @@ module _ (header : Header) (lines : List Line) (t : NodeHistory) (follows : Foll
   -- one of the hosts
   is_one : (earlier : List ℕ) (h : ℕ) (later : List ℕ) → list_any (λ k. eqb k h) (earlier ++ h ∷ later) ≡ true
   is_one [] h later = ap (λ b. b || list_any (λ k. eqb k h) later) (same_number h)
-  is_one (x ∷ earlier) h later = by (eqb x h) (is_one earlier h later) where
-    by : (b : Bool) → list_any (λ k. eqb k h) (earlier ++ h ∷ later) ≡ true → b || list_any (λ k. eqb k h) (earlier ++ h ∷ later) ≡ true
-    by true rest = refl
-    by false rest = rest
+  is_one (x ∷ earlier) h later = by_test (eqb x h) (λ q. rw q refl) (λ q. rw q (is_one earlier h later))
 
   module _ (past back : List Occurrence) (o : Occurrence) (parts : occurrences_in t ≡ past ++ (o ∷ back)) where
     abbrev here : NodeWorld

@@ -10,6 +10,7 @@ use Rattle.node_machine.specs.Parts.{Port, Work, Deed}
 use Rattle.node_machine.specs.Carrying.{end_of_node, noting, unless_cut, port_at, with_desk, turn_at, done, all_done, needs, lack}
 use Rattle.node_machine.specs.Turns.{deeds_of, handles, holds_back, lets_go, have_turns, goes_through_ends, passes}
 use Rattle.node_machine.specs.Node.{answers_and_passes}
+use Rattle.node_laws.proofs.Cases.{by_test}
 
 -- the messages that came at the end of the link with this host
 abbrev pub got_at : ℕ → Work → List Message
@@ -38,30 +39,17 @@ module _ (J : Work → Type 0) where
   -- an end takes no more fragments, or takes them again
   module _ (held : (h : ℕ) (flag : Bool) (w : Work) → J w → J (turn_at h (Hold flag) w)) where
     pub lets : (h : ℕ) (w : Work) → J w → J (lets_go h w)
-    lets h w a = go (option_map_or (λ (p : Port). is_held p.side) (port_at w.ports h) false) where
-      by : Bool → Work
-      by true = turn_at h (Hold false) w
-      by false = w
-
-      go : (b : Bool) → J (by b)
-      go true = held h false w a
-      go false = a
+    lets h w a = by_test (option_map_or (λ (p : Port). is_held p.side) (port_at w.ports h) false) (λ q. rw q (held h false w a)) (λ q. rw q a)
 
     -- that is noted
     module _ (marked : (h : ℕ) (flag : Bool) (w : Work) → J w → J (with_desk h (λ d. record d { holds = flag }) w))
         (told : (h need spare : ℕ) (w : Work) → J w → J (noting (entry.Held (end_of_node w.core h) need spare ∷ []) w)) where
       pub holds : (h : ℕ) (short : ℕ × ℕ) (w : Work) → J w → J (holds_back h short w)
-      holds h short w a = go (option_map_or (λ (p : Port). p.desk.holds) (port_at w.ports h) false) where
-        noted : Work
-        noted = noting (entry.Held (end_of_node w.core h) short.0 short.1 ∷ []) w
-
-        by : Bool → Work
-        by true = turn_at h (Hold true) w
-        by false = turn_at h (Hold true) (with_desk h (λ d. record d { holds = true }) noted)
-
-        go : (b : Bool) → J (by b)
-        go true = held h true w a
-        go false = held h true (with_desk h (λ d. record d { holds = true }) noted) (marked h true noted (told h short.0 short.1 w a))
+      holds h short w a = by_test (option_map_or (λ (p : Port). p.desk.holds) (port_at w.ports h) false)
+          (λ q. rw q (held h true w a))
+          (λ q. rw q (held h true (with_desk h (λ d. record d { holds = true }) noted) (marked h true noted (told h short.0 short.1 w a)))) where
+            noted : Work
+            noted = noting (entry.Held (end_of_node w.core h) short.0 short.1 ∷ []) w
 
   -- ## Steps
 

@@ -24,11 +24,7 @@ use Rattle.node_laws.proofs.steps.Ports.{changed_host}
 
 pub of-append : (h : ℕ) (a b : List Entry) → of_link h (a ++ b) ≡ of_link h a ++ of_link h b
 of-append h [] b = refl
-of-append h (x ∷ a) b = go (tells_of h x) refl (of-append h a b)
-  where
-    go : (c : Bool) → tells_of h x ≡ c → of_link h (a ++ b) ≡ of_link h a ++ of_link h b → of_link h ((x ∷ a) ++ b) ≡ of_link h (x ∷ a) ++ of_link h b
-    go true q later = rw q (ap (λ z. x ∷ z) later)
-    go false q later = rw q later
+of-append h (x ∷ a) b = by_test (tells_of h x) (λ q. rw q (ap (λ z. x ∷ z) (of-append h a b))) (λ q. rw q (of-append h a b))
 
 -- what tells nothing of it says nothing of it
 pub untold : (h : ℕ) (x : Entry) → tells_of h x ≡ false → is_of h (said x) ≡ false
@@ -64,7 +60,14 @@ of_other k h (_ ∷ t) q = of_other k h t q
 pub at_changed : (ports : List Port) (h k : ℕ) (g : Port → Port) (p : Port) → ((q : Port) → (g q).desk.host ≡ q.desk.host) → port_at ports h ≡ Some p
     → port_at (with_port k g ports) h ≡ Some (changed_if (p.desk.host == k) g p)
 at_changed [] h k g p keeps q = cc
-at_changed (x ∷ ports) h k g p keeps q = go (x.desk.host == h) refl (at_changed ports h k g p keeps)
+at_changed (x ∷ ports) h k g p keeps q = by_test (x.desk.host == h)
+    (λ e. let is : Some x ≡ Some p = rw e at q in
+    let one : x ≡ p = cc in
+    let passes : (y.desk.host == h) ≡ true = same ∙ e in
+    rw passes (ap (λ (z : Port). Some (changed_if (z.desk.host == k) g z)) one))
+    (λ e. let rest : port_at ports h ≡ Some p = rw e at q in
+    let fails : (y.desk.host == h) ≡ false = same ∙ e in
+    rw fails (at_changed ports h k g p keeps rest))
   where
     y : Port
     y = changed_if (x.desk.host == k) g x
@@ -72,29 +75,13 @@ at_changed (x ∷ ports) h k g p keeps q = go (x.desk.host == h) refl (at_change
     same : (y.desk.host == h) ≡ (x.desk.host == h)
     same = ap (λ z. z == h) (changed_host (x.desk.host == k) g x keeps)
 
-    go : (b : Bool) → (x.desk.host == h) ≡ b
-        → (port_at ports h ≡ Some p → port_at (with_port k g ports) h ≡ Some (changed_if (p.desk.host == k) g p))
-        → port_at (with_port k g (x ∷ ports)) h ≡ Some (changed_if (p.desk.host == k) g p)
-    go true e later =
-        let is : Some x ≡ Some p = rw e at q in
-        let one : x ≡ p = cc in
-        let passes : (y.desk.host == h) ≡ true = same ∙ e in
-        rw passes (ap (λ (z : Port). Some (changed_if (z.desk.host == k) g z)) one)
-    go false e later =
-        let rest : port_at ports h ≡ Some p = rw e at q in
-        let fails : (y.desk.host == h) ≡ false = same ∙ e in
-        rw fails (later rest)
-
 pub at_host : (ports : List Port) (h : ℕ) (p : Port) → port_at ports h ≡ Some p → (p.desk.host == h) ≡ true
 at_host [] h p q = cc
-at_host (x ∷ ports) h p q = go (x.desk.host == h) refl (at_host ports h p)
-  where
-    go : (b : Bool) → (x.desk.host == h) ≡ b → (port_at ports h ≡ Some p → (p.desk.host == h) ≡ true) → (p.desk.host == h) ≡ true
-    go true e later =
-        let is : Some x ≡ Some p = rw e at q in
-        let one : x ≡ p = cc in
-        let P : Port → Type 0 = λ z. (z.desk.host == h) ≡ true in subst P one e
-    go false e later = later (rw e at q)
+at_host (x ∷ ports) h p q = by_test (x.desk.host == h)
+    (λ e. let is : Some x ≡ Some p = rw e at q in
+    let one : x ≡ p = cc in
+    let P : Port → Type 0 = λ z. (z.desk.host == h) ≡ true in subst P one e)
+    (λ e. at_host ports h p (rw e at q))
 
 -- ## Turns
 

@@ -7,6 +7,7 @@ use Rattle.link_laws.specs.entries.Entries.{turn_entry}
 use Rattle.node_machine.specs.Parts.{Desk, Port, Work}
 use Rattle.node_machine.specs.Carrying.{own_side, noting, port_at, changed_if, with_desk, after_turn, noted_of, turn_at}
 use Rattle.node_laws.specs.telling.Telling.{of_link}
+use Rattle.node_laws.proofs.Cases.{by_test}
 use Rattle.node_laws.proofs.telling.Walks.{AreSilent}
 use Rattle.node_laws.proofs.telling.Accounts.{of-append, of_silent, of_other}
 use Rattle.node_laws.proofs.steps.Ports.{changed_host}
@@ -14,34 +15,27 @@ use Rattle.node_laws.proofs.steps.Ports.{changed_host}
 pub at_map : (f : Port → Port) → ((p : Port) → (f p).desk.host ≡ p.desk.host) → (ports : List Port) (h : ℕ) (p : Port) → port_at ports h ≡ Some p
     → port_at (map f ports) h ≡ Some (f p)
 at_map f keeps [] h p q = cc
-at_map f keeps (x ∷ ports) h p q = go (x.desk.host == h) refl (at_map f keeps ports h p)
+at_map f keeps (x ∷ ports) h p q = by_test (x.desk.host == h)
+    (λ e. let is : Some x ≡ Some p = rw e at q in
+    let one : x ≡ p = cc in
+    let found : ((f x).desk.host == h) ≡ true = same ∙ e in
+    rw found (ap (λ z. Some (f z)) one))
+    (λ e. let passed : ((f x).desk.host == h) ≡ false = same ∙ e in
+    rw passed (at_map f keeps ports h p (rw e at q)))
   where
     same : ((f x).desk.host == h) ≡ (x.desk.host == h)
     same = ap (λ n. n == h) (keeps x)
-
-    go : (b : Bool) → (x.desk.host == h) ≡ b → (port_at ports h ≡ Some p → port_at (map f ports) h ≡ Some (f p)) → port_at (map f (x ∷ ports)) h ≡ Some (f p)
-    go true e later =
-        let is : Some x ≡ Some p = rw e at q in
-        let one : x ≡ p = cc in
-        let found : ((f x).desk.host == h) ≡ true = same ∙ e in
-        rw found (ap (λ z. Some (f z)) one)
-    go false e later =
-        let passed : ((f x).desk.host == h) ≡ false = same ∙ e in
-        rw passed (later (rw e at q))
 
 pub none_map : (f : Port → Port) → ((p : Port) → (f p).desk.host ≡ p.desk.host) → (ports : List Port) (h : ℕ) → port_at ports h ≡ None
     → port_at (map f ports) h ≡ None
 none_map f keeps [] h q = refl
-none_map f keeps (x ∷ ports) h q = go (x.desk.host == h) refl (none_map f keeps ports h)
+none_map f keeps (x ∷ ports) h q = by_test (x.desk.host == h)
+    (λ e. let is : Some x ≡ None = rw e at q in absurd (cc is))
+    (λ e. let passed : ((f x).desk.host == h) ≡ false = same ∙ e in
+    rw passed (none_map f keeps ports h (rw e at q)))
   where
     same : ((f x).desk.host == h) ≡ (x.desk.host == h)
     same = ap (λ n. n == h) (keeps x)
-
-    go : (b : Bool) → (x.desk.host == h) ≡ b → (port_at ports h ≡ None → port_at (map f ports) h ≡ None) → port_at (map f (x ∷ ports)) h ≡ None
-    go true e later = let is : Some x ≡ None = rw e at q in absurd (cc is)
-    go false e later =
-        let passed : ((f x).desk.host == h) ≡ false = same ∙ e in
-        rw passed (later (rw e at q))
 
 -- where none has this number, the end with another one hasn't either
 pub none_is : (ports : List Port) (h k : ℕ) (x : Port) → port_at ports h ≡ None → port_at ports k ≡ Some x → (x.desk.host == h) ≡ false

@@ -21,7 +21,6 @@ use Rattle.link_laws.specs.entries.Entries.{event_entries, entries, first_lost}
 use Rattle.link_laws.specs.entries.Entries.End.{Controller, Host}
 use Rattle.history.specs.Steps.{entries_for}
 use Rattle.node_machine.specs.Parts.{Desk, Running, Work, Deed}
-use Rattle.node_machine.specs.Parts.Deed.{Sends, Orders}
 use Rattle.node_machine.specs.Carrying.{changed_if}
 use Rattle.node_machine.specs.Controller.{is_command_message}
 use Rattle.node_machine.specs.Node.{steps, begins_with, found, boot_writes}
@@ -36,6 +35,7 @@ use Rattle.node_machine.proofs.world.Cases.{by_controller, after_host_step, by_h
 use Rattle.node_machine.proofs.world.Cases.{boot_found, by_boot}
 use Rattle.node_machine.proofs.world.Cases.{site_lost, by_loss}
 use Rattle.node_laws.specs.kept.Hosts.{AreDifferent}
+use Rattle.node_laws.proofs.Cases.{by_test}
 use Rattle.node_laws.proofs.kept.Sites.{hosts_same, changed_host}
 use Rattle.node_laws.specs.telling.Telling.{of_link, TellOf, HasEnds, IfItRuns, hosts_in, IsOrderly, Tells, GoesSo, EachGoesSo, IsUntimed}
 use Rattle.node_laws.proofs.telling.Mute.{AreMute}
@@ -99,20 +99,16 @@ goes_then w v u t more a b =
 pub site_map : (f : Site → Site) → ((s : Site) → (f s).host ≡ s.host) → (sites : List Site) (h : ℕ) (s : Site) → site_at sites h ≡ Some s
     → site_at (map f sites) h ≡ Some (f s)
 site_map f keeps [] h s q = absurd (cc q)
-site_map f keeps (x ∷ sites) h s q = go (x.host == h) refl (site_map f keeps sites h s)
+site_map f keeps (x ∷ sites) h s q = by_test (x.host == h)
+    (λ e. let is : Some x ≡ Some s = rw e at q in
+    let one : x ≡ s = cc in
+    let passes : ((f x).host == h) ≡ true = same ∙ e in
+    rw passes (ap (λ z. Some (f z)) one))
+    (λ e. let fails : ((f x).host == h) ≡ false = same ∙ e in
+    rw fails (site_map f keeps sites h s (rw e at q)))
   where
     same : ((f x).host == h) ≡ (x.host == h)
     same = ap (λ n. n == h) (keeps x)
-
-    go : (b : Bool) → (x.host == h) ≡ b → (site_at sites h ≡ Some s → site_at (map f sites) h ≡ Some (f s)) → site_at (map f (x ∷ sites)) h ≡ Some (f s)
-    go true e later =
-        let is : Some x ≡ Some s = rw e at q in
-        let one : x ≡ s = cc in
-        let passes : ((f x).host == h) ≡ true = same ∙ e in
-        rw passes (ap (λ z. Some (f z)) one)
-    go false e later =
-        let fails : ((f x).host == h) ≡ false = same ∙ e in
-        rw fails (later (rw e at q))
 
 -- each site becomes another one
 module _ (w : NodeWorld) (memory : Memory) (controller : Option Running) (f : Site → Site) (keeps : (s : Site) → (f s).host ≡ s.host) where
@@ -240,11 +236,7 @@ begins_goes w k deeds m a =
     (λ s r found runs. host_does_begin w s r k a found runs deeds m)
 
 pub sending_mute : (h : ℕ) (m : Message) → AreMute (sending h m)
-sending_mute h m = go (m.0 == 1 && is_command_message m.1)
-  where
-    go : (b : Bool) → AreMute (cond b (Orders m.1 ∷ []) (Sends h m ∷ []))
-    go true = (tt, tt)
-    go false = (tt, tt)
+sending_mute h m = by_test (m.0 == 1 && is_command_message m.1) (λ q. rw q (tt, tt)) (λ q. rw q (tt, tt))
 
 -- ## Power and memories
 

@@ -14,6 +14,7 @@ use Rattle.link_laws.specs.entries.Entries.{aged_entries}
 use Rattle.link_laws.specs.entries.Entries.Entry.{Emit, Took, Lost, Cut}
 use Rattle.node_machine.specs.world.World.{arrival}
 use Rattle.registry.proofs.ValueLemmas.{AllByRecursion-append as all_append}
+use Rattle.node_laws.proofs.Cases.{by_list, by_test}
 
 module _ (P : Noted → Type 0) where
   abbrev All : List Noted → Type 0
@@ -25,23 +26,13 @@ module _ (P : Noted → Type 0) where
 
   module _ (took : (who : Side) (c : Control) → P (Took who c)) where
     pub arrival_all : (who : Side) (l : Link) (comes : Comes) → All (arrival who l comes)
-    arrival_all who l NextFrame = go l.to_controller where
-      first : List OnWire → List Noted
-      first [] = []
-      first (x ∷ xs) = Took who x.frame ∷ []
-
-      go : (xs : List OnWire) → All (first xs)
-      go [] = tt
-      go (x ∷ xs) = (took who x.frame, tt)
+    arrival_all who l NextFrame = by_list l.to_controller (λ q. rw q tt) (λ x xs q. rw q (took who x.frame, tt))
     arrival_all who l _ = tt
 
   module _ (old : (who : Side) (c : Control) → P (Lost who c TooOld)) where
     aged_all : (who : Side) (xs : List OnWire) → All (aged_entries who xs)
     aged_all who [] = tt
-    aged_all who (x ∷ xs) = go (nat_lt x.age 4) (aged_all who xs) where
-      go : (b : Bool) → All (aged_entries who xs) → All (cond b (aged_entries who xs) (Lost who x.frame TooOld ∷ aged_entries who xs))
-      go true later = later
-      go false later = (old who x.frame, later)
+    aged_all who (x ∷ xs) = by_test (nat_lt x.age 4) (λ q. rw q (aged_all who xs)) (λ q. rw q (old who x.frame, aged_all who xs))
 
     -- on both wires of a link
     pub wires_all : (one other : Side) (xs ys : List OnWire) → All (aged_entries one xs ++ aged_entries other ys)

@@ -1,16 +1,17 @@
 -- A node keeps its number and its ends.
-use Rattle.std.proofs.Common.{◌≡◌, ℕ, ◌==◌, Bool, true, false, cond, List, [], ◌∷◌, Option, Some, None, map, refl, ap, ◌∙◌}
+use Rattle.std.proofs.Common.{◌≡◌, ℕ, ◌==◌, List, [], ◌∷◌, Some, map, refl, ap, ◌∙◌}
 use Rattle.std.specs.List.{flat_map}
 use Rattle.trace_model.specs.declared.entry.Entry.{Entry}
 use Rattle.link_laws.specs.machine.Machine.{LinkInput, Turn}
 use Rattle.link_laws.specs.machine.Machine.LinkInput.{Tick}
-use Rattle.node_machine.specs.Parts.{Desk, Running, Port, Work, Deed}
+use Rattle.node_machine.specs.Parts.{Desk, Port, Work, Deed}
 use Rattle.node_machine.specs.Carrying.{noting, changed_if, with_desk, after_turn, turn_at}
 use Rattle.node_machine.specs.Node.{input_at, has_come, all_come, with_older, reset_late, times_out, forgotten, forgets, all_owed, without_notice}
 use Rattle.node_machine.specs.Node.{after_sessions, synced, steps, begins_with}
 use Rattle.node_machine.specs.Node.NodeInput.{AtEnd, TimePasses}
 use Rattle.node_machine.specs.world.World.{runs_on}
 use Rattle.node_laws.specs.kept.Books.{hosts_of_ends}
+use Rattle.node_laws.proofs.Cases.{by_test}
 use Rattle.node_laws.proofs.kept.Plainly.{hosts_map}
 use Rattle.node_laws.specs.telling.Telling.{IfItRuns}
 use Rattle.node_laws.proofs.telling.Mute.{AreMute, forgotten_mute, all_owed_mute, all_synced_mute}
@@ -81,15 +82,8 @@ module _ (n : ℕ) (hosts : List ℕ) where
   begins_keep k deeds w m a = all_do Of note desk turns beside k deeds w m a
 
   pub runs_keep : (w : Work) → Of w → IfItRuns n hosts (runs_on w)
-  runs_keep w a = go w.cut
+  runs_keep w a = by_test w.cut (λ q. rw q tt) (λ q. rw q (record { number = a.number; ends = same w.ports ∙ a.ends }))
     where
-      by : Bool → Option Running
-      by b = cond b None (Some (record { core = w.core; desks = map (λ (p : Port). p.desk) w.ports }))
-
       same : (ports : List Port) → map (λ (d : Desk). d.host) (map (λ (p : Port). p.desk) ports) ≡ hosts_of_ends ports
       same [] = refl
       same (p ∷ ports) = ap (λ xs. p.desk.host ∷ xs) (same ports)
-
-      go : (b : Bool) → IfItRuns n hosts (by b)
-      go true = tt
-      go false = record { number = a.number; ends = same w.ports ∙ a.ends }

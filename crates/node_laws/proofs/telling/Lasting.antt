@@ -1,5 +1,5 @@
 -- What lasts over each event of a world of nodes, with the entries noted so far, lasts over all events of a schedule.
-use Rattle.std.proofs.Common.{◌≡◌, ℕ, zero, suc, Bool, true, false, List, [], ◌∷◌, ◌++◌, sym, refl, ap, ◌∙◌, subst, append_assoc, append-nil}
+use Rattle.std.proofs.Common.{◌≡◌, ℕ, zero, suc, List, [], ◌∷◌, ◌++◌, sym, refl, ap, ◌∙◌, subst, append_assoc, append-nil}
 use Rattle.std.specs.Prelude.{Option, Some, None, is_some, replicate, unwrap_or}
 use Rattle.std.specs.List.{AllByRecursion, flat_map}
 use Rattle.std.proofs.lemmas.List.Concat.{flat_map-append}
@@ -21,7 +21,7 @@ use Rattle.node_machine.specs.world.Lines.{goes_on, line_step}
 use Rattle.node_machine.specs.world.Lines.LineOutcome.{WasRefused}
 use Rattle.node_machine.specs.world.NodeHistories.{LineStep, steps_from, occurrences_of, entries_in, world_after}
 use Rattle.node_laws.specs.telling.Telling.{world_behind, MayBoot}
-use Rattle.node_laws.proofs.Cases.{by_option}
+use Rattle.node_laws.proofs.Cases.{by_option, by_test}
 
 -- events that may happen one after another
 abbrev pub AllMay : (NodeWorld → Happening → Type 0) → NodeWorld → List Happening → Type 0
@@ -88,18 +88,7 @@ behind-append (o ∷ xs) ys w = behind-append xs ys (world_step w o.cause).0
 
 behind_all : (causes : List Happening) (w : NodeWorld) → world_behind w (all_happen w causes).1 ≡ (all_happen w causes).0
 behind_all [] w = refl
-behind_all (c ∷ causes) w = go (can_happen w c) (behind_all causes (world_step w c).0)
-  where
-    later : NodeWorld × List Occurrence
-    later = all_happen (world_step w c).0 causes
-
-    by : Bool → NodeWorld × List Occurrence
-    by true = (later.0, record { cause = c; entries = (world_step w c).1 } ∷ later.1)
-    by false = (w, [])
-
-    go : (b : Bool) → world_behind (world_step w c).0 later.1 ≡ later.0 → world_behind w (by b).1 ≡ (by b).0
-    go true q = q
-    go false q = refl
+behind_all (c ∷ causes) w = by_test (can_happen w c) (λ q. rw q (behind_all causes (world_step w c).0)) (λ q. rw q refl)
 
 told_nothing : (n : ℕ) (o : Option Running) → occurrences_of (tables_told n o) ≡ []
 told_nothing n None = refl
@@ -151,18 +140,7 @@ module _ (May : NodeWorld → Happening → Type 0) (Is : Line → Type 0)
 
   all_caused : (causes : List Happening) (w : NodeWorld) → AllMay May w causes → AreCaused May w (all_happen w causes).1
   all_caused [] w may = tt
-  all_caused (c ∷ causes) w may = go (can_happen w c) (all_caused causes (world_step w c).0 may.1)
-    where
-      later : NodeWorld × List Occurrence
-      later = all_happen (world_step w c).0 causes
-
-      by : Bool → NodeWorld × List Occurrence
-      by true = (later.0, record { cause = c; entries = (world_step w c).1 } ∷ later.1)
-      by false = (w, [])
-
-      go : (b : Bool) → AreCaused May (world_step w c).0 later.1 → AreCaused May w (by b).1
-      go true z = (refl, may.0, z)
-      go false z = tt
+  all_caused (c ∷ causes) w may = by_test (can_happen w c) (λ q. rw q (refl, may.0, all_caused causes (world_step w c).0 may.1)) (λ q. rw q tt)
 
   line_caused : (w : NodeWorld) (l : Line) → Is l → AreCaused May w (occurrences_of (line_step w l).1)
   line_caused w l is = by_option (refusal_in w l)
@@ -202,18 +180,9 @@ module _ (Holds : List Occurrence → NodeWorld → Type 0) (May : NodeWorld →
       → EachHolds os w (all_happen w causes).1
   all_happen_hold [] os w all may = all
   all_happen_hold (c ∷ causes) os w all may =
-      go (can_happen w c) (all_happen_hold causes (os ++ occurs w c ∷ []) (world_step w c).0 (lasts os w c all may.0) may.1)
-    where
-      later : NodeWorld × List Occurrence
-      later = all_happen (world_step w c).0 causes
-
-      by : Bool → NodeWorld × List Occurrence
-      by true = (later.0, occurs w c ∷ later.1)
-      by false = (w, [])
-
-      go : (b : Bool) → EachHolds (os ++ occurs w c ∷ []) (world_step w c).0 later.1 → EachHolds os w (by b).1
-      go true z = (all, z)
-      go false z = all
+      by_test (can_happen w c)
+      (λ q. rw q (all, all_happen_hold causes (os ++ occurs w c ∷ []) (world_step w c).0 (lasts os w c all may.0) may.1))
+      (λ q. rw q all)
 
   -- behind the first of them
   pub front_each : (front back : List Occurrence) (os : List Occurrence) (w : NodeWorld) → EachHolds os w (front ++ back)

@@ -24,6 +24,7 @@ use Rattle.node_machine.specs.world.World.{frames_noted, comes_to, controller_wo
 use Rattle.node_laws.specs.kept.Books.{hosts_of_ends}
 use Rattle.node_laws.specs.kept.Hosts.{AreDifferent}
 use Rattle.node_laws.specs.telling.Telling.{of_link, TellOf, HasEnds, hosts_in, IsOrderly}
+use Rattle.node_laws.proofs.Cases.{by_test}
 use Rattle.node_laws.proofs.telling.Mute.{AreMute}
 use Rattle.node_laws.proofs.telling.Accounts.{of-append, of_other, at_host}
 use Rattle.node_laws.proofs.telling.Away.{Away}
@@ -41,14 +42,11 @@ swapped h k q = ne_eqb k h (λ z. true≢false (sym (ap (λ y. h == y) z ∙ sam
 
 pub site_host : (sites : List Site) (h : ℕ) (s : Site) → site_at sites h ≡ Some s → s.host ≡ h
 site_host [] h s q = cc
-site_host (x ∷ sites) h s q = go (x.host == h) refl (site_host sites h s)
-  where
-    go : (b : Bool) → (x.host == h) ≡ b → (site_at sites h ≡ Some s → s.host ≡ h) → s.host ≡ h
-    go true e later =
-        let is : Some x ≡ Some s = rw e at q in
-        let one : s ≡ x = cc in
-        ap (λ (z : Site). z.host) one ∙ eqb-true x.host h e
-    go false e later = later (rw e at q)
+site_host (x ∷ sites) h s q = by_test (x.host == h)
+    (λ e. let is : Some x ≡ Some s = rw e at q in
+    let one : s ≡ x = cc in
+    ap (λ (z : Site). z.host) one ∙ eqb-true x.host h e)
+    (λ e. site_host sites h s (rw e at q))
 
 pub link_is : (sites : List Site) (h : ℕ) (s : Site) → site_at sites h ≡ Some s → link_to sites h ≡ s.link
 link_is sites h s q = ap (λ o. option_map_or (λ (x : Site). x.link) o (new_link Bare Bare)) q
@@ -71,23 +69,18 @@ pub stands : (near_ends : ℕ → NumberedEnd) (desks : List Desk) (sites : List
 stands near_ends [] [] h s e q = absurd (cc q)
 stands near_ends (d ∷ desks) [] h s e q = absurd (cc q)
 stands near_ends [] (x ∷ sites) h s e q = absurd (cc e)
-stands near_ends (d ∷ desks) (x ∷ sites) h s e q = go (x.host == h) refl (stands near_ends desks sites h s)
+stands near_ends (d ∷ desks) (x ∷ sites) h s e q = by_test (x.host == h)
+    (λ f. let found : (d.host == h) ≡ true = ap (λ n. n == h) one ∙ f in
+    record { desk = d; here = rw found (ap (λ n. Some (port_for (near_ends n) d)) (eqb-true d.host h found)) })
+    (λ f. let passed : (d.host == h) ≡ false = ap (λ n. n == h) one ∙ f in
+    let rest : Stands near_ends desks h = stands near_ends desks sites h s others (rw f at q) in
+    record { desk = rest.desk; here = rw passed rest.here })
   where
     one : d.host ≡ x.host
     one = cc
 
     others : map (λ (d : Desk). d.host) desks ≡ hosts_in sites
     others = cc
-
-    go : (b : Bool) → (x.host == h) ≡ b → (map (λ (d : Desk). d.host) desks ≡ hosts_in sites → site_at sites h ≡ Some s → Stands near_ends desks h)
-        → Stands near_ends (d ∷ desks) h
-    go true f later =
-        let found : (d.host == h) ≡ true = ap (λ n. n == h) one ∙ f in
-        record { desk = d; here = rw found (ap (λ n. Some (port_for (near_ends n) d)) (eqb-true d.host h found)) }
-    go false f later =
-        let passed : (d.host == h) ≡ false = ap (λ n. n == h) one ∙ f in
-        let rest : Stands near_ends desks h = later others (rw f at q) in
-        record { desk = rest.desk; here = rw passed rest.here }
 
 pub is_step : (comes : Comes) (i : LinkInput) → IsStep comes (Some i)
 is_step NextFrame i = tt
@@ -109,15 +102,10 @@ module _ (w : NodeWorld) (r : Running) (k : ℕ) (comes : Comes) (h : ℕ) (s : 
 
   arrives : of_link h (entries_for k (arrival Controller (link_to w.sites k) comes))
       ≡ of_link h (entries_for h (arrival Controller s.link (comes_to k comes h)))
-  arrives = go (h == k) refl
-    where
-      go : (b : Bool) → (h == k) ≡ b
-          → of_link h (entries_for k (arrival Controller (link_to w.sites k) comes))
-          ≡ of_link h (entries_for h (arrival Controller s.link (cond b comes NoInput)))
-      go true e =
-          ap (λ z. of_link h (entries_for z (arrival Controller (link_to w.sites z) comes))) (sym (eqb-true h k e))
-          ∙ ap (λ l. of_link h (entries_for h (arrival Controller l comes))) link
-      go false e = of_other k h (arrival Controller (link_to w.sites k) comes) (swapped h k e)
+  arrives = by_test (h == k)
+      (λ e. rw e (ap (λ z. of_link h (entries_for z (arrival Controller (link_to w.sites z) comes))) (sym (eqb-true h k e))
+      ∙ ap (λ l. of_link h (entries_for h (arrival Controller l comes))) link))
+      (λ e. rw e (of_other k h (arrival Controller (link_to w.sites k) comes) (swapped h k e)))
 
   pub opened : Opening h Controller s.link (comes_to k comes h) Start
   opened =

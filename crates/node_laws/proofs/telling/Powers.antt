@@ -24,6 +24,7 @@ use Rattle.node_laws.specs.telling.Telling.{is_of, tells_of, of_link}
 use Rattle.node_laws.specs.telling.Standing.{Standing, said_near, said_far, stands_said, stands_told}
 use Rattle.node_laws.specs.telling.Standing.{after_power, stands_noted, standing, law_noted, standing_by_law}
 use Rattle.registry.proofs.ValueLemmas.{AllByRecursion-append as all_append}
+use Rattle.node_laws.proofs.Cases.{by_test}
 use Rattle.node_laws.proofs.telling.Mute.{AreMute, forgotten_mute, all_owed_mute, all_synced_mute}
 use Rattle.node_laws.proofs.steps.Ports.{sessions_node}
 use Rattle.node_laws.proofs.telling.Walks.{AreSilent, IsUncut, AreUncut, all_last, rest_lasts}
@@ -54,12 +55,9 @@ other_told h x e q = other_said h x (said e) q
 
 pub said_of_link : (h : ℕ) (t : List Entry) (x : Standing) → standing_said h x t ≡ standing_said h x (of_link h t)
 said_of_link h [] x = refl
-said_of_link h (e ∷ t) x = go (tells_of h e) refl (said_of_link h t)
-  where
-    go : (b : Bool) → tells_of h e ≡ b → ((y : Standing) → standing_said h y t ≡ standing_said h y (of_link h t))
-        → standing_said h x (e ∷ t) ≡ standing_said h x (of_link h (e ∷ t))
-    go true q later = rw q (later (stands_told h x e))
-    go false q later = rw q (ap (λ y. standing_said h y t) (other_told h x e q) ∙ later x)
+said_of_link h (e ∷ t) x = by_test (tells_of h e)
+    (λ q. rw q (said_of_link h t (stands_told h x e)))
+    (λ q. rw q (ap (λ y. standing_said h y t) (other_told h x e q) ∙ said_of_link h t x))
 
 -- ## What the law of one link notes
 
@@ -221,11 +219,7 @@ module _ (h n : ℕ) (off : Standing → Standing) (powers : (x : Standing) → 
       entries_uncut p.desk.host (told (own_side core) p.session (report p.side i) (whole_acked (after_input p.side i)))
 
   late_uncut : (core : Core) (p : Port) → AreUncut (told_late core p)
-  late_uncut core p = go (is_late p)
-    where
-      go : (b : Bool) → AreUncut (cond b (told_at core p (Some (Reset None))) [])
-      go true = told_uncut core p (Some (Reset None))
-      go false = tt
+  late_uncut core p = by_test (is_late p) (λ q. rw q (told_uncut core p (Some (Reset None)))) (λ q. rw q tt)
 
   pub came_uncut : (input : NodeInput) (w : Work) → AreUncut w.entries → AreUncut (times_out input (all_come input w)).entries
   came_uncut (AtEnd k i) w u =

@@ -4,7 +4,6 @@ use Rattle.std.proofs.Common.{◌≡◌, ℕ, Bool, true, false, cond, List, [],
 use Rattle.std.proofs.Common.{append_assoc}
 use Rattle.std.specs.Prelude.{nat_lt, is_some}
 use Rattle.std.specs.List.{flat_map}
-use Rattle.std.specs.Option.{option_map_or}
 use Rattle.std.proofs.lemmas.List.Sums.{fold-append}
 use Rattle.swp_base.specs.declared.control_frames.Control.{Control}
 use Rattle.trace_model.specs.declared.entry.Entry.{Entry}
@@ -16,19 +15,20 @@ use Rattle.link_laws.specs.machine.Machine.Turn.{Give}
 use Rattle.link_laws.specs.messages.Links.{NumberedEnd, Link, Ending, Comes, Loss, Node, number_of, put, with_ended, silent}
 use Rattle.link_laws.specs.messages.Links.Ending.{GoesOut, CutOff}
 use Rattle.link_laws.specs.messages.Links.Comes.{NextFrame, AsksReset, Starts, Stops, NoInput}
-use Rattle.link_laws.specs.messages.Links.Loss.{TooOld, TooMany}
+use Rattle.link_laws.specs.messages.Links.Loss.{TooMany}
 use Rattle.link_laws.specs.entries.Entries.{End as Side, Entry as Noted, far, told, told_of, turn_entry, sent_unless, turn_entries}
 use Rattle.link_laws.specs.entries.Entries.{first_lost, pushed_out}
 use Rattle.link_laws.specs.entries.Entries.{wire_with, puts_entries, ending_entries, rest_entries, input_entries, left_after, step_entries, aged_entries}
 use Rattle.link_laws.specs.entries.Entries.{tick_entries}
 use Rattle.link_laws.specs.entries.Entries.End.{Controller, Host}
-use Rattle.link_laws.specs.entries.Entries.Entry.{Took, Lost, Restarted, Cut}
+use Rattle.link_laws.specs.entries.Entries.Entry.{Took, Restarted, Cut}
 use Rattle.history.specs.Steps.{entry_of, entries_for}
-use Rattle.node_machine.specs.Parts.{Port, Work}
+use Rattle.node_machine.specs.Parts.{Work}
 use Rattle.node_machine.specs.Carrying.{port_at}
 use Rattle.node_machine.specs.world.World.{Site, input_of, ending_of, frames_noted}
 use Rattle.node_laws.specs.telling.Telling.{of_link}
 use Rattle.node_laws.specs.telling.Standing.{Standing, stands_told, without_power, stands_noted, after_power, standing, law_noted, standing_by_law}
+use Rattle.node_laws.proofs.Cases.{by_option, by_test}
 use Rattle.node_laws.proofs.telling.Reported.{told_all}
 use Rattle.node_laws.proofs.telling.Walks.{AreUncut}
 use Rattle.node_laws.proofs.telling.Powers.{standing_said, uncut_said, said_of_link, AreClear, clear_said, uncut_flat, entries_uncut, Powered, IsClear}
@@ -62,11 +62,7 @@ clear_lost who why [] = tt
 clear_lost who why (x ∷ xs) = (tt, tt)
 
 clear_pushed : (who : Side) (wire : List OnWire) → AreClear (pushed_out who wire)
-clear_pushed who wire = go (nat_lt 64 (length wire))
-  where
-    go : (b : Bool) → AreClear (cond b (first_lost who TooMany wire) [])
-    go true = clear_lost who TooMany wire
-    go false = tt
+clear_pushed who wire = by_test (nat_lt 64 (length wire)) (λ q. rw q (clear_lost who TooMany wire)) (λ q. rw q tt)
 
 clear_puts : (who : Side) (l : Link) (cs : List Control) → AreClear (puts_entries who l cs)
 clear_puts who l [] = tt
@@ -78,11 +74,7 @@ clear_puts who l (c ∷ cs) = (
 
 pub clear_aged : (who : Side) (xs : List OnWire) → AreClear (aged_entries who xs)
 clear_aged who [] = tt
-clear_aged who (x ∷ xs) = go (nat_lt x.age 4) (clear_aged who xs)
-  where
-    go : (b : Bool) → AreClear (aged_entries who xs) → AreClear (cond b (aged_entries who xs) (Lost who x.frame TooOld ∷ aged_entries who xs))
-    go true later = later
-    go false later = (tt, later)
+clear_aged who (x ∷ xs) = by_test (nat_lt x.age 4) (λ q. rw q (clear_aged who xs)) (λ q. rw q (tt, clear_aged who xs))
 
 -- ## Steps
 
@@ -292,21 +284,13 @@ step_away h n powers w frames a uncut none x =
 -- ## Frames
 
 pub frames_uncut : (who : Side) (h : ℕ) (l : Link) (w : Work) → AreUncut (frames_noted who h l w)
-frames_uncut who h l w = go (port_at w.ports h)
-  where
-    go : (o : Option Port) → AreUncut (option_map_or (λ (p : Port). entries_for h (ending_entries who l p.side (ending_of w))) o [])
-    go None = tt
-    go (Some p) = entries_uncut h (ending_entries who l p.side (ending_of w))
+frames_uncut who h l w = by_option (port_at w.ports h) (λ q. rw q tt) (λ p q. rw q (entries_uncut h (ending_entries who l p.side (ending_of w))))
 
 pub frames_none : (who : Side) (h : ℕ) (l : Link) (w : Work) → w.cut ≡ true → frames_noted who h l w ≡ []
-frames_none who h l w q = go (port_at w.ports h)
+frames_none who h l w q = by_option (port_at w.ports h) (λ is. rw is refl) (λ p is. rw is (ap (out p.side) q))
   where
     out : LinkEnd → Bool → List Entry
     out e b = entries_for h (ending_entries who l e (cond b CutOff GoesOut))
-
-    go : (o : Option Port) → option_map_or (λ (p : Port). entries_for h (ending_entries who l p.side (ending_of w))) o [] ≡ []
-    go None = refl
-    go (Some p) = ap (out p.side) q
 
 pub own_frames : (who : Side) (h : ℕ) (l : Link) (w : Work) → AreUncut (frames_noted who h l w) × (w.cut ≡ true → frames_noted who h l w ≡ [])
 own_frames who h l w = (frames_uncut who h l w, frames_none who h l w)

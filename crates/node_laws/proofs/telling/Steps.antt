@@ -1,5 +1,5 @@
 -- What a node notes of a link in a step is what the law of one link notes of the step of that end.
-use Rattle.std.proofs.Common.{◌≡◌, ℕ, ◌==◌, Bool, true, false, List, [], ◌∷◌, ◌++◌, Option, Some, None, map, refl, ap, sym, subst, ◌∙◌, append-nil}
+use Rattle.std.proofs.Common.{◌≡◌, ℕ, ◌==◌, Bool, false, List, [], ◌∷◌, ◌++◌, Option, Some, None, map, refl, ap, sym, subst, ◌∙◌, append-nil}
 use Rattle.std.proofs.Common.{append_assoc}
 use Rattle.std.specs.List.{AllByRecursion, find, flat_map, list_any}
 use Rattle.std.specs.Option.{option_map_or}
@@ -7,7 +7,7 @@ use Rattle.std.proofs.lemmas.Bool.{eqb-true}
 use Rattle.std.proofs.lemmas.List.Concat.{flat_map-append}
 use Rattle.trace_model.specs.declared.entry.Entry.{Entry}
 use Rattle.link_laws.specs.machine.Machine.{LinkEnd, LinkInput, Turn, turned, after_input, report, whole_acked}
-use Rattle.link_laws.specs.messages.Links.{Link, NumberedEnd, Comes, number_of}
+use Rattle.link_laws.specs.messages.Links.{Link, Comes, number_of}
 use Rattle.link_laws.specs.entries.Entries.{End as Side, Entry as Noted, told, turn_entries, ending_entries, step_entries}
 use Rattle.history.specs.Steps.{entry_of, entries_for}
 use Rattle.node_machine.specs.Parts.{Core, Port, Work, Deed}
@@ -20,7 +20,7 @@ use Rattle.node_machine.specs.world.World.{input_of, near_end_in, arrival, wires
 use Rattle.node_laws.specs.kept.Books.{hosts_of_ends}
 use Rattle.node_laws.specs.kept.Hosts.{AreDifferent}
 use Rattle.node_laws.specs.telling.Telling.{of_link}
-use Rattle.node_laws.proofs.Cases.{by_test}
+use Rattle.node_laws.proofs.Cases.{by_test, by_option}
 use Rattle.node_laws.proofs.telling.Mute.{AreMute, forgotten_mute, all_owed_mute, all_synced_mute}
 use Rattle.node_laws.proofs.telling.Walks.{all_do, rest}
 use Rattle.node_laws.proofs.telling.Accounts.{of-append, of_other, at_host, SameEnd, Account, note, desk, turns, beside}
@@ -34,7 +34,12 @@ use Rattle.node_laws.proofs.steps.Ports.{come_host, forgets_host, without_host}
 pub only : {X : Type 0} (key : X → ℕ) (f : X → List Entry) (h : ℕ) → ((x : X) → (key x == h) ≡ false → of_link h (f x) ≡ []) → (xs : List X) (x : X)
     → AreDifferent (map key xs) → find (λ y. key y == h) xs ≡ Some x → of_link h (flat_map f xs) ≡ of_link h (f x)
 only {X} key f h others [] x d q = cc
-only {X} key f h others (y ∷ xs) x d q = go (key y == h) refl (only key f h others xs x d.1)
+only {X} key f h others (y ∷ xs) x d q = by_test (key y == h)
+    (λ e. let is : Some y ≡ Some x = rw e at q in
+    let one : y ≡ x = cc in
+    let A : ℕ → Type 0 = λ n. AllByRecursion (λ k. (k == n) ≡ false) (map key xs) in
+    both ∙ (ap (λ t. of_link h (f y) ++ t) (none xs (subst A (eqb-true (key y) h e) d.0)) ∙ (append-nil (of_link h (f y)) ∙ ap (λ z. of_link h (f z)) one)))
+    (λ e. both ∙ (ap (λ t. t ++ of_link h (flat_map f xs)) (others y e) ∙ only key f h others xs x d.1 (rw e at q)))
   where
     none : (ys : List X) → AllByRecursion (λ k. (k == h) ≡ false) (map key ys) → of_link h (flat_map f ys) ≡ []
     none [] a = refl
@@ -42,15 +47,6 @@ only {X} key f h others (y ∷ xs) x d q = go (key y == h) refl (only key f h ot
 
     both : of_link h (flat_map f (y ∷ xs)) ≡ of_link h (f y) ++ of_link h (flat_map f xs)
     both = of-append h (f y) (flat_map f xs)
-
-    go : (b : Bool) → (key y == h) ≡ b → (find (λ z. key z == h) xs ≡ Some x → of_link h (flat_map f xs) ≡ of_link h (f x))
-        → of_link h (flat_map f (y ∷ xs)) ≡ of_link h (f x)
-    go true e later =
-        let is : Some y ≡ Some x = rw e at q in
-        let one : y ≡ x = cc in
-        let A : ℕ → Type 0 = λ n. AllByRecursion (λ k. (k == n) ≡ false) (map key xs) in
-        both ∙ (ap (λ t. of_link h (f y) ++ t) (none xs (subst A (eqb-true (key y) h e) d.0)) ∙ (append-nil (of_link h (f y)) ∙ ap (λ z. of_link h (f z)) one))
-    go false e later = both ∙ (ap (λ t. t ++ of_link h (flat_map f xs)) (others y e) ∙ later (rw e at q))
 
 pub notes-append : (h : ℕ) (a b : List Noted) → of_link h (entries_for h (a ++ b)) ≡ of_link h (entries_for h a) ++ of_link h (entries_for h b)
 notes-append h a b = ap (of_link h) (flat_map-append (entry_of h) a b) ∙ of-append h (entries_for h a) (entries_for h b)
@@ -110,9 +106,6 @@ pub record Opening (h : ℕ) (who : Side) (l : Link) (comes : Comes) (w : Work) 
   pub different : AreDifferent (hosts_of_ends w.ports)
 
 module _ (h : ℕ) (who : Side) (l : Link) (comes : Comes) (o : Option LinkInput) where
-  near_end : NumberedEnd
-  near_end = near_end_in l comes
-
   abbrev pub before : List Entry
   before = of_link h (entries_for h (arrival who l comes)) ++ of_link h (entries_for h (told_coming who (near_end_in l comes) o))
 
@@ -181,11 +174,9 @@ module _ (h : ℕ) (who : Side) (l : Link) (comes : Comes) (o : Option LinkInput
           ∙ ap (λ z. entries_for h (told who (number_of (near_end_in l comes)) (report z j) (whole_acked (after_input z j)))) a.is))
 
       others : (x : Port) → (x.desk.host == h) ≡ false → of_link h (told_at w.core x (input_at input x)) ≡ []
-      others x z = go (input_at input x)
-        where
-          go : (y : Option LinkInput) → of_link h (told_at w.core x y) ≡ []
-          go None = refl
-          go (Some j) = of_other x.desk.host h (told (own_side w.core) x.session (report x.side j) (whole_acked (after_input x.side j))) z
+      others x z = by_option (input_at input x)
+          (λ q. rw q refl)
+          (λ j q. rw q (of_other x.desk.host h (told (own_side w.core) x.session (report x.side j) (whole_acked (after_input x.side j))) z))
 
       notes : List Entry
       notes = flat_map (λ p. told_at w.core p (input_at input p)) w.ports
@@ -257,11 +248,7 @@ module _ (h : ℕ) (who : Side) (l : Link) (comes : Comes) (o : Option LinkInput
 -- ## A node that has no end on the link
 
 pub frames_of : (h k : ℕ) (who : Side) (l : Link) (w : Work) → (k == h) ≡ false → of_link h (frames_noted who k l w) ≡ []
-frames_of h k who l w q = go (port_at w.ports k)
-  where
-    go : (x : Option Port) → of_link h (option_map_or (λ (p : Port). entries_for k (ending_entries who l p.side (ending_of w))) x []) ≡ []
-    go None = refl
-    go (Some p) = of_other k h (ending_entries who l p.side (ending_of w)) q
+frames_of h k who l w q = by_option (port_at w.ports k) (λ is. rw is refl) (λ p is. rw is (of_other k h (ending_entries who l p.side (ending_of w)) q))
 
 module _ (h : ℕ) where
   away_come : (k : ℕ) (i : LinkInput) (w : Work) → Away h w → (ports : List Port)
@@ -288,13 +275,10 @@ module _ (h : ℕ) where
 
       all : (ports : List Port) → port_at ports h ≡ None → of_link h (flat_map f ports) ≡ []
       all [] q = refl
-      all (p ∷ ports) q = go (p.desk.host == h) refl (all ports)
-        where
-          go : (b : Bool) → (p.desk.host == h) ≡ b → (port_at ports h ≡ None → of_link h (flat_map f ports) ≡ []) → of_link h (flat_map f (p ∷ ports)) ≡ []
-          go true e later = let is : Some p ≡ None = rw e at q in absurd (cc is)
-          go false e later =
-              of-append h (f p) (flat_map f ports)
-              ∙ (ap (λ t. t ++ of_link h (flat_map f ports)) (one p (input_at input p) e) ∙ later (rw e at q))
+      all (p ∷ ports) q = by_test (p.desk.host == h)
+          (λ e. let is : Some p ≡ None = rw e at q in absurd (cc is))
+          (λ e. of-append h (f p) (flat_map f ports)
+          ∙ (ap (λ t. t ++ of_link h (flat_map f ports)) (one p (input_at input p) e) ∙ all ports (rw e at q)))
 
   pub away_steps : (k : ℕ) (i : LinkInput) (w : Work) → Away h w → Away h (steps (AtEnd k i) w)
   away_steps k i w a =

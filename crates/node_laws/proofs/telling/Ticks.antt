@@ -1,6 +1,6 @@
 -- What a node notes of a link in its tick.
 use Rattle.std.proofs.Common.{◌≡◌, ℕ, ◌==◌, Bool, true, false, List, [], ◌∷◌, ◌++◌, Option, Some, None, map, refl, ap, sym, subst, ◌∙◌, append-nil}
-use Rattle.std.specs.Prelude.{nat_le, ◌+◌, ◌&&◌, cond, is_some}
+use Rattle.std.specs.Prelude.{nat_le, ◌+◌, ◌&&◌, is_some}
 use Rattle.std.specs.List.{flat_map}
 use Rattle.std.proofs.lemmas.Bool.{eqb-true}
 use Rattle.trace_model.specs.declared.entry.Entry.{Entry}
@@ -74,11 +74,7 @@ told_other : (h : ℕ) (core : Core) (i : LinkInput) (p : Port) → (p.desk.host
 told_other h core i p q = of_other p.desk.host h (told (own_side core) p.session (report p.side i) (whole_acked (after_input p.side i))) q
 
 late_other : (h : ℕ) (core : Core) (p : Port) → (p.desk.host == h) ≡ false → of_link h (told_late core p) ≡ []
-late_other h core p q = go (is_late p)
-  where
-    go : (b : Bool) → of_link h (cond b (told_at core p (Some (Reset None))) []) ≡ []
-    go true = told_other h core (Reset None) p q
-    go false = refl
+late_other h core p q = by_test (is_late p) (λ is. rw is (told_other h core (Reset None) p q)) (λ is. rw is refl)
 
 -- ## A tick of a node
 
@@ -251,11 +247,9 @@ module _ (h : ℕ) where
   silent : (core : Core) (f : Port → List Entry) → ((p : Port) → (p.desk.host == h) ≡ false → of_link h (f p) ≡ []) → (ports : List Port)
       → port_at ports h ≡ None → of_link h (flat_map f ports) ≡ []
   silent core f one [] q = refl
-  silent core f one (p ∷ ports) q = go (p.desk.host == h) refl (silent core f one ports)
-    where
-      go : (b : Bool) → (p.desk.host == h) ≡ b → (port_at ports h ≡ None → of_link h (flat_map f ports) ≡ []) → of_link h (flat_map f (p ∷ ports)) ≡ []
-      go true e later = let is : Some p ≡ None = rw e at q in absurd (cc is)
-      go false e later = of-append h (f p) (flat_map f ports) ∙ (ap (λ t. t ++ of_link h (flat_map f ports)) (one p e) ∙ later (rw e at q))
+  silent core f one (p ∷ ports) q = by_test (p.desk.host == h)
+      (λ e. let is : Some p ≡ None = rw e at q in absurd (cc is))
+      (λ e. of-append h (f p) (flat_map f ports) ∙ (ap (λ t. t ++ of_link h (flat_map f ports)) (one p e) ∙ silent core f one ports (rw e at q)))
 
   away_first : (w : Work) → Away h w → (ports : List Port)
       → Away h (record (times_out TimePasses (all_come TimePasses w)) {

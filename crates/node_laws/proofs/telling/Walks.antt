@@ -18,6 +18,7 @@ use Rattle.node_machine.specs.Parts.Deed.{Commits, Sends, SaysOk, Asks, Releases
 use Rattle.node_machine.specs.Carrying.{end_of_node, noting, with_desk, turn_at, notified, loses_power, keeps, commit, done, all_done}
 use Rattle.node_machine.specs.Turns.{handles, holds_back, lets_go}
 use Rattle.node_machine.specs.Node.{answers_and_passes}
+use Rattle.node_laws.proofs.Cases.{by_test}
 use Rattle.node_laws.proofs.steps.StepWalks.{got_at, all_do as all_done_so, lets as lets_as, holds as holds_as, Lasts, handled, rest_lasts as rest_as}
 use Rattle.node_machine.proofs.Walks.{anyone}
 use Rattle.node_laws.specs.telling.Telling.{tells_of}
@@ -66,7 +67,9 @@ module _ (Of : Work → Type 0)
     (beside : (w v : Work) → v.cut ≡ w.cut → v.core.node ≡ w.core.node → v.ports ≡ w.ports → v.entries ≡ w.entries → Of w → Of v)
     (loses : (writes : List Write) (w : Work) → Of w → Of (loses_power writes w)) where
   commits : (c : Command) (w : Work) → Of w → Of (commit c w)
-  commits c w a = go (fails_within (length writes) w.plan)
+  commits c w a = by_test (fails_within (length writes) w.plan)
+      (λ q. rw q (loses writes begun noted))
+      (λ q. rw q (beside begun (keeps c writes begun) refl refl refl refl noted))
     where
       writes : List Write
       writes = commit_writes w.core.journal w.core.tables (body_of c)
@@ -76,14 +79,6 @@ module _ (Of : Work → Type 0)
 
       noted : Of begun
       noted = note (entry.Command w.core.node c ∷ []) w (tt, tt) a
-
-      by : Bool → Work
-      by true = loses_power writes begun
-      by false = keeps c writes begun
-
-      go : (b : Bool) → Of (by b)
-      go true = loses writes begun noted
-      go false = beside begun (keeps c writes begun) refl refl refl refl noted
 
   tells : (k : ℕ) (about : About) (message : List ℕ) (w : Work) → Of w → Of (notified k about message w)
   tells k about message w a =

@@ -35,6 +35,7 @@ use Rattle.node_laws.specs.kept.Hosts.{AreDifferent}
 use Rattle.node_machine.proofs.world.Cases.{near_tick, by_controller_tick, host_tick, after_tick, by_host_tick, site_ticked, site_unticked}
 use Rattle.node_laws.specs.telling.Telling.{of_link, TellOf, HasEnds, IfItRuns, hosts_in, IsOrderly, GoesSo, Tells, is_due, NoneDue, IfOff, IfDue, IsTimely}
 use Rattle.node_laws.specs.telling.Standing.{Standing, without_power, stands_noted, standing, law_noted, standing_by_law, StandsOf}
+use Rattle.node_laws.proofs.Cases.{by_test}
 use Rattle.node_laws.proofs.telling.Walks.{AreUncut}
 use Rattle.node_laws.proofs.telling.Powers.{uncut_flat, entries_uncut, clear_stands, steps_powered}
 use Rattle.node_laws.proofs.telling.Shapes.{clear-append, clear_aged, IsShaped, IsStepShaped, shaped_tick, shaped_step, twice, step_stands, step_away}
@@ -52,28 +53,21 @@ use Rattle.node_laws.proofs.telling.Ticks.{older, not_late, late_parts, IfLate, 
 pub young_ports : (near_ends : ℕ → NumberedEnd) (desks : List Desk) (h : ℕ) (p : Port) → AllByRecursion (λ (d : Desk). is_due d ≡ false) desks
     → port_at (ports_for near_ends desks) h ≡ Some p → is_due p.desk ≡ false
 young_ports near_ends [] h p a q = absurd (cc q)
-young_ports near_ends (d ∷ desks) h p a q = go (d.host == h) refl (young_ports near_ends desks h p a.1)
-  where
-    go : (b : Bool) → (d.host == h) ≡ b → (port_at (ports_for near_ends desks) h ≡ Some p → is_due p.desk ≡ false) → is_due p.desk ≡ false
-    go true e later =
-        let is : Some (port_for (near_ends d.host) d) ≡ Some p = rw e at q in
-        let one : port_for (near_ends d.host) d ≡ p = cc in
-        let P : Port → Type 0 = λ z. is_due z.desk ≡ false in subst P one a.0
-    go false e later = later (rw e at q)
+young_ports near_ends (d ∷ desks) h p a q = by_test (d.host == h)
+    (λ e. let is : Some (port_for (near_ends d.host) d) ≡ Some p = rw e at q in
+    let one : port_for (near_ends d.host) d ≡ p = cc in
+    let P : Port → Type 0 = λ z. is_due z.desk ≡ false in subst P one a.0)
+    (λ e. young_ports near_ends desks h p a.1 (rw e at q))
 
 -- the desk of an end
 desk_found : (near_ends : ℕ → NumberedEnd) (desks : List Desk) (h : ℕ) (p : Port) → port_at (ports_for near_ends desks) h ≡ Some p
     → find (λ d. d.host == h) desks ≡ Some p.desk
 desk_found near_ends [] h p q = absurd (cc q)
-desk_found near_ends (d ∷ desks) h p q = go (d.host == h) refl (desk_found near_ends desks h p)
-  where
-    go : (b : Bool) → (d.host == h) ≡ b → (port_at (ports_for near_ends desks) h ≡ Some p → find (λ d. d.host == h) desks ≡ Some p.desk)
-        → find (λ d. d.host == h) (d ∷ desks) ≡ Some p.desk
-    go true e later =
-        let is : Some (port_for (near_ends d.host) d) ≡ Some p = rw e at q in
-        let one : port_for (near_ends d.host) d ≡ p = cc in
-        rw e (ap (λ (z : Port). Some z.desk) one)
-    go false e later = rw e (later (rw e at q))
+desk_found near_ends (d ∷ desks) h p q = by_test (d.host == h)
+    (λ e. let is : Some (port_for (near_ends d.host) d) ≡ Some p = rw e at q in
+    let one : port_for (near_ends d.host) d ≡ p = cc in
+    rw e (ap (λ (z : Port). Some z.desk) one))
+    (λ e. rw e (desk_found near_ends desks h p (rw e at q)))
 
 -- what a node did to an end in its tick
 abbrev pub had : Work → ℕ → Node
@@ -175,21 +169,16 @@ module _ (h : ℕ) where
 
   hosts_at : (sites : List Site) (x : Site) → site_at sites h ≡ Some x → site_at (hosts_tick sites).0 h ≡ Some (host_ticks x).0
   hosts_at [] x q = absurd (cc q)
-  hosts_at (y ∷ sites) x q = go (y.host == h) refl (hosts_at sites x)
+  hosts_at (y ∷ sites) x q = by_test (y.host == h)
+      (λ e. let is : Some y ≡ Some x = rw e at q in
+      let one : y ≡ x = cc in
+      let passes : ((host_ticks y).0.host == h) ≡ true = same ∙ e in
+      rw passes (ap (λ (z : Site). Some (host_ticks z).0) one))
+      (λ e. let fails : ((host_ticks y).0.host == h) ≡ false = same ∙ e in
+      rw fails (hosts_at sites x (rw e at q)))
     where
       same : ((host_ticks y).0.host == h) ≡ (y.host == h)
       same = ap (λ n. n == h) (tick_host y)
-
-      go : (c : Bool) → (y.host == h) ≡ c → (site_at sites h ≡ Some x → site_at (hosts_tick sites).0 h ≡ Some (host_ticks x).0)
-          → site_at (hosts_tick (y ∷ sites)).0 h ≡ Some (host_ticks x).0
-      go true e later =
-          let is : Some y ≡ Some x = rw e at q in
-          let one : y ≡ x = cc in
-          let passes : ((host_ticks y).0.host == h) ≡ true = same ∙ e in
-          rw passes (ap (λ (z : Site). Some (host_ticks z).0) one)
-      go false e later =
-          let fails : ((host_ticks y).0.host == h) ≡ false = same ∙ e in
-          rw fails (later (rw e at q))
 
 -- the turns of a host in its tick
 abbrev pub host_turns : Site → Option Running → List Turn
@@ -520,9 +509,6 @@ module _ (w : NodeWorld) (h : ℕ) (s : Site) (orderly : IsOrderly w) (found : s
   far_told =
       let P : ℕ → Type 0 = λ m. of_link m (host_ticks mine).1 ≡ of_link m (entries_for m far_notes) in
       hosts_only h (controller_ticks old).0.sites mine next_orderly.different next_orderly.hosts next_orderly.nodes first.there ∙ subst P number second.told
-
-  O : List Noted → List Entry
-  O z = of_link h (entries_for h z)
 
   told_all : of_link h (world_ticks w).1 ≡ of_link h (entries_for h (aged_notes s ++ (near_notes first.late (aged s.link) first.had ++ far_notes)))
   told_all =

@@ -1,5 +1,5 @@
 -- What the events of a world tell of each link.
-use Rattle.std.proofs.Common.{◌≡◌, ℕ, ◌==◌, Bool, true, false, List, [], ◌∷◌, ◌++◌, Option, Some, None, refl, ap, sym, subst, ◌∙◌}
+use Rattle.std.proofs.Common.{◌≡◌, ℕ, ◌==◌, false, List, [], ◌∷◌, ◌++◌, Option, Some, None, refl, ap, sym, subst, ◌∙◌}
 use Rattle.std.specs.List.{AllByRecursion}
 use Rattle.trace_model.specs.declared.entry.Entry.{Entry}
 use Rattle.link_laws.specs.machine.Machine.{LinkInput}
@@ -14,20 +14,18 @@ use Rattle.node_machine.specs.Node.NodeInput.{AtEnd}
 use Rattle.node_machine.specs.world.World.{Site, NodeWorld, site_at, input_of, ending_of, turns_at, frames_noted, wires_for, host_work, host_does}
 use Rattle.node_laws.specs.telling.Telling.{of_link, TellOf, HasEnds, IsOrderly, IfItRuns}
 use Rattle.node_laws.specs.telling.Standing.{Standing, standing, StandsOf}
+use Rattle.node_laws.proofs.Cases.{by_test}
 use Rattle.node_laws.proofs.telling.Mute.{AreMute}
 use Rattle.node_laws.proofs.telling.Nodes.{site_host, HostTells, host_steps, host_begins}
 
 -- the site with a number is one of them
 pub site_is : (P : Site → Type 0) (sites : List Site) (h : ℕ) (s : Site) → AllByRecursion P sites → site_at sites h ≡ Some s → P s
 site_is P [] h s a q = absurd (cc q)
-site_is P (x ∷ sites) h s a q = go (x.host == h) refl (site_is P sites h s a.1)
-  where
-    go : (b : Bool) → (x.host == h) ≡ b → (site_at sites h ≡ Some s → P s) → P s
-    go true e later =
-        let is : Some x ≡ Some s = rw e at q in
-        let one : x ≡ s = cc in
-        subst P one a.0
-    go false e later = later (rw e at q)
+site_is P (x ∷ sites) h s a q = by_test (x.host == h)
+    (λ e. let is : Some x ≡ Some s = rw e at q in
+    let one : x ≡ s = cc in
+    subst P one a.0)
+    (λ e. site_is P sites h s a.1 (rw e at q))
 
 pub node_is : (n : ℕ) (hosts : List ℕ) (o : Option Running) (r : Running) → IfItRuns n hosts o → o ≡ Some r → HasEnds n hosts r
 node_is n hosts None r a q = absurd (cc q)

@@ -119,11 +119,7 @@ IfComing None = Unit {0}
 IfComing (Some i) = IsComing i
 
 comes_outside : (input : NodeInput) (k : ℕ) → IsOutside input → IfComing (input_on input k)
-comes_outside (AtEnd h i) k a = go (k == h)
-  where
-    go : (b : Bool) → IfComing (cond b (Some i) None)
-    go true = a
-    go false = tt
+comes_outside (AtEnd h i) k a = by_test (k == h) (λ q. rw q a) (λ q. rw q tt)
 comes_outside TimePasses k a = tt
 
 -- an end as a step begins: it is s, and these messages wait there; where the node doesn't have the end, no end of it is on its side
@@ -232,16 +228,12 @@ module _ (e : End) (who : Side) (own : Bool) (mine : own ≡ true → has_side w
         came_is (Some i) = ap (λ (z : LinkEnd). (after_input z i).got) (sym f.1)
     knows_come false p here f = (refl, f)
 
-    knows_none : (b : Bool) → Knows e who begin came b (then_waits b None) None
-    knows_none true = tt
-    knows_none false = refl
-
     knows_all : (ports : List Port) → Fresh e who own s begin (port_at ports e.link)
         → Knows e who begin came own (then_waits own (port_at ports e.link)) (port_at (map comes ports) e.link)
     knows_all ports f =
         map_is comes (λ p. come_host p (input_at input p)) ports e.link
         (λ o. Knows e who begin came own (then_waits own (port_at ports e.link)) o)
-        (λ q. subst (λ o. Knows e who begin came own (then_waits own o) None) (sym q) (knows_none own))
+        (λ q. subst (λ o. Knows e who begin came own (then_waits own o) None) (sym q) (by_test own (λ q. rw q tt) (λ q. rw q refl)))
         (λ p q. subst (λ o. Knows e who begin came own (then_waits own o) (Some (comes p))) (sym q)
         (knows_come own p (at_host ports e.link p q) (subst (λ o. Fresh e who own s begin o) q f)))
 

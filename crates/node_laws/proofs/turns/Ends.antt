@@ -1,5 +1,5 @@
 -- The messages that came at an end of a link and weren't fetched, over all that happens there.
-use Rattle.std.proofs.Common.{◌≡◌, Bool, true, false, cond, List, [], ◌∷◌, ◌++◌, Option, Some, None, refl, ap, sym, ◌∙◌, append-nil}
+use Rattle.std.proofs.Common.{◌≡◌, Bool, true, List, [], ◌∷◌, ◌++◌, Option, Some, None, refl, ap, sym, ◌∙◌, append-nil}
 use Rattle.std.specs.Prelude.{drop, is_some, not, ◌&&◌}
 use Rattle.swp_act.specs.declared.ActEvent.TheVariants.{Start as ActStart, Tick as ActTick, Stop as ActStop}
 use Rattle.shdlc_core.specs.Machine.{is_waiting, ticked, tick_answer, stopped}
@@ -112,9 +112,6 @@ ticks_got l ts ending = input_had l Tick ts ending ∙ ap (λ ms. ended_with end
 
 pub late_got : (l : Link) (late : Bool) (ts : List Turn) (ending : Ending)
     → (ticked_so l late ts ending).controller.side.got ≡ ended_with ending (left_by ts l.controller.side.got)
-late_got l late ts ending = go (late && not (is_waiting l.controller.side.shdlc))
-  where
-    go : (b : Bool) → (cond b (has_input l (Reset None) ts ending) (ticks_at_controller l ts ending)).controller.side.got
-        ≡ ended_with ending (left_by ts l.controller.side.got)
-    go true = input_had l (Reset None) ts ending ∙ ap (λ ms. ended_with ending (left_by ts ms)) (reset_got l.controller.side None)
-    go false = ticks_got l ts ending
+late_got l late ts ending = by_test (late && not (is_waiting l.controller.side.shdlc))
+    (λ q. rw q (input_had l (Reset None) ts ending ∙ ap (λ ms. ended_with ending (left_by ts ms)) (reset_got l.controller.side None)))
+    (λ q. rw q (ticks_got l ts ending))

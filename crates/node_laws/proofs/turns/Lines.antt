@@ -12,6 +12,7 @@ use Rattle.node_machine.specs.world.NodeHistories.{NodeHistory, FollowsNodes, no
 use Rattle.node_machine.specs.world.NodeLegal.{AreInTurn}
 use Rattle.node_laws.specs.kept.Hosts.{AreDifferent}
 use Rattle.node_laws.specs.telling.Telling.{IsOrderly, MayBoot}
+use Rattle.node_laws.proofs.Cases.{by_option}
 use Rattle.node_laws.proofs.telling.Lasting.{AnyLine, boots_may, all_lines, entries_of_steps, lines_last}
 use Rattle.node_laws.proofs.telling.Orderly.{step_orderly, new_orderly}
 use Rattle.node_laws.proofs.telling.Worlds.{site_is}
@@ -59,18 +60,13 @@ are_new content [] = tt
 are_new content (h ∷ hosts) = (record { off = refl; near = refl; far = refl }, are_new content hosts)
 
 pub none_wait : (hosts : List ℕ) (b : Bool) (h : ℕ) → Waits (new_world hosts) b h []
-none_wait hosts true h = go (site_at (new_world hosts).sites h) refl
-  where
-    go : (o : Option Site) → site_at (new_world hosts).sites h ≡ o → FarWaits [] o
-    go None q = tt
-    go (Some s) q =
-        let new : IsNew s = site_is IsNew (new_world hosts).sites h s (are_new (replicate 65536 255) hosts) q in
-        subst (λ (o : Option Running). ByPower (is_some o) [] s.link.host.side.got) (sym new.off) new.far
-none_wait hosts false h = go (site_at (new_world hosts).sites h) refl
-  where
-    go : (o : Option Site) → site_at (new_world hosts).sites h ≡ o → NearWaits None [] o
-    go None q = tt
-    go (Some s) q = (site_is IsNew (new_world hosts).sites h s (are_new (replicate 65536 255) hosts) q).near
+none_wait hosts true h = by_option (site_at (new_world hosts).sites h)
+    (λ q. rw q tt)
+    (λ s q. rw q (let new : IsNew s = site_is IsNew (new_world hosts).sites h s (are_new (replicate 65536 255) hosts) q in
+    subst (λ (o : Option Running). ByPower (is_some o) [] s.link.host.side.got) (sym new.off) new.far))
+none_wait hosts false h = by_option (site_at (new_world hosts).sites h)
+    (λ q. rw q tt)
+    (λ s q. rw q (site_is IsNew (new_world hosts).sites h s (are_new (replicate 65536 255) hosts) q).near)
 
 module _ (header : Header) (lines : List Line) (t : NodeHistory) (follows : FollowsNodes header lines t) (different : AreDifferent header.hosts.items)
     (numbers : AllByRecursion (λ h. (h == 0) ≡ false) header.hosts.items) where

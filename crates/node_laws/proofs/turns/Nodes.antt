@@ -8,10 +8,9 @@ use Rattle.trace_model.specs.declared.line.End.{End}
 use Rattle.swp_base.specs.InMemory.{Memory}
 use Rattle.link_laws.proofs.entries.Lasting.{same_number}
 use Rattle.link_laws.specs.machine.Machine.{Message, LinkEnd, LinkInput, Turn, after_input}
-use Rattle.link_laws.specs.machine.Machine.LinkInput.{Reset}
 use Rattle.shdlc_core.specs.Machine.{is_waiting}
 use Rattle.journal_laws.specs.Planned.{after_planned}
-use Rattle.link_laws.specs.messages.Links.{Link, NumberedEnd, Ending, Comes, exchanged, has_input, steps_at_controller, ticks_at_controller}
+use Rattle.link_laws.specs.messages.Links.{Link, NumberedEnd, Ending, Comes, exchanged, steps_at_controller}
 use Rattle.link_laws.specs.messages.Links.Comes.{AsksReset, NoInput}
 use Rattle.link_laws.specs.messages.Links.EndEvent.{Step}
 use Rattle.link_laws.specs.entries.Entries.{End as Side}
@@ -202,20 +201,16 @@ module _ (s : Site) (r : Running) (k : ℕ) (number : s.host ≡ k) (runs : s.no
 no_port : (ports : List Port) (sites : List Site) (h : ℕ) → hosts_of_ends ports ≡ hosts_in sites → site_at sites h ≡ None → port_at ports h ≡ None
 no_port [] sites h e q = refl
 no_port (p ∷ ports) [] h e q = absurd (cc e)
-no_port (p ∷ ports) (x ∷ sites) h e q = go (x.host == h) refl (no_port ports sites h)
+no_port (p ∷ ports) (x ∷ sites) h e q = by_test (x.host == h)
+    (λ z. let is : Some x ≡ None = rw z at q in absurd (cc is))
+    (λ z. let passed : (p.desk.host == h) ≡ false = ap (λ n. n == h) one ∙ z in
+    rw passed (no_port ports sites h others (rw z at q)))
   where
     one : p.desk.host ≡ x.host
     one = cc
 
     others : hosts_of_ends ports ≡ hosts_in sites
     others = cc
-
-    go : (b : Bool) → (x.host == h) ≡ b → (hosts_of_ends ports ≡ hosts_in sites → site_at sites h ≡ None → port_at ports h ≡ None)
-        → port_at (p ∷ ports) h ≡ None
-    go true z later = let is : Some x ≡ None = rw z at q in absurd (cc is)
-    go false z later =
-        let passed : (p.desk.host == h) ≡ false = ap (λ n. n == h) one ∙ z in
-        rw passed (later others (rw z at q))
 
 module _ (w : NodeWorld) (r : Running) (memory : Memory) (near_ends : ℕ → NumberedEnd) (came : ℕ → List Message) (begun k : Work) (g : Site → Site)
     (frames : List Entry) (runs : w.controller ≡ Some r) (node : HasEnds 0 (hosts_in w.sites) r) (ports : begun.ports ≡ ports_for near_ends r.desks)
@@ -345,12 +340,9 @@ module _ (w : NodeWorld) (r : Running) (runs : w.controller ≡ Some r) (node : 
               ∙ ap (λ b. (after_coming (near_end_in (link_to w.sites h) (comes_to k comes h)).side (cond b (Some i) None)).got) (sym e)))
 
   late_host : (l : Link) (late : Bool) (ts : List Turn) (ending : Ending) → (ticked_so l late ts ending).host ≡ l.host
-  late_host l late ts ending = go (late && not (is_waiting l.controller.side.shdlc))
-    where
-      go : (b : Bool) → (cond b (has_input l (Reset None) ts ending)
-          (ticks_at_controller l ts ending)).host ≡ l.host
-      go true = here_host l (Step (AsksReset None) ts ending)
-      go false = tick_host l ts ending
+  late_host l late ts ending = by_test (late && not (is_waiting l.controller.side.shdlc))
+      (λ q. rw q (here_host l (Step (AsksReset None) ts ending)))
+      (λ q. rw q (tick_host l ts ending))
 
   pub controller_ticked : AllMove w (record {
     memory = after_planned (steps TimePasses (starting (λ h. (link_to w.sites h).controller) [])).writes w.memory;

@@ -1,5 +1,5 @@
 -- The messages that came at an end and had no turn, as they are read off entries.
-use Rattle.std.proofs.Common.{◌≡◌, ℕ, ◌==◌, Bool, true, false, List, [], ◌∷◌, ◌++◌, refl, ap, sym, subst, ◌∙◌, append-nil, append_assoc}
+use Rattle.std.proofs.Common.{◌≡◌, ℕ, ◌==◌, List, [], ◌∷◌, ◌++◌, refl, ap, sym, subst, ◌∙◌, append-nil, append_assoc}
 use Rattle.std.specs.Prelude.{if◌then◌else◌}
 use Rattle.std.specs.List.{AllByRecursion, filter_map}
 use Rattle.std.proofs.lemmas.List.Elements.{filter_map-append}
@@ -8,6 +8,7 @@ use Rattle.trace_model.specs.declared.entry.Entry.TheVariants as entry
 use Rattle.trace_model.specs.declared.line.End.{End}
 use Rattle.link_laws.specs.machine.Machine.{Message}
 use Rattle.history.specs.Filters.{same_end}
+use Rattle.node_laws.proofs.Cases.{by_test}
 use Rattle.node_laws.proofs.telling.Mute.{IsPlain}
 use Rattle.node_laws.proofs.telling.Walks.{ArePlain}
 use Rattle.node_machine.specs.world.NodeLegal.{since_boot, got_entry, turn_entry_at, node_number}
@@ -105,29 +106,18 @@ module _ (e : End) where
 
   pub all_left : (t since : List Entry) (p q : List Message) → IsLeft since p → Goes e p t q → IsLeft (since_boot n since t) q
   all_left [] since p q a g = subst (IsLeft since) g a
-  all_left (entry.Got f k pid m ∷ t) since p q a g = go (same_end f e) refl (all_left t (since ++ entry.Got f k pid m ∷ []))
-    where
-      go : (b : Bool) → same_end f e ≡ b → ((p q : List Message) → IsLeft (since ++ entry.Got f k pid m ∷ []) p → Goes e p t q
-          → IsLeft (since_boot n (since ++ entry.Got f k pid m ∷ []) t) q) → IsLeft (since_boot n (since ++ entry.Got f k pid m ∷ []) t) q
-      go true z later =
-          let one : p ++ (pid, m) ∷ [] ≡ g.0 = rw z at g.1.0 in
-          later g.0 q (more since (entry.Got f k pid m) p g.0 a (rw z (sym one))) g.1.1
-      go false z later = let one : p ≡ g.0 = rw z at g.1.0 in later g.0 q (same since (entry.Got f k pid m) p g.0 refl (rw z refl) one a) g.1.1
-  all_left (entry.Turn f pid m ∷ t) since p q a g = go (same_end f e) refl (all_left t (since ++ entry.Turn f pid m ∷ []))
-    where
-      go : (b : Bool) → same_end f e ≡ b → ((p q : List Message) → IsLeft (since ++ entry.Turn f pid m ∷ []) p → Goes e p t q
-          → IsLeft (since_boot n (since ++ entry.Turn f pid m ∷ []) t) q) → IsLeft (since_boot n (since ++ entry.Turn f pid m ∷ []) t) q
-      go true z later =
-          let one : p ≡ (pid, m) ∷ g.0 = rw z at g.1.0 in
-          later g.0 q (more since (entry.Turn f pid m) p g.0 a (rw z (sym one ∙ sym (append-nil p)))) g.1.1
-      go false z later = let one : p ≡ g.0 = rw z at g.1.0 in later g.0 q (same since (entry.Turn f pid m) p g.0 (rw z refl) refl one a) g.1.1
-  all_left (entry.Booted node k ∷ t) since p q a g = go (node == n) refl (all_left t (since ++ entry.Booted node k ∷ [])) (all_left t [])
-    where
-      go : (b : Bool) → (node == n) ≡ b
-          → ((p q : List Message) → IsLeft (since ++ entry.Booted node k ∷ []) p → Goes e p t q → IsLeft (since_boot n (since ++ entry.Booted node k ∷ []) t) q)
-          → ((p q : List Message) → IsLeft [] p → Goes e p t q → IsLeft (since_boot n [] t) q)
-          → IsLeft (since_boot n since (entry.Booted node k ∷ t)) q
-      go true z later first = let one : [] ≡ g.0 = rw z at g.1.0 in rw z (first g.0 q (sym one) g.1.1)
-      go false z later first =
-          let one : p ≡ g.0 = rw z at g.1.0 in rw z (later g.0 q (same since (entry.Booted node k) p g.0 refl refl one a) g.1.1)
+  all_left (entry.Got f k pid m ∷ t) since p q a g = by_test (same_end f e)
+      (λ z. let one : p ++ (pid, m) ∷ [] ≡ g.0 = rw z at g.1.0 in
+      all_left t (since ++ entry.Got f k pid m ∷ []) g.0 q (more since (entry.Got f k pid m) p g.0 a (rw z (sym one))) g.1.1)
+      (λ z. let one : p ≡ g.0 = rw z at g.1.0 in all_left t (since ++ entry.Got f k pid m ∷ []) g.0 q
+      (same since (entry.Got f k pid m) p g.0 refl (rw z refl) one a) g.1.1)
+  all_left (entry.Turn f pid m ∷ t) since p q a g = by_test (same_end f e)
+      (λ z. let one : p ≡ (pid, m) ∷ g.0 = rw z at g.1.0 in
+      all_left t (since ++ entry.Turn f pid m ∷ []) g.0 q (more since (entry.Turn f pid m) p g.0 a (rw z (sym one ∙ sym (append-nil p)))) g.1.1)
+      (λ z. let one : p ≡ g.0 = rw z at g.1.0 in all_left t (since ++ entry.Turn f pid m ∷ []) g.0 q
+      (same since (entry.Turn f pid m) p g.0 (rw z refl) refl one a) g.1.1)
+  all_left (entry.Booted node k ∷ t) since p q a g = by_test (node == n)
+      (λ z. let one : [] ≡ g.0 = rw z at g.1.0 in rw z (all_left t [] g.0 q (sym one) g.1.1))
+      (λ z. let one : p ≡ g.0 = rw z at g.1.0 in rw z (all_left t (since ++ entry.Booted node k ∷ []) g.0 q
+      (same since (entry.Booted node k) p g.0 refl refl one a) g.1.1))
   all_left (x ∷ t) since p q a g = all_left t (since ++ x ∷ []) g.0 q (same since x p g.0 refl refl g.1.0 a) g.1.1

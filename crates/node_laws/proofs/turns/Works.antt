@@ -37,12 +37,10 @@ pub aged_none : (one other : Side) (xs ys : List OnWire) → AreNoGots (aged_ent
 aged_none = wires_all IsNoGot (λ w c. tt)
 
 pub frames_still : (e : End) (who : Side) (h : ℕ) (l : Link) (k : Work) → AreStill e (frames_noted who h l k)
-frames_still e who h l k = go (port_at k.ports h)
-  where
-    go : (o : Option Port) → AreStill e (option_map_or (λ (p : Port). entries_for h (ending_entries who l p.side (ending_of k))) o [])
-    go None = tt
-    go (Some p) = notes_still e h (ending_entries who l p.side (ending_of k))
-        (ending_all IsNoGot (λ w c. tt) (λ w c. tt) (λ w. tt) who l p.side (ending_of k))
+frames_still e who h l k = by_option (port_at k.ports h)
+    (λ q. rw q tt)
+    (λ p q. rw q (notes_still e h (ending_entries who l p.side (ending_of k))
+    (ending_all IsNoGot (λ w c. tt) (λ w c. tt) (λ w. tt) who l p.side (ending_of k))))
 
 pub arrival_still : (e : End) (who : Side) (h : ℕ) (l : Link) (comes : Comes) → AreStill e (entries_for h (arrival who l comes))
 arrival_still e who h l comes =
@@ -106,14 +104,12 @@ flat_leaves e f one (x ∷ xs) q = leaves-append e (f x) (flat_map f xs) (one x)
 pub site_none : (f : Site → Site) → ((s : Site) → (f s).host ≡ s.host) → (sites : List Site) (h : ℕ) → site_at sites h ≡ None
     → site_at (map f sites) h ≡ None
 site_none f keeps [] h q = refl
-site_none f keeps (x ∷ sites) h q = go (x.host == h) refl (site_none f keeps sites h)
+site_none f keeps (x ∷ sites) h q = by_test (x.host == h)
+    (λ e. let is : Some x ≡ None = rw e at q in absurd (cc is))
+    (λ e. let passed : ((f x).host == h) ≡ false = same ∙ e in rw passed (site_none f keeps sites h (rw e at q)))
   where
     same : ((f x).host == h) ≡ (x.host == h)
     same = ap (λ n. n == h) (keeps x)
-
-    go : (b : Bool) → (x.host == h) ≡ b → (site_at sites h ≡ None → site_at (map f sites) h ≡ None) → site_at (map f (x ∷ sites)) h ≡ None
-    go true e later = let is : Some x ≡ None = rw e at q in absurd (cc is)
-    go false e later = let passed : ((f x).host == h) ≡ false = same ∙ e in rw passed (later (rw e at q))
 
 pub sites_is : (f : Site → Site) → ((s : Site) → (f s).host ≡ s.host) → (sites : List Site) (h : ℕ) (P : Option Site → Type 0)
     → (site_at sites h ≡ None → P None) → ((s : Site) → site_at sites h ≡ Some s → P (Some (f s))) → P (site_at (map f sites) h)
@@ -135,11 +131,9 @@ pub record SiteGoes (s v : Site) (t : List Entry) : Type 0 where
 
 with_none : (k : ℕ) (g : Site → Site) (sites : List Site) → site_at sites k ≡ None → with_site k g sites ≡ sites
 with_none k g [] q = refl
-with_none k g (x ∷ sites) q = go (x.host == k) refl (with_none k g sites)
-  where
-    go : (b : Bool) → (x.host == k) ≡ b → (site_at sites k ≡ None → with_site k g sites ≡ sites) → with_site k g (x ∷ sites) ≡ x ∷ sites
-    go true e later = let is : Some x ≡ None = rw e at q in absurd (cc is)
-    go false e later = rw e (ap (λ l. x ∷ l) (later (rw e at q)))
+with_none k g (x ∷ sites) q = by_test (x.host == k)
+    (λ e. let is : Some x ≡ None = rw e at q in absurd (cc is))
+    (λ e. rw e (ap (λ l. x ∷ l) (with_none k g sites (rw e at q))))
 
 -- one of them does, and the power of the controller stays
 module _ (w : NodeWorld) (c : Option Running) (k : ℕ) (g : Site → Site) (t : List Entry) (power : is_some c ≡ is_some w.controller)
@@ -233,20 +227,17 @@ there_too : (ports olds : List Port) (h : ℕ) (p : Port) → hosts_of_ends port
 there_too [] [] h p e q = absurd (cc q)
 there_too (x ∷ ports) [] h p e q = absurd (cc q)
 there_too [] (y ∷ olds) h p e q = absurd (cc e)
-there_too (x ∷ ports) (y ∷ olds) h p e q = go (y.desk.host == h) refl (there_too ports olds h p)
+there_too (x ∷ ports) (y ∷ olds) h p e q = by_test (y.desk.host == h)
+    (λ f. let found : (x.desk.host == h) ≡ true = ap (λ n. n == h) one ∙ f in record { port = x; here = rw found refl })
+    (λ f. let passed : (x.desk.host == h) ≡ false = ap (λ n. n == h) one ∙ f in
+    let rest : There ports h = there_too ports olds h p others (rw f at q) in
+    record { port = rest.port; here = rw passed rest.here })
   where
     one : x.desk.host ≡ y.desk.host
     one = cc
 
     others : hosts_of_ends ports ≡ hosts_of_ends olds
     others = cc
-
-    go : (b : Bool) → (y.desk.host == h) ≡ b → (hosts_of_ends ports ≡ hosts_of_ends olds → port_at olds h ≡ Some p → There ports h) → There (x ∷ ports) h
-    go true f later = let found : (x.desk.host == h) ≡ true = ap (λ n. n == h) one ∙ f in record { port = x; here = rw found refl }
-    go false f later =
-        let passed : (x.desk.host == h) ≡ false = ap (λ n. n == h) one ∙ f in
-        let rest : There ports h = later others (rw f at q) in
-        record { port = rest.port; here = rw passed rest.here }
 
 -- what the turns of its node left there is what waits
 pub record Leaving (e : End) (came : List Message) (k : Work) (q : List Message) : Type 0 where

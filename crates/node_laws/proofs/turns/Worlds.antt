@@ -33,7 +33,7 @@ use Rattle.node_machine.specs.world.World.{end_c, end_h}
 use Rattle.node_machine.specs.world.World.{world_step}
 use Rattle.node_machine.specs.world.World.Happening.{Boots, IsCut, Gives, Inits, Takes, Loses, Ticks, Resets, Activates, Arms}
 use Rattle.node_machine.specs.world.NodeLegal.{node_number}
-use Rattle.node_laws.proofs.Cases.{by_test}
+use Rattle.node_laws.proofs.Cases.{by_test, by_option}
 use Rattle.node_laws.proofs.kept.Sites.{with_site_twice}
 use Rattle.node_laws.proofs.links.Ends.{here_host}
 use Rattle.link_laws.proofs.entries.Together.{ticks_host as tick_host}
@@ -198,13 +198,10 @@ module _ (w : NodeWorld) (n : ℕ) (r : Running) (m : Memory) (count : ℕ) (a :
   booted = entry.Booted n count ∷ []
 
   no_zero : (h : ℕ) → h ≡ 0 → site_at w.sites h ≡ None
-  no_zero h z = go (site_at w.sites h) refl
-    where
-      go : (o : Option Site) → site_at w.sites h ≡ o → o ≡ None
-      go None q = refl
-      go (Some s) q =
-          let some : (s.host == 0) ≡ false = site_is (λ (x : Site). (x.host == 0) ≡ false) w.sites h s a.hosts q in
-          absurd (true≢false (sym (eq-eqb s.host 0 (site_host w.sites h s q ∙ z)) ∙ some))
+  no_zero h z = by_option (site_at w.sites h)
+      (λ q. rw q refl)
+      (λ s q. rw q (let some : (s.host == 0) ≡ false = site_is (λ (x : Site). (x.host == 0) ≡ false) w.sites h s a.hosts q in
+      absurd (true≢false (sym (eq-eqb s.host 0 (site_host w.sites h s q ∙ z)) ∙ some))))
 
   near_boots : (n == 0) ≡ true → AllMove w (record w { memory = m; controller = Some r }) booted
   near_boots z false h q x = record { left = []; goes = clears (end_c h) n count q z; waits = by (site_at w.sites h) x }
@@ -248,11 +245,7 @@ module _ (w : NodeWorld) (n : ℕ) (r : Running) (m : Memory) (count : ℕ) (a :
               go : (b : Bool) → e.at_host ≡ b → (n == node_number e) ≡ false
               go true y =
                   let is : ((s.host == e.link) && true) ≡ false = rw y at out in
-                  rw y (ap (λ k. k == e.link) (sym number) ∙ (same (s.host == e.link) ∙ is))
-                where
-                  same : (b : Bool) → b ≡ (b && true)
-                  same true = refl
-                  same false = refl
+                  rw y (ap (λ k. k == e.link) (sym number) ∙ (by_test (s.host == e.link) (λ q. rw q refl) (λ q. rw q refl) ∙ is))
               go false y = rw y z
 
       nobody : site_at w.sites n ≡ None → AllMove w w booted
@@ -385,20 +378,15 @@ near_leaves h (x ∷ sites) b a q =
 near_stays : (c : Option Running) (h : ℕ) (q : List Message) (sites : List Site) → AreNumbered sites → AreNodes sites → NearWaits c q (site_at sites h)
     → NearWaits c q (site_at (hosts_tick sites).0 h)
 near_stays c h q [] b a x = tt
-near_stays c h q (y ∷ sites) b a x = go (y.host == h) refl (near_stays c h q sites b.1 a.1)
+near_stays c h q (y ∷ sites) b a x = by_test (y.host == h)
+    (λ e. let passes : ((host_ticks y).0.host == h) ≡ true = same ∙ e in
+    let was : NearWaits c q (Some y) = rw e at x in
+    rw passes (subst (ByPower (is_some c) q) (sym (site_ticks y b.0 a.0).near) was))
+    (λ e. let fails : ((host_ticks y).0.host == h) ≡ false = same ∙ e in
+    rw fails (near_stays c h q sites b.1 a.1 (rw e at x)))
   where
     same : ((host_ticks y).0.host == h) ≡ (y.host == h)
     same = ap (λ n. n == h) (site_ticked y)
-
-    go : (t : Bool) → (y.host == h) ≡ t → (NearWaits c q (site_at sites h) → NearWaits c q (site_at (hosts_tick sites).0 h))
-        → NearWaits c q (site_at (hosts_tick (y ∷ sites)).0 h)
-    go true e later =
-        let passes : ((host_ticks y).0.host == h) ≡ true = same ∙ e in
-        let was : NearWaits c q (Some y) = rw e at x in
-        rw passes (subst (ByPower (is_some c) q) (sym (site_ticks y b.0 a.0).near) was)
-    go false e later =
-        let fails : ((host_ticks y).0.host == h) ≡ false = same ∙ e in
-        rw fails (later (rw e at x))
 
 off_far : (h : ℕ) (x : Site) → (x.host == h) ≡ false → same_end (end_h x.host) (end_h h) ≡ false
 off_far h x e = ap (λ b. b && true) e

@@ -16,9 +16,9 @@ use Rattle.hci_tables.specs.declared.command.Command.{Command}
 use Rattle.hci_tables.specs.Bodies.{body_of}
 use Rattle.hci_tables.specs.Tables.{apply}
 use Rattle.hci_store.specs.Committing.{commit_writes}
-use Rattle.link_laws.specs.machine.Machine.{Refused, Turn, give_refusal, is_held}
+use Rattle.link_laws.specs.machine.Machine.{Turn, give_refusal, is_held}
 use Rattle.link_laws.specs.machine.Machine.Turn.{Give, Hold, SetAside, Release}
-use Rattle.link_laws.specs.entries.Entries.{End as Side, sent_unless, turn_entry}
+use Rattle.link_laws.specs.entries.Entries.{End as Side, turn_entry}
 use Rattle.link_laws.specs.entries.Entries.End.{Controller, Host}
 use Rattle.history.specs.Filters.{same_end}
 use Rattle.history.specs.Steps.{end_of}
@@ -32,7 +32,7 @@ use Rattle.node_machine.specs.world.World.{node_of}
 use Rattle.node_machine.specs.world.NodeFilters.{Book, with_command}
 use Rattle.node_laws.specs.kept.Books.{hosts_of_ends}
 use Rattle.node_laws.specs.views.Errors.{ErrorCount, errors_after}
-use Rattle.node_laws.proofs.Cases.{by_test}
+use Rattle.node_laws.proofs.Cases.{by_test, by_option}
 use Rattle.node_laws.proofs.views.Leaving.{reads, reads_append, IsRead, IsStill, still_all, notes_still, IsUndamaged, plainly, beside_leaves}
 use Rattle.node_laws.proofs.views.Setting.{IsUnset, AreUnset, IsInitEnd}
 use Rattle.node_laws.proofs.kept.Plainly.{hosts_map}
@@ -55,10 +55,7 @@ map_has e n f one (p ∷ ports) all = (one p all.0, map_has e n f one ports all.
 
 -- a turn is noted, if it is, as a message that was sent
 pub turn_undamaged : (who : Side) (t : Turn) (p : Port) → AllByRecursion IsUndamaged (turn_entry who p.session p.side t)
-turn_undamaged who (Give m) p = go (give_refusal p.side m) where
-  go : (o : Option Refused) → AllByRecursion IsUndamaged (sent_unless o who p.session m)
-  go None = (tt, tt)
-  go (Some why) = tt
+turn_undamaged who (Give m) p = by_option (give_refusal p.side m) (λ q. rw q (tt, tt)) (λ why q. rw q tt)
 turn_undamaged who _ p = tt
 
 pub turn_still : (e : End) (core : Core) (t : Turn) (o : Option Port) → AllByRecursion (IsStill e) (option_map_or (noted_of core t) o [])
@@ -266,26 +263,12 @@ module _ (e : End) (hosts : List ℕ) (x0 : ErrorCount) where
   -- ## Messages that are held
 
   pub holds : (k : ℕ) (short : ℕ × ℕ) (w : Work) → Right w → Right (holds_back k short w)
-  holds k short w r = go (option_map_or (λ (p : Port). p.desk.holds) (port_at w.ports k) false) where
-    said : Work
-    said = noting (entry.Held (end_of_node w.core k) short.0 short.1 ∷ []) w
-
-    by : Bool → Work
-    by true = turn_at k (Hold true) w
-    by false = turn_at k (Hold true) (with_desk k (λ d. record d { holds = true }) said)
-
-    go : (b : Bool) → Right (by b)
-    go true = turns k (Hold true) w r
-    go false =
-        turns k (Hold true) (with_desk k (λ d. record d { holds = true }) said) (desks k (λ d. record d { holds = true }) said (λ d. refl) (λ d. refl)
-        (note (entry.Held (end_of_node w.core k) short.0 short.1 ∷ []) w ((λ x n i. (plainly e x n i, refl)), tt) r))
+  holds k short w r = by_test (option_map_or (λ (p : Port). p.desk.holds) (port_at w.ports k) false)
+      (λ q. rw q (turns k (Hold true) w r))
+      (λ q. rw q (turns k (Hold true) (with_desk k (λ d. record d { holds = true }) said) (desks k (λ d. record d { holds = true }) said (λ d. refl) (λ d. refl)
+      (note (entry.Held (end_of_node w.core k) short.0 short.1 ∷ []) w ((λ x n i. (plainly e x n i, refl)), tt) r)))) where
+        said : Work
+        said = noting (entry.Held (end_of_node w.core k) short.0 short.1 ∷ []) w
 
   pub lets : (k : ℕ) (w : Work) → Right w → Right (lets_go k w)
-  lets k w r = go (option_map_or (λ (p : Port). is_held p.side) (port_at w.ports k) false) where
-    by : Bool → Work
-    by true = turn_at k (Hold false) w
-    by false = w
-
-    go : (b : Bool) → Right (by b)
-    go true = turns k (Hold false) w r
-    go false = r
+  lets k w r = by_test (option_map_or (λ (p : Port). is_held p.side) (port_at w.ports k) false) (λ q. rw q (turns k (Hold false) w r)) (λ q. rw q r)

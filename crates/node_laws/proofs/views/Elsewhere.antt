@@ -1,5 +1,5 @@
 -- What other nodes note tells nothing of the init that runs at a host.
-use Rattle.std.proofs.Common.{◌≡◌, ℕ, ◌&&◌, Bool, true, false, cond, eqb, List, [], ◌∷◌, map, sym, refl, ap, ◌∙◌, subst}
+use Rattle.std.proofs.Common.{◌≡◌, ℕ, ◌&&◌, Bool, false, cond, eqb, List, [], ◌∷◌, map, sym, refl, ap, ◌∙◌, subst}
 use Rattle.std.specs.Prelude.{Option, Some, None}
 use Rattle.std.specs.List.{AllByRecursion}
 use Rattle.std.specs.Option.{option_map, option_map_or}
@@ -17,12 +17,12 @@ use Rattle.history.specs.Filters.{same_end}
 use Rattle.history.specs.Steps.{entries_for, entry_of, end_of}
 use Rattle.node_machine.specs.Parts.{Init, Core, Desk, Running, Port, Deed}
 use Rattle.node_machine.specs.Carrying.{end_of_node, port_at, own_view, end_view}
-use Rattle.node_machine.specs.Controller.{controller_deeds, view_of}
 use Rattle.node_machine.specs.HostReplies.{host_deeds}
 use Rattle.node_machine.specs.Turns.{deeds_of}
 use Rattle.node_machine.specs.Node.{NodeInput, steps, begins_with}
 use Rattle.node_machine.specs.world.World.{end_h, work_of}
 use Rattle.node_laws.specs.telling.Telling.{HasEnds}
+use Rattle.node_laws.proofs.Cases.{by_test}
 use Rattle.node_laws.proofs.telling.Nodes.{ports_for}
 use Rattle.node_laws.proofs.readings.Silent.{IsQuiet}
 use Rattle.node_laws.specs.views.Inits.{with_response, LeavesInit}
@@ -75,25 +75,19 @@ module _ (h n : ℕ) (other : eqb n h ≡ false) (who : Side) (is_side : cond (e
   beside_leaves x b = absurd b
 
   deeds_leave : (core : Core) (ports : List Port) (k : ℕ) (m : Message) → core.node ≡ n → AllByRecursion (NotesSo (LeavesInit h)) (deeds_of core ports k m)
-  deeds_leave core ports k m number = go (eqb core.node 0) refl where
-    by : Bool → List Deed
-    by true = controller_deeds (view_of core ports) k m
-    by false = option_map_or (λ e. host_deeds (own_view core) e m) (option_map end_view (port_at ports k)) []
+  deeds_leave core ports k m number = by_test (eqb core.node 0)
+      (λ q. rw q (controller_notes (LeavesInit h) core ports k m))
+      (λ q. rw q (one q (port_at ports k))) where
+        own_off : eqb core.node 0 ≡ false → same_end (end_of_node core core.node) (end_h h) ≡ false
+        own_off q = ap (λ b. same_end (end_of core.node (cond b Controller Host)) (end_h h)) q
+            ∙ (and-true (eqb core.node h) ∙ (ap (λ m. eqb m h) number ∙ other))
 
-    own_off : eqb core.node 0 ≡ false → same_end (end_of_node core core.node) (end_h h) ≡ false
-    own_off q = ap (λ b. same_end (end_of core.node (cond b Controller Host)) (end_h h)) q
-        ∙ (and-true (eqb core.node h) ∙ (ap (λ m. eqb m h) number ∙ other))
-
-    one : eqb core.node 0 ≡ false → (o : Option Port)
-        → AllByRecursion (NotesSo (LeavesInit h)) (option_map_or (λ e. host_deeds (own_view core) e m) (option_map end_view o) [])
-    one q None = tt
-    one q (Some p) = host_notes (LeavesInit h) core (λ y. off_cond (same_end (end_of_node core core.node) (end_h h)) None y (own_off q))
-        (λ count y. off_cond (same_end (end_of_node core core.node) (end_h h)) None y (own_off q))
-        (λ code y. off_cond (same_end (end_of_node core core.node) (end_h h)) None y (own_off q)) p m
-
-    go : (b : Bool) → eqb core.node 0 ≡ b → AllByRecursion (NotesSo (LeavesInit h)) (by b)
-    go true q = controller_notes (LeavesInit h) core ports k m
-    go false q = one q (port_at ports k)
+        one : eqb core.node 0 ≡ false → (o : Option Port)
+            → AllByRecursion (NotesSo (LeavesInit h)) (option_map_or (λ e. host_deeds (own_view core) e m) (option_map end_view o) [])
+        one q None = tt
+        one q (Some p) = host_notes (LeavesInit h) core (λ y. off_cond (same_end (end_of_node core core.node) (end_h h)) None y (own_off q))
+            (λ count y. off_cond (same_end (end_of_node core core.node) (end_h h)) None y (own_off q))
+            (λ code y. off_cond (same_end (end_of_node core core.node) (end_h h)) None y (own_off q)) p m
 
   ends_off : (near_ends : ℕ → NumberedEnd) (desks : List Desk) → AllByRecursion IsOff (map (λ (d : Desk). d.host) desks)
       → AllByRecursion (λ (p : Port). IsOff p.desk.host) (ports_for near_ends desks)

@@ -31,6 +31,7 @@ use Rattle.node_machine.specs.Turns.{deeds_of, handles, holds_back, lets_go, hav
 use Rattle.node_machine.specs.Node.{told_at}
 use Rattle.node_machine.specs.world.World.{end_h}
 use Rattle.node_machine.specs.world.NodeFilters.{is_response}
+use Rattle.node_laws.proofs.Cases.{by_option, by_test}
 use Rattle.node_laws.proofs.links.Noticing.{turn-phase}
 use Rattle.node_laws.proofs.readings.Silent.{IsQuiet, host_side, told_rest, rest_quiet, same_own}
 use Rattle.node_laws.specs.views.Inits.{with_response, init_after}
@@ -263,36 +264,25 @@ module _ (h : ℕ) (host : IsHost h) (i0 : Option Init) where
     desk_stands k f w same quiet s = record { base = desked k f w same quiet s.base; on = s.on; off = s.off }
 
     pub holds : (k : ℕ) (short : ℕ × ℕ) (w : Work) → Stands now w → Stands now (holds_back k short w)
-    holds k short w s = go (option_map_or (λ (p : Port). p.desk.holds) (port_at w.ports k) false) where
-      said : Work
-      said = noting (entry.Held (end_of_node w.core k) short.0 short.1 ∷ []) w
-
-      by : Bool → Work
-      by true = turn_at k (Hold true) w
-      by false = turn_at k (Hold true) (with_desk k (λ d. record d { holds = true }) said)
-
-      go : (b : Bool) → Stands now (by b)
-      go true = turn_stands k (Hold true) w s
-      go false = turn_stands k (Hold true) (with_desk k (λ d. record d { holds = true }) said) (desk_stands k (λ d. record d { holds = true }) said (λ d. refl)
-          (λ d is. is) (noting_stands (entry.Held (end_of_node w.core k) short.0 short.1 ∷ []) w (λ y. refl) s))
+    holds k short w s = by_test (option_map_or (λ (p : Port). p.desk.holds) (port_at w.ports k) false)
+        (λ q. rw q (turn_stands k (Hold true) w s))
+        (λ q. rw q (turn_stands k (Hold true) (with_desk k (λ d. record d { holds = true }) said)
+        (desk_stands k (λ d. record d { holds = true }) said (λ d. refl)
+        (λ d is. is) (noting_stands (entry.Held (end_of_node w.core k) short.0 short.1 ∷ []) w (λ y. refl) s)))) where
+          said : Work
+          said = noting (entry.Held (end_of_node w.core k) short.0 short.1 ∷ []) w
 
     pub lets : (k : ℕ) (w : Work) → Stands now w → Stands now (lets_go k w)
-    lets k w s = go (option_map_or (λ (p : Port). is_held p.side) (port_at w.ports k) false) where
-      by : Bool → Work
-      by true = turn_at k (Hold false) w
-      by false = w
-
-      go : (b : Bool) → Stands now (by b)
-      go true = turn_stands k (Hold false) w s
-      go false = s
+    lets k w s = by_test (option_map_or (λ (p : Port). is_held p.side) (port_at w.ports k) false)
+        (λ q. rw q (turn_stands k (Hold false) w s))
+        (λ q. rw q s)
 
     node_off : (w : Work) → Base now w → eqb w.core.node 0 ≡ false
-    node_off w b = by (eqb w.core.node 0) refl where
-      by : (c : Bool) → eqb w.core.node 0 ≡ c → c ≡ false
-      by false q = refl
-      by true q = let no : Rattle.link_laws.specs.entries.Entries.End.Controller ≡ Host =
-          sym (ap (λ c. cond c Rattle.link_laws.specs.entries.Entries.End.Controller Host) q)
-          ∙ side_of_host w b in absurd (cc no)
+    node_off w b = by_test (eqb w.core.node 0)
+        (λ q. rw q (let no : Rattle.link_laws.specs.entries.Entries.End.Controller ≡ Host =
+        sym (ap (λ c. cond c Rattle.link_laws.specs.entries.Entries.End.Controller Host) q)
+        ∙ side_of_host w b in absurd (cc no)))
+        (λ q. rw q refl)
 
     pub deeds_is : (m : Message) (w : Work) (b : Base now w) → deeds_of w.core w.ports h m ≡ host_deeds (own_view w.core) (end_view b.port) m
     deeds_is m w b =
@@ -301,18 +291,12 @@ module _ (h : ℕ) (host : IsHost h) (i0 : Option Init) where
 
     have : (messages : List Message) (w : Work) → w.cut ≡ false → Stands now w → Stands now (have_turns h messages w)
     have [] w on s = lets h w s
-    have (m ∷ messages) w on s = go (lack w.ports (needs h deeds)) (have messages) where
-      deeds : List Deed
-      deeds = deeds_of w.core w.ports h m
-
-      by : Option (ℕ × ℕ) → Work
-      by None = unless_cut (have_turns h messages) (handles h m deeds w)
-      by (Some short) = holds_back h short w
-
-      go : (o : Option (ℕ × ℕ)) → ((v : Work) → v.cut ≡ false → Stands now v → Stands now (have_turns h messages v)) → Stands now (by o)
-      go None later = then (have_turns h messages) (handles h m deeds w) (λ still z. later (handles h m deeds w) still z)
-          (subst (λ d. Stands now (handles h m d w)) (sym (deeds_is m w s.base)) (handled m w on s s.base))
-      go (Some short) later = holds h short w s
+    have (m ∷ messages) w on s = by_option (lack w.ports (needs h deeds))
+        (λ q. rw q (then (have_turns h messages) (handles h m deeds w) (λ still z. have messages (handles h m deeds w) still z)
+        (subst (λ d. Stands now (handles h m d w)) (sym (deeds_is m w s.base)) (handled m w on s s.base))))
+        (λ short q. rw q (holds h short w s)) where
+          deeds : List Deed
+          deeds = deeds_of w.core w.ports h m
 
     goes : (hosts : List ℕ) (w : Work) → w.cut ≡ false → Stands now w → Stands now (goes_through_ends hosts w)
     goes [] w on s = s

@@ -1,7 +1,6 @@
 -- A host of a world keeps the init that is read of it over each of its own events.
 use Rattle.std.proofs.Common.{◌≡◌, ◌⊎◌, inl, inr, ℕ, ◌&&◌, true, false, cond, eqb, List, [], ◌∷◌, ◌++◌, map, sym, refl, ap, ◌∙◌, subst}
 use Rattle.std.specs.Prelude.{Option, Some, None}
-use Rattle.std.specs.Option.{option_map_or}
 use Rattle.std.proofs.lemmas.Bool.{cases_Bool, cond_both, eq-eqb, true≢false}
 use Rattle.swp_base.specs.InMemory.{Memory}
 use Rattle.journal_laws.specs.Planned.{after_planned}
@@ -28,6 +27,7 @@ use Rattle.node_machine.specs.world.World.{Site, ending_of, runs_on, turns_at, i
 use Rattle.node_machine.specs.world.World.{frames_noted, host_work}
 use Rattle.node_machine.specs.world.World.{after_host, host_cut, host_ticks, sending, beginning}
 use Rattle.node_laws.specs.readings.Worlds.{host_does_so, init_of}
+use Rattle.node_laws.proofs.Cases.{by_option}
 use Rattle.node_laws.proofs.readings.Sites.{ending_quiet, arrival_quiet, sent_phase, stepped_phase, comes_outside, near_end_side}
 use Rattle.node_laws.specs.views.Inits.{init_of_running, RunsInit, IfRunsInit, SiteKeepsInit}
 use Rattle.node_laws.proofs.views.Answering.{reads_init, init_append, MayGo}
@@ -35,10 +35,9 @@ use Rattle.node_laws.proofs.views.Going.{Base, Stands, all_go, quiet_init}
 use Rattle.node_laws.proofs.views.Beginning.{steps_stand}
 
 frames_init : (h : ℕ) (who : Side) (k : ℕ) (l : Link) (w : Work) (y : Option Init) → reads_init h (frames_noted who k l w) y ≡ y
-frames_init h who k l w y = go (port_at w.ports k) where
-  go : (o : Option Port) → reads_init h (option_map_or (λ (p : Port). entries_for k (ending_entries who l p.side (ending_of w))) o []) y ≡ y
-  go None = refl
-  go (Some p) = quiet_init h k (ending_entries who l p.side (ending_of w)) y (ending_quiet who l p.side (ending_of w))
+frames_init h who k l w y = by_option (port_at w.ports k)
+    (λ q. rw q refl)
+    (λ p q. rw q (quiet_init h k (ending_entries who l p.side (ending_of w)) y (ending_quiet who l p.side (ending_of w))))
 
 arrival_init : (h : ℕ) (who : Side) (k : ℕ) (l : Link) (comes : Comes) (y : Option Init) → reads_init h (entries_for k (arrival who l comes)) y ≡ y
 arrival_init h who k l comes y = quiet_init h k (arrival who l comes) y (arrival_quiet who l comes)

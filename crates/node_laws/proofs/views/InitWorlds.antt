@@ -131,12 +131,10 @@ module _ (h : ℕ) (host : IsHost h) where
   left v es i so k = subst (λ y. AtSite y (site_at v.sites h)) (sym (leaves_all h es i so)) k
 
   pub frames_leave : (who : Side) (k : ℕ) (l : Link) (w : Work) → AllByRecursion (LeavesInit h) (frames_noted who k l w)
-  frames_leave who k l w = go (port_at w.ports k) where
-    go : (o : Option Rattle.node_machine.specs.Parts.Port) → AllByRecursion (LeavesInit h) (Rattle.std.specs.Option.option_map_or (λ
-        (p : Rattle.node_machine.specs.Parts.Port). entries_for k (Rattle.link_laws.specs.entries.Entries.ending_entries who l p.side (ending_of w))) o [])
-    go None = tt
-    go (Some p) = quiet_leaves h k (Rattle.link_laws.specs.entries.Entries.ending_entries who l p.side (ending_of w))
-        (ending_quiet who l p.side (ending_of w))
+  frames_leave who k l w = by_option (port_at w.ports k)
+      (λ q. rw q tt)
+      (λ p q. rw q (quiet_leaves h k (Rattle.link_laws.specs.entries.Entries.ending_entries who l p.side (ending_of w))
+      (ending_quiet who l p.side (ending_of w))))
 
   arrival_leave : (who : Side) (k : ℕ) (l : Link) (comes : Comes) → AllByRecursion (LeavesInit h) (entries_for k (arrival who l comes))
   arrival_leave who k l comes = quiet_leaves h k (arrival who l comes) (arrival_quiet who l comes)

@@ -1,5 +1,5 @@
 -- What is read of REC_ERROR of all ends over the lines of a schedule.
-use Rattle.std.proofs.Common.{◌≡◌, ℕ, ◌&&◌, Bool, true, false, cond, eqb, List, [], ◌∷◌, ◌++◌, sym, refl, ap, ◌∙◌, subst, arith, ◌||◌}
+use Rattle.std.proofs.Common.{◌≡◌, ℕ, ◌&&◌, true, false, cond, eqb, List, [], ◌∷◌, ◌++◌, sym, refl, ap, ◌∙◌, subst, arith, ◌||◌}
 use Rattle.std.specs.Prelude.{Option, Some, None, unwrap_or}
 use Rattle.std.specs.List.{AllByRecursion, find}
 use Rattle.std.specs.Option.{option_map}
@@ -87,17 +87,14 @@ AllKept t w = (e : End) (host : IsHost e.link) → Kept e (real_of e host) w (re
 desk_found : (e : End) (k : ℕ) (desks : List Desk) (n : ℕ) → AllByRecursion (λ (d : Desk). eqb d.host e.link ≡ true → d.errors ≡ k) desks
     → option_map (λ (d : Desk). d.errors) (find (λ (d : Desk). eqb d.host e.link) desks) ≡ Some n → k ≡ n
 desk_found e k [] n all q = absurd (cc q)
-desk_found e k (d ∷ desks) n all q = by (eqb d.host e.link) refl (desk_found e k desks n all.1) where
-  Told : Option Desk → Type 0
-  Told o = option_map (λ (d : Desk). d.errors) o ≡ Some n
-
-  by : (b : Bool) → eqb d.host e.link ≡ b → (Told (find (λ (d : Desk). eqb d.host e.link) desks) → k ≡ n) → k ≡ n
-  by true z later =
-      let here : Some d.errors ≡ Some n = sym (ap (λ b. option_map (λ (d : Desk). d.errors) (cond b (Some d) (find (λ (d : Desk). eqb d.host e.link) desks))) z)
-      ∙ q in
-      let is : d.errors ≡ n = cc in
-      sym (all.0 z) ∙ is
-  by false z later = later (sym (ap (λ b. option_map (λ (d : Desk). d.errors) (cond b (Some d) (find (λ (d : Desk). eqb d.host e.link) desks))) z) ∙ q)
+desk_found e k (d ∷ desks) n all q = by_test (eqb d.host e.link)
+    (λ z. let here : Some d.errors ≡ Some n = sym (ap (λ b. option_map (λ (d : Desk). d.errors)
+    (cond b (Some d) (find (λ (d : Desk). eqb d.host e.link) desks))) z)
+    ∙ q in
+    let is : d.errors ≡ n = cc in
+    sym (all.0 z) ∙ is)
+    (λ z. desk_found e k desks n all.1 (sym (ap (λ b. option_map (λ (d : Desk). d.errors) (cond b (Some d) (find (λ (d : Desk). eqb d.host e.link) desks))) z) ∙
+    q))
 
 pub kept_read : (t : List Entry) (w : NodeWorld) → AllKept t w → ErrorsAreRead t w
 kept_read t w all e n host q = by (node_at w (node_of e)) refl q where
@@ -241,10 +238,9 @@ errors_read header lines t follows are sides few =
 
 all_one : (hosts : List ℕ) (h : ℕ) → AllByRecursion IsHost hosts → is_one_of hosts h ≡ true → IsHost h
 all_one [] h all one = absurd (true≢false (sym one))
-all_one (k ∷ hosts) h all one = by (eqb k h) refl (all_one hosts h all.1) where
-  by : (b : Bool) → eqb k h ≡ b → (is_one_of hosts h ≡ true → IsHost h) → IsHost h
-  by true q later = subst IsHost (eqb-true k h q) all.0
-  by false q later = later (sym (ap (λ b. b || is_one_of hosts h) q) ∙ one)
+all_one (k ∷ hosts) h all one = by_test (eqb k h)
+    (λ q. subst IsHost (eqb-true k h q) all.0)
+    (λ q. all_one hosts h all.1 (sym (ap (λ b. b || is_one_of hosts h) q) ∙ one))
 
 -- the view that a controller has is the one that is read, where sessions and creations are
 module _ (hosts : List ℕ) (are : AreHosts hosts) (t : List Entry) (w : NodeWorld) (so : IsSo hosts t w) (r : Running) (runs : w.controller ≡ Some r) where

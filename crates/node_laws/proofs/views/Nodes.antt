@@ -2,7 +2,6 @@
 use Rattle.std.proofs.Common.{◌≡◌, ℕ, Bool, true, false, cond, eqb, List, [], ◌∷◌, ◌++◌, length, map, sym, refl, ap, ◌∙◌, subst}
 use Rattle.std.specs.Prelude.{Option, Some, None, nat_lt}
 use Rattle.std.specs.List.{AllByRecursion}
-use Rattle.std.specs.Option.{option_map_or}
 use Rattle.swp_base.specs.InMemory.{Plan}
 use Rattle.swp_base.specs.declared.control_frames.Control.{Control}
 use Rattle.trace_model.specs.declared.entry.Entry.{Entry}
@@ -13,11 +12,10 @@ use Rattle.link_laws.specs.machine.Machine.{Message, LinkEnd, frames_out}
 use Rattle.link_laws.specs.messages.Links.{NumberedEnd, Link, Ending, Comes, put}
 use Rattle.link_laws.specs.messages.Links.Comes.{NextFrame}
 use Rattle.link_laws.specs.messages.Links.Ending.{GoesOut, CutOff}
-use Rattle.link_laws.specs.messages.Links.Loss.{TooOld, TooMany}
+use Rattle.link_laws.specs.messages.Links.Loss.{TooMany}
 use Rattle.link_laws.specs.entries.Entries.{End as Side, Entry as Noted, far, first_lost, pushed_out, wire_with, put_entries, puts_entries, ending_entries}
 use Rattle.link_laws.specs.entries.Entries.{aged_entries}
 use Rattle.link_laws.specs.entries.Entries.End.{Controller, Host}
-use Rattle.link_laws.specs.entries.Entries.Entry.{Took, Lost}
 use Rattle.history.specs.Filters.{same_end}
 use Rattle.history.specs.Steps.{entries_for, entry_of, end_of}
 use Rattle.node_machine.specs.Parts.{Desk, Core, Running, Port, Work, Deed}
@@ -26,7 +24,7 @@ use Rattle.node_machine.specs.Carrying.{own_side, port_at}
 use Rattle.node_machine.specs.Node.{NodeInput, steps, begins_with}
 use Rattle.node_machine.specs.world.World.{node_of, runs_on, work_of, ending_of, frames_noted, arrival}
 use Rattle.node_laws.specs.telling.Telling.{HasEnds}
-use Rattle.node_laws.proofs.Cases.{by_test}
+use Rattle.node_laws.proofs.Cases.{by_test, by_list, by_option}
 use Rattle.node_laws.proofs.telling.Mute.{IsPlain, IsMute, AreMute, deeds_mute}
 use Rattle.node_laws.proofs.telling.Nodes.{hosts_same, ports_for}
 use Rattle.node_laws.specs.views.Errors.{ErrorCount}
@@ -58,29 +56,17 @@ ending_undamaged who l e GoesOut = puts_undamaged who l (frames_out e)
 ending_undamaged who l e CutOff = (tt, tt)
 
 arrival_undamaged : (who : Side) (l : Link) (comes : Comes) → AllByRecursion IsUndamaged (arrival who l comes)
-arrival_undamaged who l NextFrame = go l.to_controller where
-  first : List OnWire → List Noted
-  first [] = []
-  first (x ∷ xs) = Took who x.frame ∷ []
-
-  go : (xs : List OnWire) → AllByRecursion IsUndamaged (first xs)
-  go [] = tt
-  go (x ∷ xs) = (tt, tt)
+arrival_undamaged who l NextFrame = by_list l.to_controller (λ q. rw q tt) (λ x xs q. rw q (tt, tt))
 arrival_undamaged who l _ = tt
 
 aged_undamaged : (who : Side) (xs : List OnWire) → AllByRecursion IsUndamaged (aged_entries who xs)
 aged_undamaged who [] = tt
-aged_undamaged who (x ∷ xs) = go (nat_lt x.age 4) (aged_undamaged who xs) where
-  go : (b : Bool) → AllByRecursion IsUndamaged (aged_entries who xs)
-      → AllByRecursion IsUndamaged (cond b (aged_entries who xs) (Lost who x.frame TooOld ∷ aged_entries who xs))
-  go true later = later
-  go false later = (tt, later)
+aged_undamaged who (x ∷ xs) = by_test (nat_lt x.age 4) (λ q. rw q (aged_undamaged who xs)) (λ q. rw q (tt, aged_undamaged who xs))
 
 pub frames_still : (e : End) (who : Side) (h : ℕ) (l : Link) (k : Work) → AllByRecursion (IsStill e) (frames_noted who h l k)
-frames_still e who h l k = go (port_at k.ports h) where
-  go : (o : Option Port) → AllByRecursion (IsStill e) (option_map_or (λ (p : Port). entries_for h (ending_entries who l p.side (ending_of k))) o [])
-  go None = tt
-  go (Some p) = notes_still e h (ending_entries who l p.side (ending_of k)) (ending_undamaged who l p.side (ending_of k))
+frames_still e who h l k = by_option (port_at k.ports h)
+    (λ q. rw q tt)
+    (λ p q. rw q (notes_still e h (ending_entries who l p.side (ending_of k)) (ending_undamaged who l p.side (ending_of k))))
 
 pub arrival_still : (e : End) (who : Side) (h : ℕ) (l : Link) (comes : Comes) → AllByRecursion (IsStill e) (entries_for h (arrival who l comes))
 arrival_still e who h l comes = notes_still e h (arrival who l comes) (arrival_undamaged who l comes)

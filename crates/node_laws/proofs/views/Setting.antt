@@ -23,7 +23,7 @@ use Rattle.gate_admin.specs.declared.decision.Decision.{Decision}
 use Rattle.gate_admin.specs.declared.decision.Decision.TheVariants.{Answer, Commit, Ask}
 use Rattle.gate_admin.specs.View.{has, hosts_where}
 use Rattle.gate_admin.specs.Decide.{decided, far_end, answers}
-use Rattle.gate_link.specs.Link.{link_served, tests_to_set_errors, link_unless_refused, count_in, count_bytes}
+use Rattle.gate_link.specs.Link.{link_served, tests_to_set_errors, count_in}
 use Rattle.link_laws.specs.machine.Machine.{Message}
 use Rattle.node_machine.specs.Parts.{Core, Port, Deed}
 use Rattle.node_machine.specs.Parts.Deed.{Sends, Tells, Drops, SetsErrors, Ends}
@@ -59,11 +59,7 @@ pub set_same : (errors instruction : ℕ) (body : List ℕ) → (link_served err
 set_same errors instruction body = by (eqb instruction 1) (eqb instruction 2) refl refl where
   by : (a b : Bool) → eqb instruction 1 ≡ a → eqb instruction 2 ≡ b → (link_served errors instruction body).1 ≡ (link_served 0 instruction body).1
   by true b p q = rw p refl
-  by false true p q = rw (p, q) (tests (first_of (tests_to_get 6 body))) where
-    tests : (o : Option Response)
-        → (link_unless_refused o (answer_of response.Ok (count_bytes errors), None)).1 ≡ (link_unless_refused o (answer_of response.Ok (count_bytes 0), None)).1
-    tests None = refl
-    tests (Some r) = refl
+  by false true p q = rw (p, q) (by_option (first_of (tests_to_get 6 body)) (λ q. rw q refl) (λ r q. rw q refl))
   by false false p q = rw (p, q) refl
 
 -- where it sets it, it is ANY_SET_PARAMETER, and it is answered by ANY_OK
@@ -212,11 +208,10 @@ controller_sets core ports h m v leads sets =
       not_relayed = ap (deeds_by_relay (view_of core ports) h m) relayed_none
 
       other_pipe : eqb m.0 1 ≡ false
-      other_pipe = by (eqb m.0 1) refl where
-        by : (b : Bool) → eqb m.0 1 ≡ b → b ≡ false
-        by false q = refl
-        by true q = let one : m.0 ≡ 1 = eqb-true m.0 1 q in
-            let no : far_end core.tables h 1 ≡ both_of 0 6 = subst (λ n. far_end core.tables h n ≡ both_of 0 6) one far in absurd (cc no)
+      other_pipe = by_test (eqb m.0 1)
+          (λ q. rw q (let one : m.0 ≡ 1 = eqb-true m.0 1 q in
+          let no : far_end core.tables h 1 ≡ both_of 0 6 = subst (λ n. far_end core.tables h n ≡ both_of 0 6) one far in absurd (cc no)))
+          (λ q. rw q refl)
 
       kind_is : kind_deeds (view_of core ports) h m (header_of m.1) ≡ command_deeds (view_of core ports) h m.0 s.instruction (body_in m.1)
       kind_is = ap (kind_deeds (view_of core ports) h m) s.header

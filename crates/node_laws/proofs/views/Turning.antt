@@ -292,10 +292,9 @@ module _ (e : End) (hosts : List ℕ) (x0 : ErrorCount) (single : e.at_host ≡ 
   set_fine ports h pid v deeds off (IsDropped is) = subst (AllByRecursion (IsFine e hosts x0 h)) (sym is) (tt, tt)
 
   side_zero : (core : Core) → own_side core ≡ side_of e → e.at_host ≡ true → eqb core.node 0 ≡ false
-  side_zero core side near = by (eqb core.node 0) refl where
-    by : (b : Bool) → eqb core.node 0 ≡ b → b ≡ false
-    by false q = refl
-    by true q = let no : Controller ≡ Host = sym (ap (λ b. cond b Controller Host) q) ∙ (side ∙ ap (λ b. cond b Host Controller) near) in absurd (cc no)
+  side_zero core side near = by_test (eqb core.node 0)
+      (λ q. rw q (let no : Controller ≡ Host = sym (ap (λ b. cond b Controller Host) q) ∙ (side ∙ ap (λ b. cond b Host Controller) near) in absurd (cc no)))
+      (λ q. rw q refl)
 
   pub handled : (h : ℕ) (m : Message) (p : Port) (w : Work) → w.cut ≡ false → port_at w.ports h ≡ Some p
       → lack w.ports (needs h (deeds_of w.core w.ports h m)) ≡ None → So w → So (handles h m (deeds_of w.core w.ports h m) w)
@@ -372,19 +371,15 @@ module _ (e : End) (hosts : List ℕ) (x0 : ErrorCount) (single : e.at_host ≡ 
       → (q : Port) × (port_at qs h ≡ Some q)
   is_there [] qs h p same e = absurd (cc e)
   is_there (x ∷ ports) [] h p same e = absurd (cc same)
-  is_there (x ∷ ports) (y ∷ qs) h p same e = by (eqb x.desk.host h) refl (is_there ports qs h p) where
-    one : x.desk.host ≡ y.desk.host
-    one = cc
+  is_there (x ∷ ports) (y ∷ qs) h p same e = by_test (eqb x.desk.host h)
+      (λ z. (y, ap (λ b. cond b (Some y) (port_at qs h)) (ap (λ n. eqb n h) (sym one) ∙ z)))
+      (λ z. let found = is_there ports qs h p rest (sym (ap (λ b. cond b (Some x) (port_at ports h)) z) ∙ e) in
+      (found.0, ap (λ b. cond b (Some y) (port_at qs h)) (ap (λ n. eqb n h) (sym one) ∙ z) ∙ found.1)) where
+        one : x.desk.host ≡ y.desk.host
+        one = cc
 
-    rest : hosts_of_ends ports ≡ hosts_of_ends qs
-    rest = cc
-
-    by : (b : Bool) → eqb x.desk.host h ≡ b → (hosts_of_ends ports ≡ hosts_of_ends qs → port_at ports h ≡ Some p → (q : Port) × (port_at qs h ≡ Some q))
-        → (q : Port) × (port_at (y ∷ qs) h ≡ Some q)
-    by true z later = (y, ap (λ b. cond b (Some y) (port_at qs h)) (ap (λ n. eqb n h) (sym one) ∙ z))
-    by false z later =
-        let found = later rest (sym (ap (λ b. cond b (Some x) (port_at ports h)) z) ∙ e) in
-        (found.0, ap (λ b. cond b (Some y) (port_at qs h)) (ap (λ n. eqb n h) (sym one) ∙ z) ∙ found.1)
+        rest : hosts_of_ends ports ≡ hosts_of_ends qs
+        rest = cc
 
   have_right : (h : ℕ) (messages : List Message) (p : Port) (w : Work) → w.cut ≡ false → port_at w.ports h ≡ Some p → So w → So (have_turns h messages w)
   have_right h [] p w on there r = lets e hosts x0 h w r

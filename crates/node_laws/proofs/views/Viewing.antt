@@ -24,6 +24,7 @@ use Rattle.node_machine.specs.world.NodeFilters.{asking_in, is_connected_in, not
 use Rattle.node_laws.specs.telling.Telling.{HasEnds, hosts_in}
 use Rattle.node_laws.specs.readings.Noticed.{ends_between}
 use Rattle.node_laws.specs.notices.Notices.{IsKeptNotice, NoticesAreRead, is_of_creation, notice_at, notice_of_running}
+use Rattle.node_laws.proofs.Cases.{by_option, by_test}
 use Rattle.node_laws.proofs.notices.Knowing.{noticed_is, asked_is}
 use Rattle.node_laws.specs.views.Errors.{ErrorsAreRead, errors_in, errors_of}
 use Rattle.node_laws.specs.cuts.Histories.{is_one_of}
@@ -45,26 +46,17 @@ where_same p q same = ap mask_of (filter_same p q same (range_with_len 1 7))
 port_is : (f : Desk → Port) → ((d : Desk) → (f d).desk.host ≡ d.host) → (desks : List Desk) (h : ℕ)
     → port_at (map f desks) h ≡ option_map f (find (λ (d : Desk). eqb d.host h) desks)
 port_is f host [] h = refl
-port_is f host (d ∷ desks) h = by (eqb d.host h) refl (port_is f host desks h) where
-  same : eqb (f d).desk.host h ≡ eqb d.host h
-  same = ap (λ n. eqb n h) (host d)
-
-  by : (b : Bool) → eqb d.host h ≡ b → port_at (map f desks) h ≡ option_map f (find (λ (d : Desk). eqb d.host h) desks)
-      → port_at (map f (d ∷ desks)) h ≡ option_map f (find (λ (d : Desk). eqb d.host h) (d ∷ desks))
-  by true q later =
-      ap (λ b. cond b (Some (f d)) (port_at (map f desks) h)) (same ∙ q)
-      ∙ sym (ap (λ b. option_map f (cond b (Some d) (find (λ (d : Desk). eqb d.host h) desks))) q)
-  by false q later =
-      ap (λ b. cond b (Some (f d)) (port_at (map f desks) h)) (same ∙ q)
-      ∙ (later ∙ sym (ap (λ b. option_map f (cond b (Some d) (find (λ (d : Desk). eqb d.host h) desks))) q))
+port_is f host (d ∷ desks) h = by_test (eqb d.host h)
+    (λ q. ap (λ b. cond b (Some (f d)) (port_at (map f desks) h)) (same ∙ q)
+    ∙ sym (ap (λ b. option_map f (cond b (Some d) (find (λ (d : Desk). eqb d.host h) desks))) q))
+    (λ q. ap (λ b. cond b (Some (f d)) (port_at (map f desks) h)) (same ∙ q)
+    ∙ (port_is f host desks h ∙ sym (ap (λ b. option_map f (cond b (Some d) (find (λ (d : Desk). eqb d.host h) desks))) q))) where
+      same : eqb (f d).desk.host h ≡ eqb d.host h
+      same = ap (λ n. eqb n h) (host d)
 
 one_of_is : (desks : List Desk) (h : ℕ) → list_any (λ k. eqb k h) (map (λ (d : Desk). d.host) desks) ≡ is_some (find (λ (d : Desk). eqb d.host h) desks)
 one_of_is [] h = refl
-one_of_is (d ∷ desks) h = by (eqb d.host h) refl (one_of_is desks h) where
-  by : (b : Bool) → eqb d.host h ≡ b → list_any (λ k. eqb k h) (map (λ (d : Desk). d.host) desks) ≡ is_some (find (λ (d : Desk). eqb d.host h) desks)
-      → list_any (λ k. eqb k h) (map (λ (d : Desk). d.host) (d ∷ desks)) ≡ is_some (find (λ (d : Desk). eqb d.host h) (d ∷ desks))
-  by true q later = rw q refl
-  by false q later = rw q later
+one_of_is (d ∷ desks) h = by_test (eqb d.host h) (λ q. rw q refl) (λ q. rw q (one_of_is desks h))
 
 found_host : (desks : List Desk) (h : ℕ) (d : Desk) → find (λ (d : Desk). eqb d.host h) desks ≡ Some d → d.host ≡ h
 found_host [] h d e = absurd (cc e)
@@ -77,20 +69,15 @@ site_there : (desks : List Desk) (sites : List Site) (h : ℕ) (d : Desk) → ma
     → find (λ (d : Desk). eqb d.host h) desks ≡ Some d → (s : Site) × (site_at sites h ≡ Some s)
 site_there [] sites h d same e = absurd (cc e)
 site_there (x ∷ desks) [] h d same e = absurd (cc same)
-site_there (x ∷ desks) (s ∷ sites) h d same e = by (eqb x.host h) refl (site_there desks sites h d) where
-  one : x.host ≡ s.host
-  one = cc
+site_there (x ∷ desks) (s ∷ sites) h d same e = by_test (eqb x.host h)
+    (λ q. (s, ap (λ b. cond b (Some s) (site_at sites h)) (ap (λ n. eqb n h) (sym one) ∙ q)))
+    (λ q. let found = site_there desks sites h d rest (sym (ap (λ b. cond b (Some x) (find (λ (d : Desk). eqb d.host h) desks)) q) ∙ e) in
+    (found.0, ap (λ b. cond b (Some s) (site_at sites h)) (ap (λ n. eqb n h) (sym one) ∙ q) ∙ found.1)) where
+      one : x.host ≡ s.host
+      one = cc
 
-  rest : map (λ (d : Desk). d.host) desks ≡ hosts_in sites
-  rest = cc
-
-  by : (b : Bool) → eqb x.host h ≡ b
-      → (map (λ (d : Desk). d.host) desks ≡ hosts_in sites → find (λ (d : Desk). eqb d.host h) desks ≡ Some d → (s : Site) × (site_at sites h ≡ Some s))
-      → (y : Site) × (site_at (s ∷ sites) h ≡ Some y)
-  by true q later = (s, ap (λ b. cond b (Some s) (site_at sites h)) (ap (λ n. eqb n h) (sym one) ∙ q))
-  by false q later =
-      let found = later rest (sym (ap (λ b. cond b (Some x) (find (λ (d : Desk). eqb d.host h) desks)) q) ∙ e) in
-      (found.0, ap (λ b. cond b (Some s) (site_at sites h)) (ap (λ n. eqb n h) (sym one) ∙ q) ∙ found.1)
+      rest : map (λ (d : Desk). d.host) desks ≡ hosts_in sites
+      rest = cc
 
 -- ## Sessions
 
@@ -112,13 +99,9 @@ PipesAreRead hosts t ports = (pid : ℕ) → list_any (λ p. eqb p pid) (waiting
 
 pub pipes_same : (t : List Entry) (pid : ℕ) (hosts : List ℕ) → list_any (is_asked_pipe t pid) hosts ≡ list_any (λ p. eqb p pid) (asked_pipes t hosts)
 pipes_same t pid [] = refl
-pipes_same t pid (h ∷ hosts) = by (asking_in t h) refl (pipes_same t pid hosts) where
-  Same : List ℕ → Type 0
-  Same hosts = list_any (is_asked_pipe t pid) hosts ≡ list_any (λ p. eqb p pid) (asked_pipes t hosts)
-
-  by : (o : Option (List ℕ)) → asking_in t h ≡ o → Same hosts → Same (h ∷ hosts)
-  by None q later = rw q later
-  by (Some message) q later = rw q (ap (λ b. eqb (slice_index message 5) pid || b) later)
+pipes_same t pid (h ∷ hosts) = by_option (asking_in t h)
+    (λ q. rw q (pipes_same t pid hosts))
+    (λ message q. rw q (ap (λ b. eqb (slice_index message 5) pid || b) (pipes_same t pid hosts)))
 
 -- ## The view
 

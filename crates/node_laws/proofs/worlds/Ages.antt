@@ -23,7 +23,7 @@ use Rattle.node_machine.specs.Carrying.{own_side, port_at, changed_if, with_port
 use Rattle.node_machine.specs.Turns.{handles}
 use Rattle.node_machine.specs.world.World.{end_c}
 use Rattle.node_machine.specs.world.NodeFilters.{is_notice, notice_in, awaited_after}
-use Rattle.node_laws.proofs.Cases.{by_option}
+use Rattle.node_laws.proofs.Cases.{by_option, by_test}
 use Rattle.node_laws.proofs.steps.StepWalks.{all_do}
 use Rattle.node_laws.proofs.links.Noticing.{at_all, at_host}
 use Rattle.node_laws.specs.notices.Notices.{IsKeptNotice, GoesToFree, has_notice}
@@ -51,10 +51,7 @@ module _ (x : ℕ) where
 
   pub more_notified : (a b : List Entry) → notified (a ++ b) ≡ (notified a || notified b)
   more_notified [] b = refl
-  more_notified (e ∷ a) b = ap (λ z. notifies x e || z) (more_notified a b) ∙ assoc (notifies x e) where
-    assoc : (c : Bool) → (c || (notified a || notified b)) ≡ ((c || notified a) || notified b)
-    assoc true = refl
-    assoc false = refl
+  more_notified (e ∷ a) b = ap (λ z. notifies x e || z) (more_notified a b) ∙ by_test (notifies x e) (λ q. rw q refl) (λ q. rw q refl)
 
   pub still_notified : (a b : List Entry) → notified b ≡ false → notified (a ++ b) ≡ notified a
   still_notified a b q = more_notified a b ∙ (ap (λ z. notified a || z) q ∙ or-false (notified a))
@@ -117,10 +114,9 @@ module _ (x : ℕ) where
 
   gives_else : (core : Core) (m : Message) (ports : List Port) (to : ℕ) → eqb to x ≡ false
       → notified (option_map_or (noted_of core (Give m)) (port_at ports to) []) ≡ false
-  gives_else core m ports to q = go (port_at ports to) refl where
-    go : (o : Option Port) → port_at ports to ≡ o → notified (option_map_or (noted_of core (Give m)) o []) ≡ false
-    go None z = refl
-    go (Some p) z = sent_else p.desk.host p.session m (own_side core) (give_refusal p.side m) (ap (λ n. eqb n x) (at_host ports to p z) ∙ q)
+  gives_else core m ports to q = by_option (port_at ports to)
+      (λ z. rw z refl)
+      (λ p z. rw z (sent_else p.desk.host p.session m (own_side core) (give_refusal p.side m) (ap (λ n. eqb n x) (at_host ports to p z) ∙ q)))
 
   -- it notifies another host, or none
   abbrev pub IsElse : Deed → Type 0
@@ -132,10 +128,7 @@ module _ (x : ℕ) where
   IsElse _ = Unit {0}
 
   else_notes : (h : ℕ) (d : Deed) (w : Work) → IsElse d → notified (noted_by_deed h d w) ≡ false
-  else_notes h (Commits c) w a = go (goes_in c w) where
-    go : (b : Bool) → notified (cond b (entry.Cut w.core.node ∷ []) []) ≡ false
-    go true = refl
-    go false = refl
+  else_notes h (Commits c) w a = by_test (goes_in c w) (λ q. rw q refl) (λ q. rw q refl)
   else_notes h (Sends to m) w a = gives_other w.core m (port_at w.ports to) a
   else_notes h (Asks to message c) w a = gives_else w.core (1, message) (turn_at c.asker SetAside w).ports to a
   else_notes h (Tells to message) w a = gives_else w.core (1, message) w.ports to a

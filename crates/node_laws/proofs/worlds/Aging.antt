@@ -156,9 +156,6 @@ module _ (w : NodeWorld) (good : AreGood w.sites) where
       (refl, far-append (f begun).entries _ far.far (frames_quiet Host h (wires_for (exchanged s.link) comes) (f begun))))
 
 module _ (age : ℕ → ℕ) where
-  Still : NodeWorld × List Entry → Type 0
-  Still p = AreAged age p.1 p.0.controller
-
   left : (w : NodeWorld) (p : NodeWorld × List Entry) → AreOld age w.controller → (p.0.controller ≡ w.controller) × AreFar p.1 → AreAged age p.1 p.0.controller
   left w p old a = subst (AreAged age p.1) (sym a.0) (far_aged age p.1 w.controller a.1 old)
 
@@ -234,10 +231,7 @@ module _ (age : ℕ → ℕ) where
 
   none_new : (hosts : List ℕ) (x : ℕ) → notice_at (map new_desk hosts) x ≡ None
   none_new [] x = refl
-  none_new (h ∷ hosts) x = go (eqb h x) refl (none_new hosts x) where
-    go : (b : Bool) → eqb h x ≡ b → notice_at (map new_desk hosts) x ≡ None → notice_at (map new_desk (h ∷ hosts)) x ≡ None
-    go true is later = rw is refl
-    go false off later = rw off later
+  none_new (h ∷ hosts) x = by_test (eqb h x) (λ is. rw is refl) (λ off. rw off (none_new hosts x))
 
   boots_aged : (w : NodeWorld) (n : ℕ) → AreOld age w.controller → AreAged age (boots w n).1 (boots w n).0.controller
   boots_aged w n old =

@@ -6,7 +6,6 @@ use Rattle.std.specs.List.{AllByRecursion, filter_map}
 use Rattle.std.specs.List.Sorted.{IsStrictlySortedBy}
 use Rattle.std.specs.declared.cmp.Ordering.TheVariants.{Less}
 use Rattle.std.specs.Ordering.{nat_cmp}
-use Rattle.std.specs.Option.{option_map_or}
 use Rattle.std.proofs.lemmas.Cmp.{ranked}
 use Rattle.std.proofs.lemmas.Map.Keys.{sorted_head, sorted_tail}
 use Rattle.registry.proofs.ValueLemmas.{AllByRecursion-append as all_append}
@@ -14,16 +13,16 @@ use Rattle.trace_model.specs.declared.entry.Entry.{Entry}
 use Rattle.trace_model.specs.declared.entry.Entry.TheVariants as entry
 use Rattle.link_laws.specs.messages.Links.{Link}
 use Rattle.link_laws.specs.entries.Entries.{End as Side, ending_entries}
-use Rattle.node_machine.specs.Parts.{Port, Work}
+use Rattle.node_machine.specs.Parts.{Work}
 use Rattle.node_machine.specs.Carrying.{port_at, unless_cut}
 use Rattle.node_machine.specs.Turns.{passes}
 use Rattle.node_machine.specs.Node.{NodeInput, steps}
 use Rattle.node_machine.specs.world.World.{node_of, frames_noted, ending_of}
-use Rattle.history.specs.Steps.{entries_for}
 use Rattle.node_laws.specs.kept.Books.{hosts_of_ends}
 use Rattle.node_laws.specs.passes.Passing.{link_of_turn, links_of_turns, IsNoTurn, AreNoTurns, AreAlong, ArePassed, ComesTo}
 use Rattle.node_laws.specs.passes.Passing.ComesTo.{Begins}
 use Rattle.node_laws.specs.passes.Steps.{comes_to_pass, noted_before_pass}
+use Rattle.node_laws.proofs.Cases.{by_option}
 use Rattle.node_laws.proofs.passes.Passing.{through, comes_lasts}
 use Rattle.node_laws.proofs.passes.Before.{before_entries, before_none, before_hosts, steps_are, links_none}
 use Rattle.node_laws.specs.answers.Order.{turn_link, IsAscending}
@@ -33,11 +32,7 @@ use Rattle.node_laws.specs.answers.Order.{turn_link, IsAscending}
 module _ (f : Entry → Option ℕ) where
   pub links_append : (a b : List Entry) → filter_map f (a ++ b) ≡ filter_map f a ++ filter_map f b
   links_append [] b = refl
-  links_append (x ∷ a) b = go (f x) refl (links_append a b) where
-    go : (o : Option ℕ) → f x ≡ o → filter_map f (a ++ b) ≡ filter_map f a ++ filter_map f b
-        → filter_map f (x ∷ (a ++ b)) ≡ filter_map f (x ∷ a) ++ filter_map f b
-    go None q later = rw q later
-    go (Some n) q later = rw q (ap (λ l. n ∷ l) later)
+  links_append (x ∷ a) b = by_option (f x) (λ q. rw q (links_append a b)) (λ n q. rw q (ap (λ l. n ∷ l) (links_append a b)))
 
   pub none_there : (es : List Entry) → AllByRecursion (λ x. f x ≡ None) es → filter_map f es ≡ []
   none_there [] a = refl
@@ -111,10 +106,7 @@ pub turnless_ascend : (es : List Entry) → AreNoTurns es → AllAscend es
 turnless_ascend es a = subst IsAscending (sym (none_there link_of_turn es a)) tt
 
 pub frames_turnless : (who : Side) (h : ℕ) (l : Link) (k : Work) → AreNoTurns (frames_noted who h l k)
-frames_turnless who h l k = go (port_at k.ports h) where
-  go : (o : Option Port) → AreNoTurns (option_map_or (λ (p : Port). entries_for h (ending_entries who l p.side (ending_of k))) o [])
-  go None = tt
-  go (Some p) = links_none h (ending_entries who l p.side (ending_of k))
+frames_turnless who h l k = by_option (port_at k.ports h) (λ q. rw q tt) (λ p q. rw q (links_none h (ending_entries who l p.side (ending_of k))))
 
 links_front : (a b : List Entry) → AreNoTurns a → links_of_turns (a ++ b) ≡ links_of_turns b
 links_front a b none = links_append link_of_turn a b ∙ ap (λ l. l ++ links_of_turns b) (none_there link_of_turn a none)

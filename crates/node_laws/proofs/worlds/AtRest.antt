@@ -1,7 +1,6 @@
 -- Whatever happens to a world, all messages at the ends of nodes that run have had their turns, or all before one that is held.
 use Rattle.std.proofs.Common.{◌≡◌, ℕ, Bool, true, false, cond, eqb, List, [], ◌∷◌, ◌++◌, map, refl, sym, ap, subst, ◌∙◌, append_assoc}
 use Rattle.std.specs.Prelude.{Option, Some, None}
-use Rattle.std.specs.Option.{option_map_or}
 use Rattle.std.specs.List.{flat_map}
 use Rattle.registry.proofs.ValueLemmas.{AllByRecursion-append as all_append}
 use Rattle.swp_base.specs.InMemory.{Plan}
@@ -14,7 +13,6 @@ use Rattle.link_laws.specs.entries.Entries.{ending_entries}
 use Rattle.link_laws.specs.entries.Entries.End.{Controller, Host}
 use Rattle.link_laws.specs.entries.Entries.{End as Side}
 use Rattle.link_laws.proofs.entries.Lasting.{same_number}
-use Rattle.history.specs.Steps.{entries_for}
 use Rattle.node_machine.specs.Parts.{Port, Running, Work}
 use Rattle.node_machine.specs.Carrying.{own_side, port_at}
 use Rattle.node_machine.specs.Node.{NodeInput, steps}
@@ -22,6 +20,7 @@ use Rattle.node_machine.specs.world.World.{Site, site_at, link_to, runs_on, end_
 use Rattle.node_laws.specs.kept.Books.{hosts_of_ends}
 use Rattle.node_laws.specs.kept.Hosts.{AreDifferent}
 use Rattle.node_laws.specs.telling.Telling.{HasEnds, hosts_in}
+use Rattle.node_laws.proofs.Cases.{by_test, by_option}
 use Rattle.node_laws.proofs.telling.Nodes.{hosts_same, link_is}
 use Rattle.node_laws.proofs.telling.Walks.{AreUncut}
 use Rattle.node_laws.specs.links.Notices.{IsOutside}
@@ -44,10 +43,7 @@ use Rattle.node_laws.proofs.worlds.Resting.{AreIdle, IsIdle, ended_done, idle_do
 -- ## Frames
 
 frames_unbooted : (who : Side) (h : ℕ) (l : Link) (v : Work) → AreNoBoots (frames_noted who h l v)
-frames_unbooted who h l v = go (port_at v.ports h) where
-  go : (o : Option Port) → AreNoBoots (option_map_or (λ (p : Port). entries_for h (ending_entries who l p.side (ending_of v))) o [])
-  go None = tt
-  go (Some p) = notes_unbooted h (ending_entries who l p.side (ending_of v))
+frames_unbooted who h l v = by_option (port_at v.ports h) (λ q. rw q tt) (λ p q. rw q (notes_unbooted h (ending_entries who l p.side (ending_of v))))
 
 pub frames_idle : (e : End) (who : Side) (h : ℕ) (l : Link) (v : Work) → AreIdle e (frames_noted who h l v)
 frames_idle e who h l v = quiet_idle e (frames_noted who h l v) (frames_still e who h l v) (frames_turnless who h l v) (frames_unbooted who h l v)
@@ -101,19 +97,15 @@ site_one : (ports : List Port) (sites : List Site) (k : ℕ) (s : Site) → host
     → (p : Port) × (port_at ports k ≡ Some p)
 site_one ports [] k s same here = absurd (cc here)
 site_one [] (x ∷ sites) k s same here = absurd (cc same)
-site_one (p ∷ ports) (x ∷ sites) k s same here = by (eqb x.host k) refl (site_one ports sites k s) where
-  one : p.desk.host ≡ x.host
-  one = cc
+site_one (p ∷ ports) (x ∷ sites) k s same here = by_test (eqb x.host k)
+    (λ q. let found : eqb p.desk.host k ≡ true = ap (λ n. eqb n k) one ∙ q in (p, rw found refl))
+    (λ q. let passed : eqb p.desk.host k ≡ false = ap (λ n. eqb n k) one ∙ q in
+    let rest = site_one ports sites k s others (rw q at here) in (rest.0, rw passed rest.1)) where
+      one : p.desk.host ≡ x.host
+      one = cc
 
-  others : hosts_of_ends ports ≡ hosts_in sites
-  others = cc
-
-  by : (b : Bool) → eqb x.host k ≡ b → (hosts_of_ends ports ≡ hosts_in sites → site_at sites k ≡ Some s → (p : Port) × (port_at ports k ≡ Some p))
-      → (q : Port) × (port_at (p ∷ ports) k ≡ Some q)
-  by true q later = let found : eqb p.desk.host k ≡ true = ap (λ n. eqb n k) one ∙ q in (p, rw found refl)
-  by false q later =
-      let passed : eqb p.desk.host k ≡ false = ap (λ n. eqb n k) one ∙ q in
-      let rest = later others (rw q at here) in (rest.0, rw passed rest.1)
+      others : hosts_of_ends ports ≡ hosts_in sites
+      others = cc
 
 module _ (t : List Entry) (sites : List Site) (plan : Option Plan) (r : Running) (has : HasEnds 0 (hosts_in sites) r)
     (different : AreDifferent (hosts_in sites)) (near_ends : ℕ → NumberedEnd) (es : List Entry)

@@ -14,10 +14,11 @@ use Rattle.shdlc_core.specs.declared.answers.LinkState.TheVariants.{Up as IsUpNo
 use Rattle.shdlc_core.specs.Machine.{EndState, take_answer, tick_answer, timed, Timed, taken, runs_timer, nothing_taken, nothing_ticked}
 use Rattle.shdlc_core.specs.Machine.Timed.{Runs, Over, Spent}
 use Rattle.link_laws.specs.sessions.Sessions.{is_up}
-use Rattle.link_laws.specs.machine.Machine.{LinkEnd, Refused, ended_by, ended_by_reset, ended_by_act, reset_refusal, if_up, is_open, is_faulty}
+use Rattle.link_laws.specs.machine.Machine.{LinkEnd, ended_by, ended_by_reset, ended_by_act, reset_refusal, if_up, is_open, is_faulty}
 use Rattle.link_laws.specs.machine.Machine.{act_answer}
 use Rattle.link_laws.specs.machine.Machine.LinkInput.{Take, Tick, Reset, Start}
 use Rattle.node_laws.specs.answers.Unasked.{is_own_reset}
+use Rattle.node_laws.proofs.Cases.{by_option}
 
 -- it is a reset on demand
 abbrev pub asked : Option EndedBy → Bool
@@ -108,21 +109,13 @@ reset_asked s window free = ap (λ o. asked (ended_by_reset s o)) free ∙ go s.
 
 -- a reset ends it for no other cause
 pub reset_only : (s : LinkEnd) (window : Option ℕ) → asked (ended_by s (Reset window)) ≡ is_some (ended_by s (Reset window))
-reset_only s window = go (reset_refusal s) where
+reset_only s window = by_option (reset_refusal s) (λ q. rw q (by s.shdlc.phase refl)) (λ why q. rw q refl) where
   by : (p : LinkState) → s.shdlc.phase ≡ p → asked (if_up s.shdlc Asked) ≡ is_some (if_up s.shdlc Asked)
   by IsUpNow q = rw q refl
   by _ q = rw q refl
 
-  go : (o : Option Refused) → asked (ended_by_reset s o) ≡ is_some (ended_by_reset s o)
-  go None = by s.shdlc.phase refl
-  go (Some why) = refl
-
 pub reset_other : (s : LinkEnd) (window : Option ℕ) → option_map_or otherwise (ended_by s (Reset window)) false ≡ false
-reset_other s window = go (reset_refusal s) where
+reset_other s window = by_option (reset_refusal s) (λ q. rw q (by s.shdlc.phase refl)) (λ why q. rw q refl) where
   by : (p : LinkState) → s.shdlc.phase ≡ p → option_map_or otherwise (if_up s.shdlc Asked) false ≡ false
   by IsUpNow q = rw q refl
   by _ q = rw q refl
-
-  go : (o : Option Refused) → option_map_or otherwise (ended_by_reset s o) false ≡ false
-  go None = by s.shdlc.phase refl
-  go (Some why) = refl

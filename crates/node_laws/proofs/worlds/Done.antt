@@ -65,9 +65,6 @@ module _ (t : List Entry) (w : NodeWorld) (reads : WaitsRead t w) (before : AllW
   abbrev a : IsOrderly w
   a = reads.all.orderly
 
-  older : Site → Site
-  older s = record s { link = aged s.link }
-
   abbrev old : NodeWorld
   old = (all_aged w).0
 

@@ -1,6 +1,5 @@
 -- Which sessions end in what a node notes in a step: only what comes to its ends, and late notices, tell of that.
-use Rattle.std.proofs.Common.{◌≡◌, ℕ, Bool, true, false, List, [], ◌∷◌, ◌++◌, map, Option, Some, None, refl, ap, ◌∙◌, ◌||◌, ◌&&◌}
-use Rattle.std.specs.Prelude.{option_to_list}
+use Rattle.std.proofs.Common.{◌≡◌, ℕ, Bool, false, List, [], ◌∷◌, ◌++◌, Option, Some, None, refl, ap, ◌∙◌, ◌||◌, ◌&&◌}
 use Rattle.std.specs.List.{AllByRecursion, flat_map, list_any}
 use Rattle.std.specs.Option.{option_map_or}
 use Rattle.std.proofs.lemmas.Bool.{true≢false}
@@ -20,6 +19,7 @@ use Rattle.node_machine.specs.Parts.{Core, Port, Work, Deed}
 use Rattle.node_machine.specs.Carrying.{own_side, port_at, all_done}
 use Rattle.node_machine.specs.Node.{NodeInput, steps, told_at}
 use Rattle.node_machine.specs.world.World.{arrival, frames_noted, ending_of, sending, beginning}
+use Rattle.node_laws.proofs.Cases.{by_option, by_test}
 use Rattle.node_laws.proofs.readings.Silent.{IsQuiet, told_rest, rest_quiet}
 use Rattle.node_laws.proofs.readings.Sites.{ending_quiet, arrival_quiet}
 use Rattle.node_laws.specs.passes.Steps.{told_of_coming}
@@ -62,10 +62,9 @@ pub notes_downless : (h : ℕ) (notes : List Noted) → AllByRecursion IsQuiet n
 notes_downless = quiet_none
 
 pub frames_downless : (who : Side) (h : ℕ) (l : Link) (k : Work) → AreDownless (frames_noted who h l k)
-frames_downless who h l k = go (port_at k.ports h) where
-  go : (o : Option Port) → AreDownless (option_map_or (λ (p : Port). entries_for h (ending_entries who l p.side (ending_of k))) o [])
-  go None = tt
-  go (Some p) = quiet_none h (ending_entries who l p.side (ending_of k)) (ending_quiet who l p.side (ending_of k))
+frames_downless who h l k = by_option (port_at k.ports h)
+    (λ q. rw q tt)
+    (λ p q. rw q (quiet_none h (ending_entries who l p.side (ending_of k)) (ending_quiet who l p.side (ending_of k))))
 
 pub arrival_downless : (who : Side) (h : ℕ) (l : Link) (comes : Comes) → AreDownless (entries_for h (arrival who l comes))
 arrival_downless who h l comes = quiet_none h (arrival who l comes) (arrival_quiet who l comes)
@@ -90,10 +89,7 @@ module _ (test : EndedBy → Bool) (e : End) where
 
   pub any_append : (a b : List Entry) → ends_in_list (a ++ b) ≡ (ends_in_list a || ends_in_list b)
   any_append [] b = refl
-  any_append (x ∷ a) b = ap (λ z. ends_session test e x || z) (any_append a b) ∙ assoc (ends_session test e x) where
-    assoc : (c : Bool) → (c || (ends_in_list a || ends_in_list b)) ≡ ((c || ends_in_list a) || ends_in_list b)
-    assoc true = refl
-    assoc false = refl
+  any_append (x ∷ a) b = ap (λ z. ends_session test e x || z) (any_append a b) ∙ by_test (ends_session test e x) (λ q. rw q refl) (λ q. rw q refl)
 
   pub any_front : (a es : List Entry) → AreDownless a → ends_in_list (a ++ es) ≡ ends_in_list es
   any_front a es none = any_append a es ∙ ap (λ b. b || ends_in_list es) (any_none a none)
@@ -118,21 +114,14 @@ module _ (test : EndedBy → Bool) (e : End) where
 
   pub told_any : (h : ℕ) (who : Side) (n acked : ℕ) (rep : Report)
       → ends_in_list (entries_for h (told who n rep acked)) ≡ (same_end (end_of h who) e && option_map_or test rep.ended false)
-  told_any h who n acked rep = go rep.ended where
-    others : List Noted
-    others = told_rest who n acked rep
+  told_any h who n acked rep = by_option rep.ended
+      (λ is. rw is (none ∙ by_test (same_end (end_of h who) e) (λ q. rw q refl) (λ q. rw q refl)))
+      (λ cause is. rw is (ap (λ z. (same_end (end_of h who) e && test cause) || z) none ∙ or-false (same_end (end_of h who) e && test cause))) where
+        others : List Noted
+        others = told_rest who n acked rep
 
-    none : ends_in_list (entries_for h others) ≡ false
-    none = any_none (entries_for h others) (quiet_none h others (rest_quiet who n acked rep))
-
-    both_none : (b : Bool) → false ≡ (b && false)
-    both_none true = refl
-    both_none false = refl
-
-    go : (o : Option EndedBy)
-        → ends_in_list (entries_for h (map (Down who) (option_to_list o) ++ others)) ≡ (same_end (end_of h who) e && option_map_or test o false)
-    go None = none ∙ both_none (same_end (end_of h who) e)
-    go (Some cause) = ap (λ z. (same_end (end_of h who) e && test cause) || z) none ∙ or-false (same_end (end_of h who) e && test cause)
+        none : ends_in_list (entries_for h others) ≡ false
+        none = any_none (entries_for h others) (quiet_none h others (rest_quiet who n acked rep))
 
   -- why a session ends as this comes
   abbrev pub ends_by : Port → Option LinkInput → Bool
@@ -141,8 +130,5 @@ module _ (test : EndedBy → Bool) (e : End) where
 
   pub at_any : (core : Core) (p : Port) (o : Option LinkInput)
       → ends_in_list (told_at core p o) ≡ (same_end (end_of p.desk.host (own_side core)) e && ends_by p o)
-  at_any core p None = both_none (same_end (end_of p.desk.host (own_side core)) e) where
-    both_none : (b : Bool) → false ≡ (b && false)
-    both_none true = refl
-    both_none false = refl
+  at_any core p None = by_test (same_end (end_of p.desk.host (own_side core)) e) (λ q. rw q refl) (λ q. rw q refl)
   at_any core p (Some i) = told_any p.desk.host (own_side core) p.session (whole_acked (after_input p.side i)) (report p.side i)

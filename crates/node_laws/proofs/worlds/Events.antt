@@ -329,10 +329,6 @@ all_on t es f host node idle sites a =
 same_node : (s : Site) (r : Running) → s.node ≡ Some r → (x : Running) × (s.node ≡ Some x) × (is_held_among x.desks s.host ≡ is_held_among r.desks s.host)
 same_node s r q = (r, q, refl)
 
-map_same : (f : Site → Site) → ((s : Site) → f s ≡ s) → (sites : List Site) → map f sites ≡ sites
-map_same f one [] = refl
-map_same f one (s ∷ sites) = ap (λ (x : Site). x ∷ map f sites) (one s) ∙ ap (λ l. s ∷ l) (map_same f one sites)
-
 module _ (t : List Entry) (sites : List Site) (a : AllAtRest t sites) where
   abbrev Kept : (Site → Site) → Type 0
   Kept f = (s : Site) (r : Running) → (f s).node ≡ Some r → (x : Running) × (s.node ≡ Some x) × (is_held_among x.desks s.host ≡ is_held_among r.desks s.host)
@@ -346,17 +342,11 @@ module _ (t : List Entry) (sites : List Site) (a : AllAtRest t sites) where
     by false r q = same_node s r q
 
   with_hosts : (k : ℕ) (g : Site → Site) → ((s : Site) → (g s).host ≡ s.host) → (s : Site) → (changed_if (s.host == k) g s).host ≡ s.host
-  with_hosts k g host s = by (s.host == k) where
-    by : (b : Bool) → (changed_if b g s).host ≡ s.host
-    by true = host s
-    by false = refl
+  with_hosts k g host s = by_test (s.host == k) (λ q. rw q (host s)) (λ q. rw q refl)
 
   pub with_on : (es : List Entry) (k : ℕ) (g : Site → Site) → ((s : Site) → (g s).host ≡ s.host) → Kept g → ((e : End) → AreIdle e es)
       → AllAtRest (t ++ es) (with_site k g sites)
   with_on es k g host kept idle = all_on t es (λ (s : Site). changed_if (s.host == k) g s) (with_hosts k g host) (with_kept k g kept) idle sites a
-
-  pub same_on : (es : List Entry) → ((e : End) → AreIdle e es) → AllAtRest (t ++ es) sites
-  same_on es idle = subst (AllAtRest (t ++ es)) (map_same (λ s. s) (λ s. refl) sites) (all_on t es (λ s. s) (λ s. refl) same_node idle sites a)
 
 pub quiet_links : (e : End) (h : ℕ) (xs : List Noted) → AreNoGots xs → AreIdle e (entries_for h xs)
 quiet_links e h xs none = quiet_idle e (entries_for h xs) (notes_still e h xs none) (links_none h xs) (notes_unbooted h xs)

@@ -1,5 +1,5 @@
 -- In lists of entries the frames that go out of a node stand behind all else that tells of it.
-use Rattle.std.proofs.Common.{◌≡◌, ℕ, Bool, true, false, List, [], ◌∷◌, ◌++◌, refl, sym, ap, subst, ◌∙◌, append_assoc}
+use Rattle.std.proofs.Common.{◌≡◌, ℕ, true, false, List, [], ◌∷◌, ◌++◌, refl, sym, ap, subst, ◌∙◌, append_assoc}
 use Rattle.std.specs.Prelude.{◌==◌, ◌&&◌, not}
 use Rattle.std.specs.List.{AllByRecursion}
 use Rattle.std.specs.Option.{option_map_or}
@@ -10,6 +10,7 @@ use Rattle.trace_model.specs.declared.entry.Entry.TheVariants as entry
 use Rattle.node_machine.specs.world.World.{node_of}
 use Rattle.node_laws.specs.power.Powers.{AreNotOf, is_of_node}
 use Rattle.node_laws.specs.answers.Order.{emits}
+use Rattle.node_laws.proofs.Cases.{by_test}
 use Rattle.node_laws.proofs.worlds.Frameless.{AreInside, IsOut, AreOut}
 
 -- first no frame goes out, and then nothing else happens
@@ -19,10 +20,6 @@ pub record IsFramed (es : List Entry) : Type 0 where
   pub is : es ≡ front ++ back
   pub inside : AreInside front
   pub out : AreOut back
-
-either : (b : Bool) → (b && not b) ≡ false
-either true = refl
-either false = refl
 
 module _ (n : ℕ) where
   -- no frame goes out of this node
@@ -42,7 +39,7 @@ module _ (n : ℕ) where
     pub out : AllByRecursion FrameAlone back
 
   out_one : (x : Entry) → IsOut x → FrameAlone x
-  out_one (entry.Emit e lpdu) q = either (node_of e == n)
+  out_one (entry.Emit e lpdu) q = by_test (node_of e == n) (λ q. rw q refl) (λ q. rw q refl)
   out_one (entry.Lost e lpdu cause) q = refl
   out_one x q = absurd (true≢false (sym q))
 

@@ -1,8 +1,7 @@
 -- What a node notes in a step tells of no frame that goes out; the frames that go out of it stand behind that.
-use Rattle.std.proofs.Common.{◌≡◌, ℕ, Bool, true, false, List, [], ◌∷◌, ◌++◌, Option, Some, None}
+use Rattle.std.proofs.Common.{◌≡◌, ℕ, Bool, true, false, List, [], ◌∷◌, ◌++◌, None}
 use Rattle.std.proofs.Common.{refl}
 use Rattle.std.specs.List.{AllByRecursion}
-use Rattle.std.specs.Option.{option_map_or}
 use Rattle.registry.proofs.ValueLemmas.{AllByRecursion-append as all_append}
 use Rattle.trace_model.specs.declared.entry.Entry.{Entry}
 use Rattle.trace_model.specs.declared.entry.Entry.TheVariants as entry
@@ -13,11 +12,12 @@ use Rattle.link_laws.specs.entries.Entries.{End as Side, Entry as Noted, told, f
 use Rattle.link_laws.specs.entries.Entries.{ending_entries, aged_entries}
 use Rattle.link_laws.specs.entries.Entries.Entry.{Emit, Lost, Tick, Restarted, Cut}
 use Rattle.history.specs.Steps.{entries_for}
-use Rattle.node_machine.specs.Parts.{Port, Work, Deed}
+use Rattle.node_machine.specs.Parts.{Work, Deed}
 use Rattle.node_machine.specs.Carrying.{port_at, all_done}
 use Rattle.node_machine.specs.Node.{NodeInput, steps}
 use Rattle.node_machine.specs.world.World.{arrival, frames_noted, ending_of, sending, beginning}
 use Rattle.node_laws.specs.passes.Steps.{told_of_coming}
+use Rattle.node_laws.proofs.Cases.{by_option}
 use Rattle.node_laws.proofs.passes.Coming.{coming_all}
 use Rattle.node_laws.proofs.passes.Kinds.{NotesOnly, sending_notes, beginning_notes}
 use Rattle.node_laws.proofs.passes.InSteps.{IsOfStep, of_deeds, step_keeps, deeds_keep}
@@ -104,11 +104,9 @@ notes_out h (Cut who ∷ notes) all = notes_out h notes all.1
 notes_out h (_ ∷ notes) all = absurd all.0
 
 pub frames_out_of : (who : Side) (h : ℕ) (l : Link) (k : Work) → AreOut (frames_noted who h l k)
-frames_out_of who h l k = go (port_at k.ports h) where
-  go : (o : Option Port) → AreOut (option_map_or (λ (p : Port). entries_for h (ending_entries who l p.side (ending_of k))) o [])
-  go None = tt
-  go (Some p) =
-      notes_out h (ending_entries who l p.side (ending_of k)) (ending_all IsGoing (λ w c. tt) (λ w c. tt) (λ w. tt) who l p.side (ending_of k))
+frames_out_of who h l k = by_option (port_at k.ports h)
+    (λ q. rw q tt)
+    (λ p q. rw q (notes_out h (ending_entries who l p.side (ending_of k)) (ending_all IsGoing (λ w c. tt) (λ w c. tt) (λ w. tt) who l p.side (ending_of k))))
 
 -- ## What comes
 

@@ -128,14 +128,12 @@ host_framed s =
 
 hosts_framed : (n : ℕ) (sites : List Site) → AreDifferent (hosts_in sites) → AreNodes sites → IsFramedFor n (hosts_tick sites).1
 hosts_framed n [] d a = framed_for n [] (only_front [] tt)
-hosts_framed n (s ∷ sites) d a = go (s.host == n) refl (hosts_framed n sites d.1 a.1) where
-  go : (c : Bool) → (s.host == n) ≡ c → IsFramedFor n (hosts_tick sites).1 → IsFramedFor n ((host_ticks s).1 ++ (hosts_tick sites).1)
-  go false q later =
-      others_before n (hosts_tick sites).1 (host_ticks s).1 (own_not s.host n (host_ticks s).1 q (part_own s.host (host_ticks s).1 (far_tick s a.0.0 a.0.1)))
-      later
-  go true q later =
-      others_behind n (host_ticks s).1 (hosts_tick sites).1 (framed_for n (host_ticks s).1 (host_framed s))
-      (subst (λ m. AreNotOf m (hosts_tick sites).1) (eqb-true s.host n q) (others_tick s.host sites d.0 a.1))
+hosts_framed n (s ∷ sites) d a = by_test (s.host == n)
+    (λ q. others_behind n (host_ticks s).1 (hosts_tick sites).1 (framed_for n (host_ticks s).1 (host_framed s))
+    (subst (λ m. AreNotOf m (hosts_tick sites).1) (eqb-true s.host n q) (others_tick s.host sites d.0 a.1)))
+    (λ q. others_before n (hosts_tick sites).1 (host_ticks s).1 (own_not s.host n (host_ticks s).1 q
+    (part_own s.host (host_ticks s).1 (far_tick s a.0.0 a.0.1)))
+    (hosts_framed n sites d.1 a.1))
 
 all_aged_inside : (sites : List Site)
     → AreInside (flat_map (λ (s : Site). entries_for s.host (aged_entries Controller s.link.to_controller ++ aged_entries Host s.link.to_host)) sites)

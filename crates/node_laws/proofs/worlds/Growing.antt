@@ -1,12 +1,11 @@
 -- Over a step of a controller the ages of its notices are read.
 use Rattle.std.proofs.Common.{◌≡◌, inl, inr, ℕ, ◌≤◌, Bool, true, false, cond, List, [], ◌∷◌, ◌++◌, map, Option, Some, None, refl}
 use Rattle.std.proofs.Common.{sym, ap, ap₂, subst, ◌∙◌, ◌||◌, ◌&&◌, eqb, arith}
-use Rattle.std.specs.Prelude.{◌+◌, not, nat_le, option_to_list}
+use Rattle.std.specs.Prelude.{◌+◌, not, nat_le}
 use Rattle.std.specs.List.{flat_map}
 use Rattle.std.specs.Option.{option_map, option_map_or, option_and_then}
 use Rattle.std.proofs.lemmas.Bool.{true≢false, eq-eqb}
 use mathlib.Core.Bool.{or-true}
-use Rattle.swp_base.specs.declared.link_terms.Cause.{Cause as EndedBy}
 use Rattle.trace_model.specs.Lines.{IsHost}
 use Rattle.trace_model.specs.declared.entry.Entry.{Entry}
 use Rattle.trace_model.specs.declared.entry.Entry.TheVariants as entry
@@ -14,7 +13,6 @@ use Rattle.link_laws.specs.machine.Machine.{LinkInput, Message, Report, after_in
 use Rattle.link_laws.specs.machine.Machine.LinkInput.{Tick, Reset}
 use Rattle.link_laws.specs.machine.Machine.Turn.{Hold}
 use Rattle.link_laws.specs.entries.Entries.{End as Side, Entry as Noted, told}
-use Rattle.link_laws.specs.entries.Entries.Entry.{Down}
 use Rattle.history.specs.Steps.{entries_for}
 use Rattle.node_machine.specs.Parts.{Creation, Notice, Core, Port, Work, Deed}
 use Rattle.node_machine.specs.Controller.{controller_deeds, asked_at, view_of}
@@ -61,11 +59,7 @@ module _ (x : ℕ) (t : List Entry) (base : ℕ) where
   held_ages : (h : ℕ) (flag : Bool) (w : Work) → AgesIn x base w → AgesIn x base (turn_at h (Hold flag) w)
   held_ages h flag w a =
       ages_same w (turn_at h (Hold flag) w) (option_map_or (noted_of w.core (Hold flag)) (port_at w.ports h) []) (turn_noticed x h (Hold flag) w) refl
-      (none (port_at w.ports h)) a
-    where
-      none : (o : Option Port) → notified x (option_map_or (noted_of w.core (Hold flag)) o []) ≡ false
-      none None = refl
-      none (Some p) = refl
+      (by_option (port_at w.ports h) (λ q. rw q refl) (λ p q. rw q refl)) a
 
   holds_ages : (h : ℕ) (short : ℕ × ℕ) (w : Work) → AgesIn x base w → AgesIn x base (holds_back h short w)
   holds_ages h short w a =
@@ -108,26 +102,19 @@ module _ (x : ℕ) (t : List Entry) (base : ℕ) where
 
 module _ (x : ℕ) where
   told_mute : (h : ℕ) (who : Side) (n acked : ℕ) (r : Report) → notified x (entries_for h (told who n r acked)) ≡ false
-  told_mute h who n acked r = go r.ended where
+  told_mute h who n acked r = by_option r.ended (λ q. rw q quiet) (λ cause q. rw q quiet) where
     rest : List Noted
     rest = told_rest who n acked r
 
     quiet : notified x (entries_for h rest) ≡ false
     quiet = far_notifies x (entries_for h rest) (quiet_far h rest (rest_quiet who n acked r))
 
-    go : (o : Option EndedBy) → notified x (entries_for h (map (Down who) (option_to_list o) ++ rest)) ≡ false
-    go None = quiet
-    go (Some cause) = quiet
-
   at_mute : (core : Core) (p : Port) (o : Option LinkInput) → notified x (told_at core p o) ≡ false
   at_mute core p None = refl
   at_mute core p (Some i) = told_mute p.desk.host (own_side core) p.session (whole_acked (after_input p.side i)) (report p.side i)
 
   late_mute : (core : Core) (p : Port) → notified x (told_late core p) ≡ false
-  late_mute core p = go (is_late p) where
-    go : (b : Bool) → notified x (cond b (told_at core p (Some (Reset None))) []) ≡ false
-    go true = at_mute core p (Some (Reset None))
-    go false = refl
+  late_mute core p = by_test (is_late p) (λ q. rw q (at_mute core p (Some (Reset None)))) (λ q. rw q refl)
 
   flat_mute : (f : Port → List Entry) → ((p : Port) → notified x (f p) ≡ false) → (ports : List Port) → notified x (flat_map f ports) ≡ false
   flat_mute f one [] = refl

@@ -1,11 +1,8 @@
 -- In a step of a node what comes to it is noted before what it answers.
-use Rattle.std.proofs.Common.{◌≡◌, ℕ, Bool, true, false, List, [], ◌∷◌, ◌++◌, map, Option, Some, None}
-use Rattle.std.proofs.Common.{refl, sym, ap, ◌∙◌, append_assoc, append-nil}
-use Rattle.std.specs.Prelude.{option_to_list}
+use Rattle.std.proofs.Common.{◌≡◌, ℕ, Bool, true, false, List, [], ◌∷◌, ◌++◌, None}
+use Rattle.std.proofs.Common.{refl, ap, ◌∙◌, append_assoc}
 use Rattle.std.specs.List.{AllByRecursion}
-use Rattle.std.specs.Option.{option_map_or}
 use Rattle.registry.proofs.ValueLemmas.{AllByRecursion-append as all_append}
-use Rattle.swp_base.specs.declared.link_terms.Cause.{Cause as EndedBy}
 use Rattle.trace_model.specs.declared.entry.Entry.{Entry}
 use Rattle.trace_model.specs.declared.entry.Entry.TheVariants as entry
 use Rattle.link_laws.specs.machine.Machine.{Message, Report}
@@ -13,16 +10,17 @@ use Rattle.link_laws.specs.messages.Links.{Link, Comes}
 use Rattle.link_laws.specs.entries.Entries.{End as Side, Entry as Noted, told, ending_entries}
 use Rattle.link_laws.specs.entries.Entries.Entry.{Up, Down, Acked, Got, Sent, Emit, Took, Lost, Tick, Restarted, Cut}
 use Rattle.history.specs.Steps.{entries_for}
-use Rattle.node_machine.specs.Parts.{Port, Work, Deed}
+use Rattle.node_machine.specs.Parts.{Work, Deed}
 use Rattle.node_machine.specs.Carrying.{port_at, all_done}
 use Rattle.node_machine.specs.Node.{NodeInput, steps}
 use Rattle.node_machine.specs.world.World.{arrival, frames_noted, ending_of, sending, beginning}
+use Rattle.node_laws.proofs.Cases.{by_option}
 use Rattle.node_laws.proofs.readings.Silent.{told_rest, rest_quiet, IsQuiet}
 use Rattle.node_laws.proofs.telling.Frames.{ending_all, arrival_all}
 use Rattle.node_laws.specs.passes.Steps.{told_of_coming}
 use Rattle.node_laws.proofs.passes.Coming.{coming_all}
 use Rattle.node_laws.proofs.passes.Kinds.{NotesOnly, sending_notes, beginning_notes}
-use Rattle.node_laws.proofs.passes.InSteps.{IsOfStep, of_deeds, step_keeps, deeds_keep}
+use Rattle.node_laws.proofs.passes.InSteps.{IsOfStep, of_deeds, IsBehind, step_notes, deeds_note}
 use Rattle.node_laws.specs.answers.Order.{answerer}
 
 -- an entry tells of something that comes to an end
@@ -81,15 +79,10 @@ frames_unheard h (Cut who ∷ notes) all = frames_unheard h notes all.1
 frames_unheard h (_ ∷ notes) all = absurd all.0
 
 out_frames : (who : Side) (h : ℕ) (l : Link) (k : Work) → AreUnheard (frames_noted who h l k) × AreUnanswered (frames_noted who h l k)
-out_frames who h l k = go (port_at k.ports h) where
-  noted : Option Port → List Entry
-  noted o = option_map_or (λ (p : Port). entries_for h (ending_entries who l p.side (ending_of k))) o []
-
-  go : (o : Option Port) → AreUnheard (noted o) × AreUnanswered (noted o)
-  go None = (tt, tt)
-  go (Some p) =
-      frames_unheard h (ending_entries who l p.side (ending_of k))
-      (ending_all IsFrame (λ w c. tt) (λ w c. tt) (λ w. tt) who l p.side (ending_of k))
+out_frames who h l k = by_option (port_at k.ports h)
+    (λ q. rw q (tt, tt))
+    (λ p q. rw q (frames_unheard h (ending_entries who l p.side (ending_of k))
+    (ending_all IsFrame (λ w c. tt) (λ w c. tt) (λ w. tt) who l p.side (ending_of k))))
 
 pub out_unheard : (who : Side) (h : ℕ) (l : Link) (k : Work) → AreUnheard (frames_noted who h l k)
 out_unheard who h l k = (out_frames who h l k).0
@@ -113,13 +106,11 @@ quiet_unanswered h (Cut who ∷ notes) all = quiet_unanswered h notes all.1
 quiet_unanswered h (_ ∷ notes) all = (refl, quiet_unanswered h notes all.1)
 
 told_unanswered : (h : ℕ) (who : Side) (n acked : ℕ) (r : Report) → AreUnanswered (entries_for h (told who n r acked))
-told_unanswered h who n acked r = go r.ended where
-  rest : List Noted
-  rest = told_rest who n acked r
-
-  go : (o : Option EndedBy) → AreUnanswered (entries_for h (map (Down who) (option_to_list o) ++ rest))
-  go None = quiet_unanswered h rest (rest_quiet who n acked r)
-  go (Some cause) = (refl, quiet_unanswered h rest (rest_quiet who n acked r))
+told_unanswered h who n acked r = by_option r.ended
+    (λ q. rw q (quiet_unanswered h rest (rest_quiet who n acked r)))
+    (λ cause q. rw q (refl, quiet_unanswered h rest (rest_quiet who n acked r))) where
+      rest : List Noted
+      rest = told_rest who n acked r
 
 pub coming_unanswered : (input : NodeInput) (w : Work) → AreUnanswered (told_of_coming input w)
 coming_unanswered = coming_all IsUnanswered told_unanswered
@@ -134,42 +125,27 @@ pub record IsParted (es : List Entry) : Type 0 where
   pub unanswered : AreUnanswered front
   pub unheard : AreUnheard back
 
--- so much of what is noted, and what tells of nothing that comes
-record Behind (front es : List Entry) : Type 0 where
-  more : List Entry
-  is : es ≡ front ++ more
-  none : AreUnheard more
-
-grown : (front es more : List Entry) → AreUnheard more → Behind front es → Behind front (es ++ more)
-grown front es more none a = record {
-  more = a.more ++ more;
-  is = ap (λ l. l ++ more) a.is ∙ append_assoc front a.more more;
-  none = all_append IsUnheard a.more more a.none none;
-}
-
 pub step_parted : (input : NodeInput) (w : Work) (frames : List Entry) → AreUnanswered w.entries → AreUnheard frames
     → IsParted ((steps input w).entries ++ frames)
 step_parted input w frames quiet out =
     let front : List Entry = w.entries ++ told_of_coming input w in
-    let b : Behind front (steps input w).entries =
-    step_keeps IsUnheard of_step (Behind front) (grown front) input w (record { more = []; is = sym (append-nil front); none = tt }) in
+    let b : IsBehind IsUnheard front (steps input w).entries = step_notes IsUnheard of_step input w in
     record {
       front = front;
       back = b.more ++ frames;
       is = ap (λ l. l ++ frames) b.is ∙ append_assoc front b.more frames;
       unanswered = all_append IsUnanswered w.entries (told_of_coming input w) quiet (coming_unanswered input w);
-      unheard = all_append IsUnheard b.more frames b.none out;
+      unheard = all_append IsUnheard b.more frames b.all out;
     }
 
 pub deeds_parted : (h : ℕ) (deeds : List Deed) (w : Work) (frames : List Entry) → AllByRecursion NotesUnheard deeds → AreUnanswered w.entries
     → AreUnheard frames → IsParted ((all_done h deeds w).entries ++ frames)
 deeds_parted h deeds w frames may quiet out =
-    let b : Behind w.entries (all_done h deeds w).entries =
-    deeds_keep IsUnheard of_step (Behind w.entries) (grown w.entries) h deeds w may (record { more = []; is = sym (append-nil w.entries); none = tt }) in
+    let b : IsBehind IsUnheard w.entries (all_done h deeds w).entries = deeds_note IsUnheard of_step h deeds w may in
     record {
       front = w.entries;
       back = b.more ++ frames;
       is = ap (λ l. l ++ frames) b.is ∙ append_assoc w.entries b.more frames;
       unanswered = quiet;
-      unheard = all_append IsUnheard b.more frames b.none out;
+      unheard = all_append IsUnheard b.more frames b.all out;
     }

@@ -234,15 +234,13 @@ module _ (n : ℕ) where
 
   hosts_late : (sites : List Site) → AreDifferent (hosts_in sites) → AreNodes sites → AreHostSites sites → IsLate (hosts_tick sites).1
   hosts_late [] d nodes a = refl
-  hosts_late (s ∷ sites) d nodes a = go (s.host == n) refl (far_tick s nodes.0.0 nodes.0.1) (hosts_late sites d.1 nodes.1 a.1) where
-    go : (b : Bool) → (s.host == n) ≡ b → IsPart s.host (host_ticks s).1 → IsLate (hosts_tick sites).1 → IsLate ((host_ticks s).1 ++ (hosts_tick sites).1)
-    go false q part later =
-        late_before (host_ticks s).1 (hosts_tick sites).1
-        (others_answer n (host_ticks s).1 (own_not s.host n (host_ticks s).1 q (part_own s.host (host_ticks s).1 part))) later
-    go true q part later =
-        late_behind (host_ticks s).1 (hosts_tick sites).1 (host_late s q a.0 part)
-        (others_answer n (hosts_tick sites).1
-        (subst (λ m. AreNotOf m (hosts_tick sites).1) (eqb-true s.host n q) (others_tick s.host sites d.0 nodes.1)))
+  hosts_late (s ∷ sites) d nodes a = by_test (s.host == n)
+      (λ q. late_behind (host_ticks s).1 (hosts_tick sites).1 (host_late s q a.0 (far_tick s nodes.0.0 nodes.0.1))
+      (others_answer n (hosts_tick sites).1
+      (subst (λ m. AreNotOf m (hosts_tick sites).1) (eqb-true s.host n q) (others_tick s.host sites d.0 nodes.1))))
+      (λ q. late_before (host_ticks s).1 (hosts_tick sites).1
+      (others_answer n (host_ticks s).1 (own_not s.host n (host_ticks s).1 q (part_own s.host (host_ticks s).1 (far_tick s nodes.0.0 nodes.0.1))))
+      (hosts_late sites d.1 nodes.1 a.1))
 
   -- ## Events
 

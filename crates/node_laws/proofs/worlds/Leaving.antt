@@ -112,10 +112,7 @@ module _ (k : ℕ) where
   none_later (x ∷ es) a = (not_later x a.0, none_later es a.1)
 
   not_above : (f : End) → f.link ≤ k → (not f.at_host && nat_lt k f.link) ≡ false
-  not_above f low = by (not f.at_host) where
-    by : (b : Bool) → (b && nat_lt k f.link) ≡ false
-    by true = le-ltb k f.link low
-    by false = refl
+  not_above f low = by_test (not f.at_host) (λ q. rw q (le-ltb k f.link low)) (λ q. rw q refl)
 
   low_later : (es : List Entry) → AllByRecursion (λ l. l ≤ k) (links_of_turns es) → NotLater es
   low_later [] a = tt

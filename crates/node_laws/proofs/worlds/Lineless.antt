@@ -1,7 +1,6 @@
 -- What is noted of an event tells of no frame that a line loses, but where a line loses one.
-use Rattle.std.proofs.Common.{◌≡◌, ℕ, false, List, [], ◌∷◌, ◌++◌, Option, Some, None, refl}
+use Rattle.std.proofs.Common.{◌≡◌, ℕ, false, List, [], ◌∷◌, ◌++◌, refl}
 use Rattle.std.specs.List.{AllByRecursion, flat_map}
-use Rattle.std.specs.Option.{option_map_or}
 use Rattle.registry.proofs.ValueLemmas.{AllByRecursion-append as all_append}
 use Rattle.trace_model.specs.declared.entry.Entry.{Entry}
 use Rattle.trace_model.specs.declared.entry.Entry.TheVariants as entry
@@ -15,7 +14,7 @@ use Rattle.link_laws.specs.entries.Entries.{ending_entries, aged_entries}
 use Rattle.link_laws.specs.entries.Entries.End.{Controller, Host}
 use Rattle.link_laws.specs.entries.Entries.Entry.{Lost, Tick, Restarted, Cut}
 use Rattle.history.specs.Steps.{entries_for}
-use Rattle.node_machine.specs.Parts.{Port, Work, Deed}
+use Rattle.node_machine.specs.Parts.{Work, Deed}
 use Rattle.node_machine.specs.Carrying.{port_at, all_done}
 use Rattle.node_machine.specs.Node.{NodeInput, steps, begins_with}
 use Rattle.node_machine.specs.Node.NodeInput.{AtEnd, TimePasses}
@@ -26,6 +25,7 @@ use Rattle.node_machine.specs.world.World.{all_aged, activates, comes_at, end_c,
 use Rattle.node_machine.specs.world.World.Happening.{Boots, IsCut, Gives, Inits, Takes, Loses, Ticks, Resets, Activates, Arms}
 use Rattle.node_machine.proofs.world.Cases.{by_controller, by_host, by_coming, by_boot, near_tick, by_controller_tick, host_tick, by_host_tick}
 use Rattle.node_laws.specs.passes.Steps.{told_of_coming, controller_begins, controller_tick_begins}
+use Rattle.node_laws.proofs.Cases.{by_option}
 use Rattle.node_laws.proofs.All.{all_flat}
 use Rattle.node_laws.proofs.passes.Coming.{coming_all}
 use Rattle.node_laws.proofs.passes.Kinds.{NotesOnly, sending_notes, beginning_notes}
@@ -75,12 +75,10 @@ arrival_lineless : (who : Side) (h : ℕ) (l : Link) (comes : Comes) → AreLine
 arrival_lineless who h l comes = notes_lineless h (arrival who l comes) (arrival_all IsOfWire (λ w c. tt) who l comes)
 
 frames_lineless : (who : Side) (h : ℕ) (l : Link) (k : Work) → AreLineless (frames_noted who h l k)
-frames_lineless who h l k = go (port_at k.ports h) where
-  go : (o : Option Port) → AreLineless (option_map_or (λ (p : Port). entries_for h (ending_entries who l p.side (ending_of k))) o [])
-  go None = tt
-  go (Some p) =
-      notes_lineless h (ending_entries who l p.side (ending_of k))
-      (ending_all IsOfWire (λ w c. tt) (λ w c. tt) (λ w. tt) who l p.side (ending_of k))
+frames_lineless who h l k = by_option (port_at k.ports h)
+    (λ q. rw q tt)
+    (λ p q. rw q (notes_lineless h (ending_entries who l p.side (ending_of k))
+    (ending_all IsOfWire (λ w c. tt) (λ w c. tt) (λ w. tt) who l p.side (ending_of k))))
 
 -- ## What comes
 

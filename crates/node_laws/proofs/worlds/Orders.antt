@@ -129,14 +129,12 @@ host_parted s =
 
 hosts_parted : (n : ℕ) (sites : List Site) → AreDifferent (hosts_in sites) → AreNodes sites → IsPartedFor n (hosts_tick sites).1
 hosts_parted n [] d a = parted_for n [] (only_back [] tt)
-hosts_parted n (s ∷ sites) d a = go (s.host == n) refl (hosts_parted n sites d.1 a.1) where
-  go : (c : Bool) → (s.host == n) ≡ c → IsPartedFor n (hosts_tick sites).1 → IsPartedFor n ((host_ticks s).1 ++ (hosts_tick sites).1)
-  go false q later =
-      not_of_before n (hosts_tick sites).1 (host_ticks s).1 (own_not s.host n (host_ticks s).1 q (part_own s.host (host_ticks s).1 (far_tick s a.0.0 a.0.1)))
-      later
-  go true q later =
-      others_behind n (host_ticks s).1 (hosts_tick sites).1 (parted_for n (host_ticks s).1 (host_parted s))
-      (subst (λ m. AreNotOf m (hosts_tick sites).1) (eqb-true s.host n q) (others_tick s.host sites d.0 a.1))
+hosts_parted n (s ∷ sites) d a = by_test (s.host == n)
+    (λ q. others_behind n (host_ticks s).1 (hosts_tick sites).1 (parted_for n (host_ticks s).1 (host_parted s))
+    (subst (λ m. AreNotOf m (hosts_tick sites).1) (eqb-true s.host n q) (others_tick s.host sites d.0 a.1)))
+    (λ q. not_of_before n (hosts_tick sites).1 (host_ticks s).1 (own_not s.host n (host_ticks s).1 q
+    (part_own s.host (host_ticks s).1 (far_tick s a.0.0 a.0.1)))
+    (hosts_parted n sites d.1 a.1))
 
 pub aged_unanswered : (sites : List Site)
     → AreUnanswered (flat_map (λ (s : Site). entries_for s.host (aged_entries Controller s.link.to_controller ++ aged_entries Host s.link.to_host)) sites)

@@ -1,6 +1,6 @@
 -- Whether a node runs is read off a history.
-use Rattle.std.proofs.Common.{◌≡◌, ℕ, Bool, true, false, cond, List, [], ◌∷◌, ◌++◌, sym, refl, ap, ◌∙◌, append_assoc, append-nil}
-use Rattle.std.specs.Prelude.{◌==◌, None, Some, is_some, replicate}
+use Rattle.std.proofs.Common.{◌≡◌, ℕ, false, List, [], ◌∷◌, ◌++◌, sym, refl, ap, ◌∙◌, append_assoc, append-nil}
+use Rattle.std.specs.Prelude.{◌==◌, None, is_some, replicate}
 use Rattle.std.specs.List.{AllByRecursion, fold}
 use Rattle.std.proofs.lemmas.List.Sums.{fold-append}
 use Rattle.trace_model.specs.Lines.{IsNodeOf}
@@ -8,34 +8,24 @@ use Rattle.trace_model.specs.declared.entry.Entry.{Entry}
 use Rattle.trace_model.specs.declared.entry.Entry.TheVariants as entry
 use Rattle.trace_model.specs.declared.line.Header.{Header}
 use Rattle.trace_model.specs.declared.line.Line.{Line}
-use Rattle.journal_laws.specs.Planned.{after_planned}
-use Rattle.node_machine.specs.Node.{boot_writes}
 use Rattle.node_machine.specs.world.World.{Happening, new_memory, new_world, node_at}
 use Rattle.node_machine.specs.world.World.Happening.{Arms, Boots}
 use Rattle.node_machine.specs.world.Lines.{Occurrence}
-use Rattle.node_machine.specs.world.NodeFilters.{new_book, with_found}
+use Rattle.node_machine.specs.world.NodeFilters.{new_book}
 use Rattle.node_machine.specs.world.NodeHistories.{FollowsNodes, NodeHistory, entries_in, node_entries, occurrences_in}
 use Rattle.node_laws.specs.cuts.Histories.{begun_by, with_event}
 use Rattle.node_laws.specs.kept.Hosts.{AreHosts, IsFew, IsSentByHost}
-use Rattle.node_laws.specs.kept.Reckonings.{Reckoning, reckoned, reckoning_of, with_written}
+use Rattle.node_laws.specs.kept.Reckonings.{Reckoning, reckoned, reckoning_of}
 use Rattle.node_laws.specs.telling.Telling.{world_behind}
+use Rattle.node_laws.proofs.Cases.{by_test}
 use Rattle.node_laws.proofs.cuts.Histories.{known}
 use Rattle.node_laws.specs.answers.Moments.{runs_in}
 
 module _ (n : ℕ) where
   run_one : (s : List Entry) (r : Reckoning) (x : Entry) → r.runs ≡ runs_in s n → (reckoned n r x).runs ≡ runs_in (s ++ x ∷ []) n
-  run_one s r (entry.Booted m k) q = by (m == n) ∙ sym (fold-append _ false s (entry.Booted m k ∷ [])) where
-    by : (b : Bool) → (cond b (record r { runs = true; book = with_found k r.book; lost = false }) r).runs ≡ cond b true (runs_in s n)
-    by true = refl
-    by false = q
-  run_one s r (entry.Cut m) q = by (m == n) ∙ sym (fold-append _ false s (entry.Cut m ∷ [])) where
-    by : (b : Bool) → (cond b (record r { runs = false; due = false }) r).runs ≡ cond b false (runs_in s n)
-    by true = refl
-    by false = q
-  run_one s r (entry.Command m c) q = by (m == n) ∙ sym (fold-append _ false s (entry.Command m c ∷ [])) where
-    by : (b : Bool) → (cond b (with_written c r) r).runs ≡ runs_in s n
-    by true = q
-    by false = q
+  run_one s r (entry.Booted m k) q = by_test (m == n) (λ is. rw is refl) (λ is. rw is q) ∙ sym (fold-append _ false s (entry.Booted m k ∷ []))
+  run_one s r (entry.Cut m) q = by_test (m == n) (λ is. rw is refl) (λ is. rw is q) ∙ sym (fold-append _ false s (entry.Cut m ∷ []))
+  run_one s r (entry.Command m c) q = by_test (m == n) (λ is. rw is q) (λ is. rw is q) ∙ sym (fold-append _ false s (entry.Command m c ∷ []))
   run_one s r x q = q ∙ sym (fold-append _ false s (x ∷ []))
 
   run_all : (s es : List Entry) (r : Reckoning) → r.runs ≡ runs_in s n → (fold (reckoned n) r es).runs ≡ runs_in (s ++ es) n
@@ -43,14 +33,8 @@ module _ (n : ℕ) where
   run_all s (x ∷ es) r q = run_all (s ++ x ∷ []) es (reckoned n r x) (run_one s r x q) ∙ ap (λ l. runs_in l n) (append_assoc s (x ∷ []) es)
 
   begun_runs : (c : Happening) (r : Reckoning) → (begun_by n c r).runs ≡ r.runs
-  begun_runs (Boots m) r = by (m == n) where
-    by : (b : Bool) → (cond b (record r { memory = after_planned (boot_writes r.memory.content) r.memory }) r).runs ≡ r.runs
-    by true = refl
-    by false = refl
-  begun_runs (Arms m plan) r = by (m == n) where
-    by : (b : Bool) → (cond b (record r { memory = record r.memory { plan = Some plan } }) r).runs ≡ r.runs
-    by true = refl
-    by false = refl
+  begun_runs (Boots m) r = by_test (m == n) (λ q. rw q refl) (λ q. rw q refl)
+  begun_runs (Arms m plan) r = by_test (m == n) (λ q. rw q refl) (λ q. rw q refl)
   begun_runs _ r = refl
 
   run_events : (s : List Entry) (events : List Occurrence) (r : Reckoning) → r.runs ≡ runs_in s n

@@ -30,7 +30,7 @@ use Rattle.node_machine.specs.world.Lines.{Occurrence, refusal_in, if_off, machi
 use Rattle.node_machine.specs.world.NodeHistories.{entries_in}
 use Rattle.node_machine.specs.world.NodeFilters.{notice_in, session_now}
 use Rattle.node_machine.proofs.world.Cases.{by_boot, by_loss}
-use Rattle.node_laws.proofs.Cases.{by_list, by_option}
+use Rattle.node_laws.proofs.Cases.{by_list, by_option, by_test}
 use Rattle.node_laws.proofs.kept.Lines.{first_none, off_none}
 use Rattle.node_laws.specs.order.Told.{AreSessionsRead}
 use Rattle.node_laws.proofs.order.Asked.{IsAskedIn}
@@ -75,11 +75,7 @@ noted_none (Some why) z = absurd (cc z)
 
 pub noticed_ports : (near_ends : ℕ → NumberedEnd) (desks : List Desk) (x : ℕ) → noticed (ports_for near_ends desks) x ≡ notice_at desks x
 noticed_ports near_ends [] x = refl
-noticed_ports near_ends (d ∷ desks) x = go (eqb d.host x) refl (noticed_ports near_ends desks x) where
-  go : (b : Bool) → eqb d.host x ≡ b → noticed (ports_for near_ends desks) x ≡ notice_at desks x
-      → noticed (ports_for near_ends (d ∷ desks)) x ≡ notice_at (d ∷ desks) x
-  go true is later = rw is refl
-  go false off later = rw off later
+noticed_ports near_ends (d ∷ desks) x = by_test (eqb d.host x) (λ is. rw is refl) (λ off. rw off (noticed_ports near_ends desks x))
 
 -- what comes ends no session by a reset unless it is one
 frames_none : (side : LinkEnd) (i : LinkInput) (l : Link) → input_of l NextFrame ≡ Some i → option_map_or is_own_reset (ended_by side i) false ≡ false
@@ -178,10 +174,9 @@ module _ (past : List Occurrence) (w : NodeWorld) (k : IsReadBefore past w) (x :
   -- ## Ticks
 
   below : (a : ℕ) → a ≤ 99 → nat_le 100 (a + 1) ≡ eqb a 99
-  below a most = go (eqb a 99) refl where
-    go : (b : Bool) → eqb a 99 ≡ b → nat_le 100 (a + 1) ≡ b
-    go true z = ap (λ n. nat_le 100 (n + 1)) (eqb-true a 99 z)
-    go false z = let other : a ≡ 99 → ⊥ = eqb-false a 99 z in grind (arith, most, other)
+  below a most = by_test (eqb a 99)
+      (λ z. rw z (ap (λ n. nat_le 100 (n + 1)) (eqb-true a 99 z)))
+      (λ z. rw z (let other : a ≡ 99 → ⊥ = eqb-false a 99 z in grind (arith, most, other)))
 
   late_is : (r : Running) → w.controller ≡ Some r
       → tells is_own_reset (end_c x) (world_ticks w).1 ≡ is_late_in past (occurs w Ticks) x

@@ -246,16 +246,12 @@ module _ (n : ℕ) (who : Side) (t : List Entry) (input : NodeInput) (w : Work) 
           (ended_read_at n who t input w number side none unbooted k (ap (λ (u : Work). u.cut) is ∙ still_on) held
           ∙ (ap (λ (u : Work). is_held_at u.ports k) (is ∙ sym all) ∙ stays.2))
 
-    by_begun : (c : Bool) → begun.cut ≡ c → ended.cut ≡ false → is_done (t ++ ended.entries) e ≡ true
-    by_begun true off on =
-        let is : ended ≡ begun = steps_are input w ∙ rw off refl in
-        absurd (true≢false (sym (ap (λ (u : Work). u.cut) is ∙ off) ∙ on))
-    by_begun false begun_on on =
-        let is : ended ≡ passes begun = steps_are input w ∙ rw begun_on refl in
-        by_rest begun_on (ap (λ (u : Work). u.cut) (sym is) ∙ on) is
-
     by_fine : Fine n ended → is_done (t ++ ended.entries) e ≡ true
-    by_fine (inl r) = by_begun begun.cut refl r.on
+    by_fine (inl r) = by_test begun.cut
+        (λ off. let is : ended ≡ begun = steps_are input w ∙ rw off refl in
+        absurd (true≢false (sym (ap (λ (u : Work). u.cut) is ∙ off) ∙ r.on)))
+        (λ begun_on. let is : ended ≡ passes begun = steps_are input w ∙ rw begun_on refl in
+        by_rest begun_on (ap (λ (u : Work). u.cut) (sym is) ∙ r.on) is)
     by_fine (inr l) =
         done_off (t ++ ended.entries) e
         (ap (λ m. runs_in (t ++ ended.entries) m) own

@@ -2,7 +2,6 @@
 use Rattle.std.proofs.Common.{◌≡◌, ℕ, ◌≤◌, Bool, true, false, cond, List, [], ◌∷◌, ◌++◌, length, sym, refl, ap, ◌∙◌, subst, append_assoc, append-nil}
 use Rattle.std.specs.Prelude.{◌==◌, Option, Some, None, is_some}
 use Rattle.std.specs.List.{AllByRecursion, flat_map}
-use Rattle.std.specs.Option.{option_map_or}
 use Rattle.std.proofs.lemmas.Bool.{true≢false}
 use Rattle.registry.proofs.ValueLemmas.{AllByRecursion-append as all_append}
 use Rattle.trace_model.specs.Lines.{IsNodeHeader}
@@ -20,7 +19,7 @@ use Rattle.link_laws.specs.entries.Entries.Entry.{Cut, Emit, Lost, Took}
 use Rattle.link_laws.specs.entries.Entries.End.{Controller, Host}
 use Rattle.history.specs.Follows.{seen_from}
 use Rattle.history.specs.Steps.{end_of, entries_for}
-use Rattle.node_machine.specs.Parts.{Port, Running, Work}
+use Rattle.node_machine.specs.Parts.{Running, Work}
 use Rattle.node_machine.specs.Carrying.{port_at}
 use Rattle.node_machine.specs.Node.{steps}
 use Rattle.node_machine.specs.Node.NodeInput.{AtEnd, TimePasses}
@@ -93,13 +92,10 @@ frames_unheard h (Cut who ∷ notes) all = frames_unheard h notes all.1
 frames_unheard h (_ ∷ notes) all = absurd all.0
 
 out_unheard : (who : Side) (h : ℕ) (l : Link) (v : Work) → AllByRecursion IsUnheard (frames_noted who h l v)
-out_unheard who h l v = go (port_at v.ports h) where
-  go : (o : Option Port)
-      → AllByRecursion IsUnheard (option_map_or (λ (p : Port). entries_for h (ending_entries who l p.side (ending_of v))) o [])
-  go None = tt
-  go (Some p) =
-      frames_unheard h (ending_entries who l p.side (ending_of v))
-      (ending_all IsFrame (λ w c. tt) (λ w c. tt) (λ w. tt) who l p.side (ending_of v))
+out_unheard who h l v = by_option (port_at v.ports h)
+    (λ q. rw q tt)
+    (λ p q. rw q (frames_unheard h (ending_entries who l p.side (ending_of v))
+    (ending_all IsFrame (λ w c. tt) (λ w c. tt) (λ w. tt) who l p.side (ending_of v))))
 
 frames_calm : (f : Site → Link) (v : Work) (sites : List Site) → AreCalm (flat_map (λ (s : Site). frames_noted Controller s.host (f s) v) sites)
 frames_calm f v sites = record {

@@ -24,6 +24,7 @@ use Rattle.node_machine.specs.world.World.{end_h, port_for}
 use Rattle.node_machine.specs.world.World.{controller_does, controller_work, after_controller, host_work, host_does, comes_at, input_of}
 use Rattle.node_machine.proofs.world.Cases.{by_controller, by_host, by_coming, after_host_step}
 use Rattle.node_laws.specs.kept.Hosts.{AreDifferent}
+use Rattle.node_laws.proofs.Cases.{by_test}
 use Rattle.node_laws.proofs.links.Noticing.{at_host}
 use Rattle.node_laws.proofs.readings.Sites.{near_end_side}
 use Rattle.node_laws.specs.telling.Telling.{HasEnds, IfItRuns, hosts_in, IsOrderly}
@@ -194,7 +195,7 @@ module _ (w : NodeWorld) (a : IsOrderly w) (k : ℕ) (window : Option ℕ) (x : 
       (λ h. ap (λ y. same_end (end_of h y) (end_h x)) (host_side r z.host (z.host ∷ []) node (far_number w k z a there)) ∙ far_same h x) k (Reset window)
       ∙ (reset_value near_ends r.desks (end_h x) x k window (λ y. alone near_ends r.desks one y)
       (λ y. ap (λ (q : Site). reset_refusal q.link.host.side) (same y) ∙ free y)
-      ∙ by (eqb k x) refl)))
+      ∙ by_test (eqb k x) (λ y. rw y (ap (λ (q : Site). is_up q.link.host.side.shdlc.phase) (same_site y))) (λ y. rw y refl))))
     where
       on_is : site_at w.sites k ≡ Some z → z.node ≡ Some r → host_does w k (AsksReset window) (steps (AtEnd k (Reset window)))
           ≡ after_host_step w k (AsksReset window) z (host_work z r (AsksReset window) (steps (AtEnd k (Reset window))))
@@ -210,7 +211,3 @@ module _ (w : NodeWorld) (a : IsOrderly w) (k : ℕ) (window : Option ℕ) (x : 
           let host : d.host ≡ k = cc in
           let is : eqb d.host x ≡ true = ap (λ n. eqb n x) host ∙ y in
           record { desk = d; here = rw is (ap (λ n. Some (port_for (near_ends n) d)) (eqb-true d.host x is)) }
-
-      by : (b : Bool) → eqb k x ≡ b → (b && is_up z.link.host.side.shdlc.phase) ≡ (b && is_up s.link.host.side.shdlc.phase)
-      by true y = ap (λ (q : Site). is_up q.link.host.side.shdlc.phase) (same_site y)
-      by false y = refl

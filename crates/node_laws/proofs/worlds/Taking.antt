@@ -1,5 +1,5 @@
 -- Lines let the controller take no more frames than stand on its wire, and name ends of hosts of the world.
-use Rattle.std.proofs.Common.{◌≡◌, ℕ, zero, suc, ◌+◌, ◌≤◌, Bool, true, false, cond, List, [], ◌∷◌, ◌++◌, length, map, sym, refl, ap, ◌∙◌, subst, arith, eqb}
+use Rattle.std.proofs.Common.{◌≡◌, ℕ, zero, suc, ◌≤◌, Bool, true, false, cond, List, [], ◌∷◌, length, map, sym, refl, ap, ◌∙◌, subst, arith, eqb}
 use Rattle.std.specs.Prelude.{◌==◌, Option, Some, None, is_some, unwrap_or, replicate, Contains}
 use Rattle.std.specs.Option.{option_map_or}
 use Rattle.std.proofs.lemmas.Bool.{ne_eqb, true≢false}
@@ -10,7 +10,7 @@ use Rattle.trace_model.specs.declared.line.End.{End}
 use Rattle.trace_model.specs.declared.line.Header.{Header}
 use Rattle.trace_model.specs.declared.line.Line.{Line}
 use Rattle.trace_model.specs.declared.line.Line.TheVariants as line
-use Rattle.link_laws.specs.sessions.Sessions.{OnWire, fits, is_rset}
+use Rattle.link_laws.specs.sessions.Sessions.{OnWire, is_rset}
 use Rattle.link_laws.specs.machine.Machine.{LinkInput, Turn, after_input, ended_by, frames_out, turned}
 use Rattle.link_laws.specs.machine.Machine.LinkInput.{Take}
 use Rattle.link_laws.specs.messages.Links.{Link, has_taken, put, put_all, steps_at_controller, with_ended}
@@ -41,19 +41,7 @@ MayStep w _ = Unit {0}
 -- ## One frame less
 
 put_near : (l : Link) (c : Control) → (put l c).to_controller ≡ l.to_controller
-put_near l c = by (is_rset c) where
-  kind : Bool → Link
-  kind true =
-      record l {
-        to_host = fits (l.to_host ++ record { frame = c; age = 0; number = l.resets + 1 } ∷ []);
-        controller = record l.controller { emitted = l.resets + 1 };
-        resets = l.resets + 1;
-      }
-  kind false = record l { to_host = fits (l.to_host ++ record { frame = c; age = 0; number = 0 } ∷ []) }
-
-  by : (b : Bool) → (kind b).to_controller ≡ l.to_controller
-  by true = refl
-  by false = refl
+put_near l c = by_test (is_rset c) (λ q. rw q refl) (λ q. rw q refl)
 
 puts_near : (l : Link) (cs : List Control) → (put_all l cs).to_controller ≡ l.to_controller
 puts_near l [] = refl

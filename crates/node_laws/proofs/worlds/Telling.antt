@@ -1,5 +1,5 @@
 -- Which sessions end in a step of a node, by its ends.
-use Rattle.std.proofs.Common.{◌≡◌, ℕ, Bool, true, false, cond, List, [], ◌∷◌, map, Option, Some, None, refl, sym}
+use Rattle.std.proofs.Common.{◌≡◌, ℕ, Bool, true, false, List, [], ◌∷◌, map, Option, Some, None, refl, sym}
 use Rattle.std.proofs.Common.{ap, ap₂, subst, ◌∙◌, ◌||◌, ◌&&◌, eqb, append-nil}
 use Rattle.std.specs.List.{AllByRecursion, flat_map}
 use Rattle.std.specs.Option.{option_map_or, option_map}
@@ -20,6 +20,7 @@ use Rattle.node_machine.specs.Node.NodeInput.{AtEnd, TimePasses}
 use Rattle.node_machine.specs.world.World.{end_c, end_h}
 use Rattle.node_laws.specs.kept.Books.{hosts_of_ends}
 use Rattle.node_laws.specs.kept.Hosts.{AreDifferent}
+use Rattle.node_laws.proofs.Cases.{by_option, by_test}
 use Rattle.node_laws.proofs.kept.Plainly.{hosts_map}
 use Rattle.node_laws.proofs.links.Noticing.{at_all}
 use Rattle.node_laws.specs.passes.Steps.{told_of_coming, told_of_late}
@@ -53,10 +54,7 @@ module _ (test : EndedBy → Bool) (e : End) where
       any_append test e (f p) (flat_map f ports) ∙ (ap (λ b. b || tells (flat_map f ports)) (one p) ∙ flat_none f one ports)
 
   late_one : (core : Core) (p : Port) → tells (told_late core p) ≡ (is_late p && tells (told_at core p (Some (Reset None))))
-  late_one core p = go (is_late p) where
-    go : (b : Bool) → tells (cond b (told_at core p (Some (Reset None))) []) ≡ (b && tells (told_at core p (Some (Reset None))))
-    go true = refl
-    go false = refl
+  late_one core p = by_test (is_late p) (λ q. rw q refl) (λ q. rw q refl)
 
   -- what comes ends none so, and no notice is late
   pub step_none : (k : ℕ) (i : LinkInput) (w : Work) → AreDownless w.entries → ((p : Port) → ends_by test e p (Some i) ≡ false)
@@ -68,10 +66,7 @@ module _ (test : EndedBy → Bool) (e : End) where
       ∙ flat_none (λ p. told_at w.core p (input_at (AtEnd k i) p)) one w.ports)) where
         one : (p : Port) → tells (told_at w.core p (input_at (AtEnd k i) p)) ≡ false
         one p = at_any test e w.core p (input_at (AtEnd k i) p) ∙ (ap (λ b. same_end (end_of p.desk.host (own_side w.core)) e && b)
-            (go (eqb p.desk.host k)) ∙ and-false (same_end (end_of p.desk.host (own_side w.core)) e)) where
-              go : (b : Bool) → ends_by test e p (cond b (Some i) None) ≡ false
-              go true = none p
-              go false = refl
+            (by_test (eqb p.desk.host k) (λ q. rw q (none p)) (λ q. rw q refl)) ∙ and-false (same_end (end_of p.desk.host (own_side w.core)) e))
 
   -- the end is none of the node
   pub step_other : (input : NodeInput) (w : Work) → AreDownless w.entries → ((h : ℕ) → same_end (end_of h (own_side w.core)) e ≡ false)
@@ -141,7 +136,7 @@ module _ (test : EndedBy → Bool) (e : End) where
           ∙ (ap (λ o. option_map_or (λ p. is_late p && ends_by test e p (Some (Reset None))) o false)
           (at_all (all_come TimePasses w).ports x with_older (λ q. refl) ∙ ap (option_map with_older) (at_all w.ports x (λ p. has_come p
           (Some Tick)) (λ q. refl)))
-          )) ∙ go (port_at w.ports x)))) where
+          )) ∙ by_option (port_at w.ports x) (λ q. rw q refl) (λ p q. rw q refl)))) where
             late : (p : Port) → tells (told_late w.core p) ≡ (eqb p.desk.host x && (is_late p && ends_by test e p (Some (Reset None))))
             late p = late_one w.core p ∙ (ap (λ b. is_late p && b) (one p (Some (Reset None))) ∙ swap (is_late p) (eqb p.desk.host x)) where
               swap : (a b : Bool) → (a && (b && ends_by test e p (Some (Reset None)))) ≡ (b && (a && ends_by test e p (Some (Reset None))))
@@ -152,11 +147,3 @@ module _ (test : EndedBy → Bool) (e : End) where
             still : AreDifferent (hosts_of_ends (map with_older (all_come TimePasses w).ports))
             still = subst AreDifferent (sym (hosts_map with_older (λ q. refl) (all_come TimePasses w).ports
                 ∙ hosts_map (λ p. has_come p (Some Tick)) (λ q. refl) w.ports)) different
-
-            go : (o : Option Port)
-                → (option_map_or (λ p. ends_by test e p (Some Tick)) o false
-                || option_map_or (λ p. is_late p && ends_by test e p (Some (Reset None))) (option_map with_older (option_map (λ p. has_come p
-                (Some Tick)) o)) false)
-                ≡ option_map_or (λ p. ends_by test e p (Some Tick) || (is_late (ticked p) && ends_by test e (ticked p) (Some (Reset None)))) o false
-            go None = refl
-            go (Some p) = refl

@@ -172,14 +172,11 @@ host_ascends s runs =
 
 hosts_own : (n : ℕ) (sites : List Site) → AreDifferent (hosts_in sites) → AreNodes sites → Own n (hosts_tick sites).1
 hosts_own n [] d a = tt
-hosts_own n (s ∷ sites) d a = go (s.host == n) refl (hosts_own n sites d.1 a.1) where
-  go : (c : Bool) → (s.host == n) ≡ c → Own n (hosts_tick sites).1 → Own n ((host_ticks s).1 ++ (hosts_tick sites).1)
-  go false q later =
-      own_before n (hosts_tick sites).1 (host_ticks s).1 (own_not s.host n (host_ticks s).1 q (part_own s.host (host_ticks s).1 (far_tick s a.0.0 a.0.1)))
-      later
-  go true q later =
-      own_behind n (host_ticks s).1 (hosts_tick sites).1 (ascends_part n (host_ticks s).1 (host_ascends s a.0.1))
-      (subst (λ m. AreNotOf m (hosts_tick sites).1) (eqb-true s.host n q) (others_tick s.host sites d.0 a.1))
+hosts_own n (s ∷ sites) d a = by_test (s.host == n)
+    (λ q. own_behind n (host_ticks s).1 (hosts_tick sites).1 (ascends_part n (host_ticks s).1 (host_ascends s a.0.1))
+    (subst (λ m. AreNotOf m (hosts_tick sites).1) (eqb-true s.host n q) (others_tick s.host sites d.0 a.1)))
+    (λ q. own_before n (hosts_tick sites).1 (host_ticks s).1 (own_not s.host n (host_ticks s).1 q (part_own s.host (host_ticks s).1 (far_tick s a.0.0 a.0.1)))
+    (hosts_own n sites d.1 a.1))
 
 pub aged_turnless : (sites : List Site)
     → AreNoTurns (flat_map (λ (s : Site). entries_for s.host

@@ -111,12 +111,10 @@ none_asked p a = rw a refl
 owed_none : (r : Response) (f : Port → Bool) (ports : List Port) → AllByRecursion HasNoNotice ports
     → flat_map (λ p. owed r (asked_at p)) (filter f ports) ≡ []
 owed_none r f [] a = refl
-owed_none r f (p ∷ ports) a = go (f p) refl (owed_none r f ports a.1) where
-  go : (b : Bool) → f p ≡ b → flat_map (λ p. owed r (asked_at p)) (filter f ports) ≡ [] → flat_map (λ p. owed r (asked_at p)) (filter f (p ∷ ports)) ≡ []
-  go true q later =
-      ap (λ b. flat_map (λ p. owed r (asked_at p)) (cond b (p ∷ filter f ports) (filter f ports))) q
-      ∙ (ap (λ o. owed r o ++ flat_map (λ p. owed r (asked_at p)) (filter f ports)) (none_asked p a.0) ∙ later)
-  go false q later = ap (λ b. flat_map (λ p. owed r (asked_at p)) (cond b (p ∷ filter f ports) (filter f ports))) q ∙ later
+owed_none r f (p ∷ ports) a = by_test (f p)
+    (λ q. ap (λ b. flat_map (λ p. owed r (asked_at p)) (cond b (p ∷ filter f ports) (filter f ports))) q
+    ∙ (ap (λ o. owed r o ++ flat_map (λ p. owed r (asked_at p)) (filter f ports)) (none_asked p a.0) ∙ owed_none r f ports a.1))
+    (λ q. ap (λ b. flat_map (λ p. owed r (asked_at p)) (cond b (p ∷ filter f ports) (filter f ports))) q ∙ owed_none r f ports a.1)
 
 all_none : (ports : List Port) → AllByRecursion HasNoNotice ports → all_owed ports ≡ []
 all_none ports a =
