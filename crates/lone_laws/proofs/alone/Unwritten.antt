@@ -4,10 +4,10 @@ use Rattle.std.specs.List.{AllByRecursion}
 use Rattle.trace_model.specs.declared.entry.Entry.{Entry}
 use Rattle.trace_model.specs.declared.entry.Entry.TheVariants as entry
 use Rattle.link_laws.specs.entries.Entries.{End as Side, Entry as Noted}
-use Rattle.link_laws.specs.entries.Entries.Entry.{Up, Down, Active, GaveUp, Acked, Got, Sent, Emit, Took, Lost, Tick, Restarted, Cut}
+use Rattle.link_laws.specs.entries.Entries.Entry.{Emit, Took, Lost, Tick, Restarted, Cut}
 use Rattle.history.specs.Steps.{entry_of}
 use Rattle.node_machine.specs.Parts.{Port, Work, Deed}
-use Rattle.node_machine.specs.Parts.Deed.{Commits, Sends, SaysOk, Asks, Releases, Tells, IsAnswered, Drops, SetsErrors, Orders, Hears, GoesOn, Ends}
+use Rattle.node_machine.specs.Parts.Deed.{Sends, Ends}
 use Rattle.node_machine.specs.Carrying.{own_side}
 use Rattle.node_machine.specs.Turns.{deeds_of}
 use Rattle.node_machine.specs.Node.{NodeInput, steps}
@@ -20,19 +20,13 @@ abbrev pub IsUnwritten : Entry → Type 0
 IsUnwritten x = (form : EndForm) (number : ℕ) → entry_written form number x ≡ []
 
 own_unwritten : (who : Side) (h : ℕ) (x : Noted) → IsOwnNote who x → AllByRecursion IsUnwritten (entry_of h x)
-own_unwritten who h (Up side n) own = ((λ form number. refl), tt)
-own_unwritten who h (Down side cause) own = ((λ form number. refl), tt)
-own_unwritten who h (Active side) own = ((λ form number. refl), tt)
-own_unwritten who h (GaveUp side tries) own = ((λ form number. refl), tt)
-own_unwritten who h (Acked side n count) own = ((λ form number. refl), tt)
-own_unwritten who h (Got side n m) own = ((λ form number. refl), tt)
-own_unwritten who h (Sent side n m) own = ((λ form number. refl), tt)
 own_unwritten who h (Emit side frame) own = absurd own
 own_unwritten who h (Took side frame) own = absurd own
 own_unwritten who h (Lost side frame why) own = absurd own
 own_unwritten who h Tick own = absurd own
 own_unwritten who h (Restarted side) own = absurd own
 own_unwritten who h (Cut side) own = absurd own
+own_unwritten who h _ own = ((λ form number. refl), tt)
 
 beside_unwritten : (n : ℕ) (x : Entry) → IsBeside n x → IsUnwritten x
 beside_unwritten n (entry.Emit e lpdu) own = absurd own
@@ -46,19 +40,9 @@ mute_unwritten : (deeds : List Deed) → AreMute deeds → AllByRecursion (Notes
 mute_unwritten [] all = tt
 mute_unwritten (d ∷ deeds) all = (one d all.0, mute_unwritten deeds all.1) where
   one : (d : Deed) → IsMute d → NotesSo IsUnwritten d
-  one (Commits c) m = tt
   one (Sends to m) i = tt
-  one SaysOk m = tt
-  one (Asks to message c) m = tt
-  one (Releases asker) m = tt
-  one (Tells to message) m = tt
-  one IsAnswered m = tt
-  one (Drops pid) m = tt
-  one (SetsErrors errors) m = tt
-  one (Orders message) m = tt
-  one Hears m = tt
-  one (GoesOn i) m = tt
   one (Ends y) m = plain_unwritten y m
+  one _ m = tt
 
 any_ends : (ports : List Port) → AllByRecursion (λ (p : Port). Unit {0}) ports
 any_ends [] = tt

@@ -1,36 +1,29 @@
 -- What one walk over a history of a node alone finds says whether a fact of its answers holds.
 use Rattle.std.proofs.Common.{◌≡◌, ap, sym, subst, append_assoc, append-nil, ℕ, Bool, true, false, true≢false, List, [], ◌∷◌, ◌++◌, Option, Some, None}
-use Rattle.std.specs.Prelude.{◌==◌, ◌&&◌, if◌then◌else◌, not}
-use Rattle.std.specs.List.{AllByRecursion, filter, list_any}
+use Rattle.std.specs.Prelude.{◌==◌}
+use Rattle.std.specs.List.{AllByRecursion, list_any}
 use Rattle.std.specs.Option.{option_map_or}
-use Rattle.std.proofs.lemmas.Bool.{and_parts, eqb-true, not-true}
+use Rattle.std.proofs.lemmas.Bool.{eqb-true}
 use Rattle.trace_model.specs.declared.entry.Entry.{Entry}
 use Rattle.trace_model.specs.declared.entry.Entry.TheVariants as entry
 use Rattle.link_laws.specs.machine.Machine.{Message, oldest}
 use Rattle.node_machine.specs.Parts.{Core}
 use Rattle.node_machine.specs.world.NodeLegal.{AreInTurn}
 use Rattle.node_laws.specs.answers.Moments.{holds_in, unhandled_in}
-use Rattle.node_laws.specs.kept.Reckonings.{is_cut_of}
-use Rattle.node_laws.specs.answers.Answered.{before_turn, to_command}
-use Rattle.node_laws.specs.answers.Order.{answerer, hears, is_answer_of}
+use Rattle.node_laws.specs.answers.Order.{answerer, hears}
+use Rattle.node_laws.proofs.answers.Walks.{answers_found, answers_wanted}
+use Rattle.node_laws.proofs.answers.Splits.{first_or, rest_of}
 use Rattle.node_laws.proofs.answers.Rising.{turns_rise, rise_ascends}
 use Rattle.lone_laws.specs.alone.Lone.{LoneEvent}
 use Rattle.lone_laws.specs.alone.Known.{core_since, first_lack_since, lack_since, reply_since}
 use Rattle.lone_laws.specs.alone.Answers.{AnsweredAlone, AtEachLoneEvent, AtEachNoted, IsDueAlone, IsHeldAlone, IsRepliedAlone, IsResetAlone}
 use Rattle.lone_laws.specs.alone.Answers.{HearsFirstAlone, TurnsAscendAlone, entries_of_events_alone, is_asked_down, is_done_alone}
 use Rattle.lone_laws.specs.alone.Answers.{is_reset_alone, is_short_alone, noted_since, sync_due}
-use Rattle.node_laws.proofs.answers.OneFact.{IsFirstThere}
+use Rattle.node_laws.proofs.answers.OneFact.Fact.{InTurn, Replied, Held, Done, Short, Due, Reset, Ascending, Heard}
+use Rattle.node_laws.proofs.answers.OneFact.{IsFirstThere, Fact, is_fact, some_is, both_are, none_heard, none_hears, Unless}
 use Rattle.lone_laws.proofs.answered.Queued.{are_in_turn}
 
 -- ## Walks
-
-abbrev first_or : {X : Type 0} → X → List X → X
-first_or x [] = x
-first_or x (y ∷ ys) = y
-
-abbrev rest_of : {X : Type 0} → List X → List X
-rest_of [] = []
-rest_of (y ∷ ys) = ys
 
 module _ {X : Type 0} where
   -- what is found at each event, behind the entries before it
@@ -76,13 +69,6 @@ agree_inside f g events same past back o front behind x at inside =
 
 -- ## What is found, and what is wanted
 
--- the answers until the next turn
-abbrev answers_found : ℕ → List Entry → List Entry
-answers_found n entries = filter (is_answer_of n) (before_turn n entries)
-
-abbrev answers_wanted : ℕ → List Entry → List Entry → List Entry
-answers_wanted n entries answers = if list_any (is_cut_of n) (before_turn n entries) then to_command answers else answers
-
 -- at a turn the first message that came and had none
 abbrev first_found : List Entry → Entry → List Entry → Option (Option Message)
 first_found t (entry.Turn e pid message) behind = Some (oldest (unhandled_in t e))
@@ -92,25 +78,12 @@ abbrev first_wanted : List Entry → Entry → List Entry → Option (Option Mes
 first_wanted t (entry.Turn e pid message) behind = Some (Some (pid, message))
 first_wanted t _ behind = None
 
-some_is : {X : Type 0} (x y : X) → Some x ≡ Some y → x ≡ y
-some_is x y q = cc
-
 first_so : (t : List Entry) (x : Entry) (behind : List Entry) → first_found t x behind ≡ first_wanted t x behind → IsFirstThere t x
 first_so t (entry.Turn e pid message) behind same = some_is _ _ same
 first_so t _ behind same = tt
 
--- nothing comes behind an answer
-abbrev none_heard : ℕ → List Entry → Bool
-none_heard n [] = true
-none_heard n (x ∷ entries) = not (hears n x) && none_heard n entries
-
 abbrev heard_found : List Entry → Entry → List Entry → Bool
 heard_found t x behind = option_map_or (λ n. none_heard n behind) (answerer x) true
-
-none_hears : (n : ℕ) (entries : List Entry) → none_heard n entries ≡ true → AllByRecursion (λ y. hears n y ≡ false) entries
-none_hears n [] q = tt
-none_hears n (x ∷ entries) q =
-    let both = and_parts (not (hears n x)) (none_heard n entries) q in (not-true (hears n x) both.0, none_hears n entries both.1)
 
 heard_so : (t : List Entry) (x : Entry) (behind : List Entry) → heard_found t x behind ≡ true → HearsFirstAlone x behind
 heard_so t x behind found n answers = by (answerer x) found answers where
@@ -118,32 +91,6 @@ heard_so t x behind found n answers = by (answerer x) found answers where
       → AllByRecursion (λ y. hears n y ≡ false) behind
   by None q is = absurd (true≢false (sym is))
   by (Some k) q is = none_hears n behind (subst (λ j. none_heard j behind ≡ true) (eqb-true k n is) q)
-
--- the facts of `AnsweredAlone`
-pub data Fact : Type 0 where
-  InTurn : Fact
-  Replied : Fact
-  Held : Fact
-  Done : Fact
-  Short : Fact
-  Due : Fact
-  Reset : Fact
-  Ascending : Fact
-  Heard : Fact
-
-abbrev number_of : Fact → ℕ
-number_of InTurn = 0
-number_of Replied = 1
-number_of Held = 2
-number_of Done = 3
-number_of Short = 4
-number_of Due = 5
-number_of Reset = 6
-number_of Ascending = 7
-number_of Heard = 8
-
-abbrev pub is_fact : Fact → Fact → Bool
-is_fact f g = number_of f == number_of g
 
 module _ (core : Core) (h : ℕ) where
   -- at a turn what lacks, and the answers behind it
@@ -154,9 +101,6 @@ module _ (core : Core) (h : ℕ) where
   abbrev turn_wanted : List Entry → Entry → List Entry → Option (Option (ℕ × ℕ) × List Entry)
   turn_wanted t (entry.Turn e pid message) behind = Some (None, answers_wanted core.node behind (noted_since core h t (reply_since core h t (pid, message))))
   turn_wanted t _ behind = None
-
-  both_are : {X Y : Type 0} (p q : X × Y) → Some p ≡ Some q → (p.0 ≡ q.0) × (p.1 ≡ q.1)
-  both_are {X} {Y} p q s = let same : p ≡ q = some_is p q s in (ap (λ (z : X × Y). z.0) same, ap (λ (z : X × Y). z.1) same)
 
   turn_so : (t : List Entry) (x : Entry) (behind : List Entry) → turn_found t x behind ≡ turn_wanted t x behind → IsRepliedAlone core h t x behind
   turn_so t (entry.Turn e pid message) behind same = both_are _ _ same
@@ -231,11 +175,6 @@ module _ (core : Core) (h : ℕ) where
   -- this fact refuses a history, and each other one holds of it
   abbrev pub RefusedByOnly : Fact → List LoneEvent → Type 0
   RefusedByOnly f events = (FactOf f events → ⊥) × ((g : Fact) → is_fact f g ≡ false → FactOf g events)
-
-  -- the others are found
-  abbrev Unless : Bool → Type 0 → Type 0
-  Unless true X = Unit {0}
-  Unless false X = X
 
   abbrev One : Fact → Fact → List LoneEvent → Type 0
   One f g events = Unless (is_fact f g) (IsFound g events)

@@ -14,8 +14,9 @@ use Rattle.node_machine.specs.world.World.{end_c}
 use Rattle.lone_laws.specs.alone.Lone.{LoneEvent}
 use Rattle.lone_laws.specs.alone.Lone.LoneCause.{FrameIsRefused, TickComes}
 use Rattle.lone_laws.specs.alone.Answers.{AnsweredAlone}
-use Rattle.lone_laws.proofs.alone.Walks.{Fact, IsFound, RefusedByOnly, all_found, others_hold}
-use Rattle.lone_laws.proofs.alone.Walks.Fact.{InTurn, Replied, Held as HeldFact, Done, Short, Due, Reset, Ascending, Heard}
+use Rattle.lone_laws.proofs.alone.Walks.{IsFound, RefusedByOnly, all_found, others_hold}
+use Rattle.node_laws.proofs.answers.OneFact.{Fact}
+use Rattle.node_laws.proofs.answers.OneFact.Fact.{InTurn, Replied, Held as HeldFact, Done, Short, Due, Reset, Ascending, Heard}
 
 -- A controller that knows of one pipe, which leads from host 02 to its loopback gate.
 abbrev core : Core
@@ -60,14 +61,7 @@ unfolding hosts_where lowest_free
 right = all_found core 2 (begins ∷ ticks (got ∷ turn ∷ dropped ∷ []) ∷ []) found where
   found : (g : Fact) → IsFound core 2 g (begins ∷ ticks (got ∷ turn ∷ dropped ∷ []) ∷ [])
   found InTurn = refl
-  found Replied = refl
-  found HeldFact = refl
-  found Done = refl
-  found Short = refl
-  found Due = refl
-  found Reset = refl
-  found Ascending = refl
-  found Heard = refl
+  found _ = refl
 
 -- ## Messages and their turns
 

@@ -16,6 +16,7 @@ use Rattle.node_machine.specs.Carrying.{end_of_node, noting, noted_of, port_at, 
 use Rattle.node_machine.specs.Turns.{deeds_of, handles, holds_back}
 use Rattle.node_machine.specs.world.NodeFilters.{session_now}
 use Rattle.node_laws.specs.answers.Moments.{unhandled_in}
+use Rattle.node_laws.proofs.Cases.{by_test}
 use Rattle.node_laws.proofs.steps.StepWalks.{lets}
 use Rattle.node_laws.specs.passes.Passing.{LastsOverTurns, ComesTo, IsTurnSo, BeginWithTurn, link_of_turn, waiting_at, lacking, takes_up}
 use Rattle.node_laws.specs.passes.Noting.{noted_by_deeds}
@@ -82,21 +83,14 @@ module _ (rest : Core) (number h : ℕ) (some : 1 ≤ h) (most : h ≤ 7) (s : �
       (subst (ErrorsAre e (errors_found F) (t ++ (w.entries ++ []))) (sym (errors_with k (after_turn (Hold b)) (λ p. refl) w.ports)) (errs_more w [] tt a))
 
   errs_held : (k : ℕ) (short : ℕ × ℕ) (w : Work) → Errs w → Errs (holds_back k short w)
-  errs_held k short w a = go (option_map_or (λ (p : Port). p.desk.holds) (port_at w.ports k) false) where
-    marked : Work
-    marked = with_desk k (λ d. record d { holds = true }) (noting (entry.Held (end_of_node w.core k) short.0 short.1 ∷ []) w)
-
-    by : Bool → Work
-    by true = turn_at k (Hold true) w
-    by false = turn_at k (Hold true) marked
-
-    go : (b : Bool) → Errs (by b)
-    go true = errs_hold k true w a
-    go false =
-        errs_hold k true marked
-        (subst (ErrorsAre e (errors_found F) (t ++ marked.entries))
-        (sym (errors_with k (λ p. record p { desk = record p.desk { holds = true } }) (λ p. refl) w.ports))
-        (errs_more w (entry.Held (end_of_node w.core k) short.0 short.1 ∷ []) (((λ r. refl), tt), tt) a))
+  errs_held k short w a = by_test (option_map_or (λ (p : Port). p.desk.holds) (port_at w.ports k) false)
+      (λ q. rw q (errs_hold k true w a))
+      (λ q. rw q (errs_hold k true marked
+      (subst (ErrorsAre e (errors_found F) (t ++ marked.entries))
+      (sym (errors_with k (λ p. record p { desk = record p.desk { holds = true } }) (λ p. refl) w.ports))
+      (errs_more w (entry.Held (end_of_node w.core k) short.0 short.1 ∷ []) (((λ r. refl), tt), tt) a)))) where
+        marked : Work
+        marked = with_desk k (λ d. record d { holds = true }) (noting (entry.Held (end_of_node w.core k) short.0 short.1 ∷ []) w)
 
   abbrev knows : LastsOverTurns (KnowsAlone number h s (begin_read F) t)
   knows = knows_lasts number h some most s (begin_read F) t

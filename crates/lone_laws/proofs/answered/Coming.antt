@@ -51,9 +51,7 @@ lone_got e (Start value) a =
     nothing_more e (started e value) (activated_got (moved e true (stopped e.shdlc)) (ActStart value) ∙ moved_got e true (stopped e.shdlc))
 lone_got e Stop a =
     nothing_more e (deactivated e) (activated_got (moved e true (stopped e.shdlc)) ActStop ∙ moved_got e true (stopped e.shdlc))
-lone_got e (TakeBroken fault) a = absurd a
-lone_got e (FromNode x) a = absurd a
-lone_got e Fetch a = absurd a
+lone_got e _ a = absurd a
 
 -- it comes to the end
 pub comes_there : (h : ℕ) (i : LinkInput) (p : Port) → p.desk.host ≡ h → input_at (node_input h i) p ≡ Some i

@@ -12,7 +12,7 @@ use Rattle.swp_lpdu.specs.Controls.{control_of}
 use Rattle.swp_act.specs.declared.ActEvent.{ActEvent}
 use Rattle.swp_act.specs.declared.ActEvent.TheVariants.{Start as ActStart, Take as ActTake, Tick as ActTick, Stop as ActStop}
 use Rattle.swp_act.specs.declared.Phase.{Phase}
-use Rattle.swp_act.specs.declared.Phase.TheVariants.{Inactive, Awaiting, Active as ActiveNow}
+use Rattle.swp_act.specs.declared.Phase.TheVariants.{Inactive}
 use Rattle.swp_act.specs.declared.clf.ClfAct.{ClfAct}
 use Rattle.swp_act.specs.Activation.{clf_step}
 use Rattle.trace_model.specs.declared.entry.Entry.{Entry}
@@ -20,7 +20,7 @@ use Rattle.trace_model.specs.declared.entry.Entry.TheVariants as entry
 use Rattle.trace_model.specs.declared.line.End.{End}
 use Rattle.hci_tables.specs.declared.command.Command.TheVariants.{Sync}
 use Rattle.hci_tables.specs.Tables.{is_kept_sync}
-use Rattle.link_laws.specs.machine.Machine.{Message, LinkEnd, LinkInput, Report, Role, report, after_input, whole_acked, act_out, act_event, lpdu_input}
+use Rattle.link_laws.specs.machine.Machine.{LinkEnd, LinkInput, Report, Role, report, after_input, whole_acked, act_out, act_event, lpdu_input}
 use Rattle.link_laws.specs.machine.Machine.{is_open}
 use Rattle.link_laws.specs.machine.Machine.Role.{Bare, Clf, Uicc}
 use Rattle.link_laws.specs.entries.Entries.{End as Side, Entry as Noted, told}
@@ -34,6 +34,7 @@ use Rattle.node_machine.specs.world.NodeFilters.{session_now}
 use Rattle.node_laws.specs.passes.Noting.{noted_by_deeds, goes_in}
 use Rattle.node_laws.specs.passes.Passing.{ComesTo, IsTurnSo}
 use Rattle.node_laws.specs.passes.Steps.{syncs_in}
+use Rattle.node_laws.proofs.Cases.{by_test}
 use Rattle.node_laws.proofs.passes.Notes.{deeds_note}
 use Rattle.node_laws.proofs.worlds.Late.{BeginsBehind}
 use Rattle.node_laws.proofs.worlds.Uiccs.{tick_none, uicc_sync}
@@ -67,18 +68,15 @@ wanted _ = None
 clf_sync : (s : ClfAct) (event : ActEvent) → (clf_step s event).1.sync ≡ wanted event
 clf_sync s (ActStart value) = refl
 clf_sync s (ActTake (SyncId id) true) = refl
-clf_sync s (ActTake Ready true) = refl
-clf_sync s (ActTake (PowerMode code) true) = refl
+clf_sync s (ActTake _ true) = refl
 clf_sync s (ActTake (SyncId id) false) = go s.phase refl where
   go : (p : Phase) → s.phase ≡ p → (clf_step s (ActTake (SyncId id) false)).1.sync ≡ Some id
   go Inactive q = rw q refl
-  go (Awaiting tries ticks) q = rw q refl
-  go ActiveNow q = rw q refl
+  go _ q = rw q refl
 clf_sync s (ActTake Ready false) = go s.phase refl where
   go : (p : Phase) → s.phase ≡ p → (clf_step s (ActTake Ready false)).1.sync ≡ None
   go Inactive q = rw q refl
-  go (Awaiting tries ticks) q = rw q refl
-  go ActiveNow q = rw q refl
+  go _ q = rw q refl
 clf_sync s (ActTake (PowerMode code) false) = refl
 clf_sync s ActTick = tick_none s.phase s.last
 clf_sync s ActStop = refl
@@ -114,11 +112,6 @@ frame_due core h s bytes zero kind = go (control_of bytes) refl where
 
   go : (x : Result Control LpduFault) → control_of bytes ≡ x → of_sync core h (report s (lpdu_input bytes)).sync ≡ sync_due core h (FrameComes bytes)
   go (Err fault) q = rw (q, zero) refl
-  go (Ok (control.I ns nr info)) q = rw (q, zero) refl
-  go (Ok (control.S kind nr)) q = rw (q, zero) refl
-  go (Ok (control.Rset window caps)) q = rw (q, zero) refl
-  go (Ok control.Ua) q = rw (q, zero) refl
-  go (Ok control.Clt) q = rw (q, zero) refl
   go (Ok (control.Act (SyncId id) false)) q = rw (q, zero) (ap (of_sync core h) (act (ActTake (SyncId id) false)))
   go (Ok (control.Act (SyncId id) true)) q = rw (q, zero) (ap (of_sync core h) (act (ActTake (SyncId id) true)))
   go (Ok (control.Act Ready again)) q = rw (q, zero) (ap (of_sync core h) (act (ActTake Ready again) ∙ ready again)) where
@@ -129,41 +122,35 @@ frame_due core h s bytes zero kind = go (control_of bytes) refl where
     power : (b : Bool) → wanted (ActTake (PowerMode code) b) ≡ None
     power true = refl
     power false = refl
+  go (Ok _) q = rw (q, zero) refl
 
 other_due : (core : Core) (h : ℕ) (c : LoneCause) → eqb core.node 0 ≡ false → sync_due core h c ≡ []
 other_due core h (FrameComes bytes) another = rw another refl
-other_due core h (FrameIsRefused fault) another = refl
-other_due core h TickComes another = refl
-other_due core h (ResetComes window) another = refl
-other_due core h (StartComes value) another = refl
-other_due core h StopComes another = refl
+other_due core h _ another = refl
 
 input_due : (core : Core) (h : ℕ) (s : LinkEnd) (c : LoneCause) (i : LinkInput) → lone_input c ≡ Some i → kind_of s.role ≡ Some (eqb core.node 0)
     → of_sync core h (report s i).sync ≡ sync_due core h c
-input_due core h s c i comes kind = go (eqb core.node 0) refl where
-  clf : eqb core.node 0 ≡ true → (c : LoneCause) → lone_input c ≡ Some i → of_sync core h (report s i).sync ≡ sync_due core h c
-  clf zero (FrameComes bytes) q =
-      let is : lpdu_input bytes ≡ i = cc in
-      subst (λ x. of_sync core h (report s x).sync ≡ sync_due core h (FrameComes bytes)) is (frame_due core h s bytes zero (kind ∙ ap (λ b. Some b) zero))
-  clf zero (FrameIsRefused fault) q = absurd (cc q)
-  clf zero TickComes q =
-      let is : Rattle.link_laws.specs.machine.Machine.LinkInput.Tick ≡ i = cc in
-      subst (λ x. of_sync core h (report s x).sync ≡ []) is
-      (cond_both (is_open s.role) None (Some ActTick) (λ o. of_sync core h (act_out s.role o).sync ≡ []) (λ _. refl)
-      (λ _. ap (of_sync core h) (clf_out s.role ActTick (kind ∙ ap (λ b. Some b) zero))))
-  clf zero (ResetComes window) q =
-      let is : Rattle.link_laws.specs.machine.Machine.LinkInput.Reset window ≡ i = cc in subst (λ x. of_sync core h (report s x).sync ≡ []) is refl
-  clf zero (StartComes value) q =
-      let is : Rattle.link_laws.specs.machine.Machine.LinkInput.Start value ≡ i = cc in
-      subst (λ x. of_sync core h (report s x).sync ≡ []) is (ap (of_sync core h) (clf_out s.role (ActStart value) (kind ∙ ap (λ b. Some b) zero)))
-  clf zero StopComes q =
-      let is : Rattle.link_laws.specs.machine.Machine.LinkInput.Stop ≡ i = cc in
-      subst (λ x. of_sync core h (report s x).sync ≡ []) is (ap (of_sync core h) (clf_out s.role ActStop (kind ∙ ap (λ b. Some b) zero)))
-
-  go : (b : Bool) → eqb core.node 0 ≡ b → of_sync core h (report s i).sync ≡ sync_due core h c
-  go true zero = clf zero c comes
-  go false another =
-      ap (of_sync core h) (out_none s.role (act_event s i) (kind ∙ ap (λ b. Some b) another)) ∙ sym (other_due core h c another)
+input_due core h s c i comes kind = by_test (eqb core.node 0)
+    (λ zero. clf zero c comes)
+    (λ another. ap (of_sync core h) (out_none s.role (act_event s i) (kind ∙ ap (λ b. Some b) another)) ∙ sym (other_due core h c another)) where
+      clf : eqb core.node 0 ≡ true → (c : LoneCause) → lone_input c ≡ Some i → of_sync core h (report s i).sync ≡ sync_due core h c
+      clf zero (FrameComes bytes) q =
+          let is : lpdu_input bytes ≡ i = cc in
+          subst (λ x. of_sync core h (report s x).sync ≡ sync_due core h (FrameComes bytes)) is (frame_due core h s bytes zero (kind ∙ ap (λ b. Some b) zero))
+      clf zero (FrameIsRefused fault) q = absurd (cc q)
+      clf zero TickComes q =
+          let is : Rattle.link_laws.specs.machine.Machine.LinkInput.Tick ≡ i = cc in
+          subst (λ x. of_sync core h (report s x).sync ≡ []) is
+          (cond_both (is_open s.role) None (Some ActTick) (λ o. of_sync core h (act_out s.role o).sync ≡ []) (λ _. refl)
+          (λ _. ap (of_sync core h) (clf_out s.role ActTick (kind ∙ ap (λ b. Some b) zero))))
+      clf zero (ResetComes window) q =
+          let is : Rattle.link_laws.specs.machine.Machine.LinkInput.Reset window ≡ i = cc in subst (λ x. of_sync core h (report s x).sync ≡ []) is refl
+      clf zero (StartComes value) q =
+          let is : Rattle.link_laws.specs.machine.Machine.LinkInput.Start value ≡ i = cc in
+          subst (λ x. of_sync core h (report s x).sync ≡ []) is (ap (of_sync core h) (clf_out s.role (ActStart value) (kind ∙ ap (λ b. Some b) zero)))
+      clf zero StopComes q =
+          let is : Rattle.link_laws.specs.machine.Machine.LinkInput.Stop ≡ i = cc in
+          subst (λ x. of_sync core h (report s x).sync ≡ []) is (ap (of_sync core h) (clf_out s.role ActStop (kind ∙ ap (λ b. Some b) zero)))
 
 -- ## What is noted first
 
@@ -182,11 +169,7 @@ told_mute h who n acked rep = notes_mute h (told who n rep acked) (told_of_it wh
 
 arrival_mute : (l : Lone) (c : LoneCause) → AllByRecursion IsMuteEntry (lone_arrival l c)
 arrival_mute l (FrameComes bytes) = ((refl, refl, refl), tt)
-arrival_mute l (FrameIsRefused fault) = tt
-arrival_mute l TickComes = tt
-arrival_mute l (ResetComes window) = tt
-arrival_mute l (StartComes value) = tt
-arrival_mute l StopComes = tt
+arrival_mute l _ = tt
 
 mute_answers : (x : Entry) (es answers : List Entry) → IsMuteEntry x → AnswersOwn es answers → AnswersOwn (x ∷ es) answers
 mute_answers x es answers mute a =

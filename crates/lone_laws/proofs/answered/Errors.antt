@@ -1,12 +1,11 @@
 -- REC_ERROR of a node alone is what is read, over each message that it handles.
-use Rattle.std.proofs.Common.{◌≡◌, ℕ, Bool, true, false, cond, eqb, ◌&&◌, List, [], ◌∷◌, ◌++◌, map, refl, sym, ap, subst, ◌∙◌, append-nil}
-use Rattle.std.specs.Prelude.{Option, Some, None, unwrap_or, option_to_list, nat_lt}
+use Rattle.std.proofs.Common.{◌≡◌, ℕ, Bool, true, false, cond, eqb, ◌&&◌, List, [], ◌∷◌, ◌++◌, refl, sym, ap, subst, ◌∙◌, append-nil}
+use Rattle.std.specs.Prelude.{Option, Some, None, unwrap_or}
 use Rattle.std.specs.List.{AllByRecursion, fold}
 use Rattle.std.specs.Option.{option_map_or}
 use Rattle.std.proofs.lemmas.Bool.{true≢false, eqb-true}
 use Rattle.std.proofs.lemmas.List.Sums.{fold-append}
 use Rattle.registry.proofs.ValueLemmas.{AllByRecursion-append}
-use Rattle.swp_base.specs.declared.link_terms.Cause.{Cause as EndedBy}
 use Rattle.trace_model.specs.declared.entry.Entry.{Entry}
 use Rattle.trace_model.specs.declared.entry.Entry.TheVariants as entry
 use Rattle.trace_model.specs.declared.line.End.{End}
@@ -18,7 +17,7 @@ use Rattle.hci_tables.specs.declared.command.Command.{Command}
 use Rattle.hci_tables.specs.Tables.{HciTables, apply}
 use Rattle.link_laws.specs.machine.Machine.{Message, Report, Turn}
 use Rattle.link_laws.specs.machine.Machine.Turn.{Give}
-use Rattle.link_laws.specs.entries.Entries.{End as Side, Entry as Noted, told, if_so}
+use Rattle.link_laws.specs.entries.Entries.{End as Side, Entry as Noted, told}
 use Rattle.link_laws.specs.entries.Entries.Entry.{Up, Down, Active, GaveUp, Acked, Got}
 use Rattle.history.specs.Filters.{same_end}
 use Rattle.history.specs.Steps.{entries_for}
@@ -30,6 +29,8 @@ use Rattle.node_machine.specs.HostReplies.{host_deeds}
 use Rattle.node_machine.specs.world.World.{end_c, end_h}
 use Rattle.node_machine.specs.world.NodeFilters.{with_command}
 use Rattle.node_laws.specs.views.Errors.{ErrorCount, errors_after, errors_set_by, is_any_ok, leads_to_link_gate}
+use Rattle.node_laws.proofs.telling.Reported.{told_all}
+use Rattle.node_laws.proofs.Cases.{by_test}
 use Rattle.node_laws.proofs.reply_passes.Sides.{IsNoBoot, AreNoBoots}
 use Rattle.node_laws.proofs.views.Setting.{AreUnset, is_link_gate, SetsNone, IsUpAt, SetDeeds, controller_unset, controller_sets, host_unset, host_sets}
 use Rattle.node_laws.proofs.views.Setting.SetDeeds.{IsSet as IsSetSo, IsRefused as IsRefusedSo, IsDropped as IsDroppedSo}
@@ -60,17 +61,12 @@ module _ (number h : ℕ) where
   HasTables x c = (c.node ≡ number) × (eqb number 0 ≡ true → x.book.tables ≡ c.tables)
 
   tables_noted : (y : Entry) (x : ErrorCount) (c : Core) → IsNoBoot y → HasTables x c → HasTables (errors_after its_end x y) (core_noted c y)
-  tables_noted (entry.Command n z) x c none a = (same (eqb n c.node), tables) where
-    same : (b : Bool) → (cond b (core_with c z) c).node ≡ number
-    same true = a.0
-    same false = a.0
-
+  tables_noted (entry.Command n z) x c none a = (by_test (eqb n c.node) (λ q. rw q a.0) (λ q. rw q a.0), tables) where
     tables : eqb number 0 ≡ true → (cond (eqb n 0) (with_command z x.book) x.book).tables ≡ (cond (eqb n c.node) (core_with c z) c).tables
     tables zero =
-        by (eqb n 0) ∙ ap (λ (k : ℕ). (cond (eqb n k) (core_with c z) c).tables) (sym (a.0 ∙ eqb-true number 0 zero)) where
-          by : (b : Bool) → (cond b (with_command z x.book) x.book).tables ≡ (cond b (core_with c z) c).tables
-          by true = ap (λ t. apply t z) (a.1 zero)
-          by false = a.1 zero
+        by_test (eqb n 0)
+        (λ q. rw q (ap (λ t. apply t z) (a.1 zero)))
+        (λ q. rw q (a.1 zero)) ∙ ap (λ (k : ℕ). (cond (eqb n k) (core_with c z) c).tables) (sym (a.0 ∙ eqb-true number 0 zero))
   tables_noted (entry.Booted n k) x c none a = absurd none
   tables_noted (entry.Turn f pid message) x c none a = a
   tables_noted (entry.Sent f n pid message) x c none a = a
@@ -143,30 +139,8 @@ notes_settled e h (Acked who n count ∷ xs) a = (((λ x. refl), tt), notes_sett
 notes_settled e h (Got who n m ∷ xs) a = (((λ x. refl), tt), notes_settled e h xs a.1)
 notes_settled e h (_ ∷ xs) a = absurd a.0
 
-so_told : (b : Bool) (x : Noted) → IsToldNote x → AllByRecursion IsToldNote (if_so b x)
-so_told true x a = (a, tt)
-so_told false x a = tt
-
-down_told : (who : Side) (o : Option EndedBy) → AllByRecursion IsToldNote (map (Down who) (option_to_list o))
-down_told who None = tt
-down_told who (Some cause) = (tt, tt)
-
-tries_told : (who : Side) (o : Option ℕ) → AllByRecursion IsToldNote (map (GaveUp who) (option_to_list o))
-tries_told who None = tt
-tries_told who (Some n) = (tt, tt)
-
-gots_told : (who : Side) (n : ℕ) (ms : List Message) → AllByRecursion IsToldNote (map (Got who n) ms)
-gots_told who n [] = tt
-gots_told who n (m ∷ ms) = (tt, gots_told who n ms)
-
 pub told_of_it : (who : Side) (n acked : ℕ) (rep : Report) → AllByRecursion IsToldNote (told who n rep acked)
-told_of_it who n acked rep =
-    AllByRecursion-append IsToldNote (map (Down who) (option_to_list rep.ended)) _ (down_told who rep.ended)
-    (AllByRecursion-append IsToldNote (if_so rep.began (Up who n)) _ (so_told rep.began (Up who n) tt)
-    (AllByRecursion-append IsToldNote (if_so rep.became_active (Active who)) _ (so_told rep.became_active (Active who) tt)
-    (AllByRecursion-append IsToldNote (map (GaveUp who) (option_to_list rep.gave_up)) _ (tries_told who rep.gave_up)
-    (AllByRecursion-append IsToldNote (if_so (nat_lt 0 rep.acked) (Acked who n acked)) _ (so_told (nat_lt 0 rep.acked) (Acked who n acked) tt)
-    (gots_told who n rep.got)))))
+told_of_it who n acked rep = told_all IsToldNote who n acked tt tt (λ k. tt) tt (λ m. tt) (λ c. tt) rep
 
 pub told_settled : (e : End) (h : ℕ) (who : Side) (n acked : ℕ) (rep : Report) → AllByRecursion (IsSettled e) (entries_for h (told who n rep acked))
 told_settled e h who n acked rep = notes_settled e h (told who n rep acked) (told_of_it who n acked rep)
@@ -180,10 +154,7 @@ desk_errors (p ∷ ports) = p.desk.errors
 pub errors_with : (k : ℕ) (f : Port → Port) → ((p : Port) → (f p).desk.errors ≡ p.desk.errors) → (ports : List Port)
     → desk_errors (with_port k f ports) ≡ desk_errors ports
 errors_with k f keeps [] = refl
-errors_with k f keeps (p ∷ ports) = go (eqb p.desk.host k) where
-  go : (b : Bool) → (changed_if b f p).desk.errors ≡ p.desk.errors
-  go true = keeps p
-  go false = refl
+errors_with k f keeps (p ∷ ports) = by_test (eqb p.desk.host k) (λ q. rw q (keeps p)) (λ q. rw q refl)
 
 -- ## A message that has its turn
 
@@ -263,8 +234,6 @@ module _ (e : End) where
   -- deeds that set nothing, where no command that sets it waits for its answer
   unset_errs : (core : Core) (session : Option ℕ) (deeds : List Deed) → IsLoneReply deeds → AreUnset deeds → (z : ErrorCount) → z.sets ≡ None
       → (errs_all e z (entries_of_deeds core e session deeds)).errors ≡ z.errors
-  unset_errs core session _ IsNone unset z none = refl
-  unset_errs core session _ (IsDrop pid) unset z none = refl
   unset_errs core session _ (IsSend to m) unset z none =
       ap (λ es. (errs_all e z es).errors) (append-nil (sent_alone e session to m)) ∙ sent_unset session to m z none
   unset_errs core session _ (IsCommit c to m) unset z none =
@@ -272,7 +241,7 @@ module _ (e : End) where
       let last : List Entry = entry.AnyOk core.node _ ∷ [] in
       ap (λ (x : ErrorCount). x.errors) (errs-append e y (sent_alone e session to m) last) ∙ sent_unset session to m y refl
   unset_errs core session _ (IsSet v to m) unset z none = absurd unset.0
-  unset_errs core session _ IsHeard unset z none = refl
+  unset_errs core session _ _ unset z none = refl
 
 -- ## What is kept after them
 
@@ -280,10 +249,7 @@ kept_turn : (to : ℕ) (x : Turn) (u : Work) → desk_errors (turn_at to x u).po
 kept_turn to x u = errors_with to (after_turn x) (λ p. refl) u.ports
 
 kept_commit : (c : Command) (u : Work) → (done 0 (Commits c) u).cut ≡ false → desk_errors (done 0 (Commits c) u).ports ≡ desk_errors u.ports
-kept_commit c u still = go (Rattle.node_laws.specs.passes.Noting.goes_in c u) refl where
-  go : (b : Bool) → Rattle.node_laws.specs.passes.Noting.goes_in c u ≡ b → desk_errors (done 0 (Commits c) u).ports ≡ desk_errors u.ports
-  go true q = rw q refl
-  go false q = rw q refl
+kept_commit c u still = by_test (Rattle.node_laws.specs.passes.Noting.goes_in c u) (λ q. rw q refl) (λ q. rw q refl)
 
 module _ (k : ℕ) (u : Work) (on : u.cut ≡ false) where
   one_done : (d : Deed) → (done k d u).cut ≡ false → all_done k (d ∷ []) u ≡ done k d u

@@ -1,18 +1,15 @@
 -- A commit, whole or cut, over a memory that holds what a node knows. What is said of counts may rest on something that is known of the first memory.
-use Rattle.std.proofs.Common.{◌≡◌, ◌⊎◌, inl, inr, ℕ, zero, suc, ◌+◌, ◌^◌, ◌<◌, ◌≤◌, Bool, true, false, cond, nat_lt, List, [], ◌∷◌, ◌++◌, length, sym, refl, ap}
+use Rattle.std.proofs.Common.{◌≡◌, ◌⊎◌, inl, inr, ℕ, ◌+◌, ◌^◌, ◌<◌, ◌≤◌, Bool, true, false, cond, nat_lt, List, [], ◌∷◌, length, sym, refl, ap}
 use Rattle.std.proofs.Common.{◌∙◌, subst, arith}
-use Rattle.std.specs.Prelude.{◌-◌, min, Option, Some, None, IsSome, is_some, option_map}
+use Rattle.std.specs.Prelude.{◌-◌, min, Option, Some, None, IsSome, is_some}
 use Rattle.std.specs.Option.{option_map_or}
 use Rattle.std.proofs.lemmas.Bool.{and_from, leb-true, ltb-true}
-use Rattle.swp_base.specs.Outside.{overwritten}
 use Rattle.swp_base.specs.InMemory.{Memory}
-use Rattle.journal_laws.specs.declared.banks.Side.{Side}
 use Rattle.journal_laws.specs.declared.state.State.{State}
-use Rattle.journal_laws.specs.Banks.{other, current}
+use Rattle.journal_laws.specs.Banks.{current}
 use Rattle.journal_laws.specs.Writes.{Write, after_writes, IsCut}
 use Rattle.journal_laws.specs.Journal.{Journal, journal, records, state_of, count_of, gate_at, left, IsSound}
 use Rattle.journal_laws.specs.Operations.{append_writes, compact_writes, format_writes, HasRoomForBody, CanCompact, appended, compacted, formatted}
-use Rattle.journal_laws.specs.Operations.{IsAllOrNothing}
 use Rattle.journal_laws.specs.Planned.{fails_within, after_planned}
 use Rattle.journal_laws.proofs.Kept.{append_count, compact_count, same_count}
 use Rattle.journal_laws.proofs.Cuts.{length-after, length-cut}
@@ -26,47 +23,20 @@ use Rattle.nv_journal.proofs.Formatting.{says_formatted, format_all_or_nothing, 
 use Rattle.hci_tables.specs.declared.command.Command.{Command}
 use Rattle.hci_tables.specs.Commands.{IsCommand}
 use Rattle.hci_tables.specs.Bodies.{body_of, command_of}
-use Rattle.hci_tables.specs.Tables.{HciTables, AreTables, apply, close}
+use Rattle.hci_tables.specs.Tables.{HciTables, AreTables, apply}
 use Rattle.hci_store.specs.Image.{are_commands, first_other, image_fault}
 use Rattle.hci_store.specs.Recordable.{IsRecordable}
 use Rattle.hci_store.specs.Snapshots.{snapshot_of}
 use Rattle.hci_store.specs.Stored.{HoldsTables}
 use Rattle.hci_store.specs.Committing.{record_fits, snapshot_bodies, room_writes, with_room, commit_writes, committed}
-use Rattle.hci_store.proofs.CutShort.{journal_left, holds_still, room_count, is_body, are_bodies}
+use Rattle.hci_store.proofs.CutShort.{holds_still, room_count, is_body, are_bodies}
 use Rattle.hci_store.proofs.Committed.{all_recordable, holds_more, holds_snapshot}
 use Rattle.hci_store.proofs.Starting.{counted}
 use Rattle.node_laws.specs.kept.Finds.{FindsRoom}
+use Rattle.node_laws.proofs.kept.Commits.{after-append, cut-append, some_other, IsLeftBetween, says_either}
 use Rattle.node_laws.proofs.kept.Snapshots.{snapshot_fits}
 use Rattle.node_laws.proofs.kept.Planned.{planned_whole, planned_cut}
 use Rattle.lone_laws.specs.alone.Memories.{Counts}
-
--- ## Writes
-
-after-append : (first later : List Write) (c : List ℕ) → after_writes (first ++ later) c ≡ after_writes later (after_writes first c)
-after-append [] later c = refl
-after-append (w ∷ first) later c = after-append first later (overwritten c w.at w.bytes)
-
-cut-append : (k : ℕ) (first later : List Write) (c left : List ℕ) → IsCut k (first ++ later) c left
-    → IsCut k first c left ⊎ ((j : ℕ) × IsCut j later (after_writes first c) left)
-cut-append k [] later c left cut = inr (k, cut)
-cut-append zero (w ∷ first) later c left cut = inl cut
-cut-append (suc k) (w ∷ first) later c left cut = cut-append k first later (overwritten c w.at w.bytes) left cut
-
-pub some_other : (o : Option Side) → IsSome o → IsSome (option_map other o)
-some_other None some = some
-some_other (Some side) some = refl
-
--- a cut in writes that are all or nothing leaves this
-record IsLeftBetween (writes : List Write) (content left : List ℕ) : Type 0 where
-  at : ℕ
-  whole : IsAllOrNothing writes content
-  cut : IsCut at writes content left
-
--- so it says what the memory said before, or behind all of them
-says_either : (writes : List Write) (content left : List ℕ) → IsLeftBetween writes content left
-    → (journal left ≡ journal content) ⊎ (journal left ≡ journal (after_writes writes content))
-says_either writes content left b =
-    journal_left writes content left (record { whole = b.at; cut = b.cut; says = b.whole.says b.at left b.cut })
 
 -- ## Sound memories
 
@@ -136,16 +106,6 @@ module _ (E : Type 0) where
     sound = subst IsSound (sym same) f.sound;
     holds = holds_still content new t f.holds (ap (λ (j : Journal). j.found.bodies) same);
     counts = λ e. counts_still content new many (f.counts e) same;
-  }
-
-  -- only closed tables count
-  pub finds_closed : (content : List ℕ) (t u : HciTables) (many : ℕ) → FindsIf content t many → close t ≡ close u → FindsIf content u many
-  finds_closed content t u many f same = record {
-    size = f.size;
-    version = f.version;
-    sound = f.sound;
-    holds = record { commands = f.holds.commands; tables_are = f.holds.tables_are ∙ same };
-    counts = f.counts;
   }
 
   -- a count that is as great, where counts are said

@@ -1,7 +1,7 @@
 -- Each session of a node alone has a greater number than those before it.
 use Rattle.std.proofs.Common.{◌≡◌, ◌⊎◌, inl, inr, ℕ, zero, suc, ◌+◌, ◌-◌, ◌<◌, ◌≤◌, Bool, true, false, cond, eqb, List, [], ◌∷◌, ◌++◌, length, take, drop, map}
 use Rattle.std.proofs.Common.{refl, sym, ap, ◌∙◌, arith}
-use Rattle.std.specs.Prelude.{not, Option, Some, None}
+use Rattle.std.specs.Prelude.{not, Some, None}
 use Rattle.std.specs.List.{filter, flat_map, AllByRecursion}
 use Rattle.std.proofs.lemmas.Bool.{true≢false, and_parts}
 use Rattle.swp_base.specs.declared.control_frames.Control.{Control}
@@ -10,17 +10,17 @@ use Rattle.trace_model.specs.declared.entry.Entry.TheVariants as entry
 use Rattle.shdlc_core.specs.declared.answers.LinkState.{LinkState}
 use Rattle.shdlc_core.specs.declared.answers.LinkState.TheVariants.{Down, Waiting, Up}
 use Rattle.shdlc_core.specs.declared.answers.Due.{Due}
-use Rattle.shdlc_core.specs.declared.answers.Due.TheVariants.{Rr as Rr_due, Rej as Rej_due, Rnr as Rnr_due, Rset as Rset_due, Ua as Ua_due}
+use Rattle.shdlc_core.specs.declared.answers.Due.TheVariants.{Rr as Rr_due, Rset as Rset_due}
 use Rattle.shdlc_core.specs.Machine.{EndState, control_due, is_waiting, take_answer, with_ready, fetched, frames_of, after_frames, most_frames}
 use Rattle.journal_laws.specs.Planned.{fails_within}
 use Rattle.hci_tables.specs.declared.command.Command.{Command}
 use Rattle.hci_tables.specs.Bodies.{body_of}
 use Rattle.hci_store.specs.Committing.{commit_writes}
 use Rattle.link_laws.specs.sessions.Sessions.{is_rset}
-use Rattle.link_laws.specs.machine.Machine.{Message, LinkEnd, ActDue, Refused, LinkInput, Turn, is_open, unless, give_refusal}
-use Rattle.link_laws.specs.machine.Machine.{given, aside_refusal, turn, among}
+use Rattle.link_laws.specs.machine.Machine.{Message, LinkEnd, ActDue, LinkInput, Turn, is_open, give_refusal}
+use Rattle.link_laws.specs.machine.Machine.{aside_refusal, turn, among}
 use Rattle.link_laws.specs.machine.Machine.{frames_out, sent_all, after_input, began_by}
-use Rattle.link_laws.specs.machine.Machine.LinkInput.{Take, TakeUnknown, TakeBroken, Tick, Reset, Start, Stop, FromNode, Fetch}
+use Rattle.link_laws.specs.machine.Machine.LinkInput.{Take}
 use Rattle.link_laws.specs.machine.Machine.Turn.{Give, Hold, FetchMessage, SetAside, Release}
 use Rattle.link_laws.specs.messages.Rsets.{rsets_among, rsets_due}
 use Rattle.link_laws.proofs.places.Joined.{fetch_cases}
@@ -29,14 +29,14 @@ use Rattle.link_laws.proofs.machine.Shifts.Shift.{Stays, Ends, Renews, Begins, R
 use Rattle.link_laws.proofs.machine.Runs.{Sound}
 use Rattle.link_laws.proofs.machine.Reports.{take_so}
 use Rattle.node_machine.specs.Parts.{Desk, Port, Work, Deed}
-use Rattle.node_machine.specs.Parts.Deed.{Commits, Sends, SaysOk, Asks as AsksFor, Releases, Tells, IsAnswered, Drops, SetsErrors, Orders, Hears, GoesOn}
-use Rattle.node_machine.specs.Parts.Deed.{Ends as EndsInit}
+use Rattle.node_machine.specs.Parts.Deed.{Commits, Sends, Asks as AsksFor, Releases, Tells, IsAnswered, SetsErrors, Orders}
 use Rattle.node_machine.specs.Parts.About.{Waits, Removed}
 use Rattle.node_machine.specs.Carrying.{noting, changed_if, with_port, with_desk, after_turn, turn_at, notified, commit, done}
 use Rattle.node_machine.specs.Node.{NodeInput, all_come, times_out, synced, steps, forgotten, forgets, all_owed, without_notice, after_sessions, is_over}
 use Rattle.node_machine.specs.Node.{is_forgotten}
 use Rattle.node_machine.specs.Controller.{asked_at}
 use Rattle.node_machine.specs.Parts.{About}
+use Rattle.node_laws.proofs.Cases.{by_list, by_test, by_option}
 use Rattle.node_laws.proofs.steps.StepWalks.{Lasts, rest_lasts, got_at}
 use Rattle.lone_laws.specs.alone.Lone.{rsets_since}
 use Rattle.lone_laws.proofs.answered.Coming.{IsLoneInput}
@@ -101,10 +101,7 @@ held_turned e r = go e.ready r e.session.answered_rnr refl refl where
       )
 
 turn_turned : (s f : LinkEnd) (x : Turn) → IsTurned s f → IsTurned s (turn f x)
-turn_turned s f (Give m) a = by (give_refusal f m) where
-  by : (o : Option Refused) → IsTurned s (unless o f (given f m))
-  by None = record { waits = a.waits; asks = a.asks; few = a.few }
-  by (Some why) = a
+turn_turned s f (Give m) a = by_option (give_refusal f m) (λ q. rw q (record { waits = a.waits; asks = a.asks; few = a.few })) (λ why q. rw q a)
 turn_turned s f (Hold held) a =
     let z = held_turned f.shdlc (not held) in
     record {
@@ -113,10 +110,7 @@ turn_turned s f (Hold held) a =
       few = let v = z.2 in let w = a.few in omega (arith, v, w);
     }
 turn_turned s f FetchMessage a = same_turned s f (turn f FetchMessage) refl a
-turn_turned s f SetAside a = by (aside_refusal f) where
-  by : (o : Option Refused) → IsTurned s (unless o f (record f { aside = f.aside + 1 }))
-  by None = record { waits = a.waits; asks = a.asks; few = a.few }
-  by (Some why) = a
+turn_turned s f SetAside a = by_option (aside_refusal f) (λ q. rw q (record { waits = a.waits; asks = a.asks; few = a.few })) (λ why q. rw q a)
 turn_turned s f Release a = same_turned s f (turn f Release) refl a
 
 -- ## A node in a step
@@ -153,27 +147,20 @@ module _ (s : LinkEnd) where
       (at_turned h (Give (1, message)) w a)
 
   commit_turned : (c : Command) (w : Work) → IsTurnedWork w → IsTurnedWork (commit c w)
-  commit_turned c w a = go (fails_within (length (commit_writes w.core.journal w.core.tables (body_of c))) w.plan) refl where
-    go : (b : Bool) → fails_within (length (commit_writes w.core.journal w.core.tables (body_of c))) w.plan ≡ b → IsTurnedWork (commit c w)
-    go true q = rw q a
-    go false q = rw q a
+  commit_turned c w a = by_test (fails_within (length (commit_writes w.core.journal w.core.tables (body_of c))) w.plan) (λ q. rw q a) (λ q. rw q a)
 
   done_turned : (h : ℕ) (d : Deed) (w : Work) → Unit {0} → IsTurnedWork w → IsTurnedWork (done h d w)
   done_turned h (Commits c) w may a = commit_turned c w a
   done_turned h (Sends to m) w may a = at_turned to (Give m) w a
-  done_turned h SaysOk w may a = a
   done_turned h (AsksFor to message c) w may a =
       notified_turned to (Waits c) message
       (noting (entry.Ask to message ∷ []) (turn_at c.asker SetAside w)) (at_turned c.asker SetAside w a)
   done_turned h (Releases asker) w may a = at_turned asker Release w a
   done_turned h (Tells to message) w may a = notified_turned to Removed message w a
   done_turned h IsAnswered w may a = desk_turned h (λ d. record d { notice = None }) w a
-  done_turned h (Drops pid) w may a = a
   done_turned h (SetsErrors errors) w may a = desk_turned h (λ d. record d { errors = errors }) w a
   done_turned h (Orders message) w may a = at_turned h (Give (1, message)) (record w { core = record w.core { command = Some message } }) a
-  done_turned h Hears w may a = a
-  done_turned h (GoesOn i) w may a = a
-  done_turned h (EndsInit y) w may a = a
+  done_turned h _ w may a = a
 
   abbrev AnyDeed : Deed → Type 0
   AnyDeed d = Unit {0}
@@ -198,16 +185,10 @@ module _ (s : LinkEnd) where
   }
 
   without_turned : (p : Port) → IsTurned s p.side → IsTurned s (without_notice p).side
-  without_turned p a = go (is_over p) refl where
-    go : (b : Bool) → is_over p ≡ b → IsTurned s (without_notice p).side
-    go true q = rw q a
-    go false q = rw q a
+  without_turned p a = by_test (is_over p) (λ q. rw q a) (λ q. rw q a)
 
   forgets_turned : (ports : List Port) (p : Port) → IsTurned s p.side → IsTurned s (forgets ports p).side
-  forgets_turned ports p a = go (is_forgotten ports (asked_at p)) refl where
-    go : (b : Bool) → is_forgotten ports (asked_at p) ≡ b → IsTurned s (forgets ports p).side
-    go true q = rw q a
-    go false q = rw q a
+  forgets_turned ports p a = by_test (is_forgotten ports (asked_at p)) (λ q. rw q a) (λ q. rw q a)
 
   -- what it does to its ends in a step, once something has come
   pub steps_turned : (input : NodeInput) (w : Work) → IsTurnedWork (times_out input (all_come input w)) → IsTurnedWork (steps input w)
@@ -225,10 +206,7 @@ abbrev pub rsets_of : List Control → ℕ
 rsets_of frames = length (filter is_rset frames)
 
 rsets-cons : (c : Control) (cs : List Control) → rsets_of (c ∷ cs) ≡ cond (is_rset c) 1 0 + rsets_of cs
-rsets-cons c cs = go (is_rset c) where
-  go : (b : Bool) → length (cond b (c ∷ filter is_rset cs) (filter is_rset cs)) ≡ cond b 1 0 + rsets_of cs
-  go true = omega arith
-  go false = omega arith
+rsets-cons c cs = by_test (is_rset c) (λ q. rw q (omega arith)) (λ q. rw q (omega arith))
 
 rsets-append : (xs ys : List Control) → rsets_of (xs ++ ys) ≡ rsets_of xs + rsets_of ys
 rsets-append [] ys = omega arith
@@ -252,10 +230,7 @@ among_rsets n (a ∷ acts) fs =
     omega (arith, all, back, whole)
 
 frames_rsets : (n : ℕ) (e : EndState) → length e.due ≤ n → rsets_among e.due ≤ rsets_of (frames_of n e)
-frames_rsets zero e few = go e.due refl where
-  go : (ds : List Due) → e.due ≡ ds → rsets_among e.due ≤ 0
-  go [] q = rw q (omega arith)
-  go (d ∷ ds) q = absurd (let z = ap (λ (l : List Due). length l) q in omega (arith, few, z))
+frames_rsets zero e few = by_list e.due (λ q. rw q (omega arith)) (λ d ds q. absurd (let z = ap (λ (l : List Due). length l) q in omega (arith, few, z)))
 frames_rsets (suc n) e few = go e.due refl (λ ds more. frames_rsets n (record e { due = ds }) more) where
   go : (ds : List Due) → e.due ≡ ds
       → ((ds : List Due) → length ds ≤ n → rsets_among ds ≤ rsets_of (frames_of n (record e { due = ds }))) → rsets_among e.due ≤ rsets_of (frames_of (suc n) e)
@@ -264,10 +239,7 @@ frames_rsets (suc n) e few = go e.due refl (λ ds more. frames_rsets n (record e
     by : (d : Due) → rsets_among ds ≤ rsets_of (frames_of n (record e { due = ds }))
         → rsets_among (d ∷ ds) ≤ rsets_of (control_due e d ∷ frames_of n (record e { due = ds }))
     by Rset_due z = omega (arith, z)
-    by Rr_due z = z
-    by Rej_due z = z
-    by Rnr_due z = z
-    by Ua_due z = z
+    by _ z = z
 
 -- all RSETs that are due go out
 out_rsets : (f : LinkEnd) → length f.shdlc.due ≤ most_frames → rsets_due f ≤ rsets_of (frames_out f)
@@ -276,10 +248,7 @@ out_rsets f few =
 
 -- and nothing is due behind them
 none_left : (n : ℕ) (e : EndState) → length e.due ≤ n → (after_frames n e).due ≡ []
-none_left zero e few = go e.due refl where
-  go : (ds : List Due) → e.due ≡ ds → e.due ≡ []
-  go [] q = q
-  go (d ∷ ds) q = absurd (let z = ap (λ (l : List Due). length l) q in omega (arith, few, z))
+none_left zero e few = by_list e.due (λ q. q) (λ d ds q. absurd (let z = ap (λ (l : List Due). length l) q in omega (arith, few, z)))
 none_left (suc n) e few =
     none_left n (fetched e)
     (fetch_cases (λ f o. length f.due ≤ n) e (λ d ds q. let z = ap (λ (l : List Due). length l) q in omega (arith, few, z))
@@ -304,13 +273,11 @@ began_more e (Take c) rsets session low waits began = go c (and_parts (is_open e
   go (I ns nr info) b = absurd (by e.shdlc.phase refl) where
     by : (p : LinkState) → e.shdlc.phase ≡ p → ⊥
     by Up p = no_input (take_answer e.shdlc (I ns nr info)).began (rw p refl) b
-    by Waiting p = no_input (take_answer e.shdlc (I ns nr info)).began (rw p refl) b
-    by Down p = no_input (take_answer e.shdlc (I ns nr info)).began (rw p refl) b
+    by _ p = no_input (take_answer e.shdlc (I ns nr info)).began (rw p refl) b
   go (S kind nr) b = absurd (by e.shdlc.phase refl) where
     by : (p : LinkState) → e.shdlc.phase ≡ p → ⊥
     by Up p = no_input (take_answer e.shdlc (S kind nr)).began (rw p refl) b
-    by Waiting p = no_input (take_answer e.shdlc (S kind nr)).began (rw p refl) b
-    by Down p = no_input (take_answer e.shdlc (S kind nr)).began (rw p refl) b
+    by _ p = no_input (take_answer e.shdlc (S kind nr)).began (rw p refl) b
   go Ua b = by e.shdlc.phase refl where
     by : (p : LinkState) → e.shdlc.phase ≡ p → session < rsets
     by Up p = absurd (no_input (take_answer e.shdlc Ua).began (rw p refl) b)
@@ -319,21 +286,12 @@ began_more e (Take c) rsets session low waits began = go c (and_parts (is_open e
   go (ActFrame act again) b = absurd (by e.shdlc.phase refl) where
     by : (p : LinkState) → e.shdlc.phase ≡ p → ⊥
     by Up p = no_input (take_answer e.shdlc (ActFrame act again)).began (rw p refl) b
-    by Waiting p = no_input (take_answer e.shdlc (ActFrame act again)).began (rw p refl) b
-    by Down p = no_input (take_answer e.shdlc (ActFrame act again)).began (rw p refl) b
+    by _ p = no_input (take_answer e.shdlc (ActFrame act again)).began (rw p refl) b
   go Clt b = absurd (by e.shdlc.phase refl) where
     by : (p : LinkState) → e.shdlc.phase ≡ p → ⊥
     by Up p = no_input (take_answer e.shdlc Clt).began (rw p refl) b
-    by Waiting p = no_input (take_answer e.shdlc Clt).began (rw p refl) b
-    by Down p = no_input (take_answer e.shdlc Clt).began (rw p refl) b
-began_more e TakeUnknown rsets session low waits began = absurd (true≢false (sym began))
-began_more e (TakeBroken fault) rsets session low waits began = absurd (true≢false (sym began))
-began_more e Tick rsets session low waits began = absurd (true≢false (sym began))
-began_more e (Reset window) rsets session low waits began = absurd (true≢false (sym began))
-began_more e (Start value) rsets session low waits began = absurd (true≢false (sym began))
-began_more e Stop rsets session low waits began = absurd (true≢false (sym began))
-began_more e (FromNode x) rsets session low waits began = absurd (true≢false (sym began))
-began_more e Fetch rsets session low waits began = absurd (true≢false (sym began))
+    by _ p = no_input (take_answer e.shdlc Clt).began (rw p refl) b
+began_more e _ rsets session low waits began = absurd (true≢false (sym began))
 
 -- and the end is up then
 began_up : (e : LinkEnd) (i : LinkInput) → Sound e → began_by e i ≡ true → is_waiting (after_input e i).shdlc ≡ false
@@ -350,28 +308,11 @@ began_up e (Take c) sound began = go (take_so e c sound).shift where
   go (Renews p q u new) = up new.is
   go (Begins p q n new) = up new.is
   go (Rests p q n m s) = absurd (true≢false (sym began ∙ q))
-began_up e TakeUnknown sound began = absurd (true≢false (sym began))
-began_up e (TakeBroken fault) sound began = absurd (true≢false (sym began))
-began_up e Tick sound began = absurd (true≢false (sym began))
-began_up e (Reset window) sound began = absurd (true≢false (sym began))
-began_up e (Start value) sound began = absurd (true≢false (sym began))
-began_up e Stop sound began = absurd (true≢false (sym began))
-began_up e (FromNode x) sound began = absurd (true≢false (sym began))
-began_up e Fetch sound began = absurd (true≢false (sym began))
+began_up e _ sound began = absurd (true≢false (sym began))
 
 since_more : (i : LinkInput) (rsets : ℕ) → rsets ≤ rsets_since i rsets
-since_more (Take c) rsets = go (is_rset c) where
-  go : (b : Bool) → rsets ≤ cond b (rsets + 1) rsets
-  go true = omega arith
-  go false = omega arith
-since_more TakeUnknown rsets = omega arith
-since_more (TakeBroken fault) rsets = omega arith
-since_more Tick rsets = omega arith
-since_more (Reset window) rsets = omega arith
-since_more (Start value) rsets = omega arith
-since_more Stop rsets = omega arith
-since_more (FromNode x) rsets = omega arith
-since_more Fetch rsets = omega arith
+since_more (Take c) rsets = by_test (is_rset c) (λ q. rw q (omega arith)) (λ q. rw q (omega arith))
+since_more _ rsets = omega arith
 
 -- ## Between events
 

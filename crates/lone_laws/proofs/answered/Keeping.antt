@@ -17,6 +17,7 @@ use Rattle.node_machine.specs.Carrying.{own_side, done, all_done, port_at}
 use Rattle.node_machine.specs.Node.{all_come, told_at}
 use Rattle.node_machine.specs.Turns.{passes}
 use Rattle.node_machine.proofs.Walks.{all_synced_hold}
+use Rattle.node_laws.proofs.Cases.{by_list}
 use Rattle.node_laws.proofs.steps.StepWalks.{all_do}
 use Rattle.node_laws.proofs.links.Works.{fine_at}
 use Rattle.node_laws.specs.passes.Noting.{goes_in}
@@ -26,7 +27,7 @@ use Rattle.node_laws.proofs.passes.Before.{steps_are}
 use Rattle.lone_laws.specs.alone.Lone.{Lone, LoneCause, lone_end, lone_input, node_input, lone_arrival, lone_port, rsets_since, session_with, side_behind}
 use Rattle.lone_laws.specs.alone.Lone.{emits_behind}
 use Rattle.lone_laws.specs.alone.Lone.{frames_behind, lone_behind_step}
-use Rattle.lone_laws.specs.alone.Lone.LoneCause.{FrameComes, FrameIsRefused, TickComes, ResetComes, StartComes, StopComes}
+use Rattle.lone_laws.specs.alone.Lone.LoneCause.{FrameComes}
 use Rattle.lone_laws.specs.alone.Known.{errors_found}
 use Rattle.lone_laws.proofs.answered.Reading.{eqb_same, Read, Alone}
 use Rattle.lone_laws.proofs.answered.Coming.{IsLoneInput, pass_is, came_is, came_ports, came_entries}
@@ -46,10 +47,6 @@ abbrev pub errors_of : List Desk → ℕ
 errors_of [] = 0
 errors_of (d ∷ desks) = d.errors
 
-errors_ports : (ports : List Port) → errors_of (map (λ (p : Port). p.desk) ports) ≡ desk_errors ports
-errors_ports [] = refl
-errors_ports (p ∷ ports) = refl
-
 errors_work : (side : LinkEnd) (s : ℕ) (desks : List Desk) → desk_errors (map (lone_port side s) desks) ≡ errors_of desks
 errors_work side s [] = refl
 errors_work side s (d ∷ desks) = refl
@@ -65,11 +62,7 @@ pub record KeepsAll (rest : Core) (t : List Entry) (l : Lone) (n : Running) : Ty
 
 arrival_settled : (e : End) (l : Lone) (c : LoneCause) → AllByRecursion (IsSettled e) (lone_arrival l c)
 arrival_settled e l (FrameComes bytes) = (((λ z. refl), tt), tt)
-arrival_settled e l (FrameIsRefused fault) = tt
-arrival_settled e l TickComes = tt
-arrival_settled e l (ResetComes window) = tt
-arrival_settled e l (StartComes value) = tt
-arrival_settled e l StopComes = tt
+arrival_settled e l _ = tt
 
 pub emits_settled : (e f : End) (frames : List Control) → AllByRecursion (IsSettled e) (map (λ c. entry.Emit f (lpdu_of c)) frames)
 emits_settled e f [] = tt
@@ -205,7 +198,7 @@ module _ (rest : Core) (t : List Entry) (l : Lone) (some : 1 ≤ l.link) (most :
 
   errs_behind : last.cut ≡ false → ErrorsAre e (errors_found G) (t ++ (last.entries ++ emits)) (errors_of (map (λ (p : Port). p.desk) last.ports))
   errs_behind still =
-      subst (ErrorsAre e (errors_found G) (t ++ (last.entries ++ emits))) (sym (errors_ports last.ports))
+      subst (ErrorsAre e (errors_found G) (t ++ (last.entries ++ emits))) (sym (by_list last.ports (λ q. rw q refl) (λ p ports q. rw q refl)))
       (errs_more rest l.number l.link some most s t its last emits (emits_settled e e (frames_behind l last)) (all_ended still).errs)
 
   abbrev now : Running

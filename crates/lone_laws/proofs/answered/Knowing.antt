@@ -1,5 +1,5 @@
 -- What is known of a node alone at each turn of a step: what it keeps, its session and its blocks are read.
-use Rattle.std.proofs.Common.{◌≡◌, ℕ, ◌<◌, ◌≤◌, Bool, true, false, cond, eqb, List, [], ◌∷◌, ◌++◌, map, refl, sym, ap, subst, ◌∙◌, append_assoc}
+use Rattle.std.proofs.Common.{◌≡◌, ℕ, ◌<◌, ◌≤◌, true, false, cond, eqb, List, [], ◌∷◌, ◌++◌, map, refl, sym, ap, subst, ◌∙◌, append_assoc}
 use Rattle.std.specs.Prelude.{Some, None}
 use Rattle.std.specs.List.{AllByRecursion}
 use Rattle.std.specs.Option.{option_map_or}
@@ -8,22 +8,22 @@ use Rattle.trace_model.specs.declared.entry.Entry.TheVariants as entry
 use Rattle.trace_model.specs.declared.line.End.{End}
 use Rattle.hcp_packet.specs.Packets.{AreSendable}
 use Rattle.link_laws.specs.machine.Machine.{Message, LinkEnd, LinkInput, after_input, began_by, report, whole_acked}
-use Rattle.link_laws.specs.machine.Machine.LinkInput.{Take, TakeUnknown, TakeBroken, Tick, Reset, Start, Stop, FromNode, Fetch}
+use Rattle.link_laws.specs.machine.Machine.LinkInput.{Take, TakeUnknown, Tick, Reset, Start, Stop}
 use Rattle.link_laws.specs.machine.Machine.Turn.{Hold, FetchMessage}
 use Rattle.link_laws.proofs.machine.Runs.{Sound, sound_input}
 use Rattle.node_machine.specs.Parts.{Core, Running, Port, Work, Deed}
 use Rattle.node_machine.specs.Carrying.{own_side, end_of_node, noting, port_at, with_desk, turn_at, all_done}
 use Rattle.node_machine.specs.Turns.{deeds_of, handles, holds_back}
 use Rattle.node_machine.specs.Node.{all_come, told_at}
+use Rattle.node_laws.proofs.Cases.{by_test}
 use Rattle.node_laws.proofs.steps.StepWalks.{all_do, lets}
 use Rattle.node_laws.proofs.links.Deeds.{IsFine, AreFine, IsTrueDesk}
 use Rattle.node_machine.proofs.Walks.{all_synced_hold}
 use Rattle.node_laws.proofs.links.Works.{IsFinePort, IsFineWork, fine_at, deeds_fine, all_done_fine, handles_fine, holds_fine, lets_fine, came_fine}
-use Rattle.node_laws.specs.passes.Passing.{LastsOverTurns, ComesTo, waiting_at, takes_up}
+use Rattle.node_laws.specs.passes.Passing.{LastsOverTurns, waiting_at, takes_up}
 use Rattle.node_laws.specs.passes.Steps.{syncs_in}
-use Rattle.node_laws.proofs.passes.Passing.{comes_so}
-use Rattle.lone_laws.specs.alone.Lone.{Lone, LoneCause, end_of_node_alone, lone_end, lone_input, node_input, lone_arrival, lone_port, lone_work, rsets_since}
-use Rattle.lone_laws.specs.alone.Lone.{session_with, side_behind, emits_behind}
+use Rattle.lone_laws.specs.alone.Lone.{Lone, LoneCause, lone_end, lone_input, node_input, lone_arrival, lone_port, rsets_since}
+use Rattle.lone_laws.specs.alone.Lone.{session_with}
 use Rattle.lone_laws.proofs.answered.Own.{IsOwnDeed}
 use Rattle.lone_laws.proofs.answered.Reading.{Read, Alone}
 use Rattle.lone_laws.proofs.answered.Turning.{IsHere, alone_here, own_deeds, alone_handled, alone_held, alone_lasts}
@@ -80,20 +80,13 @@ module _ (number h : ℕ) (some : 1 ≤ h) (most : h ≤ 7) (s : ℕ) (r : Read)
       }
 
   talks_held : (k : ℕ) (short : ℕ × ℕ) (w : Work) → TalkOf w → TalkOf (holds_back k short w)
-  talks_held k short w a = go (option_map_or (λ (p : Port). p.desk.holds) (port_at w.ports k) false) where
-    told : Work
-    told = noting (entry.Held (end_of_node w.core k) short.0 short.1 ∷ []) w
-
-    by : Bool → Work
-    by true = turn_at k (Hold true) w
-    by false = turn_at k (Hold true) (with_desk k (λ d. record d { holds = true }) told)
-
-    go : (b : Bool) → TalkOf (by b)
-    go true = talks_turn number h s t k (Hold true) w tt a
-    go false =
-        talks_turn number h s t k (Hold true) (with_desk k (λ d. record d { holds = true }) told) tt
-        (talks_desk number h s t k (λ d. record d { holds = true }) told (λ d. refl)
-        (talks_note number h s t (entry.Held (end_of_node w.core k) short.0 short.1 ∷ []) w (tt, tt) a))
+  talks_held k short w a = by_test (option_map_or (λ (p : Port). p.desk.holds) (port_at w.ports k) false)
+      (λ q. rw q (talks_turn number h s t k (Hold true) w tt a))
+      (λ q. rw q (talks_turn number h s t k (Hold true) (with_desk k (λ d. record d { holds = true }) told) tt
+      (talks_desk number h s t k (λ d. record d { holds = true }) told (λ d. refl)
+      (talks_note number h s t (entry.Held (end_of_node w.core k) short.0 short.1 ∷ []) w (tt, tt) a)))) where
+        told : Work
+        told = noting (entry.Held (end_of_node w.core k) short.0 short.1 ∷ []) w
 
   pub knows_lasts : LastsOverTurns Of
   knows_lasts = record {
@@ -110,9 +103,6 @@ module _ (number h : ℕ) (some : 1 ≤ h) (most : h ≤ 7) (s : ℕ) (r : Read)
     };
   }
 
-  pub knows_at : (w v : Work) → Of w → ComesTo w v → Of v
-  knows_at w v a comes = comes_so Of knows_lasts w a v comes
-
 -- ## A step
 
 -- what is known of the session of a node alone between events
@@ -126,11 +116,7 @@ pub record LoneTalks (t : List Entry) (l : Lone) : Type 0 where
 
 arrival_silent : (l : Lone) (c : LoneCause) → AreSilent (lone_arrival l c)
 arrival_silent l (Rattle.lone_laws.specs.alone.Lone.LoneCause.FrameComes bytes) = (tt, tt)
-arrival_silent l (Rattle.lone_laws.specs.alone.Lone.LoneCause.FrameIsRefused fault) = tt
-arrival_silent l Rattle.lone_laws.specs.alone.Lone.LoneCause.TickComes = tt
-arrival_silent l (Rattle.lone_laws.specs.alone.Lone.LoneCause.ResetComes window) = tt
-arrival_silent l (Rattle.lone_laws.specs.alone.Lone.LoneCause.StartComes value) = tt
-arrival_silent l Rattle.lone_laws.specs.alone.Lone.LoneCause.StopComes = tt
+arrival_silent l _ = tt
 
 lone_sound : (s : LinkEnd) (i : LinkInput) → IsLoneInput i → Sound s → Sound (after_input s i)
 lone_sound s (Take c) may a = sound_input s (Take c) tt a
@@ -139,9 +125,7 @@ lone_sound s Tick may a = sound_input s Tick tt a
 lone_sound s (Reset window) may a = sound_input s (Reset window) tt a
 lone_sound s (Start value) may a = sound_input s (Start value) tt a
 lone_sound s Stop may a = sound_input s Stop tt a
-lone_sound s (TakeBroken fault) may a = absurd may
-lone_sound s (FromNode x) may a = absurd may
-lone_sound s Fetch may a = absurd may
+lone_sound s _ may a = absurd may
 
 module _ (found : Core) (t : List Entry) (l : Lone) (some : 1 ≤ l.link) (most : l.link ≤ 7) (n : Running) (keeps : LoneKeeps (begin_read found) t l n)
     (talk : LoneTalks t l) (c : LoneCause) (i : LinkInput) (comes : lone_input c ≡ Some i) where
@@ -225,7 +209,3 @@ module _ (found : Core) (t : List Entry) (l : Lone) (some : 1 ≤ l.link) (most 
             (subst (λ v. v.cut ≡ false) is on));
         fine = subst IsFineWork (sym is) (all_done_fine 0 syncs come syncs_fine come_fine);
       }
-
-  -- at each turn of the pass
-  pub known_at : passing.cut ≡ false → (v : Work) → ComesTo passing v → KnowsAlone l.number l.link (session_with l i) (begin_read found) t v
-  known_at on v comes = knows_at l.number l.link some most (session_with l i) (begin_read found) t passing v (passing_known on) comes

@@ -16,9 +16,10 @@ use Rattle.node_machine.specs.Carrying.{changed_if, port_at}
 use Rattle.node_machine.specs.Node.{steps}
 use Rattle.lone_laws.specs.alone.Lone.{Lone, LoneCause, lone_end, lone_input, node_input, lone_arrival, lone_port, lone_work, side_behind, emits_behind}
 use Rattle.lone_laws.specs.alone.Lone.{session_with, lone_behind_step, does_with_input, does_by_power, lone_step, with_refusal, noted_of_refused}
-use Rattle.lone_laws.specs.alone.Lone.LoneCause.{FrameComes, FrameIsRefused, TickComes, ResetComes, StartComes, StopComes}
+use Rattle.lone_laws.specs.alone.Lone.LoneCause.{FrameComes, FrameIsRefused}
 use Rattle.lone_laws.proofs.answered.Reading.{eqb_same, Read, read_all, read-append, reads_of, AreNothing, nothing_read, Alone}
 use Rattle.lone_laws.proofs.answered.Stepping.{lone_comes, alone_steps}
+use Rattle.node_laws.proofs.Cases.{by_option}
 
 -- ## Between events
 
@@ -42,11 +43,7 @@ IfKeeps r t l = (n : Running) → l.node ≡ Some n → LoneKeeps r t l n
 
 pub arrival_nothing : (l : Lone) (c : LoneCause) → AreNothing (lone_end l) (lone_arrival l c)
 arrival_nothing l (FrameComes bytes) = ((λ z. refl), tt)
-arrival_nothing l (FrameIsRefused fault) = tt
-arrival_nothing l TickComes = tt
-arrival_nothing l (ResetComes window) = tt
-arrival_nothing l (StartComes value) = tt
-arrival_nothing l StopComes = tt
+arrival_nothing l _ = tt
 
 pub emits_nothing : (e f : End) (frames : List Control) → AreNothing e (map (λ c. entry.Emit f (lpdu_of c)) frames)
 emits_nothing e f [] = tt
@@ -146,28 +143,23 @@ counted_keeps r t l n es nothing k = go (eqb k.desk.host l.link) refl where
 module _ (r : Read) where
   pub keeps_step : (t : List Entry) (l : Lone) (c : LoneCause) → 1 ≤ l.link → l.link ≤ 7 → is_some l.node ≡ true → IfKeeps r t l
       → IfKeeps r (t ++ (lone_step l c).1) (lone_step l c).0
-  keeps_step t l c some most runs keeps = by_node l.node refl where
-    by_input : (n : Running) → l.node ≡ Some n → (o : Option LinkInput) → lone_input c ≡ o → IfKeeps r (t ++ (lone_step l c).1) (lone_step l c).0
-    by_input n on (Some i) comes =
-        let w : Work = lone_work l n i (lone_arrival l c) in
-        let v : Work = steps (node_input l.link i) w in
-        subst (λ (x : Lone × List Entry). IfKeeps r (t ++ x.1) x.0) (sym (step_is l n c i on comes))
-        (keeps_work r t l i v
-        (alone_steps l.number l.link some most r t i (lone_comes c i comes) w (begins_alone r t l n i (lone_arrival l c) (arrival_nothing l c) (keeps n on))))
-    by_input n on None comes = refused c comes where
-      refused : (c : LoneCause) → lone_input c ≡ None → IfKeeps r (t ++ (lone_step l c).1) (lone_step l c).0
-      refused (FrameIsRefused fault) q =
-          subst (λ (x : Lone × List Entry). IfKeeps r (t ++ x.1) x.0) (sym (ap (does_by_power l (FrameIsRefused fault)) on))
-          (λ m is.
-          let same : with_refusal l.link n ≡ m = cc in
-          let es : List Entry = noted_of_refused l (FrameIsRefused fault) in
-          subst (LoneKeeps r (t ++ es) (record l { node = Some (with_refusal l.link n) })) same (counted_keeps r t l n es ((λ z. refl), tt) (keeps n on)))
-      refused (FrameComes bytes) q = absurd (cc q)
-      refused TickComes q = absurd (cc q)
-      refused (ResetComes window) q = absurd (cc q)
-      refused (StartComes value) q = absurd (cc q)
-      refused StopComes q = absurd (cc q)
-
-    by_node : (o : Option Running) → l.node ≡ o → IfKeeps r (t ++ (lone_step l c).1) (lone_step l c).0
-    by_node None off = absurd (true≢false (sym runs ∙ ap is_some off))
-    by_node (Some n) on = by_input n on (lone_input c) refl
+  keeps_step t l c some most runs keeps = by_option l.node
+      (λ off. absurd (true≢false (sym runs ∙ ap is_some off)))
+      (λ n on. by_input n on (lone_input c) refl) where
+        by_input : (n : Running) → l.node ≡ Some n → (o : Option LinkInput) → lone_input c ≡ o → IfKeeps r (t ++ (lone_step l c).1) (lone_step l c).0
+        by_input n on (Some i) comes =
+            let w : Work = lone_work l n i (lone_arrival l c) in
+            let v : Work = steps (node_input l.link i) w in
+            subst (λ (x : Lone × List Entry). IfKeeps r (t ++ x.1) x.0) (sym (step_is l n c i on comes))
+            (keeps_work r t l i v
+            (alone_steps l.number l.link some most r t i (lone_comes c i comes) w
+            (begins_alone r t l n i (lone_arrival l c) (arrival_nothing l c) (keeps n on))))
+        by_input n on None comes = refused c comes where
+          refused : (c : LoneCause) → lone_input c ≡ None → IfKeeps r (t ++ (lone_step l c).1) (lone_step l c).0
+          refused (FrameIsRefused fault) q =
+              subst (λ (x : Lone × List Entry). IfKeeps r (t ++ x.1) x.0) (sym (ap (does_by_power l (FrameIsRefused fault)) on))
+              (λ m is.
+              let same : with_refusal l.link n ≡ m = cc in
+              let es : List Entry = noted_of_refused l (FrameIsRefused fault) in
+              subst (LoneKeeps r (t ++ es) (record l { node = Some (with_refusal l.link n) })) same (counted_keeps r t l n es ((λ z. refl), tt) (keeps n on)))
+          refused _ q = absurd (cc q)

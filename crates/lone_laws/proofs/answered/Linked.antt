@@ -4,16 +4,18 @@ use Rattle.std.specs.Prelude.{Some, None, is_some}
 use Rattle.std.specs.List.{cons_option, list_any}
 use Rattle.std.specs.Option.{option_map, option_map_or, option_and_then}
 use Rattle.std.proofs.lemmas.Bool.{cases_Bool, eqb-true}
+use mathlib.Core.Bool.{and-false, and-true}
 use Rattle.hci_tables.specs.Tables.{is_opened}
 use Rattle.link_laws.specs.sessions.Sessions.{is_up}
 use Rattle.link_laws.specs.machine.Machine.{Message, spare}
 use Rattle.node_machine.specs.Parts.{Creation, Core, NodeView, Port}
 use Rattle.node_machine.specs.Carrying.{end_view, first_lack, lack, own_view, port_at, spare_with}
-use Rattle.node_machine.specs.Controller.{about_at, about_of, creation_in, creation_of, is_asked_at, is_connected_at, pipe_of, view_of}
+use Rattle.node_machine.specs.Controller.{about_of, creation_in, creation_of, is_asked_at, is_connected_at, pipe_of, view_of}
 use Rattle.node_machine.specs.HostReplies.{host_deeds}
 use Rattle.node_machine.specs.Turns.{deeds_for, deeds_of}
 use Rattle.node_machine.proofs.Walks.{deeds_near, deeds_far}
 use Rattle.node_laws.specs.views.Views.{IsSameView}
+use Rattle.node_laws.proofs.Cases.{by_test}
 use Rattle.node_laws.proofs.views.Viewing.{where_same}
 use Rattle.node_laws.specs.read_steps.Alike.{KnowsTheSame}
 use Rattle.node_laws.proofs.read_steps.Alike.{same_deeds}
@@ -21,30 +23,16 @@ use Rattle.node_laws.proofs.replies.Turns.{lack_alike}
 use Rattle.lone_laws.specs.alone.Known.{spare_with_link, view_with_link}
 use Rattle.lone_laws.proofs.answered.Reading.{eqb_same}
 
-and_true : (b : Bool) → (b && true) ≡ b
-and_true true = refl
-and_true false = refl
-
-and_false : (b : Bool) → (b && false) ≡ false
-and_false true = refl
-and_false false = refl
-
 module _ (core : Core) (p : Port) (h : ℕ) (host : p.desk.host ≡ h) where
   here : eqb p.desk.host h ≡ true
   here = ap (λ n. eqb n h) host ∙ eqb_same h
 
   -- a test of the one end
   one_test : (f : Port → Bool) (k : ℕ) → option_map_or f (port_at (p ∷ []) k) false ≡ (eqb h k && f p)
-  one_test f k = by (eqb p.desk.host k) ∙ ap (λ n. eqb n k && f p) host where
-    by : (b : Bool) → option_map_or f (cond b (Some p) None) false ≡ (b && f p)
-    by true = refl
-    by false = refl
+  one_test f k = by_test (eqb p.desk.host k) (λ q. rw q refl) (λ q. rw q refl) ∙ ap (λ n. eqb n k && f p) host
 
   one_spare : (k : ℕ) → spare_with (p ∷ []) k ≡ spare_with_link h (spare p.side) k
-  one_spare k = by (eqb p.desk.host k) ∙ ap (λ n. cond (eqb n k) (spare p.side) 0) host where
-    by : (b : Bool) → option_map_or (λ (x : Port). spare x.side) (cond b (Some p) None) 0 ≡ cond b (spare p.side) 0
-    by true = refl
-    by false = refl
+  one_spare k = by_test (eqb p.desk.host k) (λ q. rw q refl) (λ q. rw q refl) ∙ ap (λ n. cond (eqb n k) (spare p.side) 0) host
 
   pub one_lack : (ns : List (ℕ × ℕ)) → lack (p ∷ []) ns ≡ first_lack (spare_with_link h (spare p.side)) ns
   one_lack ns = lack_alike (spare_with (p ∷ [])) (spare_with_link h (spare p.side)) one_spare ns
@@ -72,13 +60,13 @@ module _ (core : Core) (p : Port) (h : ℕ) (host : p.desk.host ≡ h) where
     same_links : IsSameView (machine.links h) (said.links h)
     same_links = record {
       hosts = where_same (λ k. option_map_or (λ (x : Port). true) (port_at (p ∷ []) k) false) (λ k. eqb h k)
-          (λ k. one_test (λ x. true) k ∙ and_true (eqb h k));
+          (λ k. one_test (λ x. true) k ∙ and-true (eqb h k));
       connected = where_same (λ k. option_map_or (is_connected_at core.tables) (port_at (p ∷ []) k) false)
           (λ k. eqb h k && (is_up p.side.shdlc.phase && is_opened core.tables k 1)) connected_is;
       noticed = where_same (λ k. option_map_or (λ (x : Port). is_some x.desk.notice) (port_at (p ∷ []) k) false) (λ k. false)
-          (λ k. one_test (λ x. is_some x.desk.notice) k ∙ (ap (λ n. eqb h k && is_some n) none ∙ and_false (eqb h k)));
+          (λ k. one_test (λ x. is_some x.desk.notice) k ∙ (ap (λ n. eqb h k && is_some n) none ∙ and-false (eqb h k)));
       asked = where_same (λ k. option_map_or is_asked_at (port_at (p ∷ []) k) false) (λ k. false)
-          (λ k. one_test is_asked_at k ∙ (ap (λ b. eqb h k && b) nobody ∙ and_false (eqb h k)));
+          (λ k. one_test is_asked_at k ∙ (ap (λ b. eqb h k && b) nobody ∙ and-false (eqb h k)));
       waiting = λ pid.
           ap (λ n. list_any (λ q. eqb q pid) (cons_option (option_and_then (λ (c : Creation). pipe_of c.command) (creation_in n)) [])) none;
       errors = ap (λ b. option_map_or (λ (x : Port). x.desk.errors) (cond b (Some p) None) 0) here;
@@ -91,11 +79,8 @@ module _ (core : Core) (p : Port) (h : ℕ) (host : p.desk.host ≡ h) where
       links = one_test (λ x. is_up x.side.shdlc.phase);
       asks = ap (λ n. option_map_or (λ (c : Creation). eqb c.asker h) (creation_in n) false || false) none;
       view = λ up. same_links;
-      notice = by (eqb p.desk.host h);
-    } where
-      by : (b : Bool) → option_map creation_of (about_at (cond b (Some p) None)) ≡ None
-      by true = ap (λ n. option_map creation_of (about_of n)) none
-      by false = refl
+      notice = by_test (eqb p.desk.host h) (λ q. rw q (ap (λ n. option_map creation_of (about_of n)) none)) (λ q. rw q refl);
+    }
 
     ends_are : machine.ends h ≡ said.ends h
     ends_are = ap (λ b. option_map end_view (cond b (Some p) None)) here ∙ sym (ap (λ b. cond b (Some (end_view p)) None) (eqb_same h))

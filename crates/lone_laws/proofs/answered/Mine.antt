@@ -10,20 +10,19 @@ use Rattle.swp_lpdu.specs.Controls.{lpdu_of}
 use Rattle.trace_model.specs.declared.entry.Entry.{Entry}
 use Rattle.trace_model.specs.declared.entry.Entry.TheVariants as entry
 use Rattle.link_laws.specs.machine.Machine.{LinkInput}
-use Rattle.link_laws.specs.entries.Entries.End.{Controller, Host}
-use Rattle.history.specs.Steps.{end_of}
 use Rattle.node_machine.specs.Parts.{Core, Desk, Running, Work}
 use Rattle.node_machine.specs.Node.{NodeInput, steps}
-use Rattle.node_machine.specs.world.World.{node_of, end_c, end_h}
+use Rattle.node_machine.specs.world.World.{node_of}
 use Rattle.node_laws.specs.kept.Reckonings.{is_cut_of}
 use Rattle.node_laws.specs.answers.Answered.{AnswersSo, before_turn, is_turn_of, to_command}
 use Rattle.node_laws.specs.answers.Order.{is_answer_of}
+use Rattle.node_laws.proofs.Cases.{by_test}
 use Rattle.node_laws.proofs.telling.Walks.{AreUncut}
 use Rattle.node_laws.proofs.power.Parts.{IsOwn, AreOwn}
 use Rattle.node_laws.proofs.power.Doing.{AreEnds, Fine, IsEndOf, Runs}
 use Rattle.node_laws.proofs.power.Steps.{steps_fine}
 use Rattle.lone_laws.specs.alone.Lone.{Lone, LoneCause, LoneEvent, lone_arrival, lone_end, lone_port, lone_work, session_with}
-use Rattle.lone_laws.specs.alone.Lone.LoneCause.{FrameComes, FrameIsRefused, TickComes, ResetComes, StartComes, StopComes}
+use Rattle.lone_laws.specs.alone.Lone.LoneCause.{FrameComes}
 use Rattle.lone_laws.specs.alone.Known.{core_since, lack_since, reply_since}
 use Rattle.lone_laws.specs.alone.Answers.{IsDueAlone, IsRepliedAlone, noted_since, sync_due}
 
@@ -107,10 +106,7 @@ module _ (n : ℕ) where
 
   turn_own : (es : List Entry) → AreOwn n es → AreOwn n (to_turn es)
   turn_own [] own = tt
-  turn_own (x ∷ es) own = by (is_own_turn x) (turn_own es own.1) where
-    by : (b : Bool) → AreOwn n (to_turn es) → AreOwn n (cond b [] (x ∷ to_turn es))
-    by true later = tt
-    by false later = (own.0, later)
+  turn_own (x ∷ es) own = by_test (is_own_turn x) (λ q. rw q tt) (λ q. rw q (own.0, turn_own es own.1))
 
   pub answers_are : (es answers : List Entry) → AreOwn n es → AnswersOwn es answers → AnswersSo n es answers
   answers_are es answers own a =
@@ -137,32 +133,18 @@ due_is found h t o own a = answers_are found.node o.entries (noted_since found h
 
 module _ (l : Lone) (its : eqb l.number 0 ≡ false → l.number ≡ l.link) where
   end_own : node_of (lone_end l) ≡ l.number
-  end_own = go (eqb l.number 0) refl where
-    go : (b : Bool) → eqb l.number 0 ≡ b → node_of (cond b (end_c l.link) (end_h l.link)) ≡ l.number
-    go true q = sym (eqb-true l.number 0 q)
-    go false q = sym (its q)
+  end_own = by_test (eqb l.number 0) (λ q. rw q (sym (eqb-true l.number 0 q))) (λ q. rw q (sym (its q)))
 
   end_is : IsEndOf l.number l.link
-  end_is = go (eqb l.number 0) refl where
-    go : (b : Bool) → eqb l.number 0 ≡ b → node_of (end_of l.link (cond b Controller Host)) ≡ l.number
-    go true q = sym (eqb-true l.number 0 q)
-    go false q = sym (its q)
+  end_is = by_test (eqb l.number 0) (λ q. rw q (sym (eqb-true l.number 0 q))) (λ q. rw q (sym (its q)))
 
   arrival_own : (c : LoneCause) → AreOwn l.number (lone_arrival l c)
   arrival_own (FrameComes bytes) = (end_own, tt)
-  arrival_own (FrameIsRefused fault) = tt
-  arrival_own TickComes = tt
-  arrival_own (ResetComes window) = tt
-  arrival_own (StartComes value) = tt
-  arrival_own StopComes = tt
+  arrival_own _ = tt
 
   arrival_uncut : (c : LoneCause) → AreUncut (lone_arrival l c)
   arrival_uncut (FrameComes bytes) = (tt, tt)
-  arrival_uncut (FrameIsRefused fault) = tt
-  arrival_uncut TickComes = tt
-  arrival_uncut (ResetComes window) = tt
-  arrival_uncut (StartComes value) = tt
-  arrival_uncut StopComes = tt
+  arrival_uncut _ = tt
 
   frames_own : (frames : List Control) → AreOwn l.number (map (λ c. entry.Emit (lone_end l) (lpdu_of c)) frames)
   frames_own [] = tt

@@ -18,31 +18,26 @@ use Rattle.shdlc_core.specs.declared.answers.Due.TheVariants.{Rr as Rr_due, Rej 
 use Rattle.shdlc_core.specs.Machine.{EndState, Fragment, due_left, waiting_from, place_of, acknowledged, received, taken, take_answer}
 use Rattle.shdlc_core.specs.Machine.{runs_timer, ticked, tick_answer}
 use Rattle.shdlc_core.specs.Machine.{is_waiting, reset_with, sent_again, stopped}
-use Rattle.link_laws.specs.machine.Machine.{LinkEnd, Refused, LinkInput, is_open, is_faulty, moved, put_down, with_act, activated, act_answer}
-use Rattle.link_laws.specs.machine.Machine.{role_after, heard, news, if_up, reset_by, window_of, reset_refusal, unless}
+use Rattle.link_laws.specs.machine.Machine.{LinkEnd, LinkInput, is_open, is_faulty, moved, put_down, with_act, activated, act_answer}
+use Rattle.link_laws.specs.machine.Machine.{role_after, heard, if_up, window_of, reset_refusal}
 use Rattle.link_laws.specs.machine.Machine.{after_input}
-use Rattle.link_laws.specs.machine.Machine.LinkInput.{Take, TakeUnknown, TakeBroken, Tick, Reset, Start, Stop, FromNode, Fetch}
+use Rattle.link_laws.specs.machine.Machine.LinkInput.{Take, TakeUnknown, Tick, Reset, Start, Stop}
 use Rattle.link_laws.specs.messages.Rsets.{rsets_among}
 use Rattle.link_laws.proofs.places.Joined.{received_cases}
 use Rattle.lone_laws.proofs.answered.Coming.{IsLoneInput}
+use Rattle.node_laws.proofs.Cases.{by_option, by_test}
 
 -- ## Control frames that are due
 
 rset_last : (ds : List Due) → 1 ≤ rsets_among (ds ++ Rset_due ∷ [])
 rset_last [] = omega arith
 rset_last (Rset_due ∷ ds) = omega arith
-rset_last (Rr_due ∷ ds) = rset_last ds
-rset_last (Rej_due ∷ ds) = rset_last ds
-rset_last (Rnr_due ∷ ds) = rset_last ds
-rset_last (Ua_due ∷ ds) = rset_last ds
+rset_last (_ ∷ ds) = rset_last ds
 
 pub no_fewer : (ds : List Due) (d : Due) → rsets_among ds ≤ rsets_among (ds ++ d ∷ [])
 no_fewer [] d = omega arith
 no_fewer (Rset_due ∷ ds) d = let z = no_fewer ds d in omega (arith, z)
-no_fewer (Rr_due ∷ ds) d = no_fewer ds d
-no_fewer (Rej_due ∷ ds) d = no_fewer ds d
-no_fewer (Rnr_due ∷ ds) d = no_fewer ds d
-no_fewer (Ua_due ∷ ds) d = no_fewer ds d
+no_fewer (_ ∷ ds) d = no_fewer ds d
 
 pub one_more : (ds : List Due) (d : Due) → length (ds ++ d ∷ []) ≤ length ds + 1
 one_more ds d = let z = length-append ds (d ∷ []) in omega (arith, z)
@@ -62,20 +57,17 @@ Asks f = (is_waiting f ≡ false) ⊎ (1 ≤ rsets_among f.due)
 
 up_I : (e : EndState) (ns nr : ℕ) (info : Fragment) → e.phase ≡ Up → is_waiting e ≡ false
     → IsOneMore e (taken e (I ns nr info)) × (is_waiting (taken e (I ns nr info)) ≡ false)
-up_I e ns nr info up still = go (place_of e.session nr) refl where
-  Fine : EndState → Type 0
-  Fine f = IsOneMore e f × (is_waiting f ≡ false)
+up_I e ns nr info up still = by_option (place_of e.session nr)
+    (λ q. let is : taken e (I ns nr info) ≡ e = rw (up, q) refl in (same_more e (taken e (I ns nr info)) is, ap is_waiting is ∙ still))
+    (λ x q. let is : taken e (I ns nr info) ≡ received (acknowledged e x) ns info = rw (up, q) refl in
+    let z = by x in ((let l = ap (λ (s : EndState). length s.due) is in let few = z.0 in omega (arith, l, few)), ap is_waiting is ∙ z.1)) where
+      Fine : EndState → Type 0
+      Fine f = IsOneMore e f × (is_waiting f ≡ false)
 
-  by : (x : ℕ) → Fine (received (acknowledged e x) ns info)
-  by x =
-      received_cases Fine (acknowledged e x) ns info (λ _. (one_more e.due Rr_due, still)) (λ _ _. (omega arith, still))
-      (λ _ _. (one_more e.due Rej_due, still)) (λ _ _. (one_more e.due Rr_due, still)) (one_more e.due Rnr_due, still)
-
-  go : (o : Option ℕ) → place_of e.session nr ≡ o → Fine (taken e (I ns nr info))
-  go None q = let is : taken e (I ns nr info) ≡ e = rw (up, q) refl in (same_more e (taken e (I ns nr info)) is, ap is_waiting is ∙ still)
-  go (Some x) q =
-      let is : taken e (I ns nr info) ≡ received (acknowledged e x) ns info = rw (up, q) refl in
-      let z = by x in ((let l = ap (λ (s : EndState). length s.due) is in let few = z.0 in omega (arith, l, few)), ap is_waiting is ∙ z.1)
+      by : (x : ℕ) → Fine (received (acknowledged e x) ns info)
+      by x =
+          received_cases Fine (acknowledged e x) ns info (λ _. (one_more e.due Rr_due, still)) (λ _ _. (omega arith, still))
+          (λ _ _. (one_more e.due Rej_due, still)) (λ _ _. (one_more e.due Rr_due, still)) (one_more e.due Rnr_due, still)
 
 up_S : (e : EndState) (kind : Kind) (nr : ℕ) → e.phase ≡ Up → is_waiting e ≡ false
     → IsOneMore e (taken e (S kind nr)) × (is_waiting (taken e (S kind nr)) ≡ false)
@@ -88,9 +80,7 @@ up_S e kind nr up still = go kind (place_of e.session nr) refl where
   go Rr None q = same Rr (rw (up, q) refl)
   go Rej None q = same Rej (rw (up, q) refl)
   go Rnr None q = same Rnr (rw (up, q) refl)
-  go Rr (Some x) q = rw (up, q) (omega arith, refl)
-  go Rej (Some x) q = rw (up, q) (omega arith, refl)
-  go Rnr (Some x) q = rw (up, q) (omega arith, refl)
+  go _ (Some x) q = rw (up, q) (omega arith, refl)
 
 taken_more : (e : EndState) (c : Control) → IsOneMore e (taken e c)
 taken_more e c = go e.phase refl c where
@@ -100,9 +90,8 @@ taken_more e c = go e.phase refl c where
   reset : (w caps : ℕ) (p : LinkState) → e.phase ≡ p → (b : Bool) → (w == 0) ≡ b → IsOneMore e (taken e (Rset w caps))
   reset w caps Up p true q = same (Rset w caps) (rw (p, q) refl)
   reset w caps Up p false q = rw (p, q) (omega arith)
-  reset w caps Waiting p true q = same (Rset w caps) (rw (p, q) refl)
   reset w caps Waiting p false q = rw (p, q) (one_more e.due Ua_due)
-  reset w caps Down p true q = same (Rset w caps) (rw (p, q) refl)
+  reset w caps _ p true q = same (Rset w caps) (rw (p, q) refl)
   reset w caps Down p false q = rw (p, q) (one_more e.due Ua_due)
 
   go : (p : LinkState) → e.phase ≡ p → (c : Control) → IsOneMore e (taken e c)
@@ -115,13 +104,11 @@ taken_more e c = go e.phase refl c where
   go Waiting p Ua = rw p (omega arith)
   go Waiting p (I ns nr info) = same (I ns nr info) (rw p refl)
   go Waiting p (S kind nr) = same (S kind nr) (rw p refl)
-  go Waiting p (ActFrame x y) = same (ActFrame x y) (rw p refl)
-  go Waiting p Clt = same Clt (rw p refl)
   go Down p (I ns nr info) = same (I ns nr info) (rw p refl)
   go Down p (S kind nr) = same (S kind nr) (rw p refl)
   go Down p Ua = same Ua (rw p refl)
-  go Down p (ActFrame x y) = same (ActFrame x y) (rw p refl)
-  go Down p Clt = same Clt (rw p refl)
+  go _ p (ActFrame x y) = same (ActFrame x y) (rw p refl)
+  go _ p Clt = same Clt (rw p refl)
 
 -- a frame makes no end wait
 taken_still : (e : EndState) (c : Control) → is_waiting e ≡ false → is_waiting (taken e c) ≡ false
@@ -154,8 +141,7 @@ taken_still e c still = go e.phase refl c where
 
 left_few : (p : LinkState) (ds : List Due) → length (due_left p ds) ≤ length ds
 left_few Up ds = omega arith
-left_few Waiting ds = omega arith
-left_few Down ds = omega arith
+left_few _ ds = omega arith
 
 waiting_more : (e : EndState) → IsOneMore e (waiting_from e)
 waiting_more e = let z = one_more (due_left e.phase e.due) Rset_due in let w = left_few e.phase e.due in omega (arith, z, w)
@@ -228,21 +214,13 @@ activated_asked e event =
     (down_asked (act_answer e.role event).ended_link e)
 
 heard_asked : (e : LinkEnd) (c : Control) → IsAsked e.shdlc (heard e c)
-heard_asked e c = go (is_faulty (taken e.shdlc c).session) where
-  f : LinkEnd
-  f = moved e (is_some (take_answer e.shdlc c).ended) (taken e.shdlc c)
-
-  go : (b : Bool) → IsAsked e.shdlc (cond b (put_down true e) (record f { got = e.got ++ news e.shdlc.session (taken e.shdlc c) }))
-  go true = down_asked true e
-  go false =
-      moved_asked e (is_some (take_answer e.shdlc c).ended) (taken e.shdlc c)
-      (taken_more e.shdlc c, λ still. inl (taken_still e.shdlc c still))
+heard_asked e c = by_test (is_faulty (taken e.shdlc c).session)
+    (λ q. rw q (down_asked true e))
+    (λ q. rw q (moved_asked e (is_some (take_answer e.shdlc c).ended) (taken e.shdlc c)
+    (taken_more e.shdlc c, λ still. inl (taken_still e.shdlc c still))))
 
 open_asked : (e : LinkEnd) (c : Control) → IsAsked e.shdlc (cond (is_open e.role) (heard e c) e)
-open_asked e c = go (is_open e.role) where
-  go : (b : Bool) → IsAsked e.shdlc (cond b (heard e c) e)
-  go true = heard_asked e c
-  go false = still_asked e.shdlc e refl
+open_asked e c = by_test (is_open e.role) (λ q. rw q (heard_asked e c)) (λ q. rw q (still_asked e.shdlc e refl))
 
 -- an end that starts anew or stops
 anew_asked : (s : EndState) (e : LinkEnd) (event : ActEvent) → e.shdlc ≡ stopped s → IsAsked s (activated e event)
@@ -260,16 +238,12 @@ input_asked e (Take Ua) a = open_asked e Ua
 input_asked e (Take (ActFrame act again)) a = activated_asked e (ActTake act again)
 input_asked e (Take Clt) a = still_asked e.shdlc (after_input e (Take Clt)) refl
 input_asked e TakeUnknown a = still_asked e.shdlc (after_input e TakeUnknown) refl
-input_asked e Tick a = go (is_open e.role) where
-  go : (b : Bool) → IsAsked e.shdlc (cond b (moved e (is_some (tick_answer e.shdlc).ended) (ticked e.shdlc)) (activated e ActTick))
-  go true = moved_asked e (is_some (tick_answer e.shdlc).ended) (ticked e.shdlc) (ticked_so e.shdlc)
-  go false = activated_asked e ActTick
-input_asked e (Reset window) a = by (reset_refusal e) where
-  by : (o : Option Refused) → IsAsked e.shdlc (unless o e (reset_by e (window_of e window)))
-  by None = moved_asked e (is_some (if_up e.shdlc Asked)) (reset_with e.shdlc (window_of e window)) (reset_so e.shdlc (window_of e window))
-  by (Some why) = still_asked e.shdlc e refl
+input_asked e Tick a = by_test (is_open e.role)
+    (λ q. rw q (moved_asked e (is_some (tick_answer e.shdlc).ended) (ticked e.shdlc) (ticked_so e.shdlc)))
+    (λ q. rw q (activated_asked e ActTick))
+input_asked e (Reset window) a = by_option (reset_refusal e)
+    (λ q. rw q (moved_asked e (is_some (if_up e.shdlc Asked)) (reset_with e.shdlc (window_of e window)) (reset_so e.shdlc (window_of e window))))
+    (λ why q. rw q (still_asked e.shdlc e refl))
 input_asked e (Start value) a = anew_asked e.shdlc (moved e true (stopped e.shdlc)) (ActStart value) refl
 input_asked e Stop a = anew_asked e.shdlc (moved e true (stopped e.shdlc)) ActStop refl
-input_asked e (TakeBroken fault) a = absurd a
-input_asked e (FromNode x) a = absurd a
-input_asked e Fetch a = absurd a
+input_asked e _ a = absurd a

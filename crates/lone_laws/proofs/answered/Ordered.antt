@@ -16,11 +16,12 @@ use Rattle.node_laws.specs.passes.Passing.{BeginWithTurn, link_of_turn, IsNoTurn
 use Rattle.node_laws.specs.passes.Passing.{waiting_at, is_held_at}
 use Rattle.node_laws.specs.passes.Passing.ComesTo.{Begins}
 use Rattle.node_laws.specs.passes.Steps.{comes_to_pass, noted_before_pass}
+use Rattle.node_laws.proofs.Cases.{by_test}
 use Rattle.node_laws.proofs.passes.Passing.{comes_lasts}
 use Rattle.node_laws.proofs.passes.Before.{steps_are, before_entries, before_none}
 use Rattle.node_laws.proofs.passes.Behind.{leaves_behind}
 use Rattle.lone_laws.specs.alone.Lone.{Lone, LoneCause, lone_end, lone_input, node_input, lone_arrival, lone_work, frames_behind, emits_behind}
-use Rattle.lone_laws.specs.alone.Lone.LoneCause.{FrameComes, FrameIsRefused, TickComes, ResetComes, StartComes, StopComes}
+use Rattle.lone_laws.specs.alone.Lone.LoneCause.{FrameComes}
 use Rattle.lone_laws.specs.alone.Answers.{is_at_rest}
 use Rattle.lone_laws.proofs.answered.Reading.{eqb_same, Read, read_all, read-append, left_is, held_is, reads_of, nothing_read, Alone}
 use Rattle.lone_laws.proofs.answered.Turning.{own_end, IsHere, alone_here, alone_at, link_is}
@@ -56,11 +57,7 @@ end_silent e _ q = tt
 
 arrival_turnless : (l : Lone) (c : LoneCause) → AreNoTurns (lone_arrival l c)
 arrival_turnless l (FrameComes bytes) = (refl, tt)
-arrival_turnless l (FrameIsRefused fault) = tt
-arrival_turnless l TickComes = tt
-arrival_turnless l (ResetComes window) = tt
-arrival_turnless l (StartComes value) = tt
-arrival_turnless l StopComes = tt
+arrival_turnless l _ = tt
 
 nothing_there : (front back : List Entry) (x : Entry) → [] ≡ front ++ (x ∷ back) → ⊥
 nothing_there [] back x z = cc z
@@ -197,10 +194,7 @@ module _ (found : Core) (t : List Entry) (l : Lone) (some : 1 ≤ l.link) (most 
       let a : Alone l.number l.link r t begun = begun_alone on in ap (map (λ (p : Port). p.desk.host)) a.ports_are ∙ ap (λ k. k ∷ []) a.host
 
   pub was_on : ended.cut ≡ false → begun.cut ≡ false
-  was_on still = go begun.cut refl where
-    go : (b : Bool) → begun.cut ≡ b → begun.cut ≡ false
-    go false q = q
-    go true q = q ∙ (sym (ap (λ (w : Work). w.cut) (steps_are (node_input l.link i) start) ∙ rw q q) ∙ still)
+  was_on still = by_test begun.cut (λ q. q ∙ (sym (ap (λ (w : Work). w.cut) (steps_are (node_input l.link i) start) ∙ rw q q) ∙ still)) (λ q. q)
 
   -- what the pass leaves at the end
   pub left_so : ended.cut ≡ false → IsBehind (ComesTo begun) begun ended [] l.link []

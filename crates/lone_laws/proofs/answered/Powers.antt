@@ -17,6 +17,7 @@ use Rattle.std.specs.Option.{option_map_or}
 use Rattle.node_machine.specs.Node.{NodeInput, steps, all_come, times_out, synced, forgotten, forgets, all_owed, without_notice, after_sessions}
 use Rattle.node_machine.specs.Node.NodeInput.{AtEnd, TimePasses}
 use Rattle.node_machine.proofs.Walks.{anyone}
+use Rattle.node_laws.proofs.Cases.{by_test}
 use Rattle.node_laws.proofs.steps.StepWalks.{Lasts, rest_lasts}
 use Rattle.node_laws.specs.passes.Noting.{noted_by_deed}
 use Rattle.node_laws.proofs.passes.Notes.{deed_notes}
@@ -56,17 +57,15 @@ deed_noted : (h : ℕ) (d : Deed) (w : Work) → (done h d w).cut ≡ w.cut → 
 deed_noted h d w cut a = more_noted w (done h d w) (noted_by_deed h d w) cut (deed_notes h d w) a
 
 cut_deed : (h : ℕ) (d : Deed) (w : Work) → Unit {0} → IsCutNoted w → IsCutNoted (done h d w)
-cut_deed h (Commits c) w may a = go (fails_within (length (commit_writes w.core.journal w.core.tables (body_of c))) w.plan) where
-  begun : Work
-  begun = noting (entry.Command w.core.node c ∷ []) w
+cut_deed h (Commits c) w may a = by_test (fails_within (length (commit_writes w.core.journal w.core.tables (body_of c))) w.plan)
+    (λ is. rw is (λ q. any_behind (w.entries ++ entry.Command w.core.node c ∷ []) (entry.Cut w.core.node ∷ []) refl))
+    (λ is. rw is (more_noted w (by false) (entry.Command w.core.node c ∷ []) refl refl a)) where
+      begun : Work
+      begun = noting (entry.Command w.core.node c ∷ []) w
 
-  by : Bool → Work
-  by true = loses_power (commit_writes w.core.journal w.core.tables (body_of c)) begun
-  by false = keeps c (commit_writes w.core.journal w.core.tables (body_of c)) begun
-
-  go : (b : Bool) → IsCutNoted (by b)
-  go true = λ q. any_behind (w.entries ++ entry.Command w.core.node c ∷ []) (entry.Cut w.core.node ∷ []) refl
-  go false = more_noted w (by false) (entry.Command w.core.node c ∷ []) refl refl a
+      by : Bool → Work
+      by true = loses_power (commit_writes w.core.journal w.core.tables (body_of c)) begun
+      by false = keeps c (commit_writes w.core.journal w.core.tables (body_of c)) begun
 cut_deed h (Sends to m) w may a = deed_noted h (Sends to m) w refl a
 cut_deed h SaysOk w may a = deed_noted h SaysOk w refl a
 cut_deed h (Asks to message c) w may a = deed_noted h (Asks to message c) w refl a

@@ -22,17 +22,17 @@ use Rattle.tables_laws.proofs.tables.TwoHosts.{JoinTwo-after}
 use Rattle.tables_laws.proofs.tables.SortedTables.{AreTables-apply}
 use Rattle.link_laws.specs.machine.Machine.{Message, Refused, LinkEnd, Turn, turn, given, give_refusal, aside_refusal, unless, Report}
 use Rattle.link_laws.specs.machine.Machine.Turn.{Give, Hold, FetchMessage, SetAside, Release}
-use Rattle.link_laws.specs.entries.Entries.{End as Side, Entry as Noted, told, turn_entry, if_so}
+use Rattle.link_laws.specs.entries.Entries.{End as Side, Entry as Noted, told, if_so}
 use Rattle.link_laws.specs.entries.Entries.Entry.{Up, Down, Active, GaveUp, Acked, Got}
-use Rattle.link_laws.specs.entries.Entries.End.{Controller, Host}
 use Rattle.history.specs.Filters.{same_end}
 use Rattle.history.specs.Steps.{end_of, entries_for}
 use Rattle.node_machine.specs.Parts.{Desk, Core, Port, Work, Deed}
-use Rattle.node_machine.specs.Parts.Deed.{Commits, Sends, SaysOk, Asks, Releases, Tells, IsAnswered, Drops, SetsErrors, Orders, Hears, GoesOn, Ends}
-use Rattle.node_machine.specs.Carrying.{own_side, end_of_node, noting, port_at, changed_if, with_port, with_desk, after_turn, noted_of, turn_at, loses_power}
+use Rattle.node_machine.specs.Parts.Deed.{Commits, Sends, SaysOk, Releases, IsAnswered, Drops, SetsErrors}
+use Rattle.node_machine.specs.Carrying.{own_side, end_of_node, noting, port_at, changed_if, with_port, with_desk, after_turn, noted_of, turn_at}
 use Rattle.node_machine.specs.Carrying.{keeps}
 use Rattle.node_machine.specs.Carrying.{commit, done}
 use Rattle.node_laws.specs.answers.Moments.{holds_after, unhandled_after}
+use Rattle.node_laws.proofs.Cases.{by_test}
 use Rattle.lone_laws.specs.alone.Lone.{end_of_node_alone}
 use Rattle.lone_laws.specs.alone.Known.{core_with, core_noted}
 use Rattle.lone_laws.proofs.answered.Own.{IsOwnDeed}
@@ -241,10 +241,7 @@ module _ (number h : ℕ) (r : Read) (t : List Entry) where
 
     by_turn : (x : Turn) → AreNothing e (noted_of core x p)
     by_turn (Give m) = by_refusal m (give_refusal p.side m)
-    by_turn (Hold held) = tt
-    by_turn FetchMessage = tt
-    by_turn SetAside = tt
-    by_turn Release = tt
+    by_turn _ = tt
 
   pub alone_turn : (k : ℕ) (x : Turn) (w : Work) → IsNoFetching x → Of w → Of (turn_at k x w)
   alone_turn k x w still a =
@@ -286,30 +283,17 @@ module _ (number h : ℕ) (r : Read) (t : List Entry) where
   While w = w.cut ≡ false → Of w
 
   alone_commit : (c : Command) (w : Work) → (eqb number 0 ≡ true → IsCommand c) → While w → While (commit c w)
-  alone_commit c w may a = go (fails_within (length (commit_writes w.core.journal w.core.tables (body_of c))) w.plan) where
-    begun : Work
-    begun = noting (entry.Command w.core.node c ∷ []) w
-
-    by : Bool → Work
-    by true = loses_power (commit_writes w.core.journal w.core.tables (body_of c)) begun
-    by false = keeps c (commit_writes w.core.journal w.core.tables (body_of c)) begun
-
-    go : (b : Bool) → While (by b)
-    go true = λ q. absurd (true≢false q)
-    go false = λ q. alone_keeps c w may (a q)
+  alone_commit c w may a = by_test (fails_within (length (commit_writes w.core.journal w.core.tables (body_of c))) w.plan)
+      (λ is. rw is (λ q. absurd (true≢false q)))
+      (λ is. rw is (λ q. alone_keeps c w may (a q)))
 
   pub alone_does : (k : ℕ) (d : Deed) (w : Work) → IsOwnDeed number d → While w → While (done k d w)
   alone_does k (Commits c) w may a = alone_commit c w may a
   alone_does k (Sends to m) w may a = λ q. alone_turn to (Give m) w tt (a q)
   alone_does k SaysOk w may a = λ q. alone_note (entry.AnyOk w.core.node _ ∷ []) w ((λ z. refl), tt) (a q)
-  alone_does k (Asks to message c) w may a = absurd may
   alone_does k (Releases asker) w may a = λ q. alone_turn asker Release w tt (a q)
-  alone_does k (Tells to message) w may a = absurd may
   alone_does k IsAnswered w may a = λ q. alone_desk k (λ d. record d { notice = None }) w (λ d. refl) (λ d z. refl) (λ d. refl) (a q)
   alone_does k (Drops pid) w may a = λ q. alone_note (entry.Dropped (end_of_node w.core k) pid ∷ []) w ((λ z. refl), tt) (a q)
   alone_does k (SetsErrors errors) w may a =
       λ q. alone_desk k (λ d. record d { errors = errors }) w (λ d. refl) (λ d z. z) (λ d. refl) (a q)
-  alone_does k (Orders message) w may a = absurd may
-  alone_does k Hears w may a = absurd may
-  alone_does k (GoesOn i) w may a = absurd may
-  alone_does k (Ends x) w may a = absurd may
+  alone_does k _ w may a = absurd may

@@ -1,5 +1,5 @@
 -- A boot makes a memory ready: what the next boot finds there is what it found.
-use Rattle.std.proofs.Common.{◌≡◌, ◌⊎◌, inl, inr, ℕ, ◌+◌, ◌<◌, ◌≤◌, Bool, true, false, cond, ◌==◌, ◌||◌, List, [], ◌++◌, map, IsTrue, sym, refl, ap, ap₂, ◌∙◌}
+use Rattle.std.proofs.Common.{◌≡◌, ◌⊎◌, inl, inr, ℕ, ◌+◌, ◌<◌, ◌≤◌, true, false, ◌==◌, ◌||◌, List, [], ◌++◌, map, IsTrue, sym, refl, ap, ap₂, ◌∙◌}
 use Rattle.std.proofs.Common.{subst, arith}
 use Rattle.std.specs.Prelude.{Option, Some, None, IsSome}
 use Rattle.std.specs.Option.{option_map_or}
@@ -28,10 +28,12 @@ use Rattle.hci_store.proofs.Committed.{all_recordable, holds_snapshot}
 use Rattle.hci_store.proofs.CutShort.{are_bodies, holds_still}
 use Rattle.hci_store.proofs.Starting.{counted}
 use Rattle.node_machine.specs.Node.{boot_writes, found, new_desk}
+use Rattle.node_laws.proofs.Cases.{by_test}
+use Rattle.node_laws.proofs.kept.Commits.{some_other}
 use Rattle.node_laws.proofs.kept.Booting.{good_found}
 use Rattle.node_laws.proofs.kept.Snapshots.{snapshot_fits}
 use Rattle.lone_laws.specs.alone.Memories.{CountsAll, IsReadyMemory, IsTakenMemory, behind_boot}
-use Rattle.lone_laws.proofs.answered.Finding.{KnowsIf, fault_none, knows_from, some_other}
+use Rattle.lone_laws.proofs.answered.Finding.{KnowsIf, fault_none, knows_from}
 
 first_version : (v : ℕ) → IsTrue (v == 1 || v == 2) → (v == 2) ≡ false → v ≡ 1
 first_version v known older = grind (arith, nat_tests)
@@ -108,13 +110,9 @@ module _ (content : List ℕ) (taken : IsTakenMemory content) where
       → Leaves (after_writes (option_map_or (λ _. []) o format_writes ++ migration_writes (option_map_or (λ _. s) o formatted) t) content)
       (migrated (option_map_or (λ _. s) o formatted) t)
   leaves None none = leaves_formatted none
-  leaves (Some side) is = by_version (s.version == 2) refl where
+  leaves (Some side) is = by_test (s.version == 2) (λ second. rw second (leaves_as_is some second)) (λ older. rw older (leaves_anew some older)) where
     some : IsSome (current content)
     some = subst IsSome (sym is) refl
-
-    by_version : (b : Bool) → (s.version == 2) ≡ b → Leaves (after_writes (cond b [] (compact_writes s bodies)) content) (cond b s (compacted s bodies))
-    by_version true second = leaves_as_is some second
-    by_version false older = leaves_anew some older
 
   left : Leaves (behind_boot content) (ready_state content)
   left = leaves (current content) refl

@@ -22,6 +22,7 @@ use Rattle.node_machine.specs.world.NodeFilters.{session_now}
 use Rattle.node_laws.specs.answers.Moments.{is_up_read}
 use Rattle.node_laws.specs.passes.Passing.{waiting_at, lacking, takes_up}
 use Rattle.node_laws.specs.passes.Noting.{noted_by_deeds}
+use Rattle.node_laws.proofs.Cases.{by_test}
 use Rattle.node_laws.proofs.passes.Notes.{deeds_note}
 use Rattle.node_laws.proofs.passes.Passing.{takes_entries}
 use Rattle.node_laws.proofs.passes.Counts.{taken_at_once}
@@ -142,18 +143,14 @@ module _ (rest : Core) (number h : ℕ) (some : 1 ≤ h) (most : h ≤ 7) (s : �
     -- what is done with a message fits what it sets
     deeds_fit : (k : ℕ) (m : Message) (w : Work) (a : Alone number h (begin_read found) t w) → eqb a.port.desk.host k ≡ true → k ≡ h
         → FitsErrors w.ports k m.0 (deeds_of w.core w.ports k m) (sets_there w.core e m)
-    deeds_fit k m w a own same = go (eqb w.core.node 0) refl where
-      here : port_at w.ports k ≡ Some a.port
-      here = ap (λ ps. port_at ps k) a.ports_are ∙ ap (λ b. cond b (Some a.port) None) own
-
-      go : (b : Bool) → eqb w.core.node 0 ≡ b → FitsErrors w.ports k m.0 (deeds_of w.core w.ports k m) (sets_there w.core e m)
-      go true q =
-          subst (λ d. FitsErrors w.ports k m.0 d (sets_there w.core e m)) (rw q refl)
-          (controller_fits w.core w.ports k number h m (ap (λ n. eqb n 0) (sym a.node) ∙ q) same)
-      go false q =
-          let another : eqb number 0 ≡ false = ap (λ n. eqb n 0) (sym a.node) ∙ q in
-          subst (λ d. FitsErrors w.ports k m.0 d (sets_there w.core e m)) (rw (q, here) refl)
-          (host_fits w.core w.ports a.port k number h m another (a.node ∙ (its another ∙ sym same)) here)
+    deeds_fit k m w a own same = by_test (eqb w.core.node 0)
+        (λ q. subst (λ d. FitsErrors w.ports k m.0 d (sets_there w.core e m)) (rw q refl)
+        (controller_fits w.core w.ports k number h m (ap (λ n. eqb n 0) (sym a.node) ∙ q) same))
+        (λ q. let another : eqb number 0 ≡ false = ap (λ n. eqb n 0) (sym a.node) ∙ q in
+        subst (λ d. FitsErrors w.ports k m.0 d (sets_there w.core e m)) (rw (q, here) refl)
+        (host_fits w.core w.ports a.port k number h m another (a.node ∙ (its another ∙ sym same)) here)) where
+          here : port_at w.ports k ≡ Some a.port
+          here = ap (λ ps. port_at ps k) a.ports_are ∙ ap (λ b. cond b (Some a.port) None) own
 
     module _ (w : Work) (a : KnowsAll w) (on : w.cut ≡ false) (k : ℕ) (m : Message) (messages : List Message)
         (waits : waiting_at w.ports k ≡ m ∷ messages) where

@@ -27,6 +27,7 @@ use Rattle.node_laws.specs.passes.Noting.{noted_at, goes_in, noted_by_deeds}
 use Rattle.lone_laws.specs.alone.Lone.{end_of_node_alone}
 use Rattle.lone_laws.specs.alone.Known.{core_with}
 use Rattle.node_laws.specs.answers.Answered.{to_command}
+use Rattle.node_laws.proofs.Cases.{by_test}
 use Rattle.node_laws.proofs.reply_passes.Sides.{IsNoBoot, AreNoBoots}
 use Rattle.lone_laws.proofs.answered.Mine.{is_own_answer, is_own_turn, is_own_cut, to_turn, AnswersOwn}
 use Rattle.lone_laws.proofs.answered.Reading.{eqb_same}
@@ -80,12 +81,10 @@ module _ (number h : ℕ) where
               ∙ sym (ap (λ s. option_map_or (λ n. entry.Sent e n m.0 m.1 ∷ []) (cond (is_up s) (Some p.session) None) []) up))
           by IsWaitingNow off = rw off refl
           by IsDown off = rw off refl
-    go false q = other (eqb to e.link) refl where
-      other : (b : Bool) → eqb to e.link ≡ b → [] ≡ sent_alone e (session_of_end p) to m
-      other true z =
-          let same : to ≡ h = eqb-true to e.link z ∙ link_of_end number h in
-          absurd (true≢false (sym (ap₂ eqb host same ∙ eqb_same h) ∙ q))
-      other false z = sym (ap (λ b. cond b (option_map_or (λ n. entry.Sent e n m.0 m.1 ∷ []) (session_of_end p) []) []) z)
+    go false q = by_test (eqb to e.link)
+        (λ z. let same : to ≡ h = eqb-true to e.link z ∙ link_of_end number h in
+        absurd (true≢false (sym (ap₂ eqb host same ∙ eqb_same h) ∙ q)))
+        (λ z. sym (ap (λ b. cond b (option_map_or (λ n. entry.Sent e n m.0 m.1 ∷ []) (session_of_end p) []) []) z))
 
   -- ## A reply
 

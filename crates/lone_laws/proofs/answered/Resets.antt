@@ -1,29 +1,19 @@
 -- Sessions of a node alone end by resets exactly where they are asked for.
 use Rattle.std.proofs.Common.{ℕ, ◌≤◌, Bool, true, false, cond, List, [], ◌∷◌, map, Option, Some, None, refl}
-use Rattle.std.specs.List.{AllByRecursion, flat_map}
-use Rattle.std.specs.Option.{option_map_or}
-use Rattle.registry.proofs.ValueLemmas.{AllByRecursion-append as all_append}
+use Rattle.std.specs.List.{AllByRecursion}
 use Rattle.trace_model.specs.declared.entry.Entry.TheVariants as entry
-use Rattle.hci_tables.specs.declared.command.Command.{Command}
-use Rattle.hci_tables.specs.declared.command.Command.TheVariants.{Sync}
-use Rattle.gate_answers.specs.Answers.{answer_of}
-use Rattle.link_laws.specs.machine.Machine.{Message, Refused, give_refusal}
-use Rattle.link_laws.specs.machine.Machine.Turn.{Give, SetAside}
-use Rattle.link_laws.specs.entries.Entries.{End as Side, sent_unless}
+use Rattle.link_laws.specs.entries.Entries.{End as Side}
 use Rattle.history.specs.Steps.{entries_for}
-use Rattle.node_machine.specs.Parts.{Creation, Core, Port, Work, Deed}
-use Rattle.node_machine.specs.Parts.Deed.{Commits, Asks, Tells}
-use Rattle.node_machine.specs.Carrying.{own_side, port_at, noted_of, turn_at}
-use Rattle.node_machine.specs.Node.{NodeInput, all_owed, synced}
-use Rattle.node_laws.specs.passes.Noting.{goes_in, noted_by_deed}
-use Rattle.node_machine.proofs.Walks.{Plain, OfHost, any_of_controller, all_of_host, deeds_hold, all_owed_hold, all_synced_hold, forgotten_hold}
+use Rattle.node_machine.specs.Parts.{Core, Work}
+use Rattle.node_machine.specs.Carrying.{own_side}
+use Rattle.node_machine.specs.Node.{NodeInput}
 use Rattle.std.proofs.Common.{◌≡◌, ◌++◌, ◌||◌, eqb, sym, ap, subst, ◌∙◌}
 use Rattle.std.proofs.lemmas.Bool.{cond_both}
 use Rattle.std.specs.Prelude.{is_some, option_to_list, nat_lt}
 use Rattle.std.specs.List.{list_any}
 use Rattle.swp_base.specs.declared.control_frames.Control.{Control}
 use Rattle.swp_base.specs.declared.link_terms.Cause.{Cause as EndedBy}
-use Rattle.swp_base.specs.declared.link_terms.Cause.TheVariants.{Asked, NoAnswer, Peer, Act as ByAct, Chain}
+use Rattle.swp_base.specs.declared.link_terms.Cause.TheVariants.{Asked, Act as ByAct}
 use Rattle.swp_lpdu.specs.declared.LpduFault.{LpduFault}
 use Rattle.swp_lpdu.specs.Controls.{lpdu_of, control_of}
 use Rattle.trace_model.specs.declared.entry.Entry.{Entry}
@@ -32,27 +22,24 @@ use Rattle.shdlc_core.specs.declared.answers.LinkState.{LinkState}
 use Rattle.shdlc_core.specs.declared.answers.LinkState.TheVariants.{Up as IsUpNow, Waiting as IsWaitingNow, Down as IsDown}
 use Rattle.shdlc_core.specs.Machine.{tick_answer}
 use Rattle.link_laws.specs.sessions.Sessions.{is_up}
-use Rattle.link_laws.specs.machine.Machine.{LinkEnd, LinkInput, Report, after_input, report, ended_by, ended_by_frame, ended_by_reset, reset_refusal, if_up}
+use Rattle.link_laws.specs.machine.Machine.{LinkEnd, LinkInput, Report, after_input, report, ended_by, ended_by_reset, reset_refusal}
 use Rattle.link_laws.specs.machine.Machine.{whole_acked, lpdu_input, is_open}
 use Rattle.link_laws.specs.entries.Entries.{Entry as Noted, told, if_so}
 use Rattle.link_laws.specs.entries.Entries.Entry.{Up, Down, Active, GaveUp, Acked, Got}
-use Rattle.node_machine.specs.Carrying.{end_of_node}
-use Rattle.link_laws.specs.machine.Machine.{Turn}
-use Rattle.link_laws.specs.machine.Machine.Turn.{FetchMessage, Hold}
-use Rattle.node_machine.proofs.Walks.{anyone}
-use Rattle.node_laws.proofs.steps.StepWalks.{Lasts, rest_lasts}
-use Rattle.node_laws.proofs.passes.Notes.{deed_notes}
+use Rattle.node_laws.proofs.passes.Before.{come_entries}
+use Rattle.node_laws.proofs.passes.InSteps.{IsOfStep, step_keeps}
 use Rattle.node_machine.specs.world.NodeFilters.{session_now}
 use Rattle.node_laws.specs.answers.Moments.{is_up_read}
+use Rattle.node_laws.proofs.telling.Reported.{rest_all}
 use Rattle.lone_laws.specs.alone.Lone.{Lone, LoneCause, lone_end, lone_input, node_input, lone_arrival, emits_behind, frames_behind, session_with}
 use Rattle.lone_laws.specs.alone.Lone.LoneCause.{FrameComes, FrameIsRefused, TickComes, ResetComes, StartComes, StopComes}
 use Rattle.lone_laws.specs.alone.Answers.{is_asked_down, is_reset_alone, IsResetAlone}
 use Rattle.swp_act.specs.declared.ActEvent.TheVariants.{Tick as ActTick}
-use Rattle.link_laws.specs.machine.Machine.{ended_by_act, act_answer, is_faulty}
+use Rattle.link_laws.specs.machine.Machine.{ended_by_act}
 use Rattle.link_laws.proofs.machine.Runs.{Sound}
 use Rattle.std.specs.Prelude.{Result, Ok, Err}
 use Rattle.node_machine.specs.Parts.{Running}
-use Rattle.node_machine.specs.Node.{all_come, told_at, times_out, forgets, forgotten, after_sessions, without_notice}
+use Rattle.node_machine.specs.Node.{all_come, told_at}
 use Rattle.lone_laws.proofs.answered.Reading.{Alone}
 use Rattle.lone_laws.proofs.answered.Coming.{came_entries, came_is}
 use Rattle.lone_laws.proofs.answered.Stepping.{lone_comes}
@@ -69,50 +56,9 @@ IsQuietEntry x = is_asked_down x ≡ false
 abbrev pub AreQuiet : List Entry → Type 0
 AreQuiet es = AllByRecursion IsQuietEntry es
 
-sent_none : (h n : ℕ) (m : Message) (side : Side) (o : Option Refused) → AreQuiet (entries_for h (sent_unless o side n m))
-sent_none h n m side None = (refl, tt)
-sent_none h n m side (Some why) = tt
-
-given_none : (core : Core) (m : Message) (o : Option Port) → AreQuiet (option_map_or (noted_of core (Give m)) o [])
-given_none core m None = tt
-given_none core m (Some p) = sent_none p.desk.host p.session m (own_side core) (give_refusal p.side m)
-
--- what a deed notes, whatever the node is
-abbrev NotesQuiet : Deed → Type 0
-NotesQuiet d = (h : ℕ) (w : Work) → AreQuiet (noted_by_deed h d w)
-
-cut_none : (b : Bool) (n : ℕ) → AreQuiet (cond b (entry.Cut n ∷ []) [])
-cut_none true n = (refl, tt)
-cut_none false n = tt
-
-plain : Plain NotesQuiet
-plain = record {
-  sends = λ to m h w. given_none w.core m (port_at w.ports to);
-  says_ok = λ h w. (refl, tt);
-  releases = λ asker h w. tt;
-  is_answered = λ h w. tt;
-  drops = λ pid h w. (refl, tt);
-}
-
-commits_none : (c : Command) → NotesQuiet (Commits c)
-commits_none c h w = (refl, cut_none (goes_in c w) w.core.node)
-
-tells_none : (to : ℕ) (message : List ℕ) → NotesQuiet (Tells to message)
-tells_none to message h w = given_none w.core (1, message) (port_at w.ports to)
-
-asks_none : (to : ℕ) (message : List ℕ) (c : Creation) → NotesQuiet (Asks to message c)
-asks_none to message c h w = (refl, given_none w.core (1, message) (port_at (turn_at c.asker SetAside w).ports to))
-
-own : (core : Core) → OfHost NotesQuiet core
-own core = record {
-  commits = commits_none;
-  hears = λ h w. tt;
-  goes_on = λ i h w. tt;
-  orders = λ i k order is h w. given_none w.core (1, order) (port_at w.ports h);
-  same = λ h w. (refl, tt);
-  made = λ count h w. (refl, tt);
-  failed = λ code h w. (refl, tt);
-}
+of_step : (x : Entry) → IsOfStep x → IsQuietEntry x
+of_step (entry.Down e cause) a = absurd a
+of_step x a = refl
 
 -- ## What is noted behind what comes
 
@@ -123,32 +69,6 @@ any_quiet : (a es : List Entry) → AreQuiet es → list_any is_asked_down (a ++
 any_quiet [] [] quiet = refl
 any_quiet [] (x ∷ es) quiet = ap (λ b. b || list_any is_asked_down es) quiet.0 ∙ any_quiet [] es quiet.1
 any_quiet (x ∷ a) es quiet = or_same (is_asked_down x) (list_any is_asked_down (a ++ es)) (list_any is_asked_down a) (any_quiet a es quiet)
-
-turn_quiet : (core : Core) (y : Turn) (o : Option Port) → AreQuiet (option_map_or (noted_of core y) o [])
-turn_quiet core (Give m) o = given_none core m o
-turn_quiet core y None = tt
-turn_quiet core _ (Some p) = tt
-
-module _ (b : Bool) where
-  abbrev Tells_so : Work → Type 0
-  Tells_so w = list_any is_asked_down w.entries ≡ b
-
-  quiet_lasts : Lasts Tells_so NotesQuiet (λ h m. Unit {0})
-  quiet_lasts = record {
-    does = λ h d w may a. ap (list_any is_asked_down) (deed_notes h d w) ∙ (any_quiet w.entries (noted_by_deed h d w) (may h w) ∙ a);
-    turn_told = λ h m w c a. any_quiet w.entries (entry.Turn (end_of_node w.core h) m.0 m.1 ∷ []) (refl, tt) ∙ a;
-    held_told = λ h need spare w a. any_quiet w.entries (entry.Held (end_of_node w.core h) need spare ∷ []) (refl, tt) ∙ a;
-    fetched = λ h w a. any_quiet w.entries (option_map_or (noted_of w.core FetchMessage) (port_at w.ports h) []) (turn_quiet w.core FetchMessage
-        (port_at w.ports h)) ∙ a;
-    held = λ h flag w a. any_quiet w.entries (option_map_or (noted_of w.core (Hold flag)) (port_at w.ports h) []) (turn_quiet w.core (Hold flag)
-        (port_at w.ports h)) ∙ a;
-    marked = λ h flag w a. a;
-    come = λ h w a. anyone (λ m. Unit {0}) (λ m. tt) _;
-    causes = λ h m w c a.
-        deeds_hold (AllByRecursion NotesQuiet) w.core w.ports h m
-        (any_of_controller NotesQuiet plain commits_none tells_none asks_none (λ errors k v. tt) w.core w.ports h m) tt
-        (λ p. all_of_host NotesQuiet w.core plain (own w.core) p m (λ n value is zero sets k v. tt));
-  }
 
 -- ## What an input tells
 
@@ -170,18 +90,6 @@ notes_quiet h (Acked who n count ∷ xs) a = (refl, notes_quiet h xs a.1)
 notes_quiet h (Got who n m ∷ xs) a = (refl, notes_quiet h xs a.1)
 notes_quiet h (_ ∷ xs) a = absurd a.0
 
-so_ends : (b : Bool) (x : Noted) → EndsNothing x → AllByRecursion EndsNothing (if_so b x)
-so_ends true x a = (a, tt)
-so_ends false x a = tt
-
-tries_ends : (who : Side) (o : Option ℕ) → AllByRecursion EndsNothing (map (GaveUp who) (option_to_list o))
-tries_ends who None = tt
-tries_ends who (Some n) = (tt, tt)
-
-gots_ends : (who : Side) (n : ℕ) (ms : List Message) → AllByRecursion EndsNothing (map (Got who n) ms)
-gots_ends who n [] = tt
-gots_ends who n (m ∷ ms) = (tt, gots_ends who n ms)
-
 -- what is told of an input tells so where the session is ended by a reset on demand
 told_asked : (h : ℕ) (who : Side) (n acked : ℕ) (rep : Report) → list_any is_asked_down (entries_for h (told who n rep acked)) ≡ asked rep.ended
 told_asked h who n acked rep = go rep.ended where
@@ -193,20 +101,12 @@ told_asked h who n acked rep = go rep.ended where
   quiet : list_any is_asked_down (entries_for h others) ≡ false
   quiet =
       any_quiet [] (entries_for h others)
-      (notes_quiet h others
-      (all_append EndsNothing (if_so rep.began (Up who n)) _ (so_ends rep.began (Up who n) tt)
-      (all_append EndsNothing (if_so rep.became_active (Active who)) _ (so_ends rep.became_active (Active who) tt)
-      (all_append EndsNothing (map (GaveUp who) (option_to_list rep.gave_up)) _ (tries_ends who rep.gave_up)
-      (all_append EndsNothing (if_so (nat_lt 0 rep.acked) (Acked who n acked)) _ (so_ends (nat_lt 0 rep.acked) (Acked who n acked) tt)
-      (gots_ends who n rep.got))))))
+      (notes_quiet h others (rest_all EndsNothing who n acked tt tt (λ k. tt) tt (λ m. tt) rep))
 
   go : (o : Option EndedBy) → list_any is_asked_down (entries_for h (map (Down who) (option_to_list o) ++ others)) ≡ asked o
   go None = quiet
   go (Some Asked) = refl
-  go (Some NoAnswer) = quiet
-  go (Some Peer) = quiet
-  go (Some ByAct) = quiet
-  go (Some Chain) = quiet
+  go (Some _) = quiet
 
 -- ## Why a session ends
 
@@ -220,8 +120,7 @@ reset_asked : (s : LinkEnd) → Sound s → asked (ended_by_reset s (reset_refus
 reset_asked s sound = go (is_open s.role) refl s.shdlc.phase refl where
   go : (b : Bool) → is_open s.role ≡ b → (p : LinkState) → s.shdlc.phase ≡ p → asked (ended_by_reset s (reset_refusal s)) ≡ is_up s.shdlc.phase
   go true q IsUpNow z = rw (q, z) refl
-  go true q IsWaitingNow z = rw (q, z) refl
-  go true q IsDown z = rw (q, z) refl
+  go true q _ z = rw (q, z) refl
   go false q IsUpNow z = let gone : IsUpNow ≡ IsDown = sym z ∙ (sound.closed q).phase in absurd (cc gone)
   go false q IsWaitingNow z = rw (q, z) refl
   go false q IsDown z = rw (q, z) refl
@@ -259,11 +158,7 @@ emits_quiet f (c ∷ frames) = (refl, emits_quiet f frames)
 
 arrival_quiet : (l : Lone) (c : LoneCause) → AreQuiet (lone_arrival l c)
 arrival_quiet l (FrameComes bytes) = (refl, tt)
-arrival_quiet l (FrameIsRefused fault) = tt
-arrival_quiet l TickComes = tt
-arrival_quiet l (ResetComes window) = tt
-arrival_quiet l (StartComes value) = tt
-arrival_quiet l StopComes = tt
+arrival_quiet l _ = tt
 
 module _ (rest : Core) (t : List Entry) (l : Lone) (some : 1 ≤ l.link) (most : l.link ≤ 7) (its : eqb l.number 0 ≡ false → l.number ≡ l.link) (n : Running)
     (k : KeepsAll rest t l n) (c : LoneCause) (i : LinkInput) (comes : lone_input c ≡ Some i) where
@@ -292,18 +187,10 @@ module _ (rest : Core) (t : List Entry) (l : Lone) (some : 1 ≤ l.link) (most :
 
   last_tells : list_any is_asked_down last.entries ≡ resets c (is_up l.side.shdlc.phase)
   last_tells =
-      let b : Bool = resets c (is_up l.side.shdlc.phase) in
-      let came : Work = times_out input (all_come input first) in
-      let left : List Port = map (forgets came.ports) came.ports in
-      rest_lasts (Tells_so b) NotesQuiet
-      (λ h m. Unit {0}) (quiet_lasts b) (forgotten came.ports) (flat_map (synced first.core input) first.ports) (all_owed left)
-      (record came { core = after_sessions came.core came.ports; ports = map without_notice left })
-      (forgotten_quiet came.ports) (all_synced_hold NotesQuiet (λ host id. commits_none (Sync host id)) first.core input first.ports)
-      (all_owed_hold NotesQuiet (λ asker. plain.releases asker) (λ to r. plain.sends to (1, answer_of r [])) left)
-      (ap (λ (w : Work). list_any is_asked_down w.entries)
-      (came_is l.number l.link (begin_read G) t i (lone_comes c i comes) first a) ∙ came_tells) where
-        forgotten_quiet : (ports : List Port) → AllByRecursion NotesQuiet (forgotten ports)
-        forgotten_quiet ports = forgotten_hold NotesQuiet plain.releases ports
+      step_keeps IsQuietEntry of_step (λ es. list_any is_asked_down es ≡ resets c (is_up l.side.shdlc.phase))
+      (λ es more quiet a. any_quiet es more quiet ∙ a) input first
+      (ap (list_any is_asked_down) (sym (come_entries input first))
+      ∙ (ap (λ (w : Work). list_any is_asked_down w.entries) (came_is l.number l.link (begin_read G) t i (lone_comes c i comes) first a) ∙ came_tells))
 
   -- Its session ends by a reset exactly where that is asked for.
   pub reset_in_step : IsResetAlone G l.link t (record { cause = c; entries = last.entries ++ emits_behind l last })
@@ -319,8 +206,4 @@ module _ (rest : Core) (t : List Entry) (l : Lone) (some : 1 ≤ l.link) (most :
 
         by : (c : LoneCause) → resets c (is_up l.side.shdlc.phase) ≡ is_reset_alone G l.link t c
         by (ResetComes window) = up
-        by (FrameComes bytes) = refl
-        by (FrameIsRefused fault) = refl
-        by TickComes = refl
-        by (StartComes value) = refl
-        by StopComes = refl
+        by _ = refl

@@ -1,5 +1,5 @@
 -- In an event of a node alone turns stand in the order of their links, since it has one, and nothing comes behind an answer.
-use Rattle.std.proofs.Common.{◌≡◌, ℕ, ◌≤◌, Bool, true, false, List, [], ◌∷◌, ◌++◌, map, refl, sym, ap, subst, arith}
+use Rattle.std.proofs.Common.{◌≡◌, ℕ, ◌≤◌, List, [], ◌∷◌, ◌++◌, map, refl, sym, ap, subst, arith}
 use Rattle.std.specs.Prelude.{◌==◌, if◌then◌else◌, Some, None}
 use Rattle.std.specs.List.{AllByRecursion, cons_option, filter_map}
 use Rattle.swp_base.specs.declared.control_frames.Control.{Control}
@@ -11,10 +11,11 @@ use Rattle.node_machine.specs.Node.{NodeInput, steps}
 use Rattle.node_machine.specs.Parts.{Work}
 use Rattle.node_machine.specs.world.World.{node_of}
 use Rattle.node_laws.specs.answers.Order.{IsAscending, turn_link}
+use Rattle.node_laws.proofs.Cases.{by_test}
 use Rattle.node_laws.proofs.worlds.Hearing.{AreUnanswered, AreUnheard, IsParted, step_parted}
 use Rattle.node_laws.proofs.worlds.Order.{first_heard, parted_for}
 use Rattle.lone_laws.specs.alone.Lone.{Lone, LoneCause, lone_arrival}
-use Rattle.lone_laws.specs.alone.Lone.LoneCause.{FrameComes, FrameIsRefused, TickComes, ResetComes, StartComes, StopComes}
+use Rattle.lone_laws.specs.alone.Lone.LoneCause.{FrameComes}
 use Rattle.lone_laws.specs.alone.Answers.{HearsFirstAlone}
 use Rattle.lone_laws.proofs.answered.Ordered.{IsAtEnd}
 
@@ -34,11 +35,7 @@ links_are n e [] each = tt
 links_are n e (x ∷ es) each = one x (each [] es x refl) (links_are n e es (λ f b y q. each (x ∷ f) b y (ap (λ l. x ∷ l) q))) where
   at : (f : End) → f ≡ e → AllByRecursion (λ k. k ≡ e.link) (filter_map (turn_link n) es)
       → AllByRecursion (λ k. k ≡ e.link) (cons_option (if node_of f == n then Some f.link else None) (filter_map (turn_link n) es))
-  at f is later = go (node_of f == n) refl where
-    go : (c : Bool) → (node_of f == n) ≡ c
-        → AllByRecursion (λ k. k ≡ e.link) (cons_option (if node_of f == n then Some f.link else None) (filter_map (turn_link n) es))
-    go false q = rw q later
-    go true q = rw q (ap (λ (g : End). g.link) is, later)
+  at f is later = by_test (node_of f == n) (λ q. rw q (ap (λ (g : End). g.link) is, later)) (λ q. rw q later)
 
   one : (x : Entry) → IsAtEnd e x → AllByRecursion (λ k. k ≡ e.link) (filter_map (turn_link n) es)
       → AllByRecursion (λ k. k ≡ e.link) (filter_map (turn_link n) (x ∷ es))
@@ -55,11 +52,7 @@ own_ascend e es each n = same_ascend e.link (filter_map (turn_link n) es) (links
 
 arrival_unanswered : (l : Lone) (c : LoneCause) → AreUnanswered (lone_arrival l c)
 arrival_unanswered l (FrameComes bytes) = (refl, tt)
-arrival_unanswered l (FrameIsRefused fault) = tt
-arrival_unanswered l TickComes = tt
-arrival_unanswered l (ResetComes window) = tt
-arrival_unanswered l (StartComes value) = tt
-arrival_unanswered l StopComes = tt
+arrival_unanswered l _ = tt
 
 emits_unheard : (e : End) (frames : List Control) → AreUnheard (map (λ c. entry.Emit e (lpdu_of c)) frames)
 emits_unheard e [] = tt

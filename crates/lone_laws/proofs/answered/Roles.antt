@@ -8,16 +8,17 @@ use Rattle.swp_base.specs.declared.control_frames.Act.{Act}
 use Rattle.swp_act.specs.declared.ActEvent.{ActEvent}
 use Rattle.swp_act.specs.declared.ActEvent.TheVariants.{Start as ActStart, Take as ActTake, Tick as ActTick, Stop as ActStop}
 use Rattle.shdlc_core.specs.declared.answers.LinkState.{LinkState}
-use Rattle.shdlc_core.specs.declared.answers.LinkState.TheVariants.{Down as IsDown, Waiting as IsWaitingNow, Up as IsUpNow}
+use Rattle.shdlc_core.specs.declared.answers.LinkState.TheVariants.{Up as IsUpNow}
 use Rattle.shdlc_core.specs.Machine.{EndState, taken, take_answer, ticked, tick_answer, stopped, reset_with}
-use Rattle.link_laws.specs.machine.Machine.{LinkEnd, LinkInput, Refused, is_open, is_faulty, moved, put_down, with_act, activated, act_answer, role_after}
+use Rattle.link_laws.specs.machine.Machine.{LinkEnd, LinkInput, is_open, is_faulty, moved, put_down, with_act, activated, act_answer, role_after}
 use Rattle.link_laws.specs.machine.Machine.{heard}
 use Rattle.link_laws.specs.machine.Machine.{news}
-use Rattle.link_laws.specs.machine.Machine.{reset_by, window_of, reset_refusal, unless, after_input}
-use Rattle.link_laws.specs.machine.Machine.LinkInput.{Take, TakeUnknown, TakeBroken, Tick, Reset, Start, Stop, FromNode, Fetch}
+use Rattle.link_laws.specs.machine.Machine.{window_of, reset_refusal, after_input}
+use Rattle.link_laws.specs.machine.Machine.LinkInput.{Take, TakeUnknown, Tick, Reset, Start, Stop}
 use Rattle.lone_laws.proofs.answered.Coming.{IsLoneInput}
 use Rattle.link_laws.specs.machine.Machine.{Role}
 use Rattle.link_laws.specs.machine.Machine.Role.{Bare, Clf, Uicc}
+use Rattle.node_laws.proofs.Cases.{by_option}
 
 -- an end of a CLF, or of a UICC
 abbrev pub kind_of : Role → Option Bool
@@ -27,8 +28,7 @@ kind_of (Uicc s) = Some false
 
 after_kind : (r : Role) (event : ActEvent) → kind_of (role_after r event) ≡ kind_of r
 after_kind Bare event = refl
-after_kind (Clf s) event = refl
-after_kind (Uicc s) event = refl
+after_kind _ event = refl
 
 act_kind : (o : Option Act) (e : LinkEnd) → kind_of (with_act o e).role ≡ kind_of e.role
 act_kind None e = refl
@@ -43,8 +43,7 @@ down_kind false e = refl
 down_kind true e = go e.shdlc.phase refl where
   go : (p : LinkState) → e.shdlc.phase ≡ p → kind_of (put_down true e).role ≡ kind_of e.role
   go IsUpNow q = rw q refl
-  go IsWaitingNow q = rw q refl
-  go IsDown q = rw q refl
+  go _ q = rw q refl
 
 activated_kind : (e : LinkEnd) (event : ActEvent) → kind_of (activated e event).role ≡ kind_of e.role
 activated_kind e event =
@@ -71,12 +70,7 @@ input_kind e TakeUnknown a = refl
 input_kind e Tick a =
     cond_both (is_open e.role) (moved e (is_some (tick_answer e.shdlc).ended) (ticked e.shdlc)) (activated e ActTick) (λ f. kind_of f.role ≡ kind_of e.role)
     (λ _. moved_kind e (is_some (tick_answer e.shdlc).ended) (ticked e.shdlc)) (λ _. activated_kind e ActTick)
-input_kind e (Reset window) a = by (reset_refusal e) where
-  by : (o : Option Refused) → kind_of (unless o e (reset_by e (window_of e window))).role ≡ kind_of e.role
-  by None = moved_kind e _ (reset_with e.shdlc (window_of e window))
-  by (Some why) = refl
+input_kind e (Reset window) a = by_option (reset_refusal e) (λ q. rw q (moved_kind e _ (reset_with e.shdlc (window_of e window)))) (λ why q. rw q refl)
 input_kind e (Start value) a = activated_kind (moved e true (stopped e.shdlc)) (ActStart value)
 input_kind e Stop a = activated_kind (moved e true (stopped e.shdlc)) ActStop
-input_kind e (TakeBroken fault) a = absurd a
-input_kind e (FromNode x) a = absurd a
-input_kind e Fetch a = absurd a
+input_kind e _ a = absurd a

@@ -1,7 +1,7 @@
 -- The session of the end of a node alone, and the blocks that it has to spare, are what is read at each turn of a step.
 use Rattle.std.proofs.Common.{◌≡◌, ℕ, zero, suc, ◌<◌, ◌+◌, ◌-◌, Bool, true, false, cond, eqb, not, List, [], ◌∷◌, ◌++◌, length, refl, sym, ap, subst}
 use Rattle.std.proofs.Common.{◌∙◌, append_assoc, append-nil, arith}
-use Rattle.std.specs.Prelude.{Option, Some, None}
+use Rattle.std.specs.Prelude.{Some, None}
 use Rattle.std.specs.Option.{option_map_or}
 use Rattle.std.proofs.lemmas.Bool.{true≢false, eqb-true}
 use Rattle.trace_model.specs.declared.entry.Entry.{Entry}
@@ -16,7 +16,7 @@ use Rattle.journal_laws.specs.Planned.{fails_within}
 use Rattle.hci_tables.specs.declared.command.Command.{Command}
 use Rattle.hci_tables.specs.Bodies.{body_of}
 use Rattle.hci_store.specs.Committing.{commit_writes}
-use Rattle.link_laws.specs.machine.Machine.{Message, Refused, LinkEnd, Turn, turn, given, give_refusal, unless, sent_all, whole_among, whole_acked, in_use}
+use Rattle.link_laws.specs.machine.Machine.{Message, LinkEnd, Turn, turn, given, give_refusal, sent_all, whole_among, whole_acked, in_use}
 use Rattle.link_laws.specs.machine.Machine.{spare}
 use Rattle.link_laws.specs.machine.Machine.Refused.{NotUp}
 use Rattle.link_laws.specs.machine.Machine.Turn.{Give, Hold, FetchMessage, SetAside, Release}
@@ -24,15 +24,16 @@ use Rattle.link_laws.proofs.machine.Sound.{whole_given}
 use Rattle.link_laws.proofs.machine.Runs.{Sound, sound_turn}
 use Rattle.link_laws.proofs.places.Joined.{ready_cases}
 use Rattle.link_laws.proofs.places.Joined.{fetch_cases}
-use Rattle.link_laws.specs.entries.Entries.{End as Side, sent_unless, turn_entry}
+use Rattle.link_laws.specs.entries.Entries.{End as Side, turn_entry}
 use Rattle.link_laws.proofs.entries.Stepping.{fetched_acked}
 use Rattle.history.specs.Filters.{same_end}
 use Rattle.history.specs.Steps.{end_of, entries_for}
 use Rattle.node_machine.specs.Parts.{Desk, Port, Work, Deed}
-use Rattle.node_machine.specs.Parts.Deed.{Commits, Sends, SaysOk, Asks, Releases, Tells, IsAnswered, Drops, SetsErrors, Orders, Hears, GoesOn, Ends}
+use Rattle.node_machine.specs.Parts.Deed.{Commits, Sends, SaysOk, Releases, IsAnswered, Drops, SetsErrors}
 use Rattle.node_machine.specs.Carrying.{own_side, end_of_node, noting, port_at, changed_if, with_port, with_desk, after_turn, noted_of, turn_at, loses_power}
 use Rattle.node_machine.specs.Carrying.{keeps, commit, done}
 use Rattle.node_machine.specs.world.NodeFilters.{spare_at}
+use Rattle.node_laws.proofs.Cases.{by_test, by_option}
 use Rattle.node_laws.proofs.links.Deeds.{IsFine}
 use Rattle.lone_laws.specs.alone.Lone.{end_of_node_alone}
 use Rattle.lone_laws.proofs.answered.Own.{IsOwnDeed}
@@ -46,10 +47,8 @@ use Rattle.lone_laws.proofs.answered.Talking.{talk_of_side}
 -- what a node alone does to its end
 abbrev pub IsLoneTurn : Turn → Type 0
 IsLoneTurn (Give m) = IsSendable m
-IsLoneTurn (Hold held) = Unit {0}
-IsLoneTurn FetchMessage = Unit {0}
 IsLoneTurn SetAside = ⊥
-IsLoneTurn Release = Unit {0}
+IsLoneTurn _ = Unit {0}
 
 pub lone_turn_sound : (s : LinkEnd) (x : Turn) → IsLoneTurn x → Sound s → Sound (turn s x)
 lone_turn_sound s (Give m) may a = sound_turn s (Give m) (may, tt) a
@@ -59,20 +58,12 @@ lone_turn_sound s SetAside may a = absurd may
 lone_turn_sound s Release may a = sound_turn s Release tt a
 
 lone_turn_kind : (s : LinkEnd) (x : Turn) → IsLoneTurn x → kind_of (turn s x).role ≡ kind_of s.role
-lone_turn_kind s (Give m) may = by (give_refusal s m) where
-  by : (o : Option Refused) → kind_of (unless o s (given s m)).role ≡ kind_of s.role
-  by None = refl
-  by (Some why) = refl
-lone_turn_kind s (Hold held) may = refl
-lone_turn_kind s FetchMessage may = refl
+lone_turn_kind s (Give m) may = by_option (give_refusal s m) (λ q. rw q refl) (λ why q. rw q refl)
 lone_turn_kind s SetAside may = absurd may
-lone_turn_kind s Release may = refl
+lone_turn_kind s _ may = refl
 
 lone_turn_aside : (s : LinkEnd) (x : Turn) → IsLoneTurn x → s.aside ≡ 0 → (turn s x).aside ≡ 0
-lone_turn_aside s (Give m) may a = by (give_refusal s m) where
-  by : (o : Option Refused) → (unless o s (given s m)).aside ≡ 0
-  by None = a
-  by (Some why) = a
+lone_turn_aside s (Give m) may a = by_option (give_refusal s m) (λ q. rw q a) (λ why q. rw q a)
 lone_turn_aside s (Hold held) may a = a
 lone_turn_aside s FetchMessage may a = a
 lone_turn_aside s SetAside may a = absurd may
@@ -100,12 +91,10 @@ module _ (e : End) (n : ℕ) (who : Side) (h : ℕ) (own : same_end (end_of h wh
 
   sent_reads : (s : LinkEnd) (k : ℕ) (m : Message) → IsSendable m → Sound s → Reads e n k t (talk_of_side s k)
       → Reads e n k (t ++ entries_for h (turn_entry who k s (Give m))) (talk_of_side (turn s (Give m)) k)
-  sent_reads s k m may sound r = by (give_refusal s m) refl where
-    by : (o : Option Refused) → give_refusal s m ≡ o → Reads e n k (t ++ entries_for h (sent_unless o who k m)) (talk_of_side (unless o s (given s m)) k)
-    by None q =
-        subst (Reads e n k (t ++ entry.Sent (end_of h who) k m.0 m.1 ∷ [])) (sym (given_talk s m k may sound))
-        (reads_sent e n t (end_of h who) own k (talk_of_side s k) k m.0 m.1 (given_up s m k q) r)
-    by (Some why) q = none_more k s r
+  sent_reads s k m may sound r = by_option (give_refusal s m)
+      (λ q. rw q (subst (Reads e n k (t ++ entry.Sent (end_of h who) k m.0 m.1 ∷ [])) (sym (given_talk s m k may sound))
+      (reads_sent e n t (end_of h who) own k (talk_of_side s k) k m.0 m.1 (given_up s m k q) r)))
+      (λ why q. rw q (none_more k s r))
 
   pub turn_reads : (s : LinkEnd) (k : ℕ) (x : Turn) → IsLoneTurn x → Sound s → Reads e n k t (talk_of_side s k)
       → Reads e n k (t ++ entries_for h (turn_entry who k s x)) (talk_of_side (turn s x) k)
@@ -271,26 +260,18 @@ module _ (number h s : ℕ) (t : List Entry) where
   talks_does k (Commits c) w may a = talks_commit c w a
   talks_does k (Sends to m) w may a = λ q. talks_turn to (Give m) w may.0 (a q)
   talks_does k SaysOk w may a = λ q. talks_note (entry.AnyOk w.core.node _ ∷ []) w (tt, tt) (a q)
-  talks_does k (Asks to message c) w may a = absurd may.1
   talks_does k (Releases asker) w may a = λ q. talks_turn asker Release w tt (a q)
-  talks_does k (Tells to message) w may a = absurd may.1
   talks_does k IsAnswered w may a = λ q. talks_desk k (λ d. record d { notice = None }) w (λ d. refl) (a q)
   talks_does k (Drops pid) w may a = λ q. talks_note (entry.Dropped (end_of_node w.core k) pid ∷ []) w (tt, tt) (a q)
   talks_does k (SetsErrors errors) w may a = λ q. talks_desk k (λ d. record d { errors = errors }) w (λ d. refl) (a q)
-  talks_does k (Orders message) w may a = absurd may.1
-  talks_does k Hears w may a = absurd may.1
-  talks_does k (GoesOn i) w may a = absurd may.1
-  talks_does k (Ends y) w may a = absurd may.1
+  talks_does k _ w may a = absurd may.1
 
 -- ## Spare blocks
 
 -- the node of the end
 node_is : (number h : ℕ) → (eqb number 0 ≡ false → number ≡ h)
     → cond (end_of_node_alone number h).at_host (end_of_node_alone number h).link 0 ≡ number
-node_is number h its = go (eqb number 0) refl where
-  go : (b : Bool) → eqb number 0 ≡ b → cond (end_of_node_alone number h).at_host (end_of_node_alone number h).link 0 ≡ number
-  go true q = rw q (sym (eqb-true number 0 q))
-  go false q = rw q (sym (its q))
+node_is number h its = by_test (eqb number 0) (λ q. rw q (sym (eqb-true number 0 q))) (λ q. rw q (sym (its q)))
 
 -- The blocks that the end has to spare are read.
 pub spare_is : (number h s : ℕ) (t : List Entry) (side : LinkEnd) → (eqb number 0 ≡ false → number ≡ h) → Sound side → side.aside ≡ 0

@@ -4,8 +4,8 @@ use Rattle.std.proofs.Common.{subst, ◌∙◌, arith}
 use Rattle.std.proofs.Common.{append_assoc, append-nil}
 use Rattle.std.specs.Prelude.{min, Option, Some, None, is_some, IsSome}
 use Rattle.std.specs.List.{AllByRecursion}
-use Rattle.std.specs.Option.{option_map, option_map_or}
-use Rattle.std.proofs.lemmas.Bool.{cases_Bool, true≢false, eq-eqb}
+use Rattle.std.specs.Option.{option_map_or}
+use Rattle.std.proofs.lemmas.Bool.{true≢false}
 use Rattle.swp_base.specs.InMemory.{Memory}
 use Rattle.swp_base.specs.declared.control_frames.Control.{Control}
 use Rattle.swp_lpdu.specs.Controls.{lpdu_of}
@@ -28,14 +28,14 @@ use Rattle.hci_store.proofs.Starting.{counted}
 use Rattle.link_laws.specs.machine.Machine.{LinkInput, Message, is_held}
 use Rattle.link_laws.specs.machine.Machine.Turn.{FetchMessage, Hold}
 use Rattle.node_machine.specs.Parts.{Core, Port, Running, Work, Deed}
-use Rattle.node_machine.specs.Carrying.{all_done, end_of_node, lack, needs, noting, port_at, turn_at, unless_cut, with_desk, own_view, end_view}
+use Rattle.node_machine.specs.Carrying.{all_done, end_of_node, lack, needs, noting, port_at, turn_at, with_desk}
 use Rattle.node_machine.specs.Turns.{deeds_of, goes_through_ends, handles, have_turns, holds_back, lets_go, passes}
-use Rattle.node_machine.specs.HostReplies.{host_deeds}
 use Rattle.node_machine.specs.Node.{all_come, boot_writes, found, steps}
 use Rattle.node_machine.specs.world.World.{runs_on}
 use Rattle.node_laws.specs.kept.Books.{WaitsAt, hosts_of_ends}
 use Rattle.node_machine.specs.Orders.{IsOnOrder}
 use Rattle.node_laws.specs.kept.Deeds.{MayBeDone}
+use Rattle.node_laws.proofs.Cases.{by_option, by_test}
 use Rattle.node_laws.proofs.kept.Booting.{good_found}
 use Rattle.node_laws.proofs.kept.HostsReply.{OneOrNone, host_may}
 use Rattle.node_laws.proofs.kept.Plainly.{plainly_desk, plainly_noting, plainly_then, plainly_turn}
@@ -49,7 +49,7 @@ use Rattle.node_laws.proofs.passes.Passing.{handles_sees}
 use Rattle.lone_laws.specs.alone.Lone.{Lone, LoneCause, LoneEvent, lone_after, lone_arrival, lone_behind_step, lone_booted, lone_end, lone_events, lone_input}
 use Rattle.lone_laws.specs.alone.Lone.{does_by_power, emits_behind, lone_step, lone_work, node_input, session_with, with_refusal}
 use Rattle.lone_laws.specs.alone.Lone.{frames_behind, noted_of_refused}
-use Rattle.lone_laws.specs.alone.Lone.LoneCause.{FrameComes, FrameIsRefused, TickComes, ResetComes, StartComes, StopComes}
+use Rattle.lone_laws.specs.alone.Lone.LoneCause.{FrameComes, FrameIsRefused}
 use Rattle.lone_laws.specs.alone.Answers.{entries_of_events_alone}
 use Rattle.lone_laws.specs.alone.Memories.{CountsAll, FindsAllButLast, FindsBehind, IsHeldBehind, IsReadyMemory, commands_of_entries}
 use Rattle.lone_laws.proofs.answered.Coming.{IsLoneInput, pass_is}
@@ -60,18 +60,16 @@ use Rattle.lone_laws.proofs.answered.Ordered.{begin_read}
 use Rattle.lone_laws.proofs.answered.Reading.{Alone, Read}
 use Rattle.lone_laws.proofs.answered.Replied.{deeds_shape}
 use Rattle.lone_laws.proofs.answered.Shapes.{IsLoneReply}
-use Rattle.lone_laws.proofs.answered.Shapes.IsLoneReply.{IsNone, IsDrop, IsSend, IsCommit, IsSet, IsHeard}
+use Rattle.lone_laws.proofs.answered.Shapes.IsLoneReply.{IsNone, IsCommit, IsSet}
 use Rattle.lone_laws.proofs.answered.Stepping.{alone_begins, lone_comes}
 use Rattle.lone_laws.proofs.answered.Whole.{Between, begin_between, booted_core, each_step}
 use Rattle.lone_laws.proofs.answered.Turning.{alone_handled, alone_here, link_is}
 
 lone_deeds : (deeds : List Deed) → IsLoneReply deeds → AllByRecursion IsLoneDeed deeds
 lone_deeds _ IsNone = tt
-lone_deeds _ (IsDrop pid) = (tt, tt)
-lone_deeds _ (IsSend to m) = (tt, tt)
 lone_deeds _ (IsCommit c to m) = (tt, (tt, (tt, tt)))
 lone_deeds _ (IsSet v to m) = (tt, (tt, tt))
-lone_deeds _ IsHeard = (tt, tt)
+lone_deeds _ _ = (tt, tt)
 
 -- ## Turns
 
@@ -97,10 +95,9 @@ module _ (rest : Core) (number h : ℕ) (some : 1 ≤ h) (most : h ≤ 7) (its :
   on_none w a = subst (IsOnOrder w.core.command) (sym a.init) tt
 
   small : (w : Work) → Of w → w.core.node ≤ 7
-  small w a = by (eqb number 0) refl where
-    by : (b : Bool) → eqb number 0 ≡ b → w.core.node ≤ 7
-    by true q = let zero : number ≡ 0 = Rattle.std.proofs.lemmas.Bool.eqb-true number 0 q in let n = a.node in omega (arith, zero, n)
-    by false q = let same = its q in let n = a.node in omega (arith, same, n, most)
+  small w a = by_test (eqb number 0)
+      (λ q. let zero : number ≡ 0 = Rattle.std.proofs.lemmas.Bool.eqb-true number 0 q in let n = a.node in omega (arith, zero, n))
+      (λ q. let same = its q in let n = a.node in omega (arith, same, n, most))
 
   turn_may : (k : ℕ) (m : Message) (w : Work) → Has w → Of w → k ≡ h
       → MayBeDone (Some w.core.journal) w.core.command w.core.init (deeds_of w.core w.ports k m)
@@ -109,11 +106,7 @@ module _ (rest : Core) (number h : ℕ) (some : 1 ≤ h) (most : h ≤ 7) (its :
     by true q =
         rw q (controller_may w.core (on_none w a) g.sorted w.ports (waits_none w a) k (subst (λ n. 1 ≤ n) (sym same) some)
         (subst (λ n. n ≤ 7) (sym same) most) m)
-    by false q = rw q (go (port_at w.ports k)) where
-      go : (o : Option Port)
-          → MayBeDone (Some w.core.journal) w.core.command w.core.init (option_map_or (λ e. host_deeds (own_view w.core) e m) (option_map end_view o) [])
-      go None = on_none w a
-      go (Some p) = host_may w.core (on_none w a) g.sorted (small w a) p m
+    by false q = rw q (by_option (port_at w.ports k) (λ q. rw q (on_none w a)) (λ p q. rw q (host_may w.core (on_none w a) g.sorted (small w a) p m)))
 
   handled_holds : (k : ℕ) (m : Message) (messages : List Message) (w : Work) → Has w → Of w → waiting_at w.ports k ≡ m ∷ messages
       → Fine (handles k m (deeds_of w.core w.ports k m) w)
@@ -130,51 +123,32 @@ module _ (rest : Core) (number h : ℕ) (some : 1 ≤ h) (most : h ≤ 7) (its :
       (lone_deeds (deeds_of w.core w.ports k m) (deeds_shape rest number h some most s t k m w a here.own)) (turn_may k m w g a same)
 
   held_holds : (k : ℕ) (short : ℕ × ℕ) (w : Work) → Has w → Has (holds_back k short w)
-  held_holds k short w g = go (option_map_or (λ (p : Port). p.desk.holds) (port_at w.ports k) false) where
-    x : Work
-    x = noting (entry.Held (end_of_node w.core k) short.0 short.1 ∷ []) w
+  held_holds k short w g = by_test (option_map_or (λ (p : Port). p.desk.holds) (port_at w.ports k) false)
+      (λ q. rw q (plainly_holds E tables many before old w (turn_at k (Hold true) w) (plainly_turn k (Hold true) w) g))
+      (λ q. rw q (plainly_holds E tables many before old w (turn_at k (Hold true) y)
+      (plainly_then w x (turn_at k (Hold true) y) (plainly_noting w (entry.Held (end_of_node w.core k) short.0 short.1 ∷ []) (tt, tt))
+      (plainly_then x y (turn_at k (Hold true) y) (plainly_desk k (λ d. record d { holds = true }) x (λ d. refl) (λ d z. z) (λ d c e. e))
+      (plainly_turn k (Hold true) y))) g)) where
+        x : Work
+        x = noting (entry.Held (end_of_node w.core k) short.0 short.1 ∷ []) w
 
-    y : Work
-    y = with_desk k (λ d. record d { holds = true }) x
-
-    by : Bool → Work
-    by true = turn_at k (Hold true) w
-    by false = turn_at k (Hold true) y
-
-    go : (b : Bool) → Has (by b)
-    go true = plainly_holds E tables many before old w (turn_at k (Hold true) w) (plainly_turn k (Hold true) w) g
-    go false =
-        plainly_holds E tables many before old w (turn_at k (Hold true) y)
-        (plainly_then w x (turn_at k (Hold true) y) (plainly_noting w (entry.Held (end_of_node w.core k) short.0 short.1 ∷ []) (tt, tt))
-        (plainly_then x y (turn_at k (Hold true) y) (plainly_desk k (λ d. record d { holds = true }) x (λ d. refl) (λ d z. z) (λ d c e. e))
-        (plainly_turn k (Hold true) y))) g
+        y : Work
+        y = with_desk k (λ d. record d { holds = true }) x
 
   left_holds : (k : ℕ) (w : Work) → Has w → Has (lets_go k w)
-  left_holds k w g = go (option_map_or (λ (p : Port). is_held p.side) (port_at w.ports k) false) where
-    by : Bool → Work
-    by true = turn_at k (Hold false) w
-    by false = w
-
-    go : (b : Bool) → Has (by b)
-    go true = plainly_holds E tables many before old w (turn_at k (Hold false) w) (plainly_turn k (Hold false) w) g
-    go false = g
+  left_holds k w g = by_test (option_map_or (λ (p : Port). is_held p.side) (port_at w.ports k) false)
+      (λ q. rw q (plainly_holds E tables many before old w (turn_at k (Hold false) w) (plainly_turn k (Hold false) w) g))
+      (λ q. rw q g)
 
   turns_hold : (k : ℕ) (messages : List Message) (w : Work) → Has w → Of w → waiting_at w.ports k ≡ messages → Fine (have_turns k messages w)
   turns_hold k [] w g a waits = inl (left_holds k w g)
-  turns_hold k (m ∷ messages) w g a waits = go (lack w.ports (needs k deeds)) (turns_hold k messages) where
-    deeds : List Deed
-    deeds = deeds_of w.core w.ports k m
-
-    by : Option (ℕ × ℕ) → Work
-    by None = unless_cut (have_turns k messages) (handles k m deeds w)
-    by (Some short) = holds_back k short w
-
-    go : (o : Option (ℕ × ℕ)) → ((v : Work) → Has v → Of v → waiting_at v.ports k ≡ messages → Fine (have_turns k messages v)) → Fine (by o)
-    go None later =
-        then_hold E tables many before old (have_turns k messages) (handles k m deeds w) (handled_holds k m messages w g a waits)
-        (λ z. later (handles k m deeds w) z (alone_handled number h some most r t k m messages w a waits z.on)
-        (handles_sees k m messages deeds w waits).0)
-    go (Some short) later = inl (held_holds k short w g)
+  turns_hold k (m ∷ messages) w g a waits = by_option (lack w.ports (needs k deeds))
+      (λ q. rw q (then_hold E tables many before old (have_turns k messages) (handles k m deeds w) (handled_holds k m messages w g a waits)
+      (λ z. turns_hold k messages (handles k m deeds w) z (alone_handled number h some most r t k m messages w a waits z.on)
+      (handles_sees k m messages deeds w waits).0)))
+      (λ short q. rw q (inl (held_holds k short w g))) where
+        deeds : List Deed
+        deeds = deeds_of w.core w.ports k m
 
   pass_holds : (w : Work) → Has w → Of w → Fine (passes w)
   pass_holds w g a =
@@ -225,11 +199,7 @@ module _ (rest : Core) (number h : ℕ) (some : 1 ≤ h) (most : h ≤ 7) (its :
 
 arrival_none : (l : Lone) (c : LoneCause) → commands_of_entries (lone_arrival l c) ≡ []
 arrival_none l (FrameComes bytes) = refl
-arrival_none l (FrameIsRefused fault) = refl
-arrival_none l TickComes = refl
-arrival_none l (ResetComes window) = refl
-arrival_none l (StartComes value) = refl
-arrival_none l StopComes = refl
+arrival_none l _ = refl
 
 emits_none : (e : End) (frames : List Control) → commands_of_entries (map (λ c. entry.Emit e (lpdu_of c)) frames) ≡ []
 emits_none e [] = refl
@@ -336,16 +306,12 @@ module _ (E : Type 0) (tables : HciTables) (many : ℕ) where
   refused_remembers t l n on (FrameIsRefused fault) q b =
       subst (λ (x : Lone × List Entry). AllRemembered E tables many (t ++ x.1) x.0) (sym (ap (does_by_power l (FrameIsRefused fault)) on))
       (remembers_on t (noted_of_refused l (FrameIsRefused fault)) l.memory n (with_refusal l.link n) refl refl b)
-  refused_remembers t l n on (FrameComes bytes) q b = absurd (cc q)
-  refused_remembers t l n on TickComes q b = absurd (cc q)
-  refused_remembers t l n on (ResetComes window) q b = absurd (cc q)
-  refused_remembers t l n on (StartComes value) q b = absurd (cc q)
-  refused_remembers t l n on StopComes q b = absurd (cc q)
+  refused_remembers t l n on _ q b = absurd (cc q)
 
   module _ (rest : Core) (number h : ℕ) (some : 1 ≤ h) (most : h ≤ 7) (its : eqb number 0 ≡ false → number ≡ h) where
     step_remembers : (t : List Entry) (l : Lone) (c : LoneCause) → is_some l.node ≡ true → Between rest number h t l → AllRemembered E tables many t l
         → AllRemembered E tables many (t ++ (lone_step l c).1) (lone_step l c).0
-    step_remembers t l c runs k b = by_node l.node refl where
+    step_remembers t l c runs k b = by_option l.node (λ off. absurd (true≢false (sym runs ∙ ap is_some off))) (λ n on. by_input n on (lone_input c) refl) where
       by_input : (n : Running) → l.node ≡ Some n → (o : Option LinkInput) → lone_input c ≡ o
           → AllRemembered E tables many (t ++ (lone_step l c).1) (lone_step l c).0
       by_input n on (Some i) q =
@@ -353,10 +319,6 @@ module _ (E : Type 0) (tables : HciTables) (many : ℕ) where
           (λ z. k.number_is ∙ (its (ap (λ x. eqb x 0) (sym k.number_is) ∙ z) ∙ sym k.link_is)) n on (k.all n on).keep c i q
           (subst (RemembersBy E tables many t l.memory) on b)
       by_input n on None q = refused_remembers t l n on c q (subst (RemembersBy E tables many t l.memory) on b)
-
-      by_node : (o : Option Running) → l.node ≡ o → AllRemembered E tables many (t ++ (lone_step l c).1) (lone_step l c).0
-      by_node None off = absurd (true≢false (sym runs ∙ ap is_some off))
-      by_node (Some n) on = by_input n on (lone_input c) refl
 
     off_stays : (causes : List LoneCause) (l : Lone) → l.node ≡ None → lone_after l causes ≡ l
     off_stays [] l off = refl
@@ -490,26 +452,24 @@ module _ (number h : ℕ) (m : Memory) (ready : IsReadyMemory m.content) where
 -- what is remembered is held
 held_behind : (first : List ℕ) (t : List Entry) (l : Lone) → AllRemembered (Counted first) (start first) (count first) t l
     → IsHeldBehind first (commands_of_entries t) l
-held_behind first t l a = by l.node refl where
-  E : Type 0
-  E = Counted first
+held_behind first t l a = by_option l.node
+    (λ q. rw q (either (subst (RemembersBy E (start first) (count first) t l.memory) q a)))
+    (λ n q. rw q (holds n (subst (RemembersBy E (start first) (count first) t l.memory) q a))) where
+      E : Type 0
+      E = Counted first
 
-  holds : (n : Running) → Remembers E (start first) (count first) t l.memory n → FindsBehind first (commands_of_entries t) l.memory.content
-  holds n b =
-      found_behind first (commands_of_entries t) l.memory.content
-      (subst (λ x. FindsIf E l.memory.content x (min (count first + length (commands_of_entries t)) (2 ^ 32 - 1))) b.tables_are
-      (finds_counting E l.memory.content n.core.tables (count_of n.core.journal) (min (count first + length (commands_of_entries t)) (2 ^ 32 - 1))
-      b.knows.finds b.count_is))
+      holds : (n : Running) → Remembers E (start first) (count first) t l.memory n → FindsBehind first (commands_of_entries t) l.memory.content
+      holds n b =
+          found_behind first (commands_of_entries t) l.memory.content
+          (subst (λ x. FindsIf E l.memory.content x (min (count first + length (commands_of_entries t)) (2 ^ 32 - 1))) b.tables_are
+          (finds_counting E l.memory.content n.core.tables (count_of n.core.journal) (min (count first + length (commands_of_entries t)) (2 ^ 32 - 1))
+          b.knows.finds b.count_is))
 
-  either : FindsMore E (start first) (count first) (commands_of_entries t) l.memory.content
-      ⊎ FindsLess E (start first) (count first) (commands_of_entries t) l.memory.content
-      → FindsBehind first (commands_of_entries t) l.memory.content ⊎ FindsAllButLast first (commands_of_entries t) l.memory.content
-  either (inl all) = inl (found_behind first (commands_of_entries t) l.memory.content all)
-  either (inr less) = inr (found_less first (commands_of_entries t) l.memory.content less)
-
-  by : (o : Option Running) → l.node ≡ o → IsHeldBehind first (commands_of_entries t) l
-  by None q = rw q (either (subst (RemembersBy E (start first) (count first) t l.memory) q a))
-  by (Some n) q = rw q (holds n (subst (RemembersBy E (start first) (count first) t l.memory) q a))
+      either : FindsMore E (start first) (count first) (commands_of_entries t) l.memory.content
+          ⊎ FindsLess E (start first) (count first) (commands_of_entries t) l.memory.content
+          → FindsBehind first (commands_of_entries t) l.memory.content ⊎ FindsAllButLast first (commands_of_entries t) l.memory.content
+      either (inl all) = inl (found_behind first (commands_of_entries t) l.memory.content all)
+      either (inr less) = inr (found_less first (commands_of_entries t) l.memory.content less)
 
 pub run_held : (number h : ℕ) → 1 ≤ h → h ≤ 7 → (eqb number 0 ≡ false → number ≡ h) → (m : Memory) → IsReadyMemory m.content → (causes : List LoneCause)
     → IsHeldBehind m.content (commands_of_entries (entries_of_events_alone (lone_events (lone_booted number h m) causes)))

@@ -15,6 +15,7 @@ use Rattle.link_laws.specs.machine.Machine.{Message, need_of_all}
 use Rattle.history.specs.Filters.{Saying, same_end, said_of, sent_by, sent_in, acked_after, acked_in}
 use Rattle.history.specs.Filters.Saying.{Begins, Ends, Sends, Gets, Counts, Puts, Takes, Loses}
 use Rattle.node_machine.specs.world.NodeFilters.{asking_after, asking_in, session_now, spare_at, unacknowledged_in}
+use Rattle.node_laws.proofs.Cases.{by_test}
 
 -- what an end has of its session: its number, while there is one, the messages sent in it, and how many of them are acknowledged
 pub record Talk : Type 0 where
@@ -320,10 +321,7 @@ spare_in e n s t x node none r =
       aside = set_aside (not e.at_host && is_some (asking_in t e.link))
 
       aside_none : aside ≡ 0
-      aside_none = ap (λ (o : Option (List ℕ)). set_aside (not e.at_host && is_some o)) r.unasked ∙ go e.at_host where
-        go : (b : Bool) → set_aside (not b && false) ≡ 0
-        go true = refl
-        go false = refl
+      aside_none = ap (λ (o : Option (List ℕ)). set_aside (not e.at_host && is_some o)) r.unasked ∙ by_test e.at_host (λ q. rw q refl) (λ q. rw q refl)
 
       gone : (k : ℕ) (l : List Message) → l ≡ [] → drop k l ≡ []
       gone zero l q = q

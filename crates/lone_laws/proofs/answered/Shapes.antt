@@ -23,6 +23,7 @@ use Rattle.node_machine.specs.Controller.{creation_in, asked_at, view_for, commi
 use Rattle.node_machine.specs.HostReplies.{accepts, ordered_deeds, host_deeds}
 use Rattle.node_machine.proofs.Walks.{controller_holds, ordered_holds, host_holds}
 use Rattle.lone_laws.proofs.answered.Own.{TellsNobody, tells_nobody, asks_nobody}
+use Rattle.node_laws.proofs.Cases.{by_option, by_test}
 
 pub data IsLoneReply : List Deed → Type 0 where
   IsNone : IsLoneReply []
@@ -45,10 +46,7 @@ decision_reply core h pipe (Commit c answer tell notice) a =
 decision_reply core h pipe (Ask dest notice c answer) a = absurd a
 
 link_reply : (h pipe : ℕ) (answer : List ℕ × Option ℕ) → IsLoneReply (link_deeds h pipe answer)
-link_reply h pipe answer = by answer.1 where
-  by : (o : Option ℕ) → IsLoneReply (link_deeds h pipe (answer.0, o))
-  by None = IsSend h (pipe, answer.0)
-  by (Some v) = IsSet v h (pipe, answer.0)
+link_reply h pipe answer = by_option answer.1 (λ q. rw q (IsSend h (pipe, answer.0))) (λ v q. rw q (IsSet v h (pipe, answer.0)))
 
 pub controller_reply : (core : Core) (p : Port) (h : ℕ) (m : Message) → p.desk.host ≡ h → p.desk.notice ≡ None → JoinTwo core.tables.rows
     → IsLoneReply (controller_deeds (view_of core (p ∷ [])) h m)
@@ -81,10 +79,9 @@ controller_reply core p h m host none two =
         let gone : None ≡ Some c = sym (ap creation_in (sym (ap (λ (x : Port). x.desk.notice) (same q here)) ∙ none)) ∙ asked in cc gone
 
 accepts_reply : (core : Core) (c : Command) → IsLoneReply (accepts (own_view core) c)
-accepts_reply core c = by (finds_room core c) where
-  by : (b : Bool) → IsLoneReply (commit_deeds b core.node 1 c (answer_of response.Ok []) [])
-  by true = IsCommit c core.node (1, answer_of response.Ok [])
-  by false = IsSend core.node (1, answer_of response.NotOk [])
+accepts_reply core c = by_test (finds_room core c)
+    (λ q. rw q (IsCommit c core.node (1, answer_of response.Ok [])))
+    (λ q. rw q (IsSend core.node (1, answer_of response.NotOk [])))
 
 ordered_reply : (core : Core) (errors pipe n : ℕ) (body : List ℕ) → IsLoneReply (ordered_deeds (own_view core) errors pipe n body)
 ordered_reply core errors pipe n body = ordered_holds IsLoneReply core errors pipe n body (record {

@@ -1,6 +1,6 @@
 -- A node with one link keeps over each event what is read.
 use Rattle.std.proofs.Common.{◌≡◌, ℕ, ◌≤◌, Bool, true, false, List, [], ◌∷◌, refl, sym, subst, ◌∙◌, append-nil}
-use Rattle.std.specs.Prelude.{Option, Some, None, Result, Ok, Err}
+use Rattle.std.specs.Prelude.{Some, Result, Ok, Err}
 use Rattle.std.specs.List.{AllByRecursion, flat_map}
 use Rattle.std.proofs.lemmas.Bool.{true≢false, cond_both, and_from, le-leb}
 use Rattle.swp_base.specs.declared.control_frames.Control.{Control}
@@ -16,6 +16,7 @@ use Rattle.node_machine.specs.Parts.Deed.{Commits}
 use Rattle.node_machine.specs.Carrying.{unless_cut, all_done}
 use Rattle.node_machine.specs.Turns.{passes}
 use Rattle.node_machine.specs.Node.{NodeInput, input_at, synced, steps, all_come}
+use Rattle.node_laws.proofs.Cases.{by_option}
 use Rattle.node_laws.proofs.steps.StepWalks.{all_do}
 use Rattle.node_laws.specs.passes.Passing.{ComesTo, ArePassed}
 use Rattle.node_laws.specs.passes.Passing.ComesTo.{Begins}
@@ -62,15 +63,12 @@ module _ (number h : ℕ) (some : 1 ≤ h) (most : h ≤ 7) (r : Read) (t : List
   sync_may k id q = subst (λ n. IsCommand (Sync n id)) (sym q) (and_from _ _ (le-leb 1 h some) (le-leb h 7 most))
 
   sync_own : (core : Core) (input : NodeInput) (p : Port) → p.desk.host ≡ h → AllByRecursion (IsOwnDeed number) (synced core input p)
-  sync_own core input p host = go (input_at input p) refl where
-    go : (o : Option LinkInput) → input_at input p ≡ o → AllByRecursion (IsOwnDeed number) (synced core input p)
-    go None q = rw q tt
-    go (Some i) q = by (report p.side i).sync refl where
-      by : (o : Option ℕ) → (report p.side i).sync ≡ o → AllByRecursion (IsOwnDeed number) (synced core input p)
-      by None e = rw (q, e) tt
-      by (Some id) e =
-          rw (q, e) (cond_both _ (Commits (Sync p.desk.host id) ∷ []) [] (AllByRecursion (IsOwnDeed number))
-          (λ _. ((λ zero. sync_may p.desk.host id host), tt)) (λ _. tt))
+  sync_own core input p host = by_option (input_at input p)
+      (λ q. rw q tt)
+      (λ i q. by_option (report p.side i).sync
+      (λ e. rw (q, e) tt)
+      (λ id e. rw (q, e) (cond_both _ (Commits (Sync p.desk.host id) ∷ []) [] (AllByRecursion (IsOwnDeed number))
+      (λ _. ((λ zero. sync_may p.desk.host id host), tt)) (λ _. tt))))
 
   pub syncs_own : (i : LinkInput) (w : Work) (a : Of w) → AllByRecursion (IsOwnDeed number) (syncs_in (node_input h i) w)
   syncs_own i w a =

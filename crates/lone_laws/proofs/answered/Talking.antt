@@ -16,11 +16,11 @@ use Rattle.shdlc_core.specs.declared.answers.LinkState.{LinkState}
 use Rattle.shdlc_core.specs.declared.answers.LinkState.TheVariants.{Down as IsDown, Waiting as IsWaitingNow, Up as IsUpNow}
 use Rattle.shdlc_core.specs.Machine.{EndState, taken, take_answer, ticked, tick_answer, stopped, reset_with}
 use Rattle.link_laws.specs.sessions.Sessions.{is_up}
-use Rattle.link_laws.specs.machine.Machine.{Message, LinkEnd, LinkInput, Refused, Report, is_open, is_faulty, moved, put_down, with_act, activated, act_answer}
+use Rattle.link_laws.specs.machine.Machine.{Message, LinkEnd, LinkInput, Report, is_open, is_faulty, moved, put_down, with_act, activated, act_answer}
 use Rattle.link_laws.specs.machine.Machine.{role_after, heard, news}
-use Rattle.link_laws.specs.machine.Machine.{reset_by, window_of, reset_refusal, unless, after_input, ended_by, began_by, got_by, report}
+use Rattle.link_laws.specs.machine.Machine.{window_of, reset_refusal, after_input, ended_by, began_by, got_by, report}
 use Rattle.link_laws.specs.machine.Machine.{whole_among, whole_acked}
-use Rattle.link_laws.specs.machine.Machine.LinkInput.{Take, TakeUnknown, TakeBroken, Tick, Reset, Start, Stop, FromNode, Fetch}
+use Rattle.link_laws.specs.machine.Machine.LinkInput.{Take, TakeUnknown, Tick, Reset, Start, Stop}
 use Rattle.link_laws.proofs.machine.Shifts.{Shift, IsNotUp}
 use Rattle.link_laws.proofs.machine.Shifts.Shift.{Stays, Ends, Renews, Begins, Rests}
 use Rattle.link_laws.proofs.machine.Sound.{Data, SentAfter, whole_more}
@@ -32,6 +32,7 @@ use Rattle.history.specs.Filters.{same_end}
 use Rattle.history.specs.Steps.{end_of, entry_of, entries_for}
 use Rattle.lone_laws.proofs.answered.Coming.{IsLoneInput}
 use Rattle.lone_laws.proofs.answered.Sessions.{Talk, no_session_now, AreSilent, Reads, reads_silent, reads_down, reads_up, reads_acked}
+use Rattle.node_laws.proofs.Cases.{by_option, by_test}
 
 -- ## What is told
 
@@ -71,14 +72,6 @@ module _ (e : End) (n h : ℕ) (who : Side) (own : same_end (end_of h who) e ≡
   up_told s k t true x more same r = reads_up e n t (end_of h who) own s x k (more refl) r
   up_told s k t false x more same r = none_told k t x (subst (λ j. Reads e n j t x) (same refl) r)
 
-  active_silent : (b : Bool) → AreSilent (noted (if_so b (Active who)))
-  active_silent true = (tt, tt)
-  active_silent false = tt
-
-  tries_silent : (o : Option ℕ) → AreSilent (noted (map (GaveUp who) (option_to_list o)))
-  tries_silent None = tt
-  tries_silent (Some k) = (tt, tt)
-
   got_silent : (k : ℕ) (ms : List Message) → AreSilent (noted (map (Got who k) ms))
   got_silent k [] = tt
   got_silent k (m ∷ ms) = (tt, got_silent k ms)
@@ -112,8 +105,8 @@ module _ (e : End) (n h : ℕ) (who : Side) (own : same_end (end_of h who) e ≡
       let t5 : List Entry = t4 ++ noted five in
       let r1 : Reads e n s t1 x1 = down_told s t rep.ended x r in
       let r2 : Reads e n k t2 x2 = up_told s k t1 rep.began x1 more same r1 in
-      let r3 : Reads e n k t3 x2 = reads_silent e n k t2 (noted three) x2 (active_silent rep.became_active) r2 in
-      let r4 : Reads e n k t4 x2 = reads_silent e n k t3 (noted four) x2 (tries_silent rep.gave_up) r3 in
+      let r3 : Reads e n k t3 x2 = reads_silent e n k t2 (noted three) x2 (by_test rep.became_active (λ q. rw q (tt, tt)) (λ q. rw q tt)) r2 in
+      let r4 : Reads e n k t4 x2 = reads_silent e n k t3 (noted four) x2 (by_option rep.gave_up (λ q. rw q tt) (λ k q. rw q (tt, tt))) r3 in
       let r5 : Reads e n k t5 x5 = acked_told k k acked t4 (nat_lt 0 rep.acked) x2 grows r4 in
       let r6 : Reads e n k (t5 ++ noted six) x5 = reads_silent e n k t5 (noted six) x5 (got_silent k rep.got) r5 in
       both_told k t one (two ++ (three ++ (four ++ (five ++ six)))) x5
@@ -127,10 +120,9 @@ same_acked true count x q = ap (λ c. record x { acked = c }) q
 same_acked false count x q = refl
 
 grown_acked : (a c : ℕ) (x : Talk) → x.acked ≡ a → a ≤ c → acked_if (nat_lt 0 (c - a)) c x ≡ record x { acked = c }
-grown_acked a c x q low = go (nat_lt 0 (c - a)) refl where
-  go : (b : Bool) → nat_lt 0 (c - a) ≡ b → acked_if b c x ≡ record x { acked = c }
-  go true z = refl
-  go false z = let less = ltb-false 0 (c - a) z in let same : a ≡ c = omega (arith, less, low) in ap (λ k. record x { acked = k }) (q ∙ same)
+grown_acked a c x q low = by_test (nat_lt 0 (c - a))
+    (λ z. rw z refl)
+    (λ z. rw z (let less = ltb-false 0 (c - a) z in let same : a ≡ c = omega (arith, less, low) in ap (λ k. record x { acked = k }) (q ∙ same)))
 
 not_up : (p : LinkState) → (p ≡ IsUpNow → ⊥) → is_up p ≡ false
 not_up IsUpNow f = absurd (f refl)
@@ -244,9 +236,7 @@ input_talk s (Start value) may sound k m number =
     (start_so s value sound)
 input_talk s Stop may sound k m number =
     shift_talk s (after_input s Stop) (is_some (ended_by s Stop)) false k m sound.is (λ q. number refl) (got_by s Stop) (stop_so s sound)
-input_talk s (TakeBroken fault) may sound k m number = absurd may
-input_talk s (FromNode x) may sound k m number = absurd may
-input_talk s Fetch may sound k m number = absurd may
+input_talk s _ may sound k m number = absurd may
 
 -- what is acknowledged of an input
 abbrev pub Grows : LinkEnd → LinkInput → ℕ → ℕ → Type 0
@@ -270,9 +260,7 @@ input_grows s (Start value) may sound k m number z =
     (start_so s value sound) z
 input_grows s Stop may sound k m number z =
     shift_grows s (after_input s Stop) (is_some (ended_by s Stop)) false k m sound.is (λ q. number refl) (got_by s Stop) (stop_so s sound) z
-input_grows s (TakeBroken fault) may sound k m number z = absurd may
-input_grows s (FromNode x) may sound k m number z = absurd may
-input_grows s Fetch may sound k m number z = absurd may
+input_grows s _ may sound k m number z = absurd may
 
 -- ## Blocks set aside
 
@@ -289,8 +277,7 @@ down_aside false e = refl
 down_aside true e = go e.shdlc.phase refl where
   go : (p : LinkState) → e.shdlc.phase ≡ p → (put_down true e).aside ≡ e.aside
   go IsUpNow q = rw q refl
-  go IsWaitingNow q = rw q refl
-  go IsDown q = rw q refl
+  go _ q = rw q refl
 
 activated_aside : (e : LinkEnd) (event : ActEvent) → (activated e event).aside ≡ e.aside
 activated_aside e event =
@@ -317,12 +304,7 @@ input_aside e TakeUnknown a = refl
 input_aside e Tick a =
     cond_both (is_open e.role) (moved e (is_some (tick_answer e.shdlc).ended) (ticked e.shdlc)) (activated e ActTick) (λ f. f.aside ≡ e.aside)
     (λ _. moved_aside e (is_some (tick_answer e.shdlc).ended) (ticked e.shdlc)) (λ _. activated_aside e ActTick)
-input_aside e (Reset window) a = by (reset_refusal e) where
-  by : (o : Option Refused) → (unless o e (reset_by e (window_of e window))).aside ≡ e.aside
-  by None = moved_aside e _ (reset_with e.shdlc (window_of e window))
-  by (Some why) = refl
+input_aside e (Reset window) a = by_option (reset_refusal e) (λ q. rw q (moved_aside e _ (reset_with e.shdlc (window_of e window)))) (λ why q. rw q refl)
 input_aside e (Start value) a = activated_aside (moved e true (stopped e.shdlc)) (ActStart value)
 input_aside e Stop a = activated_aside (moved e true (stopped e.shdlc)) ActStop
-input_aside e (TakeBroken fault) a = absurd a
-input_aside e (FromNode x) a = absurd a
-input_aside e Fetch a = absurd a
+input_aside e _ a = absurd a

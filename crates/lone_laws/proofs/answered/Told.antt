@@ -14,6 +14,7 @@ use Rattle.node_machine.specs.Parts.{Core, Deed}
 use Rattle.node_machine.specs.Parts.Deed.{Commits, Sends, SaysOk, Drops}
 use Rattle.node_machine.specs.Carrying.{end_of_number}
 use Rattle.node_laws.specs.passes.Noting.{entries_of_reply, next_count, sent_in_session}
+use Rattle.node_laws.proofs.Cases.{by_test}
 use Rattle.lone_laws.specs.alone.Lone.{end_of_node_alone}
 use Rattle.lone_laws.specs.alone.Known.{core_with, core_noted, core_since}
 use Rattle.lone_laws.specs.alone.Answers.{telling_count}
@@ -32,16 +33,10 @@ entries_of_deeds core e session (Drops pid ∷ deeds) = entry.Dropped e pid ∷ 
 entries_of_deeds core e session (_ ∷ deeds) = entries_of_deeds core e session deeds
 
 pub link_of_end : (number h : ℕ) → (end_of_node_alone number h).link ≡ h
-link_of_end number h = go (eqb number 0) refl where
-  go : (b : Bool) → eqb number 0 ≡ b → (end_of_node_alone number h).link ≡ h
-  go true q = rw q refl
-  go false q = rw q refl
+link_of_end number h = by_test (eqb number 0) (λ q. rw q refl) (λ q. rw q refl)
 
 pub same_number : (number h : ℕ) → end_of_number number h ≡ end_of_node_alone number h
-same_number number h = go (eqb number 0) refl where
-  go : (b : Bool) → eqb number 0 ≡ b → end_of_number number h ≡ end_of_node_alone number h
-  go true q = rw q refl
-  go false q = rw q refl
+same_number number h = by_test (eqb number 0) (λ q. rw q refl) (λ q. rw q refl)
 
 module _ (number h : ℕ) (session : Option ℕ) where
   abbrev e : End
@@ -55,14 +50,11 @@ module _ (number h : ℕ) (session : Option ℕ) where
 
   sent_is : (to : ℕ) (m : Message) → sent_in_session number sessions to m ≡ sent to m
   sent_is to m =
-      go (eqb to h) refl
-      ∙ sym (ap (λ k. cond (eqb to k) (option_map_or (λ n. entry.Sent e n m.0 m.1 ∷ []) session []) []) (link_of_end number h)) where
-        go : (b : Bool) → eqb to h ≡ b
-            → option_map_or (λ n. entry.Sent (end_of_number number to) n m.0 m.1 ∷ []) (cond b session None) []
-            ≡ cond b (option_map_or (λ n. entry.Sent e n m.0 m.1 ∷ []) session []) []
-        go true q =
-            ap (λ (f : End). option_map_or (λ n. entry.Sent f n m.0 m.1 ∷ []) session []) (ap (end_of_number number) (eqb-true to h q) ∙ same_number number h)
-        go false q = refl
+      by_test (eqb to h)
+      (λ q. rw q (ap (λ (f : End). option_map_or (λ n. entry.Sent f n m.0 m.1 ∷ []) session [])
+      (ap (end_of_number number) (eqb-true to h q) ∙ same_number number h)))
+      (λ q. rw q refl)
+      ∙ sym (ap (λ k. cond (eqb to k) (option_map_or (λ n. entry.Sent e n m.0 m.1 ∷ []) session []) []) (link_of_end number h))
 
   -- a message that is sent changes nothing of what is kept, and tells no count
   sent_told : (core : Core) (to : ℕ) (m : Message) (es : List Entry) → map (telling_count core) (sent to m ++ es) ≡ sent to m ++ map (telling_count core) es

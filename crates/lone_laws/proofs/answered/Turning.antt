@@ -12,8 +12,9 @@ use Rattle.link_laws.specs.machine.Machine.{Message}
 use Rattle.link_laws.specs.machine.Machine.Turn.{Hold, FetchMessage}
 use Rattle.history.specs.Filters.{same_end, same_side}
 use Rattle.node_machine.specs.Parts.{Core, Port, Work}
-use Rattle.node_machine.specs.Carrying.{end_of_node, noting, port_at, changed_if, with_port, with_desk, after_turn, turn_at}
+use Rattle.node_machine.specs.Carrying.{end_of_node, noting, port_at, changed_if, with_port, with_desk, after_turn}
 use Rattle.node_machine.specs.Turns.{deeds_of, handles, holds_back}
+use Rattle.node_laws.proofs.Cases.{by_test}
 use Rattle.node_laws.proofs.steps.StepWalks.{all_do, lets}
 use Rattle.node_laws.specs.passes.Passing.{waiting_at, takes_up, LastsOverTurns, ComesTo}
 use Rattle.node_laws.proofs.passes.Passing.{comes_so, takes_entries}
@@ -24,12 +25,8 @@ use Rattle.lone_laws.proofs.answered.Reading.{alone_does}
 
 -- ## Its end
 
-side_self : (b : Bool) → same_side b b ≡ true
-side_self true = refl
-side_self false = refl
-
 pub same_self : (e : End) → same_end e e ≡ true
-same_self e = ap (λ b. b && same_side e.at_host e.at_host) (eqb_same e.link) ∙ side_self e.at_host
+same_self e = ap (λ b. b && same_side e.at_host e.at_host) (eqb_same e.link) ∙ by_test e.at_host (λ q. rw q refl) (λ q. rw q refl)
 
 -- the end of a node with this number
 pub own_end : (core : Core) (number h k : ℕ) → core.node ≡ number → k ≡ h → end_of_node core k ≡ end_of_node_alone number h
@@ -141,17 +138,11 @@ module _ (number h : ℕ) (some : 1 ≤ h) (most : h ≤ 7) (r : Read) (t : List
 
   pub alone_held : (k : ℕ) (m : Message) (messages : List Message) (short : ℕ × ℕ) (w : Work) → Of w → waiting_at w.ports k ≡ m ∷ messages
       → Of (holds_back k short w)
-  alone_held k m messages short w a waits = go (option_map_or (λ (p : Port). p.desk.holds) (port_at w.ports k) false) where
-    marked : Work
-    marked = with_desk k (λ d. record d { holds = true }) (noting (entry.Held (end_of_node w.core k) short.0 short.1 ∷ []) w)
-
-    by : Bool → Work
-    by true = turn_at k (Hold true) w
-    by false = turn_at k (Hold true) marked
-
-    go : (b : Bool) → Of (by b)
-    go true = alone_turn number h r t k (Hold true) w tt a
-    go false = alone_turn number h r t k (Hold true) marked tt (alone_marked k m messages short.0 short.1 w a waits)
+  alone_held k m messages short w a waits = by_test (option_map_or (λ (p : Port). p.desk.holds) (port_at w.ports k) false)
+      (λ q. rw q (alone_turn number h r t k (Hold true) w tt a))
+      (λ q. rw q (alone_turn number h r t k (Hold true) marked tt (alone_marked k m messages short.0 short.1 w a waits))) where
+        marked : Work
+        marked = with_desk k (λ d. record d { holds = true }) (noting (entry.Held (end_of_node w.core k) short.0 short.1 ∷ []) w)
 
   -- ## All turns
 

@@ -25,12 +25,11 @@ use Rattle.tables_laws.proofs.tables.TwoHosts.{JoinTwo-after, JoinTwo-closed}
 use Rattle.hci_store.specs.Image.{applied, tables_of}
 use Rattle.node_machine.specs.world.NodeLegal.{AreInTurn}
 use Rattle.node_laws.specs.answers.Moments.{holds_after, unhandled_after}
+use Rattle.node_laws.proofs.Cases.{by_option, by_test}
 use Rattle.node_laws.proofs.kept.Booting.{command_read}
 use Rattle.link_laws.specs.messages.Links.Loss.{Broken}
 use Rattle.history.specs.Steps.{lost_as}
-use Rattle.link_laws.specs.machine.Machine.{LinkInput, oldest, new_link_end}
-use Rattle.swp_act.specs.Activation.{new_clf, new_uicc}
-use Rattle.link_laws.specs.machine.Machine.Role.{Clf, Uicc}
+use Rattle.link_laws.specs.machine.Machine.{LinkInput, oldest}
 use Rattle.link_laws.proofs.machine.Runs.{new_sound}
 use Rattle.node_machine.specs.Parts.{Desk, Core, Running, Work}
 use Rattle.node_machine.specs.Carrying.{changed_if}
@@ -42,7 +41,7 @@ use Rattle.node_laws.specs.views.Errors.{ErrorCount}
 use Rattle.node_laws.proofs.reply_passes.Sides.{IsNoBoot}
 use Rattle.lone_laws.specs.alone.Lone.{Lone, LoneCause, LoneEvent, lone_end, lone_input, node_input, lone_arrival, lone_work, emits_behind, with_refusal}
 use Rattle.lone_laws.specs.alone.Lone.{frames_behind, noted_of_refused, lone_behind_step, does_by_power, lone_step, lone_events, lone_booted, role_alone}
-use Rattle.lone_laws.specs.alone.Lone.LoneCause.{FrameComes, FrameIsRefused, TickComes, ResetComes, StartComes, StopComes}
+use Rattle.lone_laws.specs.alone.Lone.LoneCause.{FrameIsRefused}
 use Rattle.lone_laws.specs.alone.Known.{errors_found}
 use Rattle.lone_laws.specs.alone.Answers.{AtEachNoted, AtEachLoneEvent, entries_of_events_alone, runs_behind, is_at_rest, is_left_lacking}
 use Rattle.lone_laws.specs.alone.Answers.{is_done_alone}
@@ -55,9 +54,7 @@ use Rattle.lone_laws.proofs.answered.Lasting.{LoneKeeps, IfKeeps, step_is, keeps
 use Rattle.lone_laws.proofs.answered.Events.{at_each, none_at}
 use Rattle.lone_laws.proofs.answered.Powers.{cut_noted, any_more}
 use Rattle.lone_laws.proofs.answered.Ordered.{OrderAt, begin_read, ended, at_rest, at_own_end, in_order, order_silent}
-use Rattle.lone_laws.proofs.answered.Roles.{kind_of}
 use Rattle.lone_laws.proofs.answered.Sessions.{no_session_now, Reads, reads_silent}
-use Rattle.lone_laws.proofs.answered.Growing.{IsNumbered}
 use Rattle.lone_laws.proofs.answered.Talking.{talk_of_side}
 use Rattle.lone_laws.proofs.answered.Errors.{errs_all, errs-append}
 use Rattle.lone_laws.proofs.answered.Answering.{replied_silent, answered_in_step}
@@ -129,12 +126,10 @@ module _ (rest : Core) (t : List Entry) (l : Lone) (some : 1 ≤ l.link) (most :
 
   -- where it runs behind it, it kept its power
   ran : runs_behind l.number event ≡ true → last.cut ≡ false
-  ran q = go last.cut refl where
-    go : (b : Bool) → last.cut ≡ b → last.cut ≡ false
-    go false z = z
-    go true z =
-        absurd (not_true (list_any (is_cut_of l.number) es) q
-        (cut_same l.number es own ∙ any_more last.entries (emits_behind l last) (cut_noted (node_input l.link i) (lone_work l n i (lone_arrival l c)) refl z)))
+  ran q = by_test last.cut
+      (λ z. absurd (not_true (list_any (is_cut_of l.number) es) q
+      (cut_same l.number es own ∙ any_more last.entries (emits_behind l last) (cut_noted (node_input l.link i) (lone_work l n i (lone_arrival l c)) refl z))))
+      (λ z. z)
 
   facts : EventFacts G l.link t event
   facts = record {
@@ -188,9 +183,7 @@ module _ (rest : Core) (t : List Entry) (l : Lone) (some : 1 ≤ l.link) (most :
 
 refused_true : (f : FrameFault) → was_refused (lost_as (Broken f)) ≡ true
 refused_true (fault.Length bits) = refl
-refused_true (fault.Alignment bits) = refl
-refused_true (fault.Crc want got) = refl
-refused_true fault.Broken = refl
+refused_true _ = refl
 
 module _ (rest : Core) (t : List Entry) (l : Lone) (n : Running) (on : l.node ≡ Some n) (k : KeepsAll rest t l n) (f : FrameFault) where
   abbrev J : Core
@@ -288,7 +281,7 @@ module _ (rest : Core) (number h : ℕ) (some : 1 ≤ h) (most : h ≤ 7) (its :
 
   pub each_step : (t : List Entry) (l : Lone) (c : LoneCause) → is_some l.node ≡ true → Between rest number h t l
       → EventFacts F h t (record { cause = c; entries = (lone_step l c).1 }) × Between rest number h (t ++ (lone_step l c).1) (lone_step l c).0
-  each_step t l c runs b = by_node l.node refl where
+  each_step t l c runs b = by_option l.node (λ off. absurd (true≢false (sym runs ∙ ap is_some off))) (λ n on. so (by_input n on (lone_input c) refl)) where
     its_l : eqb l.number 0 ≡ false → l.number ≡ l.link
     its_l q = b.number_is ∙ (its (ap (λ x. eqb x 0) (sym b.number_is) ∙ q) ∙ sym b.link_is)
 
@@ -310,16 +303,7 @@ module _ (rest : Core) (number h : ℕ) (some : 1 ≤ h) (most : h ≤ 7) (its :
     by_input n on None q = by_cause c q where
       by_cause : (c : LoneCause) → lone_input c ≡ None → Step t c (lone_step l c) l.number l.link
       by_cause (FrameIsRefused f) q = refused_step rest t l n on (b.all n on) f some_l most_l (b.rests n on)
-      by_cause (FrameComes bytes) q = absurd (cc q)
-      by_cause TickComes q = absurd (cc q)
-      by_cause (ResetComes window) q = absurd (cc q)
-      by_cause (StartComes value) q = absurd (cc q)
-      by_cause StopComes q = absurd (cc q)
-
-    by_node : (o : Option Running) → l.node ≡ o
-        → EventFacts F h t (record { cause = c; entries = (lone_step l c).1 }) × Between rest number h (t ++ (lone_step l c).1) (lone_step l c).0
-    by_node None off = absurd (true≢false (sym runs ∙ ap is_some off))
-    by_node (Some n) on = so (by_input n on (lone_input c) refl)
+      by_cause _ q = absurd (cc q)
 
   pub each_event : (causes : List LoneCause) (t : List Entry) (l : Lone) → Between rest number h t l
       → (past back : List LoneEvent) (o : LoneEvent) → lone_events l causes ≡ past ++ (o ∷ back) → EventFacts F h (t ++ entries_of_events_alone past) o
@@ -350,10 +334,6 @@ module _ (number h : ℕ) (some : 1 ≤ h) (most : h ≤ 7) (its : eqb number 0 
   abbrev l : Lone
   l = lone_booted number h m
 
-  new_talk : (b : Bool) → no_session_now ≡ talk_of_side (new_link_end (cond b (Clf new_clf) (Uicc new_uicc))) 0
-  new_talk true = refl
-  new_talk false = refl
-
   nothing_read : (e : End) (n : ℕ) → Reads e n 0 [] no_session_now
   nothing_read e n = record {
     session = refl;
@@ -364,14 +344,6 @@ module _ (number h : ℕ) (some : 1 ≤ h) (most : h ≤ 7) (its : eqb number 0 
     none_acked = λ k q. refl;
     unasked = refl;
   }
-
-  new_numbers : (b : Bool) → IsNumbered (new_link_end (cond b (Clf new_clf) (Uicc new_uicc))) 0 0
-  new_numbers true = record { emptied = refl; low = omega arith; waits = λ q. absurd (true≢false (sym q)) }
-  new_numbers false = record { emptied = refl; low = omega arith; waits = λ q. absurd (true≢false (sym q)) }
-
-  new_kind : (b : Bool) → kind_of (new_link_end (cond b (Clf new_clf) (Uicc new_uicc))).role ≡ Some b
-  new_kind true = refl
-  new_kind false = refl
 
   begin_all : (n : Running) → l.node ≡ Some n → KeepsAll booted_core [] l n
   begin_all n on = go (fails_within (length (boot_writes m.content)) m.plan) on where
@@ -392,11 +364,13 @@ module _ (number h : ℕ) (some : 1 ≤ h) (most : h ≤ 7) (its : eqb number 0 
             read = refl;
           };
           talks = record {
-            talk = subst (Reads (lone_end l) number 0 []) (new_talk (eqb number 0)) (nothing_read (lone_end l) number);
-            numbers = new_numbers (eqb number 0);
+            talk = subst (Reads (lone_end l) number 0 []) (by_test (eqb number 0) (λ q. rw q refl) (λ q. rw q refl)) (nothing_read (lone_end l) number);
+            numbers = by_test (eqb number 0)
+                (λ is. rw is (record { emptied = refl; low = omega arith; waits = λ q. absurd (true≢false (sym q)) }))
+                (λ is. rw is (record { emptied = refl; low = omega arith; waits = λ q. absurd (true≢false (sym q)) }));
             sound = new_sound (role_alone number);
             aside = refl;
-            role = new_kind (eqb number 0);
+            role = by_test (eqb number 0) (λ q. rw q refl) (λ q. rw q refl);
             clean = tt;
           };
           errs = record { are = refl; unbooted = tt };
