@@ -146,9 +146,6 @@ again_others slots o q (Some b) p live apart =
 
 -- ---- owners
 
-no_owner : Owner
-no_owner = record { quota = 0; used = 0; aside = 0 }
-
 module _ (pool : PoolState) (counted : IsCounted pool) (free : ℕ) (rest : AreFree pool.owners free) where
   -- what is set aside is used
   aside_low : (i : ℕ) → i < length pool.owners → (owner_at pool.owners i).aside ≤ (owner_at pool.owners i).used

@@ -1,5 +1,5 @@
 -- Bytes that are written behind one another in the last block of a chain.
-use Rattle.std.proofs.Common.{◌≡◌, ℕ, zero, suc, ◌+◌, ◌*◌, ◌%◌, ◌<◌, ◌≤◌, List, [], ◌∷◌, ◌++◌, length, get_or, set, take, drop}
+use Rattle.std.proofs.Common.{◌≡◌, ℕ, zero, suc, ◌+◌, ◌-◌, ◌*◌, ◌%◌, ◌<◌, ◌≤◌, List, [], ◌∷◌, ◌++◌, length, get_or, set, take, drop}
 use Rattle.std.proofs.Common.{refl, sym, ap, ◌∙◌, subst, arith, length-set, get_or-set_same, append_assoc}
 use Rattle.std.specs.Prelude.{Option, Some, None}
 use Rattle.std.proofs.lemmas.List.{set-set, take_more_set, drop-set-lt, take-append-drop}
@@ -9,7 +9,7 @@ use Rattle.block_pool.specs.Links.{region_behind}
 use Rattle.block_pool.specs.Layout.{laid_bytes, slots_of, AreSoundBlocks}
 use Rattle.block_pool.proofs.SlotLemmas.{put-put}
 use Rattle.block_pool.proofs.LinkLemmas.{in_pool}
-use Rattle.block_pool.proofs.LayoutLemmas.{push_in_block_sound, push_in_block_slots, pushed_bytes}
+use Rattle.block_pool.proofs.LayoutLemmas.{push_in_block_sound, push_in_block_slots, pushed_bytes, first_free, begin_sound, begin_slots, begun_bytes}
 
 -- bytes written one by one
 abbrev pub written : List ℕ → ℕ → List ℕ → List ℕ
@@ -92,4 +92,42 @@ fill (x ∷ y ∷ ys) region next heads free free_len sound b head place n at mo
           ∙ (put-put now b head.owner head.owner (old ++ x ∷ []) (laid_bytes (set region place x) next b (head.len + 1) ++ (y ∷ ys))
           ∙ (ap (λ bs. with_chain now b head.owner (bs ++ (y ∷ ys))) front
           ∙ ap (with_chain now b head.owner) (append_assoc old (x ∷ []) (y ∷ ys))))));
+    }
+
+-- the head of a chain of one block
+abbrev pub first_head : ℕ → ℕ → ℕ → Head
+first_head owner b n = record { owner = owner; last = b; len = n; read_on = b; passed = 0 }
+
+-- what a pool is after a chain is begun with bytes in the first free block
+pub record Begun (region next : List ℕ) (heads : List (Option Head)) (free free_len owner after : ℕ) (bytes : List ℕ) : Type 0 where
+  pub sound : AreSoundBlocks (written region (32 * free) bytes) next (set heads free (Some (first_head owner free (length bytes)))) after (free_len - 1)
+  pub slots : slots_of (written region (32 * free) bytes) next (set heads free (Some (first_head owner free (length bytes))))
+      ≡ with_chain (slots_of region next heads) free owner bytes
+
+pub begin : (bytes region next : List ℕ) (heads : List (Option Head)) (free free_len : ℕ) → AreSoundBlocks region next heads free free_len
+    → (owner after : ℕ) → 0 < free_len → after ≡ get_or next free 0 → 0 < length bytes → length bytes ≤ 32
+    → Begun region next heads free free_len owner after bytes
+begin [] region next heads free free_len sound owner after some is_next more short = absurd (omega arith)
+begin (x ∷ []) region next heads free free_len sound owner after some is_next more short = record {
+  sound = begin_sound region next heads free free_len sound owner x (32 * free) after some is_next;
+  slots = begin_slots region next heads free free_len sound owner x some;
+}
+begin (x ∷ y ∷ ys) region next heads free free_len sound owner after some is_next more short =
+    let n = length (x ∷ y ∷ ys) in
+    let first = first_head owner free 1 in
+    let low : free < length heads = omega (arith, (first_free region next heads free free_len sound some).0, sound.counted) in
+    let once = begin_sound region next heads free free_len sound owner x (32 * free) after some is_next in
+    let rest = fill (y ∷ ys) (set region (32 * free) x) next (set heads free (Some first)) after (free_len - 1) once free first (32 * free + 1) n
+    (get_or-set_same heads free (Some first) None low) (omega arith) (omega arith) (omega arith) (omega arith) (omega arith) in
+    let same = set-set heads free (Some first) (Some (first_head owner free n)) in
+    let behind = written (set region (32 * free) x) (32 * free + 1) (y ∷ ys) in
+    let now = slots_of region next heads in
+    let front = laid_bytes (set region (32 * free) x) next free 1 in
+    record {
+      sound = subst (λ hs. AreSoundBlocks behind next hs after (free_len - 1)) same rest.sound;
+      slots = ap (λ hs. slots_of behind next hs) (sym same)
+          ∙ (rest.slots
+          ∙ (ap (λ ss. with_chain ss free owner (front ++ (y ∷ ys))) (begin_slots region next heads free free_len sound owner x some)
+          ∙ (put-put now free owner owner (x ∷ []) (front ++ (y ∷ ys))
+          ∙ ap (λ bs. with_chain now free owner (bs ++ (y ∷ ys))) (begun_bytes region next heads free free_len sound x some))));
     }

@@ -207,6 +207,13 @@ module _ (region next : List ℕ) (heads : List (Option Head)) (free free_len : 
         all = omega (arith, sum_by-set head_blocks heads free (Some new) None low, ap head_blocks (no_head some), sound.all);
       }
 
+  pub begun_bytes : (byte : ℕ) → 0 < free_len → laid_bytes (set region (32 * free) byte) next free 1 ≡ byte ∷ []
+  begun_bytes byte some =
+      let plain : 32 * free + 0 ≡ 32 * free = omega arith in
+      let in_region : 32 * free < length region = omega (arith, (first_free some).0, sound.bytes) in
+      one_byte (set region (32 * free) byte) next free
+      ∙ ap (λ x. x ∷ []) (ap (λ i. get_or (set region (32 * free) byte) i 0) plain ∙ get_or-set_same region (32 * free) byte 0 in_region)
+
   pub begin_slots : (owner byte : ℕ) → 0 < free_len → slots_of (set region (32 * free) byte) next
       (set heads free (Some (record { owner = owner; last = free; len = 1; read_on = free; passed = 0 }))) ≡ with_chain
       (slots_of region next heads) free owner (byte ∷ [])
@@ -214,14 +221,10 @@ module _ (region next : List ℕ) (heads : List (Option Head)) (free free_len : 
       let first = first_free some in
       let low : free < length heads = omega (arith, first.0, sound.counted) in
       let new : Head = record { owner = owner; last = free; len = 1; read_on = free; passed = 0 } in
-      let in_region : 32 * free < length region = omega (arith, first.0, sound.bytes) in
       let plain : 32 * free + 0 ≡ 32 * free = omega arith in
-      let one : laid_bytes (set region (32 * free) byte) next free 1 ≡ byte ∷ [] =
-      one_byte (set region (32 * free) byte) next free
-      ∙ ap (λ x. x ∷ []) (ap (λ i. get_or (set region (32 * free) byte) i 0) plain ∙ get_or-set_same region (32 * free) byte 0 in_region) in
       slots_set (record {
         low = low;
-        here = ap (λ bs. Some (record { owner = owner; bytes = bs })) one;
+        here = ap (λ bs. Some (record { owner = owner; bytes = bs })) (begun_bytes byte some);
         others = λ c apart. ap (λ i. held_by (set region i byte) next c (get_or heads c None)) (sym plain)
             ∙ other_held c (get_or heads c None) refl first.1;
       })
@@ -495,9 +498,6 @@ module _ (region next : List ℕ) (heads : List (Option Head)) (fresh : ℕ) (sl
       let none : held_bytes slots b ≡ [] = ap bytes_in (slots_say b ∙ ap (held_by region next b) e) in
       let zero_long : length (held_bytes slots b) ≡ 0 = ap length none in
       absurd (omega arith)
-
-  pub block_low : (b : ℕ) → 0 < length (held_bytes slots b) → b < length heads
-  block_low b some = elim (cases_lt b (length heads)) [ inl low ↦ low | inr high ↦ absurd (not_none b some (get_or_past heads b None high)) ]
 
   pub has_head : (b : ℕ) → 0 < length (held_bytes slots b) → IsSome (get_or heads b None)
   has_head b some = by_head (get_or heads b None) refl

@@ -127,9 +127,6 @@ same_mark mark x y c k d j mx my same =
 pub other_block : (x y i j : ℕ) → x ≢ y → 32 * x + i % 32 ≢ 32 * y + j % 32
 other_block x y i j apart same = apart (omega arith)
 
-other_offset : (x i j : ℕ) → i % 32 ≢ j % 32 → 32 * x + i % 32 ≢ 32 * x + j % 32
-other_offset x i j apart same = apart (omega arith)
-
 -- the marks after the first free block became block k of chain c
 abbrev pub popped : ℕ → ℕ → ℕ → ℕ × ℕ → ℕ × ℕ
 popped count c k m = cond (eqb m.0 count) (cond (eqb m.1 0) (c, k) (count, m.1 - 1)) m

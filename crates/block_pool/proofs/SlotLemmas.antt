@@ -1,7 +1,7 @@
 -- Chains by their first blocks, and what writing one leaves.
-use Rattle.std.proofs.Common.{◌≡◌, ◌≢◌, ℕ, ◌<◌, inl, inr, List, length, set, refl, sym, ap, ◌∙◌, arith, length-set, get_or-set_same, get_or-set_other}
+use Rattle.std.proofs.Common.{◌≡◌, ℕ, ◌<◌, inl, inr, List, length, ap, arith, get_or-set_same}
 use Rattle.std.specs.Prelude.{Option, Some, None}
-use Rattle.std.proofs.lemmas.List.{get_or_past, set-set, set-get_or}
+use Rattle.std.proofs.lemmas.List.{get_or_past, set-set}
 use Rattle.std.proofs.lemmas.Bool.{cases_lt}
 use Rattle.block_pool.specs.Slots.{Held, slot, with_chain, bytes_in, held_bytes, owner_in, owner_of}
 
@@ -22,22 +22,5 @@ module _ (slots : List (Option Held)) (b : ℕ) where
   pub owner_of-put : (owner : ℕ) (bytes : List ℕ) → b < length slots → owner_of (with_chain slots b owner bytes) b ≡ owner
   owner_of-put owner bytes low = ap owner_in (slot-put owner bytes low)
 
-  pub slot-put_other : (owner : ℕ) (bytes : List ℕ) (c : ℕ) → c ≢ b → slot (with_chain slots b owner bytes) c ≡ slot slots c
-  slot-put_other owner bytes c apart = get_or-set_other slots b c (Some (record { owner = owner; bytes = bytes })) None apart
-
   pub put-put : (o p : ℕ) (xs ys : List ℕ) → with_chain (with_chain slots b o xs) b p ys ≡ with_chain slots b p ys
   put-put o p xs ys = set-set slots b (Some (record { owner = o; bytes = xs })) (Some (record { owner = p; bytes = ys }))
-
-  pub length-put : (owner : ℕ) (bytes : List ℕ) → length (with_chain slots b owner bytes) ≡ length slots
-  length-put owner bytes = length-set slots b (Some (record { owner = owner; bytes = bytes }))
-
-  -- a chain written as it stands
-  pub put_same : 0 < length (held_bytes slots b) → with_chain slots b (owner_of slots b) (held_bytes slots b) ≡ slots
-  put_same some = by_slot (slot slots b) refl
-    where
-      by_slot : (s : Option Held) → slot slots b ≡ s → with_chain slots b (owner_of slots b) (held_bytes slots b) ≡ slots
-      by_slot None e = absurd (let none : length (held_bytes slots b) ≡ 0 = ap (λ s. length (bytes_in s)) e in omega arith)
-      by_slot (Some held) e =
-          ap (λ o. with_chain slots b o (held_bytes slots b)) (ap owner_in e)
-          ∙ (ap (λ bs. with_chain slots b held.owner bs) (ap bytes_in e)
-          ∙ (ap (set slots b) (sym e) ∙ set-get_or slots b None))

@@ -1,8 +1,8 @@
 -- Walking along linked blocks, and lists made by place.
-use Rattle.std.proofs.Common.{◌≡◌, ◌≢◌, ℕ, ◌+◌, ◌-◌, ◌/◌, ◌%◌, ◌<◌, ◌≤◌, List, [], ◌∷◌, ◌++◌, length, get_or, map, refl, sym, ap, ◌∙◌, subst, arith, add-one}
+use Rattle.std.proofs.Common.{◌≡◌, ◌≢◌, ℕ, ◌+◌, ◌-◌, ◌/◌, ◌%◌, ◌<◌, ◌≤◌, List, length, get_or, map, refl, sym, ap, ◌∙◌, subst, arith, add-one}
 use Rattle.std.specs.List.{range_with_len}
-use Rattle.std.proofs.lemmas.List.{same_lists, get_or_default, map-id}
-use Rattle.std.proofs.lemmas.List.FromFn.{length-map-range_with_len, get_or-map-range_with_len, map-range_with_len_more}
+use Rattle.std.proofs.lemmas.List.{same_lists, get_or_default}
+use Rattle.std.proofs.lemmas.List.FromFn.{length-map-range_with_len, get_or-map-range_with_len}
 use Rattle.block_pool.specs.Links.{block_at}
 use Rattle.block_pool.proofs.LinkLemmas.{behind}
 
@@ -23,13 +23,6 @@ blocks_on next first passed steps block at reached k low =
 pub block_at-more : (next : List ℕ) (first k : ℕ) → get_or next (block_at next first k) 0 ≡ block_at next first (k + 1)
 block_at-more next first k = rw add-one refl
 
--- the block of the next byte
-pub next_block : (next : List ℕ) (first place block : ℕ) → block ≡ block_at next first (place / 32) → (place + 1) % 32 ≡ 0
-    → get_or next block 0 ≡ block_at next first ((place + 1) / 32)
-next_block next first place block here full =
-    let e : place / 32 + 1 ≡ (place + 1) / 32 = omega arith in
-    ap (λ b. get_or next b 0) here ∙ (block_at-more next first (place / 32) ∙ ap (block_at next first) e)
-
 pub same_block : (next : List ℕ) (first place block : ℕ) → block ≡ block_at next first (place / 32) → (place + 1) % 32 ≢ 0
     → block ≡ block_at next first ((place + 1) / 32)
 same_block next first place block here room =
@@ -43,8 +36,3 @@ made_from f from n xs len same =
     same_lists _ _ (len ∙ sym (length-map-range_with_len f from n))
     (λ k d h. let low : k < n = omega (arith, len) in
     get_or_default xs k d 0 h ∙ (same k low ∙ sym (get_or-map-range_with_len f from n k (from + k) d low refl)))
-
-pub range_more : (a n : ℕ) → range_with_len a (n + 1) ≡ range_with_len a n ++ (a + n) ∷ []
-range_more a n =
-    sym (map-id (range_with_len a (n + 1))) ∙ (map-range_with_len_more (λ x. x) a n (a + n) refl ∙ ap (λ xs. xs ++ (a + n) ∷ []) (map-id
-    (range_with_len a n)))

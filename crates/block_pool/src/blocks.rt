@@ -77,6 +77,18 @@ fn overwrite(region: &mut [u8], place: usize, bytes: &[u8])
     region[place..place + bytes.len()].copy_from_slice(bytes);
 }
 
+/// Writes the first bytes of a chain over a slice from a place on. Most often it is one byte, which needs no copy.
+#[inline(always)]
+fn write_first(region: &mut [u8], place: usize, bytes: &[u8])
+    requires { place + length bytes.now ≤ length region.old }
+    ensures { region.new ≡ region_behind region.old place bytes.now }
+{
+    match bytes {
+        [byte] => region[place] = *byte,
+        _ => overwrite(region, place, bytes),
+    }
+}
+
 /// Lengthens a region by one block of zeros, for which it has room.
 fn add_block(region: &mut Vec<u8>)
     requires { vec_len region.old + 32 ≤ vec_capacity region.old }
@@ -193,23 +205,25 @@ impl Blocks {
         head_at(&self.heads, first).len
     }
 
-    /// Begins a chain with one byte, in the first free block.
-    pub fn begin(&mut self, owner: u8, byte: u8) -> u16
-        requires { 0 < self.old.free }
+    /// Begins a chain with 1 to 32 bytes, in the first free block.
+    pub fn begin(&mut self, owner: u8, bytes: &[u8]) -> u16
+        requires free { 0 < self.old.free }
+        requires some { 0 < length bytes.now }
+        requires block { length bytes.now ≤ 32 }
         ensures fits { result < length self.old.slots }
         ensures fresh { slot self.old.slots result ≡ None }
-        ensures slots { self.new.slots ≡ with_chain self.old.slots result owner (byte ∷ []) }
+        ensures slots { self.new.slots ≡ with_chain self.old.slots result owner bytes.now }
         ensures free { self.new.free + 1 ≡ self.old.free }
     {
         self.reach();
         let block = self.free;
         self.free = self.next[block as usize];
         self.free_len -= 1;
-        self.region[BLOCK_BYTES * block as usize] = byte;
+        write_first(&mut self.region, BLOCK_BYTES * block as usize, bytes);
         self.heads[block as usize] = StoredHead::of(Head {
             owner,
             last: block,
-            len: 1,
+            len: bytes.len() as u32,
             read_on: block,
             passed: 0,
         });

@@ -306,11 +306,13 @@ fn append(blocks: &mut Blocks, chain: &mut Chain, bytes: &[u8])
         blocks.extend(first, bytes);
         return;
     }
-    if let Some((byte, rest)) = bytes.split_first() {
-        let first = blocks.begin(chain.owner, *byte);
-        blocks.extend(first, rest);
-        chain.first = Some(first);
+    if bytes.is_empty() {
+        return;
     }
+    let (front, rest) = bytes.split_at(bytes.len().min(BLOCK_BYTES));
+    let first = blocks.begin(chain.owner, front);
+    blocks.extend(first, rest);
+    chain.first = Some(first);
 }
 
 /// Gives a chain to another owner.

@@ -1,26 +1,57 @@
-use Rattle.std.proofs.Common.{◌≡◌, ◌<◌, ◌*◌, sym, ap, ◌∙◌, subst, arith, List, length, length-append, replicate}
-use Rattle.std.specs.Prelude.{[], ◌∷◌, Option, None}
-use Rattle.std.proofs.lemmas.List.{get_or_read}
+use Rattle.std.proofs.Common.{◌≡◌, ◌<◌, ◌≤◌, ◌+◌, ◌-◌, ◌*◌, sym, ap, ◌∙◌, subst, arith, List, length, length-append, replicate, set, take, drop}
+use Rattle.std.specs.Prelude.{◌++◌, Option, None, Some}
+use Rattle.std.proofs.lemmas.List.{get_or_read, take_at}
+use Rattle.block_pool.specs.Links.{region_behind}
 use Rattle.block_pool.specs.Slots.{Held, BlocksState, slot, with_chain}
-use Rattle.block_pool.specs.Layout.{held_by, slots_of}
+use Rattle.block_pool.specs.Layout.{held_by, slots_of, AreSoundBlocks}
 use Rattle.block_pool.proofs.FreshLemmas.{get_or-filled, set-filled}
-use Rattle.block_pool.proofs.LayoutLemmas.{first_free, no_head, begin_sound, begin_slots}
+use Rattle.block_pool.proofs.LayoutLemmas.{first_free, no_head}
+use Rattle.block_pool.proofs.FillLemmas.{written, at_once, first_head, Begun, begin}
 use Rattle.block_pool.proofs.blocks.Blocks.begin.Goals as goal
 use Rattle.block_pool.proofs.LinkLemmas.{length-slots_of, slot_is}
+
+pub write_first-requires : goal.write_first-requires
+write_first-requires c =
+    let s = c.self.inside in
+    let some : 0 < s.free_len = subst (λ (v : BlocksState). 0 < v.listed) (sym c.self.view_is) c.reach.ensures.listed in
+    let first = first_free s.region.items s.next.items s.heads.items s.free s.free_len c.self.invariant.0 some in
+    let fits : 32 * s.free + length c.args.bytes.now ≤ length s.region.items =
+    omega (arith, first.0, c.self.invariant.0.bytes, c.requires.block) in
+    subst (λ r. 32 * s.free + length c.args.bytes.now ≤ length r) (sym c.deref_mut.ensures.value) fits
 
 some_free : (c : goal.After-self-4-1) → 0 < c.self.inside.free_len
 some_free c = subst (λ (v : BlocksState). 0 < v.listed) (sym c.self.view_is) c.reach.ensures.listed
 
+-- what was written
+region_is : (c : goal.After-self-4-1)
+    → take c.self.inside.region.len (c.write_first.new.region ++ drop (length c.write_first.new.region) c.self.inside.region.items)
+    ≡ written c.self.inside.region.items (32 * c.self.inside.free) c.args.bytes.now
+region_is c =
+    let s = c.self.inside in
+    let bytes = c.args.bytes.now in
+    let now = c.write_first.new.region in
+    let first = first_free s.region.items s.next.items s.heads.items s.free s.free_len c.self.invariant.0 (some_free c) in
+    let fits : 32 * s.free + length bytes ≤ length s.region.items = omega (arith, first.0, c.self.invariant.0.bytes, c.requires.block) in
+    take_at now (drop (length now) s.region.items) s.region.len (omega (arith, c.write_first.auto.region, c.deref_mut.ensures.len))
+    ∙ (c.write_first.ensures
+    ∙ (ap (λ r. region_behind r (32 * s.free) bytes) c.deref_mut.ensures.value ∙ at_once bytes s.region.items (32 * s.free) fits))
+
+begun : (c : goal.After-self-4-1)
+    → Begun c.self.inside.region.items c.self.inside.next.items c.self.inside.heads.items c.self.inside.free c.self.inside.free_len c.args.owner
+    c.index.result.now c.args.bytes.now
+begun c =
+    let s = c.self.inside in
+    let first = first_free s.region.items s.next.items s.heads.items s.free s.free_len c.self.invariant.0 (some_free c) in
+    begin c.args.bytes.now s.region.items s.next.items s.heads.items s.free s.free_len c.self.invariant.0 c.args.owner c.index.result.now (some_free c)
+    (get_or_read s.next.items s.free c.index.result.now (omega (arith, first.0, c.self.invariant.0.links)) c.index.ensures 0)
+    c.requires.some c.requires.block
+
 pub invariant_of-self : goal.invariant_of-self
 invariant_of-self c =
     let s = c.self.inside in
-    let first = first_free s.region.items s.next.items s.heads.items s.free s.free_len c.self.invariant.0 (some_free c) in
-    rw c.of.ensures (
-      begin_sound s.region.items s.next.items s.heads.items s.free s.free_len c.self.invariant.0 c.args.owner c.args.byte (32 * s.free) c.index.result.now
-          (some_free c)
-          (get_or_read s.next.items s.free c.index.result.now (omega (arith, first.0, c.self.invariant.0.links)) c.index.ensures 0),
-      c.self.invariant.1,
-    )
+    let heads = set s.heads.items s.free (Some (first_head c.args.owner s.free (length c.args.bytes.now))) in
+    rw c.of.ensures
+    (subst (λ r. AreSoundBlocks r s.next.items heads c.index.result.now (s.free_len - 1)) (sym (region_is c)) (begun c).sound, c.self.invariant.1)
 
 pub returns-clause-fits : goal.returns-clause-fits
 returns-clause-fits c =
@@ -48,9 +79,10 @@ pub returns-clause-slots : goal.returns-clause-slots
 returns-clause-slots c =
     let s = c.self.inside in
     let first = first_free s.region.items s.next.items s.heads.items s.free s.free_len c.self.invariant.0 (some_free c) in
+    let heads = set s.heads.items s.free (Some (first_head c.args.owner s.free (length c.args.bytes.now))) in
     rw c.of.ensures
     (set-filled (slots_of s.region.items s.next.items s.heads.items) _ s.fresh s.free None _
-    (begin_slots s.region.items s.next.items s.heads.items s.free s.free_len c.self.invariant.0 c.args.owner c.args.byte (some_free c))
+    (ap (λ r. slots_of r s.next.items heads) (region_is c) ∙ (begun c).slots)
     (omega (arith, first.0, c.self.invariant.0.counted, length-slots_of s.region.items s.next.items s.heads.items))
-    ∙ ap (λ (ss : List (Option Held)). with_chain ss s.free c.args.owner (c.args.byte ∷ []))
+    ∙ ap (λ (ss : List (Option Held)). with_chain ss s.free c.args.owner c.args.bytes.now)
     (ap (λ (v : BlocksState). v.slots) c.self.view_is ∙ c.reach.ensures.slots))
