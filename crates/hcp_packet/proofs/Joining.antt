@@ -151,9 +151,6 @@ only_part (suc m) len low high =
     let large : leb len 28 ≡ false = grind (arith, common_steps) in
     more ∙ sym large
 
-same_tests : (a b c d : ℕ) → a + 28 ≡ b → c + 28 ≡ d → a ≤ c → leb a c ≡ leb b d
-same_tests a b c d e f le = grind (arith, common_steps)
-
 part_at : (pipe n : ℕ) (left : List ℕ) (k : ℕ) → 28 * k < length left → length left ≤ 28 * n → 28 * n < length left + 28
     → slice_get (parts_of pipe n left) k ≡ Some (packet_at pipe left (28 * k))
 part_at pipe zero left k in_left fits all = absurd (omega arith)

@@ -4,10 +4,15 @@ use Rattle.std.specs.Prelude.{◌≡◌, ℕ, zero, suc, ◌+◌, ◌/◌, ◌%�
 use Rattle.std.specs.Prelude.{take, drop, map, Option, None, Some}
 use Rattle.std.specs.List.{fold, filter, filter_map, flat_map, AllByRecursion}
 use Rattle.hcp_packet.specs.declared.Packet.{Packet}
+use Rattle.hcp_packet.specs.declared.view.PacketView.{PacketView}
 
 -- a packet with this mark, pipe and data
 abbrev pub packet : Bool → ℕ → List ℕ → Packet
 packet last pipe data_bytes = record { last = last; pipe = pipe; bytes = record { items = data_bytes } }
+
+-- the packet that lies there
+abbrev pub packet_seen : PacketView → Packet
+packet_seen v = packet v.last v.pipe v.bytes.now
 
 -- The first byte of a packet: its highest bit is 1 on the last or only packet of a message, the other seven are the pipe.
 abbrev pub first_byte_of : Packet → ℕ

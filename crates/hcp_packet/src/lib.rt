@@ -2,12 +2,15 @@
 #![tactic(auto)]
 
 ghost use Rattle.std.specs.Prelude.{◌≡◌, ℕ, ◌<◌, ◌≤◌, ◌*◌, ◌+◌, ◌↔◌, ◌∷◌, List, length, Some, Ok, Err, IfOk, IfErr, IsOk, IsErr};
-ghost use Rattle.hcp_packet.specs.Packets.{packet_of, packet_bytes, pipe_in, IsGood};
+ghost use Rattle.hcp_packet.specs.Packets.{packet_of, packet_seen, packet_bytes, pipe_in, IsGood};
 ghost use Rattle.hcp_packet.specs.MessageHeader.{header_of, type_bits_of};
 
 use arrayvec::ArrayVec;
 
 pub mod laws;
+mod view;
+
+pub use view::PacketView;
 
 /// The most data that a packet carries, in bytes. This project's own.
 pub const MAX_DATA: usize = 28;
@@ -24,6 +27,19 @@ pub struct Packet {
     pub pipe: u8,
     /// The data, 0 to 28 bytes.
     pub bytes: ArrayVec<u8, 28>,
+}
+
+impl Packet {
+    /// The packet where it lies.
+    pub fn view(&self) -> PacketView<'_>
+        ensures { packet_seen result ≡ self.now }
+    {
+        PacketView {
+            last: self.last,
+            pipe: self.pipe,
+            bytes: self.bytes.as_slice(),
+        }
+    }
 }
 
 /// Why bytes are no packet (ETSI TS 102 622, section 5.1).
@@ -50,11 +66,12 @@ pub enum MessageFault {
     ReservedType,
 }
 
-/// Reads the packet that a fragment of 1 to 29 bytes is (ETSI TS 102 622, section 5.1).
-pub fn read_packet(info: &[u8]) -> Result<Packet, PacketFault>
+/// The packet that a fragment of 1 to 29 bytes is, where it lies (ETSI TS 102 622, section 5.1).
+#[inline(always)]
+pub fn view_packet(info: &[u8]) -> Result<PacketView<'_>, PacketFault>
     requires some { 0 < length info.now }
     requires fits { length info.now ≤ 29 }
-    ensures ok { IfOk result (λ p. packet_of info.now ≡ Some p) }
+    ensures ok { IfOk result (λ v. packet_of info.now ≡ Some (packet_seen v)) }
     ensures err { IfErr result (λ e. e ≡ PacketFault.ReservedPipe (pipe_in info.now)) }
     ensures refused { IsErr result ↔ (112 ≤ pipe_in info.now) }
 {
@@ -63,10 +80,26 @@ pub fn read_packet(info: &[u8]) -> Result<Packet, PacketFault>
     if pipe >= FIRST_RESERVED_PIPE {
         return Err(PacketFault::ReservedPipe { pid: pipe });
     }
-    Ok(Packet {
+    Ok(PacketView {
         last: first >= 0x80,
         pipe,
-        bytes: data_of(&info[1..]),
+        bytes: &info[1..],
+    })
+}
+
+/// Reads the packet that a fragment of 1 to 29 bytes is (ETSI TS 102 622, section 5.1), with a copy of its data.
+pub fn read_packet(info: &[u8]) -> Result<Packet, PacketFault>
+    requires some { 0 < length info.now }
+    requires fits { length info.now ≤ 29 }
+    ensures ok { IfOk result (λ p. packet_of info.now ≡ Some p) }
+    ensures err { IfErr result (λ e. e ≡ PacketFault.ReservedPipe (pipe_in info.now)) }
+    ensures refused { IsErr result ↔ (112 ≤ pipe_in info.now) }
+{
+    let view = view_packet(info)?;
+    Ok(Packet {
+        last: view.last,
+        pipe: view.pipe,
+        bytes: data_of(view.bytes),
     })
 }
 
