@@ -59,9 +59,6 @@ after_more ms before p stands more q =
 not_true : (b : Bool) → IsTrue (not true && b) → ⊥
 not_true b t = search rules
 
-and_rest : (b : Bool) → IsTrue (not false && b) → IsTrue b
-and_rest b t = t
-
 pub last_step : (ms : List (ℕ × List ℕ)) (p : Packet) → is_fifth ms p.pipe ≡ false → ltb 4096 (length (grown ms p)) ≡ false → p.last ≡ true
     → join_step ms p ≡ (Message p.pipe (grown ms p), others ms p.pipe)
 last_step ms p fifth long last =

@@ -213,14 +213,6 @@ begun {pool} {old} {new} {pipe} {chain} holds quota found owner items room empty
       outside = λ other apart. (λ first p q. none-some first (sym empty ∙ q), subst (λ ys. IsApartFrom ys other) (sym items) apart);
     }
 
--- whether a message would be the fifth
-pub fifth_found : (pool : PoolState) (pipe i : ℕ) (d : Open) (xs : List Open) → ArePairwiseApart xs → position (λ y. eqb y.pipe pipe) xs ≡ Some i
-    → is_fifth (messages_in pool xs) pipe ≡ false
-fifth_found pool pipe i d xs apart found =
-    let at = position-Some (λ y. eqb y.pipe pipe) xs i d found in
-    let one = one_open pool pipe d xs i apart at.0 (eqb_is (get_or xs i d).pipe pipe at.1) in
-    ap (λ b. not b && leb 4 (length (messages_in pool xs))) one.0
-
 pub fifth_not_found : (pool : PoolState) (pipe : ℕ) (xs : List Open) → position (λ y. eqb y.pipe pipe) xs ≡ None
     → is_fifth (messages_in pool xs) pipe ≡ leb 4 (length xs)
 fifth_not_found pool pipe xs found =

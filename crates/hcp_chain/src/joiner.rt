@@ -4,7 +4,7 @@ ghost use Rattle.std.specs.List.{position};
 
 use arrayvec::ArrayVec;
 use block_pool::{Chain, Pool};
-use hcp_packet::Packet;
+use hcp_packet::{Packet, PacketView};
 
 /// The most bytes that a message has, with its header. This project's own.
 pub const MAX_MESSAGE: u32 = 4096;
@@ -48,6 +48,7 @@ impl Joiner {
     ghost use Rattle.block_pool.specs.declared.chain.Chain.{Chain};
     ghost use Rattle.block_pool.specs.Owners.{with_used};
     ghost use Rattle.block_pool.specs.Pool.{HasQuota, used_of, IsLive, IsApart, chain_bytes};
+    ghost use Rattle.hcp_packet.specs.Packets.{packet_seen};
     ghost use Rattle.hcp_chain.specs.Joining.{Nothing, Message, join_step, is_fifth};
     ghost use Rattle.hcp_chain.specs.Holding.{HoldsChains, IsJoinerReady, IsApartFrom, KeepsOtherChains, AnswersOutcome, open_messages, held_blocks, whole_in};
     ghost use Rattle.hcp_chain.specs.TakingOut.{TakesOut, CanGrow, Grown};
@@ -97,24 +98,24 @@ impl Joiner {
     }
 
     /// Appends a packet's data to the chain of its message. There is room for it.
-    fn append(&self, pool: &mut Pool, chain: Chain, packet: &Packet) -> Chain
-        requires { CanGrow pool.old self.now packet.now chain }
+    fn append(&self, pool: &mut Pool, chain: Chain, packet: &PacketView<'_>) -> Chain
+        requires { CanGrow pool.old self.now (packet_seen packet.now) chain }
         ensures { Grown pool.old pool.new self.now.owner packet.now.pipe chain result self.now.open.items
-            (chain_bytes pool.old chain ++ packet.now.bytes.items) }
+            (chain_bytes pool.old chain ++ packet.now.bytes.now) }
     {
         let mut chain = chain;
-        let _ = pool.take(&mut chain, packet.bytes.as_slice());
+        let _ = pool.take(&mut chain, packet.bytes);
         chain
     }
 
     /// Appends a packet's data to the chain of its message, and keeps the chain where more is to come.
-    fn grow(&mut self, pool: &mut Pool, chain: Chain, packet: &Packet) -> Joined
-        requires { CanGrow pool.old self.old packet.now chain }
+    fn grow(&mut self, pool: &mut Pool, chain: Chain, packet: &PacketView<'_>) -> Joined
+        requires { CanGrow pool.old self.old (packet_seen packet.now) chain }
         ensures owner { self.new.owner ≡ self.old.owner }
         ensures says { AnswersOutcome pool.new result (if packet.now.last
-            then Message packet.now.pipe (chain_bytes pool.old chain ++ packet.now.bytes.items) else Nothing) }
+            then Message packet.now.pipe (chain_bytes pool.old chain ++ packet.now.bytes.now) else Nothing) }
         ensures open { open_messages pool.new self.new ≡ (if packet.now.last then open_messages pool.old self.old
-            else open_messages pool.old self.old ++ (packet.now.pipe, chain_bytes pool.old chain ++ packet.now.bytes.items) ∷ []) }
+            else open_messages pool.old self.old ++ (packet.now.pipe, chain_bytes pool.old chain ++ packet.now.bytes.now) ∷ []) }
         ensures holds { HoldsChains pool.new self.old.owner (self.new.open.items ++ whole_in result) }
         ensures used { pool.new.owners ≡ with_used pool.old.owners self.old.owner
             (held_blocks pool.new (self.new.open.items ++ whole_in result)) }
@@ -153,6 +154,21 @@ impl Joiner {
         ensures owner { self.new.owner ≡ self.old.owner }
         ensures says { AnswersOutcome pool.new result (join_step (open_messages pool.old self.old) packet.now).0 }
         ensures open { open_messages pool.new self.new ≡ (join_step (open_messages pool.old self.old) packet.now).1 }
+        ensures holds { HoldsChains pool.new self.old.owner (self.new.open.items ++ whole_in result) }
+        ensures used { pool.new.owners ≡ with_used pool.old.owners self.old.owner
+            (held_blocks pool.new (self.new.open.items ++ whole_in result)) }
+        ensures others { KeepsOtherChains pool.old pool.new self.old.open.items (self.new.open.items ++ whole_in result) }
+        ensures ready { whole_in result ≡ [] → IsJoinerReady pool.new self.new }
+    {
+        self.take_view(pool, &packet.view())
+    }
+
+    /// Takes a packet where it lies, as `take` does.
+    pub fn take_view(&mut self, pool: &mut Pool, packet: &PacketView<'_>) -> Joined
+        requires { IsJoinerReady pool.old self.old }
+        ensures owner { self.new.owner ≡ self.old.owner }
+        ensures says { AnswersOutcome pool.new result (join_step (open_messages pool.old self.old) (packet_seen packet.now)).0 }
+        ensures open { open_messages pool.new self.new ≡ (join_step (open_messages pool.old self.old) (packet_seen packet.now)).1 }
         ensures holds { HoldsChains pool.new self.old.owner (self.new.open.items ++ whole_in result) }
         ensures used { pool.new.owners ≡ with_used pool.old.owners self.old.owner
             (held_blocks pool.new (self.new.open.items ++ whole_in result)) }
