@@ -1,9 +1,12 @@
 -- What the code keeps of one end of a link, and for which states of the machine it stands: a queue of at most four fragments
 -- and numbers modulo 8 stand for each session whose lists end so.
-use Rattle.std.specs.Prelude.{ℕ, ◌+◌, ◌-◌, ◌%◌, ◌<◌, ◌≤◌, ◌≡◌, Bool, List, length, drop}
+use Rattle.std.specs.Prelude.{ℕ, ◌+◌, ◌-◌, ◌%◌, ◌<◌, ◌≤◌, ◌≡◌, Bool, List, [], length, drop, IsSome}
+use Rattle.swp_base.specs.declared.control_frames.Control.{Control}
+use Rattle.swp_base.specs.declared.control_frames.Control.TheVariants.{I}
 use Rattle.shdlc_core.specs.declared.answers.LinkState.{LinkState}
 use Rattle.shdlc_core.specs.declared.answers.Due.{Due}
-use Rattle.shdlc_core.specs.Machine.{EndState, Fragment, Session}
+use Rattle.shdlc_core.specs.declared.answers.FragmentDue.{FragmentDue}
+use Rattle.shdlc_core.specs.Machine.{EndState, Fragment, Session, frame_due}
 
 -- what is kept for sending
 pub record KeptSender : Type 0 where
@@ -93,3 +96,13 @@ pub record ShdlcStandsFor (k : KeptEnd) (e : EndState) : Type 0 where
 -- at most so many frames are fetched before something else comes to the end
 abbrev pub frames_left : KeptEnd → ℕ
 frames_left k = length k.due + (length k.sender.queue - k.sender.sent)
+
+-- The next frame to be fetched is the I frame of a fragment.
+pub record IsFragmentDue (k : KeptEnd) : Type 0 where
+  pub due : k.due ≡ []
+  pub kept : k.sender.sent < length k.sender.queue
+  pub frame : (e : EndState) → ShdlcStandsFor k e → IsSome (frame_due e)
+
+-- the I frame of a fragment that is to be sent
+abbrev pub frame_shown : FragmentDue → Control
+frame_shown f = I f.ns f.nr f.info.now

@@ -82,3 +82,14 @@ pub enum Due {
     Rset,
     Ua,
 }
+
+/// A fragment that is to be sent, with the numbers of its I frame (ETSI TS 102 613, section 10.4).
+#[derive(Clone, Copy)]
+pub struct FragmentDue<'a> {
+    /// N(S), 0 to 7.
+    pub ns: u8,
+    /// N(R), 0 to 7.
+    pub nr: u8,
+    /// The fragment.
+    pub info: &'a Info,
+}

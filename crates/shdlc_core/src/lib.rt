@@ -8,5 +8,5 @@ mod receiver;
 mod sender;
 mod shdlc;
 
-pub use answers::{LinkState, OfferRefused, Taken, Ticked};
+pub use answers::{FragmentDue, LinkState, OfferRefused, Taken, Ticked};
 pub use shdlc::Shdlc;

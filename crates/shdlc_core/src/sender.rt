@@ -90,11 +90,12 @@ impl Sender {
         self.queue.is_empty()
     }
 
-    pub fn push(&mut self, info: &Info)
+    /// A fragment stands behind those that are kept.
+    pub fn push(&mut self, info: Info)
         requires { length self.old.queue < 4 }
-        ensures { (s : Session) → SendsFor self.old s → SendsFor self.new (record s { out = s.out ++ info.now ∷ [] }) }
+        ensures { (s : Session) → SendsFor self.old s → SendsFor self.new (record s { out = s.out ++ info ∷ [] }) }
     {
-        self.queue.push(info.copied());
+        self.queue.push(info);
     }
 
     /// How many of the kept fragments a number acknowledges that the other end expects next. None where it isn't valid.

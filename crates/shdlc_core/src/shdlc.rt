@@ -2,12 +2,12 @@
 ghost use Rattle.std.specs.Prelude.{◌≡◌, ◌≢◌, ◌⊎◌, ◌+◌, ◌<◌, ◌≤◌, ◌↔◌, [], length, IsTrue, OnSome, option_map, min, ℕ, ◌++◌, ◌∷◌, OnErr, IfNone, IfSome};
 ghost use Rattle.std.specs.Prelude.{MatchResult, None, false, true};
 ghost use Rattle.std.specs.Bool.{OnFalse};
-ghost use Rattle.shdlc_core.specs.Kept.{ShdlcStandsFor, ReceivesFor, frames_left};
+ghost use Rattle.shdlc_core.specs.Kept.{ShdlcStandsFor, ReceivesFor, frames_left, IsFragmentDue, frame_shown};
 ghost use Rattle.shdlc_core.specs.Machine.{EndState, new_end, begun, up_with, offered, offer_refusal, control_due, frame_due, fetched, acknowledged, received};
 ghost use Rattle.shdlc_core.specs.Machine.{fragment_accepted, with_timer, place_of, gap_found, due_left, taken, take_answer, ticked, tick_answer, sent_again};
 ghost use Rattle.shdlc_core.specs.Machine.{asked_again, waiting_from, no_session, reset_with, stopped, with_ready, nothing_ticked, all_frames, all_fetched};
 
-use crate::answers::{Due, LinkState, OfferRefused, Taken, Ticked};
+use crate::answers::{Due, FragmentDue, LinkState, OfferRefused, Taken, Ticked};
 use crate::receiver::Receiver;
 use crate::sender::Sender;
 use arrayvec::ArrayVec;
@@ -168,6 +168,24 @@ impl Shdlc {
         ensures refused { OnErr result (self.new ≡ self.old) }
         ensures due { self.new.due ≡ self.old.due }
     {
+        self.offer_owned(info.copied())
+    }
+
+    /// Takes a fragment for sending, as `offer` does, without a copy of it.
+    ///
+    /// # Errors
+    ///
+    /// As `offer`.
+    pub fn offer_owned(&mut self, info: Info) -> Result<(), OfferRefused>
+        ensures stands { (e : EndState) → ShdlcStandsFor self.old e → ShdlcStandsFor self.new (offered e info) }
+        ensures answer { (e : EndState) → ShdlcStandsFor self.old e →
+            MatchResult result (λ _. offer_refusal e ≡ None) (λ why. offer_refusal e ≡ Some why) }
+        ensures not_up { (result ≡ Err OfferRefused.NotUp) ↔ (self.old.phase ≢ LinkState.Up) }
+        ensures queue_full { (result ≡ Err (OfferRefused.QueueFull 4))
+            ↔ ((self.old.phase ≡ LinkState.Up) × (length self.old.sender.queue ≡ 4)) }
+        ensures refused { OnErr result (self.new ≡ self.old) }
+        ensures due { self.new.due ≡ self.old.due }
+    {
         if self.phase != LinkState::Up {
             return Err(OfferRefused::NotUp);
         }
@@ -229,6 +247,35 @@ impl Shdlc {
         }
     }
 
+    /// The fragment that is to be sent next, with the numbers of its I frame, where no control frame waits to be fetched before it.
+    /// `count_fragment` counts it as sent: both together are what `next_out` does then, without a copy of the fragment. None where a control
+    /// frame waits, or where no fragment is to be sent.
+    pub fn fragment_due(&self) -> Option<FragmentDue<'_>>
+        ensures frame { (e : EndState) → ShdlcStandsFor self.now e → self.now.due ≡ [] → option_map frame_shown result ≡ frame_due e }
+        ensures waits { (self.now.due ≢ []) → result ≡ None }
+        ensures due { OnSome result (IsFragmentDue self.now) }
+    {
+        if !self.due.is_empty() {
+            return None;
+        }
+        let ns = self.sender.next_number();
+        let nr = self.receiver.expected();
+        match self.sender.fragment_due() {
+            Some(info) => Some(FragmentDue { ns, nr, info }),
+            None => None,
+        }
+    }
+
+    /// The fragment that is to be sent next counts as sent. No control frame waits to be fetched.
+    pub fn count_fragment(&mut self)
+        requires { IsFragmentDue self.old }
+        ensures stands { (e : EndState) → ShdlcStandsFor self.old e → ShdlcStandsFor self.new (fetched e) }
+        ensures fewer { frames_left self.new < frames_left self.old }
+        ensures due { self.new.due ≡ self.old.due }
+    {
+        self.sender.count_next();
+    }
+
     // The frame of the fragment that is to be sent next, where there is one.
     fn fragment_out(&mut self) -> Option<Control>
         requires { self.old.due ≡ [] }
@@ -238,9 +285,7 @@ impl Shdlc {
         ensures none { IfNone result (self.new ≡ self.old) }
         ensures due { self.new.due ≡ self.old.due }
     {
-        let ns = self.sender.next_number();
-        let nr = self.receiver.expected();
-        let Some(info) = self.sender.fragment_due() else {
+        let Some(FragmentDue { ns, nr, info }) = self.fragment_due() else {
             return None;
         };
         let frame = Control::I {
@@ -248,7 +293,7 @@ impl Shdlc {
             nr,
             info: info.copied(),
         };
-        self.sender.count_next();
+        self.count_fragment();
         Some(frame)
     }
 

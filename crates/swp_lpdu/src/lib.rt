@@ -129,18 +129,27 @@ pub fn write_lpdu(control: &Control) -> Lpdu
     ensures read_again { control_of result ≡ Ok control.now }
 {
     match control {
-        Control::I { ns, nr, info } => {
-            let mut bytes = ArrayVec::new();
-            bytes.push(0x80 + 8 * *ns + *nr);
-            let _fits = bytes.try_extend_from_slice(info.bytes());
-            Lpdu { bytes }
-        }
+        Control::I { ns, nr, info } => write_fragment(*ns, *nr, info),
         Control::S { kind, nr } => Lpdu::new(&[0xC0 + 8 * (*kind as u8) + *nr]),
         Control::Rset { window, caps } => Lpdu::new(&[0xF9, *window, *caps]),
         Control::Ua => Lpdu::new(&[0xE6]),
         Control::Act { act, again } => write_act(*act, *again),
         Control::Clt => Lpdu::new(&[0x40]),
     }
+}
+
+/// The LPDU of the I frame with these numbers N(S) and N(R), which are below 8, and this information field (ETSI TS 102 613, section 10.4).
+#[inline(always)]
+pub fn write_fragment(ns: u8, nr: u8, info: &Info) -> Lpdu
+    requires ns { ns < 8 }
+    requires nr { nr < 8 }
+    ensures bytes { result ≡ lpdu_of (Control.I ns nr info.now) }
+    ensures read_again { control_of result ≡ Ok (Control.I ns nr info.now) }
+{
+    let mut bytes = ArrayVec::new();
+    bytes.push(0x80 + 8 * ns + nr);
+    let _fits = bytes.try_extend_from_slice(info.bytes());
+    Lpdu { bytes }
 }
 
 /// The LPDU of an activation frame.
