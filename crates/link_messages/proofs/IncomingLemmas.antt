@@ -1,24 +1,23 @@
 -- What calls on a pool leave of the messages that come.
-use Rattle.std.proofs.Common.{◌≡◌, ℕ, ◌+◌, ◌-◌, ◌<◌, ◌≤◌, ◌%◌, Bool, true, false, List, [], ◌∷◌, ◌++◌, length, refl, sym, ap, ◌∙◌, subst, arith}
+use Rattle.std.proofs.Common.{◌≡◌, ℕ, ◌+◌, ◌-◌, ◌<◌, ◌≤◌, Bool, true, false, List, [], ◌∷◌, ◌++◌, length, refl, sym, ap, ◌∙◌, subst, arith}
 use Rattle.std.specs.Prelude.{Option, Some, None, nat_lt, if◌then◌else◌}
 use Rattle.std.specs.List.{AllByRecursion}
 use Rattle.std.proofs.lemmas.List.{append-nil}
-use Rattle.std.proofs.lemmas.Bool.{ltb-true}
 use Rattle.std.proofs.lemmas.List.Sums.{sum_by-append}
 use Rattle.block_pool.specs.declared.chain.Chain.{Chain}
 use Rattle.block_pool.specs.Slots.{blocks_for}
 use Rattle.block_pool.specs.Owners.{owner_at, with_used}
 use Rattle.block_pool.specs.Pool.{PoolState, quota_of, used_of, IsApart, chain_bytes, KeepsOthers, Gives}
-use Rattle.block_pool.proofs.HoldingLemmas.{used-with_used, quota-with_used, length-with_used, with_used-with_used, with_used-same}
+use Rattle.block_pool.proofs.HoldingLemmas.{used-with_used, quota-with_used, length-with_used, with_used-with_used}
 use Rattle.hcp_packet.specs.declared.Packet.{Packet}
-use Rattle.hcp_packet.specs.Packets.{packet_of, pipe_in, is_good, good_of}
+use Rattle.hcp_packet.specs.Packets.{is_good, good_of}
 use Rattle.hcp_chain.specs.declared.joiner.Open.{Open}
 use Rattle.hcp_chain.specs.declared.joiner.Joiner.{Joiner}
 use Rattle.hcp_chain.specs.declared.joiner.ChainFault.{ChainFault}
 use Rattle.hcp_chain.specs.declared.joiner.ChainFault.TheVariants.{TooManyChains, MessageTooLong}
 use Rattle.hcp_chain.specs.declared.joiner.Joined.TheVariants.{Fault}
-use Rattle.hcp_chain.specs.Joining.{JoinOutcome, Nothing, Message as Ended, join_step, message_in, is_fault, given_by, is_fifth, grown}
-use Rattle.hcp_chain.specs.Holding.{IsJoinerReady as CanTake, IsOwnOpen, AreApart, HoldsChains, HoldsWhole, held_blocks, open_messages, messages_in}
+use Rattle.hcp_chain.specs.Joining.{JoinOutcome, Message as Ended, join_step, message_in, is_fault, given_by, is_fifth, grown}
+use Rattle.hcp_chain.specs.Holding.{IsOwnOpen, AreApart, HoldsChains, HoldsWhole, held_blocks, open_messages, messages_in}
 use Rattle.hcp_chain.specs.Holding.{KeepsOtherChains, IsApartFrom, AnswersOutcome}
 use Rattle.hcp_chain.proofs.HoldingLemmas.{all_front, all_map, apart_front}
 use Rattle.hcp_chain.proofs.ClearLemmas.{kept}
@@ -107,9 +106,6 @@ cleared old new before after lies owner none got owners keeps =
 
 -- ---- a message that came whole
 
-good_kept : (pipe : ℕ) (bytes : List ℕ) → is_good bytes ≡ true → good_of ((pipe, bytes) ∷ []) ≡ (pipe, bytes) ∷ []
-good_kept pipe bytes good = ap (λ b. if b then (pipe, bytes) ∷ [] else []) good
-
 bad_dropped : (pipe : ℕ) (bytes : List ℕ) → is_good bytes ≡ false → good_of ((pipe, bytes) ∷ []) ≡ []
 bad_dropped pipe bytes bad = ap (λ b. if b then (pipe, bytes) ∷ [] else []) bad
 
@@ -120,16 +116,6 @@ pub record Keeps (old new : PoolState) (before after : Inbox) (whole : Open) : T
   pub got : came_whole new after ≡ good_of ((whole.pipe, chain_bytes old whole.chain) ∷ [])
   pub used : used_of new before.joiner.owner ≡ held_blocks new (chains_in after)
   pub elsewhere : InboxLeavesOthers old new before.joiner.owner (before.joiner.open.items ++ whole ∷ []) (chains_in after)
-
-pub kept_good : (pool : PoolState) (before : Inbox) (whole : Open) → HoldsWhole pool before.joiner whole → is_good (chain_bytes pool whole.chain) ≡ true
-    → Keeps pool pool before (record before { got = Some (record { pipe = whole.pipe; chain = whole.chain }) }) whole
-kept_good pool before whole h good = record {
-  lies = record { holds = h.holds; has_quota = h.has_quota; quota = h.quota; used = omega (arith, h.used) };
-  under = refl;
-  got = sym (good_kept whole.pipe (chain_bytes pool whole.chain) good);
-  used = h.used;
-  elsewhere = record { owners = sym (with_used-same pool.owners before.joiner.owner); others = λ other live away. (live, refl, away) };
-}
 
 pub dropped_bad : (old new : PoolState) (before : Inbox) (whole : Open) → HoldsWhole old before.joiner whole → before.got ≡ None
     → is_good (chain_bytes old whole.chain) ≡ false
@@ -167,37 +153,6 @@ dropped_bad old new before whole h none bad gives keeps =
 
 -- ---- taking a packet
 
--- a fragment outside the packet grammar is no packet
-pub no_packet : (info : List ℕ) → 112 ≤ pipe_in info → packet_of info ≡ None
-no_packet [] high = absurd (omega arith)
-no_packet (first ∷ rest) high = go (nat_lt (first % 128) 112) refl
-  where
-    go : (b : Bool) → nat_lt (first % 128) 112 ≡ b → packet_of (first ∷ rest) ≡ None
-    go true t = absurd (let l = ltb-true (first % 128) 112 t in omega arith)
-    go false t = rw t
-
--- the joiner can take a packet
-pub can_take : (pool : PoolState) (box : Inbox) → InboxLiesIn pool box → IsInboxReady pool box → CanTake pool box.joiner
-can_take pool box lies ready = record {
-  holds = front_holds pool box.joiner.owner box.joiner.open.items box.got lies.holds;
-  has_quota = lies.has_quota;
-  quota = lies.quota;
-  used = ready.used;
-}
-
--- nothing came
-pub joins_none : (pool : PoolState) (box : Inbox) → InboxLiesIn pool box → IsInboxReady pool box → Joins pool pool box box []
-joins_none pool box lies ready =
-    let chains = only_under_way box ready.fetched in
-    record {
-      lies = lies;
-      joined = refl;
-      got = ap (λ g. messages_in pool (got_chains g)) ready.fetched;
-      owner = refl;
-      used = ready.used ∙ sym (ap (held_blocks pool) chains);
-      elsewhere = record { owners = sym (with_used-same pool.owners box.joiner.owner); others = λ other live away. (live, refl, away) };
-    }
-
 -- what the joiner did with a packet
 pub record TakesIn (old new : PoolState) (before : Inbox) (joiner : Joiner) (p : Packet) (whole : List Open) : Type 0 where
   pub owner : joiner.owner ≡ before.joiner.owner
@@ -221,47 +176,6 @@ counts old new before joiner p whole lies t =
 
 step_given : (ms : List Message) (p : Packet) (o : JoinOutcome) → (join_step ms p).0 ≡ o → given_by ms (p ∷ []) ≡ message_in o
 step_given ms p o e = append-nil (message_in (join_step ms p).0) ∙ ap message_in e
-
--- its message isn't whole yet
-pub joins_more : (old new : PoolState) (before : Inbox) (joiner : Joiner) (p : Packet) → InboxLiesIn old before → IsInboxReady old before
-    → TakesIn old new before joiner p []
-    → (join_step (messages_under_way old before) p).0 ≡ Nothing → Joins old new before (record before { joiner = joiner }) (p ∷ [])
-joins_more old new before joiner p lies ready t outcome =
-    let o = before.joiner.owner in
-    let c = counts old new before joiner p [] lies t in
-    let all : joiner.open.items ++ got_chains before.got ≡ joiner.open.items ++ [] = ap (λ g. joiner.open.items ++ got_chains g) ready.fetched in
-    let before_chains = only_under_way before ready.fetched in
-    record {
-      lies = record {
-        holds = subst (λ q. HoldsChains new q (joiner.open.items ++ got_chains before.got)) (sym t.owner) (subst (HoldsChains new o) (sym all) t.holds);
-        has_quota = subst (λ q. q < length new.owners) (sym t.owner) c.0;
-        quota = ap (λ q. quota_of new q) t.owner ∙ c.1;
-        used = subst (λ q. held_blocks new (joiner.open.items ++ got_chains before.got) ≤ used_of new q) (sym t.owner)
-            (subst (λ l. held_blocks new l ≤ used_of new o) (sym all) (omega (arith, c.2)));
-      };
-      joined = t.under;
-      got = ap (λ g. messages_in new (got_chains g)) ready.fetched ∙ sym (ap good_of (step_given (messages_under_way old before) p Nothing outcome));
-      owner = t.owner;
-      used = ap (λ q. used_of new q) t.owner ∙ (c.2 ∙ sym (ap (held_blocks new) all));
-      elsewhere = record {
-        owners = t.owners ∙ ap (with_used old.owners o) (sym c.2);
-        others = λ other live away.
-            let s = t.others other live (subst (λ l. IsApartFrom l other) before_chains away) in
-            (s.0, s.1, subst (λ l. IsApartFrom l other) (sym all) s.2);
-      };
-    }
-
--- it is whole now
-pub holds_whole : (old new : PoolState) (before : Inbox) (joiner : Joiner) (p : Packet) (whole : Open) → InboxLiesIn old before
-    → TakesIn old new before joiner p (whole ∷ []) → HoldsWhole new joiner whole
-holds_whole old new before joiner p whole lies t =
-    let c = counts old new before joiner p (whole ∷ []) lies t in
-    record {
-      holds = subst (λ q. HoldsChains new q (joiner.open.items ++ whole ∷ [])) (sym t.owner) t.holds;
-      has_quota = subst (λ q. q < length new.owners) (sym t.owner) c.0;
-      quota = ap (λ q. quota_of new q) t.owner ∙ c.1;
-      used = ap (λ q. used_of new q) t.owner ∙ c.2;
-    }
 
 pub joins_whole : {old mid new : PoolState} {before after : Inbox} {joiner : Joiner} {p : Packet} {whole : Open} → InboxLiesIn old before
     → IsInboxReady old before → TakesIn old mid before joiner p (whole ∷ [])

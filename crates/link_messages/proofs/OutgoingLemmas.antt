@@ -4,7 +4,7 @@ use Rattle.std.proofs.Common.{subst, arith, get_or-set_same}
 use Rattle.std.specs.Prelude.{Some, None, slice_get}
 use Rattle.std.specs.Bool.{OnTrue, OnFalse}
 use Rattle.std.proofs.lemmas.Option.{slice_get_within}
-use Rattle.std.proofs.lemmas.List.{map_push, drop-drop}
+use Rattle.std.proofs.lemmas.List.{map_push, drop-drop, drop_all, length-drop}
 use Rattle.std.proofs.lemmas.List.Sums.{sum_by-cons, sum_by_push}
 use Rattle.circular_buffer.specs.Buffer.{Buffer, buffer}
 use Rattle.block_pool.specs.declared.chain.Chain.{Chain}
@@ -21,8 +21,8 @@ use Rattle.hcp_packet.specs.Packets.{packets_of, packet_count, packet_bytes, fra
 use Rattle.link_laws.specs.machine.Machine.{Message, whole_among}
 use Rattle.link_messages.specs.declared.outbox.Queued.{Queued}
 use Rattle.link_messages.specs.declared.outbox.Outbox.{Outbox}
-use Rattle.link_messages.specs.Outgoing.{chain_in, queued_message, messages_of_all, queued_messages, rest_among, AreKept, OutboxLiesIn, OutboxLeavesOthers}
-use Rattle.link_messages.specs.Outgoing.{Accepts, LeavesOthersBut, GivesFront, GivesBack}
+use Rattle.link_messages.specs.Outgoing.{chain_in, queued_message, messages_of_all, queued_messages, waiting_in, rest_among, AreKept}
+use Rattle.link_messages.specs.Outgoing.{OutboxLiesIn, OutboxLeavesOthers, Accepts, LeavesOthersBut, GivesFront, GivesBack}
 use Rattle.link_messages.proofs.Among.{whole-first, waiting-first, length-first, waiting-push, length-push}
 use Rattle.link_laws.proofs.machine.Sound.{fragments_count as length-fragments}
 
@@ -63,6 +63,7 @@ none_first (x ∷ items) e = cc
 pub record ChangesQueue (before after : Outbox) : Type 0 where
   pub acked : after.acked ≡ before.acked
   pub cut : after.cut ≡ before.cut
+  pub left : after.left ≡ before.left
   pub owner : after.owner ≡ before.owner
 
 -- a front whose blocks were given back
@@ -104,6 +105,7 @@ gives_front {old} {new} {before} {after} {q} kept items capacity same_places giv
       kept = subst (λ p. AreKept new p after.queue) (sym same_places.owner) here;
       acked = same_places.acked;
       cut = same_places.cut;
+      left = same_places.left;
       owner = same_places.owner;
       fewer = (let e = ap length items in omega (arith, e));
       elsewhere = record {
@@ -139,13 +141,13 @@ gives_whole old new before after g lies low =
     let c = packet_count (length g.first.1) in
     let ms = queued_messages new after in
     let acked = lies.acked in
-    let cut : before.cut ≤ length (fragments_of (g.first ∷ ms)) = subst (λ l. before.cut ≤ length (fragments_of l)) g.messages lies.cut in
+    let cut : before.left + before.cut ≡ length (fragments_of (g.first ∷ ms)) = lies.cut ∙ ap (λ l. length (fragments_of l)) g.messages in
     let len = length-first g.first ms in
     let both = whole-first g.first ms before.acked low in
     let places : after.acked - c ≡ before.acked - c = ap (λ n. n - c) g.acked in
     let cuts : after.cut - c ≡ before.cut - c = ap (λ n. n - c) g.cut in
     record {
-      lies = record { kept = g.kept; acked = omega (arith, g.acked, g.cut, acked); cut = omega (arith, g.cut, cut, len) };
+      lies = record { kept = g.kept; acked = omega (arith, g.acked, g.cut, acked); cut = omega (arith, g.cut, g.left, acked, low, cut, len) };
       messages = sym (ap (drop 1) g.messages);
       waiting = ap (λ n. drop n (fragments_of ms)) cuts
           ∙ (sym (waiting-first g.first ms before.cut (omega (arith, acked, low))) ∙ sym (ap (λ l. drop before.cut (fragments_of l)) g.messages));
@@ -186,6 +188,7 @@ pub record IsPushed (old new : PoolState) (o : ℕ) (queue : Buffer Queued) (cha
   pub kept : AreKept new o (buffer (queue.items ++ record { pipe = pipe; chain = chain } ∷ []) queue.capacity)
   pub messages : messages_of_all new (queue.items ++ record { pipe = pipe; chain = chain } ∷ []) ≡ messages_of_all old queue.items ++ (pipe, bytes) ∷ []
   pub apart : LiesApart Queued chain_in queue.items chain
+  pub bytes_are : chain_bytes new chain ≡ bytes
 
 -- these bytes lie in a chain of an owner now, and its blocks are counted beside those that it used
 record LieInChain (old new : PoolState) (o : ℕ) (chain : Chain) (bytes : List ℕ) : Type 0 where
@@ -228,22 +231,54 @@ pushed {old} {new} {o} {queue} {after} {bytes} before pipe kept keeps away c sen
       };
       messages = messages;
       apart = both.1;
+      bytes_are = c.bytes_are;
     }
+
+-- two packets at most go into a block
+pub few_fragments : (pool : PoolState) (queue : List Queued) → AreSendable (messages_of_all pool queue)
+    → length (fragments_of (messages_of_all pool queue)) ≤ 2 * all_blocks Queued chain_in pool queue
+few_fragments pool [] s = omega arith
+few_fragments pool (q ∷ queue) s =
+    let some = s.0.1 in
+    let rest = few_fragments pool queue s.1 in
+    let len = length-first (queued_message pool q) (messages_of_all pool queue) in
+    omega (arith, some, rest, len, sum_by-cons (λ (x : Queued). blocks_for (length (chain_bytes pool x.chain))) q queue)
+
+-- so many fragments come with a message pushed
+pub added : {old new : PoolState} {o : ℕ} {queue : Buffer Queued} {chain : Chain} {pipe : ℕ} {bytes : List ℕ} (left : ℕ)
+    → IsPushed old new o queue chain pipe bytes → left + packet_count (length (chain_bytes new chain)) ≡ left + packet_count (length bytes)
+added left p = ap (λ (l : List ℕ). left + packet_count (length l)) p.bytes_are
+
+-- as many as there were and those of a message pushed are few
+pub left_fits : {old new : PoolState} {box : Outbox} {chain : Chain} {pipe : ℕ} {bytes : List ℕ} → OutboxLiesIn old box
+    → IsPushed old new box.owner box.queue chain pipe bytes → box.left + packet_count (length (chain_bytes new chain)) ≤ 256
+left_fits {old} {new} {box} {chain} {pipe} {bytes} lies p =
+    let few = few_fragments new (box.queue.items ++ record { pipe = pipe; chain = chain } ∷ []) p.kept.sendable in
+    let len = ap (λ l. length (fragments_of l)) p.messages ∙ length-push (queued_messages old box) (pipe, bytes) in
+    let same : packet_count (length (chain_bytes new chain)) ≡ packet_count (length bytes) = ap (λ (l : List ℕ). packet_count (length l)) p.bytes_are in
+    omega (arith, few, len, same, lies.cut, p.kept.used, p.kept.within)
+
+-- a message came to the queue, none of which was cut
+pub record AddsMessage (before after : Outbox) (m : Message) : Type 0 where
+  pub acked : after.acked ≡ before.acked
+  pub cut : after.cut ≡ before.cut
+  pub left : after.left ≡ before.left + packet_count (length m.1)
+  pub owner : after.owner ≡ before.owner
 
 -- what is kept with it lies in the pool
 pub accepted : {old new : PoolState} {before after : Outbox} {m : Message} → OutboxLiesIn old before → AreKept new after.owner after.queue
-    → queued_messages new after ≡ queued_messages old before ++ m ∷ [] → ChangesQueue before after → Accepts old new before after m
+    → queued_messages new after ≡ queued_messages old before ++ m ∷ [] → AddsMessage before after m → Accepts old new before after m
 accepted {old} {new} {before} {after} {m} lies kept messages same_places =
     let len = ap (λ l. length (fragments_of l)) messages ∙ length-push (queued_messages old before) m in
     record {
       lies = record {
         kept = kept;
         acked = omega (arith, same_places.acked, same_places.cut, lies.acked);
-        cut = omega (arith, len, same_places.cut, lies.cut);
+        cut = omega (arith, len, same_places.cut, same_places.left, lies.cut);
       };
       messages = messages;
       waiting = ap (λ n. drop n (fragments_of (queued_messages new after))) same_places.cut
-          ∙ (ap (λ l. drop before.cut (fragments_of l)) messages ∙ waiting-push (queued_messages old before) m before.cut lies.cut);
+          ∙ (ap (λ l. drop before.cut (fragments_of l)) messages ∙ waiting-push (queued_messages old before) m before.cut (omega (arith, lies.cut)));
       acked = same_places.acked;
       owner = same_places.owner;
     }
@@ -255,9 +290,6 @@ pub record Clears (first now : PoolState) (before box : Outbox) : Type 0 where
   pub has : before.owner < length first.owners
   pub elsewhere : OutboxLeavesOthers first now before.owner before.queue.items box.queue.items
 
-pub clears_none : (pool : PoolState) (box : Outbox) → AreKept pool box.owner box.queue → Clears pool pool box box
-clears_none pool box kept = record { kept = kept; owner = refl; has = kept.has_quota; elsewhere = leaves_none pool box.owner box.queue.items }
-
 pub clears_more : (first now new : PoolState) (before box after : Outbox) → Clears first now before box → GivesFront now new box after
     → Clears first new before after
 clears_more first now new before box after c g = record {
@@ -267,10 +299,6 @@ clears_more first now new before box after c g = record {
   elsewhere = leaves_on first now new before.owner before.queue.items box.queue.items after.queue.items c.has c.elsewhere
       (subst (λ o. OutboxLeavesOthers now new o box.queue.items after.queue.items) c.owner g.elsewhere);
 }
-
--- where none is left nothing is cut or acknowledged
-pub lies_empty : (pool : PoolState) (box : Outbox) → AreKept pool box.owner box.queue → box.acked ≡ 0 → box.cut ≡ 0 → OutboxLiesIn pool box
-lies_empty pool box kept acked cut = record { kept = kept; acked = omega arith; cut = omega arith }
 
 -- bytes were taken into a chain
 pub record TakesInto (old new : PoolState) (before after : Chain) (bytes : List ℕ) : Type 0 where
@@ -347,10 +375,8 @@ pub record LooksFor (pool : PoolState) (box : Outbox) (at place : ℕ) : Type 0 
   pub low : at ≤ length box.queue.items
   pub own : OwnsAll Queued chain_in pool box.owner (drop at box.queue.items)
   pub sendable : AreSendable (messages_of_all pool (drop at box.queue.items))
+  pub within : place ≤ box.cut
   pub fragment : slice_get (fragments_of (messages_of_all pool (drop at box.queue.items))) place ≡ slice_get (fragments_of (queued_messages pool box)) box.cut
-
-pub looks_first : (pool : PoolState) (box : Outbox) → OutboxLiesIn pool box → LooksFor pool box 0 box.cut
-looks_first pool box lies = record { low = omega arith; own = lies.kept.own; sendable = lies.kept.sendable; fragment = refl }
 
 pub looks_at : (pool : PoolState) (box : Outbox) (at place : ℕ) (q : Queued) → LooksFor pool box at place → Some q ≡ slice_get box.queue.items at
     → IsLive pool q.chain × (q.pipe < 112) × (slice_get
@@ -375,25 +401,25 @@ looks_on pool box at place count q looks found counted low =
       low = omega arith;
       own = own.1;
       sendable = sendable.1;
+      within = omega (arith, looks.within);
       fragment = sym (slice_get_behind (map packet_bytes (packets_of q.pipe (chain_bytes pool q.chain)))
           (fragments_of (messages_of_all pool (drop (at + 1) box.queue.items))) place (place - count)
           (omega (arith, len, counted, low))) ∙ here.2;
     }
 
--- two packets at most go into a block
-pub few_fragments : (pool : PoolState) (queue : List Queued) → AreSendable (messages_of_all pool queue)
-    → length (fragments_of (messages_of_all pool queue)) ≤ 2 * all_blocks Queued chain_in pool queue
-few_fragments pool [] s = omega arith
-few_fragments pool (q ∷ queue) s =
-    let some = s.0.1 in
-    let rest = few_fragments pool queue s.1 in
-    let len = length-first (queued_message pool q) (messages_of_all pool queue) in
-    omega (arith, some, rest, len, sum_by-cons (λ (x : Queued). blocks_for (length (chain_bytes pool x.chain))) q queue)
-
 pub cut_low : (pool : PoolState) (box : Outbox) → OutboxLiesIn pool box → box.cut ≤ 256
 cut_low pool box lies =
     let few = few_fragments pool box.queue.items lies.kept.sendable in
     omega (arith, few, lies.cut, lies.kept.used, lies.kept.within)
+
+-- no fragment is left exactly where none waits
+pub all_cut : (pool : PoolState) (box : Outbox) → OutboxLiesIn pool box → (box.left ≡ 0 → waiting_in pool box ≡ []) × (waiting_in pool box ≡ [] → box.left ≡ 0)
+all_cut pool box lies =
+    let fragments = fragments_of (queued_messages pool box) in
+    let len = length-drop box.cut fragments in (
+      (λ none. drop_all box.cut fragments (omega (arith, lies.cut))),
+      (λ none. omega (arith, len, ap length none, lies.cut)),
+    )
 
 -- ---- acknowledging
 

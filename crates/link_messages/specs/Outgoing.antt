@@ -51,7 +51,7 @@ pub record AreKept (pool : PoolState) (owner : ℕ) (queue : Buffer Queued) : Ty
 pub record OutboxLiesIn (pool : PoolState) (box : Outbox) : Type 0 where
   pub kept : AreKept pool box.owner box.queue
   pub acked : box.acked ≤ box.cut
-  pub cut : box.cut ≤ length (fragments_of (queued_messages pool box))
+  pub cut : box.left + box.cut ≡ length (fragments_of (queued_messages pool box))
 
 -- What a call left elsewhere: the chains that lie apart from those kept, and all counts but how much the owner uses.
 pub record OutboxLeavesOthers (old new : PoolState) (owner : ℕ) (before after : List Queued) : Type 0 where
@@ -84,6 +84,7 @@ pub record GivesFront (old new : PoolState) (before after : Outbox) : Type 0 whe
   pub kept : AreKept new after.owner after.queue
   pub acked : after.acked ≡ before.acked
   pub cut : after.cut ≡ before.cut
+  pub left : after.left ≡ before.left
   pub owner : after.owner ≡ before.owner
   pub fewer : length after.queue.items + 1 ≡ length before.queue.items
   pub elsewhere : OutboxLeavesOthers old new before.owner before.queue.items after.queue.items

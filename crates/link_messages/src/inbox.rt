@@ -5,7 +5,7 @@ ghost use Rattle.hcp_packet.specs.Packets.{is_good};
 
 use block_pool::{Chain, Pool};
 use hcp_chain::{ChainFault, Joined, Joiner};
-use hcp_packet::{read_header, read_packet};
+use hcp_packet::{read_header, view_packet};
 use swp_base::Info;
 
 /// A message that came whole, in its chain, with its pipe.
@@ -57,10 +57,10 @@ impl Inbox {
             × (used_of pool.new self.old.joiner.owner ≡ 0)
             × InboxLeavesOthers pool.old pool.new self.old.joiner.owner (chains_in self.old) []) }
     {
-        let Ok(packet) = read_packet(info.bytes()) else {
+        let Ok(packet) = view_packet(info.bytes()) else {
             return Ok(());
         };
-        match self.joiner.take(pool, &packet) {
+        match self.joiner.take_view(pool, &packet) {
             Joined::More => Ok(()),
             Joined::Whole { pipe, chain } => {
                 self.keep_good(pool, pipe, chain);

@@ -1,7 +1,7 @@
 //! The messages that wait until they are acknowledged whole.
-ghost use Rattle.std.specs.Prelude.{◌≡◌, ◌+◌, ◌^◌, ◌<◌, ◌≤◌, ◌∷◌, if◌then◌else◌, length, map, slice_get, Some};
+ghost use Rattle.std.specs.Prelude.{◌≡◌, ◌+◌, ◌^◌, ◌<◌, ◌≤◌, ◌∷◌, if◌then◌else◌, length};
 ghost use Rattle.block_pool.specs.Pool.{IsLive, chain_bytes};
-ghost use Rattle.hcp_packet.specs.Packets.{packet_count, packets_of, packet_bytes};
+ghost use Rattle.hcp_packet.specs.Packets.{packet_count, packet_at, packet_bytes};
 
 use block_pool::{Chain, NoRoom, Pool};
 use circular_buffer::HeapCircularBuffer;
@@ -24,16 +24,18 @@ pub struct Outbox {
     acked: u32,
     // How many fragments were cut, counted from the first one of the first message.
     cut: u32,
+    // How many fragments of all messages weren't cut yet.
+    left: u32,
 }
 
 impl Outbox {
-    ghost use Rattle.std.specs.Prelude.{◌≡◌, ◌≢◌, ℕ, ◌+◌, ◌-◌, ◌<◌, ◌≤◌, ◌↔◌, ◌++◌, [], ◌∷◌, length, take, drop, slice_get, IfOk, IfErr, IsOk, OnOk, OnErr};
+    ghost use Rattle.std.specs.Prelude.{◌≡◌, ◌≢◌, ◌+◌, ◌-◌, ◌^◌, ◌<◌, ◌≤◌, ◌↔◌, ◌++◌, [], ◌∷◌, length, slice_get, IfOk, IfErr, IsOk, OnOk, OnErr};
     ghost use Rattle.std.specs.Prelude.{List, IsTrue, IsNone, OnSome, IfSome, IfNone};
     ghost use Rattle.std.specs.Option.{option_to_list};
     ghost use Rattle.std.specs.Bool.{OnTrue, OnFalse};
     ghost use Rattle.circular_buffer.specs.Buffer.{buffer};
     ghost use Rattle.block_pool.specs.Slots.{blocks_for};
-    ghost use Rattle.block_pool.specs.Pool.{IsLive, chain_bytes, spare_of};
+    ghost use Rattle.block_pool.specs.Pool.{PoolState, IsLive, chain_bytes, spare_of};
     ghost use Rattle.hcp_packet.specs.Packets.{packet_count, fragments_of, IsSendable};
     ghost use Rattle.link_laws.specs.machine.Machine.{Message, whole_among};
     ghost use Rattle.link_messages.specs.declared.outbox.Queued.{Queued};
@@ -45,7 +47,7 @@ impl Outbox {
 
     /// Nothing waits.
     pub fn make(alloc: Global, owner: u8) -> Result<Outbox, AllocError>
-        ensures { IfOk result (λ box. (box.owner ≡ owner) × (box.queue ≡ buffer [] 128) × (box.acked ≡ 0) × (box.cut ≡ 0)) }
+        ensures { IfOk result (λ box. (box.owner ≡ owner) × (box.queue ≡ buffer [] 128) × (box.acked ≡ 0) × (box.cut ≡ 0) × (box.left ≡ 0)) }
     {
         let queue = HeapCircularBuffer::with_capacity(alloc, Self::MOST)?;
         Ok(Outbox {
@@ -53,6 +55,7 @@ impl Outbox {
             queue,
             acked: 0,
             cut: 0,
+            left: 0,
         })
     }
 
@@ -77,15 +80,21 @@ impl Outbox {
     {
         let mut chain = pool.chain(self.owner);
         pool.take(&mut chain, message)?;
-        self.push(pipe, chain);
+        self.push(pool, pipe, chain);
         Ok(())
     }
 
     // A message stands behind the others.
-    fn push(&mut self, pipe: u8, chain: Chain)
-        requires { length self.old.queue.items < self.old.queue.capacity }
-        ensures { self.new ≡ record self.old { queue = buffer (self.old.queue.items ++ record { pipe = pipe; chain = chain } ∷ []) self.old.queue.capacity } }
+    fn push(&mut self, pool: &Pool, pipe: u8, chain: Chain)
+        requires live { IsLive pool.now chain }
+        requires room { length self.old.queue.items < self.old.queue.capacity }
+        requires fits { self.old.left + packet_count (length (chain_bytes pool.now chain)) < 2 ^ 32 }
+        ensures { self.new ≡ record self.old {
+          queue = buffer (self.old.queue.items ++ record { pipe = pipe; chain = chain } ∷ []) self.old.queue.capacity;
+          left = self.old.left + packet_count (length (chain_bytes pool.now chain));
+        } }
     {
+        self.left += fragment_count(pool, &chain);
         let _fits = self.queue.try_push_back(Queued { pipe, chain });
     }
 
@@ -116,6 +125,14 @@ impl Outbox {
         while self.give_front(pool) {}
         self.acked = 0;
         self.cut = 0;
+        self.left = 0;
+    }
+
+    /// Whether all fragments of the messages that wait were cut: known at once, however many wait. This project's own.
+    pub fn has_all_cut(&self) -> bool
+        ensures { (pool : PoolState) → OutboxLiesIn pool self.now → IsTrue result ↔ (waiting_in pool self.now ≡ []) }
+    {
+        self.left == 0
     }
 
     /// The first fragment that wasn't cut yet, which is cut now. None where all were.
@@ -123,14 +140,18 @@ impl Outbox {
         requires { OutboxLiesIn pool.old self.old }
         ensures fragment { waiting_in pool.old self.old ≡ option_to_list result ++ waiting_in pool.old self.new }
         ensures none { IsNone result ↔ (waiting_in pool.old self.old ≡ []) }
-        ensures kept { OnSome result (self.new ≡ record self.old { cut = self.old.cut + 1 }) }
+        ensures kept { OnSome result (self.new ≡ record self.old { cut = self.old.cut + 1; left = self.old.left - 1 }) }
         ensures same { IfNone result (self.new ≡ self.old) }
         ensures lies { OutboxLiesIn pool.old self.new }
         ensures unchanged { pool.new ≡ pool.old }
     {
+        if self.has_all_cut() {
+            return None;
+        }
         match self.fragment_at(pool) {
             Some(info) => {
                 self.cut += 1;
+                self.left -= 1;
                 Some(info)
             }
             None => None,
@@ -146,11 +167,12 @@ impl Outbox {
         let mut place = self.cut;
         let mut at = 0;
         while let Some(queued) = self.queue.get(at) {
-            let count = fragment_count(pool, &queued.chain);
-            if place < count {
-                return Some(fragment_of(pool, queued, place));
+            let from = place * hcp_packet::MAX_DATA as u32;
+            let len = pool.len(&queued.chain);
+            if from < len {
+                return Some(fragment_of(pool, queued, from, len));
             }
-            place -= count;
+            place -= len.div_ceil(hcp_packet::MAX_DATA as u32);
             at += 1;
         }
         None
@@ -229,7 +251,7 @@ impl Outbox {
         let mut chain = chain;
         match pool.pass(&mut chain, self.owner) {
             Ok(()) => {
-                self.push(pipe, chain);
+                self.push(pool, pipe, chain);
                 Ok(())
             }
             Err(full) => Err((chain, full)),
@@ -246,17 +268,16 @@ fn fragment_count(pool: &Pool, chain: &Chain) -> u32
     pool.len(chain).div_ceil(hcp_packet::MAX_DATA as u32)
 }
 
-/// A fragment of a message, by its place.
-fn fragment_of(pool: &mut Pool, queued: &Queued, place: u32) -> Info
+/// The fragment of a message of `len` bytes that begins at one of these.
+fn fragment_of(pool: &mut Pool, queued: &Queued, from: u32, len: u32) -> Info
     requires live { IsLive pool.old queued.now.chain }
     requires pipe { queued.now.pipe < 112 }
-    requires within { place < packet_count (length (chain_bytes pool.old queued.now.chain)) }
-    requires short { length (chain_bytes pool.old queued.now.chain) < 2 ^ 32 }
-    ensures fragment { slice_get (map packet_bytes (packets_of queued.now.pipe (chain_bytes pool.old queued.now.chain))) place ≡ Some result }
+    requires len { len ≡ length (chain_bytes pool.old queued.now.chain) }
+    requires within { from < len }
+    ensures fragment { result ≡ packet_bytes (packet_at queued.now.pipe (chain_bytes pool.old queued.now.chain) from) }
     ensures unchanged { pool.new ≡ pool.old }
 {
-    let from = place * hcp_packet::MAX_DATA as u32;
-    let last = pool.len(&queued.chain) - from <= hcp_packet::MAX_DATA as u32;
+    let last = len - from <= hcp_packet::MAX_DATA as u32;
     let mut data = [0; hcp_packet::MAX_DATA];
     let count = pool.copy_on(&queued.chain, from, &mut data);
     packet_info(first_byte(last, queued.pipe), &data[..count])

@@ -1,8 +1,8 @@
-use Rattle.std.proofs.Common.{◌<◌, length, refl, sym, subst}
+use Rattle.std.proofs.Common.{◌<◌, length, refl, sym, subst, arith}
 use Rattle.block_pool.specs.Pool.{PoolState}
 use Rattle.link_messages.specs.declared.outbox.Outbox.{Outbox}
 use Rattle.link_messages.specs.Outgoing.{Accepts}
-use Rattle.link_messages.proofs.OutgoingLemmas.{TakesInto, taken_into, accepted}
+use Rattle.link_messages.proofs.OutgoingLemmas.{TakesInto, taken_into, accepted, left_fits, added}
 use Rattle.link_messages.proofs.outbox.Outbox.accept.Goals as goal
 
 pub push-requires : goal.push-requires
@@ -13,7 +13,11 @@ push-requires c =
     let t =
     subst P c.chain-chain.ensures.unchanged (record { appends = e.ok; appended = e.appended; live = e.live; others = e.others; room = e.room.0 refl }) in
     let into = taken_into c.args.pipe c.requires.lies.kept c.chain-chain.ensures.chain c.requires.sendable t in
-    subst (λ n. length old.queue.items < n) (sym c.requires.lies.kept.capacity) into.room
+    record {
+      live = e.live;
+      room = subst (λ n. length old.queue.items < n) (sym c.requires.lies.kept.capacity) into.room;
+      fits = omega (arith, left_fits c.requires.lies into);
+    }
 
 pub returns-clause-ok : goal.returns-clause-ok
 returns-clause-ok c =
@@ -25,4 +29,4 @@ returns-clause-ok c =
     let into = taken_into c.args.pipe c.requires.lies.kept c.chain-chain.ensures.chain c.requires.sendable t in
     let Q : Outbox → Type 0 = λ b. Accepts c.args.pool.now c.take.new.self old b (c.args.pipe, c.args.message.now) in
     subst Q (sym c.push.ensures)
-    (accepted c.requires.lies into.kept into.messages (record { acked = refl; cut = refl; owner = refl }))
+    (accepted c.requires.lies into.kept into.messages (record { acked = refl; cut = refl; left = added old.left into; owner = refl }))

@@ -1,8 +1,8 @@
-use Rattle.std.proofs.Common.{◌<◌, length, refl, sym, subst}
+use Rattle.std.proofs.Common.{◌<◌, length, refl, sym, subst, arith}
 use Rattle.block_pool.specs.Pool.{chain_bytes}
 use Rattle.link_messages.specs.declared.outbox.Outbox.{Outbox}
 use Rattle.link_messages.specs.Outgoing.{Accepts, LeavesOthersBut}
-use Rattle.link_messages.proofs.OutgoingLemmas.{passed_into, accepted}
+use Rattle.link_messages.proofs.OutgoingLemmas.{passed_into, accepted, left_fits, added}
 use Rattle.link_messages.proofs.outbox.Outbox.accept_chain.Goals as goal
 
 pub push-requires : goal.push-requires
@@ -12,7 +12,11 @@ push-requires c =
     let into =
     passed_into c.args.pipe c.requires.lies.kept c.requires.live c.requires.other c.requires.sendable
     (record { passes = e.ok; same_bytes = e.same_bytes; live = e.live; others = e.others; room = e.room.0 refl }) in
-    subst (λ n. length old.queue.items < n) (sym c.requires.lies.kept.capacity) into.0.room
+    record {
+      live = e.live;
+      room = subst (λ n. length old.queue.items < n) (sym c.requires.lies.kept.capacity) into.0.room;
+      fits = omega (arith, left_fits c.requires.lies into.0);
+    }
 
 pub returns-in-Ok-clause-ok : goal.returns-in-Ok-clause-ok
 returns-in-Ok-clause-ok c =
@@ -23,7 +27,7 @@ returns-in-Ok-clause-ok c =
     (record { passes = e.ok; same_bytes = e.same_bytes; live = e.live; others = e.others; room = e.room.0 refl }) in
     let Q : Outbox → Type 0 = λ b. Accepts c.args.pool.now c.pass.new.self old b (c.args.pipe, chain_bytes c.args.pool.now c.args.chain) in
     subst Q (sym c.push.ensures)
-    (accepted c.requires.lies into.0.kept into.0.messages (record { acked = refl; cut = refl; owner = refl }))
+    (accepted c.requires.lies into.0.kept into.0.messages (record { acked = refl; cut = refl; left = added old.left into.0; owner = refl }))
 
 pub returns-in-Ok-clause-elsewhere : goal.returns-in-Ok-clause-elsewhere
 returns-in-Ok-clause-elsewhere c =

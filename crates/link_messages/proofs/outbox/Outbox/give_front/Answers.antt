@@ -10,5 +10,5 @@ returns-in-Some-clause-given c =
     let old = c.args.self.now in
     gives_front c.requires
     (front_is old.queue.items q c.in-Some.ensures.value ∙ ap (λ (b : Buffer Queued). q ∷ b.items) (sym c.pop_front.ensures.items))
-    (ap (λ (b : Buffer Queued). b.capacity) c.pop_front.ensures.items) (record { acked = refl; cut = refl; owner = refl })
+    (ap (λ (b : Buffer Queued). b.capacity) c.pop_front.ensures.items) (record { acked = refl; cut = refl; left = refl; owner = refl })
     c.give.ensures.given c.give.ensures.others
