@@ -98,7 +98,7 @@ untouched_stands old new k m h u =
               within = omega (arith, out_used, kept.within);
             };
             acked = before.sends.lies.acked;
-            cut = subst (λ l. k.outbox.cut ≤ length (fragments_of l)) (sym same) before.sends.lies.cut;
+            cut = subst (λ l. k.outbox.left + k.outbox.cut ≡ length (fragments_of l)) (sym same) before.sends.lies.cut;
           };
           all = before.sends.all;
           out = before.sends.out;

@@ -146,7 +146,7 @@ outbox_kept old new owner xs ys box own leaves lies differ =
           within = omega (arith, used, kept.within);
         };
         acked = lies.acked;
-        cut = subst (λ l. box.cut ≤ length (fragments_of l)) (sym same) lies.cut;
+        cut = subst (λ l. box.left + box.cut ≡ length (fragments_of l)) (sym same) lies.cut;
       };
       messages = same;
       aside = aside;

@@ -1,5 +1,5 @@
 -- What parts of a step leave of a link end.
-use Rattle.std.proofs.Common.{◌≡◌, ◌≢◌, ℕ, zero, suc, ◌+◌, ◌<◌, ◌⊎◌, inl, inr, Bool, true, false, List, [], ◌∷◌, ◌++◌, length, map, drop, min, refl}
+use Rattle.std.proofs.Common.{◌≡◌, ◌≢◌, ℕ, ◌+◌, ◌-◌, ◌<◌, ◌⊎◌, inl, inr, Bool, true, false, List, [], ◌∷◌, ◌++◌, length, map, drop, min, refl}
 use Rattle.std.proofs.Common.{sym, ap, ◌∙◌, subst}
 use Rattle.std.specs.Prelude.{Option, Some, None, if◌then◌else◌}
 use Rattle.arrayvec.specs.ArrayVec.{ArrayVec}
@@ -55,7 +55,7 @@ refills_none pool k lies = record { lies = lies; stands = λ m h. h; queue = ref
 -- one more was offered: the first fragment that waits was cut, and the SHDLC end, which has room for it, has taken it
 pub record HasOffered (pool : PoolState) (k : End) (s : KeptEnd) (box : Outbox) (info : Fragment) : Type 0 where
   pub waits : waiting_in pool k.outbox ≡ info ∷ waiting_in pool box
-  pub cut : box ≡ record k.outbox { cut = k.outbox.cut + 1 }
+  pub cut : box ≡ record k.outbox { cut = k.outbox.cut + 1; left = k.outbox.left - 1 }
   pub lies : OutboxLiesIn pool box
   pub up : k.shdlc.phase ≡ Up
   pub room : length k.shdlc.sender.queue < 4
@@ -103,16 +103,6 @@ refilled pool k m (inr four) h = record { halfway = h; full = inr (h.link.kept.s
 -- nothing waits
 pub none_waits : (pool : PoolState) (k : End) (m : Machine) → waiting_in pool k.outbox ≡ [] → Halfway k pool m → EndStandsFor k pool m
 none_waits pool k m none h = record { halfway = h; full = inl none }
-
-drop_of_none : (n : ℕ) → drop n (let l : List Fragment = [] in l) ≡ []
-drop_of_none zero = refl
-drop_of_none (suc n) = refl
-
--- there is no message
-pub nothing_queued : (pool : PoolState) (k : End) (m : Machine) → k.outbox.queue.items ≡ [] → Halfway k pool m → EndStandsFor k pool m
-nothing_queued pool k m none h =
-    let cut = k.outbox.cut in
-    none_waits pool k m (ap (λ q. drop cut (fragments_of (messages_of_all pool q))) none ∙ drop_of_none cut) h
 
 -- ---- forgetting
 

@@ -27,7 +27,7 @@ new_before s Uicc h =
     record { offered = []; out = refl; kept = h; narrow = record { own = omega arith; peer = omega arith; session = omega arith }; session = refl }
 
 new_box : (pool : PoolState) (sender receiver : ℕ) → IsFree pool sender receiver
-    → OutboxLiesIn pool (record { owner = sender; queue = buffer [] 128; acked = 0; cut = 0 })
+    → OutboxLiesIn pool (record { owner = sender; queue = buffer [] 128; acked = 0; cut = 0; left = 0 })
 new_box pool sender receiver free = record {
   kept = record {
     own = tt;
@@ -55,6 +55,7 @@ pub record IsMadeOf (role : Named) (sender receiver : ℕ) (k : End) : Type 0 wh
   pub queue : k.outbox.queue ≡ buffer [] 128
   pub acked : k.outbox.acked ≡ 0
   pub cut : k.outbox.cut ≡ 0
+  pub left : k.outbox.left ≡ 0
   pub receives_for : k.inbox.joiner.owner ≡ receiver
   pub none : chains_in k.inbox ≡ []
   pub no_acts : k.acts.items ≡ []
@@ -68,7 +69,7 @@ no_fragments Clf = (refl, refl, refl)
 no_fragments Uicc = (refl, refl, refl)
 
 new_stands : {pool : PoolState} {role : Named} {sender receiver : ℕ} {k : End} → IsMadeOf role sender receiver k → IsFree pool sender receiver
-    → EndStandsFor (record k { outbox = record { owner = sender; queue = buffer [] 128; acked = 0; cut = 0 } }) pool (new_link_end (new_role role))
+    → EndStandsFor (record k { outbox = record { owner = sender; queue = buffer [] 128; acked = 0; cut = 0; left = 0 } }) pool (new_link_end (new_role role))
 new_stands {pool} {role} {sender} {receiver} {k} n free =
     let parts = none_in k.inbox.joiner.open.items (got_chains k.inbox.got) n.none in
     let e = no_fragments role in
@@ -107,9 +108,11 @@ pub made : {role : Named} {sender receiver : ℕ} {k : End} → IsMadeOf role se
     → EndStandsFor k pool (new_link_end (new_role role))
 made {role} {sender} {receiver} {k} n pool free =
     let box = k.outbox in
-    let same : record { owner = sender; queue = buffer [] 128; acked = 0; cut = 0 } ≡ box =
-    sym (ap (λ o. record box { owner = o }) n.sends_for ∙ (ap (λ q. record { owner = sender; queue = q; acked = box.acked; cut = box.cut }) n.queue
-    ∙ (ap (λ a. record { owner = sender; queue = buffer [] 128; acked = a; cut = box.cut }) n.acked
-    ∙ ap (λ c. record { owner = sender; queue = buffer [] 128; acked = 0; cut = c }) n.cut))) in
+    let same : record { owner = sender; queue = buffer [] 128; acked = 0; cut = 0; left = 0 } ≡ box =
+    sym (ap (λ o. record box { owner = o }) n.sends_for
+    ∙ (ap (λ q. record { owner = sender; queue = q; acked = box.acked; cut = box.cut; left = box.left }) n.queue
+    ∙ (ap (λ a. record { owner = sender; queue = buffer [] 128; acked = a; cut = box.cut; left = box.left }) n.acked
+    ∙ (ap (λ c. record { owner = sender; queue = buffer [] 128; acked = 0; cut = c; left = box.left }) n.cut
+    ∙ ap (λ l. record { owner = sender; queue = buffer [] 128; acked = 0; cut = 0; left = l }) n.left)))) in
     let P : Outbox → Type 0 = λ b. EndStandsFor (record k { outbox = b }) pool (new_link_end (new_role role)) in
     subst P same (new_stands n free)

@@ -230,16 +230,25 @@ fetched_acc e [] None s = rw s
 fetched_acc e [] (Some f) s = rw s
 fetched_acc e (d ∷ due) q s = refl
 
--- the SHDLC end of a link end was asked for its next frame, where no ACT frame is next
-pub record HasFetchedFrame (k : End) (s : KeptEnd) (acts : ArrayVec ActDue) (frame : Option Control) : Type 0 where
+-- the next frame of a link end is that of its SHDLC end, where no ACT frame is next
+pub link_frame : {pool : PoolState} {k : End} {m : Machine} {frame : Option Control} → EndStandsFor k pool m → None ≡ front_act k.acts.items
+    → ((e : EndState) → ShdlcStandsFor k.shdlc e → frame ≡ frame_due e) → frame ≡ next_frame m
+link_frame {pool} {k} {m} h front frame =
+    let link = h.halfway.link in
+    let n = link_next m k.acts.items front in
+    let is : record m { acts = map due_of k.acts.items } ≡ m = ap (λ a. record m { acts = a }) h.halfway.acts in
+    let a = fetched_alike m.shdlc link.offered (waiting_in pool k.outbox) link.out link.narrow.session h.full in
+    frame (with_out m.shdlc link.offered) link.kept ∙ (a.frame ∙ sym (sym (ap next_frame is) ∙ n.0))
+
+-- the SHDLC end of a link end sent its next frame, where no ACT frame is next
+pub record HasFetchedFrame (k : End) (s : KeptEnd) (acts : ArrayVec ActDue) : Type 0 where
   pub front : None ≡ front_act k.acts.items
   pub nearer : acts.items ≡ map kept_nearer (behind_front k.acts.items)
-  pub frame_is : (e : EndState) → ShdlcStandsFor k.shdlc e → frame ≡ frame_due e
   pub stands : (e : EndState) → ShdlcStandsFor k.shdlc e → ShdlcStandsFor s (fetched e)
 
-pub link_sent : {pool : PoolState} {k : End} {s : KeptEnd} {acts : ArrayVec ActDue} {m : Machine} {frame : Option Control} → EndStandsFor k pool m
-    → HasFetchedFrame k s acts frame → (frame ≡ next_frame m) × EndStandsFor (record k { shdlc = s; acts = acts }) pool (frame_fetched m)
-link_sent {pool} {k} {s} {acts} {m} h f =
+pub link_fetched : {pool : PoolState} {k : End} {s : KeptEnd} {acts : ArrayVec ActDue} {m : Machine} → EndStandsFor k pool m
+    → HasFetchedFrame k s acts → EndStandsFor (record k { shdlc = s; acts = acts }) pool (frame_fetched m)
+link_fetched {pool} {k} {s} {acts} {m} h f =
     let before = h.halfway in
     let link = before.link in
     let both : StandsWith k.shdlc (waiting_in pool k.outbox) m.shdlc = record { stands = link; full = h.full } in
@@ -248,33 +257,31 @@ link_sent {pool} {k} {s} {acts} {m} h f =
     let P : Machine → Type 0 = λ x. EndStandsFor (record k { shdlc = s; acts = acts }) pool x in
     let a = fetched_alike m.shdlc link.offered (waiting_in pool k.outbox) link.out link.narrow.session h.full in
     let w = stands_fetched k.shdlc s (waiting_in pool k.outbox) m.shdlc both (f.stands (with_out m.shdlc link.offered) link.kept) in
-    let acc : (fetched m.shdlc).session.acc ≡ m.shdlc.session.acc = fetched_acc m.shdlc m.shdlc.due (fragment_due m.shdlc.session) refl in (
-      f.frame_is (with_out m.shdlc link.offered) link.kept ∙ (a.frame ∙ sym (sym (ap next_frame is) ∙ n.0)),
-      subst P (sym n.1 ∙ ap frame_fetched is) (record {
-        halfway = record {
-          role = before.role;
-          link = w.stands;
-          acts = ap (map due_of) (f.nearer ∙ ap (map kept_nearer) n.2) ∙ nearer_same k.acts.items;
-          sends = record {
-            lies = before.sends.lies;
-            all = before.sends.all;
-            out = a.out ∙ before.sends.out;
-            messages = before.sends.messages ∙ ap (λ x. drop (whole_among m.sent x) m.sent) (sym a.acked);
-            acked = before.sends.acked ∙ ap (rest_among m.sent) (sym a.acked);
-          };
-          receives = record {
-            lies = before.receives.lies;
-            under = before.receives.under ∙ sym (ap (λ l. open_after [] (packets_in l)) acc);
-            sound = ap (λ l. are_taken [] (packets_in l)) acc ∙ before.receives.sound;
-          };
-          got = before.got;
-          aside = before.aside;
-          passed_over = before.passed_over;
-          differ = before.differ;
+    let acc : (fetched m.shdlc).session.acc ≡ m.shdlc.session.acc = fetched_acc m.shdlc m.shdlc.due (fragment_due m.shdlc.session) refl in
+    subst P (sym n.1 ∙ ap frame_fetched is) (record {
+      halfway = record {
+        role = before.role;
+        link = w.stands;
+        acts = ap (map due_of) (f.nearer ∙ ap (map kept_nearer) n.2) ∙ nearer_same k.acts.items;
+        sends = record {
+          lies = before.sends.lies;
+          all = before.sends.all;
+          out = a.out ∙ before.sends.out;
+          messages = before.sends.messages ∙ ap (λ x. drop (whole_among m.sent x) m.sent) (sym a.acked);
+          acked = before.sends.acked ∙ ap (rest_among m.sent) (sym a.acked);
         };
-        full = w.full;
-      }),
-    )
+        receives = record {
+          lies = before.receives.lies;
+          under = before.receives.under ∙ sym (ap (λ l. open_after [] (packets_in l)) acc);
+          sound = ap (λ l. are_taken [] (packets_in l)) acc ∙ before.receives.sound;
+        };
+        got = before.got;
+        aside = before.aside;
+        passed_over = before.passed_over;
+        differ = before.differ;
+      };
+      full = w.full;
+    })
 
 -- ---- a message is given
 

@@ -5,6 +5,7 @@ use Rattle.block_pool.specs.Slots.{blocks_for}
 use Rattle.block_pool.specs.Owners.{owner_at}
 use Rattle.block_pool.specs.Pool.{PoolState, HasQuota, quota_of, used_of, aside_of, IsLive, chain_bytes}
 use Rattle.block_pool.specs.Holdings.{LiesApart}
+use Rattle.shdlc_core.specs.Kept.{IsFragmentDue}
 use Rattle.shdlc_core.specs.Machine.{Fragment, Session}
 use Rattle.shdlc_core.specs.Offering.{StandsBefore}
 use Rattle.hcp_packet.specs.Packets.{packets_in, fragments_of, AreSendable}
@@ -57,6 +58,11 @@ pub record EndStandsFor (k : End) (pool : PoolState) (m : Machine) : Type 0 wher
 -- how many control frames wait to be fetched
 abbrev pub controls_in : End → ℕ
 controls_in k = length k.acts.items + length k.shdlc.due
+
+-- The next frame to be fetched is the I frame of a fragment.
+pub record IsFragmentNext (k : End) : Type 0 where
+  pub acts : k.acts.items ≡ []
+  pub fragment : IsFragmentDue k.shdlc
 
 -- A frame may be taken: the last message was fetched, and none that was fetched is still in its owner's blocks, or the end is held.
 pub record MayTake (k : End) (pool : PoolState) : Type 0 where

@@ -11,7 +11,7 @@ use arrayvec::ArrayVec;
 use block_pool::{Chain, NoRoom, Pool};
 use hcp_chain::MAX_MESSAGE;
 use link_messages::{Inbox, Outbox};
-use shdlc_core::{LinkState, Shdlc};
+use shdlc_core::{FragmentDue, LinkState, Shdlc};
 use std::alloc::{AllocError, Global};
 use swp_act::ActEvent;
 use swp_base::{Act, Cause, Control, Role};
@@ -30,8 +30,9 @@ pub struct End {
 
 impl End {
     ghost use Rattle.std.specs.Prelude.{◌≡◌, ◌≢◌, ℕ, ◌+◌, ◌-◌, ◌<◌, ◌≤◌, [], map, length, true, false, None, Some, IfOk, IfErr, IfSome, OnOk, OnErr, is_some};
-    ghost use Rattle.std.specs.Prelude.{option_map, if◌then◌else◌, IsTrue};
+    ghost use Rattle.std.specs.Prelude.{option_map, if◌then◌else◌, IsTrue, OnSome};
     ghost use Rattle.std.specs.Bool.{OnTrue, OnFalse};
+    ghost use Rattle.shdlc_core.specs.Kept.{frame_shown};
     ghost use Rattle.shdlc_core.specs.Offering.{StandsBefore};
     ghost use Rattle.shdlc_core.specs.Machine.{stopped, ticked, tick_answer};
     ghost use Rattle.block_pool.specs.Pool.{PoolState, used_of, chain_bytes};
@@ -46,7 +47,7 @@ impl End {
     ghost use Rattle.link_messages.specs.Outgoing.{OutboxLiesIn, LeavesOthersBut, waiting_in};
     ghost use Rattle.link_messages.specs.Incoming.{InboxLiesIn};
     ghost use Rattle.link_end.specs.Dues.{kept_in_front};
-    ghost use Rattle.link_end.specs.Ends.{IsFree, MayPass, Halfway, EndStandsFor, EndLeavesOthers, MayTake, Accounts, controls_in};
+    ghost use Rattle.link_end.specs.Ends.{IsFree, MayPass, Halfway, EndStandsFor, EndLeavesOthers, MayTake, Accounts, controls_in, IsFragmentNext};
     ghost use Rattle.link_end.specs.Inputs.{heard_bit};
     ghost use Rattle.link_end.specs.Idle.{IsIdle};
     ghost use Rattle.link_end.specs.Steps.{ForgetsMessages};
@@ -87,6 +88,7 @@ impl End {
     }
 
     // Offers the fragments that wait, while there is room for them.
+    #[inline(always)]
     fn refill(&mut self, pool: &mut Pool)
         requires { OutboxLiesIn pool.old self.old.outbox }
         ensures stands { (m : Machine) → Halfway self.old pool.old m → EndStandsFor self.new pool.new m }
@@ -95,13 +97,14 @@ impl End {
         ensures acts { self.new.acts ≡ self.old.acts }
         ensures pool { pool.new ≡ pool.old }
     {
-        if self.outbox.is_empty() {
+        if self.outbox.has_all_cut() {
             return;
         }
         self.offer_more(pool);
     }
 
-    // The same where messages wait.
+    // The same where some wait.
+    #[inline(never)]
     fn offer_more(&mut self, pool: &mut Pool)
         requires { OutboxLiesIn pool.old self.old.outbox }
         ensures stands { (m : Machine) → Halfway self.old pool.old m → EndStandsFor self.new pool.new m }
@@ -114,7 +117,7 @@ impl End {
             let Some(info) = self.outbox.next_fragment(pool) else {
                 return;
             };
-            let _taken = self.shdlc.offer(&info);
+            let _taken = self.shdlc.offer_owned(info);
         }
     }
 
@@ -544,6 +547,30 @@ impl End {
             return false;
         }
         self.shdlc.has_none_due()
+    }
+
+    /// The fragment that is to be sent next, with the numbers of its I frame, where no control frame waits to be fetched before it, ACT
+    /// frames among them. `count_fragment` counts it as sent: both together are what `next_out` does then. None where a control frame waits, or
+    /// where no fragment is to be sent.
+    pub fn fragment_due(&self) -> Option<FragmentDue<'_>>
+        ensures frame { (pool : PoolState) (m : Machine) → EndStandsFor self.now pool m → controls_in self.now ≡ 0
+            → option_map frame_shown result ≡ next_frame m }
+        ensures waits { controls_in self.now ≢ 0 → result ≡ None }
+        ensures due { OnSome result (IsFragmentNext self.now) }
+    {
+        if !self.acts.is_empty() {
+            return None;
+        }
+        self.shdlc.fragment_due()
+    }
+
+    /// The fragment that is to be sent next counts as sent. No control frame waits to be fetched.
+    pub fn count_fragment(&mut self)
+        requires { IsFragmentNext self.old }
+        ensures stands { (pool : PoolState) (m : Machine) → EndStandsFor self.old pool m → EndStandsFor self.new pool (after_input m Fetch) }
+        ensures boxes { (self.new.outbox ≡ self.old.outbox) × (self.new.inbox ≡ self.old.inbox) }
+    {
+        self.shdlc.count_fragment();
     }
 
     /// Fetches the frame that is to be sent now: the control frames in the order in which they were made, ACT frames among them, and

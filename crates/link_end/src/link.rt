@@ -6,12 +6,12 @@ use crate::end::End;
 use crate::report::{LinkReport, ResetRefused, SendRefused};
 use block_pool::{Chain, Pool};
 use byte_link::{ByteLink, Unit};
-use shdlc_core::LinkState;
+use shdlc_core::{FragmentDue, LinkState};
 use std::alloc::Global;
 use swp_base::{Control, FrameFault, Lpdu, NoMemory, Role};
 use swp_frame::{Deframer, Fed};
 use swp_line::{Period, period_of};
-use swp_lpdu::{LpduFault, read_lpdu, write_lpdu};
+use swp_lpdu::{LpduFault, read_lpdu, write_fragment, write_lpdu};
 
 /// One end of a link (ETSI TS 102 613): its activation, its SHDLC end, and the messages that it cuts and joins, which lie in the
 /// blocks of its node's pool. After it is made no call takes memory; no clause forces that.
@@ -326,6 +326,11 @@ impl LinkEnd {
         ensures boxes { (self.new.link.outbox ≡ self.old.link.outbox) × (self.new.link.inbox ≡ self.old.link.inbox) }
         ensures inputs { (self.new.deframer ≡ self.old.deframer) × (self.new.byte_link ≡ self.old.byte_link) }
     {
+        if let Some(FragmentDue { ns, nr, info }) = self.link.fragment_due() {
+            let lpdu = write_fragment(ns, nr, info);
+            self.link.count_fragment();
+            return Some(lpdu);
+        }
         let Some(control) = self.link.next_out() else {
             return None;
         };

@@ -191,8 +191,9 @@ impl<N: Nv + Drop> Node<N> {
         ensures number { self.new.number ≡ self.old.number }
         ensures runs { IsSoundNode self.new }
     {
-        let spares = self.ends.spares();
+        // The list comes first: it is long, and cleared twice where anything stands before it.
         let mut deeds = Deeds::new();
+        let spares = self.ends.spares();
         self.deeds_for(host, pipe, message, &mut deeds);
         let short = lack(deeds.as_slice(), host, message.len(), &spares);
         self.turn_decided(host, deeds.as_slice(), short, held, pipe, message, watch)

@@ -24,14 +24,14 @@ pub enum InitEnd {
 /// One of the things that a node does with a message. This project's own.
 #[derive(Drop)]
 pub enum Deed {
+    /// ANY_OK was sent for the command that was committed. It comes first, as it is the default: a new list of deeds is then all zeros.
+    SaysOk,
     /// A command is committed.
     Commits(Command),
     /// The message itself goes to the host of this link, or from a host to the controller, on the pipe that it came on.
     PassesOn { host: u8 },
     /// An answer goes to the host of this link, or from a host to the controller.
     Sends { host: u8, pipe: u8, message: Answer },
-    /// ANY_OK was sent for the command that was committed.
-    SaysOk,
     /// The host at the far end of this pipe is asked for its creation, and a block of its creator's end is set aside for the answer.
     Asks(PipeRow),
     /// The creation of this asker waits no more: that block is free.

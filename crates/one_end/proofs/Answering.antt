@@ -163,6 +163,16 @@ module _ {N : Type 0} (writes : N → ℕ → List ℕ → Bool → N → Type 0
           (λ m. all_answered-append form first later (over l m));
     }
 
+  -- one thing alone comes
+  pub answers_one : {old new : N} {S : Lone → Type 0} (c : LoneCause) (l : Lone) {before now : List ℕ}
+      → HasAnswered writes old new S (λ m. answers_alone form (over l m) c) before now
+      → HasAnswered writes old new S (λ m. all_answered form (over l m) (c ∷ [])) before now
+  answers_one c l h = record {
+    given = h.given;
+    appended = h.appended;
+    brings = brings_as writes (λ m. all_answered form (over l m) (c ∷ [])) h.brings (λ m. one_answered form c (over l m));
+  }
+
   -- said of other causes that are the same
   pub same_causes : {old new : N} {S : Lone → Type 0} (others : List LoneCause) {causes : List LoneCause} (l : Lone) → causes ≡ others
       → {before now : List ℕ} → HasAnswered writes old new S (λ m. all_answered form (over l m) causes) before now

@@ -8,7 +8,6 @@ use Rattle.byte_link.specs.Reading.{unit_given, units_given, says_something}
 use Rattle.byte_link.specs.Written.{units_behind}
 use Rattle.swp_frame.specs.declared.fed.Fed.{Fed}
 use Rattle.swp_frame.specs.declared.fed.Fed.TheVariants as fed
-use Rattle.lone_laws.specs.alone.Lone.{LoneCause}
 use Rattle.lone_laws.specs.alone.Lone.LoneCause.{FrameComes, TickComes, StartComes, StopComes}
 use Rattle.lone_laws.specs.alone.Ends.{comes_if, verdict_brings, unit_brings, bytes_bring}
 use Rattle.lone_laws.specs.alone.Ends.EndForm.{OnBytes}

@@ -11,7 +11,7 @@ ghost use Rattle.one_end.specs.Writing.{form_named};
 
 use crate::node::{Coming, LoneNode};
 use crate::reading::{Brought, Reader, Stretch};
-use crate::stepping::answer_all;
+use crate::stepping::{answer, answer_all};
 use crate::writing::{Form, Output, ROOM};
 use arrayvec::ArrayVec;
 use swp_base::{Lpdu, Nv};
@@ -142,8 +142,8 @@ fn hear_stretch<N: Nv, T: LoneNode<N>>(end: &mut OneEnd<T>, bytes: &[u8], out: &
 {
     if let Some(lpdu) = end.reader.whole_frame(bytes) {
         let count = lpdu.len() + 4;
-        let comings = [Coming::Frame(lpdu_of(lpdu))];
-        let stopped = answer_all(&mut end.node, end.form, end.is_clf, &comings, out);
+        let coming = Coming::Frame(lpdu_of(lpdu));
+        let stopped = answer(&mut end.node, end.form, end.is_clf, &coming, out);
         return Heard { count, stopped };
     }
     hear_in_parts(end, bytes, out)

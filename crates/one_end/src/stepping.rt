@@ -33,10 +33,12 @@ pub(crate) fn send_out<N: Nv, T: LoneNode<N>>(
     ensures nv { T.nv node.new ≡ T.nv node.old }
 {
     for _ in 0..MOST_FRAMES {
-        let Some(lpdu) = node.next_out() else {
+        // A frame is long to move, so it is written from where it lies.
+        let next = node.next_out();
+        let Some(lpdu) = &next else {
             return;
         };
-        write_out(form, is_clf, &lpdu, out);
+        write_out(form, is_clf, lpdu, out);
     }
 }
 

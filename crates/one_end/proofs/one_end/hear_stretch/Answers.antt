@@ -6,7 +6,7 @@ use Rattle.one_end.specs.declared.node.Coming.TheVariants as coming
 use Rattle.one_end.specs.Running.{cause_of, RunsYet}
 use Rattle.one_end.specs.Standing.{IsAlone}
 use Rattle.one_end.specs.Writing.{form_named}
-use Rattle.one_end.proofs.Answering.{stands_as, same_causes}
+use Rattle.one_end.proofs.Answering.{answers_one, stands_as, same_causes}
 use Rattle.one_end.proofs.one_end.hear_stretch.Goals as goal
 
 -- they begin with a whole unit
@@ -19,10 +19,10 @@ returns-in-Some-clause-heard g c l older s =
     ap (λ xs. FrameComes xs ∷ []) c.lpdu_of.ensures
     ∙ (sym (c.in-Some.ensures.brings g.T.LoneNode.number older s.reads) ∙ ap (λ f. bytes_bring f g.T.LoneNode.number older came) s.form_is) in
     same_causes g.N.Nv.writes form (bytes_bring form g.T.LoneNode.number older came) l given
-    (stands_as g.N.Nv.writes form (RunsYet (g.T.LoneNode.runs c.answer_all-stopped.new.node) c.answer_all-stopped.result)
+    (stands_as g.N.Nv.writes form (RunsYet (g.T.LoneNode.runs c.answer-stopped.new.node) c.answer-stopped.result)
     (IsAlone g.T.LoneNode.runs g.T.LoneNode.number
-    (record { form = c.args.end.now.form; is_clf = c.args.end.now.is_clf; reader = c.args.end.now.reader; node = c.answer_all-stopped.new.node })
-    (reverse came ++ older) c.answer_all-stopped.result) (map cause_of (coming.Frame c.lpdu_of.result ∷ [])) l
+    (record { form = c.args.end.now.form; is_clf = c.args.end.now.is_clf; reader = c.args.end.now.reader; node = c.answer-stopped.new.node })
+    (reverse came ++ older) c.answer-stopped.result) (map cause_of (coming.Frame c.lpdu_of.result ∷ [])) l
     (λ k b. (
       b.0,
       λ on. record {
@@ -31,4 +31,4 @@ returns-in-Some-clause-heard g c l older s =
         form_is = s.form_is;
         reads = c.in-Some.ensures.stands g.T.LoneNode.number older s.reads;
       },
-    )) (c.answer_all-stopped.ensures.done l s.runs))
+    )) (answers_one g.N.Nv.writes form (cause_of (coming.Frame c.lpdu_of.result)) l (c.answer-stopped.ensures.done l s.runs)))

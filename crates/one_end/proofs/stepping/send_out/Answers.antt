@@ -26,20 +26,20 @@ loop-init g c =
       nv = refl;
     }
 
-pub next_out-requires : goal.next_out-requires
-next_out-requires g c = record { may = c.loop.invariant.sends.some }
+pub next_out-next-requires : goal.next_out-next-requires
+next_out-next-requires g c = record { may = c.loop.invariant.sends.some }
 
 pub returns-in_default-clause-sent : goal.returns-in_default-clause-sent
 returns-in_default-clause-sent g c l frames runs few =
-    let Later : Lone → List Control → Type 0 = g.T.LoneNode.runs c.next_out.new.self in
+    let Later : Lone → List Control → Type 0 = g.T.LoneNode.runs c.next_out-next.new.self in
     (all_sent (c.loop.invariant.sends.all l frames runs few) Later
-    (λ left r. subst (λ o. HasSentFirst Later l o left) c.in_default.is (c.next_out.ensures.sent l left r))).0
+    (λ left r. subst (λ o. HasSentFirst Later l o left) c.in_default.is (c.next_out-next.ensures.sent l left r))).0
 
 pub returns-in_default-clause-written : goal.returns-in_default-clause-written
 returns-in_default-clause-written g c l frames runs few =
-    let Later : Lone → List Control → Type 0 = g.T.LoneNode.runs c.next_out.new.self in
+    let Later : Lone → List Control → Type 0 = g.T.LoneNode.runs c.next_out-next.new.self in
     (all_sent (c.loop.invariant.sends.all l frames runs few) Later
-    (λ left r. subst (λ o. HasSentFirst Later l o left) c.in_default.is (c.next_out.ensures.sent l left r))).1
+    (λ left r. subst (λ o. HasSentFirst Later l o left) c.in_default.is (c.next_out-next.ensures.sent l left r))).1
 
 pub returns-in_default-clause-sized : goal.returns-in_default-clause-sized
 returns-in_default-clause-sized g c = omega (arith, c.loop.invariant.sends.sized, c.loop.auto.counter-end)
@@ -49,17 +49,17 @@ write_out-requires g c = record { room = omega (arith, c.loop.invariant.sends.si
 
 pub loop-preserved : goal.loop-preserved
 loop-preserved g c =
-    let Later : Lone → List Control → Type 0 = g.T.LoneNode.runs c.next_out.new.self in
+    let Later : Lone → List Control → Type 0 = g.T.LoneNode.runs c.next_out-next.new.self in
     let some = c.loop.invariant.sends.some in
     record {
       sends = record {
-        some = left_then Later some.0 c.next_out.result some.1 (c.next_out.ensures.sent some.0 some.1 some.2);
+        some = left_then Later some.0 c.next_out-next.result some.1 (c.next_out-next.ensures.sent some.0 some.1 some.2);
         all = λ l frames runs few. one_sent (c.loop.invariant.sends.all l frames runs few) Later
-            (λ left r. subst (λ o. HasSentFirst Later l o left) c.in-Some.is (c.next_out.ensures.sent l left r))
+            (λ left r. subst (λ o. HasSentFirst Later l o left) c.in-Some.is (c.next_out-next.ensures.sent l left r))
             (c.write_out.ensures.written g.T.LoneNode.number c.requires.role);
         sized = omega (arith, c.loop.invariant.sends.sized, c.write_out.ensures.sized);
       };
-      nv = c.next_out.ensures.nv ∙ c.loop.invariant.nv;
+      nv = c.next_out-next.ensures.nv ∙ c.loop.invariant.nv;
     }
 
 pub returns-clause-sent : goal.returns-clause-sent
@@ -80,7 +80,7 @@ pub returns-clause-sized : goal.returns-clause-sized
 returns-clause-sized g c = omega (arith, c.loop.invariant.sends.sized, c.loop.auto.counter-end)
 
 pub returns-in_default-clause-nv : goal.returns-in_default-clause-nv
-returns-in_default-clause-nv g c = c.next_out.ensures.nv ∙ c.loop.invariant.nv
+returns-in_default-clause-nv g c = c.next_out-next.ensures.nv ∙ c.loop.invariant.nv
 
 pub returns-clause-nv : goal.returns-clause-nv
 returns-clause-nv g c = c.loop.invariant.nv

@@ -13,6 +13,7 @@ returns-clause-stands c =
       queue = b.1;
       acked = b.2;
       cut = b.3;
+      left = b.4;
       receives_for = c.new-2.ensures.owner;
       none = c.new-2.ensures.empty;
       no_acts = c.new-3.ensures;

@@ -1,4 +1,4 @@
-use Rattle.link_end.proofs.NodeLemmas.{act_sent, link_sent}
+use Rattle.link_end.proofs.NodeLemmas.{act_sent, link_frame, link_fetched}
 use Rattle.link_end.proofs.«end».End.next_out.Goals as goal
 
 pub returns-in-Some-clause-stands : goal.returns-in-Some-clause-stands
@@ -12,11 +12,8 @@ returns-in-Some-clause-answer c pool m h =
 pub returns-in-None-clause-stands : goal.returns-in-None-clause-stands
 returns-in-None-clause-stands c pool m h =
     let a = c.in-None.ensures in
-    let e = c.next_out.ensures in
-    (link_sent h (record { front = a.act; nearer = a.nearer; frame_is = e.frame; stands = e.stands })).1
+    link_fetched h (record { front = a.act; nearer = a.nearer; stands = c.next_out.ensures.stands })
 
 pub returns-in-None-clause-answer : goal.returns-in-None-clause-answer
 returns-in-None-clause-answer c pool m h =
-    let a = c.in-None.ensures in
-    let e = c.next_out.ensures in
-    (link_sent h (record { front = a.act; nearer = a.nearer; frame_is = e.frame; stands = e.stands })).0
+    link_frame h c.in-None.ensures.act c.next_out.ensures.frame

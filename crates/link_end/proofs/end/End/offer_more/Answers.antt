@@ -10,7 +10,7 @@ loop-self-preserved c =
     let e = c.in-Some.ensures in
     let same = e.unchanged in
     let box = c.next_fragment.new.self in
-    let P : PoolState → Type 0 = λ p. Refills p c.args.self.now (record c.loop-self.self { shdlc = c.offer-taken.new.self; outbox = box }) in (
+    let P : PoolState → Type 0 = λ p. Refills p c.args.self.now (record c.loop-self.self { shdlc = c.offer_owned-taken.new.self; outbox = box }) in (
       subst P (sym same)
           (refills_more (record {
             waits = e.fragment;
@@ -18,7 +18,7 @@ loop-self-preserved c =
             lies = e.lies;
             up = room.0;
             room = room.1;
-            stands = c.offer-taken.ensures.stands;
+            stands = c.offer_owned-taken.ensures.stands;
           }) c.loop-self.invariant.0),
       same ∙ c.loop-self.invariant.1,
     )
