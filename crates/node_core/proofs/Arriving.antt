@@ -18,11 +18,10 @@ use Rattle.node_machine.specs.Parts.{Core, Port, Work}
 use Rattle.node_machine.specs.Carrying.{port_at, changed_if, with_port, noting}
 use Rattle.node_machine.specs.Node.{has_come, told_at, input_at, all_come}
 use Rattle.node_machine.specs.Node.NodeInput.{AtEnd}
-use Rattle.node_ends.specs.declared.ends.Ends.{Ends}
 use Rattle.node_ends.specs.declared.seat.Seat.{Seat}
 use Rattle.node_ends.specs.declared.seat.Waiting.{Waiting}
 use Rattle.node_ends.specs.Holding.{messages_waiting, kept_number}
-use Rattle.node_ends.specs.Ends.{SeatsStandFor, EndsStandFor, got_at}
+use Rattle.node_ends.specs.Ends.{KeptEnds, SeatsStandFor, EndsStandFor, got_at}
 use Rattle.node_ends.specs.Making.{AreAllDifferent}
 use Rattle.node_ends.proofs.Apart.{is_outside, input_apart}
 use Rattle.node_core.specs.declared.node.Node.{Node}
@@ -99,7 +98,7 @@ changed_here h f (q ∷ ports) p same is = by (q.desk.host == h) refl (changed_h
         rw (e, here) (ap (λ (x : Port). Some (f x)) one)
     by false e later = rw (e, e) (later (rw e at is))
 
-pub comes_to : {N : Type 0} {n : Node N} {ends : Ends} {before now start : List Entry} {was short : Bool} {w : Work} (h : ℕ) (i : LinkInput)
+pub comes_to : {N : Type 0} {n : Node N} {ends : KeptEnds} {before now start : List Entry} {was short : Bool} {w : Work} (h : ℕ) (i : LinkInput)
     (told : LinkReport) → IsInStep n before was start w → EndsStandFor ends (with_port h (λ p. has_come p (Some i)) w.ports)
     → Some told ≡ option_map (λ (p : Port). report_told (report p.side i)) (port_at w.ports h)
     → ((p : Port) → port_at w.ports h ≡ Some p → told ≡ report_told (report p.side i)
@@ -108,7 +107,7 @@ pub comes_to : {N : Type 0} {n : Node N} {ends : Ends} {before now start : List 
 comes_to {N} {n} {ends} {before} {now} {start} {was} {short} {w} h i told u stands is notes = by (port_at w.ports h) refl
   where
     differ : AreAllDifferent (map host_at w.ports)
-    differ = hosts_differ n.ends.pool n.ends.seats.items w.ports u.ends.hosts u.ends.each
+    differ = hosts_differ n.ends.pool n.ends.seats w.ports u.ends.hosts u.ends.each
 
     by : (o : Option Port) → port_at w.ports h ≡ o → IsInStep (record n { ends = ends }) now short start (all_come (AtEnd h i) w)
     by None q = absurd (let z : Some told ≡ None = is ∙ ap (option_map (λ (p : Port). report_told (report p.side i))) q in cc)
@@ -123,7 +122,7 @@ comes_to {N} {n} {ends} {before} {now} {start} {was} {short} {w} h i told u stan
         (comes_noted es ports u stands (notes p q one))
 
 -- where it tells nothing, nothing is noted
-pub comes_silently : {N : Type 0} {n : Node N} {ends : Ends} {before start : List Entry} {was : Bool} {w : Work} (h : ℕ) (i : LinkInput)
+pub comes_silently : {N : Type 0} {n : Node N} {ends : KeptEnds} {before start : List Entry} {was : Bool} {w : Work} (h : ℕ) (i : LinkInput)
     → IsInStep n before was start w → EndsStandFor ends (with_port h (λ p. has_come p (Some i)) w.ports)
     → option_map_or (λ (p : Port). told_at w.core p (Some i)) (port_at w.ports h) [] ≡ []
     → IsInStep (record n { ends = ends }) before was start (all_come (AtEnd h i) w)
@@ -131,10 +130,10 @@ comes_silently {N} {n} {ends} {before} {start} {was} {w} h i u stands none =
     let P : Work → Type 0 = λ v. IsInStep (record n { ends = ends }) before was start v in
     let ports : List Port = with_port h (λ p. has_come p (Some i)) w.ports in
     subst P (ap (λ (es : List Entry). noting es (record w { ports = ports })) (sym none)
-    ∙ come_is h i w (hosts_differ n.ends.pool n.ends.seats.items w.ports u.ends.hosts u.ends.each)) (comes_noted [] ports u stands (no_notes was before))
+    ∙ come_is h i w (hosts_differ n.ends.pool n.ends.seats w.ports u.ends.hosts u.ends.each)) (comes_noted [] ports u stands (no_notes was before))
 
 -- where there is no such end nothing comes
-pub comes_nowhere : {N : Type 0} {n : Node N} {ends : Ends} {before start : List Entry} {was : Bool} {w : Work} (h : ℕ) (i : LinkInput)
+pub comes_nowhere : {N : Type 0} {n : Node N} {ends : KeptEnds} {before start : List Entry} {was : Bool} {w : Work} (h : ℕ) (i : LinkInput)
     → IsInStep n before was start w → EndsStandFor ends (with_port h (λ p. has_come p (Some i)) w.ports) → port_at w.ports h ≡ None
     → AreNotes was was before before []
     → IsInStep (record n { ends = ends }) before was start (all_come (AtEnd h i) w)
@@ -143,7 +142,7 @@ comes_nowhere {N} {n} {ends} {before} {start} {was} {w} h i u stands none notes 
     let f : Port → List Entry = λ p. told_at w.core p (Some i) in
     let ports : List Port = with_port h (λ p. has_come p (Some i)) w.ports in
     subst P (ap (λ (o : Option Port). noting (option_map_or f o []) (record w { ports = ports })) (sym none)
-    ∙ come_is h i w (hosts_differ n.ends.pool n.ends.seats.items w.ports u.ends.hosts u.ends.each)) (comes_noted [] ports u stands notes)
+    ∙ come_is h i w (hosts_differ n.ends.pool n.ends.seats w.ports u.ends.hosts u.ends.each)) (comes_noted [] ports u stands notes)
 
 pub no_port : {X : Type 0} (f : Port → X) (o : Option Port) → None ≡ option_map f o → o ≡ None
 no_port f None is = refl
@@ -171,16 +170,16 @@ each_few pool (s ∷ seats) (p ∷ ports) g =
     let few = waiting_few pool s.waiting in
     (omega (arith, same, few), each_few pool seats ports g.1)
 
-got_few : (ends : Ends) (ports : List Port) (h : ℕ) (p : Port) → EndsStandFor ends ports → port_at ports h ≡ Some p → length p.side.got ≤ 1
+got_few : (ends : KeptEnds) (ports : List Port) (h : ℕ) (p : Port) → EndsStandFor ends ports → port_at ports h ≡ Some p → length p.side.got ≤ 1
 got_few ends ports h p e is =
     let P : Option Port → Type 0 = λ o. IfSome o (λ (q : Port). length q.side.got ≤ 1) in
-    subst P is (found_all _ ports h (each_few ends.pool ends.seats.items ports e.each))
+    subst P is (found_all _ ports h (each_few ends.pool ends.seats ports e.each))
 
 got_after : (m : Machine) (i : LinkInput) → is_outside i ≡ true → (after_input m i).got ≡ m.got ++ got_by m i
 got_after m i out = ap (λ (x : Machine). x.got) (input_apart m m.got i out)
 
 -- the message that waits at an end after an input is the one that it brought, where it brought one
-pub brought_is : (ends : Ends) (ports : List Port) (h : ℕ) (i : LinkInput) (p : Port) → is_outside i ≡ true
+pub brought_is : (ends : KeptEnds) (ports : List Port) (h : ℕ) (i : LinkInput) (p : Port) → is_outside i ≡ true
     → EndsStandFor ends (with_port h (λ q. has_come q (Some i)) ports) → port_at ports h ≡ Some p
     → (report p.side i).got ≡ (if (report_told (report p.side i)).got then got_at (with_port h (λ q. has_come q (Some i)) ports) h else [])
 brought_is ends ports h i p out e is =

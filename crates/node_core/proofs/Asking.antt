@@ -18,7 +18,7 @@ use Rattle.node_ends.specs.Ends.{EndsStandFor, MayStartAt}
 use Rattle.link_end.specs.Roles.{MayStart}
 use Rattle.swp_act.specs.declared.ActEvent.TheVariants.{Start as ActStart}
 use Rattle.node_core.specs.declared.node.Node.{Node}
-use Rattle.node_core.specs.Nodes.{IsInStep, IsSoundNode}
+use Rattle.node_core.specs.Nodes.{IsInStep, IsUsable}
 use Rattle.node_core.specs.declared.inputs.LinkInput.{LinkInput as ToEnd}
 use Rattle.node_core.specs.declared.inputs.LinkInput.TheVariants as asks
 use Rattle.node_core.specs.Inputs.{MayComeAt, IsAskedOf}
@@ -31,7 +31,7 @@ use Rattle.node_core.proofs.Quiet.{done_quiet}
 use Rattle.node_core.proofs.Elsewhere.{same_links}
 use Rattle.node_core.proofs.EndKinds.{same_kinds}
 use Rattle.node_core.proofs.Lasting.{OfAll, Rests, rests_stays, all_done_so}
-use Rattle.node_core.proofs.Between.{ends_back, runs_rest, runs_so, core_with, at_rest, kept_alike, kept_twice, kept_none_ended}
+use Rattle.node_core.proofs.Between.{ends_back, runs_rest, runs_so, core_with, at_rest, kept_alike, kept_twice, kept_none_ended, usable_with}
 use Rattle.node_core.proofs.Ordering.{in_order_at, with_task}
 use Rattle.node_core.proofs.Deciders.{only, found_one}
 use Rattle.node_core.proofs.Sendings.{given_order, given_other, given_both}
@@ -128,14 +128,14 @@ given_rests {w = w} h deeds a = all_done_so (Rests 4) (rests_stays 4) h deeds w 
 -- it runs on, and what was done to its ends isn't kept
 pub has_given : {N : Type 0} {n n2 : Node N} {noted start : List Entry} {short : Bool} {w : Work} → IsInStep n noted short start w
     → n.store.journal.live ≡ true → EndsStandFor n2.ends (map between w.ports) → n2.store ≡ n.store → n2.number ≡ n.number → n2.tasks ≡ n.tasks
-    → IsSoundNode n2 → IsNodeInOrder w.core w.ports → OfAll (Rests 4) w.ports → HasStepped n2 noted short start w
-has_given {N} {n} {n2} {w = w} u live ends store number tasks sound order rest =
+    → IsUsable n2.store → IsNodeInOrder w.core w.ports → OfAll (Rests 4) w.ports → HasStepped n2 noted short start w
+has_given {N} {n} {n2} {w = w} u live ends store number tasks usable order rest =
     let P : Stored N → Type 0 = λ s. w.cut ≡ not s.journal.live in
     let k = u.core (u.power ∙ ap not live) in
     record {
       power = subst P (sym store) u.power;
       runs = λ power.
-          runs_so 4 w.ports (omega arith) sound (ap (λ (s : Stored N). s.journal.live) store ∙ live) (u.node ∙ sym number) (core_with store tasks k)
+          runs_so 4 w.ports (omega arith) usable (ap (λ (s : Stored N). s.journal.live) store ∙ live) (u.node ∙ sym number) (core_with store tasks k)
           ends order rest;
       noted_are = u.noted_are;
     }
@@ -180,16 +180,16 @@ pub has_sent_so : {N : Type 0} {n n1 n2 : Node N} {noted noted2 start : List Ent
     → None ≡ if_waiting ((pipe == 1 && is_command_message message) && is_some w.core.command) (give_refusal p.side (pipe, message)))
     → IsInStep n1 noted2 short2 start (all_done n.number (sending n.number (pipe, message)) w) → n1.store ≡ n.store
     → ((ports : List Port) → EndsStandFor n1.ends ports → EndsStandFor n2.ends (map between ports)) → n2.store ≡ n1.store
-    → n2.number ≡ n1.number → n2.tasks ≡ n1.tasks → IsSoundNode n2
+    → n2.number ≡ n1.number → n2.tasks ≡ n1.tasks
     → HasStepped n2 noted2 short2 start (all_done n.number (sending n.number (pipe, message)) w)
-has_sent_so {N} {n} {n1} {n2} {w = w} pipe message a some taken u kept ended store number tasks sound =
+has_sent_so {N} {n} {n1} {n2} {w = w} pipe message a some taken u kept ended store number tasks =
     let node = a.runs.node in
     let o = own_port w.core w.ports (λ none. some (sym node ∙ none)) a.runs.order in
     let at = ap (port_at w.ports) (sym node) ∙ o.at in
     let free = never_waits ((pipe == 1 && is_command_message message) && is_some w.core.command) (give_refusal o.port.side (pipe, message))
     (sym (taken o.port at)) in
     let v : Work = all_done n.number (sending n.number (pipe, message)) w in
-    has_given u (ap (λ (s : Stored N). s.journal.live) kept ∙ a.runs.live) (ended v.ports u.ends) store number tasks sound
+    has_given u (ap (λ (s : Stored N). s.journal.live) kept ∙ a.runs.live) (ended v.ports u.ends) store number tasks (usable_with (store ∙ kept) a.runs.usable)
     (sending_order n.number pipe message w free a.runs.order) (given_rests n.number (sending n.number (pipe, message)) a)
 
 -- it began an init that wasn't refused
@@ -197,10 +197,10 @@ pub has_begun_so : {N : Type 0} {n n1 n2 : Node N} {noted noted2 start : List En
     (pipes : List (List ℕ)) → IsAsked n noted short start w → n.number ≢ 0
     → IsInStep n1 noted2 short2 start (all_done n.number (beginning identity pipes) w) → n1.store ≡ n.store
     → ((ports : List Port) → EndsStandFor n1.ends ports → EndsStandFor n2.ends (map between ports)) → n2.store ≡ n1.store
-    → n2.number ≡ n1.number → n2.tasks ≡ n1.tasks → IsSoundNode n2
+    → n2.number ≡ n1.number → n2.tasks ≡ n1.tasks
     → HasStepped n2 noted2 short2 start (all_done n.number (beginning identity pipes) w)
-has_begun_so {N} {n} {n1} {n2} {w = w} identity pipes a some u kept ended store number tasks sound =
+has_begun_so {N} {n} {n1} {n2} {w = w} identity pipes a some u kept ended store number tasks =
     let v : Work = all_done n.number (beginning identity pipes) w in
-    has_given u (ap (λ (s : Stored N). s.journal.live) kept ∙ a.runs.live) (ended v.ports u.ends) store number tasks sound
+    has_given u (ap (λ (s : Stored N). s.journal.live) kept ∙ a.runs.live) (ended v.ports u.ends) store number tasks (usable_with (store ∙ kept) a.runs.usable)
     (beginning_order n.number identity pipes w a.power (λ none. some (sym a.runs.node ∙ none)) a.runs.order)
     (given_rests n.number (beginning identity pipes) a)

@@ -9,7 +9,7 @@ use Rattle.node_deeds.specs.Hosts.{init_running}
 use Rattle.node_ends.specs.Ends.{EndsStandFor, AreOfHosts}
 use Rattle.node_ends.specs.Making.{new_port}
 use Rattle.node_core.specs.declared.node.Node.{Node}
-use Rattle.node_core.specs.Nodes.{IsSoundNode}
+use Rattle.node_core.specs.Nodes.{IsUsable}
 use Rattle.node_core.specs.Booting.{BeginsAs}
 use Rattle.node_core.specs.Turning.{HasOwnLink, HaveOwnRoles, AreAtMostDue}
 use Rattle.node_core.specs.Running.{RunsAs, AreInTime, AreHeldWhileOneWaits, between, core_kept}
@@ -51,13 +51,13 @@ pub uicc_roles : (node : ℕ) (hosts : List ℕ) → node ≢ 0 → HaveOwnRoles
 uicc_roles node hosts some = record { clf = λ zero. absurd (some zero); uicc = λ other. new_uiccs hosts }
 
 -- a node with new ends, whose links are in order
-pub new_runs : {N : Type 0} (n : Node N) (number : ℕ) (role : Named) (hosts : List ℕ) → BeginsAs number role hosts n → IsSoundNode n
+pub new_runs : {N : Type 0} (n : Node N) (number : ℕ) (role : Named) (hosts : List ℕ) → BeginsAs number role hosts n → IsUsable n.store
     → AreOfHosts (map (new_port role) hosts) → HasOwnLink n.number (map (new_port role) hosts) → HaveOwnRoles n.number (map (new_port role) hosts)
     → RunsAs n (core_kept n) (map (new_port role) hosts)
-new_runs n number role hosts b sound of own roles =
+new_runs n number role hosts b usable of own roles =
     let P : List Port → Type 0 = λ ports. EndsStandFor n.ends ports in
     record {
-      sound = sound;
+      usable = usable;
       live = b.live;
       node = refl;
       stands = record { journal = refl; tables = refl; command = sym b.command; init = ap init_running (sym b.init) };

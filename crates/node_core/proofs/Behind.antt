@@ -13,7 +13,7 @@ use Rattle.node_machine.specs.Carrying.{port_at}
 use Rattle.node_machine.specs.Node.{NodeInput, steps}
 use Rattle.node_ends.specs.Ends.{EndsStandFor, IsHeldWhileOneWaits, MayStartAt}
 use Rattle.node_core.specs.declared.node.Node.{Node}
-use Rattle.node_core.specs.Nodes.{IsSoundNode, IsInStep}
+use Rattle.node_core.specs.Nodes.{IsUsable, IsInStep}
 use Rattle.node_core.specs.Bringing.{Brings, WereMade, Foretells, plan_left}
 use Rattle.node_core.specs.Turning.{IsNodeInOrder, AreAtMostDue, AreYoung}
 use Rattle.node_core.specs.Running.{BeginsStep, HasStepped, AreInTime, AreHeldWhileOneWaits, between}
@@ -21,7 +21,7 @@ use Rattle.node_core.proofs.Elsewhere.{hosts_differ}
 use Rattle.node_core.proofs.Staying.{steps_fine}
 use Rattle.node_core.proofs.Lasting.{OfAll, Ready, Rests}
 use Rattle.node_core.proofs.Resting.{MakeOneMore, step_rests}
-use Rattle.node_core.proofs.Between.{begins_in_step, has_stepped, runs_ready}
+use Rattle.node_core.proofs.Between.{begins_in_step, has_stepped, runs_ready, usable_with}
 
 -- ## What a step asks for
 
@@ -58,13 +58,13 @@ pub stepped : {N : Type 0} (writes : N → ℕ → List ℕ → Bool → N → T
     {w : Work} (input : NodeInput) → MakeOneMore input → BeginsStep n noted short start w
     → Brings writes n.store.journal.nv n1.store.journal.nv (IsInStep n1 noted2 short2 start) (steps input) w
     → ((ports : List Port) → EndsStandFor n1.ends ports → EndsStandFor n2.ends (map between ports)) → n2.store ≡ n1.store
-    → n2.number ≡ n1.number → n2.tasks ≡ n1.tasks → IsSoundNode n2
+    → n2.number ≡ n1.number → n2.tasks ≡ n1.tasks → IsUsable n1.store
     → Brings writes n.store.journal.nv n2.store.journal.nv (HasStepped n2 noted2 short2 start) (steps input) w
-stepped {N} writes {n} {n1} {n2} {noted} {noted2} {start} {short} {short2} {w} input more begins b ended store number tasks sound =
+stepped {N} writes {n} {n1} {n2} {noted} {noted2} {start} {short} {short2} {w} input more begins b ended store number tasks usable =
     let M : Stored N → Type 0 = λ s. WereMade writes b.sure b.torn n.store.journal.nv b.after.cut s.journal.nv in
     record {
       after = b.after;
-      stands = has_stepped b.stands (ended b.after.ports b.stands.ends) store number tasks sound order rest;
+      stands = has_stepped b.stands (ended b.after.ports b.stands.ends) store number tasks (usable_with store usable) order rest;
       sure = b.sure;
       torn = b.torn;
       written = b.written;
@@ -88,5 +88,5 @@ stepped {N} writes {n} {n1} {n2} {noted} {noted2} {start} {short} {short2} {w} i
         let P : Work → Type 0 = λ v. OfAll (Rests 2) v.ports in
         let u = begins_in_step begins in
         subst P (is live) (step_rests input more first
-        (hosts_differ n.ends.pool n.ends.seats.items w.ports u.ends.hosts u.ends.each) (runs_ready begins.runs begins.sent)
+        (hosts_differ n.ends.pool n.ends.seats w.ports u.ends.hosts u.ends.each) (runs_ready begins.runs begins.sent)
         (ap (λ (v : Work). v.cut) (is live) ∙ live))

@@ -1,7 +1,7 @@
 -- A node between its steps: what is kept of its ends then, and that all its frames go out one by one.
 use Rattle.std.proofs.Common.{◌≡◌, ℕ, zero, suc, ◌+◌, ◌≤◌, Bool, true, false, not, List, []}
 use Rattle.std.proofs.Common.{◌∷◌, ◌++◌, map, length, refl, sym, ap, ap₂, ◌∙◌, subst, arith, append-nil}
-use Rattle.std.specs.Prelude.{Option, Some, None, option_map, slice_get, ◌==◌, ◌&&◌, IsTrue, IsSome}
+use Rattle.std.specs.Prelude.{Option, Some, None, option_map, slice_get, ◌==◌, ◌&&◌, IsTrue}
 use Rattle.std.specs.List.{AllByRecursion}
 use Rattle.std.proofs.lemmas.List.{length-map}
 use Rattle.block_pool.specs.Pool.{PoolState}
@@ -21,15 +21,14 @@ use Rattle.node_deeds.specs.Hosts.{init_running}
 use Rattle.node_machine.specs.Carrying.{changed_if, with_port, port_at}
 use Rattle.node_machine.specs.Node.{with_error}
 use Rattle.node_ends.specs.declared.seat.Seat.{Seat}
-use Rattle.node_ends.specs.declared.ends.Ends.{Ends}
-use Rattle.node_ends.specs.Ends.{EndsStandFor, SeatStandsFor, SeatsStandFor, IsHeldWhileOneWaits, at_place, has_sent, frame_at, are_at_rest}
+use Rattle.node_ends.specs.Ends.{KeptEnds, EndsStandFor, SeatStandsFor, SeatsStandFor, IsHeldWhileOneWaits, at_place, has_sent, frame_at, are_at_rest}
 use Rattle.node_ends.specs.Desks.{age_at}
 use Rattle.node_ends.specs.Making.{AreAllDifferent}
 use Rattle.node_ends.specs.Holding.{IsReached}
 use Rattle.node_ends.proofs.Dues.{due_count}
 use Rattle.node_ends.proofs.Sending.{sent_same}
 use Rattle.node_core.specs.declared.node.Node.{Node}
-use Rattle.node_core.specs.Nodes.{CoreStandsFor, IsSoundNode, IsInStep}
+use Rattle.node_core.specs.Nodes.{CoreStandsFor, IsUsable, IsInStep}
 use Rattle.node_core.specs.Turning.{IsNodeInOrder, AreAtMostDue}
 use Rattle.node_core.specs.Running.{RunsAs, BeginsStep, HasStepped, HasNoneEnded}
 use Rattle.node_core.specs.Running.{IsAllSent, AreInTime, AreHeldWhileOneWaits, SendsOneByOne, between, one_more_error}
@@ -40,7 +39,7 @@ use Rattle.node_core.proofs.Ticking.{at_is_with, found_there}
 use Rattle.node_core.proofs.Lateness.{reached_each}
 use Rattle.node_core.proofs.Lasting.{Of, OfAll, Ready, Rests, port_so}
 
--- ## Ends
+-- ## KeptEnds
 
 -- an end as a step begins
 abbrev pub begun : Port → Port
@@ -86,14 +85,14 @@ seats_back pool (s ∷ seats) [] g none = absurd g
 seats_back pool (s ∷ seats) (p ∷ ports) g none = (seat_back g.0 none.0.0 none.0.1, seats_back pool seats ports g.1 none.1)
 
 -- what is kept of ends as a step begins
-pub ends_kept : (ends : Ends) (ports : List Port) → EndsStandFor ends (map begun ports) → EndsStandFor ends (map between ports)
+pub ends_kept : (ends : KeptEnds) (ports : List Port) → EndsStandFor ends (map begun ports) → EndsStandFor ends (map between ports)
 ends_kept ends ports e =
-    record { each = seats_kept ends.pool ends.seats.items ports e.each; owners = e.owners; hosts = e.hosts; few = e.few }
+    record { each = seats_kept ends.pool ends.seats ports e.each; owners = e.owners; hosts = e.hosts; few = e.few }
 
 -- and of ends in which nothing ended
-pub ends_back : (ends : Ends) (ports : List Port) → EndsStandFor ends (map between ports) → HasNoneEnded ports → EndsStandFor ends ports
+pub ends_back : (ends : KeptEnds) (ports : List Port) → EndsStandFor ends (map between ports) → HasNoneEnded ports → EndsStandFor ends ports
 ends_back ends ports e none =
-    record { each = seats_back ends.pool ends.seats.items ports e.each none; owners = e.owners; hosts = e.hosts; few = e.few }
+    record { each = seats_back ends.pool ends.seats ports e.each none; owners = e.owners; hosts = e.hosts; few = e.few }
 
 -- what is kept is kept again
 pub kept_twice : (ports : List Port) → map between (map between ports) ≡ map between ports
@@ -135,11 +134,8 @@ rest_held n (p ∷ ports) all = (all.0.1, rest_held n ports all.1)
 
 -- ## What is kept of a store
 
-pub sound_with : {N : Type 0} {n n2 : Node N} {ports : List Port} → n2.store ≡ n.store → IsSoundNode n → EndsStandFor n2.ends ports → IsSoundNode n2
-sound_with {N} {n} {n2} {ports} store sound ends =
-    let S : Stored N → Type 0 = λ s. IsTrue s.journal.live → IsSome s.journal.state.in_use in
-    let V : Stored N → Type 0 = λ s. IsTrue s.journal.live → s.journal.state.version ≡ 2 in
-    record { ports = ports; ends = ends; started = subst S (sym store) sound.started; version = subst V (sym store) sound.version }
+pub usable_with : {N : Type 0} {s t : Stored N} → t ≡ s → IsUsable s → IsUsable t
+usable_with {N} same is = let P : Stored N → Type 0 = λ s. IsUsable s in subst P (sym same) is
 
 pub core_with : {N : Type 0} {n n2 : Node N} {core : Core} → n2.store ≡ n.store → n2.tasks ≡ n.tasks → CoreStandsFor n core
     → CoreStandsFor n2 core
@@ -151,11 +147,11 @@ core_with {N} store tasks k = record {
 }
 
 -- a node runs, whose ends rest
-pub runs_so : {N : Type 0} {n : Node N} {core : Core} (k : ℕ) (ports : List Port) → k ≤ 4 → IsSoundNode n → IsTrue n.store.journal.live
+pub runs_so : {N : Type 0} {n : Node N} {core : Core} (k : ℕ) (ports : List Port) → k ≤ 4 → IsUsable n.store → IsTrue n.store.journal.live
     → core.node ≡ n.number → CoreStandsFor n core → EndsStandFor n.ends (map between ports) → IsNodeInOrder core ports → OfAll (Rests k) ports
     → RunsAs n core ports
-runs_so k ports less sound live number stands ends order all = record {
-  sound = sound;
+runs_so k ports less usable live number stands ends order all = record {
+  usable = usable;
   live = live;
   node = number;
   stands = stands;
@@ -210,7 +206,7 @@ kept_reached (p ∷ ports) all = (all.0, kept_reached ports all.1)
 
 pub runs_reached : {N : Type 0} {n : Node N} {core : Core} {ports : List Port} → RunsAs n core ports → AllByRecursion (λ (p : Port). IsReached p.side) ports
 runs_reached {n = n} {ports = ports} r =
-    kept_reached ports (reached_each n.ends.pool n.ends.seats.items (map between ports) r.ends.each)
+    kept_reached ports (reached_each n.ends.pool n.ends.seats (map between ports) r.ends.each)
 
 few_due : (p : Port) → length p.side.acts + length p.side.shdlc.due ≤ 5 → length p.side.shdlc.due ≤ 12
 few_due p few = omega (arith, few)
@@ -226,7 +222,7 @@ few_of_seat p k few =
 
 pub few_wait : {N : Type 0} {n : Node N} {core : Core} {ports : List Port} → RunsAs n core ports
     → AllByRecursion (λ (p : Port). length p.side.acts + left p.side.shdlc ≤ 9) ports
-few_wait {n = n} r = go n.ends.seats.items _ r.ends.each r.few
+few_wait {n = n} r = go n.ends.seats _ r.ends.each r.few
   where
     go : (seats : List Seat) (ports : List Port) → SeatsStandFor n.ends.pool seats (map between ports) → AreAtMostDue 5 ports
         → AllByRecursion (λ (p : Port). length p.side.acts + left p.side.shdlc ≤ 9) ports
@@ -330,16 +326,16 @@ kept_so F (p ∷ ports) all = (all.0, kept_so F ports all.1)
 
 -- The node has stepped, and what was done to its ends isn't kept.
 pub has_stepped : {N : Type 0} {n n2 : Node N} {noted start : List Entry} {short : Bool} {w : Work} → IsInStep n noted short start w
-    → EndsStandFor n2.ends (map between w.ports) → n2.store ≡ n.store → n2.number ≡ n.number → n2.tasks ≡ n.tasks → IsSoundNode n2
+    → EndsStandFor n2.ends (map between w.ports) → n2.store ≡ n.store → n2.number ≡ n.number → n2.tasks ≡ n.tasks → IsUsable n2.store
     → (w.cut ≡ false → IsNodeInOrder w.core w.ports) → (w.cut ≡ false → OfAll (Rests 2) w.ports) → HasStepped n2 noted short start w
-has_stepped {N} {n} {n2} {w = w} u ends store number tasks sound order rest =
+has_stepped {N} {n} {n2} {w = w} u ends store number tasks usable order rest =
     let P : Stored N → Type 0 = λ s. w.cut ≡ not s.journal.live in
     let power : w.cut ≡ not n2.store.journal.live = subst P (sym store) u.power in
     record {
       power = power;
       runs = λ live.
           (let k = u.core live in
-          runs_so 2 w.ports (omega arith) sound (alive n2.store.journal.live (sym power ∙ live)) (u.node ∙ sym number)
+          runs_so 2 w.ports (omega arith) usable (alive n2.store.journal.live (sym power ∙ live)) (u.node ∙ sym number)
           (core_with store tasks k) ends (order live) (rest live));
       noted_are = u.noted_are;
     }
@@ -373,7 +369,7 @@ runs_with {N} {n} {n2} {core} {ports} h f r kind same rests ends store number ta
     let E : List Port → Type 0 = λ qs. EndsStandFor n2.ends qs in
     let L : Stored N → Type 0 = λ s. IsTrue s.journal.live in
     let kept = subst E (sym (kept_with h f same ports)) ends in
-    runs_so 4 (with_port h f ports) (omega arith) (sound_with store r.sound ends) (subst L (sym store) r.live) (r.node ∙ sym number)
+    runs_so 4 (with_port h f ports) (omega arith) (usable_with store r.usable) (subst L (sym store) r.live) (r.node ∙ sym number)
     (core_with store tasks r.stands) kept
     (in_order_at core ports (with_port h f ports) (port_kinds h f kind ports) r.order)
     (port_so (Rests 4) h f rests ports (runs_rest ports r.few r.in_time r.held))
@@ -457,7 +453,7 @@ pub kept_alike : {N : Type 0} {n : Node N} {core : Core} (a b : List Port) → m
 kept_alike {n = n} {core = core} a b same r =
     let E : List Port → Type 0 = λ qs. EndsStandFor n.ends qs in
     record {
-      sound = r.sound;
+      usable = r.usable;
       live = r.live;
       node = r.node;
       stands = r.stands;

@@ -22,8 +22,7 @@ use Rattle.node_machine.specs.Parts.{Core, Port, Work}
 use Rattle.node_machine.specs.Carrying.{port_at, noted_of, end_of_node, with_port, after_turn, turn_at, commit, keeps, loses_power, noting}
 use Rattle.node_machine.specs.Carrying.{has_room_for, plan_behind}
 use Rattle.trace_model.specs.declared.line.End.{End}
-use Rattle.node_ends.specs.declared.ends.Ends.{Ends}
-use Rattle.node_ends.specs.Ends.{takes_at, EndsStandFor}
+use Rattle.node_ends.specs.Ends.{KeptEnds, takes_at, EndsStandFor}
 use Rattle.node_core.specs.declared.node.Node.{Node}
 use Rattle.node_core.specs.Noting.{unnumbered}
 use Rattle.node_core.specs.Nodes.{CoreStandsFor, IsInStep}
@@ -82,7 +81,7 @@ sent_noted core h m ports takes = by (port_at ports h) refl
     by (Some p) at = by_refusal p at (give_refusal p.side m) refl
 
 -- a message was taken for sending and noted
-pub sent_under_way : {N : Type 0} {n : Node N} {ends : Ends} {noted now start : List Entry} {was short : Bool} {w : Work} {at : End} (m : Message) (h : ℕ)
+pub sent_under_way : {N : Type 0} {n : Node N} {ends : KeptEnds} {noted now start : List Entry} {was short : Bool} {w : Work} {at : End} (m : Message) (h : ℕ)
     → IsInStep n noted was start w → EndsStandFor ends (with_port h (after_turn (Give m)) w.ports) → true ≡ takes_at m (port_at w.ports h)
     → (was ≡ true → short ≡ true) → (short ≡ false → now ≡ noted ++ entry.Sent at 0 m.0 m.1 ∷ []) → at ≡ end_of_node w.core h
     → IsInStep (record n { ends = ends }) now short start (turn_at h (Give m) w)

@@ -23,9 +23,8 @@ use Rattle.node_machine.specs.Carrying.{own_side, port_at, noting}
 use Rattle.node_machine.specs.Node.{with_older, is_late, reset_late, told_late, times_out}
 use Rattle.node_machine.specs.Node.NodeInput.{TimePasses}
 use Rattle.node_ends.specs.Holding.{IsReached, kept_number}
-use Rattle.node_ends.specs.declared.ends.Ends.{Ends}
 use Rattle.node_ends.specs.Desks.{IsYoung, have_notices}
-use Rattle.node_ends.specs.Ends.{EndsStandFor, SeatsStandFor, at_place, late_told}
+use Rattle.node_ends.specs.Ends.{KeptEnds, EndsStandFor, SeatsStandFor, at_place, late_told}
 use Rattle.node_ends.specs.declared.seat.Seat.{Seat}
 use Rattle.block_pool.specs.Pool.{PoolState}
 use Rattle.node_ends.proofs.Counting.{is_sound, reset_report}
@@ -37,7 +36,7 @@ use Rattle.node_core.specs.Turning.{AreFewDue, AreYoung}
 use Rattle.node_core.proofs.Ticking.{next_told, all_told, found_there}
 
 -- the ends of a node in a step have changed
-pub ends_changed : {N : Type 0} {n : Node N} {ends : Ends} {noted start : List Entry} {short : Bool} {w : Work} (ports : List Port)
+pub ends_changed : {N : Type 0} {n : Node N} {ends : KeptEnds} {noted start : List Entry} {short : Bool} {w : Work} (ports : List Port)
     → IsInStep n noted short start w → EndsStandFor ends ports → IsInStep (record n { ends = ends }) noted short start (record w { ports = ports })
 ends_changed ports u stands = record {
   node = u.node;
@@ -134,8 +133,8 @@ each_reached pool (s ∷ seats) [] i p g is = absurd g
 each_reached pool (s ∷ seats) (q ∷ ports) zero p g is = let e : q ≡ p = cc in subst (λ (x : Port). IsReached x.side) e g.0.reached
 each_reached pool (s ∷ seats) (q ∷ ports) (suc i) p g is = each_reached pool seats ports i p g.1 is
 
-pub reached_there : (ends : Ends) (ports : List Port) (i : ℕ) (p : Port) → EndsStandFor ends ports → slice_get ports i ≡ Some p → IsReached p.side
-reached_there ends ports i p e is = each_reached ends.pool ends.seats.items ports i p e.each is
+pub reached_there : (ends : KeptEnds) (ports : List Port) (i : ℕ) (p : Port) → EndsStandFor ends ports → slice_get ports i ≡ Some p → IsReached p.side
+reached_there ends ports i p e is = each_reached ends.pool ends.seats ports i p e.each is
 
 placed_there : (i : ℕ) (f : Port → Port) (ports : List Port) (p : Port) → slice_get ports i ≡ Some p → slice_get (at_place i f ports) i ≡ Some (f p)
 placed_there i f [] p is = cc
@@ -154,13 +153,13 @@ pub late_tells : (core : Core) (p : Port) → is_late p ≡ true
 late_tells core p late = rw late refl
 
 -- so many messages are acknowledged there
-pub late_acked : (ends : Ends) (ports : List Port) (i h : ℕ) (p : Port) → EndsStandFor ends (at_place i reset_late ports) → slice_get ports i ≡ Some p
+pub late_acked : (ends : KeptEnds) (ports : List Port) (i h : ℕ) (p : Port) → EndsStandFor ends (at_place i reset_late ports) → slice_get ports i ≡ Some p
     → is_late p ≡ true → h ≡ p.desk.host
     → option_map_or (λ (q : Port). kept_number (whole_acked q.side)) (port_at (at_place i reset_late ports) h) 0
     ≡ kept_number (whole_acked (after_input p.side (Reset None)))
 late_acked ends ports i h p e is late same =
     let all : List Port = at_place i reset_late ports in
-    let differ = hosts_differ ends.pool ends.seats.items all e.hosts e.each in
+    let differ = hosts_differ ends.pool ends.seats all e.hosts e.each in
     let found = found_there i all (reset_late p) differ (placed_there i reset_late ports p is) in
     ap (λ (n : ℕ). option_map_or (λ (q : Port). kept_number (whole_acked q.side)) (port_at all n) 0) (same ∙ sym (late_host p late))
     ∙ (ap (λ (o : Option Port). option_map_or (λ (q : Port). kept_number (whole_acked q.side)) o 0) found
@@ -225,11 +224,11 @@ reset_done m window r reached is = by (reset_refusal m) refl
     by (Some why) q = absurd (let z : Ok r ≡ Err (reset_refused why) = rw q at is in cc)
 
 -- what is told of one that is done is its report
-pub reset_answer : (ends : Ends) (ports : List Port) (h : ℕ) (window : Option ℕ) (r : LinkReport) → EndsStandFor ends ports
+pub reset_answer : (ends : KeptEnds) (ports : List Port) (h : ℕ) (window : Option ℕ) (r : LinkReport) → EndsStandFor ends ports
     → Some (Ok r) ≡ option_map (λ (p : Port). reset_told p.side window) (port_at ports h)
     → Some r ≡ option_map (λ (p : Port). report_told (report p.side (Reset window))) (port_at ports h)
 reset_answer ends ports h window r e is =
-    by (port_at ports h) is (found_all _ ports h (reached_each ends.pool ends.seats.items ports e.each))
+    by (port_at ports h) is (found_all _ ports h (reached_each ends.pool ends.seats ports e.each))
   where
     by : (o : Option Port) → Some (Ok r) ≡ option_map (λ (p : Port). reset_told p.side window) o → IfSome o (λ (p : Port). IsReached p.side)
         → Some r ≡ option_map (λ (p : Port). report_told (report p.side (Reset window))) o

@@ -19,8 +19,7 @@ use Rattle.link_end.specs.Reports.{report_told}
 use Rattle.node_machine.specs.Parts.{Port, Work}
 use Rattle.node_machine.specs.Carrying.{noting}
 use Rattle.node_ends.specs.Holding.{kept_number}
-use Rattle.node_ends.specs.declared.ends.Ends.{Ends}
-use Rattle.node_ends.specs.Ends.{EndsStandFor}
+use Rattle.node_ends.specs.Ends.{KeptEnds, EndsStandFor}
 use Rattle.node_core.specs.declared.node.Node.{Node}
 use Rattle.node_core.specs.Nodes.{IsInStep}
 use Rattle.node_core.specs.Noting.{AreNotes, tells_nothing, without_message, unnumbered}
@@ -161,7 +160,7 @@ told_nothing h who n x acked q =
 -- ## A node in a step
 
 -- its ends have changed, and that is noted
-pub comes_noted : {N : Type 0} {n : Node N} {ends : Ends} {before now start : List Entry} {was short : Bool} {w : Work} (es : List Entry)
+pub comes_noted : {N : Type 0} {n : Node N} {ends : KeptEnds} {before now start : List Entry} {was short : Bool} {w : Work} (es : List Entry)
     (ports : List Port) → IsInStep n before was start w → EndsStandFor ends ports → AreNotes was short before now (map unnumbered es)
     → IsInStep (record n { ends = ends }) now short start (noting es (record w { ports = ports }))
 comes_noted {before = before} {start = start} {was = was} {short = short} {w = w} es ports u stands notes = record {

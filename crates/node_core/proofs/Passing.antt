@@ -82,7 +82,7 @@ pass_begins writes {n} {w = w} u order few = record {
   under = u;
   order = order;
   hosts = refl;
-  differ = hosts_differ n.ends.pool n.ends.seats.items w.ports u.ends.hosts u.ends.each;
+  differ = hosts_differ n.ends.pool n.ends.seats w.ports u.ends.hosts u.ends.each;
   few = few_at_all w.ports (map host_at w.ports) few;
   onto = λ last notes full b. all_passed writes b;
 }
@@ -199,7 +199,7 @@ pass_over {i = i} k none = ap (drop i) (sym k.hosts) ∙ no_host i k.now.ports n
 pub pass_full : {N : Type 0} {writes : N → ℕ → List ℕ → Bool → N → Type 0} {first n : Node N} {noted start : List Entry} {short : Bool} {i : ℕ} {w : Work}
     (k : PassesOn writes first n noted short start i w) → 7 ≤ i → drop i (map host_at w.ports) ≡ []
 pass_full {n = n} {i = i} {w = w} k past =
-    let many = as_many_hosts n.ends.pool n.ends.seats.items k.now.ports k.under.ends.each in
+    let many = as_many_hosts n.ends.pool n.ends.seats k.now.ports k.under.ends.each in
     let same = ap (λ (hosts : List ℕ). length hosts) k.hosts in
     let few = k.under.ends.few in
     drop_all i (map host_at w.ports) (omega (arith, many, same, few, past))

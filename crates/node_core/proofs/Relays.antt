@@ -12,8 +12,7 @@ use Rattle.node_machine.specs.Parts.{Core, Port, Work, Deed as DeedOf}
 use Rattle.node_machine.specs.Parts.Deed.{Sends}
 use Rattle.node_machine.specs.Carrying.{port_at, noted_of, end_of_node, with_port, after_turn, turn_at, with_desk, done, all_done}
 use Rattle.node_machine.specs.Turns.{handles}
-use Rattle.node_ends.specs.declared.ends.Ends.{Ends}
-use Rattle.node_ends.specs.Ends.{takes_at, EndsStandFor, got_at}
+use Rattle.node_ends.specs.Ends.{KeptEnds, takes_at, EndsStandFor, got_at}
 use Rattle.node_core.specs.declared.node.Node.{Node}
 use Rattle.node_core.specs.Noting.{unnumbered}
 use Rattle.node_core.specs.Nodes.{IsInStep}
@@ -70,7 +69,7 @@ abbrev pub turned : ℕ → Work → Work
 turned h w = with_desk h (λ d. record d { holds = false }) (turn_at h FetchMessage w)
 
 -- a message has its turn and goes to another end, of which this is noted
-pub relayed : {N : Type 0} {n : Node N} {ends : Ends} {noted now start notes : List Entry} {was short : Bool} {w : Work} (m : Message) (h to : ℕ)
+pub relayed : {N : Type 0} {n : Node N} {ends : KeptEnds} {noted now start notes : List Entry} {was short : Bool} {w : Work} (m : Message) (h to : ℕ)
     → IsInStep n noted was start w → EndsStandFor ends (turn_at to (Give m) (turned h w)).ports
     → option_map_or (noted_of w.core (Give m)) (port_at (turned h w).ports to) [] ≡ notes
     → (short ≡ false → now ≡ start ++ map unnumbered (w.entries ++ notes))
@@ -87,7 +86,7 @@ relayed {n = n} {start = start} {notes = notes} {w = w} m h to u stands are kept
   power = u.power;
 }
 
-pub relayed_sent : {N : Type 0} {n : Node N} {ends : Ends} {noted now start : List Entry} {was short : Bool} {w : Work} {at : End} (m : Message) (h to : ℕ)
+pub relayed_sent : {N : Type 0} {n : Node N} {ends : KeptEnds} {noted now start : List Entry} {was short : Bool} {w : Work} {at : End} (m : Message) (h to : ℕ)
     → IsInStep n noted was start w → EndsStandFor ends (turn_at to (Give m) (turned h w)).ports → true ≡ takes_at m (port_at (turned h w).ports to)
     → (was ≡ true → short ≡ true) → (short ≡ false → now ≡ noted ++ entry.Sent at 0 m.0 m.1 ∷ []) → at ≡ end_of_node w.core to
     → IsInStep (record n { ends = ends }) now short start (turn_at to (Give m) (turned h w))
@@ -98,7 +97,7 @@ relayed_sent {noted = noted} {start = start} {w = w} {at = at} m h to u stands t
     relayed m h to u stands s.notes_are
     (λ kept. more_noted start w.entries (entry.Sent (end_of_node w.core to) s.session m.0 m.1) stays (λ k. more k ∙ at_is) u.noted_are kept)
 
-pub relayed_nowhere : {N : Type 0} {n : Node N} {ends : Ends} {noted start : List Entry} {was : Bool} {w : Work} (m : Message) (h to : ℕ)
+pub relayed_nowhere : {N : Type 0} {n : Node N} {ends : KeptEnds} {noted start : List Entry} {was : Bool} {w : Work} (m : Message) (h to : ℕ)
     → IsInStep n noted was start w → EndsStandFor ends (turn_at to (Give m) (turned h w)).ports → false ≡ takes_at m (port_at (turned h w).ports to)
     → IsInStep (record n { ends = ends }) noted was start (turn_at to (Give m) (turned h w))
 relayed_nowhere {start = start} {w = w} m h to u stands refuses =

@@ -7,9 +7,9 @@ use Rattle.link_end.specs.declared.report.ResetRefused.{ResetRefused}
 use Rattle.trace_model.specs.declared.entry.Entry.{Entry}
 use Rattle.node_machine.specs.Parts.{Core, Port}
 use Rattle.node_machine.specs.Carrying.{port_at}
-use Rattle.node_core.specs.Nodes.{IsSoundNode, IsInStep}
+use Rattle.node_core.specs.Nodes.{IsInStep}
 use Rattle.node_core.specs.Running.{RunsAs, MayStep, between, reset_refusal_at}
-use Rattle.node_core.proofs.Between.{at_rest, kept_at}
+use Rattle.node_core.proofs.Between.{at_rest, kept_at, usable_with}
 
 pub seen_may : {N : Type 0} {n v : Node N} → n ≡ v → MayStep v → MayStep n
 seen_may {N} same may = let P : Node N → Type 0 = λ x. MayStep x in subst P (sym same) may
@@ -26,11 +26,11 @@ kept_refusal h ports = ap reset_refusal_at (kept_at h ports) ∙ refusal_kept (p
 
 -- a node that stands for the same step runs as before
 pub still_runs : {N : Type 0} {n n2 : Node N} {noted start : List Entry} {short : Bool} {core : Core} {ports : List Port} → RunsAs n core ports
-    → IsInStep n2 noted short start (at_rest core ports) → IsSoundNode n2 → n2.store ≡ n.store → RunsAs n2 core ports
-still_runs {N} r u sound store =
+    → IsInStep n2 noted short start (at_rest core ports) → n2.store ≡ n.store → RunsAs n2 core ports
+still_runs {N} r u store =
     let L : Stored N → Type 0 = λ s. IsTrue s.journal.live in
     record {
-      sound = sound;
+      usable = usable_with store r.usable;
       live = subst L (sym store) r.live;
       node = u.node;
       stands = u.core refl;

@@ -9,8 +9,7 @@ use Rattle.trace_model.specs.declared.entry.Entry.{Entry}
 use Rattle.link_laws.specs.machine.Machine.{Turn}
 use Rattle.node_machine.specs.Parts.{Core, Port, Work, Desk as DeskOf}
 use Rattle.node_machine.specs.Carrying.{port_at, noted_of, with_port, with_desk, after_turn, turn_at, noting}
-use Rattle.node_ends.specs.declared.ends.Ends.{Ends}
-use Rattle.node_ends.specs.Ends.{EndsStandFor}
+use Rattle.node_ends.specs.Ends.{KeptEnds, EndsStandFor}
 use Rattle.node_core.specs.declared.node.Node.{Node}
 use Rattle.node_core.specs.Noting.{unnumbered}
 use Rattle.node_core.specs.Nodes.{IsInStep}
@@ -47,7 +46,7 @@ silent_notes core x ports h silent = by (port_at ports h) refl
     by (Some p) q = rw q (silent p)
 
 -- something is done to an end of which nothing is noted
-pub silent_turn : {N : Type 0} {n : Node N} {ends : Ends} {noted start : List Entry} {was : Bool} {w : Work} (h : ℕ) (x : Turn)
+pub silent_turn : {N : Type 0} {n : Node N} {ends : KeptEnds} {noted start : List Entry} {was : Bool} {w : Work} (h : ℕ) (x : Turn)
     → ((p : Port) → noted_of w.core x p ≡ []) → IsInStep n noted was start w → EndsStandFor ends (with_port h (after_turn x) w.ports)
     → IsInStep (record n { ends = ends }) noted was start (turn_at h x w)
 silent_turn {n = n} {noted = noted} {start = start} {w = w} h x silent u stands = record {
@@ -62,7 +61,7 @@ silent_turn {n = n} {noted = noted} {start = start} {w = w} h x silent u stands 
 }
 
 -- what is kept of an end is changed
-pub desk_changed : {N : Type 0} {n : Node N} {ends : Ends} {noted start : List Entry} {was : Bool} {w : Work} (h : ℕ) (f : DeskOf → DeskOf)
+pub desk_changed : {N : Type 0} {n : Node N} {ends : KeptEnds} {noted start : List Entry} {was : Bool} {w : Work} (h : ℕ) (f : DeskOf → DeskOf)
     → IsInStep n noted was start w → EndsStandFor ends (with_port h (λ p. record p { desk = f p.desk }) w.ports)
     → IsInStep (record n { ends = ends }) noted was start (with_desk h f w)
 desk_changed h f u stands = record {

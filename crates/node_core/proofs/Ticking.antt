@@ -12,8 +12,7 @@ use Rattle.node_machine.specs.Parts.{Port, Work}
 use Rattle.node_machine.specs.Carrying.{port_at, with_port, noting}
 use Rattle.node_machine.specs.Node.{has_come, told_at, all_come}
 use Rattle.node_machine.specs.Node.NodeInput.{AtEnd, TimePasses}
-use Rattle.node_ends.specs.declared.ends.Ends.{Ends}
-use Rattle.node_ends.specs.Ends.{EndsStandFor, FewAreDue, at_place}
+use Rattle.node_ends.specs.Ends.{KeptEnds, EndsStandFor, FewAreDue, at_place}
 use Rattle.node_ends.specs.Making.{AreAllDifferent}
 use Rattle.node_ends.proofs.Seated.{first_changed, none_changed, next_changed, next_there, all_changed, as_many}
 use Rattle.node_core.specs.Turning.{AreFewDue}
@@ -158,8 +157,8 @@ either_there None is some none = none is
 either_there (Some p) is some none = some p is
 
 -- there are at most seven ends
-pub many_ports : (ends : Ends) (ports : List Port) → EndsStandFor ends ports → length ports ≤ 7
+pub many_ports : (ends : KeptEnds) (ports : List Port) → EndsStandFor ends ports → length ports ≤ 7
 many_ports ends ports e =
-    let many = as_many ends.pool ends.seats.items ports e.each in
+    let many = as_many ends.pool ends.seats ports e.each in
     let few = e.few in
     omega (arith, many, few)

@@ -1,5 +1,5 @@
 -- A node between its steps and in them: for which states of its machine it stands, as far as the next step asks for it.
-use Rattle.std.specs.Prelude.{◌≡◌, ◌≤◌, ◌+◌, min, length, Bool, true, false, not, List, [], ◌++◌, map, Option, Some, None, option_map, IsTrue}
+use Rattle.std.specs.Prelude.{◌≡◌, ℕ, ◌≤◌, ◌+◌, min, length, Bool, true, false, not, List, [], ◌++◌, map, Option, Some, None, option_map, IsTrue}
 use Rattle.std.specs.List.{AllByRecursion}
 use Rattle.std.specs.Option.{option_map_or}
 use Rattle.trace_model.specs.declared.entry.Entry.{Entry}
@@ -13,8 +13,9 @@ use Rattle.node_ends.specs.Ends.{EndsStandFor, IsHeldWhileOneWaits}
 use Rattle.node_core.specs.declared.node.Node.{Node}
 use Rattle.node_core.specs.declared.running.Ran.{Ran}
 use Rattle.node_core.specs.declared.running.Ran.TheVariants.{Done, Stopped}
-use Rattle.node_core.specs.Nodes.{CoreStandsFor, IsSoundNode}
+use Rattle.node_core.specs.Nodes.{CoreStandsFor, IsUsable}
 use Rattle.node_core.specs.Noting.{unnumbered}
+use Rattle.node_core.specs.Bringing.{Brings}
 use Rattle.node_core.specs.Turning.{IsNodeInOrder, AreAtMostDue}
 
 -- what is kept of an end between steps: neither the number of its session nor what was done to it in a step
@@ -39,7 +40,7 @@ HasNoneEnded ports = AllByRecursion (λ (p : Port). (p.late ≡ false) × (p.end
 
 -- A node that has its power, between two steps of it, or behind one while its frames go out.
 pub record RunsAs {N : Type 0} (n : Node N) (core : Core) (ports : List Port) : Type 0 where
-  pub sound : IsSoundNode n
+  pub usable : IsUsable n.store
   pub live : IsTrue n.store.journal.live
   pub node : core.node ≡ n.number
   pub stands : CoreStandsFor n core
@@ -63,6 +64,12 @@ pub record HasStepped {N : Type 0} (n : Node N) (noted : List Entry) (short : Bo
   pub power : w.cut ≡ not n.store.journal.live
   pub runs : w.cut ≡ false → RunsAs n w.core w.ports
   pub noted_are : short ≡ false → noted ≡ start ++ map unnumbered w.entries
+
+-- A node that begins a step, with its watch, is behind it what f makes of it.
+abbrev pub TakesStep : {N V : Type 0} → (N → ℕ → List ℕ → Bool → N → Type 0) → (V → List Entry) → (V → Bool) → Node N × V → Node N × V
+    → (Work → Work) → Type 0
+TakesStep writes noted short old new f = (start : List Entry) (w : Work) → BeginsStep old.0 (noted old.1) (short old.1) start w
+    → Brings writes old.0.store.journal.nv new.0.store.journal.nv (HasStepped new.0 (noted new.1) (short new.1) start) f w
 
 -- a step may begin
 pub record MayStep {N : Type 0} (n : Node N) : Type 0 where

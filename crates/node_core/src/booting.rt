@@ -39,7 +39,7 @@ impl<N: Nv + Drop> Node<N> {
     ghost use Rattle.hci_store.specs.Image.{image_fault};
     ghost use Rattle.hci_store.specs.Starting.{ready_writes, HasWritten};
     ghost use Rattle.node_ends.specs.Making.{AreAllDifferent};
-    ghost use Rattle.node_core.specs.Nodes.{IsSoundNode, CoreStandsFor};
+    ghost use Rattle.node_core.specs.Nodes.{IsUsable, CoreStandsFor};
     ghost use Rattle.node_core.specs.Booting.{BeginsAs, found_in_memory, IsBootRefused};
 
     /// A node boots from a memory of 65,536 bytes, with new ends of this role of the links with these hosts, at most seven. It takes
@@ -62,7 +62,7 @@ impl<N: Nv + Drop> Node<N> {
         requires few { length hosts.now ≤ 7 }
         requires different { AreAllDifferent hosts.now }
         ensures begins { IfOk result (λ n. BeginsAs number role hosts.now n) }
-        ensures sound { IfOk result (λ n. IsSoundNode n) }
+        ensures usable { IfOk result (λ n. IsUsable n.store) }
         ensures found { IsTrue N.tells → IfOk result (λ n. CoreStandsFor n (found_in_memory number hosts.now (N.content nv)).core) }
         ensures image { IsTrue N.tells → OnOk result (image_fault (N.content nv) ≡ None) }
         ensures unspent { IsTrue N.tells → OnOk result ((journal (N.content nv)).head.version ≡ 1

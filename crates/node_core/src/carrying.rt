@@ -1,5 +1,4 @@
 //! How a node carries out one deed.
-ghost use Rattle.std.specs.Prelude.{◌≡◌};
 
 use crate::node::Node;
 use crate::noting::note;
@@ -10,25 +9,22 @@ use swp_base::Nv;
 use trace_model::{End, Entry, Octets, Watch};
 
 impl<N: Nv + Drop> Node<N> {
-    ghost use Rattle.std.specs.Prelude.{◌≡◌, ◌<◌, ℕ, true, false, List, ◌∷◌, [], map, length, IsTrue};
+    ghost use Rattle.std.specs.Prelude.{◌≡◌, ◌<◌, ℕ, true, false, ◌∷◌, [], map, length, IsTrue};
     ghost use Rattle.hcp_packet.specs.Packets.{IsSendable};
-    ghost use Rattle.trace_model.specs.declared.entry.Entry.{Entry as Noted};
     ghost use Rattle.hci_tables.specs.Commands.{IsCommand};
     ghost use Rattle.gate_admin.specs.Decide.{ends_of};
     ghost use Rattle.link_laws.specs.machine.Machine.Turn.{Give, Release};
-    ghost use Rattle.node_machine.specs.Parts.{Core, Work};
+    ghost use Rattle.node_machine.specs.Parts.{Core};
     ghost use Rattle.node_machine.specs.Parts.Deed.{Asks, SaysOk, Drops};
     ghost use Rattle.node_deeds.specs.Shown.{about_shown, creation_of_row};
     ghost use Rattle.node_deeds.specs.Replies.{IsSoundAbout};
     ghost use Rattle.hci_tables.specs.declared.command.Command.TheVariants.{Create};
     ghost use Rattle.node_ends.specs.Ends.{FewAreDue};
-    ghost use Rattle.node_machine.specs.Carrying.{turn_at, commit, notified, done, all_done, port_at, has_room_for, end_of_node, noting};
-    ghost use Rattle.node_core.specs.Nodes.{IsInStep, IsSoundNode};
-    ghost use Rattle.node_core.specs.Bringing.{Brings};
+    ghost use Rattle.node_machine.specs.Carrying.{turn_at, commit, notified, done, all_done, port_at, has_room_for, end_of_node};
+    ghost use Rattle.node_core.specs.Nodes.{IsUsable, Carries, CarriesOut, CarriesUnseen, IsInSomeStep};
     ghost use Rattle.node_core.specs.Faults.{CountsFaults};
     ghost use Rattle.node_machine.specs.Turns.{handles, holds_back};
     ghost use Rattle.node_core.specs.Handling.{has_turn, is_noted_held};
-    ghost use Rattle.std.specs.Prelude.{Bool};
     ghost use Rattle.history.specs.Steps.{end_of};
     ghost use Rattle.link_laws.specs.entries.Entries.End.{Host};
     ghost use Rattle.node_machine.specs.Parts.Deed.{Orders, Hears, Ends};
@@ -48,14 +44,11 @@ impl<N: Nv + Drop> Node<N> {
 
     // A message, which isn't empty, goes to the host of this link, or from a host to the controller, on a pipe that isn't reserved.
     pub(crate) fn send<W: Watch>(&mut self, host: u8, pipe: u8, message: &[u8], watch: &mut W)
-        requires runs { IsSoundNode self.old }
         requires sendable { IsSendable (pipe, message.now) }
-        ensures carried { (start : List Noted) (w : Work) → IsInStep self.old (W.noted watch.old) (W.is_short watch.old) start w
-            → IsInStep self.new (W.noted watch.new) (W.is_short watch.new) start (turn_at host (Give (pipe, message.now)) w) }
+        ensures carried { Carries W.noted W.is_short (self.old, watch.old) (self.new, watch.new) (turn_at host (Give (pipe, message.now))) }
         ensures store { self.new.store ≡ self.old.store }
         ensures number { self.new.number ≡ self.old.number }
         ensures tasks { self.new.tasks ≡ self.old.tasks }
-        ensures runs { IsSoundNode self.new }
     {
         if self.ends.send(host, pipe, message) {
             let entry = Entry::Sent {
@@ -71,18 +64,16 @@ impl<N: Nv + Drop> Node<N> {
     // A command for which there is room is committed: it is noted, and then written. Whether its writes went through.
     #[tactic(auto, using(crate::proofs::Faults::faults_stay, crate::proofs::Faults::faults_then))]
     pub(crate) fn commit<W: Watch>(&mut self, command: &Command, watch: &mut W) -> bool
-        requires runs { IsSoundNode self.old }
+        requires usable { IsUsable self.old.store }
         requires live { IsTrue self.old.store.journal.live }
         requires command { IsCommand command.now }
         requires room { has_room_for self.old.store.journal.state command.now ≡ true }
-        ensures carried { (start : List Noted) (w : Work) → IsInStep self.old (W.noted watch.old) (W.is_short watch.old) start w
-            → Brings N.writes self.old.store.journal.nv self.new.store.journal.nv
-            (IsInStep self.new (W.noted watch.new) (W.is_short watch.new) start) (commit command.now) w }
+        ensures carried { CarriesOut N.writes W.noted W.is_short (self.old, watch.old) (self.new, watch.new) (commit command.now) }
         ensures live { result ≡ self.new.store.journal.live }
         ensures faults { CountsFaults N.faults self.old.store self.new.store }
         ensures number { self.new.number ≡ self.old.number }
         ensures tasks { self.new.tasks ≡ self.old.tasks }
-        ensures runs { IsSoundNode self.new }
+        ensures usable { IsUsable self.new.store }
     {
         let node = self.number;
         let begun = Entry::Command {
@@ -100,15 +91,12 @@ impl<N: Nv + Drop> Node<N> {
 
     // A notice goes to a host, and isn't answered yet. A pipe that the host is asked for may be made.
     fn notify<W: Watch>(&mut self, host: u8, about: About, message: &[u8], watch: &mut W)
-        requires runs { IsSoundNode self.old }
         requires sound { IsSoundAbout about }
         requires some { 0 < length message.now }
-        ensures carried { (start : List Noted) (w : Work) → IsInStep self.old (W.noted watch.old) (W.is_short watch.old) start w
-            → IsInStep self.new (W.noted watch.new) (W.is_short watch.new) start (notified host (about_shown about) message.now w) }
+        ensures carried { Carries W.noted W.is_short (self.old, watch.old) (self.new, watch.new) (notified host (about_shown about) message.now) }
         ensures store { self.new.store ≡ self.old.store }
         ensures number { self.new.number ≡ self.old.number }
         ensures tasks { self.new.tasks ≡ self.old.tasks }
-        ensures runs { IsSoundNode self.new }
     {
         self.send(host, 1, message, watch);
         self.ends
@@ -117,15 +105,12 @@ impl<N: Nv + Drop> Node<N> {
 
     // A host is asked for the creation of a pipe, which may be made.
     fn ask<W: Watch>(&mut self, row: PipeRow, watch: &mut W)
-        requires runs { IsSoundNode self.old }
         requires row { IsCommand (Create row) }
-        ensures carried { (start : List Noted) (w : Work) → IsInStep self.old (W.noted watch.old) (W.is_short watch.old) start w
-            → IsInStep self.new (W.noted watch.new) (W.is_short watch.new) start
-            (done 0 (Asks row.dest (18 ∷ ends_of row) (creation_of_row row)) w) }
+        ensures carried { Carries W.noted W.is_short (self.old, watch.old) (self.new, watch.new)
+            (done 0 (Asks row.dest (18 ∷ ends_of row) (creation_of_row row))) }
         ensures store { self.new.store ≡ self.old.store }
         ensures number { self.new.number ≡ self.old.number }
         ensures tasks { self.new.tasks ≡ self.old.tasks }
-        ensures runs { IsSoundNode self.new }
     {
         self.ends.set_aside(row.creator);
         let notice = [
@@ -146,13 +131,10 @@ impl<N: Nv + Drop> Node<N> {
 
     // The block that was set aside for an asker, where one was, is free.
     pub(crate) fn release<W: Watch>(&mut self, asker: u8, watch: &mut W)
-        requires runs { IsSoundNode self.old }
-        ensures carried { (start : List Noted) (w : Work) → IsInStep self.old (W.noted watch.old) (W.is_short watch.old) start w
-            → IsInStep self.new (W.noted watch.new) (W.is_short watch.new) start (turn_at asker Release w) }
+        ensures carried { Carries W.noted W.is_short (self.old, watch.old) (self.new, watch.new) (turn_at asker Release) }
         ensures store { self.new.store ≡ self.old.store }
         ensures number { self.new.number ≡ self.old.number }
         ensures tasks { self.new.tasks ≡ self.old.tasks }
-        ensures runs { IsSoundNode self.new }
     {
         self.ends.release(asker);
     }
@@ -160,8 +142,7 @@ impl<N: Nv + Drop> Node<N> {
     // ANY_OK was sent for the command that was committed last.
     fn say_ok<W: Watch>(&mut self, watch: &mut W)
         requires live { IsTrue self.old.store.journal.live }
-        ensures carried { (start : List Noted) (w : Work) → IsInStep self.old (W.noted watch.old) (W.is_short watch.old) start w
-            → IsInStep self.new (W.noted watch.new) (W.is_short watch.new) start (done 0 SaysOk w) }
+        ensures carried { Carries W.noted W.is_short (self.old, watch.old) (self.new, watch.new) (done 0 SaysOk) }
         ensures same { self.new ≡ self.old }
     {
         let count = self.store.kept();
@@ -177,8 +158,7 @@ impl<N: Nv + Drop> Node<N> {
 
     // The message of this end, which came on this pipe, is dropped.
     fn drop_message<W: Watch>(&mut self, host: u8, pipe: u8, watch: &mut W)
-        ensures carried { (start : List Noted) (w : Work) → IsInStep self.old (W.noted watch.old) (W.is_short watch.old) start w
-            → IsInStep self.new (W.noted watch.new) (W.is_short watch.new) start (done host (Drops pipe) w) }
+        ensures carried { Carries W.noted W.is_short (self.old, watch.old) (self.new, watch.new) (done host (Drops pipe)) }
         ensures same { self.new ≡ self.old }
     {
         let at = self.end_at(host);
@@ -187,13 +167,10 @@ impl<N: Nv + Drop> Node<N> {
 
     // A host sends a command, which isn't empty, on pipe 01: it waits for the answer.
     pub(crate) fn order<W: Watch>(&mut self, host: u8, message: &[u8], watch: &mut W)
-        requires runs { IsSoundNode self.old }
         requires sendable { IsSendable (1, message.now) }
-        ensures carried { (start : List Noted) (w : Work) → IsInStep self.old (W.noted watch.old) (W.is_short watch.old) start w
-            → IsInStep self.new (W.noted watch.new) (W.is_short watch.new) start (done host (Orders message.now) w) }
+        ensures carried { Carries W.noted W.is_short (self.old, watch.old) (self.new, watch.new) (done host (Orders message.now)) }
         ensures store { self.new.store ≡ self.old.store }
         ensures number { self.new.number ≡ self.old.number }
-        ensures runs { IsSoundNode self.new }
     {
         self.tasks.command = Some(ordered_by(message));
         self.send(host, 1, message, watch);
@@ -201,24 +178,18 @@ impl<N: Nv + Drop> Node<N> {
 
     // The last command of a host on pipe 01 is answered.
     fn hear(&mut self)
-        requires runs { IsSoundNode self.old }
-        ensures carried { (host : ℕ) (noted : List Noted) (short : Bool) (start : List Noted) (w : Work) → IsInStep self.old noted short start w
-            → IsInStep self.new noted short start (done host Hears w) }
+        ensures carried { (host : ℕ) → CarriesUnseen self.old self.new (done host Hears) }
         ensures store { self.new.store ≡ self.old.store }
         ensures number { self.new.number ≡ self.old.number }
-        ensures runs { IsSoundNode self.new }
     {
         self.tasks.command = None;
     }
 
     // The init that runs has had so many answers. Where none runs, nothing more comes of an answer than that it was heard.
     fn go_on(&mut self, answered: u8)
-        requires runs { IsSoundNode self.old }
-        ensures carried { (host : ℕ) (noted : List Noted) (short : Bool) (start : List Noted) (w : Work) → IsInStep self.old noted short start w
-            → IsInStep self.new noted short start (done host (goes_on_with (init_running self.old.tasks.init) answered) w) }
+        ensures carried { (host : ℕ) → CarriesUnseen self.old self.new (done host (goes_on_with (init_running self.old.tasks.init) answered)) }
         ensures store { self.new.store ≡ self.old.store }
         ensures number { self.new.number ≡ self.old.number }
-        ensures runs { IsSoundNode self.new }
     {
         match &mut self.tasks.init {
             Some(init) => init.answered = answered,
@@ -228,13 +199,10 @@ impl<N: Nv + Drop> Node<N> {
 
     // The init of a host ends, which is noted so.
     fn end_init<W: Watch>(&mut self, end: InitEnd, watch: &mut W)
-        requires runs { IsSoundNode self.old }
-        ensures carried { (host : ℕ) (start : List Noted) (w : Work) → IsInStep self.old (W.noted watch.old) (W.is_short watch.old) start w
-            → IsInStep self.new (W.noted watch.new) (W.is_short watch.new) start
-            (done host (Ends (end_shown (end_of self.old.number Host) end)) w) }
+        ensures carried { (host : ℕ) → Carries W.noted W.is_short (self.old, watch.old) (self.new, watch.new)
+            (done host (Ends (end_shown (end_of self.old.number Host) end))) }
         ensures store { self.new.store ≡ self.old.store }
         ensures number { self.new.number ≡ self.old.number }
-        ensures runs { IsSoundNode self.new }
     {
         self.tasks.init = None;
         let at = End {
@@ -258,17 +226,15 @@ impl<N: Nv + Drop> Node<N> {
         message: &[u8],
         watch: &mut W,
     ) -> bool
-        requires runs { IsSoundNode self.old }
+        requires usable { IsUsable self.old.store }
         requires live { IsTrue self.old.store.journal.live }
-        requires doable { (start : List Noted) × (w : Work) × IsInStep self.old (W.noted watch.old) (W.is_short watch.old) start w
-            × IsDoableNow (handling self.old (pipe, message.now)) deed.now w }
-        ensures carried { (start : List Noted) (w : Work) → IsInStep self.old (W.noted watch.old) (W.is_short watch.old) start w
-            → Brings N.writes self.old.store.journal.nv self.new.store.journal.nv
-            (IsInStep self.new (W.noted watch.new) (W.is_short watch.new) start) (done host (deed_of self.old (pipe, message.now) deed.now)) w }
+        requires doable { IsInSomeStep W.noted W.is_short (self.old, watch.old) (λ w. IsDoableNow (handling self.old (pipe, message.now)) deed.now w) }
+        ensures carried { CarriesOut N.writes W.noted W.is_short (self.old, watch.old) (self.new, watch.new)
+            (done host (deed_of self.old (pipe, message.now) deed.now)) }
         ensures live { result ≡ self.new.store.journal.live }
         ensures faults { CountsFaults N.faults self.old.store self.new.store }
         ensures number { self.new.number ≡ self.old.number }
-        ensures runs { IsSoundNode self.new }
+        ensures usable { IsUsable self.new.store }
     {
         match deed {
             Deed::Commits(command) => self.commit(command, watch),
@@ -344,17 +310,16 @@ impl<N: Nv + Drop> Node<N> {
         message: &[u8],
         watch: &mut W,
     ) -> bool
-        requires runs { IsSoundNode self.old }
+        requires usable { IsUsable self.old.store }
         requires live { IsTrue self.old.store.journal.live }
-        requires doable { (start : List Noted) × (w : Work) × IsInStep self.old (W.noted watch.old) (W.is_short watch.old) start w
-            × AreDoableInTurn host (handling self.old (pipe, message.now)) deeds.now w }
-        ensures carried { (start : List Noted) (w : Work) → IsInStep self.old (W.noted watch.old) (W.is_short watch.old) start w
-            → Brings N.writes self.old.store.journal.nv self.new.store.journal.nv
-            (IsInStep self.new (W.noted watch.new) (W.is_short watch.new) start) (all_done host (map (deed_of self.old (pipe, message.now)) deeds.now)) w }
+        requires doable { IsInSomeStep W.noted W.is_short (self.old, watch.old)
+            (λ w. AreDoableInTurn host (handling self.old (pipe, message.now)) deeds.now w) }
+        ensures carried { CarriesOut N.writes W.noted W.is_short (self.old, watch.old) (self.new, watch.new)
+            (all_done host (map (deed_of self.old (pipe, message.now)) deeds.now)) }
         ensures live { result ≡ self.new.store.journal.live }
         ensures faults { CountsFaults N.faults self.old.store self.new.store }
         ensures number { self.new.number ≡ self.old.number }
-        ensures runs { IsSoundNode self.new }
+        ensures usable { IsUsable self.new.store }
     {
         for deed in deeds {
             if !self.carry_out(host, deed, pipe, message, watch) {
@@ -366,13 +331,10 @@ impl<N: Nv + Drop> Node<N> {
 
     // The message has its turn: that is noted, and its blocks are given back.
     fn begin_turn<W: Watch>(&mut self, host: u8, pipe: u8, message: &[u8], watch: &mut W)
-        requires runs { IsSoundNode self.old }
-        ensures carried { (start : List Noted) (w : Work) → IsInStep self.old (W.noted watch.old) (W.is_short watch.old) start w
-            → IsInStep self.new (W.noted watch.new) (W.is_short watch.new) start (has_turn host (pipe, message.now) w) }
+        ensures carried { Carries W.noted W.is_short (self.old, watch.old) (self.new, watch.new) (has_turn host (pipe, message.now)) }
         ensures store { self.new.store ≡ self.old.store }
         ensures number { self.new.number ≡ self.old.number }
         ensures tasks { self.new.tasks ≡ self.old.tasks }
-        ensures runs { IsSoundNode self.new }
     {
         let turn = Entry::Turn {
             at: self.end_at(host),
@@ -395,18 +357,16 @@ impl<N: Nv + Drop> Node<N> {
         message: &[u8],
         watch: &mut W,
     ) -> bool
-        requires runs { IsSoundNode self.old }
+        requires usable { IsUsable self.old.store }
         requires live { IsTrue self.old.store.journal.live }
-        requires doable { (start : List Noted) × (w : Work) × IsInStep self.old (W.noted watch.old) (W.is_short watch.old) start w
-            × AreDoableInTurn host (handling self.old (pipe, message.now)) deeds.now (has_turn host (pipe, message.now) w) }
-        ensures carried { (start : List Noted) (w : Work) → IsInStep self.old (W.noted watch.old) (W.is_short watch.old) start w
-            → Brings N.writes self.old.store.journal.nv self.new.store.journal.nv
-            (IsInStep self.new (W.noted watch.new) (W.is_short watch.new) start)
-            (handles host (pipe, message.now) (map (deed_of self.old (pipe, message.now)) deeds.now)) w }
+        requires doable { IsInSomeStep W.noted W.is_short (self.old, watch.old)
+            (λ w. AreDoableInTurn host (handling self.old (pipe, message.now)) deeds.now (has_turn host (pipe, message.now) w)) }
+        ensures carried { CarriesOut N.writes W.noted W.is_short (self.old, watch.old) (self.new, watch.new)
+            (handles host (pipe, message.now) (map (deed_of self.old (pipe, message.now)) deeds.now)) }
         ensures live { result ≡ self.new.store.journal.live }
         ensures faults { CountsFaults N.faults self.old.store self.new.store }
         ensures number { self.new.number ≡ self.old.number }
-        ensures runs { IsSoundNode self.new }
+        ensures usable { IsUsable self.new.store }
     {
         self.begin_turn(host, pipe, message, watch);
         self.carry_all(host, deeds, pipe, message, watch)
@@ -414,13 +374,10 @@ impl<N: Nv + Drop> Node<N> {
 
     // That the first message that waits at an end is held is noted, unless it was.
     fn note_held<W: Watch>(&mut self, host: u8, need: u16, spare: u16, watch: &mut W)
-        requires runs { IsSoundNode self.old }
-        ensures carried { (start : List Noted) (w : Work) → IsInStep self.old (W.noted watch.old) (W.is_short watch.old) start w
-            → IsInStep self.new (W.noted watch.new) (W.is_short watch.new) start (is_noted_held host (need, spare) w) }
+        ensures carried { Carries W.noted W.is_short (self.old, watch.old) (self.new, watch.new) (is_noted_held host (need, spare)) }
         ensures store { self.new.store ≡ self.old.store }
         ensures number { self.new.number ≡ self.old.number }
         ensures tasks { self.new.tasks ≡ self.old.tasks }
-        ensures runs { IsSoundNode self.new }
     {
         if self.ends.holds(host) {
             return;
@@ -433,15 +390,11 @@ impl<N: Nv + Drop> Node<N> {
     /// The message that waits at an end lacks room: that is noted once, and its end takes no more fragments. At most six control frames
     /// wait there to be sent.
     pub(crate) fn hold_back<W: Watch>(&mut self, host: u8, need: u16, spare: u16, watch: &mut W)
-        requires runs { IsSoundNode self.old }
-        requires few { (start : List Noted) × (w : Work) × IsInStep self.old (W.noted watch.old) (W.is_short watch.old) start w
-            × FewAreDue (port_at w.ports host) }
-        ensures carried { (start : List Noted) (w : Work) → IsInStep self.old (W.noted watch.old) (W.is_short watch.old) start w
-            → IsInStep self.new (W.noted watch.new) (W.is_short watch.new) start (holds_back host (need, spare) w) }
+        requires few { IsInSomeStep W.noted W.is_short (self.old, watch.old) (λ w. FewAreDue (port_at w.ports host)) }
+        ensures carried { Carries W.noted W.is_short (self.old, watch.old) (self.new, watch.new) (holds_back host (need, spare)) }
         ensures store { self.new.store ≡ self.old.store }
         ensures number { self.new.number ≡ self.old.number }
         ensures tasks { self.new.tasks ≡ self.old.tasks }
-        ensures runs { IsSoundNode self.new }
     {
         self.note_held(host, need, spare, watch);
         self.ends.hold(host, true);

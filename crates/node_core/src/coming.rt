@@ -21,7 +21,7 @@ fn sync_told(host: u8, report: &LinkReport) -> Option<(u8, u16)>
 }
 
 impl<N: Nv + Drop> Node<N> {
-    ghost use Rattle.std.specs.Prelude.{◌≡◌, ℕ, List, [], map, length, if◌then◌else◌, Some, None, slice_get, IfOk, OnErr, MatchResult};
+    ghost use Rattle.std.specs.Prelude.{◌≡◌, ℕ, List, [], map, if◌then◌else◌, Some, None, slice_get, IfOk, OnErr, MatchResult};
     ghost use Rattle.std.specs.Option.{option_map_or};
     ghost use Rattle.trace_model.specs.declared.entry.Entry.{Entry as Noted};
     ghost use Rattle.link_laws.specs.machine.Machine.{Report, whole_acked};
@@ -36,7 +36,7 @@ impl<N: Nv + Drop> Node<N> {
     ghost use Rattle.node_machine.specs.Node.NodeInput.{AtEnd, TimePasses};
     ghost use Rattle.node_ends.specs.Holding.{kept_number};
     ghost use Rattle.node_ends.specs.Ends.{EndsStandFor, FewAreDue, IsHeldWhileOneWaits, got_at};
-    ghost use Rattle.node_core.specs.Nodes.{IsInStep, IsSoundNode, LiesInBuffer};
+    ghost use Rattle.node_core.specs.Nodes.{IsInStep, LiesInBuffer, Carries, IsInSomeStep, CarriesWhere};
     ghost use Rattle.node_core.specs.Turning.{AreFewDue};
     ghost use Rattle.node_core.specs.Inputs.{input_of_end, refusal_at, MayComeAt, IsWhatCame};
     ghost use Rattle.node_core.specs.Noting.{AreNotes, unnumbered};
@@ -49,7 +49,6 @@ impl<N: Nv + Drop> Node<N> {
         buffer: &mut [u8; MESSAGE],
         watch: &mut W,
     ) -> Option<InBuffer>
-        requires runs { IsSoundNode self.now }
         ensures lies { LiesInBuffer self.now.ends buffer.new result }
         ensures notes { (ports : List Port) (core : Core) → EndsStandFor self.now.ends ports → core.node ≡ self.now.number
             → AreNotes (W.is_short watch.old) (W.is_short watch.new) (W.noted watch.old) (W.noted watch.new)
@@ -78,7 +77,6 @@ impl<N: Nv + Drop> Node<N> {
     // How many messages of the session of the end of the link with this host are acknowledged, where there are more of them; else 0, which
     // isn't noted.
     fn acked(&self, host: u8, more: bool) -> u32
-        requires runs { IsSoundNode self.now }
         ensures { (ports : List Port) → EndsStandFor self.now.ends ports
             → result ≡ (if more then option_map_or (λ (p : Port). kept_number (whole_acked p.side)) (port_at ports host) 0 else 0) }
     {
@@ -98,7 +96,6 @@ impl<N: Nv + Drop> Node<N> {
         buffer: &mut [u8; MESSAGE],
         watch: &mut W,
     ) -> Option<InBuffer>
-        requires runs { IsSoundNode self.now }
         ensures lies { LiesInBuffer self.now.ends buffer.new result }
         ensures notes { (ports : List Port) (core : Core) (x : Report) (n acked : ℕ) → EndsStandFor self.now.ends ports → core.node ≡ self.now.number
             → report.now ≡ report_told x → option_map_or (λ (p : Port). kept_number (whole_acked p.side)) (port_at ports host) 0 ≡ kept_number acked
@@ -121,7 +118,6 @@ impl<N: Nv + Drop> Node<N> {
         buffer: &mut [u8; MESSAGE],
         watch: &mut W,
     ) -> Option<InBuffer>
-        requires runs { IsSoundNode self.now }
         ensures lies { LiesInBuffer self.now.ends buffer.new result }
         ensures notes { (ports : List Port) (core : Core) (x : Report) (n acked : ℕ) → EndsStandFor self.now.ends ports → core.node ≡ self.now.number
             → report.now ≡ report_told x → option_map_or (λ (p : Port). kept_number (whole_acked p.side)) (port_at ports host) 0 ≡ kept_number acked
@@ -149,11 +145,9 @@ impl<N: Nv + Drop> Node<N> {
         buffer: &mut [u8; MESSAGE],
         watch: &mut W,
     ) -> Result<Came, ResetRefused>
-        requires runs { IsSoundNode self.old }
-        requires may { (start : List Noted) × (w : Work) × IsInStep self.old (W.noted watch.old) (W.is_short watch.old) start w
-            × FewAreDue (port_at w.ports host) × IsHeldWhileOneWaits (port_at w.ports host) × MayComeAt what (port_at w.ports host) }
-        ensures carried { (start : List Noted) (w : Work) → IsInStep self.old (W.noted watch.old) (W.is_short watch.old) start w
-            → IsInStep self.new (W.noted watch.new) (W.is_short watch.new) start (all_come (AtEnd host (input_of_end what.entry)) w) }
+        requires may { IsInSomeStep W.noted W.is_short (self.old, watch.old) (λ w.
+            FewAreDue (port_at w.ports host) × IsHeldWhileOneWaits (port_at w.ports host) × MayComeAt what (port_at w.ports host)) }
+        ensures carried { Carries W.noted W.is_short (self.old, watch.old) (self.new, watch.new) (all_come (AtEnd host (input_of_end what.entry))) }
         ensures came { (start : List Noted) (w : Work) → IsInStep self.old (W.noted watch.old) (W.is_short watch.old) start w
             → MatchResult result
             (λ came. IsWhatCame (AtEnd host (input_of_end what.entry)) w.ports came × (refusal_at what.entry (port_at w.ports host) ≡ None))
@@ -162,7 +156,6 @@ impl<N: Nv + Drop> Node<N> {
         ensures quiet { OnErr result (watch.new ≡ watch.old) }
         ensures store { self.new.store ≡ self.old.store }
         ensures number { self.new.number ≡ self.old.number }
-        ensures runs { IsSoundNode self.new }
     {
         let mut told = None;
         if let Err(why) = comes_to(&mut self.ends, host, what, &mut told) {
@@ -181,16 +174,12 @@ impl<N: Nv + Drop> Node<N> {
     // A tick comes to the end at this place, where there is one, and what it did is noted. At most six control frames wait there to be
     // sent.
     fn tick_at<W: Watch>(&mut self, i: usize, buffer: &mut [u8; MESSAGE], watch: &mut W)
-        requires runs { IsSoundNode self.old }
-        requires may { (start : List Noted) × (w : Work) × IsInStep self.old (W.noted watch.old) (W.is_short watch.old) start w
-            × FewAreDue (slice_get w.ports i) }
+        requires may { IsInSomeStep W.noted W.is_short (self.old, watch.old) (λ w. FewAreDue (slice_get w.ports i)) }
         ensures carried { (start : List Noted) (w : Work) (p : Port) → IsInStep self.old (W.noted watch.old) (W.is_short watch.old) start w
             → slice_get w.ports i ≡ Some p → IsInStep self.new (W.noted watch.new) (W.is_short watch.new) start (all_come (AtEnd p.desk.host Tick) w) }
-        ensures none { (start : List Noted) (w : Work) → IsInStep self.old (W.noted watch.old) (W.is_short watch.old) start w
-            → slice_get w.ports i ≡ None → IsInStep self.new (W.noted watch.new) (W.is_short watch.new) start w }
+        ensures none { CarriesWhere (λ w. slice_get w.ports i ≡ None) W.noted W.is_short (self.old, watch.old) (self.new, watch.new) (λ w. w) }
         ensures store { self.new.store ≡ self.old.store }
         ensures number { self.new.number ≡ self.old.number }
-        ensures runs { IsSoundNode self.new }
     {
         let Some(host) = self.ends.host(i) else {
             return;
@@ -205,14 +194,10 @@ impl<N: Nv + Drop> Node<N> {
 
     /// Time passes at all ends, one after another, and what it did there is noted. At most six control frames wait at each to be sent.
     pub(crate) fn time_passes<W: Watch>(&mut self, buffer: &mut [u8; MESSAGE], watch: &mut W)
-        requires runs { IsSoundNode self.old }
-        requires may { (start : List Noted) × (w : Work) × IsInStep self.old (W.noted watch.old) (W.is_short watch.old) start w
-            × AreFewDue w.ports }
-        ensures carried { (start : List Noted) (w : Work) → IsInStep self.old (W.noted watch.old) (W.is_short watch.old) start w
-            → AreFewDue w.ports → IsInStep self.new (W.noted watch.new) (W.is_short watch.new) start (all_come TimePasses w) }
+        requires may { IsInSomeStep W.noted W.is_short (self.old, watch.old) (λ w. AreFewDue w.ports) }
+        ensures carried { CarriesWhere (λ w. AreFewDue w.ports) W.noted W.is_short (self.old, watch.old) (self.new, watch.new) (all_come TimePasses) }
         ensures store { self.new.store ≡ self.old.store }
         ensures number { self.new.number ≡ self.old.number }
-        ensures runs { IsSoundNode self.new }
     {
         for i in 0..self.ends.count() {
             self.tick_at(i, buffer, watch);

@@ -52,7 +52,8 @@ impl<N: Nv + Drop> Controller<N> {
     ghost use Rattle.node_ends.specs.Making.{new_port};
     ghost use Rattle.node_core.specs.Booting.{found_in_memory, IsBootRefused};
     ghost use Rattle.node_core.specs.Bringing.{Brings};
-    ghost use Rattle.node_core.specs.Running.{RunsAs, BeginsStep, HasStepped, MayStep, ran_so, one_more_error, core_kept, reset_refusal_at, becomes_active_by};
+    ghost use Rattle.node_core.specs.Running.{RunsAs, BeginsStep, HasStepped, MayStep, ran_so, one_more_error, core_kept};
+    ghost use Rattle.node_core.specs.Running.{reset_refusal_at, becomes_active_by, TakesStep};
 
     /// A controller boots from a memory of 65,536 bytes, with links to the hosts of this mask, in which bit h stands for host h. It takes
     /// all its memory here. A memory that says nothing is formatted; one of version 01 is written anew as a snapshot of version 02
@@ -90,9 +91,7 @@ impl<N: Nv + Drop> Controller<N> {
     /// A frame with this LPDU is taken from the link with this host. Every frame of the step before was fetched.
     pub fn take<W: Watch>(&mut self, host: u8, lpdu: &Lpdu, watch: &mut W) -> Ran
         requires may { MayStep self.old }
-        ensures stepped { (start : List Noted) (w : Work) → BeginsStep self.old (W.noted watch.old) (W.is_short watch.old) start w
-            → Brings N.writes self.old.store.journal.nv self.new.store.journal.nv
-            (HasStepped self.new (W.noted watch.new) (W.is_short watch.new) start) (steps (AtEnd host (lpdu_input lpdu.now))) w }
+        ensures stepped { TakesStep N.writes W.noted W.is_short (self.old, watch.old) (self.new, watch.new) (steps (AtEnd host (lpdu_input lpdu.now))) }
         ensures ran { result ≡ ran_so self.new.store.journal.live }
         ensures count { N.faults self.old.store.journal.nv ≤ N.faults self.new.store.journal.nv }
         ensures rose { result ≡ Ran.Stopped → Rose (N.faults self.old.store.journal.nv) (N.faults self.new.store.journal.nv) }
@@ -130,9 +129,7 @@ impl<N: Nv + Drop> Controller<N> {
     /// A tick passes at all links. Every frame of the step before was fetched.
     pub fn tick<W: Watch>(&mut self, watch: &mut W) -> Ran
         requires may { MayStep self.old }
-        ensures stepped { (start : List Noted) (w : Work) → BeginsStep self.old (W.noted watch.old) (W.is_short watch.old) start w
-            → Brings N.writes self.old.store.journal.nv self.new.store.journal.nv
-            (HasStepped self.new (W.noted watch.new) (W.is_short watch.new) start) (steps TimePasses) w }
+        ensures stepped { TakesStep N.writes W.noted W.is_short (self.old, watch.old) (self.new, watch.new) (steps TimePasses) }
         ensures ran { result ≡ ran_so self.new.store.journal.live }
         ensures count { N.faults self.old.store.journal.nv ≤ N.faults self.new.store.journal.nv }
         ensures rose { result ≡ Ran.Stopped → Rose (N.faults self.old.store.journal.nv) (N.faults self.new.store.journal.nv) }
@@ -157,9 +154,7 @@ impl<N: Nv + Drop> Controller<N> {
         requires window { IfSome window (λ w. (1 ≤ w) × (w ≤ 4)) }
         ensures refusal { (core : Core) (ports : List Port) → RunsAs self.old core ports → MatchResult result
             (λ ran. reset_refusal_at (port_at ports host) ≡ None) (λ why. reset_refusal_at (port_at ports host) ≡ Some why) }
-        ensures stepped { OnOk result ((start : List Noted) (w : Work) → BeginsStep self.old (W.noted watch.old) (W.is_short watch.old) start w
-            → Brings N.writes self.old.store.journal.nv self.new.store.journal.nv
-            (HasStepped self.new (W.noted watch.new) (W.is_short watch.new) start) (steps (AtEnd host (Reset window))) w) }
+        ensures stepped { OnOk result (TakesStep N.writes W.noted W.is_short (self.old, watch.old) (self.new, watch.new) (steps (AtEnd host (Reset window)))) }
         ensures unchanged { OnErr result ((core : Core) (ports : List Port) → RunsAs self.old core ports → RunsAs self.new core ports) }
         ensures quiet { OnErr result ((watch.new ≡ watch.old) × (self.new.store ≡ self.old.store)) }
         ensures ran { IfOk result (λ ran. ran ≡ ran_so self.new.store.journal.live) }
@@ -182,9 +177,7 @@ impl<N: Nv + Drop> Controller<N> {
     pub fn activate<W: Watch>(&mut self, host: u8, power: u8, watch: &mut W) -> Ran
         requires may { MayStep self.old }
         requires power { power ≤ 1 }
-        ensures stepped { (start : List Noted) (w : Work) → BeginsStep self.old (W.noted watch.old) (W.is_short watch.old) start w
-            → Brings N.writes self.old.store.journal.nv self.new.store.journal.nv
-            (HasStepped self.new (W.noted watch.new) (W.is_short watch.new) start) (steps (AtEnd host (Start power))) w }
+        ensures stepped { TakesStep N.writes W.noted W.is_short (self.old, watch.old) (self.new, watch.new) (steps (AtEnd host (Start power))) }
         ensures ran { result ≡ ran_so self.new.store.journal.live }
         ensures count { N.faults self.old.store.journal.nv ≤ N.faults self.new.store.journal.nv }
         ensures rose { result ≡ Ran.Stopped → Rose (N.faults self.old.store.journal.nv) (N.faults self.new.store.journal.nv) }
@@ -200,9 +193,7 @@ impl<N: Nv + Drop> Controller<N> {
     /// Activation ends at the link with this host, and the link with it. Every frame of the step before was fetched.
     pub fn deactivate<W: Watch>(&mut self, host: u8, watch: &mut W) -> Ran
         requires may { MayStep self.old }
-        ensures stepped { (start : List Noted) (w : Work) → BeginsStep self.old (W.noted watch.old) (W.is_short watch.old) start w
-            → Brings N.writes self.old.store.journal.nv self.new.store.journal.nv
-            (HasStepped self.new (W.noted watch.new) (W.is_short watch.new) start) (steps (AtEnd host Stop)) w }
+        ensures stepped { TakesStep N.writes W.noted W.is_short (self.old, watch.old) (self.new, watch.new) (steps (AtEnd host Stop)) }
         ensures ran { result ≡ ran_so self.new.store.journal.live }
         ensures count { N.faults self.old.store.journal.nv ≤ N.faults self.new.store.journal.nv }
         ensures rose { result ≡ Ran.Stopped → Rose (N.faults self.old.store.journal.nv) (N.faults self.new.store.journal.nv) }

@@ -7,15 +7,14 @@ use swp_base::Nv;
 use trace_model::Watch;
 
 impl<N: Nv + Drop> Node<N> {
-    ghost use Rattle.std.specs.Prelude.{◌≡◌, ◌≤◌, List, length, None, Some, IfSome, IfOk, OnOk, OnErr, MatchResult, IsTrue};
+    ghost use Rattle.std.specs.Prelude.{◌≡◌, ◌≤◌, List, None, Some, IfSome, IfOk, OnOk, OnErr, MatchResult, IsTrue};
     ghost use Rattle.node_machine.specs.Parts.{Core, Port, Work};
     ghost use Rattle.node_machine.specs.Node.{all_come, times_out, steps};
     ghost use Rattle.trace_model.specs.declared.entry.Entry.{Entry as Noted};
-    ghost use Rattle.node_core.specs.Nodes.{IsInStep, IsSoundNode, LiesInBuffer};
-    ghost use Rattle.node_core.specs.Bringing.{Brings};
+    ghost use Rattle.node_core.specs.Nodes.{IsInStep, IsUsable, LiesInBuffer, IsInSomeStep, CarriesOutWhere};
     ghost use Rattle.node_core.specs.Faults.{CountsFaults};
     ghost use Rattle.node_core.specs.Turning.{IsNodeInOrder, AreFewDue};
-    ghost use Rattle.node_core.specs.Running.{RunsAs, BeginsStep, HasStepped, HasNoneEnded, IsAllSent, ran_so};
+    ghost use Rattle.node_core.specs.Running.{RunsAs, BeginsStep, HasNoneEnded, IsAllSent, ran_so, TakesStep};
     ghost use Rattle.node_core.specs.Syncing.{sync_kept, finishes};
     ghost use Rattle.node_core.specs.Inputs.{input_of_node, refusal_by, makes_active, MayComeToNode, IsWhatCame};
 
@@ -29,20 +28,17 @@ impl<N: Nv + Drop> Node<N> {
         buffer: &mut [u8; MESSAGE],
         watch: &mut W,
     ) -> bool
-        requires runs { IsSoundNode self.old }
+        requires usable { IsUsable self.old.store }
         requires live { IsTrue self.old.store.journal.live }
         requires lies { LiesInBuffer self.old.ends buffer.old lies }
         requires host { IfSome came (λ pair. (1 ≤ pair.0) × (pair.0 ≤ 7)) }
-        requires may { (start : List Noted) × (w : Work) × IsInStep self.old (W.noted watch.old) (W.is_short watch.old) start w
-            × IsNodeInOrder w.core w.ports × AreFewDue w.ports }
-        ensures carried { (start : List Noted) (w : Work) → IsInStep self.old (W.noted watch.old) (W.is_short watch.old) start w
-            → IsNodeInOrder w.core w.ports → AreFewDue w.ports → Brings N.writes self.old.store.journal.nv self.new.store.journal.nv
-            (IsInStep self.new (W.noted watch.new) (W.is_short watch.new) start)
-            (finishes (sync_kept self.old.store.journal.state self.old.store.tables came)) w }
+        requires may { IsInSomeStep W.noted W.is_short (self.old, watch.old) (λ w. IsNodeInOrder w.core w.ports × AreFewDue w.ports) }
+        ensures carried { CarriesOutWhere N.writes (λ w. IsNodeInOrder w.core w.ports × AreFewDue w.ports) W.noted W.is_short (self.old, watch.old)
+            (self.new, watch.new) (finishes (sync_kept self.old.store.journal.state self.old.store.tables came)) }
         ensures live { result ≡ self.new.store.journal.live }
         ensures faults { CountsFaults N.faults self.old.store self.new.store }
         ensures number { self.new.number ≡ self.old.number }
-        ensures runs { IsSoundNode self.new }
+        ensures usable { IsUsable self.new.store }
     {
         if came.is_none() && !self.is_over() {
             return self.passes(lies, buffer, watch);
@@ -65,20 +61,17 @@ impl<N: Nv + Drop> Node<N> {
         buffer: &mut [u8; MESSAGE],
         watch: &mut W,
     ) -> bool
-        requires runs { IsSoundNode self.old }
+        requires usable { IsUsable self.old.store }
         requires live { IsTrue self.old.store.journal.live }
         requires lies { LiesInBuffer self.old.ends buffer.old lies }
         requires host { IfSome came (λ pair. (1 ≤ pair.0) × (pair.0 ≤ 7)) }
-        requires may { (start : List Noted) × (w : Work) × IsInStep self.old (W.noted watch.old) (W.is_short watch.old) start w
-            × IsNodeInOrder w.core w.ports × AreFewDue w.ports }
-        ensures carried { (start : List Noted) (w : Work) → IsInStep self.old (W.noted watch.old) (W.is_short watch.old) start w
-            → IsNodeInOrder w.core w.ports → AreFewDue w.ports → Brings N.writes self.old.store.journal.nv self.new.store.journal.nv
-            (IsInStep self.new (W.noted watch.new) (W.is_short watch.new) start)
-            (finishes (sync_kept self.old.store.journal.state self.old.store.tables came)) w }
+        requires may { IsInSomeStep W.noted W.is_short (self.old, watch.old) (λ w. IsNodeInOrder w.core w.ports × AreFewDue w.ports) }
+        ensures carried { CarriesOutWhere N.writes (λ w. IsNodeInOrder w.core w.ports × AreFewDue w.ports) W.noted W.is_short (self.old, watch.old)
+            (self.new, watch.new) (finishes (sync_kept self.old.store.journal.state self.old.store.tables came)) }
         ensures live { result ≡ self.new.store.journal.live }
         ensures faults { CountsFaults N.faults self.old.store self.new.store }
         ensures number { self.new.number ≡ self.old.number }
-        ensures runs { IsSoundNode self.new }
+        ensures usable { IsUsable self.new.store }
     {
         if came.is_none() && self.ends.are_idle() {
             return true;
@@ -108,7 +101,6 @@ impl<N: Nv + Drop> Node<N> {
         ensures quiet { OnErr result (watch.new ≡ watch.old) }
         ensures store { self.new.store ≡ self.old.store }
         ensures number { self.new.number ≡ self.old.number }
-        ensures runs { IsSoundNode self.new }
     {
         match input {
             NodeInput::At { host, what } => self.comes_at(host, what, buffer, watch),
@@ -136,9 +128,7 @@ impl<N: Nv + Drop> Node<N> {
         requires { (core : Core) × (ports : List Port) × RunsAs self.old core ports × IsAllSent ports × MayComeToNode input ports }
         ensures refusal { (core : Core) (ports : List Port) → RunsAs self.old core ports → MatchResult result
             (λ done. refusal_by input.entry ports ≡ None) (λ why. refusal_by input.entry ports ≡ Some why) }
-        ensures stepped { OnOk result ((start : List Noted) (w : Work) → BeginsStep self.old (W.noted watch.old) (W.is_short watch.old) start w
-            → Brings N.writes self.old.store.journal.nv self.new.store.journal.nv
-            (HasStepped self.new (W.noted watch.new) (W.is_short watch.new) start) (steps (input_of_node input.entry)) w) }
+        ensures stepped { OnOk result (TakesStep N.writes W.noted W.is_short (self.old, watch.old) (self.new, watch.new) (steps (input_of_node input.entry))) }
         ensures active { IfOk result (λ done. (start : List Noted) (w : Work) → BeginsStep self.old (W.noted watch.old) (W.is_short watch.old) start w
             → done.became_active ≡ makes_active (input_of_node input.entry) w.ports) }
         ensures unchanged { OnErr result ((core : Core) (ports : List Port) → RunsAs self.old core ports → RunsAs self.new core ports) }

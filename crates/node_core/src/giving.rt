@@ -52,13 +52,13 @@ impl<N: Nv + Drop> Node<N> {
     ghost use Rattle.hcp_packet.specs.Packets.{IsSendable};
     ghost use Rattle.link_laws.specs.machine.Machine.{Message, give_refusal};
     ghost use Rattle.node_machine.specs.Parts.{Port, Work};
-    ghost use Rattle.node_machine.specs.Parts.Deed.{Sends, GoesOn};
-    ghost use Rattle.node_machine.specs.Carrying.{port_at, done, all_done};
+    ghost use Rattle.node_machine.specs.Parts.Deed.{GoesOn};
+    ghost use Rattle.node_machine.specs.Carrying.{port_at, done};
     ghost use Rattle.node_machine.specs.Node.{begins_with};
     ghost use Rattle.node_machine.specs.Controller.{is_command_message};
     ghost use Rattle.node_machine.specs.world.World.{sending, beginning};
     ghost use Rattle.node_machine.specs.world.Lines.{if_waiting};
-    ghost use Rattle.node_core.specs.Nodes.{IsInStep, IsSoundNode};
+    ghost use Rattle.node_core.specs.Nodes.{IsInStep, Carries, CarriesUnseen};
     ghost use Rattle.node_core.specs.Giving.{refusal_noted, refused_as, TellsLength};
 
     // Whether one that has to wait for the last command on pipe 01 does so.
@@ -70,7 +70,6 @@ impl<N: Nv + Drop> Node<N> {
 
     // Why a message of so many bytes isn't sent, where it isn't: one that has to wait is told of while a command on pipe 01 isn't answered.
     fn refusal(&self, waits: bool, len: usize) -> Option<HostRefused>
-        requires runs { IsSoundNode self.now }
         requires live { IsTrue self.now.store.journal.live }
         ensures why { (noted : List Noted) (short : Bool) (start : List Noted) (w : Work) (p : Port) (m : Message) → IsInStep self.now noted short start w
             → port_at w.ports self.now.number ≡ Some p → length m.1 ≡ len
@@ -98,16 +97,13 @@ impl<N: Nv + Drop> Node<N> {
 
     // A host sends a message, which isn't empty, as a command on pipe 01 or as any other one.
     fn give<W: Watch>(&mut self, is_order: bool, pipe: u8, message: &[u8], watch: &mut W)
-        requires runs { IsSoundNode self.old }
         requires live { IsTrue self.old.store.journal.live }
         requires order { is_order ≡ (pipe == 1 && is_command_message message.now) }
         requires sendable { IsSendable (pipe, message.now) }
-        ensures given { (start : List Noted) (w : Work) → IsInStep self.old (W.noted watch.old) (W.is_short watch.old) start w
-            → IsInStep self.new (W.noted watch.new) (W.is_short watch.new) start
-            (begins_with self.old.number (sending self.old.number (pipe, message.now)) w) }
+        ensures given { Carries W.noted W.is_short (self.old, watch.old) (self.new, watch.new)
+            (begins_with self.old.number (sending self.old.number (pipe, message.now))) }
         ensures store { self.new.store ≡ self.old.store }
         ensures number { self.new.number ≡ self.old.number }
-        ensures runs { IsSoundNode self.new }
     {
         let host = self.number;
         if is_order {
@@ -130,20 +126,17 @@ impl<N: Nv + Drop> Node<N> {
         message: &[u8],
         watch: &mut W,
     ) -> Result<(), HostRefused>
-        requires runs { IsSoundNode self.old }
         requires live { IsTrue self.old.store.journal.live }
         requires sendable { IsSendable (pipe, message.now) }
         ensures refusal { (noted : List Noted) (short : Bool) (start : List Noted) (w : Work) (p : Port) → IsInStep self.old noted short start w
             → port_at w.ports self.old.number ≡ Some p → refused_as result
             ≡ if_waiting (pipe == 1 && is_command_message message.now && is_some w.core.command) (give_refusal p.side (pipe, message.now)) }
         ensures long { IfErr result (λ why. TellsLength (length message.now) (Some why)) }
-        ensures given { OnOk result ((start : List Noted) (w : Work) → IsInStep self.old (W.noted watch.old) (W.is_short watch.old) start w
-            → IsInStep self.new (W.noted watch.new) (W.is_short watch.new) start
-            (begins_with self.old.number (sending self.old.number (pipe, message.now)) w)) }
+        ensures given { OnOk result (Carries W.noted W.is_short (self.old, watch.old) (self.new, watch.new)
+            (begins_with self.old.number (sending self.old.number (pipe, message.now)))) }
         ensures unchanged { OnErr result ((self.new ≡ self.old) × (watch.new ≡ watch.old)) }
         ensures store { self.new.store ≡ self.old.store }
         ensures number { self.new.number ≡ self.old.number }
-        ensures runs { IsSoundNode self.new }
     {
         let is_order = is_order(pipe, message);
         if let Some(why) = self.refusal(is_order, message.len()) {
@@ -155,14 +148,11 @@ impl<N: Nv + Drop> Node<N> {
 
     // An init begins to run, with at most eight pipes.
     fn run_init(&mut self, identity: &[u8; 8], pipes: &[[u8; 3]])
-        requires runs { IsSoundNode self.old }
         requires few { length pipes.now ≤ 8 }
-        ensures runs_it { (host : ℕ) (noted : List Noted) (short : Bool) (start : List Noted) (w : Work) → IsInStep self.old noted short start w
-            → IsInStep self.new noted short start
-            (done host (GoesOn (record { identity = identity.now; pipes = pipes.now; answered = 0 })) w) }
+        ensures runs_it { (host : ℕ) → CarriesUnseen self.old self.new
+            (done host (GoesOn (record { identity = identity.now; pipes = pipes.now; answered = 0 }))) }
         ensures store { self.new.store ≡ self.old.store }
         ensures number { self.new.number ≡ self.old.number }
-        ensures runs { IsSoundNode self.new }
     {
         self.tasks.init = Some(Init {
             identity: *identity,
@@ -184,19 +174,16 @@ impl<N: Nv + Drop> Node<N> {
         pipes: &[[u8; 3]],
         watch: &mut W,
     ) -> Result<(), HostRefused>
-        requires runs { IsSoundNode self.old }
         requires live { IsTrue self.old.store.journal.live }
         requires few { length pipes.now ≤ 8 }
         ensures refusal { (noted : List Noted) (short : Bool) (start : List Noted) (w : Work) (p : Port) → IsInStep self.old noted short start w
             → port_at w.ports self.old.number ≡ Some p
             → refused_as result ≡ if_waiting (is_some w.core.command) (give_refusal p.side (1, 3 ∷ [])) }
-        ensures begun { OnOk result ((start : List Noted) (w : Work) → IsInStep self.old (W.noted watch.old) (W.is_short watch.old) start w
-            → IsInStep self.new (W.noted watch.new) (W.is_short watch.new) start
-            (begins_with self.old.number (beginning identity.now pipes.now) w)) }
+        ensures begun { OnOk result (Carries W.noted W.is_short (self.old, watch.old) (self.new, watch.new)
+            (begins_with self.old.number (beginning identity.now pipes.now))) }
         ensures unchanged { OnErr result ((self.new ≡ self.old) × (watch.new ≡ watch.old)) }
         ensures store { self.new.store ≡ self.old.store }
         ensures number { self.new.number ≡ self.old.number }
-        ensures runs { IsSoundNode self.new }
     {
         if let Some(why) = self.refusal(true, 1) {
             return Err(why);

@@ -58,7 +58,7 @@ impl<N: Nv + Drop> Host<N> {
     ghost use Rattle.node_core.specs.Booting.{found_in_memory, IsBootRefused};
     ghost use Rattle.node_core.specs.Bringing.{Brings};
     ghost use Rattle.node_core.specs.Giving.{refused_as, TellsLength, IsAsked};
-    ghost use Rattle.node_core.specs.Running.{RunsAs, BeginsStep, HasStepped, MayStep, ran_so, one_more_error, core_kept, reset_refusal_at};
+    ghost use Rattle.node_core.specs.Running.{RunsAs, BeginsStep, HasStepped, MayStep, ran_so, one_more_error, core_kept, reset_refusal_at, TakesStep};
     ghost use Rattle.node_core.specs.Inputs.{input_of_end, refusal_at, IsAskedOf};
 
     /// A host with this number, 01 to 07, boots from a memory of 65,536 bytes, with the link that has its number. It takes all its memory
@@ -99,9 +99,8 @@ impl<N: Nv + Drop> Host<N> {
     /// A frame with this LPDU is taken from the link. Every frame of the step before was fetched.
     pub fn take<W: Watch>(&mut self, lpdu: &Lpdu, watch: &mut W) -> Ran
         requires may { MayStep self.old }
-        ensures stepped { (start : List Noted) (w : Work) → BeginsStep self.old (W.noted watch.old) (W.is_short watch.old) start w
-            → Brings N.writes self.old.store.journal.nv self.new.store.journal.nv
-            (HasStepped self.new (W.noted watch.new) (W.is_short watch.new) start) (steps (AtEnd self.old.number (lpdu_input lpdu.now))) w }
+        ensures stepped { TakesStep N.writes W.noted W.is_short (self.old, watch.old) (self.new, watch.new)
+            (steps (AtEnd self.old.number (lpdu_input lpdu.now))) }
         ensures number { self.new.number ≡ self.old.number }
         ensures ran { result ≡ ran_so self.new.store.journal.live }
         ensures count { N.faults self.old.store.journal.nv ≤ N.faults self.new.store.journal.nv }
@@ -134,9 +133,7 @@ impl<N: Nv + Drop> Host<N> {
     /// A tick passes at the link. Every frame of the step before was fetched.
     pub fn tick<W: Watch>(&mut self, watch: &mut W) -> Ran
         requires may { MayStep self.old }
-        ensures stepped { (start : List Noted) (w : Work) → BeginsStep self.old (W.noted watch.old) (W.is_short watch.old) start w
-            → Brings N.writes self.old.store.journal.nv self.new.store.journal.nv
-            (HasStepped self.new (W.noted watch.new) (W.is_short watch.new) start) (steps TimePasses) w }
+        ensures stepped { TakesStep N.writes W.noted W.is_short (self.old, watch.old) (self.new, watch.new) (steps TimePasses) }
         ensures number { self.new.number ≡ self.old.number }
         ensures ran { result ≡ ran_so self.new.store.journal.live }
         ensures count { N.faults self.old.store.journal.nv ≤ N.faults self.new.store.journal.nv }
@@ -162,9 +159,8 @@ impl<N: Nv + Drop> Host<N> {
         ensures refusal { (core : Core) (ports : List Port) → RunsAs self.old core ports → MatchResult result
             (λ done. refusal_at what.entry (port_at ports self.old.number) ≡ None)
             (λ why. refusal_at what.entry (port_at ports self.old.number) ≡ Some why) }
-        ensures stepped { OnOk result ((start : List Noted) (w : Work) → BeginsStep self.old (W.noted watch.old) (W.is_short watch.old) start w
-            → Brings N.writes self.old.store.journal.nv self.new.store.journal.nv
-            (HasStepped self.new (W.noted watch.new) (W.is_short watch.new) start) (steps (AtEnd self.old.number (input_of_end what.entry))) w) }
+        ensures stepped { OnOk result (TakesStep N.writes W.noted W.is_short (self.old, watch.old) (self.new, watch.new)
+            (steps (AtEnd self.old.number (input_of_end what.entry)))) }
         ensures quietly { OnOk result ((start : List Noted) (w : Work) → BeginsStep self.old (W.noted watch.old) (W.is_short watch.old) start w
             → HasStepped self.new (W.noted watch.new) (W.is_short watch.new) start (steps (AtEnd self.old.number (input_of_end what.entry)) w)) }
         ensures unchanged { OnErr result ((core : Core) (ports : List Port) → RunsAs self.old core ports → RunsAs self.new core ports) }
@@ -193,9 +189,8 @@ impl<N: Nv + Drop> Host<N> {
         ensures refusal { (core : Core) (ports : List Port) → RunsAs self.old core ports → MatchResult result
             (λ done. reset_refusal_at (port_at ports self.old.number) ≡ None)
             (λ why. reset_refusal_at (port_at ports self.old.number) ≡ Some why) }
-        ensures stepped { OnOk result ((start : List Noted) (w : Work) → BeginsStep self.old (W.noted watch.old) (W.is_short watch.old) start w
-            → Brings N.writes self.old.store.journal.nv self.new.store.journal.nv
-            (HasStepped self.new (W.noted watch.new) (W.is_short watch.new) start) (steps (AtEnd self.old.number (Reset window))) w) }
+        ensures stepped { OnOk result (TakesStep N.writes W.noted W.is_short (self.old, watch.old) (self.new, watch.new)
+            (steps (AtEnd self.old.number (Reset window)))) }
         ensures quietly { OnOk result ((start : List Noted) (w : Work) → BeginsStep self.old (W.noted watch.old) (W.is_short watch.old) start w
             → HasStepped self.new (W.noted watch.new) (W.is_short watch.new) start (steps (AtEnd self.old.number (Reset window)) w)) }
         ensures unchanged { OnErr result ((core : Core) (ports : List Port) → RunsAs self.old core ports → RunsAs self.new core ports) }
@@ -211,9 +206,7 @@ impl<N: Nv + Drop> Host<N> {
     /// step before was fetched.
     pub fn activate<W: Watch>(&mut self, sync: u16, watch: &mut W)
         requires may { MayStep self.old }
-        ensures stepped { (start : List Noted) (w : Work) → BeginsStep self.old (W.noted watch.old) (W.is_short watch.old) start w
-            → Brings N.writes self.old.store.journal.nv self.new.store.journal.nv
-            (HasStepped self.new (W.noted watch.new) (W.is_short watch.new) start) (steps (AtEnd self.old.number (Start sync))) w }
+        ensures stepped { TakesStep N.writes W.noted W.is_short (self.old, watch.old) (self.new, watch.new) (steps (AtEnd self.old.number (Start sync))) }
         ensures quietly { (start : List Noted) (w : Work) → BeginsStep self.old (W.noted watch.old) (W.is_short watch.old) start w
             → HasStepped self.new (W.noted watch.new) (W.is_short watch.new) start (steps (AtEnd self.old.number (Start sync)) w) }
         ensures memory { self.new.store.journal.nv ≡ self.old.store.journal.nv }
@@ -226,9 +219,7 @@ impl<N: Nv + Drop> Host<N> {
     /// Activation ends at the link, and the link with it. Nothing is committed. Every frame of the step before was fetched.
     pub fn deactivate<W: Watch>(&mut self, watch: &mut W)
         requires may { MayStep self.old }
-        ensures stepped { (start : List Noted) (w : Work) → BeginsStep self.old (W.noted watch.old) (W.is_short watch.old) start w
-            → Brings N.writes self.old.store.journal.nv self.new.store.journal.nv
-            (HasStepped self.new (W.noted watch.new) (W.is_short watch.new) start) (steps (AtEnd self.old.number Stop)) w }
+        ensures stepped { TakesStep N.writes W.noted W.is_short (self.old, watch.old) (self.new, watch.new) (steps (AtEnd self.old.number Stop)) }
         ensures quietly { (start : List Noted) (w : Work) → BeginsStep self.old (W.noted watch.old) (W.is_short watch.old) start w
             → HasStepped self.new (W.noted watch.new) (W.is_short watch.new) start (steps (AtEnd self.old.number Stop) w) }
         ensures memory { self.new.store.journal.nv ≡ self.old.store.journal.nv }

@@ -8,26 +8,23 @@ use trace_model::Watch;
 impl<N: Nv + Drop> Node<N> {
     ghost use Rattle.std.specs.Prelude.{◌≡◌, ◌≤◌, List, [], ◌∷◌, map, IfSome, IsTrue, slice_get};
     ghost use Rattle.std.specs.Option.{option_map_or};
-    ghost use Rattle.trace_model.specs.declared.entry.Entry.{Entry as Noted};
-    ghost use Rattle.node_machine.specs.Parts.{Port, Work, Deed};
+    ghost use Rattle.node_machine.specs.Parts.{Port};
     ghost use Rattle.node_machine.specs.Parts.Deed.{Releases};
     ghost use Rattle.node_machine.specs.Carrying.{all_done};
     ghost use Rattle.node_machine.specs.Node.{forgotten};
     ghost use Rattle.node_ends.specs.Ends.{EndsStandFor};
-    ghost use Rattle.node_core.specs.Nodes.{IsInStep, IsSoundNode};
-    ghost use Rattle.std.specs.Prelude.{Bool, false};
+    ghost use Rattle.node_core.specs.Nodes.{IsUsable, Carries, CarriesOut};
+    ghost use Rattle.std.specs.Prelude.{false};
     ghost use Rattle.std.specs.List.{flat_map, filter};
     ghost use Rattle.gate_answers.specs.declared.response.Response.{Response as Code};
     ghost use Rattle.node_machine.specs.Controller.{asked_at};
     ghost use Rattle.node_machine.specs.Node.{owed};
-    ghost use Rattle.node_core.specs.Bringing.{Brings};
     ghost use Rattle.node_core.specs.Faults.{CountsFaults};
     ghost use Rattle.node_core.specs.Syncing.{sync_kept, settles};
     ghost use Rattle.node_core.specs.Owing.{freed_at, answers_owed, has_ended_so, owed_at};
 
     // The asker of the creation that waits at the end at this place, where it is forgotten since the asker's session ended in this step.
     fn forgotten_at(&self, i: usize) -> Option<u8>
-        requires runs { IsSoundNode self.now }
         ensures { (ports : List Port) → EndsStandFor self.now.ends ports
             → option_map_or (λ asker. Releases asker ∷ []) result [] ≡ option_map_or (freed_at ports) (slice_get ports i) [] }
     {
@@ -46,7 +43,6 @@ impl<N: Nv + Drop> Node<N> {
 
     /// The askers whose creations are forgotten, since their sessions ended in this step.
     pub(crate) fn forgotten(&self) -> ArrayVec<u8, 7>
-        requires runs { IsSoundNode self.now }
         ensures { (ports : List Port) → EndsStandFor self.now.ends ports → map Releases result.items ≡ forgotten ports }
     {
         let mut askers = ArrayVec::new();
@@ -60,13 +56,10 @@ impl<N: Nv + Drop> Node<N> {
 
     /// The blocks that were set aside for these askers, where they were, are free.
     pub(crate) fn release_all<W: Watch>(&mut self, askers: &[u8], watch: &mut W)
-        requires runs { IsSoundNode self.old }
         requires live { IsTrue self.old.store.journal.live }
-        ensures carried { (start : List Noted) (w : Work) → IsInStep self.old (W.noted watch.old) (W.is_short watch.old) start w
-            → IsInStep self.new (W.noted watch.new) (W.is_short watch.new) start (all_done 0 (map Releases askers.now) w) }
+        ensures carried { Carries W.noted W.is_short (self.old, watch.old) (self.new, watch.new) (all_done 0 (map Releases askers.now)) }
         ensures store { self.new.store ≡ self.old.store }
         ensures number { self.new.number ≡ self.old.number }
-        ensures runs { IsSoundNode self.new }
     {
         for asker in askers {
             self.release(*asker, watch);
@@ -75,7 +68,6 @@ impl<N: Nv + Drop> Node<N> {
 
     // Whether the session of the end at this place ended in this step, as its notice was late or otherwise.
     fn has_ended_so(&self, i: usize, late: bool) -> bool
-        requires runs { IsSoundNode self.now }
         ensures { (ports : List Port) → EndsStandFor self.now.ends ports
             → result ≡ option_map_or (has_ended_so late) (slice_get ports i) false }
     {
@@ -88,7 +80,6 @@ impl<N: Nv + Drop> Node<N> {
 
     // The asker of the creation that waits at the end at this place, where the session of that end ended so in this step.
     fn owed_at(&self, i: usize, late: bool) -> Option<u8>
-        requires runs { IsSoundNode self.now }
         ensures { (ports : List Port) (r : Code) → EndsStandFor self.now.ends ports
             → option_map_or (answers_owed r) result [] ≡ option_map_or (owed_at late r) (slice_get ports i) [] }
     {
@@ -107,7 +98,6 @@ impl<N: Nv + Drop> Node<N> {
     /// The askers to whom an answer is owed, since the session of the host that is asked ended in this step, as its notice was late or
     /// otherwise.
     pub(crate) fn owed(&self, late: bool) -> ArrayVec<u8, 7>
-        requires runs { IsSoundNode self.now }
         ensures { (ports : List Port) (r : Code) → EndsStandFor self.now.ends ports
             → flat_map (answers_owed r) result.items ≡ flat_map (λ p. owed r (asked_at p)) (filter (has_ended_so late) ports) }
     {
@@ -122,13 +112,10 @@ impl<N: Nv + Drop> Node<N> {
 
     /// These askers get this answer, and the blocks that were set aside for it are free.
     pub(crate) fn answer_all<W: Watch>(&mut self, askers: &[u8], response: Response, watch: &mut W)
-        requires runs { IsSoundNode self.old }
         requires live { IsTrue self.old.store.journal.live }
-        ensures carried { (start : List Noted) (w : Work) → IsInStep self.old (W.noted watch.old) (W.is_short watch.old) start w
-            → IsInStep self.new (W.noted watch.new) (W.is_short watch.new) start (all_done 0 (flat_map (answers_owed response) askers.now) w) }
+        ensures carried { Carries W.noted W.is_short (self.old, watch.old) (self.new, watch.new) (all_done 0 (flat_map (answers_owed response) askers.now)) }
         ensures store { self.new.store ≡ self.old.store }
         ensures number { self.new.number ≡ self.old.number }
-        ensures runs { IsSoundNode self.new }
     {
         for asker in askers {
             self.release(*asker, watch);
@@ -143,17 +130,15 @@ impl<N: Nv + Drop> Node<N> {
     #[inline(never)]
     #[tactic(auto, using(crate::proofs::Faults::faults_stay, crate::proofs::Faults::faults_then))]
     fn settle_ended<W: Watch>(&mut self, came: Option<(u8, u16)>, watch: &mut W) -> bool
-        requires runs { IsSoundNode self.old }
+        requires usable { IsUsable self.old.store }
         requires live { IsTrue self.old.store.journal.live }
         requires host { IfSome came (λ pair. (1 ≤ pair.0) × (pair.0 ≤ 7)) }
-        ensures carried { (start : List Noted) (w : Work) → IsInStep self.old (W.noted watch.old) (W.is_short watch.old) start w
-            → Brings N.writes self.old.store.journal.nv self.new.store.journal.nv
-            (IsInStep self.new (W.noted watch.new) (W.is_short watch.new) start)
-            (settles (sync_kept self.old.store.journal.state self.old.store.tables came)) w }
+        ensures carried { CarriesOut N.writes W.noted W.is_short (self.old, watch.old) (self.new, watch.new)
+            (settles (sync_kept self.old.store.journal.state self.old.store.tables came)) }
         ensures live { result ≡ self.new.store.journal.live }
         ensures faults { CountsFaults N.faults self.old.store self.new.store }
         ensures number { self.new.number ≡ self.old.number }
-        ensures runs { IsSoundNode self.new }
+        ensures usable { IsUsable self.new.store }
     {
         let freed = self.forgotten();
         self.drop_tasks();
@@ -178,17 +163,15 @@ impl<N: Nv + Drop> Node<N> {
         came: Option<(u8, u16)>,
         watch: &mut W,
     ) -> bool
-        requires runs { IsSoundNode self.old }
+        requires usable { IsUsable self.old.store }
         requires live { IsTrue self.old.store.journal.live }
         requires host { IfSome came (λ pair. (1 ≤ pair.0) × (pair.0 ≤ 7)) }
-        ensures carried { (start : List Noted) (w : Work) → IsInStep self.old (W.noted watch.old) (W.is_short watch.old) start w
-            → Brings N.writes self.old.store.journal.nv self.new.store.journal.nv
-            (IsInStep self.new (W.noted watch.new) (W.is_short watch.new) start)
-            (settles (sync_kept self.old.store.journal.state self.old.store.tables came)) w }
+        ensures carried { CarriesOut N.writes W.noted W.is_short (self.old, watch.old) (self.new, watch.new)
+            (settles (sync_kept self.old.store.journal.state self.old.store.tables came)) }
         ensures live { result ≡ self.new.store.journal.live }
         ensures faults { CountsFaults N.faults self.old.store self.new.store }
         ensures number { self.new.number ≡ self.old.number }
-        ensures runs { IsSoundNode self.new }
+        ensures usable { IsUsable self.new.store }
     {
         if self.is_over() {
             self.settle_ended(came, watch)

@@ -22,15 +22,12 @@ fn relayed_to(deeds: &[Deed], short: &Option<Shortfall>) -> Option<u8>
 }
 
 impl<N: Nv + Drop> Node<N> {
-    ghost use Rattle.std.specs.Prelude.{◌≡◌, Bool, List, ◌∷◌, [], IsTrue};
-    ghost use Rattle.trace_model.specs.declared.entry.Entry.{Entry as Noted};
-    ghost use Rattle.node_machine.specs.Parts.{Work};
+    ghost use Rattle.std.specs.Prelude.{◌≡◌, ◌∷◌, [], IsTrue};
     ghost use Rattle.node_machine.specs.Parts.Deed.{Sends};
     ghost use Rattle.node_machine.specs.Carrying.{done};
     ghost use Rattle.node_machine.specs.Turns.{have_turns};
     ghost use Rattle.node_ends.specs.Ends.{got_at};
-    ghost use Rattle.node_core.specs.Nodes.{IsInStep, IsSoundNode};
-    ghost use Rattle.node_core.specs.Bringing.{Brings};
+    ghost use Rattle.node_core.specs.Nodes.{IsUsable, IsInSomeStep, CarriesWhere, CarriesOutWhere};
     ghost use Rattle.node_core.specs.Faults.{CountsFaults};
     ghost use Rattle.node_core.specs.Deeds.{handling};
     ghost use Rattle.node_core.specs.Handling.{has_turn};
@@ -38,16 +35,12 @@ impl<N: Nv + Drop> Node<N> {
 
     // The message that waits at the end of the link with this host has its turn: it goes on to another host, with its blocks.
     fn relay<W: Watch>(&mut self, host: u8, to: u8, pipe: u8, message: &[u8], watch: &mut W)
-        requires runs { IsSoundNode self.old }
-        requires waits { (start : List Noted) × (w : Work) × IsInStep self.old (W.noted watch.old) (W.is_short watch.old) start w
-            × (got_at w.ports host ≡ (pipe, message.now) ∷ []) }
-        ensures carried { (start : List Noted) (w : Work) → IsInStep self.old (W.noted watch.old) (W.is_short watch.old) start w
-            → got_at w.ports host ≡ (pipe, message.now) ∷ [] → IsInStep self.new (W.noted watch.new) (W.is_short watch.new) start
-            (done host (Sends to (pipe, message.now)) (has_turn host (pipe, message.now) w)) }
+        requires waits { IsInSomeStep W.noted W.is_short (self.old, watch.old) (λ w. got_at w.ports host ≡ (pipe, message.now) ∷ []) }
+        ensures carried { CarriesWhere (λ w. got_at w.ports host ≡ (pipe, message.now) ∷ []) W.noted W.is_short (self.old, watch.old) (self.new, watch.new)
+            (λ w. done host (Sends to (pipe, message.now)) (has_turn host (pipe, message.now) w)) }
         ensures store { self.new.store ≡ self.old.store }
         ensures number { self.new.number ≡ self.old.number }
         ensures tasks { self.new.tasks ≡ self.old.tasks }
-        ensures runs { IsSoundNode self.new }
     {
         let turn = Entry::Turn {
             at: self.end_at(host),
@@ -79,20 +72,17 @@ impl<N: Nv + Drop> Node<N> {
         message: &[u8],
         watch: &mut W,
     ) -> bool
-        requires runs { IsSoundNode self.old }
+        requires usable { IsUsable self.old.store }
         requires live { IsTrue self.old.store.journal.live }
-        requires decided { (start : List Noted) × (w : Work) × IsInStep self.old (W.noted watch.old) (W.is_short watch.old) start w
-            × IsDecided host (handling self.old (pipe, message.now)) deeds.now short held w
-            × (got_at w.ports host ≡ (pipe, message.now) ∷ []) }
-        ensures carried { (start : List Noted) (w : Work) → IsInStep self.old (W.noted watch.old) (W.is_short watch.old) start w
-            → IsDecided host (handling self.old (pipe, message.now)) deeds.now short held w
-            → got_at w.ports host ≡ (pipe, message.now) ∷ []
-            → Brings N.writes self.old.store.journal.nv self.new.store.journal.nv
-            (IsInStep self.new (W.noted watch.new) (W.is_short watch.new) start) (have_turns host ((pipe, message.now) ∷ [])) w }
+        requires decided { IsInSomeStep W.noted W.is_short (self.old, watch.old)
+            (λ w. IsDecided host (handling self.old (pipe, message.now)) deeds.now short held w × (got_at w.ports host ≡ (pipe, message.now) ∷ [])) }
+        ensures carried { CarriesOutWhere N.writes (λ w. IsDecided host (handling self.old (pipe, message.now)) deeds.now short held w
+            × (got_at w.ports host ≡ (pipe, message.now) ∷ [])) W.noted W.is_short (self.old, watch.old) (self.new, watch.new)
+            (have_turns host ((pipe, message.now) ∷ [])) }
         ensures live { result ≡ self.new.store.journal.live }
         ensures faults { CountsFaults N.faults self.old.store self.new.store }
         ensures number { self.new.number ≡ self.old.number }
-        ensures runs { IsSoundNode self.new }
+        ensures usable { IsUsable self.new.store }
     {
         let Some(to) = relayed_to(deeds, &short) else {
             return self.take_turn(host, deeds, short, held, pipe, message, watch);

@@ -1,5 +1,5 @@
 //! What came to an end is noted.
-ghost use Rattle.std.specs.Prelude.{◌≡◌, ℕ, List, map, option_to_list, nat_lt};
+ghost use Rattle.std.specs.Prelude.{◌≡◌, ℕ, map, option_to_list};
 ghost use Rattle.link_laws.specs.entries.Entries.{End as Side, if_so, told};
 ghost use Rattle.link_laws.specs.entries.Entries.Entry.{Up, Down, Active, GaveUp, Acked};
 ghost use Rattle.history.specs.Steps.{end_of, entries_for};

@@ -2,7 +2,7 @@
 ghost use Rattle.std.specs.Prelude.{◌≡◌, ℕ, Bool, true, List, map, Some, None};
 ghost use Rattle.trace_model.specs.declared.entry.Entry.{Entry as Noted};
 ghost use Rattle.link_laws.specs.machine.Machine.{LinkInput, report, reset_refusal, sent_all};
-ghost use Rattle.node_machine.specs.Parts.{Core, Desk, Port, Work};
+ghost use Rattle.node_machine.specs.Parts.{Core, Port, Work};
 ghost use Rattle.node_machine.specs.Carrying.{port_at, with_port};
 ghost use Rattle.node_machine.specs.Node.{steps, with_error};
 ghost use Rattle.node_machine.specs.Node.NodeInput.{AtEnd};
@@ -46,17 +46,14 @@ impl<N: Nv + Drop> Node<N> {
     ghost use Rattle.node_machine.specs.Parts.{Core, Port};
     ghost use Rattle.node_machine.specs.Carrying.{port_at, with_port};
     ghost use Rattle.node_ends.specs.Ends.{EndsStandFor, has_sent, frame_at, are_at_rest, HasNoneDue};
-    ghost use Rattle.node_core.specs.Nodes.{IsSoundNode};
     ghost use Rattle.node_core.specs.Running.{RunsAs, between, one_more_error};
 
     /// A step ends: what was done to the ends in it isn't kept.
     pub fn end_step(&mut self)
-        requires runs { IsSoundNode self.old }
         ensures ended { (ports : List Port) → EndsStandFor self.old.ends ports → EndsStandFor self.new.ends (map between ports) }
         ensures store { self.new.store ≡ self.old.store }
         ensures number { self.new.number ≡ self.old.number }
         ensures tasks { self.new.tasks ≡ self.old.tasks }
-        ensures runs { IsSoundNode self.new }
     {
         for i in 0..self.ends.count() {
             self.ends.begin_step(i);
@@ -76,7 +73,6 @@ impl<N: Nv + Drop> Node<N> {
 
     // The place of the end of the link with this host.
     fn place(&self, host: u8) -> Option<usize>
-        requires runs { IsSoundNode self.now }
         ensures found { (ports : List Port) → EndsStandFor self.now.ends ports
             → IfSome result (λ i. option_map (λ (p : Port). p.desk.host) (slice_get ports i) ≡ Some host) }
         ensures none { (ports : List Port) → EndsStandFor self.now.ends ports → result ≡ None → port_at ports host ≡ None }

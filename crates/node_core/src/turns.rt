@@ -1,5 +1,4 @@
 //! How a message has its turn.
-ghost use Rattle.std.specs.Prelude.{◌≡◌};
 
 use crate::node::{InBuffer, MESSAGE, Node};
 use node_deeds::{Deed, Deeds, Shortfall, lack, put_controller_deeds, put_host_deeds};
@@ -14,27 +13,23 @@ impl<N: Nv + Drop> Node<N> {
     ghost use Rattle.node_machine.specs.Turns.{lets_go, have_turns, passes};
     ghost use Rattle.hcp_packet.specs.Packets.{IsSendable};
     ghost use Rattle.std.specs.Prelude.{◌≢◌};
-    ghost use Rattle.std.specs.Option.{option_map_or};
     ghost use Rattle.node_machine.specs.Turns.{deeds_of};
-    ghost use Rattle.node_machine.specs.HostReplies.{host_deeds};
     ghost use Rattle.node_deeds.specs.Shown.{deeds_shown};
     ghost use Rattle.node_deeds.specs.Cores.{AreDoable};
     ghost use Rattle.node_core.specs.Deeds.{handling};
     ghost use Rattle.node_ends.specs.Ends.{EndsStandFor, FewAreDue, held_at, got_at, message_read};
-    ghost use Rattle.node_core.specs.Nodes.{IsInStep, IsSoundNode, LiesInBuffer};
+    ghost use Rattle.node_core.specs.Nodes.{IsInStep, IsUsable, LiesInBuffer, IsInSomeStep, CarriesOutWhere};
     ghost use Rattle.node_core.specs.Bringing.{Brings};
     ghost use Rattle.node_core.specs.Faults.{CountsFaults};
     ghost use Rattle.node_core.specs.Turning.{IsDecided, IsNodeInOrder, AreFewDue};
 
     // No message is held at an end: it takes fragments again, if it was held.
     pub(crate) fn let_go(&mut self, host: u8, held: bool)
-        requires runs { IsSoundNode self.old }
         requires few { (ports : List Port) × EndsStandFor self.old.ends ports × FewAreDue (port_at ports host) }
         ensures carried { (noted : List Noted) (short : Bool) (start : List Noted) (w : Work) → IsInStep self.old noted short start w
             → held ≡ held_at w.ports host → IsInStep self.new noted short start (lets_go host w) }
         ensures store { self.new.store ≡ self.old.store }
         ensures number { self.new.number ≡ self.old.number }
-        ensures runs { IsSoundNode self.new }
     {
         if held {
             self.ends.hold(host, false);
@@ -54,18 +49,16 @@ impl<N: Nv + Drop> Node<N> {
         message: &[u8],
         watch: &mut W,
     ) -> bool
-        requires runs { IsSoundNode self.old }
+        requires usable { IsUsable self.old.store }
         requires live { IsTrue self.old.store.journal.live }
-        requires decided { (start : List Noted) × (w : Work) × IsInStep self.old (W.noted watch.old) (W.is_short watch.old) start w
-            × IsDecided host (handling self.old (pipe, message.now)) deeds.now short held w }
-        ensures carried { (start : List Noted) (w : Work) → IsInStep self.old (W.noted watch.old) (W.is_short watch.old) start w
-            → IsDecided host (handling self.old (pipe, message.now)) deeds.now short held w
-            → Brings N.writes self.old.store.journal.nv self.new.store.journal.nv
-            (IsInStep self.new (W.noted watch.new) (W.is_short watch.new) start) (have_turns host ((pipe, message.now) ∷ [])) w }
+        requires decided { IsInSomeStep W.noted W.is_short (self.old, watch.old)
+            (λ w. IsDecided host (handling self.old (pipe, message.now)) deeds.now short held w) }
+        ensures carried { CarriesOutWhere N.writes (λ w. IsDecided host (handling self.old (pipe, message.now)) deeds.now short held w) W.noted W.is_short
+            (self.old, watch.old) (self.new, watch.new) (have_turns host ((pipe, message.now) ∷ [])) }
         ensures live { result ≡ self.new.store.journal.live }
         ensures faults { CountsFaults N.faults self.old.store self.new.store }
         ensures number { self.new.number ≡ self.old.number }
-        ensures runs { IsSoundNode self.new }
+        ensures usable { IsUsable self.new.store }
     {
         if let Some(Shortfall { need, spare }) = short {
             self.hold_back(host, need, spare, watch);
@@ -80,7 +73,7 @@ impl<N: Nv + Drop> Node<N> {
 
     // What a controller does with this message, which waits at its end with this host, is put into a list, which is empty.
     fn deeds_of_controller(&mut self, host: u8, pipe: u8, message: &[u8], deeds: &mut Deeds)
-        requires runs { IsSoundNode self.old }
+        requires usable { IsUsable self.old.store }
         requires live { IsTrue self.old.store.journal.live }
         requires controller { self.old.number ≡ 0 }
         requires some { 1 ≤ host }
@@ -107,7 +100,7 @@ impl<N: Nv + Drop> Node<N> {
     // What a host does with this message, which waits at its end, the one of the link with its own number, is put into a list, which is
     // empty.
     fn deeds_of_host(&mut self, pipe: u8, message: &[u8], deeds: &mut Deeds)
-        requires runs { IsSoundNode self.old }
+        requires usable { IsUsable self.old.store }
         requires live { IsTrue self.old.store.journal.live }
         requires host { self.old.number ≢ 0 }
         requires sendable { IsSendable (pipe, message.now) }
@@ -138,7 +131,7 @@ impl<N: Nv + Drop> Node<N> {
     // is the one with its own number.
     #[inline(always)]
     fn deeds_for(&mut self, host: u8, pipe: u8, message: &[u8], deeds: &mut Deeds)
-        requires runs { IsSoundNode self.old }
+        requires usable { IsUsable self.old.store }
         requires live { IsTrue self.old.store.journal.live }
         requires own { self.old.number ≢ 0 → host ≡ self.old.number }
         requires some { 1 ≤ host }
@@ -172,24 +165,23 @@ impl<N: Nv + Drop> Node<N> {
         message: &[u8],
         watch: &mut W,
     ) -> bool
-        requires runs { IsSoundNode self.old }
+        requires usable { IsUsable self.old.store }
         requires live { IsTrue self.old.store.journal.live }
         requires own { self.old.number ≢ 0 → host ≡ self.old.number }
         requires some { 1 ≤ host }
         requires host { host ≤ 7 }
         requires sendable { IsSendable (pipe, message.now) }
         requires short { length message.now ≤ 4096 }
-        requires may { (start : List Noted) × (w : Work) × IsInStep self.old (W.noted watch.old) (W.is_short watch.old) start w
-            × IsNodeInOrder w.core w.ports × FewAreDue (port_at w.ports host) × (held ≡ held_at w.ports host)
-            × (got_at w.ports host ≡ (pipe, message.now) ∷ []) }
-        ensures carried { (start : List Noted) (w : Work) → IsInStep self.old (W.noted watch.old) (W.is_short watch.old) start w
-            → IsNodeInOrder w.core w.ports → FewAreDue (port_at w.ports host) → held ≡ held_at w.ports host
-            → got_at w.ports host ≡ (pipe, message.now) ∷ [] → Brings N.writes self.old.store.journal.nv self.new.store.journal.nv
-            (IsInStep self.new (W.noted watch.new) (W.is_short watch.new) start) (have_turns host ((pipe, message.now) ∷ [])) w }
+        requires may { IsInSomeStep W.noted W.is_short (self.old, watch.old) (λ w.
+            IsNodeInOrder w.core w.ports × FewAreDue (port_at w.ports host) × (held ≡ held_at w.ports host)
+            × (got_at w.ports host ≡ (pipe, message.now) ∷ [])) }
+        ensures carried { CarriesOutWhere N.writes (λ w. IsNodeInOrder w.core w.ports × FewAreDue (port_at w.ports host) × (held ≡ held_at w.ports host)
+            × (got_at w.ports host ≡ (pipe, message.now) ∷ [])) W.noted W.is_short (self.old, watch.old) (self.new, watch.new)
+            (have_turns host ((pipe, message.now) ∷ [])) }
         ensures live { result ≡ self.new.store.journal.live }
         ensures faults { CountsFaults N.faults self.old.store self.new.store }
         ensures number { self.new.number ≡ self.old.number }
-        ensures runs { IsSoundNode self.new }
+        ensures usable { IsUsable self.new.store }
     {
         // The list comes first: it is long, and cleared twice where anything stands before it.
         let mut deeds = Deeds::new();
@@ -208,7 +200,6 @@ impl<N: Nv + Drop> Node<N> {
         lies: Option<InBuffer>,
         buffer: &mut [u8; MESSAGE],
     ) -> Option<(u8, usize)>
-        requires runs { IsSoundNode self.now }
         requires lies { LiesInBuffer self.now.ends buffer.old lies }
         ensures waits { (ports : List Port) → EndsStandFor self.now.ends ports → got_at ports host ≡ message_read result buffer.new }
         ensures inside { IfSome result (λ x. x.1 ≤ 4096) }
@@ -236,20 +227,19 @@ impl<N: Nv + Drop> Node<N> {
         buffer: &mut [u8; MESSAGE],
         watch: &mut W,
     ) -> bool
-        requires runs { IsSoundNode self.old }
+        requires usable { IsUsable self.old.store }
         requires live { IsTrue self.old.store.journal.live }
         requires some { 1 ≤ host }
         requires host { host ≤ 7 }
         requires lies { LiesInBuffer self.old.ends buffer.old lies }
-        requires may { (start : List Noted) × (w : Work) × IsInStep self.old (W.noted watch.old) (W.is_short watch.old) start w
-            × IsNodeInOrder w.core w.ports × FewAreDue (port_at w.ports host) }
+        requires may { IsInSomeStep W.noted W.is_short (self.old, watch.old) (λ w. IsNodeInOrder w.core w.ports × FewAreDue (port_at w.ports host)) }
         ensures carried { (start : List Noted) (w : Work) → IsInStep self.old (W.noted watch.old) (W.is_short watch.old) start w
             → IsNodeInOrder w.core w.ports → FewAreDue (port_at w.ports host) → Brings N.writes self.old.store.journal.nv self.new.store.journal.nv
             (IsInStep self.new (W.noted watch.new) (W.is_short watch.new) start) (have_turns host (got_at w.ports host)) w }
         ensures live { result ≡ self.new.store.journal.live }
         ensures faults { CountsFaults N.faults self.old.store self.new.store }
         ensures number { self.new.number ≡ self.old.number }
-        ensures runs { IsSoundNode self.new }
+        ensures usable { IsUsable self.new.store }
     {
         let held = self.ends.is_held(host);
         let Some((pipe, len)) = self.waiting(host, lies, buffer) else {
@@ -270,18 +260,16 @@ impl<N: Nv + Drop> Node<N> {
         buffer: &mut [u8; MESSAGE],
         watch: &mut W,
     ) -> bool
-        requires runs { IsSoundNode self.old }
+        requires usable { IsUsable self.old.store }
         requires live { IsTrue self.old.store.journal.live }
         requires lies { LiesInBuffer self.old.ends buffer.old lies }
-        requires may { (start : List Noted) × (w : Work) × IsInStep self.old (W.noted watch.old) (W.is_short watch.old) start w
-            × IsNodeInOrder w.core w.ports × AreFewDue w.ports }
-        ensures carried { (start : List Noted) (w : Work) → IsInStep self.old (W.noted watch.old) (W.is_short watch.old) start w
-            → IsNodeInOrder w.core w.ports → AreFewDue w.ports → Brings N.writes self.old.store.journal.nv self.new.store.journal.nv
-            (IsInStep self.new (W.noted watch.new) (W.is_short watch.new) start) passes w }
+        requires may { IsInSomeStep W.noted W.is_short (self.old, watch.old) (λ w. IsNodeInOrder w.core w.ports × AreFewDue w.ports) }
+        ensures carried { CarriesOutWhere N.writes (λ w. IsNodeInOrder w.core w.ports × AreFewDue w.ports) W.noted W.is_short (self.old, watch.old)
+            (self.new, watch.new) passes }
         ensures live { result ≡ self.new.store.journal.live }
         ensures faults { CountsFaults N.faults self.old.store self.new.store }
         ensures number { self.new.number ≡ self.old.number }
-        ensures runs { IsSoundNode self.new }
+        ensures usable { IsUsable self.new.store }
     {
         for i in 0..7 {
             if self.ends.rests(i) {

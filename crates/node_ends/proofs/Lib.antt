@@ -5,6 +5,7 @@ pub mod Setting
 pub mod Apart
 pub mod Quiet
 pub mod Fetching
+mod Opening
 mod Reading
 mod AtRest
 mod Placing

@@ -1,6 +1,6 @@
 -- The place of the end of the link with a host is the first one whose host it is.
 use Rattle.std.proofs.Common.{◌≡◌, ℕ, suc, ◌+◌, ◌==◌, Bool, true, false, cond, List, [], ◌∷◌, length, refl, ap, ◌∙◌, subst, arith}
-use Rattle.std.specs.Prelude.{Option, Some, None, option_map, nat_lt, position}
+use Rattle.std.specs.Prelude.{Some, None, option_map, nat_lt, position}
 use Rattle.std.specs.List.{position_or_len}
 use Rattle.std.proofs.lemmas.Bool.{lt-ltb}
 use Rattle.node_ends.specs.declared.seat.Seat.{Seat}

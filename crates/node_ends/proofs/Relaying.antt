@@ -1,7 +1,6 @@
 -- The message that waits at one place is passed on to the end at another one, or at the same.
-use Rattle.std.proofs.Common.{◌≡◌, ◌≢◌, ℕ, ◌==◌, Bool, true, false, List, [], ◌∷◌, ◌<◌, ◌⊎◌, inl, inr, length, refl, sym, ap, ◌∙◌, subst}
+use Rattle.std.proofs.Common.{◌≡◌, ◌≢◌, ℕ, ◌==◌, Bool, true, false, List, [], ◌∷◌, ◌⊎◌, inl, inr, refl, sym, ap, ◌∙◌, subst}
 use Rattle.std.specs.Prelude.{Option, Some, None, is_none, Result, Ok, Err, slice_get, slice_set, slice_index_or}
-use Rattle.std.specs.Option.{option_map_or}
 use Rattle.std.proofs.lemmas.Bool.{eqb-true}
 use Rattle.std.proofs.lemmas.List.{get_or-set_same, get_or-set_other, set-set}
 use Rattle.std.proofs.lemmas.Option.{slice_get_within}
@@ -21,8 +20,8 @@ use Rattle.node_machine.specs.Parts.{Port}
 use Rattle.node_machine.specs.Carrying.{port_at, with_port, after_turn}
 use Rattle.node_ends.specs.declared.seat.Waiting.{Waiting}
 use Rattle.node_ends.specs.declared.seat.Seat.{Seat}
-use Rattle.node_ends.specs.Holding.{HoldsEnd, HoldsSeat, messages_waiting, kept_number}
-use Rattle.node_ends.specs.Ends.{SeatStandsFor, AreEnds, got_at, takes_at, place_in}
+use Rattle.node_ends.specs.Holding.{HoldsEnd, messages_waiting, kept_number}
+use Rattle.node_ends.specs.Ends.{AreEnds, got_at, takes_at, place_in}
 use Rattle.node_ends.proofs.Changing.{IsPlaced, placed_in, read_at, apart_places, OneChanges, one_changes}
 use Rattle.node_ends.proofs.Counting.{reached_on, turn_acked}
 use Rattle.node_ends.proofs.Blocks.{give_aside}

@@ -16,7 +16,6 @@ use Rattle.node_machine.specs.Carrying.{port_at}
 use Rattle.node_machine.specs.Node.{is_late, is_over}
 use Rattle.node_deeds.specs.Cores.{IsSoundDesk}
 use Rattle.node_ends.specs.declared.seat.Seat.{Seat}
-use Rattle.node_ends.specs.declared.ends.Ends.{Ends}
 use Rattle.node_deeds.specs.Shown.{desk_shown}
 use Rattle.node_ends.specs.Holding.{HoldsSeat, IsReached, kept_number, where_done}
 
@@ -75,9 +74,14 @@ abbrev pub IsHeldWhileOneWaits : Option Port → Type 0
 IsHeldWhileOneWaits None = Unit {0}
 IsHeldWhileOneWaits (Some p) = (p.side.got ≡ [] → ⊥) → is_held p.side ≡ true
 
--- what is kept of all ends of a node, with their pool, stands for these ports
-abbrev pub EndsStandFor : Ends → List Port → Type 0
-EndsStandFor e ports = AreEnds e.pool e.seats.items ports
+-- what is kept of all ends of a node, with their pool
+pub record KeptEnds : Type 0 where
+  pub pool : PoolState
+  pub seats : List Seat
+
+-- that stands for these ports
+abbrev pub EndsStandFor : KeptEnds → List Port → Type 0
+EndsStandFor e ports = AreEnds e.pool e.seats ports
 
 -- all are links with hosts 01 to 07
 abbrev pub AreOfHosts : List Port → Type 0

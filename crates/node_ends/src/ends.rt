@@ -18,7 +18,7 @@ ghost use Rattle.link_laws.specs.machine.Machine.{spare};
 ghost use Rattle.node_machine.specs.Controller.{has_link};
 ghost use Rattle.node_machine.specs.Parts.{Port};
 ghost use Rattle.node_machine.specs.Carrying.{port_at, with_port, after_turn};
-ghost use Rattle.node_ends.specs.Ends.{AreEnds, FewAreDue, IsHeldWhileOneWaits, MayStartAt, held_at, takes_at, place_in, at_place};
+ghost use Rattle.node_ends.specs.Ends.{KeptEnds, AreEnds, FewAreDue, IsHeldWhileOneWaits, MayStartAt, held_at, takes_at, place_in, at_place};
 ghost use Rattle.node_ends.specs.Ends.{has_sent, frame_at, HasNoneDue};
 
 use crate::new_seats::add_seats;
@@ -31,6 +31,7 @@ use block_pool::Pool;
 use link_end::{LinkReport, ResetRefused};
 use node_deeds::Unanswered;
 use std::alloc::Global;
+use std::marker::Model;
 use swp_base::{Control, Lpdu, NoMemory, Role};
 use swp_lpdu::LpduFault;
 
@@ -39,11 +40,19 @@ const QUOTAS: [u16; 14] = [
     128, 512, 128, 512, 128, 512, 128, 512, 128, 512, 128, 512, 128, 512,
 ];
 
-/// The ends of all links of a node in one pool.
+/// The ends of all links of a node in one pool. They stand for the ports of some node.
 #[derive(Drop)]
 pub struct Ends {
     pub(crate) pool: Pool,
     pub(crate) seats: Vec<Seat>,
+}
+
+impl Model for Ends {
+    ghost Value = { KeptEnds };
+
+    ghost view = { λ e. record { pool = e.pool; seats = e.seats.items } };
+
+    ghost invariant = { λ e. (ports : List Port) × AreEnds e.pool e.seats.items ports };
 }
 
 impl Ends {
@@ -87,7 +96,6 @@ impl Ends {
     /// A message, which isn't empty, is given to the end of the link with this host, to be sent on a pipe that isn't reserved.
     /// Whether there is such an end and it takes the message.
     pub fn send(&mut self, host: u8, pipe: u8, message: &[u8]) -> bool
-        requires stands { (ports : List Port) × EndsStandFor self.old ports }
         requires sendable { IsSendable (pipe, message.now) }
         ensures stands { (ports : List Port) → EndsStandFor self.old ports
             → EndsStandFor self.new (with_port host (after_turn (Give (pipe, message.now))) ports) }
@@ -102,7 +110,6 @@ impl Ends {
 
     /// A block is set aside at the end of the link with this host, where one is spare.
     pub fn set_aside(&mut self, host: u8)
-        requires { (ports : List Port) × EndsStandFor self.old ports }
         ensures { (ports : List Port) → EndsStandFor self.old ports → EndsStandFor self.new (with_port host (after_turn SetAside) ports) }
     {
         if let Some(i) = place_of(self.seats.as_slice(), host) {
@@ -112,7 +119,6 @@ impl Ends {
 
     /// One that was set aside there, where one was, is free again.
     pub fn release(&mut self, host: u8)
-        requires { (ports : List Port) × EndsStandFor self.old ports }
         ensures { (ports : List Port) → EndsStandFor self.old ports → EndsStandFor self.new (with_port host (after_turn Release) ports) }
     {
         if let Some(i) = place_of(self.seats.as_slice(), host) {
@@ -122,7 +128,6 @@ impl Ends {
 
     /// What is known of the notice to this host; a pipe that it is asked for may be made.
     pub fn set_notice(&mut self, host: u8, notice: Option<Unanswered>)
-        requires stands { (ports : List Port) × EndsStandFor self.old ports }
         requires sound { IsSoundRow (row_noticed notice) }
         ensures { (ports : List Port) → EndsStandFor self.old ports
             → EndsStandFor self.new (with_port host (λ p. record p { desk = record p.desk { notice = option_map notice_shown notice } }) ports) }
@@ -134,7 +139,6 @@ impl Ends {
 
     /// The message that waits at the end of the link with this host has its turn: its blocks are given back.
     pub fn give_back(&mut self, host: u8)
-        requires { (ports : List Port) × EndsStandFor self.old ports }
         ensures { (ports : List Port) → EndsStandFor self.old ports → EndsStandFor self.new (with_port host (after_turn FetchMessage) ports) }
     {
         if let Some(i) = place_of(self.seats.as_slice(), host) {
@@ -154,7 +158,6 @@ impl Ends {
 
     /// Whether the first message that waits there was noted as held.
     pub fn set_holds(&mut self, host: u8, holds: bool)
-        requires { (ports : List Port) × EndsStandFor self.old ports }
         ensures { (ports : List Port) → EndsStandFor self.old ports
             → EndsStandFor self.new (with_port host (λ p. record p { desk = record p.desk { holds = holds } }) ports) }
     {
@@ -255,7 +258,6 @@ impl Ends {
 
     /// How many ends there are.
     pub fn count(&self) -> usize
-        requires { (ports : List Port) × EndsStandFor self.now ports }
         ensures { (ports : List Port) → EndsStandFor self.now ports → result ≡ length ports }
     {
         self.seats.len()
@@ -263,7 +265,6 @@ impl Ends {
 
     /// The host of the link whose end is at this place; `None` behind the last end.
     pub fn host(&self, i: usize) -> Option<u8>
-        requires { (ports : List Port) × EndsStandFor self.now ports }
         ensures { (ports : List Port) → EndsStandFor self.now ports → result ≡ option_map (λ (p : Port). p.desk.host) (slice_get ports i) }
     {
         if i >= self.seats.len() {
@@ -284,7 +285,6 @@ impl Ends {
 
     /// Where the session of the end at this place has ended in this step, its notice is answered no more.
     pub fn drop_notice(&mut self, i: usize)
-        requires { (ports : List Port) × EndsStandFor self.old ports }
         ensures { (ports : List Port) → EndsStandFor self.old ports → EndsStandFor self.new (at_place i without_notice ports) }
     {
         if i < self.seats.len() {
@@ -294,7 +294,6 @@ impl Ends {
 
     /// A new step begins at the end at this place.
     pub fn begin_step(&mut self, i: usize)
-        requires { (ports : List Port) × EndsStandFor self.old ports }
         ensures { (ports : List Port) → EndsStandFor self.old ports
             → EndsStandFor self.new (at_place i (λ p. record p { late = false; ended = false; turns = [] }) ports) }
     {
@@ -305,7 +304,6 @@ impl Ends {
 
     /// Whether the session of the end of the link with this host has ended in this step.
     pub fn is_over(&self, host: u8) -> bool
-        requires { (ports : List Port) × EndsStandFor self.now ports }
         ensures { (ports : List Port) → EndsStandFor self.now ports → result ≡ is_over_at ports host }
     {
         let Some(i) = place_of(self.seats.as_slice(), host) else {
@@ -317,7 +315,6 @@ impl Ends {
     /// How many messages of the session of the end of the link with this host are acknowledged; 4,294,967,295 stands for any greater
     /// number, and 0 where there is no such end.
     pub fn acked(&self, host: u8) -> u32
-        requires { (ports : List Port) × EndsStandFor self.now ports }
         ensures { (ports : List Port) → EndsStandFor self.now ports
             → result ≡ option_map_or (λ (p : Port). kept_number (whole_acked p.side)) (port_at ports host) 0 }
     {
@@ -329,7 +326,6 @@ impl Ends {
 
     /// A frame on its way to that end was refused: one more for REC_ERROR, which stops at FFFF.
     pub fn count_error(&mut self, host: u8)
-        requires { (ports : List Port) × EndsStandFor self.old ports }
         ensures { (ports : List Port) → EndsStandFor self.old ports
             → EndsStandFor self.new (with_port host (λ p. record p { desk = record p.desk { errors = min 65535 (p.desk.errors + 1) } }) ports) }
     {
@@ -354,7 +350,6 @@ impl Ends {
 
     /// Fetches the frame that the end at this place is to send now; `None` where it has none to send, and behind the last end.
     pub fn next_out(&mut self, i: usize) -> Option<Lpdu>
-        requires { (ports : List Port) × EndsStandFor self.old ports }
         ensures stands { (ports : List Port) → EndsStandFor self.old ports → EndsStandFor self.new (at_place i has_sent ports) }
         ensures answer { (ports : List Port) → EndsStandFor self.old ports → result ≡ frame_at (slice_get ports i) }
         ensures read { (ports : List Port) (p : Port) → EndsStandFor self.old ports → slice_get ports i ≡ Some p
@@ -369,7 +364,6 @@ impl Ends {
     /// Whether nothing is under way at the end at this place, so that no frame is due there. False says nothing.
     #[inline(always)]
     pub fn is_idle(&self, i: usize) -> bool
-        requires { (ports : List Port) × EndsStandFor self.now ports }
         ensures { (ports : List Port) (p : Port) → EndsStandFor self.now ports → slice_get ports i ≡ Some p → IsTrue result → HasNoneDue p.side }
     {
         if i >= self.seats.len() {
@@ -381,7 +375,6 @@ impl Ends {
     /// The notice at the end at this place is one of a creation that was forgotten, where the session of the creation's asker has ended in
     /// this step. Nothing changes behind the last end.
     pub fn forget(&mut self, i: usize)
-        requires { (ports : List Port) × EndsStandFor self.old ports }
         ensures { (ports : List Port) → EndsStandFor self.old ports → EndsStandFor self.new (at_place i (forgets ports) ports) }
     {
         if i >= self.seats.len() {
@@ -397,7 +390,6 @@ impl Ends {
 
     /// How many blocks the end of the link with this host has to spare for messages; 0 where there is no such end.
     pub fn spare(&self, host: u8) -> u16
-        requires { (ports : List Port) × EndsStandFor self.now ports }
         ensures { (ports : List Port) → EndsStandFor self.now ports → result ≡ option_map_or (λ (p : Port). spare p.side) (port_at ports host) 0 }
     {
         let Some(i) = place_of(self.seats.as_slice(), host) else {
@@ -408,7 +400,6 @@ impl Ends {
 
     /// Whether the link with this host is up.
     pub fn has_link(&self, host: u8) -> bool
-        requires { (ports : List Port) × EndsStandFor self.now ports }
         ensures { (ports : List Port) → EndsStandFor self.now ports → result ≡ has_link ports host }
     {
         let Some(i) = place_of(self.seats.as_slice(), host) else {
@@ -419,7 +410,6 @@ impl Ends {
 
     /// Whether the end of the link with this host is held.
     pub fn is_held(&self, host: u8) -> bool
-        requires { (ports : List Port) × EndsStandFor self.now ports }
         ensures { (ports : List Port) → EndsStandFor self.now ports → result ≡ held_at ports host }
     {
         let Some(i) = place_of(self.seats.as_slice(), host) else {
@@ -430,7 +420,6 @@ impl Ends {
 
     /// Whether the first message that waits at the end of the link with this host was noted as held.
     pub fn holds(&self, host: u8) -> bool
-        requires { (ports : List Port) × EndsStandFor self.now ports }
         ensures { (ports : List Port) → EndsStandFor self.now ports
             → result ≡ option_map_or (λ (p : Port). p.desk.holds) (port_at ports host) false }
     {

@@ -49,7 +49,6 @@ impl Ends {
     /// how many bytes it has.
     #[inline(always)]
     pub fn read(&self, host: u8, buffer: &mut [u8]) -> Option<(u8, usize)>
-        requires stands { (ports : List Port) × EndsStandFor self.now ports }
         requires buffer { length buffer.old ≡ 4096 }
         ensures waits { (ports : List Port) → EndsStandFor self.now ports → got_at ports host ≡ message_read result buffer.new }
         ensures inside { IfSome result (λ x. x.1 ≤ 4096) }
@@ -63,7 +62,6 @@ impl Ends {
     /// What is kept of the ends, and which links are up. They are links with hosts 01 to 07.
     #[inline(always)]
     pub fn seen(&self) -> Seen
-        requires { (ports : List Port) × EndsStandFor self.now ports }
         ensures seen { (ports : List Port) → EndsStandFor self.now ports → AreOfHosts ports → AreSeen result.up result.desks.items ports }
         ensures few { length result.desks.items ≤ 7 }
         ensures sound { AreSoundDesks result.desks.items }
@@ -78,7 +76,6 @@ impl Ends {
     // The links that are up.
     #[inline(always)]
     fn up(&self) -> u8
-        requires { (ports : List Port) × EndsStandFor self.now ports }
         ensures { (ports : List Port) → EndsStandFor self.now ports → (h : ℕ) → 1 ≤ h → h ≤ 7 → has result h ≡ has_link ports h }
     {
         let links = links_of(self.seats.as_slice(), &self.pool);
@@ -93,7 +90,6 @@ impl Ends {
 
     /// How many blocks for messages are spare at the end of the link with each host, 0 to 7, by its number. No host is above 7.
     pub fn spares(&self) -> [u16; 8]
-        requires { (ports : List Port) × EndsStandFor self.now ports }
         ensures { (ports : List Port) → EndsStandFor self.now ports → AllByRecursion (λ (p : Port). p.desk.host ≤ 7) ports → AreSpares result ports }
     {
         spares_of(self.seats.as_slice(), &self.pool)
@@ -101,7 +97,6 @@ impl Ends {
 
     /// Whether the session of the end at this place ended in this step as something came there; `false` behind the last end.
     pub fn has_ended(&self, i: usize) -> bool
-        requires { (ports : List Port) × EndsStandFor self.now ports }
         ensures { (ports : List Port) → EndsStandFor self.now ports → result ≡ option_map_or (λ (p : Port). p.ended) (slice_get ports i) false }
     {
         match self.seats.get(i) {
@@ -112,7 +107,6 @@ impl Ends {
 
     /// Whether nothing is left to do at the end at this place: no message waits there, and it isn't held. `false` behind the last end.
     pub fn rests(&self, i: usize) -> bool
-        requires { (ports : List Port) × EndsStandFor self.now ports }
         ensures { (ports : List Port) → EndsStandFor self.now ports → result ≡ option_map_or rests (slice_get ports i) false }
     {
         if i >= self.seats.len() {
@@ -124,7 +118,6 @@ impl Ends {
     /// Whether all ends are at rest: none waits for the acceptance of a reset, and at each that is Up all messages that were sent in its
     /// session are acknowledged. This project's own.
     pub fn are_at_rest(&self) -> bool
-        requires { (ports : List Port) × EndsStandFor self.now ports }
         ensures { (ports : List Port) → EndsStandFor self.now ports → result ≡ are_at_rest ports }
     {
         all_at_rest(self.seats.as_slice(), &self.pool)
@@ -132,7 +125,6 @@ impl Ends {
 
     /// Whether nothing is left to do at any end behind what came in a step: no session ended there, no message waits, and none is held.
     pub fn are_idle(&self) -> bool
-        requires { (ports : List Port) × EndsStandFor self.now ports }
         ensures { (ports : List Port) → EndsStandFor self.now ports → result ≡ are_idle ports }
     {
         all_idle(self.seats.as_slice(), &self.pool)
@@ -140,7 +132,6 @@ impl Ends {
 
     /// Whether a notice waits for its answer at some end.
     pub fn have_notices(&self) -> bool
-        requires { (ports : List Port) × EndsStandFor self.now ports }
         ensures { (ports : List Port) → EndsStandFor self.now ports → result ≡ have_notices ports }
     {
         some_waits(self.seats.as_slice())
@@ -148,7 +139,6 @@ impl Ends {
 
     /// Whether the notice of the end at this place was late in this step; `false` behind the last end.
     pub fn was_late(&self, i: usize) -> bool
-        requires { (ports : List Port) × EndsStandFor self.now ports }
         ensures { (ports : List Port) → EndsStandFor self.now ports → result ≡ option_map_or (λ (p : Port). p.late) (slice_get ports i) false }
     {
         match self.seats.get(i) {
@@ -159,7 +149,6 @@ impl Ends {
 
     /// REC_ERROR of the end of the link with this host is set.
     pub fn set_errors(&mut self, host: u8, errors: u16)
-        requires { (ports : List Port) × EndsStandFor self.old ports }
         ensures { (ports : List Port) → EndsStandFor self.old ports
             → EndsStandFor self.new (with_port host (λ p. record p { desk = record p.desk { errors = errors } }) ports) }
     {
@@ -170,7 +159,6 @@ impl Ends {
 
     /// What is kept of the end at this place, where there is one.
     pub fn desk(&self, i: usize) -> Option<Desk>
-        requires { (ports : List Port) × EndsStandFor self.now ports }
         ensures { (ports : List Port) → EndsStandFor self.now ports
             → option_map desk_shown result ≡ option_map (λ (p : Port). p.desk) (slice_get ports i) }
     {

@@ -1,5 +1,5 @@
-use Rattle.std.proofs.Common.{◌≡◌, ℕ, false, true, List, [], ◌∷◌, inl, inr, refl, sym, ap, ◌∙◌, subst, arith, length-set}
-use Rattle.std.specs.Prelude.{Option, Some, None, is_none, slice_set, slice_index_or}
+use Rattle.std.proofs.Common.{◌≡◌, false, true, inl, inr, sym, ap, ◌∙◌, subst, arith, length-set}
+use Rattle.std.specs.Prelude.{is_none, slice_index_or}
 use Rattle.block_pool.specs.declared.chain.Chain.{Chain}
 use Rattle.block_pool.specs.Pool.{PoolState, IsLive, chain_bytes, Gives, KeepsOthers}
 use Rattle.hcp_packet.specs.Packets.{IsSendable}
@@ -10,7 +10,6 @@ use Rattle.node_ends.specs.declared.seat.Seat.{Seat}
 use Rattle.node_ends.specs.Holding.{without_got}
 use Rattle.node_ends.specs.Ends.{takes_at}
 use Rattle.node_ends.proofs.Changing.{within}
-use Rattle.node_ends.proofs.Handing.{Takes, Refuses}
 use Rattle.node_ends.proofs.Relaying.{first_read, first_holds, one_waits, message_is, may_be_sent, second, then_side, may_pass, handed}
 use Rattle.node_ends.proofs.Relaying.{none_there_is, takes_still, told_passed, told_back}
 use Rattle.node_ends.proofs.passing.pass_at.Goals as goal

@@ -18,7 +18,7 @@ returns-in-Ok-boot-clause-runs g c =
     let n = c.in-Ok-boot.node in
     let b = c.in-Ok-boot.ensures.begins in
     let B : List ℕ → Type 0 = λ hs. BeginsAs 0 Clf hs n in
-    new_runs n 0 Clf hosts (subst B (c.as_slice.ensures.value ∙ c.hosts_of-hosts.ensures) b) c.in-Ok-boot.ensures.sound
+    new_runs n 0 Clf hosts (subst B (c.as_slice.ensures.value ∙ c.hosts_of-hosts.ensures) b) c.in-Ok-boot.ensures.usable
     (links_within Clf hosts (hosts_within (has c.args.hosts))) (λ some. absurd (some b.number_is)) (clf_roles n.number hosts b.number_is)
 
 pub returns-in-Ok-boot-clause-unspent : goal.returns-in-Ok-boot-clause-unspent

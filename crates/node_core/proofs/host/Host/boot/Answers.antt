@@ -7,7 +7,7 @@ pub returns-in-Ok-boot-clause-runs : goal.returns-in-Ok-boot-clause-runs
 returns-in-Ok-boot-clause-runs g c =
     let h = c.args.host in
     let b = c.in-Ok-boot.ensures in
-    new_runs c.in-Ok-boot.node h Uicc (h ∷ []) b.begins b.sound ((c.requires.some, c.requires.host), tt)
+    new_runs c.in-Ok-boot.node h Uicc (h ∷ []) b.begins b.usable ((c.requires.some, c.requires.host), tt)
     (λ some. ap (λ (n : ℕ). n ∷ []) (sym b.begins.number_is))
     (uicc_roles c.in-Ok-boot.node.number (h ∷ []) (λ none. (let low = c.requires.some in let same = b.begins.number_is in omega (arith, low, same, none))))
 

@@ -69,4 +69,4 @@ returns-clause-begun g c start w asked =
         → IsInStep t.new.self (g.W.Watch.noted t.new.watch) (g.W.Watch.is_short t.new.watch) start
         (all_done c.self.inside.node.number (beginning c.args.identity.now c.args.pipes.now) w)) in
         let given = subst G ok t.ensures.begun in
-        has_begun_so c.args.identity.now c.args.pipes.now a nonzero (given start w (asked_in_step a)) t.ensures.store e.ended e.store e.number e.tasks e.runs
+        has_begun_so c.args.identity.now c.args.pipes.now a nonzero (given start w (asked_in_step a)) t.ensures.store e.ended e.store e.number e.tasks

@@ -77,4 +77,4 @@ returns-clause-given g c start w asked =
         → IsInStep t.new.self (g.W.Watch.noted t.new.watch) (g.W.Watch.is_short t.new.watch) start
         (all_done c.self.inside.node.number (sending c.self.inside.node.number (c.args.pipe, c.args.message.now)) w)) in
         let given = subst G ok t.ensures.given in
-        has_sent_so c.args.pipe c.args.message.now a nonzero taken (given start w (asked_in_step a)) t.ensures.store e.ended e.store e.number e.tasks e.runs
+        has_sent_so c.args.pipe c.args.message.now a nonzero taken (given start w (asked_in_step a)) t.ensures.store e.ended e.store e.number e.tasks

@@ -15,7 +15,6 @@ use Rattle.node_core.proofs.node.Node.answer_all.Goals as goal
 
 pub loop-asker-init : goal.loop-asker-init
 loop-asker-init g c = record {
-  runs = c.requires.runs;
   live = c.requires.live;
   store = refl;
   number = refl;
@@ -31,7 +30,6 @@ loop-asker-preserved g c =
     let a : ℕ = get_or askers i 0 in
     let split : drop i askers ≡ a ∷ drop (i + 1) askers = drop-cons askers i 0 c.loop-asker-test.true ∙ ap (λ n. a ∷ drop n askers) (sym (add-one i)) in
     record {
-      runs = t.ensures.runs;
       live = ap (λ (s : Stored g.row.N.Denot). s.journal.live) (t.ensures.store ∙ c.release.ensures.store) ∙ c.loop-asker.invariant.live;
       store = t.ensures.store ∙ (c.release.ensures.store ∙ c.loop-asker.invariant.store);
       number = t.ensures.number ∙ (c.release.ensures.number ∙ c.loop-asker.invariant.number);

@@ -2,7 +2,7 @@ use Rattle.std.proofs.Common.{◌≡◌, true, List, drop}
 use Rattle.std.specs.List.{flat_map}
 use Rattle.trace_model.specs.declared.entry.Entry.{Entry}
 use Rattle.node_machine.specs.Parts.{Work}
-use Rattle.node_core.specs.Nodes.{IsInStep, IsSoundNode}
+use Rattle.node_core.specs.Nodes.{IsInStep}
 use Rattle.node_core.specs.Owing.{answers_owed}
 use Rattle.node_core.proofs.Freeing.{DoesOn}
 use Rattle.node_core.proofs.node.Node.answer_all.Given as goal
@@ -13,7 +13,6 @@ invariant-loop-asker g l =
     let noted = g.W.Watch.noted in
     let short = g.W.Watch.is_short in
     record {
-      runs : IsSoundNode l.self;
       live : l.self.store.journal.live ≡ true;
       store : l.self.store ≡ l.fn.self.store;
       number : l.self.number ≡ l.fn.self.number;

@@ -67,7 +67,7 @@ loop-deed-preserved g c =
     (IsInStep o.new.self (g.W.Watch.noted o.new.watch) (g.W.Watch.is_short o.new.watch) a.0) (done c.args.host e) a.1 in
     let b : B (deed_of c.args.self.now m d) = subst B shown (o.ensures.carried a.0 a.1 a.2) in
     record {
-      runs = o.ensures.runs;
+      usable = o.ensures.usable;
       live = on;
       number = o.ensures.number ∙ c.loop-deed.invariant.number;
       faults = faults_then g.N.Nv.faults c.loop-deed.invariant.faults o.ensures.faults;

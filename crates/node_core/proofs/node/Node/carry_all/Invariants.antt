@@ -1,7 +1,7 @@
 use Rattle.std.proofs.Common.{◌≡◌, true, List, map, drop}
 use Rattle.trace_model.specs.declared.entry.Entry.{Entry}
 use Rattle.node_machine.specs.Parts.{Work}
-use Rattle.node_core.specs.Nodes.{IsInStep, IsSoundNode}
+use Rattle.node_core.specs.Nodes.{IsInStep, IsUsable}
 use Rattle.node_core.specs.Faults.{CountsFaults}
 use Rattle.node_core.specs.Deeds.{handling, deed_of, AreDoableInTurn}
 use Rattle.node_core.proofs.Steps.{GoesOn}
@@ -13,7 +13,7 @@ invariant-loop-deed g l =
     let noted = g.W.Watch.noted in
     let short = g.W.Watch.is_short in
     record {
-      runs : IsSoundNode l.self;
+      usable : IsUsable l.self.store;
       live : l.self.store.journal.live ≡ true;
       number : l.self.number ≡ l.fn.self.number;
       faults : CountsFaults g.N.Nv.faults l.fn.self.store l.self.store;

@@ -46,4 +46,4 @@ returns-clause-carried g c start w u =
     subst P (sym (host_at h w.ports p at))
     (c.note_input.ensures.notes (with_port h (λ q. has_come q (Some i)) w.ports) w.core (report p.side i) p.session
     (whole_acked (after_input p.side i)) stands u.node told_is (acked_is w.ports h i p at)
-    (subst G (sym told_is) (brought_is c.comes_to.new.ends w.ports h i p (end_outside c.args.what (port_at may.1.ports h) may.5) stands at))))
+    (subst G (sym told_is) (brought_is c.comes_to.new.ends w.ports h i p (end_outside c.args.what (port_at may.1.ports h) may.3.2) stands at))))

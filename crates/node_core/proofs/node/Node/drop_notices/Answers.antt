@@ -10,7 +10,6 @@ use Rattle.node_core.proofs.node.Node.drop_notices.Goals as goal
 
 pub loop-i-init : goal.loop-i-init
 loop-i-init g c = record {
-  runs = c.requires.runs;
   store = refl;
   number = refl;
   ends = λ ports e. (let P : List Port → Type 0 = λ l. EndsStandFor c.args.self.now.ends l in subst P (sym (none_changed without_notice ports)) e);
@@ -18,11 +17,6 @@ loop-i-init g c = record {
       let P : List Port → Type 0 = λ l. IsInStep c.args.self.now noted short start (record w { ports = l }) in
       subst P (sym (none_changed without_notice w.ports)) u;
 }
-
-pub drop_notice-requires : goal.drop_notice-requires
-drop_notice-requires g c =
-    let r = c.requires.runs in
-    (first_changed c.loop-i.i without_notice r.ports, c.loop-i.invariant.ends r.ports r.ends)
 
 pub loop-i-preserved : goal.loop-i-preserved
 loop-i-preserved g c =
@@ -34,10 +28,7 @@ loop-i-preserved g c =
     let Q : List Port → Type 0 = λ l. EndsStandFor t.new.self l in
     subst P (sym (add-one i))
     (subst Q (next_changed i without_notice ports) (t.ensures (first_changed i without_notice ports) (c.loop-i.invariant.ends ports e))) in
-    let r = c.requires.runs in
-    let now = c.loop-i.invariant.runs in
     record {
-      runs = record { ports = _; ends = next r.ports r.ends; started = now.started; version = now.version };
       store = c.loop-i.invariant.store;
       number = c.loop-i.invariant.number;
       ends = next;

@@ -7,17 +7,11 @@ use Rattle.node_core.proofs.node.Node.end_step.Goals as goal
 
 pub loop-i-init : goal.loop-i-init
 loop-i-init g c = record {
-  runs = c.requires.runs;
   store = refl;
   number = refl;
   tasks = refl;
   ends = λ ports e. (let P : List Port → Type 0 = λ l. EndsStandFor c.args.self.now.ends l in subst P (sym (none_changed begun ports)) e);
 }
-
-pub begin_step-requires : goal.begin_step-requires
-begin_step-requires g c =
-    let r = c.requires.runs in
-    (first_changed c.loop-i.i begun r.ports, c.loop-i.invariant.ends r.ports r.ends)
 
 pub loop-i-preserved : goal.loop-i-preserved
 loop-i-preserved g c =
@@ -29,10 +23,7 @@ loop-i-preserved g c =
     let Q : List Port → Type 0 = λ l. EndsStandFor t.new.self l in
     subst P (sym (add-one i))
     (subst Q (next_changed i begun ports) (t.ensures (first_changed i begun ports) (c.loop-i.invariant.ends ports e))) in
-    let r = c.requires.runs in
-    let now = c.loop-i.invariant.runs in
     record {
-      runs = record { ports = _; ends = next r.ports r.ends; started = now.started; version = now.version };
       store = c.loop-i.invariant.store;
       number = c.loop-i.invariant.number;
       tasks = c.loop-i.invariant.tasks;

@@ -2,14 +2,12 @@ use Rattle.std.proofs.Common.{◌≡◌, List}
 use Rattle.node_machine.specs.Parts.{Port}
 use Rattle.node_ends.specs.Ends.{EndsStandFor}
 use Rattle.node_ends.proofs.Seated.{first_changed}
-use Rattle.node_core.specs.Nodes.{IsSoundNode}
 use Rattle.node_core.proofs.Between.{begun}
 use Rattle.node_core.proofs.node.Node.end_step.Given as goal
 
 -- so it is at the ends so far
 abbrev pub invariant-loop-i : goal.invariant-loop-i
 invariant-loop-i g l = record {
-  runs : IsSoundNode l.self;
   store : l.self.store ≡ l.fn.self.store;
   number : l.self.number ≡ l.fn.self.number;
   tasks : l.self.tasks ≡ l.fn.self.tasks;

@@ -6,7 +6,7 @@ use Rattle.node_core.proofs.Idle.{none_came, idle_finishes}
 use Rattle.node_core.proofs.node.Node.finish.Goals as goal
 
 pub returns-then-are_idle-clause-carried : goal.returns-then-are_idle-clause-carried
-returns-then-are_idle-clause-carried g c start w u hosts few =
+returns-then-are_idle-clause-carried g c start w u may =
     let s = c.args.self.now.store in
     let live = u.power ∙ ap not c.requires.live in
     let none = ap (sync_kept s.journal.state s.tables) (none_came c.args.came (c.is_none.ensures ∙ ap not c.if-is_none.true)) in

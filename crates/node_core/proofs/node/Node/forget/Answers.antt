@@ -11,7 +11,6 @@ use Rattle.node_core.proofs.node.Node.forget.Goals as goal
 
 pub loop-i-init : goal.loop-i-init
 loop-i-init g c = record {
-  runs = c.requires.runs;
   store = refl;
   number = refl;
   ends = λ ports e. (let P : List Port → Type 0 = λ l. EndsStandFor c.args.self.now.ends l in subst P (sym (none_changed (forgets ports) ports)) e);
@@ -19,11 +18,6 @@ loop-i-init g c = record {
       let P : List Port → Type 0 = λ l. IsInStep c.args.self.now noted short start (record w { ports = l }) in
       subst P (sym (none_changed (forgets w.ports) w.ports)) u;
 }
-
-pub forget-requires : goal.forget-requires
-forget-requires g c =
-    let r = c.requires.runs in
-    (first_changed c.loop-i.i (forgets r.ports) r.ports, c.loop-i.invariant.ends r.ports r.ends)
 
 pub loop-i-preserved : goal.loop-i-preserved
 loop-i-preserved g c =
@@ -34,10 +28,7 @@ loop-i-preserved g c =
     let P : ℕ → Type 0 = λ m. EndsStandFor t.new.self (first_changed m (forgets ports) ports) in
     let Q : List Port → Type 0 = λ l. EndsStandFor t.new.self l in
     subst P (sym (add-one i)) (subst Q (next_forgets i ports) (t.ensures (first_changed i (forgets ports) ports) (c.loop-i.invariant.ends ports e))) in
-    let r = c.requires.runs in
-    let now = c.loop-i.invariant.runs in
     record {
-      runs = record { ports = _; ends = next r.ports r.ends; started = now.started; version = now.version };
       store = c.loop-i.invariant.store;
       number = c.loop-i.invariant.number;
       ends = next;

@@ -9,7 +9,6 @@ use Rattle.node_core.proofs.node.Node.grow_older.Goals as goal
 
 pub loop-i-init : goal.loop-i-init
 loop-i-init g c = record {
-  runs = c.requires.runs;
   store = refl;
   number = refl;
   ends = λ ports e. (let P : List Port → Type 0 = λ l. EndsStandFor c.args.self.now.ends l in subst P (sym (none_changed with_older ports)) e);
@@ -32,10 +31,7 @@ loop-i-preserved g c =
     let P : ℕ → Type 0 = λ m. EndsStandFor t.new.self (first_changed m with_older ports) in
     let Q : List Port → Type 0 = λ l. EndsStandFor t.new.self l in
     subst P (sym (add-one i)) (subst Q (next_changed i with_older ports) (t.ensures (first_changed i with_older ports) (c.loop-i.invariant.ends ports e))) in
-    let r = c.requires.runs in
-    let now = c.loop-i.invariant.runs in
     record {
-      runs = record { ports = _; ends = next r.ports r.ends; started = now.started; version = now.version };
       store = c.loop-i.invariant.store;
       number = c.loop-i.invariant.number;
       ends = next;

@@ -4,13 +4,12 @@ use Rattle.node_machine.specs.Parts.{Port, Work}
 use Rattle.node_machine.specs.Node.{with_older}
 use Rattle.node_ends.specs.Ends.{EndsStandFor}
 use Rattle.node_ends.proofs.Seated.{first_changed}
-use Rattle.node_core.specs.Nodes.{IsInStep, IsSoundNode}
+use Rattle.node_core.specs.Nodes.{IsInStep}
 use Rattle.node_core.proofs.node.Node.grow_older.Given as goal
 
 -- the notices at the ends so far are older
 abbrev pub invariant-loop-i : goal.invariant-loop-i
 invariant-loop-i g l = record {
-  runs : IsSoundNode l.self;
   store : l.self.store ≡ l.fn.self.store;
   number : l.self.number ≡ l.fn.self.number;
   ends : (ports : List Port) → EndsStandFor l.fn.self.ends ports → EndsStandFor l.self.ends (first_changed l.i with_older ports);

@@ -12,5 +12,5 @@ returns g c core ports p r is =
     let e = c.args.self.now.ends in
     let here : option_map (λ (q : Port). q.desk.host) (slice_get kept c.args.near) ≡ Some c.args.host =
     sym (c.host.ensures kept r.ends) ∙ (c.in-Some.is ∙ ap Some c.if-there-host.false) in
-    let at = placed c.args.near c.args.host (λ (q : Port). q) kept (hosts_differ e.pool e.seats.items kept r.ends.hosts r.ends.each) here in
+    let at = placed c.args.near c.args.host (λ (q : Port). q) kept (hosts_differ e.pool e.seats kept r.ends.hosts r.ends.each) here in
     c.is_idle.ensures kept (between p) r.ends (at.1 ∙ (kept_at c.args.host ports ∙ ap (option_map between) is))

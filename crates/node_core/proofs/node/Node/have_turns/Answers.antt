@@ -30,7 +30,7 @@ have_turn-requires-clause-sendable g c =
     let w : Work = r.1 in
     let u = r.2 in
     let got = c.waiting.ensures.waits w.ports u.ends ∙ ap (λ (o : Option (ℕ × ℕ)). message_read o c.waiting.new.buffer) c.in-Some.is in
-    let sendable = subst AreSendable got (got_at_sendable c.args.self.now.ends.pool c.args.self.now.ends.seats.items w.ports c.args.host u.ends.each) in
+    let sendable = subst AreSendable got (got_at_sendable c.args.self.now.ends.pool c.args.self.now.ends.seats w.ports c.args.host u.ends.each) in
     sendable.0
 
 pub have_turn-requires-clause-own : goal.have_turn-requires-clause-own
@@ -39,13 +39,13 @@ have_turn-requires-clause-own g c =
     let w : Work = r.1 in
     let u = r.2 in
     let got = c.waiting.ensures.waits w.ports u.ends ∙ ap (λ (o : Option (ℕ × ℕ)). message_read o c.waiting.new.buffer) c.in-Some.is in
-    λ some. own_host w c.args.host (λ none. some (sym u.node ∙ none)) r.3.own got ∙ u.node
+    λ some. own_host w c.args.host (λ none. some (sym u.node ∙ none)) r.3.0.own got ∙ u.node
 
 pub have_turn-requires-clause-may : goal.have_turn-requires-clause-may
 have_turn-requires-clause-may g c =
     let r = c.requires.may in
     let got = c.waiting.ensures.waits r.1.ports r.2.ends ∙ ap (λ (o : Option (ℕ × ℕ)). message_read o c.waiting.new.buffer) c.in-Some.is in
-    (r.0, r.1, r.2, r.3, r.4, c.is_held-held.ensures r.1.ports r.2.ends, got)
+    (r.0, r.1, r.2, (r.3.0, r.3.1, c.is_held-held.ensures r.1.ports r.2.ends, got))
 
 pub returns-clause-carried : goal.returns-clause-carried
 returns-clause-carried g c start w u order few =
@@ -56,4 +56,4 @@ returns-clause-carried g c start w u order few =
     let t = c.have_turn in
     let P : List Message → Type 0 = λ ms. Brings g.N.Nv.writes c.args.self.now.store.journal.nv t.new.self.store.journal.nv
     (IsInStep t.new.self (g.W.Watch.noted t.new.watch) (g.W.Watch.is_short t.new.watch) start) (have_turns h ms) w in
-    subst P (sym got) (t.ensures.carried start w u order few (c.is_held-held.ensures w.ports u.ends) got)
+    subst P (sym got) (t.ensures.carried start w u (order, few, c.is_held-held.ensures w.ports u.ends, got))

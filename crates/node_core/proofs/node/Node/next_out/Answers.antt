@@ -23,7 +23,7 @@ pub returns-clause-answer : goal.returns-clause-answer
 returns-clause-answer g c core ports r =
     let kept : List Port = map between ports in
     let e = c.args.self.now.ends in
-    let at = placed c.in-Some.i c.args.host has_sent kept (hosts_differ e.pool e.seats.items kept r.ends.hosts r.ends.each)
+    let at = placed c.in-Some.i c.args.host has_sent kept (hosts_differ e.pool e.seats kept r.ends.hosts r.ends.each)
     (c.in-Some.ensures.found kept r.ends) in
     c.next_out.ensures.answer kept r.ends ∙ (ap frame_at at.1 ∙ kept_frame_at c.args.host ports)
 
@@ -31,7 +31,7 @@ pub returns-clause-runs : goal.returns-clause-runs
 returns-clause-runs g c core ports r =
     let kept : List Port = map between ports in
     let e = c.args.self.now.ends in
-    let at = placed c.in-Some.i c.args.host has_sent kept (hosts_differ e.pool e.seats.items kept r.ends.hosts r.ends.each)
+    let at = placed c.in-Some.i c.args.host has_sent kept (hosts_differ e.pool e.seats kept r.ends.hosts r.ends.each)
     (c.in-Some.ensures.found kept r.ends) in
     let E : List Port → Type 0 = λ qs. EndsStandFor c.next_out.new.self qs in
     sent_runs c.args.host r (subst E at.0 (c.next_out.ensures.stands kept r.ends)) refl refl refl
@@ -45,6 +45,6 @@ pub returns-clause-read : goal.returns-clause-read
 returns-clause-read g c core ports p r is =
     let kept : List Port = map between ports in
     let e = c.args.self.now.ends in
-    let at = placed c.in-Some.i c.args.host has_sent kept (hosts_differ e.pool e.seats.items kept r.ends.hosts r.ends.each)
+    let at = placed c.in-Some.i c.args.host has_sent kept (hosts_differ e.pool e.seats kept r.ends.hosts r.ends.each)
     (c.in-Some.ensures.found kept r.ends) in
     c.next_out.ensures.read kept (between p) r.ends (at.1 ∙ (kept_at c.args.host ports ∙ ap (option_map between) is))

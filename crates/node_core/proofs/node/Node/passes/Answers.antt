@@ -11,7 +11,7 @@ use Rattle.node_core.proofs.node.Node.passes.Goals as goal
 
 pub loop-i-init : goal.loop-i-init
 loop-i-init g c = record {
-  runs = c.requires.runs;
+  usable = c.requires.usable;
   live = c.requires.live;
   number = refl;
   faults = faults_stay g.N.Nv.faults c.requires.live refl;
@@ -20,36 +20,36 @@ loop-i-init g c = record {
 }
 
 pub returns-in_default-clause-carried : goal.returns-in_default-clause-carried
-returns-in_default-clause-carried g c start w u order few =
-    let k = c.loop-i.invariant.goes start w u order few in
+returns-in_default-clause-carried g c start w u may =
+    let k = c.loop-i.invariant.goes start w u may.0 may.1 in
     let none = sym (no_some c.host.result c.in_default.not-Some) ∙ c.host.ensures k.now.ports k.under.ends in
     pass_ends k (pass_over k none) c.loop-i.invariant.live
 
 pub have_turns-requires-clause-some : goal.have_turns-requires-clause-some
 have_turns-requires-clause-some g c =
     let r = c.requires.may in
-    let k = c.loop-i.invariant.goes r.0 r.1 r.2 r.3 r.4 in
+    let k = c.loop-i.invariant.goes r.0 r.1 r.2 r.3.0 r.3.1 in
     let is = sym c.in-Some.is ∙ c.host.ensures k.now.ports k.under.ends in
     (is_host_at c.loop-i.i k.now.ports c.in-Some.host k.order.hosts is).0
 
 pub have_turns-requires-clause-host : goal.have_turns-requires-clause-host
 have_turns-requires-clause-host g c =
     let r = c.requires.may in
-    let k = c.loop-i.invariant.goes r.0 r.1 r.2 r.3 r.4 in
+    let k = c.loop-i.invariant.goes r.0 r.1 r.2 r.3.0 r.3.1 in
     let is = sym c.in-Some.is ∙ c.host.ensures k.now.ports k.under.ends in
     (is_host_at c.loop-i.i k.now.ports c.in-Some.host k.order.hosts is).1
 
 pub have_turns-requires-clause-may : goal.have_turns-requires-clause-may
 have_turns-requires-clause-may g c =
     let r = c.requires.may in
-    let k = c.loop-i.invariant.goes r.0 r.1 r.2 r.3 r.4 in
+    let k = c.loop-i.invariant.goes r.0 r.1 r.2 r.3.0 r.3.1 in
     let is = sym c.in-Some.is ∙ c.host.ensures k.now.ports k.under.ends in
-    (r.0, k.now, k.under, k.order, next_few k c.in-Some.host is)
+    (r.0, k.now, k.under, (k.order, next_few k c.in-Some.host is))
 
 pub returns-then-not-have_turns-clause-carried : goal.returns-then-not-have_turns-clause-carried
-returns-then-not-have_turns-clause-carried g c start w u order few =
+returns-then-not-have_turns-clause-carried g c start w u may =
     let h = c.in-Some.host in
-    let k = c.loop-i.invariant.goes start w u order few in
+    let k = c.loop-i.invariant.goes start w u may.0 may.1 in
     let is = sym c.in-Some.is ∙ c.host.ensures k.now.ports k.under.ends in
     let t = c.have_turns in
     let b : Brings g.N.Nv.writes c.loop-i.self.store.journal.nv t.new.self.store.journal.nv
@@ -61,7 +61,7 @@ pub loop-i-preserved-then-rests : goal.loop-i-preserved-then-rests
 loop-i-preserved-then-rests g c =
     let invariant = c.loop-i.invariant in
     record {
-      runs = invariant.runs;
+      usable = invariant.usable;
       live = invariant.live;
       number = invariant.number;
       faults = invariant.faults;
@@ -79,7 +79,7 @@ loop-i-preserved g c =
     let t = c.have_turns in
     let on : t.new.self.store.journal.live ≡ true = sym t.ensures.live ∙ c.if-not-have_turns.false in
     record {
-      runs = t.ensures.runs;
+      usable = t.ensures.usable;
       live = on;
       number = t.ensures.number ∙ c.loop-i.invariant.number;
       faults = faults_then g.N.Nv.faults c.loop-i.invariant.faults t.ensures.faults;
@@ -97,6 +97,6 @@ loop-i-preserved g c =
     }
 
 pub returns-clause-carried : goal.returns-clause-carried
-returns-clause-carried g c start w u order few =
-    let k = c.loop-i.invariant.goes start w u order few in
+returns-clause-carried g c start w u may =
+    let k = c.loop-i.invariant.goes start w u may.0 may.1 in
     pass_ends k (pass_full k c.loop-i-test.false) c.loop-i.invariant.live

@@ -1,7 +1,7 @@
 use Rattle.std.proofs.Common.{◌≡◌, true, List}
 use Rattle.trace_model.specs.declared.entry.Entry.{Entry}
 use Rattle.node_machine.specs.Parts.{Work}
-use Rattle.node_core.specs.Nodes.{IsInStep, IsSoundNode, LiesInBuffer}
+use Rattle.node_core.specs.Nodes.{IsInStep, IsUsable, LiesInBuffer}
 use Rattle.node_core.specs.Faults.{CountsFaults}
 use Rattle.node_core.specs.Turning.{IsNodeInOrder, AreFewDue}
 use Rattle.node_core.proofs.Passing.{PassesOn}
@@ -13,7 +13,7 @@ invariant-loop-i g l =
     let noted = g.W.Watch.noted in
     let short = g.W.Watch.is_short in
     record {
-      runs : IsSoundNode l.self;
+      usable : IsUsable l.self.store;
       live : l.self.store.journal.live ≡ true;
       number : l.self.number ≡ l.fn.self.number;
       faults : CountsFaults g.N.Nv.faults l.fn.self.store l.self.store;

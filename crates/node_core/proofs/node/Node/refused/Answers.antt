@@ -3,8 +3,5 @@ use Rattle.node_core.specs.Running.{between}
 use Rattle.node_core.proofs.Between.{refused_runs}
 use Rattle.node_core.proofs.node.Node.refused.Goals as goal
 
-pub count_error-requires : goal.count_error-requires
-count_error-requires g c = let r = c.requires.runs in (map between r.1, r.2.ends)
-
 pub returns-clause-runs : goal.returns-clause-runs
 returns-clause-runs g c core ports r = refused_runs c.args.host r (c.count_error.ensures (map between ports) r.ends) refl refl refl

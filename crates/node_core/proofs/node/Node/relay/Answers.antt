@@ -53,29 +53,3 @@ returns-else-pass_on-clause-carried g c start w u got =
     let refuses = sym c.if-pass_on.false ∙ (c.pass_on.ensures.answer (with_port h not_held w.ports) m e come
     ∙ ap (λ (l : List Port). takes_at m (port_at l to)) swap) in
     relayed_nowhere m h to noted stands refuses
-
-pub returns-then-pass_on-clause-runs : goal.returns-then-pass_on-clause-runs
-returns-then-pass_on-clause-runs g c =
-    let r = c.requires.waits in
-    let h = c.args.host in
-    let m : Message = (c.args.pipe, c.args.message.now) in
-    let k = c.requires.runs in
-    record {
-      ports = _;
-      ends = c.pass_on.ensures.stands (with_port h not_held r.1.ports) m (c.set_holds.ensures r.1.ports r.2.ends) (got_still h r.1.ports ∙ r.3);
-      started = k.started;
-      version = k.version;
-    }
-
-pub returns-else-pass_on-clause-runs : goal.returns-else-pass_on-clause-runs
-returns-else-pass_on-clause-runs g c =
-    let r = c.requires.waits in
-    let h = c.args.host in
-    let m : Message = (c.args.pipe, c.args.message.now) in
-    let k = c.requires.runs in
-    record {
-      ports = _;
-      ends = c.pass_on.ensures.stands (with_port h not_held r.1.ports) m (c.set_holds.ensures r.1.ports r.2.ends) (got_still h r.1.ports ∙ r.3);
-      started = k.started;
-      version = k.version;
-    }

@@ -9,7 +9,6 @@ use Rattle.node_core.proofs.node.Node.reset_late.Goals as goal
 
 pub loop-i-init : goal.loop-i-init
 loop-i-init g c = record {
-  runs = c.requires.runs;
   store = refl;
   number = refl;
   goes = λ start w u few.
@@ -17,21 +16,22 @@ loop-i-init g c = record {
       subst P (sym (no_reset_yet w)) u;
 }
 
-pub reset_late_at-requires-clause-may : goal.reset_late_at-requires-clause-may
-reset_late_at-requires-clause-may g c =
+pub reset_late_at-requires : goal.reset_late_at-requires
+reset_late_at-requires g c =
     let r = c.requires.may in
-    let P : Option Port → Type 0 = λ o. FewAreDue o in (
-      r.0,
-      late_so_far c.loop-i.i r.1,
-      c.loop-i.invariant.goes r.0 r.1 r.2 r.3,
-      subst P (sym (reset_there c.loop-i.i r.1)) (few_there c.loop-i.i r.1.ports r.3),
-    )
+    let P : Option Port → Type 0 = λ o. FewAreDue o in record {
+      may = (
+        r.0,
+        late_so_far c.loop-i.i r.1,
+        c.loop-i.invariant.goes r.0 r.1 r.2 r.3,
+        subst P (sym (reset_there c.loop-i.i r.1)) (few_there c.loop-i.i r.1.ports r.3),
+      );
+    }
 
 pub loop-i-preserved : goal.loop-i-preserved
 loop-i-preserved g c =
     let t = c.reset_late_at in
     record {
-      runs = t.ensures.runs;
       store = t.ensures.store ∙ c.loop-i.invariant.store;
       number = t.ensures.number ∙ c.loop-i.invariant.number;
       goes = λ start w u few.

@@ -31,21 +31,6 @@ pub returns-in_default-reset_late-clause-none : goal.returns-in_default-reset_la
 returns-in_default-reset_late-clause-none g c start w u none =
     is_none_there (λ (q : Port). q.desk.host) (slice_get w.ports c.args.i) c.in-Some.host (sym c.in-Some.is ∙ c.host.ensures w.ports u.ends) none
 
-pub returns-in_default-reset_late-clause-runs : goal.returns-in_default-reset_late-clause-runs
-returns-in_default-reset_late-clause-runs g c =
-    let r = c.requires.runs in
-    record { ports = _; ends = c.reset_late.ensures.stands r.ports r.ends; started = r.started; version = r.version }
-
-pub note_input-requires : goal.note_input-requires
-note_input-requires g c =
-    let r = c.requires.runs in
-    record { runs = record { ports = _; ends = c.reset_late.ensures.stands r.ports r.ends; started = r.started; version = r.version } }
-
-pub returns-clause-runs : goal.returns-clause-runs
-returns-clause-runs g c =
-    let r = c.requires.runs in
-    record { ports = _; ends = c.reset_late.ensures.stands r.ports r.ends; started = r.started; version = r.version }
-
 pub returns-clause-carried : goal.returns-clause-carried
 returns-clause-carried g c start w p u is =
     let i = c.args.i in

@@ -21,20 +21,20 @@ passes-requires-2-clause-may g c =
     t.ensures.carried r.0 r.1 r.2 in
     let live = b.stands.power ∙ ap not (sym t.ensures.live ∙ c.if-not-settle_sessions.false) in
     let same = settled_ports (sync_kept s.journal.state s.tables c.args.came) b live in
-    let order = stays_in_order (settles_fine s.journal.state s.tables c.args.came) b live (r.2.power ∙ ap not c.requires.live) r.3 in
-    (r.0, b.after, b.stands, order, quiet_few b.after.ports r.1.ports same r.4)
+    let order = stays_in_order (settles_fine s.journal.state s.tables c.args.came) b live (r.2.power ∙ ap not c.requires.live) r.3.0 in
+    (r.0, b.after, b.stands, (order, quiet_few b.after.ports r.1.ports same r.3.1))
 
 pub returns-then-not-is_over-clause-carried : goal.returns-then-not-is_over-clause-carried
-returns-then-not-is_over-clause-carried g c start w u hosts few =
+returns-then-not-is_over-clause-carried g c start w u may =
     let s = c.args.self.now.store in
     let live = u.power ∙ ap not c.requires.live in
     let none = ap (sync_kept s.journal.state s.tables) (none_came c.args.came (c.is_none.ensures ∙ ap not c.if-is_none.true)) in
     let over = sym (c.is_over.ensures w.ports u.ends) ∙ c.if-not-is_over.true in
-    brings_same (c.passes.ensures.carried start w u hosts few)
+    brings_same (c.passes.ensures.carried start w u may)
     (λ plan. only_passes (sync_kept s.journal.state s.tables c.args.came) (record w { plan = plan }) none live over)
 
 pub returns-then-not-settle_sessions-clause-carried : goal.returns-then-not-settle_sessions-clause-carried
-returns-then-not-settle_sessions-clause-carried g c start w u hosts few =
+returns-then-not-settle_sessions-clause-carried g c start w u may =
     let t = c.settle_sessions in
     let s = c.args.self.now.store in
     let b : Brings g.N.Nv.writes s.journal.nv t.new.self.store.journal.nv
@@ -43,7 +43,7 @@ returns-then-not-settle_sessions-clause-carried g c start w u hosts few =
     brings_same (brings_cut g.N.Nv.writes passes b (b.stands.power ∙ ap not (sym t.ensures.live ∙ c.if-not-settle_sessions.true)) refl b.stands) (λ plan. refl)
 
 pub returns-clause-carried : goal.returns-clause-carried
-returns-clause-carried g c start w u hosts few =
+returns-clause-carried g c start w u may =
     let t = c.settle_sessions in
     let s = c.args.self.now.store in
     let b : Brings g.N.Nv.writes s.journal.nv t.new.self.store.journal.nv
@@ -51,6 +51,6 @@ returns-clause-carried g c start w u hosts few =
     t.ensures.carried start w u in
     let live = b.stands.power ∙ ap not (sym t.ensures.live ∙ c.if-not-settle_sessions.false) in
     let same = settled_ports (sync_kept s.journal.state s.tables c.args.came) b live in
-    let order = stays_in_order (settles_fine s.journal.state s.tables c.args.came) b live (u.power ∙ ap not c.requires.live) hosts in
-    brings_same (brings_then g.N.Nv.writes b live (c.passes-2.ensures.carried start b.after b.stands order
-    (quiet_few b.after.ports w.ports same few))) (λ plan. refl)
+    let order = stays_in_order (settles_fine s.journal.state s.tables c.args.came) b live (u.power ∙ ap not c.requires.live) may.0 in
+    brings_same (brings_then g.N.Nv.writes b live (c.passes-2.ensures.carried start b.after b.stands
+    (order, quiet_few b.after.ports w.ports same may.1))) (λ plan. refl)

@@ -41,8 +41,7 @@ finish-live-requires-clause-may g c =
       noted,
       times_out i (all_come i w),
       c.comes.ensures.carried noted w b,
-      came_order i w b.runs.order,
-      came_few i (node_more c.args.input m.1 m.4) w (ready_few w.ports (runs_ready b.runs b.sent)),
+      (came_order i w b.runs.order, came_few i (node_more c.args.input m.1 m.4) w (ready_few w.ports (runs_ready b.runs b.sent))),
     )
 
 pub returns-in-Err-clause-refusal : goal.returns-in-Err-clause-refusal
@@ -55,7 +54,7 @@ pub returns-in-Err-clause-unchanged : goal.returns-in-Err-clause-unchanged
 returns-in-Err-clause-unchanged g c core ports r =
     let noted = g.W.Watch.noted c.args.watch.now in
     let rests = rests_in_step noted (g.W.Watch.is_short c.args.watch.now) r in
-    still_runs r (c.in-Err.ensures.unchanged noted (at_rest core ports) rests (kept_none_ended ports)) c.comes.ensures.runs c.comes.ensures.store
+    still_runs r (c.in-Err.ensures.unchanged noted (at_rest core ports) rests (kept_none_ended ports)) c.comes.ensures.store
 
 pub returns-clause-refusal : goal.returns-clause-refusal
 returns-clause-refusal g c core ports r =
@@ -75,9 +74,9 @@ returns-clause-stepped g c start w b =
     let u = begins_in_step b in
     let more = node_more c.args.input m.1 m.4 in
     let has = (c.in-Ok.ensures.came start w u).0 in
-    let syncs = synced_by w.core i w.ports (hosts_differ n.pool n.seats.items w.ports u.ends.hosts u.ends.each)
+    let syncs = synced_by w.core i w.ports (hosts_differ n.pool n.seats w.ports u.ends.hosts u.ends.each)
     ∙ ap (sync_kept w.core.journal w.core.tables) (sym has.sync) in
-    let behind = c.finish-live.ensures.carried start (times_out i (all_come i w)) (c.comes.ensures.carried start w b) (came_order i w b.runs.order)
-    (came_few i more w (ready_few w.ports (runs_ready b.runs b.sent))) in
+    let behind = c.finish-live.ensures.carried start (times_out i (all_come i w)) (c.comes.ensures.carried start w b)
+    (came_order i w b.runs.order, came_few i more w (ready_few w.ports (runs_ready b.runs b.sent))) in
     let whole = whole_step g.N.Nv.writes i c.in-Ok.came.sync u b.runs.live c.comes.ensures.store (came_planned i w) (came_written i w) syncs behind in
-    stepped g.N.Nv.writes i more b whole e.ended e.store e.number e.tasks e.runs
+    stepped g.N.Nv.writes i more b whole e.ended e.store e.number e.tasks c.finish-live.ensures.usable

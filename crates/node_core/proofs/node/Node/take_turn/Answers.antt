@@ -25,20 +25,22 @@ returns-in-Some-clause-carried g c start w u d =
     (held_cut h short w) (held_writes h short w) (held_anyway h short w))
     (λ plan. has_none h m (deeds_shown (handling c.args.self.now m) c.args.deeds.now) short w d.deeds_are none plan)
 
-pub let_go-requires-clause-few : goal.let_go-requires-clause-few
-let_go-requires-clause-few g c =
+pub let_go-requires : goal.let_go-requires
+let_go-requires g c =
     let r = c.requires.decided in
     let h = c.args.host in
     let m : Message = (c.args.pipe, c.args.message.now) in
     let b : Brings g.N.Nv.writes c.args.self.now.store.journal.nv c.handle.new.self.store.journal.nv
     (IsInStep c.handle.new.self (g.W.Watch.noted c.handle.new.watch) (g.W.Watch.is_short c.handle.new.watch) r.0)
     (handles h m (deeds_shown (handling c.args.self.now m) c.args.deeds.now)) r.1 = c.handle.ensures.carried r.0 r.1 r.2 in
-    let on : c.handle.new.self.store.journal.live ≡ true = sym c.handle.ensures.live ∙ c.if-not-handle.false in (
-      b.after.ports,
-      b.stands.ends,
-      few_kept r.1.ports b.after.ports h
-          (sym (quiet_after h m (deeds_shown (handling c.args.self.now m) c.args.deeds.now) b (b.stands.power ∙ ap not on))) r.3.few,
-    )
+    let on : c.handle.new.self.store.journal.live ≡ true = sym c.handle.ensures.live ∙ c.if-not-handle.false in record {
+      few = (
+        b.after.ports,
+        b.stands.ends,
+        few_kept r.1.ports b.after.ports h
+            (sym (quiet_after h m (deeds_shown (handling c.args.self.now m) c.args.deeds.now) b (b.stands.power ∙ ap not on))) r.3.few,
+      );
+    }
 
 pub returns-clause-carried : goal.returns-clause-carried
 returns-clause-carried g c start w u d =

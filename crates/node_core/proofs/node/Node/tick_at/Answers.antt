@@ -34,26 +34,11 @@ pub returns-in_default-told-clause-none : goal.returns-in_default-told-clause-no
 returns-in_default-told-clause-none g c start w u none =
     is_none_there (λ (q : Port). q.desk.host) (slice_get w.ports c.args.i) c.in-Some.host (sym c.in-Some.is ∙ c.host.ensures w.ports u.ends) none
 
-pub returns-in_default-told-clause-runs : goal.returns-in_default-told-clause-runs
-returns-in_default-told-clause-runs g c =
-    let r = c.requires.runs in
-    record { ports = _; ends = c.tick.ensures.stands r.ports r.ends; started = r.started; version = r.version }
-
-pub note_input-requires : goal.note_input-requires
-note_input-requires g c =
-    let r = c.requires.runs in
-    record { runs = record { ports = _; ends = c.tick.ensures.stands r.ports r.ends; started = r.started; version = r.version } }
-
-pub returns-clause-runs : goal.returns-clause-runs
-returns-clause-runs g c =
-    let r = c.requires.runs in
-    record { ports = _; ends = c.tick.ensures.stands r.ports r.ends; started = r.started; version = r.version }
-
 pub returns-clause-carried : goal.returns-clause-carried
 returns-clause-carried g c start w p u is =
     let i = c.args.i in
     let h = c.in-Some.host in
-    let differ = hosts_differ c.args.self.now.ends.pool c.args.self.now.ends.seats.items w.ports u.ends.hosts u.ends.each in
+    let differ = hosts_differ c.args.self.now.ends.pool c.args.self.now.ends.seats w.ports u.ends.hosts u.ends.each in
     let same = same_host h w.ports i p (sym c.in-Some.is ∙ c.host.ensures w.ports u.ends) is in
     let E : List Port → Type 0 = λ ports. EndsStandFor c.tick.new.self ports in
     let H : ℕ → Type 0 = λ m. EndsStandFor c.tick.new.self (with_port m (λ q. has_come q (Some Tick)) w.ports) in

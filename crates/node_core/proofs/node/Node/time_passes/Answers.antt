@@ -9,7 +9,6 @@ use Rattle.node_core.proofs.node.Node.time_passes.Goals as goal
 
 pub loop-i-init : goal.loop-i-init
 loop-i-init g c = record {
-  runs = c.requires.runs;
   store = refl;
   number = refl;
   goes = λ start w u few.
@@ -17,21 +16,22 @@ loop-i-init g c = record {
       subst P (sym (no_tick_yet w)) u;
 }
 
-pub tick_at-requires-clause-may : goal.tick_at-requires-clause-may
-tick_at-requires-clause-may g c =
+pub tick_at-requires : goal.tick_at-requires
+tick_at-requires g c =
     let r = c.requires.may in
-    let P : Option Port → Type 0 = λ o. FewAreDue o in (
-      r.0,
-      ticks_so_far c.loop-i.i r.1,
-      c.loop-i.invariant.goes r.0 r.1 r.2 r.3,
-      subst P (sym (tick_there c.loop-i.i r.1)) (few_there c.loop-i.i r.1.ports r.3),
-    )
+    let P : Option Port → Type 0 = λ o. FewAreDue o in record {
+      may = (
+        r.0,
+        ticks_so_far c.loop-i.i r.1,
+        c.loop-i.invariant.goes r.0 r.1 r.2 r.3,
+        subst P (sym (tick_there c.loop-i.i r.1)) (few_there c.loop-i.i r.1.ports r.3),
+      );
+    }
 
 pub loop-i-preserved : goal.loop-i-preserved
 loop-i-preserved g c =
     let t = c.tick_at in
     record {
-      runs = t.ensures.runs;
       store = t.ensures.store ∙ c.loop-i.invariant.store;
       number = t.ensures.number ∙ c.loop-i.invariant.number;
       goes = λ start w u few.
@@ -39,7 +39,7 @@ loop-i-preserved g c =
           let P : Work → Type 0 = λ v. IsInStep t.new.self (g.W.Watch.noted t.new.watch) (g.W.Watch.is_short t.new.watch) start v in
           let Q : ℕ → Type 0 = λ m. P (ticks_so_far m w) in
           let now = c.loop-i.invariant.goes start w u few in
-          let differ = hosts_differ c.args.self.now.ends.pool c.args.self.now.ends.seats.items w.ports u.ends.hosts u.ends.each in
+          let differ = hosts_differ c.args.self.now.ends.pool c.args.self.now.ends.seats w.ports u.ends.hosts u.ends.each in
           let there : (p : Port) → slice_get w.ports i ≡ Some p → P (ticks_so_far (suc i) w) = λ p is.
           subst P (next_tick i w p differ is) (t.ensures.carried start (ticks_so_far i w) p now (tick_there i w ∙ is)) in
           let past : slice_get w.ports i ≡ None → P (ticks_so_far (suc i) w) = λ none.

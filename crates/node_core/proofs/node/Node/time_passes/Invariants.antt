@@ -1,7 +1,7 @@
 use Rattle.std.proofs.Common.{◌≡◌, List}
 use Rattle.trace_model.specs.declared.entry.Entry.{Entry}
 use Rattle.node_machine.specs.Parts.{Work}
-use Rattle.node_core.specs.Nodes.{IsInStep, IsSoundNode}
+use Rattle.node_core.specs.Nodes.{IsInStep}
 use Rattle.node_core.specs.Turning.{AreFewDue}
 use Rattle.node_core.proofs.Ticking.{ticks_so_far}
 use Rattle.node_core.proofs.node.Node.time_passes.Given as goal
@@ -12,7 +12,6 @@ invariant-loop-i g l =
     let noted = g.W.Watch.noted in
     let short = g.W.Watch.is_short in
     record {
-      runs : IsSoundNode l.self;
       store : l.self.store ≡ l.fn.self.store;
       number : l.self.number ≡ l.fn.self.number;
       goes : (start : List Entry) (w : Work) → IsInStep l.fn.self (noted l.fn.watch) (short l.fn.watch) start w → AreFewDue w.ports

@@ -17,30 +17,33 @@ use Rattle.node_core.proofs.Relays.{relay_handles}
 use Rattle.node_core.proofs.node.Node.turn_decided.Goals as goal
 
 pub take_turn-requires-clause-decided : goal.take_turn-requires-clause-decided
-take_turn-requires-clause-decided g c = let r = c.requires.decided in (r.0, r.1, r.2, r.3)
+take_turn-requires-clause-decided g c = let r = c.requires.decided in (r.0, r.1, r.2, r.3.0)
 
 pub returns-in_default-clause-carried : goal.returns-in_default-clause-carried
-returns-in_default-clause-carried g c start w u d got = c.take_turn.ensures.carried start w u d
+returns-in_default-clause-carried g c start w u may = c.take_turn.ensures.carried start w u may.0
 
-pub relay-requires-clause-waits : goal.relay-requires-clause-waits
-relay-requires-clause-waits g c = let r = c.requires.decided in (r.0, r.1, r.2, r.4)
+pub relay-requires : goal.relay-requires
+relay-requires g c = let r = c.requires.decided in record { waits = (r.0, r.1, r.2, r.3.1) }
 
-pub let_go-requires-clause-few : goal.let_go-requires-clause-few
-let_go-requires-clause-few g c =
+pub let_go-requires : goal.let_go-requires
+let_go-requires g c =
     let r = c.requires.decided in
     let h = c.args.host in
     let m : Message = (c.args.pipe, c.args.message.now) in
     let on : c.relay.new.self.store.journal.live ≡ true =
     ap (λ (s : Stored g.row.N.Denot). s.journal.live) c.relay.ensures.store ∙ c.requires.live in
     let b = relay_handles g.N.Nv.writes {n2 = c.relay.new.self} h c.in-Some.to m r.2 c.requires.live c.relay.ensures.store
-    (c.relay.ensures.carried r.0 r.1 r.2 r.4) in (
-      b.after.ports,
-      b.stands.ends,
-      few_kept r.1.ports b.after.ports h (sym (quiet_after h m (Sends c.in-Some.to m ∷ []) b (b.stands.power ∙ ap not on))) r.3.few,
-    )
+    (c.relay.ensures.carried r.0 r.1 r.2 r.3.1) in record {
+      few = (
+        b.after.ports,
+        b.stands.ends,
+        few_kept r.1.ports b.after.ports h (sym (quiet_after h m (Sends c.in-Some.to m ∷ []) b (b.stands.power ∙ ap not on))) r.3.0.few,
+      );
+    }
 
 pub returns-clause-carried : goal.returns-clause-carried
-returns-clause-carried g c start w u d got =
+returns-clause-carried g c start w u may =
+    let d = may.0 in
     let h = c.args.host in
     let to = c.in-Some.to in
     let m : Message = (c.args.pipe, c.args.message.now) in
@@ -49,7 +52,7 @@ returns-clause-carried g c start w u d got =
     let on : c.relay.new.self.store.journal.live ≡ true =
     ap (λ (s : Stored g.row.N.Denot). s.journal.live) c.relay.ensures.store ∙ c.requires.live in
     let b = relay_handles g.N.Nv.writes {n2 = c.relay.new.self} h to m u c.requires.live c.relay.ensures.store
-    (c.relay.ensures.carried start w u got) in
+    (c.relay.ensures.carried start w u may.1) in
     let power = b.stands.power ∙ ap not on in
     let held = d.held_is ∙ sym (held_kept b.after.ports w.ports h (quiet_after h m only b power)) in
     let later = plainly g.N.Nv.writes {n2 = c.let_go.new.self} (lets_go h) b.stands on c.let_go.ensures.store

@@ -4,18 +4,21 @@ use Rattle.std.specs.Option.{option_map_or}
 use Rattle.node_machine.specs.Parts.{Port}
 use Rattle.node_ends.specs.declared.seat.Seat.{Seat}
 use Rattle.node_ends.proofs.Reading.{flag_is, is_there, is_none_there}
+use Rattle.node_ends.proofs.Opening.{opened}
 use Rattle.node_ends.proofs.ends.Ends.has_ended.Goals as goal
 
 pub returns-in-Some : goal.returns-in-Some
-returns-in-Some c ports e =
+returns-in-Some c ports stands =
+    let e = opened c.self.view_is stands in
     let l = c.in-Some.ensures.lookup in
     ap (λ (o : Option Seat). option_map_or (λ (s : Seat). s.ended) o false)
     (is_there c.deref.result.now c.args.i c.in-Some.seat.now l.3.0 l.3.1 ∙ ap (λ (l : List Seat). slice_get l c.args.i) c.deref.ensures.value)
-    ∙ flag_is c.args.self.now.pool (λ (s : Seat). s.ended) (λ (p : Port). p.ended) (λ s p g. g.ended) c.args.self.now.seats.items ports c.args.i e.each
+    ∙ flag_is c.self.inside.pool (λ (s : Seat). s.ended) (λ (p : Port). p.ended) (λ s p g. g.ended) c.self.inside.seats.items ports c.args.i e.each
 
 pub returns-in-None : goal.returns-in-None
-returns-in-None c ports e =
+returns-in-None c ports stands =
+    let e = opened c.self.view_is stands in
     let l = c.in-None.ensures.lookup in
     ap (λ (o : Option Seat). option_map_or (λ (s : Seat). s.ended) o false)
     (is_none_there c.deref.result.now c.args.i l.3 ∙ ap (λ (l : List Seat). slice_get l c.args.i) c.deref.ensures.value)
-    ∙ flag_is c.args.self.now.pool (λ (s : Seat). s.ended) (λ (p : Port). p.ended) (λ s p g. g.ended) c.args.self.now.seats.items ports c.args.i e.each
+    ∙ flag_is c.self.inside.pool (λ (s : Seat). s.ended) (λ (p : Port). p.ended) (λ s p g. g.ended) c.self.inside.seats.items ports c.args.i e.each

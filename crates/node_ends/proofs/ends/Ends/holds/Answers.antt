@@ -4,10 +4,12 @@ use Rattle.std.specs.Option.{option_map_or}
 use Rattle.node_machine.specs.Parts.{Port}
 use Rattle.node_ends.specs.Ends.{place_in}
 use Rattle.node_ends.proofs.Changing.{nowhere}
+use Rattle.node_ends.proofs.Opening.{opened}
 use Rattle.node_ends.proofs.ends.Ends.holds.Goals as goal
 
 pub returns-in_default : goal.returns-in_default
-returns-in_default c ports e =
+returns-in_default c ports stands =
+    let e = opened c.self.view_is stands in
     ap (λ (o : Option Port). option_map_or (λ (p : Port). p.desk.holds) o false)
     (sym (nowhere c.args.host (λ (p : Port). p) c.place_of.result (c.place_of.ensures.place ∙ ap (place_in c.args.host) c.as_slice.ensures.value)
     c.in_default.not-Some e).1)

@@ -9,3 +9,11 @@ returns c =
     let P : List Seat → Type 0 = λ l. AddsNew c.args.role c.args.hosts.now l c.add_seats.new.seats.items in
     new_ends c.in_ok-pool.pool c.args.role c.args.hosts.now c.add_seats.new.seats.items c.in_ok-pool.ensures c.requires.few c.requires.different
     (subst P c.in_ok-seats.ensures.items c.in_ok-add_seats.ensures)
+
+pub invariant_of-result : goal.invariant_of-result
+invariant_of-result c =
+    let made =
+    let P : List Seat → Type 0 = λ l. AddsNew c.args.role c.args.hosts.now l c.add_seats.new.seats.items in
+    new_ends c.in_ok-pool.pool c.args.role c.args.hosts.now c.add_seats.new.seats.items c.in_ok-pool.ensures c.requires.few c.requires.different
+    (subst P c.in_ok-seats.ensures.items c.in_ok-add_seats.ensures) in
+    (_, made)

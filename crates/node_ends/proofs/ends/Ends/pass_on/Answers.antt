@@ -1,49 +1,62 @@
 use Rattle.std.proofs.Common.{rules, ◌≡◌, ◌++◌, length, take, drop, List, refl, sym, ap, ◌∙◌, subst}
 use Rattle.std.proofs.Math.Seq.{take-append_seam}
-use Rattle.link_laws.specs.machine.Machine.{Message}
 use Rattle.link_laws.specs.machine.Machine.Turn.{Give, FetchMessage}
 use Rattle.node_machine.specs.Parts.{Port}
-use Rattle.node_machine.specs.Carrying.{port_at, with_port, after_turn}
+use Rattle.node_machine.specs.Carrying.{with_port, after_turn}
 use Rattle.node_ends.specs.declared.seat.Seat.{Seat}
-use Rattle.node_ends.specs.Ends.{AreEnds, got_at, takes_at, place_in}
+use Rattle.node_ends.specs.Ends.{AreEnds, takes_at, place_in}
 use Rattle.node_ends.proofs.Changing.{nowhere}
 use Rattle.node_ends.proofs.PassingOn.{none_there, none_after}
 use Rattle.node_ends.proofs.Relaying.{none_came}
+use Rattle.node_ends.proofs.Opening.{opened, lent, written}
 use Rattle.node_ends.proofs.ends.Ends.pass_on.Goals as goal
 
 pub returns-in_default-clause-stands : goal.returns-in_default-clause-stands
-returns-in_default-clause-stands c ports m e got =
+returns-in_default-clause-stands c ports m stands got =
+    let e = opened c.self.view_is stands in
     let n = nowhere c.args.from (after_turn FetchMessage) c.place_of.result (c.place_of.ensures.place ∙ ap (place_in c.args.from) c.as_slice.ensures.value)
     c.in_default.not-Some e in
     absurd (none_came ports c.args.from m n.1 got)
 
 pub returns-in_default-clause-answer : goal.returns-in_default-clause-answer
-returns-in_default-clause-answer c ports m e got =
+returns-in_default-clause-answer c ports m stands got =
+    let e = opened c.self.view_is stands in
     let n = nowhere c.args.from (after_turn FetchMessage) c.place_of.result (c.place_of.ensures.place ∙ ap (place_in c.args.from) c.as_slice.ensures.value)
     c.in_default.not-Some e in
     absurd (none_came ports c.args.from m n.1 got)
 
 pub returns-in_default-place_of-clause-stands : goal.returns-in_default-place_of-clause-stands
-returns-in_default-place_of-clause-stands c ports m e got =
+returns-in_default-place_of-clause-stands c ports m stands got =
+    let e = opened c.self.view_is stands in
     let n = nowhere c.args.to (after_turn (Give m)) c.place_of-2.result
     (c.place_of-2.ensures.place ∙ ap (place_in c.args.to) c.as_slice-2.ensures.value) c.in_default-place_of.not-Some e in
-    let P : List Port → Type 0 = λ l. AreEnds c.give_back.new.self.pool c.give_back.new.self.seats.items l in
+    let P : List Port → Type 0 = λ l. AreEnds c.give_back.new.self.pool c.give_back.new.self.seats l in
     let after = none_after c.args.to c.args.from (after_turn FetchMessage) (λ p. refl) ports n.1 in
     subst P (sym (none_there c.args.to (after_turn (Give m)) (with_port c.args.from (after_turn FetchMessage) ports) after))
-    (c.give_back.ensures ports e)
+    (c.give_back.ensures ports stands)
 
 pub returns-in_default-place_of-clause-answer : goal.returns-in_default-place_of-clause-answer
-returns-in_default-place_of-clause-answer c ports m e got =
+returns-in_default-place_of-clause-answer c ports m stands got =
+    let e = opened c.self.view_is stands in
     let n = nowhere c.args.to (after_turn (Give m)) c.place_of-2.result
     (c.place_of-2.ensures.place ∙ ap (place_in c.args.to) c.as_slice-2.ensures.value) c.in_default-place_of.not-Some e in
     ap (takes_at m) (sym (none_after c.args.to c.args.from (after_turn FetchMessage) (λ p. refl) ports n.1))
 
 pub returns-clause-stands : goal.returns-clause-stands
-returns-clause-stands c ports m e got =
-    let E : List Seat → Type 0 = λ l. AreEnds c.args.self.now.pool l ports in
+returns-clause-stands c ports m stands got =
+    let e = opened c.self.view_is stands in
+    let E : List Seat → Type 0 = λ l. AreEnds c.self.inside.pool l ports in
     let r = c.pass_at.ensures.stands ports m (subst E (sym c.deref_mut.ensures.value) e) got in
-    let len : c.args.self.now.seats.len ≡ length c.pass_at.new.seats = search rules in
+    let len : c.self.inside.seats.len ≡ length c.pass_at.new.seats = search rules in
     let Q : List Seat → Type 0 = λ l. AreEnds c.pass_at.new.pool l
     (with_port c.args.to (after_turn (Give m)) (with_port c.args.from (after_turn FetchMessage) ports)) in
-    let rest : List Seat = drop (length c.pass_at.new.seats) c.args.self.now.seats.items in
+    let rest : List Seat = drop (length c.pass_at.new.seats) c.self.inside.seats.items in
     subst Q (sym (ap (λ n. take n (c.pass_at.new.seats ++ rest)) len ∙ take-append_seam c.pass_at.new.seats rest)) r
+
+pub invariant_of-self : goal.invariant_of-self
+invariant_of-self c =
+    let w = c.requires in (
+      _,
+      written _ (search rules)
+          (c.pass_at.ensures.stands w.0 w.1 (lent c.deref_mut.ensures.value (opened c.self.view_is w.2)) w.3),
+    )
