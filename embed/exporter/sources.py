@@ -160,7 +160,7 @@ class Writer:
                 end = closing(tokens, at + 1, self.name) + 1
                 written = self.attribute(item, tokens[at:end])
                 end += not written and end < len(tokens) and tokens[end].kind == SPACE
-            elif tokens[at].text == "ghost":
+            elif is_ghost_field(tokens, at):
                 end = closing(tokens, place_of_brace(tokens, at, self.name), self.name) + 1
                 end += end < len(tokens) and tokens[end].text == ","
                 written = commented(text_of(tokens[at:end]), "    ")
@@ -241,6 +241,12 @@ def split_inner(lead):
         else:
             break
     return lead[:end], lead[end:]
+
+
+def is_ghost_field(tokens, at):
+    """Whether a ghost field begins here, public or not."""
+    words = [token.text for token in tokens[at : at + 3]]
+    return words[:1] == ["ghost"] or words[::2] == ["pub", "ghost"]
 
 
 def place_of_brace(tokens, at, name):

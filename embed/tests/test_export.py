@@ -55,6 +55,8 @@ class Small(unittest.TestCase):
         self.assertEqual(text, wanted)
 
     def test_models_and_ghost_fields_are_comments(self):
+        text = written("struct P {\n    pub a: u8,\n    pub ghost few: { a < 3 },\n}\n")
+        self.assertEqual(text, "struct P {\n    pub a: u8,\n    // pub ghost few: { a < 3 },\n}\n")
         text = written("struct S {\n    a: u8,\n    ghost few: { a < 3 },\n}\n\nimpl Model for S {\n    ghost view = { λ s. s.a };\n}\n")
         self.assertEqual(text, "struct S {\n    a: u8,\n    // ghost few: { a < 3 },\n}\n\n// In contracts: impl Model for S\n// ghost view = { λ s. s.a };\n")
 
