@@ -4,7 +4,7 @@ use Rattle.std.specs.Prelude.{is_some, option_to_list, nat_lt, ◌||◌}
 use Rattle.std.specs.List.{list_any}
 use Rattle.std.proofs.lemmas.Bool.{or_parts}
 use Rattle.swp_base.specs.declared.control_frames.Control.{Control}
-use Rattle.swp_base.specs.declared.control_frames.Control.TheVariants.{I, S, Rset, Ua, Act, Clt}
+use Rattle.swp_base.specs.declared.control_frames.Control.TheVariants.{Act}
 use Rattle.swp_act.specs.declared.ActEvent.{ActEvent}
 use Rattle.swp_act.specs.declared.ActEvent.TheVariants.{Start as ActStart, Stop as ActStop}
 use Rattle.shdlc_core.specs.Machine.{stopped}
@@ -15,7 +15,7 @@ use Rattle.link_laws.specs.machine.Machine.{Message, LinkEnd, Refused, LinkInput
 use Rattle.link_laws.specs.machine.Machine.{window_of}
 use Rattle.link_laws.specs.machine.Machine.{after_input, got_by, frames_out, whole_acked, is_open, ended_by, moved, activated, started, deactivated}
 use Rattle.link_laws.specs.machine.Machine.LinkInput.{Take, Reset, Start, Stop}
-use Rattle.link_laws.specs.machine.Machine.Turn.{Give, Hold, FetchMessage, SetAside, Release}
+use Rattle.link_laws.specs.machine.Machine.Turn.{Give}
 use Rattle.link_laws.specs.messages.Links.{NumberedEnd, Link, Ending, Comes, Loss, EndEvent, number_of, put, with_ended, silent, AreSendableTurns}
 use Rattle.link_laws.specs.messages.Links.{IsAllowed, IsOwn}
 use Rattle.link_laws.specs.messages.Links.Ending.{GoesOut, CutOff}
@@ -26,15 +26,16 @@ use Rattle.link_laws.specs.messages.Projection.{core_of, core_turns, core_step, 
 use Rattle.link_laws.proofs.messages.ActsInOrder.{LinkInOrder, IsPolite, polite_of}
 use Rattle.link_laws.proofs.messages.Project.{Tells}
 use Rattle.link_laws.proofs.messages.Steps.{Rests, ComesFirst, FromHost, core_first}
-use Rattle.link_laws.specs.entries.Entries.{End, Entry, far, if_so, told, told_of, turn_entry, turn_entries, sent_unless, first_lost, pushed_out, wire_with}
+use Rattle.link_laws.specs.entries.Entries.{End, Entry, far, if_so, told, told_of, turn_entry, turn_entries, first_lost, pushed_out, wire_with}
 use Rattle.link_laws.specs.entries.Entries.{put_entries, puts_entries, rest_entries, taken_entries, restart_entries, step_entries, here_entries}
 use Rattle.link_laws.specs.entries.Entries.{aged_entries, left_after}
-use Rattle.link_laws.specs.entries.Entries.Entry.{Up, Down, Active, GaveUp, Acked, Got, Sent, Emit, Took, Lost, Tick, Restarted, Cut}
+use Rattle.link_laws.specs.entries.Entries.Entry.{Up, Down, Active, GaveUp, Acked, Got, Emit, Lost, Cut}
 use Rattle.tap_reading.specs.Tap.{TapReport, reports_to}
 use Rattle.world_laws.specs.fragments.Emitted.{emitted_turns, got_turns, frames_by, AllKeepPower}
 use Rattle.world_laws.specs.entries.Hearing.{is_clf, frames_heard, gots_noted, is_cut}
 use Rattle.world_laws.proofs.entries.Reading.{AreWritten}
 use Rattle.world_laws.proofs.entries.Sending.{numbered, got_now, Sends, take_sends, idle_sends, reset_sends, restart_sends}
+use Rattle.node_laws.proofs.Cases.{by_list, by_option, by_test}
 
 -- ## Entries
 
@@ -46,34 +47,12 @@ pub record Notes (t : List Entry) (fs : List (Bool × Control)) (rs : List TapRe
 frames-append : (t u : List Entry) → frames_heard (t ++ u) ≡ frames_heard t ++ frames_heard u
 frames-append [] u = refl
 frames-append (Emit who c ∷ t) u = ap (λ z. (is_clf who, c) ∷ z) (frames-append t u)
-frames-append (Up _ _ ∷ t) u = frames-append t u
-frames-append (Down _ _ ∷ t) u = frames-append t u
-frames-append (Active _ ∷ t) u = frames-append t u
-frames-append (GaveUp _ _ ∷ t) u = frames-append t u
-frames-append (Acked _ _ _ ∷ t) u = frames-append t u
-frames-append (Got _ _ _ ∷ t) u = frames-append t u
-frames-append (Sent _ _ _ ∷ t) u = frames-append t u
-frames-append (Took _ _ ∷ t) u = frames-append t u
-frames-append (Lost _ _ _ ∷ t) u = frames-append t u
-frames-append (Tick ∷ t) u = frames-append t u
-frames-append (Restarted _ ∷ t) u = frames-append t u
-frames-append (Cut _ ∷ t) u = frames-append t u
+frames-append (_ ∷ t) u = frames-append t u
 
 gots-append : (t u : List Entry) → gots_noted (t ++ u) ≡ gots_noted t ++ gots_noted u
 gots-append [] u = refl
 gots-append (Got who n m ∷ t) u = ap (λ z. record { to_clf = is_clf who; session = n; pipe = m.0; body = m.1 } ∷ z) (gots-append t u)
-gots-append (Up _ _ ∷ t) u = gots-append t u
-gots-append (Down _ _ ∷ t) u = gots-append t u
-gots-append (Active _ ∷ t) u = gots-append t u
-gots-append (GaveUp _ _ ∷ t) u = gots-append t u
-gots-append (Acked _ _ _ ∷ t) u = gots-append t u
-gots-append (Emit _ _ ∷ t) u = gots-append t u
-gots-append (Sent _ _ _ ∷ t) u = gots-append t u
-gots-append (Took _ _ ∷ t) u = gots-append t u
-gots-append (Lost _ _ _ ∷ t) u = gots-append t u
-gots-append (Tick ∷ t) u = gots-append t u
-gots-append (Restarted _ ∷ t) u = gots-append t u
-gots-append (Cut _ ∷ t) u = gots-append t u
+gots-append (_ ∷ t) u = gots-append t u
 
 pub notes_then : (t u : List Entry) (fs gs : List (Bool × Control)) (rs ss : List TapReport) → Notes t fs rs → Notes u gs ss
     → Notes (t ++ u) (fs ++ gs) (rs ++ ss)
@@ -120,15 +99,8 @@ notes_told who n r acked =
     (notes_then a g [] [] [] rs (silent_so (nat_lt 0 r.acked) (Acked who n acked) (record { frames = refl; gots = refl })) (notes_got who n r.got)))))
 
 notes_turn : (who : End) (n : ℕ) (e : LinkEnd) (t : Turn) → Silent (turn_entry who n e t)
-notes_turn who n e (Hold held) = silent_none
-notes_turn who n e FetchMessage = silent_none
-notes_turn who n e SetAside = silent_none
-notes_turn who n e Release = silent_none
-notes_turn who n e (Give m) = by (give_refusal e m)
-  where
-    by : (o : Option Refused) → Silent (sent_unless o who n m)
-    by None = record { frames = refl; gots = refl }
-    by (Some why) = silent_none
+notes_turn who n e (Give m) = by_option (give_refusal e m) (λ q. rw q (record { frames = refl; gots = refl })) (λ why q. rw q silent_none)
+notes_turn who n e _ = silent_none
 
 notes_turns : (who : End) (n : ℕ) (e : LinkEnd) (ts : List Turn) → Silent (turn_entries who n e ts)
 notes_turns who n e [] = silent_none
@@ -140,11 +112,7 @@ silent_first who why [] = silent_none
 silent_first who why (x ∷ xs) = record { frames = refl; gots = refl }
 
 silent_pushed : (who : End) (w : List OnWire) → Silent (pushed_out who w)
-silent_pushed who w = by (nat_lt 64 (length w))
-  where
-    by : (b : Bool) → Silent (cond b (first_lost who TooMany w) [])
-    by true = silent_first who TooMany w
-    by false = silent_none
+silent_pushed who w = by_test (nat_lt 64 (length w)) (λ q. rw q (silent_first who TooMany w)) (λ q. rw q silent_none)
 
 pub silent_aged : (who : End) (w : List OnWire) → Silent (aged_entries who w)
 silent_aged who [] = silent_none
@@ -185,12 +153,7 @@ NoCut t = list_any is_cut t ≡ false
 
 any-append : (t u : List Entry) → list_any is_cut (t ++ u) ≡ (list_any is_cut t || list_any is_cut u)
 any-append [] u = refl
-any-append (e ∷ t) u = go (is_cut e) (any-append t u)
-  where
-    go : (b : Bool) → list_any is_cut (t ++ u) ≡ (list_any is_cut t || list_any is_cut u)
-        → (b || list_any is_cut (t ++ u)) ≡ ((b || list_any is_cut t) || list_any is_cut u)
-    go true q = refl
-    go false q = q
+any-append (e ∷ t) u = by_test (is_cut e) (λ q. rw q refl) (λ q. rw q (any-append t u))
 
 pub no_cut_parts : (t u : List Entry) → NoCut (t ++ u) → NoCut t × NoCut u
 no_cut_parts t u q = let p = or_parts (list_any is_cut t) (list_any is_cut u) (sym (any-append t u) ∙ q) in (p.0, p.1)
@@ -235,21 +198,21 @@ take_power e c ts = go c (is_open e.role) refl
   where
     go : (c : Control) (b : Bool) → is_open e.role ≡ b → AllKeepPower (core_take e c ts)
     go (Act _ _) b q = (tt, (tt, tt))
-    go (I _ _ _) true q = rw q (tt, tt)
-    go (I _ _ _) false q = rw q (tt, tt)
-    go (S _ _) true q = rw q (tt, tt)
-    go (S _ _) false q = rw q (tt, tt)
-    go (Rset _ _) true q = rw q (tt, tt)
-    go (Rset _ _) false q = rw q (tt, tt)
-    go Ua true q = rw q (tt, tt)
-    go Ua false q = rw q (tt, tt)
-    go Clt true q = rw q (tt, tt)
-    go Clt false q = rw q (tt, tt)
+    go _ true q = rw q (tt, tt)
+    go _ false q = rw q (tt, tt)
 
 -- a reset
 reset_notes : (who : End) (l : Link) (window : Option ℕ) (ts : List Turn) → AreSendableTurns ts → Tells l.controller
     → StepNotes who l (core_step l (AsksReset window) ts GoesOut) (step_entries who l (AsksReset window) ts GoesOut)
-reset_notes who l window ts a h = go (reset_refusal e) refl
+reset_notes who l window ts a h = by_option (reset_refusal e)
+    (λ q. let is : after_input e (Reset window) ≡ reset_by e w = rw q refl in
+    let fs : List CoreEndEvent = CoreReset w (core_turns (reset_by e w) ts) ∷ [] in
+    notes_same who l es fs t t (core_is None q) refl
+    (noted who l fs t (frames_out (turned (reset_by e w) ts)) [] (reset_sends l w ts a h q) (notes (reset_by e w) is) (tt, tt)))
+    (λ why q. let is : after_input e (Reset window) ≡ e = rw q refl in
+    let fs : List CoreEndEvent = CoreTurns (core_turns e ts) ∷ [] in
+    notes_same who l es fs t t (core_is (Some why) q) refl
+    (noted who l fs t (frames_out (turned e ts)) [] (idle_sends l ts a h) (notes e is) (tt, tt)))
   where
     e : LinkEnd
     e = l.controller.side
@@ -270,18 +233,6 @@ reset_notes who l window ts a h = go (reset_refusal e) refl
     notes f q =
         let n = notes_input who l.controller (Reset window) (with_ended l (is_some (ended_by e (Reset window)))) (after_input e (Reset window)) ts in
         record { frames = n.frames ∙ ap (λ g. frames_by (is_clf who) (frames_out (turned g ts))) q; gots = n.gots }
-
-    go : (o : Option Refused) → reset_refusal e ≡ o → StepNotes who l es t
-    go None q =
-        let is : after_input e (Reset window) ≡ reset_by e w = rw q refl in
-        let fs : List CoreEndEvent = CoreReset w (core_turns (reset_by e w) ts) ∷ [] in
-        notes_same who l es fs t t (core_is None q) refl
-        (noted who l fs t (frames_out (turned (reset_by e w) ts)) [] (reset_sends l w ts a h q) (notes (reset_by e w) is) (tt, tt))
-    go (Some why) q =
-        let is : after_input e (Reset window) ≡ e = rw q refl in
-        let fs : List CoreEndEvent = CoreTurns (core_turns e ts) ∷ [] in
-        notes_same who l es fs t t (core_is (Some why) q) refl
-        (noted who l fs t (frames_out (turned e ts)) [] (idle_sends l ts a h) (notes e is) (tt, tt))
 
 -- activation begins or ends
 restart_notes : (who : End) (l : Link) (i : LinkInput) (event : ActEvent) (ts : List Turn) → AreSendableTurns ts → Tells l.controller
@@ -332,7 +283,11 @@ own_notes who l NoInput ts CutOff o a h q = absurd (cut_noted who l l.controller
 -- a step that takes a frame
 frame_notes : (who : End) (l : Link) (ts : List Turn) (ending : Ending) → AreSendableTurns ts → Ready l → NoCut (step_entries who l NextFrame ts ending)
     → StepNotes who l (core_step l NextFrame ts ending) (step_entries who l NextFrame ts ending)
-frame_notes who l ts ending a b q = go l.to_controller refl
+frame_notes who l ts ending a b q = by_list l.to_controller
+    (λ w. notes_same who l es [] t [] (none_core w) (none_entries w) (record { notes = record { frames = refl; gots = refl }; power = tt; written = tt }))
+    (λ x xs w. let P : List Entry → Type 0 = λ z. NoCut z in
+    notes_same who l es (core_take e x.frame ts ++ core_ending ending) t (taken_entries who l x xs ts ending) (some_core x xs w) (some_entries x xs w)
+    (by x xs w ending (subst P (some_entries x xs w) q)))
   where
     e : LinkEnd
     e = l.controller.side
@@ -380,14 +335,6 @@ frame_notes who l ts ending a b q = go l.to_controller refl
         notes_same who l (core_take e x.frame ts ++ []) (core_take e x.frame ts) u u (append-nil (core_take e x.frame ts)) refl
         (noted who l (core_take e x.frame ts) u (frames_out (turned f ts)) (got_now l x) (take_sends l ts x xs a comes)
         (record { frames = is.frames; gots = is.gots }) (take_power e x.frame ts))
-
-    go : (w : List OnWire) → l.to_controller ≡ w → StepNotes who l es t
-    go [] w =
-        notes_same who l es [] t [] (none_core w) (none_entries w) (record { notes = record { frames = refl; gots = refl }; power = tt; written = tt })
-    go (x ∷ xs) w =
-        let P : List Entry → Type 0 = λ z. NoCut z in
-        notes_same who l es (core_take e x.frame ts ++ core_ending ending) t (taken_entries who l x xs ts ending) (some_core x xs w) (some_entries x xs w)
-        (by x xs w ending (subst P (some_entries x xs w) q))
 
 -- whatever happens at the controller's end
 pub here_notes : (who : End) (l : Link) (e : EndEvent) → IsAllowed l e → Ready l → NoCut (here_entries who l e)

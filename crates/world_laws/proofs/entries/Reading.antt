@@ -7,11 +7,11 @@ use Rattle.std.proofs.lemmas.Bool.{le-leb, le-ltb}
 use Rattle.std.proofs.lemmas.List.{length-take}
 use Rattle.swp_base.specs.declared.control_frames.Kind.TheVariants.{Rr, Rej, Rnr, Srej}
 use Rattle.swp_base.specs.declared.control_frames.Control.{Control}
-use Rattle.swp_base.specs.declared.control_frames.Control.TheVariants.{I, S, Rset, Ua, Act, Clt}
+use Rattle.swp_base.specs.declared.control_frames.Control.TheVariants.{I, S, Act}
 use Rattle.swp_base.specs.declared.control_frames.Act.{Act as Activation}
 use Rattle.swp_base.specs.declared.control_frames.Act.TheVariants.{Ready, SyncId, PowerMode}
 use Rattle.shdlc_core.specs.declared.answers.Due.{Due}
-use Rattle.shdlc_core.specs.declared.answers.Due.TheVariants.{Rr as Rr_due, Rej as Rej_due, Rnr as Rnr_due, Rset as Rset_due, Ua as Ua_due}
+use Rattle.shdlc_core.specs.declared.answers.Due.TheVariants.{Rset as Rset_due, Ua as Ua_due}
 use Rattle.shdlc_core.specs.Machine.{EndState, Fragment, fetched, frame_due, control_due, frames_of, most_frames, expected}
 use Rattle.shdlc_core.proofs.Histories.{fragment_due-within}
 use Rattle.link_laws.proofs.places.Joined.{fetch_cases}
@@ -21,6 +21,7 @@ use Rattle.link_laws.specs.machine.Machine.{LinkEnd, Message, among, frames_out}
 use Rattle.link_laws.proofs.messages.Project.{Mid, due_now, frames_now, among_now}
 use Rattle.tap_reading.specs.Lpdus.{frames_read}
 use Rattle.world_laws.specs.fragments.Emitted.{frames_by}
+use Rattle.node_laws.proofs.Cases.{by_option}
 
 -- numbers below 8, and from 1 to 29 bytes in an I frame
 abbrev pub IsWritten : Control → Type 0
@@ -54,9 +55,6 @@ read_again (S Rr nr) w = eight (λ n. control_of (lpdu_of (S Rr n)) ≡ Ok (S Rr
 read_again (S Rej nr) w = eight (λ n. control_of (lpdu_of (S Rej n)) ≡ Ok (S Rej n)) refl refl refl refl refl refl refl refl nr w
 read_again (S Rnr nr) w = eight (λ n. control_of (lpdu_of (S Rnr n)) ≡ Ok (S Rnr n)) refl refl refl refl refl refl refl refl nr w
 read_again (S Srej nr) w = eight (λ n. control_of (lpdu_of (S Srej n)) ≡ Ok (S Srej n)) refl refl refl refl refl refl refl refl nr w
-read_again (Rset window caps) w = refl
-read_again Ua w = refl
-read_again Clt w = refl
 read_again (Act Ready true) w = refl
 read_again (Act Ready false) w = refl
 read_again (Act (PowerMode power) true) w = refl
@@ -73,6 +71,7 @@ read_again (I ns nr info) w =
     let first : (b - 0x80) / 8 ≡ ns = omega (arith, w.1) in
     let second : (b - 0x80) % 8 ≡ nr = omega (arith, w.1) in
     rw (row, short, long, first, second) refl
+read_again _ w = refl
 
 -- ## The frames of an end
 
@@ -104,11 +103,9 @@ short_at (y ∷ xs) zero x a q = let e : y ≡ x = (let z : Some y ≡ Some x = 
 short_at (y ∷ xs) (suc i) x a q = short_at xs i x a.1 q
 
 control_written : (e : EndState) (d : Due) → IsWritten (control_due e d)
-control_written e Rr_due = omega arith
-control_written e Rej_due = omega arith
-control_written e Rnr_due = omega arith
 control_written e Rset_due = tt
 control_written e Ua_due = tt
+control_written e _ = omega arith
 
 record Next (e : EndState) (c : Control) : Type 0 where
   written : IsWritten c
@@ -130,11 +127,9 @@ next_written e c a is =
 
 frames_written : (n : ℕ) (e : EndState) → AreShort e.session.out → AreWritten (frames_of n e)
 frames_written zero e a = tt
-frames_written (suc n) e a = go (frame_due e) refl (frames_written n (fetched e))
-  where
-    go : (o : Option Control) → frame_due e ≡ o → (AreShort (fetched e).session.out → AreWritten (frames_of n (fetched e))) → AreWritten (frames_of (suc n) e)
-    go None q later = rw q tt
-    go (Some c) q later = let h = next_written e c a q in rw q (h.written, later h.short)
+frames_written (suc n) e a = by_option (frame_due e)
+    (λ q. rw q tt)
+    (λ c q. let h = next_written e c a q in rw q (h.written, frames_written n (fetched e) h.short))
 
 acts_written : (o : Option Activation) → AreWritten (frames_now o)
 acts_written None = tt

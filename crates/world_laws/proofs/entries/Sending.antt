@@ -39,6 +39,7 @@ use Rattle.link_laws.proofs.messages.Finishing.{reset_tells, reset_keeps, restar
 use Rattle.world_laws.specs.fragments.Emitted.{sent_then, emitted_here, brought_by, got_with, got_here, emitted_turns, got_turns}
 use Rattle.world_laws.proofs.entries.Reading.{AreWritten, out_is, out_written}
 use Rattle.world_laws.proofs.fragments.Taking.{Accepted, takes_data, accepts_none}
+use Rattle.node_laws.proofs.Cases.{by_test}
 
 -- ## What comes with a frame
 
@@ -74,31 +75,13 @@ handshake e c d = go e.phase refl c d
   where
     go : (p : LinkState) → e.phase ≡ p → (c : Control) → (IsData c → ⊥)
         → (((taken e c).session.acc ≡ e.session.acc) ⊎ ((taken e c).session.acc ≡ [])) × ((take_answer e c).accepted ≡ None)
-    go p q (I _ _ _) d = absurd (d tt)
-    go p q (S _ _) d = absurd (d tt)
-    go p q (Act _ _) d = absurd (d tt)
-    go p q Clt d = absurd (d tt)
     go IsUpNow q Ua d = (inl (rw q refl), rw q refl)
     go IsDown q Ua d = (inl (rw q refl), rw q refl)
     go IsWaitingNow q Ua d = (inr (rw q refl), rw q refl)
-    go IsUpNow q (Rset w c) d = by (w == 0) refl
-      where
-        by : (b : Bool) → (w == 0) ≡ b
-            → (((taken e (Rset w c)).session.acc ≡ e.session.acc) ⊎ ((taken e (Rset w c)).session.acc ≡ [])) × ((take_answer e (Rset w c)).accepted ≡ None)
-        by true z = (inl (rw (q, z) refl), rw (q, z) refl)
-        by false z = (inr (rw (q, z) refl), rw (q, z) refl)
-    go IsDown q (Rset w c) d = by (w == 0) refl
-      where
-        by : (b : Bool) → (w == 0) ≡ b
-            → (((taken e (Rset w c)).session.acc ≡ e.session.acc) ⊎ ((taken e (Rset w c)).session.acc ≡ [])) × ((take_answer e (Rset w c)).accepted ≡ None)
-        by true z = (inl (rw (q, z) refl), rw (q, z) refl)
-        by false z = (inr (rw (q, z) refl), rw (q, z) refl)
-    go IsWaitingNow q (Rset w c) d = by (w == 0) refl
-      where
-        by : (b : Bool) → (w == 0) ≡ b
-            → (((taken e (Rset w c)).session.acc ≡ e.session.acc) ⊎ ((taken e (Rset w c)).session.acc ≡ [])) × ((take_answer e (Rset w c)).accepted ≡ None)
-        by true z = (inl (rw (q, z) refl), rw q refl)
-        by false z = (inl (rw (q, z) refl), rw q refl)
+    go IsUpNow q (Rset w c) d = by_test (w == 0) (λ z. (inl (rw (q, z) refl), rw (q, z) refl)) (λ z. (inr (rw (q, z) refl), rw (q, z) refl))
+    go IsDown q (Rset w c) d = by_test (w == 0) (λ z. (inl (rw (q, z) refl), rw (q, z) refl)) (λ z. (inr (rw (q, z) refl), rw (q, z) refl))
+    go IsWaitingNow q (Rset w c) d = by_test (w == 0) (λ z. (inl (rw (q, z) refl), rw q refl)) (λ z. (inl (rw (q, z) refl), rw q refl))
+    go p q _ d = absurd (d tt)
 
 -- the news of a frame that can be joined is what the fragment brings that is accepted
 pub news_is : (e : EndState) (c : Control) → is_faulty (taken e c).session ≡ false
@@ -190,19 +173,11 @@ take_sends l ts x xs a comes = go x.frame refl
 
     take_open : (y : Control) → is_act y ≡ false → is_open e.role ≡ true → core_take e y ts ≡ CoreDeliver (core_turns (took e y) ts) ∷ []
     take_open (Act _ _) q o = absurd (true≢false q)
-    take_open (I _ _ _) q o = rw o refl
-    take_open (S _ _) q o = rw o refl
-    take_open (Rset _ _) q o = rw o refl
-    take_open Ua q o = rw o refl
-    take_open Clt q o = rw o refl
+    take_open _ q o = rw o refl
 
     take_closed : (y : Control) → is_act y ≡ false → is_open e.role ≡ false → core_take e y ts ≡ CoreIgnore (core_turns (took e y) ts) ∷ []
     take_closed (Act _ _) q o = absurd (true≢false q)
-    take_closed (I _ _ _) q o = rw o refl
-    take_closed (S _ _) q o = rw o refl
-    take_closed (Rset _ _) q o = rw o refl
-    take_closed Ua q o = rw o refl
-    take_closed Clt q o = rw o refl
+    take_closed _ q o = rw o refl
 
     -- an end that is open became f, and got these messages
     open_as : (f : LinkEnd) (b : Bool) → is_act x.frame ≡ false → is_open e.role ≡ true → took e x.frame ≡ f → Heard e f x b
@@ -241,19 +216,13 @@ take_sends l ts x xs a comes = go x.frame refl
     got_open : (y : Control) → is_shdlc y ≡ true → is_open e.role ≡ true → is_faulty (taken e.shdlc y).session ≡ false
         → got_by e (Take y) ≡ news e.shdlc.session (taken e.shdlc y)
     got_open (Act _ _) q o f = absurd (true≢false (sym q))
-    got_open (I _ _ _) q o f = rw (o, f) refl
-    got_open (S _ _) q o f = rw (o, f) refl
-    got_open (Rset _ _) q o f = rw (o, f) refl
-    got_open Ua q o f = rw (o, f) refl
     got_open Clt q o f = absurd (true≢false (sym q))
+    got_open _ q o f = rw (o, f) refl
 
     got_closed : (y : Control) → is_open e.role ≡ false → got_by e (Take y) ≡ []
     got_closed (Act _ _) o = refl
-    got_closed (I _ _ _) o = rw o refl
-    got_closed (S _ _) o = rw o refl
-    got_closed (Rset _ _) o = rw o refl
-    got_closed Ua o = rw o refl
     got_closed Clt o = refl
+    got_closed _ o = rw o refl
 
     n : ℕ
     n = number_of (record l.controller { took = took_with l.controller.took x })
@@ -268,11 +237,7 @@ take_sends l ts x xs a comes = go x.frame refl
     numbers (Rset w z) q acc =
         let none : (take_answer e.shdlc x.frame).accepted ≡ None = ap (λ y. (take_answer e.shdlc y).accepted) q ∙ (handshake e.shdlc (Rset w z) (λ d. d)).1 in
         ap (got_with (core_number_of c.controller) acc) none ∙ sym (ap (got_with n acc) none)
-    numbers (I _ _ _) q acc = plain acc (ap is_rset q)
-    numbers (S _ _) q acc = plain acc (ap is_rset q)
-    numbers Ua q acc = plain acc (ap is_rset q)
-    numbers (Act _ _) q acc = plain acc (ap is_rset q)
-    numbers Clt q acc = plain acc (ap is_rset q)
+    numbers _ q acc = plain acc (ap is_rset q)
 
     shdlc : (b : Bool) → is_open e.role ≡ b → is_shdlc x.frame ≡ true → is_act x.frame ≡ false → Goal
     shdlc true o s q =
@@ -290,17 +255,7 @@ take_sends l ts x xs a comes = go x.frame refl
       where
         by : (p : LinkState) → s.phase ≡ p → (take_answer s Clt).accepted ≡ None
         by IsUpNow p = rw p refl
-        by IsWaitingNow p = rw p refl
-        by IsDown p = rw p refl
-
-    counts : (b : Bool) → is_open e.role ≡ b → x.frame ≡ Clt → Goal
-    counts true o q =
-        open_as (record e { passed_over = e.passed_over + 1 }) false (ap is_act q) o (ap (took e) q) (counted_is e x comes.tells.now q)
-        (ap (got_with (core_number_of c.controller) e.shdlc.session.acc) (ap (λ y. (take_answer e.shdlc y).accepted) q ∙ clt_none e.shdlc)
-        ∙ ap (λ y. numbered n (got_by e (Take y))) (sym q))
-    counts false o q =
-        closed_as (record e { passed_over = e.passed_over + 1 }) (ap is_act q) o (ap (took e) q) refl
-        (mid_counted None e (e.passed_over + 1) comes.tells.now) (ap (λ y. numbered n (got_by e (Take y))) (sym q))
+        by _ p = rw p refl
 
     -- a frame of activation
     acts : (act : Activation) (again : Bool) → x.frame ≡ Act act again → Goal
@@ -331,11 +286,13 @@ take_sends l ts x xs a comes = go x.frame refl
 
     go : (y : Control) → x.frame ≡ y → Goal
     go (Act act again) q = acts act again q
-    go (I _ _ _) q = shdlc (is_open e.role) refl (ap is_shdlc q) (ap is_act q)
-    go (S _ _) q = shdlc (is_open e.role) refl (ap is_shdlc q) (ap is_act q)
-    go (Rset _ _) q = shdlc (is_open e.role) refl (ap is_shdlc q) (ap is_act q)
-    go Ua q = shdlc (is_open e.role) refl (ap is_shdlc q) (ap is_act q)
-    go Clt q = counts (is_open e.role) refl q
+    go Clt q = by_test (is_open e.role)
+        (λ o. open_as (record e { passed_over = e.passed_over + 1 }) false (ap is_act q) o (ap (took e) q) (counted_is e x comes.tells.now q)
+        (ap (got_with (core_number_of c.controller) e.shdlc.session.acc) (ap (λ y. (take_answer e.shdlc y).accepted) q ∙ clt_none e.shdlc)
+        ∙ ap (λ y. numbered n (got_by e (Take y))) (sym q)))
+        (λ o. closed_as (record e { passed_over = e.passed_over + 1 }) (ap is_act q) o (ap (took e) q) refl
+        (mid_counted None e (e.passed_over + 1) comes.tells.now) (ap (λ y. numbered n (got_by e (Take y))) (sym q)))
+    go _ q = shdlc (is_open e.role) refl (ap is_shdlc q) (ap is_act q)
 
 -- ## Turns, resets and activation
 
@@ -374,8 +331,7 @@ silent_side c s = go c.controller.side.phase refl
   where
     go : (p : LinkState) → c.controller.side.phase ≡ p → (core_silent c s).controller.side ≡ s
     go IsUpNow p = rw p refl
-    go IsWaitingNow p = rw p refl
-    go IsDown p = rw p refl
+    go _ p = rw p refl
 
 pub restart_sends : (l : Link) (event : ActEvent) (ts : List Turn) → AreSendableTurns ts → Tells l.controller
     → let f : LinkEnd = activated (moved l.controller.side true (stopped l.controller.side.shdlc)) event in

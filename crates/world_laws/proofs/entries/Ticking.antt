@@ -12,7 +12,7 @@ use Rattle.link_laws.specs.sessions.Sessions.{ShdlcLink as CoreLink, ShdlcTurn a
 use Rattle.link_laws.specs.sessions.Sessions.{ticks_or_cut as core_ticks_or_cut, shdlc_ticks_at_controller as core_ticks_here}
 use Rattle.link_laws.specs.sessions.Sessions.{shdlc_happens_at_controller as core_happens_here, shdlc_all_at_controller as core_all_here}
 use Rattle.link_laws.specs.sessions.Sessions.{AreTurns as CoreAreTurns}
-use Rattle.link_laws.specs.sessions.Sessions.ShdlcEndEvent.{Turns, Deliver, Ignore, Acts as CoreActs, Lose as CoreLose, Reset, Cut, Stop}
+use Rattle.link_laws.specs.sessions.Sessions.ShdlcEndEvent.{Turns, Acts as CoreActs, Reset, Cut, Stop}
 use Rattle.link_laws.proofs.sessions.Sending.{SafeLink}
 use Rattle.link_laws.proofs.sessions.Steps.{safe_turns}
 use Rattle.link_laws.specs.machine.Machine.{LinkEnd, Turn, turned, is_open, act_answer, moved, activated, after_input, ended_by, frames_out}
@@ -34,6 +34,7 @@ use Rattle.world_laws.specs.fragments.Emitted.{sent_then, emitted_here, got_here
 use Rattle.world_laws.specs.entries.Hearing.{is_clf}
 use Rattle.world_laws.proofs.entries.Reading.{AreWritten, written-append, out_is, out_written}
 use Rattle.world_laws.proofs.entries.Noting.{Notes, notes_then, notes_input, NoCut, no_cut_parts, cut_noted, StepNotes, own_notes}
+use Rattle.node_laws.proofs.Cases.{by_test}
 
 -- ## Lists of events
 
@@ -64,13 +65,11 @@ power-append (e ∷ es) fs a b = (a.0, power-append es fs a.1 b)
 pub turns_bring_none : (es : List CoreEndEvent) (c : CoreLink) → CoreAreTurns es → got_turns c es ≡ []
 turns_bring_none [] c a = refl
 turns_bring_none (Turns ts ∷ es) c a = turns_bring_none es (core_happens_here c (Turns ts)) a.1
-turns_bring_none (Deliver ts ∷ es) c a = absurd a.0
-turns_bring_none (Ignore ts ∷ es) c a = absurd a.0
 turns_bring_none (CoreActs acts ts ∷ es) c a = turns_bring_none es (core_happens_here c (CoreActs acts ts)) a.1
-turns_bring_none (CoreLose ∷ es) c a = absurd a.0
 turns_bring_none (Reset w ts ∷ es) c a = turns_bring_none es (core_happens_here c (Reset w ts)) a.1
 turns_bring_none (Cut ∷ es) c a = turns_bring_none es (core_happens_here c Cut) a.1
 turns_bring_none (Stop ∷ es) c a = turns_bring_none es (core_happens_here c Stop) a.1
+turns_bring_none (_ ∷ es) c a = absurd a.0
 
 -- ## What a node does in a tick
 
@@ -235,8 +234,4 @@ tick_notes who l node a h r q = go node.ending refl
 pub tick_power : (e : LinkEnd) (ts : List Turn) (ending : Ending) → ending ≡ GoesOut → HasItsTick (core_tick e ts ending)
     × AllKeepPower (core_tick_rest e ts ending)
 tick_power e ts CutOff q = cc
-tick_power e ts GoesOut q = go (is_open e.role) refl
-  where
-    go : (o : Bool) → is_open e.role ≡ o → HasItsTick (core_tick e ts GoesOut) × AllKeepPower (core_tick_rest e ts GoesOut)
-    go true o = (rw o tt, rw o tt)
-    go false o = (rw o tt, rw o (tt, tt))
+tick_power e ts GoesOut q = by_test (is_open e.role) (λ o. (rw o tt, rw o tt)) (λ o. (rw o tt, rw o (tt, tt)))

@@ -5,7 +5,7 @@ use Rattle.std.specs.Prelude.{nat_lt, is_some}
 use Rattle.std.proofs.lemmas.Bool.{ltb-false}
 use Rattle.swp_base.specs.declared.control_frames.Act.{Act as Activation}
 use Rattle.swp_base.specs.declared.control_frames.Control.{Control}
-use Rattle.swp_base.specs.declared.control_frames.Control.TheVariants.{I, S, Rset, Ua, Act, Clt}
+use Rattle.swp_base.specs.declared.control_frames.Control.TheVariants.{Rset, Act}
 use Rattle.shdlc_core.specs.declared.answers.LinkState.{LinkState}
 use Rattle.shdlc_core.specs.declared.answers.LinkState.TheVariants.{Down, Waiting, Up}
 use Rattle.shdlc_core.specs.declared.answers.Due.TheVariants.{Rset as Rset_due}
@@ -31,6 +31,7 @@ use Rattle.world_laws.proofs.fragments.Frames.{CanSend, can_send, knows_wire}
 use Rattle.world_laws.proofs.fragments.Turning.{knows_rset}
 use Rattle.world_laws.proofs.fragments.Going.{GoesAt, hears_all-append, tells_all-append, knows_side, Went, went_none, went_one, goes_of}
 use Rattle.world_laws.proofs.fragments.Taking.{Heard, got_now, knows_rest, takes_heard}
+use Rattle.node_laws.proofs.Cases.{by_test}
 
 -- what the tap knows after this at the controller's end
 abbrev pub HeardHere : Bool → TapState → ShdlcLink → ShdlcEndEvent → Type 0
@@ -68,13 +69,8 @@ deliver_heard bare t ts l s h = go l.to_controller s h
           where
             by : (p : LinkState) → l.controller.side.phase ≡ p → (take_answer l.controller.side (Act a b)).accepted ≡ None
             by Up p = rw p refl
-            by Waiting p = rw p refl
-            by Down p = rw p refl
-        act_none (I _ _ _) q = absurd (let z : false ≡ true = q in cc)
-        act_none (S _ _) q = absurd (let z : false ≡ true = q in cc)
-        act_none (Rset _ _) q = absurd (let z : false ≡ true = q in cc)
-        act_none Ua q = absurd (let z : false ≡ true = q in cc)
-        act_none Clt q = absurd (let z : false ≡ true = q in cc)
+            by _ p = rw p refl
+        act_none _ q = absurd (let z : false ≡ true = q in cc)
 
     go : (w : List OnWire) → SafeLink 0 0 (at w) → KnowsLink bare t (at w) → HeardHere bare t (at w) (Deliver ts)
     go [] s h = record { knows = h; tells = refl }
@@ -140,11 +136,7 @@ ignore_heard bare t ts l s h = go l.controller.side.phase refl l.to_controller r
         left x xs (inr z) = inr z
 
         grows : (x : OnWire) → n.took ≤ took_with n.took x
-        grows x = by (is_rset x.frame) refl
-          where
-            by : (b : Bool) → is_rset x.frame ≡ b → n.took ≤ took_with n.took x
-            by true q = rw q (omega arith)
-            by false q = rw q (omega arith)
+        grows x = by_test (is_rset x.frame) (λ q. rw q (omega arith)) (λ q. rw q (omega arith))
 
     go : (p : LinkState) → n.side.phase ≡ p → (w : List OnWire) → l.to_controller ≡ w → HeardHere bare t l (Ignore ts)
     go Up q w p = by_parts l [] (rw q refl) (rw q refl) same
@@ -318,13 +310,11 @@ here_heard bare t l Stop a s h = stop_heard bare t l s h
 pub turn_heard : {kf : ℕ} (bare : Bool) (t : TapState) (l : ShdlcLink) (e : ShdlcEndEvent) → IsTurn e → KeepsPower e → SafeLink 0 kf l
     → KnowsLink bare t l → Heard bare t (shdlc_happens_at_controller l e) (emitted_here l e) []
 turn_heard bare t l (Turns ts) i a s h = turns_heard bare t ts l s h
-turn_heard bare t l (Deliver ts) i a s h = absurd i
-turn_heard bare t l (Ignore ts) i a s h = absurd i
 turn_heard bare t l (Acts acts ts) i a s h = acts_heard bare t acts ts l s h
-turn_heard bare t l Lose i a s h = absurd i
 turn_heard bare t l (Reset w ts) i a s h = reset_heard bare t ts l w s h
 turn_heard bare t l Cut i a s h = absurd a
 turn_heard bare t l Stop i a s h = stop_heard bare t l s h
+turn_heard bare t l _ i a s h = absurd i
 
 -- ## Its tick
 

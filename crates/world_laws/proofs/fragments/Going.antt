@@ -1,5 +1,5 @@
 -- An end has its turns, and then all that is due goes out: what the tap knows then.
-use Rattle.std.proofs.Common.{◌≡◌, ℕ, zero, suc, ◌+◌, ◌%◌, ◌≤◌, Bool, false, List, [], ◌∷◌, ◌++◌, Option, Some, None, refl, ap, sym}
+use Rattle.std.proofs.Common.{◌≡◌, ℕ, zero, suc, ◌+◌, ◌%◌, ◌≤◌, Bool, false, List, [], ◌∷◌, ◌++◌, Some, None, refl, ap, sym}
 use Rattle.std.proofs.Common.{subst, ◌∙◌, arith, length, length-append, append_assoc, append-nil, map}
 use Rattle.std.proofs.lemmas.List.{map-append, take-append-le}
 use Rattle.swp_base.specs.declared.control_frames.Kind.{Kind}
@@ -23,6 +23,7 @@ use Rattle.tap_reading.specs.Tap.{TapState, tap_hears, tap_tells}
 use Rattle.world_laws.specs.fragments.Emitted.{hears_all, tells_all}
 use Rattle.world_laws.proofs.fragments.Sides.{Knows, KnowsLink, SameLists, Alike, alike_update, alike_none, tracks_on, tracks_far}
 use Rattle.world_laws.proofs.fragments.Frames.{can_send, Goes, goes_fragment, answer_says, knows_wire}
+use Rattle.node_laws.proofs.Cases.{by_option}
 
 pub hears_all-append : (bare : Bool) (t : TapState) (cs ds : List Control) → hears_all bare t (cs ++ ds) ≡ hears_all bare (hears_all bare t cs) ds
 hears_all-append bare t [] ds = refl
@@ -159,15 +160,11 @@ pub record Drained (bare : Bool) (t : TapState) (l : ShdlcLink) (m : ℕ) (e : E
 
 pub drains : (bare : Bool) (m : ℕ) (e : EndState) (t : TapState) (l : ShdlcLink) → e.due ≡ [] → GoesAt bare t l e → Drained bare t l m e
 drains bare zero e t l due g = record { goes = g; told = refl }
-drains bare (suc m) e t l due g = go (frame_due e) refl (drains bare m (fetched e))
-  where
-    go : (o : Option Control) → frame_due e ≡ o
-        → ((u : TapState) (k : ShdlcLink) → (fetched e).due ≡ [] → GoesAt bare u k (fetched e) → Drained bare u k m (fetched e)) → Drained bare t l (suc m) e
-    go None q later = record { goes = rw q (rw (fetched_idle e q, after_frames_idle m e q) g); told = rw q refl }
-    go (Some c) q later =
-        let one = each bare t l e c q due g in
-        let more = later (tap_hears bare t c) (shdlc_put l c) one.due one.goes in
-        record { goes = rw q more.goes; told = rw q (ap (λ z. z ++ tells_all bare (tap_hears bare t c) (frames_of m (fetched e))) one.told ∙ more.told) }
+drains bare (suc m) e t l due g = by_option (frame_due e)
+    (λ q. record { goes = rw q (rw (fetched_idle e q, after_frames_idle m e q) g); told = rw q refl })
+    (λ c q. let one = each bare t l e c q due g in
+    let more = drains bare m (fetched e) (tap_hears bare t c) (shdlc_put l c) one.due one.goes in
+    record { goes = rw q more.goes; told = rw q (ap (λ z. z ++ tells_all bare (tap_hears bare t c) (frames_of m (fetched e))) one.told ∙ more.told) })
 
 -- ## Turns
 

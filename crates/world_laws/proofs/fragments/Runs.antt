@@ -28,6 +28,7 @@ use Rattle.world_laws.proofs.fragments.Sides.{tracks_on}
 use Rattle.world_laws.proofs.fragments.Going.{hears_all-append, tells_all-append}
 use Rattle.world_laws.proofs.fragments.Taking.{Heard}
 use Rattle.world_laws.proofs.fragments.Events.{here_heard, turn_heard, tick_heard}
+use Rattle.node_laws.proofs.Cases.{by_test}
 
 -- ## Frames of both sides
 
@@ -137,11 +138,9 @@ tick_or_none bare t (Some ts) l a s h = tick_heard bare t ts l s h
 
 tick_waiting : {kf : ℕ} (bare : Bool) (t : TapState) (l : ShdlcLink) → SafeLink 1 kf l → KnowsLink bare t l
     → Heard bare t (ticks_if_waiting l) (emitted_if_waiting l) []
-tick_waiting bare t l s h = go (is_waiting l.controller.side) refl
-  where
-    go : (b : Bool) → is_waiting l.controller.side ≡ b → Heard bare t (ticks_if_waiting l) (emitted_if_waiting l) []
-    go true q = let k = tick_heard bare t [] l s h in record { knows = rw q k.knows; tells = rw q k.tells }
-    go false q = record { knows = rw q h; tells = rw q refl }
+tick_waiting bare t l s h = by_test (is_waiting l.controller.side)
+    (λ q. let k = tick_heard bare t [] l s h in record { knows = rw q k.knows; tells = rw q k.tells })
+    (λ q. record { knows = rw q h; tells = rw q refl })
 
 -- the tick of the host's end behind what happened at the controller's
 rest_heard : (bare : Bool) (t : TapState) (first : List Control) (near : ShdlcLink) (turns : List ShdlcEndEvent) (d : Option (List ShdlcTurn)) → AreTurns turns

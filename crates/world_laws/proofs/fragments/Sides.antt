@@ -4,7 +4,7 @@ use Rattle.std.proofs.Common.{◌∙◌, arith, length}
 use Rattle.std.proofs.lemmas.Bool.{ne_eqb}
 use Rattle.shdlc_core.specs.declared.answers.LinkState.{LinkState}
 use Rattle.shdlc_core.specs.declared.answers.LinkState.TheVariants.{Down, Waiting, Up}
-use Rattle.shdlc_core.specs.Machine.{EndState, Session, Fragment, new_session, no_session}
+use Rattle.shdlc_core.specs.Machine.{Session, Fragment, new_session, no_session}
 use Rattle.link_laws.specs.sessions.Sessions.{OnWire, NumberedShdlc, ShdlcLink, shdlc_number_of, shdlc_session_of, ended_session}
 use Rattle.link_laws.proofs.sessions.Data.{Below, none_ended, of_up, of_update, of_end, of_none, of_begin}
 use Rattle.tap_reading.specs.Tap.{TapSide, TapState, listed_at}
@@ -37,10 +37,6 @@ pub record Knows (bare : Bool) (t : TapState) (n f : NumberedShdlc) (to_n to_f :
   pub near : Tracks bare t.clf t.uicc n f to_n
   pub far : Tracks bare t.uicc t.clf f n to_f
   pub rsets : t.rsets ≡ r
-
--- the link, while its controller's end is e
-abbrev pub KnowsAt : Bool → TapState → ShdlcLink → EndState → Type 0
-KnowsAt bare t l e = Knows bare t (record l.controller { side = e }) l.host l.to_controller l.to_host l.resets
 
 abbrev pub KnowsLink : Bool → TapState → ShdlcLink → Type 0
 KnowsLink bare t l = Knows bare t l.controller l.host l.to_controller l.to_host l.resets

@@ -29,6 +29,7 @@ use Rattle.world_laws.proofs.fragments.Sides.{tracks_on, tracks_far}
 use Rattle.world_laws.proofs.fragments.Frames.{CanSend, can_send, still_no_ua}
 use Rattle.world_laws.proofs.fragments.Turning.{Answers, knows_ua, Accepts, knows_accepted}
 use Rattle.world_laws.proofs.fragments.Going.{GoesAt, knows_side, goes_answer, Went, went_none, went_one}
+use Rattle.node_laws.proofs.Cases.{by_test, by_option}
 
 -- ## A frame of a session at an end that is Up
 
@@ -60,12 +61,8 @@ takes_S e k nr up = go k (place_of e.session nr) refl
   where
     go : (k : Kind) (o : Option ℕ) → place_of e.session nr ≡ o → Accepted (take_answer e (S k nr)).accepted e (taken e (S k nr))
     go Srej o p = rw up (record { acc = refl; out = refl; reached = refl })
-    go Rr None p = rw (up, p) (record { acc = refl; out = refl; reached = refl })
-    go Rr (Some x) p = rw (up, p) (record { acc = refl; out = refl; reached = refl })
-    go Rej None p = rw (up, p) (record { acc = refl; out = refl; reached = refl })
-    go Rej (Some x) p = rw (up, p) (record { acc = refl; out = refl; reached = refl })
-    go Rnr None p = rw (up, p) (record { acc = refl; out = refl; reached = refl })
-    go Rnr (Some x) p = rw (up, p) (record { acc = refl; out = refl; reached = refl })
+    go _ None p = rw (up, p) (record { acc = refl; out = refl; reached = refl })
+    go _ (Some x) p = rw (up, p) (record { acc = refl; out = refl; reached = refl })
 
 pub takes_data : (e : EndState) (c : Control) → e.phase ≡ Up → IsData c → Accepted (take_answer e c).accepted e (taken e c)
 takes_data e (I ns nr info) up d = takes_I e ns nr info up
@@ -82,21 +79,9 @@ accepts_none e c no_up = go e.phase refl c
     go : (p : LinkState) → e.phase ≡ p → (c : Control) → (take_answer e c).accepted ≡ None
     go Up p c = absurd (no_up p)
     go Waiting p (I _ _ _) = rw p refl
-    go Waiting p (S _ _) = rw p refl
-    go Waiting p (Rset _ _) = rw p refl
-    go Waiting p Ua = rw p refl
-    go Waiting p (Act _ _) = rw p refl
-    go Waiting p Clt = rw p refl
-    go Down p (I _ _ _) = rw p refl
-    go Down p (S _ _) = rw p refl
-    go Down p (Rset w c) = by (w == 0) refl
-      where
-        by : (b : Bool) → (w == 0) ≡ b → (take_answer e (Rset w c)).accepted ≡ None
-        by true q = rw (p, q) refl
-        by false q = rw (p, q) refl
-    go Down p Ua = rw p refl
-    go Down p (Act _ _) = rw p refl
-    go Down p Clt = rw p refl
+    go Waiting p _ = rw p refl
+    go Down p (Rset w c) = by_test (w == 0) (λ q. rw (p, q) refl) (λ q. rw (p, q) refl)
+    go Down p _ = rw p refl
 
 -- ## The answers go out
 
@@ -186,7 +171,11 @@ takes_heard bare t ts l x xs s h = go (frame_cases x) e.phase refl
 
     -- an end in a session
     session : e.phase ≡ Up → IsData x.frame → Goal
-    session up d = by (take_answer e x.frame).accepted refl (takes_data e x.frame up d)
+    session up d = by_option (take_answer e x.frame).accepted
+        (λ o. let P : Option Fragment → Type 0 = λ z. Accepted z e q in
+        heard_so bare t ts l x xs false n.took q None (so None o) (passing tu.0.due (subst P o (takes_data e x.frame up d))))
+        (λ info o. let P : Option Fragment → Type 0 = λ z. Accepted z e q in
+        heard_so bare t ts l x xs false n.took q (Some info) (so (Some info) o) (accepting info (subst P o (takes_data e x.frame up d))))
       where
         q : EndState
         q = taken e x.frame
@@ -249,14 +238,6 @@ takes_heard bare t ts l x xs s h = go (frame_cases x) e.phase refl
             } in
             went_one bare t ts next q Rr_due (got_with (shdlc_number_of n) e.session.acc (Some info))
             (a.acc.1 ∙ ap (λ (z : List Due). z ++ Rr_due ∷ []) s.n_due) goes k.1
-
-        by : (o : Option Fragment) → (take_answer e x.frame).accepted ≡ o → Accepted (take_answer e x.frame).accepted e q → Goal
-        by None o a =
-            let P : Option Fragment → Type 0 = λ z. Accepted z e q in
-            heard_so bare t ts l x xs false n.took q None (so None o) (passing tu.0.due (subst P o a))
-        by (Some info) o a =
-            let P : Option Fragment → Type 0 = λ z. Accepted z e q in
-            heard_so bare t ts l x xs false n.took q (Some info) (so (Some info) o) (accepting info (subst P o a))
 
     -- an end without a session passes over a frame of one
     passed : IsData x.frame → (e.phase ≡ Up → ⊥) → Goal

@@ -1,12 +1,13 @@
 -- Whether a UA stands on a wire.
-use Rattle.std.proofs.Common.{◌≡◌, Bool, true, false, cond, List, [], ◌∷◌, ◌++◌, refl, ap, drop}
+use Rattle.std.proofs.Common.{◌≡◌, Bool, true, false, List, [], ◌∷◌, ◌++◌, refl, ap, drop}
 use Rattle.std.specs.Prelude.{nat_lt, ◌||◌, length}
 use Rattle.std.proofs.lemmas.Bool.{or_parts}
 use Rattle.swp_base.specs.declared.control_frames.Control.{Control}
-use Rattle.swp_base.specs.declared.control_frames.Control.TheVariants.{I, S, Rset, Ua, Act, Clt}
+use Rattle.swp_base.specs.declared.control_frames.Control.TheVariants.{Ua}
 use Rattle.link_laws.specs.sessions.Sessions.{OnWire, fits, aged_wire}
 use Rattle.link_laws.specs.sessions.Losses.{sans}
 use Rattle.link_laws.proofs.sessions.Wire.{uas}
+use Rattle.node_laws.proofs.Cases.{by_test}
 
 abbrev pub is_ua : Control → Bool
 is_ua Ua = true
@@ -34,22 +35,14 @@ no_ua-push (y ∷ w) x q h =
     rw (p.0, no_ua-push w x q p.1) refl
 
 pub no_ua-fits : (w : List OnWire) → NoUa w → NoUa (fits w)
-no_ua-fits w h = go (nat_lt 64 (length w))
-  where
-    go : (b : Bool) → NoUa (cond b (drop 1 w) w)
-    go true = no_ua-drop w h
-    go false = h
+no_ua-fits w h = by_test (nat_lt 64 (length w)) (λ q. rw q (no_ua-drop w h)) (λ q. rw q h)
 
 pub no_ua-aged : (w : List OnWire) → NoUa w → NoUa (aged_wire w)
 no_ua-aged [] h = refl
-no_ua-aged (x ∷ xs) h = go (nat_lt x.age 4) refl (no_ua-aged xs p.1)
+no_ua-aged (x ∷ xs) h = by_test (nat_lt x.age 4) (λ q. rw q (rw (p.0, no_ua-aged xs p.1) refl)) (λ q. rw q (no_ua-aged xs p.1))
   where
     p : (is_ua x.frame ≡ false) × NoUa xs
     p = or_parts (is_ua x.frame) (has_ua xs) h
-
-    go : (b : Bool) → nat_lt x.age 4 ≡ b → NoUa (aged_wire xs) → NoUa (aged_wire (x ∷ xs))
-    go true q later = rw q (rw (p.0, later) refl)
-    go false q later = rw q later
 
 -- as the handshake knows it
 pub no_ua-from : (w : List OnWire) → uas (sans w) ≡ [] → NoUa w
@@ -60,9 +53,5 @@ no_ua-from (x ∷ xs) h = go x.frame refl (no_ua-from xs)
     other q e = rw (q, e) refl
 
     go : (c : Control) → x.frame ≡ c → (uas (sans xs) ≡ [] → NoUa xs) → NoUa (x ∷ xs)
-    go (I _ _ _) q later = other (ap is_ua q) (later (let g = h in rw q at g))
-    go (S _ _) q later = other (ap is_ua q) (later (let g = h in rw q at g))
-    go (Rset _ _) q later = other (ap is_ua q) (later (let g = h in rw q at g))
-    go (Act _ _) q later = other (ap is_ua q) (later (let g = h in rw q at g))
-    go Clt q later = other (ap is_ua q) (later (let g = h in rw q at g))
     go Ua q later = absurd (let g = h in let k : x.age ∷ uas (sans xs) ≡ [] = rw q at g in cc)
+    go _ q later = other (ap is_ua q) (later (let g = h in rw q at g))

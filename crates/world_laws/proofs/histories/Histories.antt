@@ -9,7 +9,7 @@ use Rattle.trace_model.specs.Lines.{IsLineOf}
 use Rattle.link_laws.specs.messages.Links.IsStart.{IsBare}
 use Rattle.link_laws.specs.entries.Entries.{Entry as Noted}
 use Rattle.link_laws.specs.entries.Entries.End.{Controller, Host}
-use Rattle.link_laws.specs.entries.Entries.Entry.{Up, Down, Active, GaveUp, Acked, Got, Sent, Emit, Took, Lost, Tick, Restarted, Cut}
+use Rattle.link_laws.specs.entries.Entries.Entry.{Got, Emit, Restarted, Cut}
 use Rattle.history.specs.Histories.{Event, History, all_events, entries_of, causes_of}
 use Rattle.history.specs.Steps.{entries_for, bare_link}
 use Rattle.history.specs.Follows.{Follows, host_of}
@@ -25,18 +25,7 @@ pub lpdus_same : (h : ℕ) (t : List Noted) → lpdus_on h (entries_for h t) ≡
 lpdus_same h [] = refl
 lpdus_same h (Emit Controller c ∷ t) = let q : (h == h) ≡ true = eq-eqb h h refl in rw q (ap (λ z. (true, lpdu_of c) ∷ z) (lpdus_same h t))
 lpdus_same h (Emit Host c ∷ t) = let q : (h == h) ≡ true = eq-eqb h h refl in rw q (ap (λ z. (false, lpdu_of c) ∷ z) (lpdus_same h t))
-lpdus_same h (Up _ _ ∷ t) = lpdus_same h t
-lpdus_same h (Down _ _ ∷ t) = lpdus_same h t
-lpdus_same h (Active _ ∷ t) = lpdus_same h t
-lpdus_same h (GaveUp _ _ ∷ t) = lpdus_same h t
-lpdus_same h (Acked _ _ _ ∷ t) = lpdus_same h t
-lpdus_same h (Got _ _ _ ∷ t) = lpdus_same h t
-lpdus_same h (Sent _ _ _ ∷ t) = lpdus_same h t
-lpdus_same h (Took _ _ ∷ t) = lpdus_same h t
-lpdus_same h (Lost _ _ _ ∷ t) = lpdus_same h t
-lpdus_same h (Tick ∷ t) = lpdus_same h t
-lpdus_same h (Restarted _ ∷ t) = lpdus_same h t
-lpdus_same h (Cut _ ∷ t) = lpdus_same h t
+lpdus_same h (_ ∷ t) = lpdus_same h t
 
 pub gots_same : (h : ℕ) (t : List Noted) → gots_on h (entries_for h t) ≡ gots_noted t
 gots_same h [] = refl
@@ -46,35 +35,14 @@ gots_same h (Got Controller n m ∷ t) =
 gots_same h (Got Host n m ∷ t) =
     let q : (h == h) ≡ true = eq-eqb h h refl in
     rw q (ap (λ z. record { to_clf = false; session = n; pipe = m.0; body = m.1 } ∷ z) (gots_same h t))
-gots_same h (Up _ _ ∷ t) = gots_same h t
-gots_same h (Down _ _ ∷ t) = gots_same h t
-gots_same h (Active _ ∷ t) = gots_same h t
-gots_same h (GaveUp _ _ ∷ t) = gots_same h t
-gots_same h (Acked _ _ _ ∷ t) = gots_same h t
-gots_same h (Emit _ _ ∷ t) = gots_same h t
-gots_same h (Sent _ _ _ ∷ t) = gots_same h t
-gots_same h (Took _ _ ∷ t) = gots_same h t
-gots_same h (Lost _ _ _ ∷ t) = gots_same h t
-gots_same h (Tick ∷ t) = gots_same h t
-gots_same h (Restarted _ ∷ t) = gots_same h t
-gots_same h (Cut _ ∷ t) = gots_same h t
+gots_same h (_ ∷ t) = gots_same h t
 
 -- no node of a bare world loses power
 no_cut : (t : List Noted) → ArePlain t → list_any is_cut t ≡ false
 no_cut [] a = refl
 no_cut (Cut _ ∷ t) a = absurd a.0
 no_cut (Restarted _ ∷ t) a = absurd a.0
-no_cut (Emit _ _ ∷ t) a = no_cut t a.1
-no_cut (Got _ _ _ ∷ t) a = no_cut t a.1
-no_cut (Up _ _ ∷ t) a = no_cut t a.1
-no_cut (Down _ _ ∷ t) a = no_cut t a.1
-no_cut (Active _ ∷ t) a = no_cut t a.1
-no_cut (GaveUp _ _ ∷ t) a = no_cut t a.1
-no_cut (Acked _ _ _ ∷ t) a = no_cut t a.1
-no_cut (Sent _ _ _ ∷ t) a = no_cut t a.1
-no_cut (Took _ _ ∷ t) a = no_cut t a.1
-no_cut (Lost _ _ _ ∷ t) a = no_cut t a.1
-no_cut (Tick ∷ t) a = no_cut t a.1
+no_cut (_ ∷ t) a = no_cut t a.1
 
 pub tap_reports_history : (header : Header) (lines : List Line) (t : History) → AllByRecursion (IsLineOf header) lines → Follows header lines t
     → (front back : List Event) → all_events t ≡ front ++ back

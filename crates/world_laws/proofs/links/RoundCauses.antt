@@ -8,7 +8,7 @@ use Rattle.link_laws.specs.messages.Links.{Link, exchanged}
 use Rattle.link_laws.specs.entries.Entries.{End as Side}
 use Rattle.link_laws.specs.entries.Entries.End.{Controller, Host}
 use Rattle.history.specs.Histories.{Cause, causes_of}
-use Rattle.history.specs.Histories.Cause.{Given, Taken, WasLost, Ticked, WasReset, Readied}
+use Rattle.history.specs.Histories.Cause.{Taken, Ticked}
 use Rattle.history.specs.Steps.{bare_link, end_of, event_of, link_after, link_after_all, event_at, events_at}
 use Rattle.link_laws.specs.messages.Rest.{after_steps}
 use Rattle.node_laws.specs.rounds.BareRounds.{causes_of_round, link_after_round, causes_of_rounds}
@@ -91,11 +91,7 @@ module _ (h : ℕ) where
   ticks-append : (cs ds : List Cause) → times_ticked (cs ++ ds) ≡ times_ticked cs + times_ticked ds
   ticks-append [] ds = omega arith
   ticks-append (Ticked ∷ cs) ds = let rest = ticks-append cs ds in omega (arith, rest)
-  ticks-append (Given e m ∷ cs) ds = ticks-append cs ds
-  ticks-append (Taken e ∷ cs) ds = ticks-append cs ds
-  ticks-append (WasLost e why ∷ cs) ds = ticks-append cs ds
-  ticks-append (WasReset e window ∷ cs) ds = ticks-append cs ds
-  ticks-append (Readied e ready ∷ cs) ds = ticks-append cs ds
+  ticks-append (_ ∷ cs) ds = ticks-append cs ds
 
   no_ticks : (k : ℕ) (who : Side) → times_ticked (replicate k (Taken (end_of h who))) ≡ 0
   no_ticks zero who = refl

@@ -51,9 +51,6 @@ module _ (h : ℕ) (xs : List Event) (n : ℕ) where
   abbrev notes : List Noted
   notes = notes_of xs
 
-  abbrev leads : Link
-  leads = after_link_events bare_link (link_events xs)
-
   pub read_end : (r : IsRead (notes_of xs) Controller n (talk_of (after_link_events bare_link (link_events xs)).controller n))
       → IsReadOff (entries_for h (notes_of xs)) (end_c h) n (talk_of (after_link_events bare_link (link_events xs)).controller n)
   read_end r =

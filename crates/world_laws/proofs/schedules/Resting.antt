@@ -14,6 +14,7 @@ use Rattle.link_laws.specs.messages.Rest.{is_clear, link_rests}
 use Rattle.node_machine.specs.world.World.{Site, site_at}
 use Rattle.node_machine.specs.world.Rounds.{sites_rest}
 use Rattle.world_laws.specs.links.Resting.{IsEndQuiet, IsLinkQuiet}
+use Rattle.node_laws.proofs.Cases.{by_test}
 
 -- ## Ends and wires
 
@@ -94,11 +95,7 @@ sites_resting (s ∷ sites) a =
 pub site_quiet : (sites : List Site) (h : ℕ) (s : Site) → AllByRecursion (λ (x : Site). IsLinkQuiet x.link) sites → site_at sites h ≡ Some s
     → IsLinkQuiet s.link
 site_quiet [] h s a q = cc
-site_quiet (x ∷ sites) h s a q = go (x.host == h) refl (site_quiet sites h s)
-  where
-    go : (b : Bool) → (x.host == h) ≡ b
-        → (AllByRecursion (λ (y : Site). IsLinkQuiet y.link) sites → site_at sites h ≡ Some s → IsLinkQuiet s.link) → IsLinkQuiet s.link
-    go true p later =
-        let same : x ≡ s = (let z : Some x ≡ Some s = rw p at q in cc) in
-        subst (λ (y : Site). IsLinkQuiet y.link) same a.0
-    go false p later = later a.1 (rw p at q)
+site_quiet (x ∷ sites) h s a q = by_test (x.host == h)
+    (λ p. let same : x ≡ s = (let z : Some x ≡ Some s = rw p at q in cc) in
+    subst (λ (y : Site). IsLinkQuiet y.link) same a.0)
+    (λ p. site_quiet sites h s a.1 (rw p at q))

@@ -1,5 +1,5 @@
 -- What a tap reports over a history of a world of nodes.
-use Rattle.std.proofs.Common.{◌≡◌, ℕ, Bool, true, false, List, [], ◌∷◌, ◌++◌, Option, Some, None, refl, ap, sym, subst, ◌∙◌}
+use Rattle.std.proofs.Common.{◌≡◌, ℕ, false, List, [], ◌∷◌, ◌++◌, Option, Some, None, refl, ap, sym, subst, ◌∙◌}
 use Rattle.std.specs.List.{cons_option, filter_map, list_any}
 use Rattle.trace_model.specs.declared.entry.Entry.{Entry}
 use Rattle.trace_model.specs.declared.line.End.{End}
@@ -9,13 +9,14 @@ use Rattle.link_laws.specs.messages.Links.{Link}
 use Rattle.link_laws.specs.messages.Links.IsStart.{IsLine}
 use Rattle.link_laws.specs.entries.Entries.{Entry as Noted, entries}
 use Rattle.history.specs.Filters.{Saying, said}
-use Rattle.history.specs.Filters.Saying.{Begins, Ends, Sends, Gets, Counts, Puts, Takes, Loses}
+use Rattle.history.specs.Filters.Saying.{Gets, Puts}
 use Rattle.history.specs.Steps.{entries_for}
 use Rattle.node_machine.specs.world.World.{new_world}
 use Rattle.node_machine.specs.world.Lines.{Occurrence}
 use Rattle.node_machine.specs.world.NodeHistories.{FollowsNodes, NodeHistory, entries_in, occurrences_in}
 use Rattle.node_laws.specs.kept.Hosts.{AreHosts}
 use Rattle.node_laws.specs.telling.Telling.{is_of, tells_of, of_link, world_behind}
+use Rattle.node_laws.proofs.Cases.{by_test}
 use Rattle.node_laws.proofs.telling.Accounts.{untold}
 use Rattle.node_laws.specs.links.Runs.{ArePlayable, new_line}
 use Rattle.node_laws.specs.order.Resets.{cuts_on}
@@ -37,37 +38,20 @@ module _ (h : ℕ) where
   put_none : (o : Option (End × Saying)) → is_of h o ≡ false → put_on h o ≡ None
   put_none None q = refl
   put_none (Some (e, Puts frame)) q = rw q refl
-  put_none (Some (e, Begins n)) q = refl
-  put_none (Some (e, Ends)) q = refl
-  put_none (Some (e, Sends n m)) q = refl
-  put_none (Some (e, Gets n m)) q = refl
-  put_none (Some (e, Counts n k)) q = refl
-  put_none (Some (e, Takes frame)) q = refl
-  put_none (Some (e, Loses frame)) q = refl
+  put_none (Some (e, _)) q = refl
 
   got_none : (o : Option (End × Saying)) → is_of h o ≡ false → got_on h o ≡ None
   got_none None q = refl
   got_none (Some (e, Gets n m)) q = rw q refl
-  got_none (Some (e, Begins n)) q = refl
-  got_none (Some (e, Ends)) q = refl
-  got_none (Some (e, Sends n m)) q = refl
-  got_none (Some (e, Counts n k)) q = refl
-  got_none (Some (e, Puts frame)) q = refl
-  got_none (Some (e, Takes frame)) q = refl
-  got_none (Some (e, Loses frame)) q = refl
+  got_none (Some (e, _)) q = refl
 
   -- where nothing is made of what tells nothing of a link, all is made of what tells of it
   of_link_alone : {X : Type 0} (f : Option (End × Saying) → Option X) → ((o : Option (End × Saying)) → is_of h o ≡ false → f o ≡ None) → (t : List Entry)
       → filter_map (λ x. f (said x)) t ≡ filter_map (λ x. f (said x)) (of_link h t)
   of_link_alone f none [] = refl
-  of_link_alone {X} f none (x ∷ t) = go (tells_of h x) refl (of_link_alone f none t)
-    where
-      Goal : Type 0
-      Goal = filter_map (λ y. f (said y)) (x ∷ t) ≡ filter_map (λ y. f (said y)) (of_link h (x ∷ t))
-
-      go : (b : Bool) → tells_of h x ≡ b → filter_map (λ y. f (said y)) t ≡ filter_map (λ y. f (said y)) (of_link h t) → Goal
-      go true r later = rw r (ap (cons_option (f (said x))) later)
-      go false r later = rw r (ap (λ o. cons_option o (filter_map (λ y. f (said y)) t)) (none (said x) (untold h x r)) ∙ later)
+  of_link_alone {X} f none (x ∷ t) = by_test (tells_of h x)
+      (λ r. rw r (ap (cons_option (f (said x))) (of_link_alone f none t)))
+      (λ r. rw r (ap (λ o. cons_option o (filter_map (λ y. f (said y)) t)) (none (said x) (untold h x r)) ∙ of_link_alone f none t))
 
   lpdus_alone : (t : List Entry) → lpdus_on h t ≡ lpdus_on h (of_link h t)
   lpdus_alone t = of_link_alone (put_on h) put_none t

@@ -1,5 +1,5 @@
 -- The link of a bare world is undisturbed while it settles, where nothing that disturbs it is noted of its rounds.
-use Rattle.std.proofs.Common.{◌≡◌, ℕ, Bool, true, false, List, [], ◌∷◌, ◌++◌, map, refl, ap, sym, subst, ◌∙◌, length, Option, Some, None}
+use Rattle.std.proofs.Common.{◌≡◌, ℕ, true, false, List, [], ◌∷◌, ◌++◌, map, refl, ap, sym, subst, ◌∙◌, length, Option, Some, None}
 use Rattle.std.specs.Prelude.{drop, replicate}
 use Rattle.std.specs.List.{AllByRecursion, list_any}
 use Rattle.std.proofs.Math.Seq.{drop-append_seam}
@@ -18,7 +18,7 @@ use Rattle.link_laws.proofs.entries.Running.{IsUnderWay, start_under_way}
 use Rattle.history.specs.Filters.{session_number}
 use Rattle.history.specs.Follows.{Follows, host_of}
 use Rattle.history.specs.Histories.{Cause, Event, History, all_entries, all_events, causes_of}
-use Rattle.history.specs.Histories.Cause.{Given, Taken, WasLost, Ticked, WasReset, Readied}
+use Rattle.history.specs.Histories.Cause.{Taken, Ticked}
 use Rattle.history.specs.Steps.{bare_link, end_of, entries_for, entry_of, event_of, link_after}
 use Rattle.history.proofs.legal.Ordered.{IsRun, is_run, notes_of, run_entries}
 use Rattle.history.proofs.legal.Plain.{ArePlain, plain_trace}
@@ -26,6 +26,7 @@ use Rattle.history.proofs.legal.Reading.{session-all}
 use Rattle.history.proofs.legal.Runs.{link_events, of_allowed, of_can}
 use Rattle.history.proofs.legal.Sessions.{controller_heard, host_heard}
 use Rattle.node_laws.specs.rounds.BareRounds.{causes_of_rounds}
+use Rattle.node_laws.proofs.Cases.{by_test}
 use Rattle.node_laws.proofs.order.Watches.{AreUnstarted, is_cut}
 use Rattle.lines_told.specs.messages.Recovery.{IsLinkUndisturbed}
 use Rattle.lines_told.proofs.messages.Projected.{allowed_parts}
@@ -66,26 +67,18 @@ plain_uncut (e ∷ t) p = plain_uncut t p.1
 
 round_events : (h : ℕ) (l : Link) (cs : List Cause) → AreRoundCauses h l cs → AreRoundEvents (map event_of cs)
 round_events h l [] a = tt
-round_events h l (Taken e ∷ cs) a = go e.at_host (round_events h (link_after l (Taken e)) cs a.1)
-  where
-    go : (b : Bool) → AreRoundEvents (map event_of cs) → AreRoundEvents (event_of (Taken (record { link = e.link; at_host = b })) ∷ map event_of cs)
-    go true rest = (tt, rest)
-    go false rest = (tt, rest)
+round_events h l (Taken e ∷ cs) a = by_test e.at_host
+    (λ q. rw q (tt, round_events h (link_after l (Taken e)) cs a.1))
+    (λ q. rw q (tt, round_events h (link_after l (Taken e)) cs a.1))
 round_events h l (Ticked ∷ cs) a = (tt, round_events h (link_after l Ticked) cs a.1)
-round_events h l (Given e m ∷ cs) a = absurd a.0
-round_events h l (WasLost e why ∷ cs) a = absurd a.0
-round_events h l (WasReset e window ∷ cs) a = absurd a.0
-round_events h l (Readied e ready ∷ cs) a = absurd a.0
+round_events h l (_ ∷ cs) a = absurd a.0
 
 ready_next : (h : ℕ) (l : Link) (c : Cause) → AreRoundCauses h l (c ∷ []) → AreBothReady l → AreBothReady (link_after l c)
 ready_next h l (Taken e) a r =
     record { controller = cause_readies false l (Taken e) ∙ r.controller; host = cause_readies true l (Taken e) ∙ r.host }
 ready_next h l Ticked a r =
     record { controller = cause_readies false l Ticked ∙ r.controller; host = cause_readies true l Ticked ∙ r.host }
-ready_next h l (Given e m) a r = absurd a.0
-ready_next h l (WasLost e why) a r = absurd a.0
-ready_next h l (WasReset e window) a r = absurd a.0
-ready_next h l (Readied e ready) a r = absurd a.0
+ready_next h l _ a r = absurd a.0
 
 ready_throughout : (h : ℕ) (cs : List Cause) (l : Link) → AreRoundCauses h l cs → AreBothReady l → AreReadyThroughout l (map event_of cs)
 ready_throughout h [] l a r = r

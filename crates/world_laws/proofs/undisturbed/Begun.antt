@@ -8,10 +8,10 @@ use Rattle.swp_base.specs.declared.control_frames.Control.{Control}
 use Rattle.swp_base.specs.declared.link_terms.Cause.{Cause}
 use Rattle.shdlc_core.specs.declared.answers.LinkState.TheVariants.{Up as IsUpNow}
 use Rattle.link_laws.specs.sessions.Sessions.{OnWire, took_with}
-use Rattle.link_laws.specs.machine.Machine.{LinkEnd, Refused, Report, Turn, turn, after_input, ended_by, began_by, give_refusal, report, whole_acked}
+use Rattle.link_laws.specs.machine.Machine.{LinkEnd, Report, Turn, turn, after_input, ended_by, began_by, give_refusal, report, whole_acked}
 use Rattle.link_laws.specs.machine.Machine.{frames_out, turned, took}
 use Rattle.link_laws.specs.machine.Machine.LinkInput.{Take, Reset, Tick as HasTick}
-use Rattle.link_laws.specs.machine.Machine.Turn.{Give, Hold, FetchMessage, SetAside, Release}
+use Rattle.link_laws.specs.machine.Machine.Turn.{Give}
 use Rattle.link_laws.proofs.machine.Reports.{take_so}
 use Rattle.link_laws.proofs.machine.Runs.{Sound}
 use Rattle.link_laws.proofs.machine.Shifts.{Shift}
@@ -19,16 +19,17 @@ use Rattle.link_laws.proofs.machine.Shifts.Shift.{Stays, Ends, Renews, Begins, R
 use Rattle.link_laws.specs.messages.Links.{Link, Node, NumberedEnd, Ending, EndEvent, LinkEvent, Loss, exchanged, aged, number_of, put, with_ended}
 use Rattle.link_laws.specs.messages.Links.{ticks_at_controller, all_at_controller}
 use Rattle.link_laws.specs.messages.Links.Ending.{GoesOut, CutOff}
-use Rattle.link_laws.specs.messages.Links.Comes.{NextFrame, AsksReset, Starts, Stops, NoInput}
+use Rattle.link_laws.specs.messages.Links.Comes.{NextFrame, AsksReset, NoInput}
 use Rattle.link_laws.specs.messages.Links.EndEvent.{Step, Lose}
 use Rattle.link_laws.specs.messages.Links.LinkEvent.{AtController, AtHost, Ticks, TicksWithout, Activate}
-use Rattle.link_laws.specs.entries.Entries.{End, Entry, far, if_so, told, told_of, sent_unless, turn_entry, turn_entries, first_lost, pushed_out, wire_with}
+use Rattle.link_laws.specs.entries.Entries.{End, Entry, far, if_so, told, told_of, turn_entry, turn_entries, first_lost, pushed_out, wire_with}
 use Rattle.link_laws.specs.entries.Entries.{put_entries, puts_entries, rest_entries, left_after, taken_entries, step_entries, aged_entries, tick_entries}
 use Rattle.link_laws.specs.entries.Entries.{entries_of_events, event_entries}
 use Rattle.link_laws.specs.entries.Entries.End.{Controller, Host}
 use Rattle.link_laws.specs.entries.Entries.Entry.{Up, Down, Active, GaveUp, Acked, Got}
 use Rattle.world_laws.proofs.undisturbed.Losing.{Calm, calm_parts}
 use Rattle.world_laws.proofs.undisturbed.Events.{IsRoundEvent}
+use Rattle.node_laws.proofs.Cases.{by_test, by_option}
 
 -- a session begins
 abbrev pub begins_one : Entry → Bool
@@ -65,15 +66,8 @@ told_none who n r acked q =
 -- ## What goes out
 
 turn_none : (who : End) (n : ℕ) (e : LinkEnd) (t : Turn) → Unbegun (turn_entry who n e t)
-turn_none who n e (Give m) = go (give_refusal e m)
-  where
-    go : (o : Option Refused) → Unbegun (sent_unless o who n m)
-    go None = refl
-    go (Some why) = refl
-turn_none who n e (Hold held) = refl
-turn_none who n e FetchMessage = refl
-turn_none who n e SetAside = refl
-turn_none who n e Release = refl
+turn_none who n e (Give m) = by_option (give_refusal e m) (λ q. rw q refl) (λ why q. rw q refl)
+turn_none who n e _ = refl
 
 turns_none : (who : End) (n : ℕ) (e : LinkEnd) (ts : List Turn) → Unbegun (turn_entries who n e ts)
 turns_none who n e [] = refl
@@ -84,11 +78,7 @@ first_none who why [] = refl
 first_none who why (x ∷ xs) = refl
 
 pushed_none : (who : End) (w : List OnWire) → Unbegun (pushed_out who w)
-pushed_none who w = go (nat_lt 64 (length w)) refl
-  where
-    go : (b : Bool) → nat_lt 64 (length w) ≡ b → Unbegun (pushed_out who w)
-    go false q = rw q refl
-    go true q = rw q (first_none who _ w)
+pushed_none who w = by_test (nat_lt 64 (length w)) (λ q. rw q (first_none who _ w)) (λ q. rw q refl)
 
 puts_none : (who : End) (l : Link) (cs : List Control) → Unbegun (puts_entries who l cs)
 puts_none who l [] = refl
@@ -103,11 +93,7 @@ rest_none who k e ts CutOff = both_none (turn_entries who (number_of k.controlle
 
 aged_none : (who : End) (w : List OnWire) → Unbegun (aged_entries who w)
 aged_none who [] = refl
-aged_none who (x ∷ xs) = go (nat_lt x.age 4) refl (aged_none who xs)
-  where
-    go : (b : Bool) → nat_lt x.age 4 ≡ b → Unbegun (aged_entries who xs) → Unbegun (aged_entries who (x ∷ xs))
-    go true q later = rw q later
-    go false q later = rw q later
+aged_none who (x ∷ xs) = by_test (nat_lt x.age 4) (λ q. rw q (aged_none who xs)) (λ q. rw q (aged_none who xs))
 
 -- ## Events
 
@@ -182,22 +168,14 @@ event_none l (TicksWithout (Step (AsksReset None) ts ending ∷ []) h) is near f
     let m : Link = all_at_controller (aged l) es in
     starts_none l (entries_of_events Controller (aged l) es ++ tick_entries Host (exchanged m) h)
     (both_none (entries_of_events Controller (aged l) es) (tick_entries Host (exchanged m) h) (reset_none (aged l) ts ending) (tick_none Host (exchanged m) h))
-event_none l (AtController (Step (AsksReset window) ts ending)) is near far up there calm = absurd is
-event_none l (AtController (Step (Starts v) ts ending)) is near far up there calm = absurd is
-event_none l (AtController (Step Stops ts ending)) is near far up there calm = absurd is
+event_none l (AtController (Step _ ts ending)) is near far up there calm = absurd is
 event_none l (AtController (Lose why)) is near far up there calm = absurd is
-event_none l (AtHost (Step (AsksReset window) ts ending)) is near far up there calm = absurd is
-event_none l (AtHost (Step (Starts v) ts ending)) is near far up there calm = absurd is
-event_none l (AtHost (Step Stops ts ending)) is near far up there calm = absurd is
-event_none l (AtHost (Step NoInput ts ending)) is near far up there calm = absurd is
+event_none l (AtHost (Step _ ts ending)) is near far up there calm = absurd is
 event_none l (AtHost (Lose why)) is near far up there calm = absurd is
 event_none l (Ticks c (x ∷ xs) h) is near far up there calm = absurd is
 event_none l (TicksWithout [] h) is near far up there calm = absurd is
 event_none l (TicksWithout (Lose why ∷ xs) h) is near far up there calm = absurd is
-event_none l (TicksWithout (Step NextFrame ts ending ∷ xs) h) is near far up there calm = absurd is
-event_none l (TicksWithout (Step (Starts v) ts ending ∷ xs) h) is near far up there calm = absurd is
-event_none l (TicksWithout (Step Stops ts ending ∷ xs) h) is near far up there calm = absurd is
-event_none l (TicksWithout (Step NoInput ts ending ∷ xs) h) is near far up there calm = absurd is
 event_none l (TicksWithout (Step (AsksReset (Some window)) ts ending ∷ xs) h) is near far up there calm = absurd is
 event_none l (TicksWithout (Step (AsksReset None) ts ending ∷ (x ∷ xs)) h) is near far up there calm = absurd is
+event_none l (TicksWithout (Step _ ts ending ∷ xs) h) is near far up there calm = absurd is
 event_none l (Activate power c id h) is near far up there calm = absurd is

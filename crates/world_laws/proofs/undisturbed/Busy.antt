@@ -4,7 +4,6 @@ use Rattle.std.proofs.Common.{append-nil, append_assoc}
 use Rattle.std.specs.Prelude.{replicate, not, is_some, unwrap_or, ◌&&◌, if◌then◌else◌}
 use Rattle.std.specs.List.{fold, AllByRecursion}
 use Rattle.std.proofs.lemmas.Bool.{true≢false, eq-eqb}
-use Rattle.trace_model.specs.declared.entry.NoCause.{NoCause}
 use Rattle.trace_model.specs.declared.line.End.{End}
 use Rattle.trace_model.specs.declared.line.Header.{Header}
 use Rattle.trace_model.specs.declared.line.Line.{Line}
@@ -19,7 +18,7 @@ use Rattle.link_laws.specs.messages.Links.Comes.{NextFrame, AsksReset, NoInput}
 use Rattle.link_laws.specs.messages.Links.EndEvent.{Step, Lose}
 use Rattle.link_laws.specs.messages.Links.LinkEvent.{AtController, AtHost}
 use Rattle.history.specs.Damage.{Verdict}
-use Rattle.history.specs.Damage.Verdict.{Same, LostFor, Undetected}
+use Rattle.history.specs.Damage.Verdict.{Same}
 use Rattle.history.specs.Histories.{Cause, Outcome, events_of, causes_of}
 use Rattle.history.specs.Histories.Cause.{Given, Taken, WasLost, Ticked, WasReset, Readied}
 use Rattle.history.specs.Histories.Outcome.{Refused, Caused}
@@ -27,6 +26,7 @@ use Rattle.history.specs.Steps.{bare_link, events_at, link_after, link_after_all
 use Rattle.history.specs.Follows.{causes_in, damage_causes, first_verdict, frames_to, link_after_line, outcome_of, refusal, host_of, taken_of}
 use Rattle.history.specs.Filters.{same_side}
 use Rattle.history.proofs.legal.Asked.{only_one}
+use Rattle.node_laws.proofs.Cases.{by_option, by_test}
 use Rattle.node_laws.proofs.rounds.BareRounds.{after_causes}
 use Rattle.lines_told.specs.lines.Below.{IsPlayedLine, bare_link_behind, is_settling}
 use Rattle.lines_told.specs.lines.Plays.{Play, lines_played, plays_of_line, plays_of, rounds_to_rest}
@@ -91,14 +91,12 @@ cause_readies at_host l (Readied e ready) =
     at_one at_host e.at_host l (Step NoInput (Hold (not ready) ∷ []) GoesOut) (λ b. ready)
     (λ k. with_turn (Hold (not ready)) (λ b. ready) k
     (turned_ready k.controller.side (Hold (not ready) ∷ []) k.controller.side.shdlc.ready refl ∙ not_not ready))
-cause_readies at_host l Ticked = go at_host
+cause_readies at_host l Ticked = by_test at_host
+    (λ q. rw q ((ticked_here (exchanged m)).near ∙ (ticked_here (aged l)).far))
+    (λ q. rw q ((ticked_here (exchanged m)).far ∙ (ticked_here (aged l)).near))
   where
     m : Link
     m = ticks_at_controller (aged l) [] GoesOut
-
-    go : (at_host : Bool) → ready_at at_host (exchanged (ticks_at_controller (exchanged m) [] GoesOut)) ≡ ready_at at_host l
-    go true = (ticked_here (exchanged m)).near ∙ (ticked_here (aged l)).far
-    go false = (ticked_here (exchanged m)).far ∙ (ticked_here (aged l)).near
 
 abbrev pub readied_by_all : Bool → Bool → List Cause → Bool
 readied_by_all at_host before [] = before
@@ -114,24 +112,17 @@ pub rounds_ready : (at_host : Bool) (h : ℕ) (l : Link) (cs : List Cause) → A
 rounds_ready at_host h l [] a b = refl
 rounds_ready at_host h l (Taken e ∷ cs) a b = rounds_ready at_host h (link_after l (Taken e)) cs a.1 b
 rounds_ready at_host h l (Ticked ∷ cs) a b = rounds_ready at_host h (link_after l Ticked) cs a.1 b
-rounds_ready at_host h l (Given e m ∷ cs) a b = absurd a.0
-rounds_ready at_host h l (WasLost e why ∷ cs) a b = absurd a.0
-rounds_ready at_host h l (WasReset e window ∷ cs) a b = absurd a.0
-rounds_ready at_host h l (Readied e ready ∷ cs) a b = absurd a.0
+rounds_ready at_host h l (_ ∷ cs) a b = absurd a.0
 
 -- ## A line
 
 -- a line causes nothing, or these causes
 pub by_refusal : (P : List Cause → Type 0) (h : ℕ) (l : Link) (line : Line) → P [] → P (causes_in l line) → P (causes_of (events_of (outcome_of h l line)))
-by_refusal P h l line none some = go (refusal l line) refl
-  where
-    go : (o : Option NoCause) → refusal l line ≡ o → P (causes_of (events_of (outcome_of h l line)))
-    go (Some why) q =
-        let is : outcome_of h l line ≡ Refused why = rw q refl in
-        subst (λ (o : Outcome). P (causes_of (events_of o))) (sym is) none
-    go None q =
-        let is : outcome_of h l line ≡ Caused (events_at h l (causes_in l line)) = rw q refl in
-        subst (λ (o : Outcome). P (causes_of (events_of o))) (sym is) (subst P (sym (again h l (causes_in l line))) some)
+by_refusal P h l line none some = by_option (refusal l line)
+    (λ q. let is : outcome_of h l line ≡ Caused (events_at h l (causes_in l line)) = rw q refl in
+    subst (λ (o : Outcome). P (causes_of (events_of o))) (sym is) (subst P (sym (again h l (causes_in l line))) some))
+    (λ why q. let is : outcome_of h l line ≡ Refused why = rw q refl in
+    subst (λ (o : Outcome). P (causes_of (events_of o))) (sym is) none)
 
 repeated_ready : (at_host : Bool) (c : Cause) → ((b : Bool) → readied_by at_host b c ≡ b) → (n : ℕ) (b : Bool) → readied_by_all at_host b (replicate n c) ≡ b
 repeated_ready at_host c none zero b = refl
@@ -141,8 +132,7 @@ repeated_ready at_host c none (suc n) b =
 damage_ready : (at_host : Bool) (e : End) (v : Option Verdict) (b : Bool) → readied_by_all at_host b (damage_causes e v) ≡ b
 damage_ready at_host e None b = refl
 damage_ready at_host e (Some Same) b = refl
-damage_ready at_host e (Some (LostFor why)) b = refl
-damage_ready at_host e (Some (Undetected read)) b = refl
+damage_ready at_host e (Some _) b = refl
 
 module _ (header : Header) (is : IsHeader header) (at_host : Bool) where
   abbrev here : End
@@ -153,11 +143,7 @@ module _ (header : Header) (is : IsHeader header) (at_host : Bool) where
       ≡ cond (same_side e.at_host at_host) (not b) c
   same e known b c =
       let one : (e.link == host_of header) ≡ true = eq-eqb e.link (host_of header) (only_one header.hosts.items e.link is.one known) in
-      rw one (go (same_side e.at_host at_host))
-    where
-      go : (s : Bool) → not (cond s b (not c)) ≡ cond s (not b) c
-      go true = refl
-      go false = not_not c
+      rw one (by_test (same_side e.at_host at_host) (λ q. rw q refl) (λ q. rw q (not_not c)))
 
   -- the lines that aren't about it leave it
   kept : (l : Link) (line : Line) → ((b : Bool) → readied_by_all at_host b (causes_in l line) ≡ b)
@@ -239,11 +225,7 @@ module _ (header : Header) (is : IsHeader header) (at_host : Bool) where
 
   pub schedule_ready : (lines : List Line) → AllByRecursion (MayFollow header) lines → is_left_busy here lines ≡ false
       → ready_at at_host (behind (plays_of header lines)) ≡ true
-  schedule_ready lines may none = lines_ready lines [] false may (at_start at_host) ∙ ap not none
-    where
-      at_start : (b : Bool) → ready_at b bare_link ≡ true
-      at_start true = refl
-      at_start false = refl
+  schedule_ready lines may none = lines_ready lines [] false may (by_test at_host (λ q. rw q refl) (λ q. rw q refl)) ∙ ap not none
 
   -- ## Lines that are played
 
@@ -267,8 +249,4 @@ module _ (header : Header) (is : IsHeader header) (at_host : Bool) where
 
   pub played_ready : (lines : List Line) → AllByRecursion (IsPlayedLine header) lines → is_left_busy here lines ≡ false
       → ready_at at_host (behind_lines lines) ≡ true
-  played_ready lines may none = all_ready lines [] false may (at_start at_host) ∙ ap not none
-    where
-      at_start : (b : Bool) → ready_at b bare_link ≡ true
-      at_start true = refl
-      at_start false = refl
+  played_ready lines may none = all_ready lines [] false may (by_test at_host (λ q. rw q refl) (λ q. rw q refl)) ∙ ap not none

@@ -23,7 +23,7 @@ use Rattle.link_laws.specs.machine.Machine.LinkInput.{Take, Reset, Tick as HasTi
 use Rattle.link_laws.specs.messages.Links.{Link, NumberedEnd, Node, Ending, EndEvent, LinkEvent, exchanged, aged, happens, number_of, with_ended}
 use Rattle.link_laws.specs.messages.Links.{ticks_at_controller, all_at_controller, IsEvent, IsNode}
 use Rattle.link_laws.specs.messages.Links.Ending.{GoesOut, CutOff}
-use Rattle.link_laws.specs.messages.Links.Comes.{NextFrame, AsksReset, Starts, Stops, NoInput}
+use Rattle.link_laws.specs.messages.Links.Comes.{NextFrame, AsksReset, NoInput}
 use Rattle.link_laws.specs.messages.Links.EndEvent.{Step, Lose}
 use Rattle.link_laws.specs.messages.Links.LinkEvent.{AtController, AtHost, Ticks, TicksWithout, Activate}
 use Rattle.link_laws.specs.messages.Projection.{core_of, core_turns, core_take, core_ending, core_step, core_event, core_tick, core_tick_rest}
@@ -41,6 +41,7 @@ use Rattle.link_laws.proofs.entries.Running.{Before, IsUnderWay, before_here, be
 use Rattle.lines_told.specs.fragments.Rounds.{BothTakeFragments, AreUndisturbed}
 use Rattle.lines_told.proofs.messages.Projected.{open_up}
 use Rattle.world_laws.proofs.undisturbed.Losing.{troubles, Calm, calm_parts, rest_calm, cut_troubles, ages_calm, tick_calm}
+use Rattle.node_laws.proofs.Cases.{by_test}
 
 -- an event in a round of a world: an end takes a frame, the controller's node has turns there, or time passes, in which the controller's end
 -- may be reset
@@ -75,11 +76,7 @@ there_calm (e ∷ es) c fs a u = (other c a.0, a.1, there_calm es (core_happens 
 
 came_none : (c : CoreLink) (b : Bool) → (came_up no_losses c b).lost ≡ false
 came_none c false = refl
-came_none c true = go (is_up_with c.host (shdlc_number_of c.controller)) refl
-  where
-    go : (x : Bool) → is_up_with c.host (shdlc_number_of c.controller) ≡ x → (came_up no_losses c true).lost ≡ false
-    go true q = rw q refl
-    go false q = rw q refl
+came_none c true = by_test (is_up_with c.host (shdlc_number_of c.controller)) (λ q. rw q refl) (λ q. rw q refl)
 
 -- an end that is open takes this frame
 module _ (l : Link) (ts : List Turn) (x : OnWire) (xs : List OnWire) (first : l.to_controller ≡ x ∷ xs) (opened : is_open l.controller.side.role ≡ true)
@@ -339,22 +336,14 @@ module _ (l : Link) {t : List Entry} (w : IsUnderWay t l) (both : BothTakeFragme
           let Q : List CoreLinkEvent → Type 0 = λ es. AreUndisturbed (core_of l) (es ++ fs) in
           subst Q (sym (tick_is c h a parts)) (both, tick_lost c h a parts, subst P (tick_is c h a parts) later)
       go (TicksWithout (Step (AsksReset None) ts ending ∷ []) h) is a calm later = absurd (reset_ends l near_open both.controller_up ts ending h calm)
-      go (AtController (Step (AsksReset window) ts ending)) is a calm later = absurd is
-      go (AtController (Step (Starts v) ts ending)) is a calm later = absurd is
-      go (AtController (Step Stops ts ending)) is a calm later = absurd is
+      go (AtController (Step _ ts ending)) is a calm later = absurd is
       go (AtController (Lose why)) is a calm later = absurd is
-      go (AtHost (Step (AsksReset window) ts ending)) is a calm later = absurd is
-      go (AtHost (Step (Starts v) ts ending)) is a calm later = absurd is
-      go (AtHost (Step Stops ts ending)) is a calm later = absurd is
-      go (AtHost (Step NoInput ts ending)) is a calm later = absurd is
+      go (AtHost (Step _ ts ending)) is a calm later = absurd is
       go (AtHost (Lose why)) is a calm later = absurd is
       go (Ticks c (x ∷ xs) h) is a calm later = absurd is
       go (TicksWithout [] h) is a calm later = absurd is
       go (TicksWithout (Lose why ∷ xs) h) is a calm later = absurd is
-      go (TicksWithout (Step NextFrame ts ending ∷ xs) h) is a calm later = absurd is
-      go (TicksWithout (Step (Starts v) ts ending ∷ xs) h) is a calm later = absurd is
-      go (TicksWithout (Step Stops ts ending ∷ xs) h) is a calm later = absurd is
-      go (TicksWithout (Step NoInput ts ending ∷ xs) h) is a calm later = absurd is
       go (TicksWithout (Step (AsksReset (Some window)) ts ending ∷ xs) h) is a calm later = absurd is
       go (TicksWithout (Step (AsksReset None) ts ending ∷ (x ∷ xs)) h) is a calm later = absurd is
+      go (TicksWithout (Step _ ts ending ∷ xs) h) is a calm later = absurd is
       go (Activate power c id h) is a calm later = absurd is

@@ -1,5 +1,5 @@
 -- Behind each step of a node an end that takes no fragments is one whose first message was noted as held.
-use Rattle.std.proofs.Common.{◌≡◌, ℕ, ◌==◌, Bool, true, false, cond, List, [], ◌∷◌, map, Option, Some, None, refl, ap, sym, subst, ◌∙◌}
+use Rattle.std.proofs.Common.{◌≡◌, ℕ, ◌==◌, Bool, true, false, List, [], ◌∷◌, map, Option, Some, None, refl, ap, sym, subst, ◌∙◌}
 use Rattle.std.specs.Prelude.{not}
 use Rattle.std.specs.Option.{option_map_or}
 use Rattle.std.specs.List.{flat_map}
@@ -12,7 +12,7 @@ use Rattle.link_laws.specs.machine.Machine.LinkInput.{Reset, Tick}
 use Rattle.link_laws.specs.machine.Machine.Turn.{FetchMessage, Give, Hold, Release, SetAside}
 use Rattle.node_machine.specs.Parts.{About, Desk, Port, Work, Deed}
 use Rattle.node_machine.specs.Parts.About.{Waits, Removed}
-use Rattle.node_machine.specs.Parts.Deed.{Commits, Sends, SaysOk, Asks, Releases, Tells, IsAnswered, Drops, SetsErrors, Orders, Hears, GoesOn, Ends}
+use Rattle.node_machine.specs.Parts.Deed.{Commits, Sends, Asks, Releases, Tells, IsAnswered, SetsErrors, Orders}
 use Rattle.node_machine.specs.Carrying.{after_turn, all_done, changed_if, commit, done, end_of_node, notified, noting, port_at, turn_at}
 use Rattle.node_machine.specs.Carrying.{unless_cut, with_desk, with_port}
 use Rattle.node_machine.specs.Controller.{asked_at}
@@ -20,6 +20,7 @@ use Rattle.node_machine.specs.Turns.{deeds_of, goes_through_ends, handles, have_
 use Rattle.node_machine.specs.Node.{NodeInput, after_sessions, all_come, all_owed, forgets, forgotten, has_come, input_at, is_forgotten, is_late}
 use Rattle.node_machine.specs.Node.{is_over, reset_late, steps, synced, times_out, with_older, without_notice}
 use Rattle.node_machine.specs.Node.NodeInput.{AtEnd, TimePasses}
+use Rattle.node_laws.proofs.Cases.{by_option, by_test}
 use Rattle.node_laws.proofs.kept.Doing.{stays_cut, uncut}
 use Rattle.node_laws.proofs.steps.Ports.{changed_host, come_host, forgets_host, late_host, without_host}
 use Rattle.node_laws.proofs.steps.StepWalks.{unless}
@@ -43,11 +44,9 @@ There P (Some p) = P p
 
 map_there : (P Q : Port → Type 0) (f : Port → Port) → ((p : Port) → (f p).desk.host ≡ p.desk.host) → (ports : List Port) (k : ℕ)
     → ((p : Port) → P p → Q (f p)) → There P (port_at ports k) → There Q (port_at (map f ports) k)
-map_there P Q f host ports k one a = go (port_at ports k) refl
-  where
-    go : (o : Option Port) → port_at ports k ≡ o → There Q (port_at (map f ports) k)
-    go None q = absurd (subst (There P) q a)
-    go (Some p) q = subst (There Q) (sym (at_map f host ports k p q)) (one p (subst (There P) q a))
+map_there P Q f host ports k one a = by_option (port_at ports k)
+    (λ q. absurd (subst (There P) q a))
+    (λ p q. subst (There Q) (sym (at_map f host ports k p q)) (one p (subst (There P) q a)))
 
 with_there : (P : Port → Type 0) (j : ℕ) (f : Port → Port) → ((p : Port) → (f p).desk.host ≡ p.desk.host) → (ports : List Port) (k : ℕ)
     → ((p : Port) → P p → P (f p)) → There P (port_at ports k) → There P (port_at (with_port j f ports) k)
@@ -68,11 +67,8 @@ IsNoHold (Hold held) = ⊥
 IsNoHold _ = Unit {0}
 
 no_hold : (ready : Bool) (t : Turn) → IsNoHold t → ready_after ready t ≡ ready
-no_hold ready (Give m) n = refl
 no_hold ready (Hold held) n = absurd n
-no_hold ready FetchMessage n = refl
-no_hold ready SetAside n = refl
-no_hold ready Release n = refl
+no_hold ready _ n = refl
 
 -- whether this end takes fragments is told by its turns, where it took them before or didn't
 abbrev pub AreTold : Bool → Port → Type 0
@@ -132,27 +128,19 @@ module _ (k : ℕ) (ready : Bool) where
       (kept_turn j (Give (1, message)) w tt a)
 
   kept_commit : (c : Command) (w : Work) → Kept w → Kept (commit c w)
-  kept_commit c w a = go (goes_in c w) refl
-    where
-      go : (f : Bool) → goes_in c w ≡ f → Kept (commit c w)
-      go true q = rw q a
-      go false q = rw q a
+  kept_commit c w a = by_test (goes_in c w) (λ q. rw q a) (λ q. rw q a)
 
   kept_deed : (h : ℕ) (d : Deed) (w : Work) → Kept w → Kept (done h d w)
   kept_deed h (Commits c) w a = kept_commit c w a
   kept_deed h (Sends to m) w a = kept_turn to (Give m) w tt a
-  kept_deed h SaysOk w a = a
   kept_deed h (Asks to message c) w a =
       kept_notified to (Waits c) message (noting (entry.Ask to message ∷ []) (turn_at c.asker SetAside w)) (kept_turn c.asker SetAside w tt a)
   kept_deed h (Releases asker) w a = kept_turn asker Release w tt a
   kept_deed h (Tells to message) w a = kept_notified to Removed message w a
   kept_deed h IsAnswered w a = kept_desk h (λ d. record d { notice = None }) w (λ d. refl) (λ d. refl) a
-  kept_deed h (Drops pid) w a = a
   kept_deed h (SetsErrors errors) w a = kept_desk h (λ d. record d { errors = errors }) w (λ d. refl) (λ d. refl) a
   kept_deed h (Orders message) w a = kept_turn h (Give (1, message)) (record w { core = record w.core { command = Some message } }) tt a
-  kept_deed h Hears w a = a
-  kept_deed h (GoesOn i) w a = a
-  kept_deed h (Ends e) w a = a
+  kept_deed h _ w a = a
 
   pub kept_deeds : (h : ℕ) (deeds : List Deed) (w : Work) → Kept w → Kept (all_done h deeds w)
   kept_deeds h [] w a = a
@@ -213,7 +201,9 @@ module _ (k : ℕ) (ready : Bool) where
 
   own_turns : (messages : List Message) (w : Work) → Told w → IfOn Kept (have_turns k messages w)
   own_turns [] w a = λ on. lets_own w a
-  own_turns (m ∷ messages) w a = go (lacking w k m) refl (λ u x. own_turns messages u x)
+  own_turns (m ∷ messages) w a = by_option (lacking w k m)
+      (λ q. subst (IfOn Kept) (sym (have_handled k m messages w q)) (by v.cut refl (λ u x. own_turns messages u x)))
+      (λ short q. subst (IfOn Kept) (sym (have_held k m messages w short q)) (λ on. holds_own short w a))
     where
       v : Work
       v = handles k m (deeds_of w.core w.ports k m) w
@@ -221,11 +211,6 @@ module _ (k : ℕ) (ready : Bool) where
       by : (c : Bool) → v.cut ≡ c → ((u : Work) → Told u → IfOn Kept (have_turns k messages u)) → IfOn Kept (unless_cut (have_turns k messages) v)
       by true z later = subst (IfOn Kept) (sym (stays_cut (have_turns k messages) v z)) (λ on. absurd (true≢false (sym z ∙ on)))
       by false z later = subst (IfOn Kept) (sym (uncut (have_turns k messages) v z)) (later v (told_handles m w a))
-
-      go : (o : Option (ℕ × ℕ)) → lacking w k m ≡ o → ((u : Work) → Told u → IfOn Kept (have_turns k messages u))
-          → IfOn Kept (have_turns k (m ∷ messages) w)
-      go None q later = subst (IfOn Kept) (sym (have_handled k m messages w q)) (by v.cut refl later)
-      go (Some short) q later = subst (IfOn Kept) (sym (have_held k m messages w short q)) (λ on. holds_own short w a)
 
   -- ## Turns of other ends
 
@@ -239,21 +224,15 @@ module _ (k : ℕ) (ready : Bool) where
         (sym (other_stays h k (λ (p : Port). record p { desk = record p.desk { holds = flag } }) (λ p. refl) w.ports off)) a
 
     lets_other : (w : Work) → Kept w → Kept (lets_go h w)
-    lets_other w a = go (option_map_or (λ (p : Port). is_held p.side) (port_at w.ports h) false) refl
-      where
-        go : (b : Bool) → option_map_or (λ (p : Port). is_held p.side) (port_at w.ports h) false ≡ b → Kept (lets_go h w)
-        go true q = rw q (turn_other (Hold false) w a)
-        go false q = rw q a
+    lets_other w a = by_test (option_map_or (λ (p : Port). is_held p.side) (port_at w.ports h) false) (λ q. rw q (turn_other (Hold false) w a)) (λ q. rw q a)
 
     holds_other : (short : ℕ × ℕ) (w : Work) → Kept w → Kept (holds_back h short w)
-    holds_other short w a = go (is_held_at w.ports h) refl
+    holds_other short w a = by_test (is_held_at w.ports h)
+        (λ q. rw q (turn_other (Hold true) w a))
+        (λ q. rw q (turn_other (Hold true) (with_desk h (λ d. record d { holds = true }) noted) (desk_other true noted a)))
       where
         noted : Work
         noted = noting (entry.Held (end_of_node w.core h) short.0 short.1 ∷ []) w
-
-        go : (b : Bool) → is_held_at w.ports h ≡ b → Kept (holds_back h short w)
-        go true q = rw q (turn_other (Hold true) w a)
-        go false q = rw q (turn_other (Hold true) (with_desk h (λ d. record d { holds = true }) noted) (desk_other true noted a))
 
     handles_other : (m : Message) (deeds : List Deed) (w : Work) → Kept w → Kept (handles h m deeds w)
     handles_other m deeds w a =
@@ -263,16 +242,13 @@ module _ (k : ℕ) (ready : Bool) where
 
     other_turns : (messages : List Message) (w : Work) → Kept w → Kept (have_turns h messages w)
     other_turns [] w a = lets_other w a
-    other_turns (m ∷ messages) w a = go (lacking w h m) refl (λ u x. other_turns messages u x)
+    other_turns (m ∷ messages) w a = by_option (lacking w h m)
+        (λ q. subst Kept (sym (have_handled h m messages w q))
+        (unless Kept (have_turns h messages) (handles h m deeds w) (λ u x. other_turns messages u x) (handles_other m deeds w a)))
+        (λ short q. subst Kept (sym (have_held h m messages w short q)) (holds_other short w a))
       where
         deeds : List Deed
         deeds = deeds_of w.core w.ports h m
-
-        go : (o : Option (ℕ × ℕ)) → lacking w h m ≡ o → ((u : Work) → Kept u → Kept (have_turns h messages u)) → Kept (have_turns h (m ∷ messages) w)
-        go None q later =
-            subst Kept (sym (have_handled h m messages w q))
-            (unless Kept (have_turns h messages) (handles h m deeds w) later (handles_other m deeds w a))
-        go (Some short) q later = subst Kept (sym (have_held h m messages w short q)) (holds_other short w a)
 
   -- ## A pass
 
@@ -305,36 +281,20 @@ module _ (k : ℕ) (ready : Bool) where
   come_kept p i is a = same_kept p (has_come p (Some i)) (coming_ready p.side i is) refl refl a
 
   come_there : (input : NodeInput) → IsOutside input → (p : Port) → KeepsHeld ready p → KeepsHeld ready (has_come p (input_at input p))
-  come_there (AtEnd h i) is p a = by (p.desk.host == h)
-    where
-      by : (b : Bool) → KeepsHeld ready (has_come p (cond b (Some i) None))
-      by true = come_kept p i is a
-      by false = a
+  come_there (AtEnd h i) is p a = by_test (p.desk.host == h) (λ q. rw q (come_kept p i is a)) (λ q. rw q a)
   come_there TimePasses is p a = come_kept p Tick tt a
 
   late_kept : (p : Port) → KeepsHeld ready p → KeepsHeld ready (reset_late p)
-  late_kept p a = by (is_late p)
+  late_kept p a = by_test (is_late p) (λ q. rw q (same_kept p late (asked_ready p.side None) refl refl a)) (λ q. rw q a)
     where
       late : Port
       late = record p { side = after_input p.side (Reset None); late = true }
 
-      by : (b : Bool) → KeepsHeld ready (cond b late p)
-      by true = same_kept p late (asked_ready p.side None) refl refl a
-      by false = a
-
   forgets_kept : (ports : List Port) (p : Port) → KeepsHeld ready p → KeepsHeld ready (forgets ports p)
-  forgets_kept ports p a = by (is_forgotten ports (asked_at p)) refl
-    where
-      by : (b : Bool) → is_forgotten ports (asked_at p) ≡ b → KeepsHeld ready (forgets ports p)
-      by true q = rw q (record { told = a.told; held = a.held })
-      by false q = rw q a
+  forgets_kept ports p a = by_test (is_forgotten ports (asked_at p)) (λ q. rw q (record { told = a.told; held = a.held })) (λ q. rw q a)
 
   without_kept : (p : Port) → KeepsHeld ready p → KeepsHeld ready (without_notice p)
-  without_kept p a = by (is_over p) refl
-    where
-      by : (b : Bool) → is_over p ≡ b → KeepsHeld ready (without_notice p)
-      by true q = rw q (record { told = a.told; held = a.held })
-      by false q = rw q a
+  without_kept p a = by_test (is_over p) (λ q. rw q (record { told = a.told; held = a.held })) (λ q. rw q a)
 
   came_kept : (input : NodeInput) (w : Work) → IsOutside input → Kept w → Kept (times_out input (all_come input w))
   came_kept (AtEnd h i) w is a =
@@ -350,7 +310,9 @@ module _ (k : ℕ) (ready : Bool) where
   -- ## Steps
 
   pub step_kept : (input : NodeInput) (w : Work) → IsOutside input → Kept w → IfOn Kept (steps input w)
-  step_kept input w is a = by v.cut refl
+  step_kept input w is a = by_test v.cut
+      (λ z. subst (IfOn Kept) (sym (stays_cut passes v z)) (λ on. absurd (true≢false (sym z ∙ on))))
+      (λ z. subst (IfOn Kept) (sym (uncut passes v z)) (going (map (λ (p : Port). p.desk.host) v.ports) v before))
     where
       came : Work
       came = times_out input (all_come input w)
@@ -380,7 +342,3 @@ module _ (k : ℕ) (ready : Bool) where
       before =
           unless Kept (all_done 0 (all_owed left)) done_so_far (λ u x. kept_deeds 0 (all_owed left) u x)
           (kept_deeds 0 syncs (all_done 0 (forgotten came.ports) start) (kept_deeds 0 (forgotten came.ports) start begun))
-
-      by : (c : Bool) → v.cut ≡ c → IfOn Kept (steps input w)
-      by true z = subst (IfOn Kept) (sym (stays_cut passes v z)) (λ on. absurd (true≢false (sym z ∙ on)))
-      by false z = subst (IfOn Kept) (sym (uncut passes v z)) (going (map (λ (p : Port). p.desk.host) v.ports) v before)

@@ -14,7 +14,7 @@ use Rattle.link_laws.specs.messages.Links.Comes.{AsksReset, NextFrame, NoInput, 
 use Rattle.link_laws.specs.messages.Links.EndEvent.{Lose, Step}
 use Rattle.link_laws.specs.messages.Links.Ending.{CutOff, GoesOut}
 use Rattle.link_laws.specs.messages.Links.LinkEvent.{AtController, AtHost}
-use Rattle.link_laws.specs.messages.Links.Loss.{Broken, OnDemand, TooMany, TooOld, Unread}
+use Rattle.link_laws.specs.messages.Links.Loss.{Broken}
 use Rattle.link_laws.specs.entries.Entries.End.{Controller, Host}
 use Rattle.history.specs.Steps.{entries_for}
 use Rattle.node_machine.specs.Parts.{Deed, Port, Running, Work}
@@ -309,10 +309,7 @@ module _ (h : ℕ) where
     counts_held : (why : Loss) (k : ℕ) (o : Option Running) (j : ℕ) (e : LinkEnd) → IsHeldSo o j e → IsHeldSo (counts why k o) j e
     counts_held (Broken fault) k None j e a = a
     counts_held (Broken fault) k (Some r) j e a = λ busy. error_held k r.desks j ∙ a busy
-    counts_held OnDemand k o j e a = a
-    counts_held Unread k o j e a = a
-    counts_held TooOld k o j e a = a
-    counts_held TooMany k o j e a = a
+    counts_held _ k o j e a = a
 
     lost_near : (why : Loss) (b : Bool) (l : Link) → (happens l (cond b (AtHost (Lose why)) (AtController (Lose why)))).controller.side ≡ l.controller.side
     lost_near why true l = refl

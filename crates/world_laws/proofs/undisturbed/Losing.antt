@@ -24,6 +24,7 @@ use Rattle.link_laws.specs.entries.Entries.{End, Entry, far, first_lost, pushed_
 use Rattle.link_laws.specs.entries.Entries.{told_of, aged_entries, tick_entries}
 use Rattle.link_laws.specs.entries.Entries.Entry.{Down, Lost, Restarted, Cut}
 use Rattle.link_laws.proofs.entries.Losing.{out_noted}
+use Rattle.node_laws.proofs.Cases.{by_test}
 
 -- a frame is lost, a session ends, or an end is started, stopped or cut off
 abbrev pub troubles : Entry → Bool
@@ -67,11 +68,9 @@ push_lost who l c q = go (nat_lt 64 (length (wire_with l c))) refl (wire_with l 
 
 -- a frame goes out
 put_calm : (n : Losses) (who : End) (l : Link) (c : Control) → n.lost ≡ false → Calm (put_entries who l c) → (noted_loss n (core_of l) c).lost ≡ false
-put_calm n who l c none calm = go (overflows (l.to_host ++ record { frame = c; age = 0; number = 0 } ∷ [])) refl
-  where
-    go : (x : Bool) → overflows (l.to_host ++ record { frame = c; age = 0; number = 0 } ∷ []) ≡ x → (noted_loss n (core_of l) c).lost ≡ false
-    go true q = absurd (true≢false (sym (push_lost who l c q) ∙ calm))
-    go false q = rw (none, q) refl
+put_calm n who l c none calm = by_test (overflows (l.to_host ++ record { frame = c; age = 0; number = 0 } ∷ []))
+    (λ q. absurd (true≢false (sym (push_lost who l c q) ∙ calm)))
+    (λ q. rw (none, q) refl)
 
 -- all frames that go out
 pub flush_calm : (cs : List Control) (n : Losses) (who : End) (l : Link) → n.lost ≡ false → Calm (puts_entries who l cs)
@@ -105,11 +104,7 @@ aged_lost who (x ∷ xs) q = go (nat_lt x.age 4) (is_act x.frame) refl refl (age
     go true false r s later = rw r (later (let z = q in rw (s, r) at z))
 
 aged_calm : (who : End) (w : List OnWire) → Calm (aged_entries who w) → loses_aged (sans w) ≡ false
-aged_calm who w calm = go (loses_aged (sans w)) refl
-  where
-    go : (b : Bool) → loses_aged (sans w) ≡ b → loses_aged (sans w) ≡ false
-    go false q = q
-    go true q = absurd (true≢false (sym (aged_lost who w q) ∙ calm))
+aged_calm who w calm = by_test (loses_aged (sans w)) (λ q. absurd (true≢false (sym (aged_lost who w q) ∙ calm))) (λ q. q)
 
 pub ages_calm : (near far : End) (n : Losses) (l : Link) → n.lost ≡ false → Calm (aged_entries near l.to_controller) → Calm (aged_entries far l.to_host)
     → (noted_aged n (core_of l)).lost ≡ false

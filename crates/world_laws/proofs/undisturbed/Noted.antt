@@ -1,5 +1,5 @@
 -- Where entries tell of nothing that disturbs a link, the law of one link notes nothing that does.
-use Rattle.std.proofs.Common.{◌≡◌, ℕ, ◌==◌, Bool, true, false, List, [], ◌∷◌, ◌++◌, Option, Some, None, refl, ap, sym, subst, ◌∙◌, append-nil}
+use Rattle.std.proofs.Common.{◌≡◌, ℕ, ◌==◌, Bool, false, List, [], ◌∷◌, ◌++◌, Option, Some, None, refl, ap, sym, subst, ◌∙◌, append-nil}
 use Rattle.std.specs.Prelude.{◌||◌}
 use Rattle.std.specs.List.{list_any}
 use Rattle.std.proofs.lemmas.Bool.{true≢false}
@@ -8,13 +8,14 @@ use Rattle.trace_model.specs.declared.entry.Entry.{Entry}
 use Rattle.trace_model.specs.declared.line.End.{End}
 use Rattle.link_laws.specs.messages.Links.{Link, LinkEvent}
 use Rattle.link_laws.specs.entries.Entries.{Entry as Noted, entries, event_entries}
-use Rattle.link_laws.specs.entries.Entries.Entry.{Up, Down, Active, GaveUp, Acked, Got, Sent, Emit, Took, Lost, Tick, Restarted, Cut}
+use Rattle.link_laws.specs.entries.Entries.Entry.{Down, Lost, Restarted, Cut}
 use Rattle.history.specs.Filters.{Saying, said}
-use Rattle.history.specs.Filters.Saying.{Begins, Ends, Sends, Gets, Counts, Puts, Takes, Loses}
+use Rattle.history.specs.Filters.Saying.{Ends, Loses}
 use Rattle.history.specs.Legal.{has_lost, loses_on}
 use Rattle.history.specs.Steps.{end_of, entries_for}
 use Rattle.history.proofs.legal.Reading.{link_same}
 use Rattle.node_laws.specs.telling.Telling.{of_link, is_of, tells_of, TellOf}
+use Rattle.node_laws.proofs.Cases.{by_test}
 use Rattle.node_laws.proofs.telling.Accounts.{untold}
 use Rattle.node_laws.specs.telling.Standing.{Standing, standing, standing_by_law, StandsOf}
 use Rattle.node_laws.specs.order.Resets.{cuts_on}
@@ -30,54 +31,29 @@ use Rattle.world_laws.proofs.undisturbed.Runs.{AreRoundEvents}
 pub noted_calm : (h : ℕ) (t : List Noted) → AreUnstarted t → list_any is_cut t ≡ false → has_ended h (entries_for h t) ≡ false
     → has_lost h (entries_for h t) ≡ false → Calm t
 noted_calm h [] u c a b = refl
-noted_calm h (Up w n ∷ t) u c a b = noted_calm h t u.1 c a b
 noted_calm h (Down w cause ∷ t) u c a b =
     absurd (true≢false (sym (link_same h w) ∙ (or_calm ((end_of h w).link == h) (has_ended h (entries_for h t)) a).0))
-noted_calm h (Active w ∷ t) u c a b = noted_calm h t u.1 c a b
-noted_calm h (GaveUp w tries ∷ t) u c a b = noted_calm h t u.1 c a b
-noted_calm h (Acked w n count ∷ t) u c a b = noted_calm h t u.1 c a b
-noted_calm h (Got w n m ∷ t) u c a b = noted_calm h t u.1 c a b
-noted_calm h (Sent w n m ∷ t) u c a b = noted_calm h t u.1 c a b
-noted_calm h (Emit w frame ∷ t) u c a b = noted_calm h t u.1 c a b
-noted_calm h (Took w frame ∷ t) u c a b = noted_calm h t u.1 c a b
 noted_calm h (Lost w frame why ∷ t) u c a b =
     absurd (true≢false (sym (link_same h w) ∙ (or_calm ((end_of h w).link == h) (has_lost h (entries_for h t)) b).0))
-noted_calm h (Tick ∷ t) u c a b = noted_calm h t u.1 c a b
 noted_calm h (Restarted w ∷ t) u c a b = absurd u.0
 noted_calm h (Cut w ∷ t) u c a b = absurd (true≢false c)
+noted_calm h (_ ∷ t) u c a b = noted_calm h t u.1 c a b
 
 -- what is said of other links ends no session of this one, and loses no frame of it
 ends_off : (h : ℕ) (o : Option (End × Saying)) → is_of h o ≡ false → ends_on h o ≡ false
 ends_off h None q = refl
 ends_off h (Some (e, Ends)) q = q
-ends_off h (Some (e, Begins n)) q = refl
-ends_off h (Some (e, Sends n m)) q = refl
-ends_off h (Some (e, Gets n m)) q = refl
-ends_off h (Some (e, Counts n k)) q = refl
-ends_off h (Some (e, Puts f)) q = refl
-ends_off h (Some (e, Takes f)) q = refl
-ends_off h (Some (e, Loses f)) q = refl
+ends_off h (Some (e, _)) q = refl
 
 loses_off : (h : ℕ) (o : Option (End × Saying)) → is_of h o ≡ false → loses_on h o ≡ false
 loses_off h None q = refl
 loses_off h (Some (e, Loses f)) q = q
-loses_off h (Some (e, Begins n)) q = refl
-loses_off h (Some (e, Ends)) q = refl
-loses_off h (Some (e, Sends n m)) q = refl
-loses_off h (Some (e, Gets n m)) q = refl
-loses_off h (Some (e, Counts n k)) q = refl
-loses_off h (Some (e, Puts f)) q = refl
-loses_off h (Some (e, Takes f)) q = refl
+loses_off h (Some (e, _)) q = refl
 
 module _ (h : ℕ) (f : Option (End × Saying) → Bool) (off : (o : Option (End × Saying)) → is_of h o ≡ false → f o ≡ false) where
   any_of : (t : List Entry) → list_any (λ x. f (said x)) t ≡ list_any (λ x. f (said x)) (of_link h t)
   any_of [] = refl
-  any_of (x ∷ t) = go (tells_of h x) refl (any_of t)
-    where
-      go : (b : Bool) → tells_of h x ≡ b → list_any (λ x. f (said x)) t ≡ list_any (λ x. f (said x)) (of_link h t)
-          → list_any (λ x. f (said x)) (x ∷ t) ≡ list_any (λ x. f (said x)) (of_link h (x ∷ t))
-      go true p later = rw p (ap (λ b. f (said x) || b) later)
-      go false p later = let z = off (said x) (untold h x p) in rw (p, z) later
+  any_of (x ∷ t) = by_test (tells_of h x) (λ p. rw p (ap (λ b. f (said x) || b) (any_of t))) (λ p. let z = off (said x) (untold h x p) in rw (p, z) (any_of t))
 
   -- entries that tell the same of the link
   same_of : (t u : List Entry) → of_link h t ≡ of_link h u → list_any (λ x. f (said x)) t ≡ list_any (λ x. f (said x)) u

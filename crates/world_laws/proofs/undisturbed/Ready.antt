@@ -1,8 +1,8 @@
 -- What an end takes and sends leaves whether it takes fragments: its node alone says so.
 use Rattle.std.proofs.Common.{◌≡◌, ℕ, ◌==◌, Bool, true, false, Option, Some, None, refl, ap, ◌∙◌, cond}
-use Rattle.std.specs.Prelude.{◌+◌, nat_lt, not, is_some}
+use Rattle.std.specs.Prelude.{nat_lt, not, is_some}
 use Rattle.swp_base.specs.declared.control_frames.Kind.{Kind}
-use Rattle.swp_base.specs.declared.control_frames.Kind.TheVariants.{Rr, Rej, Rnr, Srej}
+use Rattle.swp_base.specs.declared.control_frames.Kind.TheVariants.{Srej}
 use Rattle.swp_base.specs.declared.control_frames.Control.{Control}
 use Rattle.swp_base.specs.declared.control_frames.Control.TheVariants.{I, S, Rset, Ua, Act, Clt}
 use Rattle.swp_base.specs.declared.control_frames.Act.{Act as Activation}
@@ -12,12 +12,13 @@ use Rattle.shdlc_core.specs.declared.answers.LinkState.{LinkState}
 use Rattle.shdlc_core.specs.declared.answers.LinkState.TheVariants.{Down, Waiting, Up}
 use Rattle.shdlc_core.specs.Machine.{EndState, Fragment, place_of, acknowledged, ahead, received, reset_taken, taken, take_answer, ticked, tick_answer, timed}
 use Rattle.shdlc_core.specs.Machine.{runs_timer, is_waiting, reset_with, with_ready, Timed, most_frames}
-use Rattle.shdlc_core.specs.Machine.Timed.{Runs, Over, Spent}
-use Rattle.link_laws.specs.machine.Machine.{LinkEnd, Refused, Turn, is_open, act_answer, with_act, put_down, activated, moved, heard, took, turn, given}
-use Rattle.link_laws.specs.machine.Machine.{give_refusal, aside_refusal, unless, had_tick, reset_by, reset_refusal, after_input, window_of, is_faulty, sent_all}
+use Rattle.shdlc_core.specs.Machine.Timed.{Runs}
+use Rattle.link_laws.specs.machine.Machine.{LinkEnd, Turn, is_open, act_answer, with_act, put_down, activated, moved, heard, took, turn}
+use Rattle.link_laws.specs.machine.Machine.{give_refusal, aside_refusal, had_tick, reset_refusal, after_input, window_of, is_faulty, sent_all}
 use Rattle.link_laws.specs.machine.Machine.LinkInput.{Reset}
 use Rattle.link_laws.specs.machine.Machine.Turn.{Give, Hold, FetchMessage, SetAside, Release}
 use Rattle.lines_told.proofs.fragments.Sends.{sent_same}
+use Rattle.node_laws.proofs.Cases.{by_test, by_option}
 
 received_ready : (e : EndState) (ns : ℕ) (info : Fragment) → (received e ns info).ready ≡ e.ready
 received_ready e ns info = go e.ready (ahead e.session ns == 0) (nat_lt (ahead e.session ns) 4) e.session.gap_open refl refl refl refl
@@ -36,8 +37,7 @@ taken_ready e c = go e.phase c refl
     reset : (p : LinkState) (w : ℕ) (b : Bool) → e.phase ≡ p → (w == 0) ≡ b → (reset_taken e w).ready ≡ e.ready
     reset p w true q z = rw z refl
     reset Up w false q z = rw (z, q) refl
-    reset Waiting w false q z = rw (z, q) refl
-    reset Down w false q z = rw (z, q) refl
+    reset _ w false q z = rw (z, q) refl
 
     frame : (ns nr : ℕ) (info : Fragment) (o : Option ℕ) → e.phase ≡ Up → place_of e.session nr ≡ o → (taken e (I ns nr info)).ready ≡ e.ready
     frame ns nr info None p q = rw (p, q) refl
@@ -46,33 +46,19 @@ taken_ready e c = go e.phase c refl
         ap (λ (f : EndState). f.ready) is ∙ received_ready (acknowledged e x) ns info
 
     supervised : (kind : Kind) (nr : ℕ) (o : Option ℕ) → e.phase ≡ Up → place_of e.session nr ≡ o → (taken e (S kind nr)).ready ≡ e.ready
-    supervised Rr nr None p q = rw (p, q) refl
-    supervised Rr nr (Some x) p q = rw (p, q) refl
-    supervised Rej nr None p q = rw (p, q) refl
-    supervised Rej nr (Some x) p q = rw (p, q) refl
-    supervised Rnr nr None p q = rw (p, q) refl
-    supervised Rnr nr (Some x) p q = rw (p, q) refl
     supervised Srej nr o p q = rw p refl
+    supervised _ nr (Some x) p q = rw (p, q) refl
+    supervised _ nr None p q = rw (p, q) refl
 
     go : (p : LinkState) (c : Control) → e.phase ≡ p → (taken e c).ready ≡ e.ready
     go Up (I ns nr info) p = frame ns nr info (place_of e.session nr) p refl
     go Up (S kind nr) p = supervised kind nr (place_of e.session nr) p refl
     go Up (Rset w caps) p = let r = reset Up w (w == 0) p refl in rw p (rw p at r)
-    go Up Ua p = rw p refl
-    go Up (Act act again) p = rw p refl
-    go Up Clt p = rw p refl
-    go Waiting (I ns nr info) p = rw p refl
-    go Waiting (S kind nr) p = rw p refl
+    go Up _ p = rw p refl
     go Waiting (Rset w caps) p = let r = reset Waiting w (w == 0) p refl in rw p (rw p at r)
-    go Waiting Ua p = rw p refl
-    go Waiting (Act act again) p = rw p refl
-    go Waiting Clt p = rw p refl
-    go Down (I ns nr info) p = rw p refl
-    go Down (S kind nr) p = rw p refl
+    go Waiting _ p = rw p refl
     go Down (Rset w caps) p = let r = reset Down w (w == 0) p refl in rw p (rw p at r)
-    go Down Ua p = rw p refl
-    go Down (Act act again) p = rw p refl
-    go Down Clt p = rw p refl
+    go Down _ p = rw p refl
 
 pub ticked_ready : (e : EndState) → (ticked e).ready ≡ e.ready
 ticked_ready e = go e.phase (runs_timer e.session) (timed e) refl refl refl
@@ -80,19 +66,13 @@ ticked_ready e = go e.phase (runs_timer e.session) (timed e) refl refl refl
     go : (p : LinkState) (b : Bool) (t : Timed) → e.phase ≡ p → runs_timer e.session ≡ b → timed e ≡ t → (ticked e).ready ≡ e.ready
     go Down b t p q r = rw p refl
     go Waiting b Runs p q r = rw (p, r) refl
-    go Waiting b Over p q r = rw (p, r) refl
-    go Waiting b Spent p q r = rw (p, r) refl
+    go Waiting b _ p q r = rw (p, r) refl
     go Up false t p q r = rw (p, q) refl
     go Up true Runs p q r = rw (p, q, r) refl
-    go Up true Over p q r = rw (p, q, r) refl
-    go Up true Spent p q r = rw (p, q, r) refl
+    go Up true _ p q r = rw (p, q, r) refl
 
 reset_ready : (e : EndState) (w : ℕ) → (reset_with e w).ready ≡ e.ready
-reset_ready e w = go (is_waiting e) refl
-  where
-    go : (b : Bool) → is_waiting e ≡ b → (reset_with e w).ready ≡ e.ready
-    go true q = rw q refl
-    go false q = rw q refl
+reset_ready e w = by_test (is_waiting e) (λ q. rw q refl) (λ q. rw q refl)
 
 -- ## An end over messages
 
@@ -106,8 +86,7 @@ down_ready true e = go e.shdlc.phase refl
   where
     go : (p : LinkState) → e.shdlc.phase ≡ p → (put_down true e).shdlc.ready ≡ e.shdlc.ready
     go Up p = rw p refl
-    go Waiting p = rw p refl
-    go Down p = rw p refl
+    go _ p = rw p refl
 
 pub activated_ready : (e : LinkEnd) (event : ActEvent) → (activated e event).shdlc.ready ≡ e.shdlc.ready
 activated_ready e event =
@@ -118,14 +97,10 @@ activated_ready e event =
     with_ready_of (Some act) f = refl
 
 heard_ready : (e : LinkEnd) (c : Control) → (heard e c).shdlc.ready ≡ e.shdlc.ready
-heard_ready e c = go (is_faulty (taken e.shdlc c).session) refl
-  where
-    go : (b : Bool) → is_faulty (taken e.shdlc c).session ≡ b → (heard e c).shdlc.ready ≡ e.shdlc.ready
-    go true q =
-        let is : heard e c ≡ put_down true e = rw q refl in ap (λ (f : LinkEnd). f.shdlc.ready) is ∙ down_ready true e
-    go false q =
-        let is : (heard e c).shdlc.ready ≡ (moved e (is_some (take_answer e.shdlc c).ended) (taken e.shdlc c)).shdlc.ready = rw q refl in
-        is ∙ (moved_ready e (is_some (take_answer e.shdlc c).ended) (taken e.shdlc c) ∙ taken_ready e.shdlc c)
+heard_ready e c = by_test (is_faulty (taken e.shdlc c).session)
+    (λ q. let is : heard e c ≡ put_down true e = rw q refl in ap (λ (f : LinkEnd). f.shdlc.ready) is ∙ down_ready true e)
+    (λ q. let is : (heard e c).shdlc.ready ≡ (moved e (is_some (take_answer e.shdlc c).ended) (taken e.shdlc c)).shdlc.ready = rw q refl in
+    is ∙ (moved_ready e (is_some (take_answer e.shdlc c).ended) (taken e.shdlc c) ∙ taken_ready e.shdlc c))
 
 pub took_ready : (e : LinkEnd) (c : Control) → (took e c).shdlc.ready ≡ e.shdlc.ready
 took_ready e c = go c (is_open e.role) refl
@@ -143,36 +118,24 @@ took_ready e c = go c (is_open e.role) refl
     go Ua b q = opened Ua (is_open e.role)
 
 pub had_tick_ready : (e : LinkEnd) → (had_tick e).shdlc.ready ≡ e.shdlc.ready
-had_tick_ready e = go (is_open e.role)
+had_tick_ready e = by_test (is_open e.role) (λ q. rw q (moved_ready e ended (ticked e.shdlc) ∙ ticked_ready e.shdlc)) (λ q. rw q (activated_ready e ActTick))
   where
     ended : Bool
     ended = is_some (tick_answer e.shdlc).ended
 
-    go : (b : Bool) → (cond b (moved e ended (ticked e.shdlc)) (activated e ActTick)).shdlc.ready ≡ e.shdlc.ready
-    go true = moved_ready e ended (ticked e.shdlc) ∙ ticked_ready e.shdlc
-    go false = activated_ready e ActTick
-
 pub asked_ready : (e : LinkEnd) (window : Option ℕ) → (after_input e (Reset window)).shdlc.ready ≡ e.shdlc.ready
-asked_ready e window = go (reset_refusal e)
-  where
-    go : (o : Option Refused) → (unless o e (reset_by e (window_of e window))).shdlc.ready ≡ e.shdlc.ready
-    go (Some why) = refl
-    go None = moved_ready e _ _ ∙ reset_ready e.shdlc (window_of e window)
+asked_ready e window = by_option (reset_refusal e) (λ q. rw q (moved_ready e _ _ ∙ reset_ready e.shdlc (window_of e window))) (λ why q. rw q refl)
 
 -- ## Its node's turns
 
 held_ready : (e : EndState) (r : Bool) → (with_ready e r).ready ≡ r
 held_ready e r = go e.ready r refl
   where
-    answered : (c : Bool) → e.session.answered_rnr ≡ c → e.ready ≡ false → (with_ready e true).ready ≡ true
-    answered true q p = rw (p, q) refl
-    answered false q p = rw (p, q) refl
-
     go : (a b : Bool) → e.ready ≡ a → (with_ready e b).ready ≡ b
     go true true p = rw p refl
     go false false p = rw p refl
     go true false p = rw p refl
-    go false true p = answered e.session.answered_rnr refl p
+    go false true p = by_test e.session.answered_rnr (λ q. rw (p, q) refl) (λ q. rw (p, q) refl)
 
 -- whether it takes fragments after a turn
 abbrev pub ready_after : Bool → Turn → Bool
@@ -180,18 +143,10 @@ ready_after ready (Hold held) = not held
 ready_after ready _ = ready
 
 pub turn_ready : (e : LinkEnd) (t : Turn) → (turn e t).shdlc.ready ≡ ready_after e.shdlc.ready t
-turn_ready e (Give m) = go (give_refusal e m)
-  where
-    go : (o : Option Refused) → (unless o e (given e m)).shdlc.ready ≡ e.shdlc.ready
-    go (Some why) = refl
-    go None = refl
+turn_ready e (Give m) = by_option (give_refusal e m) (λ q. rw q refl) (λ why q. rw q refl)
 turn_ready e (Hold held) = held_ready e.shdlc (not held)
 turn_ready e FetchMessage = refl
-turn_ready e SetAside = go (aside_refusal e)
-  where
-    go : (o : Option Refused) → (unless o e (record e { aside = e.aside + 1 })).shdlc.ready ≡ e.shdlc.ready
-    go (Some why) = refl
-    go None = refl
+turn_ready e SetAside = by_option (aside_refusal e) (λ q. rw q refl) (λ why q. rw q refl)
 turn_ready e Release = refl
 
 -- its frames that are due go out

@@ -1,18 +1,18 @@
 -- Where nothing that disturbs a link is noted of its rounds, and both its ends are up before them and ready throughout, it is undisturbed.
-use Rattle.std.proofs.Common.{◌≡◌, ℕ, Bool, true, false, List, [], ◌∷◌, ◌++◌, Some, None, refl, ap, sym, subst, ◌∙◌, append_assoc, append-nil}
-use Rattle.std.specs.Prelude.{if◌then◌else◌}
+use Rattle.std.proofs.Common.{◌≡◌, ℕ, List, [], ◌∷◌, ◌++◌, Some, None, refl, ap, sym, subst, ◌∙◌, append_assoc, append-nil}
 use Rattle.std.proofs.lemmas.Bool.{true≢false}
 use Rattle.shdlc_core.specs.declared.answers.LinkState.TheVariants.{Up as IsUpNow}
 use Rattle.link_laws.specs.messages.Links.{Link, LinkEvent, IsStart, AllAllowed, happens, after_link_events, number_of}
 use Rattle.link_laws.specs.messages.Projection.{core_of, core_events}
 use Rattle.link_laws.specs.entries.Entries.{End, Entry, event_entries, entries, first_entries, trace}
 use Rattle.link_laws.specs.entries.Entries.End.{Controller, Host}
-use Rattle.link_laws.specs.entries.Entries.Entry.{Up, Down, Active, GaveUp, Acked, Got, Sent, Emit, Took, Lost, Tick, Restarted, Cut}
+use Rattle.link_laws.specs.entries.Entries.Entry.{Up, Down, Lost, Restarted, Cut}
 use Rattle.link_laws.specs.entries.Filters.{same_link_end}
 use Rattle.link_laws.specs.entries.Sessions.{number_now}
 use Rattle.link_laws.proofs.entries.Hearing.{heard, heard-append, up_session, session_up}
 use Rattle.link_laws.proofs.entries.Heard.{controller_heard, host_heard}
 use Rattle.link_laws.proofs.entries.Running.{IsUnderWay, goes_on}
+use Rattle.node_laws.proofs.Cases.{by_test}
 use Rattle.node_laws.proofs.telling.Events.{entries-append}
 use Rattle.node_laws.proofs.rounds.BareRounds.{allowed-append}
 use Rattle.lines_told.specs.fragments.Rounds.{BothTakeFragments}
@@ -35,24 +35,12 @@ AreRoundEvents (e ∷ es) = IsRoundEvent e × AreRoundEvents es
 -- an end that is up stays so, as it is noted
 stays : (who : End) (k : ℕ) (t : List Entry) → Calm t → (m : ℕ) × (heard who (Some k) t ≡ Some m)
 stays who k [] c = (k, refl)
-stays who k (Up w n ∷ t) c = go (same_link_end w who) (stays who n t c) (stays who k t c)
-  where
-    go : (b : Bool) → (m : ℕ) × (heard who (Some n) t ≡ Some m) → (m : ℕ) × (heard who (Some k) t ≡ Some m)
-        → (m : ℕ) × (heard who (if b then Some n else Some k) t ≡ Some m)
-    go true here there = here
-    go false here there = there
+stays who k (Up w n ∷ t) c = by_test (same_link_end w who) (λ q. rw q (stays who n t c)) (λ q. rw q (stays who k t c))
 stays who k (Down w cause ∷ t) c = absurd (true≢false c)
 stays who k (Lost w frame why ∷ t) c = absurd (true≢false c)
 stays who k (Restarted w ∷ t) c = absurd (true≢false c)
 stays who k (Cut w ∷ t) c = absurd (true≢false c)
-stays who k (Active w ∷ t) c = stays who k t c
-stays who k (GaveUp w tries ∷ t) c = stays who k t c
-stays who k (Acked w n count ∷ t) c = stays who k t c
-stays who k (Got w n m ∷ t) c = stays who k t c
-stays who k (Sent w n m ∷ t) c = stays who k t c
-stays who k (Emit w frame ∷ t) c = stays who k t c
-stays who k (Took w frame ∷ t) c = stays who k t c
-stays who k (Tick ∷ t) c = stays who k t c
+stays who k (_ ∷ t) c = stays who k t c
 
 module _ (start : Link) (s : IsStart start) where
   pub trace-append : (pre es : List LinkEvent) → trace start (pre ++ es) ≡ trace start pre ++ entries (after_link_events start pre) es
@@ -137,11 +125,4 @@ keeps who k (Down w cause ∷ t) c u = absurd (true≢false c)
 keeps who k (Lost w frame why ∷ t) c u = absurd (true≢false c)
 keeps who k (Restarted w ∷ t) c u = absurd (true≢false c)
 keeps who k (Cut w ∷ t) c u = absurd (true≢false c)
-keeps who k (Active w ∷ t) c u = keeps who k t c u
-keeps who k (GaveUp w tries ∷ t) c u = keeps who k t c u
-keeps who k (Acked w n count ∷ t) c u = keeps who k t c u
-keeps who k (Got w n m ∷ t) c u = keeps who k t c u
-keeps who k (Sent w n m ∷ t) c u = keeps who k t c u
-keeps who k (Emit w frame ∷ t) c u = keeps who k t c u
-keeps who k (Took w frame ∷ t) c u = keeps who k t c u
-keeps who k (Tick ∷ t) c u = keeps who k t c u
+keeps who k (_ ∷ t) c u = keeps who k t c u

@@ -3,15 +3,15 @@ use Rattle.std.proofs.Common.{◌≡◌, Bool, true, false, cond, List, [], ◌�
 use Rattle.std.specs.Prelude.{is_some, not, ◌&&◌}
 use Rattle.swp_act.specs.declared.ActEvent.TheVariants.{Start as ActStart, Stop as ActStop}
 use Rattle.shdlc_core.specs.Machine.{is_waiting, stopped}
-use Rattle.link_laws.specs.sessions.Sessions.{OnWire}
 use Rattle.link_laws.specs.machine.Machine.{LinkEnd, LinkInput, Role, Turn, after_input, ended_by, moved, new_link_end, renewed, sent_all, turn, turned}
-use Rattle.link_laws.specs.machine.Machine.LinkInput.{Take, TakeUnknown, TakeBroken, Tick, Reset, Start, Stop, FromNode, Fetch}
-use Rattle.link_laws.specs.machine.Machine.Role.{Bare, Clf, Uicc}
-use Rattle.link_laws.specs.messages.Links.{Comes, Ending, Link, finished, has_input, silent, steps_at_controller, ticks_at_controller, with_ended}
+use Rattle.link_laws.specs.machine.Machine.LinkInput.{Take, Tick, Reset, Start, Stop}
+use Rattle.link_laws.specs.machine.Machine.Role.{Bare}
+use Rattle.link_laws.specs.messages.Links.{Comes, Ending, Link, finished, silent, steps_at_controller, ticks_at_controller, with_ended}
 use Rattle.link_laws.specs.messages.Links.Comes.{AsksReset, NextFrame, NoInput, Starts, Stops}
 use Rattle.link_laws.specs.messages.Links.Ending.{CutOff, GoesOut}
 use Rattle.node_machine.specs.world.World.{input_of, ticked_so}
 use Rattle.node_laws.specs.links.Notices.{IsComing}
+use Rattle.node_laws.proofs.Cases.{by_list, by_test}
 use Rattle.world_laws.proofs.undisturbed.Ready.{activated_ready, asked_ready, had_tick_ready, ready_after, sent_ready, took_ready, turn_ready}
 
 -- ## Turns
@@ -37,10 +37,7 @@ coming_ready e Tick is = had_tick_ready e
 coming_ready e (Reset window) is = asked_ready e window
 coming_ready e (Start value) is = activated_ready (moved e true (stopped e.shdlc)) (ActStart value)
 coming_ready e Stop is = activated_ready (moved e true (stopped e.shdlc)) ActStop
-coming_ready e TakeUnknown is = absurd is
-coming_ready e (TakeBroken fault) is = absurd is
-coming_ready e (FromNode t) is = absurd is
-coming_ready e Fetch is = absurd is
+coming_ready e _ is = absurd is
 
 -- ## Steps
 
@@ -51,8 +48,7 @@ ready_at_end CutOff ready = true
 
 new_ready : (r : Role) → (new_link_end (renewed r)).shdlc.ready ≡ true
 new_ready Bare = refl
-new_ready (Clf s) = refl
-new_ready (Uicc s) = refl
+new_ready _ = refl
 
 finished_ready : (l : Link) (e : LinkEnd) (ending : Ending) → (finished l e ending).controller.side.shdlc.ready ≡ ready_at_end ending e.shdlc.ready
 finished_ready l e GoesOut = sent_ready e
@@ -77,11 +73,9 @@ module _ (l : Link) (ts : List Turn) (ending : Ending) where
 
   pub stepped_ready : (comes : Comes) (i : LinkInput) → input_of l comes ≡ Some i
       → (steps_at_controller l comes ts ending).controller.side.shdlc.ready ≡ then_ready
-  stepped_ready NextFrame i q = go l.to_controller refl
-    where
-      go : (xs : List OnWire) → l.to_controller ≡ xs → (steps_at_controller l NextFrame ts ending).controller.side.shdlc.ready ≡ then_ready
-      go [] z = let none : None ≡ Some i = rw z at q in absurd (cc none)
-      go (x ∷ xs) z = rw z (came _ (Take x.frame) tt)
+  stepped_ready NextFrame i q = by_list l.to_controller
+      (λ z. let none : None ≡ Some i = rw z at q in absurd (cc none))
+      (λ x xs z. rw z (came _ (Take x.frame) tt))
   stepped_ready (AsksReset window) i q = came (with_ended l (is_some (ended_by l.controller.side (Reset window)))) (Reset window) tt
   stepped_ready (Starts value) i q = came (silent l (after_input l.controller.side (Start value))) (Start value) tt
   stepped_ready Stops i q = came (silent l (after_input l.controller.side Stop)) Stop tt
@@ -97,8 +91,6 @@ module _ (l : Link) (ts : List Turn) (ending : Ending) where
   tick_ready = came (with_ended l (is_some (ended_by l.controller.side Tick))) Tick tt
 
   pub late_ready : (late : Bool) → (ticked_so l late ts ending).controller.side.shdlc.ready ≡ then_ready
-  late_ready late = go (late && not (is_waiting l.controller.side.shdlc))
-    where
-      go : (b : Bool) → (cond b (has_input l (Reset None) ts ending) (ticks_at_controller l ts ending)).controller.side.shdlc.ready ≡ then_ready
-      go true = came (with_ended l (is_some (ended_by l.controller.side (Reset None)))) (Reset None) tt
-      go false = tick_ready
+  late_ready late = by_test (late && not (is_waiting l.controller.side.shdlc))
+      (λ q. rw q (came (with_ended l (is_some (ended_by l.controller.side (Reset None)))) (Reset None) tt))
+      (λ q. rw q tick_ready)

@@ -20,6 +20,7 @@ use Rattle.node_machine.specs.world.World.Happening.{Takes}
 use Rattle.node_machine.proofs.world.Cases.{after_host_step, by_coming, by_host}
 use Rattle.node_laws.specs.telling.Telling.{of_link, HasEnds, IfItRuns, IsOrderly, hosts_in}
 use Rattle.node_laws.specs.telling.Standing.{Standing, standing}
+use Rattle.node_laws.proofs.Cases.{by_test}
 use Rattle.node_laws.proofs.telling.Nodes.{given, controller_stands, controller_tells, link_is, site_host, swapped}
 use Rattle.node_laws.proofs.telling.Shapes.{IsShaped, last_of, shaped_step}
 use Rattle.node_laws.proofs.telling.Worlds.{host_does_step}
@@ -163,13 +164,10 @@ module _ (w : NodeWorld) (h : ℕ) (s : Site) (orderly : IsOrderly w) (found : s
           (ap (of_link h) (sym is) ∙ does.others h away, λ x. ap (standing h x) (sym is) ∙ does.leaves h away x)
 
   far_told : (k : ℕ) → IsTold h s.link (link_events_in h w (Takes (end_h k))) (world_step w (Takes (end_h k))).1
-  far_told k = go (s.host == k) refl
-    where
-      go : (b : Bool) → (s.host == k) ≡ b → IsTold h s.link (link_events_in h w (Takes (end_h k))) (world_step w (Takes (end_h k))).1
-      go false q = other_told k q
-      go true q =
-          let is : h ≡ k = sym number ∙ eqb-true s.host k q in
-          subst (λ m. IsTold h s.link (link_events_in h w (Takes (end_h m))) (world_step w (Takes (end_h m))).1) is own_told
+  far_told k = by_test (s.host == k)
+      (λ q. let is : h ≡ k = sym number ∙ eqb-true s.host k q in
+      subst (λ m. IsTold h s.link (link_events_in h w (Takes (end_h m))) (world_step w (Takes (end_h m))).1) is own_told)
+      (λ q. other_told k q)
 
   pub takes_told : (e : End) → IsTold h s.link (link_events_in h w (Takes e)) (world_step w (Takes e)).1
   takes_told e = go e.at_host

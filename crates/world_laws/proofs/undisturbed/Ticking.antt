@@ -1,6 +1,6 @@
 -- Where nothing that disturbs a link is noted of a tick of the world, and both its ends are up before it, the tick is one of the link in which
 -- no node loses its power and no notice is late, and so both ends are up behind it.
-use Rattle.std.proofs.Common.{◌≡◌, ℕ, ◌&&◌, Bool, true, false, not, List, [], ◌∷◌, ◌++◌, Option, Some, None, refl, ap, sym, subst, ◌∙◌}
+use Rattle.std.proofs.Common.{◌≡◌, ℕ, ◌&&◌, Bool, true, false, not, List, [], ◌∷◌, ◌++◌, Some, None, refl, ap, sym, subst, ◌∙◌}
 use Rattle.std.proofs.lemmas.Bool.{and_parts, not-true}
 use Rattle.swp_act.specs.Activation.{new_clf, new_uicc}
 use Rattle.shdlc_core.specs.declared.answers.LinkState.TheVariants.{Up as IsUpNow}
@@ -23,6 +23,7 @@ use Rattle.node_machine.specs.world.World.{Site, NodeWorld, site_at, all_aged, c
 use Rattle.node_machine.specs.world.World.Happening.{Ticks as TimePassing}
 use Rattle.node_machine.specs.world.NodeHistories.{entries_in}
 use Rattle.node_machine.proofs.world.Cases.{host_tick, near_tick}
+use Rattle.node_laws.proofs.Cases.{by_option, by_test}
 use Rattle.node_laws.proofs.telling.Nodes.{site_host}
 use Rattle.node_laws.proofs.telling.WorldTicks.{Ticking, between, between_far, host_turns, near_turns, tick_event, ticking}
 use Rattle.node_laws.specs.links.Runs.{new_line}
@@ -66,45 +67,27 @@ still_up hosts w h s r found es a up calm =
 -- ## Nodes that run behind their ticks
 
 runs_out : (v : Work) (n : Running) → runs_on v ≡ Some n → ending_of v ≡ GoesOut
-runs_out v n q = go v.cut refl
-  where
-    go : (b : Bool) → v.cut ≡ b → ending_of v ≡ GoesOut
-    go false p = rw p refl
-    go true p = let z : None ≡ Some n = rw p at q in absurd (cc z)
+runs_out v n q = by_test v.cut (λ p. let z : None ≡ Some n = rw p at q in absurd (cc z)) (λ p. rw p refl)
 
 near_goes_out : (h : ℕ) (w : NodeWorld) (n : Running) → (controller_ticks w).0.controller ≡ Some n → (controller_tick_on h w).0.ending ≡ GoesOut
-near_goes_out h w n q = go w.controller refl
-  where
-    go : (o : Option Running) → w.controller ≡ o → (controller_tick_on h w).0.ending ≡ GoesOut
-    go None p = rw p refl
-    go (Some m) p =
-        let is : (controller_ticks w).0.controller ≡ runs_on (near_tick w m) = rw p refl in
-        let ending : (controller_tick_on h w).0.ending ≡ ending_of (near_tick w m) = rw p refl in
-        ending ∙ runs_out (near_tick w m) n (sym is ∙ q)
+near_goes_out h w n q = by_option w.controller
+    (λ p. rw p refl)
+    (λ m p. let is : (controller_ticks w).0.controller ≡ runs_on (near_tick w m) = rw p refl in
+    let ending : (controller_tick_on h w).0.ending ≡ ending_of (near_tick w m) = rw p refl in
+    ending ∙ runs_out (near_tick w m) n (sym is ∙ q))
 
 far_goes_out : (x : Site) (n : Running) → (host_ticks x).0.node ≡ Some n → (site_ticks x).ending ≡ GoesOut
-far_goes_out x n q = go x.node refl
-  where
-    go : (o : Option Running) → x.node ≡ o → (site_ticks x).ending ≡ GoesOut
-    go None p = rw p refl
-    go (Some m) p =
-        let is : (host_ticks x).0.node ≡ runs_on (host_tick x m) = rw p refl in
-        let ending : (site_ticks x).ending ≡ ending_of (host_tick x m) = rw p refl in
-        ending ∙ runs_out (host_tick x m) n (sym is ∙ q)
+far_goes_out x n q = by_option x.node
+    (λ p. rw p refl)
+    (λ m p. let is : (host_ticks x).0.node ≡ runs_on (host_tick x m) = rw p refl in
+    let ending : (site_ticks x).ending ≡ ending_of (host_tick x m) = rw p refl in
+    ending ∙ runs_out (host_tick x m) n (sym is ∙ q))
 
 near_turns_are : (h : ℕ) (w : NodeWorld) → (controller_tick_on h w).0.turns ≡ near_turns w h w.controller
-near_turns_are h w = go w.controller refl
-  where
-    go : (o : Option Running) → w.controller ≡ o → (controller_tick_on h w).0.turns ≡ near_turns w h w.controller
-    go None p = rw p refl
-    go (Some n) p = rw p refl
+near_turns_are h w = by_option w.controller (λ p. rw p refl) (λ n p. rw p refl)
 
 far_turns_are : (x : Site) → (site_ticks x).turns ≡ host_turns x x.node
-far_turns_are x = go x.node refl
-  where
-    go : (o : Option Running) → x.node ≡ o → (site_ticks x).turns ≡ host_turns x x.node
-    go None p = rw p refl
-    go (Some n) p = rw p refl
+far_turns_are x = by_option x.node (λ p. rw p refl) (λ n p. rw p refl)
 
 same_node : (a b : Node) → a.turns ≡ b.turns → a.ending ≡ GoesOut → b.ending ≡ GoesOut → a ≡ b
 same_node a b turns p q =
@@ -153,13 +136,10 @@ module _ (hosts : List ℕ) (w : NodeWorld) (h : ℕ) (s : Site) (r : IsReached 
   x = record s { link = between t.late (aged s.link) t.near }
 
   in_time : t.late ≡ false
-  in_time = go t.late refl
-    where
-      go : (b : Bool) → t.late ≡ b → t.late ≡ false
-      go false q = q
-      go true q =
-          let P : Bool → Type 0 = λ z. Calm (entries s.link (tick_event z t.near t.far ∷ [])) in
-          absurd (reset_ends s.link near_open up.controller t.near.turns t.near.ending t.far (one_calm s.link (tick_event true t.near t.far) (subst P q noted)))
+  in_time = by_test t.late
+      (λ q. let P : Bool → Type 0 = λ z. Calm (entries s.link (tick_event z t.near t.far ∷ [])) in
+      absurd (reset_ends s.link near_open up.controller t.near.turns t.near.ending t.far (one_calm s.link (tick_event true t.near t.far) (subst P q noted))))
+      (λ q. q)
 
   abbrev event : LinkEvent
   event = Ticks t.near [] t.far

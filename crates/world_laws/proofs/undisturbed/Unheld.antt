@@ -26,6 +26,7 @@ use Rattle.node_machine.specs.world.NodeHistories.{FollowsNodes, NodeHistory, en
 use Rattle.node_machine.specs.world.Rounds.{end_takes_all, ends_in_order, ends_take_all, rounds_of_world, world_round}
 use Rattle.node_laws.specs.kept.Hosts.{AreHosts}
 use Rattle.node_laws.specs.telling.Telling.{MayBoot, world_behind}
+use Rattle.node_laws.proofs.Cases.{by_test}
 use Rattle.node_laws.proofs.telling.Lasting.{AllHold, AnyLine, all_lines, boots_may, events_of_steps, front_holds, lines_hold}
 use Rattle.node_laws.proofs.telling.Nodes.{site_host}
 use Rattle.node_laws.proofs.telling.Worlds.{site_is}
@@ -59,16 +60,8 @@ module _ (e : End) where
   unheld_one : (t : List Entry) (x : Entry) → is_held_on e.link x ≡ false → holds_in t e ≡ false → holds_in (t ++ x ∷ []) e ≡ false
   unheld_one t (entry.Held f need spare) q a =
       fold-append _ false t (entry.Held f need spare ∷ []) ∙ (ap (λ b. cond b true (holds_in t e)) (other_end f q) ∙ a)
-  unheld_one t (entry.Turn f pid message) q a = fold-append _ false t (entry.Turn f pid message ∷ []) ∙ by (same_end f e)
-    where
-      by : (b : Bool) → cond b false (holds_in t e) ≡ false
-      by true = refl
-      by false = a
-  unheld_one t (entry.Booted n k) q a = fold-append _ false t (entry.Booted n k ∷ []) ∙ by (n == node_of e)
-    where
-      by : (b : Bool) → cond b false (holds_in t e) ≡ false
-      by true = refl
-      by false = a
+  unheld_one t (entry.Turn f pid message) q a = fold-append _ false t (entry.Turn f pid message ∷ []) ∙ by_test (same_end f e) (λ q. rw q refl) (λ q. rw q a)
+  unheld_one t (entry.Booted n k) q a = fold-append _ false t (entry.Booted n k ∷ []) ∙ by_test (n == node_of e) (λ q. rw q refl) (λ q. rw q a)
   unheld_one t x q a = fold-append _ false t (x ∷ []) ∙ a
 
   unheld_more : (t es : List Entry) → list_any (is_held_on e.link) es ≡ false → holds_in t e ≡ false → holds_in (t ++ es) e ≡ false
@@ -147,11 +140,7 @@ module _ (h : ℕ) where
 
   new_kept : (content : List ℕ) (hosts : List ℕ) → HeldAt None (site_at (map (new_site content) hosts) h)
   new_kept content [] = tt
-  new_kept content (k ∷ hosts) = by (k == h) refl (new_kept content hosts)
-    where
-      by : (b : Bool) → (k == h) ≡ b → HeldAt None (site_at (map (new_site content) hosts) h) → HeldAt None (site_at (map (new_site content) (k ∷ hosts)) h)
-      by true q rest = rw q (record { near = refl; far = refl })
-      by false q rest = rw q rest
+  new_kept content (k ∷ hosts) = by_test (k == h) (λ q. rw q (record { near = refl; far = refl })) (λ q. rw q (new_kept content hosts))
 
   history_read : (header : Header) (lines : List Line) (t : NodeHistory) → FollowsNodes header lines t → AreHosts header.hosts.items
       → IsRead (entries_in (occurrences_in t)) (world_behind (new_world header.hosts.items) (occurrences_in t))

@@ -1,14 +1,15 @@
 -- The causes of the rounds of a world: what they are, how often time passes among them, and how many they are.
-use Rattle.std.proofs.Common.{◌≡◌, ℕ, zero, suc, ◌+◌, Bool, true, false, List, [], ◌∷◌, ◌++◌, None, refl, ap, sym, subst, ◌∙◌, length}
+use Rattle.std.proofs.Common.{◌≡◌, ℕ, zero, suc, ◌+◌, true, List, [], ◌∷◌, ◌++◌, None, refl, ap, sym, subst, ◌∙◌, length}
 use Rattle.std.proofs.Common.{arith}
 use Rattle.std.specs.Prelude.{replicate}
 use Rattle.std.specs.List.{AllByRecursion}
 use Rattle.trace_model.specs.declared.line.End.{End}
 use Rattle.trace_model.specs.declared.line.Line.TheVariants as line
 use Rattle.node_machine.specs.world.World.{NodeWorld, Happening, world_step}
-use Rattle.node_machine.specs.world.World.Happening.{Boots, IsCut, Gives, Inits, Takes, Loses, Ticks, Resets, Activates, Arms}
+use Rattle.node_machine.specs.world.World.Happening.{Takes, Ticks}
 use Rattle.node_machine.specs.world.Lines.{Occurrence, all_happen, can_happen, frames_at, happenings}
 use Rattle.node_laws.specs.telling.Telling.{IsOrderly}
+use Rattle.node_laws.proofs.Cases.{by_test}
 use Rattle.node_laws.proofs.telling.Orderly.{step_orderly}
 use Rattle.node_laws.specs.readings.Worlds.{MayBeRead}
 use Rattle.node_laws.specs.kept.Worlds.{MayHappen}
@@ -26,11 +27,10 @@ module _ (P : NodeWorld → Type 0) (takes : (w : NodeWorld) (e : End) → P w �
     (ticks : (w : NodeWorld) → P w → P (world_step w Ticks).0) where
   kept_all : (causes : List Happening) (w : NodeWorld) → ArePassing causes → P w → P (all_happen w causes).0
   kept_all [] w p a = a
-  kept_all (Takes e ∷ causes) w p a = go (can_happen w (Takes e)) refl (kept_all causes (world_step w (Takes e)).0 p (takes w e a))
-    where
-      go : (b : Bool) → can_happen w (Takes e) ≡ b → P (all_happen (world_step w (Takes e)).0 causes).0 → P (all_happen w (Takes e ∷ causes)).0
-      go true q later = subst (λ (r : NodeWorld × List Occurrence). P r.0) (sym (happens_first w (Takes e) causes q)) later
-      go false q later = subst (λ (r : NodeWorld × List Occurrence). P r.0) (sym (none_happens w (Takes e) causes q)) a
+  kept_all (Takes e ∷ causes) w p a = by_test (can_happen w (Takes e))
+      (λ q. subst (λ (r : NodeWorld × List Occurrence). P r.0) (sym (happens_first w (Takes e) causes q))
+      (kept_all causes (world_step w (Takes e)).0 p (takes w e a)))
+      (λ q. subst (λ (r : NodeWorld × List Occurrence). P r.0) (sym (none_happens w (Takes e) causes q)) a)
   kept_all (Ticks ∷ causes) w p a = kept_all causes (world_step w Ticks).0 p (ticks w a)
   kept_all (_ ∷ causes) w p a = absurd p
 
@@ -102,17 +102,11 @@ may_be w (_) a = absurd a
 -- whatever the world, they are such causes
 takes_only : (k : ℕ) (w : NodeWorld) (e : End) → AllByRecursion IsTakeOrTick (happened_in (all_happen w (replicate k (Takes e))).1)
 takes_only zero w e = tt
-takes_only (suc k) w e = go (can_happen w (Takes e)) refl (takes_only k (world_step w (Takes e)).0 e)
-  where
-    go : (b : Bool) → can_happen w (Takes e) ≡ b
-        → AllByRecursion IsTakeOrTick (happened_in (all_happen (world_step w (Takes e)).0 (replicate k (Takes e))).1)
-        → AllByRecursion IsTakeOrTick (happened_in (all_happen w (replicate (suc k) (Takes e))).1)
-    go true q later =
-        subst (λ (r : NodeWorld × List Occurrence). AllByRecursion IsTakeOrTick (happened_in r.1))
-        (sym (happens_first w (Takes e) (replicate k (Takes e)) q)) (tt, later)
-    go false q later =
-        subst (λ (r : NodeWorld × List Occurrence). AllByRecursion IsTakeOrTick (happened_in r.1))
-        (sym (none_happens w (Takes e) (replicate k (Takes e)) q)) tt
+takes_only (suc k) w e = by_test (can_happen w (Takes e))
+    (λ q. subst (λ (r : NodeWorld × List Occurrence). AllByRecursion IsTakeOrTick (happened_in r.1))
+    (sym (happens_first w (Takes e) (replicate k (Takes e)) q)) (tt, takes_only k (world_step w (Takes e)).0 e))
+    (λ q. subst (λ (r : NodeWorld × List Occurrence). AllByRecursion IsTakeOrTick (happened_in r.1))
+    (sym (none_happens w (Takes e) (replicate k (Takes e)) q)) tt)
 
 only-append : (a b : List Happening) → AllByRecursion IsTakeOrTick a → AllByRecursion IsTakeOrTick b → AllByRecursion IsTakeOrTick (a ++ b)
 only-append [] b p q = q
@@ -145,15 +139,7 @@ rounds_only (suc r) w =
 ticks-append : (a b : List Happening) → world_ticks_in (a ++ b) ≡ world_ticks_in a + world_ticks_in b
 ticks-append [] b = omega arith
 ticks-append (Ticks ∷ a) b = let rest = ticks-append a b in omega (arith, rest)
-ticks-append (Boots n ∷ a) b = ticks-append a b
-ticks-append (IsCut n ∷ a) b = ticks-append a b
-ticks-append (Gives e m ∷ a) b = ticks-append a b
-ticks-append (Inits e i p ∷ a) b = ticks-append a b
-ticks-append (Takes e ∷ a) b = ticks-append a b
-ticks-append (Loses e why ∷ a) b = ticks-append a b
-ticks-append (Resets e window ∷ a) b = ticks-append a b
-ticks-append (Activates h s p ∷ a) b = ticks-append a b
-ticks-append (Arms n p ∷ a) b = ticks-append a b
+ticks-append (_ ∷ a) b = ticks-append a b
 
 ticks_both : (first later : NodeWorld × List Occurrence)
     → world_ticks_in (happened_in (both first later).1) ≡ world_ticks_in (happened_in first.1) + world_ticks_in (happened_in later.1)
@@ -161,12 +147,10 @@ ticks_both first later = ap world_ticks_in (causes-append first.1 later.1) ∙ t
 
 no_ticks : (k : ℕ) (w : NodeWorld) (e : End) → world_ticks_in (happened_in (all_happen w (replicate k (Takes e))).1) ≡ 0
 no_ticks zero w e = refl
-no_ticks (suc k) w e = go (can_happen w (Takes e)) refl (no_ticks k (world_step w (Takes e)).0 e)
-  where
-    go : (b : Bool) → can_happen w (Takes e) ≡ b → world_ticks_in (happened_in (all_happen (world_step w (Takes e)).0 (replicate k (Takes e))).1) ≡ 0
-        → world_ticks_in (happened_in (all_happen w (replicate (suc k) (Takes e))).1) ≡ 0
-    go true q later = ap (λ (r : NodeWorld × List Occurrence). world_ticks_in (happened_in r.1)) (happens_first w (Takes e) (replicate k (Takes e)) q) ∙ later
-    go false q later = ap (λ (r : NodeWorld × List Occurrence). world_ticks_in (happened_in r.1)) (none_happens w (Takes e) (replicate k (Takes e)) q)
+no_ticks (suc k) w e = by_test (can_happen w (Takes e))
+    (λ q. ap (λ (r : NodeWorld × List Occurrence). world_ticks_in (happened_in r.1)) (happens_first w (Takes e) (replicate k (Takes e)) q) ∙ no_ticks k
+    (world_step w (Takes e)).0 e)
+    (λ q. ap (λ (r : NodeWorld × List Occurrence). world_ticks_in (happened_in r.1)) (none_happens w (Takes e) (replicate k (Takes e)) q))
 
 no_ticks_of_ends : (ends : List End) (w : NodeWorld) → world_ticks_in (happened_in (ends_take_all w ends).1) ≡ 0
 no_ticks_of_ends [] w = refl

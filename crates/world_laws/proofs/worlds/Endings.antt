@@ -21,6 +21,7 @@ use Rattle.link_laws.specs.machine.Machine.{LinkEnd, Turn, is_open, after_input,
 use Rattle.link_laws.specs.machine.Machine.LinkInput.{Tick as InputTick}
 use Rattle.link_laws.specs.messages.Links.{Link, LinkEvent, Node, Ending, aged}
 use Rattle.node_laws.specs.rounds.LinkEvents.{tick_so}
+use Rattle.node_laws.proofs.Cases.{by_test}
 use Rattle.std.proofs.lemmas.Bool.{and_parts, not-true}
 use Rattle.link_laws.specs.messages.Links.Ending.{GoesOut, CutOff}
 use Rattle.link_laws.specs.messages.Links.Comes.{NextFrame, NoInput, AsksReset}
@@ -35,8 +36,7 @@ silent_down c = go c.controller.side.phase refl
   where
     go : (p : LinkState) → c.controller.side.phase ≡ p → (core_silent c (new_end 4)).controller.side.phase ≡ Down
     go Up q = rw q refl
-    go Waiting q = rw q refl
-    go Down q = rw q refl
+    go _ q = rw q refl
 
 cut_near : (es : List CoreEndEvent) (c : CoreLink) → (core_after c (map CoreAtController (es ++ CoreCut ∷ []) ++ [])).controller.side.phase ≡ Down
 cut_near [] c = silent_down c
@@ -85,12 +85,9 @@ far_same None c = silent_host c (new_end 4)
 cut_tick : (e : LinkEnd) (ts : List Turn) → is_open e.role ≡ true
     → ((core_tick e ts CutOff ≡ None) × (core_tick_rest e ts CutOff ≡ []))
     ⊎ ((us : List CoreTurn) × (core_tick e ts CutOff ≡ Some us) × (core_tick_rest e ts CutOff ≡ CoreCut ∷ []))
-cut_tick e ts p = go (is_lost_tick e CutOff) refl
-  where
-    go : (b : Bool) → is_lost_tick e CutOff ≡ b → ((core_tick e ts CutOff ≡ None) × (core_tick_rest e ts CutOff ≡ []))
-        ⊎ ((us : List CoreTurn) × (core_tick e ts CutOff ≡ Some us) × (core_tick_rest e ts CutOff ≡ CoreCut ∷ []))
-    go true q = inl (rw q refl, rw q refl)
-    go false q = inr (core_turns (after_input e InputTick) ts, rw q (rw p refl), rw q (rw p refl))
+cut_tick e ts p = by_test (is_lost_tick e CutOff)
+    (λ q. inl (rw q refl, rw q refl))
+    (λ q. inr (core_turns (after_input e InputTick) ts, rw q (rw p refl), rw q (rw p refl)))
 
 -- the near end of a link after a tick in which its node has lost power
 near_cut : (e : LinkEnd) (ts : List Turn) (c : CoreLink) → is_open e.role ≡ true

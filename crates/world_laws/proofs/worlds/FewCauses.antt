@@ -1,5 +1,5 @@
 -- A round of a world has few causes: no more than 64 frames stand on each wire.
-use Rattle.std.proofs.Common.{◌≡◌, ℕ, zero, suc, ◌+◌, ◌*◌, ◌≤◌, Bool, true, false, List, [], ◌∷◌, refl, ap, ◌∙◌, length}
+use Rattle.std.proofs.Common.{◌≡◌, ℕ, zero, suc, ◌+◌, ◌*◌, ◌≤◌, List, [], ◌∷◌, refl, ap, ◌∙◌, length}
 use Rattle.std.proofs.Common.{arith}
 use Rattle.std.specs.Prelude.{replicate}
 use Rattle.std.specs.List.{flat_map}
@@ -8,6 +8,7 @@ use Rattle.trace_model.specs.declared.line.End.{End}
 use Rattle.node_machine.specs.world.World.{Site, NodeWorld, Happening, end_c, end_h, world_step}
 use Rattle.node_machine.specs.world.World.Happening.{Takes, Ticks}
 use Rattle.node_machine.specs.world.Lines.{Occurrence, all_happen, can_happen, frames_at}
+use Rattle.node_laws.proofs.Cases.{by_test}
 use Rattle.node_laws.proofs.order.Strangers.{step_kept}
 use Rattle.node_machine.specs.world.Rounds.{ends_in_order, end_takes_all, ends_take_all, world_round, rounds_of_world}
 use Rattle.node_laws.specs.rsets.Causes.{happened_in}
@@ -26,16 +27,11 @@ count_both first later = ap (length {A = Happening}) (causes-append first.1 late
 -- no more happens than is to happen
 at_most : (causes : List Happening) (w : NodeWorld) → length (happened_in (all_happen w causes).1) ≤ length causes
 at_most [] w = omega arith
-at_most (c ∷ causes) w = go (can_happen w c) refl (at_most causes (world_step w c).0)
-  where
-    go : (b : Bool) → can_happen w c ≡ b → length (happened_in (all_happen (world_step w c).0 causes).1) ≤ length causes
-        → length (happened_in (all_happen w (c ∷ causes)).1) ≤ length (c ∷ causes)
-    go true q later =
-        let is = ap (λ (r : NodeWorld × List Occurrence). length (happened_in r.1)) (happens_first w c causes q) in
-        omega (arith, is, later)
-    go false q later =
-        let is = ap (λ (r : NodeWorld × List Occurrence). length (happened_in r.1)) (none_happens w c causes q) in
-        omega (arith, is)
+at_most (c ∷ causes) w = by_test (can_happen w c)
+    (λ q. let is = ap (λ (r : NodeWorld × List Occurrence). length (happened_in r.1)) (happens_first w c causes q) in
+    omega (arith, is, at_most causes (world_step w c).0))
+    (λ q. let is = ap (λ (r : NodeWorld × List Occurrence). length (happened_in r.1)) (none_happens w c causes q) in
+    omega (arith, is))
 
 end_few : (w : NodeWorld) (e : End) → AreFewOnWires w → length (happened_in (end_takes_all w e).1) ≤ 64
 end_few w e few =

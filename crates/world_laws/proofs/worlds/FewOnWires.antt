@@ -1,6 +1,6 @@
 -- No wire of a world holds more than 64 frames, and so it stays over its rounds.
-use Rattle.std.proofs.Common.{◌≡◌, ◌≤◌, Bool, true, false, List, [], ◌∷◌, length, sym, refl, ap, ◌∙◌, subst, arith}
-use Rattle.std.specs.Prelude.{ℕ, ◌==◌, Option, Some, None}
+use Rattle.std.proofs.Common.{◌≡◌, ◌≤◌, false, List, [], ◌∷◌, length, sym, refl, ap, ◌∙◌, subst, arith}
+use Rattle.std.specs.Prelude.{ℕ, ◌==◌, Some, None}
 use Rattle.trace_model.specs.declared.line.End.{End}
 use Rattle.link_laws.specs.messages.Links.{LinkEvent, after_link_events}
 use Rattle.node_machine.specs.world.World.{Site, NodeWorld, site_at, end_c, end_h, world_step}
@@ -8,6 +8,7 @@ use Rattle.node_machine.specs.world.World.Happening.{Takes, Ticks as TimePassing
 use Rattle.node_machine.specs.world.Lines.{frames_at}
 use Rattle.node_laws.specs.telling.Telling.{hosts_in}
 use Rattle.node_laws.specs.rounds.LinkEvents.{GoesOnLink, link_events_in}
+use Rattle.node_laws.proofs.Cases.{by_option, by_test}
 use Rattle.node_laws.proofs.order.Strangers.{step_kept}
 use Rattle.node_laws.proofs.rounds.LinkEvents.{takes_go, ticks_go}
 use Rattle.node_laws.proofs.schedules.Wires.{IsFewWires, after_few}
@@ -15,26 +16,14 @@ use Rattle.world_laws.specs.worlds.RoundCauses.{AreFewOnWires}
 
 -- frames on the wires of a site
 frames_of : (w : NodeWorld) (e : End) (s : Site) → site_at w.sites e.link ≡ Some s → IsFewWires s.link → length (frames_at w e) ≤ 64
-frames_of w e s q a = go e.at_host
-  where
-    go : (b : Bool) → length (frames_at w (record { link = e.link; at_host = b })) ≤ 64
-    go true = rw q a.to_host
-    go false = rw q a.to_controller
+frames_of w e s q a = by_test e.at_host (λ is. rw is (rw q a.to_host)) (λ is. rw is (rw q a.to_controller))
 
 frames_of_none : (w : NodeWorld) (e : End) → site_at w.sites e.link ≡ None → length (frames_at w e) ≤ 64
-frames_of_none w e q = go e.at_host
-  where
-    go : (b : Bool) → length (frames_at w (record { link = e.link; at_host = b })) ≤ 64
-    go true = rw q (omega arith)
-    go false = rw q (omega arith)
+frames_of_none w e q = by_test e.at_host (λ is. rw is (rw q (omega arith))) (λ is. rw is (rw q (omega arith)))
 
 -- all are few where those of each site are
 pub few_by_sites : (w : NodeWorld) → ((h : ℕ) (s : Site) → site_at w.sites h ≡ Some s → IsFewWires s.link) → AreFewOnWires w
-few_by_sites w a e = go (site_at w.sites e.link) refl
-  where
-    go : (o : Option Site) → site_at w.sites e.link ≡ o → length (frames_at w e) ≤ 64
-    go None q = frames_of_none w e q
-    go (Some s) q = frames_of w e s q (a e.link s q)
+few_by_sites w a e = by_option (site_at w.sites e.link) (λ q. frames_of_none w e q) (λ s q. frames_of w e s q (a e.link s q))
 
 wires_of : (w : NodeWorld) (h : ℕ) (s : Site) → AreFewOnWires w → site_at w.sites h ≡ Some s → IsFewWires s.link
 wires_of w h s a q =
@@ -49,7 +38,10 @@ none_alike : (xs ys : List Site) (h : ℕ) → hosts_in xs ≡ hosts_in ys → s
 none_alike [] [] h e q = refl
 none_alike [] (y ∷ ys) h e q = absurd (cc e)
 none_alike (x ∷ xs) [] h e q = absurd (cc e)
-none_alike (x ∷ xs) (y ∷ ys) h e q = go (x.host == h) refl (none_alike xs ys h rest)
+none_alike (x ∷ xs) (y ∷ ys) h e q = by_test (x.host == h)
+    (λ p. let z : Some x ≡ None = rw p at q in absurd (cc z))
+    (λ p. let off : (y.host == h) ≡ false = ap (λ (k : ℕ). k == h) (sym one) ∙ p in
+    rw off (none_alike xs ys h rest (rw p at q)))
   where
     one : x.host ≡ y.host
     one = cc e
@@ -57,22 +49,13 @@ none_alike (x ∷ xs) (y ∷ ys) h e q = go (x.host == h) refl (none_alike xs ys
     rest : hosts_in xs ≡ hosts_in ys
     rest = cc e
 
-    go : (b : Bool) → (x.host == h) ≡ b → (site_at xs h ≡ None → site_at ys h ≡ None) → site_at (y ∷ ys) h ≡ None
-    go true p later = let z : Some x ≡ None = rw p at q in absurd (cc z)
-    go false p later =
-        let off : (y.host == h) ≡ false = ap (λ (k : ℕ). k == h) (sym one) ∙ p in
-        rw off (later (rw p at q))
-
 few_after : (w v : NodeWorld) → hosts_in v.sites ≡ hosts_in w.sites
     → ((h : ℕ) (s : Site) → site_at w.sites h ≡ Some s → (es : List LinkEvent) × GoesOnLink v h s es) → AreFewOnWires w → AreFewOnWires v
-few_after w v same goes a e = go (site_at w.sites e.link) refl
-  where
-    go : (o : Option Site) → site_at w.sites e.link ≡ o → length (frames_at v e) ≤ 64
-    go None q = frames_of_none v e (none_alike w.sites v.sites e.link (sym same) q)
-    go (Some s) q =
-        let g = goes e.link s q in
-        let few : IsFewWires (after_link_events s.link g.0) = after_few g.0 s.link (wires_of w e.link s a q) in
-        frames_of v e g.1.later g.1.is (subst IsFewWires (sym g.1.link) few)
+few_after w v same goes a e = by_option (site_at w.sites e.link)
+    (λ q. frames_of_none v e (none_alike w.sites v.sites e.link (sym same) q))
+    (λ s q. let g = goes e.link s q in
+    let few : IsFewWires (after_link_events s.link g.0) = after_few g.0 s.link (wires_of w e.link s a q) in
+    frames_of v e g.1.later g.1.is (subst IsFewWires (sym g.1.link) few))
 
 pub takes_few : (w : NodeWorld) (e : End) → AreFewOnWires w → AreFewOnWires (world_step w (Takes e)).0
 takes_few w e a =

@@ -1,5 +1,5 @@
 -- The fragments that are left on a link are at most those that are noted.
-use Rattle.std.proofs.Common.{◌≡◌, ℕ, ◌+◌, ◌-◌, ◌≤◌, Bool, true, false, List, [], ◌∷◌, drop, length, map, Some, refl, ap, ap₂, subst}
+use Rattle.std.proofs.Common.{◌≡◌, ℕ, ◌+◌, ◌-◌, ◌≤◌, List, [], ◌∷◌, drop, length, map, Some, ap, ap₂, subst}
 use Rattle.std.proofs.Common.{◌∙◌, length-append, arith}
 use Rattle.std.specs.Prelude.{nat_le}
 use Rattle.std.proofs.lemmas.Bool.{leb-true}
@@ -14,6 +14,7 @@ use Rattle.link_laws.proofs.messages.Project.{Says}
 use Rattle.node_machine.specs.world.World.{Site, NodeWorld, site_at, end_c, end_h}
 use Rattle.node_machine.specs.world.NodeHistories.{entries_in}
 use Rattle.node_laws.specs.order.Told.{IsLinkTold, IsReadOff, AreUpWith}
+use Rattle.node_laws.proofs.Cases.{by_test}
 use Rattle.node_laws.proofs.order.Lines.{host_number}
 use Rattle.node_laws.proofs.order.Quiet.{near_now, far_now, up_near, up_far}
 use Rattle.lines_told.specs.fragments.Rounds.{undelivered}
@@ -25,22 +26,16 @@ use Rattle.world_laws.proofs.worlds.Rounds.{IsReached, known_there}
 -- of the fragments of messages behind so many, those of the messages that are among these whole are left out
 left_behind : (sent : List Message) (n : ℕ) → length (fragments_of sent) ≤ n + length (fragments_of (drop (whole_among sent n) sent))
 left_behind [] n = omega arith
-left_behind (m ∷ ms) n = go (nat_le (packet_count (length m.1)) n) refl (left_behind ms (n - packet_count (length m.1)))
+left_behind (m ∷ ms) n = by_test (nat_le (packet_count (length m.1)) n)
+    (λ q. let fits : packet_count (length m.1) ≤ n = leb-true (packet_count (length m.1)) n q in
+    rw q (omega (arith, count, fits, left_behind ms (n - packet_count (length m.1)))))
+    (λ q. rw q (omega arith))
   where
     count : length (fragments_of (m ∷ ms)) ≡ packet_count (length m.1) + length (fragments_of ms)
     count =
         let a = length-append (map packet_bytes (packets_of m.0 m.1)) (fragments_of ms) in
         let b = length-map (packets_of m.0 m.1) packet_bytes ∙ packets_are_counted m.0 m.1 in
         omega (arith, a, b)
-
-    go : (b : Bool) → nat_le (packet_count (length m.1)) n ≡ b
-        → length (fragments_of ms) ≤ (n - packet_count (length m.1))
-        + length (fragments_of (drop (whole_among ms (n - packet_count (length m.1))) ms))
-        → length (fragments_of (m ∷ ms)) ≤ n + length (fragments_of (drop (whole_among (m ∷ ms) n) (m ∷ ms)))
-    go true q more =
-        let fits : packet_count (length m.1) ≤ n = leb-true (packet_count (length m.1)) n q in
-        rw q (omega (arith, count, fits, more))
-    go false q more = rw q (omega arith)
 
 pub end_left : (t : List Entry) (e : End) (n : ℕ) (talk : Talk) → Says talk → IsReadOff t e n talk → undelivered talk.session ≤ fragments_unacked t e n
 end_left t e n talk says read =

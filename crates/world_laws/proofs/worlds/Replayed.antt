@@ -1,5 +1,5 @@
 -- What the causes of events do is what happened, and so with rounds of a world.
-use Rattle.std.proofs.Common.{◌≡◌, ℕ, zero, suc, Bool, true, false, List, [], ◌∷◌, ◌++◌, None, refl, ap, sym, subst, ◌∙◌}
+use Rattle.std.proofs.Common.{◌≡◌, ℕ, zero, suc, true, false, List, [], ◌∷◌, ◌++◌, None, refl, ap, sym, subst, ◌∙◌}
 use Rattle.std.proofs.lemmas.List.{map-append}
 use Rattle.trace_model.specs.declared.line.End.{End}
 use Rattle.trace_model.specs.declared.line.Line.TheVariants as line
@@ -9,6 +9,7 @@ use Rattle.node_machine.specs.world.Lines.{Occurrence, all_happen, can_happen, h
 use Rattle.node_machine.specs.world.Rounds.{ends_in_order, end_takes_all, ends_take_all, world_round, rounds_of_world, world_rounds_to_settle}
 use Rattle.node_machine.specs.world.Rounds.{world_settling}
 use Rattle.node_laws.specs.rsets.Causes.{happened_in}
+use Rattle.node_laws.proofs.Cases.{by_test}
 use Rattle.world_laws.specs.worlds.RoundCauses.{AllCanHappen}
 
 -- what happens first, and then
@@ -26,31 +27,22 @@ none_happens w c causes q = rw q refl
 
 pub again : (w : NodeWorld) (causes : List Happening) → all_happen w (happened_in (all_happen w causes).1) ≡ all_happen w causes
 again w [] = refl
-again w (c ∷ causes) = go (can_happen w c) refl (again (world_step w c).0 causes)
+again w (c ∷ causes) = by_test (can_happen w c)
+    (λ q. let first = happens_first w c causes q in
+    ap (λ (r : NodeWorld × List Occurrence). all_happen w (happened_in r.1)) first
+    ∙ (happens_first w c (happened_in (all_happen v causes).1) q ∙ (ap (with_first w c) (again (world_step w c).0 causes) ∙ sym first)))
+    (λ q. let none = none_happens w c causes q in
+    ap (λ (r : NodeWorld × List Occurrence). all_happen w (happened_in r.1)) none ∙ sym none)
   where
     v : NodeWorld
     v = (world_step w c).0
-
-    go : (b : Bool) → can_happen w c ≡ b → all_happen v (happened_in (all_happen v causes).1) ≡ all_happen v causes
-        → all_happen w (happened_in (all_happen w (c ∷ causes)).1) ≡ all_happen w (c ∷ causes)
-    go true q later =
-        let first = happens_first w c causes q in
-        ap (λ (r : NodeWorld × List Occurrence). all_happen w (happened_in r.1)) first
-        ∙ (happens_first w c (happened_in (all_happen v causes).1) q ∙ (ap (with_first w c) later ∙ sym first))
-    go false q later =
-        let none = none_happens w c causes q in
-        ap (λ (r : NodeWorld × List Occurrence). all_happen w (happened_in r.1)) none ∙ sym none
 
 pub each_can : (w : NodeWorld) (causes : List Happening) → AllCanHappen w (happened_in (all_happen w causes).1)
 each_can w [] = tt
-each_can w (c ∷ causes) = go (can_happen w c) refl (each_can (world_step w c).0 causes)
-  where
-    v : NodeWorld
-    v = (world_step w c).0
-
-    go : (b : Bool) → can_happen w c ≡ b → AllCanHappen v (happened_in (all_happen v causes).1) → AllCanHappen w (happened_in (all_happen w (c ∷ causes)).1)
-    go true q later = subst (λ (r : NodeWorld × List Occurrence). AllCanHappen w (happened_in r.1)) (sym (happens_first w c causes q)) (q, later)
-    go false q later = subst (λ (r : NodeWorld × List Occurrence). AllCanHappen w (happened_in r.1)) (sym (none_happens w c causes q)) tt
+each_can w (c ∷ causes) = by_test (can_happen w c)
+    (λ q. subst (λ (r : NodeWorld × List Occurrence). AllCanHappen w (happened_in r.1)) (sym (happens_first w c causes q))
+    (q, each_can (world_step w c).0 causes))
+    (λ q. subst (λ (r : NodeWorld × List Occurrence). AllCanHappen w (happened_in r.1)) (sym (none_happens w c causes q)) tt)
 
 -- ## One list behind another
 

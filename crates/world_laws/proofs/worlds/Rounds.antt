@@ -28,6 +28,7 @@ use Rattle.node_machine.specs.world.World.{end_c, end_h, world_step}
 use Rattle.node_machine.specs.world.World.Happening.{Takes, Ticks as TimePassing}
 use Rattle.node_machine.specs.world.Lines.{Occurrence, all_happen, can_happen, happenings, frames_at}
 use Rattle.node_laws.specs.telling.Telling.{IfOff}
+use Rattle.node_laws.proofs.Cases.{by_test}
 use Rattle.node_laws.proofs.telling.Nodes.{site_host}
 use Rattle.node_laws.specs.links.Runs.{new_line}
 use Rattle.node_laws.proofs.order.Lines.{IsSo, of_none, next_so, host_number}
@@ -61,12 +62,9 @@ module _ (hosts : List ℕ) where
 
   reached_all : (causes : List Happening) (w : NodeWorld) → ArePassing causes → IsReached hosts w → IsReached hosts (all_happen w causes).0
   reached_all [] w p r = r
-  reached_all (Takes e ∷ causes) w p r = go (can_happen w (Takes e)) refl (reached_all causes (world_step w (Takes e)).0 p (reached_takes w e r))
-    where
-      go : (b : Bool) → can_happen w (Takes e) ≡ b → IsReached hosts (all_happen (world_step w (Takes e)).0 causes).0
-          → IsReached hosts (all_happen w (Takes e ∷ causes)).0
-      go true q a = rw q a
-      go false q a = rw q r
+  reached_all (Takes e ∷ causes) w p r = by_test (can_happen w (Takes e))
+      (λ q. rw q (reached_all causes (world_step w (Takes e)).0 p (reached_takes w e r)))
+      (λ q. rw q r)
   reached_all (TimePassing ∷ causes) w p r = reached_all causes (world_step w TimePassing).0 p (reached_ticks w r)
   reached_all (_ ∷ causes) w p r = absurd p
 
@@ -124,11 +122,8 @@ come_far-append (Activate p c i h ∷ es) fs l = come_far-append es fs (happens 
 
 times-append : (es fs : List LinkEvent) → times_among (es ++ fs) ≡ times_among es + times_among fs
 times-append [] fs = omega arith
-times-append (AtController e ∷ es) fs = times-append es fs
-times-append (AtHost e ∷ es) fs = times-append es fs
 times-append (Ticks c o h ∷ es) fs = let r = times-append es fs in omega (arith, r)
-times-append (TicksWithout o h ∷ es) fs = times-append es fs
-times-append (Activate p c i h ∷ es) fs = times-append es fs
+times-append (_ ∷ es) fs = times-append es fs
 
 ordinary-append : (es fs : List LinkEvent) → AllOrdinaryOnLink es → AllOrdinaryOnLink fs → AllOrdinaryOnLink (es ++ fs)
 ordinary-append [] fs a b = b

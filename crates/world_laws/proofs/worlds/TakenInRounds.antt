@@ -20,6 +20,7 @@ use Rattle.node_machine.specs.world.World.{after_controller, link_after_controll
 use Rattle.node_machine.specs.world.World.Happening.{Takes}
 use Rattle.node_machine.specs.world.Lines.{Occurrence, all_happen, can_happen, is_running, frames_at}
 use Rattle.node_laws.specs.telling.Telling.{IsOrderly}
+use Rattle.node_laws.proofs.Cases.{by_option, by_test}
 use Rattle.node_laws.proofs.telling.Nodes.{site_host}
 use Rattle.node_laws.proofs.telling.Orderly.{step_orderly}
 use Rattle.node_laws.proofs.telling.Worlds.{site_is}
@@ -39,11 +40,7 @@ wire_gone l x xs ts wire =
 
 -- a node that runs on wasn't cut off
 goes_out : (k : Work) → is_some (runs_on k) ≡ true → ending_of k ≡ GoesOut
-goes_out k runs = go k.cut refl
-  where
-    go : (b : Bool) → k.cut ≡ b → ending_of k ≡ GoesOut
-    go true q = let no : is_some (runs_on k) ≡ false = rw q refl in absurd (true≢false (sym runs ∙ no))
-    go false q = rw q refl
+goes_out k runs = by_test k.cut (λ q. let no : is_some (runs_on k) ≡ false = rw q refl in absurd (true≢false (sym runs ∙ no))) (λ q. rw q refl)
 
 module _ (w : NodeWorld) (h : ℕ) (s : Site) (q : site_at w.sites h ≡ Some s) where
   number : (s.host == h) ≡ true
@@ -95,18 +92,10 @@ module _ (w : NodeWorld) (h : ℕ) (s : Site) (q : site_at w.sites h ≡ Some s)
 
 -- where a frame stands, there is a link
 there_where_stands : (w : NodeWorld) (e : End) → 0 < length (frames_at w e) → (s : Site) × (site_at w.sites e.link ≡ Some s)
-there_where_stands w e stands = go (site_at w.sites e.link) refl
+there_where_stands w e stands = by_option (site_at w.sites e.link) (λ q. let n = none q in absurd (omega (arith, n, stands))) (λ s q. (s, q))
   where
     none : site_at w.sites e.link ≡ None → length (frames_at w e) ≡ 0
-    none q = by e.at_host
-      where
-        by : (b : Bool) → length (frames_at w (record { link = e.link; at_host = b })) ≡ 0
-        by true = rw q refl
-        by false = rw q refl
-
-    go : (o : Option Site) → site_at w.sites e.link ≡ o → (s : Site) × (site_at w.sites e.link ≡ Some s)
-    go None q = let n = none q in absurd (omega (arith, n, stands))
-    go (Some s) q = (s, q)
+    none q = by_test e.at_host (λ is. rw is (rw q refl)) (λ is. rw is (rw q refl))
 
 -- a wire on which a frame stands
 record First (xs : List OnWire) : Type 0 where

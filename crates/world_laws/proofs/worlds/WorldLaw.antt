@@ -1,5 +1,5 @@
 -- A link of a world that settles.
-use Rattle.std.proofs.Common.{◌≡◌, ℕ, ◌+◌, ◌*◌, ◌<◌, ◌≤◌, Bool, true, false, ◌==◌, List, [], ◌∷◌, Some, ◌⊎◌, inl, inr, refl, ap, sym, subst}
+use Rattle.std.proofs.Common.{◌≡◌, ℕ, ◌+◌, ◌*◌, ◌<◌, ◌≤◌, true, ◌==◌, List, [], ◌∷◌, Some, ◌⊎◌, inl, inr, ap, sym, subst}
 use Rattle.std.proofs.Common.{◌∙◌, arith}
 use Rattle.std.proofs.lemmas.Bool.{cases_lt, and_parts}
 use Rattle.link_laws.specs.messages.Links.{Link, LinkEvent, IsStart, AllAllowed, after_link_events, talk_now}
@@ -11,22 +11,20 @@ use Rattle.lines_told.proofs.messages.Law.{got_by_host, got_by_controller, rest_
 use Rattle.node_machine.specs.world.Rounds.{sites_rest, world_rests, world_after_round, world_rounds_to_settle, world_settling}
 use Rattle.node_laws.specs.rounds.RoundEvents.{rounds_events}
 use Rattle.world_laws.specs.worlds.LinkSettled.{LinkSettled}
+use Rattle.node_laws.proofs.Cases.{by_test}
 use Rattle.node_laws.proofs.rounds.RoundEvents.{rounds_go}
 use Rattle.world_laws.proofs.worlds.WorldRest.{settling_is}
 
 -- each link of a world at rest is
 site_rests : (sites : List Site) (h : ℕ) (s : Site) → sites_rest sites ≡ true → site_at sites h ≡ Some s → link_rests s.link ≡ true
 site_rests [] h s r q = cc
-site_rests (x ∷ sites) h s r q = go (x.host == h) refl (site_rests sites h s)
+site_rests (x ∷ sites) h s r q = by_test (x.host == h)
+    (λ p. let same : x ≡ s = (let z : Some x ≡ Some s = rw p at q in cc) in
+    ap (λ (y : Site). link_rests y.link) (sym same) ∙ parts.0)
+    (λ p. site_rests sites h s parts.1 (rw p at q))
   where
     parts : (link_rests x.link ≡ true) × (sites_rest sites ≡ true)
     parts = and_parts (link_rests x.link) (sites_rest sites) r
-
-    go : (b : Bool) → (x.host == h) ≡ b → (sites_rest sites ≡ true → site_at sites h ≡ Some s → link_rests s.link ≡ true) → link_rests s.link ≡ true
-    go true p later =
-        let same : x ≡ s = (let z : Some x ≡ Some s = rw p at q in cc) in
-        ap (λ (y : Site). link_rests y.link) (sym same) ∙ parts.0
-    go false p later = later parts.1 (rw p at q)
 
 pub settled : (l : Link) → IsStart l → (before : List LinkEvent) → AllAllowed l before → (w : NodeWorld) (h : ℕ) (s : Site) → site_at w.sites h ≡ Some s
     → after_link_events l before ≡ s.link → (n : ℕ) → AllAllowed s.link (rounds_events h (world_rounds_to_settle n w) w)
