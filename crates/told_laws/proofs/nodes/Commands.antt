@@ -1,9 +1,8 @@
 -- Commands and tables of a world of nodes are in their ranges.
 use Rattle.std.proofs.Common.{◌≡◌, ℕ, zero, suc, ◌≤◌, ◌<◌, Bool, true, false, cond, nat_lt, List, [], ◌∷◌, length, refl, subst, arith}
-use Rattle.std.proofs.Common.{Option, Some, None}
+use Rattle.std.proofs.Common.{Some}
 use Rattle.std.specs.Prelude.{◌==◌, IsTrue, take, replicate, nat_le, slice_index}
 use Rattle.std.specs.List.{AllByRecursion, find, fold}
-use Rattle.std.specs.Option.{option_map_or}
 use Rattle.std.proofs.lemmas.Bool.{cond_both, and_parts, leb-true, ltb-true}
 use Rattle.swp_base.specs.Bits.{IsByte}
 use Rattle.sorted_rows.specs.Rows.{row_of, rows_before, rows_behind, with_row}
@@ -24,6 +23,7 @@ use Rattle.told_laws.specs.texts.Ranges.{IsSaidPipe, IsSaidCommand, IsSaidStatic
 use Rattle.told_laws.proofs.told.Lines.{each_all, all_each}
 use Rattle.told_laws.proofs.nodes.Sides.{AreBytes}
 use Rattle.told_laws.proofs.nodes.Ranges.{IsIn, AreIn, IsShortCommand}
+use Rattle.node_laws.proofs.Cases.{by_option}
 
 -- ## Bytes
 
@@ -175,30 +175,7 @@ book_next n k b (entry.Booted node m) is h =
     (λ _. let some = AllByRecursion-take IsKeptCommand m b.commands h.commands in
     let t = after_in (take m b.commands) no_tables some none_in in
     record { commands = some; tables = record { pipes = closed_in _ t.pipes; statics = tt; values = t.values; syncs = t.syncs } }) (λ _. h)
-book_next n k b (entry.Head header) is h = h
-book_next n k b (entry.Echo said) is h = h
-book_next n k b (entry.Up at session) is h = h
-book_next n k b (entry.Down at cause) is h = h
-book_next n k b (entry.Active at) is h = h
-book_next n k b (entry.GaveUp at tries) is h = h
-book_next n k b (entry.Sent at session pid message) is h = h
-book_next n k b (entry.Got at session pid message) is h = h
-book_next n k b (entry.Acked at session count) is h = h
-book_next n k b (entry.Emit at lpdu) is h = h
-book_next n k b (entry.Took at lpdu) is h = h
-book_next n k b (entry.Lost at lpdu cause) is h = h
-book_next n k b (entry.Turn at pid message) is h = h
-book_next n k b (entry.Held at need spare) is h = h
-book_next n k b (entry.Ask host message) is h = h
-book_next n k b (entry.Dropped at pid) is h = h
-book_next n k b (entry.AnyOk node count) is h = h
-book_next n k b (entry.InitSame at) is h = h
-book_next n k b (entry.InitMade at count) is h = h
-book_next n k b (entry.InitFailed at code) is h = h
-book_next n k b (entry.Cut node) is h = h
-book_next n k b (entry.Tables node tables) is h = h
-book_next n k b (entry.Settled rounds) is h = h
-book_next n k b (entry.No cause) is h = h
+book_next n k b _ is h = h
 
 books_in : (n k : ℕ) (t : List Entry) (b : Book) → AreIn n t → IsBookIn b → IsBookIn (fold (book_after k) b t)
 books_in n k [] b is h = h
@@ -211,13 +188,9 @@ tables_read_in n k t is = (books_in n k t new_book is (record { commands = tt; t
 -- a value that is read of tables
 pub value_read_in : (values : List RegValue) (host gate param : ℕ) → AllByRecursion IsValueIn values
     → AreBytes (value_at values host gate param) × (length (value_at values host gate param) ≤ 4095)
-value_read_in values host gate param h = by (row_of place_of_value (value_place host param) values) refl
-  where
-    by : (o : Option RegValue) → row_of place_of_value (value_place host param) values ≡ o
-        → AreBytes (option_map_or (λ (v : RegValue). v.value.items) o (default_of param))
-        × (length (option_map_or (λ (v : RegValue). v.value.items) o (default_of param)) ≤ 4095)
-    by None q = (default_in param, default_short param)
-    by (Some v) q = let is = found_in IsValueIn _ values v h q in (all_each IsByte v.value.items is.0.3, is.1)
+value_read_in values host gate param h = by_option (row_of place_of_value (value_place host param) values)
+    (λ q. rw q (default_in param, default_short param))
+    (λ v q. rw q (let is = found_in IsValueIn _ values v h q in (all_each IsByte v.value.items is.0.3, is.1)))
 
 -- a command that may be recorded makes a pipe between 02 and 6F
 pub recordable_made : (c : Command) → is_command c ≡ true → IfMade c
@@ -231,8 +204,4 @@ recordable_made (Create row) q = (from, upto)
 
     upto : row.pid < 112
     upto = ltb-true row.pid 112 (and_parts (nat_le 2 row.pid) (nat_lt row.pid 112) parts).1
-recordable_made (Delete pid) q = tt
-recordable_made (Clear host) q = tt
-recordable_made (SetOpened host pid opened) q = tt
-recordable_made (Set host gate param value) q = tt
-recordable_made (Sync host id) q = tt
+recordable_made _ q = tt

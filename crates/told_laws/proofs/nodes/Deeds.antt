@@ -34,13 +34,14 @@ use Rattle.tables_laws.proofs.gate.Decisions.{unless, new_row}
 use Rattle.gate_link.specs.Link.{count_bytes, count_in, tests_to_set_errors, link_served, link_unless_refused as link_unless}
 use Rattle.gate_identity.specs.Identity.{identity_value, identity_served, identity_unless_refused as identity_unless}
 use Rattle.link_laws.specs.machine.Machine.{Message}
-use Rattle.node_machine.specs.Parts.{Init, Creation, Notice, Desk, Core, Port, Deed}
-use Rattle.node_machine.specs.Parts.Deed.{Commits, Sends, SaysOk, Asks, Releases, Tells, IsAnswered, Drops, SetsErrors, Orders, Hears, GoesOn, Ends}
+use Rattle.node_machine.specs.Parts.{Init, Creation, Desk, Core, Port, Deed}
+use Rattle.node_machine.specs.Parts.Deed.{Commits, Sends, Asks, Tells, Drops, SetsErrors, Orders, GoesOn, Ends}
 use Rattle.node_machine.specs.Carrying.{finds_room, port_at, own_view}
 use Rattle.node_machine.specs.Controller.{creation_in, view_for, answers_on, commit_deeds, decision_deeds, link_deeds, gates, agreed, controller_deeds}
 use Rattle.node_machine.specs.Controller.{has_link, is_command_message, relayed_to, served_at, notice_deeds, creation_deeds, kind_deeds}
-use Rattle.node_machine.specs.Controller.{unless_asking, goes_through, own_gate, asks_for, if_notice, own_deeds, relay_deeds, deeds_by_relay}
-use Rattle.node_machine.specs.Controller.{view_of, about_at, about_of}
+use Rattle.node_machine.specs.Controller.{goes_through, own_gate, asks_for, relay_deeds}
+use Rattle.node_machine.specs.Controller.{view_of, about_at}
+use Rattle.node_laws.proofs.Cases.{by_option, by_test}
 use Rattle.node_laws.proofs.steps.Ports.{at_port}
 use Rattle.node_machine.proofs.Walks.{told_hold}
 use Rattle.node_laws.proofs.links.Masking.{nobody}
@@ -64,17 +65,7 @@ saying pipe message low h = record { pipe = low; some = h.some; bytes = h.bytes;
 
 code_low : (r : Response) → code_of r < 64
 code_low response.Ok = omega arith
-code_low response.NotConnected = omega arith
-code_low response.CommandParameterUnknown = omega arith
-code_low response.NotOk = omega arith
-code_low response.NoPipesAvailable = omega arith
-code_low response.RegistryParameterUnknown = omega arith
-code_low response.PipeNotOpened = omega arith
-code_low response.CommandNotSupported = omega arith
-code_low response.Inhibited = omega arith
-code_low response.Timeout = omega arith
-code_low response.RegistryAccessDenied = omega arith
-code_low response.PipeAccessDenied = omega arith
+code_low _ = omega arith
 
 pub answer_in : (r : Response) (value : List ℕ) → AreBytes value → length value ≤ 4095 → IsSaying (answer_of r value)
 answer_in r value h few = let low = code_low r in record { some = omega arith; bytes = (omega (arith, low), h); short = omega (arith, few) }
@@ -109,17 +100,14 @@ pub record IsDeskIn (d : Desk) : Type 0 where
 abbrev pub IsDeedIn : Deed → Type 0
 IsDeedIn (Commits c) = IsCommandIn c
 IsDeedIn (Sends to m) = IsMail m
-IsDeedIn SaysOk = Unit {0}
 IsDeedIn (Asks to message c) = (to < 256) × IsSaying message × IsCreationIn c
-IsDeedIn (Releases asker) = Unit {0}
 IsDeedIn (Tells to message) = IsSaying message
-IsDeedIn IsAnswered = Unit {0}
 IsDeedIn (Drops pid) = pid < 256
 IsDeedIn (SetsErrors errors) = errors < 65536
 IsDeedIn (Orders message) = IsSaying message
-IsDeedIn Hears = Unit {0}
 IsDeedIn (GoesOn i) = IsInitIn i
 IsDeedIn (Ends e) = (n : ℕ) → IsIn n e
+IsDeedIn _ = Unit {0}
 
 abbrev pub AreDeedsIn : List Deed → Type 0
 AreDeedsIn deeds = AllByRecursion IsDeedIn deeds
@@ -342,11 +330,9 @@ identity_in instruction body =
     (λ _. answer_in response.CommandNotSupported [] tt (omega arith)))
 
 pub link_deeds_in : (h pipe : ℕ) (served : List ℕ × Option ℕ) → pipe < 112 → IsServedIn served → AreDeedsIn (link_deeds h pipe served)
-link_deeds_in h pipe served p a = by served.1 refl
-  where
-    by : (o : Option ℕ) → served.1 ≡ o → AreDeedsIn (link_deeds h pipe (served.0, o))
-    by None q = (saying pipe served.0 p a.message, tt)
-    by (Some errors) q = (a.value errors q, (saying pipe served.0 p a.message, tt))
+link_deeds_in h pipe served p a = by_option served.1
+    (λ q. rw q (saying pipe served.0 p a.message, tt))
+    (λ errors q. rw q (a.value errors q, (saying pipe served.0 p a.message, tt)))
 
 -- ## A controller
 
@@ -364,11 +350,7 @@ abbrev pub AreDesksIn : List Port → Type 0
 AreDesksIn ports = AllByRecursion (λ (p : Port). IsDeskIn p.desk) ports
 
 errors_at : (ports : List Port) (h : ℕ) → AreDesksIn ports → option_map_or (λ (p : Port). p.desk.errors) (port_at ports h) 0 < 65536
-errors_at ports h a = go (port_at ports h) refl
-  where
-    go : (o : Option Port) → port_at ports h ≡ o → option_map_or (λ (p : Port). p.desk.errors) o 0 < 65536
-    go None q = omega arith
-    go (Some p) q = (at_port (λ (p : Port). IsDeskIn p.desk) ports h p a q).errors
+errors_at ports h a = by_option (port_at ports h) (λ q. rw q (omega arith)) (λ p q. rw q (at_port (λ (p : Port). IsDeskIn p.desk) ports h p a q).errors)
 
 pub plain_in : (h : ℕ) (r : Response) (pipe : ℕ) → pipe < 112 → AreDeedsIn (answers_on h pipe (answer_of r []))
 plain_in h r pipe p = answers_in h pipe (answer_of r []) p (answer_in r [] tt (omega arith))
@@ -395,43 +377,29 @@ module _ (core : Core) (ports : List Port) (h : ℕ) (m : Message) (tables : Are
 
   noticed_in : (code : ℕ) (o : Option Port) → port_at ports h ≡ o → AreDeedsIn (notice_deeds (own_view core) code (about_at o))
   noticed_in code None here = (omega arith, tt)
-  noticed_in code (Some q) here = by q.desk.notice refl
+  noticed_in code (Some q) here = by_option q.desk.notice
+      (λ is. rw is (omega arith, tt))
+      (λ n is. rw is (by_creation (creation_in (Some n)) (ap creation_in is)))
     where
       by_creation : (o : Option Creation) → creation_in q.desk.notice ≡ o → AreDeedsIn (creation_deeds (own_view core) code o)
       by_creation None is = (tt, tt)
       by_creation (Some c) is =
           agreed_in _ c (subst IfCreation is (at_port (λ (x : Port). IsDeskIn x.desk) ports h q a here).creation)
 
-      by : (o : Option Notice) → q.desk.notice ≡ o → AreDeedsIn (notice_deeds (own_view core) code (about_of o))
-      by None is = (omega arith, tt)
-      by (Some n) is = by_creation (creation_in (Some n)) (ap creation_in is)
-
   kind_in : (x : Result (MessageKind × ℕ) MessageFault) → AreDeedsIn (kind_deeds (view_of core ports) h m x)
-  kind_in (Ok (IsCommand, n)) = by (m.0 == 1 && asks_for ports h)
-    where
-      by : (asks : Bool) → AreDeedsIn (unless_asking (view_of core ports) h m n asks)
-      by true = drops_in
-      by false = served_in n (cond (goes_through core.tables h m.0 n) (own_gate core.tables h m.0) None)
+  kind_in (Ok (IsCommand, n)) = by_test (m.0 == 1 && asks_for ports h)
+      (λ q. rw q drops_in)
+      (λ q. rw q (served_in n (cond (goes_through core.tables h m.0 n) (own_gate core.tables h m.0) None)))
   kind_in (Ok (IsEvent, n)) = cond_both _ (Sends h m ∷ []) (Drops m.0 ∷ []) AreDeedsIn (λ _. (s, tt)) (λ _. drops_in)
-  kind_in (Ok (IsResponse, code)) = by (m.0 == 1)
-    where
-      by : (b : Bool) → AreDeedsIn (if_notice (view_of core ports) h m code b)
-      by true = noticed_in code (port_at ports h) refl
-      by false = drops_in
+  kind_in (Ok (IsResponse, code)) = by_test (m.0 == 1) (λ q. rw q (noticed_in code (port_at ports h) refl)) (λ q. rw q drops_in)
   kind_in (Err fault) = drops_in
-
-  own_in : (b : Bool) → AreDeedsIn (own_deeds (view_of core ports) h m b)
-  own_in true = kind_in (header_of m.1)
-  own_in false = drops_in
 
   relayed_in : (other : ℕ) (up : Bool) → AreDeedsIn (relay_deeds (has_link ports) h m other up)
   relayed_in other true = (s, tt)
   relayed_in other false =
       cond_both (has_link ports h && is_command_message m.1) _ (Drops m.0 ∷ []) AreDeedsIn (λ _. plain_in h response.NotConnected m.0 p) (λ _. drops_in)
 
-  by_relay : (o : Option ℕ) → AreDeedsIn (deeds_by_relay (view_of core ports) h m o)
-  by_relay (Some other) = relayed_in other (has_link ports other)
-  by_relay None = own_in (has_link ports h)
-
   pub controller_in : AreDeedsIn (controller_deeds (view_of core ports) h m)
-  controller_in = by_relay (relayed_to core.tables h m)
+  controller_in = by_option (relayed_to core.tables h m)
+      (λ is. rw is (by_test (has_link ports h) (λ q. rw q (kind_in (header_of m.1))) (λ q. rw q drops_in)))
+      (λ other is. rw is (relayed_in other (has_link ports other)))

@@ -1,5 +1,5 @@
 -- Whatever happens to a world of nodes keeps it, and what is noted of it, in range.
-use Rattle.std.proofs.Common.{◌≡◌, ℕ, ◌+◌, ◌≤◌, ◌<◌, ◌==◌, Bool, true, false, cond, List, [], ◌∷◌, ◌++◌, map, subst, arith}
+use Rattle.std.proofs.Common.{◌≡◌, ℕ, ◌+◌, ◌≤◌, ◌<◌, ◌==◌, Bool, true, false, List, [], ◌∷◌, ◌++◌, map, subst, arith}
 use Rattle.std.proofs.Common.{Option, Some, None, not}
 use Rattle.std.specs.Prelude.{◌&&◌, min}
 use Rattle.std.specs.List.{AllByRecursion, flat_map}
@@ -14,9 +14,9 @@ use Rattle.link_laws.specs.machine.Machine.LinkInput.{Tick, Reset}
 use Rattle.link_laws.specs.messages.Links.{Link, Comes, Loss, exchanged, aged, has_input, ticks_at_controller, happens, happens_at_controller}
 use Rattle.link_laws.specs.messages.Links.Ending.{GoesOut, CutOff}
 use Rattle.link_laws.specs.messages.Links.Comes.{NextFrame, AsksReset, Starts, NoInput}
-use Rattle.link_laws.specs.messages.Links.Loss.{OnDemand, Broken, Unread, TooOld, TooMany}
+use Rattle.link_laws.specs.messages.Links.Loss.{Broken}
 use Rattle.link_laws.specs.messages.Links.EndEvent.{Step, Lose}
-use Rattle.link_laws.specs.messages.Links.LinkEvent.{AtController, AtHost}
+use Rattle.link_laws.specs.messages.Links.LinkEvent.{AtController}
 use Rattle.link_laws.specs.entries.Entries.{first_lost, aged_entries}
 use Rattle.link_laws.specs.entries.Entries.End.{Controller, Host}
 use Rattle.history.specs.Steps.{at, entries_for}
@@ -45,6 +45,7 @@ use Rattle.told_laws.proofs.nodes.Works.{IsWorkIn, steps_in, begins_in}
 use Rattle.told_laws.proofs.nodes.Worlds.{IsNodeIn, IfNodeIn, IsSiteIn, IsWorldIn, IfTables, SitesHave, world_more, sites_more, sites_map, site_changed}
 use Rattle.told_laws.proofs.nodes.Worlds.{link_there, on_wire, noted_frames, turns_of, still_runs, work_begins, comes_input, IsStepIn, nothing_done}
 use Rattle.told_laws.proofs.nodes.Worlds.{controller_step, host_step, work_more}
+use Rattle.node_laws.proofs.Cases.{by_test}
 
 -- ## What comes to an end
 
@@ -160,10 +161,7 @@ errors_in h (d ∷ desks) a = (go (d.host == h), errors_in h desks a.1)
 counts_in : (why : Loss) (h : ℕ) (o : Option Running) → IfNodeIn o → IfNodeIn (counts why h o)
 counts_in (Broken fault) h None a = tt
 counts_in (Broken fault) h (Some r) a = record { number = a.number; command = a.command; init = a.init; desks = errors_in h r.desks a.desks }
-counts_in OnDemand h o a = a
-counts_in Unread h o a = a
-counts_in TooOld h o a = a
-counts_in TooMany h o a = a
+counts_in _ h o a = a
 
 lost_in : (n : ℕ) (w : NodeWorld) (e : End) (why : Loss) → e.link ≤ 7 → IsWorldIn n w → IsStepIn n (frame_lost w e why)
 lost_in n w e why small is =
@@ -188,13 +186,10 @@ lost_in n w e why small is =
     })
   where
     loses : (s : Site) → IsSiteIn n s → LinkIn false true n (happens s.link (at e (Lose why)))
-    loses s a = by e.at_host
-      where
-        by : (b : Bool) → LinkIn false true n (happens s.link (cond b (AtHost (Lose why)) (AtController (Lose why))))
-        by true =
-            link_exchanged true false n (happens_at_controller (exchanged s.link) (Lose why))
-            (link_loses true false n (exchanged s.link) why (link_exchanged false true n s.link a.link))
-        by false = link_loses false true n s.link why a.link
+    loses s a = by_test e.at_host
+        (λ q. rw q (link_exchanged true false n (happens_at_controller (exchanged s.link) (Lose why))
+        (link_loses true false n (exchanged s.link) why (link_exchanged false true n s.link a.link))))
+        (λ q. rw q (link_loses false true n s.link why a.link))
 
 -- ## Activation
 
@@ -226,10 +221,6 @@ module _ (n : ℕ) (w : NodeWorld) (is : IsWorldIn n w) (has : WorldHas w) where
       starts_near : (b : Bool) → false ≡ b → ComesIn b (Starts power)
       starts_near true q = omega (arith, code)
       starts_near false q = code
-
-      starts_far : (b : Bool) → true ≡ b → ComesIn b (Starts sync)
-      starts_far true q = id
-      starts_far false q = absurd (cc q)
 
       between : NodeWorld
       between = (comes_at w (end_c h) (Starts power)).0

@@ -8,7 +8,7 @@ use Rattle.trace_model.specs.declared.entry.Entry.TheVariants as entry
 use Rattle.registry.proofs.ValueLemmas.{AllByRecursion-append as each-append}
 use Rattle.node_machine.specs.Parts.{Running}
 use Rattle.node_machine.specs.world.World.{NodeWorld, Site, Happening, world_step}
-use Rattle.node_machine.specs.world.World.Happening.{Boots, IsCut, Gives, Inits, Takes, Loses, Ticks, Resets, Activates, Arms}
+use Rattle.node_machine.specs.world.World.Happening.{Boots}
 use Rattle.node_machine.specs.world.Lines.{Occurrence, can_happen, all_happen}
 use Rattle.node_machine.specs.world.NodeHistories.{entries_in}
 use Rattle.node_machine.specs.world.NodeFilters.{commands_in}
@@ -40,30 +40,7 @@ finds_few t node k few (inr but) = let one = but.0 in omega (arith, few, one)
 one_counted : (t : List Entry) (x : Entry) → ((n : ℕ) → length (commands_in t n) ≤ 2 ^ 32 - 1) → IsTold t x → IsCounted x
 one_counted t (entry.AnyOk node k) few told = omega (arith, told)
 one_counted t (entry.Booted node k) few told = finds_few t node k (few node) told
-one_counted t (entry.Head header) few told = tt
-one_counted t (entry.Echo said) few told = tt
-one_counted t (entry.Up at session) few told = tt
-one_counted t (entry.Down at cause) few told = tt
-one_counted t (entry.Active at) few told = tt
-one_counted t (entry.GaveUp at tries) few told = tt
-one_counted t (entry.Sent at session pid message) few told = tt
-one_counted t (entry.Got at session pid message) few told = tt
-one_counted t (entry.Acked at session count) few told = tt
-one_counted t (entry.Emit at lpdu) few told = tt
-one_counted t (entry.Took at lpdu) few told = tt
-one_counted t (entry.Lost at lpdu cause) few told = tt
-one_counted t (entry.Turn at pid message) few told = tt
-one_counted t (entry.Held at need spare) few told = tt
-one_counted t (entry.Ask host message) few told = tt
-one_counted t (entry.Dropped at pid) few told = tt
-one_counted t (entry.Command node command) few told = tt
-one_counted t (entry.InitSame at) few told = tt
-one_counted t (entry.InitMade at count) few told = tt
-one_counted t (entry.InitFailed at code) few told = tt
-one_counted t (entry.Cut node) few told = tt
-one_counted t (entry.Tables node tables) few told = tt
-one_counted t (entry.Settled rounds) few told = tt
-one_counted t (entry.No cause) few told = tt
+one_counted t _ few told = tt
 
 all_counted : (es t : List Entry) → AreToldBehind t es → IsFew (t ++ es) → AllByRecursion IsCounted es
 all_counted [] t told few = tt
@@ -137,15 +114,7 @@ module _ (hosts : List ℕ) (are : AreHosts hosts) where
 
   rsets_by_few : (c : Happening) → rsets_by c ≤ 26
   rsets_by_few (Boots k) = omega arith
-  rsets_by_few (IsCut k) = omega arith
-  rsets_by_few (Gives e m) = omega arith
-  rsets_by_few (Inits e identity pipes) = omega arith
-  rsets_by_few (Takes e) = omega arith
-  rsets_by_few (Loses e why) = omega arith
-  rsets_by_few Ticks = omega arith
-  rsets_by_few (Resets e window) = omega arith
-  rsets_by_few (Activates h sync power) = omega arith
-  rsets_by_few (Arms k plan) = omega arith
+  rsets_by_few _ = omega arith
 
   pub event_in : (n : ℕ) (t : List Entry) (w : NodeWorld) (c : Happening) → HappensIn c → MayHappen w c → Stands n t w → n + 26 ≤ top
       → IsFew (t ++ (world_step w c).1) → Stands (n + 26) (t ++ (world_step w c).1) (world_step w c).0

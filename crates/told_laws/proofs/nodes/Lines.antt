@@ -20,21 +20,22 @@ use Rattle.trace_model.specs.declared.line.End.{End}
 use Rattle.trace_model.specs.declared.line.Header.{Header}
 use Rattle.trace_model.specs.declared.line.Line.{Line}
 use Rattle.trace_model.specs.declared.line.Line.TheVariants as line
-use Rattle.trace_model.specs.Lines.{IsHost, IsNodeHeader, IsEndOf, IsNodeOf, MayFollow}
+use Rattle.trace_model.specs.Lines.{IsHost, IsNodeHeader, IsEndOf, IsNodeOf}
 use Rattle.schedule_text.proofs.ReadAgainLemmas.{header_hosts, node_fits}
 use Rattle.told_laws.specs.texts.Ranges.{IsSaidValue, AreSaidTables}
 use Rattle.link_laws.specs.sessions.Sessions.{OnWire}
 use Rattle.link_laws.specs.machine.Machine.{Message, Refused, give_refusal, reset_refusal, LinkEnd, need, spare}
 use Rattle.shdlc_core.specs.declared.answers.LinkState.{LinkState}
 use Rattle.shdlc_core.specs.declared.answers.LinkState.TheVariants.{Down, Waiting, Up}
-use Rattle.link_laws.specs.machine.Machine.Refused.{NotUp, TooLong, Full, Inactive, IsWaiting}
+use Rattle.link_laws.specs.machine.Machine.Refused.{NotUp, TooLong, Full}
 use Rattle.history.specs.Damage.{Verdict}
 use Rattle.history.specs.Damage.Verdict.{Same, LostFor, Undetected}
-use Rattle.history.specs.Follows.{as_noted, if_empty, if_out_of_reach, frames_to, taken_of, first_verdict}
+use Rattle.history.specs.Follows.{as_noted, if_empty, if_out_of_reach, taken_of, first_verdict}
 use Rattle.node_machine.specs.world.World.{NodeWorld, Happening, node_of, link_to}
 use Rattle.node_machine.specs.world.World.Happening.{Takes, Ticks}
-use Rattle.node_machine.specs.world.Lines.{first_cause, if_true, is_running, if_off, machine_in, frames_at, if_waiting, if_not_sent, refusal_in}
+use Rattle.node_machine.specs.world.Lines.{first_cause, is_running, if_off, machine_in, frames_at, if_waiting, if_not_sent, refusal_in}
 use Rattle.node_machine.specs.world.Lines.{happens_by, happenings}
+use Rattle.node_laws.proofs.Cases.{by_test}
 use Rattle.node_laws.proofs.kept.Lines.{first_none}
 use Rattle.node_laws.specs.schedules.Ranges.{IsNodeLineOf}
 use Rattle.told_laws.proofs.told.Wires.{WireIs}
@@ -58,24 +59,6 @@ host_low header nodes h known = (subst IsHost known.2 (header_hosts header (inr 
 pub number_low : (header : Header) → IsNodeHeader header → (k : ℕ) → IsNodeOf header.hosts.items k → k ≤ 7
 number_low header nodes k known = node_fits header.hosts.items k (header_hosts header (inr nodes)) known
 
--- a line may stand below its header
-pub may_follow : (header : Header) → IsNodeHeader header → (l : Line) → IsNodeLineOf header l → MayFollow header l
-may_follow header nodes (line.Send e pid message) is = is
-may_follow header nodes (line.Deliver e count) is = is
-may_follow header nodes (line.Lose e) is = is
-may_follow header nodes (line.Damage e places) is = is
-may_follow header nodes (line.Tick times) is = is
-may_follow header nodes (line.Reset e window) is = is
-may_follow header nodes (line.Busy e) is = is
-may_follow header nodes (line.Ready e) is = is
-may_follow header nodes (line.Boot node) is = (nodes.nodes, is)
-may_follow header nodes (line.Cut node) is = (nodes.nodes, is)
-may_follow header nodes (line.Activate host sync power) is = (nodes.nodes, is)
-may_follow header nodes (line.Arm node nth fill) is = (nodes.nodes, is)
-may_follow header nodes (line.Init e identity pipes) is = (nodes.nodes, is)
-may_follow header nodes (line.Tables node) is = (nodes.nodes, is)
-may_follow header nodes (line.Settle rounds) is = absurd is
-
 -- ## What a line causes
 
 -- a message that isn't refused isn't too long
@@ -92,26 +75,12 @@ unrefused_short e m q = go e.shdlc.phase refl
     go Waiting z = absurd (let none : Some NotUp ≡ None = rw z at q in cc none)
     go Up z = by_tests (nat_lt 4096 (length m.1)) (nat_lt (spare e) (need m.1)) refl (rw z at q)
 
-none_noted : (o : Option Refused) → as_noted o ≡ None → o ≡ None
-none_noted None q = refl
-none_noted (Some NotUp) q = absurd (cc q)
-none_noted (Some (TooLong n)) q = absurd (cc q)
-none_noted (Some (Full n spare)) q = absurd (cc q)
-none_noted (Some Inactive) q = absurd (cc q)
-none_noted (Some IsWaiting) q = absurd (cc q)
-
 none_waits : (waits : Bool) (o : Option Refused) → if_waiting waits o ≡ None → o ≡ None
 none_waits b (Some NotUp) q = absurd (cc q)
 none_waits true None q = absurd (cc q)
-none_waits true (Some (TooLong n)) q = absurd (cc q)
-none_waits true (Some (Full n spare)) q = absurd (cc q)
-none_waits true (Some Inactive) q = absurd (cc q)
-none_waits true (Some IsWaiting) q = absurd (cc q)
+none_waits true (Some _) q = absurd (cc q)
 none_waits false None q = refl
-none_waits false (Some (TooLong n)) q = absurd (cc q)
-none_waits false (Some (Full n spare)) q = absurd (cc q)
-none_waits false (Some Inactive) q = absurd (cc q)
-none_waits false (Some IsWaiting) q = absurd (cc q)
+none_waits false (Some _) q = absurd (cc q)
 
 repeated_in : (c : Happening) → HappensIn c → (k : ℕ) → AllByRecursion HappensIn (replicate k c)
 repeated_in c is zero = tt
@@ -153,8 +122,6 @@ module _ (header : Header) (nodes : IsNodeHeader header) where
   caused_in w (line.Tick times) is none = repeated_in Ticks tt (unwrap_or times 1)
   caused_in w (line.Reset e None) is none = ((link_low header nodes e is.0, tt), tt)
   caused_in w (line.Reset e (Some window)) is none = ((link_low header nodes e is.0, is.1.1), tt)
-  caused_in w (line.Busy e) is none = tt
-  caused_in w (line.Ready e) is none = tt
   caused_in w (line.Boot node) is none = (number_low header nodes node is, tt)
   caused_in w (line.Cut node) is none = (number_low header nodes node is, tt)
   caused_in w (line.Activate host sync power) is none =
@@ -172,19 +139,14 @@ module _ (header : Header) (nodes : IsNodeHeader header) where
         ),
         tt,
       )
-  caused_in w (line.Tables node) is none = tt
-  caused_in w (line.Settle rounds) is none = tt
+  caused_in w _ is none = tt
 
   -- a line causes 100 events at most
   wire_at : (n : ℕ) (w : NodeWorld) → IsWorldIn n w → (e : End) → WireIs IsLineFrame n (frames_at w e)
-  wire_at n w is e = go e.at_host
+  wire_at n w is e = by_test e.at_host (λ q. rw q l.to_far) (λ q. rw q l.to_near)
     where
       l : LinkIn false true n (link_to w.sites e.link)
       l = link_there n w.sites e.link is.sites
-
-      go : (b : Bool) → WireIs IsLineFrame n (frames_to (link_to w.sites e.link) (record { link = e.link; at_host = b }))
-      go true = l.to_far
-      go false = l.to_near
 
   few_taken : (count : Option ℕ) (w : List OnWire) → length w ≤ 64 → taken_of count w ≤ 64
   few_taken None w few = few
@@ -193,28 +155,16 @@ module _ (header : Header) (nodes : IsNodeHeader header) where
   few_damaged : (e : End) (v : Option Verdict) → length (happens_by e v) ≤ 100
   few_damaged e None = omega arith
   few_damaged e (Some Same) = omega arith
-  few_damaged e (Some (LostFor why)) = omega arith
-  few_damaged e (Some (Undetected read)) = omega arith
+  few_damaged e (Some _) = omega arith
 
   pub few_caused : (n : ℕ) (w : NodeWorld) (l : Line) → IsNodeLineOf header l → IsWorldIn n w → length (happenings w l) ≤ 100
-  few_caused n w (line.Send e pid message) is h = omega arith
   few_caused n w (line.Deliver e count) is h =
       let few = few_taken count (frames_at w e) (wire_at n w h e).few in
       let long = length-replicate (taken_of count (frames_at w e)) (Takes e) in omega (arith, few, long)
-  few_caused n w (line.Lose e) is h = omega arith
   few_caused n w (line.Damage e places) is h = few_damaged e (first_verdict (frames_at w e) places.items)
   few_caused n w (line.Tick None) is h = omega arith
   few_caused n w (line.Tick (Some times)) is h = let long = length-replicate times Ticks in let few = is.1 in omega (arith, few, long)
-  few_caused n w (line.Reset e window) is h = omega arith
-  few_caused n w (line.Busy e) is h = omega arith
-  few_caused n w (line.Ready e) is h = omega arith
-  few_caused n w (line.Boot node) is h = omega arith
-  few_caused n w (line.Cut node) is h = omega arith
-  few_caused n w (line.Activate host sync power) is h = omega arith
-  few_caused n w (line.Arm node nth fill) is h = omega arith
-  few_caused n w (line.Init e identity pipes) is h = omega arith
-  few_caused n w (line.Tables node) is h = omega arith
-  few_caused n w (line.Settle rounds) is h = omega arith
+  few_caused n w _ is h = omega arith
 
 -- ## Refusals
 
@@ -228,15 +178,9 @@ off_in w n = cond_both (is_running w n) None (Some no.Off) IfCause (λ _. tt) (�
 waiting_in : (waits : Bool) (o : Option Refused) → IfCause (as_noted o) → IfCause (if_waiting waits o)
 waiting_in b (Some NotUp) h = tt
 waiting_in true None h = tt
-waiting_in true (Some (TooLong n)) h = tt
-waiting_in true (Some (Full n spare)) h = tt
-waiting_in true (Some Inactive) h = tt
-waiting_in true (Some IsWaiting) h = tt
+waiting_in true (Some _) h = tt
 waiting_in false None h = h
-waiting_in false (Some (TooLong n)) h = h
-waiting_in false (Some (Full n spare)) h = h
-waiting_in false (Some Inactive) h = h
-waiting_in false (Some IsWaiting) h = h
+waiting_in false (Some _) h = h
 
 sent_in : (w : NodeWorld) (e : End) (m : Message) → IfCause (if_not_sent w e m)
 sent_in w e m = waiting_in _ (give_refusal (machine_in w e) m) (give_in (machine_in w e) m)
@@ -259,21 +203,13 @@ module _ (header : Header) (nodes : IsNodeHeader header) where
       (reach_in n (frames_at w e) places.items (wire_at header nodes n w h e))
   refused_in n w (line.Reset e window) h =
       first_in (if_off w (node_of e)) (as_noted (reset_refusal (machine_in w e))) (off_in w (node_of e)) (reset_in (machine_in w e))
-  refused_in n w (line.Tick times) h = tt
-  refused_in n w (line.Busy e) h = tt
-  refused_in n w (line.Ready e) h = tt
-  refused_in n w (line.Boot node) h = go (is_running w node)
-    where
-      go : (b : Bool) → IfCause (if_true b no.Running)
-      go true = tt
-      go false = tt
+  refused_in n w (line.Boot node) h = by_test (is_running w node) (λ q. rw q tt) (λ q. rw q tt)
   refused_in n w (line.Cut node) h = off_in w node
   refused_in n w (line.Activate host sync power) h = first_in (if_off w 0) (if_off w host) (off_in w 0) (off_in w host)
-  refused_in n w (line.Arm node nth fill) h = tt
   refused_in n w (line.Init e identity pipes) h =
       first_in (if_off w (node_of e)) (if_not_sent w e (1, 3 ∷ [])) (off_in w (node_of e)) (sent_in w e (1, 3 ∷ []))
   refused_in n w (line.Tables node) h = off_in w node
-  refused_in n w (line.Settle rounds) h = tt
+  refused_in n w _ h = tt
 
 -- ## Tables
 

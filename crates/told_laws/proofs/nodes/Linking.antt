@@ -12,7 +12,7 @@ use Rattle.swp_act.specs.declared.ActEvent.{ActEvent}
 use Rattle.swp_act.specs.declared.ActEvent.TheVariants.{Start as ActStart, Take as ActTake, Tick as ActTick, Stop as ActStop}
 use Rattle.swp_act.specs.Activation.{new_clf, new_uicc}
 use Rattle.shdlc_core.specs.declared.answers.LinkState.{LinkState}
-use Rattle.shdlc_core.specs.declared.answers.LinkState.TheVariants.{Down, Waiting, Up}
+use Rattle.shdlc_core.specs.declared.answers.LinkState.TheVariants.{Up}
 use Rattle.shdlc_core.specs.Machine.{EndState, taken, take_answer, ticked, tick_answer, reset_with, stopped, all_frames}
 use Rattle.link_laws.specs.sessions.Sessions.{OnWire, is_rset, is_up, took_with}
 use Rattle.link_laws.specs.machine.Machine.{Role, ActDue, LinkEnd, LinkInput, Turn, Refused, is_faulty, is_open, act_answer, role_after, with_act}
@@ -20,8 +20,8 @@ use Rattle.link_laws.specs.machine.Machine.{in_front, moved, put_down}
 use Rattle.link_laws.specs.machine.Machine.{activated, heard, took, give_refusal, given, aside_refusal, turn, turned, reset_refusal, if_up}
 use Rattle.link_laws.specs.machine.Machine.{reset_by, window_of, among, frames_out, sent_all, after_input, renewed, new_link_end, unless, ended_by}
 use Rattle.link_laws.specs.machine.Machine.Role.{Bare, Clf, Uicc}
-use Rattle.link_laws.specs.machine.Machine.LinkInput.{Take, TakeUnknown, TakeBroken, Tick, Reset, Start, Stop, FromNode, Fetch}
-use Rattle.link_laws.specs.machine.Machine.Turn.{Give, Hold, FetchMessage, SetAside, Release}
+use Rattle.link_laws.specs.machine.Machine.LinkInput.{Take, Tick, Reset, Start, Stop}
+use Rattle.link_laws.specs.machine.Machine.Turn.{Give, SetAside}
 use Rattle.link_laws.specs.messages.Links.{NumberedEnd, Link, Ending, Comes, Loss, new_link, exchanged, put, put_all, with_controller, with_ended}
 use Rattle.link_laws.specs.messages.Links.{silent, cut, finished, has_input, has_taken, has_restarted, steps_at_controller, happens_at_controller, aged}
 use Rattle.link_laws.specs.messages.Links.Ending.{GoesOut, CutOff}
@@ -66,8 +66,7 @@ down_acts e true = by e.shdlc.phase refl
 
     by : (p : LinkState) → e.shdlc.phase ≡ p → length (put_down true e).acts ≤ length e.acts
     by Up q = rw q front
-    by Waiting q = rw q front
-    by Down q = rw q front
+    by _ q = rw q front
 
 act_acts : (o : Option Act) (e : LinkEnd) → length (with_act o e).acts ≤ length e.acts + 1
 act_acts None e = omega arith
@@ -119,17 +118,12 @@ input_acts b e (Start value) is =
 input_acts b e Stop is =
     let few = moved_acts e true (stopped e.shdlc) in
     let more = activated_acts (moved e true (stopped e.shdlc)) ActStop in omega (arith, few, more)
-input_acts b e TakeUnknown is = absurd is
-input_acts b e (TakeBroken fault) is = absurd is
-input_acts b e (FromNode t) is = absurd is
-input_acts b e Fetch is = absurd is
+input_acts b e _ is = absurd is
 
 turn_acts : (e : LinkEnd) (t : Turn) → length (turn e t).acts ≤ length e.acts
 turn_acts e (Give m) = unless_acts (give_refusal e m) e (given e m) (omega arith)
-turn_acts e (Hold held) = omega arith
-turn_acts e FetchMessage = omega arith
 turn_acts e SetAside = unless_acts (aside_refusal e) e (record e { aside = e.aside + 1 }) (omega arith)
-turn_acts e Release = omega arith
+turn_acts e _ = omega arith
 
 turned_acts : (ts : List Turn) (e : LinkEnd) → length (turned e ts).acts ≤ length e.acts
 turned_acts [] e = omega arith
@@ -288,8 +282,7 @@ new_side false n (Uicc s) h = absurd h
 
 new_calm : (r : Role) → (new_link_end (renewed r)).acts ≡ []
 new_calm Bare = refl
-new_calm (Clf s) = refl
-new_calm (Uicc s) = refl
+new_calm _ = refl
 
 -- the near end has become e, and the step ends
 finish_in : (b c : Bool) (n : ℕ) (l : Link) (e : LinkEnd) (ending : Ending) → SideIn b (n + 8) e → length e.acts ≤ 1 → AllBut c n l
@@ -328,11 +321,9 @@ finish_in b c n l e CutOff is few h =
 
 -- this may come to an end of a controller, or of a host
 abbrev pub ComesIn : Bool → Comes → Type 0
-ComesIn b NextFrame = Unit {0}
 ComesIn b (AsksReset window) = IsLowWindow window
 ComesIn b (Starts value) = IsStartIn b value
-ComesIn b Stops = Unit {0}
-ComesIn b NoInput = Unit {0}
+ComesIn b _ = Unit {0}
 
 module _ (b c : Bool) (n : ℕ) where
   acts_after : (l : Link) (i : LinkInput) (ts : List Turn) → IsInputIn b i → LinkIn b c n l → length (turned (after_input l.controller.side i) ts).acts ≤ 1

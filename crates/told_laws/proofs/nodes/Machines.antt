@@ -32,10 +32,11 @@ use Rattle.link_laws.specs.machine.Machine.{given, aside_refusal}
 use Rattle.link_laws.specs.machine.Machine.{turn, turned, reset_refusal, if_up, reset_by, window_of, had_tick, among, frames_out, sent_all, after_input}
 use Rattle.link_laws.specs.machine.Machine.{brought, report, whole_acked, unless}
 use Rattle.link_laws.specs.machine.Machine.Role.{Bare, Clf, Uicc}
-use Rattle.link_laws.specs.machine.Machine.LinkInput.{Take, TakeUnknown, TakeBroken, Tick, Reset, Start, Stop, FromNode, Fetch}
+use Rattle.link_laws.specs.machine.Machine.LinkInput.{Take, Tick, Reset, Start, Stop}
 use Rattle.link_laws.specs.machine.Machine.Turn.{Give, Hold, FetchMessage, SetAside, Release}
 use Rattle.told_laws.proofs.nodes.Sides.{IsAct, IsLineFrame, plain_frame, EndIn, end_taken, end_ticked, end_reset, end_stopped, end_readied, end_out}
 use Rattle.told_laws.proofs.nodes.Sides.{end_sent, end_more, IsMail, mail_told, AreMail, got_in, whole_low}
+use Rattle.node_laws.proofs.Cases.{by_test}
 
 -- ## Activation
 
@@ -255,10 +256,7 @@ module _ (b : Bool) (n : ℕ) where
 
 abbrev pub IsTurnIn : Turn → Type 0
 IsTurnIn (Give m) = IsMail m
-IsTurnIn (Hold held) = Unit {0}
-IsTurnIn FetchMessage = Unit {0}
-IsTurnIn SetAside = Unit {0}
-IsTurnIn Release = Unit {0}
+IsTurnIn _ = Unit {0}
 
 abbrev pub AreTurnsIn : List Turn → Type 0
 AreTurnsIn turns = AllByRecursion IsTurnIn turns
@@ -292,10 +290,7 @@ IsInputIn b (Reset window) = IsLowWindow window
 IsInputIn b (Start value) = IsStartIn b value
 IsInputIn b Tick = Unit {0}
 IsInputIn b Stop = Unit {0}
-IsInputIn b TakeUnknown = ⊥
-IsInputIn b (TakeBroken fault) = ⊥
-IsInputIn b (FromNode t) = ⊥
-IsInputIn b Fetch = ⊥
+IsInputIn b _ = ⊥
 
 pub side_started : (b : Bool) (n : ℕ) (e : LinkEnd) (value : ℕ) → IsStartIn b value → SideIn b n e → SideIn b n (started e value)
 side_started b n e value is h = side_activated b n (moved e true (stopped e.shdlc)) (ActStart value) is (side_ended b n e h)
@@ -309,10 +304,7 @@ side_input b n e Tick is h = side_more b n (n + 8) (had_tick e) (omega arith) (s
 side_input b n e (Reset window) is h = side_more b n (n + 8) (after_input e (Reset window)) (omega arith) (side_reset b n e window is h)
 side_input b n e (Start value) is h = side_more b n (n + 8) (started e value) (omega arith) (side_started b n e value is h)
 side_input b n e Stop is h = side_more b n (n + 8) (deactivated e) (omega arith) (side_stopped b n e h)
-side_input b n e TakeUnknown is h = absurd is
-side_input b n e (TakeBroken fault) is h = absurd is
-side_input b n e (FromNode t) is h = absurd is
-side_input b n e Fetch is h = absurd is
+side_input b n e _ is h = absurd is
 
 -- a reset moves no count
 pub side_reset_at : (b : Bool) (n : ℕ) (e : LinkEnd) → SideIn b n e → SideIn b n (after_input e (Reset None))
@@ -348,19 +340,13 @@ report_in b n e (Take (I ns nr info)) is h = record { got = brought_in b n e (I 
 report_in b n e (Take (S kind nr)) is h = record { got = brought_in b n e (S kind nr) is h; tries = tt; sync = tt }
 report_in b n e (Take (Rset window caps)) is h = record { got = brought_in b n e (Rset window caps) is h; tries = tt; sync = tt }
 report_in b n e (Take Ua) is h = record { got = brought_in b n e Ua is h; tries = tt; sync = tt }
-report_in b n e Tick is h = by (is_open e.role) refl
-  where
-    by : (opens : Bool) → is_open e.role ≡ opens → ReportIn (report e Tick)
-    by true q = record { got = tt; tries = rw q (few_tries e.shdlc h.end.ranged); sync = rw q tt }
-    by false q =
-        let step = step_in b e.role ActTick tt h.role in record { got = tt; tries = rw q step.out.tries; sync = rw q step.out.sync }
+report_in b n e Tick is h = by_test (is_open e.role)
+    (λ q. record { got = tt; tries = rw q (few_tries e.shdlc h.end.ranged); sync = rw q tt })
+    (λ q. let step = step_in b e.role ActTick tt h.role in record { got = tt; tries = rw q step.out.tries; sync = rw q step.out.sync })
 report_in b n e (Reset window) is h = record { got = tt; tries = tt; sync = tt }
 report_in b n e (Start value) is h = record { got = tt; tries = tt; sync = (step_in b e.role (ActStart value) is h.role).out.sync }
 report_in b n e Stop is h = record { got = tt; tries = tt; sync = (step_in b e.role ActStop tt h.role).out.sync }
-report_in b n e TakeUnknown is h = absurd is
-report_in b n e (TakeBroken fault) is h = absurd is
-report_in b n e (FromNode t) is h = absurd is
-report_in b n e Fetch is h = absurd is
+report_in b n e _ is h = absurd is
 
 pub acked_in : (b : Bool) (n : ℕ) (e : LinkEnd) → SideIn b n e → whole_acked e ≤ n
 acked_in b n e h = let w = whole_low e.sent e.shdlc.session.acked h.sent in let a = h.end.heard.acked in omega (arith, w, a)

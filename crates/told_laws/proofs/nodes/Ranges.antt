@@ -1,7 +1,6 @@
 -- The entries of a world of nodes are in their ranges, where no number of a session in them is above a bound. What a boot finds and what ANY_OK
 -- counts isn't spoken of.
 use Rattle.std.proofs.Common.{ℕ, ◌+◌, ◌/◌, ◌%◌, ◌≤◌, ◌<◌, Bool, true, false, nat_lt, List, [], ◌∷◌, ◌++◌, length, arith, Option, Some, None, map}
-use Rattle.std.specs.Prelude.{if◌then◌else◌}
 use Rattle.std.specs.List.{AllByRecursion}
 use Rattle.std.specs.Option.{option_to_list}
 use Rattle.block_pool.proofs.HoldingLemmas.{all_mapped}
@@ -15,9 +14,8 @@ use Rattle.trace_model.specs.declared.entry.Entry.TheVariants as entry
 use Rattle.link_laws.specs.sessions.Sessions.{OnWire}
 use Rattle.link_laws.specs.machine.Machine.{Report}
 use Rattle.link_laws.specs.messages.Links.{Loss}
-use Rattle.link_laws.specs.messages.Links.Loss.{TooOld}
 use Rattle.link_laws.specs.entries.Entries.{End as Side, Entry as Noted, if_so, told, first_lost, aged_entries}
-use Rattle.link_laws.specs.entries.Entries.Entry.{Up, Down, Active, GaveUp, Acked, Got, Sent, Emit, Took, Lost, Tick, Restarted, Cut}
+use Rattle.link_laws.specs.entries.Entries.Entry.{Up, Down, Active, GaveUp, Acked, Got, Sent, Emit, Took, Lost}
 use Rattle.history.specs.Steps.{entry_of, entries_for}
 use Rattle.hci_tables.specs.declared.command.Command.{Command}
 use Rattle.hci_tables.specs.declared.command.Command.TheVariants.{Set}
@@ -28,6 +26,7 @@ use Rattle.swp_base.specs.declared.link_terms.Cause.{Cause}
 use Rattle.told_laws.proofs.told.Ends.{IfTries}
 use Rattle.told_laws.proofs.nodes.Sides.{IsLineFrame, IsMail}
 use Rattle.told_laws.proofs.nodes.Machines.{ReportIn}
+use Rattle.node_laws.proofs.Cases.{by_test}
 
 -- ## Entries
 
@@ -56,28 +55,7 @@ in_more n k more (entry.Up at session) h = let a = h.1 in (h.0, omega (arith, mo
 in_more n k more (entry.Acked at session count) h = let a = h.1 in let b = h.2 in (h.0, omega (arith, more, a), omega (arith, more, b))
 in_more n k more (entry.Sent at session pid message) h = let a = h.1 in (h.0, omega (arith, more, a), h.2)
 in_more n k more (entry.Got at session pid message) h = let a = h.1 in (h.0, omega (arith, more, a), h.2)
-in_more n k more (entry.GaveUp at tries) h = h
-in_more n k more (entry.AnyOk node count) h = h
-in_more n k more (entry.Booted node count) h = h
-in_more n k more (entry.Head header) h = h
-in_more n k more (entry.Echo said) h = h
-in_more n k more (entry.Down at cause) h = h
-in_more n k more (entry.Active at) h = h
-in_more n k more (entry.Emit at lpdu) h = h
-in_more n k more (entry.Took at lpdu) h = h
-in_more n k more (entry.Lost at lpdu cause) h = h
-in_more n k more (entry.Turn at pid message) h = h
-in_more n k more (entry.Held at need spare) h = h
-in_more n k more (entry.Ask host message) h = h
-in_more n k more (entry.Dropped at pid) h = h
-in_more n k more (entry.Command node command) h = h
-in_more n k more (entry.InitSame at) h = h
-in_more n k more (entry.InitMade at count) h = h
-in_more n k more (entry.InitFailed at code) h = h
-in_more n k more (entry.Cut node) h = h
-in_more n k more (entry.Tables node tables) h = h
-in_more n k more (entry.Settled rounds) h = h
-in_more n k more (entry.No cause) h = h
+in_more n k more _ h = h
 
 pub all_in_more : (n k : ℕ) (t : List Entry) → n ≤ k → AreIn n t → AreIn k t
 all_in_more n k t more h = all_mapped Entry (IsIn n) (IsIn k) t (in_more n k more) h
@@ -110,11 +88,7 @@ IsNotedIn n (Sent who k m) = (k ≤ n) × IsMail m
 IsNotedIn n (Emit who c) = IsLineFrame c
 IsNotedIn n (Took who c) = IsLineFrame c
 IsNotedIn n (Lost who c why) = IsLineFrame c
-IsNotedIn n (Down who cause) = Unit {0}
-IsNotedIn n (Active who) = Unit {0}
-IsNotedIn n Tick = Unit {0}
-IsNotedIn n (Restarted who) = Unit {0}
-IsNotedIn n (Cut who) = Unit {0}
+IsNotedIn n _ = Unit {0}
 
 abbrev pub AreNotedIn : ℕ → List Noted → Type 0
 AreNotedIn n t = AllByRecursion (IsNotedIn n) t
@@ -131,9 +105,7 @@ module _ (h n : ℕ) (low : h < 256) where
   one_entry (Emit who c) p = ((end_in h who low, (line_lpdu c p).bytes_are), tt)
   one_entry (Took who c) p = ((end_in h who low, (line_lpdu c p).bytes_are), tt)
   one_entry (Lost who c why) p = ((end_in h who low, (line_lpdu c p).bytes_are), tt)
-  one_entry Tick p = tt
-  one_entry (Restarted who) p = tt
-  one_entry (Cut who) p = tt
+  one_entry _ p = tt
 
   pub all_entries_in : (t : List Noted) → AreNotedIn n t → AreIn n (entries_for h t)
   all_entries_in [] p = tt
@@ -150,17 +122,14 @@ each_noted : {A : Type 0} (n : ℕ) (P : A → Type 0) (f : A → Noted) (xs : L
 each_noted n P f [] p h = tt
 each_noted n P f (x ∷ xs) p h = (p x h.0, each_noted n P f xs p h.1)
 
-join : (n : ℕ) (t u : List Noted) → AreNotedIn n t → AreNotedIn n u → AreNotedIn n (t ++ u)
-join n t u h k = each-append (IsNotedIn n) t u h k
-
 pub told_in_range : (n : ℕ) (who : Side) (k : ℕ) (r : Report) (acked : ℕ) → k ≤ n → acked ≤ n → ReportIn r → AreNotedIn n (told who k r acked)
 told_in_range n who k r acked low few is =
-    let a = join n (if_so (nat_lt 0 r.acked) (Acked who k acked)) (map (Got who k) r.got)
+    let a = each-append (IsNotedIn n) (if_so (nat_lt 0 r.acked) (Acked who k acked)) (map (Got who k) r.got)
     (so_noted n (nat_lt 0 r.acked) (Acked who k acked) (low, few)) (each_noted n IsMail (Got who k) r.got (λ m t. (low, t)) is.got) in
-    let b = join n (map (GaveUp who) (option_to_list r.gave_up)) _ (tries r.gave_up is.tries) a in
-    let c = join n (if_so r.became_active (Active who)) _ (so_noted n r.became_active (Active who) tt) b in
-    let d = join n (if_so r.began (Up who k)) _ (so_noted n r.began (Up who k) low) c in
-    join n (map (Down who) (option_to_list r.ended)) _ (ended r.ended) d
+    let b = each-append (IsNotedIn n) (map (GaveUp who) (option_to_list r.gave_up)) _ (tries r.gave_up is.tries) a in
+    let c = each-append (IsNotedIn n) (if_so r.became_active (Active who)) _ (so_noted n r.became_active (Active who) tt) b in
+    let d = each-append (IsNotedIn n) (if_so r.began (Up who k)) _ (so_noted n r.began (Up who k) low) c in
+    each-append (IsNotedIn n) (map (Down who) (option_to_list r.ended)) _ (ended r.ended) d
   where
     tries : (o : Option ℕ) → IfTries o → AreNotedIn n (map (GaveUp who) (option_to_list o))
     tries None h = tt
@@ -179,9 +148,4 @@ first_lost_in n who why (x ∷ xs) h = (h.0, tt)
 
 pub aged_in : (n : ℕ) (who : Side) (w : List OnWire) → AllByRecursion (λ (x : OnWire). IsLineFrame x.frame) w → AreNotedIn n (aged_entries who w)
 aged_in n who [] h = tt
-aged_in n who (x ∷ xs) h = go (nat_lt x.age 4) (aged_in n who xs h.1)
-  where
-    go : (b : Bool) → AreNotedIn n (aged_entries who xs)
-        → AreNotedIn n (if b then aged_entries who xs else Lost who x.frame TooOld ∷ aged_entries who xs)
-    go true later = later
-    go false later = (h.0, later)
+aged_in n who (x ∷ xs) h = by_test (nat_lt x.age 4) (λ q. rw q (aged_in n who xs h.1)) (λ q. rw q (h.0, aged_in n who xs h.1))

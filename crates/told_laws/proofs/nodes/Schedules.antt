@@ -16,7 +16,6 @@ use Rattle.trace_model.specs.Lines.{IsHost, IsNodeHeader, MayBegin}
 use Rattle.trace_model.specs.declared.line.End.{End}
 use Rattle.told_laws.specs.texts.Ranges.{IsEntry}
 use Rattle.told_laws.proofs.texts.ReadLemmas.{said_in}
-use Rattle.link_laws.specs.machine.Machine.{need, spare}
 use Rattle.link_laws.specs.sessions.Sessions.{OnWire}
 use Rattle.link_laws.specs.messages.Rest.{is_clear}
 use Rattle.registry.proofs.ValueLemmas.{AllByRecursion-append as each-append}
@@ -28,7 +27,8 @@ use Rattle.node_machine.specs.world.Lines.{Occurrence, all_happen, LineOutcome, 
 use Rattle.node_machine.specs.world.Lines.LineOutcome.{WasRefused, Occurred}
 use Rattle.node_machine.specs.world.NodeHistories.{LineStep, NodeHistory, FollowsNodes, NoneIsMisread, steps_from, occurrences_of, entries_in, world_after}
 use Rattle.node_machine.specs.world.Rounds.{ends_in_order, end_takes_all, ends_take_all, world_round}
-use Rattle.node_laws.specs.kept.Hosts.{AreDifferent, AreHosts, IsFew, IsSentByHost}
+use Rattle.node_laws.specs.kept.Hosts.{AreDifferent, IsFew, IsSentByHost}
+use Rattle.node_laws.proofs.Cases.{by_test}
 use Rattle.node_laws.proofs.kept.Lines.{MayAllHappen, line_may, few_front}
 use Rattle.node_laws.proofs.kept.Kept.{all_begin}
 use Rattle.node_laws.proofs.acked.AckedRounds.{IsSound, sound_new}
@@ -84,31 +84,11 @@ told_entry (entry.Got at session pid message) h =
 told_entry (entry.AnyOk node count) h = (h.0, h.1)
 told_entry (entry.Booted node count) h = (h.0, h.1)
 told_entry (entry.Command node command) h = (h.0.0, h.0.1)
-told_entry (entry.Head header) h = h.0
-told_entry (entry.Echo said) h = h.0
-told_entry (entry.Down at cause) h = h.0
-told_entry (entry.Active at) h = h.0
-told_entry (entry.Emit at lpdu) h = h.0
-told_entry (entry.Took at lpdu) h = h.0
-told_entry (entry.Lost at lpdu cause) h = h.0
-told_entry (entry.Turn at pid message) h = h.0
-told_entry (entry.Held at need spare) h = h.0
-told_entry (entry.Ask host message) h = h.0
-told_entry (entry.Dropped at pid) h = h.0
-told_entry (entry.InitSame at) h = h.0
-told_entry (entry.InitMade at count) h = h.0
-told_entry (entry.InitFailed at code) h = h.0
-told_entry (entry.Cut node) h = h.0
-told_entry (entry.Tables node tables) h = h.0
-told_entry (entry.Settled rounds) h = h.0
-told_entry (entry.No cause) h = h.0
+told_entry _ h = h.0
 
 module _ (header : Header) (nodes : IsNodeHeader header) where
   abbrev hosts : List ℕ
   hosts = header.hosts.items
-
-  are : AreHosts hosts
-  are = hosts_are header nodes
 
   abbrev StandsIn : ℕ → List Entry → NodeWorld → Type 0
   StandsIn n t w = Stands hosts (hosts_are header nodes) n t w
@@ -138,7 +118,7 @@ module _ (header : Header) (nodes : IsNodeHeader header) where
 
   -- the node with this number that runs has full tables
   tables_at : (w : NodeWorld) → AllFull hosts (hosts_are header nodes) w → (k : ℕ) (o : Option Running) → node_at w k ≡ o → IfFull o
-  tables_at w h k o q = subst IfFull q (by_number (eqb k 0) refl)
+  tables_at w h k o q = subst IfFull q (by_test (eqb k 0) (λ e. rw e h.controller) (λ e. by_site e (site_at w.sites k) refl))
     where
       at_site : (sites : List Site) → AllByRecursion (λ (s : Site). IfFull s.node) sites → (s : Site) → site_at sites k ≡ Some s → IfFull s.node
       at_site [] a s z = absurd (cc z)
@@ -149,10 +129,6 @@ module _ (header : Header) (nodes : IsNodeHeader header) where
       by_site : eqb k 0 ≡ false → (x : Option Site) → site_at w.sites k ≡ x → IfFull (node_at w k)
       by_site off None here = rw off (rw here tt)
       by_site off (Some s) here = rw off (rw here (at_site w.sites h.sites s here))
-
-      by_number : (b : Bool) → eqb k 0 ≡ b → IfFull (node_at w k)
-      by_number true e = rw e h.controller
-      by_number false e = by_site e (site_at w.sites k) refl
 
   tells_in : (n : ℕ) (t : List Entry) (w : NodeWorld) (k : ℕ) → k ≤ 7 → StandsIn n t w → (o : Option Running) → node_at w k ≡ o
       → LineIn (n + 2600) t (w, tables_told k o)

@@ -8,7 +8,7 @@ use Rattle.std.proofs.lemmas.Bool.{cond_both, ltb-true, ltb-false, leb-true, tru
 use Rattle.swp_base.specs.declared.control_frames.Control.{Control}
 use Rattle.swp_base.specs.declared.control_frames.Control.TheVariants.{I, S, Rset, Ua, Act as ActFrame, Clt}
 use Rattle.swp_base.specs.declared.control_frames.Kind.{Kind}
-use Rattle.swp_base.specs.declared.control_frames.Kind.TheVariants.{Rr, Rej, Rnr, Srej}
+use Rattle.swp_base.specs.declared.control_frames.Kind.TheVariants.{Srej}
 use Rattle.swp_base.specs.declared.control_frames.Act.{Act}
 use Rattle.swp_base.specs.declared.control_frames.Act.TheVariants.{Ready, SyncId, PowerMode}
 use Rattle.swp_base.specs.Bits.{IsByte}
@@ -27,6 +27,7 @@ use Rattle.told_laws.proofs.told.Ends.{IsFragment, IsFrame, Ranged, ranged_taken
 use Rattle.told_laws.proofs.told.Ends.{ranged_after}
 use Rattle.link_laws.specs.machine.Machine.{Message, messages_got, whole_among}
 use Rattle.told_laws.proofs.told.Links.{IsTellable}
+use Rattle.node_laws.proofs.Cases.{by_test}
 
 -- ## Frames
 
@@ -46,12 +47,9 @@ IsLineFrame Clt = Unit {0}
 IsLineFrame c = IsFrame c
 
 pub plain_frame : (c : Control) → IsFrame c → IsLineFrame c
-plain_frame (I ns nr info) h = h
-plain_frame (S kind nr) h = h
-plain_frame (Rset window caps) h = h
-plain_frame Ua h = h
 plain_frame (ActFrame act again) h = absurd h
 plain_frame Clt h = absurd h
+plain_frame _ h = h
 
 -- ## An SHDLC end
 
@@ -90,44 +88,25 @@ module _ (n : ℕ) where
   supervised_heard : (e : EndState) (kind : Kind) (nr : ℕ) (o : Option ℕ) → place_of e.session nr ≡ o → HeardIn n e
       → HeardIn (n + 8) (taken (in_phase Up e) (S kind nr))
   supervised_heard e Srej nr o q h = let a = h.acked in record { acc = h.acc; acked = omega (arith, a) }
-  supervised_heard e Rr nr None q h = let a = h.acked in rw q (record { acc = h.acc; acked = omega (arith, a) })
-  supervised_heard e Rej nr None q h = let a = h.acked in rw q (record { acc = h.acc; acked = omega (arith, a) })
-  supervised_heard e Rnr nr None q h = let a = h.acked in rw q (record { acc = h.acc; acked = omega (arith, a) })
-  supervised_heard e Rr nr (Some x) q h =
+  supervised_heard e _ nr None q h = let a = h.acked in rw q (record { acc = h.acc; acked = omega (arith, a) })
+  supervised_heard e _ nr (Some x) q h =
       let low = place_low e.session nr x q in let a = h.acked in rw q (record { acc = h.acc; acked = omega (arith, low, a) })
-  supervised_heard e Rej nr (Some x) q h =
-      let low = place_low e.session nr x q in let a = h.acked in rw q (record { acc = h.acc; acked = omega (arith, low, a) })
-  supervised_heard e Rnr nr (Some x) q h =
-      let low = place_low e.session nr x q in let a = h.acked in rw q (record { acc = h.acc; acked = omega (arith, low, a) })
-
-  same_heard : (e f : EndState) → f.session ≡ e.session → HeardIn n e → HeardIn (n + 8) f
-  same_heard e f q h = let a = h.acked in rw q (record { acc = h.acc; acked = omega (arith, a) })
 
   reset_heard : (e : EndState) (p : LinkState) (w caps : ℕ) (b : Bool) → (w == 0) ≡ b → HeardIn n e → HeardIn (n + 8) (taken (in_phase p e) (Rset w caps))
   reset_heard e Up w caps true q h = let a = h.acked in rw q (record { acc = h.acc; acked = omega (arith, a) })
   reset_heard e Up w caps false q h = rw q (record { acc = tt; acked = omega arith })
-  reset_heard e Down w caps true q h = let a = h.acked in rw q (record { acc = h.acc; acked = omega (arith, a) })
   reset_heard e Down w caps false q h = rw q (record { acc = tt; acked = omega arith })
-  reset_heard e Waiting w caps true q h = let a = h.acked in rw q (record { acc = h.acc; acked = omega (arith, a) })
+  reset_heard e _ w caps true q h = let a = h.acked in rw q (record { acc = h.acc; acked = omega (arith, a) })
   reset_heard e Waiting w caps false q h = let a = h.acked in rw q (record { acc = h.acc; acked = omega (arith, a) })
 
   heard_in : (e : EndState) (p : LinkState) (c : Control) → IsLineFrame c → HeardIn n e → HeardIn (n + 8) (taken (in_phase p e) c)
   heard_in e Up (I ns nr info) is h = fragment_heard e ns nr info _ refl is.2.0 h
   heard_in e Up (S kind nr) is h = supervised_heard e kind nr _ refl h
-  heard_in e Up Ua is h = let a = h.acked in record { acc = h.acc; acked = omega (arith, a) }
-  heard_in e Up (ActFrame act again) is h = let a = h.acked in record { acc = h.acc; acked = omega (arith, a) }
-  heard_in e Up Clt is h = let a = h.acked in record { acc = h.acc; acked = omega (arith, a) }
-  heard_in e Down (I ns nr info) is h = let a = h.acked in record { acc = h.acc; acked = omega (arith, a) }
-  heard_in e Down (S kind nr) is h = let a = h.acked in record { acc = h.acc; acked = omega (arith, a) }
-  heard_in e Down Ua is h = let a = h.acked in record { acc = h.acc; acked = omega (arith, a) }
-  heard_in e Down (ActFrame act again) is h = let a = h.acked in record { acc = h.acc; acked = omega (arith, a) }
-  heard_in e Down Clt is h = let a = h.acked in record { acc = h.acc; acked = omega (arith, a) }
-  heard_in e Waiting (I ns nr info) is h = let a = h.acked in record { acc = h.acc; acked = omega (arith, a) }
-  heard_in e Waiting (S kind nr) is h = let a = h.acked in record { acc = h.acc; acked = omega (arith, a) }
   heard_in e Waiting Ua is h = record { acc = tt; acked = omega arith }
-  heard_in e Waiting (ActFrame act again) is h = let a = h.acked in record { acc = h.acc; acked = omega (arith, a) }
-  heard_in e Waiting Clt is h = let a = h.acked in record { acc = h.acc; acked = omega (arith, a) }
   heard_in e p (Rset w caps) is h = reset_heard e p w caps _ refl h
+  heard_in e Up _ is h = let a = h.acked in record { acc = h.acc; acked = omega (arith, a) }
+  heard_in e Waiting _ is h = let a = h.acked in record { acc = h.acc; acked = omega (arith, a) }
+  heard_in e Down _ is h = let a = h.acked in record { acc = h.acc; acked = omega (arith, a) }
 
   up_ticked : (e : EndState) (runs : Bool) (t : Timed) → runs_timer e.session ≡ runs → timed e ≡ t → HeardIn n e → HeardIn n (ticked (in_phase Up e))
   up_ticked e false t r q h = rw r (record { acc = h.acc; acked = h.acked })
@@ -137,8 +116,7 @@ module _ (n : ℕ) where
 
   waiting_ticked : (e : EndState) (t : Timed) → timed e ≡ t → HeardIn n e → HeardIn n (ticked (in_phase Waiting e))
   waiting_ticked e Runs q h = rw q (record { acc = h.acc; acked = h.acked })
-  waiting_ticked e Over q h = rw q (record { acc = h.acc; acked = h.acked })
-  waiting_ticked e Spent q h = rw q (record { acc = h.acc; acked = h.acked })
+  waiting_ticked e _ q h = rw q (record { acc = h.acc; acked = h.acked })
 
   tick_heard : (e : EndState) (p : LinkState) → HeardIn n e → HeardIn n (ticked (in_phase p e))
   tick_heard e Up h = up_ticked e _ _ refl refl h
@@ -219,11 +197,9 @@ record IsPacketIn (p : Packet) : Type 0 where
 packets_are : (fs : List (List ℕ)) → AllByRecursion AreBytes fs → AllByRecursion IsPacketIn (packets_in fs)
 packets_are [] h = tt
 packets_are ([] ∷ fs) h = packets_are fs h.1
-packets_are ((first ∷ rest) ∷ fs) h = go (nat_lt (first % 128) 112) refl (packets_are fs h.1)
-  where
-    go : (b : Bool) → nat_lt (first % 128) 112 ≡ b → AllByRecursion IsPacketIn (packets_in fs) → AllByRecursion IsPacketIn (packets_in ((first ∷ rest) ∷ fs))
-    go true q later = rw q (record { pipe = ltb-true (first % 128) 112 q; bytes = h.0.1 }, later)
-    go false q later = rw q later
+packets_are ((first ∷ rest) ∷ fs) h = by_test (nat_lt (first % 128) 112)
+    (λ q. rw q (record { pipe = ltb-true (first % 128) 112 q; bytes = h.0.1 }, packets_are fs h.1))
+    (λ q. rw q (packets_are fs h.1))
 
 -- a message that is under way, or whole
 record IsBegun (m : Message) : Type 0 where
@@ -269,15 +245,13 @@ given_in begun (p ∷ ps) is h =
 
 good_in : (ms : List Message) → AllByRecursion IsBegun ms → AreMail (good_of ms)
 good_in [] h = tt
-good_in (m ∷ ms) h = by (is_good m.1) refl (good_in ms h.1)
+good_in (m ∷ ms) h = by_test (is_good m.1)
+    (λ q. rw q (record { pipe = h.0.pipe; some = long m.1 q; bytes = h.0.bytes; short = h.0.short }, good_in ms h.1))
+    (λ q. rw q (good_in ms h.1))
   where
     long : (bytes : List ℕ) → is_good bytes ≡ true → 0 < length bytes
     long [] z = absurd (true≢false (sym z))
     long (first ∷ rest) z = omega arith
-
-    by : (b : Bool) → is_good m.1 ≡ b → AreMail (good_of ms) → AreMail (good_of (m ∷ ms))
-    by true q later = rw q (record { pipe = h.0.pipe; some = long m.1 q; bytes = h.0.bytes; short = h.0.short }, later)
-    by false q later = rw q later
 
 -- the messages that came of a session
 pub got_in : (s : Session) → AllByRecursion AreBytes s.acc → AreMail (messages_got s)

@@ -12,7 +12,7 @@ use Rattle.hci_tables.specs.declared.command.Command.TheVariants.{Sync}
 use Rattle.hci_tables.specs.Bodies.{body_of}
 use Rattle.hci_store.specs.Committing.{commit_writes}
 use Rattle.gate_answers.specs.Answers.{answer_of}
-use Rattle.link_laws.specs.machine.Machine.{Message, Refused, LinkEnd, LinkInput, Turn, give_refusal, after_input, report, whole_acked, need, spare}
+use Rattle.link_laws.specs.machine.Machine.{Message, LinkEnd, LinkInput, Turn, give_refusal, after_input, report, whole_acked, need, spare}
 use Rattle.link_laws.specs.machine.Machine.LinkInput.{Reset}
 use Rattle.link_laws.specs.machine.Machine.Turn.{Give, Hold, FetchMessage, SetAside, Release}
 use Rattle.link_laws.specs.entries.Entries.{End as Side, turn_entry, sent_unless, told}
@@ -29,6 +29,7 @@ use Rattle.node_machine.specs.Node.{NodeInput, input_at, has_come, told_at, all_
 use Rattle.node_machine.specs.Node.{times_out, is_over}
 use Rattle.node_machine.specs.Node.{is_forgotten, forgotten, forgets, all_owed, without_notice, after_sessions, synced, steps, answers_and_passes}
 use Rattle.node_machine.specs.Node.NodeInput.{AtEnd, TimePasses}
+use Rattle.node_laws.proofs.Cases.{by_option, by_test}
 use Rattle.node_laws.proofs.steps.StepWalks.{got_at, unless, lets}
 use Rattle.node_machine.proofs.Walks.{forgotten_hold, all_owed_hold}
 use Rattle.told_laws.proofs.told.Lines.{each_all}
@@ -105,18 +106,11 @@ module _ (b : Bool) (n : ℕ) where
   }
 
   given_noted : (who : Side) (session : ℕ) (e : LinkEnd) (m : Message) → session ≤ n → IsMail m → AreNotedIn n (sent_unless (give_refusal e m) who session m)
-  given_noted who session e m few is = go (give_refusal e m)
-    where
-      go : (o : Option Refused) → AreNotedIn n (sent_unless o who session m)
-      go None = ((few, is), tt)
-      go (Some why) = tt
+  given_noted who session e m few is = by_option (give_refusal e m) (λ q. rw q ((few, is), tt)) (λ why q. rw q tt)
 
   turn_noted : (who : Side) (session : ℕ) (e : LinkEnd) (t : Turn) → session ≤ n → IsTurnIn t → AreNotedIn n (turn_entry who session e t)
   turn_noted who session e (Give m) few is = given_noted who session e m few is
-  turn_noted who session e (Hold held) few is = tt
-  turn_noted who session e FetchMessage few is = tt
-  turn_noted who session e SetAside few is = tt
-  turn_noted who session e Release few is = tt
+  turn_noted who session e _ few is = tt
 
   turn_in : (h : ℕ) (t : Turn) (w : Work) → IsTurnIn t → IsWorkIn b n w → IsWorkIn b n (turn_at h t w)
   turn_in h t w is a =
@@ -239,38 +233,23 @@ module _ (b : Bool) (n : ℕ) where
   needs_few h (Asks to message c ∷ deeds) is = (omega arith, (need_few message is.0.1.short, needs_few h deeds is.1))
   needs_few h (Tells to message ∷ deeds) is = (need_few message is.0.short, needs_few h deeds is.1)
   needs_few h (Orders message ∷ deeds) is = (need_few message is.0.short, needs_few h deeds is.1)
-  needs_few h (Commits c ∷ deeds) is = needs_few h deeds is.1
-  needs_few h (SaysOk ∷ deeds) is = needs_few h deeds is.1
-  needs_few h (Releases asker ∷ deeds) is = needs_few h deeds is.1
-  needs_few h (IsAnswered ∷ deeds) is = needs_few h deeds is.1
-  needs_few h (Drops pid ∷ deeds) is = needs_few h deeds is.1
-  needs_few h (SetsErrors errors ∷ deeds) is = needs_few h deeds is.1
-  needs_few h (Hears ∷ deeds) is = needs_few h deeds is.1
-  needs_few h (GoesOn i ∷ deeds) is = needs_few h deeds is.1
-  needs_few h (Ends e ∷ deeds) is = needs_few h deeds is.1
+  needs_few h (_ ∷ deeds) is = needs_few h deeds is.1
 
   abbrev IfLack : Option (ℕ × ℕ) → Type 0
   IfLack None = Unit {0}
   IfLack (Some short) = (short.0 ≤ 200) × (short.1 ≤ 200)
-
-  spare_few : (o : Option Port) → option_map_or (λ (p : Port). spare p.side) o 0 ≤ 200
-  spare_few None = omega arith
-  spare_few (Some p) = omega arith
 
   lack_few : (ports : List Port) (xs : List (ℕ × ℕ)) → AreFewNeeds xs → IfLack (lack ports xs)
   lack_few ports [] is = tt
   lack_few ports (x ∷ xs) is =
       cond_both (nat_lt (option_map_or (λ (p : Port). spare p.side) (port_at ports x.0) 0) x.1)
       (Some (x.1, option_map_or (λ (p : Port). spare p.side) (port_at ports x.0) 0)) (lack ports xs) IfLack
-      (λ _. (is.0, spare_few (port_at ports x.0))) (λ _. lack_few ports xs is.1)
+      (λ _. (is.0, by_option (port_at ports x.0) (λ q. rw q (omega arith)) (λ p q. rw q (omega arith)))) (λ _. lack_few ports xs is.1)
 
   -- ## The pass
 
   abbrev J : Work → Type 0
   J w = IsWorkIn b n w
-
-  abbrev May : Deed → Type 0
-  May d = IsDeedIn d
 
   held_in : (h : ℕ) (flag : Bool) (w : Work) → J w → J (turn_at h (Hold flag) w)
   held_in h flag w a = turn_in h (Hold flag) w tt a
@@ -294,21 +273,15 @@ module _ (b : Bool) (n : ℕ) where
       (noting_in _ w ((own_end w.core h small, omega (arith, upto), (mail.some, octets)), tt) a)))
 
   held_back_in : (h : ℕ) (short : ℕ × ℕ) (w : Work) → IsHostNumber h → IfLack (Some short) → J w → J (holds_back h short w)
-  held_back_in h short w small few a = go (option_map_or (λ (p : Port). p.desk.holds) (port_at w.ports h) false) where
-    noted : Work
-    noted = noting (entry.Held (end_of_node w.core h) short.0 short.1 ∷ []) w
+  held_back_in h short w small few a = by_test (option_map_or (λ (p : Port). p.desk.holds) (port_at w.ports h) false)
+      (λ q. rw q (held_in h true w a))
+      (λ q. rw q (held_in h true (with_desk h (λ d. record d { holds = true }) noted) (marked_in h true noted noted_in))) where
+        noted : Work
+        noted = noting (entry.Held (end_of_node w.core h) short.0 short.1 ∷ []) w
 
-    by : Bool → Work
-    by true = turn_at h (Hold true) w
-    by false = turn_at h (Hold true) (with_desk h (λ d. record d { holds = true }) noted)
-
-    noted_in : J noted
-    noted_in = let one = few.0 in let two = few.1 in
-        noting_in _ w ((own_end w.core h small, omega (arith, one), omega (arith, two)), tt) a
-
-    go : (c : Bool) → J (by c)
-    go true = held_in h true w a
-    go false = held_in h true (with_desk h (λ d. record d { holds = true }) noted) (marked_in h true noted noted_in)
+        noted_in : J noted
+        noted_in = let one = few.0 in let two = few.1 in
+            noting_in _ w ((own_end w.core h small, omega (arith, one), omega (arith, two)), tt) a
 
   deeds_in : (w : Work) (h : ℕ) (m : Message) → IsHostNumber h → IsMail m → J w → AreDeedsIn (deeds_of w.core w.ports h m)
   deeds_in w h m small mail a = go (eqb w.core.node 0) (port_at w.ports h) refl refl
@@ -340,11 +313,7 @@ module _ (b : Bool) (n : ℕ) where
         go (Some short) few later = held_back_in h short w small few a
 
   come_in : (h : ℕ) (w : Work) → J w → AreMail (got_at h w)
-  come_in h w a = go (port_at w.ports h) refl
-    where
-      go : (o : Option Port) → port_at w.ports h ≡ o → AreMail (option_map_or (λ (p : Port). p.side.got) o [])
-      go None q = tt
-      go (Some p) q = (at_in w.ports h p a.ports q).is.side.got
+  come_in h w a = by_option (port_at w.ports h) (λ q. rw q tt) (λ p q. rw q (at_in w.ports h p a.ports q).is.side.got)
 
   going_in : (hosts : List ℕ) (w : Work) → AllByRecursion IsHostNumber hosts → J w → J (goes_through_ends hosts w)
   going_in [] w small a = a

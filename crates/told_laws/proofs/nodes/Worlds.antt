@@ -2,7 +2,6 @@
 use Rattle.std.proofs.Common.{◌≡◌, ℕ, ◌+◌, ◌≤◌, ◌==◌, Bool, true, false, eqb, nat_lt, List, [], ◌∷◌, ◌++◌, length, map, refl, subst, arith}
 use Rattle.std.proofs.Common.{Option, Some, None, drop}
 use Rattle.std.specs.List.{AllByRecursion, flat_map}
-use Rattle.std.specs.Option.{option_map_or}
 use Rattle.std.proofs.lemmas.Bool.{cond_both, eqb-true}
 use Rattle.swp_base.specs.InMemory.{Plan}
 use Rattle.swp_base.specs.declared.control_frames.Control.{Control}
@@ -18,10 +17,8 @@ use Rattle.link_laws.specs.messages.Links.Ending.{GoesOut, CutOff}
 use Rattle.link_laws.specs.messages.Links.Comes.{NextFrame, AsksReset, Starts, Stops, NoInput}
 use Rattle.link_laws.specs.messages.Links.Loss.{TooMany}
 use Rattle.link_laws.specs.messages.Links.EndEvent.{Step}
-use Rattle.link_laws.specs.entries.Entries.{End as Side, Entry as Noted, ending_entries, puts_entries, pushed_out, put_entries, wire_with, far, first_lost}
+use Rattle.link_laws.specs.entries.Entries.{End as Side, ending_entries, puts_entries, pushed_out, put_entries, wire_with, far, first_lost}
 use Rattle.link_laws.specs.entries.Entries.End.{Controller, Host}
-use Rattle.link_laws.specs.entries.Entries.Entry.{Took}
-use Rattle.history.specs.Steps.{entries_for}
 use Rattle.registry.proofs.ValueLemmas.{AllByRecursion-append as each-append}
 use Rattle.node_machine.specs.Parts.{Desk, Running, Port, Work}
 use Rattle.node_machine.specs.Carrying.{changed_if, port_at}
@@ -40,6 +37,7 @@ use Rattle.told_laws.proofs.nodes.Commands.{AreTablesIn}
 use Rattle.told_laws.proofs.nodes.Deeds.{IsDeskIn}
 use Rattle.told_laws.proofs.nodes.Hosts.{IfBytes, IfInit}
 use Rattle.told_laws.proofs.nodes.Works.{port_more, IsPortIn, ArePortsIn, IsWorkIn}
+use Rattle.node_laws.proofs.Cases.{by_test, by_list, by_option}
 
 -- ## What is kept
 
@@ -117,11 +115,9 @@ site_found P (x ∷ sites) h s a q =
     (λ _ z. site_found P sites h s a.1 z) q
 
 pub link_there : (n : ℕ) (sites : List Site) (h : ℕ) → AllByRecursion (IsSiteIn n) sites → LinkIn false true n (link_to sites h)
-link_there n sites h a = go (site_at sites h) refl
-  where
-    go : (o : Option Site) → site_at sites h ≡ o → LinkIn false true n (option_map_or (λ (s : Site). s.link) o (new_link Bare Bare))
-    go None q = link_in_more false true 0 n (new_link Bare Bare) (omega arith) (no_link_in false true)
-    go (Some s) q = (site_found (IsSiteIn n) sites h s a q).link
+link_there n sites h a = by_option (site_at sites h)
+    (λ q. rw q (link_in_more false true 0 n (new_link Bare Bare) (omega arith) (no_link_in false true)))
+    (λ s q. rw q (site_found (IsSiteIn n) sites h s a q).link)
 
 -- ## Frames
 
@@ -140,11 +136,9 @@ module _ (n : ℕ) (who : Side) where
   pushed_in w h = cond_both (nat_lt 64 (length w)) (first_lost who TooMany w) [] (AreNotedIn n) (λ _. first_lost_in n who TooMany w h) (λ _. tt)
 
 wire_after : (l : Link) (c : Control) → AreOnWire (wire_with l c) → AreOnWire (put l c).to_host
-wire_after l c h = go (is_rset c) refl
-  where
-    go : (b : Bool) → is_rset c ≡ b → AreOnWire (put l c).to_host
-    go true q = let z : AreOnWire (l.to_host ++ record { frame = c; age = 0; number = l.resets + 1 } ∷ []) = rw q at h in rw q (fits_on _ z)
-    go false q = let z : AreOnWire (l.to_host ++ record { frame = c; age = 0; number = 0 } ∷ []) = rw q at h in rw q (fits_on _ z)
+wire_after l c h = by_test (is_rset c)
+    (λ q. let z : AreOnWire (l.to_host ++ record { frame = c; age = 0; number = l.resets + 1 } ∷ []) = rw q at h in rw q (fits_on _ z))
+    (λ q. let z : AreOnWire (l.to_host ++ record { frame = c; age = 0; number = 0 } ∷ []) = rw q at h in rw q (fits_on _ z))
 
 puts_noted : (n : ℕ) (who : Side) (cs : List Control) (l : Link) → AreFramesIn cs → AreOnWire l.to_host → AreNotedIn n (puts_entries who l cs)
 puts_noted n who [] l is h = tt
@@ -167,21 +161,13 @@ port_found b n (x ∷ ports) h p a q =
 
 module _ (b : Bool) (n : ℕ) (k : Work) (a : IsWorkIn b n k) where
   pub noted_frames : (who : Side) (h : ℕ) (l : Link) → h ≤ 7 → AreOnWire l.to_host → AreIn n (frames_noted who h l k)
-  noted_frames who h l small wire = go (port_at k.ports h) refl
-    where
-      go : (o : Option Port) → port_at k.ports h ≡ o
-          → AreIn n (option_map_or (λ (p : Port). entries_for h (ending_entries who l p.side (ending_of k))) o [])
-      go None q = tt
-      go (Some p) q =
-          all_entries_in h n (omega (arith, small)) (ending_entries who l p.side (ending_of k))
-          (ending_noted b n who l p.side (ending_of k) (port_found b n k.ports h p a.ports q).side wire)
+  noted_frames who h l small wire = by_option (port_at k.ports h)
+      (λ q. rw q tt)
+      (λ p q. rw q (all_entries_in h n (omega (arith, small)) (ending_entries who l p.side (ending_of k))
+      (ending_noted b n who l p.side (ending_of k) (port_found b n k.ports h p a.ports q).side wire)))
 
   pub turns_of : (h : ℕ) → AreTurnsIn (turns_at k h)
-  turns_of h = go (port_at k.ports h) refl
-    where
-      go : (o : Option Port) → port_at k.ports h ≡ o → AreTurnsIn (option_map_or (λ (p : Port). p.turns) o [])
-      go None q = tt
-      go (Some p) q = (port_found b n k.ports h p a.ports q).turns
+  turns_of h = by_option (port_at k.ports h) (λ q. rw q tt) (λ p q. rw q (port_found b n k.ports h p a.ports q).turns)
 
   desks_of : (ports : List Port) → ArePortsIn b n ports → AllByRecursion IsDeskIn (map (λ (p : Port). p.desk) ports)
   desks_of [] h = tt
@@ -214,25 +200,13 @@ near_in b c n l NextFrame h = go l.to_controller refl
           emitted = h.near.emitted;
           took = took_low n l.controller.took x h.near.took wire.frames.0.number;
         }
-near_in b c n l (AsksReset window) h = h.near
-near_in b c n l (Starts value) h = h.near
-near_in b c n l Stops h = h.near
-near_in b c n l NoInput h = h.near
+near_in b c n l _ h = h.near
 
 arrives_in : (b c : Bool) (n : ℕ) (who : Side) (l : Link) (comes : Comes) → LinkIn b c n l → AreNotedIn n (arrival who l comes)
-arrives_in b c n who l NextFrame h = go l.to_controller refl
-  where
-    by : List OnWire → List Noted
-    by [] = []
-    by (x ∷ xs) = Took who x.frame ∷ []
-
-    go : (w : List OnWire) → l.to_controller ≡ w → AreNotedIn n (by w)
-    go [] q = tt
-    go (x ∷ xs) q = let wire : WireIs IsLineFrame n (x ∷ xs) = subst (WireIs IsLineFrame n) q h.to_near in (wire.frames.0.frame, tt)
-arrives_in b c n who l (AsksReset window) h = tt
-arrives_in b c n who l (Starts value) h = tt
-arrives_in b c n who l Stops h = tt
-arrives_in b c n who l NoInput h = tt
+arrives_in b c n who l NextFrame h = by_list l.to_controller
+    (λ q. rw q tt)
+    (λ x xs q. rw q (let wire : WireIs IsLineFrame n (x ∷ xs) = subst (WireIs IsLineFrame n) q h.to_near in (wire.frames.0.frame, tt)))
+arrives_in b c n who l _ h = tt
 
 ports_begin : (b : Bool) (n : ℕ) (near_ends : ℕ → NumberedEnd) → ((h : ℕ) → NumberedIn b n (near_ends h)) → (desks : List Desk)
     → AllByRecursion IsDeskIn desks → ArePortsIn b n (map (λ (d : Desk). port_for (near_ends d.host) d) desks)
@@ -253,9 +227,7 @@ work_begins b n r plan near_ends t is has are noted = record {
 wires_on : (b c : Bool) (n : ℕ) (l : Link) (comes : Comes) → LinkIn b c n l → AreOnWire (wires_for l comes).to_host
 wires_on b c n l (Starts value) h = tt
 wires_on b c n l Stops h = tt
-wires_on b c n l NextFrame h = on_wire n l.to_host h.to_far.frames
-wires_on b c n l (AsksReset window) h = on_wire n l.to_host h.to_far.frames
-wires_on b c n l NoInput h = on_wire n l.to_host h.to_far.frames
+wires_on b c n l _ h = on_wire n l.to_host h.to_far.frames
 
 -- what comes to an end is in its range
 pub comes_input : (b c : Bool) (n : ℕ) (l : Link) (comes : Comes) (i : LinkInput) → ComesIn b comes → LinkIn b c n l → input_of l comes ≡ Some i → IsInputIn b i

@@ -1,12 +1,10 @@
 -- The words of entries hold no space and no LF.
-use Rattle.std.proofs.Common.{◌≡◌, ◌==◌, ◌&&◌, ℕ, suc, ◌/◌, ◌%◌, ◌<◌, ◌≤◌, Bool, true, false, not, cond, nat_lt, List, [], ◌∷◌, ◌++◌, length, slice_index, refl}
+use Rattle.std.proofs.Common.{◌≡◌, ◌==◌, ◌&&◌, ℕ, suc, ◌/◌, ◌%◌, ◌<◌, Bool, true, false, not, cond, nat_lt, List, [], ◌∷◌, ◌++◌, length, slice_index, refl}
 use Rattle.std.proofs.Common.{sym, ◌∙◌, subst, arith, Option, Some, None, IfSome, All, codes, map}
 use Rattle.std.specs.List.{list_all, AllByRecursion}
 use Rattle.std.specs.Char.{is_ascii_digit}
 use Rattle.std.specs.Str.{all_ascii_digits}
 use Rattle.std.specs.Fmt.{decimal}
-use Rattle.std.specs.Str.Parse.{digits_value}
-use Rattle.std.proofs.lemmas.Str.Parse.{IsNumeralModel}
 use Rattle.std.proofs.lemmas.Fmt.{digits_decimal}
 use Rattle.std.proofs.lemmas.Bool.Decides.{nat_tests}
 use Rattle.std.proofs.lemmas.List.Sums.{AllPass-from_list_all}
@@ -81,18 +79,9 @@ digits_inside (c ∷ cs) h = digit_inside c cs (is_ascii_digit c) refl h (digits
 pub number_clean : (n : ℕ) → IsNumber n → IsClean (decimal n)
 number_clean n h = (number_word n (omega arith), digits_inside (decimal n) (digits_decimal own n (omega arith)))
 
-letters : (word : List ℕ) → 0 < length word → list_all (λ b. not (b == 32)) word ≡ true → list_all is_inside word ≡ true → IsClean word
-letters word some a b = ((some, a), b)
-
 lost_clean : (why : LostCause) → IsClean (lost_word why)
 lost_clean lost.Asked = ((omega arith, refl), refl)
-lost_clean lost.Age = ((omega arith, refl), refl)
-lost_clean lost.Full = ((omega arith, refl), refl)
-lost_clean lost.Length = ((omega arith, refl), refl)
-lost_clean lost.Alignment = ((omega arith, refl), refl)
-lost_clean lost.Crc = ((omega arith, refl), refl)
-lost_clean lost.Broken = ((omega arith, refl), refl)
-lost_clean lost.Nothing = ((omega arith, refl), refl)
+lost_clean _ = ((omega arith, refl), refl)
 
 world_clean : (hci : Bool) → IsClean (cond hci (codes "hci") (codes "bare"))
 world_clean true = ((omega arith, refl), refl)
@@ -104,10 +93,7 @@ hosts_clean (h ∷ hosts) = (byte_clean h, hosts_clean hosts)
 
 down_clean : (why : Cause) → IsClean (down_word why)
 down_clean why.Asked = ((omega arith, refl), refl)
-down_clean why.NoAnswer = ((omega arith, refl), refl)
-down_clean why.Peer = ((omega arith, refl), refl)
-down_clean why.Act = ((omega arith, refl), refl)
-down_clean why.Chain = ((omega arith, refl), refl)
+down_clean _ = ((omega arith, refl), refl)
 
 maybe_clean : (o : Option ℕ) → IfSome o IsNumber → AllByRecursion IsClean (number_words o)
 maybe_clean None h = tt
@@ -121,15 +107,9 @@ two_clean : (n : ℕ) → IsClean (two_bytes_text n)
 two_clean n = hex_clean (n / 256 ∷ n % 256 ∷ []) (omega arith)
 
 cause_clean : (why : NoCause) → IsCause why → AllByRecursion IsClean (cause_words why)
-cause_clean cause.Off h = (((omega arith, refl), refl), tt)
-cause_clean cause.Running h = (((omega arith, refl), refl), tt)
-cause_clean cause.Inactive h = (((omega arith, refl), refl), tt)
-cause_clean cause.NotUp h = (((omega arith, refl), refl), tt)
-cause_clean cause.Waiting h = (((omega arith, refl), refl), tt)
-cause_clean cause.TooLong h = (((omega arith, refl), refl), tt)
-cause_clean cause.Empty h = (((omega arith, refl), refl), tt)
 cause_clean (cause.Full n s) h = (((omega arith, refl), refl), (number_clean n h.0, (number_clean s h.1, tt)))
 cause_clean (cause.Beyond n) h = (((omega arith, refl), refl), (number_clean n h, tt))
+cause_clean _ h = (((omega arith, refl), refl), tt)
 
 each_clean : (xs : List (List ℕ)) → All AreOctets xs → AllByRecursion IsClean (map encode_upper xs)
 each_clean [] h = tt

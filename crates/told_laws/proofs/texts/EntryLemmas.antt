@@ -36,20 +36,7 @@ same_header a b ra rb h =
 
 no_swp : (said : Line) → bytes_eq (codes "swp") (head (line_words said)) ≡ false
 no_swp (line.Send e p m) = refl
-no_swp (line.Deliver e n) = refl
-no_swp (line.Lose e) = refl
-no_swp (line.Damage e p) = refl
-no_swp (line.Tick n) = refl
-no_swp (line.Reset e n) = refl
-no_swp (line.Busy e) = refl
-no_swp (line.Ready e) = refl
-no_swp (line.Boot n) = refl
-no_swp (line.Cut n) = refl
-no_swp (line.Activate h s p) = refl
-no_swp (line.Arm n k x) = refl
-no_swp (line.Init e i p) = refl
-no_swp (line.Tables n) = refl
-no_swp (line.Settle n) = refl
+no_swp _ = refl
 
 no_line : (header : Header) (said : Line) → header_words header ≡ line_words said → ⊥
 no_line header said h = other_words (header_words header) (line_words said) (no_swp said) h

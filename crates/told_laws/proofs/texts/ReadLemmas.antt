@@ -1,5 +1,5 @@
 -- A line that is read is in its range.
-use Rattle.std.proofs.Common.{◌≡◌, ℕ, ◌^◌, ◌≤◌, ◌<◌, List, length, get_or, subst, arith, inl, Option, Some, None, Ok, IfSome, All, Contains}
+use Rattle.std.proofs.Common.{◌≡◌, ℕ, ◌^◌, ◌≤◌, ◌<◌, List, length, get_or, subst, arith, inl, Option, Some, None, Ok, IfSome}
 use Rattle.trace_model.specs.declared.line.End.{End}
 use Rattle.trace_model.specs.declared.line.Header.{Header}
 use Rattle.trace_model.specs.declared.line.Line.{Line}
@@ -55,14 +55,6 @@ said_in header is (line.Settle rounds) h = let most = h.1 in omega (arith, most)
 
 -- a line that a bare world plays may stand below its header
 may_follow : (header : Header) (said : Line) → IsLineOf header said → MayFollow header said
-may_follow header (line.Send e pid message) h = h
-may_follow header (line.Deliver e count) h = h
-may_follow header (line.Lose e) h = h
-may_follow header (line.Damage e places) h = h
-may_follow header (line.Tick times) h = h
-may_follow header (line.Reset e window) h = h
-may_follow header (line.Busy e) h = h
-may_follow header (line.Ready e) h = h
 may_follow header (line.Boot node) h = absurd h
 may_follow header (line.Cut node) h = absurd h
 may_follow header (line.Activate host sync power) h = absurd h
@@ -70,6 +62,7 @@ may_follow header (line.Arm node nth fill) h = absurd h
 may_follow header (line.Init e identity pipes) h = absurd h
 may_follow header (line.Tables node) h = absurd h
 may_follow header (line.Settle rounds) h = absurd h
+may_follow header _ h = h
 
 pub bare_said_in : (header : Header) → IsHeader header → (said : Line) → IsLineOf header said → IsLineSaid said
 bare_said_in header is said h = said_in header (inl is) said (may_follow header said h)

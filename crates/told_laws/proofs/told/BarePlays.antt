@@ -1,7 +1,6 @@
 -- All that is told of plays in a bare world is in its range.
-use Rattle.std.proofs.Common.{◌≡◌, ℕ, ◌+◌, ◌*◌, ◌≤◌, Bool, true, false, List, [], ◌∷◌, ◌++◌, None, refl, ap, arith, sym, ◌∙◌, inl}
+use Rattle.std.proofs.Common.{◌≡◌, ℕ, ◌+◌, ◌*◌, ◌≤◌, true, List, [], ◌∷◌, ◌++◌, refl, ap, arith, sym, ◌∙◌, inl}
 use Rattle.std.proofs.lemmas.Bool.{true≢false}
-use Rattle.std.specs.Prelude.{if◌then◌else◌}
 use Rattle.std.specs.List.{AllByRecursion}
 use Rattle.trace_model.specs.declared.line.End.{End}
 use Rattle.trace_model.specs.declared.line.Header.{Header}
@@ -15,6 +14,7 @@ use Rattle.link_laws.specs.entries.Entries.End.{Controller, Host}
 use Rattle.history.specs.Histories.{History}
 use Rattle.history.specs.Follows.{Follows, frames_to, host_of, link_after_lines}
 use Rattle.history.specs.Steps.{end_of}
+use Rattle.node_laws.proofs.Cases.{by_test}
 use Rattle.node_laws.proofs.order.HostsStay.{hosts_stay_behind}
 use Rattle.lines_told.specs.lines.Below.{IsPlayedLine, bare_link_behind}
 use Rattle.lines_told.specs.lines.Plays.{Play, AreFewPlays, IsPlayFor, lines_of_play, lines_played, lines_said, rounds_played, round_on, taking_on}
@@ -34,11 +34,7 @@ cost-append [] ys = omega arith
 cost-append (x ∷ xs) ys = let rest = cost-append xs ys in omega (arith, rest)
 
 taking_cost : (l : Link) (e : End) → lines_cost (taking_on l e) ≡ 0
-taking_cost l e = go (is_clear (frames_to l e))
-  where
-    go : (b : Bool) → lines_cost (if b then [] else line.Deliver e None ∷ []) ≡ 0
-    go true = refl
-    go false = refl
+taking_cost l e = by_test (is_clear (frames_to l e)) (λ q. rw q refl) (λ q. rw q refl)
 
 round_cost : (h : ℕ) (ends : List End) (l : Link) → lines_cost (round_on h l ends) ≡ 2
 round_cost h [] l = refl
@@ -61,14 +57,7 @@ module _ (header : Header) (is : IsHeader header) where
   bare_line (line.Init e identity pipes) may = absurd (not_of_nodes may.may_follow.0)
   bare_line (line.Tables node) may = absurd (not_of_nodes may.may_follow.0)
   bare_line (line.Settle rounds) may = absurd (true≢false may.settles_not)
-  bare_line (line.Send e pid message) may = may.may_follow
-  bare_line (line.Deliver e count) may = may.may_follow
-  bare_line (line.Lose e) may = may.may_follow
-  bare_line (line.Damage e places) may = may.may_follow
-  bare_line (line.Tick times) may = may.may_follow
-  bare_line (line.Reset e window) may = may.may_follow
-  bare_line (line.Busy e) may = may.may_follow
-  bare_line (line.Ready e) may = may.may_follow
+  bare_line _ may = may.may_follow
 
   pub bare_lines : (lines : List Line) → AllByRecursion (IsPlayedLine header) lines → AllByRecursion (IsLineOf header) lines
   bare_lines [] may = tt

@@ -1,5 +1,5 @@
 -- The messages that came are among those that were sent, so all that is told of a history is in its range.
-use Rattle.std.proofs.Common.{◌≡◌, ℕ, ◌+◌, ◌≤◌, ◌<◌, Bool, true, false, cond, List, [], ◌∷◌, ◌++◌, refl, sym, ap, subst, arith, inl, Option, Some, None}
+use Rattle.std.proofs.Common.{◌≡◌, ℕ, ◌+◌, ◌≤◌, ◌<◌, List, [], ◌∷◌, ◌++◌, refl, sym, ap, subst, arith, inl, Option, Some, None}
 use Rattle.std.specs.Prelude.{◌==◌}
 use Rattle.std.specs.List.{AllByRecursion, flat_map, cons_option}
 use Rattle.std.proofs.lemmas.List.Concat.{flat_map-append}
@@ -29,6 +29,7 @@ use Rattle.told_laws.specs.told.Told.{step_told, entries_told}
 use Rattle.registry.proofs.ValueLemmas.{AllByRecursion-append as each-append}
 use Rattle.told_laws.proofs.told.Lines.{IsApart, AreApart, bare_stands, host_low, lines_cost, steps_told, top}
 use Rattle.history.proofs.Filters.{same_end_itself}
+use Rattle.node_laws.proofs.Cases.{by_test}
 
 -- ## Parts of lists
 
@@ -84,18 +85,10 @@ said_in x h = tt
 
 at_in : (e : End) (o : Option (End × Saying)) → IsSaidIn o → IsSayingIn (at_end e o)
 at_in e None h = tt
-at_in e (Some x) h = go (same_end x.0 e)
-  where
-    go : (b : Bool) → IsSayingIn (cond b (Some x.1) None)
-    go true = h
-    go false = tt
+at_in e (Some x) h = by_test (same_end x.0 e) (λ q. rw q h) (λ q. rw q tt)
 
 sent_by_in : (n : ℕ) (o : Option Saying) → IsSayingIn o → IfMessage (sent_by n o)
-sent_by_in n (Some (Sends k m)) h = go (k == n)
-  where
-    go : (b : Bool) → IfMessage (cond b (Some m) None)
-    go true = h
-    go false = tt
+sent_by_in n (Some (Sends k m)) h = by_test (k == n) (λ q. rw q h) (λ q. rw q tt)
 sent_by_in n o h = tt
 
 sent_each : (e : End) (n : ℕ) (t : List Entry) → AllByRecursion IsSentIn t → AreMessagesIn (sent_in t e n)
@@ -105,21 +98,13 @@ sent_each e n (x ∷ t) h =
 
 good_each : (ms : List Message) → AreMessagesIn ms → AreMessagesIn (good_of ms)
 good_each [] h = tt
-good_each (m ∷ ms) h = go (is_good m.1) refl (good_each ms h.1)
-  where
-    go : (b : Bool) → is_good m.1 ≡ b → AreMessagesIn (good_of ms) → AreMessagesIn (good_of (m ∷ ms))
-    go true q later = rw q (h.0, later)
-    go false q later = rw q later
+good_each (m ∷ ms) h = by_test (is_good m.1) (λ q. rw q (h.0, good_each ms h.1)) (λ q. rw q (good_each ms h.1))
 
 front_in : (ms all : List Message) → IsFrontOf ms all → AreMessagesIn all → AreMessagesIn ms
 front_in ms all front h = front_each IsMessageIn ms front.0 (subst AreMessagesIn (sym front.1) h)
 
 twice : (e : End) → other_end (other_end e) ≡ e
-twice e = go e.at_host
-  where
-    go : (b : Bool) → other_end (other_end (record { link = e.link; at_host = b })) ≡ record { link = e.link; at_host = b }
-    go true = refl
-    go false = refl
+twice e = by_test e.at_host (λ q. rw q refl) (λ q. rw q refl)
 
 -- each end has got only what the other sent
 got_all : (t : List Entry) → IsInOrder t → AllByRecursion IsSentIn t → (e : End) (n : ℕ) → AreMessagesIn (got_in t e n)

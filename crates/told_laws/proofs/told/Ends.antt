@@ -11,7 +11,7 @@ use Rattle.swp_base.specs.declared.control_frames.Kind.TheVariants.{Rr, Rej, Rnr
 use Rattle.shdlc_core.specs.declared.answers.LinkState.{LinkState}
 use Rattle.shdlc_core.specs.declared.answers.LinkState.TheVariants.{Down, Waiting, Up}
 use Rattle.shdlc_core.specs.declared.answers.Due.{Due}
-use Rattle.shdlc_core.specs.declared.answers.Due.TheVariants.{Rr as Rr_due, Rej as Rej_due, Rnr as Rnr_due, Rset as Rset_due, Ua as Ua_due}
+use Rattle.shdlc_core.specs.declared.answers.Due.TheVariants.{Rset as Rset_due, Ua as Ua_due}
 use Rattle.shdlc_core.specs.Machine.{Timed, timed, runs_timer, EndState, Fragment, Session, place_of, received, acknowledged, taken, ticked, tick_answer}
 use Rattle.shdlc_core.specs.Machine.{reset_with, stopped, with_ready, put_out, frame_due, fragment_due, control_due, expected, fetched, frames_of, after_frames}
 use Rattle.shdlc_core.specs.Machine.Timed.{Runs, Over, Spent}
@@ -19,6 +19,7 @@ use Rattle.shdlc_core.proofs.Histories.{in_phase, received-sending}
 use Rattle.swp_base.specs.Bits.{IsByte}
 use Rattle.shdlc_core.proofs.Timers.{grown_tries, timed-over}
 use Rattle.registry.proofs.ValueLemmas.{AllByRecursion-append as each-append, AllByRecursion-get}
+use Rattle.node_laws.proofs.Cases.{by_option}
 
 -- ## Fragments and frames
 
@@ -69,9 +70,7 @@ fragment-up e ns nr info (Some x) q h =
 
 supervised-up : (e : EndState) (kind : Kind) (nr : ℕ) (o : Option ℕ) → place_of e.session nr ≡ o → Ranged e → Ranged (taken (in_phase Up e) (S kind nr))
 supervised-up e Srej nr p q h = h
-supervised-up e Rr nr None q h = rw q h
-supervised-up e Rej nr None q h = rw q h
-supervised-up e Rnr nr None q h = rw q h
+supervised-up e _ nr None q h = rw q h
 supervised-up e Rr nr (Some x) q h = rw q (retried _ _ e.tries _ (grown_tries e.session.acked x e.tries h.few) h)
 supervised-up e Rej nr (Some x) q h = rw q (retried _ _ e.tries _ (grown_tries e.session.acked x e.tries h.few) h)
 supervised-up e Rnr nr (Some x) q h = rw q (retried _ _ e.tries _ (omega arith) h)
@@ -79,28 +78,18 @@ supervised-up e Rnr nr (Some x) q h = rw q (retried _ _ e.tries _ (omega arith) 
 reset-taken : (e : EndState) (p : LinkState) (w caps : ℕ) (b : Bool) → (w == 0) ≡ b → Ranged e → Ranged (taken (in_phase p e) (Rset w caps))
 reset-taken e Up w caps true q h = rw q h
 reset-taken e Up w caps false q h = rw q (fresh _ _ e.tries _ (omega arith) h)
-reset-taken e Down w caps true q h = rw q h
 reset-taken e Down w caps false q h = rw q (fresh _ _ e.tries _ (omega arith) h)
-reset-taken e Waiting w caps true q h = rw q h
+reset-taken e _ w caps true q h = rw q h
 reset-taken e Waiting w caps false q h = rw q h
 
 take-in : (e : EndState) (p : LinkState) (c : Control) → Ranged e → Ranged (taken (in_phase p e) c)
 take-in e Up (I ns nr info) h = fragment-up e ns nr info _ refl h
 take-in e Up (S kind nr) h = supervised-up e kind nr _ refl h
-take-in e Up Ua h = h
-take-in e Up (Act act again) h = h
-take-in e Up Clt h = h
-take-in e Down (I ns nr info) h = h
-take-in e Down (S kind nr) h = h
-take-in e Down Ua h = h
-take-in e Down (Act act again) h = h
-take-in e Down Clt h = h
-take-in e Waiting (I ns nr info) h = h
-take-in e Waiting (S kind nr) h = h
 take-in e Waiting Ua h = fresh _ _ e.tries _ (omega arith) h
-take-in e Waiting (Act act again) h = h
-take-in e Waiting Clt h = h
 take-in e p (Rset w caps) h = reset-taken e p w caps _ refl h
+take-in e Up _ h = h
+take-in e Waiting _ h = h
+take-in e Down _ h = h
 
 pub ranged_taken : (e : EndState) (c : Control) → Ranged e → Ranged (taken e c)
 ranged_taken e c h = take-in e e.phase c h
@@ -139,8 +128,7 @@ gives-waiting e Spent q h = rw q h.few
 gives-up : (e : EndState) (runs : Bool) (t : Timed) → runs_timer e.session ≡ runs → timed e ≡ t → IfTries (tick_answer (in_phase Up e)).gave_up
 gives-up e false t r q = rw r tt
 gives-up e true Runs r q = rw (r, q) tt
-gives-up e true Over r q = rw (r, q) tt
-gives-up e true Spent r q = rw (r, q) tt
+gives-up e true _ r q = rw (r, q) tt
 
 gives-in : (e : EndState) (p : LinkState) → Ranged e → IfTries (tick_answer (in_phase p e)).gave_up
 gives-in e Up h = gives-up e _ _ refl refl
@@ -180,11 +168,9 @@ ranged_out e fragments more h =
 -- ## What goes out
 
 control_frame : (e : EndState) (d : Due) → Ranged e → IsFrame (control_due e d)
-control_frame e Rr_due h = omega arith
-control_frame e Rej_due h = omega arith
-control_frame e Rnr_due h = omega arith
 control_frame e Rset_due h = let w = h.window in (omega (arith, w), omega arith)
 control_frame e Ua_due h = tt
+control_frame e _ h = omega arith
 
 due_fragment : (s : Session) (info : Fragment) → fragment_due s ≡ Some info → slice_get s.out s.next ≡ Some info
 due_fragment s info q = grind (arith, common_steps)
@@ -217,16 +203,10 @@ ranged_after (suc n) e h = ranged_after n (fetched e) (ranged_fetched e h)
 
 pub frames_in : (n : ℕ) (e : EndState) → Ranged e → AllByRecursion IsFrame (frames_of n e)
 frames_in zero e h = tt
-frames_in (suc n) e h = go (frame_due e) refl (frames_in n (fetched e) (ranged_fetched e h))
-  where
-    go : (o : Option Control) → frame_due e ≡ o → AllByRecursion IsFrame (frames_of n (fetched e)) → AllByRecursion IsFrame (frames_of (suc n) e)
-    go None q later = rw q tt
-    go (Some c) q later = rw q (due_frame e e.due (fragment_due e.session) c refl h q, later)
+frames_in (suc n) e h = by_option (frame_due e)
+    (λ q. rw q tt)
+    (λ c q. rw q (due_frame e e.due (fragment_due e.session) c refl h q, frames_in n (fetched e) (ranged_fetched e h)))
 
 pub frames_few : (n : ℕ) (e : EndState) → length (frames_of n e) ≤ n
 frames_few zero e = omega arith
-frames_few (suc n) e = go (frame_due e) refl (frames_few n (fetched e))
-  where
-    go : (o : Option Control) → frame_due e ≡ o → length (frames_of n (fetched e)) ≤ n → length (frames_of (suc n) e) ≤ suc n
-    go None q later = rw q (omega arith)
-    go (Some c) q later = rw q (omega (arith, later))
+frames_few (suc n) e = by_option (frame_due e) (λ q. rw q (omega arith)) (λ c q. rw q (omega (arith, frames_few n (fetched e))))

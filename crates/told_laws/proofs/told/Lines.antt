@@ -33,7 +33,7 @@ use Rattle.link_laws.specs.messages.Links.IsStart.{IsBare}
 use Rattle.link_laws.proofs.messages.RsetNumbers.{start_numbered}
 use Rattle.link_laws.specs.entries.Entries.{End as Side, Entry as Noted, event_entries}
 use Rattle.link_laws.specs.entries.Entries.End.{Controller, Host}
-use Rattle.link_laws.specs.entries.Entries.Entry.{Up as Begins, Down as Ends, Active, GaveUp, Acked, Got, Sent, Emit, Took, Lost, Tick, Restarted, Cut}
+use Rattle.link_laws.specs.entries.Entries.Entry.{Up as Begins, Down as Ends, Active, GaveUp, Acked, Got, Sent, Emit, Took, Lost, Tick, Cut}
 use Rattle.history.specs.Histories.{Cause, Event, Outcome, Step, noted, entries_of, causes_of}
 use Rattle.history.specs.Histories.Cause.{Taken, Ticked}
 use Rattle.history.specs.Histories.Outcome.{Refused as LineRefused, Caused}
@@ -52,6 +52,7 @@ use Rattle.registry.proofs.ValueLemmas.{AllByRecursion-append as each-append}
 use Rattle.told_laws.proofs.told.Links.{LinkIs, CanTell, bare_is, given_by, link_more, link_within, link_caused}
 use Rattle.told_laws.proofs.told.Wires.{WireIs}
 use Rattle.told_laws.proofs.told.Notes.{IsNoted, AreNoted, noted_event}
+use Rattle.node_laws.proofs.Cases.{by_test}
 
 -- ## Bytes
 
@@ -115,9 +116,7 @@ entry_in h n low small (Sent who k m) p =
 entry_in h n low small (Emit who c) p = ((end_in h who low, (lpdu_in c p).bytes_are), tt)
 entry_in h n low small (Took who c) p = ((end_in h who low, (lpdu_in c p).bytes_are), tt)
 entry_in h n low small (Lost who c why) p = ((end_in h who low, (lpdu_in c p).bytes_are), tt)
-entry_in h n low small Tick p = tt
-entry_in h n low small (Restarted who) p = tt
-entry_in h n low small (Cut who) p = tt
+entry_in h n low small _ p = tt
 
 entries_in : (h n : ℕ) → h < 256 → n < 2 ^ 32 → (t : List Noted) → AreNoted n t → AreApart (entries_for h t)
 entries_in h n low small [] p = tt
@@ -179,11 +178,7 @@ causes_told h (c ∷ cs) n l low can is small =
 -- ## Causes of a line
 
 wire_in : (n : ℕ) (l : Link) (e : End) → LinkIs n n l → WireIs IsFrame n (frames_to l e)
-wire_in n l e h = go e.at_host
-  where
-    go : (b : Bool) → WireIs IsFrame n (frames_to l (record { link = e.link; at_host = b }))
-    go true = h.to_far
-    go false = h.to_near
+wire_in n l e h = by_test e.at_host (λ q. rw q h.to_far) (λ q. rw q h.to_near)
 
 same_cause : (c : Cause) → CanTell c → (n : ℕ) → AllByRecursion CanTell (replicate n c)
 same_cause c can zero = tt
@@ -205,13 +200,7 @@ can_tell header l (line.Reset e None) is = (tt, tt)
 can_tell header l (line.Reset e (Some w)) is = (is.1.1, tt)
 can_tell header l (line.Busy e) is = (tt, tt)
 can_tell header l (line.Ready e) is = (tt, tt)
-can_tell header l (line.Boot node) is = tt
-can_tell header l (line.Cut node) is = tt
-can_tell header l (line.Activate host sync power) is = tt
-can_tell header l (line.Arm node nth fill) is = tt
-can_tell header l (line.Init e identity pipes) is = tt
-can_tell header l (line.Tables node) is = tt
-can_tell header l (line.Settle rounds) is = tt
+can_tell header l _ is = tt
 
 takes_cost : (e : End) (n : ℕ) → cost_of_all (replicate n (Taken e)) ≡ 0
 takes_cost e zero = refl
@@ -224,8 +213,7 @@ ticks_cost (suc n) = let rest = ticks_cost n in omega (arith, rest)
 damage_cost : (e : End) (v : Option Verdict) → cost_of_all (damage_causes e v) ≡ 0
 damage_cost e None = refl
 damage_cost e (Some Same) = refl
-damage_cost e (Some (LostFor why)) = refl
-damage_cost e (Some (Undetected read)) = refl
+damage_cost e (Some _) = refl
 
 -- how much a line may cost
 abbrev pub line_cost : Line → ℕ
@@ -236,34 +224,16 @@ line_cost (line.Tick (Some times)) = 2 * times
 line_cost said = 0
 
 few_cost : (l : Link) (said : Line) → cost_of_all (causes_in l said) ≤ line_cost said
-few_cost l (line.Send e pid message) = omega arith
 few_cost l (line.Deliver e count) = let none = takes_cost e (taken_of count (frames_to l e)) in omega (arith, none)
-few_cost l (line.Lose e) = omega arith
 few_cost l (line.Damage e places) = let none = damage_cost e (first_verdict (frames_to l e) places.items) in omega (arith, none)
 few_cost l (line.Tick None) = omega arith
 few_cost l (line.Tick (Some times)) = let all = ticks_cost times in omega (arith, all)
-few_cost l (line.Reset e window) = omega arith
-few_cost l (line.Busy e) = omega arith
-few_cost l (line.Ready e) = omega arith
-few_cost l (line.Boot node) = omega arith
-few_cost l (line.Cut node) = omega arith
-few_cost l (line.Activate host sync power) = omega arith
-few_cost l (line.Arm node nth fill) = omega arith
-few_cost l (line.Init e identity pipes) = omega arith
-few_cost l (line.Tables node) = omega arith
-few_cost l (line.Settle rounds) = omega arith
+few_cost l _ = omega arith
 
 -- each costs 200 at most
 pub line_cheap : (header : Header) (said : Line) → IsLineOf header said → line_cost said ≤ 200
 line_cheap header (line.Tick None) is = omega arith
 line_cheap header (line.Tick (Some times)) is = let few = is.1 in omega (arith, few)
-line_cheap header (line.Send e pid message) is = omega arith
-line_cheap header (line.Deliver e count) is = omega arith
-line_cheap header (line.Lose e) is = omega arith
-line_cheap header (line.Damage e places) is = omega arith
-line_cheap header (line.Reset e window) is = omega arith
-line_cheap header (line.Busy e) is = omega arith
-line_cheap header (line.Ready e) is = omega arith
 line_cheap header (line.Boot node) is = absurd is
 line_cheap header (line.Cut node) is = absurd is
 line_cheap header (line.Activate host sync power) is = absurd is
@@ -271,6 +241,7 @@ line_cheap header (line.Arm node nth fill) is = absurd is
 line_cheap header (line.Init e identity pipes) is = absurd is
 line_cheap header (line.Tables node) is = absurd is
 line_cheap header (line.Settle rounds) is = absurd is
+line_cheap header _ is = omega arith
 
 abbrev pub lines_cost : List Line → ℕ
 lines_cost [] = 0
@@ -310,21 +281,12 @@ empty_in (x ∷ xs) = tt
 
 pub beyond_in : (bits : ℕ) (places : List ℕ) → IsNumber bits → IfCause (if_beyond bits places)
 beyond_in bits [] small = tt
-beyond_in bits (place ∷ places) small = go (nat_lt place bits) (beyond_in bits places small)
-  where
-    go : (b : Bool) → IfCause (if_beyond bits places) → IfCause (cond b (if_beyond bits places) (Some (why.Beyond bits)))
-    go true later = later
-    go false later = small
+beyond_in bits (place ∷ places) small = by_test (nat_lt place bits) (λ q. rw q (beyond_in bits places small)) (λ q. rw q small)
 
 stuffed_few : (ones : ℕ) (bits : List Bool) → length (stuffed_after ones bits) ≤ 2 * length bits
 stuffed_few ones [] = omega arith
 stuffed_few ones (false ∷ bits) = let few = stuffed_few 0 bits in omega (arith, few)
-stuffed_few ones (true ∷ bits) = go (ones == 4) refl (stuffed_few 0 bits) (stuffed_few (ones + 1) bits)
-  where
-    go : (b : Bool) → (ones == 4) ≡ b → length (stuffed_after 0 bits) ≤ 2 * length bits → length (stuffed_after (ones + 1) bits) ≤ 2 * length bits
-        → length (stuffed_after ones (true ∷ bits)) ≤ 2 * length (true ∷ bits)
-    go true q one two = rw q (omega (arith, one))
-    go false q one two = rw q (omega (arith, two))
+stuffed_few ones (true ∷ bits) = by_test (ones == 4) (λ q. rw q (omega (arith, stuffed_few 0 bits))) (λ q. rw q (omega (arith, stuffed_few (ones + 1) bits)))
 
 pub frame_few : (lpdu : List ℕ) → length lpdu ≤ 30 → IsNumber (length (frame_of lpdu))
 frame_few lpdu few =
@@ -347,16 +309,7 @@ refusal_in n l (line.Deliver e count) h = empty_in (frames_to l e)
 refusal_in n l (line.Lose e) h = empty_in (frames_to l e)
 refusal_in n l (line.Damage e places) h = reach_in n (frames_to l e) places.items (wire_in n l e h)
 refusal_in n l (line.Reset e window) h = reset_in (machine_of l e)
-refusal_in n l (line.Tick times) h = tt
-refusal_in n l (line.Busy e) h = tt
-refusal_in n l (line.Ready e) h = tt
-refusal_in n l (line.Boot node) h = tt
-refusal_in n l (line.Cut node) h = tt
-refusal_in n l (line.Activate host sync power) h = tt
-refusal_in n l (line.Arm node nth fill) h = tt
-refusal_in n l (line.Init e identity pipes) h = tt
-refusal_in n l (line.Tables node) h = tt
-refusal_in n l (line.Settle rounds) h = tt
+refusal_in n l _ h = tt
 
 -- ## Lines
 

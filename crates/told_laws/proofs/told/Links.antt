@@ -1,6 +1,6 @@
 -- The ends of a bare link, and what is on its wires, are in their ranges.
 use Rattle.std.proofs.Common.{◌≡◌, ℕ, zero, suc, ◌+◌, ◌≤◌, ◌<◌, Bool, true, false, cond, List, [], ◌∷◌, ◌++◌, length, take, drop, map, refl, sym, ap}
-use Rattle.std.proofs.Common.{subst, arith, max, Option, Some, None, length-append}
+use Rattle.std.proofs.Common.{subst, arith, Option, Some, None, length-append}
 use Rattle.std.specs.Prelude.{is_some, if◌then◌else◌, ◌==◌, not}
 use Rattle.std.specs.List.{AllByRecursion}
 use Rattle.swp_base.specs.declared.control_frames.Control.{Control}
@@ -34,6 +34,7 @@ use Rattle.told_laws.proofs.told.Ends.{IsFragment, IsFrame, Ranged, ranged_taken
 use Rattle.told_laws.proofs.told.Ends.{ranged_after, frames_in, frames_few}
 use Rattle.registry.proofs.ValueLemmas.{AllByRecursion-take}
 use Rattle.told_laws.proofs.told.Wires.{drop_each, FrameIs, WireIs, wire_more, wire_within, wire_dropped, wire_put, wire_aged}
+use Rattle.node_laws.proofs.Cases.{by_list, by_test}
 
 -- ## Messages
 
@@ -305,11 +306,7 @@ link_input most n l i is h =
     let b : Bool = is_some (ended_by l.controller.side i) in link_becomes most n (with_ended l b) (after_input l.controller.side i) is (link_ended most n l b h)
 
 pub took_low : (n t : ℕ) (x : OnWire) → t ≤ n → x.number ≤ n → took_with t x ≤ n
-took_low n t x low is = go (is_rset x.frame)
-  where
-    go : (b : Bool) → cond b (max t x.number) t ≤ n
-    go true = omega (arith, low, is)
-    go false = low
+took_low n t x low is = by_test (is_rset x.frame) (λ q. rw q (omega (arith, low, is))) (λ q. rw q low)
 
 -- the link where the controller's end has taken a frame, and these are left
 abbrev pub left_with : Link → OnWire → List OnWire → Link
@@ -336,18 +333,14 @@ link_left most n l x xs q h =
 -- ## What happens at one end
 
 link_taken : (most n : ℕ) (l : Link) → LinkIs most n l → LinkIs most (n + 12) (happens_at_controller l (Step NextFrame (FetchMessage ∷ []) GoesOut))
-link_taken most n l h = by l.to_controller refl
-  where
-    by : (w : List OnWire) → l.to_controller ≡ w → LinkIs most (n + 12) (happens_at_controller l (Step NextFrame (FetchMessage ∷ []) GoesOut))
-    by [] q =
-        rw q
-        (link_up most n (n + 12) (record l { to_controller = [] }) (omega arith)
-        (record { near = h.near; far = h.far; to_near = record { frames = tt; few = omega arith }; to_far = h.to_far; resets = h.resets }))
-    by (x ∷ xs) q =
-        let wire : WireIs IsFrame n (x ∷ xs) = subst (WireIs IsFrame n) q h.to_near in
-        let e : LinkEnd = after_input l.controller.side (Take x.frame) in
-        rw q (link_becomes most n (left_with l x xs) (turn e FetchMessage)
-        (end_fetched most e (end_took most l.controller.side x.frame wire.frames.0.frame h.near.side)) (link_left most n l x xs q h))
+link_taken most n l h = by_list l.to_controller
+    (λ q. rw q
+    (link_up most n (n + 12) (record l { to_controller = [] }) (omega arith)
+    (record { near = h.near; far = h.far; to_near = record { frames = tt; few = omega arith }; to_far = h.to_far; resets = h.resets })))
+    (λ x xs q. let wire : WireIs IsFrame n (x ∷ xs) = subst (WireIs IsFrame n) q h.to_near in
+    let e : LinkEnd = after_input l.controller.side (Take x.frame) in
+    rw q (link_becomes most n (left_with l x xs) (turn e FetchMessage)
+    (end_fetched most e (end_took most l.controller.side x.frame wire.frames.0.frame h.near.side)) (link_left most n l x xs q h)))
 
 pub link_ticked : (most n : ℕ) (l : Link) → LinkIs most n l → LinkIs most (n + 12) (ticks_at_controller l [] GoesOut)
 link_ticked most n l h = link_input most n l Tick (end_ticked most l.controller.side h.near.side) h
@@ -372,11 +365,9 @@ link_lost most n l why h =
 -- it happens at either end
 link_either : (most all n k : ℕ) (l : Link) (e : End) (x : EndEvent) → ((m : Link) → LinkIs most n m → LinkIs all k (happens_at_controller m x))
     → LinkIs most n l → LinkIs all k (happens l (at e x))
-link_either most all n k l e x here h = go e.at_host
-  where
-    go : (b : Bool) → LinkIs all k (happens l (at (record { link = e.link; at_host = b }) x))
-    go true = link_swapped all k (happens_at_controller (exchanged l) x) (here (exchanged l) (link_swapped most n l h))
-    go false = here l h
+link_either most all n k l e x here h = by_test e.at_host
+    (λ q. rw q (link_swapped all k (happens_at_controller (exchanged l) x) (here (exchanged l) (link_swapped most n l h))))
+    (λ q. rw q (here l h))
 
 -- ## Causes
 
@@ -384,19 +375,12 @@ link_either most all n k l e x here h = go e.at_host
 abbrev pub CanTell : Cause → Type 0
 CanTell (Given e m) = IsTellable m
 CanTell (WasReset e window) = IsLowWindow window
-CanTell (Taken e) = Unit {0}
-CanTell (WasLost e why) = Unit {0}
-CanTell Ticked = Unit {0}
-CanTell (Readied e ready) = Unit {0}
+CanTell _ = Unit {0}
 
 -- how many messages are given
 abbrev pub given_by : Cause → ℕ
 given_by (Given e m) = 1
-given_by (Taken e) = 0
-given_by (WasLost e why) = 0
-given_by Ticked = 0
-given_by (WasReset e window) = 0
-given_by (Readied e ready) = 0
+given_by _ = 0
 
 pub link_caused : (most n : ℕ) (l : Link) (c : Cause) → CanTell c → LinkIs most n l → LinkIs (most + given_by c) (n + 24) (link_after l c)
 link_caused most n l (Given e m) can h =

@@ -21,7 +21,7 @@ use Rattle.link_laws.specs.messages.Links.Loss.{TooMany}
 use Rattle.link_laws.specs.entries.Entries.{End, Entry, far, if_so, told, told_of, turn_entry, turn_entries, sent_unless, first_lost, wire_with, put_entries}
 use Rattle.link_laws.specs.entries.Entries.{puts_entries, rest_entries, taken_entries, step_entries, here_entries, aged_entries, tick_entries, event_entries}
 use Rattle.link_laws.specs.entries.Entries.End.{Controller, Host}
-use Rattle.link_laws.specs.entries.Entries.Entry.{Up, Down, Active, GaveUp, Acked, Got, Sent, Emit, Took, Lost, Tick, Restarted, Cut}
+use Rattle.link_laws.specs.entries.Entries.Entry.{Up, Down, Active, GaveUp, Acked, Got, Sent, Emit, Took, Lost}
 use Rattle.history.specs.Histories.{Cause}
 use Rattle.history.specs.Histories.Cause.{Given, Taken, WasLost, Ticked, WasReset, Readied}
 use Rattle.history.specs.Steps.{at, idle, event_of}
@@ -31,12 +31,11 @@ use Rattle.told_laws.proofs.told.Links.{IsTellable, EndIs, LinkIs, CanTell, IsLo
 use Rattle.told_laws.proofs.told.Links.{end_held, end_fetched, link_more, link_swapped, link_aged, link_ended, link_left, left_with, link_put, link_ticked}
 use Rattle.told_laws.proofs.told.Links.{put_frame, put_frame_is, took_low, out_is}
 use Rattle.told_laws.proofs.told.Wires.{FrameIs, WireIs, pushed_is}
+use Rattle.node_laws.proofs.Cases.{by_test}
 
 -- no number in it is above n
 abbrev pub IsNoted : ℕ → Entry → Type 0
 IsNoted n (Up who k) = k ≤ n
-IsNoted n (Down who cause) = Unit {0}
-IsNoted n (Active who) = Unit {0}
 IsNoted n (GaveUp who tries) = tries ≤ 5
 IsNoted n (Acked who k count) = (k ≤ n) × (count ≤ n)
 IsNoted n (Got who k m) = k ≤ n
@@ -44,9 +43,7 @@ IsNoted n (Sent who k m) = (k ≤ n) × IsTellable m
 IsNoted n (Emit who c) = IsFrame c
 IsNoted n (Took who c) = IsFrame c
 IsNoted n (Lost who c why) = IsFrame c
-IsNoted n Tick = Unit {0}
-IsNoted n (Restarted who) = Unit {0}
-IsNoted n (Cut who) = Unit {0}
+IsNoted n _ = Unit {0}
 
 abbrev pub AreNoted : ℕ → List Entry → Type 0
 AreNoted n t = AllByRecursion (IsNoted n) t
@@ -56,21 +53,10 @@ noted_more n k more (Up who j) h = omega (arith, more, h)
 noted_more n k more (Acked who j count) h = let a = h.0 in let b = h.1 in (omega (arith, more, a), omega (arith, more, b))
 noted_more n k more (Got who j m) h = omega (arith, more, h)
 noted_more n k more (Sent who j m) h = let a = h.0 in (omega (arith, more, a), h.1)
-noted_more n k more (Down who cause) h = h
-noted_more n k more (Active who) h = h
-noted_more n k more (GaveUp who tries) h = h
-noted_more n k more (Emit who c) h = h
-noted_more n k more (Took who c) h = h
-noted_more n k more (Lost who c why) h = h
-noted_more n k more Tick h = h
-noted_more n k more (Restarted who) h = h
-noted_more n k more (Cut who) h = h
+noted_more n k more _ h = h
 
 pub all_more : (n k : ℕ) (t : List Entry) → n ≤ k → AreNoted n t → AreNoted k t
 all_more n k t more h = all_mapped Entry (IsNoted n) (IsNoted k) t (noted_more n k more) h
-
-join : (n : ℕ) (t u : List Entry) → AreNoted n t → AreNoted n u → AreNoted n (t ++ u)
-join n t u h k = each-append (IsNoted n) t u h k
 
 -- ## Of an input
 
@@ -88,12 +74,12 @@ noted_tries n who (Some tries) h = (h, tt)
 
 noted_told : (n : ℕ) (who : End) (k : ℕ) (r : Report) (acked : ℕ) → k ≤ n → acked ≤ n → IfTries r.gave_up → AreNoted n (told who k r acked)
 noted_told n who k r acked low few tries =
-    let a = join n (if_so (nat_lt 0 r.acked) (Acked who k acked)) (map (Got who k) r.got)
+    let a = each-append (IsNoted n) (if_so (nat_lt 0 r.acked) (Acked who k acked)) (map (Got who k) r.got)
     (noted_so n (nat_lt 0 r.acked) (Acked who k acked) (low, few)) (noted_map n (Got who k) r.got (λ m. low)) in
-    let b = join n (map (GaveUp who) (option_to_list r.gave_up)) _ (noted_tries n who r.gave_up tries) a in
-    let c = join n (if_so r.became_active (Active who)) _ (noted_so n r.became_active (Active who) tt) b in
-    let d = join n (if_so r.began (Up who k)) _ (noted_so n r.began (Up who k) low) c in
-    join n (map (Down who) (option_to_list r.ended)) _ (noted_map n (Down who) (option_to_list r.ended) (λ m. tt)) d
+    let b = each-append (IsNoted n) (map (GaveUp who) (option_to_list r.gave_up)) _ (noted_tries n who r.gave_up tries) a in
+    let c = each-append (IsNoted n) (if_so r.became_active (Active who)) _ (noted_so n r.became_active (Active who) tt) b in
+    let d = each-append (IsNoted n) (if_so r.began (Up who k)) _ (noted_so n r.began (Up who k) low) c in
+    each-append (IsNoted n) (map (Down who) (option_to_list r.ended)) _ (noted_map n (Down who) (option_to_list r.ended) (λ m. tt)) d
 
 acked_low : (n : ℕ) (e : LinkEnd) → EndIs n e → whole_acked e ≤ n
 acked_low n e h = let w = whole_few e.sent e.shdlc.session.acked in let f = h.few in omega (arith, w, f)
@@ -127,7 +113,7 @@ noted_puts : (n : ℕ) (who : End) (cs : List Control) (most k : ℕ) (l : Link)
 noted_puts n who [] most k l is h = tt
 noted_puts n who (c ∷ cs) most k l is h =
     let up : LinkIs most (k + 1) l = link_more most most k (k + 1) l (omega arith) (omega arith) h in
-    join n (put_entries who l c) (puts_entries who (put l c) cs) (
+    each-append (IsNoted n) (put_entries who l c) (puts_entries who (put l c) cs) (
       is.0,
       noted_pushed n (k + 1) (far who) (nat_lt 64 (length (wire_with l c))) (wire_with l c)
           (pushed_is IsFrame (k + 1) l.to_host (put_frame l c) up.to_far (put_frame_is most k l c is.0 h)),
@@ -136,11 +122,7 @@ noted_puts n who (c ∷ cs) most k l is h =
 
 noted_aged : (n k : ℕ) (who : End) (xs : List OnWire) → AllByRecursion (FrameIs IsFrame k) xs → AreNoted n (aged_entries who xs)
 noted_aged n k who [] h = tt
-noted_aged n k who (x ∷ xs) h = go (nat_lt x.age 4) refl (noted_aged n k who xs h.1)
-  where
-    go : (b : Bool) → nat_lt x.age 4 ≡ b → AreNoted n (aged_entries who xs) → AreNoted n (aged_entries who (x ∷ xs))
-    go true q later = rw q later
-    go false q later = rw q (h.0.frame, later)
+noted_aged n k who (x ∷ xs) h = by_test (nat_lt x.age 4) (λ q. rw q (noted_aged n k who xs h.1)) (λ q. rw q (h.0.frame, noted_aged n k who xs h.1))
 
 -- no turn, and the frames go out
 noted_rest : (n k : ℕ) (who : End) (l : Link) (e : LinkEnd) → EndIs k e → LinkIs k k l → AreNoted n (rest_entries who l e [] GoesOut)
@@ -153,8 +135,8 @@ noted_sent n who l m is h =
     let a = h.near.emitted in
     let b = h.near.took in
     let e : LinkEnd = turn l.controller.side (Give m) in
-    join (n + 1) (turn_entries who (number_of l.controller) l.controller.side (Give m ∷ [])) (puts_entries who l (frames_out e))
-    (join (n + 1) (turn_entry who (number_of l.controller) l.controller.side (Give m)) [] (go (give_refusal l.controller.side m)) tt)
+    each-append (IsNoted (n + 1)) (turn_entries who (number_of l.controller) l.controller.side (Give m ∷ [])) (puts_entries who l (frames_out e))
+    (each-append (IsNoted (n + 1)) (turn_entry who (number_of l.controller) l.controller.side (Give m)) [] (go (give_refusal l.controller.side m)) tt)
     (noted_puts (n + 1) who (frames_out e) n n l (out_is (n + 1) e (end_given n l.controller.side m is h.near.side)) h)
   where
     go : (o : Option Refused) → AreNoted (n + 1) (sent_unless o who (number_of l.controller) m)
@@ -171,7 +153,7 @@ noted_reset n who l window low h =
     let i : LinkInput = Reset window in
     let is : EndIs n (after_input l.controller.side i) = end_reset n l.controller.side window low h.near.side in
     let m : Link = with_ended l (is_some (ended_by l.controller.side i)) in
-    join n (told_of who l.controller i) (rest_entries who m (after_input l.controller.side i) [] GoesOut)
+    each-append (IsNoted n) (told_of who l.controller i) (rest_entries who m (after_input l.controller.side i) [] GoesOut)
     (noted_input n who l.controller i h.near.emitted h.near.took is tt)
     (noted_rest n n who m (after_input l.controller.side i) is (link_ended n n l (is_some (ended_by l.controller.side i)) h))
 
@@ -179,7 +161,7 @@ noted_tick : (n : ℕ) (who : End) (l : Link) → LinkIs n n l → AreNoted n (t
 noted_tick n who l h =
     let is : EndIs n (after_input l.controller.side HasTick) = end_ticked n l.controller.side h.near.side in
     let m : Link = with_ended l (is_some (ended_by l.controller.side HasTick)) in
-    join n (told_of who l.controller HasTick) (rest_entries who m (after_input l.controller.side HasTick) [] GoesOut)
+    each-append (IsNoted n) (told_of who l.controller HasTick) (rest_entries who m (after_input l.controller.side HasTick) [] GoesOut)
     (noted_input n who l.controller HasTick h.near.emitted h.near.took is (tick_tries n l.controller.side h.near.side))
     (noted_rest n n who m (after_input l.controller.side HasTick) is (link_ended n n l (is_some (ended_by l.controller.side HasTick)) h))
 
@@ -199,7 +181,7 @@ noted_taken n who l h = go l.to_controller refl
         let near_end : NumberedEnd = record l.controller { took = took_with l.controller.took x } in
         subst (AreNoted n) (sym some) (
           wire.frames.0.frame,
-          join n (told_of who near_end (Take x.frame)) (rest_entries who (left_with l x xs) e (FetchMessage ∷ []) GoesOut)
+          each-append (IsNoted n) (told_of who near_end (Take x.frame)) (rest_entries who (left_with l x xs) e (FetchMessage ∷ []) GoesOut)
               (noted_input n who near_end (Take x.frame) h.near.emitted (took_low n l.controller.took x h.near.took wire.frames.0.number) is tt)
               (noted_puts n who (frames_out (turn e FetchMessage)) n n (left_with l x xs) (out_is n (turn e FetchMessage) (end_fetched n e is))
               (link_left n n l x xs q h)),
@@ -209,11 +191,7 @@ noted_taken n who l h = go l.to_controller refl
 
 noted_at : (n : ℕ) (l : Link) (e : NamedEnd) (x : EndEvent) → ((who : End) (m : Link) → LinkIs n n m → AreNoted (n + 24) (here_entries who m x)) → LinkIs n n l
     → AreNoted (n + 24) (event_entries l (at e x))
-noted_at n l e x here h = go e.at_host
-  where
-    go : (b : Bool) → AreNoted (n + 24) (event_entries l (at (record { link = e.link; at_host = b }) x))
-    go true = here Host (exchanged l) (link_swapped n n l h)
-    go false = here Controller l h
+noted_at n l e x here h = by_test e.at_host (λ q. rw q (here Host (exchanged l) (link_swapped n n l h))) (λ q. rw q (here Controller l h))
 
 abbrev ticks : End → Link → List Entry
 ticks who l = tick_entries who l idle
@@ -232,9 +210,11 @@ noted_event n l Ticked can h =
     link_swapped (n + 12) (n + 12) (ticks_at_controller old [] GoesOut)
     (link_more n (n + 12) (n + 12) (n + 12) (ticks_at_controller old [] GoesOut) (omega arith) (omega arith) (link_ticked n n old one)) in (
       tt,
-      join (n + 24) (aged_entries Controller l.to_controller) (aged_entries Host l.to_host ++ (ticks Controller old ++ ticks Host near))
+      each-append (IsNoted (n + 24)) (aged_entries Controller l.to_controller) (aged_entries Host l.to_host ++ (ticks Controller old ++ ticks Host near))
           (noted_aged (n + 24) n Controller l.to_controller h.to_near.frames)
-          (join (n + 24) (aged_entries Host l.to_host) (ticks Controller old ++ ticks Host near) (noted_aged (n + 24) n Host l.to_host h.to_far.frames)
-          (join (n + 24) (ticks Controller old) (ticks Host near) (all_more n (n + 24) (ticks Controller old) (omega arith) (noted_tick n Controller old one))
+          (each-append (IsNoted (n + 24)) (aged_entries Host l.to_host) (ticks Controller old ++ ticks Host near)
+          (noted_aged (n + 24) n Host l.to_host h.to_far.frames)
+          (each-append (IsNoted (n + 24)) (ticks Controller old) (ticks Host near)
+          (all_more n (n + 24) (ticks Controller old) (omega arith) (noted_tick n Controller old one))
           (all_more (n + 12) (n + 24) (ticks Host near) (omega arith) (noted_tick (n + 12) Host near two)))),
     )

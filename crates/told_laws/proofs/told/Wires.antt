@@ -6,6 +6,7 @@ use Rattle.block_pool.proofs.HoldingLemmas.{all_mapped}
 use Rattle.swp_base.specs.declared.control_frames.Control.{Control}
 use Rattle.link_laws.specs.sessions.Sessions.{OnWire, fits, aged_wire}
 use Rattle.link_laws.specs.messages.Rsets.{WireIsLow}
+use Rattle.node_laws.proofs.Cases.{by_test}
 
 pub drop_each : {X : Type 0} (P : X → Type 0) (n : ℕ) (xs : List X) → AllByRecursion P xs → AllByRecursion P (drop n xs)
 drop_each P zero xs h = h
@@ -65,19 +66,13 @@ module _ (P : Control → Type 0) where
 
   each_aged : (n : ℕ) (w : List OnWire) → AllByRecursion (FrameIs P n) w → AllByRecursion (FrameIs P n) (aged_wire w)
   each_aged n [] h = tt
-  each_aged n (x ∷ w) h = go (nat_lt x.age 4) refl (each_aged n w h.1)
-    where
-      go : (b : Bool) → nat_lt x.age 4 ≡ b → AllByRecursion (FrameIs P n) (aged_wire w) → AllByRecursion (FrameIs P n) (aged_wire (x ∷ w))
-      go true q later = rw q (record { frame = h.0.frame; number = h.0.number }, later)
-      go false q later = rw q later
+  each_aged n (x ∷ w) h = by_test (nat_lt x.age 4)
+      (λ q. rw q (record { frame = h.0.frame; number = h.0.number }, each_aged n w h.1))
+      (λ q. rw q (each_aged n w h.1))
 
   aged_few : (w : List OnWire) → length (aged_wire w) ≤ length w
   aged_few [] = omega arith
-  aged_few (x ∷ w) = go (nat_lt x.age 4) refl (aged_few w)
-    where
-      go : (b : Bool) → nat_lt x.age 4 ≡ b → length (aged_wire w) ≤ length w → length (aged_wire (x ∷ w)) ≤ length (x ∷ w)
-      go true q later = rw q (omega (arith, later))
-      go false q later = rw q (omega (arith, later))
+  aged_few (x ∷ w) = by_test (nat_lt x.age 4) (λ q. rw q (omega (arith, aged_few w))) (λ q. rw q (omega (arith, aged_few w)))
 
   pub wire_aged : (n : ℕ) (w : List OnWire) → WireIs P n w → WireIs P n (aged_wire w)
   wire_aged n w h = record { frames = each_aged n w h.frames; few = let l = aged_few w in let f = h.few in omega (arith, l, f) }
