@@ -20,11 +20,6 @@ use Rattle.lines_told.proofs.fragments.Events.{did_here, did_tick, did_nothing, 
 did_as : {c d tn tf c' d' tn' tf' : ℕ} {m n : ShdlcLink} → c ≡ c' → d ≡ d' → tn ≡ tn' → tf ≡ tf' → Did c d tn tf m n → Did c' d' tn' tf' m n
 did_as p q r s h = rw (← p, ← q, ← r, ← s) h
 
--- what an event and those behind it are together
-abbrev Together : ShdlcLink → ShdlcLinkEvent → List ShdlcLinkEvent → Type 0
-Together l e es =
-    Did (taken_at_controller (e ∷ es)) (taken_at_host (e ∷ es)) (ticks_among (e ∷ es)) (ticks_among (e ∷ es)) l (shdlc_after (shdlc_happens l e) es)
-
 pub began : {l : ShdlcLink} (es : List ShdlcLinkEvent) → AreUndisturbed l es → BothTakeFragments l
 began [] u = u
 began (e ∷ es) u = u.0

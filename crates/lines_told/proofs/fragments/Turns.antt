@@ -3,7 +3,7 @@ use Rattle.std.proofs.Common.{◌≡◌, List, [], ◌∷◌, ◌++◌, refl, ap
 use Rattle.std.proofs.lemmas.List.{append-nil}
 use Rattle.shdlc_core.specs.declared.answers.LinkState.TheVariants.{Up}
 use Rattle.shdlc_core.specs.declared.answers.Due.{Due}
-use Rattle.shdlc_core.specs.declared.answers.Due.TheVariants.{Rr as Rr_due, Rej as Rej_due, Rnr as Rnr_due, Rset as Rset_due, Ua as Ua_due}
+use Rattle.shdlc_core.specs.declared.answers.Due.TheVariants.{Rr as Rr_due, Rnr as Rnr_due}
 use Rattle.shdlc_core.specs.Machine.{EndState, Fragment}
 use Rattle.link_laws.proofs.places.Whole.{AnswersOnly, NoRnr}
 use Rattle.link_laws.proofs.places.Joined.{ready_cases}
@@ -13,11 +13,8 @@ use Rattle.link_laws.proofs.sessions.Ties.{offer_up, answers_more, turn-phase}
 
 no_rnr_more : (ds : List Due) → NoRnr ds → NoRnr (ds ++ Rr_due ∷ [])
 no_rnr_more [] a = tt
-no_rnr_more (Rr_due ∷ ds) a = no_rnr_more ds a
-no_rnr_more (Rej_due ∷ ds) a = no_rnr_more ds a
 no_rnr_more (Rnr_due ∷ ds) a = absurd a
-no_rnr_more (Rset_due ∷ ds) a = no_rnr_more ds a
-no_rnr_more (Ua_due ∷ ds) a = no_rnr_more ds a
+no_rnr_more (_ ∷ ds) a = no_rnr_more ds a
 
 -- e has become f: more may be offered, and an answer more may be due behind the others
 pub record Turned (e f : EndState) : Type 0 where

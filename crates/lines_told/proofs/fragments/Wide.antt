@@ -47,8 +47,7 @@ turn-window e (Offer fragments) = go e.phase refl
   where
     go : (p : LinkState) → e.phase ≡ p → (shdlc_turn e (Offer fragments)).session.window ≡ e.session.window
     go Up q = rw q refl
-    go Waiting q = rw q refl
-    go Down q = rw q refl
+    go _ q = rw q refl
 
 turned-window : (ts : List ShdlcTurn) (e : EndState) → (shdlc_turned e ts).session.window ≡ e.session.window
 turned-window [] e = refl
@@ -98,29 +97,24 @@ wide_taken e c has h = go e.phase c refl
     control None Rej nr up q = same (S Rej nr) (rw (up, q) refl)
     control None Rnr nr up q = same (S Rnr nr) (rw (up, q) refl)
     control o Srej nr up q = same (S Srej nr) (rw up refl)
-    control (Some x) Rr nr up q = λ u. rw (up, q) (h up)
-    control (Some x) Rej nr up q = λ u. rw (up, q) (h up)
-    control (Some x) Rnr nr up q = λ u. rw (up, q) (h up)
+    control (Some x) _ nr up q = λ u. rw (up, q) (h up)
 
     go : (p : LinkState) (c : Control) → e.phase ≡ p → IsWide (taken e c)
     go Up (I ns nr info) q = fragment (place_of e.session nr) ns nr info q refl
     go Up (S k nr) q = control (place_of e.session nr) k nr q refl
     go Up (Rset w caps) q = wide_by (reset_taken e w) (taken e (Rset w caps)) (rw q refl) (wide_reset e w has h)
-    go Waiting (Rset w caps) q = wide_by (reset_taken e w) (taken e (Rset w caps)) (rw q refl) (wide_reset e w has h)
-    go Down (Rset w caps) q = wide_by (reset_taken e w) (taken e (Rset w caps)) (rw q refl) (wide_reset e w has h)
+    go _ (Rset w caps) q = wide_by (reset_taken e w) (taken e (Rset w caps)) (rw q refl) (wide_reset e w has h)
     go Up Ua q = same Ua (rw q refl)
     go Up (Act a b) q = same (Act a b) (rw q refl)
     go Up Clt q = same Clt (rw q refl)
     go Waiting (I ns nr info) q = same (I ns nr info) (rw q refl)
     go Waiting (S k nr) q = same (S k nr) (rw q refl)
     go Waiting Ua q = λ u. rw q (omega (arith, has.own.0, has.peer.0))
-    go Waiting (Act a b) q = same (Act a b) (rw q refl)
-    go Waiting Clt q = same Clt (rw q refl)
     go Down (I ns nr info) q = same (I ns nr info) (rw q refl)
     go Down (S k nr) q = same (S k nr) (rw q refl)
     go Down Ua q = same Ua (rw q refl)
-    go Down (Act a b) q = same (Act a b) (rw q refl)
-    go Down Clt q = same Clt (rw q refl)
+    go _ (Act a b) q = same (Act a b) (rw q refl)
+    go _ Clt q = same Clt (rw q refl)
 
 wide_ticked : (e : EndState) → IsWide e → IsWide (ticked e)
 wide_ticked e h = go e.phase (runs_timer e.session) (nat_lt (e.timer + 1) 10) (nat_lt e.tries 5) refl refl refl refl
@@ -157,8 +151,7 @@ silent_host l e = go l.controller.side.phase refl
   where
     go : (p : LinkState) → l.controller.side.phase ≡ p → (shdlc_silent l e).host ≡ l.host
     go Up q = rw q refl
-    go Waiting q = rw q refl
-    go Down q = rw q refl
+    go _ q = rw q refl
 
 silent_wide : (l : ShdlcLink) (e : EndState) → e.phase ≡ Down → IsWide (shdlc_silent l e).controller.side
 silent_wide l e down = go l.controller.side.phase refl
@@ -168,8 +161,7 @@ silent_wide l e down = go l.controller.side.phase refl
 
     go : (p : LinkState) → l.controller.side.phase ≡ p → IsWide (shdlc_silent l e).controller.side
     go Up q = rw q none
-    go Waiting q = rw q none
-    go Down q = rw q none
+    go _ q = rw q none
 
 -- what it does leaves it wide, and the other end as it is
 record WideHere (l n : ShdlcLink) : Type 0 where
@@ -230,13 +222,11 @@ wide_here l Stop has h = wide_silent l _ refl
 
 wide_turn : (l : ShdlcLink) (e : ShdlcEndEvent) → IsTurn e → IsWide l.controller.side → WideHere l (shdlc_happens_at_controller l e)
 wide_turn l (Turns ts) a h = becomes_here l l ts l.controller.side refl h
-wide_turn l (Deliver ts) a h = absurd a
-wide_turn l (Ignore ts) a h = absurd a
 wide_turn l (Acts acts ts) a h = wide_acts l acts ts h
-wide_turn l Lose a h = absurd a
 wide_turn l (Reset w ts) a h = wide_asks l w ts h
 wide_turn l Cut a h = wide_silent l _ refl
 wide_turn l Stop a h = wide_silent l _ refl
+wide_turn l _ a h = absurd a
 
 then_wide : {l m n : ShdlcLink} → WideHere l m → WideHere m n → WideHere l n
 then_wide a b = record { wide = b.wide; host = b.host ∙ a.host }

@@ -1,6 +1,6 @@
 -- The lines of a round of a bare link do what the round does.
 use Rattle.std.proofs.Common.{◌≡◌, ℕ, zero, suc, false, List, [], ◌∷◌, ◌++◌, None, refl, ap, sym, ◌∙◌, length}
-use Rattle.std.proofs.Common.{append-nil, append_assoc}
+use Rattle.std.proofs.Common.{append-nil}
 use Rattle.std.specs.Prelude.{replicate, if◌then◌else◌}
 use Rattle.trace_model.specs.declared.line.End.{End}
 use Rattle.trace_model.specs.declared.line.Header.{Header}
@@ -70,17 +70,6 @@ module _ (h : ℕ) where
       ∙ (round_causes ends m
       ∙ (ap (λ (k : Link). link_after_all k (causes_on k ends)) (takes_on l e)
       ∙ sym (link-append l now (causes_on (link_after_all l now) ends))))
-
--- some ends have taken all that stood on their wires, and the next one does
-pub round_on_goes_on : (h : ℕ) (l : Link) (all : List Line) (done : List Line) (e : End) (ends : List End)
-    → all ≡ done ++ round_on h (link_after_lines h l done) (e ∷ ends)
-    → all ≡ (done ++ taking_on (link_after_lines h l done) e) ++ round_on h (link_after_lines h l (done ++ taking_on (link_after_lines h l done) e)) ends
-round_on_goes_on h l all done e ends is =
-    let m : Link = link_after_lines h l done in
-    let now : List Line = taking_on m e in
-    is
-    ∙ (sym (append_assoc done now (round_on h (link_after_lines h m now) ends))
-    ∙ ap (λ (k : Link). (done ++ now) ++ round_on h k ends) (sym (lines-append h done now l)))
 
 -- ## Behind lines
 

@@ -125,17 +125,6 @@ round_told w =
     round_tells (ends_in_order w) w
     ∙ sym (flat_map-append (λ (o : Occurrence). o.entries) taken.1 (all_happen taken.0 (Ticks ∷ [])).1)
 
--- some ends have taken all that stood on their wires, and the next one does
-pub round_goes_on : (w : NodeWorld) (all : List Line) (done : List Line) (e : End) (ends : List End)
-    → all ≡ done ++ round_in (world_after w done) (e ∷ ends)
-    → all ≡ (done ++ taking_in (world_after w done) e) ++ round_in (world_after w (done ++ taking_in (world_after w done) e)) ends
-round_goes_on w all done e ends is =
-    let v : NodeWorld = world_after w done in
-    let now : List Line = taking_in v e in
-    is
-    ∙ (sym (append_assoc done now (round_in (world_after v now) ends))
-    ∙ ap (λ (u : NodeWorld). (done ++ now) ++ round_in u ends) (sym (after-append done now w)))
-
 -- ## None is misread
 
 sure_taking : (w : NodeWorld) (e : End) → NoneIsMisread w (taking_in w e)

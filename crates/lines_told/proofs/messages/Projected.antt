@@ -2,13 +2,12 @@
 use Rattle.std.proofs.Common.{◌≡◌, ℕ, zero, suc, ◌+◌, Bool, true, false, Option, List, [], ◌∷◌, ◌++◌, Some, map, refl, ap, sym, subst, ◌∙◌, arith, length}
 use Rattle.std.proofs.Common.{append_assoc}
 use Rattle.swp_base.specs.declared.control_frames.Control.{Control}
-use Rattle.swp_base.specs.declared.control_frames.Control.TheVariants.{I, S, Rset, Ua, Act, Clt}
+use Rattle.swp_base.specs.declared.control_frames.Control.TheVariants.{Act}
 use Rattle.shdlc_core.specs.declared.answers.LinkState.TheVariants.{Up, Down}
 use Rattle.link_laws.specs.places.Wire.{OnWire}
 use Rattle.link_laws.specs.sessions.Sessions.{ShdlcLink as CoreLink, ShdlcTurn as CoreTurn, ShdlcEndEvent as CoreEndEvent, ShdlcLinkEvent as CoreLinkEvent}
 use Rattle.link_laws.specs.sessions.Sessions.{shdlc_after as core_after}
 use Rattle.link_laws.specs.sessions.Sessions.ShdlcLinkEvent.{AtController as CoreAtController, AtHost as CoreAtHost, Tick as CoreTick}
-use Rattle.link_laws.specs.sessions.Sessions.ShdlcLinkEvent.{TickWithout as CoreTickWithout}
 use Rattle.lines_told.specs.fragments.Rounds.{IsOrdinary, AreOrdinaryTurns, AllOrdinary, taken_here, taken_at_controller, taken_at_host, ticks_among}
 use Rattle.lines_told.specs.fragments.Rounds.{IsStretch, IsRound, AreRounds, AreUndisturbed}
 use Rattle.lines_told.proofs.fragments.Stretches.{began, undisturbed_parts}
@@ -17,9 +16,9 @@ use Rattle.link_laws.specs.machine.Machine.LinkInput.{Tick as InputTick}
 use Rattle.link_laws.specs.messages.Links.{NumberedEnd, Link, Ending, EndEvent, LinkEvent, exchanged, happens, aged, ticks_at_controller}
 use Rattle.link_laws.specs.messages.Links.{happens_at_controller}
 use Rattle.link_laws.specs.messages.Links.{after_link_events, AllAllowed, IsEvent}
-use Rattle.link_laws.specs.messages.Links.Ending.{GoesOut, CutOff}
-use Rattle.link_laws.specs.messages.Links.Comes.{NextFrame, AsksReset, Starts, Stops, NoInput}
-use Rattle.link_laws.specs.messages.Links.EndEvent.{Step, Lose}
+use Rattle.link_laws.specs.messages.Links.Ending.{GoesOut}
+use Rattle.link_laws.specs.messages.Links.Comes.{NextFrame, NoInput}
+use Rattle.link_laws.specs.messages.Links.EndEvent.{Step}
 use Rattle.link_laws.specs.messages.Links.LinkEvent.{AtController, AtHost, Ticks, TicksWithout, Activate}
 use Rattle.link_laws.specs.messages.Projection.{core_of, core_turns, core_take, core_here, core_all, core_tick, core_tick_rest, core_event, core_events}
 use Rattle.link_laws.proofs.messages.Runs.{Good, Reached, run, event_step, reached_more}
@@ -135,23 +134,17 @@ does_then es fs a b =
     controllers : (es : List CoreLinkEvent) → taken_at_controller (es ++ fs) ≡ taken_at_controller es + taken_at_controller fs
     controllers [] = omega arith
     controllers (CoreAtController e ∷ es) = omega (arith, controllers es)
-    controllers (CoreAtHost e ∷ es) = controllers es
-    controllers (CoreTick a b c ∷ es) = controllers es
-    controllers (CoreTickWithout a b ∷ es) = controllers es
+    controllers (_ ∷ es) = controllers es
 
     hosts : (es : List CoreLinkEvent) → taken_at_host (es ++ fs) ≡ taken_at_host es + taken_at_host fs
     hosts [] = omega arith
-    hosts (CoreAtController e ∷ es) = hosts es
     hosts (CoreAtHost e ∷ es) = omega (arith, hosts es)
-    hosts (CoreTick a b c ∷ es) = hosts es
-    hosts (CoreTickWithout a b ∷ es) = hosts es
+    hosts (_ ∷ es) = hosts es
 
     times : (es : List CoreLinkEvent) → ticks_among (es ++ fs) ≡ ticks_among es + ticks_among fs
     times [] = omega arith
-    times (CoreAtController e ∷ es) = times es
-    times (CoreAtHost e ∷ es) = times es
     times (CoreTick a b c ∷ es) = omega (arith, times es)
-    times (CoreTickWithout a b ∷ es) = times es
+    times (_ ∷ es) = times es
 
 -- an event and those behind it
 come_more : (l : Link) (e : LinkEvent) (es : List LinkEvent)
