@@ -17,4 +17,4 @@ of_seats n (s ∷ seats) (p ∷ ports) a = (a.0.holds.stands.halfway.sends.all, 
 
 pub given_messages : {N : Type 0} (n : Node N) (core : Core) (ports : List Port) → RunsAs n core ports
     → AllByRecursion (λ (p : Port). AreSendable p.side.sent) ports
-given_messages n core ports runs = of_seats n n.ends.seats.items ports runs.ends.each
+given_messages n core ports runs = of_seats n n.ends.seats ports runs.ends.each

@@ -200,7 +200,7 @@ all_sent pool (s ∷ seats) (p ∷ ports) g own hosts none = (here, all_sent poo
 
 none_waits : {N : Type 0} {n : Node N} {core : Core} {ports : List Port} → RunsAs n core ports
     → ((k : ℕ) → 1 ≤ k → k ≤ 7 → frame_at (port_at ports k) ≡ None) → IsAllSent ports
-none_waits {n = n} {ports = ports} r none = all_sent n.ends.pool n.ends.seats.items ports r.ends.each r.ends.hosts r.order.hosts none
+none_waits {n = n} {ports = ports} r none = all_sent n.ends.pool n.ends.seats ports r.ends.each r.ends.hosts r.order.hosts none
 
 may_step : {N : Type 0} {n : Node N} {core : Core} {ports : List Port} → RunsAs n core ports
     → ((k : ℕ) → 1 ≤ k → k ≤ 7 → frame_at (port_at ports k) ≡ None) → MayStep n
