@@ -11,30 +11,24 @@ use Rattle.node_machine.specs.Carrying.{port_at}
 use Rattle.node_core.specs.declared.node.Node.{Node}
 use Rattle.node_core.specs.Bringing.{Brings}
 use Rattle.node_core.specs.Running.{RunsAs, BeginsStep, HasStepped, MayStep}
+use Rattle.node_core.proofs.Between.{kept_alike}
 use Rattle.node_core.proofs.Planned.{planned_step, planned_writes}
-use Rattle.node_sites.specs.WorldNodes.{BeginsOver, MayBeginStep, MayBeginAt, HasGone, IsNotedSo, RunsAsHost}
+use Rattle.node_sites.specs.Powers.{node_memory}
+use Rattle.node_sites.specs.WorldNodes.{BeginsOver, HasGone, IsNotedSo, RunsAsHost, as_kept}
 use Rattle.node_sites.specs.declared.noted.Noted.{Noted}
 use Rattle.node_sites.specs.Numbers.{as_told}
 use Rattle.node_sites.proofs.Renumbered.{as_watched, as_noted}
 use Rattle.node_sites.proofs.Regardless.{bare, IsRegardless}
 
--- where its memory lies
-abbrev pub memory_in : Node Memory → Memory
-memory_in n = n.store.journal.nv
-
 module _ (Runs : Node Memory → Core → List Port → Type 0) (runs_as : (n : Node Memory) (core : Core) (ports : List Port) → Runs n core ports
     → RunsAs n core ports) where
   -- ## As a step begins
 
-  pub may_step : {n : Node Memory} → MayBeginStep Runs n → MayStep n
-  may_step {n} m = record { core = m.core; ports = m.ports; runs = runs_as n m.core m.ports m.runs; sent = m.sent }
-
-  pub may_step_at : {n : Node Memory} {host : ℕ} → MayBeginAt Runs n host → MayStep n
-  may_step_at {n} m =
-      record { core = m.has.core; ports = m.has.ports; runs = runs_as n m.has.core m.has.ports m.has.runs; sent = m.sent }
+  pub may_step : {n : Node Memory} {w : Work} → BeginsOver Runs n w → MayStep n
+  may_step {n} {w} b = record { core = w.core; ports = w.ports; runs = runs_as n w.core w.ports b.runs; sent = b.sent }
 
   -- behind what was noted before
-  pub begins_so : {n : Node Memory} {noted : Noted} {sessions : List ℕ} {start : List Entry} {w : Work} → BeginsOver Runs memory_in n w
+  pub begins_so : {n : Node Memory} {noted : Noted} {sessions : List ℕ} {start : List Entry} {w : Work} → BeginsOver Runs n w
       → IsNotedSo noted sessions start w.entries → BeginsStep n (as_told noted.sessions noted.entries.items) noted.short (as_told sessions start) w
   begins_so {n} {w = w} b noted = record {
     runs = runs_as n w.core w.ports b.runs;
@@ -45,7 +39,7 @@ module _ (Runs : Node Memory → Core → List Port → Type 0) (runs_as : (n : 
   }
 
   -- or without that
-  pub begins_bare : {n : Node Memory} (noted : List Entry) (short : Bool) {w : Work} → BeginsOver Runs memory_in n w
+  pub begins_bare : {n : Node Memory} (noted : List Entry) (short : Bool) {w : Work} → BeginsOver Runs n w
       → BeginsStep n noted short noted (bare w)
   begins_bare {n} noted short {w} b = record {
     runs = runs_as n w.core w.ports b.runs;
@@ -59,13 +53,13 @@ module _ (Runs : Node Memory → Core → List Port → Type 0) (runs_as : (n : 
 
   module _ {n n2 : Node Memory} (runs_on : (core : Core) (ports : List Port) → RunsAs n2 core ports → Runs n2 core ports) where
     -- what the world knows of a node that has stepped
-    pub goes_so : {noted start : List Entry} {short : Bool} {w : Work} {f : Work → Work} (live : Bool) → IsRegardless f → BeginsOver Runs memory_in n w
-        → Brings WritesAsPlanned (memory_in n) (memory_in n2) (HasStepped n2 noted short start) f (bare w) → live ≡ n2.store.journal.live
-        → HasGone Runs memory_in n n2 (f w) live
+    pub goes_so : {noted start : List Entry} {short : Bool} {w : Work} {f : Work → Work} (live : Bool) → IsRegardless f → BeginsOver Runs n w
+        → Brings WritesAsPlanned (node_memory n) (node_memory n2) (HasStepped n2 noted short start) f (bare w) → live ≡ n2.store.journal.live
+        → HasGone Runs n n2 (f w) live
     goes_so {w = w} {f = f} live regardless begins b is =
         let made : List Write = b.sure ++ b.torn in
-        let same : bare (f w) ≡ bare (record b.after { plan = (memory_in n2).plan }) = regardless w ∙ ap bare (planned_step b begins.plan) in
-        let W : List Write → Type 0 = λ ws. memory_in n2 ≡ after_planned ws (memory_in n) in
+        let same : bare (f w) ≡ bare (record b.after { plan = (node_memory n2).plan }) = regardless w ∙ ap bare (planned_step b begins.plan) in
+        let W : List Write → Type 0 = λ ws. node_memory n2 ≡ after_planned ws (node_memory n) in
         let R : Work → Type 0 = λ v. RunsAs n2 v.core v.ports in
         record {
           power = ap (λ (v : Work). v.cut) same ∙ (b.stands.power ∙ ap not (sym is));
@@ -85,13 +79,10 @@ noted_so noted {sessions} {start} plan b =
 -- ## Controllers and hosts
 
 -- a controller runs as its node does
-abbrev pub RunsPlainly : Node Memory → Core → List Port → Type 0
-RunsPlainly n core ports = RunsAs n core ports
-
-pub plainly : (n : Node Memory) (core : Core) (ports : List Port) → RunsPlainly n core ports → RunsAs n core ports
+pub plainly : (n : Node Memory) (core : Core) (ports : List Port) → RunsAs n core ports → RunsAs n core ports
 plainly n core ports r = r
 
-pub still_plainly : {n : Node Memory} (core : Core) (ports : List Port) → RunsAs n core ports → RunsPlainly n core ports
+pub still_plainly : {n : Node Memory} (core : Core) (ports : List Port) → RunsAs n core ports → RunsAs n core ports
 still_plainly core ports r = r
 
 pub of_host : (n : Node Memory) (core : Core) (ports : List Port) → RunsAsHost n core ports → RunsAs n core ports
@@ -101,6 +92,11 @@ of_host n core ports r = r.runs
 pub still_host : {n2 : Node Memory} {number : ℕ} → n2.number ≡ number → number ≢ 0 → (core : Core) (ports : List Port) → RunsAs n2 core ports
     → RunsAsHost n2 core ports
 still_host same some core ports r = record { runs = r; number = λ none. some (sym same ∙ none) }
+
+-- what is done in a step, and the numbers of sessions, aren't kept
+pub host_alike : {n : Node Memory} {core : Core} (ports others : List Port) → map as_kept ports ≡ map as_kept others → RunsAsHost n core ports
+    → RunsAsHost n core others
+host_alike ports others same r = record { runs = kept_alike ports others same r.runs; number = r.number }
 
 -- the link of a host's end is the one with its number
 pub own_host : {n : Node Memory} {core : Core} {ports : List Port} {host : ℕ} {p : Port} → RunsAsHost n core ports → port_at ports host ≡ Some p

@@ -4,14 +4,13 @@ use Rattle.std.specs.Prelude.{Option, Some, None}
 use Rattle.swp_base.specs.InMemory.{Memory}
 use Rattle.link_laws.specs.messages.Links.{NumberedEnd}
 use Rattle.node_machine.specs.Parts.{Core, Port, Running}
-use Rattle.node_sites.specs.declared.power.Power.{Power}
+use Rattle.node_core.specs.declared.node.Node.{Node}
 use Rattle.node_sites.specs.declared.power.Power.TheVariants.{On, Off}
-use Rattle.node_sites.specs.Powers.{IsNodePlace, memory_kept}
+use Rattle.node_sites.specs.Powers.{IsNodePlace, memory_kept, NodePower}
 
-module _ (P : Type 0) (Runs : P → Core → List Port → Type 0) (memory_of : P → Memory) where
-  pub kept_is : (k : Power P) (m : Memory) (o : Option Running) (near : ℕ → NumberedEnd) → IsNodePlace Runs memory_of k m o near
-      → memory_kept memory_of k ≡ m
-  kept_is (On n) m (Some r) near place = place.0
-  kept_is (On n) m None near place = absurd place
-  kept_is (Off kept) m None near place = place
-  kept_is (Off kept) m (Some r) near place = absurd place
+pub kept_is : (Runs : Node Memory → Core → List Port → Type 0) (k : NodePower) (m : Memory) (o : Option Running) (near : ℕ → NumberedEnd)
+    → IsNodePlace Runs k m o near → memory_kept k ≡ m
+kept_is Runs (On n) m (Some r) near place = place.0
+kept_is Runs (On n) m None near place = absurd place
+kept_is Runs (Off kept) m None near place = place
+kept_is Runs (Off kept) m (Some r) near place = absurd place

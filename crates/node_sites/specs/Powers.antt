@@ -6,22 +6,31 @@ use Rattle.link_laws.specs.machine.Machine.{next_frame}
 use Rattle.link_laws.specs.messages.Links.{NumberedEnd}
 use Rattle.node_machine.specs.Parts.{Core, Desk, Running, Port}
 use Rattle.node_machine.specs.world.World.{port_for}
+use Rattle.node_core.specs.declared.node.Node.{Node}
 use Rattle.node_sites.specs.declared.power.Power.{Power}
 use Rattle.node_sites.specs.declared.power.Power.TheVariants.{On, Off}
 
+-- a node of a world that runs, or the memory that it left
+abbrev pub NodePower : Type 0
+NodePower = Power (Node Memory)
+
+-- the memory over which a node runs
+abbrev pub node_memory : Node Memory → Memory
+node_memory n = n.store.journal.nv
+
 -- A node of the world runs over its memory, all its frames went out, and its ends are these; or its power is off, and its memory
 -- lies there.
-abbrev pub IsNodePlace : {P : Type 0} → (P → Core → List Port → Type 0) → (P → Memory) → Power P → Memory → Option Running → (ℕ → NumberedEnd) → Type 0
-IsNodePlace Runs memory_of (On n) m (Some r) near_ends =
-    (memory_of n ≡ m) × Runs n r.core (map (λ (d : Desk). port_for (near_ends d.host) d) r.desks)
+abbrev pub IsNodePlace : (Node Memory → Core → List Port → Type 0) → NodePower → Memory → Option Running → (ℕ → NumberedEnd) → Type 0
+IsNodePlace Runs (On n) m (Some r) near_ends =
+    (node_memory n ≡ m) × Runs n r.core (map (λ (d : Desk). port_for (near_ends d.host) d) r.desks)
     × AllByRecursion (λ (d : Desk). next_frame (near_ends d.host).side ≡ None) r.desks
-IsNodePlace Runs memory_of (Off kept) m None near_ends = kept ≡ m
-IsNodePlace Runs memory_of _ m _ near_ends = ⊥
+IsNodePlace Runs (Off kept) m None near_ends = kept ≡ m
+IsNodePlace Runs _ m _ near_ends = ⊥
 
 -- the memory of a node, whether that runs or not
-abbrev pub memory_kept : {P : Type 0} → (P → Memory) → Power P → Memory
-memory_kept memory_of (On n) = memory_of n
-memory_kept memory_of (Off kept) = kept
+abbrev pub memory_kept : NodePower → Memory
+memory_kept (On n) = node_memory n
+memory_kept (Off kept) = kept
 
 -- it runs
 abbrev pub is_on : {P : Type 0} → Power P → Bool

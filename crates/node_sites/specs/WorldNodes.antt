@@ -1,4 +1,4 @@
--- What the world knows of a node that runs, by what stands for its machine.
+-- What the world knows of a node that runs, by what stands for its machine: `RunsAs` for the controller, `RunsAsHost` for a host.
 use Rattle.std.specs.Prelude.{◌≡◌, ◌≢◌, ℕ, Bool, true, false, not, List, [], ◌++◌, map, Some, None}
 use Rattle.std.specs.List.{AllByRecursion}
 use Rattle.swp_base.specs.InMemory.{Memory}
@@ -11,6 +11,7 @@ use Rattle.node_sites.specs.declared.noted.Noted.{Noted}
 use Rattle.node_sites.specs.Numbers.{with_session_number, session_at}
 use Rattle.node_core.specs.Running.{RunsAs, SendsOneByOne, between}
 use Rattle.node_core.specs.declared.node.Node.{Node}
+use Rattle.node_sites.specs.Powers.{node_memory}
 
 -- the frames that are fetched of an end one after another are all that are due, and behind them none is
 abbrev pub GoesOutWhole : LinkEnd → Type 0
@@ -21,45 +22,25 @@ abbrev pub as_kept : Port → Port
 as_kept p = between p
 
 -- a node as a step of it begins, all of whose frames went out: over its memory, in which nothing was written yet
-pub record BeginsOver {P : Type 0} (Runs : P → Core → List Port → Type 0) (memory_of : P → Memory) (n : P) (w : Work) : Type 0 where
+pub record BeginsOver (Runs : Node Memory → Core → List Port → Type 0) (n : Node Memory) (w : Work) : Type 0 where
   pub runs : Runs n w.core w.ports
   pub sent : AllByRecursion (λ (p : Port). next_frame p.side ≡ None) w.ports
   pub fresh : AllByRecursion (λ (p : Port). (p.late ≡ false) × (p.ended ≡ false)) w.ports
   pub power : w.cut ≡ false
-  pub plan : w.plan ≡ (memory_of n).plan
+  pub plan : w.plan ≡ (node_memory n).plan
   pub writes : w.writes ≡ []
 
 -- It has an end of the link with this host.
-pub record BeginsAt {P : Type 0} (Runs : P → Core → List Port → Type 0) (memory_of : P → Memory) (n : P) (host : ℕ) (w : Work) : Type 0 where
-  pub begins : BeginsOver Runs memory_of n w
+pub record BeginsAt (Runs : Node Memory → Core → List Port → Type 0) (n : Node Memory) (host : ℕ) (w : Work) : Type 0 where
+  pub begins : BeginsOver Runs n w
   pub port : Port
   pub here : port_at w.ports host ≡ Some port
 
--- a step may begin
-pub record MayBeginStep {P : Type 0} (Runs : P → Core → List Port → Type 0) (n : P) : Type 0 where
-  pub core : Core
-  pub ports : List Port
-  pub runs : Runs n core ports
-  pub sent : AllByRecursion (λ (p : Port). next_frame p.side ≡ None) ports
-
--- a node has an end of the link with this host, of which these ports tell
-pub record HasEndOf {P : Type 0} (Runs : P → Core → List Port → Type 0) (n : P) (host : ℕ) : Type 0 where
-  pub core : Core
-  pub ports : List Port
-  pub runs : Runs n core ports
-  pub port : Port
-  pub here : port_at ports host ≡ Some port
-
--- a step may begin in which something comes to that end
-pub record MayBeginAt {P : Type 0} (Runs : P → Core → List Port → Type 0) (n : P) (host : ℕ) : Type 0 where
-  pub has : HasEndOf Runs n host
-  pub sent : AllByRecursion (λ (p : Port). next_frame p.side ≡ None) has.ports
-
 -- A node that was old has become new in a step behind which it is k: it runs on, or has lost its power, over a memory in which the step's
 -- writes were made. These were noted, while there was memory for them, and nothing is said of them where there wasn't.
-pub record HasGone {P : Type 0} (Runs : P → Core → List Port → Type 0) (memory_of : P → Memory) (old new : P) (k : Work) (live : Bool) : Type 0 where
+pub record HasGone (Runs : Node Memory → Core → List Port → Type 0) (old new : Node Memory) (k : Work) (live : Bool) : Type 0 where
   pub power : k.cut ≡ not live
-  pub memory : memory_of new ≡ after_planned k.writes (memory_of old)
+  pub memory : node_memory new ≡ after_planned k.writes (node_memory old)
   pub runs : live ≡ true → Runs new k.core k.ports
 
 -- a host runs so, whose number isn't that of a controller

@@ -4,7 +4,6 @@
 
 pub mod copying;
 pub mod memory;
-pub mod nodes;
 pub mod noted;
 pub mod places;
 pub mod power;

@@ -5,7 +5,6 @@ use Rattle.std.specs.Prelude.{is_some, slice_set, Option, Some, None}
 use Rattle.std.specs.List.{AllByRecursion}
 use Rattle.std.proofs.lemmas.Bool.{eq-eqb}
 use Rattle.std.proofs.lemmas.List.{map-append}
-use Rattle.swp_base.specs.InMemory.{Memory}
 use Rattle.trace_model.specs.Lines.{IsHost}
 use Rattle.trace_model.specs.declared.line.End.{End}
 use Rattle.trace_model.specs.declared.entry.Entry.{Entry}
@@ -15,7 +14,7 @@ use Rattle.link_laws.specs.machine.Machine.{LinkInput}
 use Rattle.link_laws.specs.machine.Machine.LinkInput.{Take, Reset, Start, Stop}
 use Rattle.link_laws.specs.messages.Links.{Link, Comes, NumberedEnd, exchanged}
 use Rattle.link_laws.specs.messages.Links.Comes.{NextFrame, AsksReset, Starts, Stops, NoInput}
-use Rattle.node_machine.specs.Parts.{Core, Desk, Port, Running}
+use Rattle.node_machine.specs.Parts.{Desk, Port, Running}
 use Rattle.node_machine.specs.Node.{new_desk}
 use Rattle.node_machine.specs.world.World.{NodeWorld, Site, site_at, with_site, input_of, port_for, end_c, end_h}
 use Rattle.node_laws.specs.kept.Hosts.{AreDifferent}
@@ -24,15 +23,16 @@ use Rattle.node_sites.specs.declared.places.HostSite.{HostSite}
 use Rattle.node_world.specs.Bounds.{AcksWithin, FewOn, FewBehind, IsFromOutside}
 use Rattle.node_world.specs.Controllers.{SitesAre, MayGoOn, StandsAt}
 use Rattle.node_world.specs.HostSteps.{IsHostOf, CountsOn, CountsComing, HasBecome}
-use Rattle.node_sites.specs.declared.power.Power.{Power}
 use Rattle.node_sites.specs.declared.power.Power.TheVariants.{On, Off}
-use Rattle.node_sites.specs.Powers.{IsNodePlace, is_on}
+use Rattle.node_sites.specs.Powers.{IsNodePlace, is_on, NodePower}
 use Rattle.node_sites.specs.Places.{SiteIs}
 use Rattle.node_world.specs.Whole.{IsWithinBounds, SitesBecome}
 use Rattle.node_world.proofs.CountsStay.{counts_few_at_end, resets_fit}
 use Rattle.node_world.proofs.FramesToAll.{others_before, of_these}
 use Rattle.node_world.proofs.HostsInWorlds.{ChangesSite}
 use Rattle.node_world.proofs.SitesKept.{read_there, written_there}
+use Rattle.node_sites.specs.WorldNodes.{RunsAsHost}
+use Rattle.node_sites.specs.GivenMessages.{given_messages}
 
 -- ## Where it stands
 
@@ -108,80 +108,72 @@ from_outside l (Starts value) i q = let one : Start value ≡ i = cc in subst Is
 from_outside l Stops i q = let one : Stop ≡ i = cc in subst IsFromOutside one tt
 from_outside l NoInput i q = absurd (cc q)
 
-module _ (P : Type 0) (Runs : P → Core → List Port → Type 0) (memory_of : P → Memory) where
-  abbrev pub GivesSendable : Type 0
-  GivesSendable = (n : P) (core : Core) (ports : List Port) → Runs n core ports → AllByRecursion (λ (p : Port). AreSendable p.side.sent) ports
+first_sendable : (e : NumberedEnd) (h : ℕ) (desks : List Desk) → map (λ (d : Desk). d.host) desks ≡ h ∷ []
+    → AllByRecursion (λ (p : Port). AreSendable p.side.sent) (map (λ (d : Desk). port_for e d) desks) → AreSendable e.side.sent
+first_sendable e h [] q a = absurd (cc q)
+first_sendable e h (d ∷ desks) q a = a.0
 
-  first_sendable : (e : NumberedEnd) (h : ℕ) (desks : List Desk) → map (λ (d : Desk). d.host) desks ≡ h ∷ []
-      → AllByRecursion (λ (p : Port). AreSendable p.side.sent) (map (λ (d : Desk). port_for e d) desks) → AreSendable e.side.sent
-  first_sendable e h [] q a = absurd (cc q)
-  first_sendable e h (d ∷ desks) q a = a.0
+pub sendable_on : (k : HostSite) (s : Site) (r : Running) → SiteIs k s → IsHostOf s → s.node ≡ Some r → AreSendable s.link.host.side.sent
+sendable_on k s r is host runs = go k.power s.node refl is.place host.ends runs
+  where
+    near : ℕ → NumberedEnd
+    near h = s.link.host
 
-  pub sendable_on : (k : HostSite P) (s : Site) (r : Running) → GivesSendable → SiteIs Runs memory_of k s → IsHostOf s → s.node ≡ Some r
-      → AreSendable s.link.host.side.sent
-  sendable_on k s r given is host runs = go k.power s.node refl is.place host.ends runs
-    where
-      near : ℕ → NumberedEnd
-      near h = s.link.host
+    go : (power : NodePower) (node : Option Running) → s.node ≡ node → IsNodePlace RunsAsHost power s.memory node near
+        → IfItRuns s.host (s.host ∷ []) node → node ≡ Some r → AreSendable s.link.host.side.sent
+    go (On n) (Some q) e place ends runs =
+        first_sendable s.link.host s.host q.desks ends.ends (given_messages n q.core (map (λ (d : Desk). port_for s.link.host d) q.desks) place.1.runs)
+    go power None e place ends runs = absurd (cc runs)
+    go (Off m) (Some q) e place ends runs = absurd place
 
-      go : (power : Power P) (node : Option Running) → s.node ≡ node → IsNodePlace Runs memory_of power s.memory node near
-          → IfItRuns s.host (s.host ∷ []) node → node ≡ Some r → AreSendable s.link.host.side.sent
-      go (On n) (Some q) e place ends runs =
-          first_sendable s.link.host s.host q.desks ends.ends (given n q.core (map (λ (d : Desk). port_for s.link.host d) q.desks) place.1)
-      go power None e place ends runs = absurd (cc runs)
-      go (Off m) (Some q) e place ends runs = absurd place
+pub counts_coming : (k : HostSite) (s : Site) (comes : Comes) → SiteIs k s → IsHostOf s → FewOn 300000000 s.link → CountsComing s comes
+counts_coming k s comes is host few r i runs q =
+    counts_on 300000000 s.link.host i (omega arith) (from_outside (exchanged s.link) comes i q) few.host (sendable_on k s r is host runs)
 
-  pub counts_coming : (k : HostSite P) (s : Site) (comes : Comes) → GivesSendable → SiteIs Runs memory_of k s → IsHostOf s → FewOn 300000000 s.link
-      → CountsComing s comes
-  counts_coming k s comes given is host few r i runs q =
-      counts_on 300000000 s.link.host i (omega arith) (from_outside (exchanged s.link) comes i q) few.host
-      (sendable_on k s r given is host runs)
+pub room_there : (k : HostSite) (s : Site) → SiteIs k s → FewOn 300000000 s.link → k.wires.resets + 17 < 2 ^ 32
+room_there k s is few = let fit = resets_fit 300000000 s.link (omega arith) few in let same = is.wires.count in omega (arith, fit, same)
 
-  pub room_there : (k : HostSite P) (s : Site) → SiteIs Runs memory_of k s → FewOn 300000000 s.link → k.wires.resets + 17 < 2 ^ 32
-  room_there k s is few = let fit = resets_fit 300000000 s.link (omega arith) few in let same = is.wires.count in omega (arith, fit, same)
+-- ## It becomes another one
 
-  -- ## It becomes another one
+pub becomes : (ks : List HostSite) (w : NodeWorld) (i h : ℕ) (a : StandsAt i h w.sites) (new : HostSite) (before later : List Entry)
+    (after : Site × List Entry) (now : NodeWorld × List Entry) → IsOrderly w → SitesAre ks w.sites → ChangesSite w h a.site after now
+    → HasBecome new before later after → SitesBecome (slice_set ks i new) before later now
+becomes ks w i h a new before later after now o all c b =
+    let same : now.0.sites ≡ a.front ++ after.0 ∷ a.back =
+    ap (λ (v : NodeWorld). v.sites) c.world ∙ (site_changes w i h a c.change o ∙ ap (λ s. a.front ++ s ∷ a.back) c.site) in
+    record {
+      sites = subst (SitesAre (slice_set ks i new)) (sym same)
+          (written_there ks a.front a.site after.0 a.back i new a.place (subst (SitesAre ks) a.is all) b.site);
+      noted = b.noted ∙ ap (λ es. before ++ es) (sym c.entries);
+    }
 
-  pub becomes : (ks : List (HostSite P)) (w : NodeWorld) (i h : ℕ) (a : StandsAt i h w.sites) (new : HostSite P) (before later : List Entry)
-      (after : Site × List Entry) (now : NodeWorld × List Entry) → IsOrderly w → SitesAre Runs memory_of ks w.sites → ChangesSite w h a.site after now
-      → HasBecome Runs memory_of new before later after → SitesBecome Runs memory_of (slice_set ks i new) before later now
-  becomes ks w i h a new before later after now o all c b =
-      let same : now.0.sites ≡ a.front ++ after.0 ∷ a.back =
-      ap (λ (v : NodeWorld). v.sites) c.world ∙ (site_changes w i h a c.change o ∙ ap (λ s. a.front ++ s ∷ a.back) c.site) in
-      record {
-        sites = subst (SitesAre Runs memory_of (slice_set ks i new)) (sym same)
-            (written_there P Runs memory_of ks a.front a.site after.0 a.back i new a.place (subst (SitesAre Runs memory_of ks) a.is all) b.site);
-        noted = b.noted ∙ ap (λ es. before ++ es) (sym c.entries);
-      }
+pub reads : (ks : List HostSite) (w : NodeWorld) (i h : ℕ) (a : StandsAt i h w.sites) (k : HostSite) → SitesAre ks w.sites → k ≡ get_or ks i k → SiteIs k a.site
+reads ks w i h a k all read = read_there ks a.front a.site a.back i k a.place (subst (SitesAre ks) a.is all) read
 
-  pub reads : (ks : List (HostSite P)) (w : NodeWorld) (i h : ℕ) (a : StandsAt i h w.sites) (k : HostSite P) → SitesAre Runs memory_of ks w.sites
-      → k ≡ get_or ks i k → SiteIs Runs memory_of k a.site
-  reads ks w i h a k all read = read_there P Runs memory_of ks a.front a.site a.back i k a.place (subst (SitesAre Runs memory_of ks) a.is all) read
+-- what stands at its place
+pub record At (k : HostSite) (s : Site) : Type 0 where
+  pub is : SiteIs k s
+  pub host : IsHostOf s
+  pub few : FewOn 300000000 s.link
 
-  -- what stands at its place
-  pub record At (k : HostSite P) (s : Site) : Type 0 where
-    pub is : SiteIs Runs memory_of k s
-    pub host : IsHostOf s
-    pub few : FewOn 300000000 s.link
+pub at_place : (ks : List HostSite) (w : NodeWorld) (i h : ℕ) (a : StandsAt i h w.sites) (k : HostSite) → SitesAre ks w.sites
+    → k ≡ get_or ks i k → IsWithinBounds w → At (get_or ks i k) a.site
+at_place ks w i h a k all read ready =
+    record {
+      is = subst (λ x. SiteIs x a.site) read (reads ks w i h a k all read);
+      host = is_host w i h a ready.goes_on;
+      few = few_there w i h a 300000000 ready.few;
+    }
 
-  pub at_place : (ks : List (HostSite P)) (w : NodeWorld) (i h : ℕ) (a : StandsAt i h w.sites) (k : HostSite P) → SitesAre Runs memory_of ks w.sites
-      → k ≡ get_or ks i k → IsWithinBounds w → At (get_or ks i k) a.site
-  at_place ks w i h a k all read ready =
-      record {
-        is = subst (λ x. SiteIs Runs memory_of x a.site) read (reads ks w i h a k all read);
-        host = is_host w i h a ready.goes_on;
-        few = few_there w i h a 300000000 ready.few;
-      }
-
-  -- it runs where its place does
-  pub runs_alike : (k : HostSite P) (s : Site) → SiteIs Runs memory_of k s → is_on k.power ≡ is_some s.node
-  runs_alike k s is = go k.power s.node is.place
-    where
-      go : (power : Power P) (node : Option Running) → IsNodePlace Runs memory_of power s.memory node (λ h. s.link.host) → is_on power ≡ is_some node
-      go (On n) (Some r) place = refl
-      go (On n) None place = absurd place
-      go (Off m) None place = refl
-      go (Off m) (Some r) place = absurd place
+-- it runs where its place does
+pub runs_alike : (k : HostSite) (s : Site) → SiteIs k s → is_on k.power ≡ is_some s.node
+runs_alike k s is = go k.power s.node is.place
+  where
+    go : (power : NodePower) (node : Option Running) → IsNodePlace RunsAsHost power s.memory node (λ h. s.link.host) → is_on power ≡ is_some node
+    go (On n) (Some r) place = refl
+    go (On n) None place = absurd place
+    go (Off m) None place = refl
+    go (Off m) (Some r) place = absurd place
 
 -- ## Ends
 

@@ -2,20 +2,19 @@
 use Rattle.std.proofs.Common.{◌≡◌, ℕ, ◌==◌, Bool, true, false, List, [], ◌∷◌, ◌++◌, map, refl, ap, sym, subst, ◌∙◌, append_assoc}
 use Rattle.std.specs.Prelude.{Option, Some, None}
 use Rattle.std.specs.List.{AllByRecursion}
-use Rattle.swp_base.specs.InMemory.{Memory}
 use Rattle.trace_model.specs.Lines.{IsHost}
 use Rattle.trace_model.specs.declared.entry.Entry.{Entry}
 use Rattle.link_laws.specs.messages.Links.{NumberedEnd, aged}
-use Rattle.node_machine.specs.Parts.{Core, Desk, Running, Port}
+use Rattle.node_machine.specs.Parts.{Desk, Running}
 use Rattle.node_machine.specs.Node.NodeInput.{TimePasses}
 use Rattle.node_machine.specs.world.World.{NodeWorld, Site, site_at, link_to, port_for, all_aged, controller_ticks}
 use Rattle.node_laws.specs.telling.Telling.{IsTimely, hosts_in}
 use Rattle.node_laws.proofs.telling.Events.{orderly_map}
-use Rattle.node_sites.specs.declared.power.Power.{Power}
 use Rattle.node_sites.specs.declared.places.HostSite.{HostSite}
 use Rattle.node_sites.specs.Numbers.{CountsFew}
-use Rattle.node_sites.specs.Powers.{IsNodePlace}
+use Rattle.node_sites.specs.Powers.{IsNodePlace, NodePower}
 use Rattle.node_world.specs.Controllers.{SitesAre, WorldIs, WorldBecomes, MayGoOn, AreTimely, FewAreCounted, near_ticks}
+use Rattle.node_core.specs.Running.{RunsAs}
 
 -- a host whose frames have grown older
 abbrev pub older : Site → Site
@@ -87,20 +86,16 @@ older_few w few = go w.controller few
         let F : (ℕ → NumberedEnd) → Type 0 = λ near. CountsFew TimePasses (map (λ (d : Desk). port_for (near d.host) d) r.desks) in
         subst F (sym (all_near w.sites)) a
 
-module _ (C P : Type 0) (CRuns : C → Core → List Port → Type 0) (c_memory : C → Memory) (PRuns : P → Core → List Port → Type 0) (p_memory : P → Memory)
-  where
-    pub older_is : (k : Power C) (ks news : List (HostSite P)) (w : NodeWorld) → WorldIs CRuns c_memory PRuns p_memory k ks w
-        → SitesAre PRuns p_memory news (map older w.sites) → WorldIs CRuns c_memory PRuns p_memory k news (older_world w)
-    older_is k ks news w world sites =
-        let Q : (ℕ → NumberedEnd) → Type 0 = λ near. IsNodePlace CRuns c_memory k w.memory w.controller near in
-        record { controller = subst Q (sym (all_near w.sites)) world.controller; sites = sites }
+pub older_is : (k : NodePower) (ks news : List HostSite) (w : NodeWorld) → WorldIs k ks w → SitesAre news (map older w.sites) → WorldIs k news (older_world w)
+older_is k ks news w world sites =
+    let Q : (ℕ → NumberedEnd) → Type 0 = λ near. IsNodePlace RunsAs k w.memory w.controller near in
+    record { controller = subst Q (sym (all_near w.sites)) world.controller; sites = sites }
 
-    pub then_ticks : (k : Power C) (ks : List (HostSite P)) (w : NodeWorld) (before mid now : List Entry) → mid ≡ before ++ (all_aged w).1
-        → WorldBecomes CRuns c_memory PRuns p_memory k ks mid now (controller_ticks (older_world w))
-        → WorldBecomes CRuns c_memory PRuns p_memory k ks before now (near_ticks w)
-    then_ticks k ks w before mid now noted b =
-        let told : List Entry = (controller_ticks (older_world w)).1 in
-        record {
-          world = b.world;
-          noted = b.noted ∙ (ap (λ es. es ++ told) noted ∙ append_assoc before (all_aged w).1 told);
-        }
+pub then_ticks : (k : NodePower) (ks : List HostSite) (w : NodeWorld) (before mid now : List Entry) → mid ≡ before ++ (all_aged w).1
+    → WorldBecomes k ks mid now (controller_ticks (older_world w)) → WorldBecomes k ks before now (near_ticks w)
+then_ticks k ks w before mid now noted b =
+    let told : List Entry = (controller_ticks (older_world w)).1 in
+    record {
+      world = b.world;
+      noted = b.noted ∙ (ap (λ es. es ++ told) noted ∙ append_assoc before (all_aged w).1 told);
+    }

@@ -4,7 +4,6 @@ use Rattle.std.specs.Prelude.{if◌then◌else◌, Option, Some, None}
 use Rattle.std.specs.List.{AllByRecursion, flat_map}
 use Rattle.std.specs.Option.{option_map_or}
 use Rattle.std.proofs.lemmas.Bool.{eqb-true}
-use Rattle.swp_base.specs.InMemory.{Memory}
 use Rattle.swp_base.specs.declared.control_frames.Control.{Control}
 use Rattle.link_laws.specs.sessions.Sessions.{OnWire, is_rset, is_up, fits}
 use Rattle.link_laws.proofs.entries.Lasting.{same_number}
@@ -15,7 +14,7 @@ use Rattle.link_laws.specs.entries.Entries.{End as Side, far, pushed_out, wire_w
 use Rattle.link_laws.specs.entries.Entries.End.{Controller}
 use Rattle.link_laws.specs.entries.Entries.Entry.{Emit}
 use Rattle.history.specs.Steps.{entries_for}
-use Rattle.node_machine.specs.Parts.{Core, Port, Work}
+use Rattle.node_machine.specs.Parts.{Port, Work}
 use Rattle.node_machine.specs.Carrying.{port_at, with_port, changed_if}
 use Rattle.node_machine.specs.world.World.{Site, ending_of, frames_noted}
 use Rattle.node_laws.specs.kept.Hosts.{AreDifferent}
@@ -30,6 +29,7 @@ use Rattle.node_sites.specs.Powers.{IsNodePlace}
 use Rattle.node_sites.specs.Places.{SiteIs}
 use Rattle.node_world.specs.Controllers.{SitesAre, due_at, sent_to, has_frames, frames_emitted, HasOneEnd, with_bare_link}
 use Rattle.node_world.proofs.GoingOn.{same_stand, silent_same, same_twice, ended_far}
+use Rattle.node_sites.specs.WorldNodes.{RunsAsHost}
 
 -- ## Its ends
 
@@ -174,68 +174,66 @@ module _ (v : Work) (starts out : Site → Link) (so : Site → Ending → Link)
       ∙ cut_silent s.host v.ports (out s) in
       ap (λ xs. xs ++ flat_map (λ (s : Site). frames_noted Controller s.host (out s) v) sites) one ∙ none_told sites off
 
-  module _ (P : Type 0) (PRuns : P → Core → List Port → Type 0) (p_memory : P → Memory) where
-    abbrev pub starts_so : Site → Site
-    starts_so s = record s { link = starts s }
+  abbrev pub starts_so : Site → Site
+  starts_so s = record s { link = starts s }
 
-    abbrev pub ends_so : Ending → Site → Site
-    ends_so e s = record s { link = so s e }
+  abbrev pub ends_so : Ending → Site → Site
+  ends_so e s = record s { link = so s e }
 
-    abbrev Near : HostSite P → Site → Link → Type 0
-    Near k s l = SiteIs PRuns p_memory k (record s { link = l })
+  abbrev Near : HostSite → Site → Link → Type 0
+  Near k s l = SiteIs k (record s { link = l })
 
-    placed : (k : HostSite P) (s : Site) (l m : Link) → m.host ≡ l.host → WiresStandFor k.wires m → Near k s l → Near k s m
-    placed k s l m q wires a =
-        let Q : NumberedEnd → Type 0 = λ e. IsNodePlace PRuns p_memory k.power s.memory s.node (λ h. e) in
-        record { host = a.host; wires = wires; place = subst Q (sym q) a.place }
+  placed : (k : HostSite) (s : Site) (l m : Link) → m.host ≡ l.host → WiresStandFor k.wires m → Near k s l → Near k s m
+  placed k s l m q wires a =
+      let Q : NumberedEnd → Type 0 = λ e. IsNodePlace RunsAsHost k.power s.memory s.node (λ h. e) in
+      record { host = a.host; wires = wires; place = subst Q (sym q) a.place }
 
-    pub midway_stands : (ks : List (HostSite P)) (sites : List Site) (a : EachSteps sites) → SitesAre PRuns p_memory ks (map starts_so sites)
-        → SitesAre PRuns p_memory ks (midway sites a)
-    midway_stands [] [] a b = tt
-    midway_stands (k ∷ ks) (s ∷ sites) a b = (placed k s (starts s) a.0.link a.0.far (same_stand a.0.wires b.0.wires) b.0, midway_stands ks sites a.1 b.1)
-    midway_stands [] (s ∷ sites) a b = absurd b
-    midway_stands (k ∷ ks) [] a b = absurd b
+  pub midway_stands : (ks : List HostSite) (sites : List Site) (a : EachSteps sites) → SitesAre ks (map starts_so sites) → SitesAre ks (midway sites a)
+  midway_stands [] [] a b = tt
+  midway_stands (k ∷ ks) (s ∷ sites) a b = (placed k s (starts s) a.0.link a.0.far (same_stand a.0.wires b.0.wires) b.0, midway_stands ks sites a.1 b.1)
+  midway_stands [] (s ∷ sites) a b = absurd b
+  midway_stands (k ∷ ks) [] a b = absurd b
 
-    pub out_stands : (ks : List (HostSite P)) (sites : List Site) (a : EachSteps sites)
-        → SitesAre PRuns p_memory ks (map (has_frames v.ports) (midway sites a)) → SitesAre PRuns p_memory ks (map (ends_so GoesOut) sites)
-    out_stands [] [] a b = tt
-    out_stands [] (s ∷ sites) a b = absurd b
-    out_stands (k ∷ ks) [] a b = absurd b
-    out_stands (k ∷ ks) (s ∷ sites) a b = (one, out_stands ks sites a.1 b.1)
-      where
-        one : SiteIs PRuns p_memory k (ends_so GoesOut s)
-        one =
-            let e : EndSteps v s (starts s) (out s) (so s) = a.0 in
-            let due : due_at v.ports s.host ≡ frames_out e.port.side = ap (λ o. option_map_or (λ (p : Port). frames_out p.side) o []) e.here in
-            let F : List Control → Type 0 = λ cs. Near k s (put_all e.link cs) in
-            let sent : Near k s (put_all e.link (frames_out e.port.side)) = subst F due b.0 in
-            let w = sent.wires in
-            let L : Link → Type 0 = λ l. Near k s l in
-            subst L (sym e.goes_out)
-            (record {
-              host = sent.host;
-              wires = record {
-                here = record { emitted_is = w.here.emitted_is; took_is = w.here.took_is; wire_is = w.here.wire_is };
-                there = w.there;
-                count = w.count;
-              };
-              place = sent.place;
-            })
+  pub out_stands : (ks : List HostSite) (sites : List Site) (a : EachSteps sites)
+      → SitesAre ks (map (has_frames v.ports) (midway sites a)) → SitesAre ks (map (ends_so GoesOut) sites)
+  out_stands [] [] a b = tt
+  out_stands [] (s ∷ sites) a b = absurd b
+  out_stands (k ∷ ks) [] a b = absurd b
+  out_stands (k ∷ ks) (s ∷ sites) a b = (one, out_stands ks sites a.1 b.1)
+    where
+      one : SiteIs k (ends_so GoesOut s)
+      one =
+          let e : EndSteps v s (starts s) (out s) (so s) = a.0 in
+          let due : due_at v.ports s.host ≡ frames_out e.port.side = ap (λ o. option_map_or (λ (p : Port). frames_out p.side) o []) e.here in
+          let F : List Control → Type 0 = λ cs. Near k s (put_all e.link cs) in
+          let sent : Near k s (put_all e.link (frames_out e.port.side)) = subst F due b.0 in
+          let w = sent.wires in
+          let L : Link → Type 0 = λ l. Near k s l in
+          subst L (sym e.goes_out)
+          (record {
+            host = sent.host;
+            wires = record {
+              here = record { emitted_is = w.here.emitted_is; took_is = w.here.took_is; wire_is = w.here.wire_is };
+              there = w.there;
+              count = w.count;
+            };
+            place = sent.place;
+          })
 
-    pub off_stands : (ks : List (HostSite P)) (sites : List Site) (a : EachSteps sites)
-        → SitesAre PRuns p_memory ks (map with_bare_link (midway sites a)) → SitesAre PRuns p_memory ks (map (ends_so CutOff) sites)
-    off_stands [] [] a b = tt
-    off_stands [] (s ∷ sites) a b = absurd b
-    off_stands (k ∷ ks) [] a b = absurd b
-    off_stands (k ∷ ks) (s ∷ sites) a b = (one, off_stands ks sites a.1 b.1)
-      where
-        one : SiteIs PRuns p_memory k (ends_so CutOff s)
-        one =
-            let e : EndSteps v s (starts s) (out s) (so s) = a.0 in
-            let m : Link = with_controller e.link (sent_all e.port.side) in
-            let same : SameWires (with_bare_wires e.link) (with_bare_wires m) =
-            record { to_controller = refl; to_host = refl; resets = refl; controller = (refl, refl); host = (refl, refl) } in
-            let gone : SameWires (with_bare_wires e.link) (cut m) = same_twice same (silent_same m (new_link_end (renewed m.controller.side.role))) in
-            let L : Link → Type 0 = λ l. Near k s l in
-            subst L (sym e.goes_off)
-            (placed k s (with_bare_wires e.link) (cut m) (ended_far m (is_up m.controller.side.shdlc.phase)) (same_stand gone b.0.wires) b.0)
+  pub off_stands : (ks : List HostSite) (sites : List Site) (a : EachSteps sites)
+      → SitesAre ks (map with_bare_link (midway sites a)) → SitesAre ks (map (ends_so CutOff) sites)
+  off_stands [] [] a b = tt
+  off_stands [] (s ∷ sites) a b = absurd b
+  off_stands (k ∷ ks) [] a b = absurd b
+  off_stands (k ∷ ks) (s ∷ sites) a b = (one, off_stands ks sites a.1 b.1)
+    where
+      one : SiteIs k (ends_so CutOff s)
+      one =
+          let e : EndSteps v s (starts s) (out s) (so s) = a.0 in
+          let m : Link = with_controller e.link (sent_all e.port.side) in
+          let same : SameWires (with_bare_wires e.link) (with_bare_wires m) =
+          record { to_controller = refl; to_host = refl; resets = refl; controller = (refl, refl); host = (refl, refl) } in
+          let gone : SameWires (with_bare_wires e.link) (cut m) = same_twice same (silent_same m (new_link_end (renewed m.controller.side.role))) in
+          let L : Link → Type 0 = λ l. Near k s l in
+          subst L (sym e.goes_off)
+          (placed k s (with_bare_wires e.link) (cut m) (ended_far m (is_up m.controller.side.shdlc.phase)) (same_stand gone b.0.wires) b.0)

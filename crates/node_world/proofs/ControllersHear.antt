@@ -12,7 +12,7 @@ use Rattle.link_laws.specs.messages.Links.{Link, NumberedEnd, Comes}
 use Rattle.link_laws.specs.messages.Links.Comes.{NextFrame, AsksReset, Starts, Stops, NoInput}
 use Rattle.link_laws.specs.entries.Entries.End.{Controller}
 use Rattle.history.specs.Steps.{entries_for}
-use Rattle.node_machine.specs.Parts.{Core, Running, Port}
+use Rattle.node_machine.specs.Parts.{Running}
 use Rattle.node_machine.specs.world.World.{NodeWorld, Site, site_at, with_site, link_to, input_of, arrival, comes_to, comes_at, end_c}
 use Rattle.node_machine.specs.Carrying.{changed_if}
 use Rattle.node_laws.specs.kept.Hosts.{AreDifferent}
@@ -22,40 +22,41 @@ use Rattle.node_sites.specs.declared.places.HostSite.{HostSite}
 use Rattle.node_sites.specs.declared.wires.WireEnd.{WireEnd}
 use Rattle.node_sites.specs.declared.wires.Wires.{Wires}
 use Rattle.node_sites.specs.LinksKept.{WiresStandFor, WireEndIs, without_first, as_it_comes, IsFirst}
-use Rattle.node_sites.specs.declared.power.Power.{Power}
 use Rattle.node_sites.specs.declared.power.Power.TheVariants.{On, Off}
-use Rattle.node_sites.specs.Powers.{IsNodePlace}
+use Rattle.node_sites.specs.Powers.{IsNodePlace, NodePower}
 use Rattle.node_sites.specs.Places.{SiteIs}
 use Rattle.node_world.specs.Controllers.{SitesAre, HaveRoom, StandsAt, as_it_comes_to}
 use Rattle.node_world.proofs.Behind.{each_found}
 use Rattle.node_world.proofs.FramesToAll.{of_these, others_before}
 use Rattle.node_world.proofs.SitesKept.{read_there, written_there}
+use Rattle.node_core.specs.declared.node.Node.{Node}
+use Rattle.node_core.specs.Running.{RunsAs}
+use Rattle.node_sites.specs.WorldNodes.{RunsAsHost}
 
 -- ## Its place
 
-module _ (C : Type 0) (Runs : C → Core → List Port → Type 0) (memory_of : C → Memory) where
-  -- the controller runs
-  pub record PlaceIsOn (m : Memory) (node : Option Running) (near : ℕ → NumberedEnd) (n : C) : Type 0 where
-    pub running : Running
-    pub runs : node ≡ Some running
-    pub place : IsNodePlace Runs memory_of (On n) m (Some running) near
+-- the controller runs
+pub record PlaceIsOn (m : Memory) (node : Option Running) (near : ℕ → NumberedEnd) (n : Node Memory) : Type 0 where
+  pub running : Running
+  pub runs : node ≡ Some running
+  pub place : IsNodePlace RunsAs (On n) m (Some running) near
 
-  pub place_is_on : (k : Power C) (m : Memory) (node : Option Running) (near : ℕ → NumberedEnd) (n : C) → k ≡ On n
-      → IsNodePlace Runs memory_of k m node near → PlaceIsOn m node near n
-  place_is_on k m node near n q place =
-      let Q : Power C → Type 0 = λ a. IsNodePlace Runs memory_of a m node near in
-      go node refl (subst Q q place)
-    where
-      go : (o : Option Running) → node ≡ o → IsNodePlace Runs memory_of (On n) m o near → PlaceIsOn m node near n
-      go (Some r) runs p = record { running = r; runs = runs; place = p }
-      go None runs p = absurd p
+pub place_is_on : (k : NodePower) (m : Memory) (node : Option Running) (near : ℕ → NumberedEnd) (n : Node Memory) → k ≡ On n
+    → IsNodePlace RunsAs k m node near → PlaceIsOn m node near n
+place_is_on k m node near n q place =
+    let Q : NodePower → Type 0 = λ a. IsNodePlace RunsAs a m node near in
+    go node refl (subst Q q place)
+  where
+    go : (o : Option Running) → node ≡ o → IsNodePlace RunsAs (On n) m o near → PlaceIsOn m node near n
+    go (Some r) runs p = record { running = r; runs = runs; place = p }
+    go None runs p = absurd p
 
-  -- or it doesn't
-  pub place_is_off : (k : Power C) (m : Memory) (node : Option Running) (near : ℕ → NumberedEnd) → ((n : C) → k ≡ On n → ⊥)
-      → IsNodePlace Runs memory_of k m node near → node ≡ None
-  place_is_off (On n) m node near q place = absurd (q n refl)
-  place_is_off (Off x) m None near q place = refl
-  place_is_off (Off x) m (Some r) near q place = absurd place
+-- or it doesn't
+pub place_is_off : (k : NodePower) (m : Memory) (node : Option Running) (near : ℕ → NumberedEnd) → ((n : Node Memory) → k ≡ On n → ⊥)
+    → IsNodePlace RunsAs k m node near → node ≡ None
+place_is_off (On n) m node near q place = absurd (q n refl)
+place_is_off (Off x) m None near q place = refl
+place_is_off (Off x) m (Some r) near q place = absurd place
 
 -- where it doesn't run, nothing comes
 pub comes_off : (w : NodeWorld) (h : ℕ) (comes : Comes) → w.controller ≡ None → comes_at w (end_c h) comes ≡ (w, [])
@@ -119,86 +120,83 @@ others_kept h f (s ∷ sites) a =
     let one : changed_if (s.host == h) f s ≡ s = rw q refl in
     ap₂ (λ (x : Site) xs. x ∷ xs) one (others_kept h f sites a.1)
 
-module _ (P : Type 0) (PRuns : P → Core → List Port → Type 0) (p_memory : P → Memory) where
-  -- what is kept of the host to whose link something comes
-  pub comes_there : (i h : ℕ) (comes : Comes) (ks : List (HostSite P)) (sites : List Site) (s : Site) (new : HostSite P) (p : StandsAt i h sites)
-      → AreDifferent (hosts_in sites) → p.site ≡ s → SitesAre PRuns p_memory ks sites → SiteIs PRuns p_memory new (record s { link = as_it_comes s.link comes })
-      → SitesAre PRuns p_memory (slice_set ks i new) (as_it_comes_to h comes sites)
-  comes_there i h comes ks sites s new p different is a now =
-      let f : Site → Site = λ x. record x { link = as_it_comes x.link (comes_to h comes x.host) } in
-      let host : s.host ≡ h = ap (λ (x : Site). x.host) (sym is) ∙ p.host in
-      let parts : sites ≡ p.front ++ s ∷ p.back = p.is ∙ ap (λ x. p.front ++ x ∷ p.back) is in
-      let names : AreDifferent (hosts_in p.front ++ h ∷ hosts_in p.back) =
-      subst AreDifferent (ap hosts_in parts ∙ (hosts-parts p.front s p.back ∙ ap (λ n. hosts_in p.front ++ n ∷ hosts_in p.back) host)) different in
-      let front : as_it_comes_to h comes p.front ≡ p.front = others_left h comes p.front (others_before (hosts_in p.front) h (hosts_in p.back) names) in
-      let back : as_it_comes_to h comes p.back ≡ p.back = others_left h comes p.back (others_behind (hosts_in p.front) h (hosts_in p.back) names) in
-      let there : (s.host == h) ≡ true = ap (λ n. n == h) host ∙ same_number h in
-      let one : f s ≡ record s { link = as_it_comes s.link comes } = rw there refl in
-      let all : as_it_comes_to h comes sites ≡ p.front ++ record s { link = as_it_comes s.link comes } ∷ p.back =
-      ap (as_it_comes_to h comes) parts ∙ (map-parts f p.front s p.back ∙ (ap (λ xs. xs ++ f s ∷ map f p.back) front
-      ∙ (ap (λ x. p.front ++ x ∷ map f p.back) one ∙ ap (λ xs. p.front ++ record s { link = as_it_comes s.link comes } ∷ xs) back))) in
-      let S : List Site → Type 0 = λ xs. SitesAre PRuns p_memory (slice_set ks i new) xs in
-      let before : SitesAre PRuns p_memory ks (p.front ++ s ∷ p.back) = subst (SitesAre PRuns p_memory ks) parts a in
-      subst S (sym all) (written_there P PRuns p_memory ks p.front s (record s { link = as_it_comes s.link comes }) p.back i new p.place before now)
+-- what is kept of the host to whose link something comes
+pub comes_there : (i h : ℕ) (comes : Comes) (ks : List HostSite) (sites : List Site) (s : Site) (new : HostSite) (p : StandsAt i h sites)
+    → AreDifferent (hosts_in sites) → p.site ≡ s → SitesAre ks sites → SiteIs new (record s { link = as_it_comes s.link comes })
+    → SitesAre (slice_set ks i new) (as_it_comes_to h comes sites)
+comes_there i h comes ks sites s new p different is a now =
+    let f : Site → Site = λ x. record x { link = as_it_comes x.link (comes_to h comes x.host) } in
+    let host : s.host ≡ h = ap (λ (x : Site). x.host) (sym is) ∙ p.host in
+    let parts : sites ≡ p.front ++ s ∷ p.back = p.is ∙ ap (λ x. p.front ++ x ∷ p.back) is in
+    let names : AreDifferent (hosts_in p.front ++ h ∷ hosts_in p.back) =
+    subst AreDifferent (ap hosts_in parts ∙ (hosts-parts p.front s p.back ∙ ap (λ n. hosts_in p.front ++ n ∷ hosts_in p.back) host)) different in
+    let front : as_it_comes_to h comes p.front ≡ p.front = others_left h comes p.front (others_before (hosts_in p.front) h (hosts_in p.back) names) in
+    let back : as_it_comes_to h comes p.back ≡ p.back = others_left h comes p.back (others_behind (hosts_in p.front) h (hosts_in p.back) names) in
+    let there : (s.host == h) ≡ true = ap (λ n. n == h) host ∙ same_number h in
+    let one : f s ≡ record s { link = as_it_comes s.link comes } = rw there refl in
+    let all : as_it_comes_to h comes sites ≡ p.front ++ record s { link = as_it_comes s.link comes } ∷ p.back =
+    ap (as_it_comes_to h comes) parts ∙ (map-parts f p.front s p.back ∙ (ap (λ xs. xs ++ f s ∷ map f p.back) front
+    ∙ (ap (λ x. p.front ++ x ∷ map f p.back) one ∙ ap (λ xs. p.front ++ record s { link = as_it_comes s.link comes } ∷ xs) back))) in
+    let S : List Site → Type 0 = λ xs. SitesAre (slice_set ks i new) xs in
+    let before : SitesAre ks (p.front ++ s ∷ p.back) = subst (SitesAre ks) parts a in
+    subst S (sym all) (written_there ks p.front s (record s { link = as_it_comes s.link comes }) p.back i new p.place before now)
 
-  -- what is kept of the one that is changed
-  pub changed_there : (i h : ℕ) (f : Site → Site) (ks : List (HostSite P)) (sites : List Site) (s : Site) (new : HostSite P) (p : StandsAt i h sites)
-      → AreDifferent (hosts_in sites) → p.site ≡ s → SitesAre PRuns p_memory ks sites → SiteIs PRuns p_memory new (f s)
-      → SitesAre PRuns p_memory (slice_set ks i new) (with_site h f sites)
-  changed_there i h f ks sites s new p different is a now =
-      let g : Site → Site = λ (x : Site). changed_if (x.host == h) f x in
-      let host : s.host ≡ h = ap (λ (x : Site). x.host) (sym is) ∙ p.host in
-      let parts : sites ≡ p.front ++ s ∷ p.back = p.is ∙ ap (λ x. p.front ++ x ∷ p.back) is in
-      let names : AreDifferent (hosts_in p.front ++ h ∷ hosts_in p.back) =
-      subst AreDifferent (ap hosts_in parts ∙ (hosts-parts p.front s p.back ∙ ap (λ n. hosts_in p.front ++ n ∷ hosts_in p.back) host)) different in
-      let front : with_site h f p.front ≡ p.front = others_kept h f p.front (others_before (hosts_in p.front) h (hosts_in p.back) names) in
-      let back : with_site h f p.back ≡ p.back = others_kept h f p.back (others_behind (hosts_in p.front) h (hosts_in p.back) names) in
-      let there : (s.host == h) ≡ true = ap (λ n. n == h) host ∙ same_number h in
-      let one : g s ≡ f s = rw there refl in
-      let all : with_site h f sites ≡ p.front ++ f s ∷ p.back =
-      ap (with_site h f) parts ∙ (map-parts g p.front s p.back ∙ (ap (λ xs. xs ++ g s ∷ map g p.back) front
-      ∙ (ap (λ x. p.front ++ x ∷ map g p.back) one ∙ ap (λ xs. p.front ++ f s ∷ xs) back))) in
-      let S : List Site → Type 0 = λ xs. SitesAre PRuns p_memory (slice_set ks i new) xs in
-      let before : SitesAre PRuns p_memory ks (p.front ++ s ∷ p.back) = subst (SitesAre PRuns p_memory ks) parts a in
-      subst S (sym all) (written_there P PRuns p_memory ks p.front s (f s) p.back i new p.place before now)
+-- what is kept of the one that is changed
+pub changed_there : (i h : ℕ) (f : Site → Site) (ks : List HostSite) (sites : List Site) (s : Site) (new : HostSite) (p : StandsAt i h sites)
+    → AreDifferent (hosts_in sites) → p.site ≡ s → SitesAre ks sites → SiteIs new (f s) → SitesAre (slice_set ks i new) (with_site h f sites)
+changed_there i h f ks sites s new p different is a now =
+    let g : Site → Site = λ (x : Site). changed_if (x.host == h) f x in
+    let host : s.host ≡ h = ap (λ (x : Site). x.host) (sym is) ∙ p.host in
+    let parts : sites ≡ p.front ++ s ∷ p.back = p.is ∙ ap (λ x. p.front ++ x ∷ p.back) is in
+    let names : AreDifferent (hosts_in p.front ++ h ∷ hosts_in p.back) =
+    subst AreDifferent (ap hosts_in parts ∙ (hosts-parts p.front s p.back ∙ ap (λ n. hosts_in p.front ++ n ∷ hosts_in p.back) host)) different in
+    let front : with_site h f p.front ≡ p.front = others_kept h f p.front (others_before (hosts_in p.front) h (hosts_in p.back) names) in
+    let back : with_site h f p.back ≡ p.back = others_kept h f p.back (others_behind (hosts_in p.front) h (hosts_in p.back) names) in
+    let there : (s.host == h) ≡ true = ap (λ n. n == h) host ∙ same_number h in
+    let one : g s ≡ f s = rw there refl in
+    let all : with_site h f sites ≡ p.front ++ f s ∷ p.back =
+    ap (with_site h f) parts ∙ (map-parts g p.front s p.back ∙ (ap (λ xs. xs ++ g s ∷ map g p.back) front
+    ∙ (ap (λ x. p.front ++ x ∷ map g p.back) one ∙ ap (λ xs. p.front ++ f s ∷ xs) back))) in
+    let S : List Site → Type 0 = λ xs. SitesAre (slice_set ks i new) xs in
+    let before : SitesAre ks (p.front ++ s ∷ p.back) = subst (SitesAre ks) parts a in
+    subst S (sym all) (written_there ks p.front s (f s) p.back i new p.place before now)
 
-  -- what is kept of it while nothing comes
-  pub stays_there : (i h : ℕ) (ks : List (HostSite P)) (sites : List Site) (s : Site) (new : HostSite P) (p : StandsAt i h sites) → p.site ≡ s
-      → SitesAre PRuns p_memory ks sites → SiteIs PRuns p_memory new s → SitesAre PRuns p_memory (slice_set ks i new) sites
-  stays_there i h ks sites s new p is a now =
-      let parts : sites ≡ p.front ++ s ∷ p.back = p.is ∙ ap (λ x. p.front ++ x ∷ p.back) is in
-      let S : List Site → Type 0 = λ xs. SitesAre PRuns p_memory (slice_set ks i new) xs in
-      subst S (sym parts) (written_there P PRuns p_memory ks p.front s s p.back i new p.place (subst (SitesAre PRuns p_memory ks) parts a) now)
+-- what is kept of it while nothing comes
+pub stays_there : (i h : ℕ) (ks : List HostSite) (sites : List Site) (s : Site) (new : HostSite) (p : StandsAt i h sites) → p.site ≡ s
+    → SitesAre ks sites → SiteIs new s → SitesAre (slice_set ks i new) sites
+stays_there i h ks sites s new p is a now =
+    let parts : sites ≡ p.front ++ s ∷ p.back = p.is ∙ ap (λ x. p.front ++ x ∷ p.back) is in
+    let S : List Site → Type 0 = λ xs. SitesAre (slice_set ks i new) xs in
+    subst S (sym parts) (written_there ks p.front s s p.back i new p.place (subst (SitesAre ks) parts a) now)
 
-  -- what is kept of the host at a place
-  pub site_read : (i h : ℕ) (ks : List (HostSite P)) (sites : List Site) (s : Site) (k : HostSite P) (p : StandsAt i h sites) → p.site ≡ s
-      → SitesAre PRuns p_memory ks sites → k ≡ get_or ks i k → SiteIs PRuns p_memory k s
-  site_read i h ks sites s k p is a read =
-      subst (SiteIs PRuns p_memory k) is
-      (read_there P PRuns p_memory ks p.front p.site p.back i k p.place (subst (SitesAre PRuns p_memory ks) p.is a) read)
+-- what is kept of the host at a place
+pub site_read : (i h : ℕ) (ks : List HostSite) (sites : List Site) (s : Site) (k : HostSite) (p : StandsAt i h sites) → p.site ≡ s
+    → SitesAre ks sites → k ≡ get_or ks i k → SiteIs k s
+site_read i h ks sites s k p is a read =
+    subst (SiteIs k) is (read_there ks p.front p.site p.back i k p.place (subst (SitesAre ks) p.is a) read)
 
-  -- it has these wires now
-  pub site_with : (k : HostSite P) (wires : Wires) (s : Site) (l : Link) → l.host ≡ s.link.host → WiresStandFor wires l → SiteIs PRuns p_memory k s
-      → SiteIs PRuns p_memory (record k { wires = wires }) (record s { link = l })
-  site_with k wires s l same w a =
-      let Q : NumberedEnd → Type 0 = λ e. IsNodePlace PRuns p_memory k.power s.memory s.node (λ h. e) in
-      record { host = a.host; wires = w; place = subst Q (sym same) a.place }
+-- it has these wires now
+pub site_with : (k : HostSite) (wires : Wires) (s : Site) (l : Link) → l.host ≡ s.link.host → WiresStandFor wires l → SiteIs k s
+    → SiteIs (record k { wires = wires }) (record s { link = l })
+site_with k wires s l same w a =
+    let Q : NumberedEnd → Type 0 = λ e. IsNodePlace RunsAsHost k.power s.memory s.node (λ h. e) in
+    record { host = a.host; wires = w; place = subst Q (sym same) a.place }
 
-  -- where all links have as many RSETs, there is as much room
-  pub room_kept : (ks news : List (HostSite P)) (sites after : List Site) → SitesAre PRuns p_memory ks sites → SitesAre PRuns p_memory news after
-      → map (λ (s : Site). s.link.resets) after ≡ map (λ (s : Site). s.link.resets) sites → HaveRoom ks → HaveRoom news
-  room_kept [] [] [] [] a b q r = tt
-  room_kept (k ∷ ks) (n ∷ news) (s ∷ sites) (t ∷ after) a b q r =
-      let N : ℕ → Type 0 = λ m. m + 17 < 2 ^ 32 in
-      let one : t.link.resets ≡ s.link.resets = cc in
-      let rest : map (λ (s : Site). s.link.resets) after ≡ map (λ (s : Site). s.link.resets) sites = cc in
-      (subst N (a.0.wires.count ∙ (sym one ∙ sym b.0.wires.count)) r.0, room_kept ks news sites after a.1 b.1 rest r.1)
-  room_kept ks (n ∷ news) sites [] a b q r = absurd b
-  room_kept ks [] sites (t ∷ after) a b q r = absurd b
-  room_kept (k ∷ ks) news [] after a b q r = absurd a
-  room_kept [] news (s ∷ sites) after a b q r = absurd a
-  room_kept [] (n ∷ news) [] (t ∷ after) a b q r = absurd (cc q)
-  room_kept (k ∷ ks) [] (s ∷ sites) [] a b q r = absurd (cc q)
+-- where all links have as many RSETs, there is as much room
+pub room_kept : (ks news : List HostSite) (sites after : List Site) → SitesAre ks sites → SitesAre news after
+    → map (λ (s : Site). s.link.resets) after ≡ map (λ (s : Site). s.link.resets) sites → HaveRoom ks → HaveRoom news
+room_kept [] [] [] [] a b q r = tt
+room_kept (k ∷ ks) (n ∷ news) (s ∷ sites) (t ∷ after) a b q r =
+    let N : ℕ → Type 0 = λ m. m + 17 < 2 ^ 32 in
+    let one : t.link.resets ≡ s.link.resets = cc in
+    let rest : map (λ (s : Site). s.link.resets) after ≡ map (λ (s : Site). s.link.resets) sites = cc in
+    (subst N (a.0.wires.count ∙ (sym one ∙ sym b.0.wires.count)) r.0, room_kept ks news sites after a.1 b.1 rest r.1)
+room_kept ks (n ∷ news) sites [] a b q r = absurd b
+room_kept ks [] sites (t ∷ after) a b q r = absurd b
+room_kept (k ∷ ks) news [] after a b q r = absurd a
+room_kept [] news (s ∷ sites) after a b q r = absurd a
+room_kept [] (n ∷ news) [] (t ∷ after) a b q r = absurd (cc q)
+room_kept (k ∷ ks) [] (s ∷ sites) [] a b q r = absurd (cc q)
 
 come_resets : (l : Link) (comes : Comes) → (as_it_comes l comes).resets ≡ l.resets
 come_resets l NextFrame = go l.to_controller

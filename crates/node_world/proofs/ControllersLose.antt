@@ -12,23 +12,22 @@ use Rattle.link_laws.specs.messages.Links.LinkEvent.{AtController}
 use Rattle.link_laws.specs.entries.Entries.{first_lost}
 use Rattle.link_laws.specs.entries.Entries.End.{Controller}
 use Rattle.history.specs.Steps.{entries_for}
-use Rattle.node_machine.specs.Parts.{Core, Desk, Running, Port}
+use Rattle.node_machine.specs.Parts.{Desk, Running, Port}
 use Rattle.node_machine.specs.Carrying.{with_port, changed_if}
 use Rattle.node_machine.specs.Node.{with_error}
 use Rattle.node_machine.specs.world.World.{NodeWorld, Site, site_at, with_site, link_to, port_for, counts, frame_lost, end_c}
-use Rattle.node_core.specs.Running.{one_more_error}
+use Rattle.node_core.specs.Running.{one_more_error, RunsAs}
 use Rattle.node_laws.specs.telling.Telling.{HasEnds, IfItRuns, hosts_in}
 use Rattle.node_laws.proofs.telling.Nodes.{link_is, stands, Stands}
 use Rattle.node_sites.specs.declared.places.HostSite.{HostSite}
-use Rattle.node_sites.specs.WorldNodes.{HasEndOf}
-use Rattle.node_sites.specs.declared.power.Power.{Power}
 use Rattle.node_sites.specs.declared.power.Power.TheVariants.{On}
-use Rattle.node_sites.specs.Powers.{IsNodePlace}
+use Rattle.node_sites.specs.Powers.{IsNodePlace, node_memory, NodePower}
 use Rattle.node_world.specs.HostSteps.{IsHostOf, is_broken}
 use Rattle.node_world.specs.Controllers.{SitesAre, WorldBecomes, MayGoOn, StandsAt}
 use Rattle.node_world.proofs.HostsLose.{counts_plain, counts_none, counts_one}
 use Rattle.node_world.proofs.FramesToAll.{of_these}
 use Rattle.node_world.proofs.ControllersHear.{hosts-parts}
+use Rattle.node_core.specs.declared.node.Node.{Node}
 
 -- a link on which it was lost
 abbrev pub lost_on : Loss → Site → Site
@@ -87,61 +86,45 @@ still_sent h near (d ∷ desks) a = (one (d.host == h), still_sent h near desks 
     one true = a.0
     one false = a.0
 
-module _ (C P : Type 0) (CRuns : C → Core → List Port → Type 0) (c_memory : C → Memory) (PRuns : P → Core → List Port → Type 0) (p_memory : P → Memory)
-  where
-    -- the controller has an end of the link
-    pub end_there : (w : NodeWorld) (h : ℕ) (s : Site) (r : Running) → MayGoOn w → w.controller ≡ Some r → site_at w.sites h ≡ Some s
-        → Stands (near_ends w.sites) r.desks h
-    end_there w h s r may runs found =
-        let node : HasEnds 0 (hosts_in w.sites) r = subst (IfItRuns 0 (hosts_in w.sites)) runs may.orderly.controller in
-        stands (near_ends w.sites) r.desks w.sites h s node.ends found
+-- the controller has an end of the link
+pub end_there : (w : NodeWorld) (h : ℕ) (s : Site) (r : Running) → MayGoOn w → w.controller ≡ Some r → site_at w.sites h ≡ Some s
+    → Stands (near_ends w.sites) r.desks h
+end_there w h s r may runs found =
+    let node : HasEnds 0 (hosts_in w.sites) r = subst (IfItRuns 0 (hosts_in w.sites)) runs may.orderly.controller in
+    stands (near_ends w.sites) r.desks w.sites h s node.ends found
 
-    pub has_end_there : (w : NodeWorld) (h : ℕ) (s : Site) (r : Running) (n : C) → MayGoOn w → w.controller ≡ Some r → site_at w.sites h ≡ Some s
-        → IsNodePlace CRuns c_memory (On n) w.memory (Some r) (near_ends w.sites) → HasEndOf CRuns n h
-    has_end_there w h s r n may runs found place =
-        let one = end_there w h s r may runs found in
-        record {
-          core = r.core;
-          ports = map (λ (d : Desk). port_for (near_ends w.sites d.host) d) r.desks;
-          runs = place.1;
-          port = port_for (near_ends w.sites h) one.desk;
-          here = one.here;
-        }
+-- it counts the frame that was refused
+pub counted_there : (w : NodeWorld) (h : ℕ) (r : Running) (n m : Node Memory) (why : Loss) → w.controller ≡ Some r → is_broken why ≡ true
+    → IsNodePlace RunsAs (On n) w.memory (Some r) (near_ends w.sites) → node_memory m ≡ node_memory n
+    → RunsAs m r.core (with_port h one_more_error (map (λ (d : Desk). port_for (near_ends w.sites d.host) d) r.desks))
+    → IsNodePlace RunsAs (On m) w.memory (counts why h w.controller) (near_ends w.sites)
+counted_there w h r n m why runs broken place memory now =
+    let O : Option Running → Type 0 = λ o. IsNodePlace RunsAs (On m) w.memory o (near_ends w.sites) in
+    let R : List Port → Type 0 = λ ps. RunsAs m r.core ps in
+    subst O (sym (ap (counts why h) runs ∙ counts_one why h r broken))
+    (memory ∙ place.0, subst R (error_ends h (near_ends w.sites) r.desks) now, still_sent h (near_ends w.sites) r.desks place.2)
 
-    -- it counts the frame that was refused
-    pub counted_there : (w : NodeWorld) (h : ℕ) (r : Running) (n m : C) (why : Loss) → w.controller ≡ Some r → is_broken why ≡ true
-        → IsNodePlace CRuns c_memory (On n) w.memory (Some r) (near_ends w.sites) → c_memory m ≡ c_memory n
-        → CRuns m r.core (with_port h one_more_error (map (λ (d : Desk). port_for (near_ends w.sites d.host) d) r.desks))
-        → IsNodePlace CRuns c_memory (On m) w.memory (counts why h w.controller) (near_ends w.sites)
-    counted_there w h r n m why runs broken place memory now =
-        let O : Option Running → Type 0 = λ o. IsNodePlace CRuns c_memory (On m) w.memory o (near_ends w.sites) in
-        let R : List Port → Type 0 = λ ps. CRuns m r.core ps in
-        subst O (sym (ap (counts why h) runs ∙ counts_one why h r broken))
-        (memory ∙ place.0, subst R (error_ends h (near_ends w.sites) r.desks) now, still_sent h (near_ends w.sites) r.desks place.2)
+-- what is kept stands for the world behind the loss
+pub lost_there : (k : NodePower) (ks : List HostSite) (w : NodeWorld) (h : ℕ) (s : Site) (why : Loss) (before now : List Entry)
+    → site_at w.sites h ≡ Some s → IsNodePlace RunsAs k w.memory (counts why h w.controller) (near_ends w.sites)
+    → SitesAre ks (with_site h (lost_on why) w.sites) → now ≡ before ++ entries_for h (first_lost Controller why s.link.to_controller)
+    → WorldBecomes k ks before now (frame_lost w (end_c h) why)
+lost_there k ks w h s why before now found place sites noted =
+    let Q : (ℕ → NumberedEnd) → Type 0 = λ near. IsNodePlace RunsAs k w.memory (counts why h w.controller) near in
+    record {
+      world = record { controller = subst Q (sym (all_near h why w.sites)) place; sites = sites };
+      noted = noted ∙ ap (λ (l : Link). before ++ entries_for h (first_lost Controller why l.to_controller)) (sym (link_is w.sites h s found));
+    }
 
-    -- what is kept stands for the world behind the loss
-    pub lost_there : (k : Power C) (ks : List (HostSite P)) (w : NodeWorld) (h : ℕ) (s : Site) (why : Loss) (before now : List Entry)
-        → site_at w.sites h ≡ Some s → IsNodePlace CRuns c_memory k w.memory (counts why h w.controller) (near_ends w.sites)
-        → SitesAre PRuns p_memory ks (with_site h (lost_on why) w.sites) → now ≡ before ++ entries_for h (first_lost Controller why s.link.to_controller)
-        → WorldBecomes CRuns c_memory PRuns p_memory k ks before now (frame_lost w (end_c h) why)
-    lost_there k ks w h s why before now found place sites noted =
-        let Q : (ℕ → NumberedEnd) → Type 0 = λ near. IsNodePlace CRuns c_memory k w.memory (counts why h w.controller) near in
-        record {
-          world = record { controller = subst Q (sym (all_near h why w.sites)) place; sites = sites };
-          noted = noted ∙ ap (λ (l : Link). before ++ entries_for h (first_lost Controller why l.to_controller)) (sym (link_is w.sites h s found));
-        }
+-- nothing counts: it wasn't refused, or the controller doesn't run
+pub plain_there : (k : NodePower) (w : NodeWorld) (h : ℕ) (why : Loss) → is_broken why ≡ false
+    → IsNodePlace RunsAs k w.memory w.controller (near_ends w.sites) → IsNodePlace RunsAs k w.memory (counts why h w.controller) (near_ends w.sites)
+plain_there k w h why q place =
+    let O : Option Running → Type 0 = λ o. IsNodePlace RunsAs k w.memory o (near_ends w.sites) in
+    subst O (sym (counts_plain why h w.controller q)) place
 
-    -- nothing counts: it wasn't refused, or the controller doesn't run
-    pub plain_there : (k : Power C) (w : NodeWorld) (h : ℕ) (why : Loss) → is_broken why ≡ false
-        → IsNodePlace CRuns c_memory k w.memory w.controller (near_ends w.sites)
-        → IsNodePlace CRuns c_memory k w.memory (counts why h w.controller) (near_ends w.sites)
-    plain_there k w h why q place =
-        let O : Option Running → Type 0 = λ o. IsNodePlace CRuns c_memory k w.memory o (near_ends w.sites) in
-        subst O (sym (counts_plain why h w.controller q)) place
-
-    pub off_there : (k : Power C) (w : NodeWorld) (h : ℕ) (why : Loss) → w.controller ≡ None
-        → IsNodePlace CRuns c_memory k w.memory w.controller (near_ends w.sites)
-        → IsNodePlace CRuns c_memory k w.memory (counts why h w.controller) (near_ends w.sites)
-    off_there k w h why q place =
-        let O : Option Running → Type 0 = λ o. IsNodePlace CRuns c_memory k w.memory o (near_ends w.sites) in
-        subst O (q ∙ (sym (counts_none why h) ∙ ap (counts why h) (sym q))) place
+pub off_there : (k : NodePower) (w : NodeWorld) (h : ℕ) (why : Loss) → w.controller ≡ None
+    → IsNodePlace RunsAs k w.memory w.controller (near_ends w.sites) → IsNodePlace RunsAs k w.memory (counts why h w.controller) (near_ends w.sites)
+off_there k w h why q place =
+    let O : Option Running → Type 0 = λ o. IsNodePlace RunsAs k w.memory o (near_ends w.sites) in
+    subst O (q ∙ (sym (counts_none why h) ∙ ap (counts why h) (sym q))) place

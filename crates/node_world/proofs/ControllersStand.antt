@@ -9,21 +9,23 @@ use Rattle.link_laws.specs.machine.Machine.{next_frame, sent_all}
 use Rattle.link_laws.specs.messages.Links.{Link, NumberedEnd, Ending}
 use Rattle.link_laws.specs.messages.Links.Ending.{GoesOut, CutOff}
 use Rattle.link_laws.specs.entries.Entries.End.{Controller}
-use Rattle.node_machine.specs.Parts.{Core, Desk, Running, Port, Work}
+use Rattle.node_machine.specs.Parts.{Desk, Running, Port, Work}
 use Rattle.node_machine.specs.world.World.{NodeWorld, Site, site_at, link_to, port_for, ending_of, runs_on, frames_noted}
 use Rattle.node_laws.specs.kept.Books.{hosts_of_ends}
 use Rattle.node_laws.specs.kept.Hosts.{AreDifferent}
 use Rattle.node_laws.specs.telling.Telling.{hosts_in}
-use Rattle.node_sites.specs.declared.power.Power.{Power}
 use Rattle.node_sites.specs.declared.power.Power.TheVariants.{On}
 use Rattle.node_sites.specs.declared.places.HostSite.{HostSite}
 use Rattle.node_sites.specs.WorldNodes.{as_kept, GoesOutWhole}
 use Rattle.node_sites.specs.FramesOut.{sent_port}
-use Rattle.node_sites.specs.Powers.{IsNodePlace}
+use Rattle.node_sites.specs.Powers.{IsNodePlace, node_memory, NodePower}
 use Rattle.node_world.specs.Controllers.{SitesAre, WorldBecomes, SendsTo, HasOneEnd, sent_to, GoesOnWith, WentOffWith}
 use Rattle.node_world.proofs.Behind.{each_found, next_ports, all_sides}
 use Rattle.node_world.proofs.ControllersGo.{EndSteps, EachSteps, midway, midway_hosts, each_one, sent_everywhere, told_alike, none_told, midway_stands}
 use Rattle.node_world.proofs.ControllersGo.{out_stands, off_stands}
+use Rattle.node_core.specs.declared.node.Node.{Node}
+use Rattle.node_core.specs.Running.{RunsAs}
+use Rattle.node_core.proofs.Between.{kept_alike, all_one_by_one}
 
 -- a step of the controller that has become v, in a world w: each link is one as it begins, and so behind it
 module _ (w : NodeWorld) (v : Work) (starts out : Site → Link) (so : Site → Ending → Link) (different : AreDifferent (hosts_in w.sites))
@@ -65,60 +67,56 @@ module _ (w : NodeWorld) (v : Work) (starts out : Site → Link) (so : Site → 
   none_left near_ends [] a b = tt
   none_left near_ends (p ∷ ports) a b = (ap next_frame a.0 ∙ b.0.none, none_left near_ends ports a.1 b.1)
 
-  module _ (C P : Type 0) (CRuns : C → Core → List Port → Type 0) (c_memory : C → Memory) (PRuns : P → Core → List Port → Type 0) (p_memory : P → Memory)
-      (kept : (n : C) (core : Core) (ports others : List Port) → map as_kept ports ≡ map as_kept others → CRuns n core ports → CRuns n core others)
-      (whole : (n : C) (core : Core) (ports : List Port) → CRuns n core ports → AllByRecursion (λ (p : Port). GoesOutWhole p.side) ports) where
-    -- as it ends, the controller has one end on the link with each host
-    pub sends_them : {Runs : Type 0} (ks : List (HostSite P)) → Runs
-        → SitesAre PRuns p_memory ks (map (λ (s : Site). record s { link = starts s }) w.sites) → SendsTo PRuns p_memory Runs v.ports ks mid_hosts
-    sends_them ks runs a =
-        let same : hosts_in mid_hosts ≡ hosts_in w.sites = midway_hosts v starts out so w.sites all_steps in
-        record {
-          runs = runs;
-          sites = midway_stands v starts out so P PRuns p_memory ks w.sites all_steps a;
-          different = subst AreDifferent (sym same) different;
-          ends = subst (AllByRecursion (HasOneEnd v.ports)) (sym same) (each_one v starts out so w.sites all_steps ends_different);
-        }
+  -- as it ends, the controller has one end on the link with each host
+  pub sends_them : {Runs : Type 0} (ks : List HostSite) → Runs
+      → SitesAre ks (map (λ (s : Site). record s { link = starts s }) w.sites) → SendsTo Runs v.ports ks mid_hosts
+  sends_them ks runs a =
+      let same : hosts_in mid_hosts ≡ hosts_in w.sites = midway_hosts v starts out so w.sites all_steps in
+      record {
+        runs = runs;
+        sites = midway_stands v starts out so ks w.sites all_steps a;
+        different = subst AreDifferent (sym same) different;
+        ends = subst (AllByRecursion (HasOneEnd v.ports)) (sym same) (each_one v starts out so w.sites all_steps ends_different);
+      }
 
-    abbrev Becomes : Power C → List (HostSite P) → List Entry → List Entry → NodeWorld × List Entry → Type 0
-    Becomes k ks before now after = WorldBecomes CRuns c_memory PRuns p_memory k ks before now after
+  abbrev Becomes : NodePower → List HostSite → List Entry → List Entry → NodeWorld × List Entry → Type 0
+  Becomes k ks before now after = WorldBecomes k ks before now after
 
-    pub went_on : (k : Power C) (ks : List (HostSite P)) (n : C) (before now : List Entry) → v.cut ≡ false
-        → c_memory n ≡ after_planned v.writes w.memory → CRuns n v.core v.ports
-        → GoesOnWith CRuns c_memory PRuns p_memory k ks n v mid_hosts before now → Becomes k ks before now behind_step
-    went_on k ks n before now on memory runs r =
-        let near_ends : ℕ → NumberedEnd = λ h. (link_to (sites_so GoesOut) h).controller in
-        let left : Running = record { core = v.core; desks = map (λ (p : Port). p.desk) v.ports } in
-        let names : sent_to (hosts_in mid_hosts) v.ports ≡ map sent_port v.ports =
-        ap (λ hs. sent_to hs v.ports) (midway_hosts v starts out so w.sites all_steps) ∙ sent_everywhere (hosts_in w.sites) v.ports different hosts in
-        let ports : CRuns r.node v.core (map (λ (d : Desk). port_for (near_ends d.host) d) left.desks) =
-        kept r.node v.core (sent_to (hosts_in mid_hosts) v.ports) (map (λ (d : Desk). port_for (near_ends d.host) d) left.desks)
-        (ap (map as_kept) names ∙ next_ports near_ends v.ports sides) r.runs in
-        let m : Memory = after_planned v.writes w.memory in
-        let Place : Power C → Type 0 = λ a. IsNodePlace CRuns c_memory a m (Some left) near_ends in
-        let place : Place (On r.node) = (r.memory ∙ memory, ports, none_left near_ends v.ports sides (whole n v.core v.ports runs)) in
-        let told : List Entry = flat_map (λ (s : Site). frames_noted Controller s.host (out s) v) w.sites in
-        let World : Bool → NodeWorld = λ b. record { memory = m; controller = cond b None (Some left); sites = sites_so (cond b CutOff GoesOut) } in
-        let Is : Bool → Type 0 = λ b. Becomes k ks before now (World b, v.entries ++ told) in
-        subst Is (sym on)
-        (record {
-          world = record { controller = subst Place (sym r.on) place; sites = out_stands v starts out so P PRuns p_memory ks w.sites all_steps r.sites };
-          noted = r.noted ∙ (ap (λ es. (before ++ v.entries) ++ es) (told_alike v starts out so w.sites all_steps on) ∙ append_assoc before v.entries told);
-        })
+  pub went_on : (k : NodePower) (ks : List HostSite) (n : Node Memory) (before now : List Entry) → v.cut ≡ false
+      → node_memory n ≡ after_planned v.writes w.memory → RunsAs n v.core v.ports
+      → GoesOnWith k ks n v mid_hosts before now → Becomes k ks before now behind_step
+  went_on k ks n before now on memory runs r =
+      let near_ends : ℕ → NumberedEnd = λ h. (link_to (sites_so GoesOut) h).controller in
+      let left : Running = record { core = v.core; desks = map (λ (p : Port). p.desk) v.ports } in
+      let names : sent_to (hosts_in mid_hosts) v.ports ≡ map sent_port v.ports =
+      ap (λ hs. sent_to hs v.ports) (midway_hosts v starts out so w.sites all_steps) ∙ sent_everywhere (hosts_in w.sites) v.ports different hosts in
+      let ports : RunsAs r.node v.core (map (λ (d : Desk). port_for (near_ends d.host) d) left.desks) =
+      kept_alike (sent_to (hosts_in mid_hosts) v.ports) (map (λ (d : Desk). port_for (near_ends d.host) d) left.desks)
+      (ap (map as_kept) names ∙ next_ports near_ends v.ports sides) r.runs in
+      let m : Memory = after_planned v.writes w.memory in
+      let Place : NodePower → Type 0 = λ a. IsNodePlace RunsAs a m (Some left) near_ends in
+      let place : Place (On r.node) = (r.memory ∙ memory, ports, none_left near_ends v.ports sides (all_one_by_one runs)) in
+      let told : List Entry = flat_map (λ (s : Site). frames_noted Controller s.host (out s) v) w.sites in
+      let World : Bool → NodeWorld = λ b. record { memory = m; controller = cond b None (Some left); sites = sites_so (cond b CutOff GoesOut) } in
+      let Is : Bool → Type 0 = λ b. Becomes k ks before now (World b, v.entries ++ told) in
+      subst Is (sym on)
+      (record {
+        world = record { controller = subst Place (sym r.on) place; sites = out_stands v starts out so ks w.sites all_steps r.sites };
+        noted = r.noted ∙ (ap (λ es. (before ++ v.entries) ++ es) (told_alike v starts out so w.sites all_steps on) ∙ append_assoc before v.entries told);
+      })
 
-    pub went_off : (k : Power C) (ks : List (HostSite P)) (n : C) (before now : List Entry) → v.cut ≡ true
-        → c_memory n ≡ after_planned v.writes w.memory → WentOffWith c_memory PRuns p_memory k ks n v mid_hosts before now
-        → Becomes k ks before now behind_step
-    went_off k ks n before now off memory r =
-        let near_ends : ℕ → NumberedEnd = λ h. (link_to (sites_so CutOff) h).controller in
-        let left : Running = record { core = v.core; desks = map (λ (p : Port). p.desk) v.ports } in
-        let m : Memory = after_planned v.writes w.memory in
-        let Place : Power C → Type 0 = λ a. IsNodePlace CRuns c_memory a m None near_ends in
-        let told : List Entry = flat_map (λ (s : Site). frames_noted Controller s.host (out s) v) w.sites in
-        let World : Bool → NodeWorld = λ b. record { memory = m; controller = cond b None (Some left); sites = sites_so (cond b CutOff GoesOut) } in
-        let Is : Bool → Type 0 = λ b. Becomes k ks before now (World b, v.entries ++ told) in
-        subst Is (sym off)
-        (record {
-          world = record { controller = subst Place (sym r.off) memory; sites = off_stands v starts out so P PRuns p_memory ks w.sites all_steps r.sites };
-          noted = r.noted ∙ ap (λ es. before ++ es) (sym (ap (λ es. v.entries ++ es) (none_told v starts out so w.sites off) ∙ append-nil v.entries));
-        })
+  pub went_off : (k : NodePower) (ks : List HostSite) (n : Node Memory) (before now : List Entry) → v.cut ≡ true
+      → node_memory n ≡ after_planned v.writes w.memory → WentOffWith k ks n v mid_hosts before now → Becomes k ks before now behind_step
+  went_off k ks n before now off memory r =
+      let near_ends : ℕ → NumberedEnd = λ h. (link_to (sites_so CutOff) h).controller in
+      let left : Running = record { core = v.core; desks = map (λ (p : Port). p.desk) v.ports } in
+      let m : Memory = after_planned v.writes w.memory in
+      let Place : NodePower → Type 0 = λ a. IsNodePlace RunsAs a m None near_ends in
+      let told : List Entry = flat_map (λ (s : Site). frames_noted Controller s.host (out s) v) w.sites in
+      let World : Bool → NodeWorld = λ b. record { memory = m; controller = cond b None (Some left); sites = sites_so (cond b CutOff GoesOut) } in
+      let Is : Bool → Type 0 = λ b. Becomes k ks before now (World b, v.entries ++ told) in
+      subst Is (sym off)
+      (record {
+        world = record { controller = subst Place (sym r.off) memory; sites = off_stands v starts out so ks w.sites all_steps r.sites };
+        noted = r.noted ∙ ap (λ es. before ++ es) (sym (ap (λ es. v.entries ++ es) (none_told v starts out so w.sites off) ∙ append-nil v.entries));
+      })

@@ -21,10 +21,10 @@ use Rattle.trace_model.specs.declared.line.Line.TheVariants as line
 use Rattle.history.specs.Follows.{as_noted}
 use Rattle.node_machine.specs.Carrying.{port_at}
 use Rattle.node_machine.specs.world.Lines.{refusal_in}
-use Rattle.node_core.specs.Running.{reset_refusal_at}
+use Rattle.node_core.specs.Running.{reset_refusal_at, RunsAs}
 use Rattle.node_world.specs.HostSteps.{reset_noted}
 use Rattle.node_world.proofs.HostsRefuse.{told_so}
-use Rattle.node_machine.specs.Parts.{Core, Desk, Running, Port, Work}
+use Rattle.node_machine.specs.Parts.{Desk, Running, Port, Work}
 use Rattle.node_machine.specs.Node.{NodeInput, steps, input_at, has_come}
 use Rattle.node_machine.specs.Node.NodeInput.{AtEnd, TimePasses}
 use Rattle.node_machine.specs.world.World.{NodeWorld, Site, site_at, link_to, turns_at, comes_to, controller_work, after_controller, port_for, work_of}
@@ -33,13 +33,12 @@ use Rattle.node_laws.specs.kept.Books.{hosts_of_ends}
 use Rattle.node_laws.specs.telling.Telling.{HasEnds, IfItRuns, hosts_in}
 use Rattle.node_laws.proofs.telling.Nodes.{link_is, stands, Stands}
 use Rattle.node_laws.proofs.telling.Parts.{AreAlike}
-use Rattle.node_sites.specs.declared.power.Power.{Power}
 use Rattle.node_sites.specs.declared.power.Power.TheVariants.{On}
 use Rattle.node_sites.specs.declared.places.HostSite.{HostSite}
 use Rattle.node_sites.specs.LinksKept.{SameWires, as_it_comes}
-use Rattle.node_sites.specs.WorldNodes.{as_kept, BeginsAt, GoesOutWhole, HasGone}
+use Rattle.node_sites.specs.WorldNodes.{BeginsOver, as_kept, HasGone}
 use Rattle.node_sites.specs.Numbers.{AreNumbered, CountsFew, StaysCounted}
-use Rattle.node_sites.specs.Powers.{IsNodePlace}
+use Rattle.node_sites.specs.Powers.{IsNodePlace, node_memory, NodePower}
 use Rattle.node_world.specs.Controllers.{SitesAre, WorldBecomes, MayGoOn, FewAreCounted, AreSessions, as_it_comes_to, SendsTo, EndsStep}
 use Rattle.node_world.specs.Controllers.{GoesOnWith, WentOffWith}
 use Rattle.node_world.proofs.HostsBegin.{near_side}
@@ -50,6 +49,8 @@ use Rattle.node_sites.proofs.Numbered.{stepped}
 use Rattle.node_sites.proofs.Renumbered.{work_numbers, arrival_numbered}
 use Rattle.node_world.proofs.ControllersGo.{EndSteps}
 use Rattle.node_world.proofs.ControllersStand.{mid_hosts, sends_them, went_on, went_off}
+use Rattle.node_core.specs.declared.node.Node.{Node}
+use Rattle.node_core.proofs.Between.{kept_alike}
 
 -- ## As a step begins
 
@@ -251,67 +252,54 @@ module _ (w : NodeWorld) (r : Running) (h : ℕ) (comes : Comes) (i : LinkInput)
 
   -- ## Both ways
 
-  module _ (C P : Type 0) (CRuns : C → Core → List Port → Type 0) (c_memory : C → Memory) (PRuns : P → Core → List Port → Type 0) (p_memory : P → Memory)
-      (kept : (n : C) (core : Core) (ports others : List Port) → map as_kept ports ≡ map as_kept others → CRuns n core ports → CRuns n core others)
-      (whole : (n : C) (core : Core) (ports : List Port) → CRuns n core ports → AllByRecursion (λ (p : Port). GoesOutWhole p.side) ports) where
-    pub begins_there : (n : C) → IsNodePlace CRuns c_memory (On n) w.memory (Some r) plain → BeginsAt CRuns c_memory n h Start
-    begins_there n place =
-        let one : Stands near r.desks h = stands near r.desks w.sites h s node.ends found in
-        record {
-          begins = record {
-            runs = kept n r.core (map (λ (d : Desk). port_for (plain d.host) d) r.desks) (map (λ (d : Desk). port_for (near d.host) d) r.desks)
-                (same_ends plain near r.desks same_near) place.1;
-            sent = ends_sent plain near r.desks same_near place.2;
-            fresh = ends_fresh near r.desks;
-            power = refl;
-            plan = ap (λ (m : Memory). m.plan) (sym place.0);
-            writes = refl;
-          };
-          port = port_for (near h) one.desk;
-          here = one.here;
-        }
+  pub begins_there : (n : Node Memory) → IsNodePlace RunsAs (On n) w.memory (Some r) plain → BeginsOver RunsAs n Start
+  begins_there n place = record {
+    runs = kept_alike (map (λ (d : Desk). port_for (plain d.host) d) r.desks) (map (λ (d : Desk). port_for (near d.host) d) r.desks)
+        (same_ends plain near r.desks same_near) place.1;
+    sent = ends_sent plain near r.desks same_near place.2;
+    fresh = ends_fresh near r.desks;
+    power = refl;
+    plan = ap (λ (m : Memory). m.plan) (sym place.0);
+    writes = refl;
+  }
 
-    pub sends_all : {Runs : Type 0} (ks : List (HostSite P)) → Runs → SitesAre PRuns p_memory ks (as_it_comes_to h comes w.sites)
-        → SendsTo PRuns p_memory Runs Then.ports ks mid_sites
-    sends_all ks runs a =
-        sends_them w Then starts out so may.orderly.different hosts_then each C P CRuns c_memory PRuns p_memory kept whole ks runs a
+  pub sends_all : {Runs : Type 0} (ks : List HostSite) → Runs → SitesAre ks (as_it_comes_to h comes w.sites) → SendsTo Runs Then.ports ks mid_sites
+  sends_all ks runs a =
+      sends_them w Then starts out so may.orderly.different hosts_then each ks runs a
 
-    pub step_midway : (old n : C) (ks : List (HostSite P)) (live : Bool) → HasGone CRuns c_memory old n Then live
-        → SitesAre PRuns p_memory ks (as_it_comes_to h comes w.sites)
-        → EndsStep CRuns PRuns p_memory (On n) ks n live Then mid_sites
-    step_midway old n ks live gone a = record { on = refl; sends = sends_all ks gone.runs a }
+  pub step_midway : (old n : Node Memory) (ks : List HostSite) (live : Bool) → HasGone RunsAs old n Then live → SitesAre ks (as_it_comes_to h comes w.sites)
+      → EndsStep (On n) ks n live Then mid_sites
+  step_midway old n ks live gone a = record { on = refl; sends = sends_all ks gone.runs a }
 
-    abbrev Becomes : Power C → List (HostSite P) → List Entry → List Entry → Type 0
-    Becomes k ks before now = WorldBecomes CRuns c_memory PRuns p_memory k ks before now (comes_at w (end_c h) comes)
+  abbrev Becomes : NodePower → List HostSite → List Entry → List Entry → Type 0
+  Becomes k ks before now = WorldBecomes k ks before now (comes_at w (end_c h) comes)
 
-    step_is : comes_at w (end_c h) comes ≡ after_controller w h comes Then
-    step_is = rw (input, runs) refl
+  step_is : comes_at w (end_c h) comes ≡ after_controller w h comes Then
+  step_is = rw (input, runs) refl
 
-    pub step_went_on : (k : Power C) (ks : List (HostSite P)) (n : C) (before now : List Entry) → Then.cut ≡ false
-        → c_memory n ≡ after_planned Then.writes w.memory → CRuns n Then.core Then.ports
-        → GoesOnWith CRuns c_memory PRuns p_memory k ks n Then mid_sites before now → Becomes k ks before now
-    step_went_on k ks n before now on memory run g =
-        let B : NodeWorld × List Entry → Type 0 = λ x. WorldBecomes CRuns c_memory PRuns p_memory k ks before now x in
-        subst B (sym step_is)
-        (went_on w Then starts out so may.orderly.different hosts_then each C P CRuns c_memory PRuns p_memory kept whole k ks n before now on memory run g)
+  pub step_went_on : (k : NodePower) (ks : List HostSite) (n : Node Memory) (before now : List Entry) → Then.cut ≡ false
+      → node_memory n ≡ after_planned Then.writes w.memory → RunsAs n Then.core Then.ports
+      → GoesOnWith k ks n Then mid_sites before now → Becomes k ks before now
+  step_went_on k ks n before now on memory run g =
+      let B : NodeWorld × List Entry → Type 0 = λ x. WorldBecomes k ks before now x in
+      subst B (sym step_is) (went_on w Then starts out so may.orderly.different hosts_then each k ks n before now on memory run g)
 
-    pub step_went_off : (k : Power C) (ks : List (HostSite P)) (n : C) (before now : List Entry) → Then.cut ≡ true
-        → c_memory n ≡ after_planned Then.writes w.memory → WentOffWith c_memory PRuns p_memory k ks n Then mid_sites before now → Becomes k ks before now
-    step_went_off k ks n before now off memory g =
-        let B : NodeWorld × List Entry → Type 0 = λ x. WorldBecomes CRuns c_memory PRuns p_memory k ks before now x in
-        subst B (sym step_is)
-        (went_off w Then starts out so may.orderly.different hosts_then each C P CRuns c_memory PRuns p_memory kept whole k ks n before now off memory g)
+  pub step_went_off : (k : NodePower) (ks : List HostSite) (n : Node Memory) (before now : List Entry) → Then.cut ≡ true
+      → node_memory n ≡ after_planned Then.writes w.memory → WentOffWith k ks n Then mid_sites before now → Becomes k ks before now
+  step_went_off k ks n before now off memory g =
+      let B : NodeWorld × List Entry → Type 0 = λ x. WorldBecomes k ks before now x in
+      subst B (sym step_is) (went_off w Then starts out so may.orderly.different hosts_then each k ks n before now off memory g)
 
-    -- the step ends in either way
-    pub step_ends : {T F : Type 0} (result : Result T F) (live : Bool) (k : Power C) (ks : List (HostSite P)) (old n : C) (before now : List Entry)
-        → IsNodePlace CRuns c_memory (On old) w.memory (Some r) plain → HasGone CRuns c_memory old n Then live
-        → (live ≡ true → OnOk result (GoesOnWith CRuns c_memory PRuns p_memory k ks n Then mid_sites before now))
-        → (live ≡ false → OnOk result (WentOffWith c_memory PRuns p_memory k ks n Then mid_sites before now)) → OnOk result (Becomes k ks before now)
-    step_ends result live k ks old n before now place gone goes_on goes_off = go live refl
-      where
-        memory : c_memory n ≡ after_planned Then.writes w.memory
-        memory = gone.memory ∙ ap (after_planned Then.writes) place.0
+  -- the step ends in either way
+  pub step_ends : {T F : Type 0} (result : Result T F) (live : Bool) (k : NodePower) (ks : List HostSite) (old n : Node Memory) (before now : List Entry)
+      → IsNodePlace RunsAs (On old) w.memory (Some r) plain → HasGone RunsAs old n Then live
+      → (live ≡ true → OnOk result (GoesOnWith k ks n Then mid_sites before now))
+      → (live ≡ false → OnOk result (WentOffWith k ks n Then mid_sites before now)) → OnOk result (Becomes k ks before now)
+  step_ends result live k ks old n before now place gone goes_on goes_off = go live refl
+    where
+      memory : node_memory n ≡ after_planned Then.writes w.memory
+      memory = gone.memory ∙ ap (after_planned Then.writes) place.0
 
-        go : (b : Bool) → live ≡ b → OnOk result (Becomes k ks before now)
-        go true q = on_ok result (goes_on q) (λ g. step_went_on k ks n before now (gone.power ∙ ap not q) memory (gone.runs q) g)
-        go false q = on_ok result (goes_off q) (λ g. step_went_off k ks n before now (gone.power ∙ ap not q) memory g)
+      go : (b : Bool) → live ≡ b → OnOk result (Becomes k ks before now)
+      go true q = on_ok result (goes_on q) (λ g. step_went_on k ks n before now (gone.power ∙ ap not q) memory (gone.runs q) g)
+      go false q = on_ok result (goes_off q) (λ g. step_went_off k ks n before now (gone.power ∙ ap not q) memory g)

@@ -12,7 +12,7 @@ use Rattle.link_laws.specs.machine.Machine.Role.{Clf}
 use Rattle.link_laws.specs.messages.Links.{Link, NumberedEnd, Ending, ticks_at_controller, number_of}
 use Rattle.link_laws.specs.messages.Links.Ending.{GoesOut, CutOff}
 use Rattle.link_wires.proofs.Results.{on_ok}
-use Rattle.node_machine.specs.Parts.{Core, Desk, Running, Port, Work}
+use Rattle.node_machine.specs.Parts.{Desk, Running, Work}
 use Rattle.node_machine.specs.Node.NodeInput.{TimePasses}
 use Rattle.node_machine.specs.world.World.{NodeWorld, Site, site_at, link_to, turns_at, is_late_at, ticked_so, port_for, work_of, controller_ticks}
 use Rattle.node_machine.proofs.world.Cases.{near_tick, after_near_tick, site_unticked}
@@ -20,13 +20,12 @@ use Rattle.node_laws.specs.kept.Books.{hosts_of_ends}
 use Rattle.node_laws.specs.telling.Telling.{HasEnds, IfItRuns, IfOff, IfDue, hosts_in}
 use Rattle.node_laws.proofs.telling.Keeping.{tick_keeps}
 use Rattle.node_laws.proofs.telling.Nodes.{link_is, hosts_same}
-use Rattle.node_sites.specs.declared.power.Power.{Power}
 use Rattle.node_sites.specs.declared.power.Power.TheVariants.{On, Off}
 use Rattle.node_sites.specs.declared.places.HostSite.{HostSite}
 use Rattle.node_sites.specs.LinksKept.{SameWires}
-use Rattle.node_sites.specs.WorldNodes.{as_kept, BeginsOver, GoesOutWhole, HasGone, MayBeginStep}
+use Rattle.node_sites.specs.WorldNodes.{BeginsOver, HasGone, RunsAsHost}
 use Rattle.node_sites.specs.Numbers.{AreNumbered, CountsFew}
-use Rattle.node_sites.specs.Powers.{IsNodePlace}
+use Rattle.node_sites.specs.Powers.{IsNodePlace, node_memory, NodePower}
 use Rattle.node_sites.specs.Places.{SiteIs}
 use Rattle.node_world.specs.Controllers.{SitesAre, WorldIs, WorldBecomes, MayGoOn, AreTimely, FewAreCounted, AreSessions, EndsStep, GoesOnWith, WentOffWith}
 use Rattle.node_world.proofs.GoingOn.{same_stand, same_twice}
@@ -38,6 +37,8 @@ use Rattle.node_sites.proofs.Renumbered.{work_numbers}
 use Rattle.node_world.proofs.ControllersGo.{EndSteps}
 use Rattle.node_world.proofs.ControllersStand.{mid_hosts, sends_them, went_on, went_off}
 use Rattle.node_world.proofs.ControllersStep.{ends_sent, ends_fresh}
+use Rattle.node_core.specs.declared.node.Node.{Node}
+use Rattle.node_core.specs.Running.{RunsAs, MayStep}
 
 -- ## While it doesn't run
 
@@ -54,48 +55,45 @@ still_far l =
     let g = ticks_on l false [] (λ late. absurd (cc late)) in
     ap (λ (m : Link). m.host) g.out ∙ (all_far g.link (frames_out (after_input l.controller.side Tick)) ∙ g.far)
 
-module _ (P : Type 0) (PRuns : P → Core → List Port → Type 0) (p_memory : P → Memory) where
-  all_still : (ks : List (HostSite P)) (sites : List Site)
-      → AllByRecursion (λ (s : Site). s.link.controller.side ≡ new_link_end (Clf new_clf)) sites → SitesAre PRuns p_memory ks sites
-      → SitesAre PRuns p_memory ks (map site_unticked sites)
-  all_still [] [] q a = tt
-  all_still [] (s ∷ sites) q a = absurd a
-  all_still (k ∷ ks) [] q a = absurd a
-  all_still (k ∷ ks) (s ∷ sites) q a = (one, all_still ks sites q.1 a.1)
-    where
-      one : SiteIs PRuns p_memory k (site_unticked s)
-      one =
-          let Q : NumberedEnd → Type 0 = λ e. IsNodePlace PRuns p_memory k.power s.memory s.node (λ h. e) in
-          record { host = a.0.host; wires = same_stand (still_wires s.link q.0) a.0.wires; place = subst Q (sym (still_far s.link)) a.0.place }
+all_still : (ks : List HostSite) (sites : List Site)
+    → AllByRecursion (λ (s : Site). s.link.controller.side ≡ new_link_end (Clf new_clf)) sites → SitesAre ks sites → SitesAre ks (map site_unticked sites)
+all_still [] [] q a = tt
+all_still [] (s ∷ sites) q a = absurd a
+all_still (k ∷ ks) [] q a = absurd a
+all_still (k ∷ ks) (s ∷ sites) q a = (one, all_still ks sites q.1 a.1)
+  where
+    one : SiteIs k (site_unticked s)
+    one =
+        let Q : NumberedEnd → Type 0 = λ e. IsNodePlace RunsAsHost k.power s.memory s.node (λ h. e) in
+        record { host = a.0.host; wires = same_stand (still_wires s.link q.0) a.0.wires; place = subst Q (sym (still_far s.link)) a.0.place }
 
-  module _ (C : Type 0) (CRuns : C → Core → List Port → Type 0) (c_memory : C → Memory) where
-    off_place : (k : Power C) (m : Memory) (near far : ℕ → NumberedEnd) → IsNodePlace CRuns c_memory k m None near → IsNodePlace CRuns c_memory k m None far
-    off_place (On n) m near far p = p
-    off_place (Off x) m near far p = p
+off_place : (k : NodePower) (m : Memory) (near far : ℕ → NumberedEnd) → IsNodePlace RunsAs k m None near → IsNodePlace RunsAs k m None far
+off_place (On n) m near far p = p
+off_place (Off x) m near far p = p
 
-    pub ticks_off : (k : Power C) (ks : List (HostSite P)) (w : NodeWorld) (entries : List Entry) → w.controller ≡ None → AreTimely w → MayGoOn w
-        → WorldIs CRuns c_memory PRuns p_memory k ks w → WorldBecomes CRuns c_memory PRuns p_memory k ks entries entries (controller_ticks w)
-    ticks_off k ks w entries off timely may world =
-        let none : controller_ticks w ≡ (record w { sites = map site_unticked w.sites }, []) = rw off refl in
-        let all = each_found (λ (x : Site). x.host) w.sites may.orderly.different in
-        let B : NodeWorld × List Entry → Type 0 = λ x. WorldBecomes CRuns c_memory PRuns p_memory k ks entries entries x in
-        let Here : Option Running → Type 0 = λ o. IsNodePlace CRuns c_memory k w.memory o (λ h. (link_to w.sites h).controller) in
-        let There : Option Running → Type 0 = λ o. IsNodePlace CRuns c_memory k w.memory o (λ h. (link_to (map site_unticked w.sites) h).controller) in
-        subst B (sym none)
-        (record {
-          world = record {
-            controller = subst There (sym off) (off_place k w.memory _ _ (subst Here off world.controller));
-            sites = all_still ks w.sites (new_ends w.sites all) world.sites;
-          };
-          noted = sym (append-nil entries);
-        })
-      where
-        new_ends : (left : List Site) → AllByRecursion (λ (x : Site). site_at w.sites x.host ≡ Some x) left
-            → AllByRecursion (λ (s : Site). s.link.controller.side ≡ new_link_end (Clf new_clf)) left
-        new_ends [] a = tt
-        new_ends (x ∷ left) a =
-            let Off : Option Running → Type 0 = λ o. IfOff o (new_link_end (Clf new_clf)) x.link.controller.side in
-            (subst Off off (timely x.host x a.0).controller, new_ends left a.1)
+pub ticks_off : (k : NodePower) (ks : List HostSite) (w : NodeWorld) (entries : List Entry) → w.controller ≡ None → AreTimely w → MayGoOn w
+    → WorldIs k ks w → WorldBecomes k ks entries entries (controller_ticks w)
+ticks_off k ks w entries off timely may world =
+    let none : controller_ticks w ≡ (record w { sites = map site_unticked w.sites }, []) = rw off refl in
+    let all = each_found (λ (x : Site). x.host) w.sites may.orderly.different in
+    let B : NodeWorld × List Entry → Type 0 = λ x. WorldBecomes k ks entries entries x in
+    let Here : Option Running → Type 0 = λ o. IsNodePlace RunsAs k w.memory o (λ h. (link_to w.sites h).controller) in
+    let There : Option Running → Type 0 = λ o. IsNodePlace RunsAs k w.memory o (λ h. (link_to (map site_unticked w.sites) h).controller) in
+    subst B (sym none)
+    (record {
+      world = record {
+        controller = subst There (sym off) (off_place k w.memory _ _ (subst Here off world.controller));
+        sites = all_still ks w.sites (new_ends w.sites all) world.sites;
+      };
+      noted = sym (append-nil entries);
+    })
+  where
+    new_ends : (left : List Site) → AllByRecursion (λ (x : Site). site_at w.sites x.host ≡ Some x) left
+        → AllByRecursion (λ (s : Site). s.link.controller.side ≡ new_link_end (Clf new_clf)) left
+    new_ends [] a = tt
+    new_ends (x ∷ left) a =
+        let Off : Option Running → Type 0 = λ o. IfOff o (new_link_end (Clf new_clf)) x.link.controller.side in
+        (subst Off off (timely x.host x a.0).controller, new_ends left a.1)
 
 -- ## Its tick
 
@@ -160,64 +158,56 @@ module _ (w : NodeWorld) (r : Running) (may : MayGoOn w) (timely : AreTimely w) 
       (stepped session TimePasses Begun counted
       (work_numbers session r w.memory.plan plain [] tt (numbers_of sessions r.desks w.sites node.ends all a))).entries
 
-  module _ (C P : Type 0) (CRuns : C → Core → List Port → Type 0) (c_memory : C → Memory) (PRuns : P → Core → List Port → Type 0) (p_memory : P → Memory)
-      (kept : (n : C) (core : Core) (ports others : List Port) → map as_kept ports ≡ map as_kept others → CRuns n core ports → CRuns n core others)
-      (whole : (n : C) (core : Core) (ports : List Port) → CRuns n core ports → AllByRecursion (λ (p : Port). GoesOutWhole p.side) ports) where
-    pub tick_begins : (n : C) → IsNodePlace CRuns c_memory (On n) w.memory (Some r) plain → BeginsOver CRuns c_memory n Begun
-    tick_begins n place = record {
-      runs = place.1;
-      sent = ends_sent plain plain r.desks (λ h. refl) place.2;
-      fresh = ends_fresh plain r.desks;
-      power = refl;
-      plan = ap (λ (m : Memory). m.plan) (sym place.0);
-      writes = refl;
-    }
+  pub tick_begins : (n : Node Memory) → IsNodePlace RunsAs (On n) w.memory (Some r) plain → BeginsOver RunsAs n Begun
+  tick_begins n place = record {
+    runs = place.1;
+    sent = ends_sent plain plain r.desks (λ h. refl) place.2;
+    fresh = ends_fresh plain r.desks;
+    power = refl;
+    plan = ap (λ (m : Memory). m.plan) (sym place.0);
+    writes = refl;
+  }
 
-    pub tick_may : (n : C) → IsNodePlace CRuns c_memory (On n) w.memory (Some r) plain → MayBeginStep CRuns n
-    tick_may n place =
-        let b = tick_begins n place in record { core = r.core; ports = Begun.ports; runs = b.runs; sent = b.sent }
+  pub tick_may : (n : Node Memory) → IsNodePlace RunsAs (On n) w.memory (Some r) plain → MayStep n
+  tick_may n place =
+      let b = tick_begins n place in record { core = r.core; ports = Begun.ports; runs = b.runs; sent = b.sent }
 
-    pub tick_midway : (old n : C) (ks : List (HostSite P)) (live : Bool) → HasGone CRuns c_memory old n Ticked live
-        → SitesAre PRuns p_memory ks w.sites → EndsStep CRuns PRuns p_memory (On n) ks n live Ticked mid_sites
-    tick_midway old n ks live gone a =
-        let S : List Site → Type 0 = λ xs. SitesAre PRuns p_memory ks xs in
-        record {
-          on = refl;
-          sends =
-              sends_them w Ticked starts starts so may.orderly.different hosts_then each C P CRuns c_memory PRuns p_memory kept whole ks gone.runs
-              (subst S (sym (same_sites w.sites)) a);
-        }
-      where
-        same_sites : (sites : List Site) → map (λ (s : Site). record s { link = s.link }) sites ≡ sites
-        same_sites [] = refl
-        same_sites (s ∷ sites) = ap (λ xs. s ∷ xs) (same_sites sites)
+  pub tick_midway : (old n : Node Memory) (ks : List HostSite) (live : Bool) → HasGone RunsAs old n Ticked live
+      → SitesAre ks w.sites → EndsStep (On n) ks n live Ticked mid_sites
+  tick_midway old n ks live gone a =
+      let S : List Site → Type 0 = λ xs. SitesAre ks xs in
+      record {
+        on = refl;
+        sends =
+            sends_them w Ticked starts starts so may.orderly.different hosts_then each ks gone.runs (subst S (sym (same_sites w.sites)) a);
+      }
+    where
+      same_sites : (sites : List Site) → map (λ (s : Site). record s { link = s.link }) sites ≡ sites
+      same_sites [] = refl
+      same_sites (s ∷ sites) = ap (λ xs. s ∷ xs) (same_sites sites)
 
-    abbrev Becomes : Power C → List (HostSite P) → List Entry → List Entry → Type 0
-    Becomes k ks before now = WorldBecomes CRuns c_memory PRuns p_memory k ks before now (controller_ticks w)
+  abbrev Becomes : NodePower → List HostSite → List Entry → List Entry → Type 0
+  Becomes k ks before now = WorldBecomes k ks before now (controller_ticks w)
 
-    -- the tick ends in either way
-    pub tick_ends : {T F : Type 0} (result : Result T F) (live : Bool) (k : Power C) (ks : List (HostSite P)) (old n : C) (before now : List Entry)
-        → IsNodePlace CRuns c_memory (On old) w.memory (Some r) plain → HasGone CRuns c_memory old n Ticked live
-        → (live ≡ true → OnOk result (GoesOnWith CRuns c_memory PRuns p_memory k ks n Ticked mid_sites before now))
-        → (live ≡ false → OnOk result (WentOffWith c_memory PRuns p_memory k ks n Ticked mid_sites before now)) → OnOk result (Becomes k ks before now)
-    tick_ends result live k ks old n before now place gone goes_on goes_off = go live refl
-      where
-        memory : c_memory n ≡ after_planned Ticked.writes w.memory
-        memory = gone.memory ∙ ap (after_planned Ticked.writes) place.0
+  -- the tick ends in either way
+  pub tick_ends : {T F : Type 0} (result : Result T F) (live : Bool) (k : NodePower) (ks : List HostSite) (old n : Node Memory) (before now : List Entry)
+      → IsNodePlace RunsAs (On old) w.memory (Some r) plain → HasGone RunsAs old n Ticked live
+      → (live ≡ true → OnOk result (GoesOnWith k ks n Ticked mid_sites before now))
+      → (live ≡ false → OnOk result (WentOffWith k ks n Ticked mid_sites before now)) → OnOk result (Becomes k ks before now)
+  tick_ends result live k ks old n before now place gone goes_on goes_off = go live refl
+    where
+      memory : node_memory n ≡ after_planned Ticked.writes w.memory
+      memory = gone.memory ∙ ap (after_planned Ticked.writes) place.0
 
-        tick_is : controller_ticks w ≡ after_near_tick w Ticked
-        tick_is = rw runs refl
+      tick_is : controller_ticks w ≡ after_near_tick w Ticked
+      tick_is = rw runs refl
 
-        go : (b : Bool) → live ≡ b → OnOk result (Becomes k ks before now)
-        go true q =
-            let B : NodeWorld × List Entry → Type 0 = λ x. WorldBecomes CRuns c_memory PRuns p_memory k ks before now x in
-            on_ok result (goes_on q)
-            (λ g. subst B (sym tick_is)
-            (went_on w Ticked starts starts so may.orderly.different hosts_then each C P CRuns c_memory PRuns p_memory kept whole k ks n before now
-            (gone.power ∙ ap not q) memory (gone.runs q) g))
-        go false q =
-            let B : NodeWorld × List Entry → Type 0 = λ x. WorldBecomes CRuns c_memory PRuns p_memory k ks before now x in
-            on_ok result (goes_off q)
-            (λ g. subst B (sym tick_is)
-            (went_off w Ticked starts starts so may.orderly.different hosts_then each C P CRuns c_memory PRuns p_memory kept whole k ks n before now
-            (gone.power ∙ ap not q) memory g))
+      go : (b : Bool) → live ≡ b → OnOk result (Becomes k ks before now)
+      go true q =
+          let B : NodeWorld × List Entry → Type 0 = λ x. WorldBecomes k ks before now x in
+          on_ok result (goes_on q) (λ g. subst B (sym tick_is) (went_on w Ticked starts starts so may.orderly.different hosts_then each k ks n before now
+          (gone.power ∙ ap not q) memory (gone.runs q) g))
+      go false q =
+          let B : NodeWorld × List Entry → Type 0 = λ x. WorldBecomes k ks before now x in
+          on_ok result (goes_off q) (λ g. subst B (sym tick_is) (went_off w Ticked starts starts so may.orderly.different hosts_then each k ks n before now
+          (gone.power ∙ ap not q) memory g))

@@ -5,7 +5,6 @@ use Rattle.std.specs.List.{AllByRecursion, flat_map}
 use Rattle.std.specs.Option.{option_map_or}
 use Rattle.std.proofs.lemmas.Bool.{eqb-true}
 use Rattle.std.proofs.lemmas.List.{map-append, drop-set-lt, drop_more}
-use Rattle.swp_base.specs.InMemory.{Memory}
 use Rattle.swp_base.specs.declared.control_frames.Control.{Control}
 use Rattle.trace_model.specs.declared.entry.Entry.{Entry}
 use Rattle.link_laws.specs.machine.Machine.{frames_out}
@@ -13,7 +12,7 @@ use Rattle.link_laws.specs.messages.Links.{Link, NumberedEnd, put_all}
 use Rattle.link_laws.specs.entries.Entries.{puts_entries}
 use Rattle.link_laws.specs.entries.Entries.End.{Controller}
 use Rattle.history.specs.Steps.{entries_for}
-use Rattle.node_machine.specs.Parts.{Core, Port}
+use Rattle.node_machine.specs.Parts.{Port}
 use Rattle.node_machine.specs.Carrying.{port_at, with_port, changed_if}
 use Rattle.node_machine.specs.world.World.{Site}
 use Rattle.node_laws.specs.kept.Hosts.{AreDifferent}
@@ -28,6 +27,7 @@ use Rattle.node_sites.specs.Places.{SiteIs}
 use Rattle.node_world.specs.Controllers.{SitesAre, HaveRoom, due_at, sent_to, has_frames, frames_emitted, HasOneEnd}
 use Rattle.node_world.proofs.Behind.{all_far}
 use Rattle.node_world.proofs.SitesKept.{Walked, Next, walk_begins, walk_next, walk_ends}
+use Rattle.node_sites.specs.WorldNodes.{RunsAsHost}
 
 -- ## Ends to which nothing was sent yet
 
@@ -83,91 +83,88 @@ of_these Q (y ∷ front) x back a = of_these Q front x back a.1
 
 -- ## One host after another
 
-module _ (P : Type 0) (PRuns : P → Core → List Port → Type 0) (p_memory : P → Memory) where
-  -- the frames went out to the first hosts
-  pub record SendingOn (Runs : List Port → Type 0) (ports : List Port) (now : List (HostSite P)) (hosts : List Site) (before after : List Entry) (i : ℕ)
-      : Type 0 where
-    pub walked : Walked P PRuns p_memory (has_frames ports) (frames_emitted ports) now hosts before after i
-    pub runs : Runs (sent_to (hosts_in walked.done) ports)
+-- the frames went out to the first hosts
+pub record SendingOn (Runs : List Port → Type 0) (ports : List Port) (now : List HostSite) (hosts : List Site) (before after : List Entry) (i : ℕ)
+    : Type 0 where
+  pub walked : Walked (has_frames ports) (frames_emitted ports) now hosts before after i
+  pub runs : Runs (sent_to (hosts_in walked.done) ports)
 
-  pub sends_first : (Runs : List Port → Type 0) (ports : List Port) (now : List (HostSite P)) (hosts : List Site) (entries : List Entry)
-      → Runs ports → SitesAre PRuns p_memory now hosts → SendingOn Runs ports now hosts entries entries 0
-  sends_first Runs ports now hosts entries runs a =
-      let first = walk_begins P PRuns p_memory (has_frames ports) (frames_emitted ports) now hosts entries a in
-      record { walked = first.walked; runs = subst Runs (ap (λ xs. sent_to (hosts_in xs) ports) (sym first.done_is)) runs }
+pub sends_first : (Runs : List Port → Type 0) (ports : List Port) (now : List HostSite) (hosts : List Site) (entries : List Entry)
+    → Runs ports → SitesAre now hosts → SendingOn Runs ports now hosts entries entries 0
+sends_first Runs ports now hosts entries runs a =
+    let first = walk_begins (has_frames ports) (frames_emitted ports) now hosts entries a in
+    record { walked = first.walked; runs = subst Runs (ap (λ xs. sent_to (hosts_in xs) ports) (sym first.done_is)) runs }
 
-  -- those to the next one
-  pub record SendsNext (Runs : List Port → Type 0) (ports : List Port) (now : List (HostSite P)) (hosts : List Site) (before after : List Entry) (i : ℕ)
-      (k : HostSite P) : Type 1 where
-    pub ends : List Port
-    pub port : Port
-    pub link : Link
-    pub sends : SendsFrom (Runs ends) (record { link = k.host; at_host = false }) port ends
-    pub wires : WiresStandFor k.wires link
-    pub goes : (Again : List Port → Type 0) (new : Wires) (later : List Entry) → Again (with_port k.host sent_port ends)
-        → WiresStandFor new (put_all link (frames_out port.side)) → later ≡ after ++ entries_for k.host (puts_entries Controller link (frames_out port.side))
-        → SendingOn Again ports (slice_set now i (record k { wires = new })) hosts before later (i + 1)
+-- those to the next one
+pub record SendsNext (Runs : List Port → Type 0) (ports : List Port) (now : List HostSite) (hosts : List Site) (before after : List Entry) (i : ℕ)
+    (k : HostSite) : Type 1 where
+  pub ends : List Port
+  pub port : Port
+  pub link : Link
+  pub sends : SendsFrom (Runs ends) (record { link = k.host; at_host = false }) port ends
+  pub wires : WiresStandFor k.wires link
+  pub goes : (Again : List Port → Type 0) (new : Wires) (later : List Entry) → Again (with_port k.host sent_port ends)
+      → WiresStandFor new (put_all link (frames_out port.side)) → later ≡ after ++ entries_for k.host (puts_entries Controller link (frames_out port.side))
+      → SendingOn Again ports (slice_set now i (record k { wires = new })) hosts before later (i + 1)
 
-  pub sends_next : (Runs : List Port → Type 0) (ports : List Port) (now : List (HostSite P)) (hosts : List Site) (before after : List Entry) (i : ℕ)
-      (k : HostSite P) → AreDifferent (hosts_in hosts) → AllByRecursion (HasOneEnd ports) (hosts_in hosts)
-      → SendingOn Runs ports now hosts before after i → i < length now → k ≡ get_or now i k → SendsNext Runs ports now hosts before after i k
-  sends_next Runs ports now hosts before after i k different ends s lt read =
-      let done : List Site = s.walked.done in
-      let n : Next P PRuns p_memory (has_frames ports) (frames_emitted ports) now hosts before after i k done =
-      walk_next P PRuns p_memory (has_frames ports) (frames_emitted ports) now hosts before after i k s.walked lt read in
-      let x : Site = n.site in
-      let all : hosts_in hosts ≡ hosts_in done ++ x.host ∷ hosts_in n.back = ap hosts_in n.is ∙ map-append (λ (z : Site). z.host) done (x ∷ n.back) in
-      let one : HasOneEnd ports x.host =
-      of_these (HasOneEnd ports) (hosts_in done) x.host (hosts_in n.back) (subst (AllByRecursion (HasOneEnd ports)) all ends) in
-      let others : AllByRecursion (λ h. (h == x.host) ≡ false) (hosts_in done) =
-      others_before (hosts_in done) x.host (hosts_in n.back) (subst AreDifferent all different) in
-      let now_ends : List Port = sent_to (hosts_in done) ports in
-      let there = stays (hosts_in done) x.host ports one.port others one.here one.only in
-      let At : ℕ → Type 0 = λ h. SendsFrom (Runs now_ends) (record { link = h; at_host = false }) one.port now_ends in
-      let due : due_at ports x.host ≡ frames_out one.port.side = ap (λ o. option_map_or (λ (p : Port). frames_out p.side) o []) one.here in
-      record {
-        ends = now_ends;
-        port = one.port;
-        link = x.link;
-        sends = subst At (sym n.here.host) (record { runs = s.runs; here = there.0; only = there.1 });
-        wires = n.here.wires;
-        goes = λ Again new later runs wires noted.
-            let W : List Control → Type 0 = λ cs. WiresStandFor new (put_all x.link cs) in
-            let site : SiteIs PRuns p_memory (record k { wires = new }) (has_frames ports x) =
-            with_frames k new x (due_at ports x.host) n.here (subst W (sym due) wires) in
-            let told : later ≡ after ++ frames_emitted ports x =
-            noted ∙ (ap (λ h. after ++ entries_for h (puts_entries Controller x.link (frames_out one.port.side))) n.here.host
-            ∙ ap (λ cs. after ++ entries_for x.host (puts_entries Controller x.link cs)) (sym due)) in
-            let longer = n.goes (record k { wires = new }) later site told in
-            let names : sent_to (hosts_in longer.walked.done) ports ≡ with_port x.host sent_port now_ends =
-            ap (λ xs. sent_to (hosts_in xs) ports) longer.done_is
-            ∙ (ap (λ hs. sent_to hs ports) (map-append (λ (z : Site). z.host) done (x ∷ [])) ∙ sent_last (hosts_in done) x.host ports) in
-            record {
-              walked = longer.walked;
-              runs = subst Again (ap (λ h. with_port h sent_port now_ends) n.here.host ∙ sym names) runs;
-            };
-      }
-    where
-      with_frames : (k : HostSite P) (new : Wires) (x : Site) (cs : List Control) → SiteIs PRuns p_memory k x → WiresStandFor new (put_all x.link cs)
-          → SiteIs PRuns p_memory (record k { wires = new }) (record x { link = put_all x.link cs })
-      with_frames k new x cs a wires =
-          let Q : NumberedEnd → Type 0 = λ e. IsNodePlace PRuns p_memory k.power x.memory x.node (λ h. e) in
-          record { host = a.host; wires = wires; place = subst Q (sym (all_far x.link cs)) a.place }
+pub sends_next : (Runs : List Port → Type 0) (ports : List Port) (now : List HostSite) (hosts : List Site) (before after : List Entry) (i : ℕ)
+    (k : HostSite) → AreDifferent (hosts_in hosts) → AllByRecursion (HasOneEnd ports) (hosts_in hosts)
+    → SendingOn Runs ports now hosts before after i → i < length now → k ≡ get_or now i k → SendsNext Runs ports now hosts before after i k
+sends_next Runs ports now hosts before after i k different ends s lt read =
+    let done : List Site = s.walked.done in
+    let n : Next (has_frames ports) (frames_emitted ports) now hosts before after i k done =
+    walk_next (has_frames ports) (frames_emitted ports) now hosts before after i k s.walked lt read in
+    let x : Site = n.site in
+    let all : hosts_in hosts ≡ hosts_in done ++ x.host ∷ hosts_in n.back = ap hosts_in n.is ∙ map-append (λ (z : Site). z.host) done (x ∷ n.back) in
+    let one : HasOneEnd ports x.host =
+    of_these (HasOneEnd ports) (hosts_in done) x.host (hosts_in n.back) (subst (AllByRecursion (HasOneEnd ports)) all ends) in
+    let others : AllByRecursion (λ h. (h == x.host) ≡ false) (hosts_in done) =
+    others_before (hosts_in done) x.host (hosts_in n.back) (subst AreDifferent all different) in
+    let now_ends : List Port = sent_to (hosts_in done) ports in
+    let there = stays (hosts_in done) x.host ports one.port others one.here one.only in
+    let At : ℕ → Type 0 = λ h. SendsFrom (Runs now_ends) (record { link = h; at_host = false }) one.port now_ends in
+    let due : due_at ports x.host ≡ frames_out one.port.side = ap (λ o. option_map_or (λ (p : Port). frames_out p.side) o []) one.here in
+    record {
+      ends = now_ends;
+      port = one.port;
+      link = x.link;
+      sends = subst At (sym n.here.host) (record { runs = s.runs; here = there.0; only = there.1 });
+      wires = n.here.wires;
+      goes = λ Again new later runs wires noted.
+          let W : List Control → Type 0 = λ cs. WiresStandFor new (put_all x.link cs) in
+          let site : SiteIs (record k { wires = new }) (has_frames ports x) =
+          with_frames k new x (due_at ports x.host) n.here (subst W (sym due) wires) in
+          let told : later ≡ after ++ frames_emitted ports x =
+          noted ∙ (ap (λ h. after ++ entries_for h (puts_entries Controller x.link (frames_out one.port.side))) n.here.host
+          ∙ ap (λ cs. after ++ entries_for x.host (puts_entries Controller x.link cs)) (sym due)) in
+          let longer = n.goes (record k { wires = new }) later site told in
+          let names : sent_to (hosts_in longer.walked.done) ports ≡ with_port x.host sent_port now_ends =
+          ap (λ xs. sent_to (hosts_in xs) ports) longer.done_is
+          ∙ (ap (λ hs. sent_to hs ports) (map-append (λ (z : Site). z.host) done (x ∷ [])) ∙ sent_last (hosts_in done) x.host ports) in
+          record {
+            walked = longer.walked;
+            runs = subst Again (ap (λ h. with_port h sent_port now_ends) n.here.host ∙ sym names) runs;
+          };
+    }
+  where
+    with_frames : (k : HostSite) (new : Wires) (x : Site) (cs : List Control) → SiteIs k x → WiresStandFor new (put_all x.link cs)
+        → SiteIs (record k { wires = new }) (record x { link = put_all x.link cs })
+    with_frames k new x cs a wires =
+        let Q : NumberedEnd → Type 0 = λ e. IsNodePlace RunsAsHost k.power x.memory x.node (λ h. e) in
+        record { host = a.host; wires = wires; place = subst Q (sym (all_far x.link cs)) a.place }
 
-  pub all_sent : (Runs : List Port → Type 0) (ports : List Port) (now : List (HostSite P)) (hosts : List Site) (before after : List Entry) (i : ℕ)
-      → SendingOn Runs ports now hosts before after i → length now ≤ i
-      → Runs (sent_to (hosts_in hosts) ports) × SitesAre PRuns p_memory now (map (has_frames ports) hosts)
-      × (after ≡ before ++ flat_map (frames_emitted ports) hosts)
-  all_sent Runs ports now hosts before after i s over =
-      let e = walk_ends P PRuns p_memory (has_frames ports) (frames_emitted ports) now hosts before after i s.walked over in
-      (subst Runs (ap (λ xs. sent_to (hosts_in xs) ports) e.2) s.runs, e.0, e.1)
+pub all_sent : (Runs : List Port → Type 0) (ports : List Port) (now : List HostSite) (hosts : List Site) (before after : List Entry) (i : ℕ)
+    → SendingOn Runs ports now hosts before after i → length now ≤ i → Runs (sent_to (hosts_in hosts) ports) × SitesAre now (map (has_frames ports) hosts)
+    × (after ≡ before ++ flat_map (frames_emitted ports) hosts)
+all_sent Runs ports now hosts before after i s over =
+    let e = walk_ends (has_frames ports) (frames_emitted ports) now hosts before after i s.walked over in
+    (subst Runs (ap (λ xs. sent_to (hosts_in xs) ports) e.2) s.runs, e.0, e.1)
 
 -- the room that is left on the wires to the hosts behind one to which frames went out
-pub room_left : (P : Type 0) (now : List (HostSite P)) (i : ℕ) (k : HostSite P) → i < length now → HaveRoom (drop i now)
-    → HaveRoom (drop (i + 1) (slice_set now i k))
-room_left P now i k lt a =
+pub room_left : (now : List HostSite) (i : ℕ) (k : HostSite) → i < length now → HaveRoom (drop i now) → HaveRoom (drop (i + 1) (slice_set now i k))
+room_left now i k lt a =
     let parts : drop i now ≡ get_or now i k ∷ drop (i + 1) now = drop_more now i k lt in
     let same : drop (i + 1) (slice_set now i k) ≡ drop (i + 1) now = drop-set-lt (i + 1) now i k (omega arith) in
-    let R : List (HostSite P) → Type 0 = λ xs. HaveRoom xs in
+    let R : List HostSite → Type 0 = λ xs. HaveRoom xs in
     let all : HaveRoom (get_or now i k ∷ drop (i + 1) now) = subst R parts a in
     subst R (sym same) all.1

@@ -13,55 +13,55 @@ use Rattle.link_laws.specs.messages.Links.{Link, Comes, Ending, exchanged, happe
 use Rattle.link_laws.specs.messages.Links.Comes.{NextFrame}
 use Rattle.link_laws.specs.messages.Links.EndEvent.{Step}
 use Rattle.link_laws.specs.entries.Entries.End.{Host}
-use Rattle.node_machine.specs.Parts.{Core, Running, Port, Work}
+use Rattle.node_machine.specs.Parts.{Running, Work}
 use Rattle.node_machine.specs.Node.{steps}
 use Rattle.node_machine.specs.Node.NodeInput.{AtEnd}
 use Rattle.node_machine.specs.world.World.{Site, input_of, wires_for, frames_noted, host_work, host_ticks}
 use Rattle.node_machine.proofs.world.Cases.{host_tick, after_tick}
 use Rattle.node_sites.specs.declared.places.HostSite.{HostSite}
 use Rattle.node_sites.specs.LinksKept.{IsFirst, IsReadFirst}
-use Rattle.node_sites.specs.declared.power.Power.{Power}
 use Rattle.node_sites.specs.declared.power.Power.TheVariants.{On, Off}
-use Rattle.node_sites.specs.Powers.{IsNodePlace}
+use Rattle.node_sites.specs.Powers.{IsNodePlace, node_memory, NodePower}
 use Rattle.node_sites.specs.Places.{SiteIs}
 use Rattle.node_world.specs.HostSteps.{host_stepped, host_hears, host_behind, HasBecome}
+use Rattle.node_core.specs.declared.node.Node.{Node}
+use Rattle.node_sites.specs.WorldNodes.{RunsAsHost}
 
 -- ## What is kept
 
-module _ (P : Type 0) (Runs : P → Core → List Port → Type 0) (memory_of : P → Memory) where
-  -- a host runs
-  pub record IsOn (k : HostSite P) (s : Site) (n : P) : Type 0 where
-    pub running : Running
-    pub runs : s.node ≡ Some running
-    pub memory : memory_of n ≡ s.memory
+-- a host runs
+pub record IsOn (k : HostSite) (s : Site) (n : Node Memory) : Type 0 where
+  pub running : Running
+  pub runs : s.node ≡ Some running
+  pub memory : node_memory n ≡ s.memory
 
-  pub is_on : {k : HostSite P} {s : Site} {n : P} → SiteIs Runs memory_of k s → k.power ≡ On n → IsOn k s n
-  is_on {k} {s} {n} is on =
-      let Q : Power P → Type 0 = λ a. IsNodePlace Runs memory_of a s.memory s.node (λ h. s.link.host) in
-      go s.node refl (subst Q on is.place)
-    where
-      go : (o : Option Running) → s.node ≡ o → IsNodePlace Runs memory_of (On n) s.memory o (λ h. s.link.host) → IsOn k s n
-      go (Some r) runs place = record { running = r; runs = runs; memory = place.0 }
-      go None runs place = absurd place
+pub is_on : {k : HostSite} {s : Site} {n : Node Memory} → SiteIs k s → k.power ≡ On n → IsOn k s n
+is_on {k} {s} {n} is on =
+    let Q : NodePower → Type 0 = λ a. IsNodePlace RunsAsHost a s.memory s.node (λ h. s.link.host) in
+    go s.node refl (subst Q on is.place)
+  where
+    go : (o : Option Running) → s.node ≡ o → IsNodePlace RunsAsHost (On n) s.memory o (λ h. s.link.host) → IsOn k s n
+    go (Some r) runs place = record { running = r; runs = runs; memory = place.0 }
+    go None runs place = absurd place
 
-  -- it doesn't
-  pub is_off : {k : HostSite P} {s : Site} → SiteIs Runs memory_of k s → ((n : P) → k.power ≡ On n → ⊥) → s.node ≡ None
-  is_off {k} {s} is on = go k.power s.node on is.place
-    where
-      go : (power : Power P) (o : Option Running) → ((n : P) → power ≡ On n → ⊥) → IsNodePlace Runs memory_of power s.memory o (λ h. s.link.host)
-          → o ≡ None
-      go (On n) o q place = absurd (q n refl)
-      go (Off m) None q place = refl
-      go (Off m) (Some r) q place = absurd place
+-- it doesn't
+pub is_off : {k : HostSite} {s : Site} → SiteIs k s → ((n : Node Memory) → k.power ≡ On n → ⊥) → s.node ≡ None
+is_off {k} {s} is on = go k.power s.node on is.place
+  where
+    go : (power : NodePower) (o : Option Running) → ((n : Node Memory) → power ≡ On n → ⊥) → IsNodePlace RunsAsHost power s.memory o (λ h. s.link.host)
+        → o ≡ None
+    go (On n) o q place = absurd (q n refl)
+    go (Off m) None q place = refl
+    go (Off m) (Some r) q place = absurd place
 
-  -- nothing happened
-  pub unchanged : {k : HostSite P} {s : Site} (entries : List Entry) → SiteIs Runs memory_of k s → HasBecome Runs memory_of k entries entries (s, [])
-  unchanged entries is = record { site = is; noted = sym (append-nil entries) }
+-- nothing happened
+pub unchanged : {k : HostSite} {s : Site} (entries : List Entry) → SiteIs k s → HasBecome k entries entries (s, [])
+unchanged entries is = record { site = is; noted = sym (append-nil entries) }
 
-  pub unchanged_as : {k : HostSite P} {s : Site} {after : Site × List Entry} (entries : List Entry) → SiteIs Runs memory_of k s → after ≡ (s, [])
-      → HasBecome Runs memory_of k entries entries after
-  unchanged_as {k} entries is q =
-      let B : Site × List Entry → Type 0 = λ x. HasBecome Runs memory_of k entries entries x in subst B (sym q) (unchanged entries is)
+pub unchanged_as : {k : HostSite} {s : Site} {after : Site × List Entry} (entries : List Entry) → SiteIs k s → after ≡ (s, [])
+    → HasBecome k entries entries after
+unchanged_as {k} entries is q =
+    let B : Site × List Entry → Type 0 = λ x. HasBecome k entries entries x in subst B (sym q) (unchanged entries is)
 
 -- ## What happens
 

@@ -16,12 +16,14 @@ use Rattle.node_machine.specs.world.World.{Site, near_end_in, arrival, port_for,
 use Rattle.node_laws.specs.telling.Telling.{HasEnds, IfItRuns}
 use Rattle.node_laws.proofs.telling.Nodes.{host_opened}
 use Rattle.node_sites.specs.declared.places.HostSite.{HostSite}
-use Rattle.node_sites.specs.WorldNodes.{as_kept, BeginsOver, BeginsAt, HasEndOf, MayBeginAt, MayBeginStep}
-use Rattle.node_sites.specs.declared.power.Power.{Power}
+use Rattle.node_sites.specs.WorldNodes.{as_kept, BeginsOver, BeginsAt, RunsAsHost}
 use Rattle.node_sites.specs.declared.power.Power.TheVariants.{On}
-use Rattle.node_sites.specs.Powers.{IsNodePlace}
+use Rattle.node_sites.specs.Powers.{IsNodePlace, NodePower}
 use Rattle.node_sites.specs.Places.{SiteIs}
 use Rattle.node_world.specs.HostSteps.{IsHostOf}
+use Rattle.node_core.specs.declared.node.Node.{Node}
+use Rattle.node_core.specs.Running.{RunsAs, MayStep}
+use Rattle.node_sites.proofs.NodesRun.{host_alike, may_step, of_host}
 
 -- what comes changes no end by itself
 pub near_side : (l : Link) (comes : Comes) → (near_end_in l comes).side ≡ l.controller.side
@@ -52,50 +54,40 @@ ports_fresh : (b : NumberedEnd) (desks : List Desk)
 ports_fresh b [] = tt
 ports_fresh b (d ∷ desks) = ((refl, refl), ports_fresh b desks)
 
-module _ (P : Type 0) (Runs : P → Core → List Port → Type 0) (memory_of : P → Memory)
-    (kept : (n : P) (core : Core) (ports others : List Port) → map as_kept ports ≡ map as_kept others → Runs n core ports → Runs n core others) where
-  -- a host that runs begins a step in which this comes
-  pub host_begins_so : (k : HostSite P) (s : Site) (n : P) (r : Running) (comes : Comes) (entries : List Entry) → SiteIs Runs memory_of k s → k.power ≡ On n
-      → s.node ≡ Some r → BeginsOver Runs memory_of n (work_of r s.memory.plan (λ j. near_end_in (exchanged s.link) comes) entries)
-  host_begins_so k s n r comes entries is on runs =
-      let Q : Power P → Option Running → Type 0 = λ a b. IsNodePlace Runs memory_of a s.memory b (λ h. s.link.host) in
-      let place : Q (On n) (Some r) = subst (Q (On n)) runs (subst (λ a. Q a s.node) on is.place) in
-      let side : s.link.host.side ≡ (near_end_in (exchanged s.link) comes).side = sym (near_side (exchanged s.link) comes) in
-      record {
-        runs = kept n r.core (map (λ (d : Desk). port_for s.link.host d) r.desks)
-            (map (λ (d : Desk). port_for (near_end_in (exchanged s.link) comes) d) r.desks)
-            (same_ports s.link.host (near_end_in (exchanged s.link) comes) r.desks side) place.1;
-        sent = ports_sent s.link.host (near_end_in (exchanged s.link) comes) r.desks side place.2;
-        fresh = ports_fresh (near_end_in (exchanged s.link) comes) r.desks;
-        power = refl;
-        plan = ap (λ (m : Memory). m.plan) (sym place.0);
-        writes = refl;
-      }
+-- a host that runs begins a step in which this comes
+pub host_begins_so : (k : HostSite) (s : Site) (n : Node Memory) (r : Running) (comes : Comes) (entries : List Entry) → SiteIs k s → k.power ≡ On n
+    → s.node ≡ Some r → BeginsOver RunsAsHost n (work_of r s.memory.plan (λ j. near_end_in (exchanged s.link) comes) entries)
+host_begins_so k s n r comes entries is on runs =
+    let Q : NodePower → Option Running → Type 0 = λ a b. IsNodePlace RunsAsHost a s.memory b (λ h. s.link.host) in
+    let place : Q (On n) (Some r) = subst (Q (On n)) runs (subst (λ a. Q a s.node) on is.place) in
+    let side : s.link.host.side ≡ (near_end_in (exchanged s.link) comes).side = sym (near_side (exchanged s.link) comes) in
+    record {
+      runs = host_alike (map (λ (d : Desk). port_for s.link.host d) r.desks) (map (λ (d : Desk). port_for (near_end_in (exchanged s.link) comes) d) r.desks)
+          (same_ports s.link.host (near_end_in (exchanged s.link) comes) r.desks side) place.1;
+      sent = ports_sent s.link.host (near_end_in (exchanged s.link) comes) r.desks side place.2;
+      fresh = ports_fresh (near_end_in (exchanged s.link) comes) r.desks;
+      power = refl;
+      plan = ap (λ (m : Memory). m.plan) (sym place.0);
+      writes = refl;
+    }
 
 -- It has the end of its own link.
-module _ (P : Type 0) (Runs : P → Core → List Port → Type 0) (memory_of : P → Memory)
-    (kept : (n : P) (core : Core) (ports others : List Port) → map as_kept ports ≡ map as_kept others → Runs n core ports → Runs n core others) where
-  pub begins_at_end : (k : HostSite P) (s : Site) (n : P) (r : Running) (comes : Comes) → SiteIs Runs memory_of k s → IsHostOf s → k.power ≡ On n
-      → s.node ≡ Some r
-      → BeginsAt Runs memory_of n k.host
-      (work_of r s.memory.plan (λ j. near_end_in (exchanged s.link) comes) (entries_for s.host (arrival Host (exchanged s.link) comes)))
-  begins_at_end k s n r comes is host on runs =
-      let ends : HasEnds s.host (s.host ∷ []) r = subst (IfItRuns s.host (s.host ∷ [])) runs host.ends in
-      let first = host_opened s r comes host.number ends in
-      let w : Work = work_of r s.memory.plan (λ j. near_end_in (exchanged s.link) comes) (entries_for s.host (arrival Host (exchanged s.link) comes)) in
-      let H : ℕ → Type 0 = λ h. port_at w.ports h ≡ Some first.port in
-      record {
-        begins = host_begins_so P Runs memory_of kept k s n r comes (entries_for s.host (arrival Host (exchanged s.link) comes)) is on runs;
-        port = first.port;
-        here = subst H (sym is.host) first.here;
-      }
+pub begins_at_end : (k : HostSite) (s : Site) (n : Node Memory) (r : Running) (comes : Comes) → SiteIs k s → IsHostOf s → k.power ≡ On n → s.node ≡ Some r
+    → BeginsAt RunsAsHost n k.host
+    (work_of r s.memory.plan (λ j. near_end_in (exchanged s.link) comes) (entries_for s.host (arrival Host (exchanged s.link) comes)))
+begins_at_end k s n r comes is host on runs =
+    let ends : HasEnds s.host (s.host ∷ []) r = subst (IfItRuns s.host (s.host ∷ [])) runs host.ends in
+    let first = host_opened s r comes host.number ends in
+    let w : Work = work_of r s.memory.plan (λ j. near_end_in (exchanged s.link) comes) (entries_for s.host (arrival Host (exchanged s.link) comes)) in
+    let H : ℕ → Type 0 = λ h. port_at w.ports h ≡ Some first.port in
+    record {
+      begins = host_begins_so k s n r comes (entries_for s.host (arrival Host (exchanged s.link) comes)) is on runs;
+      port = first.port;
+      here = subst H (sym is.host) first.here;
+    }
 
-  pub has_end : {n : P} {h : ℕ} {w : Work} → BeginsAt Runs memory_of n h w → HasEndOf Runs n h
-  has_end {w = w} b = record { core = w.core; ports = w.ports; runs = b.begins.runs; port = b.port; here = b.here }
+pub has_end : {n : Node Memory} {h : ℕ} {w : Work} → BeginsAt RunsAsHost n h w → (core : Core) × (ports : List Port) × RunsAs n core ports
+has_end {w = w} b = (w.core, w.ports, b.begins.runs.runs)
 
-  pub may_begin : {n : P} {h : ℕ} {w : Work} → BeginsAt Runs memory_of n h w → MayBeginAt Runs n h
-  may_begin {w = w} b =
-      record { has = record { core = w.core; ports = w.ports; runs = b.begins.runs; port = b.port; here = b.here }; sent = b.begins.sent }
-
-  pub may_begin_step : {n : P} {h : ℕ} {w : Work} → BeginsAt Runs memory_of n h w → MayBeginStep Runs n
-  may_begin_step {w = w} b = record { core = w.core; ports = w.ports; runs = b.begins.runs; sent = b.begins.sent }
+pub may_begin : {n : Node Memory} {h : ℕ} {w : Work} → BeginsAt RunsAsHost n h w → MayStep n
+may_begin b = may_step RunsAsHost of_host b.begins

@@ -19,14 +19,15 @@ use Rattle.node_ends.specs.Making.{new_port}
 use Rattle.node_sites.specs.declared.places.HostSite.{HostSite}
 use Rattle.node_sites.specs.declared.wires.Wires.{Wires}
 use Rattle.node_sites.specs.LinksKept.{WiresStandFor, with_bare_wires}
-use Rattle.node_sites.specs.WorldNodes.{as_kept}
-use Rattle.node_sites.specs.declared.power.Power.{Power}
 use Rattle.node_sites.specs.declared.power.Power.TheVariants.{On, Off}
-use Rattle.node_sites.specs.Powers.{IsNodePlace}
+use Rattle.node_sites.specs.Powers.{IsNodePlace, NodePower}
 use Rattle.node_sites.specs.WorldBoots.{EndsBoot}
 use Rattle.node_sites.specs.Places.{SiteIs}
 use Rattle.node_world.specs.HostSteps.{host_boots, HasBecome}
 use Rattle.node_world.proofs.GoingOn.{goes_on, cut_same, same_stand, same_exchanged}
+use Rattle.node_core.specs.declared.node.Node.{Node}
+use Rattle.node_sites.specs.WorldNodes.{RunsAsHost}
+use Rattle.node_sites.proofs.NodesRun.{host_alike}
 
 pub boot_goes : (s : Site) → fails_within (length (boot_writes s.memory.content)) s.memory.plan ≡ false
     → host_boots s ≡ (
@@ -39,54 +40,47 @@ pub boot_stops : (s : Site) → fails_within (length (boot_writes s.memory.conte
     → host_boots s ≡ (host_cut (record s { memory = after_planned (boot_writes s.memory.content) s.memory }), note.Cut s.host ∷ [])
 boot_stops s q = rw q refl
 
-module _ (P : Type 0) (Runs : P → Core → List Port → Type 0) (memory_of : P → Memory) where
-  module _
-      (kept : (n : P) (core : Core) (ports others : List Port) → map as_kept ports ≡ map as_kept others → Runs n core ports → Runs n core others) where
-    new_ports : (n : P) (core : Core) (s : Site) → s.link.host.side ≡ new_link_end (Uicc new_uicc)
-        → Runs n core (map (new_port named.Uicc) (s.host ∷ []))
-        → Runs n core (map (λ d. port_for s.link.host d) (map new_desk (s.host ∷ [])))
-    new_ports n core s side runs =
-        kept n core (map (new_port named.Uicc) (s.host ∷ [])) (map (λ d. port_for s.link.host d) (map new_desk (s.host ∷ [])))
-        (ap (λ (e : LinkEnd). record { desk = new_desk s.host; side = e; session = 0; late = false; ended = false; turns = [] } ∷ []) (sym side)) runs
+new_ports : (n : Node Memory) (core : Core) (s : Site) → s.link.host.side ≡ new_link_end (Uicc new_uicc)
+    → RunsAsHost n core (map (new_port named.Uicc) (s.host ∷ [])) → RunsAsHost n core (map (λ d. port_for s.link.host d) (map new_desk (s.host ∷ [])))
+new_ports n core s side runs =
+    host_alike (map (new_port named.Uicc) (s.host ∷ [])) (map (λ d. port_for s.link.host d) (map new_desk (s.host ∷ [])))
+    (ap (λ (e : LinkEnd). record { desk = new_desk s.host; side = e; session = 0; late = false; ended = false; turns = [] } ∷ []) (sym side)) runs
 
-    pub runs_now : (k : HostSite P) (new : Power P) (s : Site) (n : P) (count : ℕ) (before : List Entry) {now : List Entry} → new ≡ On n
-        → SiteIs Runs memory_of k s → s.link.host.side ≡ new_link_end (Uicc new_uicc)
-        → EndsBoot Runs memory_of s.host (s.host ∷ []) named.Uicc s.memory new
-        → ((core : Core) (ports : List Port) → Runs n core ports → count ≡ count_of core.journal) → now ≡ before ++ note.Booted k.host count ∷ []
-        → HasBecome Runs memory_of (record k { power = new }) before now (host_boots s)
-    runs_now k new s n count before {now} on is side booted counts noted =
-        let b = subst (EndsBoot Runs memory_of s.host (s.host ∷ []) named.Uicc s.memory) on booted in
-        let r : Running = found s.host (s.host ∷ []) s.memory.content in
-        let C : Site × List Entry → Type 0 = λ x. HasBecome Runs memory_of (record k { power = new }) before now x in
-        let N : Power P → Type 0 = λ a.
-        IsNodePlace Runs memory_of a (after_planned (boot_writes s.memory.content) s.memory) (Some r) (λ h. s.link.host) in
-        subst C (sym (boot_goes s b.0))
-        (record {
-          site = record {
-            host = is.host;
-            wires = is.wires;
-            place = subst N (sym on) (b.1, new_ports n r.core s side b.2, (ap next_frame side, tt));
-          };
-          noted = noted ∙ ap₂ (λ h x. before ++ note.Booted h x ∷ []) is.host
-              (counts r.core (map (new_port named.Uicc) (s.host ∷ [])) b.2);
-        })
+pub runs_now : (k : HostSite) (new : NodePower) (s : Site) (n : Node Memory) (count : ℕ) (before : List Entry) {now : List Entry} → new ≡ On n
+    → SiteIs k s → s.link.host.side ≡ new_link_end (Uicc new_uicc) → EndsBoot RunsAsHost s.host (s.host ∷ []) named.Uicc s.memory new
+    → ((core : Core) (ports : List Port) → RunsAsHost n core ports → count ≡ count_of core.journal) → now ≡ before ++ note.Booted k.host count ∷ []
+    → HasBecome (record k { power = new }) before now (host_boots s)
+runs_now k new s n count before {now} on is side booted counts noted =
+    let b = subst (EndsBoot RunsAsHost s.host (s.host ∷ []) named.Uicc s.memory) on booted in
+    let r : Running = found s.host (s.host ∷ []) s.memory.content in
+    let C : Site × List Entry → Type 0 = λ x. HasBecome (record k { power = new }) before now x in
+    let N : NodePower → Type 0 = λ a. IsNodePlace RunsAsHost a (after_planned (boot_writes s.memory.content) s.memory) (Some r) (λ h. s.link.host) in
+    subst C (sym (boot_goes s b.0))
+    (record {
+      site = record {
+        host = is.host;
+        wires = is.wires;
+        place = subst N (sym on) (b.1, new_ports n r.core s side b.2, (ap next_frame side, tt));
+      };
+      noted = noted ∙ ap₂ (λ h x. before ++ note.Booted h x ∷ []) is.host (counts r.core (map (new_port named.Uicc) (s.host ∷ [])) b.2);
+    })
 
-  pub lost_power : (k : HostSite P) (new : Power P) (s : Site) (left : Memory) (wires : Wires) (before : List Entry) {now : List Entry} → new ≡ Off left
-      → SiteIs Runs memory_of k s → EndsBoot Runs memory_of s.host (s.host ∷ []) named.Uicc s.memory new
-      → WiresStandFor wires (with_bare_wires s.link) → now ≡ before ++ note.Cut k.host ∷ []
-      → HasBecome Runs memory_of (record { host = k.host; wires = wires; power = new }) before now (host_boots s)
-  lost_power k new s left wires before {now} off is booted empty noted =
-      let b = subst (EndsBoot Runs memory_of s.host (s.host ∷ []) named.Uicc s.memory) off booted in
-      let C : Site × List Entry → Type 0 = λ x. HasBecome Runs memory_of (record { host = k.host; wires = wires; power = new }) before now x in
-      let gone : Site = host_cut (record s { memory = after_planned (boot_writes s.memory.content) s.memory }) in
-      let N : Power P → Type 0 = λ a. IsNodePlace Runs memory_of a gone.memory None (λ h. gone.link.host) in
-      let g = goes_on (exchanged s.link) NoInput None [] refl tt in
-      subst C (sym (boot_stops s b.0))
-      (record {
-        site = record {
-          host = is.host;
-          wires = same_stand (same_exchanged (cut_same g)) empty;
-          place = subst N (sym off) b.1;
-        };
-        noted = noted ∙ ap (λ h. before ++ note.Cut h ∷ []) is.host;
-      })
+pub lost_power : (k : HostSite) (new : NodePower) (s : Site) (left : Memory) (wires : Wires) (before : List Entry) {now : List Entry} → new ≡ Off left
+    → SiteIs k s → EndsBoot RunsAsHost s.host (s.host ∷ []) named.Uicc s.memory new
+    → WiresStandFor wires (with_bare_wires s.link) → now ≡ before ++ note.Cut k.host ∷ []
+    → HasBecome (record { host = k.host; wires = wires; power = new }) before now (host_boots s)
+lost_power k new s left wires before {now} off is booted empty noted =
+    let b = subst (EndsBoot RunsAsHost s.host (s.host ∷ []) named.Uicc s.memory) off booted in
+    let C : Site × List Entry → Type 0 = λ x. HasBecome (record { host = k.host; wires = wires; power = new }) before now x in
+    let gone : Site = host_cut (record s { memory = after_planned (boot_writes s.memory.content) s.memory }) in
+    let N : NodePower → Type 0 = λ a. IsNodePlace RunsAsHost a gone.memory None (λ h. gone.link.host) in
+    let g = goes_on (exchanged s.link) NoInput None [] refl tt in
+    subst C (sym (boot_stops s b.0))
+    (record {
+      site = record {
+        host = is.host;
+        wires = same_stand (same_exchanged (cut_same g)) empty;
+        place = subst N (sym off) b.1;
+      };
+      noted = noted ∙ ap (λ h. before ++ note.Cut h ∷ []) is.host;
+    })

@@ -1,9 +1,7 @@
 -- What a host does in a step, as the world keeps it: proved once for whatever begins the step.
-use Rattle.std.proofs.Common.{◌≡◌, ℕ, Bool, true, false, cond, not, List, [], ◌∷◌, ◌++◌, map, refl, ap, sym, subst, ◌∙◌, append-nil, append_assoc}
+use Rattle.std.proofs.Common.{◌≡◌, ℕ, Bool, true, false, cond, not, List, [], ◌∷◌, ◌++◌, refl, ap, sym, subst, ◌∙◌, append-nil, append_assoc}
 use Rattle.std.specs.Prelude.{Some, None, Result, Ok, Err, OnOk}
-use Rattle.std.specs.List.{AllByRecursion}
 use Rattle.std.specs.Option.{option_map_or}
-use Rattle.swp_base.specs.InMemory.{Memory}
 use Rattle.trace_model.specs.declared.entry.Entry.{Entry}
 use Rattle.swp_base.specs.declared.outside.NoMemory.{NoMemory}
 use Rattle.link_laws.specs.machine.Machine.{Turn, next_frame, frames_out, sent_all}
@@ -12,18 +10,19 @@ use Rattle.link_laws.specs.messages.Links.Ending.{GoesOut, CutOff}
 use Rattle.link_laws.specs.entries.Entries.{puts_entries, ending_entries}
 use Rattle.link_laws.specs.entries.Entries.End.{Host}
 use Rattle.history.specs.Steps.{entries_for}
-use Rattle.node_machine.specs.Parts.{Core, Port, Work}
+use Rattle.node_machine.specs.Parts.{Port, Work}
 use Rattle.node_machine.specs.Carrying.{port_at}
 use Rattle.node_machine.specs.world.World.{Site, ending_of, frames_noted}
 use Rattle.node_laws.specs.kept.Books.{hosts_of_ends}
 use Rattle.node_sites.specs.declared.places.HostSite.{HostSite}
 use Rattle.node_sites.specs.LinksKept.{WiresStandFor}
-use Rattle.node_sites.specs.WorldNodes.{GoesOutWhole, as_kept}
+use Rattle.node_sites.specs.WorldNodes.{GoesOutWhole}
 use Rattle.node_sites.specs.FramesOut.{IsOnly}
 use Rattle.node_sites.specs.Places.{IsFinishing, RunsOn, WentOff}
 use Rattle.node_world.specs.HostSteps.{host_behind, IsToSend, HasBecome}
 use Rattle.node_sites.proofs.FramesGoOut.{at_found}
 use Rattle.node_world.proofs.HostsGo.{one_port, host_runs_on, host_went_off}
+use Rattle.node_core.proofs.Between.{all_one_by_one}
 
 -- the one end of a host is its only one
 pub only_one : (h : ℕ) (p : Port) (ports : List Port) → hosts_of_ends ports ≡ h ∷ [] → port_at ports h ≡ Some p → IsOnly h p ports
@@ -41,13 +40,10 @@ frames_off h l k p off here =
     ap (λ o. option_map_or (λ (x : Port). entries_for h (ending_entries Host l x.side (ending_of k))) o []) here
     ∙ ap (λ (b : Bool). entries_for h (ending_entries Host l p.side (cond b CutOff GoesOut))) off
 
-module _ (P : Type 0) (Runs : P → Core → List Port → Type 0) (memory_of : P → Memory)
-    (kept : (n : P) (core : Core) (ports others : List Port) → map as_kept ports ≡ map as_kept others → Runs n core ports → Runs n core others)
-    (whole : (n : P) (core : Core) (ports : List Port) → Runs n core ports → AllByRecursion (λ (p : Port). GoesOutWhole p.side) ports)
-    (mid : HostSite P) (live : Bool) (noted : List Entry) (short : Bool) (before : List Entry) (s : Site) (step : List Turn → Ending → Link) (l : Link)
-    (w : Work) (is : IsToSend Runs memory_of mid live noted short before s step l w) where
+module _ (mid : HostSite) (live : Bool) (noted : List Entry) (short : Bool) (before : List Entry) (s : Site) (step : List Turn → Ending → Link) (l : Link)
+    (w : Work) (is : IsToSend mid live noted short before s step l w) where
   -- as its frames are to go out on the wires of a link
-  pub finishing : (m : Link) → WiresStandFor mid.wires (exchanged m) → IsFinishing Runs mid is.node live w is.here.port m
+  pub finishing : (m : Link) → WiresStandFor mid.wires (exchanged m) → IsFinishing mid is.node live w is.here.port m
   finishing m wires =
       record {
         on = is.on;
@@ -58,16 +54,16 @@ module _ (P : Type 0) (Runs : P → Core → List Port → Type 0) (memory_of : 
       }
 
   -- They went out: on the wires of the link that the law goes on with, and on those of the one of which they are noted.
-  has_run_on : (new : HostSite P) (now : List Entry) → live ≡ true → new.host ≡ mid.host
-      → RunsOn Runs memory_of mid new is.node w is.here.port is.here.link before now → RunsOn Runs memory_of mid new is.node w is.here.port is.bare before now
-      → HasBecome Runs memory_of new before now (host_behind s step w, w.entries ++ frames_noted Host s.host l w)
+  has_run_on : (new : HostSite) (now : List Entry) → live ≡ true → new.host ≡ mid.host
+      → RunsOn mid new is.node w is.here.port is.here.link before now → RunsOn mid new is.node w is.here.port is.bare before now
+      → HasBecome new before now (host_behind s step w, w.entries ++ frames_noted Host s.host l w)
   has_run_on new now up same r notes =
       let p : Port = is.here.port in
       let power : w.cut ≡ false = is.power ∙ ap not up in
       let none : next_frame (sent_all p.side) ≡ None =
-      (at_found (λ (q : Port). GoesOutWhole q.side) s.host p w.ports (whole is.node w.core w.ports (is.runs up)) is.here.here).none in
+      (at_found (λ (q : Port). GoesOutWhole q.side) s.host p w.ports (all_one_by_one (is.runs up).runs) is.here.here).none in
       record {
-        site = host_runs_on P Runs memory_of kept s step w is.here mid new is.node is.memory (same ∙ is.host) power is.host is.ends none r;
+        site = host_runs_on s step w is.here mid new is.node is.memory (same ∙ is.host) power is.host is.ends none r;
         noted = notes.noted
             ∙ (append_assoc before w.entries (entries_for mid.host (puts_entries Host is.bare (frames_out p.side)))
             ∙ ap (λ es. before ++ (w.entries ++ es))
@@ -76,26 +72,25 @@ module _ (P : Type 0) (Runs : P → Core → List Port → Type 0) (memory_of : 
       }
 
   -- it has lost its power
-  has_gone_off : (new : HostSite P) (now : List Entry) → live ≡ false → new.host ≡ mid.host
-      → WentOff memory_of new is.node w is.here.link before now
-      → HasBecome Runs memory_of new before now (host_behind s step w, w.entries ++ frames_noted Host s.host l w)
+  has_gone_off : (new : HostSite) (now : List Entry) → live ≡ false → new.host ≡ mid.host → WentOff new is.node w is.here.link before now
+      → HasBecome new before now (host_behind s step w, w.entries ++ frames_noted Host s.host l w)
   has_gone_off new now down same r =
       let power : w.cut ≡ true = is.power ∙ ap not down in
       record {
-        site = host_went_off P Runs memory_of kept s step w is.here mid new is.node is.memory (same ∙ is.host) power r;
+        site = host_went_off s step w is.here mid new is.node is.memory (same ∙ is.host) power r;
         noted = r.noted
             ∙ ap (λ es. before ++ es)
             (sym (append-nil w.entries) ∙ ap (λ es. w.entries ++ es) (sym (frames_off s.host l w is.here.port power is.here.here)));
       }
 
-  pub has_finished : (result : Result (Unit {0}) NoMemory) (new : HostSite P) (now : List Entry) → new.host ≡ mid.host
-      → (live ≡ true → OnOk result (RunsOn Runs memory_of mid new is.node w is.here.port is.here.link before now))
-      → (live ≡ true → OnOk result (RunsOn Runs memory_of mid new is.node w is.here.port is.bare before now))
-      → (live ≡ false → OnOk result (WentOff memory_of new is.node w is.here.link before now))
-      → OnOk result (HasBecome Runs memory_of new before now (host_behind s step w, w.entries ++ frames_noted Host s.host l w))
+  pub has_finished : (result : Result (Unit {0}) NoMemory) (new : HostSite) (now : List Entry) → new.host ≡ mid.host
+      → (live ≡ true → OnOk result (RunsOn mid new is.node w is.here.port is.here.link before now))
+      → (live ≡ true → OnOk result (RunsOn mid new is.node w is.here.port is.bare before now))
+      → (live ≡ false → OnOk result (WentOff new is.node w is.here.link before now))
+      → OnOk result (HasBecome new before now (host_behind s step w, w.entries ++ frames_noted Host s.host l w))
   has_finished (Err why) new now same goes notes off = tt
   has_finished (Ok done) new now same goes notes off = go live refl
     where
-      go : (b : Bool) → live ≡ b → HasBecome Runs memory_of new before now (host_behind s step w, w.entries ++ frames_noted Host s.host l w)
+      go : (b : Bool) → live ≡ b → HasBecome new before now (host_behind s step w, w.entries ++ frames_noted Host s.host l w)
       go true q = has_run_on new now q same (goes q) (notes q)
       go false q = has_gone_off new now q same (off q)

@@ -1,11 +1,10 @@
 -- What a host of the world that was found by its number refuses, and how the world stays as it is then.
 use Rattle.std.proofs.Common.{◌≡◌, ℕ, ◌==◌, false, List, [], refl, ap, sym, subst, ◌∙◌}
 use Rattle.std.specs.Prelude.{slice_set, Option, Some, None}
-use Rattle.swp_base.specs.InMemory.{Memory}
 use Rattle.trace_model.specs.declared.entry.Entry.{Entry}
 use Rattle.trace_model.specs.declared.entry.NoCause.{NoCause}
 use Rattle.trace_model.specs.declared.line.Line.TheVariants as line
-use Rattle.node_machine.specs.Parts.{Core, Port, Work}
+use Rattle.node_machine.specs.Parts.{Work}
 use Rattle.link_laws.specs.messages.Links.{Comes}
 use Rattle.node_machine.specs.world.World.{NodeWorld, Site, site_at, end_h, host_does}
 use Rattle.node_machine.specs.world.Lines.{refusal_in}
@@ -31,20 +30,19 @@ steps_there w h s found host comes f =
     let C : ℕ → Type 0 = λ n. ChangesSite w h s (host_stepped s comes (f s.host)) (host_does w h comes (f n)) in
     subst C host (does_in_world w h s found comes (f s.host))
 
-module _ (P : Type 0) (Runs : P → Core → List Port → Type 0) (memory_of : P → Memory) where
-  stays_so : (w : NodeWorld) (i h : ℕ) (a : StandsAt i h w.sites) → IsOrderly w → ChangesSite w h a.site (a.site, []) (w, [])
-  stays_so w i h a o =
-      record {
-        change = λ x. x;
-        world = ap (λ xs. record w { sites = xs }) (sym (site_changes w i h a (λ x. x) o ∙ sym a.is));
-        site = refl;
-        entries = refl;
-      }
+stays_so : (w : NodeWorld) (i h : ℕ) (a : StandsAt i h w.sites) → IsOrderly w → ChangesSite w h a.site (a.site, []) (w, [])
+stays_so w i h a o =
+    record {
+      change = λ x. x;
+      world = ap (λ xs. record w { sites = xs }) (sym (site_changes w i h a (λ x. x) o ∙ sym a.is));
+      site = refl;
+      entries = refl;
+    }
 
-  pub becomes_unless : (ks : List (HostSite P)) (w : NodeWorld) (i h : ℕ) (a : StandsAt i h w.sites) (new : HostSite P) (before later : List Entry)
-      (after : Site × List Entry) (now : NodeWorld × List Entry) (cause : Option NoCause) → IsOrderly w → SitesAre Runs memory_of ks w.sites
-      → ChangesSite w h a.site after now → BecomesUnless Runs memory_of new before later a.site after cause
-      → SitesBecome Runs memory_of (slice_set ks i new) before later (if_accepted cause w now)
-  becomes_unless ks w i h a new before later after now None o all c b = becomes P Runs memory_of ks w i h a new before later after now o all c b
-  becomes_unless ks w i h a new before later after now (Some cause) o all c b =
-      becomes P Runs memory_of ks w i h a new before later (a.site, []) (w, []) o all (stays_so w i h a o) b
+pub becomes_unless : (ks : List HostSite) (w : NodeWorld) (i h : ℕ) (a : StandsAt i h w.sites) (new : HostSite) (before later : List Entry)
+    (after : Site × List Entry) (now : NodeWorld × List Entry) (cause : Option NoCause) → IsOrderly w → SitesAre ks w.sites
+    → ChangesSite w h a.site after now → BecomesUnless new before later a.site after cause
+    → SitesBecome (slice_set ks i new) before later (if_accepted cause w now)
+becomes_unless ks w i h a new before later after now None o all c b = becomes ks w i h a new before later after now o all c b
+becomes_unless ks w i h a new before later after now (Some cause) o all c b =
+    becomes ks w i h a new before later (a.site, []) (w, []) o all (stays_so w i h a o) b

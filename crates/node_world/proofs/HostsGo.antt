@@ -9,21 +9,22 @@ use Rattle.link_laws.proofs.entries.Lasting.{same_number}
 use Rattle.link_laws.specs.machine.Machine.{LinkEnd, Turn, next_frame, sent_all, new_link_end, renewed}
 use Rattle.link_laws.specs.messages.Links.{Link, NumberedEnd, Ending, exchanged, becomes, with_controller}
 use Rattle.link_laws.specs.messages.Links.Ending.{GoesOut, CutOff}
-use Rattle.node_machine.specs.Parts.{Core, Desk, Running, Port, Work}
+use Rattle.node_machine.specs.Parts.{Desk, Running, Port, Work}
 use Rattle.node_machine.specs.Carrying.{port_at, with_port, changed_if}
 use Rattle.node_machine.specs.world.World.{Site, turns_at, port_for}
 use Rattle.node_laws.specs.kept.Books.{hosts_of_ends}
 use Rattle.node_laws.proofs.telling.Accounts.{at_host}
 use Rattle.node_sites.specs.declared.places.HostSite.{HostSite}
 use Rattle.node_sites.specs.LinksKept.{SameWires, with_bare_wires}
-use Rattle.node_sites.specs.WorldNodes.{as_kept}
+use Rattle.node_sites.specs.WorldNodes.{as_kept, RunsAsHost}
 use Rattle.node_sites.specs.FramesOut.{sent_port}
-use Rattle.node_sites.specs.declared.power.Power.{Power}
 use Rattle.node_sites.specs.declared.power.Power.TheVariants.{On, Off}
-use Rattle.node_sites.specs.Powers.{IsNodePlace}
+use Rattle.node_sites.specs.Powers.{IsNodePlace, node_memory, NodePower}
 use Rattle.node_sites.specs.Places.{SiteIs, RunsOn, WentOff}
 use Rattle.node_world.specs.HostSteps.{EndDoes, host_behind}
 use Rattle.node_world.proofs.GoingOn.{same_stand, same_exchanged, silent_same}
+use Rattle.node_core.specs.declared.node.Node.{Node}
+use Rattle.node_sites.proofs.NodesRun.{host_alike}
 
 -- ## Its one end
 
@@ -53,10 +54,8 @@ ends_next h p near_end ports q f side =
 
 -- ## It runs on
 
-module _ (P : Type 0) (Runs : P → Core → List Port → Type 0) (memory_of : P → Memory)
-    (kept : (n : P) (core : Core) (ports others : List Port) → map as_kept ports ≡ map as_kept others → Runs n core ports → Runs n core others)
-    (s : Site) (step : List Turn → Ending → Link) (k : Work) (e : EndDoes s.host step k) (old new : HostSite P) (n : P)
-    (memory : memory_of n ≡ after_planned k.writes s.memory) (host : new.host ≡ s.host) where
+module _ (s : Site) (step : List Turn → Ending → Link) (k : Work) (e : EndDoes s.host step k) (old new : HostSite) (n : Node Memory)
+    (memory : node_memory n ≡ after_planned k.writes s.memory) (host : new.host ≡ s.host) where
   -- the host, where its link has become this one and it runs so
   abbrev goes_to : Link → Option Running → Site
   goes_to l node = record s { link = exchanged l; memory = after_planned k.writes s.memory; node = node }
@@ -72,21 +71,20 @@ module _ (P : Type 0) (Runs : P → Core → List Port → Type 0) (memory_of : 
   all_sent (d ∷ desks) end q = (q, all_sent desks end q)
 
   pub host_runs_on : {before now : List Entry} → k.cut ≡ false → old.host ≡ s.host → hosts_of_ends k.ports ≡ s.host ∷ []
-      → next_frame (sent_all e.port.side) ≡ None → RunsOn Runs memory_of old new n k e.port e.link before now
-      → SiteIs Runs memory_of new (host_behind s step k)
+      → next_frame (sent_all e.port.side) ≡ None → RunsOn old new n k e.port e.link before now → SiteIs new (host_behind s step k)
   host_runs_on on was hosts none r =
       let m : Link = e.link in
       let l : Link = becomes m e.port.side in
       let is : host_behind s step k ≡ goes_to l (Some left) =
       ap (λ (b : Bool). goes_to (step_so b) (cond b None (Some left))) on ∙ ap (λ (x : Link). goes_to x (Some left)) e.out in
       let near_end : NumberedEnd = l.controller in
-      let ports : Runs r.node k.core (map (λ (d : Desk). port_for near_end d) left.desks) =
-      kept r.node k.core (with_port old.host sent_port k.ports) (map (λ (d : Desk). port_for near_end d) left.desks)
+      let ports : RunsAsHost r.node k.core (map (λ (d : Desk). port_for near_end d) left.desks) =
+      host_alike (with_port old.host sent_port k.ports) (map (λ (d : Desk). port_for near_end d) left.desks)
       (ap (λ h. map as_kept (with_port h sent_port k.ports)) was ∙ ends_next s.host e.port near_end k.ports hosts e.here refl) r.runs in
-      let Place : Power P → Type 0 = λ a. IsNodePlace Runs memory_of a (after_planned k.writes s.memory) (Some left) (λ h. near_end) in
+      let Place : NodePower → Type 0 = λ a. IsNodePlace RunsAsHost a (after_planned k.writes s.memory) (Some left) (λ h. near_end) in
       let place : Place (On r.node) = (r.memory ∙ memory, ports, all_sent left.desks (sent_all e.port.side) none) in
       let w = r.wires in
-      let S : Site → Type 0 = λ x. SiteIs Runs memory_of new x in
+      let S : Site → Type 0 = λ x. SiteIs new x in
       subst S (sym is)
       (record {
         host = host;
@@ -115,11 +113,10 @@ module _ (P : Type 0) (Runs : P → Core → List Port → Type 0) (memory_of : 
         host = silent.host;
       })
 
-  pub host_went_off : {before now : List Entry} → k.cut ≡ true → WentOff memory_of new n k e.link before now
-      → SiteIs Runs memory_of new (host_behind s step k)
+  pub host_went_off : {before now : List Entry} → k.cut ≡ true → WentOff new n k e.link before now → SiteIs new (host_behind s step k)
   host_went_off off r =
       let is : host_behind s step k ≡ goes_to (step_so true) None = ap (λ (b : Bool). goes_to (step_so b) (cond b None (Some left))) off in
-      let Place : Power P → Type 0 = λ a. IsNodePlace Runs memory_of a (after_planned k.writes s.memory) None (λ h. (step_so true).controller) in
-      let place : Place (Off (memory_of n)) = memory in
-      let S : Site → Type 0 = λ x. SiteIs Runs memory_of new x in
+      let Place : NodePower → Type 0 = λ a. IsNodePlace RunsAsHost a (after_planned k.writes s.memory) None (λ h. (step_so true).controller) in
+      let place : Place (Off (node_memory n)) = memory in
+      let S : Site → Type 0 = λ x. SiteIs new x in
       subst S (sym is) (record { host = host; wires = same_stand (same_exchanged cut_so) r.wires; place = subst Place (sym r.off) place })

@@ -14,7 +14,7 @@ use Rattle.link_laws.specs.messages.Links.{Link, Comes, Ending, exchanged}
 use Rattle.link_laws.specs.messages.Links.Comes.{NextFrame, NoInput}
 use Rattle.link_laws.specs.entries.Entries.End.{Host}
 use Rattle.history.specs.Steps.{end_of, entries_for}
-use Rattle.node_machine.specs.Parts.{Core, Port, Work, Deed}
+use Rattle.node_machine.specs.Parts.{Work, Deed}
 use Rattle.node_machine.specs.Node.{steps, begins_with}
 use Rattle.node_machine.specs.Node.NodeInput.{AtEnd, TimePasses}
 use Rattle.node_machine.specs.world.World.{Site, input_of, near_end_in, arrival, wires_for, frames_noted, work_of, host_work, host_ticks}
@@ -27,15 +27,15 @@ use Rattle.node_sites.specs.declared.places.HostSite.{HostSite}
 use Rattle.node_sites.specs.declared.wires.WireEnd.{WireEnd}
 use Rattle.node_sites.specs.declared.wires.Wires.{Wires}
 use Rattle.node_sites.specs.LinksKept.{WireEndIs, WiresStandFor, as_it_comes, without_first, IsFirst}
-use Rattle.node_sites.specs.WorldNodes.{as_kept, BeginsOver, BeginsAt, HasGone, IsNotedSo}
-use Rattle.node_sites.specs.declared.power.Power.{Power}
+use Rattle.node_sites.specs.WorldNodes.{BeginsOver, BeginsAt, HasGone, IsNotedSo, RunsAsHost}
 use Rattle.node_sites.specs.declared.power.Power.TheVariants.{On}
-use Rattle.node_sites.specs.Powers.{IsNodePlace}
+use Rattle.node_sites.specs.Powers.{IsNodePlace, NodePower}
 use Rattle.node_sites.specs.Places.{SiteIs}
 use Rattle.node_world.specs.HostSteps.{host_stepped, host_hears, host_behind, IsHostOf, CountsComing, MayTick, IsToSend, HasBecome}
 use Rattle.node_world.proofs.HostsBegin.{begins_at_end}
 use Rattle.node_world.proofs.HostsAre.{IsOn, is_on, goes_by, stepped_on, hears_on, ticks_on, hears_none, none_first, first_taken}
 use Rattle.node_world.proofs.HostsHear.{HostDoes, hears, begins, ticks, tick_at_end, midway}
+use Rattle.node_core.specs.declared.node.Node.{Node}
 
 -- ## A frame that is taken
 
@@ -74,53 +74,49 @@ arrival_noted {now} session before h at l lpdu end = go l.to_controller
 -- ## What its node did
 
 -- A host's node has done its work, behind which the host is so and these were noted.
-pub record HasDone {P : Type 0} (Runs : P → Core → List Port → Type 0) (memory_of : P → Memory) (mid : HostSite P) (live : Bool) (now : List Entry)
-    (still : Bool) (before : List Entry) (s : Site) (after : Site × List Entry) : Type 0 where
+pub record HasDone (mid : HostSite) (live : Bool) (now : List Entry) (still : Bool) (before : List Entry) (s : Site)
+    (after : Site × List Entry) : Type 0 where
   pub step : List Turn → Ending → Link
   pub l : Link
   pub w : Work
-  pub midway : IsToSend Runs memory_of mid live now still before s step l w
+  pub midway : IsToSend mid live now still before s step l w
   pub is : after ≡ (host_behind s step w, w.entries ++ frames_noted Host s.host l w)
 
-pub is_done : {P : Type 0} {Runs : P → Core → List Port → Type 0} {memory_of : P → Memory} {mid : HostSite P} {live : Bool} {now : List Entry}
-    {still : Bool} {before : List Entry} {s : Site} {after : Site × List Entry} (result : Result (Unit {0}) NoMemory) (new : HostSite P) (noted : List Entry)
-    (d : HasDone Runs memory_of mid live now still before s after)
-    → OnOk result (HasBecome Runs memory_of new before noted (host_behind s d.step d.w, d.w.entries ++ frames_noted Host s.host d.l d.w))
-    → OnOk result (HasBecome Runs memory_of new before noted after)
-is_done {P} {Runs} {memory_of} {before = before} result new noted d r =
-    let B : Site × List Entry → Type 0 = λ x. OnOk result (HasBecome Runs memory_of new before noted x) in subst B (sym d.is) r
+pub is_done : {mid : HostSite} {live : Bool} {now : List Entry}
+    {still : Bool} {before : List Entry} {s : Site} {after : Site × List Entry} (result : Result (Unit {0}) NoMemory) (new : HostSite) (noted : List Entry)
+    (d : HasDone mid live now still before s after)
+    → OnOk result (HasBecome new before noted (host_behind s d.step d.w, d.w.entries ++ frames_noted Host s.host d.l d.w))
+    → OnOk result (HasBecome new before noted after)
+is_done {before = before} result new noted d r =
+    let B : Site × List Entry → Type 0 = λ x. OnOk result (HasBecome new before noted x) in subst B (sym d.is) r
 
-module _ (P : Type 0) (Runs : P → Core → List Port → Type 0) (memory_of : P → Memory)
-    (kept : (n : P) (core : Core) (ports others : List Port) → map as_kept ports ≡ map as_kept others → Runs n core ports → Runs n core others)
-    (k mid : HostSite P) (s : Site) (was n : P) (live : Bool) (before : List Entry) (begun now : Noted) (sessions : List ℕ)
-    (numbers : sessions ≡ replicate 8 (max mid.wires.host.emitted mid.wires.host.took)) (is : SiteIs Runs memory_of k s)
+module _ (k mid : HostSite) (s : Site) (was n : Node Memory) (live : Bool) (before : List Entry) (begun now : Noted) (sessions : List ℕ)
+    (numbers : sessions ≡ replicate 8 (max mid.wires.host.emitted mid.wires.host.took)) (is : SiteIs k s)
     (host : IsHostOf s) (on : k.power ≡ On was) (mid_on : mid.power ≡ On n) (mid_host : mid.host ≡ k.host) where
-  abbrev here : IsOn P Runs memory_of k s was
-  here = is_on P Runs memory_of is on
+  abbrev here : IsOn k s was
+  here = is_on is on
 
   abbrev start : Comes → Work
   start comes = work_of here.running s.memory.plan (λ j. near_end_in (exchanged s.link) comes) (entries_for s.host (arrival Host (exchanged s.link) comes))
 
-  begins_so : (comes : Comes) → BeginsAt Runs memory_of was k.host (start comes)
-  begins_so comes = begins_at_end P Runs memory_of kept k s was here.running comes is host on here.runs
+  begins_so : (comes : Comes) → BeginsAt RunsAsHost was k.host (start comes)
+  begins_so comes = begins_at_end k s was here.running comes is host on here.runs
 
-  middle : {step : List Turn → Ending → Link} {bare l : Link} {w : Work} → HostDoes s step bare l w → HasGone Runs memory_of was n w live
-      → WiresStandFor mid.wires (exchanged bare) → IsNotedSo now sessions before w.entries
-      → IsToSend Runs memory_of mid live now.entries.items now.short before s step l w
+  middle : {step : List Turn → Ending → Link} {bare l : Link} {w : Work} → HostDoes s step bare l w → HasGone RunsAsHost was n w live
+      → WiresStandFor mid.wires (exchanged bare) → IsNotedSo now sessions before w.entries → IsToSend mid live now.entries.items now.short before s step l w
   middle d gone wires noted =
-      midway P Runs memory_of mid was n live s d here.memory gone mid_on (mid_host ∙ is.host) wires numbers noted
+      midway mid was n live s d here.memory gone mid_on (mid_host ∙ is.host) wires numbers noted
 
   -- something came to its end
   pub heard : (comes : Comes) (i : LinkInput) → CountsComing s comes → input_of (exchanged s.link) comes ≡ Some i
-      → ((w : Work) → BeginsAt Runs memory_of was k.host w → HasGone Runs memory_of was n (steps (AtEnd k.host i) w) live)
-      → ((w : Work) → BeginsAt Runs memory_of was k.host w → IsNotedSo begun sessions before w.entries
+      → ((w : Work) → BeginsAt RunsAsHost was k.host w → HasGone RunsAsHost was n (steps (AtEnd k.host i) w) live)
+      → ((w : Work) → BeginsAt RunsAsHost was k.host w → IsNotedSo begun sessions before w.entries
       → IsNotedSo now sessions before (steps (AtEnd k.host i) w).entries)
       → IsNotedSo begun sessions before (entries_for s.host (arrival Host (exchanged s.link) comes))
-      → WiresStandFor mid.wires (exchanged (as_it_comes (exchanged s.link) comes))
-      → HasDone Runs memory_of mid live now.entries.items now.short before s (host_hears s comes)
+      → WiresStandFor mid.wires (exchanged (as_it_comes (exchanged s.link) comes)) → HasDone mid live now.entries.items now.short before s (host_hears s comes)
   heard comes i counts q gone noted first wires =
-      let b : BeginsAt Runs memory_of was k.host (start comes) = begins_so comes in
-      let G : ℕ → Type 0 = λ h. HasGone Runs memory_of was n (steps (AtEnd h i) (start comes)) live in
+      let b : BeginsAt RunsAsHost was k.host (start comes) = begins_so comes in
+      let G : ℕ → Type 0 = λ h. HasGone RunsAsHost was n (steps (AtEnd h i) (start comes)) live in
       let N : ℕ → Type 0 = λ h. IsNotedSo now sessions before (steps (AtEnd h i) (start comes)).entries in
       record {
         step = goes_by s comes;
@@ -133,14 +129,14 @@ module _ (P : Type 0) (Runs : P → Core → List Port → Type 0) (memory_of : 
 
   -- it did something by itself
   pub began : (deeds : ℕ → List Deed) → AreMute (deeds s.host)
-      → ((w : Work) → BeginsAt Runs memory_of was k.host w → HasGone Runs memory_of was n (begins_with k.host (deeds k.host) w) live)
-      → ((w : Work) → BeginsAt Runs memory_of was k.host w → IsNotedSo begun sessions before w.entries
+      → ((w : Work) → BeginsAt RunsAsHost was k.host w → HasGone RunsAsHost was n (begins_with k.host (deeds k.host) w) live)
+      → ((w : Work) → BeginsAt RunsAsHost was k.host w → IsNotedSo begun sessions before w.entries
       → IsNotedSo now sessions before (begins_with k.host (deeds k.host) w).entries)
       → IsNotedSo begun sessions before [] → WiresStandFor mid.wires s.link
-      → HasDone Runs memory_of mid live now.entries.items now.short before s (host_stepped s NoInput (begins_with s.host (deeds s.host)))
+      → HasDone mid live now.entries.items now.short before s (host_stepped s NoInput (begins_with s.host (deeds s.host)))
   began deeds mute gone noted first wires =
-      let b : BeginsAt Runs memory_of was k.host (start NoInput) = begins_so NoInput in
-      let G : ℕ → Type 0 = λ h. HasGone Runs memory_of was n (begins_with h (deeds h) (start NoInput)) live in
+      let b : BeginsAt RunsAsHost was k.host (start NoInput) = begins_so NoInput in
+      let G : ℕ → Type 0 = λ h. HasGone RunsAsHost was n (begins_with h (deeds h) (start NoInput)) live in
       let N : ℕ → Type 0 = λ h. IsNotedSo now sessions before (begins_with h (deeds h) (start NoInput)).entries in
       record {
         step = goes_by s NoInput;
@@ -152,12 +148,11 @@ module _ (P : Type 0) (Runs : P → Core → List Port → Type 0) (memory_of : 
       }
 
   -- a tick passed
-  pub ticked : MayTick s → ((w : Work) → BeginsOver Runs memory_of was w → HasGone Runs memory_of was n (steps TimePasses w) live)
-      → ((w : Work) → BeginsOver Runs memory_of was w → IsNotedSo begun sessions before w.entries → IsNotedSo now sessions before (steps TimePasses w).entries)
-      → IsNotedSo begun sessions before [] → WiresStandFor mid.wires s.link
-      → HasDone Runs memory_of mid live now.entries.items now.short before s (host_ticks s)
+  pub ticked : MayTick s → ((w : Work) → BeginsOver RunsAsHost was w → HasGone RunsAsHost was n (steps TimePasses w) live)
+      → ((w : Work) → BeginsOver RunsAsHost was w → IsNotedSo begun sessions before w.entries → IsNotedSo now sessions before (steps TimePasses w).entries)
+      → IsNotedSo begun sessions before [] → WiresStandFor mid.wires s.link → HasDone mid live now.entries.items now.short before s (host_ticks s)
   ticked may gone noted first wires =
-      let b : BeginsOver Runs memory_of was (start NoInput) = (begins_so NoInput).begins in
+      let b : BeginsOver RunsAsHost was (start NoInput) = (begins_so NoInput).begins in
       let young : NoneDue (Some here.running) = subst NoneDue here.runs may.young in
       record {
         step = tick_at_end s here.running host here.runs;
@@ -170,21 +165,19 @@ module _ (P : Type 0) (Runs : P → Core → List Port → Type 0) (memory_of : 
 
 -- ## None is taken
 
-module _ (P : Type 0) (Runs : P → Core → List Port → Type 0) (memory_of : P → Memory) where
-  pub none_taken : (k : HostSite P) (s : Site) {n : P} (before : List Entry) → SiteIs Runs memory_of k s → k.power ≡ On n
-      → IsFirst (exchanged s.link).to_controller None
-      → HasBecome Runs memory_of (record { host = k.host; wires = k.wires; power = On n }) before before (host_hears s NextFrame)
-  none_taken k s {n} before is on nothing =
-      let input : input_of (exchanged s.link) NextFrame ≡ None = none_first (exchanged s.link) nothing in
-      let new : HostSite P = record { host = k.host; wires = k.wires; power = On n } in
-      let B : Site × List Entry → Type 0 = λ x. HasBecome Runs memory_of new before before x in
-      let Q : Power P → Type 0 = λ a. IsNodePlace Runs memory_of a s.memory s.node (λ h. s.link.host) in
-      subst B (sym (hears_none s NextFrame input))
-      (record {
-        site = record {
-          host = is.host;
-          wires = is.wires;
-          place = subst Q on is.place;
-        };
-        noted = sym (append-nil before);
-      })
+pub none_taken : (k : HostSite) (s : Site) {n : Node Memory} (before : List Entry) → SiteIs k s → k.power ≡ On n → IsFirst (exchanged s.link).to_controller None
+    → HasBecome (record { host = k.host; wires = k.wires; power = On n }) before before (host_hears s NextFrame)
+none_taken k s {n} before is on nothing =
+    let input : input_of (exchanged s.link) NextFrame ≡ None = none_first (exchanged s.link) nothing in
+    let new : HostSite = record { host = k.host; wires = k.wires; power = On n } in
+    let B : Site × List Entry → Type 0 = λ x. HasBecome new before before x in
+    let Q : NodePower → Type 0 = λ a. IsNodePlace RunsAsHost a s.memory s.node (λ h. s.link.host) in
+    subst B (sym (hears_none s NextFrame input))
+    (record {
+      site = record {
+        host = is.host;
+        wires = is.wires;
+        place = subst Q on is.place;
+      };
+      noted = sym (append-nil before);
+    })

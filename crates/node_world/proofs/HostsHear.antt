@@ -18,7 +18,7 @@ use Rattle.link_laws.specs.entries.Entries.{puts_entries, put_entries}
 use Rattle.link_laws.specs.entries.Entries.End.{Host}
 use Rattle.link_laws.proofs.entries.Lasting.{same_number}
 use Rattle.history.specs.Steps.{entries_for}
-use Rattle.node_machine.specs.Parts.{Desk, Core, Running, Port, Work, Deed}
+use Rattle.node_machine.specs.Parts.{Desk, Running, Port, Work, Deed}
 use Rattle.node_machine.specs.Node.{input_at, has_come, steps, begins_with}
 use Rattle.node_machine.specs.Node.NodeInput.{AtEnd, TimePasses}
 use Rattle.node_machine.specs.world.World.{Site, input_of, near_end_in, arrival, wires_for, port_for, work_of, host_work, ticked_so}
@@ -32,7 +32,7 @@ use Rattle.node_sites.specs.declared.power.Power.TheVariants.{On}
 use Rattle.node_sites.specs.LinksKept.{WiresStandFor, SameWires, as_it_comes, without_first}
 use Rattle.node_sites.specs.declared.noted.Noted.{Noted}
 use Rattle.node_sites.specs.Numbers.{AreNumbered, StaysCounted, CountsFew, session_at}
-use Rattle.node_sites.specs.WorldNodes.{HasGone, IsNotedSo}
+use Rattle.node_sites.specs.WorldNodes.{HasGone, IsNotedSo, RunsAsHost}
 use Rattle.node_world.specs.HostSteps.{IsHostOf, CountsOn, EndDoes, IsToSend}
 use Rattle.node_sites.proofs.Numbered.{Numbers, stepped, begun}
 use Rattle.node_sites.proofs.Renumbered.{work_numbers, arrival_numbered, noted_behind}
@@ -40,6 +40,8 @@ use Rattle.node_world.proofs.GoingOn.{same_stand, same_exchanged}
 use Rattle.node_world.proofs.EndsGo.{EndGoes, host_ends, host_begins}
 use Rattle.node_world.proofs.TicksGo.{EndTicks, host_end_ticks}
 use Rattle.node_world.proofs.HostsBegin.{near_side}
+use Rattle.node_core.specs.declared.node.Node.{Node}
+use Rattle.node_sites.specs.Powers.{node_memory}
 
 -- ## Counts
 
@@ -209,11 +211,11 @@ module _ (s : Site) (r : Running) (is : IsHostOf s) (runs : s.node ≡ Some r) w
       }
 
 -- its node has done it
-module _ (P : Type 0) (Runs : P → Core → List Port → Type 0) (memory_of : P → Memory) (mid : HostSite P) (was n : P) (live : Bool) where
+module _ (mid : HostSite) (was n : Node Memory) (live : Bool) where
   pub midway : {noted : Noted} {sessions : List ℕ} {before : List Entry} (s : Site) {step : List Turn → Ending → Link} {bare l : Link} {w : Work}
-      → HostDoes s step bare l w → memory_of was ≡ s.memory → HasGone Runs memory_of was n w live → mid.power ≡ On n
+      → HostDoes s step bare l w → node_memory was ≡ s.memory → HasGone RunsAsHost was n w live → mid.power ≡ On n
       → mid.host ≡ s.host → WiresStandFor mid.wires (exchanged bare) → sessions ≡ replicate 8 (max mid.wires.host.emitted mid.wires.host.took)
-      → IsNotedSo noted sessions before w.entries → IsToSend Runs memory_of mid live noted.entries.items noted.short before s step l w
+      → IsNotedSo noted sessions before w.entries → IsToSend mid live noted.entries.items noted.short before s step l w
   midway s {bare = bare} {l} {w} d memory gone on host wires numbers noted =
       let A : ℕ → Type 0 = λ k. AreNumbered (always k) w.entries in
       let B : List ℕ → Type 0 = λ ks. AreNumbered (session_at ks) w.entries in

@@ -16,13 +16,14 @@ use Rattle.node_machine.specs.world.World.{Site, port_for, counts}
 use Rattle.node_core.specs.Running.{one_more_error}
 use Rattle.node_sites.specs.declared.places.HostSite.{HostSite}
 use Rattle.node_sites.specs.LinksKept.{WiresStandFor}
-use Rattle.node_sites.specs.declared.power.Power.{Power}
 use Rattle.node_sites.specs.declared.power.Power.TheVariants.{On}
-use Rattle.node_sites.specs.Powers.{IsNodePlace}
+use Rattle.node_sites.specs.Powers.{IsNodePlace, node_memory, NodePower}
 use Rattle.node_sites.specs.Places.{SiteIs}
 use Rattle.node_world.specs.HostSteps.{IsHostOf, is_broken, site_loses}
 use Rattle.node_world.proofs.Plainly.{same_host}
 use Rattle.node_world.proofs.HostsRefuse.{OwnEnd, own_end}
+use Rattle.node_core.specs.declared.node.Node.{Node}
+use Rattle.node_sites.specs.WorldNodes.{RunsAsHost}
 
 -- ## What counts
 
@@ -85,39 +86,38 @@ all_still : (h : ℕ) (e : NumberedEnd) (desks : List Desk) → AllByRecursion (
 all_still h e [] a = tt
 all_still h e (d ∷ desks) a = (a.0, all_still h e desks a.1)
 
-module _ (P : Type 0) (Runs : P → Core → List Port → Type 0) (memory_of : P → Memory) where
-  pub as_lost : {k : HostSite P} {a b : Site} → a ≡ b → SiteIs Runs memory_of k b → SiteIs Runs memory_of k a
-  as_lost {k} q is = let S : Site → Type 0 = λ x. SiteIs Runs memory_of k x in subst S (sym q) is
+pub as_lost : {k : HostSite} {a b : Site} → a ≡ b → SiteIs k b → SiteIs k a
+as_lost {k} q is = let S : Site → Type 0 = λ x. SiteIs k x in subst S (sym q) is
 
-  -- where another node runs there with one more error
-  pub counted : {new : HostSite P} (k : HostSite P) (s : Site) (n m : P) (to : End) (why : Loss) → SiteIs Runs memory_of k s → k.power ≡ On n
-      → to.at_host ≡ true → is_broken why ≡ true → new.host ≡ k.host → new.power ≡ On m → memory_of m ≡ memory_of n
-      → ((core : Core) (desks : List Desk) → Runs n core (map (λ (d : Desk). port_for s.link.host d) desks)
-      → s.node ≡ Some (record { core = core; desks = desks })
-      → Runs m core (with_port k.host one_more_error (map (λ (d : Desk). port_for s.link.host d) desks)))
-      → WiresStandFor new.wires (happens s.link (at to (Lose why))) → SiteIs Runs memory_of new (site_loses to why s)
-  counted {new} k s n m to why is on at_host broken host new_on memory runs wires =
-      let Q : Power P → Type 0 = λ a. IsNodePlace Runs memory_of a s.memory s.node (λ h. s.link.host) in
-      let N : Power P → Type 0 = λ a. IsNodePlace Runs memory_of a s.memory (counts why s.host s.node) (λ h. (happens s.link (at to (Lose why))).host) in
-      let S : Site → Type 0 = λ x. SiteIs Runs memory_of new x in
-      subst S (sym (by_node to why s (counts why s.host s.node) at_host refl))
-      (record {
-        host = host ∙ is.host;
-        wires = wires;
-        place = subst N (sym new_on) (go s.node refl (subst Q on is.place));
-      })
-    where
-      go : (o : Option Running) → s.node ≡ o → IsNodePlace Runs memory_of (On n) s.memory o (λ h. s.link.host)
-          → IsNodePlace Runs memory_of (On m) s.memory (counts why s.host o) (λ h. (happens s.link (at to (Lose why))).host)
-      go None q place = absurd place
-      go (Some r) q place =
-          let E : NumberedEnd → Type 0 = λ e. IsNodePlace Runs memory_of (On m) s.memory (counts why s.host (Some r)) (λ h. e) in
-          let O : Option Running → Type 0 = λ x. IsNodePlace Runs memory_of (On m) s.memory x (λ h. s.link.host) in
-          let R : List Port → Type 0 = λ ps. Runs m r.core ps in
-          let H : ℕ → Type 0 = λ h. Runs m r.core (map (λ (d : Desk). port_for s.link.host d) (with_error h r.desks)) in
-          let now : H k.host = subst R (error_ports k.host s.link.host r.desks) (runs r.core r.desks place.1 q) in
-          subst E (sym (same_host P Runs memory_of to s.link why))
-          (subst O (sym (counts_one why s.host r broken)) (memory ∙ place.0, subst H is.host now, all_still s.host s.link.host r.desks place.2))
+-- where another node runs there with one more error
+pub counted : {new : HostSite} (k : HostSite) (s : Site) (n m : Node Memory) (to : End) (why : Loss) → SiteIs k s → k.power ≡ On n
+    → to.at_host ≡ true → is_broken why ≡ true → new.host ≡ k.host → new.power ≡ On m → node_memory m ≡ node_memory n
+    → ((core : Core) (desks : List Desk) → RunsAsHost n core (map (λ (d : Desk). port_for s.link.host d) desks)
+    → s.node ≡ Some (record { core = core; desks = desks })
+    → RunsAsHost m core (with_port k.host one_more_error (map (λ (d : Desk). port_for s.link.host d) desks)))
+    → WiresStandFor new.wires (happens s.link (at to (Lose why))) → SiteIs new (site_loses to why s)
+counted {new} k s n m to why is on at_host broken host new_on memory runs wires =
+    let Q : NodePower → Type 0 = λ a. IsNodePlace RunsAsHost a s.memory s.node (λ h. s.link.host) in
+    let N : NodePower → Type 0 = λ a. IsNodePlace RunsAsHost a s.memory (counts why s.host s.node) (λ h. (happens s.link (at to (Lose why))).host) in
+    let S : Site → Type 0 = λ x. SiteIs new x in
+    subst S (sym (by_node to why s (counts why s.host s.node) at_host refl))
+    (record {
+      host = host ∙ is.host;
+      wires = wires;
+      place = subst N (sym new_on) (go s.node refl (subst Q on is.place));
+    })
+  where
+    go : (o : Option Running) → s.node ≡ o → IsNodePlace RunsAsHost (On n) s.memory o (λ h. s.link.host)
+        → IsNodePlace RunsAsHost (On m) s.memory (counts why s.host o) (λ h. (happens s.link (at to (Lose why))).host)
+    go None q place = absurd place
+    go (Some r) q place =
+        let E : NumberedEnd → Type 0 = λ e. IsNodePlace RunsAsHost (On m) s.memory (counts why s.host (Some r)) (λ h. e) in
+        let O : Option Running → Type 0 = λ x. IsNodePlace RunsAsHost (On m) s.memory x (λ h. s.link.host) in
+        let R : List Port → Type 0 = λ ps. RunsAsHost m r.core ps in
+        let H : ℕ → Type 0 = λ h. RunsAsHost m r.core (map (λ (d : Desk). port_for s.link.host d) (with_error h r.desks)) in
+        let now : H k.host = subst R (error_ports k.host s.link.host r.desks) (runs r.core r.desks place.1 q) in
+        subst E (sym (same_host to s.link why))
+        (subst O (sym (counts_one why s.host r broken)) (memory ∙ place.0, subst H is.host now, all_still s.host s.link.host r.desks place.2))
 
 -- the end of a host that runs, under its number
 pub its_end : (k : ℕ) (s : Site) (core : Core) (desks : List Desk) → IsHostOf s → k ≡ s.host → s.node ≡ Some (record { core = core; desks = desks })

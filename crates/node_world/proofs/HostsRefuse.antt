@@ -22,13 +22,13 @@ use Rattle.node_laws.specs.telling.Telling.{HasEnds, IfItRuns}
 use Rattle.node_laws.proofs.telling.Mute.{AreMute}
 use Rattle.node_laws.proofs.telling.Nodes.{host_opened}
 use Rattle.node_sites.specs.declared.places.HostSite.{HostSite}
-use Rattle.node_sites.specs.WorldNodes.{as_kept}
-use Rattle.node_sites.specs.declared.power.Power.{Power}
 use Rattle.node_sites.specs.declared.power.Power.TheVariants.{On}
-use Rattle.node_sites.specs.Powers.{IsNodePlace}
+use Rattle.node_sites.specs.Powers.{IsNodePlace, node_memory, NodePower}
 use Rattle.node_sites.specs.Places.{SiteIs}
 use Rattle.node_world.specs.HostSteps.{IsHostOf, HasBecome, reset_noted, reset_refused_at, sending_refused}
 use Rattle.node_world.proofs.HostsAre.{is_on}
+use Rattle.node_core.specs.declared.node.Node.{Node}
+use Rattle.node_sites.specs.WorldNodes.{RunsAsHost}
 
 -- ## A host that doesn't run
 
@@ -67,25 +67,23 @@ own_end k s r host same on =
     let H : ℕ → Type 0 = λ h. port_at (map (λ (d : Desk). port_for s.link.host d) r.desks) h ≡ Some first.port in
     record { port = first.port; here = subst H (sym same) first.here; side = first.is }
 
-module _ (P : Type 0) (Runs : P → Core → List Port → Type 0) (memory_of : P → Memory)
-    (kept : (n : P) (core : Core) (ports others : List Port) → map as_kept ports ≡ map as_kept others → Runs n core ports → Runs n core others)
-    (k : HostSite P) (s : Site) (n : P) (is : SiteIs Runs memory_of k s) (host : IsHostOf s) (on : k.power ≡ On n) where
+module _ (k : HostSite) (s : Site) (n : Node Memory) (is : SiteIs k s) (host : IsHostOf s) (on : k.power ≡ On n) where
   -- it runs so
   pub record RunsHere : Type 0 where
     pub running : Running
     pub on_is : s.node ≡ Some running
-    pub runs : Runs n running.core (map (λ (d : Desk). port_for s.link.host d) running.desks)
+    pub runs : RunsAsHost n running.core (map (λ (d : Desk). port_for s.link.host d) running.desks)
     pub end : OwnEnd s k.host (map (λ (d : Desk). port_for s.link.host d) running.desks)
 
   pub runs_here : RunsHere
   runs_here =
-      let here = is_on P Runs memory_of is on in
+      let here = is_on is on in
       let r : Running = here.running in
-      let Q : Power P → Option Running → Type 0 = λ a o. IsNodePlace Runs memory_of a s.memory o (λ h. s.link.host) in
+      let Q : NodePower → Option Running → Type 0 = λ a o. IsNodePlace RunsAsHost a s.memory o (λ h. s.link.host) in
       let place : Q (On n) (Some r) = subst (Q (On n)) here.runs (subst (λ a. Q a s.node) on is.place) in
       record { running = r; on_is = here.runs; runs = place.1; end = own_end k.host s r host is.host here.runs }
 
-  pub reset_goes : ((core : Core) (ports : List Port) (p : Port) → Runs n core ports → port_at ports k.host ≡ Some p
+  pub reset_goes : ((core : Core) (ports : List Port) (p : Port) → RunsAsHost n core ports → port_at ports k.host ≡ Some p
       → reset_refusal_at (port_at ports k.host) ≡ None) → None ≡ reset_refused_at s
   reset_goes f =
       let r = runs_here in
@@ -97,7 +95,7 @@ module _ (P : Type 0) (Runs : P → Core → List Port → Type 0) (memory_of : 
       sym (reset_on s r.running r.on_is ∙ (told_so s.link.host.side ∙ ap (option_map reset_noted) same))
 
   pub reset_stops : (why : ResetRefused) (cause : NoCause) → cause ≡ reset_noted why
-      → ((core : Core) (ports : List Port) (p : Port) → Runs n core ports → port_at ports k.host ≡ Some p
+      → ((core : Core) (ports : List Port) (p : Port) → RunsAsHost n core ports → port_at ports k.host ≡ Some p
       → reset_refusal_at (port_at ports k.host) ≡ Some why) → Some cause ≡ reset_refused_at s
   reset_stops why cause is_so f =
       let r = runs_here in
@@ -110,22 +108,20 @@ module _ (P : Type 0) (Runs : P → Core → List Port → Type 0) (memory_of : 
 
 -- ## Nothing changed
 
-module _ (P : Type 0) (Runs : P → Core → List Port → Type 0) (memory_of : P → Memory) where
-  pub still_stands : (k : HostSite P) (s : Site) (n m : P) → SiteIs Runs memory_of k s → k.power ≡ On n
-      → ((core : Core) (ports : List Port) → Runs n core ports → Runs m core ports) → memory_of m ≡ memory_of n
-      → (before now : List Entry) → now ≡ before
-      → HasBecome Runs memory_of (record { host = k.host; wires = k.wires; power = On m }) before now (s, [])
-  still_stands k s n m is on runs memory before now q =
-      let Q : Power P → Type 0 = λ a. IsNodePlace Runs memory_of a s.memory s.node (λ h. s.link.host) in
-      record {
-        site = record { host = is.host; wires = is.wires; place = go s.node (subst Q on is.place) };
-        noted = q ∙ sym (append-nil before);
-      }
-    where
-      go : (o : Option Running) → IsNodePlace Runs memory_of (On n) s.memory o (λ h. s.link.host)
-          → IsNodePlace Runs memory_of (On m) s.memory o (λ h. s.link.host)
-      go (Some r) p = (memory ∙ p.0, runs r.core (map (λ (d : Desk). port_for s.link.host d) r.desks) p.1, p.2)
-      go None p = p
+pub still_stands : (k : HostSite) (s : Site) (n m : Node Memory) → SiteIs k s → k.power ≡ On n
+    → ((core : Core) (ports : List Port) → RunsAsHost n core ports → RunsAsHost m core ports) → node_memory m ≡ node_memory n
+    → (before now : List Entry) → now ≡ before
+    → HasBecome (record { host = k.host; wires = k.wires; power = On m }) before now (s, [])
+still_stands k s n m is on runs memory before now q =
+    let Q : NodePower → Type 0 = λ a. IsNodePlace RunsAsHost a s.memory s.node (λ h. s.link.host) in
+    record {
+      site = record { host = is.host; wires = is.wires; place = go s.node (subst Q on is.place) };
+      noted = q ∙ sym (append-nil before);
+    }
+  where
+    go : (o : Option Running) → IsNodePlace RunsAsHost (On n) s.memory o (λ h. s.link.host) → IsNodePlace RunsAsHost (On m) s.memory o (λ h. s.link.host)
+    go (Some r) p = (memory ∙ p.0, runs r.core (map (λ (d : Desk). port_for s.link.host d) r.desks) p.1, p.2)
+    go None p = p
 
 -- ## What a host sends by itself
 
@@ -143,15 +139,12 @@ sending_on : (s : Site) (r : Running) (m : Message) → s.node ≡ Some r
     → sending_refused s m ≡ if_waiting (m.0 == 1 && is_command_message m.1 && is_some r.core.command) (give_refusal s.link.host.side m)
 sending_on s r m on = rw on refl
 
-module _ (P : Type 0) (Runs : P → Core → List Port → Type 0) (memory_of : P → Memory)
-    (kept : (n : P) (core : Core) (ports others : List Port) → map as_kept ports ≡ map as_kept others → Runs n core ports → Runs n core others)
-    (k : HostSite P) (s : Site) (n : P) (is : SiteIs Runs memory_of k s) (host : IsHostOf s) (on : k.power ≡ On n) (m : Message) where
+module _ (k : HostSite) (s : Site) (n : Node Memory) (is : SiteIs k s) (host : IsHostOf s) (on : k.power ≡ On n) (m : Message) where
   -- what a node tells is what the line is refused for
-  pub sending_so : (told : Option NoCause)
-      → ((core : Core) (ports : List Port) (p : Port) → Runs n core ports → port_at ports k.host ≡ Some p
+  pub sending_so : (told : Option NoCause) → ((core : Core) (ports : List Port) (p : Port) → RunsAsHost n core ports → port_at ports k.host ≡ Some p
       → told ≡ if_waiting (m.0 == 1 && is_command_message m.1 && is_some core.command) (give_refusal p.side m)) → told ≡ sending_refused s m
   sending_so told f =
-      let r = runs_here P Runs memory_of kept k s n is host on in
+      let r = runs_here k s n is host on in
       let e = r.end in
       let ports : List Port = map (λ (d : Desk). port_for s.link.host d) r.running.desks in
       let waits : Bool = m.0 == 1 && is_command_message m.1 && is_some r.running.core.command in

@@ -1,7 +1,6 @@
 -- A tick at a host that doesn't run: nothing is sent, and nothing is noted.
 use Rattle.std.proofs.Common.{◌≡◌, false, List, [], refl, ap, sym, subst, append-nil}
 use Rattle.std.specs.Prelude.{Option, None}
-use Rattle.swp_base.specs.InMemory.{Memory}
 use Rattle.swp_base.specs.declared.control_frames.Control.{Control}
 use Rattle.swp_act.specs.Activation.{new_uicc}
 use Rattle.trace_model.specs.declared.entry.Entry.{Entry}
@@ -10,18 +9,18 @@ use Rattle.link_laws.specs.machine.Machine.LinkInput.{Tick}
 use Rattle.link_laws.specs.machine.Machine.Role.{Uicc}
 use Rattle.link_laws.specs.messages.Links.{Link, exchanged, becomes, put_all, ticks_at_controller}
 use Rattle.link_laws.specs.messages.Links.Ending.{GoesOut}
-use Rattle.node_machine.specs.Parts.{Core, Running, Port}
+use Rattle.node_machine.specs.Parts.{Running}
 use Rattle.node_machine.specs.world.World.{Site, host_ticks}
 use Rattle.node_laws.specs.telling.Telling.{IfOff}
 use Rattle.node_sites.specs.declared.places.HostSite.{HostSite}
 use Rattle.node_sites.specs.LinksKept.{SameWires}
-use Rattle.node_sites.specs.declared.power.Power.{Power}
 use Rattle.node_sites.specs.declared.power.Power.TheVariants.{On, Off}
-use Rattle.node_sites.specs.Powers.{IsNodePlace}
+use Rattle.node_sites.specs.Powers.{IsNodePlace, NodePower}
 use Rattle.node_sites.specs.Places.{SiteIs}
 use Rattle.node_world.specs.HostSteps.{MayTick, HasBecome}
 use Rattle.node_world.proofs.GoingOn.{same_stand, same_exchanged, same_twice}
 use Rattle.node_world.proofs.TicksGo.{ticks_on}
+use Rattle.node_sites.specs.WorldNodes.{RunsAsHost}
 
 pub becomes_same : (m : Link) (e : LinkEnd) → frames_out e ≡ [] → SameWires m (becomes m e)
 becomes_same m e q =
@@ -39,28 +38,26 @@ still_wires l q =
     let W : Link → Type 0 = λ m. SameWires l m in
     subst W (sym g.out) (same_twice g.wires (becomes_same g.link (after_input l.controller.side Tick) (quiet l.controller.side q)))
 
-module _ (P : Type 0) (Runs : P → Core → List Port → Type 0) (memory_of : P → Memory) where
-  pub tick_off : (k : HostSite P) (s : Site) (entries : List Entry) → SiteIs Runs memory_of k s → s.node ≡ None → MayTick s
-      → HasBecome Runs memory_of k entries entries (host_ticks s)
-  tick_off k s entries is off may =
-      let New : Option Running → Type 0 = λ o. IfOff o (new_link_end (Uicc new_uicc)) s.link.host.side in
-      let side : s.link.host.side ≡ new_link_end (Uicc new_uicc) = subst New off may.off in
-      let after : Link = exchanged (ticks_at_controller (exchanged s.link) [] GoesOut) in
-      let none : host_ticks s ≡ (record s { link = after }, []) = rw off refl in
-      let B : Site × List Entry → Type 0 = λ x. HasBecome Runs memory_of k entries entries x in
-      let Here : Option Running → Type 0 = λ o. IsNodePlace Runs memory_of k.power s.memory o (λ h. s.link.host) in
-      let There : Option Running → Type 0 = λ o. IsNodePlace Runs memory_of k.power s.memory o (λ h. after.host) in
-      subst B (sym none)
-      (record {
-        site = record {
-          host = is.host;
-          wires = same_stand (same_exchanged (still_wires (exchanged s.link) side)) is.wires;
-          place = subst There (sym off) (same_place k.power (subst Here off is.place));
-        };
-        noted = sym (append-nil entries);
-      })
-    where
-      same_place : (k : Power P) → IsNodePlace Runs memory_of k s.memory None (λ h. s.link.host)
-          → IsNodePlace Runs memory_of k s.memory None (λ h. (exchanged (ticks_at_controller (exchanged s.link) [] GoesOut)).host)
-      same_place (On n) p = p
-      same_place (Off m) p = p
+pub tick_off : (k : HostSite) (s : Site) (entries : List Entry) → SiteIs k s → s.node ≡ None → MayTick s → HasBecome k entries entries (host_ticks s)
+tick_off k s entries is off may =
+    let New : Option Running → Type 0 = λ o. IfOff o (new_link_end (Uicc new_uicc)) s.link.host.side in
+    let side : s.link.host.side ≡ new_link_end (Uicc new_uicc) = subst New off may.off in
+    let after : Link = exchanged (ticks_at_controller (exchanged s.link) [] GoesOut) in
+    let none : host_ticks s ≡ (record s { link = after }, []) = rw off refl in
+    let B : Site × List Entry → Type 0 = λ x. HasBecome k entries entries x in
+    let Here : Option Running → Type 0 = λ o. IsNodePlace RunsAsHost k.power s.memory o (λ h. s.link.host) in
+    let There : Option Running → Type 0 = λ o. IsNodePlace RunsAsHost k.power s.memory o (λ h. after.host) in
+    subst B (sym none)
+    (record {
+      site = record {
+        host = is.host;
+        wires = same_stand (same_exchanged (still_wires (exchanged s.link) side)) is.wires;
+        place = subst There (sym off) (same_place k.power (subst Here off is.place));
+      };
+      noted = sym (append-nil entries);
+    })
+  where
+    same_place : (k : NodePower) → IsNodePlace RunsAsHost k s.memory None (λ h. s.link.host)
+        → IsNodePlace RunsAsHost k s.memory None (λ h. (exchanged (ticks_at_controller (exchanged s.link) [] GoesOut)).host)
+    same_place (On n) p = p
+    same_place (Off m) p = p

@@ -4,14 +4,12 @@ use Rattle.std.proofs.Common.{append-nil, arith, length}
 use Rattle.std.specs.Prelude.{Some, None, replicate}
 use Rattle.std.specs.List.{AllByRecursion}
 use Rattle.std.proofs.lemmas.Grind.{flat_map-append}
-use Rattle.swp_base.specs.InMemory.{Memory}
 use Rattle.trace_model.specs.Lines.{IsHost}
 use Rattle.trace_model.specs.declared.entry.Entry.{Entry}
 use Rattle.trace_model.specs.declared.line.End.{End}
 use Rattle.trace_model.specs.declared.line.Line.{Line}
 use Rattle.link_laws.specs.messages.Links.{Comes, aged}
 use Rattle.history.specs.Follows.{frames_to}
-use Rattle.node_machine.specs.Parts.{Core, Port}
 use Rattle.node_machine.specs.Carrying.{changed_if}
 use Rattle.node_machine.specs.Node.{steps}
 use Rattle.node_machine.specs.Node.NodeInput.{AtEnd}
@@ -23,13 +21,13 @@ use Rattle.node_machine.specs.world.NodeHistories.{entries_in}
 use Rattle.node_machine.proofs.world.Cases.{by_coming, by_controller, by_controller_tick, by_host, near_tick, site_ticked, site_unticked}
 use Rattle.node_laws.specs.telling.Telling.{hosts_in}
 use Rattle.node_laws.proofs.telling.Orderly.{hosts_ticked, step_orderly}
-use Rattle.node_sites.specs.declared.power.Power.{Power}
 use Rattle.node_sites.specs.declared.places.HostSite.{HostSite}
 use Rattle.node_world.specs.Bounds.{FewBehind}
 use Rattle.node_world.specs.Controllers.{IsThere, MayGoOn, SitesAre, WorldBecomes, WorldIs}
 use Rattle.node_world.specs.Rounds.{WorldHasGone}
 use Rattle.node_world.specs.Whole.{IsWithinBounds, LinePlayed}
 use Rattle.node_world.proofs.FewInWorlds.{few_behind_step, longer}
+use Rattle.node_sites.specs.Powers.{NodePower}
 
 -- ## Hosts stay
 
@@ -85,25 +83,23 @@ there_still h v w q there = found_still h v.sites w.sites there.0 q there.1
 
 -- ## Few frames are on their way
 
-module _ (P : Type 0) (Runs : P → Core → List Port → Type 0) (memory_of : P → Memory) where
-  pub few_on_way : (to : End) (h : ℕ) (ks : List (HostSite P)) (sites : List Site) → SitesAre Runs memory_of ks sites
-      → length (frames_to (link_to sites h) to) ≤ 64
-  few_on_way to h [] [] a = go to.at_host refl
-    where
-      go : (b : Bool) → to.at_host ≡ b → length (frames_to (link_to [] h) to) ≤ 64
-      go true e = rw e (omega arith)
-      go false e = rw e (omega arith)
-  few_on_way to h (k ∷ ks) (s ∷ sites) a = go (s.host == h) refl (few_on_way to h ks sites a.1)
-    where
-      here : (b : Bool) → to.at_host ≡ b → length (frames_to s.link to) ≤ 64
-      here true e = rw e a.0.wires.there.wire_is.few
-      here false e = rw e a.0.wires.here.wire_is.few
+pub few_on_way : (to : End) (h : ℕ) (ks : List HostSite) (sites : List Site) → SitesAre ks sites → length (frames_to (link_to sites h) to) ≤ 64
+few_on_way to h [] [] a = go to.at_host refl
+  where
+    go : (b : Bool) → to.at_host ≡ b → length (frames_to (link_to [] h) to) ≤ 64
+    go true e = rw e (omega arith)
+    go false e = rw e (omega arith)
+few_on_way to h (k ∷ ks) (s ∷ sites) a = go (s.host == h) refl (few_on_way to h ks sites a.1)
+  where
+    here : (b : Bool) → to.at_host ≡ b → length (frames_to s.link to) ≤ 64
+    here true e = rw e a.0.wires.there.wire_is.few
+    here false e = rw e a.0.wires.here.wire_is.few
 
-      go : (b : Bool) → (s.host == h) ≡ b → length (frames_to (link_to sites h) to) ≤ 64 → length (frames_to (link_to (s ∷ sites) h) to) ≤ 64
-      go true e later = rw e (here to.at_host refl)
-      go false e later = rw e later
-  few_on_way to h [] (s ∷ sites) a = absurd a
-  few_on_way to h (k ∷ ks) [] a = absurd a
+    go : (b : Bool) → (s.host == h) ≡ b → length (frames_to (link_to sites h) to) ≤ 64 → length (frames_to (link_to (s ∷ sites) h) to) ≤ 64
+    go true e later = rw e (here to.at_host refl)
+    go false e later = rw e later
+few_on_way to h [] (s ∷ sites) a = absurd a
+few_on_way to h (k ∷ ks) [] a = absurd a
 
 -- ## So often
 
@@ -121,13 +117,12 @@ LeadsTo w c i v events =
     ≡ ((all_happen v (replicate m c)).0, events ++ (all_happen v (replicate m c)).1)
 
 -- What is kept after so many of them stands for a world that is in order, and what they caused is noted behind what was noted before.
-pub record Again {C P : Type 0} (CRuns : C → Core → List Port → Type 0) (c_memory : C → Memory) (PRuns : P → Core → List Port → Type 0)
-    (p_memory : P → Memory) (k : Power C) (ks : List (HostSite P)) (most : ℕ) (before noted : List Entry) (w : NodeWorld)
+pub record Again (k : NodePower) (ks : List HostSite) (most : ℕ) (before noted : List Entry) (w : NodeWorld)
     (c : Happening) (i : ℕ) : Type 0 where
   pub behind : NodeWorld
   pub events : List Occurrence
   pub leads : LeadsTo w c i behind events
-  pub world : WorldIs CRuns c_memory PRuns p_memory k ks behind
+  pub world : WorldIs k ks behind
   pub told : noted ≡ before ++ entries_in events
   pub goes_on : MayGoOn behind
   pub hosts : hosts_in behind.sites ≡ hosts_in w.sites
@@ -151,13 +146,11 @@ pub happens_not : (v : NodeWorld) (c : Happening) (m : ℕ) → can_happen v c �
 happens_not v c zero can = refl
 happens_not v c (suc m) can = rw can refl
 
-module _ (C P : Type 0) (CRuns : C → Core → List Port → Type 0) (c_memory : C → Memory) (PRuns : P → Core → List Port → Type 0)
-    (p_memory : P → Memory) (w : NodeWorld) (c : Happening) (most : ℕ) where
-  abbrev IsSo : Power C → List (HostSite P) → List Entry → List Entry → ℕ → Type 0
-  IsSo k ks before noted i = Again CRuns c_memory PRuns p_memory k ks most before noted w c i
+module _ (w : NodeWorld) (c : Happening) (most : ℕ) where
+  abbrev IsSo : NodePower → List HostSite → List Entry → List Entry → ℕ → Type 0
+  IsSo k ks before noted i = Again k ks most before noted w c i
 
-  pub again_begins : (k : Power C) (ks : List (HostSite P)) (before : List Entry) → WorldIs CRuns c_memory PRuns p_memory k ks w → MayGoOn w
-      → FewBehind most w → IsSo k ks before before 0
+  pub again_begins : (k : NodePower) (ks : List HostSite) (before : List Entry) → WorldIs k ks w → MayGoOn w → FewBehind most w → IsSo k ks before before 0
   again_begins k ks before world may few =
       record {
         behind = w;
@@ -173,9 +166,9 @@ module _ (C P : Type 0) (CRuns : C → Core → List Port → Type 0) (c_memory 
   pub bounds_again : (i : ℕ) (v : NodeWorld) → most ≤ 290000000 → i ≤ 1000 → MayGoOn v → FewBehind (most + 2 * i) v → IsWithinBounds v
   bounds_again i v low few_times may few = record { goes_on = may; few = longer (most + 2 * i) 300000000 v (omega (arith, low, few_times)) few }
 
-  pub again_next : (k new : Power C) (ks news : List (HostSite P)) (before noted later : List Entry) (i : ℕ)
+  pub again_next : (k new : NodePower) (ks news : List HostSite) (before noted later : List Entry) (i : ℕ)
       (a : IsSo k ks before noted i) → can_happen a.behind c ≡ true → hosts_in (world_step a.behind c).0.sites ≡ hosts_in a.behind.sites
-      → WorldBecomes CRuns c_memory PRuns p_memory new news noted later (world_step a.behind c) → IsSo new news before later (i + 1)
+      → WorldBecomes new news noted later (world_step a.behind c) → IsSo new news before later (i + 1)
   again_next k new ks news before noted later i a can same b =
       let v : NodeWorld = (world_step a.behind c).0 in
       let o : Occurrence = record { cause = c; entries = (world_step a.behind c).1 } in
@@ -202,14 +195,14 @@ module _ (C P : Type 0) (CRuns : C → Core → List Port → Type 0) (c_memory 
       }
 
   -- what it is behind so many, where all of them happened, or where the next can't
-  pub again_ends : (k : Power C) (ks : List (HostSite P)) (before noted : List Entry) (i : ℕ) (a : IsSo k ks before noted i)
+  pub again_ends : (k : NodePower) (ks : List HostSite) (before noted : List Entry) (i : ℕ) (a : IsSo k ks before noted i)
       → all_happen w (replicate i c) ≡ (a.behind, a.events)
   again_ends k ks before noted i a =
       let zero_more : i + 0 ≡ i = omega arith in
       ap (λ n. all_happen w (replicate n c)) (sym zero_more)
       ∙ (a.leads 0 ∙ ap (λ es. let q : NodeWorld × List Occurrence = (a.behind, es) in q) (append-nil a.events))
 
-  pub again_stops : (k : Power C) (ks : List (HostSite P)) (before noted : List Entry) (i n : ℕ) (a : IsSo k ks before noted i) → i ≤ n
+  pub again_stops : (k : NodePower) (ks : List HostSite) (before noted : List Entry) (i n : ℕ) (a : IsSo k ks before noted i) → i ≤ n
       → can_happen a.behind c ≡ false → all_happen w (replicate n c) ≡ (a.behind, a.events)
   again_stops k ks before noted i n a q can = go (more i n q)
     where
@@ -226,18 +219,17 @@ module _ (C P : Type 0) (CRuns : C → Core → List Port → Type 0) (c_memory 
           ∙ ap (λ es. let q : NodeWorld × List Occurrence = (a.behind, es) in q) (append-nil a.events)))
 
   -- what is kept stands for the world behind so many
-  pub again_goes : (k : Power C) (ks : List (HostSite P)) (before noted : List Entry) (i n : ℕ) (a : IsSo k ks before noted i)
-      → all_happen w (replicate n c) ≡ (a.behind, a.events)
-      → WorldHasGone CRuns c_memory PRuns p_memory k ks before noted (all_happen w (replicate n c))
+  pub again_goes : (k : NodePower) (ks : List HostSite) (before noted : List Entry) (i n : ℕ) (a : IsSo k ks before noted i)
+      → all_happen w (replicate n c) ≡ (a.behind, a.events) → WorldHasGone k ks before noted (all_happen w (replicate n c))
   again_goes k ks before noted i n a same =
-      let G : NodeWorld × List Occurrence → Type 0 = λ p. WorldHasGone CRuns c_memory PRuns p_memory k ks before noted p in
+      let G : NodeWorld × List Occurrence → Type 0 = λ p. WorldHasGone k ks before noted p in
       subst G (sym same) (record { world = a.world; noted = a.told })
 
   -- the line at which they happen is played behind them
-  pub again_plays : (said : Line) (k : Power C) (ks : List (HostSite P)) (before noted : List Entry) (i n : ℕ)
+  pub again_plays : (said : Line) (k : NodePower) (ks : List HostSite) (before noted : List Entry) (i n : ℕ)
       (a : IsSo k ks before noted i) → before ≡ [] → refusal_in w said ≡ None → goes_on w said ≡ of_all (all_happen w (replicate n c))
-      → all_happen w (replicate n c) ≡ (a.behind, a.events) → LinePlayed CRuns c_memory PRuns p_memory k ks noted (line_step w said)
+      → all_happen w (replicate n c) ≡ (a.behind, a.events) → LinePlayed k ks noted (line_step w said)
   again_plays said k ks before noted i n a none e goes same =
-      let L : NodeWorld × LineOutcome → Type 0 = λ p. LinePlayed CRuns c_memory PRuns p_memory k ks noted p in
+      let L : NodeWorld × LineOutcome → Type 0 = λ p. LinePlayed k ks noted p in
       let step : line_step w said ≡ goes_on w said = rw e refl in
       subst L (sym (step ∙ (goes ∙ ap of_all same))) (record { world = a.world; told = a.told ∙ ap (λ es. es ++ entries_in a.events) none })

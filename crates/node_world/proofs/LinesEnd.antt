@@ -3,7 +3,6 @@ use Rattle.std.proofs.Common.{◌≡◌, ◌≢◌, ℕ, ◌==◌, Bool, true, f
 use Rattle.std.specs.Prelude.{Option, Some, None, IsTrue, is_some}
 use Rattle.std.specs.List.{list_any}
 use Rattle.std.proofs.lemmas.Bool.{true≢false}
-use Rattle.swp_base.specs.InMemory.{Memory}
 use Rattle.trace_model.specs.declared.entry.Entry.{Entry}
 use Rattle.trace_model.specs.declared.entry.Entry.TheVariants as note
 use Rattle.trace_model.specs.declared.entry.NoCause.{NoCause}
@@ -11,15 +10,15 @@ use Rattle.trace_model.specs.declared.entry.NoCause.TheVariants as no
 use Rattle.trace_model.specs.Lines.{IsNodeOf}
 use Rattle.trace_model.specs.declared.line.Line.{Line}
 use Rattle.trace_model.specs.declared.line.Line.TheVariants as line
-use Rattle.node_machine.specs.Parts.{Core, Port, Running}
+use Rattle.node_machine.specs.Parts.{Running}
 use Rattle.node_machine.specs.world.World.{NodeWorld, Happening, Site, site_at, world_step}
 use Rattle.node_machine.specs.world.Lines.{first_cause, goes_on, if_off, is_running, line_step, refusal_in}
 use Rattle.node_laws.specs.telling.Telling.{hosts_in}
-use Rattle.node_sites.specs.declared.power.Power.{Power}
 use Rattle.node_sites.specs.declared.places.HostSite.{HostSite}
 use Rattle.node_world.specs.Controllers.{IsThere, WorldIs, WorldBecomes}
 use Rattle.node_world.specs.Whole.{LinePlayed}
 use Rattle.node_world.proofs.LinesGo.{one_step, world_goes, world_refused}
+use Rattle.node_sites.specs.Powers.{NodePower}
 
 -- ## Nodes that run
 
@@ -39,20 +38,18 @@ stands_not (Some r) e = absurd (cc e)
 
 -- ## What becomes of a line
 
-module _ (w : NodeWorld) (said : Line) (C P : Type 0) (CRuns : C → Core → List Port → Type 0) (c_memory : C → Memory)
-    (PRuns : P → Core → List Port → Type 0) (p_memory : P → Memory) (k : Power C) (ks : List (HostSite P)) (before now : List Entry)
+module _ (w : NodeWorld) (said : Line) (k : NodePower) (ks : List HostSite) (before now : List Entry)
     (none : before ≡ []) where
-  pub line_refused : (cause : NoCause) → refusal_in w said ≡ Some cause → WorldIs CRuns c_memory PRuns p_memory k ks w
-      → now ≡ before ++ note.No cause ∷ [] → LinePlayed CRuns c_memory PRuns p_memory k ks now (line_step w said)
+  pub line_refused : (cause : NoCause) → refusal_in w said ≡ Some cause → WorldIs k ks w
+      → now ≡ before ++ note.No cause ∷ [] → LinePlayed k ks now (line_step w said)
   line_refused cause e world noted =
-      world_refused w said C P CRuns c_memory PRuns p_memory k ks cause now e world (noted ∙ ap (λ es. es ++ note.No cause ∷ []) none)
+      world_refused w said k ks cause now e world (noted ∙ ap (λ es. es ++ note.No cause ∷ []) none)
 
-  pub line_goes : (c : Happening) → goes_on w said ≡ one_step w c → refusal_in w said ≡ None
-      → WorldBecomes CRuns c_memory PRuns p_memory k ks before now (world_step w c)
-      → LinePlayed CRuns c_memory PRuns p_memory k ks now (line_step w said)
+  pub line_goes : (c : Happening) → goes_on w said ≡ one_step w c → refusal_in w said ≡ None → WorldBecomes k ks before now (world_step w c)
+      → LinePlayed k ks now (line_step w said)
   line_goes c one e b =
-      let W : List Entry → Type 0 = λ es. WorldBecomes CRuns c_memory PRuns p_memory k ks es now (world_step w c) in
-      world_goes w said C P CRuns c_memory PRuns p_memory k ks c now one e (subst W none b)
+      let W : List Entry → Type 0 = λ es. WorldBecomes k ks es now (world_step w c) in
+      world_goes w said k ks c now one e (subst W none b)
 
 -- ## A node of the header
 

@@ -4,22 +4,20 @@ use Rattle.std.specs.Prelude.{Option, Some, None, Contains}
 use Rattle.std.specs.List.{AllByRecursion}
 use Rattle.std.proofs.lemmas.Bool.{eq-eqb, true≢false}
 use Rattle.std.proofs.lemmas.List.Elements.{All-contains, All-from_recursion}
-use Rattle.swp_base.specs.InMemory.{Memory}
 use Rattle.trace_model.specs.declared.entry.Entry.{Entry}
 use Rattle.trace_model.specs.declared.entry.Entry.TheVariants as note
 use Rattle.trace_model.specs.declared.entry.NoCause.{NoCause}
 use Rattle.trace_model.specs.declared.line.Header.{Header}
 use Rattle.trace_model.specs.declared.line.Line.{Line}
-use Rattle.node_machine.specs.Parts.{Core, Port}
 use Rattle.node_machine.specs.world.World.{NodeWorld, Site, Happening, site_at, world_step}
 use Rattle.node_machine.specs.world.Lines.{LineOutcome, refusal_in, goes_on, line_step}
 use Rattle.node_machine.specs.world.Lines.LineOutcome.{WasRefused, Occurred}
 use Rattle.node_laws.specs.telling.Telling.{hosts_in}
-use Rattle.node_sites.specs.declared.power.Power.{Power}
 use Rattle.node_sites.specs.declared.places.HostSite.{HostSite}
 use Rattle.node_world.specs.Controllers.{SitesAre, WorldIs, WorldBecomes, IsThere}
 use Rattle.node_world.specs.Whole.{HostsPlayed, IsWithinBounds, LinePlayed, MayPlay, SitesBecome}
 use Rattle.node_world.proofs.FewInWorlds.{longer}
+use Rattle.node_sites.specs.Powers.{NodePower}
 
 -- ## What is asked
 
@@ -58,30 +56,28 @@ refused_is w said cause e = rw e refl
 goes_is : (w : NodeWorld) (said : Line) → refusal_in w said ≡ None → line_step w said ≡ goes_on w said
 goes_is w said e = rw e refl
 
-module _ (w : NodeWorld) (said : Line) (C P : Type 0) (CRuns : C → Core → List Port → Type 0) (c_memory : C → Memory)
-    (PRuns : P → Core → List Port → Type 0) (p_memory : P → Memory) (k : Power C) (ks : List (HostSite P)) where
-  pub world_refused : (cause : NoCause) (now : List Entry) → refusal_in w said ≡ Some cause → WorldIs CRuns c_memory PRuns p_memory k ks w
-      → now ≡ note.No cause ∷ [] → LinePlayed CRuns c_memory PRuns p_memory k ks now (line_step w said)
+module _ (w : NodeWorld) (said : Line) (k : NodePower) (ks : List HostSite) where
+  pub world_refused : (cause : NoCause) (now : List Entry) → refusal_in w said ≡ Some cause → WorldIs k ks w
+      → now ≡ note.No cause ∷ [] → LinePlayed k ks now (line_step w said)
   world_refused cause now e world noted =
-      let L : NodeWorld × LineOutcome → Type 0 = λ p. LinePlayed CRuns c_memory PRuns p_memory k ks now p in
+      let L : NodeWorld × LineOutcome → Type 0 = λ p. LinePlayed k ks now p in
       subst L (sym (refused_is w said cause e)) (record { world = world; told = noted })
 
-  pub world_goes : (c : Happening) (now : List Entry) → goes_on w said ≡ one_step w c → refusal_in w said ≡ None
-      → WorldBecomes CRuns c_memory PRuns p_memory k ks [] now (world_step w c)
-      → LinePlayed CRuns c_memory PRuns p_memory k ks now (line_step w said)
+  pub world_goes : (c : Happening) (now : List Entry) → goes_on w said ≡ one_step w c → refusal_in w said ≡ None → WorldBecomes k ks [] now (world_step w c)
+      → LinePlayed k ks now (line_step w said)
   world_goes c now one e b =
-      let L : NodeWorld × LineOutcome → Type 0 = λ p. LinePlayed CRuns c_memory PRuns p_memory k ks now p in
+      let L : NodeWorld × LineOutcome → Type 0 = λ p. LinePlayed k ks now p in
       subst L (sym (goes_is w said e ∙ one)) (record { world = b.world; told = b.noted ∙ sym (append-nil (world_step w c).1) })
 
-module _ (w : NodeWorld) (said : Line) (P : Type 0) (PRuns : P → Core → List Port → Type 0) (p_memory : P → Memory) (ks : List (HostSite P)) where
-  pub hosts_refused : (cause : NoCause) (now : List Entry) → refusal_in w said ≡ Some cause → SitesAre PRuns p_memory ks w.sites
-      → now ≡ note.No cause ∷ [] → HostsPlayed PRuns p_memory ks now (line_step w said)
+module _ (w : NodeWorld) (said : Line) (ks : List HostSite) where
+  pub hosts_refused : (cause : NoCause) (now : List Entry) → refusal_in w said ≡ Some cause → SitesAre ks w.sites
+      → now ≡ note.No cause ∷ [] → HostsPlayed ks now (line_step w said)
   hosts_refused cause now e sites noted =
-      let L : NodeWorld × LineOutcome → Type 0 = λ p. HostsPlayed PRuns p_memory ks now p in
+      let L : NodeWorld × LineOutcome → Type 0 = λ p. HostsPlayed ks now p in
       subst L (sym (refused_is w said cause e)) (record { sites = sites; told = noted })
 
   pub hosts_go : (c : Happening) (now : List Entry) → goes_on w said ≡ one_step w c → refusal_in w said ≡ None
-      → SitesBecome PRuns p_memory ks [] now (world_step w c) → HostsPlayed PRuns p_memory ks now (line_step w said)
+      → SitesBecome ks [] now (world_step w c) → HostsPlayed ks now (line_step w said)
   hosts_go c now one e b =
-      let L : NodeWorld × LineOutcome → Type 0 = λ p. HostsPlayed PRuns p_memory ks now p in
+      let L : NodeWorld × LineOutcome → Type 0 = λ p. HostsPlayed ks now p in
       subst L (sym (goes_is w said e ∙ one)) (record { sites = b.sites; told = b.noted ∙ sym (append-nil (world_step w c).1) })

@@ -17,16 +17,18 @@ use Rattle.node_machine.specs.world.Rounds.{sites_rest}
 use Rattle.node_laws.specs.telling.Telling.{HasEnds, IfItRuns, IfOff, hosts_in}
 use Rattle.node_laws.proofs.telling.Nodes.{link_is}
 use Rattle.node_ends.specs.Ends.{are_at_rest}
-use Rattle.node_sites.specs.declared.power.Power.{Power}
 use Rattle.node_sites.specs.declared.places.HostSite.{HostSite}
 use Rattle.node_world.specs.Controllers.{AreTimely, MayGoOn, SitesAre}
 use Rattle.node_sites.specs.declared.power.Power.TheVariants.{On, Off}
-use Rattle.node_sites.specs.Powers.{IsNodePlace}
+use Rattle.node_sites.specs.Powers.{IsNodePlace, NodePower}
 use Rattle.node_sites.specs.Places.{SiteIs}
 use Rattle.node_world.specs.Rounds.{IsToLookAt, far_rests, near_rests}
 use Rattle.node_world.proofs.Behind.{each_found}
 use Rattle.node_world.proofs.PlacesFound.{There, there}
 use Rattle.node_world.proofs.SitesKept.{as_many}
+use Rattle.node_core.specs.declared.node.Node.{Node}
+use Rattle.node_core.specs.Running.{RunsAs}
+use Rattle.node_sites.specs.WorldNodes.{RunsAsHost}
 
 -- ## Wires
 
@@ -121,50 +123,48 @@ module _ (w : NodeWorld) (may : MayGoOn w) where
 
 -- ## What nodes say
 
-module _ (P : Type 0) (Runs : P → Core → List Port → Type 0) (memory_of : P → Memory) where
-  -- this is said of all ends of a node
-  abbrev pub IsSaid : P → Bool → Type 0
-  IsSaid n b = (core : Core) (ports : List Port) → Runs n core ports → b ≡ are_at_rest ports
+-- this is said of all ends of a node
+abbrev pub IsSaid : Node Memory → Bool → Type 0
+IsSaid n b = (core : Core) (ports : List Port) → RunsAs n core ports → b ≡ are_at_rest ports
 
-  pub host_says : (k : HostSite P) (s : Site) (n : P) (b : Bool) → SiteIs Runs memory_of k s → k.power ≡ On n → IsToLookAt s → IsSaid n b
-      → b ≡ end_rests s.link.host.side
-  host_says k s n b is on may says =
-      go s.node refl (subst (λ (p : Power P). IsNodePlace Runs memory_of p s.memory s.node (λ h. s.link.host)) on is.place)
+pub host_says : (k : HostSite) (s : Site) (n : Node Memory) (b : Bool) → SiteIs k s → k.power ≡ On n → IsToLookAt s → IsSaid n b
+    → b ≡ end_rests s.link.host.side
+host_says k s n b is on may says =
+    go s.node refl (subst (λ (p : NodePower). IsNodePlace RunsAsHost p s.memory s.node (λ h. s.link.host)) on is.place)
+  where
+    go : (o : Option Running) → s.node ≡ o → IsNodePlace RunsAsHost (On n) s.memory o (λ h. s.link.host) → b ≡ end_rests s.link.host.side
+    go (Some r) q place = says r.core (map (λ (d : Desk). port_for s.link.host d) r.desks) place.1.runs ∙ host_end_rests s r q may
+    go None q place = absurd place
+
+pub host_is_new : (k : HostSite) (s : Site) (m : Memory) → SiteIs k s → k.power ≡ Off m → IsToLookAt s → true ≡ end_rests s.link.host.side
+host_is_new k s m is off may =
+    go s.node refl (subst (λ (p : NodePower). IsNodePlace RunsAsHost p s.memory s.node (λ h. s.link.host)) off is.place)
+  where
+    go : (o : Option Running) → s.node ≡ o → IsNodePlace RunsAsHost (Off m) s.memory o (λ h. s.link.host) → true ≡ end_rests s.link.host.side
+    go None q place = sym (new_host_rests s q may)
+    go (Some r) q place = absurd place
+
+module _ (w : NodeWorld) (may : MayGoOn w) (k : NodePower)
+    (is : IsNodePlace RunsAs k w.memory w.controller (λ h. (link_to w.sites h).controller)) where
+  abbrev near : ℕ → NumberedEnd
+  near h = (link_to w.sites h).controller
+
+  pub controller_says : (n : Node Memory) (b : Bool) → k ≡ On n → IsSaid n b → b ≡ list_all near_rests w.sites
+  controller_says n b on says =
+      go w.controller refl (subst (λ (p : NodePower). IsNodePlace RunsAs p w.memory w.controller near) on is)
     where
-      go : (o : Option Running) → s.node ≡ o → IsNodePlace Runs memory_of (On n) s.memory o (λ h. s.link.host) → b ≡ end_rests s.link.host.side
-      go (Some r) q place = says r.core (map (λ (d : Desk). port_for s.link.host d) r.desks) place.1 ∙ host_end_rests s r q may
+      go : (o : Option Running) → w.controller ≡ o → IsNodePlace RunsAs (On n) w.memory o near → b ≡ list_all near_rests w.sites
+      go (Some r) q place =
+          says r.core (map (λ (d : Desk). port_for (near d.host) d) r.desks) place.1 ∙ controller_ends_rest w may r q
       go None q place = absurd place
 
-  pub host_is_new : (k : HostSite P) (s : Site) (m : Memory) → SiteIs Runs memory_of k s → k.power ≡ Off m → IsToLookAt s
-      → true ≡ end_rests s.link.host.side
-  host_is_new k s m is off may =
-      go s.node refl (subst (λ (p : Power P). IsNodePlace Runs memory_of p s.memory s.node (λ h. s.link.host)) off is.place)
+  pub controller_is_new : (m : Memory) → AreTimely w → k ≡ Off m → true ≡ list_all near_rests w.sites
+  controller_is_new m timely off =
+      go w.controller refl (subst (λ (p : NodePower). IsNodePlace RunsAs p w.memory w.controller near) off is)
     where
-      go : (o : Option Running) → s.node ≡ o → IsNodePlace Runs memory_of (Off m) s.memory o (λ h. s.link.host) → true ≡ end_rests s.link.host.side
-      go None q place = sym (new_host_rests s q may)
+      go : (o : Option Running) → w.controller ≡ o → IsNodePlace RunsAs (Off m) w.memory o near → true ≡ list_all near_rests w.sites
+      go None q place = new_ends_rest w may timely q
       go (Some r) q place = absurd place
-
-  module _ (w : NodeWorld) (may : MayGoOn w) (k : Power P)
-      (is : IsNodePlace Runs memory_of k w.memory w.controller (λ h. (link_to w.sites h).controller)) where
-    abbrev near : ℕ → NumberedEnd
-    near h = (link_to w.sites h).controller
-
-    pub controller_says : (n : P) (b : Bool) → k ≡ On n → IsSaid n b → b ≡ list_all near_rests w.sites
-    controller_says n b on says =
-        go w.controller refl (subst (λ (p : Power P). IsNodePlace Runs memory_of p w.memory w.controller near) on is)
-      where
-        go : (o : Option Running) → w.controller ≡ o → IsNodePlace Runs memory_of (On n) w.memory o near → b ≡ list_all near_rests w.sites
-        go (Some r) q place =
-            says r.core (map (λ (d : Desk). port_for (near d.host) d) r.desks) place.1 ∙ controller_ends_rest w may r q
-        go None q place = absurd place
-
-    pub controller_is_new : (m : Memory) → AreTimely w → k ≡ Off m → true ≡ list_all near_rests w.sites
-    controller_is_new m timely off =
-        go w.controller refl (subst (λ (p : Power P). IsNodePlace Runs memory_of p w.memory w.controller near) off is)
-      where
-        go : (o : Option Running) → w.controller ≡ o → IsNodePlace Runs memory_of (Off m) w.memory o near → true ≡ list_all near_rests w.sites
-        go None q place = new_ends_rest w may timely q
-        go (Some r) q place = absurd place
 
 -- ## All links
 
@@ -205,51 +205,46 @@ last_of : (Q : Site → Type 0) (front : List Site) (s : Site) (back : List Site
 last_of Q [] s back a = a.0
 last_of Q (x ∷ front) s back a = last_of Q front s back a.1
 
-module _ (P : Type 0) (Runs : P → Core → List Port → Type 0) (memory_of : P → Memory) where
-  -- the next host
-  pub record LooksAt (i : ℕ) (sites : List Site) (k : HostSite P) : Type 0 where
-    pub site : Site
-    pub here : SiteIs Runs memory_of k site
-    pub may : IsToLookAt site
-    pub on : far_rests site ≡ true → RestSoFar (i + 1) sites
-    pub ends : far_rests site ≡ false → list_all far_rests sites ≡ false
+-- the next host
+pub record LooksAt (i : ℕ) (sites : List Site) (k : HostSite) : Type 0 where
+  pub site : Site
+  pub here : SiteIs k site
+  pub may : IsToLookAt site
+  pub on : far_rests site ≡ true → RestSoFar (i + 1) sites
+  pub ends : far_rests site ≡ false → list_all far_rests sites ≡ false
 
-  pub looks_at : (i : ℕ) (ks : List (HostSite P)) (sites : List Site) (k : HostSite P) → SitesAre Runs memory_of ks sites
-      → AllByRecursion IsToLookAt sites → RestSoFar i sites → i < length ks → k ≡ get_or ks i k → LooksAt i sites k
-  looks_at i ks sites k a may so below read =
-      let S : List Site → Type 0 = λ xs. SitesAre Runs memory_of ks xs in
-      let t : There P Runs memory_of i ks so.front so.back k = there P Runs memory_of i ks so.front so.back k (subst S so.is a) so.place below read in
-      let is : sites ≡ so.front ++ t.site ∷ t.rest = so.is ∙ ap (λ xs. so.front ++ xs) t.is in
-      record {
-        site = t.site;
-        here = t.here;
-        may = last_of IsToLookAt so.front t.site t.rest (subst (AllByRecursion IsToLookAt) is may);
-        on = λ q. record {
-          front = so.front ++ t.site ∷ [];
-          back = t.rest;
-          is = is ∙ sym (append_assoc so.front (t.site ∷ []) t.rest);
-          place = length-append so.front (t.site ∷ []) ∙ ap (λ n. n + 1) so.place;
-          rest = all_with far_rests so.front (t.site ∷ []) ∙ ap₂ (λ b c. b && (c && true)) so.rest q;
-        };
-        ends = λ q.
-            ap (list_all far_rests) is
-            ∙ (all_with far_rests so.front (t.site ∷ t.rest)
-            ∙ (ap (λ b. list_all far_rests so.front && (b && list_all far_rests t.rest)) q ∙ and_false (list_all far_rests so.front)));
-      }
+pub looks_at : (i : ℕ) (ks : List HostSite) (sites : List Site) (k : HostSite) → SitesAre ks sites
+    → AllByRecursion IsToLookAt sites → RestSoFar i sites → i < length ks → k ≡ get_or ks i k → LooksAt i sites k
+looks_at i ks sites k a may so below read =
+    let S : List Site → Type 0 = λ xs. SitesAre ks xs in
+    let t : There i ks so.front so.back k = there i ks so.front so.back k (subst S so.is a) so.place below read in
+    let is : sites ≡ so.front ++ t.site ∷ t.rest = so.is ∙ ap (λ xs. so.front ++ xs) t.is in
+    record {
+      site = t.site;
+      here = t.here;
+      may = last_of IsToLookAt so.front t.site t.rest (subst (AllByRecursion IsToLookAt) is may);
+      on = λ q. record {
+        front = so.front ++ t.site ∷ [];
+        back = t.rest;
+        is = is ∙ sym (append_assoc so.front (t.site ∷ []) t.rest);
+        place = length-append so.front (t.site ∷ []) ∙ ap (λ n. n + 1) so.place;
+        rest = all_with far_rests so.front (t.site ∷ []) ∙ ap₂ (λ b c. b && (c && true)) so.rest q;
+      };
+      ends = λ q. ap (list_all far_rests) is ∙ (all_with far_rests so.front (t.site ∷ t.rest)
+          ∙ (ap (λ b. list_all far_rests so.front && (b && list_all far_rests t.rest)) q ∙ and_false (list_all far_rests so.front)));
+    }
 
-  pub all_rest_so : (i : ℕ) (ks : List (HostSite P)) (sites : List Site) → SitesAre Runs memory_of ks sites → RestSoFar i sites → length ks ≤ i
-      → list_all far_rests sites ≡ true
-  all_rest_so i ks sites a so over = go so.back refl
-    where
-      many : length ks ≡ i + length so.back
-      many =
-          as_many P Runs memory_of ks sites a
-          ∙ (ap (λ (xs : List Site). length xs) so.is ∙ (length-append so.front so.back ∙ ap (λ n. n + length so.back) so.place))
+pub all_rest_so : (i : ℕ) (ks : List HostSite) (sites : List Site) → SitesAre ks sites → RestSoFar i sites → length ks ≤ i → list_all far_rests sites ≡ true
+all_rest_so i ks sites a so over = go so.back refl
+  where
+    many : length ks ≡ i + length so.back
+    many =
+        as_many ks sites a ∙ (ap (λ (xs : List Site). length xs) so.is ∙ (length-append so.front so.back ∙ ap (λ n. n + length so.back) so.place))
 
-      go : (back : List Site) → so.back ≡ back → list_all far_rests sites ≡ true
-      go [] q = ap (list_all far_rests) (so.is ∙ (ap (λ xs. so.front ++ xs) q ∙ append-nil so.front)) ∙ so.rest
-      go (s ∷ back) q =
-          let more : length so.back ≡ length (s ∷ back) = ap (λ (xs : List Site). length xs) q in absurd (omega (arith, many, more, over))
+    go : (back : List Site) → so.back ≡ back → list_all far_rests sites ≡ true
+    go [] q = ap (list_all far_rests) (so.is ∙ (ap (λ xs. so.front ++ xs) q ∙ append-nil so.front)) ∙ so.rest
+    go (s ∷ back) q =
+        let more : length so.back ≡ length (s ∷ back) = ap (λ (xs : List Site). length xs) q in absurd (omega (arith, many, more, over))
 
 -- ## The answer
 

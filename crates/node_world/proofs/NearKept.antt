@@ -11,25 +11,26 @@ use Rattle.link_laws.specs.machine.Machine.{LinkInput}
 use Rattle.link_laws.specs.messages.Links.{NumberedEnd, Comes, Loss, exchanged}
 use Rattle.link_laws.specs.messages.Links.Comes.{NoInput}
 use Rattle.link_laws.specs.messages.Links.Ending.{CutOff}
-use Rattle.node_machine.specs.Parts.{Core, Desk, Running, Port, Work}
+use Rattle.node_machine.specs.Parts.{Desk, Running, Port, Work}
 use Rattle.node_machine.specs.Node.{steps}
 use Rattle.node_machine.specs.Node.NodeInput.{AtEnd, TimePasses}
 use Rattle.node_machine.specs.world.World.{NodeWorld, Site, site_at, link_to, port_for, turns_at, ending_of, host_work, input_of, host_cut}
 use Rattle.node_laws.specs.telling.Telling.{IsOrderly}
 use Rattle.node_laws.proofs.telling.Nodes.{site_host}
-use Rattle.node_sites.specs.declared.power.Power.{Power}
 use Rattle.node_sites.specs.declared.power.Power.TheVariants.{On, Off}
 use Rattle.node_sites.specs.declared.places.HostSite.{HostSite}
 use Rattle.node_world.specs.Bounds.{FewOnEach, FewBehind}
 use Rattle.node_world.specs.Controllers.{SitesAre, StandsAt, WorldIs, WorldBecomes, HaveRoom, FewAreCounted, FewAreCountedAt}
 use Rattle.node_world.specs.HostSteps.{host_stepped, host_hears, site_loses, HasBecome, BecomesUnless}
-use Rattle.node_sites.specs.Powers.{IsNodePlace}
+use Rattle.node_sites.specs.Powers.{IsNodePlace, NodePower}
 use Rattle.node_world.specs.Whole.{SitesBecome, if_accepted}
-use Rattle.node_world.proofs.AtHosts.{GivesSendable, becomes, from_outside, room_there, site_changes, site_stands}
+use Rattle.node_world.proofs.AtHosts.{becomes, from_outside, room_there, site_changes, site_stands}
 use Rattle.node_world.proofs.CountsStay.{acks_of_ports, counts_few_at_end, counts_few_in_tick, few_to}
 use Rattle.node_world.proofs.FewOnLinks.{far_stays}
 use Rattle.node_world.proofs.HostsFound.{becomes_unless}
 use Rattle.node_world.proofs.HostsInWorlds.{ChangesSite}
+use Rattle.node_core.specs.Running.{RunsAs}
+use Rattle.node_sites.specs.GivenMessages.{given_messages}
 
 -- a host became another one, with the same number and the same end of the controller
 pub record LeavesNear (s t : Site) : Type 0 where
@@ -104,81 +105,70 @@ module _ (w : NodeWorld) (h : ℕ) (s : Site) (found : site_at w.sites h ≡ Som
   all_left : near_of now.0.sites ≡ near_of w.sites
   all_left = λ i k. near_left (split_at w.sites h s found) k i
 
-  module _ (C P : Type 0) (CRuns : C → Core → List Port → Type 0) (c_memory : C → Memory) (PRuns : P → Core → List Port → Type 0)
-      (p_memory : P → Memory) where
-    pub host_becomes : (k : Power C) (ks new : List (HostSite P)) (before later : List Entry)
-        → WorldIs CRuns c_memory PRuns p_memory k ks w → SitesBecome PRuns p_memory new before later now
-        → WorldBecomes CRuns c_memory PRuns p_memory k new before later now
-    host_becomes k ks new before later world b =
-        let Q : Memory → Option Running → (ℕ → NumberedEnd) → Type 0 = λ m node near. IsNodePlace CRuns c_memory k m node near in
-        let memory : now.0.memory ≡ w.memory = ap (λ (v : NodeWorld). v.memory) c.world in
-        let node : now.0.controller ≡ w.controller = ap (λ (v : NodeWorld). v.controller) c.world in
-        let one = subst (λ near. Q w.memory w.controller near) (sym all_left) world.controller in
-        let two = subst (λ n. Q w.memory n (near_of now.0.sites)) (sym node) one in
-        record {
-          world = record { controller = subst (λ m. Q m now.0.controller (near_of now.0.sites)) (sym memory) two; sites = b.sites };
-          noted = b.noted;
-        }
+  pub host_becomes : (k : NodePower) (ks new : List HostSite) (before later : List Entry) → WorldIs k ks w → SitesBecome new before later now
+      → WorldBecomes k new before later now
+  host_becomes k ks new before later world b =
+      let Q : Memory → Option Running → (ℕ → NumberedEnd) → Type 0 = λ m node near. IsNodePlace RunsAs k m node near in
+      let memory : now.0.memory ≡ w.memory = ap (λ (v : NodeWorld). v.memory) c.world in
+      let node : now.0.controller ≡ w.controller = ap (λ (v : NodeWorld). v.controller) c.world in
+      let one = subst (λ near. Q w.memory w.controller near) (sym all_left) world.controller in
+      let two = subst (λ n. Q w.memory n (near_of now.0.sites)) (sym node) one in
+      record {
+        world = record { controller = subst (λ m. Q m now.0.controller (near_of now.0.sites)) (sym memory) two; sites = b.sites };
+        noted = b.noted;
+      }
 
-    pub host_becomes_unless : (k : Power C) (ks new : List (HostSite P)) (before later : List Entry) (cause : Option NoCause)
-        → WorldIs CRuns c_memory PRuns p_memory k ks w → SitesBecome PRuns p_memory new before later (if_accepted cause w now)
-        → WorldBecomes CRuns c_memory PRuns p_memory k new before later (if_accepted cause w now)
-    host_becomes_unless k ks new before later None world b = host_becomes k ks new before later world b
-    host_becomes_unless k ks new before later (Some cause) world b =
-        record { world = record { controller = world.controller; sites = b.sites }; noted = b.noted }
+  pub host_becomes_unless : (k : NodePower) (ks new : List HostSite) (before later : List Entry) (cause : Option NoCause)
+      → WorldIs k ks w → SitesBecome new before later (if_accepted cause w now) → WorldBecomes k new before later (if_accepted cause w now)
+  host_becomes_unless k ks new before later None world b = host_becomes k ks new before later world b
+  host_becomes_unless k ks new before later (Some cause) world b =
+      record { world = record { controller = world.controller; sites = b.sites }; noted = b.noted }
 
 pub loses_leaves : (e : End) (why : Loss) (s : Site) → e.at_host ≡ true → LeavesNear s (site_loses e why s)
 loses_leaves e why s q = record { host = refl; near = rw q refl }
 
 -- ## What the controller asks for
 
-have_room : (P : Type 0) (Runs : P → Core → List Port → Type 0) (memory_of : P → Memory) (ks : List (HostSite P)) (sites : List Site)
-    → SitesAre Runs memory_of ks sites → FewOnEach 300000000 sites → HaveRoom ks
-have_room P Runs memory_of [] [] a f = tt
-have_room P Runs memory_of (k ∷ ks) (s ∷ sites) a f = (room_there P Runs memory_of k s a.0 f.0, have_room P Runs memory_of ks sites a.1 f.1)
-have_room P Runs memory_of [] (s ∷ sites) a f = absurd a
-have_room P Runs memory_of (k ∷ ks) [] a f = absurd a
+have_room : (ks : List HostSite) (sites : List Site) → SitesAre ks sites → FewOnEach 300000000 sites → HaveRoom ks
+have_room [] [] a f = tt
+have_room (k ∷ ks) (s ∷ sites) a f = (room_there k s a.0 f.0, have_room ks sites a.1 f.1)
+have_room [] (s ∷ sites) a f = absurd a
+have_room (k ∷ ks) [] a f = absurd a
 
-pub room_for_all : (P : Type 0) (Runs : P → Core → List Port → Type 0) (memory_of : P → Memory) (ks : List (HostSite P)) (w : NodeWorld)
-    → SitesAre Runs memory_of ks w.sites → FewBehind 300000000 w → HaveRoom ks
-room_for_all P Runs memory_of ks w a f = have_room P Runs memory_of ks w.sites a f
+pub room_for_all : (ks : List HostSite) (w : NodeWorld) → SitesAre ks w.sites → FewBehind 300000000 w → HaveRoom ks
+room_for_all ks w a f = have_room ks w.sites a f
 
-module _ (C : Type 0) (Runs : C → Core → List Port → Type 0) (memory_of : C → Memory) (given : GivesSendable C Runs memory_of) where
-  on_sendable : (k : Power C) (m : Memory) (node : Option Running) (near : ℕ → NumberedEnd) (r : Running)
-      → IsNodePlace Runs memory_of k m node near → node ≡ Some r
-      → AllByRecursion (λ (p : Port). AreSendable p.side.sent) (map (λ (d : Desk). port_for (near d.host) d) r.desks)
-  on_sendable (On n) m (Some q) near r place e =
-      let one : q ≡ r = cc in
-      let S : Running → Type 0 = λ x. AllByRecursion (λ (p : Port). AreSendable p.side.sent) (map (λ (d : Desk). port_for (near d.host) d) x.desks) in
-      subst S one (given n q.core (map (λ (d : Desk). port_for (near d.host) d) q.desks) place.1)
-  on_sendable k m None near r place e = absurd (cc e)
-  on_sendable (Off kept) m (Some q) near r place e = absurd place
+on_sendable : (k : NodePower) (m : Memory) (node : Option Running) (near : ℕ → NumberedEnd) (r : Running) → IsNodePlace RunsAs k m node near → node ≡ Some r
+    → AllByRecursion (λ (p : Port). AreSendable p.side.sent) (map (λ (d : Desk). port_for (near d.host) d) r.desks)
+on_sendable (On n) m (Some q) near r place e =
+    let one : q ≡ r = cc in
+    let S : Running → Type 0 = λ x. AllByRecursion (λ (p : Port). AreSendable p.side.sent) (map (λ (d : Desk). port_for (near d.host) d) x.desks) in
+    subst S one (given_messages n q.core (map (λ (d : Desk). port_for (near d.host) d) q.desks) place.1)
+on_sendable k m None near r place e = absurd (cc e)
+on_sendable (Off kept) m (Some q) near r place e = absurd place
 
-  pub counted_at : (k : Power C) (w : NodeWorld) (h : ℕ) (comes : Comes)
-      → IsNodePlace Runs memory_of k w.memory w.controller (near_of w.sites) → FewBehind 300000000 w → FewAreCountedAt h comes w
-  counted_at k w h comes place few i q = go w.controller refl
-    where
-      go : (o : Option Running) → w.controller ≡ o → FewAreCounted (AtEnd h i) w
-      go None e = rw e tt
-      go (Some r) e =
-          rw e
-          (counts_few_at_end 300000000 h i (map (λ (d : Desk). port_for (near_of w.sites d.host) d) r.desks) (omega arith)
-          (from_outside (link_to w.sites h) comes i q)
-          (acks_of_ports 300000000 (near_of w.sites) (λ j. (few_to 300000000 j w.sites few).controller) r.desks)
-          (on_sendable k w.memory w.controller (near_of w.sites) r place e))
+pub counted_at : (k : NodePower) (w : NodeWorld) (h : ℕ) (comes : Comes)
+    → IsNodePlace RunsAs k w.memory w.controller (near_of w.sites) → FewBehind 300000000 w → FewAreCountedAt h comes w
+counted_at k w h comes place few i q = go w.controller refl
+  where
+    go : (o : Option Running) → w.controller ≡ o → FewAreCounted (AtEnd h i) w
+    go None e = rw e tt
+    go (Some r) e =
+        rw e (counts_few_at_end 300000000 h i (map (λ (d : Desk). port_for (near_of w.sites d.host) d) r.desks) (omega arith)
+        (from_outside (link_to w.sites h) comes i q) (acks_of_ports 300000000 (near_of w.sites) (λ j. (few_to 300000000 j w.sites few).controller) r.desks)
+        (on_sendable k w.memory w.controller (near_of w.sites) r place e))
 
-  -- and in a tick
-  pub counted_in_tick : (k : Power C) (w : NodeWorld)
-      → IsNodePlace Runs memory_of k w.memory w.controller (near_of w.sites) → FewBehind 300000000 w → FewAreCounted TimePasses w
-  counted_in_tick k w place few = go w.controller refl
-    where
-      go : (o : Option Running) → w.controller ≡ o → FewAreCounted TimePasses w
-      go None e = rw e tt
-      go (Some r) e =
-          rw e
-          (counts_few_in_tick 300000000 (map (λ (d : Desk). port_for (near_of w.sites d.host) d) r.desks) (omega arith)
-          (acks_of_ports 300000000 (near_of w.sites) (λ j. (few_to 300000000 j w.sites few).controller) r.desks)
-          (on_sendable k w.memory w.controller (near_of w.sites) r place e))
+-- and in a tick
+pub counted_in_tick : (k : NodePower) (w : NodeWorld)
+    → IsNodePlace RunsAs k w.memory w.controller (near_of w.sites) → FewBehind 300000000 w → FewAreCounted TimePasses w
+counted_in_tick k w place few = go w.controller refl
+  where
+    go : (o : Option Running) → w.controller ≡ o → FewAreCounted TimePasses w
+    go None e = rw e tt
+    go (Some r) e =
+        rw e (counts_few_in_tick 300000000 (map (λ (d : Desk). port_for (near_of w.sites d.host) d) r.desks) (omega arith)
+        (acks_of_ports 300000000 (near_of w.sites) (λ j. (few_to 300000000 j w.sites few).controller) r.desks)
+        (on_sendable k w.memory w.controller (near_of w.sites) r place e))
 
 pub cut_leaves : (s : Site) → LeavesNear s (host_cut s)
 cut_leaves s = record { host = refl; near = far_stays (exchanged s.link) NoInput [] CutOff }
@@ -187,20 +177,18 @@ cut_leaves s = record { host = refl; near = far_stays (exchanged s.link) NoInput
 
 -- What happened at the host with this number, which stands at this place, happened in the world.
 module _ (w : NodeWorld) (i h : ℕ) (a : StandsAt i h w.sites) (o : IsOrderly w) (after : Site × List Entry) (now : NodeWorld × List Entry)
-    (c : ChangesSite w h a.site after now) (leaves : LeavesNear a.site after.0) (C P : Type 0) (CRuns : C → Core → List Port → Type 0)
-    (c_memory : C → Memory) (PRuns : P → Core → List Port → Type 0) (p_memory : P → Memory) (k : Power C) (ks : List (HostSite P)) (new : HostSite P)
-    (before later : List Entry) (world : WorldIs CRuns c_memory PRuns p_memory k ks w) where
+    (c : ChangesSite w h a.site after now) (leaves : LeavesNear a.site after.0) (k : NodePower) (ks : List HostSite) (new : HostSite)
+    (before later : List Entry) (world : WorldIs k ks w) where
   found : site_at w.sites h ≡ Some a.site
   found = site_stands w i h a o
 
-  pub found_becomes : HasBecome PRuns p_memory new before later after
-      → WorldBecomes CRuns c_memory PRuns p_memory k (slice_set ks i new) before later now
+  pub found_becomes : HasBecome new before later after → WorldBecomes k (slice_set ks i new) before later now
   found_becomes b =
-      host_becomes w h a.site found o after now c leaves C P CRuns c_memory PRuns p_memory k ks (slice_set ks i new) before later world
-      (becomes P PRuns p_memory ks w i h a new before later after now o world.sites c b)
+      host_becomes w h a.site found o after now c leaves k ks (slice_set ks i new) before later world
+      (becomes ks w i h a new before later after now o world.sites c b)
 
-  pub found_becomes_unless : (cause : Option NoCause) → BecomesUnless PRuns p_memory new before later a.site after cause
-      → WorldBecomes CRuns c_memory PRuns p_memory k (slice_set ks i new) before later (if_accepted cause w now)
+  pub found_becomes_unless : (cause : Option NoCause) → BecomesUnless new before later a.site after cause
+      → WorldBecomes k (slice_set ks i new) before later (if_accepted cause w now)
   found_becomes_unless cause b =
-      host_becomes_unless w h a.site found o after now c leaves C P CRuns c_memory PRuns p_memory k ks (slice_set ks i new) before later cause world
-      (becomes_unless P PRuns p_memory ks w i h a new before later after now cause o world.sites c b)
+      host_becomes_unless w h a.site found o after now c leaves k ks (slice_set ks i new) before later cause world
+      (becomes_unless ks w i h a new before later after now cause o world.sites c b)

@@ -1,34 +1,31 @@
 -- A frame is lost on the way to an end of the link of a host.
-use Rattle.std.proofs.Common.{◌≡◌, Bool, true, false, List, refl, sym, subst, ◌∙◌}
-use Rattle.swp_base.specs.InMemory.{Memory}
+use Rattle.std.proofs.Common.{◌≡◌, Bool, true, false, refl, sym, subst, ◌∙◌}
 use Rattle.trace_model.specs.declared.line.End.{End}
 use Rattle.link_laws.specs.messages.Links.{Link, NumberedEnd, Loss, happens}
 use Rattle.link_laws.specs.messages.Links.EndEvent.{Lose}
 use Rattle.history.specs.Steps.{at}
-use Rattle.node_machine.specs.Parts.{Core, Port}
 use Rattle.node_machine.specs.world.World.{Site}
 use Rattle.node_sites.specs.declared.places.HostSite.{HostSite}
 use Rattle.node_sites.specs.LinksKept.{WiresStandFor}
-use Rattle.node_sites.specs.declared.power.Power.{Power}
-use Rattle.node_sites.specs.Powers.{IsNodePlace}
+use Rattle.node_sites.specs.Powers.{IsNodePlace, NodePower}
 use Rattle.node_sites.specs.Places.{SiteIs}
+use Rattle.node_sites.specs.WorldNodes.{RunsAsHost}
 
-module _ (P : Type 0) (Runs : P → Core → List Port → Type 0) (memory_of : P → Memory) where
-  pub same_host : (to : End) (l : Link) (why : Loss) → (happens l (at to (Lose why))).host ≡ l.host
-  same_host to l why = go to.at_host refl
-    where
-      go : (b : Bool) → to.at_host ≡ b → (happens l (at to (Lose why))).host ≡ l.host
-      go true q = rw q refl
-      go false q = rw q refl
+pub same_host : (to : End) (l : Link) (why : Loss) → (happens l (at to (Lose why))).host ≡ l.host
+same_host to l why = go to.at_host refl
+  where
+    go : (b : Bool) → to.at_host ≡ b → (happens l (at to (Lose why))).host ≡ l.host
+    go true q = rw q refl
+    go false q = rw q refl
 
-  pub was_lost : {old new : HostSite P} (s : Site) (to : End) (why : Loss) → SiteIs Runs memory_of old s → new.host ≡ old.host → new.power ≡ old.power
-      → WiresStandFor new.wires (happens s.link (at to (Lose why)))
-      → SiteIs Runs memory_of new (record s { link = happens s.link (at to (Lose why)) })
-  was_lost {old} {new} s to why is host same wires =
-      let Q : NumberedEnd → Type 0 = λ e. IsNodePlace Runs memory_of new.power s.memory s.node (λ h. e) in
-      let A : Power P → Type 0 = λ a. IsNodePlace Runs memory_of a s.memory s.node (λ h. s.link.host) in
-      record {
-        host = host ∙ is.host;
-        wires = wires;
-        place = subst Q (sym (same_host to s.link why)) (subst A (sym same) is.place);
-      }
+pub was_lost : {old new : HostSite} (s : Site) (to : End) (why : Loss) → SiteIs old s → new.host ≡ old.host → new.power ≡ old.power
+    → WiresStandFor new.wires (happens s.link (at to (Lose why)))
+    → SiteIs new (record s { link = happens s.link (at to (Lose why)) })
+was_lost {old} {new} s to why is host same wires =
+    let Q : NumberedEnd → Type 0 = λ e. IsNodePlace RunsAsHost new.power s.memory s.node (λ h. e) in
+    let A : NodePower → Type 0 = λ a. IsNodePlace RunsAsHost a s.memory s.node (λ h. s.link.host) in
+    record {
+      host = host ∙ is.host;
+      wires = wires;
+      place = subst Q (sym (same_host to s.link why)) (subst A (sym same) is.place);
+    }

@@ -2,7 +2,6 @@
 use Rattle.std.proofs.Common.{◌≡◌, ℕ, List, [], refl, sym, subst, ◌∙◌}
 use Rattle.std.proofs.lemmas.Bool.{true≢false}
 use Rattle.std.specs.Prelude.{Option, Some, None}
-use Rattle.swp_base.specs.InMemory.{Memory}
 use Rattle.trace_model.specs.declared.entry.Entry.{Entry}
 use Rattle.trace_model.specs.declared.entry.NoCause.{NoCause}
 use Rattle.trace_model.specs.declared.line.End.{End}
@@ -10,12 +9,11 @@ use Rattle.trace_model.specs.declared.line.Header.{Header}
 use Rattle.trace_model.specs.declared.line.Line.{Line}
 use Rattle.trace_model.specs.declared.line.Line.TheVariants as line
 use Rattle.link_laws.specs.messages.Links.Comes.{NoInput}
-use Rattle.node_machine.specs.Parts.{Core, Port, Work}
+use Rattle.node_machine.specs.Parts.{Work}
 use Rattle.node_machine.specs.Node.{begins_with}
 use Rattle.node_machine.specs.world.World.{NodeWorld, Site, host_does, sending, beginning}
 use Rattle.node_machine.specs.world.Lines.{LineOutcome, goes_on, line_step, refusal_in}
 use Rattle.node_machine.specs.world.Lines.LineOutcome.{WasRefused}
-use Rattle.node_sites.specs.declared.power.Power.{Power}
 use Rattle.node_sites.specs.declared.places.HostSite.{HostSite}
 use Rattle.node_world.specs.Controllers.{SitesAre, WorldIs, IsThere}
 use Rattle.node_world.specs.HostSteps.{host_stepped}
@@ -23,51 +21,47 @@ use Rattle.node_world.specs.Whole.{HostsPlayed, LinePlayed, MayPlay, SitesBecome
 use Rattle.node_world.proofs.HostsInWorlds.{does_in_world}
 use Rattle.node_world.proofs.LinesGo.{is_there}
 use Rattle.node_world.proofs.NearKept.{host_becomes, stepped_leaves}
+use Rattle.node_sites.specs.Powers.{NodePower}
 
-module _ (C P : Type 0) (CRuns : C → Core → List Port → Type 0) (c_memory : C → Memory) (PRuns : P → Core → List Port → Type 0)
-    (p_memory : P → Memory) (k : Power C) (ks new : List (HostSite P)) (noted : List Entry) (header : Header) (w : NodeWorld)
-    (world : WorldIs CRuns c_memory PRuns p_memory k ks w) where
+module _ (k : NodePower) (ks new : List HostSite) (noted : List Entry) (header : Header) (w : NodeWorld)
+    (world : WorldIs k ks w) where
   abbrev StillIs : NodeWorld → Type 0
-  StillIs v = WorldIs CRuns c_memory PRuns p_memory k new v
+  StillIs v = WorldIs k new v
 
   -- where the node at this host does something
   at_host : (said : Line) → MayPlay header said w → (e : End) → IsThere e.link w → (f : Work → Work)
-      → (goes_on w said).0 ≡ (host_does w e.link NoInput f).0 → HostsPlayed PRuns p_memory new noted (line_step w said)
-      → LinePlayed CRuns c_memory PRuns p_memory k new noted (line_step w said)
+      → (goes_on w said).0 ≡ (host_does w e.link NoInput f).0 → HostsPlayed new noted (line_step w said) → LinePlayed k new noted (line_step w said)
   at_host said may e there f is played = record { world = go (refusal_in w said) played.sites; told = played.told }
     where
       by : Option NoCause → NodeWorld × LineOutcome
       by (Some cause) = (w, WasRefused cause)
       by None = goes_on w said
 
-      go : (o : Option NoCause) → SitesAre PRuns p_memory new (by o).0.sites → StillIs (by o).0
+      go : (o : Option NoCause) → SitesAre new (by o).0.sites → StillIs (by o).0
       go (Some cause) sites = record { controller = world.controller; sites = sites }
       go None sites =
           let s : Site = there.0 in
           let after : NodeWorld × List Entry = host_does w e.link NoInput f in
-          let b : SitesBecome PRuns p_memory new [] after.1 after =
-          record { sites = subst (λ (v : NodeWorld). SitesAre PRuns p_memory new v.sites) is sites; noted = refl } in
+          let b : SitesBecome new [] after.1 after =
+          record { sites = subst (λ (v : NodeWorld). SitesAre new v.sites) is sites; noted = refl } in
           subst StillIs (sym is)
           (host_becomes w e.link s there.1 may.goes_on.orderly (host_stepped s NoInput f) after (does_in_world w e.link s there.1 NoInput f)
-          (stepped_leaves s NoInput f) C P CRuns c_memory PRuns p_memory k ks new [] after.1 world b).world
+          (stepped_leaves s NoInput f) k ks new [] after.1 world b).world
 
   -- a host sends a message
   pub send_played : (said : Line) (e : End) (pid : _) (message : _) → said ≡ line.Send e pid message → MayPlay header said w
-      → HostsPlayed PRuns p_memory new noted (line_step w (line.Send e pid message))
-      → LinePlayed CRuns c_memory PRuns p_memory k new noted (line_step w said)
+      → HostsPlayed new noted (line_step w (line.Send e pid message)) → LinePlayed k new noted (line_step w said)
   send_played said e pid message is may played =
       let now : MayPlay header (line.Send e pid message) w = subst (λ l. MayPlay header l w) is may in
-      subst (λ l. LinePlayed CRuns c_memory PRuns p_memory k new noted (line_step w l)) (sym is)
-      (at_host (line.Send e pid message) now e (is_there e.link now now.is_line.may_follow.known)
+      subst (λ l. LinePlayed k new noted (line_step w l)) (sym is) (at_host (line.Send e pid message) now e (is_there e.link now now.is_line.may_follow.known)
       (begins_with e.link (sending e.link (pid, message))) refl played)
 
   -- a host begins an init
   pub init_played : (said : Line) (e : End) (identity : _) (pipes : _) → said ≡ line.Init e identity pipes → MayPlay header said w
-      → HostsPlayed PRuns p_memory new noted (line_step w (line.Init e identity pipes))
-      → LinePlayed CRuns c_memory PRuns p_memory k new noted (line_step w said)
+      → HostsPlayed new noted (line_step w (line.Init e identity pipes)) → LinePlayed k new noted (line_step w said)
   init_played said e identity pipes is may played =
       let now : MayPlay header (line.Init e identity pipes) w = subst (λ l. MayPlay header l w) is may in
-      subst (λ l. LinePlayed CRuns c_memory PRuns p_memory k new noted (line_step w l)) (sym is)
+      subst (λ l. LinePlayed k new noted (line_step w l)) (sym is)
       (at_host (line.Init e identity pipes) now e (is_there e.link now now.is_line.may_follow.1.known)
       (begins_with e.link (beginning identity pipes.items)) refl played)
 

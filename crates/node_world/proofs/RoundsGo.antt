@@ -6,12 +6,10 @@ use Rattle.std.specs.List.{AllByRecursion}
 use Rattle.std.proofs.lemmas.Bool.{eq-eqb}
 use Rattle.std.proofs.lemmas.Grind.{flat_map-append}
 use Rattle.std.proofs.lemmas.List.{length-map}
-use Rattle.swp_base.specs.InMemory.{Memory}
 use Rattle.trace_model.specs.Lines.{IsHost}
 use Rattle.trace_model.specs.declared.entry.Entry.{Entry}
 use Rattle.trace_model.specs.declared.line.End.{End}
 use Rattle.link_laws.specs.messages.Links.Comes.{NextFrame}
-use Rattle.node_machine.specs.Parts.{Core, Port}
 use Rattle.node_machine.specs.world.World.{NodeWorld, Site, end_c, end_h, site_at, world_step, world_ticks}
 use Rattle.node_machine.specs.world.World.Happening.{Takes}
 use Rattle.node_machine.specs.world.Lines.{Occurrence, all_happen, can_happen, frames_at}
@@ -20,7 +18,6 @@ use Rattle.node_machine.specs.world.Rounds.{end_takes_all, ends_in_order, ends_t
 use Rattle.node_laws.specs.telling.Telling.{hosts_in}
 use Rattle.node_laws.proofs.telling.Orderly.{step_orderly}
 use Rattle.node_laws.proofs.rounds.Ends.{ends_of, order_is}
-use Rattle.node_sites.specs.declared.power.Power.{Power}
 use Rattle.node_sites.specs.declared.places.HostSite.{HostSite}
 use Rattle.node_world.specs.Bounds.{FewBehind}
 use Rattle.node_world.specs.Controllers.{MayGoOn, SitesAre, WorldBecomes, WorldIs}
@@ -30,6 +27,7 @@ use Rattle.node_world.proofs.CountsStay.{repeats}
 use Rattle.node_world.proofs.FewInWorlds.{few_behind_all, longer}
 use Rattle.node_world.proofs.LinesAgain.{few_on_way, happens_first, happens_not, hosts_come}
 use Rattle.node_world.proofs.SitesKept.{as_many}
+use Rattle.node_sites.specs.Powers.{NodePower}
 
 -- ## One end
 
@@ -72,13 +70,12 @@ abbrev pub followed_by : List Occurrence → NodeWorld × List Occurrence → No
 followed_by events p = (p.0, events ++ p.1)
 
 -- Of these ends the ones that are left have still to take what stands on their wires; what is kept stands for the world behind the others.
-pub record HaveTaken {C P : Type 0} (CRuns : C → Core → List Port → Type 0) (c_memory : C → Memory) (PRuns : P → Core → List Port → Type 0)
-    (p_memory : P → Memory) (k : Power C) (ks : List (HostSite P)) (before noted : List Entry) (w : NodeWorld) (ends left : List End)
+pub record HaveTaken (k : NodePower) (ks : List HostSite) (before noted : List Entry) (w : NodeWorld) (ends left : List End)
     (n : ℕ) : Type 0 where
   pub behind : NodeWorld
   pub events : List Occurrence
   pub leads : ends_take_all w ends ≡ followed_by events (ends_take_all behind left)
-  pub gone : WorldHasGone CRuns c_memory PRuns p_memory k ks before noted (behind, events)
+  pub gone : WorldHasGone k ks before noted (behind, events)
   pub goes_on : MayGoOn behind
   pub hosts : hosts_in behind.sites ≡ hosts_in w.sites
   pub few : FewBehind n behind
@@ -101,20 +98,19 @@ found_among h (x ∷ front) back (s ∷ sites) q =
     go true e later = (s, rw e refl)
     go false e later = (later.0, rw e later.1)
 
-module _ (C P : Type 0) (CRuns : C → Core → List Port → Type 0) (c_memory : C → Memory) (PRuns : P → Core → List Port → Type 0)
-    (p_memory : P → Memory) (w : NodeWorld) where
-  abbrev pub Taken : Power C → List (HostSite P) → List Entry → List Entry → List End → List End → ℕ → Type 0
-  Taken k ks before noted ends left n = HaveTaken CRuns c_memory PRuns p_memory k ks before noted w ends left n
+module _ (w : NodeWorld) where
+  abbrev pub Taken : NodePower → List HostSite → List Entry → List Entry → List End → List End → ℕ → Type 0
+  Taken k ks before noted ends left n = HaveTaken k ks before noted w ends left n
 
   -- the next of them takes what stands there
-  pub taken_next : (k new : Power C) (ks news : List (HostSite P)) (before noted later : List Entry) (ends : List End) (e : End)
+  pub taken_next : (k new : NodePower) (ks news : List HostSite) (before noted later : List Entry) (ends : List End) (e : End)
       (left : List End) (n : ℕ) (a : Taken k ks before noted ends (e ∷ left) n)
-      → WorldHasGone CRuns c_memory PRuns p_memory new news noted later (end_takes_all a.behind e) → Taken new news before later ends left (n + 128)
+      → WorldHasGone new news noted later (end_takes_all a.behind e) → Taken new news before later ends left (n + 128)
   taken_next k new ks news before noted later ends e left n a b =
       let first : NodeWorld × List Occurrence = end_takes_all a.behind e in
       let rest : NodeWorld × List Occurrence = ends_take_all first.0 left in
       let m : ℕ = length (frames_at a.behind e) in
-      let most : m ≤ 64 = few_on_way P PRuns p_memory e e.link ks a.behind.sites a.gone.world.sites in
+      let most : m ≤ 64 = few_on_way e e.link ks a.behind.sites a.gone.world.sites in
       record {
         behind = first.0;
         events = a.events ++ first.1;
@@ -131,7 +127,7 @@ module _ (C P : Type 0) (CRuns : C → Core → List Port → Type 0) (c_memory 
       }
 
   -- it may
-  pub may_take : (k : Power C) (ks : List (HostSite P)) (before noted : List Entry) (ends : List End) (e : End) (left : List End) (n : ℕ)
+  pub may_take : (k : NodePower) (ks : List HostSite) (before noted : List Entry) (ends : List End) (e : End) (left : List End) (n : ℕ)
       (front back : List ℕ) → (a : Taken k ks before noted ends (e ∷ left) n) → n ≤ 290000000 → hosts_in w.sites ≡ front ++ e.link ∷ back
       → MayTakeAll e a.behind
   may_take k ks before noted ends e left n front back a most among =
@@ -144,15 +140,14 @@ module _ (C P : Type 0) (CRuns : C → Core → List Port → Type 0) (c_memory 
   -- ## Links one after another
 
   -- the ends of the first links have taken what stood on their wires
-  pub record HaveTakenSo (k : Power C) (ks : List (HostSite P)) (before noted : List Entry) (i : ℕ) : Type 0 where
+  pub record HaveTakenSo (k : NodePower) (ks : List HostSite) (before noted : List Entry) (i : ℕ) : Type 0 where
     pub done : List ℕ
     pub left : List ℕ
     pub is : hosts_in w.sites ≡ done ++ left
     pub place : length done ≡ i
     pub taken : Taken k ks before noted (ends_in_order w) (ends_of left) (250000000 + 256 * i)
 
-  pub taking_begins : (k : Power C) (ks : List (HostSite P)) (before : List Entry) → WorldIs CRuns c_memory PRuns p_memory k ks w
-      → MayTakeInOrder w → HaveTakenSo k ks before before 0
+  pub taking_begins : (k : NodePower) (ks : List HostSite) (before : List Entry) → WorldIs k ks w → MayTakeInOrder w → HaveTakenSo k ks before before 0
   taking_begins k ks before world may =
       record {
         done = [];
@@ -170,28 +165,28 @@ module _ (C P : Type 0) (CRuns : C → Core → List Port → Type 0) (c_memory 
         };
       }
 
-  hosts_kept : (ks : List (HostSite P)) (sites : List Site) → SitesAre PRuns p_memory ks sites → map (λ (x : HostSite P). x.host) ks ≡ hosts_in sites
+  hosts_kept : (ks : List HostSite) (sites : List Site) → SitesAre ks sites → map (λ (x : HostSite). x.host) ks ≡ hosts_in sites
   hosts_kept [] [] a = refl
-  hosts_kept (k ∷ ks) (s ∷ sites) a = ap (λ n. n ∷ map (λ (x : HostSite P). x.host) ks) a.0.host ∙ ap (λ ns. s.host ∷ ns) (hosts_kept ks sites a.1)
+  hosts_kept (k ∷ ks) (s ∷ sites) a = ap (λ n. n ∷ map (λ (x : HostSite). x.host) ks) a.0.host ∙ ap (λ ns. s.host ∷ ns) (hosts_kept ks sites a.1)
   hosts_kept [] (s ∷ sites) a = absurd a
   hosts_kept (k ∷ ks) [] a = absurd a
 
-  host_read : (ks : List (HostSite P)) (front : List ℕ) (h : ℕ) (back : List ℕ) (i : ℕ) (site : HostSite P)
-      → map (λ (x : HostSite P). x.host) ks ≡ front ++ h ∷ back → length front ≡ i → site ≡ get_or ks i site → site.host ≡ h
+  host_read : (ks : List HostSite) (front : List ℕ) (h : ℕ) (back : List ℕ) (i : ℕ) (site : HostSite)
+      → map (λ (x : HostSite). x.host) ks ≡ front ++ h ∷ back → length front ≡ i → site ≡ get_or ks i site → site.host ≡ h
   host_read [] [] h back i site q place read = let z : [] ≡ h ∷ back = q in absurd (cc z)
   host_read [] (x ∷ front) h back i site q place read = let z : [] ≡ x ∷ (front ++ h ∷ back) = q in absurd (cc z)
   host_read (k ∷ ks) [] h back i site q place read =
-      let z : k.host ∷ map (λ (x : HostSite P). x.host) ks ≡ h ∷ back = q in
+      let z : k.host ∷ map (λ (x : HostSite). x.host) ks ≡ h ∷ back = q in
       let same : k.host ≡ h = cc in
       let here : site ≡ k = read ∙ ap (λ n. get_or (k ∷ ks) n site) (sym place) in
-      ap (λ (x : HostSite P). x.host) here ∙ same
+      ap (λ (x : HostSite). x.host) here ∙ same
   host_read (k ∷ ks) (x ∷ front) h back i site q place read =
-      let z : k.host ∷ map (λ (y : HostSite P). y.host) ks ≡ x ∷ (front ++ h ∷ back) = q in
-      let rest : map (λ (y : HostSite P). y.host) ks ≡ front ++ h ∷ back = cc in
+      let z : k.host ∷ map (λ (y : HostSite). y.host) ks ≡ x ∷ (front ++ h ∷ back) = q in
+      let rest : map (λ (y : HostSite). y.host) ks ≡ front ++ h ∷ back = cc in
       host_read ks front h back (length front) site rest refl (read ∙ ap (λ n. get_or (k ∷ ks) n site) (sym place))
 
   -- the next link, as its number is read
-  pub record NextLink (k : Power C) (ks : List (HostSite P)) (before noted : List Entry) (i h : ℕ) : Type 0 where
+  pub record NextLink (k : NodePower) (ks : List HostSite) (before noted : List Entry) (i h : ℕ) : Type 0 where
     pub done : List ℕ
     pub back : List ℕ
     pub is : hosts_in w.sites ≡ done ++ h ∷ back
@@ -199,13 +194,13 @@ module _ (C P : Type 0) (CRuns : C → Core → List Port → Type 0) (c_memory 
     pub few : i ≤ 7
     pub taken : Taken k ks before noted (ends_in_order w) (end_c h ∷ end_h h ∷ ends_of back) (250000000 + 256 * i)
 
-  pub next_link : (k : Power C) (ks : List (HostSite P)) (before noted : List Entry) (i : ℕ) (site : HostSite P)
+  pub next_link : (k : NodePower) (ks : List HostSite) (before noted : List Entry) (i : ℕ) (site : HostSite)
       → HaveTakenSo k ks before noted i → MayTakeInOrder w → i < length ks → site ≡ get_or ks i site → NextLink k ks before noted i site.host
   next_link k ks before noted i site a may below read = go a.left refl
     where
       many : length ks ≡ length (hosts_in w.sites)
       many =
-          as_many P PRuns p_memory ks a.taken.behind.sites a.taken.gone.world.sites
+          as_many ks a.taken.behind.sites a.taken.gone.world.sites
           ∙ (sym (length-map a.taken.behind.sites (λ (s : Site). s.host)) ∙ ap (λ (ns : List ℕ). length ns) a.taken.hosts)
 
       go : (left : List ℕ) → a.left ≡ left → NextLink k ks before noted i site.host
@@ -230,7 +225,7 @@ module _ (C P : Type 0) (CRuns : C → Core → List Port → Type 0) (c_memory 
           }
 
   -- both of its ends have taken what stood on their wires
-  pub link_taken : (k new : Power C) (ks news : List (HostSite P)) (before noted later : List Entry) (i h : ℕ)
+  pub link_taken : (k new : NodePower) (ks news : List HostSite) (before noted later : List Entry) (i h : ℕ)
       (a : NextLink k ks before noted i h)
       → Taken new news before later (ends_in_order w) (ends_of a.back) (250000000 + 256 * i + 128 + 128) → HaveTakenSo new news before later (i + 1)
   link_taken k new ks news before noted later i h a b =
@@ -245,17 +240,17 @@ module _ (C P : Type 0) (CRuns : C → Core → List Port → Type 0) (c_memory 
       }
 
   -- all of them have
-  pub record AllTaken (k : Power C) (ks : List (HostSite P)) (before noted : List Entry) : Type 0 where
-    pub gone : WorldHasGone CRuns c_memory PRuns p_memory k ks before noted (ends_take_all w (ends_in_order w))
+  pub record AllTaken (k : NodePower) (ks : List HostSite) (before noted : List Entry) : Type 0 where
+    pub gone : WorldHasGone k ks before noted (ends_take_all w (ends_in_order w))
     pub within : IsWithinBounds (ends_take_all w (ends_in_order w)).0
 
-  pub taking_ends : (k : Power C) (ks : List (HostSite P)) (before noted : List Entry) (i : ℕ) → HaveTakenSo k ks before noted i
+  pub taking_ends : (k : NodePower) (ks : List HostSite) (before noted : List Entry) (i : ℕ) → HaveTakenSo k ks before noted i
       → MayTakeInOrder w → length ks ≤ i → AllTaken k ks before noted
   taking_ends k ks before noted i a may over = go a.left refl
     where
       many : length ks ≡ length (hosts_in w.sites)
       many =
-          as_many P PRuns p_memory ks a.taken.behind.sites a.taken.gone.world.sites
+          as_many ks a.taken.behind.sites a.taken.gone.world.sites
           ∙ (sym (length-map a.taken.behind.sites (λ (s : Site). s.host)) ∙ ap (λ (ns : List ℕ). length ns) a.taken.hosts)
 
       long : length (hosts_in w.sites) ≡ i + length a.left
@@ -270,7 +265,7 @@ module _ (C P : Type 0) (CRuns : C → Core → List Port → Type 0) (c_memory 
           a.taken.leads
           ∙ (ap (λ ns. followed_by a.taken.events (ends_take_all a.taken.behind (ends_of ns))) q
           ∙ ap (λ es. let p : NodeWorld × List Occurrence = (a.taken.behind, es) in p) (append-nil a.taken.events)) in
-          let G : NodeWorld × List Occurrence → Type 0 = λ p. WorldHasGone CRuns c_memory PRuns p_memory k ks before noted p in
+          let G : NodeWorld × List Occurrence → Type 0 = λ p. WorldHasGone k ks before noted p in
           let links : length (hosts_in w.sites) ≡ length w.sites = length-map w.sites (λ (s : Site). s.host) in
           let seven = may.links in
           let few = longer (250000000 + 256 * i) 300000000 a.taken.behind (omega (arith, long, links, seven)) a.taken.few in
@@ -281,10 +276,9 @@ module _ (C P : Type 0) (CRuns : C → Core → List Port → Type 0) (c_memory 
 
   -- ## Time passes behind them
 
-  pub round_gone : (k new : Power C) (ks news : List (HostSite P)) (before mid now : List Entry)
-      → WorldHasGone CRuns c_memory PRuns p_memory k ks before mid (ends_take_all w (ends_in_order w))
-      → WorldBecomes CRuns c_memory PRuns p_memory new news mid now (world_ticks (ends_take_all w (ends_in_order w)).0)
-      → WorldHasGone CRuns c_memory PRuns p_memory new news before now (world_round w)
+  pub round_gone : (k new : NodePower) (ks news : List HostSite) (before mid now : List Entry)
+      → WorldHasGone k ks before mid (ends_take_all w (ends_in_order w)) → WorldBecomes new news mid now (world_ticks (ends_take_all w (ends_in_order w)).0)
+      → WorldHasGone new news before now (world_round w)
   round_gone k new ks news before mid now taken ticked =
       let events : List Occurrence = (ends_take_all w (ends_in_order w)).1 in
       let told : List Entry = (world_ticks (ends_take_all w (ends_in_order w)).0).1 in

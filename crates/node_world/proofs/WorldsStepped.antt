@@ -9,7 +9,6 @@ use Rattle.trace_model.specs.declared.line.Header.{Header}
 use Rattle.trace_model.specs.declared.line.Line.{Line}
 use Rattle.trace_model.specs.Lines.{IsNodeHeader, IsNodeOf}
 use Rattle.swp_base.specs.InMemory.{Memory}
-use Rattle.node_core.specs.declared.node.Node.{Node}
 use Rattle.node_sites.specs.declared.places.HostSite.{HostSite}
 use Rattle.node_sites.specs.Places.{SiteIs}
 use Rattle.node_world.proofs.AtHosts.{site_stands, nowhere}
@@ -32,12 +31,10 @@ use Rattle.lines_told.proofs.lines.NodeRounds.{played_round, played_said, sure_w
 use Rattle.lines_told.proofs.lines.Plays.{for_with, no_more_rounds, no_more_said, one_round, one_said}
 use Rattle.lines_told.proofs.lines.Told.{told_round}
 use Rattle.link_wires.specs.declared.finding.Misread.{Misread}
-use Rattle.node_core.specs.Running.{RunsAs}
-use Rattle.node_sites.specs.WorldNodes.{RunsAsHost}
 use Rattle.node_world.specs.declared.worlds.NodeWorld.{NodeWorld}
 use Rattle.node_world.specs.Controllers.{AreTimely, MayGoOn, WorldIs, SitesAre, StandsAt}
 use Rattle.node_world.specs.Rounds.{MayGoRound, WorldHasGone}
-use Rattle.node_world.specs.Worlds.{AreFewWithParts, IsNodeWorldBehind, HasRoomForNodeLine, HasRoomForRound, node_memory, nodes_entries}
+use Rattle.node_world.specs.Worlds.{AreFewWithParts, IsNodeWorldBehind, HasRoomForNodeLine, HasRoomForRound, nodes_entries}
 use Rattle.node_world.specs.Worlds.{IsPeekedSo}
 use Rattle.node_sites.specs.declared.power.Power.TheVariants.{Off}
 use Rattle.node_sites.specs.Powers.{memory_kept}
@@ -47,6 +44,8 @@ use Rattle.node_world.proofs.Masked.{masked}
 use Rattle.node_world.proofs.PlaysFew.{few_behind_plays}
 use Rattle.node_world.proofs.RoundsBehind.{may_go_round}
 use Rattle.node_world.proofs.WorldsBehind.{may_play, are_playable, goes_on_behind, node_there, sound_behind, timely_behind}
+use Rattle.node_core.specs.Running.{RunsAs}
+use Rattle.node_sites.specs.WorldNodes.{RunsAsHost}
 
 -- what is told below a header of nodes
 pub told_of_nodes : (header : Header) (lines : List Line) (said : Line) → IsNodeHeader header
@@ -80,11 +79,11 @@ module _ (old new : NodeWorld) (header : Header) (plays : List Play) (s : IsNode
   w = nodes_behind header (lines_played header plays)
 
   pub stands_behind_more : (said : Line) → IsPlayedLine header said → lines_said plays < 320000 → misread_in w said ≡ None
-      → LinePlayed RunsAs node_memory RunsAsHost node_memory new.controller new.sites.items new.noted.entries.items (line_step w said)
+      → LinePlayed new.controller new.sites.items new.noted.entries.items (line_step w said)
       → new.mask ≡ old.mask → new.stepped ≡ old.stepped + 1 → new.rounds ≡ old.rounds → new.noted.short ≡ false
       → IsNodeWorldBehind new header (plays ++ Said said ∷ [])
   stands_behind_more said may room none played mask stepped rounds short =
-      let W : Machine → Type 0 = λ v. WorldIs RunsAs node_memory RunsAsHost node_memory new.controller new.sites.items v in
+      let W : Machine → Type 0 = λ v. WorldIs new.controller new.sites.items v in
       let M : ℕ → Type 0 = λ m. hosts_where (has m) ≡ header.hosts.items in
       let one : lines_said (plays ++ Said said ∷ []) ≡ suc (lines_said plays) = one_said plays said in
       let was : old.stepped ≡ lines_said plays = s.stepped in
@@ -102,11 +101,11 @@ module _ (old new : NodeWorld) (header : Header) (plays : List Play) (s : IsNode
 
   -- behind one round more
   pub stands_behind_round : (before : List Entry) → rounds_played plays < 400000000
-      → WorldHasGone RunsAs node_memory RunsAsHost node_memory new.controller new.sites.items before new.noted.entries.items (world_round w)
+      → WorldHasGone new.controller new.sites.items before new.noted.entries.items (world_round w)
       → new.mask ≡ old.mask → new.stepped ≡ old.stepped → new.rounds ≡ old.rounds + 1 → new.noted.short ≡ false
       → IsNodeWorldBehind new header (plays ++ Round ∷ [])
   stands_behind_round before room gone mask stepped rounds short =
-      let W : Machine → Type 0 = λ v. WorldIs RunsAs node_memory RunsAsHost node_memory new.controller new.sites.items v in
+      let W : Machine → Type 0 = λ v. WorldIs new.controller new.sites.items v in
       let M : ℕ → Type 0 = λ m. hosts_where (has m) ≡ header.hosts.items in
       let one : rounds_played (plays ++ Round ∷ []) ≡ suc (rounds_played plays) = one_round plays in
       let was : old.rounds ≡ rounds_played plays = s.rounds in
@@ -122,8 +121,7 @@ module _ (old new : NodeWorld) (header : Header) (plays : List Play) (s : IsNode
         quiet = short;
       }
 
-  pub round_is_told : (before : List Entry) → before ≡ []
-      → WorldHasGone RunsAs node_memory RunsAsHost node_memory new.controller new.sites.items before new.noted.entries.items (world_round w)
+  pub round_is_told : (before : List Entry) → before ≡ [] → WorldHasGone new.controller new.sites.items before new.noted.entries.items (world_round w)
       → nodes_entries new ≡ told_of_play header (lines_played header plays) Round
   round_is_told before none gone =
       gone.noted
@@ -135,8 +133,7 @@ pub stands_alike : (old new : NodeWorld) (header : Header) (plays others : List 
     → new.controller ≡ old.controller → new.sites ≡ old.sites → new.mask ≡ old.mask → new.noted ≡ old.noted → new.stepped ≡ lines_said others
     → new.rounds ≡ rounds_played others → IsNodeWorldBehind new header others
 stands_alike old new header plays others s same are few controller sites mask noted stepped rounds =
-    let W : List Line → Type 0 = λ lines.
-    WorldIs RunsAs node_memory RunsAsHost node_memory old.controller old.sites.items (nodes_behind header lines) in
+    let W : List Line → Type 0 = λ lines. WorldIs old.controller old.sites.items (nodes_behind header lines) in
     let M : ℕ → Type 0 = λ m. hosts_where (has m) ≡ header.hosts.items in
     let S : List Line → Type 0 = λ lines. NoneIsMisread (new_world header.hosts.items) lines in
     record {
@@ -153,7 +150,7 @@ stands_alike old new header plays others s same are few controller sites mask no
 
 -- before any play
 pub stands_at_first : (new : NodeWorld) (header : Header) → IsNodeHeader header → new.controller ≡ Off (new_memory (replicate 65536 255))
-    → SitesAre RunsAsHost node_memory new.sites.items (map (new_site (replicate 65536 255)) header.hosts.items)
+    → SitesAre new.sites.items (map (new_site (replicate 65536 255)) header.hosts.items)
     → new.mask ≡ mask_of (hosts_where (λ (host : ℕ). list_any (λ (k : ℕ). k == host) header.hosts.items)) → new.stepped ≡ 0
     → new.rounds ≡ 0 → new.noted.short ≡ false → IsNodeWorldBehind new header []
 stands_at_first new header is off sites mask stepped rounds short =
@@ -181,7 +178,7 @@ module _ {E : Type 0} (result : Result (Option Misread) E) (old new : NodeWorld)
   now = nodes_behind header (lines_played header plays)
 
   abbrev WasPlayed : Type 0
-  WasPlayed = LinePlayed RunsAs node_memory RunsAsHost node_memory new.controller new.sites.items new.noted.entries.items (line_step now said)
+  WasPlayed = LinePlayed new.controller new.sites.items new.noted.entries.items (line_step now said)
 
   pub stands_answered : lines_said plays < 320000 → IfOk result (λ other. other ≡ None → WasPlayed) → IfOk result (IsMisreadIn now said)
       → OnOk result (new.noted.short ≡ false) → new.mask ≡ old.mask → new.stepped ≡ old.stepped + 1 → new.rounds ≡ old.rounds
@@ -208,8 +205,7 @@ module _ {T E : Type 0} (result : Result T E) (old new : NodeWorld) (header : He
     (before : List Entry) where
   abbrev HasGone : Type 0
   HasGone =
-      WorldHasGone RunsAs node_memory RunsAsHost node_memory new.controller new.sites.items before new.noted.entries.items
-      (world_round (nodes_behind header (lines_played header plays)))
+      WorldHasGone new.controller new.sites.items before new.noted.entries.items (world_round (nodes_behind header (lines_played header plays)))
 
   pub round_answered : rounds_played plays < 400000000 → OnOk result HasGone → OnOk result (new.noted.short ≡ false) → new.mask ≡ old.mask
       → new.stepped ≡ old.stepped → new.rounds ≡ old.rounds + 1 → OnOk result (IsNodeWorldBehind new header (plays ++ Round ∷ []))
@@ -259,31 +255,29 @@ found_behind k header plays n s node m is =
 
 -- the memory of the controller
 pub controller_kept : (k : NodeWorld) (header : Header) (plays : List Play) (n : ℕ) → IsNodeWorldBehind k header plays → (n == 0) ≡ true → (m : Memory)
-    → m ≡ memory_kept node_memory k.controller → m ≡ memory_at (nodes_behind header (lines_played header plays)) n
+    → m ≡ memory_kept k.controller → m ≡ memory_at (nodes_behind header (lines_played header plays)) n
 controller_kept k header plays n s off m kept =
     let w : Machine = nodes_behind header (lines_played header plays) in
-    let is : m ≡ w.memory = kept ∙ kept_is _ RunsAs node_memory k.controller w.memory w.controller _ s.stands.controller in
+    let is : m ≡ w.memory = kept ∙ kept_is RunsAs k.controller w.memory w.controller _ s.stands.controller in
     rw off is
 
 -- a host at its place
 pub stands_there : (k : NodeWorld) (header : Header) (plays : List Play) (i n : ℕ) → IsNodeWorldBehind k header plays
-    → (a : StandsAt i n (nodes_behind header (lines_played header plays)).sites) → (site : HostSite (Node Memory)) → site ≡ get_or k.sites.items i site
-    → SiteIs RunsAsHost node_memory site a.site
+    → (a : StandsAt i n (nodes_behind header (lines_played header plays)).sites) → (site : HostSite) → site ≡ get_or k.sites.items i site → SiteIs site a.site
 stands_there k header plays i n s a site read =
-    let S : List Site → Type 0 = λ sites. SitesAre RunsAsHost node_memory k.sites.items sites in
-    read_there _ RunsAsHost node_memory k.sites.items a.front a.site a.back i site a.place (subst S a.is s.stands.sites) read
+    let S : List Site → Type 0 = λ sites. SitesAre k.sites.items sites in
+    read_there k.sites.items a.front a.site a.back i site a.place (subst S a.is s.stands.sites) read
 
 -- the memory of a host
 pub host_kept : (k : NodeWorld) (header : Header) (plays : List Play) (n i : ℕ) → IsNodeWorldBehind k header plays → IsNodeOf header.hosts.items n
-    → (n == 0) ≡ false → StandsAt i n (nodes_behind header (lines_played header plays)).sites → (site : HostSite (Node Memory))
-    → site ≡ get_or k.sites.items i site → (m : Memory) → m ≡ memory_kept node_memory site.power
-    → m ≡ memory_at (nodes_behind header (lines_played header plays)) n
+    → (n == 0) ≡ false → StandsAt i n (nodes_behind header (lines_played header plays)).sites → (site : HostSite)
+    → site ≡ get_or k.sites.items i site → (m : Memory) → m ≡ memory_kept site.power → m ≡ memory_at (nodes_behind header (lines_played header plays)) n
 host_kept k header plays n i s node off a site read m kept =
     let w : Machine = nodes_behind header (lines_played header plays) in
     let orderly = (in_order_behind k header plays s).orderly in
-    let stands : SiteIs RunsAsHost node_memory site a.site = stands_there k header plays i n s a site read in
+    let stands : SiteIs site a.site = stands_there k header plays i n s a site read in
     let found = site_stands w i n a orderly in
-    let is : m ≡ a.site.memory = kept ∙ kept_is _ RunsAsHost node_memory site.power a.site.memory a.site.node _ stands.place in
+    let is : m ≡ a.site.memory = kept ∙ kept_is RunsAsHost site.power a.site.memory a.site.node _ stands.place in
     rw (off, found) is
 
 pub host_is_there : {A : Type 0} (k : NodeWorld) (header : Header) (plays : List Play) (n : ℕ) → IsNodeWorldBehind k header plays

@@ -3,7 +3,6 @@ use Rattle.std.proofs.Common.{◌≡◌, ℕ, ◌≤◌, ◌==◌, Bool, true, f
 use Rattle.std.proofs.Common.{append_assoc, arith}
 use Rattle.std.specs.Prelude.{Option, Some, None, not, ◌&&◌}
 use Rattle.std.specs.List.{AllByRecursion, flat_map}
-use Rattle.swp_base.specs.InMemory.{Memory}
 use Rattle.swp_act.specs.Activation.{new_uicc}
 use Rattle.trace_model.specs.Lines.{IsHost}
 use Rattle.trace_model.specs.declared.entry.Entry.{Entry}
@@ -14,28 +13,28 @@ use Rattle.link_laws.specs.machine.Machine.Role.{Uicc}
 use Rattle.link_laws.specs.messages.Links.{Link, NumberedEnd, Ending, exchanged, has_input, ticks_at_controller}
 use Rattle.link_laws.specs.messages.Links.Ending.{GoesOut}
 use Rattle.link_laws.specs.messages.Links.Comes.{AsksReset}
-use Rattle.node_machine.specs.Parts.{Core, Port, Running}
+use Rattle.node_machine.specs.Parts.{Running}
 use Rattle.node_machine.specs.Node.{new_desk}
 use Rattle.node_machine.specs.world.World.{NodeWorld, Site, site_at, link_to, port_for, turns_at, ending_of, is_late_at, ticked_so, all_aged, controller_ticks}
 use Rattle.node_machine.specs.world.World.{host_ticks, hosts_tick, world_ticks}
 use Rattle.node_machine.proofs.world.Cases.{by_controller_tick, by_host_tick, host_tick, near_tick, site_ticked, site_unticked}
 use Rattle.node_laws.specs.telling.Telling.{hosts_in, IfItRuns, IfOff, NoneDue}
 use Rattle.node_laws.proofs.telling.WorldTicks.{tick_host}
-use Rattle.node_sites.specs.declared.power.Power.{Power}
 use Rattle.node_sites.specs.declared.places.HostSite.{HostSite}
 use Rattle.node_world.specs.Bounds.{FewOn, FewOnEach}
 use Rattle.node_world.specs.Controllers.{SitesAre, WorldBecomes, AreTimely, near_ticks}
 use Rattle.node_world.specs.HostSteps.{IsHostOf, CountsOn, MayTick}
-use Rattle.node_sites.specs.Powers.{IsNodePlace}
+use Rattle.node_sites.specs.Powers.{IsNodePlace, NodePower}
 use Rattle.node_sites.specs.Places.{SiteIs}
 use Rattle.node_world.specs.Whole.{IsWithinBounds, SitesTick, AreToTick}
-use Rattle.node_world.proofs.AtHosts.{GivesSendable, sendable_on}
+use Rattle.node_world.proofs.AtHosts.{sendable_on}
 use Rattle.node_world.proofs.Behind.{each_found}
 use Rattle.node_world.proofs.ControllersAge.{older}
 use Rattle.node_world.proofs.CountsStay.{counts_few_in_tick}
 use Rattle.node_world.proofs.FewInWorlds.{few_behind_ages, few_behind_tick}
 use Rattle.node_world.proofs.FewOnLinks.{far_stays, far_stays_ticked}
 use Rattle.node_world.proofs.NearKept.{LeavesNear}
+use Rattle.node_core.specs.Running.{RunsAs}
 
 -- ## Behind the tick of the controller
 
@@ -94,41 +93,38 @@ to_tick [] a f = tt
 to_tick (s ∷ sites) a f =
     (record { host = a.0.host; may = a.0.may; room = let r = f.0.resets in omega (arith, r) }, to_tick sites a.1 f.1)
 
-module _ (P : Type 0) (Runs : P → Core → List Port → Type 0) (memory_of : P → Memory) (given : GivesSendable P Runs memory_of) where
-  counts_tick : (k : HostSite P) (s : Site) → SiteIs Runs memory_of k s → IsHostOf s → FewOn 300000000 s.link → (r : Running) → s.node ≡ Some r
-      → CountsOn s.link.host.side Tick
-  counts_tick k s is host few r runs =
-      let sendable = sendable_on P Runs memory_of k s r given is host runs in
-      let counted = counts_few_in_tick 300000000 (port_for s.link.host (new_desk 0) ∷ []) (omega arith) (few.host, tt) (sendable, tt) in
-      record { come = counted.come.0; late = counted.late.0 }
+counts_tick : (k : HostSite) (s : Site) → SiteIs k s → IsHostOf s → FewOn 300000000 s.link → (r : Running) → s.node ≡ Some r → CountsOn s.link.host.side Tick
+counts_tick k s is host few r runs =
+    let sendable = sendable_on k s r is host runs in
+    let counted = counts_few_in_tick 300000000 (port_for s.link.host (new_desk 0) ∷ []) (omega arith) (few.host, tt) (sendable, tt) in
+    record { come = counted.come.0; late = counted.late.0 }
 
-  each_ready : (w : NodeWorld) → AreTimely w → (ks : List (HostSite P)) (left : List Site) → SitesAre Runs memory_of ks left
-      → AllByRecursion (λ (s : Site). site_at w.sites s.host ≡ Some s) left → AllByRecursion (λ (s : Site). (s.host == 0) ≡ false) left
-      → AllByRecursion IsHost (hosts_in left) → AllByRecursion (λ (s : Site). IfItRuns s.host (s.host ∷ []) s.node) left
-      → FewOnEach 300000000 left → AllByRecursion IsReady left
-  each_ready w timely [] [] a found off hosts nodes few = tt
-  each_ready w timely [] (s ∷ left) a found off hosts nodes few = absurd a
-  each_ready w timely (k ∷ ks) [] a found off hosts nodes few = absurd a
-  each_ready w timely (k ∷ ks) (s ∷ left) a found off hosts nodes few = (one, each_ready w timely ks left a.1 found.1 off.1 hosts.1 nodes.1 few.1)
-    where
-      host : IsHostOf s
-      host = record { number = off.0; low = hosts.0.1; ends = nodes.0 }
+each_ready : (w : NodeWorld) → AreTimely w → (ks : List HostSite) (left : List Site) → SitesAre ks left
+    → AllByRecursion (λ (s : Site). site_at w.sites s.host ≡ Some s) left → AllByRecursion (λ (s : Site). (s.host == 0) ≡ false) left
+    → AllByRecursion IsHost (hosts_in left) → AllByRecursion (λ (s : Site). IfItRuns s.host (s.host ∷ []) s.node) left
+    → FewOnEach 300000000 left → AllByRecursion IsReady left
+each_ready w timely [] [] a found off hosts nodes few = tt
+each_ready w timely [] (s ∷ left) a found off hosts nodes few = absurd a
+each_ready w timely (k ∷ ks) [] a found off hosts nodes few = absurd a
+each_ready w timely (k ∷ ks) (s ∷ left) a found off hosts nodes few = (one, each_ready w timely ks left a.1 found.1 off.1 hosts.1 nodes.1 few.1)
+  where
+    host : IsHostOf s
+    host = record { number = off.0; low = hosts.0.1; ends = nodes.0 }
 
-      one : IsReady s
-      one =
-          let t = timely s.host s found.0 in
-          record { host = host; may = record { off = t.host; young = t.young; counts = λ r runs. counts_tick k s a.0 host few.0 r runs } }
+    one : IsReady s
+    one =
+        let t = timely s.host s found.0 in
+        record { host = host; may = record { off = t.host; young = t.young; counts = λ r runs. counts_tick k s a.0 host few.0 r runs } }
 
-  -- behind the tick of the controller
-  pub hosts_may_tick : (w : NodeWorld) (ks : List (HostSite P)) → IsWithinBounds w → AreTimely w → SitesAre Runs memory_of ks w.sites
-      → AreToTick (near_ticks w).0.sites
-  hosts_may_tick w ks within timely a =
-      let o = within.goes_on.orderly in
-      let old : NodeWorld = (all_aged w).0 in
-      let ready : AllByRecursion IsReady w.sites =
-      each_ready w timely ks w.sites a (each_found (λ (s : Site). s.host) w.sites o.different) o.hosts within.goes_on.hosts o.nodes within.few in
-      let aged_ready : AllByRecursion IsReady old.sites = all_ready older (λ s. record { host = refl; node = refl; far = refl }) w.sites ready in
-      to_tick (near_ticks w).0.sites (near_ready old aged_ready) (few_behind_tick 300000000 old (few_behind_ages 300000000 w within.few))
+-- behind the tick of the controller
+pub hosts_may_tick : (w : NodeWorld) (ks : List HostSite) → IsWithinBounds w → AreTimely w → SitesAre ks w.sites → AreToTick (near_ticks w).0.sites
+hosts_may_tick w ks within timely a =
+    let o = within.goes_on.orderly in
+    let old : NodeWorld = (all_aged w).0 in
+    let ready : AllByRecursion IsReady w.sites =
+    each_ready w timely ks w.sites a (each_found (λ (s : Site). s.host) w.sites o.different) o.hosts within.goes_on.hosts o.nodes within.few in
+    let aged_ready : AllByRecursion IsReady old.sites = all_ready older (λ s. record { host = refl; node = refl; far = refl }) w.sites ready in
+    to_tick (near_ticks w).0.sites (near_ready old aged_ready) (few_behind_tick 300000000 old (few_behind_ages 300000000 w within.few))
 
 -- ## The ticks of the hosts
 
@@ -166,22 +162,18 @@ near_left : (sites : List Site) (h : ℕ) → near_of (hosts_tick sites).0 h ≡
 near_left [] h = refl
 near_left (s ∷ sites) h = near_first s (tick_of s) sites (hosts_tick sites).0 h (tick_leaves s) (near_left sites h)
 
-module _ (C P : Type 0) (CRuns : C → Core → List Port → Type 0) (c_memory : C → Memory) (PRuns : P → Core → List Port → Type 0)
-    (p_memory : P → Memory) where
-  -- they come behind that of the controller
-  pub all_tick : (k : Power C) (ks new : List (HostSite P)) (w : NodeWorld) (before mid now : List Entry)
-      → WorldBecomes CRuns c_memory PRuns p_memory k ks before mid (near_ticks w)
-      → SitesTick PRuns p_memory new mid now (hosts_tick (near_ticks w).0.sites)
-      → WorldBecomes CRuns c_memory PRuns p_memory k new before now (world_ticks w)
-  all_tick k ks new w before mid now first second =
-      let near : NodeWorld = (near_ticks w).0 in
-      let old : List Entry = (all_aged w).1 in
-      let ticked : List Entry = (controller_ticks (all_aged w).0).1 in
-      let far : List Site × List Entry = hosts_tick near.sites in
-      let Q : (ℕ → NumberedEnd) → Type 0 = λ ends. IsNodePlace CRuns c_memory k near.memory near.controller ends in
-      let same : near_of far.0 ≡ near_of near.sites = λ i h. near_left near.sites h i in
-      record {
-        world = record { controller = subst Q (sym same) first.world.controller; sites = second.sites };
-        noted = second.noted ∙ (ap (λ es. es ++ far.1) first.noted
-            ∙ (append_assoc before (old ++ ticked) far.1 ∙ ap (λ es. before ++ es) (append_assoc old ticked far.1)));
-      }
+-- they come behind that of the controller
+pub all_tick : (k : NodePower) (ks new : List HostSite) (w : NodeWorld) (before mid now : List Entry) → WorldBecomes k ks before mid (near_ticks w)
+    → SitesTick new mid now (hosts_tick (near_ticks w).0.sites) → WorldBecomes k new before now (world_ticks w)
+all_tick k ks new w before mid now first second =
+    let near : NodeWorld = (near_ticks w).0 in
+    let old : List Entry = (all_aged w).1 in
+    let ticked : List Entry = (controller_ticks (all_aged w).0).1 in
+    let far : List Site × List Entry = hosts_tick near.sites in
+    let Q : (ℕ → NumberedEnd) → Type 0 = λ ends. IsNodePlace RunsAs k near.memory near.controller ends in
+    let same : near_of far.0 ≡ near_of near.sites = λ i h. near_left near.sites h i in
+    record {
+      world = record { controller = subst Q (sym same) first.world.controller; sites = second.sites };
+      noted = second.noted ∙ (ap (λ es. es ++ far.1) first.noted
+          ∙ (append_assoc before (old ++ ticked) far.1 ∙ ap (λ es. before ++ es) (append_assoc old ticked far.1)));
+    }

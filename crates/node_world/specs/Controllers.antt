@@ -13,7 +13,7 @@ use Rattle.link_laws.specs.messages.Links.{Comes, put_all, number_of}
 use Rattle.link_laws.specs.entries.Entries.{puts_entries}
 use Rattle.link_laws.specs.entries.Entries.End.{Controller}
 use Rattle.history.specs.Steps.{entries_for}
-use Rattle.node_machine.specs.Parts.{Core, Desk, Running, Port, Work}
+use Rattle.node_machine.specs.Parts.{Desk, Running, Port, Work}
 use Rattle.node_machine.specs.Carrying.{port_at, with_port}
 use Rattle.node_machine.specs.Node.{NodeInput}
 use Rattle.node_machine.specs.Node.NodeInput.{AtEnd}
@@ -22,39 +22,37 @@ use Rattle.node_machine.specs.world.World.{controller_ticks}
 use Rattle.node_laws.specs.kept.Hosts.{AreDifferent}
 use Rattle.node_laws.specs.telling.Telling.{hosts_in, IsOrderly, IsTimely}
 use Rattle.node_sites.specs.declared.places.HostSite.{HostSite}
-use Rattle.node_sites.specs.declared.power.Power.{Power}
 use Rattle.node_sites.specs.declared.power.Power.TheVariants.{On, Off}
 use Rattle.node_sites.specs.LinksKept.{with_bare_wires, as_it_comes}
 use Rattle.node_sites.specs.FramesOut.{IsOnly, sent_port}
 use Rattle.node_sites.specs.Numbers.{CountsFew}
-use Rattle.node_sites.specs.Powers.{IsNodePlace}
+use Rattle.node_sites.specs.Powers.{IsNodePlace, node_memory, NodePower}
 use Rattle.node_sites.specs.Places.{SiteIs}
+use Rattle.node_core.specs.declared.node.Node.{Node}
+use Rattle.node_core.specs.Running.{RunsAs}
 
 -- ## What is kept
 
 -- what is kept of the hosts stands for these, one by one
-abbrev pub SitesAre : {P : Type 0} → (P → Core → List Port → Type 0) → (P → Memory) → List (HostSite P) → List Site → Type 0
-SitesAre Runs memory_of [] [] = Unit {0}
-SitesAre Runs memory_of (k ∷ ks) (s ∷ sites) = SiteIs Runs memory_of k s × SitesAre Runs memory_of ks sites
-SitesAre Runs memory_of _ _ = ⊥
+abbrev pub SitesAre : List HostSite → List Site → Type 0
+SitesAre [] [] = Unit {0}
+SitesAre (k ∷ ks) (s ∷ sites) = SiteIs k s × SitesAre ks sites
+SitesAre _ _ = ⊥
 
 -- what is kept of the controller and of all hosts stands for a world
-pub record WorldIs {C P : Type 0} (CRuns : C → Core → List Port → Type 0) (c_memory : C → Memory) (PRuns : P → Core → List Port → Type 0)
-    (p_memory : P → Memory) (k : Power C) (ks : List (HostSite P)) (w : NodeWorld) : Type 0 where
-  pub controller : IsNodePlace CRuns c_memory k w.memory w.controller (λ h. (link_to w.sites h).controller)
-  pub sites : SitesAre PRuns p_memory ks w.sites
+pub record WorldIs (k : NodePower) (ks : List HostSite) (w : NodeWorld) : Type 0 where
+  pub controller : IsNodePlace RunsAs k w.memory w.controller (λ h. (link_to w.sites h).controller)
+  pub sites : SitesAre ks w.sites
 
 -- it does so for the world that something has made of it, and this was noted behind what was noted before
-pub record WorldBecomes {C P : Type 0} (CRuns : C → Core → List Port → Type 0) (c_memory : C → Memory) (PRuns : P → Core → List Port → Type 0)
-    (p_memory : P → Memory) (k : Power C) (ks : List (HostSite P)) (before now : List Entry) (after : NodeWorld × List Entry) : Type 0 where
-  pub world : WorldIs CRuns c_memory PRuns p_memory k ks after.0
+pub record WorldBecomes (k : NodePower) (ks : List HostSite) (before now : List Entry) (after : NodeWorld × List Entry) : Type 0 where
+  pub world : WorldIs k ks after.0
   pub noted : now ≡ before ++ after.1
 
 -- it was refused for this, and nothing happened, or else something was made of it
-abbrev pub WorldUnless : {C P : Type 0} → (C → Core → List Port → Type 0) → (C → Memory) → (P → Core → List Port → Type 0) → (P → Memory)
-    → Power C → List (HostSite P) → List Entry → List Entry → NodeWorld → NodeWorld × List Entry → Option NoCause → Type 0
-WorldUnless CRuns c_memory PRuns p_memory k ks before now w after None = WorldBecomes CRuns c_memory PRuns p_memory k ks before now after
-WorldUnless CRuns c_memory PRuns p_memory k ks before now w after (Some cause) = WorldBecomes CRuns c_memory PRuns p_memory k ks before now (w, [])
+abbrev pub WorldUnless : NodePower → List HostSite → List Entry → List Entry → NodeWorld → NodeWorld × List Entry → Option NoCause → Type 0
+WorldUnless k ks before now w after None = WorldBecomes k ks before now after
+WorldUnless k ks before now w after (Some cause) = WorldBecomes k ks before now (w, [])
 
 -- ## When nodes may have steps
 
@@ -93,8 +91,8 @@ IsPlaceOf None h sites = site_at sites h ≡ None
 IsPlaceOf (Some i) h sites = StandsAt i h sites
 
 -- the RSETs that one more step puts on each link are numbered
-abbrev pub HaveRoom : {P : Type 0} → List (HostSite P) → Type 0
-HaveRoom {P} ks = AllByRecursion (λ (k : HostSite P). k.wires.resets + 17 < 2 ^ 32) ks
+abbrev pub HaveRoom : List HostSite → Type 0
+HaveRoom ks = AllByRecursion (λ (k : HostSite). k.wires.resets + 17 < 2 ^ 32) ks
 
 -- a step of the controller, where it runs, counts no more acknowledged messages than are counted
 abbrev pub FewAreCounted : NodeInput → NodeWorld → Type 0
@@ -145,28 +143,24 @@ pub record HasOneEnd (ports : List Port) (h : ℕ) : Type 0 where
   pub only : IsOnly h port ports
 
 -- a node that runs so has one end on the link with each of these hosts, of which what is kept stands
-pub record SendsTo {P : Type 0} (PRuns : P → Core → List Port → Type 0) (p_memory : P → Memory) (Runs : Type 0) (ports : List Port)
-    (ks : List (HostSite P)) (hosts : List Site) : Type 0 where
+pub record SendsTo (Runs : Type 0) (ports : List Port) (ks : List HostSite) (hosts : List Site) : Type 0 where
   pub runs : Runs
-  pub sites : SitesAre PRuns p_memory ks hosts
+  pub sites : SitesAre ks hosts
   pub different : AreDifferent (hosts_in hosts)
   pub ends : AllByRecursion (HasOneEnd ports) (hosts_in hosts)
 
 -- The controller n behind a step that has brought it to the state v, with the hosts as they are before its frames go out.
-pub record EndsStep {C P : Type 0} (CRuns : C → Core → List Port → Type 0) (PRuns : P → Core → List Port → Type 0) (p_memory : P → Memory)
-    (k : Power C) (ks : List (HostSite P)) (n : C) (live : Bool) (v : Work) (hosts : List Site) : Type 0 where
+pub record EndsStep (k : NodePower) (ks : List HostSite) (n : Node Memory) (live : Bool) (v : Work) (hosts : List Site) : Type 0 where
   pub on : k ≡ On n
-  pub sends : SendsTo PRuns p_memory (live ≡ true → CRuns n v.core v.ports) v.ports ks hosts
+  pub sends : SendsTo (live ≡ true → RunsAs n v.core v.ports) v.ports ks hosts
 
 -- its frames went out, and it runs on
-pub record GoesOnWith {C P : Type 0} (CRuns : C → Core → List Port → Type 0) (c_memory : C → Memory) (PRuns : P → Core → List Port → Type 0)
-    (p_memory : P → Memory) (k : Power C) (ks : List (HostSite P)) (n : C) (v : Work) (hosts : List Site) (before now : List Entry)
-    : Type 0 where
-  pub node : C
+pub record GoesOnWith (k : NodePower) (ks : List HostSite) (n : Node Memory) (v : Work) (hosts : List Site) (before now : List Entry) : Type 0 where
+  pub node : Node Memory
   pub on : k ≡ On node
-  pub runs : CRuns node v.core (sent_to (hosts_in hosts) v.ports)
-  pub memory : c_memory node ≡ c_memory n
-  pub sites : SitesAre PRuns p_memory ks (map (has_frames v.ports) hosts)
+  pub runs : RunsAs node v.core (sent_to (hosts_in hosts) v.ports)
+  pub memory : node_memory node ≡ node_memory n
+  pub sites : SitesAre ks (map (has_frames v.ports) hosts)
   pub noted : now ≡ (before ++ v.entries) ++ flat_map (frames_emitted v.ports) hosts
 
 -- a host with nothing on its wires
@@ -174,8 +168,7 @@ abbrev pub with_bare_link : Site → Site
 with_bare_link s = record s { link = with_bare_wires s.link }
 
 -- it has lost its power: all wires are empty
-pub record WentOffWith {C P : Type 0} (c_memory : C → Memory) (PRuns : P → Core → List Port → Type 0) (p_memory : P → Memory)
-    (k : Power C) (ks : List (HostSite P)) (n : C) (v : Work) (hosts : List Site) (before now : List Entry) : Type 0 where
-  pub off : k ≡ Off (c_memory n)
-  pub sites : SitesAre PRuns p_memory ks (map with_bare_link hosts)
+pub record WentOffWith (k : NodePower) (ks : List HostSite) (n : Node Memory) (v : Work) (hosts : List Site) (before now : List Entry) : Type 0 where
+  pub off : k ≡ Off (node_memory n)
+  pub sites : SitesAre ks (map with_bare_link hosts)
   pub noted : now ≡ before ++ v.entries

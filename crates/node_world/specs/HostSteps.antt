@@ -23,7 +23,7 @@ use Rattle.link_laws.specs.entries.Entries.{aged_entries, puts_entries}
 use Rattle.link_laws.specs.entries.Entries.End.{Controller, Host}
 use Rattle.history.specs.Steps.{at, entries_for}
 use Rattle.history.specs.Follows.{as_noted}
-use Rattle.node_machine.specs.Parts.{Core, Port, Running, Work}
+use Rattle.node_machine.specs.Parts.{Port, Running, Work}
 use Rattle.node_machine.specs.Carrying.{port_at}
 use Rattle.node_machine.specs.Controller.{is_command_message}
 use Rattle.node_machine.specs.Node.{steps, found, boot_writes}
@@ -37,6 +37,9 @@ use Rattle.node_sites.specs.LinksKept.{WiresStandFor}
 use Rattle.node_sites.specs.Numbers.{StaysCounted}
 use Rattle.node_sites.specs.declared.power.Power.TheVariants.{On}
 use Rattle.node_sites.specs.Places.{SiteIs}
+use Rattle.node_core.specs.declared.node.Node.{Node}
+use Rattle.node_sites.specs.WorldNodes.{RunsAsHost}
+use Rattle.node_sites.specs.Powers.{node_memory}
 
 -- ## What happens
 
@@ -154,14 +157,14 @@ host_behind s step k = record s {
 }
 
 -- The node of a host has done its work, and the frames of its end are to go out. What goes out is noted as on the link l.
-pub record IsToSend {P : Type 0} (Runs : P → Core → List Port → Type 0) (memory_of : P → Memory) (k : HostSite P) (live : Bool) (noted : List Entry)
-    (short : Bool) (before : List Entry) (s : Site) (step : List Turn → Ending → Link) (l : Link) (w : Work) : Type 0 where
-  pub node : P
+pub record IsToSend (k : HostSite) (live : Bool) (noted : List Entry) (short : Bool) (before : List Entry) (s : Site)
+    (step : List Turn → Ending → Link) (l : Link) (w : Work) : Type 0 where
+  pub node : Node Memory
   pub on : k.power ≡ On node
   pub host : k.host ≡ s.host
   pub power : w.cut ≡ not live
-  pub memory : memory_of node ≡ after_planned w.writes s.memory
-  pub runs : live ≡ true → Runs node w.core w.ports
+  pub memory : node_memory node ≡ after_planned w.writes s.memory
+  pub runs : live ≡ true → RunsAsHost node w.core w.ports
   pub ends : map (λ (p : Port). p.desk.host) w.ports ≡ s.host ∷ []
   pub here : EndDoes s.host step w
   pub wires : WiresStandFor k.wires (exchanged here.link)
@@ -173,13 +176,11 @@ pub record IsToSend {P : Type 0} (Runs : P → Core → List Port → Type 0) (m
 -- ## What is kept behind it
 
 -- it stands for the host behind what happened, and that was noted
-pub record HasBecome {P : Type 0} (Runs : P → Core → List Port → Type 0) (memory_of : P → Memory) (new : HostSite P) (before now : List Entry)
-    (after : Site × List Entry) : Type 0 where
-  pub site : SiteIs Runs memory_of new after.0
+pub record HasBecome (new : HostSite) (before now : List Entry) (after : Site × List Entry) : Type 0 where
+  pub site : SiteIs new after.0
   pub noted : now ≡ before ++ after.1
 
 -- It was refused for this, or else it happened and was noted.
-abbrev pub BecomesUnless : {P : Type 0} → (P → Core → List Port → Type 0) → (P → Memory) → HostSite P → List Entry → List Entry → Site
-    → Site × List Entry → Option NoCause → Type 0
-BecomesUnless Runs memory_of new before now s after None = HasBecome Runs memory_of new before now after
-BecomesUnless Runs memory_of new before now s after (Some cause) = HasBecome Runs memory_of new before now (s, [])
+abbrev pub BecomesUnless : HostSite → List Entry → List Entry → Site → Site × List Entry → Option NoCause → Type 0
+BecomesUnless new before now s after None = HasBecome new before now after
+BecomesUnless new before now s after (Some cause) = HasBecome new before now (s, [])

@@ -1,6 +1,5 @@
 -- The rounds of a world of nodes: what is asked of it as its ends take what stands on their wires and time passes, and what stands then.
 use Rattle.std.specs.Prelude.{◌≡◌, ◌≤◌, ◌&&◌, Bool, List, [], ◌∷◌, ◌++◌, length}
-use Rattle.swp_base.specs.InMemory.{Memory}
 use Rattle.swp_act.specs.Activation.{new_uicc}
 use Rattle.trace_model.specs.declared.entry.Entry.{Entry}
 use Rattle.trace_model.specs.declared.line.End.{End}
@@ -8,16 +7,15 @@ use Rattle.link_laws.specs.machine.Machine.{new_link_end}
 use Rattle.link_laws.specs.machine.Machine.Role.{Uicc}
 use Rattle.link_laws.specs.machine.AtRest.{end_rests}
 use Rattle.link_laws.specs.messages.Rest.{is_clear}
-use Rattle.node_machine.specs.Parts.{Core, Port}
 use Rattle.node_machine.specs.world.World.{NodeWorld, Site}
 use Rattle.node_machine.specs.world.Lines.{Occurrence}
 use Rattle.node_machine.specs.world.NodeHistories.{entries_in}
 use Rattle.node_machine.specs.world.Rounds.{ends_in_order, ends_take_all}
 use Rattle.node_laws.specs.telling.Telling.{IfItRuns, IfOff}
-use Rattle.node_sites.specs.declared.power.Power.{Power}
 use Rattle.node_sites.specs.declared.places.HostSite.{HostSite}
 use Rattle.node_world.specs.Bounds.{FewBehind}
 use Rattle.node_world.specs.Controllers.{AreTimely, IsThere, MayGoOn, WorldIs}
+use Rattle.node_sites.specs.Powers.{NodePower}
 
 -- an end may take all that stands on its wire
 pub record MayTakeAll (at : End) (w : NodeWorld) : Type 0 where
@@ -37,10 +35,8 @@ pub record MayGoRound (w : NodeWorld) : Type 0 where
   pub timely : AreTimely (ends_take_all w (ends_in_order w)).0
 
 -- What is kept stands for the world that these events have made, and what they caused is noted behind what was noted before.
-pub record WorldHasGone {C P : Type 0} (CRuns : C → Core → List Port → Type 0) (c_memory : C → Memory) (PRuns : P → Core → List Port → Type 0)
-    (p_memory : P → Memory) (k : Power C) (ks : List (HostSite P)) (before now : List Entry) (after : NodeWorld × List Occurrence)
-    : Type 0 where
-  pub world : WorldIs CRuns c_memory PRuns p_memory k ks after.0
+pub record WorldHasGone (k : NodePower) (ks : List HostSite) (before now : List Entry) (after : NodeWorld × List Occurrence) : Type 0 where
+  pub world : WorldIs k ks after.0
   pub noted : now ≡ before ++ entries_in after.1
 
 -- ## At rest

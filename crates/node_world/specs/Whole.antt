@@ -1,7 +1,6 @@
 -- A world of nodes as a whole: what is kept of it as something happens, and what is asked then.
 use Rattle.std.specs.Prelude.{◌≡◌, ◌≢◌, ℕ, ◌+◌, ◌<◌, ◌≤◌, ◌^◌, ◌==◌, Bool, true, false, List, [], ◌++◌, replicate, unwrap_or, Option, Some, None}
 use Rattle.std.specs.List.{AllByRecursion}
-use Rattle.swp_base.specs.InMemory.{Memory}
 use Rattle.trace_model.specs.Lines.{IsNodeHeader, IsNodeOf}
 use Rattle.trace_model.specs.declared.entry.Entry.{Entry}
 use Rattle.trace_model.specs.declared.entry.NoCause.{NoCause}
@@ -10,18 +9,17 @@ use Rattle.trace_model.specs.declared.line.Line.{Line}
 use Rattle.trace_model.specs.declared.line.Line.TheVariants as line
 use Rattle.link_wires.specs.declared.finding.Misread.{Misread}
 use Rattle.link_wires.specs.Damages.{first_lpdu}
-use Rattle.node_machine.specs.Parts.{Core, Port}
 use Rattle.node_machine.specs.world.World.{NodeWorld, Site, node_at, memory_at}
 use Rattle.node_machine.specs.world.World.Happening.{Ticks}
 use Rattle.node_machine.specs.world.Lines.{LineOutcome, all_happen, frames_at, misread_in, noted_below}
 use Rattle.node_laws.specs.telling.Telling.{hosts_in, IsOrderly}
 use Rattle.lines_told.specs.lines.Below.{IsPlayedLine, entries_below}
-use Rattle.node_sites.specs.declared.power.Power.{Power}
 use Rattle.node_sites.specs.declared.places.HostSite.{HostSite}
 use Rattle.node_world.specs.Bounds.{FewBehind}
 use Rattle.node_world.specs.Controllers.{SitesAre, WorldIs, MayGoOn, AreTimely, IsThere}
 use Rattle.node_world.specs.HostSteps.{IsHostOf, MayTick}
 use Rattle.node_sites.specs.Memories.{IsSoundMemory}
+use Rattle.node_sites.specs.Powers.{NodePower}
 
 -- ## Something happens
 
@@ -31,9 +29,8 @@ pub record IsWithinBounds (w : NodeWorld) : Type 0 where
   pub few : FewBehind 300000000 w
 
 -- what is kept of the hosts stands for those of a world that something has made of it, and this was noted behind what was noted before
-pub record SitesBecome {P : Type 0} (Runs : P → Core → List Port → Type 0) (memory_of : P → Memory) (ks : List (HostSite P)) (before now : List Entry)
-    (after : NodeWorld × List Entry) : Type 0 where
-  pub sites : SitesAre Runs memory_of ks after.0.sites
+pub record SitesBecome (ks : List HostSite) (before now : List Entry) (after : NodeWorld × List Entry) : Type 0 where
+  pub sites : SitesAre ks after.0.sites
   pub noted : now ≡ before ++ after.1
 
 -- all hosts may have their ticks
@@ -46,9 +43,8 @@ abbrev pub AreToTick : List Site → Type 0
 AreToTick sites = AllByRecursion IsToTick sites
 
 -- what is kept of the hosts stands for these behind their ticks, and that was noted
-pub record SitesTick {P : Type 0} (Runs : P → Core → List Port → Type 0) (memory_of : P → Memory) (ks : List (HostSite P)) (before now : List Entry)
-    (after : List Site × List Entry) : Type 0 where
-  pub sites : SitesAre Runs memory_of ks after.0
+pub record SitesTick (ks : List HostSite) (before now : List Entry) (after : List Site × List Entry) : Type 0 where
+  pub sites : SitesAre ks after.0
   pub noted : now ≡ before ++ after.1
 
 -- a world, and what is noted, where this happens unless it is refused for a cause
@@ -91,15 +87,13 @@ pub record MayPlay (header : Header) (said : Line) (w : NodeWorld) : Type 0 wher
   pub boots : AreBootable header.hosts.items w
 
 -- what is kept stands for the world behind a line, and what the line tells is noted
-pub record LinePlayed {C P : Type 0} (CRuns : C → Core → List Port → Type 0) (c_memory : C → Memory) (PRuns : P → Core → List Port → Type 0)
-    (p_memory : P → Memory) (k : Power C) (ks : List (HostSite P)) (noted : List Entry) (after : NodeWorld × LineOutcome) : Type 0 where
-  pub world : WorldIs CRuns c_memory PRuns p_memory k ks after.0
+pub record LinePlayed (k : NodePower) (ks : List HostSite) (noted : List Entry) (after : NodeWorld × LineOutcome) : Type 0 where
+  pub world : WorldIs k ks after.0
   pub told : noted ≡ entries_below (noted_below after.1)
 
 -- what is kept of the hosts alone stands so
-pub record HostsPlayed {P : Type 0} (Runs : P → Core → List Port → Type 0) (memory_of : P → Memory) (ks : List (HostSite P)) (noted : List Entry)
-    (after : NodeWorld × LineOutcome) : Type 0 where
-  pub sites : SitesAre Runs memory_of ks after.0.sites
+pub record HostsPlayed (ks : List HostSite) (noted : List Entry) (after : NodeWorld × LineOutcome) : Type 0 where
+  pub sites : SitesAre ks after.0.sites
   pub told : noted ≡ entries_below (noted_below after.1)
 
 -- a line that damages a frame

@@ -2,7 +2,6 @@
 use Rattle.std.specs.Prelude.{◌≡◌, ◌+◌, ◌≤◌, ◌<◌, ◌^◌, ℕ, false, List, [], ◌∷◌, Some, None}
 use Rattle.std.specs.List.{AllByRecursion}
 use Rattle.std.specs.Option.{option_map}
-use Rattle.swp_base.specs.InMemory.{Memory}
 use Rattle.gate_admin.specs.View.{has, hosts_where}
 use Rattle.trace_model.specs.declared.entry.Entry.{Entry}
 use Rattle.trace_model.specs.declared.entry.Entry.TheVariants as entry
@@ -17,19 +16,12 @@ use Rattle.node_machine.specs.world.World.{NodeWorld as Machine, node_at, memory
 use Rattle.node_machine.specs.world.NodeHistories.{NoneIsMisread}
 use Rattle.lines_told.specs.lines.Below.{IsPlayedLine, nodes_behind}
 use Rattle.lines_told.specs.lines.Plays.{IsPlayFor, Play, lines_played, lines_said, rounds_played}
-use Rattle.node_core.specs.declared.node.Node.{Node}
-use Rattle.node_core.specs.Running.{RunsAs}
-use Rattle.node_sites.specs.WorldNodes.{RunsAsHost}
 use Rattle.node_world.specs.declared.worlds.NodeWorld.{NodeWorld}
 use Rattle.node_world.specs.Controllers.{WorldIs}
 
 -- what the last line caused
 abbrev pub nodes_entries : NodeWorld → List Entry
 nodes_entries k = k.noted.entries.items
-
--- the memory over which a node runs
-abbrev pub node_memory : Node Memory → Memory
-node_memory n = n.store.journal.nv
 
 -- no more than a schedule has and a line that lets the links settle comes to: 20,000 lines, 300,000 parts of rounds, each played as a line,
 -- and 400,000,000 rounds
@@ -44,7 +36,7 @@ pub record IsNodeWorldBehind (k : NodeWorld) (header : Header) (plays : List Pla
   pub plays_are : AllByRecursion (IsPlayFor header) plays
   pub few : AreFewWithParts plays
   pub sure : NoneIsMisread (new_world header.hosts.items) (lines_played header plays)
-  pub stands : WorldIs RunsAs node_memory RunsAsHost node_memory k.controller k.sites.items (nodes_behind header (lines_played header plays))
+  pub stands : WorldIs k.controller k.sites.items (nodes_behind header (lines_played header plays))
   pub mask_is : hosts_where (has k.mask) ≡ header.hosts.items
   pub stepped : k.stepped ≡ lines_said plays
   pub rounds : k.rounds ≡ rounds_played plays

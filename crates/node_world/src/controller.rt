@@ -1,28 +1,26 @@
 //! The controller of the world: its node or its memory, and its ends of the links to all hosts. In a step of it frames may go out at every
 //! link, and a stop of its node cuts all of them.
 ghost use Rattle.std.specs.Prelude.{◌≡◌, List, true, false, map, OnOk};
+ghost use Rattle.swp_base.specs.InMemory.{Memory};
 ghost use Rattle.trace_model.specs.declared.entry.Entry.{Entry as Told};
 ghost use Rattle.node_machine.specs.Parts.{Work};
 ghost use Rattle.node_machine.specs.world.World.{Site};
+ghost use Rattle.node_core.specs.declared.node.Node.{Node};
 ghost use Rattle.node_sites.specs.WorldNodes.{IsNotedBehind};
 ghost use Rattle.node_sites.specs.declared.power.Power.TheVariants.{Off};
 ghost use Rattle.node_sites.specs.Powers.{memory_kept};
 ghost use Rattle.node_world.specs.Controllers.{SitesAre, with_bare_link, HaveRoom, EndsStep, GoesOnWith, WentOffWith};
 
 use crate::controller_sites::{empty_all, send_to_all};
-use node_sites::nodes::WorldNode;
 use node_sites::noted::Noted;
 use node_sites::places::HostSite;
-use node_sites::power::Power;
+use node_sites::power::{ControllerPower, Power};
 use swp_base::NoMemory;
 
 /// The power of the controller goes: the wires of all links are empty, and its memory stays.
-pub(crate) fn lose_controller<C: WorldNode + Drop, P: WorldNode + Drop>(
-    controller: &mut Power<C>,
-    sites: &mut [HostSite<P>],
-)
-    ensures off { controller.new ≡ Off (memory_kept C.memory controller.old) }
-    ensures wires { (hosts : List Site) → SitesAre P.runs P.memory sites.old hosts → SitesAre P.runs P.memory sites.new (map with_bare_link hosts) }
+pub(crate) fn lose_controller(controller: &mut ControllerPower, sites: &mut [HostSite])
+    ensures off { controller.new ≡ Off (memory_kept controller.old) }
+    ensures wires { (hosts : List Site) → SitesAre sites.old hosts → SitesAre sites.new (map with_bare_link hosts) }
 {
     empty_all(sites);
     controller.lose();
@@ -33,20 +31,19 @@ pub(crate) fn lose_controller<C: WorldNode + Drop, P: WorldNode + Drop>(
 /// # Errors
 ///
 /// No memory is left; what the controller and the hosts stand for then isn't said.
-pub(crate) fn finish_controller<C: WorldNode + Drop, P: WorldNode + Drop>(
-    controller: &mut Power<C>,
-    sites: &mut [HostSite<P>],
+pub(crate) fn finish_controller(
+    controller: &mut ControllerPower,
+    sites: &mut [HostSite],
     live: bool,
     noted: &mut Noted,
 ) -> Result<(), NoMemory>
-    requires state { (n : C) × (v : Work) × (hosts : List Site) × EndsStep C.runs P.runs P.memory controller.old sites.old n live v hosts }
+    requires state { (n : Node Memory) × (v : Work) × (hosts : List Site) × EndsStep controller.old sites.old n live v hosts }
     requires room { HaveRoom sites.old }
-    ensures goes_on { (n : C) (v : Work) (hosts : List Site) (before : List Told) → EndsStep C.runs P.runs P.memory controller.old sites.old n live v hosts
-        → IsNotedBehind noted.old before v.entries → live ≡ true
-        → OnOk result (GoesOnWith C.runs C.memory P.runs P.memory controller.new sites.new n v hosts before noted.new.entries.items) }
-    ensures cut { (n : C) (v : Work) (hosts : List Site) (before : List Told) → EndsStep C.runs P.runs P.memory controller.old sites.old n live v hosts
+    ensures goes_on { (n : Node Memory) (v : Work) (hosts : List Site) (before : List Told) → EndsStep controller.old sites.old n live v hosts
+        → IsNotedBehind noted.old before v.entries → live ≡ true → OnOk result (GoesOnWith controller.new sites.new n v hosts before noted.new.entries.items) }
+    ensures cut { (n : Node Memory) (v : Work) (hosts : List Site) (before : List Told) → EndsStep controller.old sites.old n live v hosts
         → IsNotedBehind noted.old before v.entries → live ≡ false
-        → OnOk result (WentOffWith C.memory P.runs P.memory controller.new sites.new n v hosts before noted.new.entries.items) }
+        → OnOk result (WentOffWith controller.new sites.new n v hosts before noted.new.entries.items) }
     ensures short { OnOk result ((noted.old.short ≡ false) × (noted.new.short ≡ false)) }
 {
     if noted.short {

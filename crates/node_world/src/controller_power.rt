@@ -8,6 +8,7 @@ ghost use Rattle.node_machine.specs.Parts.{Running};
 ghost use Rattle.node_machine.specs.world.World.{NodeWorld, boots, frame_lost, end_c, world_step};
 ghost use Rattle.node_machine.specs.world.World.Happening.{IsCut};
 ghost use Rattle.node_laws.specs.telling.Telling.{hosts_in};
+ghost use Rattle.node_core.specs.Running.{RunsAs};
 ghost use Rattle.node_sites.specs.Memories.{IsSoundMemory};
 ghost use Rattle.node_sites.specs.Powers.{memory_kept};
 ghost use Rattle.node_sites.specs.WorldBoots.{EndsBoot};
@@ -18,24 +19,21 @@ use crate::controller_sites::{empty_all, place_of};
 use crate::host_boots::note_last;
 use crate::host_losses::{is_refusal, lose_for};
 use core::mem::replace_with;
-use node_sites::nodes::{WorldController, WorldNode};
 use node_sites::noted::Noted;
 use node_sites::places::HostSite;
-use node_sites::power::Power;
+use node_sites::power::{ControllerPower, Power};
+use node_sites::world_controller;
 use std::alloc::Global;
 use swp_base::NoMemory;
 use trace_model::{End, Entry, LostCause};
 
 // The controller behind a boot from the memory that it left. Where no memory is left for it, its power stays off.
-fn booted<C: WorldController + Drop>(
-    power: Power<C>,
-    with: (Global, u8),
-) -> (Power<C>, Result<(), NoMemory>)
-    requires { IsSoundMemory (memory_kept C.memory power) }
-    ensures { OnOk result.1 (EndsBoot C.runs C.memory 0 (hosts_where (has with.1)) Clf (memory_kept C.memory power) result.0) }
+fn booted(power: ControllerPower, with: (Global, u8)) -> (ControllerPower, Result<(), NoMemory>)
+    requires { IsSoundMemory (memory_kept power) }
+    ensures { OnOk result.1 (EndsBoot RunsAs 0 (hosts_where (has with.1)) Clf (memory_kept power) result.0) }
 {
     let (alloc, mask) = with;
-    C::boot(alloc, mask, power.into_memory())
+    world_controller::boot(alloc, mask, power.into_memory())
 }
 
 /// The controller, which doesn't run, boots from its memory, with ends of the links with the hosts of this mask, in which bit h stands for
@@ -44,24 +42,23 @@ fn booted<C: WorldController + Drop>(
 /// # Errors
 ///
 /// No memory is left; what the controller and the hosts stand for then isn't said.
-pub(crate) fn boot_controller<C: WorldController + Drop, P: WorldNode + Drop>(
+pub(crate) fn boot_controller(
     alloc: Global,
-    controller: &mut Power<C>,
-    sites: &mut [HostSite<P>],
+    controller: &mut ControllerPower,
+    sites: &mut [HostSite],
     mask: u8,
     noted: &mut Noted,
 ) -> Result<(), NoMemory>
-    requires state { (w : NodeWorld) × WorldIs C.runs C.memory P.runs P.memory controller.old sites.old w × (w.controller ≡ None) × IsSoundMemory w.memory }
-    ensures stands { (w : NodeWorld) → WorldIs C.runs C.memory P.runs P.memory controller.old sites.old w → MayGoOn w → AreTimely w
-        → w.controller ≡ None → hosts_where (has mask) ≡ hosts_in w.sites
-        → OnOk result (WorldBecomes C.runs C.memory P.runs P.memory controller.new sites.new noted.old.entries.items noted.new.entries.items
-        (boots w 0)) }
+    requires state { (w : NodeWorld) × WorldIs controller.old sites.old w × (w.controller ≡ None) × IsSoundMemory w.memory }
+    ensures stands { (w : NodeWorld) → WorldIs controller.old sites.old w → MayGoOn w → AreTimely w → w.controller ≡ None
+        → hosts_where (has mask) ≡ hosts_in w.sites
+        → OnOk result (WorldBecomes controller.new sites.new noted.old.entries.items noted.new.entries.items (boots w 0)) }
     ensures short { noted.new.short ≡ noted.old.short }
 {
     replace_with(controller, (alloc, mask), booted)?;
     match controller {
         Power::On(node) => {
-            let count = node.count();
+            let count = node.store().kept();
             note_last(noted, Entry::Booted { node: 0, count })
         }
         Power::Off(_) => {
@@ -76,14 +73,13 @@ pub(crate) fn boot_controller<C: WorldController + Drop, P: WorldNode + Drop>(
 /// # Errors
 ///
 /// No memory is left; what the controller and the hosts stand for then isn't said.
-pub(crate) fn cut_controller<C: WorldNode + Drop, P: WorldNode + Drop>(
-    controller: &mut Power<C>,
-    sites: &mut [HostSite<P>],
+pub(crate) fn cut_controller(
+    controller: &mut ControllerPower,
+    sites: &mut [HostSite],
     noted: &mut Noted,
 ) -> Result<(), NoMemory>
-    ensures stands { (w : NodeWorld) (r : Running) → WorldIs C.runs C.memory P.runs P.memory controller.old sites.old w → w.controller ≡ Some r
-        → OnOk result (WorldBecomes C.runs C.memory P.runs P.memory controller.new sites.new noted.old.entries.items noted.new.entries.items
-        (world_step w (IsCut 0))) }
+    ensures stands { (w : NodeWorld) (r : Running) → WorldIs controller.old sites.old w → w.controller ≡ Some r
+        → OnOk result (WorldBecomes controller.new sites.new noted.old.entries.items noted.new.entries.items (world_step w (IsCut 0))) }
     ensures short { noted.new.short ≡ noted.old.short }
 {
     lose_controller(controller, sites);
@@ -96,18 +92,16 @@ pub(crate) fn cut_controller<C: WorldNode + Drop, P: WorldNode + Drop>(
 /// # Errors
 ///
 /// No memory is left; what the controller and the hosts stand for then isn't said.
-pub(crate) fn lose_at_controller<C: WorldNode + Drop, P: WorldNode + Drop>(
-    controller: &mut Power<C>,
-    sites: &mut [HostSite<P>],
+pub(crate) fn lose_at_controller(
+    controller: &mut ControllerPower,
+    sites: &mut [HostSite],
     host: u8,
     cause: LostCause,
     noted: &mut Noted,
 ) -> Result<(), NoMemory>
-    requires state { (w : NodeWorld) × WorldIs C.runs C.memory P.runs P.memory controller.old sites.old w × MayGoOn w × IsThere host w }
-    ensures stands { (w : NodeWorld) (why : Loss) → WorldIs C.runs C.memory P.runs P.memory controller.old sites.old w → MayGoOn w → IsThere host w
-        → cause ≡ lost_as why
-        → OnOk result (WorldBecomes C.runs C.memory P.runs P.memory controller.new sites.new noted.old.entries.items noted.new.entries.items
-        (frame_lost w (end_c host) why)) }
+    requires state { (w : NodeWorld) × WorldIs controller.old sites.old w × MayGoOn w × IsThere host w }
+    ensures stands { (w : NodeWorld) (why : Loss) → WorldIs controller.old sites.old w → MayGoOn w → IsThere host w → cause ≡ lost_as why
+        → OnOk result (WorldBecomes controller.new sites.new noted.old.entries.items noted.new.entries.items (frame_lost w (end_c host) why)) }
     ensures short { noted.new.short ≡ noted.old.short }
 {
     let to = End {

@@ -4,23 +4,25 @@ ghost use Rattle.std.specs.List.{AllByRecursion, flat_map};
 ghost use Rattle.trace_model.specs.Lines.{IsHost};
 ghost use Rattle.node_machine.specs.Parts.{Core, Port};
 ghost use Rattle.node_machine.specs.world.World.{Site, NodeWorld, all_aged};
+ghost use Rattle.node_core.specs.Running.{RunsAs};
+ghost use Rattle.node_sites.specs.Powers.{node_memory};
 ghost use Rattle.node_laws.specs.kept.Hosts.{AreDifferent};
 ghost use Rattle.node_laws.specs.telling.Telling.{hosts_in};
 ghost use Rattle.node_world.specs.Controllers.{SitesAre, HaveRoom, SendsTo, sent_to, has_frames, frames_emitted, with_bare_link};
 ghost use Rattle.node_world.specs.Controllers.{IsPlaceOf, AreSessions};
 
 use crate::host_losses::age_host;
-use node_sites::nodes::WorldNode;
+use node_core::Controller;
 use node_sites::noted::{Noted, Sessions};
 use node_sites::places::HostSite;
 use node_sites::sending::send_frames;
 use std::alloc::AllocError;
-use swp_base::NoMemory;
+use swp_base::{MemNv, NoMemory};
 use trace_model::{End, Entry};
 
 /// Nothing stands on the wires of any link any more.
-pub(crate) fn empty_all<P: WorldNode + Drop>(sites: &mut [HostSite<P>])
-    ensures { (hosts : List Site) → SitesAre P.runs P.memory sites.old hosts → SitesAre P.runs P.memory sites.new (map with_bare_link hosts) }
+pub(crate) fn empty_all(sites: &mut [HostSite])
+    ensures { (hosts : List Site) → SitesAre sites.old hosts → SitesAre sites.new (map with_bare_link hosts) }
 {
     for i in 0..sites.len() {
         let site = &mut sites[i];
@@ -33,18 +35,17 @@ pub(crate) fn empty_all<P: WorldNode + Drop>(sites: &mut [HostSite<P>])
 /// # Errors
 ///
 /// No memory is left; what the wires stand for then isn't said.
-pub(crate) fn send_to_all<C: WorldNode, P: WorldNode + Drop>(
-    node: &mut C,
-    sites: &mut [HostSite<P>],
+pub(crate) fn send_to_all(
+    node: &mut Controller<MemNv>,
+    sites: &mut [HostSite],
     entries: &mut Vec<Entry>,
 ) -> Result<(), AllocError>
-    requires state { (core : Core) × (ports : List Port) × (hosts : List Site)
-        × SendsTo P.runs P.memory (C.runs node.old core ports) ports sites.old hosts }
+    requires state { (core : Core) × (ports : List Port) × (hosts : List Site) × SendsTo (RunsAs node.old core ports) ports sites.old hosts }
     requires room { HaveRoom sites.old }
-    ensures stands { (core : Core) (ports : List Port) (hosts : List Site) → SendsTo P.runs P.memory (C.runs node.old core ports) ports sites.old hosts
-        → OnOk result (C.runs node.new core (sent_to (hosts_in hosts) ports) × SitesAre P.runs P.memory sites.new (map (has_frames ports) hosts)
+    ensures stands { (core : Core) (ports : List Port) (hosts : List Site) → SendsTo (RunsAs node.old core ports) ports sites.old hosts
+        → OnOk result (RunsAs node.new core (sent_to (hosts_in hosts) ports) × SitesAre sites.new (map (has_frames ports) hosts)
         × (entries.new.items ≡ entries.old.items ++ flat_map (frames_emitted ports) hosts)) }
-    ensures memory { C.memory node.new ≡ C.memory node.old }
+    ensures memory { node_memory node.new ≡ node_memory node.old }
 {
     for i in 0..sites.len() {
         let site = &mut sites[i];
@@ -58,9 +59,9 @@ pub(crate) fn send_to_all<C: WorldNode, P: WorldNode + Drop>(
 }
 
 // The place of the host with this number, which is looked for from the first one on.
-fn searched_place<P: WorldNode + Drop>(sites: &[HostSite<P>], host: u8) -> Option<usize>
+fn searched_place(sites: &[HostSite], host: u8) -> Option<usize>
     ensures range { IfSome result (λ i. i < length sites.now) }
-    ensures place { (hosts : List Site) → SitesAre P.runs P.memory sites.now hosts → IsPlaceOf result host hosts }
+    ensures place { (hosts : List Site) → SitesAre sites.now hosts → IsPlaceOf result host hosts }
 {
     for i in 0..sites.len() {
         if sites[i].host == host {
@@ -71,9 +72,9 @@ fn searched_place<P: WorldNode + Drop>(sites: &[HostSite<P>], host: u8) -> Optio
 }
 
 // It is looked for at this place first.
-fn place_near<P: WorldNode + Drop>(sites: &[HostSite<P>], near: usize, host: u8) -> Option<usize>
+fn place_near(sites: &[HostSite], near: usize, host: u8) -> Option<usize>
     ensures range { IfSome result (λ i. i < length sites.now) }
-    ensures place { (hosts : List Site) → SitesAre P.runs P.memory sites.now hosts → IsPlaceOf result host hosts }
+    ensures place { (hosts : List Site) → SitesAre sites.now hosts → IsPlaceOf result host hosts }
 {
     if near < sites.len() && sites[near].host == host {
         return Some(near);
@@ -82,17 +83,17 @@ fn place_near<P: WorldNode + Drop>(sites: &[HostSite<P>], near: usize, host: u8)
 }
 
 /// The place of the host with this number: where all from 01 on are there, as in most worlds, it is one below that.
-pub(crate) fn place_of<P: WorldNode + Drop>(sites: &[HostSite<P>], host: u8) -> Option<usize>
+pub(crate) fn place_of(sites: &[HostSite], host: u8) -> Option<usize>
     ensures range { IfSome result (λ i. i < length sites.now) }
-    ensures place { (hosts : List Site) → SitesAre P.runs P.memory sites.now hosts → IsPlaceOf result host hosts }
+    ensures place { (hosts : List Site) → SitesAre sites.now hosts → IsPlaceOf result host hosts }
 {
     place_near(sites, usize::from(host.saturating_sub(1)), host)
 }
 
 /// The numbers of the sessions of the controller's ends of all links.
-pub(crate) fn sessions_of<P: WorldNode + Drop>(sites: &[HostSite<P>]) -> Sessions
-    ensures { (hosts : List Site) → SitesAre P.runs P.memory sites.now hosts → AreDifferent (hosts_in hosts)
-        → AllByRecursion IsHost (hosts_in hosts) → AreSessions result hosts }
+pub(crate) fn sessions_of(sites: &[HostSite]) -> Sessions
+    ensures { (hosts : List Site) → SitesAre sites.now hosts → AreDifferent (hosts_in hosts) → AllByRecursion IsHost (hosts_in hosts)
+        → AreSessions result hosts }
 {
     let mut sessions = [0; 8];
     for i in 0..sites.len() {
@@ -110,12 +111,9 @@ pub(crate) fn sessions_of<P: WorldNode + Drop>(sites: &[HostSite<P>]) -> Session
 /// # Errors
 ///
 /// No memory is left; what the hosts stand for then isn't said.
-pub(crate) fn age_all<P: WorldNode + Drop>(
-    sites: &mut [HostSite<P>],
-    noted: &mut Noted,
-) -> Result<(), NoMemory>
-    ensures stands { (w : NodeWorld) → SitesAre P.runs P.memory sites.old w.sites → OnOk result (SitesAre P.runs P.memory sites.new (all_aged w).0.sites
-        × (noted.new.entries.items ≡ noted.old.entries.items ++ (all_aged w).1)) }
+pub(crate) fn age_all(sites: &mut [HostSite], noted: &mut Noted) -> Result<(), NoMemory>
+    ensures stands { (w : NodeWorld) → SitesAre sites.old w.sites
+        → OnOk result (SitesAre sites.new (all_aged w).0.sites × (noted.new.entries.items ≡ noted.old.entries.items ++ (all_aged w).1)) }
     ensures short { noted.new.short ≡ noted.old.short }
 {
     for i in 0..sites.len() {

@@ -11,10 +11,10 @@ ghost use Rattle.node_world.specs.Controllers.{near_ticks};
 use crate::controller::finish_controller;
 use crate::controller_sites::{age_all, place_of, sessions_of};
 use crate::host_steps::reset_cause;
-use node_sites::nodes::{WorldController, WorldNode};
 use node_sites::noted::Noted;
 use node_sites::places::HostSite;
-use node_sites::power::Power;
+use node_sites::power::{ControllerPower, Power};
+use node_sites::world_controller;
 use swp_base::NoMemory;
 use trace_model::{End, NoCause};
 
@@ -24,19 +24,17 @@ use trace_model::{End, NoCause};
 /// # Errors
 ///
 /// No memory is left; what the controller and the hosts stand for then isn't said.
-pub(crate) fn take_at_controller<C: WorldNode + Drop, P: WorldNode + Drop>(
-    controller: &mut Power<C>,
-    sites: &mut [HostSite<P>],
+pub(crate) fn take_at_controller(
+    controller: &mut ControllerPower,
+    sites: &mut [HostSite],
     host: u8,
     noted: &mut Noted,
 ) -> Result<(), NoMemory>
-    requires state { (w : NodeWorld) × WorldIs C.runs C.memory P.runs P.memory controller.old sites.old w × MayGoOn w × IsThere host w }
+    requires state { (w : NodeWorld) × WorldIs controller.old sites.old w × MayGoOn w × IsThere host w }
     requires room { HaveRoom sites.old }
     requires memory { noted.old.short ≡ false }
-    ensures stands { (w : NodeWorld) → WorldIs C.runs C.memory P.runs P.memory controller.old sites.old w → MayGoOn w → IsThere host w
-        → FewAreCountedAt host NextFrame w
-        → OnOk result (WorldBecomes C.runs C.memory P.runs P.memory controller.new sites.new noted.old.entries.items noted.new.entries.items
-        (comes_at w (end_c host) NextFrame)) }
+    ensures stands { (w : NodeWorld) → WorldIs controller.old sites.old w → MayGoOn w → IsThere host w → FewAreCountedAt host NextFrame w
+        → OnOk result (WorldBecomes controller.new sites.new noted.old.entries.items noted.new.entries.items (comes_at w (end_c host) NextFrame)) }
     ensures memory { OnOk result (noted.new.short ≡ false) }
 {
     let at = End {
@@ -55,7 +53,7 @@ pub(crate) fn take_at_controller<C: WorldNode + Drop, P: WorldNode + Drop>(
     };
     site.wires.controller.take_first(at, &mut noted.entries)?;
     noted.sessions = sessions_of(sites);
-    let live = node.take(host, &read, noted);
+    let live = world_controller::take(node, host, &read, noted);
     finish_controller(controller, sites, live, noted)
 }
 
@@ -65,30 +63,28 @@ pub(crate) fn take_at_controller<C: WorldNode + Drop, P: WorldNode + Drop>(
 /// # Errors
 ///
 /// No memory is left; what the controller and the hosts stand for then isn't said.
-pub(crate) fn reset_controller<C: WorldNode + Drop, P: WorldNode + Drop>(
-    controller: &mut Power<C>,
-    sites: &mut [HostSite<P>],
+pub(crate) fn reset_controller(
+    controller: &mut ControllerPower,
+    sites: &mut [HostSite],
     host: u8,
     window: Option<u8>,
     noted: &mut Noted,
 ) -> Result<Option<NoCause>, NoMemory>
-    requires state { (w : NodeWorld) × WorldIs C.runs C.memory P.runs P.memory controller.old sites.old w × MayGoOn w × IsThere host w }
+    requires state { (w : NodeWorld) × WorldIs controller.old sites.old w × MayGoOn w × IsThere host w }
     requires window { IfSome window (λ w. (1 ≤ w) × (w ≤ 4)) }
     requires room { HaveRoom sites.old }
     requires memory { noted.old.short ≡ false }
-    ensures refusal { (w : NodeWorld) → WorldIs C.runs C.memory P.runs P.memory controller.old sites.old w → MayGoOn w → IsThere host w
+    ensures refusal { (w : NodeWorld) → WorldIs controller.old sites.old w → MayGoOn w → IsThere host w
         → IfOk result (λ cause. cause ≡ refusal_in w (line.Reset (end_c host) window)) }
-    ensures stands { (w : NodeWorld) → WorldIs C.runs C.memory P.runs P.memory controller.old sites.old w → MayGoOn w → IsThere host w
-        → FewAreCountedAt host (AsksReset window) w
-        → IfOk result (WorldUnless C.runs C.memory P.runs P.memory controller.new sites.new noted.old.entries.items noted.new.entries.items w
-        (comes_at w (end_c host) (AsksReset window))) }
+    ensures stands { (w : NodeWorld) → WorldIs controller.old sites.old w → MayGoOn w → IsThere host w → FewAreCountedAt host (AsksReset window) w
+        → IfOk result (WorldUnless controller.new sites.new noted.old.entries.items noted.new.entries.items w (comes_at w (end_c host) (AsksReset window))) }
     ensures memory { OnOk result (noted.new.short ≡ false) }
 {
     let Power::On(node) = controller else {
         return Ok(Some(NoCause::Off));
     };
     noted.sessions = sessions_of(sites);
-    match node.reset(host, window, noted) {
+    match world_controller::reset(node, host, window, noted) {
         Ok(live) => {
             finish_controller(controller, sites, live, noted)?;
             Ok(None)
@@ -103,21 +99,19 @@ pub(crate) fn reset_controller<C: WorldNode + Drop, P: WorldNode + Drop>(
 /// # Errors
 ///
 /// No memory is left; what the controller and the hosts stand for then isn't said.
-pub(crate) fn activate_controller<C: WorldController + Drop, P: WorldNode + Drop>(
-    controller: &mut Power<C>,
-    sites: &mut [HostSite<P>],
+pub(crate) fn activate_controller(
+    controller: &mut ControllerPower,
+    sites: &mut [HostSite],
     host: u8,
     power: u8,
     noted: &mut Noted,
 ) -> Result<(), NoMemory>
-    requires state { (w : NodeWorld) × WorldIs C.runs C.memory P.runs P.memory controller.old sites.old w × MayGoOn w × IsThere host w }
+    requires state { (w : NodeWorld) × WorldIs controller.old sites.old w × MayGoOn w × IsThere host w }
     requires power { power ≤ 1 }
     requires room { HaveRoom sites.old }
     requires memory { noted.old.short ≡ false }
-    ensures stands { (w : NodeWorld) → WorldIs C.runs C.memory P.runs P.memory controller.old sites.old w → MayGoOn w → IsThere host w
-        → FewAreCountedAt host (Starts power) w
-        → OnOk result (WorldBecomes C.runs C.memory P.runs P.memory controller.new sites.new noted.old.entries.items noted.new.entries.items
-        (comes_at w (end_c host) (Starts power))) }
+    ensures stands { (w : NodeWorld) → WorldIs controller.old sites.old w → MayGoOn w → IsThere host w → FewAreCountedAt host (Starts power) w
+        → OnOk result (WorldBecomes controller.new sites.new noted.old.entries.items noted.new.entries.items (comes_at w (end_c host) (Starts power))) }
     ensures memory { OnOk result (noted.new.short ≡ false) }
 {
     let Power::On(node) = controller else {
@@ -129,7 +123,7 @@ pub(crate) fn activate_controller<C: WorldController + Drop, P: WorldNode + Drop
     let site = &mut sites[place];
     site.wires.empty();
     noted.sessions = sessions_of(sites);
-    let live = node.activate(host, power, noted);
+    let live = world_controller::activate(node, host, power, noted);
     finish_controller(controller, sites, live, noted)
 }
 
@@ -138,25 +132,23 @@ pub(crate) fn activate_controller<C: WorldController + Drop, P: WorldNode + Drop
 /// # Errors
 ///
 /// No memory is left; what the controller and the hosts stand for then isn't said.
-pub(crate) fn tick_controller<C: WorldNode + Drop, P: WorldNode + Drop>(
-    controller: &mut Power<C>,
-    sites: &mut [HostSite<P>],
+pub(crate) fn tick_controller(
+    controller: &mut ControllerPower,
+    sites: &mut [HostSite],
     noted: &mut Noted,
 ) -> Result<(), NoMemory>
-    requires state { (w : NodeWorld) × WorldIs C.runs C.memory P.runs P.memory controller.old sites.old w × MayGoOn w × AreTimely w }
+    requires state { (w : NodeWorld) × WorldIs controller.old sites.old w × MayGoOn w × AreTimely w }
     requires room { HaveRoom sites.old }
     requires memory { noted.old.short ≡ false }
-    ensures stands { (w : NodeWorld) → WorldIs C.runs C.memory P.runs P.memory controller.old sites.old w → MayGoOn w → AreTimely w
-        → FewAreCounted TimePasses w
-        → OnOk result (WorldBecomes C.runs C.memory P.runs P.memory controller.new sites.new noted.old.entries.items noted.new.entries.items
-        (controller_ticks w)) }
+    ensures stands { (w : NodeWorld) → WorldIs controller.old sites.old w → MayGoOn w → AreTimely w → FewAreCounted TimePasses w
+        → OnOk result (WorldBecomes controller.new sites.new noted.old.entries.items noted.new.entries.items (controller_ticks w)) }
     ensures memory { OnOk result (noted.new.short ≡ false) }
 {
     let Power::On(node) = controller else {
         return Ok(());
     };
     noted.sessions = sessions_of(sites);
-    let live = node.tick(noted);
+    let live = world_controller::tick(node, noted);
     finish_controller(controller, sites, live, noted)
 }
 
@@ -165,18 +157,16 @@ pub(crate) fn tick_controller<C: WorldNode + Drop, P: WorldNode + Drop>(
 /// # Errors
 ///
 /// No memory is left; what the controller and the hosts stand for then isn't said.
-pub(crate) fn begin_tick<C: WorldNode + Drop, P: WorldNode + Drop>(
-    controller: &mut Power<C>,
-    sites: &mut [HostSite<P>],
+pub(crate) fn begin_tick(
+    controller: &mut ControllerPower,
+    sites: &mut [HostSite],
     noted: &mut Noted,
 ) -> Result<(), NoMemory>
-    requires state { (w : NodeWorld) × WorldIs C.runs C.memory P.runs P.memory controller.old sites.old w × MayGoOn w × AreTimely w }
+    requires state { (w : NodeWorld) × WorldIs controller.old sites.old w × MayGoOn w × AreTimely w }
     requires room { HaveRoom sites.old }
     requires memory { noted.old.short ≡ false }
-    ensures stands { (w : NodeWorld) → WorldIs C.runs C.memory P.runs P.memory controller.old sites.old w → MayGoOn w → AreTimely w
-        → FewAreCounted TimePasses w
-        → OnOk result (WorldBecomes C.runs C.memory P.runs P.memory controller.new sites.new noted.old.entries.items noted.new.entries.items
-        (near_ticks w)) }
+    ensures stands { (w : NodeWorld) → WorldIs controller.old sites.old w → MayGoOn w → AreTimely w → FewAreCounted TimePasses w
+        → OnOk result (WorldBecomes controller.new sites.new noted.old.entries.items noted.new.entries.items (near_ticks w)) }
     ensures memory { OnOk result (noted.new.short ≡ false) }
 {
     age_all(sites, noted)?;

@@ -12,10 +12,9 @@ use crate::looking::{damaged_at, no_frame, node_of, on_the_way, runs};
 use crate::world_ticks::{take_frame, tick_world};
 use arrayvec::ArrayVec;
 use link_wires::{Damaged, Misread, taken};
-use node_sites::nodes::WorldNode;
 use node_sites::noted::{Noted, refuse};
 use node_sites::places::HostSite;
-use node_sites::power::Power;
+use node_sites::power::ControllerPower;
 use swp_base::NoMemory;
 use trace_model::{End, LostCause, NoCause};
 
@@ -25,21 +24,18 @@ use trace_model::{End, LostCause, NoCause};
 /// # Errors
 ///
 /// No memory is left; what the world stands for then isn't said.
-pub(crate) fn deliver_line<C: WorldNode + Drop, P: WorldNode + Drop>(
-    controller: &mut Power<C>,
-    sites: &mut [HostSite<P>],
+pub(crate) fn deliver_line(
+    controller: &mut ControllerPower,
+    sites: &mut [HostSite],
     at: End,
     count: Option<u8>,
     noted: &mut Noted,
 ) -> Result<(), NoMemory>
-    requires state { (header : Header) × (w : NodeWorld) × WorldIs C.runs C.memory P.runs P.memory controller.old sites.old w
-        × MayPlay header (line.Deliver at count) w }
+    requires state { (header : Header) × (w : NodeWorld) × WorldIs controller.old sites.old w × MayPlay header (line.Deliver at count) w }
     requires nothing { noted.old.entries.items ≡ [] }
     requires memory { noted.old.short ≡ false }
-    ensures stands { (header : Header) (w : NodeWorld) → WorldIs C.runs C.memory P.runs P.memory controller.old sites.old w
-        → MayPlay header (line.Deliver at count) w
-        → OnOk result (LinePlayed C.runs C.memory P.runs P.memory controller.new sites.new noted.new.entries.items
-        (line_step w (line.Deliver at count))) }
+    ensures stands { (header : Header) (w : NodeWorld) → WorldIs controller.old sites.old w → MayPlay header (line.Deliver at count) w
+        → OnOk result (LinePlayed controller.new sites.new noted.new.entries.items (line_step w (line.Deliver at count))) }
     ensures memory { OnOk result (noted.new.short ≡ false) }
 {
     if let Some(cause) = no_frame(controller, sites, at) {
@@ -60,19 +56,17 @@ pub(crate) fn deliver_line<C: WorldNode + Drop, P: WorldNode + Drop>(
 /// # Errors
 ///
 /// No memory is left; what the world stands for then isn't said.
-pub(crate) fn lose_line<C: WorldNode + Drop, P: WorldNode + Drop>(
-    controller: &mut Power<C>,
-    sites: &mut [HostSite<P>],
+pub(crate) fn lose_line(
+    controller: &mut ControllerPower,
+    sites: &mut [HostSite],
     at: End,
     noted: &mut Noted,
 ) -> Result<(), NoMemory>
-    requires state { (header : Header) × (w : NodeWorld) × WorldIs C.runs C.memory P.runs P.memory controller.old sites.old w
-        × MayPlay header (line.Lose at) w }
+    requires state { (header : Header) × (w : NodeWorld) × WorldIs controller.old sites.old w × MayPlay header (line.Lose at) w }
     requires nothing { noted.old.entries.items ≡ [] }
     requires memory { noted.old.short ≡ false }
-    ensures stands { (header : Header) (w : NodeWorld) → WorldIs C.runs C.memory P.runs P.memory controller.old sites.old w
-        → MayPlay header (line.Lose at) w
-        → OnOk result (LinePlayed C.runs C.memory P.runs P.memory controller.new sites.new noted.new.entries.items (line_step w (line.Lose at))) }
+    ensures stands { (header : Header) (w : NodeWorld) → WorldIs controller.old sites.old w → MayPlay header (line.Lose at) w
+        → OnOk result (LinePlayed controller.new sites.new noted.new.entries.items (line_step w (line.Lose at))) }
     ensures memory { OnOk result (noted.new.short ≡ false) }
 {
     match no_frame(controller, sites, at) {
@@ -87,25 +81,20 @@ pub(crate) fn lose_line<C: WorldNode + Drop, P: WorldNode + Drop>(
 /// # Errors
 ///
 /// No memory is left; what the world stands for then isn't said.
-pub(crate) fn damage_line<C: WorldNode + Drop, P: WorldNode + Drop>(
-    controller: &mut Power<C>,
-    sites: &mut [HostSite<P>],
+pub(crate) fn damage_line(
+    controller: &mut ControllerPower,
+    sites: &mut [HostSite],
     at: End,
     places: &ArrayVec<u16, 16>,
     noted: &mut Noted,
 ) -> Result<Option<Misread>, NoMemory>
-    requires state { (header : Header) × (w : NodeWorld) × WorldIs C.runs C.memory P.runs P.memory controller.old sites.old w
-        × MayPlay header (line.Damage at places.now) w }
+    requires state { (header : Header) × (w : NodeWorld) × WorldIs controller.old sites.old w × MayPlay header (line.Damage at places.now) w }
     requires nothing { noted.old.entries.items ≡ [] }
     requires memory { noted.old.short ≡ false }
-    ensures stands { (header : Header) (w : NodeWorld) → WorldIs C.runs C.memory P.runs P.memory controller.old sites.old w
-        → MayPlay header (line.Damage at places.now) w
-        → IfOk result (λ other. other ≡ None → LinePlayed C.runs C.memory P.runs P.memory controller.new sites.new noted.new.entries.items
-        (line_step w (line.Damage at places.now))) }
-    ensures misread { (w : NodeWorld) → WorldIs C.runs C.memory P.runs P.memory controller.old sites.old w → MayGoOn w
-        → IfOk result (IsMisreadIn w (line.Damage at places.now)) }
-    ensures told { (w : NodeWorld) → WorldIs C.runs C.memory P.runs P.memory controller.old sites.old w → MayGoOn w
-        → OnErr result (misread_in w (line.Damage at places.now) ≡ None) }
+    ensures stands { (header : Header) (w : NodeWorld) → WorldIs controller.old sites.old w → MayPlay header (line.Damage at places.now) w
+        → IfOk result (λ other. other ≡ None → LinePlayed controller.new sites.new noted.new.entries.items (line_step w (line.Damage at places.now))) }
+    ensures misread { (w : NodeWorld) → WorldIs controller.old sites.old w → MayGoOn w → IfOk result (IsMisreadIn w (line.Damage at places.now)) }
+    ensures told { (w : NodeWorld) → WorldIs controller.old sites.old w → MayGoOn w → OnErr result (misread_in w (line.Damage at places.now) ≡ None) }
     ensures memory { OnOk result (noted.new.short ≡ false) }
 {
     if !runs(controller, sites, node_of(at)) {
@@ -134,19 +123,17 @@ pub(crate) fn damage_line<C: WorldNode + Drop, P: WorldNode + Drop>(
 /// # Errors
 ///
 /// No memory is left; what the world stands for then isn't said.
-pub(crate) fn tick_line<C: WorldNode + Drop, P: WorldNode + Drop>(
-    controller: &mut Power<C>,
-    sites: &mut [HostSite<P>],
+pub(crate) fn tick_line(
+    controller: &mut ControllerPower,
+    sites: &mut [HostSite],
     times: Option<u8>,
     noted: &mut Noted,
 ) -> Result<(), NoMemory>
-    requires state { (header : Header) × (w : NodeWorld) × WorldIs C.runs C.memory P.runs P.memory controller.old sites.old w
-        × MayPlay header (line.Tick times) w }
+    requires state { (header : Header) × (w : NodeWorld) × WorldIs controller.old sites.old w × MayPlay header (line.Tick times) w }
     requires nothing { noted.old.entries.items ≡ [] }
     requires memory { noted.old.short ≡ false }
-    ensures stands { (header : Header) (w : NodeWorld) → WorldIs C.runs C.memory P.runs P.memory controller.old sites.old w
-        → MayPlay header (line.Tick times) w
-        → OnOk result (LinePlayed C.runs C.memory P.runs P.memory controller.new sites.new noted.new.entries.items (line_step w (line.Tick times))) }
+    ensures stands { (header : Header) (w : NodeWorld) → WorldIs controller.old sites.old w → MayPlay header (line.Tick times) w
+        → OnOk result (LinePlayed controller.new sites.new noted.new.entries.items (line_step w (line.Tick times))) }
     ensures memory { OnOk result (noted.new.short ≡ false) }
 {
     for _ in 0..times.unwrap_or(1) {

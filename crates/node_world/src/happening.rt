@@ -19,10 +19,9 @@ use crate::host_boots::{boot_host, cut_host};
 use crate::host_losses::lose_for;
 use crate::host_steps::{activate_host, reset_host};
 use arrayvec::ArrayVec;
-use node_sites::nodes::{WorldController, WorldHost, WorldNode};
 use node_sites::noted::Noted;
 use node_sites::places::HostSite;
-use node_sites::power::Power;
+use node_sites::power::ControllerPower;
 use std::alloc::Global;
 use swp_base::NoMemory;
 use trace_model::{End, LostCause, NoCause};
@@ -32,20 +31,20 @@ use trace_model::{End, LostCause, NoCause};
 /// # Errors
 ///
 /// No memory is left; what the world stands for then isn't said.
-pub(crate) fn reset_end<C: WorldNode + Drop, P: WorldNode + Drop>(
-    controller: &mut Power<C>,
-    sites: &mut [HostSite<P>],
+pub(crate) fn reset_end(
+    controller: &mut ControllerPower,
+    sites: &mut [HostSite],
     at: End,
     window: Option<u8>,
     noted: &mut Noted,
 ) -> Result<Option<NoCause>, NoMemory>
-    requires state { (w : NodeWorld) × WorldIs C.runs C.memory P.runs P.memory controller.old sites.old w × IsWithinBounds w × IsThere at.link w }
+    requires state { (w : NodeWorld) × WorldIs controller.old sites.old w × IsWithinBounds w × IsThere at.link w }
     requires window { IfSome window (λ w. (1 ≤ w) × (w ≤ 4)) }
     requires memory { noted.old.short ≡ false }
-    ensures refusal { (w : NodeWorld) → WorldIs C.runs C.memory P.runs P.memory controller.old sites.old w → IsWithinBounds w → IsThere at.link w
+    ensures refusal { (w : NodeWorld) → WorldIs controller.old sites.old w → IsWithinBounds w → IsThere at.link w
         → IfOk result (λ cause. cause ≡ refusal_in w (line.Reset at window)) }
-    ensures stands { (w : NodeWorld) → WorldIs C.runs C.memory P.runs P.memory controller.old sites.old w → IsWithinBounds w → IsThere at.link w
-        → IfOk result (λ cause. WorldBecomes C.runs C.memory P.runs P.memory controller.new sites.new noted.old.entries.items noted.new.entries.items
+    ensures stands { (w : NodeWorld) → WorldIs controller.old sites.old w → IsWithinBounds w → IsThere at.link w
+        → IfOk result (λ cause. WorldBecomes controller.new sites.new noted.old.entries.items noted.new.entries.items
         (if_accepted cause w (world_step w (Resets at window)))) }
     ensures memory { OnOk result (noted.new.short ≡ false) }
 {
@@ -64,18 +63,16 @@ pub(crate) fn reset_end<C: WorldNode + Drop, P: WorldNode + Drop>(
 /// # Errors
 ///
 /// No memory is left; what the world stands for then isn't said.
-pub(crate) fn lose_frame<C: WorldNode + Drop, P: WorldNode + Drop>(
-    controller: &mut Power<C>,
-    sites: &mut [HostSite<P>],
+pub(crate) fn lose_frame(
+    controller: &mut ControllerPower,
+    sites: &mut [HostSite],
     at: End,
     cause: LostCause,
     noted: &mut Noted,
 ) -> Result<(), NoMemory>
-    requires state { (w : NodeWorld) × WorldIs C.runs C.memory P.runs P.memory controller.old sites.old w × IsWithinBounds w × IsThere at.link w }
-    ensures stands { (w : NodeWorld) (why : Loss) → WorldIs C.runs C.memory P.runs P.memory controller.old sites.old w → IsWithinBounds w
-        → IsThere at.link w → cause ≡ lost_as why
-        → OnOk result (WorldBecomes C.runs C.memory P.runs P.memory controller.new sites.new noted.old.entries.items noted.new.entries.items
-        (world_step w (Loses at why))) }
+    requires state { (w : NodeWorld) × WorldIs controller.old sites.old w × IsWithinBounds w × IsThere at.link w }
+    ensures stands { (w : NodeWorld) (why : Loss) → WorldIs controller.old sites.old w → IsWithinBounds w → IsThere at.link w → cause ≡ lost_as why
+        → OnOk result (WorldBecomes controller.new sites.new noted.old.entries.items noted.new.entries.items (world_step w (Loses at why))) }
     ensures short { noted.new.short ≡ noted.old.short }
 {
     if !at.at_host {
@@ -93,19 +90,17 @@ pub(crate) fn lose_frame<C: WorldNode + Drop, P: WorldNode + Drop>(
 /// # Errors
 ///
 /// No memory is left; what the world stands for then isn't said.
-pub(crate) fn boot_node<C: WorldController + Drop, P: WorldHost + Drop>(
+pub(crate) fn boot_node(
     alloc: Global,
-    controller: &mut Power<C>,
-    sites: &mut [HostSite<P>],
+    controller: &mut ControllerPower,
+    sites: &mut [HostSite],
     node: u8,
     mask: u8,
     noted: &mut Noted,
 ) -> Result<(), NoMemory>
-    requires state { (w : NodeWorld) × WorldIs C.runs C.memory P.runs P.memory controller.old sites.old w × MayBootAt node w }
-    ensures stands { (w : NodeWorld) → WorldIs C.runs C.memory P.runs P.memory controller.old sites.old w → MayBootAt node w
-        → hosts_where (has mask) ≡ hosts_in w.sites
-        → OnOk result (WorldBecomes C.runs C.memory P.runs P.memory controller.new sites.new noted.old.entries.items noted.new.entries.items
-        (world_step w (Boots node))) }
+    requires state { (w : NodeWorld) × WorldIs controller.old sites.old w × MayBootAt node w }
+    ensures stands { (w : NodeWorld) → WorldIs controller.old sites.old w → MayBootAt node w → hosts_where (has mask) ≡ hosts_in w.sites
+        → OnOk result (WorldBecomes controller.new sites.new noted.old.entries.items noted.new.entries.items (world_step w (Boots node))) }
     ensures short { noted.new.short ≡ noted.old.short }
 {
     if node == 0 {
@@ -122,15 +117,14 @@ pub(crate) fn boot_node<C: WorldController + Drop, P: WorldHost + Drop>(
 /// # Errors
 ///
 /// No memory is left; what the world stands for then isn't said.
-pub(crate) fn cut_node<C: WorldNode + Drop, P: WorldNode + Drop>(
-    controller: &mut Power<C>,
-    sites: &mut [HostSite<P>],
+pub(crate) fn cut_node(
+    controller: &mut ControllerPower,
+    sites: &mut [HostSite],
     node: u8,
     noted: &mut Noted,
 ) -> Result<(), NoMemory>
-    ensures stands { (w : NodeWorld) → WorldIs C.runs C.memory P.runs P.memory controller.old sites.old w → MayStop node w
-        → OnOk result (WorldBecomes C.runs C.memory P.runs P.memory controller.new sites.new noted.old.entries.items noted.new.entries.items
-        (world_step w (IsCut node))) }
+    ensures stands { (w : NodeWorld) → WorldIs controller.old sites.old w → MayStop node w
+        → OnOk result (WorldBecomes controller.new sites.new noted.old.entries.items noted.new.entries.items (world_step w (IsCut node))) }
     ensures short { noted.new.short ≡ noted.old.short }
 {
     if node == 0 {
@@ -143,17 +137,17 @@ pub(crate) fn cut_node<C: WorldNode + Drop, P: WorldNode + Drop>(
 }
 
 /// One of the next writes to the memory of a node will fail, whether the node runs or not.
-pub(crate) fn arm_node<C: WorldNode + Drop, P: WorldNode + Drop>(
-    controller: &mut Power<C>,
-    sites: &mut [HostSite<P>],
+pub(crate) fn arm_node(
+    controller: &mut ControllerPower,
+    sites: &mut [HostSite],
     node: u8,
     nth: u32,
     fill: ArrayVec<u8, 64>,
 )
     requires nth { 0 < nth }
     requires fill { 0 < length fill.items }
-    ensures { (w : NodeWorld) → WorldIs C.runs C.memory P.runs P.memory controller.old sites.old w → IsWithinBounds w
-        → WorldIs C.runs C.memory P.runs P.memory controller.new sites.new (world_step w (Arms node (record { nth = nth; fill = fill.items }))).0 }
+    ensures { (w : NodeWorld) → WorldIs controller.old sites.old w → IsWithinBounds w
+        → WorldIs controller.new sites.new (world_step w (Arms node (record { nth = nth; fill = fill.items }))).0 }
 {
     if node == 0 {
         controller.arm(nth, fill);
@@ -171,21 +165,19 @@ pub(crate) fn arm_node<C: WorldNode + Drop, P: WorldNode + Drop>(
 /// # Errors
 ///
 /// No memory is left; what the world stands for then isn't said.
-pub(crate) fn activate_link<C: WorldController + Drop, P: WorldHost + Drop>(
-    controller: &mut Power<C>,
-    sites: &mut [HostSite<P>],
+pub(crate) fn activate_link(
+    controller: &mut ControllerPower,
+    sites: &mut [HostSite],
     host: u8,
     sync: u16,
     power: u8,
     noted: &mut Noted,
 ) -> Result<(), NoMemory>
-    requires state { (w : NodeWorld) × WorldIs C.runs C.memory P.runs P.memory controller.old sites.old w × MayGoOn w × FewBehind 250000000 w
-        × IsThere host w }
+    requires state { (w : NodeWorld) × WorldIs controller.old sites.old w × MayGoOn w × FewBehind 250000000 w × IsThere host w }
     requires power { power ≤ 1 }
     requires memory { noted.old.short ≡ false }
-    ensures stands { (w : NodeWorld) → WorldIs C.runs C.memory P.runs P.memory controller.old sites.old w → MayGoOn w → FewBehind 250000000 w
-        → IsThere host w → OnOk result (WorldBecomes C.runs C.memory P.runs P.memory controller.new sites.new noted.old.entries.items noted.new.entries.items
-        (world_step w (Activates host sync power))) }
+    ensures stands { (w : NodeWorld) → WorldIs controller.old sites.old w → MayGoOn w → FewBehind 250000000 w → IsThere host w
+        → OnOk result (WorldBecomes controller.new sites.new noted.old.entries.items noted.new.entries.items (world_step w (Activates host sync power))) }
     ensures memory { OnOk result (noted.new.short ≡ false) }
 {
     activate_controller(controller, sites, host, power, noted)?;

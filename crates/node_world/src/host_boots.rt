@@ -11,13 +11,14 @@ ghost use Rattle.node_sites.specs.Places.{SiteIs};
 ghost use Rattle.node_sites.specs.Memories.{IsSoundMemory};
 ghost use Rattle.node_sites.specs.Powers.{memory_kept};
 ghost use Rattle.node_sites.specs.WorldBoots.{EndsBoot};
+ghost use Rattle.node_sites.specs.WorldNodes.{RunsAsHost};
 ghost use Rattle.node_world.specs.HostSteps.{host_boots, IsHostOf, HasBecome};
 
 use core::mem::replace_with;
-use node_sites::nodes::{WorldHost, WorldNode};
 use node_sites::noted::Noted;
 use node_sites::places::{HostSite, lose_power};
-use node_sites::power::Power;
+use node_sites::power::{HostPower, Power};
+use node_sites::world_host;
 use std::alloc::Global;
 use swp_base::NoMemory;
 use trace_model::Entry;
@@ -34,17 +35,14 @@ pub(crate) fn note_last(noted: &mut Noted, entry: Entry) -> Result<(), NoMemory>
 }
 
 // A host behind a boot from the memory that it left. Where no memory is left for it, its power stays off.
-fn booted<P: WorldHost + Drop>(
-    power: Power<P>,
-    with: (Global, u8),
-) -> (Power<P>, Result<(), NoMemory>)
+fn booted(power: HostPower, with: (Global, u8)) -> (HostPower, Result<(), NoMemory>)
     requires some { 1 ≤ with.1 }
     requires host { with.1 ≤ 7 }
-    requires memory { IsSoundMemory (memory_kept P.memory power) }
-    ensures { OnOk result.1 (EndsBoot P.runs P.memory with.1 (with.1 ∷ []) UiccName (memory_kept P.memory power) result.0) }
+    requires memory { IsSoundMemory (memory_kept power) }
+    ensures { OnOk result.1 (EndsBoot RunsAsHost with.1 (with.1 ∷ []) UiccName (memory_kept power) result.0) }
 {
     let (alloc, host) = with;
-    P::boot(alloc, host, power.into_memory())
+    world_host::boot(alloc, host, power.into_memory())
 }
 
 /// A host that doesn't run boots from its memory.
@@ -52,22 +50,21 @@ fn booted<P: WorldHost + Drop>(
 /// # Errors
 ///
 /// No memory is left; what the host stands for then isn't said.
-pub(crate) fn boot_host<P: WorldHost + Drop>(
+pub(crate) fn boot_host(
     alloc: Global,
-    site: &mut HostSite<P>,
+    site: &mut HostSite,
     noted: &mut Noted,
 ) -> Result<(), NoMemory>
-    requires state { (s : Site) × SiteIs P.runs P.memory site.old s × IsHostOf s × (s.node ≡ None) × IsSoundMemory s.memory }
-    ensures stands { (s : Site) → SiteIs P.runs P.memory site.old s → IsHostOf s → s.node ≡ None
-        → s.link.host.side ≡ new_link_end (Uicc new_uicc)
-        → OnOk result (HasBecome P.runs P.memory site.new noted.old.entries.items noted.new.entries.items (host_boots s)) }
+    requires state { (s : Site) × SiteIs site.old s × IsHostOf s × (s.node ≡ None) × IsSoundMemory s.memory }
+    ensures stands { (s : Site) → SiteIs site.old s → IsHostOf s → s.node ≡ None → s.link.host.side ≡ new_link_end (Uicc new_uicc)
+        → OnOk result (HasBecome site.new noted.old.entries.items noted.new.entries.items (host_boots s)) }
     ensures short { noted.new.short ≡ noted.old.short }
 {
     let node = site.host;
     replace_with(&mut site.power, (alloc, node), booted)?;
     match &site.power {
         Power::On(running) => {
-            let count = running.count();
+            let count = running.store().kept();
             note_last(noted, Entry::Booted { node, count })
         }
         Power::Off(_) => {
@@ -82,13 +79,9 @@ pub(crate) fn boot_host<P: WorldHost + Drop>(
 /// # Errors
 ///
 /// No memory is left; what the host stands for then isn't said.
-pub(crate) fn cut_host<P: WorldNode + Drop>(
-    site: &mut HostSite<P>,
-    noted: &mut Noted,
-) -> Result<(), NoMemory>
-    ensures stands { (s : Site) (r : Running) → SiteIs P.runs P.memory site.old s → s.node ≡ Some r
-        → OnOk result (SiteIs P.runs P.memory site.new (host_cut s)
-        × (noted.new.entries.items ≡ noted.old.entries.items ++ note.Cut s.host ∷ [])) }
+pub(crate) fn cut_host(site: &mut HostSite, noted: &mut Noted) -> Result<(), NoMemory>
+    ensures stands { (s : Site) (r : Running) → SiteIs site.old s → s.node ≡ Some r
+        → OnOk result (SiteIs site.new (host_cut s) × (noted.new.entries.items ≡ noted.old.entries.items ++ note.Cut s.host ∷ [])) }
     ensures short { noted.new.short ≡ noted.old.short }
 {
     lose_power(site);

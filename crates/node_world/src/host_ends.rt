@@ -8,7 +8,6 @@ ghost use Rattle.node_machine.specs.Parts.{Work};
 ghost use Rattle.node_machine.specs.world.World.{Site, frames_noted};
 ghost use Rattle.node_world.specs.HostSteps.{host_behind, IsToSend, HasBecome};
 
-use node_sites::nodes::WorldNode;
 use node_sites::noted::Noted;
 use node_sites::places::{HostSite, finish_step};
 use swp_base::NoMemory;
@@ -18,18 +17,17 @@ use swp_base::NoMemory;
 /// # Errors
 ///
 /// No memory is left; what the host stands for then isn't said.
-pub(crate) fn finish_host<P: WorldNode + Drop>(
-    site: &mut HostSite<P>,
+pub(crate) fn finish_host(
+    site: &mut HostSite,
     live: bool,
     noted: &mut Noted,
 ) -> Result<(), NoMemory>
     requires state { (s : Site) × (step : List Turn → Ending → Link) × (l : Link) × (w : Work) × (before : List Told)
-        × IsToSend P.runs P.memory site.old live noted.old.entries.items noted.old.short before s step l w }
+        × IsToSend site.old live noted.old.entries.items noted.old.short before s step l w }
     requires room { site.old.wires.resets + 17 < 2 ^ 32 }
     ensures stands { (s : Site) (step : List Turn → Ending → Link) (l : Link) (w : Work) (before : List Told)
-        → IsToSend P.runs P.memory site.old live noted.old.entries.items noted.old.short before s step l w
-        → OnOk result (HasBecome P.runs P.memory site.new before noted.new.entries.items
-        (host_behind s step w, w.entries ++ frames_noted Host s.host l w)) }
+        → IsToSend site.old live noted.old.entries.items noted.old.short before s step l w
+        → OnOk result (HasBecome site.new before noted.new.entries.items (host_behind s step w, w.entries ++ frames_noted Host s.host l w)) }
     ensures memory { OnOk result (noted.new.short ≡ false) }
 {
     finish_step(site, live, noted)

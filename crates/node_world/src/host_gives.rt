@@ -10,10 +10,10 @@ ghost use Rattle.node_world.specs.HostSteps.{host_stepped, sending_refused, IsHo
 
 use crate::host_ends::finish_host;
 use node_core::HostRefused;
-use node_sites::nodes::WorldHost;
 use node_sites::noted::Noted;
 use node_sites::places::HostSite;
 use node_sites::power::Power;
+use node_sites::world_host;
 use swp_base::NoMemory;
 use trace_model::NoCause;
 
@@ -34,20 +34,19 @@ fn cause_of(why: HostRefused) -> NoCause
 /// # Errors
 ///
 /// No memory is left; what the host stands for then isn't said.
-pub(crate) fn send_at_host<P: WorldHost + Drop>(
-    site: &mut HostSite<P>,
+pub(crate) fn send_at_host(
+    site: &mut HostSite,
     pipe: u8,
     message: &[u8],
     noted: &mut Noted,
 ) -> Result<Option<NoCause>, NoMemory>
-    requires state { (s : Site) × SiteIs P.runs P.memory site.old s × IsHostOf s }
+    requires state { (s : Site) × SiteIs site.old s × IsHostOf s }
     requires sendable { IsSendable (pipe, message.now) }
     requires room { site.old.wires.resets + 17 < 2 ^ 32 }
     requires memory { noted.old.short ≡ false }
-    ensures refusal { (s : Site) → SiteIs P.runs P.memory site.old s → IsHostOf s
-        → IfOk result (λ cause. cause ≡ sending_refused s (pipe, message.now)) }
-    ensures stands { (s : Site) → SiteIs P.runs P.memory site.old s → IsHostOf s
-        → IfOk result (BecomesUnless P.runs P.memory site.new noted.old.entries.items noted.new.entries.items s
+    ensures refusal { (s : Site) → SiteIs site.old s → IsHostOf s → IfOk result (λ cause. cause ≡ sending_refused s (pipe, message.now)) }
+    ensures stands { (s : Site) → SiteIs site.old s → IsHostOf s
+        → IfOk result (BecomesUnless site.new noted.old.entries.items noted.new.entries.items s
         (host_stepped s NoInput (begins_with s.host (sending s.host (pipe, message.now))))) }
     ensures memory { OnOk result (noted.new.short ≡ false) }
 {
@@ -55,7 +54,7 @@ pub(crate) fn send_at_host<P: WorldHost + Drop>(
         return Ok(Some(NoCause::Off));
     };
     noted.sessions = [site.wires.host.session(); 8];
-    if let Err(why) = node.send(site.host, pipe, message, noted) {
+    if let Err(why) = world_host::send(node, pipe, message, noted) {
         return Ok(Some(cause_of(why)));
     }
     finish_host(site, true, noted)?;
@@ -68,20 +67,19 @@ pub(crate) fn send_at_host<P: WorldHost + Drop>(
 /// # Errors
 ///
 /// No memory is left; what the host stands for then isn't said.
-pub(crate) fn init_host<P: WorldHost + Drop>(
-    site: &mut HostSite<P>,
+pub(crate) fn init_host(
+    site: &mut HostSite,
     identity: &[u8; 8],
     pipes: &[[u8; 3]],
     noted: &mut Noted,
 ) -> Result<Option<NoCause>, NoMemory>
-    requires state { (s : Site) × SiteIs P.runs P.memory site.old s × IsHostOf s }
+    requires state { (s : Site) × SiteIs site.old s × IsHostOf s }
     requires few { length pipes.now ≤ 8 }
     requires room { site.old.wires.resets + 17 < 2 ^ 32 }
     requires memory { noted.old.short ≡ false }
-    ensures refusal { (s : Site) → SiteIs P.runs P.memory site.old s → IsHostOf s
-        → IfOk result (λ cause. cause ≡ sending_refused s (1, 3 ∷ [])) }
-    ensures stands { (s : Site) → SiteIs P.runs P.memory site.old s → IsHostOf s
-        → IfOk result (BecomesUnless P.runs P.memory site.new noted.old.entries.items noted.new.entries.items s
+    ensures refusal { (s : Site) → SiteIs site.old s → IsHostOf s → IfOk result (λ cause. cause ≡ sending_refused s (1, 3 ∷ [])) }
+    ensures stands { (s : Site) → SiteIs site.old s → IsHostOf s
+        → IfOk result (BecomesUnless site.new noted.old.entries.items noted.new.entries.items s
         (host_stepped s NoInput (begins_with s.host (beginning identity.now pipes.now)))) }
     ensures memory { OnOk result (noted.new.short ≡ false) }
 {
@@ -89,7 +87,7 @@ pub(crate) fn init_host<P: WorldHost + Drop>(
         return Ok(Some(NoCause::Off));
     };
     noted.sessions = [site.wires.host.session(); 8];
-    if let Err(why) = node.init(site.host, identity, pipes, noted) {
+    if let Err(why) = world_host::init(node, identity, pipes, noted) {
         return Ok(Some(cause_of(why)));
     }
     finish_host(site, true, noted)?;

@@ -9,7 +9,6 @@ ghost use Rattle.node_world.specs.Whole.{HostsPlayed, MayPlay};
 
 use crate::hosts_do::{host_inits, host_sends};
 use arrayvec::ArrayVec;
-use node_sites::nodes::WorldHost;
 use node_sites::noted::{Noted, refuse};
 use node_sites::places::HostSite;
 use swp_base::NoMemory;
@@ -20,18 +19,18 @@ use trace_model::{End, Octets};
 /// # Errors
 ///
 /// No memory is left; what the hosts stand for then isn't said.
-pub(crate) fn send_line<P: WorldHost + Drop>(
-    sites: &mut [HostSite<P>],
+pub(crate) fn send_line(
+    sites: &mut [HostSite],
     at: End,
     pid: u8,
     message: &Octets,
     noted: &mut Noted,
 ) -> Result<(), NoMemory>
-    requires state { (header : Header) × (w : NodeWorld) × SitesAre P.runs P.memory sites.old w.sites × MayPlay header (line.Send at pid message.now) w }
+    requires state { (header : Header) × (w : NodeWorld) × SitesAre sites.old w.sites × MayPlay header (line.Send at pid message.now) w }
     requires nothing { noted.old.entries.items ≡ [] }
     requires memory { noted.old.short ≡ false }
-    ensures stands { (header : Header) (w : NodeWorld) → SitesAre P.runs P.memory sites.old w.sites → MayPlay header (line.Send at pid message.now) w
-        → OnOk result (HostsPlayed P.runs P.memory sites.new noted.new.entries.items (line_step w (line.Send at pid message.now))) }
+    ensures stands { (header : Header) (w : NodeWorld) → SitesAre sites.old w.sites → MayPlay header (line.Send at pid message.now) w
+        → OnOk result (HostsPlayed sites.new noted.new.entries.items (line_step w (line.Send at pid message.now))) }
     ensures memory { OnOk result (noted.new.short ≡ false) }
 {
     let cause = host_sends(sites, at, pid, message, noted)?;
@@ -46,19 +45,18 @@ pub(crate) fn send_line<P: WorldHost + Drop>(
 /// # Errors
 ///
 /// No memory is left; what the hosts stand for then isn't said.
-pub(crate) fn init_line<P: WorldHost + Drop>(
-    sites: &mut [HostSite<P>],
+pub(crate) fn init_line(
+    sites: &mut [HostSite],
     at: End,
     identity: &[u8; 8],
     pipes: &ArrayVec<[u8; 3], 8>,
     noted: &mut Noted,
 ) -> Result<(), NoMemory>
-    requires state { (header : Header) × (w : NodeWorld) × SitesAre P.runs P.memory sites.old w.sites
-        × MayPlay header (line.Init at identity.now pipes.now) w }
+    requires state { (header : Header) × (w : NodeWorld) × SitesAre sites.old w.sites × MayPlay header (line.Init at identity.now pipes.now) w }
     requires nothing { noted.old.entries.items ≡ [] }
     requires memory { noted.old.short ≡ false }
-    ensures stands { (header : Header) (w : NodeWorld) → SitesAre P.runs P.memory sites.old w.sites → MayPlay header (line.Init at identity.now pipes.now) w
-        → OnOk result (HostsPlayed P.runs P.memory sites.new noted.new.entries.items (line_step w (line.Init at identity.now pipes.now))) }
+    ensures stands { (header : Header) (w : NodeWorld) → SitesAre sites.old w.sites → MayPlay header (line.Init at identity.now pipes.now) w
+        → OnOk result (HostsPlayed sites.new noted.new.entries.items (line_step w (line.Init at identity.now pipes.now))) }
     ensures memory { OnOk result (noted.new.short ≡ false) }
 {
     let cause = host_inits(sites, at, identity, pipes, noted)?;

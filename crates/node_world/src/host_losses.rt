@@ -9,7 +9,6 @@ ghost use Rattle.node_machine.specs.world.World.{Site};
 ghost use Rattle.node_sites.specs.Places.{SiteIs};
 ghost use Rattle.node_world.specs.HostSteps.{is_broken, site_loses, site_ages, IsHostOf, HasBecome};
 
-use node_sites::nodes::WorldNode;
 use node_sites::noted::Noted;
 use node_sites::places::HostSite;
 use node_sites::power::Power;
@@ -22,22 +21,22 @@ use trace_model::{End, LostCause};
 /// # Errors
 ///
 /// No memory is left; what the host stands for then isn't said.
-pub(crate) fn lose_for<P: WorldNode + Drop>(
-    site: &mut HostSite<P>,
+pub(crate) fn lose_for(
+    site: &mut HostSite,
     to: End,
     cause: LostCause,
     noted: &mut Noted,
 ) -> Result<(), NoMemory>
-    requires state { (s : Site) × SiteIs P.runs P.memory site.old s × IsHostOf s }
-    ensures stands { (s : Site) (why : Loss) → SiteIs P.runs P.memory site.old s → IsHostOf s → cause ≡ lost_as why
-        → OnOk result (SiteIs P.runs P.memory site.new (site_loses to why s)
+    requires state { (s : Site) × SiteIs site.old s × IsHostOf s }
+    ensures stands { (s : Site) (why : Loss) → SiteIs site.old s → IsHostOf s → cause ≡ lost_as why
+        → OnOk result (SiteIs site.new (site_loses to why s)
         × AreNoted to noted.old.entries.items noted.new.entries.items (first_lost (side_of to) why (frames_to s.link to))) }
     ensures short { noted.new.short ≡ noted.old.short }
 {
     site.wires.lose(to, cause, &mut noted.entries)?;
     if to.at_host && is_refusal(cause) {
         if let Power::On(node) = &mut site.power {
-            node.refused(site.host);
+            node.refused();
         }
     }
     Ok(())
@@ -58,12 +57,8 @@ pub(crate) fn is_refusal(cause: LostCause) -> bool
 /// # Errors
 ///
 /// No memory is left; what the host stands for then isn't said.
-pub(crate) fn age_host<P: WorldNode + Drop>(
-    site: &mut HostSite<P>,
-    noted: &mut Noted,
-) -> Result<(), NoMemory>
-    ensures stands { (s : Site) → SiteIs P.runs P.memory site.old s
-        → OnOk result (HasBecome P.runs P.memory site.new noted.old.entries.items noted.new.entries.items (site_ages s)) }
+pub(crate) fn age_host(site: &mut HostSite, noted: &mut Noted) -> Result<(), NoMemory>
+    ensures stands { (s : Site) → SiteIs site.old s → OnOk result (HasBecome site.new noted.old.entries.items noted.new.entries.items (site_ages s)) }
     ensures short { noted.new.short ≡ noted.old.short }
 {
     site.wires.grow_older(site.host, &mut noted.entries)?;

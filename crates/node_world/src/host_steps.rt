@@ -7,10 +7,10 @@ ghost use Rattle.node_world.specs.HostSteps.{host_hears, reset_noted, reset_refu
 
 use crate::host_ends::finish_host;
 use link_end::ResetRefused;
-use node_sites::nodes::{WorldHost, WorldNode};
 use node_sites::noted::Noted;
 use node_sites::places::HostSite;
 use node_sites::power::Power;
+use node_sites::world_host;
 use swp_base::NoMemory;
 use trace_model::{End, NoCause};
 
@@ -19,15 +19,12 @@ use trace_model::{End, NoCause};
 /// # Errors
 ///
 /// No memory is left; what the host stands for then isn't said.
-pub(crate) fn take_at_host<P: WorldNode + Drop>(
-    site: &mut HostSite<P>,
-    noted: &mut Noted,
-) -> Result<(), NoMemory>
-    requires state { (s : Site) × SiteIs P.runs P.memory site.old s × IsHostOf s × CountsComing s NextFrame }
+pub(crate) fn take_at_host(site: &mut HostSite, noted: &mut Noted) -> Result<(), NoMemory>
+    requires state { (s : Site) × SiteIs site.old s × IsHostOf s × CountsComing s NextFrame }
     requires room { site.old.wires.resets + 17 < 2 ^ 32 }
     requires memory { noted.old.short ≡ false }
-    ensures stands { (s : Site) → SiteIs P.runs P.memory site.old s → IsHostOf s → CountsComing s NextFrame
-        → OnOk result (HasBecome P.runs P.memory site.new noted.old.entries.items noted.new.entries.items (host_hears s NextFrame)) }
+    ensures stands { (s : Site) → SiteIs site.old s → IsHostOf s → CountsComing s NextFrame
+        → OnOk result (HasBecome site.new noted.old.entries.items noted.new.entries.items (host_hears s NextFrame)) }
     ensures memory { OnOk result (noted.new.short ≡ false) }
 {
     let at = End {
@@ -42,7 +39,7 @@ pub(crate) fn take_at_host<P: WorldNode + Drop>(
     };
     site.wires.host.take_first(at, &mut noted.entries)?;
     noted.sessions = [site.wires.host.session(); 8];
-    let live = node.take(site.host, &read, noted);
+    let live = world_host::take(node, &read, noted);
     finish_host(site, live, noted)
 }
 
@@ -51,22 +48,19 @@ pub(crate) fn take_at_host<P: WorldNode + Drop>(
 /// # Errors
 ///
 /// No memory is left; what the host stands for then isn't said.
-pub(crate) fn tick_host<P: WorldNode + Drop>(
-    site: &mut HostSite<P>,
-    noted: &mut Noted,
-) -> Result<(), NoMemory>
-    requires state { (s : Site) × SiteIs P.runs P.memory site.old s × IsHostOf s × MayTick s }
+pub(crate) fn tick_host(site: &mut HostSite, noted: &mut Noted) -> Result<(), NoMemory>
+    requires state { (s : Site) × SiteIs site.old s × IsHostOf s × MayTick s }
     requires room { site.old.wires.resets + 17 < 2 ^ 32 }
     requires memory { noted.old.short ≡ false }
-    ensures stands { (s : Site) → SiteIs P.runs P.memory site.old s → IsHostOf s → MayTick s
-        → OnOk result (HasBecome P.runs P.memory site.new noted.old.entries.items noted.new.entries.items (host_ticks s)) }
+    ensures stands { (s : Site) → SiteIs site.old s → IsHostOf s → MayTick s
+        → OnOk result (HasBecome site.new noted.old.entries.items noted.new.entries.items (host_ticks s)) }
     ensures memory { OnOk result (noted.new.short ≡ false) }
 {
     let Power::On(node) = &mut site.power else {
         return Ok(());
     };
     noted.sessions = [site.wires.host.session(); 8];
-    let live = node.tick(noted);
+    let live = world_host::tick(node, noted);
     finish_host(site, live, noted)
 }
 
@@ -85,28 +79,27 @@ pub(crate) fn reset_cause(why: ResetRefused) -> NoCause
 /// # Errors
 ///
 /// No memory is left; what the host stands for then isn't said.
-pub(crate) fn reset_host<P: WorldNode + Drop>(
-    site: &mut HostSite<P>,
+pub(crate) fn reset_host(
+    site: &mut HostSite,
     window: Option<u8>,
     noted: &mut Noted,
 ) -> Result<Option<NoCause>, NoMemory>
-    requires state { (s : Site) × SiteIs P.runs P.memory site.old s × IsHostOf s × CountsComing s (AsksReset window) }
+    requires state { (s : Site) × SiteIs site.old s × IsHostOf s × CountsComing s (AsksReset window) }
     requires window { IfSome window (λ w. (1 ≤ w) × (w ≤ 4)) }
     requires room { site.old.wires.resets + 17 < 2 ^ 32 }
     requires memory { noted.old.short ≡ false }
-    ensures refusal { (s : Site) → SiteIs P.runs P.memory site.old s → IsHostOf s → CountsComing s (AsksReset window)
-        → IfOk result (λ cause. cause ≡ reset_refused_at s) }
-    ensures stands { (s : Site) → SiteIs P.runs P.memory site.old s → IsHostOf s → CountsComing s (AsksReset window)
-        → IfOk result (BecomesUnless P.runs P.memory site.new noted.old.entries.items noted.new.entries.items s (host_hears s (AsksReset window))) }
+    ensures refusal { (s : Site) → SiteIs site.old s → IsHostOf s → CountsComing s (AsksReset window) → IfOk result (λ cause. cause ≡ reset_refused_at s) }
+    ensures stands { (s : Site) → SiteIs site.old s → IsHostOf s → CountsComing s (AsksReset window)
+        → IfOk result (BecomesUnless site.new noted.old.entries.items noted.new.entries.items s (host_hears s (AsksReset window))) }
     ensures memory { OnOk result (noted.new.short ≡ false) }
 {
     let Power::On(node) = &mut site.power else {
         return Ok(Some(NoCause::Off));
     };
     noted.sessions = [site.wires.host.session(); 8];
-    match node.reset(site.host, window, noted) {
-        Ok(live) => {
-            finish_host(site, live, noted)?;
+    match world_host::reset(node, window, noted) {
+        Ok(()) => {
+            finish_host(site, true, noted)?;
             Ok(None)
         }
         Err(why) => Ok(Some(reset_cause(why))),
@@ -118,16 +111,16 @@ pub(crate) fn reset_host<P: WorldNode + Drop>(
 /// # Errors
 ///
 /// No memory is left; what the host stands for then isn't said.
-pub(crate) fn activate_host<P: WorldHost + Drop>(
-    site: &mut HostSite<P>,
+pub(crate) fn activate_host(
+    site: &mut HostSite,
     sync: u16,
     noted: &mut Noted,
 ) -> Result<(), NoMemory>
-    requires state { (s : Site) × SiteIs P.runs P.memory site.old s × IsHostOf s × CountsComing s (Starts sync) }
+    requires state { (s : Site) × SiteIs site.old s × IsHostOf s × CountsComing s (Starts sync) }
     requires room { site.old.wires.resets + 17 < 2 ^ 32 }
     requires memory { noted.old.short ≡ false }
-    ensures stands { (s : Site) → SiteIs P.runs P.memory site.old s → IsHostOf s → CountsComing s (Starts sync)
-        → OnOk result (HasBecome P.runs P.memory site.new noted.old.entries.items noted.new.entries.items (host_hears s (Starts sync))) }
+    ensures stands { (s : Site) → SiteIs site.old s → IsHostOf s → CountsComing s (Starts sync)
+        → OnOk result (HasBecome site.new noted.old.entries.items noted.new.entries.items (host_hears s (Starts sync))) }
     ensures memory { OnOk result (noted.new.short ≡ false) }
 {
     let Power::On(node) = &mut site.power else {
@@ -135,6 +128,6 @@ pub(crate) fn activate_host<P: WorldHost + Drop>(
     };
     site.wires.empty();
     noted.sessions = [site.wires.host.session(); 8];
-    let live = node.activate(site.host, sync, noted);
-    finish_host(site, live, noted)
+    world_host::activate(node, sync, noted);
+    finish_host(site, true, noted)
 }

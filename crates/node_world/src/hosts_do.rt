@@ -11,7 +11,6 @@ ghost use Rattle.node_world.specs.Whole.{IsWithinBounds, SitesBecome, if_accepte
 use crate::controller_sites::place_of;
 use crate::host_gives::{init_host, send_at_host};
 use arrayvec::ArrayVec;
-use node_sites::nodes::WorldHost;
 use node_sites::noted::Noted;
 use node_sites::places::HostSite;
 use swp_base::NoMemory;
@@ -22,21 +21,21 @@ use trace_model::{End, NoCause, Octets};
 /// # Errors
 ///
 /// No memory is left; what the hosts stand for then isn't said.
-pub(crate) fn host_sends<P: WorldHost + Drop>(
-    sites: &mut [HostSite<P>],
+pub(crate) fn host_sends(
+    sites: &mut [HostSite],
     at: End,
     pid: u8,
     message: &Octets,
     noted: &mut Noted,
 ) -> Result<Option<NoCause>, NoMemory>
-    requires state { (w : NodeWorld) × SitesAre P.runs P.memory sites.old w.sites × IsWithinBounds w × IsThere at.link w }
+    requires state { (w : NodeWorld) × SitesAre sites.old w.sites × IsWithinBounds w × IsThere at.link w }
     requires host { at.at_host ≡ true }
     requires sendable { IsSendable (pid, message.now) }
     requires memory { noted.old.short ≡ false }
-    ensures refusal { (w : NodeWorld) → SitesAre P.runs P.memory sites.old w.sites → IsWithinBounds w → IsThere at.link w
+    ensures refusal { (w : NodeWorld) → SitesAre sites.old w.sites → IsWithinBounds w → IsThere at.link w
         → IfOk result (λ cause. cause ≡ refusal_in w (line.Send at pid message.now)) }
-    ensures stands { (w : NodeWorld) → SitesAre P.runs P.memory sites.old w.sites → IsWithinBounds w → IsThere at.link w
-        → IfOk result (λ cause. SitesBecome P.runs P.memory sites.new noted.old.entries.items noted.new.entries.items
+    ensures stands { (w : NodeWorld) → SitesAre sites.old w.sites → IsWithinBounds w → IsThere at.link w
+        → IfOk result (λ cause. SitesBecome sites.new noted.old.entries.items noted.new.entries.items
         (if_accepted cause w (world_step w (Gives at (pid, message.now))))) }
     ensures memory { OnOk result (noted.new.short ≡ false) }
 {
@@ -52,20 +51,20 @@ pub(crate) fn host_sends<P: WorldHost + Drop>(
 /// # Errors
 ///
 /// No memory is left; what the hosts stand for then isn't said.
-pub(crate) fn host_inits<P: WorldHost + Drop>(
-    sites: &mut [HostSite<P>],
+pub(crate) fn host_inits(
+    sites: &mut [HostSite],
     at: End,
     identity: &[u8; 8],
     pipes: &ArrayVec<[u8; 3], 8>,
     noted: &mut Noted,
 ) -> Result<Option<NoCause>, NoMemory>
-    requires state { (w : NodeWorld) × SitesAre P.runs P.memory sites.old w.sites × IsWithinBounds w × IsThere at.link w }
+    requires state { (w : NodeWorld) × SitesAre sites.old w.sites × IsWithinBounds w × IsThere at.link w }
     requires host { at.at_host ≡ true }
     requires memory { noted.old.short ≡ false }
-    ensures refusal { (w : NodeWorld) → SitesAre P.runs P.memory sites.old w.sites → IsWithinBounds w → IsThere at.link w
+    ensures refusal { (w : NodeWorld) → SitesAre sites.old w.sites → IsWithinBounds w → IsThere at.link w
         → IfOk result (λ cause. cause ≡ refusal_in w (line.Init at identity.now pipes.now)) }
-    ensures stands { (w : NodeWorld) → SitesAre P.runs P.memory sites.old w.sites → IsWithinBounds w → IsThere at.link w
-        → IfOk result (λ cause. SitesBecome P.runs P.memory sites.new noted.old.entries.items noted.new.entries.items
+    ensures stands { (w : NodeWorld) → SitesAre sites.old w.sites → IsWithinBounds w → IsThere at.link w
+        → IfOk result (λ cause. SitesBecome sites.new noted.old.entries.items noted.new.entries.items
         (if_accepted cause w (world_step w (Inits at identity.now pipes.now.items)))) }
     ensures memory { OnOk result (noted.new.short ≡ false) }
 {

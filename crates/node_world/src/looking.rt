@@ -8,9 +8,8 @@ ghost use Rattle.node_world.specs.Controllers.{SitesAre, WorldIs, MayGoOn};
 
 use crate::controller_sites::place_of;
 use link_wires::Damaged;
-use node_sites::nodes::WorldNode;
 use node_sites::places::HostSite;
-use node_sites::power::Power;
+use node_sites::power::ControllerPower;
 use trace_model::{End, NoCause};
 
 /// The number of the node of an end.
@@ -21,12 +20,8 @@ pub(crate) fn node_of(at: End) -> u8
 }
 
 /// Whether the node with this number runs.
-pub(crate) fn runs<C: WorldNode + Drop, P: WorldNode + Drop>(
-    controller: &Power<C>,
-    sites: &[HostSite<P>],
-    node: u8,
-) -> bool
-    ensures { (w : NodeWorld) → WorldIs C.runs C.memory P.runs P.memory controller.now sites.now w → MayGoOn w → result ≡ is_running w node }
+pub(crate) fn runs(controller: &ControllerPower, sites: &[HostSite], node: u8) -> bool
+    ensures { (w : NodeWorld) → WorldIs controller.now sites.now w → MayGoOn w → result ≡ is_running w node }
 {
     if node == 0 {
         return controller.is_on();
@@ -38,8 +33,8 @@ pub(crate) fn runs<C: WorldNode + Drop, P: WorldNode + Drop>(
 }
 
 /// How many frames stand on the wire to an end.
-pub(crate) fn on_the_way<P: WorldNode + Drop>(sites: &[HostSite<P>], to: End) -> usize
-    ensures { (w : NodeWorld) → SitesAre P.runs P.memory sites.now w.sites → MayGoOn w → result ≡ length (frames_at w to) }
+pub(crate) fn on_the_way(sites: &[HostSite], to: End) -> usize
+    ensures { (w : NodeWorld) → SitesAre sites.now w.sites → MayGoOn w → result ≡ length (frames_at w to) }
 {
     match place_of(sites, to.link) {
         Some(place) => sites[place].wires.standing(to),
@@ -48,12 +43,8 @@ pub(crate) fn on_the_way<P: WorldNode + Drop>(sites: &[HostSite<P>], to: End) ->
 }
 
 /// Why a line is refused that takes or loses the first frame on the way to an end: its node doesn't run, or there is no such frame.
-pub(crate) fn no_frame<C: WorldNode + Drop, P: WorldNode + Drop>(
-    controller: &Power<C>,
-    sites: &[HostSite<P>],
-    to: End,
-) -> Option<NoCause>
-    ensures { (w : NodeWorld) → WorldIs C.runs C.memory P.runs P.memory controller.now sites.now w → MayGoOn w → result ≡ refusal_in w (line.Lose to) }
+pub(crate) fn no_frame(controller: &ControllerPower, sites: &[HostSite], to: End) -> Option<NoCause>
+    ensures { (w : NodeWorld) → WorldIs controller.now sites.now w → MayGoOn w → result ≡ refusal_in w (line.Lose to) }
 {
     if !runs(controller, sites, node_of(to)) {
         return Some(NoCause::Off);
@@ -65,12 +56,8 @@ pub(crate) fn no_frame<C: WorldNode + Drop, P: WorldNode + Drop>(
 }
 
 /// What a line that damages the first frame on the way to an end at these places finds there.
-pub(crate) fn damaged_at<P: WorldNode + Drop>(
-    sites: &[HostSite<P>],
-    to: End,
-    places: &[u16],
-) -> Damaged
-    ensures { (w : NodeWorld) → SitesAre P.runs P.memory sites.now w.sites → MayGoOn w → Finds (frames_at w to) places.now result }
+pub(crate) fn damaged_at(sites: &[HostSite], to: End, places: &[u16]) -> Damaged
+    ensures { (w : NodeWorld) → SitesAre sites.now w.sites → MayGoOn w → Finds (frames_at w to) places.now result }
 {
     match place_of(sites, to.link) {
         Some(place) => sites[place].wires.damaged(to, places),

@@ -4,17 +4,14 @@ ghost use Rattle.std.specs.List.{list_any};
 ghost use Rattle.gate_admin.specs.View.{hosts_where, mask_of};
 ghost use Rattle.node_machine.specs.world.World.{new_site};
 ghost use Rattle.node_sites.specs.Places.{SiteIs};
-ghost use Rattle.node_sites.specs.WorldNodes.{RunsAsHost};
 ghost use Rattle.node_world.specs.Controllers.{SitesAre};
-ghost use Rattle.node_world.specs.Worlds.{node_memory};
 
-use node_core::Host;
 use node_sites::memory::NodeMemory;
 use node_sites::places::HostSite;
 use node_sites::power::Power;
 use node_sites::wires::Wires;
 use std::alloc::Global;
-use swp_base::{MemNv, NoMemory};
+use swp_base::NoMemory;
 
 fn bit_of(host: u8) -> u8
     requires { host < 8 }
@@ -37,8 +34,8 @@ pub(crate) fn mask_of(hosts: &[u8]) -> u8
 }
 
 // A host that doesn't run yet. Its memory is blank.
-fn make_site(alloc: Global, host: u8) -> Result<HostSite<Host<MemNv>>, NoMemory>
-    ensures { IfOk result (λ k. SiteIs RunsAsHost node_memory k (new_site (replicate 65536 255) host)) }
+fn make_site(alloc: Global, host: u8) -> Result<HostSite, NoMemory>
+    ensures { IfOk result (λ k. SiteIs k (new_site (replicate 65536 255) host)) }
 {
     Ok(HostSite {
         host,
@@ -52,11 +49,8 @@ fn make_site(alloc: Global, host: u8) -> Result<HostSite<Host<MemNv>>, NoMemory>
 /// # Errors
 ///
 /// No memory is left.
-pub(crate) fn make_sites(
-    alloc: Global,
-    hosts: &[u8],
-) -> Result<Vec<HostSite<Host<MemNv>>>, NoMemory>
-    ensures { IfOk result (λ ks. SitesAre RunsAsHost node_memory ks.items (map (new_site (replicate 65536 255)) hosts.now)) }
+pub(crate) fn make_sites(alloc: Global, hosts: &[u8]) -> Result<Vec<HostSite>, NoMemory>
+    ensures { IfOk result (λ ks. SitesAre ks.items (map (new_site (replicate 65536 255)) hosts.now)) }
 {
     let mut sites = Vec::new(alloc);
     for host in hosts {

@@ -2,7 +2,9 @@
 ghost use Rattle.std.specs.Prelude.{◌≡◌, ℕ, [], false, Option, option_map, IfOk, OnOk};
 ghost use Rattle.swp_base.specs.InMemory.{Memory};
 ghost use Rattle.link_laws.specs.messages.Links.{NumberedEnd};
+ghost use Rattle.node_core.specs.Running.{RunsAs};
 ghost use Rattle.node_sites.specs.Powers.{IsNodePlace};
+ghost use Rattle.node_sites.specs.WorldNodes.{RunsAsHost};
 ghost use Rattle.trace_model.specs.declared.line.Header.{Header};
 ghost use Rattle.trace_model.specs.declared.line.Line.TheVariants as line;
 ghost use Rattle.gate_admin.specs.View.{has, hosts_where};
@@ -17,10 +19,9 @@ use crate::happening::{activate_link, arm_node, boot_node, cut_node, reset_end};
 use crate::looking::runs;
 use arrayvec::ArrayVec;
 use hci_tables::Tables;
-use node_sites::nodes::{WorldController, WorldHost, WorldNode};
 use node_sites::noted::{Noted, refuse};
 use node_sites::places::HostSite;
-use node_sites::power::Power;
+use node_sites::power::{ControllerPower, HostPower, Power};
 use std::alloc::Global;
 use swp_base::NoMemory;
 use trace_model::{End, Entry, NoCause, NodeTables};
@@ -31,21 +32,20 @@ use trace_model::{End, Entry, NoCause, NodeTables};
 /// # Errors
 ///
 /// No memory is left; what the world stands for then isn't said.
-pub(crate) fn boot_line<C: WorldController + Drop, P: WorldHost + Drop>(
+pub(crate) fn boot_line(
     alloc: Global,
-    controller: &mut Power<C>,
-    sites: &mut [HostSite<P>],
+    controller: &mut ControllerPower,
+    sites: &mut [HostSite],
     node: u8,
     mask: u8,
     noted: &mut Noted,
 ) -> Result<(), NoMemory>
-    requires state { (header : Header) × (w : NodeWorld) × WorldIs C.runs C.memory P.runs P.memory controller.old sites.old w
-        × MayPlay header (line.Boot node) w }
+    requires state { (header : Header) × (w : NodeWorld) × WorldIs controller.old sites.old w × MayPlay header (line.Boot node) w }
     requires nothing { noted.old.entries.items ≡ [] }
     requires memory { noted.old.short ≡ false }
-    ensures stands { (header : Header) (w : NodeWorld) → WorldIs C.runs C.memory P.runs P.memory controller.old sites.old w
-        → MayPlay header (line.Boot node) w → hosts_where (has mask) ≡ header.hosts.items
-        → OnOk result (LinePlayed C.runs C.memory P.runs P.memory controller.new sites.new noted.new.entries.items (line_step w (line.Boot node))) }
+    ensures stands { (header : Header) (w : NodeWorld) → WorldIs controller.old sites.old w → MayPlay header (line.Boot node) w
+        → hosts_where (has mask) ≡ header.hosts.items
+        → OnOk result (LinePlayed controller.new sites.new noted.new.entries.items (line_step w (line.Boot node))) }
     ensures memory { OnOk result (noted.new.short ≡ false) }
 {
     if runs(controller, sites, node) {
@@ -59,17 +59,16 @@ pub(crate) fn boot_line<C: WorldController + Drop, P: WorldHost + Drop>(
 /// # Errors
 ///
 /// No memory is left; what the world stands for then isn't said.
-pub(crate) fn cut_line<C: WorldNode + Drop, P: WorldNode + Drop>(
-    controller: &mut Power<C>,
-    sites: &mut [HostSite<P>],
+pub(crate) fn cut_line(
+    controller: &mut ControllerPower,
+    sites: &mut [HostSite],
     node: u8,
     noted: &mut Noted,
 ) -> Result<(), NoMemory>
     requires nothing { noted.old.entries.items ≡ [] }
     requires memory { noted.old.short ≡ false }
-    ensures stands { (header : Header) (w : NodeWorld) → WorldIs C.runs C.memory P.runs P.memory controller.old sites.old w
-        → MayPlay header (line.Cut node) w
-        → OnOk result (LinePlayed C.runs C.memory P.runs P.memory controller.new sites.new noted.new.entries.items (line_step w (line.Cut node))) }
+    ensures stands { (header : Header) (w : NodeWorld) → WorldIs controller.old sites.old w → MayPlay header (line.Cut node) w
+        → OnOk result (LinePlayed controller.new sites.new noted.new.entries.items (line_step w (line.Cut node))) }
     ensures memory { OnOk result (noted.new.short ≡ false) }
 {
     if !runs(controller, sites, node) {
@@ -83,22 +82,19 @@ pub(crate) fn cut_line<C: WorldNode + Drop, P: WorldNode + Drop>(
 /// # Errors
 ///
 /// No memory is left; what the world stands for then isn't said.
-pub(crate) fn activate_line<C: WorldController + Drop, P: WorldHost + Drop>(
-    controller: &mut Power<C>,
-    sites: &mut [HostSite<P>],
+pub(crate) fn activate_line(
+    controller: &mut ControllerPower,
+    sites: &mut [HostSite],
     host: u8,
     sync: u16,
     power: u8,
     noted: &mut Noted,
 ) -> Result<(), NoMemory>
-    requires state { (header : Header) × (w : NodeWorld) × WorldIs C.runs C.memory P.runs P.memory controller.old sites.old w
-        × MayPlay header (line.Activate host sync power) w }
+    requires state { (header : Header) × (w : NodeWorld) × WorldIs controller.old sites.old w × MayPlay header (line.Activate host sync power) w }
     requires nothing { noted.old.entries.items ≡ [] }
     requires memory { noted.old.short ≡ false }
-    ensures stands { (header : Header) (w : NodeWorld) → WorldIs C.runs C.memory P.runs P.memory controller.old sites.old w
-        → MayPlay header (line.Activate host sync power) w
-        → OnOk result (LinePlayed C.runs C.memory P.runs P.memory controller.new sites.new noted.new.entries.items
-        (line_step w (line.Activate host sync power))) }
+    ensures stands { (header : Header) (w : NodeWorld) → WorldIs controller.old sites.old w → MayPlay header (line.Activate host sync power) w
+        → OnOk result (LinePlayed controller.new sites.new noted.new.entries.items (line_step w (line.Activate host sync power))) }
     ensures memory { OnOk result (noted.new.short ≡ false) }
 {
     if !runs(controller, sites, 0) {
@@ -115,21 +111,18 @@ pub(crate) fn activate_line<C: WorldController + Drop, P: WorldHost + Drop>(
 /// # Errors
 ///
 /// No memory is left; what the world stands for then isn't said.
-pub(crate) fn arm_line<C: WorldNode + Drop, P: WorldNode + Drop>(
-    controller: &mut Power<C>,
-    sites: &mut [HostSite<P>],
+pub(crate) fn arm_line(
+    controller: &mut ControllerPower,
+    sites: &mut [HostSite],
     node: u8,
     nth: u32,
     fill: &ArrayVec<u8, 64>,
     noted: &Noted,
 ) -> Result<(), NoMemory>
-    requires state { (header : Header) × (w : NodeWorld) × WorldIs C.runs C.memory P.runs P.memory controller.old sites.old w
-        × MayPlay header (line.Arm node nth fill.now) w }
+    requires state { (header : Header) × (w : NodeWorld) × WorldIs controller.old sites.old w × MayPlay header (line.Arm node nth fill.now) w }
     requires nothing { noted.now.entries.items ≡ [] }
-    ensures stands { (header : Header) (w : NodeWorld) → WorldIs C.runs C.memory P.runs P.memory controller.old sites.old w
-        → MayPlay header (line.Arm node nth fill.now) w
-        → OnOk result (LinePlayed C.runs C.memory P.runs P.memory controller.new sites.new noted.now.entries.items
-        (line_step w (line.Arm node nth fill.now))) }
+    ensures stands { (header : Header) (w : NodeWorld) → WorldIs controller.old sites.old w → MayPlay header (line.Arm node nth fill.now) w
+        → OnOk result (LinePlayed controller.new sites.new noted.now.entries.items (line_step w (line.Arm node nth fill.now))) }
 {
     arm_node(controller, sites, node, nth, fill.clone()?);
     Ok(())
@@ -140,21 +133,18 @@ pub(crate) fn arm_line<C: WorldNode + Drop, P: WorldNode + Drop>(
 /// # Errors
 ///
 /// No memory is left; what the world stands for then isn't said.
-pub(crate) fn reset_line<C: WorldNode + Drop, P: WorldNode + Drop>(
-    controller: &mut Power<C>,
-    sites: &mut [HostSite<P>],
+pub(crate) fn reset_line(
+    controller: &mut ControllerPower,
+    sites: &mut [HostSite],
     at: End,
     window: Option<u8>,
     noted: &mut Noted,
 ) -> Result<(), NoMemory>
-    requires state { (header : Header) × (w : NodeWorld) × WorldIs C.runs C.memory P.runs P.memory controller.old sites.old w
-        × MayPlay header (line.Reset at window) w }
+    requires state { (header : Header) × (w : NodeWorld) × WorldIs controller.old sites.old w × MayPlay header (line.Reset at window) w }
     requires nothing { noted.old.entries.items ≡ [] }
     requires memory { noted.old.short ≡ false }
-    ensures stands { (header : Header) (w : NodeWorld) → WorldIs C.runs C.memory P.runs P.memory controller.old sites.old w
-        → MayPlay header (line.Reset at window) w
-        → OnOk result (LinePlayed C.runs C.memory P.runs P.memory controller.new sites.new noted.new.entries.items
-        (line_step w (line.Reset at window))) }
+    ensures stands { (header : Header) (w : NodeWorld) → WorldIs controller.old sites.old w → MayPlay header (line.Reset at window) w
+        → OnOk result (LinePlayed controller.new sites.new noted.new.entries.items (line_step w (line.Reset at window))) }
     ensures memory { OnOk result (noted.new.short ≡ false) }
 {
     let cause = reset_end(controller, sites, at, window, noted)?;
@@ -164,33 +154,44 @@ pub(crate) fn reset_line<C: WorldNode + Drop, P: WorldNode + Drop>(
     }
 }
 
-// A copy of the tables of a node that runs. `None` where it doesn't.
-fn tables_at<P: WorldNode + Drop>(power: &Power<P>) -> Result<Option<Tables>, NoMemory>
-    ensures { (m : Memory) (node : Option Running) (near : ℕ → NumberedEnd) → IsNodePlace P.runs P.memory power.now m node near
+// A copy of the tables of a host that runs. `None` where it doesn't.
+fn tables_of_host(power: &HostPower) -> Result<Option<Tables>, NoMemory>
+    ensures { (m : Memory) (node : Option Running) (near : ℕ → NumberedEnd) → IsNodePlace RunsAsHost power.now m node near
         → IfOk result (λ tables. tables ≡ option_map (λ (r : Running). r.core.tables) node) }
 {
     match power {
-        Power::On(node) => Ok(Some(node.tables().clone()?)),
+        Power::On(node) => Ok(Some(node.store().tables().clone()?)),
+        Power::Off(_) => Ok(None),
+    }
+}
+
+// So of the controller.
+fn tables_of_controller(power: &ControllerPower) -> Result<Option<Tables>, NoMemory>
+    ensures { (m : Memory) (node : Option Running) (near : ℕ → NumberedEnd) → IsNodePlace RunsAs power.now m node near
+        → IfOk result (λ tables. tables ≡ option_map (λ (r : Running). r.core.tables) node) }
+{
+    match power {
+        Power::On(node) => Ok(Some(node.store().tables().clone()?)),
         Power::Off(_) => Ok(None),
     }
 }
 
 // A copy of the tables of the node with this number, where that runs. `None` where it doesn't.
-fn copied_tables<C: WorldNode + Drop, P: WorldNode + Drop>(
-    controller: &Power<C>,
-    sites: &[HostSite<P>],
+fn copied_tables(
+    controller: &ControllerPower,
+    sites: &[HostSite],
     node: u8,
 ) -> Result<Option<Tables>, NoMemory>
-    ensures { (w : NodeWorld) → WorldIs C.runs C.memory P.runs P.memory controller.now sites.now w → MayGoOn w
+    ensures { (w : NodeWorld) → WorldIs controller.now sites.now w → MayGoOn w
         → IfOk result (λ tables. tables ≡ option_map (λ (r : Running). r.core.tables) (node_at w node)) }
 {
     if node == 0 {
-        return tables_at(controller);
+        return tables_of_controller(controller);
     }
     let Some(place) = place_of(sites, node) else {
         return Ok(None);
     };
-    tables_at(&sites[place].power)
+    tables_of_host(&sites[place].power)
 }
 
 /// A line `tables`: the tables of the node are told, or the line is refused where it doesn't run.
@@ -198,17 +199,17 @@ fn copied_tables<C: WorldNode + Drop, P: WorldNode + Drop>(
 /// # Errors
 ///
 /// No memory is left; what the world stands for then isn't said.
-pub(crate) fn tables_line<C: WorldNode + Drop, P: WorldNode + Drop>(
+pub(crate) fn tables_line(
     alloc: Global,
-    controller: &Power<C>,
-    sites: &[HostSite<P>],
+    controller: &ControllerPower,
+    sites: &[HostSite],
     node: u8,
     noted: &mut Noted,
 ) -> Result<(), NoMemory>
     requires nothing { noted.old.entries.items ≡ [] }
     requires memory { noted.old.short ≡ false }
-    ensures stands { (w : NodeWorld) → WorldIs C.runs C.memory P.runs P.memory controller.now sites.now w → MayGoOn w
-        → OnOk result (LinePlayed C.runs C.memory P.runs P.memory controller.now sites.now noted.new.entries.items (line_step w (line.Tables node))) }
+    ensures stands { (w : NodeWorld) → WorldIs controller.now sites.now w → MayGoOn w
+        → OnOk result (LinePlayed controller.now sites.now noted.new.entries.items (line_step w (line.Tables node))) }
     ensures memory { OnOk result (noted.new.short ≡ false) }
 {
     let Some(tables) = copied_tables(controller, sites, node)? else {

@@ -11,31 +11,28 @@ use crate::frame_lines::{damage_line, deliver_line, lose_line, tick_line};
 use crate::host_lines::{init_line, send_line};
 use crate::node_lines::{activate_line, arm_line, boot_line, cut_line, reset_line, tables_line};
 use link_wires::Misread;
-use node_sites::nodes::{WorldController, WorldHost};
 use node_sites::noted::Noted;
 use node_sites::places::HostSite;
-use node_sites::power::Power;
+use node_sites::power::ControllerPower;
 use std::alloc::Global;
 use swp_base::NoMemory;
 use trace_model::Line;
 
 // Plays a line that damages no frame, where the mask holds the hosts of the world.
-fn play_sound<C: WorldController + Drop, P: WorldHost + Drop>(
+fn play_sound(
     alloc: Global,
-    controller: &mut Power<C>,
-    sites: &mut [HostSite<P>],
+    controller: &mut ControllerPower,
+    sites: &mut [HostSite],
     mask: u8,
     line: &Line,
     noted: &mut Noted,
 ) -> Result<(), NoMemory>
-    requires state { (header : Header) × (w : NodeWorld) × WorldIs C.runs C.memory P.runs P.memory controller.old sites.old w
-        × MayPlay header line.now w }
+    requires state { (header : Header) × (w : NodeWorld) × WorldIs controller.old sites.old w × MayPlay header line.now w }
     requires sound { is_damaging line.now ≡ false }
     requires nothing { noted.old.entries.items ≡ [] }
     requires memory { noted.old.short ≡ false }
-    ensures stands { (header : Header) (w : NodeWorld) → WorldIs C.runs C.memory P.runs P.memory controller.old sites.old w
-        → MayPlay header line.now w → hosts_where (has mask) ≡ header.hosts.items
-        → OnOk result (LinePlayed C.runs C.memory P.runs P.memory controller.new sites.new noted.new.entries.items (line_step w line.now)) }
+    ensures stands { (header : Header) (w : NodeWorld) → WorldIs controller.old sites.old w → MayPlay header line.now w
+        → hosts_where (has mask) ≡ header.hosts.items → OnOk result (LinePlayed controller.new sites.new noted.new.entries.items (line_step w line.now)) }
     ensures memory { OnOk result (noted.new.short ≡ false) }
 {
     match line {
@@ -70,26 +67,22 @@ fn play_sound<C: WorldController + Drop, P: WorldHost + Drop>(
 ///
 /// No memory is left; what the world stands for then isn't said.
 #[inline(never)]
-pub(crate) fn play_line<C: WorldController + Drop, P: WorldHost + Drop>(
+pub(crate) fn play_line(
     alloc: Global,
-    controller: &mut Power<C>,
-    sites: &mut [HostSite<P>],
+    controller: &mut ControllerPower,
+    sites: &mut [HostSite],
     mask: u8,
     line: &Line,
     noted: &mut Noted,
 ) -> Result<Option<Misread>, NoMemory>
-    requires state { (header : Header) × (w : NodeWorld) × WorldIs C.runs C.memory P.runs P.memory controller.old sites.old w
-        × MayPlay header line.now w }
+    requires state { (header : Header) × (w : NodeWorld) × WorldIs controller.old sites.old w × MayPlay header line.now w }
     requires nothing { noted.old.entries.items ≡ [] }
     requires memory { noted.old.short ≡ false }
-    ensures stands { (header : Header) (w : NodeWorld) → WorldIs C.runs C.memory P.runs P.memory controller.old sites.old w
-        → MayPlay header line.now w → hosts_where (has mask) ≡ header.hosts.items
-        → IfOk result (λ other. other ≡ None
-        → LinePlayed C.runs C.memory P.runs P.memory controller.new sites.new noted.new.entries.items (line_step w line.now)) }
-    ensures misread { (w : NodeWorld) → WorldIs C.runs C.memory P.runs P.memory controller.old sites.old w → MayGoOn w
-        → IfOk result (IsMisreadIn w line.now) }
-    ensures told { (w : NodeWorld) → WorldIs C.runs C.memory P.runs P.memory controller.old sites.old w → MayGoOn w
-        → OnErr result (misread_in w line.now ≡ None) }
+    ensures stands { (header : Header) (w : NodeWorld) → WorldIs controller.old sites.old w → MayPlay header line.now w
+        → hosts_where (has mask) ≡ header.hosts.items → IfOk result (λ other. other ≡ None
+        → LinePlayed controller.new sites.new noted.new.entries.items (line_step w line.now)) }
+    ensures misread { (w : NodeWorld) → WorldIs controller.old sites.old w → MayGoOn w → IfOk result (IsMisreadIn w line.now) }
+    ensures told { (w : NodeWorld) → WorldIs controller.old sites.old w → MayGoOn w → OnErr result (misread_in w line.now ≡ None) }
     ensures memory { OnOk result (noted.new.short ≡ false) }
 {
     if let Line::Damage { at, places } = line {

@@ -7,15 +7,14 @@ ghost use Rattle.node_world.specs.Controllers.{AreTimely, MayGoOn, WorldIs};
 ghost use Rattle.node_sites.specs.Places.{SiteIs};
 ghost use Rattle.node_world.specs.Rounds.{IsToLookAt, far_rests, near_rests};
 
-use node_sites::nodes::WorldNode;
 use node_sites::places::HostSite;
-use node_sites::power::Power;
+use node_sites::power::{ControllerPower, Power};
 use trace_model::End;
 
 // Whether both wires of a host's link are empty, and its end of it is at rest.
-fn host_rests<P: WorldNode + Drop>(site: &HostSite<P>) -> bool
-    requires state { (s : Site) × SiteIs P.runs P.memory site.now s }
-    ensures { (s : Site) → SiteIs P.runs P.memory site.now s → IsToLookAt s → result ≡ far_rests s }
+fn host_rests(site: &HostSite) -> bool
+    requires state { (s : Site) × SiteIs site.now s }
+    ensures { (s : Site) → SiteIs site.now s → IsToLookAt s → result ≡ far_rests s }
 {
     let near = End {
         link: site.host,
@@ -38,13 +37,9 @@ fn host_rests<P: WorldNode + Drop>(site: &HostSite<P>) -> bool
 }
 
 // Whether all ends of the controller are at rest.
-fn controller_rests<C: WorldNode + Drop, P: WorldNode + Drop>(
-    controller: &Power<C>,
-    sites: &[HostSite<P>],
-) -> bool
-    requires state { (w : NodeWorld) × WorldIs C.runs C.memory P.runs P.memory controller.now sites.now w }
-    ensures { (w : NodeWorld) → WorldIs C.runs C.memory P.runs P.memory controller.now sites.now w → MayGoOn w → AreTimely w
-        → result ≡ list_all near_rests w.sites }
+fn controller_rests(controller: &ControllerPower, sites: &[HostSite]) -> bool
+    requires state { (w : NodeWorld) × WorldIs controller.now sites.now w }
+    ensures { (w : NodeWorld) → WorldIs controller.now sites.now w → MayGoOn w → AreTimely w → result ≡ list_all near_rests w.sites }
 {
     match controller {
         Power::On(node) => node.is_at_rest(),
@@ -53,13 +48,9 @@ fn controller_rests<C: WorldNode + Drop, P: WorldNode + Drop>(
 }
 
 /// Whether all links are at rest: their wires are empty, no end waits, and all that was sent is acknowledged.
-pub(crate) fn all_rest<C: WorldNode + Drop, P: WorldNode + Drop>(
-    controller: &Power<C>,
-    sites: &[HostSite<P>],
-) -> bool
-    requires state { (w : NodeWorld) × WorldIs C.runs C.memory P.runs P.memory controller.now sites.now w × MayGoOn w × AreTimely w }
-    ensures { (w : NodeWorld) → WorldIs C.runs C.memory P.runs P.memory controller.now sites.now w → MayGoOn w → AreTimely w
-        → result ≡ world_rests w }
+pub(crate) fn all_rest(controller: &ControllerPower, sites: &[HostSite]) -> bool
+    requires state { (w : NodeWorld) × WorldIs controller.now sites.now w × MayGoOn w × AreTimely w }
+    ensures { (w : NodeWorld) → WorldIs controller.now sites.now w → MayGoOn w → AreTimely w → result ≡ world_rests w }
 {
     if !controller_rests(controller, sites) {
         return false;

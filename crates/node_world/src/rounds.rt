@@ -8,25 +8,23 @@ ghost use Rattle.node_world.specs.Whole.{IsWithinBounds};
 
 use crate::looking::{node_of, on_the_way, runs};
 use crate::world_ticks::{take_frame, tick_world};
-use node_sites::nodes::WorldNode;
 use node_sites::noted::Noted;
 use node_sites::places::HostSite;
-use node_sites::power::Power;
+use node_sites::power::ControllerPower;
 use swp_base::NoMemory;
 use trace_model::End;
 
 // An end takes all that stands on its wire now, until its node loses its power. Where that doesn't run, nothing happens.
-fn take_all<C: WorldNode + Drop, P: WorldNode + Drop>(
-    controller: &mut Power<C>,
-    sites: &mut [HostSite<P>],
+fn take_all(
+    controller: &mut ControllerPower,
+    sites: &mut [HostSite],
     at: End,
     noted: &mut Noted,
 ) -> Result<(), NoMemory>
-    requires state { (w : NodeWorld) × WorldIs C.runs C.memory P.runs P.memory controller.old sites.old w × MayTakeAll at w }
+    requires state { (w : NodeWorld) × WorldIs controller.old sites.old w × MayTakeAll at w }
     requires memory { noted.old.short ≡ false }
-    ensures stands { (w : NodeWorld) → WorldIs C.runs C.memory P.runs P.memory controller.old sites.old w → MayTakeAll at w
-        → OnOk result (WorldHasGone C.runs C.memory P.runs P.memory controller.new sites.new noted.old.entries.items noted.new.entries.items
-        (end_takes_all w at)) }
+    ensures stands { (w : NodeWorld) → WorldIs controller.old sites.old w → MayTakeAll at w
+        → OnOk result (WorldHasGone controller.new sites.new noted.old.entries.items noted.new.entries.items (end_takes_all w at)) }
     ensures memory { OnOk result (noted.new.short ≡ false) }
 {
     let times = on_the_way(sites, at);
@@ -40,17 +38,16 @@ fn take_all<C: WorldNode + Drop, P: WorldNode + Drop>(
 }
 
 // All ends do, the controller's end of a link before the host's, and the links ascending.
-fn take_in_order<C: WorldNode + Drop, P: WorldNode + Drop>(
-    controller: &mut Power<C>,
-    sites: &mut [HostSite<P>],
+fn take_in_order(
+    controller: &mut ControllerPower,
+    sites: &mut [HostSite],
     noted: &mut Noted,
 ) -> Result<(), NoMemory>
-    requires state { (w : NodeWorld) × WorldIs C.runs C.memory P.runs P.memory controller.old sites.old w × MayTakeInOrder w }
+    requires state { (w : NodeWorld) × WorldIs controller.old sites.old w × MayTakeInOrder w }
     requires memory { noted.old.short ≡ false }
-    ensures stands { (w : NodeWorld) → WorldIs C.runs C.memory P.runs P.memory controller.old sites.old w → MayTakeInOrder w
-        → OnOk result (WorldHasGone C.runs C.memory P.runs P.memory controller.new sites.new noted.old.entries.items noted.new.entries.items
-        (ends_take_all w (ends_in_order w))) }
-    ensures within { (w : NodeWorld) → WorldIs C.runs C.memory P.runs P.memory controller.old sites.old w → MayTakeInOrder w
+    ensures stands { (w : NodeWorld) → WorldIs controller.old sites.old w → MayTakeInOrder w
+        → OnOk result (WorldHasGone controller.new sites.new noted.old.entries.items noted.new.entries.items (ends_take_all w (ends_in_order w))) }
+    ensures within { (w : NodeWorld) → WorldIs controller.old sites.old w → MayTakeInOrder w
         → OnOk result (IsWithinBounds (ends_take_all w (ends_in_order w)).0) }
     ensures memory { OnOk result (noted.new.short ≡ false) }
 {
@@ -75,16 +72,15 @@ fn take_in_order<C: WorldNode + Drop, P: WorldNode + Drop>(
 /// # Errors
 ///
 /// No memory is left; what the world stands for then isn't said.
-pub(crate) fn go_round<C: WorldNode + Drop, P: WorldNode + Drop>(
-    controller: &mut Power<C>,
-    sites: &mut [HostSite<P>],
+pub(crate) fn go_round(
+    controller: &mut ControllerPower,
+    sites: &mut [HostSite],
     noted: &mut Noted,
 ) -> Result<(), NoMemory>
-    requires state { (w : NodeWorld) × WorldIs C.runs C.memory P.runs P.memory controller.old sites.old w × MayGoRound w }
+    requires state { (w : NodeWorld) × WorldIs controller.old sites.old w × MayGoRound w }
     requires memory { noted.old.short ≡ false }
-    ensures stands { (w : NodeWorld) → WorldIs C.runs C.memory P.runs P.memory controller.old sites.old w → MayGoRound w
-        → OnOk result (WorldHasGone C.runs C.memory P.runs P.memory controller.new sites.new noted.old.entries.items noted.new.entries.items
-        (world_round w)) }
+    ensures stands { (w : NodeWorld) → WorldIs controller.old sites.old w → MayGoRound w
+        → OnOk result (WorldHasGone controller.new sites.new noted.old.entries.items noted.new.entries.items (world_round w)) }
     ensures memory { OnOk result (noted.new.short ≡ false) }
 {
     take_in_order(controller, sites, noted)?;

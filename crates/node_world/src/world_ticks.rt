@@ -8,10 +8,9 @@ ghost use Rattle.node_world.specs.Whole.{IsWithinBounds, SitesTick, AreToTick};
 use crate::controller_sites::place_of;
 use crate::controller_steps::{begin_tick, take_at_controller};
 use crate::host_steps::{take_at_host, tick_host};
-use node_sites::nodes::WorldNode;
 use node_sites::noted::Noted;
 use node_sites::places::HostSite;
-use node_sites::power::Power;
+use node_sites::power::ControllerPower;
 use swp_base::NoMemory;
 use trace_model::End;
 
@@ -20,17 +19,16 @@ use trace_model::End;
 /// # Errors
 ///
 /// No memory is left; what the world stands for then isn't said.
-pub(crate) fn take_frame<C: WorldNode + Drop, P: WorldNode + Drop>(
-    controller: &mut Power<C>,
-    sites: &mut [HostSite<P>],
+pub(crate) fn take_frame(
+    controller: &mut ControllerPower,
+    sites: &mut [HostSite],
     at: End,
     noted: &mut Noted,
 ) -> Result<(), NoMemory>
-    requires state { (w : NodeWorld) × WorldIs C.runs C.memory P.runs P.memory controller.old sites.old w × IsWithinBounds w × IsThere at.link w }
+    requires state { (w : NodeWorld) × WorldIs controller.old sites.old w × IsWithinBounds w × IsThere at.link w }
     requires memory { noted.old.short ≡ false }
-    ensures stands { (w : NodeWorld) → WorldIs C.runs C.memory P.runs P.memory controller.old sites.old w → IsWithinBounds w → IsThere at.link w
-        → OnOk result (WorldBecomes C.runs C.memory P.runs P.memory controller.new sites.new noted.old.entries.items noted.new.entries.items
-        (comes_at w at NextFrame)) }
+    ensures stands { (w : NodeWorld) → WorldIs controller.old sites.old w → IsWithinBounds w → IsThere at.link w
+        → OnOk result (WorldBecomes controller.new sites.new noted.old.entries.items noted.new.entries.items (comes_at w at NextFrame)) }
     ensures memory { OnOk result (noted.new.short ≡ false) }
 {
     if !at.at_host {
@@ -43,14 +41,11 @@ pub(crate) fn take_frame<C: WorldNode + Drop, P: WorldNode + Drop>(
 }
 
 // All hosts have their ticks, one after another.
-fn tick_hosts<P: WorldNode + Drop>(
-    sites: &mut [HostSite<P>],
-    noted: &mut Noted,
-) -> Result<(), NoMemory>
-    requires state { (w : NodeWorld) × SitesAre P.runs P.memory sites.old w.sites × AreToTick w.sites }
+fn tick_hosts(sites: &mut [HostSite], noted: &mut Noted) -> Result<(), NoMemory>
+    requires state { (w : NodeWorld) × SitesAre sites.old w.sites × AreToTick w.sites }
     requires memory { noted.old.short ≡ false }
-    ensures stands { (w : NodeWorld) → SitesAre P.runs P.memory sites.old w.sites → AreToTick w.sites
-        → OnOk result (SitesTick P.runs P.memory sites.new noted.old.entries.items noted.new.entries.items (hosts_tick w.sites)) }
+    ensures stands { (w : NodeWorld) → SitesAre sites.old w.sites → AreToTick w.sites
+        → OnOk result (SitesTick sites.new noted.old.entries.items noted.new.entries.items (hosts_tick w.sites)) }
     ensures memory { OnOk result (noted.new.short ≡ false) }
 {
     for i in 0..sites.len() {
@@ -64,16 +59,15 @@ fn tick_hosts<P: WorldNode + Drop>(
 /// # Errors
 ///
 /// No memory is left; what the world stands for then isn't said.
-pub(crate) fn tick_world<C: WorldNode + Drop, P: WorldNode + Drop>(
-    controller: &mut Power<C>,
-    sites: &mut [HostSite<P>],
+pub(crate) fn tick_world(
+    controller: &mut ControllerPower,
+    sites: &mut [HostSite],
     noted: &mut Noted,
 ) -> Result<(), NoMemory>
-    requires state { (w : NodeWorld) × WorldIs C.runs C.memory P.runs P.memory controller.old sites.old w × IsWithinBounds w × AreTimely w }
+    requires state { (w : NodeWorld) × WorldIs controller.old sites.old w × IsWithinBounds w × AreTimely w }
     requires memory { noted.old.short ≡ false }
-    ensures stands { (w : NodeWorld) → WorldIs C.runs C.memory P.runs P.memory controller.old sites.old w → IsWithinBounds w → AreTimely w
-        → OnOk result (WorldBecomes C.runs C.memory P.runs P.memory controller.new sites.new noted.old.entries.items noted.new.entries.items
-        (world_ticks w)) }
+    ensures stands { (w : NodeWorld) → WorldIs controller.old sites.old w → IsWithinBounds w → AreTimely w
+        → OnOk result (WorldBecomes controller.new sites.new noted.old.entries.items noted.new.entries.items (world_ticks w)) }
     ensures memory { OnOk result (noted.new.short ≡ false) }
 {
     begin_tick(controller, sites, noted)?;

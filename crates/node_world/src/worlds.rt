@@ -18,11 +18,10 @@ use crate::playing::play_line;
 use crate::resting::all_rest;
 use crate::rounds::go_round;
 use link_wires::Misread;
-use node_core::{Controller, Host};
 use node_sites::memory::NodeMemory;
 use node_sites::noted::Noted;
 use node_sites::places::HostSite;
-use node_sites::power::Power;
+use node_sites::power::{ControllerPower, Power};
 use std::alloc::Global;
 use swp_base::{MemNv, NoMemory};
 use trace_model::{End, Entry, Header, Line};
@@ -31,9 +30,9 @@ use trace_model::{End, Entry, Header, Line};
 /// the last line or round caused (this project's own).
 #[derive(Drop)]
 pub struct NodeWorld {
-    controller: Power<Controller<MemNv>>,
+    controller: ControllerPower,
     // Ascending.
-    sites: Vec<HostSite<Host<MemNv>>>,
+    sites: Vec<HostSite>,
     // The hosts: bit h stands for host h.
     mask: u8,
     // How many lines were stepped, and how many rounds were gone through.

@@ -13,8 +13,8 @@ use Rattle.node_sites.proofs.sending.send_each.Goals as goal
 pub loop-init : goal.loop-init
 loop-init g c = record {
   goes = λ core ports p m is w.
-      let whole = at_found (λ (q : Port). GoesOutWhole q.side) c.args.at.link p ports (g.met.P.WorldNode.whole c.args.node.now core ports is.runs) is.here in
-      let Runs : List Port → Type 0 = g.P.WorldNode.runs c.args.node.now core in
+      let whole = at_found (λ (q : Port). GoesOutWhole q.side) c.args.at.link p ports (g.met.P.SendsFrames.whole c.args.node.now core ports is.runs) is.here in
+      let Runs : List Port → Type 0 = g.P.SendsFrames.runs c.args.node.now core in
       let P : ℕ → Type 0 = λ n. Sending Runs c.args.wires.now c.args.at ports p m c.args.entries.now.items c.args.entries.now.items n in
       let all : most_fetches p.side ≡ most_fetches p.side - 0 = omega arith in
       subst P all (sending_starts is.runs is.only whole w);
@@ -29,15 +29,7 @@ next_out-requires g c =
     let ports : List Port = r.1 in
     let p : Port = r.2 in
     let s = c.loop.invariant.goes core ports p r.3 r.4 r.5 in
-    record {
-      has = record {
-        core = core;
-        ports = with_port c.args.at.link (with_side s.e) ports;
-        runs = s.runs;
-        port = with_side s.e p;
-        here = found_with c.args.at.link s.e p ports r.4.here;
-      };
-    }
+    record { runs = (core, with_port c.args.at.link (with_side s.e) ports, s.runs) }
 
 pub returns-in_default-clause-stands : goal.returns-in_default-clause-stands
 returns-in_default-clause-stands g c core ports p l is w =
@@ -47,8 +39,8 @@ returns-in_default-clause-stands g c core ports p l is w =
     let now : List Port = with_port h (with_side s.e) ports in
     let found = found_with h s.e p ports is.here in
     let none : None ≡ option_map lpdu_of (next_frame s.e) = sym c.in_default.is ∙ n.ensures.answer core now (with_side s.e p) s.runs found in
-    let whole = at_found (λ (q : Port). GoesOutWhole q.side) h (with_side s.e p) now (g.met.P.WorldNode.whole c.loop.node core now s.runs) found in
-    sending_stops (g.P.WorldNode.runs n.new.self core) c.args.entries.now.items s is.only whole (none_fetched (next_frame s.e) none)
+    let whole = at_found (λ (q : Port). GoesOutWhole q.side) h (with_side s.e p) now (g.met.P.SendsFrames.whole c.loop.node core now s.runs) found in
+    sending_stops (g.P.SendsFrames.runs n.new.self core) c.args.entries.now.items s is.only whole (none_fetched (next_frame s.e) none)
     (n.ensures.runs core now (with_side s.e p) s.runs found)
 
 pub loop-preserved : goal.loop-preserved
@@ -62,7 +54,7 @@ loop-preserved g c =
           let found = found_with h s.e p ports is.here in
           let one = fetched_is s.e c.in-Some.lpdu (sym c.in-Some.is ∙ n.ensures.answer core now (with_side s.e p) s.runs found) in
           let read = read_of (next_frame s.e) one.frame one.next (n.ensures.read core now (with_side s.e p) s.runs found) in
-          let whole = at_found (λ (q : Port). GoesOutWhole q.side) h p ports (g.met.P.WorldNode.whole c.args.node.now core ports is.runs) is.here in
+          let whole = at_found (λ (q : Port). GoesOutWhole q.side) h p ports (g.met.P.SendsFrames.whole c.args.node.now core ports is.runs) is.here in
           sending_next c.args.entries.now.items (most_fetches p.side) c.loop.counter (most_fetches p.side - c.loop.counter) one.frame refl s whole one.next
           (n.ensures.runs core now (with_side s.e p) s.runs found)
           (c.in_ok-put.ensures.stands s.link one.frame s.wires one.bytes (ap control_of one.bytes ∙ read));
@@ -74,7 +66,7 @@ pub returns-clause-stands : goal.returns-clause-stands
 returns-clause-stands g c core ports p l is w =
     let h : ℕ = c.args.at.link in
     let s = c.loop.invariant.goes core ports p l is w in
-    let whole = at_found (λ (q : Port). GoesOutWhole q.side) h p ports (g.met.P.WorldNode.whole c.args.node.now core ports is.runs) is.here in
+    let whole = at_found (λ (q : Port). GoesOutWhole q.side) h p ports (g.met.P.SendsFrames.whole c.args.node.now core ports is.runs) is.here in
     let few = whole.few in
     let over : most_fetches p.side - c.loop.counter ≡ 0 = omega (arith, few, c.loop-test.false) in
     sending_over c.args.entries.now.items (most_fetches p.side - c.loop.counter) s is.only over

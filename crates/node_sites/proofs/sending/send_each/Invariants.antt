@@ -11,11 +11,11 @@ use Rattle.node_sites.proofs.sending.send_each.Given as goal
 -- so many frames are left at most
 abbrev pub invariant-loop : goal.invariant-loop
 invariant-loop g l =
-    let Runs = g.P.WorldNode.runs in
+    let Runs = g.P.SendsFrames.runs in
     record {
       goes : (core : Core) (ports : List Port) (p : Port) (m : Link) → SendsFrom (Runs l.initial.node core ports) l.at p ports
           → WiresStandFor l.initial.wires (seen_from l.at m)
           → Sending (Runs l.node core) l.wires l.at ports p m l.initial.entries.items l.entries.items (most_fetches p.side - l.counter);
-      memory : g.P.WorldNode.memory l.node ≡ g.P.WorldNode.memory l.initial.node;
+      memory : g.P.SendsFrames.memory l.node ≡ g.P.SendsFrames.memory l.initial.node;
       grows : l.wires.resets ≤ l.initial.wires.resets + l.counter;
     }

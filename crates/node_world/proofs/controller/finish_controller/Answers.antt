@@ -1,30 +1,25 @@
 use Rattle.std.proofs.Common.{◌≡◌, ◌++◌, ap, sym, subst, ◌∙◌, refl}
-use Rattle.swp_base.specs.InMemory.{Memory}
-use Rattle.node_sites.specs.declared.power.Power.{Power}
 use Rattle.node_sites.specs.declared.power.Power.TheVariants.{On, Off}
-use Rattle.node_sites.specs.Powers.{memory_kept}
+use Rattle.node_sites.specs.Powers.{memory_kept, node_memory}
 use Rattle.std.specs.List.{flat_map}
 use Rattle.node_world.specs.Controllers.{frames_emitted}
+use Rattle.node_core.specs.Running.{RunsAs}
 use Rattle.node_world.proofs.controller.finish_controller.Goals as goal
 
-abbrev memory_off : {C : Type 0} → (C → Memory) → Power C → Power C
-memory_off memory_of k = Off (memory_kept memory_of k)
-
 pub returns-then-not-live-clause-cut : goal.returns-then-not-live-clause-cut
-returns-then-not-live-clause-cut g c n v hosts before e noted off = record {
-  off = c.lose_controller.ensures.off ∙ ap (memory_off g.C.WorldNode.memory) e.on;
+returns-then-not-live-clause-cut c n v hosts before e noted off = record {
+  off = c.lose_controller.ensures.off ∙ ap (λ k. Off (memory_kept k)) e.on;
   sites = c.lose_controller.ensures.wires hosts e.sends.sites;
   noted = noted c.if-noted.false;
 }
 
 pub returns-in_ok-send_to_all-clause-goes_on : goal.returns-in_ok-send_to_all-clause-goes_on
-returns-in_ok-send_to_all-clause-goes_on g c n v hosts before e noted live =
-    let Runs = g.C.WorldNode.runs in
+returns-in_ok-send_to_all-clause-goes_on c n v hosts before e noted live =
     let on : On c.in-On.node ≡ On n = sym c.in-On.is ∙ e.on in
     let is : c.in-On.node ≡ n = cc in
     let r = c.in_ok-send_to_all.ensures.stands v.core v.ports hosts
     (record {
-      runs = subst (λ x. Runs x v.core v.ports) (sym is) (e.sends.runs live);
+      runs = subst (λ x. RunsAs x v.core v.ports) (sym is) (e.sends.runs live);
       sites = e.sends.sites;
       different = e.sends.different;
       ends = e.sends.ends;
@@ -33,7 +28,7 @@ returns-in_ok-send_to_all-clause-goes_on g c n v hosts before e noted live =
       node = c.send_to_all.new.node;
       on = refl;
       runs = r.0;
-      memory = c.send_to_all.ensures.memory ∙ ap g.C.WorldNode.memory is;
+      memory = c.send_to_all.ensures.memory ∙ ap node_memory is;
       sites = r.1;
       noted = r.2 ∙ ap (λ es. es ++ flat_map (frames_emitted v.ports) hosts) (noted c.if-noted.false);
     }

@@ -13,19 +13,19 @@ abbrev told : Site → List Entry
 told s = (site_ages s).1
 
 pub loop-i-init : goal.loop-i-init
-loop-i-init g c = record {
-  goes = λ hosts a. (walk_begins _ g.P.WorldNode.runs g.P.WorldNode.memory older told c.args.sites.now hosts c.args.noted.now.entries.items a).walked;
+loop-i-init c = record {
+  goes = λ hosts a. (walk_begins older told c.args.sites.now hosts c.args.noted.now.entries.items a).walked;
   short = refl;
 }
 
 pub loop-i-preserved : goal.loop-i-preserved
-loop-i-preserved g c =
+loop-i-preserved c =
     let now = c.loop-i.sites in
     let i : ℕ = c.loop-i.i in
     let lt : i < length now = omega (arith, c.loop-i-test.true, c.loop-i.auto.sites) in
     record {
       goes = λ hosts a.
-          let n = walk_next _ g.P.WorldNode.runs g.P.WorldNode.memory older told now hosts c.args.noted.now.entries.items c.loop-i.noted.entries.items i
+          let n = walk_next older told now hosts c.args.noted.now.entries.items c.loop-i.noted.entries.items i
           (slice_index_or now i c.index-sites-i.result) (c.loop-i.invariant.goes hosts a) lt (ap (slice_index_or now i) c.index-sites-i.is) in
           let r = c.in_ok-age_host.ensures.stands n.site n.here in
           (n.goes c.age_host.new.site c.age_host.new.noted.entries.items r.site r.noted).walked;
@@ -33,9 +33,8 @@ loop-i-preserved g c =
     }
 
 pub returns-clause-stands : goal.returns-clause-stands
-returns-clause-stands g c w a =
+returns-clause-stands c w a =
     let now = c.loop-i.sites in
     let over : length now ≤ c.loop-i.i = omega (arith, c.loop-i-test.false, c.loop-i.auto.sites) in
-    let e = walk_ends _ g.P.WorldNode.runs g.P.WorldNode.memory older told now w.sites c.args.noted.now.entries.items c.loop-i.noted.entries.items c.loop-i.i
-    (c.loop-i.invariant.goes w.sites a) over in
+    let e = walk_ends older told now w.sites c.args.noted.now.entries.items c.loop-i.noted.entries.items c.loop-i.i (c.loop-i.invariant.goes w.sites a) over in
     (e.0, e.1)

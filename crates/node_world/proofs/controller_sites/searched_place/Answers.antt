@@ -5,21 +5,19 @@ use Rattle.node_world.proofs.PlacesFound.{none_passed, place_found, passes_by, n
 use Rattle.node_world.proofs.controller_sites.searched_place.Goals as goal
 
 pub loop-i-init : goal.loop-i-init
-loop-i-init g c hosts a = none_passed c.args.host hosts
+loop-i-init c hosts a = none_passed c.args.host hosts
 
 pub returns-then-sites-i-clause-place : goal.returns-then-sites-i-clause-place
-returns-then-sites-i-clause-place g c hosts a =
-    place_found _ g.P.WorldNode.runs g.P.WorldNode.memory c.loop-i.i c.args.host c.args.sites.now hosts
-    (slice_index_or c.args.sites.now c.loop-i.i c.index-sites-i.result) a
+returns-then-sites-i-clause-place c hosts a =
+    place_found c.loop-i.i c.args.host c.args.sites.now hosts (slice_index_or c.args.sites.now c.loop-i.i c.index-sites-i.result) a
     (c.loop-i.invariant hosts a) c.loop-i-test.true (ap (slice_index_or c.args.sites.now c.loop-i.i) c.index-sites-i.is) c.if-sites-i.true
 
 pub loop-i-preserved : goal.loop-i-preserved
-loop-i-preserved g c hosts a =
-    passes_by _ g.P.WorldNode.runs g.P.WorldNode.memory c.loop-i.i c.args.host c.args.sites.now hosts
-    (slice_index_or c.args.sites.now c.loop-i.i c.index-sites-i.result) a
+loop-i-preserved c hosts a =
+    passes_by c.loop-i.i c.args.host c.args.sites.now hosts (slice_index_or c.args.sites.now c.loop-i.i c.index-sites-i.result) a
     (c.loop-i.invariant hosts a) c.loop-i-test.true (ap (slice_index_or c.args.sites.now c.loop-i.i) c.index-sites-i.is)
     (ne_eqb (slice_index_or c.args.sites.now c.loop-i.i c.index-sites-i.result).host c.args.host c.if-sites-i.false)
 
 pub returns-clause-place : goal.returns-clause-place
-returns-clause-place g c hosts a =
-    none_there _ g.P.WorldNode.runs g.P.WorldNode.memory c.loop-i.i c.args.host c.args.sites.now hosts a (c.loop-i.invariant hosts a) c.loop-i-test.false
+returns-clause-place c hosts a =
+    none_there c.loop-i.i c.args.host c.args.sites.now hosts a (c.loop-i.invariant hosts a) c.loop-i-test.false

@@ -6,5 +6,5 @@ use Rattle.node_world.proofs.controller_sites.searched_place.Given as goal
 
 -- so many hosts are others
 abbrev pub invariant-loop-i : goal.invariant-loop-i
-invariant-loop-i g l =
-    (hosts : List Site) → SitesAre g.P.WorldNode.runs g.P.WorldNode.memory l.sites hosts → PassedBy l.i l.host hosts
+invariant-loop-i l =
+    (hosts : List Site) → SitesAre l.sites hosts → PassedBy l.i l.host hosts

@@ -6,10 +6,10 @@ use Rattle.node_world.proofs.controller_sites.sessions_of.Goals.{then-host-lt8, 
 use Rattle.node_world.proofs.controller_sites.sessions_of.Goals as goal
 
 pub loop-i-init : goal.loop-i-init
-loop-i-init g c = record { eight = refl; goes = λ hosts a. no_numbers _ hosts }
+loop-i-init c = record { eight = refl; goes = λ hosts a. no_numbers _ hosts }
 
 pub loop-i-preserved : goal.loop-i-preserved
-loop-i-preserved g c = elim c.if-host-lt8.branch [
+loop-i-preserved c = elim c.if-host-lt8.branch [
   | then-host-lt8 w ↦ record {
     eight = ap length w.sessions-is ∙ (length-set c.loop-i.sessions c.from-host.result w.session.result ∙ c.loop-i.invariant.eight);
     goes = λ hosts a.
@@ -18,8 +18,7 @@ loop-i-preserved g c = elim c.if-host-lt8.branch [
         let low : k.host < 8 = omega (arith, w.if-host-lt8.true, c.from-host.ensures) in
         let is : slice_set c.loop-i.sessions k.host w.session.result ≡ c.if-host-lt8.sessions =
         ap (λ h. slice_set c.loop-i.sessions h w.session.result) (sym c.from-host.ensures) ∙ sym w.sessions-is in
-        subst F is
-        (number_found _ g.P.WorldNode.runs g.P.WorldNode.memory c.loop-i.i c.args.sites.now hosts c.loop-i.sessions k w.session.result a
+        subst F is (number_found c.loop-i.i c.args.sites.now hosts c.loop-i.sessions k w.session.result a
         (c.loop-i.invariant.goes hosts a) c.loop-i-test.true c.index-sites-i.is c.loop-i.invariant.eight low w.session.ensures);
   }
   | else-host-lt8 w ↦ record {
@@ -28,13 +27,11 @@ loop-i-preserved g c = elim c.if-host-lt8.branch [
         let k = c.index-sites-i.result in
         let F : List ℕ → Type 0 = λ s. NumbersFound (c.loop-i.i + 1) s hosts in
         let high : 8 ≤ k.host = omega (arith, w.if-host-lt8.false, c.from-host.ensures) in
-        subst F (sym w.sessions-is)
-        (number_passed _ g.P.WorldNode.runs g.P.WorldNode.memory c.loop-i.i c.args.sites.now hosts c.loop-i.sessions k a
+        subst F (sym w.sessions-is) (number_passed c.loop-i.i c.args.sites.now hosts c.loop-i.sessions k a
         (c.loop-i.invariant.goes hosts a) c.loop-i-test.true c.index-sites-i.is high);
   }
 ]
 
 pub returns : goal.returns
-returns g c hosts a d h =
-    numbers_are _ g.P.WorldNode.runs g.P.WorldNode.memory c.loop-i.i c.args.sites.now hosts c.loop-i.sessions a (c.loop-i.invariant.goes hosts a)
-    c.loop-i-test.false d h
+returns c hosts a d h =
+    numbers_are c.loop-i.i c.args.sites.now hosts c.loop-i.sessions a (c.loop-i.invariant.goes hosts a) c.loop-i-test.false d h

@@ -6,8 +6,8 @@ use Rattle.node_world.proofs.controller_sites.sessions_of.Given as goal
 
 -- the numbers of so many are put there
 abbrev pub invariant-loop-i : goal.invariant-loop-i
-invariant-loop-i g l =
+invariant-loop-i l =
     record {
       eight : length l.sessions ≡ 8;
-      goes : (hosts : List Site) → SitesAre g.P.WorldNode.runs g.P.WorldNode.memory l.sites hosts → NumbersFound l.i l.sessions hosts;
+      goes : (hosts : List Site) → SitesAre l.sites hosts → NumbersFound l.i l.sessions hosts;
     }

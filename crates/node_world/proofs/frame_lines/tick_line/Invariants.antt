@@ -10,13 +10,9 @@ use Rattle.node_world.proofs.frame_lines.tick_line.Given as goal
 
 -- so many ticks have passed
 abbrev pub invariant-loop : goal.invariant-loop
-invariant-loop g l =
+invariant-loop l =
     record {
-      goes : (header : Header) (w : NodeWorld)
-          → WorldIs g.C.WorldNode.runs g.C.WorldNode.memory g.P.WorldNode.runs g.P.WorldNode.memory l.initial.controller l.initial.sites w
-          → MayPlay header (line.Tick l.fn.times) w
-          → Again g.C.WorldNode.runs g.C.WorldNode.memory g.P.WorldNode.runs g.P.WorldNode.memory l.controller l.sites 250000000
-          l.initial.noted.entries.items l.noted.entries.items w
-          Ticks l.counter;
+      goes : (header : Header) (w : NodeWorld) → WorldIs l.initial.controller l.initial.sites w → MayPlay header (line.Tick l.fn.times) w
+          → Again l.controller l.sites 250000000 l.initial.noted.entries.items l.noted.entries.items w Ticks l.counter;
       short : l.noted.short ≡ false;
     }

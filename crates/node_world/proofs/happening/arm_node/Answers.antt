@@ -21,26 +21,25 @@ nothing_armed w n plan off none =
     is ∙ ap (λ xs. record w { sites = xs }) (none_changed n f w.sites none)
 
 pub returns-then-node-eq0 : goal.returns-then-node-eq0
-returns-then-node-eq0 g c w world ready =
+returns-then-node-eq0 c w world ready =
     let zero : c.args.node ≡ 0 = c.if-node-eq0.true in
-    let W : ℕ → Type 0 = λ n. WorldIs g.C.WorldNode.runs g.C.WorldNode.memory g.P.WorldNode.runs g.P.WorldNode.memory
+    let W : ℕ → Type 0 = λ n. WorldIs
     c.arm.new.self c.args.sites.now (world_step w (Arms n (record { nth = c.args.nth; fill = c.args.fill.items }))).0 in
     subst W (sym zero)
     (record { controller = c.arm.ensures w.memory w.controller (λ h. (link_to w.sites h).controller) world.controller; sites = world.sites })
 
 pub returns-in-Some : goal.returns-in-Some
-returns-in-Some g c w world ready =
+returns-in-Some c w world ready =
     let n = c.args.node in
     let o = ready.goes_on.orderly in
     let plan : Plan = record { nth = c.args.nth; fill = c.args.fill.items } in
     let off : (n == 0) ≡ false = search (rules, ne_eqb) in
     let a : StandsAt c.in-Some.place n w.sites = c.in-Some.ensures.place w.sites world.sites in
-    let S : HostSite g.row.P.Denot → Type 0 = λ k. SiteIs g.P.WorldNode.runs g.P.WorldNode.memory k a.site in
-    let is = subst S c.index-sites-place.is (reads g.row.P.Denot g.P.WorldNode.runs g.P.WorldNode.memory c.args.sites.now w c.in-Some.place n a
-    c.index-sites-place.result world.sites c.index-sites-place.is) in
+    let S : HostSite → Type 0 = λ k. SiteIs k a.site in
+    let is = subst S c.index-sites-place.is (reads c.args.sites.now w c.in-Some.place n a c.index-sites-place.result world.sites c.index-sites-place.is) in
     (found_becomes w c.in-Some.place n a o (record a.site { memory = armed plan a.site.memory }, []) (world_step w (Arms n plan))
-    (armed_in_world w n a.site (site_stands w c.in-Some.place n a o) off plan) (record { host = refl; near = refl }) g.row.C.Denot g.row.P.Denot
-    g.C.WorldNode.runs g.C.WorldNode.memory g.P.WorldNode.runs g.P.WorldNode.memory c.args.controller.now c.args.sites.now _ [] [] world
+    (armed_in_world w n a.site (site_stands w c.in-Some.place n a o) off plan) (record { host = refl; near = refl })
+    c.args.controller.now c.args.sites.now _ [] [] world
     (record {
       site = record {
         host = is.host;
@@ -51,10 +50,9 @@ returns-in-Some g c w world ready =
     })).world
 
 pub returns-in-None : goal.returns-in-None
-returns-in-None g c w world ready =
+returns-in-None c w world ready =
     let n = c.args.node in
     let plan : Plan = record { nth = c.args.nth; fill = c.args.fill.items } in
     let off : (n == 0) ≡ false = search (rules, ne_eqb) in
-    let W : NodeWorld → Type 0 = λ v. WorldIs g.C.WorldNode.runs g.C.WorldNode.memory g.P.WorldNode.runs g.P.WorldNode.memory c.args.controller.now
-    c.args.sites.now v in
+    let W : NodeWorld → Type 0 = λ v. WorldIs c.args.controller.now c.args.sites.now v in
     subst W (sym (nothing_armed w n plan off (c.in-None.ensures.place w.sites world.sites))) world

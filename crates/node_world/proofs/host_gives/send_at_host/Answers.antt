@@ -9,59 +9,57 @@ use Rattle.node_world.proofs.HostsAre.{is_on, is_off, unchanged}
 use Rattle.node_world.proofs.HostsBegin.{begins_at_end, has_end}
 use Rattle.node_world.proofs.HostsGoOn.{began, is_done}
 use Rattle.node_world.proofs.HostsRefuse.{sending_off, sending_so, still_stands, sending_mute}
+use Rattle.node_sites.specs.WorldNodes.{RunsAsHost}
+use Rattle.node_sites.specs.Powers.{node_memory}
 use Rattle.node_world.proofs.host_gives.send_at_host.Goals as goal
 
-pub send-requires-clause-has : goal.send-requires-clause-has
-send-requires-clause-has g c =
+pub send-requires-clause-runs : goal.send-requires-clause-runs
+send-requires-clause-runs c =
     let r = c.requires.state in
-    let here = is_on _ g.P.WorldNode.runs g.P.WorldNode.memory r.1 c.in-On.is in
-    has_end _ g.P.WorldNode.runs g.P.WorldNode.memory g.met.P.WorldNode.kept
-    (begins_at_end _ g.P.WorldNode.runs g.P.WorldNode.memory g.met.P.WorldNode.kept c.args.site.now r.0 c.in-On.node here.running NoInput r.1 r.2
-    c.in-On.is here.runs)
+    let here = is_on r.1 c.in-On.is in
+    has_end (begins_at_end c.args.site.now r.0 c.in-On.node here.running NoInput r.1 r.2 c.in-On.is here.runs)
 
 pub finish_host-requires-clause-state : goal.finish_host-requires-clause-state
-finish_host-requires-clause-state g c =
+finish_host-requires-clause-state c =
     let r = c.requires.state in
     let before = c.args.noted.now.entries.items in
     let e = c.in_default-send.ensures in
     let deeds : ℕ → List Deed = λ h. sending h (c.args.pipe, c.args.message.now) in
-    let d = began _ g.P.WorldNode.runs g.P.WorldNode.memory g.met.P.WorldNode.kept c.args.site.now _ r.0 c.in-On.node c.send.new.self
+    let d = began c.args.site.now _ r.0 c.in-On.node c.send.new.node
     _ before _ c.send.new.noted _ (ap (replicate 8) c.session-noted.ensures) r.1 r.2 c.in-On.is refl refl
-    deeds (sending_mute r.0.host (c.args.pipe, c.args.message.now)) e.given (e.noted _ before) (none_noted _) r.1.wires in
+    deeds (sending_mute r.0.host (c.args.pipe, c.args.message.now)) (e.given _) (e.noted _ before _) (none_noted _) r.1.wires in
     (r.0, d.step, d.l, d.w, before, d.midway)
 
 pub returns-in-Err-clause-refusal : goal.returns-in-Err-clause-refusal
-returns-in-Err-clause-refusal g c s is host =
-    ap Some c.cause_of.ensures
-    ∙ sending_so _ g.P.WorldNode.runs g.P.WorldNode.memory g.met.P.WorldNode.kept c.args.site.now s c.in-On.node is host c.in-On.is
-    (c.args.pipe, c.args.message.now) (Some (refusal_noted c.in-Err.why)) c.in-Err.ensures.refusal
+returns-in-Err-clause-refusal c s is host =
+    ap Some c.cause_of.ensures ∙ sending_so c.args.site.now s c.in-On.node is host c.in-On.is
+    (c.args.pipe, c.args.message.now) (Some (refusal_noted c.in-Err.why)) (c.in-Err.ensures.refusal _)
 
 pub returns-in-Err-clause-stands : goal.returns-in-Err-clause-stands
-returns-in-Err-clause-stands g c s is host =
+returns-in-Err-clause-stands c s is host =
     let same = c.in-Err.ensures.unchanged in
-    still_stands _ g.P.WorldNode.runs g.P.WorldNode.memory c.args.site.now s c.in-On.node c.send.new.self is c.in-On.is
-    (λ core ports r. subst (λ x. g.P.WorldNode.runs x core ports) (sym same.0) r) (ap g.P.WorldNode.memory same.0) c.args.noted.now.entries.items
+    still_stands c.args.site.now s c.in-On.node c.send.new.node is c.in-On.is
+    (λ core ports r. subst (λ x. RunsAsHost x core ports) (sym same.0) r) (ap node_memory same.0) c.args.noted.now.entries.items
     c.send.new.noted.entries.items (ap (λ n. n.entries.items) same.1)
 
 pub returns-clause-refusal : goal.returns-clause-refusal
-returns-clause-refusal g c s is host =
-    sending_so _ g.P.WorldNode.runs g.P.WorldNode.memory g.met.P.WorldNode.kept c.args.site.now s c.in-On.node is host c.in-On.is
-    (c.args.pipe, c.args.message.now) None c.in_default-send.ensures.refusal
+returns-clause-refusal c s is host =
+    sending_so c.args.site.now s c.in-On.node is host c.in-On.is (c.args.pipe, c.args.message.now) None (c.in_default-send.ensures.refusal _)
 
 pub returns-clause-stands : goal.returns-clause-stands
-returns-clause-stands g c s is host =
+returns-clause-stands c s is host =
     let before = c.args.noted.now.entries.items in
     let e = c.in_default-send.ensures in
     let deeds : ℕ → List Deed = λ h. sending h (c.args.pipe, c.args.message.now) in
-    let d = began _ g.P.WorldNode.runs g.P.WorldNode.memory g.met.P.WorldNode.kept c.args.site.now _ s c.in-On.node c.send.new.self
+    let d = began c.args.site.now _ s c.in-On.node c.send.new.node
     _ before _ c.send.new.noted _ (ap (replicate 8) c.session-noted.ensures) is host c.in-On.is refl refl
-    deeds (sending_mute s.host (c.args.pipe, c.args.message.now)) e.given (e.noted _ before) (none_noted _) is.wires in
+    deeds (sending_mute s.host (c.args.pipe, c.args.message.now)) (e.given _) (e.noted _ before _) (none_noted _) is.wires in
     is_done (Ok c.in_ok-finish_host.field-0) c.finish_host.new.site c.finish_host.new.noted.entries.items d
     (c.in_ok-finish_host.ensures.stands s d.step d.l d.w before d.midway)
 
 pub returns-in_default-clause-refusal : goal.returns-in_default-clause-refusal
-returns-in_default-clause-refusal g c s is host =
-    sym (sending_off s (c.args.pipe, c.args.message.now) (is_off _ g.P.WorldNode.runs g.P.WorldNode.memory is c.in_default.not-On))
+returns-in_default-clause-refusal c s is host =
+    sym (sending_off s (c.args.pipe, c.args.message.now) (is_off is c.in_default.not-On))
 
 pub returns-in_default-clause-stands : goal.returns-in_default-clause-stands
-returns-in_default-clause-stands g c s is host = unchanged _ g.P.WorldNode.runs g.P.WorldNode.memory c.args.noted.now.entries.items is
+returns-in_default-clause-stands c s is host = unchanged c.args.noted.now.entries.items is

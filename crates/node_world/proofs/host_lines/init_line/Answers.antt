@@ -12,7 +12,7 @@ use Rattle.node_world.proofs.LinesGo.{within, is_there, hosts_go, hosts_refused}
 use Rattle.node_world.proofs.host_lines.init_line.Goals as goal
 
 pub host_inits-requires-clause-state : goal.host_inits-requires-clause-state
-host_inits-requires-clause-state g c = (
+host_inits-requires-clause-state c = (
   c.requires.state.1,
   c.requires.state.2,
   within c.requires.state.3,
@@ -20,30 +20,27 @@ host_inits-requires-clause-state g c = (
 )
 
 pub returns-in-Some-clause-stands : goal.returns-in-Some-clause-stands
-returns-in-Some-clause-stands g c header w all may =
+returns-in-Some-clause-stands c header w all may =
     let ready = within may in
     let there = is_there c.args.at.link may may.is_line.may_follow.1.known in
-    let B : List Entry → Option NoCause → Type 0 = λ before cause.
-    SitesBecome g.P.WorldNode.runs g.P.WorldNode.memory c.host_inits.new.sites before
+    let B : List Entry → Option NoCause → Type 0 = λ before cause. SitesBecome c.host_inits.new.sites before
     c.host_inits.new.noted.entries.items (if_accepted cause w (world_step w (Inits c.args.at c.args.identity.now c.args.pipes.now.items))) in
     let e = sym (c.in_ok-cause.ensures.refusal w all ready there) ∙ c.in-Some.is in
     let b = subst (λ es. B es (Some c.in-Some.cause)) c.requires.nothing
     (subst (B c.args.noted.now.entries.items) c.in-Some.is (c.in_ok-cause.ensures.stands w all ready there)) in
-    on_ok_weaker c.refuse.result
-    (λ noted. hosts_refused w (line.Init c.args.at c.args.identity.now c.args.pipes.now) g.row.P.Denot g.P.WorldNode.runs g.P.WorldNode.memory
+    on_ok_weaker c.refuse.result (λ noted. hosts_refused w (line.Init c.args.at c.args.identity.now c.args.pipes.now)
     c.host_inits.new.sites c.in-Some.cause c.refuse.new.noted.entries.items e b.sites
     (noted ∙ ap (λ es. es ++ note.No c.in-Some.cause ∷ []) b.noted))
     c.refuse.ensures.noted
 
 pub returns-in-None-clause-stands : goal.returns-in-None-clause-stands
-returns-in-None-clause-stands g c header w all may =
+returns-in-None-clause-stands c header w all may =
     let ready = within may in
     let there = is_there c.args.at.link may may.is_line.may_follow.1.known in
-    let B : List Entry → Option NoCause → Type 0 = λ before cause.
-    SitesBecome g.P.WorldNode.runs g.P.WorldNode.memory c.host_inits.new.sites before
+    let B : List Entry → Option NoCause → Type 0 = λ before cause. SitesBecome c.host_inits.new.sites before
     c.host_inits.new.noted.entries.items (if_accepted cause w (world_step w (Inits c.args.at c.args.identity.now c.args.pipes.now.items))) in
     let e = sym (c.in_ok-cause.ensures.refusal w all ready there) ∙ c.in-None.is in
     let b = subst (λ es. B es None) c.requires.nothing
     (subst (B c.args.noted.now.entries.items) c.in-None.is (c.in_ok-cause.ensures.stands w all ready there)) in
-    hosts_go w (line.Init c.args.at c.args.identity.now c.args.pipes.now) g.row.P.Denot g.P.WorldNode.runs g.P.WorldNode.memory
+    hosts_go w (line.Init c.args.at c.args.identity.now c.args.pipes.now)
     c.host_inits.new.sites (Inits c.args.at c.args.identity.now c.args.pipes.now.items) c.host_inits.new.noted.entries.items refl e b

@@ -1,51 +1,53 @@
-use Rattle.std.proofs.Common.{refl, sym, ◌∙◌}
+use Rattle.std.proofs.Common.{ℕ, List, map, refl, ap, sym, subst, ◌∙◌}
 use Rattle.link_laws.specs.messages.Links.Comes.{NoInput}
 use Rattle.node_world.proofs.Plainly.{was_lost}
 use Rattle.node_world.proofs.HostsAre.{is_on, is_off}
 use Rattle.node_world.proofs.HostsBegin.{begins_at_end, has_end}
 use Rattle.node_world.proofs.HostsLose.{at_controller, not_refused, not_running, as_lost, counted, its_end}
 use Rattle.node_world.proofs.host_losses.lose_for.Goals.{else-to-via-then-to+else-is_refusal, else-to-via-else-to}
+use Rattle.node_machine.specs.Parts.{Desk, Port}
+use Rattle.node_machine.specs.Carrying.{with_port}
+use Rattle.node_machine.specs.world.World.{port_for}
+use Rattle.node_core.specs.Running.{RunsAs, one_more_error}
+use Rattle.node_sites.proofs.NodesRun.{own_host, still_host}
 use Rattle.node_world.proofs.host_losses.lose_for.Goals as goal
 
 pub refused-requires : goal.refused-requires
-refused-requires g c =
+refused-requires c =
     let r = c.requires.state in
-    let here = is_on _ g.P.WorldNode.runs g.P.WorldNode.memory r.1 c.in-On.is in
+    let here = is_on r.1 c.in-On.is in
     record {
-      has = has_end _ g.P.WorldNode.runs g.P.WorldNode.memory g.met.P.WorldNode.kept
-          (begins_at_end _ g.P.WorldNode.runs g.P.WorldNode.memory g.met.P.WorldNode.kept c.args.site.now r.0 c.in-On.node here.running NoInput r.1 r.2
-          c.in-On.is here.runs);
+      runs = has_end (begins_at_end c.args.site.now r.0 c.in-On.node here.running NoInput r.1 r.2 c.in-On.is here.runs);
     }
 
 pub returns-in-On-clause-stands : goal.returns-in-On-clause-stands
-returns-in-On-clause-stands g c s why is host cause =
+returns-in-On-clause-stands c s why is host cause =
     let r = c.in_ok-lose.ensures s.link why is.wires cause in (
-      counted _ g.P.WorldNode.runs g.P.WorldNode.memory c.args.site.now s c.in-On.node c.refused.new.self c.args.to why is c.in-On.is c.if-to.true
-          (sym (c.is_refusal.ensures why cause) ∙ c.if-is_refusal.true) refl refl c.refused.ensures.memory
-          (λ core desks runs on. let e = its_end c.args.site.now.host s core desks host is.host on in c.refused.ensures.runs core _ e.port runs e.here) r.0,
+      counted c.args.site.now s c.in-On.node c.refused.new.self c.args.to why is c.in-On.is c.if-to.true
+          (sym (c.is_refusal.ensures why cause) ∙ c.if-is_refusal.true) refl refl (ap (λ m. m.journal.nv) c.refused.ensures.store)
+          (λ core desks runs on. (let ports : List Port = map (λ (d : Desk). port_for s.link.host d) desks in
+          let e = its_end c.args.site.now.host s core desks host is.host on in
+          let R : ℕ → Type 0 = λ h. RunsAs c.refused.new.self core (with_port h one_more_error ports) in
+          still_host c.refused.ensures.number runs.number core _ (subst R (own_host runs e.here) (c.refused.ensures.runs core ports runs.runs)))) r.0,
       r.1,
     )
 
 pub returns-in_default-clause-stands : goal.returns-in_default-clause-stands
-returns-in_default-clause-stands g c s why is host cause =
+returns-in_default-clause-stands c s why is host cause =
     let r = c.in_ok-lose.ensures s.link why is.wires cause in (
-      as_lost _ g.P.WorldNode.runs g.P.WorldNode.memory
-          (not_running c.args.to why s c.if-to.true (is_off _ g.P.WorldNode.runs g.P.WorldNode.memory is c.in_default.not-On))
-          (was_lost _ g.P.WorldNode.runs g.P.WorldNode.memory s c.args.to why is refl refl r.0),
+      as_lost (not_running c.args.to why s c.if-to.true (is_off is c.in_default.not-On)) (was_lost s c.args.to why is refl refl r.0),
       r.1,
     )
 
 pub returns-else-to-clause-stands : goal.returns-else-to-clause-stands
-returns-else-to-clause-stands g c s why is host cause =
+returns-else-to-clause-stands c s why is host cause =
     let r = c.in_ok-lose.ensures s.link why is.wires cause in (
       elim c.else-to.branch [
         | else-to-via-then-to+else-is_refusal w ↦
-            as_lost _ g.P.WorldNode.runs g.P.WorldNode.memory
-            (not_refused c.args.to why s w.if-to.true (sym (w.is_refusal.ensures why cause) ∙ w.if-is_refusal.false))
-            (was_lost _ g.P.WorldNode.runs g.P.WorldNode.memory s c.args.to why is refl refl r.0)
+            as_lost (not_refused c.args.to why s w.if-to.true (sym (w.is_refusal.ensures why cause) ∙ w.if-is_refusal.false))
+            (was_lost s c.args.to why is refl refl r.0)
         | else-to-via-else-to w ↦
-            as_lost _ g.P.WorldNode.runs g.P.WorldNode.memory (at_controller c.args.to why s w.if-to.false)
-            (was_lost _ g.P.WorldNode.runs g.P.WorldNode.memory s c.args.to why is refl refl r.0)
+            as_lost (at_controller c.args.to why s w.if-to.false) (was_lost s c.args.to why is refl refl r.0)
       ],
       r.1,
     )

@@ -17,10 +17,10 @@ use Rattle.node_world.proofs.HostsFound.{send_there, steps_there, becomes_unless
 use Rattle.node_world.proofs.hosts_do.host_sends.Goals as goal
 
 pub send_at_host-requires-clause-state : goal.send_at_host-requires-clause-state
-send_at_host-requires-clause-state g c =
+send_at_host-requires-clause-state c =
     let w = c.requires.state.0 in
     let a : StandsAt c.in-Some.place c.args.at.link w.sites = c.in-Some.ensures.place w.sites c.requires.state.1 in
-    let t = at_place g.row.P.Denot g.P.WorldNode.runs g.P.WorldNode.memory c.args.sites.now w c.in-Some.place c.args.at.link a c.index-sites-place.result
+    let t = at_place c.args.sites.now w c.in-Some.place c.args.at.link a c.index-sites-place.result
     c.requires.state.1 c.index-sites-place.is c.requires.state.2 in (
       a.site,
       t.is,
@@ -28,18 +28,17 @@ send_at_host-requires-clause-state g c =
     )
 
 pub send_at_host-requires-clause-room : goal.send_at_host-requires-clause-room
-send_at_host-requires-clause-room g c =
+send_at_host-requires-clause-room c =
     let w = c.requires.state.0 in
     let a : StandsAt c.in-Some.place c.args.at.link w.sites = c.in-Some.ensures.place w.sites c.requires.state.1 in
-    let t = at_place g.row.P.Denot g.P.WorldNode.runs g.P.WorldNode.memory c.args.sites.now w c.in-Some.place c.args.at.link a c.index-sites-place.result
+    let t = at_place c.args.sites.now w c.in-Some.place c.args.at.link a c.index-sites-place.result
     c.requires.state.1 c.index-sites-place.is c.requires.state.2 in
-    room_there g.row.P.Denot g.P.WorldNode.runs g.P.WorldNode.memory _ a.site t.is t.few
+    room_there _ a.site t.is t.few
 
 pub returns-in-Some-clause-refusal : goal.returns-in-Some-clause-refusal
-returns-in-Some-clause-refusal g c w all ready there =
+returns-in-Some-clause-refusal c w all ready there =
     let a : StandsAt c.in-Some.place c.args.at.link w.sites = c.in-Some.ensures.place w.sites all in
-    let t = at_place g.row.P.Denot g.P.WorldNode.runs g.P.WorldNode.memory c.args.sites.now w c.in-Some.place c.args.at.link a c.index-sites-place.result
-    all c.index-sites-place.is ready in
+    let t = at_place c.args.sites.now w c.in-Some.place c.args.at.link a c.index-sites-place.result all c.index-sites-place.is ready in
     let found : site_at w.sites c.args.at.link ≡ Some a.site = site_stands w c.in-Some.place c.args.at.link a ready.goes_on.orderly in
     let off = sym (ap (λ n. n == 0) a.host) ∙ t.host.number in
     let same : sending_refused a.site (c.args.pid, c.as_slice.result.now) ≡ refusal_in w (line.Send c.args.at c.args.pid c.as_slice.result.now) =
@@ -52,25 +51,22 @@ returns-in-Some-clause-refusal g c w all ready there =
     (c.send_at_host.ensures.refusal a.site t.is t.host))
 
 pub returns-in-Some-clause-stands : goal.returns-in-Some-clause-stands
-returns-in-Some-clause-stands g c w all ready there =
+returns-in-Some-clause-stands c w all ready there =
     let a : StandsAt c.in-Some.place c.args.at.link w.sites = c.in-Some.ensures.place w.sites all in
-    let t = at_place g.row.P.Denot g.P.WorldNode.runs g.P.WorldNode.memory c.args.sites.now w c.in-Some.place c.args.at.link a c.index-sites-place.result
-    all c.index-sites-place.is ready in
+    let t = at_place c.args.sites.now w c.in-Some.place c.args.at.link a c.index-sites-place.result all c.index-sites-place.is ready in
     let found : site_at w.sites c.args.at.link ≡ Some a.site = site_stands w c.in-Some.place c.args.at.link a ready.goes_on.orderly in
-    let S : Option NoCause → End → Type 0 = λ cause e. SitesBecome g.P.WorldNode.runs g.P.WorldNode.memory (slice_set c.args.sites.now
+    let S : Option NoCause → End → Type 0 = λ cause e. SitesBecome (slice_set c.args.sites.now
     c.in-Some.place c.send_at_host.new.site) c.args.noted.now.entries.items
     c.send_at_host.new.noted.entries.items (if_accepted cause w (world_step w (Gives e (c.args.pid, c.as_slice.result.now)))) in
     let e : c.as_slice.result.now ≡ c.args.message.now = search rules in
-    let R : List ℕ → Type 0 = λ m. IfOk c.send_at_host.result (λ cause. SitesBecome g.P.WorldNode.runs g.P.WorldNode.memory (slice_set
+    let R : List ℕ → Type 0 = λ m. IfOk c.send_at_host.result (λ cause. SitesBecome (slice_set
     c.args.sites.now c.in-Some.place c.send_at_host.new.site) c.args.noted.now.entries.items
     c.send_at_host.new.noted.entries.items (if_accepted cause w (world_step w (Gives c.args.at (c.args.pid, m))))) in
-    subst R e (IfOk-weaker c.send_at_host.result
-    (BecomesUnless g.P.WorldNode.runs g.P.WorldNode.memory c.send_at_host.new.site c.args.noted.now.entries.items
+    subst R e (IfOk-weaker c.send_at_host.result (BecomesUnless c.send_at_host.new.site c.args.noted.now.entries.items
     c.send_at_host.new.noted.entries.items a.site
     (host_stepped a.site NoInput (begins_with a.site.host (sending a.site.host (c.args.pid, c.as_slice.result.now)))))
     (λ cause. S cause c.args.at)
-    (λ cause b. subst (S cause) (end_is c.args.at c.requires.host)
-    (becomes_unless g.row.P.Denot g.P.WorldNode.runs g.P.WorldNode.memory c.args.sites.now w c.in-Some.place c.args.at.link a c.send_at_host.new.site
+    (λ cause b. subst (S cause) (end_is c.args.at c.requires.host) (becomes_unless c.args.sites.now w c.in-Some.place c.args.at.link a c.send_at_host.new.site
     c.args.noted.now.entries.items c.send_at_host.new.noted.entries.items (host_stepped a.site NoInput (begins_with a.site.host (sending a.site.host
     (c.args.pid, c.as_slice.result.now)))) (world_step w (Gives (end_h c.args.at.link) (c.args.pid, c.as_slice.result.now))) cause
     ready.goes_on.orderly all (steps_there w c.args.at.link a.site found a.host NoInput (λ n. begins_with n (sending n (
@@ -80,7 +76,7 @@ returns-in-Some-clause-stands g c w all ready there =
     (c.send_at_host.ensures.stands a.site t.is t.host))
 
 pub returns-in-None-clause-refusal : goal.returns-in-None-clause-refusal
-returns-in-None-clause-refusal g c w all ready there = nowhere w.sites c.args.at.link there (c.in-None.ensures.place w.sites all)
+returns-in-None-clause-refusal c w all ready there = nowhere w.sites c.args.at.link there (c.in-None.ensures.place w.sites all)
 
 pub returns-in-None-clause-stands : goal.returns-in-None-clause-stands
-returns-in-None-clause-stands g c w all ready there = nowhere w.sites c.args.at.link there (c.in-None.ensures.place w.sites all)
+returns-in-None-clause-stands c w all ready there = nowhere w.sites c.args.at.link there (c.in-None.ensures.place w.sites all)

@@ -9,10 +9,9 @@ use Rattle.node_world.proofs.AtHosts.{reads, site_stands}
 use Rattle.node_world.proofs.looking.on_the_way.Goals as goal
 
 pub returns-in-Some : goal.returns-in-Some
-returns-in-Some g c w all may =
+returns-in-Some c w all may =
     let a : StandsAt c.in-Some.place c.args.to.link w.sites = c.in-Some.ensures.place w.sites all in
-    let S : HostSite g.row.P.Denot → Type 0 = λ k. SiteIs g.P.WorldNode.runs g.P.WorldNode.memory k a.site in
-    let is = subst S c.index-sites-place.is (reads g.row.P.Denot g.P.WorldNode.runs g.P.WorldNode.memory c.args.sites.now w c.in-Some.place
-    c.args.to.link a c.index-sites-place.result all c.index-sites-place.is) in
+    let S : HostSite → Type 0 = λ k. SiteIs k a.site in
+    let is = subst S c.index-sites-place.is (reads c.args.sites.now w c.in-Some.place c.args.to.link a c.index-sites-place.result all c.index-sites-place.is) in
     let found = site_stands w c.in-Some.place c.args.to.link a may.orderly in
     c.standing.ensures a.site.link is.wires ∙ ap (λ (l : Link). length (frames_to l c.args.to)) (sym (link_is w.sites c.args.to.link a.site found))

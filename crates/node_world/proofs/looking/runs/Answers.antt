@@ -10,12 +10,12 @@ use Rattle.node_world.proofs.HostsPower.{node_there}
 use Rattle.node_world.proofs.looking.runs.Goals as goal
 
 pub returns-in-Some : goal.returns-in-Some
-returns-in-Some g c w world may =
+returns-in-Some c w world may =
     let a : StandsAt c.in-Some.place c.args.node w.sites = c.in-Some.ensures.place w.sites world.sites in
-    let S : HostSite g.row.P.Denot → Type 0 = λ k. SiteIs g.P.WorldNode.runs g.P.WorldNode.memory k a.site in
-    let is = subst S c.index-sites-place.is (reads g.row.P.Denot g.P.WorldNode.runs g.P.WorldNode.memory c.args.sites.now w c.in-Some.place
+    let S : HostSite → Type 0 = λ k. SiteIs k a.site in
+    let is = subst S c.index-sites-place.is (reads c.args.sites.now w c.in-Some.place
     c.args.node a c.index-sites-place.result world.sites c.index-sites-place.is) in
     let found = site_stands w c.in-Some.place c.args.node a may.orderly in
     let off : (c.args.node == 0) ≡ false = search (rules, ne_eqb) in
     let e : c.is_on-in-Some.result ≡ is_on (get_or c.args.sites.now c.in-Some.place c.index-sites-place.result).power = search rules in
-    e ∙ (runs_alike g.row.P.Denot g.P.WorldNode.runs g.P.WorldNode.memory _ a.site is ∙ ap (λ o. is_some o) (sym (node_there w c.args.node off a.site found)))
+    e ∙ (runs_alike _ a.site is ∙ ap (λ o. is_some o) (sym (node_there w c.args.node off a.site found)))

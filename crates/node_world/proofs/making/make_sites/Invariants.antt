@@ -1,11 +1,9 @@
 use Rattle.std.proofs.Common.{map, take}
 use Rattle.std.specs.Prelude.{replicate}
 use Rattle.node_machine.specs.world.World.{new_site}
-use Rattle.node_sites.specs.WorldNodes.{RunsAsHost}
 use Rattle.node_world.specs.Controllers.{SitesAre}
-use Rattle.node_world.specs.Worlds.{node_memory}
 use Rattle.node_world.proofs.making.make_sites.Given as goal
 
 -- so many hosts are made
 abbrev pub invariant-loop-host : goal.invariant-loop-host
-invariant-loop-host l = SitesAre RunsAsHost node_memory l.sites.items (map (new_site (replicate 65536 255)) (take l.host-index l.hosts))
+invariant-loop-host l = SitesAre l.sites.items (map (new_site (replicate 65536 255)) (take l.host-index l.hosts))

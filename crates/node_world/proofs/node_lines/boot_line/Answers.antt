@@ -9,7 +9,7 @@ use Rattle.node_world.proofs.LinesEnd.{line_goes, line_refused, node_known, stan
 use Rattle.node_world.proofs.node_lines.boot_line.Goals as goal
 
 pub boot_node-requires : goal.boot_node-requires
-boot_node-requires g c =
+boot_node-requires c =
     record {
       state = (
         c.requires.state.1,
@@ -27,20 +27,17 @@ boot_node-requires g c =
     }
 
 pub returns-then-runs-clause-stands : goal.returns-then-runs-clause-stands
-returns-then-runs-clause-stands g c header w world may mask_is =
+returns-then-runs-clause-stands c header w world may mask_is =
     let e : is_running w c.args.node ≡ true = sym (c.runs.ensures w world may.goes_on) ∙ c.if-runs.true in
-    on_ok_weaker c.refuse.result
-    (line_refused w (line.Boot c.args.node) g.row.C.Denot g.row.P.Denot g.C.WorldNode.runs g.C.WorldNode.memory g.P.WorldNode.runs
-    g.P.WorldNode.memory
+    on_ok_weaker c.refuse.result (line_refused w (line.Boot c.args.node)
     c.args.controller.now c.args.sites.now c.args.noted.now.entries.items c.refuse.new.noted.entries.items c.requires.nothing no.Running
     (runs_refused w c.args.node e) world)
     c.refuse.ensures.noted
 
 pub returns-clause-stands : goal.returns-clause-stands
-returns-clause-stands g c header w world may mask_is =
+returns-clause-stands c header w world may mask_is =
     let e : is_running w c.args.node ≡ false = sym (c.runs.ensures w world may.goes_on) ∙ c.if-runs.false in
-    on_ok_weaker c.boot_node.result
-    (line_goes w (line.Boot c.args.node) g.row.C.Denot g.row.P.Denot g.C.WorldNode.runs g.C.WorldNode.memory g.P.WorldNode.runs g.P.WorldNode.memory
+    on_ok_weaker c.boot_node.result (line_goes w (line.Boot c.args.node)
     c.boot_node.new.controller c.boot_node.new.sites c.args.noted.now.entries.items c.boot_node.new.noted.entries.items c.requires.nothing
     (Boots c.args.node) refl (boots_free w c.args.node e))
     (c.boot_node.ensures.stands w world (record {

@@ -16,20 +16,19 @@ abbrev tables_of : Option Running → Option HciTables
 tables_of o = option_map (λ (r : Running). r.core.tables) o
 
 pub returns-then-node-eq0 : goal.returns-then-node-eq0
-returns-then-node-eq0 g c w world may =
+returns-then-node-eq0 c w world may =
     let zero : c.args.node ≡ 0 = c.if-node-eq0.true in
-    let T : ℕ → Type 0 = λ n. IfOk c.tables_at.result (λ tables. tables ≡ tables_of (node_at w n)) in
-    subst T (sym zero) (c.tables_at.ensures _ _ _ world.controller)
+    let T : ℕ → Type 0 = λ n. IfOk c.tables_of_controller.result (λ tables. tables ≡ tables_of (node_at w n)) in
+    subst T (sym zero) (c.tables_of_controller.ensures _ _ _ world.controller)
 
 pub returns : goal.returns
-returns g c w world may =
+returns c w world may =
     let i : ℕ = c.in-Some.place in
     let a : StandsAt i c.args.node w.sites = c.in-Some.ensures.place w.sites world.sites in
     let k = get_or c.args.sites.now i c.index-sites-place.result in
-    let S : HostSite g.row.P.Denot → Type 0 = λ x. SiteIs g.P.WorldNode.runs g.P.WorldNode.memory x a.site in
-    let is = subst S c.index-sites-place.is (reads g.row.P.Denot g.P.WorldNode.runs g.P.WorldNode.memory c.args.sites.now w i c.args.node a
-    c.index-sites-place.result world.sites c.index-sites-place.is) in
+    let S : HostSite → Type 0 = λ x. SiteIs x a.site in
+    let is = subst S c.index-sites-place.is (reads c.args.sites.now w i c.args.node a c.index-sites-place.result world.sites c.index-sites-place.is) in
     let off : (c.args.node == 0) ≡ false = search (rules, ne_eqb) in
     let node = node_there w c.args.node off a.site (site_stands w i c.args.node a may.orderly) in
-    let T : Option Running → Type 0 = λ o. IfOk c.tables_at-2.result (λ tables. tables ≡ tables_of o) in
-    subst T (sym node) (c.tables_at-2.ensures _ _ _ is.place)
+    let T : Option Running → Type 0 = λ o. IfOk c.tables_of_host.result (λ tables. tables ≡ tables_of o) in
+    subst T (sym node) (c.tables_of_host.ensures _ _ _ is.place)

@@ -13,7 +13,7 @@ use Rattle.node_world.proofs.LinesGo.{within, is_there, world_goes, world_refuse
 use Rattle.node_world.proofs.node_lines.reset_line.Goals as goal
 
 pub reset_end-requires-clause-state : goal.reset_end-requires-clause-state
-reset_end-requires-clause-state g c = (
+reset_end-requires-clause-state c = (
   c.requires.state.1,
   c.requires.state.2,
   within c.requires.state.3,
@@ -21,32 +21,27 @@ reset_end-requires-clause-state g c = (
 )
 
 pub returns-in-Some-clause-stands : goal.returns-in-Some-clause-stands
-returns-in-Some-clause-stands g c header w world may =
+returns-in-Some-clause-stands c header w world may =
     let ready = within may in
     let there = is_there c.args.at.link may may.is_line.may_follow.0 in
-    let B : List Entry → Option NoCause → Type 0 = λ before cause.
-    WorldBecomes g.C.WorldNode.runs g.C.WorldNode.memory g.P.WorldNode.runs g.P.WorldNode.memory c.reset_end.new.controller c.reset_end.new.sites before
+    let B : List Entry → Option NoCause → Type 0 = λ before cause. WorldBecomes c.reset_end.new.controller c.reset_end.new.sites before
     c.reset_end.new.noted.entries.items (if_accepted cause w (world_step w (Resets c.args.at c.args.window))) in
     let e = sym (c.in_ok-cause.ensures.refusal w world ready there) ∙ c.in-Some.is in
     let b = subst (λ es. B es (Some c.in-Some.cause)) c.requires.nothing
     (subst (B c.args.noted.now.entries.items) c.in-Some.is (c.in_ok-cause.ensures.stands w world ready there)) in
-    on_ok_weaker c.refuse.result
-    (λ noted. world_refused w (line.Reset c.args.at c.args.window) g.row.C.Denot g.row.P.Denot g.C.WorldNode.runs g.C.WorldNode.memory
-    g.P.WorldNode.runs g.P.WorldNode.memory
+    on_ok_weaker c.refuse.result (λ noted. world_refused w (line.Reset c.args.at c.args.window)
     c.reset_end.new.controller c.reset_end.new.sites c.in-Some.cause c.refuse.new.noted.entries.items e b.world
     (noted ∙ ap (λ es. es ++ note.No c.in-Some.cause ∷ []) b.noted))
     c.refuse.ensures.noted
 
 pub returns-in-None-clause-stands : goal.returns-in-None-clause-stands
-returns-in-None-clause-stands g c header w world may =
+returns-in-None-clause-stands c header w world may =
     let ready = within may in
     let there = is_there c.args.at.link may may.is_line.may_follow.0 in
-    let B : List Entry → Option NoCause → Type 0 = λ before cause.
-    WorldBecomes g.C.WorldNode.runs g.C.WorldNode.memory g.P.WorldNode.runs g.P.WorldNode.memory c.reset_end.new.controller c.reset_end.new.sites before
+    let B : List Entry → Option NoCause → Type 0 = λ before cause. WorldBecomes c.reset_end.new.controller c.reset_end.new.sites before
     c.reset_end.new.noted.entries.items (if_accepted cause w (world_step w (Resets c.args.at c.args.window))) in
     let e = sym (c.in_ok-cause.ensures.refusal w world ready there) ∙ c.in-None.is in
     let b = subst (λ es. B es None) c.requires.nothing
     (subst (B c.args.noted.now.entries.items) c.in-None.is (c.in_ok-cause.ensures.stands w world ready there)) in
-    world_goes w (line.Reset c.args.at c.args.window) g.row.C.Denot g.row.P.Denot g.C.WorldNode.runs g.C.WorldNode.memory g.P.WorldNode.runs
-    g.P.WorldNode.memory
+    world_goes w (line.Reset c.args.at c.args.window)
     c.reset_end.new.controller c.reset_end.new.sites (Resets c.args.at c.args.window) c.reset_end.new.noted.entries.items refl e b

@@ -10,68 +10,60 @@ use Rattle.node_world.proofs.LinesAgain.{hosts_come, there_still}
 use Rattle.node_world.proofs.rounds.take_all.Goals as goal
 
 pub loop-init : goal.loop-init
-loop-init g c = record {
-  goes = λ w world may.
-      again_begins g.row.C.Denot g.row.P.Denot g.C.WorldNode.runs g.C.WorldNode.memory g.P.WorldNode.runs g.P.WorldNode.memory w
+loop-init c = record {
+  goes = λ w world may. again_begins w
       (Takes c.args.at) 290000000 c.args.controller.now c.args.sites.now c.args.noted.now.entries.items world may.goes_on may.few;
   short = c.requires.memory;
 }
 
 pub take_frame-requires-clause-state : goal.take_frame-requires-clause-state
-take_frame-requires-clause-state g c =
+take_frame-requires-clause-state c =
     let s = c.requires.state in
     let many : c.on_the_way-times.result ≡ length (frames_at s.0 c.args.at) = c.on_the_way-times.ensures s.0 s.1.sites s.2.goes_on in
     let few : length (frames_at s.0 c.args.at) ≤ 64 =
-    few_on_way g.row.P.Denot g.P.WorldNode.runs g.P.WorldNode.memory c.args.at c.args.at.link c.args.sites.now s.0.sites s.1.sites in
+    few_on_way c.args.at c.args.at.link c.args.sites.now s.0.sites s.1.sites in
     let below : c.loop.counter < c.on_the_way-times.result = c.loop-test.true in
     let a = c.loop.invariant.goes s.0 s.1 s.2 in
-    let ready = bounds_again g.row.C.Denot g.row.P.Denot g.C.WorldNode.runs g.C.WorldNode.memory g.P.WorldNode.runs g.P.WorldNode.memory s.0
-    (Takes c.args.at) 290000000 c.loop.counter a.behind (omega arith) (omega (arith, many, few, below)) a.goes_on a.few in
+    let ready = bounds_again s.0 (Takes c.args.at) 290000000 c.loop.counter a.behind (omega arith) (omega (arith, many, few, below)) a.goes_on a.few in
     (a.behind, a.world, ready, there_still c.args.at.link a.behind s.0 a.hosts s.2.there)
 
 pub loop-preserved : goal.loop-preserved
-loop-preserved g c = record {
+loop-preserved c = record {
   goes = λ w world may.
       let many : c.on_the_way-times.result ≡ length (frames_at w c.args.at) = c.on_the_way-times.ensures w world.sites may.goes_on in
       let few : length (frames_at w c.args.at) ≤ 64 =
-      few_on_way g.row.P.Denot g.P.WorldNode.runs g.P.WorldNode.memory c.args.at c.args.at.link c.args.sites.now w.sites world.sites in
+      few_on_way c.args.at c.args.at.link c.args.sites.now w.sites world.sites in
       let below : c.loop.counter < c.on_the_way-times.result = c.loop-test.true in
       let a = c.loop.invariant.goes w world may in
-      let ready = bounds_again g.row.C.Denot g.row.P.Denot g.C.WorldNode.runs g.C.WorldNode.memory g.P.WorldNode.runs g.P.WorldNode.memory w
-      (Takes c.args.at) 290000000 c.loop.counter a.behind (omega arith) (omega (arith, many, few, below)) a.goes_on a.few in
+      let ready = bounds_again w (Takes c.args.at) 290000000 c.loop.counter a.behind (omega arith) (omega (arith, many, few, below)) a.goes_on a.few in
       let there = there_still c.args.at.link a.behind w a.hosts may.there in
       let can : is_running a.behind (node_of c.args.at) ≡ true =
       sym (c.runs.ensures a.behind a.world a.goes_on ∙ ap (λ n. is_running a.behind n) c.node_of.ensures) ∙ c.if-not-runs.false in
-      again_next g.row.C.Denot g.row.P.Denot g.C.WorldNode.runs g.C.WorldNode.memory g.P.WorldNode.runs g.P.WorldNode.memory w
-      (Takes c.args.at) 290000000 c.loop.controller c.take_frame.new.controller c.loop.sites c.take_frame.new.sites c.args.noted.now.entries.items
+      again_next w (Takes c.args.at) 290000000 c.loop.controller c.take_frame.new.controller c.loop.sites c.take_frame.new.sites c.args.noted.now.entries.items
       c.loop.noted.entries.items c.take_frame.new.noted.entries.items c.loop.counter a can (hosts_come a.behind c.args.at NextFrame)
       (c.in_ok-take_frame.ensures.stands a.behind a.world ready there);
   short = c.in_ok-take_frame.ensures.memory;
 }
 
 pub returns-then-not-runs-clause-stands : goal.returns-then-not-runs-clause-stands
-returns-then-not-runs-clause-stands g c w world may =
+returns-then-not-runs-clause-stands c w world may =
     let n : ℕ = length (frames_at w c.args.at) in
     let many : c.on_the_way-times.result ≡ n = c.on_the_way-times.ensures w world.sites may.goes_on in
     let below : c.loop.counter < c.on_the_way-times.result = c.loop-test.true in
     let a = c.loop.invariant.goes w world may in
     let not : is_running a.behind (node_of c.args.at) ≡ false =
     sym (c.runs.ensures a.behind a.world a.goes_on ∙ ap (λ n. is_running a.behind n) c.node_of.ensures) ∙ c.if-not-runs.true in
-    again_goes g.row.C.Denot g.row.P.Denot g.C.WorldNode.runs g.C.WorldNode.memory g.P.WorldNode.runs g.P.WorldNode.memory w
-    (Takes c.args.at) 290000000 c.loop.controller c.loop.sites c.args.noted.now.entries.items c.loop.noted.entries.items c.loop.counter n a
-    (again_stops g.row.C.Denot g.row.P.Denot g.C.WorldNode.runs g.C.WorldNode.memory g.P.WorldNode.runs g.P.WorldNode.memory w
-    (Takes c.args.at) 290000000 c.loop.controller c.loop.sites c.args.noted.now.entries.items c.loop.noted.entries.items c.loop.counter n a
+    again_goes w (Takes c.args.at) 290000000 c.loop.controller c.loop.sites c.args.noted.now.entries.items c.loop.noted.entries.items c.loop.counter n a
+    (again_stops w (Takes c.args.at) 290000000 c.loop.controller c.loop.sites c.args.noted.now.entries.items c.loop.noted.entries.items c.loop.counter n a
     (omega (arith, many, below)) not)
 
 pub returns-clause-stands : goal.returns-clause-stands
-returns-clause-stands g c w world may =
+returns-clause-stands c w world may =
     let many : c.on_the_way-times.result ≡ length (frames_at w c.args.at) = c.on_the_way-times.ensures w world.sites may.goes_on in
     let last : c.loop.counter ≡ c.on_the_way-times.result = omega (arith, c.loop-test.false, c.loop.auto.counter-end) in
     let a = c.loop.invariant.goes w world may in
-    let G : ℕ → Type 0 = λ n. WorldHasGone g.C.WorldNode.runs g.C.WorldNode.memory g.P.WorldNode.runs g.P.WorldNode.memory c.loop.controller c.loop.sites
+    let G : ℕ → Type 0 = λ n. WorldHasGone c.loop.controller c.loop.sites
     c.args.noted.now.entries.items c.loop.noted.entries.items (all_happen w (replicate n (Takes c.args.at))) in
-    subst G (last ∙ many)
-    (again_goes g.row.C.Denot g.row.P.Denot g.C.WorldNode.runs g.C.WorldNode.memory g.P.WorldNode.runs g.P.WorldNode.memory w
+    subst G (last ∙ many) (again_goes w
     (Takes c.args.at) 290000000 c.loop.controller c.loop.sites c.args.noted.now.entries.items c.loop.noted.entries.items c.loop.counter c.loop.counter a
-    (again_ends g.row.C.Denot g.row.P.Denot g.C.WorldNode.runs g.C.WorldNode.memory g.P.WorldNode.runs g.P.WorldNode.memory w
-    (Takes c.args.at) 290000000 c.loop.controller c.loop.sites c.args.noted.now.entries.items c.loop.noted.entries.items c.loop.counter a))
+    (again_ends w (Takes c.args.at) 290000000 c.loop.controller c.loop.sites c.args.noted.now.entries.items c.loop.noted.entries.items c.loop.counter a))

@@ -8,12 +8,9 @@ use Rattle.node_world.proofs.rounds.take_all.Given as goal
 
 -- the end has taken so many frames
 abbrev pub invariant-loop : goal.invariant-loop
-invariant-loop g l =
+invariant-loop l =
     record {
-      goes : (w : NodeWorld)
-          → WorldIs g.C.WorldNode.runs g.C.WorldNode.memory g.P.WorldNode.runs g.P.WorldNode.memory l.initial.controller l.initial.sites w
-          → MayTakeAll l.fn.at w
-          → Again g.C.WorldNode.runs g.C.WorldNode.memory g.P.WorldNode.runs g.P.WorldNode.memory l.controller l.sites 290000000
+      goes : (w : NodeWorld) → WorldIs l.initial.controller l.initial.sites w → MayTakeAll l.fn.at w → Again l.controller l.sites 290000000
           l.initial.noted.entries.items l.noted.entries.items w (Takes l.fn.at) l.counter;
       short : l.noted.short ≡ false;
     }

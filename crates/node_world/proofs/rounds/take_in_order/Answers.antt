@@ -7,90 +7,84 @@ use Rattle.node_world.proofs.RoundsGo.{link_taken, may_take, next_link, taken_ne
 use Rattle.node_world.proofs.rounds.take_in_order.Goals as goal
 
 pub loop-i-init : goal.loop-i-init
-loop-i-init g c = record {
-  goes = λ w world may.
-      taking_begins g.row.C.Denot g.row.P.Denot g.C.WorldNode.runs g.C.WorldNode.memory g.P.WorldNode.runs g.P.WorldNode.memory w
-      c.args.controller.now c.args.sites.now c.args.noted.now.entries.items world may;
+loop-i-init c = record {
+  goes = λ w world may. taking_begins w c.args.controller.now c.args.sites.now c.args.noted.now.entries.items world may;
   short = c.requires.memory;
 }
 
 pub take_all-requires-clause-state : goal.take_all-requires-clause-state
-take_all-requires-clause-state g c =
+take_all-requires-clause-state c =
     let s = c.requires.state in
     let below : c.loop-i.i < length c.loop-i.sites = omega (arith, c.loop-i-test.true, c.loop-i.auto.sites) in
     let site = slice_index_or c.loop-i.sites c.loop-i.i c.index-sites-i.result in
     let h : ℕ = site.host in
-    let n = next_link g.row.C.Denot g.row.P.Denot g.C.WorldNode.runs g.C.WorldNode.memory g.P.WorldNode.runs g.P.WorldNode.memory s.0
-    c.loop-i.controller c.loop-i.sites c.args.noted.now.entries.items c.loop-i.noted.entries.items c.loop-i.i site
+    let n = next_link s.0 c.loop-i.controller c.loop-i.sites c.args.noted.now.entries.items c.loop-i.noted.entries.items c.loop-i.i site
     (c.loop-i.invariant.goes s.0 s.1 s.2) s.2 below (ap (slice_index_or c.loop-i.sites c.loop-i.i) c.index-sites-i.is) in
     let few = n.few in
-    let may = may_take g.row.C.Denot g.row.P.Denot g.C.WorldNode.runs g.C.WorldNode.memory g.P.WorldNode.runs g.P.WorldNode.memory s.0
+    let may = may_take s.0
     c.loop-i.controller c.loop-i.sites c.args.noted.now.entries.items c.loop-i.noted.entries.items (ends_in_order s.0) (end_c h) (end_h h ∷ ends_of n.back)
     (250000000 + 256 * c.loop-i.i) n.done n.back n.taken (omega (arith, few)) n.is in
     (n.taken.behind, n.taken.gone.world, may)
 
 pub take_all-requires-in-loop-i-clause-state : goal.take_all-requires-in-loop-i-clause-state
-take_all-requires-in-loop-i-clause-state g c =
+take_all-requires-in-loop-i-clause-state c =
     let s = c.requires.state in
     let below : c.loop-i.i < length c.loop-i.sites = omega (arith, c.loop-i-test.true, c.loop-i.auto.sites) in
     let site = slice_index_or c.loop-i.sites c.loop-i.i c.index-sites-i.result in
     let h : ℕ = site.host in
-    let n = next_link g.row.C.Denot g.row.P.Denot g.C.WorldNode.runs g.C.WorldNode.memory g.P.WorldNode.runs g.P.WorldNode.memory s.0
-    c.loop-i.controller c.loop-i.sites c.args.noted.now.entries.items c.loop-i.noted.entries.items c.loop-i.i site
+    let n = next_link s.0 c.loop-i.controller c.loop-i.sites c.args.noted.now.entries.items c.loop-i.noted.entries.items c.loop-i.i site
     (c.loop-i.invariant.goes s.0 s.1 s.2) s.2 below (ap (slice_index_or c.loop-i.sites c.loop-i.i) c.index-sites-i.is) in
     let few = n.few in
-    let may = may_take g.row.C.Denot g.row.P.Denot g.C.WorldNode.runs g.C.WorldNode.memory g.P.WorldNode.runs g.P.WorldNode.memory s.0
+    let may = may_take s.0
     c.loop-i.controller c.loop-i.sites c.args.noted.now.entries.items c.loop-i.noted.entries.items (ends_in_order s.0) (end_c h) (end_h h ∷ ends_of n.back)
     (250000000 + 256 * c.loop-i.i) n.done n.back n.taken (omega (arith, few)) n.is in
-    let t = taken_next g.row.C.Denot g.row.P.Denot g.C.WorldNode.runs g.C.WorldNode.memory g.P.WorldNode.runs g.P.WorldNode.memory s.0
+    let t = taken_next s.0
     c.loop-i.controller c.take_all.new.controller c.loop-i.sites c.take_all.new.sites c.args.noted.now.entries.items c.loop-i.noted.entries.items
     c.take_all.new.noted.entries.items (ends_in_order s.0) (end_c h) (end_h h ∷ ends_of n.back) (250000000 + 256 * c.loop-i.i) n.taken
     (c.in_ok-take_all.ensures.stands n.taken.behind n.taken.gone.world may) in
-    let then = may_take g.row.C.Denot g.row.P.Denot g.C.WorldNode.runs g.C.WorldNode.memory g.P.WorldNode.runs g.P.WorldNode.memory s.0
+    let then = may_take s.0
     c.take_all.new.controller c.take_all.new.sites c.args.noted.now.entries.items c.take_all.new.noted.entries.items (ends_in_order s.0) (end_h h)
     (ends_of n.back) (250000000 + 256 * c.loop-i.i + 128) n.done n.back t (omega (arith, few)) n.is in
     (t.behind, t.gone.world, then)
 
 pub loop-i-preserved : goal.loop-i-preserved
-loop-i-preserved g c = record {
+loop-i-preserved c = record {
   goes = λ w world ready.
       let below : c.loop-i.i < length c.loop-i.sites = omega (arith, c.loop-i-test.true, c.loop-i.auto.sites) in
       let site = slice_index_or c.loop-i.sites c.loop-i.i c.index-sites-i.result in
       let h : ℕ = site.host in
-      let n = next_link g.row.C.Denot g.row.P.Denot g.C.WorldNode.runs g.C.WorldNode.memory g.P.WorldNode.runs g.P.WorldNode.memory w
-      c.loop-i.controller c.loop-i.sites c.args.noted.now.entries.items c.loop-i.noted.entries.items c.loop-i.i site
+      let n = next_link w c.loop-i.controller c.loop-i.sites c.args.noted.now.entries.items c.loop-i.noted.entries.items c.loop-i.i site
       (c.loop-i.invariant.goes w world ready) ready below (ap (slice_index_or c.loop-i.sites c.loop-i.i) c.index-sites-i.is) in
       let few = n.few in
-      let may = may_take g.row.C.Denot g.row.P.Denot g.C.WorldNode.runs g.C.WorldNode.memory g.P.WorldNode.runs g.P.WorldNode.memory w
+      let may = may_take w
       c.loop-i.controller c.loop-i.sites c.args.noted.now.entries.items c.loop-i.noted.entries.items (ends_in_order w) (end_c h) (end_h h ∷ ends_of n.back)
       (250000000 + 256 * c.loop-i.i) n.done n.back n.taken (omega (arith, few)) n.is in
-      let t = taken_next g.row.C.Denot g.row.P.Denot g.C.WorldNode.runs g.C.WorldNode.memory g.P.WorldNode.runs g.P.WorldNode.memory w
+      let t = taken_next w
       c.loop-i.controller c.take_all.new.controller c.loop-i.sites c.take_all.new.sites c.args.noted.now.entries.items c.loop-i.noted.entries.items
       c.take_all.new.noted.entries.items (ends_in_order w) (end_c h) (end_h h ∷ ends_of n.back) (250000000 + 256 * c.loop-i.i) n.taken
       (c.in_ok-take_all.ensures.stands n.taken.behind n.taken.gone.world may) in
-      let then = may_take g.row.C.Denot g.row.P.Denot g.C.WorldNode.runs g.C.WorldNode.memory g.P.WorldNode.runs g.P.WorldNode.memory w
+      let then = may_take w
       c.take_all.new.controller c.take_all.new.sites c.args.noted.now.entries.items c.take_all.new.noted.entries.items (ends_in_order w) (end_h h)
       (ends_of n.back) (250000000 + 256 * c.loop-i.i + 128) n.done n.back t (omega (arith, few)) n.is in
-      let last = taken_next g.row.C.Denot g.row.P.Denot g.C.WorldNode.runs g.C.WorldNode.memory g.P.WorldNode.runs g.P.WorldNode.memory w
+      let last = taken_next w
       c.take_all.new.controller c.take_all-in-loop-i.new.controller c.take_all.new.sites c.take_all-in-loop-i.new.sites c.args.noted.now.entries.items
       c.take_all.new.noted.entries.items c.take_all-in-loop-i.new.noted.entries.items (ends_in_order w) (end_h h) (ends_of n.back)
       (250000000 + 256 * c.loop-i.i + 128) t (c.in_ok-take_all-2.ensures.stands t.behind t.gone.world then) in
-      link_taken g.row.C.Denot g.row.P.Denot g.C.WorldNode.runs g.C.WorldNode.memory g.P.WorldNode.runs g.P.WorldNode.memory w
-      c.loop-i.controller c.take_all-in-loop-i.new.controller c.loop-i.sites c.take_all-in-loop-i.new.sites c.args.noted.now.entries.items
+      link_taken w c.loop-i.controller c.take_all-in-loop-i.new.controller c.loop-i.sites c.take_all-in-loop-i.new.sites c.args.noted.now.entries.items
       c.loop-i.noted.entries.items c.take_all-in-loop-i.new.noted.entries.items c.loop-i.i h n last;
   short = c.in_ok-take_all-2.ensures.memory;
 }
 
 pub returns-clause-stands : goal.returns-clause-stands
-returns-clause-stands g c w world may =
+returns-clause-stands c w world may =
     let over : length c.loop-i.sites ≤ c.loop-i.i = omega (arith, c.loop-i-test.false, c.loop-i.auto.sites) in
-    (taking_ends g.row.C.Denot g.row.P.Denot g.C.WorldNode.runs g.C.WorldNode.memory g.P.WorldNode.runs g.P.WorldNode.memory w
+    (taking_ends w
     c.loop-i.controller c.loop-i.sites c.args.noted.now.entries.items c.loop-i.noted.entries.items c.loop-i.i (c.loop-i.invariant.goes w world may) may
     over).gone
 
 pub returns-clause-within : goal.returns-clause-within
-returns-clause-within g c w world may =
+returns-clause-within c w world may =
     let over : length c.loop-i.sites ≤ c.loop-i.i = omega (arith, c.loop-i-test.false, c.loop-i.auto.sites) in
-    (taking_ends g.row.C.Denot g.row.P.Denot g.C.WorldNode.runs g.C.WorldNode.memory g.P.WorldNode.runs g.P.WorldNode.memory w
+    (taking_ends w
     c.loop-i.controller c.loop-i.sites c.args.noted.now.entries.items c.loop-i.noted.entries.items c.loop-i.i (c.loop-i.invariant.goes w world may) may
     over).within

@@ -7,12 +7,9 @@ use Rattle.node_world.proofs.rounds.take_in_order.Given as goal
 
 -- the ends of the first links have taken what stood on their wires
 abbrev pub invariant-loop-i : goal.invariant-loop-i
-invariant-loop-i g l =
+invariant-loop-i l =
     record {
-      goes : (w : NodeWorld)
-          → WorldIs g.C.WorldNode.runs g.C.WorldNode.memory g.P.WorldNode.runs g.P.WorldNode.memory l.initial.controller l.initial.sites w
-          → MayTakeInOrder w
-          → HaveTakenSo g.row.C.Denot g.row.P.Denot g.C.WorldNode.runs g.C.WorldNode.memory g.P.WorldNode.runs g.P.WorldNode.memory w l.controller l.sites
+      goes : (w : NodeWorld) → WorldIs l.initial.controller l.initial.sites w → MayTakeInOrder w → HaveTakenSo w l.controller l.sites
           l.initial.noted.entries.items l.noted.entries.items l.i;
       short : l.noted.short ≡ false;
     }

@@ -8,11 +8,9 @@ use Rattle.node_world.proofs.world_ticks.tick_hosts.Given as goal
 
 -- so many hosts have had their ticks
 abbrev pub invariant-loop-i : goal.invariant-loop-i
-invariant-loop-i g l =
-    let Runs = g.P.WorldNode.runs in
-    let memory = g.P.WorldNode.memory in
+invariant-loop-i l =
     record {
-      goes : (hosts : List Site) → SitesAre Runs memory l.initial.sites hosts → AreToTick hosts
-          → Walked _ Runs memory tick_of tick_told l.sites hosts l.initial.noted.entries.items l.noted.entries.items l.i;
+      goes : (hosts : List Site) → SitesAre l.initial.sites hosts → AreToTick hosts
+          → Walked tick_of tick_told l.sites hosts l.initial.noted.entries.items l.noted.entries.items l.i;
       memory : l.noted.short ≡ false;
     }

@@ -4,15 +4,13 @@ use Rattle.node_sites.specs.declared.power.Power.TheVariants.{Off}
 use Rattle.std.specs.List.{list_any}
 use Rattle.gate_admin.specs.View.{hosts_where, mask_of}
 use Rattle.node_machine.specs.world.World.{new_site}
-use Rattle.node_sites.specs.WorldNodes.{RunsAsHost}
 use Rattle.node_world.specs.Controllers.{SitesAre}
-use Rattle.node_world.specs.Worlds.{node_memory}
 use Rattle.node_world.proofs.WorldsStepped.{stands_at_first}
 use Rattle.node_world.proofs.worlds.NodeWorld.new.Goals as goal
 
 pub returns-clause-stands : goal.returns-clause-stands
 returns-clause-stands c =
-    let S : List ℕ → Type 0 = λ hosts. SitesAre RunsAsHost node_memory c.in_ok-make_sites.field-0.items (map (new_site (replicate 65536 255)) hosts) in
+    let S : List ℕ → Type 0 = λ hosts. SitesAre c.in_ok-make_sites.field-0.items (map (new_site (replicate 65536 255)) hosts) in
     let masked = c.mask_of.ensures
     ∙ ap (λ (hosts : List ℕ). mask_of (hosts_where (λ (host : ℕ). list_any (λ (k : ℕ). k == host) hosts))) c.as_slice-2.ensures.value in
     stands_at_first _ c.args.header.now c.requires (ap (λ m. Off m) c.in_ok-new.ensures)

@@ -1,10 +1,7 @@
 use Rattle.std.proofs.Common.{List, subst, sym}
 use Rattle.lines_told.specs.lines.Below.{nodes_behind}
 use Rattle.lines_told.specs.lines.Plays.{lines_played}
-use Rattle.node_core.specs.Running.{RunsAs}
 use Rattle.node_world.specs.Controllers.{WorldIs}
-use Rattle.node_sites.specs.WorldNodes.{RunsAsHost}
-use Rattle.node_world.specs.Worlds.{node_memory}
 use Rattle.node_world.proofs.WorldsStepped.{in_order_behind, timely_so}
 use Rattle.node_world.proofs.worlds.NodeWorld.rests.Goals as goal
 
@@ -12,7 +9,7 @@ pub all_rest-requires : goal.all_rest-requires
 all_rest-requires c =
     let r = c.requires.state in
     let w = nodes_behind r.0 (lines_played r.0 r.1) in
-    let W : List _ → Type 0 = λ ks. WorldIs RunsAs node_memory RunsAsHost node_memory c.args.self.now.controller ks w in
+    let W : List _ → Type 0 = λ ks. WorldIs c.args.self.now.controller ks w in
     record {
       state = (
         w,
@@ -25,6 +22,6 @@ all_rest-requires c =
 pub returns : goal.returns
 returns c header plays s =
     let w = nodes_behind header (lines_played header plays) in
-    let W : List _ → Type 0 = λ ks. WorldIs RunsAs node_memory RunsAsHost node_memory c.args.self.now.controller ks w in
+    let W : List _ → Type 0 = λ ks. WorldIs c.args.self.now.controller ks w in
     c.all_rest.ensures w (subst W (sym c.as_slice.ensures.value) s.stands) (in_order_behind c.args.self.now header plays s)
     (timely_so c.args.self.now header plays s)

@@ -6,18 +6,15 @@ use Rattle.node_world.specs.declared.worlds.NodeWorld.{NodeWorld}
 use Rattle.node_machine.specs.world.Rounds.{world_round}
 use Rattle.lines_told.specs.lines.Below.{nodes_behind}
 use Rattle.lines_told.specs.lines.Plays.{lines_played}
-use Rattle.node_core.specs.Running.{RunsAs}
-use Rattle.node_sites.specs.WorldNodes.{RunsAsHost}
 use Rattle.node_world.specs.Controllers.{WorldIs}
 use Rattle.node_world.specs.Rounds.{WorldHasGone}
-use Rattle.node_world.specs.Worlds.{node_memory}
 use Rattle.node_world.proofs.WorldsStepped.{may_be_gone, round_answered, round_told_so, rounds_few}
 use Rattle.node_world.proofs.worlds.NodeWorld.round.Goals as goal
 
 pub go_round-requires-clause-state : goal.go_round-requires-clause-state
 go_round-requires-clause-state c =
     let r = c.requires.room in
-    let W : List _ → Type 0 = λ ks. WorldIs RunsAs node_memory RunsAsHost node_memory c.args.self.now.controller ks (nodes_behind
+    let W : List _ → Type 0 = λ ks. WorldIs c.args.self.now.controller ks (nodes_behind
     r.header (lines_played r.header r.plays)) in (
       nodes_behind r.header (lines_played r.header r.plays),
       subst W (sym c.as_mut_slice.ensures.value) r.stands.stands,
@@ -34,10 +31,10 @@ returns-clause-stands c header plays s =
       noted = c.go_round.new.noted;
     } in
     let w = nodes_behind header (lines_played header plays) in
-    let W : List _ → Type 0 = λ ks. WorldIs RunsAs node_memory RunsAsHost node_memory old.controller ks w in
+    let W : List _ → Type 0 = λ ks. WorldIs old.controller ks w in
     let world = subst W (sym c.as_mut_slice.ensures.value) s.stands in
     let many : length c.go_round.new.sites ≡ old.sites.len = omega (arith, c.go_round.auto.sites, c.as_mut_slice.ensures.len) in
-    let G : List _ → Type 0 = λ ks. OnOk c.go_round.result (WorldHasGone RunsAs node_memory RunsAsHost node_memory new.controller ks
+    let G : List _ → Type 0 = λ ks. OnOk c.go_round.result (WorldHasGone new.controller ks
     c.forget.new.self.entries.items new.noted.entries.items (world_round w)) in
     let gone = subst G (sym (with_items_is old.sites c.go_round.new.sites many)) (c.go_round.ensures.stands w world (may_be_gone old header plays s)) in
     round_answered c.go_round.result old new header plays s c.forget.new.self.entries.items (rounds_few old c.requires.room header plays s) gone
@@ -53,10 +50,10 @@ returns-clause-entries c header plays s =
       noted = c.go_round.new.noted;
     } in
     let w = nodes_behind header (lines_played header plays) in
-    let W : List _ → Type 0 = λ ks. WorldIs RunsAs node_memory RunsAsHost node_memory old.controller ks w in
+    let W : List _ → Type 0 = λ ks. WorldIs old.controller ks w in
     let world = subst W (sym c.as_mut_slice.ensures.value) s.stands in
     let many : length c.go_round.new.sites ≡ old.sites.len = omega (arith, c.go_round.auto.sites, c.as_mut_slice.ensures.len) in
-    let G : List _ → Type 0 = λ ks. OnOk c.go_round.result (WorldHasGone RunsAs node_memory RunsAsHost node_memory new.controller ks
+    let G : List _ → Type 0 = λ ks. OnOk c.go_round.result (WorldHasGone new.controller ks
     c.forget.new.self.entries.items new.noted.entries.items (world_round w)) in
     let gone = subst G (sym (with_items_is old.sites c.go_round.new.sites many)) (c.go_round.ensures.stands w world (may_be_gone old header plays s)) in
     round_told_so c.go_round.result old new header plays s c.forget.new.self.entries.items c.forget.ensures.entries gone

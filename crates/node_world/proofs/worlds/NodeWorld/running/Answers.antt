@@ -1,15 +1,12 @@
 use Rattle.std.proofs.Common.{List, subst, sym}
 use Rattle.lines_told.specs.lines.Below.{nodes_behind}
 use Rattle.lines_told.specs.lines.Plays.{lines_played}
-use Rattle.node_core.specs.Running.{RunsAs}
 use Rattle.node_world.specs.Controllers.{WorldIs}
-use Rattle.node_sites.specs.WorldNodes.{RunsAsHost}
-use Rattle.node_world.specs.Worlds.{node_memory}
 use Rattle.node_world.proofs.WorldsStepped.{in_order_behind}
 use Rattle.node_world.proofs.worlds.NodeWorld.running.Goals as goal
 
 pub returns : goal.returns
 returns c header plays s =
     let w = nodes_behind header (lines_played header plays) in
-    let W : List _ → Type 0 = λ ks. WorldIs RunsAs node_memory RunsAsHost node_memory c.args.self.now.controller ks w in
+    let W : List _ → Type 0 = λ ks. WorldIs c.args.self.now.controller ks w in
     c.runs.ensures w (subst W (sym c.as_slice.ensures.value) s.stands) (in_order_behind c.args.self.now header plays s)

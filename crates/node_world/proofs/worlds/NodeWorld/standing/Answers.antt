@@ -3,8 +3,6 @@ use Rattle.node_machine.specs.world.Lines.{frames_at}
 use Rattle.lines_told.specs.lines.Below.{nodes_behind}
 use Rattle.lines_told.specs.lines.Plays.{lines_played}
 use Rattle.node_world.specs.Controllers.{SitesAre}
-use Rattle.node_sites.specs.WorldNodes.{RunsAsHost}
-use Rattle.node_world.specs.Worlds.{node_memory}
 use Rattle.node_world.proofs.LinesAgain.{few_on_way}
 use Rattle.node_world.proofs.WorldsStepped.{in_order_behind}
 use Rattle.node_world.proofs.worlds.NodeWorld.standing.Goals as goal
@@ -13,15 +11,15 @@ pub overflow_cast-result : goal.overflow_cast-result
 overflow_cast-result c =
     let r = c.requires.state in
     let w = nodes_behind r.0 (lines_played r.0 r.1) in
-    let S : List _ → Type 0 = λ ks. SitesAre RunsAsHost node_memory ks w.sites in
+    let S : List _ → Type 0 = λ ks. SitesAre ks w.sites in
     let many : c.on_the_way.result ≡ length (frames_at w c.args.to) =
     c.on_the_way.ensures w (subst S (sym c.as_slice.ensures.value) r.2.stands.sites) (in_order_behind c.args.self.now r.0 r.1 r.2) in
     let few : length (frames_at w c.args.to) ≤ 64 =
-    few_on_way _ RunsAsHost node_memory c.args.to c.args.to.link c.args.self.now.sites.items w.sites r.2.stands.sites in
+    few_on_way c.args.to c.args.to.link c.args.self.now.sites.items w.sites r.2.stands.sites in
     omega (arith, many, few)
 
 pub returns : goal.returns
 returns c header plays s =
     let w = nodes_behind header (lines_played header plays) in
-    let S : List _ → Type 0 = λ ks. SitesAre RunsAsHost node_memory ks w.sites in
+    let S : List _ → Type 0 = λ ks. SitesAre ks w.sites in
     c.on_the_way.ensures w (subst S (sym c.as_slice.ensures.value) s.stands.sites) (in_order_behind c.args.self.now header plays s)

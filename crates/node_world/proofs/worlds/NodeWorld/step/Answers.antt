@@ -6,18 +6,15 @@ use Rattle.node_world.specs.declared.worlds.NodeWorld.{NodeWorld}
 use Rattle.node_machine.specs.world.Lines.{line_step}
 use Rattle.lines_told.specs.lines.Below.{nodes_behind}
 use Rattle.lines_told.specs.lines.Plays.{lines_played}
-use Rattle.node_core.specs.Running.{RunsAs}
-use Rattle.node_sites.specs.WorldNodes.{RunsAsHost}
 use Rattle.node_world.specs.Controllers.{WorldIs}
 use Rattle.node_world.specs.Whole.{LinePlayed}
-use Rattle.node_world.specs.Worlds.{node_memory}
 use Rattle.node_world.proofs.WorldsStepped.{may_be_said, stands_answered, entries_answered, steps_few}
 use Rattle.node_world.proofs.worlds.NodeWorld.step.Goals as goal
 
 pub play_line-requires-clause-state : goal.play_line-requires-clause-state
 play_line-requires-clause-state c =
     let r = c.requires.room in
-    let W : List _ → Type 0 = λ ks. WorldIs RunsAs node_memory RunsAsHost node_memory c.args.self.now.controller ks (nodes_behind
+    let W : List _ → Type 0 = λ ks. WorldIs c.args.self.now.controller ks (nodes_behind
     r.header (lines_played r.header r.plays)) in (
       r.header,
       nodes_behind r.header (lines_played r.header r.plays),
@@ -36,11 +33,11 @@ returns-clause-stands c header plays s may =
     } in
     let w = nodes_behind header (lines_played header plays) in
     let p = may_be_said old c.args.line.now header plays s may in
-    let W : List _ → Type 0 = λ ks. WorldIs RunsAs node_memory RunsAsHost node_memory old.controller ks w in
+    let W : List _ → Type 0 = λ ks. WorldIs old.controller ks w in
     let world = subst W (sym c.as_mut_slice.ensures.value) s.stands in
     let many : length c.play_line.new.sites ≡ old.sites.len = omega (arith, c.play_line.auto.sites, c.as_mut_slice.ensures.len) in
     let P : List _ → Type 0 = λ ks. IfOk c.play_line.result (λ other. other ≡ None
-    → LinePlayed RunsAs node_memory RunsAsHost node_memory new.controller ks new.noted.entries.items (line_step w c.args.line.now)) in
+    → LinePlayed new.controller ks new.noted.entries.items (line_step w c.args.line.now)) in
     let played = subst P (sym (with_items_is old.sites c.play_line.new.sites many)) (c.play_line.ensures.stands header w world p s.mask_is) in
     stands_answered c.play_line.result old new header plays c.args.line.now s may (steps_few old c.args.line.now c.requires.room header plays s) played
     (c.play_line.ensures.misread w world p.goes_on) c.play_line.ensures.memory refl refl refl
@@ -56,24 +53,24 @@ returns-clause-entries c header plays s may =
     } in
     let w = nodes_behind header (lines_played header plays) in
     let p = may_be_said old c.args.line.now header plays s may in
-    let W : List _ → Type 0 = λ ks. WorldIs RunsAs node_memory RunsAsHost node_memory old.controller ks w in
+    let W : List _ → Type 0 = λ ks. WorldIs old.controller ks w in
     let world = subst W (sym c.as_mut_slice.ensures.value) s.stands in
     let many : length c.play_line.new.sites ≡ old.sites.len = omega (arith, c.play_line.auto.sites, c.as_mut_slice.ensures.len) in
     let P : List _ → Type 0 = λ ks. IfOk c.play_line.result (λ other. other ≡ None
-    → LinePlayed RunsAs node_memory RunsAsHost node_memory new.controller ks new.noted.entries.items (line_step w c.args.line.now)) in
+    → LinePlayed new.controller ks new.noted.entries.items (line_step w c.args.line.now)) in
     let played = subst P (sym (with_items_is old.sites c.play_line.new.sites many)) (c.play_line.ensures.stands header w world p s.mask_is) in
     entries_answered c.play_line.result old new header plays c.args.line.now s may played
 
 pub returns-clause-misread : goal.returns-clause-misread
 returns-clause-misread c header plays s may =
     let old = c.args.self.now in
-    let W : List _ → Type 0 = λ ks. WorldIs RunsAs node_memory RunsAsHost node_memory old.controller ks (nodes_behind header (lines_played header plays)) in
+    let W : List _ → Type 0 = λ ks. WorldIs old.controller ks (nodes_behind header (lines_played header plays)) in
     c.play_line.ensures.misread (nodes_behind header (lines_played header plays)) (subst W (sym c.as_mut_slice.ensures.value) s.stands)
     (may_be_said old c.args.line.now header plays s may).goes_on
 
 pub returns-clause-told : goal.returns-clause-told
 returns-clause-told c header plays s may =
     let old = c.args.self.now in
-    let W : List _ → Type 0 = λ ks. WorldIs RunsAs node_memory RunsAsHost node_memory old.controller ks (nodes_behind header (lines_played header plays)) in
+    let W : List _ → Type 0 = λ ks. WorldIs old.controller ks (nodes_behind header (lines_played header plays)) in
     c.play_line.ensures.told (nodes_behind header (lines_played header plays)) (subst W (sym c.as_mut_slice.ensures.value) s.stands)
     (may_be_said old c.args.line.now header plays s may).goes_on

@@ -1,0 +1,21 @@
+use Rattle.link_laws.specs.machine.Machine.LinkInput.{Start}
+use Rattle.node_machine.specs.Node.{steps}
+use Rattle.node_machine.specs.Node.NodeInput.{AtEnd}
+use Rattle.node_core.specs.Running.{RunsAs}
+use Rattle.node_sites.specs.Numbers.{as_told}
+use Rattle.node_sites.proofs.Regardless.{bare, steps_regardless}
+use Rattle.node_sites.proofs.NodesRun.{plainly, still_plainly, begins_so, begins_bare, goes_so, noted_so}
+use Rattle.node_sites.proofs.world_controller.activate.Goals as goal
+
+pub returns-clause-stepped : goal.returns-clause-stepped
+returns-clause-stepped c w begins =
+    let noted = as_told c.args.noted.now.sessions c.args.noted.now.entries.items in
+    let t = c.activate in
+    goes_so RunsAs plainly still_plainly c.has_power.result (steps_regardless (AtEnd c.args.host (Start c.args.power))) begins
+    (t.ensures.stepped noted (bare w) (begins_bare RunsAs plainly noted c.args.noted.now.short begins))
+    (c.has_power.ensures t.new.self.store.journal.live t.ensures.ran)
+
+pub returns-clause-noted : goal.returns-clause-noted
+returns-clause-noted c sessions start w begins told =
+    noted_so c.activate.new.watch {f = steps (AtEnd c.args.host (Start c.args.power))} begins.plan
+    (c.activate.ensures.stepped (as_told sessions start) w (begins_so RunsAs plainly begins told))
