@@ -1,5 +1,5 @@
-//! The parts of a world of nodes: what a node of the world does, the controller and a host as such, the two wires of a link, a host with its
-//! memory and its wires, and what is noted of a step. All of it is this project's own.
+//! The parts of a world of nodes: what its controller and a host of it do in a step, the two wires of a link, a host with its memory and its
+//! wires, and what is noted of a step. All of it is this project's own.
 #![tactic(auto)]
 
 pub mod copying;
