@@ -19,9 +19,10 @@ use Rattle.link_end.specs.Roles.{MayStart}
 use Rattle.swp_act.specs.declared.ActEvent.TheVariants.{Start as ActStart}
 use Rattle.node_core.specs.declared.node.Node.{Node}
 use Rattle.node_core.specs.Nodes.{IsInStep, IsUsable}
-use Rattle.node_core.specs.declared.inputs.LinkInput.{LinkInput as ToEnd}
-use Rattle.node_core.specs.declared.inputs.LinkInput.TheVariants as asks
-use Rattle.node_core.specs.Inputs.{MayComeAt, IsAskedOf}
+use Rattle.node_ends.specs.declared.inputs.LinkInput.{LinkInput as ToEnd}
+use Rattle.node_ends.specs.declared.inputs.LinkInput.TheVariants as asks
+use Rattle.node_ends.specs.Inputs.{MayComeAt}
+use Rattle.node_core.specs.Inputs.{IsAskedOf}
 use Rattle.node_core.specs.Deeds.{IsOnTask}
 use Rattle.node_core.specs.Turning.{IsNodeInOrder}
 use Rattle.node_core.specs.Running.{RunsAs, BeginsStep, HasStepped, IsAllSent, between}

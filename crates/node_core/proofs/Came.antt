@@ -14,14 +14,15 @@ use Rattle.node_ends.specs.Ends.{AreOfHosts}
 use Rattle.node_ends.specs.Making.{AreAllDifferent}
 use Rattle.node_ends.proofs.Apart.{is_outside}
 use Rattle.node_ends.proofs.Dues.{lpdu_few, reset_few_due, start_few, stop_few}
-use Rattle.node_core.specs.declared.inputs.LinkInput.{LinkInput as ToEnd}
-use Rattle.node_core.specs.declared.inputs.LinkInput.TheVariants.{Frame, Reset, Start, Stop}
+use Rattle.node_ends.specs.declared.inputs.LinkInput.{LinkInput as ToEnd}
+use Rattle.node_ends.specs.declared.inputs.LinkInput.TheVariants.{Frame, Reset, Start, Stop}
 use Rattle.node_core.specs.declared.inputs.NodeInput.{NodeInput as ToNode}
 use Rattle.node_core.specs.declared.inputs.NodeInput.TheVariants.{At, Tick}
 use Rattle.node_core.specs.Turning.{IsNodeInOrder, AreFewDue, AreAtMostDue}
 use Rattle.node_core.specs.Syncing.{sync_kept}
 use Rattle.node_core.specs.Running.{HasNoneEnded, between}
-use Rattle.node_core.specs.Inputs.{frame_said, input_of_end, input_of_node, MayComeAt, MayComeToNode, refusal_at, refusal_by, sync_by}
+use Rattle.node_ends.specs.Inputs.{frame_said, input_of_end, MayComeAt, refusal_at}
+use Rattle.node_core.specs.Inputs.{input_of_node, MayComeToNode, refusal_by, sync_by}
 use Rattle.node_core.proofs.Elsewhere.{host_at}
 use Rattle.node_core.proofs.Arriving.{lpdu_outside}
 use Rattle.node_core.proofs.Lateness.{reset_silent}

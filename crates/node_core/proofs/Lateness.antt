@@ -3,12 +3,11 @@ use Rattle.std.proofs.Common.{◌≡◌, ℕ, zero, suc, ◌-◌, ◌≤◌, Boo
 use Rattle.std.proofs.Common.{append_assoc, append-nil}
 use Rattle.std.specs.Prelude.{Option, Some, None, slice_get}
 use Rattle.std.specs.List.{AllByRecursion, flat_map}
-use Rattle.std.specs.Prelude.{Ok, Err, IfSome, is_some, option_map, ◌||◌}
+use Rattle.std.specs.Prelude.{Ok, Err, is_some, option_map, ◌||◌}
 use Rattle.std.proofs.lemmas.List.Concat.{flat_map-cons}
 use Rattle.link_end.specs.declared.report.ResetRefused.{ResetRefused}
-use Rattle.link_end.specs.Reports.{reset_refused, reset_told}
+use Rattle.link_end.specs.Reports.{reset_told}
 use Rattle.node_machine.specs.Node.{told_at}
-use Rattle.node_core.proofs.Sendables.{found_all}
 use Rattle.std.specs.Option.{option_map_or}
 use Rattle.trace_model.specs.declared.entry.Entry.{Entry}
 use Rattle.link_laws.specs.machine.Machine.{LinkEnd as Machine, Refused, report, after_input, whole_acked, reset_refusal, if_up}
@@ -212,30 +211,6 @@ reached_each pool [] [] g = tt
 reached_each pool [] (p ∷ ports) g = absurd g
 reached_each pool (s ∷ seats) [] g = absurd g
 reached_each pool (s ∷ seats) (p ∷ ports) g = (g.0.reached, reached_each pool seats ports g.1)
-
-reset_done : (m : Machine) (window : Option ℕ) (r : LinkReport) → IsReached m → Ok r ≡ reset_told m window → r ≡ report_told (report m (Reset window))
-reset_done m window r reached is = by (reset_refusal m) refl
-  where
-    by : (o : Option Refused) → reset_refusal m ≡ o → r ≡ report_told (report m (Reset window))
-    by None q =
-        let z : Ok r ≡ Ok (record nothing_told { ended = if_up m.shdlc Asked }) = rw q at is in
-        let e : r ≡ record nothing_told { ended = if_up m.shdlc Asked } = cc in
-        e ∙ reset_report m window (is_sound m reached) q
-    by (Some why) q = absurd (let z : Ok r ≡ Err (reset_refused why) = rw q at is in cc)
-
--- what is told of one that is done is its report
-pub reset_answer : (ends : KeptEnds) (ports : List Port) (h : ℕ) (window : Option ℕ) (r : LinkReport) → EndsStandFor ends ports
-    → Some (Ok r) ≡ option_map (λ (p : Port). reset_told p.side window) (port_at ports h)
-    → Some r ≡ option_map (λ (p : Port). report_told (report p.side (Reset window))) (port_at ports h)
-reset_answer ends ports h window r e is =
-    by (port_at ports h) is (found_all _ ports h (reached_each ends.pool ends.seats ports e.each))
-  where
-    by : (o : Option Port) → Some (Ok r) ≡ option_map (λ (p : Port). reset_told p.side window) o → IfSome o (λ (p : Port). IsReached p.side)
-        → Some r ≡ option_map (λ (p : Port). report_told (report p.side (Reset window))) o
-    by None some reached = cc
-    by (Some p) some reached =
-        let z : Ok r ≡ reset_told p.side window = cc in
-        ap (λ (x : LinkReport). Some x) (reset_done p.side window r reached z)
 
 -- one that is refused tells nothing
 pub reset_silent : (core : Core) (ports : List Port) (h : ℕ) (window : Option ℕ) (why : ResetRefused)

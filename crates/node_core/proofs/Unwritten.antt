@@ -32,9 +32,10 @@ use Rattle.node_ends.specs.Ends.{got_at}
 use Rattle.trace_model.specs.declared.entry.Entry.{Entry}
 use Rattle.link_end.specs.Reports.{reset_refused}
 use Rattle.node_core.specs.declared.node.Node.{Node}
-use Rattle.node_core.specs.declared.inputs.LinkInput.{LinkInput as ToEnd}
-use Rattle.node_core.specs.declared.inputs.LinkInput.TheVariants as asks
-use Rattle.node_core.specs.Inputs.{input_of_end, refusal_at, IsAskedOf}
+use Rattle.node_ends.specs.declared.inputs.LinkInput.{LinkInput as ToEnd}
+use Rattle.node_ends.specs.declared.inputs.LinkInput.TheVariants as asks
+use Rattle.node_ends.specs.Inputs.{input_of_end, refusal_at}
+use Rattle.node_core.specs.Inputs.{IsAskedOf}
 use Rattle.node_core.specs.Running.{BeginsStep, HasStepped, reset_refusal_at}
 use Rattle.node_core.proofs.Stepping.{reset_synced, start_synced, stop_synced}
 use Rattle.node_core.specs.Handling.{has_turn}

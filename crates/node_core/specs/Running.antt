@@ -1,15 +1,14 @@
 -- A node between its steps and in them: for which states of its machine it stands, as far as the next step asks for it.
-use Rattle.std.specs.Prelude.{◌≡◌, ℕ, ◌≤◌, ◌+◌, min, length, Bool, true, false, not, List, [], ◌++◌, map, Option, Some, None, option_map, IsTrue}
+use Rattle.std.specs.Prelude.{◌≡◌, ℕ, ◌≤◌, ◌+◌, min, length, Bool, true, false, not, List, [], ◌++◌, map, Option, Some, None, IsTrue}
 use Rattle.std.specs.List.{AllByRecursion}
 use Rattle.std.specs.Option.{option_map_or}
 use Rattle.trace_model.specs.declared.entry.Entry.{Entry}
-use Rattle.link_laws.specs.machine.Machine.{LinkEnd, LinkInput, report, next_frame, frames_out, sent_all, reset_refusal}
+use Rattle.link_laws.specs.machine.Machine.{LinkEnd, LinkInput, report, next_frame, frames_out, sent_all}
 use Rattle.link_laws.specs.machine.Laws.{fetches, after_fetches, most_fetches}
-use Rattle.link_end.specs.declared.report.ResetRefused.{ResetRefused}
-use Rattle.link_end.specs.Reports.{reset_refused}
 use Rattle.node_machine.specs.Parts.{Core, Port, Work}
 use Rattle.node_ends.specs.Desks.{age_at}
 use Rattle.node_ends.specs.Ends.{EndsStandFor, IsHeldWhileOneWaits}
+pub use Rattle.node_ends.specs.Inputs.{reset_refusal_at}
 use Rattle.node_core.specs.declared.node.Node.{Node}
 use Rattle.node_core.specs.declared.running.Ran.{Ran}
 use Rattle.node_core.specs.declared.running.Ran.TheVariants.{Done, Stopped}
@@ -90,11 +89,6 @@ one_more_error p = record p { desk = record p.desk { errors = min 65535 (p.desk.
 -- what a node finds as it boots, by what is kept of it
 abbrev pub core_kept : {N : Type 0} → Node N → Core
 core_kept n = record { node = n.number; journal = n.store.journal.state; tables = n.store.tables; command = None; init = None }
-
--- why a reset of an end is refused, where there is an end and it is
-abbrev pub reset_refusal_at : Option Port → Option ResetRefused
-reset_refusal_at None = None
-reset_refusal_at (Some p) = option_map reset_refused (reset_refusal p.side)
 
 -- an end, where there is one, becomes active by this input
 abbrev pub becomes_active_by : LinkInput → Option Port → Bool

@@ -2,11 +2,12 @@
 ghost use Rattle.std.specs.Prelude.{◌≡◌, Some};
 ghost use Rattle.node_core.specs.Syncing.{sync_told};
 
-use crate::inputs::{Came, LinkInput, comes_to};
+use crate::inputs::Came;
 use crate::node::{InBuffer, MESSAGE, Node};
 use crate::noting::note;
 use crate::reporting::{note_report, tells_nothing};
 use link_end::{LinkReport, ResetRefused};
+use node_ends::LinkInput;
 use swp_base::Nv;
 use trace_model::{Entry, Octets, Watch};
 
@@ -38,7 +39,8 @@ impl<N: Nv + Drop> Node<N> {
     ghost use Rattle.node_ends.specs.Ends.{EndsStandFor, FewAreDue, IsHeldWhileOneWaits, got_at};
     ghost use Rattle.node_core.specs.Nodes.{IsInStep, LiesInBuffer, Carries, IsInSomeStep, CarriesWhere};
     ghost use Rattle.node_core.specs.Turning.{AreFewDue};
-    ghost use Rattle.node_core.specs.Inputs.{input_of_end, refusal_at, MayComeAt, IsWhatCame};
+    ghost use Rattle.node_ends.specs.Inputs.{input_of_end, refusal_at, MayComeAt};
+    ghost use Rattle.node_core.specs.Inputs.{IsWhatCame};
     ghost use Rattle.node_core.specs.Noting.{AreNotes, unnumbered};
 
     // The message that came to the end of the link with this host, where one did, is noted: it lies in the front of the buffer then.
@@ -158,7 +160,7 @@ impl<N: Nv + Drop> Node<N> {
         ensures number { self.new.number ≡ self.old.number }
     {
         let mut told = None;
-        if let Err(why) = comes_to(&mut self.ends, host, what, &mut told) {
+        if let Err(why) = self.ends.comes(host, what, &mut told) {
             return Err(why);
         }
         let Some(report) = &told else {

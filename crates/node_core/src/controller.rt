@@ -1,12 +1,13 @@
 //! A controller: a node with a link to each of its hosts, and the buffer in which it reads a message.
 use crate::booting::{BootFault, BootRefused};
 use crate::hosts::hosts_of;
-use crate::inputs::{LinkInput, NodeInput};
+use crate::inputs::NodeInput;
 use crate::node::{MESSAGE, Node};
 use crate::running::{Ran, Stepped};
 use arrayvec::ArrayVec;
 use hci_store::Store;
 use link_end::ResetRefused;
+use node_ends::LinkInput;
 use std::alloc::Global;
 use std::marker::Model;
 use swp_base::{Control, Lpdu, MemNv, Nv, Role};

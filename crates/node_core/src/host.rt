@@ -1,12 +1,13 @@
 //! A host: a node with the link that has its number, and the buffer in which it reads a message.
 use crate::booting::{BootFault, BootRefused};
 use crate::giving::HostRefused;
-use crate::inputs::{LinkInput, NodeInput};
+use crate::inputs::NodeInput;
 use crate::node::{MESSAGE, Node};
 use crate::running::Ran;
 use arrayvec::ArrayVec;
 use hci_store::Store;
 use link_end::ResetRefused;
+use node_ends::LinkInput;
 use std::alloc::Global;
 use std::marker::Model;
 use swp_base::{Control, Lpdu, MemNv, Nv, Role};
@@ -59,7 +60,8 @@ impl<N: Nv + Drop> Host<N> {
     ghost use Rattle.node_core.specs.Bringing.{Brings};
     ghost use Rattle.node_core.specs.Giving.{refused_as, TellsLength, IsAsked};
     ghost use Rattle.node_core.specs.Running.{RunsAs, BeginsStep, HasStepped, MayStep, ran_so, one_more_error, core_kept, reset_refusal_at, TakesStep};
-    ghost use Rattle.node_core.specs.Inputs.{input_of_end, refusal_at, IsAskedOf};
+    ghost use Rattle.node_ends.specs.Inputs.{input_of_end, refusal_at};
+    ghost use Rattle.node_core.specs.Inputs.{IsAskedOf};
 
     /// A host with this number, 01 to 07, boots from a memory of 65,536 bytes, with the link that has its number. It takes all its memory
     /// here. A memory that says nothing is formatted; one of version 01 is written anew as a snapshot of version 02 before the host

@@ -26,8 +26,9 @@ pub use booting::{BootFault, BootRefused, a_boot_of_version_02_is_that_of_a_worl
 pub use controller::Controller;
 pub use giving::HostRefused;
 pub use host::Host;
-pub use inputs::{LinkInput, NodeInput};
+pub use inputs::NodeInput;
 pub use node::Node;
+pub use node_ends::LinkInput;
 pub use running::{
     Ran, Stepped, a_refused_frame_counts_at_its_desk,
     a_reset_of_an_end_that_became_active_is_not_refused, frames_of_a_node_go_out, how_it_ran,

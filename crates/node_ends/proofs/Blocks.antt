@@ -1,6 +1,7 @@
 -- How many blocks are set aside at an end, from input to input: only what its node does to it changes that.
-use Rattle.std.proofs.Common.{◌≡◌, ℕ, Bool, true, false, cond, List, [], ◌∷◌, refl, ◌∙◌}
-use Rattle.std.specs.Prelude.{Option, Some, None, Result, Ok, Err, is_some, ◌==◌}
+use Rattle.std.proofs.Common.{◌≡◌, ℕ, Bool, true, false, cond, List, [], ◌∷◌, refl, sym, ◌∙◌}
+use Rattle.std.proofs.lemmas.Bool.{true≢false}
+use Rattle.std.specs.Prelude.{Option, Some, None, is_some, ◌==◌}
 use Rattle.shdlc_core.specs.declared.answers.LinkState.{LinkState}
 use Rattle.shdlc_core.specs.declared.answers.LinkState.TheVariants.{Down, Waiting, Up}
 use Rattle.shdlc_core.specs.Machine.{EndState, taken, take_answer, ticked, tick_answer, stopped, reset_with}
@@ -8,15 +9,14 @@ use Rattle.swp_base.specs.declared.control_frames.Control.{Control}
 use Rattle.swp_base.specs.declared.control_frames.Control.TheVariants.{I, S, Rset, Ua, Act as ActFrame, Clt}
 use Rattle.swp_base.specs.declared.control_frames.Act.{Act}
 use Rattle.swp_base.specs.declared.link_terms.Cause.TheVariants.{Asked}
-use Rattle.swp_lpdu.specs.Controls.{control_of}
-use Rattle.swp_lpdu.specs.declared.LpduFault.{LpduFault}
 use Rattle.swp_act.specs.declared.ActEvent.{ActEvent}
 use Rattle.swp_act.specs.declared.ActEvent.TheVariants.{Start as ActStart, Take as ActTake, Tick as ActTick, Stop as ActStop}
 use Rattle.link_laws.specs.machine.Machine.{LinkEnd as Machine, Message, ActDue, Refused, is_open, is_faulty, moved, put_down, with_act, activated, act_answer}
-use Rattle.link_laws.specs.machine.Machine.{role_after, heard, took, after_input, lpdu_input, reset_refusal, window_of}
+use Rattle.link_laws.specs.machine.Machine.{role_after, heard, took, LinkInput, after_input, reset_refusal, window_of}
 use Rattle.link_laws.specs.machine.Machine.{if_up, turn, give_refusal, frame_fetched}
-use Rattle.link_laws.specs.machine.Machine.LinkInput.{Tick, Reset, Start, Stop}
+use Rattle.link_laws.specs.machine.Machine.LinkInput.{Take, TakeUnknown, TakeBroken, Tick, Reset, Start, Stop, FromNode, Fetch}
 use Rattle.link_laws.specs.machine.Machine.Turn.{Give}
+use Rattle.node_ends.proofs.Apart.{is_outside}
 
 moved_aside : (e : Machine) (b : Bool) (s : EndState) → (moved e b s).aside ≡ e.aside
 moved_aside e true s = refl
@@ -57,30 +57,35 @@ took_aside e Ua = either_aside (is_open e.role) (heard e Ua) e e.aside (heard_as
 took_aside e (ActFrame act again) = activated_aside e (ActTake act again)
 took_aside e Clt = refl
 
-pub lpdu_aside : (e : Machine) (lpdu : List ℕ) → (after_input e (lpdu_input lpdu)).aside ≡ e.aside
-lpdu_aside e lpdu = by (control_of lpdu) refl
-  where
-    by : (o : Result Control LpduFault) → control_of lpdu ≡ o → (after_input e (lpdu_input lpdu)).aside ≡ e.aside
-    by (Ok c) q = rw q (took_aside e c)
-    by (Err fault) q = rw q refl
-
-pub tick_aside : (e : Machine) → (after_input e Tick).aside ≡ e.aside
+tick_aside : (e : Machine) → (after_input e Tick).aside ≡ e.aside
 tick_aside e =
     either_aside (is_open e.role) (moved e (is_some (tick_answer e.shdlc).ended) (ticked e.shdlc)) (activated e ActTick) e.aside
     (moved_aside e (is_some (tick_answer e.shdlc).ended) (ticked e.shdlc)) (activated_aside e ActTick)
 
-pub reset_aside : (e : Machine) (window : Option ℕ) → (after_input e (Reset window)).aside ≡ e.aside
+reset_aside : (e : Machine) (window : Option ℕ) → (after_input e (Reset window)).aside ≡ e.aside
 reset_aside e window = by (reset_refusal e) refl
   where
     by : (o : Option Refused) → reset_refusal e ≡ o → (after_input e (Reset window)).aside ≡ e.aside
     by None q = rw q (moved_aside e (is_some (if_up e.shdlc Asked)) (reset_with e.shdlc (window_of e window)))
     by (Some why) q = rw q refl
 
-pub start_aside : (e : Machine) (value : ℕ) → (after_input e (Start value)).aside ≡ e.aside
+start_aside : (e : Machine) (value : ℕ) → (after_input e (Start value)).aside ≡ e.aside
 start_aside e value = activated_aside (moved e true (stopped e.shdlc)) (ActStart value)
 
-pub stop_aside : (e : Machine) → (after_input e Stop).aside ≡ e.aside
+stop_aside : (e : Machine) → (after_input e Stop).aside ≡ e.aside
 stop_aside e = activated_aside (moved e true (stopped e.shdlc)) ActStop
+
+-- what comes from outside
+pub outside_aside : (e : Machine) (i : LinkInput) → is_outside i ≡ true → (after_input e i).aside ≡ e.aside
+outside_aside e (Take c) out = took_aside e c
+outside_aside e TakeUnknown out = refl
+outside_aside e Tick out = tick_aside e
+outside_aside e (Reset window) out = reset_aside e window
+outside_aside e (Start value) out = start_aside e value
+outside_aside e Stop out = stop_aside e
+outside_aside e (TakeBroken fault) out = refl
+outside_aside e (FromNode t) out = absurd (true≢false (sym out))
+outside_aside e Fetch out = absurd (true≢false (sym out))
 
 pub fetched_aside : (e : Machine) → (frame_fetched e).aside ≡ e.aside
 fetched_aside e = by e.acts refl

@@ -1,15 +1,15 @@
 -- One of the ends of a node is changed: the ports that they stand for change as the definition says.
 use Rattle.std.proofs.Common.{◌≡◌, ◌≢◌, ℕ, zero, suc, ◌+◌, ◌*◌, ◌<◌, Bool, true, false, List, [], ◌∷◌, length, refl, sym, ap, ◌∙◌, subst, arith, length-set}
-use Rattle.std.specs.Prelude.{◌==◌, Option, Some, None, option_map, slice_get, slice_set, slice_index_or, IfSome}
+use Rattle.std.specs.Prelude.{◌==◌, Option, Some, None, option_map, slice_get, slice_set, slice_index_or}
 use Rattle.std.specs.List.{AllByRecursion}
 use Rattle.std.proofs.lemmas.Option.{slice_get_within, get_or_from_slice_get}
-use Rattle.std.proofs.lemmas.Bool.{eqb-true, eq-eqb, not-true}
+use Rattle.std.proofs.lemmas.Bool.{eqb-true, eq-eqb}
 use Rattle.block_pool.specs.Pool.{PoolState}
 use Rattle.link_end.specs.declared.«end».End.{End}
 use Rattle.link_end.specs.Ends.{HaveOwners}
 use Rattle.node_machine.specs.Parts.{Port, Desk as DeskOf}
 use Rattle.node_machine.specs.Carrying.{port_at, changed_if, with_port, after_turn}
-use Rattle.link_laws.specs.machine.Machine.{LinkEnd as Machine, Turn, turn, is_held}
+use Rattle.link_laws.specs.machine.Machine.{LinkEnd as Machine, Turn, turn}
 use Rattle.node_ends.specs.declared.seat.Seat.{Seat}
 use Rattle.node_deeds.specs.declared.desks.Desk.{Desk}
 use Rattle.node_deeds.specs.Cores.{IsSoundDesk}
@@ -18,10 +18,10 @@ use Rattle.link_end.specs.declared.link.LinkEnd.{LinkEnd as Link}
 use Rattle.node_ends.specs.declared.seat.Waiting.{Waiting}
 use Rattle.link_laws.specs.machine.Machine.LinkInput.{FromNode}
 use Rattle.link_laws.specs.machine.Laws.{AreSendableInputs}
-use Rattle.node_ends.specs.Holding.{HoldsSeat, HoldsEnd, Moves, WaitsHeld, messages_waiting, kept_number}
+use Rattle.node_ends.specs.Holding.{HoldsSeat, HoldsEnd, Moves, kept_number}
 use Rattle.node_ends.proofs.Counting.{reached_on, turn_acked}
 use Rattle.node_ends.proofs.Moving.{stays_beside}
-use Rattle.node_ends.specs.Ends.{SeatStandsFor, SeatsStandFor, HaveOwnersFrom, HaveOwnHosts, AreEnds, place_in}
+use Rattle.node_ends.specs.Ends.{SeatStandsFor, SeatBecomes, SeatsStandFor, HaveOwnersFrom, HaveOwnHosts, AreEnds, place_in}
 
 -- ## Hosts
 
@@ -394,45 +394,32 @@ owner_at_place {pool} {seats} h i place e =
     let q = o.0 in
     omega (arith, q)
 
--- anything comes to the end at a place
-pub record Comes (old new : PoolState) (seats : List Seat) (h i : ℕ) (f : Port → Port) (d t : Seat) : Type 0 where
-  pub place : place_in h seats ≡ Some i
-  pub moves : Moves old new (slice_index_or seats i d).side.link t.side.link
-  pub host : t.desk.host ≡ (slice_index_or seats i d).desk.host
-  pub stands : (q : Port) → SeatStandsFor old (slice_index_or seats i d) q → SeatStandsFor new t (f q)
+-- the end that is lent at the place of this host, and the port that it stands for
+pub record IsLent (pool : PoolState) (ports : List Port) (h : ℕ) (s : Seat) : Type 0 where
+  pub port : Port
+  pub port_is : port_at ports h ≡ Some port
+  pub host : s.desk.host ≡ h
+  pub stands : SeatStandsFor pool s port
 
-pub comes : {old new : PoolState} {seats : List Seat} {h i : ℕ} {f : Port → Port} {d t : Seat} (ports : List Port) → Comes old new seats h i f d t
-    → AreEnds old seats ports → AreEnds new (slice_set seats i t) (with_port h f ports)
-comes {old} {new} {seats} {h} {i} {f} {d} {t} ports c e =
-    let p = placed_in h i c.place e in
-    let r : Seat = slice_index_or seats i d in
-    let same_seat : r ≡ p.seat = read_at seats i p.seat d p.seat_is in
-    let host : r.desk.host ≡ h = ap (λ (s : Seat). s.desk.host) same_seat ∙ p.host in
-    let one : OneChanges old new h f r t = record { before = host; after = c.host ∙ host; moves = c.moves; stands = c.stands } in
-    one_changes one i seats ports (p.seat_is ∙ ap (λ (s : Seat). Some s) (sym same_seat)) e
+pub lent_at : {pool : PoolState} {seats : List Seat} {ports : List Port} (h i : ℕ) (s : Seat) → Some i ≡ place_in h seats → s ≡ slice_index_or seats i s
+    → AreEnds pool seats ports → IsLent pool ports h s
+lent_at {pool} {seats} h i s place is e =
+    let p = placed_in h i (sym place) e in
+    let same : p.seat ≡ s = sym (is ∙ read_at seats i p.seat s p.seat_is) in
+    let P : Seat → Type 0 = λ x. SeatStandsFor pool x p.port in
+    let Q : Seat → Type 0 = λ x. x.desk.host ≡ h in
+    record { port = p.port; port_is = p.port_is; host = subst Q same p.host; stands = subst P same p.stands }
 
--- an end is held while a message waits there
-pub waits_held : (pool : PoolState) (r : Seat) (p : Port) → SeatStandsFor pool r p → ((p.side.got ≡ [] → ⊥) → is_held p.side ≡ true)
-    → WaitsHeld r.waiting r.side.link
-waits_held pool r p g held = by r.waiting refl
-  where
-    by : (o : Option Waiting) → r.waiting ≡ o → WaitsHeld o r.side.link
-    by None q = tt
-    by (Some w) q =
-        let got = g.holds.waits ∙ ap (messages_waiting pool) q in
-        g.holds.stands.halfway.link.kept.ready ∙ not-true p.side.shdlc.ready (held (λ none. let z = sym got ∙ none in cc))
+-- what becomes of it becomes of its port
+pub becomes_at : {old new : PoolState} {seats : List Seat} {f : Port → Port} (ports : List Port) (h i : ℕ) (s t : Seat) → Some i ≡ place_in h seats
+    → s ≡ slice_index_or seats i s → SeatBecomes old new s t f → AreEnds old seats ports → AreEnds new (slice_set seats i t) (with_port h f ports)
+becomes_at {old} {new} {seats} {f} ports h i s t place is b e =
+    let p = placed_in h i (sym place) e in
+    let same : p.seat ≡ s = sym (is ∙ read_at seats i p.seat s p.seat_is) in
+    let host : s.desk.host ≡ h = ap (λ (x : Seat). x.desk.host) (sym same) ∙ p.host in
+    let one : OneChanges old new h f s t = record { before = host; after = b.host ∙ host; moves = b.moves; stands = b.stands } in
+    one_changes one i seats ports (p.seat_is ∙ ap (λ (x : Seat). Some x) same) e
 
 -- what is told where there is an end
 pub told_there : {X : Type 0} (f : Port → X) (x : X) (o : Option Port) (p : Port) → o ≡ Some p → x ≡ f p → Some x ≡ option_map f o
 told_there f x o p is told = ap (λ y. Some y) told ∙ ap (option_map f) (sym is)
-
--- where no end is that of this host, nothing comes there, and nothing is told
-pub comes_nowhere : {pool : PoolState} {seats : List Seat} {ports : List Port} {X : Type 0} (h : ℕ) (f : Port → Port) (g : Port → X) (o : Option ℕ)
-    → o ≡ place_in h seats → ((i : ℕ) → o ≡ Some i → ⊥) → AreEnds pool seats ports
-    → AreEnds pool seats (with_port h f ports) × (None ≡ option_map g (port_at ports h))
-comes_nowhere h f g o is none e =
-    let n = nowhere h f o is none e in
-    (n.0, ap (option_map g) (sym n.1))
-
-pub if_some : (P : Port → Type 0) (o : Option Port) (p : Port) → o ≡ Some p → P p → IfSome o P
-if_some P o p is h = let Q : Option Port → Type 0 = λ x. IfSome x P in subst Q (sym is) h

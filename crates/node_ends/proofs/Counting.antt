@@ -4,12 +4,9 @@ use Rattle.std.proofs.lemmas.Bool.{true≢false}
 use Rattle.std.specs.Prelude.{Option, Some, None, Result, Ok, Err, is_some, min}
 use Rattle.shdlc_core.specs.declared.answers.LinkState.{LinkState}
 use Rattle.hcp_packet.specs.Packets.{IsSendable, packet_count}
-use Rattle.swp_base.specs.declared.control_frames.Control.{Control}
-use Rattle.swp_lpdu.specs.Controls.{control_of}
-use Rattle.swp_lpdu.specs.declared.LpduFault.{LpduFault}
 use Rattle.link_laws.specs.machine.Machine.{LinkEnd as Machine, LinkInput, Turn, Message, Refused, Report, report, after_input, after_inputs, ended_by}
 use Rattle.link_laws.specs.machine.Machine.{began_by, whole_among}
-use Rattle.link_laws.specs.machine.Machine.{whole_acked, turn, give_refusal, aside_refusal, new_link_end, lpdu_input, reset_refusal, reset_by, window_of, if_up}
+use Rattle.link_laws.specs.machine.Machine.{whole_acked, turn, give_refusal, aside_refusal, new_link_end, reset_refusal, reset_by, window_of, if_up}
 use Rattle.link_laws.specs.machine.Machine.LinkInput.{Take, TakeUnknown, TakeBroken, Tick, Reset, Start, Stop, FromNode, Fetch}
 use Rattle.link_laws.specs.machine.Machine.Turn.{Give, Hold, FetchMessage, SetAside, Release}
 use Rattle.link_laws.specs.machine.Laws.{AreSendableInputs}
@@ -17,13 +14,14 @@ use Rattle.link_laws.proofs.machine.Runs.{Sound, sound, parted}
 use Rattle.link_laws.proofs.machine.Shifts.{Shift}
 use Rattle.link_laws.proofs.machine.Shifts.Shift.{Stays, Ends, Renews, Begins, Rests}
 use Rattle.link_laws.proofs.machine.Sound.{SentAfter, whole_more, whole_given}
-use Rattle.link_laws.proofs.machine.Reports.{Reports, take_so, reset_so}
+use Rattle.link_laws.proofs.machine.Reports.{Reports, take_so, tick_so, reset_so, start_so, stop_so}
 use Rattle.link_end.specs.declared.report.LinkReport.{LinkReport}
-use Rattle.link_end.specs.Reports.{report_told, nothing_told, reset_told}
+use Rattle.link_end.specs.Reports.{report_told, nothing_told, reset_told, reset_refused}
 use Rattle.link_end.specs.declared.report.ResetRefused.{ResetRefused}
 use Rattle.swp_base.specs.declared.link_terms.Cause.TheVariants.{Asked}
 use Rattle.shdlc_core.specs.declared.answers.LinkState.TheVariants.{Down, Waiting, Up}
 use Rattle.node_ends.specs.Holding.{IsReached, kept_number, acked_since, acked_by_reset}
+use Rattle.node_ends.proofs.Apart.{is_outside}
 
 pub is_sound : (m : Machine) → IsReached m → Sound m
 is_sound m r = let P : Machine → Type 0 = λ e. Sound e in subst P (sym r.is) (sound r.role r.inputs r.sendable)
@@ -60,12 +58,20 @@ reached_on m i a r = record {
   is = ap (λ e. after_input e i) r.is ∙ sym (after-append (new_link_end r.role) r.inputs (i ∷ []));
 }
 
-pub reached_lpdu : (m : Machine) (lpdu : List ℕ) → IsReached m → IsReached (after_input m (lpdu_input lpdu))
-reached_lpdu m lpdu r = reached_on m (lpdu_input lpdu) (by (control_of lpdu) refl) r
-  where
-    by : (o : Result Control LpduFault) → control_of lpdu ≡ o → AreSendableInputs (lpdu_input lpdu ∷ [])
-    by (Ok c) q = rw q tt
-    by (Err fault) q = rw q tt
+-- what comes from outside gives no message to the end
+none_given : (i : LinkInput) → is_outside i ≡ true → AreSendableInputs (i ∷ [])
+none_given (Take c) out = tt
+none_given TakeUnknown out = tt
+none_given Tick out = tt
+none_given (Reset window) out = tt
+none_given (Start value) out = tt
+none_given Stop out = tt
+none_given (TakeBroken fault) out = tt
+none_given (FromNode t) out = absurd (true≢false (sym out))
+none_given Fetch out = tt
+
+pub reached_outside : (m : Machine) (i : LinkInput) → is_outside i ≡ true → IsReached m → IsReached (after_input m i)
+reached_outside m i out r = reached_on m i (none_given i out) r
 
 -- ## Turns
 
@@ -161,24 +167,28 @@ acked_by e f ended began h shift sent = go shift
     go (Begins p q not new) = fresh p (h.is.forgot not)
     go (Rests p q not still s) = fresh p (h.is.forgot not)
 
-pub input_acked : (e : Machine) (i : LinkInput) → IsReached e → (Sound e → Reports e i)
+input_acked : (e : Machine) (i : LinkInput) → IsReached e → (Sound e → Reports e i)
     → acked_since (kept_number (whole_acked e)) (report_told (report e i)) ≡ kept_number (whole_acked (after_input e i))
 input_acked e i r reports =
     let h = is_sound e r in
     let b = reports h in
     acked_by e (after_input e i) (is_some (ended_by e i)) (began_by e i) h b.shift b.sent
 
-pub lpdu_acked : (e : Machine) (lpdu : List ℕ) → IsReached e
-    → acked_since (kept_number (whole_acked e)) (report_told (report e (lpdu_input lpdu))) ≡ kept_number (whole_acked (after_input e (lpdu_input lpdu)))
-lpdu_acked e lpdu r = by (control_of lpdu) refl
+-- what comes from outside
+pub outside_acked : (e : Machine) (i : LinkInput) → is_outside i ≡ true → IsReached e
+    → acked_since (kept_number (whole_acked e)) (report_told (report e i)) ≡ kept_number (whole_acked (after_input e i))
+outside_acked e (Take c) out r = input_acked e (Take c) r (take_so e c)
+outside_acked e TakeUnknown out r = at (whole_acked e)
   where
     at : (a : ℕ) → min (min a 4294967295 + (a - a)) 4294967295 ≡ min a 4294967295
     at a = omega arith
-
-    by : (o : Result Control LpduFault) → control_of lpdu ≡ o
-        → acked_since (kept_number (whole_acked e)) (report_told (report e (lpdu_input lpdu))) ≡ kept_number (whole_acked (after_input e (lpdu_input lpdu)))
-    by (Ok c) q = rw q (input_acked e (Take c) r (take_so e c))
-    by (Err fault) q = rw q (at (whole_acked e))
+outside_acked e Tick out r = input_acked e Tick r (tick_so e)
+outside_acked e (Reset window) out r = input_acked e (Reset window) r (reset_so e window)
+outside_acked e (Start value) out r = input_acked e (Start value) r (start_so e value)
+outside_acked e Stop out r = input_acked e Stop r (stop_so e)
+outside_acked e (TakeBroken fault) out r = absurd (true≢false (sym out))
+outside_acked e (FromNode t) out r = absurd (true≢false (sym out))
+outside_acked e Fetch out r = absurd (true≢false (sym out))
 
 -- what was kept, and what was told of the input, give what is kept
 pub acked_so : (told : LinkReport) (x : Report) (before : ℕ) {was now : ℕ} → before ≡ was → told ≡ report_told x → acked_since was (report_told x) ≡ now
@@ -205,6 +215,17 @@ reset_report m window h q =
   where
     gone : (a : ℕ) (e : Machine) → e.sent ≡ [] → whole_acked e - a ≡ 0
     gone a e s = let z : whole_acked e ≡ 0 = rw s refl in omega (arith, z)
+
+-- what is told of a reset that is done is its report
+pub reset_done : (m : Machine) (window : Option ℕ) (r : LinkReport) → IsReached m → Ok r ≡ reset_told m window → r ≡ report_told (report m (Reset window))
+reset_done m window r reached is = by (reset_refusal m) refl
+  where
+    by : (o : Option Refused) → reset_refusal m ≡ o → r ≡ report_told (report m (Reset window))
+    by None q =
+        let z : Ok r ≡ Ok (record nothing_told { ended = if_up m.shdlc Asked }) = rw q at is in
+        let e : r ≡ record nothing_told { ended = if_up m.shdlc Asked } = cc in
+        e ∙ reset_report m window (is_sound m reached) q
+    by (Some why) q = absurd (let z : Ok r ≡ Err (reset_refused why) = rw q at is in cc)
 
 pub reset_acked : (m : Machine) (window : Option ℕ) → IsReached m
     → acked_by_reset (kept_number (whole_acked m)) (reset_told m window) ≡ kept_number (whole_acked (after_input m (Reset window)))

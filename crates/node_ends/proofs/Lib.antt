@@ -10,6 +10,7 @@ mod Reading
 mod AtRest
 mod Placing
 pub mod Coming
+mod Keeping
 pub mod Seated
 pub mod Counting
 pub mod Noticing

@@ -13,16 +13,10 @@ use Rattle.node_deeds.specs.Cores.{IsSoundDesk}
 use Rattle.node_deeds.specs.Shown.{desk_shown}
 use Rattle.node_ends.proofs.Moving.{stays_beside}
 use Rattle.node_ends.specs.Holding.{Moves, HoldsEnd, IsReached, kept_number}
-use Rattle.node_ends.specs.Ends.{SeatStandsFor, SeatsStandFor, HaveOwnersFrom, AreEnds, at_place}
+use Rattle.node_ends.specs.Ends.{SeatStandsFor, SeatBecomes, SeatsStandFor, HaveOwnersFrom, AreEnds, at_place}
 use Rattle.node_ends.proofs.Changing.{OneChanges, apart_places, owners_at, owners_stay, hosts_stay, read_at}
 
--- The end at a place is changed with its pool, and stands for the changed port.
-pub record HereChanges (old new : PoolState) (f : Port → Port) (s t : Seat) : Type 0 where
-  pub host : t.desk.host ≡ s.desk.host
-  pub moves : Moves old new s.side.link t.side.link
-  pub stands : (p : Port) → SeatStandsFor old s p → SeatStandsFor new t (f p)
-
-module _ {old new : PoolState} {f : Port → Port} {s t : Seat} (c : HereChanges old new f s t) where
+module _ {old new : PoolState} {f : Port → Port} {s t : Seat} (c : SeatBecomes old new s t f) where
   -- an end at another place stays
   stays : (j k : ℕ) (u : Seat) (p : Port) → j ≢ k → (s.side.link.outbox.owner ≡ 2 * j) × (s.side.link.inbox.joiner.owner ≡ 2 * j + 1)
       → (u.side.link.outbox.owner ≡ 2 * k) → (u.side.link.inbox.joiner.owner ≡ 2 * k + 1) → SeatStandsFor old u p → SeatStandsFor new u p
@@ -130,7 +124,7 @@ comes_here {old} {new} {seats} {i} {f} {d} {t} ports c e =
     let p = seated old i seats ports c.inside e.each in
     let r : Seat = slice_index_or seats i d in
     let same_seat : r ≡ p.seat = read_at seats i p.seat d p.seat_is in
-    let one : HereChanges old new f r t = record { host = c.host; moves = c.moves; stands = c.stands } in
+    let one : SeatBecomes old new r t f = record { host = c.host; moves = c.moves; stands = c.stands } in
     here_changes one i seats ports (p.seat_is ∙ ap (λ (s : Seat). Some s) (sym same_seat)) e
 
 -- ## All ends, one after another

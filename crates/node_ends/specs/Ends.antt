@@ -17,7 +17,7 @@ use Rattle.node_machine.specs.Node.{is_late, is_over}
 use Rattle.node_deeds.specs.Cores.{IsSoundDesk}
 use Rattle.node_ends.specs.declared.seat.Seat.{Seat}
 use Rattle.node_deeds.specs.Shown.{desk_shown}
-use Rattle.node_ends.specs.Holding.{HoldsSeat, IsReached, kept_number, where_done}
+use Rattle.node_ends.specs.Holding.{HoldsSeat, Moves, IsReached, kept_number, where_done}
 
 -- one end with what is kept of it
 pub record SeatStandsFor (pool : PoolState) (s : Seat) (p : Port) : Type 0 where
@@ -29,6 +29,12 @@ pub record SeatStandsFor (pool : PoolState) (s : Seat) (p : Port) : Type 0 where
   pub acked : s.acked ≡ kept_number (whole_acked p.side)
   pub aside : s.aside ≡ p.side.aside
   pub sound : IsSoundDesk s.desk
+
+-- What is kept of an end becomes this, with its pool: it stands for the changed port, and the ends beside it stay.
+pub record SeatBecomes (old new : PoolState) (s t : Seat) (f : Port → Port) : Type 0 where
+  pub host : t.desk.host ≡ s.desk.host
+  pub moves : Moves old new s.side.link t.side.link
+  pub stands : (p : Port) → SeatStandsFor old s p → SeatStandsFor new t (f p)
 
 -- all of them, one by one
 abbrev pub SeatsStandFor : PoolState → List Seat → List Port → Type 0

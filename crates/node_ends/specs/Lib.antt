@@ -1,4 +1,5 @@
 pub mod Desks
 pub mod Holding
 pub mod Ends
+pub mod Inputs
 pub mod Making

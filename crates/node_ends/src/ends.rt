@@ -1,12 +1,11 @@
 //! The ends of all links of a node in one pool.
 ghost use Rattle.link_laws.specs.machine.Machine.{whole_acked};
-ghost use Rattle.std.specs.Prelude.{IfNone, take, ◌∷◌, []};
+ghost use Rattle.std.specs.Prelude.{[]};
 ghost use Rattle.node_ends.specs.Holding.{kept_number};
-ghost use Rattle.std.specs.Prelude.{◌≡◌, ◌<◌, ◌≤◌, ◌+◌, min, ℕ, List, Some, IfSome, IsTrue, Ok, false, length, option_map, slice_get};
-ghost use Rattle.link_laws.specs.machine.Machine.LinkInput.{Tick, Reset, Start, Stop};
-ghost use Rattle.link_end.specs.Reports.{reset_told};
+ghost use Rattle.std.specs.Prelude.{◌≡◌, ◌<◌, ◌≤◌, ◌+◌, min, List, Some, IfSome, IsTrue, Ok, false, length, option_map, slice_get};
+ghost use Rattle.link_laws.specs.machine.Machine.LinkInput.{Tick};
 ghost use Rattle.swp_lpdu.specs.Controls.{lpdu_of, control_of};
-ghost use Rattle.link_laws.specs.machine.Machine.{lpdu_input, next_frame, report};
+ghost use Rattle.link_laws.specs.machine.Machine.{next_frame, report};
 ghost use Rattle.link_end.specs.Reports.{report_told};
 ghost use Rattle.node_machine.specs.Node.{has_come};
 ghost use Rattle.hcp_packet.specs.Packets.{IsSendable};
@@ -18,9 +17,10 @@ ghost use Rattle.link_laws.specs.machine.Machine.{spare};
 ghost use Rattle.node_machine.specs.Controller.{has_link};
 ghost use Rattle.node_machine.specs.Parts.{Port};
 ghost use Rattle.node_machine.specs.Carrying.{port_at, with_port, after_turn};
-ghost use Rattle.node_ends.specs.Ends.{KeptEnds, AreEnds, FewAreDue, IsHeldWhileOneWaits, MayStartAt, held_at, takes_at, place_in, at_place};
+ghost use Rattle.node_ends.specs.Ends.{KeptEnds, AreEnds, FewAreDue, held_at, takes_at, place_in, at_place};
 ghost use Rattle.node_ends.specs.Ends.{has_sent, frame_at, HasNoneDue};
 
+use crate::inputs::LinkInput;
 use crate::new_seats::add_seats;
 use crate::places::place_of;
 use crate::seat::Seat;
@@ -32,8 +32,7 @@ use link_end::{LinkReport, ResetRefused};
 use node_deeds::Unanswered;
 use std::alloc::Global;
 use std::marker::Model;
-use swp_base::{Control, Lpdu, NoMemory, Role};
-use swp_lpdu::LpduFault;
+use swp_base::{Lpdu, NoMemory, Role};
 
 /// The blocks of each end: for what it sends, and for what comes there. This project's own.
 const QUOTAS: [u16; 14] = [
@@ -57,16 +56,16 @@ impl Model for Ends {
 
 impl Ends {
     ghost use Rattle.node_ends.specs.Making.{AreAllDifferent, new_port};
-    ghost use Rattle.std.specs.Prelude.{IfOk, IfNone, map, take, ◌∷◌};
+    ghost use Rattle.std.specs.Prelude.{IfOk, OnOk, MatchResult, None, map};
     ghost use Rattle.link_laws.specs.machine.Machine.{whole_acked};
     ghost use Rattle.node_machine.specs.Node.{with_older, without_notice, reset_late, is_over_at, forgets};
     ghost use Rattle.node_ends.specs.Holding.{kept_number};
     ghost use Rattle.node_ends.specs.Desks.{IsYoung};
-    ghost use Rattle.std.specs.Prelude.{◌≡◌, ◌≤◌, ◌+◌, min, [], ℕ, List, Some, IfSome, IsTrue, Ok, false, length, option_map, slice_get};
+    ghost use Rattle.std.specs.Prelude.{◌≡◌, ◌≤◌, ◌+◌, min, [], List, Some, IfSome, IsTrue, Ok, false, length, option_map, slice_get};
     ghost use Rattle.swp_lpdu.specs.Controls.{lpdu_of, control_of};
-    ghost use Rattle.link_laws.specs.machine.Machine.{lpdu_input, next_frame, report};
-    ghost use Rattle.link_laws.specs.machine.Machine.LinkInput.{Tick, Reset, Start, Stop};
-    ghost use Rattle.link_end.specs.Reports.{report_told, reset_told};
+    ghost use Rattle.link_laws.specs.machine.Machine.{next_frame, report};
+    ghost use Rattle.link_laws.specs.machine.Machine.LinkInput.{Tick};
+    ghost use Rattle.link_end.specs.Reports.{report_told};
     ghost use Rattle.node_machine.specs.Node.{has_come};
     ghost use Rattle.hcp_packet.specs.Packets.{IsSendable};
     ghost use Rattle.link_laws.specs.machine.Machine.Turn.{Give, Hold, SetAside, Release, FetchMessage};
@@ -77,7 +76,8 @@ impl Ends {
     ghost use Rattle.link_laws.specs.machine.Machine.{spare};
     ghost use Rattle.node_machine.specs.Controller.{has_link};
     ghost use Rattle.node_machine.specs.Carrying.{port_at, with_port, after_turn};
-    ghost use Rattle.node_ends.specs.Ends.{EndsStandFor, FewAreDue, IsHeldWhileOneWaits, MayStartAt, held_at, takes_at, at_place, late_told};
+    ghost use Rattle.node_ends.specs.Ends.{EndsStandFor, FewAreDue, IsHeldWhileOneWaits, held_at, takes_at, at_place, late_told};
+    ghost use Rattle.node_ends.specs.Inputs.{input_of_end, refusal_at, MayComeAt};
     ghost use Rattle.node_ends.specs.Ends.{has_sent, frame_at, HasNoneDue};
 
     /// New ends of the links with these hosts, at most seven, in a pool with 128 blocks of each end for what it sends, and 512 for what
@@ -166,78 +166,34 @@ impl Ends {
         }
     }
 
-    /// What an LPDU says comes to the end of the link with this host. While a message waits at an end, it is held. At most six control
-    /// frames wait there to be sent. What is told of it is put into `told`, since a report is long to hand on: `None` where there is no such
-    /// end.
-    pub fn take(
+    /// What comes to the end of the link with this host. While a message waits there it is held, and at most six control frames wait there to
+    /// be sent. What is told of it is put into `told`, since a report is long to hand on: `None` where there is no such end.
+    ///
+    /// # Errors
+    ///
+    /// A reset is refused: `Inactive` where activation isn't done, and `Waiting` where the end waits already.
+    #[inline(always)]
+    pub fn comes(
         &mut self,
         host: u8,
-        read: &Result<Control, LpduFault>,
+        what: LinkInput<'_>,
         told: &mut Option<LinkReport>,
-    )
-        requires stands { (ports : List Port) × EndsStandFor self.old ports × FewAreDue (port_at ports host)
-            × IsHeldWhileOneWaits (port_at ports host) }
-        requires read { (lpdu : List ℕ) × (read.now ≡ control_of lpdu) }
-        ensures stands { (ports : List Port) (lpdu : List ℕ) → EndsStandFor self.old ports → read.now ≡ control_of lpdu
-            → EndsStandFor self.new (with_port host (λ p. has_come p (Some (lpdu_input lpdu))) ports) }
-        ensures answer { (ports : List Port) (lpdu : List ℕ) → EndsStandFor self.old ports → read.now ≡ control_of lpdu
-            → told.new ≡ option_map (λ (p : Port). report_told (report p.side (lpdu_input lpdu))) (port_at ports host) }
+    ) -> Result<(), ResetRefused>
+        requires stands { (ports : List Port) × EndsStandFor self.old ports × FewAreDue (port_at ports host) × IsHeldWhileOneWaits (port_at ports host)
+            × MayComeAt what (port_at ports host) }
+        ensures stands { (ports : List Port) → EndsStandFor self.old ports
+            → EndsStandFor self.new (with_port host (λ p. has_come p (Some (input_of_end what.entry))) ports) }
+        ensures refusal { (ports : List Port) → EndsStandFor self.old ports
+            → MatchResult result (λ done. refusal_at what.entry (port_at ports host) ≡ None) (λ why. refusal_at what.entry (port_at ports host) ≡ Some why) }
+        ensures told { OnOk result ((ports : List Port) → EndsStandFor self.old ports
+            → told.new ≡ option_map (λ (p : Port). report_told (report p.side (input_of_end what.entry))) (port_at ports host)) }
     {
         let Some(i) = place_of(self.seats.as_slice(), host) else {
             *told = None;
-            return;
+            return Ok(());
         };
-        take_at(&mut self.seats, i, &mut self.pool, host, read, told);
-    }
-
-    /// A reset of the link with this host is asked for, with this window, which is 1 to 4, or with the end's own one.
-    /// At most six control frames wait there to be sent. What is told of it; `None` where there is no such end.
-    pub fn reset(
-        &mut self,
-        host: u8,
-        window: Option<u8>,
-    ) -> Option<Result<LinkReport, ResetRefused>>
-        requires stands { (ports : List Port) × EndsStandFor self.old ports × FewAreDue (port_at ports host) }
-        requires window { IfSome window (λ w. (1 ≤ w) × (w ≤ 4)) }
-        ensures stands { (ports : List Port) → EndsStandFor self.old ports
-            → EndsStandFor self.new (with_port host (λ p. has_come p (Some (Reset window))) ports) }
-        ensures answer { (ports : List Port) → EndsStandFor self.old ports
-            → result ≡ option_map (λ (p : Port). reset_told p.side window) (port_at ports host) }
-    {
-        let Some(i) = place_of(self.seats.as_slice(), host) else {
-            return None;
-        };
-        Some(reset_at(&mut self.seats, i, &mut self.pool, host, window))
-    }
-
-    /// Activation begins at the end of the link with this host, with the sync identifier of a UICC or the power code of a CLF, which is
-    /// 00 or 01. At most six control frames wait there to be sent. What is told of it; `None` where there is no such end.
-    pub fn activate(&mut self, host: u8, value: u16) -> Option<LinkReport>
-        requires stands { (ports : List Port) × EndsStandFor self.old ports × FewAreDue (port_at ports host) × MayStartAt value (port_at ports host) }
-        ensures stands { (ports : List Port) → EndsStandFor self.old ports
-            → EndsStandFor self.new (with_port host (λ p. has_come p (Some (Start value))) ports) }
-        ensures answer { (ports : List Port) → EndsStandFor self.old ports
-            → result ≡ option_map (λ (p : Port). report_told (report p.side (Start value))) (port_at ports host) }
-    {
-        let Some(i) = place_of(self.seats.as_slice(), host) else {
-            return None;
-        };
-        Some(activate_at(&mut self.seats, i, &mut self.pool, host, value))
-    }
-
-    /// Activation ends there, and the link with it. At most six control frames wait there to be sent.
-    /// What is told of it; `None` where there is no such end.
-    pub fn deactivate(&mut self, host: u8) -> Option<LinkReport>
-        requires stands { (ports : List Port) × EndsStandFor self.old ports × FewAreDue (port_at ports host) }
-        ensures stands { (ports : List Port) → EndsStandFor self.old ports
-            → EndsStandFor self.new (with_port host (λ p. has_come p (Some Stop)) ports) }
-        ensures answer { (ports : List Port) → EndsStandFor self.old ports
-            → result ≡ option_map (λ (p : Port). report_told (report p.side Stop)) (port_at ports host) }
-    {
-        let Some(i) = place_of(self.seats.as_slice(), host) else {
-            return None;
-        };
-        Some(deactivate_at(&mut self.seats, i, &mut self.pool, host))
+        let seat = &mut self.seats[i];
+        seat.comes(&mut self.pool, what, told)
     }
 
     /// One tick at the end at this place. At most six control frames wait there to be sent. What is told of it is put into `told`: `None`
@@ -515,81 +471,6 @@ fn is_up_at(seats: &[Seat], i: usize, pool: &Pool, host: u8) -> bool
     ensures { (ports : List Port) → AreEnds pool.now seats.now ports → result ≡ has_link ports host }
 {
     seats[i].is_up()
-}
-
-// Something comes to the end at this place.
-fn take_at(
-    seats: &mut [Seat],
-    i: usize,
-    pool: &mut Pool,
-    host: u8,
-    read: &Result<Control, LpduFault>,
-    told: &mut Option<LinkReport>,
-)
-    requires place { place_in host seats.old ≡ Some i }
-    requires stands { (ports : List Port) × AreEnds pool.old seats.old ports × FewAreDue (port_at ports host)
-        × IsHeldWhileOneWaits (port_at ports host) }
-    requires read { (lpdu : List ℕ) × (read.now ≡ control_of lpdu) }
-    ensures stands { (ports : List Port) (lpdu : List ℕ) → AreEnds pool.old seats.old ports → read.now ≡ control_of lpdu
-        → AreEnds pool.new seats.new (with_port host (λ p. has_come p (Some (lpdu_input lpdu))) ports) }
-    ensures answer { (ports : List Port) (lpdu : List ℕ) → AreEnds pool.old seats.old ports → read.now ≡ control_of lpdu
-        → told.new ≡ option_map (λ (p : Port). report_told (report p.side (lpdu_input lpdu))) (port_at ports host) }
-{
-    let seat = &mut seats[i];
-    let report = told.insert(seat.take(pool, read));
-    seat.count(report);
-}
-
-// A reset is asked for at the end at this place.
-fn reset_at(
-    seats: &mut [Seat],
-    i: usize,
-    pool: &mut Pool,
-    host: u8,
-    window: Option<u8>,
-) -> Result<LinkReport, ResetRefused>
-    requires place { place_in host seats.old ≡ Some i }
-    requires stands { (ports : List Port) × AreEnds pool.old seats.old ports × FewAreDue (port_at ports host) }
-    requires window { IfSome window (λ w. (1 ≤ w) × (w ≤ 4)) }
-    ensures stands { (ports : List Port) → AreEnds pool.old seats.old ports
-        → AreEnds pool.new seats.new (with_port host (λ p. has_come p (Some (Reset window))) ports) }
-    ensures answer { (ports : List Port) → AreEnds pool.old seats.old ports → Some result
-        ≡ option_map (λ (p : Port). reset_told p.side window) (port_at ports host) }
-{
-    let seat = &mut seats[i];
-    let report = seat.reset(pool, window);
-    seat.count_reset(&report);
-    report
-}
-
-// Activation begins there.
-fn activate_at(seats: &mut [Seat], i: usize, pool: &mut Pool, host: u8, value: u16) -> LinkReport
-    requires place { place_in host seats.old ≡ Some i }
-    requires stands { (ports : List Port) × AreEnds pool.old seats.old ports × FewAreDue (port_at ports host) × MayStartAt value (port_at ports host) }
-    ensures stands { (ports : List Port) → AreEnds pool.old seats.old ports
-        → AreEnds pool.new seats.new (with_port host (λ p. has_come p (Some (Start value))) ports) }
-    ensures answer { (ports : List Port) → AreEnds pool.old seats.old ports → Some result
-        ≡ option_map (λ (p : Port). report_told (report p.side (Start value))) (port_at ports host) }
-{
-    let seat = &mut seats[i];
-    let report = seat.activate(pool, value);
-    seat.count(&report);
-    report
-}
-
-// Activation ends there.
-fn deactivate_at(seats: &mut [Seat], i: usize, pool: &mut Pool, host: u8) -> LinkReport
-    requires place { place_in host seats.old ≡ Some i }
-    requires stands { (ports : List Port) × AreEnds pool.old seats.old ports × FewAreDue (port_at ports host) }
-    ensures stands { (ports : List Port) → AreEnds pool.old seats.old ports
-        → AreEnds pool.new seats.new (with_port host (λ p. has_come p (Some Stop)) ports) }
-    ensures answer { (ports : List Port) → AreEnds pool.old seats.old ports → Some result
-        ≡ option_map (λ (p : Port). report_told (report p.side Stop)) (port_at ports host) }
-{
-    let seat = &mut seats[i];
-    let report = seat.deactivate(pool);
-    seat.count(&report);
-    report
 }
 
 // One tick there.

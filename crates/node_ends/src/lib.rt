@@ -3,6 +3,7 @@
 #![tactic(auto)]
 
 mod ends;
+mod inputs;
 mod looking;
 mod new_seats;
 mod passing;
@@ -11,5 +12,6 @@ mod seat;
 mod timing;
 
 pub use ends::Ends;
+pub use inputs::LinkInput;
 pub use looking::Seen;
 pub use seat::Seat;

@@ -2,6 +2,7 @@
 ghost use Rattle.std.specs.Prelude.{◌≡◌, option_map};
 ghost use Rattle.node_ends.specs.Holding.{as_waiting, where_done};
 
+use crate::inputs::LinkInput;
 use block_pool::{Chain, Pool};
 use link_end::{LinkEnd, LinkReport, ResetRefused};
 use node_deeds::{About, Desk, Unanswered};
@@ -44,12 +45,16 @@ impl Seat {
     ghost use Rattle.link_laws.specs.machine.Machine.{next_frame, frame_fetched};
     ghost use Rattle.link_laws.specs.machine.AtRest.{end_rests};
     ghost use Rattle.swp_lpdu.specs.Controls.{lpdu_of};
-    ghost use Rattle.std.specs.Prelude.{◌==◌, Ok, option_map};
+    ghost use Rattle.std.specs.Prelude.{◌==◌, Some, Ok, option_map, MatchResult, OnOk};
     ghost use Rattle.link_end.specs.Roles.{MayStart};
     ghost use Rattle.link_end.specs.Reports.{reset_told};
     ghost use Rattle.swp_act.specs.declared.ActEvent.TheVariants.{Start as ActStart};
     ghost use Rattle.link_end.specs.Ends.{EndStandsFor, Accounts, controls_in};
     ghost use Rattle.node_ends.specs.Desks.{grown_older, kept_notice, has_hundred_ticks, asker_of, as_forgotten};
+    ghost use Rattle.node_machine.specs.Parts.{Port};
+    ghost use Rattle.node_machine.specs.Node.{has_come};
+    ghost use Rattle.node_ends.specs.Ends.{SeatStandsFor, SeatBecomes, FewAreDue, IsHeldWhileOneWaits};
+    ghost use Rattle.node_ends.specs.Inputs.{input_of_end, refusal_at, MayComeAt};
     ghost use Rattle.node_ends.specs.Holding.{HoldsSeat, Moves, WaitsHeld, acked_since, acked_by_reset, ends_by, where_done};
 
     /// A message, which isn't empty, is given to the end to send on a pipe that isn't reserved. Whether it is taken.
@@ -138,9 +143,56 @@ impl Seat {
         }
     }
 
-    /// Takes what an LPDU says, and fetches the message that it brings. While a message waits here the end is held, so that none comes.
-    /// At most six control frames wait to be sent.
-    pub(crate) fn take(&mut self, pool: &mut Pool, read: &Result<Control, LpduFault>) -> LinkReport
+    /// What comes to the end, and what it did to the session is kept. While a message waits here the end is held, and at most six control
+    /// frames wait to be sent. What is told of it is put into `told`, since a report is long to hand on.
+    ///
+    /// # Errors
+    ///
+    /// A reset is refused: `Inactive` where activation isn't done, and `Waiting` where the end waits already.
+    #[inline(always)]
+    pub(crate) fn comes(
+        &mut self,
+        pool: &mut Pool,
+        what: LinkInput<'_>,
+        told: &mut Option<LinkReport>,
+    ) -> Result<(), ResetRefused>
+        requires may { (p : Port) × SeatStandsFor pool.old self.old p × FewAreDue (Some p) × IsHeldWhileOneWaits (Some p) × MayComeAt what (Some p) }
+        ensures becomes { SeatBecomes pool.old pool.new self.old self.new (λ p. has_come p (Some (input_of_end what.entry))) }
+        ensures refusal { (p : Port) → SeatStandsFor pool.old self.old p
+            → MatchResult result (λ done. refusal_at what.entry (Some p) ≡ None) (λ why. refusal_at what.entry (Some p) ≡ Some why) }
+        ensures told { OnOk result ((p : Port) → SeatStandsFor pool.old self.old p
+            → told.new ≡ Some (report_told (report p.side (input_of_end what.entry)))) }
+    {
+        match what {
+            LinkInput::Frame(read) => {
+                let report = told.insert(self.take(pool, read));
+                self.count(report);
+            }
+            LinkInput::Reset(window) => match self.reset(pool, window) {
+                Ok(report) => {
+                    let report = told.insert(report);
+                    self.count(report);
+                }
+                Err(why) => {
+                    self.ended = false;
+                    return Err(why);
+                }
+            },
+            LinkInput::Start(value) => {
+                let report = told.insert(self.activate(pool, value));
+                self.count(report);
+            }
+            LinkInput::Stop => {
+                let report = told.insert(self.deactivate(pool));
+                self.count(report);
+            }
+        }
+        Ok(())
+    }
+
+    // Takes what an LPDU says, and fetches the message that it brings. While a message waits here the end is held, so that none comes.
+    // At most six control frames wait to be sent.
+    fn take(&mut self, pool: &mut Pool, read: &Result<Control, LpduFault>) -> LinkReport
         requires stands { (m : Machine) × HoldsSeat pool.old self.old m }
         requires held { WaitsHeld self.old.waiting self.old.side.link }
         requires read { (lpdu : List ℕ) × (read.now ≡ control_of lpdu) }
@@ -183,17 +235,13 @@ impl Seat {
         self.side.tick(pool)
     }
 
-    /// A reset of the link is asked for, with this window, which is 1 to 4, or with the end's own one. At most six control frames wait
-    /// to be sent.
-    ///
-    /// # Errors
-    ///
-    /// `Inactive` where activation isn't done, and `Waiting` where the end waits already. Nothing changes then.
-    pub(crate) fn reset(
-        &mut self,
-        pool: &mut Pool,
-        window: Option<u8>,
-    ) -> Result<LinkReport, ResetRefused>
+    // A reset of the link is asked for, with this window, which is 1 to 4, or with the end's own one. At most six control frames wait
+    // to be sent.
+    //
+    // # Errors
+    //
+    // `Inactive` where activation isn't done, and `Waiting` where the end waits already. Nothing changes then.
+    fn reset(&mut self, pool: &mut Pool, window: Option<u8>) -> Result<LinkReport, ResetRefused>
         requires stands { (m : Machine) × HoldsSeat pool.old self.old m }
         requires window { IfSome window (λ w. (1 ≤ w) × (w ≤ 4)) }
         requires room { controls_in self.old.side.link ≤ 6 }
@@ -205,9 +253,9 @@ impl Seat {
         self.side.reset(pool, window)
     }
 
-    /// Activation begins, with the sync identifier of a UICC or the power code of a CLF, which is 00 or 01. At most six control frames
-    /// wait to be sent.
-    pub(crate) fn activate(&mut self, pool: &mut Pool, value: u16) -> LinkReport
+    // Activation begins, with the sync identifier of a UICC or the power code of a CLF, which is 00 or 01. At most six control frames
+    // wait to be sent.
+    fn activate(&mut self, pool: &mut Pool, value: u16) -> LinkReport
         requires stands { (m : Machine) × HoldsSeat pool.old self.old m × MayStart m.role (ActStart value) }
         requires room { controls_in self.old.side.link ≤ 6 }
         ensures stands { (m : Machine) → HoldsSeat pool.old self.old m → HoldsSeat pool.new self.new (after_input m (Start value)) }
@@ -218,8 +266,8 @@ impl Seat {
         self.side.activate(pool, value)
     }
 
-    /// Activation ends, and the link with it. At most six control frames wait to be sent.
-    pub(crate) fn deactivate(&mut self, pool: &mut Pool) -> LinkReport
+    // Activation ends, and the link with it. At most six control frames wait to be sent.
+    fn deactivate(&mut self, pool: &mut Pool) -> LinkReport
         requires stands { (m : Machine) × HoldsSeat pool.old self.old m }
         requires room { controls_in self.old.side.link ≤ 6 }
         ensures stands { (m : Machine) → HoldsSeat pool.old self.old m → HoldsSeat pool.new self.new (after_input m Stop) }

@@ -15,11 +15,10 @@ use Rattle.node_ends.proofs.Changing.{told_there}
 use Rattle.node_ends.proofs.Seated.{reads_here, comes_here}
 use Rattle.node_ends.specs.Holding.{HoldsEnd, without_got, acked_since, kept_number}
 use Rattle.node_ends.proofs.Coming.{same_apart, tick_told_apart}
-use Rattle.node_ends.proofs.Counting.{acked_so, reached_on, input_acked}
-use Rattle.link_laws.proofs.machine.Reports.{tick_so}
+use Rattle.node_ends.proofs.Counting.{acked_so, reached_outside, outside_acked}
 use Rattle.node_ends.specs.Ends.{AreEnds, at_place}
 use Rattle.std.specs.Prelude.{slice_index_or, slice_set}
-use Rattle.node_ends.proofs.Blocks.{tick_aside}
+use Rattle.node_ends.proofs.Blocks.{outside_aside}
 use Rattle.node_ends.proofs.ends.tick_place.Goals as goal
 
 pub tick-requires-clause-stands : goal.tick-requires-clause-stands
@@ -48,10 +47,10 @@ returns-clause-stands c ports e =
         desk = ap (λ (s : Seat). desk_shown s.desk) t.ensures.rest ∙ g.desk;
         late = ap (λ (s : Seat). s.late) t.ensures.rest ∙ g.late;
         ended = ap (λ (r : LinkReport). is_some r.ended) (t.ensures.answer q.side g.holds);
-        reached = reached_on q.side Tick tt g.reached;
+        reached = reached_outside q.side Tick refl g.reached;
         acked = acked_so t.result (report q.side Tick) t.new.self.acked (ap (λ (s : Seat). s.acked) t.ensures.rest ∙ g.acked)
-            (t.ensures.answer q.side g.holds) (input_acked q.side Tick g.reached (tick_so q.side));
-        aside = ap (λ (s : Seat). s.aside) t.ensures.rest ∙ (g.aside ∙ sym (tick_aside q.side));
+            (t.ensures.answer q.side g.holds) (outside_acked q.side Tick refl g.reached);
+        aside = ap (λ (s : Seat). s.aside) t.ensures.rest ∙ (g.aside ∙ sym (outside_aside q.side Tick refl));
         sound = subst IsSoundDesk (sym (ap (λ (s : Seat). s.desk) t.ensures.rest)) g.sound;
       };
     }) e))
@@ -74,9 +73,9 @@ returns-then-is_idle-clause-stands c ports e =
             desk = g.desk;
             late = g.late;
             ended = ap (λ (r : LinkReport). is_some r.ended) (sym idle.told ∙ tick_told_apart q.side);
-            reached = reached_on q.side Tick tt g.reached;
+            reached = reached_outside q.side Tick refl g.reached;
             acked = g.acked ∙ ap (λ (m : Machine). kept_number (whole_acked m)) (sym same);
-            aside = g.aside ∙ sym (tick_aside q.side);
+            aside = g.aside ∙ sym (outside_aside q.side Tick refl);
             sound = g.sound;
           };
     }) e

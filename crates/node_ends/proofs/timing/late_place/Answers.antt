@@ -13,7 +13,7 @@ use Rattle.node_ends.proofs.Moving.{few_controls, stays_beside}
 use Rattle.node_ends.proofs.Seated.{reads_here, comes_here}
 use Rattle.node_ends.proofs.Counting.{reached_on, reset_acked}
 use Rattle.node_ends.proofs.Noticing.{late_is, not_late, now_late}
-use Rattle.node_ends.proofs.Blocks.{reset_aside}
+use Rattle.node_ends.proofs.Blocks.{outside_aside}
 use Rattle.node_ends.proofs.timing.late_place.Goals as goal
 
 pub reset_late-requires-clause-stands : goal.reset_late-requires-clause-stands
@@ -43,7 +43,7 @@ returns-clause-stands c ports e =
             ended = ap (λ (s : Seat). s.ended) t.ensures.rest ∙ g.ended;
             reached = reached_on q.side (Reset None) tt g.reached;
             acked = t.ensures.acked q.side g.holds ∙ (ap (λ n. acked_by_reset n (reset_told q.side None)) g.acked ∙ reset_acked q.side None g.reached);
-            aside = ap (λ (s : Seat). s.aside) t.ensures.rest ∙ (g.aside ∙ sym (reset_aside q.side None));
+            aside = ap (λ (s : Seat). s.aside) t.ensures.rest ∙ (g.aside ∙ sym (outside_aside q.side (Reset None) refl));
             sound = subst IsSoundDesk (sym (ap (λ (s : Seat). s.desk) t.ensures.rest)) g.sound;
           });
     }) e

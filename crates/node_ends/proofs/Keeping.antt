@@ -1,0 +1,107 @@
+-- What comes to an end from outside: what is kept of the end stands for its state behind that.
+use Rattle.std.proofs.Common.{◌≡◌, ℕ, true, List, refl, sym, ap, ◌∙◌, subst}
+use Rattle.std.specs.Prelude.{Some, None, Option, option_map, is_some, Result, Ok, Err, OnOk}
+use Rattle.swp_base.specs.declared.control_frames.Control.{Control}
+use Rattle.swp_lpdu.specs.declared.LpduFault.{LpduFault}
+use Rattle.swp_lpdu.specs.Controls.{control_of}
+use Rattle.block_pool.specs.Pool.{PoolState}
+use Rattle.link_laws.specs.machine.Machine.{LinkEnd as Machine, LinkInput, Refused, after_input, lpdu_input, report, reset_refusal}
+use Rattle.link_laws.specs.machine.Machine.LinkInput.{Reset}
+use Rattle.link_end.specs.declared.report.LinkReport.{LinkReport}
+use Rattle.link_end.specs.declared.report.ResetRefused.{ResetRefused}
+use Rattle.link_end.specs.Reports.{report_told, reset_told, reset_refused}
+use Rattle.node_machine.specs.Parts.{Port}
+use Rattle.node_machine.specs.Node.{has_come}
+use Rattle.node_deeds.specs.Cores.{IsSoundDesk}
+use Rattle.node_deeds.specs.Shown.{desk_shown}
+use Rattle.node_ends.specs.declared.inputs.LinkInput.{LinkInput as ToEnd}
+use Rattle.node_ends.specs.declared.inputs.LinkInput.TheVariants as comes
+use Rattle.node_ends.specs.declared.seat.Seat.{Seat}
+use Rattle.node_ends.specs.Holding.{HoldsSeat, Moves, acked_since, ends_by}
+use Rattle.node_ends.specs.Ends.{SeatStandsFor, SeatBecomes}
+use Rattle.node_ends.specs.Inputs.{frame_said, refusal_at}
+use Rattle.node_ends.proofs.Apart.{is_outside}
+use Rattle.node_ends.proofs.Blocks.{outside_aside}
+use Rattle.node_ends.proofs.Coming.{reset_ends}
+use Rattle.node_ends.proofs.Counting.{acked_so, outside_acked, reached_outside, reset_so_far, reset_acked}
+
+-- a call on an end that took an input
+pub record Takes (old new : PoolState) (s t : Seat) (i : LinkInput) : Type 0 where
+  pub outside : is_outside i ≡ true
+  pub stands : (m : Machine) → HoldsSeat old s m → HoldsSeat new t (after_input m i)
+  pub moves : Moves old new s.side.link t.side.link
+  pub rest : t ≡ record s { side = t.side; waiting = t.waiting }
+
+-- this is told of it
+abbrev pub Tells : PoolState → Seat → LinkInput → LinkReport → Type 0
+Tells old s i told = (p : Port) → SeatStandsFor old s p → told ≡ report_told (report p.side i)
+
+-- where the end itself alone was changed, no more was
+pub side_alone : (s t : Seat) → t ≡ record s { side = t.side } → t ≡ record s { side = t.side; waiting = t.waiting }
+side_alone s t is = is ∙ ap (λ w. record s { side = t.side; waiting = w }) (sym (ap (λ (x : Seat). x.waiting) is))
+
+-- then what was told is counted
+pub takes : {old new : PoolState} {s t u : Seat} {i : LinkInput} {told kept : LinkReport} → Takes old new s t i → Tells old s i told → kept ≡ told
+    → u ≡ record t { ended = is_some kept.ended; acked = acked_since t.acked kept } → SeatBecomes old new s u (λ p. has_come p (Some i))
+takes {old} {new} {s} {t} {u} {i} {told} {kept} k tells same is =
+    let P : Seat → Type 0 = λ x. SeatBecomes old new s x (λ p. has_come p (Some i)) in
+    let Q : LinkReport → Type 0 = λ r. P (record t { ended = is_some r.ended; acked = acked_since t.acked r }) in
+    subst P (sym is) (subst Q (sym same) (record {
+      host = ap (λ (x : Seat). x.desk.host) k.rest;
+      moves = k.moves;
+      stands = λ p g. record {
+        holds = k.stands p.side g.holds;
+        desk = ap (λ (x : Seat). desk_shown x.desk) k.rest ∙ g.desk;
+        late = ap (λ (x : Seat). x.late) k.rest ∙ g.late;
+        ended = ap (λ (r : LinkReport). is_some r.ended) (tells p g);
+        reached = reached_outside p.side i k.outside g.reached;
+        acked = acked_so told (report p.side i) t.acked (ap (λ (x : Seat). x.acked) k.rest ∙ g.acked) (tells p g)
+            (outside_acked p.side i k.outside g.reached);
+        aside = ap (λ (x : Seat). x.aside) k.rest ∙ (g.aside ∙ sym (outside_aside p.side i k.outside));
+        sound = subst IsSoundDesk (sym (ap (λ (x : Seat). x.desk) k.rest)) g.sound;
+      };
+    }))
+
+-- a reset that is refused ends no session
+pub refuses : {old new : PoolState} {s t : Seat} {window : Option ℕ} {why : ResetRefused} → Takes old new s t (Reset window)
+    → ((m : Machine) → HoldsSeat old s m → Err why ≡ reset_told m window)
+    → SeatBecomes old new s (record t { ended = ends_by (Err why) }) (λ p. has_come p (Some (Reset window)))
+refuses {window = window} {why} k tells = record {
+  host = ap (λ (x : Seat). x.desk.host) k.rest;
+  moves = k.moves;
+  stands = λ p g. record {
+    holds = k.stands p.side g.holds;
+    desk = ap (λ (x : Seat). desk_shown x.desk) k.rest ∙ g.desk;
+    late = ap (λ (x : Seat). x.late) k.rest ∙ g.late;
+    ended = ap ends_by (tells p.side g.holds) ∙ reset_ends p.side window;
+    reached = reached_outside p.side (Reset window) k.outside g.reached;
+    acked = reset_so_far (Err why) (reset_told p.side window) _ (ap (λ (x : Seat). x.acked) k.rest ∙ g.acked) (tells p.side g.holds)
+        (reset_acked p.side window g.reached);
+    aside = ap (λ (x : Seat). x.aside) k.rest ∙ (g.aside ∙ sym (outside_aside p.side (Reset window) k.outside));
+    sound = subst IsSoundDesk (sym (ap (λ (x : Seat). x.desk) k.rest)) g.sound;
+  };
+}
+
+-- one that is done isn't refused
+pub not_refused : (m : Machine) (window : Option ℕ) (r : LinkReport) → Ok r ≡ reset_told m window → option_map reset_refused (reset_refusal m) ≡ None
+not_refused m window r is = by (reset_refusal m) refl
+  where
+    by : (o : Option Refused) → reset_refusal m ≡ o → option_map reset_refused (reset_refusal m) ≡ None
+    by None q = rw q refl
+    by (Some why) q = absurd (let z : Ok r ≡ Err (reset_refused why) = rw q at is in cc)
+
+-- nothing is refused where there is no end
+pub none_refused : (what : ToEnd) → refusal_at what None ≡ None
+none_refused (comes.Frame read) = refl
+none_refused (comes.Reset window) = refl
+none_refused (comes.Start value) = refl
+none_refused comes.Stop = refl
+
+-- what follows where something was answered
+pub where_ok : {X Y P Q : Type 0} (r : Result X Y) → (P → Q) → OnOk r P → OnOk r Q
+where_ok (Ok x) so p = so p
+where_ok (Err why) so p = p
+
+-- a call on an end that takes what comes there
+pub frame_is : (read : Result Control LpduFault) (lpdu : List ℕ) → read ≡ control_of lpdu → lpdu_input lpdu ≡ frame_said read
+frame_is read lpdu is = ap frame_said (sym is)
