@@ -421,21 +421,6 @@ pub kept_at_rest : (ports : List Port) → are_at_rest (map between ports) ≡ a
 kept_at_rest [] = refl
 kept_at_rest (p ∷ ports) = ap (λ b. end_rests p.side && b) (kept_at_rest ports)
 
-none_kept : (o : Option Port) → option_map between o ≡ None → o ≡ None
-none_kept None is = refl
-none_kept (Some p) is = cc
-
-pub none_at : (h : ℕ) (ports : List Port) → port_at (map between ports) h ≡ None → port_at ports h ≡ None
-none_at h ports none = none_kept (port_at ports h) (sym (kept_at h ports) ∙ none)
-
-pub none_changed : (h : ℕ) (f : Port → Port) (ports : List Port) → port_at ports h ≡ None → with_port h f ports ≡ ports
-none_changed h f [] none = refl
-none_changed h f (p ∷ ports) none = by (none_changed h f ports) (p.desk.host == h) refl
-  where
-    by : (port_at ports h ≡ None → with_port h f ports ≡ ports) → (b : Bool) → (p.desk.host == h) ≡ b → with_port h f (p ∷ ports) ≡ p ∷ ports
-    by later true q = absurd (let z : Some p ≡ None = rw q at none in cc)
-    by later false q = let there : port_at ports h ≡ None = rw q at none in rw q (ap (λ qs. p ∷ qs) (later there))
-
 -- ## What isn't kept
 
 -- RunsAs speaks of what is kept alone

@@ -40,7 +40,7 @@ pub fn how_it_ran(live: bool) -> Ran
 }
 
 impl<N: Nv + Drop> Node<N> {
-    ghost use Rattle.std.specs.Prelude.{◌≡◌, List, map, Some, None, IfSome, IsTrue, Ok, option_map, slice_get};
+    ghost use Rattle.std.specs.Prelude.{◌≡◌, List, map, Some, None, IfSome, IsTrue, Ok};
     ghost use Rattle.swp_lpdu.specs.Controls.{lpdu_of, control_of};
     ghost use Rattle.link_laws.specs.machine.Machine.{next_frame};
     ghost use Rattle.node_machine.specs.Parts.{Core, Port};
@@ -71,22 +71,6 @@ impl<N: Nv + Drop> Node<N> {
         self.ends.count_error(host);
     }
 
-    // The place of the end of the link with this host.
-    fn place(&self, host: u8) -> Option<usize>
-        ensures found { (ports : List Port) → EndsStandFor self.now.ends ports
-            → IfSome result (λ i. option_map (λ (p : Port). p.desk.host) (slice_get ports i) ≡ Some host) }
-        ensures none { (ports : List Port) → EndsStandFor self.now.ends ports → result ≡ None → port_at ports host ≡ None }
-    {
-        for i in 0..7 {
-            if let Some(there) = self.ends.host(i) {
-                if there == host {
-                    return Some(i);
-                }
-            }
-        }
-        None
-    }
-
     /// Fetches the frame that the end of the link with this host is to send now; `None` where it has none to send.
     #[inline(always)]
     pub fn next_out(&mut self, host: u8) -> Option<Lpdu>
@@ -98,10 +82,7 @@ impl<N: Nv + Drop> Node<N> {
         ensures store { self.new.store ≡ self.old.store }
         ensures number { self.new.number ≡ self.old.number }
     {
-        let Some(i) = self.place(host) else {
-            return None;
-        };
-        self.ends.next_out(i)
+        self.ends.next_out(host)
     }
 
     /// Whether no frame is due at the end of the link with this host, which is looked for at this place alone. False says nothing.

@@ -14,13 +14,10 @@ use Rattle.node_ends.specs.declared.seat.Seat.{Seat}
 use Rattle.node_deeds.specs.declared.desks.Desk.{Desk}
 use Rattle.node_deeds.specs.Cores.{IsSoundDesk}
 use Rattle.node_deeds.specs.Shown.{desk_shown}
-use Rattle.link_end.specs.declared.link.LinkEnd.{LinkEnd as Link}
-use Rattle.node_ends.specs.declared.seat.Waiting.{Waiting}
 use Rattle.link_laws.specs.machine.Machine.LinkInput.{FromNode}
 use Rattle.link_laws.specs.machine.Laws.{AreSendableInputs}
-use Rattle.node_ends.specs.Holding.{HoldsSeat, HoldsEnd, Moves, kept_number}
+use Rattle.node_ends.specs.Holding.{HoldsSeat, Moves, kept_number}
 use Rattle.node_ends.proofs.Counting.{reached_on, turn_acked}
-use Rattle.node_ends.proofs.Moving.{stays_beside}
 use Rattle.node_ends.specs.Ends.{SeatStandsFor, SeatBecomes, SeatsStandFor, HaveOwnersFrom, HaveOwnHosts, AreEnds, place_in}
 
 -- ## Hosts
@@ -257,78 +254,6 @@ within {pool} {seats} h i is e =
 pub read_at : (seats : List Seat) (i : ℕ) (s d : Seat) → slice_get seats i ≡ Some s → slice_index_or seats i d ≡ s
 read_at seats i s d is = get_or_from_slice_get seats i s d is
 
--- a call on the end at a place does to it what the node does to the port
-pub record Turns (old new : PoolState) (seats : List Seat) (h i : ℕ) (x : Turn) (d t : Seat) : Type 0 where
-  pub place : place_in h seats ≡ Some i
-  pub sendable : AreSendableInputs (FromNode x ∷ [])
-  pub moves : Moves old new (slice_index_or seats i d).side.link t.side.link
-  pub rest : t ≡ record (slice_index_or seats i d) { side = t.side }
-  pub aside : (m : Machine) → (turn m x).aside ≡ m.aside
-  pub stands : (m : Machine) → HoldsSeat old (slice_index_or seats i d) m → HoldsSeat new t (turn m x)
-
--- the same, where more than the end itself may have changed
-pub record TurnsSo (old new : PoolState) (seats : List Seat) (h i : ℕ) (x : Turn) (d t : Seat) : Type 0 where
-  pub place : place_in h seats ≡ Some i
-  pub sendable : AreSendableInputs (FromNode x ∷ [])
-  pub moves : Moves old new (slice_index_or seats i d).side.link t.side.link
-  pub desk : t.desk ≡ (slice_index_or seats i d).desk
-  pub late : t.late ≡ (slice_index_or seats i d).late
-  pub ended : t.ended ≡ (slice_index_or seats i d).ended
-  pub acked : t.acked ≡ (slice_index_or seats i d).acked
-  pub stands : (m : Machine) → HoldsSeat old (slice_index_or seats i d) m → (slice_index_or seats i d).aside ≡ m.aside
-      → HoldsSeat new t (turn m x) × (t.aside ≡ (turn m x).aside)
-
-pub turns_so : {old new : PoolState} {seats : List Seat} {h i : ℕ} {x : Turn} {d t : Seat} (ports : List Port) → TurnsSo old new seats h i x d t
-    → AreEnds old seats ports → AreEnds new (slice_set seats i t) (with_port h (after_turn x) ports)
-turns_so {old} {new} {seats} {h} {i} {x} {d} {t} ports c e =
-    let p = placed_in h i c.place e in
-    let r : Seat = slice_index_or seats i d in
-    let same_seat : r ≡ p.seat = read_at seats i p.seat d p.seat_is in
-    let host : r.desk.host ≡ h = ap (λ (s : Seat). s.desk.host) same_seat ∙ p.host in
-    let one : OneChanges old new h (after_turn x) r t = record {
-      before = host;
-      after = ap (λ (s : Desk). s.host) c.desk ∙ host;
-      moves = c.moves;
-      stands = λ q g. record {
-        holds = (c.stands q.side g.holds g.aside).0;
-        desk = ap desk_shown c.desk ∙ g.desk;
-        late = c.late ∙ g.late;
-        ended = c.ended ∙ g.ended;
-        reached = reached_on q.side (FromNode x) c.sendable g.reached;
-        acked = c.acked ∙ (g.acked ∙ ap kept_number (sym (turn_acked q.side x c.sendable g.reached)));
-        aside = (c.stands q.side g.holds g.aside).1;
-        sound = subst IsSoundDesk (sym c.desk) g.sound;
-      };
-    } in
-    one_changes one i seats ports (p.seat_is ∙ ap (λ (s : Seat). Some s) (sym same_seat)) e
-
-pub turns : {old new : PoolState} {seats : List Seat} {h i : ℕ} {x : Turn} {d t : Seat} (ports : List Port) → Turns old new seats h i x d t
-    → AreEnds old seats ports → AreEnds new (slice_set seats i t) (with_port h (after_turn x) ports)
-turns {x = x} {d = d} {t = t} ports c e =
-    turns_so {x = x} {d = d} {t = t} ports (record {
-      place = c.place;
-      sendable = c.sendable;
-      moves = c.moves;
-      desk = ap (λ (s : Seat). s.desk) c.rest;
-      late = ap (λ (s : Seat). s.late) c.rest;
-      ended = ap (λ (s : Seat). s.ended) c.rest;
-      acked = ap (λ (s : Seat). s.acked) c.rest;
-      stands = λ m h same. (c.stands m h, ap (λ (s : Seat). s.aside) c.rest ∙ (same ∙ sym (c.aside m)));
-    }) e
-
--- the end that is read at a place stands for the port there
-pub record IsRead (pool : PoolState) (ports : List Port) (h : ℕ) (r : Seat) : Type 0 where
-  pub port : Port
-  pub port_is : port_at ports h ≡ Some port
-  pub stands : SeatStandsFor pool r port
-
-pub reads : {pool : PoolState} {seats : List Seat} {ports : List Port} (h i : ℕ) (d : Seat) → place_in h seats ≡ Some i
-    → AreEnds pool seats ports → IsRead pool ports h (slice_index_or seats i d)
-reads {pool} {seats} h i d place e =
-    let p = placed_in h i place e in
-    let P : Seat → Type 0 = λ s. SeatStandsFor pool s p.port in
-    record { port = p.port; port_is = p.port_is; stands = subst P (sym (read_at seats i p.seat d p.seat_is)) p.stands }
-
 pub nowhere : {pool : PoolState} {seats : List Seat} {ports : List Port} (h : ℕ) (f : Port → Port) (o : Option ℕ) → o ≡ place_in h seats
     → ((i : ℕ) → o ≡ Some i → ⊥) → AreEnds pool seats ports → AreEnds pool seats (with_port h f ports) × (port_at ports h ≡ None)
 nowhere {pool} {seats} {ports} h f None is none e =
@@ -336,54 +261,6 @@ nowhere {pool} {seats} {ports} h f None is none e =
     let P : List Port → Type 0 = λ l. AreEnds pool seats l in
     (subst P (sym n.0) e, n.1)
 nowhere h f (Some i) is none e = absurd (none i refl)
-
--- the owner of the end at a place
-pub owner_is : {pool : PoolState} {seats : List Seat} {ports : List Port} (h i : ℕ) (d : Seat) → place_in h seats ≡ Some i → AreEnds pool seats ports
-    → (slice_index_or seats i d).side.link.outbox.owner ≡ 2 * i
-owner_is {pool} {seats} h i d place e =
-    let p = placed_in h i place e in
-    let o = owners_at 0 i seats p.seat p.seat_is e.owners in
-    ap (λ (s : Seat). s.side.link.outbox.owner) (read_at seats i p.seat d p.seat_is) ∙ (let q = o.0 in omega (arith, q))
-
--- what is kept of an end beside it is changed
-pub record SetsDesk (pool : PoolState) (seats : List Seat) (h i : ℕ) (f : DeskOf → DeskOf) (d t : Seat) : Type 0 where
-  pub place : place_in h seats ≡ Some i
-  pub side : t.side ≡ (slice_index_or seats i d).side
-  pub waiting : t.waiting ≡ (slice_index_or seats i d).waiting
-  pub late : t.late ≡ (slice_index_or seats i d).late
-  pub ended : t.ended ≡ (slice_index_or seats i d).ended
-  pub acked : t.acked ≡ (slice_index_or seats i d).acked
-  pub aside : t.aside ≡ (slice_index_or seats i d).aside
-  pub host : t.desk.host ≡ (slice_index_or seats i d).desk.host
-  pub desk : desk_shown t.desk ≡ f (desk_shown (slice_index_or seats i d).desk)
-  pub sound : IsSoundDesk (slice_index_or seats i d).desk → IsSoundDesk t.desk
-
-pub sets_desk : {pool : PoolState} {seats : List Seat} {h i : ℕ} {f : DeskOf → DeskOf} {d t : Seat} (ports : List Port) → SetsDesk pool seats h i f d t
-    → AreEnds pool seats ports → AreEnds pool (slice_set seats i t) (with_port h (λ p. record p { desk = f p.desk }) ports)
-sets_desk {pool} {seats} {h} {i} {f} {d} {t} ports c e =
-    let p = placed_in h i c.place e in
-    let r : Seat = slice_index_or seats i d in
-    let same_seat : r ≡ p.seat = read_at seats i p.seat d p.seat_is in
-    let host : r.desk.host ≡ h = ap (λ (s : Seat). s.desk.host) same_seat ∙ p.host in
-    let link : t.side.link ≡ r.side.link = ap (λ (l : Link). l.link) c.side in
-    let one : OneChanges pool pool h (λ q. record q { desk = f q.desk }) r t = record {
-      before = host;
-      after = c.host ∙ host;
-      moves = stays_beside pool r.side.link t.side.link (ap (λ (k : End). k.outbox) link) (ap (λ (k : End). k.inbox) link);
-      stands = λ q g. record {
-        holds = (let P : End → Type 0 = λ k. HoldsEnd pool k t.waiting q.side in
-            let Q : Option Waiting → Type 0 = λ w. HoldsEnd pool r.side.link w q.side in
-            subst P (sym link) (subst Q (sym c.waiting) g.holds));
-        desk = c.desk ∙ ap f g.desk;
-        late = c.late ∙ g.late;
-        ended = c.ended ∙ g.ended;
-        reached = g.reached;
-        acked = c.acked ∙ g.acked;
-        aside = c.aside ∙ g.aside;
-        sound = c.sound g.sound;
-      };
-    } in
-    one_changes one i seats ports (p.seat_is ∙ ap (λ (s : Seat). Some s) (sym same_seat)) e
 
 -- the owner of the end there
 pub owner_at_place : {pool : PoolState} {seats : List Seat} {ports : List Port} (h i : ℕ) (place : place_in h seats ≡ Some i) (e : AreEnds pool seats ports)
@@ -393,6 +270,32 @@ owner_at_place {pool} {seats} h i place e =
     let o = owners_at 0 i seats p.seat p.seat_is e.owners in
     let q = o.0 in
     omega (arith, q)
+
+-- a call on an end does to it what its node does to the port
+pub record Turned (old new : PoolState) (s t : Seat) (x : Turn) : Type 0 where
+  pub sendable : AreSendableInputs (FromNode x ∷ [])
+  pub moves : Moves old new s.side.link t.side.link
+  pub desk : t.desk ≡ s.desk
+  pub late : t.late ≡ s.late
+  pub ended : t.ended ≡ s.ended
+  pub acked : t.acked ≡ s.acked
+  pub stands : (m : Machine) → HoldsSeat old s m → s.aside ≡ m.aside → HoldsSeat new t (turn m x) × (t.aside ≡ (turn m x).aside)
+
+pub turned : {old new : PoolState} {s t : Seat} {x : Turn} → Turned old new s t x → SeatBecomes old new s t (after_turn x)
+turned {x = x} c = record {
+  host = ap (λ (s : Desk). s.host) c.desk;
+  moves = c.moves;
+  stands = λ p g. record {
+    holds = (c.stands p.side g.holds g.aside).0;
+    desk = ap desk_shown c.desk ∙ g.desk;
+    late = c.late ∙ g.late;
+    ended = c.ended ∙ g.ended;
+    reached = reached_on p.side (FromNode x) c.sendable g.reached;
+    acked = c.acked ∙ (g.acked ∙ ap kept_number (sym (turn_acked p.side x c.sendable g.reached)));
+    aside = (c.stands p.side g.holds g.aside).1;
+    sound = subst IsSoundDesk (sym c.desk) g.sound;
+  };
+}
 
 -- the end that is lent at the place of this host, and the port that it stands for
 pub record IsLent (pool : PoolState) (ports : List Port) (h : ℕ) (s : Seat) : Type 0 where
@@ -409,6 +312,13 @@ lent_at {pool} {seats} h i s place is e =
     let P : Seat → Type 0 = λ x. SeatStandsFor pool x p.port in
     let Q : Seat → Type 0 = λ x. x.desk.host ≡ h in
     record { port = p.port; port_is = p.port_is; host = subst Q same p.host; stands = subst P same p.stands }
+
+-- its owner for what goes out
+pub owner_lent : {pool : PoolState} {seats : List Seat} {ports : List Port} (h i : ℕ) (s : Seat) → Some i ≡ place_in h seats → s ≡ slice_index_or seats i s
+    → AreEnds pool seats ports → s.side.link.outbox.owner ≡ 2 * i
+owner_lent {pool} {seats} h i s place is e =
+    let p = placed_in h i (sym place) e in
+    ap (λ (x : Seat). x.side.link.outbox.owner) (is ∙ read_at seats i p.seat s p.seat_is) ∙ owner_at_place h i (sym place) e
 
 -- what becomes of it becomes of its port
 pub becomes_at : {old new : PoolState} {seats : List Seat} {f : Port → Port} (ports : List Port) (h i : ℕ) (s t : Seat) → Some i ≡ place_in h seats

@@ -11,6 +11,7 @@ mod AtRest
 mod Placing
 pub mod Coming
 mod Keeping
+mod Beside
 pub mod Seated
 pub mod Counting
 pub mod Noticing

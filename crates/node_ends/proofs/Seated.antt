@@ -1,18 +1,10 @@
 -- The end at a place is changed, or those at all places, one after another.
 use Rattle.std.proofs.Common.{◌≡◌, ◌≢◌, ℕ, zero, suc, ◌+◌, ◌*◌, ◌<◌, ◌≤◌, List, [], ◌∷◌, ◌++◌, length, map, take, drop, refl, sym, ap, ◌∙◌, subst}
 use Rattle.std.proofs.Common.{arith, length-set}
-use Rattle.std.specs.Prelude.{Option, Some, None, slice_get, slice_set, slice_index_or}
+use Rattle.std.specs.Prelude.{Some, None, slice_get, slice_set, slice_index_or}
 use Rattle.block_pool.specs.Pool.{PoolState}
 use Rattle.node_machine.specs.Parts.{Port}
 use Rattle.node_ends.specs.declared.seat.Seat.{Seat}
-use Rattle.link_end.specs.declared.«end».End.{End}
-use Rattle.link_end.specs.declared.link.LinkEnd.{LinkEnd as Link}
-use Rattle.link_laws.specs.machine.Machine.{LinkEnd as Machine, whole_acked}
-use Rattle.node_ends.specs.declared.seat.Waiting.{Waiting}
-use Rattle.node_deeds.specs.Cores.{IsSoundDesk}
-use Rattle.node_deeds.specs.Shown.{desk_shown}
-use Rattle.node_ends.proofs.Moving.{stays_beside}
-use Rattle.node_ends.specs.Holding.{Moves, HoldsEnd, IsReached, kept_number}
 use Rattle.node_ends.specs.Ends.{SeatStandsFor, SeatBecomes, SeatsStandFor, HaveOwnersFrom, AreEnds, at_place}
 use Rattle.node_ends.proofs.Changing.{OneChanges, apart_places, owners_at, owners_stay, hosts_stay, read_at}
 
@@ -111,21 +103,19 @@ reads_here {pool} {seats} {ports} i d inside e =
     let P : Seat → Type 0 = λ s. SeatStandsFor pool s p.port in
     record { port = p.port; port_is = p.port_is; stands = subst P (sym (read_at seats i p.seat d p.seat_is)) p.stands }
 
--- anything comes to the end at a place
-pub record ComesHere (old new : PoolState) (seats : List Seat) (i : ℕ) (f : Port → Port) (d t : Seat) : Type 0 where
-  pub inside : i < length seats
-  pub moves : Moves old new (slice_index_or seats i d).side.link t.side.link
-  pub host : t.desk.host ≡ (slice_index_or seats i d).desk.host
-  pub stands : (q : Port) → SeatStandsFor old (slice_index_or seats i d) q → SeatStandsFor new t (f q)
+-- the same of the end that is lent there
+pub lent_here : {pool : PoolState} {seats : List Seat} {ports : List Port} (i : ℕ) (s : Seat) → i < length seats → s ≡ slice_index_or seats i s
+    → AreEnds pool seats ports → IsReadHere pool ports i s
+lent_here {pool} {seats} {ports} i s inside is e =
+    let P : Seat → Type 0 = λ x. IsReadHere pool ports i x in subst P (sym is) (reads_here i s inside e)
 
-pub comes_here : {old new : PoolState} {seats : List Seat} {i : ℕ} {f : Port → Port} {d t : Seat} (ports : List Port)
-    → ComesHere old new seats i f d t → AreEnds old seats ports → AreEnds new (slice_set seats i t) (at_place i f ports)
-comes_here {old} {new} {seats} {i} {f} {d} {t} ports c e =
-    let p = seated old i seats ports c.inside e.each in
-    let r : Seat = slice_index_or seats i d in
-    let same_seat : r ≡ p.seat = read_at seats i p.seat d p.seat_is in
-    let one : SeatBecomes old new r t f = record { host = c.host; moves = c.moves; stands = c.stands } in
-    here_changes one i seats ports (p.seat_is ∙ ap (λ (s : Seat). Some s) (sym same_seat)) e
+-- what becomes of it becomes of its port
+pub becomes_here : {old new : PoolState} {seats : List Seat} {f : Port → Port} (ports : List Port) (i : ℕ) (s t : Seat) → i < length seats
+    → s ≡ slice_index_or seats i s → SeatBecomes old new s t f → AreEnds old seats ports → AreEnds new (slice_set seats i t) (at_place i f ports)
+becomes_here {old} {seats = seats} ports i s t inside is b e =
+    let p = seated old i seats ports inside e.each in
+    let same : p.seat ≡ s = sym (is ∙ read_at seats i p.seat s p.seat_is) in
+    here_changes b i seats ports (p.seat_is ∙ ap (λ (x : Seat). Some x) same) e
 
 -- ## All ends, one after another
 
@@ -166,44 +156,6 @@ as_many pool [] [] g = refl
 as_many pool [] (p ∷ ports) g = absurd g
 as_many pool (s ∷ seats) [] g = absurd g
 as_many pool (s ∷ seats) (p ∷ ports) g = ap suc (as_many pool seats ports g.1)
-
--- what is kept of the end at a place beside it is changed
-pub record SetsHere (pool : PoolState) (seats : List Seat) (i : ℕ) (f : Port → Port) (d t : Seat) : Type 0 where
-  pub inside : i < length seats
-  pub side : t.side ≡ (slice_index_or seats i d).side
-  pub waiting : t.waiting ≡ (slice_index_or seats i d).waiting
-  pub acked : t.acked ≡ (slice_index_or seats i d).acked
-  pub aside : t.aside ≡ (slice_index_or seats i d).aside
-  pub host : t.desk.host ≡ (slice_index_or seats i d).desk.host
-  pub same_side : (q : Port) → (f q).side ≡ q.side
-  pub desk : (q : Port) → SeatStandsFor pool (slice_index_or seats i d) q → desk_shown t.desk ≡ (f q).desk
-  pub sound : IsSoundDesk (slice_index_or seats i d).desk → IsSoundDesk t.desk
-  pub late : (q : Port) → SeatStandsFor pool (slice_index_or seats i d) q → t.late ≡ (f q).late
-  pub ended : (q : Port) → SeatStandsFor pool (slice_index_or seats i d) q → t.ended ≡ (f q).ended
-
-pub sets_here : {pool : PoolState} {seats : List Seat} {i : ℕ} {f : Port → Port} {d t : Seat} (ports : List Port)
-    → SetsHere pool seats i f d t → AreEnds pool seats ports → AreEnds pool (slice_set seats i t) (at_place i f ports)
-sets_here {pool} {seats} {i} {f} {d} {t} ports c e =
-    let r : Seat = slice_index_or seats i d in
-    let link : t.side.link ≡ r.side.link = ap (λ (l : Link). l.link) c.side in
-    comes_here {f = f} {d = d} {t = t} ports (record {
-      inside = c.inside;
-      moves = stays_beside pool r.side.link t.side.link (ap (λ (k : End). k.outbox) link) (ap (λ (k : End). k.inbox) link);
-      host = c.host;
-      stands = λ q g. record {
-        holds = (let P : End → Type 0 = λ k. HoldsEnd pool k t.waiting (f q).side in
-            let Q : Option Waiting → Type 0 = λ w. HoldsEnd pool r.side.link w (f q).side in
-            let M : Machine → Type 0 = λ m. HoldsEnd pool r.side.link r.waiting m in
-            subst P (sym link) (subst Q (sym c.waiting) (subst M (sym (c.same_side q)) g.holds)));
-        desk = c.desk q g;
-        late = c.late q g;
-        ended = c.ended q g;
-        reached = (let M : Machine → Type 0 = λ m. IsReached m in subst M (sym (c.same_side q)) g.reached);
-        acked = c.acked ∙ (g.acked ∙ ap (λ (m : Machine). kept_number (whole_acked m)) (sym (c.same_side q)));
-        sound = c.sound g.sound;
-        aside = c.aside ∙ (g.aside ∙ ap (λ (m : Machine). m.aside) (sym (c.same_side q)));
-      };
-    }) e
 
 -- at a place only the port there matters
 pub at_place_as : (i : ℕ) (f g : Port → Port) (ports : List Port) → ((p : Port) → slice_get ports i ≡ Some p → f p ≡ g p)

@@ -1,10 +1,19 @@
 -- The next frame of an end is fetched.
-use Rattle.std.proofs.Common.{◌≡◌, Bool, true, false, List, [], ◌∷◌, refl, ap}
+use Rattle.std.proofs.Common.{◌≡◌, Bool, true, false, List, [], ◌∷◌, refl, sym, ap, ◌∙◌, subst}
 use Rattle.std.specs.Prelude.{◌==◌, Option, Some, None}
 use Rattle.shdlc_core.specs.declared.answers.Due.{Due}
 use Rattle.shdlc_core.specs.Machine.{EndState, Fragment, fetched, fragment_due}
-use Rattle.link_laws.specs.machine.Machine.{LinkEnd as Machine, ActDue, next_frame, frame_fetched, whole_acked, whole_among}
-use Rattle.node_ends.specs.Holding.{without_got}
+use Rattle.block_pool.specs.Pool.{PoolState}
+use Rattle.link_laws.specs.machine.Machine.{LinkEnd as Machine, ActDue, after_input, next_frame, frame_fetched, whole_acked, whole_among}
+use Rattle.link_laws.specs.machine.Machine.LinkInput.{Fetch}
+use Rattle.link_end.specs.declared.link.LinkEnd.{LinkEnd as Link}
+use Rattle.link_end.specs.Ends.{EndStandsFor}
+use Rattle.node_ends.specs.declared.seat.Seat.{Seat}
+use Rattle.node_ends.specs.Holding.{without_got, kept_number}
+use Rattle.node_ends.specs.Ends.{SeatBecomes, has_sent}
+use Rattle.node_ends.proofs.Blocks.{fetched_aside}
+use Rattle.node_ends.proofs.Counting.{reached_on}
+use Rattle.node_ends.proofs.Moving.{boxes_hold, stays_beside}
 
 -- it has nothing to do with the messages that came
 pub sent_without : (m : Machine) → frame_fetched (without_got m) ≡ without_got (frame_fetched m)
@@ -50,3 +59,23 @@ sent_same m = go m.acts refl
         by : (b : Bool) → (a.behind == 0) ≡ b → ((frame_fetched m).got ≡ m.got) × (whole_acked (frame_fetched m) ≡ whole_acked m)
         by true q = rw (p, q) (refl, refl)
         by false q = rw (p, q) (refl, at)
+
+-- what is kept of an end stands for its port behind that
+pub sent_on : (pool : PoolState) (s : Seat) (side : Link) → (side.link.outbox ≡ s.side.link.outbox) × (side.link.inbox ≡ s.side.link.inbox)
+    → ((m : Machine) → EndStandsFor s.side.link pool m → EndStandsFor side.link pool (after_input m Fetch))
+    → SeatBecomes pool pool s (record s { side = side }) has_sent
+sent_on pool s side boxes stands = record {
+  host = refl;
+  moves = stays_beside pool s.side.link side.link boxes.0 boxes.1;
+  stands = λ p g. record {
+    holds = boxes_hold pool s.side.link side.link s.waiting p.side (frame_fetched p.side) g.holds boxes.1
+        (subst (λ n. EndStandsFor side.link pool n) (sent_without p.side) (stands (without_got p.side) g.holds.stands)) (sent_same p.side).0;
+    desk = g.desk;
+    late = g.late;
+    ended = g.ended;
+    reached = reached_on p.side Fetch tt g.reached;
+    acked = g.acked ∙ ap kept_number (sym (sent_same p.side).1);
+    aside = g.aside ∙ sym (fetched_aside p.side);
+    sound = g.sound;
+  };
+}

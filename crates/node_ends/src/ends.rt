@@ -1,32 +1,12 @@
 //! The ends of all links of a node in one pool.
-ghost use Rattle.link_laws.specs.machine.Machine.{whole_acked};
-ghost use Rattle.std.specs.Prelude.{[]};
-ghost use Rattle.node_ends.specs.Holding.{kept_number};
-ghost use Rattle.std.specs.Prelude.{◌≡◌, ◌<◌, ◌≤◌, ◌+◌, min, List, Some, IfSome, IsTrue, Ok, false, length, option_map, slice_get};
-ghost use Rattle.link_laws.specs.machine.Machine.LinkInput.{Tick};
-ghost use Rattle.swp_lpdu.specs.Controls.{lpdu_of, control_of};
-ghost use Rattle.link_laws.specs.machine.Machine.{next_frame, report};
-ghost use Rattle.link_end.specs.Reports.{report_told};
-ghost use Rattle.node_machine.specs.Node.{has_come};
-ghost use Rattle.hcp_packet.specs.Packets.{IsSendable};
-ghost use Rattle.link_laws.specs.machine.Machine.Turn.{Give, Hold, SetAside, Release, FetchMessage};
-ghost use Rattle.node_deeds.specs.Shown.{notice_shown, row_noticed};
-ghost use Rattle.node_deeds.specs.Cores.{IsSoundRow};
-ghost use Rattle.std.specs.Option.{option_map_or};
-ghost use Rattle.link_laws.specs.machine.Machine.{spare};
-ghost use Rattle.node_machine.specs.Controller.{has_link};
+ghost use Rattle.std.specs.Prelude.{◌<◌, List};
 ghost use Rattle.node_machine.specs.Parts.{Port};
-ghost use Rattle.node_machine.specs.Carrying.{port_at, with_port, after_turn};
-ghost use Rattle.node_ends.specs.Ends.{KeptEnds, AreEnds, FewAreDue, held_at, takes_at, place_in, at_place};
-ghost use Rattle.node_ends.specs.Ends.{has_sent, frame_at, HasNoneDue};
+ghost use Rattle.node_ends.specs.Ends.{KeptEnds, AreEnds};
 
 use crate::inputs::LinkInput;
 use crate::new_seats::add_seats;
 use crate::places::place_of;
 use crate::seat::Seat;
-use crate::timing::{
-    asker_place, begin_place, drop_place, forget_place, late_place, older_place, over_at,
-};
 use block_pool::Pool;
 use link_end::{LinkReport, ResetRefused};
 use node_deeds::Unanswered;
@@ -105,7 +85,8 @@ impl Ends {
         let Some(i) = place_of(self.seats.as_slice(), host) else {
             return false;
         };
-        send_at(&mut self.seats, i, &mut self.pool, host, pipe, message)
+        let seat = &mut self.seats[i];
+        seat.send(&mut self.pool, pipe, message)
     }
 
     /// A block is set aside at the end of the link with this host, where one is spare.
@@ -113,7 +94,8 @@ impl Ends {
         ensures { (ports : List Port) → EndsStandFor self.old ports → EndsStandFor self.new (with_port host (after_turn SetAside) ports) }
     {
         if let Some(i) = place_of(self.seats.as_slice(), host) {
-            set_aside_at(&mut self.seats, i, &mut self.pool, host);
+            let seat = &mut self.seats[i];
+            seat.set_aside(&mut self.pool, 2 * i as u8);
         }
     }
 
@@ -122,7 +104,8 @@ impl Ends {
         ensures { (ports : List Port) → EndsStandFor self.old ports → EndsStandFor self.new (with_port host (after_turn Release) ports) }
     {
         if let Some(i) = place_of(self.seats.as_slice(), host) {
-            release_at(&mut self.seats, i, &mut self.pool, host);
+            let seat = &mut self.seats[i];
+            seat.release(&mut self.pool, 2 * i as u8);
         }
     }
 
@@ -133,7 +116,8 @@ impl Ends {
             → EndsStandFor self.new (with_port host (λ p. record p { desk = record p.desk { notice = option_map notice_shown notice } }) ports) }
     {
         if let Some(i) = place_of(self.seats.as_slice(), host) {
-            set_notice_at(&mut self.seats, i, &self.pool, host, notice);
+            let seat = &mut self.seats[i];
+            seat.desk.notice = notice;
         }
     }
 
@@ -142,7 +126,8 @@ impl Ends {
         ensures { (ports : List Port) → EndsStandFor self.old ports → EndsStandFor self.new (with_port host (after_turn FetchMessage) ports) }
     {
         if let Some(i) = place_of(self.seats.as_slice(), host) {
-            give_back_at(&mut self.seats, i, &mut self.pool, host);
+            let seat = &mut self.seats[i];
+            seat.give_back(&mut self.pool);
         }
     }
 
@@ -152,7 +137,8 @@ impl Ends {
         ensures { (ports : List Port) → EndsStandFor self.old ports → EndsStandFor self.new (with_port host (after_turn (Hold held)) ports) }
     {
         if let Some(i) = place_of(self.seats.as_slice(), host) {
-            hold_at(&mut self.seats, i, &self.pool, host, held);
+            let seat = &mut self.seats[i];
+            seat.hold(held);
         }
     }
 
@@ -162,7 +148,8 @@ impl Ends {
             → EndsStandFor self.new (with_port host (λ p. record p { desk = record p.desk { holds = holds } }) ports) }
     {
         if let Some(i) = place_of(self.seats.as_slice(), host) {
-            set_holds_at(&mut self.seats, i, &self.pool, host, holds);
+            let seat = &mut self.seats[i];
+            seat.desk.holds = holds;
         }
     }
 
@@ -209,7 +196,8 @@ impl Ends {
             *told = None;
             return;
         }
-        tick_place(&mut self.seats, i, &mut self.pool, told);
+        let seat = &mut self.seats[i];
+        seat.tick(&mut self.pool, told);
     }
 
     /// How many ends there are.
@@ -226,7 +214,8 @@ impl Ends {
         if i >= self.seats.len() {
             return None;
         }
-        Some(host_place(self.seats.as_slice(), i, &self.pool))
+        let seat = &self.seats[i];
+        Some(seat.desk.host)
     }
 
     /// The notice of the end at this place, which has fewer than 255 ticks, is a tick older.
@@ -235,7 +224,8 @@ impl Ends {
         ensures { (ports : List Port) → EndsStandFor self.old ports → EndsStandFor self.new (at_place i with_older ports) }
     {
         if i < self.seats.len() {
-            older_place(&mut self.seats, i, &self.pool);
+            let seat = &mut self.seats[i];
+            seat.grow_older();
         }
     }
 
@@ -244,7 +234,8 @@ impl Ends {
         ensures { (ports : List Port) → EndsStandFor self.old ports → EndsStandFor self.new (at_place i without_notice ports) }
     {
         if i < self.seats.len() {
-            drop_place(&mut self.seats, i, &self.pool);
+            let seat = &mut self.seats[i];
+            seat.drop_notice();
         }
     }
 
@@ -254,7 +245,8 @@ impl Ends {
             → EndsStandFor self.new (at_place i (λ p. record p { late = false; ended = false; turns = [] }) ports) }
     {
         if i < self.seats.len() {
-            begin_place(&mut self.seats, i, &self.pool);
+            let seat = &mut self.seats[i];
+            seat.begin_step();
         }
     }
 
@@ -265,7 +257,8 @@ impl Ends {
         let Some(i) = place_of(self.seats.as_slice(), host) else {
             return false;
         };
-        over_at(self.seats.as_slice(), i, &self.pool, host)
+        let seat = &self.seats[i];
+        seat.is_over()
     }
 
     /// How many messages of the session of the end of the link with this host are acknowledged; 4,294,967,295 stands for any greater
@@ -277,7 +270,8 @@ impl Ends {
         let Some(i) = place_of(self.seats.as_slice(), host) else {
             return 0;
         };
-        acked_at(self.seats.as_slice(), i, &self.pool, host)
+        let seat = &self.seats[i];
+        seat.acked
     }
 
     /// A frame on its way to that end was refused: one more for REC_ERROR, which stops at FFFF.
@@ -286,7 +280,8 @@ impl Ends {
             → EndsStandFor self.new (with_port host (λ p. record p { desk = record p.desk { errors = min 65535 (p.desk.errors + 1) } }) ports) }
     {
         if let Some(i) = place_of(self.seats.as_slice(), host) {
-            count_error_at(&mut self.seats, i, &self.pool, host);
+            let seat = &mut self.seats[i];
+            seat.desk.errors = seat.desk.errors.saturating_add(1);
         }
     }
 
@@ -301,20 +296,24 @@ impl Ends {
         if i >= self.seats.len() {
             return None;
         }
-        late_place(&mut self.seats, i, &mut self.pool)
+        let seat = &mut self.seats[i];
+        seat.reset_late(&mut self.pool)
     }
 
-    /// Fetches the frame that the end at this place is to send now; `None` where it has none to send, and behind the last end.
-    pub fn next_out(&mut self, i: usize) -> Option<Lpdu>
-        ensures stands { (ports : List Port) → EndsStandFor self.old ports → EndsStandFor self.new (at_place i has_sent ports) }
-        ensures answer { (ports : List Port) → EndsStandFor self.old ports → result ≡ frame_at (slice_get ports i) }
-        ensures read { (ports : List Port) (p : Port) → EndsStandFor self.old ports → slice_get ports i ≡ Some p
+    /// Fetches the frame that the end of the link with this host is to send now; `None` where it has none to send, and where there is no
+    /// such end.
+    #[inline(always)]
+    pub fn next_out(&mut self, host: u8) -> Option<Lpdu>
+        ensures stands { (ports : List Port) → EndsStandFor self.old ports → EndsStandFor self.new (with_port host has_sent ports) }
+        ensures answer { (ports : List Port) → EndsStandFor self.old ports → result ≡ frame_at (port_at ports host) }
+        ensures read { (ports : List Port) (p : Port) → EndsStandFor self.old ports → port_at ports host ≡ Some p
             → IfSome (next_frame p.side) (λ c. control_of (lpdu_of c) ≡ Ok c) }
     {
-        if i >= self.seats.len() {
+        let Some(i) = place_of(self.seats.as_slice(), host) else {
             return None;
-        }
-        send_place(&mut self.seats, i, &self.pool)
+        };
+        let seat = &mut self.seats[i];
+        seat.side.next_out(&self.pool)
     }
 
     /// Whether nothing is under way at the end at this place, so that no frame is due there. False says nothing.
@@ -325,7 +324,8 @@ impl Ends {
         if i >= self.seats.len() {
             return false;
         }
-        idle_place(self.seats.as_slice(), i, &self.pool)
+        let seat = &self.seats[i];
+        seat.side.is_idle()
     }
 
     /// The notice at the end at this place is one of a creation that was forgotten, where the session of the creation's asker has ended in
@@ -336,11 +336,13 @@ impl Ends {
         if i >= self.seats.len() {
             return;
         }
-        let Some(asker) = asker_place(self.seats.as_slice(), i, &self.pool) else {
+        let seat = &self.seats[i];
+        let Some(asker) = seat.asker() else {
             return;
         };
         if self.is_over(asker) {
-            forget_place(&mut self.seats, i, &self.pool);
+            let seat = &mut self.seats[i];
+            seat.forget();
         }
     }
 
@@ -351,7 +353,7 @@ impl Ends {
         let Some(i) = place_of(self.seats.as_slice(), host) else {
             return 0;
         };
-        spare_at(self.seats.as_slice(), i, &self.pool, host)
+        self.pool.spare(2 * i as u8)
     }
 
     /// Whether the link with this host is up.
@@ -361,7 +363,8 @@ impl Ends {
         let Some(i) = place_of(self.seats.as_slice(), host) else {
             return false;
         };
-        is_up_at(self.seats.as_slice(), i, &self.pool, host)
+        let seat = &self.seats[i];
+        seat.is_up()
     }
 
     /// Whether the end of the link with this host is held.
@@ -371,7 +374,8 @@ impl Ends {
         let Some(i) = place_of(self.seats.as_slice(), host) else {
             return false;
         };
-        is_held_at(self.seats.as_slice(), i, &self.pool, host)
+        let seat = &self.seats[i];
+        seat.is_held()
     }
 
     /// Whether the first message that waits at the end of the link with this host was noted as held.
@@ -382,177 +386,7 @@ impl Ends {
         let Some(i) = place_of(self.seats.as_slice(), host) else {
             return false;
         };
-        holds_at(self.seats.as_slice(), i, &self.pool, host)
+        let seat = &self.seats[i];
+        seat.desk.holds
     }
-}
-
-// The end at this place, that of the link with this host, is given a message.
-fn send_at(
-    seats: &mut [Seat],
-    i: usize,
-    pool: &mut Pool,
-    host: u8,
-    pipe: u8,
-    message: &[u8],
-) -> bool
-    requires place { place_in host seats.old ≡ Some i }
-    requires stands { (ports : List Port) × AreEnds pool.old seats.old ports }
-    requires sendable { IsSendable (pipe, message.now) }
-    ensures stands { (ports : List Port) → AreEnds pool.old seats.old ports
-        → AreEnds pool.new seats.new (with_port host (after_turn (Give (pipe, message.now))) ports) }
-    ensures answer { (ports : List Port) → AreEnds pool.old seats.old ports → result ≡ takes_at (pipe, message.now) (port_at ports host) }
-{
-    seats[i].send(pool, pipe, message)
-}
-
-fn set_aside_at(seats: &mut [Seat], i: usize, pool: &mut Pool, host: u8)
-    requires place { place_in host seats.old ≡ Some i }
-    requires stands { (ports : List Port) × AreEnds pool.old seats.old ports }
-    ensures { (ports : List Port) → AreEnds pool.old seats.old ports → AreEnds pool.new seats.new (with_port host (after_turn SetAside) ports) }
-{
-    seats[i].set_aside(pool, 2 * i as u8);
-}
-
-fn release_at(seats: &mut [Seat], i: usize, pool: &mut Pool, host: u8)
-    requires place { place_in host seats.old ≡ Some i }
-    requires stands { (ports : List Port) × AreEnds pool.old seats.old ports }
-    ensures { (ports : List Port) → AreEnds pool.old seats.old ports → AreEnds pool.new seats.new (with_port host (after_turn Release) ports) }
-{
-    seats[i].release(pool, 2 * i as u8);
-}
-
-fn set_notice_at(seats: &mut [Seat], i: usize, pool: &Pool, host: u8, notice: Option<Unanswered>)
-    requires place { place_in host seats.old ≡ Some i }
-    requires sound { IsSoundRow (row_noticed notice) }
-    requires stands { (ports : List Port) × AreEnds pool.now seats.old ports }
-    ensures { (ports : List Port) → AreEnds pool.now seats.old ports
-        → AreEnds pool.now seats.new (with_port host (λ p. record p { desk = record p.desk { notice = option_map notice_shown notice } }) ports) }
-{
-    seats[i].desk.notice = notice;
-}
-
-fn give_back_at(seats: &mut [Seat], i: usize, pool: &mut Pool, host: u8)
-    requires place { place_in host seats.old ≡ Some i }
-    requires stands { (ports : List Port) × AreEnds pool.old seats.old ports }
-    ensures { (ports : List Port) → AreEnds pool.old seats.old ports → AreEnds pool.new seats.new (with_port host (after_turn FetchMessage) ports) }
-{
-    seats[i].give_back(pool);
-}
-
-fn hold_at(seats: &mut [Seat], i: usize, pool: &Pool, host: u8, held: bool)
-    requires place { place_in host seats.old ≡ Some i }
-    requires stands { (ports : List Port) × AreEnds pool.now seats.old ports × FewAreDue (port_at ports host) }
-    ensures { (ports : List Port) → AreEnds pool.now seats.old ports → AreEnds pool.now seats.new (with_port host (after_turn (Hold held)) ports) }
-{
-    seats[i].hold(held);
-}
-
-fn set_holds_at(seats: &mut [Seat], i: usize, pool: &Pool, host: u8, holds: bool)
-    requires place { place_in host seats.old ≡ Some i }
-    requires stands { (ports : List Port) × AreEnds pool.now seats.old ports }
-    ensures { (ports : List Port) → AreEnds pool.now seats.old ports
-        → AreEnds pool.now seats.new (with_port host (λ p. record p { desk = record p.desk { holds = holds } }) ports) }
-{
-    seats[i].desk.holds = holds;
-}
-
-fn spare_at(seats: &[Seat], i: usize, pool: &Pool, host: u8) -> u16
-    requires place { place_in host seats.now ≡ Some i }
-    requires stands { (ports : List Port) × AreEnds pool.now seats.now ports }
-    ensures { (ports : List Port) → AreEnds pool.now seats.now ports
-        → result ≡ option_map_or (λ (p : Port). spare p.side) (port_at ports host) 0 }
-{
-    pool.spare((2 * i) as u8)
-}
-
-fn is_up_at(seats: &[Seat], i: usize, pool: &Pool, host: u8) -> bool
-    requires place { place_in host seats.now ≡ Some i }
-    requires stands { (ports : List Port) × AreEnds pool.now seats.now ports }
-    ensures { (ports : List Port) → AreEnds pool.now seats.now ports → result ≡ has_link ports host }
-{
-    seats[i].is_up()
-}
-
-// One tick there.
-#[inline(always)]
-fn tick_place(seats: &mut [Seat], i: usize, pool: &mut Pool, told: &mut Option<LinkReport>)
-    requires inside { i < length seats.old }
-    requires stands { (ports : List Port) × AreEnds pool.old seats.old ports × FewAreDue (slice_get ports i) }
-    ensures stands { (ports : List Port) → AreEnds pool.old seats.old ports
-        → AreEnds pool.new seats.new (at_place i (λ p. has_come p (Some Tick)) ports) }
-    ensures answer { (ports : List Port) → AreEnds pool.old seats.old ports
-        → told.new ≡ option_map (λ (p : Port). report_told (report p.side Tick)) (slice_get ports i) }
-{
-    let seat = &mut seats[i];
-    if seat.side.is_idle() {
-        seat.ended = false;
-        *told = Some(LinkReport::nothing());
-        return;
-    }
-    let report = told.insert(seat.tick(pool));
-    seat.count(report);
-}
-
-fn host_place(seats: &[Seat], i: usize, pool: &Pool) -> u8
-    requires inside { i < length seats.now }
-    requires stands { (ports : List Port) × AreEnds pool.now seats.now ports }
-    ensures { (ports : List Port) → AreEnds pool.now seats.now ports → Some result ≡ option_map (λ (p : Port). p.desk.host) (slice_get ports i) }
-{
-    seats[i].desk.host
-}
-
-fn acked_at(seats: &[Seat], i: usize, pool: &Pool, host: u8) -> u32
-    requires place { place_in host seats.now ≡ Some i }
-    requires stands { (ports : List Port) × AreEnds pool.now seats.now ports }
-    ensures { (ports : List Port) → AreEnds pool.now seats.now ports
-        → result ≡ option_map_or (λ (p : Port). kept_number (whole_acked p.side)) (port_at ports host) 0 }
-{
-    seats[i].acked
-}
-
-fn count_error_at(seats: &mut [Seat], i: usize, pool: &Pool, host: u8)
-    requires place { place_in host seats.old ≡ Some i }
-    requires stands { (ports : List Port) × AreEnds pool.now seats.old ports }
-    ensures { (ports : List Port) → AreEnds pool.now seats.old ports
-        → AreEnds pool.now seats.new (with_port host (λ p. record p { desk = record p.desk { errors = min 65535 (p.desk.errors + 1) } }) ports) }
-{
-    let seat = &mut seats[i];
-    seat.desk.errors = seat.desk.errors.saturating_add(1);
-}
-
-fn send_place(seats: &mut [Seat], i: usize, pool: &Pool) -> Option<Lpdu>
-    requires inside { i < length seats.old }
-    requires stands { (ports : List Port) × AreEnds pool.now seats.old ports }
-    ensures stands { (ports : List Port) → AreEnds pool.now seats.old ports → AreEnds pool.now seats.new (at_place i has_sent ports) }
-    ensures answer { (ports : List Port) → AreEnds pool.now seats.old ports → result ≡ frame_at (slice_get ports i) }
-    ensures read { (ports : List Port) (p : Port) → AreEnds pool.now seats.old ports → slice_get ports i ≡ Some p
-        → IfSome (next_frame p.side) (λ c. control_of (lpdu_of c) ≡ Ok c) }
-{
-    seats[i].next_out(pool)
-}
-
-#[inline(always)]
-fn idle_place(seats: &[Seat], i: usize, pool: &Pool) -> bool
-    requires inside { i < length seats.now }
-    requires stands { (ports : List Port) × AreEnds pool.now seats.now ports }
-    ensures { (ports : List Port) (p : Port) → AreEnds pool.now seats.now ports → slice_get ports i ≡ Some p → IsTrue result → HasNoneDue p.side }
-{
-    seats[i].side.is_idle()
-}
-
-fn holds_at(seats: &[Seat], i: usize, pool: &Pool, host: u8) -> bool
-    requires place { place_in host seats.now ≡ Some i }
-    requires stands { (ports : List Port) × AreEnds pool.now seats.now ports }
-    ensures { (ports : List Port) → AreEnds pool.now seats.now ports
-        → result ≡ option_map_or (λ (p : Port). p.desk.holds) (port_at ports host) false }
-{
-    seats[i].desk.holds
-}
-
-fn is_held_at(seats: &[Seat], i: usize, pool: &Pool, host: u8) -> bool
-    requires place { place_in host seats.now ≡ Some i }
-    requires stands { (ports : List Port) × AreEnds pool.now seats.now ports }
-    ensures { (ports : List Port) → AreEnds pool.now seats.now ports → result ≡ held_at ports host }
-{
-    seats[i].is_held()
 }

@@ -9,7 +9,6 @@ mod new_seats;
 mod passing;
 mod places;
 mod seat;
-mod timing;
 
 pub use ends::Ends;
 pub use inputs::LinkInput;

@@ -1,13 +1,12 @@
 //! What is read at the ends of a node.
-ghost use Rattle.std.specs.Prelude.{◌≡◌, ◌<◌, ◌≤◌, List, Some, IfSome, length, slice_get, false};
+ghost use Rattle.std.specs.Prelude.{◌≡◌, ◌<◌, ◌≤◌, List, length, false};
 ghost use Rattle.node_machine.specs.Parts.{Port};
-ghost use Rattle.node_machine.specs.Carrying.{port_at, with_port};
-ghost use Rattle.std.specs.Option.{option_map_or};
-ghost use Rattle.node_ends.specs.Ends.{AreEnds, place_in, got_at, message_read, rests, are_idle, are_at_rest};
+ghost use Rattle.node_ends.specs.Ends.{AreEnds, are_idle, are_at_rest};
 ghost use Rattle.std.specs.Prelude.{if◌then◌else◌, map, is_some};
 ghost use Rattle.std.specs.List.{list_any};
 ghost use Rattle.node_ends.specs.declared.seat.Seat.{Seat as Kept};
 ghost use Rattle.std.specs.Prelude.{ℕ, get_or};
+ghost use Rattle.block_pool.specs.Pool.{PoolState};
 ghost use Rattle.std.specs.List.{AllByRecursion};
 ghost use Rattle.node_deeds.specs.Room.{AreSpares};
 ghost use Rattle.node_machine.specs.Controller.{has_link};
@@ -32,7 +31,7 @@ use node_deeds::Desk;
 impl Ends {
     ghost use Rattle.std.specs.Prelude.{◌≡◌, ◌≤◌, List, IfSome, length, option_map, slice_get};
     ghost use Rattle.node_machine.specs.Parts.{Port};
-    ghost use Rattle.node_machine.specs.Carrying.{port_at, with_port};
+    ghost use Rattle.node_machine.specs.Carrying.{with_port};
     ghost use Rattle.node_deeds.specs.Shown.{desk_shown};
     ghost use Rattle.node_ends.specs.Desks.{have_notices};
     ghost use Rattle.node_ends.specs.Ends.{EndsStandFor, AreOfHosts, got_at, message_read, rests, are_idle, are_at_rest};
@@ -56,7 +55,8 @@ impl Ends {
         let Some(i) = place_of(self.seats.as_slice(), host) else {
             return None;
         };
-        read_at(self.seats.as_slice(), i, &self.pool, host, buffer)
+        let seat = &self.seats[i];
+        seat.read(&self.pool, buffer)
     }
 
     /// What is kept of the ends, and which links are up. They are links with hosts 01 to 07.
@@ -68,7 +68,7 @@ impl Ends {
     {
         let up = self.up();
         Seen {
-            desks: desks_of(self.seats.as_slice(), &self.pool),
+            desks: desks_of(self.seats.as_slice()),
             up,
         }
     }
@@ -78,7 +78,7 @@ impl Ends {
     fn up(&self) -> u8
         ensures { (ports : List Port) → EndsStandFor self.now ports → (h : ℕ) → 1 ≤ h → h ≤ 7 → has result h ≡ has_link ports h }
     {
-        let links = links_of(self.seats.as_slice(), &self.pool);
+        let links = links_of(self.seats.as_slice());
         2 * bit(links[1])
             + 4 * bit(links[2])
             + 8 * bit(links[3])
@@ -112,7 +112,8 @@ impl Ends {
         if i >= self.seats.len() {
             return false;
         }
-        rests_place(self.seats.as_slice(), i, &self.pool)
+        let seat = &self.seats[i];
+        seat.rests()
     }
 
     /// Whether all ends are at rest: none waits for the acceptance of a reset, and at each that is Up all messages that were sent in its
@@ -120,14 +121,14 @@ impl Ends {
     pub fn are_at_rest(&self) -> bool
         ensures { (ports : List Port) → EndsStandFor self.now ports → result ≡ are_at_rest ports }
     {
-        all_at_rest(self.seats.as_slice(), &self.pool)
+        all_at_rest(self.seats.as_slice())
     }
 
     /// Whether nothing is left to do at any end behind what came in a step: no session ended there, no message waits, and none is held.
     pub fn are_idle(&self) -> bool
         ensures { (ports : List Port) → EndsStandFor self.now ports → result ≡ are_idle ports }
     {
-        all_idle(self.seats.as_slice(), &self.pool)
+        all_idle(self.seats.as_slice())
     }
 
     /// Whether a notice waits for its answer at some end.
@@ -153,7 +154,8 @@ impl Ends {
             → EndsStandFor self.new (with_port host (λ p. record p { desk = record p.desk { errors = errors } }) ports) }
     {
         if let Some(i) = place_of(self.seats.as_slice(), host) {
-            set_errors_at(&mut self.seats, i, &self.pool, host, errors);
+            let seat = &mut self.seats[i];
+            seat.desk.errors = errors;
         }
     }
 
@@ -169,45 +171,9 @@ impl Ends {
     }
 }
 
-// The message that waits at the end at this place, that of the link with this host.
-fn read_at(
-    seats: &[Seat],
-    i: usize,
-    pool: &Pool,
-    host: u8,
-    buffer: &mut [u8],
-) -> Option<(u8, usize)>
-    requires place { place_in host seats.now ≡ Some i }
-    requires stands { (ports : List Port) × AreEnds pool.now seats.now ports }
-    requires buffer { length buffer.old ≡ 4096 }
-    ensures waits { (ports : List Port) → AreEnds pool.now seats.now ports → got_at ports host ≡ message_read result buffer.new }
-    ensures inside { IfSome result (λ x. x.1 ≤ 4096) }
-{
-    seats[i].read(pool, buffer)
-}
-
-fn set_errors_at(seats: &mut [Seat], i: usize, pool: &Pool, host: u8, errors: u16)
-    requires place { place_in host seats.old ≡ Some i }
-    requires stands { (ports : List Port) × AreEnds pool.now seats.old ports }
-    ensures { (ports : List Port) → AreEnds pool.now seats.old ports
-        → AreEnds pool.now seats.new (with_port host (λ p. record p { desk = record p.desk { errors = errors } }) ports) }
-{
-    seats[i].desk.errors = errors;
-}
-
-// Whether nothing is left to do at the end at this place.
-fn rests_place(seats: &[Seat], i: usize, pool: &Pool) -> bool
-    requires inside { i < length seats.now }
-    requires stands { (ports : List Port) × AreEnds pool.now seats.now ports }
-    ensures { (ports : List Port) → AreEnds pool.now seats.now ports → result ≡ option_map_or rests (slice_get ports i) false }
-{
-    seats[i].rests()
-}
-
 // Whether all these ends are at rest.
-fn all_at_rest(seats: &[Seat], pool: &Pool) -> bool
-    requires { (ports : List Port) × AreEnds pool.now seats.now ports }
-    ensures { (ports : List Port) → AreEnds pool.now seats.now ports → result ≡ are_at_rest ports }
+fn all_at_rest(seats: &[Seat]) -> bool
+    ensures { (pool : PoolState) (ports : List Port) → AreEnds pool seats.now ports → result ≡ are_at_rest ports }
 {
     for seat in seats {
         if !seat.is_at_rest() {
@@ -225,9 +191,8 @@ fn some_waits(seats: &[Seat]) -> bool
 }
 
 // Whether nothing is left to do at any of these ends.
-fn all_idle(seats: &[Seat], pool: &Pool) -> bool
-    requires { (ports : List Port) × AreEnds pool.now seats.now ports }
-    ensures { (ports : List Port) → AreEnds pool.now seats.now ports → result ≡ are_idle ports }
+fn all_idle(seats: &[Seat]) -> bool
+    ensures { (pool : PoolState) (ports : List Port) → AreEnds pool seats.now ports → result ≡ are_idle ports }
 {
     for seat in seats {
         if !seat.is_idle() {
@@ -238,8 +203,8 @@ fn all_idle(seats: &[Seat], pool: &Pool) -> bool
 }
 
 // What is kept of each of these ends.
-fn desks_of(seats: &[Seat], pool: &Pool) -> ArrayVec<Desk, 7>
-    requires { (ports : List Port) × AreEnds pool.now seats.now ports }
+fn desks_of(seats: &[Seat]) -> ArrayVec<Desk, 7>
+    requires { length seats.now ≤ 7 }
     ensures { result.items ≡ map (λ (s : Kept). s.desk) seats.now }
 {
     let mut desks = ArrayVec::new();
@@ -250,9 +215,8 @@ fn desks_of(seats: &[Seat], pool: &Pool) -> ArrayVec<Desk, 7>
 }
 
 // Whether the link with each host, 0 to 7, is up, by its number.
-fn links_of(seats: &[Seat], pool: &Pool) -> [bool; 8]
-    requires { (ports : List Port) × AreEnds pool.now seats.now ports }
-    ensures { (ports : List Port) → AreEnds pool.now seats.now ports → (h : ℕ) → h ≤ 7 → get_or result h false ≡ has_link ports h }
+fn links_of(seats: &[Seat]) -> [bool; 8]
+    ensures { (pool : PoolState) (ports : List Port) → AreEnds pool seats.now ports → (h : ℕ) → h ≤ 7 → get_or result h false ≡ has_link ports h }
 {
     let mut links = [false; 8];
     for seat in seats {

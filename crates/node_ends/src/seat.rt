@@ -7,7 +7,7 @@ use block_pool::{Chain, Pool};
 use link_end::{LinkEnd, LinkReport, ResetRefused};
 use node_deeds::{About, Desk, Unanswered};
 use shdlc_core::LinkState;
-use swp_base::{Control, Lpdu};
+use swp_base::Control;
 use swp_lpdu::LpduFault;
 
 /// A message that came to an end and had no turn yet.
@@ -42,18 +42,17 @@ impl Seat {
     ghost use Rattle.link_laws.specs.sessions.Sessions.{is_up};
     ghost use Rattle.link_laws.specs.machine.Machine.Turn.{Give, Hold, SetAside, Release, FetchMessage};
     ghost use Rattle.link_laws.specs.machine.Machine.LinkInput.{Tick, Reset, Start, Stop};
-    ghost use Rattle.link_laws.specs.machine.Machine.{next_frame, frame_fetched};
     ghost use Rattle.link_laws.specs.machine.AtRest.{end_rests};
-    ghost use Rattle.swp_lpdu.specs.Controls.{lpdu_of};
-    ghost use Rattle.std.specs.Prelude.{◌==◌, Some, Ok, option_map, MatchResult, OnOk};
+    ghost use Rattle.std.specs.Prelude.{◌==◌, Some, Ok, MatchResult, OnOk};
     ghost use Rattle.link_end.specs.Roles.{MayStart};
     ghost use Rattle.link_end.specs.Reports.{reset_told};
     ghost use Rattle.swp_act.specs.declared.ActEvent.TheVariants.{Start as ActStart};
     ghost use Rattle.link_end.specs.Ends.{EndStandsFor, Accounts, controls_in};
     ghost use Rattle.node_ends.specs.Desks.{grown_older, kept_notice, has_hundred_ticks, asker_of, as_forgotten};
     ghost use Rattle.node_machine.specs.Parts.{Port};
-    ghost use Rattle.node_machine.specs.Node.{has_come};
-    ghost use Rattle.node_ends.specs.Ends.{SeatStandsFor, SeatBecomes, FewAreDue, IsHeldWhileOneWaits};
+    ghost use Rattle.node_machine.specs.Carrying.{after_turn};
+    ghost use Rattle.node_machine.specs.Node.{has_come, reset_late};
+    ghost use Rattle.node_ends.specs.Ends.{SeatStandsFor, SeatBecomes, FewAreDue, IsHeldWhileOneWaits, late_told};
     ghost use Rattle.node_ends.specs.Inputs.{input_of_end, refusal_at, MayComeAt};
     ghost use Rattle.node_ends.specs.Holding.{HoldsSeat, Moves, WaitsHeld, acked_since, acked_by_reset, ends_by, where_done};
 
@@ -61,10 +60,8 @@ impl Seat {
     pub(crate) fn send(&mut self, pool: &mut Pool, pipe: u8, message: &[u8]) -> bool
         requires stands { (m : Machine) × HoldsSeat pool.old self.old m }
         requires sendable { IsSendable (pipe, message.now) }
-        ensures stands { (m : Machine) → HoldsSeat pool.old self.old m → HoldsSeat pool.new self.new (turn m (Give (pipe, message.now))) }
+        ensures becomes { SeatBecomes pool.old pool.new self.old self.new (after_turn (Give (pipe, message.now))) }
         ensures answer { (m : Machine) → HoldsSeat pool.old self.old m → result ≡ is_none (give_refusal m (pipe, message.now)) }
-        ensures moves { Moves pool.old pool.new self.old.side.link self.new.side.link }
-        ensures rest { self.new ≡ record self.old { side = self.new.side } }
     {
         match self.side.send(pool, pipe, message) {
             Ok(()) => true,
@@ -75,9 +72,7 @@ impl Seat {
     /// The end is held, so that it takes no fragments, or let go.
     pub(crate) fn hold(&mut self, held: bool)
         requires room { controls_in self.old.side.link ≤ 6 }
-        ensures stands { (pool : PoolState) (m : Machine) → HoldsSeat pool self.old m → HoldsSeat pool self.new (turn m (Hold held)) }
-        ensures moves { (pool : PoolState) → Moves pool pool self.old.side.link self.new.side.link }
-        ensures rest { self.new ≡ record self.old { side = self.new.side } }
+        ensures { (pool : PoolState) → SeatBecomes pool pool self.old self.new (after_turn (Hold held)) }
     {
         self.side.hold(held);
     }
@@ -86,10 +81,7 @@ impl Seat {
     pub(crate) fn set_aside(&mut self, pool: &mut Pool, owner: u8)
         requires stands { (m : Machine) × HoldsSeat pool.old self.old m × (self.old.aside ≡ m.aside) }
         requires owner { self.old.side.link.outbox.owner ≡ owner }
-        ensures stands { (m : Machine) → HoldsSeat pool.old self.old m → HoldsSeat pool.new self.new (turn m SetAside) }
-        ensures aside { (m : Machine) → HoldsSeat pool.old self.old m → self.old.aside ≡ m.aside → self.new.aside ≡ (turn m SetAside).aside }
-        ensures moves { Moves pool.old pool.new self.old.side.link self.new.side.link }
-        ensures rest { self.new ≡ record self.old { side = self.new.side; aside = self.new.aside } }
+        ensures { SeatBecomes pool.old pool.new self.old self.new (after_turn SetAside) }
     {
         match pool.set_aside(owner) {
             Ok(()) => self.aside += 1,
@@ -101,11 +93,7 @@ impl Seat {
     pub(crate) fn release(&mut self, pool: &mut Pool, owner: u8)
         requires stands { (m : Machine) × HoldsSeat pool.old self.old m × (self.old.aside ≡ m.aside) }
         requires owner { self.old.side.link.outbox.owner ≡ owner }
-        ensures stands { (m : Machine) → HoldsSeat pool.old self.old m → self.old.aside ≡ m.aside
-            → HoldsSeat pool.new self.new (turn m Release) }
-        ensures aside { (m : Machine) → self.old.aside ≡ m.aside → self.new.aside ≡ (turn m Release).aside }
-        ensures moves { Moves pool.old pool.new self.old.side.link self.new.side.link }
-        ensures rest { self.new ≡ record self.old { side = self.new.side; aside = self.new.aside } }
+        ensures { SeatBecomes pool.old pool.new self.old self.new (after_turn Release) }
     {
         if self.aside == 0 {
             return;
@@ -117,9 +105,7 @@ impl Seat {
     /// The message that waits has its turn: its blocks are given back.
     pub(crate) fn give_back(&mut self, pool: &mut Pool)
         requires stands { (m : Machine) × HoldsSeat pool.old self.old m }
-        ensures stands { (m : Machine) → HoldsSeat pool.old self.old m → HoldsSeat pool.new self.new (turn m FetchMessage) }
-        ensures moves { Moves pool.old pool.new self.old.side.link self.new.side.link }
-        ensures rest { self.new ≡ record self.old { waiting = None } }
+        ensures { SeatBecomes pool.old pool.new self.old self.new (after_turn FetchMessage) }
     {
         if let Some(Waiting { chain, pipe: _ }) = self.waiting.take() {
             pool.give(chain);
@@ -222,17 +208,21 @@ impl Seat {
         self.waiting = as_waiting(self.side.next_message());
     }
 
-    /// One tick of time. At most six control frames wait to be sent.
+    /// One tick of time, and what it did to the session is kept. At most six control frames wait to be sent. What is told of it is put into
+    /// `told`.
     #[inline(always)]
-    pub(crate) fn tick(&mut self, pool: &mut Pool) -> LinkReport
-        requires stands { (m : Machine) × HoldsSeat pool.old self.old m }
-        requires room { controls_in self.old.side.link ≤ 6 }
-        ensures stands { (m : Machine) → HoldsSeat pool.old self.old m → HoldsSeat pool.new self.new (after_input m Tick) }
-        ensures answer { (m : Machine) → HoldsSeat pool.old self.old m → result ≡ report_told (report m Tick) }
-        ensures moves { Moves pool.old pool.new self.old.side.link self.new.side.link }
-        ensures rest { self.new ≡ record self.old { side = self.new.side } }
+    pub(crate) fn tick(&mut self, pool: &mut Pool, told: &mut Option<LinkReport>)
+        requires may { (p : Port) × SeatStandsFor pool.old self.old p × FewAreDue (Some p) }
+        ensures becomes { SeatBecomes pool.old pool.new self.old self.new (λ p. has_come p (Some Tick)) }
+        ensures told { (p : Port) → SeatStandsFor pool.old self.old p → told.new ≡ Some (report_told (report p.side Tick)) }
     {
-        self.side.tick(pool)
+        if self.side.is_idle() {
+            self.ended = false;
+            *told = Some(LinkReport::nothing());
+            return;
+        }
+        let report = told.insert(self.side.tick(pool));
+        self.count(report);
     }
 
     // A reset of the link is asked for, with this window, which is 1 to 4, or with the end's own one. At most six control frames wait
@@ -336,8 +326,8 @@ impl Seat {
         self.ended = false;
     }
 
-    /// The hundredth tick of the notice comes, and the session hasn't ended.
-    pub(crate) fn is_late(&self) -> bool
+    // The hundredth tick of the notice comes, and the session hasn't ended.
+    fn is_late(&self) -> bool
         ensures { result ≡ (has_hundred_ticks self.now.desk.notice && not self.now.ended) }
     {
         match self.desk.notice {
@@ -356,11 +346,25 @@ impl Seat {
         self.late = true;
     }
 
-    /// The link is reset, since its notice is late. At most six control frames wait to be sent. What is told of it; `None` where it is
-    /// refused.
+    /// The link is reset, where its notice is late. At most six control frames wait to be sent. What is told of it; `None` where it isn't
+    /// late, and where the reset is refused.
+    #[inline(always)]
+    pub(crate) fn reset_late(&mut self, pool: &mut Pool) -> Option<LinkReport>
+        requires may { (p : Port) × SeatStandsFor pool.old self.old p × FewAreDue (Some p) }
+        ensures becomes { SeatBecomes pool.old pool.new self.old self.new reset_late }
+        ensures answer { (p : Port) → SeatStandsFor pool.old self.old p → result ≡ late_told (Some p) }
+    {
+        if !self.is_late() {
+            return None;
+        }
+        self.reset_unanswered(pool)
+    }
+
+    // The link is reset, since its notice is late. At most six control frames wait to be sent. What is told of it; `None` where it is
+    // refused.
     #[cold]
     #[inline(never)]
-    pub(crate) fn reset_late(&mut self, pool: &mut Pool) -> Option<LinkReport>
+    fn reset_unanswered(&mut self, pool: &mut Pool) -> Option<LinkReport>
         requires stands { (m : Machine) × HoldsSeat pool.old self.old m }
         requires room { controls_in self.old.side.link ≤ 6 }
         ensures stands { (m : Machine) → HoldsSeat pool.old self.old m → HoldsSeat pool.new self.new (after_input m (Reset None)) }
@@ -372,18 +376,6 @@ impl Seat {
         let told = self.reset(pool, None);
         self.count_late(&told);
         done(told)
-    }
-
-    /// Fetches the frame that is to be sent now. None where nothing is to be sent.
-    pub(crate) fn next_out(&mut self, pool: &Pool) -> Option<Lpdu>
-        requires { (m : Machine) × HoldsSeat pool.now self.old m }
-        ensures stands { (m : Machine) → HoldsSeat pool.now self.old m → HoldsSeat pool.now self.new (frame_fetched m) }
-        ensures answer { (m : Machine) → HoldsSeat pool.now self.old m → result ≡ option_map lpdu_of (next_frame m) }
-        ensures read { (m : Machine) → HoldsSeat pool.now self.old m → IfSome (next_frame m) (λ c. control_of (lpdu_of c) ≡ Ok c) }
-        ensures moves { Moves pool.now pool.now self.old.side.link self.new.side.link }
-        ensures rest { self.new ≡ record self.old { side = self.new.side } }
-    {
-        self.side.next_out(pool)
     }
 
     /// The asker of the creation that waits.

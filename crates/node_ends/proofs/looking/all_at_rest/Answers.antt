@@ -8,28 +8,29 @@ use Rattle.node_ends.proofs.AtRest.{one_is_not, one_is, none_is_left}
 use Rattle.node_ends.proofs.looking.all_at_rest.Goals as goal
 
 pub loop-seat-init : goal.loop-seat-init
-loop-seat-init c = record { so_far = λ ports e. refl }
+loop-seat-init c = record { so_far = λ pool ports e. refl }
 
 pub returns-then-not-is_at_rest : goal.returns-then-not-is_at_rest
-returns-then-not-is_at_rest c ports e =
+returns-then-not-is_at_rest c pool ports e =
     let i = c.loop-seat.seat-index in
     let r = reads_here i c.seat-item.result c.loop-seat-test.true e in
-    let P : Seat → Type 0 = λ s. HoldsSeat c.args.pool.now s r.port.side in
-    let rests = c.is_at_rest.ensures c.args.pool.now r.port.side (subst P (sym c.seat-item.is) r.stands.holds) in
-    sym (one_is_not (λ (p : Port). end_rests p.side) i ports r.port r.port_is (sym rests ∙ c.if-not-is_at_rest.true)) ∙ c.loop-seat.invariant.so_far ports e
+    let P : Seat → Type 0 = λ s. HoldsSeat pool s r.port.side in
+    let rests = c.is_at_rest.ensures pool r.port.side (subst P (sym c.seat-item.is) r.stands.holds) in
+    sym (one_is_not (λ (p : Port). end_rests p.side) i ports r.port r.port_is
+    (sym rests ∙ c.if-not-is_at_rest.true)) ∙ c.loop-seat.invariant.so_far pool ports e
 
 pub loop-seat-preserved : goal.loop-seat-preserved
 loop-seat-preserved c = record {
-  so_far = λ ports e.
+  so_far = λ pool ports e.
       let i = c.loop-seat.seat-index in
       let r = reads_here i c.seat-item.result c.loop-seat-test.true e in
-      let P : Seat → Type 0 = λ s. HoldsSeat c.args.pool.now s r.port.side in
-      let rests = c.is_at_rest.ensures c.args.pool.now r.port.side (subst P (sym c.seat-item.is) r.stands.holds) in
-      one_is (λ (p : Port). end_rests p.side) i ports r.port r.port_is (sym rests ∙ c.if-not-is_at_rest.false) ∙ c.loop-seat.invariant.so_far ports e;
+      let P : Seat → Type 0 = λ s. HoldsSeat pool s r.port.side in
+      let rests = c.is_at_rest.ensures pool r.port.side (subst P (sym c.seat-item.is) r.stands.holds) in
+      one_is (λ (p : Port). end_rests p.side) i ports r.port r.port_is (sym rests ∙ c.if-not-is_at_rest.false) ∙ c.loop-seat.invariant.so_far pool ports e;
 }
 
 pub returns : goal.returns
-returns c ports e =
-    let many = as_many c.args.pool.now c.args.seats.now ports e.each in
+returns c pool ports e =
+    let many = as_many pool c.args.seats.now ports e.each in
     let past = c.loop-seat-test.false in
-    sym (none_is_left (λ (p : Port). end_rests p.side) c.loop-seat.seat-index ports (omega (arith, many, past))) ∙ c.loop-seat.invariant.so_far ports e
+    sym (none_is_left (λ (p : Port). end_rests p.side) c.loop-seat.seat-index ports (omega (arith, many, past))) ∙ c.loop-seat.invariant.so_far pool ports e

@@ -1,8 +1,10 @@
-use Rattle.std.proofs.Common.{rules, List, [], false, arith, sym, subst}
+use Rattle.std.proofs.Common.{List, [], false, arith, sym, subst}
 use Rattle.node_machine.specs.Parts.{Port}
 use Rattle.node_ends.specs.Ends.{AreEnds}
 use Rattle.node_ends.proofs.Seated.{beyond}
-use Rattle.node_ends.proofs.Opening.{kept_so, lent, written}
+use Rattle.node_ends.proofs.Opening.{opened, kept_so}
+use Rattle.node_ends.proofs.Seated.{becomes_here}
+use Rattle.node_ends.proofs.Beside.{begun}
 use Rattle.node_ends.proofs.ends.Ends.begin_step.Goals as goal
 
 pub returns-else-i-len : goal.returns-else-i-len
@@ -12,5 +14,16 @@ returns-else-i-len c ports stands =
     subst P (sym (beyond c.self.inside.pool c.args.i (λ (p : Port). record p { late = false; ended = false; turns = [] }) c.self.inside.seats.items ports
     (let l = c.len.ensures in let t = c.if-i-len.false in omega (arith, l, t)) e.each).0) e)
 
+pub returns-then-i-len : goal.returns-then-i-len
+returns-then-i-len c ports stands =
+    becomes_here ports c.args.i c.index_mut-seat.result.now c.begin_step.new.self (let n = c.len.ensures in let t = c.if-i-len.true in omega (arith, n, t))
+    c.index_mut-seat.ensures.value (begun c.self.inside.pool c.index_mut-seat.result.now c.begin_step.new.self c.begin_step.ensures)
+    (opened c.self.view_is stands)
+
 pub invariant_of-self : goal.invariant_of-self
-invariant_of-self c = let i = c.self.invariant in (_, written _ (search rules) (c.begin_place.ensures i.0 (lent c.deref_mut.ensures.value i.1)))
+invariant_of-self c =
+    let i = c.self.invariant in (
+      _,
+      becomes_here i.0 c.args.i c.index_mut-seat.result.now c.begin_step.new.self (let n = c.len.ensures in let t = c.if-i-len.true in omega (arith, n, t))
+          c.index_mut-seat.ensures.value (begun c.self.inside.pool c.index_mut-seat.result.now c.begin_step.new.self c.begin_step.ensures) i.1,
+    )

@@ -1,9 +1,12 @@
-use Rattle.std.proofs.Common.{rules, ap, ◌∙◌}
+use Rattle.std.proofs.Common.{ap, ◌∙◌}
 use Rattle.std.specs.Prelude.{min, ◌+◌}
 use Rattle.node_machine.specs.Parts.{Port}
 use Rattle.node_ends.specs.Ends.{place_in}
 use Rattle.node_ends.proofs.Changing.{nowhere}
-use Rattle.node_ends.proofs.Opening.{kept_so, lent, written}
+use Rattle.node_ends.proofs.Opening.{opened, kept_so}
+use Rattle.node_ends.proofs.Changing.{becomes_at}
+use Rattle.node_ends.proofs.Beside.{error_counted}
+use Rattle.std.proofs.Common.{arith}
 use Rattle.node_ends.proofs.ends.Ends.count_error.Goals as goal
 
 pub returns-in_default : goal.returns-in_default
@@ -13,5 +16,17 @@ returns-in_default c ports stands =
     (c.place_of.ensures.place ∙ ap (place_in c.args.host) c.as_slice.ensures.value)
     c.in_default.not-Some e).0)
 
+pub returns-in-Some : goal.returns-in-Some
+returns-in-Some c ports stands =
+    becomes_at ports c.args.host c.in-Some.i c.index_mut-seat.result.now _ (c.in-Some.ensures.place ∙ ap (place_in c.args.host) c.as_slice.ensures.value)
+    c.index_mut-seat.ensures.value (error_counted c.self.inside.pool c.index_mut-seat.result.now c.saturating_add-seat.result
+    (let s = c.saturating_add-seat.ensures in omega (arith, s))) (opened c.self.view_is stands)
+
 pub invariant_of-self : goal.invariant_of-self
-invariant_of-self c = let i = c.self.invariant in (_, written _ (search rules) (c.count_error_at.ensures i.0 (lent c.deref_mut.ensures.value i.1)))
+invariant_of-self c =
+    let i = c.self.invariant in (
+      _,
+      becomes_at i.0 c.args.host c.in-Some.i c.index_mut-seat.result.now _ (c.in-Some.ensures.place ∙ ap (place_in c.args.host) c.as_slice.ensures.value)
+          c.index_mut-seat.ensures.value (error_counted c.self.inside.pool c.index_mut-seat.result.now c.saturating_add-seat.result
+          (let s = c.saturating_add-seat.ensures in omega (arith, s))) i.1,
+    )

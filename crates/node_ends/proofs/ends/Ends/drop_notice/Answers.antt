@@ -1,9 +1,11 @@
-use Rattle.std.proofs.Common.{rules, List, arith, sym, subst}
+use Rattle.std.proofs.Common.{List, arith, sym, subst}
 use Rattle.node_machine.specs.Parts.{Port}
 use Rattle.node_machine.specs.Node.{without_notice}
 use Rattle.node_ends.specs.Ends.{AreEnds}
 use Rattle.node_ends.proofs.Seated.{beyond}
-use Rattle.node_ends.proofs.Opening.{kept_so, lent, written}
+use Rattle.node_ends.proofs.Opening.{opened, kept_so}
+use Rattle.node_ends.proofs.Seated.{becomes_here}
+use Rattle.node_ends.proofs.Beside.{notice_dropped}
 use Rattle.node_ends.proofs.ends.Ends.drop_notice.Goals as goal
 
 pub returns-else-i-len : goal.returns-else-i-len
@@ -13,5 +15,16 @@ returns-else-i-len c ports stands =
     subst P (sym (beyond c.self.inside.pool c.args.i without_notice c.self.inside.seats.items ports
     (let l = c.len.ensures in let t = c.if-i-len.false in omega (arith, l, t)) e.each).0) e)
 
+pub returns-then-i-len : goal.returns-then-i-len
+returns-then-i-len c ports stands =
+    becomes_here ports c.args.i c.index_mut-seat.result.now c.drop_notice.new.self (let n = c.len.ensures in let t = c.if-i-len.true in omega (arith, n, t))
+    c.index_mut-seat.ensures.value (notice_dropped c.self.inside.pool c.index_mut-seat.result.now c.drop_notice.new.self c.drop_notice.ensures)
+    (opened c.self.view_is stands)
+
 pub invariant_of-self : goal.invariant_of-self
-invariant_of-self c = let i = c.self.invariant in (_, written _ (search rules) (c.drop_place.ensures i.0 (lent c.deref_mut.ensures.value i.1)))
+invariant_of-self c =
+    let i = c.self.invariant in (
+      _,
+      becomes_here i.0 c.args.i c.index_mut-seat.result.now c.drop_notice.new.self (let n = c.len.ensures in let t = c.if-i-len.true in omega (arith, n, t))
+          c.index_mut-seat.ensures.value (notice_dropped c.self.inside.pool c.index_mut-seat.result.now c.drop_notice.new.self c.drop_notice.ensures) i.1,
+    )

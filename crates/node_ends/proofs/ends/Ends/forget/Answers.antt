@@ -1,15 +1,15 @@
-use Rattle.std.proofs.Common.{rules, ◌≡◌, ◌++◌, length, take, drop, List, arith, sym, ap, ◌∙◌, subst, false, true}
-use Rattle.std.specs.Prelude.{None, slice_get}
-use Rattle.std.proofs.Math.Seq.{take-append_seam}
+use Rattle.std.proofs.Common.{◌≡◌, List, arith, sym, ap, ◌∙◌, subst, false, true}
+use Rattle.std.specs.Prelude.{None, slice_get, slice_set}
 use Rattle.node_machine.specs.Node.{is_over_at}
 use Rattle.node_ends.specs.declared.seat.Seat.{Seat}
 use Rattle.node_machine.specs.Parts.{Port}
 use Rattle.node_machine.specs.Node.{forgets}
 use Rattle.node_ends.specs.Desks.{asker_at, forgotten_at}
-use Rattle.node_ends.specs.Ends.{AreEnds, at_place}
-use Rattle.node_ends.proofs.Seated.{beyond, at_place_as, at_place_still}
-use Rattle.node_ends.proofs.Noticing.{forgets_none, forgets_by, none_at_all}
-use Rattle.node_ends.proofs.Opening.{opened, kept_so, lent, written}
+use Rattle.node_ends.specs.Ends.{AreEnds}
+use Rattle.node_ends.proofs.Seated.{beyond, lent_here, becomes_here, at_place_as, at_place_still}
+use Rattle.node_ends.proofs.Beside.{creation_forgotten}
+use Rattle.node_ends.proofs.Noticing.{asker_is, forgets_none, forgets_by, none_at_all}
+use Rattle.node_ends.proofs.Opening.{opened, kept_so}
 use Rattle.node_ends.proofs.ends.Ends.forget.Goals as goal
 
 pub returns-then-i-len : goal.returns-then-i-len
@@ -22,9 +22,9 @@ returns-then-i-len c ports stands =
 pub returns-in_default : goal.returns-in_default
 returns-in_default c ports stands =
     kept_so c.self.view_is stands (λ e.
-    let E : List Seat → Type 0 = λ l. AreEnds c.self.inside.pool l ports in
-    let asked : c.asker_place.result ≡ asker_at (slice_get ports c.args.i) = c.asker_place.ensures ports (subst E (sym c.as_slice.ensures.value) e) in
-    let none : c.asker_place.result ≡ None = none_at_all c.asker_place.result c.in_default.not-Some in
+    let l = lent_here c.args.i c.index-seat.result.now (let n = c.len.ensures in let t = c.if-i-len.false in omega (arith, n, t)) c.index-seat.ensures e in
+    let asked : c.asker.result ≡ asker_at (slice_get ports c.args.i) = c.asker.ensures ∙ (asker_is _ l.port l.stands.desk ∙ ap asker_at (sym l.port_is)) in
+    let none : c.asker.result ≡ None = none_at_all c.asker.result c.in_default.not-Some in
     let P : List Port → Type 0 = λ l. AreEnds c.self.inside.pool c.self.inside.seats.items l in
     subst P (sym (at_place_as c.args.i (forgets ports) (λ (p : Port). p) ports
     (λ p is. forgets_none ports p (ap asker_at (sym is) ∙ (sym asked ∙ none))) ∙ at_place_still c.args.i ports)) e)
@@ -32,8 +32,8 @@ returns-in_default c ports stands =
 pub returns-else-is_over : goal.returns-else-is_over
 returns-else-is_over c ports stands =
     kept_so c.self.view_is stands (λ e.
-    let E : List Seat → Type 0 = λ l. AreEnds c.self.inside.pool l ports in
-    let asked : c.asker_place.result ≡ asker_at (slice_get ports c.args.i) = c.asker_place.ensures ports (subst E (sym c.as_slice.ensures.value) e) in
+    let l = lent_here c.args.i c.index-seat.result.now (let n = c.len.ensures in let t = c.if-i-len.false in omega (arith, n, t)) c.index-seat.ensures e in
+    let asked : c.asker.result ≡ asker_at (slice_get ports c.args.i) = c.asker.ensures ∙ (asker_is _ l.port l.stands.desk ∙ ap asker_at (sym l.port_is)) in
     let over : is_over_at ports c.in-Some.asker ≡ false = sym (c.is_over.ensures ports stands) ∙ c.if-is_over.false in
     let P : List Port → Type 0 = λ l. AreEnds c.self.inside.pool c.self.inside.seats.items l in
     subst P (sym (at_place_as c.args.i (forgets ports) (λ (p : Port). p) ports
@@ -42,17 +42,22 @@ returns-else-is_over c ports stands =
 pub returns-then-is_over : goal.returns-then-is_over
 returns-then-is_over c ports stands =
     let e = opened c.self.view_is stands in
-    let E : List Seat → Type 0 = λ l. AreEnds c.self.inside.pool l ports in
-    let asked : c.asker_place.result ≡ asker_at (slice_get ports c.args.i) = c.asker_place.ensures ports (subst E (sym c.as_slice.ensures.value) e) in
+    let l = lent_here c.args.i c.index-seat.result.now (let n = c.len.ensures in let t = c.if-i-len.false in omega (arith, n, t)) c.index-seat.ensures e in
+    let asked : c.asker.result ≡ asker_at (slice_get ports c.args.i) = c.asker.ensures ∙ (asker_is _ l.port l.stands.desk ∙ ap asker_at (sym l.port_is)) in
     let over : is_over_at ports c.in-Some.asker ≡ true = sym (c.is_over.ensures ports stands) ∙ c.if-is_over.true in
-    let r = c.forget_place.ensures ports (subst E (sym c.deref_mut.ensures.value) e) in
-    let P : List Port → Type 0 = λ l. AreEnds c.self.inside.pool c.forget_place.new.seats l in
-    let same = at_place_as c.args.i (forgets ports) forgotten_at ports
-    (λ p is. forgets_by ports p c.in-Some.asker true (ap asker_at (sym is) ∙ (sym asked ∙ c.in-Some.is)) over) in
-    let len : c.self.inside.seats.len ≡ length c.forget_place.new.seats = search rules in
-    let Q : List Seat → Type 0 = λ l. AreEnds c.self.inside.pool l (at_place c.args.i (forgets ports) ports) in
-    let rest : List Seat = drop (length c.forget_place.new.seats) c.self.inside.seats.items in
-    subst Q (sym (ap (λ n. take n (c.forget_place.new.seats ++ rest)) len ∙ take-append_seam c.forget_place.new.seats rest)) (subst P (sym same) r)
+    let s : Seat = c.index_mut-seat.result.now in
+    let r = becomes_here ports c.args.i s c.forget.new.self
+    (let n = c.len.ensures in let t = c.if-i-len.false in omega (arith, n, t)) c.index_mut-seat.ensures.value
+    (creation_forgotten c.self.inside.pool s c.forget.new.self c.forget.ensures) e in
+    let P : List Port → Type 0 = λ l. AreEnds c.self.inside.pool (slice_set c.self.inside.seats.items c.args.i c.forget.new.self) l in
+    subst P (sym (at_place_as c.args.i (forgets ports) forgotten_at ports
+    (λ p is. forgets_by ports p c.in-Some.asker true (ap asker_at (sym is) ∙ (sym asked ∙ c.in-Some.is)) over))) r
 
 pub invariant_of-self : goal.invariant_of-self
-invariant_of-self c = let i = c.self.invariant in (_, written _ (search rules) (c.forget_place.ensures i.0 (lent c.deref_mut.ensures.value i.1)))
+invariant_of-self c =
+    let i = c.self.invariant in
+    let s : Seat = c.index_mut-seat.result.now in (
+      _,
+      becomes_here i.0 c.args.i s c.forget.new.self (let n = c.len.ensures in let t = c.if-i-len.false in omega (arith, n, t)) c.index_mut-seat.ensures.value
+          (creation_forgotten c.self.inside.pool s c.forget.new.self c.forget.ensures) i.1,
+    )

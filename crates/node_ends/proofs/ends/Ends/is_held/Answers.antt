@@ -6,6 +6,7 @@ use Rattle.node_machine.specs.Parts.{Port}
 use Rattle.node_ends.specs.Ends.{place_in}
 use Rattle.node_ends.proofs.Changing.{nowhere}
 use Rattle.node_ends.proofs.Opening.{opened}
+use Rattle.node_ends.proofs.Changing.{lent_at}
 use Rattle.node_ends.proofs.ends.Ends.is_held.Goals as goal
 
 pub returns-in_default : goal.returns-in_default
@@ -14,3 +15,11 @@ returns-in_default c ports stands =
     ap (λ (o : Option Port). option_map_or (λ (p : Port). is_held p.side) o false)
     (sym (nowhere c.args.host (λ (p : Port). p) c.place_of.result (c.place_of.ensures.place ∙ ap (place_in c.args.host) c.as_slice.ensures.value)
     c.in_default.not-Some e).1)
+
+pub returns : goal.returns
+returns c ports stands =
+    let e = opened c.self.view_is stands in
+    let l = lent_at c.args.host c.in-Some.i c.index-seat.result.now
+    (c.in-Some.ensures.place ∙ ap (place_in c.args.host) c.as_slice.ensures.value) c.index-seat.ensures e in
+    c.is_held.ensures c.self.inside.pool l.port.side l.stands.holds
+    ∙ ap (λ (o : Option Port). option_map_or (λ (p : Port). is_held p.side) o false) (sym l.port_is)

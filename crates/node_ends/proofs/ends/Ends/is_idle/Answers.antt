@@ -1,11 +1,25 @@
-use Rattle.std.proofs.Common.{List, sym, subst}
-use Rattle.node_ends.specs.declared.seat.Seat.{Seat}
-use Rattle.node_ends.specs.Ends.{AreEnds}
+use Rattle.std.proofs.Common.{arith}
 use Rattle.node_ends.proofs.Opening.{opened}
+use Rattle.node_ends.proofs.Seated.{lent_here}
+use Rattle.std.proofs.Common.{◌≡◌, ap, ap₂, sym, ◌∙◌, subst}
+use Rattle.std.specs.Prelude.{Some}
+use Rattle.link_laws.specs.machine.Machine.{LinkEnd as Machine}
+use Rattle.link_end.specs.Idle.{IsIdle}
+use Rattle.node_machine.specs.Parts.{Port}
+use Rattle.node_ends.specs.Holding.{without_got}
+use Rattle.node_ends.specs.Ends.{HasNoneDue}
 use Rattle.node_ends.proofs.ends.Ends.is_idle.Goals as goal
+
+none_due : (m : Machine) → IsIdle (without_got m) → HasNoneDue m
+none_due m idle = record {
+  frames = idle.frames;
+  sent = ap₂ (λ s acts. record m { shdlc = s; acts = acts }) (ap (λ (e : Machine). e.shdlc) idle.sent) (ap (λ (e : Machine). e.acts) idle.sent);
+}
 
 pub returns : goal.returns
 returns c ports p stands is quiet =
-    let e = opened c.self.view_is stands in
-    let E : List Seat → Type 0 = λ seats. AreEnds c.self.inside.pool seats ports in
-    c.idle_place.ensures ports p (subst E (sym c.as_slice.ensures.value) e) is quiet
+    let l = lent_here c.args.i c.index-seat.result.now (let n = c.len.ensures in let t = c.if-i-len.false in omega (arith, n, t)) c.index-seat.ensures
+    (opened c.self.view_is stands) in
+    let same : l.port ≡ p = (let both : Some l.port ≡ Some p = sym l.port_is ∙ is in cc) in
+    subst (λ (q : Port). HasNoneDue q.side) same
+    (none_due l.port.side (c.is_idle.ensures c.self.inside.pool (without_got l.port.side) l.stands.holds.stands quiet))

@@ -1,31 +1,65 @@
-use Rattle.std.proofs.Common.{rules, ◌≡◌, ◌∙◌, List, arith, sym, ap, subst}
-use Rattle.std.specs.Prelude.{Some, None}
+use Rattle.std.proofs.Common.{◌≡◌, ap, sym, ◌∙◌, subst}
+use Rattle.std.specs.Prelude.{Option, Some, None, Ok, IfSome, option_map}
+use Rattle.swp_base.specs.declared.control_frames.Control.{Control}
+use Rattle.swp_lpdu.specs.Controls.{lpdu_of, control_of}
+use Rattle.link_laws.specs.machine.Machine.{next_frame}
 use Rattle.node_machine.specs.Parts.{Port}
-use Rattle.node_ends.specs.Ends.{AreEnds, has_sent, frame_at}
-use Rattle.node_ends.proofs.Seated.{beyond}
-use Rattle.node_ends.proofs.Opening.{opened, kept_so, lent, written}
+use Rattle.node_ends.specs.Holding.{without_got}
+use Rattle.node_ends.specs.Ends.{has_sent, frame_at, place_in}
+use Rattle.node_ends.proofs.Changing.{lent_at, becomes_at, nowhere}
+use Rattle.node_ends.proofs.Sending.{sent_on, next_without}
+use Rattle.node_ends.proofs.Opening.{opened, kept_so}
 use Rattle.node_ends.proofs.ends.Ends.next_out.Goals as goal
 
-pub returns-then-i-len-clause-stands : goal.returns-then-i-len-clause-stands
-returns-then-i-len-clause-stands c ports stands =
-    kept_so c.self.view_is stands (λ e.
-    let P : List Port → Type 0 = λ l. AreEnds c.self.inside.pool c.self.inside.seats.items l in
-    subst P (sym (beyond c.self.inside.pool c.args.i has_sent c.self.inside.seats.items ports
-    (let l = c.len.ensures in let t = c.if-i-len.true in omega (arith, l, t)) e.each).0) e)
+pub returns-in_default-clause-stands : goal.returns-in_default-clause-stands
+returns-in_default-clause-stands c ports stands =
+    kept_so c.self.view_is stands (λ e. (nowhere c.args.host has_sent c.place_of.result
+    (c.place_of.ensures.place ∙ ap (place_in c.args.host) c.as_slice.ensures.value) c.in_default.not-Some e).0)
 
-pub returns-then-i-len-clause-answer : goal.returns-then-i-len-clause-answer
-returns-then-i-len-clause-answer c ports stands =
-    let e = opened c.self.view_is stands in
-    ap frame_at
-    (sym (beyond c.self.inside.pool c.args.i (λ (p : Port). p) c.self.inside.seats.items ports
-    (let l = c.len.ensures in let t = c.if-i-len.true in omega (arith, l, t)) e.each).1)
+pub returns-in_default-clause-answer : goal.returns-in_default-clause-answer
+returns-in_default-clause-answer c ports stands =
+    ap frame_at (sym (nowhere c.args.host has_sent c.place_of.result
+    (c.place_of.ensures.place ∙ ap (place_in c.args.host) c.as_slice.ensures.value) c.in_default.not-Some (opened c.self.view_is stands)).1)
 
-pub returns-then-i-len-clause-read : goal.returns-then-i-len-clause-read
-returns-then-i-len-clause-read c ports p stands is =
-    let e = opened c.self.view_is stands in
-    let none = (beyond c.self.inside.pool c.args.i (λ (q : Port). q) c.self.inside.seats.items ports
-    (let l = c.len.ensures in let t = c.if-i-len.true in omega (arith, l, t)) e.each).1 in
+pub returns-in_default-clause-read : goal.returns-in_default-clause-read
+returns-in_default-clause-read c ports p stands is =
+    let none = (nowhere c.args.host has_sent c.place_of.result
+    (c.place_of.ensures.place ∙ ap (place_in c.args.host) c.as_slice.ensures.value) c.in_default.not-Some (opened c.self.view_is stands)).1 in
     absurd (let z : Some p ≡ None = sym is ∙ none in cc)
 
+pub next_out-requires : goal.next_out-requires
+next_out-requires c =
+    let l = lent_at c.args.host c.in-Some.i c.index_mut-seat.result.now
+    (c.in-Some.ensures.place ∙ ap (place_in c.args.host) c.as_slice.ensures.value) c.index_mut-seat.ensures.value c.self.invariant.1 in
+    (without_got l.port.side, l.stands.holds.stands)
+
 pub invariant_of-self : goal.invariant_of-self
-invariant_of-self c = let i = c.self.invariant in (_, written _ (search rules) (c.send_place.ensures.stands i.0 (lent c.deref_mut.ensures.value i.1)))
+invariant_of-self c =
+    let i = c.self.invariant in (
+      _,
+      becomes_at i.0 c.args.host c.in-Some.i c.index_mut-seat.result.now _ (c.in-Some.ensures.place ∙ ap (place_in c.args.host) c.as_slice.ensures.value)
+          c.index_mut-seat.ensures.value (sent_on c.self.inside.pool c.index_mut-seat.result.now c.next_out.new.self c.next_out.ensures.boxes
+          c.next_out.ensures.stands) i.1,
+    )
+
+pub returns-clause-stands : goal.returns-clause-stands
+returns-clause-stands c ports stands =
+    becomes_at ports c.args.host c.in-Some.i c.index_mut-seat.result.now _ (c.in-Some.ensures.place ∙ ap (place_in c.args.host) c.as_slice.ensures.value)
+    c.index_mut-seat.ensures.value (sent_on c.self.inside.pool c.index_mut-seat.result.now c.next_out.new.self c.next_out.ensures.boxes
+    c.next_out.ensures.stands) (opened c.self.view_is stands)
+
+pub returns-clause-answer : goal.returns-clause-answer
+returns-clause-answer c ports stands =
+    let l = lent_at c.args.host c.in-Some.i c.index_mut-seat.result.now
+    (c.in-Some.ensures.place ∙ ap (place_in c.args.host) c.as_slice.ensures.value) c.index_mut-seat.ensures.value (opened c.self.view_is stands) in
+    c.next_out.ensures.answer (without_got l.port.side) l.stands.holds.stands
+    ∙ (ap (option_map lpdu_of) (next_without l.port.side) ∙ ap frame_at (sym l.port_is))
+
+pub returns-clause-read : goal.returns-clause-read
+returns-clause-read c ports p stands is =
+    let l = lent_at c.args.host c.in-Some.i c.index_mut-seat.result.now
+    (c.in-Some.ensures.place ∙ ap (place_in c.args.host) c.as_slice.ensures.value) c.index_mut-seat.ensures.value (opened c.self.view_is stands) in
+    let same : l.port ≡ p = (let both : Some l.port ≡ Some p = sym l.port_is ∙ is in cc) in
+    let P : Option Control → Type 0 = λ o. IfSome o (λ x. control_of (lpdu_of x) ≡ Ok x) in
+    let Q : Port → Type 0 = λ q. P (next_frame q.side) in
+    subst Q same (subst P (next_without l.port.side) (c.next_out.ensures.read (without_got l.port.side) l.stands.holds.stands))

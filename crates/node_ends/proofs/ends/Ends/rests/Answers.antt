@@ -1,10 +1,11 @@
-use Rattle.std.proofs.Common.{false, arith, sym, ap}
+use Rattle.std.proofs.Common.{◌∙◌, false, arith, sym, ap}
 use Rattle.std.specs.Prelude.{Option}
 use Rattle.std.specs.Option.{option_map_or}
 use Rattle.node_machine.specs.Parts.{Port}
 use Rattle.node_ends.specs.Ends.{rests}
 use Rattle.node_ends.proofs.Seated.{beyond}
 use Rattle.node_ends.proofs.Opening.{opened}
+use Rattle.node_ends.proofs.Seated.{lent_here}
 use Rattle.node_ends.proofs.ends.Ends.rests.Goals as goal
 
 pub returns-then-i-len : goal.returns-then-i-len
@@ -13,3 +14,9 @@ returns-then-i-len c ports stands =
     ap (λ (o : Option Port). option_map_or rests o false)
     (sym (beyond c.self.inside.pool c.args.i (λ (p : Port). p) c.self.inside.seats.items ports
     (let l = c.len.ensures in let t = c.if-i-len.true in omega (arith, l, t)) e.each).1)
+
+pub returns : goal.returns
+returns c ports stands =
+    let l = lent_here c.args.i c.index-seat.result.now (let n = c.len.ensures in let t = c.if-i-len.false in omega (arith, n, t)) c.index-seat.ensures
+    (opened c.self.view_is stands) in
+    c.rests.ensures c.self.inside.pool l.port.side l.stands.holds ∙ ap (λ (o : Option Port). option_map_or rests o false) (sym l.port_is)

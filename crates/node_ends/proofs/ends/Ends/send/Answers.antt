@@ -1,9 +1,10 @@
-use Rattle.std.proofs.Common.{rules, sym, ap, ◌∙◌}
+use Rattle.std.proofs.Common.{sym, ap, ◌∙◌}
 use Rattle.link_laws.specs.machine.Machine.Turn.{Give}
 use Rattle.node_machine.specs.Carrying.{after_turn}
 use Rattle.node_ends.specs.Ends.{takes_at, place_in}
 use Rattle.node_ends.proofs.Changing.{nowhere}
-use Rattle.node_ends.proofs.Opening.{opened, kept_so, lent, written}
+use Rattle.node_ends.proofs.Opening.{opened, kept_so}
+use Rattle.node_ends.proofs.Changing.{lent_at, becomes_at}
 use Rattle.node_ends.proofs.ends.Ends.send.Goals as goal
 
 pub returns-in_default-clause-stands : goal.returns-in_default-clause-stands
@@ -20,5 +21,29 @@ returns-in_default-clause-answer c ports stands =
     (sym (nowhere c.args.host f c.place_of.result (c.place_of.ensures.place ∙ ap (place_in c.args.host) c.as_slice.ensures.value)
     c.in_default.not-Some e).1)
 
+pub send-requires-clause-stands : goal.send-requires-clause-stands
+send-requires-clause-stands c =
+    let l = lent_at c.args.host c.in-Some.i c.index_mut-seat.result.now (c.in-Some.ensures.place ∙ ap (place_in c.args.host) c.as_slice.ensures.value)
+    c.index_mut-seat.ensures.value c.self.invariant.1 in
+    (l.port.side, l.stands.holds)
+
+pub returns-clause-answer : goal.returns-clause-answer
+returns-clause-answer c ports stands =
+    let l = lent_at c.args.host c.in-Some.i c.index_mut-seat.result.now (c.in-Some.ensures.place ∙ ap (place_in c.args.host) c.as_slice.ensures.value)
+    c.index_mut-seat.ensures.value (opened c.self.view_is stands) in
+    c.send.ensures.answer l.port.side l.stands.holds ∙ ap (takes_at (c.args.pipe, c.args.message.now)) (sym l.port_is)
+
+pub returns-clause-stands : goal.returns-clause-stands
+returns-clause-stands c ports stands =
+    becomes_at ports c.args.host c.in-Some.i c.index_mut-seat.result.now c.send.new.self
+    (c.in-Some.ensures.place ∙ ap (place_in c.args.host) c.as_slice.ensures.value)
+    c.index_mut-seat.ensures.value c.send.ensures.becomes (opened c.self.view_is stands)
+
 pub invariant_of-self : goal.invariant_of-self
-invariant_of-self c = let i = c.self.invariant in (_, written _ (search rules) (c.send_at.ensures.stands i.0 (lent c.deref_mut.ensures.value i.1)))
+invariant_of-self c =
+    let i = c.self.invariant in (
+      _,
+      becomes_at i.0 c.args.host c.in-Some.i c.index_mut-seat.result.now c.send.new.self
+          (c.in-Some.ensures.place ∙ ap (place_in c.args.host) c.as_slice.ensures.value)
+          c.index_mut-seat.ensures.value c.send.ensures.becomes i.1,
+    )

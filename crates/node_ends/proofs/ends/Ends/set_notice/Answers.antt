@@ -1,10 +1,12 @@
-use Rattle.std.proofs.Common.{rules, ap, ◌∙◌}
+use Rattle.std.proofs.Common.{ap, ◌∙◌}
 use Rattle.std.specs.Prelude.{option_map}
 use Rattle.node_machine.specs.Parts.{Port}
 use Rattle.node_deeds.specs.Shown.{notice_shown}
 use Rattle.node_ends.specs.Ends.{place_in}
 use Rattle.node_ends.proofs.Changing.{nowhere}
-use Rattle.node_ends.proofs.Opening.{kept_so, lent, written}
+use Rattle.node_ends.proofs.Opening.{opened, kept_so}
+use Rattle.node_ends.proofs.Changing.{becomes_at}
+use Rattle.node_ends.proofs.Beside.{notice_set}
 use Rattle.node_ends.proofs.ends.Ends.set_notice.Goals as goal
 
 pub returns-in_default : goal.returns-in_default
@@ -14,5 +16,15 @@ returns-in_default c ports stands =
     (c.place_of.ensures.place ∙ ap (place_in c.args.host) c.as_slice.ensures.value)
     c.in_default.not-Some e).0)
 
+pub returns-in-Some : goal.returns-in-Some
+returns-in-Some c ports stands =
+    becomes_at ports c.args.host c.in-Some.i c.index_mut-seat.result.now _ (c.in-Some.ensures.place ∙ ap (place_in c.args.host) c.as_slice.ensures.value)
+    c.index_mut-seat.ensures.value (notice_set c.self.inside.pool c.index_mut-seat.result.now c.args.notice c.requires.sound) (opened c.self.view_is stands)
+
 pub invariant_of-self : goal.invariant_of-self
-invariant_of-self c = let i = c.self.invariant in (_, written _ (search rules) (c.set_notice_at.ensures i.0 (lent c.deref_mut.ensures.value i.1)))
+invariant_of-self c =
+    let i = c.self.invariant in (
+      _,
+      becomes_at i.0 c.args.host c.in-Some.i c.index_mut-seat.result.now _ (c.in-Some.ensures.place ∙ ap (place_in c.args.host) c.as_slice.ensures.value)
+          c.index_mut-seat.ensures.value (notice_set c.self.inside.pool c.index_mut-seat.result.now c.args.notice c.requires.sound) i.1,
+    )

@@ -1,4 +1,4 @@
-use Rattle.std.proofs.Common.{rules, arith, sym, ap, subst}
+use Rattle.std.proofs.Common.{◌∙◌, arith, sym, ap, subst}
 use Rattle.std.specs.Prelude.{Some, List, option_map}
 use Rattle.link_laws.specs.machine.Machine.{report}
 use Rattle.link_laws.specs.machine.Machine.LinkInput.{Tick}
@@ -6,8 +6,9 @@ use Rattle.link_end.specs.Reports.{report_told}
 use Rattle.node_machine.specs.Parts.{Port}
 use Rattle.node_machine.specs.Node.{has_come}
 use Rattle.node_ends.specs.Ends.{AreEnds}
-use Rattle.node_ends.proofs.Seated.{beyond}
-use Rattle.node_ends.proofs.Opening.{opened, kept_so, lent, written}
+use Rattle.node_ends.specs.Ends.{FewAreDue}
+use Rattle.node_ends.proofs.Seated.{beyond, lent_here, becomes_here}
+use Rattle.node_ends.proofs.Opening.{opened, kept_so}
 use Rattle.node_ends.proofs.ends.Ends.tick.Goals as goal
 
 pub returns-then-i-len-clause-stands : goal.returns-then-i-len-clause-stands
@@ -24,5 +25,28 @@ returns-then-i-len-clause-answer c ports stands =
     (sym (beyond c.self.inside.pool c.args.i (λ (p : Port). p) c.self.inside.seats.items ports
     (let l = c.len.ensures in let t = c.if-i-len.true in omega (arith, l, t)) e.each).1)
 
+pub tick-requires : goal.tick-requires
+tick-requires c =
+    let r = c.requires in
+    let l = lent_here c.args.i c.index_mut-seat.result.now
+    (let n = c.len.ensures in let t = c.if-i-len.false in omega (arith, n, t)) c.index_mut-seat.ensures.value (opened c.self.view_is r.1) in
+    record { may = (l.port, l.stands, subst (λ o. FewAreDue o) l.port_is r.2) }
+
 pub invariant_of-self : goal.invariant_of-self
-invariant_of-self c = let i = c.self.invariant in (_, written _ (search rules) (c.tick_place.ensures.stands i.0 (lent c.deref_mut.ensures.value i.1)))
+invariant_of-self c =
+    let i = c.self.invariant in (
+      _,
+      becomes_here i.0 c.args.i c.index_mut-seat.result.now c.tick.new.self (let n = c.len.ensures in let t = c.if-i-len.false in omega (arith, n, t))
+          c.index_mut-seat.ensures.value c.tick.ensures.becomes i.1,
+    )
+
+pub returns-clause-stands : goal.returns-clause-stands
+returns-clause-stands c ports stands =
+    becomes_here ports c.args.i c.index_mut-seat.result.now c.tick.new.self (let n = c.len.ensures in let t = c.if-i-len.false in omega (arith, n, t))
+    c.index_mut-seat.ensures.value c.tick.ensures.becomes (opened c.self.view_is stands)
+
+pub returns-clause-answer : goal.returns-clause-answer
+returns-clause-answer c ports stands =
+    let l = lent_here c.args.i c.index_mut-seat.result.now
+    (let n = c.len.ensures in let t = c.if-i-len.false in omega (arith, n, t)) c.index_mut-seat.ensures.value (opened c.self.view_is stands) in
+    c.tick.ensures.told l.port l.stands ∙ ap (option_map (λ (p : Port). report_told (report p.side Tick))) (sym l.port_is)

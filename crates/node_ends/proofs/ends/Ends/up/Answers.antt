@@ -12,7 +12,7 @@ returns c ports stands h some most =
     let b = bits _ c.bit.result c.bit-2.result c.bit-3.result c.bit-4.result c.bit-5.result c.bit-6.result c.bit-7.result refl c.bit.ensures.small
     c.bit-2.ensures.small c.bit-3.ensures.small c.bit-4.ensures.small c.bit-5.ensures.small c.bit-6.ensures.small c.bit-7.ensures.small in
     let S : List Seat → Type 0 = λ seats. AreEnds c.self.inside.pool seats ports in
-    let links = c.links_of-links.ensures ports (subst S (sym c.as_slice.ensures.value) e) in
+    let links = c.links_of-links.ensures c.self.inside.pool ports (subst S (sym c.as_slice.ensures.value) e) in
     has_bit (has_link ports) _ h some most
     (bit_is _ _ (b.0 ∙ c.bit.ensures.value) ∙ links 1 (omega arith))
     (bit_is _ _ (b.1 ∙ c.bit-2.ensures.value) ∙ links 2 (omega arith))

@@ -3,6 +3,8 @@ use Rattle.block_pool.specs.Pool.{used_of, aside_of}
 use Rattle.node_ends.specs.Holding.{without_got}
 use Rattle.node_ends.proofs.Moving.{stays_beside}
 use Rattle.node_ends.proofs.Setting.{Counts, released_holds, none_released, counted_moves}
+use Rattle.link_laws.specs.machine.Machine.Turn.{Release}
+use Rattle.node_ends.proofs.Changing.{turned}
 use Rattle.node_ends.proofs.seat.Seat.release.Goals as goal
 
 pub release-requires-clause-quota : goal.release-requires-clause-quota
@@ -18,36 +20,44 @@ release-requires-clause-aside c =
     let some = c.if-self-eq0.false in
     subst P c.requires.owner (omega (arith, a, b, some))
 
-pub returns-clause-stands : goal.returns-clause-stands
-returns-clause-stands c m h same =
-    let old = c.args.pool.now in
-    let new = c.release.new.self in
-    let a = h.stands.halfway.aside in
-    let some = c.if-self-eq0.false in
-    let Q : ℕ → Type 0 = λ n. Counts old new n (used_of old n - 1) (aside_of old n - 1) in
-    released_holds old new c.args.self.now.side.link c.args.self.now.waiting m h (omega (arith, a, same, some))
-    (subst Q (sym c.requires.owner) (record { slots = c.release.ensures.slots; owners = c.release.ensures.owners }))
+pub returns : goal.returns
+returns c =
+    turned {x = Release} (record {
+      sendable = tt;
+      moves = (let old = c.args.pool.now in
+          let new = c.release.new.self in
+          let o = c.args.self.now.side.link.outbox.owner in
+          let Q : ℕ → Type 0 = λ n. Counts old new n (used_of old n - 1) (aside_of old n - 1) in
+          counted_moves old new c.args.self.now.side.link (without_got c.requires.stands.0) (used_of old o - 1) (aside_of old o - 1)
+          c.requires.stands.1.stands (subst Q (sym c.requires.owner) (record { slots = c.release.ensures.slots; owners = c.release.ensures.owners })));
+      desk = refl;
+      late = refl;
+      ended = refl;
+      acked = refl;
+      stands = λ m h same. (
+        (let old = c.args.pool.now in
+            let new = c.release.new.self in
+            let a = h.stands.halfway.aside in
+            let some = c.if-self-eq0.false in
+            let Q : ℕ → Type 0 = λ n. Counts old new n (used_of old n - 1) (aside_of old n - 1) in
+            released_holds old new c.args.self.now.side.link c.args.self.now.waiting m h (omega (arith, a, same, some))
+            (subst Q (sym c.requires.owner) (record { slots = c.release.ensures.slots; owners = c.release.ensures.owners }))),
+        (ap (λ n. n - 1) same),
+      );
+    })
 
-pub returns-clause-aside : goal.returns-clause-aside
-returns-clause-aside c m same = ap (λ n. n - 1) same
-
-pub returns-clause-moves : goal.returns-clause-moves
-returns-clause-moves c =
-    let old = c.args.pool.now in
-    let new = c.release.new.self in
-    let o = c.args.self.now.side.link.outbox.owner in
-    let Q : ℕ → Type 0 = λ n. Counts old new n (used_of old n - 1) (aside_of old n - 1) in
-    counted_moves old new c.args.self.now.side.link (without_got c.requires.stands.0) (used_of old o - 1) (aside_of old o - 1)
-    c.requires.stands.1.stands (subst Q (sym c.requires.owner) (record { slots = c.release.ensures.slots; owners = c.release.ensures.owners }))
-
-pub returns-then-self-eq0-clause-stands : goal.returns-then-self-eq0-clause-stands
-returns-then-self-eq0-clause-stands c m h same =
-    none_released c.args.pool.now c.args.self.now.side.link c.args.self.now.waiting m (sym same ∙ c.if-self-eq0.true) h
-
-pub returns-then-self-eq0-clause-aside : goal.returns-then-self-eq0-clause-aside
-returns-then-self-eq0-clause-aside c m same = let none = c.if-self-eq0.true in omega (arith, same, none)
-
-pub returns-then-self-eq0-clause-moves : goal.returns-then-self-eq0-clause-moves
-returns-then-self-eq0-clause-moves c =
-    let k = c.args.self.now.side.link in
-    stays_beside c.args.pool.now k k refl refl
+pub returns-then-self-eq0 : goal.returns-then-self-eq0
+returns-then-self-eq0 c =
+    turned {x = Release} (record {
+      sendable = tt;
+      moves = (let k = c.args.self.now.side.link in
+          stays_beside c.args.pool.now k k refl refl);
+      desk = refl;
+      late = refl;
+      ended = refl;
+      acked = refl;
+      stands = λ m h same. (
+        (none_released c.args.pool.now c.args.self.now.side.link c.args.self.now.waiting m (sym same ∙ c.if-self-eq0.true) h),
+        (let none = c.if-self-eq0.true in omega (arith, same, none)),
+      );
+    })

@@ -1,20 +1,59 @@
-use Rattle.std.proofs.Common.{refl, ◌∙◌}
+use Rattle.std.proofs.Common.{refl, sym, ap, ◌∙◌, subst}
+use Rattle.std.specs.Prelude.{Some, is_some}
+use Rattle.link_laws.specs.machine.Machine.{LinkEnd as Machine, whole_acked}
 use Rattle.link_laws.specs.machine.Machine.LinkInput.{Tick}
-use Rattle.node_ends.specs.Holding.{without_got}
-use Rattle.node_ends.proofs.Moving.{call_moves}
-use Rattle.node_ends.proofs.Coming.{still_holds, tick_told_apart}
+use Rattle.link_end.specs.declared.report.LinkReport.{LinkReport}
+use Rattle.node_ends.specs.declared.seat.Seat.{Seat}
+use Rattle.node_ends.specs.Holding.{HoldsEnd, without_got, kept_number}
+use Rattle.node_ends.proofs.Moving.{call_moves, stays_beside}
+use Rattle.node_ends.proofs.Coming.{still_holds, same_apart, tick_told_apart}
+use Rattle.node_ends.proofs.Counting.{reached_outside}
+use Rattle.node_ends.proofs.Blocks.{outside_aside}
+use Rattle.node_ends.proofs.Keeping.{takes}
 use Rattle.node_ends.proofs.seat.Seat.tick.Goals as goal
 
-pub returns-clause-stands : goal.returns-clause-stands
-returns-clause-stands c m h =
+pub returns-clause-becomes : goal.returns-clause-becomes
+returns-clause-becomes c =
+    let s : Seat = c.args.self.now in
+    let r = c.requires.may in
     let t = c.tick in
-    still_holds c.args.pool.now t.new.pool c.args.self.now.side.link t.new.self.link c.args.self.now.waiting m Tick h refl refl
-    t.ensures.elsewhere (t.ensures.stands (without_got m) h.stands)
+    takes {t = record s { side = t.new.self }} {i = Tick} {told = t.result} {kept = c.insert-report.result.now} (record {
+      outside = refl;
+      stands = λ m h. still_holds c.args.pool.now t.new.pool s.side.link t.new.self.link s.waiting m Tick h refl refl t.ensures.elsewhere
+          (t.ensures.stands (without_got m) h.stands);
+      moves = call_moves c.args.pool.now t.new.pool s.side.link t.new.self.link (without_got r.0.side) r.1.holds.stands t.ensures.elsewhere;
+      rest = refl;
+    }) (λ p g. t.ensures.answer (without_got p.side) g.holds.stands ∙ tick_told_apart p.side) c.insert-report.ensures.value c.count.ensures
 
-pub returns-clause-answer : goal.returns-clause-answer
-returns-clause-answer c m h = c.tick.ensures.answer (without_got m) h.stands ∙ tick_told_apart m
+pub returns-clause-told : goal.returns-clause-told
+returns-clause-told c p g =
+    ap (λ (r : LinkReport). Some r)
+    (c.insert-report.ensures.value ∙ (c.tick.ensures.answer (without_got p.side) g.holds.stands ∙ tick_told_apart p.side))
 
-pub returns-clause-moves : goal.returns-clause-moves
-returns-clause-moves c =
-    let r = c.requires.stands in
-    call_moves c.args.pool.now c.tick.new.pool c.args.self.now.side.link c.tick.new.self.link (without_got r.0) r.1.stands c.tick.ensures.elsewhere
+-- where nothing is under way only the mark of an ended session is taken away
+pub returns-then-is_idle-clause-becomes : goal.returns-then-is_idle-clause-becomes
+returns-then-is_idle-clause-becomes c =
+    let pool = c.args.pool.now in
+    let s : Seat = c.args.self.now in
+    record {
+      host = refl;
+      moves = stays_beside pool s.side.link s.side.link refl refl;
+      stands = λ p g.
+          let idle = c.is_idle.ensures pool (without_got p.side) g.holds.stands c.if-is_idle.true in
+          let same = same_apart p.side idle.same in
+          record {
+            holds = subst (λ (m : Machine). HoldsEnd pool s.side.link s.waiting m) (sym same) g.holds;
+            desk = g.desk;
+            late = g.late;
+            ended = ap (λ (r : LinkReport). is_some r.ended) (sym idle.told ∙ tick_told_apart p.side);
+            reached = reached_outside p.side Tick refl g.reached;
+            acked = g.acked ∙ ap (λ (m : Machine). kept_number (whole_acked m)) (sym same);
+            aside = g.aside ∙ sym (outside_aside p.side Tick refl);
+            sound = g.sound;
+          };
+    }
+
+pub returns-then-is_idle-clause-told : goal.returns-then-is_idle-clause-told
+returns-then-is_idle-clause-told c p g =
+    let idle = c.is_idle.ensures c.args.pool.now (without_got p.side) g.holds.stands c.if-is_idle.true in
+    ap (λ (r : LinkReport). Some r) (c.nothing.ensures ∙ (sym idle.told ∙ tick_told_apart p.side))

@@ -1,0 +1,158 @@
+-- What is kept of an end beside it is changed: it stands for the changed port, and the ends beside it stay.
+use Rattle.std.proofs.Common.{◌≡◌, ℕ, ◌+◌, Bool, false, [], refl, sym, ap, ◌∙◌, subst}
+use Rattle.std.specs.Prelude.{Option, option_map, min, ◌||◌}
+use Rattle.block_pool.specs.Pool.{PoolState}
+use Rattle.link_laws.specs.machine.Machine.{LinkEnd as Machine, whole_acked}
+use Rattle.link_end.specs.declared.«end».End.{End}
+use Rattle.link_end.specs.declared.link.LinkEnd.{LinkEnd as Link}
+use Rattle.node_machine.specs.Parts.{Port, Desk as DeskOf}
+use Rattle.node_machine.specs.Node.{with_older, without_notice}
+use Rattle.node_deeds.specs.declared.desks.Unanswered.{Unanswered}
+use Rattle.node_deeds.specs.declared.desks.Desk.{Desk}
+use Rattle.node_deeds.specs.Cores.{IsSoundDesk, IsSoundRow}
+use Rattle.node_deeds.specs.Shown.{desk_shown, notice_shown, row_noticed}
+use Rattle.node_ends.specs.declared.seat.Seat.{Seat}
+use Rattle.node_ends.specs.declared.seat.Waiting.{Waiting}
+use Rattle.node_ends.specs.Desks.{grown_older, kept_notice, as_forgotten, forgotten_at}
+use Rattle.node_ends.specs.Holding.{HoldsEnd, IsReached, kept_number}
+use Rattle.node_ends.specs.Ends.{SeatStandsFor, SeatBecomes}
+use Rattle.node_ends.proofs.Moving.{stays_beside}
+use Rattle.node_ends.proofs.Noticing.{older_sound, older_desk, kept_sound, kept_desk, without_same, forgotten_sound, forgotten_desk}
+
+pub record Sets (pool : PoolState) (s t : Seat) (f : Port → Port) : Type 0 where
+  pub side : t.side ≡ s.side
+  pub waiting : t.waiting ≡ s.waiting
+  pub acked : t.acked ≡ s.acked
+  pub aside : t.aside ≡ s.aside
+  pub host : t.desk.host ≡ s.desk.host
+  pub same_side : (q : Port) → (f q).side ≡ q.side
+  pub desk : (q : Port) → SeatStandsFor pool s q → desk_shown t.desk ≡ (f q).desk
+  pub sound : IsSoundDesk s.desk → IsSoundDesk t.desk
+  pub late : (q : Port) → SeatStandsFor pool s q → t.late ≡ (f q).late
+  pub ended : (q : Port) → SeatStandsFor pool s q → t.ended ≡ (f q).ended
+
+pub sets : {pool : PoolState} {s t : Seat} {f : Port → Port} → Sets pool s t f → SeatBecomes pool pool s t f
+sets {pool} {s} {t} {f} c =
+    let link : t.side.link ≡ s.side.link = ap (λ (l : Link). l.link) c.side in
+    record {
+      host = c.host;
+      moves = stays_beside pool s.side.link t.side.link (ap (λ (k : End). k.outbox) link) (ap (λ (k : End). k.inbox) link);
+      stands = λ q g. record {
+        holds = (let P : End → Type 0 = λ k. HoldsEnd pool k t.waiting (f q).side in
+            let Q : Option Waiting → Type 0 = λ w. HoldsEnd pool s.side.link w (f q).side in
+            let M : Machine → Type 0 = λ m. HoldsEnd pool s.side.link s.waiting m in
+            subst P (sym link) (subst Q (sym c.waiting) (subst M (sym (c.same_side q)) g.holds)));
+        desk = c.desk q g;
+        late = c.late q g;
+        ended = c.ended q g;
+        reached = (let M : Machine → Type 0 = λ m. IsReached m in subst M (sym (c.same_side q)) g.reached);
+        acked = c.acked ∙ (g.acked ∙ ap (λ (m : Machine). kept_number (whole_acked m)) (sym (c.same_side q)));
+        sound = c.sound g.sound;
+        aside = c.aside ∙ (g.aside ∙ ap (λ (m : Machine). m.aside) (sym (c.same_side q)));
+      };
+    }
+
+-- its desk alone
+sets_desk : {pool : PoolState} {s : Seat} (d : Desk) (f : DeskOf → DeskOf) → d.host ≡ s.desk.host → desk_shown d ≡ f (desk_shown s.desk)
+    → (IsSoundDesk s.desk → IsSoundDesk d) → SeatBecomes pool pool s (record s { desk = d }) (λ p. record p { desk = f p.desk })
+sets_desk {s = s} d f host shown sound = sets (record {
+  side = refl;
+  waiting = refl;
+  acked = refl;
+  aside = refl;
+  host = host;
+  same_side = λ q. refl;
+  desk = λ q g. shown ∙ ap f g.desk;
+  sound = sound;
+  late = λ q g. g.late;
+  ended = λ q g. g.ended;
+})
+
+pub notice_set : (pool : PoolState) (s : Seat) (notice : Option Unanswered) → IsSoundRow (row_noticed notice)
+    → SeatBecomes pool pool s (record s { desk = record s.desk { notice = notice } })
+    (λ p. record p { desk = record p.desk { notice = option_map notice_shown notice } })
+notice_set pool s notice sound =
+    sets_desk (record s.desk { notice = notice }) (λ d. record d { notice = option_map notice_shown notice }) refl refl (λ was. sound)
+
+pub holds_set : (pool : PoolState) (s : Seat) (holds : Bool)
+    → SeatBecomes pool pool s (record s { desk = record s.desk { holds = holds } }) (λ p. record p { desk = record p.desk { holds = holds } })
+holds_set pool s holds = sets_desk (record s.desk { holds = holds }) (λ d. record d { holds = holds }) refl refl (λ was. was)
+
+pub errors_set : (pool : PoolState) (s : Seat) (errors : ℕ)
+    → SeatBecomes pool pool s (record s { desk = record s.desk { errors = errors } }) (λ p. record p { desk = record p.desk { errors = errors } })
+errors_set pool s errors = sets_desk (record s.desk { errors = errors }) (λ d. record d { errors = errors }) refl refl (λ was. was)
+
+pub error_counted : (pool : PoolState) (s : Seat) (errors : ℕ) → errors ≡ min 65535 (s.desk.errors + 1)
+    → SeatBecomes pool pool s (record s { desk = record s.desk { errors = errors } })
+    (λ p. record p { desk = record p.desk { errors = min 65535 (p.desk.errors + 1) } })
+error_counted pool s errors is =
+    sets_desk (record s.desk { errors = errors }) (λ d. record d { errors = min 65535 (d.errors + 1) }) refl
+    (ap (λ (n : ℕ). record (desk_shown s.desk) { errors = n }) is) (λ was. was)
+
+pub older : (pool : PoolState) (s t : Seat) → t ≡ record s { desk = record s.desk { notice = grown_older s.desk.notice } }
+    → SeatBecomes pool pool s t with_older
+older pool s t is =
+    let P : Seat → Type 0 = λ x. SeatBecomes pool pool s x with_older in
+    subst P (sym is) (sets (record {
+      side = refl;
+      waiting = refl;
+      acked = refl;
+      aside = refl;
+      host = refl;
+      same_side = λ q. refl;
+      desk = λ q g. older_desk s.desk q g.desk;
+      sound = older_sound s.desk.notice;
+      late = λ q g. g.late;
+      ended = λ q g. g.ended;
+    }))
+
+pub begun : (pool : PoolState) (s t : Seat) → t ≡ record s { late = false; ended = false }
+    → SeatBecomes pool pool s t (λ p. record p { late = false; ended = false; turns = [] })
+begun pool s t is =
+    let P : Seat → Type 0 = λ x. SeatBecomes pool pool s x (λ p. record p { late = false; ended = false; turns = [] }) in
+    subst P (sym is) (sets (record {
+      side = refl;
+      waiting = refl;
+      acked = refl;
+      aside = refl;
+      host = refl;
+      same_side = λ q. refl;
+      desk = λ q g. g.desk;
+      sound = λ was. was;
+      late = λ q g. refl;
+      ended = λ q g. refl;
+    }))
+
+pub notice_dropped : (pool : PoolState) (s t : Seat)
+    → t ≡ record s { desk = record s.desk { notice = kept_notice (s.ended || s.late) s.desk.notice } } → SeatBecomes pool pool s t without_notice
+notice_dropped pool s t is =
+    let P : Seat → Type 0 = λ x. SeatBecomes pool pool s x without_notice in
+    subst P (sym is) (sets (record {
+      side = refl;
+      waiting = refl;
+      acked = refl;
+      aside = refl;
+      host = refl;
+      same_side = λ q. (without_same q).0;
+      desk = λ q g. kept_desk s.desk q s.ended s.late g.desk g.ended g.late;
+      sound = kept_sound (s.ended || s.late) s.desk.notice;
+      late = λ q g. g.late ∙ sym (without_same q).1;
+      ended = λ q g. g.ended ∙ sym (without_same q).2;
+    }))
+
+pub creation_forgotten : (pool : PoolState) (s t : Seat) → t ≡ record s { desk = record s.desk { notice = as_forgotten s.desk.notice } }
+    → SeatBecomes pool pool s t forgotten_at
+creation_forgotten pool s t is =
+    let P : Seat → Type 0 = λ x. SeatBecomes pool pool s x forgotten_at in
+    subst P (sym is) (sets (record {
+      side = refl;
+      waiting = refl;
+      acked = refl;
+      aside = refl;
+      host = refl;
+      same_side = λ q. refl;
+      desk = λ q g. forgotten_desk s.desk q g.desk;
+      sound = forgotten_sound s.desk.notice;
+      late = λ q g. g.late;
+      ended = λ q g. g.ended;
+    }))
