@@ -1,9 +1,12 @@
 -- The faults of the memory of a node, one thing after another.
-use Rattle.std.proofs.Common.{◌≡◌, ℕ, ◌≤◌, true, sym, ◌∙◌, subst, arith}
+use Rattle.std.proofs.Common.{◌≡◌, ℕ, ◌≤◌, Bool, true, false, refl, sym, ◌∙◌, subst, arith}
 use Rattle.std.proofs.lemmas.Bool.{true≢false}
 use Rattle.swp_base.specs.Outside.{Rose}
 use Rattle.hci_store.specs.Stored.{Stored}
 use Rattle.node_core.specs.Faults.{CountsFaults}
+use Rattle.node_core.specs.Running.{ran_so}
+use Rattle.node_core.specs.declared.running.Ran.{Ran}
+use Rattle.node_core.specs.declared.running.Ran.TheVariants.{Done, Stopped}
 
 -- nothing is done to a store that may be used
 pub faults_stay : {N : Type 0} (faults : N → ℕ) {s t : Stored N} → s.journal.live ≡ true → t ≡ s → CountsFaults faults s t
@@ -30,3 +33,13 @@ faults_kept faults count live = record { count = count; rose = λ dead. absurd (
 pub faults_rose : {N : Type 0} (faults : N → ℕ) {s t : Stored N} → faults s.journal.nv ≤ faults t.journal.nv
     → Rose (faults s.journal.nv) (faults t.journal.nv) → CountsFaults faults s t
 faults_rose faults count rose = record { count = count; rose = λ dead. rose }
+
+-- how it ran tells whether there is power
+so_too : (a b : Bool) → ran_so a ≡ ran_so b → a ≡ b
+so_too true true is = refl
+so_too false false is = refl
+so_too true false is = (let z : Done ≡ Stopped = is in cc)
+so_too false true is = (let z : Stopped ≡ Done = is in cc)
+
+pub ran_is : {r : Ran} {a b : Bool} → r ≡ ran_so a → r ≡ ran_so b → a ≡ b
+ran_is {r} {a} {b} p q = so_too a b (sym p ∙ q)

@@ -2,6 +2,7 @@
 
 use crate::node::Node;
 use crate::noting::note;
+use crate::running::Ran;
 use hci_tables::Command;
 use node_deeds::{About, Deed, InitEnd, Unanswered, ordered_by};
 use pipe_table::PipeRow;
@@ -9,6 +10,7 @@ use swp_base::Nv;
 use trace_model::{End, Entry, Octets, Watch};
 
 impl<N: Nv + Drop> Node<N> {
+    ghost use Rattle.node_core.specs.Running.{ran_so};
     ghost use Rattle.std.specs.Prelude.{◌≡◌, ◌<◌, ℕ, true, false, ◌∷◌, [], map, length, IsTrue};
     ghost use Rattle.hcp_packet.specs.Packets.{IsSendable};
     ghost use Rattle.hci_tables.specs.Commands.{IsCommand};
@@ -61,15 +63,15 @@ impl<N: Nv + Drop> Node<N> {
         }
     }
 
-    // A command for which there is room is committed: it is noted, and then written. Whether its writes went through.
+    // A command for which there is room is committed: it is noted, and then written.
     #[tactic(auto, using(crate::proofs::Faults::faults_stay, crate::proofs::Faults::faults_then))]
-    pub(crate) fn commit<W: Watch>(&mut self, command: &Command, watch: &mut W) -> bool
+    pub(crate) fn commit<W: Watch>(&mut self, command: &Command, watch: &mut W) -> Ran
         requires usable { IsUsable self.old.store }
         requires live { IsTrue self.old.store.journal.live }
         requires command { IsCommand command.now }
         requires room { has_room_for self.old.store.journal.state command.now ≡ true }
         ensures carried { CarriesOut N.writes W.noted W.is_short (self.old, watch.old) (self.new, watch.new) (commit command.now) }
-        ensures live { result ≡ self.new.store.journal.live }
+        ensures ran { result ≡ ran_so self.new.store.journal.live }
         ensures faults { CountsFaults N.faults self.old.store self.new.store }
         ensures number { self.new.number ≡ self.old.number }
         ensures tasks { self.new.tasks ≡ self.old.tasks }
@@ -82,11 +84,11 @@ impl<N: Nv + Drop> Node<N> {
         };
         note(watch, begun, &[]);
         match self.store.commit(command) {
-            Ok(()) => return true,
+            Ok(()) => return Ran::Done,
             Err(_fault) => {}
         }
         note(watch, Entry::Cut { node }, &[]);
-        false
+        Ran::Stopped
     }
 
     // A notice goes to a host, and isn't answered yet. A pipe that the host is asked for may be made.
@@ -216,7 +218,7 @@ impl<N: Nv + Drop> Node<N> {
         }
     }
 
-    // One deed, where this message of the end with this host is handled. Whether the node has its power still.
+    // One deed, where this message of the end with this host is handled.
     #[tactic(auto, using(crate::proofs::Faults::faults_stay, crate::proofs::Faults::faults_then))]
     fn carry_out<W: Watch>(
         &mut self,
@@ -225,13 +227,13 @@ impl<N: Nv + Drop> Node<N> {
         pipe: u8,
         message: &[u8],
         watch: &mut W,
-    ) -> bool
+    ) -> Ran
         requires usable { IsUsable self.old.store }
         requires live { IsTrue self.old.store.journal.live }
         requires doable { IsInSomeStep W.noted W.is_short (self.old, watch.old) (λ w. IsDoableNow (handling self.old (pipe, message.now)) deed.now w) }
         ensures carried { CarriesOut N.writes W.noted W.is_short (self.old, watch.old) (self.new, watch.new)
             (done host (deed_of self.old (pipe, message.now) deed.now)) }
-        ensures live { result ≡ self.new.store.journal.live }
+        ensures ran { result ≡ ran_so self.new.store.journal.live }
         ensures faults { CountsFaults N.faults self.old.store self.new.store }
         ensures number { self.new.number ≡ self.old.number }
         ensures usable { IsUsable self.new.store }
@@ -240,7 +242,7 @@ impl<N: Nv + Drop> Node<N> {
             Deed::Commits(command) => self.commit(command, watch),
             Deed::PassesOn { host: to } => {
                 self.send(*to, pipe, message, watch);
-                true
+                Ran::Done
             }
             Deed::Sends {
                 host: to,
@@ -248,59 +250,59 @@ impl<N: Nv + Drop> Node<N> {
                 message: answer,
             } => {
                 self.send(*to, *on, answer.as_slice(), watch);
-                true
+                Ran::Done
             }
             Deed::SaysOk => {
                 self.say_ok(watch);
-                true
+                Ran::Done
             }
             Deed::Asks(row) => {
                 self.ask(*row, watch);
-                true
+                Ran::Done
             }
             Deed::Releases { asker } => {
                 self.release(*asker, watch);
-                true
+                Ran::Done
             }
             Deed::Tells {
                 host: to,
                 message: told,
             } => {
                 self.notify(*to, About::Removed, told.as_slice(), watch);
-                true
+                Ran::Done
             }
             Deed::IsAnswered => {
                 self.ends.set_notice(host, None);
-                true
+                Ran::Done
             }
             Deed::Drops { pipe: on } => {
                 self.drop_message(host, *on, watch);
-                true
+                Ran::Done
             }
             Deed::SetsErrors { errors } => {
                 self.ends.set_errors(host, *errors);
-                true
+                Ran::Done
             }
             Deed::Orders(order) => {
                 self.order(host, order.as_slice(), watch);
-                true
+                Ran::Done
             }
             Deed::Hears => {
                 self.hear();
-                true
+                Ran::Done
             }
             Deed::GoesOn { answered } => {
                 self.go_on(*answered);
-                true
+                Ran::Done
             }
             Deed::Ends(end) => {
                 self.end_init(*end, watch);
-                true
+                Ran::Done
             }
         }
     }
 
-    /// Carries out deeds, one after another, until a write fails. Whether the node has its power still.
+    /// Carries out deeds, one after another, until a write fails.
     #[tactic(auto, using(crate::proofs::Faults::faults_stay, crate::proofs::Faults::faults_then))]
     pub(crate) fn carry_all<W: Watch>(
         &mut self,
@@ -309,24 +311,24 @@ impl<N: Nv + Drop> Node<N> {
         pipe: u8,
         message: &[u8],
         watch: &mut W,
-    ) -> bool
+    ) -> Ran
         requires usable { IsUsable self.old.store }
         requires live { IsTrue self.old.store.journal.live }
         requires doable { IsInSomeStep W.noted W.is_short (self.old, watch.old)
             (λ w. AreDoableInTurn host (handling self.old (pipe, message.now)) deeds.now w) }
         ensures carried { CarriesOut N.writes W.noted W.is_short (self.old, watch.old) (self.new, watch.new)
             (all_done host (map (deed_of self.old (pipe, message.now)) deeds.now)) }
-        ensures live { result ≡ self.new.store.journal.live }
+        ensures ran { result ≡ ran_so self.new.store.journal.live }
         ensures faults { CountsFaults N.faults self.old.store self.new.store }
         ensures number { self.new.number ≡ self.old.number }
         ensures usable { IsUsable self.new.store }
     {
         for deed in deeds {
-            if !self.carry_out(host, deed, pipe, message, watch) {
-                return false;
+            if !self.carry_out(host, deed, pipe, message, watch).is_done() {
+                return Ran::Stopped;
             }
         }
-        true
+        Ran::Done
     }
 
     // The message has its turn: that is noted, and its blocks are given back.
@@ -347,7 +349,6 @@ impl<N: Nv + Drop> Node<N> {
     }
 
     /// The message that waits at the end of the link with this host is handled: it is the node's from now on, and these deeds are done.
-    /// Whether the node has its power still.
     #[tactic(auto, using(crate::proofs::Faults::faults_stay, crate::proofs::Faults::faults_then))]
     pub(crate) fn handle<W: Watch>(
         &mut self,
@@ -356,14 +357,14 @@ impl<N: Nv + Drop> Node<N> {
         pipe: u8,
         message: &[u8],
         watch: &mut W,
-    ) -> bool
+    ) -> Ran
         requires usable { IsUsable self.old.store }
         requires live { IsTrue self.old.store.journal.live }
         requires doable { IsInSomeStep W.noted W.is_short (self.old, watch.old)
             (λ w. AreDoableInTurn host (handling self.old (pipe, message.now)) deeds.now (has_turn host (pipe, message.now) w)) }
         ensures carried { CarriesOut N.writes W.noted W.is_short (self.old, watch.old) (self.new, watch.new)
             (handles host (pipe, message.now) (map (deed_of self.old (pipe, message.now)) deeds.now)) }
-        ensures live { result ≡ self.new.store.journal.live }
+        ensures ran { result ≡ ran_so self.new.store.journal.live }
         ensures faults { CountsFaults N.faults self.old.store self.new.store }
         ensures number { self.new.number ≡ self.old.number }
         ensures usable { IsUsable self.new.store }

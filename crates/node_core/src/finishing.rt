@@ -1,7 +1,7 @@
 //! The steps of a node.
 use crate::inputs::{Came, NodeInput};
 use crate::node::{InBuffer, MESSAGE, Node};
-use crate::running::{Stepped, how_it_ran};
+use crate::running::{Ran, Stepped};
 use link_end::ResetRefused;
 use swp_base::Nv;
 use trace_model::Watch;
@@ -27,7 +27,7 @@ impl<N: Nv + Drop> Node<N> {
         lies: Option<InBuffer>,
         buffer: &mut [u8; MESSAGE],
         watch: &mut W,
-    ) -> bool
+    ) -> Ran
         requires usable { IsUsable self.old.store }
         requires live { IsTrue self.old.store.journal.live }
         requires lies { LiesInBuffer self.old.ends buffer.old lies }
@@ -35,7 +35,7 @@ impl<N: Nv + Drop> Node<N> {
         requires may { IsInSomeStep W.noted W.is_short (self.old, watch.old) (λ w. IsNodeInOrder w.core w.ports × AreFewDue w.ports) }
         ensures carried { CarriesOutWhere N.writes (λ w. IsNodeInOrder w.core w.ports × AreFewDue w.ports) W.noted W.is_short (self.old, watch.old)
             (self.new, watch.new) (finishes (sync_kept self.old.store.journal.state self.old.store.tables came)) }
-        ensures live { result ≡ self.new.store.journal.live }
+        ensures ran { result ≡ ran_so self.new.store.journal.live }
         ensures faults { CountsFaults N.faults self.old.store self.new.store }
         ensures number { self.new.number ≡ self.old.number }
         ensures usable { IsUsable self.new.store }
@@ -43,15 +43,15 @@ impl<N: Nv + Drop> Node<N> {
         if came.is_none() && !self.is_over() {
             return self.passes(lies, buffer, watch);
         }
-        if !self.settle_sessions(came, watch) {
-            return false;
+        if !self.settle_sessions(came, watch).is_done() {
+            return Ran::Stopped;
         }
         self.passes(None, buffer, watch)
     }
 
     /// Behind what came in a step: what sessions that ended there leave is settled, the identifier that came is kept, and the messages
     /// that wait have their turns. The node is in order, and at most six control frames wait at each end to be sent. A
-    /// message that waits lies in the buffer already, or none does. Whether the node has its power still.
+    /// message that waits lies in the buffer already, or none does.
     #[inline(always)]
     #[tactic(auto, using(crate::proofs::Faults::faults_stay, crate::proofs::Faults::faults_then))]
     fn finish<W: Watch>(
@@ -60,7 +60,7 @@ impl<N: Nv + Drop> Node<N> {
         lies: Option<InBuffer>,
         buffer: &mut [u8; MESSAGE],
         watch: &mut W,
-    ) -> bool
+    ) -> Ran
         requires usable { IsUsable self.old.store }
         requires live { IsTrue self.old.store.journal.live }
         requires lies { LiesInBuffer self.old.ends buffer.old lies }
@@ -68,13 +68,13 @@ impl<N: Nv + Drop> Node<N> {
         requires may { IsInSomeStep W.noted W.is_short (self.old, watch.old) (λ w. IsNodeInOrder w.core w.ports × AreFewDue w.ports) }
         ensures carried { CarriesOutWhere N.writes (λ w. IsNodeInOrder w.core w.ports × AreFewDue w.ports) W.noted W.is_short (self.old, watch.old)
             (self.new, watch.new) (finishes (sync_kept self.old.store.journal.state self.old.store.tables came)) }
-        ensures live { result ≡ self.new.store.journal.live }
+        ensures ran { result ≡ ran_so self.new.store.journal.live }
         ensures faults { CountsFaults N.faults self.old.store self.new.store }
         ensures number { self.new.number ≡ self.old.number }
         ensures usable { IsUsable self.new.store }
     {
         if came.is_none() && self.ends.are_idle() {
-            return true;
+            return Ran::Done;
         }
         self.settle_and_pass(came, lies, buffer, watch)
     }
@@ -141,10 +141,10 @@ impl<N: Nv + Drop> Node<N> {
             Ok(came) => came,
             Err(why) => return Err(why),
         };
-        let live = self.finish(came.sync, came.lies, buffer, watch);
+        let ran = self.finish(came.sync, came.lies, buffer, watch);
         self.end_step();
         Ok(Stepped {
-            ran: how_it_ran(live),
+            ran,
             became_active: came.became_active,
         })
     }

@@ -31,6 +31,6 @@ pub use node::Node;
 pub use node_ends::LinkInput;
 pub use running::{
     Ran, Stepped, a_refused_frame_counts_at_its_desk,
-    a_reset_of_an_end_that_became_active_is_not_refused, frames_of_a_node_go_out, how_it_ran,
+    a_reset_of_an_end_that_became_active_is_not_refused, frames_of_a_node_go_out,
     numbers_of_sessions_are_not_kept,
 };

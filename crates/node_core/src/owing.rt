@@ -1,11 +1,13 @@
 //! What a node owes where sessions ended.
 use crate::node::Node;
+use crate::running::Ran;
 use arrayvec::ArrayVec;
 use gate_answers::{Response, refused};
 use swp_base::Nv;
 use trace_model::Watch;
 
 impl<N: Nv + Drop> Node<N> {
+    ghost use Rattle.node_core.specs.Running.{ran_so};
     ghost use Rattle.std.specs.Prelude.{◌≡◌, ◌≤◌, List, [], ◌∷◌, map, IfSome, IsTrue, slice_get};
     ghost use Rattle.std.specs.Option.{option_map_or};
     ghost use Rattle.node_machine.specs.Parts.{Port};
@@ -125,17 +127,17 @@ impl<N: Nv + Drop> Node<N> {
 
     // What sessions that ended in this step leave: the creations of their askers are forgotten and their blocks free, no notice to their
     // hosts is answered any more, the identifier that came with its host, where one did, is kept, and those who asked for creations there
-    // get their answers. Whether the node has its power still.
+    // get their answers.
     #[cold]
     #[inline(never)]
     #[tactic(auto, using(crate::proofs::Faults::faults_stay, crate::proofs::Faults::faults_then))]
-    fn settle_ended<W: Watch>(&mut self, came: Option<(u8, u16)>, watch: &mut W) -> bool
+    fn settle_ended<W: Watch>(&mut self, came: Option<(u8, u16)>, watch: &mut W) -> Ran
         requires usable { IsUsable self.old.store }
         requires live { IsTrue self.old.store.journal.live }
         requires host { IfSome came (λ pair. (1 ≤ pair.0) × (pair.0 ≤ 7)) }
         ensures carried { CarriesOut N.writes W.noted W.is_short (self.old, watch.old) (self.new, watch.new)
             (settles (sync_kept self.old.store.journal.state self.old.store.tables came)) }
-        ensures live { result ≡ self.new.store.journal.live }
+        ensures ran { result ≡ ran_so self.new.store.journal.live }
         ensures faults { CountsFaults N.faults self.old.store self.new.store }
         ensures number { self.new.number ≡ self.old.number }
         ensures usable { IsUsable self.new.store }
@@ -147,28 +149,28 @@ impl<N: Nv + Drop> Node<N> {
         let late = self.owed(true);
         self.drop_notices();
         self.release_all(freed.as_slice(), watch);
-        if !self.keep_sync(came, watch) {
-            return false;
+        if !self.keep_sync(came, watch).is_done() {
+            return Ran::Stopped;
         }
         self.answer_all(ended.as_slice(), Response::NotConnected, watch);
         self.answer_all(late.as_slice(), Response::Timeout, watch);
-        true
+        Ran::Done
     }
 
     /// What is left to settle behind what came in a step: what sessions that ended in it leave, and the identifier that came with its host,
-    /// where one did, is kept. Where no session ended, that is all. Whether the node has its power still.
+    /// where one did, is kept. Where no session ended, that is all.
     #[tactic(auto, using(crate::proofs::Faults::faults_stay, crate::proofs::Faults::faults_then))]
     pub(crate) fn settle_sessions<W: Watch>(
         &mut self,
         came: Option<(u8, u16)>,
         watch: &mut W,
-    ) -> bool
+    ) -> Ran
         requires usable { IsUsable self.old.store }
         requires live { IsTrue self.old.store.journal.live }
         requires host { IfSome came (λ pair. (1 ≤ pair.0) × (pair.0 ≤ 7)) }
         ensures carried { CarriesOut N.writes W.noted W.is_short (self.old, watch.old) (self.new, watch.new)
             (settles (sync_kept self.old.store.journal.state self.old.store.tables came)) }
-        ensures live { result ≡ self.new.store.journal.live }
+        ensures ran { result ≡ ran_so self.new.store.journal.live }
         ensures faults { CountsFaults N.faults self.old.store self.new.store }
         ensures number { self.new.number ≡ self.old.number }
         ensures usable { IsUsable self.new.store }

@@ -4,6 +4,7 @@ ghost use Rattle.node_deeds.specs.declared.deeds.Deed.TheVariants.{PassesOn};
 
 use crate::node::Node;
 use crate::noting::note;
+use crate::running::Ran;
 use node_deeds::{Deed, Shortfall};
 use swp_base::Nv;
 use trace_model::{Entry, Octets, Watch};
@@ -22,6 +23,7 @@ fn relayed_to(deeds: &[Deed], short: &Option<Shortfall>) -> Option<u8>
 }
 
 impl<N: Nv + Drop> Node<N> {
+    ghost use Rattle.node_core.specs.Running.{ran_so};
     ghost use Rattle.std.specs.Prelude.{◌≡◌, ◌∷◌, [], IsTrue};
     ghost use Rattle.node_machine.specs.Parts.Deed.{Sends};
     ghost use Rattle.node_machine.specs.Carrying.{done};
@@ -60,7 +62,7 @@ impl<N: Nv + Drop> Node<N> {
         }
     }
 
-    /// The message that waits at the end of the link with this host has its turn, as it was decided. Whether the node has its power still.
+    /// The message that waits at the end of the link with this host has its turn, as it was decided.
     #[tactic(auto, using(crate::proofs::Faults::faults_stay, crate::proofs::Faults::faults_then))]
     pub(crate) fn turn_decided<W: Watch>(
         &mut self,
@@ -71,7 +73,7 @@ impl<N: Nv + Drop> Node<N> {
         pipe: u8,
         message: &[u8],
         watch: &mut W,
-    ) -> bool
+    ) -> Ran
         requires usable { IsUsable self.old.store }
         requires live { IsTrue self.old.store.journal.live }
         requires decided { IsInSomeStep W.noted W.is_short (self.old, watch.old)
@@ -79,7 +81,7 @@ impl<N: Nv + Drop> Node<N> {
         ensures carried { CarriesOutWhere N.writes (λ w. IsDecided host (handling self.old (pipe, message.now)) deeds.now short held w
             × (got_at w.ports host ≡ (pipe, message.now) ∷ [])) W.noted W.is_short (self.old, watch.old) (self.new, watch.new)
             (have_turns host ((pipe, message.now) ∷ [])) }
-        ensures live { result ≡ self.new.store.journal.live }
+        ensures ran { result ≡ ran_so self.new.store.journal.live }
         ensures faults { CountsFaults N.faults self.old.store self.new.store }
         ensures number { self.new.number ≡ self.old.number }
         ensures usable { IsUsable self.new.store }
@@ -89,6 +91,6 @@ impl<N: Nv + Drop> Node<N> {
         };
         self.relay(host, to, pipe, message, watch);
         self.let_go(host, held);
-        true
+        Ran::Done
     }
 }

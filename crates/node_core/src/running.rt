@@ -8,7 +8,7 @@ ghost use Rattle.node_machine.specs.Node.{steps, with_error};
 ghost use Rattle.node_machine.specs.Node.NodeInput.{AtEnd};
 ghost use Rattle.std.specs.List.{AllByRecursion};
 ghost use Rattle.node_core.specs.declared.node.Node.{Node as Kept};
-ghost use Rattle.node_core.specs.Running.{RunsAs, BeginsStep, SendsOneByOne, between, one_more_error, ran_so};
+ghost use Rattle.node_core.specs.Running.{RunsAs, BeginsStep, SendsOneByOne, between, one_more_error};
 
 use crate::node::Node;
 use arrayvec::ArrayVec;
@@ -32,11 +32,19 @@ pub struct Stepped {
     pub became_active: bool,
 }
 
-/// How a step ends behind which the node has its power still, or hasn't.
-pub fn how_it_ran(live: bool) -> Ran
-    ensures { result ≡ ran_so live }
-{
-    if live { Ran::Done } else { Ran::Stopped }
+impl Ran {
+    ghost use Rattle.std.specs.Prelude.{◌≡◌};
+    ghost use Rattle.node_core.specs.Running.{ran_so};
+
+    /// Whether it is done.
+    pub fn is_done(self) -> bool
+        ensures { self ≡ ran_so result }
+    {
+        match self {
+            Ran::Done => true,
+            Ran::Stopped => false,
+        }
+    }
 }
 
 impl<N: Nv + Drop> Node<N> {

@@ -1,11 +1,13 @@
 //! How a message has its turn.
 
 use crate::node::{InBuffer, MESSAGE, Node};
+use crate::running::Ran;
 use node_deeds::{Deed, Deeds, Shortfall, lack, put_controller_deeds, put_host_deeds};
 use swp_base::Nv;
 use trace_model::Watch;
 
 impl<N: Nv + Drop> Node<N> {
+    ghost use Rattle.node_core.specs.Running.{ran_so};
     ghost use Rattle.std.specs.Prelude.{◌≡◌, ◌≤◌, Bool, List, ◌∷◌, [], length, IsTrue, IfSome};
     ghost use Rattle.trace_model.specs.declared.entry.Entry.{Entry as Noted};
     ghost use Rattle.node_machine.specs.Parts.{Port, Work};
@@ -37,7 +39,7 @@ impl<N: Nv + Drop> Node<N> {
     }
 
     // The message that waits at the end of the link with this host has its turn, as it was decided: it is held back where these deeds
-    // lack room, and handled otherwise. Whether the node has its power still.
+    // lack room, and handled otherwise.
     #[tactic(auto, using(crate::proofs::Faults::faults_stay, crate::proofs::Faults::faults_then))]
     pub(crate) fn take_turn<W: Watch>(
         &mut self,
@@ -48,27 +50,27 @@ impl<N: Nv + Drop> Node<N> {
         pipe: u8,
         message: &[u8],
         watch: &mut W,
-    ) -> bool
+    ) -> Ran
         requires usable { IsUsable self.old.store }
         requires live { IsTrue self.old.store.journal.live }
         requires decided { IsInSomeStep W.noted W.is_short (self.old, watch.old)
             (λ w. IsDecided host (handling self.old (pipe, message.now)) deeds.now short held w) }
         ensures carried { CarriesOutWhere N.writes (λ w. IsDecided host (handling self.old (pipe, message.now)) deeds.now short held w) W.noted W.is_short
             (self.old, watch.old) (self.new, watch.new) (have_turns host ((pipe, message.now) ∷ [])) }
-        ensures live { result ≡ self.new.store.journal.live }
+        ensures ran { result ≡ ran_so self.new.store.journal.live }
         ensures faults { CountsFaults N.faults self.old.store self.new.store }
         ensures number { self.new.number ≡ self.old.number }
         ensures usable { IsUsable self.new.store }
     {
         if let Some(Shortfall { need, spare }) = short {
             self.hold_back(host, need, spare, watch);
-            return true;
+            return Ran::Done;
         }
-        if !self.handle(host, deeds, pipe, message, watch) {
-            return false;
+        if !self.handle(host, deeds, pipe, message, watch).is_done() {
+            return Ran::Stopped;
         }
         self.let_go(host, held);
-        true
+        Ran::Done
     }
 
     // What a controller does with this message, which waits at its end with this host, is put into a list, which is empty.
@@ -154,7 +156,7 @@ impl<N: Nv + Drop> Node<N> {
     }
 
     // This message, which waits at the end with this host, has its turn: what is done with it is decided, and done where there is room.
-    // The link of a host is the one with its own number. Whether the node has its power still.
+    // The link of a host is the one with its own number.
     #[inline(always)]
     #[tactic(auto, using(crate::proofs::Faults::faults_stay, crate::proofs::Faults::faults_then))]
     fn have_turn<W: Watch>(
@@ -164,7 +166,7 @@ impl<N: Nv + Drop> Node<N> {
         pipe: u8,
         message: &[u8],
         watch: &mut W,
-    ) -> bool
+    ) -> Ran
         requires usable { IsUsable self.old.store }
         requires live { IsTrue self.old.store.journal.live }
         requires own { self.old.number ≢ 0 → host ≡ self.old.number }
@@ -178,7 +180,7 @@ impl<N: Nv + Drop> Node<N> {
         ensures carried { CarriesOutWhere N.writes (λ w. IsNodeInOrder w.core w.ports × FewAreDue (port_at w.ports host) × (held ≡ held_at w.ports host)
             × (got_at w.ports host ≡ (pipe, message.now) ∷ [])) W.noted W.is_short (self.old, watch.old) (self.new, watch.new)
             (have_turns host ((pipe, message.now) ∷ [])) }
-        ensures live { result ≡ self.new.store.journal.live }
+        ensures ran { result ≡ ran_so self.new.store.journal.live }
         ensures faults { CountsFaults N.faults self.old.store self.new.store }
         ensures number { self.new.number ≡ self.old.number }
         ensures usable { IsUsable self.new.store }
@@ -217,7 +219,7 @@ impl<N: Nv + Drop> Node<N> {
 
     /// The message that waits at the end of the link with this host has its turn, where one does; then the end takes fragments again, unless
     /// the message is held back. The node is in order, and at most six control frames wait at this end to be sent. A
-    /// message that waits lies in the buffer already, or none does. Whether the node has its power still.
+    /// message that waits lies in the buffer already, or none does.
     #[inline(never)]
     #[tactic(auto, using(crate::proofs::Faults::faults_stay, crate::proofs::Faults::faults_then))]
     pub(crate) fn have_turns<W: Watch>(
@@ -226,7 +228,7 @@ impl<N: Nv + Drop> Node<N> {
         lies: Option<InBuffer>,
         buffer: &mut [u8; MESSAGE],
         watch: &mut W,
-    ) -> bool
+    ) -> Ran
         requires usable { IsUsable self.old.store }
         requires live { IsTrue self.old.store.journal.live }
         requires some { 1 ≤ host }
@@ -236,7 +238,7 @@ impl<N: Nv + Drop> Node<N> {
         ensures carried { (start : List Noted) (w : Work) → IsInStep self.old (W.noted watch.old) (W.is_short watch.old) start w
             → IsNodeInOrder w.core w.ports → FewAreDue (port_at w.ports host) → Brings N.writes self.old.store.journal.nv self.new.store.journal.nv
             (IsInStep self.new (W.noted watch.new) (W.is_short watch.new) start) (have_turns host (got_at w.ports host)) w }
-        ensures live { result ≡ self.new.store.journal.live }
+        ensures ran { result ≡ ran_so self.new.store.journal.live }
         ensures faults { CountsFaults N.faults self.old.store self.new.store }
         ensures number { self.new.number ≡ self.old.number }
         ensures usable { IsUsable self.new.store }
@@ -244,14 +246,13 @@ impl<N: Nv + Drop> Node<N> {
         let held = self.ends.is_held(host);
         let Some((pipe, len)) = self.waiting(host, lies, buffer) else {
             self.let_go(host, held);
-            return true;
+            return Ran::Done;
         };
         self.have_turn(host, held, pipe, &buffer[..len], watch)
     }
 
     /// A node goes once through its ends, ascending, and the messages that wait there have their turns. It is in order, and at most six
-    /// control frames wait at each end to be sent. A message that waits lies in the buffer already, or none does. Whether the node has its
-    /// power still.
+    /// control frames wait at each end to be sent. A message that waits lies in the buffer already, or none does.
     #[inline(always)]
     #[tactic(auto, using(crate::proofs::Faults::faults_stay, crate::proofs::Faults::faults_then))]
     pub(crate) fn passes<W: Watch>(
@@ -259,14 +260,14 @@ impl<N: Nv + Drop> Node<N> {
         mut lies: Option<InBuffer>,
         buffer: &mut [u8; MESSAGE],
         watch: &mut W,
-    ) -> bool
+    ) -> Ran
         requires usable { IsUsable self.old.store }
         requires live { IsTrue self.old.store.journal.live }
         requires lies { LiesInBuffer self.old.ends buffer.old lies }
         requires may { IsInSomeStep W.noted W.is_short (self.old, watch.old) (λ w. IsNodeInOrder w.core w.ports × AreFewDue w.ports) }
         ensures carried { CarriesOutWhere N.writes (λ w. IsNodeInOrder w.core w.ports × AreFewDue w.ports) W.noted W.is_short (self.old, watch.old)
             (self.new, watch.new) passes }
-        ensures live { result ≡ self.new.store.journal.live }
+        ensures ran { result ≡ ran_so self.new.store.journal.live }
         ensures faults { CountsFaults N.faults self.old.store self.new.store }
         ensures number { self.new.number ≡ self.old.number }
         ensures usable { IsUsable self.new.store }
@@ -276,13 +277,13 @@ impl<N: Nv + Drop> Node<N> {
                 continue;
             }
             let Some(host) = self.ends.host(i) else {
-                return true;
+                return Ran::Done;
             };
-            if !self.have_turns(host, lies, buffer, watch) {
-                return false;
+            if !self.have_turns(host, lies, buffer, watch).is_done() {
+                return Ran::Stopped;
             }
             lies = None;
         }
-        true
+        Ran::Done
     }
 }

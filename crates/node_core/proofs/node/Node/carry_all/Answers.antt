@@ -10,6 +10,7 @@ use Rattle.node_core.specs.Deeds.{handling, deed_of, AreDoableInTurn}
 use Rattle.node_core.proofs.Steps.{GoesOn, goes_on, goes_no_further, all_gone, doable_then, split_at, none_left}
 use Rattle.node_core.proofs.Tasks.{next_doable, next_shown}
 use Rattle.node_core.proofs.Faults.{faults_then}
+use Rattle.node_core.proofs.Faults.{ran_is}
 use Rattle.node_core.proofs.node.Node.carry_all.Goals as goal
 
 pub carry_out-requires-clause-doable : goal.carry_out-requires-clause-doable
@@ -26,8 +27,8 @@ carry_out-requires-clause-doable g c =
     let doable : D (d ∷ drop (i + 1) deeds) = subst D split r.3 in
     (r.0, r.1, r.2, next_doable c.args.self.now m d r.2 c.loop-deed.invariant.live c.loop-deed.invariant.number doable.0)
 
-pub returns-then-not-carry_out-clause-carried : goal.returns-then-not-carry_out-clause-carried
-returns-then-not-carry_out-clause-carried g c start w u =
+pub returns-then-not-is_done-clause-carried : goal.returns-then-not-is_done-clause-carried
+returns-then-not-is_done-clause-carried g c start w u =
     let deeds = c.args.deeds.now in
     let i = c.loop-deed.deed-index in
     let d : Deed = c.deed-item.result in
@@ -46,7 +47,7 @@ returns-then-not-carry_out-clause-carried g c start w u =
     (IsInStep o.new.self (g.W.Watch.noted o.new.watch) (g.W.Watch.is_short o.new.watch) start) (done c.args.host x) k.now in
     let shown = next_shown c.args.self.now m d r.2 c.loop-deed.invariant.live c.loop-deed.invariant.number doable.0 in
     let b : B (deed_of c.args.self.now m d) = subst B shown (o.ensures.carried start k.now k.under) in
-    goes_no_further k b (b.stands.power ∙ ap not (sym o.ensures.live ∙ c.if-not-carry_out.true))
+    goes_no_further k b (b.stands.power ∙ ap not (ran_is o.ensures.ran c.is_done.ensures ∙ c.if-not-is_done.true))
 
 pub loop-deed-preserved : goal.loop-deed-preserved
 loop-deed-preserved g c =
@@ -58,7 +59,7 @@ loop-deed-preserved g c =
     let split : drop i deeds ≡ d ∷ drop (i + 1) deeds = split_at deeds i d c.loop-deed-test.true
     ∙ ap (λ (x : Deed). x ∷ drop (i + 1) deeds) (sym c.deed-item.is) in
     let o = c.carry_out in
-    let on : o.new.self.store.journal.live ≡ true = sym o.ensures.live ∙ c.if-not-carry_out.false in
+    let on : o.new.self.store.journal.live ≡ true = ran_is o.ensures.ran c.is_done.ensures ∙ c.if-not-is_done.false in
     let a = c.loop-deed.invariant.doable in
     let D : List Deed → Type 0 = λ l. AreDoableInTurn c.args.host x l a.1 in
     let doable : D (d ∷ drop (i + 1) deeds) = subst D split a.3 in

@@ -7,6 +7,7 @@ use Rattle.node_core.proofs.HavingTurns.{no_some}
 use Rattle.node_core.proofs.Elsewhere.{is_host_at}
 use Rattle.node_core.proofs.Passing.{PassesOn, pass_rests, pass_begins, next_few, pass_goes_on, pass_stops, pass_ends, pass_over, pass_full}
 use Rattle.node_core.proofs.Faults.{faults_stay, faults_then}
+use Rattle.node_core.proofs.Faults.{ran_is}
 use Rattle.node_core.proofs.node.Node.passes.Goals as goal
 
 pub loop-i-init : goal.loop-i-init
@@ -46,8 +47,8 @@ have_turns-requires-clause-may g c =
     let is = sym c.in-Some.is ∙ c.host.ensures k.now.ports k.under.ends in
     (r.0, k.now, k.under, (k.order, next_few k c.in-Some.host is))
 
-pub returns-then-not-have_turns-clause-carried : goal.returns-then-not-have_turns-clause-carried
-returns-then-not-have_turns-clause-carried g c start w u may =
+pub returns-then-not-is_done-clause-carried : goal.returns-then-not-is_done-clause-carried
+returns-then-not-is_done-clause-carried g c start w u may =
     let h = c.in-Some.host in
     let k = c.loop-i.invariant.goes start w u may.0 may.1 in
     let is = sym c.in-Some.is ∙ c.host.ensures k.now.ports k.under.ends in
@@ -55,7 +56,7 @@ returns-then-not-have_turns-clause-carried g c start w u may =
     let b : Brings g.N.Nv.writes c.loop-i.self.store.journal.nv t.new.self.store.journal.nv
     (IsInStep t.new.self (g.W.Watch.noted t.new.watch) (g.W.Watch.is_short t.new.watch) start) (have_turns h (got_at k.now.ports h)) k.now =
     t.ensures.carried start k.now k.under k.order (next_few k h is) in
-    pass_stops k h is b (b.stands.power ∙ ap not (sym t.ensures.live ∙ c.if-not-have_turns.true))
+    pass_stops k h is b (b.stands.power ∙ ap not (ran_is t.ensures.ran c.is_done.ensures ∙ c.if-not-is_done.true))
 
 pub loop-i-preserved-then-rests : goal.loop-i-preserved-then-rests
 loop-i-preserved-then-rests g c =
@@ -77,7 +78,7 @@ loop-i-preserved-then-rests g c =
 pub loop-i-preserved : goal.loop-i-preserved
 loop-i-preserved g c =
     let t = c.have_turns in
-    let on : t.new.self.store.journal.live ≡ true = sym t.ensures.live ∙ c.if-not-have_turns.false in
+    let on : t.new.self.store.journal.live ≡ true = ran_is t.ensures.ran c.is_done.ensures ∙ c.if-not-is_done.false in
     record {
       usable = t.ensures.usable;
       live = on;

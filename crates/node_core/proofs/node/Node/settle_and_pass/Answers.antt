@@ -9,6 +9,7 @@ use Rattle.node_core.proofs.Settling.{settled_ports, quiet_few}
 use Rattle.node_core.proofs.Idle.{none_came, only_passes}
 use Rattle.node_core.proofs.Ordering.{stays_in_order}
 use Rattle.node_core.proofs.Staying.{settles_fine}
+use Rattle.node_core.proofs.Faults.{ran_is}
 use Rattle.node_core.proofs.node.Node.settle_and_pass.Goals as goal
 
 pub passes-requires-2-clause-may : goal.passes-requires-2-clause-may
@@ -19,7 +20,7 @@ passes-requires-2-clause-may g c =
     let b : Brings g.N.Nv.writes s.journal.nv t.new.self.store.journal.nv
     (IsInStep t.new.self (g.W.Watch.noted t.new.watch) (g.W.Watch.is_short t.new.watch) r.0) (settles (sync_kept s.journal.state s.tables c.args.came)) r.1 =
     t.ensures.carried r.0 r.1 r.2 in
-    let live = b.stands.power ∙ ap not (sym t.ensures.live ∙ c.if-not-settle_sessions.false) in
+    let live = b.stands.power ∙ ap not (ran_is t.ensures.ran c.is_done.ensures ∙ c.if-not-is_done.false) in
     let same = settled_ports (sync_kept s.journal.state s.tables c.args.came) b live in
     let order = stays_in_order (settles_fine s.journal.state s.tables c.args.came) b live (r.2.power ∙ ap not c.requires.live) r.3.0 in
     (r.0, b.after, b.stands, (order, quiet_few b.after.ports r.1.ports same r.3.1))
@@ -33,14 +34,15 @@ returns-then-not-is_over-clause-carried g c start w u may =
     brings_same (c.passes.ensures.carried start w u may)
     (λ plan. only_passes (sync_kept s.journal.state s.tables c.args.came) (record w { plan = plan }) none live over)
 
-pub returns-then-not-settle_sessions-clause-carried : goal.returns-then-not-settle_sessions-clause-carried
-returns-then-not-settle_sessions-clause-carried g c start w u may =
+pub returns-then-not-is_done-clause-carried : goal.returns-then-not-is_done-clause-carried
+returns-then-not-is_done-clause-carried g c start w u may =
     let t = c.settle_sessions in
     let s = c.args.self.now.store in
     let b : Brings g.N.Nv.writes s.journal.nv t.new.self.store.journal.nv
     (IsInStep t.new.self (g.W.Watch.noted t.new.watch) (g.W.Watch.is_short t.new.watch) start) (settles (sync_kept s.journal.state s.tables c.args.came)) w =
     t.ensures.carried start w u in
-    brings_same (brings_cut g.N.Nv.writes passes b (b.stands.power ∙ ap not (sym t.ensures.live ∙ c.if-not-settle_sessions.true)) refl b.stands) (λ plan. refl)
+    brings_same (brings_cut g.N.Nv.writes passes b
+    (b.stands.power ∙ ap not (ran_is t.ensures.ran c.is_done.ensures ∙ c.if-not-is_done.true)) refl b.stands) (λ plan. refl)
 
 pub returns-clause-carried : goal.returns-clause-carried
 returns-clause-carried g c start w u may =
@@ -49,7 +51,7 @@ returns-clause-carried g c start w u may =
     let b : Brings g.N.Nv.writes s.journal.nv t.new.self.store.journal.nv
     (IsInStep t.new.self (g.W.Watch.noted t.new.watch) (g.W.Watch.is_short t.new.watch) start) (settles (sync_kept s.journal.state s.tables c.args.came)) w =
     t.ensures.carried start w u in
-    let live = b.stands.power ∙ ap not (sym t.ensures.live ∙ c.if-not-settle_sessions.false) in
+    let live = b.stands.power ∙ ap not (ran_is t.ensures.ran c.is_done.ensures ∙ c.if-not-is_done.false) in
     let same = settled_ports (sync_kept s.journal.state s.tables c.args.came) b live in
     let order = stays_in_order (settles_fine s.journal.state s.tables c.args.came) b live (u.power ∙ ap not c.requires.live) may.0 in
     brings_same (brings_then g.N.Nv.writes b live (c.passes-2.ensures.carried start b.after b.stands

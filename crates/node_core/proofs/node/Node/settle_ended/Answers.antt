@@ -12,6 +12,7 @@ use Rattle.node_core.specs.Owing.{answers_owed}
 use Rattle.node_core.specs.Syncing.{left_over, settles, sync_kept}
 use Rattle.node_core.proofs.Freeing.{all_joined}
 use Rattle.node_core.proofs.Settling.{plain_freed, plain_owed, left_under_way, settle_stops, settle_goes}
+use Rattle.node_core.proofs.Faults.{ran_is}
 use Rattle.node_core.proofs.node.Node.settle_ended.Goals as goal
 
 pub keep_sync-requires-clause-live : goal.keep_sync-requires-clause-live
@@ -19,8 +20,8 @@ keep_sync-requires-clause-live g c =
     ap (λ (s : Stored g.row.N.Denot). s.journal.live)
     (c.release_all.ensures.store ∙ (c.drop_notices.ensures.store ∙ (c.forget.ensures.store ∙ c.drop_tasks.ensures.store))) ∙ c.requires.live
 
-pub returns-then-not-keep_sync-clause-carried : goal.returns-then-not-keep_sync-clause-carried
-returns-then-not-keep_sync-clause-carried g c start w u =
+pub returns-then-not-is_done-clause-carried : goal.returns-then-not-is_done-clause-carried
+returns-then-not-is_done-clause-carried g c start w u =
     let left : List Port = map (forgets w.ports) w.ports in
     let freed : map Releases c.as_slice.result.now ≡ forgotten w.ports =
     ap (map Releases) c.as_slice.ensures.value ∙ c.forgotten-freed.ensures w.ports u.ends in
@@ -40,7 +41,7 @@ returns-then-not-keep_sync-clause-carried g c start w u =
     let P : Stored g.row.N.Denot → Type 0 = λ s. Brings g.N.Nv.writes c.args.self.now.store.journal.nv t.new.self.store.journal.nv
     (IsInStep t.new.self (g.W.Watch.noted t.new.watch) (g.W.Watch.is_short t.new.watch) start) (settles (K s)) w in
     subst P kept (settle_stops g.N.Nv.writes (K c.release_all.new.self.store) fs (ap (λ (s : Stored g.row.N.Denot). s.journal.nv) kept) freed
-    (plain_freed c.as_slice.result.now) b (b.stands.power ∙ ap not (sym t.ensures.live ∙ c.if-not-keep_sync.true)))
+    (plain_freed c.as_slice.result.now) b (b.stands.power ∙ ap not (ran_is t.ensures.ran c.is_done.ensures ∙ c.if-not-is_done.true)))
 
 pub returns-clause-carried : goal.returns-clause-carried
 returns-clause-carried g c start w u =
@@ -62,7 +63,7 @@ returns-clause-carried g c start w u =
     let b : Brings g.N.Nv.writes c.release_all.new.self.store.journal.nv t.new.self.store.journal.nv
     (IsInStep t.new.self (g.W.Watch.noted t.new.watch) (g.W.Watch.is_short t.new.watch) start) (all_done 0 (K c.release_all.new.self.store))
     (all_done 0 fs (left_over w)) = t.ensures.carried start (all_done 0 fs (left_over w)) u3 in
-    let power : t.new.self.store.journal.live ≡ true = sym t.ensures.live ∙ c.if-not-keep_sync.false in
+    let power : t.new.self.store.journal.live ≡ true = ran_is t.ensures.ran c.is_done.ensures ∙ c.if-not-is_done.false in
     let live = b.stands.power ∙ ap not power in
     let es : List Deed = flat_map (answers_owed response.NotConnected) c.as_slice-2.result.now in
     let ls : List Deed = flat_map (answers_owed response.Timeout) c.as_slice-3.result.now in

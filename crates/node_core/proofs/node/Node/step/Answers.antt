@@ -19,11 +19,11 @@ comes-requires g c =
     let noted = g.W.Watch.noted c.args.watch.now in
     (noted, at_rest m.0 m.1, begins_at_rest noted (g.W.Watch.is_short c.args.watch.now) m.2 m.3, kept_may c.args.input m.1 m.4)
 
-pub finish-live-requires-clause-live : goal.finish-live-requires-clause-live
-finish-live-requires-clause-live g c = ap (λ (s : Stored g.row.N.Denot). s.journal.live) c.comes.ensures.store ∙ c.requires.2.live
+pub finish-ran-requires-clause-live : goal.finish-ran-requires-clause-live
+finish-ran-requires-clause-live g c = ap (λ (s : Stored g.row.N.Denot). s.journal.live) c.comes.ensures.store ∙ c.requires.2.live
 
-pub finish-live-requires-clause-host : goal.finish-live-requires-clause-host
-finish-live-requires-clause-host g c =
+pub finish-ran-requires-clause-host : goal.finish-ran-requires-clause-host
+finish-ran-requires-clause-host g c =
     let m = c.requires in
     let noted = g.W.Watch.noted c.args.watch.now in
     let b = begins_at_rest noted (g.W.Watch.is_short c.args.watch.now) m.2 m.3 in
@@ -31,8 +31,8 @@ finish-live-requires-clause-host g c =
     let P : Option (ℕ × ℕ) → Type 0 = λ o. IfSome o (λ (pair : ℕ × ℕ). (1 ≤ pair.0) × (pair.0 ≤ 7)) in
     subst P (sym has.sync) (sync_of_hosts (input_of_node c.args.input) (at_rest m.0 m.1).ports b.runs.order.hosts)
 
-pub finish-live-requires-clause-may : goal.finish-live-requires-clause-may
-finish-live-requires-clause-may g c =
+pub finish-ran-requires-clause-may : goal.finish-ran-requires-clause-may
+finish-ran-requires-clause-may g c =
     let m = c.requires in
     let i : NodeInput = input_of_node c.args.input in
     let noted = g.W.Watch.noted c.args.watch.now in
@@ -76,7 +76,7 @@ returns-clause-stepped g c start w b =
     let has = (c.in-Ok.ensures.came start w u).0 in
     let syncs = synced_by w.core i w.ports (hosts_differ n.pool n.seats w.ports u.ends.hosts u.ends.each)
     ∙ ap (sync_kept w.core.journal w.core.tables) (sym has.sync) in
-    let behind = c.finish-live.ensures.carried start (times_out i (all_come i w)) (c.comes.ensures.carried start w b)
+    let behind = c.finish-ran.ensures.carried start (times_out i (all_come i w)) (c.comes.ensures.carried start w b)
     (came_order i w b.runs.order, came_few i more w (ready_few w.ports (runs_ready b.runs b.sent))) in
     let whole = whole_step g.N.Nv.writes i c.in-Ok.came.sync u b.runs.live c.comes.ensures.store (came_planned i w) (came_written i w) syncs behind in
-    stepped g.N.Nv.writes i more b whole e.ended e.store e.number e.tasks c.finish-live.ensures.usable
+    stepped g.N.Nv.writes i more b whole e.ended e.store e.number e.tasks c.finish-ran.ensures.usable

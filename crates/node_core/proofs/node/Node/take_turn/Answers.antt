@@ -12,6 +12,7 @@ use Rattle.node_core.proofs.Steps.{plainly}
 use Rattle.node_core.proofs.Quiet.{few_kept, held_kept}
 use Rattle.node_core.proofs.HavingTurns.{no_some, has_room, has_none, held_cut, held_writes, held_anyway, let_cut, let_writes, let_anyway}
 use Rattle.node_core.proofs.HavingTurns.{brings_same, quiet_after}
+use Rattle.node_core.proofs.Faults.{ran_is}
 use Rattle.node_core.proofs.node.Node.take_turn.Goals as goal
 
 pub returns-in-Some-clause-carried : goal.returns-in-Some-clause-carried
@@ -33,7 +34,7 @@ let_go-requires g c =
     let b : Brings g.N.Nv.writes c.args.self.now.store.journal.nv c.handle.new.self.store.journal.nv
     (IsInStep c.handle.new.self (g.W.Watch.noted c.handle.new.watch) (g.W.Watch.is_short c.handle.new.watch) r.0)
     (handles h m (deeds_shown (handling c.args.self.now m) c.args.deeds.now)) r.1 = c.handle.ensures.carried r.0 r.1 r.2 in
-    let on : c.handle.new.self.store.journal.live ≡ true = sym c.handle.ensures.live ∙ c.if-not-handle.false in record {
+    let on : c.handle.new.self.store.journal.live ≡ true = ran_is c.handle.ensures.ran c.is_done.ensures ∙ c.if-not-is_done.false in record {
       few = (
         b.after.ports,
         b.stands.ends,
@@ -50,7 +51,7 @@ returns-clause-carried g c start w u d =
     let b : Brings g.N.Nv.writes c.args.self.now.store.journal.nv c.handle.new.self.store.journal.nv
     (IsInStep c.handle.new.self (g.W.Watch.noted c.handle.new.watch) (g.W.Watch.is_short c.handle.new.watch) start)
     (handles h m deeds) w = c.handle.ensures.carried start w u in
-    let on : c.handle.new.self.store.journal.live ≡ true = sym c.handle.ensures.live ∙ c.if-not-handle.false in
+    let on : c.handle.new.self.store.journal.live ≡ true = ran_is c.handle.ensures.ran c.is_done.ensures ∙ c.if-not-is_done.false in
     let power = b.stands.power ∙ ap not on in
     let held = d.held_is ∙ sym (held_kept b.after.ports w.ports h (quiet_after h m deeds b power)) in
     let later = plainly g.N.Nv.writes {n2 = c.let_go.new.self} (lets_go h) b.stands on c.let_go.ensures.store
