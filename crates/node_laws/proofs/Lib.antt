@@ -1,5 +1,6 @@
 pub mod All
 pub mod Cases
+pub mod Cut
 pub mod steps
 pub mod kept
 pub mod telling

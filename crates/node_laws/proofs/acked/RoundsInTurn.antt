@@ -5,15 +5,10 @@ use Rattle.std.specs.Prelude.{replicate}
 use Rattle.trace_model.specs.declared.line.End.{End}
 use Rattle.trace_model.specs.declared.line.Line.TheVariants as line
 use Rattle.shdlc_core.specs.Machine.{is_waiting}
-use Rattle.link_laws.specs.machine.Machine.{LinkInput}
 use Rattle.link_laws.specs.messages.Links.{Link, LinkEvent, Node, exchanged}
 use Rattle.link_laws.specs.messages.Links.Comes.{NextFrame}
-use Rattle.link_laws.specs.messages.Links.EndEvent.{Step}
 use Rattle.link_laws.specs.messages.Links.LinkEvent.{AtController, AtHost}
-use Rattle.node_machine.specs.Parts.{Running, Work}
-use Rattle.node_machine.specs.Node.{steps}
-use Rattle.node_machine.specs.Node.NodeInput.{AtEnd}
-use Rattle.node_machine.specs.world.World.{Site, NodeWorld, site_at, link_to, input_of, controller_work, host_work, comes_to, turns_at, ending_of}
+use Rattle.node_machine.specs.world.World.{Site, NodeWorld, site_at, link_to, input_of}
 use Rattle.node_machine.specs.world.World.{end_c, end_h, all_aged, controller_ticks, world_step}
 use Rattle.node_machine.specs.world.World.Happening.{Takes, Ticks as TimePassing}
 use Rattle.node_machine.specs.world.Lines.{can_happen, happenings, frames_at}
@@ -31,49 +26,18 @@ use Rattle.node_laws.proofs.rounds.Ends.{ends_of, order_is, ends-append, AreOthe
 
 -- what the controller takes is at its end
 near_at : (h : ℕ) (w : NodeWorld) (k : ℕ) → AllAtController (controller_takes h w k)
-near_at h w k = go (input_of (link_to w.sites k) NextFrame) w.controller
-  where
-    by : Option LinkInput → Option Running → List LinkEvent
-    by None _ = []
-    by (Some i) None = []
-    by (Some i) (Some r) =
-        let work : Work = controller_work w r k NextFrame (steps (AtEnd k i)) in
-        AtController (Step (comes_to k NextFrame h) (turns_at work h) (ending_of work)) ∷ []
-
-    go : (i : Option LinkInput) (c : Option Running) → AllAtController (by i c)
-    go None c = tt
-    go (Some i) None = tt
-    go (Some i) (Some r) = tt
+near_at h w k = by_option (input_of (link_to w.sites k) NextFrame)
+    (λ q. rw q tt)
+    (λ i q. rw q (by_option w.controller (λ z. rw z tt) (λ r z. rw z tt)))
 
 -- at the end of another link it takes none on this one
 near_none : (h : ℕ) (w : NodeWorld) (k : ℕ) → (h == k) ≡ false → TakeNoFrames (controller_takes h w k)
-near_none h w k other = go (input_of (link_to w.sites k) NextFrame) w.controller
-  where
-    by : Option LinkInput → Option Running → List LinkEvent
-    by None _ = []
-    by (Some i) None = []
-    by (Some i) (Some r) =
-        let work : Work = controller_work w r k NextFrame (steps (AtEnd k i)) in
-        AtController (Step (comes_to k NextFrame h) (turns_at work h) (ending_of work)) ∷ []
-
-    go : (i : Option LinkInput) (c : Option Running) → TakeNoFrames (by i c)
-    go None c = tt
-    go (Some i) None = tt
-    go (Some i) (Some r) = rw other (tt, tt)
+near_none h w k other = by_option (input_of (link_to w.sites k) NextFrame)
+    (λ q. rw q tt)
+    (λ i q. rw q (by_option w.controller (λ z. rw z tt) (λ r z. rw z (rw other (tt, tt)))))
 
 far_at : (s : Site) → AllAtHost (site_takes s)
-far_at s = go (input_of (exchanged s.link) NextFrame) s.node
-  where
-    by : Option LinkInput → Option Running → List LinkEvent
-    by None _ = []
-    by (Some i) None = []
-    by (Some i) (Some r) =
-        let work : Work = host_work s r NextFrame (steps (AtEnd s.host i)) in AtHost (Step NextFrame (turns_at work s.host) (ending_of work)) ∷ []
-
-    go : (i : Option LinkInput) (c : Option Running) → AllAtHost (by i c)
-    go None c = tt
-    go (Some i) None = tt
-    go (Some i) (Some r) = tt
+far_at s = by_option (input_of (exchanged s.link) NextFrame) (λ q. rw q tt) (λ i q. rw q (by_option s.node (λ z. rw z tt) (λ r z. rw z tt)))
 
 pub near_takes : (h k : ℕ) (w : NodeWorld) → AllAtController (link_events_in h w (Takes (end_c k)))
 near_takes h k w = by_option (site_at w.sites h) (λ q. rw q tt) (λ s q. rw q (near_at s.host w k))

@@ -19,7 +19,7 @@ use Rattle.link_laws.specs.entries.Entries.{End as Side, first_lost}
 use Rattle.link_laws.specs.entries.Entries.End.{Controller, Host}
 use Rattle.history.specs.Follows.{first_verdict, taken_of}
 use Rattle.history.specs.Steps.{entries_for}
-use Rattle.node_machine.specs.Parts.{Deed, Running, Work}
+use Rattle.node_machine.specs.Parts.{Deed, Work}
 use Rattle.node_machine.specs.Node.{begins_with, steps}
 use Rattle.node_machine.specs.Node.NodeInput.{AtEnd}
 use Rattle.node_machine.specs.world.World.{Happening, NodeWorld, Site, all_aged, beginning, boots, comes_at, comes_to, controller_does, controller_ticks}
@@ -29,10 +29,11 @@ use Rattle.node_machine.specs.world.World.Happening.{Activates, Arms, Boots, Giv
 use Rattle.node_machine.specs.world.Lines.{Occurrence, frames_at, happenings, refusal_in}
 use Rattle.node_machine.specs.world.NodeHistories.{FollowsNodes, NodeHistory, entries_in, node_entries, occurrences_in}
 use Rattle.node_machine.specs.world.NodeFilters.{tables_in}
-use Rattle.node_machine.proofs.world.Cases.{after_near_tick, boot_found, by_boot, by_coming, by_controller, by_loss, near_tick}
+use Rattle.node_machine.proofs.world.Cases.{boot_found, by_boot, by_coming, by_controller, by_loss, near_tick}
+use Rattle.node_machine.proofs.world.Cases.{by_controller_tick}
 use Rattle.node_laws.specs.kept.Hosts.{AreHosts, IsFew, IsSentByHost}
 use Rattle.node_laws.specs.telling.Telling.{IsOrderly, world_behind}
-use Rattle.node_laws.proofs.Cases.{by_option, by_test}
+use Rattle.node_laws.proofs.Cases.{by_test}
 use Rattle.node_laws.proofs.telling.Events.{comes_goes}
 use Rattle.node_laws.proofs.telling.Frames.{lost_all}
 use Rattle.node_laws.proofs.telling.Lasting.{AllMay, AreCaused, damaged_may, events_of_steps, lines_caused, repeated_may}
@@ -192,20 +193,14 @@ module _ (header : Header) (lines : List Line) (t : NodeHistory) (follows : Foll
             nothing_due hosts past o refl none unread (owed_calm hosts past o still (λ k. refl))
 
   ticks : Due Ticks (world_ticks w).1
-  ticks = by_option w.controller
-      (λ q. subst (λ es. Due Ticks ((all_aged w).1 ++ (es ++ far))) (sym (off_of old q)) (off_due hosts are past w between before clfs q))
-      (λ r q. let v : Work = near_tick old r in
+  ticks =
+      by_controller_tick (λ p. Due Ticks ((all_aged w).1 ++ (p.1 ++ far))) old (λ q. off_due hosts are past w between before clfs q)
+      (λ r q.
+      let v : Work = near_tick old r in
       let frames : List Entry = flat_map (λ (s : Site). frames_noted Controller s.host s.link v) old.sites in
-      subst (λ es. Due Ticks ((all_aged w).1 ++ (es ++ far))) (sym (on_of old r q))
-      (subst (λ es. Due Ticks ((all_aged w).1 ++ es)) (sym (append_assoc v.entries frames far)) (on_due hosts are past w between before clfs r q))) where
+      subst (λ es. Due Ticks ((all_aged w).1 ++ es)) (sym (append_assoc v.entries frames far)) (on_due hosts are past w between before clfs r q)) where
         old : NodeWorld
         old = (all_aged w).0
-
-        off_of : (v : NodeWorld) → v.controller ≡ None → (controller_ticks v).1 ≡ []
-        off_of v q = rw q refl
-
-        on_of : (v : NodeWorld) (r : Running) → v.controller ≡ Some r → (controller_ticks v).1 ≡ (after_near_tick v (near_tick v r)).1
-        on_of v r q = rw q refl
 
         far : List Entry
         far = (hosts_tick (controller_ticks old).0.sites).1

@@ -257,29 +257,26 @@ module _ (hosts : List ℕ) (are : AreHosts hosts) (t : List Entry) (input : Nod
     away h i is None e =
         let none : port_at came.ports k ≡ None = come_none input w k e in
         let no : None ≡ Some q = sym none ∙ found in absurd (cc no)
-    away h i is (Some p) e = by (eqb c.asker h) refl where
-      same : Some q ≡ Some (come_so input p)
-      same = sym found ∙ come_found input w k p e
+    away h i is (Some p) e = by_test (eqb c.asker h)
+        (λ z. let asker : c.asker ≡ k = eqb-true c.asker h z ∙ sym host in
+        let lost : is_over_at came.ports c.asker ≡ true =
+        over_at came.ports c.asker come_different
+        ∙ ap (λ o. option_map_or is_over o false) (ap (port_at came.ports) asker ∙ found) ∙ over in
+        absurd (true≢false (sym lost ∙ goes)))
+        (λ z. z) where
+          same : Some q ≡ Some (come_so input p)
+          same = sym found ∙ come_found input w k p e
 
-      one : q ≡ come_so input p
-      one = same_port q (come_so input p) same
+          one : q ≡ come_so input p
+          one = same_port q (come_so input p) same
 
-      here : eqb p.desk.host h ≡ true
-      here =
-          else_goes h i p (at_port IsFresh w.ports k p b.fresh e)
-          (subst (λ j. is_over (come_so j p) ≡ true) is (subst (λ z. is_over z ≡ true) one over))
+          here : eqb p.desk.host h ≡ true
+          here =
+              else_goes h i p (at_port IsFresh w.ports k p b.fresh e)
+              (subst (λ j. is_over (come_so j p) ≡ true) is (subst (λ z. is_over z ≡ true) one over))
 
-      host : k ≡ h
-      host = sym (at_host w.ports k p e) ∙ eqb-true p.desk.host h here
-
-      by : (d : Bool) → eqb c.asker h ≡ d → eqb c.asker h ≡ false
-      by false z = z
-      by true z =
-          let asker : c.asker ≡ k = eqb-true c.asker h z ∙ sym host in
-          let lost : is_over_at came.ports c.asker ≡ true =
-          over_at came.ports c.asker come_different
-          ∙ ap (λ o. option_map_or is_over o false) (ap (port_at came.ports) asker ∙ found) ∙ over in
-          absurd (true≢false (sym lost ∙ goes))
+          host : k ≡ h
+          host = sym (at_host w.ports k p e) ∙ eqb-true p.desk.host h here
 
     go : (j : NodeInput) → input ≡ j → IsElse j c.asker
     go (AtEnd h i) is = away h i is (port_at w.ports k) refl

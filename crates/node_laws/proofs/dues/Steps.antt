@@ -1,5 +1,5 @@
 -- Before its first turn in a step a controller answers with the identifier that it keeps and with what it owes, and with nothing else.
-use Rattle.std.proofs.Common.{◌≡◌, ℕ, Bool, true, false, cond, List, [], ◌∷◌, ◌++◌, map, sym, refl, ap, ◌∙◌, subst, append_assoc, append-nil}
+use Rattle.std.proofs.Common.{◌≡◌, ℕ, true, false, cond, List, [], ◌∷◌, ◌++◌, map, sym, refl, ap, ◌∙◌, subst, append_assoc, append-nil}
 use Rattle.std.specs.Prelude.{Option, Some}
 use Rattle.std.specs.List.{AllByRecursion}
 use Rattle.std.proofs.lemmas.Bool.{true≢false}
@@ -39,6 +39,7 @@ use Rattle.node_laws.proofs.read_steps.Starting.{IsBegun}
 use Rattle.node_laws.proofs.worlds.Hearing.{AreUnanswered, coming_unanswered}
 use Rattle.node_laws.proofs.worlds.Late.{BeginsBehind}
 use Rattle.node_laws.proofs.worlds.Order.{unanswered_all}
+use Rattle.node_laws.proofs.Cases.{by_test}
 
 -- ## What comes first
 
@@ -93,34 +94,30 @@ record PassNoted (input : NodeInput) (w : Work) : Type 0 where
   power : (comes_to_pass input w).cut ≡ true → more ≡ []
 
 pass_noted : (input : NodeInput) (w : Work) → AreOwn 0 (steps input w).entries → PassNoted input w
-pass_noted input w own = go v.cut refl where
-  v : Work
-  v = comes_to_pass input w
+pass_noted input w own = by_test v.cut
+    (λ q. let is : steps input w ≡ v = steps_are input w ∙ (rw q refl) in
+    record {
+      more = [];
+      entries = ap (λ (u : Work). u.entries) is ∙ sym (append-nil v.entries);
+      trails = tt;
+      power = λ z. refl;
+    })
+    (λ q. let is : steps input w ≡ passes v = steps_are input w ∙ (rw q refl) in
+    let p : ArePassed (ComesTo v) (hosts_of_ends v.ports) v (passes v) = through (ComesTo v) (comes_lasts v) (hosts_of_ends v.ports) v Begins q in
+    let all : (steps input w).entries ≡ v.entries ++ p.more = ap (λ (u : Work). u.entries) is ∙ p.entries in
+    record {
+      more = p.more;
+      entries = all;
+      trails = trails p.more (back_own v.entries p.more (subst (AreOwn 0) all own)) p.begin (λ front back x z. behind x front back (p.each front back x z));
+      power = λ z. absurd (true≢false (sym z ∙ q));
+    }) where
+      v : Work
+      v = comes_to_pass input w
 
-  behind : (x : Entry) (front back : List Entry) → IsTurnSo (ComesTo v) v front x back → BeginsBehind x back
-  behind (entry.Held f need spare) front back a = a.next
-  behind (entry.Turn f pid message) front back a = tt
-  behind _ front back a = tt
-
-  go : (b : Bool) → v.cut ≡ b → PassNoted input w
-  go true q =
-      let is : steps input w ≡ v = steps_are input w ∙ (rw q refl) in
-      record {
-        more = [];
-        entries = ap (λ (u : Work). u.entries) is ∙ sym (append-nil v.entries);
-        trails = tt;
-        power = λ z. refl;
-      }
-  go false q =
-      let is : steps input w ≡ passes v = steps_are input w ∙ (rw q refl) in
-      let p : ArePassed (ComesTo v) (hosts_of_ends v.ports) v (passes v) = through (ComesTo v) (comes_lasts v) (hosts_of_ends v.ports) v Begins q in
-      let all : (steps input w).entries ≡ v.entries ++ p.more = ap (λ (u : Work). u.entries) is ∙ p.entries in
-      record {
-        more = p.more;
-        entries = all;
-        trails = trails p.more (back_own v.entries p.more (subst (AreOwn 0) all own)) p.begin (λ front back x z. behind x front back (p.each front back x z));
-        power = λ z. absurd (true≢false (sym z ∙ q));
-      }
+      behind : (x : Entry) (front back : List Entry) → IsTurnSo (ComesTo v) v front x back → BeginsBehind x back
+      behind (entry.Held f need spare) front back a = a.next
+      behind (entry.Turn f pid message) front back a = tt
+      behind _ front back a = tt
 
 -- ## A step
 

@@ -1,7 +1,7 @@
 -- In a tick of the world the controller answers before its first turn exactly what is due.
 use Rattle.std.proofs.Common.{◌≡◌, ℕ, ◌||◌, Bool, true, false, eqb, List, [], ◌∷◌, ◌++◌, map, sym, refl, ap, ap₂, ◌∙◌, subst, append_assoc}
 use Rattle.std.proofs.Common.{append-nil}
-use Rattle.std.specs.Prelude.{Option, Some, None}
+use Rattle.std.specs.Prelude.{Some, None}
 use Rattle.std.specs.List.{AllByRecursion, flat_map}
 use Rattle.registry.proofs.ValueLemmas.{AllByRecursion-append as all_append}
 use Rattle.trace_model.specs.declared.entry.Entry.{Entry}
@@ -27,7 +27,7 @@ use Rattle.node_laws.specs.kept.Books.{hosts_of_ends}
 use Rattle.node_laws.specs.kept.Hosts.{AreDifferent, AreHosts}
 use Rattle.node_laws.specs.telling.Telling.{HasEnds, IsOrderly, hosts_in}
 use Rattle.node_laws.proofs.All.{all_flat}
-use Rattle.node_laws.proofs.Cases.{by_test}
+use Rattle.node_laws.proofs.Cases.{by_test, by_option}
 use Rattle.node_laws.proofs.telling.Events.{orderly_map}
 use Rattle.node_laws.proofs.telling.Nodes.{Stands, hosts_same, link_is, stands}
 use Rattle.node_laws.proofs.telling.WorldTicks.{near_orderly}
@@ -217,21 +217,18 @@ module _ (hosts : List ℕ) (are : AreHosts hosts) (past : List Occurrence) (w :
       same : q ≡ reset_late (ticked_there w before.orderly t before.notices k site there r runs)
 
     was : (k : ℕ) (q : Port) → port_at (has_come_so TimePasses begun).ports k ≡ Some q → IsTicked k q
-    was k q found = go (port_at begun.ports k) refl where
-      go : (o : Option Port) → port_at begun.ports k ≡ o → IsTicked k q
-      go None e =
-          let none : port_at (has_come_so TimePasses begun).ports k ≡ None = come_none TimePasses begun k e in
-          let no : None ≡ Some q = sym none ∙ found in absurd (cc no)
-      go (Some p) e =
-          let site : HasSite w.sites k = site_for begun.ports w.sites k p hosts_are e in
-          let here : port_at begun.ports k ≡ Some (port_there w before.orderly t before.notices k site.site site.there r runs) =
-          (at w before.orderly t before.notices k site.site site.there r runs).here in
-          record {
-            site = site.site;
-            there = site.there;
-            same = same_port q (come_so TimePasses (port_there w before.orderly t before.notices k site.site site.there r runs))
-                (sym found ∙ come_found TimePasses begun k (port_there w before.orderly t before.notices k site.site site.there r runs) here);
-          }
+    was k q found = by_option (port_at begun.ports k)
+        (λ e. let none : port_at (has_come_so TimePasses begun).ports k ≡ None = come_none TimePasses begun k e in
+        let no : None ≡ Some q = sym none ∙ found in absurd (cc no))
+        (λ p e. let site : HasSite w.sites k = site_for begun.ports w.sites k p hosts_are e in
+        let here : port_at begun.ports k ≡ Some (port_there w before.orderly t before.notices k site.site site.there r runs) =
+        (at w before.orderly t before.notices k site.site site.there r runs).here in
+        record {
+          site = site.site;
+          there = site.there;
+          same = same_port q (come_so TimePasses (port_there w before.orderly t before.notices k site.site site.there r runs))
+              (sym found ∙ come_found TimePasses begun k (port_there w before.orderly t before.notices k site.site site.there r runs) here);
+        })
 
     ends : (k : ℕ) (q : Port) → port_at (has_come_so TimePasses begun).ports k ≡ Some q → ends_at k es ≡ is_over q
     ends k q found =

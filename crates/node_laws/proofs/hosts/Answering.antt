@@ -1,9 +1,9 @@
 -- What a host answers until its next turn, as it is read off what was noted behind its turn.
-use Rattle.std.proofs.Common.{◌≡◌, ◌⊎◌, inl, inr, ℕ, ◌+◌, ◌≤◌, ◌||◌, Bool, true, false, cond, List, [], ◌∷◌, ◌++◌, sym, refl, ap, ap₂, ◌∙◌, subst}
+use Rattle.std.proofs.Common.{◌≡◌, ℕ, ◌+◌, ◌≤◌, ◌||◌, Bool, true, false, cond, List, [], ◌∷◌, ◌++◌, sym, refl, ap, ap₂, ◌∙◌, subst}
 use Rattle.std.proofs.Common.{append_assoc, append-nil, arith}
 use Rattle.std.specs.Prelude.{not, take}
 use Rattle.std.specs.List.{AllByRecursion, filter, list_any, prefix_len}
-use Rattle.std.proofs.lemmas.Bool.{cases_Bool, eq-eqb, true≢false}
+use Rattle.std.proofs.lemmas.Bool.{eq-eqb, true≢false}
 use Rattle.trace_model.specs.declared.entry.Entry.{Entry}
 use Rattle.trace_model.specs.declared.entry.Entry.TheVariants as entry
 use Rattle.hci_tables.specs.declared.command.Command.{Command}
@@ -15,6 +15,7 @@ use Rattle.node_laws.specs.answers.Order.{is_answer_of}
 use Rattle.node_laws.specs.reply_passes.Counts.{commands_noted}
 use Rattle.node_laws.proofs.reply_passes.Growing.{commits-append}
 use Rattle.node_laws.proofs.worlds.Late.{before_first}
+use Rattle.node_laws.proofs.Cases.{by_test}
 
 -- ## Up to a command
 
@@ -79,10 +80,9 @@ module _ (n : ℕ) where
 
   silent_rest : (es : List Entry) → AreUnanswered es → IsSilent es
   silent_rest [] all = (refl, refl)
-  silent_rest (x ∷ es) all = go (cases_Bool (is_turn_of n x)) (silent_rest es all.1) where
-    go : (is_turn_of n x ≡ true) ⊎ (is_turn_of n x ≡ false) → IsSilent es → IsSilent (x ∷ es)
-    go (inl turn) later = stop_until x es turn
-    go (inr none) later = quiet_until x es none all.0.0 all.0.1 later
+  silent_rest (x ∷ es) all = by_test (is_turn_of n x)
+      (λ turn. stop_until x es turn)
+      (λ none. quiet_until x es none all.0.0 all.0.1 (silent_rest es all.1))
 
   -- messages are held until the next turn of the host, or until all is told
   abbrev pub TrailsOff : List Entry → Type 0

@@ -10,7 +10,6 @@ use Rattle.journal_laws.specs.declared.state.State.{State}
 use Rattle.hci_tables.specs.declared.command.Command.{Command}
 use Rattle.hci_tables.specs.declared.command.Command.TheVariants.{Create, Delete, Clear, Set}
 use Rattle.gate_answers.specs.Answers.{body_in}
-use Rattle.gate_answers.specs.declared.response.Response.TheVariants as response
 use Rattle.gate_link.specs.Link.{link_served}
 use Rattle.link_laws.specs.machine.Machine.{Message}
 use Rattle.node_machine.specs.Parts.{Init, Core, Port, Deed}

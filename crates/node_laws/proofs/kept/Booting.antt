@@ -4,7 +4,7 @@ use Rattle.std.proofs.Common.{subst, arith, length-take, eqb}
 use Rattle.std.specs.Prelude.{Option, Some, None, IsSome, is_some}
 use Rattle.std.specs.Option.{option_map_or}
 use Rattle.std.specs.List.{AllByRecursion, fold}
-use Rattle.std.proofs.lemmas.Bool.{cond_both, cases_Bool, eq-eqb, true≢false}
+use Rattle.std.proofs.lemmas.Bool.{cond_both, eq-eqb, true≢false}
 use Rattle.swp_base.specs.InMemory.{Memory}
 use Rattle.trace_model.specs.declared.entry.Entry.{Entry}
 use Rattle.trace_model.specs.declared.entry.Entry.TheVariants as entry
@@ -44,15 +44,15 @@ use Rattle.node_laws.specs.kept.Worlds.{RunsSo, NodeKeeps}
 use Rattle.node_laws.proofs.kept.Planned.{planned_whole, planned_cut}
 use Rattle.node_laws.proofs.kept.Commits.{IsLeftBetween, finds_closed, left_finds, knows_from}
 use Rattle.node_laws.proofs.kept.Books.{book_more, closed_book, finds_all}
+use Rattle.node_laws.proofs.Cases.{by_test}
 
 -- ## The tables of a memory
 
 pub command_read : (o : Option Command) (c : Command) → if_command o ≡ Some c → IsCommand c
 command_read None c e = absurd (cc e)
-command_read (Some d) c e = by_test (cases_Bool (is_command d)) where
-  by_test : (is_command d ≡ true) ⊎ (is_command d ≡ false) → IsCommand c
-  by_test (inl may) = let e2 : Some d ≡ Some c = sym (ap (λ b. cond b (Some d) None) may) ∙ e in let same : d ≡ c = cc in subst IsCommand same may
-  by_test (inr not) = let e2 : None ≡ Some c = sym (ap (λ b. cond b (Some d) None) not) ∙ e in absurd (cc e2)
+command_read (Some d) c e = by_test (is_command d)
+    (λ may. let e2 : Some d ≡ Some c = sym (ap (λ b. cond b (Some d) None) may) ∙ e in let same : d ≡ c = cc in subst IsCommand same may)
+    (λ not. let e2 : None ≡ Some c = sym (ap (λ b. cond b (Some d) None) not) ∙ e in absurd (cc e2))
 
 -- tables as they are kept
 abbrev pub Good : HciTables → Type 0

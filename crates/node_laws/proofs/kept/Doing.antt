@@ -43,6 +43,7 @@ use Rattle.registry.proofs.ValueLemmas.{AllByRecursion-append as all_append}
 use Rattle.node_laws.proofs.kept.Plainly.{hosts_map, waits_map, changed_host, changed_waits, runs_plainly, plainly_then, plainly_turn, plainly_desk}
 use Rattle.node_laws.proofs.kept.Plainly.{plainly_noting}
 use Rattle.node_laws.proofs.kept.Plainly.{plainly_core, plainly_notified, Plainly}
+use Rattle.node_laws.proofs.Cases.{by_test}
 
 pub uncut : (f : Work → Work) (w : Work) → w.cut ≡ false → unless_cut f w ≡ f w
 uncut f w on = rw on refl
@@ -170,12 +171,9 @@ module _ (n : ℕ) (hosts : List ℕ) (old : Memory) (before : List Entry) where
 
     pub commit_cases : ((commit c w ≡ keeps c writes begun) × StillRuns n hosts old before (keeps c writes begun)) ⊎
         ((commit c w ≡ loses_power writes begun) × HasLostPower n old before (loses_power writes begun))
-    commit_cases = by_plan (cases_Bool (fails_within (length writes) w.plan)) where
-      by_plan : (fails_within (length writes) w.plan ≡ true) ⊎ (fails_within (length writes) w.plan ≡ false)
-          → ((commit c w ≡ keeps c writes begun) × StillRuns n hosts old before (keeps c writes begun)) ⊎
-          ((commit c w ≡ loses_power writes begun) × HasLostPower n old before (loses_power writes begun))
-      by_plan (inl fails) = inr (rw fails refl, lost_then fails)
-      by_plan (inr none) = inl (rw none refl, runs_then none)
+    commit_cases = by_test (fails_within (length writes) w.plan)
+        (λ fails. inr (rw fails refl, lost_then fails))
+        (λ none. inl (rw none refl, runs_then none))
 
   -- an answer that counts
   ok_fine : (w : Work) → StillRuns n hosts old before w → StillRuns n hosts old before (noting (entry.AnyOk w.core.node (count_of w.core.journal) ∷ []) w)

@@ -236,46 +236,40 @@ module _ (hosts : List ℕ) (are : AreHosts hosts) where
   -- ## Losses
 
   pub lost_goes : (t : List Entry) (w : NodeWorld) (e : End) (why : Loss) → AllKeep hosts t w → GoesBy t (frame_lost w e why)
-  lost_goes t w e why all = by_side (cases_Bool e.at_host) where
-    change : (f : Site → Site) → ((s : Site) → (f s).host ≡ s.host) → (b : Bool) (s : Site) → (changed_if b f s).host ≡ s.host
-    change f same true s = same s
-    change f same false s = refl
+  lost_goes t w e why all = by_test e.at_host
+      (λ side. let l = link_to w.sites e.link in
+      subst (GoesBy t) (sym (lost_far w e why side)) (plain_goes t w (record w { sites = with_site e.link far w.sites }) (entries_for e.link
+      (first_lost Host why l.to_host)) (λ s. changed_if (eqb s.host e.link) far s) all
+      (plain_entries e.link (first_lost Host why l.to_host)) refl all.controller (λ s. change far (λ x. refl) (eqb s.host e.link) s)
+      (λ s k. stays far (λ x y. keeps_counting x.host (x.host ∷ []) t x.memory why e.link x.node y) (eqb s.host e.link) s k)))
+      (λ side. let l = link_to w.sites e.link in
+      subst (GoesBy t) (sym (lost_near w e why side)) (plain_goes t w
+      (record w { controller = counts why e.link w.controller; sites = with_site e.link near w.sites })
+      (entries_for e.link (first_lost Controller why l.to_controller)) (λ s. changed_if (eqb s.host e.link) near s) all
+      (plain_entries e.link (first_lost Controller why l.to_controller)) refl (keeps_counting 0 hosts t w.memory why e.link w.controller all.controller)
+      (λ s. change near (λ x. refl) (eqb s.host e.link) s) (λ s k. stays near (λ x y. y) (eqb s.host e.link) s k))) where
+        change : (f : Site → Site) → ((s : Site) → (f s).host ≡ s.host) → (b : Bool) (s : Site) → (changed_if b f s).host ≡ s.host
+        change f same true s = same s
+        change f same false s = refl
 
-    stays : (f : Site → Site) → ((s : Site) → SiteKeeps t s → SiteKeeps t (f s)) → (b : Bool) (s : Site) → SiteKeeps t s → SiteKeeps t (changed_if b f s)
-    stays f keeps true s k = keeps s k
-    stays f keeps false s k = k
+        stays : (f : Site → Site) → ((s : Site) → SiteKeeps t s → SiteKeeps t (f s)) → (b : Bool) (s : Site) → SiteKeeps t s → SiteKeeps t (changed_if b f s)
+        stays f keeps true s k = keeps s k
+        stays f keeps false s k = k
 
-    near : Site → Site
-    near = near_lost e why
+        near : Site → Site
+        near = near_lost e why
 
-    far : Site → Site
-    far = far_lost e why
-
-    by_side : (e.at_host ≡ true) ⊎ (e.at_host ≡ false) → GoesBy t (frame_lost w e why)
-    by_side (inl side) =
-        let l = link_to w.sites e.link in
-        subst (GoesBy t) (sym (lost_far w e why side)) (plain_goes t w (record w { sites = with_site e.link far w.sites }) (entries_for e.link
-        (first_lost Host why l.to_host)) (λ s. changed_if (eqb s.host e.link) far s) all
-        (plain_entries e.link (first_lost Host why l.to_host)) refl all.controller (λ s. change far (λ x. refl) (eqb s.host e.link) s)
-        (λ s k. stays far (λ x y. keeps_counting x.host (x.host ∷ []) t x.memory why e.link x.node y) (eqb s.host e.link) s k))
-    by_side (inr side) =
-        let l = link_to w.sites e.link in
-        subst (GoesBy t) (sym (lost_near w e why side)) (plain_goes t w
-        (record w { controller = counts why e.link w.controller; sites = with_site e.link near w.sites })
-        (entries_for e.link (first_lost Controller why l.to_controller)) (λ s. changed_if (eqb s.host e.link) near s) all
-        (plain_entries e.link (first_lost Controller why l.to_controller)) refl (keeps_counting 0 hosts t w.memory why e.link w.controller all.controller)
-        (λ s. change near (λ x. refl) (eqb s.host e.link) s) (λ s k. stays near (λ x y. y) (eqb s.host e.link) s k))
+        far : Site → Site
+        far = far_lost e why
 
   -- ## Power
 
   -- no host has this number
   none_found : (sites : List Site) (n : ℕ) → site_at sites n ≡ None → AllByRecursion (λ k. eqb k n ≡ false) (hosts_in sites)
   none_found [] n e = tt
-  none_found (s ∷ sites) n e = by_host (cases_Bool (eqb s.host n)) (none_found sites n) where
-    by_host : (eqb s.host n ≡ true) ⊎ (eqb s.host n ≡ false) → (site_at sites n ≡ None → AllByRecursion (λ k. eqb k n ≡ false) (hosts_in sites))
-        → AllByRecursion (λ k. eqb k n ≡ false) (hosts_in (s ∷ sites))
-    by_host (inl is) later = let found_it : Some s ≡ None = sym (ap (λ b. cond b (Some s) (site_at sites n)) is) ∙ e in absurd (cc found_it)
-    by_host (inr off) later = (off, later (sym (ap (λ b. cond b (Some s) (site_at sites n)) off) ∙ e))
+  none_found (s ∷ sites) n e = by_test (eqb s.host n)
+      (λ is. let found_it : Some s ≡ None = sym (ap (λ b. cond b (Some s) (site_at sites n)) is) ∙ e in absurd (cc found_it))
+      (λ off. (off, (none_found sites n) (sym (ap (λ b. cond b (Some s) (site_at sites n)) off) ∙ e)))
 
   -- the power of a node that runs is cut
   near_cut : (t : List Entry) (w : NodeWorld) (r : Running) → AllKeep hosts t w → w.controller ≡ Some r → Goes hosts are t (controller_cut w) (entry.Cut 0 ∷ [])
@@ -295,14 +289,10 @@ module _ (hosts : List ℕ) (are : AreHosts hosts) where
   -- a node is the controller, a host, or neither
   by_node : (w : NodeWorld) (n : ℕ) (P : Type 0) → (n ≡ 0 → P) → ((x : Site) → (eqb n 0 ≡ false) → site_at w.sites n ≡ Some x → P) → ((eqb n 0 ≡ false)
       → site_at w.sites n ≡ None → P) → P
-  by_node w n P near far none = by_number (cases_Bool (eqb n 0)) where
+  by_node w n P near far none = by_test (eqb n 0) (λ is. near (eqb-true n 0 is)) (λ off. by_site off (site_at w.sites n) refl) where
     by_site : (eqb n 0 ≡ false) → (o : Option Site) → site_at w.sites n ≡ o → P
     by_site off None e = none off e
     by_site off (Some x) e = far x off e
-
-    by_number : (eqb n 0 ≡ true) ⊎ (eqb n 0 ≡ false) → P
-    by_number (inl is) = near (eqb-true n 0 is)
-    by_number (inr off) = by_site off (site_at w.sites n) refl
 
   pub cut_goes : (t : List Entry) (w : NodeWorld) (n : ℕ) (r : Running) → AllKeep hosts t w → node_at w n ≡ Some r
       → GoesBy t (loses_power_at n w, entry.Cut n ∷ [])
@@ -361,23 +351,18 @@ module _ (hosts : List ℕ) (are : AreHosts hosts) where
 
   module _ (t : List Entry) (w : NodeWorld) (all : AllKeep hosts t w) where
     near_boots : length (commands_in t 0) ≤ 2 ^ 32 - 1 → GoesBy t (boots w 0)
-    near_boots few = by_plan (cases_Bool (fails_within (length (boot_writes w.memory.content)) w.memory.plan)) where
-      k : ℕ
-      k = count_of (found 0 (hosts_in w.sites) w.memory.content).core.journal
-
-      by_plan : (fails_within (length (boot_writes w.memory.content)) w.memory.plan ≡ true) ⊎ (fails_within (length
-          (boot_writes w.memory.content)) w.memory.plan ≡ false) → GoesBy t (boots w 0)
-      by_plan (inl fails) =
-          rw fails (controller_goes hosts are t w (entry.Cut 0 ∷ []) (after_planned (boot_writes w.memory.content) w.memory) None (λ
-          (s : Site). record s { link = happens s.link cut_here }) all
-          (boot_lost 0 hosts t w.memory all.controller.would fails) (tt, tt) (refl, tt) (λ s. refl) (λ s x. x))
-      by_plan (inr none) =
-          rw none (near_goes t w (entry.Booted 0 k ∷ []) (after_planned (boot_writes w.memory.content) w.memory) (Some (found 0
-          (hosts_in w.sites) w.memory.content)) all
-          (subst (λ l. NodeKeeps 0 hosts (t ++ entry.Booted 0 k ∷ []) (after_planned (boot_writes w.memory.content) w.memory) (Some
-          (found 0 l w.memory.content))) (sym all.hosts_are)
-          (boot_runs 0 hosts t w.memory all.controller.would few none))
-          (boot_told 0 hosts t w.memory all.controller.would few, tt) (refl, tt))
+    near_boots few = by_test (fails_within (length (boot_writes w.memory.content)) w.memory.plan)
+        (λ fails. rw fails (controller_goes hosts are t w (entry.Cut 0 ∷ []) (after_planned (boot_writes w.memory.content) w.memory) None (λ
+        (s : Site). record s { link = happens s.link cut_here }) all
+        (boot_lost 0 hosts t w.memory all.controller.would fails) (tt, tt) (refl, tt) (λ s. refl) (λ s x. x)))
+        (λ none. rw none (near_goes t w (entry.Booted 0 k ∷ []) (after_planned (boot_writes w.memory.content) w.memory) (Some (found 0
+        (hosts_in w.sites) w.memory.content)) all
+        (subst (λ l. NodeKeeps 0 hosts (t ++ entry.Booted 0 k ∷ []) (after_planned (boot_writes w.memory.content) w.memory) (Some
+        (found 0 l w.memory.content))) (sym all.hosts_are)
+        (boot_runs 0 hosts t w.memory all.controller.would few none))
+        (boot_told 0 hosts t w.memory all.controller.would few, tt) (refl, tt))) where
+          k : ℕ
+          k = count_of (found 0 (hosts_in w.sites) w.memory.content).core.journal
 
     module _ (n : ℕ) (x : Site) (off : eqb n 0 ≡ false) (here : site_at w.sites n ≡ Some x) where
       abbrev after_it : Memory
@@ -416,31 +401,26 @@ module _ (hosts : List ℕ) (are : AreHosts hosts) where
           }) n off found_it)
 
       far_boots : length (commands_in t n) ≤ 2 ^ 32 - 1 → GoesBy t (boots w n)
-      far_boots few = by_plan (cases_Bool (fails_within (length (boot_writes x.memory.content)) x.memory.plan)) where
-        known : SiteKeeps t x × IsHost x.host × (x.host ≡ n)
-        known = site_found (SiteKeeps t) IsHost w.sites n x all.sites (subst (AllByRecursion IsHost) (sym all.hosts_are) are.all) here
+      far_boots few = by_test (fails_within (length (boot_writes x.memory.content)) x.memory.plan)
+          (λ fails. subst (GoesBy t) (sym (far_lost_is fails))
+          (subst (λ l. Goes hosts are t (record w { sites = l }) (entry.Cut n ∷ [])) (sym (with_site_twice n (λ
+          (s : Site). record s { memory = after_it }) host_cut (λ s. refl) w.sites))
+          (host_goes hosts are t w (entry.Cut n ∷ []) n x (λ (s : Site). host_cut (record s { memory = after_it })) all here
+          (subst (λ k. NodeKeeps k (k ∷ []) (t ++ entry.Cut n ∷ []) after_it None) (sym known.2) (boot_lost n (n ∷ []) t x.memory keeps.would fails))
+          (tt, tt) (refl, tt) (λ s. refl))))
+          (λ none. subst (GoesBy t) (sym (far_runs_is none))
+          (subst (λ l. Goes hosts are t (record w { sites = l }) (entry.Booted n (count_of found_it.core.journal) ∷ []))
+          (sym (with_site_twice n (λ (s : Site). record s { memory = after_it }) (λ (s : Site). record s { node = Some found_it }) (λ s. refl) w.sites))
+          (host_goes hosts are t w (entry.Booted n (count_of found_it.core.journal) ∷ []) n x (λ
+          (s : Site). record s { memory = after_it; node = Some found_it }) all here
+          (subst (λ k. NodeKeeps k (k ∷ []) (t ++ entry.Booted n (count_of found_it.core.journal) ∷ []) after_it (Some found_it)) (sym known.2)
+          (boot_runs n (n ∷ []) t x.memory keeps.would few none))
+          (boot_told n (n ∷ []) t x.memory keeps.would few, tt) (refl, tt) (λ s. refl)))) where
+            known : SiteKeeps t x × IsHost x.host × (x.host ≡ n)
+            known = site_found (SiteKeeps t) IsHost w.sites n x all.sites (subst (AllByRecursion IsHost) (sym all.hosts_are) are.all) here
 
-        keeps : NodeKeeps n (n ∷ []) t x.memory x.node
-        keeps = subst (λ k. NodeKeeps k (k ∷ []) t x.memory x.node) known.2 known.0
-
-        by_plan : (fails_within (length (boot_writes x.memory.content)) x.memory.plan ≡ true) ⊎ (fails_within (length
-            (boot_writes x.memory.content)) x.memory.plan ≡ false) → GoesBy t (boots w n)
-        by_plan (inl fails) =
-            subst (GoesBy t) (sym (far_lost_is fails))
-            (subst (λ l. Goes hosts are t (record w { sites = l }) (entry.Cut n ∷ [])) (sym (with_site_twice n (λ
-            (s : Site). record s { memory = after_it }) host_cut (λ s. refl) w.sites))
-            (host_goes hosts are t w (entry.Cut n ∷ []) n x (λ (s : Site). host_cut (record s { memory = after_it })) all here
-            (subst (λ k. NodeKeeps k (k ∷ []) (t ++ entry.Cut n ∷ []) after_it None) (sym known.2) (boot_lost n (n ∷ []) t x.memory keeps.would fails))
-            (tt, tt) (refl, tt) (λ s. refl)))
-        by_plan (inr none) =
-            subst (GoesBy t) (sym (far_runs_is none))
-            (subst (λ l. Goes hosts are t (record w { sites = l }) (entry.Booted n (count_of found_it.core.journal) ∷ []))
-            (sym (with_site_twice n (λ (s : Site). record s { memory = after_it }) (λ (s : Site). record s { node = Some found_it }) (λ s. refl) w.sites))
-            (host_goes hosts are t w (entry.Booted n (count_of found_it.core.journal) ∷ []) n x (λ
-            (s : Site). record s { memory = after_it; node = Some found_it }) all here
-            (subst (λ k. NodeKeeps k (k ∷ []) (t ++ entry.Booted n (count_of found_it.core.journal) ∷ []) after_it (Some found_it)) (sym known.2)
-            (boot_runs n (n ∷ []) t x.memory keeps.would few none))
-            (boot_told n (n ∷ []) t x.memory keeps.would few, tt) (refl, tt) (λ s. refl)))
+            keeps : NodeKeeps n (n ∷ []) t x.memory x.node
+            keeps = subst (λ k. NodeKeeps k (k ∷ []) t x.memory x.node) known.2 known.0
 
     no_boots : (n : ℕ) → eqb n 0 ≡ false → site_at w.sites n ≡ None → GoesBy t (boots w n)
     no_boots n off here = subst (GoesBy t) (sym boots_is) (record { keep = keep; told = (inl (ap (λ (b : Book). length b.commands) (sym blank)), tt) }) where

@@ -3,7 +3,7 @@ use Rattle.std.proofs.Common.{◌≡◌, ◌⊎◌, ℕ, ◌+◌, ◌≤◌, zer
 use Rattle.std.proofs.Common.{add-one, eqb-true, sym, refl, ap, ◌∙◌, inl, inr}
 use Rattle.std.specs.Prelude.{Option, Some, None, is_some}
 use Rattle.std.specs.Option.{option_map_or}
-use Rattle.std.proofs.lemmas.Bool.{cond_both, cases_Bool, and_parts, and_from, le-leb, lt-ltb}
+use Rattle.std.proofs.lemmas.Bool.{cond_both, and_parts, and_from, le-leb, lt-ltb}
 use Rattle.trace_model.specs.declared.entry.Entry.TheVariants.{InitSame}
 use Rattle.journal_laws.specs.declared.state.State.{State}
 use Rattle.sorted_rows.proofs.RowLemmas.{row_of-within}
@@ -26,6 +26,7 @@ use Rattle.node_laws.specs.kept.Deeds.{MayBeDone}
 use Rattle.node_machine.specs.Orders.{IsOnOrder}
 use Rattle.node_machine.proofs.Walks.{ordered_holds, learns_holds, learned_holds, host_holds}
 use Rattle.node_laws.proofs.kept.Replies.{commit_may, link_may}
+use Rattle.node_laws.proofs.Cases.{by_test}
 
 -- a pipe that a message names is closed
 named_closed : (body : List ℕ) (row : PipeRow) → pipe_named_in body ≡ Some row → row.opened ≡ false
@@ -111,21 +112,17 @@ answered_may : (core : Core) (code : ℕ) (value order : List ℕ) (o : Option I
 answered_may core code value order None on =
     behind_one core (cond (eqb code 0) (learned (own_view core) order value) []) [] None None
     (cond_both (eqb code 0) (learned (own_view core) order value) [] (OneOrNone core) (λ _. learned_one core order value) (λ _. inl refl)) tt tt
-answered_may core code value order (Some i) on = by_code (cases_Bool (eqb code 0)) where
-  by_next : (next : Option (List ℕ)) → slice_get (orders_of i) (i.answered + 1) ≡ next
-      → MayBeDone (Some core.journal) None (Some i) (learned (own_view core) order value ++ init_agreed (own_view core) i value)
-  by_next (Some next) is =
-      behind_one core (learned (own_view core) order value) (init_agreed (own_view core) i value) None (Some i) (learned_one core order value)
-      (agreed_on core i None value next is) (agreed_on core i (Some core.journal) value next is)
-  by_next None is =
-      subst (λ l. MayBeDone (Some core.journal) None (Some i) (l ++ init_agreed (own_view core) i value)) (sym (last_learned core i order value on is))
-      (agreed_last core i value is)
-
-  by_code : (eqb code 0 ≡ true) ⊎ (eqb code 0 ≡ false)
-      → MayBeDone (Some core.journal) None (Some i)
-      (cond (eqb code 0) (learned (own_view core) order value) [] ++ init_deeds (own_view core) code value (Some i))
-  by_code (inl e) = rw e (by_next (slice_get (orders_of i) (i.answered + 1)) refl)
-  by_code (inr e) = rw e (tt, tt)
+answered_may core code value order (Some i) on = by_test (eqb code 0)
+    (λ e. rw e (by_next (slice_get (orders_of i) (i.answered + 1)) refl))
+    (λ e. rw e (tt, tt)) where
+      by_next : (next : Option (List ℕ)) → slice_get (orders_of i) (i.answered + 1) ≡ next
+          → MayBeDone (Some core.journal) None (Some i) (learned (own_view core) order value ++ init_agreed (own_view core) i value)
+      by_next (Some next) is =
+          behind_one core (learned (own_view core) order value) (init_agreed (own_view core) i value) None (Some i) (learned_one core order value)
+          (agreed_on core i None value next is) (agreed_on core i (Some core.journal) value next is)
+      by_next None is =
+          subst (λ l. MayBeDone (Some core.journal) None (Some i) (l ++ init_agreed (own_view core) i value)) (sym (last_learned core i order value on is))
+          (agreed_last core i value is)
 
 module _ (core : Core) (on : IsOnOrder core.command core.init) (sorted : AreTables core.tables) (most : core.node ≤ 7) where
   abbrev Fine : List Deed → Type 0

@@ -1,10 +1,10 @@
 -- Commands are kept over power cuts.
-use Rattle.std.proofs.Common.{◌≡◌, ◌⊎◌, inl, inr, ℕ, suc, ◌+◌, ◌-◌, ◌^◌, ◌≤◌, min, true, false, cond, eqb, List, [], ◌∷◌, ◌++◌, length, map, sym, refl, ap, ◌∙◌}
+use Rattle.std.proofs.Common.{◌≡◌, inl, inr, ℕ, suc, ◌+◌, ◌-◌, ◌^◌, ◌≤◌, min, cond, eqb, List, [], ◌∷◌, ◌++◌, length, map, sym, refl, ap, ◌∙◌}
 use Rattle.std.proofs.Common.{subst, arith, append_assoc, append-nil, length-append, length-take}
 use Rattle.std.specs.Prelude.{None, replicate}
 use Rattle.std.specs.List.{AllByRecursion, flat_map, fold}
 use Rattle.std.proofs.lemmas.Grind.{flat_map-append}
-use Rattle.std.proofs.lemmas.Bool.{cases_Bool, eqb-true, eq-eqb}
+use Rattle.std.proofs.lemmas.Bool.{eqb-true, eq-eqb}
 use Rattle.trace_model.specs.declared.entry.Entry.{Entry}
 use Rattle.trace_model.specs.declared.entry.Entry.TheVariants as entry
 use Rattle.trace_model.specs.declared.line.Header.{Header}
@@ -28,6 +28,7 @@ use Rattle.node_laws.specs.kept.Worlds.{NodeKeeps, SiteKeeps, AllKeep}
 use Rattle.node_machine.specs.world.NodeHistories.{world_after}
 use Rattle.node_laws.proofs.kept.Books.{book_more, last_more}
 use Rattle.node_laws.proofs.kept.Lines.{TellsRight, TellRight, Schedule, schedule_goes, entries_of}
+use Rattle.node_laws.proofs.Cases.{by_test}
 
 -- ## The beginning
 
@@ -107,28 +108,22 @@ found_least j n t (inr less) = omega (arith, less.0)
 
 safe_one : (k n : ℕ) (t : List Entry) (e : Entry) → AreSafe k (book_in t n) (last_in t n) → IsTold t e
     → AreSafe k (book_after n (book_in t n) e) (last_after n (last_in t n) e)
-safe_one k n t (entry.Command m c) safe told = by_node (cases_Bool (eqb m n)) where
-  by_node : (eqb m n ≡ true) ⊎ (eqb m n ≡ false) → AreSafe k (book_after n (book_in t n) (entry.Command m c)) (last_after n (last_in t n) (entry.Command m c))
-  by_node (inl is) =
-      let longer = length-append (commands_in t n) (c ∷ []) in
-      rw is (record { all = omega (arith, longer, safe.all); more = λ o. omega (arith, longer, safe.all) })
-  by_node (inr other) = rw other safe
-safe_one k n t (entry.AnyOk m j) safe told = by_node (cases_Bool (eqb m n)) where
-  by_node : (eqb m n ≡ true) ⊎ (eqb m n ≡ false) → AreSafe k (book_after n (book_in t n) (entry.AnyOk m j)) (last_after n (last_in t n) (entry.AnyOk m j))
-  by_node (inl is) = rw is (record { all = safe.all; more = λ o. absurd o })
-  by_node (inr other) = rw other safe
-safe_one k n t (entry.Booted m j) safe told = by_node (cases_Bool (eqb m n)) where
-  by_node : (eqb m n ≡ true) ⊎ (eqb m n ≡ false) → AreSafe k (book_after n (book_in t n) (entry.Booted m j)) (last_after n (last_in t n) (entry.Booted m j))
-  by_node (inl is) =
-      let here : FindsCommands t n j = subst (λ x. FindsCommands t x j) (eqb-true m n is) told in
-      let most = found_most k j n t safe here in
-      let least = found_least j n t here in
-      rw is (record { all = omega (arith, length-take j (commands_in t n), most, least); more = λ o. absurd o })
-  by_node (inr other) = rw other safe
-safe_one k n t (entry.Cut m) safe told = by_node (cases_Bool (eqb m n)) where
-  by_node : (eqb m n ≡ true) ⊎ (eqb m n ≡ false) → AreSafe k (book_after n (book_in t n) (entry.Cut m)) (last_after n (last_in t n) (entry.Cut m))
-  by_node (inl is) = rw is (record { all = safe.all; more = λ o. safe.more (opened_cut (last_in t n) o) })
-  by_node (inr other) = rw other safe
+safe_one k n t (entry.Command m c) safe told = by_test (eqb m n)
+    (λ is. let longer = length-append (commands_in t n) (c ∷ []) in
+    rw is (record { all = omega (arith, longer, safe.all); more = λ o. omega (arith, longer, safe.all) }))
+    (λ other. rw other safe)
+safe_one k n t (entry.AnyOk m j) safe told = by_test (eqb m n)
+    (λ is. rw is (record { all = safe.all; more = λ o. absurd o }))
+    (λ other. rw other safe)
+safe_one k n t (entry.Booted m j) safe told = by_test (eqb m n)
+    (λ is. let here : FindsCommands t n j = subst (λ x. FindsCommands t x j) (eqb-true m n is) told in
+    let most = found_most k j n t safe here in
+    let least = found_least j n t here in
+    rw is (record { all = omega (arith, length-take j (commands_in t n), most, least); more = λ o. absurd o }))
+    (λ other. rw other safe)
+safe_one k n t (entry.Cut m) safe told = by_test (eqb m n)
+    (λ is. rw is (record { all = safe.all; more = λ o. safe.more (opened_cut (last_in t n) o) }))
+    (λ other. rw other safe)
 safe_one k n t _ safe told = safe
 
 safe_then : (k n : ℕ) (t : List Entry) (e : Entry) → AreSafe k (book_in t n) (last_in t n) → IsTold t e

@@ -24,13 +24,13 @@ use Rattle.node_machine.specs.world.World.{NodeWorld, Site, Happening, node_at, 
 use Rattle.node_machine.specs.world.World.Happening.{Boots, IsCut, Gives, Inits, Takes, Loses, Ticks, Resets, Activates, Arms}
 use Rattle.node_machine.specs.world.Lines.{first_cause, if_off, machine_in, frames_at, has_order, if_waiting, if_not_sent, refusal_in, happens_by, happenings}
 use Rattle.node_machine.specs.world.Lines.{Occurrence, can_happen, all_happen, LineOutcome, tables_told, goes_on, line_step}
-use Rattle.node_machine.specs.world.Lines.LineOutcome.{WasRefused, ToldTables}
+use Rattle.node_machine.specs.world.Lines.LineOutcome.{ToldTables}
 use Rattle.node_machine.specs.world.NodeHistories.{LineStep, steps_from, occurrences_of, entries_in}
 use Rattle.node_machine.specs.world.NodeFilters.{commands_in, tables_in}
 use Rattle.node_laws.specs.kept.Hosts.{AreHosts, IsFew, IsSentByHost}
 use Rattle.node_laws.specs.kept.Worlds.{IfRuns, SiteKeeps, AllKeep, MayHappen}
 use Rattle.node_machine.specs.world.NodeHistories.{world_after}
-use Rattle.node_laws.proofs.Cases.{by_option}
+use Rattle.node_laws.proofs.Cases.{by_option, by_test}
 use Rattle.node_laws.proofs.kept.Sites.{site_found}
 use Rattle.node_laws.proofs.kept.Worlds.{Goes, goes_not, goes_then}
 use Rattle.node_laws.proofs.kept.Events.{GoesBy, comes_goes, activates_goes, gives_goes, inits_goes, lost_goes, cut_goes, arms_goes, boots_goes}
@@ -122,9 +122,6 @@ module _ (hosts : List ℕ) (are : AreHosts hosts) where
     on_is : can_happen w c ≡ true → all_happen w (c ∷ causes) ≡ (later.0, record { cause = c; entries = next.1 } ∷ later.1)
     on_is e = rw e refl
 
-    off_is : can_happen w c ≡ false → all_happen w (c ∷ causes) ≡ (w, [])
-    off_is e = rw e refl
-
     Fine : NodeWorld × List Occurrence → Type 0
     Fine p = Goes hosts are t p.0 (entries_in p.1)
 
@@ -134,10 +131,9 @@ module _ (hosts : List ℕ) (are : AreHosts hosts) where
     by_can rest (inl e) =
         let all_few : IsFew (t ++ (next.1 ++ entries_in later.1)) = subst (λ (p : NodeWorld × List Occurrence). IsFew (t ++ entries_in p.1)) (on_is e) few in
         let first = world_goes t w c all may.0 (λ n. all_few t (next.1 ++ entries_in later.1) n refl) in
-        subst Fine (sym (on_is e))
-        (goes_then hosts are t later.0 next.1 (entries_in later.1) first.told
+        rw e (goes_then hosts are t later.0 next.1 (entries_in later.1) first.told
         (rest (t ++ next.1) next.0 first.keep may.1 (subst IsFew (sym (append_assoc t next.1 (entries_in later.1))) all_few)))
-    by_can rest (inr e) = subst Fine (sym (off_is e)) (goes_not hosts are t w all)
+    by_can rest (inr e) = rw e (goes_not hosts are t w all)
 
   -- ## Lines
 
@@ -195,18 +191,14 @@ module _ (hosts : List ℕ) (are : AreHosts hosts) where
   on_goes t w (line.Arm n nth fill) all may few = happen_goes (happenings w (line.Arm n nth fill)) t w all may few
   on_goes t w (line.Init e identity pipes) all may few = happen_goes (happenings w (line.Init e identity pipes)) t w all may few
 
-  refused_is : (w : NodeWorld) (l : Line) (cause : NoCause) → refusal_in w l ≡ Some cause → line_step w l ≡ (w, WasRefused cause)
-  refused_is w l cause e = rw e refl
-
   goes_is : (w : NodeWorld) (l : Line) → refusal_in w l ≡ None → line_step w l ≡ goes_on w l
   goes_is w l e = rw e refl
 
   line_goes : (t : List Entry) (w : NodeWorld) (l : Line) → AllKeep hosts t w → IsSentByHost l
       → IsFew (t ++ entries_in (occurrences_of (line_step w l).1)) → LineFine t (line_step w l)
   line_goes t w l all side few = by_option (refusal_in w l)
-      (λ e. subst (LineFine t) (sym (goes_is w l e))
-      (on_goes t w l all (line_may w l side e) (subst (λ (p : NodeWorld × LineOutcome). IsFew (t ++ entries_in (occurrences_of p.1))) (goes_is w l e) few)))
-      (λ cause e. subst (LineFine t) (sym (refused_is w l cause e)) (goes_not hosts are t w all))
+      (λ e. rw e (on_goes t w l all (line_may w l side e) (subst (λ (p : NodeWorld × LineOutcome). IsFew (t ++ entries_in (occurrences_of p.1))) (goes_is w l e) few)))
+      (λ cause e. rw e (goes_not hosts are t w all))
 
   -- ## Tables that are told
 
@@ -215,21 +207,18 @@ module _ (hosts : List ℕ) (are : AreHosts hosts) where
   TellsRight t _ = Unit {0}
 
   node_tables : (t : List Entry) (w : NodeWorld) (n : ℕ) (r : Running) → AllKeep hosts t w → node_at w n ≡ Some r → r.core.tables ≡ tables_in t n
-  node_tables t w n r all is = by_number (cases_Bool (eqb n 0)) where
-    by_site : eqb n 0 ≡ false → (o : Option Site) → site_at w.sites n ≡ o → r.core.tables ≡ tables_in t n
-    by_site off None here = let gone : None ≡ Some r = rw here at (rw off at is) in absurd (cc gone)
-    by_site off (Some x) here =
-        let running : x.node ≡ Some r = rw here at (rw off at is) in
-        let k = known t w n x all here in
-        let runs : IfRuns x.host (x.host ∷ []) x.memory.content t (Some r) = subst (IfRuns x.host (x.host ∷ []) x.memory.content t) running k.0.runs in
-        runs.tables_are ∙ ap (tables_in t) k.2
-
-    by_number : (eqb n 0 ≡ true) ⊎ (eqb n 0 ≡ false) → r.core.tables ≡ tables_in t n
-    by_number (inl zero_is) =
-        let running : w.controller ≡ Some r = rw zero_is at is in
-        let runs : IfRuns 0 hosts w.memory.content t (Some r) = subst (IfRuns 0 hosts w.memory.content t) running all.controller.runs in
-        runs.tables_are ∙ ap (tables_in t) (sym (eqb-true n 0 zero_is))
-    by_number (inr off) = by_site off (site_at w.sites n) refl
+  node_tables t w n r all is = by_test (eqb n 0)
+      (λ zero_is. let running : w.controller ≡ Some r = rw zero_is at is in
+      let runs : IfRuns 0 hosts w.memory.content t (Some r) = subst (IfRuns 0 hosts w.memory.content t) running all.controller.runs in
+      runs.tables_are ∙ ap (tables_in t) (sym (eqb-true n 0 zero_is)))
+      (λ off. by_site off (site_at w.sites n) refl) where
+        by_site : eqb n 0 ≡ false → (o : Option Site) → site_at w.sites n ≡ o → r.core.tables ≡ tables_in t n
+        by_site off None here = let gone : None ≡ Some r = rw here at (rw off at is) in absurd (cc gone)
+        by_site off (Some x) here =
+            let running : x.node ≡ Some r = rw here at (rw off at is) in
+            let k = known t w n x all here in
+            let runs : IfRuns x.host (x.host ∷ []) x.memory.content t (Some r) = subst (IfRuns x.host (x.host ∷ []) x.memory.content t) running k.0.runs in
+            runs.tables_are ∙ ap (tables_in t) k.2
 
   told_right : (t : List Entry) (w : NodeWorld) (n : ℕ) → AllKeep hosts t w → (o : Option Running) → node_at w n ≡ o → TellsRight t (tables_told n o)
   told_right t w n all None e = tt
@@ -241,8 +230,8 @@ module _ (hosts : List ℕ) (are : AreHosts hosts) where
 
   line_right : (t : List Entry) (w : NodeWorld) (l : Line) → AllKeep hosts t w → TellsRight t (line_step w l).1
   line_right t w l all = by_option (refusal_in w l)
-      (λ e. subst (λ (p : NodeWorld × LineOutcome). TellsRight t p.1) (sym (goes_is w l e)) (on_right t w l all))
-      (λ cause e. subst (λ (p : NodeWorld × LineOutcome). TellsRight t p.1) (sym (refused_is w l cause e)) tt)
+      (λ e. rw e (on_right t w l all))
+      (λ cause e. rw e tt)
 
   -- ## Schedules
 

@@ -198,19 +198,17 @@ sync_may : (h id : ℕ) → IsHost h → IsCommand (Sync h id)
 sync_may h id host = and_from (leb 1 h) (leb h 7) (le-leb 1 h host.0) (le-leb h 7 host.1)
 
 synced_here : (core : Core) (h : ℕ) (i : LinkInput) (p : Port) → IsHost p.desk.host → eqb p.desk.host h ≡ true → OneOrNone core (synced core (AtEnd h i) p)
-synced_here core h i p host e = by_id (report p.side i).sync refl where
-  by_id : (o : Option ℕ) → (report p.side i).sync ≡ o → OneOrNone core (synced core (AtEnd h i) p)
-  by_id None is = rw e (rw is (inl refl))
-  by_id (Some id) is =
-      rw e (rw is (cond_both (not (is_kept_sync core.tables.syncs p.desk.host id) && finds_room core (Sync p.desk.host id)) (Commits
-      (Sync p.desk.host id) ∷ []) [] (OneOrNone core)
-      (λ t. inr (
-        Sync p.desk.host id,
-        refl,
-        sync_may p.desk.host id host,
-        (and_parts (not (is_kept_sync core.tables.syncs p.desk.host id))
-            (finds_room core (Sync p.desk.host id)) t).1,
-      )) (λ _. inl refl)))
+synced_here core h i p host e = by_option (report p.side i).sync
+    (λ is. rw e (rw is (inl refl)))
+    (λ id is. rw e (rw is (cond_both (not (is_kept_sync core.tables.syncs p.desk.host id) && finds_room core (Sync p.desk.host id)) (Commits
+    (Sync p.desk.host id) ∷ []) [] (OneOrNone core)
+    (λ t. inr (
+      Sync p.desk.host id,
+      refl,
+      sync_may p.desk.host id host,
+      (and_parts (not (is_kept_sync core.tables.syncs p.desk.host id))
+          (finds_room core (Sync p.desk.host id)) t).1,
+    )) (λ _. inl refl))))
 
 flat_tick : (core : Core) (ports : List Port) → flat_map (synced core TimePasses) ports ≡ []
 flat_tick core [] = refl

@@ -1,12 +1,12 @@
 -- What a node keeps in its turns.
-use Rattle.std.proofs.Common.{◌∙◌, ◌≡◌, ◌⊎◌, inl, inr, ℕ, ◌≤◌, true, false, eqb, List, [], ◌∷◌, sym, refl, subst, arith}
+use Rattle.std.proofs.Common.{◌∙◌, ◌≡◌, inl, inr, ℕ, ◌≤◌, true, false, eqb, List, [], ◌∷◌, sym, refl, subst, arith}
 use Rattle.std.specs.Prelude.{Option, Some, None}
 use Rattle.std.specs.List.{AllByRecursion}
 use Rattle.std.specs.Option.{option_map_or}
 use Rattle.node_laws.specs.steps.Waiting.{IsAllowedStill}
-use Rattle.node_laws.proofs.Cases.{by_option}
+use Rattle.node_laws.proofs.Cases.{by_option, by_test}
 use Rattle.node_laws.proofs.steps.Waits.{message_allowed}
-use Rattle.std.proofs.lemmas.Bool.{eq-eqb, cases_Bool}
+use Rattle.std.proofs.lemmas.Bool.{eq-eqb}
 use Rattle.swp_base.specs.InMemory.{Memory}
 use Rattle.trace_model.specs.Lines.{IsHost}
 use Rattle.trace_model.specs.declared.entry.Entry.{Entry}
@@ -44,14 +44,11 @@ module _ (n : ℕ) (hosts : List ℕ) (old : Memory) (before : List Entry) where
   module _ (node : IsNodeNumber n) where
     pub deeds_may : (w : Work) (h : ℕ) (m : Message) → Runs w → IsOnOrder w.core.command w.core.init → IsHost h
         → MayBeDone (Some w.core.journal) w.core.command w.core.init (deeds_of w.core w.ports h m)
-    deeds_may w h m r on host = by_node (cases_Bool (eqb w.core.node 0)) where
-      small : w.core.node ≤ 7
-      small = omega (arith, r.number, seven n node)
-
-      by_node : (eqb w.core.node 0 ≡ true) ⊎ (eqb w.core.node 0 ≡ false)
-          → MayBeDone (Some w.core.journal) w.core.command w.core.init (deeds_of w.core w.ports h m)
-      by_node (inl e) = rw e (controller_may w.core on r.sorted w.ports r.waits h host.0 host.1 m)
-      by_node (inr e) = rw e (by_option (port_at w.ports h) (λ q. rw q on) (λ p q. rw q (host_may w.core on r.sorted small p m)))
+    deeds_may w h m r on host = by_test (eqb w.core.node 0)
+        (λ e. rw e (controller_may w.core on r.sorted w.ports r.waits h host.0 host.1 m))
+        (λ e. rw e (by_option (port_at w.ports h) (λ q. rw q on) (λ p q. rw q (host_may w.core on r.sorted small p m)))) where
+          small : w.core.node ≤ 7
+          small = omega (arith, r.number, seven n node)
 
     pub deeds_fit : (w : Work) (h : ℕ) (m : Message) → Runs w → n ≡ 0 → AllByRecursion (IsAllowedStill w.core.tables w.ports) (deeds_of w.core w.ports h m)
     deeds_fit w h m r z =
@@ -71,25 +68,20 @@ module _ (n : ℕ) (hosts : List ℕ) (old : Memory) (before : List Entry) where
         all_fine n hosts old before h deeds v (Some v.core.journal) q refl may w.ports p.none_new fit
 
     pub holds_fine : (w : Work) (h : ℕ) (short : ℕ × ℕ) → Runs w → IsOnOrder w.core.command w.core.init → Fine (holds_back h short w)
-    holds_fine w h short r on = by_desk (cases_Bool (option_map_or (λ (p : Port). p.desk.holds) (port_at w.ports h) false)) where
-      by_desk : (option_map_or (λ (p : Port). p.desk.holds) (port_at w.ports h) false ≡ true) ⊎ (option_map_or (λ (p : Port). p.desk.holds)
-          (port_at w.ports h) false ≡ false) → Fine (holds_back h short w)
-      by_desk (inl e) = rw e (inl (runs_plainly n hosts old before w (turn_at h (Hold true) w) r (plainly_turn h (Hold true) w), on))
-      by_desk (inr e) =
-          let a : Work = noting (entry.Held (end_of_node w.core h) short.0 short.1 ∷ []) w in
-          let b : Work = with_desk h (λ d. record d { holds = true }) a in
-          let v : Work = turn_at h (Hold true) b in
-          let q : Runs v = runs_plainly n hosts old before w v r
-          (plainly_then w a v (plainly_noting w (entry.Held (end_of_node w.core h) short.0 short.1 ∷ []) (tt, tt))
-          (plainly_then a b v (plainly_desk h (λ d. record d { holds = true }) a (λ d. refl) (λ d x. x) (λ d c e. e)) (plainly_turn h (Hold true) b))) in
-          rw e (inl (q, on))
+    holds_fine w h short r on = by_test (option_map_or (λ (p : Port). p.desk.holds) (port_at w.ports h) false)
+        (λ e. rw e (inl (runs_plainly n hosts old before w (turn_at h (Hold true) w) r (plainly_turn h (Hold true) w), on)))
+        (λ e. let a : Work = noting (entry.Held (end_of_node w.core h) short.0 short.1 ∷ []) w in
+        let b : Work = with_desk h (λ d. record d { holds = true }) a in
+        let v : Work = turn_at h (Hold true) b in
+        let q : Runs v = runs_plainly n hosts old before w v r
+        (plainly_then w a v (plainly_noting w (entry.Held (end_of_node w.core h) short.0 short.1 ∷ []) (tt, tt))
+        (plainly_then a b v (plainly_desk h (λ d. record d { holds = true }) a (λ d. refl) (λ d x. x) (λ d c e. e)) (plainly_turn h (Hold true) b))) in
+        rw e (inl (q, on)))
 
     pub lets_fine : (w : Work) (h : ℕ) → Runs w → IsOnOrder w.core.command w.core.init → Fine (lets_go h w)
-    lets_fine w h r on = by_side (cases_Bool (option_map_or (λ (p : Port). is_held p.side) (port_at w.ports h) false)) where
-      by_side : (option_map_or (λ (p : Port). is_held p.side) (port_at w.ports h) false ≡ true) ⊎ (option_map_or (λ (p : Port). is_held p.side)
-          (port_at w.ports h) false ≡ false) → Fine (lets_go h w)
-      by_side (inl e) = rw e (inl (runs_plainly n hosts old before w (turn_at h (Hold false) w) r (plainly_turn h (Hold false) w), on))
-      by_side (inr e) = rw e (inl (r, on))
+    lets_fine w h r on = by_test (option_map_or (λ (p : Port). is_held p.side) (port_at w.ports h) false)
+        (λ e. rw e (inl (runs_plainly n hosts old before w (turn_at h (Hold false) w) r (plainly_turn h (Hold false) w), on)))
+        (λ e. rw e (inl (r, on)))
 
     turns_fine : (h : ℕ) (messages : List Message) → IsHost h → (w : Work) → Runs w → IsOnOrder w.core.command w.core.init → Fine (have_turns h messages w)
     turns_fine h [] host w r on = lets_fine w h r on

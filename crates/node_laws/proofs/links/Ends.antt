@@ -113,19 +113,15 @@ module _ (Q : Role → Type 0) (acts : (r : Role) (event : ActEvent) → Q r →
   took_is e Ua a = heard_is e Ua (is_open e.role) a
 
   ticked_is : (e : LinkEnd) → Q e.role → Q (had_tick e).role
-  ticked_is e a = go (is_open e.role) refl
-    where
-      go : (b : Bool) → is_open e.role ≡ b → Q (had_tick e).role
-      go true q =
-          let b : Bool = is_some (tick_answer e.shdlc).ended in
-          let f : LinkEnd = moved e b (ticked e.shdlc) in
-          let is : had_tick e ≡ f = rw q refl in
-          let R : LinkEnd → Type 0 = λ g. Q g.role in
-          subst R (sym is) (same e f (moved_role e b (ticked e.shdlc)) a)
-      go false q =
-          let is : had_tick e ≡ activated e ActTick = rw q refl in
-          let R : LinkEnd → Type 0 = λ g. Q g.role in
-          subst R (sym is) (activated_is e ActTick a)
+  ticked_is e a = by_test (is_open e.role)
+      (λ q. let b : Bool = is_some (tick_answer e.shdlc).ended in
+      let f : LinkEnd = moved e b (ticked e.shdlc) in
+      let is : had_tick e ≡ f = rw q refl in
+      let R : LinkEnd → Type 0 = λ g. Q g.role in
+      subst R (sym is) (same e f (moved_role e b (ticked e.shdlc)) a))
+      (λ q. let is : had_tick e ≡ activated e ActTick = rw q refl in
+      let R : LinkEnd → Type 0 = λ g. Q g.role in
+      subst R (sym is) (activated_is e ActTick a))
 
   fetch_is : (e : LinkEnd) → Q e.role → Q (frame_fetched e).role
   fetch_is e a = by_list e.acts

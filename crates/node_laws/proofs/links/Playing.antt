@@ -2,15 +2,13 @@
 use Rattle.std.proofs.Common.{◌≡◌, ℕ, ◌==◌, Bool, true, false, cond, zero, suc, List, [], ◌∷◌, refl, sym, subst, arith}
 use Rattle.std.specs.Prelude.{Option, Some, None, map, ◌&&◌, is_some, replicate, unwrap_or}
 use Rattle.std.specs.List.{AllByRecursion}
-use Rattle.std.proofs.lemmas.Bool.{true≢false}
-use Rattle.trace_model.specs.declared.entry.Entry.{Entry}
 use Rattle.trace_model.specs.declared.entry.NoCause.{NoCause}
 use Rattle.trace_model.specs.declared.entry.NoCause.TheVariants as no
 use Rattle.trace_model.specs.declared.line.End.{End}
 use Rattle.trace_model.specs.declared.line.Line.{Line}
 use Rattle.trace_model.specs.declared.line.Line.TheVariants as line
 use Rattle.hcp_packet.specs.Packets.{IsSendable}
-use Rattle.link_laws.specs.machine.Machine.{Message, LinkInput}
+use Rattle.link_laws.specs.machine.Machine.{Message}
 use Rattle.link_laws.specs.machine.Machine.LinkInput.{Start}
 use Rattle.link_laws.specs.messages.Links.{Link, Comes, exchanged, happens, IsWindow, CanCome}
 use Rattle.link_laws.specs.messages.Links.Comes.{NextFrame, AsksReset, Starts, Stops, NoInput}
@@ -20,13 +18,13 @@ use Rattle.link_laws.specs.messages.Links.LinkEvent.{AtController}
 use Rattle.link_laws.proofs.messages.Runs.{IsIdleClf, started_clf, can_start}
 use Rattle.history.specs.Damage.{Verdict}
 use Rattle.history.specs.Damage.Verdict.{Same, LostFor, Undetected}
-use Rattle.history.specs.Follows.{seen_from, first_verdict, taken_of}
-use Rattle.node_machine.specs.Parts.{Running, Work, Deed}
+use Rattle.history.specs.Follows.{first_verdict, taken_of}
+use Rattle.node_machine.specs.Parts.{Work, Deed}
 use Rattle.node_machine.specs.Controller.{is_command_message}
 use Rattle.node_machine.specs.Node.{steps, begins_with}
 use Rattle.node_machine.specs.Node.NodeInput.{AtEnd}
-use Rattle.node_machine.specs.world.World.{Site, NodeWorld, Happening, new_site, new_world, link_to, ending_of, turns_at, input_of, controller_work}
-use Rattle.node_machine.specs.world.World.{link_after_controller, after_controller, controller_does, host_does, memory_at, sending, beginning}
+use Rattle.node_machine.specs.world.World.{Site, NodeWorld, Happening, new_site, new_world, ending_of, turns_at, controller_work}
+use Rattle.node_machine.specs.world.World.{link_after_controller, host_does, memory_at, sending, beginning}
 use Rattle.node_machine.specs.world.World.{comes_at, end_c, end_h}
 use Rattle.node_machine.specs.world.World.{activates, world_step}
 use Rattle.node_machine.specs.world.World.Happening.{Boots, IsCut, Gives, Inits, Takes, Loses, Ticks, Resets, Activates, Arms}
@@ -35,11 +33,13 @@ use Rattle.node_machine.specs.world.Lines.{goes_on, line_step}
 use Rattle.node_laws.specs.links.Runs.{IsRun, IsPlayable, ArePlayable}
 use Rattle.node_machine.specs.world.NodeHistories.{world_after}
 use Rattle.node_laws.proofs.Cases.{by_test, by_option}
+use Rattle.node_laws.proofs.Cases.{by_some}
 use Rattle.node_laws.proofs.links.Deeds.{AreFine}
 use Rattle.node_laws.proofs.links.Works.{all_done_fine, steps_fine}
 use Rattle.node_laws.proofs.links.Sites.{MayCome, new_fine}
 use Rattle.node_laws.proofs.links.Worlds.{AreFineSites, IsFineWorld, AtHostOnly, CanReach, power_fine, memory_fine, boots_fine, lost_fine, ticks_fine_all}
 use Rattle.node_laws.proofs.links.Worlds.{controller_fine, host_fine}
+use Rattle.node_machine.proofs.world.Cases.{by_coming}
 
 -- ## What comes to an end
 
@@ -71,17 +71,10 @@ plain_reach h comes p (s ∷ sites) = ((λ q. plain_comes (exchanged s.link) com
 
 pub comes_fine : (w : NodeWorld) (e : End) (comes : Comes) → MayCome comes → AllByRecursion (AtHostOnly (CanReach comes) e.link) w.sites → IsFineWorld w
     → IsFineWorld (comes_at w e comes).0
-comes_fine w e comes may reach fine = go (input_of (seen_from e (link_to w.sites e.link)) comes) e.at_host
-  where
-    by : Option LinkInput → Bool → NodeWorld × List Entry
-    by None at_host = (w, [])
-    by (Some i) true = host_does w e.link comes (steps (AtEnd e.link i))
-    by (Some i) false = controller_does w e.link comes (steps (AtEnd e.link i))
-
-    go : (o : Option LinkInput) (b : Bool) → IsFineWorld (by o b).0
-    go None b = fine
-    go (Some i) true = host_fine w e.link comes (steps (AtEnd e.link i)) reach (λ v a. steps_fine (AtEnd e.link i) v a) fine
-    go (Some i) false = controller_fine w e.link comes (steps (AtEnd e.link i)) may (λ v a. steps_fine (AtEnd e.link i) v a) fine
+comes_fine w e comes may reach fine =
+    by_coming (λ p. IsFineWorld p.0) w e comes fine
+    (λ i far q. host_fine w e.link comes (steps (AtEnd e.link i)) reach (λ v a. steps_fine (AtEnd e.link i) v a) fine)
+    (λ i near q. controller_fine w e.link comes (steps (AtEnd e.link i)) may (λ v a. steps_fine (AtEnd e.link i) v a) fine)
 
 plain_fine : (w : NodeWorld) (e : End) (comes : Comes) → IsPlain comes → IsFineWorld w → IsFineWorld (comes_at w e comes).0
 plain_fine w e comes p fine = comes_fine w e comes (plain_may comes p) (plain_reach e.link comes p w.sites) fine
@@ -128,15 +121,9 @@ starts_fine w h power fine =
 pub starts_then : (w : NodeWorld) (h sync power : ℕ) → is_some w.controller ≡ true → IsFineWorld w
     → AllByRecursion (AtHostOnly (CanReach (Starts sync)) h) (comes_at w (end_c h) (Starts power)).0.sites
 starts_then w h sync power runs fine =
-    idle_reach h sync (comes_at w (end_c h) (Starts power)).0.sites (starts_fine w h power fine).sites (go w.controller runs)
-  where
-    by : Option Running → NodeWorld × List Entry
-    by None = (w, [])
-    by (Some r) = after_controller w h (Starts power) (controller_work w r h (Starts power) (steps (AtEnd h (Start power))))
-
-    go : (o : Option Running) → is_some o ≡ true → AllByRecursion (AtHostOnly (λ s. IsIdleClf s.link.controller.side.role) h) (by o).0.sites
-    go None q = absurd (true≢false (sym q))
-    go (Some r) q = started_sites h power (controller_work w r h (Starts power) (steps (AtEnd h (Start power)))) w.sites fine.sites
+    idle_reach h sync (comes_at w (end_c h) (Starts power)).0.sites (starts_fine w h power fine).sites
+    (by_some w.controller runs
+    (λ r q. rw q (started_sites h power (controller_work w r h (Starts power) (steps (AtEnd h (Start power)))) w.sites fine.sites)))
 
 activates_fine : (w : NodeWorld) (h sync power : ℕ) → is_some w.controller ≡ true → IsFineWorld w → IsFineWorld (activates w h sync power).0
 activates_fine w h sync power runs fine =

@@ -2,14 +2,12 @@
 use Rattle.std.proofs.Common.{◌≡◌, ℕ, ◌==◌, Bool, true, false, List, [], ◌∷◌, refl, ap, sym, subst}
 use Rattle.std.specs.Prelude.{Option, Some, None, map, not, ◌&&◌}
 use Rattle.std.specs.List.{AllByRecursion}
-use Rattle.std.specs.Option.{option_map_or}
 use Rattle.swp_base.specs.InMemory.{Memory}
 use Rattle.trace_model.specs.declared.line.End.{End}
 use Rattle.shdlc_core.specs.Machine.{is_waiting}
 use Rattle.journal_laws.specs.Planned.{after_planned}
 use Rattle.link_laws.specs.machine.Machine.{Turn}
-use Rattle.link_laws.specs.machine.Machine.Role.{Bare}
-use Rattle.link_laws.specs.messages.Links.{Link, NumberedEnd, Ending, Comes, Loss, Node, new_link, exchanged, aged, ticks_at_controller, happens}
+use Rattle.link_laws.specs.messages.Links.{Link, NumberedEnd, Ending, Comes, Loss, Node, exchanged, aged, ticks_at_controller, happens}
 use Rattle.link_laws.specs.messages.Links.{AreSendableTurns, CanCome}
 use Rattle.link_laws.specs.messages.Links.Ending.{GoesOut, CutOff}
 use Rattle.link_laws.specs.messages.Links.Comes.{NextFrame, AsksReset, NoInput}
@@ -113,12 +111,7 @@ clean_site (x ∷ sites) h s a q = by_test (x.host == h)
     (λ e. clean_site sites h s a.1 (rw e at q))
 
 pub near_clean : (sites : List Site) (h : ℕ) → AreClean sites → Clean (link_to sites h).controller.side
-near_clean sites h a = by_option (site_at sites h)
-    (λ q. let P : Option Site → Type 0 = λ z. Clean (by z).controller.side in subst P (sym q) tt)
-    (λ s q. let P : Option Site → Type 0 = λ z. Clean (by z).controller.side in subst P (sym q) (clean_site sites h s a q))
-  where
-    by : Option Site → Link
-    by o = option_map_or (λ (s : Site). s.link) o (new_link Bare Bare)
+near_clean sites h a = by_option (site_at sites h) (λ q. rw q tt) (λ s q. rw q (clean_site sites h s a q))
 
 -- ## A step of a node
 
@@ -140,12 +133,7 @@ runs_fine : (k : Work) → IsFineWork k → IsFineNode (runs_on k)
 runs_fine k a = by_test k.cut (λ q. rw q tt) (λ q. rw q (desks_of k.ports a))
 
 pub turns_fine : (k : Work) (h : ℕ) → IsFineWork k → AreSendableTurns (turns_at k h)
-turns_fine k h a = by_option (port_at k.ports h)
-    (λ q. let P : Option Port → Type 0 = λ z. AreSendableTurns (by z) in subst P (sym q) tt)
-    (λ p q. let P : Option Port → Type 0 = λ z. AreSendableTurns (by z) in subst P (sym q) (fine_at k.ports h p a q).turns)
-  where
-    by : Option Port → List Turn
-    by o = option_map_or (λ (p : Port). p.turns) o []
+turns_fine k h a = by_option (port_at k.ports h) (λ q. rw q tt) (λ p q. rw q (fine_at k.ports h p a q).turns)
 
 -- what a node does in a step may be done
 abbrev pub KeepsFine : (Work → Work) → Type 0

@@ -4,6 +4,7 @@ use Rattle.std.specs.Prelude.{Option, Some, None, is_some}
 use Rattle.std.specs.List.{AllByRecursion}
 use Rattle.std.specs.Option.{option_map, option_map_or, option_and_then}
 use Rattle.std.proofs.lemmas.Bool.{cases_Bool, eqb-true, eqb-false, ne_eqb, eq-eqb}
+use Rattle.std.proofs.lemmas.Bool.{true≢false}
 use Rattle.trace_model.specs.Lines.{IsHost}
 use Rattle.trace_model.specs.declared.entry.Entry.{Entry}
 use Rattle.trace_model.specs.declared.entry.Entry.TheVariants as entry
@@ -28,7 +29,7 @@ use Rattle.node_machine.specs.Parts.{About, Notice, Desk, Core, Port, Work, Deed
 use Rattle.node_machine.specs.Parts.About.{Waits, Removed}
 use Rattle.node_machine.specs.Parts.Deed.{Commits, Sends, SaysOk, Asks, Releases, Tells, Drops, SetsErrors}
 use Rattle.node_machine.specs.Carrying.{own_side, noting, unless_cut, port_at, changed_if, with_port, with_desk, after_turn, noted_of, turn_at, notified}
-use Rattle.node_machine.specs.Carrying.{loses_power, keeps, commit, done, all_done}
+use Rattle.node_machine.specs.Carrying.{keeps, commit, done, all_done}
 use Rattle.node_machine.specs.world.NodeFilters.{is_notice, notice_in}
 use Rattle.node_laws.proofs.Cases.{by_test}
 use Rattle.node_laws.proofs.links.Noticing.{turn-phase, UpAt, at_all, at_host}
@@ -36,6 +37,7 @@ use Rattle.node_laws.specs.notices.Notices.{IsAbout, IsKeptNotice}
 use Rattle.node_laws.proofs.notices.Reading.{reads, read_more, sent_reads, sent_elsewhere, notice_reads}
 use Rattle.node_laws.proofs.notices.Telling.{AreRight, noticed, MayTell}
 use Rattle.node_laws.specs.notices.Worlds.{IsRightAbout, IsRightNotice}
+use Rattle.node_laws.proofs.Cut.{by_cut}
 
 abbrev pub AreHostEnds : List Port → Type 0
 AreHostEnds ports = AllByRecursion (λ (p : Port). IsHost p.desk.host) ports
@@ -100,12 +102,10 @@ module _ (x : ℕ) (before : List Entry) where
 
   -- one thing after another, unless the power is cut
   pub then : (f : Work → Work) (w : Work) → Stands w → (IsOn w → Stands (f w)) → Stands (unless_cut f w)
-  then f w (inl a) next = subst Stands (sym (on_is a.on)) (next a) where
-    on_is : w.cut ≡ false → unless_cut f w ≡ f w
-    on_is e = rw e refl
-  then f w (inr a) next = subst Stands (sym (off_is a.off)) (inr a) where
-    off_is : w.cut ≡ true → unless_cut f w ≡ w
-    off_is e = rw e refl
+  then f w a next = by_cut Stands f w (λ q. a) (λ q. go q a) where
+    go : w.cut ≡ false → Stands w → Stands (f w)
+    go q (inl b) = next b
+    go q (inr b) = absurd (true≢false (sym b.off ∙ q))
 
   -- it is noted so
   pub notes : (K L : Option (List ℕ) → Option Notice → Type 0) (es : List Entry) (w : Work)
@@ -299,10 +299,7 @@ module _ (x : ℕ) (before : List Entry) where
 
     pub tells : (w : Work) → (eqb k x ≡ true → Takes (port_at w.ports x) message) → is_notice message ≡ true → IsAbout about message
         → IsRightAbout about → IsOn w → IsOn (notified k about message w)
-    tells w takes is says right a = go (cases_Bool (eqb k x)) where
-      go : (eqb k x ≡ true) ⊎ (eqb k x ≡ false) → IsOn (notified k about message w)
-      go (inl e) = told_here w e (takes e) is says right a
-      go (inr e) = told_elsewhere w e right a
+    tells w takes is says right a = by_test (eqb k x) (λ e. told_here w e (takes e) is says right a) (λ e. told_elsewhere w e right a)
 
   -- ## Commits
 
@@ -334,21 +331,15 @@ module _ (x : ℕ) (before : List Entry) where
     begun : IsOn noted
     begun = hushed IsKeptNotice (entry.Command w.core.node c ∷ []) w (λ r. refl) a
 
-    lost_is : fails_within (length writes) w.plan ≡ true → commit c w ≡ loses_power writes noted
-    lost_is e = rw e refl
-
-    kept_is : fails_within (length writes) w.plan ≡ false → commit c w ≡ keeps c writes noted
-    kept_is e = rw e refl
-
     by_plan : (fails_within (length writes) w.plan ≡ true) ⊎ (fails_within (length writes) w.plan ≡ false) → Stands (commit c w)
-    by_plan (inl e) = subst Stands (sym (lost_is e)) (inr record {
+    by_plan (inl e) = rw e (inr record {
       off = refl;
       front = before ++ noted.entries;
       ends = sym (append_assoc before noted.entries (entry.Cut w.core.node ∷ []))
           ∙ ap (λ n. (before ++ noted.entries) ++ entry.Cut n ∷ []) a.node;
     })
     by_plan (inr e) =
-        subst Stands (sym (kept_is e)) (inl (beside noted (keeps c writes noted) refl refl (AreTables-apply w.core.tables c may a.sorted)
+        rw e (inl (beside noted (keeps c writes noted) refl refl (AreTables-apply w.core.tables c may a.sorted)
         (JoinTwo-after w.core.tables (c ∷ []) (may, tt) a.two) refl refl begun))
 
   -- ## Deeds

@@ -75,10 +75,7 @@ fine_found content =
 -- a controller that boots has no notices
 none_noticed : (hosts : List ℕ) (x : ℕ) → notice_at (map new_desk hosts) x ≡ None
 none_noticed [] x = refl
-none_noticed (h ∷ hosts) x = go (cases_Bool (eqb h x)) (none_noticed hosts x) where
-  go : (eqb h x ≡ true) ⊎ (eqb h x ≡ false) → notice_at (map new_desk hosts) x ≡ None → notice_at (map new_desk (h ∷ hosts)) x ≡ None
-  go (inl is) later = rw is refl
-  go (inr off) later = rw off later
+none_noticed (h ∷ hosts) x = by_test (eqb h x) (λ is. rw is refl) (λ off. rw off (none_noticed hosts x))
 
 none_right : (hosts : List ℕ) → AllByRecursion (λ (d : Desk). IsRightNotice d.notice) (map new_desk hosts)
 none_right [] = tt

@@ -1,9 +1,9 @@
 -- A controller asks and tells only hosts that have no notice to answer.
-use Rattle.std.proofs.Common.{◌≡◌, ◌⊎◌, inl, inr, ℕ, zero, suc, ◌≤◌, Bool, true, false, cond, not, eqb, ◌&&◌, ◌||◌, List, [], ◌∷◌, refl, sym, ◌∙◌, arith}
+use Rattle.std.proofs.Common.{◌≡◌, ℕ, zero, suc, ◌≤◌, Bool, true, false, cond, not, eqb, ◌&&◌, ◌||◌, List, [], ◌∷◌, refl, sym, ◌∙◌, arith}
 use Rattle.std.specs.Prelude.{Option, Some, None, nat_le}
 use Rattle.std.specs.List.{AllByRecursion, list_any, filter}
 use Rattle.std.specs.Option.{option_map_or, option_and_then}
-use Rattle.std.proofs.lemmas.Bool.{cases_Bool, true≢false, leb-true}
+use Rattle.std.proofs.lemmas.Bool.{true≢false, leb-true}
 use Rattle.pipe_table.specs.PipeRows.{pipe_at}
 use Rattle.hci_tables.specs.Tables.{HciTables}
 use Rattle.hci_tables.specs.declared.command.Command.{Command}
@@ -52,17 +52,13 @@ module _ (v : LinkView) where
   -- none of the hosts that pass a test passes another one
   none_both : (p q : ℕ → Bool) (hosts : List ℕ) → list_any p (filter q hosts) ≡ false → AllByRecursion (λ (y : ℕ). q y ≡ true → p y ≡ false) hosts
   none_both p q [] e = tt
-  none_both p q (y ∷ hosts) e = go (cases_Bool (q y)) (none_both p q hosts) where
-    parts : (a b : Bool) → (a || b) ≡ false → (a ≡ false) × (b ≡ false)
-    parts true b f = absurd (true≢false f)
-    parts false b f = (refl, f)
-
-    go : (q y ≡ true) ⊎ (q y ≡ false) → (list_any p (filter q hosts) ≡ false → AllByRecursion (λ (y : ℕ). q y ≡ true → p y ≡ false) hosts)
-        → AllByRecursion (λ (y : ℕ). q y ≡ true → p y ≡ false) (y ∷ hosts)
-    go (inl is) later =
-        let both = parts (p y) (list_any p (filter q hosts)) (rw is at e) in
-        ((λ z. both.0), later both.1)
-    go (inr off) later = ((λ z. absurd (true≢false (sym z ∙ off))), later (rw off at e))
+  none_both p q (y ∷ hosts) e = by_test (q y)
+      (λ is. let both = parts (p y) (list_any p (filter q hosts)) (rw is at e) in
+      ((λ z. both.0), (none_both p q hosts) both.1))
+      (λ off. ((λ z. absurd (true≢false (sym z ∙ off))), (none_both p q hosts) (rw off at e))) where
+        parts : (a b : Bool) → (a || b) ≡ false → (a ≡ false) × (b ≡ false)
+        parts true b f = absurd (true≢false f)
+        parts false b f = (refl, f)
 
   one_of : (p q : ℕ → Bool) → list_any p (hosts_where q) ≡ false → (y : ℕ) → 1 ≤ y → y ≤ 7 → q y ≡ true → p y ≡ false
   unfolding hosts_where
@@ -142,10 +138,9 @@ module _ (v : LinkView) where
 
 -- a host that isn't in the view's mask has no notice
 no_notice : (t : HciTables) (ports : List Port) (h y : ℕ) → IsFree (view_for t ports h) y → has_notice ports y ≡ false
-no_notice t ports h y free = go (cases_Bool (has_notice ports y)) where
-  go : (has_notice ports y ≡ true) ⊎ (has_notice ports y ≡ false) → has_notice ports y ≡ false
-  go (inl e) = absurd (true≢false (sym (is_in_mask (has_notice ports) y free.1 free.2 e) ∙ free.0))
-  go (inr e) = e
+no_notice t ports h y free = by_test (has_notice ports y)
+    (λ e. absurd (true≢false (sym (is_in_mask (has_notice ports) y free.1 free.2 e) ∙ free.0)))
+    (λ e. e)
 
 plain : (ports : List Port) → Plain (GoesToFree ports)
 plain ports = record { sends = λ to x. tt; says_ok = tt; releases = λ asker. tt; is_answered = tt; drops = λ pid. tt }

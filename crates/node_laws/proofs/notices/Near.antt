@@ -1,14 +1,13 @@
 -- What is read of the controller's notices as the controller has a step.
-use Rattle.std.proofs.Common.{◌≡◌, ◌⊎◌, inl, inr, ℕ, ◌&&◌, Bool, true, false, not, eqb, List, [], ◌∷◌, ◌++◌, map, sym, refl, ap, ◌∙◌, subst, append_assoc}
+use Rattle.std.proofs.Common.{◌≡◌, inl, inr, ℕ, ◌&&◌, Bool, true, false, not, eqb, List, [], ◌∷◌, ◌++◌, map, sym, refl, ap, ◌∙◌, subst, append_assoc}
 use Rattle.std.specs.Prelude.{Option, Some, None}
 use Rattle.std.specs.List.{AllByRecursion, flat_map}
-use Rattle.std.proofs.lemmas.Bool.{cases_Bool, cond_both, true≢false}
+use Rattle.std.proofs.lemmas.Bool.{cond_both, true≢false}
 use Rattle.swp_base.specs.InMemory.{Plan}
 use Rattle.trace_model.specs.Lines.{IsHost}
 use Rattle.trace_model.specs.declared.entry.Entry.{Entry}
 use Rattle.trace_model.specs.declared.entry.Entry.TheVariants as entry
 use Rattle.trace_model.specs.declared.line.End.{End}
-use Rattle.journal_laws.specs.Planned.{after_planned}
 use Rattle.link_laws.specs.sessions.Sessions.{is_up}
 use Rattle.shdlc_core.specs.Machine.{is_waiting}
 use Rattle.link_laws.specs.machine.Machine.{LinkEnd, LinkInput, Turn}
@@ -20,13 +19,12 @@ use Rattle.link_laws.specs.messages.Links.EndEvent.{Step}
 use Rattle.link_laws.specs.entries.Entries.{aged_entries}
 use Rattle.link_laws.specs.entries.Entries.End.{Controller, Host}
 use Rattle.history.specs.Steps.{entries_for}
-use Rattle.history.specs.Follows.{seen_from}
 use Rattle.node_machine.specs.Parts.{Desk, Running, Port, Work}
 use Rattle.node_machine.specs.Carrying.{port_at}
 use Rattle.node_machine.specs.Node.{NodeInput, steps}
 use Rattle.node_machine.specs.Node.NodeInput.{AtEnd, TimePasses}
 use Rattle.node_machine.specs.world.World.{NodeWorld, Site, link_to, ending_of, runs_on, turns_at, input_of, near_end_in, arrival, wires_for, port_for, work_of}
-use Rattle.node_machine.specs.world.World.{frames_noted, comes_to, controller_work, link_after_controller, after_controller, controller_does}
+use Rattle.node_machine.specs.world.World.{frames_noted, comes_to, controller_work, link_after_controller, controller_does}
 use Rattle.node_machine.specs.world.World.{all_aged, is_late_at}
 use Rattle.node_machine.specs.world.World.{ticked_so, controller_ticks, hosts_tick, world_ticks, comes_at, activates, end_c, end_h}
 use Rattle.node_machine.specs.world.NodeFilters.{notice_in, asking_in}
@@ -46,10 +44,13 @@ use Rattle.node_laws.proofs.notices.Doing.{AreHostEnds, IsOn, Stands}
 use Rattle.node_laws.proofs.notices.Shut.{here_shut, ticks_shut}
 use Rattle.node_laws.proofs.notices.Steps.{steps_stand}
 use Rattle.node_laws.proofs.notices.Far.{AreFar, far-append, far_flat, far_reads, far_asks, asking_more, quiet_far}
-use Rattle.node_laws.proofs.notices.Sites.{AreGood, Reads, still_reads, far_hushed, good_map, link_shut, frames_quiet, arrival_quiet, nothing, far_reads_so}
+use Rattle.node_laws.proofs.notices.Far.{steps_far}
+use Rattle.node_laws.proofs.notices.Sites.{AreGood, Reads, still_reads, far_hushed, good_map, link_shut, frames_quiet, arrival_quiet, nothing, host_reads, far_reads_so}
 use Rattle.node_laws.proofs.notices.Sites.{all_tick}
 use Rattle.node_laws.specs.notices.Worlds.{ControllerReads, IfReads, IsRightNotice, IsShut}
 use Rattle.node_laws.proofs.telling.Nodes.{ports_for, hosts_same}
+use Rattle.node_machine.proofs.world.Cases.{by_coming, by_controller, by_controller_tick, near_tick, site_ticked, site_unticked}
+use Rattle.node_laws.proofs.Cases.{by_test}
 
 -- ## Ends as a step begins
 
@@ -70,25 +71,17 @@ host_ports near_ends (d ∷ desks) a = (a.0, host_ports near_ends desks a.1)
 
 noticed_ports : (near_ends : ℕ → NumberedEnd) (desks : List Desk) (x : ℕ) → noticed (ports_for near_ends desks) x ≡ notice_at desks x
 noticed_ports near_ends [] x = refl
-noticed_ports near_ends (d ∷ desks) x = go (cases_Bool (eqb d.host x)) (noticed_ports near_ends desks x) where
-  go : (eqb d.host x ≡ true) ⊎ (eqb d.host x ≡ false) → noticed (ports_for near_ends desks) x ≡ notice_at desks x
-      → noticed (ports_for near_ends (d ∷ desks)) x ≡ notice_at (d ∷ desks) x
-  go (inl is) later = rw is refl
-  go (inr off) later = rw off later
+noticed_ports near_ends (d ∷ desks) x = by_test (eqb d.host x) (λ is. rw is refl) (λ off. rw off (noticed_ports near_ends desks x))
 
 up_ports : (g h : ℕ → NumberedEnd) → ((n : ℕ) → (h n).side ≡ (g n).side) → (desks : List Desk) (x : ℕ) → OnFirst IsNoticedUp (port_at (ports_for g desks) x)
     → UpAt (port_at (ports_for h desks) x)
 up_ports g h same [] x a = tt
-up_ports g h same (d ∷ desks) x a = go (cases_Bool (eqb d.host x)) (up_ports g h same desks x) where
-  go : (eqb d.host x ≡ true) ⊎ (eqb d.host x ≡ false)
-      → (OnFirst IsNoticedUp (port_at (ports_for g desks) x) → UpAt (port_at (ports_for h desks) x))
-      → UpAt (port_at (ports_for h (d ∷ desks)) x)
-  go (inl is) later =
-      let b : IsNoticedUp (port_for (g d.host) d) = rw is at a in
-      let c : UpAt (Some (port_for (h d.host) d)) =
-      λ some. ap (λ (e : LinkEnd). is_up e.shdlc.phase) (same d.host) ∙ ap is_up (b some) in
-      rw is c
-  go (inr off) later = rw off (later (rw off at a))
+up_ports g h same (d ∷ desks) x a = by_test (eqb d.host x)
+    (λ is. let b : IsNoticedUp (port_for (g d.host) d) = rw is at a in
+    let c : UpAt (Some (port_for (h d.host) d)) =
+    λ some. ap (λ (e : LinkEnd). is_up e.shdlc.phase) (same d.host) ∙ ap is_up (b some) in
+    rw is c)
+    (λ off. rw off ((up_ports g h same desks x) (rw off at a)))
 
 good_hosts : (sites : List Site) → AreGood sites → AllByRecursion IsHost (hosts_in sites)
 good_hosts [] a = tt
@@ -97,11 +90,7 @@ good_hosts (s ∷ sites) a = (a.0.host, good_hosts sites a.1)
 -- the notices that stay at desks
 pub noticed_desks : (ports : List Port) (x : ℕ) → noticed ports x ≡ notice_at (map (λ (p : Port). p.desk) ports) x
 noticed_desks [] x = refl
-noticed_desks (p ∷ ports) x = go (cases_Bool (eqb p.desk.host x)) (noticed_desks ports x) where
-  go : (eqb p.desk.host x ≡ true) ⊎ (eqb p.desk.host x ≡ false) → noticed ports x ≡ notice_at (map (λ (p : Port). p.desk) ports) x
-      → noticed (p ∷ ports) x ≡ notice_at (map (λ (p : Port). p.desk) (p ∷ ports)) x
-  go (inl is) later = rw is refl
-  go (inr off) later = rw off later
+noticed_desks (p ∷ ports) x = by_test (eqb p.desk.host x) (λ is. rw is refl) (λ off. rw off (noticed_desks ports x))
 
 right_desks : (ports : List Port) → AreRight ports → AllByRecursion (λ (d : Desk). IsRightNotice d.notice) (map (λ (p : Port). p.desk) ports)
 right_desks [] a = tt
@@ -141,105 +130,73 @@ module _ (t : List Entry) (w : NodeWorld) (r : Running) (has : HasEnds 0 (hosts_
 
   -- and frames go out
   pub step_reads : (frames : List Entry) → AreFar frames → IfReads (t ++ (after_it.entries ++ frames)) (runs_on after_it)
-  step_reads frames far = go (cases_Bool after_it.cut) where
-    parts : (x : ℕ) → notice_in (t ++ (after_it.entries ++ frames)) x ≡ notice_in (t ++ after_it.entries) x
-    parts x =
-        ap (λ l. notice_in l x) (sym (append_assoc t after_it.entries frames))
-        ∙ (notice_more x (t ++ after_it.entries) frames ∙ far_reads x frames far (notice_in (t ++ after_it.entries) x))
+  step_reads frames far = by_test after_it.cut
+      (λ e. subst (IfReads (t ++ (after_it.entries ++ frames))) (sym (off_is e))
+      (λ x. let gone = none e x (stands x) in (parts x ∙ gone.0, parts_asking x ∙ gone.1)))
+      (λ e. subst (IfReads (t ++ (after_it.entries ++ frames))) (sym (on_is e)) (record {
+        sorted = (on e 0 (stands 0)).sorted;
+        two = (on e 0 (stands 0)).two;
+        right = right_desks after_it.ports (on e 0 (stands 0)).right;
+        kept = λ x. subst (λ m. IsKeptNotice m (notice_at (map (λ (p : Port). p.desk) after_it.ports) x)) (sym (parts x))
+            (subst (IsKeptNotice (notice_in (t ++ after_it.entries) x)) (noticed_desks after_it.ports x) (on e x (stands x)).kept);
+      })) where
+        parts : (x : ℕ) → notice_in (t ++ (after_it.entries ++ frames)) x ≡ notice_in (t ++ after_it.entries) x
+        parts x =
+            ap (λ l. notice_in l x) (sym (append_assoc t after_it.entries frames))
+            ∙ (notice_more x (t ++ after_it.entries) frames ∙ far_reads x frames far (notice_in (t ++ after_it.entries) x))
 
-    off_is : after_it.cut ≡ true → runs_on after_it ≡ None
-    off_is e = rw e refl
+        off_is : after_it.cut ≡ true → runs_on after_it ≡ None
+        off_is e = rw e refl
 
-    on_is : after_it.cut ≡ false → runs_on after_it ≡ Some (record { core = after_it.core; desks = map (λ (p : Port). p.desk) after_it.ports })
-    on_is e = rw e refl
+        on_is : after_it.cut ≡ false → runs_on after_it ≡ Some (record { core = after_it.core; desks = map (λ (p : Port). p.desk) after_it.ports })
+        on_is e = rw e refl
 
-    parts_asking : (x : ℕ) → asking_in (t ++ (after_it.entries ++ frames)) x ≡ asking_in (t ++ after_it.entries) x
-    parts_asking x =
-        ap (λ l. asking_in l x) (sym (append_assoc t after_it.entries frames))
-        ∙ (asking_more x (t ++ after_it.entries) frames ∙ far_asks x frames far (asking_in (t ++ after_it.entries) x))
+        parts_asking : (x : ℕ) → asking_in (t ++ (after_it.entries ++ frames)) x ≡ asking_in (t ++ after_it.entries) x
+        parts_asking x =
+            ap (λ l. asking_in l x) (sym (append_assoc t after_it.entries frames))
+            ∙ (asking_more x (t ++ after_it.entries) frames ∙ far_asks x frames far (asking_in (t ++ after_it.entries) x))
 
-    none : after_it.cut ≡ true → (x : ℕ) → Stands x t after_it
-        → (notice_in (t ++ after_it.entries) x ≡ None) × (asking_in (t ++ after_it.entries) x ≡ None)
-    none e x (inl a) = absurd (true≢false (sym e ∙ a.on))
-    none e x (inr a) = (
-      ap (λ l. notice_in l x) a.ends ∙ notice_more x a.front (entry.Cut 0 ∷ []),
-      ap (λ l. asking_in l x) a.ends ∙ asking_more x a.front (entry.Cut 0 ∷ []),
-    )
+        none : after_it.cut ≡ true → (x : ℕ) → Stands x t after_it
+            → (notice_in (t ++ after_it.entries) x ≡ None) × (asking_in (t ++ after_it.entries) x ≡ None)
+        none e x (inl a) = absurd (true≢false (sym e ∙ a.on))
+        none e x (inr a) = (
+          ap (λ l. notice_in l x) a.ends ∙ notice_more x a.front (entry.Cut 0 ∷ []),
+          ap (λ l. asking_in l x) a.ends ∙ asking_more x a.front (entry.Cut 0 ∷ []),
+        )
 
-    on : after_it.cut ≡ false → (x : ℕ) → Stands x t after_it → IsOn x t after_it
-    on e x (inl a) = a
-    on e x (inr a) = absurd (true≢false (sym a.off ∙ e))
-
-    go : (after_it.cut ≡ true) ⊎ (after_it.cut ≡ false) → IfReads (t ++ (after_it.entries ++ frames)) (runs_on after_it)
-    go (inl e) =
-        subst (IfReads (t ++ (after_it.entries ++ frames))) (sym (off_is e))
-        (λ x. let gone = none e x (stands x) in (parts x ∙ gone.0, parts_asking x ∙ gone.1))
-    go (inr e) = subst (IfReads (t ++ (after_it.entries ++ frames))) (sym (on_is e)) (record {
-      sorted = (on e 0 (stands 0)).sorted;
-      two = (on e 0 (stands 0)).two;
-      right = right_desks after_it.ports (on e 0 (stands 0)).right;
-      kept = λ x. subst (λ m. IsKeptNotice m (notice_at (map (λ (p : Port). p.desk) after_it.ports) x)) (sym (parts x))
-          (subst (IsKeptNotice (notice_in (t ++ after_it.entries) x)) (noticed_desks after_it.ports x) (on e x (stands x)).kept);
-    })
+        on : after_it.cut ≡ false → (x : ℕ) → Stands x t after_it → IsOn x t after_it
+        on e x (inl a) = a
+        on e x (inr a) = absurd (true≢false (sym a.off ∙ e))
 
 -- ## What comes
 
 module _ (t : List Entry) (w : NodeWorld) (orderly : IsOrderly w) (ups : NoticesAreUp w) (a : Reads t w) where
   near_reads : (h : ℕ) (comes : Comes) (i : LinkInput) → input_of (link_to w.sites h) comes ≡ Some i
       → Reads (t ++ (controller_does w h comes (steps (AtEnd h i))).1) (controller_does w h comes (steps (AtEnd h i))).0
-  near_reads h comes i input = by_node w.controller refl orderly.controller ups a.reads_so where
-    Fine : NodeWorld × List Entry → Type 0
-    Fine p = Reads (t ++ p.1) p.0
-
-    off_is : w.controller ≡ None → controller_does w h comes (steps (AtEnd h i)) ≡ (w, [])
-    off_is e = rw e refl
-
-    on_is : (r : Running) → w.controller ≡ Some r
-        → controller_does w h comes (steps (AtEnd h i)) ≡ after_controller w h comes (controller_work w r h comes (steps (AtEnd h i)))
-    on_is r e = rw e refl
-
-    by_node : (o : Option Running) → w.controller ≡ o → IfItRuns 0 (hosts_in w.sites) o → IfNoticedUp w.sites o → IfReads t o
-        → Fine (controller_does w h comes (steps (AtEnd h i)))
-    by_node None e has up old = subst Fine (sym (off_is e)) (nothing t w a)
-    by_node (Some r) e has up old = subst Fine (sym (on_is r e)) (record {
-      sites = good_map (link_after_controller h comes k)
-          (λ s b. record {
-            host = b.host;
-            node = b.node;
-            shut = here_shut s.link (Step (comes_to h comes s.host) (turns_at k s.host) (ending_of k)) b.shut;
-          }) w.sites a.sites;
-      reads_so = step_reads t w r has orderly.different up a.sites old w.memory.plan (λ n. near_end_in (link_to w.sites n) (comes_to h comes n))
-          (λ n. near_end_side (link_to w.sites n) (comes_to h comes n)) (entries_for h (arrival Controller (link_to w.sites h) comes))
-          (arrival_quiet Controller h (link_to w.sites h) comes) (AtEnd h i) (comes_outside (link_to w.sites h) comes i input)
-          (flat_map (λ (s : Site). frames_noted Controller s.host (wires_for s.link (comes_to h comes s.host)) k) w.sites)
-          (far_flat (λ (s : Site). frames_noted Controller s.host (wires_for s.link (comes_to h comes s.host)) k)
-          (λ s. frames_quiet Controller s.host (wires_for s.link (comes_to h comes s.host)) k) w.sites);
-    }) where
-      k : Work
-      k = controller_work w r h comes (steps (AtEnd h i))
+  near_reads h comes i input =
+      by_controller (λ p. Reads (t ++ p.1) p.0) w h comes (steps (AtEnd h i)) (nothing t w a)
+      (λ r e.
+      let k : Work = controller_work w r h comes (steps (AtEnd h i)) in
+      record {
+        sites = good_map (link_after_controller h comes k)
+            (λ s b. record {
+              host = b.host;
+              node = b.node;
+              shut = here_shut s.link (Step (comes_to h comes s.host) (turns_at k s.host) (ending_of k)) b.shut;
+            }) w.sites a.sites;
+        reads_so = step_reads t w r (subst (IfItRuns 0 (hosts_in w.sites)) e orderly.controller) orderly.different (subst (IfNoticedUp w.sites) e ups) a.sites
+            (subst (IfReads t) e a.reads_so) w.memory.plan (λ n. near_end_in (link_to w.sites n) (comes_to h comes n))
+            (λ n. near_end_side (link_to w.sites n) (comes_to h comes n)) (entries_for h (arrival Controller (link_to w.sites h) comes))
+            (arrival_quiet Controller h (link_to w.sites h) comes) (AtEnd h i) (comes_outside (link_to w.sites h) comes i input)
+            (flat_map (λ (s : Site). frames_noted Controller s.host (wires_for s.link (comes_to h comes s.host)) k) w.sites)
+            (far_flat (λ (s : Site). frames_noted Controller s.host (wires_for s.link (comes_to h comes s.host)) k)
+            (λ s. frames_quiet Controller s.host (wires_for s.link (comes_to h comes s.host)) k) w.sites);
+      })
 
   pub comes_reads : (e : End) (comes : Comes) → Reads (t ++ (comes_at w e comes).1) (comes_at w e comes).0
-  comes_reads e comes = by_side (cases_Bool e.at_host) where
-    Fine : NodeWorld × List Entry → Type 0
-    Fine p = Reads (t ++ p.1) p.0
-
-    seen : e.at_host ≡ false → seen_from e (link_to w.sites e.link) ≡ link_to w.sites e.link
-    seen b = rw b refl
-
-    none_is : input_of (seen_from e (link_to w.sites e.link)) comes ≡ None → comes_at w e comes ≡ (w, [])
-    none_is q = rw q refl
-
-    near_is : (i : LinkInput) → input_of (seen_from e (link_to w.sites e.link)) comes ≡ Some i → e.at_host ≡ false
-        → comes_at w e comes ≡ controller_does w e.link comes (steps (AtEnd e.link i))
-    near_is i q b = rw q (rw b refl)
-
-    go : e.at_host ≡ false → (o : Option LinkInput) → input_of (seen_from e (link_to w.sites e.link)) comes ≡ o → Fine (comes_at w e comes)
-    go b None q = subst Fine (sym (none_is q)) (nothing t w a)
-    go b (Some i) q = subst Fine (sym (near_is i q b)) (near_reads e.link comes i (ap (λ l. input_of l comes) (sym (seen b)) ∙ q))
-
-    by_side : (e.at_host ≡ true) ⊎ (e.at_host ≡ false) → Fine (comes_at w e comes)
-    by_side (inl b) = far_reads_so t w a e comes b
-    by_side (inr b) = go b (input_of (seen_from e (link_to w.sites e.link)) comes) refl
+  comes_reads e comes =
+      by_coming (λ p. Reads (t ++ p.1) p.0) w e comes (nothing t w a)
+      (λ i far q. host_reads t w a e.link comes (steps (AtEnd e.link i)) (λ k b. steps_far (AtEnd e.link i) k b)) (λ i near q. near_reads e.link comes i q)
 
   -- ## Time
 
@@ -254,12 +211,7 @@ module _ (t : List Entry) (w : NodeWorld) (orderly : IsOrderly w) (ups : Notices
   pub aged_side : (sites : List Site) (n : ℕ)
       → (link_to (map (λ (s : Site). record s { link = aged s.link }) sites) n).controller.side ≡ (link_to sites n).controller.side
   aged_side [] n = refl
-  aged_side (s ∷ sites) n = go (cases_Bool (eqb s.host n)) (aged_side sites n) where
-    go : (eqb s.host n ≡ true) ⊎ (eqb s.host n ≡ false)
-        → (link_to (map (λ (s : Site). record s { link = aged s.link }) sites) n).controller.side ≡ (link_to sites n).controller.side
-        → (link_to (map (λ (s : Site). record s { link = aged s.link }) (s ∷ sites)) n).controller.side ≡ (link_to (s ∷ sites) n).controller.side
-    go (inl is) later = rw is refl
-    go (inr off) later = rw off later
+  aged_side (s ∷ sites) n = by_test (eqb s.host n) (λ is. rw is refl) (λ off. rw off (aged_side sites n))
 
   ticked_shut : (l : Link) (late : Bool) (ts : List Turn) (ending : Ending) → IsShut l.controller.side
       → IsShut (ticked_so l late ts ending).controller.side
@@ -268,58 +220,34 @@ module _ (t : List Entry) (w : NodeWorld) (orderly : IsOrderly w) (ups : Notices
       (λ (m : Link). IsShut m.controller.side) (λ _. here_shut l (Step (AsksReset None) ts ending) b) (λ _. ticks_shut l ts ending b)
 
   near_ticks : Reads (t ++ ((all_aged w).1 ++ (controller_ticks (all_aged w).0).1)) (controller_ticks (all_aged w).0).0
-  near_ticks = by_node w.controller refl orderly.controller ups a.reads_so where
-    old : NodeWorld
-    old = (all_aged w).0
+  near_ticks =
+      by_controller_tick (λ p. Reads (t ++ ((all_aged w).1 ++ p.1)) p.0) old
+      (λ e. record {
+        sites = good_map site_unticked (λ s b. record { host = b.host; node = b.node; shut = ticks_shut s.link [] GoesOut b.shut }) old.sites aged_good;
+        reads_so = still_reads t (es ++ []) w.controller (far_hushed (es ++ []) (far-append es [] aged_far tt)) a.reads_so;
+      })
+      (λ r e.
+      let k : Work = near_tick old r in
+      let frames : List Entry = flat_map (λ (s : Site). frames_noted Controller s.host s.link k) old.sites in
+      record {
+        sites = good_map (site_ticked k)
+            (λ s b. record {
+              host = b.host;
+              node = b.node;
+              shut = ticked_shut s.link (is_late_at k s.host) (turns_at k s.host) (ending_of k) b.shut;
+            }) old.sites aged_good;
+        reads_so = subst (λ l. IfReads l (runs_on k)) (append_assoc t es (k.entries ++ frames))
+            (step_reads (t ++ es) w r (subst (IfItRuns 0 (hosts_in w.sites)) e orderly.controller) orderly.different (subst (IfNoticedUp w.sites) e ups) a.sites
+            (still_reads t es (Some r) (far_hushed es aged_far) (subst (IfReads t) e a.reads_so)) w.memory.plan
+            (λ h. (link_to old.sites h).controller) (λ n. aged_side w.sites n) [] tt TimePasses tt frames
+            (far_flat (λ (s : Site). frames_noted Controller s.host s.link k) (λ s. frames_quiet Controller s.host s.link k) old.sites));
+      })
+    where
+      old : NodeWorld
+      old = (all_aged w).0
 
-    es : List Entry
-    es = (all_aged w).1
-
-    Fine : NodeWorld × List Entry → Type 0
-    Fine p = Reads (t ++ (es ++ p.1)) p.0
-
-    alone : Site → Site
-    alone s = record s { link = ticks_at_controller s.link [] GoesOut }
-
-    off_of : (v : NodeWorld) → v.controller ≡ None → controller_ticks v ≡ (record v { sites = map alone v.sites }, [])
-    off_of v e = rw e refl
-
-    off_is : w.controller ≡ None → controller_ticks old ≡ (record old { sites = map alone old.sites }, [])
-    off_is e = off_of old e
-
-    k : Running → Work
-    k r = steps TimePasses (work_of r w.memory.plan (λ h. (link_to old.sites h).controller) [])
-
-    ticked : Running → Site → Site
-    ticked r s = record s { link = ticked_so s.link (is_late_at (k r) s.host) (turns_at (k r) s.host) (ending_of (k r)) }
-
-    frames : Running → List Entry
-    frames r = flat_map (λ (s : Site). frames_noted Controller s.host s.link (k r)) old.sites
-
-    on_is : (r : Running) → w.controller ≡ Some r → controller_ticks old
-        ≡ (
-          record { memory = after_planned (k r).writes w.memory; controller = runs_on (k r); sites = map (ticked r) old.sites },
-          (k r).entries ++ frames r,
-        )
-    on_is r e = rw e refl
-
-    by_node : (o : Option Running) → w.controller ≡ o → IfItRuns 0 (hosts_in w.sites) o → IfNoticedUp w.sites o → IfReads t o → Fine (controller_ticks old)
-    by_node None e has up reads_none = subst Fine (sym (off_is e)) (record {
-      sites = good_map alone (λ s b. record { host = b.host; node = b.node; shut = ticks_shut s.link [] GoesOut b.shut }) old.sites aged_good;
-      reads_so = still_reads t (es ++ []) w.controller (far_hushed (es ++ []) (far-append es [] aged_far tt)) a.reads_so;
-    })
-    by_node (Some r) e has up reads_some = subst Fine (sym (on_is r e)) (record {
-      sites = good_map (ticked r)
-          (λ s b. record {
-            host = b.host;
-            node = b.node;
-            shut = ticked_shut s.link (is_late_at (k r) s.host) (turns_at (k r) s.host) (ending_of (k r)) b.shut;
-          }) old.sites aged_good;
-      reads_so = subst (λ l. IfReads l (runs_on (k r))) (append_assoc t es ((k r).entries ++ frames r))
-          (step_reads (t ++ es) w r has orderly.different up a.sites (still_reads t es (Some r) (far_hushed es aged_far) reads_some) w.memory.plan
-          (λ h. (link_to old.sites h).controller) (λ n. aged_side w.sites n) [] tt TimePasses tt (frames r)
-          (far_flat (λ (s : Site). frames_noted Controller s.host s.link (k r)) (λ s. frames_quiet Controller s.host s.link (k r)) old.sites));
-    })
+      es : List Entry
+      es = (all_aged w).1
 
   pub ticks_reads : Reads (t ++ (world_ticks w).1) (world_ticks w).0
   ticks_reads =

@@ -1,11 +1,11 @@
 -- What stays of the hosts of a world and of the links to them, and what is read of the controller's notices as a host acts.
-use Rattle.std.proofs.Common.{◌≡◌, ◌⊎◌, inl, inr, ℕ, ◌&&◌, Bool, true, false, eqb, List, [], ◌∷◌, ◌++◌, map, sym, refl, ◌∙◌, subst, append-nil}
+use Rattle.std.proofs.Common.{◌≡◌, ℕ, ◌&&◌, Bool, true, false, eqb, List, [], ◌∷◌, ◌++◌, map, sym, ◌∙◌, subst, append-nil}
 use Rattle.std.specs.Prelude.{Option, Some, None}
 use Rattle.std.specs.List.{AllByRecursion}
-use Rattle.std.proofs.lemmas.Bool.{cases_Bool, cond_both, true≢false}
+use Rattle.std.proofs.lemmas.Bool.{cond_both, true≢false}
 use Rattle.trace_model.specs.declared.entry.Entry.{Entry}
 use Rattle.trace_model.specs.declared.line.End.{End}
-use Rattle.link_laws.specs.machine.Machine.{Message, LinkInput}
+use Rattle.link_laws.specs.machine.Machine.{Message}
 use Rattle.link_laws.specs.messages.Links.{Link, NumberedEnd, Comes, Ending, EndEvent, exchanged, happens, ticks_at_controller}
 use Rattle.link_laws.specs.messages.Links.Ending.{GoesOut}
 use Rattle.link_laws.specs.messages.Links.Comes.{NextFrame, NoInput}
@@ -14,18 +14,18 @@ use Rattle.link_laws.specs.messages.Links.LinkEvent.{AtHost}
 use Rattle.link_laws.specs.entries.Entries.{End as Side, ending_entries}
 use Rattle.link_laws.specs.entries.Entries.End.{Host}
 use Rattle.history.specs.Steps.{entries_for}
-use Rattle.history.specs.Follows.{seen_from}
-use Rattle.node_machine.specs.Parts.{Running, Port, Work, Deed}
+use Rattle.node_machine.specs.Parts.{Running, Work, Deed}
 use Rattle.node_machine.specs.Parts.Deed.{Sends, Orders}
 use Rattle.node_machine.specs.Controller.{is_command_message}
 use Rattle.node_machine.specs.Carrying.{changed_if, port_at}
 use Rattle.node_machine.specs.Node.{steps, begins_with}
 use Rattle.node_machine.specs.Node.NodeInput.{AtEnd, TimePasses}
-use Rattle.node_machine.specs.world.World.{NodeWorld, Site, site_at, with_site, link_to, ending_of, runs_on, turns_at, input_of, near_end_in, arrival}
+use Rattle.node_machine.specs.world.World.{NodeWorld, Site, site_at, with_site, link_to, ending_of, runs_on, turns_at, near_end_in, arrival}
 use Rattle.node_machine.specs.world.World.{wires_for}
 use Rattle.node_machine.specs.world.World.{work_of, frames_noted, host_work, after_host, host_does, host_ticks, hosts_tick, comes_at, sending, beginning}
 use Rattle.node_machine.specs.world.NodeFilters.{notice_in, asking_in}
 use Rattle.node_laws.proofs.Cases.{by_option, by_list}
+use Rattle.node_laws.proofs.Cases.{by_test}
 use Rattle.node_laws.proofs.links.Ends.{here_host}
 use Rattle.link_laws.proofs.entries.Together.{ticks_host as tick_host}
 use Rattle.node_laws.proofs.readings.Sites.{ending_quiet}
@@ -34,6 +34,7 @@ use Rattle.node_laws.proofs.notices.Reading.{reads, notice_more}
 use Rattle.node_laws.proofs.notices.Own.{AreOwn}
 use Rattle.node_laws.proofs.notices.Far.{AreFar, far-append, far_reads, far_asks, asks, asking_more, quiet_far, IsFarWork, all_do, steps_far}
 use Rattle.node_laws.specs.notices.Worlds.{IfHostNode, IfReads, IsGoodSite, IsShut}
+use Rattle.node_machine.proofs.world.Cases.{by_coming, by_host, by_host_tick, host_tick}
 
 abbrev pub AreGood : List Site → Type 0
 AreGood sites = AllByRecursion IsGoodSite sites
@@ -107,16 +108,7 @@ arrival_quiet who h l _ = tt
 -- ## A host acts
 
 runs_far : (k : Work) → IsFarWork k → IfHostNode (runs_on k)
-runs_far k a = go (cases_Bool k.cut) where
-  off_is : k.cut ≡ true → runs_on k ≡ None
-  off_is e = rw e refl
-
-  on_is : k.cut ≡ false → runs_on k ≡ Some (record { core = k.core; desks = map (λ (p : Port). p.desk) k.ports })
-  on_is e = rw e refl
-
-  go : (k.cut ≡ true) ⊎ (k.cut ≡ false) → IfHostNode (runs_on k)
-  go (inl e) = subst IfHostNode (sym (off_is e)) tt
-  go (inr e) = subst IfHostNode (sym (on_is e)) a.number
+runs_far k a = by_test k.cut (λ e. rw e tt) (λ e. rw e a.number)
 
 module _ (t : List Entry) (w : NodeWorld) (a : Reads t w) where
   pub nothing : Reads (t ++ []) w
@@ -124,59 +116,28 @@ module _ (t : List Entry) (w : NodeWorld) (a : Reads t w) where
 
   pub host_reads : (h : ℕ) (comes : Comes) (f : Work → Work) → ((k : Work) → IsFarWork k → IsFarWork (f k))
       → Reads (t ++ (host_does w h comes f).1) (host_does w h comes f).0
-  host_reads h comes f keeps = by_option (site_at w.sites h)
-      (λ e. subst Fine (sym (none_is e)) nothing)
-      (λ s e. by_node s e (good_at w.sites h s a.sites e) s.node refl) where
-        Fine : NodeWorld × List Entry → Type 0
-        Fine p = Reads (t ++ p.1) p.0
-
-        none_is : site_at w.sites h ≡ None → host_does w h comes f ≡ (w, [])
-        none_is e = rw e refl
-
-        off_is : (s : Site) → site_at w.sites h ≡ Some s → s.node ≡ None → host_does w h comes f ≡ (w, [])
-        off_is s here e = rw here (rw e refl)
-
-        on_is : (s : Site) (r : Running) → site_at w.sites h ≡ Some s → s.node ≡ Some r → host_does w h comes f
-            ≡ (
-              record w { sites = with_site h (after_host comes (host_work s r comes f)) w.sites },
-              (host_work s r comes f).entries ++ frames_noted Host h (wires_for (exchanged s.link) comes) (host_work s r comes f),
-            )
-        on_is s r here e = rw here (rw e refl)
-
-        by_node : (s : Site) → site_at w.sites h ≡ Some s → IsGoodSite s → (o : Option Running) → s.node ≡ o → Fine (host_does w h comes f)
-        by_node s here good None e = subst Fine (sym (off_is s here e)) nothing
-        by_node s here good (Some r) e = subst Fine (sym (on_is s r here e)) (record {
-          sites = good_with h (after_host comes k)
-              (λ z b. record { host = b.host; node = runs_far k far; shut = far_shut z.link (Step comes (turns_at k z.host) (ending_of k)) b.shut })
-              w.sites a.sites;
-          reads_so = still_reads t (k.entries ++ frames) w.controller
-              (far_hushed (k.entries ++ frames) (far-append k.entries frames far.far (frames_quiet Host h (wires_for (exchanged s.link) comes) k))) a.reads_so;
-        }) where
-          k : Work
-          k = host_work s r comes f
-
-          frames : List Entry
-          frames = frames_noted Host h (wires_for (exchanged s.link) comes) k
-
-          far : IsFarWork k
-          far =
-              keeps (work_of r s.memory.plan (λ n. near_end_in (exchanged s.link) comes) (entries_for s.host (arrival Host (exchanged s.link) comes)))
-              (record { number = subst IfHostNode e good.node; far = arrival_quiet Host s.host (exchanged s.link) comes })
+  host_reads h comes f keeps =
+      by_host (λ p. Reads (t ++ p.1) p.0) w h comes f nothing
+      (λ s r here e.
+      let good : IsGoodSite s = good_at w.sites h s a.sites here in
+      let k : Work = host_work s r comes f in
+      let frames : List Entry = frames_noted Host h (wires_for (exchanged s.link) comes) k in
+      let far : IsFarWork k =
+      keeps (work_of r s.memory.plan (λ n. near_end_in (exchanged s.link) comes) (entries_for s.host (arrival Host (exchanged s.link) comes)))
+      (record { number = subst IfHostNode e good.node; far = arrival_quiet Host s.host (exchanged s.link) comes }) in
+      record {
+        sites = good_with h (after_host comes k)
+            (λ z b. record { host = b.host; node = runs_far k far; shut = far_shut z.link (Step comes (turns_at k z.host) (ending_of k)) b.shut })
+            w.sites a.sites;
+        reads_so = still_reads t (k.entries ++ frames) w.controller
+            (far_hushed (k.entries ++ frames) (far-append k.entries frames far.far (frames_quiet Host h (wires_for (exchanged s.link) comes) k))) a.reads_so;
+      })
 
   -- something comes to the end of a host
   pub far_reads_so : (e : End) (comes : Comes) → e.at_host ≡ true → Reads (t ++ (comes_at w e comes).1) (comes_at w e comes).0
-  far_reads_so e comes far = by_option (input_of (seen_from e (link_to w.sites e.link)) comes)
-      (λ q. subst Fine (sym (none_is q)) nothing)
-      (λ i q. subst Fine (sym (far_is i q)) (host_reads e.link comes (steps (AtEnd e.link i)) (λ k b. steps_far (AtEnd e.link i) k b))) where
-        Fine : NodeWorld × List Entry → Type 0
-        Fine p = Reads (t ++ p.1) p.0
-
-        none_is : input_of (seen_from e (link_to w.sites e.link)) comes ≡ None → comes_at w e comes ≡ (w, [])
-        none_is q = rw q refl
-
-        far_is : (i : LinkInput) → input_of (seen_from e (link_to w.sites e.link)) comes ≡ Some i
-            → comes_at w e comes ≡ host_does w e.link comes (steps (AtEnd e.link i))
-        far_is i q = rw q (rw far refl)
+  far_reads_so e comes far =
+      by_coming (λ p. Reads (t ++ p.1) p.0) w e comes nothing (λ i at q. host_reads e.link comes (steps (AtEnd e.link i)) (λ k b. steps_far (AtEnd e.link i) k b))
+      (λ i at q. absurd (true≢false (sym far ∙ at)))
 
   -- a host begins by deeds of its own
   pub begins_reads : (h : ℕ) (deeds : List Deed) → AreOwn deeds
@@ -192,38 +153,15 @@ beginning_own identity pipes = (tt, (tt, tt))
 -- ## Hosts have their ticks
 
 one_tick : (s : Site) → IsGoodSite s → IsGoodSite (host_ticks s).0 × AreFar (host_ticks s).1
-one_tick s good = by_node s.node refl good.node where
-  k : Running → Work
-  k r = steps TimePasses (work_of r s.memory.plan (λ h. s.link.host) [])
-
-  off_is : s.node ≡ None → host_ticks s ≡ (record s { link = exchanged (ticks_at_controller (exchanged s.link) [] GoesOut) }, [])
-  off_is e = rw e refl
-
-  on_is : (r : Running) → s.node ≡ Some r → host_ticks s
-      ≡ (
-        record s {
-          link = exchanged (ticks_at_controller (exchanged s.link) (turns_at (k r) s.host) (ending_of (k r)));
-          memory = Rattle.journal_laws.specs.Planned.after_planned (k r).writes s.memory;
-          node = runs_on (k r);
-        },
-        (k r).entries ++ frames_noted Host s.host (exchanged s.link) (k r),
-      )
-  on_is r e = rw e refl
-
-  by_node : (o : Option Running) → s.node ≡ o → IfHostNode o → IsGoodSite (host_ticks s).0 × AreFar (host_ticks s).1
-  by_node None e node =
-      subst (λ (p : Site × List Entry). IsGoodSite p.0 × AreFar p.1) (sym (off_is e))
-      (record { host = good.host; node = subst IfHostNode (sym e) tt; shut = far_tick_shut s.link [] GoesOut good.shut }, tt)
-  by_node (Some r) e node =
-      let far : IsFarWork (k r) = steps_far TimePasses (work_of r s.memory.plan (λ h. s.link.host) []) (record { number = node; far = tt }) in
-      subst (λ (p : Site × List Entry). IsGoodSite p.0 × AreFar p.1) (sym (on_is r e)) (
-        record {
-          host = good.host;
-          node = runs_far (k r) far;
-          shut = far_tick_shut s.link (turns_at (k r) s.host) (ending_of (k r)) good.shut;
-        },
-        far-append (k r).entries (frames_noted Host s.host (exchanged s.link) (k r)) far.far (frames_quiet Host s.host (exchanged s.link) (k r)),
-      )
+one_tick s good =
+    by_host_tick (λ p. IsGoodSite p.0 × AreFar p.1) s
+    (λ e. (record { host = good.host; node = good.node; shut = far_tick_shut s.link [] GoesOut good.shut }, tt))
+    (λ r e.
+    let k : Work = host_tick s r in
+    let far : IsFarWork k = steps_far TimePasses (work_of r s.memory.plan (λ h. s.link.host) []) (record { number = subst IfHostNode e good.node; far = tt }) in (
+      record { host = good.host; node = runs_far k far; shut = far_tick_shut s.link (turns_at k s.host) (ending_of k) good.shut },
+      far-append k.entries (frames_noted Host s.host (exchanged s.link) k) far.far (frames_quiet Host s.host (exchanged s.link) k),
+    ))
 
 pub all_tick : (sites : List Site) → AreGood sites → AreGood (hosts_tick sites).0 × AreFar (hosts_tick sites).1
 all_tick [] a = (tt, tt)

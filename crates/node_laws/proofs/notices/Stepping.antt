@@ -1,9 +1,9 @@
 -- A controller has a step: its unanswered notice to a host stays the one that is read.
-use Rattle.std.proofs.Common.{◌≡◌, ◌⊎◌, inl, inr, ℕ, ◌&&◌, ◌||◌, Bool, true, false, not, cond, eqb, List, [], ◌∷◌, map, sym, refl, ap, ◌∙◌, subst}
+use Rattle.std.proofs.Common.{◌≡◌, ℕ, ◌&&◌, ◌||◌, Bool, true, false, not, cond, eqb, List, [], ◌∷◌, map, sym, refl, ap, ◌∙◌, subst}
 use Rattle.std.specs.Prelude.{Option, Some, None, is_some, nat_le}
 use Rattle.std.specs.List.{AllByRecursion, flat_map}
 use Rattle.std.specs.Option.{option_map_or}
-use Rattle.std.proofs.lemmas.Bool.{cases_Bool, eqb-true, eqb-false, ne_eqb, eq-eqb, true≢false, and_from, le-leb}
+use Rattle.std.proofs.lemmas.Bool.{eqb-true, eqb-false, ne_eqb, eq-eqb, true≢false, and_from, le-leb}
 use mathlib.Core.Bool.{or-false, or-true}
 use Rattle.trace_model.specs.Lines.{IsHost}
 use Rattle.trace_model.specs.declared.entry.Entry.{Entry}
@@ -90,7 +90,9 @@ module _ (x : ℕ) where
       → reads x (flat_map f ports) r ≡ option_map_or (λ p. reads x (f p) r) (port_at ports x) r
   flat_reads f silent [] d r = refl
   flat_reads f silent (p ∷ ports) d r =
-      reads_append x (f p) (flat_map f ports) r ∙ go (cases_Bool (eqb p.desk.host x)) (flat_reads f silent ports d.1) where
+      reads_append x (f p) (flat_map f ports) r ∙ by_test (eqb p.desk.host x)
+      (λ e. rw e (others ports d.0 e (reads x (f p) r)))
+      (λ e. rw e (ap (reads x (flat_map f ports)) (silent p r e) ∙ (flat_reads f silent ports d.1) r)) where
         others : (ports : List Port) → AllByRecursion (λ (k : ℕ). eqb k p.desk.host ≡ false) (map (λ (p : Port). p.desk.host) ports)
             → eqb p.desk.host x ≡ true → (r : Option (List ℕ)) → reads x (flat_map f ports) r ≡ r
         others [] a e r = refl
@@ -98,12 +100,6 @@ module _ (x : ℕ) where
             reads_append x (f q) (flat_map f ports) r
             ∙ (ap (reads x (flat_map f ports)) (silent q r (ne_eqb q.desk.host x (λ s. eqb-false q.desk.host p.desk.host a.0
             (s ∙ sym (eqb-true p.desk.host x e))))) ∙ others ports a.1 e r)
-
-        go : (eqb p.desk.host x ≡ true) ⊎ (eqb p.desk.host x ≡ false)
-            → ((r : Option (List ℕ)) → reads x (flat_map f ports) r ≡ option_map_or (λ p. reads x (f p) r) (port_at ports x) r)
-            → reads x (flat_map f ports) (reads x (f p) r) ≡ option_map_or (λ p. reads x (f p) r) (port_at (p ∷ ports) x) r
-        go (inl e) later = rw e (others ports d.0 e (reads x (f p) r))
-        go (inr e) later = rw e (ap (reads x (flat_map f ports)) (silent p r e) ∙ later r)
 
   pub told_elsewhere : (core : Core) → own_side core ≡ Controller → (p : Port) (o : Option LinkInput) (r : Option (List ℕ)) → eqb p.desk.host x ≡ false
       → reads x (told_at core p o) r ≡ r
@@ -185,37 +181,34 @@ reset_ends e shut up = by_test (is_open e.role) (λ o. rw (o, up) refl) (λ o. l
 
 pub late_is : (core : Core) (r : Option (List ℕ)) (q : Port) → q.late ≡ false → IsCome r q
     → IsCome (cond (is_late q) (cond (is_some (ended_by q.side (Reset None))) None r) r) (reset_late q)
-late_is core r q fresh a = go (is_late q) refl where
-  both : (c d : Bool) → (c && d) ≡ true → (c ≡ true) × (d ≡ true)
-  both true d e = (refl, e)
-  both false d e = absurd (true≢false (sym e))
+late_is core r q fresh a = by_test (is_late q)
+    (λ e. let parts = both (option_map_or (λ (n : Notice). nat_le 100 n.age) q.desk.notice false) (not q.ended) e in
+    let not_over : is_over q ≡ false = ap (λ b. b || q.late) (not_of q.ended parts.1) ∙ fresh in
+    let ends : is_some (ended_by q.side (Reset None)) ≡ true = reset_ends q.side a.shut (a.up not_over (some_of q.desk.notice parts.0)) in
+    let reset : Port = record q { side = after_input q.side (Reset None); late = true } in
+    let over : is_over reset ≡ true = or-true q.ended in
+    let here : IsCome None reset = record {
+      kept = λ n. absurd (true≢false (sym over ∙ n));
+      gone = λ y. refl;
+      up = λ n. absurd (true≢false (sym over ∙ n));
+      shut = input_shut q.side (Reset None) a.shut;
+    } in
+    let is : reset_late q ≡ reset = rw e refl in
+    let read : cond (is_late q) (cond (is_some (ended_by q.side (Reset None))) None r) r ≡ None =
+    ap (λ b. cond b (cond (is_some (ended_by q.side (Reset None))) None r) r) e ∙ ap (λ b. cond b None r) ends in
+    subst (λ z. IsCome z (reset_late q)) (sym read) (subst (IsCome None) (sym is) here))
+    (λ e. rw e a) where
+      both : (c d : Bool) → (c && d) ≡ true → (c ≡ true) × (d ≡ true)
+      both true d e = (refl, e)
+      both false d e = absurd (true≢false (sym e))
 
-  some_of : (o : Option Notice) → option_map_or (λ (n : Notice). nat_le 100 n.age) o false ≡ true → is_some o ≡ true
-  some_of None e = e
-  some_of (Some n) e = refl
+      some_of : (o : Option Notice) → option_map_or (λ (n : Notice). nat_le 100 n.age) o false ≡ true → is_some o ≡ true
+      some_of None e = e
+      some_of (Some n) e = refl
 
-  not_of : (b : Bool) → not b ≡ true → b ≡ false
-  not_of true e = sym e
-  not_of false e = refl
-
-  go : (b : Bool) → is_late q ≡ b → IsCome (cond (is_late q) (cond (is_some (ended_by q.side (Reset None))) None r) r) (reset_late q)
-  go false e = rw e a
-  go true e =
-      let parts = both (option_map_or (λ (n : Notice). nat_le 100 n.age) q.desk.notice false) (not q.ended) e in
-      let not_over : is_over q ≡ false = ap (λ b. b || q.late) (not_of q.ended parts.1) ∙ fresh in
-      let ends : is_some (ended_by q.side (Reset None)) ≡ true = reset_ends q.side a.shut (a.up not_over (some_of q.desk.notice parts.0)) in
-      let reset : Port = record q { side = after_input q.side (Reset None); late = true } in
-      let over : is_over reset ≡ true = or-true q.ended in
-      let here : IsCome None reset = record {
-        kept = λ n. absurd (true≢false (sym over ∙ n));
-        gone = λ y. refl;
-        up = λ n. absurd (true≢false (sym over ∙ n));
-        shut = input_shut q.side (Reset None) a.shut;
-      } in
-      let is : reset_late q ≡ reset = rw e refl in
-      let read : cond (is_late q) (cond (is_some (ended_by q.side (Reset None))) None r) r ≡ None =
-      ap (λ b. cond b (cond (is_some (ended_by q.side (Reset None))) None r) r) e ∙ ap (λ b. cond b None r) ends in
-      subst (λ z. IsCome z (reset_late q)) (sym read) (subst (IsCome None) (sym is) here)
+      not_of : (b : Bool) → not b ≡ true → b ≡ false
+      not_of true e = sym e
+      not_of false e = refl
 
 pub forgets_is : (ports : List Port) (r : Option (List ℕ)) (q : Port) → IsCome r q → IsCome r (forgets ports q)
 forgets_is ports r q a = go (is_forgotten ports (asked_at q)) refl where
@@ -236,23 +229,17 @@ forgets_is ports r q a = go (is_forgotten ports (asked_at q)) refl where
   go true e = by_notice q.desk.notice refl where
     by_notice : (o : Option Notice) → q.desk.notice ≡ o → IsCome r (forgets ports q)
     by_notice None n = let z : false ≡ true = rw n at e in absurd (true≢false (sym z))
-    by_notice (Some n) is = by_creation (creation_in (Some n)) refl where
-      forgot : Port
-      forgot = record q { desk = record q.desk { notice = Some (record n { about = Forgotten }) } }
-
-      same : forgets ports q ≡ forgot
-      same = rw (e, is) refl
-
-      by_creation : (o : Option Creation) → creation_in (Some n) ≡ o → IsCome r (forgets ports q)
-      by_creation None c =
-          let none : asked_at q ≡ None = ap creation_in is ∙ c in
-          let z : false ≡ true = ap (is_forgotten ports) (sym none) ∙ e in absurd (true≢false (sym z))
-      by_creation (Some c) z = subst (IsCome r) (sym same) (record {
-        kept = λ k. about r n c z (subst (IsKeptNotice r) is (a.kept k));
-        gone = a.gone;
-        up = λ k some. a.up k (ap (λ (o : Option Notice). is_some o) is);
-        shut = a.shut;
-      })
+    by_notice (Some n) is = by_option (creation_in (Some n))
+        (λ c. let none : asked_at q ≡ None = ap creation_in is ∙ c in
+        let z : false ≡ true = ap (is_forgotten ports) (sym none) ∙ e in absurd (true≢false (sym z)))
+        (λ c z. rw (e, is) (record {
+          kept = λ k. about r n c z (subst (IsKeptNotice r) is (a.kept k));
+          gone = a.gone;
+          up = λ k some. a.up k (ap (λ (o : Option Notice). is_some o) is);
+          shut = a.shut;
+        })) where
+          forgot : Port
+          forgot = record q { desk = record q.desk { notice = Some (record n { about = Forgotten }) } }
 
 -- an end as the node's turns begin
 pub record IsReady (r : Option (List ℕ)) (q : Port) : Type 0 where

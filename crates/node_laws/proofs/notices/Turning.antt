@@ -14,14 +14,15 @@ use Rattle.link_laws.specs.machine.Machine.{Message, give_refusal, spare, need, 
 use Rattle.link_laws.specs.machine.Machine.Turn.{FetchMessage, Hold}
 use Rattle.node_machine.specs.Parts.{Notice, Port, Work, Deed}
 use Rattle.node_machine.specs.Parts.Deed.{Commits, Sends, SaysOk, Asks, Releases, Tells, IsAnswered, Drops, SetsErrors}
-use Rattle.node_machine.specs.Carrying.{noting, unless_cut, port_at, changed_if, with_port, with_desk, after_turn, turn_at, end_of_node, done, all_done, needs}
+use Rattle.node_machine.specs.Carrying.{noting, port_at, changed_if, with_port, with_desk, after_turn, turn_at, end_of_node, done, all_done, needs}
 use Rattle.node_machine.specs.Carrying.{lack}
 use Rattle.node_machine.specs.Controller.{has_link, controller_deeds, view_of}
-use Rattle.node_machine.specs.Turns.{deeds_of, handles, holds_back, lets_go, have_turns, goes_through_ends, passes}
+use Rattle.node_machine.specs.Turns.{handles, holds_back, lets_go, have_turns, goes_through_ends, passes}
 use Rattle.node_machine.specs.world.World.{end_c}
 use Rattle.node_machine.specs.world.NodeFilters.{is_response}
 use Rattle.node_laws.specs.links.Notices.{AllReach}
 use Rattle.node_laws.proofs.Cases.{by_test}
+use Rattle.node_laws.proofs.Cases.{by_option}
 use Rattle.node_laws.proofs.links.Noticing.{UpAt, at_all, at_host}
 use Rattle.node_laws.proofs.links.Reaching.{controller_reach}
 use Rattle.node_laws.proofs.readings.Noticed.{up_is}
@@ -202,31 +203,29 @@ module _ (x : ℕ) (before : List Entry) (k : ℕ) where
       still
     where
       begun : Holds x before IsKeptNotice (fetched m w)
-      begun = by (eqb k x && answers x k m) refl where
-        by : (b : Bool) → (eqb k x && answers x k m) ≡ b → On (fetched m w)
-        by false e = fetched_holds IsKeptNotice m w (λ r n kept. subst (λ c. IsKeptNotice (cond c None r) n) (sym e) kept) a
-        by true e =
-            let nothing : noticed w.ports x ≡ None = leaves e in
-            let gone : read_in x before w ≡ None = kept_none (read_in x before w) (noticed w.ports x) nothing a.kept in
-            let K : Option (List ℕ) → Option Notice → Type 0 = λ r n. (r ≡ None) × (n ≡ None) in
-            let none_kept : (r : Option (List ℕ)) (n : Option Notice) → (r ≡ None) × (n ≡ None) → IsKeptNotice r n =
-            λ r n b. subst (λ z. IsKeptNotice z n) (sym b.0) (subst (λ z. IsKeptNotice None z) (sym b.1) tt) in
-            let noted : Work = noting (entry.Turn (end_of_node w.core k) m.0 m.1 ∷ []) w in
-            desks x before IsKeptNotice k (λ d. record d { holds = false }) (turn_at k FetchMessage noted) (λ d. refl) (λ d. refl)
-            (turns x before IsKeptNotice k FetchMessage noted (λ p r. refl)
-            (notes x before K IsKeptNotice (entry.Turn (end_of_node w.core k) m.0 m.1 ∷ []) w
-            (λ r n b. none_kept (reads x (entry.Turn (end_of_node w.core k) m.0 m.1 ∷ []) r) n
-            (turn_read w m a.node r ∙ (ap (λ c. cond c None r) e), b.1))
-            (record {
-              on = a.on;
-              node = a.node;
-              sorted = a.sorted;
-              two = a.two;
-              hosts = a.hosts;
-              right = a.right;
-              up = a.up;
-              kept = (gone, nothing);
-            })))
+      begun = by_test (eqb k x && answers x k m)
+          (λ e. let nothing : noticed w.ports x ≡ None = leaves e in
+          let gone : read_in x before w ≡ None = kept_none (read_in x before w) (noticed w.ports x) nothing a.kept in
+          let K : Option (List ℕ) → Option Notice → Type 0 = λ r n. (r ≡ None) × (n ≡ None) in
+          let none_kept : (r : Option (List ℕ)) (n : Option Notice) → (r ≡ None) × (n ≡ None) → IsKeptNotice r n =
+          λ r n b. subst (λ z. IsKeptNotice z n) (sym b.0) (subst (λ z. IsKeptNotice None z) (sym b.1) tt) in
+          let noted : Work = noting (entry.Turn (end_of_node w.core k) m.0 m.1 ∷ []) w in
+          desks x before IsKeptNotice k (λ d. record d { holds = false }) (turn_at k FetchMessage noted) (λ d. refl) (λ d. refl)
+          (turns x before IsKeptNotice k FetchMessage noted (λ p r. refl)
+          (notes x before K IsKeptNotice (entry.Turn (end_of_node w.core k) m.0 m.1 ∷ []) w
+          (λ r n b. none_kept (reads x (entry.Turn (end_of_node w.core k) m.0 m.1 ∷ []) r) n
+          (turn_read w m a.node r ∙ (ap (λ c. cond c None r) e), b.1))
+          (record {
+            on = a.on;
+            node = a.node;
+            sorted = a.sorted;
+            two = a.two;
+            hosts = a.hosts;
+            right = a.right;
+            up = a.up;
+            kept = (gone, nothing);
+          }))))
+          (λ e. fetched_holds IsKeptNotice m w (λ r n kept. subst (λ c. IsKeptNotice (cond c None r) n) (sym e) kept) a)
 
       still : On (fetched m w)
       still = begun
@@ -276,23 +275,14 @@ module _ (x : ℕ) (before : List Entry) (k : ℕ) where
 
   pub have_stand : (messages : List Message) (w : Work) → IsHost k → On w → Fine (have_turns k messages w)
   have_stand [] w host a = inl (lets_stand w a)
-  have_stand (m ∷ messages) w host a = subst Fine (sym is) (go (lack w.ports (needs k deeds)) refl (λ v b. have_stand messages v host b)) where
-    deeds : List Deed
-    deeds = controller_deeds (view_of w.core w.ports) k m
-
-    by : List Deed → Option (ℕ × ℕ) → Work
-    by d None = unless_cut (have_turns k messages) (handles k m d w)
-    by d (Some short) = holds_back k short w
-
-    deeds_are : deeds_of w.core w.ports k m ≡ deeds
-    deeds_are = let zero : eqb w.core.node 0 ≡ true = eq-eqb w.core.node 0 a.node in rw zero refl
-
-    is : have_turns k (m ∷ messages) w ≡ by deeds (lack w.ports (needs k deeds))
-    is = ap (λ d. by d (lack w.ports (needs k d))) deeds_are
-
-    go : (o : Option (ℕ × ℕ)) → lack w.ports (needs k deeds) ≡ o → ((v : Work) → On v → Fine (have_turns k messages v)) → Fine (by deeds o)
-    go None e later = then x before (have_turns k messages) (handles k m deeds w) (handled_stand m w host a e) (λ b. later (handles k m deeds w) b)
-    go (Some short) e later = inl (holds_stand short w a)
+  have_stand (m ∷ messages) w host a =
+      let zero : eqb w.core.node 0 ≡ true = eq-eqb w.core.node 0 a.node in
+      by_option (lack w.ports (needs k deeds))
+      (λ e. rw (zero, e) (then x before (have_turns k messages) (handles k m deeds w) (handled_stand m w host a e)
+      (λ b. have_stand messages (handles k m deeds w) host b)))
+      (λ short e. rw (zero, e) (inl (holds_stand short w a))) where
+        deeds : List Deed
+        deeds = controller_deeds (view_of w.core w.ports) k m
 
 module _ (x : ℕ) (before : List Entry) where
   ends_stand : (hosts : List ℕ) (w : Work) → AllByRecursion IsHost hosts → IsOn x before w → Stands x before (goes_through_ends hosts w)

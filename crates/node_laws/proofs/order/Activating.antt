@@ -115,16 +115,13 @@ module _ (w : NodeWorld) (h sync : ℕ) (hosts : (s : Site) → site_at w.sites 
       }
 
   host_unready : AreAllUnready (host_does w h (Starts sync) begins).0
-  host_unready = by_option (site_at w.sites h)
-      (λ e. subst (λ (z : NodeWorld × List Entry). AreAllUnready z.0) (sym (none_is e)) (λ v found. let is : None ≡ Some v = sym e ∙ found in absurd (cc is)))
-      (λ s e. runs s e s.node refl)
+  host_unready = by_option (site_at w.sites h) (λ e. rw e (λ v found. absurd (cc found)))
+      (λ s there. by_option s.node
+      (λ n. rw (there, n) (λ v found.
+      let one : s ≡ v = cc in
+      let S : Site → Type 0 = λ y. AreUnready y.link in subst S one (off_unready s there n)))
+      (λ r n. rw (there, n) (on_so s r there)))
     where
-      none_is : site_at w.sites h ≡ None → host_does w h (Starts sync) begins ≡ (w, [])
-      none_is e = rw e refl
-
-      off_is : (s : Site) → site_at w.sites h ≡ Some s → s.node ≡ None → host_does w h (Starts sync) begins ≡ (w, [])
-      off_is s e n = rw (e, n) refl
-
       after_site : Site → Running → Site → Site
       after_site s r = after_host (Starts sync) (host_work s r (Starts sync) begins)
 
@@ -133,10 +130,6 @@ module _ (w : NodeWorld) (h sync : ℕ) (hosts : (s : Site) → site_at w.sites 
 
       keeps : (s : Site) (r : Running) (x : Site) → (changed s r x).host ≡ x.host
       keeps s r x = by_test (x.host == h) (λ q. rw q refl) (λ q. rw q refl)
-
-      on_is : (s : Site) (r : Running) → site_at w.sites h ≡ Some s → s.node ≡ Some r
-          → (host_does w h (Starts sync) begins).0 ≡ record w { sites = with_site h (after_site s r) w.sites }
-      on_is s r e n = rw (e, n) refl
 
       on_so : (s : Site) (r : Running) → site_at w.sites h ≡ Some s → AreAllUnready (record w { sites = with_site h (after_site s r) w.sites })
       on_so s r there v found =
@@ -148,17 +141,20 @@ module _ (w : NodeWorld) (h sync : ℕ) (hosts : (s : Site) → site_at w.sites 
           let S : Site → Type 0 = λ y. AreUnready y.link in
           subst S one (subst C (sym here) (on_unready s there (turns_at work s.host) (ending_of work)))
 
-      runs : (s : Site) → site_at w.sites h ≡ Some s → (o : Option Running) → s.node ≡ o → AreAllUnready (host_does w h (Starts sync) begins).0
-      runs s there None n =
-          subst (λ (z : NodeWorld × List Entry). AreAllUnready z.0) (sym (off_is s there n)) (λ v found.
-          let same : Some s ≡ Some v = sym there ∙ found in
-          let one : s ≡ v = cc in
-          let S : Site → Type 0 = λ y. AreUnready y.link in subst S one (off_unready s there n))
-      runs s there (Some r) n = subst AreAllUnready (sym (on_is s r there n)) (on_so s r there)
-
 pub activates_each : (w : NodeWorld) (t : List Entry) (X : ℕ → WatchedLink) (h sync power : ℕ) → is_some w.controller ≡ true → IsWell w → Each t X w
     → Each (t ++ (activates w h sync power).1) (behind (Activates h sync power) X (activates w h sync power).1) (activates w h sync power).0
-activates_each w t X h sync power runs a each = go w.controller refl runs
+activates_each w t X h sync power runs a each = by_option w.controller
+    (λ e. let q : false ≡ true = rw e at runs in absurd (true≢false (sym q)))
+    (λ r e.
+    let first : Each (t ++ near.1) Z near.0 = rw e (after w t X a each h (Starts power) (Start power) tt refl r e) in
+    let clean : AreOpened w t X a each h power near.0 = rw e (opened_so w t X a each h power r e) in
+    let P : List Entry → Type 0 = λ z. Each z (λ k. watched k (watch_begins k (Activates h sync power) (X k)) (near.1 ++ far.1)) far.0 in
+    last
+    (subst P (append_assoc t near.1 far.1)
+    (each_alike ((t ++ near.1) ++ far.1) (later Z far.1) (λ k. watched k (watch_begins k (Activates h sync power) (X k)) (near.1 ++ far.1)) far.0 alike
+    (then_far first clean)))
+    (host_unready near.0 h sync (λ s found. (site_is IsFineSite near.0.sites h s well.fine.sites found).link.line.uicc) (λ s found. (first h s found).far)
+    clean))
   where
     near : NodeWorld × List Entry
     near = comes_at w (end_c h) (Starts power)
@@ -171,13 +167,6 @@ activates_each w t X h sync power runs a each = go w.controller refl runs
 
     Z : ℕ → WatchedLink
     Z k = watched k (opened (comes_to h (Starts power) k) (X k)) near.1
-
-    on_is : (r : Running) → w.controller ≡ Some r
-        → near ≡ after_controller w h (Starts power) (controller_work w r h (Starts power) (steps (AtEnd h (Start power))))
-    on_is r e = rw e refl
-
-    First : NodeWorld × List Entry → Type 0
-    First z = Each (t ++ z.1) (λ k. watched k (opened (comes_to h (Starts power) k) (X k)) z.1) z.0
 
     unwatched_so : ((Z h).since ≡ false) × ((Z h).whole ≡ false)
     unwatched_so = let q = same_number h in (rw q refl, rw q refl)
@@ -222,19 +211,3 @@ activates_each w t X h sync power runs a each = go w.controller refl runs
               far = b.far;
               none = b.none;
             }
-
-    go : (o : Option Running) → w.controller ≡ o → is_some o ≡ true
-        → Each (t ++ (near.1 ++ far.1)) (behind (Activates h sync power) X (near.1 ++ far.1)) far.0
-    go None e q = absurd (true≢false (sym q))
-    go (Some r) e q =
-        let first : Each (t ++ near.1) Z near.0 =
-        subst First (sym (on_is r e)) (after w t X a each h (Starts power) (Start power) tt refl r e) in
-        let clean : AreOpened w t X a each h power near.0 =
-        subst (λ (z : NodeWorld × List Entry). AreOpened w t X a each h power z.0) (sym (on_is r e)) (opened_so w t X a each h power r e) in
-        let P : List Entry → Type 0 = λ z. Each z (λ k. watched k (watch_begins k (Activates h sync power) (X k)) (near.1 ++ far.1)) far.0 in
-        last
-        (subst P (append_assoc t near.1 far.1)
-        (each_alike ((t ++ near.1) ++ far.1) (later Z far.1) (λ k. watched k (watch_begins k (Activates h sync power) (X k)) (near.1 ++ far.1)) far.0 alike
-        (then_far first clean)))
-        (host_unready near.0 h sync (λ s found. (site_is IsFineSite near.0.sites h s well.fine.sites found).link.line.uicc) (λ s found. (first h s found).far)
-        clean)

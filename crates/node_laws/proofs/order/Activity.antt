@@ -18,7 +18,7 @@ use Rattle.swp_act.specs.declared.Phase.TheVariants.{Inactive, Awaiting, Active 
 use Rattle.shdlc_core.specs.Machine.{ticked, tick_answer, stopped}
 use Rattle.link_laws.specs.sessions.Sessions.{OnWire, took_with}
 use Rattle.link_laws.specs.machine.Machine.{LinkEnd, Role, LinkInput, Turn, Report}
-use Rattle.link_laws.specs.machine.Machine.{report, turned, took, heard, after_input}
+use Rattle.link_laws.specs.machine.Machine.{report, turned, heard, after_input}
 use Rattle.link_laws.specs.machine.Machine.{ended_by, whole_acked, frames_out, is_open, moved, activated, role_after, act_answer, renewed, act_event, act_out}
 use Rattle.link_laws.specs.machine.Machine.Role.{Bare, Clf, Uicc}
 use Rattle.link_laws.specs.machine.Machine.LinkInput.{Take, Tick as HasTick, Reset, Start, Stop}
@@ -48,6 +48,7 @@ use Rattle.link_laws.proofs.entries.Together.{ticks_host}
 use Rattle.node_laws.specs.links.Runs.{new_line}
 use Rattle.node_laws.proofs.order.Listing.{Holds, are-append, are_so, are_mapped, are_last, are_turns, are_lost, are_puts, are_aged}
 use Rattle.node_laws.proofs.links.Ends.{here_is, tick_is, here_host, role_input}
+use Rattle.node_laws.proofs.Cases.{by_test}
 
 -- ## What is read
 
@@ -166,25 +167,17 @@ tick_shut (Clf s) q = go s.phase refl
     go : (p : Phase) → s.phase ≡ p → ((act_answer (Clf s) ActTick).became_active ≡ false) × (is_open (role_after (Clf s) ActTick) ≡ false)
     go Inactive p = (rw p refl, rw p refl)
     go IsActive p = absurd (true≢false (let z = q in rw p at z))
-    go (Awaiting tries ticks) p = by (nat_le 10 (ticks + 1)) (nat_le 3 tries) refl refl
-      where
-        by : (a b : Bool) → nat_le 10 (ticks + 1) ≡ a → nat_le 3 tries ≡ b
-            → ((act_answer (Clf s) ActTick).became_active ≡ false) × (is_open (role_after (Clf s) ActTick) ≡ false)
-        by true true x y = (rw (p, x, y) refl, rw (p, x, y) refl)
-        by true false x y = (rw (p, x, y) refl, rw (p, x, y) refl)
-        by false b x y = (rw (p, x) refl, rw (p, x) refl)
+    go (Awaiting tries ticks) p = by_test (nat_le 10 (ticks + 1))
+        (λ x. by_test (nat_le 3 tries) (λ y. (rw (p, x, y) refl, rw (p, x, y) refl)) (λ y. (rw (p, x, y) refl, rw (p, x, y) refl)))
+        (λ x. (rw (p, x) refl, rw (p, x) refl))
 tick_shut (Uicc s) q = go s.phase refl
   where
     go : (p : Phase) → s.phase ≡ p → ((act_answer (Uicc s) ActTick).became_active ≡ false) × (is_open (role_after (Uicc s) ActTick) ≡ false)
     go Inactive p = (rw p refl, rw p refl)
     go IsActive p = absurd (true≢false (let z = q in rw p at z))
-    go (Awaiting tries ticks) p = by (nat_le 10 (ticks + 1)) (nat_le 3 tries) refl refl
-      where
-        by : (a b : Bool) → nat_le 10 (ticks + 1) ≡ a → nat_le 3 tries ≡ b
-            → ((act_answer (Uicc s) ActTick).became_active ≡ false) × (is_open (role_after (Uicc s) ActTick) ≡ false)
-        by true true x y = (rw (p, x, y) refl, rw (p, x, y) refl)
-        by true false x y = (rw (p, x, y) refl, rw (p, x, y) refl)
-        by false b x y = (rw (p, x) refl, rw (p, x) refl)
+    go (Awaiting tries ticks) p = by_test (nat_le 10 (ticks + 1))
+        (λ x. by_test (nat_le 3 tries) (λ y. (rw (p, x, y) refl, rw (p, x, y) refl)) (λ y. (rw (p, x, y) refl, rw (p, x, y) refl)))
+        (λ x. (rw (p, x) refl, rw (p, x) refl))
 
 ticks_so : (e : LinkEnd) → BecomesSo e HasTick (is_open e.role)
 ticks_so e = go (is_open e.role) refl

@@ -1,5 +1,5 @@
 -- Each event of a world but a tick leaves each link told.
-use Rattle.std.proofs.Common.{◌≡◌, ℕ, ◌==◌, Bool, true, false, cond, List, [], ◌∷◌, ◌++◌, length, Option, Some, None, map, refl, ap, sym, subst, ◌∙◌}
+use Rattle.std.proofs.Common.{◌≡◌, ℕ, ◌==◌, Bool, true, false, cond, List, [], ◌∷◌, ◌++◌, Option, Some, None, map, refl, ap, sym, subst, ◌∙◌}
 use Rattle.std.specs.List.{AllByRecursion}
 use Rattle.std.proofs.lemmas.Bool.{eqb-true}
 use Rattle.swp_base.specs.InMemory.{Memory}
@@ -8,7 +8,7 @@ use Rattle.trace_model.specs.declared.entry.Entry.{Entry}
 use Rattle.trace_model.specs.declared.entry.Entry.TheVariants as entry
 use Rattle.trace_model.specs.declared.line.End.{End}
 use Rattle.journal_laws.specs.Journal.{count_of}
-use Rattle.journal_laws.specs.Planned.{fails_within, after_planned}
+use Rattle.journal_laws.specs.Planned.{after_planned}
 use Rattle.link_laws.specs.machine.Machine.{LinkEnd, LinkInput, new_link_end}
 use Rattle.link_laws.specs.machine.Machine.Role.{Clf, Uicc}
 use Rattle.link_laws.specs.messages.Links.{NumberedEnd, Link, Comes, Loss, EndEvent, LinkEvent, exchanged, happens_at_controller, happens}
@@ -19,16 +19,16 @@ use Rattle.link_laws.specs.messages.Links.Loss.{Broken}
 use Rattle.link_laws.specs.messages.Links.EndEvent.{Step, Lose}
 use Rattle.link_laws.specs.messages.Links.LinkEvent.{AtController, AtHost}
 use Rattle.link_laws.specs.entries.Entries.{first_lost}
+use Rattle.link_laws.specs.entries.Entries.{End as Side}
 use Rattle.link_laws.specs.entries.Entries.End.{Controller, Host}
-use Rattle.history.specs.Steps.{at, entries_for}
-use Rattle.history.specs.Follows.{seen_from}
+use Rattle.history.specs.Steps.{entries_for}
 use Rattle.node_machine.specs.Parts.{Desk, Running, Work, Deed}
-use Rattle.node_machine.specs.Node.{steps, begins_with, found, boot_writes, with_error, new_desk}
+use Rattle.node_machine.specs.Node.{steps, begins_with, boot_writes, with_error, new_desk}
 use Rattle.node_machine.specs.Node.NodeInput.{AtEnd}
 use Rattle.node_machine.specs.world.World.{Site, NodeWorld, site_at, with_site, link_to, input_of, near_end_in, arrival, work_of, ending_of, turns_at, runs_on}
 use Rattle.node_machine.specs.world.World.{comes_to, controller_work, link_after_controller, after_controller, controller_does, host_work, after_host}
 use Rattle.node_machine.specs.world.World.{host_does}
-use Rattle.node_machine.specs.world.World.{controller_cut, host_cut, loses_power_at, memory_at, with_memory, with_node, links_of, boots, counts}
+use Rattle.node_machine.specs.world.World.{host_cut, loses_power_at, memory_at, with_memory, with_node, links_of, boots, counts}
 use Rattle.node_machine.specs.world.World.{frame_lost, comes_at}
 use Rattle.link_laws.proofs.entries.Lasting.{same_number}
 use Rattle.node_laws.proofs.Cases.{by_option, by_test}
@@ -50,12 +50,13 @@ use Rattle.node_laws.proofs.telling.Nodes.{site_host, link_is, ports_for, own_po
 use Rattle.node_laws.proofs.telling.Worlds.{site_is, node_is, HostDoes, host_does_step, host_does_begin}
 use Rattle.node_laws.proofs.telling.Events.{memory_goes}
 use Rattle.node_laws.proofs.readings.NoticedWorlds.{far_side}
-use Rattle.node_laws.specs.order.Told.{IsLinkTold}
 use Rattle.node_laws.proofs.order.Unnoticed.{IfNone, HasNoNotices, AreUnnoticed, all_done_none, steps_none, runs_none}
 use Rattle.node_laws.proofs.order.Watches.{IsStepOf, WatchedLink, watched, opened}
 use Rattle.node_laws.proofs.order.Knowing.{told_more, LeaveLink, told_same, cut_clf, cut_uicc, Knows, Each, later, each_empty, each_back, each_alike}
 use Rattle.node_laws.proofs.order.Knowing.{each_map, each_site}
 use Rattle.node_laws.proofs.order.Wires.{Shown, shown_same, clear_unstarted, shown_more, step_shown}
+use Rattle.node_machine.proofs.world.Cases.{by_boot, by_coming, by_controller, by_memory, by_power, by_running, boot_found, boot_written}
+use Rattle.link_laws.specs.sessions.Sessions.{OnWire}
 
 -- a world that is orderly, and whose nodes send what may be sent
 pub record IsWell (w : NodeWorld) : Type 0 where
@@ -81,11 +82,7 @@ module _ (w : NodeWorld) (t : List Entry) (X : ℕ → WatchedLink) (a : IsWell 
     near_ends j = near_end_in (link_to w.sites j) (comes_to k comes j)
 
     desks : AreTrueDesks r.desks
-    desks = go w.controller runs a.fine.controller
-      where
-        go : (o : Option Running) → o ≡ Some r → IsFineNode o → AreTrueDesks r.desks
-        go None e b = absurd (cc e)
-        go (Some x) e b = let one : x ≡ r = cc in let P : Running → Type 0 = λ z. AreTrueDesks z.desks in subst P one b
+    desks = subst IsFineNode runs a.fine.controller
 
     done : IsFineWork v
     done =
@@ -176,20 +173,9 @@ module _ (w : NodeWorld) (t : List Entry) (X : ℕ → WatchedLink) (a : IsWell 
   pub controller_each : ((h : ℕ) → opened (comes_to k comes h) (X h) ≡ X h)
       → Each (t ++ (controller_does w k comes (steps (AtEnd k i))).1) (later X (controller_does w k comes (steps (AtEnd k i))).1)
       (controller_does w k comes (steps (AtEnd k i))).0
-  controller_each plain = by_option w.controller
-      (λ e. subst P (sym (off_is e)) (each_empty t X w each))
-      (λ r e. subst P (sym (on_is r e)) (each_alike (t ++ u r e) (Y r e) (later X (u r e)) (after_controller w k comes (v r e)).0
-      (λ h. ap (λ x. watched h x (u r e)) (plain h)) (after r e)))
-    where
-      off_is : w.controller ≡ None → controller_does w k comes (steps (AtEnd k i)) ≡ (w, [])
-      off_is e = rw e refl
-
-      on_is : (r : Running) → w.controller ≡ Some r
-          → controller_does w k comes (steps (AtEnd k i)) ≡ after_controller w k comes (controller_work w r k comes (steps (AtEnd k i)))
-      on_is r e = rw e refl
-
-      P : NodeWorld × List Entry → Type 0
-      P z = Each (t ++ z.1) (later X z.1) z.0
+  controller_each plain =
+      by_controller (λ z. Each (t ++ z.1) (later X z.1) z.0) w k comes (steps (AtEnd k i)) (each_empty t X w each)
+      (λ r e. each_alike (t ++ u r e) (Y r e) (later X (u r e)) (after_controller w k comes (v r e)).0 (λ h. ap (λ x. watched h x (u r e)) (plain h)) (after r e))
 
 -- ## Steps of a host
 
@@ -214,11 +200,7 @@ module _ (w : NodeWorld) (t : List Entry) (X : ℕ → WatchedLink) (a : IsWell 
     number = site_host w.sites k s there
 
     host_desks : AreTrueDesks r.desks
-    host_desks = go s.node runs site_fine.node
-      where
-        go : (o : Option Running) → o ≡ Some r → IsFineNode o → AreTrueDesks r.desks
-        go None e b = absurd (cc e)
-        go (Some x) e b = let one : x ≡ r = cc in let P : Running → Type 0 = λ z. AreTrueDesks z.desks in subst P one b
+    host_desks = subst IsFineNode runs site_fine.node
 
     host_done : IsFineWork worked
     host_done =
@@ -267,13 +249,7 @@ module _ (w : NodeWorld) (t : List Entry) (X : ℕ → WatchedLink) (a : IsWell 
             ap (λ n. n == 0) node.number ∙ site_is (λ (x : Site). (x.host == 0) ≡ false) w.sites k s a.orderly.hosts there
 
         desks_none : AllByRecursion (λ (d : Desk). d.notice ≡ None) r.desks
-        desks_none = go s.node runs b.none
-          where
-            go : (o : Option Running) → o ≡ Some r → IfNone o → AllByRecursion (λ (d : Desk). d.notice ≡ None) r.desks
-            go None e n = absurd (cc e)
-            go (Some x) e n =
-                let one : x ≡ r = cc in
-                let P : Running → Type 0 = λ z. AllByRecursion (λ (d : Desk). d.notice ≡ None) z.desks in subst P one n
+        desks_none = subst IfNone runs b.none
 
         ports_none : (ds : List Desk) → AllByRecursion (λ (d : Desk). d.notice ≡ None) ds
             → AllByRecursion (λ p. p.desk.notice ≡ None) (ports_for (λ j. near_end_in (exchanged s.link) comes) ds)
@@ -298,35 +274,25 @@ module _ (w : NodeWorld) (t : List Entry) (X : ℕ → WatchedLink) (a : IsWell 
             subst G (sym some) tt
 
   pub host_each : Each (t ++ (host_does w k comes f).1) (later X (host_does w k comes f).1) (host_does w k comes f).0
-  host_each = by_option (site_at w.sites k) (λ e. subst P (sym (none_is e)) (each_empty t X w each)) (λ s e. runs s e s.node refl)
+  host_each = by_option (site_at w.sites k)
+      (λ e. rw e (each_empty t X w each))
+      (λ s there. by_option s.node
+      (λ n. rw (there, n) (each_empty t X w each))
+      (λ r n.
+      let u : List Entry = (host_does w k comes f).1 in
+      let Q : NodeWorld → Type 0 = λ z. Each (t ++ u) (later X u) z in
+      subst Q (sym (on_is s r there n))
+      (each_site w w.memory w.controller t u X k (after_host comes (host_work s r comes f)) (λ x. refl) (λ h x b. b)
+      (λ x found b.
+      let same : Some s ≡ Some x = sym there ∙ found in
+      let one : s ≡ x = cc in
+      let R : Site → Type 0 = λ z. Knows t (X k) w.controller k z → Knows (t ++ u) (later X u k) w.controller k (after_host comes (host_work s r comes f) z) in
+      subst R one (own s there r n) b)
+      (λ h z. record { none = (does s r there n).others h z; stands = (does s r there n).leaves h z }) each)))
     where
-      P : NodeWorld × List Entry → Type 0
-      P z = Each (t ++ z.1) (later X z.1) z.0
-
-      none_is : site_at w.sites k ≡ None → host_does w k comes f ≡ (w, [])
-      none_is e = rw e refl
-
-      off_is : (s : Site) → site_at w.sites k ≡ Some s → s.node ≡ None → host_does w k comes f ≡ (w, [])
-      off_is s e n = rw (e, n) refl
-
       on_is : (s : Site) (r : Running) → site_at w.sites k ≡ Some s → s.node ≡ Some r
           → (host_does w k comes f).0 ≡ record w { sites = with_site k (after_host comes (host_work s r comes f)) w.sites }
       on_is s r e n = rw (e, n) refl
-
-      runs : (s : Site) → site_at w.sites k ≡ Some s → (x : Option Running) → s.node ≡ x → P (host_does w k comes f)
-      runs s there None n = subst P (sym (off_is s there n)) (each_empty t X w each)
-      runs s there (Some r) n =
-          let u : List Entry = (host_does w k comes f).1 in
-          let Q : NodeWorld → Type 0 = λ z. Each (t ++ u) (later X u) z in
-          subst Q (sym (on_is s r there n))
-          (each_site w w.memory w.controller t u X k (after_host comes (host_work s r comes f)) (λ x. refl) (λ h x b. b)
-          (λ x found b.
-          let same : Some s ≡ Some x = sym there ∙ found in
-          let one : s ≡ x = cc in
-          let R : Site → Type 0 = λ z. Knows t (X k) w.controller k z
-          → Knows (t ++ u) (later X u k) w.controller k (after_host comes (host_work s r comes f) z) in
-          subst R one (own s there r n) b)
-          (λ h z. record { none = (does s r there n).others h z; stands = (does s r there n).leaves h z }) each)
 
 -- ## What comes to an end
 
@@ -338,29 +304,15 @@ plain_at comes plain false x = refl
 pub comes_each : (w : NodeWorld) (t : List Entry) (X : ℕ → WatchedLink) (e : End) (comes : Comes) → IsWell w → Each t X w → MayCome comes
     → AllByRecursion (AtHostOnly (CanReach comes) e.link) w.sites → ((x : WatchedLink) → opened comes x ≡ x)
     → Each (t ++ (comes_at w e comes).1) (later X (comes_at w e comes).1) (comes_at w e comes).0
-comes_each w t X e comes a each may reach plain = go (input_of (seen_from e (link_to w.sites e.link)) comes) e.at_host refl refl
-  where
-    by : Option LinkInput → Bool → NodeWorld × List Entry
-    by None at_host = (w, [])
-    by (Some i) true = host_does w e.link comes (steps (AtEnd e.link i))
-    by (Some i) false = controller_does w e.link comes (steps (AtEnd e.link i))
-
-    seen : Bool → Link → Link
-    seen b l = cond b (exchanged l) l
-
-    go : (o : Option LinkInput) (b : Bool) → input_of (seen_from e (link_to w.sites e.link)) comes ≡ o → e.at_host ≡ b
-        → Each (t ++ (by o b).1) (later X (by o b).1) (by o b).0
-    go None b q r = each_empty t X w each
-    go (Some i) true q r =
-        let input : (s : Site) → site_at w.sites e.link ≡ Some s → input_of (exchanged s.link) comes ≡ Some i =
-        λ s found. ap (λ l. input_of (exchanged l) comes) (sym (link_is w.sites e.link s found))
-        ∙ (ap (λ b. input_of (seen b (link_to w.sites e.link)) comes) (sym r) ∙ q) in
-        host_each w t X a each e.link comes (steps (AtEnd e.link i)) reach
-        (λ s n found runs. host_does_step w s n e.link a.orderly found runs comes i (input s found))
-        (λ v b. steps_fine (AtEnd e.link i) v b) (λ v b. steps_none (AtEnd e.link i) v b) (Some i) (is_step comes i) input (λ s found. plain (X e.link))
-    go (Some i) false q r =
-        controller_each w t X a each e.link comes i may (ap (λ b. input_of (seen b (link_to w.sites e.link)) comes) (sym r) ∙ q)
-        (λ h. plain_at comes plain (h == e.link) (X h))
+comes_each w t X e comes a each may reach plain =
+    by_coming (λ z. Each (t ++ z.1) (later X z.1) z.0) w e comes (each_empty t X w each)
+    (λ i at q.
+    let input : (s : Site) → site_at w.sites e.link ≡ Some s → input_of (exchanged s.link) comes ≡ Some i =
+    λ s found. ap (λ l. input_of (exchanged l) comes) (sym (link_is w.sites e.link s found)) ∙ q in
+    host_each w t X a each e.link comes (steps (AtEnd e.link i)) reach
+    (λ s n found runs. host_does_step w s n e.link a.orderly found runs comes i (input s found))
+    (λ v b. steps_fine (AtEnd e.link i) v b) (λ v b. steps_none (AtEnd e.link i) v b) (Some i) (is_step comes i) input (λ s found. plain (X e.link)))
+    (λ i at q. controller_each w t X a each e.link comes i may q (λ h. plain_at comes plain (h == e.link) (X h)))
 
 pub begins_each : (w : NodeWorld) (t : List Entry) (X : ℕ → WatchedLink) (k : ℕ) (deeds : List Deed) → AreMute deeds → AreFine deeds → AreUnnoticed deeds
     → IsWell w → Each t X w
@@ -390,63 +342,52 @@ each_beside w t u X k memory node changes q each =
     (λ h z. q h) each
 
 pub memory_each : (n : ℕ) (m : Memory) (w : NodeWorld) (t : List Entry) (X : ℕ → WatchedLink) → Each t X w → Each (t ++ []) (later X []) (with_memory n m w)
-memory_each n m w t X each = by_test (n == 0)
-    (λ q. rw q (each_empty t X (by true) (λ h s found. each h s found)))
-    (λ q. rw q (each_beside w t [] X n (λ s. m) (λ s. s.node) (λ s. (λ b. b, λ b. b)) (λ h. record { none = refl; stands = λ x. refl }) each))
-  where
-    by : Bool → NodeWorld
-    by true = record w { memory = m }
-    by false = record w { sites = with_site n (λ s. record s { memory = m }) w.sites }
+memory_each n m w t X each =
+    by_memory (λ v. Each (t ++ []) (later X []) v) n w m (λ q. each_empty t X (record w { memory = m }) (λ h s found. each h s found))
+    (λ q. each_beside w t [] X n (λ s. m) (λ s. s.node) (λ s. (λ b. b, λ b. b)) (λ h. record { none = refl; stands = λ x. refl }) each)
 
 pub power_each : (n : ℕ) (w : NodeWorld) (t : List Entry) (X : ℕ → WatchedLink) → IsWell w → Each t X w
     → Each (t ++ entry.Cut n ∷ []) (later X (entry.Cut n ∷ [])) (loses_power_at n w)
-power_each n w t X a each = go (n == 0) refl
+power_each n w t X a each =
+    by_power (λ v. Each (t ++ u) (later X u) v) n w
+    (λ zero.
+    each_map w w.memory None t u X (later X u) (λ (s : Site). record s { link = happens s.link (AtController near) }) (λ s. refl)
+    (λ h s found b.
+    let fine : IsFineSite s = site_is IsFineSite w.sites h s a.fine.sites found in
+    let n : IsStepOf h s.link (AtController near) u = record {
+      can = (tt, (tt, clf_line s.link.controller.side.role fine.link.line.clf));
+      tells = refl;
+      stands = λ x. rw zero refl;
+    } in
+    record {
+      told = told_more h s.link (AtController near) t u n b.told;
+      shown = shown_more h s.link (AtController near) t u (X h) b.told n b.shown (tt, tt);
+      near = cut_clf s.link NoInput [] None refl tt fine.link.line.clf;
+      far = subst (IfOff s.node (new_link_end (Uicc new_uicc))) (sym (near_side s.link near)) b.far;
+      none = b.none;
+    }) each)
+    (λ zero.
+    each_site w w.memory w.controller t u X n host_cut (λ s. refl) (λ h s b. b)
+    (λ s found b.
+    let fine : IsFineSite s = site_is IsFineSite w.sites n s a.fine.sites found in
+    let step : IsStepOf n s.link (AtHost near) u = record {
+      can = (tt, (tt, uicc_line s.link.host.side.role fine.link.line.uicc));
+      tells = refl;
+      stands = own_power n zero;
+    } in
+    record {
+      told = told_more n s.link (AtHost near) t u step b.told;
+      shown = shown_more n s.link (AtHost near) t u (X n) b.told step b.shown (tt, tt);
+      near = subst (IfOff w.controller (new_link_end (Clf new_clf))) (sym (far_side s.link near)) b.near;
+      far = cut_uicc (exchanged s.link) NoInput [] None refl tt fine.link.line.uicc;
+      none = tt;
+    }) (λ h z. record { none = refl; stands = other_power n h zero z }) each)
   where
     u : List Entry
     u = entry.Cut n ∷ []
 
-    by : Bool → NodeWorld
-    by true = controller_cut w
-    by false = record w { sites = with_site n host_cut w.sites }
-
     near : EndEvent
     near = Step NoInput [] CutOff
-
-    go : (b : Bool) → (n == 0) ≡ b → Each (t ++ entry.Cut n ∷ []) (later X (entry.Cut n ∷ [])) (by b)
-    go true zero =
-        each_map w w.memory None t u X (later X u) (λ (s : Site). record s { link = happens s.link (AtController near) }) (λ s. refl)
-        (λ h s found b.
-        let fine : IsFineSite s = site_is IsFineSite w.sites h s a.fine.sites found in
-        let F : LinkEnd → Type 0 = IfOff s.node (new_link_end (Uicc new_uicc)) in
-        let n : IsStepOf h s.link (AtController near) u = record {
-          can = (tt, (tt, clf_line s.link.controller.side.role fine.link.line.clf));
-          tells = refl;
-          stands = λ x. rw zero refl;
-        } in
-        record {
-          told = told_more h s.link (AtController near) t u n b.told;
-          shown = shown_more h s.link (AtController near) t u (X h) b.told n b.shown (tt, tt);
-          near = cut_clf s.link NoInput [] None refl tt fine.link.line.clf;
-          far = subst F (sym (near_side s.link near)) b.far;
-          none = b.none;
-        }) each
-    go false zero =
-        each_site w w.memory w.controller t u X n host_cut (λ s. refl) (λ h s b. b)
-        (λ s found b.
-        let fine : IsFineSite s = site_is IsFineSite w.sites n s a.fine.sites found in
-        let N : LinkEnd → Type 0 = IfOff w.controller (new_link_end (Clf new_clf)) in
-        let step : IsStepOf n s.link (AtHost near) u = record {
-          can = (tt, (tt, uicc_line s.link.host.side.role fine.link.line.uicc));
-          tells = refl;
-          stands = own_power n zero;
-        } in
-        record {
-          told = told_more n s.link (AtHost near) t u step b.told;
-          shown = shown_more n s.link (AtHost near) t u (X n) b.told step b.shown (tt, tt);
-          near = subst N (sym (far_side s.link near)) b.near;
-          far = cut_uicc (exchanged s.link) NoInput [] None refl tt fine.link.line.uicc;
-          none = tt;
-        }) (λ h z. record { none = refl; stands = other_power n h zero z }) each
 
 new_none : (hosts : List ℕ) → AllByRecursion (λ (d : Desk). d.notice ≡ None) (map new_desk hosts)
 new_none [] = tt
@@ -454,44 +395,33 @@ new_none (h ∷ hosts) = (refl, new_none hosts)
 
 node_each : (n : ℕ) (r : Running) (w : NodeWorld) (t u : List Entry) (X : ℕ → WatchedLink) → IfNone (Some r) → ((h : ℕ) → LeaveLink h u) → Each t X w
     → Each (t ++ u) (later X u) (with_node n r w)
-node_each n r w t u X none q each = go (n == 0)
-  where
-    by : Bool → NodeWorld
-    by true = record w { controller = Some r }
-    by false = record w { sites = with_site n (λ s. record s { node = Some r }) w.sites }
-
-    go : (b : Bool) → Each (t ++ u) (later X u) (by b)
-    go true = λ h s found.
-        let b : Knows t (X h) w.controller h s = each h s found in
-        record {
-          told = told_same h s.link t u (q h) b.told;
-          shown = shown_same h s.link (X h) u ((q h).stands (X h).stands) b.shown;
-          near = tt;
-          far = b.far;
-          none = b.none;
-        }
-    go false = each_beside w t u X n (λ s. s.memory) (λ s. Some r) (λ s. (λ b. tt, λ b. none)) q each
+node_each n r w t u X none q each =
+    by_running (λ v. Each (t ++ u) (later X u) v) n w r
+    (λ zero h s found.
+    let b : Knows t (X h) w.controller h s = each h s found in
+    record {
+      told = told_same h s.link t u (q h) b.told;
+      shown = shown_same h s.link (X h) u ((q h).stands (X h).stands) b.shown;
+      near = tt;
+      far = b.far;
+      none = b.none;
+    })
+    (λ zero. each_beside w t u X n (λ s. s.memory) (λ s. Some r) (λ s. (λ b. tt, λ b. none)) q each)
 
 pub boots_each : (w : NodeWorld) (t : List Entry) (X : ℕ → WatchedLink) (n : ℕ) → IsWell w → Each t X w
     → Each (t ++ (boots w n).1) (later X (boots w n).1) (boots w n).0
-boots_each w t X n a each = by_test (fails_within (length (boot_writes (memory_at w n).content)) (memory_at w n).plan)
-    (λ q. rw q (power_each n written t X well kept))
-    (λ q. rw q (node_each n r written t (entry.Booted n (count_of r.core.journal) ∷ []) X (new_none (links_of w n))
-    (λ h. record { none = refl; stands = λ x. refl }) kept))
+boots_each w t X n a each =
+    by_boot (λ z. Each (t ++ z.1) (later X z.1) z.0) w n (power_each n (boot_written w n) t X well kept)
+    (node_each n (boot_found w n) (boot_written w n) t (entry.Booted n (count_of (boot_found w n).core.journal) ∷ []) X (new_none (links_of w n))
+    (λ h. record { none = refl; stands = λ x. refl }) kept)
   where
     m : Memory
     m = after_planned (boot_writes (memory_at w n).content) (memory_at w n)
 
-    written : NodeWorld
-    written = with_memory n m w
+    kept : Each t X (boot_written w n)
+    kept = each_back t X (boot_written w n) (memory_each n m w t X each)
 
-    r : Running
-    r = found n (links_of w n) (memory_at w n).content
-
-    kept : Each t X written
-    kept = each_back t X written (memory_each n m w t X each)
-
-    well : IsWell written
+    well : IsWell (boot_written w n)
     well = record { orderly = (memory_goes n m w a.orderly).orderly; fine = memory_fine n m w a.fine }
 
 -- ## Losses
@@ -513,99 +443,55 @@ counts_off _ h o new e a = a
 
 pub lost_each : (w : NodeWorld) (t : List Entry) (X : ℕ → WatchedLink) (e : End) (why : Loss) → Each t X w
     → Each (t ++ (frame_lost w e why).1) (later X (frame_lost w e why).1) (frame_lost w e why).0
-lost_each w t X e why each = go e.at_host refl
+lost_each w t X e why each = by_test e.at_host
+    (λ q. rw q (each_site w w.memory w.controller t to_host X e.link (λ s. record s { link = happens s.link (AtHost (Lose why)); node = counts why e.link s.node }) (λ s. refl) (λ h s b. b)
+    (λ s there b.
+    let told : TellOf e.link s.link (AtHost (Lose why)) to_host =
+    ap (λ (l : Link). of_link e.link (entries_for e.link (first_lost Host why l.to_host))) (link_is w.sites e.link s there) in
+    let n : IsStepOf e.link s.link (AtHost (Lose why)) to_host = record {
+      can = tt;
+      tells = told;
+      stands = clear_stands e.link to_host (first_lost Host why s.link.to_host)
+          (entries_uncut e.link (first_lost Host why (link_to w.sites e.link).to_host)) (clear_lost Host why s.link.to_host) told;
+    } in
+    record {
+      told = told_more e.link s.link (AtHost (Lose why)) t to_host n b.told;
+      shown = shown_more e.link s.link (AtHost (Lose why)) t to_host (X e.link) b.told n b.shown
+          (clear_unstarted (first_lost Host why s.link.to_host) (clear_lost Host why s.link.to_host));
+      near = b.near;
+      far = counts_off why e.link s.node (new_link_end (Uicc new_uicc)) s.link.host.side b.far;
+      none = counts_none why e.link s.node b.none;
+    })
+    (λ h z. leaves Host (link_to w.sites e.link).to_host h z) each))
+    (λ q. rw q (each_site w w.memory (counts why e.link w.controller) t to_controller X e.link
+    (λ s. record s { link = happens s.link (AtController (Lose why)) }) (λ s. refl)
+    (λ h s b. counts_off why e.link w.controller (new_link_end (Clf new_clf)) s.link.controller.side b)
+    (λ s there b.
+    let told : TellOf e.link s.link (AtController (Lose why)) to_controller =
+    ap (λ (l : Link). of_link e.link (entries_for e.link (first_lost Controller why l.to_controller))) (link_is w.sites e.link s there) in
+    let n : IsStepOf e.link s.link (AtController (Lose why)) to_controller = record {
+      can = tt;
+      tells = told;
+      stands = clear_stands e.link to_controller (first_lost Controller why s.link.to_controller)
+          (entries_uncut e.link (first_lost Controller why (link_to w.sites e.link).to_controller)) (clear_lost Controller why s.link.to_controller) told;
+    } in
+    record {
+      told = told_more e.link s.link (AtController (Lose why)) t to_controller n b.told;
+      shown = shown_more e.link s.link (AtController (Lose why)) t to_controller (X e.link) b.told n b.shown
+          (clear_unstarted (first_lost Controller why s.link.to_controller) (clear_lost Controller why s.link.to_controller));
+      near = counts_off why e.link w.controller (new_link_end (Clf new_clf)) s.link.controller.side b.near;
+      far = b.far;
+      none = b.none;
+    })
+    (λ h z. leaves Controller (link_to w.sites e.link).to_controller h z) each))
   where
-    event : Bool → LinkEvent
-    event b = cond b (AtHost (Lose why)) (AtController (Lose why))
+    to_host : List Entry
+    to_host = entries_for e.link (first_lost Host why (link_to w.sites e.link).to_host)
 
-    lost : Site → Site
-    lost s = record s { link = happens s.link (at e (Lose why)) }
+    to_controller : List Entry
+    to_controller = entries_for e.link (first_lost Controller why (link_to w.sites e.link).to_controller)
 
-    by : Bool → NodeWorld × List Entry
-    by false = (
-      record w { controller = counts why e.link w.controller; sites = with_site e.link lost w.sites },
-      entries_for e.link (first_lost Controller why (link_to w.sites e.link).to_controller),
-    )
-    by true = (
-      record w { sites = with_site e.link (λ s. record (lost s) { node = counts why e.link s.node }) w.sites },
-      entries_for e.link (first_lost Host why (link_to w.sites e.link).to_host),
-    )
-
-    new_near : LinkEnd
-    new_near = new_link_end (Clf new_clf)
-
-    new_far : LinkEnd
-    new_far = new_link_end (Uicc new_uicc)
-
-    -- a frame that is lost leaves both ends
-    near_left : (b : Bool) (l : Link) → (happens l (event b)).controller.side ≡ l.controller.side
-    near_left true l = refl
-    near_left false l = refl
-
-    far_left : (b : Bool) (l : Link) → (happens l (event b)).host.side ≡ l.host.side
-    far_left true l = refl
-    far_left false l = refl
-
-    go : (b : Bool) → e.at_host ≡ b → Each (t ++ (by b).1) (later X (by b).1) (by b).0
-    go false q =
-        let u : List Entry = (by false).1 in
-        each_site w w.memory (counts why e.link w.controller) t u X e.link lost (λ s. refl)
-        (λ h s b. counts_off why e.link w.controller new_near s.link.controller.side b)
-        (λ s there b.
-        let T : Bool → Type 0 = λ c. IsLinkTold e.link (happens s.link (event c)) (t ++ u) in
-        let told : TellOf e.link s.link (AtController (Lose why)) u =
-        ap (λ (l : Link). of_link e.link (entries_for e.link (first_lost Controller why l.to_controller))) (link_is w.sites e.link s there) in
-        let N : LinkEnd → Type 0 = IfOff (counts why e.link w.controller) new_near in
-        let F : LinkEnd → Type 0 = IfOff s.node new_far in
-        let n : IsStepOf e.link s.link (AtController (Lose why)) u = record {
-          can = tt;
-          tells = told;
-          stands = clear_stands e.link u (first_lost Controller why s.link.to_controller)
-              (entries_uncut e.link (first_lost Controller why (link_to w.sites e.link).to_controller))
-              (clear_lost Controller why s.link.to_controller) told;
-        } in
-        record {
-          told = subst T (sym q) (told_more e.link s.link (AtController (Lose why)) t u n b.told);
-          shown = let S : Bool → Type 0 = λ c. Shown (happens s.link (event c)) (watched e.link (X e.link) u) in
-              subst S (sym q) (shown_more e.link s.link (AtController (Lose why)) t u (X e.link) b.told n b.shown
-              (clear_unstarted (first_lost Controller why s.link.to_controller) (clear_lost Controller why s.link.to_controller)));
-          near = subst N (sym (near_left e.at_host s.link)) (counts_off why e.link w.controller new_near s.link.controller.side b.near);
-          far = subst F (sym (far_left e.at_host s.link)) b.far;
-          none = b.none;
-        })
-        (λ h z.
-        let none : of_link h u ≡ [] = of_other e.link h (first_lost Controller why (link_to w.sites e.link).to_controller) z in
-        record {
-          none = none;
-          stands = away_stands h u (entries_uncut e.link (first_lost Controller why (link_to w.sites e.link).to_controller)) none;
-        }) each
-    go true q =
-        let u : List Entry = (by true).1 in
-        each_site w w.memory w.controller t u X e.link (λ s. record (lost s) { node = counts why e.link s.node }) (λ s. refl) (λ h s b. b)
-        (λ s there b.
-        let T : Bool → Type 0 = λ c. IsLinkTold e.link (happens s.link (event c)) (t ++ u) in
-        let told : TellOf e.link s.link (AtHost (Lose why)) u =
-        ap (λ (l : Link). of_link e.link (entries_for e.link (first_lost Host why l.to_host))) (link_is w.sites e.link s there) in
-        let N : LinkEnd → Type 0 = IfOff w.controller new_near in
-        let F : LinkEnd → Type 0 = IfOff (counts why e.link s.node) new_far in
-        let n : IsStepOf e.link s.link (AtHost (Lose why)) u = record {
-          can = tt;
-          tells = told;
-          stands = clear_stands e.link u (first_lost Host why s.link.to_host)
-              (entries_uncut e.link (first_lost Host why (link_to w.sites e.link).to_host)) (clear_lost Host why s.link.to_host) told;
-        } in
-        record {
-          told = subst T (sym q) (told_more e.link s.link (AtHost (Lose why)) t u n b.told);
-          shown = let S : Bool → Type 0 = λ c. Shown (happens s.link (event c)) (watched e.link (X e.link) u) in
-              subst S (sym q) (shown_more e.link s.link (AtHost (Lose why)) t u (X e.link) b.told n b.shown
-              (clear_unstarted (first_lost Host why s.link.to_host) (clear_lost Host why s.link.to_host)));
-          near = subst N (sym (near_left e.at_host s.link)) b.near;
-          far = subst F (sym (far_left e.at_host s.link)) (counts_off why e.link s.node new_far s.link.host.side b.far);
-          none = counts_none why e.link s.node b.none;
-        })
-        (λ h z.
-        let none : of_link h u ≡ [] = of_other e.link h (first_lost Host why (link_to w.sites e.link).to_host) z in
-        record {
-          none = none;
-          stands = away_stands h u (entries_uncut e.link (first_lost Host why (link_to w.sites e.link).to_host)) none;
-        }) each
+    leaves : (who : Side) (wire : List OnWire) (h : ℕ) → (e.link == h) ≡ false → LeaveLink h (entries_for e.link (first_lost who why wire))
+    leaves who wire h z =
+        let none = of_other e.link h (first_lost who why wire) z in
+        record { none = none; stands = away_stands h (entries_for e.link (first_lost who why wire)) (entries_uncut e.link (first_lost who why wire)) none }

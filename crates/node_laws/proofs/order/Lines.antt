@@ -37,6 +37,7 @@ use Rattle.node_laws.proofs.order.Events.{IsWell, comes_each, begins_each, memor
 use Rattle.node_laws.proofs.order.Activating.{behind, activates_each}
 use Rattle.node_laws.proofs.order.Ticking.{ticks_each}
 use Rattle.node_laws.proofs.order.Strangers.{IsStrange, step_kept, step_none}
+use Rattle.node_laws.proofs.Cases.{by_test}
 
 -- how each link stands behind these events, and of which of them it is known that nothing withheld the answer to a reset
 abbrev pub watches : (ℕ → Bool) → List Occurrence → ℕ → WatchedLink
@@ -160,25 +161,22 @@ new_watch = record { stands = new_standing; since = false; whole = true }
 
 new_each : (content : List ℕ) (hosts : List ℕ) (h : ℕ) (s : Site) → site_at (map (new_site content) hosts) h ≡ Some s → Knows [] new_watch None h s
 new_each content [] h s q = absurd (cc q)
-new_each content (k ∷ hosts) h s q = go (k == h) refl (new_each content hosts h s)
-  where
-    go : (b : Bool) → (k == h) ≡ b → (site_at (map (new_site content) hosts) h ≡ Some s → Knows [] new_watch None h s) → Knows [] new_watch None h s
-    go true e later =
-        let is : Some (new_site content k) ≡ Some s = rw e at q in
-        let one : new_site content k ≡ s = cc in
-        let P : Site → Type 0 = λ z. Knows [] new_watch None h z in
-        subst P one (record {
-          told = record { events = []; run = record { allowed = tt; is = refl }; told = refl; stands = refl; stands_from = λ x. refl };
-          shown = record {
-            wires = record { to_controller = refl; to_host = refl };
-            since = λ z. absurd (true≢false (sym z));
-            ready = λ z. record { near = refl; far = refl };
-          };
-          near = refl;
-          far = refl;
-          none = tt;
-        })
-    go false e later = later (rw e at q)
+new_each content (k ∷ hosts) h s q = by_test (k == h)
+    (λ e. let is : Some (new_site content k) ≡ Some s = rw e at q in
+    let one : new_site content k ≡ s = cc in
+    let P : Site → Type 0 = λ z. Knows [] new_watch None h z in
+    subst P one (record {
+      told = record { events = []; run = record { allowed = tt; is = refl }; told = refl; stands = refl; stands_from = λ x. refl };
+      shown = record {
+        wires = record { to_controller = refl; to_host = refl };
+        since = λ z. absurd (true≢false (sym z));
+        ready = λ z. record { near = refl; far = refl };
+      };
+      near = refl;
+      far = refl;
+      none = tt;
+    }))
+    (λ e. (new_each content hosts h s) (rw e at q))
 
 new_hosts : (hosts : List ℕ) → hosts_in (new_world hosts).sites ≡ hosts
 new_hosts [] = refl

@@ -141,16 +141,13 @@ fault_tells _ q = let z : false ≡ true = q in absurd (cc z)
 
 pub no_faults : (t : List Entry) → ((h : ℕ) → list_any is_chain_fault (of_link h t) ≡ false) → list_any is_chain_fault t ≡ false
 no_faults [] a = refl
-no_faults (x ∷ t) a = go (is_chain_fault x) refl (no_faults t (λ h. less h))
+no_faults (x ∷ t) a = by_test (is_chain_fault x)
+    (λ r. let tells : TellsOf x = fault_tells x r in
+    let here : tells_of tells.link x ≡ true = tells.is in
+    let z : list_any is_chain_fault (x ∷ of_link tells.link t) ≡ false = rw here at (a tells.link) in
+    let w : true ≡ false = rw r at z in
+    absurd (cc w))
+    (λ r. rw r (no_faults t (λ h. less h)))
   where
     less : (h : ℕ) → list_any is_chain_fault (of_link h t) ≡ false
     less h = by_test (tells_of h x) (λ r. or_right (is_chain_fault x) (list_any is_chain_fault (of_link h t)) (rw r at (a h))) (λ r. rw r at (a h))
-
-    go : (b : Bool) → is_chain_fault x ≡ b → list_any is_chain_fault t ≡ false → list_any is_chain_fault (x ∷ t) ≡ false
-    go true r later =
-        let tells : TellsOf x = fault_tells x r in
-        let here : tells_of tells.link x ≡ true = tells.is in
-        let z : list_any is_chain_fault (x ∷ of_link tells.link t) ≡ false = rw here at (a tells.link) in
-        let w : true ≡ false = rw r at z in
-        absurd (cc w)
-    go false r later = rw r later

@@ -31,11 +31,12 @@ use Rattle.node_machine.specs.Carrying.{changed_if}
 use Rattle.node_machine.specs.Node.{steps}
 use Rattle.node_machine.specs.Node.NodeInput.{AtEnd}
 use Rattle.node_machine.specs.world.World.{Site, NodeWorld, site_at, with_site, node_at, node_of, turns_at, ending_of, controller_work, link_after_controller}
-use Rattle.node_machine.specs.world.World.{after_controller, controller_does, host_work, after_host, host_does, world_step}
+use Rattle.node_machine.specs.world.World.{after_controller, host_work, after_host, host_does, world_step}
 use Rattle.node_machine.specs.world.World.Happening.{Resets}
 use Rattle.node_machine.specs.world.Lines.{if_off, machine_in, refusal_in}
 use Rattle.node_laws.specs.links.Runs.{new_line, IsRunOf}
 use Rattle.node_laws.proofs.Cases.{by_test}
+use Rattle.node_laws.proofs.Cases.{by_some}
 use Rattle.node_laws.proofs.links.Works.{steps_fine}
 use Rattle.node_laws.proofs.links.Playing.{plain_reach}
 use Rattle.node_laws.proofs.kept.Lines.{first_none}
@@ -94,12 +95,8 @@ module _ (w : NodeWorld) (t : List Entry) (X : ℕ → WatchedLink) (a : IsWell 
 
   -- at the controller's end
   near_so : FindsReady s.link → is_some w.controller ≡ true → HasReset (world_step w (Resets (side false) window))
-  near_so ready on = go w.controller refl on
+  near_so ready on = by_some w.controller on (λ r e. rw e (so r e))
     where
-      on_is : (r : Running) → w.controller ≡ Some r → controller_does w k comes (steps (AtEnd k (Reset window)))
-          ≡ after_controller w k comes (controller_work w r k comes (steps (AtEnd k (Reset window))))
-      on_is r e = rw e refl
-
       so : (r : Running) → w.controller ≡ Some r → HasReset (after_controller w k comes (controller_work w r k comes (steps (AtEnd k (Reset window)))))
       so r e powered v found =
           let work : Work = controller_work w r k comes (steps (AtEnd k (Reset window))) in
@@ -118,13 +115,9 @@ module _ (w : NodeWorld) (t : List Entry) (X : ℕ → WatchedLink) (a : IsWell 
           let S : Site → Type 0 = λ y. IsSince y.link in
           subst S was.is (subst T (sym here) law (near_step w t X a each k comes (Reset window) may refl r e k z was.there))
 
-      go : (o : Option Running) → w.controller ≡ o → is_some o ≡ true → HasReset (controller_does w k comes (steps (AtEnd k (Reset window))))
-      go None e on = absurd (true≢false (sym on))
-      go (Some r) e on = subst HasReset (sym (on_is r e)) (so r e)
-
   -- at the host's
   far_so : FindsReady (exchanged s.link) → is_some s.node ≡ true → HasReset (world_step w (Resets (side true) window))
-  far_so ready on = go s.node refl on
+  far_so ready on = by_some s.node on so
     where
       f : Work → Work
       f = steps (AtEnd k (Reset window))
@@ -158,10 +151,6 @@ module _ (w : NodeWorld) (t : List Entry) (X : ℕ → WatchedLink) (a : IsWell 
           let C : Bool → Type 0 = λ b. IsSince (changed_if b (after_site r) s).link in
           let S : Site → Type 0 = λ y. IsSince y.link in
           subst S one (subst C (sym here) (far_reset k s.link window (turns_at work s.host) u told.events told.run powered (ending_of work) n ready))
-
-      go : (o : Option Running) → s.node ≡ o → is_some o ≡ true → HasReset (host_does w k comes f)
-      go None e on = absurd (true≢false (sym on))
-      go (Some r) e on = so r e
 
   -- at either end
   pub reset_since : (b : Bool) → refusal_in w (line.Reset (side b) window) ≡ None → is_open (machine_of s.link (other_end (side b))).role ≡ true

@@ -15,7 +15,7 @@ use Rattle.link_laws.specs.messages.Links.{Link, number_of, after_link_events as
 use Rattle.link_laws.specs.messages.Links.IsStart.{IsLine}
 use Rattle.link_laws.specs.entries.Entries.{Entry as Noted, entries}
 use Rattle.link_laws.specs.entries.Entries.End.{Controller, Host}
-use Rattle.link_laws.specs.entries.Entries.Entry.{Up, Down, Emit, Restarted, Cut}
+use Rattle.link_laws.specs.entries.Entries.Entry.{Emit, Restarted, Cut}
 use Rattle.link_laws.specs.entries.Quiet.{disturbs, begins, since, IsQuietSince, IsDeliveredOnLink as LinkDelivered}
 use Rattle.link_laws.proofs.entries.Delivering.{quiet_here, quiet_there}
 use Rattle.link_laws.proofs.entries.Hearing.{session_up}

@@ -1,10 +1,9 @@
 -- Nothing is told of a link with a host that isn't in the world, and no host comes to it.
-use Rattle.std.proofs.Common.{◌≡◌, ℕ, ◌==◌, Bool, true, false, List, [], ◌∷◌, ◌++◌, length, Option, Some, None, map, refl, ap, sym, subst, ◌∙◌}
+use Rattle.std.proofs.Common.{◌≡◌, ℕ, ◌==◌, Bool, true, false, List, [], ◌∷◌, ◌++◌, length, Some, None, map, refl, ap, sym, subst, ◌∙◌}
 use Rattle.std.specs.List.{AllByRecursion, flat_map}
 use Rattle.std.proofs.lemmas.Bool.{eqb-true}
 use Rattle.swp_base.specs.InMemory.{Memory}
 use Rattle.trace_model.specs.declared.entry.Entry.{Entry}
-use Rattle.trace_model.specs.declared.entry.Entry.TheVariants as entry
 use Rattle.trace_model.specs.declared.line.End.{End}
 use Rattle.journal_laws.specs.Planned.{fails_within, after_planned}
 use Rattle.link_laws.specs.machine.Machine.{LinkInput}
@@ -19,7 +18,7 @@ use Rattle.link_laws.specs.entries.Entries.End.{Controller, Host}
 use Rattle.history.specs.Steps.{entries_for}
 use Rattle.node_machine.specs.Parts.{Desk, Running, Work, Deed}
 use Rattle.node_machine.specs.Carrying.{port_at}
-use Rattle.node_machine.specs.Node.{steps, begins_with, found, boot_writes}
+use Rattle.node_machine.specs.Node.{steps, begins_with, boot_writes}
 use Rattle.node_machine.specs.Node.NodeInput.{AtEnd}
 use Rattle.node_machine.specs.world.World.{Site, NodeWorld, Happening, site_at, link_to, input_of, near_end_in, arrival, work_of}
 use Rattle.node_machine.specs.world.World.{comes_to, controller_work, link_after_controller, controller_does, host_work, after_host, host_does}
@@ -167,21 +166,10 @@ module _ (h : ℕ) (w : NodeWorld) (orderly : IsOrderly w) (strange : IsStrange 
   host_none : (k : ℕ) (comes : Comes) (f : Work → Work)
       → ((s : Site) (r : Running) → site_at w.sites k ≡ Some s → s.node ≡ Some r → HostDoes w k comes f s r)
       → of_link h (host_does w k comes f).1 ≡ []
-  host_none k comes f does = by_number (k == h) refl
-    where
-      no_one : site_at w.sites k ≡ None → (host_does w k comes f).1 ≡ []
-      no_one e = rw e refl
-
-      by_number : (b : Bool) → (k == h) ≡ b → of_link h (host_does w k comes f).1 ≡ []
-      by_number true q = ap (of_link h) (no_one (ap (site_at w.sites) (eqb-true k h q) ∙ no_site w.sites h strange))
-      by_number false q = by_option (site_at w.sites k) (λ e. ap (of_link h) (no_one e)) (λ s e. runs s e s.node refl)
-        where
-          off_is : (s : Site) → site_at w.sites k ≡ Some s → s.node ≡ None → (host_does w k comes f).1 ≡ []
-          off_is s e n = rw (e, n) refl
-
-          runs : (s : Site) → site_at w.sites k ≡ Some s → (x : Option Running) → s.node ≡ x → of_link h (host_does w k comes f).1 ≡ []
-          runs s e None n = ap (of_link h) (off_is s e n)
-          runs s e (Some r) n = (does s r e n).others h q
+  host_none k comes f does = by_test (k == h)
+      (λ q. let none : site_at w.sites k ≡ None = ap (site_at w.sites) (eqb-true k h q) ∙ no_site w.sites h strange in rw none refl)
+      (λ q. by_option (site_at w.sites k) (λ e. rw e refl)
+      (λ s e. by_option s.node (λ n. rw (e, n) refl) (λ r n. (does s r e n).others h q)))
 
   comes_none : (e : End) (comes : Comes) → of_link h (comes_at w e comes).1 ≡ []
   comes_none e comes =

@@ -7,12 +7,11 @@ use Rattle.swp_act.specs.Activation.{new_clf, new_uicc}
 use Rattle.trace_model.specs.declared.entry.Entry.{Entry}
 use Rattle.shdlc_core.specs.declared.answers.LinkState.TheVariants.{Up, Down}
 use Rattle.shdlc_core.specs.Machine.{is_waiting}
-use Rattle.journal_laws.specs.Planned.{after_planned}
 use Rattle.link_laws.specs.machine.Machine.{LinkEnd, Turn, is_open, new_link_end, turned, after_input, sent_all, reset_refusal}
 use Rattle.link_laws.specs.entries.Settled.{FindsReady}
 use Rattle.link_laws.specs.machine.Machine.LinkInput.{Tick, Reset}
 use Rattle.link_laws.specs.machine.Machine.Role.{Clf, Uicc}
-use Rattle.link_laws.specs.messages.Links.{NumberedEnd, Link, Ending, LinkEvent, exchanged, aged, ticks_at_controller, AreSendableTurns}
+use Rattle.link_laws.specs.messages.Links.{NumberedEnd, Link, LinkEvent, exchanged, aged, ticks_at_controller, AreSendableTurns}
 use Rattle.link_laws.specs.messages.Links.{IsClf, IsUicc}
 use Rattle.link_laws.specs.messages.Links.{IsEvent}
 use Rattle.link_laws.specs.messages.Links.Ending.{GoesOut, CutOff}
@@ -36,8 +35,9 @@ use Rattle.node_laws.proofs.links.Worlds.{AreTrueDesks, IsFineNode, IsFineSite, 
 use Rattle.node_laws.specs.telling.Telling.{IfItRuns, is_due, NoneDue, IfOff, IfDue, IsTimely}
 use Rattle.node_laws.proofs.telling.Nodes.{link_is, ports_for}
 use Rattle.node_laws.proofs.telling.Worlds.{site_is}
-use Rattle.node_laws.proofs.telling.WorldTicks.{host_is, tick_host, host_turns, between, between_far, near_turns, tick_event, Ticking, ticking}
+use Rattle.node_laws.proofs.telling.WorldTicks.{tick_host, host_turns, between, between_far, near_turns, tick_event, Ticking, ticking}
 use Rattle.node_machine.proofs.world.Cases.{near_tick, host_tick}
+use Rattle.node_machine.proofs.world.Cases.{after_near_tick, by_controller_tick, by_host_tick, site_ticked, site_unticked}
 use Rattle.node_laws.specs.readings.Noticed.{IfNoticedUp, NoticesAreUp}
 use Rattle.node_laws.proofs.readings.NoticedWorlds.{host_tick_side}
 use Rattle.node_laws.specs.order.Told.{IsLinkTold}
@@ -132,64 +132,40 @@ near_after : (w : NodeWorld) → ((h : ℕ) (s : Site) → site_at w.sites h ≡
     → ((h : ℕ) (s : Site) → site_at w.sites h ≡ Some s → IfOff w.controller (new_link_end (Clf new_clf)) s.link.controller.side)
     → (h : ℕ) (v : Site) → site_at (controller_ticks w).0.sites h ≡ Some v
     → IfOff (controller_ticks w).0.controller (new_link_end (Clf new_clf)) v.link.controller.side
-near_after w clf off h v q = by_option w.controller (λ e. subst Goal (sym (none_is e)) (off_goal e) q) (λ r e. subst Goal (sym (some_is r e)) (on_goal r) q)
+near_after w clf off h v q = by_controller_tick (λ p. Goal p.0) w off_goal (λ r e. on_goal r) q
   where
     Goal : NodeWorld → Type 0
     Goal z = site_at z.sites h ≡ Some v → IfOff z.controller (new_link_end (Clf new_clf)) v.link.controller.side
 
-    f : Site → Site
-    f s = record s { link = ticks_at_controller s.link [] GoesOut }
-
-    g : Running → Site → Site
-    g r s = record s { link = ticked_so s.link (is_late_at (near_tick w r) s.host) (turns_at (near_tick w r) s.host) (ending_of (near_tick w r)) }
-
-    none_is : w.controller ≡ None → (controller_ticks w).0 ≡ record w { sites = map f w.sites }
-    none_is e = rw e refl
-
-    some_is : (r : Running) → w.controller ≡ Some r → (controller_ticks w).0 ≡ record {
-      memory = after_planned (near_tick w r).writes w.memory;
-      controller = runs_on (near_tick w r);
-      sites = map (g r) w.sites;
-    }
-    some_is r e = rw e refl
-
-    still : (s : Site) → s.link.controller.side ≡ new_link_end (Clf new_clf) → (f s).link.controller.side ≡ new_link_end (Clf new_clf)
+    still : (s : Site) → s.link.controller.side ≡ new_link_end (Clf new_clf) → (site_unticked s).link.controller.side ≡ new_link_end (Clf new_clf)
     still s e = ap (λ z. sent_all (after_input z Tick)) e
 
     off_now : w.controller ≡ None → (s : Site) → site_at w.sites h ≡ Some s → s.link.controller.side ≡ new_link_end (Clf new_clf)
     off_now e s there = let G : Option Running → Type 0 = λ o. IfOff o (new_link_end (Clf new_clf)) s.link.controller.side in subst G e (off h s there)
 
-    off_goal : w.controller ≡ None → Goal (record w { sites = map f w.sites })
+    off_goal : w.controller ≡ None → Goal (record w { sites = map site_unticked w.sites })
     off_goal e here =
-        let was = was_there f (λ s. refl) w.sites h v here in
+        let was = was_there site_unticked (λ s. refl) w.sites h v here in
         let V : Site → Type 0 = λ z. z.link.controller.side ≡ new_link_end (Clf new_clf) in
         let G : Option Running → Type 0 = λ o. IfOff o (new_link_end (Clf new_clf)) v.link.controller.side in
         subst G (sym e) (subst V was.is (still was.site (off_now e was.site was.there)))
 
-    on_goal : (r : Running) → Goal (record {
-      memory = after_planned (near_tick w r).writes w.memory;
-      controller = runs_on (near_tick w r);
-      sites = map (g r) w.sites;
-    })
-    on_goal r here = by (near_tick w r).cut refl
+    on_goal : (r : Running) → Goal (after_near_tick w (near_tick w r)).0
+    on_goal r here = by_test (near_tick w r).cut
+        (λ e. let none : runs_on (near_tick w r) ≡ None = rw e refl in
+        let ending : ending_of (near_tick w r) ≡ CutOff = rw e refl in
+        let s : Site = was.site in
+        let G : Option Running → Type 0 = λ o. IfOff o (new_link_end (Clf new_clf)) v.link.controller.side in
+        let V : Site → Type 0 = λ z. z.link.controller.side ≡ new_link_end (Clf new_clf) in
+        subst G (sym none) (subst V was.is
+        (ap (λ x. (ticked_so s.link (is_late_at (near_tick w r) s.host) (turns_at (near_tick w r) s.host) x).controller.side) ending
+        ∙ near_cut s.link (is_late_at (near_tick w r) s.host) (turns_at (near_tick w r) s.host) (clf h s was.there))))
+        (λ e. let some : runs_on (near_tick w r) ≡ Some (record { core = (near_tick w r).core; desks = map (λ p. p.desk) (near_tick w r).ports }) = rw e refl in
+        let G : Option Running → Type 0 = λ o. IfOff o (new_link_end (Clf new_clf)) v.link.controller.side in
+        subst G (sym some) tt)
       where
-        was : WasThere (g r) w.sites h v
-        was = was_there (g r) (λ s. refl) w.sites h v here
-
-        by : (b : Bool) → (near_tick w r).cut ≡ b → IfOff (runs_on (near_tick w r)) (new_link_end (Clf new_clf)) v.link.controller.side
-        by true e =
-            let none : runs_on (near_tick w r) ≡ None = rw e refl in
-            let ending : ending_of (near_tick w r) ≡ CutOff = rw e refl in
-            let s : Site = was.site in
-            let G : Option Running → Type 0 = λ o. IfOff o (new_link_end (Clf new_clf)) v.link.controller.side in
-            let V : Site → Type 0 = λ z. z.link.controller.side ≡ new_link_end (Clf new_clf) in
-            subst G (sym none) (subst V was.is
-            (ap (λ x. (ticked_so s.link (is_late_at (near_tick w r) s.host) (turns_at (near_tick w r) s.host) x).controller.side) ending
-            ∙ near_cut s.link (is_late_at (near_tick w r) s.host) (turns_at (near_tick w r) s.host) (clf h s was.there)))
-        by false e =
-            let some : runs_on (near_tick w r) ≡ Some (record { core = (near_tick w r).core; desks = map (λ p. p.desk) (near_tick w r).ports }) = rw e refl in
-            let G : Option Running → Type 0 = λ o. IfOff o (new_link_end (Clf new_clf)) v.link.controller.side in
-            subst G (sym some) tt
+        was : WasThere (site_ticked (near_tick w r)) w.sites h v
+        was = was_there (site_ticked (near_tick w r)) (λ s. refl) w.sites h v here
 
 -- a host after its tick
 record FarAfter (x : Site) : Type 0 where
@@ -198,53 +174,28 @@ record FarAfter (x : Site) : Type 0 where
 
 far_after : (x : Site) → (x.host == 0) ≡ false → IfItRuns x.host (x.host ∷ []) x.node → IsUicc x.link.host.side.role
     → IfOff x.node (new_link_end (Uicc new_uicc)) x.link.host.side → IfNone x.node → FarAfter x
-far_after x host node uicc off none = go x.node refl node off none
+far_after x host node uicc off none = record {
+  off = by_host_tick (λ z. IfOff z.0.node (new_link_end (Uicc new_uicc)) z.0.link.host.side) x
+      (λ e. rw e (ap (λ z. sent_all (after_input z Tick)) (rw e at off))) (λ n e. off_so n);
+  none = by_host_tick (λ z. IfNone z.0.node) x (λ e. none)
+      (λ n e. runs_none (host_tick x n) (steps_none TimePasses (work_of n x.memory.plan (λ j. x.link.host) [])
+      (record {
+        host = ap (λ m. m == 0) (subst (IfItRuns x.host (x.host ∷ [])) e node).number ∙ host;
+        none = ports_none n.desks (subst IfNone e none);
+      })));
+}
   where
-    P : Site × List Entry → Type 0
-    P z = IfOff z.0.node (new_link_end (Uicc new_uicc)) z.0.link.host.side
-
-    Q : Site × List Entry → Type 0
-    Q z = IfNone z.0.node
-
-    none_is : x.node ≡ None → host_ticks x ≡ (record x { link = exchanged (ticks_at_controller (exchanged x.link) [] GoesOut) }, [])
-    none_is q = rw q refl
-
     ports_none : (ds : List Desk) → AllByRecursion (λ (d : Desk). d.notice ≡ None) ds
         → AllByRecursion (λ p. p.desk.notice ≡ None) (ports_for (λ j. x.link.host) ds)
     ports_none [] n = tt
     ports_none (d ∷ ds) n = (n.0, ports_none ds n.1)
 
-    go : (o : Option Running) → x.node ≡ o → IfItRuns x.host (x.host ∷ []) o → IfOff o (new_link_end (Uicc new_uicc)) x.link.host.side → IfNone o → FarAfter x
-    go None e r f n =
-        let G : Option Running → Type 0 = λ o. IfOff o (new_link_end (Uicc new_uicc)) (sent_all (after_input x.link.host.side Tick)) in
-        let N : Option Running → Type 0 = IfNone in
-        record {
-          off = subst P (sym (none_is e)) (subst G (sym e) (ap (λ z. sent_all (after_input z Tick)) f));
-          none = subst Q (sym (none_is e)) (subst N (sym e) tt);
-        }
-    go (Some n) e r f d =
-        record {
-          off = subst P (sym (host_is x n e)) (by (host_tick x n).cut refl);
-          none = subst Q (sym (host_is x n e))
-              (runs_none (host_tick x n) (steps_none TimePasses (work_of n x.memory.plan (λ j. x.link.host) [])
-              (record { host = ap (λ m. m == 0) r.number ∙ host; none = ports_none n.desks d })));
-        }
-      where
-        side : Ending → LinkEnd
-        side ending = (ticks_at_controller (exchanged x.link) (turns_at (host_tick x n) x.host) ending).controller.side
-
-        by : (b : Bool) → (host_tick x n).cut ≡ b → IfOff (runs_on (host_tick x n)) (new_link_end (Uicc new_uicc)) (side (ending_of (host_tick x n)))
-        by true c =
-            let none : runs_on (host_tick x n) ≡ None = rw c refl in
-            let ending : ending_of (host_tick x n) ≡ CutOff = rw c refl in
-            let G : Option Running → Type 0 = λ o. IfOff o (new_link_end (Uicc new_uicc)) (side (ending_of (host_tick x n))) in
-            subst G (sym none) (ap side ending
-            ∙ renewed_uicc (turned (after_input x.link.host.side Tick) (turns_at (host_tick x n) x.host)).role
-            (tick_uicc (exchanged x.link) (turns_at (host_tick x n) x.host) CutOff uicc))
-        by false c =
-            let some : runs_on (host_tick x n) ≡ Some (record { core = (host_tick x n).core; desks = map (λ p. p.desk) (host_tick x n).ports }) = rw c refl in
-            let G : Option Running → Type 0 = λ o. IfOff o (new_link_end (Uicc new_uicc)) (side (ending_of (host_tick x n))) in
-            subst G (sym some) tt
+    off_so : (n : Running) → IfOff (runs_on (host_tick x n)) (new_link_end (Uicc new_uicc))
+        (ticks_at_controller (exchanged x.link) (turns_at (host_tick x n) x.host) (ending_of (host_tick x n))).controller.side
+    off_so n = by_test (host_tick x n).cut
+        (λ c. rw c (renewed_uicc (turned (after_input x.link.host.side Tick) (turns_at (host_tick x n) x.host)).role
+        (tick_uicc (exchanged x.link) (turns_at (host_tick x n) x.host) CutOff uicc)))
+        (λ c. rw c tt)
 
 -- ## A tick of the world
 

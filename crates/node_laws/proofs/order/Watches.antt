@@ -218,19 +218,16 @@ module _ (h : ℕ) where
   -- where entries tell of no power that is cut, the law of the link notes none
   pub no_cut : (u : List Entry) (notes : List Noted) → list_any (cuts_on h) u ≡ false → ((x : Standing) → standing h x u ≡ standing_by_law h x notes)
       → list_any is_cut notes ≡ false
-  no_cut u notes q stands = go (list_any is_cut notes) refl
+  no_cut u notes q stands = by_test (list_any is_cut notes)
+      (λ e. let long : length x.to_host ≡ suc (length u + length notes) = length-replicate (suc (length u + length notes)) [] in
+      let least = uncut_all u x q in
+      let most = cut_all notes x e in
+      let same : length (standing h x u).to_host ≡ length (standing_by_law h x notes).to_host = ap (λ (z : Standing). length z.to_host) (stands x) in
+      absurd (omega (arith, long, least, most, same)))
+      (λ e. e)
     where
       x : Standing
       x = record new_standing { to_host = replicate (suc (length u + length notes)) [] }
-
-      go : (b : Bool) → list_any is_cut notes ≡ b → list_any is_cut notes ≡ false
-      go false e = e
-      go true e =
-          let long : length x.to_host ≡ suc (length u + length notes) = length-replicate (suc (length u + length notes)) [] in
-          let least = uncut_all u x q in
-          let most = cut_all notes x e in
-          let same : length (standing h x u).to_host ≡ length (standing_by_law h x notes).to_host = ap (λ (z : Standing). length z.to_host) (stands x) in
-          absurd (omega (arith, long, least, most, same))
 
 -- ## What is told of frames
 

@@ -1,5 +1,5 @@
 -- Of hosts in worlds behind the events of a history.
-use Rattle.std.proofs.Common.{◌≡◌, ℕ, ◌==◌, false, List, [], ◌∷◌, ◌++◌, Some, None, refl, sym, subst, append-nil}
+use Rattle.std.proofs.Common.{◌≡◌, ℕ, ◌==◌, false, List, [], ◌∷◌, ◌++◌, Some, refl, sym, subst, append-nil}
 use Rattle.trace_model.specs.declared.entry.Entry.{Entry}
 use Rattle.link_laws.specs.machine.Machine.{LinkInput}
 use Rattle.link_laws.specs.machine.Machine.LinkInput.{Start}
@@ -13,7 +13,7 @@ use Rattle.node_machine.specs.Node.{steps}
 use Rattle.node_machine.specs.Node.NodeInput.{AtEnd, TimePasses}
 use Rattle.node_machine.specs.world.World.{Site, NodeWorld, site_at, input_of, ending_of, turns_at, comes_to, controller_work, link_after_controller}
 use Rattle.node_machine.specs.world.World.{after_controller}
-use Rattle.node_machine.specs.world.World.{controller_does, all_aged, controller_ticks, hosts_tick, comes_at, end_c}
+use Rattle.node_machine.specs.world.World.{all_aged, controller_ticks, hosts_tick, comes_at, end_c}
 use Rattle.node_machine.specs.world.Lines.{Occurrence}
 use Rattle.node_machine.specs.world.NodeHistories.{entries_in}
 use Rattle.node_laws.proofs.Cases.{by_option}
@@ -74,17 +74,10 @@ module _ (hosts : List ℕ) (os : List Occurrence) (w : NodeWorld) (a : IsSo hos
     near_fine = controller_fine w h (Starts power) f tt (λ v fine. steps_fine (AtEnd h (Start power)) v fine) a.well.fine
 
     near_told : (s : Site) → site_at near.0.sites h ≡ Some s → IsLinkTold h s.link (entries_in os ++ near.1)
-    near_told s = by_option w.controller (λ e. subst Goal (sym (off_is e)) off_goal) (λ r e. subst Goal (sym (on_is r e)) (on_goal r e))
+    near_told s = by_option w.controller (λ e. rw e off_goal) (λ r e. rw e (on_goal r e))
       where
         Goal : NodeWorld × List Entry → Type 0
         Goal z = site_at z.0.sites h ≡ Some s → IsLinkTold h s.link (entries_in os ++ z.1)
-
-        off_is : w.controller ≡ None → controller_does w h (Starts power) f ≡ (w, [])
-        off_is e = rw e refl
-
-        on_is : (r : Running) → w.controller ≡ Some r
-            → controller_does w h (Starts power) f ≡ after_controller w h (Starts power) (controller_work w r h (Starts power) f)
-        on_is r e = rw e refl
 
         off_goal : Goal (w, [])
         off_goal there =

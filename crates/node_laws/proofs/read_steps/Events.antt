@@ -1,8 +1,7 @@
 -- Whatever happens to a world, each notice of a creation that the controller sends names the host that it goes to.
-use Rattle.std.proofs.Common.{◌≡◌, ◌⊎◌, inl, inr, ℕ, true, false, List, [], ◌∷◌, ◌++◌, length, sym, refl, ap, ◌∙◌, subst, append_assoc, append-nil}
+use Rattle.std.proofs.Common.{◌≡◌, ℕ, false, List, [], ◌∷◌, ◌++◌, length, sym, refl, ap, ◌∙◌, subst, append_assoc, append-nil}
 use Rattle.std.specs.Prelude.{Option, Some, None}
 use Rattle.std.specs.List.{AllByRecursion, flat_map}
-use Rattle.std.proofs.lemmas.Bool.{cases_Bool}
 use Rattle.std.proofs.lemmas.List.Concat.{flat_map-append}
 use Rattle.swp_base.specs.InMemory.{Memory}
 use Rattle.trace_model.specs.declared.entry.Entry.{Entry}
@@ -58,44 +57,39 @@ module _ (hosts : List ℕ) (are : AreHosts hosts) (t : List Entry) (w : NodeWor
 
   near_named : (h : ℕ) (comes : Comes) (i : LinkInput) → input_of (link_to w.sites h) comes ≡ Some i
       → AreNamed (controller_does w h comes (steps (AtEnd h i))).1
-  near_named h comes i input = by_node w.controller refl where
-    off_is : w.controller ≡ None → controller_does w h comes (steps (AtEnd h i)) ≡ (w, [])
-    off_is e = rw e refl
+  near_named h comes i input = by_option w.controller
+      (λ e. subst (λ (p : NodeWorld × List Entry). AreNamed p.1) (sym (off_is e)) tt)
+      (λ r e. let c : Work = controller_work w r h comes (steps (AtEnd h i)) in
+      let frames : List Entry = flat_map (λ (s : Site). frames_noted Controller s.host (wires_for s.link (comes_to h comes s.host)) c) w.sites in
+      subst (λ (p : NodeWorld × List Entry). AreNamed p.1) (sym (on_is r e))
+      (AllByRecursion-append IsNamed c.entries frames (comes_named hosts are t w k r e h comes i input) (far_named frames
+      (far_flat (λ (s : Site). frames_noted Controller s.host (wires_for s.link (comes_to h comes s.host)) c)
+      (λ s. frames_quiet Controller s.host (wires_for s.link (comes_to h comes s.host)) c) w.sites)))) where
+        off_is : w.controller ≡ None → controller_does w h comes (steps (AtEnd h i)) ≡ (w, [])
+        off_is e = rw e refl
 
-    on_is : (r : Running) → w.controller ≡ Some r
-        → controller_does w h comes (steps (AtEnd h i)) ≡ after_controller w h comes (controller_work w r h comes (steps (AtEnd h i)))
-    on_is r e = rw e refl
-
-    by_node : (o : Option Running) → w.controller ≡ o → AreNamed (controller_does w h comes (steps (AtEnd h i))).1
-    by_node None e = subst (λ (p : NodeWorld × List Entry). AreNamed p.1) (sym (off_is e)) tt
-    by_node (Some r) e =
-        let c : Work = controller_work w r h comes (steps (AtEnd h i)) in
-        let frames : List Entry = flat_map (λ (s : Site). frames_noted Controller s.host (wires_for s.link (comes_to h comes s.host)) c) w.sites in
-        subst (λ (p : NodeWorld × List Entry). AreNamed p.1) (sym (on_is r e))
-        (AllByRecursion-append IsNamed c.entries frames (comes_named hosts are t w k r e h comes i input) (far_named frames
-        (far_flat (λ (s : Site). frames_noted Controller s.host (wires_for s.link (comes_to h comes s.host)) c)
-        (λ s. frames_quiet Controller s.host (wires_for s.link (comes_to h comes s.host)) c) w.sites)))
+        on_is : (r : Running) → w.controller ≡ Some r
+            → controller_does w h comes (steps (AtEnd h i)) ≡ after_controller w h comes (controller_work w r h comes (steps (AtEnd h i)))
+        on_is r e = rw e refl
 
   comes_named_at : (e : End) (comes : Comes) → AreNamed (comes_at w e comes).1
-  comes_named_at e comes = by_side (cases_Bool e.at_host) where
-    seen : e.at_host ≡ false → seen_from e (link_to w.sites e.link) ≡ link_to w.sites e.link
-    seen b = rw b refl
+  comes_named_at e comes = by_test e.at_host
+      (λ b. far_named (comes_at w e comes).1 (far_beside w e comes good b).far)
+      (λ b. go b (input_of (seen_from e (link_to w.sites e.link)) comes) refl) where
+        seen : e.at_host ≡ false → seen_from e (link_to w.sites e.link) ≡ link_to w.sites e.link
+        seen b = rw b refl
 
-    none_is : input_of (seen_from e (link_to w.sites e.link)) comes ≡ None → comes_at w e comes ≡ (w, [])
-    none_is q = rw q refl
+        none_is : input_of (seen_from e (link_to w.sites e.link)) comes ≡ None → comes_at w e comes ≡ (w, [])
+        none_is q = rw q refl
 
-    near_is : (i : LinkInput) → input_of (seen_from e (link_to w.sites e.link)) comes ≡ Some i → e.at_host ≡ false
-        → comes_at w e comes ≡ controller_does w e.link comes (steps (AtEnd e.link i))
-    near_is i q b = rw q (rw b refl)
+        near_is : (i : LinkInput) → input_of (seen_from e (link_to w.sites e.link)) comes ≡ Some i → e.at_host ≡ false
+            → comes_at w e comes ≡ controller_does w e.link comes (steps (AtEnd e.link i))
+        near_is i q b = rw q (rw b refl)
 
-    go : e.at_host ≡ false → (o : Option LinkInput) → input_of (seen_from e (link_to w.sites e.link)) comes ≡ o → AreNamed (comes_at w e comes).1
-    go b None q = subst (λ (p : NodeWorld × List Entry). AreNamed p.1) (sym (none_is q)) tt
-    go b (Some i) q = subst (λ (p : NodeWorld × List Entry). AreNamed p.1) (sym (near_is i q b))
-        (near_named e.link comes i (ap (λ l. input_of l comes) (sym (seen b)) ∙ q))
-
-    by_side : (e.at_host ≡ true) ⊎ (e.at_host ≡ false) → AreNamed (comes_at w e comes).1
-    by_side (inl b) = far_named (comes_at w e comes).1 (far_beside w e comes good b).far
-    by_side (inr b) = go b (input_of (seen_from e (link_to w.sites e.link)) comes) refl
+        go : e.at_host ≡ false → (o : Option LinkInput) → input_of (seen_from e (link_to w.sites e.link)) comes ≡ o → AreNamed (comes_at w e comes).1
+        go b None q = subst (λ (p : NodeWorld × List Entry). AreNamed p.1) (sym (none_is q)) tt
+        go b (Some i) q = subst (λ (p : NodeWorld × List Entry). AreNamed p.1) (sym (near_is i q b))
+            (near_named e.link comes i (ap (λ l. input_of l comes) (sym (seen b)) ∙ q))
 
   activates_named : (h sync power : ℕ) → AreNamed (activates w h sync power).1
   activates_named h sync power =

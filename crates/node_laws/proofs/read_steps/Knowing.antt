@@ -1,9 +1,9 @@
 -- What a controller knows as a message has its turn is what is read off all entries until there.
-use Rattle.std.proofs.Common.{◌≡◌, ◌⊎◌, inl, inr, ℕ, ◌&&◌, ◌||◌, Bool, true, false, cond, eqb, List, [], ◌∷◌, ◌++◌, length, sym, refl, ap, ap₂, ◌∙◌, subst}
+use Rattle.std.proofs.Common.{◌≡◌, ℕ, ◌&&◌, ◌||◌, Bool, true, false, cond, eqb, List, [], ◌∷◌, ◌++◌, length, sym, refl, ap, ap₂, ◌∙◌, subst}
 use Rattle.std.specs.Prelude.{Option, Some, None, is_some}
 use Rattle.std.specs.List.{AllByRecursion, list_any}
 use Rattle.std.specs.Option.{option_map_or, option_and_then}
-use Rattle.std.proofs.lemmas.Bool.{cases_Bool, eqb-true, true≢false}
+use Rattle.std.proofs.lemmas.Bool.{eqb-true, true≢false}
 use Rattle.trace_model.specs.Lines.{IsHost}
 use Rattle.trace_model.specs.declared.entry.Entry.{Entry}
 use Rattle.link_laws.specs.sessions.Sessions.{is_up}
@@ -13,7 +13,7 @@ use Rattle.node_machine.specs.Carrying.{port_at}
 use Rattle.node_machine.specs.Controller.{is_asked_at, is_connected_at, view_for, waiting_pipes}
 use Rattle.node_machine.specs.world.World.{end_c}
 use Rattle.node_machine.specs.world.NodeFilters.{tables_in, notice_in, asking_in, aside_in, session_now, is_connected_in}
-use Rattle.node_laws.proofs.Cases.{by_option}
+use Rattle.node_laws.proofs.Cases.{by_option, by_test}
 use Rattle.node_laws.proofs.links.Noticing.{at_host}
 use Rattle.node_laws.specs.kept.Books.{hosts_of_ends}
 use Rattle.node_laws.specs.kept.Hosts.{AreHosts}
@@ -37,36 +37,27 @@ use Rattle.node_laws.proofs.read_steps.Lasting.{found_end}
 
 one_there : (ports : List Port) (h : ℕ) → is_one_of (hosts_of_ends ports) h ≡ is_some (port_at ports h)
 one_there [] h = refl
-one_there (p ∷ ports) h = go (cases_Bool (eqb p.desk.host h)) (one_there ports h) where
-  go : (eqb p.desk.host h ≡ true) ⊎ (eqb p.desk.host h ≡ false) → is_one_of (hosts_of_ends ports) h ≡ is_some (port_at ports h)
-      → is_one_of (hosts_of_ends (p ∷ ports)) h ≡ is_some (port_at (p ∷ ports) h)
-  go (inl is) later = rw is refl
-  go (inr off) later = rw off later
+one_there (p ∷ ports) h = by_test (eqb p.desk.host h) (λ is. rw is refl) (λ off. rw off (one_there ports h))
 
 -- a test that holds of the host of an end holds of one of them
 any_end : (test : ℕ → Bool) (ports : List Port) (x : ℕ) (p : Port) → port_at ports x ≡ Some p → test x ≡ true → list_any test (hosts_of_ends ports) ≡ true
 any_end test [] x p q e = absurd (cc q)
-any_end test (y ∷ ports) x p q e = go (cases_Bool (eqb y.desk.host x)) (any_end test ports x p) where
-  tail_true : (b c : Bool) → c ≡ true → (b || c) ≡ true
-  tail_true true c z = refl
-  tail_true false c z = z
-
-  go : (eqb y.desk.host x ≡ true) ⊎ (eqb y.desk.host x ≡ false)
-      → (port_at ports x ≡ Some p → test x ≡ true → list_any test (hosts_of_ends ports) ≡ true) → list_any test (hosts_of_ends (y ∷ ports)) ≡ true
-  go (inl is) later = ap (λ b. b || list_any test (hosts_of_ends ports)) (ap test (eqb-true y.desk.host x is) ∙ e)
-  go (inr off) later = tail_true (test y.desk.host) (list_any test (hosts_of_ends ports)) (later (rw off at q) e)
+any_end test (y ∷ ports) x p q e = by_test (eqb y.desk.host x)
+    (λ is. ap (λ b. b || list_any test (hosts_of_ends ports)) (ap test (eqb-true y.desk.host x is) ∙ e))
+    (λ off. tail_true (test y.desk.host) (list_any test (hosts_of_ends ports)) ((any_end test ports x p) (rw off at q) e)) where
+      tail_true : (b c : Bool) → c ≡ true → (b || c) ≡ true
+      tail_true true c z = refl
+      tail_true false c z = z
 
 -- REC_ERROR of the end of a host
 counted_at : (h n : ℕ) (ports : List Port) (p : Port) → AllByRecursion (λ (q : Port). eqb q.desk.host h ≡ true → q.desk.errors ≡ n) ports
     → port_at ports h ≡ Some p → p.desk.errors ≡ n
 counted_at h n [] p all here = absurd (cc here)
-counted_at h n (q ∷ ports) p all here = go (cases_Bool (eqb q.desk.host h)) (counted_at h n ports p all.1) where
-  go : (eqb q.desk.host h ≡ true) ⊎ (eqb q.desk.host h ≡ false) → (port_at ports h ≡ Some p → p.desk.errors ≡ n) → p.desk.errors ≡ n
-  go (inl is) later =
-      let found : Some q ≡ Some p = rw is at here in
-      let same : q ≡ p = cc in
-      subst (λ (z : Port). z.desk.errors ≡ n) same (all.0 is)
-  go (inr off) later = later (rw off at here)
+counted_at h n (q ∷ ports) p all here = by_test (eqb q.desk.host h)
+    (λ is. let found : Some q ≡ Some p = rw is at here in
+    let same : q ≡ p = cc in
+    subst (λ (z : Port). z.desk.errors ≡ n) same (all.0 is))
+    (λ off. (counted_at h n ports p all.1) (rw off at here))
 
 module _ (hosts : List ℕ) (are : AreHosts hosts) (t : List Entry) (w : Work) (a : KeepsInStep hosts t w) where
   abbrev now : List Entry

@@ -1,9 +1,9 @@
 -- What a controller keeps in a step lasts over the handling of a message, where one is held, and where none is.
-use Rattle.std.proofs.Common.{◌≡◌, ◌⊎◌, inl, inr, ℕ, true, false, cond, eqb, List, [], ◌∷◌, sym, refl, ap, ◌∙◌, subst}
+use Rattle.std.proofs.Common.{◌≡◌, inl, inr, ℕ, true, false, cond, eqb, List, [], ◌∷◌, sym, refl, ap, ◌∙◌, subst}
 use Rattle.std.specs.Prelude.{Option, Some, None}
 use Rattle.std.specs.List.{AllByRecursion}
 use Rattle.std.specs.Option.{option_map_or}
-use Rattle.std.proofs.lemmas.Bool.{cases_Bool, eqb-true, eq-eqb, true≢false}
+use Rattle.std.proofs.lemmas.Bool.{eqb-true, eq-eqb, true≢false}
 use Rattle.trace_model.specs.Lines.{IsHost}
 use Rattle.trace_model.specs.declared.entry.Entry.{Entry}
 use Rattle.trace_model.specs.declared.entry.Entry.TheVariants as entry
@@ -32,10 +32,9 @@ use Rattle.node_laws.proofs.read_steps.Parts.{errors_before, to_notices, to_crea
 -- the end of the link with this host is there, and its host is one of these
 pub found_end : (P : ℕ → Type 0) (ports : List Port) (h : ℕ) (p : Port) → port_at ports h ≡ Some p → AllByRecursion P (hosts_of_ends ports) → P h
 found_end P [] h p here all = absurd (cc here)
-found_end P (q ∷ ports) h p here all = by (cases_Bool (eqb q.desk.host h)) (found_end P ports h p) where
-  by : (eqb q.desk.host h ≡ true) ⊎ (eqb q.desk.host h ≡ false) → (port_at ports h ≡ Some p → AllByRecursion P (hosts_of_ends ports) → P h) → P h
-  by (inl is) later = subst P (eqb-true q.desk.host h is) all.0
-  by (inr off) later = later (sym (ap (λ b. cond b (Some q) (port_at ports h)) off) ∙ here) all.1
+found_end P (q ∷ ports) h p here all = by_test (eqb q.desk.host h)
+    (λ is. subst P (eqb-true q.desk.host h is) all.0)
+    (λ off. (found_end P ports h p) (sym (ap (λ b. cond b (Some q) (port_at ports h)) off) ∙ here) all.1)
 
 -- a message came there
 pub got_end : (o : Option Port) (m : Message) (rest : List Message) → option_map_or (λ (p : Port). p.side.got) o [] ≡ m ∷ rest → (p : Port) × (o ≡ Some p)

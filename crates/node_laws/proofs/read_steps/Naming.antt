@@ -18,7 +18,6 @@ use Rattle.link_laws.specs.machine.Machine.LinkInput.{Reset}
 use Rattle.link_laws.specs.machine.Machine.Turn.{Give, Hold, FetchMessage, SetAside, Release}
 use Rattle.link_laws.specs.entries.Entries.{End as Side, Entry as Noted, sent_unless}
 use Rattle.link_laws.specs.entries.Entries.End.{Controller, Host}
-use Rattle.link_laws.specs.entries.Entries.Entry.{Down}
 use Rattle.history.specs.Filters.{same_end, same_side}
 use Rattle.history.specs.Steps.{entries_for}
 use Rattle.node_machine.specs.Parts.{Creation, Core, Port, Work, Deed}
@@ -40,6 +39,7 @@ use Rattle.node_laws.proofs.notices.Own.{IsFar}
 use Rattle.node_laws.proofs.notices.Stepping.{TellNoNotices}
 use Rattle.node_laws.proofs.notices.Telling.{MayTell}
 use Rattle.node_laws.specs.read_steps.Names.{IsNamed, AreNamed}
+use Rattle.node_laws.proofs.Cut.{by_cut}
 
 -- ## What is read
 
@@ -148,14 +148,7 @@ done_named k (Ends x) w names a = note_named x (record w { core = record w.core 
 done_named k _ w names a = a
 
 pub unless_named : (f : Work → Work) (w : Work) → (w.cut ≡ false → AreNamed (f w).entries) → AreNamed w.entries → AreNamed (unless_cut f w).entries
-unless_named f w one a = by_test w.cut
-    (λ e. subst (λ (v : Work). AreNamed v.entries) (sym (off_is e)) a)
-    (λ e. subst (λ (v : Work). AreNamed v.entries) (sym (on_is e)) (one e)) where
-      on_is : w.cut ≡ false → unless_cut f w ≡ f w
-      on_is e = rw e refl
-
-      off_is : w.cut ≡ true → unless_cut f w ≡ w
-      off_is e = rw e refl
+unless_named f w one a = by_cut (λ v. AreNamed v.entries) f w (λ e. a) one
 
 pub all_done_named : (k : ℕ) (deeds : List Deed) (w : Work) → AllByRecursion NamesSo deeds → AreNamed w.entries → AreNamed (all_done k deeds w).entries
 all_done_named k [] w names a = a

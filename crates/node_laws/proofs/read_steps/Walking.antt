@@ -11,14 +11,13 @@ use Rattle.node_machine.specs.Parts.{Creation, Port, Work, Deed}
 use Rattle.node_machine.specs.Parts.Deed.{IsAnswered, Releases}
 use Rattle.node_machine.specs.Carrying.{unless_cut, port_at, all_done, needs, lack}
 use Rattle.node_machine.specs.Controller.{controller_deeds, view_of}
-use Rattle.node_machine.specs.Turns.{deeds_of, handles, holds_back, have_turns, goes_through_ends, passes}
+use Rattle.node_machine.specs.Turns.{deeds_of, handles, have_turns, goes_through_ends, passes}
 use Rattle.node_machine.specs.Node.{NodeInput, input_at, told_at, all_come, with_older, told_late, times_out, forgotten, all_owed, synced}
 use Rattle.node_machine.specs.Node.NodeInput.{AtEnd, TimePasses}
 use Rattle.node_laws.specs.steps.Waiting.{IsAllowedStill}
 use Rattle.node_laws.specs.kept.Books.{hosts_of_ends}
 use Rattle.node_laws.specs.kept.Hosts.{AreHosts}
 use Rattle.node_laws.proofs.All.{all_flat}
-use Rattle.node_laws.proofs.Cases.{by_test}
 use Rattle.node_laws.proofs.kept.Turning.{deeds_fit}
 use Rattle.node_laws.specs.notices.Notices.{IsKeptNotice}
 use Rattle.node_laws.proofs.notices.Doing.{Holds}
@@ -38,6 +37,8 @@ use Rattle.node_laws.proofs.read_steps.Naming.{NamesSo, all_done_named, no_notic
 use Rattle.node_laws.proofs.read_steps.Naming.{told_named}
 use Rattle.node_laws.proofs.read_steps.Naming.{unless_named}
 use Rattle.node_laws.specs.passes.Steps.{comes_to_pass}
+use Rattle.node_laws.proofs.Cut.{by_cut}
+use Rattle.node_laws.proofs.Cases.{by_option}
 
 -- ## As the pass begins
 
@@ -114,36 +115,22 @@ module _ (hosts : List ℕ) (are : AreHosts hosts) (t : List Entry) where
     pub named : AreNamed w.entries
 
   unless_walked : (f : Work → Work) (w : Work) → Walked w → (RunsInStep hosts t w → AreNamed w.entries → Walked (f w)) → Walked (unless_cut f w)
-  unless_walked f w a next = by_test w.cut (λ e. subst Walked (sym (off_is e)) a) (λ e. subst Walked (sym (on_is e)) (next (a.keeps e) a.named)) where
-    on_is : w.cut ≡ false → unless_cut f w ≡ f w
-    on_is e = rw e refl
-
-    off_is : w.cut ≡ true → unless_cut f w ≡ w
-    off_is e = rw e refl
+  unless_walked f w a next = by_cut Walked f w (λ e. a) (λ e. next (a.keeps e) a.named)
 
   turns_walked : (h : ℕ) → IsHost h → is_one_of hosts h ≡ true → (messages : List Message) (w : Work) → RunsInStep hosts t w → AreNamed w.entries
       → Walked (have_turns h messages w)
   turns_walked h host one [] w a named = record { keeps = λ on. runs_lets hosts are t h w a; named = lets_named h w named }
-  turns_walked h host one (m ∷ messages) w a named =
-      go (lack w.ports (needs h deeds)) refl (λ v b n. turns_walked h host one messages v b n) where
+  turns_walked h host one (m ∷ messages) w a named = by_option (lack w.ports (needs h deeds))
+      (λ e. rw e (unless_walked (have_turns h messages) (handles h m deeds w) (record {
+        keeps = λ on. runs_handled hosts are t h m end.0 w a end.1 e on;
+        named = handles_named h m deeds w (deeds_name h m w a host) named;
+      }) (λ b n. turns_walked h host one messages (handles h m deeds w) b n)))
+      (λ short e. rw e (record { keeps = λ on. runs_holds hosts are t h short w a; named = holds_named h short w named })) where
         deeds : List Deed
         deeds = deeds_of w.core w.ports h m
 
-        by : Option (ℕ × ℕ) → Work
-        by None = unless_cut (have_turns h messages) (handles h m deeds w)
-        by (Some short) = holds_back h short w
-
         end : (p : Port) × (port_at w.ports h ≡ Some p)
         end = some_of (port_at w.ports h) (there_is hosts are t w a.keeps h ∙ one)
-
-        go : (o : Option (ℕ × ℕ)) → lack w.ports (needs h deeds) ≡ o
-            → ((v : Work) → RunsInStep hosts t v → AreNamed v.entries → Walked (have_turns h messages v)) → Walked (by o)
-        go None e later =
-            unless_walked (have_turns h messages) (handles h m deeds w) (record {
-              keeps = λ on. runs_handled hosts are t h m end.0 w a end.1 e on;
-              named = handles_named h m deeds w (deeds_name h m w a host) named;
-            }) (λ b n. later (handles h m deeds w) b n)
-        go (Some short) e later = record { keeps = λ on. runs_holds hosts are t h short w a; named = holds_named h short w named }
 
   ends_walked : (hs : List ℕ) → AllByRecursion IsHost hs → AllByRecursion (λ h. is_one_of hosts h ≡ true) hs → (w : Work) → RunsInStep hosts t w
       → AreNamed w.entries → Walked (goes_through_ends hs w)

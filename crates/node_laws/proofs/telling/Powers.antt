@@ -11,7 +11,7 @@ use Rattle.link_laws.specs.machine.Machine.{LinkInput, Refused, Turn, Message, g
 use Rattle.link_laws.specs.machine.Machine.LinkInput.{Reset}
 use Rattle.link_laws.specs.machine.Machine.Turn.{Give}
 use Rattle.link_laws.specs.entries.Entries.{End as Side, Entry as Noted, told, sent_unless}
-use Rattle.link_laws.specs.entries.Entries.Entry.{Active, GaveUp, Tick, Restarted, Cut}
+use Rattle.link_laws.specs.entries.Entries.Entry.{Tick, Restarted, Cut}
 use Rattle.history.specs.Filters.{Saying, said}
 use Rattle.history.specs.Filters.Saying.{Sends}
 use Rattle.history.specs.Steps.{end_of, entry_of, entries_for}

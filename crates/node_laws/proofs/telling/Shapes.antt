@@ -228,7 +228,17 @@ module _ (h n : ℕ) (who : Side) (powers : (x : Standing) → after_power h n x
     (a : IsAtEnd h n who powers w) (out : AreUncut frames × (w.cut ≡ true → frames ≡ [])) where
   pub step_stands : (notes : List Noted) → IsShaped who (ending_of w) notes → of_link h (w.entries ++ frames) ≡ of_link h (entries_for h notes)
       → (x : Standing) → standing h x (w.entries ++ frames) ≡ standing_by_law h x notes
-  step_stands notes s told x = go w.cut refl
+  step_stands notes s told x = by_test w.cut
+      (λ q. let all : w.entries ++ frames ≡ w.entries = ap (λ z. w.entries ++ z) (out.1 q) ∙ append-nil w.entries in
+      ap (standing h x) all
+      ∙ (a.stands x
+      ∙ (ap here q
+      ∙ (ap (without_power who) (ap (standing_said h x) (sym all) ∙ said_is) ∙ sym (law_is true q)))))
+      (λ q. fold-append (stands_noted h) x w.entries frames
+      ∙ (ap (λ y. standing h y frames) (a.stands x ∙ ap here q)
+      ∙ (uncut_said h frames out.0 (standing_said h x w.entries)
+      ∙ (sym (fold-append (stands_told h) x w.entries frames)
+      ∙ (said_is ∙ sym (law_is false q))))))
     where
       ends : Bool → Ending
       ends b = cond b CutOff GoesOut
@@ -246,20 +256,6 @@ module _ (h n : ℕ) (who : Side) (powers : (x : Standing) → after_power h n x
 
       here : Bool → Standing
       here b = cond b (without_power who (standing_said h x w.entries)) (standing_said h x w.entries)
-
-      go : (b : Bool) → w.cut ≡ b → standing h x (w.entries ++ frames) ≡ standing_by_law h x notes
-      go false q =
-          fold-append (stands_noted h) x w.entries frames
-          ∙ (ap (λ y. standing h y frames) (a.stands x ∙ ap here q)
-          ∙ (uncut_said h frames out.0 (standing_said h x w.entries)
-          ∙ (sym (fold-append (stands_told h) x w.entries frames)
-          ∙ (said_is ∙ sym (law_is false q)))))
-      go true q =
-          let all : w.entries ++ frames ≡ w.entries = ap (λ z. w.entries ++ z) (out.1 q) ∙ append-nil w.entries in
-          ap (standing h x) all
-          ∙ (a.stands x
-          ∙ (ap here q
-          ∙ (ap (without_power who) (ap (standing_said h x) (sym all) ∙ said_is) ∙ sym (law_is true q))))
 
   -- so it is with the step of an end
   pub comes_stands : (comes : Comes) (notes : List Noted) → IsStepShaped who comes (ending_of w) notes

@@ -129,43 +129,33 @@ module _ (h : ℕ) where
   stands_only : (sites : List Site) (x : Site) → AreDifferent (hosts_in sites) → AreNumbered sites → AreNodes sites → site_at sites h ≡ Some x → (y : Standing)
       → standing h y (hosts_tick sites).1 ≡ standing h y (host_ticks x).1
   stands_only [] x d b a q y = absurd (cc q)
-  stands_only (z ∷ sites) x d b a q y = go (z.host == h) refl (stands_only sites x d.1 b.1 a.1)
+  stands_only (z ∷ sites) x d b a q y = by_test (z.host == h)
+      (λ e. let is : Some z ≡ Some x = rw e at q in
+      let one : z ≡ x = cc in
+      let A : ℕ → Type 0 = λ n. AllByRecursion (λ k. (k == n) ≡ false) (hosts_in sites) in
+      both
+      ∙ (others_leave sites b.1 a.1 (subst A (eqb-true z.host h e) d.0) (standing h y (host_ticks z).1)
+      ∙ ap (λ (v : Site). standing h y (host_ticks v).1) one))
+      (λ e. both ∙ (ap (λ v. standing h v (hosts_tick sites).1) (other_leaves z b.0 a.0 e y) ∙ (stands_only sites x d.1 b.1 a.1) (rw e at q) y))
     where
       both : standing h y (hosts_tick (z ∷ sites)).1 ≡ standing h (standing h y (host_ticks z).1) (hosts_tick sites).1
       both = fold-append (stands_noted h) y (host_ticks z).1 (hosts_tick sites).1
-
-      go : (c : Bool) → (z.host == h) ≡ c
-          → (site_at sites h ≡ Some x → (y : Standing) → standing h y (hosts_tick sites).1 ≡ standing h y (host_ticks x).1)
-          → standing h y (hosts_tick (z ∷ sites)).1 ≡ standing h y (host_ticks x).1
-      go true e later =
-          let is : Some z ≡ Some x = rw e at q in
-          let one : z ≡ x = cc in
-          let A : ℕ → Type 0 = λ n. AllByRecursion (λ k. (k == n) ≡ false) (hosts_in sites) in
-          both
-          ∙ (others_leave sites b.1 a.1 (subst A (eqb-true z.host h e) d.0) (standing h y (host_ticks z).1)
-          ∙ ap (λ (v : Site). standing h y (host_ticks v).1) one)
-      go false e later =
-          both ∙ (ap (λ v. standing h v (hosts_tick sites).1) (other_leaves z b.0 a.0 e y) ∙ later (rw e at q) y)
 
   -- of a link its host's tick tells alone
   hosts_only : (sites : List Site) (x : Site) → AreDifferent (hosts_in sites) → AreNumbered sites → AreNodes sites → site_at sites h ≡ Some x
       → of_link h (hosts_tick sites).1 ≡ of_link h (host_ticks x).1
   hosts_only [] x d b a q = absurd (cc q)
-  hosts_only (y ∷ sites) x d b a q = go (y.host == h) refl (hosts_only sites x d.1 b.1 a.1)
+  hosts_only (y ∷ sites) x d b a q = by_test (y.host == h)
+      (λ e. let is : Some y ≡ Some x = rw e at q in
+      let one : y ≡ x = cc in
+      let A : ℕ → Type 0 = λ n. AllByRecursion (λ k. (k == n) ≡ false) (hosts_in sites) in
+      both
+      ∙ (ap (λ t. of_link h (host_ticks y).1 ++ t) (other_hosts sites b.1 a.1 (subst A (eqb-true y.host h e) d.0))
+      ∙ (append-nil (of_link h (host_ticks y).1) ∙ ap (λ (z : Site). of_link h (host_ticks z).1) one)))
+      (λ e. both ∙ (ap (λ t. t ++ of_link h (hosts_tick sites).1) (other_host y b.0 a.0 e) ∙ (hosts_only sites x d.1 b.1 a.1) (rw e at q)))
     where
       both : of_link h (hosts_tick (y ∷ sites)).1 ≡ of_link h (host_ticks y).1 ++ of_link h (hosts_tick sites).1
       both = of-append h (host_ticks y).1 (hosts_tick sites).1
-
-      go : (c : Bool) → (y.host == h) ≡ c → (site_at sites h ≡ Some x → of_link h (hosts_tick sites).1 ≡ of_link h (host_ticks x).1)
-          → of_link h (hosts_tick (y ∷ sites)).1 ≡ of_link h (host_ticks x).1
-      go true e later =
-          let is : Some y ≡ Some x = rw e at q in
-          let one : y ≡ x = cc in
-          let A : ℕ → Type 0 = λ n. AllByRecursion (λ k. (k == n) ≡ false) (hosts_in sites) in
-          both
-          ∙ (ap (λ t. of_link h (host_ticks y).1 ++ t) (other_hosts sites b.1 a.1 (subst A (eqb-true y.host h e) d.0))
-          ∙ (append-nil (of_link h (host_ticks y).1) ∙ ap (λ (z : Site). of_link h (host_ticks z).1) one))
-      go false e later = both ∙ (ap (λ t. t ++ of_link h (hosts_tick sites).1) (other_host y b.0 a.0 e) ∙ later (rw e at q))
 
   hosts_at : (sites : List Site) (x : Site) → site_at sites h ≡ Some x → site_at (hosts_tick sites).0 h ≡ Some (host_ticks x).0
   hosts_at [] x q = absurd (cc q)

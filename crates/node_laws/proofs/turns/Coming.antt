@@ -195,23 +195,17 @@ module _ (e : End) (who : Side) (own : Bool) (mine : own ≡ true → has_side w
     all_go : (ports : List Port) → AreDifferent (hosts_of_ends ports) → Fresh e who own s begin (port_at ports e.link)
         → Goes e begin (flat_map noted ports) (then_waits own (port_at ports e.link))
     all_go [] d f = none_goes own
-    all_go (p ∷ ports) d f = go (p.desk.host == e.link) refl (all_go ports d.1)
-      where
-        go : (b : Bool) → (p.desk.host == e.link) ≡ b
-            → (Fresh e who own s begin (port_at ports e.link) → Goes e begin (flat_map noted ports) (then_waits own (port_at ports e.link)))
-            → Goes e begin (flat_map noted (p ∷ ports)) (then_waits own (port_at (p ∷ ports) e.link))
-        go true q later =
-            let is : port_at (p ∷ ports) e.link ≡ Some p = rw q refl in
-            let fresh : Fresh e who own s begin (Some p) = subst (λ o. Fresh e who own s begin o) is f in
-            let A : ℕ → Type 0 = λ n. AllByRecursion (λ k. (k == n) ≡ false) (hosts_of_ends ports) in
-            subst (λ o. Goes e begin (flat_map noted (p ∷ ports)) (then_waits own o)) (sym is)
-            (goes-append e (noted p) (flat_map noted ports) begin (then_waits own (Some p)) (then_waits own (Some p)) (one_goes own p refl q fresh)
-            (others_all ports (then_waits own (Some p)) (subst A (eqb-true p.desk.host e.link q) d.0)))
-        go false q later =
-            let is : port_at (p ∷ ports) e.link ≡ port_at ports e.link = rw q refl in
-            subst (λ o. Goes e begin (flat_map noted (p ∷ ports)) (then_waits own o)) (sym is)
-            (goes-append e (noted p) (flat_map noted ports) begin begin (then_waits own (port_at ports e.link))
-            (others_go core p (input_at input p) begin side (off_link p.desk.host q)) (later (subst (λ o. Fresh e who own s begin o) is f)))
+    all_go (p ∷ ports) d f = by_test (p.desk.host == e.link)
+        (λ q. let is : port_at (p ∷ ports) e.link ≡ Some p = rw q refl in
+        let fresh : Fresh e who own s begin (Some p) = subst (λ o. Fresh e who own s begin o) is f in
+        let A : ℕ → Type 0 = λ n. AllByRecursion (λ k. (k == n) ≡ false) (hosts_of_ends ports) in
+        subst (λ o. Goes e begin (flat_map noted (p ∷ ports)) (then_waits own o)) (sym is)
+        (goes-append e (noted p) (flat_map noted ports) begin (then_waits own (Some p)) (then_waits own (Some p)) (one_goes own p refl q fresh)
+        (others_all ports (then_waits own (Some p)) (subst A (eqb-true p.desk.host e.link q) d.0))))
+        (λ q. let is : port_at (p ∷ ports) e.link ≡ port_at ports e.link = rw q refl in
+        subst (λ o. Goes e begin (flat_map noted (p ∷ ports)) (then_waits own o)) (sym is)
+        (goes-append e (noted p) (flat_map noted ports) begin begin (then_waits own (port_at ports e.link))
+        (others_go core p (input_at input p) begin side (off_link p.desk.host q)) ((all_go ports d.1) (subst (λ o. Fresh e who own s begin o) is f))))
 
     -- what is known of the end then
     knows_come : (b : Bool) (p : Port) → (p.desk.host == e.link) ≡ true → Fresh e who b s begin (Some p)

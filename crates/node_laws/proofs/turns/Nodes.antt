@@ -29,7 +29,7 @@ use Rattle.node_machine.specs.world.World.{ticked_so, end_c, end_h}
 use Rattle.node_laws.specs.kept.Books.{hosts_of_ends}
 use Rattle.node_laws.specs.kept.Hosts.{AreDifferent}
 use Rattle.node_laws.specs.links.Notices.{IsOutside}
-use Rattle.node_laws.proofs.Cases.{by_test}
+use Rattle.node_laws.proofs.Cases.{by_test, by_option}
 use Rattle.node_laws.proofs.links.Ends.{here_host}
 use Rattle.link_laws.proofs.entries.Together.{ticks_host as tick_host}
 use Rattle.node_laws.specs.telling.Telling.{HasEnds, hosts_in}
@@ -42,7 +42,7 @@ use Rattle.node_laws.proofs.readings.Sites.{near_end_side, comes_outside}
 use Rattle.node_laws.proofs.turns.Queues.{goes-append, AreStill, still_goes}
 use Rattle.node_laws.proofs.turns.Ends.{left_by, ended_with, tick_got, step_got, ticks_got, late_got}
 use Rattle.node_laws.proofs.turns.Coming.{input_on, Fresh, steps_stand, begins_stand}
-use Rattle.node_laws.proofs.turns.Works.{arrival_still, frames_still, NearWaits, FarWaits, ByPower, Moves, AllMove, Leaves, leaves-append}
+use Rattle.node_laws.proofs.turns.Works.{arrival_still, frames_still, NearWaits, FarWaits, ByPower, AllMove, Leaves, leaves-append}
 use Rattle.node_laws.proofs.turns.Works.{still_leaves, flat_leaves}
 use Rattle.node_laws.proofs.turns.Works.{sites_is, SiteGoes, NodeDoes, Leaving, own_left, away, ends_so}
 
@@ -243,34 +243,30 @@ module _ (w : NodeWorld) (r : Running) (memory : Memory) (near_ends : ℕ → Nu
             subst (λ (o : Option Running). ByPower (is_some o) q (g s).link.host.side.got) (sym (stays s))
             (subst (ByPower (is_some s.node) q) (sym (far s)) was));
       }
-  controller_moves host stays far before behind false h q x = go (site_at w.sites h) refl
+  controller_moves host stays far before behind false h q x = by_option (site_at w.sites h)
+      (λ z. let none : port_at begun.ports h ≡ None = no_port begun.ports w.sites h ends z in
+      record {
+        left = q;
+        goes = leaves-append (end_c h) k.entries frames
+            (away Controller (λ j. (near_ends j).side) came begun k does (end_c h)
+            (λ u. subst (Fresh (end_c h) Controller false (near_ends h).side u) (sym none) tt)) (quiet (end_c h)) q;
+        waits = sites_is g host w.sites h (NearWaits (runs_on k) q) (λ y. tt) (λ s y. let both : None ≡ Some s = sym z ∙ y in absurd (cc both));
+      })
+      (λ s z. let one = stands near_ends r.desks w.sites h s node.ends z in
+      let was : q ≡ s.link.controller.side.got =
+      let P : Option Running → Type 0 = λ o. NearWaits o q (Some s) in subst P runs (subst (NearWaits w.controller q) z x) in
+      let own : Leaving (end_c h) (came h) k q =
+      own_left Controller (λ j. (near_ends j).side) came begun k does (end_c h) (port_for (near_ends h) one.desk) refl
+      (ap (λ ps. port_at ps h) ports ∙ one.here) refl refl q (before h s z ∙ sym was) in
+      record {
+        left = own.left;
+        goes = goes-append (end_c h) k.entries frames q own.left own.left own.goes (quiet (end_c h) own.left);
+        waits = sites_is g host w.sites h (NearWaits (runs_on k) own.left) (λ y. tt)
+            (λ v y. ends_so k own.left (g v).link.controller.side.got (behind h v y ∙ ap (ended_with (ending_of k)) own.turns));
+      })
     where
       ends : hosts_of_ends begun.ports ≡ hosts_in w.sites
       ends = ap hosts_of_ends ports ∙ (hosts_same near_ends r.desks ∙ node.ends)
-
-      go : (o : Option Site) → site_at w.sites h ≡ o → Moves false h Then (k.entries ++ frames) q
-      go None z =
-          let none : port_at begun.ports h ≡ None = no_port begun.ports w.sites h ends z in
-          record {
-            left = q;
-            goes = leaves-append (end_c h) k.entries frames
-                (away Controller (λ j. (near_ends j).side) came begun k does (end_c h)
-                (λ u. subst (Fresh (end_c h) Controller false (near_ends h).side u) (sym none) tt)) (quiet (end_c h)) q;
-            waits = sites_is g host w.sites h (NearWaits (runs_on k) q) (λ y. tt) (λ s y. let both : None ≡ Some s = sym z ∙ y in absurd (cc both));
-          }
-      go (Some s) z =
-          let one = stands near_ends r.desks w.sites h s node.ends z in
-          let was : q ≡ s.link.controller.side.got =
-          let P : Option Running → Type 0 = λ o. NearWaits o q (Some s) in subst P runs (subst (NearWaits w.controller q) z x) in
-          let own : Leaving (end_c h) (came h) k q =
-          own_left Controller (λ j. (near_ends j).side) came begun k does (end_c h) (port_for (near_ends h) one.desk) refl
-          (ap (λ ps. port_at ps h) ports ∙ one.here) refl refl q (before h s z ∙ sym was) in
-          record {
-            left = own.left;
-            goes = goes-append (end_c h) k.entries frames q own.left own.left own.goes (quiet (end_c h) own.left);
-            waits = sites_is g host w.sites h (NearWaits (runs_on k) own.left) (λ y. tt)
-                (λ v y. ends_so k own.left (g v).link.controller.side.got (behind h v y ∙ ap (ended_with (ending_of k)) own.turns));
-          }
 
 module _ (w : NodeWorld) (r : Running) (runs : w.controller ≡ Some r) (node : HasEnds 0 (hosts_in w.sites) r)
     (different : AreDifferent (hosts_in w.sites)) where

@@ -16,9 +16,10 @@ use Rattle.history.specs.Steps.{end_of, entries_for}
 use Rattle.node_machine.specs.Parts.{Desk, Core, Port, Work, Deed}
 use Rattle.node_machine.specs.Carrying.{own_side, end_of_node, noting, unless_cut, port_at, changed_if, with_desk, after_turn, noted_of, turn_at, loses_power}
 use Rattle.node_machine.specs.Carrying.{needs, lack, all_done}
-use Rattle.node_machine.specs.Turns.{deeds_of, handles, holds_back, have_turns}
+use Rattle.node_machine.specs.Turns.{deeds_of, handles, have_turns}
 use Rattle.node_machine.specs.Node.{answers_and_passes}
 use Rattle.node_laws.proofs.Cases.{by_option, by_test}
+use Rattle.node_laws.proofs.Cases.{by_option}
 use Rattle.node_laws.proofs.telling.Mute.{IsMute, AreMute, deeds_mute}
 use Rattle.node_laws.proofs.telling.Walks.{ArePlain, IsNoFetch, every_do, holds, lets}
 use Rattle.node_laws.proofs.steps.StepWalks.{unless, rest as rest_of}
@@ -28,6 +29,7 @@ use Rattle.node_laws.proofs.turns.Queues.Doing.{Takes}
 use Rattle.node_laws.proofs.turns.Queues.{Becomes, Goes, goes-append, AreStill, still_goes, all_still, doing}
 use Rattle.node_laws.proofs.turns.Ends.{kept_by, left_by, left-append, turn_got}
 use Rattle.node_laws.proofs.steps.Ports.{changed_host}
+use Rattle.node_laws.proofs.Cut.{by_cut}
 
 -- ## Ends
 
@@ -201,19 +203,12 @@ module _ (e : End) (who : Side) (own : Bool) (mine : own ≡ true → has_side w
   have_other : (ms : List Message) (k : ℕ) → same_end (end_of k who) e ≡ false → (messages : List Message) (w : Work) → At ms w
       → At ms (have_turns k messages w)
   have_other ms k off [] w a = lets (At ms) (note ms) (desk ms) (turns ms) (beside ms) (loses ms) k w a
-  have_other ms k off (m ∷ messages) w a = go (lack w.ports (needs k deeds)) (λ v b. have_other ms k off messages v b)
-    where
-      deeds : List Deed
-      deeds = deeds_of w.core w.ports k m
-
-      by : Option (ℕ × ℕ) → Work
-      by None = unless_cut (have_turns k messages) (handles k m deeds w)
-      by (Some short) = holds_back k short w
-
-      go : (o : Option (ℕ × ℕ)) → ((v : Work) → At ms v → At ms (have_turns k messages v)) → At ms (by o)
-      go None later =
-          unless (At ms) (have_turns k messages) (handles k m deeds w) later (handles_other ms k m deeds w off (deeds_mute w.core w.ports k m) a)
-      go (Some short) later = holds (At ms) (note ms) (desk ms) (turns ms) (beside ms) (loses ms) k short w a
+  have_other ms k off (m ∷ messages) w a = by_option (lack w.ports (needs k deeds))
+      (λ q. rw q (unless (At ms) (have_turns k messages) (handles k m deeds w) (λ v b. have_other ms k off messages v b)
+      (handles_other ms k m deeds w off (deeds_mute w.core w.ports k m) a)))
+      (λ short q. rw q (holds (At ms) (note ms) (desk ms) (turns ms) (beside ms) (loses ms) k short w a)) where
+        deeds : List Deed
+        deeds = deeds_of w.core w.ports k m
 
   -- ## Turns of this end
 
@@ -249,34 +244,20 @@ module _ (e : End) (who : Side) (own : Bool) (mine : own ≡ true → has_side w
       (desk ms k (λ d. record d { holds = false }) (turn_at k FetchMessage told) (λ d. refl) fetched)
 
   goes_on : (f : Work → Work) (w : Work) (ms : List Message) → ((v : Work) → At ms v → Stands (f v)) → At ms w → Stands (unless_cut f w)
-  goes_on f w ms one a = go w.cut
-    where
-      by : Bool → Work
-      by true = w
-      by false = f w
-
-      go : (b : Bool) → Stands (by b)
-      go true = record { waiting = ms; at = a }
-      go false = one w a
+  goes_on f w ms one a = by_cut Stands f w (λ q. record { waiting = ms; at = a }) (λ q. one w a)
 
   have_mine : (k : ℕ) → same_end (end_of k who) e ≡ true → own ≡ true → (messages : List Message) (w : Work) → At messages w
       → Stands (have_turns k messages w)
   have_mine k on is [] w a = record { waiting = []; at = lets (At []) (note []) (desk []) (turns []) (beside []) (loses []) k w a }
-  have_mine k on is (m ∷ messages) w a = go (lack w.ports (needs k deeds)) (λ v b. have_mine k on is messages v b)
-    where
-      deeds : List Deed
-      deeds = deeds_of w.core w.ports k m
+  have_mine k on is (m ∷ messages) w a = by_option (lack w.ports (needs k deeds))
+      (λ q. rw q (goes_on (have_turns k messages) (handles k m deeds w) messages (λ v b. have_mine k on is messages v b)
+      (handles_mine k m messages deeds w on is (deeds_mute w.core w.ports k m) a)))
+      (λ short q. rw q (record { waiting = all; at = holds (At all) (note all) (desk all) (turns all) (beside all) (loses all) k short w a })) where
+        deeds : List Deed
+        deeds = deeds_of w.core w.ports k m
 
-      by : Option (ℕ × ℕ) → Work
-      by None = unless_cut (have_turns k messages) (handles k m deeds w)
-      by (Some short) = holds_back k short w
-
-      go : (o : Option (ℕ × ℕ)) → ((v : Work) → At messages v → Stands (have_turns k messages v)) → Stands (by o)
-      go None later =
-          goes_on (have_turns k messages) (handles k m deeds w) messages later (handles_mine k m messages deeds w on is (deeds_mute w.core w.ports k m) a)
-      go (Some short) later =
-          let all : List Message = m ∷ messages in
-          record { waiting = all; at = holds (At all) (note all) (desk all) (turns all) (beside all) (loses all) k short w a }
+        all : List Message
+        all = m ∷ messages
 
   -- ## A pass
 

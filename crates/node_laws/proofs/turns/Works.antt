@@ -175,32 +175,29 @@ module _ (w : NodeWorld) (c : Option Running) (k : ℕ) (g : Site → Site) (t :
         subst (ByPower (is_some c) q) near now)
         (λ off. now));
   }
-  site_moves s found a true h q x = go (k == h) refl
-    where
-      number : s.host ≡ k
-      number = site_host w.sites k s found
-
-      go : (b : Bool) → (k == h) ≡ b → Moves true h After t q
-      go true e =
-          let is : k ≡ h = eqb-true k h e in
-          let here : site_at w.sites h ≡ Some s = ap (site_at w.sites) (sym is) ∙ found in
-          let own : OwnMoves s.host (g s) t q = a.goes q (subst (FarWaits q) here x) in
-          record {
-            left = own.left;
-            goes = subst (λ n. Goes (end_h n) q t own.left) (number ∙ is) own.goes;
-            waits = sites_is f same_host w.sites h (FarWaits own.left) (λ z. tt)
-                (λ y z. there s found h y z (λ v. FarWaits own.left (Some v))
-                (λ same one. let P : Site → Type 0 = λ v. FarWaits own.left (Some (g v)) in subst P one own.waits)
-                (λ off. absurd (true≢false (sym e ∙ off))));
-          }
-      go false e = record {
+  site_moves s found a true h q x = by_test (k == h)
+      (λ e. let is : k ≡ h = eqb-true k h e in
+      let here : site_at w.sites h ≡ Some s = ap (site_at w.sites) (sym is) ∙ found in
+      let own : OwnMoves s.host (g s) t q = a.goes q (subst (FarWaits q) here x) in
+      record {
+        left = own.left;
+        goes = subst (λ n. Goes (end_h n) q t own.left) (number ∙ is) own.goes;
+        waits = sites_is f same_host w.sites h (FarWaits own.left) (λ z. tt)
+            (λ y z. there s found h y z (λ v. FarWaits own.left (Some v))
+            (λ same one. let P : Site → Type 0 = λ v. FarWaits own.left (Some (g v)) in subst P one own.waits)
+            (λ off. absurd (true≢false (sym e ∙ off))));
+      })
+      (λ e. record {
         left = q;
         goes = a.others (end_h h) (ap (λ n. (n == h) && true) number ∙ ap (λ b. b && true) e) q;
         waits = sites_is f same_host w.sites h (FarWaits q) (λ z. tt)
             (λ y z. there s found h y z (λ v. FarWaits q (Some v))
             (λ same one. absurd (true≢false (sym (eq-eqb k h (sym same)) ∙ e)))
             (λ off. subst (FarWaits q) z x));
-      }
+      })
+    where
+      number : s.host ≡ k
+      number = site_host w.sites k s found
 
   -- where there is none with this number, nothing changes
   pub at_site : ((s : Site) → site_at w.sites k ≡ Some s → SiteGoes s (g s) t)

@@ -240,13 +240,10 @@ module _ (w : NodeWorld) (n : ℕ) (r : Running) (m : Memory) (count : ℕ) (a :
           number = site_host w.sites n s here
 
           others : (e : End) → same_end (end_h s.host) e ≡ false → (n == node_number e) ≡ false
-          others e out = go e.at_host refl
-            where
-              go : (b : Bool) → e.at_host ≡ b → (n == node_number e) ≡ false
-              go true y =
-                  let is : ((s.host == e.link) && true) ≡ false = rw y at out in
-                  rw y (ap (λ k. k == e.link) (sym number) ∙ (by_test (s.host == e.link) (λ q. rw q refl) (λ q. rw q refl) ∙ is))
-              go false y = rw y z
+          others e out = by_test e.at_host
+              (λ y. let is : ((s.host == e.link) && true) ≡ false = rw y at out in
+              rw y (ap (λ k. k == e.link) (sym number) ∙ (by_test (s.host == e.link) (λ q. rw q refl) (λ q. rw q refl) ∙ is)))
+              (λ y. rw y z)
 
       nobody : site_at w.sites n ≡ None → AllMove w w booted
       nobody none false h q x = record { left = q; goes = clears_not (end_c h) n count z q; waits = x }
@@ -256,21 +253,17 @@ module _ (w : NodeWorld) (n : ℕ) (r : Running) (m : Memory) (count : ℕ) (a :
           (λ e. record { left = q; goes = clears_not (end_h h) n count e q; waits = x })
 
   node_moves : AllMove w (with_node n r (with_memory n m w)) booted
-  node_moves = go (n == 0) refl
-    where
-      go : (b : Bool) → (n == 0) ≡ b → AllMove w (with_node n r (with_memory n m w)) booted
-      go true z =
-          let is : with_node n r (with_memory n m w) ≡ record w { memory = m; controller = Some r } = rw z refl in
-          let P : NodeWorld → Type 0 = λ v. AllMove w v booted in
-          subst P (sym is) (near_boots z)
-      go false z =
-          let remembers : Site → Site = λ s. record s { memory = m } in
-          let is : with_node n r (with_memory n m w)
-          ≡ record w { sites = with_site n (λ (s : Site). record s { node = Some r }) (with_site n remembers w.sites) } = rw z refl in
-          let twice : with_site n (λ (s : Site). record s { node = Some r }) (with_site n remembers w.sites) ≡ with_site n runs_there w.sites =
-          with_site_twice n remembers (λ (s : Site). record s { node = Some r }) (λ s. refl) w.sites in
-          let P : NodeWorld → Type 0 = λ v. AllMove w v booted in
-          subst P (sym (is ∙ ap (λ l. record w { sites = l }) twice)) (far_boots z)
+  node_moves = by_test (n == 0)
+      (λ z. let is : with_node n r (with_memory n m w) ≡ record w { memory = m; controller = Some r } = rw z refl in
+      let P : NodeWorld → Type 0 = λ v. AllMove w v booted in
+      subst P (sym is) (near_boots z))
+      (λ z. let remembers : Site → Site = λ s. record s { memory = m } in
+      let is : with_node n r (with_memory n m w)
+      ≡ record w { sites = with_site n (λ (s : Site). record s { node = Some r }) (with_site n remembers w.sites) } = rw z refl in
+      let twice : with_site n (λ (s : Site). record s { node = Some r }) (with_site n remembers w.sites) ≡ with_site n runs_there w.sites =
+      with_site_twice n remembers (λ (s : Site). record s { node = Some r }) (λ s. refl) w.sites in
+      let P : NodeWorld → Type 0 = λ v. AllMove w v booted in
+      subst P (sym (is ∙ ap (λ l. record w { sites = l }) twice)) (far_boots z))
 
 boots_move : (w : NodeWorld) (n : ℕ) → IsOrderly w → node_at w n ≡ None → AllMove w (boots w n).0 (boots w n).1
 boots_move w n a off =
@@ -401,37 +394,33 @@ far_leaves h (x ∷ sites) b a d q =
 hosts_go : (h : ℕ) (q : List Message) (sites : List Site) → AreDifferent (hosts_in sites) → AreNumbered sites → AreNodes sites
     → FarWaits q (site_at sites h) → HostsMove h (hosts_tick sites) q
 hosts_go h q [] d b a x = record { left = q; goes = refl; waits = tt }
-hosts_go h q (y ∷ sites) d b a x = go (y.host == h) refl (hosts_go h q sites d.1 b.1 a.1)
+hosts_go h q (y ∷ sites) d b a x = by_test (y.host == h)
+    (λ e. let here : site_at (hosts_tick (y ∷ sites)).0 h ≡ Some (host_ticks y).0 =
+    let passes : ((host_ticks y).0.host == h) ≡ true = same ∙ e in rw passes refl in
+    let was : FarWaits q (Some y) = rw e at x in
+    let own : OwnMoves y.host (host_ticks y).0 (host_ticks y).1 q = one.goes q was in
+    let A : ℕ → Type 0 = λ n. AllByRecursion (λ k. (k == n) ≡ false) (hosts_in sites) in
+    record {
+      left = own.left;
+      goes = goes-append (end_h h) (host_ticks y).1 (hosts_tick sites).1 q own.left own.left
+          (subst (λ n. Goes (end_h n) q (host_ticks y).1 own.left) (eqb-true y.host h e) own.goes)
+          (far_leaves h sites b.1 a.1 (subst A (eqb-true y.host h e) d.0) own.left);
+      waits = subst (FarWaits own.left) (sym here) own.waits;
+    })
+    (λ e. let here : site_at (hosts_tick (y ∷ sites)).0 h ≡ site_at (hosts_tick sites).0 h =
+    let fails : ((host_ticks y).0.host == h) ≡ false = same ∙ e in rw fails refl in
+    let rest : HostsMove h (hosts_tick sites) q = (hosts_go h q sites d.1 b.1 a.1) (rw e at x) in
+    record {
+      left = rest.left;
+      goes = goes-append (end_h h) (host_ticks y).1 (hosts_tick sites).1 q q rest.left (one.others (end_h h) (off_far h y e) q) rest.goes;
+      waits = subst (FarWaits rest.left) (sym here) rest.waits;
+    })
   where
     same : ((host_ticks y).0.host == h) ≡ (y.host == h)
     same = ap (λ n. n == h) (site_ticked y)
 
     one : SiteGoes y (host_ticks y).0 (host_ticks y).1
     one = site_ticks y b.0 a.0
-
-    go : (t : Bool) → (y.host == h) ≡ t → (FarWaits q (site_at sites h) → HostsMove h (hosts_tick sites) q) → HostsMove h (hosts_tick (y ∷ sites)) q
-    go true e later =
-        let here : site_at (hosts_tick (y ∷ sites)).0 h ≡ Some (host_ticks y).0 =
-        let passes : ((host_ticks y).0.host == h) ≡ true = same ∙ e in rw passes refl in
-        let was : FarWaits q (Some y) = rw e at x in
-        let own : OwnMoves y.host (host_ticks y).0 (host_ticks y).1 q = one.goes q was in
-        let A : ℕ → Type 0 = λ n. AllByRecursion (λ k. (k == n) ≡ false) (hosts_in sites) in
-        record {
-          left = own.left;
-          goes = goes-append (end_h h) (host_ticks y).1 (hosts_tick sites).1 q own.left own.left
-              (subst (λ n. Goes (end_h n) q (host_ticks y).1 own.left) (eqb-true y.host h e) own.goes)
-              (far_leaves h sites b.1 a.1 (subst A (eqb-true y.host h e) d.0) own.left);
-          waits = subst (FarWaits own.left) (sym here) own.waits;
-        }
-    go false e later =
-        let here : site_at (hosts_tick (y ∷ sites)).0 h ≡ site_at (hosts_tick sites).0 h =
-        let fails : ((host_ticks y).0.host == h) ≡ false = same ∙ e in rw fails refl in
-        let rest : HostsMove h (hosts_tick sites) q = later (rw e at x) in
-        record {
-          left = rest.left;
-          goes = goes-append (end_h h) (host_ticks y).1 (hosts_tick sites).1 q q rest.left (one.others (end_h h) (off_far h y e) q) rest.goes;
-          waits = subst (FarWaits rest.left) (sym here) rest.waits;
-        }
 
 hosts_move : (w : NodeWorld) → AreDifferent (hosts_in w.sites) → AreNumbered w.sites → AreNodes w.sites
     → AllMove w (record w { sites = (hosts_tick w.sites).0 }) (hosts_tick w.sites).1

@@ -31,6 +31,7 @@ use Rattle.node_machine.specs.world.NodeFilters.{is_response}
 use Rattle.node_machine.proofs.Walks.{Plain, all_ordered, learns_holds, learned_holds, init_holds}
 use Rattle.node_laws.specs.views.Inits.{with_response, init_after}
 use Rattle.node_laws.proofs.readings.Silent.{same_own}
+use Rattle.node_laws.proofs.Cases.{by_option}
 
 -- what is read behind these entries, where this was read before
 abbrev pub reads_init : ℕ → List Entry → Option Init → Option Init
@@ -124,27 +125,14 @@ module _ (h : ℕ) (now : LinkState) where
 
     response_go : (code : ℕ) (value : List ℕ) → now ≡ Up → (is_some core.init ≡ true → is_some core.command ≡ true)
         → MayGo (option_map with_response core.init) core.command core.init (response_deeds (own_view core) code value)
-    response_go code value up waits = by core.command refl where
-      none_is : core.command ≡ None → core.init ≡ None
-      none_is q = none_of core.init (λ some. true≢false (sym (waits some) ∙ ap is_some q))
-
-      silent_is : core.command ≡ None → response_deeds (own_view core) code value ≡ []
-      silent_is q = rw q refl
-
-      heard_is : (order : List ℕ) → core.command ≡ Some order
-          → response_deeds (own_view core) code value
-          ≡ Hears ∷ cond (eqb code 0) (learned (own_view core) order value) [] ++ init_deeds (own_view core) code value core.init
-      heard_is order q = rw q refl
-
-      by : (o : Option (List ℕ)) → core.command ≡ o
-          → MayGo (option_map with_response core.init) core.command core.init (response_deeds (own_view core) code value)
-      by None q = subst (MayGo (option_map with_response core.init) core.command core.init) (sym (silent_is q))
-          (subst (λ i. MayGo (option_map with_response i) core.command i []) (sym (none_is q)) (ended None core.command refl))
-      by (Some order) q = subst (MayGo (option_map with_response core.init) core.command core.init) (sym (heard_is order q))
-          (neutral_go (option_map with_response core.init) None core.init (cond (eqb code 0) (learned (own_view core) order value) [])
-          (init_deeds (own_view core) code value core.init)
-          (cond_both (eqb code 0) (learned (own_view core) order value) [] AreNeutral (λ _. learned_neutral core order value) (λ _. tt))
-          (init_go code value core.init up))
+    response_go code value up waits = by_option core.command
+        (λ q. rw q (rw (none_is q) (ended None None refl)))
+        (λ order q. rw q (neutral_go (option_map with_response core.init) None core.init (cond (eqb code 0) (learned (own_view core) order value) [])
+        (init_deeds (own_view core) code value core.init)
+        (cond_both (eqb code 0) (learned (own_view core) order value) [] AreNeutral (λ _. learned_neutral core order value) (λ _. tt))
+        (init_go code value core.init up))) where
+          none_is : core.command ≡ None → core.init ≡ None
+          none_is q = none_of core.init (λ some. true≢false (sym (waits some) ∙ ap is_some q))
 
     -- what is read of the init behind the turn of a message
     abbrev pub answered_by : Message → Option Init → Option Init
@@ -208,19 +196,13 @@ module _ (h : ℕ) (now : LinkState) where
           let shown : host_deeds (own_view core) (end_view p) m ≡ [] = rw (q, z) refl in
           subst Fine (sym shown) (neutral_all (answered_by m core.init) [] (not_answered m core.init other) waits tt)
       go true (Ok (IsResponse, n)) q z = subst Fine (sym shown) (by_pipe (cases_Bool (eqb m.0 1))) where
-        yes : is_response m.1 ≡ true
-        yes = rw z refl
-
         shown : host_deeds (own_view core) (end_view p) m ≡ cond (eqb m.0 1) (response_deeds (own_view core) n (body_in m.1)) []
         shown = rw (q, z) refl
 
         by_pipe : (eqb m.0 1 ≡ true) ⊎ (eqb m.0 1 ≡ false) → Fine (cond (eqb m.0 1) (response_deeds (own_view core) n (body_in m.1)) [])
         by_pipe (inl one) =
             subst (λ b. MayGo (cond (b && is_response m.1) (option_map with_response core.init) core.init) core.command core.init (cond b
-            (response_deeds (own_view core) n (body_in m.1)) [])) (sym one) (subst (λ b. MayGo
-            (cond b (option_map with_response core.init) core.init) core.command core.init
-            (response_deeds (own_view core) n (body_in m.1))) (sym yes)
-            (response_go n (body_in m.1) (sym phase ∙ up_of p.side.shdlc.phase q) (λ some. (waits some).0)))
+            (response_deeds (own_view core) n (body_in m.1)) [])) (sym one) (rw z (response_go n (body_in m.1) (sym phase ∙ up_of p.side.shdlc.phase q) (λ some. (waits some).0)))
         by_pipe (inr off) =
             subst (λ b. MayGo (cond (b && is_response m.1) (option_map with_response core.init) core.init) core.command core.init (cond b
             (response_deeds (own_view core) n (body_in m.1)) [])) (sym off) (neutral_all core.init [] refl waits tt)

@@ -26,7 +26,7 @@ use Rattle.node_machine.specs.Parts.{About, Desk, Core, Port, Work, Deed}
 use Rattle.node_machine.specs.Parts.About.{Waits, Removed}
 use Rattle.node_machine.specs.Parts.Deed.{Commits, Sends, SaysOk, Asks, Releases, Tells, IsAnswered, Drops, SetsErrors, Orders, Hears, GoesOn, Ends}
 use Rattle.node_machine.specs.Carrying.{own_side, noting, unless_cut, port_at, changed_if, with_port, with_desk, after_turn, noted_of, turn_at, notified}
-use Rattle.node_machine.specs.Carrying.{loses_power, keeps, commit, done, all_done, end_of_node}
+use Rattle.node_machine.specs.Carrying.{commit, done, all_done, end_of_node}
 use Rattle.node_machine.specs.Turns.{holds_back, lets_go}
 use Rattle.node_machine.specs.world.World.{node_of}
 use Rattle.node_machine.specs.world.NodeFilters.{Book, with_command}
@@ -36,6 +36,7 @@ use Rattle.node_laws.proofs.Cases.{by_test, by_option}
 use Rattle.node_laws.proofs.views.Leaving.{reads, reads_append, IsRead, IsStill, still_all, notes_still, IsUndamaged, plainly, beside_leaves}
 use Rattle.node_laws.proofs.views.Setting.{IsUnset, AreUnset, IsInitEnd}
 use Rattle.node_laws.proofs.kept.Plainly.{hosts_map}
+use Rattle.node_laws.proofs.Cut.{by_cut}
 
 -- the side of its link that an end is on
 abbrev pub side_of : End → Side
@@ -167,14 +168,8 @@ module _ (e : End) (hosts : List ℕ) (x0 : ErrorCount) where
         ap (λ (x : ErrorCount). x.book) (reads_append e w.entries (entry.Command w.core.node c ∷ []) x0)
         ∙ ap (λ n. cond (eqb n 0) (with_command c (reads e w.entries x0).book) (reads e w.entries x0).book) (zero near)
 
-    lost_is : fails_within (length writes) w.plan ≡ true → commit c w ≡ loses_power writes begun
-    lost_is q = rw q refl
-
-    kept_is : fails_within (length writes) w.plan ≡ false → commit c w ≡ keeps c writes begun
-    kept_is q = rw q refl
-
     go : (fails_within (length writes) w.plan ≡ true) ⊎ (fails_within (length writes) w.plan ≡ false) → Right (commit c w)
-    go (inl q) = subst Right (sym (lost_is q)) (record {
+    go (inl q) = rw q (record {
       number = r.number;
       side = r.side;
       hosts_are = r.hosts_are;
@@ -184,7 +179,7 @@ module _ (e : End) (hosts : List ℕ) (x0 : ErrorCount) where
       ends = r.ends;
       tables = λ on near. absurd (true≢false on);
     })
-    go (inr q) = subst Right (sym (kept_is q)) (record {
+    go (inr q) = rw q (record {
       number = r.number;
       side = r.side;
       hosts_are = r.hosts_are;
@@ -249,12 +244,7 @@ module _ (e : End) (hosts : List ℕ) (x0 : ErrorCount) where
       note (y ∷ []) (record w { core = record w.core { init = None } }) (init_still e y q, tt) (with_core w (record w.core { init = None }) refl refl r)
 
   pub unless : (f : Work → Work) (w : Work) → (w.cut ≡ false → Right w → Right (f w)) → Right w → Right (unless_cut f w)
-  unless f w one r = by_test w.cut (λ q. subst Right (sym (off_is q)) r) (λ q. subst Right (sym (on_is q)) (one q r)) where
-    on_is : w.cut ≡ false → unless_cut f w ≡ f w
-    on_is q = rw q refl
-
-    off_is : w.cut ≡ true → unless_cut f w ≡ w
-    off_is q = rw q refl
+  unless f w one r = by_cut Right f w (λ q. r) (λ q. one q r)
 
   pub all_do : (k : ℕ) (deeds : List Deed) (w : Work) → AllByRecursion (IsFine k) deeds → Right w → Right (all_done k deeds w)
   all_do k [] w q r = r

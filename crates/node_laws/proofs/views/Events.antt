@@ -9,8 +9,8 @@ use Rattle.journal_laws.specs.Planned.{after_planned}
 use Rattle.trace_model.specs.declared.entry.Entry.{Entry}
 use Rattle.trace_model.specs.declared.entry.Entry.TheVariants as entry
 use Rattle.trace_model.specs.declared.line.End.{End}
-use Rattle.link_laws.specs.messages.Links.{NumberedEnd, exchanged, aged, ticks_at_controller, happens}
-use Rattle.link_laws.specs.messages.Links.Ending.{GoesOut, CutOff}
+use Rattle.link_laws.specs.messages.Links.{NumberedEnd, exchanged, aged, happens}
+use Rattle.link_laws.specs.messages.Links.Ending.{CutOff}
 use Rattle.link_laws.specs.messages.Links.Comes.{NoInput}
 use Rattle.link_laws.specs.messages.Links.EndEvent.{Step}
 use Rattle.link_laws.specs.messages.Links.LinkEvent.{AtController}
@@ -18,11 +18,11 @@ use Rattle.link_laws.specs.entries.Entries.{aged_entries}
 use Rattle.link_laws.specs.entries.Entries.End.{Controller, Host}
 use Rattle.history.specs.Steps.{entries_for}
 use Rattle.node_machine.specs.Parts.{Desk, Running, Work}
-use Rattle.node_machine.specs.Node.{steps, found, boot_writes, new_desk}
+use Rattle.node_machine.specs.Node.{found, boot_writes, new_desk}
 use Rattle.node_machine.specs.Node.NodeInput.{TimePasses}
-use Rattle.node_machine.specs.world.World.{NodeWorld, Site, site_at, with_site, node_of, link_to, ending_of, runs_on, turns_at, work_of, frames_noted}
+use Rattle.node_machine.specs.world.World.{NodeWorld, Site, site_at, with_site, node_of, link_to, frames_noted}
 use Rattle.node_machine.specs.world.World.{controller_cut}
-use Rattle.node_machine.specs.world.World.{host_cut, loses_power_at, memory_at, with_memory, links_of, boots, is_late_at, ticked_so, all_aged}
+use Rattle.node_machine.specs.world.World.{host_cut, loses_power_at, memory_at, with_memory, links_of, boots, all_aged}
 use Rattle.node_machine.specs.world.World.{controller_ticks, host_ticks, hosts_tick, world_ticks}
 use Rattle.node_machine.specs.world.NodeFilters.{Book}
 use Rattle.node_laws.specs.telling.Telling.{HasEnds, IfItRuns, hosts_in, IsOrderly}
@@ -30,6 +30,7 @@ use Rattle.node_laws.proofs.All.{all_flat}
 use Rattle.node_laws.proofs.Cases.{by_test}
 use Rattle.node_laws.proofs.telling.WorldTicks.{tick_host}
 use Rattle.node_machine.proofs.world.Cases.{by_power, by_memory, by_running, boot_written, boot_found, by_boot}
+use Rattle.node_machine.proofs.world.Cases.{after_near_tick, by_controller_tick, by_host_tick, host_tick, near_tick, site_ticked, site_unticked}
 use Rattle.node_laws.specs.views.Errors.{ErrorCount}
 use Rattle.node_laws.proofs.views.Leaving.{reads, reads_append, Leaves, IsStill, still_all, still_leaves}
 use Rattle.node_laws.proofs.views.Nodes.{IfKeeps, keeps_sets, leaves_kept, own_steps, others_step, frames_still, aged_still}
@@ -37,6 +38,7 @@ use Rattle.node_laws.proofs.views.Worlds.{far_node, AreFine, orderly_fine, map_f
 use Rattle.node_laws.proofs.views.Worlds.{host_link, own_node}
 use Rattle.node_laws.proofs.views.Worlds.{near_node, host_node, Kept, Known, After, left, near_single, near_zero, near_other, far_other, own_ends, no_near}
 use Rattle.node_laws.proofs.views.Worlds.{host_side}
+use Rattle.node_laws.proofs.views.Worlds.{near_ticks_fine}
 use Rattle.registry.proofs.ValueLemmas.{AllByRecursion-append}
 use Rattle.node_laws.proofs.kept.Sites.{hosts_same}
 
@@ -66,125 +68,58 @@ module _ (e : End) (real : e.at_host ≡ true → eqb e.link 0 ≡ false) where
       (still_leaves e (all_aged w).1 (aged_entries_still w)) k
 
   near_ticks : (w : NodeWorld) (x : ErrorCount) → IfItRuns 0 (hosts_in w.sites) w.controller → Known e real w x → So w x → Then (controller_ticks w) x
-  near_ticks w x orderly known k = by_node w.controller refl where
-    by_node : (o : Option Running) → w.controller ≡ o → Then (controller_ticks w) x
-    by_node None q = subst (λ p. Then p x) (sym off_is) (left e real w v [] x (moved_node w v alone (λ s. refl) (λ s. refl) refl refl) tt k) where
-      alone : Site → Site
-      alone s = record s { link = ticks_at_controller s.link [] GoesOut }
+  near_ticks w x orderly known k =
+      by_controller_tick (λ p. Then p x) w
+      (λ q. left e real w (record w { sites = map site_unticked w.sites }) [] x
+      (moved_node w (record w { sites = map site_unticked w.sites }) site_unticked (λ s. refl) (λ s. refl) refl refl) tt k) runs where
+        runs : (r : Running) → w.controller ≡ Some r → Then (after_near_tick w (near_tick w r)) x
+        runs r q = by_test e.at_host
+            (λ far. left e real w v (c.entries ++ frames) x
+            (host_node e real v far ∙ (node_map (site_ticked c) (λ s. refl) (λ s. refl) w.sites e.link ∙ sym (host_node e real w far)))
+            (AllByRecursion-append (Leaves e) c.entries frames (others_step e 0 Controller (hosts_in w.sites) r w.memory.plan near_ends [] TimePasses has refl
+            (near_other e real far (hosts_in w.sites)) tt) (still_leaves e frames frames_so)) k)
+            (λ near. subst (λ o. IfKeeps e o (reads e (c.entries ++ frames) x)) (sym (near_node e real v near))
+            (own_steps e real (hosts_in w.sites) (near_single e real (hosts_in w.sites) near) x r w.memory.plan near_ends [] frames TimePasses
+            (subst (λ n. HasEnds n (hosts_in w.sites) r) (sym (near_zero e real near)) has) tt frames_so (λ n. known n r q)
+            (subst (λ o. IfKeeps e o x) (near_node e real w near ∙ q) k))) where
+              near_ends : ℕ → NumberedEnd
+              near_ends h = (link_to w.sites h).controller
 
-      v : NodeWorld
-      v = record w { sites = map alone w.sites }
+              c : Work
+              c = near_tick w r
 
-      off_is : controller_ticks w ≡ (v, [])
-      off_is = rw q refl
-    by_node (Some r) q = subst (λ p. Then p x) (sym on_is) (by_side e.at_host refl) where
-      near_ends : ℕ → NumberedEnd
-      near_ends h = (link_to w.sites h).controller
+              v : NodeWorld
+              v = (after_near_tick w c).0
 
-      c : Work
-      c = steps TimePasses (work_of r w.memory.plan near_ends [])
+              frames : List Entry
+              frames = flat_map (λ (s : Site). frames_noted Controller s.host s.link c) w.sites
 
-      ticked : Site → Site
-      ticked s = record s { link = ticked_so s.link (is_late_at c s.host) (turns_at c s.host) (ending_of c) }
+              has : HasEnds 0 (hosts_in w.sites) r
+              has = subst (IfItRuns 0 (hosts_in w.sites)) q orderly
 
-      v : NodeWorld
-      v = record { memory = after_planned c.writes w.memory; controller = runs_on c; sites = map ticked w.sites }
-
-      frames : List Entry
-      frames = flat_map (λ (s : Site). frames_noted Controller s.host s.link c) w.sites
-
-      on_is : controller_ticks w ≡ (v, c.entries ++ frames)
-      on_is = rw q refl
-
-      has : HasEnds 0 (hosts_in w.sites) r
-      has = subst (IfItRuns 0 (hosts_in w.sites)) q orderly
-
-      frames_so : AllByRecursion (IsStill e) frames
-      frames_so = all_flat (IsStill e) (λ (s : Site). frames_noted Controller s.host s.link c) (λ s. frames_still e Controller s.host s.link c) w.sites
-
-      by_side : (b : Bool) → e.at_host ≡ b → Then (v, c.entries ++ frames) x
-      by_side false near = subst (λ o. IfKeeps e o (reads e (c.entries ++ frames) x)) (sym (near_node e real v near))
-          (own_steps e real (hosts_in w.sites) (near_single e real (hosts_in w.sites) near) x r w.memory.plan near_ends [] frames TimePasses
-          (subst (λ n. HasEnds n (hosts_in w.sites) r) (sym (near_zero e real near)) has) tt frames_so (λ n. known n r q)
-          (subst (λ o. IfKeeps e o x) (near_node e real w near ∙ q) k))
-      by_side true far =
-          left e real w v (c.entries ++ frames) x
-          (host_node e real v far ∙ (node_map ticked (λ s. refl) (λ s. refl) w.sites e.link ∙ sym (host_node e real w far)))
-          (AllByRecursion-append (Leaves e) c.entries frames (others_step e 0 Controller (hosts_in w.sites) r w.memory.plan near_ends [] TimePasses has refl
-          (near_other e real far (hosts_in w.sites)) tt) (still_leaves e frames frames_so)) k
-
-  near_ticks_fine : (w : NodeWorld) → AreFine w.sites → AreFine (controller_ticks w).0.sites
-  near_ticks_fine w fine = by_node w.controller refl where
-    by_node : (o : Option Running) → w.controller ≡ o → AreFine (controller_ticks w).0.sites
-    by_node None q = subst (λ (p : NodeWorld × List Entry). AreFine p.0.sites) (sym off_is) (map_fine alone (λ s. refl) (λ s. refl) w.sites fine) where
-      alone : Site → Site
-      alone s = record s { link = ticks_at_controller s.link [] GoesOut }
-
-      off_is : controller_ticks w ≡ (record w { sites = map alone w.sites }, [])
-      off_is = rw q refl
-    by_node (Some r) q = subst (λ (p : NodeWorld × List Entry). AreFine p.0.sites) (sym on_is) (map_fine ticked (λ s. refl) (λ s. refl) w.sites fine) where
-      c : Work
-      c = steps TimePasses (work_of r w.memory.plan (λ h. (link_to w.sites h).controller) [])
-
-      ticked : Site → Site
-      ticked s = record s { link = ticked_so s.link (is_late_at c s.host) (turns_at c s.host) (ending_of c) }
-
-      on_is : controller_ticks w
-          ≡ (
-            record { memory = after_planned c.writes w.memory; controller = runs_on c; sites = map ticked w.sites },
-            c.entries ++ flat_map (λ (s : Site). frames_noted Controller s.host s.link c) w.sites,
-          )
-      on_is = rw q refl
+              frames_so : AllByRecursion (IsStill e) frames
+              frames_so = all_flat (IsStill e) (λ (s : Site). frames_noted Controller s.host s.link c) (λ s. frames_still e Controller s.host s.link c) w.sites
 
   -- the tick of a host that isn't that of the end
   tick_leaves : (s : Site) → IfItRuns s.host (s.host ∷ []) s.node → eqb s.host 0 ≡ false → (e.at_host ≡ true → eqb s.host e.link ≡ false)
       → AllByRecursion (Leaves e) (host_ticks s).1
-  tick_leaves s runs real_host off = by_node s.node refl where
-    by_node : (o : Option Running) → s.node ≡ o → AllByRecursion (Leaves e) (host_ticks s).1
-    by_node None q = subst (λ (p : Site × List Entry). AllByRecursion (Leaves e) p.1) (sym off_is) tt where
-      off_is : host_ticks s ≡ (record s { link = exchanged (ticks_at_controller (exchanged s.link) [] GoesOut) }, [])
-      off_is = rw q refl
-    by_node (Some r) q =
-        subst (AllByRecursion (Leaves e)) (sym on_is) (AllByRecursion-append (Leaves e) c.entries (frames_noted Host s.host (exchanged s.link) c)
-        (others_step e s.host Host (s.host ∷ []) r s.memory.plan (λ n. s.link.host) [] TimePasses (subst (IfItRuns s.host (s.host ∷ [])) q runs)
-        (host_side e real s.host real_host) (far_other e real s.host off, tt) tt) (still_leaves e (frames_noted Host s.host (exchanged s.link) c)
-        (frames_still e Host s.host (exchanged s.link) c))) where
-          c : Work
-          c = steps TimePasses (work_of r s.memory.plan (λ n. s.link.host) [])
-
-          on_is : (host_ticks s).1 ≡ c.entries ++ frames_noted Host s.host (exchanged s.link) c
-          on_is = rw q refl
+  tick_leaves s runs real_host off =
+      by_host_tick (λ p. AllByRecursion (Leaves e) p.1) s (λ q. tt)
+      (λ r q.
+      AllByRecursion-append (Leaves e) (host_tick s r).entries (frames_noted Host s.host (exchanged s.link) (host_tick s r))
+      (others_step e s.host Host (s.host ∷ []) r s.memory.plan (λ n. s.link.host) [] TimePasses (subst (IfItRuns s.host (s.host ∷ [])) q runs)
+      (host_side e real s.host real_host) (far_other e real s.host off, tt) tt)
+      (still_leaves e (frames_noted Host s.host (exchanged s.link) (host_tick s r)) (frames_still e Host s.host (exchanged s.link) (host_tick s r))))
 
   -- the tick of the host of the end
   tick_own : (s : Site) (x : ErrorCount) → IfItRuns s.host (s.host ∷ []) s.node → e.at_host ≡ true → s.host ≡ e.link → IfKeeps e s.node x
       → IfKeeps e (host_ticks s).0.node (reads e (host_ticks s).1 x)
-  tick_own s x runs far is k = by_node s.node refl where
-    Fine : Site × List Entry → Type 0
-    Fine p = IfKeeps e p.0.node (reads e p.1 x)
-
-    by_node : (o : Option Running) → s.node ≡ o → Fine (host_ticks s)
-    by_node None q = subst Fine (sym off_is) k where
-      off_is : host_ticks s ≡ (record s { link = exchanged (ticks_at_controller (exchanged s.link) [] GoesOut) }, [])
-      off_is = rw q refl
-    by_node (Some r) q = subst Fine (sym on_is) (own_steps e real (s.host ∷ []) ends.1 x r s.memory.plan (λ n. s.link.host) []
-        (frames_noted Host s.host (exchanged s.link) c) TimePasses ends.0 tt (frames_still e Host s.host (exchanged s.link) c)
-        (λ near. no_near e real far near) (subst (λ o. IfKeeps e o x) q k)) where
-          c : Work
-          c = steps TimePasses (work_of r s.memory.plan (λ n. s.link.host) [])
-
-          ends : HasEnds (node_of e) (s.host ∷ []) r × (e.at_host ≡ true → (s.host ∷ []) ≡ e.link ∷ [])
-          ends = own_ends e real s r far is (subst (IfItRuns s.host (s.host ∷ [])) q runs)
-
-          on_is : host_ticks s
-              ≡ (
-                record s {
-                  link = exchanged (ticks_at_controller (exchanged s.link) (turns_at c s.host) (ending_of c));
-                  memory = after_planned c.writes s.memory;
-                  node = runs_on c;
-                },
-                c.entries ++ frames_noted Host s.host (exchanged s.link) c,
-              )
-          on_is = rw q refl
+  tick_own s x runs far is k =
+      by_host_tick (λ p. IfKeeps e p.0.node (reads e p.1 x)) s (λ q. k)
+      (λ r q.
+      let ends = own_ends e real s r far is (subst (IfItRuns s.host (s.host ∷ [])) q runs) in
+      own_steps e real (s.host ∷ []) ends.1 x r s.memory.plan (λ n. s.link.host) [] (frames_noted Host s.host (exchanged s.link) (host_tick s r)) TimePasses
+      ends.0 tt (frames_still e Host s.host (exchanged s.link) (host_tick s r)) (λ near. no_near e real far near) (subst (λ o. IfKeeps e o x) q k))
 
   -- the ticks of hosts that aren't that of the end
   pub ticks_leave : (sites : List Site) → AreFine sites → (e.at_host ≡ true → AllByRecursion (λ k. eqb k e.link ≡ false) (hosts_in sites))

@@ -36,6 +36,7 @@ use Rattle.node_laws.proofs.links.Noticing.{turn-phase}
 use Rattle.node_laws.proofs.readings.Silent.{IsQuiet, host_side, told_rest, rest_quiet, same_own}
 use Rattle.node_laws.specs.views.Inits.{with_response, init_after}
 use Rattle.node_laws.proofs.views.Answering.{reads_init, init_append, MayGo, answered_by, host_go}
+use Rattle.node_laws.proofs.Cut.{by_cut}
 
 -- ## What is noted of an end
 
@@ -133,18 +134,10 @@ module _ (h : ℕ) (host : IsHost h) (i0 : Option Init) where
     }
 
     then_on : (f : Work → Work) (w : Work) → w.cut ≡ false → Stands now (f w) → Stands now (unless_cut f w)
-    then_on f w on s = subst (Stands now) (sym on_is) s where
-      on_is : unless_cut f w ≡ f w
-      on_is = rw on refl
+    then_on f w on s = by_cut (Stands now) f w (λ q. absurd (true≢false (sym q ∙ on))) (λ q. s)
 
     pub then : (f : Work → Work) (w : Work) → (w.cut ≡ false → Stands now w → Stands now (f w)) → Stands now w → Stands now (unless_cut f w)
-    then f w one s = go (cases_Bool w.cut) where
-      off_is : w.cut ≡ true → unless_cut f w ≡ w
-      off_is q = rw q refl
-
-      go : (w.cut ≡ true) ⊎ (w.cut ≡ false) → Stands now (unless_cut f w)
-      go (inl q) = subst (Stands now) (sym (off_is q)) s
-      go (inr q) = then_on f w q (one q s)
+    then f w one s = by_cut (Stands now) f w (λ q. s) (λ q. one q s)
 
     -- ## Deeds
 
@@ -168,22 +161,16 @@ module _ (h : ℕ) (host : IsHost h) (i0 : Option Init) where
       kept : Work
       kept = keeps c writes begun
 
-      lost_is : fails_within (length writes) w.plan ≡ true → commit c w ≡ lost
-      lost_is q = rw q refl
-
-      kept_is : fails_within (length writes) w.plan ≡ false → commit c w ≡ kept
-      kept_is q = rw q refl
-
       by : (fails_within (length writes) w.plan ≡ true) ⊎ (fails_within (length writes) w.plan ≡ false)
           → ((w : Work) (y : Option Init) → w.cut ≡ false → Base now w → reads_init h w.entries i0 ≡ y → MayGo h now y w.core.command w.core.init deeds
           → Stands now (all_done k deeds w)) → Stands now (unless_cut (all_done k deeds) (commit c w))
-      by (inl q) later = subst (λ v. Stands now (unless_cut (all_done k deeds) v)) (sym (lost_is q)) (record {
+      by (inl q) later = rw q (record {
         base = same_base w lost refl refl b;
         on = λ z. absurd (true≢false z);
         off = λ z. init_append h begun.entries (entry.Cut w.core.node ∷ []) i0
             ∙ ap (λ b. cond b None (reads_init h begun.entries i0)) (eq-eqb w.core.node h b.number);
       })
-      by (inr q) later = subst (λ v. Stands now (unless_cut (all_done k deeds) v)) (sym (kept_is q)) (then_on (all_done k deeds) kept on (later kept y on
+      by (inr q) later = rw q (then_on (all_done k deeds) kept on (later kept y on
           (same_base w kept refl refl b) (noted (entry.Command w.core.node c ∷ []) w y was (λ z. refl)) may))
     all_go k (Sends to m ∷ deeds) w y on b was may =
         then_on (all_done k deeds) (turn_at to (Give m) w) on (all_go k deeds (turn_at to (Give m) w) y on (turned to (Give m) w w refl refl b)

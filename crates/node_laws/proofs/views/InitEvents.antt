@@ -1,5 +1,5 @@
 -- A tick of a world, losses and power: a host keeps the init that is read of it.
-use Rattle.std.proofs.Common.{◌≡◌, ◌⊎◌, inl, inr, ℕ, ◌+◌, Bool, true, false, cond, eqb, List, [], ◌∷◌, ◌++◌, map, sym, refl, ap, ◌∙◌, subst}
+use Rattle.std.proofs.Common.{◌≡◌, ◌⊎◌, inl, inr, ℕ, ◌+◌, Bool, true, false, cond, eqb, List, [], ◌∷◌, ◌++◌, sym, refl, ap, ◌∙◌, subst}
 use Rattle.std.specs.Prelude.{Option, Some, None, min}
 use Rattle.std.specs.List.{AllByRecursion, flat_map}
 use Rattle.std.proofs.lemmas.Bool.{cases_Bool, eqb-true, eq-eqb, ne_eqb, eqb-false}
@@ -10,7 +10,7 @@ use Rattle.trace_model.specs.Lines.{IsHost}
 use Rattle.trace_model.specs.declared.entry.Entry.{Entry}
 use Rattle.trace_model.specs.declared.entry.Entry.TheVariants as entry
 use Rattle.trace_model.specs.declared.line.End.{End}
-use Rattle.link_laws.specs.messages.Links.{NumberedEnd, Link, Loss, exchanged, aged, ticks_at_controller, happens}
+use Rattle.link_laws.specs.messages.Links.{NumberedEnd, Link, Loss, exchanged, aged, happens}
 use Rattle.link_laws.specs.messages.Links.Ending.{GoesOut, CutOff}
 use Rattle.link_laws.specs.messages.Links.Comes.{NextFrame, AsksReset, NoInput}
 use Rattle.link_laws.specs.messages.Links.Loss.{Broken}
@@ -21,23 +21,25 @@ use Rattle.link_laws.specs.entries.Entries.End.{Controller, Host}
 use Rattle.history.specs.Steps.{entries_for}
 use Rattle.node_machine.specs.Parts.{Init, Desk, Running, Work}
 use Rattle.node_machine.specs.Carrying.{changed_if}
-use Rattle.node_machine.specs.Node.{steps, found, boot_writes, with_error}
+use Rattle.node_machine.specs.Node.{found, boot_writes, with_error}
 use Rattle.node_machine.specs.Node.NodeInput.{TimePasses}
-use Rattle.node_machine.specs.world.World.{NodeWorld, Site, Happening, site_at, with_site, node_at, link_to, ending_of, runs_on, turns_at, work_of}
+use Rattle.node_machine.specs.world.World.{NodeWorld, Site, Happening, site_at, with_site, node_at, link_to, ending_of, turns_at}
 use Rattle.node_machine.specs.world.World.{frames_noted}
 use Rattle.node_machine.specs.world.World.{controller_cut, host_cut, loses_power_at, memory_at, with_memory, links_of, boots, counts, frame_lost, is_late_at}
-use Rattle.node_machine.specs.world.World.{ticked_so, all_aged, controller_ticks, host_ticks, hosts_tick, world_ticks, world_step}
+use Rattle.node_machine.specs.world.World.{all_aged, controller_ticks, host_ticks, hosts_tick, world_ticks, world_step}
 use Rattle.node_machine.specs.world.World.Happening.{Boots, IsCut, Gives, Inits, Takes, Loses, Ticks, Resets, Activates, Arms}
 use Rattle.node_laws.specs.telling.Telling.{IfItRuns, hosts_in, IsOrderly}
 use Rattle.node_laws.proofs.All.{all_flat}
 use Rattle.node_laws.proofs.Cases.{by_option}
+use Rattle.node_laws.proofs.Cases.{by_test}
 use Rattle.node_laws.proofs.links.Ends.{here_host}
-use Rattle.link_laws.proofs.entries.Together.{ticks_host as tick_host}
+use Rattle.link_laws.proofs.entries.Together.{ticks_host}
 use Rattle.node_laws.proofs.telling.Nodes.{site_host}
 use Rattle.node_laws.proofs.telling.Frames.{wires_all}
 use Rattle.node_laws.proofs.readings.Silent.{IsQuiet}
 use Rattle.node_laws.proofs.readings.Sites.{lost_quiet}
 use Rattle.node_machine.proofs.world.Cases.{by_power, by_memory, by_running, boot_written, boot_found, by_boot}
+use Rattle.node_machine.proofs.world.Cases.{after_near_tick, by_controller_tick, by_host_tick, host_tick, near_tick, site_ticked, site_unticked}
 use Rattle.node_laws.specs.views.Inits.{init_begun, init_of_running, IfRunsInit, LeavesInit, SiteKeepsInit}
 use Rattle.node_laws.proofs.views.Answering.{reads_init, init_append}
 use Rattle.node_laws.proofs.views.Elsewhere.{quiet_leaves, others_step}
@@ -49,9 +51,8 @@ use Rattle.registry.proofs.ValueLemmas.{AllByRecursion-append}
 use Rattle.node_laws.proofs.links.Worlds.{so_host}
 use Rattle.node_laws.proofs.turns.Works.{sites_is}
 use Rattle.node_laws.proofs.kept.Sites.{hosts_same}
-
-tick_same : (s : Site) → (host_ticks s).0.host ≡ s.host
-tick_same s = by_option s.node (λ q. rw q refl) (λ r q. rw q refl)
+use Rattle.node_laws.proofs.telling.WorldTicks.{tick_host}
+use Rattle.node_laws.proofs.views.Worlds.{near_ticks_fine}
 
 -- ## A frame that was refused leaves the init of a node
 
@@ -111,79 +112,28 @@ module _ (h : ℕ) (host : IsHost h) where
       (map_keeps h host (λ (s : Site). record s { link = aged s.link }) (λ s. refl) (λ s. refl) (λ s. refl) w.sites i keeps)
 
   near_ticks : (w : NodeWorld) (i : Option Init) → IfItRuns 0 (hosts_in w.sites) w.controller → Has w i → So (controller_ticks w) i
-  near_ticks w i runs keeps = by_node w.controller refl where
-    by_node : (o : Option Running) → w.controller ≡ o → So (controller_ticks w) i
-    by_node None q = subst (λ p. So p i) (sym off_is) (map_keeps h host alone (λ s. refl) (λ s. refl)
-        (λ s. ap (λ (x : NumberedEnd). x.side) (tick_host s.link [] GoesOut)) w.sites i keeps) where
-          alone : Site → Site
-          alone s = record s { link = ticks_at_controller s.link [] GoesOut }
-
-          off_is : controller_ticks w ≡ (record w { sites = map alone w.sites }, [])
-          off_is = rw q refl
-    by_node (Some r) q = subst (λ p. So p i) (sym on_is) (left h host v (c.entries ++ frames) i
-        (AllByRecursion-append (LeavesInit h) c.entries frames
-        (others_step h 0 (zero_off h host) Controller refl (hosts_in w.sites) r w.memory.plan near_ends [] TimePasses
-        (subst (IfItRuns 0 (hosts_in w.sites)) q runs) (near_off h host (hosts_in w.sites)) tt) (all_flat (LeavesInit h)
-        (λ (s : Site). frames_noted Controller s.host s.link c) (λ s. frames_leave h host Controller s.host s.link c) w.sites))
-        (map_keeps h host ticked (λ s. refl) (λ s. refl) (λ s. ap (λ (x : NumberedEnd). x.side) (so_host s.link (is_late_at c s.host) (turns_at c s.host)
-        (ending_of c))) w.sites i keeps)) where
-          near_ends : ℕ → NumberedEnd
-          near_ends k = (link_to w.sites k).controller
-
-          c : Work
-          c = steps TimePasses (work_of r w.memory.plan near_ends [])
-
-          ticked : Site → Site
-          ticked s = record s { link = ticked_so s.link (is_late_at c s.host) (turns_at c s.host) (ending_of c) }
-
-          v : NodeWorld
-          v = record { memory = after_planned c.writes w.memory; controller = runs_on c; sites = map ticked w.sites }
-
-          frames : List Entry
-          frames = flat_map (λ (s : Site). frames_noted Controller s.host s.link c) w.sites
-
-          on_is : controller_ticks w ≡ (v, c.entries ++ frames)
-          on_is = rw q refl
-
-  near_fine : (w : NodeWorld) → AreFine w.sites → AreFine (controller_ticks w).0.sites
-  near_fine w fine = by_node w.controller refl where
-    by_node : (o : Option Running) → w.controller ≡ o → AreFine (controller_ticks w).0.sites
-    by_node None q = subst (λ (p : NodeWorld × List Entry). AreFine p.0.sites) (sym off_is) (map_fine alone (λ s. refl) (λ s. refl) w.sites fine) where
-      alone : Site → Site
-      alone s = record s { link = ticks_at_controller s.link [] GoesOut }
-
-      off_is : controller_ticks w ≡ (record w { sites = map alone w.sites }, [])
-      off_is = rw q refl
-    by_node (Some r) q = subst (λ (p : NodeWorld × List Entry). AreFine p.0.sites) (sym on_is) (map_fine ticked (λ s. refl) (λ s. refl) w.sites fine) where
-      c : Work
-      c = steps TimePasses (work_of r w.memory.plan (λ k. (link_to w.sites k).controller) [])
-
-      ticked : Site → Site
-      ticked s = record s { link = ticked_so s.link (is_late_at c s.host) (turns_at c s.host) (ending_of c) }
-
-      on_is : controller_ticks w
-          ≡ (
-            record { memory = after_planned c.writes w.memory; controller = runs_on c; sites = map ticked w.sites },
-            c.entries ++ flat_map (λ (s : Site). frames_noted Controller s.host s.link c) w.sites,
-          )
-      on_is = rw q refl
+  near_ticks w i runs keeps =
+      by_controller_tick (λ p. So p i) w
+      (λ q. map_keeps h host site_unticked (λ s. refl) (λ s. refl) (λ s. ap (λ (x : NumberedEnd). x.side) (ticks_host s.link [] GoesOut)) w.sites i keeps)
+      (λ r q.
+      let c : Work = near_tick w r in
+      let frames : List Entry = flat_map (λ (s : Site). frames_noted Controller s.host s.link c) w.sites in
+      left h host (after_near_tick w c).0 (c.entries ++ frames) i
+      (AllByRecursion-append (LeavesInit h) c.entries frames
+      (others_step h 0 (zero_off h host) Controller refl (hosts_in w.sites) r w.memory.plan (λ k. (link_to w.sites k).controller) [] TimePasses
+      (subst (IfItRuns 0 (hosts_in w.sites)) q runs) (near_off h host (hosts_in w.sites)) tt)
+      (all_flat (LeavesInit h) (λ (s : Site). frames_noted Controller s.host s.link c) (λ s. frames_leave h host Controller s.host s.link c) w.sites))
+      (map_keeps h host (site_ticked c) (λ s. refl) (λ s. refl)
+      (λ s. ap (λ (x : NumberedEnd). x.side) (so_host s.link (is_late_at c s.host) (turns_at c s.host) (ending_of c))) w.sites i keeps))
 
   -- another host has its tick
   tick_leaves : (s : Site) → IfItRuns s.host (s.host ∷ []) s.node → eqb s.host 0 ≡ false → eqb s.host h ≡ false → AllByRecursion (LeavesInit h) (host_ticks s).1
-  tick_leaves s runs number off = by_node s.node refl where
-    by_node : (o : Option Running) → s.node ≡ o → AllByRecursion (LeavesInit h) (host_ticks s).1
-    by_node None q = subst (λ (p : Site × List Entry). AllByRecursion (LeavesInit h) p.1) (sym off_is) tt where
-      off_is : host_ticks s ≡ (record s { link = exchanged (ticks_at_controller (exchanged s.link) [] GoesOut) }, [])
-      off_is = rw q refl
-    by_node (Some r) q =
-        subst (AllByRecursion (LeavesInit h)) (sym on_is) (AllByRecursion-append (LeavesInit h) c.entries (frames_noted Host s.host (exchanged s.link) c)
-        (host_steps h host s r (λ n. s.link.host) [] TimePasses (subst (IfItRuns s.host (s.host ∷ [])) q runs) number off tt)
-        (frames_leave h host Host s.host (exchanged s.link) c)) where
-          c : Work
-          c = steps TimePasses (work_of r s.memory.plan (λ n. s.link.host) [])
-
-          on_is : (host_ticks s).1 ≡ c.entries ++ frames_noted Host s.host (exchanged s.link) c
-          on_is = rw q refl
+  tick_leaves s runs number off =
+      by_host_tick (λ p. AllByRecursion (LeavesInit h) p.1) s (λ q. tt)
+      (λ r q.
+      AllByRecursion-append (LeavesInit h) (host_tick s r).entries (frames_noted Host s.host (exchanged s.link) (host_tick s r))
+      (host_steps h host s r (λ n. s.link.host) [] TimePasses (subst (IfItRuns s.host (s.host ∷ [])) q runs) number off tt)
+      (frames_leave h host Host s.host (exchanged s.link) (host_tick s r)))
 
   ticks_leave : (sites : List Site) → AreFine sites → AllByRecursion (λ k. eqb k h ≡ false) (hosts_in sites)
       → AllByRecursion (LeavesInit h) (hosts_tick sites).1
@@ -196,39 +146,33 @@ module _ (h : ℕ) (host : IsHost h) where
   ticks_all : (sites : List Site) (i : Option Init) → AreFine sites → AtSite i (site_at sites h)
       → AtSite (reads_init h (hosts_tick sites).1 i) (site_at (hosts_tick sites).0 h)
   ticks_all [] i fine keeps = keeps
-  ticks_all (s ∷ sites) i fine keeps = by_host (cases_Bool (eqb s.host h)) (ticks_all sites i rest) where
-    first : Site × List Entry
-    first = host_ticks s
+  ticks_all (s ∷ sites) i fine keeps = by_test (eqb s.host h)
+      (λ is. let here : s.host ≡ h = eqb-true s.host h is in
+      let mine : SiteKeepsInit (reads_init h first.1 i) first.0 = subst (λ n. SiteKeepsInit (reads_init n first.1 i) first.0) here
+      (ticks_keep s i (subst IsHost (sym here) host) (subst (AtSite i) (was true is) keeps)) in
+      subst (AtSite (reads_init h (first.1 ++ later.1) i)) (sym (found_is true is))
+      (subst (λ y. SiteKeepsInit y first.0) (sym (both ∙ leaves_all h later.1 (reads_init h first.1 i) (ticks_leave sites rest
+      (subst (λ n. AllByRecursion (λ k. eqb k n ≡ false) (hosts_in sites)) here fine.different.0)))) mine))
+      (λ off. subst (AtSite (reads_init h (first.1 ++ later.1) i)) (sym (found_is false off)) (subst (λ y. AtSite y (site_at later.0 h))
+      (sym (both ∙ ap (reads_init h later.1) (leaves_all h first.1 i (tick_leaves s fine.nodes.0 fine.hosts.0 off)))) ((ticks_all sites i rest)
+      (subst (AtSite i) (was false off) keeps)))) where
+        first : Site × List Entry
+        first = host_ticks s
 
-    later : List Site × List Entry
-    later = hosts_tick sites
+        later : List Site × List Entry
+        later = hosts_tick sites
 
-    rest : AreFine sites
-    rest = record { different = fine.different.1; hosts = fine.hosts.1; nodes = fine.nodes.1 }
+        rest : AreFine sites
+        rest = record { different = fine.different.1; hosts = fine.hosts.1; nodes = fine.nodes.1 }
 
-    found_is : (b : Bool) → eqb s.host h ≡ b → site_at (first.0 ∷ later.0) h ≡ cond b (Some first.0) (site_at later.0 h)
-    found_is b q = ap (λ b. cond b (Some first.0) (site_at later.0 h)) (ap (λ n. eqb n h) (tick_same s) ∙ q)
+        found_is : (b : Bool) → eqb s.host h ≡ b → site_at (first.0 ∷ later.0) h ≡ cond b (Some first.0) (site_at later.0 h)
+        found_is b q = ap (λ b. cond b (Some first.0) (site_at later.0 h)) (ap (λ n. eqb n h) (tick_host s) ∙ q)
 
-    was : (b : Bool) → eqb s.host h ≡ b → site_at (s ∷ sites) h ≡ cond b (Some s) (site_at sites h)
-    was b q = ap (λ b. cond b (Some s) (site_at sites h)) q
+        was : (b : Bool) → eqb s.host h ≡ b → site_at (s ∷ sites) h ≡ cond b (Some s) (site_at sites h)
+        was b q = ap (λ b. cond b (Some s) (site_at sites h)) q
 
-    both : reads_init h (first.1 ++ later.1) i ≡ reads_init h later.1 (reads_init h first.1 i)
-    both = init_append h first.1 later.1 i
-
-    by_host : (eqb s.host h ≡ true) ⊎ (eqb s.host h ≡ false)
-        → (AtSite i (site_at sites h) → AtSite (reads_init h later.1 i) (site_at later.0 h))
-        → AtSite (reads_init h (first.1 ++ later.1) i) (site_at (first.0 ∷ later.0) h)
-    by_host (inl is) next =
-        let here : s.host ≡ h = eqb-true s.host h is in
-        let mine : SiteKeepsInit (reads_init h first.1 i) first.0 = subst (λ n. SiteKeepsInit (reads_init n first.1 i) first.0) here
-        (ticks_keep s i (subst IsHost (sym here) host) (subst (AtSite i) (was true is) keeps)) in
-        subst (AtSite (reads_init h (first.1 ++ later.1) i)) (sym (found_is true is))
-        (subst (λ y. SiteKeepsInit y first.0) (sym (both ∙ leaves_all h later.1 (reads_init h first.1 i) (ticks_leave sites rest
-        (subst (λ n. AllByRecursion (λ k. eqb k n ≡ false) (hosts_in sites)) here fine.different.0)))) mine)
-    by_host (inr off) next =
-        subst (AtSite (reads_init h (first.1 ++ later.1) i)) (sym (found_is false off)) (subst (λ y. AtSite y (site_at later.0 h))
-        (sym (both ∙ ap (reads_init h later.1) (leaves_all h first.1 i (tick_leaves s fine.nodes.0 fine.hosts.0 off)))) (next
-        (subst (AtSite i) (was false off) keeps)))
+        both : reads_init h (first.1 ++ later.1) i ≡ reads_init h later.1 (reads_init h first.1 i)
+        both = init_append h first.1 later.1 i
 
   pub ticks_keep_all : (w : NodeWorld) (i : Option Init) → IsOrderly w → Has w i → So (world_ticks w) i
   ticks_keep_all w i orderly keeps =
@@ -242,7 +186,7 @@ module _ (h : ℕ) (host : IsHost h) where
       let one : Has old.0 (reads_init h old.1 i) = aged_keep w i keeps in
       let two : Has near.0 (reads_init h near.1 (reads_init h old.1 i)) = near_ticks old.0 (reads_init h old.1 i) runs one in
       subst (λ y. AtSite y (site_at far.0 h)) (sym (init_append h old.1 (near.1 ++ far.1) i ∙ init_append h near.1 far.1 (reads_init h old.1 i)))
-      (ticks_all near.0.sites (reads_init h near.1 (reads_init h old.1 i)) (near_fine old.0 fine) two)
+      (ticks_all near.0.sites (reads_init h near.1 (reads_init h old.1 i)) (near_ticks_fine old.0 fine) two)
 
   -- ## Sites that keep it whatever host is changed
 
@@ -260,36 +204,20 @@ module _ (h : ℕ) (host : IsHost h) where
         by false s k = k
 
   pub lost_keep : (w : NodeWorld) (i : Option Init) (e : End) (why : Loss) → Has w i → So (frame_lost w e why) i
-  lost_keep w i e why keeps = by_side e.at_host refl where
-    near : Site → Site
-    near s = record s { link = happens s.link (AtController (Lose why)) }
+  lost_keep w i e why keeps = by_test e.at_host
+      (λ q. rw q (left h host (record w { sites = with_site e.link far w.sites }) (entries_for e.link (first_lost Host why (link_to w.sites e.link).to_host)) i
+      (quiet_leaves h e.link (first_lost Host why (link_to w.sites e.link).to_host) (lost_quiet Host why (link_to w.sites e.link).to_host))
+      (with_keeps e.link far (λ s. refl) i (λ s k. lost_keeps e.link why i s k) w.sites keeps)))
+      (λ q. rw q (left h host (record w { controller = counts why e.link w.controller; sites = with_site e.link near w.sites })
+      (entries_for e.link (first_lost Controller why (link_to w.sites e.link).to_controller)) i
+      (quiet_leaves h e.link (first_lost Controller why (link_to w.sites e.link).to_controller)
+      (lost_quiet Controller why (link_to w.sites e.link).to_controller))
+      (with_keeps e.link near (λ s. refl) i (λ s k. keep_same i s (near s) refl refl refl k) w.sites keeps))) where
+        near : Site → Site
+        near s = record s { link = happens s.link (AtController (Lose why)) }
 
-    far : Site → Site
-    far s = record s { link = happens s.link (AtHost (Lose why)); node = counts why e.link s.node }
-
-    near_is : e.at_host ≡ false → frame_lost w e why
-        ≡ (
-          record w { controller = counts why e.link w.controller; sites = with_site e.link near w.sites },
-          entries_for e.link (first_lost Controller why (link_to w.sites e.link).to_controller),
-        )
-    near_is q = rw q refl
-
-    far_is : e.at_host ≡ true → frame_lost w e why
-        ≡ (record w { sites = with_site e.link far w.sites }, entries_for e.link (first_lost Host why (link_to w.sites e.link).to_host))
-    far_is q = rw q refl
-
-    by_side : (b : Bool) → e.at_host ≡ b → So (frame_lost w e why) i
-    by_side false q = subst (λ p. So p i) (sym (near_is q)) (left h host (record w {
-      controller = counts why e.link w.controller;
-      sites = with_site e.link near w.sites;
-    }) (entries_for e.link (first_lost Controller why (link_to w.sites e.link).to_controller)) i
-        (quiet_leaves h e.link (first_lost Controller why (link_to w.sites e.link).to_controller) (lost_quiet Controller why
-        (link_to w.sites e.link).to_controller))
-        (with_keeps e.link near (λ s. refl) i (λ s k. keep_same i s (near s) refl refl refl k) w.sites keeps))
-    by_side true q = subst (λ p. So p i) (sym (far_is q)) (left h host (record w { sites = with_site e.link far w.sites })
-        (entries_for e.link (first_lost Host why (link_to w.sites e.link).to_host)) i (quiet_leaves h e.link (first_lost Host why
-        (link_to w.sites e.link).to_host) (lost_quiet Host why (link_to w.sites e.link).to_host))
-        (with_keeps e.link far (λ s. refl) i (λ s k. lost_keeps e.link why i s k) w.sites keeps))
+        far : Site → Site
+        far s = record s { link = happens s.link (AtHost (Lose why)); node = counts why e.link s.node }
 
   -- ## Memories
 

@@ -15,7 +15,7 @@ use Rattle.link_laws.specs.machine.Machine.{Message, LinkEnd, give_refusal}
 use Rattle.link_laws.specs.machine.Machine.Refused.{NotUp}
 use Rattle.node_machine.specs.Parts.{Init}
 use Rattle.node_machine.specs.Controller.{is_command_message}
-use Rattle.node_machine.specs.world.World.{NodeWorld, Site, site_at, node_at, node_of, link_to, new_world, world_step}
+use Rattle.node_machine.specs.world.World.{NodeWorld, site_at, node_at, node_of, link_to, new_world, world_step}
 use Rattle.node_machine.specs.world.World.Happening.{Takes, Ticks}
 use Rattle.node_machine.specs.world.Lines.{if_off, machine_in, frames_at, has_order, if_waiting, if_not_sent, refusal_in, happenings, Occurrence}
 use Rattle.node_machine.specs.world.NodeHistories.{NodeHistory, FollowsNodes, steps_from, occurrences_in, world_after}
@@ -30,6 +30,7 @@ use Rattle.node_laws.proofs.views.Lines.{none_zero}
 use Rattle.node_laws.proofs.views.InitWorlds.{AtSite, MayInit, Keeps, absent, present, zero}
 use Rattle.node_laws.proofs.views.InitEvents.{MayKeep, event_keeps}
 use Rattle.node_laws.proofs.telling.Lasting.{AreCaused, lines_caused}
+use Rattle.node_laws.proofs.Cases.{by_option}
 
 -- ## Lines
 
@@ -87,10 +88,9 @@ module _ (h : ℕ) (host : IsHost h) where
 
   -- what is kept there is what runs
   kept_is : (w : NodeWorld) (i : Option Init) → Keeps h host w i → i ≡ init_of_running (node_at w h)
-  kept_is w i keeps = by (site_at w.sites h) refl where
-    by : (o : Option Site) → site_at w.sites h ≡ o → i ≡ init_of_running (node_at w h)
-    by None z = let none : i ≡ None = subst (AtSite i) z keeps in none ∙ ap init_of_running (sym (absent w h (zero h host) z))
-    by (Some s) z = (subst (AtSite i) z keeps).read ∙ ap init_of_running (sym (present w h (zero h host) s z))
+  kept_is w i keeps = by_option (site_at w.sites h)
+      (λ z. let none : i ≡ None = subst (AtSite i) z keeps in none ∙ ap init_of_running (sym (absent w h (zero h host) z)))
+      (λ s z. (subst (AtSite i) z keeps).read ∙ ap init_of_running (sym (present w h (zero h host) s z)))
 
   -- none runs at the beginning
   new_keeps : (hosts : List ℕ) → Keeps h host (new_world hosts) None

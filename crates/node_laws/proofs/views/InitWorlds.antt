@@ -1,8 +1,8 @@
 -- What happens to a world: a host keeps the init that is read of it.
-use Rattle.std.proofs.Common.{◌≡◌, ◌⊎◌, inl, inr, ℕ, ◌&&◌, Bool, true, false, cond, eqb, List, [], ◌∷◌, ◌++◌, map, sym, refl, ap, ◌∙◌, subst, arith}
+use Rattle.std.proofs.Common.{◌≡◌, ℕ, ◌&&◌, Bool, true, false, cond, eqb, List, [], ◌∷◌, ◌++◌, map, sym, refl, ap, ◌∙◌, subst, arith}
 use Rattle.std.specs.Prelude.{Option, Some, None}
 use Rattle.std.specs.List.{AllByRecursion, flat_map}
-use Rattle.std.proofs.lemmas.Bool.{cases_Bool, cond_both, eqb-true, eq-eqb, eqb-false, ne_eqb}
+use Rattle.std.proofs.lemmas.Bool.{cond_both, eqb-true, eq-eqb, eqb-false, ne_eqb}
 use mathlib.Core.Bool.{and-false}
 use Rattle.trace_model.specs.Lines.{IsHost}
 use Rattle.trace_model.specs.declared.entry.Entry.{Entry}
@@ -15,7 +15,6 @@ use Rattle.link_laws.specs.entries.Entries.{End as Side}
 use Rattle.link_laws.specs.entries.Entries.End.{Controller, Host}
 use Rattle.history.specs.Filters.{same_end}
 use Rattle.history.specs.Steps.{entries_for, end_of}
-use Rattle.history.specs.Follows.{seen_from}
 use Rattle.trace_model.specs.declared.line.End.{End}
 use Rattle.node_machine.specs.Parts.{Init, Running, Work, Deed}
 use Rattle.node_machine.specs.Parts.Deed.{Orders, Sends}
@@ -28,9 +27,10 @@ use Rattle.node_machine.specs.world.World.{wires_for}
 use Rattle.node_machine.specs.world.World.{work_of, frames_noted, comes_to, link_after_controller, after_controller, controller_does, host_work}
 use Rattle.node_machine.specs.world.World.{after_host, host_does}
 use Rattle.node_machine.specs.world.World.{sending, beginning, comes_at, activates, end_c, end_h}
+use Rattle.node_machine.specs.world.World.{controller_work}
 use Rattle.node_machine.specs.world.World.Happening.{Inits}
 use Rattle.node_laws.proofs.All.{all_flat}
-use Rattle.node_laws.proofs.Cases.{by_option}
+use Rattle.node_laws.proofs.Cases.{by_option, by_test}
 use Rattle.node_laws.proofs.links.Ends.{here_host}
 use Rattle.node_laws.specs.telling.Telling.{HasEnds, IfItRuns, hosts_in, IsOrderly}
 use Rattle.node_laws.proofs.telling.Nodes.{site_host}
@@ -46,6 +46,7 @@ use Rattle.node_laws.proofs.views.Worlds.{AreFine, orderly_fine}
 use Rattle.registry.proofs.ValueLemmas.{AllByRecursion-append}
 use Rattle.node_laws.proofs.turns.Works.{sites_is}
 use Rattle.node_laws.proofs.telling.Worlds.{site_is as found_all}
+use Rattle.node_machine.proofs.world.Cases.{by_coming, by_controller, by_host, after_host_step}
 
 pub leaves_all : (h : ℕ) (es : List Entry) (i : Option Init) → AllByRecursion (LeavesInit h) es → reads_init h es i ≡ i
 leaves_all h [] i all = refl
@@ -149,35 +150,20 @@ module _ (h : ℕ) (host : IsHost h) where
   -- something comes to an end of the controller
   near_does : (w : NodeWorld) (i : Option Init) (k : ℕ) (comes : Comes) (input : LinkInput) → IsOrderly w → Keeps w i
       → Then (controller_does w k comes (steps (AtEnd k input))) i
-  near_does w i k comes input orderly keeps = by_node w.controller refl where
-    f : Work → Work
-    f = steps (AtEnd k input)
-
-    off_is : w.controller ≡ None → controller_does w k comes f ≡ (w, [])
-    off_is q = rw q refl
-
-    by_node : (o : Option Running) → w.controller ≡ o → Then (controller_does w k comes f) i
-    by_node None q = subst (λ p. Then p i) (sym (off_is q)) keeps
-    by_node (Some r) q = subst (λ p. Then p i) (sym on_is) (left (after_controller w k comes c).0 (c.entries ++ frames) i
-        (AllByRecursion-append (LeavesInit h) c.entries frames (others_step h 0 zero_off Controller refl (hosts_in w.sites) r w.memory.plan (λ n. near_end_in
-        (link_to w.sites n) (comes_to k comes n)) (entries_for k (arrival Controller (link_to w.sites k) comes)) (AtEnd k input) has (near_off
-        (hosts_in w.sites)) (arrival_leave Controller k (link_to w.sites k) comes)) (all_flat (LeavesInit h) (λ (s : Site). frames_noted Controller s.host
-        (wires_for s.link (comes_to k comes s.host)) c) (λ s. frames_leave Controller s.host (wires_for s.link (comes_to k comes s.host)) c) w.sites))
-        (map_keeps (link_after_controller k comes c) (λ s. refl) (λ s. refl)
-        (λ s. ap (λ (x : NumberedEnd). x.side) (here_host s.link (Step (comes_to k comes s.host)
-        (turns_at c s.host) (ending_of c)))) w.sites i keeps)) where
-          c : Work
-          c = f (work_of r w.memory.plan (λ n. near_end_in (link_to w.sites n) (comes_to k comes n))
-              (entries_for k (arrival Controller (link_to w.sites k) comes)))
-
-          frames : List Entry
-          frames = flat_map (λ (s : Site). frames_noted Controller s.host (wires_for s.link (comes_to k comes s.host)) c) w.sites
-
-          on_is : controller_does w k comes f ≡ after_controller w k comes c
-          on_is = rw q refl
-
-          has : HasEnds 0 (hosts_in w.sites) r
-          has = subst (IfItRuns 0 (hosts_in w.sites)) q orderly.controller
+  near_does w i k comes input orderly keeps =
+      by_controller (λ p. Then p i) w k comes (steps (AtEnd k input)) keeps
+      (λ r q.
+      let c : Work = controller_work w r k comes (steps (AtEnd k input)) in
+      let frames : List Entry = flat_map (λ (s : Site). frames_noted Controller s.host (wires_for s.link (comes_to k comes s.host)) c) w.sites in
+      left (after_controller w k comes c).0 (c.entries ++ frames) i
+      (AllByRecursion-append (LeavesInit h) c.entries frames
+      (others_step h 0 zero_off Controller refl (hosts_in w.sites) r w.memory.plan (λ n. near_end_in (link_to w.sites n) (comes_to k comes n))
+      (entries_for k (arrival Controller (link_to w.sites k) comes)) (AtEnd k input) (subst (IfItRuns 0 (hosts_in w.sites)) q orderly.controller)
+      (near_off (hosts_in w.sites)) (arrival_leave Controller k (link_to w.sites k) comes))
+      (all_flat (LeavesInit h) (λ (s : Site). frames_noted Controller s.host (wires_for s.link (comes_to k comes s.host)) c)
+      (λ s. frames_leave Controller s.host (wires_for s.link (comes_to k comes s.host)) c) w.sites))
+      (map_keeps (link_after_controller k comes c) (λ s. refl) (λ s. refl)
+      (λ s. ap (λ (x : NumberedEnd). x.side) (here_host s.link (Step (comes_to k comes s.host) (turns_at c s.host) (ending_of c)))) w.sites i keeps))
 
   -- ## A host acts
 
@@ -201,61 +187,43 @@ module _ (h : ℕ) (host : IsHost h) where
   other_host : (sites : List Site) (k : ℕ) (s : Site) → site_at sites k ≡ Some s → eqb h k ≡ false → eqb s.host h ≡ false
   other_host sites k s here off = ne_eqb s.host h (λ same. eqb-false h k off (sym same ∙ site_host sites k s here))
 
-  module _ (w : NodeWorld) (k : ℕ) (comes : Comes) (f : Work → Work) where
-    no_site : site_at w.sites k ≡ None → host_does w k comes f ≡ (w, [])
-    no_site q = rw q refl
-
-    no_node : (s : Site) → site_at w.sites k ≡ Some s → s.node ≡ None → host_does w k comes f ≡ (w, [])
-    no_node s here q = rw here (rw q refl)
-
-    acts_is : (s : Site) (r : Running) → site_at w.sites k ≡ Some s → s.node ≡ Some r → host_does w k comes f
-        ≡ (
-          record w { sites = with_site k (after_host comes (host_work s r comes f)) w.sites },
-          (host_work s r comes f).entries ++ frames_noted Host k (wires_for (exchanged s.link) comes) (host_work s r comes f),
-        )
-    acts_is s r here q = rw here (rw q refl)
-
-    -- another one
-    other_acts : (i : Option Init) → eqb h k ≡ false
-        → ((s : Site) (r : Running) → site_at w.sites k ≡ Some s → s.node ≡ Some r → AllByRecursion (LeavesInit h) (host_work s r comes f).entries)
-        → Keeps w i → Then (host_does w k comes f) i
-    other_acts i off others keeps = by_option (site_at w.sites k) (λ q. subst (λ p. Then p i) (sym (no_site q)) keeps) (λ s q. by_node s q s.node refl) where
-      by_node : (s : Site) → site_at w.sites k ≡ Some s → (o : Option Running) → s.node ≡ o → Then (host_does w k comes f) i
-      by_node s here None q = subst (λ p. Then p i) (sym (no_node s here q)) keeps
-      by_node s here (Some r) q = subst (λ p. Then p i) (sym (acts_is s r here q)) (left (record w { sites = with_site k (after_host comes c) w.sites })
-          (c.entries ++ frames) i
-          (AllByRecursion-append (LeavesInit h) c.entries frames (others s r here q) (frames_leave Host k (wires_for (exchanged s.link) comes) c))
-          (other_keeps k (after_host comes c) (λ s. refl) w.sites i off keeps)) where
-            c : Work
-            c = host_work s r comes f
-
-            frames : List Entry
-            frames = frames_noted Host k (wires_for (exchanged s.link) comes) c
+  -- another one
+  other_acts : (w : NodeWorld) (k : ℕ) (comes : Comes) (f : Work → Work) (i : Option Init) → eqb h k ≡ false
+      → ((s : Site) (r : Running) → site_at w.sites k ≡ Some s → s.node ≡ Some r → AllByRecursion (LeavesInit h) (host_work s r comes f).entries)
+      → Keeps w i → Then (host_does w k comes f) i
+  other_acts w k comes f i off others keeps =
+      by_host (λ p. Then p i) w k comes f keeps
+      (λ s r here q.
+      let c : Work = host_work s r comes f in
+      let frames : List Entry = frames_noted Host k (wires_for (exchanged s.link) comes) c in
+      left (record w { sites = with_site k (after_host comes c) w.sites }) (c.entries ++ frames) i
+      (AllByRecursion-append (LeavesInit h) c.entries frames (others s r here q) (frames_leave Host k (wires_for (exchanged s.link) comes) c))
+      (other_keeps k (after_host comes c) (λ s. refl) w.sites i off keeps))
 
   -- this one, which runs
-  pub own_runs : (w : NodeWorld) (comes : Comes) (f : ℕ → Work → Work) (b : Option Init) (s : Site) (r : Running) → site_at w.sites h ≡ Some s
-      → s.node ≡ Some r → SiteKeepsInit (reads_init s.host (host_does_so s r comes (f s.host)).1 b) (host_does_so s r comes (f s.host)).0
-      → Then (host_does w h comes (f h)) b
-  own_runs w comes f b s r here q kept =
-      subst (λ p. Then p b) (sym (acts_is w h comes (f h) s r here q))
-      (own_keeps (after_host comes (c h)) (λ s. refl) w.sites s (reads_init h ((c h).entries ++ frames h) b) here
-      (subst (λ n. SiteKeepsInit (reads_init n ((c n).entries ++ frames n) b) (after_host comes (c n) s)) (site_host w.sites h s here) kept)) where
+  own_step : (w : NodeWorld) (comes : Comes) (f : ℕ → Work → Work) (b : Option Init) (s : Site) (r : Running) → site_at w.sites h ≡ Some s
+      → SiteKeepsInit (reads_init s.host (host_does_so s r comes (f s.host)).1 b) (host_does_so s r comes (f s.host)).0
+      → Then (after_host_step w h comes s (host_work s r comes (f h))) b
+  own_step w comes f b s r here kept =
+      own_keeps (after_host comes (c h)) (λ s. refl) w.sites s (reads_init h ((c h).entries ++ frames h) b) here
+      (subst (λ n. SiteKeepsInit (reads_init n ((c n).entries ++ frames n) b) (after_host comes (c n) s)) (site_host w.sites h s here) kept) where
         c : ℕ → Work
         c n = host_work s r comes (f n)
 
         frames : ℕ → List Entry
         frames n = frames_noted Host n (wires_for (exchanged s.link) comes) (c n)
 
+  pub own_runs : (w : NodeWorld) (comes : Comes) (f : ℕ → Work → Work) (b : Option Init) (s : Site) (r : Running) → site_at w.sites h ≡ Some s
+      → s.node ≡ Some r → SiteKeepsInit (reads_init s.host (host_does_so s r comes (f s.host)).1 b) (host_does_so s r comes (f s.host)).0
+      → Then (host_does w h comes (f h)) b
+  own_runs w comes f b s r here q kept = rw (here, q) (own_step w comes f b s r here kept)
+
   own_acts : (w : NodeWorld) (comes : Comes) (f : ℕ → Work → Work) (i : Option Init)
       → ((s : Site) (r : Running) → site_at w.sites h ≡ Some s → s.node ≡ Some r → SiteKeepsInit i s
       → SiteKeepsInit (reads_init s.host (host_does_so s r comes (f s.host)).1 i) (host_does_so s r comes (f s.host)).0) → Keeps w i
       → Then (host_does w h comes (f h)) i
-  own_acts w comes f i one keeps = by_option (site_at w.sites h)
-      (λ q. subst (λ p. Then p i) (sym (no_site w h comes (f h) q)) keeps)
-      (λ s q. by_node s q s.node refl) where
-        by_node : (s : Site) → site_at w.sites h ≡ Some s → (o : Option Running) → s.node ≡ o → Then (host_does w h comes (f h)) i
-        by_node s here None q = subst (λ p. Then p i) (sym (no_node w h comes (f h) s here q)) keeps
-        by_node s here (Some r) q = own_runs w comes f i s r here q (one s r here q (subst (AtSite i) here keeps))
+  own_acts w comes f i one keeps =
+      by_host (λ p. Then p i) w h comes (f h) keeps (λ s r here q. own_step w comes f i s r here (one s r here q (subst (AtSite i) here keeps)))
 
   -- something comes to a host
   link_is : (w : NodeWorld) (s : Site) → site_at w.sites h ≡ Some s → link_to w.sites h ≡ s.link
@@ -263,44 +231,24 @@ module _ (h : ℕ) (host : IsHost h) where
 
   far_does : (w : NodeWorld) (i : Option Init) (k : ℕ) (comes : Comes) (input : LinkInput) → IsOrderly w
       → input_of (exchanged (link_to w.sites k)) comes ≡ Some input → Keeps w i → Then (host_does w k comes (steps (AtEnd k input))) i
-  far_does w i k comes input orderly is keeps = by (cases_Bool (eqb h k)) where
-    by : (eqb h k ≡ true) ⊎ (eqb h k ≡ false) → Then (host_does w k comes (steps (AtEnd k input))) i
-    by (inl z) =
-        let same : h ≡ k = eqb-true h k z in
-        let is_here : input_of (exchanged (link_to w.sites h)) comes ≡ Some input = subst (λ n. input_of (exchanged (link_to w.sites n)) comes ≡ Some input)
-        (sym same) is in
-        subst (λ n. Then (host_does w n comes (steps (AtEnd n input))) i) same (own_acts w comes (λ n. steps (AtEnd n input)) i
-        (λ s r here q kept. comes_keeps s (real_host w.sites s here) i r q kept comes input (ap (λ l. input_of (exchanged l) comes) (sym (link_is w s here))
-        ∙ is_here)) keeps)
-    by (inr z) = other_acts w k comes (steps (AtEnd k input)) i z
-        (λ s r here q. let has = own_ends w.sites k s r (orderly_fine w orderly) here q in
-        host_steps s r (λ n. near_end_in (exchanged s.link) comes) (entries_for s.host (arrival Host (exchanged s.link) comes)) (AtEnd k input) has.0 has.1
-        (other_host w.sites k s here z) (arrival_leave Host s.host (exchanged s.link) comes)) keeps
+  far_does w i k comes input orderly is keeps = by_test (eqb h k)
+      (λ z. let same : h ≡ k = eqb-true h k z in
+      let is_here : input_of (exchanged (link_to w.sites h)) comes ≡ Some input = subst (λ n. input_of (exchanged (link_to w.sites n)) comes ≡ Some input)
+      (sym same) is in
+      subst (λ n. Then (host_does w n comes (steps (AtEnd n input))) i) same (own_acts w comes (λ n. steps (AtEnd n input)) i
+      (λ s r here q kept. comes_keeps s (real_host w.sites s here) i r q kept comes input (ap (λ l. input_of (exchanged l) comes) (sym (link_is w s here))
+      ∙ is_here)) keeps))
+      (λ z. other_acts w k comes (steps (AtEnd k input)) i z
+      (λ s r here q. let has = own_ends w.sites k s r (orderly_fine w orderly) here q in
+      host_steps s r (λ n. near_end_in (exchanged s.link) comes) (entries_for s.host (arrival Host (exchanged s.link) comes)) (AtEnd k input) has.0 has.1
+      (other_host w.sites k s here z) (arrival_leave Host s.host (exchanged s.link) comes)) keeps)
 
   -- ## Something comes
 
   pub comes_keep : (w : NodeWorld) (i : Option Init) (a : End) (comes : Comes) → IsOrderly w → Keeps w i → Then (comes_at w a comes) i
-  comes_keep w i a comes orderly keeps = go (input_of (seen_from a (link_to w.sites a.link)) comes) refl a.at_host refl where
-    none_is : input_of (seen_from a (link_to w.sites a.link)) comes ≡ None → comes_at w a comes ≡ (w, [])
-    none_is q = rw q refl
-
-    near_is : (input : LinkInput) → input_of (seen_from a (link_to w.sites a.link)) comes ≡ Some input → a.at_host ≡ false
-        → comes_at w a comes ≡ controller_does w a.link comes (steps (AtEnd a.link input))
-    near_is input q b = rw q (rw b refl)
-
-    far_is : (input : LinkInput) → input_of (seen_from a (link_to w.sites a.link)) comes ≡ Some input → a.at_host ≡ true
-        → comes_at w a comes ≡ host_does w a.link comes (steps (AtEnd a.link input))
-    far_is input q b = rw q (rw b refl)
-
-    seen_is : a.at_host ≡ true → exchanged (link_to w.sites a.link) ≡ seen_from a (link_to w.sites a.link)
-    seen_is b = rw b refl
-
-    go : (o : Option LinkInput) → input_of (seen_from a (link_to w.sites a.link)) comes ≡ o → (b : Bool) → a.at_host ≡ b → Then (comes_at w a comes) i
-    go None q b z = subst (λ p. Then p i) (sym (none_is q)) keeps
-    go (Some input) q false z = subst (λ p. Then p i) (sym (near_is input q z)) (near_does w i a.link comes input orderly keeps)
-    go (Some input) q true z =
-        subst (λ p. Then p i) (sym (far_is input q z)) (far_does w i a.link comes input orderly (ap (λ l. input_of l comes) (seen_is z) ∙ q)
-        keeps)
+  comes_keep w i a comes orderly keeps =
+      by_coming (λ p. Then p i) w a comes keeps (λ input far q. far_does w i a.link comes input orderly q keeps)
+      (λ input near q. near_does w i a.link comes input orderly keeps)
 
   pub activates_keep : (w : NodeWorld) (i : Option Init) (k sync power : ℕ) → IsOrderly w → Keeps w i → Then (activates w k sync power) i
   activates_keep w i k sync power orderly keeps =
@@ -322,41 +270,34 @@ module _ (h : ℕ) (host : IsHost h) where
 
   pub gives_keep : (w : NodeWorld) (i : Option Init) (k : ℕ) (m : Message) → IsOrderly w → Keeps w i
       → Then (host_does w k NoInput (begins_with k (sending k m))) i
-  gives_keep w i k m orderly keeps = by (cases_Bool (eqb h k)) where
-    by : (eqb h k ≡ true) ⊎ (eqb h k ≡ false) → Then (host_does w k NoInput (begins_with k (sending k m))) i
-    by (inl z) =
-        subst (λ n. Then (host_does w n NoInput (begins_with n (sending n m))) i) (eqb-true h k z) (own_acts w NoInput (λ n. begins_with n (sending n m)) i
-        (λ s r here q kept. sends_keeps s (real_host w.sites s here) i r q kept m) keeps)
-    by (inr z) = others_act w i k (sending k m) orderly (cond_both (eqb m.0 1 && is_command_message m.1) (Orders m.1 ∷ []) (Sends k m ∷ [])
-        (AllByRecursion (NotesSo (LeavesInit h))) (λ _. (tt, tt)) (λ _. (tt, tt))) z keeps
+  gives_keep w i k m orderly keeps = by_test (eqb h k)
+      (λ z. subst (λ n. Then (host_does w n NoInput (begins_with n (sending n m))) i) (eqb-true h k z) (own_acts w NoInput (λ n. begins_with n (sending n m)) i
+      (λ s r here q kept. sends_keeps s (real_host w.sites s here) i r q kept m) keeps))
+      (λ z. others_act w i k (sending k m) orderly (cond_both (eqb m.0 1 && is_command_message m.1) (Orders m.1 ∷ []) (Sends k m ∷ [])
+      (AllByRecursion (NotesSo (LeavesInit h))) (λ _. (tt, tt)) (λ _. (tt, tt))) z keeps)
 
   -- its node runs, and its end is up
   pub inits_keep : (w : NodeWorld) (i : Option Init) (e : End) (identity : List ℕ) (pipes : List (List ℕ)) → IsOrderly w → MayInit w e → Keeps w i
       → Then (host_does w e.link NoInput (begins_with e.link (beginning identity pipes))) (init_begun h i (Inits e identity pipes))
-  inits_keep w i e identity pipes orderly may keeps = by (cases_Bool (eqb e.link h)) where
-    begun : (b : Bool) → eqb e.link h ≡ b → init_begun h i (Inits e identity pipes) ≡ cond b (Some (init_of identity pipes)) i
-    begun b z = ap (λ b. cond b (Some (init_of identity pipes)) i) z
+  inits_keep w i e identity pipes orderly may keeps = by_test (eqb e.link h)
+      (λ z. let same : e.link ≡ h = eqb-true e.link h z in
+      let at = site_is (site_at w.sites h) refl same in
+      subst (Then (host_does w e.link NoInput (begins_with e.link (beginning identity pipes)))) (sym (begun true z)) (begins at.0 at.1 at.2 same))
+      (λ z. subst (Then (host_does w e.link NoInput (begins_with e.link (beginning identity pipes)))) (sym (begun false z))
+      (others_act w i e.link (beginning identity pipes) orderly (tt, (tt, tt)) (ne_eqb h e.link (λ same. eqb-false e.link h z (sym same))) keeps)) where
+        begun : (b : Bool) → eqb e.link h ≡ b → init_begun h i (Inits e identity pipes) ≡ cond b (Some (init_of identity pipes)) i
+        begun b z = ap (λ b. cond b (Some (init_of identity pipes)) i) z
 
-    site_is : (o : Option Site) → site_at w.sites h ≡ o → e.link ≡ h → (s : Site) × (site_at w.sites h ≡ Some s) × (s.node ≡ Some may.node)
-    site_is None here same =
-        let none : None ≡ Some may.node = sym (absent w h zero here) ∙ (ap (node_at w) (sym same) ∙ may.runs) in absurd (cc none)
-    site_is (Some s) here same = (s, here, sym (present w h zero s here) ∙ (ap (node_at w) (sym same) ∙ may.runs))
+        site_is : (o : Option Site) → site_at w.sites h ≡ o → e.link ≡ h → (s : Site) × (site_at w.sites h ≡ Some s) × (s.node ≡ Some may.node)
+        site_is None here same =
+            let none : None ≡ Some may.node = sym (absent w h zero here) ∙ (ap (node_at w) (sym same) ∙ may.runs) in absurd (cc none)
+        site_is (Some s) here same = (s, here, sym (present w h zero s here) ∙ (ap (node_at w) (sym same) ∙ may.runs))
 
-    begins : (s : Site) → site_at w.sites h ≡ Some s → s.node ≡ Some may.node → e.link ≡ h
-        → Then (host_does w e.link NoInput (begins_with e.link (beginning identity pipes))) (Some (init_of identity pipes))
-    begins s here runs same =
-        let up : s.link.host.side.shdlc.phase ≡ Up = ap (λ (l : Link). l.host.side.shdlc.phase) (sym (link_is w s here))
-        ∙ (ap (λ n. (link_to w.sites n).host.side.shdlc.phase) (sym same) ∙ may.up) in
-        subst (λ n. Then (host_does w n NoInput (begins_with n (beginning identity pipes))) (Some (init_of identity pipes))) (sym same)
-        (own_runs w NoInput (λ n. begins_with n (beginning identity pipes)) (Some (init_of identity pipes)) s may.node here runs
-        (begins_keeps s (real_host w.sites s here) i may.node runs (subst (AtSite i) here keeps) identity pipes up))
-
-    by : (eqb e.link h ≡ true) ⊎ (eqb e.link h ≡ false)
-        → Then (host_does w e.link NoInput (begins_with e.link (beginning identity pipes))) (init_begun h i (Inits e identity pipes))
-    by (inl z) =
-        let same : e.link ≡ h = eqb-true e.link h z in
-        let at = site_is (site_at w.sites h) refl same in
-        subst (Then (host_does w e.link NoInput (begins_with e.link (beginning identity pipes)))) (sym (begun true z)) (begins at.0 at.1 at.2 same)
-    by (inr z) =
-        subst (Then (host_does w e.link NoInput (begins_with e.link (beginning identity pipes)))) (sym (begun false z))
-        (others_act w i e.link (beginning identity pipes) orderly (tt, (tt, tt)) (ne_eqb h e.link (λ same. eqb-false e.link h z (sym same))) keeps)
+        begins : (s : Site) → site_at w.sites h ≡ Some s → s.node ≡ Some may.node → e.link ≡ h
+            → Then (host_does w e.link NoInput (begins_with e.link (beginning identity pipes))) (Some (init_of identity pipes))
+        begins s here runs same =
+            let up : s.link.host.side.shdlc.phase ≡ Up = ap (λ (l : Link). l.host.side.shdlc.phase) (sym (link_is w s here))
+            ∙ (ap (λ n. (link_to w.sites n).host.side.shdlc.phase) (sym same) ∙ may.up) in
+            subst (λ n. Then (host_does w n NoInput (begins_with n (beginning identity pipes))) (Some (init_of identity pipes))) (sym same)
+            (own_runs w NoInput (λ n. begins_with n (beginning identity pipes)) (Some (init_of identity pipes)) s may.node here runs
+            (begins_keeps s (real_host w.sites s here) i may.node runs (subst (AtSite i) here keeps) identity pipes up))

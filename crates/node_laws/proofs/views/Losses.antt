@@ -138,12 +138,6 @@ module _ (e : End) (real : e.at_host ≡ true → eqb e.link 0 ≡ false) where
     abbrev far_v : Loss → NodeWorld
     far_v why = record w { sites = with_site a.link (far_lost a why) w.sites }
 
-    near_is : (why : Loss) → a.at_host ≡ false → frame_lost w a why ≡ (near_v why, entries_for a.link (first_lost Controller why wire_near))
-    near_is why q = rw q refl
-
-    far_is : (why : Loss) → a.at_host ≡ true → frame_lost w a why ≡ (far_v why, entries_for a.link (first_lost Host why wire_far))
-    far_is why q = rw q refl
-
     -- nodes where a frame is lost on its way to the controller
     near_controller : (why : Loss) → e.at_host ≡ false → own_node e real (near_v why) ≡ counts why a.link w.controller
     near_controller why near = near_node e real (near_v why) near
@@ -239,8 +233,8 @@ module _ (e : End) (real : e.at_host ≡ true → eqb e.link 0 ≡ false) where
 
     pub lost_kept : (why : Loss) → (frames_at w a ≡ [] → ⊥) → After e real (frame_lost w a why) x
     lost_kept why some = by_test a.at_host
-        (λ q. subst (λ p. After e real p x) (sym (far_is why q)) (far_why why (λ none. some (far_wire q ∙ none))))
-        (λ q. subst (λ p. After e real p x) (sym (near_is why q)) (near_why why (λ none. some (near_wire q ∙ none)))) where
+        (λ q. rw q (far_why why (λ none. some (far_wire q ∙ none))))
+        (λ q. rw q (near_why why (λ none. some (near_wire q ∙ none)))) where
           near_wire : a.at_host ≡ false → frames_at w a ≡ wire_near
           near_wire q = rw q refl
 

@@ -138,14 +138,8 @@ module _ (e : End) (real : e.at_host ≡ true → eqb e.link 0 ≡ false) (hosts
   -- it ends
   ended_keeps : (x : ErrorCount) (k : Work) → Right e hosts x k → IfKeeps e (runs_on k) (reads e k.entries x)
   ended_keeps x k r = by_test k.cut
-      (λ q. subst (λ o. IfKeeps e o (reads e k.entries x)) (sym (off_is q)) r.read.sets)
-      (λ q. subst (λ o. IfKeeps e o (reads e k.entries x)) (sym (on_is q))
-      (record { sets = r.read.sets; desks = desks_has r.errors (reads e k.entries x).errors r.read.is k.ports r.ends })) where
-        on_is : k.cut ≡ false → runs_on k ≡ Some (record { core = k.core; desks = map (λ (p : Port). p.desk) k.ports })
-        on_is q = rw q refl
-
-        off_is : k.cut ≡ true → runs_on k ≡ None
-        off_is q = rw q refl
+      (λ q. rw q r.read.sets)
+      (λ q. rw q (record { sets = r.read.sets; desks = desks_has r.errors (reads e k.entries x).errors r.read.is k.ports r.ends }))
 
   pub own_steps : (x : ErrorCount) (r : Running) (plan : Option Plan) (near_ends : ℕ → NumberedEnd) (es frames : List Entry) (input : NodeInput)
       → HasEnds (node_of e) hosts r → AllByRecursion (IsStill e) es → AllByRecursion (IsStill e) frames

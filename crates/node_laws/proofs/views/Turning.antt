@@ -19,14 +19,14 @@ use Rattle.history.specs.Filters.{same_end}
 use Rattle.history.specs.Steps.{end_of, entries_for}
 use Rattle.node_machine.specs.Parts.{Core, Port, Work, Deed}
 use Rattle.node_machine.specs.Parts.Deed.{Sends, Drops, SetsErrors}
-use Rattle.node_machine.specs.Carrying.{own_side, noting, unless_cut, port_at, changed_if, with_port, with_desk, after_turn, noted_of, turn_at, end_of_node}
+use Rattle.node_machine.specs.Carrying.{own_side, noting, port_at, changed_if, with_port, with_desk, after_turn, noted_of, turn_at, end_of_node}
 use Rattle.node_machine.specs.Carrying.{needs, lack, own_view, end_view}
 use Rattle.node_machine.specs.Controller.{own_gate, controller_deeds, view_of}
 use Rattle.node_machine.specs.HostReplies.{host_deeds}
-use Rattle.node_machine.specs.Turns.{deeds_of, handles, holds_back, have_turns, goes_through_ends, passes}
+use Rattle.node_machine.specs.Turns.{deeds_of, handles, have_turns, goes_through_ends, passes}
 use Rattle.node_machine.specs.world.NodeFilters.{Book}
 use Rattle.node_laws.specs.kept.Books.{hosts_of_ends}
-use Rattle.node_laws.proofs.Cases.{by_test}
+use Rattle.node_laws.proofs.Cases.{by_test, by_option}
 use Rattle.node_laws.proofs.telling.Away.{at_map}
 use Rattle.node_laws.proofs.links.Noticing.{at_host}
 use Rattle.node_laws.proofs.readings.Turning.{lack_parts}
@@ -305,25 +305,22 @@ module _ (e : End) (hosts : List ℕ) (x0 : ErrorCount) (single : e.at_host ≡ 
 
       -- at a host
       far : e.at_host ≡ true → Fine (host_deeds (own_view w.core) (end_view p) m)
-      far near = by_set (cond (eqb m.0 0) (errors_set_by m.1) None) refl where
-        link : h ≡ e.link
-        link = alone w.ports h p (r.hosts_are ∙ single near) there
+      far near = by_option (cond (eqb m.0 0) (errors_set_by m.1) None)
+          (λ q. λ none. plain_handled h m (host_deeds (own_view w.core) (end_view p) m) w on (now_is ∙ q)
+          (unset_fine e hosts x0 h (host_deeds (own_view w.core) (end_view p) m) (host_unset w.core p m q)) r)
+          (λ v q. λ none.
+          let both = some_so (eqb m.0 0) (errors_set_by m.1) v q in
+          set_handled h m (host_deeds (own_view w.core) (end_view p) m) v w on (eq-eqb h e.link link) (now_is ∙ q) none
+          (subst (λ n. SetDeeds w.ports n m.0 v (host_deeds (own_view w.core) (end_view p) m)) node
+          (host_sets w.core w.ports p m v (ap (port_at w.ports) node ∙ there) both.0 both.1)) r) where
+            link : h ≡ e.link
+            link = alone w.ports h p (r.hosts_are ∙ single near) there
 
-        node : w.core.node ≡ h
-        node = r.number ∙ (rw near refl ∙ sym link)
+            node : w.core.node ≡ h
+            node = r.number ∙ (rw near refl ∙ sym link)
 
-        now_is : sets_now w h m ≡ cond (eqb m.0 0) (errors_set_by m.1) None
-        now_is = both_so (eqb h e.link) (leads_to_link_gate w.core.tables e m.0) (errors_set_by m.1) (eq-eqb h e.link link) ∙ rw near refl
-
-        by_set : (o : Option ℕ) → cond (eqb m.0 0) (errors_set_by m.1) None ≡ o → Fine (host_deeds (own_view w.core) (end_view p) m)
-        by_set None q =
-            λ none. plain_handled h m (host_deeds (own_view w.core) (end_view p) m) w on (now_is ∙ q)
-            (unset_fine e hosts x0 h (host_deeds (own_view w.core) (end_view p) m) (host_unset w.core p m q)) r
-        by_set (Some v) q = λ none.
-            let both = some_so (eqb m.0 0) (errors_set_by m.1) v q in
-            set_handled h m (host_deeds (own_view w.core) (end_view p) m) v w on (eq-eqb h e.link link) (now_is ∙ q) none
-            (subst (λ n. SetDeeds w.ports n m.0 v (host_deeds (own_view w.core) (end_view p) m)) node
-            (host_sets w.core w.ports p m v (ap (port_at w.ports) node ∙ there) both.0 both.1)) r
+            now_is : sets_now w h m ≡ cond (eqb m.0 0) (errors_set_by m.1) None
+            now_is = both_so (eqb h e.link) (leads_to_link_gate w.core.tables e m.0) (errors_set_by m.1) (eq-eqb h e.link link) ∙ rw near refl
 
       -- at the controller
       near_by : e.at_host ≡ false → Fine (controller_deeds (view_of w.core w.ports) h m)
@@ -383,22 +380,14 @@ module _ (e : End) (hosts : List ℕ) (x0 : ErrorCount) (single : e.at_host ≡ 
 
   have_right : (h : ℕ) (messages : List Message) (p : Port) (w : Work) → w.cut ≡ false → port_at w.ports h ≡ Some p → So w → So (have_turns h messages w)
   have_right h [] p w on there r = lets e hosts x0 h w r
-  have_right h (m ∷ messages) p w on there r = go (lack w.ports (needs h deeds)) refl (have_right h messages) where
-    deeds : List Deed
-    deeds = deeds_of w.core w.ports h m
-
-    by : Option (ℕ × ℕ) → Work
-    by None = unless_cut (have_turns h messages) (handles h m deeds w)
-    by (Some short) = holds_back h short w
-
-    go : (o : Option (ℕ × ℕ)) → lack w.ports (needs h deeds) ≡ o
-        → ((p : Port) (v : Work) → v.cut ≡ false → port_at v.ports h ≡ Some p → So v → So (have_turns h messages v)) → So (by o)
-    go None q later =
-        let s : So (handles h m deeds w) = handled h m p w on there q r in
-        unless e hosts x0 (have_turns h messages) (handles h m deeds w) (λ still v.
-        let found = is_there w.ports (handles h m deeds w).ports h p (r.hosts_are ∙ sym s.hosts_are) there in
-        later found.0 (handles h m deeds w) still found.1 v) s
-    go (Some short) q later = holds e hosts x0 h short w r
+  have_right h (m ∷ messages) p w on there r = by_option (lack w.ports (needs h deeds))
+      (λ q. rw q (let s : So (handles h m deeds w) = handled h m p w on there q r in
+      unless e hosts x0 (have_turns h messages) (handles h m deeds w) (λ still v.
+      let found = is_there w.ports (handles h m deeds w).ports h p (r.hosts_are ∙ sym s.hosts_are) there in
+      have_right h messages found.0 (handles h m deeds w) still found.1 v) s))
+      (λ short q. rw q (holds e hosts x0 h short w r)) where
+        deeds : List Deed
+        deeds = deeds_of w.core w.ports h m
 
   ends_right : (all : List ℕ) (w : Work) → w.cut ≡ false → So w → So (goes_through_ends all w)
   ends_right [] w on r = r

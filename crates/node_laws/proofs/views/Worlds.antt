@@ -11,20 +11,20 @@ use Rattle.link_laws.specs.messages.Links.{Comes, exchanged}
 use Rattle.link_laws.specs.messages.Links.Comes.{NoInput, Starts}
 use Rattle.link_laws.specs.entries.Entries.End.{Controller, Host}
 use Rattle.history.specs.Steps.{entries_for}
-use Rattle.history.specs.Follows.{seen_from}
 use Rattle.node_machine.specs.Parts.{Running, Work, Deed}
 use Rattle.node_machine.specs.Carrying.{changed_if}
 use Rattle.node_machine.specs.Node.{steps, begins_with}
 use Rattle.node_machine.specs.Node.NodeInput.{AtEnd}
-use Rattle.node_machine.specs.world.World.{NodeWorld, Site, site_at, with_site, node_at, node_of, link_to, runs_on, input_of, near_end_in, arrival}
-use Rattle.node_machine.specs.world.World.{wires_for, work_of}
+use Rattle.node_machine.specs.world.World.{NodeWorld, Site, site_at, with_site, node_at, node_of, link_to, runs_on, near_end_in, arrival}
+use Rattle.node_machine.specs.world.World.{wires_for}
 use Rattle.node_machine.specs.world.World.{frames_noted, comes_to, controller_work, link_after_controller, after_controller, controller_does}
 use Rattle.node_machine.specs.world.World.{host_work, after_host}
 use Rattle.node_machine.specs.world.World.{host_does, comes_at, activates, end_c, end_h}
+use Rattle.node_machine.specs.world.World.{controller_ticks}
 use Rattle.node_laws.specs.kept.Hosts.{AreDifferent}
 use Rattle.node_laws.specs.telling.Telling.{HasEnds, IfItRuns, hosts_in, IsOrderly}
 use Rattle.node_laws.proofs.All.{all_flat}
-use Rattle.node_laws.proofs.Cases.{by_option, by_test}
+use Rattle.node_laws.proofs.Cases.{by_test}
 use Rattle.node_laws.proofs.telling.Mute.{AreMute}
 use Rattle.node_laws.proofs.telling.Nodes.{site_host}
 use Rattle.node_laws.specs.views.Errors.{ErrorCount}
@@ -36,6 +36,8 @@ use Rattle.registry.proofs.ValueLemmas.{AllByRecursion-append}
 use Rattle.node_laws.proofs.turns.Works.{sites_is}
 use Rattle.node_laws.proofs.telling.Worlds.{site_is}
 use Rattle.node_laws.proofs.kept.Sites.{hosts_same}
+use Rattle.node_machine.proofs.world.Cases.{by_coming, by_controller, by_host, after_host_step}
+use Rattle.node_machine.proofs.world.Cases.{by_controller_tick, near_tick, site_ticked, site_unticked}
 
 -- ## Sites
 
@@ -114,6 +116,11 @@ map_fine g host node sites a = record {
     all_nodes sites all.1,
   )
 
+pub near_ticks_fine : (w : NodeWorld) → AreFine w.sites → AreFine (controller_ticks w).0.sites
+near_ticks_fine w fine =
+    by_controller_tick (λ p. AreFine p.0.sites) w (λ q. map_fine site_unticked (λ s. refl) (λ s. refl) w.sites fine)
+    (λ r q. map_fine (site_ticked (near_tick w r)) (λ s. refl) (λ s. refl) w.sites fine)
+
 module _ (e : End) (real : e.at_host ≡ true → eqb e.link 0 ≡ false) where
   -- ## The node of the end
 
@@ -173,52 +180,36 @@ module _ (e : End) (real : e.at_host ≡ true → eqb e.link 0 ≡ false) where
 
   near_does : (w : NodeWorld) (x : ErrorCount) (h : ℕ) (comes : Comes) (i : LinkInput) → IsOrderly w → Known w x → Kept w x
       → After (controller_does w h comes (steps (AtEnd h i))) x
-  near_does w x h comes i orderly known k = by_node w.controller refl where
-    f : Work → Work
-    f = steps (AtEnd h i)
+  near_does w x h comes i orderly known k = by_controller (λ p. After p x) w h comes (steps (AtEnd h i)) k runs where
+    runs : (r : Running) → w.controller ≡ Some r → After (after_controller w h comes (controller_work w r h comes (steps (AtEnd h i)))) x
+    runs r q = by_test e.at_host
+        (λ far. left w (after_controller w h comes c).0 (c.entries ++ frames) x
+        (host_node (after_controller w h comes c).0 far
+        ∙ (node_map (link_after_controller h comes c) (λ s. refl) (λ s. refl) w.sites e.link ∙ sym (host_node w far)))
+        (AllByRecursion-append (Leaves e) c.entries frames
+        (others_step e 0 Controller (hosts_in w.sites) r w.memory.plan (λ n. near_end_in (link_to w.sites n)
+        (comes_to h comes n)) (entries_for h (arrival Controller (link_to w.sites h) comes)) (AtEnd h i) has refl (near_other far (hosts_in w.sites))
+        (still_leaves e (entries_for h (arrival Controller (link_to w.sites h) comes)) came)) (still_leaves e frames frames_so)) k)
+        (λ near. subst (λ o. IfKeeps e o (reads e (c.entries ++ frames) x)) (sym (near_node (after_controller w h comes c).0 near))
+        (own_steps e real (hosts_in w.sites) (near_single (hosts_in w.sites) near) x r w.memory.plan
+        (λ n. near_end_in (link_to w.sites n) (comes_to h comes n))
+        (entries_for h (arrival Controller (link_to w.sites h) comes)) frames (AtEnd h i) (subst (λ n. HasEnds n (hosts_in w.sites) r) (sym (near_zero near))
+        has) came frames_so (λ n. known n r q) (subst (λ o. IfKeeps e o x) (near_node w near ∙ q) k))) where
+          c : Work
+          c = controller_work w r h comes (steps (AtEnd h i))
 
-    off_is : w.controller ≡ None → controller_does w h comes f ≡ (w, [])
-    off_is q = rw q refl
+          frames : List Entry
+          frames = flat_map (λ (s : Site). frames_noted Controller s.host (wires_for s.link (comes_to h comes s.host)) c) w.sites
 
-    by_node : (o : Option Running) → w.controller ≡ o → After (controller_does w h comes f) x
-    by_node None q = subst (λ p. After p x) (sym (off_is q)) k
-    by_node (Some r) q = subst (λ p. After p x) (sym on_is) (by_side e.at_host refl) where
-      begun : Work
-      begun = work_of r w.memory.plan (λ n. near_end_in (link_to w.sites n) (comes_to h comes n)) (entries_for h (arrival Controller (link_to w.sites h) comes))
+          has : HasEnds 0 (hosts_in w.sites) r
+          has = subst (IfItRuns 0 (hosts_in w.sites)) q orderly.controller
 
-      c : Work
-      c = f begun
+          frames_so : AllByRecursion (IsStill e) frames
+          frames_so = all_flat (IsStill e) (λ (s : Site). frames_noted Controller s.host (wires_for s.link (comes_to h comes s.host)) c)
+              (λ s. frames_still e Controller s.host (wires_for s.link (comes_to h comes s.host)) c) w.sites
 
-      frames : List Entry
-      frames = flat_map (λ (s : Site). frames_noted Controller s.host (wires_for s.link (comes_to h comes s.host)) c) w.sites
-
-      on_is : controller_does w h comes f ≡ after_controller w h comes c
-      on_is = rw q refl
-
-      has : HasEnds 0 (hosts_in w.sites) r
-      has = subst (IfItRuns 0 (hosts_in w.sites)) q orderly.controller
-
-      frames_so : AllByRecursion (IsStill e) frames
-      frames_so = all_flat (IsStill e) (λ (s : Site). frames_noted Controller s.host (wires_for s.link (comes_to h comes s.host)) c)
-          (λ s. frames_still e Controller s.host (wires_for s.link (comes_to h comes s.host)) c) w.sites
-
-      came : AllByRecursion (IsStill e) (entries_for h (arrival Controller (link_to w.sites h) comes))
-      came = arrival_still e Controller h (link_to w.sites h) comes
-
-      by_side : (b : Bool) → e.at_host ≡ b → After (after_controller w h comes c) x
-      by_side false near = subst (λ o. IfKeeps e o (reads e (c.entries ++ frames) x)) (sym (near_node (after_controller w h comes c).0 near))
-          (own_steps e real (hosts_in w.sites) (near_single (hosts_in w.sites) near) x r w.memory.plan
-          (λ n. near_end_in (link_to w.sites n) (comes_to h comes n))
-          (entries_for h (arrival Controller (link_to w.sites h) comes)) frames (AtEnd h i) (subst (λ n. HasEnds n (hosts_in w.sites) r) (sym (near_zero near))
-          has) came frames_so (λ n. known n r q) (subst (λ o. IfKeeps e o x) (near_node w near ∙ q) k))
-      by_side true far =
-          left w (after_controller w h comes c).0 (c.entries ++ frames) x
-          (host_node (after_controller w h comes c).0 far
-          ∙ (node_map (link_after_controller h comes c) (λ s. refl) (λ s. refl) w.sites e.link ∙ sym (host_node w far)))
-          (AllByRecursion-append (Leaves e) c.entries frames
-          (others_step e 0 Controller (hosts_in w.sites) r w.memory.plan (λ n. near_end_in (link_to w.sites n)
-          (comes_to h comes n)) (entries_for h (arrival Controller (link_to w.sites h) comes)) (AtEnd h i) has refl (near_other far (hosts_in w.sites))
-          (still_leaves e (entries_for h (arrival Controller (link_to w.sites h) comes)) came)) (still_leaves e frames frames_so)) k
+          came : AllByRecursion (IsStill e) (entries_for h (arrival Controller (link_to w.sites h) comes))
+          came = arrival_still e Controller h (link_to w.sites h) comes
 
   -- a host acts: it is that of the end, or another one
   host_acts : (w : NodeWorld) (x : ErrorCount) (h : ℕ) (comes : Comes) (f : Work → Work) → Kept w x
@@ -228,23 +219,9 @@ module _ (e : End) (real : e.at_host ≡ true → eqb e.link 0 ≡ false) where
       → ((s : Site) (r : Running) → site_at w.sites h ≡ Some s → s.node ≡ Some r → (e.at_host ≡ true → eqb h e.link ≡ false)
       → AllByRecursion (Leaves e) (host_work s r comes f).entries)
       → After (host_does w h comes f) x
-  host_acts w x h comes f k own others = by_option (site_at w.sites h) (λ q. subst (λ p. After p x) (sym (none_is q)) k) (λ s q. by_node s q s.node refl) where
-    none_is : site_at w.sites h ≡ None → host_does w h comes f ≡ (w, [])
-    none_is q = rw q refl
-
-    off_is : (s : Site) → site_at w.sites h ≡ Some s → s.node ≡ None → host_does w h comes f ≡ (w, [])
-    off_is s here q = rw here (rw q refl)
-
-    on_is : (s : Site) (r : Running) → site_at w.sites h ≡ Some s → s.node ≡ Some r → host_does w h comes f
-        ≡ (
-          record w { sites = with_site h (after_host comes (host_work s r comes f)) w.sites },
-          (host_work s r comes f).entries ++ frames_noted Host h (wires_for (exchanged s.link) comes) (host_work s r comes f),
-        )
-    on_is s r here q = rw here (rw q refl)
-
-    by_node : (s : Site) → site_at w.sites h ≡ Some s → (o : Option Running) → s.node ≡ o → After (host_does w h comes f) x
-    by_node s here None q = subst (λ p. After p x) (sym (off_is s here q)) k
-    by_node s here (Some r) q = subst (λ p. After p x) (sym (on_is s r here q)) (by_side (cases_Bool e.at_host) (cases_Bool (eqb e.link h))) where
+  host_acts w x h comes f k own others = by_host (λ p. After p x) w h comes f k acts where
+    acts : (s : Site) (r : Running) → site_at w.sites h ≡ Some s → s.node ≡ Some r → After (after_host_step w h comes s (host_work s r comes f)) x
+    acts s r here q = by_side (cases_Bool e.at_host) (cases_Bool (eqb e.link h)) where
       c : Work
       c = host_work s r comes f
 
@@ -335,54 +312,22 @@ module _ (e : End) (real : e.at_host ≡ true → eqb e.link 0 ≡ false) where
         (far_other s.host (λ far. ap (λ n. eqb n e.link) has.2 ∙ off far), tt) mute
 
   pub comes_kept : (w : NodeWorld) (x : ErrorCount) (a : End) (comes : Comes) → IsOrderly w → Known w x → Kept w x → After (comes_at w a comes) x
-  comes_kept w x a comes orderly known k = go (input_of (seen_from a (link_to w.sites a.link)) comes) refl a.at_host refl where
-    none_is : input_of (seen_from a (link_to w.sites a.link)) comes ≡ None → comes_at w a comes ≡ (w, [])
-    none_is q = rw q refl
-
-    near_is : (i : LinkInput) → input_of (seen_from a (link_to w.sites a.link)) comes ≡ Some i → a.at_host ≡ false
-        → comes_at w a comes ≡ controller_does w a.link comes (steps (AtEnd a.link i))
-    near_is i q b = rw q (rw b refl)
-
-    far_is : (i : LinkInput) → input_of (seen_from a (link_to w.sites a.link)) comes ≡ Some i → a.at_host ≡ true
-        → comes_at w a comes ≡ host_does w a.link comes (steps (AtEnd a.link i))
-    far_is i q b = rw q (rw b refl)
-
-    go : (o : Option LinkInput) → input_of (seen_from a (link_to w.sites a.link)) comes ≡ o → (b : Bool) → a.at_host ≡ b → After (comes_at w a comes) x
-    go None q b z = subst (λ p. After p x) (sym (none_is q)) k
-    go (Some i) q false z = subst (λ p. After p x) (sym (near_is i q z)) (near_does w x a.link comes i orderly known k)
-    go (Some i) q true z = subst (λ p. After p x) (sym (far_is i q z)) (far_does w x a.link comes i (orderly_fine w orderly) k)
+  comes_kept w x a comes orderly known k =
+      by_coming (λ p. After p x) w a comes k (λ i far q. far_does w x a.link comes i (orderly_fine w orderly) k)
+      (λ i near q. near_does w x a.link comes i orderly known k)
 
   -- to the end of a host
   pub far_comes : (w : NodeWorld) (x : ErrorCount) (h : ℕ) (comes : Comes) → AreFine w.sites → Kept w x → After (comes_at w (end_h h) comes) x
-  far_comes w x h comes fine k = by_option (input_of (seen_from (end_h h) (link_to w.sites h)) comes)
-      (λ q. subst (λ p. After p x) (sym (none_is q)) k)
-      (λ i q. subst (λ p. After p x) (sym (far_is i q)) (far_does w x h comes i fine k)) where
-        none_is : input_of (seen_from (end_h h) (link_to w.sites h)) comes ≡ None → comes_at w (end_h h) comes ≡ (w, [])
-        none_is q = rw q refl
-
-        far_is : (i : LinkInput) → input_of (seen_from (end_h h) (link_to w.sites h)) comes ≡ Some i
-            → comes_at w (end_h h) comes ≡ host_does w h comes (steps (AtEnd h i))
-        far_is i q = rw q refl
+  far_comes w x h comes fine k =
+      by_coming (λ p. After p x) w (end_h h) comes k (λ i far q. far_does w x h comes i fine k) (λ i near q. absurd (cc near))
 
   -- something that comes to the controller leaves the hosts as they are
   near_fine : (w : NodeWorld) (h : ℕ) (comes : Comes) → AreFine w.sites → AreFine (comes_at w (end_c h) comes).0.sites
-  near_fine w h comes fine = go (input_of (seen_from (end_c h) (link_to w.sites h)) comes) refl w.controller refl where
-    none_is : input_of (seen_from (end_c h) (link_to w.sites h)) comes ≡ None → comes_at w (end_c h) comes ≡ (w, [])
-    none_is q = rw q refl
-
-    off_is : (i : LinkInput) → input_of (seen_from (end_c h) (link_to w.sites h)) comes ≡ Some i → w.controller ≡ None → comes_at w (end_c h) comes ≡ (w, [])
-    off_is i q z = rw (q, z) refl
-
-    on_is : (i : LinkInput) (r : Running) → input_of (seen_from (end_c h) (link_to w.sites h)) comes ≡ Some i → w.controller ≡ Some r
-        → comes_at w (end_c h) comes ≡ after_controller w h comes (controller_work w r h comes (steps (AtEnd h i)))
-    on_is i r q z = rw (q, z) refl
-
-    go : (o : Option LinkInput) → input_of (seen_from (end_c h) (link_to w.sites h)) comes ≡ o → (c : Option Running) → w.controller ≡ c
-        → AreFine (comes_at w (end_c h) comes).0.sites
-    go None q c z = subst (λ (p : NodeWorld × List Entry). AreFine p.0.sites) (sym (none_is q)) fine
-    go (Some i) q None z = subst (λ (p : NodeWorld × List Entry). AreFine p.0.sites) (sym (off_is i q z)) fine
-    go (Some i) q (Some r) z = subst (λ (p : NodeWorld × List Entry). AreFine p.0.sites) (sym (on_is i r q z)) (map_fine (link_after_controller h comes
-        (controller_work w r h comes (steps (AtEnd h i)))) (λ s. refl) (λ s. refl) w.sites fine)
+  near_fine w h comes fine =
+      by_coming (λ p. AreFine p.0.sites) w (end_c h) comes fine (λ i far q. absurd (cc far))
+      (λ i near q.
+      by_controller (λ p. AreFine p.0.sites) w h comes (steps (AtEnd h i)) fine
+      (λ r runs. map_fine (link_after_controller h comes (controller_work w r h comes (steps (AtEnd h i)))) (λ s. refl) (λ s. refl) w.sites fine))
 
   pub activates_kept : (w : NodeWorld) (x : ErrorCount) (h sync power : ℕ) → IsOrderly w → Known w x → Kept w x → After (activates w h sync power) x
   activates_kept w x h sync power orderly known k =
