@@ -46,8 +46,7 @@ pub bare_round_acks : (h : ℕ) (l : Link) → Good l × Reached (core_of l) →
     → AcksAtMost 4 4 l (link_after_all l front)
 bare_round_acks h l k front back q =
     let parts : map event_of (causes_of_round h l) ≡ map event_of front ++ map event_of back = ap (map event_of) q ∙ map-append event_of front back in
-    let P : Link → Type 0 = AcksAtMost 4 4 l in
-    subst P (sym (after_causes front l))
+    subst (AcksAtMost 4 4 l) (sym (after_causes front l))
     (front_acks (map event_of (causes_of_round h l)) (map event_of front) (map event_of back) l parts (bare_round_allowed h l) k (bare_in_turn h l))
 
 all-append : (cs ds : List Cause) (l : Link) → link_after_all l (cs ++ ds) ≡ link_after_all (link_after_all l cs) ds
@@ -70,5 +69,4 @@ bare_rounds_acks (suc r) h l k =
     let h2 = more.host in
     let both : AcksAtMost (4 * suc r) (4 * suc r) l (link_after_all m later) =
     record { controller = omega (arith, c1, c2); host = omega (arith, h1, h2) } in
-    let P : Link → Type 0 = AcksAtMost (4 * suc r) (4 * suc r) l in
-    subst P (sym (all-append now later l)) both
+    subst (AcksAtMost (4 * suc r) (4 * suc r) l) (sym (all-append now later l)) both

@@ -190,8 +190,7 @@ in_turn_acks es l a k t =
     ap (after_link_events l) t.parts ∙ (after-append near (far ++ rest) l ∙ after-append far rest m) in
     let c : acked_at_controller (after_link_events n rest) ≤ acked_at_controller l + 4 = omega (arith, a1.controller, a2.controller, a3.controller) in
     let h : acked_at_host (after_link_events n rest) ≤ acked_at_host l + 4 = omega (arith, a1.host, a2.host, a3.host) in
-    let P : Link → Type 0 = AcksAtMost 4 4 l in
-    subst P (sym end) (record { controller = c; host = h })
+    subst (AcksAtMost 4 4 l) (sym end) (record { controller = c; host = h })
 
 -- ## The first of them
 

@@ -38,6 +38,7 @@ use Rattle.node_machine.proofs.world.Cases.{site_unticked}
 use Rattle.node_laws.specs.kept.Hosts.{AreDifferent}
 use Rattle.node_laws.specs.telling.Telling.{IfItRuns, IsOrderly, hosts_in}
 use Rattle.node_laws.proofs.Cases.{by_test}
+use Rattle.node_laws.proofs.Cases.{by_option}
 use Rattle.node_laws.proofs.All.{all_flat}
 use Rattle.node_laws.proofs.telling.Events.{comes_goes, orderly_map, site_map}
 use Rattle.node_laws.proofs.telling.Nodes.{link_is, site_host}
@@ -310,11 +311,17 @@ module _ (hosts : List ℕ) (past : List Occurrence) (w : NodeWorld) (so : IsSo 
       → ((s : Site) → site_at v.sites n ≡ Some s → (r : Running) → s.node ≡ Some r → (i : LinkInput) → input_of (exchanged s.link) comes ≡ Some i
       → HoldsInStep (ArePortsRead Host (u ++ lead)) (AtEnd n i) (host_begins_step s r comes))
       → IsFew (lead ++ (comes_at v (end_h n) comes).1) → E cause (lead ++ (comes_at v (end_h n) comes).1)
-  far_so v all was_off cause plain lead not leaves comes missing read few = by_input (input_of (exchanged (link_to v.sites n)) comes) refl
+  far_so v all was_off cause plain lead not leaves comes missing read = by_option (input_of (exchanged (link_to v.sites n)) comes)
+      (λ q. rw q (λ few. alone (inr (inl (missing q), lead_calm))))
+      (λ i q. rw q (by_option (site_at v.sites n)
+      (λ z. rw z (λ few. alone (inr (inr (was_off (λ x there. let no : None ≡ Some x = sym z ∙ there in absurd (cc no))), lead_calm))))
+      (λ s z. by_option s.node
+      (λ o. rw (z, o) (λ few. alone (inr (
+        inr (was_off (λ x there. let same : Some s ≡ Some x = sym z ∙ there in let one : s ≡ x = cc in ap (λ (y : Site). y.node) (sym one) ∙ o)),
+        lead_calm,
+      ))))
+      (λ r o. rw (z, o) (does i q s r z o)))))
     where
-      P : NodeWorld × List Entry → Type 0
-      P p = IsFew (lead ++ p.1) → E cause (lead ++ p.1)
-
       alone : HasNoStep cause (lead ++ []) → E cause (lead ++ [])
       alone still = nothing_so cause (lead ++ []) (all_append _ lead [] (other_turns n lead not) tt) still
 
@@ -343,32 +350,6 @@ module _ (hosts : List ℕ) (past : List Occurrence) (w : NodeWorld) (so : IsSo 
           (still_leaves (end_h n) frames
           (frames_still (end_h n) Host n (wires_for (exchanged s.link) comes) (steps (AtEnd n i) (host_begins_step s r comes))))
           (read s found r q i came) few)
-
-      by_input : (o : Option LinkInput) → input_of (exchanged (link_to v.sites n)) comes ≡ o → E cause (lead ++ (comes_at v (end_h n) comes).1)
-      by_input None q =
-          let is : comes_at v (end_h n) comes ≡ (v, []) = rw q refl in
-          subst P (sym is) (λ few. alone (inr (inl (missing q), lead_calm))) few
-      by_input (Some i) q =
-          let is : comes_at v (end_h n) comes ≡ host_does v n comes (steps (AtEnd n i)) = rw q refl in
-          subst P (sym is) (by_site (site_at v.sites n) refl) few
-        where
-          of_node : (s : Site) → site_at v.sites n ≡ Some s → (o : Option Running) → s.node ≡ o → P (host_does v n comes (steps (AtEnd n i)))
-          of_node s found None z =
-              let is : host_does v n comes (steps (AtEnd n i)) ≡ (v, []) = rw (found, z) refl in
-              subst P (sym is) (λ few. alone (inr (
-                inr (was_off (λ x there. let same : Some s ≡ Some x = sym found ∙ there in let one : s ≡ x = cc in ap (λ (y : Site). y.node) (sym one) ∙ z)),
-                lead_calm,
-              )))
-          of_node s found (Some r) z =
-              let is : host_does v n comes (steps (AtEnd n i)) ≡ after_host_step v n comes s (host_work s r comes (steps (AtEnd n i))) =
-              rw (found, z) refl in
-              subst P (sym is) (λ few. does i q s r found z few)
-
-          by_site : (o : Option Site) → site_at v.sites n ≡ o → P (host_does v n comes (steps (AtEnd n i)))
-          by_site None z =
-              let is : host_does v n comes (steps (AtEnd n i)) ≡ (v, []) = rw z refl in
-              subst P (sym is) (λ few. alone (inr (inr (was_off (λ x there. let no : None ≡ Some x = sym z ∙ there in absurd (cc no))), lead_calm)))
-          by_site (Some s) z = of_node s z s.node refl
 
   module _ (stands : StandsIn w.sites) where
     coming_so : (e : End) (comes : Comes) (cause : Happening) → IsPlainCause cause → ((eqb (node_of e) n ≡ false) → makes_step n cause ≡ false)

@@ -18,7 +18,7 @@ use Rattle.link_laws.specs.messages.Links.Comes.{Starts, NoInput}
 use Rattle.link_laws.specs.messages.Links.Loss.{Broken}
 use Rattle.link_laws.specs.entries.Entries.{first_lost}
 use Rattle.link_laws.specs.entries.Entries.End.{Controller, Host}
-use Rattle.link_laws.specs.messages.Links.{LinkEvent}
+use Rattle.link_laws.specs.messages.Links.{LinkEvent, Link}
 use Rattle.link_laws.specs.messages.Links.LinkEvent.{AtController}
 use Rattle.link_laws.specs.messages.Links.Ending.{CutOff}
 use Rattle.link_laws.specs.messages.Links.EndEvent.{Step, Lose}
@@ -51,6 +51,7 @@ use Rattle.node_laws.proofs.kept.Standing.{IsSame, plain_same, other_same, keeps
 use Rattle.node_laws.proofs.kept.Booting.{boot_told, boot_runs, boot_lost, cut_keeps}
 use Rattle.node_laws.proofs.kept.Sites.{hosts_in, site_found, hosts_same, map_sites, with_site_twice}
 use Rattle.node_laws.proofs.kept.Worlds.{Goes, goes_not, goes_then, controller_goes, host_goes, controller_steps, host_steps}
+use Rattle.node_machine.proofs.world.Cases.{by_coming, by_loss, site_lost}
 
 pub no_order : (command order : Option (List ℕ)) (init : Option Init) → is_some command ≡ false → IsOnOrder command init → IsOnOrder order init
 no_order None None None off on = tt
@@ -120,50 +121,8 @@ keeps_counting n hosts t m why h o k = record { would = k.would; runs = runs_cou
 abbrev cut_here : LinkEvent
 cut_here = AtController (Step NoInput [] CutOff)
 
--- the first frame on its way to an end is lost
-abbrev near_lost : End → Loss → Site → Site
-near_lost e why s = record s { link = happens s.link (at e (Lose why)) }
-
-abbrev far_lost : End → Loss → Site → Site
-far_lost e why s = record (near_lost e why s) { node = counts why e.link s.node }
-
-lost_far : (w : NodeWorld) (e : End) (why : Loss) → e.at_host ≡ true → frame_lost w e why
-    ≡ (record w { sites = with_site e.link (far_lost e why) w.sites }, entries_for e.link (first_lost Host why (link_to w.sites e.link).to_host))
-lost_far w e why side = rw side refl
-
-lost_near : (w : NodeWorld) (e : End) (why : Loss) → e.at_host ≡ false → frame_lost w e why
-    ≡ (
-      record w { controller = counts why e.link w.controller; sites = with_site e.link (near_lost e why) w.sites },
-      entries_for e.link (first_lost Controller why (link_to w.sites e.link).to_controller),
-    )
-lost_near w e why side = rw side refl
-
-with_memory_is : (w : NodeWorld) (n : ℕ) → eqb n 0 ≡ false → (m : Memory)
-    → with_memory n m w ≡ record w { sites = with_site n (λ (s : Site). record s { memory = m }) w.sites }
-with_memory_is w n off m = rw off refl
-
-with_node_is : (w : NodeWorld) (n : ℕ) → eqb n 0 ≡ false → (r : Running)
-    → with_node n r w ≡ record w { sites = with_site n (λ (s : Site). record s { node = Some r }) w.sites }
-with_node_is w n off r = rw off refl
-
 pub loses_is : (w : NodeWorld) (n : ℕ) → eqb n 0 ≡ false → loses_power_at n w ≡ record w { sites = with_site n host_cut w.sites }
 loses_is w n off = rw off refl
-
--- a boot that goes through
-abbrev after_boot : NodeWorld → ℕ → List ℕ → Memory → NodeWorld × List Entry
-after_boot w n links m = (
-  with_node n (found n links m.content) (with_memory n (after_planned (boot_writes m.content) m) w),
-  entry.Booted n (count_of
-      (found n links m.content).core.journal) ∷ [],
-)
-
-boots_lost : (w : NodeWorld) (n : ℕ) → fails_within (length (boot_writes (memory_at w n).content)) (memory_at w n).plan ≡ true
-    → boots w n ≡ (loses_power_at n (with_memory n (after_planned (boot_writes (memory_at w n).content) (memory_at w n)) w), entry.Cut n ∷ [])
-boots_lost w n fails = rw fails refl
-
-boots_run : (w : NodeWorld) (n : ℕ) → fails_within (length (boot_writes (memory_at w n).content)) (memory_at w n).plan ≡ false
-    → boots w n ≡ after_boot w n (links_of w n) (memory_at w n)
-boots_run w n none = rw none refl
 
 module _ (hosts : List ℕ) (are : AreHosts hosts) where
   abbrev pub GoesBy : List Entry → NodeWorld × List Entry → Type 0
@@ -189,18 +148,16 @@ module _ (hosts : List ℕ) (are : AreHosts hosts) where
   -- ## Steps
 
   pub comes_goes : (t : List Entry) (w : NodeWorld) (e : End) (comes : Comes) → AllKeep hosts t w → GoesBy t (comes_at w e comes)
-  comes_goes t w e comes all = by_input (input_of (seen_from e (link_to w.sites e.link)) comes) refl (cases_Bool e.at_host) where
-    by_input : (o : Option LinkInput) → input_of (seen_from e (link_to w.sites e.link)) comes ≡ o → (e.at_host ≡ true) ⊎ (e.at_host ≡ false)
-        → GoesBy t (comes_at w e comes)
-    by_input None is side = rw is (goes_not hosts are t w all)
-    by_input (Some i) is (inl side) = rw is (rw side (
-        host_steps hosts are t w e.link comes (steps (AtEnd e.link i)) all
-        (λ x r here running host on before work same k.
-        steps_fine x.host (x.host ∷ []) x.memory before (inr host) (record { all = (host, tt); different = (tt, tt) }) (AtEnd e.link i) work k
-        (subst (λ (c : Core). IsOnOrder c.command c.init) (sym same) on))))
-    by_input (Some i) is (inr side) = rw is (rw side (
-        controller_steps hosts are t w e.link comes (steps (AtEnd e.link i)) all
-        (λ old before work k on. steps_fine 0 hosts old before (inl refl) are (AtEnd e.link i) work k on)))
+  comes_goes t w e comes all =
+      by_coming (GoesBy t) w e comes (goes_not hosts are t w all)
+      (λ i side q.
+      host_steps hosts are t w e.link comes (steps (AtEnd e.link i)) all
+      (λ x r here running host on before work same k.
+      steps_fine x.host (x.host ∷ []) x.memory before (inr host) (record { all = (host, tt); different = (tt, tt) }) (AtEnd e.link i) work k
+      (subst (λ (c : Core). IsOnOrder c.command c.init) (sym same) on)))
+      (λ i side q.
+      controller_steps hosts are t w e.link comes (steps (AtEnd e.link i)) all
+      (λ old before work k on. steps_fine 0 hosts old before (inl refl) are (AtEnd e.link i) work k on))
 
   pub activates_goes : (t : List Entry) (w : NodeWorld) (h sync power : ℕ) → AllKeep hosts t w → GoesBy t (activates w h sync power)
   activates_goes t w h sync power all =
@@ -236,18 +193,22 @@ module _ (hosts : List ℕ) (are : AreHosts hosts) where
   -- ## Losses
 
   pub lost_goes : (t : List Entry) (w : NodeWorld) (e : End) (why : Loss) → AllKeep hosts t w → GoesBy t (frame_lost w e why)
-  lost_goes t w e why all = by_test e.at_host
-      (λ side. let l = link_to w.sites e.link in
-      subst (GoesBy t) (sym (lost_far w e why side)) (plain_goes t w (record w { sites = with_site e.link far w.sites }) (entries_for e.link
-      (first_lost Host why l.to_host)) (λ s. changed_if (eqb s.host e.link) far s) all
+  lost_goes t w e why all =
+      by_loss (GoesBy t) w e why
+      (λ side. plain_goes t w (record w { sites = with_site e.link far w.sites }) (entries_for e.link (first_lost Host why l.to_host))
+      (λ s. changed_if (eqb s.host e.link) far s) all
       (plain_entries e.link (first_lost Host why l.to_host)) refl all.controller (λ s. change far (λ x. refl) (eqb s.host e.link) s)
-      (λ s k. stays far (λ x y. keeps_counting x.host (x.host ∷ []) t x.memory why e.link x.node y) (eqb s.host e.link) s k)))
-      (λ side. let l = link_to w.sites e.link in
-      subst (GoesBy t) (sym (lost_near w e why side)) (plain_goes t w
-      (record w { controller = counts why e.link w.controller; sites = with_site e.link near w.sites })
-      (entries_for e.link (first_lost Controller why l.to_controller)) (λ s. changed_if (eqb s.host e.link) near s) all
+      (λ s k. stays far (λ x y. keeps_counting x.host (x.host ∷ []) t x.memory why e.link x.node y) (eqb s.host e.link) s k))
+      (λ side. plain_goes t w (record w { controller = counts why e.link w.controller; sites = with_site e.link (site_lost e why) w.sites })
+      (entries_for e.link (first_lost Controller why l.to_controller)) (λ s. changed_if (eqb s.host e.link) (site_lost e why) s) all
       (plain_entries e.link (first_lost Controller why l.to_controller)) refl (keeps_counting 0 hosts t w.memory why e.link w.controller all.controller)
-      (λ s. change near (λ x. refl) (eqb s.host e.link) s) (λ s k. stays near (λ x y. y) (eqb s.host e.link) s k))) where
+      (λ s. change (site_lost e why) (λ x. refl) (eqb s.host e.link) s) (λ s k. stays (site_lost e why) (λ x y. y) (eqb s.host e.link) s k)) where
+        l : Link
+        l = link_to w.sites e.link
+
+        far : Site → Site
+        far s = record (site_lost e why s) { node = counts why e.link s.node }
+
         change : (f : Site → Site) → ((s : Site) → (f s).host ≡ s.host) → (b : Bool) (s : Site) → (changed_if b f s).host ≡ s.host
         change f same true s = same s
         change f same false s = refl
@@ -255,12 +216,6 @@ module _ (hosts : List ℕ) (are : AreHosts hosts) where
         stays : (f : Site → Site) → ((s : Site) → SiteKeeps t s → SiteKeeps t (f s)) → (b : Bool) (s : Site) → SiteKeeps t s → SiteKeeps t (changed_if b f s)
         stays f keeps true s k = keeps s k
         stays f keeps false s k = k
-
-        near : Site → Site
-        near = near_lost e why
-
-        far : Site → Site
-        far = far_lost e why
 
   -- ## Power
 
@@ -371,51 +326,22 @@ module _ (hosts : List ℕ) (are : AreHosts hosts) where
       abbrev found_it : Running
       found_it = found n (n ∷ []) x.memory.content
 
-      there : memory_at w n ≡ x.memory
-      there = rw off (rw here refl)
-
-      far_lost_is : fails_within (length (boot_writes x.memory.content)) x.memory.plan ≡ true → boots w n
-          ≡ (record w { sites = with_site n host_cut (with_site n (λ (s : Site). record s { memory = after_it }) w.sites) }, entry.Cut n ∷ [])
-      far_lost_is fails =
-          boots_lost w n (ap (λ (m : Memory). fails_within (length (boot_writes m.content)) m.plan) there ∙ fails)
-          ∙ ap (λ (m : Memory). (loses_power_at n (with_memory n (after_planned (boot_writes m.content) m) w), entry.Cut n ∷ [])) there
-          ∙ ap (λ v. (loses_power_at n v, entry.Cut n ∷ [])) (with_memory_is w n off after_it)
-          ∙ ap (λ v. (v, entry.Cut n ∷ [])) (loses_is (record w { sites = with_site n (λ (s : Site). record s { memory = after_it }) w.sites }) n off)
-
-      far_runs_is : fails_within (length (boot_writes x.memory.content)) x.memory.plan ≡ false → boots w n
-          ≡ (
-            record w {
-              sites = with_site n (λ (s : Site). record s { node = Some found_it }) (with_site n (λ
-                  (s : Site). record s { memory = after_it }) w.sites);
-            },
-            entry.Booted n (count_of found_it.core.journal) ∷ [],
-          )
-      far_runs_is none =
-          boots_run w n (ap (λ (m : Memory). fails_within (length (boot_writes m.content)) m.plan) there ∙ none)
-          ∙ ap (λ (m : Memory). after_boot w n (links_of w n) m) there
-          ∙ ap (λ l. after_boot w n l x.memory) (ap (λ b. cond b (map (λ (s : Site). s.host) w.sites) (n ∷ [])) off)
-          ∙ ap (λ v. (with_node n found_it v, entry.Booted n (count_of found_it.core.journal) ∷ [])) (with_memory_is w n off after_it)
-          ∙ ap (λ v. (v, entry.Booted n (count_of found_it.core.journal) ∷ [])) (with_node_is (record w {
-            sites = with_site n (λ
-                (s : Site). record s { memory = after_it }) w.sites;
-          }) n off found_it)
-
       far_boots : length (commands_in t n) ≤ 2 ^ 32 - 1 → GoesBy t (boots w n)
       far_boots few = by_test (fails_within (length (boot_writes x.memory.content)) x.memory.plan)
-          (λ fails. subst (GoesBy t) (sym (far_lost_is fails))
+          (λ fails. rw off (rw here (rw fails (rw off (rw here
           (subst (λ l. Goes hosts are t (record w { sites = l }) (entry.Cut n ∷ [])) (sym (with_site_twice n (λ
           (s : Site). record s { memory = after_it }) host_cut (λ s. refl) w.sites))
           (host_goes hosts are t w (entry.Cut n ∷ []) n x (λ (s : Site). host_cut (record s { memory = after_it })) all here
           (subst (λ k. NodeKeeps k (k ∷ []) (t ++ entry.Cut n ∷ []) after_it None) (sym known.2) (boot_lost n (n ∷ []) t x.memory keeps.would fails))
-          (tt, tt) (refl, tt) (λ s. refl))))
-          (λ none. subst (GoesBy t) (sym (far_runs_is none))
+          (tt, tt) (refl, tt) (λ s. refl))))))))
+          (λ none. rw off (rw here (rw none (rw off (rw here
           (subst (λ l. Goes hosts are t (record w { sites = l }) (entry.Booted n (count_of found_it.core.journal) ∷ []))
           (sym (with_site_twice n (λ (s : Site). record s { memory = after_it }) (λ (s : Site). record s { node = Some found_it }) (λ s. refl) w.sites))
           (host_goes hosts are t w (entry.Booted n (count_of found_it.core.journal) ∷ []) n x (λ
           (s : Site). record s { memory = after_it; node = Some found_it }) all here
           (subst (λ k. NodeKeeps k (k ∷ []) (t ++ entry.Booted n (count_of found_it.core.journal) ∷ []) after_it (Some found_it)) (sym known.2)
           (boot_runs n (n ∷ []) t x.memory keeps.would few none))
-          (boot_told n (n ∷ []) t x.memory keeps.would few, tt) (refl, tt) (λ s. refl)))) where
+          (boot_told n (n ∷ []) t x.memory keeps.would few, tt) (refl, tt) (λ s. refl)))))))) where
             known : SiteKeeps t x × IsHost x.host × (x.host ≡ n)
             known = site_found (SiteKeeps t) IsHost w.sites n x all.sites (subst (AllByRecursion IsHost) (sym all.hosts_are) are.all) here
 
@@ -423,56 +349,39 @@ module _ (hosts : List ℕ) (are : AreHosts hosts) where
             keeps = subst (λ k. NodeKeeps k (k ∷ []) t x.memory x.node) known.2 known.0
 
     no_boots : (n : ℕ) → eqb n 0 ≡ false → site_at w.sites n ≡ None → GoesBy t (boots w n)
-    no_boots n off here = subst (GoesBy t) (sym boots_is) (record { keep = keep; told = (inl (ap (λ (b : Book). length b.commands) (sym blank)), tt) }) where
-      strange : AllByRecursion (λ k. eqb k n ≡ false) (hosts_in w.sites)
-      strange = none_found w.sites n here
+    no_boots n off here =
+        rw off (rw here (rw off (rw here
+        (subst (λ l. Goes hosts are t (record w { sites = with_site n (λ (s : Site). record s { node = Some (found n (n ∷ []) []) }) l }) (entry.Booted n 0 ∷ []))
+        (sym (with_none n (λ (s : Site). record s { memory = after_planned (boot_writes []) (new_memory []) }) w.sites strange))
+        (subst (λ l. Goes hosts are t (record w { sites = l }) (entry.Booted n 0 ∷ []))
+        (sym (with_none n (λ (s : Site). record s { node = Some (found n (n ∷ []) []) }) w.sites strange))
+        (record { keep = keep; told = (inl (ap (λ (b : Book). length b.commands) (sym blank)), tt) })))))) where
+          strange : AllByRecursion (λ k. eqb k n ≡ false) (hosts_in w.sites)
+          strange = none_found w.sites n here
 
-      blank : book_in t n ≡ new_book
-      blank = all.strangers n (off, subst (AllByRecursion (λ k. eqb k n ≡ false)) all.hosts_are strange)
+          blank : book_in t n ≡ new_book
+          blank = all.strangers n (off, subst (AllByRecursion (λ k. eqb k n ≡ false)) all.hosts_are strange)
 
-      there : memory_at w n ≡ new_memory []
-      there = rw off (rw here refl)
+          same : (k : ℕ) → (n ≡ k → ⊥) → IsSame k t (t ++ entry.Booted n 0 ∷ [])
+          same k other = other_same n k t (entry.Booted n 0 ∷ []) other (refl, tt)
 
-      blank_count : count_of (found n (links_of w n) []).core.journal ≡ 0
-      blank_count = refl
+          own : book_in (t ++ entry.Booted n 0 ∷ []) n ≡ new_book
+          own = book_more t (entry.Booted n 0 ∷ []) n ∙ ap (λ b. cond b (with_found 0 (book_in t n)) (book_in t n))
+              (Rattle.std.proofs.lemmas.Bool.eq-eqb n n refl) ∙ ap (with_found 0) blank
 
-      boots_is : boots w n ≡ (w, entry.Booted n 0 ∷ [])
-      boots_is =
-          boots_run w n (ap (λ (m : Memory). fails_within (length (boot_writes m.content)) m.plan) there)
-          ∙ ap (λ (m : Memory). after_boot w n (links_of w n) m) there
-          ∙ ap (λ v. (with_node n (found n (links_of w n) []) v, entry.Booted n (count_of (found n (links_of w n) []).core.journal) ∷ []))
-          (with_memory_is w n off (after_planned (boot_writes []) (new_memory [])))
-          ∙ ap (λ l. (
-            with_node n (found n (links_of w n) []) (record w { sites = l }),
-            entry.Booted n (count_of (found n
-                (links_of w n) []).core.journal) ∷ [],
-          ))
-          (with_none n (λ (s : Site). record s { memory = after_planned (boot_writes []) (new_memory []) }) w.sites strange)
-          ∙ ap (λ v. (v, entry.Booted n (count_of (found n (links_of w n) []).core.journal) ∷ [])) (with_node_is w n off (found n (links_of w n) []))
-          ∙ ap (λ l. (record w { sites = l }, entry.Booted n (count_of (found n (links_of w n) []).core.journal) ∷ []))
-          (with_none n (λ (s : Site). record s { node = Some (found n (links_of w n) []) }) w.sites strange)
-          ∙ ap (λ k. (w, entry.Booted n k ∷ [])) blank_count
-
-      same : (k : ℕ) → (n ≡ k → ⊥) → IsSame k t (t ++ entry.Booted n 0 ∷ [])
-      same k other = other_same n k t (entry.Booted n 0 ∷ []) other (refl, tt)
-
-      own : book_in (t ++ entry.Booted n 0 ∷ []) n ≡ new_book
-      own = book_more t (entry.Booted n 0 ∷ []) n ∙ ap (λ b. cond b (with_found 0 (book_in t n)) (book_in t n))
-          (Rattle.std.proofs.lemmas.Bool.eq-eqb n n refl) ∙ ap (with_found 0) blank
-
-      keep : AllKeep hosts (t ++ entry.Booted n 0 ∷ []) w
-      keep = record {
-        controller = keeps_same 0 hosts t (t ++ entry.Booted n 0 ∷ []) w.memory w.controller (same 0 (λ is. eqb-false n 0 off is)) all.controller;
-        hosts_are = all.hosts_are;
-        sites = subst (AllByRecursion (SiteKeeps (t ++ entry.Booted n 0 ∷ []))) (map_same w.sites)
-            (map_sites t (t ++ entry.Booted n 0 ∷ []) (λ k. eqb k n ≡ false) (λ s. s)
-            (λ s other k. keeps_same s.host (s.host ∷ []) t (t ++ entry.Booted n 0 ∷ []) s.memory s.node (same s.host (λ is. eqb-false s.host n other
-            (sym is))) k) w.sites strange all.sites);
-        strangers = λ k strange_k. by_number k strange_k (cases_Bool (eqb n k));
-      } where
-        by_number : (k : ℕ) → IsStranger hosts k → (eqb n k ≡ true) ⊎ (eqb n k ≡ false) → book_in (t ++ entry.Booted n 0 ∷ []) k ≡ new_book
-        by_number k s (inl is) = ap (λ j. book_in (t ++ entry.Booted n 0 ∷ []) j) (sym (eqb-true n k is)) ∙ own
-        by_number k s (inr other) = (same k (λ is. eqb-false n k other is)).book ∙ all.strangers k s
+          keep : AllKeep hosts (t ++ entry.Booted n 0 ∷ []) w
+          keep = record {
+            controller = keeps_same 0 hosts t (t ++ entry.Booted n 0 ∷ []) w.memory w.controller (same 0 (λ is. eqb-false n 0 off is)) all.controller;
+            hosts_are = all.hosts_are;
+            sites = subst (AllByRecursion (SiteKeeps (t ++ entry.Booted n 0 ∷ []))) (map_same w.sites)
+                (map_sites t (t ++ entry.Booted n 0 ∷ []) (λ k. eqb k n ≡ false) (λ s. s)
+                (λ s other k. keeps_same s.host (s.host ∷ []) t (t ++ entry.Booted n 0 ∷ []) s.memory s.node (same s.host (λ is. eqb-false s.host n other
+                (sym is))) k) w.sites strange all.sites);
+            strangers = λ k strange_k. by_number k strange_k (cases_Bool (eqb n k));
+          } where
+            by_number : (k : ℕ) → IsStranger hosts k → (eqb n k ≡ true) ⊎ (eqb n k ≡ false) → book_in (t ++ entry.Booted n 0 ∷ []) k ≡ new_book
+            by_number k s (inl is) = ap (λ j. book_in (t ++ entry.Booted n 0 ∷ []) j) (sym (eqb-true n k is)) ∙ own
+            by_number k s (inr other) = (same k (λ is. eqb-false n k other is)).book ∙ all.strangers k s
 
     pub boots_goes : (n : ℕ) → length (commands_in t n) ≤ 2 ^ 32 - 1 → GoesBy t (boots w n)
     boots_goes n few =

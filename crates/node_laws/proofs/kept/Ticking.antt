@@ -29,6 +29,7 @@ use Rattle.node_laws.proofs.kept.Standing.{IsSame, same_then, other_same, keeps_
 use Rattle.node_laws.proofs.kept.Sites.{hosts_in}
 use Rattle.node_laws.proofs.kept.Worlds.{Goes, goes_then, step_keeps, controller_goes, plain_frames}
 use Rattle.node_laws.proofs.kept.Events.{GoesBy, plain_goes}
+use Rattle.node_machine.proofs.world.Cases.{by_controller_tick, by_host_tick, host_tick, near_tick, site_ticked, site_unticked}
 
 -- ## Hosts
 
@@ -40,19 +41,18 @@ record SiteTicks (t : List Entry) (s : Site) (p : Site × List Entry) : Type 0 w
   own : AllByRecursion (IsOf s.host) p.1
 
 site_ticks : (t : List Entry) (s : Site) → IsHost s.host → SiteKeeps t s → SiteTicks t s (host_ticks s)
-site_ticks t s is k = by_node s.node refl k where
-  by_node : (o : Option Running) → s.node ≡ o → NodeKeeps s.host (s.host ∷ []) t s.memory o → SiteTicks t s (host_ticks s)
-  by_node None e k =
-      rw e (record { host = refl; keeps = subst (λ l. NodeKeeps s.host (s.host ∷ []) l s.memory None) (sym (append-nil t)) k; told = tt; own = tt })
-  by_node (Some r) e k =
-      let begun : Work = work_of r s.memory.plan (λ h. s.link.host) [] in
-      let work : Work = steps TimePasses begun in
-      let fine : GoesOn_or_lost s.host (s.host ∷ []) s.memory t work =
-      steps_fine s.host (s.host ∷ []) s.memory t (inr is) (record { all = (is, tt); different = (tt, tt) }) TimePasses begun
-      (runs_begun s.host (s.host ∷ []) t s.memory r (λ h. s.link.host) [] tt k.runs) k.runs.on in
-      let done = step_keeps s.host (s.host ∷ []) t s.memory work (frames_noted Host s.host (exchanged s.link) work) fine (plain_frames Host s.host
-      (exchanged s.link) work) in
-      rw e (record { host = refl; keeps = done.0; told = done.1; own = done.2 })
+site_ticks t s is k =
+    by_host_tick (SiteTicks t s) s
+    (λ e. record { host = refl; keeps = subst (λ l. NodeKeeps s.host (s.host ∷ []) l s.memory s.node) (sym (append-nil t)) k; told = tt; own = tt })
+    (λ r e.
+    let runs = (subst (NodeKeeps s.host (s.host ∷ []) t s.memory) e k).runs in
+    let work : Work = host_tick s r in
+    let fine : GoesOn_or_lost s.host (s.host ∷ []) s.memory t work =
+    steps_fine s.host (s.host ∷ []) s.memory t (inr is) (record { all = (is, tt); different = (tt, tt) }) TimePasses
+    (work_of r s.memory.plan (λ h. s.link.host) []) (runs_begun s.host (s.host ∷ []) t s.memory r (λ h. s.link.host) [] tt runs) runs.on in
+    let done = step_keeps s.host (s.host ∷ []) t s.memory work (frames_noted Host s.host (exchanged s.link) work) fine
+    (plain_frames Host s.host (exchanged s.link) work) in
+    record { host = refl; keeps = done.0; told = done.1; own = done.2 })
 
 -- the ticks of hosts
 record SitesTick (t : List Entry) (sites : List Site) (p : List Site × List Entry) : Type 0 where
@@ -118,28 +118,20 @@ module _ (hosts : List ℕ) (are : AreHosts hosts) where
       refl all.controller (λ s. refl) (λ s k. k)
 
   pub near_ticks : (t : List Entry) (w : NodeWorld) → AllKeep hosts t w → GoesBy hosts are t (controller_ticks w)
-  near_ticks t w all = by_node w.controller refl all.controller where
-    by_node : (o : Option Running) → w.controller ≡ o → NodeKeeps 0 hosts t w.memory o → GoesBy hosts are t (controller_ticks w)
-    by_node None e k =
-        rw e (plain_goes hosts are t w (record {
-          memory = w.memory;
-          controller = None;
-          sites = map (λ
-              (s : Site). record s { link = ticks_at_controller s.link [] GoesOut }) w.sites;
-        }) []
-        (λ (s : Site). record s { link = ticks_at_controller s.link [] GoesOut }) all tt refl k (λ s. refl) (λ s x. x))
-    by_node (Some r) e k =
-        let begun : Work = work_of r w.memory.plan (λ h. (link_to w.sites h).controller) [] in
-        let work : Work = steps TimePasses begun in
-        let frames : List Entry = flat_map (λ (s : Site). frames_noted Controller s.host s.link work) w.sites in
-        let fine : GoesOn_or_lost 0 hosts w.memory t work =
-        steps_fine 0 hosts w.memory t (inl refl) are TimePasses begun (runs_begun 0 hosts t w.memory r (λ h.
-        (link_to w.sites h).controller) [] tt k.runs) k.runs.on in
-        let done = step_keeps 0 hosts t w.memory work frames fine
-        (plain_flat (λ (s : Site). frames_noted Controller s.host s.link work) (λ s. plain_frames Controller s.host s.link work) w.sites) in
-        rw e (controller_goes hosts are t w (work.entries ++ frames) (after_planned work.writes w.memory) (runs_on work)
-        (λ (s : Site). record s { link = ticked_so s.link (is_late_at work s.host) (turns_at work s.host) (ending_of work) }) all done.0 done.1 done.2
-        (λ s. refl) (λ s x. x))
+  near_ticks t w all =
+      by_controller_tick (GoesBy hosts are t) w
+      (λ e. plain_goes hosts are t w (record w { sites = map site_unticked w.sites }) [] site_unticked all tt refl all.controller (λ s. refl) (λ s x. x))
+      (λ r e.
+      let runs = (subst (NodeKeeps 0 hosts t w.memory) e all.controller).runs in
+      let work : Work = near_tick w r in
+      let frames : List Entry = flat_map (λ (s : Site). frames_noted Controller s.host s.link work) w.sites in
+      let fine : GoesOn_or_lost 0 hosts w.memory t work =
+      steps_fine 0 hosts w.memory t (inl refl) are TimePasses (work_of r w.memory.plan (λ h. (link_to w.sites h).controller) [])
+      (runs_begun 0 hosts t w.memory r (λ h. (link_to w.sites h).controller) [] tt runs) runs.on in
+      let done = step_keeps 0 hosts t w.memory work frames fine
+      (plain_flat (λ (s : Site). frames_noted Controller s.host s.link work) (λ s. plain_frames Controller s.host s.link work) w.sites) in
+      controller_goes hosts are t w (work.entries ++ frames) (after_planned work.writes w.memory) (runs_on work) (site_ticked work) all
+      done.0 done.1 done.2 (λ s. refl) (λ s x. x))
 
   far_ticks : (t : List Entry) (w : NodeWorld) → AllKeep hosts t w → Goes hosts are t (record w { sites = (hosts_tick w.sites).0 }) (hosts_tick w.sites).1
   far_ticks t w all =

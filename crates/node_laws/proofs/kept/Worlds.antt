@@ -28,6 +28,7 @@ use Rattle.node_laws.proofs.kept.Plainly.{plain_entries, plain_flat}
 use Rattle.node_laws.proofs.kept.Doing.{GoesOn_or_lost}
 use Rattle.node_laws.proofs.kept.Standing.{plain_same, other_same, keeps_same, runs_begun, keeps_ended, told_ended}
 use Rattle.node_laws.proofs.kept.Sites.{hosts_in, site_found, hosts_same, hosts_with, map_sites, with_site_keeps}
+use Rattle.node_machine.proofs.world.Cases.{by_controller, by_host}
 
 -- ## Plain entries
 
@@ -39,9 +40,6 @@ pub plain_frames : (who : Side) (h : ℕ) (l : Link) (w : Work) → AllByRecursi
 plain_frames who h l w =
     plain_option (λ (p : Port). entries_for h (ending_entries who l p.side (ending_of w))) (port_at w.ports h) (λ p. plain_entries h
     (ending_entries who l p.side (ending_of w)))
-
-off_does : (w : NodeWorld) (h : ℕ) (comes : Comes) (f : Work → Work) → w.controller ≡ None → controller_does w h comes f ≡ (w, [])
-off_does w h comes f e = rw e refl
 
 -- ## An event of one node
 
@@ -129,64 +127,40 @@ module _ (hosts : List ℕ) (are : AreHosts hosts) where
 
   pub controller_steps : (t : List Entry) (w : NodeWorld) (h : ℕ) (comes : Comes) (f : Work → Work) → AllKeep hosts t w → IsStep 0 hosts f
       → Goes t (controller_does w h comes f).0 (controller_does w h comes f).1
-  controller_steps t w h comes f all step = by_node w.controller refl all.controller where
-    by_node : (o : Option Running) → w.controller ≡ o → NodeKeeps 0 hosts t w.memory o → Goes t (controller_does w h comes f).0 (controller_does w h comes f).1
-    by_node None e k = subst (λ (p : NodeWorld × List Entry). Goes t p.0 p.1) (sym (off_does w h comes f e)) (goes_not t w all)
-    by_node (Some r) e k = rw e (
-        controller_goes t w (work.entries ++ frames) (after_planned work.writes w.memory) (runs_on work) (link_after_controller h comes work) all
-        done.0 done.1 done.2 (λ s. refl) (λ s keeps. keeps)) where
-          work : Work
-          work = controller_work w r h comes f
-
-          frames : List Entry
-          frames = flat_map (λ (s : Site). frames_noted Controller s.host (wires_for s.link (comes_to h comes s.host)) work) w.sites
-
-          begun : List Entry
-          begun = entries_for h (arrival Controller (link_to w.sites h) comes)
-
-          fine : GoesOn_or_lost 0 hosts w.memory t work
-          fine = step w.memory t (work_of r w.memory.plan (λ k. near_end_in (link_to w.sites k) (comes_to h comes k)) begun)
-              (runs_begun 0 hosts t w.memory r (λ k. near_end_in (link_to w.sites k) (comes_to h comes k)) begun (plain_arrival Controller h
-              (link_to w.sites h) comes) k.runs) k.runs.on
-
-          done : NodeKeeps 0 hosts (t ++ (work.entries ++ frames)) (after_planned work.writes w.memory) (runs_on work) × AreToldBehind t
-              (work.entries ++ frames) × AllByRecursion (IsOf 0) (work.entries ++ frames)
-          done = step_keeps 0 hosts t w.memory work frames fine
-              (plain_flat (λ (s : Site). frames_noted Controller s.host (wires_for s.link (comes_to h comes s.host)) work)
-              (λ s. plain_frames Controller s.host (wires_for s.link (comes_to h comes s.host)) work) w.sites)
+  controller_steps t w h comes f all step =
+      by_controller (λ p. Goes t p.0 p.1) w h comes f (goes_not t w all)
+      (λ r e.
+      let runs = (subst (NodeKeeps 0 hosts t w.memory) e all.controller).runs in
+      let work : Work = controller_work w r h comes f in
+      let frames : List Entry = flat_map (λ (s : Site). frames_noted Controller s.host (wires_for s.link (comes_to h comes s.host)) work) w.sites in
+      let begun : List Entry = entries_for h (arrival Controller (link_to w.sites h) comes) in
+      let fine : GoesOn_or_lost 0 hosts w.memory t work =
+      step w.memory t (work_of r w.memory.plan (λ k. near_end_in (link_to w.sites k) (comes_to h comes k)) begun)
+      (runs_begun 0 hosts t w.memory r (λ k. near_end_in (link_to w.sites k) (comes_to h comes k)) begun
+      (plain_arrival Controller h (link_to w.sites h) comes) runs) runs.on in
+      let done = step_keeps 0 hosts t w.memory work frames fine
+      (plain_flat (λ (s : Site). frames_noted Controller s.host (wires_for s.link (comes_to h comes s.host)) work)
+      (λ s. plain_frames Controller s.host (wires_for s.link (comes_to h comes s.host)) work) w.sites) in
+      controller_goes t w (work.entries ++ frames) (after_planned work.writes w.memory) (runs_on work) (link_after_controller h comes work) all
+      done.0 done.1 done.2 (λ s. refl) (λ s keeps. keeps))
 
   pub host_steps : (t : List Entry) (w : NodeWorld) (h : ℕ) (comes : Comes) (f : Work → Work) → AllKeep hosts t w
       → ((x : Site) (r : Running) → site_at w.sites h ≡ Some x → x.node ≡ Some r → IsHost x.host → IsOnOrder r.core.command r.core.init
       → (before : List Entry) (work : Work) → work.core ≡ r.core → Rattle.node_laws.specs.kept.Books.StillRuns x.host (x.host ∷ []) x.memory before work
       → GoesOn_or_lost x.host (x.host ∷ []) x.memory before (f work))
       → Goes t (host_does w h comes f).0 (host_does w h comes f).1
-  host_steps t w h comes f all step = by_option (site_at w.sites h)
-      (λ here. rw here (goes_not t w all))
-      (λ x here. let known = site_found (SiteKeeps t) IsHost w.sites h x all.sites (hosts_of_sites t w all) here in
-      by_node x here x.node refl known.0 known.1 known.2) where
-        by_node : (x : Site) → site_at w.sites h ≡ Some x → (o : Option Running) → x.node ≡ o → NodeKeeps x.host (x.host ∷ []) t x.memory o
-            → IsHost x.host → x.host ≡ h → Goes t (host_does w h comes f).0 (host_does w h comes f).1
-        by_node x here None e k host same = rw here (rw e (goes_not t w all))
-        by_node x here (Some r) e k host same = rw here (rw e (
-            host_goes t w (work.entries ++ frames) h x (after_host comes work) all here done.0 done.1 (subst (λ n. AllByRecursion (IsOf n)
-            (work.entries ++ frames)) same done.2) (λ s. refl))) where
-              work : Work
-              work = host_work x r comes f
-
-              frames : List Entry
-              frames = frames_noted Host h (wires_for (exchanged x.link) comes) work
-
-              begun : List Entry
-              begun = entries_for x.host (arrival Host (exchanged x.link) comes)
-
-              start : Work
-              start = work_of r x.memory.plan (λ k. near_end_in (exchanged x.link) comes) begun
-
-              fine : GoesOn_or_lost x.host (x.host ∷ []) x.memory t work
-              fine = step x r here e host k.runs.on t start refl
-                  (runs_begun x.host (x.host ∷ []) t x.memory r (λ k. near_end_in (exchanged x.link) comes) begun (plain_arrival Host x.host
-                  (exchanged x.link) comes) k.runs)
-
-              done : NodeKeeps x.host (x.host ∷ []) (t ++ (work.entries ++ frames)) (after_planned work.writes x.memory) (runs_on work) × AreToldBehind t
-                  (work.entries ++ frames) × AllByRecursion (IsOf x.host) (work.entries ++ frames)
-              done = step_keeps x.host (x.host ∷ []) t x.memory work frames fine (plain_frames Host h (wires_for (exchanged x.link) comes) work)
+  host_steps t w h comes f all step =
+      by_host (λ p. Goes t p.0 p.1) w h comes f (goes_not t w all)
+      (λ x r here e.
+      let known = site_found (SiteKeeps t) IsHost w.sites h x all.sites (hosts_of_sites t w all) here in
+      let runs = (subst (NodeKeeps x.host (x.host ∷ []) t x.memory) e known.0).runs in
+      let work : Work = host_work x r comes f in
+      let frames : List Entry = frames_noted Host h (wires_for (exchanged x.link) comes) work in
+      let begun : List Entry = entries_for x.host (arrival Host (exchanged x.link) comes) in
+      let fine : GoesOn_or_lost x.host (x.host ∷ []) x.memory t work =
+      step x r here e known.1 runs.on t (work_of r x.memory.plan (λ k. near_end_in (exchanged x.link) comes) begun) refl
+      (runs_begun x.host (x.host ∷ []) t x.memory r (λ k. near_end_in (exchanged x.link) comes) begun
+      (plain_arrival Host x.host (exchanged x.link) comes) runs) in
+      let done = step_keeps x.host (x.host ∷ []) t x.memory work frames fine (plain_frames Host h (wires_for (exchanged x.link) comes) work) in
+      host_goes t w (work.entries ++ frames) h x (after_host comes work) all here done.0 done.1
+      (subst (λ n. AllByRecursion (IsOf n) (work.entries ++ frames)) known.2 done.2) (λ s. refl))

@@ -19,6 +19,7 @@ use Rattle.tables_laws.proofs.gate.Decisions.{new_row, decided_holds}
 use Rattle.gate_link.specs.Link.{count_bytes, count_in, tests_to_set_errors, link_served, link_unless_refused as link_unless}
 use Rattle.gate_identity.specs.Identity.{identity_value, identity_served, identity_unless_refused as identity_unless}
 use Rattle.node_laws.proofs.links.Masking.{nobody}
+use Rattle.node_laws.proofs.Cases.{by_test}
 
 -- it has a byte
 abbrev pub IsSpoken : List ℕ → Type 0
@@ -65,22 +66,19 @@ link_one (Some r) otherwise a = answer_spoken r []
 link_one None otherwise a = a
 
 pub link_spoken : (errors instruction : ℕ) (body : List ℕ) → IsSpoken (link_served errors instruction body).0
-link_spoken errors instruction body = go (eqb instruction 1) (eqb instruction 2) refl refl
-  where
-    go : (a b : Bool) → eqb instruction 1 ≡ a → eqb instruction 2 ≡ b → IsSpoken (link_served errors instruction body).0
-    go true b p q = rw p (link_one (first_of (tests_to_set_errors body)) (answer_of response.Ok [], Some (count_in (value_in body))) (omega arith))
-    go false true p q = rw (p, q) (link_one (first_of (tests_to_get 6 body)) (answer_of response.Ok (count_bytes errors), None) (omega arith))
-    go false false p q = rw (p, q) (omega arith)
+link_spoken errors instruction body = by_test (eqb instruction 1)
+    (λ p. rw p (link_one (first_of (tests_to_set_errors body)) (answer_of response.Ok [], Some (count_in (value_in body))) (omega arith)))
+    (λ p. by_test (eqb instruction 2)
+    (λ q. rw (p, q) (link_one (first_of (tests_to_get 6 body)) (answer_of response.Ok (count_bytes errors), None) (omega arith)))
+    (λ q. rw (p, q) (omega arith)))
 
 identity_one : (o : Option Response) (otherwise : List ℕ) → IsSpoken otherwise → IsSpoken (identity_unless o otherwise)
 identity_one (Some r) otherwise a = answer_spoken r []
 identity_one None otherwise a = a
 
 pub identity_spoken : (gates : List ℕ) (instruction : ℕ) (body : List ℕ) → IsSpoken (identity_served gates instruction body)
-identity_spoken gates instruction body = go (eqb instruction 1) (eqb instruction 2) refl refl
-  where
-    go : (a b : Bool) → eqb instruction 1 ≡ a → eqb instruction 2 ≡ b → IsSpoken (identity_served gates instruction body)
-    go true b p q = rw p (identity_one (first_of (tests_to_set 5 body)) (answer_of response.RegistryAccessDenied []) (omega arith))
-    go false true p q =
-        rw (p, q) (identity_one (first_of (tests_to_get 5 body)) (answer_of response.Ok (identity_value gates (param_in body))) (omega arith))
-    go false false p q = rw (p, q) (omega arith)
+identity_spoken gates instruction body = by_test (eqb instruction 1)
+    (λ p. rw p (identity_one (first_of (tests_to_set 5 body)) (answer_of response.RegistryAccessDenied []) (omega arith)))
+    (λ p. by_test (eqb instruction 2)
+    (λ q. rw (p, q) (identity_one (first_of (tests_to_get 5 body)) (answer_of response.Ok (identity_value gates (param_in body))) (omega arith)))
+    (λ q. rw (p, q) (omega arith)))

@@ -47,8 +47,7 @@ module _ (P : LinkEnd → Type 0)
       (λ q. let is : steps_at_controller l NextFrame ts ending ≡ l = rw q refl in
       let Q : Link → Type 0 = λ k. P k.controller.side in subst Q (sym is) a)
       (λ x xs q. let is : steps_at_controller l NextFrame ts ending ≡ has_taken l x xs ts ending = rw q refl in
-      let Q : Link → Type 0 = λ k. P k.controller.side in
-      subst Q (sym is) (input_is l (Take x.frame) ts ending a _))
+      subst (λ (k : Link). P k.controller.side) (sym is) (input_is l (Take x.frame) ts ending a _))
   step_is l (AsksReset window) ts ending a = input_is l (Reset window) ts ending a (with_ended l (is_some (ended_by l.controller.side (Reset window))))
   step_is l (Starts value) ts ending a = input_is l (Start value) ts ending a (silent l (after_input l.controller.side (Start value)))
   step_is l Stops ts ending a = input_is l Stop ts ending a (silent l (after_input l.controller.side Stop))
@@ -117,11 +116,9 @@ module _ (Q : Role → Type 0) (acts : (r : Role) (event : ActEvent) → Q r →
       (λ q. let b : Bool = is_some (tick_answer e.shdlc).ended in
       let f : LinkEnd = moved e b (ticked e.shdlc) in
       let is : had_tick e ≡ f = rw q refl in
-      let R : LinkEnd → Type 0 = λ g. Q g.role in
-      subst R (sym is) (same e f (moved_role e b (ticked e.shdlc)) a))
+      subst (λ (g : LinkEnd). Q g.role) (sym is) (same e f (moved_role e b (ticked e.shdlc)) a))
       (λ q. let is : had_tick e ≡ activated e ActTick = rw q refl in
-      let R : LinkEnd → Type 0 = λ g. Q g.role in
-      subst R (sym is) (activated_is e ActTick a))
+      subst (λ (g : LinkEnd). Q g.role) (sym is) (activated_is e ActTick a))
 
   fetch_is : (e : LinkEnd) → Q e.role → Q (frame_fetched e).role
   fetch_is e a = by_list e.acts

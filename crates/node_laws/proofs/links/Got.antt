@@ -19,6 +19,7 @@ use Rattle.link_laws.specs.machine.Machine.LinkInput.{Take, TakeUnknown, TakeBro
 use Rattle.link_laws.specs.machine.Machine.Turn.{Give, Hold, FetchMessage, SetAside, Release}
 use Rattle.link_laws.proofs.machine.Kept.{moved_got, down_got, activated_got}
 use Rattle.node_laws.proofs.Cases.{by_option, by_test}
+use Rattle.node_laws.proofs.Cases.{by_test}
 use Rattle.registry.proofs.ValueLemmas.{AllByRecursion-append as all_append}
 
 -- ## Lists
@@ -46,13 +47,9 @@ have_pipes ([] ∷ fs) = have_pipes fs
 have_pipes ((first ∷ rest) ∷ fs) = by_test (nat_lt (first % 128) 112) (λ q. rw q (ltb-true (first % 128) 112 q, have_pipes fs)) (λ q. rw q (have_pipes fs))
 
 joined_pipe : (begun : List Message) (p : Packet) → p.pipe < 112 → OnPipes (message_in (join_step begun p).0)
-joined_pipe begun p fits = go (is_fifth begun p.pipe) (nat_lt 4096 (length (grown begun p))) p.last refl refl refl
-  where
-    go : (a b c : Bool) → is_fifth begun p.pipe ≡ a → nat_lt 4096 (length (grown begun p)) ≡ b → p.last ≡ c → OnPipes (message_in (join_step begun p).0)
-    go true b c x y z = rw x tt
-    go false true c x y z = rw (x, y) tt
-    go false false true x y z = rw (x, y, z) (fits, tt)
-    go false false false x y z = rw (x, y, z) tt
+joined_pipe begun p fits = by_test (is_fifth begun p.pipe) (λ x. rw x tt)
+    (λ x. by_test (nat_lt 4096 (length (grown begun p))) (λ y. rw (x, y) tt)
+    (λ y. by_test p.last (λ z. rw (x, y, z) (fits, tt)) (λ z. rw (x, y, z) tt)))
 
 on_pipes : (begun : List Message) (ps : List Packet) → HavePipes ps → OnPipes (given_by begun ps)
 on_pipes begun [] a = tt

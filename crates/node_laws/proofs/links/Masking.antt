@@ -5,6 +5,7 @@ use Rattle.std.specs.List.{filter, AllByRecursion}
 use Rattle.std.proofs.lemmas.Bool.{true≢false, leb-true}
 use Rattle.gate_admin.specs.View.{has, hosts_where, mask_of}
 use Rattle.node_laws.proofs.Cases.{by_test}
+use Rattle.node_laws.proofs.Cases.{by_test}
 use Rattle.node_laws.proofs.steps.Masks.{bit_most, bit_none, digits}
 
 zero_one : (n : ℕ) → n ≡ 0 → eqb n 1 ≡ true → ⊥
@@ -12,12 +13,9 @@ zero_one n z q = absurd (true≢false (sym q ∙ ap (λ k. eqb k 1) z))
 
 -- hosts in a mask are 07 at most
 pub has_small : (m x : ℕ) → has m x ≡ true → x ≤ 7
-has_small m x q = go (nat_le 1 x) (nat_le x 7) refl refl
-  where
-    go : (a b : Bool) → nat_le 1 x ≡ a → nat_le x 7 ≡ b → x ≤ 7
-    go true true p r = leb-true x 7 r
-    go true false p r = absurd (true≢false (sym (rw (p, r) at q)))
-    go false b p r = absurd (true≢false (sym (rw p at q)))
+has_small m x q = by_test (nat_le 1 x)
+    (λ p. by_test (nat_le x 7) (λ r. leb-true x 7 r) (λ r. absurd (true≢false (sym (rw (p, r) at q)))))
+    (λ p. absurd (true≢false (sym (rw p at q))))
 
 -- nobody is in an empty mask
 pub nobody : hosts_where (has 0) ≡ []

@@ -27,6 +27,7 @@ use Rattle.node_machine.specs.Node.{forgets, without_notice, after_sessions, for
 use Rattle.node_machine.specs.Node.NodeInput.{AtEnd, TimePasses}
 use Rattle.node_laws.specs.links.Notices.{Reaches, AllReach, IsComing, IsOutside, IsNoticedUp, IsBegun, OnFirst}
 use Rattle.node_laws.proofs.Cases.{by_option, by_test}
+use Rattle.node_laws.proofs.Cases.{by_option}
 use Rattle.node_laws.proofs.links.Staying.{stays_up}
 use Rattle.node_laws.proofs.links.Reaching.{controller_reach}
 use Rattle.node_laws.proofs.steps.StepWalks.{Lasts, rest_lasts}
@@ -79,9 +80,8 @@ module _ (U : ℕ → Bool) where
 
   beside : (w v : Work) → v.core.node ≡ w.core.node → v.ports ≡ w.ports → Sure w → Sure v
   beside w v node ports a =
-      let P : List Port → Type 0 = λ ps. (x : ℕ) → has_link ps x ≡ U x in
       let Q : List Port → Type 0 = λ ps. (x : ℕ) → UpAt (port_at ps x) in
-      record { node = node ∙ a.node; links = subst P (sym ports) a.links; up = subst Q (sym ports) a.up }
+      record { node = node ∙ a.node; links = subst (λ (ps : List Port). (x : ℕ) → has_link ps x ≡ U x) (sym ports) a.links; up = subst Q (sym ports) a.up }
 
   -- an end is changed which keeps its host and its phase
   changes : (k : ℕ) (g : Port → Port) (w : Work) → ((q : Port) → (g q).desk.host ≡ q.desk.host)
@@ -212,15 +212,7 @@ come_ok p (Some i) k b n over = stays_up p.side i (k i refl) (b.up n) (go (is_so
     go true q = absurd (true≢false (sym (ap (λ c. c || p.late) q) ∙ over))
 
 older_ok : (p : Port) → IsOk p → IsOk (with_older p)
-older_ok p b n over = b (go p.desk.notice n) over
-  where
-    by : Option Notice → Option Notice
-    by None = None
-    by (Some n) = Some (older_notice n)
-
-    go : (o : Option Notice) → is_some (by o) ≡ true → is_some o ≡ true
-    go None z = z
-    go (Some n) z = refl
+older_ok p b n over = b (by_option p.desk.notice (λ q. let z : false ≡ true = rw q at n in absurd (true≢false (sym z))) (λ m q. rw q refl)) over
 
 late_ok : (p : Port) → IsOk p → IsOk (reset_late p)
 late_ok p b = by_test (is_late p) (λ q. rw q (λ n over. absurd (over_late p.ended over))) (λ q. rw q b)

@@ -95,8 +95,7 @@ delivers_to_controller l events r =
 
 pub settles : (l : Link) → Settles l
 settles l events r =
-    let P : Link → Type 0 = λ k. IsSettled k (sure_of new_line events) → AreUpTogether k in
-    subst P r.is (up_together new_line IsLine events r.allowed)
+    subst (λ (k : Link). IsSettled k (sure_of new_line events) → AreUpTogether k) r.is (up_together new_line IsLine events r.allowed)
 
 pub delivered_to_host : (hosts : List ℕ) (lines : List Line) → ArePlayable lines
     → AllByRecursion (λ (s : Site). DeliversToHost s.link) (world_after (new_world hosts) lines).sites

@@ -101,8 +101,7 @@ started_sites h power k (s ∷ sites) a = (one, started_sites h power k sites a.
 
     one : (s.host == h) ≡ true → IsIdleClf (there (s.host == h)).controller.side.role
     one q =
-        let P : Bool → Type 0 = λ b. IsIdleClf (there b).controller.side.role in
-        subst P (sym q) (started_clf s.link power (turns_at k s.host) (ending_of k) a.0.link.line.clf)
+        subst (λ (b : Bool). IsIdleClf (there b).controller.side.role) (sym q) (started_clf s.link power (turns_at k s.host) (ending_of k) a.0.link.line.clf)
 
 idle_reach : (h sync : ℕ) (sites : List Site) → AreFineSites sites → AllByRecursion (AtHostOnly (λ s. IsIdleClf s.link.controller.side.role) h) sites
     → AllByRecursion (AtHostOnly (CanReach (Starts sync)) h) sites

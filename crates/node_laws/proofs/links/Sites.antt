@@ -34,9 +34,8 @@ allowed_push (x ∷ es) l e a b = (a.0, allowed_push es (happens l x) e a.1 b)
 -- one event more
 pub run_of_more : (events : List LinkEvent) (l : Link) (e : LinkEvent) → IsEvent l e → IsRunOf events l → IsRunOf (events ++ e ∷ []) (happens l e)
 run_of_more events l e can run =
-    let P : Link → Type 0 = λ k. IsEvent k e in
     record {
-      allowed = allowed_push events new_line e run.allowed (subst P (sym run.is) can);
+      allowed = allowed_push events new_line e run.allowed (subst (λ (k : Link). IsEvent k e) (sym run.is) can);
       is = after_push events new_line e ∙ ap (λ k. happens k e) run.is;
     }
 
@@ -78,24 +77,20 @@ can_end r CutOff a = a
 
 line_here : (l : Link) (x : EndEvent) → IsLine l → IsLine (happens_at_controller l x)
 line_here l x a =
-    let R : NumberedEnd → Type 0 = λ h. IsUicc h.side.role in
-    let C : NumberedEnd → Type 0 = λ h. Clean h.side in
     record {
       clf = here_clf l x a.clf;
-      uicc = subst R (sym (here_host l x)) a.uicc;
+      uicc = subst (λ (h : NumberedEnd). IsUicc h.side.role) (sym (here_host l x)) a.uicc;
       near = here_clean l x a.near;
-      far = subst C (sym (here_host l x)) a.far;
+      far = subst (λ (h : NumberedEnd). Clean h.side) (sym (here_host l x)) a.far;
     }
 
 line_there : (l : Link) (x : EndEvent) → IsLine l → IsLine (exchanged (happens_at_controller (exchanged l) x))
 line_there l x a =
     let k : Link = exchanged l in
-    let R : NumberedEnd → Type 0 = λ h. IsClf h.side.role in
-    let C : NumberedEnd → Type 0 = λ h. Clean h.side in
     record {
-      clf = subst R (sym (here_host k x)) a.clf;
+      clf = subst (λ (h : NumberedEnd). IsClf h.side.role) (sym (here_host k x)) a.clf;
       uicc = here_uicc k x a.uicc;
-      near = subst C (sym (here_host k x)) a.near;
+      near = subst (λ (h : NumberedEnd). Clean h.side) (sym (here_host k x)) a.near;
       far = here_clean k x a.far;
     }
 
@@ -145,24 +140,20 @@ ticked l late c h = exchanged (ticks_at_controller (exchanged (ticked_so (aged l
 line_ticked : (m : Link) (h : Node) → IsLine m → IsLine (exchanged (ticks_at_controller (exchanged m) h.turns h.ending))
 line_ticked m h a =
     let k : Link = exchanged m in
-    let R : NumberedEnd → Type 0 = λ z. IsClf z.side.role in
-    let C : NumberedEnd → Type 0 = λ z. Clean z.side in
     record {
-      clf = subst R (sym (tick_host k h.turns h.ending)) a.clf;
+      clf = subst (λ (z : NumberedEnd). IsClf z.side.role) (sym (tick_host k h.turns h.ending)) a.clf;
       uicc = tick_uicc k h.turns h.ending a.uicc;
-      near = subst C (sym (tick_host k h.turns h.ending)) a.near;
+      near = subst (λ (z : NumberedEnd). Clean z.side) (sym (tick_host k h.turns h.ending)) a.near;
       far = tick_clean k h.turns h.ending a.far;
     }
 
 line_tick : (l : Link) (ts : List Turn) (ending : Ending) → IsLine l → IsLine (ticks_at_controller l ts ending)
 line_tick l ts ending a =
-    let R : NumberedEnd → Type 0 = λ h. IsUicc h.side.role in
-    let C : NumberedEnd → Type 0 = λ h. Clean h.side in
     record {
       clf = tick_clf l ts ending a.clf;
-      uicc = subst R (sym (tick_host l ts ending)) a.uicc;
+      uicc = subst (λ (h : NumberedEnd). IsUicc h.side.role) (sym (tick_host l ts ending)) a.uicc;
       near = tick_clean l ts ending a.near;
-      far = subst C (sym (tick_host l ts ending)) a.far;
+      far = subst (λ (h : NumberedEnd). Clean h.side) (sym (tick_host l ts ending)) a.far;
     }
 
 pub record AreNodes (c h : Node) : Type 0 where

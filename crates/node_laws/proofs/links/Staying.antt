@@ -42,8 +42,7 @@ activated_up : (e : LinkEnd) (event : ActEvent) → IsUpEnd e → is_some (ended
 activated_up e event up q = by_test (act_answer e.role event).ended_link
     (λ z. absurd (up_ends e.shdlc ByAct up (rw z at q)))
     (λ z. let down : (put_down (act_answer e.role event).ended_link e).shdlc ≡ e.shdlc = ap (λ b. (put_down b e).shdlc) z in
-    let P : EndState → Type 0 = λ s. s.phase ≡ Up in
-    subst P (sym (act_stays (act_answer e.role event).send (f (act_answer e.role event).ended_link) ∙ down)) up)
+    subst (λ (s : EndState). s.phase ≡ Up) (sym (act_stays (act_answer e.role event).send (f (act_answer e.role event).ended_link) ∙ down)) up)
   where
     f : Bool → LinkEnd
     f b = record (put_down b e) { role = role_after e.role event }

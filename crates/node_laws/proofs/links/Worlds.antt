@@ -292,8 +292,7 @@ all_old (s ∷ sites) a = (record { base = s.link; fine = a.0.link; is = refl; n
 old_clean : (sites : List Site) → AllByRecursion IsOld sites → AreClean sites
 old_clean [] a = tt
 old_clean (s ∷ sites) a =
-    let P : Link → Type 0 = λ l. Clean l.controller.side in
-    (subst P (sym a.0.is) a.0.fine.line.near, old_clean sites a.1)
+    (subst (λ (l : Link). Clean l.controller.side) (sym a.0.is) a.0.fine.line.near, old_clean sites a.1)
 
 -- the sites after a tick of the controller, in which its ends had these turns
 near_sites : (late : ℕ → Bool) (had : ℕ → Node) → ((h : ℕ) → AreSendableTurns (had h).turns) → (sites : List Site) → AllByRecursion IsOld sites
@@ -348,9 +347,8 @@ host_ticks_fine s a =
   where
     far : Clean s.link.host.side
     far =
-        let P : Link → Type 0 = λ l. Clean l.host.side in
         let Q : NumberedEnd → Type 0 = λ h. Clean h.side in
-        subst P (sym a.is) (subst Q (sym (so_host (aged a.base) a.late a.had.turns a.had.ending)) a.fine.line.far)
+        subst (λ (l : Link). Clean l.host.side) (sym a.is) (subst Q (sym (so_host (aged a.base) a.late a.had.turns a.had.ending)) a.fine.line.far)
 
     link : (h : Node) → AreSendableTurns h.turns → IsFineLink (exchanged (ticks_at_controller (exchanged s.link) h.turns h.ending))
     link h sends =

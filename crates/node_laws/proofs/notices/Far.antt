@@ -30,6 +30,7 @@ use Rattle.node_machine.specs.Node.NodeInput.{AtEnd, TimePasses}
 use Rattle.node_machine.specs.world.World.{end_c}
 use Rattle.node_machine.specs.world.NodeFilters.{is_response, is_notice, asking_after, asking_in}
 use Rattle.node_laws.proofs.Cases.{by_option, by_test}
+use Rattle.node_laws.proofs.Cases.{by_test}
 use Rattle.node_laws.proofs.readings.Silent.{IsQuiet, told_rest, rest_quiet}
 use Rattle.node_laws.proofs.notices.Reading.{reads}
 use Rattle.node_laws.proofs.notices.Own.{IsFar, IsOwn, AreOwn, deeds_own, forgotten_own, all_owed_own, all_synced_own}
@@ -157,14 +158,14 @@ tells h about message w a =
     desks h (λ d. record d { notice = Some (record { about = about; age = 0 }) }) (turn_at h (Give (1, message)) w) (turns h (Give (1, message)) w a)
 
 commits : (c : Command) (w : Work) → IsFarWork w → IsFarWork (commit c w)
-commits c w a = go (fails_within (length (commit_writes w.core.journal w.core.tables (body_of c))) w.plan) refl where
-  go : (b : Bool) → fails_within (length (commit_writes w.core.journal w.core.tables (body_of c))) w.plan ≡ b → IsFarWork (commit c w)
-  go true q = rw q (record {
-    number = a.number;
-    far = far-append (w.entries ++ entry.Command w.core.node c ∷ []) (entry.Cut w.core.node ∷ [])
-        (far-append w.entries (entry.Command w.core.node c ∷ []) a.far (a.number, tt)) (a.number, tt);
-  })
-  go false q = rw q (record { number = a.number; far = far-append w.entries (entry.Command w.core.node c ∷ []) a.far (a.number, tt) })
+commits c w a = by_test (fails_within (length (commit_writes w.core.journal w.core.tables (body_of c))) w.plan)
+    (λ q. rw q (record {
+      number = a.number;
+      far = far-append (w.entries ++ entry.Command w.core.node c ∷ []) (entry.Cut w.core.node ∷ []) noted (a.number, tt);
+    }))
+    (λ q. rw q (record { number = a.number; far = noted })) where
+      noted : AreFar (w.entries ++ entry.Command w.core.node c ∷ [])
+      noted = far-append w.entries (entry.Command w.core.node c ∷ []) a.far (a.number, tt)
 
 does : (h : ℕ) (d : Deed) (w : Work) → IsOwn d → IsFarWork w → IsFarWork (done h d w)
 does h (Commits c) w q a = commits c w a

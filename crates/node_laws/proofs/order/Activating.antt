@@ -63,13 +63,11 @@ module _ (w : NodeWorld) (t : List Entry) (X : ℕ → WatchedLink) (a : IsWell 
       let l : Link = was.site.link in
       let b : Knows t (X h) w.controller h was.site = each h was.site was.there in
       let fine : IsFineSite was.site = site_is IsFineSite w.sites h was.site a.fine.sites was.there in
-      let P : Link → Type 0 = λ k. k.controller.side.acts ≡ [] in
       let acts : l.controller.side.acts ≡ [] =
-      subst P b.told.run.is (from_start new_line IsLine b.told.events b.told.run.allowed).good.controller.now.acts in
+      subst (λ (k : Link). k.controller.side.acts ≡ []) b.told.run.is (from_start new_line IsLine b.told.events b.told.run.allowed).good.controller.now.acts in
       let here : (was.site.host == h) ≡ true = ap (λ n. n == h) (site_host w.sites h was.site was.there) ∙ same_number h in
       let Q : Comes → Type 0 = λ c. AreEmpty (happens l (AtController (Step c (turns_at v was.site.host) (ending_of v)))) in
-      let R : Site → Type 0 = λ z. AreEmpty z.link in
-      subst R was.is
+      subst (λ (z : Site). AreEmpty z.link) was.is
       (subst (λ b. Q (cond b (Starts power) NoInput)) (sym here)
       (started_empty l power (turns_at v was.site.host) (ending_of v) fine.link.line.clf acts))
 
@@ -138,8 +136,7 @@ module _ (w : NodeWorld) (h sync : ℕ) (hosts : (s : Site) → site_at w.sites 
           let here : (s.host == h) ≡ true = ap (λ n. n == h) (site_host w.sites h s there) ∙ same_number h in
           let work : Work = host_work s r (Starts sync) begins in
           let C : Bool → Type 0 = λ b. AreUnready (changed_if b (after_site s r) s).link in
-          let S : Site → Type 0 = λ y. AreUnready y.link in
-          subst S one (subst C (sym here) (on_unready s there (turns_at work s.host) (ending_of work)))
+          subst (λ (y : Site). AreUnready y.link) one (subst C (sym here) (on_unready s there (turns_at work s.host) (ending_of work)))
 
 pub activates_each : (w : NodeWorld) (t : List Entry) (X : ℕ → WatchedLink) (h sync power : ℕ) → is_some w.controller ≡ true → IsWell w → Each t X w
     → Each (t ++ (activates w h sync power).1) (behind (Activates h sync power) X (activates w h sync power).1) (activates w h sync power).0
@@ -148,9 +145,8 @@ activates_each w t X h sync power runs a each = by_option w.controller
     (λ r e.
     let first : Each (t ++ near.1) Z near.0 = rw e (after w t X a each h (Starts power) (Start power) tt refl r e) in
     let clean : AreOpened w t X a each h power near.0 = rw e (opened_so w t X a each h power r e) in
-    let P : List Entry → Type 0 = λ z. Each z (λ k. watched k (watch_begins k (Activates h sync power) (X k)) (near.1 ++ far.1)) far.0 in
     last
-    (subst P (append_assoc t near.1 far.1)
+    (subst (λ (z : List Entry). Each z (λ k. watched k (watch_begins k (Activates h sync power) (X k)) (near.1 ++ far.1)) far.0) (append_assoc t near.1 far.1)
     (each_alike ((t ++ near.1) ++ far.1) (later Z far.1) (λ k. watched k (watch_begins k (Activates h sync power) (X k)) (near.1 ++ far.1)) far.0 alike
     (then_far first clean)))
     (host_unready near.0 h sync (λ s found. (site_is IsFineSite near.0.sites h s well.fine.sites found).link.line.uicc) (λ s found. (first h s found).far)
@@ -198,8 +194,7 @@ activates_each w t X h sync power runs a each = by_option w.controller
         by : (c : Bool) → (k == h) ≡ c → Knows (t ++ (near.1 ++ far.1)) (cond c (rewatched x) x) far.0.controller k v
         by false q = b
         by true q =
-            let P : ℕ → Type 0 = λ n. site_at far.0.sites n ≡ Some v in
-            let shut : AreUnready v.link = unready v (subst P (eqb-true k h q) found) in
+            let shut : AreUnready v.link = unready v (subst (λ (n : ℕ). site_at far.0.sites n ≡ Some v) (eqb-true k h q) found) in
             record {
               told = b.told;
               shown = record {

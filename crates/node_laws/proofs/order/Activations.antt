@@ -17,6 +17,7 @@ use Rattle.history.proofs.legal.Reading.{link_same}
 use Rattle.node_laws.specs.order.Told.{frames_on}
 use Rattle.node_laws.specs.order.Resets.{IsFreeOfLinkFrames, is_act_lpdu, is_act_read}
 use Rattle.node_laws.proofs.Cases.{by_test}
+use Rattle.node_laws.proofs.Cases.{by_test}
 use Rattle.node_laws.proofs.order.Withheld.{loses_one_on}
 
 -- ## Bytes
@@ -37,15 +38,12 @@ free_read r bytes free = go (nat_lt (length bytes) r.need) (nat_lt r.most (lengt
 row_free : (byte : ℕ) (rows : List LpduRow) → AllByRecursion (IsFree byte) rows → (bytes : List ℕ)
     → is_act_read (read_by (find (λ (r : LpduRow). is_within r.first r.last byte) rows) bytes) ≡ false
 row_free byte [] a bytes = refl
-row_free byte (r ∷ rows) a bytes = go (is_within r.first r.last byte) refl (row_free byte rows a.1 bytes) where
-  go : (b : Bool) → is_within r.first r.last byte ≡ b
-      → is_act_read (read_by (find (λ (x : LpduRow). is_within x.first x.last byte) rows) bytes) ≡ false
-      → is_act_read (read_by (find (λ (x : LpduRow). is_within x.first x.last byte) (r ∷ rows)) bytes) ≡ false
-  go false q later = rw q later
-  go true q later = rw q (by a.0) where
-    by : IsFree byte r → is_act_read (read_by (Some r) bytes) ≡ false
-    by (inl other) = absurd (true≢false (sym q ∙ other))
-    by (inr free) = free_read r bytes (free bytes)
+row_free byte (r ∷ rows) a bytes = by_test (is_within r.first r.last byte)
+    (λ q. rw q (by q a.0))
+    (λ q. rw q (row_free byte rows a.1 bytes)) where
+      by : is_within r.first r.last byte ≡ true → IsFree byte r → is_act_read (read_by (Some r) bytes) ≡ false
+      by q (inl other) = absurd (true≢false (sym q ∙ other))
+      by q (inr free) = free_read r bytes (free bytes)
 
 low_row : (low high n : ℕ) → high < n → is_within low high n ≡ false
 low_row low high n less = go (nat_le low n) (nat_le n high) refl where

@@ -409,18 +409,16 @@ frame_acted who l ts ending order a = go l.to_controller refl
     go [] q =
         let none : u ≡ [] = rw q refl in
         let same : m ≡ l = rw q refl in
-        let Q : List Noted → Type 0 = λ z. Acted who l l z in
-        subst P (sym same) (subst Q (sym none) (record { here = refl; there = λ b. refl }))
+        subst P (sym same) (subst (λ (z : List Noted). Acted who l l z) (sym none) (record { here = refl; there = λ b. refl }))
     go (x ∷ xs) q =
         let some : u ≡ taken_entries who l x xs ts ending = rw q refl in
         let next : m ≡ has_taken l x xs ts ending = rw q refl in
-        let Q : List Noted → Type 0 = λ z. Acted who l (has_taken l x xs ts ending) z in
         let W : List OnWire → Type 0 = λ w. ActsInOrder l.controller.side.role l.host.side.role w l.to_host in
         let so : BecomesSo l.controller.side (Take x.frame) (acts l.controller) =
         takes_so l.controller.side l.host.side.role x xs l.to_host (subst W q order) in
         let k : Link = left_after l x xs in
         let number : ℕ = took_with l.controller.took x in
-        subst P (sym next) (subst Q (sym some) (record {
+        subst P (sym next) (subst (λ (z : List Noted). Acted who l (has_taken l x xs ts ending) z) (sym some) (record {
           here = input_acted who l k number (Take x.frame) ts ending (acts l.controller) so a;
           there = input_beside who l k number (Take x.frame) ts ending;
         }))
@@ -504,8 +502,7 @@ event_acted l (Ticks c es h) can near far_order a b =
     let k : Link = ticks_at_controller (aged l) c.turns c.ending in
     let m : Link = all_at_controller k es in
     let more = all_acted es k can.1 (lined_tick (aged l) c.turns c.ending a) in
-    let H : NumberedEnd → Type 0 = λ x. HasLine x.side in
-    let host : HasLine m.host.side = subst H (sym (more.2 ∙ ticks_host (aged l) c.turns c.ending)) b in
+    let host : HasLine m.host.side = subst (λ (x : NumberedEnd). HasLine x.side) (sym (more.2 ∙ ticks_host (aged l) c.turns c.ending)) b in
     aged_both l (happens l (Ticks c es h)) _
     (both_then (aged l) k (happens l (Ticks c es h)) (tick_entries Controller (aged l) c) _
     (near_both (aged l) k (tick_entries Controller (aged l) c) (ticks_host (aged l) c.turns c.ending) (tick_acted Controller (aged l) c a))
@@ -513,8 +510,7 @@ event_acted l (Ticks c es h) can near far_order a b =
 event_acted l (TicksWithout es h) can near far_order a b =
     let m : Link = all_at_controller (aged l) es in
     let more = all_acted es (aged l) can.1 a in
-    let H : NumberedEnd → Type 0 = λ x. HasLine x.side in
-    let host : HasLine m.host.side = subst H (sym more.2) b in
+    let host : HasLine m.host.side = subst (λ (x : NumberedEnd). HasLine x.side) (sym more.2) b in
     aged_both l (happens l (TicksWithout es h)) _
     (both_then (aged l) m (happens l (TicksWithout es h)) (entries_of_events Controller (aged l) es) (tick_entries Host (exchanged m) h) more.0
     (host_tick_both m h host))
@@ -522,8 +518,7 @@ event_acted l (Activate power c id h) can near far_order a b =
     let x : EndEvent = Step (Starts power) c.turns c.ending in
     let y : EndEvent = Step (Starts id) h.turns h.ending in
     let k : Link = happens_at_controller l x in
-    let H : NumberedEnd → Type 0 = λ z. HasLine z.side in
-    let host : HasLine k.host.side = subst H (sym (here_host l x)) b in
+    let host : HasLine k.host.side = subst (λ (z : NumberedEnd). HasLine z.side) (sym (here_host l x)) b in
     both_then l k (happens l (Activate power c id h)) (here_entries Controller l x) (here_entries Host (exchanged k) y)
     (near_both l k (here_entries Controller l x) (here_host l x) (own_acted Controller l x tt a))
     (far_both k (happens_at_controller (exchanged k) y) (here_entries Host (exchanged k) y) (here_host (exchanged k) y)

@@ -53,8 +53,7 @@ behind_push (x ∷ os) o w = behind_push os o (world_step w x.cause).0
 
 done_push : (os : List Occurrence) (w v : NodeWorld) (c : Happening) → v ≡ world_behind w os → MayBeAsked v c → AreDone w os → AreDone w (os ++ occurs v c ∷ [])
 done_push [] w v c is may a =
-    let P : NodeWorld → Type 0 = λ z. ((world_step v c).1 ≡ (world_step z c).1) × MayBeAsked z c in
-    (subst P is (refl, may), tt)
+    (subst (λ (z : NodeWorld). ((world_step v c).1 ≡ (world_step z c).1) × MayBeAsked z c) is (refl, may), tt)
 done_push (o ∷ os) w v c is may a = (a.0, done_push os (world_step w o.cause).0 v c is may a.1)
 
 pub done_back : (xs ys : List Occurrence) (w : NodeWorld) → AreDone w (xs ++ ys) → AreDone (world_behind w xs) ys

@@ -135,8 +135,7 @@ module _ (w : NodeWorld) (t : List Entry) (X : ℕ → WatchedLink) (a : IsWell 
               (shaped_step Controller s.link here (turns_at v s.host) (ending_of v) (cond (s.host == k) (Some i) None) (arrives (s.host == k) refl)
               (is_so (s.host == k))));
           near = off v.cut refl fine.link.line.clf;
-          far = let F : LinkEnd → Type 0 = IfOff s.node (new_link_end (Uicc new_uicc)) in
-              subst F (sym (near_side s.link (Step here (turns_at v s.host) (ending_of v)))) b.far;
+          far = subst (IfOff s.node (new_link_end (Uicc new_uicc))) (sym (near_side s.link (Step here (turns_at v s.host) (ending_of v)))) b.far;
           none = b.none;
         }
       where
@@ -280,8 +279,7 @@ module _ (w : NodeWorld) (t : List Entry) (X : ℕ → WatchedLink) (a : IsWell 
       (λ n. rw (there, n) (each_empty t X w each))
       (λ r n.
       let u : List Entry = (host_does w k comes f).1 in
-      let Q : NodeWorld → Type 0 = λ z. Each (t ++ u) (later X u) z in
-      subst Q (sym (on_is s r there n))
+      subst (λ (z : NodeWorld). Each (t ++ u) (later X u) z) (sym (on_is s r there n))
       (each_site w w.memory w.controller t u X k (after_host comes (host_work s r comes f)) (λ x. refl) (λ h x b. b)
       (λ x found b.
       let same : Some s ≡ Some x = sym there ∙ found in

@@ -93,8 +93,7 @@ all_keeps n kf es l a h s (inl j) =
     inl (subst (λ (z : Seen). Jumps n Controller z) (all_seen Controller es l) (all_jump n Controller (entries_of_events Controller l es) (kept l) j))
 all_keeps n kf es l a h s (inr p) =
     let all = all_step kf l es a h s in
-    let P : CoreLink → Type 0 = λ c. IsPast n c.controller in
-    inr (subst P (sym all.step.core) (turns_past n kf (core_all l es) (core_of l) all.turns s p))
+    inr (subst (λ (c : CoreLink). IsPast n c.controller) (sym all.step.core) (turns_past n kf (core_all l es) (core_of l) all.turns s p))
 
 all_silenced : (n kf : ℕ) (es : List EndEvent) (l : Link) → AreOwn l es → Tells l.controller → SafeLink 0 kf (core_of l) → n ≤ l.resets
     → Hears silences (entries_of_events Controller l es) → IsGone n Controller (all_at_controller l es)
@@ -128,8 +127,7 @@ tick_keeps n m node (inr p) =
     let b : Bool = is_some (ended_by m.host.side HasTick) in
     let same : (ticks_at_controller (exchanged m) node.turns node.ending).host ≡ m.controller =
     host_finished (with_ended (exchanged m) b) (turned (after_input m.host.side HasTick) node.turns) node.ending ∙ ended_host (exchanged m) b in
-    let P : NumberedEnd → Type 0 = λ z. IsPast n (core_end z) in
-    inr (subst P (sym same) p)
+    inr (subst (λ (z : NumberedEnd). IsPast n (core_end z)) (sym same) p)
 
 tick_gone : (n : ℕ) (who : End) (l : Link) (node : Node) → IsNode l node.turns node.ending → l.controller.emitted ≤ l.resets → n ≤ l.resets
     → Hears silences (tick_entries who l node) → IsGone n who (ticks_at_controller l node.turns node.ending)
@@ -201,8 +199,7 @@ event_silenced n l (TicksWithout es h) a g r i q =
     let s0 = safe_aged (core_of l) (safe_reached (core_of l) r) in
     let near : Link = aged l in
     let same : core_ticks_if_waiting (core_aged (core_of l)) ≡ core_of near = rw a.0 refl in
-    let P : CoreLink → Type 0 = λ d. SafeLink 0 1 d in
-    let near_safe : SafeLink 0 1 (core_of near) = subst P same (tick_if_waiting 1 (core_aged (core_of l)) s0) in
+    let near_safe : SafeLink 0 1 (core_of near) = subst (λ (d : CoreLink). SafeLink 0 1 d) same (tick_if_waiting 1 (core_aged (core_of l)) s0) in
     let aged_near : List Entry = aged_entries Controller l.to_controller in
     let aged_far : List Entry = aged_entries Host l.to_host in
     let ds : List Entry = entries_of_events Controller near es in
@@ -237,8 +234,7 @@ event_keeps n l e a g r seen (inl (inr p)) =
     inl (inr (subst P (sym st.core) (near_past n (core_event l e) (core_of l) st.allowed (safe_reached (core_of l) r) p)))
 event_keeps n l e a g r seen (inr (inr p)) =
     let st = event_step l e a g r in
-    let P : CoreLink → Type 0 = λ c. IsPast n c.host in
-    inr (inr (subst P (sym st.core) (far_past n (core_event l e) (core_of l) st.allowed (safe_reached (core_of l) r) p)))
+    inr (inr (subst (λ (c : CoreLink). IsPast n c.host) (sym st.core) (far_past n (core_event l e) (core_of l) st.allowed (safe_reached (core_of l) r) p)))
 
 -- ## An event in which an end comes up with the number
 
@@ -362,9 +358,8 @@ event_begins n l (AtController e) a g r q =
 event_begins n l (AtHost e) a g r q =
     let m : Link = happens_at_controller (exchanged l) e in
     let st = event_step l (AtHost e) a g r in
-    let P : CoreLink → Type 0 = λ c. SafeLink 0 0 c in
     let safe : SafeLink 0 0 (core_of (exchanged m)) =
-    subst P (sym st.core) (safe_reached _ (reached_more (core_of l) (core_event l (AtHost e)) st.allowed r)) in
+    subst (λ (c : CoreLink). SafeLink 0 0 c) (sym st.core) (safe_reached _ (reached_more (core_of l) (core_event l (AtHost e)) st.allowed r)) in
     let i : n ≤ number_of m.controller = here_begins n Host (exchanged l) e (safe_reached (core_of l) r).hand.f_bound q in
     let x = safe.hand.n_bound in
     let y = safe.hand.f_took in

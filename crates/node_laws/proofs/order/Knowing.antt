@@ -118,15 +118,13 @@ pub cut_clf : (l : Link) (comes : Comes) (ts : List Turn) (o : Option LinkInput)
     → (happens_at_controller l (Step comes ts CutOff)).controller.side ≡ new_link_end (Clf new_clf)
 cut_clf l comes ts o q c a =
     let z = cut_new l comes ts o q c in
-    let P : LinkEnd → Type 0 = λ e. IsClf e.role in
-    z.is ∙ renewed_clf z.role (subst P z.is (here_clf l (Step comes ts CutOff) a))
+    z.is ∙ renewed_clf z.role (subst (λ (e : LinkEnd). IsClf e.role) z.is (here_clf l (Step comes ts CutOff) a))
 
 pub cut_uicc : (l : Link) (comes : Comes) (ts : List Turn) (o : Option LinkInput) → input_of l comes ≡ o → IsStep comes o → IsUicc l.controller.side.role
     → (happens_at_controller l (Step comes ts CutOff)).controller.side ≡ new_link_end (Uicc new_uicc)
 cut_uicc l comes ts o q c a =
     let z = cut_new l comes ts o q c in
-    let P : LinkEnd → Type 0 = λ e. IsUicc e.role in
-    z.is ∙ renewed_uicc z.role (subst P z.is (here_uicc l (Step comes ts CutOff) a))
+    z.is ∙ renewed_uicc z.role (subst (λ (e : LinkEnd). IsUicc e.role) z.is (here_uicc l (Step comes ts CutOff) a))
 
 -- ## Worlds
 
@@ -172,8 +170,7 @@ each_empty t X w a =
 
 pub each_back : (t : List Entry) (X : ℕ → WatchedLink) (w : NodeWorld) → Each (t ++ []) (later X []) w → Each t X w
 each_back t X w a =
-    let P : List Entry → Type 0 = λ z. Each z X w in
-    subst P (append-nil t) (each_known (t ++ []) (later X []) X w (λ h. refl) (λ h q. rw q refl) (λ h q. q) a)
+    subst (λ (z : List Entry). Each z X w) (append-nil t) (each_known (t ++ []) (later X []) X w (λ h. refl) (λ h q. rw q refl) (λ h q. q) a)
 
 pub each_alike : (t : List Entry) (X Y : ℕ → WatchedLink) (w : NodeWorld) → ((h : ℕ) → X h ≡ Y h) → Each t X w → Each t Y w
 each_alike t X Y w same a h s found = subst (λ x. Knows t x w.controller h s) (same h) (a h s found)
@@ -198,8 +195,7 @@ module _ (w : NodeWorld) (memory : Memory) (o : Option Running) (t u : List Entr
       → Each (t ++ u) Y (record { memory = memory; controller = o; sites = map f w.sites })
   each_map Y f keeps one a h v q =
       let was = was_there f keeps w.sites h v q in
-      let P : Site → Type 0 = λ s. Knows (t ++ u) (Y h) o h s in
-      subst P was.is (one h was.site was.there (a h was.site was.there))
+      subst (λ (s : Site). Knows (t ++ u) (Y h) o h s) was.is (one h was.site was.there (a h was.site was.there))
 
   changed_host : (b : Bool) (g : Site → Site) (s : Site) → (g s).host ≡ s.host → (changed_if b g s).host ≡ s.host
   changed_host true g s q = q
@@ -220,9 +216,8 @@ module _ (w : NodeWorld) (memory : Memory) (o : Option Running) (t u : List Entr
           → Knows (t ++ u) (later X u h) o h (changed_if b g s)
       go h s found b true q =
           let is : k ≡ h = sym (eqb-true s.host k q) ∙ site_host w.sites h s found in
-          let P : ℕ → Type 0 = λ n. Knows (t ++ u) (later X u n) o n (g s) in
           let Q : ℕ → Type 0 = λ n. Knows t (X n) w.controller n s in
-          subst P is (own s (ap (site_at w.sites) is ∙ found) (subst Q (sym is) b))
+          subst (λ (n : ℕ). Knows (t ++ u) (later X u n) o n (g s)) is (own s (ap (site_at w.sites) is ∙ found) (subst Q (sym is) b))
       go h s found b false q =
           let leave : LeaveLink h u = others h (swapped h k (ap (λ n. n == k) (sym (site_host w.sites h s found)) ∙ q)) in
           record {

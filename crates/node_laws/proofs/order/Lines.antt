@@ -107,12 +107,11 @@ module _ (known : ℕ → Bool) (hosts : List ℕ) where
       let stands : (h : ℕ) → standing_behind h (os ++ occurs w c ∷ []) ≡ as_event_ends h c (standing h (as_event_begins h c (standing_behind h os)) u) = λ h.
       fold-append (λ (x : Standing) (o : Occurrence). as_event_ends h o.cause (standing h (as_event_begins h o.cause x) o.entries)) new_standing os
       (occurs w c ∷ []) in
-      let E : List Entry → Type 0 = λ z. Each z (watches known (os ++ occurs w c ∷ [])) v in
       record {
         hosts_are = step_kept w c ∙ a.hosts_are;
         well = record { orderly = step_orderly w c a.well.orderly; fine = step_fine w c m a.well.fine };
         up = event_up w c a.well.orderly a.up;
-        each = subst E more
+        each = subst (λ (z : List Entry). Each z (watches known (os ++ occurs w c ∷ [])) v) more
             (each_known (entries_in os ++ u) (behind c (watches known os) u) (watches known (os ++ occurs w c ∷ [])) v
             (λ h. stands h
             ∙ (ap (λ x. as_event_ends h c (standing h x u)) (sym (watch_begins_stands h c (watches known os h)))
@@ -164,8 +163,7 @@ new_each content [] h s q = absurd (cc q)
 new_each content (k ∷ hosts) h s q = by_test (k == h)
     (λ e. let is : Some (new_site content k) ≡ Some s = rw e at q in
     let one : new_site content k ≡ s = cc in
-    let P : Site → Type 0 = λ z. Knows [] new_watch None h z in
-    subst P one (record {
+    subst (λ (z : Site). Knows [] new_watch None h z) one (record {
       told = record { events = []; run = record { allowed = tt; is = refl }; told = refl; stands = refl; stands_from = λ x. refl };
       shown = record {
         wires = record { to_controller = refl; to_host = refl };

@@ -201,8 +201,7 @@ safe_marked kn kf p q l bp bq up uq h =
           (mine (shdlc_number_of f)) h.f_live;
       n_past = let P : ℕ → Type 0 = λ b. Below b (l.controller.past ++ p) in
           subst P (sym (bound_below p l.controller)) (below_both (bound l.controller) l.controller.past p h.n_past up);
-      f_past = let P : ℕ → Type 0 = λ b. Below b (l.host.past ++ q) in
-          subst P (sym (bound_below q l.host)) (below_both (bound l.host) l.host.past q h.f_past uq);
+      f_past = subst (λ (b : ℕ). Below b (l.host.past ++ q)) (sym (bound_below q l.host)) (below_both (bound l.host) l.host.past q h.f_past uq);
       n_none = h.n_none;
       f_none = h.f_none;
       n_due = h.n_due;
@@ -231,13 +230,11 @@ safe_marked kn kf p q l bp bq up uq h =
 
 pub near_bound : (kn kf : ℕ) (p q : List (ℕ × Session)) (l : ShdlcLink) → SafeLink kn kf (marked p q l) → Below (bound l.controller) p
 near_bound kn kf p q l h =
-    let P : ℕ → Type 0 = λ b. Below b (l.controller.past ++ p) in
-    below_right (bound l.controller) l.controller.past p (subst P (bound_below p l.controller) h.n_past)
+    below_right (bound l.controller) l.controller.past p (subst (λ (b : ℕ). Below b (l.controller.past ++ p)) (bound_below p l.controller) h.n_past)
 
 pub far_bound : (kn kf : ℕ) (p q : List (ℕ × Session)) (l : ShdlcLink) → SafeLink kn kf (marked p q l) → Below (bound l.host) q
 far_bound kn kf p q l h =
-    let P : ℕ → Type 0 = λ b. Below b (l.host.past ++ q) in
-    below_right (bound l.host) l.host.past q (subst P (bound_below q l.host) h.f_past)
+    below_right (bound l.host) l.host.past q (subst (λ (b : ℕ). Below b (l.host.past ++ q)) (bound_below q l.host) h.f_past)
 
 -- ## What is past stays so
 
@@ -261,8 +258,7 @@ events_safe : (p q : List (ℕ × Session)) (es : List ShdlcLinkEvent) (l : Shdl
 events_safe p q [] l a s = s
 events_safe p q (e ∷ es) l a s =
     let r = safe_event (marked p q l) e es a s in
-    let P : ShdlcLink → Type 0 = λ k. SafeLink 0 0 k in
-    events_safe p q es (shdlc_happens l e) r.1 (subst P (event_marked p q l e) r.0)
+    events_safe p q es (shdlc_happens l e) r.1 (subst (λ (k : ShdlcLink). SafeLink 0 0 k) (event_marked p q l e) r.0)
 
 -- as things happen on the link
 pub near_past : (n : ℕ) (es : List ShdlcLinkEvent) (l : ShdlcLink) → AllShdlcAllowed es → SafeLink 0 0 l → IsPast n l.controller

@@ -44,16 +44,10 @@ filter_kept {Y} g none h e q (x ∷ t) = by_test (tells_of h x)
 acked_kept : (n : ℕ) (h : ℕ) (e : End) → e.link ≡ h → (t : List Entry) (before : ℕ)
     → fold (λ before x. acked_after n before (said_of e x)) before t ≡ fold (λ before x. acked_after n before (said_of e x)) before (of_link h t)
 acked_kept n h e q [] before = refl
-acked_kept n h e q (x ∷ t) before = go (tells_of h x) refl (acked_kept n h e q t)
-  where
-    more : ℕ → List Entry → ℕ
-    more b t = fold (λ before x. acked_after n before (said_of e x)) b t
-
-    go : (b : Bool) → tells_of h x ≡ b → ((b : ℕ) → more b t ≡ more b (of_link h t)) → more before (x ∷ t) ≡ more before (of_link h (x ∷ t))
-    go true r later = rw r (later (acked_after n before (said_of e x)))
-    go false r later =
-        let off : acked_after n before (said_of e x) ≡ before = ap (acked_after n before) (unheard h e (said x) q (untold h x r)) in
-        rw r (ap (λ b. more b t) off ∙ later before)
+acked_kept n h e q (x ∷ t) before = by_test (tells_of h x)
+    (λ r. rw r (acked_kept n h e q t (acked_after n before (said_of e x))))
+    (λ r. let off : acked_after n before (said_of e x) ≡ before = ap (acked_after n before) (unheard h e (said x) q (untold h x r)) in
+    rw r (ap (λ b. fold (λ before x. acked_after n before (said_of e x)) b t) off ∙ acked_kept n h e q t before))
 
 -- where the entries of its link are alike, so is what is read of an end
 pub sent_alike : (t v : List Entry) (e : End) (n : ℕ) → of_link e.link t ≡ of_link e.link v → sent_in t e n ≡ sent_in v e n
@@ -96,8 +90,7 @@ at_moment h l t front back a q e n is =
     let p : List Noted = parts.0 in
     let order : (who : Side) (n : ℕ) → InOrderIn p who n = at_each_moment new_line IsLine a.events a.run.allowed p parts.1 in
     let same : of_link h front ≡ of_link h (entries_for h p) = parts.2 ∙ sym (of_flat h p) in
-    let P : ℕ → Type 0 = λ k. of_link k front ≡ of_link k (entries_for h p) in
-    end_alike front (entries_for h p) e n (subst P (sym is) same) (order_at h p order e n)
+    end_alike front (entries_for h p) e n (subst (λ (k : ℕ). of_link k front ≡ of_link k (entries_for h p)) (sym is) same) (order_at h p order e n)
 
 -- a moment of an end of which nothing was noted
 pub at_none : (t front back : List Entry) (e : End) (n : ℕ) → of_link e.link t ≡ [] → t ≡ front ++ back → AtEnd front e n
@@ -113,15 +106,13 @@ at_none t front back e n none q =
 
 none_filtered : (p q : Entry → Bool) (xs : List Entry) → list_any p xs ≡ false → list_any p (filter q xs) ≡ false
 none_filtered p q [] a = refl
-none_filtered p q (x ∷ xs) a = go (q x) refl (none_filtered p q xs (or_right (p x) (list_any p xs) a))
+none_filtered p q (x ∷ xs) a = by_test (q x)
+    (λ r. rw r (both (p x) a (none_filtered p q xs (or_right (p x) (list_any p xs) a))))
+    (λ r. rw r (none_filtered p q xs (or_right (p x) (list_any p xs) a)))
   where
-    go : (b : Bool) → q x ≡ b → list_any p (filter q xs) ≡ false → list_any p (filter q (x ∷ xs)) ≡ false
-    go true r later = rw r (both (p x) a later)
-      where
-        both : (c : Bool) → (c || list_any p xs) ≡ false → list_any p (filter q xs) ≡ false → (c || list_any p (filter q xs)) ≡ false
-        both true e z = e
-        both false e z = z
-    go false r later = rw r later
+    both : (c : Bool) → (c || list_any p xs) ≡ false → list_any p (filter q xs) ≡ false → (c || list_any p (filter q xs)) ≡ false
+    both true e z = e
+    both false e z = z
 
 pub told_chains : (h : ℕ) (l : Link) (t : List Entry) → IsLinkTold h l t → list_any is_chain_fault (of_link h t) ≡ false
 told_chains h l t a =

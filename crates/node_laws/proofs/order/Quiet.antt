@@ -73,9 +73,8 @@ module _ (h : ℕ) (l : Link) (t : List Entry) (a : IsLinkTold h l t) where
 
   pub far_now : l.controller.side.shdlc.phase ≡ Up → l.host.side.shdlc.phase ≡ Up → IsReadOff t (end_h h) (number_of l.controller) (talk_now l.host.side)
   far_now near up =
-      let P : Talk → Type 0 = λ k. IsReadOff t (end_h h) (number_of l.host) k in
       let Q : ℕ → Type 0 = λ n. IsReadOff t (end_h h) n (talk_now l.host.side) in
-      subst Q (sym (numbers near up)) (subst P (talk_up l.host up) (read_host (number_of l.host)))
+      subst Q (sym (numbers near up)) (subst (λ (k : Talk). IsReadOff t (end_h h) (number_of l.host) k) (talk_up l.host up) (read_host (number_of l.host)))
 
   module _ (host : (h == 0) ≡ false) where
     -- what is read of both ends says that they are up, and the number
@@ -103,8 +102,7 @@ module _ (h : ℕ) (l : Link) (t : List Entry) (a : IsLinkTold h l t) where
           let near = near_now q.controller in
           let far = far_now q.controller q.host in
           let all : AllDelivered (talk_now l.controller.side) (talk_now l.host.side) = delivers_to_host l events r q in
-          let P : ℕ → Type 0 = λ m. IsDelivered t (end_c h) m in
-          subst P (up_near n u).1 (record {
+          subst (λ (m : ℕ). IsDelivered t (end_c h) m) (up_near n u).1 (record {
             got = far.got ∙ (all.got ∙ ap good_of (sym near.sent));
             acked = near.acked ∙ (all.acked ∙ ap (λ (ms : List Message). length ms) (sym near.sent));
           });
@@ -113,8 +111,7 @@ module _ (h : ℕ) (l : Link) (t : List Entry) (a : IsLinkTold h l t) where
           let near = near_now q.controller in
           let far = far_now q.controller q.host in
           let all : AllDelivered (talk_now l.host.side) (talk_now l.controller.side) = delivers_to_controller l events r q in
-          let P : ℕ → Type 0 = λ m. IsDelivered t (end_h h) m in
-          subst P (up_near n u).1 (record {
+          subst (λ (m : ℕ). IsDelivered t (end_h h) m) (up_near n u).1 (record {
             got = near.got ∙ (all.got ∙ ap good_of (sym far.sent));
             acked = far.acked ∙ (all.acked ∙ ap (λ (ms : List Message). length ms) (sym far.sent));
           });

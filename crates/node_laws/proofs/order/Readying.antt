@@ -100,8 +100,7 @@ module _ (f : Bool → List Noted → Bool) (parts : (b : Bool) (t u : List Note
       let next : IsRunOf (es ++ e ∷ []) (happens l e) = run_of_more es l e can run in
       let before : f false (entries new_line es) ≡ R m = law es run.allowed in
       let behind : f false (entries new_line (es ++ e ∷ [])) ≡ R (happens m e) = law (es ++ e ∷ []) next.allowed ∙ ap R (after-append es (e ∷ []) new_line) in
-      let P : Link → Type 0 = λ k. f (R k) (event_entries k e) ≡ R (happens k e) in
-      subst P run.is
+      subst (λ (k : Link). f (R k) (event_entries k e) ≡ R (happens k e)) run.is
       (ap (f (R m)) (sym (append-nil (event_entries m e)))
       ∙ (ap (λ b. f b (entries m (e ∷ []))) (sym before)
       ∙ (sym (parts false (entries new_line es) (entries m (e ∷ [])))

@@ -112,8 +112,7 @@ module _ (w : NodeWorld) (t : List Entry) (X : ℕ → WatchedLink) (a : IsWell 
           let T : Bool → Type 0 = λ b. IsStepOf k z.link (E b) u → IsSince (happens z.link (E b)) in
           let F : Site → Type 0 = λ y. FindsReady y.link in
           let law : T true = λ n. near_reset k z.link window ts u told.events told.run powered (ending_of work) n (subst F one ready) in
-          let S : Site → Type 0 = λ y. IsSince y.link in
-          subst S was.is (subst T (sym here) law (near_step w t X a each k comes (Reset window) may refl r e k z was.there))
+          subst (λ (y : Site). IsSince y.link) was.is (subst T (sym here) law (near_step w t X a each k comes (Reset window) may refl r e k z was.there))
 
   -- at the host's
   far_so : FindsReady (exchanged s.link) → is_some s.node ≡ true → HasReset (world_step w (Resets (side true) window))

@@ -38,6 +38,7 @@ use Rattle.link_laws.specs.entries.Entries.Entry.{Up, Down, Active, GaveUp, Acke
 use Rattle.link_laws.proofs.entries.Noting.{turned_same, reset_role, restart_can, tick_can}
 use Rattle.link_laws.proofs.entries.Sparing.{silences}
 use Rattle.node_laws.proofs.Cases.{by_list, by_test}
+use Rattle.node_laws.proofs.Cases.{by_test}
 
 -- ## What is noted of a step
 
@@ -61,15 +62,11 @@ module _ (f : Entry → Bool) where
 
   pub hears_parts : (t u : List Entry) → Hears (t ++ u) → Hears t ⊎ Hears u
   hears_parts [] u q = inr q
-  hears_parts (e ∷ t) u q = go (f e) refl (hears_parts t u)
+  hears_parts (e ∷ t) u q = by_test (f e) (λ p. inl (rw p refl)) (λ p. with p (hears_parts t u (let z = q in rw p at z)))
     where
-      go : (b : Bool) → f e ≡ b → (Hears (t ++ u) → Hears t ⊎ Hears u) → Hears (e ∷ t) ⊎ Hears u
-      go true p later = inl (rw p refl)
-      go false p later = with (later (let z = q in rw p at z))
-        where
-          with : Hears t ⊎ Hears u → Hears (e ∷ t) ⊎ Hears u
-          with (inl x) = inl (rw p x)
-          with (inr x) = inr x
+      with : f e ≡ false → Hears t ⊎ Hears u → Hears (e ∷ t) ⊎ Hears u
+      with p (inl x) = inl (rw p x)
+      with p (inr x) = inr x
 
   module _ (deaf : IsDeaf f) where
     none_so : (b : Bool) (e : Entry) → f e ≡ false → Hears (if_so b e) → ⊥
@@ -369,12 +366,8 @@ module _ (f : Entry → Bool) (mute : HearsNone f) where
       (hears_parts f (step_entries Controller l (Starts power) c.turns c.ending) (step_entries Host k (Starts id) h.turns h.ending) q))
 
   pub events_mute : (es : List LinkEvent) (l : Link) → list_any f (entries l es) ≡ false
-  events_mute es l = go (list_any f (entries l es)) refl
+  events_mute es l = by_test (list_any f (entries l es)) (λ q. absurd (all es l q)) (λ q. q)
     where
-      go : (b : Bool) → list_any f (entries l es) ≡ b → list_any f (entries l es) ≡ false
-      go false q = q
-      go true q = absurd (all es l q)
-        where
-          all : (es : List LinkEvent) (l : Link) → Hears f (entries l es) → ⊥
-          all [] l q = true≢false (sym q)
-          all (e ∷ es) l q = all es (happens l e) (none f mute.deaf (event_mute l e) (hears_parts f (event_entries l e) (entries (happens l e) es) q))
+      all : (es : List LinkEvent) (l : Link) → Hears f (entries l es) → ⊥
+      all [] l q = true≢false (sym q)
+      all (e ∷ es) l q = all es (happens l e) (none f mute.deaf (event_mute l e) (hears_parts f (event_entries l e) (entries (happens l e) es) q))

@@ -37,14 +37,9 @@ since_later n (e ∷ t) u h = by_test (begins n e) (λ q. absurd (true≢false (
 -- what is heard since then is heard, and an end came up
 since_hears : (n : ℕ) (u : List Entry) → Hears silences (since n u) → Hears (begins n) u × Hears silences u
 since_hears n [] q = absurd (true≢false (sym q))
-since_hears n (e ∷ u) q = go (begins n e) (silences e) refl refl (since_hears n u)
-  where
-    go : (b c : Bool) → begins n e ≡ b → silences e ≡ c → (Hears silences (since n u) → Hears (begins n) u × Hears silences u)
-        → Hears (begins n) (e ∷ u) × Hears silences (e ∷ u)
-    go true true p s later = (rw p refl, rw s refl)
-    go true false p s later = (rw p refl, rw s (let z = q in rw p at z))
-    go false true p s later = (rw p (later (let z = q in rw p at z)).0, rw s refl)
-    go false false p s later = let x = later (let z = q in rw p at z) in (rw p x.0, rw s x.1)
+since_hears n (e ∷ u) q = by_test (begins n e)
+    (λ p. by_test (silences e) (λ s. (rw p refl, rw s refl)) (λ s. (rw p refl, rw s (let z = q in rw p at z))))
+    (λ p. let x = since_hears n u (let z = q in rw p at z) in by_test (silences e) (λ s. (rw p x.0, rw s refl)) (λ s. (rw p x.0, rw s x.1)))
 
 -- ## Along a run
 
@@ -116,13 +111,10 @@ watched_all n (e ∷ es) before a g r w =
     let is : after_link_events new_line one ≡ m = after-append before (e ∷ []) new_line in
     let noted : entries new_line one ≡ entries new_line before ++ event_entries l e =
     entries-append before (e ∷ []) new_line ∙ ap (λ z. entries new_line before ++ z) (append-nil (event_entries l e)) in
-    let P : Link → Type 0 = λ z. AllAllowed z es in
     let Q : Link → Type 0 = λ z. Reached (core_of z) in
-    let R : List Entry → Type 0 = λ z. Watched n z m in
-    let S : Link → Type 0 = λ z. Watched n (entries new_line one) z in
-    let now : At n one = subst S (sym is) (subst R (sym noted) more) in
+    let now : At n one = subst (λ (z : Link). Watched n (entries new_line one) z) (sym is) (subst (λ (z : List Entry). Watched n z m) (sym noted) more) in
     subst (At n) (append_assoc before (e ∷ []) es)
-    (watched_all n es one (subst P (sym is) a.1) (subst Good (sym is) st.good) (subst Q (sym is) next) now)
+    (watched_all n es one (subst (λ (z : Link). AllAllowed z es) (sym is) a.1) (subst Good (sym is) st.good) (subst Q (sym is) next) now)
 
 watched : (n : ℕ) (es : List LinkEvent) → AllAllowed new_line es → At n es
 watched n es a =

@@ -35,6 +35,7 @@ use Rattle.node_machine.specs.world.NodeHistories.{FollowsNodes, NodeHistory, en
 use Rattle.node_laws.specs.links.Runs.{ArePlayable, new_line}
 use Rattle.node_laws.specs.telling.Telling.{is_of, tells_of, of_link, hosts_in, world_behind}
 use Rattle.node_laws.proofs.Cases.{by_option, by_test}
+use Rattle.node_laws.proofs.Cases.{by_test}
 use Rattle.node_laws.proofs.telling.Accounts.{untold}
 use Rattle.node_laws.specs.order.Told.{IsLinkTold, AreWiresRead, IsStillInSession, HasDeliveredAll}
 use Rattle.node_laws.proofs.order.Prefix.{sent_alike, got_alike, acked_alike}
@@ -65,13 +66,9 @@ module _ (h : ℕ) where
 
   since_of : (n : ℕ) (t : List Entry) → of_link h (since_up h n t) ≡ since_up h n (of_link h t)
   since_of n [] = refl
-  since_of n (x ∷ t) = go (tells_of h x) (begins_on h n (said x)) refl refl (since_of n t)
-    where
-      go : (b c : Bool) → tells_of h x ≡ b → begins_on h n (said x) ≡ c → of_link h (since_up h n t) ≡ since_up h n (of_link h t)
-          → of_link h (since_up h n (x ∷ t)) ≡ since_up h n (of_link h (x ∷ t))
-      go true true p q later = rw (p, q) refl
-      go true false p q later = rw (p, q) later
-      go false c p q later = let z = begins_of n (said x) (untold h x p) in rw (p, z) later
+  since_of n (x ∷ t) = by_test (tells_of h x)
+      (λ p. by_test (begins_on h n (said x)) (λ q. rw (p, q) refl) (λ q. rw (p, q) (since_of n t)))
+      (λ p. let z = begins_of n (said x) (untold h x p) in rw (p, z) (since_of n t))
 
   any_of : (f : Option (End × Saying) → Bool) → ((o : Option (End × Saying)) → is_of h o ≡ false → f o ≡ false) → (t : List Entry)
       → list_any (λ x. f (said x)) t ≡ list_any (λ x. f (said x)) (of_link h t)
@@ -134,10 +131,8 @@ module _ (h : ℕ) (l : Link) (events : List Occurrence) (host : (h == 0) ≡ fa
       let near = session_up l.controller n (sym read.controller ∙ s.up.controller) in
       let far = session_up l.host n (sym read.host ∙ s.up.host) in
       let is : l ≡ k = sym a.run.is in
-      let P : Link → Type 0 = λ z. z.controller.side.shdlc.phase ≡ IsUpNow in
-      let Q : Link → Type 0 = λ z. z.host.side.shdlc.phase ≡ IsUpNow in
-      let here : k.controller.side.shdlc.phase ≡ IsUpNow = subst P is near.0 in
-      let there : k.host.side.shdlc.phase ≡ IsUpNow = subst Q is far.0 in
+      let here : k.controller.side.shdlc.phase ≡ IsUpNow = subst (λ (z : Link). z.controller.side.shdlc.phase ≡ IsUpNow) is near.0 in
+      let there : k.host.side.shdlc.phase ≡ IsUpNow = subst (λ (z : Link). z.host.side.shdlc.phase ≡ IsUpNow) is far.0 in
       let mine : number_of k.controller ≡ n = ap (λ (z : Link). number_of z.controller) a.run.is ∙ near.1 in
       let theirs : number_of k.host ≡ n = ap (λ (z : Link). number_of z.host) a.run.is ∙ far.1 in
       let late : List Noted = since n notes in
@@ -147,12 +142,11 @@ module _ (h : ℕ) (l : Link) (events : List Occurrence) (host : (h == 0) ≡ fa
       sym (ap (has_lost h) (since-all h n notes)) ∙ (sym (lost_alike h n t v a.told) ∙ s.lossless) in
       let rnr : has_rnr h (entries_for h late) ≡ false = sym (ap (has_rnr h) (since-all h n notes)) ∙ (sym (rnr_alike h n t v a.told) ∙ s.ready) in
       let none_disturbs : list_any disturbs late ≡ false = undisturbed h late (are_plain late uncut fits) lost rnr in
-      let R : ℕ → Type 0 = λ z. list_any disturbs (since z notes) ≡ false in
       record {
         quiet = record {
           controller = here;
           host = there;
-          undisturbed = subst R (sym mine) none_disturbs;
+          undisturbed = subst (λ (z : ℕ). list_any disturbs (since z notes) ≡ false) (sym mine) none_disturbs;
           to_controller = ap (λ (z : Link). z.to_controller) a.run.is ∙ no_bytes l.to_controller (sym wires.to_controller ∙ s.to_controller);
           to_host = ap (λ (z : Link). z.to_host) a.run.is ∙ no_bytes l.to_host (sym wires.to_host ∙ s.to_host);
         };

@@ -36,6 +36,7 @@ use Rattle.node_laws.specs.telling.Telling.{IfItRuns, is_due, NoneDue, IfOff, If
 use Rattle.node_laws.proofs.telling.Nodes.{link_is, ports_for}
 use Rattle.node_laws.proofs.telling.Worlds.{site_is}
 use Rattle.node_laws.proofs.telling.WorldTicks.{tick_host, host_turns, between, between_far, near_turns, tick_event, Ticking, ticking}
+use Rattle.node_laws.proofs.telling.WorldTicks.{ticked_at}
 use Rattle.node_machine.proofs.world.Cases.{near_tick, host_tick}
 use Rattle.node_machine.proofs.world.Cases.{after_near_tick, by_controller_tick, by_host_tick, site_ticked, site_unticked}
 use Rattle.node_laws.specs.readings.Noticed.{IfNoticedUp, NoticesAreUp}
@@ -48,6 +49,7 @@ use Rattle.node_laws.proofs.order.Watches.{IsStepOf, WatchedLink, IsSince}
 use Rattle.node_laws.proofs.order.Wires.{Shown, tick_unstarted, shown_more}
 use Rattle.node_laws.proofs.order.Events.{IsWell}
 use Rattle.node_laws.proofs.turns.Works.{site_none}
+use Rattle.std.specs.Option.{option_map}
 
 -- ## Every world is timely
 
@@ -146,23 +148,20 @@ near_after w clf off h v q = by_controller_tick (λ p. Goal p.0) w off_goal (λ 
     off_goal : w.controller ≡ None → Goal (record w { sites = map site_unticked w.sites })
     off_goal e here =
         let was = was_there site_unticked (λ s. refl) w.sites h v here in
-        let V : Site → Type 0 = λ z. z.link.controller.side ≡ new_link_end (Clf new_clf) in
         let G : Option Running → Type 0 = λ o. IfOff o (new_link_end (Clf new_clf)) v.link.controller.side in
-        subst G (sym e) (subst V was.is (still was.site (off_now e was.site was.there)))
+        subst G (sym e) (subst (λ (z : Site). z.link.controller.side ≡ new_link_end (Clf new_clf)) was.is (still was.site (off_now e was.site was.there)))
 
     on_goal : (r : Running) → Goal (after_near_tick w (near_tick w r)).0
     on_goal r here = by_test (near_tick w r).cut
         (λ e. let none : runs_on (near_tick w r) ≡ None = rw e refl in
         let ending : ending_of (near_tick w r) ≡ CutOff = rw e refl in
         let s : Site = was.site in
-        let G : Option Running → Type 0 = λ o. IfOff o (new_link_end (Clf new_clf)) v.link.controller.side in
         let V : Site → Type 0 = λ z. z.link.controller.side ≡ new_link_end (Clf new_clf) in
-        subst G (sym none) (subst V was.is
+        subst (λ (o : Option Running). IfOff o (new_link_end (Clf new_clf)) v.link.controller.side) (sym none) (subst V was.is
         (ap (λ x. (ticked_so s.link (is_late_at (near_tick w r) s.host) (turns_at (near_tick w r) s.host) x).controller.side) ending
         ∙ near_cut s.link (is_late_at (near_tick w r) s.host) (turns_at (near_tick w r) s.host) (clf h s was.there))))
         (λ e. let some : runs_on (near_tick w r) ≡ Some (record { core = (near_tick w r).core; desks = map (λ p. p.desk) (near_tick w r).ports }) = rw e refl in
-        let G : Option Running → Type 0 = λ o. IfOff o (new_link_end (Clf new_clf)) v.link.controller.side in
-        subst G (sym some) tt)
+        subst (λ (o : Option Running). IfOff o (new_link_end (Clf new_clf)) v.link.controller.side) (sym some) tt)
       where
         was : WasThere (site_ticked (near_tick w r)) w.sites h v
         was = was_there (site_ticked (near_tick w r)) (λ s. refl) w.sites h v here
@@ -200,14 +199,7 @@ far_after x host node uicc off none = record {
 -- ## A tick of the world
 
 hosts_none : (sites : List Site) (h : ℕ) → site_at sites h ≡ None → site_at (hosts_tick sites).0 h ≡ None
-hosts_none [] h q = refl
-hosts_none (x ∷ sites) h q = by_test (x.host == h)
-    (λ e. let is : Some x ≡ None = rw e at q in absurd (cc is))
-    (λ e. let fails : ((host_ticks x).0.host == h) ≡ false = same ∙ e in
-    rw fails (hosts_none sites h (rw e at q)))
-  where
-    same : ((host_ticks x).0.host == h) ≡ (x.host == h)
-    same = ap (λ n. n == h) (tick_host x)
+hosts_none sites h q = ticked_at sites h ∙ ap (option_map (λ (x : Site). (host_ticks x).0)) q
 
 pub near_none : (w : NodeWorld) (h : ℕ) → site_at w.sites h ≡ None → site_at (controller_ticks w).0.sites h ≡ None
 near_none w h q = by_option w.controller
@@ -236,12 +228,11 @@ module _ (w : NodeWorld) (t : List Entry) (X : ℕ → WatchedLink) (a : IsWell 
 
       sends : AreNodes c.near c.far
       sends =
-          let C : LinkEnd → Type 0 = Clean in
           let far_is : x.link.host.side ≡ s.link.host.side = between_far c.late (aged s.link) c.near in
           record {
             controller = subst AreSendableTurns (sym c.near_had)
                 (near_sends (all_aged w).0 h w.controller (aged_clean w.sites a.fine.sites) a.fine.controller);
-            host = subst AreSendableTurns (sym c.far_had) (far_sends x s.node (subst C (sym far_is) fine.link.line.far) fine.node);
+            host = subst AreSendableTurns (sym c.far_had) (far_sends x s.node (subst Clean (sym far_is) fine.link.line.far) fine.node);
           }
 
       allowed : (late : Bool) → (late ≡ true → is_waiting s.link.controller.side.shdlc ≡ false) → IsEvent s.link (tick_event late c.near c.far)
@@ -255,8 +246,7 @@ module _ (w : NodeWorld) (t : List Entry) (X : ℕ → WatchedLink) (a : IsWell 
       let one : Some (host_ticks (record s { link = between goes.late (aged s.link) goes.near })).0 ≡ Some v = sym goes.there ∙ there in
       let is : (host_ticks (record s { link = between goes.late (aged s.link) goes.near })).0 ≡ v = cc in
       let told = (each h s found).told in
-      let S : Link → Type 0 = λ l. IsSince l in
-      subst S (goes.is ∙ ap (λ (y : Site). y.link) is)
+      subst (λ (l : Link). IsSince l) (goes.is ∙ ap (λ (y : Site). y.link) is)
       (reset_in_tick h s.link goes.near goes.far (world_ticks w).1 told.events told.run says goes.late tick_step ready)
 
 pub ticks_each : (w : NodeWorld) (t : List Entry) (X : ℕ → WatchedLink) → IsWell w → NoticesAreUp w → Each t X w
@@ -281,14 +271,12 @@ ticks_each w t X a up each h v q = by_option (site_at w.sites h) (λ e. none e) 
     old_clf : (k : ℕ) (s : Site) → site_at old.sites k ≡ Some s → IsClf s.link.controller.side.role
     old_clf k s there =
         let was = was_there older (λ s. refl) w.sites k s there in
-        let P : Site → Type 0 = λ z. IsClf z.link.controller.side.role in
-        subst P was.is (site_is IsFineSite w.sites k was.site a.fine.sites was.there).link.line.clf
+        subst (λ (z : Site). IsClf z.link.controller.side.role) was.is (site_is IsFineSite w.sites k was.site a.fine.sites was.there).link.line.clf
 
     old_off : (k : ℕ) (s : Site) → site_at old.sites k ≡ Some s → IfOff w.controller (new_link_end (Clf new_clf)) s.link.controller.side
     old_off k s there =
         let was = was_there older (λ s. refl) w.sites k s there in
-        let P : Site → Type 0 = λ z. IfOff w.controller (new_link_end (Clf new_clf)) z.link.controller.side in
-        subst P was.is (each k was.site was.there).near
+        subst (λ (z : Site). IfOff w.controller (new_link_end (Clf new_clf)) z.link.controller.side) was.is (each k was.site was.there).near
 
     some : (s : Site) → site_at w.sites h ≡ Some s → Knows (t ++ u) (later X u h) (world_ticks w).0.controller h v
     some s found = subst K one (record {
@@ -324,11 +312,10 @@ ticks_each w t X a up each h v q = by_option (site_at w.sites h) (λ e. none e) 
 
         after_it : FarAfter x
         after_it =
-            let U : LinkEnd → Type 0 = λ e. IsUicc e.role in
             let F : LinkEnd → Type 0 = IfOff s.node (new_link_end (Uicc new_uicc)) in
             far_after x (site_is (λ (z : Site). (z.host == 0) ≡ false) w.sites h s a.orderly.hosts found)
             (site_is (λ (z : Site). IfItRuns z.host (z.host ∷ []) z.node) w.sites h s a.orderly.nodes found)
-            (subst U (sym far_is) fine.link.line.uicc) (subst F (sym far_is) b.far) b.none
+            (subst (λ (e : LinkEnd). IsUicc e.role) (sym far_is) fine.link.line.uicc) (subst F (sym far_is) b.far) b.none
 
         K : Site → Type 0
         K z = Knows (t ++ u) (later X u h) (world_ticks w).0.controller h z

@@ -84,8 +84,7 @@ module _ (k : ℕ) (hosts : List ℕ) where
   leaves_known : (w : NodeWorld) (c : Happening) → opens_on k c ≡ false → list_any (withholds_on k) (world_step w c).1 ≡ false
       → LeavesKnown (of_one k) hosts w c
   leaves_known w c p q h is =
-      let P : ℕ → Type 0 = λ n. (watched n (watch_begins n c untouched) (world_step w c).1).since ≡ true in
-      subst P (sym (eqb-true h k is)) (leaves c (world_step w c).1 p q)
+      subst (λ (n : ℕ). (watched n (watch_begins n c untouched) (world_step w c).1).since ≡ true) (sym (eqb-true h k is)) (leaves c (world_step w c).1 p q)
 
   -- over events that withhold nothing
   known_behind : (events os : List Occurrence) (w : NodeWorld) → AreDone w events → list_any (withheld_in k) events ≡ false
@@ -229,8 +228,7 @@ module _ (header : Header) (lines : List Line) (t : NodeHistory) (follows : Foll
       let so : IsSo hosts_of before w = history_so header lines t follows are playable before (reset ∷ behind ++ back) q in
       let ready : ready_at (other_end e) (standing_behind k before) ≡ readiness_of (machine_of s.link (other_end e)) =
       ready_machine s.link (standing_behind k before) ((so.each k s there).shown.ready refl) (other_end e) in
-      let M : Happening → Type 0 = λ c. MayBeAsked w c in
-      let may : MayBeAsked w (Resets e window) = subst M a.cause done.1 in
+      let may : MayBeAsked w (Resets e window) = subst (λ (c : Happening). MayBeAsked w c) a.cause done.1 in
       let told : list_any (cuts_on k) (world_step w (Resets e window)).1 ≡ false =
       ap (λ c. list_any (cuts_on k) (world_step w c).1) (sym a.cause) ∙ (ap (list_any (cuts_on k)) (sym done.0) ∙ a.powered) in
       let N : Happening → Type 0 = λ c. (x : Site) → site_at (world_step w c).0.sites k ≡ Some x → IsSince x.link in
@@ -254,9 +252,8 @@ module _ (header : Header) (lines : List Line) (t : NodeHistory) (follows : Foll
       subst (AreBelieved h tick.cause) (sym done.0) (event_believed h w tick.cause) in
       let lossless : list_any (loses_one_on h) (behind_reset_of (end_c h) tick.entries) ≡ false =
       none_lost_behind h tick.cause (end_c h) tick.entries believed a.lossless in
-      let A : List Entry → Type 0 = IsAnsweredTick h in
       let says : IsAnsweredTick h (world_ticks w).1 =
-      subst A entries (record { reset = a.reset; powered = a.powered; lossless = lossless; alone = a.alone }) in
+      subst (IsAnsweredTick h) entries (record { reset = a.reset; powered = a.powered; lossless = lossless; alone = a.alone }) in
       let N : Happening → Type 0 = λ c. (x : Site) → site_at (world_step w c).0.sites h ≡ Some x → IsSince x.link in
       let active = ap (λ (r : Readiness). r.active) (sym ready.far) ∙ a.active in
       let free = ap (λ (r : Readiness). r.waits) (sym ready.far) ∙ a.free in

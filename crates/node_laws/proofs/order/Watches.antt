@@ -75,7 +75,6 @@ since_more l e can none a =
     let m : Link = happens first a.reset in
     let es : List LinkEvent = a.before ++ a.reset ∷ a.behind in
     let rest : List Noted = rest_of first a.reset in
-    let R : List LinkEvent → Type 0 = λ z. IsRunOf z (happens l e) in
     let is : after_link_events m a.behind ≡ l = sym (after-append a.before (a.reset ∷ a.behind) new_line) ∙ a.run.is in
     let last : entries (after_link_events m a.behind) (e ∷ []) ≡ event_entries l e =
     append-nil (event_entries (after_link_events m a.behind) e) ∙ ap (λ k. event_entries k e) is in
@@ -86,7 +85,7 @@ since_more l e can none a =
       before = a.before;
       reset = a.reset;
       behind = a.behind ++ e ∷ [];
-      run = subst R (append_assoc a.before (a.reset ∷ a.behind) (e ∷ [])) (run_of_more es l e can a.run);
+      run = subst (λ (z : List LinkEvent). IsRunOf z (happens l e)) (append_assoc a.before (a.reset ∷ a.behind) (e ∷ [])) (run_of_more es l e can a.run);
       asked = a.asked;
       undisturbed = ap (list_any withholds) all
           ∙ (list_any-append withholds (rest ++ entries m a.behind) (event_entries l e)
@@ -397,13 +396,12 @@ since_known h c x u b q leaves = subst P (sym q) (same c leaves)
 pub since_reset : (l : Link) (e : LinkEvent) (events : List LinkEvent) → IsRunOf events l → IsEvent l e → IsReset l e
     → list_any withholds (rest_of l e) ≡ false → IsSince (happens l e)
 since_reset l e events run can ready alone =
-    let R : Link → Type 0 = λ k. IsReset k e in
     record {
       before = events;
       reset = e;
       behind = [];
       run = run_of_more events l e can run;
-      asked = subst R (sym run.is) ready;
+      asked = subst (λ (k : Link). IsReset k e) (sym run.is) ready;
       undisturbed = ap (λ k. list_any withholds (rest_of k e ++ [])) run.is ∙ (ap (list_any withholds) (append-nil (rest_of l e)) ∙ alone);
     }
 

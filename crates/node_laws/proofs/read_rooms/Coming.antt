@@ -30,8 +30,7 @@ next_came t who l i (x ∷ xs) q frames a =
     let near_end : NumberedEnd = record l.controller { took = took_with l.controller.took x } in
     let end : NumberedEnd = has_had l.controller near_end (Take x.frame) in
     let P : List Noted → Type 0 = λ z. Says z who end in
-    let Q : LinkInput → Type 0 = λ j. Came t who k NextFrame (Some j) in
-    subst Q is (record {
+    subst (λ (j : LinkInput). Came t who k NextFrame (Some j)) is (record {
       end = end;
       side = refl;
       number = refl;
@@ -47,8 +46,7 @@ has_come_so t who l NoInput (Some i) q c frames a = absurd (cc q)
 has_come_so t who l (AsksReset window) (Some i) q c frames a =
     let j : LinkInput = Reset window in
     let is : j ≡ i = cc in
-    let Q : LinkInput → Type 0 = λ z. Came t who l (AsksReset window) (Some z) in
-    subst Q is (record {
+    subst (λ (z : LinkInput). Came t who l (AsksReset window) (Some z)) is (record {
       end = has_had l.controller l.controller j;
       side = refl;
       number = refl;
@@ -57,8 +55,7 @@ has_come_so t who l (AsksReset window) (Some i) q c frames a =
 has_come_so t who l (Starts value) (Some i) q c frames a =
     let j : LinkInput = Start value in
     let is : j ≡ i = cc in
-    let Q : LinkInput → Type 0 = λ z. Came t who l (Starts value) (Some z) in
-    subst Q is (record {
+    subst (λ (z : LinkInput). Came t who l (Starts value) (Some z)) is (record {
       end = has_had l.controller l.controller j;
       side = refl;
       number = refl;
@@ -67,8 +64,7 @@ has_come_so t who l (Starts value) (Some i) q c frames a =
 has_come_so t who l _ None q c frames a = absurd c
 has_come_so t who l Stops (Some i) q c frames a =
     let is : Stop ≡ i = cc in
-    let Q : LinkInput → Type 0 = λ z. Came t who l Stops (Some z) in
-    subst Q is (record {
+    subst (λ (z : LinkInput). Came t who l Stops (Some z)) is (record {
       end = has_had l.controller l.controller Stop;
       side = refl;
       number = refl;

@@ -76,12 +76,11 @@ module _ (t : List Entry) (s : Site) (fine : IsFineSite s) (told : IsLinkTold s.
 
     pub host_carried : IsCarried t Host (comes_to_pass (AtEnd s.host i) start)
     host_carried =
-        let P : ℕ → Type 0 = λ h. Carries t h Host begun in
         pass_carried t Host (AtEnd s.host i) start (record {
           carry = record {
             uncut = λ _. came_uncut 0 0 (without_power Controller) (λ x. refl) (twice Controller) (AtEnd s.host i) start
                 (entries_uncut s.host (arrival Host (exchanged s.link) comes));
-            each = λ h p here. subst P (only_end begun.ports s.host h p begun_hosts here) carries_own;
+            each = λ h p here. subst (λ (h : ℕ). Carries t h Host begun) (only_end begun.ports s.host h p begun_hosts here) carries_own;
           };
           fine = begun_fine (AtEnd s.host i) start
               (ports_fine (λ j. near_end_in (exchanged s.link) comes) (λ j. near_end_clean (exchanged s.link) comes fine.link.line.far) r.desks

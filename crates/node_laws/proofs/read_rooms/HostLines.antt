@@ -93,8 +93,7 @@ module _ (hosts : List ℕ) (os : List Occurrence) (w : NodeWorld) (a : IsSo hos
             let event : LinkEvent = AtController (Step (comes_to h (Starts power) x.host) (turns_at v x.host) (ending_of v)) in
             let n : IsStepOf h x.link event u =
             near_step w (entries_in os) (watches of_none os) a.well a.each h (Starts power) (Start power) tt refl r e h x was.there in
-            let P : Site → Type 0 = λ z. IsLinkTold h z.link (entries_in os ++ u) in
-            subst P was.is (told_more h x.link event (entries_in os) u n (a.each h x was.there).told)
+            subst (λ (z : Site). IsLinkTold h z.link (entries_in os ++ u)) was.is (told_more h x.link event (entries_in os) u n (a.each h x was.there).told)
 
     pub activated_read : (s : Site) → site_at near.0.sites h ≡ Some s → (r : Running) → s.node ≡ Some r → (sync : ℕ)
         → HoldsInStep (ArePortsRead Host (entries_in os ++ near.1)) (AtEnd h (Start sync)) (host_begins_step s r (Starts sync))

@@ -173,8 +173,7 @@ module _ (w : NodeWorld) (t : List Entry) (orderly : IsOrderly w) (fine : IsFine
     says : Says notes Host mine.link.host
     says =
         let N : List Noted = its_notes h s.link t (told h s found) in
-        let P : NumberedEnd → Type 0 = λ k. Says notes Host k in
-        subst P (sym (near_host late (aged s.link) had))
+        subst (λ (k : NumberedEnd). Says notes Host k) (sym (near_host late (aged s.link) had))
         (says_silent ((N ++ aged_notes s.link) ++ near_notes late (aged s.link) had) [] Host s.link.host (λ y n. refl) (λ z. refl)
         (says_other (N ++ aged_notes s.link) (near_notes late (aged s.link) had) s.link.host (near_one late (aged s.link) had)
         (near_passes late (aged s.link) had can (aged_near s.link (before_near h s.link t (told h s found))))
@@ -211,20 +210,18 @@ module _ (w : NodeWorld) (t : List Entry) (orderly : IsOrderly w) (fine : IsFine
       carries_own : Carries front s.host Host begun
       carries_own =
           let a : Opening s.host Host (exchanged mine.link) NoInput start = host_opened mine r NoInput number node in
-          let N : ℕ → Type 0 = λ n. AreNoted n front notes in
           carries_from front s.host Host (exchanged mine.link) NoInput (Some Tick) false notes begun number
-          (subst N (sym (site_host w.sites h s found)) noted) (has_ticked_so notes Host (exchanged mine.link) says)
+          (subst (λ (n : ℕ). AreNoted n front notes) (sym (site_host w.sites h s found)) noted) (has_ticked_so notes Host (exchanged mine.link) says)
           (in_time s.host Host (exchanged mine.link) start a come.ports
           (not_late a.port (young_ports (λ j. mine.link.host) r.desks s.host a.port young a.here)))
 
       pub host_tick_carried : IsCarried front Host (comes_to_pass TimePasses start)
       host_tick_carried =
-          let P : ℕ → Type 0 = λ k. Carries front k Host begun in
           let C : NumberedEnd → Type 0 = λ k. Clean k.side in
           pass_carried front Host TimePasses start (record {
             carry = record {
               uncut = λ _. came_uncut 0 0 (without_power Controller) (λ x. refl) (twice Controller) TimePasses start tt;
-              each = λ k p here. subst P (only_end begun.ports s.host k p begun_hosts here) carries_own;
+              each = λ k p here. subst (λ (k : ℕ). Carries front k Host begun) (only_end begun.ports s.host k p begun_hosts here) carries_own;
             };
             fine = begun_fine TimePasses start
                 (ports_fine (λ j. mine.link.host) (λ j. subst C (sym (near_host late (aged s.link) had)) site_fine.link.line.far) r.desks
@@ -234,16 +231,14 @@ module _ (w : NodeWorld) (t : List Entry) (orderly : IsOrderly w) (fine : IsFine
   module _ (x : Site) (before behind : List Site) (split : near.0.sites ≡ before ++ x ∷ behind) (r : Running) (runs : x.node ≡ Some r) where
     others : AllByRecursion (λ n. (n == x.host) ≡ false) (hosts_in before)
     others =
-        let D : List Site → Type 0 = λ z. AreDifferent (hosts_in z) in
-        others_before before behind x (subst D split near_well.different)
+        others_before before behind x (subst (λ (z : List Site). AreDifferent (hosts_in z)) split near_well.different)
 
     there : site_at near.0.sites x.host ≡ Some x
     there = ap (λ z. site_at z x.host) split ∙ found_there before behind x others (same_number x.host)
 
     numbers : AllByRecursion (λ (s : Site). (s.host == 0) ≡ false) before
     numbers =
-        let A : List Site → Type 0 = AllByRecursion (λ (s : Site). (s.host == 0) ≡ false) in
-        first_all (λ (s : Site). (s.host == 0) ≡ false) before (x ∷ behind) (subst A split near_well.hosts)
+        first_all (λ (s : Site). (s.host == 0) ≡ false) before (x ∷ behind) (subst (AllByRecursion (λ (s : Site). (s.host == 0) ≡ false)) split near_well.hosts)
 
     nodes : AllByRecursion (λ (s : Site). IfItRuns s.host (s.host ∷ []) s.node) before
     nodes =

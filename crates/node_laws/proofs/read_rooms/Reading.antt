@@ -101,9 +101,8 @@ module _ (h : ℕ) (l : Link) (t : List Entry) (a : IsLinkTold h l t) where
   pub near_says : Says its_notes Controller l.controller
   near_says = record {
     books = λ n.
-        let P : Link → Type 0 = λ k. read its_notes Controller n ≡ book_of (talk_of k.controller n) in
         let r : IsRead its_notes Controller n _ = read_here new_line IsLine a.events a.run.allowed n in
-        subst P a.run.is (rw (r.sent, r.got, r.acked) refl);
+        subst (λ (k : Link). read its_notes Controller n ≡ book_of (talk_of k.controller n)) a.run.is (rw (r.sent, r.got, r.acked) refl);
     session = controller_heard new_line IsLine a.events a.run.allowed ∙ ap (λ (k : Link). own_session k.controller) a.run.is;
     sound = sounds.controller;
   }
@@ -114,9 +113,8 @@ module _ (h : ℕ) (l : Link) (t : List Entry) (a : IsLinkTold h l t) where
   pub far_says : Says its_notes Host l.host
   far_says = record {
     books = λ n.
-        let P : Link → Type 0 = λ k. read its_notes Host n ≡ book_of (talk_of k.host n) in
         let r : IsRead its_notes Host n _ = read_there new_line IsLine a.events a.run.allowed n in
-        subst P a.run.is (rw (r.sent, r.got, r.acked) refl);
+        subst (λ (k : Link). read its_notes Host n ≡ book_of (talk_of k.host n)) a.run.is (rw (r.sent, r.got, r.acked) refl);
     session = host_heard new_line IsLine a.events a.run.allowed ∙ ap (λ (k : Link). own_session k.host) a.run.is;
     sound = sounds.host;
   }

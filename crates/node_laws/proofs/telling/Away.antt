@@ -8,6 +8,7 @@ use Rattle.node_machine.specs.Parts.{Desk, Port, Work}
 use Rattle.node_machine.specs.Carrying.{own_side, noting, port_at, changed_if, with_desk, after_turn, noted_of, turn_at}
 use Rattle.node_laws.specs.telling.Telling.{of_link}
 use Rattle.node_laws.proofs.Cases.{by_test}
+use Rattle.node_laws.proofs.Cases.{by_test}
 use Rattle.node_laws.proofs.telling.Walks.{AreSilent}
 use Rattle.node_laws.proofs.telling.Accounts.{of-append, of_silent, of_other}
 use Rattle.node_laws.proofs.steps.Ports.{changed_host}
@@ -40,16 +41,13 @@ none_map f keeps (x ∷ ports) h q = by_test (x.desk.host == h)
 -- where none has this number, the end with another one hasn't either
 pub none_is : (ports : List Port) (h k : ℕ) (x : Port) → port_at ports h ≡ None → port_at ports k ≡ Some x → (x.desk.host == h) ≡ false
 none_is [] h k x q r = absurd (cc r)
-none_is (y ∷ ports) h k x q r = go (y.desk.host == h) (y.desk.host == k) refl refl (none_is ports h k x)
-  where
-    go : (b c : Bool) → (y.desk.host == h) ≡ b → (y.desk.host == k) ≡ c
-        → (port_at ports h ≡ None → port_at ports k ≡ Some x → (x.desk.host == h) ≡ false) → (x.desk.host == h) ≡ false
-    go true c e f later = let is : Some y ≡ None = rw e at q in absurd (cc is)
-    go false true e f later =
-        let is : Some y ≡ Some x = rw f at r in
-        let one : y ≡ x = cc in
-        let P : Port → Type 0 = λ z. (z.desk.host == h) ≡ false in subst P one e
-    go false false e f later = later (rw e at q) (rw f at r)
+none_is (y ∷ ports) h k x q r = by_test (y.desk.host == h)
+    (λ e. let is : Some y ≡ None = rw e at q in absurd (cc is))
+    (λ e. by_test (y.desk.host == k)
+    (λ f. let is : Some y ≡ Some x = rw f at r in
+    let one : y ≡ x = cc in
+    subst (λ (z : Port). (z.desk.host == h) ≡ false) one e)
+    (λ f. none_is ports h k x (rw e at q) (rw f at r)))
 
 -- the node has no end on the link with this host, and noted nothing of it
 pub record Away (h : ℕ) (w : Work) : Type 0 where

@@ -122,8 +122,7 @@ module _ (w : NodeWorld) (memory : Memory) (controller : Option Running) (f : Si
       → AllByRecursion (λ (s : Site). IfItRuns s.host (s.host ∷ []) s.node) (map f sites)
   nodes_map one [] a = tt
   nodes_map one (s ∷ sites) a =
-      let P : ℕ → Type 0 = λ n. IfItRuns n (n ∷ []) (f s).node in
-      (subst P (sym (keeps s)) (one s a.0), nodes_map one sites a.1)
+      (subst (λ (n : ℕ). IfItRuns n (n ∷ []) (f s).node) (sym (keeps s)) (one s a.0), nodes_map one sites a.1)
 
   pub orderly_map : IsOrderly w → IfItRuns 0 (hosts_in w.sites) controller
       → ((s : Site) → IfItRuns s.host (s.host ∷ []) s.node → IfItRuns s.host (s.host ∷ []) (f s).node)
@@ -165,8 +164,7 @@ module _ (w : NodeWorld) (memory : Memory) (controller : Option Running) (k : �
       here : (h : ℕ) (s : Site) → site_at w.sites h ≡ Some s → (b : Bool) → (s.host == k) ≡ b → Tells h s.link (changed_if b g s).link t
       here h s found true q =
           let is : k ≡ h = sym (eqb-true s.host k q) ∙ site_host w.sites h s found in
-          let P : ℕ → Type 0 = λ n. Tells n s.link (g s).link t in
-          subst P is (own s (ap (site_at w.sites) is ∙ found))
+          subst (λ (n : ℕ). Tells n s.link (g s).link t) is (own s (ap (site_at w.sites) is ∙ found))
       here h s found false q =
           tells_nothing h s.link t (others h (swapped h k (ap (λ n. n == k) (sym (site_host w.sites h s found)) ∙ q)))
 
@@ -206,14 +204,12 @@ module _ (w : NodeWorld) (k : ℕ) (comes : Comes) (f : Work → Work) (a : IsOr
       let number : s.host ≡ k = site_host w.sites k s found in
       let node : HasEnds s.host (s.host ∷ []) r =
       node_is s.host (s.host ∷ []) s.node r (site_is (λ (x : Site). IfItRuns x.host (x.host ∷ []) x.node) w.sites k s a.nodes found) q in
-      let P : ℕ → Type 0 = λ n. HasEnds n (n ∷ []) r in
-      let here : HasEnds k (k ∷ []) r = subst P number node in
+      let here : HasEnds k (k ∷ []) r = subst (λ (n : ℕ). HasEnds n (n ∷ []) r) number node in
       let near_ends : ℕ → NumberedEnd = λ j. near_end_in (exchanged s.link) comes in
       let kept : Keeps k (k ∷ []) v = keeps _ (record { number = here.number; ends = ends_same near_ends r.desks ∙ here.ends }) in
-      let R : ℕ → Type 0 = λ n. IfItRuns n (n ∷ []) (runs_on v) in
       let T : List Entry → Type 0 = λ z. TellOf k s.link (AtHost (Step comes (turns_at v s.host) (ending_of v))) z in
       goes_site w w.memory w.controller k (after_host comes v) t (λ x. refl) a a.controller
-      (λ x e n. subst R (sym e) (runs_keep k (k ∷ []) v kept))
+      (λ x e n. subst (λ (n : ℕ). IfItRuns n (n ∷ []) (runs_on v)) (sym e) (runs_keep k (k ∷ []) v kept))
       (λ x there.
       let same : Some s ≡ Some x = sym found ∙ there in
       let one : s ≡ x = cc in

@@ -47,8 +47,7 @@ nodes_ticked : (sites : List Site) → AllByRecursion (λ (x : Site). IfItRuns x
     → AllByRecursion (λ (x : Site). IfItRuns x.host (x.host ∷ []) x.node) (hosts_tick sites).0
 nodes_ticked [] a = tt
 nodes_ticked (x ∷ sites) a =
-    let P : ℕ → Type 0 = λ n. IfItRuns n (n ∷ []) (host_ticks x).0.node in
-    (subst P (sym (tick_host x)) (tick_node x a.0), nodes_ticked sites a.1)
+    (subst (λ (n : ℕ). IfItRuns n (n ∷ []) (host_ticks x).0.node) (sym (tick_host x)) (tick_node x a.0), nodes_ticked sites a.1)
 
 ticks_orderly : (w : NodeWorld) → IsOrderly w → IsOrderly (world_ticks w).0
 ticks_orderly w a =

@@ -117,8 +117,7 @@ module _ (h : ℕ) (who : Side) (turns : List Turn) (ending : Ending) where
       ap (λ z. entries_for h (arrival who k NextFrame ++ (told_of who (near_end_in k NextFrame) f ++ z)))
       (rest_is who (left_after k x xs) k (number_of (near_end_in k NextFrame)) (after_input l.controller.side f) turns ending number
       (record { to_host = (ended_alike m b).to_host; resets = (ended_alike m b).resets })) in
-      let P : LinkInput → Type 0 = λ j. IsParts NextFrame (Some j) k in
-      subst P is all
+      subst (λ (j : LinkInput). IsParts NextFrame (Some j) k) is all
     where
       emitted : (m : Link) (b : Bool) → (with_ended m b).controller.emitted ≡ m.controller.emitted
       emitted m true = refl
@@ -135,23 +134,20 @@ module _ (h : ℕ) (who : Side) (turns : List Turn) (ending : Ending) where
       let all : IsParts (AsksReset window) (Some f) l =
       ap (λ z. entries_for h (told_of who l.controller f ++ z))
       (rest_is who (with_ended l b) l (number_of l.controller) (after_input l.controller.side f) turns ending (ended_number l b) (ended_alike l b)) in
-      let P : LinkInput → Type 0 = λ j. IsParts (AsksReset window) (Some j) l in
-      subst P is all
+      subst (λ (j : LinkInput). IsParts (AsksReset window) (Some j) l) is all
   step_is l (Starts value) (Some i) q c =
       let f : LinkInput = Start value in
       let is : f ≡ i = cc in
       let all : IsParts (Starts value) (Some f) l =
       ap (λ z. entries_for h (told_of who l.controller f ++ z)) (silent_is l f (wires_for l (Starts value)) (record { to_host = refl; resets = refl })) in
-      let P : LinkInput → Type 0 = λ j. IsParts (Starts value) (Some j) l in
-      subst P is all
+      subst (λ (j : LinkInput). IsParts (Starts value) (Some j) l) is all
   step_is l _ None q c = absurd c
   step_is l Stops (Some i) q c =
       let f : LinkInput = Stop in
       let is : f ≡ i = cc in
       let all : IsParts Stops (Some f) l =
       ap (λ z. entries_for h (told_of who l.controller f ++ z)) (silent_is l f (wires_for l Stops) (record { to_host = refl; resets = refl })) in
-      let P : LinkInput → Type 0 = λ j. IsParts Stops (Some j) l in
-      subst P is all
+      subst (λ (j : LinkInput). IsParts Stops (Some j) l) is all
 
 -- a tick
 pub tick_is : (who : Side) (l : Link) (node : Node) → tick_entries who l node ≡ parts_of who l NoInput (Some Tick) node.turns node.ending

@@ -186,8 +186,7 @@ module _ (h : ℕ) (who : Side) (l : Link) where
         let lasting : IsLasting side = record {
           active = up.0;
           up = up.1;
-          goes_on = let P : LinkEnd → Type 0 = λ z. is_some (ended_by z Tick) ≡ false in
-              subst P a.is late.goes_on;
+          goes_on = subst (λ (z : LinkEnd). is_some (ended_by z Tick) ≡ false) a.is late.goes_on;
         } in
         let e : LinkEnd = after_input side (Reset None) in
         let n : ℕ = number_of l.controller in

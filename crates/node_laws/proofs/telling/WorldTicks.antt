@@ -4,6 +4,7 @@ use Rattle.std.proofs.Common.{append_assoc}
 use Rattle.std.specs.Prelude.{if◌then◌else◌, is_some}
 use Rattle.std.specs.List.{AllByRecursion, find, flat_map}
 use Rattle.std.specs.Option.{option_map_or}
+use Rattle.std.specs.Option.{option_map}
 use Rattle.std.proofs.lemmas.Bool.{eqb-true}
 use Rattle.std.proofs.lemmas.List.Sums.{fold-append}
 use Rattle.swp_act.specs.Activation.{new_clf, new_uicc}
@@ -75,11 +76,15 @@ had k h = record { turns = turns_at k h; ending = ending_of k }
 
 -- ## Ticks of hosts
 
-pub host_is : (x : Site) (n : Running) → x.node ≡ Some n → host_ticks x ≡ after_tick x (host_tick x n)
-host_is x n q = rw q refl
-
 pub tick_host : (x : Site) → (host_ticks x).0.host ≡ x.host
 tick_host x = by_host_tick (λ p. p.0.host ≡ x.host) x (λ q. refl) (λ n q. refl)
+
+-- the site behind its tick
+pub ticked_at : (sites : List Site) (h : ℕ) → site_at (hosts_tick sites).0 h ≡ option_map (λ (x : Site). (host_ticks x).0) (site_at sites h)
+ticked_at [] h = refl
+ticked_at (x ∷ sites) h = by_test (x.host == h)
+    (λ e. let passes : ((host_ticks x).0.host == h) ≡ true = ap (λ n. n == h) (tick_host x) ∙ e in rw (e, passes) refl)
+    (λ e. let fails : ((host_ticks x).0.host == h) ≡ false = ap (λ n. n == h) (tick_host x) ∙ e in rw (e, fails) (ticked_at sites h))
 
 module _ (h : ℕ) where
   other_host : (x : Site) → (x.host == 0) ≡ false → IfItRuns x.host (x.host ∷ []) x.node → (x.host == h) ≡ false → of_link h (host_ticks x).1 ≡ []
@@ -158,17 +163,7 @@ module _ (h : ℕ) where
       both = of-append h (host_ticks y).1 (hosts_tick sites).1
 
   hosts_at : (sites : List Site) (x : Site) → site_at sites h ≡ Some x → site_at (hosts_tick sites).0 h ≡ Some (host_ticks x).0
-  hosts_at [] x q = absurd (cc q)
-  hosts_at (y ∷ sites) x q = by_test (y.host == h)
-      (λ e. let is : Some y ≡ Some x = rw e at q in
-      let one : y ≡ x = cc in
-      let passes : ((host_ticks y).0.host == h) ≡ true = same ∙ e in
-      rw passes (ap (λ (z : Site). Some (host_ticks z).0) one))
-      (λ e. let fails : ((host_ticks y).0.host == h) ≡ false = same ∙ e in
-      rw fails (hosts_at sites x (rw e at q)))
-    where
-      same : ((host_ticks y).0.host == h) ≡ (y.host == h)
-      same = ap (λ n. n == h) (tick_host y)
+  hosts_at sites x q = ticked_at sites h ∙ ap (option_map (λ (y : Site). (host_ticks y).0)) q
 
 -- the turns of a host in its tick
 abbrev pub host_turns : Site → Option Running → List Turn
@@ -226,25 +221,20 @@ far : (x : Site) → (x.host == 0) ≡ false → IfItRuns x.host (x.host ∷ [])
     → NoneDue x.node → Far x
 far x host node off young = go x.node refl node off young
   where
-    none_is : x.node ≡ None → host_ticks x ≡ (record x { link = exchanged (ticks_at_controller (exchanged x.link) [] GoesOut) }, [])
-    none_is q = rw q refl
-
     go : (o : Option Running) → x.node ≡ o → IfItRuns x.host (x.host ∷ []) o → IfOff o (new_link_end (Uicc new_uicc)) x.link.host.side → NoneDue o → Far x
     go None q n f y = record {
       had = record { turns = []; ending = GoesOut };
-      turns = sym (ap (host_turns x) q);
-      is = ap (λ (z : Site × List Entry). z.0.link) (none_is q);
-      told = ap (λ (z : Site × List Entry). of_link x.host z.1) (none_is q)
-          ∙ sym (ap (λ z. of_link x.host (entries_for x.host z)) (still_far Host (exchanged x.link) f));
-      stands = λ v. ap (λ (z : Site × List Entry). standing x.host v z.1) (none_is q)
-          ∙ sym (ap (standing_by_law x.host v) (still_far Host (exchanged x.link) f));
+      turns = rw q refl;
+      is = rw q refl;
+      told = rw q (sym (ap (λ z. of_link x.host (entries_for x.host z)) (still_far Host (exchanged x.link) f)));
+      stands = rw q (λ v. sym (ap (standing_by_law x.host v) (still_far Host (exchanged x.link) f)));
     }
     go (Some r) q n f y = record {
       had = had (host_tick x r) x.host;
-      turns = sym (ap (host_turns x) q);
-      is = ap (λ (z : Site × List Entry). z.0.link) (host_is x r q);
-      told = ap (λ (z : Site × List Entry). of_link x.host z.1) (host_is x r q) ∙ host_tells x r host n y;
-      stands = λ v. ap (λ (z : Site × List Entry). standing x.host v z.1) (host_is x r q) ∙ host_stands_so x r host n y v;
+      turns = rw q refl;
+      is = rw q refl;
+      told = rw q (host_tells x r host n y);
+      stands = rw q (host_stands_so x r host n y);
     }
 
 -- ## The tick of the controller
@@ -363,52 +353,34 @@ module _ (w : NodeWorld) (h : ℕ) (s : Site) (orderly : IsOrderly w) (found : s
     runs_so : Near w h s
     runs_so = go (is_late (older opened.port)) refl
       where
-        f : Site → Site
-        f x = record x { link = ticked_so x.link (is_late_at k x.host) (turns_at k x.host) (ending_of k) }
-
-        near_is : controller_ticks w ≡ (
-          record { memory = after_planned k.writes w.memory; controller = runs_on k; sites = map f w.sites },
-          k.entries ++ flat_map (λ (x : Site). frames_noted Controller x.host x.link k) w.sites,
-        )
-        near_is = rw runs refl
-
         go : (b : Bool) → is_late (older opened.port) ≡ b → Near w h s
         go b q =
             let a : Ticked h Controller s.link b k = done b q in
             record {
               late = b;
               had = had k h;
-              turns = sym (ap (near_turns w h) runs);
-              there = ap (λ (z : NodeWorld × List Entry). site_at z.0.sites h) near_is
-                  ∙ (site_map f (λ x. refl) w.sites h s found
+              turns = rw runs refl;
+              there = rw runs (site_map (site_ticked k) (λ x. refl) w.sites h s found
                   ∙ ap (λ l. Some (record s { link = l }))
                   (ap (λ n. ticked_so s.link (is_late_at k n) (turns_at k n) (ending_of k)) number_is
                   ∙ (ap (λ c. ticked_so s.link c (turns_at k h) (ending_of k)) (late_is b a) ∙ so_is b (up_late b q))));
-              told = ap (λ (z : NodeWorld × List Entry). of_link h z.1) near_is ∙ told_is b a;
-              stands = λ x. ap (λ (z : NodeWorld × List Entry). standing h x z.1) near_is ∙ stands_is b a x;
+              told = rw runs (told_is b a);
+              stands = rw runs (stands_is b a);
               ready = ready_is b (up_late b q);
             }
 
   near : IfOff w.controller (new_link_end (Clf new_clf)) s.link.controller.side → IfDue w.controller h s.link.controller.side → Near w h s
   near off due = go w.controller refl orderly.controller off due
     where
-      f : Site → Site
-      f x = record x { link = ticks_at_controller x.link [] GoesOut }
-
-      none_is : w.controller ≡ None → controller_ticks w ≡ (record w { sites = map f w.sites }, [])
-      none_is q = rw q refl
-
       go : (o : Option Running) → w.controller ≡ o → IfItRuns 0 (hosts_in w.sites) o → IfOff o (new_link_end (Clf new_clf)) s.link.controller.side
           → IfDue o h s.link.controller.side → Near w h s
       go None q n x d = record {
         late = false;
         had = record { turns = []; ending = GoesOut };
-        turns = sym (ap (near_turns w h) q);
-        there = ap (λ (z : NodeWorld × List Entry). site_at z.0.sites h) (none_is q) ∙ site_map f (λ x. refl) w.sites h s found;
-        told = ap (λ (z : NodeWorld × List Entry). of_link h z.1) (none_is q)
-            ∙ sym (ap (λ z. of_link h (entries_for h z)) (still_near Controller s.link x));
-        stands = λ y. ap (λ (z : NodeWorld × List Entry). standing h y z.1) (none_is q)
-            ∙ sym (ap (standing_by_law h y) (still_near Controller s.link x));
+        turns = rw q refl;
+        there = rw q (site_map site_unticked (λ x. refl) w.sites h s found);
+        told = rw q (sym (ap (λ z. of_link h (entries_for h z)) (still_near Controller s.link x)));
+        stands = rw q (λ y. sym (ap (standing_by_law h y) (still_near Controller s.link x)));
         ready = λ e. absurd (cc e);
       }
       go (Some r) q n x d = runs_so r q n d
@@ -524,9 +496,8 @@ module _ (w : NodeWorld) (h : ℕ) (s : Site) (orderly : IsOrderly w) (found : s
 
   far_stands : (x : Standing) → standing h x (hosts_tick (controller_ticks old).0.sites).1 ≡ standing_by_law h x far_notes
   far_stands x =
-      let P : ℕ → Type 0 = λ m. (y : Standing) → standing m y (host_ticks mine).1 ≡ standing_by_law m y far_notes in
       stands_only h (controller_ticks old).0.sites mine next_orderly.different next_orderly.hosts next_orderly.nodes first.there x
-      ∙ subst P number second.stands x
+      ∙ subst (λ (m : ℕ). (y : Standing) → standing m y (host_ticks mine).1 ≡ standing_by_law m y far_notes) number second.stands x
 
   stands_all : (x : Standing) → standing h x (world_ticks w).1
       ≡ standing_by_law h x (aged_notes s ++ (near_notes first.late (aged s.link) first.had ++ far_notes))
@@ -587,9 +558,8 @@ module _ (w : NodeWorld) (h : ℕ) (s : Site) (orderly : IsOrderly w) (found : s
   tick_goes =
       let a : Ticking w h s = ticking in
       let site : Site = (host_ticks (record s { link = between a.late (aged s.link) a.near })).0 in
-      let P : Link → Type 0 = λ l. Tells h s.link l (world_ticks w).1 in
       record {
         site = site;
         there = a.there;
-        tells = subst P a.is (tells_one h s.link (tick_event a.late a.near a.far) (world_ticks w).1 a.told);
+        tells = subst (λ (l : Link). Tells h s.link l (world_ticks w).1) a.is (tells_one h s.link (tick_event a.late a.near a.far) (world_ticks w).1 a.told);
       }

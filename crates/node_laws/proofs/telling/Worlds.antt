@@ -53,9 +53,8 @@ module _ (w : NodeWorld) (s : Site) (r : Running) (k : ℕ) (orderly : IsOrderly
       let v : Work = host_work s r comes f in
       let noted : ℕ → List Entry = λ n. v.entries ++ frames_noted Host n (wires_for (exchanged s.link) comes) v in
       let is : (host_does w k comes f).1 ≡ noted k = rw (found, runs) refl in
-      let P : ℕ → Type 0 = λ n. TellOf n s.link (AtHost (Step comes (turns_at v s.host) (ending_of v))) (noted n) in
       record {
-        own = ap (of_link k) is ∙ subst P number a.own;
+        own = ap (of_link k) is ∙ subst (λ (n : ℕ). TellOf n s.link (AtHost (Step comes (turns_at v s.host) (ending_of v))) (noted n)) number a.own;
         others = λ h z. ap (of_link h) is ∙ (ap (λ n. of_link h (noted n)) (sym number) ∙ a.others h (ap (λ n. n == h) number ∙ z));
         stands = let S : ℕ → Type 0 = λ n. StandsOf n s.link (AtHost (Step comes (turns_at v s.host) (ending_of v))) (noted n) in
             λ x. ap (standing k x) is ∙ subst S number a.stands x;

@@ -203,8 +203,7 @@ module _ (w : NodeWorld) (c : Option Running) (k : ℕ) (g : Site → Site) (t :
   pub at_site : ((s : Site) → site_at w.sites k ≡ Some s → SiteGoes s (g s) t)
       → (site_at w.sites k ≡ None → AllMove w (record w { controller = c }) t) → AllMove w After t
   at_site some none = by_option (site_at w.sites k)
-      (λ q. let P : List Site → Type 0 = λ l. AllMove w (record w { controller = c; sites = l }) t in
-      subst P (sym (with_none k g w.sites q)) (none q))
+      (λ q. subst (λ (l : List Site). AllMove w (record w { controller = c; sites = l }) t) (sym (with_none k g w.sites q)) (none q))
       (λ s q. site_moves s q (some s q))
 
 -- ## Steps of nodes

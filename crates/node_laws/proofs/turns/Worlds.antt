@@ -255,15 +255,13 @@ module _ (w : NodeWorld) (n : ℕ) (r : Running) (m : Memory) (count : ℕ) (a :
   node_moves : AllMove w (with_node n r (with_memory n m w)) booted
   node_moves = by_test (n == 0)
       (λ z. let is : with_node n r (with_memory n m w) ≡ record w { memory = m; controller = Some r } = rw z refl in
-      let P : NodeWorld → Type 0 = λ v. AllMove w v booted in
-      subst P (sym is) (near_boots z))
+      subst (λ (v : NodeWorld). AllMove w v booted) (sym is) (near_boots z))
       (λ z. let remembers : Site → Site = λ s. record s { memory = m } in
       let is : with_node n r (with_memory n m w)
       ≡ record w { sites = with_site n (λ (s : Site). record s { node = Some r }) (with_site n remembers w.sites) } = rw z refl in
       let twice : with_site n (λ (s : Site). record s { node = Some r }) (with_site n remembers w.sites) ≡ with_site n runs_there w.sites =
       with_site_twice n remembers (λ (s : Site). record s { node = Some r }) (λ s. refl) w.sites in
-      let P : NodeWorld → Type 0 = λ v. AllMove w v booted in
-      subst P (sym (is ∙ ap (λ l. record w { sites = l }) twice)) (far_boots z))
+      subst (λ (v : NodeWorld). AllMove w v booted) (sym (is ∙ ap (λ l. record w { sites = l }) twice)) (far_boots z))
 
 boots_move : (w : NodeWorld) (n : ℕ) → IsOrderly w → node_at w n ≡ None → AllMove w (boots w n).0 (boots w n).1
 boots_move w n a off =
@@ -399,12 +397,11 @@ hosts_go h q (y ∷ sites) d b a x = by_test (y.host == h)
     let passes : ((host_ticks y).0.host == h) ≡ true = same ∙ e in rw passes refl in
     let was : FarWaits q (Some y) = rw e at x in
     let own : OwnMoves y.host (host_ticks y).0 (host_ticks y).1 q = one.goes q was in
-    let A : ℕ → Type 0 = λ n. AllByRecursion (λ k. (k == n) ≡ false) (hosts_in sites) in
     record {
       left = own.left;
       goes = goes-append (end_h h) (host_ticks y).1 (hosts_tick sites).1 q own.left own.left
           (subst (λ n. Goes (end_h n) q (host_ticks y).1 own.left) (eqb-true y.host h e) own.goes)
-          (far_leaves h sites b.1 a.1 (subst A (eqb-true y.host h e) d.0) own.left);
+          (far_leaves h sites b.1 a.1 (subst (λ (n : ℕ). AllByRecursion (λ k. (k == n) ≡ false) (hosts_in sites)) (eqb-true y.host h e) d.0) own.left);
       waits = subst (FarWaits own.left) (sym here) own.waits;
     })
     (λ e. let here : site_at (hosts_tick (y ∷ sites)).0 h ≡ site_at (hosts_tick sites).0 h =
