@@ -1,6 +1,7 @@
 pub mod All
 pub mod Cases
 pub mod Cut
+pub mod Words
 pub mod steps
 pub mod kept
 pub mod telling

@@ -5,34 +5,24 @@ use Rattle.std.proofs.Common.{arith, map}
 use Rattle.std.specs.Prelude.{replicate}
 use Rattle.std.specs.List.{AllByRecursion}
 use Rattle.std.proofs.lemmas.Bool.{eqb-true, eq-eqb}
-use Rattle.trace_model.specs.declared.line.End.{End}
-use Rattle.trace_model.specs.declared.line.Header.{Header}
-use Rattle.trace_model.specs.declared.line.Line.{Line}
+use Rattle.node_laws.proofs.Words.{AcksAtMost, Activates, AreDifferent, AreHosts, ArePlayable, End, FollowsNodes, Gives, Good, Happening, Header, IsLine, Line}
+use Rattle.node_laws.proofs.Words.{Link, LinkEvent, NodeHistory, NodeWorld, Occurrence, Reached, Resets, Site, Takes, after_link_events, all_happen, can_happen}
+use Rattle.node_laws.proofs.Words.{core_of, ends_in_order, ends_take_all, frames_at, from_start, happenings, hosts_in, link_events_in, new_line, new_site}
+use Rattle.node_laws.proofs.Words.{new_world, occurrences_in, reached, site_at, world_behind, world_step}
 use Rattle.trace_model.specs.declared.line.Line.TheVariants as line
-use Rattle.link_laws.specs.messages.Links.{Link, LinkEvent, after_link_events}
-use Rattle.link_laws.specs.messages.Links.IsStart.{IsLine}
-use Rattle.link_laws.specs.messages.Projection.{core_of}
-use Rattle.link_laws.proofs.messages.Runs.{Good, Reached}
-use Rattle.link_laws.proofs.messages.Whole.{from_start, reached}
-use Rattle.node_machine.specs.world.World.{Site, NodeWorld, Happening, new_site, new_world, site_at, world_step}
-use Rattle.node_machine.specs.world.World.Happening.{Gives, Takes, Ticks as TimePassing, Resets, Activates}
-use Rattle.node_machine.specs.world.Lines.{Occurrence, all_happen, can_happen, happenings, frames_at}
-use Rattle.node_machine.specs.world.NodeHistories.{FollowsNodes, NodeHistory, occurrences_in}
-use Rattle.node_laws.specs.kept.Hosts.{AreDifferent, AreHosts}
-use Rattle.node_laws.specs.telling.Telling.{hosts_in, world_behind}
+use Rattle.node_machine.specs.world.World.Happening.{Ticks as TimePassing}
 use Rattle.node_laws.proofs.Cases.{by_test}
 use Rattle.node_laws.proofs.telling.Nodes.{swapped}
 use Rattle.node_laws.proofs.telling.Worlds.{site_is}
-use Rattle.node_laws.specs.links.Runs.{ArePlayable, new_line}
 use Rattle.node_laws.proofs.links.Playing.{MayHappen, step_fine, world_fine}
 use Rattle.node_laws.proofs.links.Sites.{IsFineLink}
 use Rattle.node_laws.proofs.links.Worlds.{IsFineWorld}
 use Rattle.node_laws.proofs.order.Lines.{history_so}
 use Rattle.node_laws.proofs.order.Strangers.{step_kept}
 use Rattle.node_laws.proofs.telling.Events.{after-append}
-use Rattle.node_laws.specs.acked.InTurn.{AcksAtMost, CountsWithin, IsAckedWithin}
-use Rattle.node_machine.specs.world.Rounds.{ends_in_order, end_takes_all, ends_take_all, world_after_round, rounds_of_world}
-use Rattle.node_laws.specs.rounds.LinkEvents.{GoesOnLink, link_events_in}
+use Rattle.node_laws.specs.acked.InTurn.{CountsWithin, IsAckedWithin}
+use Rattle.node_machine.specs.world.Rounds.{end_takes_all, world_after_round, rounds_of_world}
+use Rattle.node_laws.specs.rounds.LinkEvents.{GoesOnLink}
 use Rattle.node_laws.specs.rounds.RoundEvents.{events_on, ends_events, round_events}
 use Rattle.node_laws.specs.acked.AckedRounds.{HostAcksAtMost, AreAckedWithin, amid_round, Leg, world_after_legs, MayCome, AllMayCome}
 use Rattle.node_laws.specs.acked.AckedRounds.Leg.{Comes, Rounds}

@@ -2,30 +2,15 @@
 use Rattle.std.proofs.Common.{◌≡◌, ℕ, ◌+◌, ◌≤◌, ◌==◌, Bool, true, false, cond, List, [], ◌∷◌, ◌++◌, Some, refl, subst, arith, map, ◌*◌, length}
 use Rattle.std.specs.Prelude.{replicate}
 use Rattle.std.specs.List.{AllByRecursion}
-use Rattle.swp_base.specs.InMemory.{Memory}
-use Rattle.trace_model.specs.declared.line.End.{End}
-use Rattle.journal_laws.specs.Planned.{after_planned}
-use Rattle.link_laws.specs.messages.Links.{Link, LinkEvent, NumberedEnd, Comes, Ending, Loss, exchanged, happens, IsEvent, CanCome, AreSendableTurns}
-use Rattle.link_laws.specs.messages.Links.{AllAllowed}
-use Rattle.link_laws.specs.messages.Links.Ending.{CutOff}
-use Rattle.link_laws.specs.messages.Links.Comes.{NextFrame, AsksReset, Starts, NoInput}
-use Rattle.link_laws.specs.messages.Links.EndEvent.{Step, Lose}
-use Rattle.link_laws.specs.messages.Links.LinkEvent.{AtController, AtHost}
-use Rattle.link_laws.specs.machine.Machine.{Turn}
-use Rattle.link_laws.specs.machine.Machine.LinkInput.{Start}
-use Rattle.node_machine.specs.Parts.{Running, Work, Deed}
-use Rattle.node_machine.specs.Carrying.{changed_if}
-use Rattle.node_machine.specs.Node.{steps, begins_with, boot_writes}
-use Rattle.node_machine.specs.Node.NodeInput.{AtEnd}
-use Rattle.node_machine.specs.world.World.{Site, NodeWorld, Happening, site_at, with_site, link_to, near_end_in, work_of, turns_at, ending_of}
-use Rattle.node_machine.specs.world.World.{comes_to, controller_work, link_after_controller, controller_does, host_work, after_host, host_does, host_cut}
-use Rattle.node_machine.specs.world.World.{loses_power_at, memory_at, with_memory, with_node, boots, counts, frame_lost, comes_at, end_c, end_h}
-use Rattle.node_machine.specs.world.World.{sending, beginning, new_world, world_step}
-use Rattle.node_machine.specs.world.World.Happening.{Boots, IsCut, Gives, Inits, Takes, Loses, Ticks as TimePassing, Resets, Activates, Arms}
-use Rattle.node_machine.specs.world.Lines.{frames_at}
-use Rattle.node_machine.proofs.world.Cases.{by_controller, by_host, by_coming, by_power, by_memory, by_running, boot_written, boot_found, by_boot, site_lost}
-use Rattle.node_machine.proofs.world.Cases.{by_loss}
-use Rattle.node_laws.specs.kept.Hosts.{AreDifferent}
+use Rattle.node_laws.proofs.Words.{AcksAtMost, Activates, AllAllowed, AllAtController, AllAtHost, AreDifferent, AreSendableTurns, Arms, AsksReset, AtController}
+use Rattle.node_laws.proofs.Words.{AtEnd, AtHost, Boots, CanCome, Comes, CutOff, Deed, End, Ending, Gives, Happening, Inits, IsCut, IsEvent, Link, LinkEvent}
+use Rattle.node_laws.proofs.Words.{Lose, Loses, Loss, Memory, NextFrame, NoInput, NodeWorld, NumberedEnd, Resets, Running, Site, Start, Starts, Step, Takes}
+use Rattle.node_laws.proofs.Words.{Turn, Work, after_host, after_planned, beginning, begins_with, boot_found, boot_writes, boot_written, boots, by_boot}
+use Rattle.node_laws.proofs.Words.{by_coming, by_controller, by_host, by_loss, by_memory, by_power, by_running, changed_if, comes_at, comes_to, controller_does}
+use Rattle.node_laws.proofs.Words.{controller_work, counts, end_c, end_h, ending_of, ends_in_order, ends_take_all, exchanged, frame_lost, frames_at, happens}
+use Rattle.node_laws.proofs.Words.{host_cut, host_does, host_work, link_after_controller, link_events_in, link_to, loses_power_at, memory_at, near_end_in}
+use Rattle.node_laws.proofs.Words.{new_world, sending, site_at, site_lost, steps, turns_at, with_memory, with_node, with_site, work_of, world_step}
+use Rattle.node_machine.specs.world.World.Happening.{Ticks as TimePassing}
 use Rattle.node_laws.proofs.Cases.{by_test}
 use Rattle.node_laws.proofs.telling.Worlds.{site_is}
 use Rattle.node_laws.proofs.links.Deeds.{AreFine}
@@ -35,12 +20,12 @@ use Rattle.node_laws.proofs.links.Worlds.{IsFineNode, AreFineSites, IsFineSite, 
 use Rattle.node_laws.proofs.links.Worlds.{fine_clean, ports_fine, turns_fine, may_here, memory_fine}
 use Rattle.node_laws.proofs.links.Playing.{MayHappen, plain_reach, sending_fine, starts_fine, starts_then}
 use Rattle.node_laws.proofs.order.Strangers.{step_kept}
-use Rattle.node_laws.specs.acked.InTurn.{AcksAtMost, AllAtController, AllAtHost, CountsFit, IsAckedWithin, TakesNoFrame}
-use Rattle.node_laws.specs.rounds.LinkEvents.{GoesOnLink, link_events_in}
+use Rattle.node_laws.specs.acked.InTurn.{CountsFit, IsAckedWithin, TakesNoFrame}
+use Rattle.node_laws.specs.rounds.LinkEvents.{GoesOnLink}
 use Rattle.node_laws.specs.acked.AckedRounds.{HostAcksAtMost, AreAckedWithin, Leg, AllMayCome, amid_round, frames_taken, rounds_gone}
 use Rattle.node_laws.specs.acked.AckedRounds.{taken_in, world_after_legs}
 use Rattle.node_laws.specs.acked.AckedRounds.Leg.{Comes as LegComes, Rounds}
-use Rattle.node_machine.specs.world.Rounds.{ends_in_order, ends_take_all, rounds_of_world}
+use Rattle.node_machine.specs.world.Rounds.{rounds_of_world}
 use Rattle.node_laws.proofs.acked.InTurn.{near_acks, far_acks, none_acks}
 use Rattle.node_laws.proofs.rounds.Allowing.{takes_allowed, ticks_allowed}
 use Rattle.node_laws.proofs.rounds.LinkEvents.{takes_go, ticks_go}

@@ -2,17 +2,17 @@
 use Rattle.std.proofs.Common.{◌≡◌, ℕ, ◌+◌, ◌≤◌, ◌==◌, Bool, true, false, List, [], ◌∷◌, ◌⊎◌, inl, inr, refl, ap, sym, subst, ◌∙◌, length, arith, map}
 use Rattle.std.specs.Prelude.{is_some}
 use Rattle.std.proofs.lemmas.Bool.{eqb-true}
-use Rattle.swp_base.specs.declared.control_frames.Control.{Control}
-use Rattle.shdlc_core.specs.declared.answers.LinkState.{LinkState}
-use Rattle.shdlc_core.specs.declared.answers.LinkState.TheVariants.{Down, Waiting, Up}
-use Rattle.shdlc_core.specs.Machine.{EndState, Session, no_session, new_end, stopped, take_answer, reset_with, taken, frames_of, most_frames}
-use Rattle.link_laws.specs.sessions.Sessions.{OnWire, NumberedShdlc, ShdlcLink, shdlc_exchanged, shdlc_number_of, shdlc_session_of, ended_session}
-use Rattle.link_laws.specs.sessions.Sessions.{is_rset, is_up, shdlc_put, shdlc_put_all, shdlc_becomes, with_shdlc_ended, shdlc_turned, act_frame, took_with}
-use Rattle.link_laws.specs.sessions.Sessions.{ShdlcEndEvent, ShdlcLinkEvent, AllShdlcAllowed, shdlc_silent, shdlc_happens_at_controller, shdlc_after}
-use Rattle.link_laws.specs.sessions.Sessions.ShdlcEndEvent.{Turns, Deliver, Ignore, Acts, Lose, Reset, Cut, Stop}
+use Rattle.node_laws.proofs.Words.{Acts, AllShdlcAllowed, Control, Deliver, EndState, Ignore, LinkState, OnWire, SafeLink, Session, ShdlcEndEvent, ShdlcLink}
+use Rattle.node_laws.proofs.Words.{ShdlcLinkEvent, Turns, Up, Waiting, act_frame, is_rset, is_up, most_frames, new_end, no_session, reset_with, shdlc_after}
+use Rattle.node_laws.proofs.Words.{shdlc_becomes, shdlc_exchanged, shdlc_happens_at_controller, shdlc_put_all, shdlc_silent, shdlc_turned, stopped, take_answer}
+use Rattle.node_laws.proofs.Words.{taken, took_with, with_shdlc_ended}
+use Rattle.shdlc_core.specs.declared.answers.LinkState.TheVariants.{Down}
+use Rattle.shdlc_core.specs.Machine.{frames_of}
+use Rattle.link_laws.specs.sessions.Sessions.{NumberedShdlc, shdlc_number_of, shdlc_session_of, ended_session}
+use Rattle.link_laws.specs.sessions.Sessions.{shdlc_put}
+use Rattle.link_laws.specs.sessions.Sessions.ShdlcEndEvent.{Lose, Reset, Cut, Stop}
 use Rattle.link_laws.specs.sessions.Sessions.ShdlcLinkEvent.{AtController, AtHost}
 use Rattle.link_laws.proofs.sessions.Data.{Base, Below, none_ended, of_up}
-use Rattle.link_laws.proofs.sessions.Sending.{SafeLink}
 use Rattle.link_laws.proofs.sessions.Steps.{safe_event, safe_exchanged}
 use Rattle.node_laws.proofs.Cases.{by_test}
 

@@ -2,15 +2,12 @@
 use Rattle.std.proofs.Common.{◌≡◌, ℕ, zero, suc, ◌*◌, List, [], ◌∷◌, ◌++◌, map, refl, ap, sym, subst, ◌∙◌, arith, length, append-nil}
 use Rattle.std.specs.Prelude.{replicate}
 use Rattle.std.proofs.lemmas.List.{map-append}
-use Rattle.link_laws.specs.messages.Links.{Link, LinkEvent, IsStart, AllAllowed, after_link_events}
-use Rattle.link_laws.specs.entries.Entries.End.{Controller, Host}
-use Rattle.link_laws.proofs.messages.Runs.{Good, Reached}
-use Rattle.link_laws.proofs.messages.Whole.{from_start, reached}
-use Rattle.link_laws.specs.messages.Projection.{core_of}
+use Rattle.node_laws.proofs.Words.{AcksAtMost, AllAllowed, AllAtController, AllAtHost, AreTakenInTurn, Controller, Good, Host, Link, LinkEvent, Reached}
+use Rattle.node_laws.proofs.Words.{after_link_events, core_of, end_of, from_start, reached}
+use Rattle.link_laws.specs.messages.Links.{IsStart}
 use Rattle.history.specs.Histories.{Cause}
 use Rattle.history.specs.Histories.Cause.{Taken, Ticked}
-use Rattle.history.specs.Steps.{end_of, event_of, link_after_all}
-use Rattle.node_laws.specs.acked.InTurn.{AllAtController, AllAtHost, AreTakenInTurn, AcksAtMost}
+use Rattle.history.specs.Steps.{event_of, link_after_all}
 use Rattle.node_laws.specs.rounds.BareRounds.{causes_of_round, link_after_round, causes_of_rounds}
 use Rattle.node_laws.proofs.acked.InTurn.{good_after, front_acks}
 use Rattle.node_laws.proofs.rounds.BareRounds.{after_causes, bare_round_allowed}

@@ -1,13 +1,7 @@
 -- Four fragments more may indeed count as acknowledged in one round.
 use Rattle.std.proofs.Common.{◌≡◌, [], ◌∷◌, refl}
 use Rattle.std.specs.Prelude.{replicate}
-use Rattle.link_laws.specs.machine.Machine.Role.{Bare}
-use Rattle.link_laws.specs.machine.Machine.Turn.{Give}
-use Rattle.link_laws.specs.messages.Links.{Link, new_link, happens}
-use Rattle.link_laws.specs.messages.Links.Ending.{GoesOut}
-use Rattle.link_laws.specs.messages.Links.Comes.{NoInput}
-use Rattle.link_laws.specs.messages.Links.EndEvent.{Step}
-use Rattle.link_laws.specs.messages.Links.LinkEvent.{AtController}
+use Rattle.node_laws.proofs.Words.{AtController, Bare, Give, GoesOut, Link, NoInput, Step, happens, new_link}
 use Rattle.node_laws.specs.acked.InTurn.{acked_at_controller}
 use Rattle.node_laws.specs.rounds.BareRounds.{link_after_round}
 

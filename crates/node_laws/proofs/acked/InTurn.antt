@@ -3,25 +3,23 @@ use Rattle.std.proofs.Common.{◌≡◌, ℕ, ◌+◌, ◌-◌, ◌≤◌, Bool,
 use Rattle.std.proofs.Common.{arith, length, append-nil}
 use Rattle.std.specs.Prelude.{nat_le}
 use Rattle.std.proofs.lemmas.Bool.{leb-true}
-use Rattle.hcp_packet.specs.Packets.{packet_count, AreSendable}
+use Rattle.node_laws.proofs.Words.{AcksAtMost, Activate, AllAllowed, AllAtController, AllAtHost, AreSendable, AreTakenInTurn, AsksReset, AtController, AtHost}
+use Rattle.node_laws.proofs.Words.{CutOff, EndEvent, Ending, GoesOut, Good, Link, LinkEnd, LinkEvent, Lose, Message, NextFrame, NoInput, NumberedEnd, Reached}
+use Rattle.node_laws.proofs.Words.{Refused, Starts, Step, Stops, TicksWithout, Turn, after_link_events, core_event, core_of, exchanged, happens, is_open}
+use Rattle.node_laws.proofs.Words.{reset_refusal, steps_at_controller, whole_acked, whole_among, window_of}
+use Rattle.hcp_packet.specs.Packets.{packet_count}
 use Rattle.link_laws.specs.sessions.Sessions.{ShdlcLink as CoreLink, ShdlcEndEvent as CoreEndEvent, ShdlcLinkEvent as CoreLinkEvent}
 use Rattle.link_laws.specs.sessions.Sessions.{shdlc_after as core_after}
 use Rattle.link_laws.specs.sessions.Sessions.ShdlcLinkEvent.{AtController as CoreAtController, AtHost as CoreAtHost}
-use Rattle.link_laws.specs.machine.Machine.{LinkEnd, Message, Refused, Turn, reset_refusal, window_of, whole_among, whole_acked, is_open}
-use Rattle.link_laws.specs.messages.Links.{Link, LinkEvent, EndEvent, Ending, NumberedEnd, exchanged, happens, steps_at_controller}
-use Rattle.link_laws.specs.messages.Links.{AllAllowed, after_link_events}
-use Rattle.link_laws.specs.messages.Links.Ending.{GoesOut, CutOff}
-use Rattle.link_laws.specs.messages.Links.Comes.{NextFrame, AsksReset, Starts, Stops, NoInput}
-use Rattle.link_laws.specs.messages.Links.EndEvent.{Step, Lose}
-use Rattle.link_laws.specs.messages.Links.LinkEvent.{AtController, AtHost, Ticks, TicksWithout, Activate}
-use Rattle.link_laws.specs.messages.Projection.{core_of, core_events, core_event, core_here, core_step, core_reset, core_ending, core_tick_rest}
+use Rattle.link_laws.specs.messages.Links.LinkEvent.{Ticks}
+use Rattle.link_laws.specs.messages.Projection.{core_events, core_here, core_step, core_reset, core_ending, core_tick_rest}
 use Rattle.link_laws.specs.messages.Projection.{is_lost_tick}
 use Rattle.link_laws.proofs.messages.Project.{Tells}
-use Rattle.link_laws.proofs.messages.Runs.{Good, Reached, run, safe_reached}
+use Rattle.link_laws.proofs.messages.Runs.{run, safe_reached}
 use Rattle.link_laws.proofs.messages.Whole.{sendable}
 use Rattle.node_laws.proofs.Cases.{by_test}
 use Rattle.node_laws.proofs.telling.Events.{after-append}
-use Rattle.node_laws.specs.acked.InTurn.{AllAtController, AllAtHost, TakesNoFrame, TakeNoFrames, AreTakenInTurn, AcksAtMost}
+use Rattle.node_laws.specs.acked.InTurn.{TakesNoFrame, TakeNoFrames}
 use Rattle.node_laws.specs.acked.InTurn.{acked_at_controller, acked_at_host}
 use Rattle.node_laws.proofs.acked.Alone.{AllNear, AllFar, near_alone, far_alone}
 use Rattle.node_laws.proofs.acked.NoneTaken.{DeliversNone, NoneDelivered, none_added}

@@ -1,15 +1,17 @@
 -- While no end of a link takes a frame, no more fragments count as acknowledged.
 use Rattle.std.proofs.Common.{◌≡◌, ℕ, ◌+◌, ◌≤◌, Bool, true, false, List, [], ◌∷◌, Option, Some, None, refl, ap, ◌∙◌, arith, map}
 use Rattle.std.specs.Prelude.{is_some, nat_lt}
-use Rattle.shdlc_core.specs.declared.answers.LinkState.{LinkState}
-use Rattle.shdlc_core.specs.declared.answers.LinkState.TheVariants.{Down, Waiting, Up}
-use Rattle.shdlc_core.specs.Machine.{EndState, new_end, stopped, ticked, tick_answer, reset_with, is_waiting, runs_timer, most_frames}
-use Rattle.link_laws.specs.sessions.Sessions.{OnWire, ShdlcLink, ShdlcTurn, shdlc_exchanged, is_up, shdlc_put_all, shdlc_becomes, with_shdlc_ended}
-use Rattle.link_laws.specs.sessions.Sessions.{shdlc_turn, shdlc_turned, act_frame, took_with, ShdlcEndEvent, ShdlcLinkEvent, AllShdlcAllowed, AreTurns, IsTurn}
-use Rattle.link_laws.specs.sessions.Sessions.{shdlc_silent, shdlc_happens_at_controller, shdlc_all_at_controller, shdlc_ticks_at_controller, shdlc_aged}
-use Rattle.link_laws.specs.sessions.Sessions.{ticks_or_cut, ticks_if_waiting, shdlc_happens, shdlc_after}
+use Rattle.node_laws.proofs.Words.{Acts, AllShdlcAllowed, Deliver, EndState, Ignore, LinkState, OnWire, ShdlcEndEvent, ShdlcLink, ShdlcLinkEvent, Turns, Up}
+use Rattle.node_laws.proofs.Words.{Waiting, act_frame, is_up, is_waiting, most_frames, new_end, reset_with, runs_timer, shdlc_after, shdlc_becomes}
+use Rattle.node_laws.proofs.Words.{shdlc_exchanged, shdlc_happens_at_controller, shdlc_put_all, shdlc_silent, shdlc_turned, stopped, tick_answer, ticked}
+use Rattle.node_laws.proofs.Words.{took_with, with_shdlc_ended}
+use Rattle.shdlc_core.specs.declared.answers.LinkState.TheVariants.{Down}
+use Rattle.link_laws.specs.sessions.Sessions.{ShdlcTurn}
+use Rattle.link_laws.specs.sessions.Sessions.{shdlc_turn, AreTurns, IsTurn}
+use Rattle.link_laws.specs.sessions.Sessions.{shdlc_all_at_controller, shdlc_ticks_at_controller, shdlc_aged}
+use Rattle.link_laws.specs.sessions.Sessions.{ticks_or_cut, ticks_if_waiting, shdlc_happens}
 use Rattle.link_laws.specs.sessions.Sessions.ShdlcTurn.{Offer, SetReady}
-use Rattle.link_laws.specs.sessions.Sessions.ShdlcEndEvent.{Turns, Deliver, Ignore, Acts, Lose, Reset, Cut, Stop}
+use Rattle.link_laws.specs.sessions.Sessions.ShdlcEndEvent.{Lose, Reset, Cut, Stop}
 use Rattle.link_laws.specs.sessions.Sessions.ShdlcLinkEvent.{AtController, AtHost, Tick, TickWithout}
 use Rattle.link_laws.proofs.places.Joined.{ready_cases}
 use Rattle.link_laws.proofs.entries.Stepping.{fetched_acked}

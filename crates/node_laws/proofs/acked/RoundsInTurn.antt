@@ -2,23 +2,16 @@
 use Rattle.std.proofs.Common.{◌≡◌, ℕ, zero, suc, ◌==◌, ◌&&◌, Bool, true, false, cond, not, List, [], ◌∷◌, ◌++◌, Option, Some, None}
 use Rattle.std.proofs.Common.{refl, ap, sym, subst, ◌∙◌, length, append_assoc}
 use Rattle.std.specs.Prelude.{replicate}
-use Rattle.trace_model.specs.declared.line.End.{End}
+use Rattle.node_laws.proofs.Words.{AllAtController, AllAtHost, AreDifferent, AreTakenInTurn, AtController, AtHost, End, Link, LinkEvent, NextFrame, Node}
+use Rattle.node_laws.proofs.Words.{NodeWorld, Site, Takes, all_aged, can_happen, controller_ticks, end_c, end_h, ends_in_order, ends_take_all, exchanged}
+use Rattle.node_laws.proofs.Words.{frames_at, happenings, hosts_in, input_of, is_waiting, link_events_in, link_to, site_at, world_step}
 use Rattle.trace_model.specs.declared.line.Line.TheVariants as line
-use Rattle.shdlc_core.specs.Machine.{is_waiting}
-use Rattle.link_laws.specs.messages.Links.{Link, LinkEvent, Node, exchanged}
-use Rattle.link_laws.specs.messages.Links.Comes.{NextFrame}
-use Rattle.link_laws.specs.messages.Links.LinkEvent.{AtController, AtHost}
-use Rattle.node_machine.specs.world.World.{Site, NodeWorld, site_at, link_to, input_of}
-use Rattle.node_machine.specs.world.World.{end_c, end_h, all_aged, controller_ticks, world_step}
-use Rattle.node_machine.specs.world.World.Happening.{Takes, Ticks as TimePassing}
-use Rattle.node_machine.specs.world.Lines.{can_happen, happenings, frames_at}
-use Rattle.node_laws.specs.kept.Hosts.{AreDifferent}
-use Rattle.node_laws.specs.telling.Telling.{hosts_in}
+use Rattle.node_machine.specs.world.World.Happening.{Ticks as TimePassing}
 use Rattle.node_laws.proofs.Cases.{by_test, by_option}
 use Rattle.node_laws.proofs.telling.Nodes.{site_host}
-use Rattle.node_laws.specs.acked.InTurn.{AllAtController, AllAtHost, TakeNoFrames, AreTakenInTurn}
-use Rattle.node_machine.specs.world.Rounds.{ends_in_order, end_takes_all, ends_take_all}
-use Rattle.node_laws.specs.rounds.LinkEvents.{link_events_in, controller_takes, site_takes, tick_so, ticks_on, on_site}
+use Rattle.node_laws.specs.acked.InTurn.{TakeNoFrames}
+use Rattle.node_machine.specs.world.Rounds.{end_takes_all}
+use Rattle.node_laws.specs.rounds.LinkEvents.{controller_takes, site_takes, tick_so, ticks_on, on_site}
 use Rattle.node_laws.specs.rounds.RoundEvents.{events_on, ends_events, round_events}
 use Rattle.node_laws.proofs.rounds.Ends.{ends_of, order_is, ends-append, AreOthers, Split, split, events-append}
 

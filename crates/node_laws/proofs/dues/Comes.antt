@@ -8,48 +8,21 @@ use Rattle.std.proofs.lemmas.Bool.{true≢false}
 use Rattle.std.proofs.lemmas.List.Concat.{flat_map-append}
 use mathlib.Core.Bool.{or-false}
 use Rattle.registry.proofs.ValueLemmas.{AllByRecursion-append as all_append}
-use Rattle.trace_model.specs.declared.entry.Entry.{Entry}
+use Rattle.node_laws.proofs.Words.{AnswersSo, AreDifferent, AreHosts, AreNamed, AreNotOf, AreSessionsRead, AsksReset, AtEnd, Bare, Comes, Command, Controller}
+use Rattle.node_laws.proofs.Words.{Creation, Desk, End, Entry, Happening, HasEnds, HasRoomForAll, HciTables, IfRuns, IsClf, IsDueAt, IsFresh, IsNamed}
+use Rattle.node_laws.proofs.Words.{IsNoAnswer, IsOrderly, Link, LinkEnd, LinkInput, LinkState, NextFrame, NoInput, NodeWorld, NumberedEnd, Occurrence, OnWire}
+use Rattle.node_laws.proofs.Words.{Port, ReadsBetween, Reset, Response, Running, RunsSo, Site, Start, Starts, Stop, Stops, Take, Work, after_controller}
+use Rattle.node_laws.proofs.Words.{arrival, asking_in, begun_at, comes_to, controller_begins, controller_does, creation_read, down_in, end_c, end_of, ended_by}
+use Rattle.node_laws.proofs.Words.{entries_for, entries_in, frames_noted, goes_down, has_come, has_come_so, hosts_in, hosts_of_ends, input_at, input_of}
+use Rattle.node_laws.proofs.Words.{is_answer_of, is_late_in, is_of_node, is_over, is_own_reset, link_to, lpdu_of, near_end_in, new_link, new_sync, node_of}
+use Rattle.node_laws.proofs.Words.{notice_in, number_now, owed, owed_in, port_at, port_for, report, same_end, session_now, session_of_port, site_at, steps}
+use Rattle.node_laws.proofs.Words.{synced, syncs_in, tables_in, told_of_coming, wires_for}
 use Rattle.trace_model.specs.declared.entry.Entry.TheVariants as entry
-use Rattle.trace_model.specs.declared.line.End.{End}
-use Rattle.swp_lpdu.specs.Controls.{lpdu_of}
-use Rattle.gate_answers.specs.declared.response.Response.{Response}
 use Rattle.gate_answers.specs.declared.response.Response.TheVariants as response
-use Rattle.hci_tables.specs.declared.command.Command.{Command}
-use Rattle.hci_tables.specs.Tables.{HciTables}
-use Rattle.shdlc_core.specs.declared.answers.LinkState.{LinkState}
 use Rattle.shdlc_core.specs.declared.answers.LinkState.TheVariants.{Up as IsUpNow}
-use Rattle.link_laws.specs.sessions.Sessions.{OnWire}
-use Rattle.link_laws.specs.machine.Machine.{LinkEnd, LinkInput, ended_by, report}
-use Rattle.link_laws.specs.machine.Machine.LinkInput.{Reset, Start, Stop, Take}
-use Rattle.link_laws.specs.machine.Machine.Role.{Bare}
-use Rattle.link_laws.specs.messages.Links.{Comes, IsClf, Link, NumberedEnd, new_link}
-use Rattle.link_laws.specs.messages.Links.Comes.{AsksReset, NextFrame, NoInput, Starts, Stops}
-use Rattle.link_laws.specs.entries.Entries.End.{Controller}
-use Rattle.link_laws.specs.entries.Sessions.{number_now}
-use Rattle.history.specs.Filters.{same_end}
-use Rattle.history.specs.Steps.{end_of, entries_for}
-use Rattle.node_machine.specs.Parts.{Creation, Desk, Port, Running, Work}
-use Rattle.node_machine.specs.Carrying.{port_at}
-use Rattle.node_machine.specs.Node.{has_come, input_at, is_over, owed, steps, synced}
-use Rattle.node_machine.specs.Node.NodeInput.{AtEnd}
-use Rattle.node_machine.specs.world.World.{Happening, NodeWorld, Site, after_controller, arrival}
-use Rattle.node_machine.specs.world.World.{comes_to, controller_does, end_c, frames_noted, input_of}
-use Rattle.node_machine.specs.world.World.{link_to, near_end_in, node_of, port_for, site_at, wires_for}
-use Rattle.node_machine.specs.world.Lines.{Occurrence}
-use Rattle.node_machine.specs.world.NodeHistories.{entries_in}
-use Rattle.node_machine.specs.world.NodeFilters.{asking_in, notice_in, session_now, tables_in}
-use Rattle.node_laws.specs.kept.Books.{hosts_of_ends}
-use Rattle.node_laws.specs.kept.Hosts.{AreDifferent, AreHosts}
-use Rattle.node_laws.specs.kept.Worlds.{IfRuns, RunsSo}
-use Rattle.node_laws.specs.telling.Telling.{HasEnds, IsOrderly, hosts_in}
 use Rattle.node_laws.proofs.All.{all_flat}
 use Rattle.node_laws.proofs.Cases.{by_option, by_test}
 use Rattle.node_laws.proofs.telling.Nodes.{Stands, hosts_same, link_is, stands}
-use Rattle.node_laws.specs.order.Told.{AreSessionsRead}
-use Rattle.node_laws.specs.passes.Noting.{session_of_port}
-use Rattle.node_laws.specs.passes.Steps.{controller_begins, has_come_so, syncs_in, told_of_coming}
-use Rattle.node_laws.specs.power.Powers.{AreNotOf, is_of_node}
-use Rattle.node_laws.specs.readings.Orders.{IsFresh}
 use Rattle.node_laws.proofs.links.Noticing.{at_host}
 use Rattle.node_laws.proofs.passes.InSteps.{IsBehind, step_notes, IsOfStep}
 use Rattle.node_laws.proofs.passes.Replying.{session_in}
@@ -63,14 +36,9 @@ use Rattle.node_laws.proofs.notices.Far.{AreFar, far_reads}
 use Rattle.node_laws.proofs.notices.Reading.{notice_more}
 use Rattle.node_laws.proofs.notices.Sites.{arrival_quiet}
 use Rattle.node_laws.proofs.steps.Ports.{at_port}
-use Rattle.node_laws.specs.answers.Answered.{AnswersSo, IsDueAt}
-use Rattle.node_laws.specs.answers.Moments.{creation_read, noted_of_deeds}
-use Rattle.node_laws.specs.answers.Order.{is_answer_of}
-use Rattle.node_laws.specs.answers.Unasked.{age_in, begun_at, down_in, due, ends_session, goes_down, is_late_in, is_own_reset, is_tick, new_sync, owed_in}
+use Rattle.node_laws.specs.answers.Moments.{noted_of_deeds}
+use Rattle.node_laws.specs.answers.Unasked.{age_in, due, ends_session, is_tick}
 use Rattle.node_laws.specs.answers.Unasked.{still_asked}
-use Rattle.node_laws.specs.replies.Known.{HasRoomForAll, IsNoAnswer}
-use Rattle.node_laws.specs.read_steps.Names.{AreNamed, IsNamed}
-use Rattle.node_laws.specs.read_steps.Worlds.{ReadsBetween}
 use Rattle.node_laws.proofs.dues.Ended.{any_cause, ends_at}
 use Rattle.node_laws.proofs.dues.Freed.{IsElse, come_found, come_none, come_so, same_port}
 use Rattle.node_laws.proofs.dues.Near.{near_due}

@@ -4,34 +4,22 @@ use Rattle.std.specs.Prelude.{not, Option, Some, None}
 use Rattle.std.specs.List.{AllByRecursion, filter, flat_map}
 use Rattle.std.specs.Option.{option_map_or}
 use Rattle.std.proofs.lemmas.Bool.{true≢false}
-use Rattle.trace_model.specs.declared.entry.Entry.{Entry}
-use Rattle.gate_answers.specs.declared.response.Response.{Response}
+use Rattle.node_laws.proofs.Words.{AreDifferent, AreHosts, AreNamed, Creation, Entry, NodeInput, Occurrence, Port, Response, Work, asked_at, asking_in}
+use Rattle.node_laws.proofs.Words.{creation_read, down_in, end_c, entries_in, forgets, goes_down, has_come_so, hosts_of_ends, is_late_in, is_over, is_over_at}
+use Rattle.node_laws.proofs.Words.{notice_in, owed, owed_in, owed_in_step, port_at}
 use Rattle.gate_answers.specs.declared.response.Response.TheVariants as response
-use Rattle.node_machine.specs.Parts.{Creation, Port, Work}
-use Rattle.node_machine.specs.Carrying.{port_at}
-use Rattle.node_machine.specs.Controller.{asked_at}
-use Rattle.node_machine.specs.Node.{NodeInput, forgets, is_over, is_over_at, owed}
-use Rattle.node_machine.specs.world.Lines.{Occurrence}
-use Rattle.node_machine.specs.world.NodeHistories.{entries_in}
-use Rattle.node_machine.specs.world.NodeFilters.{asking_in, notice_in}
-use Rattle.node_laws.specs.kept.Books.{hosts_of_ends}
-use Rattle.node_laws.specs.kept.Hosts.{AreDifferent, AreHosts}
 use Rattle.node_laws.proofs.Cases.{by_option}
 use Rattle.node_laws.proofs.telling.Steps.{forgets_same}
-use Rattle.node_laws.specs.passes.Steps.{has_come_so, owed_in_step}
 use Rattle.node_laws.proofs.links.Noticing.{at_host}
 use Rattle.node_laws.proofs.creations.Asks.{Asked, asked_of, waits}
 use Rattle.node_laws.proofs.creations.Coming.{ComeAt, over_at}
 use Rattle.node_laws.proofs.creations.Doing.{many}
-use Rattle.node_laws.specs.answers.Moments.{creation_read}
-use Rattle.node_laws.specs.answers.Unasked.{down_in, goes_down, is_late_in, owed_in, still_asked}
-use Rattle.node_laws.specs.read_steps.Names.{AreNamed}
+use Rattle.node_laws.specs.answers.Unasked.{still_asked}
 use Rattle.node_laws.proofs.dues.Ended.{any_cause, asking_behind, downs_are, downs_end, kept_behind, read_behind, unless_over}
 use Rattle.node_laws.proofs.dues.Freed.{come, come_different, forgets_ended}
 use Rattle.node_laws.proofs.replies.Creations.{IsIn, asked_same, awaited_same, in_waits}
 use Rattle.node_laws.proofs.replies.Ends.{all_found}
 use Rattle.node_laws.proofs.read_steps.Starting.{IsBegun}
-use Rattle.node_machine.specs.world.World.{end_c}
 
 -- ## Lists
 

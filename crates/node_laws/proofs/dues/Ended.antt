@@ -6,20 +6,11 @@ use Rattle.std.specs.Option.{option_map_or}
 use Rattle.std.proofs.lemmas.Bool.{true≢false}
 use Rattle.std.proofs.lemmas.List.Sums.{fold-append}
 use Rattle.swp_base.specs.declared.link_terms.Cause.{Cause as EndedBy}
-use Rattle.trace_model.specs.declared.entry.Entry.{Entry}
+use Rattle.node_laws.proofs.Words.{Creation, End, Entry, Notice, PipeRow, Port, asked_at, asking_in, body_in, creation_in, creation_read, end_c, forgets}
+use Rattle.node_laws.proofs.Words.{instruction_in, is_forgotten, is_over_at, same_end, session_now}
 use Rattle.trace_model.specs.declared.entry.Entry.TheVariants as entry
-use Rattle.trace_model.specs.declared.line.End.{End}
-use Rattle.pipe_table.specs.declared.row.PipeRow.{PipeRow}
-use Rattle.gate_answers.specs.Answers.{body_in, instruction_in}
-use Rattle.history.specs.Filters.{same_end}
 use Rattle.history.specs.Damage.{same_bytes}
-use Rattle.node_machine.specs.Parts.{Creation, Notice, Port}
-use Rattle.node_machine.specs.Controller.{asked_at, creation_in}
 use Rattle.node_machine.specs.HostReplies.{pipe_named_in}
-use Rattle.node_machine.specs.Node.{forgets, is_forgotten, is_over_at}
-use Rattle.node_machine.specs.world.World.{end_c}
-use Rattle.node_machine.specs.world.NodeFilters.{asking_in, session_now}
-use Rattle.node_laws.specs.answers.Moments.{creation_read}
 use Rattle.node_laws.specs.answers.Unasked.{ends_session, is_down}
 use Rattle.node_laws.proofs.Cases.{by_option, by_test}
 use Rattle.node_laws.proofs.worlds.Downs.{ends_in_list}

@@ -4,55 +4,32 @@ use Rattle.std.specs.Prelude.{◌==◌, IsTrue, Some, None, unwrap_or}
 use Rattle.std.specs.List.{AllByRecursion, flat_map}
 use Rattle.std.proofs.lemmas.Bool.{true≢false}
 use Rattle.trace_model.specs.Lines.{IsNodeHeader}
-use Rattle.trace_model.specs.declared.entry.Entry.{Entry}
+use Rattle.node_laws.proofs.Words.{Activates, AreHosts, AreNotOf, ArePlayable, Arms, AsksReset, AtEnd, Boots, Comes, Controller, Deed, End, Entry, FollowsNodes}
+use Rattle.node_laws.proofs.Words.{Gives, Happening, Header, Host, Inits, IsBegunByHost, IsClf, IsCut, IsDueAt, IsFew, IsOrderly, IsSentByHost, Line, LinkInput}
+use Rattle.node_laws.proofs.Words.{Loses, Loss, NextFrame, NoInput, NodeHistory, NodeWorld, Occurrence, OnWire, ReadsBetween, Resets, Site, Starts, Takes}
+use Rattle.node_laws.proofs.Words.{Ticks, Work, all_aged, beginning, begins_with, begun_at, boot_found, boots, by_boot, by_coming, by_controller}
+use Rattle.node_laws.proofs.Words.{by_controller_tick, by_loss, comes_at, comes_to, controller_does, controller_ticks, controller_work, count_of, end_c, end_h}
+use Rattle.node_laws.proofs.Words.{entries_for, entries_in, first_lost, first_verdict, frame_lost, frames_at, frames_noted, happenings, host_does, hosts_tick}
+use Rattle.node_laws.proofs.Words.{input_of, is_answer_of, link_to, near_tick, new_world, node_entries, node_of, occurrences_in, refusal_in, sending, site_at}
+use Rattle.node_laws.proofs.Words.{steps, tables_in, taken_of, wires_for, world_behind, world_step, world_ticks}
 use Rattle.trace_model.specs.declared.entry.Entry.TheVariants as entry
-use Rattle.trace_model.specs.declared.line.End.{End}
-use Rattle.trace_model.specs.declared.line.Header.{Header}
-use Rattle.trace_model.specs.declared.line.Line.{Line}
 use Rattle.trace_model.specs.declared.line.Line.TheVariants as line
-use Rattle.journal_laws.specs.Journal.{count_of}
-use Rattle.link_laws.specs.sessions.Sessions.{OnWire}
-use Rattle.link_laws.specs.machine.Machine.{LinkInput}
-use Rattle.link_laws.specs.messages.Links.{Comes, IsClf, Loss}
-use Rattle.link_laws.specs.messages.Links.Comes.{AsksReset, NextFrame, NoInput, Starts}
-use Rattle.link_laws.specs.entries.Entries.{End as Side, first_lost}
-use Rattle.link_laws.specs.entries.Entries.End.{Controller, Host}
-use Rattle.history.specs.Follows.{first_verdict, taken_of}
-use Rattle.history.specs.Steps.{entries_for}
-use Rattle.node_machine.specs.Parts.{Deed, Work}
-use Rattle.node_machine.specs.Node.{begins_with, steps}
-use Rattle.node_machine.specs.Node.NodeInput.{AtEnd}
-use Rattle.node_machine.specs.world.World.{Happening, NodeWorld, Site, all_aged, beginning, boots, comes_at, comes_to, controller_does, controller_ticks}
-use Rattle.node_machine.specs.world.World.{controller_work, end_c, end_h, frame_lost, frames_noted, host_does, hosts_tick, input_of, link_to, new_world}
-use Rattle.node_machine.specs.world.World.{node_of, sending, site_at, wires_for, world_step, world_ticks}
-use Rattle.node_machine.specs.world.World.Happening.{Activates, Arms, Boots, Gives, Inits, IsCut, Loses, Resets, Takes, Ticks}
-use Rattle.node_machine.specs.world.Lines.{Occurrence, frames_at, happenings, refusal_in}
-use Rattle.node_machine.specs.world.NodeHistories.{FollowsNodes, NodeHistory, entries_in, node_entries, occurrences_in}
-use Rattle.node_machine.specs.world.NodeFilters.{tables_in}
-use Rattle.node_machine.proofs.world.Cases.{boot_found, by_boot, by_coming, by_controller, by_loss, near_tick}
-use Rattle.node_machine.proofs.world.Cases.{by_controller_tick}
-use Rattle.node_laws.specs.kept.Hosts.{AreHosts, IsFew, IsSentByHost}
-use Rattle.node_laws.specs.telling.Telling.{IsOrderly, world_behind}
+use Rattle.link_laws.specs.entries.Entries.{End as Side}
 use Rattle.node_laws.proofs.Cases.{by_test}
 use Rattle.node_laws.proofs.telling.Events.{comes_goes}
 use Rattle.node_laws.proofs.telling.Frames.{lost_all}
 use Rattle.node_laws.proofs.telling.Lasting.{AllMay, AreCaused, damaged_may, events_of_steps, lines_caused, repeated_may}
 use Rattle.node_laws.proofs.telling.Worlds.{site_is}
-use Rattle.node_laws.specs.links.Runs.{ArePlayable}
-use Rattle.node_laws.specs.power.Powers.{AreNotOf}
 use Rattle.node_laws.proofs.links.Worlds.{IsFineSite}
 use Rattle.node_laws.proofs.order.Lines.{IsSo, history_so}
 use Rattle.node_laws.proofs.power.Doing.{IsMine}
 use Rattle.node_laws.proofs.power.Events.{begins_part, sending_mine}
 use Rattle.node_laws.proofs.power.Parts.{own_not, part_own}
 use Rattle.node_laws.proofs.readings.Sites.{lost_quiet}
-use Rattle.node_laws.specs.views.Inits.{IsBegunByHost}
-use Rattle.node_laws.specs.answers.Answered.{AreDue, IsDueAt}
+use Rattle.node_laws.specs.answers.Answered.{AreDue}
 use Rattle.node_laws.specs.answers.Moments.{AtEachOccurrence}
-use Rattle.node_laws.specs.answers.Order.{is_answer_of}
-use Rattle.node_laws.specs.answers.Unasked.{begun_at, is_tick}
+use Rattle.node_laws.specs.answers.Unasked.{is_tick}
 use Rattle.node_laws.specs.schedules.Ranges.{AreNodeLinesOf, IsNodeLineOf}
-use Rattle.node_laws.specs.read_steps.Worlds.{ReadsBetween}
 use Rattle.node_laws.proofs.dues.Comes.{comes_due, nothing_due, others_due, owed_calm}
 use Rattle.node_laws.proofs.dues.Ended.{any_cause, ends_at}
 use Rattle.node_laws.proofs.dues.Taken.{IsUnread, first_tookless, tookless_all}

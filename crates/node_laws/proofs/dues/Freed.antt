@@ -4,34 +4,17 @@ use Rattle.std.specs.Prelude.{Option, Some, None}
 use Rattle.std.specs.List.{AllByRecursion, filter, filter_map, flat_map}
 use Rattle.std.specs.Option.{option_map_or}
 use Rattle.std.proofs.lemmas.Bool.{eqb-true, true≢false}
-use Rattle.trace_model.specs.declared.entry.Entry.{Entry}
+use Rattle.node_laws.proofs.Words.{AreDifferent, AreHosts, AtEnd, Command, Commits, Creation, Deed, Entry, IsFresh, IsOutside, LinkEnd, LinkInput, LinkState}
+use Rattle.node_laws.proofs.Words.{NodeInput, Port, Release, Releases, Tick, TimePasses, Up, Work, after_sessions, all_done, all_synced_hold, asked_at, commit}
+use Rattle.node_laws.proofs.Words.{done, forgets, forgotten, forgotten_hold, has_come, has_come_so, has_freed, has_synced, hosts_of_ends, input_at}
+use Rattle.node_laws.proofs.Words.{is_forgotten, is_late, is_over, is_over_at, is_up, owed, owed_in_step, port_at, reset_late, session_of_port, syncs_in}
+use Rattle.node_laws.proofs.Words.{with_older, without_notice}
 use Rattle.gate_answers.specs.declared.response.Response.TheVariants as response
-use Rattle.shdlc_core.specs.declared.answers.LinkState.{LinkState}
-use Rattle.shdlc_core.specs.declared.answers.LinkState.TheVariants.{Up}
-use Rattle.hci_tables.specs.declared.command.Command.{Command}
-use Rattle.link_laws.specs.sessions.Sessions.{is_up}
-use Rattle.link_laws.specs.machine.Machine.{LinkEnd, LinkInput}
-use Rattle.link_laws.specs.machine.Machine.LinkInput.{Tick}
-use Rattle.link_laws.specs.machine.Machine.Turn.{Release}
-use Rattle.node_machine.specs.Parts.{Creation, Deed, Port, Work}
-use Rattle.node_machine.specs.Parts.Deed.{Commits, Releases}
-use Rattle.node_machine.specs.Carrying.{all_done, commit, done, port_at}
-use Rattle.node_machine.specs.Controller.{asked_at}
-use Rattle.node_machine.specs.Node.{NodeInput, after_sessions, forgets, forgotten, has_come, input_at}
-use Rattle.node_machine.specs.Node.{is_forgotten, is_late, is_over, is_over_at, owed, reset_late}
-use Rattle.node_machine.specs.Node.{with_older, without_notice}
-use Rattle.node_machine.specs.Node.NodeInput.{AtEnd, TimePasses}
-use Rattle.node_laws.specs.kept.Books.{hosts_of_ends}
-use Rattle.node_laws.specs.kept.Hosts.{AreDifferent, AreHosts}
 use Rattle.node_laws.proofs.Cases.{by_test}
 use Rattle.node_laws.proofs.steps.Ports.{at_port, come_host, forgets_host, late_host, without_host}
-use Rattle.node_machine.proofs.Walks.{all_synced_hold, forgotten_hold}
 use Rattle.node_laws.proofs.telling.Away.{at_map, none_map}
 use Rattle.node_laws.proofs.telling.Steps.{come_session, forgets_same, without_same}
-use Rattle.node_laws.specs.links.Notices.{IsOutside}
-use Rattle.node_laws.specs.passes.Noting.{goes_in, session_of_port}
-use Rattle.node_laws.specs.passes.Steps.{has_come_so, has_freed, has_synced, owed_in_step, syncs_in}
-use Rattle.node_laws.specs.readings.Orders.{IsFresh}
+use Rattle.node_laws.specs.passes.Noting.{goes_in}
 use Rattle.node_laws.proofs.links.Noticing.{at_host}
 use Rattle.node_laws.proofs.passes.Replying.{session_in, session_map, turn_sessions}
 use Rattle.node_laws.proofs.creations.Asks.{Asked, asked_of, waits}

@@ -3,24 +3,12 @@ use Rattle.std.proofs.Common.{◌≡◌, ℕ, false, cond, List, [], ◌++◌, s
 use Rattle.std.specs.Prelude.{◌-◌, ◌^◌, min, length, Option, Some, None}
 use Rattle.std.specs.List.{AllByRecursion, flat_map}
 use Rattle.std.specs.Option.{option_map_or}
-use Rattle.trace_model.specs.declared.entry.Entry.{Entry}
-use Rattle.hci_tables.specs.declared.command.Command.{Command}
-use Rattle.node_machine.specs.Parts.{Deed, Port, Work}
-use Rattle.node_machine.specs.Carrying.{port_at}
-use Rattle.node_machine.specs.Node.{NodeInput, is_over, is_over_at, steps}
-use Rattle.node_machine.specs.world.World.{Happening, end_c}
-use Rattle.node_machine.specs.world.Lines.{Occurrence}
-use Rattle.node_machine.specs.world.NodeHistories.{entries_in}
-use Rattle.node_machine.specs.world.NodeFilters.{asking_in, commands_in, notice_in, session_now, tables_in}
-use Rattle.node_laws.specs.kept.Hosts.{AreHosts}
-use Rattle.node_laws.specs.passes.Noting.{entries_of_reply, session_of_port}
-use Rattle.node_laws.specs.passes.Steps.{has_come_so, owed_in_step, syncs_in}
+use Rattle.node_laws.proofs.Words.{AnswersSo, AreHosts, AreNamed, Command, Deed, Entry, Happening, IsDueAt, IsNoAnswer, NodeInput, Occurrence, Port, Work}
+use Rattle.node_laws.proofs.Words.{asking_in, begun_at, commands_in, down_in, end_c, entries_in, entries_of_reply, goes_down, has_come_so, is_late_in, is_over}
+use Rattle.node_laws.proofs.Words.{is_over_at, new_sync, notice_in, owed_in, owed_in_step, port_at, session_now, session_of_port, steps, syncs_in, tables_in}
 use Rattle.node_laws.proofs.power.Parts.{AreOwn}
 use Rattle.node_laws.proofs.creations.Coming.{over_at}
-use Rattle.node_laws.specs.answers.Answered.{AnswersSo, IsDueAt}
-use Rattle.node_laws.specs.answers.Unasked.{begun_at, down_in, due, goes_down, is_late_in, new_sync, owed_in}
-use Rattle.node_laws.specs.replies.Known.{IsNoAnswer}
-use Rattle.node_laws.specs.read_steps.Names.{AreNamed}
+use Rattle.node_laws.specs.answers.Unasked.{due}
 use Rattle.node_laws.proofs.dues.Deeds.{owed_read}
 use Rattle.node_laws.proofs.dues.Ended.{any_cause, downs_are, downs_end, session_behind}
 use Rattle.node_laws.proofs.dues.Freed.{IsElse, come_different, come_found, come_so}

@@ -6,22 +6,11 @@ use Rattle.std.specs.List.{AllByRecursion, filter, filter_map, flat_map}
 use Rattle.std.specs.Option.{option_map_or}
 use Rattle.std.proofs.lemmas.Bool.{eq-eqb}
 use Rattle.registry.proofs.ValueLemmas.{AllByRecursion-append as all_append}
-use Rattle.trace_model.specs.declared.entry.Entry.{Entry}
+use Rattle.node_laws.proofs.Words.{Creation, Deed, Entry, Give, HciTables, Message, Port, Release, Releases, Response, Sends, State, Work, after_turn, all_done}
+use Rattle.node_laws.proofs.Words.{all_owed, answer_of, asked_at, end_of_number, entries_of_reply, in_use, is_response, owed, port_at, turn_at}
 use Rattle.trace_model.specs.declared.entry.Entry.TheVariants as entry
-use Rattle.journal_laws.specs.declared.state.State.{State}
-use Rattle.hci_tables.specs.Tables.{HciTables}
-use Rattle.gate_answers.specs.declared.response.Response.{Response}
 use Rattle.gate_answers.specs.declared.response.Response.TheVariants as response
-use Rattle.gate_answers.specs.Answers.{answer_of}
-use Rattle.link_laws.specs.machine.Machine.{Message, in_use}
-use Rattle.link_laws.specs.machine.Machine.Turn.{Give, Release}
-use Rattle.node_machine.specs.Parts.{Creation, Port, Work, Deed}
-use Rattle.node_machine.specs.Parts.Deed.{Releases, Sends}
-use Rattle.node_machine.specs.Carrying.{after_turn, all_done, port_at, turn_at, end_of_number}
-use Rattle.node_machine.specs.Controller.{asked_at}
-use Rattle.node_machine.specs.Node.{all_owed, owed}
-use Rattle.node_machine.specs.world.NodeFilters.{is_response}
-use Rattle.node_laws.specs.passes.Noting.{AreTaken, CountsCommands, TakesMessage, entries_of_reply}
+use Rattle.node_laws.specs.passes.Noting.{AreTaken, CountsCommands, TakesMessage}
 use Rattle.node_laws.proofs.Cases.{by_test}
 use Rattle.node_laws.proofs.creations.Asks.{Asked, waits, owes}
 use Rattle.node_laws.proofs.creations.Doing.{EndAt, Good, at_here, on_is, pays, takes_short}

@@ -4,32 +4,19 @@ use Rattle.std.specs.Prelude.{Option, Some}
 use Rattle.std.specs.List.{AllByRecursion}
 use Rattle.std.proofs.lemmas.Bool.{true≢false}
 use Rattle.registry.proofs.ValueLemmas.{AllByRecursion-append as all_append}
-use Rattle.trace_model.specs.declared.entry.Entry.{Entry}
+use Rattle.node_laws.proofs.Words.{AnswersSo, AreHosts, ArePassed, ComesTo, Command, Cut, Deed, Entry, IsNoAnswer, IsReplyNoted, NodeInput, Port, Restarted}
+use Rattle.node_laws.proofs.Words.{Work, all_done, all_owed_hold, comes_to_pass, entries_for, entries_of_reply, forgets, has_come_so, has_freed, has_synced}
+use Rattle.node_laws.proofs.Words.{hosts_of_ends, is_answer_of, is_cut_of, is_over_at, is_turn_of, noted_by_deeds, owed_in_step, passes, port_at}
+use Rattle.node_laws.proofs.Words.{session_of_port, steps, syncs_in, told, told_of_coming, unless_cut}
 use Rattle.trace_model.specs.declared.entry.Entry.TheVariants as entry
-use Rattle.hci_tables.specs.declared.command.Command.{Command}
-use Rattle.link_laws.specs.entries.Entries.{Entry as Noted, told}
-use Rattle.link_laws.specs.entries.Entries.Entry.{Cut, Restarted, Tick as Ticked}
-use Rattle.history.specs.Steps.{entries_for}
-use Rattle.node_machine.specs.Parts.{Deed, Port, Work}
-use Rattle.node_machine.specs.Carrying.{all_done, port_at, unless_cut}
-use Rattle.node_machine.specs.Turns.{passes}
-use Rattle.node_machine.specs.Node.{NodeInput, forgets, is_over_at, steps}
-use Rattle.node_laws.specs.kept.Books.{hosts_of_ends}
-use Rattle.node_laws.specs.kept.Hosts.{AreHosts}
-use Rattle.node_laws.specs.kept.Reckonings.{is_cut_of}
-use Rattle.node_machine.proofs.Walks.{all_owed_hold}
-use Rattle.node_laws.specs.passes.Noting.{IsReplyNoted, entries_of_reply, noted_by_deeds, session_of_port}
-use Rattle.node_laws.specs.passes.Passing.{ArePassed, BeginWithTurn, ComesTo, IsTurnSo}
+use Rattle.link_laws.specs.entries.Entries.{Entry as Noted}
+use Rattle.link_laws.specs.entries.Entries.Entry.{Tick as Ticked}
+use Rattle.node_laws.specs.passes.Passing.{BeginWithTurn, IsTurnSo}
 use Rattle.node_laws.specs.passes.Passing.ComesTo.{Begins}
-use Rattle.node_laws.specs.passes.Steps.{comes_to_pass, has_come_so, has_freed, has_synced}
-use Rattle.node_laws.specs.passes.Steps.{owed_in_step, syncs_in, told_of_coming}
 use Rattle.node_laws.proofs.passes.Coming.{coming_all}
 use Rattle.node_laws.proofs.passes.Before.{before_entries, steps_are}
 use Rattle.node_laws.proofs.passes.Passing.{comes_lasts, through}
 use Rattle.node_laws.proofs.power.Parts.{AreOwn}
-use Rattle.node_laws.specs.answers.Answered.{AnswersSo, is_turn_of}
-use Rattle.node_laws.specs.answers.Order.{is_answer_of}
-use Rattle.node_laws.specs.replies.Known.{IsNoAnswer}
 use Rattle.node_laws.proofs.dues.Freed.{IsElse, freed_good, owed_goes, owed_sent}
 use Rattle.node_laws.proofs.dues.Noted.{both_noted, of_reply, one_command}
 use Rattle.node_laws.proofs.dues.Owed.{Goes, IsOwing, SentSo}

@@ -5,28 +5,13 @@ use Rattle.std.specs.List.{AllByRecursion, flat_map}
 use Rattle.std.specs.Option.{option_map_or}
 use Rattle.std.proofs.lemmas.Bool.{cond_both, eq-eqb, eqb-true}
 use Rattle.swp_base.specs.declared.control_frames.Act.{Act}
-use Rattle.swp_base.specs.declared.control_frames.Act.TheVariants.{PowerMode, Ready, SyncId}
-use Rattle.swp_base.specs.declared.control_frames.Control.{Control}
+use Rattle.node_laws.proofs.Words.{AreDifferent, AtEnd, Bare, Clf, Command, Commits, Control, Core, Deed, HciTables, Inactive, IsClf, LinkEnd, LinkInput, Phase}
+use Rattle.node_laws.proofs.Words.{Port, PowerMode, Ready, Reset, Role, Start, Stop, Sync, SyncId, Take, Tick, TimePasses, Uicc, act_out, finds_room}
+use Rattle.node_laws.proofs.Words.{hosts_of_ends, input_at, is_kept_sync, is_open, port_at, report, synced}
 use Rattle.swp_base.specs.declared.control_frames.Control.TheVariants as control
 use Rattle.swp_act.specs.declared.ActEvent.TheVariants.{Start as ActStart, Stop as ActStop, Take as ActTake, Tick as ActTick}
-use Rattle.swp_act.specs.declared.Phase.{Phase}
-use Rattle.swp_act.specs.declared.Phase.TheVariants.{Inactive}
 use Rattle.swp_act.specs.declared.clf.ClfAct.{ClfAct}
 use Rattle.swp_act.specs.Activation.{clf_step}
-use Rattle.hci_tables.specs.declared.command.Command.{Command}
-use Rattle.hci_tables.specs.declared.command.Command.TheVariants.{Sync}
-use Rattle.hci_tables.specs.Tables.{HciTables, is_kept_sync}
-use Rattle.link_laws.specs.machine.Machine.{LinkEnd, LinkInput, Role, act_out, is_open, report}
-use Rattle.link_laws.specs.machine.Machine.LinkInput.{Reset, Start, Stop, Take, Tick}
-use Rattle.link_laws.specs.machine.Machine.Role.{Bare, Clf, Uicc}
-use Rattle.link_laws.specs.messages.Links.{IsClf}
-use Rattle.node_machine.specs.Parts.{Core, Deed, Port}
-use Rattle.node_machine.specs.Parts.Deed.{Commits}
-use Rattle.node_machine.specs.Carrying.{finds_room, port_at}
-use Rattle.node_machine.specs.Node.{input_at, synced}
-use Rattle.node_machine.specs.Node.NodeInput.{AtEnd, TimePasses}
-use Rattle.node_laws.specs.kept.Books.{hosts_of_ends}
-use Rattle.node_laws.specs.kept.Hosts.{AreDifferent}
 use Rattle.node_laws.proofs.Cases.{by_test}
 use Rattle.node_laws.proofs.dues.Noted.{one_command}
 use Rattle.node_laws.proofs.dues.Taken.{brought, keeps_new}

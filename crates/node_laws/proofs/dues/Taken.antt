@@ -6,34 +6,16 @@ use Rattle.std.specs.Prelude.{◌==◌, find, nat_le, nat_lt, Option, Some, None
 use Rattle.std.specs.List.{AllByRecursion, flat_map}
 use Rattle.std.proofs.lemmas.Bool.{and_right, lt-leb, true≢false}
 use Rattle.registry.proofs.ValueLemmas.{AllByRecursion-append as all_append}
-use Rattle.swp_base.specs.declared.control_frames.Control.{Control}
+use Rattle.node_laws.proofs.Words.{AreNotOf, Commits, Control, Controller, Cut, CutOff, Deed, End, Ending, Entry, GoesOut, HciTables, Host, Link, LinkEnd, Loss}
+use Rattle.node_laws.proofs.Words.{NodeInput, OnWire, PowerMode, Ready, Report, Restarted, Site, Sync, SyncId, TooMany, Took, Work, aged_entries, end_c}
+use Rattle.node_laws.proofs.Words.{ending_entries, ending_of, entries_for, far, first_lost, frames_noted, frames_out, is_kept_sync, is_of_node, lpdu_of}
+use Rattle.node_laws.proofs.Words.{new_sync, node_of, port_at, pushed_out, put, put_entries, puts_entries, told, told_of_coming, wire_with}
 use Rattle.swp_base.specs.declared.control_frames.Control.TheVariants as control
-use Rattle.swp_base.specs.declared.control_frames.Act.TheVariants.{PowerMode, Ready, SyncId}
 use Rattle.swp_lpdu.specs.declared.LpduFault.{LpduFault}
-use Rattle.swp_lpdu.specs.Controls.{LpduRow, control_of, is_within, kind_number, lpdu_of, lpdu_row_of, read_by, table}
-use Rattle.trace_model.specs.declared.entry.Entry.{Entry}
+use Rattle.swp_lpdu.specs.Controls.{LpduRow, control_of, is_within, kind_number, lpdu_row_of, read_by, table}
 use Rattle.trace_model.specs.declared.entry.Entry.TheVariants as entry
-use Rattle.trace_model.specs.declared.line.End.{End}
-use Rattle.hci_tables.specs.declared.command.Command.TheVariants.{Sync}
-use Rattle.hci_tables.specs.Tables.{HciTables, is_kept_sync}
-use Rattle.link_laws.specs.sessions.Sessions.{OnWire}
-use Rattle.link_laws.specs.machine.Machine.{LinkEnd, Report, frames_out}
-use Rattle.link_laws.specs.messages.Links.{Ending, Link, Loss, put}
-use Rattle.link_laws.specs.messages.Links.Ending.{CutOff, GoesOut}
-use Rattle.link_laws.specs.messages.Links.Loss.{TooMany}
-use Rattle.link_laws.specs.entries.Entries.{End as Side, Entry as Noted, aged_entries, ending_entries, far, first_lost, pushed_out, put_entries}
-use Rattle.link_laws.specs.entries.Entries.{puts_entries, told, wire_with}
-use Rattle.link_laws.specs.entries.Entries.Entry.{Cut, Restarted, Tick as Ticked, Took}
-use Rattle.link_laws.specs.entries.Entries.End.{Controller, Host}
-use Rattle.history.specs.Steps.{entries_for}
-use Rattle.node_machine.specs.Parts.{Deed, Work}
-use Rattle.node_machine.specs.Parts.Deed.{Commits}
-use Rattle.node_machine.specs.Carrying.{port_at}
-use Rattle.node_machine.specs.Node.{NodeInput}
-use Rattle.node_machine.specs.world.World.{Site, end_c, ending_of, frames_noted, node_of}
-use Rattle.node_laws.specs.passes.Steps.{told_of_coming}
-use Rattle.node_laws.specs.power.Powers.{AreNotOf, is_of_node}
-use Rattle.node_laws.specs.answers.Unasked.{new_sync}
+use Rattle.link_laws.specs.entries.Entries.{End as Side, Entry as Noted}
+use Rattle.link_laws.specs.entries.Entries.Entry.{Tick as Ticked}
 use Rattle.node_laws.proofs.passes.Coming.{coming_all}
 use Rattle.node_laws.proofs.telling.Reported.{told_all}
 use Rattle.node_laws.proofs.Cases.{by_test, by_option}

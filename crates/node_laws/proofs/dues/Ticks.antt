@@ -4,51 +4,26 @@ use Rattle.std.proofs.Common.{append-nil}
 use Rattle.std.specs.Prelude.{Some, None}
 use Rattle.std.specs.List.{AllByRecursion, flat_map}
 use Rattle.registry.proofs.ValueLemmas.{AllByRecursion-append as all_append}
-use Rattle.trace_model.specs.declared.entry.Entry.{Entry}
+use Rattle.node_laws.proofs.Words.{AreDifferent, AreHosts, AreNotOf, Controller, Entry, HasEnds, HciTables, Host, IfReads, IsClf, IsDueAt, IsNamed, IsNoAnswer}
+use Rattle.node_laws.proofs.Words.{IsOrderly, Link, LinkEnd, NodeWorld, NumberedEnd, Occurrence, Port, ReadsBetween, Running, Site, Ticks, TimePasses, Work}
+use Rattle.node_laws.proofs.Words.{after_near_tick, aged, aged_entries, all_aged, as_it_ticks, asking_in, controller_ticks, end_c, entries_for, entries_in}
+use Rattle.node_laws.proofs.Words.{frames_noted, has_come_so, hosts_in, hosts_of_ends, hosts_tick, is_answer_of, is_late, is_late_in, is_over, is_own_reset}
+use Rattle.node_laws.proofs.Words.{link_to, near_tick, new_sync, notice_in, number_now, port_at, reset_late, session_now, session_of_port, site_at, steps}
+use Rattle.node_laws.proofs.Words.{syncs_in, tables_in, told_of_coming, world_ticks}
 use Rattle.swp_base.specs.declared.link_terms.Cause.{Cause as EndedBy}
-use Rattle.hci_tables.specs.Tables.{HciTables}
-use Rattle.link_laws.specs.machine.Machine.{LinkEnd}
-use Rattle.link_laws.specs.messages.Links.{IsClf, Link, NumberedEnd, aged}
-use Rattle.link_laws.specs.entries.Entries.{aged_entries}
-use Rattle.link_laws.specs.entries.Entries.End.{Controller, Host}
-use Rattle.link_laws.specs.entries.Sessions.{number_now}
-use Rattle.history.specs.Steps.{entries_for}
-use Rattle.node_machine.specs.Parts.{Port, Running, Work}
-use Rattle.node_machine.specs.Carrying.{port_at}
-use Rattle.node_machine.specs.Node.{is_late, is_over, reset_late, steps}
-use Rattle.node_machine.specs.Node.NodeInput.{TimePasses}
-use Rattle.node_machine.specs.world.World.{NodeWorld, Site, all_aged, controller_ticks, end_c, frames_noted, hosts_tick, link_to, site_at, world_ticks}
-use Rattle.node_machine.specs.world.World.Happening.{Ticks}
-use Rattle.node_machine.specs.world.Lines.{Occurrence}
-use Rattle.node_machine.specs.world.NodeHistories.{entries_in}
-use Rattle.node_machine.specs.world.NodeFilters.{asking_in, notice_in, session_now, tables_in}
-use Rattle.node_machine.proofs.world.Cases.{after_near_tick, near_tick}
-use Rattle.node_laws.specs.kept.Books.{hosts_of_ends}
-use Rattle.node_laws.specs.kept.Hosts.{AreDifferent, AreHosts}
-use Rattle.node_laws.specs.telling.Telling.{HasEnds, IsOrderly, hosts_in}
 use Rattle.node_laws.proofs.All.{all_flat}
 use Rattle.node_laws.proofs.Cases.{by_test, by_option}
 use Rattle.node_laws.proofs.telling.Events.{orderly_map}
 use Rattle.node_laws.proofs.telling.Nodes.{Stands, hosts_same, link_is, stands}
 use Rattle.node_laws.proofs.telling.WorldTicks.{near_orderly}
-use Rattle.node_laws.specs.passes.Noting.{session_of_port}
-use Rattle.node_laws.specs.passes.Steps.{has_come_so, syncs_in, told_of_coming}
-use Rattle.node_laws.specs.power.Powers.{AreNotOf}
 use Rattle.node_laws.proofs.passes.InSteps.{IsBehind, step_notes}
 use Rattle.node_laws.proofs.passes.Replying.{session_in}
 use Rattle.node_laws.proofs.power.Events.{both_nodes, near_ticks_part, none_zero, others_tick}
 use Rattle.node_laws.proofs.power.Parts.{AreOwn, part_own}
-use Rattle.node_laws.specs.notices.Worlds.{IfReads}
 use Rattle.node_laws.proofs.creations.Near.{far_reading}
 use Rattle.node_laws.proofs.notices.Far.{AreFar, far_reads}
 use Rattle.node_laws.proofs.notices.Near.{aged_far}
 use Rattle.node_laws.proofs.notices.Reading.{notice_more}
-use Rattle.node_laws.specs.answers.Answered.{IsDueAt}
-use Rattle.node_laws.specs.answers.Order.{is_answer_of}
-use Rattle.node_laws.specs.answers.Unasked.{is_late_in, is_own_reset, new_sync}
-use Rattle.node_laws.specs.replies.Known.{IsNoAnswer}
-use Rattle.node_laws.specs.read_steps.Names.{IsNamed}
-use Rattle.node_laws.specs.read_steps.Worlds.{ReadsBetween, as_it_ticks}
 use Rattle.node_laws.proofs.dues.Comes.{front_own, nothing_due, owed_off, session_is, tookless_own}
 use Rattle.node_laws.proofs.dues.Ended.{either_ends, ends_at}
 use Rattle.node_laws.proofs.dues.Freed.{IsElse, come_found, come_none, come_so, same_port}

@@ -1,10 +1,8 @@
 -- The answers of the controller before its first turn, behind entries that tell of none.
 use Rattle.std.proofs.Common.{◌≡◌, ◌||◌, false, cond, List, [], ◌∷◌, ◌++◌, refl, sym, ap, ◌∙◌}
 use Rattle.std.specs.List.{AllByRecursion, filter, list_any}
-use Rattle.trace_model.specs.declared.entry.Entry.{Entry}
-use Rattle.node_laws.specs.kept.Reckonings.{is_cut_of}
-use Rattle.node_laws.specs.answers.Answered.{AnswersSo, before_turn, is_turn_of, to_command}
-use Rattle.node_laws.specs.answers.Order.{is_answer_of}
+use Rattle.node_laws.proofs.Words.{AnswersSo, Entry, is_answer_of, is_cut_of, is_turn_of}
+use Rattle.node_laws.specs.answers.Answered.{before_turn, to_command}
 use Rattle.node_laws.proofs.Cases.{by_test}
 use Rattle.node_laws.proofs.worlds.Late.{before_first, late_all}
 

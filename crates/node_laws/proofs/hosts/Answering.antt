@@ -4,14 +4,9 @@ use Rattle.std.proofs.Common.{append_assoc, append-nil, arith}
 use Rattle.std.specs.Prelude.{not, take}
 use Rattle.std.specs.List.{AllByRecursion, filter, list_any, prefix_len}
 use Rattle.std.proofs.lemmas.Bool.{eq-eqb, true≢false}
-use Rattle.trace_model.specs.declared.entry.Entry.{Entry}
+use Rattle.node_laws.proofs.Words.{AnswersSo, Command, Entry, IsReplyNoted, is_answer_of, is_cut_of, is_turn_of, node_of}
 use Rattle.trace_model.specs.declared.entry.Entry.TheVariants as entry
-use Rattle.hci_tables.specs.declared.command.Command.{Command}
-use Rattle.node_machine.specs.world.World.{node_of}
-use Rattle.node_laws.specs.kept.Reckonings.{is_cut_of}
-use Rattle.node_laws.specs.passes.Noting.{IsReplyNoted}
-use Rattle.node_laws.specs.answers.Answered.{AnswersSo, before_turn, is_turn_of, to_command}
-use Rattle.node_laws.specs.answers.Order.{is_answer_of}
+use Rattle.node_laws.specs.answers.Answered.{before_turn, to_command}
 use Rattle.node_laws.specs.reply_passes.Counts.{commands_noted}
 use Rattle.node_laws.proofs.reply_passes.Growing.{commits-append}
 use Rattle.node_laws.proofs.worlds.Late.{before_first}

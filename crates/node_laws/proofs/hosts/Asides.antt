@@ -2,29 +2,15 @@
 use Rattle.std.proofs.Common.{◌≡◌, ℕ, Bool, true, false, eqb, List, [], ◌∷◌, map, length, sym, refl, ap, ◌∙◌, subst}
 use Rattle.std.specs.Prelude.{Some, None}
 use Rattle.std.specs.List.{AllByRecursion}
-use Rattle.journal_laws.specs.Planned.{fails_within}
-use Rattle.hci_tables.specs.declared.command.Command.{Command}
-use Rattle.hci_tables.specs.Bodies.{body_of}
-use Rattle.hci_store.specs.Committing.{commit_writes}
-use Rattle.link_laws.specs.machine.Machine.{Message, Turn}
-use Rattle.link_laws.specs.machine.Machine.LinkInput.{Reset, Tick}
-use Rattle.link_laws.specs.machine.Machine.Turn.{FetchMessage, Give, Hold, Release}
-use Rattle.node_machine.specs.Parts.{About, Desk, Port, Work, Deed}
-use Rattle.node_machine.specs.Parts.About.{Removed}
-use Rattle.node_machine.specs.Parts.Deed.{Commits, Sends, SaysOk, Asks, Releases, Tells, IsAnswered, Drops, SetsErrors, Orders, Hears, GoesOn, Ends}
-use Rattle.node_machine.specs.Carrying.{after_turn, all_done, changed_if, commit, done, notified, noting, turn_at, with_desk, with_port}
-use Rattle.node_machine.specs.Turns.{deeds_of}
-use Rattle.node_machine.specs.Node.{NodeInput, after_sessions, all_come, forgets, forgotten, has_come, input_at, is_late, is_over, reset_late}
-use Rattle.node_machine.specs.Node.{is_forgotten, with_older, without_notice}
-use Rattle.node_machine.specs.Controller.{asked_at}
-use Rattle.node_machine.specs.Node.NodeInput.{AtEnd, TimePasses}
+use Rattle.node_laws.proofs.Words.{About, Asks, AtEnd, ComesTo, Command, Commits, Deed, Desk, Drops, Ends, FetchMessage, Give, GoesOn, Hears, Hold, IsAnswered}
+use Rattle.node_laws.proofs.Words.{IsOutside, Message, NodeInput, Orders, Port, Release, Releases, Removed, Reset, SaysOk, Sends, SetsErrors, Tells, Tick}
+use Rattle.node_laws.proofs.Words.{TimePasses, Turn, Work, after_sessions, after_turn, all_come, all_done, anyone, asked_at, body_of, changed_if, comes_to_pass}
+use Rattle.node_laws.proofs.Words.{commit, commit_writes, deeds_of, done, fails_within, forgets, forgotten, has_come, has_come_so, has_freed, has_synced}
+use Rattle.node_laws.proofs.Words.{input_at, is_forgotten, is_late, is_over, notified, noting, owed_in_step, reset_late, syncs_in, turn_at, with_desk}
+use Rattle.node_laws.proofs.Words.{with_older, with_port, without_notice}
 use Rattle.node_laws.proofs.Cases.{by_test}
 use Rattle.node_laws.proofs.steps.StepWalks.{Lasts, all_last, got_at, handled, holds, lets, unless}
 use Rattle.node_laws.proofs.steps.Ports.{sessions_node}
-use Rattle.node_machine.proofs.Walks.{anyone}
-use Rattle.node_laws.specs.links.Notices.{IsOutside}
-use Rattle.node_laws.specs.passes.Passing.{ComesTo}
-use Rattle.node_laws.specs.passes.Steps.{comes_to_pass, has_come_so, has_freed, has_synced, owed_in_step, syncs_in}
 use Rattle.node_laws.proofs.passes.Passing.{comes_so}
 use Rattle.node_laws.proofs.notices.Own.{IsOwn, all_owed_own, all_synced_own, deeds_own, forgotten_own}
 use Rattle.node_laws.proofs.creations.Asides.{input_aside}

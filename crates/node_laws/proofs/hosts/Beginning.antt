@@ -4,30 +4,14 @@ use Rattle.std.specs.Prelude.{Option, Some, None}
 use Rattle.std.specs.Option.{option_map_or}
 use Rattle.std.specs.List.{AllByRecursion}
 use Rattle.std.proofs.lemmas.Bool.{cond-true, eq-eqb, true≢false}
-use Rattle.trace_model.specs.declared.entry.Entry.{Entry}
-use Rattle.shdlc_core.specs.declared.answers.LinkState.{LinkState}
-use Rattle.link_laws.specs.machine.Machine.{LinkEnd, Message}
-use Rattle.link_laws.specs.messages.Links.{Comes, Link, NumberedEnd}
-use Rattle.link_laws.specs.messages.Links.Comes.{NoInput}
-use Rattle.link_laws.specs.entries.Entries.End.{Host}
-use Rattle.history.specs.Steps.{entries_for}
-use Rattle.node_machine.specs.Parts.{Init, Port, Running, Work}
-use Rattle.node_machine.specs.Carrying.{own_side, port_at}
-use Rattle.node_machine.specs.Node.{NodeInput, has_come, input_at, steps}
-use Rattle.node_machine.specs.world.World.{Site, arrival, end_h, work_of}
-use Rattle.node_laws.specs.kept.Books.{IsPlain, hosts_of_ends}
-use Rattle.node_laws.specs.kept.Hosts.{AreDifferent}
-use Rattle.node_laws.specs.kept.Worlds.{IfRuns, RunsSo}
-use Rattle.node_laws.specs.telling.Telling.{HasEnds}
+use Rattle.node_laws.proofs.Words.{AreDifferent, AreNoTurns, ArePortsRead, Comes, Entry, HasEnds, HoldsInStep, Host, IfRuns, Init, IsFresh, IsOutside, IsPlain}
+use Rattle.node_laws.proofs.Words.{Link, LinkEnd, LinkState, Message, NoInput, NodeInput, NumberedEnd, Port, Running, RunsSo, Site, Work, arrival}
+use Rattle.node_laws.proofs.Words.{comes_to_pass, end_h, entries_for, has_come, hosts_of_ends, input_at, own_side, port_at, steps, waiting_at, work_of}
 use Rattle.node_laws.proofs.kept.Doing.{GoesOn_or_lost}
 use Rattle.node_laws.proofs.kept.Plainly.{plain_entries}
 use Rattle.node_laws.proofs.kept.Standing.{runs_begun}
 use Rattle.node_laws.proofs.kept.Stepping.{ready_fine}
 use Rattle.node_laws.proofs.telling.Nodes.{hosts_same}
-use Rattle.node_laws.specs.links.Notices.{IsOutside}
-use Rattle.node_laws.specs.passes.Passing.{AreNoTurns, waiting_at}
-use Rattle.node_laws.specs.passes.Steps.{comes_to_pass}
-use Rattle.node_laws.specs.readings.Orders.{IsFresh}
 use Rattle.node_laws.specs.readings.Orders.{order_of}
 use Rattle.node_laws.specs.readings.Worlds.{IfHostRuns}
 use Rattle.node_laws.proofs.telling.Powers.{entries_uncut}
@@ -52,7 +36,6 @@ use Rattle.node_laws.proofs.views.Going.{Stands as Inits, quiet_init}
 use Rattle.node_laws.proofs.views.HostInits.{begun_stands as begun_inits}
 use Rattle.node_laws.proofs.views.Leaving.{IsStill}
 use Rattle.node_laws.proofs.views.Nodes.{IfKeeps, arrival_still as arrival_errors, begun_right}
-use Rattle.node_laws.specs.read_rooms.Moments.{ArePortsRead, HoldsInStep}
 use Rattle.node_laws.proofs.reply_passes.Begins.{port_begins}
 use Rattle.node_laws.proofs.reply_passes.Came.{begun_at, mine, ms, there_still}
 use Rattle.node_laws.proofs.reply_passes.Growing.{begun_grows}

@@ -6,37 +6,17 @@ use Rattle.std.specs.Prelude.{◌==◌, Option}
 use Rattle.std.specs.List.{AllByRecursion, flat_map}
 use Rattle.std.proofs.lemmas.Bool.{eq-eqb, eqb-true, ne_eqb, true≢false}
 use Rattle.registry.proofs.ValueLemmas.{AllByRecursion-append as all_append}
-use Rattle.trace_model.specs.Lines.{IsHost}
-use Rattle.trace_model.specs.declared.entry.Entry.{Entry}
-use Rattle.trace_model.specs.declared.line.End.{End}
-use Rattle.link_laws.specs.sessions.Sessions.{OnWire}
-use Rattle.link_laws.specs.machine.Machine.{LinkInput}
-use Rattle.link_laws.specs.machine.Machine.LinkInput.{Start, Take}
-use Rattle.link_laws.specs.messages.Links.{Comes, Link, NumberedEnd, aged, exchanged}
-use Rattle.link_laws.specs.messages.Links.Comes.{AsksReset, NextFrame, Starts}
-use Rattle.link_laws.specs.messages.Links.Ending.{GoesOut}
-use Rattle.link_laws.specs.messages.Links.EndEvent.{Step}
-use Rattle.link_laws.specs.entries.Entries.{Entry as Noted, aged_entries}
-use Rattle.link_laws.specs.entries.Entries.Entry.{Lost}
-use Rattle.link_laws.specs.entries.Entries.End.{Controller, Host}
+use Rattle.node_laws.proofs.Words.{Activates, AreDifferent, AreNoTurns, AreNotOf, ArePortsRead, Arms, AsksReset, AtEnd, Boots, Comes, Controller, End, Entry}
+use Rattle.node_laws.proofs.Words.{Gives, GoesOut, Happening, HoldsInStep, Host, IfItRuns, Init, Inits, IsCut, IsHeldFor, IsHost, IsOrderly, IsOutside}
+use Rattle.node_laws.proofs.Words.{IsReplied, Link, LinkInput, Loses, Lost, NextFrame, NodeInput, NodeWorld, NumberedEnd, Occurrence, OnWire, Resets, Running}
+use Rattle.node_laws.proofs.Words.{Site, Start, Starts, Step, Take, Takes, Ticks, TimePasses, Work, after_host_step, aged, aged_entries, all_aged, arrival}
+use Rattle.node_laws.proofs.Words.{beginning, boots, by_coming, by_controller, by_controller_tick, by_host_tick, comes_at, comes_to, comes_to_pass}
+use Rattle.node_laws.proofs.Words.{controller_ticks, controller_work, end_c, end_h, ending_of, entries_for, entries_in, exchanged, frame_lost, frames_at}
+use Rattle.node_laws.proofs.Words.{frames_noted, host_begins_step, host_does, host_tick, host_ticks, host_work, hosts_in, hosts_tick, init_begun, init_in}
+use Rattle.node_laws.proofs.Words.{input_of, link_after_controller, link_to, near_end_in, near_tick, node_of, sending, site_at, site_ticked, site_unticked}
+use Rattle.node_laws.proofs.Words.{steps, ticks_host, turns_at, wires_for, work_of, world_step, world_ticks}
+use Rattle.link_laws.specs.entries.Entries.{Entry as Noted}
 use Rattle.link_laws.specs.entries.Entries.{End as Side}
-use Rattle.link_laws.proofs.entries.Together.{ticks_host}
-use Rattle.history.specs.Steps.{entries_for}
-use Rattle.node_machine.specs.Parts.{Init, Running, Work}
-use Rattle.node_machine.specs.Node.{NodeInput, steps}
-use Rattle.node_machine.specs.Node.NodeInput.{AtEnd, TimePasses}
-use Rattle.node_machine.specs.world.World.{Happening, NodeWorld, Site, all_aged, arrival, beginning, boots, comes_at, comes_to, controller_ticks}
-use Rattle.node_machine.specs.world.World.{controller_work}
-use Rattle.node_machine.specs.world.World.{end_c, end_h, ending_of, frame_lost, frames_noted, host_does, host_ticks, host_work, hosts_tick, input_of}
-use Rattle.node_machine.specs.world.World.{link_after_controller}
-use Rattle.node_machine.specs.world.World.{link_to, near_end_in, node_of, sending, site_at, turns_at, wires_for, work_of, world_step, world_ticks}
-use Rattle.node_machine.specs.world.World.Happening.{Activates, Arms, Boots, Gives, Inits, IsCut, Loses, Resets, Takes, Ticks}
-use Rattle.node_machine.specs.world.Lines.{Occurrence, frames_at}
-use Rattle.node_machine.specs.world.NodeHistories.{entries_in}
-use Rattle.node_machine.proofs.world.Cases.{after_host_step, by_coming, by_controller, by_controller_tick, by_host_tick, host_tick, near_tick, site_ticked}
-use Rattle.node_machine.proofs.world.Cases.{site_unticked}
-use Rattle.node_laws.specs.kept.Hosts.{AreDifferent}
-use Rattle.node_laws.specs.telling.Telling.{IfItRuns, IsOrderly, hosts_in}
 use Rattle.node_laws.proofs.Cases.{by_test}
 use Rattle.node_laws.proofs.Cases.{by_option}
 use Rattle.node_laws.proofs.All.{all_flat}
@@ -44,10 +24,6 @@ use Rattle.node_laws.proofs.telling.Events.{comes_goes, orderly_map, site_map}
 use Rattle.node_laws.proofs.telling.Nodes.{link_is, site_host}
 use Rattle.node_laws.proofs.telling.Shapes.{frames_uncut}
 use Rattle.node_laws.proofs.telling.WorldTicks.{near_orderly}
-use Rattle.node_laws.specs.links.Notices.{IsOutside}
-use Rattle.node_laws.specs.passes.Passing.{AreNoTurns}
-use Rattle.node_laws.specs.passes.Steps.{comes_to_pass}
-use Rattle.node_laws.specs.power.Powers.{AreNotOf}
 use Rattle.node_laws.proofs.links.Ends.{here_host}
 use Rattle.node_laws.proofs.order.Knowing.{WasThere, was_there}
 use Rattle.node_laws.proofs.order.Lines.{IsSo}
@@ -55,15 +31,13 @@ use Rattle.node_laws.proofs.power.Doing.{Runs as Power}
 use Rattle.node_laws.proofs.power.Events.{AreNodes, both_nodes, comes_part, near_ticks_part, others_tick}
 use Rattle.node_laws.proofs.power.Parts.{own_not, part_own}
 use Rattle.node_laws.proofs.readings.Sites.{comes_outside, near_end_side}
-use Rattle.node_laws.specs.views.Inits.{init_begun, init_in}
 use Rattle.node_laws.proofs.views.Events.{aged_entries_still, ticks_leave}
 use Rattle.node_laws.proofs.views.Leaving.{IsStill, Leaves, still_leaves}
 use Rattle.node_laws.proofs.views.Nodes.{arrival_still, frames_still, others_step}
 use Rattle.node_laws.proofs.views.Worlds.{AreFine, near_other}
-use Rattle.node_laws.specs.answers.Answered.{IsHeldFor, IsReplied, is_left_short, makes_step}
+use Rattle.node_laws.specs.answers.Answered.{is_left_short, makes_step}
 use Rattle.node_laws.specs.answers.Order.{turn_link}
 use Rattle.node_laws.specs.reply_passes.Counts.{commands_noted as commits}
-use Rattle.node_laws.specs.read_rooms.Moments.{ArePortsRead, HoldsInStep, host_begins_step}
 use Rattle.node_laws.proofs.passes.Turnless.{beginning_turnless, sending_turnless}
 use Rattle.node_laws.proofs.read_rooms.HostLines.{activated_read, host_read, ticked_read}
 use Rattle.node_laws.proofs.reply_passes.Sides.{AreNoBoots}

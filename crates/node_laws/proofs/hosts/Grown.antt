@@ -4,41 +4,19 @@ use Rattle.std.proofs.Common.{append_assoc, append-nil, arith}
 use Rattle.std.specs.Prelude.{◌&&◌, Some, replicate}
 use Rattle.std.specs.List.{AllByRecursion}
 use Rattle.std.proofs.lemmas.Bool.{eqb-true}
-use Rattle.swp_base.specs.InMemory.{Memory, Plan}
-use Rattle.trace_model.specs.Lines.{IsHost}
-use Rattle.trace_model.specs.declared.entry.Entry.{Entry}
+use Rattle.node_laws.proofs.Words.{Activates, AllKeep, AreDifferent, AreHosts, Arms, AsksReset, AtEnd, Boots, Comes, Deed, End, Entry, FollowsNodes, Gives}
+use Rattle.node_laws.proofs.Words.{Happening, Header, Host, IfRuns, Inits, IsCut, IsFew, IsHost, IsOf, IsSentByHost, Journal, Line, LinkInput, Loses, Loss}
+use Rattle.node_laws.proofs.Words.{Memory, NextFrame, NoInput, NodeHistory, NodeWorld, Occurrence, Orders, Plan, Resets, Running, RunsSo, Sends, Site}
+use Rattle.node_laws.proofs.Words.{SiteKeeps, Starts, Takes, Ticks, TimePasses, Work, after_host, after_planned, aged, all_aged, arrival, beginning}
+use Rattle.node_laws.proofs.Words.{begins_with, boot_found, boot_writes, boot_written, boots, by_boot, by_coming, by_controller, by_controller_tick, by_host}
+use Rattle.node_laws.proofs.Words.{by_host_tick, by_loss, by_memory, by_power, by_running, changed_if, comes_at, controller_does, controller_ticks, count_of}
+use Rattle.node_laws.proofs.Words.{end_c, end_h, entries_for, entries_in, exchanged, frame_lost, frames_noted, host_cut, host_does, host_tick, host_ticks}
+use Rattle.node_laws.proofs.Words.{host_work, hosts_in, hosts_tick, is_command_message, loses_power_at, memory_at, near_end_in, near_tick, new_world}
+use Rattle.node_laws.proofs.Words.{node_entries, occurrences_in, sending, site_at, site_ticked, site_unticked, steps, wires_for, with_site, work_of}
+use Rattle.node_laws.proofs.Words.{world_behind, world_step, world_ticks}
 use Rattle.trace_model.specs.declared.entry.Entry.TheVariants as entry
-use Rattle.trace_model.specs.declared.line.End.{End}
-use Rattle.trace_model.specs.declared.line.Header.{Header}
-use Rattle.trace_model.specs.declared.line.Line.{Line}
-use Rattle.journal_laws.specs.Journal.{Journal, count_of}
-use Rattle.journal_laws.specs.Planned.{after_planned}
 use Rattle.journal_laws.proofs.InUse.{no_journal}
 use Rattle.journal_laws.proofs.Opening.{fresh}
-use Rattle.link_laws.specs.machine.Machine.{LinkInput}
-use Rattle.link_laws.specs.messages.Links.{Comes, Loss, aged, exchanged}
-use Rattle.link_laws.specs.messages.Links.Comes.{AsksReset, NextFrame, NoInput, Starts}
-use Rattle.link_laws.specs.entries.Entries.End.{Host}
-use Rattle.history.specs.Steps.{entries_for}
-use Rattle.node_machine.specs.Parts.{Deed, Running, Work}
-use Rattle.node_machine.specs.Parts.Deed.{Orders, Sends}
-use Rattle.node_machine.specs.Carrying.{changed_if}
-use Rattle.node_machine.specs.Controller.{is_command_message}
-use Rattle.node_machine.specs.Node.{begins_with, boot_writes, steps}
-use Rattle.node_machine.specs.Node.NodeInput.{AtEnd, TimePasses}
-use Rattle.node_machine.specs.world.World.{NodeWorld, Site, Happening, after_host, all_aged, arrival, beginning, boots, comes_at, controller_does}
-use Rattle.node_machine.specs.world.World.{controller_ticks, end_c, end_h, frame_lost, frames_noted, host_does, host_ticks, host_work, hosts_tick}
-use Rattle.node_machine.specs.world.World.{loses_power_at, memory_at, near_end_in, new_world, sending, site_at, wires_for, with_site, world_step}
-use Rattle.node_machine.specs.world.World.{host_cut, work_of, world_ticks}
-use Rattle.node_machine.specs.world.World.Happening.{Activates, Arms, Boots, Gives, Inits, IsCut, Loses, Resets, Takes, Ticks}
-use Rattle.node_machine.specs.world.Lines.{Occurrence}
-use Rattle.node_machine.specs.world.NodeHistories.{FollowsNodes, NodeHistory, entries_in, node_entries, occurrences_in}
-use Rattle.node_machine.proofs.world.Cases.{boot_found, boot_written, by_boot, by_coming, by_controller, by_controller_tick, by_host, by_host_tick, by_loss}
-use Rattle.node_machine.proofs.world.Cases.{by_memory, by_power, by_running, host_tick, near_tick, site_ticked, site_unticked}
-use Rattle.node_laws.specs.kept.Hosts.{AreDifferent, AreHosts, IsFew, IsSentByHost}
-use Rattle.node_laws.specs.kept.Worlds.{AllKeep, IfRuns, RunsSo, SiteKeeps}
-use Rattle.node_laws.specs.kept.Books.{IsOf}
-use Rattle.node_laws.specs.telling.Telling.{hosts_in, world_behind}
 use Rattle.node_laws.proofs.kept.Events.{comes_goes}
 use Rattle.node_laws.proofs.kept.Plainly.{plain_entries}
 use Rattle.node_laws.proofs.kept.Standing.{runs_begun}

@@ -3,24 +3,15 @@
 use Rattle.std.proofs.Common.{◌≡◌, inl, inr, ℕ, true, false, List, [], ◌∷◌, sym, refl, ◌∙◌, subst}
 use Rattle.std.specs.Prelude.{Option, None}
 use Rattle.std.proofs.lemmas.Bool.{true≢false}
-use Rattle.swp_base.specs.InMemory.{Memory}
-use Rattle.trace_model.specs.Lines.{IsHost}
-use Rattle.trace_model.specs.declared.entry.Entry.{Entry}
-use Rattle.shdlc_core.specs.declared.answers.LinkState.{LinkState}
-use Rattle.link_laws.specs.machine.Machine.{Message}
-use Rattle.node_machine.specs.Parts.{Init, Work, Deed}
-use Rattle.node_machine.specs.Turns.{deeds_of, handles, holds_back, lets_go}
-use Rattle.node_machine.specs.world.World.{end_h}
-use Rattle.node_laws.specs.kept.Books.{StillRuns}
-use Rattle.node_machine.specs.Orders.{IsOnOrder}
+use Rattle.node_laws.proofs.Words.{Deed, Entry, ErrorCount, Init, IsHost, IsOnOrder, LinkState, Memory, Message, StillRuns, Work, deeds_of, end_h, handles}
+use Rattle.node_laws.proofs.Words.{holds_back, lacking, lets_go, waiting_at}
 use Rattle.node_laws.proofs.kept.Doing.{GoesOn_or_lost}
 use Rattle.node_laws.proofs.kept.Turning.{deeds_fit, deeds_may, handles_fine, holds_fine, lets_fine}
-use Rattle.node_laws.specs.passes.Passing.{LastsOverTurns, lacking, waiting_at}
+use Rattle.node_laws.specs.passes.Passing.{LastsOverTurns}
 use Rattle.node_laws.proofs.passes.Ends.{HasFirst, has_first}
 use Rattle.node_laws.proofs.passes.Passing.{holds_notes, lets_notes}
 use Rattle.node_laws.proofs.readings.Doing.{Runs, Stands}
 use Rattle.node_laws.proofs.readings.Turning.{deeds_stand, holds_stand, lets_stand}
-use Rattle.node_laws.specs.views.Errors.{ErrorCount}
 use Rattle.node_laws.proofs.views.Going.{Stands as Inits, deeds_is, handled, holds, lets}
 use Rattle.node_laws.proofs.views.Doing.{Right, holds as holds_right, lets as lets_right}
 use Rattle.node_laws.proofs.views.Turning.{handled as handled_right}

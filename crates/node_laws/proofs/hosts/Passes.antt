@@ -4,33 +4,20 @@ use Rattle.std.specs.Prelude.{Option, Some, None}
 use Rattle.std.specs.Option.{option_and_then}
 use Rattle.std.proofs.lemmas.Bool.{true≢false}
 use Rattle.std.proofs.lemmas.List.{append_cancel_left}
-use Rattle.swp_base.specs.InMemory.{Memory}
-use Rattle.trace_model.specs.Lines.{IsHost}
-use Rattle.trace_model.specs.declared.entry.Entry.{Entry}
+use Rattle.node_laws.proofs.Words.{ArePassed, ArePortsRead, ComesTo, End, Entry, HasRoomForAll, Host, Init, IsHeldFor, IsHost, IsReplied, LinkState, Memory}
+use Rattle.node_laws.proofs.Words.{Moment, Work, deeds_of, end_h, end_of, end_of_node, handles, hosts_of_ends, lacking, node_of, noted_by_deeds, own_side}
+use Rattle.node_laws.proofs.Words.{passes, waiting_at}
 use Rattle.trace_model.specs.declared.entry.Entry.TheVariants as entry
-use Rattle.trace_model.specs.declared.line.End.{End}
-use Rattle.shdlc_core.specs.declared.answers.LinkState.{LinkState}
 use Rattle.link_laws.specs.machine.Machine.{oldest}
-use Rattle.link_laws.specs.entries.Entries.End.{Host}
-use Rattle.history.specs.Steps.{end_of}
-use Rattle.node_machine.specs.Parts.{Init, Work}
-use Rattle.node_machine.specs.Carrying.{end_of_node, own_side}
-use Rattle.node_machine.specs.Turns.{deeds_of, handles, passes}
-use Rattle.node_machine.specs.world.World.{end_h, node_of}
-use Rattle.node_laws.specs.kept.Books.{hosts_of_ends}
-use Rattle.node_laws.specs.passes.Noting.{noted_by_deeds}
-use Rattle.node_laws.specs.passes.Passing.{ArePassed, BeginWithTurn, ComesTo, HadTurn, IsWaitingRead, WasHeld, is_held_at, lacking, takes_up, waiting_at}
+use Rattle.node_laws.specs.passes.Passing.{BeginWithTurn, HadTurn, IsWaitingRead, WasHeld, is_held_at, takes_up}
 use Rattle.node_laws.specs.passes.Passing.{waits_behind}
 use Rattle.node_laws.specs.passes.Passing.ComesTo.{Begins}
 use Rattle.node_laws.proofs.passes.Passing.{comes_lasts, comes_so, through}
 use Rattle.node_laws.proofs.passes.Waiting.{waiting_read}
 use Rattle.node_laws.proofs.readings.Silent.{host_side}
 use Rattle.node_laws.proofs.turns.Queues.{Goes}
-use Rattle.node_laws.specs.answers.Answered.{IsHeldFor, IsReplied}
-use Rattle.node_laws.specs.answers.Moments.{Moment, holds_in, lack_at, lack_of, unhandled_in, until}
+use Rattle.node_laws.specs.answers.Moments.{holds_in, lack_at, lack_of, unhandled_in, until}
 use Rattle.node_laws.specs.reply_passes.Counts.{commands_noted as commits}
-use Rattle.node_laws.specs.replies.Known.{HasRoomForAll}
-use Rattle.node_laws.specs.read_rooms.Moments.{ArePortsRead}
 use Rattle.node_laws.proofs.reply_passes.Came.{goes_read}
 use Rattle.node_laws.proofs.reply_passes.Growing.{Grows, comes_grow, commits-append, few_find_room}
 use Rattle.node_laws.proofs.reply_passes.Ordered.{runs_comes}

@@ -4,25 +4,13 @@ use Rattle.std.specs.Prelude.{Option, Some, None}
 use Rattle.std.specs.List.{AllByRecursion}
 use Rattle.std.specs.Option.{option_map_or}
 use Rattle.std.proofs.lemmas.Bool.{cond_both, eq-eqb}
-use Rattle.trace_model.specs.declared.entry.Entry.{Entry}
+use Rattle.node_laws.proofs.Words.{Asks, Clear, Command, Commits, Core, Create, Deed, Delete, Drops, Ends, Entry, GoesOn, Hears, Init, IsAnswered, IsPlain}
+use Rattle.node_laws.proofs.Words.{MayBeDone, Message, Orders, Port, Releases, SaysOk, Sends, Set, SetsErrors, State, Tells, accepts, body_in, end_of_node}
+use Rattle.node_laws.proofs.Words.{end_of_number, end_view, entries_of_reply, finds_room, host_deeds, host_holds, init_deeds, is_answer_of, learned}
+use Rattle.node_laws.proofs.Words.{learned_holds, learns, learns_holds, link_deeds, link_served, node_of, ordered_deeds, ordered_holds, own_view}
 use Rattle.trace_model.specs.declared.entry.Entry.TheVariants as entry
-use Rattle.journal_laws.specs.declared.state.State.{State}
-use Rattle.hci_tables.specs.declared.command.Command.{Command}
-use Rattle.hci_tables.specs.declared.command.Command.TheVariants.{Create, Delete, Clear, Set}
-use Rattle.gate_answers.specs.Answers.{body_in}
-use Rattle.gate_link.specs.Link.{link_served}
-use Rattle.link_laws.specs.machine.Machine.{Message}
-use Rattle.node_machine.specs.Parts.{Init, Core, Port, Deed}
-use Rattle.node_machine.specs.Parts.Deed.{Commits, Sends, SaysOk, Asks, Releases, Tells, IsAnswered, Drops, SetsErrors, Orders, Hears, GoesOn, Ends}
-use Rattle.node_machine.specs.Carrying.{end_of_node, finds_room, own_view, end_view, end_of_number}
-use Rattle.node_machine.specs.Controller.{link_deeds}
-use Rattle.node_machine.specs.HostReplies.{accepts, host_deeds, init_deeds, learned, learns, ordered_deeds}
-use Rattle.node_machine.specs.world.World.{node_of}
-use Rattle.node_laws.specs.kept.Books.{IsPlain}
-use Rattle.node_laws.specs.kept.Deeds.{MayBeDone}
-use Rattle.node_machine.proofs.Walks.{host_holds, init_holds, learned_holds, learns_holds, ordered_holds}
-use Rattle.node_laws.specs.passes.Noting.{GiveOnce, entries_of_reply, next_count, sent_in_session}
-use Rattle.node_laws.specs.answers.Order.{is_answer_of}
+use Rattle.node_machine.proofs.Walks.{init_holds}
+use Rattle.node_laws.specs.passes.Noting.{GiveOnce, next_count, sent_in_session}
 use Rattle.node_laws.specs.reply_passes.Counts.{commands_noted}
 use Rattle.node_laws.proofs.Cases.{by_option, by_test}
 use Rattle.node_laws.proofs.replies.Answering.{most_of}

@@ -3,26 +3,16 @@ use Rattle.std.proofs.Common.{◌≡◌, ℕ, ◌&&◌, false, cond, eqb, List, 
 use Rattle.std.specs.Prelude.{Option, Some, None}
 use Rattle.std.specs.Option.{option_map}
 use Rattle.std.specs.List.{AllByRecursion, fold}
-use Rattle.trace_model.specs.Lines.{IsHost}
-use Rattle.trace_model.specs.declared.entry.Entry.{Entry}
+use Rattle.node_laws.proofs.Words.{AreNotOf, Book, Entry, Init, IsHost, Last, LeavesInit, Link, LinkEnd, Running, Site, SiteKeeps, SiteKeepsInit, book_after}
+use Rattle.node_laws.proofs.Words.{book_in, end_h, is_command_message, is_of_node, is_response, last_after, last_in, no_errors, with_command, with_found}
+use Rattle.node_laws.proofs.Words.{with_response}
 use Rattle.trace_model.specs.declared.entry.Entry.TheVariants as entry
-use Rattle.link_laws.specs.messages.Links.{Link}
-use Rattle.link_laws.specs.machine.Machine.{LinkEnd}
-use Rattle.node_machine.specs.Parts.{Init, Running}
-use Rattle.node_machine.specs.Controller.{is_command_message}
-use Rattle.node_machine.specs.world.World.{Site, end_h}
-use Rattle.node_machine.specs.world.NodeFilters.{Book, book_after, book_in, is_response, with_command, with_found}
-use Rattle.node_machine.specs.world.NodeLegal.{Last, last_after, last_in}
-use Rattle.node_laws.specs.kept.Worlds.{SiteKeeps}
 use Rattle.node_laws.proofs.kept.Books.{book_more, last_more}
 use Rattle.node_laws.proofs.kept.Standing.{IsSame, keeps_same}
-use Rattle.node_laws.specs.power.Powers.{AreNotOf, is_of_node}
 use Rattle.node_laws.specs.readings.Orders.{IsSilent}
 use Rattle.node_laws.specs.readings.Worlds.{SiteReads}
 use Rattle.node_laws.proofs.readings.Sites.{others_read}
 use Rattle.node_laws.proofs.turns.Queues.{Goes, goes-append, still_goes}
-use Rattle.node_laws.specs.views.Errors.{no_errors}
-use Rattle.node_laws.specs.views.Inits.{LeavesInit, SiteKeepsInit, with_response}
 use Rattle.node_laws.proofs.views.Answering.{reads_init}
 use Rattle.node_laws.proofs.views.InitWorlds.{keep_same, leaves_all}
 use Rattle.node_laws.proofs.views.Leaving.{Leaves, reads_append}

@@ -7,39 +7,23 @@ use Rattle.std.specs.List.{AllByRecursion}
 use Rattle.std.specs.Option.{option_and_then, option_map_or}
 use Rattle.std.proofs.lemmas.Bool.{cases_Bool, cond-true, eq-eqb, eqb-true, ne_eqb}
 use mathlib.Core.Bool.{or-false}
-use Rattle.swp_base.specs.InMemory.{Memory}
-use Rattle.trace_model.specs.Lines.{IsHost}
-use Rattle.trace_model.specs.declared.entry.Entry.{Entry}
+use Rattle.node_laws.proofs.Words.{AnswersSo, ArePortsRead, Deed, Entry, ErrorCount, HasRoomForAll, Host, Init, IsHost, IsReplied, IsReplyNoted, LinkState}
+use Rattle.node_laws.proofs.Words.{MayBeDone, Memory, Message, Moment, Port, Work, commands_in, count_of, deeds_of, end_h, end_of_number, end_view}
+use Rattle.node_laws.proofs.Words.{entries_of_reply, errors_in, finds_room, handles, host_deeds, is_one_of, is_up, lack, lacking, needs, no_errors}
+use Rattle.node_laws.proofs.Words.{noted_by_deeds, own_view, port_at, same_number, session_now, session_of_port, spare, tables_in}
 use Rattle.trace_model.specs.declared.entry.Entry.TheVariants as entry
-use Rattle.journal_laws.specs.Journal.{count_of}
-use Rattle.shdlc_core.specs.declared.answers.LinkState.{LinkState}
-use Rattle.link_laws.specs.sessions.Sessions.{is_up}
-use Rattle.link_laws.specs.machine.Machine.{Message, spare}
-use Rattle.link_laws.specs.entries.Entries.End.{Host}
-use Rattle.link_laws.proofs.entries.Lasting.{same_number}
-use Rattle.node_machine.specs.Parts.{Deed, Init, Port, Work}
-use Rattle.node_machine.specs.Carrying.{end_of_number, end_view, finds_room, first_lack, lack, needs, own_view, port_at, spare_with}
-use Rattle.node_machine.specs.HostReplies.{host_deeds}
-use Rattle.node_machine.specs.Turns.{deeds_of, handles}
+use Rattle.node_machine.specs.Carrying.{first_lack, spare_with}
 use Rattle.node_machine.proofs.Walks.{deeds_far}
-use Rattle.node_machine.specs.world.World.{end_h}
-use Rattle.node_machine.specs.world.NodeFilters.{commands_in, order_in, session_now, spare_at, tables_in}
-use Rattle.node_laws.specs.cuts.Histories.{is_one_of}
-use Rattle.node_laws.specs.kept.Deeds.{MayBeDone}
+use Rattle.node_machine.specs.world.NodeFilters.{order_in, spare_at}
 use Rattle.node_laws.proofs.kept.Turning.{deeds_may}
-use Rattle.node_laws.specs.passes.Noting.{IsReplyNoted, entries_of_reply, noted_by_deeds, session_of_port}
-use Rattle.node_laws.specs.passes.Passing.{lacking, takes_up}
+use Rattle.node_laws.specs.passes.Passing.{takes_up}
 use Rattle.node_laws.proofs.passes.Counts.{counts_one, reply_noted}
-use Rattle.node_laws.specs.views.Errors.{ErrorCount, errors_in, no_errors}
 use Rattle.node_laws.proofs.views.Answering.{reads_init}
 use Rattle.node_laws.proofs.views.Doing.{HasErrors}
 use Rattle.node_laws.proofs.views.Going.{deeds_is}
 use Rattle.node_laws.proofs.views.Leaving.{reads, reads_append}
-use Rattle.node_laws.specs.answers.Answered.{AnswersSo, IsReplied}
-use Rattle.node_laws.specs.answers.Moments.{Moment, end_read, is_linked, is_up_read, lack_of, noted_of_deeds, own_read, reply, spare_read, until}
+use Rattle.node_laws.specs.answers.Moments.{end_read, is_linked, is_up_read, lack_of, noted_of_deeds, own_read, reply, spare_read, until}
 use Rattle.node_laws.specs.answers.Moments.{view_read}
-use Rattle.node_laws.specs.replies.Known.{HasRoomForAll}
-use Rattle.node_laws.specs.read_rooms.Moments.{ArePortsRead}
 use Rattle.node_laws.proofs.replies.Turns.{lack_alike, some_if}
 use Rattle.node_laws.proofs.hosts.Answering.{AreUnanswered, TrailsOff, answers_so}
 use Rattle.node_laws.proofs.hosts.Asides.{HasNone, HaveNone}

@@ -2,11 +2,7 @@
 use Rattle.std.proofs.Common.{◌≡◌, ◌⊎◌, inl, inr, ℕ, Bool, true, false, eqb, eqb-true, List, [], ◌∷◌, map, sym, refl, ap, ◌∙◌}
 use Rattle.std.specs.Prelude.{Some}
 use Rattle.std.proofs.lemmas.Bool.{cases_Bool, cond-true, cond-false}
-use Rattle.hci_tables.specs.Tables.{HciTables}
-use Rattle.node_machine.specs.Parts.{Creation, Port}
-use Rattle.node_machine.specs.Carrying.{port_at, changed_if}
-use Rattle.node_machine.specs.Controller.{asked_at}
-use Rattle.node_laws.specs.steps.Waiting.{MayWait}
+use Rattle.node_laws.proofs.Words.{Creation, HciTables, MayWait, Port, asked_at, changed_if, port_at}
 
 -- each creation that waits at an end waited there before
 abbrev pub NoneNew : List Port → List Port → Type 0

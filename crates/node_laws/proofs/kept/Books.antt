@@ -5,18 +5,14 @@ use Rattle.std.specs.List.{AllByRecursion, fold}
 use Rattle.std.proofs.lemmas.Bool.{cond_both, eq-eqb}
 use Rattle.std.proofs.lemmas.List.Sums.{fold-append}
 use Rattle.std.proofs.Math.Seq.{take-append_seam, take-length}
-use Rattle.trace_model.specs.declared.entry.Entry.{Entry}
+use Rattle.node_laws.proofs.Words.{AreToldBehind, Book, BootFinds, Command, CutBehindCommand, Entry, HciTables, IsOf, IsPlain, Last, WouldFind, after_commands}
+use Rattle.node_laws.proofs.Words.{apply, book_after, book_in, close, current, last_after, last_in, no_tables, with_command, with_found}
 use Rattle.trace_model.specs.declared.entry.Entry.TheVariants as entry
 use Rattle.std.specs.Prelude.{IsSome}
-use Rattle.journal_laws.specs.Banks.{current}
-use Rattle.hci_tables.specs.declared.command.Command.{Command}
-use Rattle.hci_tables.specs.Tables.{HciTables, no_tables, apply, after_commands, close}
 use Rattle.hci_store.proofs.Closing.{close-close, same_closed}
-use Rattle.node_machine.specs.world.NodeFilters.{Book, new_book, with_command, with_found, book_after, book_in}
-use Rattle.node_machine.specs.world.NodeLegal.{Last, last_after, last_in}
-use Rattle.node_machine.specs.world.NodeLegal.Last.{NothingYet, CutBehindCommand, CommandLast}
-use Rattle.node_laws.specs.kept.Finds.{BootFinds}
-use Rattle.node_laws.specs.kept.Books.{IsPlain, IsOf, IsTold, AreToldBehind, WouldFind}
+use Rattle.node_machine.specs.world.NodeFilters.{new_book}
+use Rattle.node_machine.specs.world.NodeLegal.Last.{NothingYet, CommandLast}
+use Rattle.node_laws.specs.kept.Books.{IsTold}
 use Rattle.node_laws.proofs.kept.Commits.{finds_closed}
 
 pub book_more : (t es : List Entry) (n : ℕ) → book_in (t ++ es) n ≡ fold (book_after n) (book_in t n) es

@@ -4,38 +4,23 @@ use Rattle.std.proofs.Common.{eqb, eqb-true, ◌≡◌, ◌⊎◌, inl, inr, ℕ
 use Rattle.std.proofs.Common.{arith, append_assoc, length-append}
 use Rattle.std.specs.Prelude.{Option, Some, None}
 use Rattle.std.proofs.lemmas.Bool.{cases_Bool}
-use Rattle.swp_base.specs.InMemory.{Memory}
-use Rattle.trace_model.specs.declared.entry.Entry.{Entry}
+use Rattle.node_laws.proofs.Words.{AreTables-apply, Asks, Book, BootFinds, Command, Commits, Creation, CutBehindCommand, Deed, Drops, Ends, Entry, Give, GoesOn}
+use Rattle.node_laws.proofs.Words.{HciTables, Hears, Init, IsAllowedStill, IsAnswered, IsCommand, IsOf, IsOnOrder, MayBeDone, MayWait, Memory, Orders, Port}
+use Rattle.node_laws.proofs.Words.{Release, Releases, Removed, SaysOk, Sends, SetAside, SetsErrors, State, StillRuns, Tells, Waits, Work, WouldFind, Write}
+use Rattle.node_laws.proofs.Words.{after_commands, after_planned, all_done, apply, asked_at, body_of, book_in, changed_if, close, commands_in, commit}
+use Rattle.node_laws.proofs.Words.{commit_writes, count_of, done, end_of_node, fails_within, keeps, last_in, loses_power, no_tables, notified, noting, port_at}
+use Rattle.node_laws.proofs.Words.{reckoning_of, tables_in, turn_at, unless_cut, with_command}
 use Rattle.trace_model.specs.declared.entry.Entry.TheVariants as entry
-use Rattle.journal_laws.specs.declared.state.State.{State}
-use Rattle.journal_laws.specs.Journal.{count_of}
-use Rattle.journal_laws.specs.Writes.{Write}
-use Rattle.journal_laws.specs.Planned.{fails_within, after_planned}
-use Rattle.hci_tables.specs.declared.command.Command.{Command}
-use Rattle.hci_tables.specs.Commands.{IsCommand}
-use Rattle.hci_tables.specs.Bodies.{body_of}
-use Rattle.hci_tables.specs.Tables.{HciTables, no_tables, apply, after_commands, close}
-use Rattle.hci_store.specs.Committing.{commit_writes, committed}
+use Rattle.hci_store.specs.Committing.{committed}
 use Rattle.hci_store.proofs.Recorded.{recordable-apply}
-use Rattle.tables_laws.proofs.tables.SortedTables.{AreTables-apply}
-use Rattle.link_laws.specs.machine.Machine.Turn.{Give, SetAside, Release}
-use Rattle.node_machine.specs.Parts.{Creation, Port, Work, Deed, Init}
-use Rattle.node_machine.specs.Parts.About.{Waits, Removed}
-use Rattle.node_machine.specs.Parts.Deed.{Commits, Sends, SaysOk, Asks, Releases, Tells, IsAnswered, Drops, SetsErrors, Orders, Hears, GoesOn, Ends}
-use Rattle.node_machine.specs.Controller.{asked_at}
-use Rattle.node_laws.specs.steps.Waiting.{IsAllowedFor, MayWait, IsAllowedStill}
+use Rattle.node_laws.specs.steps.Waiting.{IsAllowedFor}
 use Rattle.node_laws.proofs.kept.Asking.{NoneNew, same_new, new_then, may_still, port_found}
-use Rattle.node_machine.specs.Carrying.{port_at, changed_if, plan_behind, noting, unless_cut, turn_at, notified, loses_power, keeps, commit, done, all_done}
-use Rattle.node_machine.specs.Carrying.{end_of_node}
-use Rattle.node_machine.specs.world.NodeFilters.{tables_in, Book, with_command, book_in, commands_in}
-use Rattle.node_machine.specs.world.NodeLegal.{IsAllowedBy, last_in}
-use Rattle.node_machine.specs.world.NodeLegal.Last.{CutBehindCommand}
-use Rattle.node_laws.specs.kept.Finds.{BootFinds, FindsRoom}
-use Rattle.node_laws.specs.kept.Reckonings.{Reckoning, reckoning_of, reckoned}
+use Rattle.node_machine.specs.Carrying.{plan_behind}
+use Rattle.node_machine.specs.world.NodeLegal.{IsAllowedBy}
+use Rattle.node_laws.specs.kept.Finds.{FindsRoom}
+use Rattle.node_laws.specs.kept.Reckonings.{Reckoning, reckoned}
 use Rattle.node_laws.proofs.kept.Reckoned.{fold_book, make_more, make_ok, command_makes}
-use Rattle.node_laws.specs.kept.Books.{IsOf, WouldFind, StillRuns, HasLostPower}
-use Rattle.node_laws.specs.kept.Deeds.{MayBeDone}
-use Rattle.node_machine.specs.Orders.{IsOnOrder}
+use Rattle.node_laws.specs.kept.Books.{HasLostPower}
 use Rattle.node_laws.proofs.kept.Planned.{planned_whole, after_planned-append}
 use Rattle.node_laws.proofs.kept.Commits.{planned_knows, planned_left, planned_used, commit_count}
 use Rattle.node_laws.proofs.kept.Books.{book_command, book_more, last_cut, closed_book, closed_command, finds_all, finds_less, would_at, told_append}

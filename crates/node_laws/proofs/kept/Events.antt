@@ -5,44 +5,21 @@ use Rattle.std.specs.Prelude.{Option, Some, None, is_some}
 use Rattle.std.specs.List.{AllByRecursion}
 use Rattle.std.specs.Option.{option_map_or}
 use Rattle.std.proofs.lemmas.Bool.{cond_both, cases_Bool, eqb-true, eqb-false, true≢false}
-use Rattle.swp_base.specs.InMemory.{Memory, Plan}
-use Rattle.trace_model.specs.Lines.{IsHost}
-use Rattle.trace_model.specs.declared.entry.Entry.{Entry}
+use Rattle.node_laws.proofs.Words.{AllKeep, AreHosts, AreToldBehind, AtController, AtEnd, Book, Broken, Comes, Controller, Core, CutOff, Desk, End, Entry, Host}
+use Rattle.node_laws.proofs.Words.{IfRuns, Init, IsAllowedStill, IsHost, IsOf, IsOnOrder, IsPlain, Link, LinkEvent, LinkInput, Lose, Loss, MayBeDone, Memory}
+use Rattle.node_laws.proofs.Words.{Message, NoInput, NodeKeeps, NodeWorld, NumberedEnd, Orders, Plan, Running, Sends, Site, SiteKeeps, Starts, Step, WaitsFor}
+use Rattle.node_laws.proofs.Words.{activates, after_planned, asked_at, beginning, begins_with, book_in, boot_writes, boots, by_coming, by_loss, changed_if}
+use Rattle.node_laws.proofs.Words.{comes_at, commands_in, controller_cut, count_of, counts, creation_in, end_c, end_h, entries_for, fails_within, first_lost}
+use Rattle.node_laws.proofs.Words.{found, frame_lost, happens, host_cut, host_does, input_of, is_command_message, link_to, links_of, loses_power_at, memory_at}
+use Rattle.node_laws.proofs.Words.{node_at, port_at, port_for, sending, site_at, site_lost, steps, with_error, with_found, with_memory, with_node, with_site}
 use Rattle.trace_model.specs.declared.entry.Entry.TheVariants as entry
-use Rattle.trace_model.specs.declared.line.End.{End}
-use Rattle.journal_laws.specs.Journal.{count_of}
-use Rattle.journal_laws.specs.Planned.{fails_within, after_planned}
-use Rattle.link_laws.specs.machine.Machine.{Message, LinkInput}
-use Rattle.link_laws.specs.messages.Links.{NumberedEnd, Comes, Loss, happens}
-use Rattle.link_laws.specs.messages.Links.Comes.{Starts, NoInput}
-use Rattle.link_laws.specs.messages.Links.Loss.{Broken}
-use Rattle.link_laws.specs.entries.Entries.{first_lost}
-use Rattle.link_laws.specs.entries.Entries.End.{Controller, Host}
-use Rattle.link_laws.specs.messages.Links.{LinkEvent, Link}
-use Rattle.link_laws.specs.messages.Links.LinkEvent.{AtController}
-use Rattle.link_laws.specs.messages.Links.Ending.{CutOff}
-use Rattle.link_laws.specs.messages.Links.EndEvent.{Step, Lose}
-use Rattle.history.specs.Steps.{at, entries_for}
+use Rattle.history.specs.Steps.{at}
 use Rattle.history.specs.Follows.{seen_from}
-use Rattle.node_machine.specs.Parts.{Init, Desk, Core, Running}
-use Rattle.node_machine.specs.Parts.Deed.{Sends, Orders}
-use Rattle.node_machine.specs.Carrying.{port_at, changed_if}
-use Rattle.node_machine.specs.Controller.{creation_in, asked_at, is_command_message}
-use Rattle.node_laws.specs.steps.Waiting.{IsAllowedStill}
 use Rattle.node_laws.proofs.Cases.{by_test}
 use Rattle.node_laws.proofs.kept.Asking.{NoneNew, same_new, may_still, map_found, map_two}
-use Rattle.node_machine.specs.Node.{steps, begins_with, boot_writes, found, with_error}
-use Rattle.node_machine.specs.Node.NodeInput.{AtEnd}
-use Rattle.node_machine.specs.world.World.{port_for, NodeWorld, Site, node_at, site_at, with_site, link_to, input_of, host_does, controller_cut, host_cut}
-use Rattle.node_machine.specs.world.World.{loses_power_at, memory_at, new_memory, with_memory, with_node, links_of, boots, counts, frame_lost}
-use Rattle.node_machine.specs.world.World.{sending, beginning}
-use Rattle.node_machine.specs.world.World.{comes_at, activates, end_c, end_h}
-use Rattle.node_machine.specs.world.NodeFilters.{Book, new_book, with_found, book_in, commands_in}
-use Rattle.node_laws.specs.kept.Books.{IsPlain, IsOf, AreToldBehind, WaitsFor}
-use Rattle.node_laws.specs.kept.Deeds.{MayBeDone}
-use Rattle.node_machine.specs.Orders.{IsOnOrder}
-use Rattle.node_laws.specs.kept.Hosts.{AreHosts}
-use Rattle.node_laws.specs.kept.Worlds.{IfRuns, NodeKeeps, SiteKeeps, IsStranger, AllKeep}
+use Rattle.node_machine.specs.world.World.{new_memory}
+use Rattle.node_machine.specs.world.NodeFilters.{new_book}
+use Rattle.node_laws.specs.kept.Worlds.{IsStranger}
 use Rattle.node_laws.proofs.kept.Books.{book_more, plain_told}
 use Rattle.node_laws.proofs.kept.Plainly.{plain_entries}
 use Rattle.node_laws.proofs.kept.Doing.{all_fine}
@@ -51,7 +28,6 @@ use Rattle.node_laws.proofs.kept.Standing.{IsSame, plain_same, other_same, keeps
 use Rattle.node_laws.proofs.kept.Booting.{boot_told, boot_runs, boot_lost, cut_keeps}
 use Rattle.node_laws.proofs.kept.Sites.{hosts_in, site_found, hosts_same, map_sites, with_site_twice}
 use Rattle.node_laws.proofs.kept.Worlds.{Goes, goes_not, goes_then, controller_goes, host_goes, controller_steps, host_steps}
-use Rattle.node_machine.proofs.world.Cases.{by_coming, by_loss, site_lost}
 
 pub no_order : (command order : Option (List ℕ)) (init : Option Init) → is_some command ≡ false → IsOnOrder command init → IsOnOrder order init
 no_order None None None off on = tt

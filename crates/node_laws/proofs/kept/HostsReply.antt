@@ -4,27 +4,14 @@ use Rattle.std.proofs.Common.{add-one, eqb-true, sym, refl, ap, ◌∙◌, inl, 
 use Rattle.std.specs.Prelude.{Option, Some, None, is_some}
 use Rattle.std.specs.Option.{option_map_or}
 use Rattle.std.proofs.lemmas.Bool.{cond_both, and_parts, and_from, le-leb, lt-ltb}
-use Rattle.trace_model.specs.declared.entry.Entry.TheVariants.{InitSame}
-use Rattle.journal_laws.specs.declared.state.State.{State}
+use Rattle.node_laws.proofs.Words.{AreTables, Clear, Command, Commits, Core, Create, Deed, Delete, Ends, HciTables, Init, InitSame, IsCommand, IsOnOrder}
+use Rattle.node_laws.proofs.Words.{MayBeDone, Message, PipeRow, Port, Set, State, accepts, answer_of, body_in, end_of_node, end_view, finds_room, host_deeds}
+use Rattle.node_laws.proofs.Words.{host_holds, init_deeds, is_host, learned, learned_holds, learns, learns_holds, link_served, ordered_deeds, ordered_holds}
+use Rattle.node_laws.proofs.Words.{own_view, pid_of, pipe_at}
 use Rattle.sorted_rows.proofs.RowLemmas.{row_of-within}
-use Rattle.pipe_table.specs.declared.row.PipeRow.{PipeRow}
-use Rattle.pipe_table.specs.PipeRows.{pid_of, pipe_at}
-use Rattle.hci_tables.specs.declared.command.Command.{Command}
-use Rattle.hci_tables.specs.declared.command.Command.TheVariants.{Create, Delete, Clear, Set}
-use Rattle.hci_tables.specs.Commands.{is_command, is_host, is_dynamic, IsCommand}
-use Rattle.hci_tables.specs.Tables.{HciTables, AreTables}
+use Rattle.hci_tables.specs.Commands.{is_command, is_dynamic}
 use Rattle.gate_answers.specs.declared.response.Response.TheVariants as response
-use Rattle.gate_answers.specs.Answers.{answer_of, body_in}
-use Rattle.gate_link.specs.Link.{link_served}
-use Rattle.link_laws.specs.machine.Machine.{Message}
-use Rattle.node_machine.specs.Parts.{Init, Core, Port, Deed}
-use Rattle.node_machine.specs.Parts.Deed.{Commits, Ends}
-use Rattle.node_machine.specs.Carrying.{end_of_node, finds_room, own_view, end_view}
-use Rattle.node_machine.specs.HostReplies.{accepts, is_open_gate, is_welcome, pipe_named_in, orders_of, is_same, learns, init_agreed, init_deeds, learned}
-use Rattle.node_machine.specs.HostReplies.{ordered_deeds, host_deeds}
-use Rattle.node_laws.specs.kept.Deeds.{MayBeDone}
-use Rattle.node_machine.specs.Orders.{IsOnOrder}
-use Rattle.node_machine.proofs.Walks.{ordered_holds, learns_holds, learned_holds, host_holds}
+use Rattle.node_machine.specs.HostReplies.{is_open_gate, is_welcome, pipe_named_in, orders_of, is_same, init_agreed}
 use Rattle.node_laws.proofs.kept.Replies.{commit_may, link_may}
 use Rattle.node_laws.proofs.Cases.{by_test}
 

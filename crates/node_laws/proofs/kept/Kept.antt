@@ -5,27 +5,21 @@ use Rattle.std.specs.Prelude.{None, replicate}
 use Rattle.std.specs.List.{AllByRecursion, flat_map, fold}
 use Rattle.std.proofs.lemmas.Grind.{flat_map-append}
 use Rattle.std.proofs.lemmas.Bool.{eqb-true, eq-eqb}
-use Rattle.trace_model.specs.declared.entry.Entry.{Entry}
+use Rattle.node_laws.proofs.Words.{AllKeep, AreHosts, AreToldBehind, Book, BootFinds, CutBehindCommand, Entry, FollowsNodes, HciTables, Header, IsFew}
+use Rattle.node_laws.proofs.Words.{IsSentByHost, Journal, Last, Line, LineStep, NodeHistory, NodeKeeps, Site, SiteKeeps, applied, book_after, book_in, close}
+use Rattle.node_laws.proofs.Words.{commands_in, entries_in, last_after, last_in, new_site, new_world, no_tables, node_entries, occurrences_of, steps_from}
+use Rattle.node_laws.proofs.Words.{tables_in, world_after}
 use Rattle.trace_model.specs.declared.entry.Entry.TheVariants as entry
-use Rattle.trace_model.specs.declared.line.Header.{Header}
-use Rattle.trace_model.specs.declared.line.Line.{Line}
-use Rattle.journal_laws.specs.Journal.{Journal, unformatted, journal, IsSound}
+use Rattle.journal_laws.specs.Journal.{unformatted, journal, IsSound}
 use Rattle.journal_laws.specs.Operations.{IsUnformatted}
 use Rattle.journal_laws.proofs.InUse.{no_journal}
 use Rattle.journal_laws.proofs.Opening.{fresh}
-use Rattle.hci_tables.specs.Tables.{HciTables, no_tables, close}
-use Rattle.hci_store.specs.Image.{applied, are_commands}
-use Rattle.node_machine.specs.world.World.{Site, new_memory, new_site, new_world}
+use Rattle.hci_store.specs.Image.{are_commands}
+use Rattle.node_machine.specs.world.World.{new_memory}
 use Rattle.node_machine.specs.world.Lines.LineOutcome.{ToldTables}
-use Rattle.node_machine.specs.world.NodeHistories.{LineStep, NodeHistory, steps_from, FollowsNodes, occurrences_of, entries_in, node_entries}
-use Rattle.node_machine.specs.world.NodeFilters.{Book, book_after, book_in, commands_in, tables_in}
-use Rattle.node_machine.specs.world.NodeLegal.{Last, last_after, last_in, FindsCommands, AreFound, AreAllAnswered, AreAnswered, Kept, Allowed}
-use Rattle.node_machine.specs.world.NodeLegal.Last.{NothingYet, CommandLast, CutBehindCommand, OtherLast}
-use Rattle.node_laws.specs.kept.Finds.{BootFinds}
-use Rattle.node_laws.specs.kept.Books.{IsTold, AreToldBehind}
-use Rattle.node_laws.specs.kept.Hosts.{AreHosts, IsSentByHost, IsFew}
-use Rattle.node_laws.specs.kept.Worlds.{NodeKeeps, SiteKeeps, AllKeep}
-use Rattle.node_machine.specs.world.NodeHistories.{world_after}
+use Rattle.node_machine.specs.world.NodeLegal.{FindsCommands, AreFound, AreAllAnswered, AreAnswered, Kept, Allowed}
+use Rattle.node_machine.specs.world.NodeLegal.Last.{NothingYet, CommandLast, OtherLast}
+use Rattle.node_laws.specs.kept.Books.{IsTold}
 use Rattle.node_laws.proofs.kept.Books.{book_more, last_more}
 use Rattle.node_laws.proofs.kept.Lines.{TellsRight, TellRight, Schedule, schedule_goes, entries_of}
 use Rattle.node_laws.proofs.Cases.{by_test}

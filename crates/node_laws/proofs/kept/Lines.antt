@@ -5,31 +5,18 @@ use Rattle.std.specs.Prelude.{Option, Some, None, is_some, replicate, IsTrue}
 use Rattle.std.specs.List.{AllByRecursion, flat_map}
 use Rattle.std.proofs.lemmas.Grind.{flat_map-append}
 use Rattle.std.proofs.lemmas.Bool.{cases_Bool, eqb-true, true≢false, ne_eqb}
-use Rattle.trace_model.specs.Lines.{IsHost}
-use Rattle.trace_model.specs.declared.entry.Entry.{Entry}
-use Rattle.trace_model.specs.declared.entry.NoCause.{NoCause}
+use Rattle.node_laws.proofs.Words.{Activates, AllKeep, AreHosts, Arms, AsksReset, Boots, End, Entry, Gives, Happening, IfRuns, Inits, IsCut, IsFew, IsHost}
+use Rattle.node_laws.proofs.Words.{IsSentByHost, Line, LineOutcome, LineStep, Loses, LostFor, NextFrame, NoCause, NodeWorld, Occurrence, Refused, Resets}
+use Rattle.node_laws.proofs.Words.{Running, Same, Site, SiteKeeps, Takes, Ticks, Undetected, Verdict, all_happen, can_happen, commands_in, entries_in}
+use Rattle.node_laws.proofs.Words.{first_verdict, frames_at, give_refusal, goes_on, happenings, happens_by, if_not_sent, if_off, is_command_message, line_step}
+use Rattle.node_laws.proofs.Words.{machine_in, node_at, node_of, occurrences_of, refusal_in, site_at, steps_from, tables_in, taken_of, world_after, world_step}
 use Rattle.trace_model.specs.declared.entry.NoCause.TheVariants as cause
-use Rattle.trace_model.specs.declared.line.End.{End}
-use Rattle.trace_model.specs.declared.line.Line.{Line}
 use Rattle.trace_model.specs.declared.line.Line.TheVariants as line
-use Rattle.history.specs.Damage.{Verdict}
-use Rattle.history.specs.Damage.Verdict.{Same, LostFor, Undetected}
-use Rattle.history.specs.Follows.{first_verdict, taken_of}
-use Rattle.link_laws.specs.machine.Machine.{Refused, give_refusal}
 use Rattle.link_laws.specs.machine.Machine.Refused.{NotUp}
-use Rattle.link_laws.specs.messages.Links.Comes.{NextFrame, AsksReset}
-use Rattle.node_machine.specs.Parts.{Running}
-use Rattle.node_machine.specs.Controller.{is_command_message}
-use Rattle.node_machine.specs.world.World.{NodeWorld, Site, Happening, node_at, site_at, node_of, world_step}
-use Rattle.node_machine.specs.world.World.Happening.{Boots, IsCut, Gives, Inits, Takes, Loses, Ticks, Resets, Activates, Arms}
-use Rattle.node_machine.specs.world.Lines.{first_cause, if_off, machine_in, frames_at, has_order, if_waiting, if_not_sent, refusal_in, happens_by, happenings}
-use Rattle.node_machine.specs.world.Lines.{Occurrence, can_happen, all_happen, LineOutcome, tables_told, goes_on, line_step}
+use Rattle.node_machine.specs.world.Lines.{first_cause, has_order, if_waiting}
+use Rattle.node_machine.specs.world.Lines.{tables_told}
 use Rattle.node_machine.specs.world.Lines.LineOutcome.{ToldTables}
-use Rattle.node_machine.specs.world.NodeHistories.{LineStep, steps_from, occurrences_of, entries_in}
-use Rattle.node_machine.specs.world.NodeFilters.{commands_in, tables_in}
-use Rattle.node_laws.specs.kept.Hosts.{AreHosts, IsFew, IsSentByHost}
-use Rattle.node_laws.specs.kept.Worlds.{IfRuns, SiteKeeps, AllKeep, MayHappen}
-use Rattle.node_machine.specs.world.NodeHistories.{world_after}
+use Rattle.node_laws.specs.kept.Worlds.{MayHappen}
 use Rattle.node_laws.proofs.Cases.{by_option, by_test}
 use Rattle.node_laws.proofs.kept.Sites.{site_found}
 use Rattle.node_laws.proofs.kept.Worlds.{Goes, goes_not, goes_then}

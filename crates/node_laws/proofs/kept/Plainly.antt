@@ -4,26 +4,15 @@ use Rattle.std.proofs.Common.{append-nil}
 use Rattle.std.specs.Prelude.{Option, Some, None}
 use Rattle.std.specs.List.{AllByRecursion, flat_map}
 use Rattle.std.specs.Option.{option_map_or}
-use Rattle.swp_base.specs.InMemory.{Memory}
-use Rattle.trace_model.specs.declared.entry.Entry.{Entry}
-use Rattle.journal_laws.specs.Journal.{count_of}
-use Rattle.journal_laws.specs.Planned.{after_planned}
-use Rattle.link_laws.specs.machine.Machine.{Turn}
-use Rattle.link_laws.specs.machine.Machine.Turn.{Give, FetchMessage}
-use Rattle.link_laws.specs.entries.Entries.{Entry as Noted, turn_entry}
-use Rattle.link_laws.specs.entries.Entries.Entry.{Tick, Restarted, Cut}
-use Rattle.history.specs.Steps.{entry_of, entries_for}
-use Rattle.hci_tables.specs.Tables.{AreTables}
-use Rattle.hci_store.specs.Recordable.{IsRecordable}
-use Rattle.node_machine.specs.Parts.{Creation, About, Init, Desk, Core, Port, Work}
-use Rattle.node_machine.specs.Carrying.{own_side, noting, changed_if, port_at, with_desk, after_turn, noted_of, turn_at, notified}
-use Rattle.node_machine.specs.world.NodeFilters.{Book, book_in}
-use Rattle.node_machine.specs.Controller.{creation_in, asked_at}
-use Rattle.node_laws.specs.steps.Waiting.{MayWait}
-use Rattle.node_laws.specs.kept.Finds.{Knows}
-use Rattle.node_laws.specs.kept.Reckonings.{reckoning_of, MakeOf}
+use Rattle.node_laws.proofs.Words.{About, AreTables, AreToldBehind, Book, Core, Creation, Cut, Desk, Entry, FetchMessage, Give, Init, IsOf, IsPlain}
+use Rattle.node_laws.proofs.Words.{IsRecordable, Knows, MayWait, Memory, Port, Restarted, StillRuns, Turn, WaitsAt, WaitsFor, Work, after_planned, after_turn}
+use Rattle.node_laws.proofs.Words.{asked_at, book_in, changed_if, count_of, creation_in, entries_for, entry_of, hosts_of_ends, noted_of, notified, noting}
+use Rattle.node_laws.proofs.Words.{own_side, port_at, reckoning_of, turn_at, turn_entry, with_desk}
+use Rattle.link_laws.specs.entries.Entries.{Entry as Noted}
+use Rattle.link_laws.specs.entries.Entries.Entry.{Tick}
+use Rattle.node_laws.specs.kept.Reckonings.{MakeOf}
 use Rattle.node_laws.proofs.kept.Reckoned.{plain_idles, make_idle}
-use Rattle.node_laws.specs.kept.Books.{IsPlain, IsOf, AreToldBehind, WaitsAbout, WaitsFor, WaitsAt, hosts_of_ends, StillRuns}
+use Rattle.node_laws.specs.kept.Books.{WaitsAbout}
 use Rattle.node_laws.proofs.kept.Asking.{NoneNew, same_new, new_then, may_still, map_new, changed_new}
 use Rattle.node_laws.proofs.kept.Books.{plain_book, plain_told, plain_own, told_append}
 use Rattle.registry.proofs.ValueLemmas.{AllByRecursion-append as all_append}

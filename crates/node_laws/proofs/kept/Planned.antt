@@ -3,10 +3,10 @@ use Rattle.std.proofs.Common.{◌≡◌, ℕ, ◌%◌, Bool, true, false, not, c
 use Rattle.std.specs.Prelude.{Option, Some, None}
 use Rattle.std.proofs.lemmas.Bool.{cases_Bool, true≢false, not-true, not-false}
 use Rattle.std.proofs.lemmas.List.FromFn.{length-map-range_with_len}
-use Rattle.swp_base.specs.InMemory.{Plan, Memory, is_next, plan_after, memory_after, torn_bytes, WritesAsPlanned}
+use Rattle.node_laws.proofs.Words.{Memory, Plan, Write, after_planned, after_writes, fails_within}
+use Rattle.swp_base.specs.InMemory.{is_next, plan_after, memory_after, torn_bytes, WritesAsPlanned}
 use Rattle.swp_base.specs.Outside.{overwritten, one_more, IsWritten}
-use Rattle.journal_laws.specs.Writes.{Write, after_writes, IsCut, AreMade}
-use Rattle.journal_laws.specs.Planned.{fails_within, after_planned}
+use Rattle.journal_laws.specs.Writes.{IsCut, AreMade}
 use Rattle.journal_laws.proofs.Made.{made_whole, made_in_part}
 use Rattle.journal_laws.proofs.Planned.{planned_answer, plan_of_memory_after as plan_on}
 use Rattle.node_machine.specs.Carrying.{plan_behind}

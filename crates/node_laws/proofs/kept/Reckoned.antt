@@ -3,20 +3,12 @@ use Rattle.std.proofs.Common.{◌≡◌, ℕ, ◌&&◌, true, false, not, cond, 
 use Rattle.std.specs.List.{AllByRecursion, fold}
 use Rattle.std.proofs.lemmas.Bool.{cond_both, eq-eqb, ne_eqb}
 use Rattle.std.proofs.lemmas.List.Sums.{fold-append}
-use Rattle.swp_base.specs.InMemory.{Memory}
-use Rattle.trace_model.specs.declared.entry.Entry.{Entry}
+use Rattle.node_laws.proofs.Words.{Command, Entry, HciTables, IsOf, IsPlain, Memory, State, after_planned, body_of, book_after, commit_writes, fails_within}
+use Rattle.node_laws.proofs.Words.{is_cut_of, with_command, with_found}
 use Rattle.trace_model.specs.declared.entry.Entry.TheVariants as entry
-use Rattle.journal_laws.specs.declared.state.State.{State}
 use Rattle.journal_laws.specs.Journal.{state_of}
-use Rattle.journal_laws.specs.Planned.{fails_within, after_planned}
-use Rattle.hci_tables.specs.declared.command.Command.{Command}
-use Rattle.hci_tables.specs.Bodies.{body_of}
-use Rattle.hci_tables.specs.Tables.{HciTables}
-use Rattle.hci_store.specs.Committing.{commit_writes}
-use Rattle.node_machine.specs.world.NodeFilters.{with_command, with_found, book_after}
 use Rattle.node_laws.specs.kept.Gates.{opens_gate}
-use Rattle.node_laws.specs.kept.Reckonings.{Reckoning, writes_of, with_written, reckoned, is_cut_of, IsAsRead, EachIsAsRead, MakeOf}
-use Rattle.node_laws.specs.kept.Books.{IsPlain, IsOf}
+use Rattle.node_laws.specs.kept.Reckonings.{Reckoning, writes_of, with_written, reckoned, IsAsRead, EachIsAsRead, MakeOf}
 
 -- ## Books
 

@@ -2,28 +2,12 @@
 use Rattle.std.proofs.Common.{◌≡◌, ℕ, ◌≤◌, subst, Bool, true, false, List, [], ◌∷◌, refl}
 use Rattle.std.specs.Prelude.{Option, Some, None, map}
 use Rattle.std.specs.List.{AllByRecursion}
-use Rattle.journal_laws.specs.declared.state.State.{State}
-use Rattle.hci_tables.specs.declared.command.Command.{Command}
-use Rattle.hci_tables.specs.Commands.{IsCommand}
-use Rattle.hci_tables.specs.Tables.{AreTables}
-use Rattle.gate_answers.specs.Answers.{body_in}
-use Rattle.gate_admin.specs.declared.view.LinkView.{LinkView}
-use Rattle.gate_admin.specs.declared.decision.Decision.{Decision}
-use Rattle.gate_admin.specs.declared.decision.Decision.TheVariants.{Answer, Commit, Ask}
-use Rattle.gate_admin.specs.View.{has, hosts_where}
-use Rattle.gate_admin.specs.Decide.{IsRecordableDecision, decided}
-use Rattle.gate_link.specs.Link.{link_served}
-use Rattle.link_laws.specs.machine.Machine.{Message}
-use Rattle.node_machine.specs.Parts.{Creation, About, Notice, Core, Port, Deed}
-use Rattle.node_machine.specs.Parts.About.{Waits, Forgotten, Removed}
-use Rattle.node_machine.specs.Parts.Deed.{Tells}
-use Rattle.node_machine.specs.Carrying.{finds_room, own_view}
-use Rattle.node_machine.specs.Controller.{creation_in, view_for, commit_deeds, decision_deeds, link_deeds, agreed, controller_deeds, view_of}
-use Rattle.node_laws.specs.kept.Books.{WaitsFor, WaitsAt}
-use Rattle.node_laws.specs.kept.Deeds.{MayBeDone}
-use Rattle.node_machine.specs.Orders.{IsOnOrder}
+use Rattle.node_laws.proofs.Words.{About, Answer, AreTables, Ask, Command, Commit, Core, Creation, Decision, Deed, Forgotten, IsCommand, IsOnOrder}
+use Rattle.node_laws.proofs.Words.{IsRecordableDecision, LinkView, MayBeDone, Message, Notice, Port, Removed, State, Tells, Waits, WaitsAt, WaitsFor, agreed}
+use Rattle.node_laws.proofs.Words.{body_in, commit_deeds, controller_deeds, controller_holds, creation_in, decided, decision_deeds, finds_room, has, link_deeds}
+use Rattle.node_laws.proofs.Words.{link_served, own_view, view_for, view_of}
+use Rattle.gate_admin.specs.View.{hosts_where}
 use Rattle.node_laws.proofs.steps.Ports.{at_port}
-use Rattle.node_machine.proofs.Walks.{controller_holds}
 use Rattle.node_laws.proofs.kept.Deciding.{decided_recordable}
 
 waiting : (n : Option Notice) (c : Creation) → WaitsFor n → creation_in n ≡ Some c → IsCommand c.command

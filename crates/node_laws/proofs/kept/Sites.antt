@@ -3,11 +3,7 @@ use Rattle.std.proofs.Common.{◌≡◌, ◌⊎◌, inl, inr, ℕ, Bool, true, f
 use Rattle.std.specs.Prelude.{Some}
 use Rattle.std.specs.List.{AllByRecursion}
 use Rattle.std.proofs.lemmas.Bool.{cond_both, cases_Bool, eqb-true, cond-true, cond-false}
-use Rattle.trace_model.specs.declared.entry.Entry.{Entry}
-use Rattle.node_machine.specs.Carrying.{changed_if}
-use Rattle.node_machine.specs.world.World.{Site, site_at, with_site}
-use Rattle.node_laws.specs.kept.Hosts.{AreDifferent}
-use Rattle.node_laws.specs.kept.Worlds.{SiteKeeps}
+use Rattle.node_laws.proofs.Words.{AreDifferent, Entry, Site, SiteKeeps, changed_if, site_at, with_site}
 
 -- the hosts
 abbrev pub hosts_in : List Site → List ℕ

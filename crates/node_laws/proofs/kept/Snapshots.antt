@@ -4,15 +4,11 @@ use Rattle.std.specs.List.{AllByRecursion}
 use Rattle.std.proofs.lemmas.Bool.{and_parts}
 use Rattle.sorted_rows.proofs.RowLemmas.{length-rows}
 use Rattle.journal_laws.specs.Records.{used}
-use Rattle.pipe_table.specs.declared.row.PipeRow.{PipeRow}
-use Rattle.pipe_table.specs.PipeRows.{pid_of}
+use Rattle.node_laws.proofs.Words.{AreTables, Command, HciTables, IsCommand, IsRecordable, PipeRow, body_of, pid_of}
 use Rattle.registry.specs.declared.value.RegValue.{RegValue}
 use Rattle.registry.specs.Values.{place_of_value, is_kept}
-use Rattle.hci_tables.specs.declared.command.Command.{Command}
-use Rattle.hci_tables.specs.Commands.{is_allowed, IsCommand}
-use Rattle.hci_tables.specs.Bodies.{body_of}
-use Rattle.hci_tables.specs.Tables.{HciTables, AreTables, sync_host, static_place}
-use Rattle.hci_store.specs.Recordable.{IsRecordable}
+use Rattle.hci_tables.specs.Commands.{is_allowed}
+use Rattle.hci_tables.specs.Tables.{sync_host, static_place}
 use Rattle.hci_store.specs.Snapshots.{sync_command, set_command, create_command, open_command, static_command, snapshot_of}
 use Rattle.hci_store.specs.Committing.{snapshot_bodies}
 use Rattle.hci_store.proofs.ReadAgain.{short_value}

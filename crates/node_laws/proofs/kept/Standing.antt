@@ -3,22 +3,11 @@ use Rattle.std.proofs.Common.{◌≡◌, inl, inr, ℕ, ◌-◌, ◌^◌, min, t
 use Rattle.std.specs.Prelude.{Option, Some, None}
 use Rattle.std.specs.List.{AllByRecursion, fold}
 use Rattle.std.proofs.lemmas.Bool.{ne_eqb}
-use Rattle.swp_base.specs.InMemory.{Memory}
-use Rattle.trace_model.specs.declared.entry.Entry.{Entry}
+use Rattle.node_laws.proofs.Words.{AreToldBehind, Book, Desk, Entry, IfRuns, IsOf, IsPlain, Knows, Last, Memory, NodeKeeps, NumberedEnd, Port, Running, RunsSo}
+use Rattle.node_laws.proofs.Words.{StillRuns, WaitsAt, WaitsFor, Work, WouldFind, after_planned, book_after, book_in, close, count_of, hosts_of_ends}
+use Rattle.node_laws.proofs.Words.{last_after, last_in, port_for, reckoning_of, runs_on, with_command, with_found, work_of}
 use Rattle.trace_model.specs.declared.entry.Entry.TheVariants as entry
-use Rattle.journal_laws.specs.Journal.{count_of}
-use Rattle.journal_laws.specs.Planned.{after_planned}
-use Rattle.link_laws.specs.messages.Links.{NumberedEnd}
-use Rattle.hci_tables.specs.Tables.{close}
-use Rattle.node_machine.specs.Parts.{Desk, Running, Port, Work}
-use Rattle.node_machine.specs.world.World.{port_for, work_of, runs_on}
-use Rattle.node_machine.specs.world.NodeFilters.{Book, with_command, with_found, book_after, book_in}
-use Rattle.node_machine.specs.world.NodeLegal.{Last, last_after, last_in}
-use Rattle.node_laws.specs.kept.Finds.{Knows}
-use Rattle.node_laws.specs.kept.Reckonings.{reckoning_of}
 use Rattle.node_laws.proofs.kept.Reckoned.{idle_make, plain_idles}
-use Rattle.node_laws.specs.kept.Books.{IsPlain, IsOf, AreToldBehind, WaitsFor, WaitsAt, WouldFind, hosts_of_ends, StillRuns}
-use Rattle.node_laws.specs.kept.Worlds.{RunsSo, IfRuns, NodeKeeps}
 use Rattle.node_laws.proofs.kept.Books.{book_more, last_more, plain_book, plain_last, plain_told, plain_own, closed_book, finds_all}
 use Rattle.node_laws.proofs.kept.Asking.{NoneNew, may_still, map_new, map_two}
 use Rattle.node_laws.proofs.kept.Doing.{GoesOn_or_lost}

@@ -4,49 +4,29 @@ use Rattle.std.proofs.Common.{append-nil}
 use Rattle.std.specs.Prelude.{Option, Some, None}
 use Rattle.std.specs.List.{AllByRecursion, flat_map, list_any}
 use Rattle.std.proofs.lemmas.Bool.{cond_both, cases_Bool, and_parts, and_from, le-leb, eqb-true, true≢false}
-use Rattle.swp_base.specs.InMemory.{Memory}
+use Rattle.node_laws.proofs.Words.{ActOut, AreDifferent, AreHosts, AreTables, AtEnd, Bare, Clf, Commits, Core, Creation, Deed, Entry, Give, HciTables, Inactive}
+use Rattle.node_laws.proofs.Words.{Init, IsAllowedStill, IsCommand, IsHost, IsOnOrder, IsPlain, LinkInput, MayBeDone, MayWait, Memory, NodeInput, Notice, Phase}
+use Rattle.node_laws.proofs.Words.{Port, Release, Releases, Reset, Role, Sends, State, StillRuns, Sync, TimePasses, Uicc, WaitsAt, WaitsFor, Work, act_answer}
+use Rattle.node_laws.proofs.Words.{act_out, after_input, after_sessions, all_come, all_done, all_owed, all_owed_hold, apply, asked_at, creation_in, finds_room}
+use Rattle.node_laws.proofs.Words.{forgets, forgotten, forgotten_hold, has_come, hosts_of_ends, input_at, is_forgotten, is_kept_sync, is_late, is_open, is_over}
+use Rattle.node_laws.proofs.Words.{own_side, passes, report, reset_late, steps, synced, times_out, told, told_at, told_late, turn_at, unless_cut, whole_acked}
+use Rattle.node_laws.proofs.Words.{with_older, without_notice}
 use Rattle.swp_act.specs.declared.ActEvent.TheVariants.{Tick as ActTick}
 use Rattle.swp_base.specs.declared.control_frames.Act.{Act}
-use Rattle.swp_act.specs.declared.ActOut.{ActOut}
-use Rattle.swp_act.specs.declared.Phase.{Phase}
-use Rattle.swp_act.specs.declared.Phase.TheVariants.{Inactive, Awaiting, Active}
+use Rattle.swp_act.specs.declared.Phase.TheVariants.{Awaiting, Active}
 use Rattle.swp_act.specs.Activation.{out_ticked}
-use Rattle.trace_model.specs.Lines.{IsHost}
-use Rattle.trace_model.specs.declared.entry.Entry.{Entry}
-use Rattle.journal_laws.specs.declared.state.State.{State}
-use Rattle.hci_tables.specs.declared.command.Command.TheVariants.{Sync}
-use Rattle.hci_tables.specs.Commands.{IsCommand}
-use Rattle.hci_tables.specs.Tables.{HciTables, AreTables, apply, is_kept_sync}
-use Rattle.link_laws.specs.machine.Machine.{Role, LinkInput, after_input, act_out, act_answer, is_open, report, whole_acked}
-use Rattle.link_laws.specs.machine.Machine.Role.{Bare, Clf, Uicc}
-use Rattle.link_laws.specs.machine.Machine.LinkInput.{Reset}
-use Rattle.link_laws.specs.machine.Machine.Turn.{Give, Release}
-use Rattle.link_laws.specs.entries.Entries.{told}
-use Rattle.node_machine.specs.Parts.{Creation, Notice, Init, Core, Port, Work, Deed}
-use Rattle.node_machine.specs.Parts.Deed.{Commits, Sends, Releases}
-use Rattle.node_machine.specs.Carrying.{own_side, unless_cut, turn_at, all_done, finds_room}
-use Rattle.node_machine.specs.Controller.{creation_in, asked_at}
-use Rattle.node_laws.specs.steps.Waiting.{MayWait, IsAllowedStill}
 use Rattle.node_laws.proofs.Cases.{by_option}
 use Rattle.node_laws.proofs.steps.Values.{whitelist_left}
 use Rattle.node_laws.proofs.steps.Waits.{within, same_list}
 use Rattle.node_laws.proofs.kept.Asking.{same_new}
 use Rattle.registry.proofs.ValueLemmas.{AllByRecursion-append as all_append}
-use Rattle.node_machine.specs.Turns.{passes}
-use Rattle.node_machine.specs.Node.{NodeInput, input_at, has_come, told_at, all_come, with_older, is_late, reset_late, told_late, times_out, is_over}
-use Rattle.node_machine.specs.Node.{is_forgotten, forgotten, forgets, all_owed, without_notice, after_sessions, synced, steps}
-use Rattle.node_machine.specs.Node.NodeInput.{AtEnd, TimePasses}
-use Rattle.node_laws.specs.kept.Books.{IsPlain, WaitsFor, WaitsAt, hosts_of_ends, StillRuns}
-use Rattle.node_laws.specs.kept.Deeds.{MayBeDone}
-use Rattle.node_machine.specs.Orders.{IsOnOrder}
-use Rattle.node_laws.specs.kept.Hosts.{AreDifferent, AreHosts, IsNodeNumber}
+use Rattle.node_laws.specs.kept.Hosts.{IsNodeNumber}
 use Rattle.node_laws.proofs.kept.Plainly.{Plainly, runs_plainly, plainly_same, plainly_core, plainly_ports, plainly_then, plainly_map, plain_flat}
 use Rattle.node_laws.proofs.kept.Plainly.{plain_entries}
 use Rattle.node_laws.proofs.kept.Doing.{uncut, GoesOn_or_lost, all_fine}
 use Rattle.node_laws.proofs.kept.HostsReply.{OneOrNone, behind_one}
 use Rattle.node_laws.proofs.kept.Turning.{then_all, passes_fine}
 use Rattle.node_laws.proofs.steps.Ports.{come_host, forgets_host, late_host, without_host}
-use Rattle.node_machine.proofs.Walks.{forgotten_hold, all_owed_hold}
 
 -- ## What comes
 

@@ -3,24 +3,11 @@ use Rattle.std.proofs.Common.{◌≡◌, inl, inr, ℕ, false, eqb, List, [], �
 use Rattle.std.specs.Prelude.{Option, Some, None}
 use Rattle.std.specs.List.{AllByRecursion, flat_map}
 use Rattle.std.proofs.lemmas.Bool.{eqb-false, ne_eqb}
-use Rattle.trace_model.specs.Lines.{IsHost}
-use Rattle.trace_model.specs.declared.entry.Entry.{Entry}
-use Rattle.journal_laws.specs.Planned.{after_planned}
-use Rattle.link_laws.specs.messages.Links.{exchanged, aged, ticks_at_controller}
-use Rattle.link_laws.specs.messages.Links.Ending.{GoesOut}
-use Rattle.link_laws.specs.entries.Entries.{aged_entries}
-use Rattle.link_laws.specs.entries.Entries.End.{Controller, Host}
-use Rattle.history.specs.Steps.{entries_for}
-use Rattle.node_machine.specs.Parts.{Running, Work}
-use Rattle.node_machine.specs.Node.{steps}
-use Rattle.node_machine.specs.Node.NodeInput.{TimePasses}
-use Rattle.node_machine.specs.world.World.{NodeWorld, Site, link_to, runs_on, work_of, all_aged, is_late_at, ticked_so, turns_at, ending_of, frames_noted}
-use Rattle.node_machine.specs.world.World.{controller_ticks, host_ticks, hosts_tick, world_ticks}
-use Rattle.node_machine.specs.world.NodeFilters.{book_in}
-use Rattle.node_machine.specs.world.NodeLegal.{last_in}
-use Rattle.node_laws.specs.kept.Books.{IsOf, AreToldBehind}
-use Rattle.node_laws.specs.kept.Hosts.{AreDifferent, AreHosts}
-use Rattle.node_laws.specs.kept.Worlds.{NodeKeeps, SiteKeeps, AllKeep}
+use Rattle.node_laws.proofs.Words.{AllKeep, AreDifferent, AreHosts, AreToldBehind, Controller, Entry, GoesOut, Host, IsHost, IsOf, NodeKeeps, NodeWorld}
+use Rattle.node_laws.proofs.Words.{Running, Site, SiteKeeps, TimePasses, Work, after_planned, aged, aged_entries, all_aged, book_in, by_controller_tick}
+use Rattle.node_laws.proofs.Words.{by_host_tick, controller_ticks, ending_of, entries_for, exchanged, frames_noted, host_tick, host_ticks, hosts_tick}
+use Rattle.node_laws.proofs.Words.{is_late_at, last_in, link_to, near_tick, runs_on, site_ticked, site_unticked, steps, ticked_so, ticks_at_controller}
+use Rattle.node_laws.proofs.Words.{turns_at, work_of, world_ticks}
 use Rattle.node_laws.proofs.kept.Books.{told_append}
 use Rattle.node_laws.proofs.kept.Plainly.{plain_entries, plain_flat}
 use Rattle.node_laws.proofs.kept.Doing.{GoesOn_or_lost}
@@ -29,7 +16,6 @@ use Rattle.node_laws.proofs.kept.Standing.{IsSame, same_then, other_same, keeps_
 use Rattle.node_laws.proofs.kept.Sites.{hosts_in}
 use Rattle.node_laws.proofs.kept.Worlds.{Goes, goes_then, step_keeps, controller_goes, plain_frames}
 use Rattle.node_laws.proofs.kept.Events.{GoesBy, plain_goes}
-use Rattle.node_machine.proofs.world.Cases.{by_controller_tick, by_host_tick, host_tick, near_tick, site_ticked, site_unticked}
 
 -- ## Hosts
 

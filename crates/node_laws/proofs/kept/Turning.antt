@@ -3,22 +3,13 @@ use Rattle.std.proofs.Common.{◌∙◌, ◌≡◌, inl, inr, ℕ, ◌≤◌, tr
 use Rattle.std.specs.Prelude.{Option, Some, None}
 use Rattle.std.specs.List.{AllByRecursion}
 use Rattle.std.specs.Option.{option_map_or}
-use Rattle.node_laws.specs.steps.Waiting.{IsAllowedStill}
+use Rattle.node_laws.proofs.Words.{Deed, Entry, FetchMessage, Hold, IsAllowedStill, IsHost, IsOnOrder, MayBeDone, Memory, Message, Port, StillRuns, Work}
+use Rattle.node_laws.proofs.Words.{deeds_of, end_of_node, goes_through_ends, handles, have_turns, holds_back, hosts_of_ends, is_held, lack, lets_go, needs}
+use Rattle.node_laws.proofs.Words.{noting, passes, port_at, turn_at, unless_cut, with_desk}
 use Rattle.node_laws.proofs.Cases.{by_option, by_test}
 use Rattle.node_laws.proofs.steps.Waits.{message_allowed}
 use Rattle.std.proofs.lemmas.Bool.{eq-eqb}
-use Rattle.swp_base.specs.InMemory.{Memory}
-use Rattle.trace_model.specs.Lines.{IsHost}
-use Rattle.trace_model.specs.declared.entry.Entry.{Entry}
 use Rattle.trace_model.specs.declared.entry.Entry.TheVariants as entry
-use Rattle.link_laws.specs.machine.Machine.{Message, is_held}
-use Rattle.link_laws.specs.machine.Machine.Turn.{FetchMessage, Hold}
-use Rattle.node_machine.specs.Parts.{Port, Work, Deed}
-use Rattle.node_machine.specs.Carrying.{noting, unless_cut, port_at, with_desk, turn_at, end_of_node, needs, lack}
-use Rattle.node_machine.specs.Turns.{deeds_of, handles, holds_back, lets_go, have_turns, goes_through_ends, passes}
-use Rattle.node_laws.specs.kept.Books.{hosts_of_ends, StillRuns}
-use Rattle.node_laws.specs.kept.Deeds.{MayBeDone}
-use Rattle.node_machine.specs.Orders.{IsOnOrder}
 use Rattle.node_laws.specs.kept.Hosts.{IsNodeNumber}
 use Rattle.node_laws.proofs.kept.Plainly.{Plainly, runs_plainly, plainly_then, plainly_turn, plainly_desk, plainly_noting}
 use Rattle.node_laws.proofs.kept.Doing.{uncut, stays_cut, GoesOn_or_lost, all_fine}

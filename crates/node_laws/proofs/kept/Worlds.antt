@@ -4,23 +4,11 @@ use Rattle.std.specs.Prelude.{Option, Some, None}
 use Rattle.std.specs.List.{AllByRecursion, flat_map}
 use Rattle.std.specs.Option.{option_map_or}
 use Rattle.std.proofs.lemmas.Bool.{eqb-false, true≢false}
-use Rattle.swp_base.specs.InMemory.{Memory}
-use Rattle.trace_model.specs.Lines.{IsHost}
-use Rattle.trace_model.specs.declared.entry.Entry.{Entry}
-use Rattle.journal_laws.specs.Planned.{after_planned}
-use Rattle.link_laws.specs.messages.Links.{Link, Comes, exchanged}
-use Rattle.link_laws.specs.entries.Entries.{End as Side, ending_entries}
-use Rattle.link_laws.specs.entries.Entries.End.{Controller, Host}
-use Rattle.history.specs.Steps.{entries_for}
-use Rattle.node_machine.specs.Parts.{Running, Port, Work}
-use Rattle.node_machine.specs.Carrying.{port_at}
-use Rattle.node_machine.specs.world.World.{NodeWorld, Site, site_at, with_site, link_to, ending_of, runs_on, near_end_in, arrival, wires_for, work_of}
-use Rattle.node_machine.specs.world.World.{frames_noted}
-use Rattle.node_machine.specs.world.World.{comes_to, controller_work, link_after_controller, controller_does, host_work, after_host, host_does}
-use Rattle.node_laws.specs.kept.Books.{IsPlain, IsOf, AreToldBehind}
-use Rattle.node_machine.specs.Orders.{IsOnOrder}
-use Rattle.node_laws.specs.kept.Hosts.{AreDifferent, AreHosts}
-use Rattle.node_laws.specs.kept.Worlds.{NodeKeeps, SiteKeeps, AllKeep}
+use Rattle.node_laws.proofs.Words.{AllKeep, AreDifferent, AreHosts, AreToldBehind, Comes, Controller, Entry, Host, IsHost, IsOf, IsOnOrder, IsPlain, Link}
+use Rattle.node_laws.proofs.Words.{Memory, NodeKeeps, NodeWorld, Port, Running, Site, SiteKeeps, Work, after_host, after_planned, arrival, by_controller}
+use Rattle.node_laws.proofs.Words.{by_host, comes_to, controller_does, controller_work, ending_entries, ending_of, entries_for, exchanged, frames_noted}
+use Rattle.node_laws.proofs.Words.{host_does, host_work, link_after_controller, link_to, near_end_in, port_at, runs_on, site_at, wires_for, with_site, work_of}
+use Rattle.link_laws.specs.entries.Entries.{End as Side}
 use Rattle.node_laws.proofs.Cases.{by_option}
 use Rattle.node_laws.proofs.kept.Books.{plain_told, plain_own, told_append}
 use Rattle.registry.proofs.ValueLemmas.{AllByRecursion-append as all_append}
@@ -28,7 +16,6 @@ use Rattle.node_laws.proofs.kept.Plainly.{plain_entries, plain_flat}
 use Rattle.node_laws.proofs.kept.Doing.{GoesOn_or_lost}
 use Rattle.node_laws.proofs.kept.Standing.{plain_same, other_same, keeps_same, runs_begun, keeps_ended, told_ended}
 use Rattle.node_laws.proofs.kept.Sites.{hosts_in, site_found, hosts_same, hosts_with, map_sites, with_site_keeps}
-use Rattle.node_machine.proofs.world.Cases.{by_controller, by_host}
 
 -- ## Plain entries
 

@@ -3,37 +3,29 @@ use Rattle.std.proofs.Common.{◌≡◌, ℕ, ◌+◌, ◌-◌, ◌≤◌, Bool,
 use Rattle.std.specs.Prelude.{◌==◌, not, nat_le, nat_lt, drop, is_some}
 use Rattle.std.specs.List.{AllByRecursion}
 use Rattle.std.proofs.lemmas.Bool.{true≢false, ltb-false, ltb-true}
-use Rattle.swp_base.specs.declared.control_frames.Control.{Control}
-use Rattle.swp_base.specs.declared.control_frames.Control.TheVariants.{I, S, Rset, Ua, Act as ActFrame, Clt}
+use Rattle.node_laws.proofs.Words.{ActEvent, Activate, ArePlayable, Asked, AtController, AtHost, Bare, Clt, Control, EndEvent, EndState, Fetch, FetchMessage}
+use Rattle.node_laws.proofs.Words.{FromNode, Give, Hold, I, Line, Link, LinkEnd, LinkEvent, LinkInput, LinkState, Message, Release, Reset, Role, Rset, S}
+use Rattle.node_laws.proofs.Words.{SetAside, Site, Start, Starts, Step, Stop, Take, TakeBroken, TakeUnknown, Tick, TicksWithout, Turn, Ua, Up, Waiting}
+use Rattle.node_laws.proofs.Words.{act_answer, activated, after_input, after_link_events, aged, all_at_controller, exchanged, frame_fetched, give_refusal}
+use Rattle.node_laws.proofs.Words.{had_tick, happens, happens_at_controller, heard, if_up, in_use, is_faulty, is_open, most_frames, moved, need, new_line}
+use Rattle.node_laws.proofs.Words.{new_link_end, new_world, put_down, renewed, reset_refusal, reset_with, role_after, sent_all, spare, steps_at_controller}
+use Rattle.node_laws.proofs.Words.{stopped, take_answer, taken, tick_answer, ticked, ticks_at_controller, took, turn, turned, whole_among, window_of, with_act}
+use Rattle.node_laws.proofs.Words.{world_after}
+use Rattle.swp_base.specs.declared.control_frames.Control.TheVariants.{Act as ActFrame}
 use Rattle.swp_base.specs.declared.control_frames.Act.{Act}
-use Rattle.swp_base.specs.declared.link_terms.Cause.TheVariants.{Asked}
-use Rattle.trace_model.specs.declared.line.Line.{Line}
-use Rattle.swp_act.specs.declared.ActEvent.{ActEvent}
 use Rattle.swp_act.specs.declared.ActEvent.TheVariants.{Start as ActStart, Take as ActTake, Tick as ActTick, Stop as ActStop}
-use Rattle.shdlc_core.specs.declared.answers.LinkState.{LinkState}
-use Rattle.shdlc_core.specs.declared.answers.LinkState.TheVariants.{Down, Waiting, Up}
-use Rattle.shdlc_core.specs.Machine.{EndState, taken, take_answer, ticked, tick_answer, reset_with, stopped, with_ready, fetched, most_frames}
+use Rattle.shdlc_core.specs.declared.answers.LinkState.TheVariants.{Down}
+use Rattle.shdlc_core.specs.Machine.{with_ready, fetched}
 use Rattle.link_laws.proofs.sessions.Ties.{fetched-phase, after_frames-phase}
 use Rattle.hcp_packet.specs.Packets.{packet_count}
-use Rattle.link_laws.specs.machine.Machine.{Message, LinkEnd, LinkInput, Role, Turn, is_faulty, is_open, act_answer, role_after, with_act}
-use Rattle.link_laws.specs.machine.Machine.{moved}
-use Rattle.link_laws.specs.machine.Machine.{put_down, activated, heard, had_tick, took, reset_refusal, reset_by, window_of, renewed, new_link_end, sent_all}
-use Rattle.link_laws.specs.machine.Machine.{frame_fetched, after_input, turn, turned, give_refusal, given, whole_among, need_of_all, need, in_use, spare, if_up}
-use Rattle.link_laws.specs.machine.Machine.LinkInput.{Take, TakeUnknown, TakeBroken, Tick, Reset, Start, Stop, FromNode, Fetch}
-use Rattle.link_laws.specs.machine.Machine.Turn.{Give, Hold, FetchMessage, SetAside, Release}
-use Rattle.link_laws.specs.machine.Machine.Role.{Bare}
+use Rattle.link_laws.specs.machine.Machine.{reset_by}
+use Rattle.link_laws.specs.machine.Machine.{given, need_of_all}
 use Rattle.link_laws.proofs.machine.Shifts.{IsNotUp, Shift, taken_shift, ticked_shift, reset_shift}
 use Rattle.link_laws.proofs.machine.Shifts.Shift.{Stays, Ends, Renews, Begins, Rests}
 use Rattle.link_laws.proofs.machine.Sound.{SentAfter, whole_more, whole_few, need_less, need_more}
-use Rattle.link_laws.specs.messages.Links.{Link, EndEvent, LinkEvent, exchanged, aged, happens_at_controller, all_at_controller, ticks_at_controller}
-use Rattle.link_laws.specs.messages.Links.{steps_at_controller, happens, after_link_events}
-use Rattle.link_laws.specs.messages.Links.Comes.{Starts}
-use Rattle.link_laws.specs.messages.Links.EndEvent.{Step}
-use Rattle.link_laws.specs.messages.Links.LinkEvent.{AtController, AtHost, Ticks, TicksWithout, Activate}
+use Rattle.link_laws.specs.messages.Links.LinkEvent.{Ticks}
 use Rattle.link_laws.proofs.messages.Finishing.{reset_tells}
-use Rattle.node_machine.specs.world.World.{Site, new_world}
-use Rattle.node_machine.specs.world.NodeHistories.{world_after}
-use Rattle.node_laws.specs.links.Runs.{new_line, ArePlayable, SharesOut}
+use Rattle.node_laws.specs.links.Runs.{SharesOut}
 use Rattle.node_laws.proofs.Cases.{by_list, by_option, by_test}
 use Rattle.node_laws.proofs.links.Ends.{here_is, tick_is, here_host}
 use Rattle.link_laws.proofs.entries.Together.{ticks_host as tick_host}

@@ -4,17 +4,9 @@ use Rattle.std.specs.Prelude.{Option, Some, None}
 use Rattle.std.specs.List.{AllByRecursion}
 use Rattle.std.specs.Option.{option_map_or, option_and_then}
 use Rattle.std.proofs.lemmas.Bool.{true≢false}
-use Rattle.hci_tables.specs.Tables.{HciTables}
-use Rattle.pipe_table.specs.PipeRows.{pipe_at}
-use Rattle.gate_answers.specs.Answers.{param_in}
-use Rattle.gate_admin.specs.declared.view.LinkView.{LinkView}
-use Rattle.gate_admin.specs.declared.decision.Decision.{Decision}
-use Rattle.gate_admin.specs.declared.decision.Decision.TheVariants.{Answer, Commit, Ask}
-use Rattle.gate_admin.specs.View.{has, hosts_where, mask_of, is_connected}
-use Rattle.gate_admin.specs.Decide.{far_end_of}
-use Rattle.gate_admin.specs.Decide.{shares, decided}
-use Rattle.gate_admin.specs.Decide.{told_of_clearing}
-use Rattle.tables_laws.proofs.gate.Decisions.{decided_holds}
+use Rattle.node_laws.proofs.Words.{Answer, Ask, Commit, Decision, HciTables, LinkView, decided, decided_holds, far_end_of, has, is_connected, mask_of, param_in}
+use Rattle.node_laws.proofs.Words.{pipe_at, shares, told_of_clearing}
+use Rattle.gate_admin.specs.View.{hosts_where}
 use Rattle.node_laws.proofs.Cases.{by_test}
 use Rattle.node_laws.proofs.links.Masking.{nobody, alone, from_mask, all_in}
 

@@ -2,22 +2,16 @@
 use Rattle.std.proofs.Common.{◌≡◌, ℕ, ◌<◌, Bool, true, false, eqb, List, [], ◌∷◌, length, refl, arith}
 use Rattle.std.specs.Prelude.{Option, Some, None}
 use Rattle.std.specs.List.{AllByRecursion}
-use Rattle.hci_tables.specs.Tables.{HciTables}
-use Rattle.hci_tables.specs.declared.command.Command.{Command}
-use Rattle.hci_tables.specs.declared.command.Command.TheVariants.{Delete, Clear}
-use Rattle.gate_answers.specs.declared.response.Response.{Response}
+use Rattle.node_laws.proofs.Words.{Answer, Ask, Clear, Command, Commit, Decision, Delete, HciTables, LinkView, Response, answer_of, commits_and_tells, decided}
+use Rattle.node_laws.proofs.Words.{decided_holds, has, identity_served, link_served, mask_of, param_in, told_of_clearing, told_of_deletion, value_in}
 use Rattle.gate_answers.specs.declared.response.Response.TheVariants as response
-use Rattle.gate_answers.specs.Answers.{answer_of, first_of, tests_to_set, tests_to_get, param_in, value_in}
-use Rattle.gate_admin.specs.declared.view.LinkView.{LinkView}
-use Rattle.gate_admin.specs.declared.decision.Decision.{Decision}
-use Rattle.gate_admin.specs.declared.decision.Decision.TheVariants.{Answer, Commit, Ask}
-use Rattle.gate_admin.specs.View.{has, hosts_where, mask_of}
-use Rattle.gate_admin.specs.Decide.{ends_of, commits_and_tells}
-use Rattle.gate_admin.specs.Decide.{decided, others_opened, told_of_deletion}
-use Rattle.gate_admin.specs.Decide.{told_of_clearing}
-use Rattle.tables_laws.proofs.gate.Decisions.{new_row, decided_holds}
-use Rattle.gate_link.specs.Link.{count_bytes, count_in, tests_to_set_errors, link_served, link_unless_refused as link_unless}
-use Rattle.gate_identity.specs.Identity.{identity_value, identity_served, identity_unless_refused as identity_unless}
+use Rattle.gate_answers.specs.Answers.{first_of, tests_to_set, tests_to_get}
+use Rattle.gate_admin.specs.View.{hosts_where}
+use Rattle.gate_admin.specs.Decide.{ends_of}
+use Rattle.gate_admin.specs.Decide.{others_opened}
+use Rattle.tables_laws.proofs.gate.Decisions.{new_row}
+use Rattle.gate_link.specs.Link.{count_bytes, count_in, tests_to_set_errors, link_unless_refused as link_unless}
+use Rattle.gate_identity.specs.Identity.{identity_value, identity_unless_refused as identity_unless}
 use Rattle.node_laws.proofs.links.Masking.{nobody}
 use Rattle.node_laws.proofs.Cases.{by_test}
 

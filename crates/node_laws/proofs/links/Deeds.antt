@@ -2,23 +2,13 @@
 use Rattle.std.proofs.Common.{ℕ, ◌<◌, Bool, true, false, List, [], subst, arith}
 use Rattle.std.specs.Prelude.{Option, Some, None}
 use Rattle.std.specs.List.{AllByRecursion}
-use Rattle.hcp_packet.specs.Packets.{IsSendable}
-use Rattle.hci_tables.specs.declared.command.Command.{Command}
-use Rattle.gate_answers.specs.Answers.{answer_of, body_in}
-use Rattle.gate_admin.specs.declared.view.LinkView.{LinkView}
-use Rattle.gate_admin.specs.declared.decision.Decision.{Decision}
-use Rattle.gate_admin.specs.declared.decision.Decision.TheVariants.{Answer, Commit, Ask}
-use Rattle.gate_admin.specs.View.{has, hosts_where}
-use Rattle.gate_admin.specs.Decide.{decided}
-use Rattle.gate_link.specs.Link.{link_served}
-use Rattle.gate_identity.specs.Identity.{identity_served}
-use Rattle.link_laws.specs.machine.Machine.{Message}
-use Rattle.node_machine.specs.Parts.{Creation, Desk, Core, Port, Deed}
-use Rattle.node_machine.specs.Parts.Deed.{Sends, Asks, Tells, Orders}
-use Rattle.node_machine.specs.Carrying.{finds_room, own_view}
-use Rattle.node_machine.specs.Controller.{creation_in, view_for, answers_on, commit_deeds, decision_deeds, link_deeds, gates, agreed, controller_deeds, view_of}
+use Rattle.node_laws.proofs.Words.{Answer, Ask, Asks, Command, Commit, Core, Creation, Decision, Deed, Desk, IsSendable, LinkView, Message, Orders, Port, Sends}
+use Rattle.node_laws.proofs.Words.{Tells, agreed, answer_of, body_in, commit_deeds, controller_deeds, controller_holds, creation_in, decided, decision_deeds}
+use Rattle.node_laws.proofs.Words.{finds_room, gates, has, identity_served, link_deeds, link_served, own_view, view_for, view_of}
+use Rattle.gate_admin.specs.View.{hosts_where}
+use Rattle.node_machine.specs.Controller.{answers_on}
 use Rattle.node_laws.proofs.steps.Ports.{at_port}
-use Rattle.node_machine.proofs.Walks.{told_hold, controller_holds}
+use Rattle.node_machine.proofs.Walks.{told_hold}
 use Rattle.node_laws.proofs.links.Decisions.{IsSpoken, Speaks, decided_speaks, link_spoken, identity_spoken}
 
 -- ## Notices

@@ -1,27 +1,15 @@
 -- What holds of the end of a link over all that may happen to it.
 use Rattle.std.proofs.Common.{◌≡◌, Bool, true, false, cond, List, [], ◌∷◌, refl, ap, sym, subst, ◌∙◌}
 use Rattle.std.specs.Prelude.{is_some, ◌==◌}
-use Rattle.swp_base.specs.declared.control_frames.Control.{Control}
-use Rattle.swp_base.specs.declared.control_frames.Control.TheVariants.{I, S, Rset, Ua, Act as ActFrame, Clt}
-use Rattle.swp_act.specs.declared.ActEvent.{ActEvent}
+use Rattle.node_laws.proofs.Words.{ActEvent, AsksReset, Bare, Clf, Clt, Comes, Control, CutOff, EndEvent, Ending, Fetch, FromNode, GoesOut, I, IsClf, IsUicc}
+use Rattle.node_laws.proofs.Words.{Link, LinkEnd, LinkInput, Lose, NextFrame, NoInput, Reset, Role, Rset, S, Start, Starts, Step, Stop, Stops, Take, TakeBroken}
+use Rattle.node_laws.proofs.Words.{TakeUnknown, Tick, Turn, Ua, Uicc, activated, activated_role, after_input, ended_by, finished, frame_fetched, had_tick}
+use Rattle.node_laws.proofs.Words.{happens_at_controller, has_taken, heard, host_ended, host_finished, is_faulty, is_open, is_up, moved, new_link_end, put_down}
+use Rattle.node_laws.proofs.Words.{renewed, reset_role, role_after, sent_all, silent, steps_at_controller, stopped, take_answer, taken, tick_answer, ticked}
+use Rattle.node_laws.proofs.Words.{ticks_at_controller, took, turned, turned_role, with_ended}
+use Rattle.swp_base.specs.declared.control_frames.Control.TheVariants.{Act as ActFrame}
 use Rattle.swp_act.specs.declared.ActEvent.TheVariants.{Take as ActTake, Tick as ActTick, Start as ActStart, Stop as ActStop}
-use Rattle.shdlc_core.specs.Machine.{taken, ticked, tick_answer, take_answer, stopped}
-use Rattle.link_laws.specs.sessions.Sessions.{is_up}
-use Rattle.link_laws.specs.machine.Machine.{LinkEnd, Role, LinkInput, Turn, is_faulty, is_open, role_after, renewed, moved, put_down, activated, heard}
-use Rattle.link_laws.specs.machine.Machine.{took}
-use Rattle.link_laws.specs.machine.Machine.{had_tick, turned, after_input, ended_by, frame_fetched, sent_all, new_link_end}
-use Rattle.link_laws.specs.machine.Machine.LinkInput.{Take, TakeUnknown, TakeBroken, Tick, Reset, Start, Stop, FromNode, Fetch}
-use Rattle.link_laws.specs.machine.Machine.Role.{Bare, Clf, Uicc}
-use Rattle.link_laws.specs.messages.Links.{Link, Ending, Comes, EndEvent, with_ended, silent, finished, has_taken, steps_at_controller}
-use Rattle.link_laws.specs.messages.Links.{happens_at_controller}
-use Rattle.link_laws.specs.messages.Links.{ticks_at_controller, IsClf, IsUicc}
-use Rattle.link_laws.specs.messages.Links.Ending.{GoesOut, CutOff}
-use Rattle.link_laws.specs.messages.Links.Comes.{NextFrame, AsksReset, Starts, Stops, NoInput}
-use Rattle.link_laws.specs.messages.Links.EndEvent.{Step, Lose}
-use Rattle.link_laws.proofs.messages.Project.{turned_role, moved_role, host_ended}
-use Rattle.link_laws.proofs.messages.Steps.{activated_role}
-use Rattle.link_laws.proofs.entries.Stepping.{host_finished}
-use Rattle.link_laws.proofs.entries.Noting.{reset_role}
+use Rattle.link_laws.proofs.messages.Project.{moved_role}
 use Rattle.node_laws.proofs.Cases.{by_list, by_test}
 use Rattle.node_laws.proofs.links.Got.{Clean, input_clean, turned_clean}
 use Rattle.link_laws.proofs.entries.Settling.{down_role}

@@ -3,20 +3,18 @@ use Rattle.std.proofs.Common.{◌≡◌, ℕ, zero, suc, ◌<◌, Bool, true, fa
 use Rattle.std.specs.Prelude.{drop, nat_lt, is_some, ◌%◌, ◌==◌}
 use Rattle.std.specs.List.{AllByRecursion}
 use Rattle.std.proofs.lemmas.Bool.{ltb-true, true≢false}
-use Rattle.swp_base.specs.declared.control_frames.Control.{Control}
-use Rattle.swp_base.specs.declared.control_frames.Control.TheVariants.{I, S, Rset, Ua, Act as ActFrame, Clt}
-use Rattle.swp_base.specs.declared.link_terms.Cause.TheVariants.{Asked}
+use Rattle.node_laws.proofs.Words.{AreSendable, Asked, Clt, Control, Fetch, FetchMessage, FromNode, Give, Hold, I, LinkEnd, LinkInput, Message, Release, Reset}
+use Rattle.node_laws.proofs.Words.{Rset, S, Session, SetAside, Start, Stop, Take, TakeBroken, TakeUnknown, Tick, Turn, Ua, activated, after_input}
+use Rattle.node_laws.proofs.Words.{aside_refusal, frame_fetched, give_refusal, good_of, had_tick, heard, if_up, is_faulty, is_open, moved, put_down}
+use Rattle.node_laws.proofs.Words.{reset_refusal, reset_with, started, stopped, taken, tick_answer, ticked, took, turn, turned, window_of}
+use Rattle.swp_base.specs.declared.control_frames.Control.TheVariants.{Act as ActFrame}
 use Rattle.swp_act.specs.declared.ActEvent.TheVariants.{Take as ActTake, Tick as ActTick, Start as ActStart, Stop as ActStop}
-use Rattle.shdlc_core.specs.Machine.{Session, taken, ticked, tick_answer, reset_with, stopped}
 use Rattle.hcp_packet.specs.declared.Packet.{Packet}
-use Rattle.hcp_packet.specs.Packets.{packets_in, is_good, good_of, AreSendable}
+use Rattle.hcp_packet.specs.Packets.{packets_in, is_good}
 use Rattle.hcp_chain.specs.Joining.{join_step, message_in, given_by, is_fifth, grown}
-use Rattle.link_laws.specs.machine.Machine.{Message, LinkEnd, ActDue, LinkInput, Turn, is_faulty, messages_got, is_open, moved, put_down, activated}
-use Rattle.link_laws.specs.machine.Machine.{started, deactivated, news, heard, took, had_tick, give_refusal, aside_refusal, turn, turned, reset_refusal}
+use Rattle.link_laws.specs.machine.Machine.{ActDue, messages_got}
+use Rattle.link_laws.specs.machine.Machine.{deactivated, news}
 use Rattle.link_laws.specs.machine.Machine.{reset_by}
-use Rattle.link_laws.specs.machine.Machine.{if_up, window_of, after_input, frame_fetched}
-use Rattle.link_laws.specs.machine.Machine.LinkInput.{Take, TakeUnknown, TakeBroken, Tick, Reset, Start, Stop, FromNode, Fetch}
-use Rattle.link_laws.specs.machine.Machine.Turn.{Give, Hold, FetchMessage, SetAside, Release}
 use Rattle.link_laws.proofs.machine.Kept.{moved_got, down_got, activated_got}
 use Rattle.node_laws.proofs.Cases.{by_option, by_test}
 use Rattle.node_laws.proofs.Cases.{by_test}

@@ -1,21 +1,13 @@
 -- What hosts send may be sent.
 use Rattle.std.proofs.Common.{ℕ, ◌<◌, List, [], arith}
 use Rattle.std.specs.List.{AllByRecursion}
-use Rattle.hcp_packet.specs.Packets.{IsSendable}
-use Rattle.hci_tables.specs.declared.command.Command.{Command}
-use Rattle.hci_tables.specs.declared.command.Command.TheVariants.{Create, Delete, Clear}
+use Rattle.node_laws.proofs.Words.{Clear, Command, Core, Create, Delete, Init, IsSendable, Message, OfHost, Port, accepts, answer_of, body_in, end_view}
+use Rattle.node_laws.proofs.Words.{finds_room, gates, host_deeds, host_holds, identity_served, link_served, ordered_deeds, ordered_holds, own_view}
 use Rattle.gate_answers.specs.declared.response.Response.TheVariants as response
-use Rattle.gate_answers.specs.Answers.{answer_of, body_in}
-use Rattle.gate_link.specs.Link.{link_served}
-use Rattle.gate_identity.specs.Identity.{identity_served}
-use Rattle.link_laws.specs.machine.Machine.{Message}
 use Rattle.registry.proofs.ValueLemmas.{AllByRecursion-get}
-use Rattle.node_machine.specs.Parts.{Init, Core, Port}
-use Rattle.node_machine.specs.Carrying.{finds_room, own_view, end_view}
-use Rattle.node_machine.specs.Controller.{gates}
-use Rattle.node_machine.specs.HostReplies.{accepts, orders_of, ordered_deeds, host_deeds}
+use Rattle.node_machine.specs.HostReplies.{orders_of}
 use Rattle.node_laws.proofs.links.Decisions.{IsSpoken, link_spoken, identity_spoken}
-use Rattle.node_machine.proofs.Walks.{OfHost, ordered_holds, host_holds, all_heard, orders_hold}
+use Rattle.node_machine.proofs.Walks.{all_heard, orders_hold}
 use Rattle.node_laws.proofs.links.Deeds.{IsFine, AreFine, answers_fine, commit_fine, link_fine, low}
 
 accepts_fine : (core : Core) (c : Command) → AreFine (accepts (own_view core) c)

@@ -5,33 +5,22 @@ use Rattle.std.specs.List.{AllByRecursion, flat_map}
 use Rattle.std.specs.Option.{option_map, option_map_or}
 use Rattle.std.proofs.lemmas.Bool.{true≢false, eqb-true}
 use Rattle.trace_model.specs.declared.entry.Entry.TheVariants as entry
-use Rattle.journal_laws.specs.Planned.{fails_within}
-use Rattle.link_laws.specs.sessions.Sessions.{is_up}
-use Rattle.shdlc_core.specs.declared.answers.LinkState.{LinkState}
-use Rattle.shdlc_core.specs.declared.answers.LinkState.TheVariants.{Up, Waiting, Down}
-use Rattle.hci_tables.specs.declared.command.Command.{Command}
-use Rattle.hci_tables.specs.Bodies.{body_of}
-use Rattle.hci_store.specs.Committing.{commit_writes}
-use Rattle.link_laws.specs.machine.Machine.{Message, LinkEnd, LinkInput, Turn, turn, give_refusal, aside_refusal, ended_by}
-use Rattle.link_laws.specs.machine.Machine.LinkInput.{Tick}
-use Rattle.link_laws.specs.machine.Machine.Turn.{Give, Hold, FetchMessage, SetAside, Release}
+use Rattle.node_laws.proofs.Words.{About, AllReach, Asks, AtEnd, Command, Commits, Core, Deed, Desk, Drops, Ends, FetchMessage, Give, GoesOn, Hears, Hold}
+use Rattle.node_laws.proofs.Words.{IsAnswered, IsComing, IsNoticedUp, IsOutside, LinkEnd, LinkInput, LinkState, Message, NodeInput, Notice, OnFirst, Orders}
+use Rattle.node_laws.proofs.Words.{Port, Release, Releases, Removed, SaysOk, Sends, SetAside, SetsErrors, Tells, Tick, TimePasses, Turn, Up, Waiting, Waits}
+use Rattle.node_laws.proofs.Words.{Work, after_sessions, after_turn, all_come, all_owed, all_owed_hold, all_synced_hold, anyone, aside_refusal, asked_at}
+use Rattle.node_laws.proofs.Words.{body_of, changed_if, commit, commit_writes, controller_deeds, deeds_of, done, end_of_node, ended_by, fails_within, forgets}
+use Rattle.node_laws.proofs.Words.{forgotten, forgotten_hold, give_refusal, has_come, has_link, input_at, is_forgotten, is_late, is_over, is_up, notified}
+use Rattle.node_laws.proofs.Words.{noting, older_notice, port_at, reset_late, steps, synced, times_out, turn, turn_at, view_of, with_desk, with_older}
+use Rattle.node_laws.proofs.Words.{with_port, without_notice}
+use Rattle.shdlc_core.specs.declared.answers.LinkState.TheVariants.{Down}
 use Rattle.link_laws.proofs.sessions.Ties.{ready-phase as ready_phase}
-use Rattle.node_machine.specs.Parts.{About, Notice, Desk, Core, Port, Work, Deed}
-use Rattle.node_machine.specs.Parts.About.{Waits, Removed}
-use Rattle.node_machine.specs.Parts.Deed.{Commits, Sends, SaysOk, Asks, Releases, Tells, IsAnswered, Drops, SetsErrors, Orders, Hears, GoesOn, Ends}
-use Rattle.node_machine.specs.Carrying.{end_of_node, noting, port_at, changed_if, with_port, with_desk, after_turn, turn_at, notified, commit, done}
-use Rattle.node_machine.specs.Controller.{has_link, asked_at, controller_deeds, view_of}
-use Rattle.node_machine.specs.Turns.{deeds_of}
-use Rattle.node_machine.specs.Node.{NodeInput, input_at, has_come, all_come, older_notice, with_older, is_late, reset_late, times_out, is_over, is_forgotten}
-use Rattle.node_machine.specs.Node.{forgets, without_notice, after_sessions, forgotten, all_owed, synced, steps}
-use Rattle.node_machine.specs.Node.NodeInput.{AtEnd, TimePasses}
-use Rattle.node_laws.specs.links.Notices.{Reaches, AllReach, IsComing, IsOutside, IsNoticedUp, IsBegun, OnFirst}
+use Rattle.node_laws.specs.links.Notices.{Reaches, IsBegun}
 use Rattle.node_laws.proofs.Cases.{by_option, by_test}
 use Rattle.node_laws.proofs.Cases.{by_option}
 use Rattle.node_laws.proofs.links.Staying.{stays_up}
 use Rattle.node_laws.proofs.links.Reaching.{controller_reach}
 use Rattle.node_laws.proofs.steps.StepWalks.{Lasts, rest_lasts}
-use Rattle.node_machine.proofs.Walks.{anyone, forgotten_hold, all_owed_hold, all_synced_hold}
 use Rattle.node_laws.proofs.steps.Ports.{come_host, forgets_host, late_host, without_host, changed_host, sessions_node}
 
 -- ## Ends

@@ -3,21 +3,14 @@ use Rattle.std.proofs.Common.{◌≡◌, ℕ, List, [], ◌∷◌, subst}
 use Rattle.std.specs.Prelude.{Some}
 use Rattle.std.specs.List.{AllByRecursion}
 use Rattle.swp_base.specs.declared.link_terms.Cause.TheVariants.{Chain}
-use Rattle.shdlc_core.specs.declared.answers.LinkState.TheVariants.{Up}
-use Rattle.trace_model.specs.declared.line.Line.{Line}
-use Rattle.link_laws.specs.sessions.Sessions.{OnWire}
-use Rattle.link_laws.specs.machine.Machine.{ended_by}
-use Rattle.link_laws.specs.machine.Machine.LinkInput.{Take}
-use Rattle.link_laws.specs.messages.Links.{Link, LinkEvent, number_of, talk_now, talk_of}
-use Rattle.link_laws.specs.messages.Links.IsStart.{IsLine}
+use Rattle.node_laws.proofs.Words.{ArePlayable, AreUpTogether, IsLine, IsRun, IsRunOf, Line, Link, LinkEvent, OnWire, Site, Take, Up, ended_by, new_line}
+use Rattle.node_laws.proofs.Words.{new_world, number_of, talk_of, world_after}
+use Rattle.link_laws.specs.messages.Links.{talk_now}
 use Rattle.link_laws.specs.messages.Order.{InOrder}
 use Rattle.link_laws.specs.messages.Quiet.{AllDelivered, IsQuiet, losses_of}
-use Rattle.link_laws.specs.messages.Settled.{AreUpTogether, IsSettled, sure_of}
+use Rattle.link_laws.specs.messages.Settled.{IsSettled, sure_of}
 use Rattle.link_laws.proofs.messages.Whole.{in_order_here, in_order_there, no_chain_here, no_chain_there, one_number}
 use Rattle.link_laws.proofs.messages.Quiet.{all_here, all_there, up_together}
-use Rattle.node_machine.specs.world.World.{Site, new_world}
-use Rattle.node_laws.specs.links.Runs.{new_line, IsRunOf, IsRun, ArePlayable}
-use Rattle.node_machine.specs.world.NodeHistories.{world_after}
 use Rattle.node_laws.proofs.links.Playing.{links_run}
 
 -- what holds of each run holds of each link

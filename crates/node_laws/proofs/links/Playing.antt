@@ -2,36 +2,16 @@
 use Rattle.std.proofs.Common.{◌≡◌, ℕ, ◌==◌, Bool, true, false, cond, zero, suc, List, [], ◌∷◌, refl, sym, subst, arith}
 use Rattle.std.specs.Prelude.{Option, Some, None, map, ◌&&◌, is_some, replicate, unwrap_or}
 use Rattle.std.specs.List.{AllByRecursion}
-use Rattle.trace_model.specs.declared.entry.NoCause.{NoCause}
+use Rattle.node_laws.proofs.Words.{Activates, ArePlayable, Arms, AsksReset, AtController, AtEnd, Boots, CanCome, Comes, Deed, End, Gives, Happening, Inits}
+use Rattle.node_laws.proofs.Words.{IsCut, IsPlayable, IsRun, IsSendable, IsWindow, Line, Link, Loses, LostFor, Message, NextFrame, NoCause, NoInput, NodeWorld}
+use Rattle.node_laws.proofs.Words.{OnDemand, Resets, Same, Site, Start, Starts, Step, Stops, Takes, Ticks, Undetected, Verdict, Work, activates, all_happen}
+use Rattle.node_laws.proofs.Words.{beginning, begins_with, by_coming, can_happen, comes_at, controller_work, end_c, end_h, ending_of, exchanged, first_verdict}
+use Rattle.node_laws.proofs.Words.{frames_at, goes_on, happens, happens_by, host_does, if_off, is_command_message, line_step, link_after_controller, memory_at}
+use Rattle.node_laws.proofs.Words.{new_site, new_world, refusal_in, sending, steps, taken_of, turns_at, world_after, world_step}
 use Rattle.trace_model.specs.declared.entry.NoCause.TheVariants as no
-use Rattle.trace_model.specs.declared.line.End.{End}
-use Rattle.trace_model.specs.declared.line.Line.{Line}
 use Rattle.trace_model.specs.declared.line.Line.TheVariants as line
-use Rattle.hcp_packet.specs.Packets.{IsSendable}
-use Rattle.link_laws.specs.machine.Machine.{Message}
-use Rattle.link_laws.specs.machine.Machine.LinkInput.{Start}
-use Rattle.link_laws.specs.messages.Links.{Link, Comes, exchanged, happens, IsWindow, CanCome}
-use Rattle.link_laws.specs.messages.Links.Comes.{NextFrame, AsksReset, Starts, Stops, NoInput}
-use Rattle.link_laws.specs.messages.Links.Loss.{OnDemand}
-use Rattle.link_laws.specs.messages.Links.EndEvent.{Step}
-use Rattle.link_laws.specs.messages.Links.LinkEvent.{AtController}
 use Rattle.link_laws.proofs.messages.Runs.{IsIdleClf, started_clf, can_start}
-use Rattle.history.specs.Damage.{Verdict}
-use Rattle.history.specs.Damage.Verdict.{Same, LostFor, Undetected}
-use Rattle.history.specs.Follows.{first_verdict, taken_of}
-use Rattle.node_machine.specs.Parts.{Work, Deed}
-use Rattle.node_machine.specs.Controller.{is_command_message}
-use Rattle.node_machine.specs.Node.{steps, begins_with}
-use Rattle.node_machine.specs.Node.NodeInput.{AtEnd}
-use Rattle.node_machine.specs.world.World.{Site, NodeWorld, Happening, new_site, new_world, ending_of, turns_at, controller_work}
-use Rattle.node_machine.specs.world.World.{link_after_controller, host_does, memory_at, sending, beginning}
-use Rattle.node_machine.specs.world.World.{comes_at, end_c, end_h}
-use Rattle.node_machine.specs.world.World.{activates, world_step}
-use Rattle.node_machine.specs.world.World.Happening.{Boots, IsCut, Gives, Inits, Takes, Loses, Ticks, Resets, Activates, Arms}
-use Rattle.node_machine.specs.world.Lines.{first_cause, if_off, refusal_in, happens_by, frames_at, can_happen, all_happen}
-use Rattle.node_machine.specs.world.Lines.{goes_on, line_step}
-use Rattle.node_laws.specs.links.Runs.{IsRun, IsPlayable, ArePlayable}
-use Rattle.node_machine.specs.world.NodeHistories.{world_after}
+use Rattle.node_machine.specs.world.Lines.{first_cause}
 use Rattle.node_laws.proofs.Cases.{by_test, by_option}
 use Rattle.node_laws.proofs.Cases.{by_some}
 use Rattle.node_laws.proofs.links.Deeds.{AreFine}
@@ -39,7 +19,6 @@ use Rattle.node_laws.proofs.links.Works.{all_done_fine, steps_fine}
 use Rattle.node_laws.proofs.links.Sites.{MayCome, new_fine}
 use Rattle.node_laws.proofs.links.Worlds.{AreFineSites, IsFineWorld, AtHostOnly, CanReach, power_fine, memory_fine, boots_fine, lost_fine, ticks_fine_all}
 use Rattle.node_laws.proofs.links.Worlds.{controller_fine, host_fine}
-use Rattle.node_machine.proofs.world.Cases.{by_coming}
 
 -- ## What comes to an end
 

@@ -3,24 +3,13 @@ use Rattle.std.proofs.Common.{◌≡◌, ℕ, Bool, true, false, ◌&&◌, List,
 use Rattle.std.specs.Prelude.{Option, Some, None}
 use Rattle.std.specs.List.{AllByRecursion}
 use Rattle.std.specs.Option.{option_map_or}
-use Rattle.link_laws.specs.sessions.Sessions.{is_up}
-use Rattle.hci_tables.specs.declared.command.Command.{Command}
-use Rattle.hci_tables.specs.declared.command.Command.TheVariants.{Create}
-use Rattle.hci_tables.specs.Tables.{HciTables, is_opened}
-use Rattle.gate_answers.specs.Answers.{body_in}
-use Rattle.gate_admin.specs.declared.view.LinkView.{LinkView}
-use Rattle.gate_admin.specs.declared.decision.Decision.{Decision}
-use Rattle.gate_admin.specs.declared.decision.Decision.TheVariants.{Answer, Commit, Ask}
-use Rattle.gate_admin.specs.View.{has, hosts_where, is_connected}
-use Rattle.gate_admin.specs.Decide.{decided}
+use Rattle.node_laws.proofs.Words.{AllReach, Answer, Ask, Command, Commit, Core, Create, Decision, HciTables, LinkView, Message, OfDecision, Plain, Port}
+use Rattle.node_laws.proofs.Words.{all_of_controller, body_in, controller_deeds, decided, has, has_link, is_connected, is_connected_at, is_opened, is_up}
+use Rattle.node_laws.proofs.Words.{port_at, view_for, view_of}
+use Rattle.gate_admin.specs.View.{hosts_where}
 use Rattle.tables_laws.specs.gate.Rules.{AsksAsAllowed, IsAskedFor}
 use Rattle.tables_laws.proofs.gate.Decisions.{decided_as_allowed}
-use Rattle.link_laws.specs.machine.Machine.{Message}
-use Rattle.node_machine.specs.Parts.{Core, Port}
-use Rattle.node_machine.specs.Carrying.{port_at}
-use Rattle.node_machine.specs.Controller.{has_link, is_connected_at, view_for, controller_deeds, view_of}
-use Rattle.node_machine.proofs.Walks.{Plain, OfDecision, all_of_controller}
-use Rattle.node_laws.specs.links.Notices.{Reaches, AllReach}
+use Rattle.node_laws.specs.links.Notices.{Reaches}
 use Rattle.node_laws.proofs.links.Masking.{from_mask}
 use Rattle.node_laws.proofs.links.Connected.{AreConnected, decided_tells, TellsConnected}
 

@@ -1,22 +1,14 @@
 -- The link of each host is a run of the law of one link, over all that happens to it.
 use Rattle.std.proofs.Common.{◌≡◌, Bool, true, false, cond, List, [], ◌∷◌, ◌++◌, refl, ap, sym, subst, ◌∙◌}
 use Rattle.std.specs.Prelude.{None, not, ◌&&◌}
-use Rattle.shdlc_core.specs.Machine.{is_waiting}
-use Rattle.link_laws.specs.machine.Machine.{Role, Turn}
-use Rattle.link_laws.specs.machine.Machine.LinkInput.{Reset}
-use Rattle.link_laws.specs.machine.Machine.Role.{Bare, Clf, Uicc}
-use Rattle.link_laws.specs.messages.Links.{Link, NumberedEnd, Ending, Comes, Loss, EndEvent, Node, LinkEvent, exchanged, aged, has_input}
-use Rattle.link_laws.specs.messages.Links.{ticks_at_controller}
-use Rattle.link_laws.specs.messages.Links.{happens_at_controller, happens, after_link_events, AreSendableTurns, IsClf, IsUicc, IfLine, IsWindow}
-use Rattle.link_laws.specs.messages.Links.{CanEnd, CanCome}
-use Rattle.link_laws.specs.messages.Links.{IsEvent, AllAllowed}
-use Rattle.link_laws.specs.messages.Links.Ending.{GoesOut, CutOff}
-use Rattle.link_laws.specs.messages.Links.Comes.{NextFrame, AsksReset, Starts, Stops, NoInput}
-use Rattle.link_laws.specs.messages.Links.EndEvent.{Step, Lose}
-use Rattle.link_laws.specs.messages.Links.LinkEvent.{AtController, AtHost, Ticks, TicksWithout}
+use Rattle.node_laws.proofs.Words.{AllAllowed, AreSendableTurns, AsksReset, AtController, AtHost, Bare, CanCome, Clf, Comes, CutOff, EndEvent, Ending, GoesOut}
+use Rattle.node_laws.proofs.Words.{IsClf, IsEvent, IsRun, IsRunOf, IsUicc, IsWindow, Link, LinkEvent, Lose, Loss, NextFrame, NoInput, Node, NumberedEnd, Reset}
+use Rattle.node_laws.proofs.Words.{Role, Starts, Step, Stops, TicksWithout, Turn, Uicc, after_link_events, aged, exchanged, happens, happens_at_controller}
+use Rattle.node_laws.proofs.Words.{has_input, is_waiting, new_line, ticked_so, ticks_at_controller}
+use Rattle.link_laws.specs.messages.Links.{IfLine}
+use Rattle.link_laws.specs.messages.Links.{CanEnd}
+use Rattle.link_laws.specs.messages.Links.LinkEvent.{Ticks}
 use Rattle.link_laws.proofs.messages.Runs.{clf_starts}
-use Rattle.node_machine.specs.world.World.{ticked_so}
-use Rattle.node_laws.specs.links.Runs.{new_line, IsRun, IsRunOf}
 use Rattle.node_laws.proofs.links.Got.{Clean}
 use Rattle.node_laws.proofs.links.Ends.{here_host, here_clf, here_uicc, here_clean, tick_clf, tick_uicc, tick_clean}
 use Rattle.link_laws.proofs.entries.Together.{ticks_host as tick_host}

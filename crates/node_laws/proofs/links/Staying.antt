@@ -2,23 +2,17 @@
 use Rattle.std.proofs.Common.{◌≡◌, Bool, true, false, cond, Option, Some, None, refl, ap, sym, subst, ◌∙◌}
 use Rattle.std.specs.Prelude.{is_some}
 use Rattle.std.proofs.lemmas.Bool.{true≢false}
-use Rattle.swp_base.specs.declared.control_frames.Control.{Control}
-use Rattle.swp_base.specs.declared.control_frames.Control.TheVariants.{I, S, Rset, Ua, Act as ActFrame, Clt}
+use Rattle.node_laws.proofs.Words.{ActEvent, Asked, Cause, Clt, Control, EndState, I, IsComing, LinkEnd, LinkInput, Reset, Rset, S, Start, Stop, Take, Tick, Ua}
+use Rattle.node_laws.proofs.Words.{Up, act_answer, activated, after_input, ended_by, had_tick, heard, if_up, is_faulty, is_open, moved, put_down, reset_refusal}
+use Rattle.node_laws.proofs.Words.{role_after, take_answer, taken, tick_answer, ticked, with_act}
+use Rattle.swp_base.specs.declared.control_frames.Control.TheVariants.{Act as ActFrame}
 use Rattle.swp_base.specs.declared.control_frames.Act.{Act}
-use Rattle.swp_base.specs.declared.link_terms.Cause.{Cause}
-use Rattle.swp_base.specs.declared.link_terms.Cause.TheVariants.{Asked, Act as ByAct, Chain}
-use Rattle.swp_act.specs.declared.ActEvent.{ActEvent}
+use Rattle.swp_base.specs.declared.link_terms.Cause.TheVariants.{Act as ByAct, Chain}
 use Rattle.swp_act.specs.declared.ActEvent.TheVariants.{Take as ActTake, Tick as ActTick}
-use Rattle.shdlc_core.specs.declared.answers.LinkState.TheVariants.{Up}
-use Rattle.shdlc_core.specs.Machine.{EndState, taken, take_answer, ticked, tick_answer}
-use Rattle.link_laws.specs.machine.Machine.{LinkEnd, LinkInput, is_faulty, is_open, act_answer, role_after, with_act, moved, put_down, activated}
-use Rattle.link_laws.specs.machine.Machine.{heard}
-use Rattle.link_laws.specs.machine.Machine.{had_tick, reset_refusal, if_up, after_input, ended_by, ended_by_act}
-use Rattle.link_laws.specs.machine.Machine.LinkInput.{Take, Tick, Reset, Start, Stop}
+use Rattle.link_laws.specs.machine.Machine.{ended_by_act}
 use Rattle.link_laws.proofs.machine.Shifts.{Shift, taken_shift, ticked_shift}
 use Rattle.link_laws.proofs.machine.Shifts.Shift.{Stays, Ends, Renews, Begins, Rests}
 use Rattle.link_laws.proofs.machine.Reports.{shdlc_is as shdlc_moved}
-use Rattle.node_laws.specs.links.Notices.{IsComing}
 use Rattle.node_laws.proofs.Cases.{by_option, by_test}
 
 abbrev pub IsUpEnd : LinkEnd → Type 0

@@ -4,32 +4,19 @@ use Rattle.std.specs.Prelude.{Option, Some, None, map}
 use Rattle.std.specs.List.{AllByRecursion, flat_map}
 use Rattle.std.specs.Option.{option_map_or}
 use Rattle.trace_model.specs.declared.entry.Entry.TheVariants as entry
-use Rattle.journal_laws.specs.Planned.{fails_within}
-use Rattle.hcp_packet.specs.Packets.{IsSendable, AreSendable}
-use Rattle.hci_tables.specs.declared.command.Command.{Command}
-use Rattle.hci_tables.specs.Bodies.{body_of}
-use Rattle.hci_store.specs.Committing.{commit_writes}
-use Rattle.link_laws.specs.machine.Machine.{Message, LinkInput, Turn}
-use Rattle.link_laws.specs.machine.Machine.LinkInput.{Reset}
-use Rattle.link_laws.specs.machine.Machine.Turn.{Give, Hold, FetchMessage, SetAside, Release}
-use Rattle.link_laws.specs.messages.Links.{AreSendableTurns}
-use Rattle.node_machine.specs.Parts.{About, Notice, Desk, Core, Port, Work, Deed}
-use Rattle.node_machine.specs.Parts.About.{Waits, Forgotten, Removed}
-use Rattle.node_machine.specs.Parts.Deed.{Commits, Sends, Asks, Releases, Tells, IsAnswered, SetsErrors, Orders}
-use Rattle.node_machine.specs.Carrying.{noting, port_at, changed_if, with_port, with_desk, after_turn, turn_at, notified, commit, done}
-use Rattle.node_machine.specs.Carrying.{all_done}
-use Rattle.node_machine.specs.Controller.{creation_in, asked_at}
-use Rattle.node_machine.specs.Turns.{deeds_of, handles, holds_back, lets_go}
-use Rattle.node_machine.specs.Node.{NodeInput, input_at, has_come, all_come, older_notice, with_older, is_late, reset_late, times_out, is_over, is_forgotten}
-use Rattle.node_machine.specs.Node.{forgotten, forgets, all_owed, without_notice, after_sessions, synced, steps}
-use Rattle.node_machine.specs.Node.NodeInput.{AtEnd, TimePasses}
+use Rattle.node_laws.proofs.Words.{About, AreSendable, AreSendableTurns, Asks, AtEnd, Command, Commits, Core, Deed, Desk, FetchMessage, Forgotten, Give, Hold}
+use Rattle.node_laws.proofs.Words.{IsAnswered, IsSendable, LinkInput, Message, NodeInput, Notice, Orders, Port, Release, Releases, Removed, Reset, Sends}
+use Rattle.node_laws.proofs.Words.{SetAside, SetsErrors, Tells, TimePasses, Turn, Waits, Work, after_sessions, after_turn, all_come, all_done, all_owed}
+use Rattle.node_laws.proofs.Words.{all_owed_hold, all_synced_hold, asked_at, body_of, changed_if, commit, commit_writes, creation_in, deeds_of, done}
+use Rattle.node_laws.proofs.Words.{fails_within, forgets, forgotten, forgotten_hold, handles, has_come, holds_back, input_at, is_forgotten, is_late, is_over}
+use Rattle.node_laws.proofs.Words.{lets_go, notified, noting, older_notice, port_at, reset_late, steps, synced, times_out, turn_at, with_desk, with_older}
+use Rattle.node_laws.proofs.Words.{with_port, without_notice}
 use Rattle.node_laws.proofs.Cases.{by_option, by_test}
 use Rattle.node_laws.proofs.links.Got.{Clean, one_clean, input_clean}
 use Rattle.node_laws.proofs.links.Decisions.{IsSpoken}
 use Rattle.node_laws.proofs.links.Deeds.{HasAnswer, IsTrueDesk, IsFine, AreFine, AreTrue, low, controller_fine}
 use Rattle.node_laws.proofs.links.HostDeeds.{host_fine}
 use Rattle.node_laws.proofs.steps.StepWalks.{Lasts, all_do, lets, holds, handled, rest_lasts}
-use Rattle.node_machine.proofs.Walks.{forgotten_hold, all_owed_hold, all_synced_hold}
 
 -- ## Ends
 

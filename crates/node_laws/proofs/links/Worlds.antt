@@ -2,30 +2,15 @@
 use Rattle.std.proofs.Common.{◌≡◌, ℕ, ◌==◌, Bool, true, false, List, [], ◌∷◌, refl, ap, sym, subst}
 use Rattle.std.specs.Prelude.{Option, Some, None, map, not, ◌&&◌}
 use Rattle.std.specs.List.{AllByRecursion}
-use Rattle.swp_base.specs.InMemory.{Memory}
-use Rattle.trace_model.specs.declared.line.End.{End}
-use Rattle.shdlc_core.specs.Machine.{is_waiting}
-use Rattle.journal_laws.specs.Planned.{after_planned}
-use Rattle.link_laws.specs.machine.Machine.{Turn}
-use Rattle.link_laws.specs.messages.Links.{Link, NumberedEnd, Ending, Comes, Loss, Node, exchanged, aged, ticks_at_controller, happens}
-use Rattle.link_laws.specs.messages.Links.{AreSendableTurns, CanCome}
-use Rattle.link_laws.specs.messages.Links.Ending.{GoesOut, CutOff}
-use Rattle.link_laws.specs.messages.Links.Comes.{NextFrame, AsksReset, NoInput}
-use Rattle.link_laws.specs.messages.Links.Loss.{Broken}
-use Rattle.link_laws.specs.messages.Links.EndEvent.{Step, Lose}
-use Rattle.link_laws.specs.messages.Links.LinkEvent.{AtController}
+use Rattle.node_laws.proofs.Words.{AreSendableTurns, AsksReset, AtController, Broken, CanCome, Comes, CutOff, Desk, End, Ending, GoesOut, Link, Lose, Loss}
+use Rattle.node_laws.proofs.Words.{Memory, NextFrame, NoInput, Node, NodeWorld, NumberedEnd, Port, Running, Site, Step, TimePasses, Turn, Work}
+use Rattle.node_laws.proofs.Words.{after_controller, after_host, after_planned, aged, all_aged, boot_found, boot_writes, boot_written, boots, by_boot}
+use Rattle.node_laws.proofs.Words.{by_controller, by_controller_tick, by_host, by_host_tick, by_loss, by_memory, by_power, by_running, changed_if, comes_to}
+use Rattle.node_laws.proofs.Words.{controller_cut, controller_does, controller_ticks, controller_work, counts, ending_of, exchanged, frame_lost, happens}
+use Rattle.node_laws.proofs.Words.{host_cut, host_does, host_tick, host_ticks, host_work, hosts_tick, is_late_at, is_waiting, link_after_controller, link_to}
+use Rattle.node_laws.proofs.Words.{links_of, loses_power_at, memory_at, near_end_in, near_tick, new_desk, port_at, port_for, runs_on, site_at, site_lost}
+use Rattle.node_laws.proofs.Words.{ticked_so, ticks_at_controller, turns_at, with_error, with_memory, with_node, with_site, work_of, world_ticks}
 use Rattle.history.specs.Steps.{at}
-use Rattle.node_machine.specs.Parts.{Desk, Running, Port, Work}
-use Rattle.node_machine.specs.Carrying.{changed_if, port_at}
-use Rattle.node_machine.specs.Node.{boot_writes, with_error, new_desk}
-use Rattle.node_machine.specs.Node.NodeInput.{TimePasses}
-use Rattle.node_machine.specs.world.World.{Site, NodeWorld, site_at, with_site, link_to, ending_of, runs_on, turns_at, near_end_in, port_for}
-use Rattle.node_machine.specs.world.World.{work_of, comes_to, controller_work, link_after_controller, after_controller, controller_does, host_work, after_host}
-use Rattle.node_machine.specs.world.World.{host_does, controller_cut, host_cut, loses_power_at, memory_at, with_memory, with_node, links_of, boots}
-use Rattle.node_machine.specs.world.World.{counts, frame_lost}
-use Rattle.node_machine.specs.world.World.{all_aged, is_late_at, ticked_so, controller_ticks, host_ticks, hosts_tick, world_ticks}
-use Rattle.node_machine.proofs.world.Cases.{by_controller, by_host, by_power, by_memory, by_running, boot_written, boot_found, by_boot, site_lost, by_loss}
-use Rattle.node_machine.proofs.world.Cases.{near_tick, by_controller_tick, host_tick, by_host_tick}
 use Rattle.node_laws.proofs.Cases.{by_option, by_test, by_list}
 use Rattle.node_laws.proofs.links.Got.{Clean}
 use Rattle.node_laws.proofs.links.Deeds.{IsTrueDesk}

@@ -4,28 +4,17 @@ use Rattle.std.specs.Prelude.{Option, Some, None}
 use Rattle.std.specs.List.{AllByRecursion}
 use Rattle.std.specs.Option.{option_map_or, option_and_then}
 use Rattle.std.proofs.lemmas.Bool.{cond_both, eqb-true, eqb-false, ne_eqb, true≢false}
-use Rattle.pipe_table.specs.PipeRows.{pipe_at}
-use Rattle.pipe_table.specs.declared.row.PipeRow.{PipeRow}
-use Rattle.hci_tables.specs.Tables.{HciTables}
-use Rattle.hci_tables.specs.declared.command.Command.{Command}
-use Rattle.hci_tables.specs.declared.command.Command.TheVariants.{Create, Delete, Clear, SetOpened, Set}
-use Rattle.tables_laws.specs.tables.Changes.{JoinTwo}
-use Rattle.gate_answers.specs.declared.response.Response.{Response}
+use Rattle.node_laws.proofs.Words.{Answer, Ask, Clear, Command, Commit, Create, Decision, Delete, HciTables, IsAbout, JoinTwo, LinkView, PipeRow, Removed}
+use Rattle.node_laws.proofs.Words.{Response, Set, answer_of, commits_and_tells, decided, decided_holds, far_end_of, has, is_connected, is_notice, mask_of}
+use Rattle.node_laws.proofs.Words.{param_in, pipe_at, shares, told_of_clearing, told_of_deletion, value_in}
+use Rattle.hci_tables.specs.declared.command.Command.TheVariants.{SetOpened}
 use Rattle.gate_answers.specs.declared.response.Response.TheVariants as response
-use Rattle.gate_answers.specs.Answers.{answer_of, param_in, value_in}
-use Rattle.gate_admin.specs.declared.view.LinkView.{LinkView}
-use Rattle.gate_admin.specs.declared.decision.Decision.{Decision}
-use Rattle.gate_admin.specs.declared.decision.Decision.TheVariants.{Answer, Commit, Ask}
-use Rattle.gate_admin.specs.View.{has, hosts_where, mask_of, is_connected}
-use Rattle.gate_admin.specs.Decide.{ends_of, commits, commits_and_tells, far_end_of}
-use Rattle.gate_admin.specs.Decide.{shares, decided, others_opened}
-use Rattle.gate_admin.specs.Decide.{told_of_deletion, told_of_clearing}
-use Rattle.node_machine.specs.Parts.About.{Removed}
-use Rattle.tables_laws.proofs.gate.Decisions.{new_row, decided_holds, joins_two}
+use Rattle.gate_admin.specs.View.{hosts_where}
+use Rattle.gate_admin.specs.Decide.{ends_of, commits}
+use Rattle.gate_admin.specs.Decide.{others_opened}
+use Rattle.tables_laws.proofs.gate.Decisions.{new_row, joins_two}
 use Rattle.node_laws.proofs.Cases.{by_test}
 use Rattle.node_laws.proofs.links.Masking.{nobody, alone, from_mask, all_in}
-use Rattle.node_machine.specs.world.NodeFilters.{is_notice}
-use Rattle.node_laws.specs.notices.Notices.{IsAbout}
 
 -- it is no notice
 abbrev pub IsOther : List ℕ → Type 0

@@ -5,38 +5,19 @@ use Rattle.std.specs.List.{AllByRecursion}
 use Rattle.std.specs.Option.{option_map, option_map_or, option_and_then}
 use Rattle.std.proofs.lemmas.Bool.{cases_Bool, eqb-true, eqb-false, ne_eqb, eq-eqb}
 use Rattle.std.proofs.lemmas.Bool.{true≢false}
-use Rattle.trace_model.specs.Lines.{IsHost}
-use Rattle.trace_model.specs.declared.entry.Entry.{Entry}
+use Rattle.node_laws.proofs.Words.{About, AreTables, AreTables-apply, Asks, Command, Commits, Controller, Core, Deed, Desk, Drops, Entry, Give, IsAbout}
+use Rattle.node_laws.proofs.Words.{IsCommand, IsHost, IsKeptNotice, IsRightNotice, JoinTwo, Message, Notice, Port, Release, Releases, Removed, SaysOk, Sends}
+use Rattle.node_laws.proofs.Words.{SetAside, SetsErrors, Tells, Turn, Waits, Work, Write, after_turn, all_done, body_of, changed_if, commit, commit_writes}
+use Rattle.node_laws.proofs.Words.{done, entries_for, fails_within, give_refusal, is_notice, is_up, keeps, noted_of, notice_in, notified, noting, own_side}
+use Rattle.node_laws.proofs.Words.{port_at, sent_unless, turn_at, unless_cut, with_desk, with_port}
 use Rattle.trace_model.specs.declared.entry.Entry.TheVariants as entry
-use Rattle.journal_laws.specs.Planned.{fails_within}
-use Rattle.journal_laws.specs.Writes.{Write}
-use Rattle.hci_tables.specs.declared.command.Command.{Command}
-use Rattle.hci_tables.specs.Commands.{IsCommand}
-use Rattle.hci_tables.specs.Bodies.{body_of}
-use Rattle.hci_tables.specs.Tables.{AreTables}
-use Rattle.hci_store.specs.Committing.{commit_writes}
-use Rattle.tables_laws.specs.tables.Changes.{JoinTwo}
-use Rattle.tables_laws.proofs.tables.SortedTables.{AreTables-apply}
 use Rattle.tables_laws.proofs.tables.TwoHosts.{JoinTwo-after}
-use Rattle.link_laws.specs.sessions.Sessions.{is_up}
-use Rattle.link_laws.specs.machine.Machine.{Message, Turn, give_refusal}
-use Rattle.link_laws.specs.machine.Machine.Turn.{Give, SetAside, Release}
 use Rattle.link_laws.proofs.messages.Project.{give_tells}
-use Rattle.link_laws.specs.entries.Entries.{sent_unless}
-use Rattle.link_laws.specs.entries.Entries.End.{Controller}
-use Rattle.history.specs.Steps.{entries_for}
-use Rattle.node_machine.specs.Parts.{About, Notice, Desk, Core, Port, Work, Deed}
-use Rattle.node_machine.specs.Parts.About.{Waits, Removed}
-use Rattle.node_machine.specs.Parts.Deed.{Commits, Sends, SaysOk, Asks, Releases, Tells, Drops, SetsErrors}
-use Rattle.node_machine.specs.Carrying.{own_side, noting, unless_cut, port_at, changed_if, with_port, with_desk, after_turn, noted_of, turn_at, notified}
-use Rattle.node_machine.specs.Carrying.{keeps, commit, done, all_done}
-use Rattle.node_machine.specs.world.NodeFilters.{is_notice, notice_in}
 use Rattle.node_laws.proofs.Cases.{by_test}
 use Rattle.node_laws.proofs.links.Noticing.{turn-phase, UpAt, at_all, at_host}
-use Rattle.node_laws.specs.notices.Notices.{IsAbout, IsKeptNotice}
 use Rattle.node_laws.proofs.notices.Reading.{reads, read_more, sent_reads, sent_elsewhere, notice_reads}
 use Rattle.node_laws.proofs.notices.Telling.{AreRight, noticed, MayTell}
-use Rattle.node_laws.specs.notices.Worlds.{IsRightAbout, IsRightNotice}
+use Rattle.node_laws.specs.notices.Worlds.{IsRightAbout}
 use Rattle.node_laws.proofs.Cut.{by_cut}
 
 abbrev pub AreHostEnds : List Port → Type 0

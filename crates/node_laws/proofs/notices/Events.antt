@@ -4,52 +4,31 @@ use Rattle.std.specs.Prelude.{Option, Some, None, replicate}
 use Rattle.std.specs.List.{AllByRecursion, fold}
 use Rattle.std.specs.Option.{option_map_or}
 use Rattle.std.proofs.lemmas.Bool.{cases_Bool, eqb-true}
-use Rattle.swp_base.specs.InMemory.{Memory}
-use Rattle.journal_laws.specs.Journal.{count_of, records}
-use Rattle.journal_laws.specs.Planned.{after_planned}
-use Rattle.trace_model.specs.Lines.{IsHost}
-use Rattle.trace_model.specs.declared.entry.Entry.{Entry}
+use Rattle.node_laws.proofs.Words.{Activates, AreHosts, AreTables, AreTables-apply, Arms, AsksReset, AtController, AtHost, Boots, Broken, Command, Controller}
+use Rattle.node_laws.proofs.Words.{ControllerReads, CutOff, Desk, End, Entry, Gives, Happening, HciTables, Host, IfReads, Inits, IsCommand, IsCut, IsHost}
+use Rattle.node_laws.proofs.Words.{IsKeptNotice, IsRightNotice, JoinTwo, KeepsNotices, Link, Lose, Loses, Loss, MayBoot, Memory, NextFrame, NoInput, NodeWorld}
+use Rattle.node_laws.proofs.Words.{Resets, Running, Site, Step, Takes, Ticks, after_planned, applied, apply, beginning, boot_found, boot_writes, boot_written}
+use Rattle.node_laws.proofs.Words.{boots, by_boot, by_memory, by_power, by_running, changed_if, close, controller_cut, count_of, counts, entries_for}
+use Rattle.node_laws.proofs.Words.{first_lost, found, frame_lost, happens, host_cut, link_to, links_of, loses_power_at, memory_at, new_desk, new_site}
+use Rattle.node_laws.proofs.Words.{new_world, no_tables, node_at, notice_at, notice_in, sending, with_error, with_memory, with_node, with_site, world_step}
+use Rattle.journal_laws.specs.Journal.{records}
 use Rattle.trace_model.specs.declared.entry.Entry.TheVariants as entry
-use Rattle.trace_model.specs.declared.line.End.{End}
-use Rattle.hci_tables.specs.declared.command.Command.{Command}
-use Rattle.hci_tables.specs.Commands.{IsCommand}
 use Rattle.hci_tables.specs.Bodies.{spelled_by, command_of}
-use Rattle.hci_tables.specs.Tables.{HciTables, AreTables, no_tables, apply, close}
-use Rattle.tables_laws.specs.tables.Changes.{JoinTwo}
-use Rattle.tables_laws.proofs.tables.SortedTables.{AreTables-apply, AreTables-close, AreTables-none}
+use Rattle.tables_laws.proofs.tables.SortedTables.{AreTables-close, AreTables-none}
 use Rattle.tables_laws.proofs.tables.TwoHosts.{JoinTwo-after, JoinTwo-closed}
-use Rattle.hci_store.specs.Image.{applied, tables_of}
-use Rattle.link_laws.specs.messages.Links.{Link, Loss, happens}
-use Rattle.link_laws.specs.messages.Links.Ending.{CutOff}
-use Rattle.link_laws.specs.messages.Links.Comes.{NextFrame, AsksReset, NoInput}
-use Rattle.link_laws.specs.messages.Links.Loss.{Broken}
-use Rattle.link_laws.specs.messages.Links.EndEvent.{Step, Lose}
-use Rattle.link_laws.specs.messages.Links.LinkEvent.{AtController, AtHost}
-use Rattle.link_laws.specs.entries.Entries.{first_lost}
-use Rattle.link_laws.specs.entries.Entries.End.{Controller, Host}
-use Rattle.history.specs.Steps.{entries_for}
-use Rattle.node_machine.specs.Parts.{Desk, Running}
-use Rattle.node_machine.specs.Carrying.{changed_if}
-use Rattle.node_machine.specs.Node.{boot_writes, found, new_desk, with_error}
-use Rattle.node_machine.specs.world.World.{NodeWorld, Site, Happening, node_at, memory_at, with_site, with_memory, with_node, link_to, links_of, controller_cut}
-use Rattle.node_machine.specs.world.World.{host_cut, loses_power_at, boots, counts, frame_lost, sending, beginning, new_site, new_world, world_step}
-use Rattle.node_machine.specs.world.World.Happening.{Boots, IsCut, Gives, Inits, Takes, Loses, Ticks, Resets, Activates, Arms}
-use Rattle.node_machine.specs.world.NodeFilters.{notice_in}
-use Rattle.node_laws.specs.kept.Hosts.{AreHosts}
+use Rattle.hci_store.specs.Image.{tables_of}
 use Rattle.node_laws.proofs.Cases.{by_test}
 use Rattle.node_laws.proofs.telling.Orderly.{new_orderly, step_orderly}
 use Rattle.node_laws.proofs.readings.NoticedWorlds.{event_up, numbers}
 use Rattle.node_laws.proofs.readings.Sites.{lost_quiet}
-use Rattle.node_machine.proofs.world.Cases.{by_power, by_memory, by_running, boot_written, boot_found, written_off, by_boot}
-use Rattle.node_laws.specs.notices.Notices.{IsKeptNotice, notice_at}
+use Rattle.node_machine.proofs.world.Cases.{written_off}
 use Rattle.node_laws.proofs.notices.Reading.{notice_more}
 use Rattle.node_laws.proofs.notices.Shut.{here_shut}
 use Rattle.node_laws.proofs.notices.Far.{quiet_far, asking_more}
 use Rattle.node_laws.proofs.notices.Sites.{AreGood, Reads, AreHushed, still_reads, far_hushed, good_map, good_with, far_shut, begins_reads, sending_own}
 use Rattle.node_laws.proofs.notices.Sites.{beginning_own}
 use Rattle.node_laws.proofs.notices.Near.{comes_reads, ticks_reads, activates_reads}
-use Rattle.node_laws.specs.telling.Telling.{MayBoot}
-use Rattle.node_laws.specs.notices.Worlds.{ControllerReads, IfHostNode, IfReads, KeepsNotices, IsRightNotice}
+use Rattle.node_laws.specs.notices.Worlds.{IfHostNode}
 use Rattle.node_laws.proofs.kept.Booting.{command_read}
 
 -- ## The tables of a memory

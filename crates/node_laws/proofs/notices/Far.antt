@@ -5,30 +5,17 @@ use Rattle.std.specs.List.{AllByRecursion, flat_map, fold}
 use Rattle.std.proofs.lemmas.List.Sums.{fold-append}
 use Rattle.std.specs.Option.{option_map_or}
 use mathlib.Core.Bool.{and-false}
-use Rattle.trace_model.specs.declared.entry.Entry.{Entry}
+use Rattle.node_laws.proofs.Words.{About, Asks, AtEnd, Command, Commits, Core, Cut, Deed, Desk, Down, Drops, End, Ends, Entry, FetchMessage, Give, GoesOn}
+use Rattle.node_laws.proofs.Words.{Hears, Hold, Host, IsAnswered, LinkInput, Message, NodeInput, Orders, Port, Refused, Release, Releases, Removed, Report}
+use Rattle.node_laws.proofs.Words.{Reset, Restarted, SaysOk, Sends, Sent, SetsErrors, Tells, TimePasses, Turn, Work, after_input, after_sessions, all_come}
+use Rattle.node_laws.proofs.Words.{all_done, all_owed, anyone, asking_in, body_of, commit, commit_writes, done, end_c, end_of, end_of_node, entries_for}
+use Rattle.node_laws.proofs.Words.{fails_within, forgets, forgotten, give_refusal, input_at, is_late, is_notice, is_response, noted_of, notified, noting}
+use Rattle.node_laws.proofs.Words.{own_side, port_at, report, same_end, same_side, sent_unless, steps, synced, times_out, told, told_at, told_late, turn_at}
+use Rattle.node_laws.proofs.Words.{whole_acked, with_desk, with_older}
 use Rattle.trace_model.specs.declared.entry.Entry.TheVariants as entry
-use Rattle.trace_model.specs.declared.line.End.{End}
-use Rattle.journal_laws.specs.Planned.{fails_within}
-use Rattle.hci_tables.specs.declared.command.Command.{Command}
-use Rattle.hci_tables.specs.Bodies.{body_of}
-use Rattle.hci_store.specs.Committing.{commit_writes}
-use Rattle.link_laws.specs.machine.Machine.{Message, LinkInput, Refused, Turn, Report, give_refusal, report, whole_acked, after_input}
-use Rattle.link_laws.specs.machine.Machine.LinkInput.{Reset}
-use Rattle.link_laws.specs.machine.Machine.Turn.{Give, Hold, FetchMessage, Release}
-use Rattle.link_laws.specs.entries.Entries.{Entry as Noted, told, sent_unless}
-use Rattle.link_laws.specs.entries.Entries.End.{Host}
-use Rattle.link_laws.specs.entries.Entries.Entry.{Down, Sent, Tick, Restarted, Cut}
-use Rattle.history.specs.Filters.{same_end, same_side}
-use Rattle.history.specs.Steps.{entries_for, end_of}
-use Rattle.node_machine.specs.Parts.{About, Desk, Core, Port, Work, Deed}
-use Rattle.node_machine.specs.Parts.About.{Removed}
-use Rattle.node_machine.specs.Parts.Deed.{Commits, Sends, SaysOk, Asks, Releases, Tells, IsAnswered, Drops, SetsErrors, Orders, Hears, GoesOn, Ends}
-use Rattle.node_machine.specs.Carrying.{own_side, noting, port_at, with_desk, noted_of, turn_at, notified, commit, done, all_done, end_of_node}
-use Rattle.node_machine.specs.Node.{NodeInput, input_at, told_at, all_come, with_older, is_late, told_late, times_out, forgotten, forgets, all_owed}
-use Rattle.node_machine.specs.Node.{after_sessions, synced, steps}
-use Rattle.node_machine.specs.Node.NodeInput.{AtEnd, TimePasses}
-use Rattle.node_machine.specs.world.World.{end_c}
-use Rattle.node_machine.specs.world.NodeFilters.{is_response, is_notice, asking_after, asking_in}
+use Rattle.link_laws.specs.entries.Entries.{Entry as Noted}
+use Rattle.link_laws.specs.entries.Entries.Entry.{Tick}
+use Rattle.node_machine.specs.world.NodeFilters.{asking_after}
 use Rattle.node_laws.proofs.Cases.{by_option, by_test}
 use Rattle.node_laws.proofs.Cases.{by_test}
 use Rattle.node_laws.proofs.readings.Silent.{IsQuiet, told_rest, rest_quiet}
@@ -36,7 +23,6 @@ use Rattle.node_laws.proofs.notices.Reading.{reads}
 use Rattle.node_laws.proofs.notices.Own.{IsFar, IsOwn, AreOwn, deeds_own, forgotten_own, all_owed_own, all_synced_own}
 use Rattle.node_laws.proofs.steps.Ports.{sessions_node}
 use Rattle.node_laws.proofs.steps.StepWalks.{got_at, all_do as all_far, Lasts, rest_lasts}
-use Rattle.node_machine.proofs.Walks.{anyone}
 
 abbrev pub AreFar : List Entry → Type 0
 AreFar es = AllByRecursion IsFar es

@@ -4,26 +4,15 @@ use Rattle.std.specs.Prelude.{Option, Some, None, nat_le}
 use Rattle.std.specs.List.{AllByRecursion, list_any, filter}
 use Rattle.std.specs.Option.{option_map_or, option_and_then}
 use Rattle.std.proofs.lemmas.Bool.{true≢false, leb-true}
-use Rattle.pipe_table.specs.PipeRows.{pipe_at}
-use Rattle.hci_tables.specs.Tables.{HciTables}
-use Rattle.hci_tables.specs.declared.command.Command.{Command}
-use Rattle.hci_tables.specs.declared.command.Command.TheVariants.{Delete, Clear}
-use Rattle.gate_answers.specs.Answers.{body_in, param_in}
-use Rattle.gate_admin.specs.declared.view.LinkView.{LinkView}
-use Rattle.gate_admin.specs.declared.decision.Decision.{Decision}
-use Rattle.gate_admin.specs.declared.decision.Decision.TheVariants.{Answer, Commit, Ask}
-use Rattle.gate_admin.specs.View.{has, hosts_where, mask_of, is_connected, is_noticed}
-use Rattle.gate_admin.specs.Decide.{commits_and_tells, far_end_of, dest_in}
-use Rattle.gate_admin.specs.Decide.{shares, decided, told_of_deletion, told_of_clearing}
+use Rattle.node_laws.proofs.Words.{Answer, Ask, Clear, Command, Commit, Core, Decision, Delete, HciTables, LinkView, Message, OfDecision, Plain, Port}
+use Rattle.node_laws.proofs.Words.{all_of_controller, body_in, commits_and_tells, controller_deeds, decided, decided_holds, far_end_of, has, is_connected}
+use Rattle.node_laws.proofs.Words.{mask_of, param_in, pipe_at, shares, told_of_clearing, told_of_deletion, view_for, view_of}
+use Rattle.gate_admin.specs.View.{hosts_where, is_noticed}
+use Rattle.gate_admin.specs.Decide.{dest_in}
 use Rattle.gate_admin.specs.Decide.{tests_to_create, tests_to_delete, tests_to_clear}
 use Rattle.gate_admin.proofs.CreationLemmas.{AllFalse, all_false}
-use Rattle.link_laws.specs.machine.Machine.{Message}
-use Rattle.node_machine.specs.Parts.{Core, Port}
-use Rattle.node_machine.specs.Controller.{view_for, controller_deeds, view_of}
 use Rattle.node_laws.proofs.Cases.{by_test}
 use Rattle.node_laws.proofs.steps.Masks.{is_in_mask}
-use Rattle.node_machine.proofs.Walks.{Plain, OfDecision, all_of_controller}
-use Rattle.tables_laws.proofs.gate.Decisions.{decided_holds}
 use Rattle.node_laws.proofs.links.Masking.{nobody, alone, from_mask, all_in, has_small}
 use Rattle.node_laws.specs.notices.Notices.{has_notice, GoesToFree}
 

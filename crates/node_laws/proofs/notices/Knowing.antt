@@ -1,11 +1,7 @@
 -- What a controller knows of hosts by its notices is what is read.
 use Rattle.std.proofs.Common.{◌≡◌, inl, inr, ℕ, Bool, true, false, eqb, List, refl, ap, sym, ◌∙◌}
 use Rattle.std.specs.Prelude.{Option, Some, None, is_some}
-use Rattle.gate_answers.specs.Answers.{instruction_in}
-use Rattle.node_machine.specs.Parts.{About, Notice, Port}
-use Rattle.node_machine.specs.Parts.About.{Waits, Forgotten, Removed}
-use Rattle.node_machine.specs.Controller.{is_asked_at}
-use Rattle.node_laws.specs.notices.Notices.{IsAbout, IsKeptNotice, is_of_creation}
+use Rattle.node_laws.proofs.Words.{About, Forgotten, IsAbout, IsKeptNotice, Notice, Port, Removed, Waits, instruction_in, is_asked_at, is_of_creation}
 
 pub noticed_is : (message : Option (List ℕ)) (p : Port) → IsKeptNotice message p.desk.notice → is_some p.desk.notice ≡ is_some message
 noticed_is message p kept = go message p.desk.notice kept where

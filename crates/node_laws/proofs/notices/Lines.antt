@@ -2,19 +2,11 @@
 use Rattle.std.proofs.Common.{◌≡◌, ℕ, List, [], sym, ap, subst}
 use Rattle.std.specs.Prelude.{Option, Some, None}
 use Rattle.std.specs.List.{flat_map}
-use Rattle.trace_model.specs.declared.entry.Entry.{Entry}
-use Rattle.trace_model.specs.declared.line.Header.{Header}
-use Rattle.trace_model.specs.declared.line.Line.{Line}
-use Rattle.node_machine.specs.Parts.{Running}
-use Rattle.node_machine.specs.world.World.{NodeWorld, new_world}
-use Rattle.node_machine.specs.world.NodeHistories.{LineStep, NodeHistory, FollowsNodes, occurrences_of, entries_in, node_entries, world_after}
-use Rattle.node_machine.specs.world.NodeFilters.{notice_in, asking_in}
-use Rattle.node_laws.specs.kept.Hosts.{AreHosts}
-use Rattle.node_laws.specs.telling.Telling.{MayBoot}
+use Rattle.node_laws.proofs.Words.{AreHosts, Entry, FollowsNodes, Header, IfReads, IsKeptNotice, KeepsNotices, Line, LineStep, MayBoot, NodeHistory, NodeWorld}
+use Rattle.node_laws.proofs.Words.{Running, asking_in, entries_in, new_world, node_entries, notice_in, occurrences_of, world_after}
 use Rattle.node_laws.proofs.telling.Lasting.{AnyLine, boots_may, all_lines, lines_last}
-use Rattle.node_laws.specs.notices.Notices.{IsKeptNotice, notice_of_running, NoticesAreRead}
+use Rattle.node_laws.specs.notices.Notices.{notice_of_running, NoticesAreRead}
 use Rattle.node_laws.proofs.notices.Events.{event_read, begins_read}
-use Rattle.node_laws.specs.notices.Worlds.{IfReads, KeepsNotices}
 
 -- ## Schedules
 

@@ -3,41 +3,19 @@ use Rattle.std.proofs.Common.{◌≡◌, inl, inr, ℕ, ◌&&◌, Bool, true, fa
 use Rattle.std.specs.Prelude.{Option, Some, None}
 use Rattle.std.specs.List.{AllByRecursion, flat_map}
 use Rattle.std.proofs.lemmas.Bool.{cond_both, true≢false}
-use Rattle.swp_base.specs.InMemory.{Plan}
-use Rattle.trace_model.specs.Lines.{IsHost}
-use Rattle.trace_model.specs.declared.entry.Entry.{Entry}
+use Rattle.node_laws.proofs.Words.{AreDifferent, AsksReset, AtEnd, Comes, Controller, ControllerReads, Desk, End, Ending, Entry, GoesOut, HasEnds, Host}
+use Rattle.node_laws.proofs.Words.{IfItRuns, IfNoticedUp, IfReads, IsFresh, IsHost, IsKeptNotice, IsNoticedUp, IsOrderly, IsOutside, IsRightNotice, IsShut}
+use Rattle.node_laws.proofs.Words.{Link, LinkEnd, LinkInput, NodeInput, NodeWorld, NoticesAreUp, NumberedEnd, OnFirst, Plan, Port, Reset, Running, Site, Starts}
+use Rattle.node_laws.proofs.Words.{Step, TimePasses, Turn, Work, activates, aged, aged_entries, all_aged, arrival, asking_in, by_coming, by_controller}
+use Rattle.node_laws.proofs.Words.{by_controller_tick, comes_at, comes_to, controller_does, controller_ticks, controller_work, end_c, end_h, ending_of}
+use Rattle.node_laws.proofs.Words.{entries_for, frames_noted, has_input, hosts_in, hosts_tick, input_of, is_late_at, is_up, is_waiting, link_after_controller}
+use Rattle.node_laws.proofs.Words.{link_to, near_end_in, near_tick, notice_at, notice_in, port_at, port_for, runs_on, site_ticked, site_unticked, steps}
+use Rattle.node_laws.proofs.Words.{ticked_so, ticks_at_controller, turns_at, wires_for, work_of, world_ticks}
 use Rattle.trace_model.specs.declared.entry.Entry.TheVariants as entry
-use Rattle.trace_model.specs.declared.line.End.{End}
-use Rattle.link_laws.specs.sessions.Sessions.{is_up}
-use Rattle.shdlc_core.specs.Machine.{is_waiting}
-use Rattle.link_laws.specs.machine.Machine.{LinkEnd, LinkInput, Turn}
-use Rattle.link_laws.specs.machine.Machine.LinkInput.{Reset}
-use Rattle.link_laws.specs.messages.Links.{Link, NumberedEnd, Comes, Ending, aged, ticks_at_controller, has_input}
-use Rattle.link_laws.specs.messages.Links.Ending.{GoesOut}
-use Rattle.link_laws.specs.messages.Links.Comes.{AsksReset, Starts}
-use Rattle.link_laws.specs.messages.Links.EndEvent.{Step}
-use Rattle.link_laws.specs.entries.Entries.{aged_entries}
-use Rattle.link_laws.specs.entries.Entries.End.{Controller, Host}
-use Rattle.history.specs.Steps.{entries_for}
-use Rattle.node_machine.specs.Parts.{Desk, Running, Port, Work}
-use Rattle.node_machine.specs.Carrying.{port_at}
-use Rattle.node_machine.specs.Node.{NodeInput, steps}
-use Rattle.node_machine.specs.Node.NodeInput.{AtEnd, TimePasses}
-use Rattle.node_machine.specs.world.World.{NodeWorld, Site, link_to, ending_of, runs_on, turns_at, input_of, near_end_in, arrival, wires_for, port_for, work_of}
-use Rattle.node_machine.specs.world.World.{frames_noted, comes_to, controller_work, link_after_controller, controller_does}
-use Rattle.node_machine.specs.world.World.{all_aged, is_late_at}
-use Rattle.node_machine.specs.world.World.{ticked_so, controller_ticks, hosts_tick, world_ticks, comes_at, activates, end_c, end_h}
-use Rattle.node_machine.specs.world.NodeFilters.{notice_in, asking_in}
-use Rattle.node_laws.specs.links.Notices.{IsOutside, IsNoticedUp, OnFirst}
 use Rattle.node_laws.proofs.links.Noticing.{UpAt}
-use Rattle.node_laws.specs.kept.Hosts.{AreDifferent}
-use Rattle.node_laws.specs.telling.Telling.{HasEnds, IfItRuns, hosts_in, IsOrderly}
-use Rattle.node_laws.specs.readings.Orders.{IsFresh}
-use Rattle.node_laws.specs.readings.Noticed.{IfNoticedUp, NoticesAreUp}
 use Rattle.node_laws.proofs.telling.Frames.{wires_all}
 use Rattle.node_laws.proofs.readings.Silent.{IsQuiet}
 use Rattle.node_laws.proofs.readings.Sites.{near_end_side, comes_outside}
-use Rattle.node_laws.specs.notices.Notices.{IsKeptNotice, notice_at}
 use Rattle.node_laws.proofs.notices.Reading.{notice_more}
 use Rattle.node_laws.proofs.notices.Telling.{AreRight, noticed}
 use Rattle.node_laws.proofs.notices.Doing.{AreHostEnds, IsOn, Stands}
@@ -47,9 +25,7 @@ use Rattle.node_laws.proofs.notices.Far.{AreFar, far-append, far_flat, far_reads
 use Rattle.node_laws.proofs.notices.Far.{steps_far}
 use Rattle.node_laws.proofs.notices.Sites.{AreGood, Reads, still_reads, far_hushed, good_map, link_shut, frames_quiet, arrival_quiet, nothing, host_reads, far_reads_so}
 use Rattle.node_laws.proofs.notices.Sites.{all_tick}
-use Rattle.node_laws.specs.notices.Worlds.{ControllerReads, IfReads, IsRightNotice, IsShut}
 use Rattle.node_laws.proofs.telling.Nodes.{ports_for, hosts_same}
-use Rattle.node_machine.proofs.world.Cases.{by_coming, by_controller, by_controller_tick, near_tick, site_ticked, site_unticked}
 use Rattle.node_laws.proofs.Cases.{by_test}
 
 -- ## Ends as a step begins

@@ -1,16 +1,9 @@
 -- What a host does: it neither asks nor tells anybody by a notice, and what it notes is of its own end.
 use Rattle.std.proofs.Common.{◌≡◌, ℕ, true, false, eqb, List}
 use Rattle.std.specs.List.{AllByRecursion, flat_map}
-use Rattle.trace_model.specs.declared.entry.Entry.{Entry}
+use Rattle.node_laws.proofs.Words.{Asks, Core, Deed, Ends, Entry, Message, NodeInput, OfHost, Plain, Port, all_of_host, all_owed, all_owed_hold}
+use Rattle.node_laws.proofs.Words.{all_synced_hold, deeds_of, end_view, forgotten, forgotten_hold, host_deeds, own_view, port_at, synced}
 use Rattle.trace_model.specs.declared.entry.Entry.TheVariants as entry
-use Rattle.link_laws.specs.machine.Machine.{Message}
-use Rattle.node_machine.specs.Parts.{Core, Port, Deed}
-use Rattle.node_machine.specs.Parts.Deed.{Asks, Ends}
-use Rattle.node_machine.specs.HostReplies.{host_deeds}
-use Rattle.node_machine.specs.Turns.{deeds_of}
-use Rattle.node_machine.specs.Carrying.{port_at, own_view, end_view}
-use Rattle.node_machine.specs.Node.{NodeInput, forgotten, all_owed, synced}
-use Rattle.node_machine.proofs.Walks.{Plain, OfHost, all_of_host, forgotten_hold, all_owed_hold, all_synced_hold}
 use Rattle.node_laws.proofs.Cases.{by_option}
 
 -- a host may note it: it tells of no end of a controller, of no creation that is asked for, and neither of the power nor of the

@@ -5,19 +5,10 @@ use Rattle.std.specs.List.{AllByRecursion, fold}
 use Rattle.std.proofs.Math.Bool.{and-true}
 use Rattle.std.proofs.lemmas.List.Sums.{fold-append}
 use mathlib.Core.Bool.{and-false}
-use Rattle.trace_model.specs.declared.entry.Entry.{Entry}
-use Rattle.swp_base.specs.declared.link_terms.Cause.{Cause}
-use Rattle.link_laws.specs.machine.Machine.{Message, LinkInput, Refused, ended_by, report, whole_acked, after_input}
-use Rattle.link_laws.specs.entries.Entries.{End as Side, Entry as Noted, sent_unless}
-use Rattle.link_laws.specs.entries.Entries.End.{Controller}
-use Rattle.link_laws.specs.entries.Entries.Entry.{Down, Sent}
-use Rattle.history.specs.Filters.{same_end}
-use Rattle.history.specs.Steps.{entries_for, end_of}
-use Rattle.node_machine.specs.Parts.{Core, Port}
-use Rattle.node_machine.specs.Carrying.{own_side}
-use Rattle.node_machine.specs.Node.{told_at}
-use Rattle.node_machine.specs.world.World.{end_c}
-use Rattle.node_machine.specs.world.NodeFilters.{is_notice, awaited_after, notice_in}
+use Rattle.node_laws.proofs.Words.{Cause, Controller, Core, Down, Entry, LinkInput, Message, Port, Refused, Sent, after_input, end_c, end_of, ended_by}
+use Rattle.node_laws.proofs.Words.{entries_for, is_notice, notice_in, own_side, report, same_end, sent_unless, told_at, whole_acked}
+use Rattle.link_laws.specs.entries.Entries.{End as Side, Entry as Noted}
+use Rattle.node_machine.specs.world.NodeFilters.{awaited_after}
 use Rattle.node_laws.proofs.readings.Silent.{IsQuiet, told_rest, rest_quiet}
 
 -- the end of this link is the one with that host

@@ -2,29 +2,23 @@
 use Rattle.std.proofs.Common.{◌≡◌, ◌⊎◌, inl, inr, Bool, true, false, cond, List, [], ◌∷◌, Option, Some, None, refl, ap, sym, subst, ◌∙◌}
 use Rattle.std.specs.Prelude.{◌==◌}
 use Rattle.std.proofs.lemmas.Bool.{true≢false}
-use Rattle.swp_base.specs.declared.control_frames.Control.{Control}
-use Rattle.swp_base.specs.declared.control_frames.Control.TheVariants.{I, S, Rset, Ua, Act as ActFrame, Clt}
+use Rattle.node_laws.proofs.Words.{ActEvent, Bare, Clf, Clt, Control, EndEvent, Ending, Fetch, FromNode, I, IsShut, Link, LinkEnd, LinkInput, LinkState}
+use Rattle.node_laws.proofs.Words.{Refused, Reset, Role, Rset, S, Start, Stop, Take, TakeBroken, TakeUnknown, Tick, Turn, Ua, Uicc, Up, act_answer, activated}
+use Rattle.node_laws.proofs.Words.{activated_role, after_input, frame_fetched, had_tick, happens_at_controller, heard, is_open, moved, new_link_end, put_down}
+use Rattle.node_laws.proofs.Words.{renewed, reset_refusal, role_after, sent_all, stopped, tick_answer, ticked, ticks_at_controller, took, turn, turned}
+use Rattle.node_laws.proofs.Words.{turned_role, with_act}
+use Rattle.swp_base.specs.declared.control_frames.Control.TheVariants.{Act as ActFrame}
 use Rattle.swp_base.specs.declared.control_frames.Act.{Act}
-use Rattle.swp_act.specs.declared.ActEvent.{ActEvent}
 use Rattle.swp_act.specs.declared.ActEvent.TheVariants.{Start as ActStart, Take as ActTake, Tick as ActTick, Stop as ActStop}
-use Rattle.shdlc_core.specs.declared.answers.LinkState.{LinkState}
-use Rattle.shdlc_core.specs.declared.answers.LinkState.TheVariants.{Down, Up}
-use Rattle.shdlc_core.specs.Machine.{ticked, tick_answer, stopped}
+use Rattle.shdlc_core.specs.declared.answers.LinkState.TheVariants.{Down}
 use Rattle.link_laws.proofs.sessions.Ties.{fetched-phase}
-use Rattle.link_laws.specs.machine.Machine.{LinkEnd, LinkInput, Role, Turn, Refused, is_open, act_answer, role_after, with_act, moved, put_down}
-use Rattle.link_laws.specs.machine.Machine.{activated}
-use Rattle.link_laws.specs.machine.Machine.{heard, had_tick, took, reset_refusal, renewed, new_link_end, sent_all, frame_fetched, after_input, turn, turned}
-use Rattle.link_laws.specs.machine.Machine.LinkInput.{Take, TakeUnknown, TakeBroken, Tick, Reset, Start, Stop, FromNode, Fetch}
-use Rattle.link_laws.specs.machine.Machine.Role.{Bare, Clf, Uicc}
-use Rattle.link_laws.specs.messages.Links.{Link, Ending, EndEvent, happens_at_controller, ticks_at_controller}
-use Rattle.link_laws.proofs.messages.Project.{moved_role, turned_role}
-use Rattle.link_laws.proofs.messages.Steps.{activated_role, role_closes}
+use Rattle.link_laws.proofs.messages.Project.{moved_role}
+use Rattle.link_laws.proofs.messages.Steps.{role_closes}
 use Rattle.link_laws.proofs.messages.Finishing.{tick_role}
 use Rattle.node_laws.proofs.Cases.{by_list, by_test}
 use Rattle.node_laws.proofs.links.Ends.{here_is, tick_is}
 use Rattle.node_laws.proofs.links.Noticing.{turn-phase}
 use Rattle.node_laws.proofs.readings.Sites.{sent_phase}
-use Rattle.node_laws.specs.notices.Worlds.{IsShut}
 use Rattle.link_laws.proofs.entries.Settling.{heard_role}
 
 -- an end becomes one with its role and its phase

@@ -3,38 +3,22 @@ use Rattle.std.proofs.Common.{◌≡◌, ℕ, ◌&&◌, Bool, true, false, eqb, 
 use Rattle.std.specs.Prelude.{Option, Some, None}
 use Rattle.std.specs.List.{AllByRecursion}
 use Rattle.std.proofs.lemmas.Bool.{cond_both, true≢false}
-use Rattle.trace_model.specs.declared.entry.Entry.{Entry}
-use Rattle.trace_model.specs.declared.line.End.{End}
-use Rattle.link_laws.specs.machine.Machine.{Message}
-use Rattle.link_laws.specs.messages.Links.{Link, NumberedEnd, Comes, Ending, EndEvent, exchanged, happens, ticks_at_controller}
-use Rattle.link_laws.specs.messages.Links.Ending.{GoesOut}
-use Rattle.link_laws.specs.messages.Links.Comes.{NextFrame, NoInput}
-use Rattle.link_laws.specs.messages.Links.EndEvent.{Step}
-use Rattle.link_laws.specs.messages.Links.LinkEvent.{AtHost}
-use Rattle.link_laws.specs.entries.Entries.{End as Side, ending_entries}
-use Rattle.link_laws.specs.entries.Entries.End.{Host}
-use Rattle.history.specs.Steps.{entries_for}
-use Rattle.node_machine.specs.Parts.{Running, Work, Deed}
-use Rattle.node_machine.specs.Parts.Deed.{Sends, Orders}
-use Rattle.node_machine.specs.Controller.{is_command_message}
-use Rattle.node_machine.specs.Carrying.{changed_if, port_at}
-use Rattle.node_machine.specs.Node.{steps, begins_with}
-use Rattle.node_machine.specs.Node.NodeInput.{AtEnd, TimePasses}
-use Rattle.node_machine.specs.world.World.{NodeWorld, Site, site_at, with_site, link_to, ending_of, runs_on, turns_at, near_end_in, arrival}
-use Rattle.node_machine.specs.world.World.{wires_for}
-use Rattle.node_machine.specs.world.World.{work_of, frames_noted, host_work, after_host, host_does, host_ticks, hosts_tick, comes_at, sending, beginning}
-use Rattle.node_machine.specs.world.NodeFilters.{notice_in, asking_in}
+use Rattle.node_laws.proofs.Words.{AtEnd, AtHost, Comes, Deed, End, EndEvent, Ending, Entry, GoesOut, Host, IfReads, IsKeptNotice, IsShut, Link, Message}
+use Rattle.node_laws.proofs.Words.{NextFrame, NoInput, NodeWorld, NumberedEnd, Orders, Running, Sends, Site, Step, TimePasses, Work, after_host, arrival}
+use Rattle.node_laws.proofs.Words.{asking_in, beginning, begins_with, by_coming, by_host, by_host_tick, changed_if, comes_at, ending_entries, ending_of}
+use Rattle.node_laws.proofs.Words.{entries_for, exchanged, frames_noted, happens, host_does, host_tick, host_ticks, host_work, hosts_tick, is_command_message}
+use Rattle.node_laws.proofs.Words.{link_to, near_end_in, notice_at, notice_in, port_at, runs_on, sending, site_at, steps, ticks_at_controller, turns_at}
+use Rattle.node_laws.proofs.Words.{wires_for, with_site, work_of}
+use Rattle.link_laws.specs.entries.Entries.{End as Side}
 use Rattle.node_laws.proofs.Cases.{by_option, by_list}
 use Rattle.node_laws.proofs.Cases.{by_test}
 use Rattle.node_laws.proofs.links.Ends.{here_host}
 use Rattle.link_laws.proofs.entries.Together.{ticks_host as tick_host}
 use Rattle.node_laws.proofs.readings.Sites.{ending_quiet}
-use Rattle.node_laws.specs.notices.Notices.{IsKeptNotice, notice_at}
 use Rattle.node_laws.proofs.notices.Reading.{reads, notice_more}
 use Rattle.node_laws.proofs.notices.Own.{AreOwn}
 use Rattle.node_laws.proofs.notices.Far.{AreFar, far-append, far_reads, far_asks, asks, asking_more, quiet_far, IsFarWork, all_do, steps_far}
-use Rattle.node_laws.specs.notices.Worlds.{IfHostNode, IfReads, IsGoodSite, IsShut}
-use Rattle.node_machine.proofs.world.Cases.{by_coming, by_host, by_host_tick, host_tick}
+use Rattle.node_laws.specs.notices.Worlds.{IfHostNode, IsGoodSite}
 
 abbrev pub AreGood : List Site → Type 0
 AreGood sites = AllByRecursion IsGoodSite sites

@@ -1,14 +1,10 @@
 -- The blocks that an end has to spare are those that are read.
 use Rattle.std.proofs.Common.{◌≡◌, ◌+◌, ◌-◌, List, refl, ap, ap₂, sym, ◌∙◌}
 use Rattle.std.specs.Prelude.{Some, None, drop}
-use Rattle.trace_model.specs.declared.entry.Entry.{Entry}
-use Rattle.trace_model.specs.declared.line.End.{End}
-use Rattle.shdlc_core.specs.declared.answers.LinkState.{LinkState}
-use Rattle.shdlc_core.specs.declared.answers.LinkState.TheVariants.{Up, Waiting, Down}
-use Rattle.link_laws.specs.machine.Machine.{Message, whole_among, need_of_all, in_use, spare}
-use Rattle.link_laws.specs.messages.Links.{NumberedEnd, number_of}
-use Rattle.node_machine.specs.world.World.{node_of}
-use Rattle.node_machine.specs.world.NodeFilters.{session_now, unacknowledged_in, spare_at}
+use Rattle.node_laws.proofs.Words.{End, Entry, LinkState, Message, NumberedEnd, Up, Waiting, in_use, node_of, number_of, session_now, spare, whole_among}
+use Rattle.shdlc_core.specs.declared.answers.LinkState.TheVariants.{Down}
+use Rattle.link_laws.specs.machine.Machine.{need_of_all}
+use Rattle.node_machine.specs.world.NodeFilters.{unacknowledged_in, spare_at}
 use Rattle.link_laws.specs.entries.Sessions.{number_now as own_session}
 use Rattle.node_laws.specs.notices.Spares.{IsEndRead}
 

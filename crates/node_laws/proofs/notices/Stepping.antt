@@ -5,39 +5,20 @@ use Rattle.std.specs.List.{AllByRecursion, flat_map}
 use Rattle.std.specs.Option.{option_map_or}
 use Rattle.std.proofs.lemmas.Bool.{eqb-true, eqb-false, ne_eqb, eq-eqb, true≢false, and_from, le-leb}
 use mathlib.Core.Bool.{or-false, or-true}
-use Rattle.trace_model.specs.Lines.{IsHost}
-use Rattle.trace_model.specs.declared.entry.Entry.{Entry}
-use Rattle.hci_tables.specs.declared.command.Command.TheVariants.{Sync}
-use Rattle.hci_tables.specs.Commands.{IsCommand}
-use Rattle.hci_tables.specs.Tables.{is_kept_sync}
-use Rattle.gate_answers.specs.declared.response.Response.{Response}
-use Rattle.gate_answers.specs.Answers.{instruction_in}
-use Rattle.link_laws.specs.sessions.Sessions.{is_up}
-use Rattle.shdlc_core.specs.declared.answers.LinkState.TheVariants.{Up, Down}
-use Rattle.link_laws.specs.machine.Machine.{LinkEnd, LinkInput, is_open, after_input, ended_by, report}
-use Rattle.link_laws.specs.machine.Machine.LinkInput.{Reset}
-use Rattle.link_laws.specs.entries.Entries.End.{Controller}
-use Rattle.node_machine.specs.Parts.{Creation, About, Notice, Core, Port, Deed}
-use Rattle.node_machine.specs.Parts.About.{Waits, Forgotten, Removed}
-use Rattle.node_machine.specs.Parts.Deed.{Commits, Sends, Releases}
-use Rattle.node_machine.specs.Carrying.{own_side, port_at, finds_room}
-use Rattle.node_machine.specs.Controller.{asked_at, creation_in}
-use Rattle.node_machine.specs.Node.{NodeInput, input_at, has_come, told_at, older_notice, with_older, is_late, reset_late, told_late, is_over, is_forgotten}
-use Rattle.node_machine.specs.Node.{forgets, owed, without_notice, synced}
-use Rattle.node_machine.specs.world.NodeFilters.{is_notice}
-use Rattle.node_laws.specs.links.Notices.{IsComing}
+use Rattle.node_laws.proofs.Words.{About, AreDifferent, Commits, Controller, Core, Creation, Deed, Entry, Forgotten, IsAbout, IsComing, IsCommand, IsFresh}
+use Rattle.node_laws.proofs.Words.{IsHost, IsKeptNotice, IsNoticeOf, IsShut, LinkEnd, LinkInput, NodeInput, Notice, Port, Releases, Removed, Reset, Response}
+use Rattle.node_laws.proofs.Words.{Sends, Sync, Up, Waits, after_input, asked_at, creation_in, ended_by, finds_room, forgets, has_come, input_at}
+use Rattle.node_laws.proofs.Words.{instruction_in, is_forgotten, is_kept_sync, is_late, is_notice, is_open, is_over, is_up, older_notice, owed, own_side}
+use Rattle.node_laws.proofs.Words.{port_at, report, reset_late, synced, told_at, told_late, with_older, without_notice}
+use Rattle.shdlc_core.specs.declared.answers.LinkState.TheVariants.{Down}
 use Rattle.node_laws.proofs.Cases.{by_option, by_test}
 use Rattle.node_laws.proofs.links.Staying.{stays_up}
 use Rattle.node_laws.proofs.links.Noticing.{UpAt}
-use Rattle.node_laws.specs.kept.Hosts.{AreDifferent}
-use Rattle.node_laws.specs.readings.Orders.{IsFresh}
 use Rattle.node_laws.proofs.readings.Noticed.{up_is}
-use Rattle.node_laws.specs.notices.Notices.{IsNoticeOf, IsAbout, IsKeptNotice}
 use Rattle.node_laws.proofs.notices.Reading.{reads, reads_append, told_reads}
 use Rattle.node_laws.proofs.notices.Deciding.{answer_other}
 use Rattle.node_laws.proofs.notices.Telling.{MayTell}
 use Rattle.node_laws.proofs.notices.Shut.{input_shut}
-use Rattle.node_laws.specs.notices.Worlds.{IsShut}
 use Rattle.registry.proofs.ValueLemmas.{AllByRecursion-append as all_append}
 
 -- ## Quiet deeds

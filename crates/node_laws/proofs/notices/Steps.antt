@@ -3,29 +3,15 @@ use Rattle.std.proofs.Common.{◌≡◌, ℕ, false, cond, List, [], ◌∷◌, 
 use Rattle.std.specs.Prelude.{Option, Some, None, is_some}
 use Rattle.std.specs.List.{AllByRecursion, flat_map, filter, filter_map, list_any}
 use Rattle.std.specs.Option.{option_map, option_map_or, option_and_then}
-use Rattle.trace_model.specs.Lines.{IsHost}
-use Rattle.trace_model.specs.declared.entry.Entry.{Entry}
-use Rattle.hci_tables.specs.Tables.{HciTables}
+use Rattle.node_laws.proofs.Words.{AreDifferent, AtEnd, Controller, Core, Creation, Deed, Entry, HciTables, IsComing, IsFresh, IsHost, IsKeptNotice, IsOutside}
+use Rattle.node_laws.proofs.Words.{IsRightNotice, IsShut, LinkInput, NodeInput, Notice, Port, Release, Releases, Reset, Tick, TimePasses, Work, after_sessions}
+use Rattle.node_laws.proofs.Words.{all_come, all_done, all_owed, answers_and_passes, asked_at, ended_by, forgets, has_come, input_at, is_forgotten, is_late}
+use Rattle.node_laws.proofs.Words.{is_over, older_notice, owed, own_side, passes, port_at, reset_late, steps, synced, times_out, told_at, told_late, turn_at}
+use Rattle.node_laws.proofs.Words.{unless_cut, with_older, without_notice}
 use Rattle.gate_answers.specs.declared.response.Response.TheVariants as response
-use Rattle.link_laws.specs.machine.Machine.{LinkInput, ended_by}
-use Rattle.link_laws.specs.machine.Machine.LinkInput.{Tick, Reset}
-use Rattle.link_laws.specs.machine.Machine.Turn.{Release}
-use Rattle.link_laws.specs.entries.Entries.End.{Controller}
-use Rattle.node_machine.specs.Parts.{Creation, Notice, Core, Port, Work, Deed}
-use Rattle.node_machine.specs.Parts.Deed.{Releases}
-use Rattle.node_machine.specs.Carrying.{own_side, unless_cut, port_at, turn_at, all_done}
-use Rattle.node_machine.specs.Controller.{asked_at}
-use Rattle.node_machine.specs.Turns.{passes}
-use Rattle.node_machine.specs.Node.{NodeInput, input_at, has_come, told_at, all_come, older_notice, with_older, is_late, reset_late, told_late, times_out}
-use Rattle.node_machine.specs.Node.{is_over, is_forgotten, forgets, owed, all_owed, without_notice, after_sessions, synced, answers_and_passes, steps}
-use Rattle.node_machine.specs.Node.NodeInput.{AtEnd, TimePasses}
-use Rattle.node_laws.specs.links.Notices.{IsComing, IsOutside}
 use Rattle.node_laws.proofs.All.{all_flat}
 use Rattle.node_laws.proofs.Cases.{by_test, by_option}
 use Rattle.node_laws.proofs.links.Noticing.{UpAt, at_all, at_host, outside as from_outside}
-use Rattle.node_laws.specs.kept.Hosts.{AreDifferent}
-use Rattle.node_laws.specs.readings.Orders.{IsFresh}
-use Rattle.node_laws.specs.notices.Notices.{IsKeptNotice}
 use Rattle.node_laws.proofs.notices.Reading.{reads, read_more}
 use Rattle.node_laws.proofs.notices.Telling.{AreRight}
 use Rattle.node_laws.proofs.notices.Doing.{AreHostEnds, all_map, controller_side, IsOn, Stands, then, turns, all_stand, read_in}
@@ -33,7 +19,6 @@ use Rattle.node_laws.proofs.notices.Turning.{passes_stand, kept_none}
 use Rattle.node_laws.proofs.notices.Stepping.{TellNoNotices, no_notices_flat, no_notices_may, owed_no_notices, TellsNoNotice}
 use Rattle.node_laws.proofs.notices.Stepping.{synced_no_notices, flat_reads, told_elsewhere, told_here, late_elsewhere, IsCome, IsComeAt, come_is, older_is}
 use Rattle.node_laws.proofs.notices.Stepping.{late_is, forgets_is, without_is}
-use Rattle.node_laws.specs.notices.Worlds.{IsRightNotice, IsShut}
 use Rattle.registry.proofs.ValueLemmas.{AllByRecursion-append as all_append}
 use Rattle.node_laws.proofs.steps.Ports.{at_port, come_host, forgets_host, sessions_node, without_host, late_host}
 

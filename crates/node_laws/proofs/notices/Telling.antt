@@ -4,40 +4,24 @@ use Rattle.std.specs.Prelude.{Option, Some, None, is_some}
 use Rattle.std.specs.List.{AllByRecursion, filter}
 use Rattle.std.specs.Option.{option_map_or, option_and_then}
 use Rattle.std.proofs.lemmas.Bool.{true≢false, eqb-true, eqb-false, ne_eqb, and_parts}
-use Rattle.hci_tables.specs.declared.command.Command.{Command}
-use Rattle.hci_tables.specs.declared.command.Command.TheVariants.{Create}
-use Rattle.hci_tables.specs.Commands.{is_dynamic, is_host, IsCommand}
-use Rattle.hci_tables.specs.Tables.{HciTables, AreTables}
-use Rattle.pipe_table.specs.declared.row.PipeRow.{PipeRow}
-use Rattle.tables_laws.specs.tables.Changes.{JoinTwo}
+use Rattle.node_laws.proofs.Words.{About, Answer, AreDifferent, AreTables, Ask, Asks, Command, Commit, Commits, Core, Create, Creation, Decision, Deed, Drops}
+use Rattle.node_laws.proofs.Words.{Forgotten, HciTables, IsAnswered, IsCommand, IsNoticeOf, IsRecordableDecision, IsRightNotice, JoinTwo, LinkView, Message}
+use Rattle.node_laws.proofs.Words.{Notice, PipeRow, Port, Releases, Removed, SaysOk, Sends, SetsErrors, Tells, Waits, agreed, answer_of, asked_at, body_in}
+use Rattle.node_laws.proofs.Words.{commit_deeds, controller_deeds, controller_holds, creation_in, decided, decision_deeds, finds_room, gates, has, has_link}
+use Rattle.node_laws.proofs.Words.{identity_served, is_host, is_notice, is_response, link_deeds, link_served, own_gate, own_view, port_at, view_for, view_of}
+use Rattle.hci_tables.specs.Commands.{is_dynamic}
 use Rattle.gate_answers.specs.declared.response.Response.TheVariants as response
-use Rattle.gate_answers.specs.Answers.{answer_of, body_in}
-use Rattle.gate_admin.specs.declared.view.LinkView.{LinkView}
-use Rattle.gate_admin.specs.declared.decision.Decision.{Decision}
-use Rattle.gate_admin.specs.declared.decision.Decision.TheVariants.{Answer, Commit, Ask}
-use Rattle.gate_admin.specs.View.{has, hosts_where}
-use Rattle.gate_admin.specs.Decide.{decided, IsRecordableDecision}
-use Rattle.gate_link.specs.Link.{link_served}
-use Rattle.gate_identity.specs.Identity.{identity_served}
+use Rattle.gate_admin.specs.View.{hosts_where}
 use Rattle.tables_laws.specs.gate.Rules.{IsAskedFor, AsksAsAllowed}
 use Rattle.tables_laws.proofs.gate.Decisions.{decided_as_allowed}
-use Rattle.link_laws.specs.machine.Machine.{Message}
-use Rattle.node_machine.specs.Parts.{Creation, About, Notice, Core, Port, Deed}
-use Rattle.node_machine.specs.Parts.About.{Waits, Forgotten, Removed}
-use Rattle.node_machine.specs.Parts.Deed.{Commits, Sends, SaysOk, Asks, Releases, Tells, IsAnswered, Drops, SetsErrors}
-use Rattle.node_machine.specs.Carrying.{port_at, finds_room, own_view}
-use Rattle.node_machine.specs.Controller.{has_link, creation_in, asked_at, view_for, answers_on, commit_deeds, decision_deeds, link_deeds, gates, own_gate}
-use Rattle.node_machine.specs.Controller.{agreed, controller_deeds, view_of}
-use Rattle.node_machine.specs.world.NodeFilters.{is_response, is_notice}
+use Rattle.node_machine.specs.Controller.{answers_on}
 use Rattle.node_laws.proofs.Cases.{by_test}
 use Rattle.node_laws.proofs.links.Noticing.{UpAt}
 use Rattle.node_laws.proofs.steps.Ports.{at_port}
-use Rattle.node_machine.proofs.Walks.{AnswersNone, controller_holds}
-use Rattle.node_laws.specs.kept.Hosts.{AreDifferent}
+use Rattle.node_machine.proofs.Walks.{AnswersNone}
 use Rattle.node_laws.proofs.kept.Deciding.{decided_recordable}
-use Rattle.node_laws.specs.notices.Notices.{IsNoticeOf}
 use Rattle.node_laws.proofs.notices.Deciding.{IsOther, IsRemoval, IsAsking, AreTold, Says, answer_other, decided_says}
-use Rattle.node_laws.specs.notices.Worlds.{IsRight, IsRightAbout, IsRightNotice}
+use Rattle.node_laws.specs.notices.Worlds.{IsRight, IsRightAbout}
 
 -- ## Creations
 

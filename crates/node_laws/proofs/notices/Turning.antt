@@ -4,35 +4,21 @@ use Rattle.std.specs.Prelude.{Option, Some, None, nat_lt}
 use Rattle.std.specs.List.{AllByRecursion}
 use Rattle.std.specs.Option.{option_map, option_map_or, option_and_then}
 use Rattle.std.proofs.lemmas.Bool.{cases_Bool, eqb-true, eqb-false, ne_eqb, eq-eqb, true≢false, le-ltb}
-use Rattle.trace_model.specs.Lines.{IsHost}
-use Rattle.trace_model.specs.declared.entry.Entry.{Entry}
+use Rattle.node_laws.proofs.Words.{AllReach, Asks, Commits, Deed, Drops, Entry, FetchMessage, Hold, IsAnswered, IsHost, IsKeptNotice, IsRightNotice, Message}
+use Rattle.node_laws.proofs.Words.{Notice, Port, Releases, SaysOk, Sends, SetsErrors, Tells, Up, Work, after_turn, all_done, changed_if, controller_deeds, done}
+use Rattle.node_laws.proofs.Words.{end_c, end_of_node, give_refusal, goes_through_ends, handles, has_link, have_turns, holds_back, is_held, is_response, is_up}
+use Rattle.node_laws.proofs.Words.{lack, lets_go, need, needs, noting, passes, port_at, same_end, spare, turn_at, view_of, with_desk, with_port}
 use Rattle.trace_model.specs.declared.entry.Entry.TheVariants as entry
-use Rattle.link_laws.specs.sessions.Sessions.{is_up}
-use Rattle.shdlc_core.specs.declared.answers.LinkState.TheVariants.{Up}
-use Rattle.history.specs.Filters.{same_end}
-use Rattle.link_laws.specs.machine.Machine.{Message, give_refusal, spare, need, is_held}
-use Rattle.link_laws.specs.machine.Machine.Turn.{FetchMessage, Hold}
-use Rattle.node_machine.specs.Parts.{Notice, Port, Work, Deed}
-use Rattle.node_machine.specs.Parts.Deed.{Commits, Sends, SaysOk, Asks, Releases, Tells, IsAnswered, Drops, SetsErrors}
-use Rattle.node_machine.specs.Carrying.{noting, port_at, changed_if, with_port, with_desk, after_turn, turn_at, end_of_node, done, all_done, needs}
-use Rattle.node_machine.specs.Carrying.{lack}
-use Rattle.node_machine.specs.Controller.{has_link, controller_deeds, view_of}
-use Rattle.node_machine.specs.Turns.{handles, holds_back, lets_go, have_turns, goes_through_ends, passes}
-use Rattle.node_machine.specs.world.World.{end_c}
-use Rattle.node_machine.specs.world.NodeFilters.{is_response}
-use Rattle.node_laws.specs.links.Notices.{AllReach}
 use Rattle.node_laws.proofs.Cases.{by_test}
 use Rattle.node_laws.proofs.Cases.{by_option}
 use Rattle.node_laws.proofs.links.Noticing.{UpAt, at_all, at_host}
 use Rattle.node_laws.proofs.links.Reaching.{controller_reach}
 use Rattle.node_laws.proofs.readings.Noticed.{up_is}
-use Rattle.node_laws.specs.notices.Notices.{IsKeptNotice}
 use Rattle.node_laws.proofs.notices.Reading.{reads, same_near}
 use Rattle.node_laws.proofs.notices.Telling.{noticed, IsShort, MayTell, answers, Outcome, controller_outcome}
 use Rattle.node_laws.proofs.notices.Telling.Outcome.{Leaves, IsHeard}
 use Rattle.node_laws.proofs.notices.Doing.{AreHostEnds, Takes, all_map, controller_side, Holds, IsOn, Stands, then, notes, hushed, turns, desks, all_stand}
 use Rattle.node_laws.proofs.notices.Doing.{read_in}
-use Rattle.node_laws.specs.notices.Worlds.{IsRightNotice}
 use Rattle.node_laws.proofs.readings.Turning.{lack_parts}
 use Rattle.node_laws.proofs.steps.Ports.{changed_host}
 

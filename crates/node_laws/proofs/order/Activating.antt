@@ -3,42 +3,19 @@ use Rattle.std.proofs.Common.{◌≡◌, ℕ, ◌==◌, Bool, true, false, cond,
 use Rattle.std.proofs.Common.{append_assoc}
 use Rattle.std.specs.Prelude.{is_some}
 use Rattle.std.proofs.lemmas.Bool.{eqb-true, true≢false}
-use Rattle.swp_act.specs.Activation.{new_uicc}
-use Rattle.trace_model.specs.declared.entry.Entry.{Entry}
-use Rattle.link_laws.specs.machine.Machine.{Role, Turn, new_link_end}
-use Rattle.link_laws.specs.machine.Machine.LinkInput.{Start}
-use Rattle.link_laws.specs.machine.Machine.Role.{Bare, Clf, Uicc}
-use Rattle.link_laws.specs.messages.Links.{NumberedEnd, Link, Ending, Comes, exchanged, happens}
-use Rattle.link_laws.specs.messages.Links.{IsUicc}
-use Rattle.link_laws.specs.messages.Links.Comes.{Starts, NoInput}
-use Rattle.link_laws.specs.messages.Links.EndEvent.{Step}
-use Rattle.link_laws.specs.messages.Links.LinkEvent.{AtController, AtHost}
-use Rattle.link_laws.specs.messages.Links.IsStart.{IsLine}
-use Rattle.link_laws.proofs.messages.Whole.{from_start}
-use Rattle.node_laws.specs.links.Runs.{new_line}
-use Rattle.node_machine.specs.world.World.{Happening}
-use Rattle.node_machine.specs.world.World.Happening.{Activates}
-use Rattle.node_machine.specs.Parts.{Running, Work}
-use Rattle.node_machine.specs.Carrying.{changed_if}
-use Rattle.node_machine.specs.Node.{steps, found}
-use Rattle.node_machine.specs.Node.NodeInput.{AtEnd}
-use Rattle.node_machine.specs.world.World.{Site, NodeWorld, site_at, with_site, ending_of, turns_at}
-use Rattle.node_machine.specs.world.World.{comes_to, controller_work, link_after_controller, after_controller, host_work, after_host}
-use Rattle.node_machine.specs.world.World.{host_does}
-use Rattle.node_machine.specs.world.World.{comes_at}
-use Rattle.node_machine.specs.world.World.{end_c, end_h, activates}
-use Rattle.link_laws.proofs.entries.Lasting.{same_number}
+use Rattle.node_laws.proofs.Words.{Activates, AtController, AtEnd, AtHost, Bare, Clf, Comes, Ending, Entry, Happening, IfOff, IsLine, IsUicc, Link, NoInput}
+use Rattle.node_laws.proofs.Words.{NodeWorld, NumberedEnd, Role, Running, Site, Start, Starts, Step, Turn, Uicc, Work, activates, after_controller, after_host}
+use Rattle.node_laws.proofs.Words.{changed_if, comes_at, comes_to, controller_work, end_c, end_h, ending_of, exchanged, found, from_start, happens, host_does}
+use Rattle.node_laws.proofs.Words.{host_work, inactive, link_after_controller, new_line, new_link_end, new_uicc, readiness_of, same_number, site_at, steps}
+use Rattle.node_laws.proofs.Words.{turns_at, with_site}
 use Rattle.node_laws.proofs.Cases.{by_option, by_test}
 use Rattle.node_laws.proofs.links.Ends.{here_host}
 use Rattle.node_laws.proofs.links.Works.{steps_fine}
 use Rattle.node_laws.proofs.links.Worlds.{IsFineSite}
 use Rattle.node_laws.proofs.links.Playing.{starts_fine, starts_then}
-use Rattle.node_laws.specs.telling.Telling.{IfOff}
-use Rattle.node_laws.specs.telling.Standing.{inactive}
 use Rattle.node_laws.proofs.telling.Nodes.{site_host}
 use Rattle.node_laws.proofs.telling.Worlds.{site_is, host_does_step}
 use Rattle.node_laws.proofs.telling.Events.{comes_goes, site_map}
-use Rattle.node_laws.specs.order.Told.{readiness_of}
 use Rattle.node_laws.proofs.order.Activity.{IsLined}
 use Rattle.node_laws.proofs.order.Readying.{started_unready}
 use Rattle.node_laws.proofs.order.Unnoticed.{steps_none}

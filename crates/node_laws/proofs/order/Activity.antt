@@ -5,47 +5,32 @@ use Rattle.std.specs.List.{AllByRecursion, fold}
 use Rattle.std.proofs.lemmas.Bool.{true≢false}
 use Rattle.std.proofs.lemmas.List.Sums.{fold-append}
 use Rattle.swp_base.specs.declared.control_frames.Act.{Act as Activation}
-use Rattle.swp_base.specs.declared.control_frames.Act.TheVariants.{Ready, SyncId, PowerMode}
-use Rattle.swp_base.specs.declared.control_frames.Control.{Control}
-use Rattle.swp_base.specs.declared.control_frames.Control.TheVariants.{I, S, Rset, Ua, Act, Clt}
-use Rattle.swp_act.specs.declared.ActEvent.{ActEvent}
+use Rattle.node_laws.proofs.Words.{Acked, Act, ActEvent, ActOut, Activate, Active, AllAllowed, AsksReset, AtController, AtHost, Bare, Clf, Clt, Control}
+use Rattle.node_laws.proofs.Words.{Controller, Cut, CutOff, Down, EndEvent, Ending, GaveUp, GoesOut, Got, Host, I, Inactive, IsEvent, IsLine, Link, LinkEnd}
+use Rattle.node_laws.proofs.Words.{LinkEvent, LinkInput, Lose, NextFrame, NoInput, Node, NumberedEnd, OnWire, Phase, PowerMode, Ready, Report, Reset, Restarted}
+use Rattle.node_laws.proofs.Words.{Role, Rset, S, Start, Starts, Step, Stop, Stops, SyncId, Take, TicksWithout, Turn, Ua, Uicc, act_answer, act_out, activated}
+use Rattle.node_laws.proofs.Words.{activated_role, after_input, after_link_events, aged, aged_entries, all_at_controller, ended_by, entries, entries_of_events}
+use Rattle.node_laws.proofs.Words.{event_entries, exchanged, far, finished, first_lost, frames_out, happens, happens_at_controller, has_taken, heard}
+use Rattle.node_laws.proofs.Words.{here_entries, if_so, input_entries, is_open, left_after, moved, new_line, number_of, puts_entries, renewed, report}
+use Rattle.node_laws.proofs.Words.{reset_role, rest_entries, role_after, silent, step_entries, stopped, taken_entries, tick_answer, tick_entries, ticked}
+use Rattle.node_laws.proofs.Words.{ticks_at_controller, ticks_host, told, told_of, took_with, turn_entries, turned, turned_role, whole_acked, with_ended}
 use Rattle.swp_act.specs.declared.ActEvent.TheVariants.{Start as ActStart, Take as ActTake, Tick as ActTick, Stop as ActStop}
-use Rattle.swp_act.specs.declared.ActOut.{ActOut}
 use Rattle.swp_act.specs.declared.uicc.UiccAct.{UiccAct}
 use Rattle.swp_act.specs.Activation.{is_active, no_act_out, sends, uicc_step}
-use Rattle.swp_act.specs.declared.Phase.{Phase}
-use Rattle.swp_act.specs.declared.Phase.TheVariants.{Inactive, Awaiting, Active as IsActive}
-use Rattle.shdlc_core.specs.Machine.{ticked, tick_answer, stopped}
-use Rattle.link_laws.specs.sessions.Sessions.{OnWire, took_with}
-use Rattle.link_laws.specs.machine.Machine.{LinkEnd, Role, LinkInput, Turn, Report}
-use Rattle.link_laws.specs.machine.Machine.{report, turned, heard, after_input}
-use Rattle.link_laws.specs.machine.Machine.{ended_by, whole_acked, frames_out, is_open, moved, activated, role_after, act_answer, renewed, act_event, act_out}
-use Rattle.link_laws.specs.machine.Machine.Role.{Bare, Clf, Uicc}
-use Rattle.link_laws.specs.machine.Machine.LinkInput.{Take, Tick as HasTick, Reset, Start, Stop}
-use Rattle.link_laws.specs.messages.Links.{NumberedEnd, Link, Ending, Node, EndEvent, LinkEvent, exchanged, aged, number_of, silent, finished}
-use Rattle.link_laws.specs.messages.Links.{with_ended, has_taken, happens_at_controller, all_at_controller, ticks_at_controller, happens, after_link_events}
-use Rattle.link_laws.specs.messages.Links.{IsOwn, AreOwn, IsEvent, AllAllowed}
-use Rattle.link_laws.specs.messages.Links.Ending.{GoesOut, CutOff}
-use Rattle.link_laws.specs.messages.Links.Comes.{NextFrame, AsksReset, Starts, Stops, NoInput}
-use Rattle.link_laws.specs.messages.Links.EndEvent.{Step, Lose}
-use Rattle.link_laws.specs.messages.Links.LinkEvent.{AtController, AtHost, Ticks, TicksWithout, Activate}
-use Rattle.link_laws.specs.messages.Links.IsStart.{IsLine}
+use Rattle.swp_act.specs.declared.Phase.TheVariants.{Awaiting, Active as IsActive}
+use Rattle.link_laws.specs.machine.Machine.{act_event}
+use Rattle.link_laws.specs.machine.Machine.LinkInput.{Tick as HasTick}
+use Rattle.link_laws.specs.messages.Links.{IsOwn, AreOwn}
+use Rattle.link_laws.specs.messages.Links.LinkEvent.{Ticks}
 use Rattle.link_laws.proofs.messages.ActsInOrder.{ActsInOrder, LinkInOrder, ended_means}
-use Rattle.link_laws.proofs.messages.Project.{turned_role}
-use Rattle.link_laws.proofs.messages.Steps.{activated_role}
 use Rattle.link_laws.proofs.messages.Finishing.{tick_open}
-use Rattle.link_laws.specs.entries.Entries.{End, Entry as Noted, far, if_so, told, told_of, turn_entries, first_lost}
-use Rattle.link_laws.specs.entries.Entries.{puts_entries, rest_entries, input_entries, restart_entries, step_entries, here_entries, tick_entries}
-use Rattle.link_laws.specs.entries.Entries.{left_after, taken_entries, aged_entries, entries_of_events, event_entries, entries}
-use Rattle.link_laws.specs.entries.Entries.End.{Controller, Host}
-use Rattle.link_laws.specs.entries.Entries.Entry.{Up, Down, Active, GaveUp, Acked, Got, Tick, Restarted, Cut}
+use Rattle.link_laws.specs.entries.Entries.{End, Entry as Noted}
+use Rattle.link_laws.specs.entries.Entries.{restart_entries}
+use Rattle.link_laws.specs.entries.Entries.Entry.{Up, Tick}
 use Rattle.link_laws.specs.entries.Filters.{same_link_end}
 use Rattle.link_laws.proofs.entries.Books.{same_self, same_far}
-use Rattle.link_laws.proofs.entries.Noting.{reset_role}
 use Rattle.link_laws.proofs.entries.Settling.{heard_role}
 use Rattle.link_laws.proofs.entries.Running.{Sounds, before_here, before_there, IsUnderWay, goes_on, start_under_way}
-use Rattle.link_laws.proofs.entries.Together.{ticks_host}
-use Rattle.node_laws.specs.links.Runs.{new_line}
 use Rattle.node_laws.proofs.order.Listing.{Holds, are-append, are_so, are_mapped, are_last, are_turns, are_lost, are_puts, are_aged}
 use Rattle.node_laws.proofs.links.Ends.{here_is, tick_is, here_host, role_input}
 use Rattle.node_laws.proofs.Cases.{by_test}

@@ -1,17 +1,10 @@
 -- Each event of a history is what its world does, and an end is reset only where that isn't refused.
 use Rattle.std.proofs.Common.{◌≡◌, List, [], ◌∷◌, ◌++◌, None, refl, ap, sym, subst, ◌∙◌, append-nil}
 use Rattle.std.specs.Prelude.{unwrap_or}
-use Rattle.trace_model.specs.declared.line.Header.{Header}
-use Rattle.trace_model.specs.declared.line.Line.{Line}
+use Rattle.node_laws.proofs.Words.{ArePlayable, FollowsNodes, Happening, Header, IsPlayable, Line, NodeHistory, NodeWorld, Occurrence, Resets, Takes, Ticks}
+use Rattle.node_laws.proofs.Words.{first_verdict, frames_at, happenings, new_world, occurrences_in, refusal_in, steps_from, taken_of, world_behind, world_step}
 use Rattle.trace_model.specs.declared.line.Line.TheVariants as line
-use Rattle.history.specs.Follows.{first_verdict, taken_of}
-use Rattle.node_machine.specs.world.World.{NodeWorld, Happening, new_world, world_step}
-use Rattle.node_machine.specs.world.World.Happening.{Takes, Ticks, Resets}
-use Rattle.node_machine.specs.world.Lines.{refusal_in, frames_at, happenings, Occurrence}
-use Rattle.node_machine.specs.world.NodeHistories.{NodeHistory, FollowsNodes, steps_from, occurrences_in}
-use Rattle.node_laws.specs.links.Runs.{IsPlayable, ArePlayable}
 use Rattle.node_laws.proofs.links.Playing.{MayHappen}
-use Rattle.node_laws.specs.telling.Telling.{world_behind}
 use Rattle.node_laws.proofs.telling.Lasting.{AllMay, repeated_may, damaged_may, events_of_steps, occurs, EachHolds, front_each, lines_each}
 use Rattle.node_laws.proofs.order.Lines.{line_may}
 

@@ -2,35 +2,16 @@
 use Rattle.std.proofs.Common.{◌≡◌, ℕ, ◌==◌, Bool, true, false, cond, List, [], ◌∷◌, ◌++◌, Option, Some, None, map, refl, ap, sym, subst, ◌∙◌}
 use Rattle.std.specs.List.{AllByRecursion}
 use Rattle.std.proofs.lemmas.Bool.{eqb-true}
-use Rattle.swp_base.specs.InMemory.{Memory}
-use Rattle.swp_act.specs.Activation.{new_clf, new_uicc}
-use Rattle.trace_model.specs.declared.entry.Entry.{Entry}
+use Rattle.node_laws.proofs.Words.{AtController, AtEnd, AtHost, Broken, Clf, Comes, Controller, CutOff, Deed, Desk, End, EndEvent, Entry, HasEnds, Host}
+use Rattle.node_laws.proofs.Words.{IfItRuns, IfOff, IsClf, IsOrderly, Link, LinkEnd, LinkEvent, LinkInput, Lose, Loss, Memory, NoInput, NodeWorld, NumberedEnd}
+use Rattle.node_laws.proofs.Words.{OnWire, Running, Site, StandsOf, Step, TellOf, Uicc, Work, after_controller, after_host, after_planned, arrival, begins_with}
+use Rattle.node_laws.proofs.Words.{boot_found, boot_writes, boot_written, boots, by_boot, by_coming, by_controller, by_memory, by_power, by_running, comes_at}
+use Rattle.node_laws.proofs.Words.{comes_to, controller_does, controller_work, count_of, counts, ending_of, entries_for, exchanged, first_lost, frame_lost}
+use Rattle.node_laws.proofs.Words.{happens, happens_at_controller, host_cut, host_does, host_work, hosts_in, input_of, link_after_controller, link_to, links_of}
+use Rattle.node_laws.proofs.Words.{loses_power_at, memory_at, near_end_in, new_clf, new_desk, new_link_end, new_uicc, of_link, runs_on, same_number, site_at}
+use Rattle.node_laws.proofs.Words.{steps, turns_at, with_error, with_memory, with_node, with_site, work_of}
 use Rattle.trace_model.specs.declared.entry.Entry.TheVariants as entry
-use Rattle.trace_model.specs.declared.line.End.{End}
-use Rattle.journal_laws.specs.Journal.{count_of}
-use Rattle.journal_laws.specs.Planned.{after_planned}
-use Rattle.link_laws.specs.machine.Machine.{LinkEnd, LinkInput, new_link_end}
-use Rattle.link_laws.specs.machine.Machine.Role.{Clf, Uicc}
-use Rattle.link_laws.specs.messages.Links.{NumberedEnd, Link, Comes, Loss, EndEvent, LinkEvent, exchanged, happens_at_controller, happens}
-use Rattle.link_laws.specs.messages.Links.{IsClf}
-use Rattle.link_laws.specs.messages.Links.Ending.{CutOff}
-use Rattle.link_laws.specs.messages.Links.Comes.{NoInput}
-use Rattle.link_laws.specs.messages.Links.Loss.{Broken}
-use Rattle.link_laws.specs.messages.Links.EndEvent.{Step, Lose}
-use Rattle.link_laws.specs.messages.Links.LinkEvent.{AtController, AtHost}
-use Rattle.link_laws.specs.entries.Entries.{first_lost}
 use Rattle.link_laws.specs.entries.Entries.{End as Side}
-use Rattle.link_laws.specs.entries.Entries.End.{Controller, Host}
-use Rattle.history.specs.Steps.{entries_for}
-use Rattle.node_machine.specs.Parts.{Desk, Running, Work, Deed}
-use Rattle.node_machine.specs.Node.{steps, begins_with, boot_writes, with_error, new_desk}
-use Rattle.node_machine.specs.Node.NodeInput.{AtEnd}
-use Rattle.node_machine.specs.world.World.{Site, NodeWorld, site_at, with_site, link_to, input_of, near_end_in, arrival, work_of, ending_of, turns_at, runs_on}
-use Rattle.node_machine.specs.world.World.{comes_to, controller_work, link_after_controller, after_controller, controller_does, host_work, after_host}
-use Rattle.node_machine.specs.world.World.{host_does}
-use Rattle.node_machine.specs.world.World.{host_cut, loses_power_at, memory_at, with_memory, with_node, links_of, boots, counts}
-use Rattle.node_machine.specs.world.World.{frame_lost, comes_at}
-use Rattle.link_laws.proofs.entries.Lasting.{same_number}
 use Rattle.node_laws.proofs.Cases.{by_option, by_test}
 use Rattle.node_laws.proofs.links.Ends.{here_host}
 use Rattle.node_laws.proofs.links.Works.{IsFineWork, all_done_fine, steps_fine}
@@ -39,8 +20,6 @@ use Rattle.node_laws.proofs.links.Sites.{MayCome, clf_line, uicc_line, can_come,
 use Rattle.node_laws.proofs.links.Worlds.{AreTrueDesks, IsFineNode, IsFineSite, IsFineWorld, AtHostOnly, CanReach, near_end_clean, near_clean, fine_clean}
 use Rattle.node_laws.proofs.links.Worlds.{ports_fine, turns_fine, may_here, memory_fine}
 use Rattle.node_laws.proofs.links.Playing.{plain_reach}
-use Rattle.node_laws.specs.telling.Telling.{of_link, TellOf, HasEnds, IfItRuns, hosts_in, IsOrderly, IfOff}
-use Rattle.node_laws.specs.telling.Standing.{StandsOf}
 use Rattle.node_laws.proofs.telling.Mute.{AreMute}
 use Rattle.node_laws.proofs.telling.Powers.{entries_uncut, clear_stands, away_stands}
 use Rattle.node_laws.proofs.telling.Shapes.{clear_lost, shaped_step}
@@ -55,8 +34,6 @@ use Rattle.node_laws.proofs.order.Watches.{IsStepOf, WatchedLink, watched, opene
 use Rattle.node_laws.proofs.order.Knowing.{told_more, LeaveLink, told_same, cut_clf, cut_uicc, Knows, Each, later, each_empty, each_back, each_alike}
 use Rattle.node_laws.proofs.order.Knowing.{each_map, each_site}
 use Rattle.node_laws.proofs.order.Wires.{Shown, shown_same, clear_unstarted, shown_more, step_shown}
-use Rattle.node_machine.proofs.world.Cases.{by_boot, by_coming, by_controller, by_memory, by_power, by_running, boot_found, boot_written}
-use Rattle.link_laws.specs.sessions.Sessions.{OnWire}
 
 -- a world that is orderly, and whose nodes send what may be sent
 pub record IsWell (w : NodeWorld) : Type 0 where

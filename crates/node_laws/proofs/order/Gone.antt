@@ -4,36 +4,28 @@ use Rattle.std.specs.Prelude.{is_some}
 use Rattle.std.proofs.lemmas.Bool.{true≢false, eqb-true}
 use Rattle.swp_act.specs.declared.ActEvent.TheVariants.{Start as ActStart}
 use Rattle.shdlc_core.specs.declared.answers.LinkState.TheVariants.{Down as IsDown}
-use Rattle.link_laws.specs.sessions.Sessions.{OnWire, ShdlcLink as CoreLink, ShdlcEndEvent as CoreEndEvent, shdlc_aged as core_aged}
-use Rattle.link_laws.specs.sessions.Sessions.{ticks_or_cut as core_ticks_or_cut, ticks_if_waiting as core_ticks_if_waiting, took_with}
-use Rattle.link_laws.proofs.sessions.Sending.{SafeLink}
+use Rattle.node_laws.proofs.Words.{Activate, AsksReset, AtController, AtHost, Controller, EndEvent, Ending, Good, Host, IsEvent, IsNode, IsUicc, Link}
+use Rattle.node_laws.proofs.Words.{LinkEvent, LinkInput, Lose, NextFrame, NoInput, Node, NumberedEnd, OnWire, Reached, Reset, SafeLink, Seen, Start, Starts}
+use Rattle.node_laws.proofs.Words.{Step, Stop, Stops, Take, TicksWithout, Took, Turn, after_input, aged, aged_entries, all_at_controller, begins, core_end}
+use Rattle.node_laws.proofs.Words.{core_event, core_of, ended_by, entries_of_events, event_entries, exchanged, frames_out, happens, happens_at_controller}
+use Rattle.node_laws.proofs.Words.{here_entries, host_finished, kept, left_after, number_of, rest_entries, see, see_all, silences, silent, step_entries}
+use Rattle.node_laws.proofs.Words.{steps_at_controller, taken_entries, tick_entries, ticks_at_controller, told_of, took_with, turned, with_ended}
+use Rattle.link_laws.specs.sessions.Sessions.{ShdlcLink as CoreLink, ShdlcEndEvent as CoreEndEvent, shdlc_aged as core_aged}
+use Rattle.link_laws.specs.sessions.Sessions.{ticks_or_cut as core_ticks_or_cut, ticks_if_waiting as core_ticks_if_waiting}
 use Rattle.link_laws.proofs.sessions.Steps.{safe_aged, safe_turns, tick_or_cut, tick_if_waiting}
-use Rattle.link_laws.specs.machine.Machine.{LinkInput, Turn, turned, after_input, ended_by, frames_out}
-use Rattle.link_laws.specs.machine.Machine.LinkInput.{Take, Tick as HasTick, Reset, Start, Stop}
-use Rattle.link_laws.specs.messages.Links.{NumberedEnd, Link, Ending, EndEvent, Node, LinkEvent, exchanged, number_of, with_ended, silent}
-use Rattle.link_laws.specs.messages.Links.{steps_at_controller}
-use Rattle.link_laws.specs.messages.Links.{happens_at_controller, happens, all_at_controller, ticks_at_controller, aged, CanStart, IsUicc, IsNode}
+use Rattle.link_laws.specs.machine.Machine.LinkInput.{Tick as HasTick}
+use Rattle.link_laws.specs.messages.Links.{CanStart}
 use Rattle.link_laws.specs.messages.Links.{IsOwn, AreOwn}
-use Rattle.link_laws.specs.messages.Links.{IsEvent}
-use Rattle.link_laws.specs.messages.Links.Comes.{NextFrame, AsksReset, Starts, Stops, NoInput}
-use Rattle.link_laws.specs.messages.Links.EndEvent.{Step, Lose}
-use Rattle.link_laws.specs.messages.Links.LinkEvent.{AtController, AtHost, Ticks, TicksWithout, Activate}
-use Rattle.link_laws.specs.messages.Projection.{core_of, core_end, core_here, core_all, core_event, core_tick, core_tick_rest}
+use Rattle.link_laws.specs.messages.Links.LinkEvent.{Ticks}
+use Rattle.link_laws.specs.messages.Projection.{core_here, core_all, core_tick, core_tick_rest}
 use Rattle.link_laws.proofs.messages.Project.{Tells}
 use Rattle.link_laws.proofs.messages.Finishing.{step_tick}
-use Rattle.link_laws.proofs.messages.Runs.{Good, Reached, safe_reached, rests_of, reached_more, event_step, own_here, own_turns, all_step}
+use Rattle.link_laws.proofs.messages.Runs.{safe_reached, rests_of, reached_more, event_step, own_here, own_turns, all_step}
 use Rattle.link_laws.proofs.messages.Runs.{rest_both, clf_starts}
-use Rattle.link_laws.specs.entries.Entries.{End, Entry, told_of, left_after, rest_entries, taken_entries, step_entries, here_entries, entries_of_events}
-use Rattle.link_laws.specs.entries.Entries.{tick_entries, aged_entries, event_entries}
-use Rattle.link_laws.specs.entries.Entries.End.{Controller, Host}
-use Rattle.link_laws.specs.entries.Entries.Entry.{Took}
-use Rattle.link_laws.specs.entries.Quiet.{begins}
-use Rattle.link_laws.specs.entries.Reading.{Seen, see, see_all, kept}
+use Rattle.link_laws.specs.entries.Entries.{End, Entry}
 use Rattle.link_laws.proofs.entries.Seeing.{seen_as, here_seen, all_seen, tick_seen, step_seen}
-use Rattle.link_laws.proofs.entries.Stepping.{host_finished}
 use Rattle.link_laws.proofs.entries.Running.{host_here}
 use Rattle.link_laws.proofs.messages.Project.{host_ended as ended_host}
-use Rattle.link_laws.proofs.entries.Sparing.{silences}
 use Rattle.node_laws.proofs.order.Marking.{IsPast, turns_past, near_past, far_past}
 use Rattle.node_laws.proofs.order.Jumping.{Jumps, StaysWithin, number_seen, all_jump, silenced, all_resets, all_number, see_within}
 use Rattle.node_laws.proofs.order.Silencing.{IsDeaf, Hears, hears_parts, input_heard, rest_heard, none_first, none_aged, here_down, tick_down, restart_down}

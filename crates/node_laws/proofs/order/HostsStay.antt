@@ -1,12 +1,7 @@
 -- A world of nodes keeps its hosts, whatever lines are played.
 use Rattle.std.proofs.Common.{◌≡◌, ℕ, List, [], ◌∷◌, map, refl, ap, sym, ◌∙◌}
 use Rattle.std.specs.Prelude.{replicate}
-use Rattle.trace_model.specs.declared.line.Header.{Header}
-use Rattle.trace_model.specs.declared.line.Line.{Line}
-use Rattle.node_machine.specs.world.World.{NodeWorld, new_world, new_site, world_step}
-use Rattle.node_machine.specs.world.Lines.{Occurrence}
-use Rattle.node_machine.specs.world.NodeHistories.{world_after, steps_from}
-use Rattle.node_laws.specs.telling.Telling.{hosts_in, world_behind}
+use Rattle.node_laws.proofs.Words.{Header, Line, NodeWorld, Occurrence, hosts_in, new_site, new_world, steps_from, world_after, world_behind, world_step}
 use Rattle.node_laws.proofs.telling.Lasting.{behind_lines, events_of_steps}
 use Rattle.node_laws.proofs.order.Strangers.{step_kept}
 

@@ -2,35 +2,19 @@
 use Rattle.std.proofs.Common.{◌≡◌, ℕ, ◌==◌, Bool, true, false, List, [], ◌∷◌, ◌++◌, Option, Some, None, map, refl, ap, sym, subst, ◌∙◌, append-nil}
 use Rattle.std.proofs.lemmas.Bool.{eqb-true}
 use Rattle.std.proofs.lemmas.List.Sums.{fold-append}
-use Rattle.swp_base.specs.InMemory.{Memory}
-use Rattle.swp_act.specs.Activation.{new_clf, new_uicc}
-use Rattle.trace_model.specs.declared.entry.Entry.{Entry}
-use Rattle.link_laws.specs.machine.Machine.{LinkInput, Turn, Role, LinkEnd, new_link_end, renewed, turned, after_input}
-use Rattle.link_laws.specs.machine.Machine.LinkInput.{Take, Reset, Start, Stop}
-use Rattle.link_laws.specs.machine.Machine.Role.{Bare, Clf, Uicc}
-use Rattle.link_laws.specs.messages.Links.{Link, Comes, LinkEvent, happens_at_controller, steps_at_controller, has_taken, happens}
-use Rattle.link_laws.specs.messages.Links.{after_link_events, IsClf, IsUicc}
-use Rattle.link_laws.specs.messages.Links.Ending.{CutOff}
-use Rattle.link_laws.specs.messages.Links.Comes.{NextFrame, AsksReset, Starts, Stops, NoInput}
-use Rattle.link_laws.specs.messages.Links.EndEvent.{Step}
-use Rattle.link_laws.specs.entries.Entries.{event_entries, entries}
-use Rattle.link_laws.specs.entries.Reading.{kept}
-use Rattle.history.specs.Steps.{entries_for}
-use Rattle.node_machine.specs.Parts.{Running}
-use Rattle.node_machine.specs.Carrying.{changed_if}
-use Rattle.node_machine.specs.world.World.{Site, NodeWorld, site_at, input_of}
-use Rattle.node_laws.specs.links.Runs.{new_line}
+use Rattle.node_laws.proofs.Words.{AsksReset, Bare, Clf, Comes, CutOff, Entry, IfOff, IsClf, IsLinkTold, IsUicc, Link, LinkEnd, LinkEvent, LinkInput, Memory}
+use Rattle.node_laws.proofs.Words.{NextFrame, NoInput, NodeWorld, Reset, Role, Running, Site, Standing, Start, Starts, Step, Stop, Stops, Take, Turn, Uicc}
+use Rattle.node_laws.proofs.Words.{after_input, after_link_events, changed_if, entries, entries_for, event_entries, happens, happens_at_controller, has_taken}
+use Rattle.node_laws.proofs.Words.{input_of, kept, law_noted, new_clf, new_line, new_link_end, new_standing, new_uicc, of_link, renewed, site_at, standing}
+use Rattle.node_laws.proofs.Words.{standing_by_law, stands_noted, steps_at_controller, turned}
 use Rattle.node_laws.proofs.Cases.{by_list, by_option}
 use Rattle.node_laws.proofs.links.Ends.{here_clf, here_uicc}
 use Rattle.node_laws.proofs.links.Sites.{run_of_more}
-use Rattle.node_laws.specs.telling.Telling.{of_link, IfOff}
-use Rattle.node_laws.specs.telling.Standing.{Standing, new_standing, stands_noted, standing, law_noted, standing_by_law}
 use Rattle.node_laws.proofs.telling.Accounts.{of-append}
 use Rattle.node_laws.proofs.telling.Parts.{IsStep}
 use Rattle.node_laws.proofs.telling.Steps.{notes-append}
 use Rattle.node_laws.proofs.telling.Nodes.{site_host, swapped}
 use Rattle.node_laws.proofs.telling.Events.{site_map, entries-append}
-use Rattle.node_laws.specs.order.Told.{IsLinkTold}
 use Rattle.node_laws.proofs.order.Unnoticed.{IfNone}
 use Rattle.node_laws.proofs.order.Watches.{IsStepOf, WatchedLink, watched, kept_left}
 use Rattle.node_laws.proofs.order.Readying.{AreReady}

@@ -1,11 +1,7 @@
 -- Every history of a world of nodes is legal.
 use Rattle.std.proofs.Common.{List}
 use Rattle.std.specs.List.{AllByRecursion}
-use Rattle.trace_model.specs.declared.line.Header.{Header}
-use Rattle.trace_model.specs.declared.line.Line.{Line}
-use Rattle.node_machine.specs.world.NodeHistories.{NodeHistory, FollowsNodes, node_entries}
-use Rattle.node_laws.specs.links.Runs.{ArePlayable}
-use Rattle.node_laws.specs.kept.Hosts.{AreHosts, IsFew, IsSentByHost}
+use Rattle.node_laws.proofs.Words.{AreHosts, ArePlayable, FollowsNodes, Header, IsFew, IsSentByHost, Line, NodeHistory, node_entries}
 use Rattle.node_laws.proofs.kept.Kept.{are_allowed}
 use Rattle.node_laws.proofs.cuts.Histories.{kept_exactly}
 use Rattle.node_laws.proofs.readings.NoticedWorlds.{numbers}

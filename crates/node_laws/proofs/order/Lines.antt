@@ -4,30 +4,20 @@ use Rattle.std.specs.Prelude.{cond, is_some, replicate, unwrap_or}
 use Rattle.std.proofs.lemmas.Bool.{true≢false}
 use Rattle.std.proofs.lemmas.List.Concat.{flat_map-append}
 use Rattle.std.proofs.lemmas.List.Sums.{fold-append}
-use Rattle.trace_model.specs.declared.entry.Entry.{Entry}
-use Rattle.trace_model.specs.declared.line.Header.{Header}
-use Rattle.trace_model.specs.declared.line.Line.{Line}
+use Rattle.node_laws.proofs.Words.{Activates, AreHosts, ArePlayable, Arms, AsksReset, Boots, Entry, FollowsNodes, Gives, Happening, Header, Inits, IsCut}
+use Rattle.node_laws.proofs.Words.{IsOrderly, IsPlayable, Line, LineStep, Loses, Message, NextFrame, NodeHistory, NodeWorld, NoticesAreUp, Occurrence, Orders}
+use Rattle.node_laws.proofs.Words.{Resets, Sends, Site, Standing, Takes, Ticks, as_event_begins, as_event_ends, beginning, entries_in, first_verdict, frames_at}
+use Rattle.node_laws.proofs.Words.{happenings, hosts_in, if_off, memory_at, new_site, new_standing, new_world, occurrences_in, of_link, refusal_in, sending}
+use Rattle.node_laws.proofs.Words.{site_at, standing, steps_from, taken_of, world_after, world_behind, world_step}
 use Rattle.trace_model.specs.declared.line.Line.TheVariants as line
-use Rattle.link_laws.specs.messages.Links.Comes.{NextFrame, AsksReset}
-use Rattle.link_laws.specs.machine.Machine.{Message}
-use Rattle.history.specs.Follows.{first_verdict, taken_of}
-use Rattle.node_machine.specs.Parts.Deed.{Sends, Orders}
-use Rattle.node_machine.specs.world.World.{Site, NodeWorld, Happening, new_site, new_world, site_at, memory_at, sending, beginning, world_step}
-use Rattle.node_machine.specs.world.World.Happening.{Boots, IsCut, Gives, Inits, Takes, Loses, Ticks, Resets, Activates, Arms}
-use Rattle.node_machine.specs.world.Lines.{refusal_in, if_off, happenings, frames_at, Occurrence}
-use Rattle.node_machine.specs.world.NodeHistories.{LineStep, NodeHistory, FollowsNodes, steps_from, world_after, occurrences_in, entries_in}
-use Rattle.node_laws.specs.links.Runs.{IsPlayable, ArePlayable}
 use Rattle.node_laws.proofs.links.Playing.{MayHappen, AreLasting, plain_reach, sending_fine, step_fine, repeated, damaged, runs_then, world_fine}
-use Rattle.node_laws.specs.kept.Hosts.{AreHosts}
-use Rattle.node_laws.specs.telling.Telling.{of_link, hosts_in, IsOrderly, world_behind}
 use Rattle.node_laws.proofs.telling.Lasting.{AllMay, events_of_steps, occurs, EachHolds, front_each, lines_each, behind_lines}
-use Rattle.node_laws.specs.telling.Standing.{Standing, new_standing, as_event_begins, as_event_ends, standing, standing_behind}
+use Rattle.node_laws.specs.telling.Standing.{standing_behind}
 use Rattle.node_laws.proofs.telling.Accounts.{of-append}
 use Rattle.node_laws.proofs.telling.Orderly.{step_orderly, new_orderly}
 use Rattle.node_laws.proofs.telling.Nodes.{site_host}
 use Rattle.node_laws.proofs.telling.Worlds.{site_is}
 use Rattle.node_laws.proofs.telling.Events.{sending_mute}
-use Rattle.node_laws.specs.readings.Noticed.{NoticesAreUp}
 use Rattle.node_laws.proofs.readings.NoticedWorlds.{event_up, numbers, lines_up}
 use Rattle.node_laws.proofs.order.Unnoticed.{AreUnnoticed}
 use Rattle.node_laws.proofs.order.Watches.{WatchedLink, watched, watch_begins, watch_begins_stands, watch_ends_stands, watch_ends_since, ends_whole}

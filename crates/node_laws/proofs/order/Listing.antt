@@ -2,15 +2,11 @@
 use Rattle.std.proofs.Common.{ℕ, Bool, true, false, List, [], ◌∷◌, ◌++◌, map, Option, Some, None}
 use Rattle.std.specs.Prelude.{nat_lt, option_to_list, length}
 use Rattle.std.specs.List.{AllByRecursion}
-use Rattle.swp_base.specs.declared.control_frames.Control.{Control}
-use Rattle.link_laws.specs.sessions.Sessions.{OnWire}
-use Rattle.link_laws.specs.machine.Machine.{LinkEnd, Refused, Turn, Report, Message, turn, give_refusal}
-use Rattle.link_laws.specs.machine.Machine.Turn.{Give}
-use Rattle.link_laws.specs.messages.Links.{Link, Loss, put}
-use Rattle.link_laws.specs.messages.Links.Loss.{TooOld, TooMany}
-use Rattle.link_laws.specs.entries.Entries.{End, Entry as Noted, far, if_so, turn_entry, turn_entries, sent_unless, first_lost, wire_with, pushed_out}
-use Rattle.link_laws.specs.entries.Entries.{puts_entries, aged_entries}
-use Rattle.link_laws.specs.entries.Entries.Entry.{Up, GaveUp, Acked, Got, Sent, Emit, Lost}
+use Rattle.node_laws.proofs.Words.{Acked, Control, Emit, GaveUp, Give, Got, Link, LinkEnd, Loss, Lost, Message, OnWire, Refused, Report, Sent, TooMany, TooOld}
+use Rattle.node_laws.proofs.Words.{Turn, aged_entries, far, first_lost, give_refusal, if_so, pushed_out, put, puts_entries, sent_unless, turn, turn_entries}
+use Rattle.node_laws.proofs.Words.{turn_entry, wire_with}
+use Rattle.link_laws.specs.entries.Entries.{End, Entry as Noted}
+use Rattle.link_laws.specs.entries.Entries.Entry.{Up}
 use Rattle.node_laws.proofs.Cases.{by_test}
 
 -- It holds of the notes of messages, and of frames that go out of this end, or are lost.

@@ -1,22 +1,21 @@
 -- Below the ended sessions of an end another may stand, of which nothing is known: so it doesn't come up with its number again.
 use Rattle.std.proofs.Common.{◌≡◌, ℕ, ◌<◌, ◌==◌, Bool, true, false, List, [], ◌∷◌, ◌++◌, map, Option, Some, None, refl, ap, sym, subst, ◌∙◌}
 use Rattle.std.specs.Prelude.{is_some, if◌then◌else◌}
-use Rattle.swp_base.specs.declared.control_frames.Control.{Control}
-use Rattle.shdlc_core.specs.declared.answers.LinkState.{LinkState}
-use Rattle.shdlc_core.specs.declared.answers.LinkState.TheVariants.{Down, Waiting, Up}
-use Rattle.shdlc_core.specs.Machine.{EndState, Session, no_session, is_waiting, new_end, stopped, taken, take_answer, ticked, tick_answer, reset_with}
-use Rattle.shdlc_core.specs.Machine.{frames_of, after_frames, most_frames}
-use Rattle.link_laws.specs.sessions.Sessions.{OnWire, NumberedShdlc, ShdlcLink, ShdlcTurn, ShdlcEndEvent, ShdlcLinkEvent, shdlc_number_of, ended_session}
-use Rattle.link_laws.specs.sessions.Sessions.{shdlc_session_of, shdlc_exchanged, shdlc_put, shdlc_put_all, shdlc_becomes, shdlc_turned}
-use Rattle.link_laws.specs.sessions.Sessions.{with_shdlc_ended, act_frame}
-use Rattle.link_laws.specs.sessions.Sessions.{shdlc_silent, took_with, is_rset, is_up, shdlc_happens_at_controller, shdlc_ticks_at_controller, shdlc_aged}
-use Rattle.link_laws.specs.sessions.Sessions.{ticks_or_cut, ticks_if_waiting, AreTurns, shdlc_all_at_controller, AllShdlcAllowed, shdlc_happens, shdlc_after}
-use Rattle.link_laws.specs.sessions.Sessions.ShdlcEndEvent.{Turns, Deliver, Ignore, Acts, Lose, Reset, Cut, Stop}
+use Rattle.node_laws.proofs.Words.{Acts, AllShdlcAllowed, Control, Deliver, EndState, Ignore, LinkState, OnWire, SafeLink, Session, ShdlcEndEvent, ShdlcLink}
+use Rattle.node_laws.proofs.Words.{ShdlcLinkEvent, Turns, Up, Waiting, act_frame, is_rset, is_up, is_waiting, most_frames, new_end, no_session, reset_with}
+use Rattle.node_laws.proofs.Words.{shdlc_after, shdlc_becomes, shdlc_exchanged, shdlc_happens_at_controller, shdlc_put_all, shdlc_silent, shdlc_turned, stopped}
+use Rattle.node_laws.proofs.Words.{take_answer, taken, tick_answer, ticked, took_with, with_shdlc_ended}
+use Rattle.shdlc_core.specs.declared.answers.LinkState.TheVariants.{Down}
+use Rattle.shdlc_core.specs.Machine.{frames_of, after_frames}
+use Rattle.link_laws.specs.sessions.Sessions.{NumberedShdlc, ShdlcTurn, shdlc_number_of, ended_session}
+use Rattle.link_laws.specs.sessions.Sessions.{shdlc_session_of, shdlc_put}
+use Rattle.link_laws.specs.sessions.Sessions.{shdlc_ticks_at_controller, shdlc_aged}
+use Rattle.link_laws.specs.sessions.Sessions.{ticks_or_cut, ticks_if_waiting, AreTurns, shdlc_all_at_controller, shdlc_happens}
+use Rattle.link_laws.specs.sessions.Sessions.ShdlcEndEvent.{Lose, Reset, Cut, Stop}
 use Rattle.link_laws.specs.sessions.Sessions.ShdlcLinkEvent.{AtController, AtHost, Tick, TickWithout}
 use Rattle.link_laws.specs.sessions.Losses.{sans}
 use Rattle.link_laws.proofs.sessions.Data.{Base, OnLive, Below, bound}
 use Rattle.link_laws.proofs.sessions.Wire.{live}
-use Rattle.link_laws.proofs.sessions.Sending.{SafeLink}
 use Rattle.link_laws.proofs.sessions.Steps.{safe_turns, safe_event}
 use Rattle.node_laws.proofs.Cases.{by_test}
 

@@ -2,28 +2,20 @@
 use Rattle.std.proofs.Common.{◌≡◌, ℕ, Bool, true, false, List, [], ◌∷◌, ◌++◌, Option, Some, None, refl, ap, sym, subst, ◌∙◌}
 use Rattle.std.specs.Prelude.{◌==◌, ◌||◌}
 use Rattle.std.specs.List.{cons_option, filter, filter_map, flat_map, fold, list_any}
-use Rattle.trace_model.specs.declared.entry.Entry.{Entry}
+use Rattle.node_laws.proofs.Words.{End, Entry, IsLine, IsLinkTold, Link, Saying, entries, entries_for, entry_of, is_of, new_line, of_link, other_end, said}
+use Rattle.node_laws.proofs.Words.{same_number, tells_of}
 use Rattle.trace_model.specs.declared.entry.Entry.TheVariants as entry
-use Rattle.trace_model.specs.declared.line.End.{End}
-use Rattle.trace_model.specs.Ends.{other_end}
-use Rattle.link_laws.specs.messages.Links.{Link}
-use Rattle.link_laws.specs.messages.Links.IsStart.{IsLine}
-use Rattle.link_laws.specs.entries.Entries.{End as Side, Entry as Noted, entries}
+use Rattle.link_laws.specs.entries.Entries.{End as Side, Entry as Noted}
 use Rattle.link_laws.specs.entries.Order.{InOrderIn}
-use Rattle.link_laws.proofs.entries.Lasting.{same_number}
 use Rattle.link_laws.proofs.entries.Running.{at_each_moment}
 use Rattle.link_laws.proofs.entries.Chains.{no_chain_noted}
-use Rattle.history.specs.Filters.{Saying, said, at_end, said_of, sent_by, sent_in, got_in_session, got_in, acked_after, acked_in}
+use Rattle.history.specs.Filters.{at_end, said_of, sent_by, sent_in, got_in_session, got_in, acked_after, acked_in}
 use Rattle.history.specs.Legal.{is_chain_fault}
-use Rattle.history.specs.Steps.{entry_of, entries_for}
 use Rattle.history.proofs.legal.Noted.{fault-all}
 use Rattle.history.proofs.legal.Ordered.{IsOneAtMost, front_given, one_entry, AtEnd, read_as, empty, order_at}
 use Rattle.history.proofs.legal.Reading.{or_right}
-use Rattle.node_laws.specs.links.Runs.{new_line}
-use Rattle.node_laws.specs.telling.Telling.{is_of, tells_of, of_link}
 use Rattle.node_laws.proofs.Cases.{by_test}
 use Rattle.node_laws.proofs.telling.Accounts.{untold, of-append}
-use Rattle.node_laws.specs.order.Told.{IsLinkTold}
 
 -- ## What is said of an end is said of its link
 

@@ -1,29 +1,19 @@
 -- What the ends of a link have of their sessions is read off a history, and so is that a quiet link has delivered all.
 use Rattle.std.proofs.Common.{◌≡◌, ℕ, ◌==◌, false, cond, List, length, Some, ap, sym, subst, ◌∙◌}
-use Rattle.trace_model.specs.declared.entry.Entry.{Entry}
-use Rattle.hcp_packet.specs.Packets.{good_of}
-use Rattle.shdlc_core.specs.declared.answers.LinkState.TheVariants.{Up}
+use Rattle.node_laws.proofs.Words.{AreSessionsRead, AreUpTogether, Controller, Entry, Host, IsLine, IsLinkTold, IsReadOff, Link, Message, NumberedEnd, Up}
+use Rattle.node_laws.proofs.Words.{acked-all, end_c, end_h, entries, entries_for, good_of, got-all, new_line, number_of, same_number, sent-all, talk_of}
 use Rattle.link_laws.specs.sessions.Losses.{Losses}
 use Rattle.history.specs.Legal.{IsDelivered}
-use Rattle.link_laws.specs.machine.Machine.{Message}
-use Rattle.link_laws.specs.messages.Links.{Talk, NumberedEnd, Link, number_of, talk_now, talk_of, ended_talk}
-use Rattle.link_laws.specs.messages.Links.IsStart.{IsLine}
+use Rattle.link_laws.specs.messages.Links.{Talk, talk_now, ended_talk}
 use Rattle.link_laws.specs.messages.Quiet.{AllDelivered, IsQuiet, losses_of}
-use Rattle.link_laws.specs.messages.Settled.{AreUpTogether}
 use Rattle.link_laws.proofs.messages.Whole.{one_number}
-use Rattle.link_laws.specs.entries.Entries.{Entry as Noted, entries}
-use Rattle.link_laws.specs.entries.Entries.End.{Controller, Host}
+use Rattle.link_laws.specs.entries.Entries.{Entry as Noted}
 use Rattle.link_laws.specs.entries.Sessions.{IsRead}
 use Rattle.link_laws.proofs.entries.Books.{up_talk}
 use Rattle.link_laws.proofs.entries.Hearing.{up_session, session_up}
-use Rattle.link_laws.proofs.entries.Lasting.{same_number}
 use Rattle.link_laws.proofs.entries.Running.{read_here, read_there}
-use Rattle.history.specs.Steps.{entries_for}
-use Rattle.history.proofs.legal.Noted.{sent-all, got-all, acked-all}
-use Rattle.node_machine.specs.world.World.{end_c, end_h}
-use Rattle.node_laws.specs.links.Runs.{new_line}
 use Rattle.node_laws.proofs.links.Obeying.{delivers_to_host, delivers_to_controller, settles}
-use Rattle.node_laws.specs.order.Told.{IsLinkTold, IsReadOff, AreReadOff, AreSessionsRead, IsUntroubled, AreUpWith, HasDelivered, HasSettled}
+use Rattle.node_laws.specs.order.Told.{AreReadOff, IsUntroubled, AreUpWith, HasDelivered, HasSettled}
 use Rattle.node_laws.proofs.order.Prefix.{sent_alike, got_alike, acked_alike}
 use Rattle.node_laws.proofs.order.Sessions.{are_read}
 

@@ -2,32 +2,19 @@
 use Rattle.std.proofs.Common.{◌≡◌, ℕ, Bool, true, false, List, [], ◌∷◌, ◌++◌, refl, ap, sym, subst, ◌∙◌, append-nil}
 use Rattle.std.specs.List.{list_any}
 use Rattle.std.proofs.lemmas.Bool.{true≢false}
-use Rattle.trace_model.specs.declared.entry.Entry.{Entry}
+use Rattle.node_laws.proofs.Words.{Acked, Active, AllAllowed, Bare, Clf, Controller, Cut, CutOff, Down, Emit, EndState, Ending, Entry, GaveUp, GoesOut, Got}
+use Rattle.node_laws.proofs.Words.{Host, IsEvent, IsLine, IsLinkTold, IsRunOf, Link, LinkEnd, LinkEvent, Lost, Readiness, Restarted, Role, Sent, Standing}
+use Rattle.node_laws.proofs.Words.{Starts, Step, Took, Turn, Uicc, activated_role, after_link_events, entries, event_entries, happens, happens_at_controller}
+use Rattle.node_laws.proofs.Words.{inactive, is_open, is_waiting, law_noted, most_frames, moved, new_line, new_link_end, or_none, readiness_of, renewed}
+use Rattle.node_laws.proofs.Words.{role_after, same_number, sent_all, standing, standing_by_law, started, stopped, turned, turned_role, turned_same}
 use Rattle.shdlc_core.specs.declared.answers.LinkState.TheVariants.{Down as IsDown}
-use Rattle.shdlc_core.specs.Machine.{EndState, is_waiting, most_frames, stopped}
 use Rattle.swp_act.specs.declared.ActEvent.TheVariants.{Start as ActStart}
-use Rattle.link_laws.specs.machine.Machine.{LinkEnd, Role, Turn, started, turned, moved, sent_all, is_open, renewed, new_link_end, role_after}
-use Rattle.link_laws.specs.machine.Machine.Role.{Bare, Clf, Uicc}
-use Rattle.link_laws.specs.messages.Links.{Link, LinkEvent, Ending, happens, happens_at_controller, after_link_events, AllAllowed, IsEvent}
-use Rattle.link_laws.specs.messages.Links.Ending.{GoesOut, CutOff}
-use Rattle.link_laws.specs.messages.Links.Comes.{Starts}
-use Rattle.link_laws.specs.messages.Links.EndEvent.{Step}
-use Rattle.link_laws.specs.messages.Links.IsStart.{IsLine}
 use Rattle.link_laws.proofs.messages.Ends.{frames_alike}
-use Rattle.link_laws.proofs.messages.Project.{turned_role}
-use Rattle.link_laws.proofs.messages.Steps.{activated_role}
-use Rattle.link_laws.specs.entries.Entries.{End as Side, Entry as Noted, event_entries, entries}
-use Rattle.link_laws.specs.entries.Entries.End.{Controller, Host}
-use Rattle.link_laws.specs.entries.Entries.Entry.{Up, Down, Active, GaveUp, Acked, Got, Sent, Emit, Took, Lost, Tick, Restarted, Cut}
-use Rattle.link_laws.proofs.entries.Lasting.{same_number}
-use Rattle.link_laws.proofs.entries.Noting.{turned_same}
-use Rattle.link_laws.proofs.entries.Sparing.{or_none}
+use Rattle.link_laws.specs.entries.Entries.{End as Side, Entry as Noted}
+use Rattle.link_laws.specs.entries.Entries.Entry.{Up, Tick}
 use Rattle.history.proofs.waits.Harking.{hark, harks, harks-append, waits}
 use Rattle.history.proofs.waits.Harked.{controller_harked, host_harked}
-use Rattle.node_laws.specs.links.Runs.{IsRunOf, new_line}
 use Rattle.node_laws.proofs.links.Sites.{run_of_more}
-use Rattle.node_laws.specs.telling.Standing.{Standing, Readiness, inactive, standing, law_noted, standing_by_law}
-use Rattle.node_laws.specs.order.Told.{IsLinkTold, readiness_of}
 use Rattle.node_laws.proofs.telling.Events.{after-append, entries-append}
 use Rattle.node_laws.proofs.order.Activity.{acting, all_acting, acts, acted, acting-append, IsLined, lined_acts}
 use Rattle.node_laws.proofs.order.Numbered.{misnumbered, misnumbered_mute, numbered, rset_read}

@@ -3,49 +3,27 @@ use Rattle.std.proofs.Common.{◌≡◌, ℕ, ◌==◌, Bool, true, false, cond,
 use Rattle.std.specs.Prelude.{is_some}
 use Rattle.std.specs.List.{list_any}
 use Rattle.std.proofs.lemmas.Bool.{true≢false}
-use Rattle.trace_model.specs.declared.entry.Entry.{Entry}
+use Rattle.node_laws.proofs.Words.{AreSessionsRead, AreUpTogether, AsksReset, AtController, AtEnd, AtHost, Comes, Controller, CutOff, End, Ending, Entry}
+use Rattle.node_laws.proofs.Words.{FindsReady, GoesOut, Host, IsLine, IsRunOf, IsWindow, Link, LinkEvent, NoInput, NodeWorld, Refused, Reset, Resets, Running}
+use Rattle.node_laws.proofs.Words.{Site, Standing, Step, Turn, Work, after_controller, after_host, changed_if, controller_work, cuts_on, ending_of}
+use Rattle.node_laws.proofs.Words.{event_entries, exchanged, frames_on, happens, host_does, host_work, if_off, is_open, is_waiting, link_after_controller}
+use Rattle.node_laws.proofs.Words.{machine_in, new_line, node_at, node_of, number_of, other_end, refusal_in, reset_refusal, same_number, sans, site_at, steps}
+use Rattle.node_laws.proofs.Words.{turns_at, with_site, world_step}
 use Rattle.trace_model.specs.declared.entry.NoCause.TheVariants as no
-use Rattle.trace_model.specs.declared.line.End.{End}
 use Rattle.trace_model.specs.declared.line.Line.TheVariants as line
-use Rattle.trace_model.specs.Ends.{other_end}
-use Rattle.shdlc_core.specs.Machine.{is_waiting}
-use Rattle.link_laws.specs.places.Wire.{sans}
-use Rattle.link_laws.specs.machine.Machine.{Refused, Turn, is_open, reset_refusal}
-use Rattle.link_laws.specs.machine.Machine.LinkInput.{Reset}
-use Rattle.link_laws.specs.messages.Links.{Link, Ending, Comes, LinkEvent, exchanged, number_of, happens, IsWindow}
-use Rattle.link_laws.specs.messages.Links.Ending.{GoesOut, CutOff}
-use Rattle.link_laws.specs.messages.Links.Comes.{AsksReset, NoInput}
-use Rattle.link_laws.specs.messages.Links.EndEvent.{Step}
-use Rattle.link_laws.specs.messages.Links.LinkEvent.{AtController, AtHost}
-use Rattle.link_laws.specs.messages.Links.IsStart.{IsLine}
-use Rattle.link_laws.specs.messages.Settled.{AreUpTogether}
-use Rattle.link_laws.specs.entries.Entries.{event_entries}
-use Rattle.link_laws.specs.entries.Entries.End.{Controller, Host}
-use Rattle.link_laws.specs.entries.Settled.{FindsReady}
 use Rattle.link_laws.proofs.entries.Hearing.{up_session}
-use Rattle.link_laws.proofs.entries.Lasting.{same_number}
 use Rattle.link_laws.proofs.entries.Together.{together}
 use Rattle.history.specs.Follows.{machine_of, as_noted}
-use Rattle.node_machine.specs.Parts.{Running, Work}
-use Rattle.node_machine.specs.Carrying.{changed_if}
-use Rattle.node_machine.specs.Node.{steps}
-use Rattle.node_machine.specs.Node.NodeInput.{AtEnd}
-use Rattle.node_machine.specs.world.World.{Site, NodeWorld, site_at, with_site, node_at, node_of, turns_at, ending_of, controller_work, link_after_controller}
-use Rattle.node_machine.specs.world.World.{after_controller, host_work, after_host, host_does, world_step}
-use Rattle.node_machine.specs.world.World.Happening.{Resets}
-use Rattle.node_machine.specs.world.Lines.{if_off, machine_in, refusal_in}
-use Rattle.node_laws.specs.links.Runs.{new_line, IsRunOf}
 use Rattle.node_laws.proofs.Cases.{by_test}
 use Rattle.node_laws.proofs.Cases.{by_some}
 use Rattle.node_laws.proofs.links.Works.{steps_fine}
 use Rattle.node_laws.proofs.links.Playing.{plain_reach}
 use Rattle.node_laws.proofs.kept.Lines.{first_none}
-use Rattle.node_laws.specs.telling.Standing.{Standing}
 use Rattle.node_laws.proofs.telling.Nodes.{site_host, link_is}
 use Rattle.node_laws.proofs.telling.Worlds.{host_does_step}
 use Rattle.node_laws.proofs.telling.Events.{site_map}
-use Rattle.node_laws.specs.order.Told.{AreSessionsRead, AreBothUp, frames_on}
-use Rattle.node_laws.specs.order.Resets.{IsFreeOfLinkFrames, cuts_on}
+use Rattle.node_laws.specs.order.Told.{AreBothUp}
+use Rattle.node_laws.specs.order.Resets.{IsFreeOfLinkFrames}
 use Rattle.node_laws.proofs.order.Activations.{sans_none}
 use Rattle.node_laws.proofs.order.Watches.{IsStepOf, WatchedLink, IsSince, no_cut, since_reset, input_cut}
 use Rattle.node_laws.proofs.order.Knowing.{Each, was_there}

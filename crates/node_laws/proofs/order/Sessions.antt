@@ -3,27 +3,19 @@ use Rattle.std.proofs.Common.{◌≡◌, ℕ, Bool, true, false, cond, List, [],
 use Rattle.std.specs.Prelude.{◌==◌, ◌&&◌, if◌then◌else◌}
 use Rattle.std.specs.List.{fold}
 use Rattle.std.proofs.lemmas.Bool.{eqb-true, true≢false}
-use Rattle.trace_model.specs.declared.entry.Entry.{Entry}
+use Rattle.node_laws.proofs.Words.{Acked, Active, AreSessionsRead, Begins, Controller, Counts, Cut, Down, Emit, End, Entry, GaveUp, Gets, Got, Host, IsLine}
+use Rattle.node_laws.proofs.Words.{IsLinkTold, Link, Lost, Puts, Readiness, Restarted, Saying, Sent, Standing, Took, after_power, becomes_at, end_of, entries}
+use Rattle.node_laws.proofs.Words.{law_noted, lpdu_of, made_active, new_line, new_standing, no_longer_waits, said_far, said_near, same_end, same_side, standing}
+use Rattle.node_laws.proofs.Words.{standing_by_law, stands_noted, stands_said, without_power}
 use Rattle.trace_model.specs.declared.entry.Entry.TheVariants as entry
-use Rattle.trace_model.specs.declared.line.End.{End}
-use Rattle.swp_lpdu.specs.Controls.{lpdu_of}
-use Rattle.link_laws.specs.messages.Links.{Link}
-use Rattle.link_laws.specs.messages.Links.IsStart.{IsLine}
-use Rattle.link_laws.specs.entries.Entries.{End as Side, Entry as Noted, entries}
-use Rattle.link_laws.specs.entries.Entries.End.{Controller, Host}
-use Rattle.link_laws.specs.entries.Entries.Entry.{Up, Down, Active, GaveUp, Acked, Got, Sent, Emit, Took, Lost, Tick, Restarted, Cut}
+use Rattle.link_laws.specs.entries.Entries.{End as Side, Entry as Noted}
+use Rattle.link_laws.specs.entries.Entries.Entry.{Up, Tick}
 use Rattle.link_laws.specs.entries.Filters.{same_link_end as same_in}
 use Rattle.link_laws.specs.entries.Sessions.{hear, number_now as session_at}
 use Rattle.link_laws.proofs.entries.Heard.{controller_heard, host_heard}
-use Rattle.history.specs.Filters.{Saying, at_end, same_end, same_side, session_after}
-use Rattle.history.specs.Filters.Saying.{Begins, Ends, Sends, Gets, Counts, Puts, Takes, Loses}
-use Rattle.history.specs.Steps.{end_of}
+use Rattle.history.specs.Filters.{at_end, session_after}
+use Rattle.history.specs.Filters.Saying.{Ends, Sends, Takes, Loses}
 use Rattle.history.proofs.legal.Noted.{same_as, if_said}
-use Rattle.node_laws.specs.links.Runs.{new_line}
-use Rattle.node_laws.specs.telling.Standing.{Standing, new_standing, said_near, said_far, stands_said, without_power, after_power, stands_noted}
-use Rattle.node_laws.specs.telling.Standing.{Readiness, made_active, no_longer_waits, becomes_at, standing, law_noted}
-use Rattle.node_laws.specs.telling.Standing.{standing_by_law}
-use Rattle.node_laws.specs.order.Told.{IsLinkTold, AreSessionsRead}
 
 -- the session of an end
 abbrev pub part : Side → Standing → Option ℕ

@@ -4,39 +4,30 @@ use Rattle.std.proofs.Common.{arith}
 use Rattle.std.specs.Prelude.{nat_lt, ◌||◌, is_some, option_to_list}
 use Rattle.std.specs.List.{list_any, AllByRecursion}
 use Rattle.std.proofs.lemmas.Bool.{true≢false}
-use Rattle.swp_base.specs.declared.control_frames.Control.{Control}
-use Rattle.swp_base.specs.declared.link_terms.Cause.{Cause}
-use Rattle.swp_act.specs.declared.ActEvent.{ActEvent}
+use Rattle.node_laws.proofs.Words.{Acked, ActEvent, Activate, Active, AsksReset, AtController, AtHost, Bare, Cause, Clf, Comes, Control, Controller, Cut}
+use Rattle.node_laws.proofs.Words.{CutOff, Down, Emit, EndEvent, EndState, Ending, GaveUp, Give, GoesOut, Got, Host, IsNode, Link, LinkEnd, LinkEvent}
+use Rattle.node_laws.proofs.Words.{LinkInput, Lose, Loss, Lost, Message, NextFrame, NoInput, Node, NumberedEnd, OnWire, Refused, Report, Reset, Restarted, Role}
+use Rattle.node_laws.proofs.Words.{Sent, Start, Starts, Step, Stop, Stops, Take, TicksWithout, TooMany, TooOld, Took, Turn, Uicc, activated, after_input, aged}
+use Rattle.node_laws.proofs.Words.{aged_entries, all_at_controller, core_end, ended_by, ending_entries, entries, entries_of_events, event_entries, exchanged}
+use Rattle.node_laws.proofs.Words.{far, finished, first_lost, frames_out, give_refusal, happens, happens_at_controller, here_entries, if_so, left_after}
+use Rattle.node_laws.proofs.Words.{most_frames, moved, new_link_end, number_of, pushed_out, put, put_entries, puts_entries, renewed, report, reset_role}
+use Rattle.node_laws.proofs.Words.{rest_entries, sent_unless, silences, silent, step_entries, steps_at_controller, stopped, taken_entries, tick_entries}
+use Rattle.node_laws.proofs.Words.{ticks_at_controller, told, told_of, took_with, turn, turn_entries, turn_entry, turned, turned_same, whole_acked, wire_with}
+use Rattle.node_laws.proofs.Words.{with_ended}
 use Rattle.swp_act.specs.declared.ActEvent.TheVariants.{Start as ActStart, Stop as ActStop}
 use Rattle.shdlc_core.specs.declared.answers.LinkState.TheVariants.{Down as IsDown}
-use Rattle.shdlc_core.specs.Machine.{EndState, most_frames, stopped}
-use Rattle.link_laws.specs.sessions.Sessions.{OnWire, took_with}
 use Rattle.link_laws.proofs.sessions.Data.{bound}
-use Rattle.link_laws.specs.machine.Machine.{Message, LinkEnd, Role, Refused, LinkInput, Turn, Report, turn, turned, give_refusal, report, after_input, ended_by}
-use Rattle.link_laws.specs.machine.Machine.{activated, moved, took as took_frame, renewed, new_link_end, frames_out, whole_acked}
-use Rattle.link_laws.specs.machine.Machine.Role.{Bare, Clf, Uicc}
-use Rattle.link_laws.specs.machine.Machine.LinkInput.{Take, Tick as HasTick, Reset, Start, Stop}
-use Rattle.link_laws.specs.machine.Machine.Turn.{Give}
-use Rattle.link_laws.specs.messages.Links.{NumberedEnd, Link, Ending, Comes, Loss, EndEvent, Node, LinkEvent, exchanged, number_of, put}
-use Rattle.link_laws.specs.messages.Links.{with_ended, silent, finished}
-use Rattle.link_laws.specs.messages.Links.{steps_at_controller, happens_at_controller, happens, all_at_controller, ticks_at_controller, aged, CanEnd, IsNode}
+use Rattle.link_laws.specs.machine.Machine.{took as took_frame}
+use Rattle.link_laws.specs.machine.Machine.LinkInput.{Tick as HasTick}
+use Rattle.link_laws.specs.messages.Links.{CanEnd}
 use Rattle.link_laws.specs.messages.Links.{IsAllowed}
-use Rattle.link_laws.specs.messages.Links.Ending.{GoesOut, CutOff}
-use Rattle.link_laws.specs.messages.Links.Comes.{NextFrame, AsksReset, Starts, Stops, NoInput}
-use Rattle.link_laws.specs.messages.Links.Loss.{TooMany, TooOld}
-use Rattle.link_laws.specs.messages.Links.EndEvent.{Step, Lose}
-use Rattle.link_laws.specs.messages.Links.LinkEvent.{AtController, AtHost, Ticks, TicksWithout, Activate}
-use Rattle.link_laws.specs.messages.Projection.{core_end}
+use Rattle.link_laws.specs.messages.Links.LinkEvent.{Ticks}
 use Rattle.link_laws.proofs.messages.Ends.{frames_alike}
 use Rattle.link_laws.proofs.messages.Project.{Now}
 use Rattle.link_laws.proofs.messages.Finishing.{can_end, took_can, restart_mid}
-use Rattle.link_laws.specs.entries.Entries.{End, Entry, far, if_so, told, told_of, turn_entry, turn_entries, sent_unless, first_lost, pushed_out, wire_with}
-use Rattle.link_laws.specs.entries.Entries.{put_entries, puts_entries, ending_entries, rest_entries, left_after, taken_entries, step_entries, here_entries}
-use Rattle.link_laws.specs.entries.Entries.{entries_of_events, tick_entries, aged_entries, event_entries, entries}
-use Rattle.link_laws.specs.entries.Entries.End.{Controller, Host}
-use Rattle.link_laws.specs.entries.Entries.Entry.{Up, Down, Active, GaveUp, Acked, Got, Sent, Emit, Took, Lost, Tick, Restarted, Cut}
-use Rattle.link_laws.proofs.entries.Noting.{turned_same, reset_role, restart_can, tick_can}
-use Rattle.link_laws.proofs.entries.Sparing.{silences}
+use Rattle.link_laws.specs.entries.Entries.{End, Entry}
+use Rattle.link_laws.specs.entries.Entries.Entry.{Up, Tick}
+use Rattle.link_laws.proofs.entries.Noting.{restart_can, tick_can}
 use Rattle.node_laws.proofs.Cases.{by_list, by_test}
 use Rattle.node_laws.proofs.Cases.{by_test}
 

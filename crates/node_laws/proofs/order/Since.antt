@@ -5,18 +5,15 @@ use Rattle.std.specs.Prelude.{nat_lt}
 use Rattle.std.specs.List.{list_any}
 use Rattle.std.proofs.lemmas.Bool.{true≢false, ltb-true, ltb-false}
 use Rattle.shdlc_core.specs.declared.answers.LinkState.TheVariants.{Up as IsUpNow}
-use Rattle.link_laws.specs.messages.Links.{NumberedEnd, Link, LinkEvent, number_of, happens, after_link_events, IsEvent, AllAllowed}
-use Rattle.link_laws.specs.messages.Links.IsStart.{IsLine}
-use Rattle.link_laws.specs.messages.Projection.{core_of, core_end, core_event}
-use Rattle.link_laws.proofs.messages.Runs.{Good, Reached, event_step, reached_more}
+use Rattle.node_laws.proofs.Words.{AllAllowed, Good, IsEvent, IsLine, Link, LinkEvent, NumberedEnd, Reached, Seen, after_link_events, begins, core_end}
+use Rattle.node_laws.proofs.Words.{core_event, core_of, entries, event_entries, happens, kept, new_line, number_of, see_all, silences}
+use Rattle.link_laws.proofs.messages.Runs.{event_step, reached_more}
 use Rattle.link_laws.proofs.messages.Whole.{start_good, start_reached}
-use Rattle.link_laws.specs.entries.Entries.{Entry, event_entries, entries}
-use Rattle.link_laws.specs.entries.Quiet.{begins, since}
-use Rattle.link_laws.specs.entries.Reading.{Seen, nothing_seen, see_all, kept}
+use Rattle.link_laws.specs.entries.Entries.{Entry}
+use Rattle.link_laws.specs.entries.Quiet.{since}
+use Rattle.link_laws.specs.entries.Reading.{nothing_seen}
 use Rattle.link_laws.proofs.entries.Ages.{read_off}
 use Rattle.link_laws.proofs.entries.Seeing.{see_all-append}
-use Rattle.link_laws.proofs.entries.Sparing.{silences}
-use Rattle.node_laws.specs.links.Runs.{new_line}
 use Rattle.node_laws.proofs.Cases.{by_test}
 use Rattle.node_laws.proofs.telling.Events.{after-append, entries-append}
 use Rattle.node_laws.proofs.order.Marking.{IsPast}

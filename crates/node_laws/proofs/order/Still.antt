@@ -3,41 +3,25 @@ use Rattle.std.proofs.Common.{◌≡◌, ℕ, Bool, true, false, List, [], ◌�
 use Rattle.std.specs.Prelude.{◌==◌, ◌||◌, if◌then◌else◌}
 use Rattle.std.specs.List.{fold, list_any}
 use Rattle.std.proofs.lemmas.Bool.{true≢false}
-use Rattle.trace_model.specs.declared.entry.Entry.{Entry}
+use Rattle.node_laws.proofs.Words.{AreHosts, ArePlayable, Begins, Controller, Cut, Emit, End, Entry, FollowsNodes, Header, Host, IsLine, IsLinkTold, Line, Link}
+use Rattle.node_laws.proofs.Words.{Message, NodeHistory, NodeWorld, Occurrence, Puts, Restarted, Saying, Site, acked-all, begins, end_c, end_h, entries}
+use Rattle.node_laws.proofs.Words.{entries_for, entries_in, good_of, got-all, hosts_in, is_of, new_line, new_world, number_of, occurrences_in, of_link, or_none}
+use Rattle.node_laws.proofs.Words.{said, sent-all, session_now, silences, site_at, tells_of, world_behind}
 use Rattle.trace_model.specs.declared.entry.Entry.TheVariants as entry
-use Rattle.trace_model.specs.declared.line.End.{End}
-use Rattle.trace_model.specs.declared.line.Header.{Header}
-use Rattle.trace_model.specs.declared.line.Line.{Line}
-use Rattle.hcp_packet.specs.Packets.{good_of}
 use Rattle.shdlc_core.specs.declared.answers.LinkState.TheVariants.{Up as IsUpNow}
-use Rattle.link_laws.specs.machine.Machine.{Message}
-use Rattle.link_laws.specs.messages.Links.{Link, number_of, after_link_events as link_after}
-use Rattle.link_laws.specs.messages.Links.IsStart.{IsLine}
-use Rattle.link_laws.specs.entries.Entries.{Entry as Noted, entries}
-use Rattle.link_laws.specs.entries.Entries.End.{Controller, Host}
-use Rattle.link_laws.specs.entries.Entries.Entry.{Emit, Restarted, Cut}
-use Rattle.link_laws.specs.entries.Quiet.{disturbs, begins, since, IsQuietSince, IsDeliveredOnLink as LinkDelivered}
+use Rattle.link_laws.specs.messages.Links.{after_link_events as link_after}
+use Rattle.link_laws.specs.entries.Entries.{Entry as Noted}
+use Rattle.link_laws.specs.entries.Quiet.{disturbs, since, IsQuietSince, IsDeliveredOnLink as LinkDelivered}
 use Rattle.link_laws.proofs.entries.Delivering.{quiet_here, quiet_there}
 use Rattle.link_laws.proofs.entries.Hearing.{session_up}
-use Rattle.link_laws.proofs.entries.Sparing.{silences, or_none}
-use Rattle.history.specs.Filters.{Saying, said}
-use Rattle.history.specs.Filters.Saying.{Begins, Puts, Loses}
+use Rattle.history.specs.Filters.Saying.{Loses}
 use Rattle.history.specs.Legal.{begins_on, loses_on, rejects_on, since_up, has_lost, has_rnr}
-use Rattle.history.specs.Steps.{entries_for}
-use Rattle.history.proofs.legal.Noted.{sent-all, got-all, acked-all}
 use Rattle.history.proofs.legal.Plain.{ArePlain}
 use Rattle.history.proofs.legal.Reading.{no_bytes, since-all, undisturbed}
-use Rattle.node_laws.specs.kept.Hosts.{AreHosts}
-use Rattle.node_machine.specs.world.World.{Site, NodeWorld, new_world, site_at, end_c, end_h}
-use Rattle.node_machine.specs.world.Lines.{Occurrence}
-use Rattle.node_machine.specs.world.NodeFilters.{session_now}
-use Rattle.node_machine.specs.world.NodeHistories.{FollowsNodes, NodeHistory, entries_in, occurrences_in}
-use Rattle.node_laws.specs.links.Runs.{ArePlayable, new_line}
-use Rattle.node_laws.specs.telling.Telling.{is_of, tells_of, of_link, hosts_in, world_behind}
 use Rattle.node_laws.proofs.Cases.{by_option, by_test}
 use Rattle.node_laws.proofs.Cases.{by_test}
 use Rattle.node_laws.proofs.telling.Accounts.{untold}
-use Rattle.node_laws.specs.order.Told.{IsLinkTold, AreWiresRead, IsStillInSession, HasDeliveredAll}
+use Rattle.node_laws.specs.order.Told.{AreWiresRead, IsStillInSession, HasDeliveredAll}
 use Rattle.node_laws.proofs.order.Prefix.{sent_alike, got_alike, acked_alike}
 use Rattle.node_laws.proofs.order.Lines.{IsSo, host_number, history_so}
 use Rattle.node_laws.proofs.order.Sessions.{after, are_read}

@@ -2,33 +2,18 @@
 use Rattle.std.proofs.Common.{◌≡◌, ℕ, ◌==◌, Bool, true, false, List, [], ◌∷◌, ◌++◌, length, Some, None, map, refl, ap, sym, subst, ◌∙◌}
 use Rattle.std.specs.List.{AllByRecursion, flat_map}
 use Rattle.std.proofs.lemmas.Bool.{eqb-true}
-use Rattle.swp_base.specs.InMemory.{Memory}
-use Rattle.trace_model.specs.declared.entry.Entry.{Entry}
-use Rattle.trace_model.specs.declared.line.End.{End}
-use Rattle.journal_laws.specs.Planned.{fails_within, after_planned}
-use Rattle.link_laws.specs.machine.Machine.{LinkInput}
-use Rattle.link_laws.specs.machine.Machine.Role.{Bare}
-use Rattle.link_laws.specs.messages.Links.{NumberedEnd, Link, Comes, Loss, new_link, exchanged, aged, happens}
-use Rattle.link_laws.specs.messages.Links.Comes.{NextFrame, AsksReset, Starts, NoInput}
-use Rattle.link_laws.specs.messages.Links.Ending.{CutOff}
-use Rattle.link_laws.specs.messages.Links.EndEvent.{Step}
-use Rattle.link_laws.specs.messages.Links.LinkEvent.{AtController}
-use Rattle.link_laws.specs.entries.Entries.{Entry as Noted, aged_entries, first_lost}
-use Rattle.link_laws.specs.entries.Entries.End.{Controller, Host}
-use Rattle.history.specs.Steps.{entries_for}
-use Rattle.node_machine.specs.Parts.{Desk, Running, Work, Deed}
-use Rattle.node_machine.specs.Carrying.{port_at}
-use Rattle.node_machine.specs.Node.{steps, begins_with, boot_writes}
-use Rattle.node_machine.specs.Node.NodeInput.{AtEnd}
-use Rattle.node_machine.specs.world.World.{Site, NodeWorld, Happening, site_at, link_to, input_of, near_end_in, arrival, work_of}
-use Rattle.node_machine.specs.world.World.{comes_to, controller_work, link_after_controller, controller_does, host_work, after_host, host_does}
-use Rattle.node_machine.specs.world.World.{frames_noted, wires_for, host_cut, loses_power_at, memory_at, with_memory, with_node, boots}
-use Rattle.node_machine.specs.world.World.{counts, frame_lost, sending, beginning, comes_at, end_c, end_h, all_aged, controller_ticks}
-use Rattle.node_machine.specs.world.World.{hosts_tick, world_ticks, world_step}
-use Rattle.node_machine.specs.world.World.Happening.{Boots, IsCut, Gives, Inits, Takes, Loses, Ticks, Resets, Activates, Arms}
+use Rattle.node_laws.proofs.Words.{Activates, Arms, AsksReset, AtController, AtEnd, Bare, Boots, Comes, Controller, CutOff, Deed, Desk, End, Entry, Gives}
+use Rattle.node_laws.proofs.Words.{Happening, HasEnds, Host, IfItRuns, Inits, IsCut, IsOrderly, Link, LinkInput, Loses, Loss, Memory, NextFrame, NoInput}
+use Rattle.node_laws.proofs.Words.{NodeWorld, NumberedEnd, Resets, Running, Site, Starts, Step, Takes, Ticks, Work, after_host, after_planned, aged}
+use Rattle.node_laws.proofs.Words.{aged_entries, all_aged, arrival, beginning, begins_with, boot_found, boot_writes, boot_written, boots, by_boot, by_coming}
+use Rattle.node_laws.proofs.Words.{by_controller, by_controller_tick, by_host, by_loss, by_memory, by_power, by_running, comes_at, comes_to, controller_does}
+use Rattle.node_laws.proofs.Words.{controller_ticks, controller_work, counts, end_c, end_h, entries_for, exchanged, fails_within, first_lost, frame_lost}
+use Rattle.node_laws.proofs.Words.{frames_noted, happens, host_cut, host_does, host_work, hosts_in, hosts_tick, input_of, link_after_controller, link_to}
+use Rattle.node_laws.proofs.Words.{loses_power_at, memory_at, near_end_in, near_tick, new_link, of_link, port_at, sending, site_at, site_lost, site_ticked}
+use Rattle.node_laws.proofs.Words.{site_unticked, steps, wires_for, with_memory, with_node, work_of, world_step, world_ticks}
+use Rattle.link_laws.specs.entries.Entries.{Entry as Noted}
 use Rattle.node_laws.proofs.Cases.{by_option, by_test}
 use Rattle.node_laws.proofs.kept.Sites.{hosts_same, hosts_with}
-use Rattle.node_laws.specs.telling.Telling.{of_link, HasEnds, IfItRuns, hosts_in, IsOrderly}
 use Rattle.node_laws.proofs.telling.Mute.{AreMute}
 use Rattle.node_laws.proofs.telling.Accounts.{of-append, of_other}
 use Rattle.node_laws.proofs.telling.Away.{Away}
@@ -38,9 +23,6 @@ use Rattle.node_laws.proofs.telling.Nodes.{ports_for, link_is}
 use Rattle.node_laws.proofs.telling.Worlds.{HostDoes, host_does_step, host_does_begin}
 use Rattle.node_laws.proofs.telling.Events.{sending_mute, comes_goes, orderly_map}
 use Rattle.node_laws.proofs.telling.WorldTicks.{near_orderly, other_hosts}
-use Rattle.node_machine.proofs.world.Cases.{by_controller, by_host, by_coming, by_power, by_memory, by_running, boot_written, boot_found, by_boot}
-use Rattle.node_machine.proofs.world.Cases.{site_lost, by_loss}
-use Rattle.node_machine.proofs.world.Cases.{site_unticked, site_ticked, near_tick, by_controller_tick}
 use Rattle.node_laws.proofs.telling.Orderly.{hosts_ticked}
 
 -- ## Hosts stay

@@ -5,45 +5,27 @@ use Rattle.std.specs.Prelude.{◌+◌, ◌||◌, not, is_some, nat_lt, option_to
 use Rattle.std.specs.List.{AllByRecursion, list_any}
 use Rattle.std.proofs.lemmas.Bool.{true≢false}
 use Rattle.std.proofs.lemmas.List.Folds.{list_any-append}
-use Rattle.trace_model.specs.declared.entry.Entry.{Entry}
+use Rattle.node_laws.proofs.Words.{Acked, Act, Active, Asked, AsksReset, Cause, Clt, Control, Controller, Cut, CutOff, Down, Emit, EndState, Ending, Entry}
+use Rattle.node_laws.proofs.Words.{FindsReady, GaveUp, GoesOut, Got, Host, I, IsRunOf, Link, LinkEnd, LinkEvent, LinkInput, LinkState, Lost, Node, Refused}
+use Rattle.node_laws.proofs.Words.{Report, Reset, Restarted, Rset, S, Step, TicksWithout, Turn, Ua, act_answer, after_input, aged, aged_entries}
+use Rattle.node_laws.proofs.Words.{behind_reset_of, cuts_on, end_c, end_h, end_of, ended_by, entries_for, event_entries, exchanged, frames_out, happens}
+use Rattle.node_laws.proofs.Words.{happens_at_controller, if_so, if_up, is_open, is_own_reset, is_rset, lost_as, lpdu_of, number_of, of_link, or_none}
+use Rattle.node_laws.proofs.Words.{puts_entries, report, reset_refusal, rest_entries, runs_timer, said, same_number, step_entries, tells_of, tick_answer}
+use Rattle.node_laws.proofs.Words.{tick_entries, ticks_at_controller, told, told_of, turn_entries, turned, whole_acked, with_ended}
 use Rattle.trace_model.specs.declared.entry.Entry.TheVariants as entry
-use Rattle.swp_base.specs.declared.control_frames.Control.{Control}
-use Rattle.swp_lpdu.specs.Controls.{lpdu_of}
-use Rattle.swp_base.specs.declared.control_frames.Control.TheVariants.{I, S, Rset, Ua, Act, Clt}
-use Rattle.swp_base.specs.declared.link_terms.Cause.{Cause}
-use Rattle.swp_base.specs.declared.link_terms.Cause.TheVariants.{Asked, Act as ByAct}
+use Rattle.swp_base.specs.declared.link_terms.Cause.TheVariants.{Act as ByAct}
 use Rattle.swp_act.specs.declared.ActEvent.TheVariants.{Tick as ActTick}
-use Rattle.shdlc_core.specs.declared.answers.LinkState.{LinkState}
 use Rattle.shdlc_core.specs.declared.answers.LinkState.TheVariants.{Down as IsDown, Waiting as IsWaitingNow, Up as IsUpNow}
-use Rattle.shdlc_core.specs.Machine.{EndState, tick_answer, runs_timer}
-use Rattle.link_laws.specs.machine.Machine.{LinkEnd, Refused, LinkInput, Turn, Report, report, turned, after_input, ended_by, ended_by_reset, whole_acked}
-use Rattle.link_laws.specs.machine.Machine.{is_open, act_answer, if_up, frames_out, reset_refusal}
-use Rattle.link_laws.specs.machine.Machine.LinkInput.{Tick as HasTick, Reset}
-use Rattle.link_laws.specs.messages.Links.{Link, Ending, Node, LinkEvent, exchanged}
-use Rattle.link_laws.specs.messages.Links.{aged, number_of, with_ended, happens, happens_at_controller}
-use Rattle.link_laws.specs.messages.Links.{ticks_at_controller}
-use Rattle.link_laws.specs.messages.Links.Ending.{GoesOut, CutOff}
-use Rattle.link_laws.specs.messages.Links.Comes.{AsksReset}
-use Rattle.link_laws.specs.messages.Links.EndEvent.{Step}
-use Rattle.link_laws.specs.messages.Links.LinkEvent.{TicksWithout}
+use Rattle.link_laws.specs.machine.Machine.{ended_by_reset}
+use Rattle.link_laws.specs.machine.Machine.LinkInput.{Tick as HasTick}
 use Rattle.link_laws.specs.places.Wire.{is_act}
-use Rattle.link_laws.specs.sessions.Sessions.{is_rset}
-use Rattle.link_laws.specs.entries.Entries.{End as Side, Entry as Noted, if_so, told, told_of, turn_entries, puts_entries, rest_entries, tick_entries}
-use Rattle.link_laws.specs.entries.Entries.{step_entries, aged_entries, event_entries}
-use Rattle.link_laws.specs.entries.Entries.End.{Controller, Host}
-use Rattle.link_laws.specs.entries.Entries.Entry.{Up, Down, Active, GaveUp, Acked, Got, Emit, Lost, Tick, Restarted, Cut}
-use Rattle.link_laws.specs.entries.Settled.{withholds, FindsReady}
-use Rattle.link_laws.proofs.entries.Lasting.{same_number}
-use Rattle.link_laws.proofs.entries.Sparing.{or_none}
-use Rattle.history.specs.Filters.{said}
-use Rattle.history.specs.Steps.{end_of, entries_for, lost_as}
-use Rattle.node_machine.specs.world.World.{end_c, end_h}
-use Rattle.node_laws.specs.links.Runs.{IsRunOf}
-use Rattle.node_laws.specs.telling.Telling.{tells_of, of_link}
-use Rattle.node_laws.specs.order.Resets.{asks_at, behind_reset_of, cuts_on}
+use Rattle.link_laws.specs.entries.Entries.{End as Side, Entry as Noted}
+use Rattle.link_laws.specs.entries.Entries.Entry.{Up, Tick}
+use Rattle.link_laws.specs.entries.Settled.{withholds}
+use Rattle.node_laws.specs.order.Resets.{asks_at}
 use Rattle.node_laws.proofs.Cases.{by_test}
 use Rattle.node_laws.proofs.order.Withheld.{loses_one_on}
-use Rattle.node_laws.specs.answers.Unasked.{is_own_reset, is_reset_down}
+use Rattle.node_laws.specs.answers.Unasked.{is_reset_down}
 use Rattle.node_laws.proofs.telling.Reported.{rest_all}
 use Rattle.node_laws.proofs.telling.Accounts.{untold}
 use Rattle.node_laws.proofs.telling.WorldTicks.{tick_event}

@@ -3,45 +3,25 @@ use Rattle.std.proofs.Common.{◌≡◌, ℕ, ◌==◌, Bool, true, false, List,
 use Rattle.std.specs.Prelude.{is_some, not, ◌&&◌}
 use Rattle.std.specs.List.{AllByRecursion, find}
 use Rattle.std.proofs.lemmas.Bool.{eqb-true, true≢false}
-use Rattle.swp_act.specs.Activation.{new_clf, new_uicc}
-use Rattle.trace_model.specs.declared.entry.Entry.{Entry}
-use Rattle.shdlc_core.specs.declared.answers.LinkState.TheVariants.{Up, Down}
-use Rattle.shdlc_core.specs.Machine.{is_waiting}
-use Rattle.link_laws.specs.machine.Machine.{LinkEnd, Turn, is_open, new_link_end, turned, after_input, sent_all, reset_refusal}
-use Rattle.link_laws.specs.entries.Settled.{FindsReady}
-use Rattle.link_laws.specs.machine.Machine.LinkInput.{Tick, Reset}
-use Rattle.link_laws.specs.machine.Machine.Role.{Clf, Uicc}
-use Rattle.link_laws.specs.messages.Links.{NumberedEnd, Link, LinkEvent, exchanged, aged, ticks_at_controller, AreSendableTurns}
-use Rattle.link_laws.specs.messages.Links.{IsClf, IsUicc}
-use Rattle.link_laws.specs.messages.Links.{IsEvent}
-use Rattle.link_laws.specs.messages.Links.Ending.{GoesOut, CutOff}
-use Rattle.link_laws.specs.messages.Links.Comes.{AsksReset}
-use Rattle.link_laws.specs.messages.Links.EndEvent.{Step}
-use Rattle.link_laws.specs.messages.Links.IsStart.{IsLine}
-use Rattle.link_laws.proofs.messages.Whole.{from_start}
-use Rattle.node_machine.specs.Parts.{Desk, Running}
-use Rattle.node_machine.specs.Carrying.{port_at}
-use Rattle.node_machine.specs.Node.NodeInput.{TimePasses}
-use Rattle.node_machine.specs.world.World.{Site, NodeWorld, site_at, link_to, port_for, work_of, ending_of, turns_at, runs_on, all_aged, is_late_at, ticked_so}
-use Rattle.node_machine.specs.world.World.{controller_ticks, host_ticks, hosts_tick, world_ticks}
-use Rattle.node_laws.specs.links.Runs.{new_line}
-use Rattle.node_laws.specs.links.Notices.{IsNoticedUp, OnFirst}
+use Rattle.node_laws.proofs.Words.{AreSendableTurns, AsksReset, Clf, CutOff, Desk, Entry, FindsReady, GoesOut, IfDue, IfItRuns, IfNoticedUp, IfOff, IsClf}
+use Rattle.node_laws.proofs.Words.{IsEvent, IsLine, IsLinkTold, IsNoticedUp, IsTimely, IsUicc, Link, LinkEnd, LinkEvent, NodeWorld, NoneDue, NoticesAreUp}
+use Rattle.node_laws.proofs.Words.{NumberedEnd, OnFirst, Reset, Running, Site, Step, Tick, TimePasses, Turn, Uicc, Up, after_input, after_near_tick, aged}
+use Rattle.node_laws.proofs.Words.{all_aged, by_controller_tick, by_host_tick, controller_ticks, ending_of, exchanged, from_start, host_tick, host_ticks}
+use Rattle.node_laws.proofs.Words.{hosts_tick, is_due, is_late_at, is_open, is_waiting, link_to, near_tick, new_clf, new_line, new_link_end, new_uicc, port_at}
+use Rattle.node_laws.proofs.Words.{port_for, reset_refusal, runs_on, sent_all, site_at, site_ticked, site_unticked, ticked_so, ticks_at_controller, turned}
+use Rattle.node_laws.proofs.Words.{turns_at, work_of, world_ticks}
+use Rattle.shdlc_core.specs.declared.answers.LinkState.TheVariants.{Down}
 use Rattle.node_laws.proofs.Cases.{by_option, by_test}
 use Rattle.node_laws.proofs.links.Got.{Clean}
 use Rattle.node_laws.proofs.links.Ends.{here_clf, tick_clf, tick_uicc}
 use Rattle.node_laws.proofs.links.Works.{steps_fine}
 use Rattle.node_laws.proofs.links.Sites.{AreNodes, tick_allowed, reset_allowed}
 use Rattle.node_laws.proofs.links.Worlds.{AreTrueDesks, IsFineNode, IsFineSite, AreFineSites, AreClean, near_clean, ports_fine, turns_fine}
-use Rattle.node_laws.specs.telling.Telling.{IfItRuns, is_due, NoneDue, IfOff, IfDue, IsTimely}
 use Rattle.node_laws.proofs.telling.Nodes.{link_is, ports_for}
 use Rattle.node_laws.proofs.telling.Worlds.{site_is}
 use Rattle.node_laws.proofs.telling.WorldTicks.{tick_host, host_turns, between, between_far, near_turns, tick_event, Ticking, ticking}
 use Rattle.node_laws.proofs.telling.WorldTicks.{ticked_at}
-use Rattle.node_machine.proofs.world.Cases.{near_tick, host_tick}
-use Rattle.node_machine.proofs.world.Cases.{after_near_tick, by_controller_tick, by_host_tick, site_ticked, site_unticked}
-use Rattle.node_laws.specs.readings.Noticed.{IfNoticedUp, NoticesAreUp}
 use Rattle.node_laws.proofs.readings.NoticedWorlds.{host_tick_side}
-use Rattle.node_laws.specs.order.Told.{IsLinkTold}
 use Rattle.node_laws.proofs.order.Unnoticed.{IfNone, steps_none, runs_none}
 use Rattle.node_laws.proofs.order.Knowing.{told_more, renewed_clf, renewed_uicc, Knows, Each, later, WasThere, was_there}
 use Rattle.node_laws.proofs.order.TickResets.{IsAnsweredTick, reset_in_tick}

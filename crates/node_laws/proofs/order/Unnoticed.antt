@@ -2,22 +2,12 @@
 use Rattle.std.proofs.Common.{◌≡◌, ◌∙◌, ℕ, ◌==◌, Bool, true, false, List, [], ◌∷◌, refl, ap, length}
 use Rattle.std.specs.Prelude.{Option, Some, None, map}
 use Rattle.std.specs.List.{AllByRecursion, flat_map}
-use Rattle.journal_laws.specs.Planned.{fails_within}
-use Rattle.hci_tables.specs.declared.command.Command.{Command}
-use Rattle.hci_tables.specs.Bodies.{body_of}
-use Rattle.hci_store.specs.Committing.{commit_writes}
-use Rattle.link_laws.specs.machine.Machine.{Message, LinkInput, Turn}
-use Rattle.link_laws.specs.machine.Machine.Turn.{Give, Hold, FetchMessage, Release}
-use Rattle.node_machine.specs.Parts.{Desk, Core, Running, Port, Work, Deed}
-use Rattle.node_machine.specs.Parts.Deed.{Commits, Sends, Asks, Releases, Tells, IsAnswered, SetsErrors, Orders}
-use Rattle.node_machine.specs.Carrying.{port_at, changed_if, with_port, with_desk, after_turn, turn_at, commit, done, all_done}
-use Rattle.node_machine.specs.Controller.{asked_at}
-use Rattle.node_machine.specs.Turns.{deeds_of}
-use Rattle.node_machine.specs.Node.{NodeInput, input_at, has_come, all_come, with_older, is_late, reset_late, times_out, is_over, is_forgotten, forgotten}
-use Rattle.node_machine.specs.Node.{forgets, all_owed, without_notice, after_sessions, synced, steps}
-use Rattle.node_machine.specs.Node.NodeInput.{AtEnd, TimePasses}
-use Rattle.node_machine.specs.world.World.{runs_on}
-use Rattle.node_machine.proofs.Walks.{Plain, OfHost, all_of_host, forgotten_hold, all_owed_hold, all_synced_hold, anyone}
+use Rattle.node_laws.proofs.Words.{Asks, AtEnd, Command, Commits, Core, Deed, Desk, FetchMessage, Give, Hold, IsAnswered, LinkInput, Message, NodeInput, OfHost}
+use Rattle.node_laws.proofs.Words.{Orders, Plain, Port, Release, Releases, Running, Sends, SetsErrors, Tells, TimePasses, Turn, Work, after_sessions}
+use Rattle.node_laws.proofs.Words.{after_turn, all_come, all_done, all_of_host, all_owed, all_owed_hold, all_synced_hold, anyone, asked_at, body_of, changed_if}
+use Rattle.node_laws.proofs.Words.{commit, commit_writes, deeds_of, done, fails_within, forgets, forgotten, forgotten_hold, has_come, input_at, is_forgotten}
+use Rattle.node_laws.proofs.Words.{is_late, is_over, port_at, reset_late, runs_on, steps, synced, times_out, turn_at, with_desk, with_older, with_port}
+use Rattle.node_laws.proofs.Words.{without_notice}
 use Rattle.node_laws.proofs.Cases.{by_option, by_test}
 use Rattle.node_laws.proofs.links.Noticing.{came_node}
 use Rattle.node_laws.proofs.steps.StepWalks.{got_at, all_do, Lasts, rest_lasts}

@@ -3,34 +3,20 @@ use Rattle.std.proofs.Common.{◌≡◌, ℕ, ◌==◌, Bool, true, false, cond,
 use Rattle.std.proofs.Common.{◌++◌, Option, Some, refl, ap, sym, subst, ◌∙◌, append-nil, append_assoc}
 use Rattle.std.specs.List.{fold, list_any}
 use Rattle.std.proofs.lemmas.Bool.{eqb-true, true≢false}
-use Rattle.trace_model.specs.declared.entry.Entry.{Entry}
+use Rattle.node_laws.proofs.Words.{Activates, AreHosts, ArePlayable, Controller, End, Entry, FollowsNodes, Happening, Header, Host, Line, Link, NodeHistory}
+use Rattle.node_laws.proofs.Words.{NodeWorld, Occurrence, Readiness, Resets, Site, Standing, as_event_begins, as_event_ends, behind_reset_of, cuts_on, end_c}
+use Rattle.node_laws.proofs.Words.{entries_in, hosts_in, new_standing, new_world, occurrences_in, of_link, or_none, other_end, readiness_of, said, same_number}
+use Rattle.node_laws.proofs.Words.{site_at, standing, stands_noted, tells_of, without_power, world_behind, world_step, world_ticks}
 use Rattle.trace_model.specs.declared.entry.Entry.TheVariants as entry
-use Rattle.trace_model.specs.declared.line.Header.{Header}
-use Rattle.trace_model.specs.declared.line.Line.{Line}
-use Rattle.trace_model.specs.declared.line.End.{End}
-use Rattle.trace_model.specs.Ends.{other_end}
-use Rattle.link_laws.specs.messages.Links.{Link}
-use Rattle.link_laws.specs.entries.Entries.End.{Controller, Host}
-use Rattle.link_laws.proofs.entries.Lasting.{same_number}
-use Rattle.link_laws.proofs.entries.Sparing.{or_none}
-use Rattle.history.specs.Filters.{said}
 use Rattle.history.specs.Follows.{machine_of}
-use Rattle.node_machine.specs.world.World.{Site, NodeWorld, Happening, end_c, new_world, site_at, world_step, world_ticks}
-use Rattle.node_machine.specs.world.World.Happening.{Resets, Activates}
-use Rattle.node_machine.specs.world.Lines.{Occurrence}
-use Rattle.node_machine.specs.world.NodeHistories.{NodeHistory, FollowsNodes, entries_in, occurrences_in}
-use Rattle.node_laws.specs.links.Runs.{ArePlayable}
-use Rattle.node_laws.specs.kept.Hosts.{AreHosts}
-use Rattle.node_laws.specs.telling.Telling.{tells_of, of_link, hosts_in, world_behind}
-use Rattle.node_laws.specs.telling.Standing.{Readiness, Standing, new_standing, without_power, stands_noted, standing}
-use Rattle.node_laws.specs.telling.Standing.{as_event_begins, as_event_ends, standing_behind}
+use Rattle.node_laws.specs.telling.Standing.{standing_behind}
 use Rattle.node_laws.proofs.Cases.{by_option, by_test}
 use Rattle.node_laws.proofs.telling.Accounts.{of-append}
 use Rattle.node_laws.proofs.telling.Powers.{other_said}
 use Rattle.node_laws.proofs.telling.Lasting.{occurs}
-use Rattle.node_laws.specs.order.Told.{readiness_of, AreBothUp}
-use Rattle.node_laws.specs.order.Resets.{cuts_on, withheld_in, withholds_in, opens_on, ready_at, IsLeftAlone, IsUpheld, ResetNodes}
-use Rattle.node_laws.specs.order.Resets.{IsUpheldInTick, TickResetNodes, behind_reset_of}
+use Rattle.node_laws.specs.order.Told.{AreBothUp}
+use Rattle.node_laws.specs.order.Resets.{withheld_in, withholds_in, opens_on, ready_at, IsLeftAlone, IsUpheld, ResetNodes}
+use Rattle.node_laws.specs.order.Resets.{IsUpheldInTick, TickResetNodes}
 use Rattle.node_laws.proofs.order.Withheld.{AreBelieved, event_believed, loses_one_on, none_lost_behind, none_withheld_on, withholds_on}
 use Rattle.node_laws.proofs.order.Ticking.{ticked_since}
 use Rattle.node_laws.proofs.order.TickResets.{IsAnsweredTick}

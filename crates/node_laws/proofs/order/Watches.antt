@@ -8,39 +8,27 @@ use Rattle.std.proofs.lemmas.List.{length-replicate}
 use Rattle.std.proofs.lemmas.List.Folds.{list_any-append}
 use Rattle.std.proofs.lemmas.List.Sums.{fold-append}
 use mathlib.Core.Bool.{or-true}
-use Rattle.trace_model.specs.declared.entry.Entry.{Entry}
+use Rattle.node_laws.proofs.Words.{Acked, Act, Activates, Active, Begins, Clt, Comes, Controller, Counts, Cut, CutOff, Down, Emit, End, Entry, GaveUp, Gets}
+use Rattle.node_laws.proofs.Words.{Got, Happening, Host, I, IsEvent, IsRunOf, Link, LinkEnd, LinkEvent, LinkInput, Lost, Puts, Restarted, Rset, S, Saying, Sent}
+use Rattle.node_laws.proofs.Words.{Standing, StandsOf, Starts, Stops, TellOf, Took, Turn, Ua, after_input, after_link_events, as_event_begins, as_event_ends}
+use Rattle.node_laws.proofs.Words.{becomes_at, cuts_on, end_of, ended_by, entries, entries_for, event_entries, happens, input_entries, is_of, law_noted}
+use Rattle.node_laws.proofs.Words.{lost_as, lpdu_of, made_active, new_line, new_standing, no_longer_waits, number_of, of_link, or_none, rest_entries, said}
+use Rattle.node_laws.proofs.Words.{said_far, said_near, standing, standing_by_law, stands_noted, stands_said, stands_told, tells_of, told_of, turn_entries}
+use Rattle.node_laws.proofs.Words.{with_ended}
 use Rattle.trace_model.specs.declared.entry.Entry.TheVariants as entry
-use Rattle.trace_model.specs.declared.line.End.{End}
-use Rattle.swp_base.specs.declared.control_frames.Control.TheVariants.{I, S, Rset, Ua, Act, Clt}
-use Rattle.swp_lpdu.specs.Controls.{lpdu_of}
-use Rattle.link_laws.specs.messages.Links.{Link, Comes, LinkEvent, happens, after_link_events, IsEvent}
-use Rattle.link_laws.specs.machine.Machine.{LinkEnd, LinkInput, Turn, after_input, ended_by}
-use Rattle.link_laws.specs.messages.Links.{number_of, with_ended}
-use Rattle.link_laws.specs.messages.Links.Ending.{CutOff}
-use Rattle.link_laws.specs.messages.Links.Comes.{Starts, Stops}
-use Rattle.link_laws.specs.entries.Entries.{End as Side, Entry as Noted, told_of, turn_entries, rest_entries, input_entries, event_entries, entries}
-use Rattle.link_laws.specs.entries.Entries.End.{Controller, Host}
-use Rattle.link_laws.specs.entries.Entries.Entry.{Up, Down, Active, GaveUp, Acked, Got, Sent, Emit, Took, Lost, Tick, Restarted, Cut}
+use Rattle.link_laws.specs.entries.Entries.{End as Side, Entry as Noted}
+use Rattle.link_laws.specs.entries.Entries.Entry.{Up, Tick}
 use Rattle.link_laws.specs.entries.Settled.{withholds, IsReset, rest_of}
-use Rattle.link_laws.proofs.entries.Sparing.{spoils, Spared, Stands, or_none, none_withheld}
-use Rattle.history.specs.Filters.{Saying, said}
-use Rattle.history.specs.Filters.Saying.{Begins, Ends, Sends, Gets, Counts, Puts, Takes, Loses}
+use Rattle.link_laws.proofs.entries.Sparing.{spoils, Spared, Stands, none_withheld}
+use Rattle.history.specs.Filters.Saying.{Ends, Sends, Takes, Loses}
 use Rattle.history.specs.Legal.{resets_on}
-use Rattle.history.specs.Steps.{end_of, entries_for, lost_as}
 use Rattle.history.proofs.legal.Reading.{link_same}
-use Rattle.node_machine.specs.world.World.{Happening}
-use Rattle.node_machine.specs.world.World.Happening.{Activates}
-use Rattle.node_laws.specs.links.Runs.{new_line, IsRunOf}
 use Rattle.node_laws.proofs.Cases.{by_test}
 use Rattle.node_laws.proofs.links.Sites.{run_of_more}
-use Rattle.node_laws.specs.telling.Telling.{is_of, tells_of, of_link, TellOf}
-use Rattle.node_laws.specs.telling.Standing.{Standing, new_standing, with_empty_wires, as_event_begins, with_inactive_ends, as_event_ends, said_near, said_far}
-use Rattle.node_laws.specs.telling.Standing.{stands_said, made_active, no_longer_waits, becomes_at, stands_told}
-use Rattle.node_laws.specs.telling.Standing.{stands_noted, standing}
-use Rattle.node_laws.specs.telling.Standing.{law_noted, standing_by_law, StandsOf}
+use Rattle.node_laws.specs.telling.Standing.{with_empty_wires, with_inactive_ends}
 use Rattle.node_laws.proofs.telling.Accounts.{untold}
 use Rattle.node_laws.proofs.telling.Events.{after-append, entries-append}
-use Rattle.node_laws.specs.order.Resets.{cuts_on, drops_on}
+use Rattle.node_laws.specs.order.Resets.{drops_on}
 use Rattle.node_laws.proofs.order.Withheld.{loses_one_on, spoils_on, withholds_on}
 use Rattle.node_laws.proofs.order.Activations.{kept_act}
 

@@ -3,40 +3,29 @@ use Rattle.std.proofs.Common.{◌≡◌, ℕ, Bool, true, false, List, [], ◌�
 use Rattle.std.specs.Prelude.{drop, not, Some, None}
 use Rattle.std.specs.List.{list_any}
 use Rattle.std.proofs.lemmas.Bool.{true≢false}
-use Rattle.trace_model.specs.declared.entry.Entry.{Entry}
-use Rattle.swp_lpdu.specs.Controls.{lpdu_of}
+use Rattle.node_laws.proofs.Words.{Acked, Active, AsksReset, AtController, Bare, Begins, Clf, Comes, Controller, Counts, Cut, CutOff, Down, Emit, EndState}
+use Rattle.node_laws.proofs.Words.{Ending, Entry, FetchMessage, GaveUp, Gets, Give, GoesOut, Got, Hold, Host, IsClf, IsLine, IsLinkTold, Link, LinkEnd}
+use Rattle.node_laws.proofs.Words.{LinkEvent, Lost, Node, OnWire, Puts, Release, Reset, Restarted, Role, Saying, Seen, Sent, Session, SetAside, Standing}
+use Rattle.node_laws.proofs.Words.{Starts, Step, Stops, Took, Turn, Uicc, after_link_events, aged, aged_entries, aside_refusal, becomes_at, end_of, entries}
+use Rattle.node_laws.proofs.Words.{event_entries, exchanged, frames_on, frames_out, happens, inactive, kept, law_noted, lpdu_of, made_active, new_line}
+use Rattle.node_laws.proofs.Words.{no_longer_waits, no_session, readiness_of, said_far, said_near, same_number, see, see_all, silent, standing, standing_by_law}
+use Rattle.node_laws.proofs.Words.{stands_said, started, step_entries, tick_entries, turn, turned}
 use Rattle.shdlc_core.specs.declared.answers.LinkState.TheVariants.{Down as IsDown}
-use Rattle.shdlc_core.specs.Machine.{EndState, Session, no_session, frame_due, with_ready}
-use Rattle.link_laws.specs.sessions.Sessions.{OnWire, older}
-use Rattle.link_laws.specs.machine.Machine.{LinkEnd, Role, Turn, aside_refusal, turn, turned, started, frames_out}
-use Rattle.link_laws.specs.machine.Machine.LinkInput.{Reset}
-use Rattle.link_laws.specs.machine.Machine.Role.{Bare, Clf, Uicc}
-use Rattle.link_laws.specs.machine.Machine.Turn.{Give, Hold, FetchMessage, SetAside, Release}
-use Rattle.link_laws.specs.messages.Links.{Link, Ending, Comes, Node, LinkEvent, exchanged, aged, put_all, silent, happens, after_link_events, IsClf}
-use Rattle.link_laws.specs.messages.Links.Ending.{GoesOut, CutOff}
-use Rattle.link_laws.specs.messages.Links.Comes.{AsksReset, Starts, Stops}
-use Rattle.link_laws.specs.messages.Links.EndEvent.{Step}
-use Rattle.link_laws.specs.messages.Links.LinkEvent.{AtController}
-use Rattle.link_laws.specs.messages.Links.IsStart.{IsLine}
-use Rattle.link_laws.specs.entries.Entries.{End as Side, Entry as Noted, entries, event_entries, aged_entries, tick_entries, step_entries}
-use Rattle.link_laws.specs.entries.Entries.End.{Controller, Host}
-use Rattle.link_laws.specs.entries.Entries.Entry.{Up, Down, Active, GaveUp, Acked, Got, Sent, Emit, Took, Lost, Tick, Restarted, Cut}
-use Rattle.link_laws.specs.entries.Reading.{Seen, see, see_all, kept, nothing_seen}
+use Rattle.shdlc_core.specs.Machine.{frame_due, with_ready}
+use Rattle.link_laws.specs.sessions.Sessions.{older}
+use Rattle.link_laws.specs.messages.Links.{put_all}
+use Rattle.link_laws.specs.entries.Entries.{End as Side, Entry as Noted}
+use Rattle.link_laws.specs.entries.Entries.Entry.{Up, Tick}
+use Rattle.link_laws.specs.entries.Reading.{nothing_seen}
 use Rattle.link_laws.proofs.entries.Ages.{read_off}
 use Rattle.link_laws.proofs.entries.Seeing.{see_all-append}
-use Rattle.link_laws.proofs.entries.Lasting.{same_number}
-use Rattle.history.specs.Filters.{Saying}
-use Rattle.history.specs.Filters.Saying.{Begins, Ends, Sends, Gets, Counts, Puts, Takes, Loses}
-use Rattle.history.specs.Steps.{end_of}
-use Rattle.node_laws.specs.links.Runs.{new_line}
-use Rattle.node_laws.specs.telling.Standing.{Standing, made_active, no_longer_waits, becomes_at, inactive, said_near}
-use Rattle.node_laws.specs.telling.Standing.{said_far, stands_said, with_empty_wires, standing, law_noted, standing_by_law}
+use Rattle.history.specs.Filters.Saying.{Ends, Sends, Takes, Loses}
+use Rattle.node_laws.specs.telling.Standing.{with_empty_wires}
 use Rattle.node_laws.proofs.Cases.{by_option}
 use Rattle.node_laws.proofs.telling.Powers.{AreClear}
 use Rattle.node_laws.proofs.telling.Shapes.{last_of, IsShaped, shaped_tick, shaped_step, opened_by, IsStepShaped, opened_stands, clear_aged}
 use Rattle.node_laws.proofs.telling.Events.{after-append, entries-append}
 use Rattle.node_laws.proofs.telling.WorldTicks.{between, near_notes, tick_event}
-use Rattle.node_laws.specs.order.Told.{IsLinkTold, readiness_of, frames_on}
 use Rattle.registry.proofs.ValueLemmas.{AllByRecursion-append as all_append}
 use Rattle.node_laws.proofs.order.Withheld.{withholds_on}
 use Rattle.node_laws.proofs.order.Activity.{IsLined}

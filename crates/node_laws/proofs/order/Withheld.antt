@@ -3,22 +3,13 @@ use Rattle.std.proofs.Common.{◌≡◌, ℕ, Bool, true, false, List, [], ◌�
 use Rattle.std.specs.Prelude.{◌==◌, ◌&&◌, ◌||◌, not}
 use Rattle.std.specs.List.{AllByRecursion, list_any}
 use mathlib.Core.Bool.{and-false, or-true}
-use Rattle.trace_model.specs.declared.entry.Entry.{Entry}
+use Rattle.node_laws.proofs.Words.{Activates, Arms, Boots, Controller, End, Entry, Gives, Happening, Host, Inits, IsCut, Loses, Loss, NodeWorld, OnWire, Resets}
+use Rattle.node_laws.proofs.Words.{Takes, Ticks, behind_reset_of, by_loss, cuts_on, end_of, entries_for, first_lost, link_to, lost_as, lpdu_of, or_none, said}
+use Rattle.node_laws.proofs.Words.{world_step}
 use Rattle.trace_model.specs.declared.entry.Entry.TheVariants as entry
-use Rattle.trace_model.specs.declared.line.End.{End}
-use Rattle.swp_lpdu.specs.Controls.{lpdu_of}
-use Rattle.link_laws.specs.messages.Links.{Loss}
-use Rattle.link_laws.specs.sessions.Sessions.{OnWire}
-use Rattle.link_laws.specs.entries.Entries.{End as Side, first_lost}
-use Rattle.link_laws.specs.entries.Entries.End.{Controller, Host}
-use Rattle.link_laws.proofs.entries.Sparing.{or_none}
-use Rattle.history.specs.Filters.{said}
+use Rattle.link_laws.specs.entries.Entries.{End as Side}
 use Rattle.history.specs.Legal.{resets_on}
-use Rattle.history.specs.Steps.{end_of, entries_for, lost_as}
-use Rattle.node_machine.specs.world.World.{NodeWorld, Happening, link_to, world_step}
-use Rattle.node_machine.specs.world.World.Happening.{Boots, IsCut, Gives, Inits, Takes, Loses, Ticks, Resets, Activates, Arms}
-use Rattle.node_machine.proofs.world.Cases.{by_loss}
-use Rattle.node_laws.specs.order.Resets.{behind_reset_of, cuts_on, drops_on, is_act_lpdu, is_lost_by_line, loses_at, loses_one_in, spoils_in, withholds_in}
+use Rattle.node_laws.specs.order.Resets.{drops_on, is_act_lpdu, is_lost_by_line, loses_at, loses_one_in, spoils_in, withholds_in}
 use Rattle.node_laws.specs.answers.Unasked.{is_reset_down}
 use Rattle.node_laws.proofs.Cases.{by_test}
 use Rattle.node_laws.proofs.worlds.Lineless.{AreLineless, event_lineless}

@@ -2,27 +2,18 @@
 use Rattle.std.proofs.Common.{◌≡◌, ℕ, ◌==◌, Bool, true, false, cond, List, [], ◌∷◌, ◌++◌, Option, Some, None, map, refl, ap, sym, subst, ◌∙◌, arith}
 use Rattle.std.specs.List.{flat_map}
 use Rattle.std.proofs.lemmas.Bool.{eqb-true}
-use Rattle.trace_model.specs.declared.entry.Entry.{Entry}
-use Rattle.link_laws.specs.machine.Machine.{LinkEnd, LinkInput, report, whole_acked, after_input}
-use Rattle.link_laws.specs.messages.Links.{NumberedEnd, Link, Comes, number_of}
-use Rattle.link_laws.specs.messages.Links.Comes.{NextFrame}
+use Rattle.node_laws.proofs.Words.{AtEnd, Before, Comes, Controller, Deed, Entry, HasEnds, IsLinkTold, IsOrderly, Link, LinkEnd, LinkInput, NextFrame}
+use Rattle.node_laws.proofs.Words.{NodeInput, NodeWorld, NumberedEnd, Port, Running, Site, Work, after_input, after_sessions, all_come, all_done, all_owed}
+use Rattle.node_laws.proofs.Words.{all_owed_hold, all_synced_hold, arrival, comes_to, comes_to_pass, controller_begins, entries_for, forgets, forgotten}
+use Rattle.node_laws.proofs.Words.{forgotten_hold, has_come, hosts_in, hosts_of_ends, input_at, input_of, link_to, near_end_in, number_of, of_link, port_at}
+use Rattle.node_laws.proofs.Words.{report, site_at, synced, times_out, whole_acked, without_notice, without_power}
 use Rattle.link_laws.specs.entries.Entries.{End as Side, Entry as Noted}
-use Rattle.link_laws.specs.entries.Entries.End.{Controller}
 use Rattle.link_laws.proofs.entries.Noting.{FramesFor}
-use Rattle.link_laws.proofs.entries.Running.{Before, frame_facts}
-use Rattle.history.specs.Steps.{entries_for}
-use Rattle.node_machine.specs.Parts.{Running, Port, Work, Deed}
-use Rattle.node_machine.specs.Carrying.{port_at, all_done}
-use Rattle.node_machine.specs.Node.{NodeInput, input_at, has_come, all_come, times_out, forgotten, forgets, all_owed, without_notice, after_sessions, synced}
-use Rattle.node_machine.specs.Node.NodeInput.{AtEnd}
-use Rattle.node_machine.specs.world.World.{Site, NodeWorld, site_at, link_to, input_of, near_end_in, arrival, comes_to}
-use Rattle.node_laws.specs.kept.Books.{hosts_of_ends}
+use Rattle.link_laws.proofs.entries.Running.{frame_facts}
 use Rattle.node_laws.proofs.Cases.{by_test, by_list}
 use Rattle.node_laws.proofs.kept.Plainly.{hosts_map}
 use Rattle.node_laws.proofs.links.Works.{IsFineWork, map_fine, came_fine, without_fine, forgets_fine}
 use Rattle.node_laws.proofs.links.Worlds.{IsFineWorld, near_end_clean, near_clean, fine_clean, ports_fine}
-use Rattle.node_laws.specs.telling.Telling.{of_link, HasEnds, hosts_in, IsOrderly}
-use Rattle.node_laws.specs.telling.Standing.{without_power}
 use Rattle.node_laws.proofs.telling.Mute.{forgotten_mute, all_owed_mute, all_synced_mute}
 use Rattle.node_laws.proofs.steps.StepWalks.{unless}
 use Rattle.node_laws.proofs.telling.Powers.{AreClear, entries_uncut, came_uncut}
@@ -33,16 +24,13 @@ use Rattle.node_laws.proofs.telling.Steps.{notes-append, Opening, GoesLate, came
 use Rattle.node_laws.proofs.telling.Nodes.{hosts_same, opened, given, is_so}
 use Rattle.node_laws.proofs.telling.Worlds.{node_is}
 use Rattle.node_laws.proofs.steps.Ports.{come_host, forgets_host, without_host}
-use Rattle.node_laws.specs.order.Told.{IsLinkTold}
 use Rattle.node_laws.proofs.order.Lines.{host_number}
 use Rattle.node_laws.proofs.order.Ticking.{some_desks}
 use Rattle.node_laws.proofs.read_rooms.Coming.{Came, has_come_so}
 use Rattle.node_laws.proofs.read_rooms.Reading.{AreNoted, its_notes, are_noted, before_near, near_says}
 use Rattle.node_laws.proofs.read_rooms.Carrying.{Carries}
 use Rattle.node_laws.proofs.read_rooms.Lasting.{IsCarried, carried_deeds}
-use Rattle.node_machine.proofs.Walks.{forgotten_hold, all_owed_hold, all_synced_hold}
 use Rattle.node_laws.proofs.links.Deeds.{IsFine, low}
-use Rattle.node_laws.specs.passes.Steps.{comes_to_pass, controller_begins}
 
 -- ## One end
 

@@ -2,17 +2,11 @@
 use Rattle.std.proofs.Common.{◌≡◌, ℕ, ◌==◌, Bool, true, false, List, [], ◌∷◌, ◌++◌, Option, Some, None, map, refl, ap, sym, subst, ◌∙◌, append_assoc}
 use Rattle.std.specs.Option.{option_map_or}
 use Rattle.std.proofs.lemmas.Bool.{true≢false}
-use Rattle.trace_model.specs.declared.entry.Entry.{Entry}
+use Rattle.node_laws.proofs.Words.{AreSendableTurns, Core, Desk, Entry, NumberedEnd, Port, Turn, Work, Write, after_turn, changed_if, entries_for, loses_power}
+use Rattle.node_laws.proofs.Words.{noted_of, noting, number_of, of_link, own_side, port_at, turn_at, turn_entries, turn_entry, turned, with_desk}
 use Rattle.trace_model.specs.declared.entry.Entry.TheVariants as entry
-use Rattle.journal_laws.specs.Writes.{Write}
-use Rattle.link_laws.specs.machine.Machine.{Turn, turned}
-use Rattle.link_laws.specs.messages.Links.{NumberedEnd, number_of, AreSendableTurns}
-use Rattle.link_laws.specs.entries.Entries.{End as Side, Entry as Noted, turn_entry, turn_entries}
+use Rattle.link_laws.specs.entries.Entries.{End as Side, Entry as Noted}
 use Rattle.link_laws.proofs.entries.Books.{with_side}
-use Rattle.history.specs.Steps.{entries_for}
-use Rattle.node_machine.specs.Parts.{Desk, Core, Port, Work}
-use Rattle.node_machine.specs.Carrying.{own_side, noting, port_at, changed_if, with_desk, after_turn, noted_of, turn_at, loses_power}
-use Rattle.node_laws.specs.telling.Telling.{of_link}
 use Rattle.registry.proofs.ValueLemmas.{AllByRecursion-append as all_append}
 use Rattle.node_laws.proofs.Cases.{by_option}
 use Rattle.node_laws.proofs.telling.Walks.{AreSilent, AreUncut, IsUncut}

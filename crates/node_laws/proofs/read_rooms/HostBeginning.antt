@@ -1,39 +1,25 @@
 -- What is known of the end of a host as it begins to go through its messages in a step.
 use Rattle.std.proofs.Common.{◌≡◌, ℕ, ◌==◌, false, cond, List, [], ◌∷◌, Some, None, map, refl, ap, sym, subst, ◌∙◌}
 use Rattle.std.proofs.lemmas.Bool.{eqb-true}
-use Rattle.trace_model.specs.declared.entry.Entry.{Entry}
-use Rattle.link_laws.specs.machine.Machine.{LinkInput}
-use Rattle.link_laws.specs.messages.Links.{Comes, exchanged}
+use Rattle.node_laws.proofs.Words.{AtEnd, Comes, Controller, Entry, HasEnds, Host, IsLinkTold, LinkInput, Port, Running, Site, Work, after_sessions, all_come}
+use Rattle.node_laws.proofs.Words.{arrival, comes_to_pass, exchanged, forgets, has_come, host_begins_step, hosts_of_ends, input_at, input_of, near_end_in}
+use Rattle.node_laws.proofs.Words.{port_at, same_number, without_notice, without_power}
 use Rattle.link_laws.specs.entries.Entries.{Entry as Noted}
-use Rattle.link_laws.specs.entries.Entries.End.{Host}
-use Rattle.link_laws.proofs.entries.Lasting.{same_number}
-use Rattle.node_machine.specs.Parts.{Running, Port, Work}
-use Rattle.node_machine.specs.Carrying.{port_at}
-use Rattle.node_machine.specs.Node.{input_at, has_come, all_come, forgets, without_notice, after_sessions}
-use Rattle.node_machine.specs.Node.NodeInput.{AtEnd}
-use Rattle.node_machine.specs.world.World.{Site, input_of, near_end_in, arrival}
-use Rattle.node_laws.specs.kept.Books.{hosts_of_ends}
 use Rattle.node_laws.proofs.Cases.{by_test}
 use Rattle.node_laws.proofs.kept.Plainly.{hosts_map}
 use Rattle.node_laws.proofs.links.Worlds.{IsFineSite, near_end_clean, ports_fine}
-use Rattle.node_laws.specs.telling.Telling.{HasEnds}
-use Rattle.node_laws.specs.telling.Standing.{without_power}
 use Rattle.node_laws.proofs.telling.Powers.{entries_uncut, came_uncut}
 use Rattle.node_laws.proofs.telling.Shapes.{twice}
 use Rattle.node_laws.proofs.telling.Accounts.{at_host}
 use Rattle.node_laws.proofs.telling.Steps.{Opening, came}
 use Rattle.node_laws.proofs.telling.Nodes.{hosts_same, is_step, host_opened}
 use Rattle.node_laws.proofs.steps.Ports.{come_host, forgets_host, without_host}
-use Rattle.link_laws.specs.entries.Entries.End.{Controller}
-use Rattle.node_laws.specs.order.Told.{IsLinkTold}
 use Rattle.node_laws.proofs.order.Ticking.{some_desks}
-use Rattle.node_laws.specs.read_rooms.Moments.{host_begins_step}
 use Rattle.node_laws.proofs.read_rooms.Coming.{has_come_so}
 use Rattle.node_laws.proofs.read_rooms.Reading.{its_notes, are_noted, before_far, far_says}
 use Rattle.node_laws.proofs.read_rooms.Carrying.{Carries}
 use Rattle.node_laws.proofs.read_rooms.Lasting.{IsCarried}
 use Rattle.node_laws.proofs.read_rooms.Beginning.{carries_from, frames_for, pass_carried, begun_fine}
-use Rattle.node_laws.specs.passes.Steps.{comes_to_pass}
 
 -- where a node has one end, it is the one of the link with this host
 pub only_end : (ports : List Port) (n h : ℕ) (p : Port) → hosts_of_ends ports ≡ n ∷ [] → port_at ports h ≡ Some p → n ≡ h

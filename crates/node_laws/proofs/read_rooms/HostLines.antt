@@ -1,35 +1,21 @@
 -- Of hosts in worlds behind the events of a history.
 use Rattle.std.proofs.Common.{◌≡◌, ℕ, ◌==◌, false, List, [], ◌∷◌, ◌++◌, Some, refl, sym, subst, append-nil}
-use Rattle.trace_model.specs.declared.entry.Entry.{Entry}
-use Rattle.link_laws.specs.machine.Machine.{LinkInput}
-use Rattle.link_laws.specs.machine.Machine.LinkInput.{Start}
-use Rattle.link_laws.specs.messages.Links.{Comes, LinkEvent, exchanged}
-use Rattle.link_laws.specs.messages.Links.Comes.{Starts}
-use Rattle.link_laws.specs.messages.Links.EndEvent.{Step}
-use Rattle.link_laws.specs.messages.Links.LinkEvent.{AtController}
-use Rattle.link_laws.specs.entries.Entries.End.{Host}
-use Rattle.node_machine.specs.Parts.{Running, Work}
-use Rattle.node_machine.specs.Node.{steps}
-use Rattle.node_machine.specs.Node.NodeInput.{AtEnd, TimePasses}
-use Rattle.node_machine.specs.world.World.{Site, NodeWorld, site_at, input_of, ending_of, turns_at, comes_to, controller_work, link_after_controller}
-use Rattle.node_machine.specs.world.World.{after_controller}
-use Rattle.node_machine.specs.world.World.{all_aged, controller_ticks, hosts_tick, comes_at, end_c}
-use Rattle.node_machine.specs.world.Lines.{Occurrence}
-use Rattle.node_machine.specs.world.NodeHistories.{entries_in}
+use Rattle.node_laws.proofs.Words.{ArePortsRead, AtController, AtEnd, Comes, Entry, HasEnds, HoldsInStep, Host, IfItRuns, IsLinkTold, IsOrderly, LinkEvent}
+use Rattle.node_laws.proofs.Words.{LinkInput, NodeWorld, Occurrence, Running, Site, Start, Starts, Step, TimePasses, Work, after_controller, all_aged, comes_at}
+use Rattle.node_laws.proofs.Words.{comes_to, controller_ticks, controller_work, end_c, ending_of, entries_in, exchanged, host_begins_step, hosts_tick, input_of}
+use Rattle.node_laws.proofs.Words.{link_after_controller, site_at, steps, turns_at}
 use Rattle.node_laws.proofs.Cases.{by_option}
 use Rattle.node_laws.proofs.links.Works.{steps_fine}
 use Rattle.node_laws.proofs.links.Worlds.{IsFineSite, IsFineWorld, controller_fine}
-use Rattle.node_laws.specs.telling.Telling.{HasEnds, IfItRuns, IsOrderly}
 use Rattle.node_laws.proofs.telling.Nodes.{site_host}
 use Rattle.node_laws.proofs.telling.Worlds.{site_is, node_is}
 use Rattle.node_laws.proofs.telling.Events.{comes_goes}
-use Rattle.node_laws.specs.order.Told.{IsLinkTold}
 use Rattle.node_laws.proofs.order.Lines.{IsSo, watches, of_none}
 use Rattle.node_laws.proofs.order.Watches.{IsStepOf}
 use Rattle.node_laws.proofs.order.Knowing.{told_more, WasThere, was_there}
 use Rattle.node_laws.proofs.order.Events.{near_step}
 use Rattle.node_laws.proofs.order.Ticking.{timely}
-use Rattle.node_laws.specs.read_rooms.Moments.{HoldsInStep, host_begins_step, host_tick_begins, ArePortsRead}
+use Rattle.node_laws.specs.read_rooms.Moments.{host_tick_begins}
 use Rattle.node_laws.proofs.read_rooms.HostBeginning.{host_carried}
 use Rattle.node_laws.proofs.read_rooms.HostTicking.{host_tick_read}
 use Rattle.node_laws.proofs.read_rooms.Turning.{step_read}

@@ -4,38 +4,23 @@ use Rattle.std.proofs.Common.{◌≡◌, ℕ, ◌==◌, Bool, true, false, List,
 use Rattle.std.proofs.Common.{append_assoc}
 use Rattle.std.specs.Prelude.{is_some}
 use Rattle.std.specs.List.{AllByRecursion}
-use Rattle.trace_model.specs.declared.entry.Entry.{Entry}
-use Rattle.link_laws.specs.machine.Machine.{turned, after_input, ended_by}
-use Rattle.link_laws.specs.machine.Machine.LinkInput.{Tick, Reset}
-use Rattle.link_laws.specs.messages.Links.{NumberedEnd, Link, Node, exchanged, aged, with_ended, AreSendableTurns, IsNode}
-use Rattle.link_laws.specs.messages.Links.Comes.{AsksReset, NoInput}
-use Rattle.link_laws.specs.messages.Links.EndEvent.{Step}
-use Rattle.link_laws.specs.messages.Projection.{core_of}
-use Rattle.link_laws.proofs.messages.Project.{host_ended}
+use Rattle.node_laws.proofs.Words.{AreDifferent, ArePortsRead, AreSendableTurns, AsksReset, Before, Controller, Entry, HasEnds, HoldsInStep, Host, IfItRuns}
+use Rattle.node_laws.proofs.Words.{IsLinkTold, IsNode, IsOrderly, IsTimely, Link, NoInput, Node, NodeWorld, NoneDue, NumberedEnd, Port, Reset, Running, Site}
+use Rattle.node_laws.proofs.Words.{Step, Tick, TimePasses, Work, after_input, after_sessions, aged, all_aged, all_come, comes_to_pass, controller_ticks}
+use Rattle.node_laws.proofs.Words.{core_of, ended_by, exchanged, forgets, has_come, host_ended, host_finished, hosts_in, hosts_of_ends, hosts_tick, number_now}
+use Rattle.node_laws.proofs.Words.{reset_late, same_number, site_at, step_entries, times_out, turned, with_ended, with_older, without_notice, without_power}
 use Rattle.link_laws.proofs.messages.Runs.{rests_of}
-use Rattle.link_laws.specs.entries.Entries.{Entry as Noted, step_entries}
-use Rattle.link_laws.specs.entries.Entries.End.{Controller, Host}
-use Rattle.link_laws.specs.entries.Sessions.{number_now}
-use Rattle.link_laws.proofs.entries.Lasting.{same_number}
+use Rattle.link_laws.specs.entries.Entries.{Entry as Noted}
 use Rattle.link_laws.proofs.entries.Books.{read, plus, plus-blank, read-append}
 use Rattle.link_laws.proofs.entries.Fronts.{OfOne, one-append, front_read}
-use Rattle.link_laws.proofs.entries.Stepping.{one_step, one_input, host_finished}
+use Rattle.link_laws.proofs.entries.Stepping.{one_step, one_input}
 use Rattle.link_laws.proofs.entries.Noting.{Near as NearOf}
-use Rattle.link_laws.proofs.entries.Running.{Before}
 use Rattle.link_laws.proofs.entries.Hearing.{heard, heard-append, Passes, passes-append, tick_heard, own_heard}
-use Rattle.node_machine.specs.Parts.{Running, Port, Work}
-use Rattle.node_machine.specs.Node.{has_come, all_come, with_older, reset_late, times_out, forgets, without_notice, after_sessions}
-use Rattle.node_machine.specs.Node.NodeInput.{TimePasses}
-use Rattle.node_machine.specs.world.World.{Site, NodeWorld, site_at, all_aged, controller_ticks, hosts_tick}
-use Rattle.node_laws.specs.kept.Books.{hosts_of_ends}
-use Rattle.node_laws.specs.kept.Hosts.{AreDifferent}
 use Rattle.node_laws.proofs.Cases.{by_option}
 use Rattle.node_laws.proofs.kept.Plainly.{hosts_map}
 use Rattle.node_laws.proofs.links.Got.{Clean}
 use Rattle.node_laws.proofs.links.Sites.{clf_line, can_end}
 use Rattle.node_laws.proofs.links.Worlds.{IsFineSite, IsFineWorld, ports_fine}
-use Rattle.node_laws.specs.telling.Telling.{HasEnds, IfItRuns, hosts_in, IsOrderly, NoneDue, IsTimely}
-use Rattle.node_laws.specs.telling.Standing.{without_power}
 use Rattle.node_laws.proofs.telling.Powers.{came_uncut}
 use Rattle.node_laws.proofs.telling.Shapes.{twice}
 use Rattle.node_laws.proofs.telling.Steps.{Opening}
@@ -45,10 +30,9 @@ use Rattle.node_laws.proofs.telling.Worlds.{site_is, node_is}
 use Rattle.node_laws.proofs.telling.Events.{orderly_map}
 use Rattle.node_laws.proofs.telling.WorldTicks.{young_ports, other_hosts, others_leave, between, near_notes, near_orderly, first, old_told, aged_uncut}
 use Rattle.node_laws.proofs.steps.Ports.{forgets_host, without_host, late_host}
-use Rattle.node_laws.specs.order.Told.{IsLinkTold}
 use Rattle.node_laws.proofs.order.Ticking.{some_desks, aged_clean, near_sends, near_none}
 use Rattle.node_laws.proofs.turns.Works.{site_none}
-use Rattle.node_laws.specs.read_rooms.Moments.{HoldsInStep, host_tick_begins, ArePortsRead}
+use Rattle.node_laws.specs.read_rooms.Moments.{host_tick_begins}
 use Rattle.node_laws.proofs.read_rooms.Inputs.{Says, says_silent}
 use Rattle.node_laws.proofs.read_rooms.Coming.{has_ticked_so}
 use Rattle.node_laws.proofs.read_rooms.Reading.{AreNoted, noted_then, noted_more, its_notes, are_noted, before_near, far_says}
@@ -58,7 +42,6 @@ use Rattle.node_laws.proofs.read_rooms.Beginning.{carries_from, pass_carried, be
 use Rattle.node_laws.proofs.read_rooms.HostBeginning.{only_end}
 use Rattle.node_laws.proofs.read_rooms.Ticking.{aged_notes, aged_notes_clear, says_aged}
 use Rattle.node_laws.proofs.read_rooms.Turning.{step_read}
-use Rattle.node_laws.specs.passes.Steps.{comes_to_pass}
 
 -- ## What the tick of the controller's end notes says nothing of the host's
 

@@ -2,18 +2,15 @@
 use Rattle.std.proofs.Common.{◌≡◌, false, List, [], ◌∷◌, ◌++◌, None, refl, ap, sym, ◌∙◌}
 use Rattle.std.specs.Prelude.{is_some, max}
 use Rattle.std.proofs.lemmas.Bool.{true≢false}
-use Rattle.link_laws.specs.sessions.Sessions.{OnWire, took_with}
-use Rattle.link_laws.specs.machine.Machine.{LinkInput, Turn, turned, after_input, ended_by, began_by, report, whole_acked}
-use Rattle.link_laws.specs.machine.Machine.LinkInput.{Take}
+use Rattle.node_laws.proofs.Words.{AreSendableTurns, Link, LinkInput, NumberedEnd, OnWire, Take, Took, Turn, after_input, ended_by, number_now, number_of}
+use Rattle.node_laws.proofs.Words.{report, told, told_of, took_with, turn_entries, turned, turned_same, whole_acked}
+use Rattle.link_laws.specs.machine.Machine.{began_by}
 use Rattle.link_laws.proofs.machine.Runs.{Sound, sound_input}
 use Rattle.link_laws.proofs.machine.Reports.{Reports, take_so}
-use Rattle.link_laws.specs.messages.Links.{NumberedEnd, Link, number_of, AreSendableTurns}
-use Rattle.link_laws.specs.entries.Entries.{End as Side, Entry as Noted, told, told_of, turn_entries}
-use Rattle.link_laws.specs.entries.Entries.Entry.{Took}
-use Rattle.link_laws.specs.entries.Sessions.{number_now}
+use Rattle.link_laws.specs.entries.Entries.{End as Side, Entry as Noted}
 use Rattle.link_laws.proofs.entries.Books.{Silent, Told, Input, told_silent, told_input, past_after, with_side}
 use Rattle.link_laws.proofs.entries.Stepping.{sound_turns, told_turns}
-use Rattle.link_laws.proofs.entries.Noting.{turned_same, Frame}
+use Rattle.link_laws.proofs.entries.Noting.{Frame}
 use Rattle.link_laws.proofs.entries.Hearing.{heard, heard-append, Passes, same_session, heard_told, shifted, passes_turns}
 
 -- these notes say what an end has of its sessions, and which one it has now

@@ -1,18 +1,13 @@
 -- What is known of the ends of a node lasts over its turns.
 use Rattle.std.proofs.Common.{◌≡◌, ℕ, false, List, ◌∷◌, ◌++◌, Some, sym, subst, ◌∙◌}
-use Rattle.trace_model.specs.declared.entry.Entry.{Entry}
-use Rattle.hcp_packet.specs.Packets.{IsSendable, AreSendable}
-use Rattle.link_laws.specs.machine.Machine.{Message}
+use Rattle.node_laws.proofs.Words.{ArePortsRead, AreSendable, Deed, Entry, IsSendable, Message, Port, Work, all_done, deeds_of, end_of, handles, holds_back}
+use Rattle.node_laws.proofs.Words.{lets_go, port_at}
 use Rattle.link_laws.specs.entries.Entries.{End as Side}
-use Rattle.history.specs.Steps.{end_of}
-use Rattle.node_machine.specs.Parts.{Port, Work, Deed}
-use Rattle.node_machine.specs.Carrying.{port_at, all_done}
-use Rattle.node_machine.specs.Turns.{deeds_of, handles, holds_back, lets_go}
 use Rattle.node_laws.proofs.links.Deeds.{AreFine}
 use Rattle.node_laws.proofs.links.Works.{IsFineWork, fine_at, deeds_fine, handles_fine, holds_fine, lets_fine, all_done_fine}
 use Rattle.node_laws.proofs.telling.Mute.{AreMute, deeds_mute}
 use Rattle.node_laws.proofs.telling.Walks.{all_last, handling, holds, lets, plainly, any}
-use Rattle.node_laws.specs.read_rooms.Moments.{IsPortRead, ArePortsRead}
+use Rattle.node_laws.specs.read_rooms.Moments.{IsPortRead}
 use Rattle.node_laws.proofs.read_rooms.Carrying.{Carries, AllCarry, carry_note, carry_desk, carry_turns, carry_beside, carry_loses}
 use Rattle.node_laws.proofs.read_rooms.Ports.{port_read}
 

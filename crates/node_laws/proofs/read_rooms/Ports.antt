@@ -1,22 +1,12 @@
 -- What is read of an end in a step is what it has there.
 use Rattle.std.proofs.Common.{◌≡◌, ℕ, List, ◌++◌, Option, Some, None, refl, ap, sym, ◌∙◌}
 use Rattle.std.specs.Prelude.{if◌then◌else◌, drop}
-use Rattle.trace_model.specs.declared.entry.Entry.{Entry}
-use Rattle.trace_model.specs.declared.line.End.{End}
-use Rattle.shdlc_core.specs.declared.answers.LinkState.{LinkState}
-use Rattle.shdlc_core.specs.declared.answers.LinkState.TheVariants.{Up}
-use Rattle.link_laws.specs.sessions.Sessions.{is_up}
-use Rattle.link_laws.specs.machine.Machine.{LinkEnd, spare, whole_acked}
-use Rattle.link_laws.specs.messages.Links.{NumberedEnd, number_of, talk_of, AreSendableTurns}
+use Rattle.node_laws.proofs.Words.{AreSendableTurns, Controller, End, Entry, Host, IsReadOff, LinkEnd, LinkState, NumberedEnd, Port, Up, Work, end_of, is_up}
+use Rattle.node_laws.proofs.Words.{node_of, number_of, session_now, spare, talk_of, whole_acked}
 use Rattle.link_laws.specs.entries.Entries.{End as Side, Entry as Noted}
-use Rattle.link_laws.specs.entries.Entries.End.{Controller, Host}
 use Rattle.link_laws.specs.entries.Sessions.{number_now as own_session}
-use Rattle.history.specs.Steps.{end_of}
-use Rattle.node_machine.specs.Parts.{Port, Work}
-use Rattle.node_machine.specs.world.World.{node_of}
-use Rattle.node_machine.specs.world.NodeFilters.{session_now, unacknowledged_in}
+use Rattle.node_machine.specs.world.NodeFilters.{unacknowledged_in}
 use Rattle.node_laws.proofs.telling.Walks.{AreUncut}
-use Rattle.node_laws.specs.order.Told.{IsReadOff}
 use Rattle.node_laws.proofs.order.Sessions.{node_on}
 use Rattle.node_laws.proofs.notices.Sparing.{spare_is}
 use Rattle.node_laws.proofs.rooms.Holding.{held_is, end_is}

@@ -1,29 +1,18 @@
 -- What is read of an end off entries that tell of its link what these notes do.
 use Rattle.std.proofs.Common.{◌≡◌, ℕ, ◌==◌, false, List, ◌++◌, refl, ap, sym, subst, ◌∙◌}
 use Rattle.std.proofs.lemmas.List.Sums.{fold-append}
-use Rattle.trace_model.specs.declared.entry.Entry.{Entry}
-use Rattle.link_laws.specs.messages.Links.{NumberedEnd, Link, exchanged, talk_of}
-use Rattle.link_laws.specs.messages.Links.IsStart.{IsLine}
-use Rattle.link_laws.specs.messages.Projection.{core_of}
-use Rattle.link_laws.proofs.messages.Runs.{Good, Reached}
-use Rattle.link_laws.proofs.messages.Whole.{from_start, reached}
-use Rattle.link_laws.specs.entries.Entries.{End as Side, Entry as Noted, entries}
-use Rattle.link_laws.specs.entries.Entries.End.{Controller, Host}
+use Rattle.node_laws.proofs.Words.{Before, Controller, Entry, Good, Host, IsLine, IsLinkTold, IsReadOff, Link, NumberedEnd, Reached, Standing, acked-all}
+use Rattle.node_laws.proofs.Words.{core_of, end_of, entries, entries_for, exchanged, from_start, got-all, law_noted, new_line, new_standing, of_link, reached}
+use Rattle.node_laws.proofs.Words.{sent-all, session_now, standing, standing_by_law, stands_noted, talk_of}
+use Rattle.link_laws.specs.entries.Entries.{End as Side, Entry as Noted}
 use Rattle.link_laws.specs.entries.Sessions.{IsRead, number_now as own_session}
 use Rattle.link_laws.proofs.entries.Books.{Book, read, book_of}
 use Rattle.link_laws.proofs.entries.Heard.{controller_heard, host_heard}
-use Rattle.link_laws.proofs.entries.Running.{Sounds, Before, before_here, before_there, read_here, read_there}
-use Rattle.history.specs.Steps.{end_of, entries_for}
-use Rattle.history.proofs.legal.Noted.{sent-all, got-all, acked-all}
-use Rattle.node_machine.specs.world.NodeFilters.{session_now}
-use Rattle.node_laws.specs.links.Runs.{new_line}
-use Rattle.node_laws.specs.telling.Telling.{of_link}
-use Rattle.node_laws.specs.telling.Standing.{Standing, new_standing, stands_noted, standing, law_noted, standing_by_law}
+use Rattle.link_laws.proofs.entries.Running.{Sounds, before_here, before_there, read_here, read_there}
 use Rattle.node_laws.proofs.telling.Walks.{AreUncut}
 use Rattle.node_laws.proofs.telling.Powers.{AreClear, clear_stands}
 use Rattle.node_laws.proofs.telling.Accounts.{of-append}
 use Rattle.node_laws.proofs.telling.Steps.{notes-append}
-use Rattle.node_laws.specs.order.Told.{IsLinkTold, IsReadOff}
 use Rattle.node_laws.proofs.order.Prefix.{sent_alike, got_alike, acked_alike}
 use Rattle.node_laws.proofs.order.Sessions.{part, node_on, all_read, all_law}
 use Rattle.node_laws.proofs.rooms.Holding.{told_sounds}

@@ -1,27 +1,16 @@
 -- What is known of the ends of the controller as it begins to go through them in its tick.
 use Rattle.std.proofs.Common.{◌≡◌, ℕ, ◌==◌, true, false, List, [], ◌∷◌, ◌++◌, Option, Some, None, map, refl, subst, ◌∙◌}
 use Rattle.std.specs.Prelude.{nat_lt}
-use Rattle.trace_model.specs.declared.entry.Entry.{Entry}
-use Rattle.link_laws.specs.sessions.Sessions.{OnWire}
-use Rattle.link_laws.specs.machine.Machine.LinkInput.{Tick, Reset}
-use Rattle.link_laws.specs.messages.Links.{NumberedEnd, Link, aged}
-use Rattle.link_laws.specs.messages.Links.Comes.{AsksReset, NoInput}
-use Rattle.link_laws.specs.messages.Links.Loss.{TooOld}
-use Rattle.link_laws.specs.entries.Entries.{End as Side, Entry as Noted, aged_entries}
-use Rattle.link_laws.specs.entries.Entries.End.{Controller, Host}
-use Rattle.link_laws.specs.entries.Entries.Entry.{Lost}
+use Rattle.node_laws.proofs.Words.{AsksReset, Controller, Desk, Entry, HasEnds, Host, IfDue, IsLinkTold, IsOrderly, IsTimely, Link, Lost, NoInput, NodeWorld}
+use Rattle.node_laws.proofs.Words.{NumberedEnd, OnWire, Port, Reset, Running, Site, Tick, TimePasses, TooOld, Work, after_sessions, aged, aged_entries}
+use Rattle.node_laws.proofs.Words.{all_aged, all_come, comes_to_pass, forgets, has_come, hosts_in, hosts_of_ends, is_late, link_to, reset_late, site_at}
+use Rattle.node_laws.proofs.Words.{times_out, with_older, without_notice, without_power}
+use Rattle.link_laws.specs.entries.Entries.{End as Side, Entry as Noted}
 use Rattle.link_laws.proofs.entries.Books.{Silent, silent-append, silent_cons}
 use Rattle.link_laws.proofs.entries.Hearing.{passes-append, passes_aged}
-use Rattle.node_machine.specs.Parts.{Desk, Running, Port, Work}
-use Rattle.node_machine.specs.Node.{has_come, all_come, with_older, is_late, reset_late, times_out, forgets, without_notice, after_sessions}
-use Rattle.node_machine.specs.Node.NodeInput.{TimePasses}
-use Rattle.node_machine.specs.world.World.{Site, NodeWorld, site_at, link_to, all_aged}
-use Rattle.node_laws.specs.kept.Books.{hosts_of_ends}
 use Rattle.node_laws.proofs.Cases.{by_test}
 use Rattle.node_laws.proofs.kept.Plainly.{hosts_map}
 use Rattle.node_laws.proofs.links.Worlds.{IsFineWorld, near_clean, ports_fine}
-use Rattle.node_laws.specs.telling.Telling.{HasEnds, hosts_in, IsOrderly, IfDue, IsTimely}
-use Rattle.node_laws.specs.telling.Standing.{without_power}
 use Rattle.node_laws.proofs.telling.Powers.{AreClear, came_uncut}
 use Rattle.node_laws.proofs.telling.Shapes.{clear-append, clear_aged, twice}
 use Rattle.node_laws.proofs.telling.Steps.{Opening}
@@ -30,7 +19,6 @@ use Rattle.node_laws.proofs.telling.Nodes.{hosts_same}
 use Rattle.node_laws.proofs.telling.Worlds.{node_is}
 use Rattle.node_laws.proofs.telling.WorldTicks.{opened, up_late, old_orderly, old_found, old_told, aged_uncut}
 use Rattle.node_laws.proofs.steps.Ports.{forgets_host, without_host, late_host}
-use Rattle.node_laws.specs.order.Told.{IsLinkTold}
 use Rattle.node_laws.proofs.order.Lines.{host_number}
 use Rattle.node_laws.proofs.order.Knowing.{WasThere, was_there}
 use Rattle.node_laws.proofs.order.Ticking.{some_desks, aged_clean}
@@ -40,7 +28,7 @@ use Rattle.node_laws.proofs.read_rooms.Reading.{AreNoted, noted_more, its_notes,
 use Rattle.node_laws.proofs.read_rooms.Carrying.{Carries}
 use Rattle.node_laws.proofs.read_rooms.Lasting.{IsCarried}
 use Rattle.node_laws.proofs.read_rooms.Beginning.{carries_from, HasSite, site_for, pass_carried, begun_fine}
-use Rattle.node_laws.specs.passes.Steps.{comes_to_pass, controller_tick_begins}
+use Rattle.node_laws.specs.passes.Steps.{controller_tick_begins}
 
 -- ## Frames that are too old
 

@@ -2,23 +2,15 @@
 use Rattle.std.proofs.Common.{◌≡◌, ℕ, ◌&&◌, Bool, true, false, cond, eqb, List, map, sym, refl, ap, ◌∙◌}
 use Rattle.std.specs.Prelude.{Option, Some, None, Result, Ok, Err}
 use Rattle.std.specs.Option.{option_map}
-use Rattle.hcp_packet.specs.declared.MessageKind.{MessageKind}
+use Rattle.node_laws.proofs.Words.{About, Answer, Ask, Commit, Creation, Decision, Deed, IsSameView, Message, MessageFault, MessageKind, Tells, agreed, body_in}
+use Rattle.node_laws.proofs.Words.{commit_deeds, controller_deeds, decided, decision_deeds, has, header_of, own_gate}
 use Rattle.hcp_packet.specs.declared.MessageKind.TheVariants.{Command as IsCommand, Event as IsEvent, Response as IsResponse}
-use Rattle.hcp_packet.specs.declared.MessageFault.{MessageFault}
-use Rattle.hcp_packet.specs.MessageHeader.{header_of}
-use Rattle.gate_answers.specs.Answers.{body_in}
-use Rattle.gate_admin.specs.declared.decision.Decision.{Decision}
-use Rattle.gate_admin.specs.declared.decision.Decision.TheVariants.{Answer, Commit, Ask}
-use Rattle.gate_admin.specs.View.{has, hosts_where}
-use Rattle.gate_admin.specs.Decide.{decided}
-use Rattle.link_laws.specs.machine.Machine.{Message}
-use Rattle.node_machine.specs.Parts.{Creation, About, Deed, OwnView, NodeView}
-use Rattle.node_machine.specs.Parts.Deed.{Tells}
-use Rattle.node_machine.specs.Controller.{creation_of, commit_deeds, decision_deeds, gate_deeds, own_gate, goes_through, served_at, command_deeds}
-use Rattle.node_machine.specs.Controller.{agreed, creation_deeds, notice_deeds, relayed_to, unrelayed, event_deeds, unless_asking, if_notice, kind_deeds}
-use Rattle.node_machine.specs.Controller.{own_deeds, relay_deeds, deeds_by_relay, controller_deeds}
+use Rattle.gate_admin.specs.View.{hosts_where}
+use Rattle.node_machine.specs.Parts.{OwnView, NodeView}
+use Rattle.node_machine.specs.Controller.{creation_of, gate_deeds, goes_through, served_at, command_deeds}
+use Rattle.node_machine.specs.Controller.{creation_deeds, notice_deeds, relayed_to, unrelayed, event_deeds, unless_asking, if_notice, kind_deeds}
+use Rattle.node_machine.specs.Controller.{own_deeds, relay_deeds, deeds_by_relay}
 use Rattle.node_laws.proofs.views.Viewing.{decided_same}
-use Rattle.node_laws.specs.views.Views.{IsSameView}
 use Rattle.node_laws.specs.read_steps.Alike.{KnowsTheSame}
 
 -- what a response does, by the creation that the notice is about which it answers

@@ -3,39 +3,20 @@ use Rattle.std.proofs.Common.{◌≡◌, ℕ, false, List, [], ◌∷◌, ◌++�
 use Rattle.std.specs.Prelude.{Option, Some, None}
 use Rattle.std.specs.List.{AllByRecursion, flat_map}
 use Rattle.std.proofs.lemmas.List.Concat.{flat_map-append}
-use Rattle.swp_base.specs.InMemory.{Memory}
-use Rattle.trace_model.specs.declared.entry.Entry.{Entry}
-use Rattle.trace_model.specs.declared.line.End.{End}
-use Rattle.trace_model.specs.declared.line.Header.{Header}
-use Rattle.trace_model.specs.declared.line.Line.{Line}
-use Rattle.journal_laws.specs.Planned.{fails_within}
-use Rattle.link_laws.specs.machine.Machine.{LinkInput}
-use Rattle.link_laws.specs.messages.Links.{Comes}
-use Rattle.link_laws.specs.messages.Links.Comes.{AsksReset, NextFrame, Starts}
-use Rattle.link_laws.specs.entries.Entries.End.{Controller}
+use Rattle.node_laws.proofs.Words.{Activates, AllByRecursion-append, AreHosts, AreNamed, Arms, AsksReset, AtEnd, Boots, Comes, Controller, End, Entry}
+use Rattle.node_laws.proofs.Words.{FollowsNodes, Gives, Happening, Header, Inits, IsCut, IsFew, IsNamed, IsSentByHost, KeepsBetween, Line, LinkInput, Loses}
+use Rattle.node_laws.proofs.Words.{Memory, NextFrame, NodeHistory, NodeWorld, Occurrence, Resets, Running, Site, Starts, Takes, Ticks, TimePasses, Work}
+use Rattle.node_laws.proofs.Words.{activates, after_controller, all_aged, as_it_ticks, beginning, boot_writes, boots, comes_at, comes_to, controller_does}
+use Rattle.node_laws.proofs.Words.{controller_ticks, controller_work, end_c, end_h, entries_in, fails_within, frames_noted, hosts_tick, input_of, link_to}
+use Rattle.node_laws.proofs.Words.{memory_at, new_world, node_entries, occurrences_in, sending, steps, steps_from, wires_for, work_of, world_behind, world_step}
 use Rattle.history.specs.Follows.{seen_from}
-use Rattle.node_machine.specs.Parts.{Running, Work}
-use Rattle.node_machine.specs.Node.{boot_writes, steps}
-use Rattle.node_machine.specs.Node.NodeInput.{AtEnd, TimePasses}
-use Rattle.node_machine.specs.world.World.{NodeWorld, Site, Happening, link_to, input_of, wires_for, frames_noted, comes_to, controller_does, controller_work}
-use Rattle.node_machine.specs.world.World.{after_controller, all_aged, controller_ticks, hosts_tick, comes_at, activates, boots, memory_at, work_of}
-use Rattle.node_machine.specs.world.World.{sending, beginning}
-use Rattle.node_machine.specs.world.World.{new_world, world_step, end_c, end_h}
-use Rattle.node_machine.specs.world.World.Happening.{Boots, IsCut, Gives, Inits, Takes, Loses, Ticks, Resets, Activates, Arms}
-use Rattle.node_machine.specs.world.Lines.{Occurrence}
-use Rattle.node_machine.specs.world.NodeHistories.{NodeHistory, FollowsNodes, entries_in, node_entries, occurrences_in, steps_from}
-use Rattle.node_laws.specs.kept.Hosts.{AreHosts, IsFew, IsSentByHost}
-use Rattle.node_laws.specs.telling.Telling.{world_behind}
 use Rattle.node_laws.proofs.Cases.{by_option, by_test}
 use Rattle.node_laws.proofs.telling.Lasting.{Any, AnyLine, AreCaused, all_any, all_lines, events_of_steps, lines_caused}
-use Rattle.registry.proofs.ValueLemmas.{AllByRecursion-append}
 use Rattle.node_laws.proofs.notices.Far.{far_flat}
 use Rattle.node_laws.proofs.notices.Near.{aged_far, comes_reads}
 use Rattle.node_laws.proofs.notices.Sites.{AreGood, Reads, all_tick, beginning_own, frames_quiet, sending_own}
 use Rattle.node_laws.proofs.creations.Events.{begins_beside, far_beside, lost_beside}
 use Rattle.node_laws.proofs.creations.Worlds.{aged_good, near_good}
-use Rattle.node_laws.specs.read_steps.Names.{IsNamed, AreNamed}
-use Rattle.node_laws.specs.read_steps.Worlds.{KeepsBetween, as_it_ticks}
 use Rattle.node_laws.proofs.read_steps.Lines.{history_keeps_between}
 use Rattle.node_laws.proofs.read_steps.Naming.{far_named}
 use Rattle.node_laws.proofs.read_steps.Starting.{comes_named, tick_named}

@@ -4,19 +4,9 @@ use Rattle.std.specs.Prelude.{Option, Some, None}
 use Rattle.std.specs.List.{AllByRecursion}
 use Rattle.std.specs.Option.{option_map_or}
 use Rattle.std.proofs.lemmas.Bool.{eqb-true, eq-eqb, true≢false}
-use Rattle.trace_model.specs.Lines.{IsHost}
-use Rattle.trace_model.specs.declared.entry.Entry.{Entry}
+use Rattle.node_laws.proofs.Words.{AreHosts, Entry, Hold, IsHost, IsKeptNotice, KeepsInStep, Message, Port, Work, controller_deeds, deeds_of, end_c}
+use Rattle.node_laws.proofs.Words.{end_of_node, handles, holds_back, hosts_of_ends, is_held, lack, lets_go, needs, noting, port_at, view_of, with_desk}
 use Rattle.trace_model.specs.declared.entry.Entry.TheVariants as entry
-use Rattle.link_laws.specs.machine.Machine.{Message, is_held}
-use Rattle.link_laws.specs.machine.Machine.Turn.{Hold}
-use Rattle.node_machine.specs.Parts.{Port, Work}
-use Rattle.node_machine.specs.Carrying.{noting, port_at, with_desk, end_of_node, needs, lack}
-use Rattle.node_machine.specs.Controller.{controller_deeds, view_of}
-use Rattle.node_machine.specs.Turns.{deeds_of, handles, holds_back, lets_go}
-use Rattle.node_machine.specs.world.World.{end_c}
-use Rattle.node_laws.specs.kept.Books.{hosts_of_ends}
-use Rattle.node_laws.specs.kept.Hosts.{AreHosts}
-use Rattle.node_laws.specs.notices.Notices.{IsKeptNotice}
 use Rattle.node_laws.proofs.Cases.{by_test}
 use Rattle.node_laws.proofs.notices.Doing.{Holds, Stands}
 use Rattle.node_laws.proofs.notices.Turning.{handled_stand, holds_stand, lets_stand}
@@ -26,7 +16,6 @@ use Rattle.node_laws.proofs.creations.Deeds.{Still, Fine}
 use Rattle.node_laws.proofs.creations.Turning.{handled as handled_made}
 use Rattle.node_laws.proofs.views.Doing.{holds, lets}
 use Rattle.node_laws.proofs.views.Turning.{handled as handled_right}
-use Rattle.node_laws.specs.read_steps.Works.{KeepsInStep}
 use Rattle.node_laws.proofs.read_steps.Parts.{errors_before, to_notices, to_creations, to_errors, from_parts}
 
 -- the end of the link with this host is there, and its host is one of these

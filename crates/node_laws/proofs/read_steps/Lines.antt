@@ -2,23 +2,14 @@
 use Rattle.std.proofs.Common.{◌≡◌, ℕ, List, ◌++◌, refl, subst, ◌∙◌}
 use Rattle.std.specs.Prelude.{Some}
 use Rattle.std.specs.List.{AllByRecursion}
-use Rattle.trace_model.specs.Lines.{IsHost}
-use Rattle.trace_model.specs.declared.entry.Entry.{Entry}
-use Rattle.trace_model.specs.declared.line.Header.{Header}
-use Rattle.trace_model.specs.declared.line.Line.{Line}
-use Rattle.node_machine.specs.Parts.{Running}
-use Rattle.node_machine.specs.world.World.{NodeWorld, new_world, end_c}
-use Rattle.node_machine.specs.world.Lines.{Occurrence}
-use Rattle.node_machine.specs.world.NodeHistories.{NodeHistory, FollowsNodes, entries_in, node_entries, occurrences_in}
-use Rattle.node_laws.specs.kept.Hosts.{AreHosts, IsFew, IsSentByHost}
-use Rattle.node_laws.specs.telling.Telling.{world_behind}
+use Rattle.node_laws.proofs.Words.{AreHosts, Entry, FollowsNodes, Header, IsFew, IsHost, IsSentByHost, KeepsBetween, Line, NodeHistory, NodeWorld, Occurrence}
+use Rattle.node_laws.proofs.Words.{Running, end_c, entries_in, new_world, no_errors, node_entries, occurrences_in, world_behind}
 use Rattle.node_laws.proofs.creations.Lines.{history_keeps}
-use Rattle.node_laws.specs.views.Errors.{no_errors}
 use Rattle.node_laws.proofs.views.Leaving.{reads}
 use Rattle.node_laws.proofs.views.Nodes.{IfKeeps, KeepsErrors}
 use Rattle.node_laws.proofs.views.Worlds.{near_node}
 use Rattle.node_laws.proofs.views.Lines.{AllKept, events_so, real_of}
-use Rattle.node_laws.specs.read_steps.Worlds.{KeepsBetween, KeepsErrorsRead}
+use Rattle.node_laws.specs.read_steps.Worlds.{KeepsErrorsRead}
 
 errors_between : (t : List Entry) (w : NodeWorld) → AllKept t w → (r : Running) → w.controller ≡ Some r → (h : ℕ) → IsHost h → KeepsErrorsRead t r h
 errors_between t w all r runs h host =

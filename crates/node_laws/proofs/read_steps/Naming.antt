@@ -4,41 +4,24 @@ use Rattle.std.specs.Prelude.{Option, Some, None, slice_index}
 use Rattle.std.specs.List.{AllByRecursion, fold}
 use Rattle.std.specs.Option.{option_map_or}
 use Rattle.std.proofs.lemmas.Bool.{eqb-true, true≢false}
-use Rattle.trace_model.specs.declared.entry.Entry.{Entry}
+use Rattle.node_laws.proofs.Words.{AllByRecursion-append, AreNamed, Asks, Command, Commits, Controller, Core, Create, Creation, Deed, Drops, Ends, Entry}
+use Rattle.node_laws.proofs.Words.{FetchMessage, Give, HciTables, Hold, Host, IsAllowedStill, IsNamed, IsNoticeOf, LinkInput, Message, Orders, Port, Refused}
+use Rattle.node_laws.proofs.Words.{Release, Releases, Reset, SaysOk, Sends, SetAside, SetsErrors, Tells, Turn, Work, after_input, all_done, body_of, commit}
+use Rattle.node_laws.proofs.Words.{commit_writes, done, end_c, end_of_node, ended_by, entries_for, fails_within, give_refusal, handles, holds_back}
+use Rattle.node_laws.proofs.Words.{instruction_in, is_held, is_late, is_notice, is_response, lets_go, noted_of, notice_in, noting, own_side, port_at, report}
+use Rattle.node_laws.proofs.Words.{same_end, same_side, sent_unless, told_at, told_late, turn_at, unless_cut, whole_acked, with_desk}
 use Rattle.trace_model.specs.declared.entry.Entry.TheVariants as entry
-use Rattle.journal_laws.specs.Planned.{fails_within}
-use Rattle.hci_tables.specs.declared.command.Command.{Command}
-use Rattle.hci_tables.specs.declared.command.Command.TheVariants.{Create}
-use Rattle.hci_tables.specs.Bodies.{body_of}
-use Rattle.hci_tables.specs.Tables.{HciTables}
-use Rattle.hci_store.specs.Committing.{commit_writes}
-use Rattle.gate_answers.specs.Answers.{instruction_in}
-use Rattle.link_laws.specs.machine.Machine.{Message, LinkInput, Refused, Turn, ended_by, give_refusal, is_held, report, whole_acked, after_input}
-use Rattle.link_laws.specs.machine.Machine.LinkInput.{Reset}
-use Rattle.link_laws.specs.machine.Machine.Turn.{Give, Hold, FetchMessage, SetAside, Release}
-use Rattle.link_laws.specs.entries.Entries.{End as Side, Entry as Noted, sent_unless}
-use Rattle.link_laws.specs.entries.Entries.End.{Controller, Host}
-use Rattle.history.specs.Filters.{same_end, same_side}
-use Rattle.history.specs.Steps.{entries_for}
-use Rattle.node_machine.specs.Parts.{Creation, Core, Port, Work, Deed}
-use Rattle.node_machine.specs.Parts.Deed.{Commits, Sends, SaysOk, Asks, Releases, Tells, Drops, SetsErrors, Orders, Ends}
-use Rattle.node_machine.specs.Carrying.{own_side, noting, unless_cut, port_at, with_desk, noted_of, turn_at, commit, done, all_done, end_of_node}
-use Rattle.node_machine.specs.Turns.{handles, holds_back, lets_go}
-use Rattle.node_machine.specs.Node.{told_at, told_late, is_late}
-use Rattle.node_machine.specs.world.World.{end_c}
-use Rattle.node_machine.specs.world.NodeFilters.{is_notice, is_response, awaited_after, notice_in}
-use Rattle.node_laws.specs.steps.Waiting.{IsAllowedFor, IsAllowedStill}
+use Rattle.link_laws.specs.entries.Entries.{End as Side, Entry as Noted}
+use Rattle.node_machine.specs.world.NodeFilters.{awaited_after}
+use Rattle.node_laws.specs.steps.Waiting.{IsAllowedFor}
 use Rattle.node_laws.proofs.Cases.{by_test, by_option}
 use Rattle.node_laws.proofs.links.Noticing.{at_host}
 use Rattle.node_laws.proofs.readings.Silent.{told_rest, rest_quiet}
-use Rattle.registry.proofs.ValueLemmas.{AllByRecursion-append}
-use Rattle.node_laws.specs.notices.Notices.{IsNoticeOf}
 use Rattle.node_laws.proofs.notices.Deciding.{IsRemoval}
 use Rattle.node_laws.proofs.notices.Far.{AreFar, quiet_far}
 use Rattle.node_laws.proofs.notices.Own.{IsFar}
 use Rattle.node_laws.proofs.notices.Stepping.{TellNoNotices}
 use Rattle.node_laws.proofs.notices.Telling.{MayTell}
-use Rattle.node_laws.specs.read_steps.Names.{IsNamed, AreNamed}
 use Rattle.node_laws.proofs.Cut.{by_cut}
 
 -- ## What is read

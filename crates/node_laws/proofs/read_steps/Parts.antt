@@ -2,29 +2,21 @@
 use Rattle.std.proofs.Common.{◌≡◌, ℕ, false, List, [], ◌∷◌, ◌++◌, length, map, sym, refl, ap, ◌∙◌, subst, append-nil, arith}
 use Rattle.std.specs.Prelude.{Option, Some, None}
 use Rattle.std.specs.List.{AllByRecursion}
-use Rattle.trace_model.specs.Lines.{IsHost}
-use Rattle.trace_model.specs.declared.entry.Entry.{Entry}
-use Rattle.link_laws.specs.sessions.Sessions.{is_up}
-use Rattle.node_machine.specs.Parts.{Creation, Port, Work}
-use Rattle.node_machine.specs.Carrying.{port_at}
-use Rattle.node_machine.specs.world.World.{end_c}
-use Rattle.node_machine.specs.world.NodeFilters.{Book, book_in, notice_in, asking_in}
-use Rattle.node_laws.specs.links.Notices.{IsNoticedUp, OnFirst}
+use Rattle.node_laws.proofs.Words.{Book, Creation, Entry, ErrorCount, IsHost, IsKeptNotice, IsNoticedUp, IsReadSo, KeepsInStep, OnFirst, Port, Work, asking_in}
+use Rattle.node_laws.proofs.Words.{book_in, end_c, errors_in, is_up, no_errors, notice_in, port_at}
 use Rattle.node_laws.proofs.links.Noticing.{UpAt, up_of}
-use Rattle.node_laws.specs.notices.Notices.{IsKeptNotice}
 use Rattle.node_laws.proofs.notices.Doing.{AreHostEnds, Holds, controller_side}
 use Rattle.node_laws.proofs.notices.Near.{noticed_desks}
-use Rattle.node_laws.specs.creations.Creations.{IsReadSo, creations_at}
+use Rattle.node_laws.specs.creations.Creations.{creations_at}
 use Rattle.node_laws.specs.creations.Worlds.{IfAwaited}
 use Rattle.node_laws.proofs.creations.Asks.{asked_of, waits, desks_wait}
 use Rattle.node_laws.proofs.creations.Doing.{EndAt, Good, many}
 use Rattle.node_laws.proofs.creations.Deeds.{Still}
 use Rattle.node_laws.proofs.creations.Steps.{due_ports, ports_due}
 use Rattle.node_laws.proofs.creations.Near.{has_is}
-use Rattle.node_laws.specs.views.Errors.{ErrorCount, no_errors, errors_in}
 use Rattle.node_laws.proofs.views.Leaving.{reads, reads_append, book_reads}
 use Rattle.node_laws.proofs.views.Doing.{HasErrors, Right}
-use Rattle.node_laws.specs.read_steps.Works.{desks_of, HasAsideAt, HasErrorsRead, KeepsInStep}
+use Rattle.node_laws.specs.read_steps.Works.{desks_of, HasAsideAt, HasErrorsRead}
 
 -- what was read of REC_ERROR of the end of the link with a host before the step
 abbrev pub errors_before : List Entry → ℕ → ErrorCount

@@ -3,26 +3,12 @@ use Rattle.std.proofs.Common.{◌≡◌, ℕ, false, List, [], ◌∷◌, ◌++�
 use Rattle.std.specs.Prelude.{Some, None}
 use Rattle.std.specs.List.{AllByRecursion}
 use Rattle.std.specs.Option.{option_map_or}
-use Rattle.trace_model.specs.Lines.{IsHost}
-use Rattle.trace_model.specs.declared.entry.Entry.{Entry}
-use Rattle.trace_model.specs.declared.line.Header.{Header}
-use Rattle.trace_model.specs.declared.line.Line.{Line}
-use Rattle.link_laws.specs.machine.Machine.{LinkInput, Message}
-use Rattle.link_laws.specs.messages.Links.{Comes}
-use Rattle.node_machine.specs.Parts.{Port, Running, Work}
-use Rattle.node_machine.specs.Carrying.{lack, needs, port_at}
-use Rattle.node_machine.specs.Turns.{deeds_of, handles, holds_back, lets_go}
-use Rattle.node_machine.specs.Node.NodeInput.{AtEnd, TimePasses}
-use Rattle.node_machine.specs.world.World.{NodeWorld, all_aged, input_of, link_to, new_world}
-use Rattle.node_machine.specs.world.Lines.{Occurrence}
-use Rattle.node_machine.specs.world.NodeHistories.{NodeHistory, FollowsNodes, entries_in, node_entries, occurrences_in}
-use Rattle.node_laws.specs.kept.Hosts.{AreHosts, IsFew, IsSentByHost}
-use Rattle.node_laws.specs.telling.Telling.{world_behind}
-use Rattle.registry.proofs.ValueLemmas.{AllByRecursion-append}
+use Rattle.node_laws.proofs.Words.{AllByRecursion-append, AreHosts, AreNamed, AtEnd, Comes, Entry, FollowsNodes, Header, IsFew, IsHost, IsNamed, IsSentByHost}
+use Rattle.node_laws.proofs.Words.{Line, LinkInput, Message, NodeHistory, NodeWorld, Occurrence, Port, ReadsBetween, Running, TimePasses, Work, all_aged}
+use Rattle.node_laws.proofs.Words.{as_it_ticks, comes_to_pass, controller_begins, deeds_of, entries_in, handles, holds_back, input_of, lack, lets_go, link_to}
+use Rattle.node_laws.proofs.Words.{needs, new_world, node_entries, occurrences_in, port_at, world_behind}
 use Rattle.node_laws.proofs.notices.Near.{aged_far}
-use Rattle.node_laws.specs.read_steps.Names.{IsNamed, AreNamed}
 use Rattle.node_laws.specs.read_steps.Works.{ReadsInStep}
-use Rattle.node_laws.specs.read_steps.Worlds.{ReadsBetween, as_it_ticks}
 use Rattle.node_laws.proofs.read_steps.Lasting.{found_end, got_end}
 use Rattle.node_laws.proofs.read_steps.Running.{runs_handled, runs_holds, runs_lets}
 use Rattle.node_laws.proofs.read_steps.Naming.{far_named, handles_named, holds_named, lets_named}
@@ -30,7 +16,6 @@ use Rattle.node_laws.proofs.read_steps.Walking.{deeds_name}
 use Rattle.node_laws.proofs.read_steps.Starting.{comes_begins, comes_pass_named, tick_begins, tick_pass_named}
 use Rattle.node_laws.proofs.read_steps.Events.{history_named}
 use Rattle.node_laws.proofs.read_steps.Lines.{history_keeps_between}
-use Rattle.node_laws.specs.passes.Steps.{comes_to_pass, controller_begins}
 
 pub history_reads : (header : Header) (lines : List Line) (t : NodeHistory) → FollowsNodes header lines t → AreHosts header.hosts.items
     → AllByRecursion IsSentByHost lines → IsFew (node_entries t) → (front back : List Occurrence) → occurrences_in t ≡ front ++ back

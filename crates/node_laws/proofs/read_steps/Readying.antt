@@ -1,21 +1,12 @@
 -- A controller has a step: as its pass over the ends begins, notices, creations and REC_ERROR are what is read.
 use Rattle.std.proofs.Common.{◌≡◌, inl, inr, ℕ, true, List, [], ◌∷◌, ◌++◌, map, sym, subst, append-nil}
 use Rattle.std.specs.List.{AllByRecursion, flat_map, filter, filter_map}
-use Rattle.trace_model.specs.Lines.{IsHost}
-use Rattle.trace_model.specs.declared.entry.Entry.{Entry}
-use Rattle.trace_model.specs.declared.line.End.{End}
+use Rattle.node_laws.proofs.Words.{AreDifferent, AtEnd, Creation, Deed, End, Entry, ErrorCount, IsFresh, IsHost, IsOutside, IsShut, NodeInput, Port, TimePasses}
+use Rattle.node_laws.proofs.Words.{Work, after_sessions, all_come, all_done, all_owed, all_owed_hold, all_synced_hold, asked_at, comes_to_pass, forgets}
+use Rattle.node_laws.proofs.Words.{forgotten, forgotten_hold, is_over_at, owed, port_at, synced, times_out, without_notice}
 use Rattle.gate_answers.specs.declared.response.Response.TheVariants as response
-use Rattle.node_machine.specs.Parts.{Creation, Port, Work, Deed}
-use Rattle.node_machine.specs.Carrying.{port_at, all_done}
-use Rattle.node_machine.specs.Controller.{asked_at}
-use Rattle.node_machine.specs.Node.{NodeInput, all_come, times_out, is_over_at, forgotten, forgets, owed, all_owed, without_notice, after_sessions, synced}
-use Rattle.node_machine.specs.Node.NodeInput.{AtEnd, TimePasses}
-use Rattle.node_laws.specs.links.Notices.{IsOutside}
 use Rattle.node_laws.proofs.links.Noticing.{UpAt}
 use Rattle.node_laws.proofs.steps.Ports.{forgets_host, sessions_node, without_host}
-use Rattle.node_laws.specs.kept.Hosts.{AreDifferent}
-use Rattle.node_laws.specs.readings.Orders.{IsFresh}
-use Rattle.node_laws.specs.notices.Worlds.{IsShut}
 use Rattle.node_laws.proofs.notices.Doing.{Stands, IsOn as IsNoticed, then as then_noticed, all_stand}
 use Rattle.node_laws.proofs.notices.Stepping.{TellNoNotices, no_notices_flat, no_notices_may, synced_no_notices}
 use Rattle.node_laws.proofs.notices.Steps.{HasCome as HasComeNoticed, begun as begun_noticed, frees as frees_noticed, owed_all, came_near as near_noticed}
@@ -25,12 +16,9 @@ use Rattle.node_laws.proofs.creations.Coming.{HasCome as HasComeMade, came_near 
 use Rattle.node_laws.proofs.creations.Doing.{IsOn as IsMade, Good, many}
 use Rattle.node_laws.proofs.creations.Deeds.{Fine, then as then_made}
 use Rattle.node_laws.proofs.creations.Steps.{frees as frees_made, all_kept, keeps_all, pays_all, begins as begins_made, shared}
-use Rattle.node_laws.specs.views.Errors.{ErrorCount}
 use Rattle.node_laws.proofs.views.Setting.{IsUnset, AreUnset}
 use Rattle.node_laws.proofs.views.Doing.{Right, maps, with_core, unless, unset_fine, all_do}
 use Rattle.node_laws.proofs.views.Stepping.{came_right, timed_right, forgets_errors, without_errors}
-use Rattle.node_machine.proofs.Walks.{forgotten_hold, all_owed_hold, all_synced_hold}
-use Rattle.node_laws.specs.passes.Steps.{comes_to_pass}
 
 -- the work behind what came, as sessions have ended
 abbrev pub begun_by : NodeInput → Work → Work

@@ -3,17 +3,10 @@ use Rattle.std.proofs.Common.{◌≡◌, inl, inr, ℕ, false, List, sym, refl, 
 use Rattle.std.specs.Prelude.{Some, None}
 use Rattle.std.specs.List.{AllByRecursion}
 use Rattle.std.proofs.lemmas.Bool.{true≢false}
-use Rattle.swp_base.specs.InMemory.{Memory}
-use Rattle.trace_model.specs.Lines.{IsHost}
-use Rattle.trace_model.specs.declared.entry.Entry.{Entry}
-use Rattle.link_laws.specs.machine.Machine.{Message}
-use Rattle.node_machine.specs.Parts.{Port, Work}
-use Rattle.node_machine.specs.Carrying.{port_at, needs, lack}
-use Rattle.node_machine.specs.Turns.{deeds_of, handles, holds_back, lets_go}
-use Rattle.node_laws.specs.kept.Hosts.{AreHosts}
+use Rattle.node_laws.proofs.Words.{AreHosts, Entry, IsHost, KeepsInStep, Memory, Message, Port, RunsInStep, Work, deeds_of, handles, holds_back, lack, lets_go}
+use Rattle.node_laws.proofs.Words.{needs, port_at}
 use Rattle.node_laws.proofs.kept.Doing.{GoesOn_or_lost}
 use Rattle.node_laws.proofs.kept.Turning.{deeds_may, deeds_fit, handles_fine, holds_fine, lets_fine}
-use Rattle.node_laws.specs.read_steps.Works.{KeepsInStep, RunsInStep}
 use Rattle.node_laws.proofs.read_steps.Lasting.{found_end, handled_keeps, holds_keeps, lets_keeps}
 
 module _ (hosts : List ℕ) (are : AreHosts hosts) (t : List Entry) where

@@ -3,60 +3,37 @@ use Rattle.std.proofs.Common.{◌≡◌, inl, inr, ℕ, eqb, true, false, List, 
 use Rattle.std.specs.Prelude.{Some}
 use Rattle.std.specs.List.{AllByRecursion}
 use Rattle.std.proofs.lemmas.Bool.{true≢false}
-use Rattle.trace_model.specs.Lines.{IsHost}
-use Rattle.trace_model.specs.declared.entry.Entry.{Entry}
-use Rattle.hci_tables.specs.Tables.{HciTables}
-use Rattle.link_laws.specs.machine.Machine.{LinkInput}
-use Rattle.link_laws.specs.messages.Links.{NumberedEnd, Comes}
-use Rattle.link_laws.specs.entries.Entries.{aged_entries}
-use Rattle.link_laws.specs.entries.Entries.End.{Controller, Host}
-use Rattle.history.specs.Steps.{entries_for}
-use Rattle.node_machine.specs.Parts.{Desk, Running, Port, Work}
-use Rattle.node_machine.specs.Turns.{passes}
-use Rattle.node_machine.specs.Node.{NodeInput, steps, synced}
-use Rattle.node_machine.specs.Node.NodeInput.{AtEnd, TimePasses}
-use Rattle.node_machine.specs.world.World.{NodeWorld, Site, link_to, near_end_in, input_of, arrival, comes_to, work_of, all_aged, end_c}
-use Rattle.node_machine.specs.world.NodeFilters.{Book, book_in}
-use Rattle.node_laws.specs.links.Notices.{IsOutside}
-use Rattle.node_laws.specs.kept.Hosts.{AreDifferent, AreHosts}
-use Rattle.node_laws.specs.kept.Books.{IsPlain}
+use Rattle.node_laws.proofs.Words.{AreDifferent, AreHosts, AreNamed, AtEnd, Book, Comes, Controller, ControllerReads, Desk, Entry, ErrorCount, HasEnds}
+use Rattle.node_laws.proofs.Words.{HciTables, Host, IfItRuns, IfNoticedUp, IfReads, IfRuns, IsFresh, IsHost, IsKeptNotice, IsOutside, IsPlain, IsReadSo, IsShut}
+use Rattle.node_laws.proofs.Words.{KeepsBetween, KeepsInStep, LinkInput, NodeInput, NodeWorld, NumberedEnd, Port, Running, RunsInStep, RunsSo, Site, TimePasses}
+use Rattle.node_laws.proofs.Words.{Work, aged_entries, all_aged, arrival, as_it_ticks, book_in, comes_to, comes_to_pass, controller_begins, end_c, entries_for}
+use Rattle.node_laws.proofs.Words.{hosts_in, input_of, link_to, near_end_in, no_errors, passes, steps, synced, work_of}
 use Rattle.node_laws.proofs.kept.Plainly.{plain_entries, plain_flat}
 use Rattle.node_laws.proofs.kept.Standing.{keeps_same, plain_same, runs_begun}
-use Rattle.node_laws.specs.kept.Worlds.{IfRuns, RunsSo}
-use Rattle.node_laws.specs.telling.Telling.{HasEnds, IfItRuns, hosts_in}
 use Rattle.node_laws.proofs.telling.Nodes.{hosts_same}
-use Rattle.node_laws.specs.readings.Noticed.{IfNoticedUp}
-use Rattle.node_laws.specs.readings.Orders.{IsFresh}
 use Rattle.node_laws.proofs.readings.Sites.{near_end_side, comes_outside}
-use Rattle.node_laws.specs.notices.Notices.{IsKeptNotice}
-use Rattle.node_laws.specs.notices.Worlds.{ControllerReads, IfReads, IsShut}
 use Rattle.node_laws.proofs.notices.Doing.{Holds, Stands}
 use Rattle.node_laws.proofs.notices.Stepping.{no_notices_flat, synced_no_notices}
 use Rattle.node_laws.proofs.notices.Steps.{owed_all}
 use Rattle.node_laws.proofs.notices.Far.{AreFar}
 use Rattle.node_laws.proofs.notices.Near.{begins as begins_noticed, aged_far, aged_side, all_ports}
 use Rattle.node_laws.proofs.notices.Sites.{Reads as NoticeReads, arrival_quiet, far_hushed, link_shut, still_reads}
-use Rattle.node_laws.specs.creations.Creations.{IsReadSo, creations_of}
+use Rattle.node_laws.specs.creations.Creations.{creations_of}
 use Rattle.node_laws.specs.creations.Worlds.{AreProper}
 use Rattle.node_laws.proofs.creations.Asks.{asked_of}
 use Rattle.node_laws.proofs.creations.Doing.{Good}
 use Rattle.node_laws.proofs.creations.Deeds.{Still, Fine}
 use Rattle.node_laws.proofs.creations.Near.{Reads, far_book, far_reading, begins as begins_made, up_at}
-use Rattle.node_laws.specs.views.Errors.{ErrorCount, no_errors}
 use Rattle.node_laws.proofs.views.Leaving.{reads, reads_append, book_reads, IsRead, IsStill, still_all}
 use Rattle.node_laws.proofs.views.Doing.{Right}
 use Rattle.node_laws.proofs.views.Nodes.{KeepsErrors, begun_right, arrival_still}
 use Rattle.node_laws.proofs.views.Events.{aged_entries_still}
-use Rattle.node_laws.specs.read_steps.Works.{KeepsInStep, RunsInStep}
-use Rattle.node_laws.specs.read_steps.Worlds.{KeepsBetween, as_it_ticks}
-use Rattle.node_laws.specs.read_steps.Names.{AreNamed}
 use Rattle.node_laws.proofs.read_steps.Naming.{far_named, unless_named}
 use Rattle.node_laws.proofs.read_steps.Walking.{passes_walked, ready_named}
 use Rattle.node_laws.proofs.read_steps.Parts.{errors_before, from_parts}
 use Rattle.node_laws.proofs.read_steps.Running.{with_kept}
 use Rattle.node_laws.proofs.kept.Stepping.{ready_fine}
 use Rattle.node_laws.proofs.read_steps.Readying.{notices_ready, creations_ready, errors_ready}
-use Rattle.node_laws.specs.passes.Steps.{comes_to_pass, controller_begins}
 
 -- A step of a controller begins, which keeps what is read: none of its sessions has ended in it, and its ends are Down unless they are active.
 pub record IsBegun (hosts : List ℕ) (t : List Entry) (input : NodeInput) (w : Work) : Type 0 where

@@ -4,30 +4,16 @@ use Rattle.std.specs.Prelude.{Option, Some, None, is_some}
 use Rattle.std.specs.List.{AllByRecursion, flat_map}
 use Rattle.std.specs.Option.{option_map_or}
 use Rattle.std.proofs.lemmas.Bool.{eq-eqb, true≢false}
-use Rattle.trace_model.specs.Lines.{IsHost}
-use Rattle.trace_model.specs.declared.entry.Entry.{Entry}
-use Rattle.link_laws.specs.machine.Machine.{Message}
-use Rattle.node_machine.specs.Parts.{Creation, Port, Work, Deed}
-use Rattle.node_machine.specs.Parts.Deed.{IsAnswered, Releases}
-use Rattle.node_machine.specs.Carrying.{unless_cut, port_at, all_done, needs, lack}
-use Rattle.node_machine.specs.Controller.{controller_deeds, view_of}
-use Rattle.node_machine.specs.Turns.{deeds_of, handles, have_turns, goes_through_ends, passes}
-use Rattle.node_machine.specs.Node.{NodeInput, input_at, told_at, all_come, with_older, told_late, times_out, forgotten, all_owed, synced}
-use Rattle.node_machine.specs.Node.NodeInput.{AtEnd, TimePasses}
-use Rattle.node_laws.specs.steps.Waiting.{IsAllowedStill}
-use Rattle.node_laws.specs.kept.Books.{hosts_of_ends}
-use Rattle.node_laws.specs.kept.Hosts.{AreHosts}
+use Rattle.node_laws.proofs.Words.{AllByRecursion-append, AreHosts, AreNamed, AtEnd, Creation, Deed, Entry, IsAllowedStill, IsAnswered, IsHost, IsKeptNotice}
+use Rattle.node_laws.proofs.Words.{IsNamed, Message, NodeInput, Port, Releases, RunsInStep, TimePasses, Work, all_come, all_done, all_owed, comes_to_pass}
+use Rattle.node_laws.proofs.Words.{controller_deeds, deeds_of, forgotten, goes_through_ends, handles, have_turns, hosts_of_ends, input_at, is_one_of, lack}
+use Rattle.node_laws.proofs.Words.{needs, passes, port_at, synced, times_out, told_at, told_late, unless_cut, view_of, with_older}
 use Rattle.node_laws.proofs.All.{all_flat}
 use Rattle.node_laws.proofs.kept.Turning.{deeds_fit}
-use Rattle.node_laws.specs.notices.Notices.{IsKeptNotice}
 use Rattle.node_laws.proofs.notices.Doing.{Holds}
 use Rattle.node_laws.proofs.notices.Stepping.{TellNoNotices}
 use Rattle.node_laws.proofs.notices.Telling.{IsShort, Outcome, controller_outcome}
 use Rattle.node_laws.proofs.notices.Telling.Outcome.{Leaves, IsHeard}
-use Rattle.registry.proofs.ValueLemmas.{AllByRecursion-append}
-use Rattle.node_laws.specs.cuts.Histories.{is_one_of}
-use Rattle.node_laws.specs.read_steps.Names.{IsNamed, AreNamed}
-use Rattle.node_laws.specs.read_steps.Works.{RunsInStep}
 use Rattle.node_laws.proofs.read_steps.Parts.{to_notices}
 use Rattle.node_laws.proofs.read_steps.Lasting.{near_deeds}
 use Rattle.node_laws.proofs.read_steps.Running.{runs_handled, runs_holds, runs_lets}
@@ -36,7 +22,6 @@ use Rattle.node_laws.proofs.read_steps.Knowing.{there_is}
 use Rattle.node_laws.proofs.read_steps.Naming.{NamesSo, all_done_named, no_notices_name, handles_named, holds_named, late_named, lets_named, may_name}
 use Rattle.node_laws.proofs.read_steps.Naming.{told_named}
 use Rattle.node_laws.proofs.read_steps.Naming.{unless_named}
-use Rattle.node_laws.specs.passes.Steps.{comes_to_pass}
 use Rattle.node_laws.proofs.Cut.{by_cut}
 use Rattle.node_laws.proofs.Cases.{by_option}
 

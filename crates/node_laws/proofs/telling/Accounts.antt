@@ -4,20 +4,14 @@ use Rattle.std.proofs.Common.{append_assoc}
 use Rattle.std.specs.Option.{option_map_or}
 use Rattle.std.proofs.lemmas.Bool.{true≢false, eqb-true, ne_eqb}
 use Rattle.std.proofs.lemmas.List.Concat.{flat_map-append}
-use Rattle.link_laws.proofs.entries.Lasting.{same_number}
-use Rattle.trace_model.specs.declared.entry.Entry.{Entry}
+use Rattle.node_laws.proofs.Words.{Acked, Active, Controller, Desk, Down, Emit, Entry, GaveUp, Got, Host, LinkEnd, Lost, Port, Sent, Took, Turn, Work}
+use Rattle.node_laws.proofs.Words.{after_turn, changed_if, end_of, entries_for, entry_of, is_of, keeps, noted_of, noting, of_link, own_side, port_at, said}
+use Rattle.node_laws.proofs.Words.{same_number, tells_of, turn, turn_at, turn_entries, turn_entry, turned, with_desk, with_port}
 use Rattle.trace_model.specs.declared.entry.Entry.TheVariants as entry
-use Rattle.link_laws.specs.machine.Machine.{LinkEnd, Turn, turn, turned}
-use Rattle.link_laws.specs.entries.Entries.{End as Side, Entry as Noted, turn_entry, turn_entries}
-use Rattle.link_laws.specs.entries.Entries.End.{Controller, Host}
-use Rattle.link_laws.specs.entries.Entries.Entry.{Up, Down, Active, GaveUp, Acked, Got, Sent, Emit, Took, Lost}
-use Rattle.history.specs.Filters.{said}
-use Rattle.history.specs.Steps.{end_of, entry_of, entries_for}
-use Rattle.node_machine.specs.Parts.{Desk, Port, Work}
-use Rattle.node_machine.specs.Carrying.{own_side, noting, port_at, changed_if, with_port, with_desk, after_turn, noted_of, turn_at, keeps}
+use Rattle.link_laws.specs.entries.Entries.{End as Side, Entry as Noted}
+use Rattle.link_laws.specs.entries.Entries.Entry.{Up}
 use Rattle.node_laws.proofs.Cases.{by_test}
 use Rattle.node_laws.proofs.telling.Walks.{AreSilent}
-use Rattle.node_laws.specs.telling.Telling.{is_of, tells_of, of_link}
 use Rattle.node_laws.proofs.steps.Ports.{changed_host}
 
 -- ## Entries

@@ -1,12 +1,8 @@
 -- A node that has no end on a link notes nothing of it.
 use Rattle.std.proofs.Common.{◌≡◌, ℕ, ◌==◌, Bool, true, false, List, [], ◌∷◌, ◌++◌, Option, Some, None, map, refl, ap, subst, ◌∙◌}
 use Rattle.std.specs.Option.{option_map_or}
-use Rattle.trace_model.specs.declared.entry.Entry.{Entry}
-use Rattle.link_laws.specs.machine.Machine.{Turn}
-use Rattle.link_laws.specs.entries.Entries.{turn_entry}
-use Rattle.node_machine.specs.Parts.{Desk, Port, Work}
-use Rattle.node_machine.specs.Carrying.{own_side, noting, port_at, changed_if, with_desk, after_turn, noted_of, turn_at}
-use Rattle.node_laws.specs.telling.Telling.{of_link}
+use Rattle.node_laws.proofs.Words.{Desk, Entry, Port, Turn, Work, after_turn, changed_if, noted_of, noting, of_link, own_side, port_at, turn_at, turn_entry}
+use Rattle.node_laws.proofs.Words.{with_desk}
 use Rattle.node_laws.proofs.Cases.{by_test}
 use Rattle.node_laws.proofs.Cases.{by_test}
 use Rattle.node_laws.proofs.telling.Walks.{AreSilent}

@@ -4,40 +4,20 @@ use Rattle.std.proofs.Common.{append-nil, append_assoc}
 use Rattle.std.specs.Prelude.{◌&&◌}
 use Rattle.std.specs.List.{AllByRecursion}
 use Rattle.std.proofs.lemmas.Bool.{eqb-true}
-use Rattle.swp_base.specs.InMemory.{Memory}
-use Rattle.trace_model.specs.declared.entry.Entry.{Entry}
+use Rattle.node_laws.proofs.Words.{Activates, AreDifferent, Arms, AsksReset, AtController, AtEnd, AtHost, Boots, Broken, Comes, Controller, CutOff, Deed, Desk}
+use Rattle.node_laws.proofs.Words.{End, Entry, Gives, Happening, HasEnds, Host, IfItRuns, Inits, IsCut, IsOrderly, Link, LinkEvent, LinkInput, Lose, Loses}
+use Rattle.node_laws.proofs.Words.{Loss, Memory, Message, NextFrame, NoInput, NodeWorld, NumberedEnd, Resets, Running, Site, Starts, Step, Takes, TellOf, Ticks}
+use Rattle.node_laws.proofs.Words.{Work, activates, after_controller, after_host, after_host_step, after_link_events, after_planned, arrival, beginning}
+use Rattle.node_laws.proofs.Words.{begins_with, boot_found, boot_writes, boot_written, boots, by_boot, by_coming, by_controller, by_host, by_loss, by_memory}
+use Rattle.node_laws.proofs.Words.{by_power, by_running, changed_if, comes_at, comes_to, controller_does, controller_work, count_of, counts, end_c, end_h}
+use Rattle.node_laws.proofs.Words.{ending_of, entries, entries_for, event_entries, exchanged, first_lost, found, frame_lost, happens, host_cut, host_does}
+use Rattle.node_laws.proofs.Words.{host_work, hosts_in, input_of, is_command_message, link_after_controller, link_to, links_of, loses_power_at, memory_at}
+use Rattle.node_laws.proofs.Words.{near_end_in, of_link, runs_on, sending, site_at, site_lost, steps, turns_at, with_memory, with_node, with_site, work_of}
+use Rattle.node_laws.proofs.Words.{world_step}
 use Rattle.trace_model.specs.declared.entry.Entry.TheVariants as entry
-use Rattle.trace_model.specs.declared.line.End.{End}
-use Rattle.journal_laws.specs.Journal.{count_of}
-use Rattle.journal_laws.specs.Planned.{after_planned}
-use Rattle.link_laws.specs.machine.Machine.{Message, LinkInput}
-use Rattle.link_laws.specs.messages.Links.{NumberedEnd, Link, Comes, Loss, LinkEvent, exchanged, happens, after_link_events}
-use Rattle.link_laws.specs.messages.Links.Comes.{NextFrame, AsksReset, Starts, NoInput}
-use Rattle.link_laws.specs.messages.Links.Ending.{CutOff}
-use Rattle.link_laws.specs.messages.Links.Loss.{Broken}
-use Rattle.link_laws.specs.messages.Links.EndEvent.{Step, Lose}
-use Rattle.link_laws.specs.messages.Links.LinkEvent.{AtController, AtHost}
-use Rattle.link_laws.specs.entries.Entries.{event_entries, entries, first_lost}
-use Rattle.link_laws.specs.entries.Entries.End.{Controller, Host}
-use Rattle.history.specs.Steps.{entries_for}
-use Rattle.node_machine.specs.Parts.{Desk, Running, Work, Deed}
-use Rattle.node_machine.specs.Carrying.{changed_if}
-use Rattle.node_machine.specs.Controller.{is_command_message}
-use Rattle.node_machine.specs.Node.{steps, begins_with, found, boot_writes}
-use Rattle.node_machine.specs.Node.NodeInput.{AtEnd}
-use Rattle.node_machine.specs.world.World.{Site, NodeWorld, Happening, site_at, with_site, link_to, input_of, near_end_in, arrival, work_of}
-use Rattle.node_machine.specs.world.World.{ending_of, turns_at}
-use Rattle.node_machine.specs.world.World.{runs_on, comes_to, controller_work, link_after_controller, after_controller, controller_does, host_work, after_host}
-use Rattle.node_machine.specs.world.World.{host_does, host_cut, loses_power_at, memory_at, with_memory, with_node, links_of}
-use Rattle.node_machine.specs.world.World.{boots, counts, frame_lost, sending, beginning, comes_at, end_c, end_h, activates, world_step}
-use Rattle.node_machine.specs.world.World.Happening.{Boots, IsCut, Gives, Inits, Takes, Loses, Ticks, Resets, Activates, Arms}
-use Rattle.node_machine.proofs.world.Cases.{by_controller, after_host_step, by_host, by_coming, by_power, by_memory, by_running, boot_written}
-use Rattle.node_machine.proofs.world.Cases.{boot_found, by_boot}
-use Rattle.node_machine.proofs.world.Cases.{site_lost, by_loss}
-use Rattle.node_laws.specs.kept.Hosts.{AreDifferent}
 use Rattle.node_laws.proofs.Cases.{by_test}
 use Rattle.node_laws.proofs.kept.Sites.{hosts_same, changed_host}
-use Rattle.node_laws.specs.telling.Telling.{of_link, TellOf, HasEnds, IfItRuns, hosts_in, IsOrderly, Tells, GoesSo, EachGoesSo, IsUntimed}
+use Rattle.node_laws.specs.telling.Telling.{Tells, GoesSo, EachGoesSo, IsUntimed}
 use Rattle.node_laws.proofs.telling.Mute.{AreMute}
 use Rattle.node_laws.proofs.telling.Accounts.{of-append, of_other}
 use Rattle.node_laws.proofs.telling.Steps.{notes-append}

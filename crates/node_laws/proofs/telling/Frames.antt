@@ -2,17 +2,9 @@
 use Rattle.std.proofs.Common.{Bool, true, false, cond, List, [], ◌∷◌, ◌++◌, length}
 use Rattle.std.specs.Prelude.{nat_lt}
 use Rattle.std.specs.List.{AllByRecursion}
-use Rattle.swp_base.specs.declared.control_frames.Control.{Control}
-use Rattle.link_laws.specs.sessions.Sessions.{OnWire}
-use Rattle.link_laws.specs.machine.Machine.{LinkEnd, frames_out}
-use Rattle.link_laws.specs.messages.Links.{Link, Ending, Comes, Loss, put}
-use Rattle.link_laws.specs.messages.Links.Comes.{NextFrame}
-use Rattle.link_laws.specs.messages.Links.Ending.{GoesOut, CutOff}
-use Rattle.link_laws.specs.messages.Links.Loss.{TooOld, TooMany}
-use Rattle.link_laws.specs.entries.Entries.{End as Side, Entry as Noted, far, first_lost, pushed_out, wire_with, put_entries, puts_entries, ending_entries}
-use Rattle.link_laws.specs.entries.Entries.{aged_entries}
-use Rattle.link_laws.specs.entries.Entries.Entry.{Emit, Took, Lost, Cut}
-use Rattle.node_machine.specs.world.World.{arrival}
+use Rattle.node_laws.proofs.Words.{Comes, Control, Cut, CutOff, Emit, Ending, GoesOut, Link, LinkEnd, Loss, Lost, NextFrame, OnWire, TooMany, TooOld, Took}
+use Rattle.node_laws.proofs.Words.{aged_entries, arrival, ending_entries, far, first_lost, frames_out, pushed_out, put, put_entries, puts_entries, wire_with}
+use Rattle.link_laws.specs.entries.Entries.{End as Side, Entry as Noted}
 use Rattle.registry.proofs.ValueLemmas.{AllByRecursion-append as all_append}
 use Rattle.node_laws.proofs.Cases.{by_list, by_test}
 

@@ -2,17 +2,10 @@
 use Rattle.std.proofs.Common.{◌≡◌, ℕ, zero, suc, List, [], ◌∷◌, Option, Some, None, refl}
 use Rattle.std.specs.Prelude.{replicate}
 use Rattle.std.specs.List.{AllByRecursion}
-use Rattle.trace_model.specs.declared.line.End.{End}
-use Rattle.trace_model.specs.declared.line.Line.{Line}
+use Rattle.node_laws.proofs.Words.{End, Happening, IsOrderly, Line, LostFor, NodeWorld, Same, Takes, Undetected, Verdict, first_verdict, frames_at, happenings}
+use Rattle.node_laws.proofs.Words.{happens_by, refusal_in, steps_from, taken_of, world_after, world_step}
 use Rattle.trace_model.specs.declared.line.Line.TheVariants as line
-use Rattle.history.specs.Damage.{Verdict}
-use Rattle.history.specs.Damage.Verdict.{Same, LostFor, Undetected}
-use Rattle.history.specs.Follows.{first_verdict, taken_of}
-use Rattle.node_machine.specs.world.World.{NodeWorld, Happening, world_step}
-use Rattle.node_machine.specs.world.World.Happening.{Takes}
-use Rattle.node_machine.specs.world.Lines.{refusal_in, happenings, happens_by, frames_at}
-use Rattle.node_machine.specs.world.NodeHistories.{steps_from, world_after}
-use Rattle.node_laws.specs.telling.Telling.{IsOrderly, EachGoesSo, IsUntimed, IsUntimedLine, AreUntimed}
+use Rattle.node_laws.specs.telling.Telling.{EachGoesSo, IsUntimed, IsUntimedLine, AreUntimed}
 use Rattle.node_laws.proofs.telling.Events.{goes_not, goes_then, untimed_goes}
 use Rattle.node_laws.proofs.telling.Lasting.{AllMay, entries_of_steps, lines_last}
 

@@ -1,19 +1,11 @@
 -- A node keeps its number and its ends.
 use Rattle.std.proofs.Common.{◌≡◌, ℕ, ◌==◌, List, [], ◌∷◌, Some, map, refl, ap, ◌∙◌}
 use Rattle.std.specs.List.{flat_map}
-use Rattle.trace_model.specs.declared.entry.Entry.{Entry}
-use Rattle.link_laws.specs.machine.Machine.{LinkInput, Turn}
-use Rattle.link_laws.specs.machine.Machine.LinkInput.{Tick}
-use Rattle.node_machine.specs.Parts.{Desk, Port, Work, Deed}
-use Rattle.node_machine.specs.Carrying.{noting, changed_if, with_desk, after_turn, turn_at}
-use Rattle.node_machine.specs.Node.{input_at, has_come, all_come, with_older, reset_late, times_out, forgotten, forgets, all_owed, without_notice}
-use Rattle.node_machine.specs.Node.{after_sessions, synced, steps, begins_with}
-use Rattle.node_machine.specs.Node.NodeInput.{AtEnd, TimePasses}
-use Rattle.node_machine.specs.world.World.{runs_on}
-use Rattle.node_laws.specs.kept.Books.{hosts_of_ends}
+use Rattle.node_laws.proofs.Words.{AtEnd, Deed, Desk, Entry, IfItRuns, LinkInput, Port, Tick, TimePasses, Turn, Work, after_sessions, after_turn, all_come}
+use Rattle.node_laws.proofs.Words.{all_owed, begins_with, changed_if, forgets, forgotten, has_come, hosts_of_ends, input_at, noting, reset_late, runs_on, steps}
+use Rattle.node_laws.proofs.Words.{synced, times_out, turn_at, with_desk, with_older, without_notice}
 use Rattle.node_laws.proofs.Cases.{by_test}
 use Rattle.node_laws.proofs.kept.Plainly.{hosts_map}
-use Rattle.node_laws.specs.telling.Telling.{IfItRuns}
 use Rattle.node_laws.proofs.telling.Mute.{AreMute, forgotten_mute, all_owed_mute, all_synced_mute}
 use Rattle.node_laws.proofs.telling.Walks.{AreSilent, all_do, rest}
 use Rattle.node_laws.proofs.steps.Ports.{come_host, forgets_host, changed_host, late_host, without_host, sessions_node}

@@ -3,24 +3,13 @@ use Rattle.std.proofs.Common.{◌≡◌, ℕ, zero, suc, List, [], ◌∷◌, �
 use Rattle.std.specs.Prelude.{Option, Some, None, is_some, replicate, unwrap_or}
 use Rattle.std.specs.List.{AllByRecursion, flat_map}
 use Rattle.std.proofs.lemmas.List.Concat.{flat_map-append}
-use Rattle.trace_model.specs.declared.entry.Entry.{Entry}
-use Rattle.trace_model.specs.declared.entry.NoCause.{NoCause}
+use Rattle.node_laws.proofs.Words.{End, Entry, Happening, Line, LineOutcome, LineStep, Loses, Loss, LostFor, MayBoot, NoCause, NodeWorld, Occurrence, Running}
+use Rattle.node_laws.proofs.Words.{Same, Takes, Ticks, Undetected, Verdict, all_happen, can_happen, entries_in, first_verdict, frames_at, goes_on, happenings}
+use Rattle.node_laws.proofs.Words.{happens_by, line_step, node_at, occurrences_of, refusal_in, steps_from, taken_of, world_after, world_behind, world_step}
 use Rattle.trace_model.specs.declared.entry.NoCause.TheVariants as cause
-use Rattle.trace_model.specs.declared.line.End.{End}
-use Rattle.trace_model.specs.declared.line.Line.{Line}
 use Rattle.trace_model.specs.declared.line.Line.TheVariants as line
-use Rattle.link_laws.specs.messages.Links.{Loss}
-use Rattle.history.specs.Damage.{Verdict}
-use Rattle.history.specs.Damage.Verdict.{Same, LostFor, Undetected}
-use Rattle.history.specs.Follows.{first_verdict, taken_of}
-use Rattle.node_machine.specs.Parts.{Running}
-use Rattle.node_machine.specs.world.World.{NodeWorld, Happening, node_at, world_step}
-use Rattle.node_machine.specs.world.World.Happening.{Takes, Loses, Ticks}
-use Rattle.node_machine.specs.world.Lines.{if_true, frames_at, refusal_in, happens_by, happenings, Occurrence, can_happen, all_happen, LineOutcome, tables_told}
-use Rattle.node_machine.specs.world.Lines.{goes_on, line_step}
+use Rattle.node_machine.specs.world.Lines.{if_true, tables_told}
 use Rattle.node_machine.specs.world.Lines.LineOutcome.{WasRefused}
-use Rattle.node_machine.specs.world.NodeHistories.{LineStep, steps_from, occurrences_of, entries_in, world_after}
-use Rattle.node_laws.specs.telling.Telling.{world_behind, MayBoot}
 use Rattle.node_laws.proofs.Cases.{by_option, by_test}
 
 -- events that may happen one after another

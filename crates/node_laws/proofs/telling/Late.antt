@@ -2,19 +2,17 @@
 -- the tick does and tells.
 use Rattle.std.proofs.Common.{◌≡◌, ℕ, ◌-◌, Bool, true, false, cond, List, [], ◌∷◌, ◌++◌, map, Option, Some, None, refl, ap, sym, ◌∙◌, arith}
 use Rattle.std.specs.Prelude.{is_some, nat_lt, option_to_list}
-use Rattle.swp_base.specs.declared.link_terms.Cause.{Cause}
-use Rattle.swp_base.specs.declared.link_terms.Cause.TheVariants.{Asked, NoAnswer}
-use Rattle.shdlc_core.specs.declared.answers.LinkState.TheVariants.{Up, Waiting}
+use Rattle.node_laws.proofs.Words.{Acked, ActOut, Active, Asked, Cause, Down, EndState, GaveUp, LinkEnd, Reset, Tick, Up, Waiting, act_out, after_input}
+use Rattle.node_laws.proofs.Words.{ended_by, if_so, is_open, no_session, report, runs_timer, tick_answer, ticked, told, whole_acked, whole_among}
+use Rattle.swp_base.specs.declared.link_terms.Cause.TheVariants.{NoAnswer}
 use Rattle.shdlc_core.specs.declared.answers.Ticked.{Ticked}
 use Rattle.shdlc_core.specs.declared.answers.Due.TheVariants.{Rset as Rset_due}
-use Rattle.shdlc_core.specs.Machine.{EndState, no_session, runs_timer, timed, Timed, ticked, nothing_ticked, tick_answer}
+use Rattle.shdlc_core.specs.Machine.{timed, Timed, nothing_ticked}
 use Rattle.shdlc_core.specs.Machine.Timed.{Runs, Over, Spent}
-use Rattle.swp_act.specs.declared.ActOut.{ActOut}
 use Rattle.swp_act.specs.Activation.{no_act_out}
-use Rattle.link_laws.specs.machine.Machine.{LinkEnd, is_open, in_front, whole_among, whole_acked, after_input, ended_by, act_event, act_out, gave_up_by, report}
-use Rattle.link_laws.specs.machine.Machine.LinkInput.{Tick, Reset}
-use Rattle.link_laws.specs.entries.Entries.{End as Side, Entry as Noted, told, if_so}
-use Rattle.link_laws.specs.entries.Entries.Entry.{Up as IsUpNow, Down, Active, GaveUp, Acked}
+use Rattle.link_laws.specs.machine.Machine.{in_front, act_event, gave_up_by}
+use Rattle.link_laws.specs.entries.Entries.{End as Side, Entry as Noted}
+use Rattle.link_laws.specs.entries.Entries.Entry.{Up as IsUpNow}
 
 -- an end that is active and up, and whose session doesn't end by the next tick
 pub record IsLasting (e : LinkEnd) : Type 0 where

@@ -1,15 +1,10 @@
 -- What nodes do notes nothing of a link but by what it does to an end.
 use Rattle.std.proofs.Common.{◌≡◌, ℕ, false, List, refl}
 use Rattle.std.specs.List.{AllByRecursion, flat_map}
-use Rattle.trace_model.specs.declared.entry.Entry.{Entry}
+use Rattle.node_laws.proofs.Words.{Core, Deed, Ends, Entry, Message, NodeInput, OfHost, Plain, Port, all_of_host, all_owed, all_owed_hold, all_synced_hold}
+use Rattle.node_laws.proofs.Words.{deeds_of, forgotten, forgotten_hold, synced, tells_of}
 use Rattle.trace_model.specs.declared.entry.Entry.TheVariants as entry
-use Rattle.link_laws.specs.machine.Machine.{Message}
-use Rattle.node_machine.specs.Parts.{Core, Port, Deed}
-use Rattle.node_machine.specs.Parts.Deed.{Ends}
-use Rattle.node_machine.specs.Turns.{deeds_of}
-use Rattle.node_machine.specs.Node.{NodeInput, forgotten, all_owed, synced}
-use Rattle.node_laws.specs.telling.Telling.{tells_of}
-use Rattle.node_machine.proofs.Walks.{Plain, OfHost, any_of_controller, all_of_host, deeds_hold, forgotten_hold, all_owed_hold, all_synced_hold}
+use Rattle.node_machine.proofs.Walks.{any_of_controller, deeds_hold}
 
 -- what a node notes beside its links, its turns, its boots and its power
 abbrev pub IsPlain : Entry → Type 0

@@ -4,32 +4,16 @@ use Rattle.std.specs.Prelude.{if◌then◌else◌}
 use Rattle.std.specs.List.{flat_map}
 use Rattle.std.specs.Option.{option_map_or}
 use Rattle.std.proofs.lemmas.Bool.{eqb-true, ne_eqb, true≢false}
-use Rattle.trace_model.specs.declared.entry.Entry.{Entry}
-use Rattle.link_laws.proofs.entries.Lasting.{same_number}
-use Rattle.link_laws.specs.machine.Machine.{LinkInput}
-use Rattle.link_laws.specs.machine.Machine.Role.{Bare}
-use Rattle.link_laws.specs.messages.Links.{NumberedEnd, Comes, new_link, exchanged, number_of}
-use Rattle.link_laws.specs.messages.Links.Comes.{NextFrame, NoInput}
-use Rattle.link_laws.specs.messages.Links.EndEvent.{Step}
-use Rattle.link_laws.specs.messages.Links.LinkEvent.{AtController, AtHost}
-use Rattle.link_laws.specs.entries.Entries.{step_entries}
-use Rattle.link_laws.specs.entries.Entries.End.{Controller, Host}
-use Rattle.history.specs.Steps.{entries_for}
-use Rattle.node_machine.specs.Parts.{Desk, Running, Port, Work, Deed}
-use Rattle.node_machine.specs.Carrying.{port_at}
-use Rattle.node_machine.specs.Node.{steps, begins_with}
-use Rattle.node_machine.specs.Node.NodeInput.{AtEnd}
-use Rattle.node_machine.specs.world.World.{Site, NodeWorld, site_at, link_to, input_of, near_end_in, arrival, wires_for, port_for, work_of, ending_of, turns_at}
-use Rattle.node_machine.specs.world.World.{frames_noted, comes_to, controller_work, after_controller, host_work}
-use Rattle.node_laws.specs.kept.Books.{hosts_of_ends}
-use Rattle.node_laws.specs.kept.Hosts.{AreDifferent}
-use Rattle.node_laws.specs.telling.Telling.{of_link, TellOf, HasEnds, hosts_in, IsOrderly}
+use Rattle.node_laws.proofs.Words.{AreDifferent, AtController, AtEnd, AtHost, Bare, Comes, Controller, Deed, Desk, Entry, HasEnds, Host, IsOrderly, LinkInput}
+use Rattle.node_laws.proofs.Words.{NextFrame, NoInput, NodeWorld, NumberedEnd, Port, Running, Site, Standing, StandsOf, Step, TellOf, Work, after_controller}
+use Rattle.node_laws.proofs.Words.{after_power, arrival, begins_with, comes_to, controller_work, ending_of, entries_for, exchanged, frames_noted, host_work}
+use Rattle.node_laws.proofs.Words.{hosts_in, hosts_of_ends, input_of, link_to, near_end_in, new_link, number_of, of_link, port_at, port_for, same_number}
+use Rattle.node_laws.proofs.Words.{site_at, standing, step_entries, steps, turns_at, wires_for, without_power, work_of}
 use Rattle.node_laws.proofs.Cases.{by_test}
 use Rattle.node_laws.proofs.telling.Mute.{AreMute}
 use Rattle.node_laws.proofs.telling.Accounts.{of-append, of_other, at_host}
 use Rattle.node_laws.proofs.telling.Away.{Away}
 use Rattle.node_laws.proofs.telling.Parts.{IsStep}
-use Rattle.node_laws.specs.telling.Standing.{Standing, without_power, after_power, standing, StandsOf}
 use Rattle.node_laws.proofs.telling.Walks.{AreUncut}
 use Rattle.node_laws.proofs.telling.Powers.{entries_uncut, begins_powered, steps_powered}
 use Rattle.node_laws.proofs.telling.Shapes.{shaped_step, twice, IsAtEnd, comes_stands, step_away, own_frames, all_frames}

@@ -2,18 +2,10 @@
 use Rattle.std.proofs.Common.{◌≡◌, ℕ, ◌==◌, false, List, [], ◌∷◌, map, refl, ap, sym, subst, ◌∙◌}
 use Rattle.std.specs.Prelude.{replicate}
 use Rattle.std.specs.List.{AllByRecursion}
-use Rattle.trace_model.specs.declared.line.Line.{Line}
-use Rattle.journal_laws.specs.Planned.{after_planned}
-use Rattle.link_laws.specs.messages.Links.{NumberedEnd, aged}
-use Rattle.node_machine.specs.Parts.{Work}
-use Rattle.node_machine.specs.world.World.{Site, NodeWorld, Happening, new_site, new_world, link_to, work_of, runs_on}
-use Rattle.node_machine.specs.world.World.{all_aged, controller_ticks, host_ticks, hosts_tick, world_ticks, world_step}
-use Rattle.node_machine.specs.world.World.Happening.{Boots, IsCut, Gives, Inits, Takes, Loses, Ticks, Resets, Activates, Arms}
-use Rattle.node_machine.specs.world.Lines.{happenings}
-use Rattle.node_machine.specs.world.NodeHistories.{world_after}
-use Rattle.node_laws.specs.kept.Hosts.{AreDifferent}
-use Rattle.node_machine.proofs.world.Cases.{site_unticked, site_ticked, near_tick, by_controller_tick, host_tick, by_host_tick}
-use Rattle.node_laws.specs.telling.Telling.{HasEnds, IfItRuns, hosts_in, IsOrderly}
+use Rattle.node_laws.proofs.Words.{Activates, AreDifferent, Arms, Boots, Gives, Happening, HasEnds, IfItRuns, Inits, IsCut, IsOrderly, Line, Loses, NodeWorld}
+use Rattle.node_laws.proofs.Words.{NumberedEnd, Resets, Site, Takes, Ticks, Work, after_planned, aged, all_aged, by_controller_tick, by_host_tick}
+use Rattle.node_laws.proofs.Words.{controller_ticks, happenings, host_tick, host_ticks, hosts_in, hosts_tick, link_to, near_tick, new_site, new_world, runs_on}
+use Rattle.node_laws.proofs.Words.{site_ticked, site_unticked, work_of, world_after, world_step, world_ticks}
 use Rattle.node_laws.proofs.telling.Keeping.{Keeps, tick_keeps, runs_keep}
 use Rattle.node_laws.proofs.telling.Nodes.{hosts_same}
 use Rattle.node_laws.proofs.telling.Events.{orderly_map, untimed_goes}

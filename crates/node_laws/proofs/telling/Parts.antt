@@ -1,18 +1,11 @@
 -- What the law of one link notes of a step of one end, part by part.
 use Rattle.std.proofs.Common.{◌≡◌, ℕ, Bool, true, false, List, [], ◌∷◌, ◌++◌, Option, Some, None, refl, ap, subst, ◌∙◌, max}
 use Rattle.std.specs.Prelude.{◌+◌, if◌then◌else◌, is_some}
-use Rattle.swp_base.specs.declared.control_frames.Control.{Control}
-use Rattle.link_laws.specs.sessions.Sessions.{OnWire, is_rset, is_up, took_with}
-use Rattle.link_laws.specs.machine.Machine.{LinkEnd, LinkInput, Turn, turned, after_input, ended_by, frames_out}
-use Rattle.link_laws.specs.machine.Machine.LinkInput.{Take, Tick, Reset, Start, Stop}
-use Rattle.link_laws.specs.messages.Links.{NumberedEnd, Link, Ending, Comes, Node, number_of, put, with_ended, silent}
-use Rattle.link_laws.specs.messages.Links.Ending.{GoesOut, CutOff}
-use Rattle.link_laws.specs.messages.Links.Comes.{NextFrame, AsksReset, Starts, Stops, NoInput}
-use Rattle.link_laws.specs.entries.Entries.{End as Side, Entry as Noted, far, told_of, turn_entries, pushed_out, wire_with, put_entries, puts_entries}
-use Rattle.link_laws.specs.entries.Entries.{ending_entries, rest_entries, left_after, step_entries, tick_entries}
-use Rattle.link_laws.specs.entries.Entries.Entry.{Emit}
-use Rattle.history.specs.Steps.{entries_for}
-use Rattle.node_machine.specs.world.World.{input_of, near_end_in, arrival, wires_for}
+use Rattle.node_laws.proofs.Words.{AsksReset, Comes, Control, CutOff, Emit, Ending, GoesOut, Link, LinkEnd, LinkInput, NextFrame, NoInput, Node, NumberedEnd}
+use Rattle.node_laws.proofs.Words.{OnWire, Reset, Start, Starts, Stop, Stops, Take, Tick, Turn, after_input, arrival, ended_by, ending_entries, entries_for}
+use Rattle.node_laws.proofs.Words.{far, frames_out, input_of, is_rset, is_up, left_after, near_end_in, number_of, pushed_out, put, put_entries, puts_entries}
+use Rattle.node_laws.proofs.Words.{rest_entries, silent, step_entries, tick_entries, told_of, took_with, turn_entries, turned, wire_with, wires_for, with_ended}
+use Rattle.link_laws.specs.entries.Entries.{End as Side, Entry as Noted}
 use Rattle.link_laws.proofs.entries.Noting.{ended_number}
 
 -- ## Frames that go out

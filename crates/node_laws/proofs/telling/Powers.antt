@@ -3,26 +3,16 @@ use Rattle.std.proofs.Common.{◌≡◌, ℕ, ◌==◌, Bool, true, false, cond,
 use Rattle.std.specs.List.{AllByRecursion, flat_map, fold}
 use Rattle.std.specs.Option.{option_map_or}
 use Rattle.std.proofs.lemmas.List.Sums.{fold-append}
-use Rattle.trace_model.specs.declared.entry.Entry.{Entry}
+use Rattle.node_laws.proofs.Words.{AtEnd, Core, Cut, Deed, Desk, End, Entry, Give, LinkInput, Message, NodeInput, Port, Refused, Reset, Restarted, Saying}
+use Rattle.node_laws.proofs.Words.{Standing, TimePasses, Turn, Work, Write, after_input, after_power, after_sessions, all_come, all_owed, begins_with, end_of}
+use Rattle.node_laws.proofs.Words.{entries_for, entry_of, forgets, forgotten, give_refusal, input_at, is_late, is_of, law_noted, loses_power, noted_of, noting}
+use Rattle.node_laws.proofs.Words.{of_link, own_side, port_at, report, said, said_far, said_near, sent_unless, standing, standing_by_law, stands_noted}
+use Rattle.node_laws.proofs.Words.{stands_said, stands_told, steps, synced, tells_of, times_out, told, told_at, told_late, turn_at, whole_acked, with_desk}
+use Rattle.node_laws.proofs.Words.{with_older, without_notice}
 use Rattle.trace_model.specs.declared.entry.Entry.TheVariants as entry
-use Rattle.trace_model.specs.declared.line.End.{End}
-use Rattle.journal_laws.specs.Writes.{Write}
-use Rattle.link_laws.specs.machine.Machine.{LinkInput, Refused, Turn, Message, give_refusal, report, whole_acked, after_input}
-use Rattle.link_laws.specs.machine.Machine.LinkInput.{Reset}
-use Rattle.link_laws.specs.machine.Machine.Turn.{Give}
-use Rattle.link_laws.specs.entries.Entries.{End as Side, Entry as Noted, told, sent_unless}
-use Rattle.link_laws.specs.entries.Entries.Entry.{Tick, Restarted, Cut}
-use Rattle.history.specs.Filters.{Saying, said}
+use Rattle.link_laws.specs.entries.Entries.{End as Side, Entry as Noted}
+use Rattle.link_laws.specs.entries.Entries.Entry.{Tick}
 use Rattle.history.specs.Filters.Saying.{Sends}
-use Rattle.history.specs.Steps.{end_of, entry_of, entries_for}
-use Rattle.node_machine.specs.Parts.{Desk, Core, Port, Work, Deed}
-use Rattle.node_machine.specs.Carrying.{own_side, noting, port_at, with_desk, noted_of, turn_at, loses_power}
-use Rattle.node_machine.specs.Node.{NodeInput, input_at, told_at, all_come, with_older, is_late, told_late, times_out, forgotten, forgets, all_owed}
-use Rattle.node_machine.specs.Node.{without_notice, after_sessions, synced, steps, begins_with}
-use Rattle.node_machine.specs.Node.NodeInput.{AtEnd, TimePasses}
-use Rattle.node_laws.specs.telling.Telling.{is_of, tells_of, of_link}
-use Rattle.node_laws.specs.telling.Standing.{Standing, said_near, said_far, stands_said, stands_told}
-use Rattle.node_laws.specs.telling.Standing.{after_power, stands_noted, standing, law_noted, standing_by_law}
 use Rattle.registry.proofs.ValueLemmas.{AllByRecursion-append as all_append}
 use Rattle.node_laws.proofs.Cases.{by_test}
 use Rattle.node_laws.proofs.telling.Mute.{AreMute, forgotten_mute, all_owed_mute, all_synced_mute}

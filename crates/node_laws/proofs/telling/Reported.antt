@@ -3,10 +3,9 @@ use Rattle.std.proofs.Common.{ℕ, Bool, true, false, List, [], ◌∷◌, ◌++
 use Rattle.std.specs.Prelude.{nat_lt, option_to_list}
 use Rattle.std.specs.List.{AllByRecursion}
 use Rattle.registry.proofs.ValueLemmas.{AllByRecursion-append as all_append}
-use Rattle.swp_base.specs.declared.link_terms.Cause.{Cause}
-use Rattle.link_laws.specs.machine.Machine.{Message, Report}
-use Rattle.link_laws.specs.entries.Entries.{End as Side, Entry as Noted, if_so, told}
-use Rattle.link_laws.specs.entries.Entries.Entry.{Up, Down, Active, GaveUp, Acked, Got}
+use Rattle.node_laws.proofs.Words.{Acked, Active, Cause, Down, GaveUp, Got, Message, Report, if_so, told}
+use Rattle.link_laws.specs.entries.Entries.{End as Side, Entry as Noted}
+use Rattle.link_laws.specs.entries.Entries.Entry.{Up}
 
 module _ (P : Noted → Type 0) (who : Side) (n acked : ℕ) (up : P (Up who n)) (active : P (Active who)) (gave_up : (tries : ℕ) → P (GaveUp who tries))
     (some_acked : P (Acked who n acked)) (got : (m : Message) → P (Got who n m)) where

@@ -5,29 +5,15 @@ use Rattle.std.proofs.Common.{append_assoc}
 use Rattle.std.specs.Prelude.{nat_lt, is_some}
 use Rattle.std.specs.List.{flat_map}
 use Rattle.std.proofs.lemmas.List.Sums.{fold-append}
-use Rattle.swp_base.specs.declared.control_frames.Control.{Control}
-use Rattle.trace_model.specs.declared.entry.Entry.{Entry}
-use Rattle.link_laws.specs.sessions.Sessions.{OnWire, took_with}
-use Rattle.link_laws.specs.machine.Machine.{LinkEnd, LinkInput, Refused, Report, Turn, Message, report, whole_acked, after_input, ended_by, turn, turned}
-use Rattle.link_laws.specs.machine.Machine.{give_refusal, frames_out}
-use Rattle.link_laws.specs.machine.Machine.LinkInput.{Take, Tick as HasTick, Reset, Start, Stop}
-use Rattle.link_laws.specs.machine.Machine.Turn.{Give}
-use Rattle.link_laws.specs.messages.Links.{NumberedEnd, Link, Ending, Comes, Loss, Node, number_of, put, with_ended, silent}
-use Rattle.link_laws.specs.messages.Links.Ending.{GoesOut, CutOff}
-use Rattle.link_laws.specs.messages.Links.Comes.{NextFrame, AsksReset, Starts, Stops, NoInput}
-use Rattle.link_laws.specs.messages.Links.Loss.{TooMany}
-use Rattle.link_laws.specs.entries.Entries.{End as Side, Entry as Noted, far, told, told_of, turn_entry, sent_unless, turn_entries}
-use Rattle.link_laws.specs.entries.Entries.{first_lost, pushed_out}
-use Rattle.link_laws.specs.entries.Entries.{wire_with, puts_entries, ending_entries, rest_entries, input_entries, left_after, step_entries, aged_entries}
-use Rattle.link_laws.specs.entries.Entries.{tick_entries}
-use Rattle.link_laws.specs.entries.Entries.End.{Controller, Host}
-use Rattle.link_laws.specs.entries.Entries.Entry.{Took, Restarted, Cut}
-use Rattle.history.specs.Steps.{entry_of, entries_for}
-use Rattle.node_machine.specs.Parts.{Work}
-use Rattle.node_machine.specs.Carrying.{port_at}
-use Rattle.node_machine.specs.world.World.{Site, input_of, ending_of, frames_noted}
-use Rattle.node_laws.specs.telling.Telling.{of_link}
-use Rattle.node_laws.specs.telling.Standing.{Standing, stands_told, without_power, stands_noted, after_power, standing, law_noted, standing_by_law}
+use Rattle.node_laws.proofs.Words.{AsksReset, Comes, Control, Controller, Cut, CutOff, Ending, Entry, Give, GoesOut, Host, Link, LinkEnd, LinkInput, Loss}
+use Rattle.node_laws.proofs.Words.{Message, NextFrame, NoInput, Node, NumberedEnd, OnWire, Refused, Report, Reset, Restarted, Site, Standing, Start, Starts}
+use Rattle.node_laws.proofs.Words.{Stop, Stops, Take, TooMany, Took, Turn, Work, after_input, after_power, aged_entries, ended_by, ending_entries, ending_of}
+use Rattle.node_laws.proofs.Words.{entries_for, entry_of, far, first_lost, frames_noted, frames_out, give_refusal, input_entries, input_of, law_noted}
+use Rattle.node_laws.proofs.Words.{left_after, number_of, of_link, port_at, pushed_out, put, puts_entries, report, rest_entries, sent_unless, silent, standing}
+use Rattle.node_laws.proofs.Words.{standing_by_law, stands_noted, stands_told, step_entries, tick_entries, told, told_of, took_with, turn, turn_entries}
+use Rattle.node_laws.proofs.Words.{turn_entry, turned, whole_acked, wire_with, with_ended, without_power}
+use Rattle.link_laws.specs.machine.Machine.LinkInput.{Tick as HasTick}
+use Rattle.link_laws.specs.entries.Entries.{End as Side, Entry as Noted}
 use Rattle.node_laws.proofs.Cases.{by_option, by_test}
 use Rattle.node_laws.proofs.telling.Reported.{told_all}
 use Rattle.node_laws.proofs.telling.Walks.{AreUncut}

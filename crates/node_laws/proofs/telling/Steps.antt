@@ -5,21 +5,12 @@ use Rattle.std.specs.List.{AllByRecursion, find, flat_map, list_any}
 use Rattle.std.specs.Option.{option_map_or}
 use Rattle.std.proofs.lemmas.Bool.{eqb-true}
 use Rattle.std.proofs.lemmas.List.Concat.{flat_map-append}
-use Rattle.trace_model.specs.declared.entry.Entry.{Entry}
-use Rattle.link_laws.specs.machine.Machine.{LinkEnd, LinkInput, Turn, turned, after_input, report, whole_acked}
-use Rattle.link_laws.specs.messages.Links.{Link, Comes, number_of}
-use Rattle.link_laws.specs.entries.Entries.{End as Side, Entry as Noted, told, turn_entries, ending_entries, step_entries}
-use Rattle.history.specs.Steps.{entry_of, entries_for}
-use Rattle.node_machine.specs.Parts.{Core, Port, Work, Deed}
-use Rattle.node_machine.specs.Carrying.{own_side, port_at}
-use Rattle.node_machine.specs.Controller.{asked_at}
-use Rattle.node_machine.specs.Node.{NodeInput, input_at, has_come, told_at, all_come, is_over, is_forgotten, forgotten, forgets, all_owed, without_notice}
-use Rattle.node_machine.specs.Node.{after_sessions, synced, steps, begins_with}
-use Rattle.node_machine.specs.Node.NodeInput.{AtEnd}
-use Rattle.node_machine.specs.world.World.{input_of, near_end_in, arrival, wires_for, ending_of, turns_at, frames_noted}
-use Rattle.node_laws.specs.kept.Books.{hosts_of_ends}
-use Rattle.node_laws.specs.kept.Hosts.{AreDifferent}
-use Rattle.node_laws.specs.telling.Telling.{of_link}
+use Rattle.node_laws.proofs.Words.{AreDifferent, AtEnd, Comes, Core, Deed, Entry, Link, LinkEnd, LinkInput, NodeInput, Port, Turn, Work, after_input}
+use Rattle.node_laws.proofs.Words.{after_sessions, all_come, all_owed, arrival, asked_at, begins_with, ending_entries, ending_of, entries_for, entry_of}
+use Rattle.node_laws.proofs.Words.{forgets, forgotten, frames_noted, has_come, hosts_of_ends, input_at, input_of, is_forgotten, is_over, near_end_in, number_of}
+use Rattle.node_laws.proofs.Words.{of_link, own_side, port_at, report, step_entries, steps, synced, told, told_at, turn_entries, turned, turns_at, whole_acked}
+use Rattle.node_laws.proofs.Words.{wires_for, without_notice}
+use Rattle.link_laws.specs.entries.Entries.{End as Side, Entry as Noted}
 use Rattle.node_laws.proofs.Cases.{by_test, by_option}
 use Rattle.node_laws.proofs.telling.Mute.{AreMute, forgotten_mute, all_owed_mute, all_synced_mute}
 use Rattle.node_laws.proofs.telling.Walks.{all_do, rest}

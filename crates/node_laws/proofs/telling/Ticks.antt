@@ -3,23 +3,13 @@ use Rattle.std.proofs.Common.{◌≡◌, ℕ, ◌==◌, Bool, true, false, List,
 use Rattle.std.specs.Prelude.{nat_le, ◌+◌, ◌&&◌, is_some}
 use Rattle.std.specs.List.{flat_map}
 use Rattle.std.proofs.lemmas.Bool.{eqb-true}
-use Rattle.trace_model.specs.declared.entry.Entry.{Entry}
-use Rattle.shdlc_core.specs.declared.answers.LinkState.TheVariants.{Up}
-use Rattle.link_laws.specs.machine.Machine.{LinkEnd, LinkInput, is_open, turned, after_input, ended_by, report, whole_acked}
-use Rattle.link_laws.specs.machine.Machine.LinkInput.{Tick, Reset}
-use Rattle.link_laws.specs.messages.Links.{Link, number_of}
-use Rattle.link_laws.specs.messages.Links.Comes.{AsksReset, NoInput}
-use Rattle.link_laws.specs.entries.Entries.{End as Side, told, told_of, turn_entries}
-use Rattle.history.specs.Steps.{entries_for}
-use Rattle.node_machine.specs.Parts.{Notice, Core, Port, Work}
-use Rattle.node_machine.specs.Carrying.{own_side, port_at}
-use Rattle.node_machine.specs.Node.{has_come, told_at, all_come, with_older, is_late, reset_late, told_late, times_out, forgotten, forgets, all_owed}
-use Rattle.node_machine.specs.Node.{without_notice, after_sessions, synced, steps}
-use Rattle.node_machine.specs.Node.NodeInput.{TimePasses}
-use Rattle.node_laws.specs.kept.Hosts.{AreDifferent}
+use Rattle.node_laws.proofs.Words.{AreDifferent, AsksReset, Core, Entry, Link, LinkEnd, LinkInput, NoInput, Notice, Port, Reset, Tick, TimePasses, Up, Work}
+use Rattle.node_laws.proofs.Words.{after_input, after_sessions, all_come, all_owed, ended_by, entries_for, forgets, forgotten, has_come, is_due, is_late}
+use Rattle.node_laws.proofs.Words.{is_open, number_of, of_link, own_side, port_at, report, reset_late, steps, synced, times_out, told, told_at, told_late}
+use Rattle.node_laws.proofs.Words.{told_of, turn_entries, turned, whole_acked, with_older, without_notice}
+use Rattle.link_laws.specs.entries.Entries.{End as Side}
 use Rattle.node_laws.proofs.Cases.{by_option, by_test}
 use Rattle.node_laws.proofs.kept.Plainly.{hosts_map}
-use Rattle.node_laws.specs.telling.Telling.{of_link, is_due}
 use Rattle.node_laws.proofs.telling.Mute.{forgotten_mute, all_owed_mute, all_synced_mute}
 use Rattle.node_laws.proofs.telling.Walks.{rest}
 use Rattle.node_laws.proofs.telling.Accounts.{of-append, of_other, at_host, SameEnd, note, desk, turns, beside}

@@ -2,26 +2,13 @@
 -- kept of an end, over turns, over the loss of power, and over what changes neither ends nor entries.
 use Rattle.std.proofs.Common.{◌≡◌, ℕ, Bool, true, false, List, [], ◌∷◌, ◌++◌, length, Some, None, refl}
 use Rattle.std.specs.List.{AllByRecursion}
-use Rattle.trace_model.specs.declared.entry.Entry.{Entry}
+use Rattle.node_laws.proofs.Words.{About, Asks, Command, Commits, Deed, Desk, Drops, Ends, Entry, FetchMessage, Give, GoesOn, Hears, Hold, IsAnswered, Message}
+use Rattle.node_laws.proofs.Words.{Orders, Release, Releases, Removed, SaysOk, Sends, SetAside, SetsErrors, Tells, Turn, Waits, Work, Write, all_done}
+use Rattle.node_laws.proofs.Words.{answers_and_passes, anyone, body_of, commit, commit_writes, count_of, done, end_of_node, fails_within, handles, holds_back}
+use Rattle.node_laws.proofs.Words.{keeps, lets_go, loses_power, notified, noting, tells_of, turn_at, with_desk}
 use Rattle.trace_model.specs.declared.entry.Entry.TheVariants as entry
-use Rattle.journal_laws.specs.Planned.{fails_within}
-use Rattle.journal_laws.specs.Writes.{Write}
-use Rattle.journal_laws.specs.Journal.{count_of}
-use Rattle.hci_tables.specs.declared.command.Command.{Command}
-use Rattle.hci_tables.specs.Bodies.{body_of}
-use Rattle.hci_store.specs.Committing.{commit_writes}
-use Rattle.link_laws.specs.machine.Machine.{Message, Turn}
-use Rattle.link_laws.specs.machine.Machine.Turn.{Give, Hold, FetchMessage, SetAside, Release}
-use Rattle.node_machine.specs.Parts.{About, Desk, Work, Deed}
-use Rattle.node_machine.specs.Parts.About.{Waits, Removed}
-use Rattle.node_machine.specs.Parts.Deed.{Commits, Sends, SaysOk, Asks, Releases, Tells, IsAnswered, Drops, SetsErrors, Orders, Hears, GoesOn, Ends}
-use Rattle.node_machine.specs.Carrying.{end_of_node, noting, with_desk, turn_at, notified, loses_power, keeps, commit, done, all_done}
-use Rattle.node_machine.specs.Turns.{handles, holds_back, lets_go}
-use Rattle.node_machine.specs.Node.{answers_and_passes}
 use Rattle.node_laws.proofs.Cases.{by_test}
 use Rattle.node_laws.proofs.steps.StepWalks.{got_at, all_do as all_done_so, lets as lets_as, holds as holds_as, Lasts, handled, rest_lasts as rest_as}
-use Rattle.node_machine.proofs.Walks.{anyone}
-use Rattle.node_laws.specs.telling.Telling.{tells_of}
 use Rattle.node_laws.proofs.telling.Mute.{IsPlain, plain_untold, IsMute, AreMute, deeds_mute}
 
 -- they tell of no link

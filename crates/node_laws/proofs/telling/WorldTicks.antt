@@ -7,35 +7,19 @@ use Rattle.std.specs.Option.{option_map_or}
 use Rattle.std.specs.Option.{option_map}
 use Rattle.std.proofs.lemmas.Bool.{eqb-true}
 use Rattle.std.proofs.lemmas.List.Sums.{fold-append}
-use Rattle.swp_act.specs.Activation.{new_clf, new_uicc}
-use Rattle.trace_model.specs.declared.entry.Entry.{Entry}
-use Rattle.shdlc_core.specs.Machine.{is_waiting}
-use Rattle.journal_laws.specs.Planned.{after_planned}
-use Rattle.link_laws.specs.machine.Machine.{LinkEnd, LinkInput, Turn, new_link_end, turned, after_input, ended_by, report, whole_acked, frames_out}
-use Rattle.link_laws.specs.machine.Machine.LinkInput.{Tick, Reset}
-use Rattle.link_laws.specs.machine.Machine.Role.{Clf, Uicc}
-use Rattle.link_laws.specs.messages.Links.{NumberedEnd, Link, Ending, Node, LinkEvent, exchanged, aged, has_input, with_ended, steps_at_controller}
-use Rattle.link_laws.specs.messages.Links.{ticks_at_controller, happens, number_of}
-use Rattle.link_laws.specs.messages.Links.Ending.{GoesOut}
-use Rattle.link_laws.specs.messages.Links.Comes.{AsksReset, NoInput}
-use Rattle.link_laws.specs.messages.Links.EndEvent.{Step}
-use Rattle.link_laws.specs.messages.Links.LinkEvent.{Ticks, TicksWithout}
-use Rattle.link_laws.proofs.messages.Project.{host_ended}
-use Rattle.link_laws.specs.entries.Entries.{End as Side, Entry as Noted, told, puts_entries, step_entries, aged_entries, tick_entries, event_entries}
-use Rattle.link_laws.specs.entries.Entries.End.{Controller, Host}
-use Rattle.link_laws.proofs.entries.Stepping.{host_finished}
-use Rattle.history.specs.Steps.{entries_for}
-use Rattle.node_machine.specs.Parts.{Desk, Running, Port, Work}
-use Rattle.node_machine.specs.Carrying.{port_at}
-use Rattle.node_machine.specs.Node.{is_late}
-use Rattle.node_machine.specs.Node.NodeInput.{TimePasses}
-use Rattle.node_machine.specs.world.World.{Site, NodeWorld, site_at, link_to, port_for, work_of, ending_of, turns_at, runs_on, frames_noted, all_aged}
-use Rattle.node_machine.specs.world.World.{is_late_at}
-use Rattle.node_machine.specs.world.World.{ticked_so, controller_ticks, host_ticks, hosts_tick, world_ticks}
-use Rattle.node_laws.specs.kept.Hosts.{AreDifferent}
-use Rattle.node_machine.proofs.world.Cases.{near_tick, by_controller_tick, host_tick, after_tick, by_host_tick, site_ticked, site_unticked}
-use Rattle.node_laws.specs.telling.Telling.{of_link, TellOf, HasEnds, IfItRuns, hosts_in, IsOrderly, GoesSo, Tells, is_due, NoneDue, IfOff, IfDue, IsTimely}
-use Rattle.node_laws.specs.telling.Standing.{Standing, without_power, stands_noted, standing, law_noted, standing_by_law, StandsOf}
+use Rattle.node_laws.proofs.Words.{AreDifferent, AsksReset, Clf, Controller, Desk, Ending, Entry, GoesOut, HasEnds, Host, IfDue, IfItRuns, IfOff, IsOrderly}
+use Rattle.node_laws.proofs.Words.{IsTimely, Link, LinkEnd, LinkEvent, LinkInput, NoInput, Node, NodeWorld, NoneDue, NumberedEnd, Port, Reset, Running, Site}
+use Rattle.node_laws.proofs.Words.{Standing, StandsOf, Step, TellOf, Tick, TicksWithout, TimePasses, Turn, Uicc, Work, after_input, after_planned, aged}
+use Rattle.node_laws.proofs.Words.{aged_entries, all_aged, by_controller_tick, by_host_tick, controller_ticks, ended_by, ending_of, entries_for, event_entries}
+use Rattle.node_laws.proofs.Words.{exchanged, frames_noted, frames_out, happens, has_input, host_ended, host_finished, host_tick, host_ticks, hosts_in}
+use Rattle.node_laws.proofs.Words.{hosts_tick, is_due, is_late, is_late_at, is_waiting, law_noted, link_to, near_tick, new_clf, new_link_end, new_uicc}
+use Rattle.node_laws.proofs.Words.{number_of, of_link, port_at, port_for, puts_entries, report, runs_on, site_at, site_ticked, site_unticked, standing}
+use Rattle.node_laws.proofs.Words.{standing_by_law, stands_noted, step_entries, steps_at_controller, tick_entries, ticked_so, ticks_at_controller, told, turned}
+use Rattle.node_laws.proofs.Words.{turns_at, whole_acked, with_ended, without_power, work_of, world_ticks}
+use Rattle.link_laws.specs.messages.Links.LinkEvent.{Ticks}
+use Rattle.link_laws.specs.entries.Entries.{End as Side, Entry as Noted}
+use Rattle.node_machine.proofs.world.Cases.{after_tick}
+use Rattle.node_laws.specs.telling.Telling.{GoesSo, Tells}
 use Rattle.node_laws.proofs.Cases.{by_test}
 use Rattle.node_laws.proofs.telling.Walks.{AreUncut}
 use Rattle.node_laws.proofs.telling.Powers.{uncut_flat, entries_uncut, clear_stands, steps_powered}

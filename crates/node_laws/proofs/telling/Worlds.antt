@@ -1,19 +1,9 @@
 -- What the events of a world tell of each link.
 use Rattle.std.proofs.Common.{◌≡◌, ℕ, ◌==◌, false, List, [], ◌∷◌, ◌++◌, Option, Some, None, refl, ap, sym, subst, ◌∙◌}
 use Rattle.std.specs.List.{AllByRecursion}
-use Rattle.trace_model.specs.declared.entry.Entry.{Entry}
-use Rattle.link_laws.specs.machine.Machine.{LinkInput}
-use Rattle.link_laws.specs.messages.Links.{Comes, exchanged}
-use Rattle.link_laws.specs.messages.Links.Comes.{NoInput}
-use Rattle.link_laws.specs.messages.Links.EndEvent.{Step}
-use Rattle.link_laws.specs.messages.Links.LinkEvent.{AtHost}
-use Rattle.link_laws.specs.entries.Entries.End.{Host}
-use Rattle.node_machine.specs.Parts.{Running, Work, Deed}
-use Rattle.node_machine.specs.Node.{steps, begins_with}
-use Rattle.node_machine.specs.Node.NodeInput.{AtEnd}
-use Rattle.node_machine.specs.world.World.{Site, NodeWorld, site_at, input_of, ending_of, turns_at, frames_noted, wires_for, host_work, host_does}
-use Rattle.node_laws.specs.telling.Telling.{of_link, TellOf, HasEnds, IsOrderly, IfItRuns}
-use Rattle.node_laws.specs.telling.Standing.{Standing, standing, StandsOf}
+use Rattle.node_laws.proofs.Words.{AtEnd, AtHost, Comes, Deed, Entry, HasEnds, Host, IfItRuns, IsOrderly, LinkInput, NoInput, NodeWorld, Running, Site}
+use Rattle.node_laws.proofs.Words.{Standing, StandsOf, Step, TellOf, Work, begins_with, ending_of, exchanged, frames_noted, host_does, host_work, input_of}
+use Rattle.node_laws.proofs.Words.{of_link, site_at, standing, steps, turns_at, wires_for}
 use Rattle.node_laws.proofs.Cases.{by_test}
 use Rattle.node_laws.proofs.telling.Mute.{AreMute}
 use Rattle.node_laws.proofs.telling.Nodes.{site_host, HostTells, host_steps, host_begins}

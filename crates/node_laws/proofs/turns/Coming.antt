@@ -6,24 +6,14 @@ use Rattle.std.specs.List.{AllByRecursion, flat_map}
 use Rattle.std.proofs.lemmas.Bool.{eqb-true}
 use Rattle.std.proofs.lemmas.List.Concat.{flat_map-append}
 use mathlib.Core.Bool.{and-false}
-use Rattle.trace_model.specs.declared.entry.Entry.{Entry}
+use Rattle.node_laws.proofs.Words.{Acked, Active, AreDifferent, AtEnd, Cause, Core, Cut, Deed, Down, End, Entry, GaveUp, Got, IsComing, IsOutside, LinkEnd}
+use Rattle.node_laws.proofs.Words.{LinkInput, Message, NodeInput, Port, Report, Reset, Restarted, Tick, TimePasses, Work, after_input, after_sessions, all_come}
+use Rattle.node_laws.proofs.Words.{all_owed, answers_and_passes, begins_with, end_of, entries_for, entry_of, forgets, forgotten, has_come, hosts_of_ends, if_so}
+use Rattle.node_laws.proofs.Words.{input_at, is_late, own_side, port_at, report, reset_late, same_end, steps, synced, times_out, told, told_at, told_late}
+use Rattle.node_laws.proofs.Words.{whole_acked, with_older, without_notice}
 use Rattle.trace_model.specs.declared.entry.Entry.TheVariants as entry
-use Rattle.trace_model.specs.declared.line.End.{End}
-use Rattle.swp_base.specs.declared.link_terms.Cause.{Cause}
-use Rattle.link_laws.specs.machine.Machine.{Message, LinkEnd, LinkInput, Report, after_input, report, whole_acked}
-use Rattle.link_laws.specs.machine.Machine.LinkInput.{Tick, Reset}
-use Rattle.link_laws.specs.entries.Entries.{End as Side, Entry as Noted, if_so, told}
-use Rattle.link_laws.specs.entries.Entries.Entry.{Up, Down, Active, GaveUp, Acked, Got, Tick as Ticked, Restarted, Cut}
-use Rattle.history.specs.Filters.{same_end}
-use Rattle.history.specs.Steps.{end_of, entry_of, entries_for}
-use Rattle.node_machine.specs.Parts.{Core, Port, Work, Deed}
-use Rattle.node_machine.specs.Carrying.{own_side, port_at}
-use Rattle.node_machine.specs.Node.{NodeInput, input_at, has_come, told_at, all_come, with_older, is_late, reset_late, told_late, times_out, forgotten, forgets}
-use Rattle.node_machine.specs.Node.{all_owed, without_notice, after_sessions, synced, answers_and_passes, steps, begins_with}
-use Rattle.node_machine.specs.Node.NodeInput.{AtEnd, TimePasses}
-use Rattle.node_laws.specs.kept.Books.{hosts_of_ends}
-use Rattle.node_laws.specs.kept.Hosts.{AreDifferent}
-use Rattle.node_laws.specs.links.Notices.{IsComing, IsOutside}
+use Rattle.link_laws.specs.entries.Entries.{End as Side, Entry as Noted}
+use Rattle.link_laws.specs.entries.Entries.Entry.{Up, Tick as Ticked}
 use Rattle.node_laws.proofs.Cases.{by_test}
 use Rattle.node_laws.proofs.telling.Mute.{AreMute, forgotten_mute, all_owed_mute, all_synced_mute}
 use Rattle.node_laws.proofs.telling.Parts.{after_coming}

@@ -2,17 +2,12 @@
 use Rattle.std.proofs.Common.{◌≡◌, Bool, true, List, [], ◌∷◌, ◌++◌, Option, Some, None, refl, ap, sym, ◌∙◌, append-nil}
 use Rattle.std.specs.Prelude.{drop, is_some, not, ◌&&◌}
 use Rattle.swp_act.specs.declared.ActEvent.TheVariants.{Start as ActStart, Tick as ActTick, Stop as ActStop}
-use Rattle.shdlc_core.specs.Machine.{is_waiting, ticked, tick_answer, stopped}
-use Rattle.link_laws.specs.machine.Machine.{Message, LinkEnd, LinkInput, Turn, is_open, moved, started, deactivated, give_refusal}
-use Rattle.link_laws.specs.machine.Machine.{aside_refusal}
-use Rattle.link_laws.specs.machine.Machine.{turn, turned, after_input, ended_by, got_by}
-use Rattle.link_laws.specs.machine.Machine.LinkInput.{Take, Tick, Reset, Start, Stop}
-use Rattle.link_laws.specs.machine.Machine.Turn.{Give, FetchMessage, SetAside}
-use Rattle.link_laws.specs.messages.Links.{Link, Ending, Comes, with_ended, finished, silent, has_input, steps_at_controller, ticks_at_controller}
-use Rattle.link_laws.specs.messages.Links.Ending.{GoesOut, CutOff}
-use Rattle.link_laws.specs.messages.Links.Comes.{NextFrame, AsksReset, Starts, Stops, NoInput}
-use Rattle.node_laws.specs.links.Notices.{IsComing}
-use Rattle.node_machine.specs.world.World.{input_of, ticked_so}
+use Rattle.node_laws.proofs.Words.{AsksReset, Comes, CutOff, Ending, FetchMessage, Give, GoesOut, IsComing, Link, LinkEnd, LinkInput, Message, NextFrame}
+use Rattle.node_laws.proofs.Words.{NoInput, Reset, SetAside, Start, Starts, Stop, Stops, Take, Tick, Turn, after_input, aside_refusal, ended_by, finished}
+use Rattle.node_laws.proofs.Words.{give_refusal, has_input, input_of, is_open, is_waiting, moved, silent, started, steps_at_controller, stopped, tick_answer}
+use Rattle.node_laws.proofs.Words.{ticked, ticked_so, ticks_at_controller, turn, turned, with_ended}
+use Rattle.link_laws.specs.machine.Machine.{deactivated}
+use Rattle.link_laws.specs.machine.Machine.{got_by}
 use Rattle.node_laws.proofs.Cases.{by_list, by_option, by_test}
 use Rattle.node_laws.proofs.telling.Parts.{after_coming, IsStep}
 use Rattle.link_laws.proofs.machine.Kept.{moved_got, activated_got, reset_got, took_got}

@@ -2,16 +2,9 @@
 use Rattle.std.proofs.Common.{◌≡◌, ℕ, ◌==◌, Bool, true, false, List, [], ◌∷◌, ◌++◌, Option, Some, None, map, refl, ap, sym, subst}
 use Rattle.std.specs.Prelude.{is_some, replicate}
 use Rattle.std.specs.List.{AllByRecursion}
-use Rattle.trace_model.specs.declared.entry.Entry.{Entry}
-use Rattle.trace_model.specs.declared.line.Header.{Header}
-use Rattle.trace_model.specs.declared.line.Line.{Line}
-use Rattle.link_laws.specs.machine.Machine.{Message}
-use Rattle.node_machine.specs.Parts.{Running}
-use Rattle.node_machine.specs.world.World.{Site, NodeWorld, Happening, site_at, new_site, new_world, end_c, end_h, world_step}
-use Rattle.node_machine.specs.world.NodeHistories.{NodeHistory, FollowsNodes, node_entries, world_after}
+use Rattle.node_laws.proofs.Words.{AreDifferent, Entry, FollowsNodes, Happening, Header, IsOrderly, Line, MayBoot, Message, NodeHistory, NodeWorld, Running}
+use Rattle.node_laws.proofs.Words.{Site, end_c, end_h, new_site, new_world, node_entries, site_at, world_after, world_step}
 use Rattle.node_machine.specs.world.NodeLegal.{AreInTurn}
-use Rattle.node_laws.specs.kept.Hosts.{AreDifferent}
-use Rattle.node_laws.specs.telling.Telling.{IsOrderly, MayBoot}
 use Rattle.node_laws.proofs.Cases.{by_option}
 use Rattle.node_laws.proofs.telling.Lasting.{AnyLine, boots_may, all_lines, entries_of_steps, lines_last}
 use Rattle.node_laws.proofs.telling.Orderly.{step_orderly, new_orderly}

@@ -3,41 +3,21 @@ use Rattle.std.proofs.Common.{◌≡◌, ℕ, ◌==◌, ◌&&◌, Bool, true, fa
 use Rattle.std.specs.Prelude.{is_some, not, if◌then◌else◌}
 use Rattle.std.specs.List.{flat_map}
 use Rattle.std.proofs.lemmas.Bool.{eqb-true, eq-eqb}
-use Rattle.trace_model.specs.declared.entry.Entry.{Entry}
-use Rattle.trace_model.specs.declared.line.End.{End}
-use Rattle.swp_base.specs.InMemory.{Memory}
-use Rattle.link_laws.proofs.entries.Lasting.{same_number}
-use Rattle.link_laws.specs.machine.Machine.{Message, LinkEnd, LinkInput, Turn, after_input}
-use Rattle.shdlc_core.specs.Machine.{is_waiting}
-use Rattle.journal_laws.specs.Planned.{after_planned}
-use Rattle.link_laws.specs.messages.Links.{Link, NumberedEnd, Ending, Comes, exchanged, steps_at_controller}
-use Rattle.link_laws.specs.messages.Links.Comes.{AsksReset, NoInput}
-use Rattle.link_laws.specs.messages.Links.EndEvent.{Step}
+use Rattle.node_laws.proofs.Words.{AreDifferent, AsksReset, AtEnd, Comes, Controller, Deed, Desk, End, Ending, Entry, HasEnds, Host, IsOutside, Link, LinkEnd}
+use Rattle.node_laws.proofs.Words.{LinkInput, Memory, Message, NoInput, NodeInput, NodeWorld, NumberedEnd, Port, Running, Site, Step, TimePasses, Turn, Work}
+use Rattle.node_laws.proofs.Words.{after_controller, after_host, after_input, after_planned, arrival, begins_with, comes_to, controller_work, end_c, end_h}
+use Rattle.node_laws.proofs.Words.{ending_of, entries_for, exchanged, frames_noted, host_tick, host_work, hosts_in, hosts_of_ends, input_of, is_late_at}
+use Rattle.node_laws.proofs.Words.{is_waiting, link_after_controller, link_to, near_end_in, own_side, port_at, port_for, runs_on, same_end, same_number}
+use Rattle.node_laws.proofs.Words.{site_at, site_ticked, steps, steps_at_controller, ticked_so, turns_at, wires_for, work_of}
 use Rattle.link_laws.specs.entries.Entries.{End as Side}
-use Rattle.link_laws.specs.entries.Entries.End.{Controller, Host}
-use Rattle.history.specs.Filters.{same_end}
-use Rattle.history.specs.Steps.{entries_for}
-use Rattle.node_machine.specs.Parts.{Desk, Running, Port, Work, Deed}
-use Rattle.node_machine.specs.Carrying.{own_side, port_at}
-use Rattle.node_machine.specs.Node.{NodeInput, steps, begins_with}
-use Rattle.node_machine.specs.Node.NodeInput.{AtEnd, TimePasses}
-use Rattle.node_machine.specs.world.World.{Site, NodeWorld, site_at, link_to, turns_at, ending_of, runs_on, input_of, near_end_in, arrival, wires_for}
-use Rattle.node_machine.specs.world.World.{frames_noted}
-use Rattle.node_machine.specs.world.World.{comes_to, controller_work, link_after_controller, after_controller, host_work, after_host, port_for}
-use Rattle.node_machine.specs.world.World.{work_of, is_late_at}
-use Rattle.node_machine.specs.world.World.{ticked_so, end_c, end_h}
-use Rattle.node_laws.specs.kept.Books.{hosts_of_ends}
-use Rattle.node_laws.specs.kept.Hosts.{AreDifferent}
-use Rattle.node_laws.specs.links.Notices.{IsOutside}
 use Rattle.node_laws.proofs.Cases.{by_test, by_option}
 use Rattle.node_laws.proofs.links.Ends.{here_host}
 use Rattle.link_laws.proofs.entries.Together.{ticks_host as tick_host}
-use Rattle.node_laws.specs.telling.Telling.{HasEnds, hosts_in}
 use Rattle.node_laws.proofs.telling.Mute.{AreMute}
 use Rattle.node_laws.proofs.telling.Parts.{after_coming}
 use Rattle.node_laws.proofs.telling.Keeping.{Keeps, steps_keep, tick_keeps, begins_keep}
 use Rattle.node_laws.proofs.telling.Nodes.{link_is, site_host, ports_for, hosts_same, stands, is_step}
-use Rattle.node_machine.proofs.world.Cases.{after_tick, host_tick, site_ticked}
+use Rattle.node_machine.proofs.world.Cases.{after_tick}
 use Rattle.node_laws.proofs.readings.Sites.{near_end_side, comes_outside}
 use Rattle.node_laws.proofs.turns.Queues.{goes-append, AreStill, still_goes}
 use Rattle.node_laws.proofs.turns.Ends.{left_by, ended_with, tick_got, step_got, ticks_got, late_got}

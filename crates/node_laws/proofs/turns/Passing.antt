@@ -3,21 +3,11 @@ use Rattle.std.proofs.Common.{◌≡◌, ℕ, ◌==◌, ◌&&◌, Bool, true, fa
 use Rattle.std.specs.Prelude.{drop, not, if◌then◌else◌}
 use Rattle.std.specs.Option.{option_map_or}
 use Rattle.std.proofs.lemmas.Bool.{eqb-true, eq-eqb, true≢false, and_parts}
-use Rattle.trace_model.specs.declared.entry.Entry.{Entry}
+use Rattle.node_laws.proofs.Words.{Controller, Core, Deed, Desk, End, Entry, FetchMessage, Give, Host, Message, Port, Refused, Turn, Work, Write, after_turn}
+use Rattle.node_laws.proofs.Words.{all_done, answers_and_passes, changed_if, deeds_of, end_of, end_of_node, entries_for, give_refusal, handles, have_turns}
+use Rattle.node_laws.proofs.Words.{lack, loses_power, needs, noted_of, noting, own_side, port_at, same_end, sent_unless, turn_at, unless_cut, with_desk}
 use Rattle.trace_model.specs.declared.entry.Entry.TheVariants as entry
-use Rattle.trace_model.specs.declared.line.End.{End}
-use Rattle.journal_laws.specs.Writes.{Write}
-use Rattle.link_laws.specs.machine.Machine.{Message, Refused, Turn, give_refusal}
-use Rattle.link_laws.specs.machine.Machine.Turn.{Give, FetchMessage}
-use Rattle.link_laws.specs.entries.Entries.{End as Side, sent_unless}
-use Rattle.link_laws.specs.entries.Entries.End.{Controller, Host}
-use Rattle.history.specs.Filters.{same_end}
-use Rattle.history.specs.Steps.{end_of, entries_for}
-use Rattle.node_machine.specs.Parts.{Desk, Core, Port, Work, Deed}
-use Rattle.node_machine.specs.Carrying.{own_side, end_of_node, noting, unless_cut, port_at, changed_if, with_desk, after_turn, noted_of, turn_at, loses_power}
-use Rattle.node_machine.specs.Carrying.{needs, lack, all_done}
-use Rattle.node_machine.specs.Turns.{deeds_of, handles, have_turns}
-use Rattle.node_machine.specs.Node.{answers_and_passes}
+use Rattle.link_laws.specs.entries.Entries.{End as Side}
 use Rattle.node_laws.proofs.Cases.{by_option, by_test}
 use Rattle.node_laws.proofs.Cases.{by_option}
 use Rattle.node_laws.proofs.telling.Mute.{IsMute, AreMute, deeds_mute}

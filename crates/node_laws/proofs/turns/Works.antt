@@ -5,19 +5,10 @@ use Rattle.std.specs.Prelude.{is_some}
 use Rattle.std.specs.List.{flat_map}
 use Rattle.std.specs.Option.{option_map_or}
 use Rattle.std.proofs.lemmas.Bool.{eqb-true, eq-eqb, true≢false}
-use Rattle.trace_model.specs.declared.entry.Entry.{Entry}
-use Rattle.trace_model.specs.declared.line.End.{End}
-use Rattle.link_laws.specs.sessions.Sessions.{OnWire}
-use Rattle.link_laws.specs.machine.Machine.{Message, LinkEnd}
-use Rattle.link_laws.specs.messages.Links.{Link, Comes, Loss}
-use Rattle.link_laws.specs.messages.Links.Ending.{GoesOut, CutOff}
-use Rattle.link_laws.specs.entries.Entries.{End as Side, first_lost, ending_entries, aged_entries}
-use Rattle.history.specs.Filters.{same_end}
-use Rattle.history.specs.Steps.{entries_for}
-use Rattle.node_machine.specs.Parts.{Running, Port, Work}
-use Rattle.node_machine.specs.Carrying.{port_at, changed_if}
-use Rattle.node_machine.specs.world.World.{Site, NodeWorld, site_at, with_site, turns_at, ending_of, runs_on, arrival, frames_noted, end_c, end_h}
-use Rattle.node_laws.specs.kept.Books.{hosts_of_ends}
+use Rattle.node_laws.proofs.Words.{Comes, CutOff, End, Entry, GoesOut, Link, LinkEnd, Loss, Message, NodeWorld, OnWire, Port, Running, Site, Work, aged_entries}
+use Rattle.node_laws.proofs.Words.{arrival, changed_if, end_c, end_h, ending_entries, ending_of, entries_for, first_lost, frames_noted, hosts_of_ends, port_at}
+use Rattle.node_laws.proofs.Words.{runs_on, same_end, site_at, turns_at, with_site}
+use Rattle.link_laws.specs.entries.Entries.{End as Side}
 use Rattle.node_laws.proofs.Cases.{by_option, by_test}
 use Rattle.node_laws.proofs.telling.Nodes.{swapped, site_host}
 use Rattle.node_laws.proofs.telling.Events.{site_map}

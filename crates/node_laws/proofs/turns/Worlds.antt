@@ -4,49 +4,27 @@ use Rattle.std.proofs.Math.Bool.{and-false}
 use Rattle.std.specs.Prelude.{is_some}
 use Rattle.std.specs.List.{AllByRecursion}
 use Rattle.std.proofs.lemmas.Bool.{eqb-true, eq-eqb, true≢false}
-use Rattle.swp_base.specs.InMemory.{Memory}
-use Rattle.trace_model.specs.declared.entry.Entry.{Entry}
+use Rattle.node_laws.proofs.Words.{Activates, AreDifferent, Arms, AsksReset, AtController, AtEnd, AtHost, Boots, Broken, Comes, Controller, CutOff, Deed, End}
+use Rattle.node_laws.proofs.Words.{Entry, Gives, GoesOut, Happening, HasEnds, Host, IfItRuns, Inits, IsCut, IsOrderly, Link, LinkInput, Lose, Loses, Loss}
+use Rattle.node_laws.proofs.Words.{MayBoot, Memory, Message, NextFrame, NoInput, NodeWorld, NumberedEnd, OnWire, Resets, Running, Site, Starts, Step, Takes}
+use Rattle.node_laws.proofs.Words.{Ticks, Work, activates, after_host, after_host_step, after_planned, aged, aged_entries, all_aged, beginning, begins_with}
+use Rattle.node_laws.proofs.Words.{boot_found, boot_writes, boot_written, boots, by_boot, by_coming, by_controller, by_controller_tick, by_host, by_host_tick}
+use Rattle.node_laws.proofs.Words.{by_loss, by_memory, by_power, comes_at, controller_does, controller_ticks, count_of, counts, end_c, end_h, entries_for}
+use Rattle.node_laws.proofs.Words.{exchanged, first_lost, frame_lost, frames_noted, happens, host_cut, host_does, host_ticks, host_work, hosts_in, hosts_tick}
+use Rattle.node_laws.proofs.Words.{input_of, link_to, loses_power_at, memory_at, node_at, same_end, sending, site_at, site_lost, site_unticked, steps}
+use Rattle.node_laws.proofs.Words.{ticks_at_controller, wires_for, with_memory, with_node, with_site, world_step, world_ticks}
 use Rattle.trace_model.specs.declared.entry.Entry.TheVariants as entry
-use Rattle.trace_model.specs.declared.line.End.{End}
-use Rattle.journal_laws.specs.Journal.{count_of}
-use Rattle.journal_laws.specs.Planned.{after_planned}
-use Rattle.link_laws.specs.sessions.Sessions.{OnWire}
-use Rattle.link_laws.specs.machine.Machine.{Message, LinkInput}
-use Rattle.link_laws.specs.messages.Links.{NumberedEnd, Link, Comes, Loss, exchanged, aged, happens, ticks_at_controller}
-use Rattle.link_laws.specs.messages.Links.Comes.{NextFrame, AsksReset, Starts, NoInput}
-use Rattle.link_laws.specs.messages.Links.Ending.{GoesOut, CutOff}
-use Rattle.link_laws.specs.messages.Links.Loss.{Broken}
-use Rattle.link_laws.specs.messages.Links.EndEvent.{Step, Lose}
-use Rattle.link_laws.specs.messages.Links.LinkEvent.{AtController, AtHost}
-use Rattle.link_laws.specs.entries.Entries.{End as Side, aged_entries, first_lost}
-use Rattle.link_laws.specs.entries.Entries.End.{Controller, Host}
-use Rattle.history.specs.Filters.{same_end}
-use Rattle.history.specs.Steps.{entries_for}
-use Rattle.node_machine.specs.Parts.{Running, Work, Deed}
-use Rattle.node_machine.specs.Node.{steps, begins_with, boot_writes}
-use Rattle.node_machine.specs.Node.NodeInput.{AtEnd}
-use Rattle.node_machine.specs.world.World.{Site, NodeWorld, Happening, node_at, site_at, with_site, link_to, input_of}
-use Rattle.node_machine.specs.world.World.{frames_noted, wires_for, controller_does, host_work, after_host}
-use Rattle.node_machine.specs.world.World.{host_does, host_cut, loses_power_at, memory_at, with_memory, with_node, boots, counts, frame_lost}
-use Rattle.node_machine.specs.world.World.{all_aged, controller_ticks, host_ticks, hosts_tick, world_ticks, sending, beginning, comes_at, activates}
-use Rattle.node_machine.specs.world.World.{end_c, end_h}
-use Rattle.node_machine.specs.world.World.{world_step}
-use Rattle.node_machine.specs.world.World.Happening.{Boots, IsCut, Gives, Inits, Takes, Loses, Ticks, Resets, Activates, Arms}
+use Rattle.link_laws.specs.entries.Entries.{End as Side}
 use Rattle.node_machine.specs.world.NodeLegal.{node_number}
 use Rattle.node_laws.proofs.Cases.{by_test, by_option}
 use Rattle.node_laws.proofs.kept.Sites.{with_site_twice}
 use Rattle.node_laws.proofs.links.Ends.{here_host}
 use Rattle.link_laws.proofs.entries.Together.{ticks_host as tick_host}
-use Rattle.node_laws.specs.telling.Telling.{HasEnds, IfItRuns, hosts_in, IsOrderly, MayBoot}
 use Rattle.node_laws.proofs.telling.Mute.{AreMute}
 use Rattle.node_laws.proofs.telling.Nodes.{site_host, link_is}
 use Rattle.node_laws.proofs.telling.Worlds.{site_is, node_is}
 use Rattle.node_laws.proofs.telling.Events.{comes_goes, sending_mute, orderly_map}
 use Rattle.node_laws.proofs.telling.WorldTicks.{near_orderly, tick_host as site_ticked}
-use Rattle.node_machine.proofs.world.Cases.{by_controller, after_host_step, by_host, by_coming, by_power, by_memory, boot_written, boot_found}
-use Rattle.node_machine.proofs.world.Cases.{by_boot, site_lost}
-use Rattle.node_machine.proofs.world.Cases.{by_loss, site_unticked, by_controller_tick, by_host_tick}
-use Rattle.node_laws.specs.kept.Hosts.{AreDifferent}
 use Rattle.node_laws.proofs.turns.Queues.Doing.{Clears, Nothing}
 use Rattle.node_laws.proofs.turns.Queues.{Becomes, Goes, goes-append, doing}
 use Rattle.node_laws.proofs.turns.Ends.{ticks_got}

@@ -5,31 +5,16 @@ use Rattle.std.specs.List.{AllByRecursion, fold}
 use Rattle.std.specs.Option.{option_map}
 use Rattle.std.proofs.lemmas.Bool.{cases_Bool, cond_both, true≢false}
 use Rattle.std.proofs.lemmas.List.Sums.{fold-append}
-use Rattle.trace_model.specs.declared.entry.Entry.{Entry}
-use Rattle.trace_model.specs.declared.entry.Entry.TheVariants.{InitMade}
-use Rattle.link_laws.specs.sessions.Sessions.{is_up}
-use Rattle.shdlc_core.specs.declared.answers.LinkState.{LinkState}
-use Rattle.shdlc_core.specs.declared.answers.LinkState.TheVariants.{Up, Waiting, Down}
-use Rattle.hcp_packet.specs.declared.MessageKind.{MessageKind}
+use Rattle.node_laws.proofs.Words.{Asks, Command, Core, Deed, Drops, Ends, Entry, GoesOn, Hears, Host, Init, InitMade, LinkState, Message, MessageFault}
+use Rattle.node_laws.proofs.Words.{MessageKind, Orders, Plain, Port, Sends, Set, Tells, Up, Waiting, body_in, end_h, end_of, end_of_node, end_view, header_of}
+use Rattle.node_laws.proofs.Words.{host_deeds, init_deeds, is_response, is_up, learned, learned_holds, learns, learns_holds, ordered_deeds, own_side, own_view}
+use Rattle.node_laws.proofs.Words.{same_end, with_response}
+use Rattle.shdlc_core.specs.declared.answers.LinkState.TheVariants.{Down}
 use Rattle.hcp_packet.specs.declared.MessageKind.TheVariants.{Command as IsCommand, Event as IsEvent, Response as IsResponse}
-use Rattle.hcp_packet.specs.declared.MessageFault.{MessageFault}
-use Rattle.hcp_packet.specs.MessageHeader.{header_of}
-use Rattle.hci_tables.specs.declared.command.Command.{Command}
-use Rattle.hci_tables.specs.declared.command.Command.TheVariants.{Set}
-use Rattle.gate_answers.specs.Answers.{body_in}
 use Rattle.gate_loopback.specs.Loopback.{posts_back}
-use Rattle.link_laws.specs.machine.Machine.{Message}
-use Rattle.link_laws.specs.entries.Entries.End.{Host}
-use Rattle.history.specs.Filters.{same_end}
-use Rattle.history.specs.Steps.{end_of}
-use Rattle.node_machine.specs.Parts.{Init, Core, Port, Deed}
-use Rattle.node_machine.specs.Parts.Deed.{Sends, Asks, Tells, Drops, Orders, Hears, GoesOn, Ends}
-use Rattle.node_machine.specs.Carrying.{own_side, end_of_node, own_view, end_view}
-use Rattle.node_machine.specs.HostReplies.{learns, init_deeds, learned, response_deeds, is_gate, gate_of_pipe, ordered_deeds, host_deeds}
-use Rattle.node_machine.specs.world.World.{end_h}
-use Rattle.node_machine.specs.world.NodeFilters.{is_response}
-use Rattle.node_machine.proofs.Walks.{Plain, all_ordered, learns_holds, learned_holds, init_holds}
-use Rattle.node_laws.specs.views.Inits.{with_response, init_after}
+use Rattle.node_machine.specs.HostReplies.{response_deeds, is_gate, gate_of_pipe}
+use Rattle.node_machine.proofs.Walks.{all_ordered, init_holds}
+use Rattle.node_laws.specs.views.Inits.{init_after}
 use Rattle.node_laws.proofs.readings.Silent.{same_own}
 use Rattle.node_laws.proofs.Cases.{by_option}
 

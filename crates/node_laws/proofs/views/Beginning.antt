@@ -3,29 +3,14 @@ use Rattle.std.proofs.Common.{◌≡◌, ◌⊎◌, inl, inr, ℕ, ◌&&◌, tru
 use Rattle.std.specs.Prelude.{Option, Some, None}
 use Rattle.std.specs.List.{AllByRecursion, flat_map}
 use Rattle.std.proofs.lemmas.Bool.{cases_Bool, cond_both, true≢false}
-use Rattle.trace_model.specs.Lines.{IsHost}
-use Rattle.trace_model.specs.declared.entry.Entry.{Entry}
-use Rattle.shdlc_core.specs.declared.answers.LinkState.{LinkState}
-use Rattle.shdlc_core.specs.declared.answers.LinkState.TheVariants.{Up}
-use Rattle.link_laws.specs.machine.Machine.{Message, LinkInput}
-use Rattle.node_machine.specs.Parts.{Init, Core, Port, Work, Deed}
-use Rattle.node_machine.specs.Parts.Deed.{Sends, Orders}
-use Rattle.node_machine.specs.Controller.{is_command_message}
-use Rattle.node_machine.specs.Carrying.{noting, unless_cut, all_done}
-use Rattle.node_machine.specs.Turns.{passes}
-use Rattle.node_machine.specs.Node.{NodeInput, input_at, has_come, told_at, all_come, reset_late, told_late, times_out, forgotten, forgets, all_owed}
-use Rattle.node_machine.specs.Node.{without_notice, after_sessions, synced, steps, begins_with}
-use Rattle.node_machine.specs.Node.NodeInput.{AtEnd, TimePasses}
-use Rattle.node_machine.specs.world.World.{runs_on, sending, beginning}
-use Rattle.node_laws.specs.links.Notices.{IsComing, IsOutside}
+use Rattle.node_laws.proofs.Words.{AtEnd, Core, Deed, Entry, Init, IsComing, IsFresh, IsHost, IsOutside, LinkInput, LinkState, Message, NodeInput, Orders, Port}
+use Rattle.node_laws.proofs.Words.{Sends, TimePasses, Up, Work, after_sessions, all_come, all_done, all_owed, all_synced_hold, beginning, begins_with}
+use Rattle.node_laws.proofs.Words.{comes_to_pass, forgets, forgotten, has_come, init_of, init_of_running, input_at, is_command_message, noting, passes}
+use Rattle.node_laws.proofs.Words.{reset_late, runs_on, sending, steps, synced, times_out, told_at, told_late, unless_cut, without_notice}
 use Rattle.node_laws.proofs.links.Noticing.{outside}
 use Rattle.node_laws.proofs.links.Staying.{stays_up}
-use Rattle.node_laws.specs.passes.Steps.{comes_to_pass}
-use Rattle.node_laws.specs.readings.Orders.{IsFresh}
-use Rattle.node_laws.specs.readings.Worlds.{init_of}
 use Rattle.node_laws.proofs.readings.Silent.{host_side}
-use Rattle.node_laws.specs.views.Inits.{init_of_running, KeepsInit}
-use Rattle.node_machine.proofs.Walks.{all_synced_hold}
+use Rattle.node_laws.specs.views.Inits.{KeepsInit}
 use Rattle.node_laws.proofs.views.Answering.{reads_init, init_append, IsNeutral, AreNeutral, MayGo, neutral_stays}
 use Rattle.node_laws.proofs.views.Going.{Base, Stands, then, all_go, passes_stand, told_init}
 use Rattle.node_laws.proofs.readings.Stepping.{late_told, forgets_same, none_forgotten, none_owed, older_same, late_same, without_same}

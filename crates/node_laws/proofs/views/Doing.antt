@@ -5,33 +5,14 @@ use Rattle.std.specs.List.{AllByRecursion}
 use Rattle.std.specs.Option.{option_map_or}
 use Rattle.std.proofs.lemmas.Bool.{cases_Bool, eqb-true, true≢false}
 use mathlib.Core.Bool.{and-true}
-use Rattle.trace_model.specs.declared.entry.Entry.{Entry}
+use Rattle.node_laws.proofs.Words.{About, Asks, Book, Command, Commits, Controller, Core, Deed, Desk, Drops, End, Ends, Entry, ErrorCount, Give, GoesOn, Hears}
+use Rattle.node_laws.proofs.Words.{Hold, Host, InitMade, InitSame, IsAnswered, Orders, Port, Release, Releases, Removed, SaysOk, Sends, SetAside, SetsErrors}
+use Rattle.node_laws.proofs.Words.{Tells, Turn, Waits, Work, Write, after_turn, all_done, apply, body_of, changed_if, commit, commit_writes, count_of, done}
+use Rattle.node_laws.proofs.Words.{end_of, end_of_node, errors_after, fails_within, give_refusal, holds_back, hosts_of_ends, is_held, lets_go, node_of}
+use Rattle.node_laws.proofs.Words.{noted_of, notified, noting, own_side, port_at, same_end, turn_at, turn_entry, unless_cut, with_command, with_desk, with_port}
 use Rattle.trace_model.specs.declared.entry.Entry.TheVariants as entry
-use Rattle.trace_model.specs.declared.entry.Entry.TheVariants.{InitSame, InitMade, InitFailed}
-use Rattle.trace_model.specs.declared.line.End.{End}
-use Rattle.journal_laws.specs.Planned.{fails_within}
-use Rattle.journal_laws.specs.Journal.{count_of}
-use Rattle.journal_laws.specs.Writes.{Write}
-use Rattle.hci_tables.specs.declared.command.Command.{Command}
-use Rattle.hci_tables.specs.Bodies.{body_of}
-use Rattle.hci_tables.specs.Tables.{apply}
-use Rattle.hci_store.specs.Committing.{commit_writes}
-use Rattle.link_laws.specs.machine.Machine.{Turn, give_refusal, is_held}
-use Rattle.link_laws.specs.machine.Machine.Turn.{Give, Hold, SetAside, Release}
-use Rattle.link_laws.specs.entries.Entries.{End as Side, turn_entry}
-use Rattle.link_laws.specs.entries.Entries.End.{Controller, Host}
-use Rattle.history.specs.Filters.{same_end}
-use Rattle.history.specs.Steps.{end_of}
-use Rattle.node_machine.specs.Parts.{About, Desk, Core, Port, Work, Deed}
-use Rattle.node_machine.specs.Parts.About.{Waits, Removed}
-use Rattle.node_machine.specs.Parts.Deed.{Commits, Sends, SaysOk, Asks, Releases, Tells, IsAnswered, Drops, SetsErrors, Orders, Hears, GoesOn, Ends}
-use Rattle.node_machine.specs.Carrying.{own_side, noting, unless_cut, port_at, changed_if, with_port, with_desk, after_turn, noted_of, turn_at, notified}
-use Rattle.node_machine.specs.Carrying.{commit, done, all_done, end_of_node}
-use Rattle.node_machine.specs.Turns.{holds_back, lets_go}
-use Rattle.node_machine.specs.world.World.{node_of}
-use Rattle.node_machine.specs.world.NodeFilters.{Book, with_command}
-use Rattle.node_laws.specs.kept.Books.{hosts_of_ends}
-use Rattle.node_laws.specs.views.Errors.{ErrorCount, errors_after}
+use Rattle.trace_model.specs.declared.entry.Entry.TheVariants.{InitFailed}
+use Rattle.link_laws.specs.entries.Entries.{End as Side}
 use Rattle.node_laws.proofs.Cases.{by_test, by_option}
 use Rattle.node_laws.proofs.views.Leaving.{reads, reads_append, IsRead, IsStill, still_all, notes_still, IsUndamaged, plainly, beside_leaves}
 use Rattle.node_laws.proofs.views.Setting.{IsUnset, AreUnset, IsInitEnd}

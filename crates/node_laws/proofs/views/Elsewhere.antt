@@ -4,28 +4,15 @@ use Rattle.std.specs.Prelude.{Option, Some, None}
 use Rattle.std.specs.List.{AllByRecursion}
 use Rattle.std.specs.Option.{option_map, option_map_or}
 use mathlib.Core.Bool.{and-true}
-use Rattle.swp_base.specs.InMemory.{Plan}
-use Rattle.trace_model.specs.declared.entry.Entry.{Entry}
+use Rattle.node_laws.proofs.Words.{Acked, Active, Controller, Core, Cut, Deed, Desk, Down, Entry, GaveUp, Got, HasEnds, Host, Init, LeavesInit, Message}
+use Rattle.node_laws.proofs.Words.{NodeInput, NumberedEnd, Plan, Port, Restarted, Running, Sent, begins_with, deeds_of, end_h, end_of, end_of_node, end_view}
+use Rattle.node_laws.proofs.Words.{entries_for, entry_of, has, host_deeds, own_view, port_at, same_end, steps, with_response, work_of}
 use Rattle.trace_model.specs.declared.entry.Entry.TheVariants as entry
-use Rattle.gate_admin.specs.View.{has}
-use Rattle.link_laws.specs.machine.Machine.{Message}
-use Rattle.link_laws.specs.messages.Links.{NumberedEnd}
 use Rattle.link_laws.specs.entries.Entries.{End as Side, Entry as Noted}
-use Rattle.link_laws.specs.entries.Entries.End.{Controller, Host}
-use Rattle.link_laws.specs.entries.Entries.Entry.{Up, Down, Active, GaveUp, Acked, Got, Sent, Tick, Restarted, Cut}
-use Rattle.history.specs.Filters.{same_end}
-use Rattle.history.specs.Steps.{entries_for, entry_of, end_of}
-use Rattle.node_machine.specs.Parts.{Init, Core, Desk, Running, Port, Deed}
-use Rattle.node_machine.specs.Carrying.{end_of_node, port_at, own_view, end_view}
-use Rattle.node_machine.specs.HostReplies.{host_deeds}
-use Rattle.node_machine.specs.Turns.{deeds_of}
-use Rattle.node_machine.specs.Node.{NodeInput, steps, begins_with}
-use Rattle.node_machine.specs.world.World.{end_h, work_of}
-use Rattle.node_laws.specs.telling.Telling.{HasEnds}
+use Rattle.link_laws.specs.entries.Entries.Entry.{Up, Tick}
 use Rattle.node_laws.proofs.Cases.{by_test}
 use Rattle.node_laws.proofs.telling.Nodes.{ports_for}
 use Rattle.node_laws.proofs.readings.Silent.{IsQuiet}
-use Rattle.node_laws.specs.views.Inits.{with_response, LeavesInit}
 use Rattle.node_laws.proofs.readings.Noting.{IsOwnNote, IsBeside, NotesSo, Notes, controller_notes, host_notes, all_do, steps_note}
 
 -- ## Entries

@@ -3,35 +3,16 @@ use Rattle.std.proofs.Common.{◌≡◌, ◌⊎◌, inl, inr, ℕ, Bool, true, f
 use Rattle.std.specs.Prelude.{Option, Some, None}
 use Rattle.std.specs.List.{AllByRecursion, flat_map}
 use Rattle.std.proofs.lemmas.Bool.{cases_Bool, eqb-true, eq-eqb, true≢false, ne_eqb, eqb-false}
-use Rattle.swp_base.specs.InMemory.{Memory}
-use Rattle.journal_laws.specs.Journal.{count_of}
-use Rattle.journal_laws.specs.Planned.{after_planned}
-use Rattle.trace_model.specs.declared.entry.Entry.{Entry}
+use Rattle.node_laws.proofs.Words.{AllByRecursion-append, AtController, Book, Controller, CutOff, Desk, End, Entry, ErrorCount, HasEnds, Host, IfItRuns}
+use Rattle.node_laws.proofs.Words.{IsOrderly, Memory, NoInput, NodeWorld, NumberedEnd, Running, Site, Step, TimePasses, Work, after_near_tick, after_planned}
+use Rattle.node_laws.proofs.Words.{aged, aged_entries, all_aged, boot_found, boot_writes, boot_written, boots, by_boot, by_controller_tick, by_host_tick}
+use Rattle.node_laws.proofs.Words.{by_memory, by_power, by_running, controller_cut, controller_ticks, count_of, entries_for, exchanged, found, frames_noted}
+use Rattle.node_laws.proofs.Words.{happens, host_cut, host_tick, host_ticks, hosts_in, hosts_tick, link_to, links_of, loses_power_at, memory_at, near_tick}
+use Rattle.node_laws.proofs.Words.{new_desk, node_of, site_at, site_ticked, site_unticked, with_memory, with_site, world_ticks}
 use Rattle.trace_model.specs.declared.entry.Entry.TheVariants as entry
-use Rattle.trace_model.specs.declared.line.End.{End}
-use Rattle.link_laws.specs.messages.Links.{NumberedEnd, exchanged, aged, happens}
-use Rattle.link_laws.specs.messages.Links.Ending.{CutOff}
-use Rattle.link_laws.specs.messages.Links.Comes.{NoInput}
-use Rattle.link_laws.specs.messages.Links.EndEvent.{Step}
-use Rattle.link_laws.specs.messages.Links.LinkEvent.{AtController}
-use Rattle.link_laws.specs.entries.Entries.{aged_entries}
-use Rattle.link_laws.specs.entries.Entries.End.{Controller, Host}
-use Rattle.history.specs.Steps.{entries_for}
-use Rattle.node_machine.specs.Parts.{Desk, Running, Work}
-use Rattle.node_machine.specs.Node.{found, boot_writes, new_desk}
-use Rattle.node_machine.specs.Node.NodeInput.{TimePasses}
-use Rattle.node_machine.specs.world.World.{NodeWorld, Site, site_at, with_site, node_of, link_to, frames_noted}
-use Rattle.node_machine.specs.world.World.{controller_cut}
-use Rattle.node_machine.specs.world.World.{host_cut, loses_power_at, memory_at, with_memory, links_of, boots, all_aged}
-use Rattle.node_machine.specs.world.World.{controller_ticks, host_ticks, hosts_tick, world_ticks}
-use Rattle.node_machine.specs.world.NodeFilters.{Book}
-use Rattle.node_laws.specs.telling.Telling.{HasEnds, IfItRuns, hosts_in, IsOrderly}
 use Rattle.node_laws.proofs.All.{all_flat}
 use Rattle.node_laws.proofs.Cases.{by_test}
 use Rattle.node_laws.proofs.telling.WorldTicks.{tick_host}
-use Rattle.node_machine.proofs.world.Cases.{by_power, by_memory, by_running, boot_written, boot_found, by_boot}
-use Rattle.node_machine.proofs.world.Cases.{after_near_tick, by_controller_tick, by_host_tick, host_tick, near_tick, site_ticked, site_unticked}
-use Rattle.node_laws.specs.views.Errors.{ErrorCount}
 use Rattle.node_laws.proofs.views.Leaving.{reads, reads_append, Leaves, IsStill, still_all, still_leaves}
 use Rattle.node_laws.proofs.views.Nodes.{IfKeeps, keeps_sets, leaves_kept, own_steps, others_step, frames_still, aged_still}
 use Rattle.node_laws.proofs.views.Worlds.{far_node, AreFine, orderly_fine, map_fine, node_map, with_kept, with_other, with_own, with_none}
@@ -39,7 +20,6 @@ use Rattle.node_laws.proofs.views.Worlds.{host_link, own_node}
 use Rattle.node_laws.proofs.views.Worlds.{near_node, host_node, Kept, Known, After, left, near_single, near_zero, near_other, far_other, own_ends, no_near}
 use Rattle.node_laws.proofs.views.Worlds.{host_side}
 use Rattle.node_laws.proofs.views.Worlds.{near_ticks_fine}
-use Rattle.registry.proofs.ValueLemmas.{AllByRecursion-append}
 use Rattle.node_laws.proofs.kept.Sites.{hosts_same}
 
 module _ (e : End) (real : e.at_host ≡ true → eqb e.link 0 ≡ false) where

@@ -1,21 +1,16 @@
 -- REC_ERROR and views as they are read off the entries of small runs.
 use Rattle.std.proofs.Common.{◌≡◌, refl, ℕ, List, [], ◌∷◌, ◌++◌}
 use Rattle.std.specs.Prelude.{true, map, Option, Some, None}
-use Rattle.trace_model.specs.declared.entry.Entry.{Entry}
+use Rattle.node_laws.proofs.Words.{Entry, Line, LineOutcome, NodeWorld, end_c, end_h, entries_in, errors_in, errors_of, line_step, new_world, node_at}
+use Rattle.node_laws.proofs.Words.{occurrences_of, view_at}
 use Rattle.trace_model.specs.declared.entry.Entry.TheVariants.{Booted, Cut, Command, Lost, Up, Down, Turn, Ask, Sent, AnyOk}
 use Rattle.swp_base.specs.declared.link_terms.Cause.TheVariants as cause
 use Rattle.trace_model.specs.declared.entry.LostCause.TheVariants as lost
-use Rattle.trace_model.specs.declared.line.Line.{Line}
 use Rattle.trace_model.specs.declared.line.Line.TheVariants as line
 use Rattle.journal_laws.specs.Records.{found_from}
 use Rattle.hci_tables.specs.declared.command.Command.TheVariants as command
 use Rattle.gate_admin.specs.View.{hosts_where}
 use Rattle.pipe_table.specs.PipeRows.{lowest_free}
-use Rattle.node_machine.specs.world.World.{NodeWorld, new_world, node_at, end_c, end_h}
-use Rattle.node_machine.specs.world.Lines.{LineOutcome, line_step}
-use Rattle.node_machine.specs.world.NodeHistories.{entries_in, occurrences_of}
-use Rattle.node_laws.specs.views.Errors.{errors_in, errors_of}
-use Rattle.node_laws.specs.views.Views.{view_at}
 
 -- ## Entries
 

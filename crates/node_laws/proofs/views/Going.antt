@@ -4,37 +4,20 @@ use Rattle.std.specs.Prelude.{Option, Some, None, is_some, option_to_list}
 use Rattle.std.specs.List.{AllByRecursion}
 use Rattle.std.specs.Option.{option_map, option_map_or}
 use Rattle.std.proofs.lemmas.Bool.{cases_Bool, cond-true, eq-eqb, eqb-true, true≢false}
-use Rattle.trace_model.specs.Lines.{IsHost}
-use Rattle.trace_model.specs.declared.entry.Entry.{Entry}
+use Rattle.node_laws.proofs.Words.{Asks, Cause, Commits, Core, Cut, Deed, Desk, Drops, Ends, Entry, FetchMessage, Give, GoesOn, Hears, Hold, Host, Init}
+use Rattle.node_laws.proofs.Words.{IsAnswered, IsHost, LinkInput, LinkState, Message, Orders, Port, Refused, Release, Releases, SaysOk, Sends, Sent, SetsErrors}
+use Rattle.node_laws.proofs.Words.{Tells, Turn, Up, Work, Write, after_input, after_turn, all_done, body_of, changed_if, commit, commit_writes, count_of}
+use Rattle.node_laws.proofs.Words.{deeds_of, done, end_h, end_of, end_of_node, end_view, ended_by, entries_for, fails_within, give_refusal, goes_through_ends}
+use Rattle.node_laws.proofs.Words.{handles, have_turns, holds_back, host_deeds, is_held, is_response, keeps, lack, lets_go, loses_power, needs, noted_of}
+use Rattle.node_laws.proofs.Words.{noting, own_side, own_view, passes, port_at, report, same_end, sent_unless, told_at, turn_at, unless_cut, whole_acked}
+use Rattle.node_laws.proofs.Words.{with_desk, with_port, with_response}
 use Rattle.trace_model.specs.declared.entry.Entry.TheVariants as entry
-use Rattle.journal_laws.specs.Planned.{fails_within}
-use Rattle.journal_laws.specs.Writes.{Write}
-use Rattle.journal_laws.specs.Journal.{count_of}
-use Rattle.swp_base.specs.declared.link_terms.Cause.{Cause}
-use Rattle.shdlc_core.specs.declared.answers.LinkState.{LinkState}
-use Rattle.shdlc_core.specs.declared.answers.LinkState.TheVariants.{Up}
-use Rattle.hci_tables.specs.Bodies.{body_of}
-use Rattle.hci_store.specs.Committing.{commit_writes}
-use Rattle.link_laws.specs.machine.Machine.{Message, LinkInput, Refused, Turn, ended_by, give_refusal, is_held, report, whole_acked, after_input}
-use Rattle.link_laws.specs.machine.Machine.Turn.{Give, Hold, FetchMessage, Release}
-use Rattle.link_laws.specs.entries.Entries.{End as Side, Entry as Noted, sent_unless}
-use Rattle.link_laws.specs.entries.Entries.End.{Host}
-use Rattle.link_laws.specs.entries.Entries.Entry.{Down as IsDown, Sent, Cut}
-use Rattle.history.specs.Filters.{same_end}
-use Rattle.history.specs.Steps.{end_of, entries_for}
-use Rattle.node_machine.specs.Parts.{Init, Desk, Core, Port, Work, Deed}
-use Rattle.node_machine.specs.Parts.Deed.{Commits, Sends, SaysOk, Asks, Releases, Tells, IsAnswered, Drops, SetsErrors, Orders, Hears, GoesOn, Ends}
-use Rattle.node_machine.specs.Carrying.{own_side, noting, unless_cut, port_at, changed_if, with_port, with_desk, after_turn, noted_of, turn_at, loses_power}
-use Rattle.node_machine.specs.Carrying.{keeps, commit, done, all_done, end_of_node, needs, lack, own_view, end_view}
-use Rattle.node_machine.specs.HostReplies.{host_deeds}
-use Rattle.node_machine.specs.Turns.{deeds_of, handles, holds_back, lets_go, have_turns, goes_through_ends, passes}
-use Rattle.node_machine.specs.Node.{told_at}
-use Rattle.node_machine.specs.world.World.{end_h}
-use Rattle.node_machine.specs.world.NodeFilters.{is_response}
+use Rattle.link_laws.specs.entries.Entries.{End as Side, Entry as Noted}
+use Rattle.link_laws.specs.entries.Entries.Entry.{Down as IsDown}
 use Rattle.node_laws.proofs.Cases.{by_option, by_test}
 use Rattle.node_laws.proofs.links.Noticing.{turn-phase}
 use Rattle.node_laws.proofs.readings.Silent.{IsQuiet, host_side, told_rest, rest_quiet, same_own}
-use Rattle.node_laws.specs.views.Inits.{with_response, init_after}
+use Rattle.node_laws.specs.views.Inits.{init_after}
 use Rattle.node_laws.proofs.views.Answering.{reads_init, init_append, MayGo, answered_by, host_go}
 use Rattle.node_laws.proofs.Cut.{by_cut}
 

@@ -2,34 +2,18 @@
 use Rattle.std.proofs.Common.{◌≡◌, ◌⊎◌, inl, inr, ℕ, ◌&&◌, true, false, cond, eqb, List, [], ◌∷◌, ◌++◌, map, sym, refl, ap, ◌∙◌, subst}
 use Rattle.std.specs.Prelude.{Option, Some, None}
 use Rattle.std.proofs.lemmas.Bool.{cases_Bool, cond_both, eq-eqb, true≢false}
-use Rattle.swp_base.specs.InMemory.{Memory}
-use Rattle.journal_laws.specs.Planned.{after_planned}
-use Rattle.trace_model.specs.Lines.{IsHost}
-use Rattle.trace_model.specs.declared.entry.Entry.{Entry}
+use Rattle.node_laws.proofs.Words.{AtEnd, Comes, CutOff, Deed, Desk, Entry, GoesOut, Host, IfRunsInit, Init, IsHost, Link, LinkEnd, LinkInput, LinkState}
+use Rattle.node_laws.proofs.Words.{Memory, Message, NoInput, NumberedEnd, Orders, Port, Running, Sends, Site, SiteKeepsInit, Tick, TimePasses, Up, Work}
+use Rattle.node_laws.proofs.Words.{after_host, after_input, after_planned, arrival, beginning, begins_with, ending_entries, ending_of, entries_for, exchanged}
+use Rattle.node_laws.proofs.Words.{found, frames_noted, has_come, host_cut, host_ticks, host_work, init_of, init_of_running, input_at, input_of}
+use Rattle.node_laws.proofs.Words.{is_command_message, near_end_in, new_desk, port_at, port_for, runs_on, sending, steps, steps_at_controller}
+use Rattle.node_laws.proofs.Words.{ticks_at_controller, turns_at, wires_for, work_of}
 use Rattle.trace_model.specs.declared.entry.Entry.TheVariants as entry
-use Rattle.shdlc_core.specs.declared.answers.LinkState.{LinkState}
-use Rattle.shdlc_core.specs.declared.answers.LinkState.TheVariants.{Up}
-use Rattle.link_laws.specs.machine.Machine.{LinkEnd, LinkInput, Message, after_input}
-use Rattle.link_laws.specs.machine.Machine.LinkInput.{Tick}
-use Rattle.link_laws.specs.messages.Links.{NumberedEnd, Link, Comes, exchanged, steps_at_controller, ticks_at_controller}
-use Rattle.link_laws.specs.messages.Links.Ending.{GoesOut, CutOff}
-use Rattle.link_laws.specs.messages.Links.Comes.{NoInput}
-use Rattle.link_laws.specs.entries.Entries.{End as Side, ending_entries}
-use Rattle.link_laws.specs.entries.Entries.End.{Host}
-use Rattle.history.specs.Steps.{entries_for}
-use Rattle.node_machine.specs.Parts.{Init, Desk, Running, Port, Work, Deed}
-use Rattle.node_machine.specs.Parts.Deed.{Sends, Orders}
-use Rattle.node_machine.specs.Controller.{is_command_message}
-use Rattle.node_machine.specs.Carrying.{port_at}
-use Rattle.node_machine.specs.Node.{input_at, has_come, steps, begins_with, found, new_desk}
-use Rattle.node_machine.specs.Node.NodeInput.{AtEnd, TimePasses}
-use Rattle.node_machine.specs.world.World.{Site, ending_of, runs_on, turns_at, input_of, near_end_in, arrival, wires_for, port_for, work_of}
-use Rattle.node_machine.specs.world.World.{frames_noted, host_work}
-use Rattle.node_machine.specs.world.World.{after_host, host_cut, host_ticks, sending, beginning}
-use Rattle.node_laws.specs.readings.Worlds.{host_does_so, init_of}
+use Rattle.link_laws.specs.entries.Entries.{End as Side}
+use Rattle.node_laws.specs.readings.Worlds.{host_does_so}
 use Rattle.node_laws.proofs.Cases.{by_option}
 use Rattle.node_laws.proofs.readings.Sites.{ending_quiet, arrival_quiet, sent_phase, stepped_phase, comes_outside, near_end_side}
-use Rattle.node_laws.specs.views.Inits.{init_of_running, RunsInit, IfRunsInit, SiteKeepsInit}
+use Rattle.node_laws.specs.views.Inits.{RunsInit}
 use Rattle.node_laws.proofs.views.Answering.{reads_init, init_append, MayGo}
 use Rattle.node_laws.proofs.views.Going.{Base, Stands, all_go, quiet_init}
 use Rattle.node_laws.proofs.views.Beginning.{steps_stand}

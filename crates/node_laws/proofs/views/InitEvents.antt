@@ -3,51 +3,30 @@ use Rattle.std.proofs.Common.{◌≡◌, ◌⊎◌, inl, inr, ℕ, ◌+◌, Bool
 use Rattle.std.specs.Prelude.{Option, Some, None, min}
 use Rattle.std.specs.List.{AllByRecursion, flat_map}
 use Rattle.std.proofs.lemmas.Bool.{cases_Bool, eqb-true, eq-eqb, ne_eqb, eqb-false}
-use Rattle.swp_base.specs.InMemory.{Memory}
-use Rattle.journal_laws.specs.Journal.{count_of}
-use Rattle.journal_laws.specs.Planned.{after_planned}
-use Rattle.trace_model.specs.Lines.{IsHost}
-use Rattle.trace_model.specs.declared.entry.Entry.{Entry}
+use Rattle.node_laws.proofs.Words.{Activates, AllByRecursion-append, Arms, AsksReset, AtController, AtHost, Boots, Broken, Controller, CutOff, Desk, End, Entry}
+use Rattle.node_laws.proofs.Words.{Gives, GoesOut, Happening, Host, IfItRuns, IfRunsInit, Init, Inits, IsCut, IsHost, IsOrderly, LeavesInit, Link, Lose, Loses}
+use Rattle.node_laws.proofs.Words.{Loss, Memory, NextFrame, NoInput, NodeWorld, NumberedEnd, Resets, Running, Site, SiteKeepsInit, Step, Takes, Ticks}
+use Rattle.node_laws.proofs.Words.{TimePasses, Work, after_near_tick, after_planned, aged, aged_entries, all_aged, boot_found, boot_writes, boot_written, boots}
+use Rattle.node_laws.proofs.Words.{by_boot, by_controller_tick, by_host_tick, by_memory, by_power, by_running, changed_if, controller_cut, controller_ticks}
+use Rattle.node_laws.proofs.Words.{count_of, counts, ending_of, entries_for, exchanged, first_lost, found, frame_lost, frames_noted, happens, host_cut}
+use Rattle.node_laws.proofs.Words.{host_tick, host_ticks, hosts_in, hosts_tick, init_begun, init_of_running, is_late_at, link_to, links_of, loses_power_at}
+use Rattle.node_laws.proofs.Words.{memory_at, near_tick, node_at, site_at, site_ticked, site_unticked, ticks_host, turns_at, with_error, with_memory, with_site}
+use Rattle.node_laws.proofs.Words.{world_step, world_ticks}
 use Rattle.trace_model.specs.declared.entry.Entry.TheVariants as entry
-use Rattle.trace_model.specs.declared.line.End.{End}
-use Rattle.link_laws.specs.messages.Links.{NumberedEnd, Link, Loss, exchanged, aged, happens}
-use Rattle.link_laws.specs.messages.Links.Ending.{GoesOut, CutOff}
-use Rattle.link_laws.specs.messages.Links.Comes.{NextFrame, AsksReset, NoInput}
-use Rattle.link_laws.specs.messages.Links.Loss.{Broken}
-use Rattle.link_laws.specs.messages.Links.EndEvent.{Step, Lose}
-use Rattle.link_laws.specs.messages.Links.LinkEvent.{AtController, AtHost}
-use Rattle.link_laws.specs.entries.Entries.{aged_entries, first_lost}
-use Rattle.link_laws.specs.entries.Entries.End.{Controller, Host}
-use Rattle.history.specs.Steps.{entries_for}
-use Rattle.node_machine.specs.Parts.{Init, Desk, Running, Work}
-use Rattle.node_machine.specs.Carrying.{changed_if}
-use Rattle.node_machine.specs.Node.{found, boot_writes, with_error}
-use Rattle.node_machine.specs.Node.NodeInput.{TimePasses}
-use Rattle.node_machine.specs.world.World.{NodeWorld, Site, Happening, site_at, with_site, node_at, link_to, ending_of, turns_at}
-use Rattle.node_machine.specs.world.World.{frames_noted}
-use Rattle.node_machine.specs.world.World.{controller_cut, host_cut, loses_power_at, memory_at, with_memory, links_of, boots, counts, frame_lost, is_late_at}
-use Rattle.node_machine.specs.world.World.{all_aged, controller_ticks, host_ticks, hosts_tick, world_ticks, world_step}
-use Rattle.node_machine.specs.world.World.Happening.{Boots, IsCut, Gives, Inits, Takes, Loses, Ticks, Resets, Activates, Arms}
-use Rattle.node_laws.specs.telling.Telling.{IfItRuns, hosts_in, IsOrderly}
 use Rattle.node_laws.proofs.All.{all_flat}
 use Rattle.node_laws.proofs.Cases.{by_option}
 use Rattle.node_laws.proofs.Cases.{by_test}
 use Rattle.node_laws.proofs.links.Ends.{here_host}
-use Rattle.link_laws.proofs.entries.Together.{ticks_host}
 use Rattle.node_laws.proofs.telling.Nodes.{site_host}
 use Rattle.node_laws.proofs.telling.Frames.{wires_all}
 use Rattle.node_laws.proofs.readings.Silent.{IsQuiet}
 use Rattle.node_laws.proofs.readings.Sites.{lost_quiet}
-use Rattle.node_machine.proofs.world.Cases.{by_power, by_memory, by_running, boot_written, boot_found, by_boot}
-use Rattle.node_machine.proofs.world.Cases.{after_near_tick, by_controller_tick, by_host_tick, host_tick, near_tick, site_ticked, site_unticked}
-use Rattle.node_laws.specs.views.Inits.{init_begun, init_of_running, IfRunsInit, LeavesInit, SiteKeepsInit}
 use Rattle.node_laws.proofs.views.Answering.{reads_init, init_append}
 use Rattle.node_laws.proofs.views.Elsewhere.{quiet_leaves, others_step}
 use Rattle.node_laws.proofs.views.HostInits.{ticks_keep, cut_keeps, boot_keeps}
 use Rattle.node_laws.proofs.views.Worlds.{far_node, with_kept, AreFine, orderly_fine, map_fine}
 use Rattle.node_laws.proofs.views.InitWorlds.{leaves_all, keep_same, AtSite, absent, present, MayInit, Keeps, Then, zero, zero_off, map_keeps, other_keeps}
 use Rattle.node_laws.proofs.views.InitWorlds.{own_keeps, left, frames_leave, near_off, host_steps, comes_keep, activates_keep, gives_keep, inits_keep}
-use Rattle.registry.proofs.ValueLemmas.{AllByRecursion-append}
 use Rattle.node_laws.proofs.links.Worlds.{so_host}
 use Rattle.node_laws.proofs.turns.Works.{sites_is}
 use Rattle.node_laws.proofs.kept.Sites.{hosts_same}

@@ -1,10 +1,7 @@
 -- An init as it is read off the events of a small run.
 use Rattle.std.proofs.Common.{◌≡◌, refl, List, [], ◌∷◌, ◌++◌, None, Some}
-use Rattle.trace_model.specs.declared.entry.Entry.TheVariants.{Booted, Cut, Turn, Sent, InitMade}
-use Rattle.node_machine.specs.world.World.{end_h}
-use Rattle.node_machine.specs.world.World.Happening.{Boots, Inits, Takes, IsCut}
-use Rattle.node_machine.specs.world.Lines.{Occurrence}
-use Rattle.node_laws.specs.views.Inits.{init_in}
+use Rattle.node_laws.proofs.Words.{Boots, InitMade, Inits, IsCut, Occurrence, Takes, end_h, init_in}
+use Rattle.trace_model.specs.declared.entry.Entry.TheVariants.{Booted, Cut, Turn, Sent}
 
 -- host 02 begins an init with one pipe, and its first two commands are answered
 abbrev begun : List Occurrence

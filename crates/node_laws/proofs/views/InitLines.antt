@@ -3,27 +3,17 @@ use Rattle.std.proofs.Common.{◌≡◌, ℕ, ◌&&◌, Bool, true, false, eqb, 
 use Rattle.std.specs.Prelude.{Option, Some, None, IsTrue, unwrap_or}
 use Rattle.std.specs.List.{AllByRecursion, fold}
 use Rattle.std.proofs.lemmas.Bool.{cond_both}
-use Rattle.trace_model.specs.Lines.{IsHost}
-use Rattle.trace_model.specs.declared.line.End.{End}
-use Rattle.trace_model.specs.declared.line.Header.{Header}
-use Rattle.trace_model.specs.declared.line.Line.{Line}
+use Rattle.node_laws.proofs.Words.{AreHosts, End, FollowsNodes, Header, Init, IsBegunByHost, IsHost, IsOrderly, Line, LinkEnd, LinkState, Message, NodeHistory}
+use Rattle.node_laws.proofs.Words.{NodeWorld, Occurrence, Takes, Ticks, Up, Waiting, first_verdict, frames_at, give_refusal, happenings, if_not_sent, if_off}
+use Rattle.node_laws.proofs.Words.{init_begun, init_in, init_of_running, is_command_message, link_to, machine_in, new_world, node_at, node_of, occurrences_in}
+use Rattle.node_laws.proofs.Words.{refusal_in, site_at, steps_from, taken_of, world_after, world_behind, world_step}
 use Rattle.trace_model.specs.declared.line.Line.TheVariants as line
-use Rattle.shdlc_core.specs.declared.answers.LinkState.{LinkState}
-use Rattle.shdlc_core.specs.declared.answers.LinkState.TheVariants.{Up, Waiting, Down}
-use Rattle.history.specs.Follows.{first_verdict, taken_of}
-use Rattle.link_laws.specs.machine.Machine.{Message, LinkEnd, give_refusal}
+use Rattle.shdlc_core.specs.declared.answers.LinkState.TheVariants.{Down}
 use Rattle.link_laws.specs.machine.Machine.Refused.{NotUp}
-use Rattle.node_machine.specs.Parts.{Init}
-use Rattle.node_machine.specs.Controller.{is_command_message}
-use Rattle.node_machine.specs.world.World.{NodeWorld, site_at, node_at, node_of, link_to, new_world, world_step}
-use Rattle.node_machine.specs.world.World.Happening.{Takes, Ticks}
-use Rattle.node_machine.specs.world.Lines.{if_off, machine_in, frames_at, has_order, if_waiting, if_not_sent, refusal_in, happenings, Occurrence}
-use Rattle.node_machine.specs.world.NodeHistories.{NodeHistory, FollowsNodes, steps_from, occurrences_in, world_after}
-use Rattle.node_laws.specs.kept.Hosts.{AreHosts}
-use Rattle.node_laws.specs.telling.Telling.{IsOrderly, world_behind}
+use Rattle.node_machine.specs.world.Lines.{has_order, if_waiting}
 use Rattle.node_laws.proofs.telling.Orderly.{step_orderly, new_orderly}
 use Rattle.node_laws.proofs.telling.Lasting.{AllMay, repeated_may, damaged_may, stands_none, events_of_steps, behind_lines}
-use Rattle.node_laws.specs.views.Inits.{init_begun, init_behind, init_in, init_of_running, IsBegunByHost}
+use Rattle.node_laws.specs.views.Inits.{init_behind}
 use Rattle.node_laws.proofs.views.Answering.{reads_init}
 use Rattle.node_laws.proofs.kept.Lines.{first_none, off_none}
 use Rattle.node_laws.proofs.views.Lines.{none_zero}

@@ -4,49 +4,28 @@ use Rattle.std.specs.Prelude.{Option, Some, None}
 use Rattle.std.specs.List.{AllByRecursion, flat_map}
 use Rattle.std.proofs.lemmas.Bool.{cond_both, eqb-true, eq-eqb, eqb-false, ne_eqb}
 use mathlib.Core.Bool.{and-false}
-use Rattle.trace_model.specs.Lines.{IsHost}
-use Rattle.trace_model.specs.declared.entry.Entry.{Entry}
-use Rattle.shdlc_core.specs.declared.answers.LinkState.TheVariants.{Up}
-use Rattle.link_laws.specs.machine.Machine.{LinkEnd, LinkInput, Message}
-use Rattle.link_laws.specs.messages.Links.{NumberedEnd, Link, Comes, exchanged}
-use Rattle.link_laws.specs.messages.Links.Comes.{NoInput, Starts}
-use Rattle.link_laws.specs.messages.Links.EndEvent.{Step}
+use Rattle.node_laws.proofs.Words.{AllByRecursion-append, AtEnd, Comes, Controller, Deed, End, Entry, HasEnds, Host, IfItRuns, IfRunsInit, Init, Inits, IsHost}
+use Rattle.node_laws.proofs.Words.{IsOrderly, LeavesInit, Link, LinkEnd, LinkInput, Message, NoInput, NodeInput, NodeWorld, NumberedEnd, Orders, Running, Sends}
+use Rattle.node_laws.proofs.Words.{Site, SiteKeepsInit, Starts, Step, Up, Work, activates, after_controller, after_host, after_host_step, arrival, beginning}
+use Rattle.node_laws.proofs.Words.{begins_with, by_coming, by_controller, by_host, changed_if, comes_at, comes_to, controller_does, controller_work, end_c}
+use Rattle.node_laws.proofs.Words.{end_h, end_of, ending_of, entries_for, exchanged, frames_noted, host_does, host_work, hosts_in, init_begun, init_of}
+use Rattle.node_laws.proofs.Words.{init_of_running, input_of, is_command_message, link_after_controller, link_to, near_end_in, node_at, port_at, same_end}
+use Rattle.node_laws.proofs.Words.{sending, site_at, steps, turns_at, wires_for, with_site, work_of}
 use Rattle.link_laws.specs.entries.Entries.{End as Side}
-use Rattle.link_laws.specs.entries.Entries.End.{Controller, Host}
-use Rattle.history.specs.Filters.{same_end}
-use Rattle.history.specs.Steps.{entries_for, end_of}
-use Rattle.trace_model.specs.declared.line.End.{End}
-use Rattle.node_machine.specs.Parts.{Init, Running, Work, Deed}
-use Rattle.node_machine.specs.Parts.Deed.{Orders, Sends}
-use Rattle.node_machine.specs.Controller.{is_command_message}
-use Rattle.node_machine.specs.Carrying.{changed_if, port_at}
-use Rattle.node_machine.specs.Node.{NodeInput, steps, begins_with}
-use Rattle.node_machine.specs.Node.NodeInput.{AtEnd}
-use Rattle.node_machine.specs.world.World.{NodeWorld, Site, site_at, with_site, node_at, link_to, ending_of, turns_at, input_of, near_end_in, arrival}
-use Rattle.node_machine.specs.world.World.{wires_for}
-use Rattle.node_machine.specs.world.World.{work_of, frames_noted, comes_to, link_after_controller, after_controller, controller_does, host_work}
-use Rattle.node_machine.specs.world.World.{after_host, host_does}
-use Rattle.node_machine.specs.world.World.{sending, beginning, comes_at, activates, end_c, end_h}
-use Rattle.node_machine.specs.world.World.{controller_work}
-use Rattle.node_machine.specs.world.World.Happening.{Inits}
 use Rattle.node_laws.proofs.All.{all_flat}
 use Rattle.node_laws.proofs.Cases.{by_option, by_test}
 use Rattle.node_laws.proofs.links.Ends.{here_host}
-use Rattle.node_laws.specs.telling.Telling.{HasEnds, IfItRuns, hosts_in, IsOrderly}
 use Rattle.node_laws.proofs.telling.Nodes.{site_host}
 use Rattle.node_laws.proofs.telling.Events.{comes_goes}
-use Rattle.node_laws.specs.readings.Worlds.{host_does_so, init_of}
+use Rattle.node_laws.specs.readings.Worlds.{host_does_so}
 use Rattle.node_laws.proofs.readings.Sites.{ending_quiet, arrival_quiet}
-use Rattle.node_laws.specs.views.Inits.{init_begun, init_of_running, IfRunsInit, LeavesInit, SiteKeepsInit}
 use Rattle.node_laws.proofs.readings.Noting.{NotesSo}
 use Rattle.node_laws.proofs.views.Answering.{reads_init, init_append}
 use Rattle.node_laws.proofs.views.Elsewhere.{quiet_leaves, others_step, others_begin}
 use Rattle.node_laws.proofs.views.HostInits.{comes_keeps, sends_keeps, begins_keeps}
 use Rattle.node_laws.proofs.views.Worlds.{AreFine, orderly_fine}
-use Rattle.registry.proofs.ValueLemmas.{AllByRecursion-append}
 use Rattle.node_laws.proofs.turns.Works.{sites_is}
 use Rattle.node_laws.proofs.telling.Worlds.{site_is as found_all}
-use Rattle.node_machine.proofs.world.Cases.{by_coming, by_controller, by_host, after_host_step}
 
 pub leaves_all : (h : ℕ) (es : List Entry) (i : Option Init) → AllByRecursion (LeavesInit h) es → reads_init h es i ≡ i
 leaves_all h [] i all = refl

@@ -4,20 +4,16 @@ use Rattle.std.specs.Prelude.{Option, None, unwrap_or, min, ◌+◌}
 use Rattle.std.specs.List.{AllByRecursion, fold}
 use Rattle.std.proofs.lemmas.Bool.{cond_both}
 use Rattle.std.proofs.lemmas.List.Sums.{fold-append}
-use Rattle.trace_model.specs.declared.entry.Entry.{Entry}
+use Rattle.node_laws.proofs.Words.{AllByRecursion-append, Broken, Cut, End, Entry, ErrorCount, Lost, OnDemand, Restarted, Sent, TooMany, TooOld, book_after}
+use Rattle.node_laws.proofs.Words.{end_of, entries_for, entry_of, errors_after, errors_set_by, lost_as, lpdu_of, same_end}
 use Rattle.trace_model.specs.declared.entry.Entry.TheVariants as entry
 use Rattle.trace_model.specs.declared.entry.LostCause.{LostCause}
-use Rattle.trace_model.specs.declared.line.End.{End}
-use Rattle.link_laws.specs.messages.Links.Loss.{OnDemand, Broken, Unread, TooOld, TooMany}
+use Rattle.link_laws.specs.messages.Links.Loss.{Unread}
 use Rattle.link_laws.specs.entries.Entries.{Entry as Noted}
-use Rattle.link_laws.specs.entries.Entries.Entry.{Sent, Lost, Tick, Restarted, Cut}
-use Rattle.history.specs.Filters.{same_end}
-use Rattle.history.specs.Steps.{entries_for, entry_of, end_of, lost_as}
-use Rattle.swp_lpdu.specs.Controls.{lpdu_of}
-use Rattle.node_machine.specs.world.NodeFilters.{book_after, was_refused}
-use Rattle.node_laws.specs.views.Errors.{ErrorCount, errors_after, errors_set_by, leads_to_link_gate, is_any_ok}
+use Rattle.link_laws.specs.entries.Entries.Entry.{Tick}
+use Rattle.node_machine.specs.world.NodeFilters.{was_refused}
+use Rattle.node_laws.specs.views.Errors.{leads_to_link_gate, is_any_ok}
 use Rattle.node_laws.proofs.readings.Noting.{IsBeside}
-use Rattle.registry.proofs.ValueLemmas.{AllByRecursion-append}
 
 -- what is read after these entries, where this was read before
 abbrev pub reads : End → List Entry → ErrorCount → ErrorCount

@@ -5,40 +5,25 @@ use Rattle.std.specs.List.{AllByRecursion, find}
 use Rattle.std.specs.Option.{option_map}
 use Rattle.std.proofs.lemmas.Bool.{cond_both, eqb-true, true≢false, ne_eqb}
 use Rattle.std.proofs.lemmas.Grind.{flat_map-append}
-use Rattle.trace_model.specs.Lines.{IsHost}
-use Rattle.trace_model.specs.declared.entry.Entry.{Entry}
-use Rattle.trace_model.specs.declared.line.End.{End}
-use Rattle.trace_model.specs.declared.line.Header.{Header}
-use Rattle.trace_model.specs.declared.line.Line.{Line}
+use Rattle.node_laws.proofs.Words.{Activates, AllKeep, AreHosts, Arms, AsksReset, Book, Boots, Desk, End, Entry, ErrorCount, FollowsNodes, Gives, Happening}
+use Rattle.node_laws.proofs.Words.{HasEnds, Header, IfItRuns, IfRuns, Inits, IsCut, IsFew, IsHost, IsOrderly, IsSameView, IsSentByHost, KeepsNotices, Line}
+use Rattle.node_laws.proofs.Words.{Loses, LostFor, MayBoot, Message, NextFrame, NodeHistory, NodeWorld, Occurrence, OnWire, Orders, Resets, Running, Same}
+use Rattle.node_laws.proofs.Words.{Sends, Takes, Ticks, Undetected, Verdict, beginning, ends_between, entries_in, errors_in, errors_of, first_verdict}
+use Rattle.node_laws.proofs.Words.{frames_at, happenings, happens_by, hosts_in, if_not_sent, if_off, is_command_message, is_one_of, memory_at, new_world}
+use Rattle.node_laws.proofs.Words.{no_errors, node_at, node_entries, node_of, occurrences_in, refusal_in, sending, site_at, steps_from, taken_of, view_at}
+use Rattle.node_laws.proofs.Words.{view_for, world_after, world_behind, world_step}
 use Rattle.trace_model.specs.declared.line.Line.TheVariants as line
-use Rattle.link_laws.specs.sessions.Sessions.{OnWire}
-use Rattle.history.specs.Damage.{Verdict}
-use Rattle.history.specs.Damage.Verdict.{Same, LostFor, Undetected}
-use Rattle.history.specs.Follows.{first_verdict, taken_of, if_empty}
-use Rattle.link_laws.specs.machine.Machine.{Message}
-use Rattle.link_laws.specs.messages.Links.Comes.{NextFrame, AsksReset}
-use Rattle.node_machine.specs.Parts.{Desk, Running}
-use Rattle.node_machine.specs.Parts.Deed.{Orders, Sends}
-use Rattle.node_machine.specs.Controller.{is_command_message}
-use Rattle.node_machine.specs.world.World.{NodeWorld, site_at, Happening, node_at, node_of, memory_at, sending, beginning, new_world, world_step}
-use Rattle.node_machine.specs.world.World.Happening.{Boots, IsCut, Gives, Inits, Takes, Loses, Ticks, Resets, Activates, Arms}
-use Rattle.node_machine.specs.world.Lines.{if_off, frames_at, if_not_sent, refusal_in, happens_by, happenings}
-use Rattle.node_machine.specs.world.NodeFilters.{Book}
-use Rattle.node_machine.specs.world.Lines.{Occurrence}
-use Rattle.node_machine.specs.world.NodeHistories.{NodeHistory, FollowsNodes, steps_from, occurrences_in, entries_in, node_entries, world_after}
-use Rattle.node_laws.specs.kept.Hosts.{AreHosts, IsSentByHost, IsFew}
-use Rattle.node_laws.specs.kept.Worlds.{AllKeep, IfRuns, MayHappen}
+use Rattle.history.specs.Follows.{if_empty}
+use Rattle.node_laws.specs.kept.Worlds.{MayHappen}
 use Rattle.node_laws.proofs.Cases.{by_test}
 use Rattle.node_laws.proofs.kept.Kept.{all_begin}
 use Rattle.node_laws.proofs.kept.Lines.{world_goes, few_front, first_none, off_none, send_may}
-use Rattle.node_laws.specs.telling.Telling.{HasEnds, IfItRuns, hosts_in, IsOrderly, MayBoot, world_behind}
 use Rattle.node_laws.proofs.telling.Mute.{AreMute}
 use Rattle.node_laws.proofs.telling.Orderly.{step_orderly, new_orderly}
-use Rattle.node_laws.specs.notices.Worlds.{KeepsNotices}
 use Rattle.node_laws.proofs.notices.Events.{event_read, begins_read}
 use Rattle.node_laws.proofs.notices.Lines.{notices_of}
 use Rattle.node_laws.proofs.telling.Lasting.{AllMay, repeated_may, stands_none, events_of_steps, entries_of_steps, AllHold, front_holds, lines_hold, lines_last}
-use Rattle.node_laws.specs.views.Errors.{ErrorCount, no_errors, errors_in, errors_of, ErrorsAreRead, MayBeCounted}
+use Rattle.node_laws.specs.views.Errors.{ErrorsAreRead, MayBeCounted}
 use Rattle.node_laws.proofs.views.Leaving.{reads, reads_append, book_reads}
 use Rattle.node_laws.proofs.views.Setting.{AreUnset}
 use Rattle.node_laws.proofs.views.Nodes.{IfKeeps}
@@ -46,10 +31,6 @@ use Rattle.node_laws.proofs.views.Worlds.{far_node, near_node, host_node, own_no
 use Rattle.node_laws.proofs.views.Worlds.{activates_kept}
 use Rattle.node_laws.proofs.views.Events.{ticks_kept, cut_kept, memory_kept, boots_kept}
 use Rattle.node_laws.proofs.views.Losses.{lost_kept}
-use Rattle.node_machine.specs.Controller.{view_for}
-use Rattle.node_laws.specs.readings.Noticed.{ends_between}
-use Rattle.node_laws.specs.cuts.Histories.{is_one_of}
-use Rattle.node_laws.specs.views.Views.{view_at, IsSameView}
 use Rattle.node_laws.proofs.views.Viewing.{SessionsAreRead, PipesAreRead, same_view}
 
 -- the end of the link with a host is no end of 00

@@ -6,26 +6,13 @@ use Rattle.std.proofs.lemmas.Bool.{cases_Bool, eqb-true, eq-eqb, true≢false, n
 use mathlib.Core.Bool.{and-false}
 use Rattle.swp_base.specs.declared.link_terms.FrameFault.{FrameFault}
 use Rattle.swp_base.specs.declared.link_terms.FrameFault.TheVariants as fault
-use Rattle.swp_lpdu.specs.Controls.{lpdu_of}
-use Rattle.trace_model.specs.declared.entry.Entry.{Entry}
+use Rattle.node_laws.proofs.Words.{AtController, AtHost, Broken, Controller, Desk, End, Entry, ErrorCount, Host, Lose, Loss, NodeWorld, OnDemand, OnWire}
+use Rattle.node_laws.proofs.Words.{Running, Site, TooMany, TooOld, changed_if, counts, end_of, entries_for, errors_after, first_lost, frame_lost, frames_at}
+use Rattle.node_laws.proofs.Words.{happens, link_to, lost_as, lpdu_of, same_end, site_at, with_error, with_site}
 use Rattle.trace_model.specs.declared.entry.Entry.TheVariants as entry
-use Rattle.trace_model.specs.declared.line.End.{End}
-use Rattle.link_laws.specs.sessions.Sessions.{OnWire}
-use Rattle.link_laws.specs.messages.Links.{Loss, happens}
-use Rattle.link_laws.specs.messages.Links.EndEvent.{Lose}
-use Rattle.link_laws.specs.messages.Links.LinkEvent.{AtController, AtHost}
-use Rattle.link_laws.specs.messages.Links.Loss.{OnDemand, Broken, Unread, TooOld, TooMany}
-use Rattle.link_laws.specs.entries.Entries.{End as Side, first_lost}
-use Rattle.link_laws.specs.entries.Entries.End.{Controller, Host}
-use Rattle.history.specs.Filters.{same_end}
-use Rattle.history.specs.Steps.{entries_for, end_of, lost_as}
-use Rattle.node_machine.specs.Parts.{Desk, Running}
-use Rattle.node_machine.specs.Carrying.{changed_if}
-use Rattle.node_machine.specs.Node.{with_error}
-use Rattle.node_machine.specs.world.World.{NodeWorld, Site, site_at, with_site, link_to, counts, frame_lost}
-use Rattle.node_machine.specs.world.Lines.{frames_at}
+use Rattle.link_laws.specs.messages.Links.Loss.{Unread}
+use Rattle.link_laws.specs.entries.Entries.{End as Side}
 use Rattle.node_machine.specs.world.NodeFilters.{was_refused}
-use Rattle.node_laws.specs.views.Errors.{ErrorCount, errors_after}
 use Rattle.node_laws.proofs.Cases.{by_option, by_test}
 use Rattle.node_laws.proofs.views.Leaving.{Leaves, still_leaves, IsUndamaged, notes_still}
 use Rattle.node_laws.proofs.views.Doing.{own_is}

@@ -2,39 +2,22 @@
 use Rattle.std.proofs.Common.{◌≡◌, ℕ, Bool, true, false, cond, eqb, List, [], ◌∷◌, ◌++◌, length, map, sym, refl, ap, ◌∙◌, subst}
 use Rattle.std.specs.Prelude.{Option, Some, None, nat_lt}
 use Rattle.std.specs.List.{AllByRecursion}
-use Rattle.swp_base.specs.InMemory.{Plan}
-use Rattle.swp_base.specs.declared.control_frames.Control.{Control}
-use Rattle.trace_model.specs.declared.entry.Entry.{Entry}
+use Rattle.node_laws.proofs.Words.{AllByRecursion-append, Comes, Control, Controller, Core, CutOff, Deed, Desk, End, Ending, Ends, Entry, ErrorCount, GoesOut}
+use Rattle.node_laws.proofs.Words.{HasEnds, Host, Link, LinkEnd, Message, NextFrame, NodeInput, NumberedEnd, OnWire, Plan, Port, Running, Sends, TooMany, Work}
+use Rattle.node_laws.proofs.Words.{aged_entries, arrival, begins_with, end_of, ending_entries, ending_of, entries_for, entry_of, far, first_lost, frames_noted}
+use Rattle.node_laws.proofs.Words.{frames_out, node_of, own_side, port_at, pushed_out, put, put_entries, puts_entries, runs_on, same_end, steps, wire_with}
+use Rattle.node_laws.proofs.Words.{work_of}
 use Rattle.trace_model.specs.declared.entry.Entry.TheVariants as entry
-use Rattle.trace_model.specs.declared.line.End.{End}
-use Rattle.link_laws.specs.sessions.Sessions.{OnWire}
-use Rattle.link_laws.specs.machine.Machine.{Message, LinkEnd, frames_out}
-use Rattle.link_laws.specs.messages.Links.{NumberedEnd, Link, Ending, Comes, put}
-use Rattle.link_laws.specs.messages.Links.Comes.{NextFrame}
-use Rattle.link_laws.specs.messages.Links.Ending.{GoesOut, CutOff}
-use Rattle.link_laws.specs.messages.Links.Loss.{TooMany}
-use Rattle.link_laws.specs.entries.Entries.{End as Side, Entry as Noted, far, first_lost, pushed_out, wire_with, put_entries, puts_entries, ending_entries}
-use Rattle.link_laws.specs.entries.Entries.{aged_entries}
-use Rattle.link_laws.specs.entries.Entries.End.{Controller, Host}
-use Rattle.history.specs.Filters.{same_end}
-use Rattle.history.specs.Steps.{entries_for, entry_of, end_of}
-use Rattle.node_machine.specs.Parts.{Desk, Core, Running, Port, Work, Deed}
-use Rattle.node_machine.specs.Parts.Deed.{Sends, Ends}
-use Rattle.node_machine.specs.Carrying.{own_side, port_at}
-use Rattle.node_machine.specs.Node.{NodeInput, steps, begins_with}
-use Rattle.node_machine.specs.world.World.{node_of, runs_on, work_of, ending_of, frames_noted, arrival}
-use Rattle.node_laws.specs.telling.Telling.{HasEnds}
+use Rattle.link_laws.specs.entries.Entries.{End as Side, Entry as Noted}
 use Rattle.node_laws.proofs.Cases.{by_test, by_list, by_option}
 use Rattle.node_laws.proofs.telling.Mute.{IsPlain, IsMute, AreMute, deeds_mute}
 use Rattle.node_laws.proofs.telling.Nodes.{hosts_same, ports_for}
-use Rattle.node_laws.specs.views.Errors.{ErrorCount}
 use Rattle.node_laws.proofs.readings.Noting.{IsOwnNote, NotesSo, Notes, all_do as notes_do, steps_note}
 use Rattle.node_laws.proofs.views.Leaving.{reads, reads_append, Leaves, leaves_all, IsStill, still_all, still_leaves, IsUndamaged, note_still, notes_still}
 use Rattle.node_laws.proofs.views.Leaving.{turn_leaves, beside_leaves, plainly}
 use Rattle.node_laws.proofs.views.Setting.{AreUnset}
 use Rattle.node_laws.proofs.views.Doing.{side_of, HasErrors, Right, unset_fine, all_do}
 use Rattle.node_laws.proofs.views.Stepping.{all_undamaged, steps_right}
-use Rattle.registry.proofs.ValueLemmas.{AllByRecursion-append}
 
 -- ## Frames
 

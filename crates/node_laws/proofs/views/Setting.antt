@@ -6,33 +6,20 @@ use Rattle.std.specs.List.{AllByRecursion}
 use Rattle.std.specs.Option.{option_map_or}
 use Rattle.std.proofs.lemmas.Bool.{cond_both, eqb-true, true≢false}
 use mathlib.Core.Bool.{and-true}
-use Rattle.trace_model.specs.declared.entry.Entry.{Entry}
-use Rattle.trace_model.specs.declared.entry.Entry.TheVariants.{InitSame, InitMade, InitFailed}
-use Rattle.link_laws.specs.sessions.Sessions.{is_up}
-use Rattle.shdlc_core.specs.declared.answers.LinkState.TheVariants.{Up}
-use Rattle.hcp_packet.specs.declared.MessageKind.{MessageKind}
+use Rattle.node_laws.proofs.Words.{Answer, Ask, Commit, Core, Decision, Deed, Drops, Ends, Entry, HciTables, InitMade, InitSame, LinkView, Message}
+use Rattle.node_laws.proofs.Words.{MessageFault, MessageKind, OfDecision, OfHost, Plain, Port, Response, Sends, SetsErrors, Tells, Up, all_of_controller}
+use Rattle.node_laws.proofs.Words.{all_of_host, answer_of, anyone, body_in, controller_deeds, decided, decision_deeds, end_view, errors_set_by, has, has_link}
+use Rattle.node_laws.proofs.Words.{header_of, host_deeds, is_opened, is_up, link_deeds, link_served, ordered_deeds, own_gate, own_view, port_at, value_in}
+use Rattle.node_laws.proofs.Words.{view_for, view_of}
+use Rattle.trace_model.specs.declared.entry.Entry.TheVariants.{InitFailed}
 use Rattle.hcp_packet.specs.declared.MessageKind.TheVariants.{Command as IsCommand, Event as IsEvent, Response as IsResponse}
-use Rattle.hcp_packet.specs.declared.MessageFault.{MessageFault}
-use Rattle.hcp_packet.specs.MessageHeader.{header_of}
-use Rattle.hci_tables.specs.Tables.{HciTables, is_opened}
-use Rattle.gate_answers.specs.declared.response.Response.{Response}
 use Rattle.gate_answers.specs.declared.response.Response.TheVariants as response
-use Rattle.gate_answers.specs.Answers.{answer_of, first_of, tests_to_get, value_in, body_in}
-use Rattle.gate_admin.specs.declared.view.LinkView.{LinkView}
-use Rattle.gate_admin.specs.declared.decision.Decision.{Decision}
-use Rattle.gate_admin.specs.declared.decision.Decision.TheVariants.{Answer, Commit, Ask}
-use Rattle.gate_admin.specs.View.{has, hosts_where}
-use Rattle.gate_admin.specs.Decide.{decided, far_end, answers}
-use Rattle.gate_link.specs.Link.{link_served, tests_to_set_errors, count_in}
-use Rattle.link_laws.specs.machine.Machine.{Message}
-use Rattle.node_machine.specs.Parts.{Core, Port, Deed}
-use Rattle.node_machine.specs.Parts.Deed.{Sends, Tells, Drops, SetsErrors, Ends}
-use Rattle.node_machine.specs.Carrying.{port_at, own_view, end_view}
-use Rattle.node_machine.specs.Controller.{has_link, asks_for, view_for, decision_deeds, link_deeds, own_gate, goes_through, served_at, relayed_to, view_of}
-use Rattle.node_machine.specs.Controller.{unless_asking, kind_deeds, own_deeds, deeds_by_relay, command_deeds, controller_deeds}
-use Rattle.node_machine.specs.HostReplies.{ordered_deeds, host_deeds}
-use Rattle.node_machine.proofs.Walks.{Plain, OfDecision, OfHost, anyone, all_of_controller, all_of_host}
-use Rattle.node_laws.specs.views.Errors.{errors_set_by}
+use Rattle.gate_answers.specs.Answers.{first_of, tests_to_get}
+use Rattle.gate_admin.specs.View.{hosts_where}
+use Rattle.gate_admin.specs.Decide.{far_end, answers}
+use Rattle.gate_link.specs.Link.{tests_to_set_errors, count_in}
+use Rattle.node_machine.specs.Controller.{asks_for, goes_through, served_at, relayed_to}
+use Rattle.node_machine.specs.Controller.{unless_asking, kind_deeds, own_deeds, deeds_by_relay, command_deeds}
 use Rattle.node_laws.proofs.Cases.{by_option, by_test}
 use Rattle.node_laws.proofs.readings.Noticed.{up_is}
 

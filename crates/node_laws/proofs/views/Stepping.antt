@@ -3,18 +3,12 @@ use Rattle.std.proofs.Common.{◌≡◌, ℕ, true, List, [], ◌∷◌, map, re
 use Rattle.std.specs.Prelude.{Option, Some, None}
 use Rattle.std.specs.List.{AllByRecursion, flat_map}
 use Rattle.std.proofs.lemmas.Bool.{cond_both}
-use Rattle.trace_model.specs.declared.line.End.{End}
-use Rattle.link_laws.specs.machine.Machine.{LinkInput, report, whole_acked, after_input}
-use Rattle.link_laws.specs.machine.Machine.LinkInput.{Reset}
-use Rattle.link_laws.specs.entries.Entries.{End as Side, Entry as Noted, told}
-use Rattle.link_laws.specs.entries.Entries.Entry.{Up, Down, Active, GaveUp, Acked, Got, Sent}
-use Rattle.node_machine.specs.Parts.{Core, Port, Work, Deed}
-use Rattle.node_machine.specs.Carrying.{own_side, unless_cut, all_done}
-use Rattle.node_machine.specs.Turns.{passes}
-use Rattle.node_machine.specs.Node.{NodeInput, input_at, has_come, told_at, all_come, with_older, is_late, reset_late, told_late, times_out, forgotten, forgets}
-use Rattle.node_machine.specs.Node.{all_owed, without_notice, after_sessions, synced, steps}
-use Rattle.node_machine.specs.Node.NodeInput.{AtEnd, TimePasses}
-use Rattle.node_laws.specs.views.Errors.{ErrorCount}
+use Rattle.node_laws.proofs.Words.{Acked, Active, AtEnd, Core, Deed, Down, End, ErrorCount, GaveUp, Got, LinkInput, NodeInput, Port, Reset, Sent, TimePasses}
+use Rattle.node_laws.proofs.Words.{Work, after_input, after_sessions, all_come, all_done, all_owed, all_owed_hold, all_synced_hold, forgets, forgotten}
+use Rattle.node_laws.proofs.Words.{forgotten_hold, has_come, input_at, is_late, own_side, passes, report, reset_late, steps, synced, times_out, told, told_at}
+use Rattle.node_laws.proofs.Words.{told_late, unless_cut, whole_acked, with_older, without_notice}
+use Rattle.link_laws.specs.entries.Entries.{End as Side, Entry as Noted}
+use Rattle.link_laws.specs.entries.Entries.Entry.{Up}
 use Rattle.node_laws.proofs.All.{all_flat}
 use Rattle.node_laws.proofs.readings.Noting.{IsOwnNote, all_notes}
 use Rattle.node_laws.proofs.views.Leaving.{IsStill, notes_still, IsUndamaged}
@@ -22,7 +16,6 @@ use Rattle.node_laws.proofs.views.Setting.{IsUnset, AreUnset}
 use Rattle.node_laws.proofs.views.Doing.{Right, note, maps, with_core, unless, unset_fine, all_do}
 use Rattle.node_laws.proofs.views.Turning.{passes_right}
 use Rattle.node_laws.proofs.notices.Steps.{sessions_tables}
-use Rattle.node_machine.proofs.Walks.{forgotten_hold, all_owed_hold, all_synced_hold}
 use Rattle.node_laws.proofs.steps.Ports.{come_host, forgets_host, sessions_node, without_host, late_host}
 
 own_undamaged : (who : Side) (x : Noted) → IsOwnNote who x → IsUndamaged x

@@ -5,32 +5,18 @@ use Rattle.std.specs.Prelude.{Option, Some, None, nat_lt, unwrap_or}
 use Rattle.std.specs.List.{AllByRecursion}
 use Rattle.std.specs.Option.{option_map_or}
 use Rattle.std.proofs.lemmas.Bool.{cases_Bool, eqb-true, eq-eqb, true≢false}
-use Rattle.trace_model.specs.declared.entry.Entry.{Entry}
+use Rattle.node_laws.proofs.Words.{Book, Controller, Core, Deed, Drops, End, Entry, ErrorCount, FetchMessage, Give, Host, LinkEnd, Message, Port, Sends}
+use Rattle.node_laws.proofs.Words.{SetsErrors, Up, Work, after_turn, answer_of, changed_if, controller_deeds, deeds_of, end_of, end_of_node, end_view}
+use Rattle.node_laws.proofs.Words.{entries_for, errors_after, errors_set_by, give_refusal, goes_through_ends, handles, have_turns, host_deeds, hosts_of_ends}
+use Rattle.node_laws.proofs.Words.{lack, need, needs, noted_of, noting, own_gate, own_side, own_view, passes, port_at, same_end, sent_unless, spare, turn_at}
+use Rattle.node_laws.proofs.Words.{view_of, with_desk, with_port}
 use Rattle.trace_model.specs.declared.entry.Entry.TheVariants as entry
-use Rattle.trace_model.specs.declared.line.End.{End}
-use Rattle.shdlc_core.specs.declared.answers.LinkState.TheVariants.{Up}
 use Rattle.gate_answers.specs.declared.response.Response.TheVariants as response
-use Rattle.gate_answers.specs.Answers.{answer_of}
-use Rattle.link_laws.specs.machine.Machine.{Message, LinkEnd, give_refusal, spare, need}
-use Rattle.link_laws.specs.machine.Machine.Turn.{Give, FetchMessage}
-use Rattle.link_laws.specs.entries.Entries.{sent_unless}
-use Rattle.link_laws.specs.entries.Entries.End.{Controller, Host}
-use Rattle.history.specs.Filters.{same_end}
-use Rattle.history.specs.Steps.{end_of, entries_for}
-use Rattle.node_machine.specs.Parts.{Core, Port, Work, Deed}
-use Rattle.node_machine.specs.Parts.Deed.{Sends, Drops, SetsErrors}
-use Rattle.node_machine.specs.Carrying.{own_side, noting, port_at, changed_if, with_port, with_desk, after_turn, noted_of, turn_at, end_of_node}
-use Rattle.node_machine.specs.Carrying.{needs, lack, own_view, end_view}
-use Rattle.node_machine.specs.Controller.{own_gate, controller_deeds, view_of}
-use Rattle.node_machine.specs.HostReplies.{host_deeds}
-use Rattle.node_machine.specs.Turns.{deeds_of, handles, have_turns, goes_through_ends, passes}
-use Rattle.node_machine.specs.world.NodeFilters.{Book}
-use Rattle.node_laws.specs.kept.Books.{hosts_of_ends}
 use Rattle.node_laws.proofs.Cases.{by_test, by_option}
 use Rattle.node_laws.proofs.telling.Away.{at_map}
 use Rattle.node_laws.proofs.links.Noticing.{at_host}
 use Rattle.node_laws.proofs.readings.Turning.{lack_parts}
-use Rattle.node_laws.specs.views.Errors.{ErrorCount, errors_after, errors_set_by, leads_to_link_gate, is_any_ok}
+use Rattle.node_laws.specs.views.Errors.{leads_to_link_gate, is_any_ok}
 use Rattle.node_laws.proofs.views.Leaving.{reads, reads_append, IsRead}
 use Rattle.node_laws.proofs.views.Setting.{is_link_gate, controller_unset, host_unset, controller_sets, host_sets, SetDeeds, IsUpAt}
 use Rattle.node_laws.proofs.views.Setting.SetDeeds.{IsSet, IsRefused, IsDropped}

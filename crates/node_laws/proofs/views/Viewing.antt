@@ -4,31 +4,19 @@ use Rattle.std.specs.Prelude.{Option, Some, None, is_some, slice_index}
 use Rattle.std.specs.List.{filter, find, list_any, range_with_len}
 use Rattle.std.specs.Option.{option_map, option_map_or, option_and_then}
 use Rattle.std.proofs.lemmas.Bool.{cond_both, eqb-true, true≢false}
-use Rattle.trace_model.specs.Lines.{IsHost}
-use Rattle.trace_model.specs.declared.entry.Entry.{Entry}
-use Rattle.link_laws.specs.sessions.Sessions.{is_up}
-use Rattle.shdlc_core.specs.declared.answers.LinkState.{LinkState}
-use Rattle.shdlc_core.specs.declared.answers.LinkState.TheVariants.{Up}
-use Rattle.hci_tables.specs.Tables.{HciTables, is_opened}
+use Rattle.node_laws.proofs.Words.{Desk, Entry, HasEnds, HciTables, IsHost, IsKeptNotice, IsSameView, Link, LinkState, LinkView, NodeWorld, NumberedEnd, Port}
+use Rattle.node_laws.proofs.Words.{Running, Site, Up, asking_in, decided, end_c, ends_between, errors_in, errors_of, hosts_in, is_asked_at, is_connected_at}
+use Rattle.node_laws.proofs.Words.{is_of_creation, is_one_of, is_opened, is_up, link_to, mask_of, notice_at, notice_in, port_at, port_for, session_now, site_at}
+use Rattle.node_laws.proofs.Words.{tables_in, view_at, view_for}
 use Rattle.pipe_table.specs.PipeRows.{lowest_free}
-use Rattle.gate_admin.specs.declared.view.LinkView.{LinkView}
-use Rattle.gate_admin.specs.Decide.{decided}
-use Rattle.gate_admin.specs.View.{hosts_where, mask_of}
+use Rattle.gate_admin.specs.View.{hosts_where}
 use Rattle.link_laws.specs.entries.Sessions.{number_now as session_at}
-use Rattle.link_laws.specs.messages.Links.{NumberedEnd, Link}
-use Rattle.node_machine.specs.Parts.{Desk, Running, Port}
-use Rattle.node_machine.specs.Controller.{is_asked_at, is_connected_at, view_for, waiting_pipes}
-use Rattle.node_machine.specs.Carrying.{port_at}
-use Rattle.node_machine.specs.world.World.{NodeWorld, Site, site_at, link_to, port_for, end_c}
-use Rattle.node_machine.specs.world.NodeFilters.{asking_in, is_connected_in, notice_in, session_now, tables_in}
-use Rattle.node_laws.specs.telling.Telling.{HasEnds, hosts_in}
-use Rattle.node_laws.specs.readings.Noticed.{ends_between}
-use Rattle.node_laws.specs.notices.Notices.{IsKeptNotice, NoticesAreRead, is_of_creation, notice_at, notice_of_running}
+use Rattle.node_machine.specs.Controller.{waiting_pipes}
+use Rattle.node_machine.specs.world.NodeFilters.{is_connected_in}
+use Rattle.node_laws.specs.notices.Notices.{NoticesAreRead, notice_of_running}
 use Rattle.node_laws.proofs.Cases.{by_option, by_test}
 use Rattle.node_laws.proofs.notices.Knowing.{noticed_is, asked_is}
-use Rattle.node_laws.specs.views.Errors.{ErrorsAreRead, errors_in, errors_of}
-use Rattle.node_laws.specs.cuts.Histories.{is_one_of}
-use Rattle.node_laws.specs.views.Views.{view_at, IsSameView}
+use Rattle.node_laws.specs.views.Errors.{ErrorsAreRead}
 use Rattle.node_laws.specs.creations.Creations.{is_asked_pipe, asked_pipes}
 use Rattle.node_laws.proofs.creations.Knowing.{given_same}
 use Rattle.node_laws.proofs.telling.Nodes.{link_is}

@@ -1,25 +1,14 @@
 -- The view of a controller over whole histories: sessions and creations that wait are read there.
 use Rattle.std.proofs.Common.{◌≡◌, ℕ, true, List, ◌++◌, Some, subst}
 use Rattle.std.specs.List.{AllByRecursion}
-use Rattle.trace_model.specs.declared.entry.Entry.{Entry}
-use Rattle.trace_model.specs.declared.line.Header.{Header}
-use Rattle.trace_model.specs.declared.line.Line.{Line}
-use Rattle.node_machine.specs.Parts.{Running}
-use Rattle.node_machine.specs.Controller.{view_for}
-use Rattle.node_machine.specs.world.World.{NodeWorld, new_world}
-use Rattle.node_machine.specs.world.Lines.{Occurrence}
-use Rattle.node_machine.specs.world.NodeHistories.{NodeHistory, FollowsNodes, occurrences_in, entries_in, node_entries}
-use Rattle.node_laws.specs.links.Runs.{ArePlayable}
-use Rattle.node_laws.specs.kept.Hosts.{AreHosts, IsFew, IsSentByHost}
-use Rattle.node_laws.specs.telling.Telling.{world_behind}
-use Rattle.node_laws.specs.readings.Noticed.{ends_between}
+use Rattle.node_laws.proofs.Words.{AreHosts, ArePlayable, Entry, FollowsNodes, Header, IsFew, IsSameView, IsSentByHost, Line, NodeHistory, NodeWorld}
+use Rattle.node_laws.proofs.Words.{Occurrence, Running, ends_between, entries_in, is_one_of, new_world, node_entries, occurrences_in, view_at, view_for}
+use Rattle.node_laws.proofs.Words.{world_behind}
 use Rattle.node_laws.proofs.order.Lines.{IsSo, host_number, history_so}
 use Rattle.node_laws.proofs.order.Sessions.{are_read}
 use Rattle.node_laws.specs.creations.Creations.{IfKnowsAsRead}
 use Rattle.node_laws.proofs.creations.Knowing.{if_known}
 use Rattle.node_laws.proofs.creations.Lines.{history_keeps}
-use Rattle.node_laws.specs.cuts.Histories.{is_one_of}
-use Rattle.node_laws.specs.views.Views.{view_at, IsSameView}
 use Rattle.node_laws.proofs.views.Viewing.{SessionsAreRead, PipesAreRead}
 use Rattle.node_laws.proofs.views.Lines.{events_so, view_read}
 

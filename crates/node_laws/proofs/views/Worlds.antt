@@ -4,40 +4,23 @@ use Rattle.std.specs.Prelude.{Option, Some, None}
 use Rattle.std.specs.List.{AllByRecursion, flat_map}
 use Rattle.std.proofs.lemmas.Bool.{cases_Bool, eqb-true, eq-eqb, true≢false, ne_eqb, eqb-false}
 use mathlib.Core.Bool.{and-false}
-use Rattle.trace_model.specs.declared.entry.Entry.{Entry}
-use Rattle.trace_model.specs.declared.line.End.{End}
-use Rattle.link_laws.specs.machine.Machine.{LinkInput}
-use Rattle.link_laws.specs.messages.Links.{Comes, exchanged}
-use Rattle.link_laws.specs.messages.Links.Comes.{NoInput, Starts}
-use Rattle.link_laws.specs.entries.Entries.End.{Controller, Host}
-use Rattle.history.specs.Steps.{entries_for}
-use Rattle.node_machine.specs.Parts.{Running, Work, Deed}
-use Rattle.node_machine.specs.Carrying.{changed_if}
-use Rattle.node_machine.specs.Node.{steps, begins_with}
-use Rattle.node_machine.specs.Node.NodeInput.{AtEnd}
-use Rattle.node_machine.specs.world.World.{NodeWorld, Site, site_at, with_site, node_at, node_of, link_to, runs_on, near_end_in, arrival}
-use Rattle.node_machine.specs.world.World.{wires_for}
-use Rattle.node_machine.specs.world.World.{frames_noted, comes_to, controller_work, link_after_controller, after_controller, controller_does}
-use Rattle.node_machine.specs.world.World.{host_work, after_host}
-use Rattle.node_machine.specs.world.World.{host_does, comes_at, activates, end_c, end_h}
-use Rattle.node_machine.specs.world.World.{controller_ticks}
-use Rattle.node_laws.specs.kept.Hosts.{AreDifferent}
-use Rattle.node_laws.specs.telling.Telling.{HasEnds, IfItRuns, hosts_in, IsOrderly}
+use Rattle.node_laws.proofs.Words.{AllByRecursion-append, AreDifferent, AtEnd, Comes, Controller, Deed, End, Entry, ErrorCount, HasEnds, Host, IfItRuns}
+use Rattle.node_laws.proofs.Words.{IsOrderly, LinkInput, NoInput, NodeWorld, Running, Site, Starts, Work, activates, after_controller, after_host}
+use Rattle.node_laws.proofs.Words.{after_host_step, arrival, begins_with, by_coming, by_controller, by_controller_tick, by_host, changed_if, comes_at, comes_to}
+use Rattle.node_laws.proofs.Words.{controller_does, controller_ticks, controller_work, end_c, end_h, entries_for, exchanged, frames_noted, host_does, host_work}
+use Rattle.node_laws.proofs.Words.{hosts_in, link_after_controller, link_to, near_end_in, near_tick, node_at, node_of, runs_on, site_at, site_ticked}
+use Rattle.node_laws.proofs.Words.{site_unticked, steps, wires_for, with_site}
 use Rattle.node_laws.proofs.All.{all_flat}
 use Rattle.node_laws.proofs.Cases.{by_test}
 use Rattle.node_laws.proofs.telling.Mute.{AreMute}
 use Rattle.node_laws.proofs.telling.Nodes.{site_host}
-use Rattle.node_laws.specs.views.Errors.{ErrorCount}
 use Rattle.node_laws.proofs.views.Leaving.{reads, reads_append, Leaves, IsStill, still_leaves}
 use Rattle.node_laws.proofs.views.Setting.{AreUnset}
 use Rattle.node_laws.proofs.views.Nodes.{IfKeeps, KeepsErrors, leaves_kept, own_steps, own_begins, IsOther, others_step, others_begin, frames_still}
 use Rattle.node_laws.proofs.views.Nodes.{arrival_still}
-use Rattle.registry.proofs.ValueLemmas.{AllByRecursion-append}
 use Rattle.node_laws.proofs.turns.Works.{sites_is}
 use Rattle.node_laws.proofs.telling.Worlds.{site_is}
 use Rattle.node_laws.proofs.kept.Sites.{hosts_same}
-use Rattle.node_machine.proofs.world.Cases.{by_coming, by_controller, by_host, after_host_step}
-use Rattle.node_machine.proofs.world.Cases.{by_controller_tick, near_tick, site_ticked, site_unticked}
 
 -- ## Sites
 
