@@ -1,10 +1,10 @@
 -- No end of a host has a block set aside, at each turn of a step.
-use Rattle.std.proofs.Common.{◌≡◌, ℕ, Bool, true, false, eqb, List, [], ◌∷◌, map, length, sym, refl, ap, ◌∙◌, subst}
+use Rattle.std.proofs.Common.{◌≡◌, ℕ, false, eqb, List, map, length, sym, refl, ap, ◌∙◌, subst}
 use Rattle.std.specs.Prelude.{Some, None}
 use Rattle.std.specs.List.{AllByRecursion}
 use Rattle.node_laws.proofs.Words.{About, Asks, AtEnd, ComesTo, Command, Commits, Deed, Desk, Drops, Ends, FetchMessage, Give, GoesOn, Hears, Hold, IsAnswered}
 use Rattle.node_laws.proofs.Words.{IsOutside, Message, NodeInput, Orders, Port, Release, Releases, Removed, Reset, SaysOk, Sends, SetsErrors, Tells, Tick}
-use Rattle.node_laws.proofs.Words.{TimePasses, Turn, Work, after_sessions, after_turn, all_come, all_done, anyone, asked_at, body_of, changed_if, comes_to_pass}
+use Rattle.node_laws.proofs.Words.{TimePasses, Turn, Work, after_sessions, after_turn, all_come, all_done, anyone, asked_at, body_of, comes_to_pass}
 use Rattle.node_laws.proofs.Words.{commit, commit_writes, deeds_of, done, fails_within, forgets, forgotten, has_come, has_come_so, has_freed, has_synced}
 use Rattle.node_laws.proofs.Words.{input_at, is_forgotten, is_late, is_over, notified, noting, owed_in_step, reset_late, syncs_in, turn_at, with_desk}
 use Rattle.node_laws.proofs.Words.{with_older, with_port, without_notice}
@@ -15,6 +15,7 @@ use Rattle.node_laws.proofs.passes.Passing.{comes_so}
 use Rattle.node_laws.proofs.notices.Own.{IsOwn, all_owed_own, all_synced_own, deeds_own, forgotten_own}
 use Rattle.node_laws.proofs.creations.Asides.{input_aside}
 use Rattle.node_laws.proofs.creations.HostSides.{SetsNone, turn_none}
+use Rattle.node_laws.proofs.Each.{all_map, all_changed}
 
 -- no block is set aside at an end
 abbrev pub HasNone : Port → Type 0
@@ -25,17 +26,9 @@ pub record HaveNone (w : Work) : Type 0 where
   pub number : eqb w.core.node 0 ≡ false
   pub ends : AllByRecursion HasNone w.ports
 
-all_of : (f : Port → Port) → ((p : Port) → HasNone p → HasNone (f p)) → (ports : List Port) → AllByRecursion HasNone ports
-    → AllByRecursion HasNone (map f ports)
-all_of f one [] a = tt
-all_of f one (p ∷ ports) a = (one p a.0, all_of f one ports a.1)
-
 changed : (h : ℕ) (f : Port → Port) → ((p : Port) → HasNone p → HasNone (f p)) → (ports : List Port) → AllByRecursion HasNone ports
     → AllByRecursion HasNone (with_port h f ports)
-changed h f one ports a = all_of (λ p. changed_if (eqb p.desk.host h) f p) (λ p b. go (eqb p.desk.host h) p b) ports a where
-  go : (c : Bool) (p : Port) → HasNone p → HasNone (changed_if c f p)
-  go true p b = one p b
-  go false p b = b
+changed h f one ports a = all_changed HasNone (λ p. eqb p.desk.host h) f one ports a
 
 turns : (h : ℕ) (t : Turn) (w : Work) → SetsNone t → HaveNone w → HaveNone (turn_at h t w)
 turns h t w is a = record { number = a.number; ends = changed h (after_turn t) (λ p b. turn_none p.side t is b) w.ports a.ends }
@@ -97,14 +90,14 @@ late_none p a = by_test (is_late p) (λ q. rw q (input_aside p.side (Reset None)
 
 all_came : (input : NodeInput) (w : Work) → IsOutside input → HaveNone w → HaveNone (all_come input w)
 all_came input w outside a =
-    record { number = a.number; ends = all_of (λ p. has_come p (input_at input p)) (λ p b. come_none input p outside b) w.ports a.ends }
+    record { number = a.number; ends = all_map HasNone HasNone (λ p. has_come p (input_at input p)) (λ p b. come_none input p outside b) w.ports a.ends }
 
 came_none : (input : NodeInput) (w : Work) → IsOutside input → HaveNone w → HaveNone (has_come_so input w)
 came_none (AtEnd h i) w outside a = all_came (AtEnd h i) w outside a
 came_none TimePasses w outside a =
     let b : HaveNone (all_come TimePasses w) = all_came TimePasses w outside a in record {
       number = b.number;
-      ends = all_of reset_late late_none (map with_older (all_come TimePasses w).ports) (all_of with_older (λ p c. c) (all_come TimePasses w).ports b.ends);
+      ends = all_map HasNone HasNone reset_late late_none (map with_older (all_come TimePasses w).ports) (all_map HasNone HasNone with_older (λ p c. c) (all_come TimePasses w).ports b.ends);
     }
 
 without_none : (p : Port) → HasNone p → HasNone (without_notice p)
@@ -121,8 +114,8 @@ begun_none input w outside a =
     let start : Work = record came { core = after_sessions came.core came.ports; ports = map without_notice (map (forgets came.ports) came.ports) } in
     let first : HaveNone start = record {
       number = ap (λ n. eqb n 0) (sessions_node came.core came.ports) ∙ b.number;
-      ends = all_of without_notice without_none (map (forgets came.ports) came.ports)
-          (all_of (forgets came.ports) (λ p c. forgets_none came.ports p c) came.ports b.ends);
+      ends = all_map HasNone HasNone without_notice without_none (map (forgets came.ports) came.ports)
+          (all_map HasNone HasNone (forgets came.ports) (λ p c. forgets_none came.ports p c) came.ports b.ends);
     } in
     let one : HaveNone (has_freed input w) = all_last HaveNone IsOwn Any none_lasts 0 (forgotten came.ports) start (forgotten_own came.ports) first in
     let two : HaveNone (has_synced input w) =

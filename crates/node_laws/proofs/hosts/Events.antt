@@ -9,10 +9,10 @@ use Rattle.registry.proofs.ValueLemmas.{AllByRecursion-append as all_append}
 use Rattle.node_laws.proofs.Words.{Activates, AreDifferent, AreNoTurns, AreNotOf, ArePortsRead, Arms, AsksReset, AtEnd, Boots, Comes, Controller, End, Entry}
 use Rattle.node_laws.proofs.Words.{Gives, GoesOut, Happening, HoldsInStep, Host, IfItRuns, Init, Inits, IsCut, IsHeldFor, IsHost, IsOrderly, IsOutside}
 use Rattle.node_laws.proofs.Words.{IsReplied, Link, LinkInput, Loses, Lost, NextFrame, NodeInput, NodeWorld, NumberedEnd, Occurrence, OnWire, Resets, Running}
-use Rattle.node_laws.proofs.Words.{Site, Start, Starts, Step, Take, Takes, Ticks, TimePasses, Work, after_host_step, aged, aged_entries, all_aged, arrival}
+use Rattle.node_laws.proofs.Words.{Site, Start, Starts, Step, Take, Takes, Ticks, TimePasses, Work, aged, aged_entries, all_aged, arrival}
 use Rattle.node_laws.proofs.Words.{beginning, boots, by_coming, by_controller, by_controller_tick, by_host_tick, comes_at, comes_to, comes_to_pass}
 use Rattle.node_laws.proofs.Words.{controller_ticks, controller_work, end_c, end_h, ending_of, entries_for, entries_in, exchanged, frame_lost, frames_at}
-use Rattle.node_laws.proofs.Words.{frames_noted, host_begins_step, host_does, host_tick, host_ticks, host_work, hosts_in, hosts_tick, init_begun, init_in}
+use Rattle.node_laws.proofs.Words.{frames_noted, host_begins_step, host_tick, host_ticks, hosts_in, hosts_tick, init_begun, init_in}
 use Rattle.node_laws.proofs.Words.{input_of, link_after_controller, link_to, near_end_in, near_tick, node_of, sending, site_at, site_ticked, site_unticked}
 use Rattle.node_laws.proofs.Words.{steps, ticks_host, turns_at, wires_for, work_of, world_step, world_ticks}
 use Rattle.link_laws.specs.entries.Entries.{Entry as Noted}
@@ -54,6 +54,7 @@ use Rattle.node_laws.proofs.hosts.Passes.{BeginsSo}
 use Rattle.node_laws.proofs.hosts.Standing.{HostStands, init_stays, others_act}
 use Rattle.node_laws.proofs.shorts.Calm.{AreCalmAt, frames_calm, others_calm}
 use Rattle.node_laws.proofs.shorts.Left.{step_short}
+use Rattle.node_laws.proofs.kept.Sites.{none_found}
 
 -- ## Frames that grow too old are of no node
 
@@ -94,10 +95,6 @@ split_sites (s ∷ sites) n x there = by_test (eqb s.host n)
     record { before = []; behind = sites; is = ap (λ y. y ∷ sites) one; off = tt })
     (λ q. let rest : SplitSites sites n x = split_sites sites n x (rw q at there) in
     record { before = s ∷ rest.before; behind = rest.behind; is = ap (λ l. s ∷ l) rest.is; off = (q, rest.off) })
-
-none_off : (sites : List Site) (n : ℕ) → site_at sites n ≡ None → AllByRecursion (λ k. eqb k n ≡ false) (hosts_in sites)
-none_off [] n none = tt
-none_off (s ∷ sites) n none = by_test (eqb s.host n) (λ q. let no : Some s ≡ None = rw q at none in absurd (cc no)) (λ q. (q, none_off sites n (rw q at none)))
 
 ticks_split : (before : List Site) (x : Site) (behind : List Site)
     → (hosts_tick (before ++ (x ∷ behind))).1 ≡ (hosts_tick before).1 ++ ((host_ticks x).1 ++ (hosts_tick behind).1)
@@ -570,7 +567,7 @@ module _ (hosts : List ℕ) (past : List Occurrence) (w : NodeWorld) (so : IsSo 
         go None q =
             off_so Ticks (aged_es ++ (near.1 ++ (hosts_tick near.0.sites).1)) (ticked_off (λ y there. let no : None ≡ Some y = sym q ∙ there in absurd (cc no)))
             (all_append _ aged_es (near.1 ++ (hosts_tick near.0.sites).1) (aged_of_none n w)
-            (all_append _ near.1 (hosts_tick near.0.sites).1 near_not (others_tick n near.0.sites (none_off near.0.sites n q) nodes)))
+            (all_append _ near.1 (hosts_tick near.0.sites).1 near_not (others_tick n near.0.sites (none_found near.0.sites n q) nodes)))
         go (Some x) q =
             let s : SplitSites near.0.sites n x = split_sites near.0.sites n x q in
             let own : List Entry = (host_ticks x).1 ++ (hosts_tick s.behind).1 in

@@ -29,6 +29,7 @@ use Rattle.node_laws.proofs.reply_passes.Growing.{commits-append}
 use Rattle.node_laws.proofs.reply_passes.Memories.{generation_in}
 use Rattle.node_laws.proofs.reply_passes.Roomy.{boot_grown, history_lasts, node_step_grown}
 use Rattle.node_laws.proofs.worlds.Histories.{of_hosts}
+use Rattle.node_laws.proofs.Cases.{by_test}
 
 -- the memory of a host behind these entries
 abbrev pub IsGrownAt : List Entry → Site → Type 0
@@ -64,21 +65,15 @@ module _ (t es : List Entry) (h : ℕ) (f : Site → Site) where
   with_grown : (sites : List Site) → AreDifferent (hosts_in sites) → ((s : Site) → site_at sites h ≡ Some s → IsGrownAt (t ++ es) (f s)) → AreGrown t sites
       → AreGrown (t ++ es) (with_site h f sites)
   with_grown [] d one a = tt
-  with_grown (s ∷ sites) d one a = by (eqb s.host h) refl (λ each. with_grown sites d.1 each a.1) where
-    found : (b : Bool) → eqb s.host h ≡ b → site_at (s ∷ sites) h ≡ cond b (Some s) (site_at sites h)
-    found b q = ap (λ c. cond c (Some s) (site_at sites h)) q
-
-    by : (b : Bool) → eqb s.host h ≡ b
-        → (((x : Site) → site_at sites h ≡ Some x → IsGrownAt (t ++ es) (f x)) → AreGrown (t ++ es) (with_site h f sites))
-        → AreGrown (t ++ es) (with_site h f (s ∷ sites))
-    by true q later = (
-      subst (λ b. IsGrownAt (t ++ es) (changed_if b f s)) (sym q) (one s (found true q)),
-      off_grown sites (subst (λ n. AllByRecursion (λ k. eqb k n ≡ false) (hosts_in sites)) (eqb-true s.host h q) d.0) a.1,
-    )
-    by false q later = (
-      subst (λ b. IsGrownAt (t ++ es) (changed_if b f s)) (sym q) (more_grown t es s a.0),
-      later (λ x there. one x (found false q ∙ there)),
-    )
+  with_grown (s ∷ sites) d one a = by_test (eqb s.host h)
+      (λ q. (
+        subst (λ b. IsGrownAt (t ++ es) (changed_if b f s)) (sym q) (one s (rw q refl)),
+        off_grown sites (subst (λ n. AllByRecursion (λ k. eqb k n ≡ false) (hosts_in sites)) (eqb-true s.host h q) d.0) a.1,
+      ))
+      (λ q. (
+        subst (λ b. IsGrownAt (t ++ es) (changed_if b f s)) (sym q) (more_grown t es s a.0),
+        with_grown sites d.1 (λ x there. one x (rw q there)) a.1,
+      ))
 
 -- ## A step of a host
 

@@ -90,7 +90,7 @@ module _ (content : List ℕ) (t : HciTables) (many : ℕ) (f : BootFinds conten
 
     pub left_formatted : (j : ℕ) (left : List ℕ) → IsCut j format_writes content left → BootFinds left t many
     left_formatted j left cut =
-        either (left_finds format_writes content left t t many many between f after_it) where
+        elim (left_finds format_writes content left t t many many between f after_it) [ inl x ↦ x | inr x ↦ x ] where
           between : IsLeftBetween format_writes content left
           between = record { at = j; whole = format_all_or_nothing content (state_of content) says none; cut = cut }
 
@@ -98,10 +98,6 @@ module _ (content : List ℕ) (t : HciTables) (many : ℕ) (f : BootFinds conten
           after_it = finds_closed (after_writes format_writes content) (close (tables_of content)) t many
               (subst (λ k. BootFinds (after_writes format_writes content) (close (tables_of content)) k) count_formatted knows_formatted.finds)
               (sym same_tables)
-
-          either : BootFinds left t many ⊎ BootFinds left t many → BootFinds left t many
-          either (inl x) = x
-          either (inr x) = x
 
 -- ## A boot
 
@@ -158,18 +154,10 @@ module _ (n : ℕ) (hosts : List ℕ) (t : List Entry) (m : Memory) (would : Wou
         small (inr less) = omega (arith, less.0)
 
     pub boot_told : FindsCommands t n (count_of now)
-    boot_told = by_which would.which where
-      by_which : (would.many ≡ length book.commands) ⊎ ((suc would.many ≡ length book.commands) × (last_in t n ≡ CutBehindCommand) × IsSome (current content))
-          → FindsCommands t n (count_of now)
-      by_which (inl all) = inl (count_now ∙ all)
-      by_which (inr less) = inr (ap suc count_now ∙ less.0, less.1)
+    boot_told = elim would.which [ inl all ↦ inl (count_now ∙ all) | inr less ↦ inr (ap suc count_now ∙ less.0, less.1) ]
 
     most : would.many ≤ length book.commands
-    most = by_which would.which where
-      by_which : (would.many ≡ length book.commands) ⊎ ((suc would.many ≡ length book.commands) × (last_in t n ≡ CutBehindCommand) × IsSome (current content))
-          → would.many ≤ length book.commands
-      by_which (inl all) = omega (arith, all)
-      by_which (inr less) = omega (arith, less.0)
+    most = elim would.which [ inl all ↦ omega (arith, all) | inr less ↦ omega (arith, less.0) ]
 
     book_then : book_in (t ++ entry.Booted n (count_of now) ∷ []) n ≡ with_found (count_of now) book
     book_then = book_more t (entry.Booted n (count_of now) ∷ []) n ∙ ap (λ b. cond b (with_found (count_of now) book) book) (eq-eqb n n refl)

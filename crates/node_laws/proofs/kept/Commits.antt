@@ -94,21 +94,20 @@ says_either writes content left b =
 
 pub left_finds : (writes : List Write) (content left : List ℕ) (t u : HciTables) (m n : ℕ) → IsLeftBetween writes content left
     → BootFinds content t m → BootFinds (after_writes writes content) u n → BootFinds left t m ⊎ BootFinds left u n
-left_finds writes content left t u m n b before done = either (says_either writes content left b) where
+left_finds writes content left t u m n b before done = elim (says_either writes content left b) [
+  | inl same ↦ inl (finds_still content left t m before size same)
+  | inr same ↦ inr (finds_still (after_writes writes content) left u n done (size ∙ sym (length-after writes content b.whole.fit)) same)
+] where
   size : length left ≡ length content
   size = length-cut b.at writes content left b.whole.fit b.cut
-
-  either : (journal left ≡ journal content) ⊎ (journal left ≡ journal (after_writes writes content)) → BootFinds left t m ⊎ BootFinds left u n
-  either (inl same) = inl (finds_still content left t m before size same)
-  either (inr same) = inr (finds_still (after_writes writes content) left u n done (size ∙ sym (length-after writes content b.whole.fit)) same)
 
 -- a bank is in use still
 left_used : (writes : List Write) (content left : List ℕ) → IsLeftBetween writes content left → IsSome (current content)
     → IsSome (current (after_writes writes content)) → IsSome (current left)
-left_used writes content left b before done = either (says_either writes content left b) where
-  either : (journal left ≡ journal content) ⊎ (journal left ≡ journal (after_writes writes content)) → IsSome (current left)
-  either (inl same) = subst IsSome (sym (sym (in_use_is left) ∙ ap (λ (j : Journal). j.in_use) same ∙ in_use_is content)) before
-  either (inr same) = subst IsSome (sym (sym (in_use_is left) ∙ ap (λ (j : Journal). j.in_use) same ∙ in_use_is (after_writes writes content))) done
+left_used writes content left b before done = elim (says_either writes content left b) [
+  | inl same ↦ subst IsSome (sym (sym (in_use_is left) ∙ ap (λ (j : Journal). j.in_use) same ∙ in_use_is content)) before
+  | inr same ↦ subst IsSome (sym (sym (in_use_is left) ∙ ap (λ (j : Journal). j.in_use) same ∙ in_use_is (after_writes writes content))) done
+]
 
 pub used_of : (content : List ℕ) (s : State) (t : HciTables) → Knows content s t → IsSome (current content)
 used_of content s t k = subst IsSome (sym (ap (λ (x : State). x.in_use) k.state_is)) k.in_use
@@ -224,13 +223,12 @@ module _ (content : List ℕ) (s : State) (t : HciTables) (c : Command) (k : Kno
   room_used false is j left cut = compact_used content s t k are may (next_of is) j left cut
 
   pub commit_used : (j : ℕ) (left : List ℕ) → IsCut j (commit_writes s t (body_of c)) content left → IsSome (current left)
-  commit_used j left cut = by_part (cut-append j (room_writes s t (body_of c)) (append_writes (with_room s t (body_of c)) (body_of c)) content left cut) where
-    by_part : IsCut j (room_writes s t (body_of c)) content left ⊎ ((i : ℕ) × IsCut i (append_writes (with_room s t (body_of c))
-        (body_of c)) between left) → IsSome (current left)
-    by_part (inl first) = room_used (record_fits s (body_of c)) refl j left first
-    by_part (inr later) =
+  commit_used j left cut = elim (cut-append j (room_writes s t (body_of c)) (append_writes (with_room s t (body_of c)) (body_of c)) content left cut) [
+    | inl first ↦ room_used (record_fits s (body_of c)) refl j left first
+    | inr later ↦
         let r = room_knows (record_fits s (body_of c)) refl in
         append_used between (with_room s t (body_of c)) t r.0 c command r.1 later.0 left later.1
+  ]
 
   pub commit_left : (j : ℕ) (left : List ℕ) → IsCut j (commit_writes s t (body_of c)) content left
       → BootFinds left t (count_of s) ⊎ BootFinds left (apply t c) (count_of (committed s t (body_of c)))

@@ -1,5 +1,5 @@
 -- What a controller decides may be recorded.
-use Rattle.std.proofs.Common.{◌≡◌, ◌⊎◌, ℕ, ◌<◌, ◌≤◌, Bool, true, false, cond, eqb, leb, ltb, ◌&&◌, ◌||◌, List, sym, refl, ap, ◌∙◌, subst, inl, inr, arith}
+use Rattle.std.proofs.Common.{◌≡◌, ℕ, ◌<◌, ◌≤◌, Bool, true, false, cond, eqb, leb, ltb, ◌&&◌, ◌||◌, List, sym, refl, ap, ◌∙◌, subst, inl, inr, arith}
 use Rattle.std.specs.Prelude.{Option, Some, None, IsTrue, IsSome, is_none}
 use Rattle.std.specs.Option.{option_and_then}
 use Rattle.std.proofs.lemmas.Bool.{cond_both, cases_eq, eqb-true, ne_eqb, true≢false, and_from, le-leb, lt-ltb, not-false}
@@ -37,31 +37,28 @@ may_open : (h pipe : ℕ) (opened : Bool) → h ≤ 7 → pipe < 112 → IsComma
 may_open h pipe opened most small = and_from (is_host h) (ltb pipe 112) (host_is h most) (lt-ltb pipe 112 small)
 
 kept_param : (h p : ℕ) → 1 ≤ h → h ≤ 7 → is_unknown_access (access_of 0 p) ≡ false → is_read_only (access_of 0 p) ≡ false → IsTrue (is_kept h 0 p)
-kept_param h p some most known writable = by_one (cases_eq p 1) where
+kept_param h p some most known writable = elim (cases_eq p 1) [
+  | inl is ↦ kept_as 1 is refl
+  | inr a ↦ elim (cases_eq p 3) [ inl is ↦ kept_as 3 is refl | inr b ↦ absurd (neither a b) ]
+] where
   front : (leb 1 h && leb h 7 && true) ≡ true
   front = and_from (leb 1 h && leb h 7) true (and_from (leb 1 h) (leb h 7) (le-leb 1 h some) (le-leb h 7 most)) refl
 
   kept_as : (k : ℕ) → p ≡ k → (eqb k 1 || eqb k 3) ≡ true → IsTrue (is_kept h 0 p)
   kept_as k is good = and_from (leb 1 h && leb h 7 && true) (eqb p 1 || eqb p 3) front (ap (λ n. eqb n 1 || eqb n 3) is ∙ good)
 
-  by_one : (p ≡ 1) ⊎ (p ≡ 1 → ⊥) → IsTrue (is_kept h 0 p)
-  by_one (inl is) = kept_as 1 is refl
-  by_one (inr a) = by_three (cases_eq p 3) where
-    by_three : (p ≡ 3) ⊎ (p ≡ 3 → ⊥) → IsTrue (is_kept h 0 p)
-    by_three (inl is) = kept_as 3 is refl
-    by_three (inr b) = by_two (cases_eq p 2) where
-      by_two : (p ≡ 2) ⊎ (p ≡ 2 → ⊥) → IsTrue (is_kept h 0 p)
-      by_two (inl is) = absurd (true≢false (sym (ap (λ n. is_read_only (access_of 0 n)) is) ∙ writable))
-      by_two (inr c) = by_four (cases_eq p 4) where
-        by_four : (p ≡ 4) ⊎ (p ≡ 4 → ⊥) → IsTrue (is_kept h 0 p)
-        by_four (inl is) = absurd (true≢false (sym (ap (λ n. is_read_only (access_of 0 n)) is) ∙ writable))
-        by_four (inr d) =
-            let e1 = ne_eqb 1 p (λ s. a (sym s)) in
-            let e2 = ne_eqb 2 p (λ s. c (sym s)) in
-            let e3 = ne_eqb 3 p (λ s. b (sym s)) in
-            let e4 = ne_eqb 4 p (λ s. d (sym s)) in
-            let unknown : is_unknown_access (access_of 0 p) ≡ true = rw (e1, e2, e3, e4) refl in
-            absurd (true≢false (sym unknown ∙ known))
+  -- a parameter that can be written isn't 2 or 4
+  never : (k : ℕ) → is_read_only (access_of 0 k) ≡ true → p ≡ k → ⊥
+  never k only is = true≢false (sym (ap (λ n. is_read_only (access_of 0 n)) is ∙ only) ∙ writable)
+
+  neither : (p ≡ 1 → ⊥) → (p ≡ 3 → ⊥) → ⊥
+  neither a b =
+      let e1 = ne_eqb 1 p (λ s. a (sym s)) in
+      let e2 = ne_eqb 2 p (λ s. never 2 refl (sym s)) in
+      let e3 = ne_eqb 3 p (λ s. b (sym s)) in
+      let e4 = ne_eqb 4 p (λ s. never 4 refl (sym s)) in
+      let unknown : is_unknown_access (access_of 0 p) ≡ true = rw (e1, e2, e3, e4) refl in
+      true≢false (sym unknown ∙ known)
 
 pub decided_recordable : (t : HciTables) (v : LinkView) (h pipe instruction : ℕ) (body : List ℕ) → AreTables t → 1 ≤ h → h ≤ 7
     → IsRecordableDecision (decided t v h pipe instruction body)

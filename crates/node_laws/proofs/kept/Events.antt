@@ -6,15 +6,13 @@ use Rattle.std.specs.List.{AllByRecursion}
 use Rattle.std.specs.Option.{option_map_or}
 use Rattle.std.proofs.lemmas.Bool.{cond_both, cases_Bool, eqb-true, eqb-false, true≢false}
 use Rattle.node_laws.proofs.Words.{AllKeep, AreHosts, AreToldBehind, AtController, AtEnd, Book, Broken, Comes, Controller, Core, CutOff, Desk, End, Entry, Host}
-use Rattle.node_laws.proofs.Words.{IfRuns, Init, IsAllowedStill, IsHost, IsOf, IsOnOrder, IsPlain, Link, LinkEvent, LinkInput, Lose, Loss, MayBeDone, Memory}
+use Rattle.node_laws.proofs.Words.{IfRuns, Init, IsAllowedStill, IsHost, IsOf, IsOnOrder, IsPlain, Link, LinkEvent, Loss, MayBeDone, Memory}
 use Rattle.node_laws.proofs.Words.{Message, NoInput, NodeKeeps, NodeWorld, NumberedEnd, Orders, Plan, Running, Sends, Site, SiteKeeps, Starts, Step, WaitsFor}
 use Rattle.node_laws.proofs.Words.{activates, after_planned, asked_at, beginning, begins_with, book_in, boot_writes, boots, by_coming, by_loss, changed_if}
 use Rattle.node_laws.proofs.Words.{comes_at, commands_in, controller_cut, count_of, counts, creation_in, end_c, end_h, entries_for, fails_within, first_lost}
-use Rattle.node_laws.proofs.Words.{found, frame_lost, happens, host_cut, host_does, input_of, is_command_message, link_to, links_of, loses_power_at, memory_at}
-use Rattle.node_laws.proofs.Words.{node_at, port_at, port_for, sending, site_at, site_lost, steps, with_error, with_found, with_memory, with_node, with_site}
+use Rattle.node_laws.proofs.Words.{found, frame_lost, happens, host_cut, host_does, is_command_message, link_to, loses_power_at, memory_at}
+use Rattle.node_laws.proofs.Words.{node_at, port_at, port_for, sending, site_at, site_lost, steps, with_error, with_found, with_memory, with_site}
 use Rattle.trace_model.specs.declared.entry.Entry.TheVariants as entry
-use Rattle.history.specs.Steps.{at}
-use Rattle.history.specs.Follows.{seen_from}
 use Rattle.node_laws.proofs.Cases.{by_test}
 use Rattle.node_laws.proofs.kept.Asking.{NoneNew, same_new, may_still, map_found, map_two}
 use Rattle.node_machine.specs.world.World.{new_memory}
@@ -27,6 +25,7 @@ use Rattle.node_laws.proofs.kept.Stepping.{steps_fine}
 use Rattle.node_laws.proofs.kept.Standing.{IsSame, plain_same, other_same, keeps_same}
 use Rattle.node_laws.proofs.kept.Booting.{boot_told, boot_runs, boot_lost, cut_keeps}
 use Rattle.node_laws.proofs.kept.Sites.{hosts_in, site_found, hosts_same, map_sites, with_site_twice}
+use Rattle.node_laws.proofs.kept.Sites.{none_found}
 use Rattle.node_laws.proofs.kept.Worlds.{Goes, goes_not, goes_then, controller_goes, host_goes, controller_steps, host_steps}
 
 pub no_order : (command order : Option (List ℕ)) (init : Option Init) → is_some command ≡ false → IsOnOrder command init → IsOnOrder order init
@@ -194,13 +193,6 @@ module _ (hosts : List ℕ) (are : AreHosts hosts) where
         stays f keeps false s k = k
 
   -- ## Power
-
-  -- no host has this number
-  none_found : (sites : List Site) (n : ℕ) → site_at sites n ≡ None → AllByRecursion (λ k. eqb k n ≡ false) (hosts_in sites)
-  none_found [] n e = tt
-  none_found (s ∷ sites) n e = by_test (eqb s.host n)
-      (λ is. let found_it : Some s ≡ None = sym (ap (λ b. cond b (Some s) (site_at sites n)) is) ∙ e in absurd (cc found_it))
-      (λ off. (off, (none_found sites n) (sym (ap (λ b. cond b (Some s) (site_at sites n)) off) ∙ e)))
 
   -- the power of a node that runs is cut
   near_cut : (t : List Entry) (w : NodeWorld) (r : Running) → AllKeep hosts t w → w.controller ≡ Some r → Goes hosts are t (controller_cut w) (entry.Cut 0 ∷ [])

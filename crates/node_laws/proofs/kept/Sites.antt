@@ -1,9 +1,10 @@
 -- What hosts keep while one of them changes.
 use Rattle.std.proofs.Common.{◌≡◌, ◌⊎◌, inl, inr, ℕ, Bool, true, false, eqb, List, [], ◌∷◌, map, sym, refl, ap, ap₂, ◌∙◌, subst}
-use Rattle.std.specs.Prelude.{Some}
+use Rattle.std.specs.Prelude.{None, Some}
 use Rattle.std.specs.List.{AllByRecursion}
 use Rattle.std.proofs.lemmas.Bool.{cond_both, cases_Bool, eqb-true, cond-true, cond-false}
 use Rattle.node_laws.proofs.Words.{AreDifferent, Entry, Site, SiteKeeps, changed_if, site_at, with_site}
+use Rattle.node_laws.proofs.Cases.{by_test}
 
 -- the hosts
 abbrev pub hosts_in : List Site → List ℕ
@@ -18,6 +19,11 @@ site_found P Q (x ∷ sites) h s all hosts e =
     cond_both (eqb x.host h) (Some x) (site_at sites h) (λ o. o ≡ Some s → P s × Q s.host × (s.host ≡ h))
     (λ is f. let same : x ≡ s = cc in subst (λ y. P y × Q y.host × (y.host ≡ h)) same (all.0, hosts.0, eqb-true x.host h is))
     (λ _ f. site_found P Q sites h s all.1 hosts.1 f) e
+
+-- no host has this number
+pub none_found : (sites : List Site) (n : ℕ) → site_at sites n ≡ None → AllByRecursion (λ k. eqb k n ≡ false) (hosts_in sites)
+none_found [] n e = tt
+none_found (s ∷ sites) n e = by_test (eqb s.host n) (λ is. absurd (cc (rw is at e))) (λ off. (off, none_found sites n (rw off at e)))
 
 pub hosts_same : (g : Site → Site) → ((s : Site) → (g s).host ≡ s.host) → (sites : List Site) → hosts_in (map g sites) ≡ hosts_in sites
 hosts_same g same [] = refl

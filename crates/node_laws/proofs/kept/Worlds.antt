@@ -9,7 +9,6 @@ use Rattle.node_laws.proofs.Words.{Memory, NodeKeeps, NodeWorld, Port, Running, 
 use Rattle.node_laws.proofs.Words.{by_host, comes_to, controller_does, controller_work, ending_entries, ending_of, entries_for, exchanged, frames_noted}
 use Rattle.node_laws.proofs.Words.{host_does, host_work, link_after_controller, link_to, near_end_in, port_at, runs_on, site_at, wires_for, with_site, work_of}
 use Rattle.link_laws.specs.entries.Entries.{End as Side}
-use Rattle.node_laws.proofs.Cases.{by_option}
 use Rattle.node_laws.proofs.kept.Books.{plain_told, plain_own, told_append}
 use Rattle.registry.proofs.ValueLemmas.{AllByRecursion-append as all_append}
 use Rattle.node_laws.proofs.kept.Plainly.{plain_entries, plain_flat}

@@ -1,5 +1,5 @@
 -- Each answer and each notice that a gate decides on has a byte.
-use Rattle.std.proofs.Common.{◌≡◌, ℕ, ◌<◌, Bool, true, false, eqb, List, [], ◌∷◌, length, refl, arith}
+use Rattle.std.proofs.Common.{ℕ, ◌<◌, eqb, List, [], ◌∷◌, length, arith}
 use Rattle.std.specs.Prelude.{Option, Some, None}
 use Rattle.std.specs.List.{AllByRecursion}
 use Rattle.node_laws.proofs.Words.{Answer, Ask, Clear, Command, Commit, Decision, Delete, HciTables, LinkView, Response, answer_of, commits_and_tells, decided}

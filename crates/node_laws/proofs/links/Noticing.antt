@@ -11,7 +11,7 @@ use Rattle.node_laws.proofs.Words.{Port, Release, Releases, Removed, SaysOk, Sen
 use Rattle.node_laws.proofs.Words.{Work, after_sessions, after_turn, all_come, all_owed, all_owed_hold, all_synced_hold, anyone, aside_refusal, asked_at}
 use Rattle.node_laws.proofs.Words.{body_of, changed_if, commit, commit_writes, controller_deeds, deeds_of, done, end_of_node, ended_by, fails_within, forgets}
 use Rattle.node_laws.proofs.Words.{forgotten, forgotten_hold, give_refusal, has_come, has_link, input_at, is_forgotten, is_late, is_over, is_up, notified}
-use Rattle.node_laws.proofs.Words.{noting, older_notice, port_at, reset_late, steps, synced, times_out, turn, turn_at, view_of, with_desk, with_older}
+use Rattle.node_laws.proofs.Words.{noting, port_at, reset_late, steps, synced, times_out, turn, turn_at, view_of, with_desk, with_older}
 use Rattle.node_laws.proofs.Words.{with_port, without_notice}
 use Rattle.shdlc_core.specs.declared.answers.LinkState.TheVariants.{Down}
 use Rattle.link_laws.proofs.sessions.Ties.{ready-phase as ready_phase}

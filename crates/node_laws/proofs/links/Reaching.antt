@@ -1,5 +1,5 @@
 -- A controller tells and asks only hosts whose links are up.
-use Rattle.std.proofs.Common.{◌≡◌, ℕ, Bool, true, false, ◌&&◌, List, [], ◌∷◌, refl}
+use Rattle.std.proofs.Common.{◌≡◌, ℕ, true, false, List, [], ◌∷◌}
 use Rattle.std.specs.Prelude.{Option, Some, None}
 use Rattle.std.specs.List.{AllByRecursion}
 use Rattle.std.specs.Option.{option_map_or}
@@ -12,6 +12,7 @@ use Rattle.tables_laws.proofs.gate.Decisions.{decided_as_allowed}
 use Rattle.node_laws.specs.links.Notices.{Reaches}
 use Rattle.node_laws.proofs.links.Masking.{from_mask}
 use Rattle.node_laws.proofs.links.Connected.{AreConnected, decided_tells, TellsConnected}
+use Rattle.std.proofs.lemmas.Bool.{and_parts}
 
 -- the link with this host is up
 abbrev pub IsLinked : List Port → ℕ → Type 0
@@ -20,13 +21,9 @@ IsLinked ports x = has_link ports x ≡ true
 linked_of : (t : HciTables) (ports : List Port) (h x : ℕ) → is_connected (view_for t ports h) x ≡ true → IsLinked ports x
 linked_of t ports h x q = go (port_at ports x) (from_mask (λ k. option_map_or (is_connected_at t) (port_at ports k) false) x q)
   where
-    up : (a b : Bool) → (a && b) ≡ true → a ≡ true
-    up true b z = refl
-    up false b z = z
-
     go : (o : Option Port) → option_map_or (is_connected_at t) o false ≡ true → option_map_or (λ (p : Port). is_up p.side.shdlc.phase) o false ≡ true
     go None z = z
-    go (Some p) z = up (is_up p.side.shdlc.phase) (is_opened t p.desk.host 1) z
+    go (Some p) z = (and_parts (is_up p.side.shdlc.phase) (is_opened t p.desk.host 1) z).0
 
 asked_reach : (t : HciTables) (ports : List Port) (h dest : ℕ) (c : Command) → IsAskedFor t (view_for t ports h) h dest c → IsLinked ports dest
 asked_reach t ports h dest (Create row) a = linked_of t ports h dest a.connected

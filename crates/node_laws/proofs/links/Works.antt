@@ -7,16 +7,18 @@ use Rattle.trace_model.specs.declared.entry.Entry.TheVariants as entry
 use Rattle.node_laws.proofs.Words.{About, AreSendable, AreSendableTurns, Asks, AtEnd, Command, Commits, Core, Deed, Desk, FetchMessage, Forgotten, Give, Hold}
 use Rattle.node_laws.proofs.Words.{IsAnswered, IsSendable, LinkInput, Message, NodeInput, Notice, Orders, Port, Release, Releases, Removed, Reset, Sends}
 use Rattle.node_laws.proofs.Words.{SetAside, SetsErrors, Tells, TimePasses, Turn, Waits, Work, after_sessions, after_turn, all_come, all_done, all_owed}
-use Rattle.node_laws.proofs.Words.{all_owed_hold, all_synced_hold, asked_at, body_of, changed_if, commit, commit_writes, creation_in, deeds_of, done}
+use Rattle.node_laws.proofs.Words.{all_owed_hold, all_synced_hold, asked_at, body_of, commit, commit_writes, creation_in, deeds_of, done}
 use Rattle.node_laws.proofs.Words.{fails_within, forgets, forgotten, forgotten_hold, handles, has_come, holds_back, input_at, is_forgotten, is_late, is_over}
 use Rattle.node_laws.proofs.Words.{lets_go, notified, noting, older_notice, port_at, reset_late, steps, synced, times_out, turn_at, with_desk, with_older}
 use Rattle.node_laws.proofs.Words.{with_port, without_notice}
 use Rattle.node_laws.proofs.Cases.{by_option, by_test}
+use Rattle.node_laws.proofs.Cases.{by_test, by_option}
 use Rattle.node_laws.proofs.links.Got.{Clean, one_clean, input_clean}
 use Rattle.node_laws.proofs.links.Decisions.{IsSpoken}
 use Rattle.node_laws.proofs.links.Deeds.{HasAnswer, IsTrueDesk, IsFine, AreFine, AreTrue, low, controller_fine}
 use Rattle.node_laws.proofs.links.HostDeeds.{host_fine}
 use Rattle.node_laws.proofs.steps.StepWalks.{Lasts, all_do, lets, holds, handled, rest_lasts}
+use Rattle.node_laws.proofs.Each.{all_map, all_changed}
 
 -- ## Ends
 
@@ -33,16 +35,11 @@ abbrev pub IsFineWork : Work → Type 0
 IsFineWork w = AreFinePorts w.ports
 
 pub map_fine : (f : Port → Port) → ((p : Port) → IsFinePort p → IsFinePort (f p)) → (ports : List Port) → AreFinePorts ports → AreFinePorts (map f ports)
-map_fine f one [] a = tt
-map_fine f one (p ∷ ports) a = (one p a.0, map_fine f one ports a.1)
-
-changed_fine : (b : Bool) (f : Port → Port) (p : Port) → ((q : Port) → IsFinePort q → IsFinePort (f q)) → IsFinePort p → IsFinePort (changed_if b f p)
-changed_fine true f p one a = one p a
-changed_fine false f p one a = a
+map_fine f one ports a = all_map IsFinePort IsFinePort f one ports a
 
 port_fine : (h : ℕ) (f : Port → Port) → ((q : Port) → IsFinePort q → IsFinePort (f q)) → (ports : List Port) → AreFinePorts ports
     → AreFinePorts (with_port h f ports)
-port_fine h f one ports a = map_fine (λ (p : Port). changed_if (p.desk.host == h) f p) (λ p fine. changed_fine (p.desk.host == h) f p one fine) ports a
+port_fine h f one ports a = all_changed IsFinePort (λ p. p.desk.host == h) f one ports a
 
 -- the end of the link with a host is one of them
 pub fine_at : (ports : List Port) (h : ℕ) (p : Port) → AreFinePorts ports → port_at ports h ≡ Some p → IsFinePort p
@@ -102,12 +99,9 @@ pub all_done_fine : (h : ℕ) (deeds : List Deed) (w : Work) → AreFine deeds �
 all_done_fine h deeds w f a = all_do IsFineWork IsFine done_fine h deeds w f a
 
 pub deeds_fine : (core : Core) (ports : List Port) (h : ℕ) (m : Message) → AreFinePorts ports → IsSendable m → AreFine (deeds_of core ports h m)
-deeds_fine core ports h m a s = go (core.node == 0) (port_at ports h) refl refl
-  where
-    go : (b : Bool) (o : Option Port) → (core.node == 0) ≡ b → port_at ports h ≡ o → AreFine (deeds_of core ports h m)
-    go true o q r = rw q (controller_fine core ports h m (are_true ports a) s)
-    go false None q r = rw (q, r) tt
-    go false (Some p) q r = rw (q, r) (host_fine core p m s)
+deeds_fine core ports h m a s = by_test (core.node == 0)
+    (λ q. rw q (controller_fine core ports h m (are_true ports a) s))
+    (λ q. by_option (port_at ports h) (λ r. rw (q, r) tt) (λ p r. rw (q, r) (host_fine core p m s)))
 
 -- ## The pass over its ends
 
@@ -153,11 +147,11 @@ aged_about n a = go n.about refl
     go Removed q = rw q tt
 
 older_fine : (p : Port) → IsFinePort p → IsFinePort (with_older p)
-older_fine p a = record { turns = a.turns; clean = a.clean; desk = go p.desk.notice refl }
-  where
-    go : (o : Option Notice) → p.desk.notice ≡ o → IsTrueDesk (with_older p).desk
-    go None q = rw q tt
-    go (Some n) q = let d = a.desk in rw q (aged_about n (rw q at d))
+older_fine p a = record {
+  turns = a.turns;
+  clean = a.clean;
+  desk = by_option p.desk.notice (λ q. rw q tt) (λ n q. let d = a.desk in rw q (aged_about n (rw q at d)));
+}
 
 late_fine : (p : Port) → IsFinePort p → IsFinePort (reset_late p)
 late_fine p a = by_test (is_late p) (λ q. rw q (record { turns = a.turns; clean = input_clean p.side (Reset None) a.clean; desk = a.desk })) (λ q. rw q a)

@@ -18,6 +18,7 @@ use Rattle.node_laws.proofs.links.Works.{AreFinePorts, IsFineWork, fine_at, step
 use Rattle.node_laws.proofs.links.Ends.{here_host}
 use Rattle.link_laws.proofs.entries.Together.{ticks_host as tick_host}
 use Rattle.node_laws.proofs.links.Sites.{IsFineLink, MayCome, controller_steps, host_steps, controller_loses, host_loses, ticks_fine}
+use Rattle.node_laws.proofs.Each.{all_map}
 
 -- ## What is kept
 
@@ -42,8 +43,7 @@ pub record IsFineWorld (w : NodeWorld) : Type 0 where
 -- ## Lists
 
 pub sites_map : (f : Site → Site) → ((s : Site) → IsFineSite s → IsFineSite (f s)) → (sites : List Site) → AreFineSites sites → AreFineSites (map f sites)
-sites_map f one [] a = tt
-sites_map f one (s ∷ sites) a = (one s a.0, sites_map f one sites a.1)
+sites_map f one sites a = all_map IsFineSite IsFineSite f one sites a
 
 -- what is known of the sites with this number besides
 abbrev pub AtHostOnly : (Site → Type 0) → ℕ → Site → Type 0

@@ -19,14 +19,14 @@ use Rattle.node_laws.proofs.notices.Reading.{reads, read_more, sent_reads, sent_
 use Rattle.node_laws.proofs.notices.Telling.{AreRight, noticed, MayTell}
 use Rattle.node_laws.specs.notices.Worlds.{IsRightAbout}
 use Rattle.node_laws.proofs.Cut.{by_cut}
+use Rattle.node_laws.proofs.Each.{all_map as each_map}
 
 abbrev pub AreHostEnds : List Port → Type 0
 AreHostEnds ports = AllByRecursion (λ (p : Port). IsHost p.desk.host) ports
 
 pub all_map : (P Q : Port → Type 0) (f : Port → Port) → ((p : Port) → P p → Q (f p)) → (ports : List Port) → AllByRecursion P ports
     → AllByRecursion Q (map f ports)
-all_map P Q f one [] a = tt
-all_map P Q f one (p ∷ ports) a = (one p a.0, all_map P Q f one ports a.1)
+all_map P Q f one ports a = each_map P Q f one ports a
 
 -- an end takes this notice, where there is one
 abbrev pub Takes : Option Port → List ℕ → Type 0

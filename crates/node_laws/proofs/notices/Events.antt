@@ -1,14 +1,14 @@
 -- What is read of the controller's notices over whatever happens.
-use Rattle.std.proofs.Common.{◌≡◌, ◌⊎◌, inl, inr, ℕ, ◌+◌, Bool, true, false, eqb, List, [], ◌∷◌, ◌++◌, map, min, sym, refl, subst, append-nil}
+use Rattle.std.proofs.Common.{◌≡◌, ℕ, true, false, eqb, List, [], ◌∷◌, ◌++◌, map, sym, refl, subst, append-nil}
 use Rattle.std.specs.Prelude.{Option, Some, None, replicate}
 use Rattle.std.specs.List.{AllByRecursion, fold}
 use Rattle.std.specs.Option.{option_map_or}
-use Rattle.std.proofs.lemmas.Bool.{cases_Bool, eqb-true}
+use Rattle.std.proofs.lemmas.Bool.{eqb-true}
 use Rattle.node_laws.proofs.Words.{Activates, AreHosts, AreTables, AreTables-apply, Arms, AsksReset, AtController, AtHost, Boots, Broken, Command, Controller}
 use Rattle.node_laws.proofs.Words.{ControllerReads, CutOff, Desk, End, Entry, Gives, Happening, HciTables, Host, IfReads, Inits, IsCommand, IsCut, IsHost}
 use Rattle.node_laws.proofs.Words.{IsKeptNotice, IsRightNotice, JoinTwo, KeepsNotices, Link, Lose, Loses, Loss, MayBoot, Memory, NextFrame, NoInput, NodeWorld}
 use Rattle.node_laws.proofs.Words.{Resets, Running, Site, Step, Takes, Ticks, after_planned, applied, apply, beginning, boot_found, boot_writes, boot_written}
-use Rattle.node_laws.proofs.Words.{boots, by_boot, by_memory, by_power, by_running, changed_if, close, controller_cut, count_of, counts, entries_for}
+use Rattle.node_laws.proofs.Words.{boots, by_boot, by_memory, by_power, by_running, close, controller_cut, count_of, counts, entries_for}
 use Rattle.node_laws.proofs.Words.{first_lost, found, frame_lost, happens, host_cut, link_to, links_of, loses_power_at, memory_at, new_desk, new_site}
 use Rattle.node_laws.proofs.Words.{new_world, no_tables, node_at, notice_at, notice_in, sending, with_error, with_memory, with_node, with_site, world_step}
 use Rattle.journal_laws.specs.Journal.{records}
@@ -30,6 +30,8 @@ use Rattle.node_laws.proofs.notices.Sites.{beginning_own}
 use Rattle.node_laws.proofs.notices.Near.{comes_reads, ticks_reads, activates_reads}
 use Rattle.node_laws.specs.notices.Worlds.{IfHostNode}
 use Rattle.node_laws.proofs.kept.Booting.{command_read}
+use Rattle.link_laws.specs.sessions.Sessions.{OnWire}
+use Rattle.link_laws.specs.entries.Entries.{End as Side}
 
 -- ## The tables of a memory
 
@@ -135,16 +137,9 @@ boots_reads t w n a stands =
 -- frames that are counted leave the notices
 noticed_counted : (h : ℕ) (desks : List Desk) (x : ℕ) → notice_at (with_error h desks) x ≡ notice_at desks x
 noticed_counted h [] x = refl
-noticed_counted h (d ∷ desks) x = by_error (eqb d.host h) (cases_Bool (eqb d.host x)) (noticed_counted h desks x) where
-  more : Desk → Desk
-  more c = record c { errors = min 65535 (c.errors + 1) }
-
-  by_error : (b : Bool) → (eqb d.host x ≡ true) ⊎ (eqb d.host x ≡ false) → notice_at (with_error h desks) x ≡ notice_at desks x
-      → notice_at (changed_if b more d ∷ with_error h desks) x ≡ notice_at (d ∷ desks) x
-  by_error true (inl is) later = rw is refl
-  by_error true (inr off) later = rw off later
-  by_error false (inl is) later = rw is refl
-  by_error false (inr off) later = rw off later
+noticed_counted h (d ∷ desks) x = by_test (eqb d.host h)
+    (λ q. rw q (by_test (eqb d.host x) (λ is. rw is refl) (λ off. rw off (noticed_counted h desks x))))
+    (λ q. rw q (by_test (eqb d.host x) (λ is. rw is refl) (λ off. rw off (noticed_counted h desks x))))
 
 right_counted : (h : ℕ) (desks : List Desk) → AllByRecursion (λ (d : Desk). IsRightNotice d.notice) desks
     → AllByRecursion (λ (d : Desk). IsRightNotice d.notice) (with_error h desks)
@@ -167,47 +162,27 @@ counted_node (Broken fault) h (Some r) a = a
 counted_node _ h o a = a
 
 lost_reads : (t : List Entry) (w : NodeWorld) (e : End) (why : Loss) → Reads t w → Reads (t ++ (frame_lost w e why).1) (frame_lost w e why).0
-lost_reads t w e why a = by_side (cases_Bool e.at_host) where
-  Fine : NodeWorld × List Entry → Type 0
-  Fine p = Reads (t ++ p.1) p.0
+lost_reads t w e why a = by_test e.at_host
+    (λ b. rw b (record {
+      sites = good_with e.link (λ s. record s { link = happens s.link (AtHost (Lose why)); node = counts why e.link s.node })
+          (λ s k. record { host = k.host; node = counted_node why e.link s.node k.node; shut = far_shut s.link (Lose why) k.shut }) w.sites a.sites;
+      reads_so = still_reads t (lost Host l.to_host) w.controller (hushed Host l.to_host) a.reads_so;
+    }))
+    (λ b. rw b (record {
+      sites = good_with e.link (λ s. record s { link = happens s.link (AtController (Lose why)) })
+          (λ s k. record { host = k.host; node = k.node; shut = here_shut s.link (Lose why) k.shut }) w.sites a.sites;
+      reads_so = counted_reads (t ++ lost Controller l.to_controller) why e.link w.controller
+          (still_reads t (lost Controller l.to_controller) w.controller (hushed Controller l.to_controller) a.reads_so);
+    }))
+  where
+    l : Link
+    l = link_to w.sites e.link
 
-  l : Link
-  l = link_to w.sites e.link
+    lost : Side → List OnWire → List Entry
+    lost who wire = entries_for e.link (first_lost who why wire)
 
-  near : Site → Site
-  near s = record s { link = happens s.link (AtController (Lose why)) }
-
-  far : Site → Site
-  far s = record s { link = happens s.link (AtHost (Lose why)); node = counts why e.link s.node }
-
-  near_is : e.at_host ≡ false → frame_lost w e why
-      ≡ (
-        record w { controller = counts why e.link w.controller; sites = with_site e.link near w.sites },
-        entries_for e.link (first_lost Controller why l.to_controller),
-      )
-  near_is b = rw b refl
-
-  far_is : e.at_host ≡ true → frame_lost w e why ≡ (record w { sites = with_site e.link far w.sites }, entries_for e.link (first_lost Host why l.to_host))
-  far_is b = rw b refl
-
-  by_side : (e.at_host ≡ true) ⊎ (e.at_host ≡ false) → Fine (frame_lost w e why)
-  by_side (inl b) = subst Fine (sym (far_is b)) (record {
-    sites = good_with e.link far (λ s k. record {
-      host = k.host;
-      node = counted_node why e.link s.node k.node;
-      shut = far_shut s.link (Lose why) k.shut;
-    }) w.sites a.sites;
-    reads_so = still_reads t (entries_for e.link (first_lost Host why l.to_host)) w.controller
-        (far_hushed (entries_for e.link (first_lost Host why l.to_host)) (quiet_far e.link (first_lost Host why l.to_host) (lost_quiet Host why l.to_host)))
-        a.reads_so;
-  })
-  by_side (inr b) = subst Fine (sym (near_is b)) (record {
-    sites = good_with e.link near (λ s k. record { host = k.host; node = k.node; shut = here_shut s.link (Lose why) k.shut }) w.sites a.sites;
-    reads_so = counted_reads (t ++ entries_for e.link (first_lost Controller why l.to_controller)) why e.link w.controller
-        (still_reads t (entries_for e.link (first_lost Controller why l.to_controller)) w.controller
-        (far_hushed (entries_for e.link (first_lost Controller why l.to_controller)) (quiet_far e.link (first_lost Controller why l.to_controller)
-        (lost_quiet Controller why l.to_controller))) a.reads_so);
-  })
+    hushed : (who : Side) (wire : List OnWire) → AreHushed (lost who wire)
+    hushed who wire = far_hushed (lost who wire) (quiet_far e.link (first_lost who why wire) (lost_quiet who why wire))
 
 -- ## Events
 

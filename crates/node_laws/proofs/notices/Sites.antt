@@ -1,11 +1,11 @@
 -- What stays of the hosts of a world and of the links to them, and what is read of the controller's notices as a host acts.
-use Rattle.std.proofs.Common.{◌≡◌, ℕ, ◌&&◌, Bool, true, false, eqb, List, [], ◌∷◌, ◌++◌, map, sym, ◌∙◌, subst, append-nil}
+use Rattle.std.proofs.Common.{◌≡◌, ℕ, ◌&&◌, true, eqb, List, [], ◌∷◌, ◌++◌, map, sym, ◌∙◌, subst, append-nil}
 use Rattle.std.specs.Prelude.{Option, Some, None}
 use Rattle.std.specs.List.{AllByRecursion}
 use Rattle.std.proofs.lemmas.Bool.{cond_both, true≢false}
 use Rattle.node_laws.proofs.Words.{AtEnd, AtHost, Comes, Deed, End, EndEvent, Ending, Entry, GoesOut, Host, IfReads, IsKeptNotice, IsShut, Link, Message}
 use Rattle.node_laws.proofs.Words.{NextFrame, NoInput, NodeWorld, NumberedEnd, Orders, Running, Sends, Site, Step, TimePasses, Work, after_host, arrival}
-use Rattle.node_laws.proofs.Words.{asking_in, beginning, begins_with, by_coming, by_host, by_host_tick, changed_if, comes_at, ending_entries, ending_of}
+use Rattle.node_laws.proofs.Words.{asking_in, beginning, begins_with, by_coming, by_host, by_host_tick, comes_at, ending_entries, ending_of}
 use Rattle.node_laws.proofs.Words.{entries_for, exchanged, frames_noted, happens, host_does, host_tick, host_ticks, host_work, hosts_tick, is_command_message}
 use Rattle.node_laws.proofs.Words.{link_to, near_end_in, notice_at, notice_in, port_at, runs_on, sending, site_at, steps, ticks_at_controller, turns_at}
 use Rattle.node_laws.proofs.Words.{wires_for, with_site, work_of}
@@ -19,6 +19,7 @@ use Rattle.node_laws.proofs.notices.Reading.{reads, notice_more}
 use Rattle.node_laws.proofs.notices.Own.{AreOwn}
 use Rattle.node_laws.proofs.notices.Far.{AreFar, far-append, far_reads, far_asks, asks, asking_more, quiet_far, IsFarWork, all_do, steps_far}
 use Rattle.node_laws.specs.notices.Worlds.{IfHostNode, IsGoodSite}
+use Rattle.node_laws.proofs.Each.{all_map, all_changed}
 
 abbrev pub AreGood : List Site → Type 0
 AreGood sites = AllByRecursion IsGoodSite sites
@@ -52,14 +53,10 @@ far_hushed es far x r = (far_reads x es far r, far_asks x es far r)
 -- ## Sites
 
 pub good_map : (f : Site → Site) → ((s : Site) → IsGoodSite s → IsGoodSite (f s)) → (sites : List Site) → AreGood sites → AreGood (map f sites)
-good_map f one [] a = tt
-good_map f one (s ∷ sites) a = (one s a.0, good_map f one sites a.1)
+good_map f one sites a = all_map IsGoodSite IsGoodSite f one sites a
 
 pub good_with : (h : ℕ) (f : Site → Site) → ((s : Site) → IsGoodSite s → IsGoodSite (f s)) → (sites : List Site) → AreGood sites → AreGood (with_site h f sites)
-good_with h f one sites a = good_map (λ (s : Site). changed_if (eqb s.host h) f s) (λ s b. go (eqb s.host h) s b) sites a where
-  go : (c : Bool) (s : Site) → IsGoodSite s → IsGoodSite (changed_if c f s)
-  go true s b = one s b
-  go false s b = b
+good_with h f one sites a = all_changed IsGoodSite (λ s. eqb s.host h) f one sites a
 
 pub good_at : (sites : List Site) (h : ℕ) (s : Site) → AreGood sites → site_at sites h ≡ Some s → IsGoodSite s
 good_at [] h s a e = absurd (cc e)

@@ -4,6 +4,7 @@ use Rattle.std.specs.Prelude.{Option, Some, None, is_some, nat_le}
 use Rattle.std.specs.List.{AllByRecursion, flat_map}
 use Rattle.std.specs.Option.{option_map_or}
 use Rattle.std.proofs.lemmas.Bool.{eqb-true, eqb-false, ne_eqb, eq-eqb, true≢false, and_from, le-leb}
+use Rattle.std.proofs.lemmas.Bool.{and_parts}
 use mathlib.Core.Bool.{or-false, or-true}
 use Rattle.node_laws.proofs.Words.{About, AreDifferent, Commits, Controller, Core, Creation, Deed, Entry, Forgotten, IsAbout, IsComing, IsCommand, IsFresh}
 use Rattle.node_laws.proofs.Words.{IsHost, IsKeptNotice, IsNoticeOf, IsShut, LinkEnd, LinkInput, NodeInput, Notice, Port, Releases, Removed, Reset, Response}
@@ -163,7 +164,7 @@ reset_ends e shut up = by_test (is_open e.role) (λ o. rw (o, up) refl) (λ o. l
 pub late_is : (core : Core) (r : Option (List ℕ)) (q : Port) → q.late ≡ false → IsCome r q
     → IsCome (cond (is_late q) (cond (is_some (ended_by q.side (Reset None))) None r) r) (reset_late q)
 late_is core r q fresh a = by_test (is_late q)
-    (λ e. let parts = both (option_map_or (λ (n : Notice). nat_le 100 n.age) q.desk.notice false) (not q.ended) e in
+    (λ e. let parts = and_parts (option_map_or (λ (n : Notice). nat_le 100 n.age) q.desk.notice false) (not q.ended) e in
     let not_over : is_over q ≡ false = ap (λ b. b || q.late) (not_of q.ended parts.1) ∙ fresh in
     let ends : is_some (ended_by q.side (Reset None)) ≡ true = reset_ends q.side a.shut (a.up not_over (some_of q.desk.notice parts.0)) in
     let reset : Port = record q { side = after_input q.side (Reset None); late = true } in
@@ -179,10 +180,6 @@ late_is core r q fresh a = by_test (is_late q)
     ap (λ b. cond b (cond (is_some (ended_by q.side (Reset None))) None r) r) e ∙ ap (λ b. cond b None r) ends in
     subst (λ z. IsCome z (reset_late q)) (sym read) (subst (IsCome None) (sym is) here))
     (λ e. rw e a) where
-      both : (c d : Bool) → (c && d) ≡ true → (c ≡ true) × (d ≡ true)
-      both true d e = (refl, e)
-      both false d e = absurd (true≢false (sym e))
-
       some_of : (o : Option Notice) → option_map_or (λ (n : Notice). nat_le 100 n.age) o false ≡ true → is_some o ≡ true
       some_of None e = e
       some_of (Some n) e = refl

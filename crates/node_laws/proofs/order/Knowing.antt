@@ -20,6 +20,7 @@ use Rattle.node_laws.proofs.order.Watches.{IsStepOf, WatchedLink, watched, kept_
 use Rattle.node_laws.proofs.order.Readying.{AreReady}
 use Rattle.node_laws.proofs.order.Wires.{ShownBy, Shown, shown_same}
 use Rattle.node_laws.proofs.turns.Works.{site_none}
+use Rattle.node_laws.proofs.Each.{changed_same}
 
 -- ## One link
 
@@ -181,10 +182,6 @@ module _ (w : NodeWorld) (memory : Memory) (o : Option Running) (t u : List Entr
       let was = was_there f keeps w.sites h v q in
       subst (λ (s : Site). Knows (t ++ u) (Y h) o h s) was.is (one h was.site was.there (a h was.site was.there))
 
-  changed_host : (b : Bool) (g : Site → Site) (s : Site) → (g s).host ≡ s.host → (changed_if b g s).host ≡ s.host
-  changed_host true g s q = q
-  changed_host false g s q = refl
-
   -- one becomes another one, and nothing is told of the others
   pub each_site : (k : ℕ) (g : Site → Site) → ((s : Site) → (g s).host ≡ s.host)
       → ((r : ℕ) (s : Site) → IfOff w.controller (new_link_end (Clf new_clf)) s.link.controller.side
@@ -193,7 +190,7 @@ module _ (w : NodeWorld) (memory : Memory) (o : Option Running) (t u : List Entr
       → ((h : ℕ) → (k == h) ≡ false → LeaveLink h u) → Each t X w
       → Each (t ++ u) (later X u) (record { memory = memory; controller = o; sites = map (λ (s : Site). changed_if (s.host == k) g s) w.sites })
   each_site k g keeps off own others a =
-      each_map (later X u) (λ (s : Site). changed_if (s.host == k) g s) (λ s. changed_host (s.host == k) g s (keeps s))
+      each_map (later X u) (λ (s : Site). changed_if (s.host == k) g s) (λ s. changed_same (λ (x : Site). x.host) (s.host == k) g s keeps)
       (λ h s found b. go h s found b (s.host == k) refl) a
     where
       go : (h : ℕ) (s : Site) → site_at w.sites h ≡ Some s → Knows t (X h) w.controller h s → (b : Bool) → (s.host == k) ≡ b

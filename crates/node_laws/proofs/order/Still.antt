@@ -4,8 +4,8 @@ use Rattle.std.specs.Prelude.{◌==◌, ◌||◌, if◌then◌else◌}
 use Rattle.std.specs.List.{fold, list_any}
 use Rattle.std.proofs.lemmas.Bool.{true≢false}
 use Rattle.node_laws.proofs.Words.{AreHosts, ArePlayable, Begins, Controller, Cut, Emit, End, Entry, FollowsNodes, Header, Host, IsLine, IsLinkTold, Line, Link}
-use Rattle.node_laws.proofs.Words.{Message, NodeHistory, NodeWorld, Occurrence, Puts, Restarted, Saying, Site, acked-all, begins, end_c, end_h, entries}
-use Rattle.node_laws.proofs.Words.{entries_for, entries_in, good_of, got-all, hosts_in, is_of, new_line, new_world, number_of, occurrences_in, of_link, or_none}
+use Rattle.node_laws.proofs.Words.{Message, NodeHistory, NodeWorld, Occurrence, Puts, Restarted, Saying, acked-all, begins, end_c, end_h, entries}
+use Rattle.node_laws.proofs.Words.{entries_for, entries_in, good_of, got-all, is_of, new_line, new_world, number_of, occurrences_in, of_link, or_none}
 use Rattle.node_laws.proofs.Words.{said, sent-all, session_now, silences, site_at, tells_of, world_behind}
 use Rattle.trace_model.specs.declared.entry.Entry.TheVariants as entry
 use Rattle.shdlc_core.specs.declared.answers.LinkState.TheVariants.{Up as IsUpNow}
@@ -29,6 +29,7 @@ use Rattle.node_laws.proofs.order.Strangers.{IsStrange}
 use Rattle.node_laws.proofs.order.Silencing.{events_mute}
 use Rattle.node_laws.proofs.order.Numbered.{misnumbered, misnumbered_mute, numbered}
 use Rattle.node_laws.proofs.order.Since.{none_silenced}
+use Rattle.node_laws.proofs.kept.Sites.{none_found}
 
 -- ## What is read since an end came up is read of the entries of its link
 
@@ -181,16 +182,12 @@ unread h far node (x ∷ t) q = by_test (tells_of h x)
     e : End
     e = record { link = h; at_host = far }
 
-pub strange_of : (sites : List Site) (h : ℕ) → site_at sites h ≡ None → IsStrange h (hosts_in sites)
-strange_of [] h q = tt
-strange_of (s ∷ sites) h q = by_test (s.host == h) (λ p. absurd (cc (rw p at q))) (λ p. (p, strange_of sites h (rw p at q)))
-
 -- ## Each history
 
 pub history_delivered : (header : Header) (lines : List Line) (t : NodeHistory) → FollowsNodes header lines t → AreHosts header.hosts.items
     → ArePlayable lines → (front back : List Occurrence) → occurrences_in t ≡ front ++ back → (h : ℕ) → HasDeliveredAll front h
 history_delivered header lines t follows are playable front back q h = by_option (site_at w.sites h)
-    (λ found. let strange : IsStrange h header.hosts.items = subst (IsStrange h) a.hosts_are (strange_of w.sites h found) in
+    (λ found. let strange : IsStrange h header.hosts.items = subst (IsStrange h) a.hosts_are (none_found w.sites h found) in
     record { to_host = λ n s. absurd (never n strange s); to_controller = λ n s. absurd (never n strange s) })
     (λ s found. let b = a.each h s found in
     delivered_all h s.link front (host_number w h s a.well.orderly found) b.told

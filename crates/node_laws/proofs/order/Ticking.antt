@@ -19,7 +19,7 @@ use Rattle.node_laws.proofs.links.Sites.{AreNodes, tick_allowed, reset_allowed}
 use Rattle.node_laws.proofs.links.Worlds.{AreTrueDesks, IsFineNode, IsFineSite, AreFineSites, AreClean, near_clean, ports_fine, turns_fine}
 use Rattle.node_laws.proofs.telling.Nodes.{link_is, ports_for}
 use Rattle.node_laws.proofs.telling.Worlds.{site_is}
-use Rattle.node_laws.proofs.telling.WorldTicks.{tick_host, host_turns, between, between_far, near_turns, tick_event, Ticking, ticking}
+use Rattle.node_laws.proofs.telling.WorldTicks.{host_turns, between, between_far, near_turns, tick_event, Ticking, ticking}
 use Rattle.node_laws.proofs.telling.WorldTicks.{ticked_at}
 use Rattle.node_laws.proofs.readings.NoticedWorlds.{host_tick_side}
 use Rattle.node_laws.proofs.order.Unnoticed.{IfNone, steps_none, runs_none}

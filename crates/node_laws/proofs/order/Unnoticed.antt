@@ -1,10 +1,10 @@
 -- A host keeps no notice of a controller: nothing that it does in a step gives it one.
-use Rattle.std.proofs.Common.{◌≡◌, ◌∙◌, ℕ, ◌==◌, Bool, true, false, List, [], ◌∷◌, refl, ap, length}
+use Rattle.std.proofs.Common.{◌≡◌, ◌∙◌, ℕ, ◌==◌, false, List, [], ◌∷◌, refl, ap, length}
 use Rattle.std.specs.Prelude.{Option, Some, None, map}
 use Rattle.std.specs.List.{AllByRecursion, flat_map}
 use Rattle.node_laws.proofs.Words.{Asks, AtEnd, Command, Commits, Core, Deed, Desk, FetchMessage, Give, Hold, IsAnswered, LinkInput, Message, NodeInput, OfHost}
 use Rattle.node_laws.proofs.Words.{Orders, Plain, Port, Release, Releases, Running, Sends, SetsErrors, Tells, TimePasses, Turn, Work, after_sessions}
-use Rattle.node_laws.proofs.Words.{after_turn, all_come, all_done, all_of_host, all_owed, all_owed_hold, all_synced_hold, anyone, asked_at, body_of, changed_if}
+use Rattle.node_laws.proofs.Words.{after_turn, all_come, all_done, all_of_host, all_owed, all_owed_hold, all_synced_hold, anyone, asked_at, body_of}
 use Rattle.node_laws.proofs.Words.{commit, commit_writes, deeds_of, done, fails_within, forgets, forgotten, forgotten_hold, has_come, input_at, is_forgotten}
 use Rattle.node_laws.proofs.Words.{is_late, is_over, port_at, reset_late, runs_on, steps, synced, times_out, turn_at, with_desk, with_older, with_port}
 use Rattle.node_laws.proofs.Words.{without_notice}
@@ -12,6 +12,7 @@ use Rattle.node_laws.proofs.Cases.{by_option, by_test}
 use Rattle.node_laws.proofs.links.Noticing.{came_node}
 use Rattle.node_laws.proofs.steps.StepWalks.{got_at, all_do, Lasts, rest_lasts}
 use Rattle.node_laws.proofs.steps.Ports.{sessions_node}
+use Rattle.node_laws.proofs.Each.{all_map, all_changed}
 
 -- ## Deeds
 
@@ -40,18 +41,9 @@ pub record HasNoNotices (w : Work) : Type 0 where
   pub host : (w.core.node == 0) ≡ false
   pub none : AllByRecursion HasNone w.ports
 
-none_map : (f : Port → Port) → ((p : Port) → HasNone p → HasNone (f p)) → (ports : List Port) → AllByRecursion HasNone ports
-    → AllByRecursion HasNone (map f ports)
-none_map f one [] a = tt
-none_map f one (p ∷ ports) a = (one p a.0, none_map f one ports a.1)
-
-changed_none : (b : Bool) (f : Port → Port) (p : Port) → ((q : Port) → HasNone q → HasNone (f q)) → HasNone p → HasNone (changed_if b f p)
-changed_none true f p one a = one p a
-changed_none false f p one a = a
-
 port_none : (h : ℕ) (f : Port → Port) → ((q : Port) → HasNone q → HasNone (f q)) → (ports : List Port) → AllByRecursion HasNone ports
     → AllByRecursion HasNone (with_port h f ports)
-port_none h f one ports a = none_map (λ (p : Port). changed_if (p.desk.host == h) f p) (λ p b. changed_none (p.desk.host == h) f p one b) ports a
+port_none h f one ports a = all_changed HasNone (λ p. p.desk.host == h) f one ports a
 
 turn_none : (h : ℕ) (t : Turn) (w : Work) → HasNoNotices w → HasNoNotices (turn_at h t w)
 turn_none h t w a = record { host = a.host; none = port_none h (after_turn t) (λ p b. b) w.ports a.none }
@@ -120,10 +112,10 @@ forgets_none : (ports : List Port) (p : Port) → HasNone p → HasNone (forgets
 forgets_none ports p a = by_test (is_forgotten ports (asked_at p)) (λ q. rw (q, a) refl) (λ q. rw q a)
 
 came_none : (input : NodeInput) (w : Work) → HasNoNotices w → AllByRecursion HasNone (times_out input (all_come input w)).ports
-came_none (AtEnd h i) w a = none_map (λ p. has_come p (input_at (AtEnd h i) p)) (λ p b. come_none p (input_at (AtEnd h i) p) b) w.ports a.none
+came_none (AtEnd h i) w a = all_map HasNone HasNone (λ p. has_come p (input_at (AtEnd h i) p)) (λ p b. come_none p (input_at (AtEnd h i) p) b) w.ports a.none
 came_none TimePasses w a =
-    none_map reset_late late_none _
-    (none_map with_older older_none _ (none_map (λ p. has_come p (input_at TimePasses p)) (λ p b. come_none p (input_at TimePasses p) b) w.ports a.none))
+    all_map HasNone HasNone reset_late late_none _
+    (all_map HasNone HasNone with_older older_none _ (all_map HasNone HasNone (λ p. has_come p (input_at TimePasses p)) (λ p b. come_none p (input_at TimePasses p) b) w.ports a.none))
 
 pub steps_none : (input : NodeInput) (w : Work) → HasNoNotices w → HasNoNotices (steps input w)
 steps_none input w a =
@@ -133,7 +125,7 @@ steps_none input w a =
     let so : (came.core.node == 0) ≡ false = ap (λ (c : Core). c.node == 0) (came_node input w) ∙ a.host in
     let first : HasNoNotices begun = record {
       host = ap (λ n. n == 0) (sessions_node came.core came.ports) ∙ so;
-      none = none_map without_notice without_none left (none_map (forgets came.ports) (forgets_none came.ports) came.ports (came_none input w a));
+      none = all_map HasNone HasNone without_notice without_none left (all_map HasNone HasNone (forgets came.ports) (forgets_none came.ports) came.ports (came_none input w a));
     } in
     rest_lasts HasNoNotices IsUnnoticed Any none_lasts (forgotten came.ports) (flat_map (synced w.core input) w.ports) (all_owed left) begun
     (forgotten_hold IsUnnoticed (λ asker. tt) came.ports) (all_synced_hold IsUnnoticed (λ host id. tt) w.core input w.ports)

@@ -21,7 +21,7 @@ use Rattle.node_laws.proofs.order.Withheld.{AreBelieved, event_believed, loses_o
 use Rattle.node_laws.proofs.order.Ticking.{ticked_since}
 use Rattle.node_laws.proofs.order.TickResets.{IsAnsweredTick}
 use Rattle.node_laws.proofs.order.Readying.{AreReady}
-use Rattle.node_laws.proofs.order.Still.{strange_of}
+use Rattle.node_laws.proofs.kept.Sites.{none_found}
 use Rattle.node_laws.proofs.order.Strangers.{IsStrange}
 use Rattle.node_laws.proofs.order.Watches.{IsSince, untouched, watch_begins, watched}
 use Rattle.node_laws.proofs.order.Knowing.{Knows}
@@ -253,7 +253,7 @@ module _ (header : Header) (lines : List Line) (t : NodeHistory) (follows : Foll
       → occurrences_in t ≡ before ++ (reset ∷ behind ++ back) → IsUpheld before reset behind e window
       → AreBothUp (entries_in (before ++ reset ∷ behind)) e.link
   both_up before reset behind back e window q a = by_option (site_at w.sites e.link)
-      (λ none. let strange : IsStrange e.link hosts_of = subst (IsStrange e.link) so.hosts_are (strange_of w.sites e.link none) in
+      (λ none. let strange : IsStrange e.link hosts_of = subst (IsStrange e.link) so.hosts_are (none_found w.sites e.link none) in
       let idle = idle_behind e.link before (so.strange e.link strange) in
       absurd (true≢false (sym a.active ∙ idle_at (other_end e) (standing_behind e.link before) idle)))
       (λ s there. both_up_at before reset behind back e window s q there a)
@@ -267,7 +267,7 @@ module _ (header : Header) (lines : List Line) (t : NodeHistory) (follows : Foll
   ticked_up : (before : List Occurrence) (tick : Occurrence) (behind back : List Occurrence) (h : ℕ)
       → occurrences_in t ≡ before ++ (tick ∷ behind ++ back) → IsUpheldInTick before tick behind h → AreBothUp (entries_in (before ++ tick ∷ behind)) h
   ticked_up before tick behind back h q a = by_option (site_at w.sites h)
-      (λ none. let strange : IsStrange h hosts_of = subst (IsStrange h) so.hosts_are (strange_of w.sites h none) in
+      (λ none. let strange : IsStrange h hosts_of = subst (IsStrange h) so.hosts_are (none_found w.sites h none) in
       absurd (true≢false (sym a.active ∙ (idle_behind h before (so.strange h strange)).1)))
       (λ s there. ticked_up_at before tick behind back h s q there a)
     where

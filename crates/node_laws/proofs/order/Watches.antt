@@ -4,6 +4,7 @@ use Rattle.std.proofs.Common.{◌∙◌, append-nil, append_assoc, length-append
 use Rattle.std.specs.Prelude.{◌==◌, ◌&&◌, ◌||◌, not, drop, is_some, if◌then◌else◌}
 use Rattle.std.specs.List.{AllByRecursion, list_any}
 use Rattle.std.proofs.lemmas.Bool.{true≢false}
+use Rattle.std.proofs.lemmas.Bool.{and_parts}
 use Rattle.std.proofs.lemmas.List.{length-replicate}
 use Rattle.std.proofs.lemmas.List.Folds.{list_any-append}
 use Rattle.std.proofs.lemmas.List.Sums.{fold-append}
@@ -318,8 +319,7 @@ watch_ends h (Activates k sync power) x = if h == k then rewatched x else x
 watch_ends h _ x = x
 
 pub kept_left : (a b : Bool) → (a && b) ≡ true → a ≡ true
-kept_left true b q = refl
-kept_left false b q = q
+kept_left a b q = (and_parts a b q).0
 
 kept_assoc : (a b c : Bool) → ((a && not b) && not c) ≡ (a && not (b || c))
 kept_assoc true true c = refl

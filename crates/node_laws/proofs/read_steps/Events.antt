@@ -1,16 +1,15 @@
 -- Whatever happens to a world, each notice of a creation that the controller sends names the host that it goes to.
-use Rattle.std.proofs.Common.{◌≡◌, ℕ, false, List, [], ◌∷◌, ◌++◌, length, sym, refl, ap, ◌∙◌, subst, append_assoc, append-nil}
-use Rattle.std.specs.Prelude.{Option, Some, None}
+use Rattle.std.proofs.Common.{◌≡◌, ℕ, List, [], ◌∷◌, ◌++◌, length, sym, refl, ap, ◌∙◌, subst, append_assoc, append-nil}
+use Rattle.std.specs.Prelude.{Some}
 use Rattle.std.specs.List.{AllByRecursion, flat_map}
 use Rattle.std.proofs.lemmas.List.Concat.{flat_map-append}
 use Rattle.node_laws.proofs.Words.{Activates, AllByRecursion-append, AreHosts, AreNamed, Arms, AsksReset, AtEnd, Boots, Comes, Controller, End, Entry}
 use Rattle.node_laws.proofs.Words.{FollowsNodes, Gives, Happening, Header, Inits, IsCut, IsFew, IsNamed, IsSentByHost, KeepsBetween, Line, LinkInput, Loses}
-use Rattle.node_laws.proofs.Words.{Memory, NextFrame, NodeHistory, NodeWorld, Occurrence, Resets, Running, Site, Starts, Takes, Ticks, TimePasses, Work}
-use Rattle.node_laws.proofs.Words.{activates, after_controller, all_aged, as_it_ticks, beginning, boot_writes, boots, comes_at, comes_to, controller_does}
+use Rattle.node_laws.proofs.Words.{Memory, NextFrame, NodeHistory, NodeWorld, Occurrence, Resets, Site, Starts, Takes, Ticks, Work}
+use Rattle.node_laws.proofs.Words.{activates, all_aged, beginning, boot_writes, boots, comes_at, comes_to, controller_does}
 use Rattle.node_laws.proofs.Words.{controller_ticks, controller_work, end_c, end_h, entries_in, fails_within, frames_noted, hosts_tick, input_of, link_to}
-use Rattle.node_laws.proofs.Words.{memory_at, new_world, node_entries, occurrences_in, sending, steps, steps_from, wires_for, work_of, world_behind, world_step}
-use Rattle.history.specs.Follows.{seen_from}
-use Rattle.node_laws.proofs.Cases.{by_option, by_test}
+use Rattle.node_laws.proofs.Words.{memory_at, new_world, node_entries, occurrences_in, sending, steps, steps_from, wires_for, world_behind, world_step}
+use Rattle.node_laws.proofs.Cases.{by_test}
 use Rattle.node_laws.proofs.telling.Lasting.{Any, AnyLine, AreCaused, all_any, all_lines, events_of_steps, lines_caused}
 use Rattle.node_laws.proofs.notices.Far.{far_flat}
 use Rattle.node_laws.proofs.notices.Near.{aged_far, comes_reads}
@@ -21,6 +20,8 @@ use Rattle.node_laws.proofs.read_steps.Lines.{history_keeps_between}
 use Rattle.node_laws.proofs.read_steps.Naming.{far_named}
 use Rattle.node_laws.proofs.read_steps.Starting.{comes_named, tick_named}
 use Rattle.node_laws.proofs.order.Asked.{behind_push}
+use Rattle.node_machine.proofs.world.Cases.{by_controller, by_coming, by_controller_tick, near_tick}
+use Rattle.std.proofs.lemmas.Bool.{true≢false}
 
 boots_named : (w : NodeWorld) (n : ℕ) → AreNamed (boots w n).1
 boots_named w n = by_test (fails_within (length (boot_writes m.content)) m.plan) (λ e. rw e (tt, tt)) (λ e. rw e (tt, tt)) where
@@ -38,39 +39,19 @@ module _ (hosts : List ℕ) (are : AreHosts hosts) (t : List Entry) (w : NodeWor
 
   near_named : (h : ℕ) (comes : Comes) (i : LinkInput) → input_of (link_to w.sites h) comes ≡ Some i
       → AreNamed (controller_does w h comes (steps (AtEnd h i))).1
-  near_named h comes i input = by_option w.controller
-      (λ e. subst (λ (p : NodeWorld × List Entry). AreNamed p.1) (sym (off_is e)) tt)
-      (λ r e. let c : Work = controller_work w r h comes (steps (AtEnd h i)) in
+  near_named h comes i input =
+      by_controller (λ p. AreNamed p.1) w h comes (steps (AtEnd h i)) tt
+      (λ r e.
+      let c : Work = controller_work w r h comes (steps (AtEnd h i)) in
       let frames : List Entry = flat_map (λ (s : Site). frames_noted Controller s.host (wires_for s.link (comes_to h comes s.host)) c) w.sites in
-      subst (λ (p : NodeWorld × List Entry). AreNamed p.1) (sym (on_is r e))
-      (AllByRecursion-append IsNamed c.entries frames (comes_named hosts are t w k r e h comes i input) (far_named frames
-      (far_flat (λ (s : Site). frames_noted Controller s.host (wires_for s.link (comes_to h comes s.host)) c)
-      (λ s. frames_quiet Controller s.host (wires_for s.link (comes_to h comes s.host)) c) w.sites)))) where
-        off_is : w.controller ≡ None → controller_does w h comes (steps (AtEnd h i)) ≡ (w, [])
-        off_is e = rw e refl
-
-        on_is : (r : Running) → w.controller ≡ Some r
-            → controller_does w h comes (steps (AtEnd h i)) ≡ after_controller w h comes (controller_work w r h comes (steps (AtEnd h i)))
-        on_is r e = rw e refl
+      AllByRecursion-append IsNamed c.entries frames (comes_named hosts are t w k r e h comes i input)
+      (far_named frames (far_flat (λ (s : Site). frames_noted Controller s.host (wires_for s.link (comes_to h comes s.host)) c)
+      (λ s. frames_quiet Controller s.host (wires_for s.link (comes_to h comes s.host)) c) w.sites)))
 
   comes_named_at : (e : End) (comes : Comes) → AreNamed (comes_at w e comes).1
   comes_named_at e comes = by_test e.at_host
       (λ b. far_named (comes_at w e comes).1 (far_beside w e comes good b).far)
-      (λ b. go b (input_of (seen_from e (link_to w.sites e.link)) comes) refl) where
-        seen : e.at_host ≡ false → seen_from e (link_to w.sites e.link) ≡ link_to w.sites e.link
-        seen b = rw b refl
-
-        none_is : input_of (seen_from e (link_to w.sites e.link)) comes ≡ None → comes_at w e comes ≡ (w, [])
-        none_is q = rw q refl
-
-        near_is : (i : LinkInput) → input_of (seen_from e (link_to w.sites e.link)) comes ≡ Some i → e.at_host ≡ false
-            → comes_at w e comes ≡ controller_does w e.link comes (steps (AtEnd e.link i))
-        near_is i q b = rw q (rw b refl)
-
-        go : e.at_host ≡ false → (o : Option LinkInput) → input_of (seen_from e (link_to w.sites e.link)) comes ≡ o → AreNamed (comes_at w e comes).1
-        go b None q = subst (λ (p : NodeWorld × List Entry). AreNamed p.1) (sym (none_is q)) tt
-        go b (Some i) q = subst (λ (p : NodeWorld × List Entry). AreNamed p.1) (sym (near_is i q b))
-            (near_named e.link comes i (ap (λ l. input_of l comes) (sym (seen b)) ∙ q))
+      (λ b. by_coming (λ p. AreNamed p.1) w e comes tt (λ i far q. absurd (true≢false (sym far ∙ b))) (λ i near q. near_named e.link comes i q))
 
   activates_named : (h sync power : ℕ) → AreNamed (activates w h sync power).1
   activates_named h sync power =
@@ -83,34 +64,15 @@ module _ (hosts : List ℕ) (are : AreHosts hosts) (t : List Entry) (w : NodeWor
   -- ## Time
 
   near_tick_named : AreNamed (controller_ticks (all_aged w).0).1
-  near_tick_named = by_option w.controller
-      (λ e. subst AreNamed (sym (off_is e)) tt)
-      (λ r e. subst AreNamed (sym (on_is r e)) (AllByRecursion-append IsNamed (c r).entries (frames r) (tick_named hosts are t w k r e) (far_named (frames r)
-      (far_flat (λ (s : Site). frames_noted Controller s.host s.link (c r)) (λ s. frames_quiet Controller s.host s.link (c r)) old.sites)))) where
+  near_tick_named =
+      by_controller_tick (λ p. AreNamed p.1) old (λ e. tt)
+      (λ r e.
+      let c : Work = near_tick old r in
+      let frames : List Entry = flat_map (λ (s : Site). frames_noted Controller s.host s.link c) old.sites in
+      AllByRecursion-append IsNamed c.entries frames (tick_named hosts are t w k r e)
+      (far_named frames (far_flat (λ (s : Site). frames_noted Controller s.host s.link c) (λ s. frames_quiet Controller s.host s.link c) old.sites))) where
         old : NodeWorld
         old = (all_aged w).0
-
-        off_of : (v : NodeWorld) → v.controller ≡ None → (controller_ticks v).1 ≡ []
-        off_of v e = rw e refl
-
-        off_is : w.controller ≡ None → (controller_ticks old).1 ≡ []
-        off_is e = off_of old e
-
-        c : Running → Work
-        c r = steps TimePasses (as_it_ticks w r)
-
-        frames : Running → List Entry
-        frames r = flat_map (λ (s : Site). frames_noted Controller s.host s.link (c r)) old.sites
-
-        step_of : NodeWorld → Running → Work
-        step_of v r = steps TimePasses (work_of r v.memory.plan (λ h. (link_to v.sites h).controller) [])
-
-        on_of : (v : NodeWorld) (r : Running) → v.controller ≡ Some r
-            → (controller_ticks v).1 ≡ (step_of v r).entries ++ flat_map (λ (s : Site). frames_noted Controller s.host s.link (step_of v r)) v.sites
-        on_of v r e = rw e refl
-
-        on_is : (r : Running) → w.controller ≡ Some r → (controller_ticks old).1 ≡ (c r).entries ++ frames r
-        on_is r e = on_of old r e
 
   ticks_named : AreNamed (world_step w Ticks).1
   ticks_named =

@@ -1,5 +1,5 @@
 -- A node that has no end on a link notes nothing of it.
-use Rattle.std.proofs.Common.{◌≡◌, ℕ, ◌==◌, Bool, true, false, List, [], ◌∷◌, ◌++◌, Option, Some, None, map, refl, ap, subst, ◌∙◌}
+use Rattle.std.proofs.Common.{◌≡◌, ℕ, ◌==◌, true, false, List, [], ◌∷◌, ◌++◌, Option, Some, None, map, refl, ap, subst, ◌∙◌}
 use Rattle.std.specs.Option.{option_map_or}
 use Rattle.node_laws.proofs.Words.{Desk, Entry, Port, Turn, Work, after_turn, changed_if, noted_of, noting, of_link, own_side, port_at, turn_at, turn_entry}
 use Rattle.node_laws.proofs.Words.{with_desk}

@@ -3,13 +3,12 @@ use Rattle.std.proofs.Common.{◌≡◌, ℕ, zero, suc, List, [], ◌∷◌, �
 use Rattle.std.specs.Prelude.{Option, Some, None, is_some, replicate, unwrap_or}
 use Rattle.std.specs.List.{AllByRecursion, flat_map}
 use Rattle.std.proofs.lemmas.List.Concat.{flat_map-append}
-use Rattle.node_laws.proofs.Words.{End, Entry, Happening, Line, LineOutcome, LineStep, Loses, Loss, LostFor, MayBoot, NoCause, NodeWorld, Occurrence, Running}
+use Rattle.node_laws.proofs.Words.{End, Entry, Happening, Line, LineStep, Loses, Loss, LostFor, MayBoot, NodeWorld, Occurrence, Running}
 use Rattle.node_laws.proofs.Words.{Same, Takes, Ticks, Undetected, Verdict, all_happen, can_happen, entries_in, first_verdict, frames_at, goes_on, happenings}
 use Rattle.node_laws.proofs.Words.{happens_by, line_step, node_at, occurrences_of, refusal_in, steps_from, taken_of, world_after, world_behind, world_step}
 use Rattle.trace_model.specs.declared.entry.NoCause.TheVariants as cause
 use Rattle.trace_model.specs.declared.line.Line.TheVariants as line
 use Rattle.node_machine.specs.world.Lines.{if_true, tables_told}
-use Rattle.node_machine.specs.world.Lines.LineOutcome.{WasRefused}
 use Rattle.node_laws.proofs.Cases.{by_option, by_test}
 
 -- events that may happen one after another
@@ -92,20 +91,10 @@ left_is : (w : NodeWorld) (l : Line) → (goes_on w l).0 ≡ (all_happen w (happ
 left_is w (line.Tables n) = refl
 left_is w _ = refl
 
-refused_is : (w : NodeWorld) (l : Line) (cause : NoCause) → refusal_in w l ≡ Some cause → line_step w l ≡ (w, WasRefused cause)
-refused_is w l cause e = rw e refl
-
-goes_is : (w : NodeWorld) (l : Line) → refusal_in w l ≡ None → line_step w l ≡ goes_on w l
-goes_is w l e = rw e refl
-
 behind_line : (w : NodeWorld) (l : Line) → world_behind w (occurrences_of (line_step w l).1) ≡ (line_step w l).0
 behind_line w l = by_option (refusal_in w l)
-    (λ e. subst IsBehind (sym (goes_is w l e))
-    (ap (world_behind w) (caused_is w l) ∙ (behind_all (happenings w l) w ∙ sym (left_is w l))))
-    (λ cause e. subst IsBehind (sym (refused_is w l cause e)) refl)
-  where
-    IsBehind : NodeWorld × LineOutcome → Type 0
-    IsBehind o = world_behind w (occurrences_of o.1) ≡ o.0
+    (λ e. rw e (ap (world_behind w) (caused_is w l) ∙ (behind_all (happenings w l) w ∙ sym (left_is w l))))
+    (λ cause e. rw e refl)
 
 pub behind_lines : (lines : List Line) (w : NodeWorld) → world_behind w (events_of_steps (steps_from w lines)) ≡ world_after w lines
 behind_lines [] w = refl
@@ -133,10 +122,8 @@ module _ (May : NodeWorld → Happening → Type 0) (Is : Line → Type 0)
 
   line_caused : (w : NodeWorld) (l : Line) → Is l → AreCaused May w (occurrences_of (line_step w l).1)
   line_caused w l is = by_option (refusal_in w l)
-      (λ e. subst Fine (sym (goes_is w l e)) (subst (AreCaused May w) (sym (caused_is w l)) (all_caused (happenings w l) w (line_may w l is e))))
-      (λ cause e. subst Fine (sym (refused_is w l cause e)) tt) where
-        Fine : NodeWorld × LineOutcome → Type 0
-        Fine o = AreCaused May w (occurrences_of o.1)
+      (λ e. rw e (subst (AreCaused May w) (sym (caused_is w l)) (all_caused (happenings w l) w (line_may w l is e))))
+      (λ cause e. rw e tt)
 
   pub lines_caused : (lines : List Line) (w : NodeWorld) → AllByRecursion Is lines → AreCaused May w (events_of_steps (steps_from w lines))
   lines_caused [] w are = tt
@@ -196,11 +183,8 @@ module _ (Holds : List Occurrence → NodeWorld → Type 0) (May : NodeWorld →
 
   line_holds : (os : List Occurrence) (w : NodeWorld) (l : Line) → Holds os w → Is l → EachHolds os w (occurrences_of (line_step w l).1)
   line_holds os w l all is = by_option (refusal_in w l)
-      (λ e. subst Fine (sym (goes_is w l e))
-      (subst (EachHolds os w) (sym (caused_is w l)) (all_happen_hold (happenings w l) os w all (line_may w l is e))))
-      (λ cause e. subst Fine (sym (refused_is w l cause e)) all) where
-        Fine : NodeWorld × LineOutcome → Type 0
-        Fine o = EachHolds os w (occurrences_of o.1)
+      (λ e. rw e (subst (EachHolds os w) (sym (caused_is w l)) (all_happen_hold (happenings w l) os w all (line_may w l is e))))
+      (λ cause e. rw e all)
 
   -- ## Schedules
 

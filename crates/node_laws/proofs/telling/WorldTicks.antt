@@ -1,5 +1,5 @@
 -- What a tick of a world tells of each link.
-use Rattle.std.proofs.Common.{◌≡◌, ℕ, ◌==◌, Bool, true, false, List, [], ◌∷◌, ◌++◌, Option, Some, None, map, refl, ap, sym, subst, ◌∙◌, append-nil}
+use Rattle.std.proofs.Common.{◌≡◌, ℕ, ◌==◌, Bool, true, false, List, [], ◌∷◌, ◌++◌, Option, Some, None, refl, ap, sym, subst, ◌∙◌, append-nil}
 use Rattle.std.proofs.Common.{append_assoc}
 use Rattle.std.specs.Prelude.{if◌then◌else◌, is_some}
 use Rattle.std.specs.List.{AllByRecursion, find, flat_map}
@@ -9,11 +9,11 @@ use Rattle.std.proofs.lemmas.Bool.{eqb-true}
 use Rattle.std.proofs.lemmas.List.Sums.{fold-append}
 use Rattle.node_laws.proofs.Words.{AreDifferent, AsksReset, Clf, Controller, Desk, Ending, Entry, GoesOut, HasEnds, Host, IfDue, IfItRuns, IfOff, IsOrderly}
 use Rattle.node_laws.proofs.Words.{IsTimely, Link, LinkEnd, LinkEvent, LinkInput, NoInput, Node, NodeWorld, NoneDue, NumberedEnd, Port, Reset, Running, Site}
-use Rattle.node_laws.proofs.Words.{Standing, StandsOf, Step, TellOf, Tick, TicksWithout, TimePasses, Turn, Uicc, Work, after_input, after_planned, aged}
+use Rattle.node_laws.proofs.Words.{Standing, StandsOf, Step, TellOf, Tick, TicksWithout, TimePasses, Turn, Uicc, Work, after_input, aged}
 use Rattle.node_laws.proofs.Words.{aged_entries, all_aged, by_controller_tick, by_host_tick, controller_ticks, ended_by, ending_of, entries_for, event_entries}
 use Rattle.node_laws.proofs.Words.{exchanged, frames_noted, frames_out, happens, has_input, host_ended, host_finished, host_tick, host_ticks, hosts_in}
 use Rattle.node_laws.proofs.Words.{hosts_tick, is_due, is_late, is_late_at, is_waiting, law_noted, link_to, near_tick, new_clf, new_link_end, new_uicc}
-use Rattle.node_laws.proofs.Words.{number_of, of_link, port_at, port_for, puts_entries, report, runs_on, site_at, site_ticked, site_unticked, standing}
+use Rattle.node_laws.proofs.Words.{number_of, of_link, port_at, port_for, puts_entries, report, site_at, site_ticked, site_unticked, standing}
 use Rattle.node_laws.proofs.Words.{standing_by_law, stands_noted, step_entries, steps_at_controller, tick_entries, ticked_so, ticks_at_controller, told, turned}
 use Rattle.node_laws.proofs.Words.{turns_at, whole_acked, with_ended, without_power, work_of, world_ticks}
 use Rattle.link_laws.specs.messages.Links.LinkEvent.{Ticks}

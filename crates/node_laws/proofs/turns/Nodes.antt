@@ -1,13 +1,13 @@
 -- What waits at the ends of a world as the controller or a host has a step.
-use Rattle.std.proofs.Common.{◌≡◌, ℕ, ◌==◌, ◌&&◌, Bool, true, false, cond, List, [], ◌∷◌, ◌++◌, Option, Some, None, map, refl, ap, sym, subst, ◌∙◌}
-use Rattle.std.specs.Prelude.{is_some, not, if◌then◌else◌}
+use Rattle.std.proofs.Common.{◌≡◌, ℕ, ◌==◌, Bool, true, false, cond, List, [], ◌∷◌, ◌++◌, Option, Some, None, map, refl, ap, sym, subst, ◌∙◌}
+use Rattle.std.specs.Prelude.{is_some, if◌then◌else◌}
 use Rattle.std.specs.List.{flat_map}
 use Rattle.std.proofs.lemmas.Bool.{eqb-true, eq-eqb}
-use Rattle.node_laws.proofs.Words.{AreDifferent, AsksReset, AtEnd, Comes, Controller, Deed, Desk, End, Ending, Entry, HasEnds, Host, IsOutside, Link, LinkEnd}
-use Rattle.node_laws.proofs.Words.{LinkInput, Memory, Message, NoInput, NodeInput, NodeWorld, NumberedEnd, Port, Running, Site, Step, TimePasses, Turn, Work}
+use Rattle.node_laws.proofs.Words.{AreDifferent, AtEnd, Comes, Controller, Deed, Desk, End, Entry, HasEnds, Host, IsOutside, Link, LinkEnd}
+use Rattle.node_laws.proofs.Words.{LinkInput, Memory, Message, NoInput, NodeInput, NodeWorld, NumberedEnd, Port, Running, Site, Step, TimePasses, Work}
 use Rattle.node_laws.proofs.Words.{after_controller, after_host, after_input, after_planned, arrival, begins_with, comes_to, controller_work, end_c, end_h}
 use Rattle.node_laws.proofs.Words.{ending_of, entries_for, exchanged, frames_noted, host_tick, host_work, hosts_in, hosts_of_ends, input_of, is_late_at}
-use Rattle.node_laws.proofs.Words.{is_waiting, link_after_controller, link_to, near_end_in, own_side, port_at, port_for, runs_on, same_end, same_number}
+use Rattle.node_laws.proofs.Words.{link_after_controller, link_to, near_end_in, own_side, port_at, port_for, runs_on, same_end, same_number}
 use Rattle.node_laws.proofs.Words.{site_at, site_ticked, steps, steps_at_controller, ticked_so, turns_at, wires_for, work_of}
 use Rattle.link_laws.specs.entries.Entries.{End as Side}
 use Rattle.node_laws.proofs.Cases.{by_test, by_option}
@@ -25,6 +25,7 @@ use Rattle.node_laws.proofs.turns.Coming.{input_on, Fresh, steps_stand, begins_s
 use Rattle.node_laws.proofs.turns.Works.{arrival_still, frames_still, NearWaits, FarWaits, ByPower, AllMove, Leaves, leaves-append}
 use Rattle.node_laws.proofs.turns.Works.{still_leaves, flat_leaves}
 use Rattle.node_laws.proofs.turns.Works.{sites_is, SiteGoes, NodeDoes, Leaving, own_left, away, ends_so}
+use Rattle.node_laws.proofs.links.Worlds.{so_host}
 
 -- ## Works
 
@@ -315,11 +316,6 @@ module _ (w : NodeWorld) (r : Running) (runs : w.controller ≡ Some r) (node : 
               (came None
               ∙ ap (λ b. (after_coming (near_end_in (link_to w.sites h) (comes_to k comes h)).side (cond b (Some i) None)).got) (sym e)))
 
-  late_host : (l : Link) (late : Bool) (ts : List Turn) (ending : Ending) → (ticked_so l late ts ending).host ≡ l.host
-  late_host l late ts ending = by_test (late && not (is_waiting l.controller.side.shdlc))
-      (λ q. rw q (here_host l (Step (AsksReset None) ts ending)))
-      (λ q. rw q (tick_host l ts ending))
-
   pub controller_ticked : AllMove w (record {
     memory = after_planned (steps TimePasses (starting (λ h. (link_to w.sites h).controller) [])).writes w.memory;
     controller = runs_on (steps TimePasses (starting (λ h. (link_to w.sites h).controller) []));
@@ -337,7 +333,7 @@ module _ (w : NodeWorld) (r : Running) (runs : w.controller ≡ Some r) (node : 
       (near_different near_ends []))
       (λ e. flat_leaves e _ (λ s. still_leaves e _ (frames_still e Controller s.host s.link v)) w.sites)
       (λ s. refl) (λ s. refl)
-      (λ s. ap (λ (x : NumberedEnd). x.side.got) (late_host s.link (is_late_at v s.host) (turns_at v s.host) (ending_of v)))
+      (λ s. ap (λ (x : NumberedEnd). x.side.got) (so_host s.link (is_late_at v s.host) (turns_at v s.host) (ending_of v)))
       (λ h s z. ap (λ (l : Link). l.controller.side.got) (link_is w.sites h s z))
       (λ h s z.
       let P : ℕ → Type 0 = λ n. (ticked_so s.link (is_late_at v n) (turns_at v n) (ending_of v)).controller.side.got

@@ -18,6 +18,7 @@ use Rattle.node_laws.proofs.views.Leaving.{reads, reads_append, IsRead, IsStill,
 use Rattle.node_laws.proofs.views.Setting.{IsUnset, AreUnset, IsInitEnd}
 use Rattle.node_laws.proofs.kept.Plainly.{hosts_map}
 use Rattle.node_laws.proofs.Cut.{by_cut}
+use Rattle.node_laws.proofs.Each.{changed_same}
 
 -- the side of its link that an end is on
 abbrev pub side_of : End → Side
@@ -87,18 +88,10 @@ module _ (e : End) (hosts : List ℕ) (x0 : ErrorCount) where
     tables = r.tables;
   }
 
-  changed_host : (b : Bool) (f : Port → Port) (p : Port) → ((q : Port) → (f q).desk.host ≡ q.desk.host) → (changed_if b f p).desk.host ≡ p.desk.host
-  changed_host true f p host = host p
-  changed_host false f p host = refl
-
-  changed_errors : (b : Bool) (f : Port → Port) (p : Port) → ((q : Port) → (f q).desk.errors ≡ q.desk.errors) → (changed_if b f p).desk.errors ≡ p.desk.errors
-  changed_errors true f p errors = errors p
-  changed_errors false f p errors = refl
-
   with_ends : (k : ℕ) (f : Port → Port) (w : Work) → ((p : Port) → (f p).desk.host ≡ p.desk.host) → ((p : Port) → (f p).desk.errors ≡ p.desk.errors) → Right w
       → Right (record w { ports = with_port k f w.ports })
-  with_ends k f w host errors r = maps (λ p. changed_if (eqb p.desk.host k) f p) w (λ p. changed_host (eqb p.desk.host k) f p host)
-      (λ p. changed_errors (eqb p.desk.host k) f p errors) r
+  with_ends k f w host errors r = maps (λ p. changed_if (eqb p.desk.host k) f p) w (λ p. changed_same (λ (q : Port). q.desk.host) (eqb p.desk.host k) f p host)
+      (λ p. changed_same (λ (q : Port). q.desk.errors) (eqb p.desk.host k) f p errors) r
 
   pub desks : (k : ℕ) (f : Desk → Desk) (w : Work) → ((d : Desk) → (f d).host ≡ d.host) → ((d : Desk) → (f d).errors ≡ d.errors) → Right w
       → Right (with_desk k f w)
@@ -191,7 +184,7 @@ module _ (e : End) (hosts : List ℕ) (x0 : ErrorCount) where
   sets_other k v w off r = record {
     number = r.number;
     side = r.side;
-    hosts_are = hosts_map (λ p. changed_if (eqb p.desk.host k) set p) (λ p. changed_host (eqb p.desk.host k) set p (λ q. refl)) w.ports ∙ r.hosts_are;
+    hosts_are = hosts_map (λ p. changed_if (eqb p.desk.host k) set p) (λ p. changed_same (λ (q : Port). q.desk.host) (eqb p.desk.host k) set p (λ q. refl)) w.ports ∙ r.hosts_are;
     errors = r.errors;
     read = r.read;
     ends = map_has e r.errors (λ p. changed_if (eqb p.desk.host k) set p) (λ p has. by p has (eqb p.desk.host k) refl) w.ports r.ends;

@@ -4,7 +4,7 @@ use Rattle.std.specs.Prelude.{Option, Some, None, is_some, option_to_list}
 use Rattle.std.specs.List.{AllByRecursion}
 use Rattle.std.specs.Option.{option_map, option_map_or}
 use Rattle.std.proofs.lemmas.Bool.{cases_Bool, cond-true, eq-eqb, eqb-true, true≢false}
-use Rattle.node_laws.proofs.Words.{Asks, Cause, Commits, Core, Cut, Deed, Desk, Drops, Ends, Entry, FetchMessage, Give, GoesOn, Hears, Hold, Host, Init}
+use Rattle.node_laws.proofs.Words.{Asks, Cause, Commits, Core, Deed, Desk, Drops, Ends, Entry, FetchMessage, Give, GoesOn, Hears, Hold, Host, Init}
 use Rattle.node_laws.proofs.Words.{IsAnswered, IsHost, LinkInput, LinkState, Message, Orders, Port, Refused, Release, Releases, SaysOk, Sends, Sent, SetsErrors}
 use Rattle.node_laws.proofs.Words.{Tells, Turn, Up, Work, Write, after_input, after_turn, all_done, body_of, changed_if, commit, commit_writes, count_of}
 use Rattle.node_laws.proofs.Words.{deeds_of, done, end_h, end_of, end_of_node, end_view, ended_by, entries_for, fails_within, give_refusal, goes_through_ends}
@@ -20,6 +20,7 @@ use Rattle.node_laws.proofs.readings.Silent.{IsQuiet, host_side, told_rest, rest
 use Rattle.node_laws.specs.views.Inits.{init_after}
 use Rattle.node_laws.proofs.views.Answering.{reads_init, init_append, MayGo, answered_by, host_go}
 use Rattle.node_laws.proofs.Cut.{by_cut}
+use Rattle.node_laws.proofs.Each.{changed_same}
 
 -- ## What is noted of an end
 
@@ -74,10 +75,6 @@ module _ (h : ℕ) (host : IsHost h) (i0 : Option Init) where
         → reads_init h (w.entries ++ es) i0 ≡ y
     noted es w y was silent = init_append h w.entries es i0 ∙ (silent (reads_init h w.entries i0) ∙ was)
 
-    changed : {Y : Type 0} (g : Port → Y) (b : Bool) (f : Port → Port) (p : Port) → ((q : Port) → g (f q) ≡ g q) → g (changed_if b f p) ≡ g p
-    changed g true f p same = same p
-    changed g false f p same = refl
-
     quieted : (b : Bool) (f : Port → Port) (p : Port) → ((q : Port) → q.desk.notice ≡ None → (f q).desk.notice ≡ None) → p.desk.notice ≡ None
         → (changed_if b f p).desk.notice ≡ None
     quieted true f p keeps is = keeps p is
@@ -89,9 +86,9 @@ module _ (h : ℕ) (host : IsHost h) (i0 : Option Init) where
       number = node ∙ b.number;
       port = changed_if (eqb b.port.desk.host k) f b.port;
       is = ports ∙ ap (with_port k f) b.is;
-      at = changed (λ p. p.desk.host) (eqb b.port.desk.host k) f b.port same ∙ b.at;
+      at = changed_same (λ (p : Port). p.desk.host) (eqb b.port.desk.host k) f b.port same ∙ b.at;
       quiet = quieted (eqb b.port.desk.host k) f b.port quiet b.quiet;
-      phase = changed (λ p. p.side.shdlc.phase) (eqb b.port.desk.host k) f b.port phase ∙ b.phase;
+      phase = changed_same (λ (p : Port). p.side.shdlc.phase) (eqb b.port.desk.host k) f b.port phase ∙ b.phase;
     }
 
     turned : (k : ℕ) (t : Turn) (w v : Work) → v.core.node ≡ w.core.node → v.ports ≡ w.ports → Base now w → Base now (turn_at k t v)

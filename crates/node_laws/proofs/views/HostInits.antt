@@ -1,7 +1,7 @@
 -- A host of a world keeps the init that is read of it over each of its own events.
-use Rattle.std.proofs.Common.{◌≡◌, ◌⊎◌, inl, inr, ℕ, ◌&&◌, true, false, cond, eqb, List, [], ◌∷◌, ◌++◌, map, sym, refl, ap, ◌∙◌, subst}
+use Rattle.std.proofs.Common.{◌≡◌, ℕ, ◌&&◌, false, cond, eqb, List, [], ◌∷◌, ◌++◌, map, sym, refl, ap, ◌∙◌, subst}
 use Rattle.std.specs.Prelude.{Option, Some, None}
-use Rattle.std.proofs.lemmas.Bool.{cases_Bool, cond_both, eq-eqb, true≢false}
+use Rattle.std.proofs.lemmas.Bool.{cond_both, eq-eqb, true≢false}
 use Rattle.node_laws.proofs.Words.{AtEnd, Comes, CutOff, Deed, Desk, Entry, GoesOut, Host, IfRunsInit, Init, IsHost, Link, LinkEnd, LinkInput, LinkState}
 use Rattle.node_laws.proofs.Words.{Memory, Message, NoInput, NumberedEnd, Orders, Port, Running, Sends, Site, SiteKeepsInit, Tick, TimePasses, Up, Work}
 use Rattle.node_laws.proofs.Words.{after_host, after_input, after_planned, arrival, beginning, begins_with, ending_entries, ending_of, entries_for, exchanged}
@@ -12,11 +12,13 @@ use Rattle.trace_model.specs.declared.entry.Entry.TheVariants as entry
 use Rattle.link_laws.specs.entries.Entries.{End as Side}
 use Rattle.node_laws.specs.readings.Worlds.{host_does_so}
 use Rattle.node_laws.proofs.Cases.{by_option}
+use Rattle.node_laws.proofs.Cases.{by_test}
 use Rattle.node_laws.proofs.readings.Sites.{ending_quiet, arrival_quiet, sent_phase, stepped_phase, comes_outside, near_end_side}
 use Rattle.node_laws.specs.views.Inits.{RunsInit}
 use Rattle.node_laws.proofs.views.Answering.{reads_init, init_append, MayGo}
 use Rattle.node_laws.proofs.views.Going.{Base, Stands, all_go, quiet_init}
 use Rattle.node_laws.proofs.views.Beginning.{steps_stand}
+use Rattle.node_machine.proofs.world.Cases.{by_host_tick, host_tick}
 
 frames_init : (h : ℕ) (who : Side) (k : ℕ) (l : Link) (w : Work) (y : Option Init) → reads_init h (frames_noted who k l w) y ≡ y
 frames_init h who k l w y = by_option (port_at w.ports k)
@@ -30,35 +32,21 @@ arrival_init h who k l comes y = quiet_init h k (arrival who l comes) y (arrival
 done_keeps : (s : Site) (host : IsHost s.host) (i : Option Init) (now : LinkState) (k : Work) (l link : Link) (memory : Memory)
     → (k.cut ≡ false → link.host.side.shdlc.phase ≡ now) → Stands s.host host i now k
     → SiteKeepsInit (reads_init s.host (k.entries ++ frames_noted Host s.host l k) i) (record s { link = link; memory = memory; node = runs_on k })
-done_keeps s host i now k l link memory phase st = by (cases_Bool k.cut) where
-  v : Site
-  v = record s { link = link; memory = memory; node = runs_on k }
-
-  read : reads_init s.host (k.entries ++ frames_noted Host s.host l k) i ≡ reads_init s.host k.entries i
-  read = init_append s.host k.entries (frames_noted Host s.host l k) i ∙ frames_init s.host Host s.host l k (reads_init s.host k.entries i)
-
-  on_is : k.cut ≡ false → runs_on k ≡ Some (record { core = k.core; desks = map (λ (p : Port). p.desk) k.ports })
-  on_is e = rw e refl
-
-  off_is : k.cut ≡ true → runs_on k ≡ None
-  off_is e = rw e refl
-
-  by : (k.cut ≡ true) ⊎ (k.cut ≡ false) → SiteKeepsInit (reads_init s.host (k.entries ++ frames_noted Host s.host l k) i) v
-  by (inl e) = record {
-    read = read ∙ (st.off e ∙ sym (ap init_of_running (off_is e)));
-    runs = subst (IfRunsInit s.host link) (sym (off_is e)) tt;
-  }
-  by (inr e) = record {
-    read = read ∙ ((st.on e).0 ∙ sym (ap init_of_running (on_is e)));
-    runs = subst (IfRunsInit s.host link) (sym (on_is e)) (record {
-      number = st.base.number;
-      desk = st.base.port.desk;
-      desks_are = ap (map (λ (p : Port). p.desk)) st.base.is;
-      host = st.base.at;
-      no_notice = st.base.quiet;
-      waits = λ some. (((st.on e).1 some).0, phase e ∙ ((st.on e).1 some).1);
-    });
-  }
+done_keeps s host i now k l link memory phase st = by_test k.cut
+    (λ e. record { read = read ∙ (st.off e ∙ sym (rw e refl)); runs = rw e tt })
+    (λ e. record {
+      read = read ∙ ((st.on e).0 ∙ sym (rw e refl));
+      runs = rw e (record {
+        number = st.base.number;
+        desk = st.base.port.desk;
+        desks_are = ap (map (λ (p : Port). p.desk)) st.base.is;
+        host = st.base.at;
+        no_notice = st.base.quiet;
+        waits = λ some. (((st.on e).1 some).0, phase e ∙ ((st.on e).1 some).1);
+      });
+    }) where
+      read : reads_init s.host (k.entries ++ frames_noted Host s.host l k) i ≡ reads_init s.host k.entries i
+      read = init_append s.host k.entries (frames_noted Host s.host l k) i ∙ frames_init s.host Host s.host l k (reads_init s.host k.entries i)
 
 module _ (s : Site) (host : IsHost s.host) (i : Option Init) (r : Running) (node : s.node ≡ Some r) (k : SiteKeepsInit i s) where
   so : RunsInit s.host s.link r
@@ -155,45 +143,18 @@ module _ (s : Site) (host : IsHost s.host) (i : Option Init) (r : Running) (node
 -- a tick of a host
 pub ticks_keep : (s : Site) (i : Option Init) → IsHost s.host → SiteKeepsInit i s → SiteKeepsInit (reads_init s.host (host_ticks s).1 i) (host_ticks s).0
 unfolding begun_stands base_of
-ticks_keep s i host k = by_node s.node refl where
-  Fine : Site × List Entry → Type 0
-  Fine p = SiteKeepsInit (reads_init s.host p.1 i) p.0
-
-  by_node : (o : Option Running) → s.node ≡ o → Fine (host_ticks s)
-  by_node None e = subst Fine (sym (off_is e)) (record {
-    read = k.read;
-    runs = subst (IfRunsInit s.host (exchanged (ticks_at_controller (exchanged s.link) [] GoesOut))) (sym e) tt;
-  }) where
-    off_is : s.node ≡ None → host_ticks s ≡ (record s { link = exchanged (ticks_at_controller (exchanged s.link) [] GoesOut) }, [])
-    off_is e = rw e refl
-  by_node (Some r) e = subst Fine (sym (on_is e)) (done_keeps s host i now w (exchanged s.link) v.link v.memory phase stands) where
-    begun : Work
-    begun = work_of r s.memory.plan (λ n. s.link.host) []
-
-    w : Work
-    w = steps TimePasses begun
-
-    v : Site
-    v = record s {
-      link = exchanged (ticks_at_controller (exchanged s.link) (turns_at w s.host) (ending_of w));
-      memory = after_planned w.writes s.memory;
-      node = runs_on w;
-    }
-
-    on_is : s.node ≡ Some r → host_ticks s ≡ (v, w.entries ++ frames_noted Host s.host (exchanged s.link) w)
-    on_is e = rw e refl
-
-    now : LinkState
-    now = (after_input s.link.host.side Tick).shdlc.phase
-
-    stands : Stands s.host host i now w
-    stands = steps_stand s.host host i s.link.host.side.shdlc.phase TimePasses begun tt refl (begun_stands s host i r e k s.link.host [] refl (λ y. refl))
-        (refl, refl)
-
-    phase : w.cut ≡ false → v.link.host.side.shdlc.phase ≡ now
-    phase on =
-        ap (λ b. (ticks_at_controller (exchanged s.link) (turns_at w s.host) (cond b CutOff GoesOut)).controller.side.shdlc.phase) on
-        ∙ sent_phase (after_input s.link.host.side Tick) (turns_at w s.host)
+ticks_keep s i host k =
+    by_host_tick (λ p. SiteKeepsInit (reads_init s.host p.1 i) p.0) s (λ e. record { read = k.read; runs = rw e tt })
+    (λ r e.
+    let begun : Work = work_of r s.memory.plan (λ n. s.link.host) [] in
+    let w : Work = host_tick s r in
+    let now : LinkState = (after_input s.link.host.side Tick).shdlc.phase in
+    let stands : Stands s.host host i now w =
+    steps_stand s.host host i s.link.host.side.shdlc.phase TimePasses begun tt refl (begun_stands s host i r e k s.link.host [] refl (λ y. refl)) (refl, refl) in
+    done_keeps s host i now w (exchanged s.link) (exchanged (ticks_at_controller (exchanged s.link) (turns_at w s.host) (ending_of w)))
+    (after_planned w.writes s.memory)
+    (λ on. ap (λ b. (ticks_at_controller (exchanged s.link) (turns_at w s.host) (cond b CutOff GoesOut)).controller.side.shdlc.phase) on
+    ∙ sent_phase (after_input s.link.host.side Tick) (turns_at w s.host)) stands)
 
 -- its power is cut
 pub cut_keeps : (s : Site) (i : Option Init) → SiteKeepsInit (reads_init s.host (entry.Cut s.host ∷ []) i) (host_cut s)

@@ -32,6 +32,7 @@ use Rattle.node_laws.proofs.turns.Works.{sites_is}
 use Rattle.node_laws.proofs.kept.Sites.{hosts_same}
 use Rattle.node_laws.proofs.telling.WorldTicks.{tick_host}
 use Rattle.node_laws.proofs.views.Worlds.{near_ticks_fine}
+use Rattle.node_laws.proofs.Each.{changed_same}
 
 -- ## A frame that was refused leaves the init of a node
 
@@ -46,16 +47,12 @@ counts_runs (Broken fault) k n l (Some r) so = record {
   number = so.number;
   desk = changed_if (eqb so.desk.host k) more so.desk;
   desks_are = ap (with_error k) so.desks_are;
-  host = changed (λ d. d.host) (eqb so.desk.host k) so.desk (λ d. refl) ∙ so.host;
-  no_notice = changed (λ d. d.notice) (eqb so.desk.host k) so.desk (λ d. refl) ∙ so.no_notice;
+  host = changed_same (λ (d : Desk). d.host) (eqb so.desk.host k) more so.desk (λ d. refl) ∙ so.host;
+  no_notice = changed_same (λ (d : Desk). d.notice) (eqb so.desk.host k) more so.desk (λ d. refl) ∙ so.no_notice;
   waits = so.waits;
 } where
   more : Desk → Desk
   more d = record d { errors = min 65535 (d.errors + 1) }
-
-  changed : {Y : Type 0} (p : Desk → Y) (b : Bool) (d : Desk) → ((d : Desk) → p (more d) ≡ p d) → p (changed_if b more d) ≡ p d
-  changed p true d same = same d
-  changed p false d same = refl
 counts_runs _ k n l o so = so
 
 lost_keeps : (k : ℕ) (why : Loss) (i : Option Init) (s : Site) → SiteKeepsInit i s
@@ -172,12 +169,8 @@ module _ (h : ℕ) (host : IsHost h) where
   with_keeps : (k : ℕ) (f : Site → Site) → ((s : Site) → (f s).host ≡ s.host) → (i : Option Init) → ((s : Site) → SiteKeepsInit i s → SiteKeepsInit i (f s))
       → (sites : List Site) → AtSite i (site_at sites h) → AtSite i (site_at (with_site k f sites) h)
   with_keeps k f same i one sites keeps =
-      sites_is (λ s. changed_if (eqb s.host k) f s) (λ s. changed (eqb s.host k) s) sites h (AtSite i) (λ z. subst (AtSite i) z keeps)
+      sites_is (λ s. changed_if (eqb s.host k) f s) (λ s. changed_same (λ (x : Site). x.host) (eqb s.host k) f s same) sites h (AtSite i) (λ z. subst (AtSite i) z keeps)
       (λ s z. by (eqb s.host k) s (subst (AtSite i) z keeps)) where
-        changed : (b : Bool) (s : Site) → (changed_if b f s).host ≡ s.host
-        changed true s = same s
-        changed false s = refl
-
         by : (b : Bool) (s : Site) → SiteKeepsInit i s → SiteKeepsInit i (changed_if b f s)
         by true s k = one s k
         by false s k = k
@@ -215,13 +208,11 @@ module _ (h : ℕ) (host : IsHost h) where
   cut_leaves n off = λ y. ap (λ b. cond b None y) off
 
   cut_own : (sites : List Site) (i : Option Init) → AtSite (reads_init h (entry.Cut h ∷ []) i) (site_at (with_site h host_cut sites) h)
-  cut_own sites i = sites_is (λ s. changed_if (eqb s.host h) host_cut s) (λ s. changed (eqb s.host h) s) sites h (AtSite (reads_init h (entry.Cut h ∷ []) i))
+  cut_own sites i = sites_is (λ s. changed_if (eqb s.host h) host_cut s) (λ s. changed_same (λ (x : Site). x.host) (eqb s.host h) host_cut s (λ x. refl)) sites h
+      (AtSite (reads_init h (entry.Cut h ∷ []) i))
       (λ z. ap (λ b. cond b None i) (eq-eqb h h refl))
       (λ s z. subst (λ b. SiteKeepsInit (reads_init h (entry.Cut h ∷ []) i) (changed_if b host_cut s)) (sym (eq-eqb s.host h (site_host sites h s z)))
-      (subst (λ n. SiteKeepsInit (reads_init n (entry.Cut n ∷ []) i) (host_cut s)) (site_host sites h s z) (cut_keeps s i))) where
-        changed : (b : Bool) (s : Site) → (changed_if b host_cut s).host ≡ s.host
-        changed true s = refl
-        changed false s = refl
+      (subst (λ n. SiteKeepsInit (reads_init n (entry.Cut n ∷ []) i) (host_cut s)) (site_host sites h s z) (cut_keeps s i)))
 
   pub cut_keep : (w : NodeWorld) (n : ℕ) (i : Option Init) → Has w i → So (loses_power_at n w, entry.Cut n ∷ []) i
   cut_keep w n i keeps =
@@ -284,11 +275,9 @@ module _ (h : ℕ) (host : IsHost h) where
         (own_none here) where
           own_none : site_at written.sites h ≡ None → AtSite i (site_at (with_site h (λ (s : Site). record s { node = Some runs }) written.sites) h)
           own_none here =
-              sites_is (λ s. changed_if (eqb s.host h) (λ (s : Site). record s { node = Some runs }) s) (λ s. changed (eqb s.host h) s) written.sites h
-              (AtSite i) (λ z. subst (AtSite i) here written_keeps) (λ s z. let none : None ≡ Some s = sym here ∙ z in absurd (cc none)) where
-                changed : (b : Bool) (s : Site) → (changed_if b (λ (s : Site). record s { node = Some runs }) s).host ≡ s.host
-                changed true s = refl
-                changed false s = refl
+              sites_is (λ s. changed_if (eqb s.host h) (λ (s : Site). record s { node = Some runs }) s)
+              (λ s. changed_same (λ (x : Site). x.host) (eqb s.host h) (λ (s : Site). record s { node = Some runs }) s (λ x. refl)) written.sites h
+              (AtSite i) (λ z. subst (AtSite i) here written_keeps) (λ s z. let none : None ≡ Some s = sym here ∙ z in absurd (cc none))
     own_boots q same (Some s) here =
         let at : s.host ≡ h = site_host written.sites h s here in
         let starts : SiteKeepsInit i (record s { node = Some (found s.host (s.host ∷ []) before.content) }) = boot_keeps s i s.memory before.content

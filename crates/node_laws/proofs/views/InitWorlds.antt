@@ -26,6 +26,7 @@ use Rattle.node_laws.proofs.views.HostInits.{comes_keeps, sends_keeps, begins_ke
 use Rattle.node_laws.proofs.views.Worlds.{AreFine, orderly_fine}
 use Rattle.node_laws.proofs.turns.Works.{sites_is}
 use Rattle.node_laws.proofs.telling.Worlds.{site_is as found_all}
+use Rattle.node_laws.proofs.Each.{changed_same}
 
 pub leaves_all : (h : ℕ) (es : List Entry) (i : Option Init) → AllByRecursion (LeavesInit h) es → reads_init h es i ≡ i
 leaves_all h [] i all = refl
@@ -88,23 +89,17 @@ module _ (h : ℕ) (host : IsHost h) where
   pub other_keeps : (k : ℕ) (f : Site → Site) → ((s : Site) → (f s).host ≡ s.host) → (sites : List Site) (i : Option Init) → eqb h k ≡ false
       → AtSite i (site_at sites h) → AtSite i (site_at (with_site k f sites) h)
   other_keeps k f same sites i off keeps =
-      sites_is (λ s. changed_if (eqb s.host k) f s) (λ s. changed (eqb s.host k) s) sites h (AtSite i) (λ z. subst (AtSite i) z keeps)
-      (λ s z. subst (λ b. SiteKeepsInit i (changed_if b f s)) (sym (ap (λ n. eqb n k) (site_host sites h s z) ∙ off)) (subst (AtSite i) z keeps)) where
-        changed : (b : Bool) (s : Site) → (changed_if b f s).host ≡ s.host
-        changed true s = same s
-        changed false s = refl
+      sites_is (λ s. changed_if (eqb s.host k) f s) (λ s. changed_same (λ (x : Site). x.host) (eqb s.host k) f s same) sites h (AtSite i) (λ z. subst (AtSite i) z keeps)
+      (λ s z. subst (λ b. SiteKeepsInit i (changed_if b f s)) (sym (ap (λ n. eqb n k) (site_host sites h s z) ∙ off)) (subst (AtSite i) z keeps))
 
   pub own_keeps : (f : Site → Site) → ((s : Site) → (f s).host ≡ s.host) → (sites : List Site) (s : Site) (i : Option Init) → site_at sites h ≡ Some s
       → SiteKeepsInit i (f s) → AtSite i (site_at (with_site h f sites) h)
   own_keeps f same sites s i here keeps =
-      sites_is (λ s. changed_if (eqb s.host h) f s) (λ s. changed (eqb s.host h) s) sites h (AtSite i)
+      sites_is (λ s. changed_if (eqb s.host h) f s) (λ s. changed_same (λ (x : Site). x.host) (eqb s.host h) f s same) sites h (AtSite i)
       (λ z. let none : None ≡ Some s = sym z ∙ here in absurd (cc none))
       (λ x z. let both : Some x ≡ Some s = sym z ∙ here in
       let one : s ≡ x = cc in
-      subst (λ b. SiteKeepsInit i (changed_if b f x)) (sym (eq-eqb x.host h (site_host sites h x z))) (subst (λ y. SiteKeepsInit i (f y)) one keeps)) where
-        changed : (b : Bool) (s : Site) → (changed_if b f s).host ≡ s.host
-        changed true s = same s
-        changed false s = refl
+      subst (λ b. SiteKeepsInit i (changed_if b f x)) (sym (eq-eqb x.host h (site_host sites h x z))) (subst (λ y. SiteKeepsInit i (f y)) one keeps))
 
   -- what is noted leaves it
   pub left : (v : NodeWorld) (es : List Entry) (i : Option Init) → AllByRecursion (LeavesInit h) es → Keeps v i → Then (v, es) i

@@ -18,7 +18,6 @@ use Rattle.node_laws.specs.kept.Worlds.{MayHappen}
 use Rattle.node_laws.proofs.Cases.{by_test}
 use Rattle.node_laws.proofs.kept.Kept.{all_begin}
 use Rattle.node_laws.proofs.kept.Lines.{world_goes, few_front, first_none, off_none, send_may}
-use Rattle.node_laws.proofs.telling.Mute.{AreMute}
 use Rattle.node_laws.proofs.telling.Orderly.{step_orderly, new_orderly}
 use Rattle.node_laws.proofs.notices.Events.{event_read, begins_read}
 use Rattle.node_laws.proofs.notices.Lines.{notices_of}
@@ -32,6 +31,7 @@ use Rattle.node_laws.proofs.views.Worlds.{activates_kept}
 use Rattle.node_laws.proofs.views.Events.{ticks_kept, cut_kept, memory_kept, boots_kept}
 use Rattle.node_laws.proofs.views.Losses.{lost_kept}
 use Rattle.node_laws.proofs.views.Viewing.{SessionsAreRead, PipesAreRead, same_view}
+use Rattle.node_laws.proofs.telling.Events.{sending_mute}
 
 -- the end of the link with a host is no end of 00
 pub real_of : (e : End) → IsHost e.link → e.at_host ≡ true → eqb e.link 0 ≡ false
@@ -42,9 +42,6 @@ real_of e host far = ne_eqb e.link 0 (λ z. omega (arith, z, host.0))
 module _ (e : End) (real : e.at_host ≡ true → eqb e.link 0 ≡ false) where
   sending_unset : (h : ℕ) (m : Message) → AreUnset (sending h m)
   sending_unset h m = cond_both (eqb m.0 1 && is_command_message m.1) (Orders m.1 ∷ []) (Sends h m ∷ []) AreUnset (λ _. (tt, tt)) (λ _. (tt, tt))
-
-  sending_mute : (h : ℕ) (m : Message) → AreMute (sending h m)
-  sending_mute h m = cond_both (eqb m.0 1 && is_command_message m.1) (Orders m.1 ∷ []) (Sends h m ∷ []) AreMute (λ _. (tt, tt)) (λ _. (tt, tt))
 
   pub event_kept : (w : NodeWorld) (c : Happening) (x : ErrorCount) → IsOrderly w → Known e real w x → MayBeCounted w c → Kept e real w x
       → After e real (world_step w c) x

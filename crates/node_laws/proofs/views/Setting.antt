@@ -7,7 +7,7 @@ use Rattle.std.specs.Option.{option_map_or}
 use Rattle.std.proofs.lemmas.Bool.{cond_both, eqb-true, true≢false}
 use mathlib.Core.Bool.{and-true}
 use Rattle.node_laws.proofs.Words.{Answer, Ask, Commit, Core, Decision, Deed, Drops, Ends, Entry, HciTables, InitMade, InitSame, LinkView, Message}
-use Rattle.node_laws.proofs.Words.{MessageFault, MessageKind, OfDecision, OfHost, Plain, Port, Response, Sends, SetsErrors, Tells, Up, all_of_controller}
+use Rattle.node_laws.proofs.Words.{MessageFault, MessageKind, OfDecision, OfHost, Plain, Port, Sends, SetsErrors, Tells, Up, all_of_controller}
 use Rattle.node_laws.proofs.Words.{all_of_host, answer_of, anyone, body_in, controller_deeds, decided, decision_deeds, end_view, errors_set_by, has, has_link}
 use Rattle.node_laws.proofs.Words.{header_of, host_deeds, is_opened, is_up, link_deeds, link_served, ordered_deeds, own_gate, own_view, port_at, value_in}
 use Rattle.node_laws.proofs.Words.{view_for, view_of}
@@ -21,6 +21,7 @@ use Rattle.gate_link.specs.Link.{tests_to_set_errors, count_in}
 use Rattle.node_machine.specs.Controller.{asks_for, goes_through, served_at, relayed_to}
 use Rattle.node_machine.specs.Controller.{unless_asking, kind_deeds, own_deeds, deeds_by_relay, command_deeds}
 use Rattle.node_laws.proofs.Cases.{by_option, by_test}
+use Rattle.node_laws.proofs.Cases.{by_test}
 use Rattle.node_laws.proofs.readings.Noticed.{up_is}
 
 -- an init ends so
@@ -43,28 +44,24 @@ AreUnset deeds = AllByRecursion IsUnset deeds
 
 -- what a command sets there doesn't depend on what REC_ERROR is
 pub set_same : (errors instruction : ℕ) (body : List ℕ) → (link_served errors instruction body).1 ≡ (link_served 0 instruction body).1
-set_same errors instruction body = by (eqb instruction 1) (eqb instruction 2) refl refl where
-  by : (a b : Bool) → eqb instruction 1 ≡ a → eqb instruction 2 ≡ b → (link_served errors instruction body).1 ≡ (link_served 0 instruction body).1
-  by true b p q = rw p refl
-  by false true p q = rw (p, q) (by_option (first_of (tests_to_get 6 body)) (λ q. rw q refl) (λ r q. rw q refl))
-  by false false p q = rw (p, q) refl
+set_same errors instruction body = by_test (eqb instruction 1) (λ p. rw p refl)
+    (λ p. by_test (eqb instruction 2)
+    (λ q. rw (p, q) (by_option (first_of (tests_to_get 6 body)) (λ q. rw q refl) (λ r q. rw q refl)))
+    (λ q. rw (p, q) refl))
 
 -- where it sets it, it is ANY_SET_PARAMETER, and it is answered by ANY_OK
 pub set_is : (errors instruction : ℕ) (body : List ℕ) (v : ℕ) → (link_served 0 instruction body).1 ≡ Some v
     → (link_served errors instruction body ≡ (answer_of response.Ok [], Some v)) × (eqb instruction 1 ≡ true)
-set_is errors instruction body v sets = by (eqb instruction 1) (eqb instruction 2) refl refl sets where
-  by : (a b : Bool) → eqb instruction 1 ≡ a → eqb instruction 2 ≡ b → (link_served 0 instruction body).1 ≡ Some v
-      → (link_served errors instruction body ≡ (answer_of response.Ok [], Some v)) × (eqb instruction 1 ≡ true)
-  by true b p q s = (tests (first_of (tests_to_set_errors body)) refl, p) where
-    tests : (o : Option Response) → first_of (tests_to_set_errors body) ≡ o → link_served errors instruction body ≡ (answer_of response.Ok [], Some v)
-    tests None z =
-        let is : Some (count_in (value_in body)) ≡ Some v = rw (p, z) at s in
-        rw (p, z) (ap (λ o. (answer_of response.Ok [], o)) is)
-    tests (Some r) z = let none : None ≡ Some v = rw (p, z) at s in absurd (cc none)
-  by false true p q s = by_option (first_of (tests_to_get 6 body))
-      (λ z. let none : None ≡ Some v = rw (p, q, z) at s in absurd (cc none))
-      (λ r z. let none : None ≡ Some v = rw (p, q, z) at s in absurd (cc none))
-  by false false p q s = let none : None ≡ Some v = rw (p, q) at s in absurd (cc none)
+set_is errors instruction body v s = by_test (eqb instruction 1)
+    (λ p. by_option (first_of (tests_to_set_errors body))
+    (λ z. let is : Some (count_in (value_in body)) ≡ Some v = rw (p, z) at s in
+    (rw (p, z) (ap (λ o. (answer_of response.Ok [], o)) is), p))
+    (λ r z. let none : None ≡ Some v = rw (p, z) at s in absurd (cc none)))
+    (λ p. by_test (eqb instruction 2)
+    (λ q. by_option (first_of (tests_to_get 6 body))
+    (λ z. let none : None ≡ Some v = rw (p, q, z) at s in absurd (cc none))
+    (λ r z. let none : None ≡ Some v = rw (p, q, z) at s in absurd (cc none)))
+    (λ q. let none : None ≡ Some v = rw (p, q) at s in absurd (cc none)))
 
 -- what a message sets by its header
 abbrev set_by_header : List ℕ → Result (MessageKind × ℕ) MessageFault → Option ℕ
@@ -150,10 +147,9 @@ pub data SetDeeds (ports : List Port) (h pid v : ℕ) (deeds : List Deed) : Type
   IsDropped : deeds ≡ Drops pid ∷ [] → SetDeeds ports h pid v deeds
 
 link_up : (ports : List Port) (h : ℕ) → has_link ports h ≡ true → IsUpAt ports h
-link_up ports h up = by (port_at ports h) refl up where
-  by : (o : Option Port) → port_at ports h ≡ o → option_map_or (λ (p : Port). is_up p.side.shdlc.phase) o false ≡ true → IsUpAt ports h
-  by None q u = absurd (true≢false (sym u))
-  by (Some p) q u = record { port = p; here = q; up = up_is p.side.shdlc.phase u }
+link_up ports h up = by_option (port_at ports h)
+    (λ q. let no : false ≡ true = rw q at up in absurd (true≢false (sym no)))
+    (λ p q. record { port = p; here = q; up = up_is p.side.shdlc.phase (let z = up in rw q at z) })
 
 set_deeds : (h pid errors instruction v : ℕ) (body : List ℕ) → (link_served 0 instruction body).1 ≡ Some v
     → link_deeds h pid (link_served errors instruction body) ≡ SetsErrors v ∷ Sends h (pid, answer_of response.Ok []) ∷ []

@@ -22,6 +22,7 @@ use Rattle.node_laws.proofs.views.Setting.{is_link_gate, controller_unset, host_
 use Rattle.node_laws.proofs.views.Setting.SetDeeds.{IsSet, IsRefused, IsDropped}
 use Rattle.node_laws.proofs.views.Doing.{side_of, own_is, HasErrors, map_has, Right, desks, turns, unless, IsFine, unset_fine, all_do, holds, lets}
 use Rattle.node_laws.proofs.kept.Plainly.{hosts_map, fetch_none}
+use Rattle.node_laws.proofs.Each.{changed_same}
 
 -- ## Messages that are sent
 
@@ -31,16 +32,12 @@ record Takes (ports : List Port) (h : ℕ) (m : Message) : Type 0 where
   here : port_at ports h ≡ Some port
   takes : give_refusal port.side m ≡ None
 
-changed_same : {Y : Type 0} (g : Port → Y) (b : Bool) (f : Port → Port) (p : Port) → ((q : Port) → g (f q) ≡ g q) → g (changed_if b f p) ≡ g p
-changed_same g true f p same = same p
-changed_same g false f p same = refl
-
 takes_with : (ports : List Port) (h : ℕ) (m : Message) (k : ℕ) (f : Port → Port) → ((p : Port) → (f p).desk.host ≡ p.desk.host)
     → ((p : Port) → give_refusal (f p).side m ≡ give_refusal p.side m) → Takes ports h m → Takes (with_port k f ports) h m
 takes_with ports h m k f host same t = record {
   port = changed_if (eqb t.port.desk.host k) f t.port;
-  here = at_map (λ p. changed_if (eqb p.desk.host k) f p) (λ p. changed_same (λ q. q.desk.host) (eqb p.desk.host k) f p host) ports h t.port t.here;
-  takes = changed_same (λ q. give_refusal q.side m) (eqb t.port.desk.host k) f t.port same ∙ t.takes;
+  here = at_map (λ p. changed_if (eqb p.desk.host k) f p) (λ p. changed_same (λ (q : Port). q.desk.host) (eqb p.desk.host k) f p host) ports h t.port t.here;
+  takes = changed_same (λ (q : Port). give_refusal q.side m) (eqb t.port.desk.host k) f t.port same ∙ t.takes;
 }
 
 room_takes : (e : LinkEnd) (m : Message) → e.shdlc.phase ≡ Up → nat_lt 4096 (length m.1) ≡ false → nat_lt (spare e) (need m.1) ≡ false → give_refusal e m ≡ None
@@ -65,12 +62,12 @@ sent_noted w h m t = ap (λ es. w.entries ++ es) (ap (λ o. option_map_or (noted
 
 with_hosts : (k : ℕ) (f : Port → Port) → ((p : Port) → (f p).desk.host ≡ p.desk.host) → (ports : List Port)
     → hosts_of_ends (with_port k f ports) ≡ hosts_of_ends ports
-with_hosts k f host ports = hosts_map (λ p. changed_if (eqb p.desk.host k) f p) (λ p. changed_same (λ q. q.desk.host) (eqb p.desk.host k) f p host) ports
+with_hosts k f host ports = hosts_map (λ p. changed_if (eqb p.desk.host k) f p) (λ p. changed_same (λ (q : Port). q.desk.host) (eqb p.desk.host k) f p host) ports
 
 with_has : (e : End) (n k : ℕ) (f : Port → Port) → ((p : Port) → (f p).desk.host ≡ p.desk.host) → ((p : Port) → (f p).desk.errors ≡ p.desk.errors)
     → (ports : List Port) → AllByRecursion (HasErrors e n) ports → AllByRecursion (HasErrors e n) (with_port k f ports)
 with_has e n k f host errors ports all = map_has e n (λ p. changed_if (eqb p.desk.host k) f p) (λ p has is.
-    changed_same (λ q. q.desk.errors) (eqb p.desk.host k) f p errors ∙ has (ap (λ h. eqb h e.link) (sym (changed_same (λ q. q.desk.host) (eqb p.desk.host k) f p
+    changed_same (λ (q : Port). q.desk.errors) (eqb p.desk.host k) f p errors ∙ has (ap (λ h. eqb h e.link) (sym (changed_same (λ (q : Port). q.desk.host) (eqb p.desk.host k) f p
     host)) ∙ is)) ports all
 
 -- it is set at the end itself

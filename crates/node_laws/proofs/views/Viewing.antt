@@ -143,16 +143,14 @@ module _ (t : List Entry) (w : NodeWorld) (r : Running) (runs : w.controller ≡
             ap₂ (λ a b. a && b) up open_is ∙ sym (ap (λ o. is_some o && is_connected_in t h) q)
 
   noticed : (h : ℕ) → option_map_or (λ (p : Port). is_some p.desk.notice) (port_at (ends_between w.sites r) h) false ≡ is_some (notice_in t h)
-  noticed h = tested (λ p. is_some p.desk.notice) h ∙ by (desk_of h) refl where
-    by : (o : Option Desk) → desk_of h ≡ o → option_map_or (λ (p : Port). is_some p.desk.notice) (option_map end_of_desk o) false ≡ is_some (notice_in t h)
-    by None q = sym (ap is_some (none_read (notice_in t h) (kept_at h None q)))
-    by (Some d) q = noticed_is (notice_in t h) (end_of_desk d) (kept_at h (Some d) q)
+  noticed h = tested (λ p. is_some p.desk.notice) h ∙ by_option (desk_of h)
+      (λ q. rw q (sym (ap is_some (none_read (notice_in t h) (kept_at h None q)))))
+      (λ d q. rw q (noticed_is (notice_in t h) (end_of_desk d) (kept_at h (Some d) q)))
 
   asked : (h : ℕ) → option_map_or is_asked_at (port_at (ends_between w.sites r) h) false ≡ is_of_creation (notice_in t h)
-  asked h = tested is_asked_at h ∙ by (desk_of h) refl where
-    by : (o : Option Desk) → desk_of h ≡ o → option_map_or is_asked_at (option_map end_of_desk o) false ≡ is_of_creation (notice_in t h)
-    by None q = sym (ap is_of_creation (none_read (notice_in t h) (kept_at h None q)))
-    by (Some d) q = asked_is (notice_in t h) (end_of_desk d) (kept_at h (Some d) q)
+  asked h = tested is_asked_at h ∙ by_option (desk_of h)
+      (λ q. rw q (sym (ap is_of_creation (none_read (notice_in t h) (kept_at h None q)))))
+      (λ d q. rw q (asked_is (notice_in t h) (end_of_desk d) (kept_at h (Some d) q)))
 
   counted : (h : ℕ) → IsHost h → is_one_of (hosts_in w.sites) h ≡ true → option_map_or (λ (p : Port). p.desk.errors) (port_at (ends_between w.sites r) h) 0
       ≡ errors_in t (end_c h)

@@ -1,5 +1,5 @@
 -- What happens to a world: a node that runs keeps what is read of REC_ERROR of its end.
-use Rattle.std.proofs.Common.{◌≡◌, ◌⊎◌, inl, inr, ℕ, Bool, true, false, cond, eqb, List, [], ◌∷◌, ◌++◌, map, sym, refl, ap, ◌∙◌, subst}
+use Rattle.std.proofs.Common.{◌≡◌, ◌⊎◌, inl, inr, ℕ, true, false, cond, eqb, List, [], ◌∷◌, ◌++◌, map, sym, refl, ap, ◌∙◌, subst}
 use Rattle.std.specs.Prelude.{Option, Some, None}
 use Rattle.std.specs.List.{AllByRecursion, flat_map}
 use Rattle.std.proofs.lemmas.Bool.{cases_Bool, eqb-true, eq-eqb, true≢false, ne_eqb, eqb-false}
@@ -21,6 +21,7 @@ use Rattle.node_laws.proofs.views.Nodes.{arrival_still}
 use Rattle.node_laws.proofs.turns.Works.{sites_is}
 use Rattle.node_laws.proofs.telling.Worlds.{site_is}
 use Rattle.node_laws.proofs.kept.Sites.{hosts_same}
+use Rattle.node_laws.proofs.Each.{changed_same}
 
 -- ## Sites
 
@@ -35,20 +36,16 @@ pub node_map : (g : Site → Site) → ((s : Site) → (g s).host ≡ s.host) �
 node_map g host node sites h = sites_is g host sites h (λ o. far_node o ≡ far_node (site_at sites h)) (λ z. sym (ap far_node z))
     (λ s z. node s ∙ sym (ap far_node z))
 
-changed_site : {Y : Type 0} (p : Site → Y) (b : Bool) (f : Site → Site) (s : Site) → ((s : Site) → p (f s) ≡ p s) → p (changed_if b f s) ≡ p s
-changed_site p true f s same = same s
-changed_site p false f s same = refl
-
 pub with_kept : (k : ℕ) (f : Site → Site) → ((s : Site) → (f s).host ≡ s.host) → ((s : Site) → (f s).node ≡ s.node) → (sites : List Site) (h : ℕ)
     → far_node (site_at (with_site k f sites) h) ≡ far_node (site_at sites h)
-with_kept k f host node sites h = node_map (λ s. changed_if (eqb s.host k) f s) (λ s. changed_site (λ x. x.host) (eqb s.host k) f s host)
-    (λ s. changed_site (λ x. x.node) (eqb s.host k) f s node) sites h
+with_kept k f host node sites h = node_map (λ s. changed_if (eqb s.host k) f s) (λ s. changed_same (λ x. x.host) (eqb s.host k) f s host)
+    (λ s. changed_same (λ x. x.node) (eqb s.host k) f s node) sites h
 
 -- another host is changed
 pub with_other : (k : ℕ) (f : Site → Site) → ((s : Site) → (f s).host ≡ s.host) → (sites : List Site) (h : ℕ) → eqb h k ≡ false
     → far_node (site_at (with_site k f sites) h) ≡ far_node (site_at sites h)
 with_other k f host sites h off =
-    sites_is (λ s. changed_if (eqb s.host k) f s) (λ s. changed_site (λ x. x.host) (eqb s.host k) f s host) sites h
+    sites_is (λ s. changed_if (eqb s.host k) f s) (λ s. changed_same (λ x. x.host) (eqb s.host k) f s host) sites h
     (λ o. far_node o ≡ far_node (site_at sites h)) (λ z. sym (ap far_node z))
     (λ s z. ap (λ b. (changed_if b f s).node) (ap (λ n. eqb n k) (site_host sites h s z) ∙ off) ∙ sym (ap far_node z))
 
@@ -56,7 +53,7 @@ with_other k f host sites h off =
 pub with_own : (k : ℕ) (f : Site → Site) → ((s : Site) → (f s).host ≡ s.host) → (sites : List Site) (s : Site) → site_at sites k ≡ Some s
     → far_node (site_at (with_site k f sites) k) ≡ (f s).node
 with_own k f host sites s here =
-    sites_is (λ s. changed_if (eqb s.host k) f s) (λ s. changed_site (λ x. x.host) (eqb s.host k) f s host) sites k (λ o. far_node o ≡ (f s).node)
+    sites_is (λ s. changed_if (eqb s.host k) f s) (λ s. changed_same (λ x. x.host) (eqb s.host k) f s host) sites k (λ o. far_node o ≡ (f s).node)
     (λ z. let no : None ≡ Some s = sym z ∙ here in absurd (cc no))
     (λ x z. let both : Some x ≡ Some s = sym z ∙ here in
     let one : x ≡ s = cc in
@@ -66,7 +63,7 @@ with_own k f host sites s here =
 pub with_none : (k : ℕ) (f : Site → Site) → ((s : Site) → (f s).host ≡ s.host) → (sites : List Site) (h : ℕ) → site_at sites h ≡ None
     → far_node (site_at (with_site k f sites) h) ≡ None
 with_none k f host sites h none =
-    sites_is (λ s. changed_if (eqb s.host k) f s) (λ s. changed_site (λ x. x.host) (eqb s.host k) f s host) sites h (λ o. far_node o ≡ None) (λ z. refl)
+    sites_is (λ s. changed_if (eqb s.host k) f s) (λ s. changed_same (λ x. x.host) (eqb s.host k) f s host) sites h (λ o. far_node o ≡ None) (λ z. refl)
     (λ s z. let no : None ≡ Some s = sym none ∙ z in absurd (cc no))
 
 -- hosts have different numbers, none of them 00, and each has an end on its own link
