@@ -97,7 +97,8 @@ came_none (AtEnd h i) w outside a = all_came (AtEnd h i) w outside a
 came_none TimePasses w outside a =
     let b : HaveNone (all_come TimePasses w) = all_came TimePasses w outside a in record {
       number = b.number;
-      ends = all_map HasNone HasNone reset_late late_none (map with_older (all_come TimePasses w).ports) (all_map HasNone HasNone with_older (λ p c. c) (all_come TimePasses w).ports b.ends);
+      ends = all_map HasNone HasNone reset_late late_none (map with_older (all_come TimePasses w).ports)
+          (all_map HasNone HasNone with_older (λ p c. c) (all_come TimePasses w).ports b.ends);
     }
 
 without_none : (p : Port) → HasNone p → HasNone (without_notice p)

@@ -319,7 +319,8 @@ module _ (hosts : List ℕ) (are : AreHosts hosts) where
     no_boots : (n : ℕ) → eqb n 0 ≡ false → site_at w.sites n ≡ None → GoesBy t (boots w n)
     no_boots n off here =
         rw off (rw here (rw off (rw here
-        (subst (λ l. Goes hosts are t (record w { sites = with_site n (λ (s : Site). record s { node = Some (found n (n ∷ []) []) }) l }) (entry.Booted n 0 ∷ []))
+        (subst (λ l. Goes hosts are t (record w { sites = with_site n (λ (s : Site). record s { node = Some (found n (n ∷ []) []) }) l })
+        (entry.Booted n 0 ∷ []))
         (sym (with_none n (λ (s : Site). record s { memory = after_planned (boot_writes []) (new_memory []) }) w.sites strange))
         (subst (λ l. Goes hosts are t (record w { sites = l }) (entry.Booted n 0 ∷ []))
         (sym (with_none n (λ (s : Site). record s { node = Some (found n (n ∷ []) []) }) w.sites strange))

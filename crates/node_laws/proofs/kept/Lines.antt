@@ -184,7 +184,8 @@ module _ (hosts : List ℕ) (are : AreHosts hosts) where
   line_goes : (t : List Entry) (w : NodeWorld) (l : Line) → AllKeep hosts t w → IsSentByHost l
       → IsFew (t ++ entries_in (occurrences_of (line_step w l).1)) → LineFine t (line_step w l)
   line_goes t w l all side few = by_option (refusal_in w l)
-      (λ e. rw e (on_goes t w l all (line_may w l side e) (subst (λ (p : NodeWorld × LineOutcome). IsFew (t ++ entries_in (occurrences_of p.1))) (goes_is w l e) few)))
+      (λ e. rw e (on_goes t w l all (line_may w l side e)
+      (subst (λ (p : NodeWorld × LineOutcome). IsFew (t ++ entries_in (occurrences_of p.1))) (goes_is w l e) few)))
       (λ cause e. rw e (goes_not hosts are t w all))
 
   -- ## Tables that are told

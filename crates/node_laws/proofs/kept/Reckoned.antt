@@ -41,7 +41,7 @@ plain_nothing n (entry.Cut m) is = absurd is
 plain_nothing n (entry.AnyOk m k) is = absurd is
 plain_nothing n _ is = record { same = λ r. refl; uncut = refl; as_read = λ r. tt }
 
-other_test : (m n k : ℕ) → k ≡ m → (m ≡ n → ⊥) → eqb k n ≡ false
+pub other_test : (m n k : ℕ) → k ≡ m → (m ≡ n → ⊥) → eqb k n ≡ false
 other_test m n k is other = ne_eqb k n (λ same. other (sym is ∙ same))
 
 pub other_nothing : (m n : ℕ) (e : Entry) → (m ≡ n → ⊥) → IsOf m e → IsNothingFor n e

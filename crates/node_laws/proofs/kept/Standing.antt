@@ -7,7 +7,7 @@ use Rattle.node_laws.proofs.Words.{AreToldBehind, Book, Desk, Entry, IfRuns, IsO
 use Rattle.node_laws.proofs.Words.{StillRuns, WaitsAt, WaitsFor, Work, WouldFind, after_planned, book_after, book_in, close, count_of, hosts_of_ends}
 use Rattle.node_laws.proofs.Words.{last_after, last_in, port_for, reckoning_of, runs_on, with_command, with_found, work_of}
 use Rattle.trace_model.specs.declared.entry.Entry.TheVariants as entry
-use Rattle.node_laws.proofs.kept.Reckoned.{idle_make, plain_idles}
+use Rattle.node_laws.proofs.kept.Reckoned.{idle_make, other_test, plain_idles}
 use Rattle.node_laws.proofs.kept.Books.{book_more, last_more, plain_book, plain_last, plain_told, plain_own, closed_book, finds_all}
 use Rattle.node_laws.proofs.kept.Asking.{NoneNew, may_still, map_new, map_two}
 use Rattle.node_laws.proofs.kept.Doing.{GoesOn_or_lost}
@@ -24,9 +24,6 @@ same_then n t u v a b = record { book = b.book ∙ a.book; last = b.last ∙ a.l
 
 pub plain_same : (n : ℕ) (t es : List Entry) → AllByRecursion IsPlain es → IsSame n t (t ++ es)
 plain_same n t es plain = record { book = plain_book t es n plain; last = plain_last t es n plain }
-
-other_test : (m n k : ℕ) → k ≡ m → (m ≡ n → ⊥) → eqb k n ≡ false
-other_test m n k is other = ne_eqb k n (λ same. other (sym is ∙ same))
 
 other_book : (m n : ℕ) (b : Book) (e : Entry) → (m ≡ n → ⊥) → IsOf m e → book_after n b e ≡ b
 other_book m n b (entry.Command k c) other is = ap (λ x. cond x (with_command c b) b) (other_test m n k is other)

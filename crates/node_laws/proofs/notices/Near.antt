@@ -23,7 +23,8 @@ use Rattle.node_laws.proofs.notices.Shut.{here_shut, ticks_shut}
 use Rattle.node_laws.proofs.notices.Steps.{steps_stand}
 use Rattle.node_laws.proofs.notices.Far.{AreFar, far-append, far_flat, far_reads, far_asks, asking_more, quiet_far}
 use Rattle.node_laws.proofs.notices.Far.{steps_far}
-use Rattle.node_laws.proofs.notices.Sites.{AreGood, Reads, still_reads, far_hushed, good_map, link_shut, frames_quiet, arrival_quiet, nothing, host_reads, far_reads_so}
+use Rattle.node_laws.proofs.notices.Sites.{AreGood, Reads, still_reads, far_hushed, good_map, link_shut, frames_quiet, arrival_quiet, nothing, host_reads}
+use Rattle.node_laws.proofs.notices.Sites.{far_reads_so}
 use Rattle.node_laws.proofs.notices.Sites.{all_tick}
 use Rattle.node_laws.proofs.telling.Nodes.{ports_for, hosts_same}
 use Rattle.node_laws.proofs.Cases.{by_test}

@@ -117,7 +117,8 @@ module _ (t : List Entry) (w : NodeWorld) (a : Reads t w) where
   -- something comes to the end of a host
   pub far_reads_so : (e : End) (comes : Comes) → e.at_host ≡ true → Reads (t ++ (comes_at w e comes).1) (comes_at w e comes).0
   far_reads_so e comes far =
-      by_coming (λ p. Reads (t ++ p.1) p.0) w e comes nothing (λ i at q. host_reads e.link comes (steps (AtEnd e.link i)) (λ k b. steps_far (AtEnd e.link i) k b))
+      by_coming (λ p. Reads (t ++ p.1) p.0) w e comes nothing
+      (λ i at q. host_reads e.link comes (steps (AtEnd e.link i)) (λ k b. steps_far (AtEnd e.link i) k b))
       (λ i at q. absurd (true≢false (sym far ∙ at)))
 
   -- a host begins by deeds of its own
@@ -139,7 +140,8 @@ one_tick s good =
     (λ e. (record { host = good.host; node = good.node; shut = far_tick_shut s.link [] GoesOut good.shut }, tt))
     (λ r e.
     let k : Work = host_tick s r in
-    let far : IsFarWork k = steps_far TimePasses (work_of r s.memory.plan (λ h. s.link.host) []) (record { number = subst IfHostNode e good.node; far = tt }) in (
+    let far : IsFarWork k = steps_far TimePasses (work_of r s.memory.plan (λ h. s.link.host) [])
+    (record { number = subst IfHostNode e good.node; far = tt }) in (
       record { host = good.host; node = runs_far k far; shut = far_tick_shut s.link (turns_at k s.host) (ending_of k) good.shut },
       far-append k.entries (frames_noted Host s.host (exchanged s.link) k) far.far (frames_quiet Host s.host (exchanged s.link) k),
     ))

@@ -151,7 +151,8 @@ module _ (w : NodeWorld) (t : List Entry) (X : ℕ → WatchedLink) (a : IsWell 
       (controller_does w k comes (steps (AtEnd k i))).0
   controller_each plain =
       by_controller (λ z. Each (t ++ z.1) (later X z.1) z.0) w k comes (steps (AtEnd k i)) (each_empty t X w each)
-      (λ r e. each_alike (t ++ u r e) (Y r e) (later X (u r e)) (after_controller w k comes (v r e)).0 (λ h. ap (λ x. watched h x (u r e)) (plain h)) (after r e))
+      (λ r e. each_alike (t ++ u r e) (Y r e) (later X (u r e)) (after_controller w k comes (v r e)).0
+      (λ h. ap (λ x. watched h x (u r e)) (plain h)) (after r e))
 
 -- ## Steps of a host
 
@@ -419,7 +420,8 @@ counts_off _ h o new e a = a
 pub lost_each : (w : NodeWorld) (t : List Entry) (X : ℕ → WatchedLink) (e : End) (why : Loss) → Each t X w
     → Each (t ++ (frame_lost w e why).1) (later X (frame_lost w e why).1) (frame_lost w e why).0
 lost_each w t X e why each = by_test e.at_host
-    (λ q. rw q (each_site w w.memory w.controller t to_host X e.link (λ s. record s { link = happens s.link (AtHost (Lose why)); node = counts why e.link s.node }) (λ s. refl) (λ h s b. b)
+    (λ q. rw q (each_site w w.memory w.controller t to_host X e.link
+    (λ s. record s { link = happens s.link (AtHost (Lose why)); node = counts why e.link s.node }) (λ s. refl) (λ h s b. b)
     (λ s there b.
     let told : TellOf e.link s.link (AtHost (Lose why)) to_host =
     ap (λ (l : Link). of_link e.link (entries_for e.link (first_lost Host why l.to_host))) (link_is w.sites e.link s there) in

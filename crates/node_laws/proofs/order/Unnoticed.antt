@@ -115,7 +115,8 @@ came_none : (input : NodeInput) (w : Work) → HasNoNotices w → AllByRecursion
 came_none (AtEnd h i) w a = all_map HasNone HasNone (λ p. has_come p (input_at (AtEnd h i) p)) (λ p b. come_none p (input_at (AtEnd h i) p) b) w.ports a.none
 came_none TimePasses w a =
     all_map HasNone HasNone reset_late late_none _
-    (all_map HasNone HasNone with_older older_none _ (all_map HasNone HasNone (λ p. has_come p (input_at TimePasses p)) (λ p b. come_none p (input_at TimePasses p) b) w.ports a.none))
+    (all_map HasNone HasNone with_older older_none _
+    (all_map HasNone HasNone (λ p. has_come p (input_at TimePasses p)) (λ p b. come_none p (input_at TimePasses p) b) w.ports a.none))
 
 pub steps_none : (input : NodeInput) (w : Work) → HasNoNotices w → HasNoNotices (steps input w)
 steps_none input w a =
@@ -125,7 +126,8 @@ steps_none input w a =
     let so : (came.core.node == 0) ≡ false = ap (λ (c : Core). c.node == 0) (came_node input w) ∙ a.host in
     let first : HasNoNotices begun = record {
       host = ap (λ n. n == 0) (sessions_node came.core came.ports) ∙ so;
-      none = all_map HasNone HasNone without_notice without_none left (all_map HasNone HasNone (forgets came.ports) (forgets_none came.ports) came.ports (came_none input w a));
+      none = all_map HasNone HasNone without_notice without_none left
+          (all_map HasNone HasNone (forgets came.ports) (forgets_none came.ports) came.ports (came_none input w a));
     } in
     rest_lasts HasNoNotices IsUnnoticed Any none_lasts (forgotten came.ports) (flat_map (synced w.core input) w.ports) (all_owed left) begun
     (forgotten_hold IsUnnoticed (λ asker. tt) came.ports) (all_synced_hold IsUnnoticed (λ host id. tt) w.core input w.ports)

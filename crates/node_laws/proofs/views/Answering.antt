@@ -187,7 +187,8 @@ module _ (h : ℕ) (now : LinkState) where
         by_pipe : (eqb m.0 1 ≡ true) ⊎ (eqb m.0 1 ≡ false) → Fine (cond (eqb m.0 1) (response_deeds (own_view core) n (body_in m.1)) [])
         by_pipe (inl one) =
             subst (λ b. MayGo (cond (b && is_response m.1) (option_map with_response core.init) core.init) core.command core.init (cond b
-            (response_deeds (own_view core) n (body_in m.1)) [])) (sym one) (rw z (response_go n (body_in m.1) (sym phase ∙ up_of p.side.shdlc.phase q) (λ some. (waits some).0)))
+            (response_deeds (own_view core) n (body_in m.1)) [])) (sym one)
+            (rw z (response_go n (body_in m.1) (sym phase ∙ up_of p.side.shdlc.phase q) (λ some. (waits some).0)))
         by_pipe (inr off) =
             subst (λ b. MayGo (cond (b && is_response m.1) (option_map with_response core.init) core.init) core.command core.init (cond b
             (response_deeds (own_view core) n (body_in m.1)) [])) (sym off) (neutral_all core.init [] refl waits tt)

@@ -184,7 +184,8 @@ module _ (e : End) (hosts : List ℕ) (x0 : ErrorCount) where
   sets_other k v w off r = record {
     number = r.number;
     side = r.side;
-    hosts_are = hosts_map (λ p. changed_if (eqb p.desk.host k) set p) (λ p. changed_same (λ (q : Port). q.desk.host) (eqb p.desk.host k) set p (λ q. refl)) w.ports ∙ r.hosts_are;
+    hosts_are = hosts_map (λ p. changed_if (eqb p.desk.host k) set p)
+        (λ p. changed_same (λ (q : Port). q.desk.host) (eqb p.desk.host k) set p (λ q. refl)) w.ports ∙ r.hosts_are;
     errors = r.errors;
     read = r.read;
     ends = map_has e r.errors (λ p. changed_if (eqb p.desk.host k) set p) (λ p has. by p has (eqb p.desk.host k) refl) w.ports r.ends;

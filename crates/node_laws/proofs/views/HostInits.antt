@@ -150,7 +150,8 @@ ticks_keep s i host k =
     let w : Work = host_tick s r in
     let now : LinkState = (after_input s.link.host.side Tick).shdlc.phase in
     let stands : Stands s.host host i now w =
-    steps_stand s.host host i s.link.host.side.shdlc.phase TimePasses begun tt refl (begun_stands s host i r e k s.link.host [] refl (λ y. refl)) (refl, refl) in
+    steps_stand s.host host i s.link.host.side.shdlc.phase TimePasses begun tt refl (begun_stands s host i r e k s.link.host [] refl (λ y. refl))
+    (refl, refl) in
     done_keeps s host i now w (exchanged s.link) (exchanged (ticks_at_controller (exchanged s.link) (turns_at w s.host) (ending_of w)))
     (after_planned w.writes s.memory)
     (λ on. ap (λ b. (ticks_at_controller (exchanged s.link) (turns_at w s.host) (cond b CutOff GoesOut)).controller.side.shdlc.phase) on

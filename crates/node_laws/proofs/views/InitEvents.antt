@@ -169,7 +169,8 @@ module _ (h : ℕ) (host : IsHost h) where
   with_keeps : (k : ℕ) (f : Site → Site) → ((s : Site) → (f s).host ≡ s.host) → (i : Option Init) → ((s : Site) → SiteKeepsInit i s → SiteKeepsInit i (f s))
       → (sites : List Site) → AtSite i (site_at sites h) → AtSite i (site_at (with_site k f sites) h)
   with_keeps k f same i one sites keeps =
-      sites_is (λ s. changed_if (eqb s.host k) f s) (λ s. changed_same (λ (x : Site). x.host) (eqb s.host k) f s same) sites h (AtSite i) (λ z. subst (AtSite i) z keeps)
+      sites_is (λ s. changed_if (eqb s.host k) f s) (λ s. changed_same (λ (x : Site). x.host) (eqb s.host k) f s same) sites h (AtSite i)
+      (λ z. subst (AtSite i) z keeps)
       (λ s z. by (eqb s.host k) s (subst (AtSite i) z keeps)) where
         by : (b : Bool) (s : Site) → SiteKeepsInit i s → SiteKeepsInit i (changed_if b f s)
         by true s k = one s k
@@ -208,7 +209,8 @@ module _ (h : ℕ) (host : IsHost h) where
   cut_leaves n off = λ y. ap (λ b. cond b None y) off
 
   cut_own : (sites : List Site) (i : Option Init) → AtSite (reads_init h (entry.Cut h ∷ []) i) (site_at (with_site h host_cut sites) h)
-  cut_own sites i = sites_is (λ s. changed_if (eqb s.host h) host_cut s) (λ s. changed_same (λ (x : Site). x.host) (eqb s.host h) host_cut s (λ x. refl)) sites h
+  cut_own sites i = sites_is (λ s. changed_if (eqb s.host h) host_cut s)
+      (λ s. changed_same (λ (x : Site). x.host) (eqb s.host h) host_cut s (λ x. refl)) sites h
       (AtSite (reads_init h (entry.Cut h ∷ []) i))
       (λ z. ap (λ b. cond b None i) (eq-eqb h h refl))
       (λ s z. subst (λ b. SiteKeepsInit (reads_init h (entry.Cut h ∷ []) i) (changed_if b host_cut s)) (sym (eq-eqb s.host h (site_host sites h s z)))

@@ -89,7 +89,8 @@ module _ (h : ℕ) (host : IsHost h) where
   pub other_keeps : (k : ℕ) (f : Site → Site) → ((s : Site) → (f s).host ≡ s.host) → (sites : List Site) (i : Option Init) → eqb h k ≡ false
       → AtSite i (site_at sites h) → AtSite i (site_at (with_site k f sites) h)
   other_keeps k f same sites i off keeps =
-      sites_is (λ s. changed_if (eqb s.host k) f s) (λ s. changed_same (λ (x : Site). x.host) (eqb s.host k) f s same) sites h (AtSite i) (λ z. subst (AtSite i) z keeps)
+      sites_is (λ s. changed_if (eqb s.host k) f s) (λ s. changed_same (λ (x : Site). x.host) (eqb s.host k) f s same) sites h (AtSite i)
+      (λ z. subst (AtSite i) z keeps)
       (λ s z. subst (λ b. SiteKeepsInit i (changed_if b f s)) (sym (ap (λ n. eqb n k) (site_host sites h s z) ∙ off)) (subst (AtSite i) z keeps))
 
   pub own_keeps : (f : Site → Site) → ((s : Site) → (f s).host ≡ s.host) → (sites : List Site) (s : Site) (i : Option Init) → site_at sites h ≡ Some s

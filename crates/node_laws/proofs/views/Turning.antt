@@ -62,12 +62,14 @@ sent_noted w h m t = ap (λ es. w.entries ++ es) (ap (λ o. option_map_or (noted
 
 with_hosts : (k : ℕ) (f : Port → Port) → ((p : Port) → (f p).desk.host ≡ p.desk.host) → (ports : List Port)
     → hosts_of_ends (with_port k f ports) ≡ hosts_of_ends ports
-with_hosts k f host ports = hosts_map (λ p. changed_if (eqb p.desk.host k) f p) (λ p. changed_same (λ (q : Port). q.desk.host) (eqb p.desk.host k) f p host) ports
+with_hosts k f host ports = hosts_map (λ p. changed_if (eqb p.desk.host k) f p)
+    (λ p. changed_same (λ (q : Port). q.desk.host) (eqb p.desk.host k) f p host) ports
 
 with_has : (e : End) (n k : ℕ) (f : Port → Port) → ((p : Port) → (f p).desk.host ≡ p.desk.host) → ((p : Port) → (f p).desk.errors ≡ p.desk.errors)
     → (ports : List Port) → AllByRecursion (HasErrors e n) ports → AllByRecursion (HasErrors e n) (with_port k f ports)
 with_has e n k f host errors ports all = map_has e n (λ p. changed_if (eqb p.desk.host k) f p) (λ p has is.
-    changed_same (λ (q : Port). q.desk.errors) (eqb p.desk.host k) f p errors ∙ has (ap (λ h. eqb h e.link) (sym (changed_same (λ (q : Port). q.desk.host) (eqb p.desk.host k) f p
+    changed_same (λ (q : Port). q.desk.errors) (eqb p.desk.host k) f p errors
+    ∙ has (ap (λ h. eqb h e.link) (sym (changed_same (λ (q : Port). q.desk.host) (eqb p.desk.host k) f p
     host)) ∙ is)) ports all
 
 -- it is set at the end itself
