@@ -6,12 +6,11 @@ use Rattle.std.specs.Prelude.{replicate}
 use Rattle.std.specs.List.{AllByRecursion}
 use Rattle.std.proofs.lemmas.Bool.{eqb-true, eq-eqb}
 use Rattle.node_laws.proofs.Words.{AcksAtMost, Activates, AreDifferent, AreHosts, ArePlayable, End, FollowsNodes, Gives, Good, Happening, Header, IsLine, Line}
-use Rattle.node_laws.proofs.Words.{Link, LinkEvent, NodeHistory, NodeWorld, Occurrence, Reached, Resets, Site, Takes, after_link_events, all_happen, can_happen}
-use Rattle.node_laws.proofs.Words.{core_of, ends_in_order, ends_take_all, frames_at, from_start, happenings, hosts_in, link_events_in, new_line, new_site}
-use Rattle.node_laws.proofs.Words.{new_world, occurrences_in, reached, site_at, world_behind, world_step}
+use Rattle.node_laws.proofs.Words.{Link, LinkEvent, NodeHistory, NodeWorld, Occurrence, Reached, Resets, Site, Takes, after_link_events, all_happen, by_test}
+use Rattle.node_laws.proofs.Words.{can_happen, core_of, ends_in_order, ends_take_all, frames_at, from_start, happenings, hosts_in, link_events_in, new_line}
+use Rattle.node_laws.proofs.Words.{new_site, new_world, occurrences_in, reached, site_at, world_behind, world_step}
 use Rattle.trace_model.specs.declared.line.Line.TheVariants as line
 use Rattle.node_machine.specs.world.World.Happening.{Ticks as TimePassing}
-use Rattle.node_laws.proofs.Cases.{by_test}
 use Rattle.node_laws.proofs.telling.Nodes.{swapped}
 use Rattle.node_laws.proofs.telling.Worlds.{site_is}
 use Rattle.node_laws.proofs.links.Playing.{MayHappen, step_fine, world_fine}

@@ -6,12 +6,12 @@ use Rattle.node_laws.proofs.Words.{AcksAtMost, Activates, AllAllowed, AllAtContr
 use Rattle.node_laws.proofs.Words.{AtEnd, AtHost, Boots, CanCome, Comes, CutOff, Deed, End, Ending, Gives, Happening, Inits, IsCut, IsEvent, Link, LinkEvent}
 use Rattle.node_laws.proofs.Words.{Lose, Loses, Loss, Memory, NextFrame, NoInput, NodeWorld, NumberedEnd, Resets, Running, Site, Start, Starts, Step, Takes}
 use Rattle.node_laws.proofs.Words.{Turn, Work, after_host, after_planned, beginning, begins_with, boot_found, boot_writes, boot_written, boots, by_boot}
-use Rattle.node_laws.proofs.Words.{by_coming, by_controller, by_host, by_loss, by_memory, by_power, by_running, changed_if, comes_at, comes_to, controller_does}
-use Rattle.node_laws.proofs.Words.{controller_work, counts, end_c, end_h, ending_of, ends_in_order, ends_take_all, exchanged, frame_lost, frames_at, happens}
-use Rattle.node_laws.proofs.Words.{host_cut, host_does, host_work, link_after_controller, link_events_in, link_to, loses_power_at, memory_at, near_end_in}
-use Rattle.node_laws.proofs.Words.{new_world, sending, site_at, site_lost, steps, turns_at, with_memory, with_node, with_site, work_of, world_step}
+use Rattle.node_laws.proofs.Words.{by_coming, by_controller, by_host, by_loss, by_memory, by_power, by_running, by_test, changed_if, comes_at, comes_to}
+use Rattle.node_laws.proofs.Words.{controller_does, controller_work, counts, end_c, end_h, ending_of, ends_in_order, ends_take_all, exchanged, frame_lost}
+use Rattle.node_laws.proofs.Words.{frames_at, happens, host_cut, host_does, host_work, link_after_controller, link_events_in, link_to, loses_power_at}
+use Rattle.node_laws.proofs.Words.{memory_at, near_end_in, new_world, sending, site_at, site_lost, steps, turns_at, with_memory, with_node, with_site, work_of}
+use Rattle.node_laws.proofs.Words.{world_step}
 use Rattle.node_machine.specs.world.World.Happening.{Ticks as TimePassing}
-use Rattle.node_laws.proofs.Cases.{by_test}
 use Rattle.node_laws.proofs.telling.Worlds.{site_is}
 use Rattle.node_laws.proofs.links.Deeds.{AreFine}
 use Rattle.node_laws.proofs.links.Works.{IsFineWork, all_done_fine, steps_fine}

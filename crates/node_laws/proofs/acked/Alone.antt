@@ -3,9 +3,9 @@ use Rattle.std.proofs.Common.{◌≡◌, ℕ, ◌+◌, ◌≤◌, ◌==◌, Bool
 use Rattle.std.specs.Prelude.{is_some}
 use Rattle.std.proofs.lemmas.Bool.{eqb-true}
 use Rattle.node_laws.proofs.Words.{Acts, AllShdlcAllowed, Control, Deliver, EndState, Ignore, LinkState, OnWire, SafeLink, Session, ShdlcEndEvent, ShdlcLink}
-use Rattle.node_laws.proofs.Words.{ShdlcLinkEvent, Turns, Up, Waiting, act_frame, is_rset, is_up, most_frames, new_end, no_session, reset_with, shdlc_after}
-use Rattle.node_laws.proofs.Words.{shdlc_becomes, shdlc_exchanged, shdlc_happens_at_controller, shdlc_put_all, shdlc_silent, shdlc_turned, stopped, take_answer}
-use Rattle.node_laws.proofs.Words.{taken, took_with, with_shdlc_ended}
+use Rattle.node_laws.proofs.Words.{ShdlcLinkEvent, Turns, Up, Waiting, act_frame, by_test, is_rset, is_up, most_frames, new_end, no_session, reset_with}
+use Rattle.node_laws.proofs.Words.{shdlc_after, shdlc_becomes, shdlc_exchanged, shdlc_happens_at_controller, shdlc_put_all, shdlc_silent, shdlc_turned, stopped}
+use Rattle.node_laws.proofs.Words.{take_answer, taken, took_with, with_shdlc_ended}
 use Rattle.shdlc_core.specs.declared.answers.LinkState.TheVariants.{Down}
 use Rattle.shdlc_core.specs.Machine.{frames_of}
 use Rattle.link_laws.specs.sessions.Sessions.{NumberedShdlc, shdlc_number_of, shdlc_session_of, ended_session}
@@ -14,7 +14,6 @@ use Rattle.link_laws.specs.sessions.Sessions.ShdlcEndEvent.{Lose, Reset, Cut, St
 use Rattle.link_laws.specs.sessions.Sessions.ShdlcLinkEvent.{AtController, AtHost}
 use Rattle.link_laws.proofs.sessions.Data.{Base, Below, none_ended, of_up}
 use Rattle.link_laws.proofs.sessions.Steps.{safe_event, safe_exchanged}
-use Rattle.node_laws.proofs.Cases.{by_test}
 
 -- ## What stays as the controller's end acts
 

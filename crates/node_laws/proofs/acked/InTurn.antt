@@ -5,8 +5,8 @@ use Rattle.std.specs.Prelude.{nat_le}
 use Rattle.std.proofs.lemmas.Bool.{leb-true}
 use Rattle.node_laws.proofs.Words.{AcksAtMost, Activate, AllAllowed, AllAtController, AllAtHost, AreSendable, AreTakenInTurn, AsksReset, AtController, AtHost}
 use Rattle.node_laws.proofs.Words.{CutOff, EndEvent, Ending, GoesOut, Good, Link, LinkEnd, LinkEvent, Lose, Message, NextFrame, NoInput, NumberedEnd, Reached}
-use Rattle.node_laws.proofs.Words.{Refused, Starts, Step, Stops, TicksWithout, Turn, after_link_events, core_event, core_of, exchanged, happens, is_open}
-use Rattle.node_laws.proofs.Words.{reset_refusal, steps_at_controller, whole_acked, whole_among, window_of}
+use Rattle.node_laws.proofs.Words.{Refused, Starts, Step, Stops, TicksWithout, Turn, after_link_events, by_test, core_event, core_of, exchanged, happens}
+use Rattle.node_laws.proofs.Words.{is_open, reset_refusal, steps_at_controller, whole_acked, whole_among, window_of}
 use Rattle.hcp_packet.specs.Packets.{packet_count}
 use Rattle.link_laws.specs.sessions.Sessions.{ShdlcLink as CoreLink, ShdlcEndEvent as CoreEndEvent, ShdlcLinkEvent as CoreLinkEvent}
 use Rattle.link_laws.specs.sessions.Sessions.{shdlc_after as core_after}
@@ -17,7 +17,6 @@ use Rattle.link_laws.specs.messages.Projection.{is_lost_tick}
 use Rattle.link_laws.proofs.messages.Project.{Tells}
 use Rattle.link_laws.proofs.messages.Runs.{run, safe_reached}
 use Rattle.link_laws.proofs.messages.Whole.{sendable}
-use Rattle.node_laws.proofs.Cases.{by_test}
 use Rattle.node_laws.proofs.telling.Events.{after-append}
 use Rattle.node_laws.specs.acked.InTurn.{TakesNoFrame, TakeNoFrames}
 use Rattle.node_laws.specs.acked.InTurn.{acked_at_controller, acked_at_host}

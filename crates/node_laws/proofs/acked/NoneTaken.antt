@@ -2,7 +2,7 @@
 use Rattle.std.proofs.Common.{◌≡◌, ℕ, ◌+◌, ◌≤◌, Bool, true, false, List, [], ◌∷◌, Option, Some, None, refl, ap, ◌∙◌, arith, map}
 use Rattle.std.specs.Prelude.{is_some, nat_lt}
 use Rattle.node_laws.proofs.Words.{Acts, AllShdlcAllowed, Deliver, EndState, Ignore, LinkState, OnWire, ShdlcEndEvent, ShdlcLink, ShdlcLinkEvent, Turns, Up}
-use Rattle.node_laws.proofs.Words.{Waiting, act_frame, is_up, is_waiting, most_frames, new_end, reset_with, runs_timer, shdlc_after, shdlc_becomes}
+use Rattle.node_laws.proofs.Words.{Waiting, act_frame, by_test, is_up, is_waiting, most_frames, new_end, reset_with, runs_timer, shdlc_after, shdlc_becomes}
 use Rattle.node_laws.proofs.Words.{shdlc_exchanged, shdlc_happens_at_controller, shdlc_put_all, shdlc_silent, shdlc_turned, stopped, tick_answer, ticked}
 use Rattle.node_laws.proofs.Words.{took_with, with_shdlc_ended}
 use Rattle.shdlc_core.specs.declared.answers.LinkState.TheVariants.{Down}
@@ -15,7 +15,6 @@ use Rattle.link_laws.specs.sessions.Sessions.ShdlcEndEvent.{Lose, Reset, Cut, St
 use Rattle.link_laws.specs.sessions.Sessions.ShdlcLinkEvent.{AtController, AtHost, Tick, TickWithout}
 use Rattle.link_laws.proofs.places.Joined.{ready_cases}
 use Rattle.link_laws.proofs.entries.Stepping.{fetched_acked}
-use Rattle.node_laws.proofs.Cases.{by_test}
 use Rattle.node_laws.proofs.acked.Alone.{acked_here, happens_alone, ended_alone, becomes_alone, silent_alone}
 
 -- ## What an end becomes

@@ -3,11 +3,11 @@ use Rattle.std.proofs.Common.{◌≡◌, ℕ, zero, suc, ◌==◌, ◌&&◌, Boo
 use Rattle.std.proofs.Common.{refl, ap, sym, subst, ◌∙◌, length, append_assoc}
 use Rattle.std.specs.Prelude.{replicate}
 use Rattle.node_laws.proofs.Words.{AllAtController, AllAtHost, AreDifferent, AreTakenInTurn, AtController, AtHost, End, Link, LinkEvent, NextFrame, Node}
-use Rattle.node_laws.proofs.Words.{NodeWorld, Site, Takes, all_aged, can_happen, controller_ticks, end_c, end_h, ends_in_order, ends_take_all, exchanged}
-use Rattle.node_laws.proofs.Words.{frames_at, happenings, hosts_in, input_of, is_waiting, link_events_in, link_to, site_at, world_step}
+use Rattle.node_laws.proofs.Words.{NodeWorld, Site, Takes, all_aged, by_option, by_test, can_happen, controller_ticks, end_c, end_h, ends_in_order}
+use Rattle.node_laws.proofs.Words.{ends_take_all, exchanged, frames_at, happenings, hosts_in, input_of, is_waiting, link_events_in, link_to, site_at}
+use Rattle.node_laws.proofs.Words.{world_step}
 use Rattle.trace_model.specs.declared.line.Line.TheVariants as line
 use Rattle.node_machine.specs.world.World.Happening.{Ticks as TimePassing}
-use Rattle.node_laws.proofs.Cases.{by_test, by_option}
 use Rattle.node_laws.proofs.telling.Nodes.{site_host}
 use Rattle.node_laws.specs.acked.InTurn.{TakeNoFrames}
 use Rattle.node_machine.specs.world.Rounds.{end_takes_all}

@@ -12,16 +12,14 @@ use Rattle.node_laws.proofs.Words.{AnswersSo, AreDifferent, AreHosts, AreNamed, 
 use Rattle.node_laws.proofs.Words.{Creation, Desk, End, Entry, Happening, HasEnds, HasRoomForAll, HciTables, IfRuns, IsClf, IsDueAt, IsFresh, IsNamed}
 use Rattle.node_laws.proofs.Words.{IsNoAnswer, IsOrderly, Link, LinkEnd, LinkInput, LinkState, NextFrame, NoInput, NodeWorld, NumberedEnd, Occurrence, OnWire}
 use Rattle.node_laws.proofs.Words.{Port, ReadsBetween, Reset, Response, Running, RunsSo, Site, Start, Starts, Stop, Stops, Take, Work, after_controller}
-use Rattle.node_laws.proofs.Words.{arrival, asking_in, begun_at, comes_to, controller_begins, controller_does, creation_read, down_in, end_c, end_of, ended_by}
-use Rattle.node_laws.proofs.Words.{entries_for, entries_in, frames_noted, goes_down, has_come, has_come_so, hosts_in, hosts_of_ends, input_at, input_of}
-use Rattle.node_laws.proofs.Words.{is_answer_of, is_late_in, is_of_node, is_over, is_own_reset, link_to, lpdu_of, near_end_in, new_link, new_sync, node_of}
-use Rattle.node_laws.proofs.Words.{notice_in, number_now, owed, owed_in, port_at, port_for, report, same_end, session_now, session_of_port, site_at, steps}
-use Rattle.node_laws.proofs.Words.{synced, syncs_in, tables_in, told_of_coming, wires_for}
+use Rattle.node_laws.proofs.Words.{all_flat, arrival, asking_in, begun_at, by_option, by_test, comes_to, controller_begins, controller_does, creation_read}
+use Rattle.node_laws.proofs.Words.{down_in, end_c, end_of, ended_by, entries_for, entries_in, frames_noted, goes_down, has_come, has_come_so, hosts_in}
+use Rattle.node_laws.proofs.Words.{hosts_of_ends, input_at, input_of, is_answer_of, is_late_in, is_of_node, is_over, is_own_reset, link_to, lpdu_of}
+use Rattle.node_laws.proofs.Words.{near_end_in, new_link, new_sync, node_of, notice_in, number_now, owed, owed_in, port_at, port_for, report, same_end}
+use Rattle.node_laws.proofs.Words.{session_now, session_of_port, site_at, steps, synced, syncs_in, tables_in, told_of_coming, wires_for}
 use Rattle.trace_model.specs.declared.entry.Entry.TheVariants as entry
 use Rattle.gate_answers.specs.declared.response.Response.TheVariants as response
 use Rattle.shdlc_core.specs.declared.answers.LinkState.TheVariants.{Up as IsUpNow}
-use Rattle.node_laws.proofs.All.{all_flat}
-use Rattle.node_laws.proofs.Cases.{by_option, by_test}
 use Rattle.node_laws.proofs.telling.Nodes.{Stands, hosts_same, link_is, stands}
 use Rattle.node_laws.proofs.links.Noticing.{at_host}
 use Rattle.node_laws.proofs.passes.InSteps.{IsBehind, step_notes, IsOfStep}

@@ -5,10 +5,9 @@ use Rattle.std.specs.List.{AllByRecursion, filter, flat_map}
 use Rattle.std.specs.Option.{option_map_or}
 use Rattle.std.proofs.lemmas.Bool.{true≢false}
 use Rattle.node_laws.proofs.Words.{AreDifferent, AreHosts, AreNamed, Creation, Entry, NodeInput, Occurrence, Port, Response, Work, asked_at, asking_in}
-use Rattle.node_laws.proofs.Words.{creation_read, down_in, end_c, entries_in, forgets, goes_down, has_come_so, hosts_of_ends, is_late_in, is_over, is_over_at}
-use Rattle.node_laws.proofs.Words.{notice_in, owed, owed_in, owed_in_step, port_at}
+use Rattle.node_laws.proofs.Words.{by_option, creation_read, down_in, end_c, entries_in, forgets, goes_down, has_come_so, hosts_of_ends, is_late_in, is_over}
+use Rattle.node_laws.proofs.Words.{is_over_at, notice_in, owed, owed_in, owed_in_step, port_at}
 use Rattle.gate_answers.specs.declared.response.Response.TheVariants as response
-use Rattle.node_laws.proofs.Cases.{by_option}
 use Rattle.node_laws.proofs.telling.Steps.{forgets_same}
 use Rattle.node_laws.proofs.links.Noticing.{at_host}
 use Rattle.node_laws.proofs.creations.Asks.{Asked, asked_of, waits}

@@ -8,14 +8,13 @@ use Rattle.node_laws.proofs.Words.{Activates, AreHosts, AreNotOf, ArePlayable, A
 use Rattle.node_laws.proofs.Words.{Gives, Happening, Header, Host, Inits, IsBegunByHost, IsClf, IsCut, IsDueAt, IsFew, IsOrderly, IsSentByHost, Line, LinkInput}
 use Rattle.node_laws.proofs.Words.{Loses, Loss, NextFrame, NoInput, NodeHistory, NodeWorld, Occurrence, OnWire, ReadsBetween, Resets, Site, Starts, Takes}
 use Rattle.node_laws.proofs.Words.{Ticks, Work, all_aged, beginning, begins_with, begun_at, boot_found, boots, by_boot, by_coming, by_controller}
-use Rattle.node_laws.proofs.Words.{by_controller_tick, by_loss, comes_at, comes_to, controller_does, controller_ticks, controller_work, count_of, end_c, end_h}
-use Rattle.node_laws.proofs.Words.{entries_for, entries_in, first_lost, first_verdict, frame_lost, frames_at, frames_noted, happenings, host_does, hosts_tick}
-use Rattle.node_laws.proofs.Words.{input_of, is_answer_of, link_to, near_tick, new_world, node_entries, node_of, occurrences_in, refusal_in, sending, site_at}
-use Rattle.node_laws.proofs.Words.{steps, tables_in, taken_of, wires_for, world_behind, world_step, world_ticks}
+use Rattle.node_laws.proofs.Words.{by_controller_tick, by_loss, by_test, comes_at, comes_to, controller_does, controller_ticks, controller_work, count_of}
+use Rattle.node_laws.proofs.Words.{end_c, end_h, entries_for, entries_in, first_lost, first_verdict, frame_lost, frames_at, frames_noted, happenings, host_does}
+use Rattle.node_laws.proofs.Words.{hosts_tick, input_of, is_answer_of, link_to, near_tick, new_world, node_entries, node_of, occurrences_in, refusal_in}
+use Rattle.node_laws.proofs.Words.{sending, site_at, steps, tables_in, taken_of, wires_for, world_behind, world_step, world_ticks}
 use Rattle.trace_model.specs.declared.entry.Entry.TheVariants as entry
 use Rattle.trace_model.specs.declared.line.Line.TheVariants as line
 use Rattle.link_laws.specs.entries.Entries.{End as Side}
-use Rattle.node_laws.proofs.Cases.{by_test}
 use Rattle.node_laws.proofs.telling.Events.{comes_goes}
 use Rattle.node_laws.proofs.telling.Frames.{lost_all}
 use Rattle.node_laws.proofs.telling.Lasting.{AllMay, AreCaused, damaged_may, events_of_steps, lines_caused, repeated_may}

@@ -5,12 +5,11 @@ use Rattle.std.specs.List.{AllByRecursion, filter, filter_map, flat_map}
 use Rattle.std.specs.Option.{option_map_or}
 use Rattle.std.proofs.lemmas.Bool.{eqb-true, true≢false}
 use Rattle.node_laws.proofs.Words.{AreDifferent, AreHosts, AtEnd, Command, Commits, Creation, Deed, Entry, IsFresh, IsOutside, LinkEnd, LinkInput, LinkState}
-use Rattle.node_laws.proofs.Words.{NodeInput, Port, Release, Releases, Tick, TimePasses, Up, Work, after_sessions, all_done, all_synced_hold, asked_at, commit}
-use Rattle.node_laws.proofs.Words.{done, forgets, forgotten, forgotten_hold, has_come, has_come_so, has_freed, has_synced, hosts_of_ends, input_at}
+use Rattle.node_laws.proofs.Words.{NodeInput, Port, Release, Releases, Tick, TimePasses, Up, Work, after_sessions, all_done, all_synced_hold, asked_at, by_test}
+use Rattle.node_laws.proofs.Words.{commit, done, forgets, forgotten, forgotten_hold, has_come, has_come_so, has_freed, has_synced, hosts_of_ends, input_at}
 use Rattle.node_laws.proofs.Words.{is_forgotten, is_late, is_over, is_over_at, is_up, owed, owed_in_step, port_at, reset_late, session_of_port, syncs_in}
 use Rattle.node_laws.proofs.Words.{with_older, without_notice}
 use Rattle.gate_answers.specs.declared.response.Response.TheVariants as response
-use Rattle.node_laws.proofs.Cases.{by_test}
 use Rattle.node_laws.proofs.steps.Ports.{at_port, come_host, forgets_host, late_host, without_host}
 use Rattle.node_laws.proofs.telling.Away.{at_map, none_map}
 use Rattle.node_laws.proofs.telling.Steps.{come_session, forgets_same, without_same}

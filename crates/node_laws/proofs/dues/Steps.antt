@@ -5,8 +5,8 @@ use Rattle.std.specs.List.{AllByRecursion}
 use Rattle.std.proofs.lemmas.Bool.{true≢false}
 use Rattle.registry.proofs.ValueLemmas.{AllByRecursion-append as all_append}
 use Rattle.node_laws.proofs.Words.{AnswersSo, AreHosts, ArePassed, ComesTo, Command, Cut, Deed, Entry, IsNoAnswer, IsReplyNoted, NodeInput, Port, Restarted}
-use Rattle.node_laws.proofs.Words.{Work, all_done, all_owed_hold, comes_to_pass, entries_for, entries_of_reply, forgets, has_come_so, has_freed, has_synced}
-use Rattle.node_laws.proofs.Words.{hosts_of_ends, is_answer_of, is_cut_of, is_over_at, is_turn_of, noted_by_deeds, owed_in_step, passes, port_at}
+use Rattle.node_laws.proofs.Words.{Work, all_done, all_owed_hold, by_test, comes_to_pass, entries_for, entries_of_reply, forgets, has_come_so, has_freed}
+use Rattle.node_laws.proofs.Words.{has_synced, hosts_of_ends, is_answer_of, is_cut_of, is_over_at, is_turn_of, noted_by_deeds, owed_in_step, passes, port_at}
 use Rattle.node_laws.proofs.Words.{session_of_port, steps, syncs_in, told, told_of_coming, unless_cut}
 use Rattle.trace_model.specs.declared.entry.Entry.TheVariants as entry
 use Rattle.link_laws.specs.entries.Entries.{Entry as Noted}
@@ -26,7 +26,6 @@ use Rattle.node_laws.proofs.read_steps.Starting.{IsBegun}
 use Rattle.node_laws.proofs.worlds.Hearing.{AreUnanswered, coming_unanswered}
 use Rattle.node_laws.proofs.worlds.Late.{BeginsBehind}
 use Rattle.node_laws.proofs.worlds.Order.{unanswered_all}
-use Rattle.node_laws.proofs.Cases.{by_test}
 
 -- ## What comes first
 

@@ -6,13 +6,12 @@ use Rattle.std.specs.Option.{option_map_or}
 use Rattle.std.proofs.lemmas.Bool.{cond_both, eq-eqb, eqb-true}
 use Rattle.swp_base.specs.declared.control_frames.Act.{Act}
 use Rattle.node_laws.proofs.Words.{AreDifferent, AtEnd, Bare, Clf, Command, Commits, Control, Core, Deed, HciTables, Inactive, IsClf, LinkEnd, LinkInput, Phase}
-use Rattle.node_laws.proofs.Words.{Port, PowerMode, Ready, Reset, Role, Start, Stop, Sync, SyncId, Take, Tick, TimePasses, Uicc, act_out, finds_room}
+use Rattle.node_laws.proofs.Words.{Port, PowerMode, Ready, Reset, Role, Start, Stop, Sync, SyncId, Take, Tick, TimePasses, Uicc, act_out, by_test, finds_room}
 use Rattle.node_laws.proofs.Words.{hosts_of_ends, input_at, is_kept_sync, is_open, port_at, report, synced}
 use Rattle.swp_base.specs.declared.control_frames.Control.TheVariants as control
 use Rattle.swp_act.specs.declared.ActEvent.TheVariants.{Start as ActStart, Stop as ActStop, Take as ActTake, Tick as ActTick}
 use Rattle.swp_act.specs.declared.clf.ClfAct.{ClfAct}
 use Rattle.swp_act.specs.Activation.{clf_step}
-use Rattle.node_laws.proofs.Cases.{by_test}
 use Rattle.node_laws.proofs.dues.Noted.{one_command}
 use Rattle.node_laws.proofs.dues.Taken.{brought, keeps_new}
 use Rattle.node_laws.proofs.worlds.Uiccs.{tick_none}

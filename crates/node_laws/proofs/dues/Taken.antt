@@ -7,9 +7,9 @@ use Rattle.std.specs.List.{AllByRecursion, flat_map}
 use Rattle.std.proofs.lemmas.Bool.{and_right, lt-leb, true≢false}
 use Rattle.registry.proofs.ValueLemmas.{AllByRecursion-append as all_append}
 use Rattle.node_laws.proofs.Words.{AreNotOf, Commits, Control, Controller, Cut, CutOff, Deed, End, Ending, Entry, GoesOut, HciTables, Host, Link, LinkEnd, Loss}
-use Rattle.node_laws.proofs.Words.{NodeInput, OnWire, PowerMode, Ready, Report, Restarted, Site, Sync, SyncId, TooMany, Took, Work, aged_entries, end_c}
-use Rattle.node_laws.proofs.Words.{ending_entries, ending_of, entries_for, far, first_lost, frames_noted, frames_out, is_kept_sync, is_of_node, lpdu_of}
-use Rattle.node_laws.proofs.Words.{new_sync, node_of, port_at, pushed_out, put, put_entries, puts_entries, told, told_of_coming, wire_with}
+use Rattle.node_laws.proofs.Words.{NodeInput, OnWire, PowerMode, Ready, Report, Restarted, Site, Sync, SyncId, TooMany, Took, Work, aged_entries, by_option}
+use Rattle.node_laws.proofs.Words.{by_test, end_c, ending_entries, ending_of, entries_for, far, first_lost, frames_noted, frames_out, is_kept_sync, is_of_node}
+use Rattle.node_laws.proofs.Words.{lpdu_of, new_sync, node_of, port_at, pushed_out, put, put_entries, puts_entries, told, told_of_coming, wire_with}
 use Rattle.swp_base.specs.declared.control_frames.Control.TheVariants as control
 use Rattle.swp_lpdu.specs.declared.LpduFault.{LpduFault}
 use Rattle.swp_lpdu.specs.Controls.{LpduRow, control_of, is_within, kind_number, lpdu_row_of, read_by, table}
@@ -18,7 +18,6 @@ use Rattle.link_laws.specs.entries.Entries.{End as Side, Entry as Noted}
 use Rattle.link_laws.specs.entries.Entries.Entry.{Tick as Ticked}
 use Rattle.node_laws.proofs.passes.Coming.{coming_all}
 use Rattle.node_laws.proofs.telling.Reported.{told_all}
-use Rattle.node_laws.proofs.Cases.{by_test, by_option}
 
 -- ## LPDUs
 

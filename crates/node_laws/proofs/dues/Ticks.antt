@@ -6,13 +6,11 @@ use Rattle.std.specs.List.{AllByRecursion, flat_map}
 use Rattle.registry.proofs.ValueLemmas.{AllByRecursion-append as all_append}
 use Rattle.node_laws.proofs.Words.{AreDifferent, AreHosts, AreNotOf, Controller, Entry, HasEnds, HciTables, Host, IfReads, IsClf, IsDueAt, IsNamed, IsNoAnswer}
 use Rattle.node_laws.proofs.Words.{IsOrderly, Link, LinkEnd, NodeWorld, NumberedEnd, Occurrence, Port, ReadsBetween, Running, Site, Ticks, TimePasses, Work}
-use Rattle.node_laws.proofs.Words.{after_near_tick, aged, aged_entries, all_aged, as_it_ticks, asking_in, controller_ticks, end_c, entries_for, entries_in}
-use Rattle.node_laws.proofs.Words.{frames_noted, has_come_so, hosts_in, hosts_of_ends, hosts_tick, is_answer_of, is_late, is_late_in, is_over, is_own_reset}
-use Rattle.node_laws.proofs.Words.{link_to, near_tick, new_sync, notice_in, number_now, port_at, reset_late, session_now, session_of_port, site_at, steps}
-use Rattle.node_laws.proofs.Words.{syncs_in, tables_in, told_of_coming, world_ticks}
+use Rattle.node_laws.proofs.Words.{after_near_tick, aged, aged_entries, all_aged, all_flat, as_it_ticks, asking_in, by_option, by_test, controller_ticks, end_c}
+use Rattle.node_laws.proofs.Words.{entries_for, entries_in, frames_noted, has_come_so, hosts_in, hosts_of_ends, hosts_tick, is_answer_of, is_late, is_late_in}
+use Rattle.node_laws.proofs.Words.{is_over, is_own_reset, link_to, near_tick, new_sync, notice_in, number_now, port_at, reset_late, session_now}
+use Rattle.node_laws.proofs.Words.{session_of_port, site_at, steps, syncs_in, tables_in, told_of_coming, world_ticks}
 use Rattle.swp_base.specs.declared.link_terms.Cause.{Cause as EndedBy}
-use Rattle.node_laws.proofs.All.{all_flat}
-use Rattle.node_laws.proofs.Cases.{by_test, by_option}
 use Rattle.node_laws.proofs.telling.Events.{orderly_map}
 use Rattle.node_laws.proofs.telling.Nodes.{Stands, hosts_same, link_is, stands}
 use Rattle.node_laws.proofs.telling.WorldTicks.{near_orderly}

@@ -4,13 +4,12 @@ use Rattle.std.proofs.Common.{append_assoc, append-nil, arith}
 use Rattle.std.specs.Prelude.{not, take}
 use Rattle.std.specs.List.{AllByRecursion, filter, list_any, prefix_len}
 use Rattle.std.proofs.lemmas.Bool.{eq-eqb, true≢false}
-use Rattle.node_laws.proofs.Words.{AnswersSo, Command, Entry, IsReplyNoted, is_answer_of, is_cut_of, is_turn_of, node_of}
+use Rattle.node_laws.proofs.Words.{AnswersSo, Command, Entry, IsReplyNoted, by_test, is_answer_of, is_cut_of, is_turn_of, node_of}
 use Rattle.trace_model.specs.declared.entry.Entry.TheVariants as entry
 use Rattle.node_laws.specs.answers.Answered.{before_turn, to_command}
 use Rattle.node_laws.specs.reply_passes.Counts.{commands_noted}
 use Rattle.node_laws.proofs.reply_passes.Growing.{commits-append}
 use Rattle.node_laws.proofs.worlds.Late.{before_first}
-use Rattle.node_laws.proofs.Cases.{by_test}
 
 -- ## Up to a command
 

@@ -4,18 +4,16 @@ use Rattle.std.specs.Prelude.{Some, None}
 use Rattle.std.specs.List.{AllByRecursion}
 use Rattle.node_laws.proofs.Words.{About, Asks, AtEnd, ComesTo, Command, Commits, Deed, Desk, Drops, Ends, FetchMessage, Give, GoesOn, Hears, Hold, IsAnswered}
 use Rattle.node_laws.proofs.Words.{IsOutside, Message, NodeInput, Orders, Port, Release, Releases, Removed, Reset, SaysOk, Sends, SetsErrors, Tells, Tick}
-use Rattle.node_laws.proofs.Words.{TimePasses, Turn, Work, after_sessions, after_turn, all_come, all_done, anyone, asked_at, body_of, comes_to_pass}
-use Rattle.node_laws.proofs.Words.{commit, commit_writes, deeds_of, done, fails_within, forgets, forgotten, has_come, has_come_so, has_freed, has_synced}
-use Rattle.node_laws.proofs.Words.{input_at, is_forgotten, is_late, is_over, notified, noting, owed_in_step, reset_late, syncs_in, turn_at, with_desk}
-use Rattle.node_laws.proofs.Words.{with_older, with_port, without_notice}
-use Rattle.node_laws.proofs.Cases.{by_test}
+use Rattle.node_laws.proofs.Words.{TimePasses, Turn, Work, after_sessions, after_turn, all_changed, all_come, all_done, all_map, anyone, asked_at, body_of}
+use Rattle.node_laws.proofs.Words.{by_test, comes_to_pass, commit, commit_writes, deeds_of, done, fails_within, forgets, forgotten, has_come, has_come_so}
+use Rattle.node_laws.proofs.Words.{has_freed, has_synced, input_at, is_forgotten, is_late, is_over, notified, noting, owed_in_step, reset_late, syncs_in}
+use Rattle.node_laws.proofs.Words.{turn_at, with_desk, with_older, with_port, without_notice}
 use Rattle.node_laws.proofs.steps.StepWalks.{Lasts, all_last, got_at, handled, holds, lets, unless}
 use Rattle.node_laws.proofs.steps.Ports.{sessions_node}
 use Rattle.node_laws.proofs.passes.Passing.{comes_so}
 use Rattle.node_laws.proofs.notices.Own.{IsOwn, all_owed_own, all_synced_own, deeds_own, forgotten_own}
 use Rattle.node_laws.proofs.creations.Asides.{input_aside}
 use Rattle.node_laws.proofs.creations.HostSides.{SetsNone, turn_none}
-use Rattle.node_laws.proofs.Each.{all_map, all_changed}
 
 -- no block is set aside at an end
 abbrev pub HasNone : Port → Type 0

@@ -9,17 +9,14 @@ use Rattle.registry.proofs.ValueLemmas.{AllByRecursion-append as all_append}
 use Rattle.node_laws.proofs.Words.{Activates, AreDifferent, AreNoTurns, AreNotOf, ArePortsRead, Arms, AsksReset, AtEnd, Boots, Comes, Controller, End, Entry}
 use Rattle.node_laws.proofs.Words.{Gives, GoesOut, Happening, HoldsInStep, Host, IfItRuns, Init, Inits, IsCut, IsHeldFor, IsHost, IsOrderly, IsOutside}
 use Rattle.node_laws.proofs.Words.{IsReplied, Link, LinkInput, Loses, Lost, NextFrame, NodeInput, NodeWorld, NumberedEnd, Occurrence, OnWire, Resets, Running}
-use Rattle.node_laws.proofs.Words.{Site, Start, Starts, Step, Take, Takes, Ticks, TimePasses, Work, aged, aged_entries, all_aged, arrival}
-use Rattle.node_laws.proofs.Words.{beginning, boots, by_coming, by_controller, by_controller_tick, by_host_tick, comes_at, comes_to, comes_to_pass}
+use Rattle.node_laws.proofs.Words.{Site, Start, Starts, Step, Take, Takes, Ticks, TimePasses, Work, aged, aged_entries, all_aged, all_flat, arrival, beginning}
+use Rattle.node_laws.proofs.Words.{boots, by_coming, by_controller, by_controller_tick, by_host_tick, by_option, by_test, comes_at, comes_to, comes_to_pass}
 use Rattle.node_laws.proofs.Words.{controller_ticks, controller_work, end_c, end_h, ending_of, entries_for, entries_in, exchanged, frame_lost, frames_at}
-use Rattle.node_laws.proofs.Words.{frames_noted, host_begins_step, host_tick, host_ticks, hosts_in, hosts_tick, init_begun, init_in}
-use Rattle.node_laws.proofs.Words.{input_of, link_after_controller, link_to, near_end_in, near_tick, node_of, sending, site_at, site_ticked, site_unticked}
-use Rattle.node_laws.proofs.Words.{steps, ticks_host, turns_at, wires_for, work_of, world_step, world_ticks}
+use Rattle.node_laws.proofs.Words.{frames_noted, host_begins_step, host_tick, host_ticks, hosts_in, hosts_tick, init_begun, init_in, input_of}
+use Rattle.node_laws.proofs.Words.{link_after_controller, link_to, near_end_in, near_tick, node_of, sending, site_at, site_ticked, site_unticked, steps}
+use Rattle.node_laws.proofs.Words.{ticks_host, turns_at, wires_for, work_of, world_step, world_ticks}
 use Rattle.link_laws.specs.entries.Entries.{Entry as Noted}
 use Rattle.link_laws.specs.entries.Entries.{End as Side}
-use Rattle.node_laws.proofs.Cases.{by_test}
-use Rattle.node_laws.proofs.Cases.{by_option}
-use Rattle.node_laws.proofs.All.{all_flat}
 use Rattle.node_laws.proofs.telling.Events.{comes_goes, orderly_map, site_map}
 use Rattle.node_laws.proofs.telling.Nodes.{link_is, site_host}
 use Rattle.node_laws.proofs.telling.Shapes.{frames_uncut}

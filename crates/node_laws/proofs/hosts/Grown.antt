@@ -9,10 +9,10 @@ use Rattle.node_laws.proofs.Words.{Happening, Header, Host, IfRuns, Inits, IsCut
 use Rattle.node_laws.proofs.Words.{Memory, NextFrame, NoInput, NodeHistory, NodeWorld, Occurrence, Orders, Plan, Resets, Running, RunsSo, Sends, Site}
 use Rattle.node_laws.proofs.Words.{SiteKeeps, Starts, Takes, Ticks, TimePasses, Work, after_host, after_planned, aged, all_aged, arrival, beginning}
 use Rattle.node_laws.proofs.Words.{begins_with, boot_found, boot_writes, boot_written, boots, by_boot, by_coming, by_controller, by_controller_tick, by_host}
-use Rattle.node_laws.proofs.Words.{by_host_tick, by_loss, by_memory, by_power, by_running, changed_if, comes_at, controller_does, controller_ticks, count_of}
-use Rattle.node_laws.proofs.Words.{end_c, end_h, entries_for, entries_in, exchanged, frame_lost, frames_noted, host_cut, host_does, host_tick, host_ticks}
-use Rattle.node_laws.proofs.Words.{host_work, hosts_in, hosts_tick, is_command_message, loses_power_at, memory_at, near_end_in, near_tick, new_world}
-use Rattle.node_laws.proofs.Words.{node_entries, occurrences_in, sending, site_at, site_ticked, site_unticked, steps, wires_for, with_site, work_of}
+use Rattle.node_laws.proofs.Words.{by_host_tick, by_loss, by_memory, by_power, by_running, by_test, changed_if, comes_at, controller_does, controller_ticks}
+use Rattle.node_laws.proofs.Words.{count_of, end_c, end_h, entries_for, entries_in, exchanged, frame_lost, frames_noted, host_cut, host_does, host_tick}
+use Rattle.node_laws.proofs.Words.{host_ticks, host_work, hosts_in, hosts_tick, is_command_message, loses_power_at, memory_at, near_end_in, near_tick}
+use Rattle.node_laws.proofs.Words.{new_world, node_entries, occurrences_in, sending, site_at, site_ticked, site_unticked, steps, wires_for, with_site, work_of}
 use Rattle.node_laws.proofs.Words.{world_behind, world_step, world_ticks}
 use Rattle.trace_model.specs.declared.entry.Entry.TheVariants as entry
 use Rattle.journal_laws.proofs.InUse.{no_journal}
@@ -29,7 +29,6 @@ use Rattle.node_laws.proofs.reply_passes.Growing.{commits-append}
 use Rattle.node_laws.proofs.reply_passes.Memories.{generation_in}
 use Rattle.node_laws.proofs.reply_passes.Roomy.{boot_grown, history_lasts, node_step_grown}
 use Rattle.node_laws.proofs.worlds.Histories.{of_hosts}
-use Rattle.node_laws.proofs.Cases.{by_test}
 
 -- the memory of a host behind these entries
 abbrev pub IsGrownAt : List Entry → Site → Type 0

@@ -4,10 +4,9 @@ use Rattle.std.specs.Prelude.{Option}
 use Rattle.std.specs.List.{AllByRecursion}
 use Rattle.registry.proofs.ValueLemmas.{AllByRecursion-append as all_append}
 use Rattle.node_laws.proofs.Words.{AreNoTurns, AreNotOf, ArePassed, ComesTo, Entry, Happening, Init, IsHeldFor, IsHost, IsReplied, Moment, NodeInput}
-use Rattle.node_laws.proofs.Words.{Occurrence, Work, comes_to_pass, entries_in, hosts_of_ends, init_begun, init_in, is_answer_of, is_cut_of, is_of_node, passes}
-use Rattle.node_laws.proofs.Words.{steps}
+use Rattle.node_laws.proofs.Words.{Occurrence, Work, by_test, comes_to_pass, entries_in, hosts_of_ends, init_begun, init_in, is_answer_of, is_cut_of}
+use Rattle.node_laws.proofs.Words.{is_of_node, passes, steps}
 use Rattle.trace_model.specs.declared.entry.Entry.TheVariants as entry
-use Rattle.node_laws.proofs.Cases.{by_test}
 use Rattle.node_laws.proofs.telling.Walks.{AreUncut, IsUncut}
 use Rattle.node_laws.specs.passes.Passing.{IsNoTurn}
 use Rattle.node_laws.specs.passes.Passing.ComesTo.{Begins}

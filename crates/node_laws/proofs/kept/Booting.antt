@@ -7,7 +7,7 @@ use Rattle.std.specs.List.{AllByRecursion, fold}
 use Rattle.std.proofs.lemmas.Bool.{cond_both, eq-eqb, true≢false}
 use Rattle.node_laws.proofs.Words.{AreTables, AreTables-apply, Book, BootFinds, Command, Creation, CutBehindCommand, Desk, Entry, HciTables, IsCommand}
 use Rattle.node_laws.proofs.Words.{IsRecordable, Knows, Memory, NodeKeeps, NumberedEnd, Port, Running, RunsSo, State, WaitsFor, WouldFind, after_commands}
-use Rattle.node_laws.proofs.Words.{after_planned, after_writes, applied, apply, asked_at, book_in, boot_writes, close, commands_in, count_of, current}
+use Rattle.node_laws.proofs.Words.{after_planned, after_writes, applied, apply, asked_at, book_in, boot_writes, by_test, close, commands_in, count_of, current}
 use Rattle.node_laws.proofs.Words.{fails_within, found, last_in, new_desk, no_tables, port_at, port_for, with_found}
 use Rattle.trace_model.specs.declared.entry.Entry.TheVariants as entry
 use Rattle.journal_laws.specs.declared.banks.Side.{Side}
@@ -29,7 +29,6 @@ use Rattle.node_machine.specs.world.NodeLegal.{FindsCommands}
 use Rattle.node_laws.proofs.kept.Planned.{planned_whole, planned_cut}
 use Rattle.node_laws.proofs.kept.Commits.{IsLeftBetween, finds_closed, left_finds, knows_from}
 use Rattle.node_laws.proofs.kept.Books.{book_more, closed_book, finds_all}
-use Rattle.node_laws.proofs.Cases.{by_test}
 
 -- ## The tables of a memory
 

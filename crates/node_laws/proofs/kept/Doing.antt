@@ -7,7 +7,7 @@ use Rattle.std.proofs.lemmas.Bool.{cases_Bool}
 use Rattle.node_laws.proofs.Words.{AreTables-apply, Asks, Book, BootFinds, Command, Commits, Creation, CutBehindCommand, Deed, Drops, Ends, Entry, Give, GoesOn}
 use Rattle.node_laws.proofs.Words.{HciTables, Hears, Init, IsAllowedStill, IsAnswered, IsCommand, IsOf, IsOnOrder, MayBeDone, MayWait, Memory, Orders, Port}
 use Rattle.node_laws.proofs.Words.{Release, Releases, Removed, SaysOk, Sends, SetAside, SetsErrors, State, StillRuns, Tells, Waits, Work, WouldFind, Write}
-use Rattle.node_laws.proofs.Words.{after_commands, after_planned, all_done, apply, asked_at, body_of, book_in, changed_if, close, commands_in, commit}
+use Rattle.node_laws.proofs.Words.{after_commands, after_planned, all_done, apply, asked_at, body_of, book_in, by_test, changed_if, close, commands_in, commit}
 use Rattle.node_laws.proofs.Words.{commit_writes, count_of, done, end_of_node, fails_within, keeps, last_in, loses_power, no_tables, notified, noting, port_at}
 use Rattle.node_laws.proofs.Words.{reckoning_of, tables_in, turn_at, unless_cut, with_command}
 use Rattle.trace_model.specs.declared.entry.Entry.TheVariants as entry
@@ -28,7 +28,6 @@ use Rattle.registry.proofs.ValueLemmas.{AllByRecursion-append as all_append}
 use Rattle.node_laws.proofs.kept.Plainly.{hosts_map, waits_map, changed_host, changed_waits, runs_plainly, plainly_then, plainly_turn, plainly_desk}
 use Rattle.node_laws.proofs.kept.Plainly.{plainly_noting}
 use Rattle.node_laws.proofs.kept.Plainly.{plainly_core, plainly_notified, Plainly}
-use Rattle.node_laws.proofs.Cases.{by_test}
 
 pub uncut : (f : Work → Work) (w : Work) → w.cut ≡ false → unless_cut f w ≡ f w
 uncut f w on = rw on refl

@@ -5,15 +5,14 @@ use Rattle.std.specs.Prelude.{Option, Some, None, is_some}
 use Rattle.std.specs.Option.{option_map_or}
 use Rattle.std.proofs.lemmas.Bool.{cond_both, and_parts, and_from, le-leb, lt-ltb}
 use Rattle.node_laws.proofs.Words.{AreTables, Clear, Command, Commits, Core, Create, Deed, Delete, Ends, HciTables, Init, InitSame, IsCommand, IsOnOrder}
-use Rattle.node_laws.proofs.Words.{MayBeDone, Message, PipeRow, Port, Set, State, accepts, answer_of, body_in, end_of_node, end_view, finds_room, host_deeds}
-use Rattle.node_laws.proofs.Words.{host_holds, init_deeds, is_host, learned, learned_holds, learns, learns_holds, link_served, ordered_deeds, ordered_holds}
-use Rattle.node_laws.proofs.Words.{own_view, pid_of, pipe_at}
+use Rattle.node_laws.proofs.Words.{MayBeDone, Message, PipeRow, Port, Set, State, accepts, answer_of, body_in, by_test, end_of_node, end_view, finds_room}
+use Rattle.node_laws.proofs.Words.{host_deeds, host_holds, init_deeds, is_host, learned, learned_holds, learns, learns_holds, link_served, ordered_deeds}
+use Rattle.node_laws.proofs.Words.{ordered_holds, own_view, pid_of, pipe_at}
 use Rattle.sorted_rows.proofs.RowLemmas.{row_of-within}
 use Rattle.hci_tables.specs.Commands.{is_command, is_dynamic}
 use Rattle.gate_answers.specs.declared.response.Response.TheVariants as response
 use Rattle.node_machine.specs.HostReplies.{is_open_gate, is_welcome, pipe_named_in, orders_of, is_same, init_agreed}
 use Rattle.node_laws.proofs.kept.Replies.{commit_may, link_may}
-use Rattle.node_laws.proofs.Cases.{by_test}
 
 -- a pipe that a message names is closed
 named_closed : (body : List ℕ) (row : PipeRow) → pipe_named_in body ≡ Some row → row.opened ≡ false

@@ -6,9 +6,9 @@ use Rattle.std.specs.List.{AllByRecursion, flat_map, fold}
 use Rattle.std.proofs.lemmas.Grind.{flat_map-append}
 use Rattle.std.proofs.lemmas.Bool.{eqb-true, eq-eqb}
 use Rattle.node_laws.proofs.Words.{AllKeep, AreHosts, AreToldBehind, Book, BootFinds, CutBehindCommand, Entry, FollowsNodes, HciTables, Header, IsFew}
-use Rattle.node_laws.proofs.Words.{IsSentByHost, Journal, Last, Line, LineStep, NodeHistory, NodeKeeps, Site, SiteKeeps, applied, book_after, book_in, close}
-use Rattle.node_laws.proofs.Words.{commands_in, entries_in, last_after, last_in, new_site, new_world, no_tables, node_entries, occurrences_of, steps_from}
-use Rattle.node_laws.proofs.Words.{tables_in, world_after}
+use Rattle.node_laws.proofs.Words.{IsSentByHost, Journal, Last, Line, LineStep, NodeHistory, NodeKeeps, Site, SiteKeeps, applied, book_after, book_in, by_test}
+use Rattle.node_laws.proofs.Words.{close, commands_in, entries_in, last_after, last_in, new_site, new_world, no_tables, node_entries, occurrences_of}
+use Rattle.node_laws.proofs.Words.{steps_from, tables_in, world_after}
 use Rattle.trace_model.specs.declared.entry.Entry.TheVariants as entry
 use Rattle.journal_laws.specs.Journal.{unformatted, journal, IsSound}
 use Rattle.journal_laws.specs.Operations.{IsUnformatted}
@@ -22,7 +22,6 @@ use Rattle.node_machine.specs.world.NodeLegal.Last.{NothingYet, CommandLast, Oth
 use Rattle.node_laws.specs.kept.Books.{IsTold}
 use Rattle.node_laws.proofs.kept.Books.{book_more, last_more}
 use Rattle.node_laws.proofs.kept.Lines.{TellsRight, TellRight, Schedule, schedule_goes, entries_of}
-use Rattle.node_laws.proofs.Cases.{by_test}
 
 -- ## The beginning
 

@@ -3,8 +3,7 @@ use Rattle.std.proofs.Common.{◌≡◌, ◌⊎◌, inl, inr, ℕ, Bool, true, f
 use Rattle.std.specs.Prelude.{None, Some}
 use Rattle.std.specs.List.{AllByRecursion}
 use Rattle.std.proofs.lemmas.Bool.{cond_both, cases_Bool, eqb-true, cond-true, cond-false}
-use Rattle.node_laws.proofs.Words.{AreDifferent, Entry, Site, SiteKeeps, changed_if, site_at, with_site}
-use Rattle.node_laws.proofs.Cases.{by_test}
+use Rattle.node_laws.proofs.Words.{AreDifferent, Entry, Site, SiteKeeps, by_test, changed_if, site_at, with_site}
 
 -- the hosts
 abbrev pub hosts_in : List Site → List ℕ

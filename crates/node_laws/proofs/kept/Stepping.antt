@@ -7,15 +7,14 @@ use Rattle.std.proofs.lemmas.Bool.{cond_both, cases_Bool, and_parts, and_from, l
 use Rattle.node_laws.proofs.Words.{ActOut, AreDifferent, AreHosts, AreTables, AtEnd, Bare, Clf, Commits, Core, Creation, Deed, Entry, Give, HciTables, Inactive}
 use Rattle.node_laws.proofs.Words.{Init, IsAllowedStill, IsCommand, IsHost, IsOnOrder, IsPlain, LinkInput, MayBeDone, MayWait, Memory, NodeInput, Notice, Phase}
 use Rattle.node_laws.proofs.Words.{Port, Release, Releases, Reset, Role, Sends, State, StillRuns, Sync, TimePasses, Uicc, WaitsAt, WaitsFor, Work, act_answer}
-use Rattle.node_laws.proofs.Words.{act_out, after_input, after_sessions, all_come, all_done, all_owed, all_owed_hold, apply, asked_at, creation_in, finds_room}
-use Rattle.node_laws.proofs.Words.{forgets, forgotten, forgotten_hold, has_come, hosts_of_ends, input_at, is_forgotten, is_kept_sync, is_late, is_open, is_over}
-use Rattle.node_laws.proofs.Words.{own_side, passes, report, reset_late, steps, synced, times_out, told, told_at, told_late, turn_at, unless_cut, whole_acked}
-use Rattle.node_laws.proofs.Words.{with_older, without_notice}
+use Rattle.node_laws.proofs.Words.{act_out, after_input, after_sessions, all_come, all_done, all_owed, all_owed_hold, apply, asked_at, by_option, creation_in}
+use Rattle.node_laws.proofs.Words.{finds_room, forgets, forgotten, forgotten_hold, has_come, hosts_of_ends, input_at, is_forgotten, is_kept_sync, is_late}
+use Rattle.node_laws.proofs.Words.{is_open, is_over, own_side, passes, report, reset_late, steps, synced, times_out, told, told_at, told_late, turn_at}
+use Rattle.node_laws.proofs.Words.{unless_cut, whole_acked, with_older, without_notice}
 use Rattle.swp_act.specs.declared.ActEvent.TheVariants.{Tick as ActTick}
 use Rattle.swp_base.specs.declared.control_frames.Act.{Act}
 use Rattle.swp_act.specs.declared.Phase.TheVariants.{Awaiting, Active}
 use Rattle.swp_act.specs.Activation.{out_ticked}
-use Rattle.node_laws.proofs.Cases.{by_option}
 use Rattle.node_laws.proofs.steps.Values.{whitelist_left}
 use Rattle.node_laws.proofs.steps.Waits.{within, same_list}
 use Rattle.node_laws.proofs.kept.Asking.{same_new}

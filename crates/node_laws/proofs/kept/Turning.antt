@@ -4,9 +4,8 @@ use Rattle.std.specs.Prelude.{Option, Some, None}
 use Rattle.std.specs.List.{AllByRecursion}
 use Rattle.std.specs.Option.{option_map_or}
 use Rattle.node_laws.proofs.Words.{Deed, Entry, FetchMessage, Hold, IsAllowedStill, IsHost, IsOnOrder, MayBeDone, Memory, Message, Port, StillRuns, Work}
-use Rattle.node_laws.proofs.Words.{deeds_of, end_of_node, goes_through_ends, handles, have_turns, holds_back, hosts_of_ends, is_held, lack, lets_go, needs}
-use Rattle.node_laws.proofs.Words.{noting, passes, port_at, turn_at, unless_cut, with_desk}
-use Rattle.node_laws.proofs.Cases.{by_option, by_test}
+use Rattle.node_laws.proofs.Words.{by_option, by_test, deeds_of, end_of_node, goes_through_ends, handles, have_turns, holds_back, hosts_of_ends, is_held, lack}
+use Rattle.node_laws.proofs.Words.{lets_go, needs, noting, passes, port_at, turn_at, unless_cut, with_desk}
 use Rattle.node_laws.proofs.steps.Waits.{message_allowed}
 use Rattle.std.proofs.lemmas.Bool.{eq-eqb}
 use Rattle.trace_model.specs.declared.entry.Entry.TheVariants as entry

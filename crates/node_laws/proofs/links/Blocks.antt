@@ -6,11 +6,11 @@ use Rattle.std.proofs.lemmas.Bool.{true≢false, ltb-false, ltb-true}
 use Rattle.node_laws.proofs.Words.{ActEvent, Activate, ArePlayable, Asked, AtController, AtHost, Bare, Clt, Control, EndEvent, EndState, Fetch, FetchMessage}
 use Rattle.node_laws.proofs.Words.{FromNode, Give, Hold, I, Line, Link, LinkEnd, LinkEvent, LinkInput, LinkState, Message, Release, Reset, Role, Rset, S}
 use Rattle.node_laws.proofs.Words.{SetAside, Site, Start, Starts, Step, Stop, Take, TakeBroken, TakeUnknown, Tick, TicksWithout, Turn, Ua, Up, Waiting}
-use Rattle.node_laws.proofs.Words.{act_answer, activated, after_input, after_link_events, aged, all_at_controller, exchanged, frame_fetched, give_refusal}
-use Rattle.node_laws.proofs.Words.{had_tick, happens, happens_at_controller, heard, if_up, in_use, is_faulty, is_open, most_frames, moved, need, new_line}
-use Rattle.node_laws.proofs.Words.{new_link_end, new_world, put_down, renewed, reset_refusal, reset_with, role_after, sent_all, spare, steps_at_controller}
-use Rattle.node_laws.proofs.Words.{stopped, take_answer, taken, tick_answer, ticked, ticks_at_controller, took, turn, turned, whole_among, window_of, with_act}
-use Rattle.node_laws.proofs.Words.{world_after}
+use Rattle.node_laws.proofs.Words.{act_answer, activated, after_input, after_link_events, aged, all_at_controller, by_list, by_option, by_test, exchanged}
+use Rattle.node_laws.proofs.Words.{frame_fetched, give_refusal, had_tick, happens, happens_at_controller, heard, if_up, in_use, is_faulty, is_open, most_frames}
+use Rattle.node_laws.proofs.Words.{moved, need, new_line, new_link_end, new_world, put_down, renewed, reset_refusal, reset_with, role_after, sent_all, spare}
+use Rattle.node_laws.proofs.Words.{steps_at_controller, stopped, take_answer, taken, tick_answer, ticked, ticks_at_controller, took, turn, turned, whole_among}
+use Rattle.node_laws.proofs.Words.{window_of, with_act, world_after}
 use Rattle.swp_base.specs.declared.control_frames.Control.TheVariants.{Act as ActFrame}
 use Rattle.swp_base.specs.declared.control_frames.Act.{Act}
 use Rattle.swp_act.specs.declared.ActEvent.TheVariants.{Start as ActStart, Take as ActTake, Tick as ActTick, Stop as ActStop}
@@ -26,7 +26,6 @@ use Rattle.link_laws.proofs.machine.Sound.{SentAfter, whole_more, whole_few, nee
 use Rattle.link_laws.specs.messages.Links.LinkEvent.{Ticks}
 use Rattle.link_laws.proofs.messages.Finishing.{reset_tells}
 use Rattle.node_laws.specs.links.Runs.{SharesOut}
-use Rattle.node_laws.proofs.Cases.{by_list, by_option, by_test}
 use Rattle.node_laws.proofs.links.Ends.{here_is, tick_is, here_host}
 use Rattle.link_laws.proofs.entries.Together.{ticks_host as tick_host}
 use Rattle.node_laws.proofs.links.Obeying.{obey}

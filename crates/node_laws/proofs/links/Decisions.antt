@@ -2,8 +2,8 @@
 use Rattle.std.proofs.Common.{ℕ, ◌<◌, eqb, List, [], ◌∷◌, length, arith}
 use Rattle.std.specs.Prelude.{Option, Some, None}
 use Rattle.std.specs.List.{AllByRecursion}
-use Rattle.node_laws.proofs.Words.{Answer, Ask, Clear, Command, Commit, Decision, Delete, HciTables, LinkView, Response, answer_of, commits_and_tells, decided}
-use Rattle.node_laws.proofs.Words.{decided_holds, has, identity_served, link_served, mask_of, param_in, told_of_clearing, told_of_deletion, value_in}
+use Rattle.node_laws.proofs.Words.{Answer, Ask, Clear, Command, Commit, Decision, Delete, HciTables, LinkView, Response, answer_of, by_test, commits_and_tells}
+use Rattle.node_laws.proofs.Words.{decided, decided_holds, has, identity_served, link_served, mask_of, param_in, told_of_clearing, told_of_deletion, value_in}
 use Rattle.gate_answers.specs.declared.response.Response.TheVariants as response
 use Rattle.gate_answers.specs.Answers.{first_of, tests_to_set, tests_to_get}
 use Rattle.gate_admin.specs.View.{hosts_where}
@@ -13,7 +13,6 @@ use Rattle.tables_laws.proofs.gate.Decisions.{new_row}
 use Rattle.gate_link.specs.Link.{count_bytes, count_in, tests_to_set_errors, link_unless_refused as link_unless}
 use Rattle.gate_identity.specs.Identity.{identity_value, identity_unless_refused as identity_unless}
 use Rattle.node_laws.proofs.links.Masking.{nobody}
-use Rattle.node_laws.proofs.Cases.{by_test}
 
 -- it has a byte
 abbrev pub IsSpoken : List ℕ → Type 0

@@ -5,8 +5,8 @@ use Rattle.std.specs.List.{AllByRecursion}
 use Rattle.std.proofs.lemmas.Bool.{ltb-true, true≢false}
 use Rattle.node_laws.proofs.Words.{AreSendable, Asked, Clt, Control, Fetch, FetchMessage, FromNode, Give, Hold, I, LinkEnd, LinkInput, Message, Release, Reset}
 use Rattle.node_laws.proofs.Words.{Rset, S, Session, SetAside, Start, Stop, Take, TakeBroken, TakeUnknown, Tick, Turn, Ua, activated, after_input}
-use Rattle.node_laws.proofs.Words.{aside_refusal, frame_fetched, give_refusal, good_of, had_tick, heard, if_up, is_faulty, is_open, moved, put_down}
-use Rattle.node_laws.proofs.Words.{reset_refusal, reset_with, started, stopped, taken, tick_answer, ticked, took, turn, turned, window_of}
+use Rattle.node_laws.proofs.Words.{aside_refusal, by_option, by_test, frame_fetched, give_refusal, good_of, had_tick, heard, if_up, is_faulty, is_open, moved}
+use Rattle.node_laws.proofs.Words.{put_down, reset_refusal, reset_with, started, stopped, taken, tick_answer, ticked, took, turn, turned, window_of}
 use Rattle.swp_base.specs.declared.control_frames.Control.TheVariants.{Act as ActFrame}
 use Rattle.swp_act.specs.declared.ActEvent.TheVariants.{Take as ActTake, Tick as ActTick, Start as ActStart, Stop as ActStop}
 use Rattle.hcp_packet.specs.declared.Packet.{Packet}
@@ -16,8 +16,6 @@ use Rattle.link_laws.specs.machine.Machine.{ActDue, messages_got}
 use Rattle.link_laws.specs.machine.Machine.{deactivated, news}
 use Rattle.link_laws.specs.machine.Machine.{reset_by}
 use Rattle.link_laws.proofs.machine.Kept.{moved_got, down_got, activated_got}
-use Rattle.node_laws.proofs.Cases.{by_option, by_test}
-use Rattle.node_laws.proofs.Cases.{by_test}
 use Rattle.registry.proofs.ValueLemmas.{AllByRecursion-append as all_append}
 
 -- ## Lists

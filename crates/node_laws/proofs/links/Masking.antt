@@ -3,10 +3,9 @@ use Rattle.std.proofs.Common.{◌≡◌, ℕ, zero, suc, ◌/◌, ◌%◌, ◌�
 use Rattle.std.specs.Prelude.{nat_le}
 use Rattle.std.specs.List.{filter, AllByRecursion}
 use Rattle.std.proofs.lemmas.Bool.{true≢false, leb-true}
-use Rattle.gate_admin.specs.View.{has, hosts_where, mask_of}
-use Rattle.node_laws.proofs.Cases.{by_test}
-use Rattle.node_laws.proofs.Cases.{by_test}
+use Rattle.gate_admin.specs.View.{hosts_where}
 use Rattle.node_laws.proofs.steps.Masks.{bit_most, bit_none, digits}
+use Rattle.node_laws.proofs.Words.{by_test, has, mask_of}
 
 zero_one : (n : ℕ) → n ≡ 0 → eqb n 1 ≡ true → ⊥
 zero_one n z q = absurd (true≢false (sym q ∙ ap (λ k. eqb k 1) z))

@@ -9,15 +9,13 @@ use Rattle.node_laws.proofs.Words.{About, AllReach, Asks, AtEnd, Command, Commit
 use Rattle.node_laws.proofs.Words.{IsAnswered, IsComing, IsNoticedUp, IsOutside, LinkEnd, LinkInput, LinkState, Message, NodeInput, Notice, OnFirst, Orders}
 use Rattle.node_laws.proofs.Words.{Port, Release, Releases, Removed, SaysOk, Sends, SetAside, SetsErrors, Tells, Tick, TimePasses, Turn, Up, Waiting, Waits}
 use Rattle.node_laws.proofs.Words.{Work, after_sessions, after_turn, all_come, all_owed, all_owed_hold, all_synced_hold, anyone, aside_refusal, asked_at}
-use Rattle.node_laws.proofs.Words.{body_of, changed_if, commit, commit_writes, controller_deeds, deeds_of, done, end_of_node, ended_by, fails_within, forgets}
-use Rattle.node_laws.proofs.Words.{forgotten, forgotten_hold, give_refusal, has_come, has_link, input_at, is_forgotten, is_late, is_over, is_up, notified}
-use Rattle.node_laws.proofs.Words.{noting, port_at, reset_late, steps, synced, times_out, turn, turn_at, view_of, with_desk, with_older}
+use Rattle.node_laws.proofs.Words.{body_of, by_option, by_test, changed_if, commit, commit_writes, controller_deeds, deeds_of, done, end_of_node, ended_by}
+use Rattle.node_laws.proofs.Words.{fails_within, forgets, forgotten, forgotten_hold, give_refusal, has_come, has_link, input_at, is_forgotten, is_late, is_over}
+use Rattle.node_laws.proofs.Words.{is_up, notified, noting, port_at, reset_late, steps, synced, times_out, turn, turn_at, view_of, with_desk, with_older}
 use Rattle.node_laws.proofs.Words.{with_port, without_notice}
 use Rattle.shdlc_core.specs.declared.answers.LinkState.TheVariants.{Down}
 use Rattle.link_laws.proofs.sessions.Ties.{ready-phase as ready_phase}
 use Rattle.node_laws.specs.links.Notices.{Reaches, IsBegun}
-use Rattle.node_laws.proofs.Cases.{by_option, by_test}
-use Rattle.node_laws.proofs.Cases.{by_option}
 use Rattle.node_laws.proofs.links.Staying.{stays_up}
 use Rattle.node_laws.proofs.links.Reaching.{controller_reach}
 use Rattle.node_laws.proofs.steps.StepWalks.{Lasts, rest_lasts}

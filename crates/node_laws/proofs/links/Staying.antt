@@ -3,8 +3,8 @@ use Rattle.std.proofs.Common.{◌≡◌, Bool, true, false, cond, Option, Some, 
 use Rattle.std.specs.Prelude.{is_some}
 use Rattle.std.proofs.lemmas.Bool.{true≢false}
 use Rattle.node_laws.proofs.Words.{ActEvent, Asked, Cause, Clt, Control, EndState, I, IsComing, LinkEnd, LinkInput, Reset, Rset, S, Start, Stop, Take, Tick, Ua}
-use Rattle.node_laws.proofs.Words.{Up, act_answer, activated, after_input, ended_by, had_tick, heard, if_up, is_faulty, is_open, moved, put_down, reset_refusal}
-use Rattle.node_laws.proofs.Words.{role_after, take_answer, taken, tick_answer, ticked, with_act}
+use Rattle.node_laws.proofs.Words.{Up, act_answer, activated, after_input, by_option, by_test, ended_by, had_tick, heard, if_up, is_faulty, is_open, moved}
+use Rattle.node_laws.proofs.Words.{put_down, reset_refusal, role_after, take_answer, taken, tick_answer, ticked, with_act}
 use Rattle.swp_base.specs.declared.control_frames.Control.TheVariants.{Act as ActFrame}
 use Rattle.swp_base.specs.declared.control_frames.Act.{Act}
 use Rattle.swp_base.specs.declared.link_terms.Cause.TheVariants.{Act as ByAct, Chain}
@@ -13,7 +13,6 @@ use Rattle.link_laws.specs.machine.Machine.{ended_by_act}
 use Rattle.link_laws.proofs.machine.Shifts.{Shift, taken_shift, ticked_shift}
 use Rattle.link_laws.proofs.machine.Shifts.Shift.{Stays, Ends, Renews, Begins, Rests}
 use Rattle.link_laws.proofs.machine.Reports.{shdlc_is as shdlc_moved}
-use Rattle.node_laws.proofs.Cases.{by_option, by_test}
 
 abbrev pub IsUpEnd : LinkEnd → Type 0
 IsUpEnd e = e.shdlc.phase ≡ Up

@@ -6,19 +6,16 @@ use Rattle.std.specs.Option.{option_map_or}
 use Rattle.trace_model.specs.declared.entry.Entry.TheVariants as entry
 use Rattle.node_laws.proofs.Words.{About, AreSendable, AreSendableTurns, Asks, AtEnd, Command, Commits, Core, Deed, Desk, FetchMessage, Forgotten, Give, Hold}
 use Rattle.node_laws.proofs.Words.{IsAnswered, IsSendable, LinkInput, Message, NodeInput, Notice, Orders, Port, Release, Releases, Removed, Reset, Sends}
-use Rattle.node_laws.proofs.Words.{SetAside, SetsErrors, Tells, TimePasses, Turn, Waits, Work, after_sessions, after_turn, all_come, all_done, all_owed}
-use Rattle.node_laws.proofs.Words.{all_owed_hold, all_synced_hold, asked_at, body_of, commit, commit_writes, creation_in, deeds_of, done}
-use Rattle.node_laws.proofs.Words.{fails_within, forgets, forgotten, forgotten_hold, handles, has_come, holds_back, input_at, is_forgotten, is_late, is_over}
-use Rattle.node_laws.proofs.Words.{lets_go, notified, noting, older_notice, port_at, reset_late, steps, synced, times_out, turn_at, with_desk, with_older}
-use Rattle.node_laws.proofs.Words.{with_port, without_notice}
-use Rattle.node_laws.proofs.Cases.{by_option, by_test}
-use Rattle.node_laws.proofs.Cases.{by_test, by_option}
+use Rattle.node_laws.proofs.Words.{SetAside, SetsErrors, Tells, TimePasses, Turn, Waits, Work, after_sessions, after_turn, all_changed, all_come, all_done}
+use Rattle.node_laws.proofs.Words.{all_map, all_owed, all_owed_hold, all_synced_hold, asked_at, body_of, by_option, by_test, commit, commit_writes, creation_in}
+use Rattle.node_laws.proofs.Words.{deeds_of, done, fails_within, forgets, forgotten, forgotten_hold, handles, has_come, holds_back, input_at, is_forgotten}
+use Rattle.node_laws.proofs.Words.{is_late, is_over, lets_go, notified, noting, older_notice, port_at, reset_late, steps, synced, times_out, turn_at, with_desk}
+use Rattle.node_laws.proofs.Words.{with_older, with_port, without_notice}
 use Rattle.node_laws.proofs.links.Got.{Clean, one_clean, input_clean}
 use Rattle.node_laws.proofs.links.Decisions.{IsSpoken}
 use Rattle.node_laws.proofs.links.Deeds.{HasAnswer, IsTrueDesk, IsFine, AreFine, AreTrue, low, controller_fine}
 use Rattle.node_laws.proofs.links.HostDeeds.{host_fine}
 use Rattle.node_laws.proofs.steps.StepWalks.{Lasts, all_do, lets, holds, handled, rest_lasts}
-use Rattle.node_laws.proofs.Each.{all_map, all_changed}
 
 -- ## Ends
 

@@ -7,8 +7,8 @@ use Rattle.std.proofs.lemmas.Bool.{eqb-true}
 use Rattle.node_laws.proofs.Words.{Activates, AreHosts, AreTables, AreTables-apply, Arms, AsksReset, AtController, AtHost, Boots, Broken, Command, Controller}
 use Rattle.node_laws.proofs.Words.{ControllerReads, CutOff, Desk, End, Entry, Gives, Happening, HciTables, Host, IfReads, Inits, IsCommand, IsCut, IsHost}
 use Rattle.node_laws.proofs.Words.{IsKeptNotice, IsRightNotice, JoinTwo, KeepsNotices, Link, Lose, Loses, Loss, MayBoot, Memory, NextFrame, NoInput, NodeWorld}
-use Rattle.node_laws.proofs.Words.{Resets, Running, Site, Step, Takes, Ticks, after_planned, applied, apply, beginning, boot_found, boot_writes, boot_written}
-use Rattle.node_laws.proofs.Words.{boots, by_boot, by_memory, by_power, by_running, close, controller_cut, count_of, counts, entries_for}
+use Rattle.node_laws.proofs.Words.{OnWire, Resets, Running, Site, Step, Takes, Ticks, after_planned, applied, apply, beginning, boot_found, boot_writes}
+use Rattle.node_laws.proofs.Words.{boot_written, boots, by_boot, by_memory, by_power, by_running, by_test, close, controller_cut, count_of, counts, entries_for}
 use Rattle.node_laws.proofs.Words.{first_lost, found, frame_lost, happens, host_cut, link_to, links_of, loses_power_at, memory_at, new_desk, new_site}
 use Rattle.node_laws.proofs.Words.{new_world, no_tables, node_at, notice_at, notice_in, sending, with_error, with_memory, with_node, with_site, world_step}
 use Rattle.journal_laws.specs.Journal.{records}
@@ -17,7 +17,6 @@ use Rattle.hci_tables.specs.Bodies.{spelled_by, command_of}
 use Rattle.tables_laws.proofs.tables.SortedTables.{AreTables-close, AreTables-none}
 use Rattle.tables_laws.proofs.tables.TwoHosts.{JoinTwo-after, JoinTwo-closed}
 use Rattle.hci_store.specs.Image.{tables_of}
-use Rattle.node_laws.proofs.Cases.{by_test}
 use Rattle.node_laws.proofs.telling.Orderly.{new_orderly, step_orderly}
 use Rattle.node_laws.proofs.readings.NoticedWorlds.{event_up, numbers}
 use Rattle.node_laws.proofs.readings.Sites.{lost_quiet}
@@ -30,7 +29,6 @@ use Rattle.node_laws.proofs.notices.Sites.{beginning_own}
 use Rattle.node_laws.proofs.notices.Near.{comes_reads, ticks_reads, activates_reads}
 use Rattle.node_laws.specs.notices.Worlds.{IfHostNode}
 use Rattle.node_laws.proofs.kept.Booting.{command_read}
-use Rattle.link_laws.specs.sessions.Sessions.{OnWire}
 use Rattle.link_laws.specs.entries.Entries.{End as Side}
 
 -- ## The tables of a memory

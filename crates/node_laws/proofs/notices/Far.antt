@@ -8,16 +8,14 @@ use mathlib.Core.Bool.{and-false}
 use Rattle.node_laws.proofs.Words.{About, Asks, AtEnd, Command, Commits, Core, Cut, Deed, Desk, Down, Drops, End, Ends, Entry, FetchMessage, Give, GoesOn}
 use Rattle.node_laws.proofs.Words.{Hears, Hold, Host, IsAnswered, LinkInput, Message, NodeInput, Orders, Port, Refused, Release, Releases, Removed, Report}
 use Rattle.node_laws.proofs.Words.{Reset, Restarted, SaysOk, Sends, Sent, SetsErrors, Tells, TimePasses, Turn, Work, after_input, after_sessions, all_come}
-use Rattle.node_laws.proofs.Words.{all_done, all_owed, anyone, asking_in, body_of, commit, commit_writes, done, end_c, end_of, end_of_node, entries_for}
-use Rattle.node_laws.proofs.Words.{fails_within, forgets, forgotten, give_refusal, input_at, is_late, is_notice, is_response, noted_of, notified, noting}
-use Rattle.node_laws.proofs.Words.{own_side, port_at, report, same_end, same_side, sent_unless, steps, synced, times_out, told, told_at, told_late, turn_at}
-use Rattle.node_laws.proofs.Words.{whole_acked, with_desk, with_older}
+use Rattle.node_laws.proofs.Words.{all_done, all_owed, anyone, asking_in, body_of, by_option, by_test, commit, commit_writes, done, end_c, end_of, end_of_node}
+use Rattle.node_laws.proofs.Words.{entries_for, fails_within, forgets, forgotten, give_refusal, input_at, is_late, is_notice, is_response, noted_of, notified}
+use Rattle.node_laws.proofs.Words.{noting, own_side, port_at, report, same_end, same_side, sent_unless, steps, synced, times_out, told, told_at, told_late}
+use Rattle.node_laws.proofs.Words.{turn_at, whole_acked, with_desk, with_older}
 use Rattle.trace_model.specs.declared.entry.Entry.TheVariants as entry
 use Rattle.link_laws.specs.entries.Entries.{Entry as Noted}
 use Rattle.link_laws.specs.entries.Entries.Entry.{Tick}
 use Rattle.node_machine.specs.world.NodeFilters.{asking_after}
-use Rattle.node_laws.proofs.Cases.{by_option, by_test}
-use Rattle.node_laws.proofs.Cases.{by_test}
 use Rattle.node_laws.proofs.readings.Silent.{IsQuiet, told_rest, rest_quiet}
 use Rattle.node_laws.proofs.notices.Reading.{reads}
 use Rattle.node_laws.proofs.notices.Own.{IsFar, IsOwn, AreOwn, deeds_own, forgotten_own, all_owed_own, all_synced_own}

@@ -7,7 +7,7 @@ use Rattle.node_laws.proofs.Words.{AreDifferent, AsksReset, AtEnd, Comes, Contro
 use Rattle.node_laws.proofs.Words.{IfItRuns, IfNoticedUp, IfReads, IsFresh, IsHost, IsKeptNotice, IsNoticedUp, IsOrderly, IsOutside, IsRightNotice, IsShut}
 use Rattle.node_laws.proofs.Words.{Link, LinkEnd, LinkInput, NodeInput, NodeWorld, NoticesAreUp, NumberedEnd, OnFirst, Plan, Port, Reset, Running, Site, Starts}
 use Rattle.node_laws.proofs.Words.{Step, TimePasses, Turn, Work, activates, aged, aged_entries, all_aged, arrival, asking_in, by_coming, by_controller}
-use Rattle.node_laws.proofs.Words.{by_controller_tick, comes_at, comes_to, controller_does, controller_ticks, controller_work, end_c, end_h, ending_of}
+use Rattle.node_laws.proofs.Words.{by_controller_tick, by_test, comes_at, comes_to, controller_does, controller_ticks, controller_work, end_c, end_h, ending_of}
 use Rattle.node_laws.proofs.Words.{entries_for, frames_noted, has_input, hosts_in, hosts_tick, input_of, is_late_at, is_up, is_waiting, link_after_controller}
 use Rattle.node_laws.proofs.Words.{link_to, near_end_in, near_tick, notice_at, notice_in, port_at, port_for, runs_on, site_ticked, site_unticked, steps}
 use Rattle.node_laws.proofs.Words.{ticked_so, ticks_at_controller, turns_at, wires_for, work_of, world_ticks}
@@ -27,7 +27,6 @@ use Rattle.node_laws.proofs.notices.Sites.{AreGood, Reads, still_reads, far_hush
 use Rattle.node_laws.proofs.notices.Sites.{far_reads_so}
 use Rattle.node_laws.proofs.notices.Sites.{all_tick}
 use Rattle.node_laws.proofs.telling.Nodes.{ports_for, hosts_same}
-use Rattle.node_laws.proofs.Cases.{by_test}
 
 -- ## Ends as a step begins
 

@@ -2,9 +2,8 @@
 use Rattle.std.proofs.Common.{◌≡◌, ℕ, true, false, eqb, List}
 use Rattle.std.specs.List.{AllByRecursion, flat_map}
 use Rattle.node_laws.proofs.Words.{Asks, Core, Deed, Ends, Entry, Message, NodeInput, OfHost, Plain, Port, all_of_host, all_owed, all_owed_hold}
-use Rattle.node_laws.proofs.Words.{all_synced_hold, deeds_of, end_view, forgotten, forgotten_hold, host_deeds, own_view, port_at, synced}
+use Rattle.node_laws.proofs.Words.{all_synced_hold, by_option, deeds_of, end_view, forgotten, forgotten_hold, host_deeds, own_view, port_at, synced}
 use Rattle.trace_model.specs.declared.entry.Entry.TheVariants as entry
-use Rattle.node_laws.proofs.Cases.{by_option}
 
 -- a host may note it: it tells of no end of a controller, of no creation that is asked for, and neither of the power nor of the
 -- commands of a controller

@@ -4,9 +4,9 @@ use Rattle.std.specs.Prelude.{◌==◌}
 use Rattle.std.proofs.lemmas.Bool.{true≢false}
 use Rattle.node_laws.proofs.Words.{ActEvent, Bare, Clf, Clt, Control, EndEvent, Ending, Fetch, FromNode, I, IsShut, Link, LinkEnd, LinkInput, LinkState}
 use Rattle.node_laws.proofs.Words.{Refused, Reset, Role, Rset, S, Start, Stop, Take, TakeBroken, TakeUnknown, Tick, Turn, Ua, Uicc, Up, act_answer, activated}
-use Rattle.node_laws.proofs.Words.{activated_role, after_input, frame_fetched, had_tick, happens_at_controller, heard, is_open, moved, new_link_end, put_down}
-use Rattle.node_laws.proofs.Words.{renewed, reset_refusal, role_after, sent_all, stopped, tick_answer, ticked, ticks_at_controller, took, turn, turned}
-use Rattle.node_laws.proofs.Words.{turned_role, with_act}
+use Rattle.node_laws.proofs.Words.{activated_role, after_input, by_list, by_test, frame_fetched, had_tick, happens_at_controller, heard, is_open, moved}
+use Rattle.node_laws.proofs.Words.{new_link_end, put_down, renewed, reset_refusal, role_after, sent_all, stopped, tick_answer, ticked, ticks_at_controller}
+use Rattle.node_laws.proofs.Words.{took, turn, turned, turned_role, with_act}
 use Rattle.swp_base.specs.declared.control_frames.Control.TheVariants.{Act as ActFrame}
 use Rattle.swp_base.specs.declared.control_frames.Act.{Act}
 use Rattle.swp_act.specs.declared.ActEvent.TheVariants.{Start as ActStart, Take as ActTake, Tick as ActTick, Stop as ActStop}
@@ -15,7 +15,6 @@ use Rattle.link_laws.proofs.sessions.Ties.{fetched-phase}
 use Rattle.link_laws.proofs.messages.Project.{moved_role}
 use Rattle.link_laws.proofs.messages.Steps.{role_closes}
 use Rattle.link_laws.proofs.messages.Finishing.{tick_role}
-use Rattle.node_laws.proofs.Cases.{by_list, by_test}
 use Rattle.node_laws.proofs.links.Ends.{here_is, tick_is}
 use Rattle.node_laws.proofs.links.Noticing.{turn-phase}
 use Rattle.node_laws.proofs.readings.Sites.{sent_phase}

@@ -4,14 +4,12 @@ use Rattle.std.specs.Prelude.{Option, Some, None}
 use Rattle.std.specs.List.{AllByRecursion}
 use Rattle.std.proofs.lemmas.Bool.{cond_both, true≢false}
 use Rattle.node_laws.proofs.Words.{AtEnd, AtHost, Comes, Deed, End, EndEvent, Ending, Entry, GoesOut, Host, IfReads, IsKeptNotice, IsShut, Link, Message}
-use Rattle.node_laws.proofs.Words.{NextFrame, NoInput, NodeWorld, NumberedEnd, Orders, Running, Sends, Site, Step, TimePasses, Work, after_host, arrival}
-use Rattle.node_laws.proofs.Words.{asking_in, beginning, begins_with, by_coming, by_host, by_host_tick, comes_at, ending_entries, ending_of}
-use Rattle.node_laws.proofs.Words.{entries_for, exchanged, frames_noted, happens, host_does, host_tick, host_ticks, host_work, hosts_tick, is_command_message}
-use Rattle.node_laws.proofs.Words.{link_to, near_end_in, notice_at, notice_in, port_at, runs_on, sending, site_at, steps, ticks_at_controller, turns_at}
-use Rattle.node_laws.proofs.Words.{wires_for, with_site, work_of}
+use Rattle.node_laws.proofs.Words.{NextFrame, NoInput, NodeWorld, NumberedEnd, Orders, Running, Sends, Site, Step, TimePasses, Work, after_host, all_changed}
+use Rattle.node_laws.proofs.Words.{all_map, arrival, asking_in, beginning, begins_with, by_coming, by_host, by_host_tick, by_list, by_option, by_test, comes_at}
+use Rattle.node_laws.proofs.Words.{ending_entries, ending_of, entries_for, exchanged, frames_noted, happens, host_does, host_tick, host_ticks, host_work}
+use Rattle.node_laws.proofs.Words.{hosts_tick, is_command_message, link_to, near_end_in, notice_at, notice_in, port_at, runs_on, sending, site_at, steps}
+use Rattle.node_laws.proofs.Words.{ticks_at_controller, turns_at, wires_for, with_site, work_of}
 use Rattle.link_laws.specs.entries.Entries.{End as Side}
-use Rattle.node_laws.proofs.Cases.{by_option, by_list}
-use Rattle.node_laws.proofs.Cases.{by_test}
 use Rattle.node_laws.proofs.links.Ends.{here_host}
 use Rattle.link_laws.proofs.entries.Together.{ticks_host as tick_host}
 use Rattle.node_laws.proofs.readings.Sites.{ending_quiet}
@@ -19,7 +17,6 @@ use Rattle.node_laws.proofs.notices.Reading.{reads, notice_more}
 use Rattle.node_laws.proofs.notices.Own.{AreOwn}
 use Rattle.node_laws.proofs.notices.Far.{AreFar, far-append, far_reads, far_asks, asks, asking_more, quiet_far, IsFarWork, all_do, steps_far}
 use Rattle.node_laws.specs.notices.Worlds.{IfHostNode, IsGoodSite}
-use Rattle.node_laws.proofs.Each.{all_map, all_changed}
 
 abbrev pub AreGood : List Site → Type 0
 AreGood sites = AllByRecursion IsGoodSite sites

@@ -8,11 +8,10 @@ use Rattle.std.proofs.lemmas.Bool.{and_parts}
 use mathlib.Core.Bool.{or-false, or-true}
 use Rattle.node_laws.proofs.Words.{About, AreDifferent, Commits, Controller, Core, Creation, Deed, Entry, Forgotten, IsAbout, IsComing, IsCommand, IsFresh}
 use Rattle.node_laws.proofs.Words.{IsHost, IsKeptNotice, IsNoticeOf, IsShut, LinkEnd, LinkInput, NodeInput, Notice, Port, Releases, Removed, Reset, Response}
-use Rattle.node_laws.proofs.Words.{Sends, Sync, Up, Waits, after_input, asked_at, creation_in, ended_by, finds_room, forgets, has_come, input_at}
-use Rattle.node_laws.proofs.Words.{instruction_in, is_forgotten, is_kept_sync, is_late, is_notice, is_open, is_over, is_up, older_notice, owed, own_side}
-use Rattle.node_laws.proofs.Words.{port_at, report, reset_late, synced, told_at, told_late, with_older, without_notice}
+use Rattle.node_laws.proofs.Words.{Sends, Sync, Up, Waits, after_input, asked_at, by_option, by_test, creation_in, ended_by, finds_room, forgets, has_come}
+use Rattle.node_laws.proofs.Words.{input_at, instruction_in, is_forgotten, is_kept_sync, is_late, is_notice, is_open, is_over, is_up, older_notice, owed}
+use Rattle.node_laws.proofs.Words.{own_side, port_at, report, reset_late, synced, told_at, told_late, with_older, without_notice}
 use Rattle.shdlc_core.specs.declared.answers.LinkState.TheVariants.{Down}
-use Rattle.node_laws.proofs.Cases.{by_option, by_test}
 use Rattle.node_laws.proofs.links.Staying.{stays_up}
 use Rattle.node_laws.proofs.links.Noticing.{UpAt}
 use Rattle.node_laws.proofs.readings.Noticed.{up_is}

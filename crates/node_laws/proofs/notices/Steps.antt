@@ -5,12 +5,10 @@ use Rattle.std.specs.List.{AllByRecursion, flat_map, filter, filter_map, list_an
 use Rattle.std.specs.Option.{option_map, option_map_or, option_and_then}
 use Rattle.node_laws.proofs.Words.{AreDifferent, AtEnd, Controller, Core, Creation, Deed, Entry, HciTables, IsComing, IsFresh, IsHost, IsKeptNotice, IsOutside}
 use Rattle.node_laws.proofs.Words.{IsRightNotice, IsShut, LinkInput, NodeInput, Notice, Port, Release, Releases, Reset, Tick, TimePasses, Work, after_sessions}
-use Rattle.node_laws.proofs.Words.{all_come, all_done, all_owed, answers_and_passes, asked_at, ended_by, forgets, has_come, input_at, is_forgotten, is_late}
-use Rattle.node_laws.proofs.Words.{is_over, older_notice, owed, own_side, passes, port_at, reset_late, steps, synced, times_out, told_at, told_late, turn_at}
-use Rattle.node_laws.proofs.Words.{unless_cut, with_older, without_notice}
+use Rattle.node_laws.proofs.Words.{all_come, all_done, all_flat, all_owed, answers_and_passes, asked_at, by_option, by_test, ended_by, forgets, has_come}
+use Rattle.node_laws.proofs.Words.{input_at, is_forgotten, is_late, is_over, older_notice, owed, own_side, passes, port_at, reset_late, steps, synced}
+use Rattle.node_laws.proofs.Words.{times_out, told_at, told_late, turn_at, unless_cut, with_older, without_notice}
 use Rattle.gate_answers.specs.declared.response.Response.TheVariants as response
-use Rattle.node_laws.proofs.All.{all_flat}
-use Rattle.node_laws.proofs.Cases.{by_test, by_option}
 use Rattle.node_laws.proofs.links.Noticing.{UpAt, at_all, at_host, outside as from_outside}
 use Rattle.node_laws.proofs.notices.Reading.{reads, read_more}
 use Rattle.node_laws.proofs.notices.Telling.{AreRight}

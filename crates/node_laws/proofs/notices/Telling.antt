@@ -7,15 +7,15 @@ use Rattle.std.proofs.lemmas.Bool.{true≢false, eqb-true, eqb-false, ne_eqb, an
 use Rattle.node_laws.proofs.Words.{About, Answer, AreDifferent, AreTables, Ask, Asks, Command, Commit, Commits, Core, Create, Creation, Decision, Deed, Drops}
 use Rattle.node_laws.proofs.Words.{Forgotten, HciTables, IsAnswered, IsCommand, IsNoticeOf, IsRecordableDecision, IsRightNotice, JoinTwo, LinkView, Message}
 use Rattle.node_laws.proofs.Words.{Notice, PipeRow, Port, Releases, Removed, SaysOk, Sends, SetsErrors, Tells, Waits, agreed, answer_of, asked_at, body_in}
-use Rattle.node_laws.proofs.Words.{commit_deeds, controller_deeds, controller_holds, creation_in, decided, decision_deeds, finds_room, gates, has, has_link}
-use Rattle.node_laws.proofs.Words.{identity_served, is_host, is_notice, is_response, link_deeds, link_served, own_gate, own_view, port_at, view_for, view_of}
+use Rattle.node_laws.proofs.Words.{by_test, commit_deeds, controller_deeds, controller_holds, creation_in, decided, decision_deeds, finds_room, gates, has}
+use Rattle.node_laws.proofs.Words.{has_link, identity_served, is_host, is_notice, is_response, link_deeds, link_served, own_gate, own_view, port_at, view_for}
+use Rattle.node_laws.proofs.Words.{view_of}
 use Rattle.hci_tables.specs.Commands.{is_dynamic}
 use Rattle.gate_answers.specs.declared.response.Response.TheVariants as response
 use Rattle.gate_admin.specs.View.{hosts_where}
 use Rattle.tables_laws.specs.gate.Rules.{IsAskedFor, AsksAsAllowed}
 use Rattle.tables_laws.proofs.gate.Decisions.{decided_as_allowed}
 use Rattle.node_machine.specs.Controller.{answers_on}
-use Rattle.node_laws.proofs.Cases.{by_test}
 use Rattle.node_laws.proofs.links.Noticing.{UpAt}
 use Rattle.node_laws.proofs.steps.Ports.{at_port}
 use Rattle.node_machine.proofs.Walks.{AnswersNone}

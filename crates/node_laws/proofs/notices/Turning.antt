@@ -5,12 +5,11 @@ use Rattle.std.specs.List.{AllByRecursion}
 use Rattle.std.specs.Option.{option_map, option_map_or, option_and_then}
 use Rattle.std.proofs.lemmas.Bool.{cases_Bool, eqb-true, eqb-false, ne_eqb, eq-eqb, true≢false, le-ltb}
 use Rattle.node_laws.proofs.Words.{AllReach, Asks, Commits, Deed, Drops, Entry, FetchMessage, Hold, IsAnswered, IsHost, IsKeptNotice, IsRightNotice, Message}
-use Rattle.node_laws.proofs.Words.{Notice, Port, Releases, SaysOk, Sends, SetsErrors, Tells, Up, Work, after_turn, all_done, changed_if, controller_deeds, done}
-use Rattle.node_laws.proofs.Words.{end_c, end_of_node, give_refusal, goes_through_ends, handles, has_link, have_turns, holds_back, is_held, is_response, is_up}
-use Rattle.node_laws.proofs.Words.{lack, lets_go, need, needs, noting, passes, port_at, same_end, spare, turn_at, view_of, with_desk, with_port}
+use Rattle.node_laws.proofs.Words.{Notice, Port, Releases, SaysOk, Sends, SetsErrors, Tells, Up, Work, after_turn, all_done, by_option, by_test, changed_if}
+use Rattle.node_laws.proofs.Words.{controller_deeds, done, end_c, end_of_node, give_refusal, goes_through_ends, handles, has_link, have_turns, holds_back}
+use Rattle.node_laws.proofs.Words.{is_held, is_response, is_up, lack, lets_go, need, needs, noting, passes, port_at, same_end, spare, turn_at, view_of}
+use Rattle.node_laws.proofs.Words.{with_desk, with_port}
 use Rattle.trace_model.specs.declared.entry.Entry.TheVariants as entry
-use Rattle.node_laws.proofs.Cases.{by_test}
-use Rattle.node_laws.proofs.Cases.{by_option}
 use Rattle.node_laws.proofs.links.Noticing.{UpAt, at_all, at_host}
 use Rattle.node_laws.proofs.links.Reaching.{controller_reach}
 use Rattle.node_laws.proofs.readings.Noticed.{up_is}

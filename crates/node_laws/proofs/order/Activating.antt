@@ -5,10 +5,9 @@ use Rattle.std.specs.Prelude.{is_some}
 use Rattle.std.proofs.lemmas.Bool.{eqb-true, true≢false}
 use Rattle.node_laws.proofs.Words.{Activates, AtController, AtEnd, AtHost, Bare, Clf, Comes, Ending, Entry, Happening, IfOff, IsLine, IsUicc, Link, NoInput}
 use Rattle.node_laws.proofs.Words.{NodeWorld, NumberedEnd, Role, Running, Site, Start, Starts, Step, Turn, Uicc, Work, activates, after_controller, after_host}
-use Rattle.node_laws.proofs.Words.{changed_if, comes_at, comes_to, controller_work, end_c, end_h, ending_of, exchanged, found, from_start, happens, host_does}
-use Rattle.node_laws.proofs.Words.{host_work, inactive, link_after_controller, new_line, new_link_end, new_uicc, readiness_of, same_number, site_at, steps}
-use Rattle.node_laws.proofs.Words.{turns_at, with_site}
-use Rattle.node_laws.proofs.Cases.{by_option, by_test}
+use Rattle.node_laws.proofs.Words.{by_option, by_test, changed_if, comes_at, comes_to, controller_work, end_c, end_h, ending_of, exchanged, found, from_start}
+use Rattle.node_laws.proofs.Words.{happens, host_does, host_work, inactive, link_after_controller, new_line, new_link_end, new_uicc, readiness_of, same_number}
+use Rattle.node_laws.proofs.Words.{site_at, steps, turns_at, with_site}
 use Rattle.node_laws.proofs.links.Ends.{here_host}
 use Rattle.node_laws.proofs.links.Works.{steps_fine}
 use Rattle.node_laws.proofs.links.Worlds.{IsFineSite}

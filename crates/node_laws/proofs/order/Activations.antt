@@ -3,7 +3,7 @@ use Rattle.std.proofs.Common.{◌≡◌, ◌⊎◌, inl, inr, ℕ, ◌+◌, ◌*
 use Rattle.std.specs.Prelude.{drop, ◌&&◌, not, find, nat_lt, nat_le, slice_index, Ok, Err}
 use Rattle.std.specs.List.{AllByRecursion, list_any}
 use Rattle.std.proofs.lemmas.Bool.{true≢false, leb-true}
-use Rattle.node_laws.proofs.Words.{Act, Control, I, Loss, S, end_of, frames_on, lost_as, lpdu_of, or_none, sans}
+use Rattle.node_laws.proofs.Words.{Act, Control, I, Loss, S, by_test, end_of, frames_on, lost_as, lpdu_of, or_none, sans}
 use Rattle.swp_lpdu.specs.declared.LpduFault.TheVariants.{Short, TooLong}
 use Rattle.swp_lpdu.specs.Controls.{LpduRow, table, is_within, read_by, kind_number}
 use Rattle.link_laws.specs.places.Wire.{OnWire, is_act}
@@ -11,8 +11,6 @@ use Rattle.link_laws.specs.entries.Entries.{End as Side}
 use Rattle.trace_model.specs.declared.entry.Entry.TheVariants as entry
 use Rattle.history.proofs.legal.Reading.{link_same}
 use Rattle.node_laws.specs.order.Resets.{IsFreeOfLinkFrames, is_act_lpdu, is_act_read}
-use Rattle.node_laws.proofs.Cases.{by_test}
-use Rattle.node_laws.proofs.Cases.{by_test}
 use Rattle.node_laws.proofs.order.Withheld.{loses_one_on}
 
 -- ## Bytes

@@ -5,14 +5,13 @@ use Rattle.std.proofs.lemmas.Bool.{eqb-true}
 use Rattle.node_laws.proofs.Words.{AtController, AtEnd, AtHost, Broken, Clf, Comes, Controller, CutOff, Deed, Desk, End, EndEvent, Entry, HasEnds, Host}
 use Rattle.node_laws.proofs.Words.{IfItRuns, IfOff, IsClf, IsOrderly, Link, LinkEnd, LinkEvent, LinkInput, Lose, Loss, Memory, NoInput, NodeWorld, NumberedEnd}
 use Rattle.node_laws.proofs.Words.{OnWire, Running, Site, StandsOf, Step, TellOf, Uicc, Work, after_controller, after_host, after_planned, arrival, begins_with}
-use Rattle.node_laws.proofs.Words.{boot_found, boot_writes, boot_written, boots, by_boot, by_coming, by_controller, by_memory, by_power, by_running, comes_at}
-use Rattle.node_laws.proofs.Words.{comes_to, controller_does, controller_work, count_of, counts, ending_of, entries_for, exchanged, first_lost, frame_lost}
-use Rattle.node_laws.proofs.Words.{happens, happens_at_controller, host_cut, host_does, host_work, hosts_in, input_of, link_after_controller, link_to, links_of}
-use Rattle.node_laws.proofs.Words.{loses_power_at, memory_at, near_end_in, new_clf, new_desk, new_link_end, new_uicc, of_link, runs_on, same_number, site_at}
-use Rattle.node_laws.proofs.Words.{steps, turns_at, with_error, with_memory, with_node, with_site, work_of}
+use Rattle.node_laws.proofs.Words.{boot_found, boot_writes, boot_written, boots, by_boot, by_coming, by_controller, by_memory, by_option, by_power, by_running}
+use Rattle.node_laws.proofs.Words.{by_test, comes_at, comes_to, controller_does, controller_work, count_of, counts, ending_of, entries_for, exchanged}
+use Rattle.node_laws.proofs.Words.{first_lost, frame_lost, happens, happens_at_controller, host_cut, host_does, host_work, hosts_in, input_of}
+use Rattle.node_laws.proofs.Words.{link_after_controller, link_to, links_of, loses_power_at, memory_at, near_end_in, new_clf, new_desk, new_link_end, new_uicc}
+use Rattle.node_laws.proofs.Words.{of_link, runs_on, same_number, site_at, steps, turns_at, with_error, with_memory, with_node, with_site, work_of}
 use Rattle.trace_model.specs.declared.entry.Entry.TheVariants as entry
 use Rattle.link_laws.specs.entries.Entries.{End as Side}
-use Rattle.node_laws.proofs.Cases.{by_option, by_test}
 use Rattle.node_laws.proofs.links.Ends.{here_host}
 use Rattle.node_laws.proofs.links.Works.{IsFineWork, all_done_fine, steps_fine}
 use Rattle.node_laws.proofs.links.Deeds.{AreFine}

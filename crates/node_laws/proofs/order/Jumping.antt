@@ -3,12 +3,11 @@ use Rattle.std.proofs.Common.{◌≡◌, ℕ, ◌+◌, ◌<◌, ◌≤◌, Bool,
 use Rattle.std.specs.Prelude.{nat_lt, if◌then◌else◌}
 use Rattle.std.specs.List.{list_any}
 use Rattle.std.proofs.lemmas.Bool.{true≢false, ltb-true, ltb-false}
-use Rattle.node_laws.proofs.Words.{Control, Controller, Cut, Emit, Host, Lost, OnWire, Restarted, Seen, Took, is_rset, see, see_all, silences}
+use Rattle.node_laws.proofs.Words.{Control, Controller, Cut, Emit, Host, Lost, OnWire, Restarted, Seen, Took, by_test, is_rset, see, see_all, silences}
 use Rattle.link_laws.specs.sessions.Sessions.{older}
 use Rattle.link_laws.specs.entries.Entries.{End, Entry}
 use Rattle.link_laws.specs.entries.Entries.Entry.{Tick}
 use Rattle.link_laws.specs.entries.Reading.{numbered, taken_first}
-use Rattle.node_laws.proofs.Cases.{by_test}
 
 -- the frames on their way to an end, and the greatest number that it has put on the link and taken
 abbrev pub mail : End → Seen → List OnWire

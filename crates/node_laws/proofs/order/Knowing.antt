@@ -4,10 +4,9 @@ use Rattle.std.proofs.lemmas.Bool.{eqb-true}
 use Rattle.std.proofs.lemmas.List.Sums.{fold-append}
 use Rattle.node_laws.proofs.Words.{AsksReset, Bare, Clf, Comes, CutOff, Entry, IfOff, IsClf, IsLinkTold, IsUicc, Link, LinkEnd, LinkEvent, LinkInput, Memory}
 use Rattle.node_laws.proofs.Words.{NextFrame, NoInput, NodeWorld, Reset, Role, Running, Site, Standing, Start, Starts, Step, Stop, Stops, Take, Turn, Uicc}
-use Rattle.node_laws.proofs.Words.{after_input, after_link_events, changed_if, entries, entries_for, event_entries, happens, happens_at_controller, has_taken}
-use Rattle.node_laws.proofs.Words.{input_of, kept, law_noted, new_clf, new_line, new_link_end, new_standing, new_uicc, of_link, renewed, site_at, standing}
-use Rattle.node_laws.proofs.Words.{standing_by_law, stands_noted, steps_at_controller, turned}
-use Rattle.node_laws.proofs.Cases.{by_list, by_option}
+use Rattle.node_laws.proofs.Words.{after_input, after_link_events, by_list, by_option, changed_if, changed_same, entries, entries_for, event_entries, happens}
+use Rattle.node_laws.proofs.Words.{happens_at_controller, has_taken, input_of, kept, law_noted, new_clf, new_line, new_link_end, new_standing, new_uicc}
+use Rattle.node_laws.proofs.Words.{of_link, renewed, site_at, standing, standing_by_law, stands_noted, steps_at_controller, turned}
 use Rattle.node_laws.proofs.links.Ends.{here_clf, here_uicc}
 use Rattle.node_laws.proofs.links.Sites.{run_of_more}
 use Rattle.node_laws.proofs.telling.Accounts.{of-append}
@@ -20,7 +19,6 @@ use Rattle.node_laws.proofs.order.Watches.{IsStepOf, WatchedLink, watched, kept_
 use Rattle.node_laws.proofs.order.Readying.{AreReady}
 use Rattle.node_laws.proofs.order.Wires.{ShownBy, Shown, shown_same}
 use Rattle.node_laws.proofs.turns.Works.{site_none}
-use Rattle.node_laws.proofs.Each.{changed_same}
 
 -- ## One link
 

@@ -6,9 +6,9 @@ use Rattle.std.proofs.lemmas.List.Concat.{flat_map-append}
 use Rattle.std.proofs.lemmas.List.Sums.{fold-append}
 use Rattle.node_laws.proofs.Words.{Activates, AreHosts, ArePlayable, Arms, AsksReset, Boots, Entry, FollowsNodes, Gives, Happening, Header, Inits, IsCut}
 use Rattle.node_laws.proofs.Words.{IsOrderly, IsPlayable, Line, LineStep, Loses, Message, NextFrame, NodeHistory, NodeWorld, NoticesAreUp, Occurrence, Orders}
-use Rattle.node_laws.proofs.Words.{Resets, Sends, Site, Standing, Takes, Ticks, as_event_begins, as_event_ends, beginning, entries_in, first_verdict, frames_at}
-use Rattle.node_laws.proofs.Words.{happenings, hosts_in, if_off, memory_at, new_site, new_standing, new_world, occurrences_in, of_link, refusal_in, sending}
-use Rattle.node_laws.proofs.Words.{site_at, standing, steps_from, taken_of, world_after, world_behind, world_step}
+use Rattle.node_laws.proofs.Words.{Resets, Sends, Site, Standing, Takes, Ticks, as_event_begins, as_event_ends, beginning, by_test, entries_in, first_verdict}
+use Rattle.node_laws.proofs.Words.{frames_at, happenings, hosts_in, if_off, memory_at, new_site, new_standing, new_world, occurrences_in, of_link, refusal_in}
+use Rattle.node_laws.proofs.Words.{sending, site_at, standing, steps_from, taken_of, world_after, world_behind, world_step}
 use Rattle.trace_model.specs.declared.line.Line.TheVariants as line
 use Rattle.node_laws.proofs.links.Playing.{MayHappen, AreLasting, plain_reach, sending_fine, step_fine, repeated, damaged, runs_then, world_fine}
 use Rattle.node_laws.proofs.telling.Lasting.{AllMay, events_of_steps, occurs, EachHolds, front_each, lines_each, behind_lines}
@@ -27,7 +27,6 @@ use Rattle.node_laws.proofs.order.Events.{IsWell, comes_each, begins_each, memor
 use Rattle.node_laws.proofs.order.Activating.{behind, activates_each}
 use Rattle.node_laws.proofs.order.Ticking.{ticks_each}
 use Rattle.node_laws.proofs.order.Strangers.{IsStrange, step_kept, step_none}
-use Rattle.node_laws.proofs.Cases.{by_test}
 
 -- how each link stands behind these events, and of which of them it is known that nothing withheld the answer to a reset
 abbrev pub watches : (ℕ → Bool) → List Occurrence → ℕ → WatchedLink

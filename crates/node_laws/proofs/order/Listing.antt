@@ -3,11 +3,10 @@ use Rattle.std.proofs.Common.{ℕ, Bool, true, false, List, [], ◌∷◌, ◌++
 use Rattle.std.specs.Prelude.{nat_lt, option_to_list, length}
 use Rattle.std.specs.List.{AllByRecursion}
 use Rattle.node_laws.proofs.Words.{Acked, Control, Emit, GaveUp, Give, Got, Link, LinkEnd, Loss, Lost, Message, OnWire, Refused, Report, Sent, TooMany, TooOld}
-use Rattle.node_laws.proofs.Words.{Turn, aged_entries, far, first_lost, give_refusal, if_so, pushed_out, put, puts_entries, sent_unless, turn, turn_entries}
-use Rattle.node_laws.proofs.Words.{turn_entry, wire_with}
+use Rattle.node_laws.proofs.Words.{Turn, aged_entries, by_test, far, first_lost, give_refusal, if_so, pushed_out, put, puts_entries, sent_unless, turn}
+use Rattle.node_laws.proofs.Words.{turn_entries, turn_entry, wire_with}
 use Rattle.link_laws.specs.entries.Entries.{End, Entry as Noted}
 use Rattle.link_laws.specs.entries.Entries.Entry.{Up}
-use Rattle.node_laws.proofs.Cases.{by_test}
 
 -- It holds of the notes of messages, and of frames that go out of this end, or are lost.
 pub record Holds (D : Noted → Type 0) (who : End) : Type 0 where

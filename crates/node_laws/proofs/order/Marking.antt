@@ -2,9 +2,9 @@
 use Rattle.std.proofs.Common.{◌≡◌, ℕ, ◌<◌, ◌==◌, Bool, true, false, List, [], ◌∷◌, ◌++◌, map, Option, Some, None, refl, ap, sym, subst, ◌∙◌}
 use Rattle.std.specs.Prelude.{is_some, if◌then◌else◌}
 use Rattle.node_laws.proofs.Words.{Acts, AllShdlcAllowed, Control, Deliver, EndState, Ignore, LinkState, OnWire, SafeLink, Session, ShdlcEndEvent, ShdlcLink}
-use Rattle.node_laws.proofs.Words.{ShdlcLinkEvent, Turns, Up, Waiting, act_frame, is_rset, is_up, is_waiting, most_frames, new_end, no_session, reset_with}
-use Rattle.node_laws.proofs.Words.{shdlc_after, shdlc_becomes, shdlc_exchanged, shdlc_happens_at_controller, shdlc_put_all, shdlc_silent, shdlc_turned, stopped}
-use Rattle.node_laws.proofs.Words.{take_answer, taken, tick_answer, ticked, took_with, with_shdlc_ended}
+use Rattle.node_laws.proofs.Words.{ShdlcLinkEvent, Turns, Up, Waiting, act_frame, by_test, is_rset, is_up, is_waiting, most_frames, new_end, no_session}
+use Rattle.node_laws.proofs.Words.{reset_with, shdlc_after, shdlc_becomes, shdlc_exchanged, shdlc_happens_at_controller, shdlc_put_all, shdlc_silent}
+use Rattle.node_laws.proofs.Words.{shdlc_turned, stopped, take_answer, taken, tick_answer, ticked, took_with, with_shdlc_ended}
 use Rattle.shdlc_core.specs.declared.answers.LinkState.TheVariants.{Down}
 use Rattle.shdlc_core.specs.Machine.{frames_of, after_frames}
 use Rattle.link_laws.specs.sessions.Sessions.{NumberedShdlc, ShdlcTurn, shdlc_number_of, ended_session}
@@ -17,7 +17,6 @@ use Rattle.link_laws.specs.sessions.Losses.{sans}
 use Rattle.link_laws.proofs.sessions.Data.{Base, OnLive, Below, bound}
 use Rattle.link_laws.proofs.sessions.Wire.{live}
 use Rattle.link_laws.proofs.sessions.Steps.{safe_turns, safe_event}
-use Rattle.node_laws.proofs.Cases.{by_test}
 
 -- an end below whose ended sessions these stand
 abbrev pub below : List (ℕ × Session) → NumberedShdlc → NumberedShdlc

@@ -3,13 +3,12 @@ use Rattle.std.proofs.Common.{◌≡◌, ℕ, zero, suc, ◌+◌, ◌*◌, ◌<�
 use Rattle.std.specs.Prelude.{◌&&◌, not, nat_lt, nat_le, slice_index}
 use Rattle.std.specs.List.{AllByRecursion}
 use Rattle.std.proofs.lemmas.Bool.{true≢false, ltb-true, lt-ltb, le-leb}
-use Rattle.node_laws.proofs.Words.{Act, Control, Emit, I, PowerMode, Ready, S, SyncId, frames_out, is_rset, lpdu_of}
+use Rattle.node_laws.proofs.Words.{Act, Control, Emit, I, PowerMode, Ready, S, SyncId, by_test, frames_out, is_rset, lpdu_of}
 use Rattle.swp_base.specs.declared.control_frames.Kind.TheVariants.{Rr, Rej, Rnr, Srej}
 use Rattle.swp_lpdu.specs.Controls.{HasNumbers, lpdu_row, lpdu_row_of, i_frame}
 use Rattle.link_laws.specs.entries.Entries.{End as Side, Entry as Noted}
 use Rattle.history.specs.Legal.{is_rset_lpdu}
 use Rattle.history.proofs.legal.Plain.{out_numbers}
-use Rattle.node_laws.proofs.Cases.{by_test}
 use Rattle.node_laws.proofs.order.Silencing.{HearsNone}
 
 -- ## Numbers

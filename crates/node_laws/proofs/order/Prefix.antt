@@ -2,8 +2,8 @@
 use Rattle.std.proofs.Common.{◌≡◌, ℕ, Bool, true, false, List, [], ◌∷◌, ◌++◌, Option, Some, None, refl, ap, sym, subst, ◌∙◌}
 use Rattle.std.specs.Prelude.{◌==◌, ◌||◌}
 use Rattle.std.specs.List.{cons_option, filter, filter_map, flat_map, fold, list_any}
-use Rattle.node_laws.proofs.Words.{End, Entry, IsLine, IsLinkTold, Link, Saying, entries, entries_for, entry_of, is_of, new_line, of_link, other_end, said}
-use Rattle.node_laws.proofs.Words.{same_number, tells_of}
+use Rattle.node_laws.proofs.Words.{End, Entry, IsLine, IsLinkTold, Link, Saying, by_test, entries, entries_for, entry_of, is_of, new_line, of_link, other_end}
+use Rattle.node_laws.proofs.Words.{said, same_number, tells_of}
 use Rattle.trace_model.specs.declared.entry.Entry.TheVariants as entry
 use Rattle.link_laws.specs.entries.Entries.{End as Side, Entry as Noted}
 use Rattle.link_laws.specs.entries.Order.{InOrderIn}
@@ -14,7 +14,6 @@ use Rattle.history.specs.Legal.{is_chain_fault}
 use Rattle.history.proofs.legal.Noted.{fault-all}
 use Rattle.history.proofs.legal.Ordered.{IsOneAtMost, front_given, one_entry, AtEnd, read_as, empty, order_at}
 use Rattle.history.proofs.legal.Reading.{or_right}
-use Rattle.node_laws.proofs.Cases.{by_test}
 use Rattle.node_laws.proofs.telling.Accounts.{untold, of-append}
 
 -- ## What is said of an end is said of its link

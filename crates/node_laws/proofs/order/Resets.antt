@@ -5,17 +5,15 @@ use Rattle.std.specs.List.{list_any}
 use Rattle.std.proofs.lemmas.Bool.{true≢false}
 use Rattle.node_laws.proofs.Words.{AreSessionsRead, AreUpTogether, AsksReset, AtController, AtEnd, AtHost, Comes, Controller, CutOff, End, Ending, Entry}
 use Rattle.node_laws.proofs.Words.{FindsReady, GoesOut, Host, IsLine, IsRunOf, IsWindow, Link, LinkEvent, NoInput, NodeWorld, Refused, Reset, Resets, Running}
-use Rattle.node_laws.proofs.Words.{Site, Standing, Step, Turn, Work, after_controller, after_host, changed_if, controller_work, cuts_on, ending_of}
-use Rattle.node_laws.proofs.Words.{event_entries, exchanged, frames_on, happens, host_does, host_work, if_off, is_open, is_waiting, link_after_controller}
-use Rattle.node_laws.proofs.Words.{machine_in, new_line, node_at, node_of, number_of, other_end, refusal_in, reset_refusal, same_number, sans, site_at, steps}
-use Rattle.node_laws.proofs.Words.{turns_at, with_site, world_step}
+use Rattle.node_laws.proofs.Words.{Site, Standing, Step, Turn, Work, after_controller, after_host, by_some, by_test, changed_if, controller_work, cuts_on}
+use Rattle.node_laws.proofs.Words.{ending_of, event_entries, exchanged, frames_on, happens, host_does, host_work, if_off, is_open, is_waiting}
+use Rattle.node_laws.proofs.Words.{link_after_controller, machine_in, new_line, node_at, node_of, number_of, other_end, refusal_in, reset_refusal, same_number}
+use Rattle.node_laws.proofs.Words.{sans, site_at, steps, turns_at, with_site, world_step}
 use Rattle.trace_model.specs.declared.entry.NoCause.TheVariants as no
 use Rattle.trace_model.specs.declared.line.Line.TheVariants as line
 use Rattle.link_laws.proofs.entries.Hearing.{up_session}
 use Rattle.link_laws.proofs.entries.Together.{together}
 use Rattle.history.specs.Follows.{machine_of, as_noted}
-use Rattle.node_laws.proofs.Cases.{by_test}
-use Rattle.node_laws.proofs.Cases.{by_some}
 use Rattle.node_laws.proofs.links.Works.{steps_fine}
 use Rattle.node_laws.proofs.links.Playing.{plain_reach}
 use Rattle.node_laws.proofs.kept.Lines.{first_none}

@@ -8,12 +8,12 @@ use Rattle.node_laws.proofs.Words.{Acked, ActEvent, Activate, Active, AsksReset,
 use Rattle.node_laws.proofs.Words.{CutOff, Down, Emit, EndEvent, EndState, Ending, GaveUp, Give, GoesOut, Got, Host, IsNode, Link, LinkEnd, LinkEvent}
 use Rattle.node_laws.proofs.Words.{LinkInput, Lose, Loss, Lost, Message, NextFrame, NoInput, Node, NumberedEnd, OnWire, Refused, Report, Reset, Restarted, Role}
 use Rattle.node_laws.proofs.Words.{Sent, Start, Starts, Step, Stop, Stops, Take, TicksWithout, TooMany, TooOld, Took, Turn, Uicc, activated, after_input, aged}
-use Rattle.node_laws.proofs.Words.{aged_entries, all_at_controller, core_end, ended_by, ending_entries, entries, entries_of_events, event_entries, exchanged}
-use Rattle.node_laws.proofs.Words.{far, finished, first_lost, frames_out, give_refusal, happens, happens_at_controller, here_entries, if_so, left_after}
-use Rattle.node_laws.proofs.Words.{most_frames, moved, new_link_end, number_of, pushed_out, put, put_entries, puts_entries, renewed, report, reset_role}
-use Rattle.node_laws.proofs.Words.{rest_entries, sent_unless, silences, silent, step_entries, steps_at_controller, stopped, taken_entries, tick_entries}
-use Rattle.node_laws.proofs.Words.{ticks_at_controller, told, told_of, took_with, turn, turn_entries, turn_entry, turned, turned_same, whole_acked, wire_with}
-use Rattle.node_laws.proofs.Words.{with_ended}
+use Rattle.node_laws.proofs.Words.{aged_entries, all_at_controller, by_list, by_test, core_end, ended_by, ending_entries, entries, entries_of_events}
+use Rattle.node_laws.proofs.Words.{event_entries, exchanged, far, finished, first_lost, frames_out, give_refusal, happens, happens_at_controller, here_entries}
+use Rattle.node_laws.proofs.Words.{if_so, left_after, most_frames, moved, new_link_end, number_of, pushed_out, put, put_entries, puts_entries, renewed, report}
+use Rattle.node_laws.proofs.Words.{reset_role, rest_entries, sent_unless, silences, silent, step_entries, steps_at_controller, stopped, taken_entries}
+use Rattle.node_laws.proofs.Words.{tick_entries, ticks_at_controller, told, told_of, took_with, turn, turn_entries, turn_entry, turned, turned_same}
+use Rattle.node_laws.proofs.Words.{whole_acked, wire_with, with_ended}
 use Rattle.swp_act.specs.declared.ActEvent.TheVariants.{Start as ActStart, Stop as ActStop}
 use Rattle.shdlc_core.specs.declared.answers.LinkState.TheVariants.{Down as IsDown}
 use Rattle.link_laws.proofs.sessions.Data.{bound}
@@ -28,8 +28,6 @@ use Rattle.link_laws.proofs.messages.Finishing.{can_end, took_can, restart_mid}
 use Rattle.link_laws.specs.entries.Entries.{End, Entry}
 use Rattle.link_laws.specs.entries.Entries.Entry.{Up, Tick}
 use Rattle.link_laws.proofs.entries.Noting.{restart_can, tick_can}
-use Rattle.node_laws.proofs.Cases.{by_list, by_test}
-use Rattle.node_laws.proofs.Cases.{by_test}
 
 -- ## What is noted of a step
 

@@ -5,7 +5,7 @@ use Rattle.std.specs.Prelude.{nat_lt}
 use Rattle.std.specs.List.{list_any}
 use Rattle.std.proofs.lemmas.Bool.{true≢false, ltb-true, ltb-false}
 use Rattle.shdlc_core.specs.declared.answers.LinkState.TheVariants.{Up as IsUpNow}
-use Rattle.node_laws.proofs.Words.{AllAllowed, Good, IsEvent, IsLine, Link, LinkEvent, NumberedEnd, Reached, Seen, after_link_events, begins, core_end}
+use Rattle.node_laws.proofs.Words.{AllAllowed, Good, IsEvent, IsLine, Link, LinkEvent, NumberedEnd, Reached, Seen, after_link_events, begins, by_test, core_end}
 use Rattle.node_laws.proofs.Words.{core_event, core_of, entries, event_entries, happens, kept, new_line, number_of, see_all, silences}
 use Rattle.link_laws.proofs.messages.Runs.{event_step, reached_more}
 use Rattle.link_laws.proofs.messages.Whole.{start_good, start_reached}
@@ -14,7 +14,6 @@ use Rattle.link_laws.specs.entries.Quiet.{since}
 use Rattle.link_laws.specs.entries.Reading.{nothing_seen}
 use Rattle.link_laws.proofs.entries.Ages.{read_off}
 use Rattle.link_laws.proofs.entries.Seeing.{see_all-append}
-use Rattle.node_laws.proofs.Cases.{by_test}
 use Rattle.node_laws.proofs.telling.Events.{after-append, entries-append}
 use Rattle.node_laws.proofs.order.Marking.{IsPast}
 use Rattle.node_laws.proofs.order.Jumping.{all_resets}

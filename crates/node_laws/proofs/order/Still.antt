@@ -4,8 +4,8 @@ use Rattle.std.specs.Prelude.{◌==◌, ◌||◌, if◌then◌else◌}
 use Rattle.std.specs.List.{fold, list_any}
 use Rattle.std.proofs.lemmas.Bool.{true≢false}
 use Rattle.node_laws.proofs.Words.{AreHosts, ArePlayable, Begins, Controller, Cut, Emit, End, Entry, FollowsNodes, Header, Host, IsLine, IsLinkTold, Line, Link}
-use Rattle.node_laws.proofs.Words.{Message, NodeHistory, NodeWorld, Occurrence, Puts, Restarted, Saying, acked-all, begins, end_c, end_h, entries}
-use Rattle.node_laws.proofs.Words.{entries_for, entries_in, good_of, got-all, is_of, new_line, new_world, number_of, occurrences_in, of_link, or_none}
+use Rattle.node_laws.proofs.Words.{Message, NodeHistory, NodeWorld, Occurrence, Puts, Restarted, Saying, acked-all, begins, by_option, by_test, end_c, end_h}
+use Rattle.node_laws.proofs.Words.{entries, entries_for, entries_in, good_of, got-all, is_of, new_line, new_world, number_of, occurrences_in, of_link, or_none}
 use Rattle.node_laws.proofs.Words.{said, sent-all, session_now, silences, site_at, tells_of, world_behind}
 use Rattle.trace_model.specs.declared.entry.Entry.TheVariants as entry
 use Rattle.shdlc_core.specs.declared.answers.LinkState.TheVariants.{Up as IsUpNow}
@@ -18,8 +18,6 @@ use Rattle.history.specs.Filters.Saying.{Loses}
 use Rattle.history.specs.Legal.{begins_on, loses_on, rejects_on, since_up, has_lost, has_rnr}
 use Rattle.history.proofs.legal.Plain.{ArePlain}
 use Rattle.history.proofs.legal.Reading.{no_bytes, since-all, undisturbed}
-use Rattle.node_laws.proofs.Cases.{by_option, by_test}
-use Rattle.node_laws.proofs.Cases.{by_test}
 use Rattle.node_laws.proofs.telling.Accounts.{untold}
 use Rattle.node_laws.specs.order.Told.{AreWiresRead, IsStillInSession, HasDeliveredAll}
 use Rattle.node_laws.proofs.order.Prefix.{sent_alike, got_alike, acked_alike}

@@ -6,13 +6,12 @@ use Rattle.node_laws.proofs.Words.{Activates, Arms, AsksReset, AtController, AtE
 use Rattle.node_laws.proofs.Words.{Happening, HasEnds, Host, IfItRuns, Inits, IsCut, IsOrderly, Link, LinkInput, Loses, Loss, Memory, NextFrame, NoInput}
 use Rattle.node_laws.proofs.Words.{NodeWorld, NumberedEnd, Resets, Running, Site, Starts, Step, Takes, Ticks, Work, after_host, after_planned, aged}
 use Rattle.node_laws.proofs.Words.{aged_entries, all_aged, arrival, beginning, begins_with, boot_found, boot_writes, boot_written, boots, by_boot, by_coming}
-use Rattle.node_laws.proofs.Words.{by_controller, by_controller_tick, by_host, by_loss, by_memory, by_power, by_running, comes_at, comes_to, controller_does}
-use Rattle.node_laws.proofs.Words.{controller_ticks, controller_work, counts, end_c, end_h, entries_for, exchanged, fails_within, first_lost, frame_lost}
-use Rattle.node_laws.proofs.Words.{frames_noted, happens, host_cut, host_does, host_work, hosts_in, hosts_tick, input_of, link_after_controller, link_to}
-use Rattle.node_laws.proofs.Words.{loses_power_at, memory_at, near_end_in, near_tick, new_link, of_link, port_at, sending, site_at, site_lost, site_ticked}
-use Rattle.node_laws.proofs.Words.{site_unticked, steps, wires_for, with_memory, with_node, work_of, world_step, world_ticks}
+use Rattle.node_laws.proofs.Words.{by_controller, by_controller_tick, by_host, by_loss, by_memory, by_option, by_power, by_running, by_test, comes_at, comes_to}
+use Rattle.node_laws.proofs.Words.{controller_does, controller_ticks, controller_work, counts, end_c, end_h, entries_for, exchanged, fails_within, first_lost}
+use Rattle.node_laws.proofs.Words.{frame_lost, frames_noted, happens, host_cut, host_does, host_work, hosts_in, hosts_tick, input_of, link_after_controller}
+use Rattle.node_laws.proofs.Words.{link_to, loses_power_at, memory_at, near_end_in, near_tick, new_link, of_link, port_at, sending, site_at, site_lost}
+use Rattle.node_laws.proofs.Words.{site_ticked, site_unticked, steps, wires_for, with_memory, with_node, work_of, world_step, world_ticks}
 use Rattle.link_laws.specs.entries.Entries.{Entry as Noted}
-use Rattle.node_laws.proofs.Cases.{by_option, by_test}
 use Rattle.node_laws.proofs.kept.Sites.{hosts_same, hosts_with}
 use Rattle.node_laws.proofs.telling.Mute.{AreMute}
 use Rattle.node_laws.proofs.telling.Accounts.{of-append, of_other}

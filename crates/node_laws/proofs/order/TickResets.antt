@@ -8,8 +8,8 @@ use Rattle.std.proofs.lemmas.List.Folds.{list_any-append}
 use Rattle.node_laws.proofs.Words.{Acked, Act, Active, Asked, AsksReset, Cause, Clt, Control, Controller, Cut, CutOff, Down, Emit, EndState, Ending, Entry}
 use Rattle.node_laws.proofs.Words.{FindsReady, GaveUp, GoesOut, Got, Host, I, IsRunOf, Link, LinkEnd, LinkEvent, LinkInput, LinkState, Lost, Node, Refused}
 use Rattle.node_laws.proofs.Words.{Report, Reset, Restarted, Rset, S, Step, TicksWithout, Turn, Ua, act_answer, after_input, aged, aged_entries}
-use Rattle.node_laws.proofs.Words.{behind_reset_of, cuts_on, end_c, end_h, end_of, ended_by, entries_for, event_entries, exchanged, frames_out, happens}
-use Rattle.node_laws.proofs.Words.{happens_at_controller, if_so, if_up, is_open, is_own_reset, is_rset, lost_as, lpdu_of, number_of, of_link, or_none}
+use Rattle.node_laws.proofs.Words.{behind_reset_of, by_test, cuts_on, end_c, end_h, end_of, ended_by, entries_for, event_entries, exchanged, frames_out}
+use Rattle.node_laws.proofs.Words.{happens, happens_at_controller, if_so, if_up, is_open, is_own_reset, is_rset, lost_as, lpdu_of, number_of, of_link, or_none}
 use Rattle.node_laws.proofs.Words.{puts_entries, report, reset_refusal, rest_entries, runs_timer, said, same_number, step_entries, tells_of, tick_answer}
 use Rattle.node_laws.proofs.Words.{tick_entries, ticks_at_controller, told, told_of, turn_entries, turned, whole_acked, with_ended}
 use Rattle.trace_model.specs.declared.entry.Entry.TheVariants as entry
@@ -23,7 +23,6 @@ use Rattle.link_laws.specs.entries.Entries.{End as Side, Entry as Noted}
 use Rattle.link_laws.specs.entries.Entries.Entry.{Up, Tick}
 use Rattle.link_laws.specs.entries.Settled.{withholds}
 use Rattle.node_laws.specs.order.Resets.{asks_at}
-use Rattle.node_laws.proofs.Cases.{by_test}
 use Rattle.node_laws.proofs.order.Withheld.{loses_one_on}
 use Rattle.node_laws.specs.answers.Unasked.{is_reset_down}
 use Rattle.node_laws.proofs.telling.Reported.{rest_all}

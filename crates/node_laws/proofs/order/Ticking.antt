@@ -6,12 +6,11 @@ use Rattle.std.proofs.lemmas.Bool.{eqb-true, true≢false}
 use Rattle.node_laws.proofs.Words.{AreSendableTurns, AsksReset, Clf, CutOff, Desk, Entry, FindsReady, GoesOut, IfDue, IfItRuns, IfNoticedUp, IfOff, IsClf}
 use Rattle.node_laws.proofs.Words.{IsEvent, IsLine, IsLinkTold, IsNoticedUp, IsTimely, IsUicc, Link, LinkEnd, LinkEvent, NodeWorld, NoneDue, NoticesAreUp}
 use Rattle.node_laws.proofs.Words.{NumberedEnd, OnFirst, Reset, Running, Site, Step, Tick, TimePasses, Turn, Uicc, Up, after_input, after_near_tick, aged}
-use Rattle.node_laws.proofs.Words.{all_aged, by_controller_tick, by_host_tick, controller_ticks, ending_of, exchanged, from_start, host_tick, host_ticks}
-use Rattle.node_laws.proofs.Words.{hosts_tick, is_due, is_late_at, is_open, is_waiting, link_to, near_tick, new_clf, new_line, new_link_end, new_uicc, port_at}
-use Rattle.node_laws.proofs.Words.{port_for, reset_refusal, runs_on, sent_all, site_at, site_ticked, site_unticked, ticked_so, ticks_at_controller, turned}
-use Rattle.node_laws.proofs.Words.{turns_at, work_of, world_ticks}
+use Rattle.node_laws.proofs.Words.{all_aged, by_controller_tick, by_host_tick, by_option, by_test, controller_ticks, ending_of, exchanged, from_start}
+use Rattle.node_laws.proofs.Words.{host_tick, host_ticks, hosts_tick, is_due, is_late_at, is_open, is_waiting, link_to, near_tick, new_clf, new_line}
+use Rattle.node_laws.proofs.Words.{new_link_end, new_uicc, port_at, port_for, reset_refusal, runs_on, sent_all, site_at, site_ticked, site_unticked, ticked_so}
+use Rattle.node_laws.proofs.Words.{ticks_at_controller, turned, turns_at, work_of, world_ticks}
 use Rattle.shdlc_core.specs.declared.answers.LinkState.TheVariants.{Down}
-use Rattle.node_laws.proofs.Cases.{by_option, by_test}
 use Rattle.node_laws.proofs.links.Got.{Clean}
 use Rattle.node_laws.proofs.links.Ends.{here_clf, tick_clf, tick_uicc}
 use Rattle.node_laws.proofs.links.Works.{steps_fine}

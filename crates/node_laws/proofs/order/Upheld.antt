@@ -4,13 +4,13 @@ use Rattle.std.proofs.Common.{◌++◌, Option, Some, refl, ap, sym, subst, ◌�
 use Rattle.std.specs.List.{fold, list_any}
 use Rattle.std.proofs.lemmas.Bool.{eqb-true, true≢false}
 use Rattle.node_laws.proofs.Words.{Activates, AreHosts, ArePlayable, Controller, End, Entry, FollowsNodes, Happening, Header, Host, Line, Link, NodeHistory}
-use Rattle.node_laws.proofs.Words.{NodeWorld, Occurrence, Readiness, Resets, Site, Standing, as_event_begins, as_event_ends, behind_reset_of, cuts_on, end_c}
-use Rattle.node_laws.proofs.Words.{entries_in, hosts_in, new_standing, new_world, occurrences_in, of_link, or_none, other_end, readiness_of, said, same_number}
-use Rattle.node_laws.proofs.Words.{site_at, standing, stands_noted, tells_of, without_power, world_behind, world_step, world_ticks}
+use Rattle.node_laws.proofs.Words.{NodeWorld, Occurrence, Readiness, Resets, Site, Standing, as_event_begins, as_event_ends, behind_reset_of, by_option}
+use Rattle.node_laws.proofs.Words.{by_test, cuts_on, end_c, entries_in, hosts_in, new_standing, new_world, occurrences_in, of_link, or_none, other_end}
+use Rattle.node_laws.proofs.Words.{readiness_of, said, same_number, site_at, standing, stands_noted, tells_of, without_power, world_behind, world_step}
+use Rattle.node_laws.proofs.Words.{world_ticks}
 use Rattle.trace_model.specs.declared.entry.Entry.TheVariants as entry
 use Rattle.history.specs.Follows.{machine_of}
 use Rattle.node_laws.specs.telling.Standing.{standing_behind}
-use Rattle.node_laws.proofs.Cases.{by_option, by_test}
 use Rattle.node_laws.proofs.telling.Accounts.{of-append}
 use Rattle.node_laws.proofs.telling.Powers.{other_said}
 use Rattle.node_laws.proofs.telling.Lasting.{occurs}

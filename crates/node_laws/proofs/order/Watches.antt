@@ -12,10 +12,10 @@ use mathlib.Core.Bool.{or-true}
 use Rattle.node_laws.proofs.Words.{Acked, Act, Activates, Active, Begins, Clt, Comes, Controller, Counts, Cut, CutOff, Down, Emit, End, Entry, GaveUp, Gets}
 use Rattle.node_laws.proofs.Words.{Got, Happening, Host, I, IsEvent, IsRunOf, Link, LinkEnd, LinkEvent, LinkInput, Lost, Puts, Restarted, Rset, S, Saying, Sent}
 use Rattle.node_laws.proofs.Words.{Standing, StandsOf, Starts, Stops, TellOf, Took, Turn, Ua, after_input, after_link_events, as_event_begins, as_event_ends}
-use Rattle.node_laws.proofs.Words.{becomes_at, cuts_on, end_of, ended_by, entries, entries_for, event_entries, happens, input_entries, is_of, law_noted}
-use Rattle.node_laws.proofs.Words.{lost_as, lpdu_of, made_active, new_line, new_standing, no_longer_waits, number_of, of_link, or_none, rest_entries, said}
-use Rattle.node_laws.proofs.Words.{said_far, said_near, standing, standing_by_law, stands_noted, stands_said, stands_told, tells_of, told_of, turn_entries}
-use Rattle.node_laws.proofs.Words.{with_ended}
+use Rattle.node_laws.proofs.Words.{becomes_at, by_test, cuts_on, end_of, ended_by, entries, entries_for, event_entries, happens, input_entries, is_of}
+use Rattle.node_laws.proofs.Words.{law_noted, lost_as, lpdu_of, made_active, new_line, new_standing, no_longer_waits, number_of, of_link, or_none, rest_entries}
+use Rattle.node_laws.proofs.Words.{said, said_far, said_near, standing, standing_by_law, stands_noted, stands_said, stands_told, tells_of, told_of}
+use Rattle.node_laws.proofs.Words.{turn_entries, with_ended}
 use Rattle.trace_model.specs.declared.entry.Entry.TheVariants as entry
 use Rattle.link_laws.specs.entries.Entries.{End as Side, Entry as Noted}
 use Rattle.link_laws.specs.entries.Entries.Entry.{Up, Tick}
@@ -24,7 +24,6 @@ use Rattle.link_laws.proofs.entries.Sparing.{spoils, Spared, Stands, none_withhe
 use Rattle.history.specs.Filters.Saying.{Ends, Sends, Takes, Loses}
 use Rattle.history.specs.Legal.{resets_on}
 use Rattle.history.proofs.legal.Reading.{link_same}
-use Rattle.node_laws.proofs.Cases.{by_test}
 use Rattle.node_laws.proofs.links.Sites.{run_of_more}
 use Rattle.node_laws.specs.telling.Standing.{with_empty_wires, with_inactive_ends}
 use Rattle.node_laws.proofs.telling.Accounts.{untold}

@@ -6,8 +6,8 @@ use Rattle.std.proofs.lemmas.Bool.{true≢false}
 use Rattle.node_laws.proofs.Words.{Acked, Active, AsksReset, AtController, Bare, Begins, Clf, Comes, Controller, Counts, Cut, CutOff, Down, Emit, EndState}
 use Rattle.node_laws.proofs.Words.{Ending, Entry, FetchMessage, GaveUp, Gets, Give, GoesOut, Got, Hold, Host, IsClf, IsLine, IsLinkTold, Link, LinkEnd}
 use Rattle.node_laws.proofs.Words.{LinkEvent, Lost, Node, OnWire, Puts, Release, Reset, Restarted, Role, Saying, Seen, Sent, Session, SetAside, Standing}
-use Rattle.node_laws.proofs.Words.{Starts, Step, Stops, Took, Turn, Uicc, after_link_events, aged, aged_entries, aside_refusal, becomes_at, end_of, entries}
-use Rattle.node_laws.proofs.Words.{event_entries, exchanged, frames_on, frames_out, happens, inactive, kept, law_noted, lpdu_of, made_active, new_line}
+use Rattle.node_laws.proofs.Words.{Starts, Step, Stops, Took, Turn, Uicc, after_link_events, aged, aged_entries, aside_refusal, becomes_at, by_option, end_of}
+use Rattle.node_laws.proofs.Words.{entries, event_entries, exchanged, frames_on, frames_out, happens, inactive, kept, law_noted, lpdu_of, made_active, new_line}
 use Rattle.node_laws.proofs.Words.{no_longer_waits, no_session, readiness_of, said_far, said_near, same_number, see, see_all, silent, standing, standing_by_law}
 use Rattle.node_laws.proofs.Words.{stands_said, started, step_entries, tick_entries, turn, turned}
 use Rattle.shdlc_core.specs.declared.answers.LinkState.TheVariants.{Down as IsDown}
@@ -21,7 +21,6 @@ use Rattle.link_laws.proofs.entries.Ages.{read_off}
 use Rattle.link_laws.proofs.entries.Seeing.{see_all-append}
 use Rattle.history.specs.Filters.Saying.{Ends, Sends, Takes, Loses}
 use Rattle.node_laws.specs.telling.Standing.{with_empty_wires}
-use Rattle.node_laws.proofs.Cases.{by_option}
 use Rattle.node_laws.proofs.telling.Powers.{AreClear}
 use Rattle.node_laws.proofs.telling.Shapes.{last_of, IsShaped, shaped_tick, shaped_step, opened_by, IsStepShaped, opened_stands, clear_aged}
 use Rattle.node_laws.proofs.telling.Events.{after-append, entries-append}

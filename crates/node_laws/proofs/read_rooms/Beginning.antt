@@ -4,13 +4,12 @@ use Rattle.std.specs.List.{flat_map}
 use Rattle.std.proofs.lemmas.Bool.{eqb-true}
 use Rattle.node_laws.proofs.Words.{AtEnd, Before, Comes, Controller, Deed, Entry, HasEnds, IsLinkTold, IsOrderly, Link, LinkEnd, LinkInput, NextFrame}
 use Rattle.node_laws.proofs.Words.{NodeInput, NodeWorld, NumberedEnd, Port, Running, Site, Work, after_input, after_sessions, all_come, all_done, all_owed}
-use Rattle.node_laws.proofs.Words.{all_owed_hold, all_synced_hold, arrival, comes_to, comes_to_pass, controller_begins, entries_for, forgets, forgotten}
-use Rattle.node_laws.proofs.Words.{forgotten_hold, has_come, hosts_in, hosts_of_ends, input_at, input_of, link_to, near_end_in, number_of, of_link, port_at}
-use Rattle.node_laws.proofs.Words.{report, site_at, synced, times_out, whole_acked, without_notice, without_power}
+use Rattle.node_laws.proofs.Words.{all_owed_hold, all_synced_hold, arrival, by_list, by_test, comes_to, comes_to_pass, controller_begins, entries_for, forgets}
+use Rattle.node_laws.proofs.Words.{forgotten, forgotten_hold, has_come, hosts_in, hosts_of_ends, input_at, input_of, link_to, near_end_in, number_of, of_link}
+use Rattle.node_laws.proofs.Words.{port_at, report, site_at, synced, times_out, whole_acked, without_notice, without_power}
 use Rattle.link_laws.specs.entries.Entries.{End as Side, Entry as Noted}
 use Rattle.link_laws.proofs.entries.Noting.{FramesFor}
 use Rattle.link_laws.proofs.entries.Running.{frame_facts}
-use Rattle.node_laws.proofs.Cases.{by_test, by_list}
 use Rattle.node_laws.proofs.kept.Plainly.{hosts_map}
 use Rattle.node_laws.proofs.links.Works.{IsFineWork, map_fine, came_fine, without_fine, forgets_fine}
 use Rattle.node_laws.proofs.links.Worlds.{IsFineWorld, near_end_clean, near_clean, fine_clean, ports_fine}

@@ -1,10 +1,9 @@
 -- Of hosts in worlds behind the events of a history.
 use Rattle.std.proofs.Common.{◌≡◌, ℕ, ◌==◌, false, List, [], ◌∷◌, ◌++◌, Some, refl, sym, subst, append-nil}
 use Rattle.node_laws.proofs.Words.{ArePortsRead, AtController, AtEnd, Comes, Entry, HasEnds, HoldsInStep, Host, IfItRuns, IsLinkTold, IsOrderly, LinkEvent}
-use Rattle.node_laws.proofs.Words.{LinkInput, NodeWorld, Occurrence, Running, Site, Start, Starts, Step, TimePasses, Work, after_controller, all_aged, comes_at}
-use Rattle.node_laws.proofs.Words.{comes_to, controller_ticks, controller_work, end_c, ending_of, entries_in, exchanged, host_begins_step, hosts_tick, input_of}
-use Rattle.node_laws.proofs.Words.{link_after_controller, site_at, steps, turns_at}
-use Rattle.node_laws.proofs.Cases.{by_option}
+use Rattle.node_laws.proofs.Words.{LinkInput, NodeWorld, Occurrence, Running, Site, Start, Starts, Step, TimePasses, Work, after_controller, all_aged}
+use Rattle.node_laws.proofs.Words.{by_option, comes_at, comes_to, controller_ticks, controller_work, end_c, ending_of, entries_in, exchanged, host_begins_step}
+use Rattle.node_laws.proofs.Words.{hosts_tick, input_of, link_after_controller, site_at, steps, turns_at}
 use Rattle.node_laws.proofs.links.Works.{steps_fine}
 use Rattle.node_laws.proofs.links.Worlds.{IsFineSite, IsFineWorld, controller_fine}
 use Rattle.node_laws.proofs.telling.Nodes.{site_host}

@@ -6,9 +6,10 @@ use Rattle.std.specs.Prelude.{is_some}
 use Rattle.std.specs.List.{AllByRecursion}
 use Rattle.node_laws.proofs.Words.{AreDifferent, ArePortsRead, AreSendableTurns, AsksReset, Before, Controller, Entry, HasEnds, HoldsInStep, Host, IfItRuns}
 use Rattle.node_laws.proofs.Words.{IsLinkTold, IsNode, IsOrderly, IsTimely, Link, NoInput, Node, NodeWorld, NoneDue, NumberedEnd, Port, Reset, Running, Site}
-use Rattle.node_laws.proofs.Words.{Step, Tick, TimePasses, Work, after_input, after_sessions, aged, all_aged, all_come, comes_to_pass, controller_ticks}
-use Rattle.node_laws.proofs.Words.{core_of, ended_by, exchanged, forgets, has_come, host_ended, host_finished, hosts_in, hosts_of_ends, hosts_tick, number_now}
-use Rattle.node_laws.proofs.Words.{reset_late, same_number, site_at, step_entries, times_out, turned, with_ended, with_older, without_notice, without_power}
+use Rattle.node_laws.proofs.Words.{Step, Tick, TimePasses, Work, after_input, after_sessions, aged, all_aged, all_come, by_option, comes_to_pass}
+use Rattle.node_laws.proofs.Words.{controller_ticks, core_of, ended_by, exchanged, forgets, has_come, host_ended, host_finished, hosts_in, hosts_of_ends}
+use Rattle.node_laws.proofs.Words.{hosts_tick, number_now, reset_late, same_number, site_at, step_entries, times_out, turned, with_ended, with_older}
+use Rattle.node_laws.proofs.Words.{without_notice, without_power}
 use Rattle.link_laws.proofs.messages.Runs.{rests_of}
 use Rattle.link_laws.specs.entries.Entries.{Entry as Noted}
 use Rattle.link_laws.proofs.entries.Books.{read, plus, plus-blank, read-append}
@@ -16,7 +17,6 @@ use Rattle.link_laws.proofs.entries.Fronts.{OfOne, one-append, front_read}
 use Rattle.link_laws.proofs.entries.Stepping.{one_step, one_input}
 use Rattle.link_laws.proofs.entries.Noting.{Near as NearOf}
 use Rattle.link_laws.proofs.entries.Hearing.{heard, heard-append, Passes, passes-append, tick_heard, own_heard}
-use Rattle.node_laws.proofs.Cases.{by_option}
 use Rattle.node_laws.proofs.kept.Plainly.{hosts_map}
 use Rattle.node_laws.proofs.links.Got.{Clean}
 use Rattle.node_laws.proofs.links.Sites.{clf_line, can_end}

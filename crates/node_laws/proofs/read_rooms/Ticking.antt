@@ -3,12 +3,11 @@ use Rattle.std.proofs.Common.{◌≡◌, ℕ, ◌==◌, true, false, List, [], �
 use Rattle.std.specs.Prelude.{nat_lt}
 use Rattle.node_laws.proofs.Words.{AsksReset, Controller, Desk, Entry, HasEnds, Host, IfDue, IsLinkTold, IsOrderly, IsTimely, Link, Lost, NoInput, NodeWorld}
 use Rattle.node_laws.proofs.Words.{NumberedEnd, OnWire, Port, Reset, Running, Site, Tick, TimePasses, TooOld, Work, after_sessions, aged, aged_entries}
-use Rattle.node_laws.proofs.Words.{all_aged, all_come, comes_to_pass, forgets, has_come, hosts_in, hosts_of_ends, is_late, link_to, reset_late, site_at}
-use Rattle.node_laws.proofs.Words.{times_out, with_older, without_notice, without_power}
+use Rattle.node_laws.proofs.Words.{all_aged, all_come, by_test, comes_to_pass, forgets, has_come, hosts_in, hosts_of_ends, is_late, link_to, reset_late}
+use Rattle.node_laws.proofs.Words.{site_at, times_out, with_older, without_notice, without_power}
 use Rattle.link_laws.specs.entries.Entries.{End as Side, Entry as Noted}
 use Rattle.link_laws.proofs.entries.Books.{Silent, silent-append, silent_cons}
 use Rattle.link_laws.proofs.entries.Hearing.{passes-append, passes_aged}
-use Rattle.node_laws.proofs.Cases.{by_test}
 use Rattle.node_laws.proofs.kept.Plainly.{hosts_map}
 use Rattle.node_laws.proofs.links.Worlds.{IsFineWorld, near_clean, ports_fine}
 use Rattle.node_laws.proofs.telling.Powers.{AreClear, came_uncut}

@@ -5,11 +5,11 @@ use Rattle.std.specs.List.{AllByRecursion, flat_map}
 use Rattle.std.proofs.lemmas.List.Concat.{flat_map-append}
 use Rattle.node_laws.proofs.Words.{Activates, AllByRecursion-append, AreHosts, AreNamed, Arms, AsksReset, AtEnd, Boots, Comes, Controller, End, Entry}
 use Rattle.node_laws.proofs.Words.{FollowsNodes, Gives, Happening, Header, Inits, IsCut, IsFew, IsNamed, IsSentByHost, KeepsBetween, Line, LinkInput, Loses}
-use Rattle.node_laws.proofs.Words.{Memory, NextFrame, NodeHistory, NodeWorld, Occurrence, Resets, Site, Starts, Takes, Ticks, Work}
-use Rattle.node_laws.proofs.Words.{activates, all_aged, beginning, boot_writes, boots, comes_at, comes_to, controller_does}
+use Rattle.node_laws.proofs.Words.{Memory, NextFrame, NodeHistory, NodeWorld, Occurrence, Resets, Site, Starts, Takes, Ticks, Work, activates, all_aged}
+use Rattle.node_laws.proofs.Words.{beginning, boot_writes, boots, by_coming, by_controller, by_controller_tick, by_test, comes_at, comes_to, controller_does}
 use Rattle.node_laws.proofs.Words.{controller_ticks, controller_work, end_c, end_h, entries_in, fails_within, frames_noted, hosts_tick, input_of, link_to}
-use Rattle.node_laws.proofs.Words.{memory_at, new_world, node_entries, occurrences_in, sending, steps, steps_from, wires_for, world_behind, world_step}
-use Rattle.node_laws.proofs.Cases.{by_test}
+use Rattle.node_laws.proofs.Words.{memory_at, near_tick, new_world, node_entries, occurrences_in, sending, steps, steps_from, wires_for, world_behind}
+use Rattle.node_laws.proofs.Words.{world_step}
 use Rattle.node_laws.proofs.telling.Lasting.{Any, AnyLine, AreCaused, all_any, all_lines, events_of_steps, lines_caused}
 use Rattle.node_laws.proofs.notices.Far.{far_flat}
 use Rattle.node_laws.proofs.notices.Near.{aged_far, comes_reads}
@@ -20,7 +20,6 @@ use Rattle.node_laws.proofs.read_steps.Lines.{history_keeps_between}
 use Rattle.node_laws.proofs.read_steps.Naming.{far_named}
 use Rattle.node_laws.proofs.read_steps.Starting.{comes_named, tick_named}
 use Rattle.node_laws.proofs.order.Asked.{behind_push}
-use Rattle.node_machine.proofs.world.Cases.{by_controller, by_coming, by_controller_tick, near_tick}
 use Rattle.std.proofs.lemmas.Bool.{true≢false}
 
 boots_named : (w : NodeWorld) (n : ℕ) → AreNamed (boots w n).1

@@ -4,12 +4,11 @@ use Rattle.std.specs.Prelude.{Option, Some, None, is_some}
 use Rattle.std.specs.List.{AllByRecursion, list_any}
 use Rattle.std.specs.Option.{option_map_or, option_and_then}
 use Rattle.std.proofs.lemmas.Bool.{eqb-true, true≢false}
-use Rattle.node_laws.proofs.Words.{AreHosts, Creation, Entry, IsHost, IsKeptNotice, IsReadSo, IsSameView, KeepsInStep, Port, Work, asking_in, end_c, errors_in}
-use Rattle.node_laws.proofs.Words.{hosts_of_ends, is_asked_at, is_connected_at, is_of_creation, is_one_of, is_opened, is_up, notice_in, port_at, session_now}
-use Rattle.node_laws.proofs.Words.{tables_in, view_at, view_for}
+use Rattle.node_laws.proofs.Words.{AreHosts, Creation, Entry, IsHost, IsKeptNotice, IsReadSo, IsSameView, KeepsInStep, Port, Work, asking_in, by_option}
+use Rattle.node_laws.proofs.Words.{by_test, end_c, errors_in, hosts_of_ends, is_asked_at, is_connected_at, is_of_creation, is_one_of, is_opened, is_up}
+use Rattle.node_laws.proofs.Words.{notice_in, port_at, session_now, tables_in, view_at, view_for}
 use Rattle.node_machine.specs.Controller.{waiting_pipes}
 use Rattle.node_machine.specs.world.NodeFilters.{aside_in, is_connected_in}
-use Rattle.node_laws.proofs.Cases.{by_option, by_test}
 use Rattle.node_laws.proofs.links.Noticing.{at_host}
 use Rattle.node_laws.proofs.notices.Knowing.{noticed_is, asked_is}
 use Rattle.node_laws.proofs.notices.Near.{noticed_desks}

@@ -4,10 +4,9 @@ use Rattle.std.specs.Prelude.{Option, Some, None}
 use Rattle.std.specs.List.{AllByRecursion}
 use Rattle.std.specs.Option.{option_map_or}
 use Rattle.std.proofs.lemmas.Bool.{eqb-true, eq-eqb, true≢false}
-use Rattle.node_laws.proofs.Words.{AreHosts, Entry, Hold, IsHost, IsKeptNotice, KeepsInStep, Message, Port, Work, controller_deeds, deeds_of, end_c}
+use Rattle.node_laws.proofs.Words.{AreHosts, Entry, Hold, IsHost, IsKeptNotice, KeepsInStep, Message, Port, Work, by_test, controller_deeds, deeds_of, end_c}
 use Rattle.node_laws.proofs.Words.{end_of_node, handles, holds_back, hosts_of_ends, is_held, lack, lets_go, needs, noting, port_at, view_of, with_desk}
 use Rattle.trace_model.specs.declared.entry.Entry.TheVariants as entry
-use Rattle.node_laws.proofs.Cases.{by_test}
 use Rattle.node_laws.proofs.notices.Doing.{Holds, Stands}
 use Rattle.node_laws.proofs.notices.Turning.{handled_stand, holds_stand, lets_stand}
 use Rattle.node_laws.proofs.creations.Asks.{asked_of}

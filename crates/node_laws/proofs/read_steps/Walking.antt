@@ -5,10 +5,9 @@ use Rattle.std.specs.List.{AllByRecursion, flat_map}
 use Rattle.std.specs.Option.{option_map_or}
 use Rattle.std.proofs.lemmas.Bool.{eq-eqb, true≢false}
 use Rattle.node_laws.proofs.Words.{AllByRecursion-append, AreHosts, AreNamed, AtEnd, Creation, Deed, Entry, IsAllowedStill, IsAnswered, IsHost, IsKeptNotice}
-use Rattle.node_laws.proofs.Words.{IsNamed, Message, NodeInput, Port, Releases, RunsInStep, TimePasses, Work, all_come, all_done, all_owed, comes_to_pass}
-use Rattle.node_laws.proofs.Words.{controller_deeds, deeds_of, forgotten, goes_through_ends, handles, have_turns, hosts_of_ends, input_at, is_one_of, lack}
-use Rattle.node_laws.proofs.Words.{needs, passes, port_at, synced, times_out, told_at, told_late, unless_cut, view_of, with_older}
-use Rattle.node_laws.proofs.All.{all_flat}
+use Rattle.node_laws.proofs.Words.{IsNamed, Message, NodeInput, Port, Releases, RunsInStep, TimePasses, Work, all_come, all_done, all_flat, all_owed, by_cut}
+use Rattle.node_laws.proofs.Words.{by_option, comes_to_pass, controller_deeds, deeds_of, forgotten, goes_through_ends, handles, have_turns, hosts_of_ends}
+use Rattle.node_laws.proofs.Words.{input_at, is_one_of, lack, needs, passes, port_at, synced, times_out, told_at, told_late, unless_cut, view_of, with_older}
 use Rattle.node_laws.proofs.kept.Turning.{deeds_fit}
 use Rattle.node_laws.proofs.notices.Doing.{Holds}
 use Rattle.node_laws.proofs.notices.Stepping.{TellNoNotices}
@@ -22,8 +21,6 @@ use Rattle.node_laws.proofs.read_steps.Knowing.{there_is}
 use Rattle.node_laws.proofs.read_steps.Naming.{NamesSo, all_done_named, no_notices_name, handles_named, holds_named, late_named, lets_named, may_name}
 use Rattle.node_laws.proofs.read_steps.Naming.{told_named}
 use Rattle.node_laws.proofs.read_steps.Naming.{unless_named}
-use Rattle.node_laws.proofs.Cut.{by_cut}
-use Rattle.node_laws.proofs.Cases.{by_option}
 
 -- ## As the pass begins
 

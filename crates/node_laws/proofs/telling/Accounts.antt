@@ -5,12 +5,11 @@ use Rattle.std.specs.Option.{option_map_or}
 use Rattle.std.proofs.lemmas.Bool.{true≢false, eqb-true, ne_eqb}
 use Rattle.std.proofs.lemmas.List.Concat.{flat_map-append}
 use Rattle.node_laws.proofs.Words.{Acked, Active, Controller, Desk, Down, Emit, Entry, GaveUp, Got, Host, LinkEnd, Lost, Port, Sent, Took, Turn, Work}
-use Rattle.node_laws.proofs.Words.{after_turn, changed_if, end_of, entries_for, entry_of, is_of, keeps, noted_of, noting, of_link, own_side, port_at, said}
-use Rattle.node_laws.proofs.Words.{same_number, tells_of, turn, turn_at, turn_entries, turn_entry, turned, with_desk, with_port}
+use Rattle.node_laws.proofs.Words.{after_turn, by_test, changed_if, end_of, entries_for, entry_of, is_of, keeps, noted_of, noting, of_link, own_side, port_at}
+use Rattle.node_laws.proofs.Words.{said, same_number, tells_of, turn, turn_at, turn_entries, turn_entry, turned, with_desk, with_port}
 use Rattle.trace_model.specs.declared.entry.Entry.TheVariants as entry
 use Rattle.link_laws.specs.entries.Entries.{End as Side, Entry as Noted}
 use Rattle.link_laws.specs.entries.Entries.Entry.{Up}
-use Rattle.node_laws.proofs.Cases.{by_test}
 use Rattle.node_laws.proofs.telling.Walks.{AreSilent}
 use Rattle.node_laws.proofs.steps.Ports.{changed_host}
 

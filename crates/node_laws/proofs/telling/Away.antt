@@ -1,10 +1,8 @@
 -- A node that has no end on a link notes nothing of it.
 use Rattle.std.proofs.Common.{◌≡◌, ℕ, ◌==◌, true, false, List, [], ◌∷◌, ◌++◌, Option, Some, None, map, refl, ap, subst, ◌∙◌}
 use Rattle.std.specs.Option.{option_map_or}
-use Rattle.node_laws.proofs.Words.{Desk, Entry, Port, Turn, Work, after_turn, changed_if, noted_of, noting, of_link, own_side, port_at, turn_at, turn_entry}
-use Rattle.node_laws.proofs.Words.{with_desk}
-use Rattle.node_laws.proofs.Cases.{by_test}
-use Rattle.node_laws.proofs.Cases.{by_test}
+use Rattle.node_laws.proofs.Words.{Desk, Entry, Port, Turn, Work, after_turn, by_test, changed_if, noted_of, noting, of_link, own_side, port_at, turn_at}
+use Rattle.node_laws.proofs.Words.{turn_entry, with_desk}
 use Rattle.node_laws.proofs.telling.Walks.{AreSilent}
 use Rattle.node_laws.proofs.telling.Accounts.{of-append, of_silent, of_other}
 use Rattle.node_laws.proofs.steps.Ports.{changed_host}

@@ -9,13 +9,12 @@ use Rattle.node_laws.proofs.Words.{End, Entry, Gives, Happening, HasEnds, Host, 
 use Rattle.node_laws.proofs.Words.{Loss, Memory, Message, NextFrame, NoInput, NodeWorld, NumberedEnd, Resets, Running, Site, Starts, Step, Takes, TellOf, Ticks}
 use Rattle.node_laws.proofs.Words.{Work, activates, after_controller, after_host, after_host_step, after_link_events, after_planned, arrival, beginning}
 use Rattle.node_laws.proofs.Words.{begins_with, boot_found, boot_writes, boot_written, boots, by_boot, by_coming, by_controller, by_host, by_loss, by_memory}
-use Rattle.node_laws.proofs.Words.{by_power, by_running, changed_if, comes_at, comes_to, controller_does, controller_work, count_of, counts, end_c, end_h}
-use Rattle.node_laws.proofs.Words.{ending_of, entries, entries_for, event_entries, exchanged, first_lost, found, frame_lost, happens, host_cut, host_does}
-use Rattle.node_laws.proofs.Words.{host_work, hosts_in, input_of, is_command_message, link_after_controller, link_to, links_of, loses_power_at, memory_at}
-use Rattle.node_laws.proofs.Words.{near_end_in, of_link, runs_on, sending, site_at, site_lost, steps, turns_at, with_memory, with_node, with_site, work_of}
-use Rattle.node_laws.proofs.Words.{world_step}
+use Rattle.node_laws.proofs.Words.{by_power, by_running, by_test, changed_if, comes_at, comes_to, controller_does, controller_work, count_of, counts, end_c}
+use Rattle.node_laws.proofs.Words.{end_h, ending_of, entries, entries_for, event_entries, exchanged, first_lost, found, frame_lost, happens, host_cut}
+use Rattle.node_laws.proofs.Words.{host_does, host_work, hosts_in, input_of, is_command_message, link_after_controller, link_to, links_of, loses_power_at}
+use Rattle.node_laws.proofs.Words.{memory_at, near_end_in, of_link, runs_on, sending, site_at, site_lost, steps, turns_at, with_memory, with_node, with_site}
+use Rattle.node_laws.proofs.Words.{work_of, world_step}
 use Rattle.trace_model.specs.declared.entry.Entry.TheVariants as entry
-use Rattle.node_laws.proofs.Cases.{by_test}
 use Rattle.node_laws.proofs.kept.Sites.{hosts_same, changed_host}
 use Rattle.node_laws.specs.telling.Telling.{Tells, GoesSo, EachGoesSo, IsUntimed}
 use Rattle.node_laws.proofs.telling.Mute.{AreMute}

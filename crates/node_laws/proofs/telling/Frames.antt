@@ -3,10 +3,10 @@ use Rattle.std.proofs.Common.{Bool, true, false, cond, List, [], ◌∷◌, ◌+
 use Rattle.std.specs.Prelude.{nat_lt}
 use Rattle.std.specs.List.{AllByRecursion}
 use Rattle.node_laws.proofs.Words.{Comes, Control, Cut, CutOff, Emit, Ending, GoesOut, Link, LinkEnd, Loss, Lost, NextFrame, OnWire, TooMany, TooOld, Took}
-use Rattle.node_laws.proofs.Words.{aged_entries, arrival, ending_entries, far, first_lost, frames_out, pushed_out, put, put_entries, puts_entries, wire_with}
+use Rattle.node_laws.proofs.Words.{aged_entries, arrival, by_list, by_test, ending_entries, far, first_lost, frames_out, pushed_out, put, put_entries}
+use Rattle.node_laws.proofs.Words.{puts_entries, wire_with}
 use Rattle.link_laws.specs.entries.Entries.{End as Side, Entry as Noted}
 use Rattle.registry.proofs.ValueLemmas.{AllByRecursion-append as all_append}
-use Rattle.node_laws.proofs.Cases.{by_list, by_test}
 
 module _ (P : Noted → Type 0) where
   abbrev All : List Noted → Type 0

@@ -2,9 +2,8 @@
 use Rattle.std.proofs.Common.{◌≡◌, ℕ, ◌==◌, List, [], ◌∷◌, Some, map, refl, ap, ◌∙◌}
 use Rattle.std.specs.List.{flat_map}
 use Rattle.node_laws.proofs.Words.{AtEnd, Deed, Desk, Entry, IfItRuns, LinkInput, Port, Tick, TimePasses, Turn, Work, after_sessions, after_turn, all_come}
-use Rattle.node_laws.proofs.Words.{all_owed, begins_with, changed_if, forgets, forgotten, has_come, hosts_of_ends, input_at, noting, reset_late, runs_on, steps}
-use Rattle.node_laws.proofs.Words.{synced, times_out, turn_at, with_desk, with_older, without_notice}
-use Rattle.node_laws.proofs.Cases.{by_test}
+use Rattle.node_laws.proofs.Words.{all_owed, begins_with, by_test, changed_if, forgets, forgotten, has_come, hosts_of_ends, input_at, noting, reset_late}
+use Rattle.node_laws.proofs.Words.{runs_on, steps, synced, times_out, turn_at, with_desk, with_older, without_notice}
 use Rattle.node_laws.proofs.kept.Plainly.{hosts_map}
 use Rattle.node_laws.proofs.telling.Mute.{AreMute, forgotten_mute, all_owed_mute, all_synced_mute}
 use Rattle.node_laws.proofs.telling.Walks.{AreSilent, all_do, rest}

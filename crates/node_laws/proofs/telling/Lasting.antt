@@ -3,13 +3,12 @@ use Rattle.std.proofs.Common.{◌≡◌, ℕ, zero, suc, List, [], ◌∷◌, �
 use Rattle.std.specs.Prelude.{Option, Some, None, is_some, replicate, unwrap_or}
 use Rattle.std.specs.List.{AllByRecursion, flat_map}
 use Rattle.std.proofs.lemmas.List.Concat.{flat_map-append}
-use Rattle.node_laws.proofs.Words.{End, Entry, Happening, Line, LineStep, Loses, Loss, LostFor, MayBoot, NodeWorld, Occurrence, Running}
-use Rattle.node_laws.proofs.Words.{Same, Takes, Ticks, Undetected, Verdict, all_happen, can_happen, entries_in, first_verdict, frames_at, goes_on, happenings}
+use Rattle.node_laws.proofs.Words.{End, Entry, Happening, Line, LineStep, Loses, Loss, LostFor, MayBoot, NodeWorld, Occurrence, Running, Same, Takes, Ticks}
+use Rattle.node_laws.proofs.Words.{Undetected, Verdict, all_happen, by_option, by_test, can_happen, entries_in, first_verdict, frames_at, goes_on, happenings}
 use Rattle.node_laws.proofs.Words.{happens_by, line_step, node_at, occurrences_of, refusal_in, steps_from, taken_of, world_after, world_behind, world_step}
 use Rattle.trace_model.specs.declared.entry.NoCause.TheVariants as cause
 use Rattle.trace_model.specs.declared.line.Line.TheVariants as line
 use Rattle.node_machine.specs.world.Lines.{if_true, tables_told}
-use Rattle.node_laws.proofs.Cases.{by_option, by_test}
 
 -- events that may happen one after another
 abbrev pub AllMay : (NodeWorld → Happening → Type 0) → NodeWorld → List Happening → Type 0

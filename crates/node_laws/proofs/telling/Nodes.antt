@@ -6,10 +6,9 @@ use Rattle.std.specs.Option.{option_map_or}
 use Rattle.std.proofs.lemmas.Bool.{eqb-true, ne_eqb, true≢false}
 use Rattle.node_laws.proofs.Words.{AreDifferent, AtController, AtEnd, AtHost, Bare, Comes, Controller, Deed, Desk, Entry, HasEnds, Host, IsOrderly, LinkInput}
 use Rattle.node_laws.proofs.Words.{NextFrame, NoInput, NodeWorld, NumberedEnd, Port, Running, Site, Standing, StandsOf, Step, TellOf, Work, after_controller}
-use Rattle.node_laws.proofs.Words.{after_power, arrival, begins_with, comes_to, controller_work, ending_of, entries_for, exchanged, frames_noted, host_work}
-use Rattle.node_laws.proofs.Words.{hosts_in, hosts_of_ends, input_of, link_to, near_end_in, new_link, number_of, of_link, port_at, port_for, same_number}
-use Rattle.node_laws.proofs.Words.{site_at, standing, step_entries, steps, turns_at, wires_for, without_power, work_of}
-use Rattle.node_laws.proofs.Cases.{by_test}
+use Rattle.node_laws.proofs.Words.{after_power, arrival, begins_with, by_test, comes_to, controller_work, ending_of, entries_for, exchanged, frames_noted}
+use Rattle.node_laws.proofs.Words.{host_work, hosts_in, hosts_of_ends, input_of, link_to, near_end_in, new_link, number_of, of_link, port_at, port_for}
+use Rattle.node_laws.proofs.Words.{same_number, site_at, standing, step_entries, steps, turns_at, wires_for, without_power, work_of}
 use Rattle.node_laws.proofs.telling.Mute.{AreMute}
 use Rattle.node_laws.proofs.telling.Accounts.{of-append, of_other, at_host}
 use Rattle.node_laws.proofs.telling.Away.{Away}

@@ -6,12 +6,11 @@ use Rattle.std.specs.Option.{option_map_or}
 use Rattle.std.proofs.lemmas.Bool.{eqb-true}
 use Rattle.std.proofs.lemmas.List.Concat.{flat_map-append}
 use Rattle.node_laws.proofs.Words.{AreDifferent, AtEnd, Comes, Core, Deed, Entry, Link, LinkEnd, LinkInput, NodeInput, Port, Turn, Work, after_input}
-use Rattle.node_laws.proofs.Words.{after_sessions, all_come, all_owed, arrival, asked_at, begins_with, ending_entries, ending_of, entries_for, entry_of}
-use Rattle.node_laws.proofs.Words.{forgets, forgotten, frames_noted, has_come, hosts_of_ends, input_at, input_of, is_forgotten, is_over, near_end_in, number_of}
-use Rattle.node_laws.proofs.Words.{of_link, own_side, port_at, report, step_entries, steps, synced, told, told_at, turn_entries, turned, turns_at, whole_acked}
-use Rattle.node_laws.proofs.Words.{wires_for, without_notice}
+use Rattle.node_laws.proofs.Words.{after_sessions, all_come, all_owed, arrival, asked_at, begins_with, by_option, by_test, ending_entries, ending_of}
+use Rattle.node_laws.proofs.Words.{entries_for, entry_of, forgets, forgotten, frames_noted, has_come, hosts_of_ends, input_at, input_of, is_forgotten, is_over}
+use Rattle.node_laws.proofs.Words.{near_end_in, number_of, of_link, own_side, port_at, report, step_entries, steps, synced, told, told_at, turn_entries, turned}
+use Rattle.node_laws.proofs.Words.{turns_at, whole_acked, wires_for, without_notice}
 use Rattle.link_laws.specs.entries.Entries.{End as Side, Entry as Noted}
-use Rattle.node_laws.proofs.Cases.{by_test, by_option}
 use Rattle.node_laws.proofs.telling.Mute.{AreMute, forgotten_mute, all_owed_mute, all_synced_mute}
 use Rattle.node_laws.proofs.telling.Walks.{all_do, rest}
 use Rattle.node_laws.proofs.telling.Accounts.{of-append, of_other, at_host, SameEnd, Account, note, desk, turns, beside}

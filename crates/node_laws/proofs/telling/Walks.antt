@@ -4,10 +4,9 @@ use Rattle.std.proofs.Common.{◌≡◌, ℕ, Bool, true, false, List, [], ◌�
 use Rattle.std.specs.List.{AllByRecursion}
 use Rattle.node_laws.proofs.Words.{About, Asks, Command, Commits, Deed, Desk, Drops, Ends, Entry, FetchMessage, Give, GoesOn, Hears, Hold, IsAnswered, Message}
 use Rattle.node_laws.proofs.Words.{Orders, Release, Releases, Removed, SaysOk, Sends, SetAside, SetsErrors, Tells, Turn, Waits, Work, Write, all_done}
-use Rattle.node_laws.proofs.Words.{answers_and_passes, anyone, body_of, commit, commit_writes, count_of, done, end_of_node, fails_within, handles, holds_back}
-use Rattle.node_laws.proofs.Words.{keeps, lets_go, loses_power, notified, noting, tells_of, turn_at, with_desk}
+use Rattle.node_laws.proofs.Words.{answers_and_passes, anyone, body_of, by_test, commit, commit_writes, count_of, done, end_of_node, fails_within, handles}
+use Rattle.node_laws.proofs.Words.{holds_back, keeps, lets_go, loses_power, notified, noting, tells_of, turn_at, with_desk}
 use Rattle.trace_model.specs.declared.entry.Entry.TheVariants as entry
-use Rattle.node_laws.proofs.Cases.{by_test}
 use Rattle.node_laws.proofs.steps.StepWalks.{got_at, all_do as all_done_so, lets as lets_as, holds as holds_as, Lasts, handled, rest_lasts as rest_as}
 use Rattle.node_laws.proofs.telling.Mute.{IsPlain, plain_untold, IsMute, AreMute, deeds_mute}
 

@@ -9,18 +9,17 @@ use Rattle.std.proofs.lemmas.Bool.{eqb-true}
 use Rattle.std.proofs.lemmas.List.Sums.{fold-append}
 use Rattle.node_laws.proofs.Words.{AreDifferent, AsksReset, Clf, Controller, Desk, Ending, Entry, GoesOut, HasEnds, Host, IfDue, IfItRuns, IfOff, IsOrderly}
 use Rattle.node_laws.proofs.Words.{IsTimely, Link, LinkEnd, LinkEvent, LinkInput, NoInput, Node, NodeWorld, NoneDue, NumberedEnd, Port, Reset, Running, Site}
-use Rattle.node_laws.proofs.Words.{Standing, StandsOf, Step, TellOf, Tick, TicksWithout, TimePasses, Turn, Uicc, Work, after_input, aged}
-use Rattle.node_laws.proofs.Words.{aged_entries, all_aged, by_controller_tick, by_host_tick, controller_ticks, ended_by, ending_of, entries_for, event_entries}
+use Rattle.node_laws.proofs.Words.{Standing, StandsOf, Step, TellOf, Tick, TicksWithout, TimePasses, Turn, Uicc, Work, after_input, aged, aged_entries}
+use Rattle.node_laws.proofs.Words.{all_aged, by_controller_tick, by_host_tick, by_test, controller_ticks, ended_by, ending_of, entries_for, event_entries}
 use Rattle.node_laws.proofs.Words.{exchanged, frames_noted, frames_out, happens, has_input, host_ended, host_finished, host_tick, host_ticks, hosts_in}
 use Rattle.node_laws.proofs.Words.{hosts_tick, is_due, is_late, is_late_at, is_waiting, law_noted, link_to, near_tick, new_clf, new_link_end, new_uicc}
-use Rattle.node_laws.proofs.Words.{number_of, of_link, port_at, port_for, puts_entries, report, site_at, site_ticked, site_unticked, standing}
-use Rattle.node_laws.proofs.Words.{standing_by_law, stands_noted, step_entries, steps_at_controller, tick_entries, ticked_so, ticks_at_controller, told, turned}
-use Rattle.node_laws.proofs.Words.{turns_at, whole_acked, with_ended, without_power, work_of, world_ticks}
+use Rattle.node_laws.proofs.Words.{number_of, of_link, port_at, port_for, puts_entries, report, site_at, site_ticked, site_unticked, standing, standing_by_law}
+use Rattle.node_laws.proofs.Words.{stands_noted, step_entries, steps_at_controller, tick_entries, ticked_so, ticks_at_controller, told, turned, turns_at}
+use Rattle.node_laws.proofs.Words.{whole_acked, with_ended, without_power, work_of, world_ticks}
 use Rattle.link_laws.specs.messages.Links.LinkEvent.{Ticks}
 use Rattle.link_laws.specs.entries.Entries.{End as Side, Entry as Noted}
 use Rattle.node_machine.proofs.world.Cases.{after_tick}
 use Rattle.node_laws.specs.telling.Telling.{GoesSo, Tells}
-use Rattle.node_laws.proofs.Cases.{by_test}
 use Rattle.node_laws.proofs.telling.Walks.{AreUncut}
 use Rattle.node_laws.proofs.telling.Powers.{uncut_flat, entries_uncut, clear_stands, steps_powered}
 use Rattle.node_laws.proofs.telling.Shapes.{clear-append, clear_aged, IsShaped, IsStepShaped, shaped_tick, shaped_step, twice, step_stands, step_away}

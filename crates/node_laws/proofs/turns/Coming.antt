@@ -8,13 +8,12 @@ use Rattle.std.proofs.lemmas.List.Concat.{flat_map-append}
 use mathlib.Core.Bool.{and-false}
 use Rattle.node_laws.proofs.Words.{Acked, Active, AreDifferent, AtEnd, Cause, Core, Cut, Deed, Down, End, Entry, GaveUp, Got, IsComing, IsOutside, LinkEnd}
 use Rattle.node_laws.proofs.Words.{LinkInput, Message, NodeInput, Port, Report, Reset, Restarted, Tick, TimePasses, Work, after_input, after_sessions, all_come}
-use Rattle.node_laws.proofs.Words.{all_owed, answers_and_passes, begins_with, end_of, entries_for, entry_of, forgets, forgotten, has_come, hosts_of_ends, if_so}
-use Rattle.node_laws.proofs.Words.{input_at, is_late, own_side, port_at, report, reset_late, same_end, steps, synced, times_out, told, told_at, told_late}
-use Rattle.node_laws.proofs.Words.{whole_acked, with_older, without_notice}
+use Rattle.node_laws.proofs.Words.{all_owed, answers_and_passes, begins_with, by_test, end_of, entries_for, entry_of, forgets, forgotten, has_come}
+use Rattle.node_laws.proofs.Words.{hosts_of_ends, if_so, input_at, is_late, own_side, port_at, report, reset_late, same_end, steps, synced, times_out, told}
+use Rattle.node_laws.proofs.Words.{told_at, told_late, whole_acked, with_older, without_notice}
 use Rattle.trace_model.specs.declared.entry.Entry.TheVariants as entry
 use Rattle.link_laws.specs.entries.Entries.{End as Side, Entry as Noted}
 use Rattle.link_laws.specs.entries.Entries.Entry.{Up, Tick as Ticked}
-use Rattle.node_laws.proofs.Cases.{by_test}
 use Rattle.node_laws.proofs.telling.Mute.{AreMute, forgotten_mute, all_owed_mute, all_synced_mute}
 use Rattle.node_laws.proofs.telling.Parts.{after_coming}
 use Rattle.node_laws.proofs.telling.Accounts.{at_host}

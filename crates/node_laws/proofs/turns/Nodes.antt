@@ -3,14 +3,13 @@ use Rattle.std.proofs.Common.{◌≡◌, ℕ, ◌==◌, Bool, true, false, cond,
 use Rattle.std.specs.Prelude.{is_some, if◌then◌else◌}
 use Rattle.std.specs.List.{flat_map}
 use Rattle.std.proofs.lemmas.Bool.{eqb-true, eq-eqb}
-use Rattle.node_laws.proofs.Words.{AreDifferent, AtEnd, Comes, Controller, Deed, Desk, End, Entry, HasEnds, Host, IsOutside, Link, LinkEnd}
-use Rattle.node_laws.proofs.Words.{LinkInput, Memory, Message, NoInput, NodeInput, NodeWorld, NumberedEnd, Port, Running, Site, Step, TimePasses, Work}
-use Rattle.node_laws.proofs.Words.{after_controller, after_host, after_input, after_planned, arrival, begins_with, comes_to, controller_work, end_c, end_h}
+use Rattle.node_laws.proofs.Words.{AreDifferent, AtEnd, Comes, Controller, Deed, Desk, End, Entry, HasEnds, Host, IsOutside, Link, LinkEnd, LinkInput, Memory}
+use Rattle.node_laws.proofs.Words.{Message, NoInput, NodeInput, NodeWorld, NumberedEnd, Port, Running, Site, Step, TimePasses, Work, after_controller}
+use Rattle.node_laws.proofs.Words.{after_host, after_input, after_planned, arrival, begins_with, by_option, by_test, comes_to, controller_work, end_c, end_h}
 use Rattle.node_laws.proofs.Words.{ending_of, entries_for, exchanged, frames_noted, host_tick, host_work, hosts_in, hosts_of_ends, input_of, is_late_at}
-use Rattle.node_laws.proofs.Words.{link_after_controller, link_to, near_end_in, own_side, port_at, port_for, runs_on, same_end, same_number}
-use Rattle.node_laws.proofs.Words.{site_at, site_ticked, steps, steps_at_controller, ticked_so, turns_at, wires_for, work_of}
+use Rattle.node_laws.proofs.Words.{link_after_controller, link_to, near_end_in, own_side, port_at, port_for, runs_on, same_end, same_number, site_at}
+use Rattle.node_laws.proofs.Words.{site_ticked, steps, steps_at_controller, ticked_so, turns_at, wires_for, work_of}
 use Rattle.link_laws.specs.entries.Entries.{End as Side}
-use Rattle.node_laws.proofs.Cases.{by_test, by_option}
 use Rattle.node_laws.proofs.links.Ends.{here_host}
 use Rattle.link_laws.proofs.entries.Together.{ticks_host as tick_host}
 use Rattle.node_laws.proofs.telling.Mute.{AreMute}

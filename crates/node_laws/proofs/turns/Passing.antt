@@ -4,12 +4,11 @@ use Rattle.std.specs.Prelude.{drop, not, if◌then◌else◌}
 use Rattle.std.specs.Option.{option_map_or}
 use Rattle.std.proofs.lemmas.Bool.{eqb-true, eq-eqb, true≢false, and_parts}
 use Rattle.node_laws.proofs.Words.{Controller, Core, Deed, Desk, End, Entry, FetchMessage, Give, Host, Message, Port, Refused, Turn, Work, Write, after_turn}
-use Rattle.node_laws.proofs.Words.{all_done, answers_and_passes, changed_if, deeds_of, end_of, end_of_node, entries_for, give_refusal, handles, have_turns}
-use Rattle.node_laws.proofs.Words.{lack, loses_power, needs, noted_of, noting, own_side, port_at, same_end, sent_unless, turn_at, unless_cut, with_desk}
+use Rattle.node_laws.proofs.Words.{all_done, answers_and_passes, by_cut, by_option, by_test, changed_if, deeds_of, end_of, end_of_node, entries_for}
+use Rattle.node_laws.proofs.Words.{give_refusal, handles, have_turns, lack, loses_power, needs, noted_of, noting, own_side, port_at, same_end, sent_unless}
+use Rattle.node_laws.proofs.Words.{turn_at, unless_cut, with_desk}
 use Rattle.trace_model.specs.declared.entry.Entry.TheVariants as entry
 use Rattle.link_laws.specs.entries.Entries.{End as Side}
-use Rattle.node_laws.proofs.Cases.{by_option, by_test}
-use Rattle.node_laws.proofs.Cases.{by_option}
 use Rattle.node_laws.proofs.telling.Mute.{IsMute, AreMute, deeds_mute}
 use Rattle.node_laws.proofs.telling.Walks.{ArePlain, IsNoFetch, every_do, holds, lets}
 use Rattle.node_laws.proofs.steps.StepWalks.{unless, rest as rest_of}
@@ -19,7 +18,6 @@ use Rattle.node_laws.proofs.turns.Queues.Doing.{Takes}
 use Rattle.node_laws.proofs.turns.Queues.{Becomes, Goes, goes-append, AreStill, still_goes, all_still, doing}
 use Rattle.node_laws.proofs.turns.Ends.{kept_by, left_by, left-append, turn_got}
 use Rattle.node_laws.proofs.steps.Ports.{changed_host}
-use Rattle.node_laws.proofs.Cut.{by_cut}
 
 -- ## Ends
 

@@ -3,9 +3,8 @@ use Rattle.std.proofs.Common.{◌≡◌, ℕ, ◌==◌, List, [], ◌∷◌, ◌
 use Rattle.std.specs.Prelude.{if◌then◌else◌}
 use Rattle.std.specs.List.{AllByRecursion, filter_map}
 use Rattle.std.proofs.lemmas.List.Elements.{filter_map-append}
-use Rattle.node_laws.proofs.Words.{End, Entry, Message, same_end}
+use Rattle.node_laws.proofs.Words.{End, Entry, Message, by_test, same_end}
 use Rattle.trace_model.specs.declared.entry.Entry.TheVariants as entry
-use Rattle.node_laws.proofs.Cases.{by_test}
 use Rattle.node_laws.proofs.telling.Mute.{IsPlain}
 use Rattle.node_laws.proofs.telling.Walks.{ArePlain}
 use Rattle.node_machine.specs.world.NodeLegal.{since_boot, got_entry, turn_entry_at, node_number}

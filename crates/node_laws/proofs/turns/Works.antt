@@ -6,10 +6,9 @@ use Rattle.std.specs.List.{flat_map}
 use Rattle.std.specs.Option.{option_map_or}
 use Rattle.std.proofs.lemmas.Bool.{eqb-true, eq-eqb, true≢false}
 use Rattle.node_laws.proofs.Words.{Comes, CutOff, End, Entry, GoesOut, Link, LinkEnd, Loss, Message, NodeWorld, OnWire, Port, Running, Site, Work, aged_entries}
-use Rattle.node_laws.proofs.Words.{arrival, changed_if, end_c, end_h, ending_entries, ending_of, entries_for, first_lost, frames_noted, hosts_of_ends, port_at}
-use Rattle.node_laws.proofs.Words.{runs_on, same_end, site_at, turns_at, with_site}
+use Rattle.node_laws.proofs.Words.{arrival, by_option, by_test, changed_if, end_c, end_h, ending_entries, ending_of, entries_for, first_lost, frames_noted}
+use Rattle.node_laws.proofs.Words.{hosts_of_ends, port_at, runs_on, same_end, site_at, turns_at, with_site}
 use Rattle.link_laws.specs.entries.Entries.{End as Side}
-use Rattle.node_laws.proofs.Cases.{by_option, by_test}
 use Rattle.node_laws.proofs.telling.Nodes.{swapped, site_host}
 use Rattle.node_laws.proofs.telling.Events.{site_map}
 use Rattle.node_laws.proofs.telling.Frames.{lost_all, ending_all, arrival_all, wires_all}

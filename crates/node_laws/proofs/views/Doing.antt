@@ -7,18 +7,16 @@ use Rattle.std.proofs.lemmas.Bool.{cases_Bool, eqb-true, true≢false}
 use mathlib.Core.Bool.{and-true}
 use Rattle.node_laws.proofs.Words.{About, Asks, Book, Command, Commits, Controller, Core, Deed, Desk, Drops, End, Ends, Entry, ErrorCount, Give, GoesOn, Hears}
 use Rattle.node_laws.proofs.Words.{Hold, Host, InitMade, InitSame, IsAnswered, Orders, Port, Release, Releases, Removed, SaysOk, Sends, SetAside, SetsErrors}
-use Rattle.node_laws.proofs.Words.{Tells, Turn, Waits, Work, Write, after_turn, all_done, apply, body_of, changed_if, commit, commit_writes, count_of, done}
-use Rattle.node_laws.proofs.Words.{end_of, end_of_node, errors_after, fails_within, give_refusal, holds_back, hosts_of_ends, is_held, lets_go, node_of}
-use Rattle.node_laws.proofs.Words.{noted_of, notified, noting, own_side, port_at, same_end, turn_at, turn_entry, unless_cut, with_command, with_desk, with_port}
+use Rattle.node_laws.proofs.Words.{Tells, Turn, Waits, Work, Write, after_turn, all_done, apply, body_of, by_cut, by_option, by_test, changed_if, changed_same}
+use Rattle.node_laws.proofs.Words.{commit, commit_writes, count_of, done, end_of, end_of_node, errors_after, fails_within, give_refusal, holds_back}
+use Rattle.node_laws.proofs.Words.{hosts_of_ends, is_held, lets_go, node_of, noted_of, notified, noting, own_side, port_at, same_end, turn_at, turn_entry}
+use Rattle.node_laws.proofs.Words.{unless_cut, with_command, with_desk, with_port}
 use Rattle.trace_model.specs.declared.entry.Entry.TheVariants as entry
 use Rattle.trace_model.specs.declared.entry.Entry.TheVariants.{InitFailed}
 use Rattle.link_laws.specs.entries.Entries.{End as Side}
-use Rattle.node_laws.proofs.Cases.{by_test, by_option}
 use Rattle.node_laws.proofs.views.Leaving.{reads, reads_append, IsRead, IsStill, still_all, notes_still, IsUndamaged, plainly, beside_leaves}
 use Rattle.node_laws.proofs.views.Setting.{IsUnset, AreUnset, IsInitEnd}
 use Rattle.node_laws.proofs.kept.Plainly.{hosts_map}
-use Rattle.node_laws.proofs.Cut.{by_cut}
-use Rattle.node_laws.proofs.Each.{changed_same}
 
 -- the side of its link that an end is on
 abbrev pub side_of : End → Side

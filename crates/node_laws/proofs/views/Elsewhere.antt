@@ -5,12 +5,11 @@ use Rattle.std.specs.List.{AllByRecursion}
 use Rattle.std.specs.Option.{option_map, option_map_or}
 use mathlib.Core.Bool.{and-true}
 use Rattle.node_laws.proofs.Words.{Acked, Active, Controller, Core, Cut, Deed, Desk, Down, Entry, GaveUp, Got, HasEnds, Host, Init, LeavesInit, Message}
-use Rattle.node_laws.proofs.Words.{NodeInput, NumberedEnd, Plan, Port, Restarted, Running, Sent, begins_with, deeds_of, end_h, end_of, end_of_node, end_view}
-use Rattle.node_laws.proofs.Words.{entries_for, entry_of, has, host_deeds, own_view, port_at, same_end, steps, with_response, work_of}
+use Rattle.node_laws.proofs.Words.{NodeInput, NumberedEnd, Plan, Port, Restarted, Running, Sent, begins_with, by_test, deeds_of, end_h, end_of, end_of_node}
+use Rattle.node_laws.proofs.Words.{end_view, entries_for, entry_of, has, host_deeds, own_view, port_at, same_end, steps, with_response, work_of}
 use Rattle.trace_model.specs.declared.entry.Entry.TheVariants as entry
 use Rattle.link_laws.specs.entries.Entries.{End as Side, Entry as Noted}
 use Rattle.link_laws.specs.entries.Entries.Entry.{Up, Tick}
-use Rattle.node_laws.proofs.Cases.{by_test}
 use Rattle.node_laws.proofs.telling.Nodes.{ports_for}
 use Rattle.node_laws.proofs.readings.Silent.{IsQuiet}
 use Rattle.node_laws.proofs.readings.Noting.{IsOwnNote, IsBeside, NotesSo, Notes, controller_notes, host_notes, all_do, steps_note}

@@ -5,13 +5,11 @@ use Rattle.std.specs.List.{AllByRecursion, flat_map}
 use Rattle.std.proofs.lemmas.Bool.{cases_Bool, eqb-true, eq-eqb, true≢false, ne_eqb, eqb-false}
 use Rattle.node_laws.proofs.Words.{AllByRecursion-append, AtController, Book, Controller, CutOff, Desk, End, Entry, ErrorCount, HasEnds, Host, IfItRuns}
 use Rattle.node_laws.proofs.Words.{IsOrderly, Memory, NoInput, NodeWorld, NumberedEnd, Running, Site, Step, TimePasses, Work, after_near_tick, after_planned}
-use Rattle.node_laws.proofs.Words.{aged, aged_entries, all_aged, boot_found, boot_writes, boot_written, boots, by_boot, by_controller_tick, by_host_tick}
-use Rattle.node_laws.proofs.Words.{by_memory, by_power, by_running, controller_cut, controller_ticks, count_of, entries_for, exchanged, found, frames_noted}
-use Rattle.node_laws.proofs.Words.{happens, host_cut, host_tick, host_ticks, hosts_in, hosts_tick, link_to, links_of, loses_power_at, memory_at, near_tick}
-use Rattle.node_laws.proofs.Words.{new_desk, node_of, site_at, site_ticked, site_unticked, with_memory, with_site, world_ticks}
+use Rattle.node_laws.proofs.Words.{aged, aged_entries, all_aged, all_flat, boot_found, boot_writes, boot_written, boots, by_boot, by_controller_tick}
+use Rattle.node_laws.proofs.Words.{by_host_tick, by_memory, by_power, by_running, by_test, controller_cut, controller_ticks, count_of, entries_for, exchanged}
+use Rattle.node_laws.proofs.Words.{found, frames_noted, happens, host_cut, host_tick, host_ticks, hosts_in, hosts_tick, link_to, links_of, loses_power_at}
+use Rattle.node_laws.proofs.Words.{memory_at, near_tick, new_desk, node_of, site_at, site_ticked, site_unticked, with_memory, with_site, world_ticks}
 use Rattle.trace_model.specs.declared.entry.Entry.TheVariants as entry
-use Rattle.node_laws.proofs.All.{all_flat}
-use Rattle.node_laws.proofs.Cases.{by_test}
 use Rattle.node_laws.proofs.telling.WorldTicks.{tick_host}
 use Rattle.node_laws.proofs.views.Leaving.{reads, reads_append, Leaves, IsStill, still_all, still_leaves}
 use Rattle.node_laws.proofs.views.Nodes.{IfKeeps, keeps_sets, leaves_kept, own_steps, others_step, frames_still, aged_still}

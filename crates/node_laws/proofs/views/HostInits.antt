@@ -4,21 +4,18 @@ use Rattle.std.specs.Prelude.{Option, Some, None}
 use Rattle.std.proofs.lemmas.Bool.{cond_both, eq-eqb, true≢false}
 use Rattle.node_laws.proofs.Words.{AtEnd, Comes, CutOff, Deed, Desk, Entry, GoesOut, Host, IfRunsInit, Init, IsHost, Link, LinkEnd, LinkInput, LinkState}
 use Rattle.node_laws.proofs.Words.{Memory, Message, NoInput, NumberedEnd, Orders, Port, Running, Sends, Site, SiteKeepsInit, Tick, TimePasses, Up, Work}
-use Rattle.node_laws.proofs.Words.{after_host, after_input, after_planned, arrival, beginning, begins_with, ending_entries, ending_of, entries_for, exchanged}
-use Rattle.node_laws.proofs.Words.{found, frames_noted, has_come, host_cut, host_ticks, host_work, init_of, init_of_running, input_at, input_of}
-use Rattle.node_laws.proofs.Words.{is_command_message, near_end_in, new_desk, port_at, port_for, runs_on, sending, steps, steps_at_controller}
-use Rattle.node_laws.proofs.Words.{ticks_at_controller, turns_at, wires_for, work_of}
+use Rattle.node_laws.proofs.Words.{after_host, after_input, after_planned, arrival, beginning, begins_with, by_host_tick, by_option, by_test, ending_entries}
+use Rattle.node_laws.proofs.Words.{ending_of, entries_for, exchanged, found, frames_noted, has_come, host_cut, host_tick, host_ticks, host_work, init_of}
+use Rattle.node_laws.proofs.Words.{init_of_running, input_at, input_of, is_command_message, near_end_in, new_desk, port_at, port_for, runs_on, sending, steps}
+use Rattle.node_laws.proofs.Words.{steps_at_controller, ticks_at_controller, turns_at, wires_for, work_of}
 use Rattle.trace_model.specs.declared.entry.Entry.TheVariants as entry
 use Rattle.link_laws.specs.entries.Entries.{End as Side}
 use Rattle.node_laws.specs.readings.Worlds.{host_does_so}
-use Rattle.node_laws.proofs.Cases.{by_option}
-use Rattle.node_laws.proofs.Cases.{by_test}
 use Rattle.node_laws.proofs.readings.Sites.{ending_quiet, arrival_quiet, sent_phase, stepped_phase, comes_outside, near_end_side}
 use Rattle.node_laws.specs.views.Inits.{RunsInit}
 use Rattle.node_laws.proofs.views.Answering.{reads_init, init_append, MayGo}
 use Rattle.node_laws.proofs.views.Going.{Base, Stands, all_go, quiet_init}
 use Rattle.node_laws.proofs.views.Beginning.{steps_stand}
-use Rattle.node_machine.proofs.world.Cases.{by_host_tick, host_tick}
 
 frames_init : (h : ℕ) (who : Side) (k : ℕ) (l : Link) (w : Work) (y : Option Init) → reads_init h (frames_noted who k l w) y ≡ y
 frames_init h who k l w y = by_option (port_at w.ports k)

@@ -6,16 +6,13 @@ use Rattle.std.proofs.lemmas.Bool.{cases_Bool, eqb-true, eq-eqb, ne_eqb, eqb-fal
 use Rattle.node_laws.proofs.Words.{Activates, AllByRecursion-append, Arms, AsksReset, AtController, AtHost, Boots, Broken, Controller, CutOff, Desk, End, Entry}
 use Rattle.node_laws.proofs.Words.{Gives, GoesOut, Happening, Host, IfItRuns, IfRunsInit, Init, Inits, IsCut, IsHost, IsOrderly, LeavesInit, Link, Lose, Loses}
 use Rattle.node_laws.proofs.Words.{Loss, Memory, NextFrame, NoInput, NodeWorld, NumberedEnd, Resets, Running, Site, SiteKeepsInit, Step, Takes, Ticks}
-use Rattle.node_laws.proofs.Words.{TimePasses, Work, after_near_tick, after_planned, aged, aged_entries, all_aged, boot_found, boot_writes, boot_written, boots}
-use Rattle.node_laws.proofs.Words.{by_boot, by_controller_tick, by_host_tick, by_memory, by_power, by_running, changed_if, controller_cut, controller_ticks}
-use Rattle.node_laws.proofs.Words.{count_of, counts, ending_of, entries_for, exchanged, first_lost, found, frame_lost, frames_noted, happens, host_cut}
-use Rattle.node_laws.proofs.Words.{host_tick, host_ticks, hosts_in, hosts_tick, init_begun, init_of_running, is_late_at, link_to, links_of, loses_power_at}
-use Rattle.node_laws.proofs.Words.{memory_at, near_tick, node_at, site_at, site_ticked, site_unticked, ticks_host, turns_at, with_error, with_memory, with_site}
-use Rattle.node_laws.proofs.Words.{world_step, world_ticks}
+use Rattle.node_laws.proofs.Words.{TimePasses, Work, after_near_tick, after_planned, aged, aged_entries, all_aged, all_flat, boot_found, boot_writes}
+use Rattle.node_laws.proofs.Words.{boot_written, boots, by_boot, by_controller_tick, by_host_tick, by_memory, by_option, by_power, by_running, by_test}
+use Rattle.node_laws.proofs.Words.{changed_if, changed_same, controller_cut, controller_ticks, count_of, counts, ending_of, entries_for, exchanged, first_lost}
+use Rattle.node_laws.proofs.Words.{found, frame_lost, frames_noted, happens, host_cut, host_tick, host_ticks, hosts_in, hosts_tick, init_begun, init_of_running}
+use Rattle.node_laws.proofs.Words.{is_late_at, link_to, links_of, loses_power_at, memory_at, near_tick, node_at, site_at, site_ticked, site_unticked}
+use Rattle.node_laws.proofs.Words.{ticks_host, turns_at, with_error, with_memory, with_site, world_step, world_ticks}
 use Rattle.trace_model.specs.declared.entry.Entry.TheVariants as entry
-use Rattle.node_laws.proofs.All.{all_flat}
-use Rattle.node_laws.proofs.Cases.{by_option}
-use Rattle.node_laws.proofs.Cases.{by_test}
 use Rattle.node_laws.proofs.links.Ends.{here_host}
 use Rattle.node_laws.proofs.telling.Nodes.{site_host}
 use Rattle.node_laws.proofs.telling.Frames.{wires_all}
@@ -32,7 +29,6 @@ use Rattle.node_laws.proofs.turns.Works.{sites_is}
 use Rattle.node_laws.proofs.kept.Sites.{hosts_same}
 use Rattle.node_laws.proofs.telling.WorldTicks.{tick_host}
 use Rattle.node_laws.proofs.views.Worlds.{near_ticks_fine}
-use Rattle.node_laws.proofs.Each.{changed_same}
 
 -- ## A frame that was refused leaves the init of a node
 

@@ -4,9 +4,9 @@ use Rattle.std.specs.Prelude.{Option, Some, None, IsTrue, unwrap_or}
 use Rattle.std.specs.List.{AllByRecursion, fold}
 use Rattle.std.proofs.lemmas.Bool.{cond_both}
 use Rattle.node_laws.proofs.Words.{AreHosts, End, FollowsNodes, Header, Init, IsBegunByHost, IsHost, IsOrderly, Line, LinkEnd, LinkState, Message, NodeHistory}
-use Rattle.node_laws.proofs.Words.{NodeWorld, Occurrence, Takes, Ticks, Up, Waiting, first_verdict, frames_at, give_refusal, happenings, if_not_sent, if_off}
-use Rattle.node_laws.proofs.Words.{init_begun, init_in, init_of_running, is_command_message, link_to, machine_in, new_world, node_at, node_of, occurrences_in}
-use Rattle.node_laws.proofs.Words.{refusal_in, site_at, steps_from, taken_of, world_after, world_behind, world_step}
+use Rattle.node_laws.proofs.Words.{NodeWorld, Occurrence, Takes, Ticks, Up, Waiting, by_option, first_verdict, frames_at, give_refusal, happenings, if_not_sent}
+use Rattle.node_laws.proofs.Words.{if_off, init_begun, init_in, init_of_running, is_command_message, link_to, machine_in, new_world, node_at, node_of}
+use Rattle.node_laws.proofs.Words.{occurrences_in, refusal_in, site_at, steps_from, taken_of, world_after, world_behind, world_step}
 use Rattle.trace_model.specs.declared.line.Line.TheVariants as line
 use Rattle.shdlc_core.specs.declared.answers.LinkState.TheVariants.{Down}
 use Rattle.link_laws.specs.machine.Machine.Refused.{NotUp}
@@ -20,7 +20,6 @@ use Rattle.node_laws.proofs.views.Lines.{none_zero}
 use Rattle.node_laws.proofs.views.InitWorlds.{AtSite, MayInit, Keeps, absent, present, zero}
 use Rattle.node_laws.proofs.views.InitEvents.{MayKeep, event_keeps}
 use Rattle.node_laws.proofs.telling.Lasting.{AreCaused, lines_caused}
-use Rattle.node_laws.proofs.Cases.{by_option}
 
 -- ## Lines
 

@@ -6,14 +6,12 @@ use Rattle.std.proofs.lemmas.Bool.{cond_both, eqb-true, eq-eqb, eqb-false, ne_eq
 use mathlib.Core.Bool.{and-false}
 use Rattle.node_laws.proofs.Words.{AllByRecursion-append, AtEnd, Comes, Controller, Deed, End, Entry, HasEnds, Host, IfItRuns, IfRunsInit, Init, Inits, IsHost}
 use Rattle.node_laws.proofs.Words.{IsOrderly, LeavesInit, Link, LinkEnd, LinkInput, Message, NoInput, NodeInput, NodeWorld, NumberedEnd, Orders, Running, Sends}
-use Rattle.node_laws.proofs.Words.{Site, SiteKeepsInit, Starts, Step, Up, Work, activates, after_controller, after_host, after_host_step, arrival, beginning}
-use Rattle.node_laws.proofs.Words.{begins_with, by_coming, by_controller, by_host, changed_if, comes_at, comes_to, controller_does, controller_work, end_c}
-use Rattle.node_laws.proofs.Words.{end_h, end_of, ending_of, entries_for, exchanged, frames_noted, host_does, host_work, hosts_in, init_begun, init_of}
-use Rattle.node_laws.proofs.Words.{init_of_running, input_of, is_command_message, link_after_controller, link_to, near_end_in, node_at, port_at, same_end}
-use Rattle.node_laws.proofs.Words.{sending, site_at, steps, turns_at, wires_for, with_site, work_of}
+use Rattle.node_laws.proofs.Words.{Site, SiteKeepsInit, Starts, Step, Up, Work, activates, after_controller, after_host, after_host_step, all_flat, arrival}
+use Rattle.node_laws.proofs.Words.{beginning, begins_with, by_coming, by_controller, by_host, by_option, by_test, changed_if, changed_same, comes_at, comes_to}
+use Rattle.node_laws.proofs.Words.{controller_does, controller_work, end_c, end_h, end_of, ending_of, entries_for, exchanged, frames_noted, host_does}
+use Rattle.node_laws.proofs.Words.{host_work, hosts_in, init_begun, init_of, init_of_running, input_of, is_command_message, link_after_controller, link_to}
+use Rattle.node_laws.proofs.Words.{near_end_in, node_at, port_at, same_end, sending, site_at, steps, turns_at, wires_for, with_site, work_of}
 use Rattle.link_laws.specs.entries.Entries.{End as Side}
-use Rattle.node_laws.proofs.All.{all_flat}
-use Rattle.node_laws.proofs.Cases.{by_option, by_test}
 use Rattle.node_laws.proofs.links.Ends.{here_host}
 use Rattle.node_laws.proofs.telling.Nodes.{site_host}
 use Rattle.node_laws.proofs.telling.Events.{comes_goes}
@@ -26,7 +24,6 @@ use Rattle.node_laws.proofs.views.HostInits.{comes_keeps, sends_keeps, begins_ke
 use Rattle.node_laws.proofs.views.Worlds.{AreFine, orderly_fine}
 use Rattle.node_laws.proofs.turns.Works.{sites_is}
 use Rattle.node_laws.proofs.telling.Worlds.{site_is as found_all}
-use Rattle.node_laws.proofs.Each.{changed_same}
 
 pub leaves_all : (h : ℕ) (es : List Entry) (i : Option Init) → AllByRecursion (LeavesInit h) es → reads_init h es i ≡ i
 leaves_all h [] i all = refl

@@ -7,13 +7,12 @@ use mathlib.Core.Bool.{and-false}
 use Rattle.swp_base.specs.declared.link_terms.FrameFault.{FrameFault}
 use Rattle.swp_base.specs.declared.link_terms.FrameFault.TheVariants as fault
 use Rattle.node_laws.proofs.Words.{AtController, AtHost, Broken, Controller, Desk, End, Entry, ErrorCount, Host, Lose, Loss, NodeWorld, OnDemand, OnWire}
-use Rattle.node_laws.proofs.Words.{Running, Site, TooMany, TooOld, changed_if, counts, end_of, entries_for, errors_after, first_lost, frame_lost, frames_at}
-use Rattle.node_laws.proofs.Words.{happens, link_to, lost_as, lpdu_of, same_end, site_at, with_error, with_site}
+use Rattle.node_laws.proofs.Words.{Running, Site, TooMany, TooOld, by_option, by_test, changed_if, counts, end_of, entries_for, errors_after, first_lost}
+use Rattle.node_laws.proofs.Words.{frame_lost, frames_at, happens, link_to, lost_as, lpdu_of, same_end, site_at, with_error, with_site}
 use Rattle.trace_model.specs.declared.entry.Entry.TheVariants as entry
 use Rattle.link_laws.specs.messages.Links.Loss.{Unread}
 use Rattle.link_laws.specs.entries.Entries.{End as Side}
 use Rattle.node_machine.specs.world.NodeFilters.{was_refused}
-use Rattle.node_laws.proofs.Cases.{by_option, by_test}
 use Rattle.node_laws.proofs.views.Leaving.{Leaves, still_leaves, IsUndamaged, notes_still}
 use Rattle.node_laws.proofs.views.Doing.{own_is}
 use Rattle.node_laws.proofs.views.Nodes.{IfKeeps}

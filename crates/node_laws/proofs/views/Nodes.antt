@@ -4,12 +4,11 @@ use Rattle.std.specs.Prelude.{Option, Some, None, nat_lt}
 use Rattle.std.specs.List.{AllByRecursion}
 use Rattle.node_laws.proofs.Words.{AllByRecursion-append, Comes, Control, Controller, Core, CutOff, Deed, Desk, End, Ending, Ends, Entry, ErrorCount, GoesOut}
 use Rattle.node_laws.proofs.Words.{HasEnds, Host, Link, LinkEnd, Message, NextFrame, NodeInput, NumberedEnd, OnWire, Plan, Port, Running, Sends, TooMany, Work}
-use Rattle.node_laws.proofs.Words.{aged_entries, arrival, begins_with, end_of, ending_entries, ending_of, entries_for, entry_of, far, first_lost, frames_noted}
-use Rattle.node_laws.proofs.Words.{frames_out, node_of, own_side, port_at, pushed_out, put, put_entries, puts_entries, runs_on, same_end, steps, wire_with}
-use Rattle.node_laws.proofs.Words.{work_of}
+use Rattle.node_laws.proofs.Words.{aged_entries, arrival, begins_with, by_list, by_option, by_test, end_of, ending_entries, ending_of, entries_for, entry_of}
+use Rattle.node_laws.proofs.Words.{far, first_lost, frames_noted, frames_out, node_of, own_side, port_at, pushed_out, put, put_entries, puts_entries, runs_on}
+use Rattle.node_laws.proofs.Words.{same_end, steps, wire_with, work_of}
 use Rattle.trace_model.specs.declared.entry.Entry.TheVariants as entry
 use Rattle.link_laws.specs.entries.Entries.{End as Side, Entry as Noted}
-use Rattle.node_laws.proofs.Cases.{by_test, by_list, by_option}
 use Rattle.node_laws.proofs.telling.Mute.{IsPlain, IsMute, AreMute, deeds_mute}
 use Rattle.node_laws.proofs.telling.Nodes.{hosts_same, ports_for}
 use Rattle.node_laws.proofs.readings.Noting.{IsOwnNote, NotesSo, Notes, all_do as notes_do, steps_note}

@@ -4,12 +4,11 @@ use Rattle.std.specs.Prelude.{Option, Some, None}
 use Rattle.std.specs.List.{AllByRecursion, flat_map}
 use Rattle.std.proofs.lemmas.Bool.{cond_both}
 use Rattle.node_laws.proofs.Words.{Acked, Active, AtEnd, Core, Deed, Down, End, ErrorCount, GaveUp, Got, LinkInput, NodeInput, Port, Reset, Sent, TimePasses}
-use Rattle.node_laws.proofs.Words.{Work, after_input, after_sessions, all_come, all_done, all_owed, all_owed_hold, all_synced_hold, forgets, forgotten}
-use Rattle.node_laws.proofs.Words.{forgotten_hold, has_come, input_at, is_late, own_side, passes, report, reset_late, steps, synced, times_out, told, told_at}
-use Rattle.node_laws.proofs.Words.{told_late, unless_cut, whole_acked, with_older, without_notice}
+use Rattle.node_laws.proofs.Words.{Work, after_input, after_sessions, all_come, all_done, all_flat, all_owed, all_owed_hold, all_synced_hold, forgets}
+use Rattle.node_laws.proofs.Words.{forgotten, forgotten_hold, has_come, input_at, is_late, own_side, passes, report, reset_late, steps, synced, times_out, told}
+use Rattle.node_laws.proofs.Words.{told_at, told_late, unless_cut, whole_acked, with_older, without_notice}
 use Rattle.link_laws.specs.entries.Entries.{End as Side, Entry as Noted}
 use Rattle.link_laws.specs.entries.Entries.Entry.{Up}
-use Rattle.node_laws.proofs.All.{all_flat}
 use Rattle.node_laws.proofs.readings.Noting.{IsOwnNote, all_notes}
 use Rattle.node_laws.proofs.views.Leaving.{IsStill, notes_still, IsUndamaged}
 use Rattle.node_laws.proofs.views.Setting.{IsUnset, AreUnset}

@@ -6,13 +6,12 @@ use Rattle.std.specs.List.{AllByRecursion}
 use Rattle.std.specs.Option.{option_map_or}
 use Rattle.std.proofs.lemmas.Bool.{cases_Bool, eqb-true, eq-eqb, true≢false}
 use Rattle.node_laws.proofs.Words.{Book, Controller, Core, Deed, Drops, End, Entry, ErrorCount, FetchMessage, Give, Host, LinkEnd, Message, Port, Sends}
-use Rattle.node_laws.proofs.Words.{SetsErrors, Up, Work, after_turn, answer_of, changed_if, controller_deeds, deeds_of, end_of, end_of_node, end_view}
-use Rattle.node_laws.proofs.Words.{entries_for, errors_after, errors_set_by, give_refusal, goes_through_ends, handles, have_turns, host_deeds, hosts_of_ends}
-use Rattle.node_laws.proofs.Words.{lack, need, needs, noted_of, noting, own_gate, own_side, own_view, passes, port_at, same_end, sent_unless, spare, turn_at}
-use Rattle.node_laws.proofs.Words.{view_of, with_desk, with_port}
+use Rattle.node_laws.proofs.Words.{SetsErrors, Up, Work, after_turn, answer_of, by_option, by_test, changed_if, changed_same, controller_deeds, deeds_of}
+use Rattle.node_laws.proofs.Words.{end_of, end_of_node, end_view, entries_for, errors_after, errors_set_by, give_refusal, goes_through_ends, handles}
+use Rattle.node_laws.proofs.Words.{have_turns, host_deeds, hosts_of_ends, lack, need, needs, noted_of, noting, own_gate, own_side, own_view, passes, port_at}
+use Rattle.node_laws.proofs.Words.{same_end, sent_unless, spare, turn_at, view_of, with_desk, with_port}
 use Rattle.trace_model.specs.declared.entry.Entry.TheVariants as entry
 use Rattle.gate_answers.specs.declared.response.Response.TheVariants as response
-use Rattle.node_laws.proofs.Cases.{by_test, by_option}
 use Rattle.node_laws.proofs.telling.Away.{at_map}
 use Rattle.node_laws.proofs.links.Noticing.{at_host}
 use Rattle.node_laws.proofs.readings.Turning.{lack_parts}
@@ -22,7 +21,6 @@ use Rattle.node_laws.proofs.views.Setting.{is_link_gate, controller_unset, host_
 use Rattle.node_laws.proofs.views.Setting.SetDeeds.{IsSet, IsRefused, IsDropped}
 use Rattle.node_laws.proofs.views.Doing.{side_of, own_is, HasErrors, map_has, Right, desks, turns, unless, IsFine, unset_fine, all_do, holds, lets}
 use Rattle.node_laws.proofs.kept.Plainly.{hosts_map, fetch_none}
-use Rattle.node_laws.proofs.Each.{changed_same}
 
 -- ## Messages that are sent
 

@@ -6,12 +6,10 @@ use Rattle.std.proofs.lemmas.Bool.{cases_Bool, eqb-true, eq-eqb, true≢false, n
 use mathlib.Core.Bool.{and-false}
 use Rattle.node_laws.proofs.Words.{AllByRecursion-append, AreDifferent, AtEnd, Comes, Controller, Deed, End, Entry, ErrorCount, HasEnds, Host, IfItRuns}
 use Rattle.node_laws.proofs.Words.{IsOrderly, LinkInput, NoInput, NodeWorld, Running, Site, Starts, Work, activates, after_controller, after_host}
-use Rattle.node_laws.proofs.Words.{after_host_step, arrival, begins_with, by_coming, by_controller, by_controller_tick, by_host, changed_if, comes_at, comes_to}
-use Rattle.node_laws.proofs.Words.{controller_does, controller_ticks, controller_work, end_c, end_h, entries_for, exchanged, frames_noted, host_does, host_work}
-use Rattle.node_laws.proofs.Words.{hosts_in, link_after_controller, link_to, near_end_in, near_tick, node_at, node_of, runs_on, site_at, site_ticked}
-use Rattle.node_laws.proofs.Words.{site_unticked, steps, wires_for, with_site}
-use Rattle.node_laws.proofs.All.{all_flat}
-use Rattle.node_laws.proofs.Cases.{by_test}
+use Rattle.node_laws.proofs.Words.{after_host_step, all_flat, arrival, begins_with, by_coming, by_controller, by_controller_tick, by_host, by_test, changed_if}
+use Rattle.node_laws.proofs.Words.{changed_same, comes_at, comes_to, controller_does, controller_ticks, controller_work, end_c, end_h, entries_for, exchanged}
+use Rattle.node_laws.proofs.Words.{frames_noted, host_does, host_work, hosts_in, link_after_controller, link_to, near_end_in, near_tick, node_at, node_of}
+use Rattle.node_laws.proofs.Words.{runs_on, site_at, site_ticked, site_unticked, steps, wires_for, with_site}
 use Rattle.node_laws.proofs.telling.Mute.{AreMute}
 use Rattle.node_laws.proofs.telling.Nodes.{site_host}
 use Rattle.node_laws.proofs.views.Leaving.{reads, reads_append, Leaves, IsStill, still_leaves}
@@ -21,7 +19,6 @@ use Rattle.node_laws.proofs.views.Nodes.{arrival_still}
 use Rattle.node_laws.proofs.turns.Works.{sites_is}
 use Rattle.node_laws.proofs.telling.Worlds.{site_is}
 use Rattle.node_laws.proofs.kept.Sites.{hosts_same}
-use Rattle.node_laws.proofs.Each.{changed_same}
 
 -- ## Sites
 
