@@ -186,4 +186,4 @@ pub use Rattle.trace_model.specs.declared.line.Line.{Line}
 pub use Rattle.node_laws.proofs.All.{all_flat}
 pub use Rattle.node_laws.proofs.Cases.{by_list, by_option, by_some, by_test}
 pub use Rattle.node_laws.proofs.Cut.{by_cut}
-pub use Rattle.node_laws.proofs.Each.{all_changed, all_map, all_map as each_map, changed_same}
+pub use Rattle.node_laws.proofs.Each.{all_changed, all_map, changed_same}

@@ -7,6 +7,7 @@ use Rattle.swp_base.specs.InMemory.{Memory}
 use Rattle.journal_laws.specs.declared.banks.Side.{Side}
 use Rattle.journal_laws.specs.Banks.{current}
 use Rattle.journal_laws.specs.Journal.{state_of, is_open_beside}
+use Rattle.hci_tables.specs.declared.command.Command.{Command}
 use Rattle.hci_tables.specs.Bodies.{body_of}
 use Rattle.hci_store.specs.Committing.{record_fits}
 use Rattle.journal_laws.specs.Operations.{format_writes}

@@ -7,9 +7,10 @@ use Rattle.std.proofs.lemmas.Bool.{cases_Bool, eqb-true, eqb-false, ne_eqb, eq-e
 use Rattle.std.proofs.lemmas.Bool.{true≢false}
 use Rattle.node_laws.proofs.Words.{About, AreTables, AreTables-apply, Asks, Command, Commits, Controller, Core, Deed, Desk, Drops, Entry, Give, IsAbout}
 use Rattle.node_laws.proofs.Words.{IsCommand, IsHost, IsKeptNotice, IsRightNotice, JoinTwo, Message, Notice, Port, Release, Releases, Removed, SaysOk, Sends}
-use Rattle.node_laws.proofs.Words.{SetAside, SetsErrors, Tells, Turn, Waits, Work, Write, after_turn, all_done, all_map as each_map, body_of, by_cut, by_test}
+use Rattle.node_laws.proofs.Words.{SetAside, SetsErrors, Tells, Turn, Waits, Work, Write, after_turn, all_done, body_of, by_cut, by_test}
 use Rattle.node_laws.proofs.Words.{changed_if, commit, commit_writes, done, entries_for, fails_within, give_refusal, is_notice, is_up, keeps, noted_of}
 use Rattle.node_laws.proofs.Words.{notice_in, notified, noting, own_side, port_at, sent_unless, turn_at, unless_cut, with_desk, with_port}
+use Rattle.node_laws.proofs.Each.{all_map as each_map}
 use Rattle.trace_model.specs.declared.entry.Entry.TheVariants as entry
 use Rattle.tables_laws.proofs.tables.TwoHosts.{JoinTwo-after}
 use Rattle.link_laws.proofs.messages.Project.{give_tells}

@@ -8,7 +8,7 @@ use Rattle.trace_model.specs.declared.entry.Entry.TheVariants as entry
 use Rattle.link_laws.specs.machine.Machine.{Message, Report}
 use Rattle.link_laws.specs.messages.Links.{Link, Comes}
 use Rattle.link_laws.specs.entries.Entries.{End as Side, Entry as Noted, told, ending_entries}
-use Rattle.link_laws.specs.entries.Entries.Entry.{Down, Sent, Emit, Took, Lost, Tick, Restarted, Cut}
+use Rattle.link_laws.specs.entries.Entries.Entry.{Up, Down, Acked, Got, Sent, Emit, Took, Lost, Tick, Restarted, Cut}
 use Rattle.history.specs.Steps.{entries_for}
 use Rattle.node_machine.specs.Parts.{Work, Deed}
 use Rattle.node_machine.specs.Carrying.{port_at, all_done}
