@@ -318,11 +318,8 @@ module _ (v : NodeView) (h : ℕ) (m : Message) where
   dropped none down = ap (deeds_by_relay v h m) none ∙ ap (own_deeds v h m) down ∙ rw (stays none, down) refl
 
   pub controller_by_rows : AsRow
-  controller_by_rows = by_option (relayed_to v.own.tables h m) (λ is. here (v.up h) is refl) (λ other is. at_other other (v.up other) is refl) where
-    at_other : (other : ℕ) (b : Bool) → relayed_to v.own.tables h m ≡ Some other → v.up other ≡ b → AsRow
-    at_other other true is up = sent other is up
-    at_other other false is down = unsent other is down
-
-    here : (b : Bool) → relayed_to v.own.tables h m ≡ None → v.up h ≡ b → AsRow
-    here true none up = own_row none up (header_of m.1) refl
-    here false none down = dropped none down
+  controller_by_rows = by_option (relayed_to v.own.tables h m) (λ is. by_test (v.up h)
+      (λ up. own_row is up (header_of m.1) refl)
+      (λ down. dropped is down)) (λ other is. by_test (v.up other)
+      (λ up. sent other is up)
+      (λ down. unsent other is down))

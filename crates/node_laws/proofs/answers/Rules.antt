@@ -6,7 +6,6 @@ use Rattle.std.specs.List.{AllByRecursion}
 use Rattle.std.specs.Option.{option_map_or}
 use Rattle.std.proofs.lemmas.Bool.{cond_both, and_parts, true≢false}
 use Rattle.trace_model.specs.declared.entry.Entry.TheVariants.{InitSame, InitMade, InitFailed}
-use Rattle.pipe_table.specs.declared.row.PipeRow.{PipeRow}
 use Rattle.hci_tables.specs.declared.command.Command.{Command}
 use Rattle.hci_tables.specs.declared.command.Command.TheVariants.{Create, Delete, Clear, SetOpened, Set}
 use Rattle.hci_tables.specs.Commands.{is_command}
@@ -17,17 +16,15 @@ use Rattle.gate_admin.specs.declared.decision.Decision.{Decision}
 use Rattle.gate_admin.specs.declared.decision.Decision.TheVariants.{Answer, Commit, Ask}
 use Rattle.gate_admin.specs.View.{has, hosts_where}
 use Rattle.gate_admin.specs.Decide.{answers, commits, unless_refused, tests_of_pipe, far_end, others_opened, opening, closing, administration, carried_out}
-use Rattle.gate_admin.specs.Decide.{decided}
 use Rattle.gate_link.specs.Link.{link_served}
 use Rattle.tables_laws.specs.gate.Rules.{AsksAsAllowed}
 use Rattle.tables_laws.proofs.gate.Decisions.{decided_as_allowed}
 use Rattle.link_laws.specs.machine.Machine.{Message}
 use Rattle.node_machine.specs.Parts.{Init, Creation, Deed, OwnView, EndView, NodeView}
-use Rattle.node_machine.specs.Parts.Deed.{Commits, Sends, Tells, Orders, Hears, GoesOn, Ends}
+use Rattle.node_machine.specs.Parts.Deed.{Commits, Sends, Tells, Hears, Ends}
 use Rattle.node_machine.specs.Carrying.{end_of_number}
 use Rattle.node_machine.specs.Controller.{commit_deeds, link_deeds, agreed, is_command_message}
 use Rattle.node_machine.specs.HostReplies.{accepts, pipe_named_in, orders_of, is_same, learns, init_agreed, init_deeds, deleted_by, created_by, learned}
-use Rattle.node_machine.specs.HostReplies.{host_deeds}
 use Rattle.node_machine.specs.Turns.{deeds_for}
 use Rattle.node_machine.proofs.Walks.{deeds_near, deeds_far}
 use Rattle.node_laws.specs.answers.Rows.{first_row, far_host, is_order, is_relayed, leads_to_gate, waiting_for, decides, controller_rows, host_rows}
@@ -52,10 +49,9 @@ near_holds P v h m near holds = subst P (sym (deeds_near v h m near ∙ controll
 
 far_holds : (P : List Deed → Type 0) (v : NodeView) (h : ℕ) (m : Message) → eqb v.own.node 0 ≡ false → P []
     → ((e : EndView) → HoldsInRows P (host_rows v.own e m)) → P (deeds_for v h m)
-far_holds P v h m far none holds = subst P (sym (deeds_far v h m far)) (by (v.ends h)) where
-  by : (o : Option EndView) → P (option_map_or (λ e. host_deeds v.own e m) o [])
-  by None = none
-  by (Some e) = subst P (sym (host_by_rows v.own e m)) (first_row_holds P (host_rows v.own e m) (holds e))
+far_holds P v h m far none holds = subst P (sym (deeds_far v h m far)) (by_option (v.ends h)
+    (λ q. rw q none)
+    (λ e q. rw q (subst P (sym (host_by_rows v.own e m)) (first_row_holds P (host_rows v.own e m) (holds e)))))
 
 module _ (v : NodeView) (h : ℕ) (m : Message) where
   abbrev pub Fine : List Deed → Type 0
@@ -172,7 +168,12 @@ module _ (v : NodeView) (h : ℕ) (m : Message) where
       → ((is_command_message m.1 && not (is_opened v.own.tables h m.0)) && not (is_order 3 m)) ≡ false → is_order 3 m ≡ false → is_order 4 m ≡ false
       → AsksAsAllowed v.own.tables (v.links h) h (administration v.own.tables (v.links h) h (instruction_in m.1) (body_in m.1))
   administered command own opened unopening unclosing =
-      subst (AsksAsAllowed v.own.tables (v.links h) h) (by (far_end v.own.tables h m.0) refl)
+      subst (AsksAsAllowed v.own.tables (v.links h) h) (by_option (far_end v.own.tables h m.0)
+      (λ f. let z = rw (command, f) at own in absurd (true≢false z))
+      (λ end f. ap (λ o. unless_refused o (carried_out v.own.tables (v.links h) h m.0 (instruction_in m.1) (body_in m.1)))
+      (let z : first_of (tests_of_pipe v.own.tables h m.0 (instruction_in m.1)) ≡ None = rw (f, passes) refl in z)
+      ∙ ap₂ (λ p q. cond p (opening v.own.tables h m.0 (body_in m.1)) (cond q (closing h m.0 (body_in m.1))
+      (administration v.own.tables (v.links h) h (instruction_in m.1) (body_in m.1)))) three four))
       (decided_as_allowed v.own.tables (v.links h) h m.0 (instruction_in m.1) (body_in m.1))
     where
       three : eqb (instruction_in m.1) 3 ≡ false
@@ -183,16 +184,6 @@ module _ (v : NodeView) (h : ℕ) (m : Message) where
 
       passes : (not (is_opened v.own.tables h m.0) && not (eqb (instruction_in m.1) 3)) ≡ false
       passes = rw command at opened
-
-      by : (o : Option (ℕ × ℕ)) → far_end v.own.tables h m.0 ≡ o
-          → decided v.own.tables (v.links h) h m.0 (instruction_in m.1) (body_in m.1)
-          ≡ administration v.own.tables (v.links h) h (instruction_in m.1) (body_in m.1)
-      by None f = let z = rw (command, f) at own in absurd (true≢false z)
-      by (Some end) f =
-          ap (λ o. unless_refused o (carried_out v.own.tables (v.links h) h m.0 (instruction_in m.1) (body_in m.1)))
-          (let z : first_of (tests_of_pipe v.own.tables h m.0 (instruction_in m.1)) ≡ None = rw (f, passes) refl in z)
-          ∙ ap₂ (λ p q. cond p (opening v.own.tables h m.0 (body_in m.1)) (cond q (closing h m.0 (body_in m.1))
-          (administration v.own.tables (v.links h) h (instruction_in m.1) (body_in m.1)))) three four
 
   asked_as_allowed : HoldsInRows Asked (controller_rows v h m)
   asked_as_allowed = (
@@ -335,17 +326,15 @@ module _ (own : OwnView) where
 
   learned_then : (deeds : List Deed) → IsUnsent deeds → (order value : List ℕ) → IsUnsent (learned own order value ++ deeds)
   learned_then deeds rest order value begun =
-      cond_both (eqb (instruction_in order) 16) (created_by own value) _ P (λ _. by_row (pipe_named_in value))
+      cond_both (eqb (instruction_in order) 16) (created_by own value) _ P (λ _. by_option (pipe_named_in value)
+      (λ q. rw q (rest begun))
+      (λ row q. rw q (learns_then deeds rest (Create row) begun)))
       (λ _. cond_both (eqb (instruction_in order) 17) (deleted_by own (body_in order)) _ P (λ _. by_body (body_in order))
       (λ _. cond_both (eqb (instruction_in order) 20) (learns own (Clear own.node)) [] P (λ _. learns_then deeds rest (Clear own.node) begun)
       (λ _. rest begun)))
     where
       P : List Deed → Type 0
       P xs = commits_first begun false (xs ++ deeds) ≡ true
-
-      by_row : (o : Option PipeRow) → P (option_map_or (λ row. learns own (Create row)) o [])
-      by_row None = rest begun
-      by_row (Some row) = learns_then deeds rest (Create row) begun
 
       by_body : (body : List ℕ) → P (deleted_by own body)
       by_body [] = rest begun
@@ -358,18 +347,10 @@ module _ (own : OwnView) where
       cond_both (eqb code 0) (init_agreed own i value) (Ends (InitFailed (end_of_number own.node own.node) code) ∷ [])
       (λ xs. commits_first begun false xs ≡ true)
       (λ _. cond_both (is_same own i value) (Ends (InitSame (end_of_number own.node own.node)) ∷ []) _ (λ xs. commits_first begun false xs ≡ true) (λ _. refl)
-      (λ _. by (slice_get (orders_of i) (i.answered + 1)) refl)) (λ _. refl)
-    where
-      on : Option (List ℕ) → List Deed
-      on None =
-          learns own (Set own.node 0 1 (record { items = i.identity })) ++ Ends (InitMade (end_of_number own.node own.node) (length i.pipes)) ∷ []
-      on (Some order) = GoesOn (record i { answered = i.answered + 1 }) ∷ Orders order ∷ []
-
-      by : (o : Option (List ℕ)) → slice_get (orders_of i) (i.answered + 1) ≡ o → commits_first begun false (on o) ≡ true
-      by None is =
-          learns_then (Ends (InitMade (end_of_number own.node own.node) (length i.pipes)) ∷ []) (λ _. refl)
-          (Set own.node 0 1 (record { items = i.identity })) begun
-      by (Some order) is = refl
+      (λ _. by_option (slice_get (orders_of i) (i.answered + 1))
+      (λ is. rw is (learns_then (Ends (InitMade (end_of_number own.node own.node) (length i.pipes)) ∷ []) (λ _. refl)
+      (Set own.node 0 1 (record { items = i.identity })) begun))
+      (λ order is. rw is refl))) (λ _. refl)
 
   heard_in_order : (code : ℕ) (value : List ℕ) (o : Option (List ℕ))
       → InOrder (Hears ∷ option_map_or (λ order. cond (eqb code 0) (learned own order value) []) o [] ++ init_deeds own code value own.init)
@@ -419,7 +400,6 @@ module _ (own : OwnView) where
   )
 
 pub all_in_order : (v : NodeView) (h : ℕ) (m : Message) → InOrder (deeds_for v h m)
-all_in_order v h m = by (eqb v.own.node 0) refl where
-  by : (b : Bool) → eqb v.own.node 0 ≡ b → InOrder (deeds_for v h m)
-  by true near = near_holds InOrder v h m near (near_in_order v h m)
-  by false far = far_holds InOrder v h m far refl (λ e. far_in_order v.own e m)
+all_in_order v h m = by_test (eqb v.own.node 0)
+    (λ near. near_holds InOrder v h m near (near_in_order v h m))
+    (λ far. far_holds InOrder v h m far refl (λ e. far_in_order v.own e m))

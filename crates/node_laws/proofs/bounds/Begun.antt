@@ -1,6 +1,6 @@
 -- In each pass of the controller no more commands are noted than came of causes.
 use Rattle.std.proofs.Common.{◌≡◌, ℕ, ◌+◌, ◌≤◌, Bool, true, false, cond, eqb, List, [], ◌∷◌, ◌++◌, length, map, sym, refl, ap, ◌∙◌, subst, arith, append-nil}
-use Rattle.std.proofs.Common.{append_assoc, Option, Some, None}
+use Rattle.std.proofs.Common.{append_assoc, Some, None}
 use Rattle.std.specs.Prelude.{nat_lt, option_to_list}
 use Rattle.std.specs.List.{flat_map}
 use Rattle.std.specs.Option.{option_map_or}
@@ -35,6 +35,7 @@ use Rattle.node_machine.specs.world.Lines.{Occurrence}
 use Rattle.node_machine.specs.world.NodeHistories.{entries_in}
 use Rattle.node_laws.specs.kept.Hosts.{AreDifferent, AreHosts}
 use Rattle.node_laws.specs.telling.Telling.{HasEnds, IfItRuns, hosts_in, world_behind}
+use Rattle.node_laws.proofs.Cases.{by_option}
 use Rattle.node_laws.proofs.kept.Sites.{hosts_same as sites_same}
 use Rattle.node_laws.proofs.telling.Lasting.{occurs}
 use Rattle.node_laws.proofs.telling.Mute.{all_owed_mute, all_synced_mute}
@@ -98,10 +99,9 @@ brings false i p none = refl
 
 module _ (input : NodeInput) (w : Work) (none : BringsNone input) where
   told_none : (core : Core) (p : Port) → NoGets (told_at core p (input_at input p))
-  told_none core p = by (input_at input p) (none p) where
-    by : (o : Option LinkInput) → option_map_or (λ i. (report p.side i).got) o [] ≡ [] → NoGets (told_at core p o)
-    by None q = λ e n. refl
-    by (Some i) q = told_gets p.desk.host (own_side core) p.session (report p.side i) (whole_acked (after_input p.side i)) q
+  told_none core p = by_option (input_at input p)
+      (λ q. rw q (λ e n. refl))
+      (λ i q. rw q (told_gets p.desk.host (own_side core) p.session (report p.side i) (whole_acked (after_input p.side i)) (rw q at (none p))))
 
   late_none : (core : Core) (p : Port) → NoGets (told_late core p)
   late_none core p =
@@ -143,16 +143,10 @@ module _ (w : Work) where
 
   having : (h : ℕ) (messages : List Message) (u : Work) → Extends w u → Extends w (have_turns h messages u)
   having h [] u a = ext u (lets_go h u) [] (lets_notes h u).entries a
-  having h (m ∷ messages) u a = go (lack u.ports (needs h (deeds_of u.core u.ports h m))) (λ v b. having h messages v b) where
-    by : Option (ℕ × ℕ) → Work
-    by None = unless_cut (have_turns h messages) (handles h m (deeds_of u.core u.ports h m) u)
-    by (Some short) = holds_back h short u
-
-    go : (o : Option (ℕ × ℕ)) → ((v : Work) → Extends w v → Extends w (have_turns h messages v)) → Extends w (by o)
-    go None later =
-        unless (Extends w) (have_turns h messages) (handles h m (deeds_of u.core u.ports h m) u) later
-        (ext u (handles h m (deeds_of u.core u.ports h m) u) _ (handles_entries h m (deeds_of u.core u.ports h m) u) a)
-    go (Some short) later = ext u (holds_back h short u) (own_held h short u) (holds_notes h short u).entries a
+  having h (m ∷ messages) u a = by_option (lack u.ports (needs h (deeds_of u.core u.ports h m)))
+      (λ q. rw q (unless (Extends w) (have_turns h messages) (handles h m (deeds_of u.core u.ports h m) u) (λ v b. having h messages v b)
+      (ext u (handles h m (deeds_of u.core u.ports h m) u) _ (handles_entries h m (deeds_of u.core u.ports h m) u) a)))
+      (λ short q. rw q (ext u (holds_back h short u) (own_held h short u) (holds_notes h short u).entries a))
 
   going : (hosts : List ℕ) (u : Work) → Extends w u → Extends w (goes_through_ends hosts u)
   going [] u a = a

@@ -1,5 +1,5 @@
 -- What each deed of a node costs, and that a node can always pay for it.
-use Rattle.std.proofs.Common.{◌≡◌, ℕ, ◌+◌, ◌≤◌, Bool, true, false, List, [], ◌∷◌, ◌++◌, length, sym, refl, ap, subst, arith, Option, Some}
+use Rattle.std.proofs.Common.{◌≡◌, ℕ, ◌+◌, ◌≤◌, true, List, [], ◌∷◌, ◌++◌, length, sym, refl, ap, subst, arith, Option, Some}
 use Rattle.std.proofs.Common.{None}
 use Rattle.std.proofs.lemmas.List.{length-map}
 use Rattle.std.specs.Option.{option_map_or}
@@ -197,14 +197,9 @@ module _ (side : Side) (all : ℕ) where
   -- a deed is done, and then what is left to do as long as the power is on
   pub and_then : (left more h : ℕ) (d : Deed) (deeds : List Deed) (w : Work) → left ≤ more → Owes side more all (done h d w)
       → ((v : Work) → v ≡ done h d w → Owes side more all v → Owes side left all (all_done h deeds v)) → Owes side left all (all_done h (d ∷ deeds) w)
-  and_then left more h d deeds w most first later = go (done h d w) refl first (done h d w).cut where
-    by : Work → Bool → Work
-    by v true = v
-    by v false = all_done h deeds v
-
-    go : (v : Work) → v ≡ done h d w → Owes side more all v → (b : Bool) → Owes side left all (by v b)
-    go v is a true = less more left v most a
-    go v is a false = later v is a
+  and_then left more h d deeds w most first later = by_test (done h d w).cut
+      (λ q. rw q (less more left (done h d w) most first))
+      (λ q. rw q (later (done h d w) refl first))
 
   pub all_owe : (left h : ℕ) (deeds : List Deed) (w : Work) → Owes side (left + weights side deeds) all w → Owes side left all (all_done h deeds w)
   all_owe left h [] w a = less (left + 0) left w (omega arith) a

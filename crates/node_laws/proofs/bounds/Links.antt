@@ -13,14 +13,14 @@ use Rattle.link_laws.specs.machine.Machine.{LinkEnd, ActDue, Role, LinkInput, Tu
 use Rattle.link_laws.specs.machine.Machine.{ended_by}
 use Rattle.link_laws.specs.machine.Machine.Role.{Bare}
 use Rattle.link_laws.specs.machine.Machine.LinkInput.{Take, Tick, Reset, Start, Stop}
-use Rattle.link_laws.specs.messages.Links.{Link, Ending, Comes, IsUicc, put, put_all, with_ended, finished, has_input, has_taken, silent}
+use Rattle.link_laws.specs.messages.Links.{Link, Ending, Comes, IsUicc, put, put_all, with_ended, finished, has_input, silent}
 use Rattle.link_laws.specs.messages.Links.{steps_at_controller, ticks_at_controller}
 use Rattle.link_laws.specs.messages.Links.Ending.{GoesOut, CutOff}
 use Rattle.link_laws.specs.messages.Links.Comes.{NextFrame, AsksReset, Starts, Stops, NoInput}
 use Rattle.link_laws.specs.entries.Entries.{left_after}
 use Rattle.link_laws.proofs.messages.ActsInOrder.{NoActs, no_acts}
 use Rattle.link_laws.proofs.messages.Project.{beside-put_all}
-use Rattle.node_laws.proofs.Cases.{by_test}
+use Rattle.node_laws.proofs.Cases.{by_list, by_test}
 use Rattle.node_laws.proofs.bounds.Syncs.{sync_frame, sync_act, syncs_on, syncs_due, tries_of, may_send, start_of, ComesOnce, input_sends, turned_sends}
 
 -- ## Wires
@@ -167,19 +167,14 @@ module _ (l : Link) (rests : Rests l) where
 
   pub step_out : (comes : Comes) (ts : List Turn) (ending : Ending) → (comes ≡ NextFrame → FirstOnce l.to_controller)
       → out_holds (steps_at_controller l comes ts ending) ≤ out_holds l + start_by comes
-  step_out NextFrame ts ending once = by l.to_controller (once refl) where
-    first : List OnWire → Link
-    first [] = l
-    first (x ∷ xs) = has_taken l x xs ts ending
-
-    by : (w : List OnWire) → FirstOnce w → out_holds (first w) ≤ out_holds l + 0
-    by [] once = omega arith
-    by (x ∷ xs) once =
-        let b : Bool = is_some (ended_by l.controller.side (Take x.frame)) in
-        let wire : syncs_on (with_ended (record l { to_controller = xs }) b).to_host ≡ syncs_on l.to_host =
-        ap syncs_on (ended_out (record l { to_controller = xs }) b) in
-        let most = input_out (left_after l x xs) l.controller.side (Take x.frame) ts ending rests.uicc once in
-        omega (arith, most, wire, now)
+  step_out NextFrame ts ending once = by_list l.to_controller
+      (λ q. rw q (omega arith))
+      (λ x xs q. rw q (let once = rw q at (once refl) in
+      let b : Bool = is_some (ended_by l.controller.side (Take x.frame)) in
+      let wire : syncs_on (with_ended (record l { to_controller = xs }) b).to_host ≡ syncs_on l.to_host =
+      ap syncs_on (ended_out (record l { to_controller = xs }) b) in
+      let most = input_out (left_after l x xs) l.controller.side (Take x.frame) ts ending rests.uicc once in
+      omega (arith, most, wire, now)))
   step_out (AsksReset window) ts ending once = has_out (Reset window) ts ending tt
   step_out (Starts value) ts ending once =
       let most = input_out (silent l (started l.controller.side value)) l.controller.side (Start value) ts ending rests.uicc tt in
@@ -219,19 +214,13 @@ input_in l i ts ending =
 
 pub step_in : (l : Link) (comes : Comes) (ts : List Turn) (ending : Ending)
     → syncs_on (steps_at_controller l comes ts ending).to_controller + taken_by comes l.to_controller ≤ syncs_on l.to_controller
-step_in l NextFrame ts ending = go l.to_controller refl where
-  first : List OnWire → Link
-  first [] = l
-  first (x ∷ xs) = has_taken l x xs ts ending
-
-  go : (w : List OnWire) → l.to_controller ≡ w → syncs_on (first w).to_controller + taken_by NextFrame w ≤ syncs_on w
-  go [] q = let same : syncs_on l.to_controller ≡ 0 = ap syncs_on q in omega (arith, same)
-  go (x ∷ xs) q =
-      let b : Bool = is_some (ended_by l.controller.side (Take x.frame)) in
-      let same : syncs_on (with_ended (record l { to_controller = xs }) b).to_controller ≡ syncs_on xs =
-      ap syncs_on (ended_in (record l { to_controller = xs }) b) in
-      let most = finished_in (left_after l x xs) (turned (after_input l.controller.side (Take x.frame)) ts) ending in
-      omega (arith, most, same)
+step_in l NextFrame ts ending = by_list l.to_controller
+    (λ q. rw q (let same : syncs_on l.to_controller ≡ 0 = ap syncs_on q in omega (arith, same)))
+    (λ x xs q. rw q (let b : Bool = is_some (ended_by l.controller.side (Take x.frame)) in
+    let same : syncs_on (with_ended (record l { to_controller = xs }) b).to_controller ≡ syncs_on xs =
+    ap syncs_on (ended_in (record l { to_controller = xs }) b) in
+    let most = finished_in (left_after l x xs) (turned (after_input l.controller.side (Take x.frame)) ts) ending in
+    omega (arith, most, same)))
 step_in l (AsksReset window) ts ending = let most = input_in l (Reset window) ts ending in omega (arith, most)
 step_in l (Starts value) ts ending =
     let most = finished_in (silent l (started l.controller.side value)) (turned (started l.controller.side value) ts) ending in omega (arith, most)

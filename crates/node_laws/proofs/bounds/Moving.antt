@@ -60,26 +60,20 @@ module _ (e : End) where
 
   at_end : (t since : List Entry) → AreFewer since t → turns since + turns t ≤ gots since + gots t
   at_end [] since are = let now = are [] [] refl in omega (arith, now)
-  at_end (entry.Booted node k ∷ t) since are = go (node == node_number e) refl (at_end t []) (at_end t (since ++ entry.Booted node k ∷ [])) where
-    x : Entry
-    x = entry.Booted node k
+  at_end (entry.Booted node k ∷ t) since are = by_test (node == node_number e)
+      (λ q. let fresh : AreFewer [] t = (λ front back is. let z = are (x ∷ front) back (ap (λ l. x ∷ l) is) in rw q at z) in
+      let rest = at_end t [] fresh in
+      omega (arith, rest, now))
+      (λ q. let on : AreFewer (since ++ x ∷ []) t = (λ front back is. let z = are (x ∷ front) back (ap (λ l. x ∷ l) is) in rw q at z) in
+      let rest = (at_end t (since ++ entry.Booted node k ∷ [])) on in
+      let a = turns-append since (x ∷ []) in
+      let b = gots-append since (x ∷ []) in
+      omega (arith, rest, a, b)) where
+        x : Entry
+        x = entry.Booted node k
 
-    now : turns since ≤ gots since
-    now = are [] (x ∷ t) refl
-
-    go : (b : Bool) → (node == node_number e) ≡ b → (AreFewer [] t → turns [] + turns t ≤ gots [] + gots t)
-        → (AreFewer (since ++ x ∷ []) t → turns (since ++ x ∷ []) + turns t ≤ gots (since ++ x ∷ []) + gots t)
-        → turns since + turns (x ∷ t) ≤ gots since + gots (x ∷ t)
-    go true q anew later =
-        let fresh : AreFewer [] t = (λ front back is. let z = are (x ∷ front) back (ap (λ l. x ∷ l) is) in rw q at z) in
-        let rest = anew fresh in
-        omega (arith, rest, now)
-    go false q anew later =
-        let on : AreFewer (since ++ x ∷ []) t = (λ front back is. let z = are (x ∷ front) back (ap (λ l. x ∷ l) is) in rw q at z) in
-        let rest = later on in
-        let a = turns-append since (x ∷ []) in
-        let b = gots-append since (x ∷ []) in
-        omega (arith, rest, a, b)
+        now : turns since ≤ gots since
+        now = are [] (x ∷ t) refl
   at_end (x ∷ t) since are =
       let rest = at_end t (since ++ x ∷ []) (λ front back is. are (x ∷ front) back (ap (λ l. x ∷ l) is)) in
       let a = turns-append since (x ∷ []) in
@@ -196,17 +190,14 @@ module _ (e : End) where
 
   pub all_got : (t : List Entry) (n : ℕ) → top t ≤ n → gots e t ≤ got_below e t n
   all_got [] n most = omega arith
-  all_got (entry.Got f k pid m ∷ t) n most = go (same_end f e) refl (all_got t n (omega (arith, most))) where
-    x : Entry
-    x = entry.Got f k pid m
-
-    go : (b : Bool) → same_end f e ≡ b → gots e t ≤ got_below e t n → gots e (x ∷ t) ≤ got_below e (x ∷ t) n
-    go true q rest =
-        let is : gots e (x ∷ t) ≡ message_cost (not e.at_host) pid m + gots e t = rw q refl in
-        let more = got_more x t n in
-        let hit = hit_got f k pid m n q in
-        let once = hits_once k (message_cost (not e.at_host) pid m) n (omega (arith, most)) in
-        omega (arith, is, more, hit, once, rest)
-    go false q rest = let is : gots e (x ∷ t) ≡ gots e t = rw q refl in let more = got_more x t n in omega (arith, is, more, rest)
+  all_got (entry.Got f k pid m ∷ t) n most = by_test (same_end f e)
+      (λ q. let is : gots e (x ∷ t) ≡ message_cost (not e.at_host) pid m + gots e t = rw q refl in
+      let more = got_more x t n in
+      let hit = hit_got f k pid m n q in
+      let once = hits_once k (message_cost (not e.at_host) pid m) n (omega (arith, most)) in
+      omega (arith, is, more, hit, once, (all_got t n (omega (arith, most)))))
+      (λ q. let is : gots e (x ∷ t) ≡ gots e t = rw q refl in let more = got_more x t n in omega (arith, is, more, (all_got t n (omega (arith, most))))) where
+        x : Entry
+        x = entry.Got f k pid m
   all_got (x ∷ t) n most =
       let rest = all_got t n most in let more = got_more x t n in omega (arith, more, rest)

@@ -76,10 +76,9 @@ ungot n f (Some (g, saying)) none = said_none (same_end g f) n saying none
 -- what leaves the messages that wait at an end brings none there
 pub still_gets : (e : End) (es : List Entry) (n : ℕ) → AreStill e es → got_in es e n ≡ []
 still_gets e [] n a = refl
-still_gets e (entry.Got f k pid m ∷ es) n a = go (same_end f e) refl (still_gets e es n a.1) where
-  go : (b : Bool) → same_end f e ≡ b → got_in es e n ≡ [] → got_in (entry.Got f k pid m ∷ es) e n ≡ []
-  go true q rest = let no : Adds (pid, m) ≡ Nothing = rw q at a.0 in absurd (cc no)
-  go false q rest = rw q rest
+still_gets e (entry.Got f k pid m ∷ es) n a = by_test (same_end f e)
+    (λ q. let no : Adds (pid, m) ≡ Nothing = rw q at a.0 in absurd (cc no))
+    (λ q. rw q (still_gets e es n a.1))
 still_gets e (x ∷ es) n a =
     ap (λ o. cons_option o (got_in es e n)) (ungot n e (said x) tt) ∙ still_gets e es n a.1
 

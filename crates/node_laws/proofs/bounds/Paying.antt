@@ -97,10 +97,7 @@ unsent n f None none = refl
 unsent n f (Some (g, saying)) none = said_none (same_end g f) n saying none
 
 pub other_twice : (e : End) → other_end (other_end e) ≡ e
-other_twice e = by e.link e.at_host where
-  by : (k : ℕ) (b : Bool) → other_end (other_end (record { link = k; at_host = b })) ≡ record { link = k; at_host = b }
-  by k true = refl
-  by k false = refl
+other_twice e = by_test e.at_host (λ q. rw q refl) (λ q. rw q refl)
 
 module _ (e : End) where
   none_sent : (x : Entry) → SaysNoSend (said x) → (n : ℕ) → sent_of e x n ≡ 0
@@ -131,27 +128,22 @@ module _ (e : End) where
     none_below : (n : ℕ) → sent_below e [] n ≤ 0
     none_below zero = omega arith
     none_below (suc n) = let rest = none_below n in omega (arith, rest)
-  all_sent (entry.Sent f k pid m ∷ t) n = go (same_end f (other_end e)) refl (all_sent t n) where
-    c : ℕ
-    c = message_cost f.at_host pid m
-
-    go : (b : Bool) → same_end f (other_end e) ≡ b → sent_below e t n ≤ count e (sent_list t)
-        → sent_below e (entry.Sent f k pid m ∷ t) n ≤ count e (sent_list (entry.Sent f k pid m ∷ t))
-    go true q rest =
-        let is : f ≡ other_end e = ends_same f (other_end e) q in
-        let far : other_end f ≡ e = ap other_end is ∙ other_twice e in
-        let on : same_end (other_end f) e ≡ true = ap (λ g. same_end g e) far ∙ same_end_itself e in
-        let many = count_on e (other_end f) c (sent_list t) on in
-        let same : c ≡ message_cost (not e.at_host) pid m = ap (λ (g : End). message_cost g.at_host pid m) is in
-        let more = sent_more e (entry.Sent f k pid m) t n in
-        let hit = hit_sent f k pid m n q in
-        let most = hits_most k (message_cost (not e.at_host) pid m) n in
-        omega (arith, many, same, more, hit, most, rest)
-    go false q rest =
-        let more = sent_more e (entry.Sent f k pid m) t n in
-        let none = miss_sent f k pid m n q in
-        let many = count_more e (other_end f) c (sent_list t) in
-        omega (arith, more, none, many, rest)
+  all_sent (entry.Sent f k pid m ∷ t) n = by_test (same_end f (other_end e))
+      (λ q. let is : f ≡ other_end e = ends_same f (other_end e) q in
+      let far : other_end f ≡ e = ap other_end is ∙ other_twice e in
+      let on : same_end (other_end f) e ≡ true = ap (λ g. same_end g e) far ∙ same_end_itself e in
+      let many = count_on e (other_end f) c (sent_list t) on in
+      let same : c ≡ message_cost (not e.at_host) pid m = ap (λ (g : End). message_cost g.at_host pid m) is in
+      let more = sent_more e (entry.Sent f k pid m) t n in
+      let hit = hit_sent f k pid m n q in
+      let most = hits_most k (message_cost (not e.at_host) pid m) n in
+      omega (arith, many, same, more, hit, most, (all_sent t n)))
+      (λ q. let more = sent_more e (entry.Sent f k pid m) t n in
+      let none = miss_sent f k pid m n q in
+      let many = count_more e (other_end f) c (sent_list t) in
+      omega (arith, more, none, many, (all_sent t n))) where
+        c : ℕ
+        c = message_cost f.at_host pid m
   all_sent (x ∷ t) n = let rest = all_sent t n in let more = sent_more e x t n in let none = none_sent x tt n in omega (arith, rest, more, none)
 
 -- ## At all ends

@@ -37,7 +37,7 @@ use Rattle.node_machine.specs.Controller.{asked_at, view_for, answers_on, decisi
 use Rattle.node_machine.specs.Controller.{controller_deeds}
 use Rattle.node_machine.specs.HostReplies.{accepts, learns, orders_of, init_deeds, learned, response_deeds, is_gate, gate_of_pipe, ordered_deeds, host_deeds}
 use Rattle.node_machine.proofs.Walks.{controller_holds, ordered_holds, learns_holds, learned_holds, init_holds as init_walks}
-use Rattle.node_laws.proofs.Cases.{by_test}
+use Rattle.node_laws.proofs.Cases.{by_option, by_test}
 use Rattle.node_laws.proofs.bounds.Costs.{message_cost, plain_free, near_most, far_most, off_free}
 use Rattle.node_laws.proofs.bounds.Holding.{holds_at, init_left}
 use Rattle.node_laws.proofs.bounds.Deeds.{Owes, weight, weights, weights-append, less, all_owe, and_then, committed, answered, heard, went_on}
@@ -95,10 +95,7 @@ identity_plain n body =
 -- what sets REC_ERROR and answers costs what the answer does
 link_weighs : (side : Side) (h pipe : ℕ) (answer : List ℕ × Option ℕ) (k : ℕ) → weight side (Sends h (pipe, answer.0)) ≤ k
     → weights side (link_deeds h pipe answer) ≤ k
-link_weighs side h pipe answer k most = by answer.0 answer.1 most where
-  by : (message : List ℕ) (value : Option ℕ) → weight side (Sends h (pipe, message)) ≤ k → weights side (link_deeds h pipe (message, value)) ≤ k
-  by message None most = omega (arith, most)
-  by message (Some errors) most = omega (arith, most)
+link_weighs side h pipe answer k most = by_option answer.1 (λ q. rw q (omega (arith, most))) (λ errors q. rw q (omega (arith, most)))
 
 -- ## Controllers
 

@@ -23,7 +23,7 @@ use Rattle.node_machine.specs.Carrying.{own_side, end_of_node, noting, unless_cu
 use Rattle.node_machine.specs.Carrying.{own_view, end_view}
 use Rattle.node_machine.specs.Controller.{asked_at, controller_deeds, view_of}
 use Rattle.node_machine.specs.HostReplies.{host_deeds}
-use Rattle.node_machine.specs.Turns.{deeds_of, handles, holds_back, have_turns, goes_through_ends, passes}
+use Rattle.node_machine.specs.Turns.{deeds_of, handles, have_turns, goes_through_ends, passes}
 use Rattle.node_machine.specs.Node.{NodeInput, input_at, has_come, told_at, all_come, with_older, is_late, reset_late, told_late, times_out, is_over}
 use Rattle.node_machine.specs.Node.{is_over_at}
 use Rattle.node_machine.specs.Node.{is_forgotten, forgotten, forgets, owed, all_owed, without_notice, after_sessions, synced}
@@ -94,19 +94,12 @@ module _ (side : Side) (all : ℕ) where
 
   having : (h : ℕ) (messages : List Message) (w : Work) → Owes side 0 all w → Owes side 0 all (have_turns h messages w)
   having h [] w a = lets (Owes side 0 all) (held side all) h w a
-  having h (m ∷ messages) w a = go (lack w.ports (needs h deeds)) (λ v b. having h messages v b) where
-    deeds : List Deed
-    deeds = deeds_of w.core w.ports h m
-
-    by : Option (ℕ × ℕ) → Work
-    by None = unless_cut (have_turns h messages) (handles h m deeds w)
-    by (Some short) = holds_back h short w
-
-    go : (o : Option (ℕ × ℕ)) → ((v : Work) → Owes side 0 all v → Owes side 0 all (have_turns h messages v)) → Owes side 0 all (by o)
-    go None later = unless (Owes side 0 all) (have_turns h messages) (handles h m deeds w) later (handled h m w a)
-    go (Some short) later =
-        holds (Owes side 0 all) (held side all) (λ k flag v b. marked side all 0 k flag v b)
-        (λ k need spare v b. noted side all 0 0 (entry.Held (end_of_node v.core k) need spare ∷ []) v (omega arith) b) h short w a
+  having h (m ∷ messages) w a = by_option (lack w.ports (needs h deeds))
+      (λ q. rw q (unless (Owes side 0 all) (have_turns h messages) (handles h m deeds w) (λ v b. having h messages v b) (handled h m w a)))
+      (λ short q. rw q (holds (Owes side 0 all) (held side all) (λ k flag v b. marked side all 0 k flag v b)
+      (λ k need spare v b. noted side all 0 0 (entry.Held (end_of_node v.core k) need spare ∷ []) v (omega arith) b) h short w a)) where
+        deeds : List Deed
+        deeds = deeds_of w.core w.ports h m
 
   going : (hosts : List ℕ) (w : Work) → Owes side 0 all w → Owes side 0 all (goes_through_ends hosts w)
   going [] w a = a
@@ -152,22 +145,13 @@ syncs_told input (p ∷ ports) = option_map_or (λ i. sync_told (report p.side i
 -- each costs one command at most
 synced_weighs : (side : Side) (core : Core) (input : NodeInput) (p : Port)
     → weights side (synced core input p) ≤ option_map_or (λ i. sync_told (report p.side i).sync) (input_at input p) 0
-synced_weighs side core input p = by_input (input_at input p) where
-  by_id : Option ℕ → List Deed
-  by_id None = []
-  by_id (Some id) = cond (not (is_kept_sync core.tables.syncs p.desk.host id) && finds_room core (Sync p.desk.host id)) (Commits (Sync p.desk.host id) ∷ []) []
-
-  by : Option LinkInput → List Deed
-  by None = []
-  by (Some i) = by_id (report p.side i).sync
-
-  by_input : (o : Option LinkInput) → weights side (by o) ≤ option_map_or (λ i. sync_told (report p.side i).sync) o 0
-  by_input None = omega arith
-  by_input (Some i) = by_option (report p.side i).sync
-      (λ q. rw q (omega arith))
-      (λ id q. rw q (cond_both (not (is_kept_sync core.tables.syncs p.desk.host id) && finds_room core (Sync p.desk.host id))
-      (Commits (Sync p.desk.host id) ∷ []) []
-      (λ deeds. weights side deeds ≤ 1) (λ _. omega arith) (λ _. omega arith)))
+synced_weighs side core input p = by_option (input_at input p)
+    (λ q. rw q (omega arith))
+    (λ i q. rw q (by_option (report p.side i).sync
+    (λ q. rw q (omega arith))
+    (λ id q. rw q (cond_both (not (is_kept_sync core.tables.syncs p.desk.host id) && finds_room core (Sync p.desk.host id))
+    (Commits (Sync p.desk.host id) ∷ []) []
+    (λ deeds. weights side deeds ≤ 1) (λ _. omega arith) (λ _. omega arith)))))
 
 all_synced : (side : Side) (core : Core) (input : NodeInput) (ports : List Port) → weights side (flat_map (synced core input) ports) ≤ syncs_told input ports
 all_synced side core input [] = omega arith

@@ -131,20 +131,16 @@ off_same h g (s ∷ sites) off = let rest = off_same h g sites off.1 in rw off.0
 one_swaps : (h : ℕ) (g : Site → Site) (sites : List Site) (s : Site) → AreDifferent (hosts_in sites) → site_at sites h ≡ Some s
     → sites_hold (with_site h g sites) + site_holds s ≡ sites_hold sites + site_holds (g s)
 one_swaps h g [] s apart here = absurd (cc here)
-one_swaps h g (x ∷ sites) s apart here = go (eqb x.host h) refl (one_swaps h g sites s apart.1) where
-  go : (b : Bool) → eqb x.host h ≡ b
-      → (site_at sites h ≡ Some s → sites_hold (with_site h g sites) + site_holds s ≡ sites_hold sites + site_holds (g s))
-      → sites_hold (with_site h g (x ∷ sites)) + site_holds s ≡ sites_hold (x ∷ sites) + site_holds (g s)
-  go true q later =
-      let found : Some x ≡ Some s = rw q at here in
-      let is : x ≡ s = cc in
-      let number : x.host ≡ h = eqb-true x.host h q in
-      let off : AllByRecursion (λ k. (k == h) ≡ false) (hosts_in sites) = subst (λ n. AllByRecursion (λ k. (k == n) ≡ false) (hosts_in sites)) number apart.0 in
-      let rest = off_same h g sites off in
-      let before : site_holds x ≡ site_holds s = ap site_holds is in
-      let behind : site_holds (g x) ≡ site_holds (g s) = ap (λ (y : Site). site_holds (g y)) is in
-      rw q (omega (arith, rest, before, behind))
-  go false q later = let rest = later (rw q at here) in rw q (omega (arith, rest))
+one_swaps h g (x ∷ sites) s apart here = by_test (eqb x.host h)
+    (λ q. let found : Some x ≡ Some s = rw q at here in
+    let is : x ≡ s = cc in
+    let number : x.host ≡ h = eqb-true x.host h q in
+    let off : AllByRecursion (λ k. (k == h) ≡ false) (hosts_in sites) = subst (λ n. AllByRecursion (λ k. (k == n) ≡ false) (hosts_in sites)) number apart.0 in
+    let rest = off_same h g sites off in
+    let before : site_holds x ≡ site_holds s = ap site_holds is in
+    let behind : site_holds (g x) ≡ site_holds (g s) = ap (λ (y : Site). site_holds (g y)) is in
+    rw q (omega (arith, rest, before, behind)))
+    (λ q. let rest = one_swaps h g sites s apart.1 (rw q at here) in rw q (omega (arith, rest)))
 
 -- ## Frames
 
@@ -222,20 +218,17 @@ none_told h i (p ∷ ports) off =
 
 pub told_once : (h : ℕ) (i : LinkInput) (ports : List Port) → AreDifferent (hosts_of_ends ports) → syncs_told (AtEnd h i) ports ≤ input_sync i
 told_once h i [] apart = omega arith
-told_once h i (p ∷ ports) apart = go (eqb p.desk.host h) refl (told_once h i ports apart.1) where
-  go : (b : Bool) → eqb p.desk.host h ≡ b → syncs_told (AtEnd h i) ports ≤ input_sync i → syncs_told (AtEnd h i) (p ∷ ports) ≤ input_sync i
-  go true q rest =
-      let number : p.desk.host ≡ h = eqb-true p.desk.host h q in
-      let off : AllByRecursion (λ k. (k == h) ≡ false) (hosts_of_ends ports) =
-      subst (λ n. AllByRecursion (λ k. (k == n) ≡ false) (hosts_of_ends ports)) number apart.0 in
-      let none = none_told h i ports off in
-      let one = one_told h i p in
-      let is : worth (input_sync i) (eqb p.desk.host h) ≡ input_sync i = ap (worth (input_sync i)) q in
-      omega (arith, none, one, is)
-  go false q rest =
-      let one = one_told h i p in
-      let is : worth (input_sync i) (eqb p.desk.host h) ≡ 0 = ap (worth (input_sync i)) q in
-      omega (arith, one, is, rest)
+told_once h i (p ∷ ports) apart = by_test (eqb p.desk.host h)
+    (λ q. let number : p.desk.host ≡ h = eqb-true p.desk.host h q in
+    let off : AllByRecursion (λ k. (k == h) ≡ false) (hosts_of_ends ports) =
+    subst (λ n. AllByRecursion (λ k. (k == n) ≡ false) (hosts_of_ends ports)) number apart.0 in
+    let none = none_told h i ports off in
+    let one = one_told h i p in
+    let is : worth (input_sync i) (eqb p.desk.host h) ≡ input_sync i = ap (worth (input_sync i)) q in
+    omega (arith, none, one, is))
+    (λ q. let one = one_told h i p in
+    let is : worth (input_sync i) (eqb p.desk.host h) ≡ 0 = ap (worth (input_sync i)) q in
+    omega (arith, one, is, (told_once h i ports apart.1)))
 
 -- nothing tells of one in a tick
 pub ticks_told : (ports : List Port) → syncs_told TimePasses ports ≡ 0
@@ -258,14 +251,9 @@ came_from sites h comes i seen = go (site_at sites h) refl where
   taken s = taken_by (comes_to h comes s.host) s.link.to_controller
 
   on_link : (l : Link) (comes : Comes) (i : LinkInput) → input_of l comes ≡ Some i → input_sync i ≤ taken_by comes l.to_controller
-  on_link l NextFrame i is = first l.to_controller is where
-    next : List OnWire → Option LinkInput
-    next [] = None
-    next (x ∷ xs) = Some (Take x.frame)
-
-    first : (w : List OnWire) → next w ≡ Some i → input_sync i ≤ taken_by NextFrame w
-    first [] is = absurd (cc is)
-    first (x ∷ xs) is = let same : Take x.frame ≡ i = cc in let one : input_sync i ≡ sync_frame x.frame = ap input_sync (sym same) in omega (arith, one)
+  on_link l NextFrame i is = by_list l.to_controller
+      (λ q. rw q (absurd (cc (rw q at is))))
+      (λ x xs q. rw q (let same : Take x.frame ≡ i = cc in let one : input_sync i ≡ sync_frame x.frame = ap input_sync (sym same) in omega (arith, one)))
   on_link l (AsksReset window) i is = let same : Reset window ≡ i = cc in let one : input_sync i ≡ 0 = ap input_sync (sym same) in omega (arith, one)
   on_link l (Starts value) i is = let same : Start value ≡ i = cc in let one : input_sync i ≡ 0 = ap input_sync (sym same) in omega (arith, one)
   on_link l Stops i is = let same : Stop ≡ i = cc in let one : input_sync i ≡ 0 = ap input_sync (sym same) in omega (arith, one)

@@ -101,17 +101,9 @@ one_here x c e = rw e refl
 -- what a desk keeps and what is read of it
 pub desks_wait : (x : ℕ) (ports : List Port) → creations_at (map (λ (p : Port). p.desk) ports) x ≡ waits x (asked_of ports)
 desks_wait x [] = refl
-desks_wait x (p ∷ ports) = go (creation_in p.desk.notice) refl (desks_wait x ports) where
-  tail : List Creation
-  tail = waits x (asked_of ports)
-
-  go : (o : Option Creation) → creation_in p.desk.notice ≡ o → creations_at (map (λ (p : Port). p.desk) ports) x ≡ tail
-      → creations_at (map (λ (p : Port). p.desk) (p ∷ ports)) x ≡ waits x (asked_of (p ∷ ports))
-  go None e later = rw e later
-  go (Some c) e later = by (cases_Bool (eqb c.asker x)) where
-    by : (eqb c.asker x ≡ true) ⊎ (eqb c.asker x ≡ false) → creations_at (map (λ (p : Port). p.desk) (p ∷ ports)) x ≡ waits x (asked_of (p ∷ ports))
-    by (inl is) = rw (e, is) (ap (λ l. c ∷ l) later)
-    by (inr off) = rw (e, off) later
+desks_wait x (p ∷ ports) = by_option (creation_in p.desk.notice)
+    (λ e. rw e (desks_wait x ports))
+    (λ c e. by_test (eqb c.asker x) (λ is. rw (e, is) (ap (λ l. c ∷ l) (desks_wait x ports))) (λ off. rw (e, off) (desks_wait x ports)))
 
 -- ## Ends
 
@@ -123,23 +115,16 @@ asked_map f host same (p ∷ ports) =
 
 pub asked_with : (k : ℕ) (g : Port → Port) → ((p : Port) → (g p).desk.host ≡ p.desk.host) → ((p : Port) → asked_at (g p) ≡ asked_at p) → (ports : List Port)
     → asked_of (with_port k g ports) ≡ asked_of ports
-asked_with k g host same ports = asked_map (λ p. changed_if (eqb p.desk.host k) g p) (λ p. hosts (eqb p.desk.host k) p) (λ p. sames (eqb p.desk.host k) p) ports
-  where
-    hosts : (b : Bool) (p : Port) → (changed_if b g p).desk.host ≡ p.desk.host
-    hosts true p = host p
-    hosts false p = refl
-
-    sames : (b : Bool) (p : Port) → asked_at (changed_if b g p) ≡ asked_at p
-    sames true p = same p
-    sames false p = refl
+asked_with k g host same ports = asked_map (λ p. changed_if (eqb p.desk.host k) g p) (λ p. by_test (eqb p.desk.host k)
+    (λ q. rw q (host p))
+    (λ q. rw q refl)) (λ p. by_test (eqb p.desk.host k) (λ q. rw q (same p)) (λ q. rw q refl)) ports
 
 pub asked_set : (k : ℕ) (g : Port → Port) (o : Option Creation) → ((p : Port) → (g p).desk.host ≡ p.desk.host) → ((p : Port) → asked_at (g p) ≡ o)
     → (ports : List Port) → asked_of (with_port k g ports) ≡ set_asked k o (asked_of ports)
 asked_set k g o host new [] = refl
-asked_set k g o host new (p ∷ ports) = ap₂ (λ e l. e ∷ l) (go (eqb p.desk.host k)) (asked_set k g o host new ports) where
-  go : (b : Bool) → one_asked (changed_if b g p).desk.host (asked_at (changed_if b g p)) ≡ cond b (one_asked p.desk.host o) (one_asked p.desk.host (asked_at p))
-  go true = ap₂ one_asked (host p) (new p)
-  go false = refl
+asked_set k g o host new (p ∷ ports) = ap₂ (λ e l. e ∷ l) (by_test (eqb p.desk.host k)
+    (λ q. rw q (ap₂ one_asked (host p) (new p)))
+    (λ q. rw q refl)) (asked_set k g o host new ports)
 
 pub hosts_asked : (ports : List Port) → map (λ (e : ℕ × Option Creation). e.0) (asked_of ports) ≡ map (λ (p : Port). p.desk.host) ports
 hosts_asked [] = refl
@@ -156,41 +141,36 @@ pub record Split (asked : Asked) (k : ℕ) (o : Option Creation) : Type 0 where
 others_stay : (k : ℕ) (n : Option Creation) (asked : Asked) → AllByRecursion (λ (h : ℕ). eqb h k ≡ false) (map (λ (e : ℕ × Option Creation). e.0) asked)
     → set_asked k n asked ≡ asked
 others_stay k n [] a = refl
-others_stay k n (e ∷ asked) a = ap₂ (λ h l. h ∷ l) (go (eqb e.0 k) a.0) (others_stay k n asked a.1) where
-  go : (b : Bool) → b ≡ false → cond b (e.0, n) e ≡ e
-  go true z = absurd (true≢false z)
-  go false z = refl
+others_stay k n (e ∷ asked) a = ap₂ (λ h l. h ∷ l) (by_test (eqb e.0 k)
+    (λ q. rw q (absurd (true≢false (rw q at a.0))))
+    (λ q. rw q refl)) (others_stay k n asked a.1)
 
 pub split_at : (ports : List Port) (k : ℕ) (p : Port) → AreDifferent (map (λ (p : Port). p.desk.host) ports) → port_at ports k ≡ Some p
     → Split (asked_of ports) k (asked_at p)
 split_at [] k p d e = absurd (cc e)
-split_at (q ∷ ports) k p d e = go (cases_Bool (eqb q.desk.host k)) (split_at ports k p d.1) where
-  go : (eqb q.desk.host k ≡ true) ⊎ (eqb q.desk.host k ≡ false) → (port_at ports k ≡ Some p → Split (asked_of ports) k (asked_at p))
-      → Split (asked_of (q ∷ ports)) k (asked_at p)
-  go (inl is) later =
-      let same : Some q ≡ Some p = rw is at e in
-      let one : q ≡ p = cc in
-      let off : AllByRecursion (λ (h : ℕ). eqb h k ≡ false) (map (λ (p : Port). p.desk.host) ports) =
-      subst (λ n. AllByRecursion (λ (h : ℕ). eqb h n ≡ false) (map (λ (p : Port). p.desk.host) ports)) (eqb-true q.desk.host k is) d.0 in
-      record {
-        key = q.desk.host;
-        front = [];
-        back = asked_of ports;
-        is = ap (λ o. (q.desk.host, o) ∷ asked_of ports) (ap asked_at one);
-        set = λ n. ap (λ b. cond b (q.desk.host, n) (q.desk.host, asked_at q) ∷ set_asked k n (asked_of ports)) is
-            ∙ ap (λ l. (q.desk.host, n) ∷ l) (others_stay k n (asked_of ports)
-            (subst (AllByRecursion (λ (h : ℕ). eqb h k ≡ false)) (sym (hosts_asked ports)) off));
-      }
-  go (inr off) later =
-      let found : Split (asked_of ports) k (asked_at p) = later (rw off at e) in
-      record {
-        key = found.key;
-        front = (q.desk.host, asked_at q) ∷ found.front;
-        back = found.back;
-        is = ap (λ l. (q.desk.host, asked_at q) ∷ l) found.is;
-        set = λ n. ap (λ b. cond b (q.desk.host, n) (q.desk.host, asked_at q) ∷ set_asked k n (asked_of ports)) off
-            ∙ ap (λ l. (q.desk.host, asked_at q) ∷ l) (found.set n);
-      }
+split_at (q ∷ ports) k p d e = by_test (eqb q.desk.host k)
+    (λ is. let same : Some q ≡ Some p = rw is at e in
+    let one : q ≡ p = cc in
+    let off : AllByRecursion (λ (h : ℕ). eqb h k ≡ false) (map (λ (p : Port). p.desk.host) ports) =
+    subst (λ n. AllByRecursion (λ (h : ℕ). eqb h n ≡ false) (map (λ (p : Port). p.desk.host) ports)) (eqb-true q.desk.host k is) d.0 in
+    record {
+      key = q.desk.host;
+      front = [];
+      back = asked_of ports;
+      is = ap (λ o. (q.desk.host, o) ∷ asked_of ports) (ap asked_at one);
+      set = λ n. ap (λ b. cond b (q.desk.host, n) (q.desk.host, asked_at q) ∷ set_asked k n (asked_of ports)) is
+          ∙ ap (λ l. (q.desk.host, n) ∷ l) (others_stay k n (asked_of ports)
+          (subst (AllByRecursion (λ (h : ℕ). eqb h k ≡ false)) (sym (hosts_asked ports)) off));
+    })
+    (λ off. let found : Split (asked_of ports) k (asked_at p) = split_at ports k p d.1 (rw off at e) in
+    record {
+      key = found.key;
+      front = (q.desk.host, asked_at q) ∷ found.front;
+      back = found.back;
+      is = ap (λ l. (q.desk.host, asked_at q) ∷ l) found.is;
+      set = λ n. ap (λ b. cond b (q.desk.host, n) (q.desk.host, asked_at q) ∷ set_asked k n (asked_of ports)) off
+          ∙ ap (λ l. (q.desk.host, asked_at q) ∷ l) (found.set n);
+    })
 
 -- ## What becomes of the creations of one asker
 
@@ -258,31 +238,20 @@ module _ (x : ℕ) where
     go (Some c) e = by_notice p.desk.notice refl where
       by_notice : (n : Option Notice) → p.desk.notice ≡ n → one_of x (asked_at (forgets all p)) ≡ cond (is_over_at all x) [] (one_of x (asked_at p))
       by_notice None q = let z : None ≡ Some c = rw q at e in absurd (cc z)
-      by_notice (Some n) q = by_over (cases_Bool (is_over_at all c.asker)) where
-        here : (b : Bool) → is_over_at all c.asker ≡ b → cond b [] (one_of x (Some c)) ≡ cond (is_over_at all x) [] (one_of x (asked_at p))
-        here b z = by (cases_Bool (eqb c.asker x)) where
-          by : (eqb c.asker x ≡ true) ⊎ (eqb c.asker x ≡ false) → cond b [] (one_of x (Some c)) ≡ cond (is_over_at all x) [] (one_of x (asked_at p))
-          by (inl is) =
-              ap (λ d. cond d [] (one_of x (Some c))) (sym z ∙ ap (is_over_at all) (eqb-true c.asker x is))
-              ∙ ap (λ o. cond (is_over_at all x) [] (one_of x o)) (sym e)
-          by (inr off) =
-              ap (cond b []) (one_else x c off)
-              ∙ (both [] b ∙ (sym (both [] (is_over_at all x)) ∙ ap (cond (is_over_at all x) []) (sym (one_else x c off) ∙ ap (one_of x) (sym e))))
-
-        by_over : (is_over_at all c.asker ≡ true) ⊎ (is_over_at all c.asker ≡ false)
-            → one_of x (asked_at (forgets all p)) ≡ cond (is_over_at all x) [] (one_of x (asked_at p))
-        by_over (inl z) =
-            let gone : asked_at (forgets all p) ≡ None = rw (e, z, q) refl in
-            ap (one_of x) gone ∙ here true z
-        by_over (inr z) =
-            let same : forgets all p ≡ p = rw (e, z) refl in
-            ap (λ (r : Port). one_of x (asked_at r)) same ∙ (ap (one_of x) e ∙ here false z)
+      by_notice (Some n) q = by_test (is_over_at all c.asker)
+          (λ z. let gone : asked_at (forgets all p) ≡ None = rw (e, z, q) refl in
+          ap (one_of x) gone ∙ here true z)
+          (λ z. let same : forgets all p ≡ p = rw (e, z) refl in
+          ap (λ (r : Port). one_of x (asked_at r)) same ∙ (ap (one_of x) e ∙ here false z)) where
+            here : (b : Bool) → is_over_at all c.asker ≡ b → cond b [] (one_of x (Some c)) ≡ cond (is_over_at all x) [] (one_of x (asked_at p))
+            here b z = by_test (eqb c.asker x)
+                (λ is. ap (λ d. cond d [] (one_of x (Some c))) (sym z ∙ ap (is_over_at all) (eqb-true c.asker x is))
+                ∙ ap (λ o. cond (is_over_at all x) [] (one_of x o)) (sym e))
+                (λ off. ap (cond b []) (one_else x c off)
+                ∙ (both [] b ∙ (sym (both [] (is_over_at all x)) ∙ ap (cond (is_over_at all x) []) (sym (one_else x c off) ∙ ap (one_of x) (sym e)))))
 
   pub forgot : (all ports : List Port) → waits x (asked_of (map (forgets all) ports)) ≡ cond (is_over_at all x) [] (waits x (asked_of ports))
-  forgot all [] = go [] (is_over_at all x) where
-    go : (l : List Creation) (b : Bool) → l ≡ cond b l l
-    go l true = refl
-    go l false = refl
+  forgot all [] = by_test (is_over_at all x) (λ q. rw q refl) (λ q. rw q refl)
   forgot all (p ∷ ports) = ap₂ (λ a b. a ++ b) (forgot_one all p) (forgot all ports) ∙ by_test (is_over_at all x) (λ q. rw q refl) (λ q. rw q refl)
 
   -- of the others those of ends whose sessions ended are owed an answer

@@ -1,10 +1,10 @@
 -- What comes to the ends of a controller: with the session of its asker a creation is neither read nor kept any more.
-use Rattle.std.proofs.Common.{append_assoc, ◌≡◌, ◌⊎◌, inl, inr, ℕ, ◌&&◌, ◌||◌, Bool, true, false, not, cond, eqb, List, [], ◌∷◌, ◌++◌, map, sym, refl, ap, ◌∙◌}
+use Rattle.std.proofs.Common.{append_assoc, ◌≡◌, ℕ, ◌&&◌, ◌||◌, Bool, true, false, not, cond, eqb, List, [], ◌∷◌, ◌++◌, map, sym, refl, ap, ◌∙◌}
 use Rattle.std.proofs.Common.{subst}
 use Rattle.std.specs.Prelude.{Option, Some, None, is_some, nat_le}
 use Rattle.std.specs.List.{AllByRecursion, flat_map}
 use Rattle.std.specs.Option.{option_map, option_map_or}
-use Rattle.std.proofs.lemmas.Bool.{cases_Bool, eqb-true, eqb-false, ne_eqb, true≢false}
+use Rattle.std.proofs.lemmas.Bool.{eqb-true, eqb-false, ne_eqb, true≢false}
 use mathlib.Core.Bool.{or-false, or-true}
 use Rattle.trace_model.specs.declared.entry.Entry.{Entry}
 use Rattle.shdlc_core.specs.declared.answers.LinkState.TheVariants.{Up}
@@ -16,7 +16,7 @@ use Rattle.link_laws.specs.machine.Machine.{report, whole_acked}
 use Rattle.node_machine.specs.Parts.{Creation, Notice, Port, Work}
 use Rattle.node_machine.specs.Carrying.{own_side, port_at}
 use Rattle.node_machine.specs.Controller.{asked_at}
-use Rattle.node_machine.specs.Node.{NodeInput, input_at, has_come, told_at, all_come, older_notice, with_older, is_late, reset_late, told_late, times_out}
+use Rattle.node_machine.specs.Node.{NodeInput, input_at, has_come, told_at, all_come, with_older, is_late, reset_late, told_late, times_out}
 use Rattle.node_machine.specs.Node.{is_over, is_over_at}
 use Rattle.node_machine.specs.Node.NodeInput.{AtEnd, TimePasses}
 use Rattle.node_machine.specs.world.NodeFilters.{book_in}
@@ -41,25 +41,22 @@ use Rattle.node_laws.specs.creations.Worlds.{IsProperBook}
 use Rattle.node_laws.proofs.creations.Asks.{Asked, asked_of, waits, asked_map}
 use Rattle.node_laws.proofs.creations.Reading.{ask_more, told_same, flat_same}
 use Rattle.node_laws.proofs.creations.Asides.{input_aside}
-use Rattle.node_laws.proofs.creations.Doing.{EndHas, EndAt, IsOn, reading}
+use Rattle.node_laws.proofs.creations.Doing.{EndHas, IsOn, reading}
 use Rattle.node_laws.proofs.steps.Ports.{at_port, come_host, late_host}
 
 -- whether the session of the end with a host has ended
 pub over_at : (ports : List Port) (x : ℕ) → AreDifferent (map (λ (p : Port). p.desk.host) ports)
     → is_over_at ports x ≡ option_map_or is_over (port_at ports x) false
 over_at [] x d = refl
-over_at (p ∷ ports) x d = go (cases_Bool (eqb p.desk.host x)) (over_at ports x d.1) where
-  none : (ports : List Port) → AllByRecursion (λ (k : ℕ). eqb k p.desk.host ≡ false) (map (λ (p : Port). p.desk.host) ports) → eqb p.desk.host x ≡ true
-      → is_over_at ports x ≡ false
-  none [] a e = refl
-  none (q ∷ ports) a e =
-      let off : eqb q.desk.host x ≡ false = ne_eqb q.desk.host x (λ s. eqb-false q.desk.host p.desk.host a.0 (s ∙ sym (eqb-true p.desk.host x e))) in
-      rw off (none ports a.1 e)
-
-  go : (eqb p.desk.host x ≡ true) ⊎ (eqb p.desk.host x ≡ false) → is_over_at ports x ≡ option_map_or is_over (port_at ports x) false
-      → is_over_at (p ∷ ports) x ≡ option_map_or is_over (port_at (p ∷ ports) x) false
-  go (inl is) later = rw is (ap (λ b. is_over p || b) (none ports d.0 is) ∙ or-false (is_over p))
-  go (inr off) later = rw off later
+over_at (p ∷ ports) x d = by_test (eqb p.desk.host x)
+    (λ is. rw is (ap (λ b. is_over p || b) (none ports d.0 is) ∙ or-false (is_over p)))
+    (λ off. rw off (over_at ports x d.1)) where
+      none : (ports : List Port) → AllByRecursion (λ (k : ℕ). eqb k p.desk.host ≡ false) (map (λ (p : Port). p.desk.host) ports) → eqb p.desk.host x ≡ true
+          → is_over_at ports x ≡ false
+      none [] a e = refl
+      none (q ∷ ports) a e =
+          let off : eqb q.desk.host x ≡ false = ne_eqb q.desk.host x (λ s. eqb-false q.desk.host p.desk.host a.0 (s ∙ sym (eqb-true p.desk.host x e))) in
+          rw off (none ports a.1 e)
 
 -- an end behind what came: of one whose session ended it isn't said that it is up
 pub record ComeHas (n : ℕ) (l : List Creation) (over : Bool) (e : LinkEnd) : Type 0 where
@@ -211,19 +208,13 @@ module _ (x : ℕ) (before : List Entry) (hosts : List ℕ) (asked : Asked) (n :
         (sym (flat_same x (λ p. told_at w.core p (input_at input p)) (λ p s. told_same x w.core p (input_at input p) s side) w.ports r
         ∙ flat_reads x (λ p. told_at w.core p (input_at input p)) (λ p s e. told_elsewhere x w.core side p (input_at input p) s e) w.ports apart r))
         (subst (IsCome n list r (option_map_or (λ (p : Port). reads x (told_at w.core p (input_at input p)) r) (port_at w.ports x) r))
-        (sym (at_all w.ports x come (λ q. come_host q (input_at input q)))) (go (port_at w.ports x) refl a.end))
-      where
-        told_is : (p : Port) (o : Option LinkInput) → p.desk.host ≡ x
-            → reads x (told_at w.core p o) r ≡ option_map_or (λ (i : LinkInput). cond (is_some (ended_by p.side i)) None r) o r
-        told_is p None e = refl
-        told_is p (Some i) e = told_here x w.core side p i r e
-
-        go : (o : Option Port) → port_at w.ports x ≡ o → EndAt n list o
-            → IsCome n list r (option_map_or (λ (p : Port). reads x (told_at w.core p (input_at input p)) r) o r) (option_map come o)
-        go None e b = (b, refl)
-        go (Some p) e b =
-            subst (λ s. IsCome n list r s (Some (come p))) (sym (told_is p (input_at input p) (at_host w.ports x p e)))
-            (come_is n list p (at_port IsFresh w.ports x p fresh e) (input_at input p) r (λ i q. from_outside input outside p i q) b)
+        (sym (at_all w.ports x come (λ q. come_host q (input_at input q)))) (by_option (port_at w.ports x)
+        (λ e. rw e (((rw e at a.end), refl)))
+        (λ p e. rw e (let b = rw e at a.end in
+        subst (λ s. IsCome n list r s (Some (come p))) (sym (by_option (input_at input p)
+        (λ q. rw q refl)
+        (λ i q. rw q (told_here x w.core side p i r (at_host w.ports x p e)))))
+        (come_is n list p (at_port IsFresh w.ports x p fresh e) (input_at input p) r (λ i q. from_outside input outside p i q) b)))))
 
     come_hosts : map (λ (p : Port). p.desk.host) (map come w.ports) ≡ hosts
     come_hosts = hosts_map come (λ p. come_host p (input_at input p)) w.ports ∙ a.hosts_are
@@ -290,34 +281,26 @@ module _ (x : ℕ) (before : List Entry) (hosts : List ℕ) (asked : Asked) (n :
         (sym (at_all olds x reset_late late_host))
         (subst (λ o. IsCome n list r (option_map_or (λ (p : Port). reads x (told_late w.core p) first) o first) (option_map reset_late o))
         (sym (at_all ticked x with_older (λ q. refl) ∙ ap (option_map with_older) (at_all w.ports x (come TimePasses tt) (λ q. come_host q (Some Tick)))))
-        (go (port_at w.ports x) refl up (subst (IsCome n list r first) (at_all w.ports x (come TimePasses tt) (λ q. come_host q (Some Tick)))
-        (come_at TimePasses tt)))))
+        (by_option (port_at w.ports x)
+        (λ e. rw e (let b = rw e at (subst (IsCome n list r first) (at_all w.ports x (come TimePasses tt) (λ q. come_host q (Some Tick)))
+        (come_at TimePasses tt)) in
+        b))
+        (λ p e. rw e (let b = rw e at (subst (IsCome n list r first) (at_all w.ports x (come TimePasses tt) (λ q. come_host q (Some Tick)))
+        (come_at TimePasses tt)) in
+        let u = rw e at up in
+        let q : Port = come TimePasses tt p in
+        let f : IsFresh p = at_port IsFresh w.ports x p fresh e in
+        subst (λ s. IsCome n list r s (Some (reset_late (with_older q)))) (sym (read_late (with_older q) (at_host w.ports x p e)))
+        (late_is n list (with_older q) r first f.1
+        (λ going some. stays_up p.side Tick tt (up_is p.side.shdlc.phase (u (by_option p.desk.notice
+        (λ q. rw q (rw q at some))
+        (λ k q. rw q refl)))) going)
+        (input_shut p.side Tick (at_port (λ (z : Port). IsShut z.side) w.ports x p shut e))
+        (b.0, b.1)))))))
       where
         read_late : (q : Port) → q.desk.host ≡ x
             → reads x (told_late w.core q) first ≡ cond (is_late q) (cond (is_some (ended_by q.side (Reset None))) None first) first
         read_late q e = by_test (is_late q) (λ is. rw is (told_here x w.core side q (Reset None) first e)) (λ is. rw is refl)
-
-        older : Option Notice → Option Notice
-        older None = None
-        older (Some k) = Some (older_notice k)
-
-        some_of : (o : Option Notice) → is_some (older o) ≡ true → is_some o ≡ true
-        some_of None z = z
-        some_of (Some k) z = refl
-
-        go : (o : Option Port) → port_at w.ports x ≡ o → UpAt o → IsCome n list r first (option_map (come TimePasses tt) o)
-            → IsCome n list r
-            (option_map_or (λ (p : Port). reads x (told_late w.core p) first) (option_map with_older (option_map (come TimePasses tt) o)) first)
-            (option_map reset_late (option_map with_older (option_map (come TimePasses tt) o)))
-        go None e u b = b
-        go (Some p) e u b =
-            let q : Port = come TimePasses tt p in
-            let f : IsFresh p = at_port IsFresh w.ports x p fresh e in
-            subst (λ s. IsCome n list r s (Some (reset_late (with_older q)))) (sym (read_late (with_older q) (at_host w.ports x p e)))
-            (late_is n list (with_older q) r first f.1
-            (λ going some. stays_up p.side Tick tt (up_is p.side.shdlc.phase (u (some_of p.desk.notice some))) going)
-            (input_shut p.side Tick (at_port (λ (z : Port). IsShut z.side) w.ports x p shut e))
-            (b.0, b.1))
 
     flags_last : (ports : List Port) → AllByRecursion IsFresh ports → AreFlagged (map reset_late (map with_older (map (come TimePasses tt) ports)))
     flags_last [] f = tt

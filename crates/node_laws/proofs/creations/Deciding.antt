@@ -1,9 +1,9 @@
 -- What a controller decides on a command: it makes pipes that lead to no administration gate, and asks for those that come on pipe 01
 -- alone.
-use Rattle.std.proofs.Common.{◌≡◌, ◌⊎◌, inl, inr, ℕ, Bool, true, false, cond, not, eqb, ◌&&◌, ◌||◌, List, [], ◌∷◌, refl, sym, ap, ◌∙◌}
+use Rattle.std.proofs.Common.{◌≡◌, ℕ, Bool, true, false, cond, not, eqb, ◌&&◌, ◌||◌, List, [], ◌∷◌, refl, sym, ap, ◌∙◌}
 use Rattle.std.specs.Prelude.{Option, Some, None, Ok, is_none}
 use Rattle.std.specs.Option.{option_and_then}
-use Rattle.std.proofs.lemmas.Bool.{cond_both, cases_Bool, true≢false, eqb-true, eqb-false, ne_eqb, not-false}
+use Rattle.std.proofs.lemmas.Bool.{cond_both, true≢false, eqb-true, eqb-false, ne_eqb, not-false}
 use Rattle.hcp_packet.specs.declared.MessageKind.TheVariants.{Command as IsCommand}
 use Rattle.hcp_packet.specs.MessageHeader.{header_of}
 use Rattle.pipe_table.specs.PipeRows.{pipe_at}
@@ -23,6 +23,7 @@ use Rattle.link_laws.specs.machine.Machine.{Message}
 use Rattle.node_machine.specs.Controller.{own_gate, goes_through, relayed_to}
 use Rattle.node_machine.specs.world.NodeFilters.{is_response}
 use Rattle.node_laws.specs.creations.Worlds.{IsProper, IsProperCommand, AreProper}
+use Rattle.node_laws.proofs.Cases.{by_option, by_test}
 use Rattle.node_laws.proofs.creations.Rows.{proper_at}
 use Rattle.hci_tables.specs.declared.command.Command.{Command}
 use Rattle.tables_laws.proofs.gate.Decisions.{unless, new_row, decided_holds}
@@ -46,12 +47,10 @@ AsksNobody _ = Unit {0}
 
 -- a pipe to the controller itself leads to gate 04 or 05
 gate_fine : (gate : ℕ) → not (eqb gate 4 || eqb gate 5) ≡ false → eqb gate 0 ≡ false
-gate_fine gate e = go (cases_Bool (eqb gate 4)) where
-  go : (eqb gate 4 ≡ true) ⊎ (eqb gate 4 ≡ false) → eqb gate 0 ≡ false
-  go (inl is) = ap (λ n. eqb n 0) (eqb-true gate 4 is)
-  go (inr off) =
-      let five : eqb gate 5 ≡ true = not-false (eqb gate 5) (rw off at e) in
-      ap (λ n. eqb n 0) (eqb-true gate 5 five)
+gate_fine gate e = by_test (eqb gate 4)
+    (λ is. ap (λ n. eqb n 0) (eqb-true gate 4 is))
+    (λ off. let five : eqb gate 5 ≡ true = not-false (eqb gate 5) (rw off at e) in
+    ap (λ n. eqb n 0) (eqb-true gate 5 five))
 
 module _ (v : LinkView) (h : ℕ) (host : eqb h 0 ≡ false) where
   tells_suit : (c : Command) (told notice : List ℕ) → IsProperCommand c → is_response notice ≡ false
@@ -87,51 +86,38 @@ module _ (v : LinkView) (h : ℕ) (host : eqb h 0 ≡ false) where
   far_proper : (o : Option PipeRow) → ((row : PipeRow) → o ≡ Some row → IsProper row) → (end : ℕ × ℕ)
       → option_and_then (far_end_of h) o ≡ Some end → eqb end.0 0 ≡ true → eqb end.1 0 ≡ false
   far_proper None proper end e zero_is = absurd (cc e)
-  far_proper (Some row) proper end e zero_is = go (cases_Bool (eqb row.creator h)) where
-    of : IsProper row
-    of = proper row refl
-
-    go : (eqb row.creator h ≡ true) ⊎ (eqb row.creator h ≡ false) → eqb end.1 0 ≡ false
-    go (inl own) =
-        let same : Some (row.dest, row.dest_gate) ≡ Some end = rw own at e in
-        let is : (row.dest, row.dest_gate) ≡ end = cc in
-        ap (λ (p : ℕ × ℕ). eqb p.1 0) (sym is) ∙ of.gate (ap (λ (p : ℕ × ℕ). eqb p.0 0) is ∙ zero_is)
-    go (inr off) = by (cases_Bool (eqb row.dest h)) where
-      by : (eqb row.dest h ≡ true) ⊎ (eqb row.dest h ≡ false) → eqb end.1 0 ≡ false
-      by (inl here) =
-          let same : Some (row.creator, row.creator_gate) ≡ Some end = rw (off, here) at e in
-          let is : (row.creator, row.creator_gate) ≡ end = cc in
-          absurd (true≢false (sym zero_is ∙ (ap (λ (p : ℕ × ℕ). eqb p.0 0) (sym is) ∙ of.host)))
-      by (inr none) =
-          let gone : None ≡ Some end = rw (off, none) at e in
-          absurd (cc gone)
+  far_proper (Some row) proper end e zero_is = by_test (eqb row.creator h)
+      (λ own. let same : Some (row.dest, row.dest_gate) ≡ Some end = rw own at e in
+      let is : (row.dest, row.dest_gate) ≡ end = cc in
+      ap (λ (p : ℕ × ℕ). eqb p.1 0) (sym is) ∙ of.gate (ap (λ (p : ℕ × ℕ). eqb p.0 0) is ∙ zero_is))
+      (λ off. by_test (eqb row.dest h)
+      (λ here. let same : Some (row.creator, row.creator_gate) ≡ Some end = rw (off, here) at e in
+      let is : (row.creator, row.creator_gate) ≡ end = cc in
+      absurd (true≢false (sym zero_is ∙ (ap (λ (p : ℕ × ℕ). eqb p.0 0) (sym is) ∙ of.host))))
+      (λ none. let gone : None ≡ Some end = rw (off, none) at e in
+      absurd (cc gone))) where
+        of : IsProper row
+        of = proper row refl
 
   far_end_proper : (t : HciTables) (pipe : ℕ) (end : ℕ × ℕ) → AreProper t.rows → eqb pipe 1 ≡ false → far_end t h pipe ≡ Some end → eqb end.0 0 ≡ true
       → eqb end.1 0 ≡ false
-  far_end_proper t pipe end proper off e zero_is = go (cases_Bool (eqb pipe 0)) where
-    go : (eqb pipe 0 ≡ true) ⊎ (eqb pipe 0 ≡ false) → eqb end.1 0 ≡ false
-    go (inl static) =
-        let same : Some (0, 6) ≡ Some end = rw static at e in
-        let is : (0, 6) ≡ end = cc in
-        ap (λ (p : ℕ × ℕ). eqb p.1 0) (sym is)
-    go (inr dynamic) =
-        far_proper (pipe_at t.rows pipe) (λ row here. proper_at t.rows pipe row proper here) end (rw (dynamic, off) at e) zero_is
+  far_end_proper t pipe end proper off e zero_is = by_test (eqb pipe 0)
+      (λ static. let same : Some (0, 6) ≡ Some end = rw static at e in
+      let is : (0, 6) ≡ end = cc in
+      ap (λ (p : ℕ × ℕ). eqb p.1 0) (sym is))
+      (λ dynamic. far_proper (pipe_at t.rows pipe) (λ row here. proper_at t.rows pipe row proper here) end (rw (dynamic, off) at e) zero_is)
 
   is_through : (t : HciTables) (m : Message) (instruction : ℕ) → header_of m.1 ≡ Ok (IsCommand, instruction) → AreProper t.rows → eqb m.0 1 ≡ false
       → relayed_to t h m ≡ None → cond (goes_through t h m.0 instruction) (own_gate t h m.0) None ≡ None
       → is_opened t h m.0 ≡ true → is_none (far_end t h m.0) ≡ false → eqb instruction 3 ≡ false → eqb instruction 4 ≡ false → ⊥
-  is_through t m instruction command proper off none gate opened there three four = go (far_end t h m.0) refl where
-    go : (o : Option (ℕ × ℕ)) → far_end t h m.0 ≡ o → ⊥
-    go None e = let z : true ≡ false = rw e at there in true≢false z
-    go (Some end) e = by (cases_Bool (eqb end.0 0)) where
-      by : (eqb end.0 0 ≡ true) ⊎ (eqb end.0 0 ≡ false) → ⊥
-      by (inl is) =
-          let real = far_end_proper t m.0 end proper off e is in
-          let z : Some end.1 ≡ None = rw (opened, three, four, e, is, real) at gate in
-          cc z
-      by (inr other) =
-          let z : Some end.0 ≡ None = rw (opened, command, three, four, e, other) at none in
-          cc z
+  is_through t m instruction command proper off none gate opened there three four = by_option (far_end t h m.0)
+      (λ e. let z : true ≡ false = rw e at there in true≢false z)
+      (λ end e. by_test (eqb end.0 0)
+      (λ is. let real = far_end_proper t m.0 end proper off e is in
+      let z : Some end.1 ≡ None = rw (opened, three, four, e, is, real) at gate in
+      cc z)
+      (λ other. let z : Some end.0 ≡ None = rw (opened, command, three, four, e, other) at none in
+      cc z))
 
   pub nobody_asked : (t : HciTables) (m : Message) (instruction : ℕ) (body : List ℕ) → header_of m.1 ≡ Ok (IsCommand, instruction) → AreProper t.rows
       → eqb m.0 1 ≡ false → relayed_to t h m ≡ None → cond (goes_through t h m.0 instruction) (own_gate t h m.0) None ≡ None

@@ -4,7 +4,7 @@ use Rattle.std.proofs.Common.{◌∙◌, subst, arith}
 use Rattle.std.specs.Prelude.{Option, Some, None, nat_lt}
 use Rattle.std.specs.List.{AllByRecursion}
 use Rattle.std.specs.Option.{option_map_or}
-use Rattle.std.proofs.lemmas.Bool.{cases_Bool, true≢false}
+use Rattle.std.proofs.lemmas.Bool.{true≢false}
 use Rattle.trace_model.specs.declared.entry.Entry.{Entry}
 use Rattle.trace_model.specs.declared.entry.Entry.TheVariants as entry
 use Rattle.journal_laws.specs.Journal.{count_of}
@@ -20,6 +20,7 @@ use Rattle.node_machine.specs.Parts.Deed.{Commits, Sends, SaysOk, Asks, Releases
 use Rattle.node_machine.specs.Carrying.{noting, unless_cut, port_at, with_port, after_turn, noted_of, turn_at, notified, commit, done, all_done, end_of_node}
 use Rattle.node_machine.specs.Controller.{agreed}
 use Rattle.node_machine.specs.world.NodeFilters.{is_response, book_in}
+use Rattle.node_laws.proofs.Cases.{by_test}
 use Rattle.node_laws.proofs.links.Noticing.{turn-phase}
 use Rattle.node_laws.proofs.links.Blocks.{turn_within}
 use Rattle.node_laws.proofs.kept.Books.{book_more}
@@ -185,13 +186,11 @@ module _ (x : ℕ) (before : List Entry) (hosts : List ℕ) where
         })
 
     set_end : (l : List Creation) → (eqb c.asker x ≡ false → l ≡ waits x asked ++ []) → EndAt m l (port_at (with_port c.asker (after_turn SetAside) w.ports) x)
-    set_end l same = go (cases_Bool (eqb c.asker x)) where
-      go : (eqb c.asker x ≡ true) ⊎ (eqb c.asker x ≡ false) → EndAt m l (port_at (with_port c.asker (after_turn SetAside) w.ports) x)
-      go (inl e) = set_here l e (port_at w.ports x) refl (block e) a.end
-      go (inr e) =
-          subst (λ k. EndAt k l (port_at (with_port c.asker (after_turn SetAside) w.ports) x)) (sym (ap length (else_is e)))
-          (subst (λ k. EndAt n k (port_at (with_port c.asker (after_turn SetAside) w.ports) x)) (sym (same e))
-          (subst (EndAt n (waits x asked ++ [])) (sym (else_same c.asker x (after_turn SetAside) w.ports (λ j. refl) e)) a.end))
+    set_end l same = by_test (eqb c.asker x)
+        (λ e. set_here l e (port_at w.ports x) refl (block e) a.end)
+        (λ e. subst (λ k. EndAt k l (port_at (with_port c.asker (after_turn SetAside) w.ports) x)) (sym (ap length (else_is e)))
+        (subst (λ k. EndAt n k (port_at (with_port c.asker (after_turn SetAside) w.ports) x)) (sym (same e))
+        (subst (EndAt n (waits x asked ++ [])) (sym (else_same c.asker x (after_turn SetAside) w.ports (λ j. refl) e)) a.end)))
 
     silent : (o : Option Port) (r : Option (List ℕ)) → asks x (option_map_or (noted_of w.core SetAside) o []) r ≡ r
     silent None r = refl
@@ -218,16 +217,13 @@ module _ (x : ℕ) (before : List Entry) (hosts : List ℕ) where
       rows = first.rows;
       book = subst IsProperBook (sym (ap (λ l. book_in l 0) (sym (append_assoc before u.entries (entry.Ask to notice ∷ [])))
           ∙ book_more (before ++ u.entries) (entry.Ask to notice ∷ []) 0)) first.book;
-      read = go (cases_Bool (eqb c.asker x));
+      read = by_test (eqb c.asker x)
+          (λ e. subst (λ r. IsReadSo r last) (sym (read_now ∙ ap (λ b. cond b (Some notice) (reading x before hosts u)) e))
+          (subst (IsReadSo (Some notice)) (sym (here_is e)) is_notice_of))
+          (λ e. subst (λ r. IsReadSo r last) (sym (read_now ∙ ap (λ b. cond b (Some notice) (reading x before hosts u)) e))
+          (subst (IsReadSo (reading x before hosts u)) (sym (else_is e)) first.read));
       end = set_end last else_is;
-    } where
-      go : (eqb c.asker x ≡ true) ⊎ (eqb c.asker x ≡ false) → IsReadSo (reading x before hosts v) last
-      go (inl e) =
-          subst (λ r. IsReadSo r last) (sym (read_now ∙ ap (λ b. cond b (Some notice) (reading x before hosts u)) e))
-          (subst (IsReadSo (Some notice)) (sym (here_is e)) is_notice_of)
-      go (inr e) =
-          subst (λ r. IsReadSo r last) (sym (read_now ∙ ap (λ b. cond b (Some notice) (reading x before hosts u)) e))
-          (subst (IsReadSo (reading x before hosts u)) (sym (else_is e)) first.read)
+    }
 
     -- the notice is no response
     no_answer : (eqb to x && true && is_response notice) ≡ true → last ≡ []
@@ -241,7 +237,9 @@ module _ (x : ℕ) (before : List Entry) (hosts : List ℕ) where
         let new : Asked = set_asked to (Some c) asked in
         let given : Work = turn_at to (Give (1, notice)) v in
         let third : Good x before hosts asked (c ∷ []) given = gives x before hosts asked (c ∷ []) m to (1, notice) v no_answer second in
-        let same : last ≡ waits x new ++ [] = go (cases_Bool (eqb c.asker x)) in
+        let same : last ≡ waits x new ++ [] = by_test (eqb c.asker x)
+        (λ e. here_is e ∙ sym (ap (λ l. l ++ []) (asked_here x asked to c s e (free e))))
+        (λ e. else_is e ∙ sym (ap (λ l. l ++ []) (asked_else x asked to c s e))) in
         let told : Work = notified to (Waits c) notice v in
         let fourth : IsOn x before hosts new [] m told =
         sets x before hosts asked (c ∷ []) [] m to (λ p. record p { desk = record p.desk { notice = Some (record { about = Waits c; age = 0 }) } })
@@ -249,7 +247,3 @@ module _ (x : ℕ) (before : List Entry) (hosts : List ℕ) where
         (λ p. (refl, refl, refl)) due tt (subst (IsReadSo (reading x before hosts given)) same third.read) (ap length same) third in
         let good : Good x before hosts new [] told = subst (λ j. IsOn x before hosts new [] j told) (ap length same) fourth in
         subst Fine (sym (on_is x before hosts (all_done k []) told good.on)) (inl (record { asked = new; good = good }))
-      where
-        go : (eqb c.asker x ≡ true) ⊎ (eqb c.asker x ≡ false) → last ≡ waits x (set_asked to (Some c) asked) ++ []
-        go (inl e) = here_is e ∙ sym (ap (λ l. l ++ []) (asked_here x asked to c s e (free e)))
-        go (inr e) = else_is e ∙ sym (ap (λ l. l ++ []) (asked_else x asked to c s e))

@@ -80,15 +80,9 @@ module _ (x : ℕ) where
       → ((p : Port) → EndHas n l p.side → EndHas n l (g p).side) → EndAt n l (port_at ports x) → EndAt n l (port_at (with_port k g ports) x)
   end_map n l k g ports host one a =
       subst (EndAt n l) (sym (at_all ports x (λ p. changed_if (eqb p.desk.host k) g p) (λ p. changed_host (eqb p.desk.host k) g p host)))
-      (go (port_at ports x) a)
-    where
-      by : (b : Bool) (p : Port) → EndHas n l p.side → EndHas n l (changed_if b g p).side
-      by true p z = one p z
-      by false p z = z
-
-      go : (o : Option Port) → EndAt n l o → EndAt n l (option_map (λ (p : Port). changed_if (eqb p.desk.host k) g p) o)
-      go None z = z
-      go (Some p) z = by (eqb p.desk.host k) p z
+      (by_option (port_at ports x)
+      (λ q. rw q (rw q at a))
+      (λ p q. rw q (let z = rw q at a in by_test (eqb p.desk.host k) (λ q. rw q (one p z)) (λ q. rw q z))))
 
   -- what is done at the end of this host
   pub at_here : (k : ℕ) (g : Port → Port) (ports : List Port) (p : Port) → ((p : Port) → (g p).desk.host ≡ p.desk.host) → eqb k x ≡ true
@@ -455,44 +449,39 @@ module _ (x : ℕ) (before : List Entry) (hosts : List ℕ) where
 
   pub commits : (asked : Asked) (owed : List Creation) (n : ℕ) (c : Command) (w : Work) → IsProperCommand c → IsOn asked owed n w
       → IsOn asked owed n (commit c w) ⊎ IsOff (commit c w)
-  commits asked owed n c w may a = by_plan (cases_Bool (fails_within (length writes) w.plan)) where
-    writes : List Write
-    writes = commit_writes w.core.journal w.core.tables (body_of c)
+  commits asked owed n c w may a = by_test (fails_within (length writes) w.plan)
+      (λ e. inr (subst IsOff (sym (lost_is e)) (record {
+        off = refl;
+        front = before ++ noted.entries;
+        ends = sym (append_assoc before noted.entries (entry.Cut w.core.node ∷ []))
+            ∙ ap (λ n. (before ++ noted.entries) ++ entry.Cut n ∷ []) a.node;
+        book = subst IsProperBook (sym (ap (λ l. book_in l 0) (sym (append_assoc before noted.entries (entry.Cut w.core.node ∷ [])))
+            ∙ book_more (before ++ noted.entries) (entry.Cut w.core.node ∷ []) 0)) book;
+      })))
+      (λ e. inl (subst (IsOn asked owed n) (sym (kept_is e)) (record {
+        on = a.on;
+        node = a.node;
+        asked_are = a.asked_are;
+        hosts_are = a.hosts_are;
+        due = a.due;
+        owed_due = a.owed_due;
+        rows = proper_apply w.core.tables c may a.rows;
+        book = book;
+        read = subst (λ r. IsReadSo r (waits x asked ++ owes x owed)) (sym (ask_more x before w.entries (entry.Command w.core.node c ∷ []))) a.read;
+        end = a.end;
+      }))) where
+        writes : List Write
+        writes = commit_writes w.core.journal w.core.tables (body_of c)
 
-    noted : Work
-    noted = noting (entry.Command w.core.node c ∷ []) w
+        noted : Work
+        noted = noting (entry.Command w.core.node c ∷ []) w
 
-    lost_is : fails_within (length writes) w.plan ≡ true → commit c w ≡ loses_power writes noted
-    lost_is e = rw e refl
+        lost_is : fails_within (length writes) w.plan ≡ true → commit c w ≡ loses_power writes noted
+        lost_is e = rw e refl
 
-    kept_is : fails_within (length writes) w.plan ≡ false → commit c w ≡ keeps c writes noted
-    kept_is e = rw e refl
+        kept_is : fails_within (length writes) w.plan ≡ false → commit c w ≡ keeps c writes noted
+        kept_is e = rw e refl
 
-    book : IsProperBook (book_in (before ++ noted.entries) 0)
-    book = subst IsProperBook (sym (ap (λ l. book_in l 0) (sym (append_assoc before w.entries (entry.Command w.core.node c ∷ [])))
-        ∙ book_command (before ++ w.entries) w.core.node 0 c a.node)) (proper_command c (book_in (before ++ w.entries) 0) may a.book)
-
-    by_plan : (fails_within (length writes) w.plan ≡ true) ⊎ (fails_within (length writes) w.plan ≡ false)
-        → IsOn asked owed n (commit c w) ⊎ IsOff (commit c w)
-    by_plan (inl e) =
-        inr (subst IsOff (sym (lost_is e)) (record {
-          off = refl;
-          front = before ++ noted.entries;
-          ends = sym (append_assoc before noted.entries (entry.Cut w.core.node ∷ []))
-              ∙ ap (λ n. (before ++ noted.entries) ++ entry.Cut n ∷ []) a.node;
-          book = subst IsProperBook (sym (ap (λ l. book_in l 0) (sym (append_assoc before noted.entries (entry.Cut w.core.node ∷ [])))
-              ∙ book_more (before ++ noted.entries) (entry.Cut w.core.node ∷ []) 0)) book;
-        }))
-    by_plan (inr e) =
-        inl (subst (IsOn asked owed n) (sym (kept_is e)) (record {
-          on = a.on;
-          node = a.node;
-          asked_are = a.asked_are;
-          hosts_are = a.hosts_are;
-          due = a.due;
-          owed_due = a.owed_due;
-          rows = proper_apply w.core.tables c may a.rows;
-          book = book;
-          read = subst (λ r. IsReadSo r (waits x asked ++ owes x owed)) (sym (ask_more x before w.entries (entry.Command w.core.node c ∷ []))) a.read;
-          end = a.end;
-        }))
+        book : IsProperBook (book_in (before ++ noted.entries) 0)
+        book = subst IsProperBook (sym (ap (λ l. book_in l 0) (sym (append_assoc before w.entries (entry.Command w.core.node c ∷ [])))
+            ∙ book_command (before ++ w.entries) w.core.node 0 c a.node)) (proper_command c (book_in (before ++ w.entries) 0) may a.book)

@@ -1,10 +1,10 @@
 -- What is read of creations over whatever happens.
-use Rattle.std.proofs.Common.{◌≡◌, ◌⊎◌, inl, inr, ℕ, ◌&&◌, Bool, true, false, not, cond, eqb, List, [], ◌∷◌, ◌++◌, map, sym, refl, ap, ◌∙◌}
+use Rattle.std.proofs.Common.{◌≡◌, ℕ, ◌&&◌, Bool, true, false, not, cond, eqb, List, [], ◌∷◌, ◌++◌, map, sym, refl, ap, ◌∙◌}
 use Rattle.std.proofs.Common.{subst, append-nil}
 use Rattle.std.specs.Prelude.{Option, Some, None}
 use Rattle.std.specs.List.{AllByRecursion, flat_map, find, cons_option, filter_map}
 use Rattle.std.specs.Option.{option_map_or}
-use Rattle.std.proofs.lemmas.Bool.{cases_Bool, eqb-true}
+use Rattle.std.proofs.lemmas.Bool.{eqb-true}
 use Rattle.swp_base.specs.InMemory.{Memory}
 use Rattle.journal_laws.specs.Journal.{count_of}
 use Rattle.journal_laws.specs.Planned.{after_planned}
@@ -205,14 +205,9 @@ new_due (h ∷ hosts) = (tt, new_due hosts)
 cut_ends : (sites : List Site) (n : ℕ)
     → HasSetAside [] (link_to (map (λ (s : Site). record s { link = happens s.link (AtController (Step NoInput [] CutOff)) }) sites) n).controller.side
 cut_ends [] n = new_ready Bare
-cut_ends (s ∷ sites) n = go (cases_Bool (eqb s.host n)) (cut_ends sites n) where
-  f : Site → Site
-  f s = record s { link = happens s.link (AtController (Step NoInput [] CutOff)) }
-
-  go : (eqb s.host n ≡ true) ⊎ (eqb s.host n ≡ false) → HasSetAside [] (link_to (map f sites) n).controller.side
-      → HasSetAside [] (link_to (map f (s ∷ sites)) n).controller.side
-  go (inl is) later = rw is (new_ready (sent_all s.link.controller.side).role)
-  go (inr off) later = rw off later
+cut_ends (s ∷ sites) n = by_test (eqb s.host n)
+    (λ is. rw is (new_ready (sent_all s.link.controller.side).role))
+    (λ off. rw off (cut_ends sites n))
 
 pub cut_reads : (t : List Entry) (w : NodeWorld) (n : ℕ) → Reads t w → Reads (t ++ entry.Cut n ∷ []) (loses_power_at n w)
 cut_reads t w n a =
@@ -297,29 +292,23 @@ module _ (hosts : List ℕ) (are : AreHosts hosts) (t : List Entry) (w : NodeWor
     go [] [] e z = absurd (cc z)
     go [] (y ∷ sites) e z = absurd (cc e)
     go (d ∷ desks) [] e z = absurd (cc z)
-    go (d ∷ desks) (y ∷ sites) e z = by (cases_Bool (eqb y.host x)) (go desks sites) where
-      one : d.host ≡ y.host
-      one = cc
+    go (d ∷ desks) (y ∷ sites) e z = by_test (eqb y.host x)
+        (λ is. let here : eqb d.host x ≡ true = ap (λ n. eqb n x) one ∙ is in (d, rw here refl))
+        (λ off. let passed : eqb d.host x ≡ false = ap (λ n. eqb n x) one ∙ off in
+        let found_it = go desks sites others (rw off at z) in
+        (found_it.0, rw passed found_it.1)) where
+          one : d.host ≡ y.host
+          one = cc
 
-      others : map (λ (c : Desk). c.host) desks ≡ hosts_in sites
-      others = cc
-
-      by : (eqb y.host x ≡ true) ⊎ (eqb y.host x ≡ false)
-          → (map (λ (c : Desk). c.host) desks ≡ hosts_in sites → site_at sites x ≡ Some s → (d : Desk) × (find (λ (d : Desk). eqb d.host x) desks ≡ Some d))
-          → (c : Desk) × (find (λ (c : Desk). eqb c.host x) (d ∷ desks) ≡ Some c)
-      by (inl is) later = let here : eqb d.host x ≡ true = ap (λ n. eqb n x) one ∙ is in (d, rw here refl)
-      by (inr off) later =
-          let passed : eqb d.host x ≡ false = ap (λ n. eqb n x) one ∙ off in
-          let found_it = later others (rw off at z) in
-          (found_it.0, rw passed found_it.1)
+          others : map (λ (c : Desk). c.host) desks ≡ hosts_in sites
+          others = cc
 
   -- no end where no site is
   nowhere_map : (f : Site → Site) → ((s : Site) → (f s).host ≡ s.host) → (sites : List Site) (x : ℕ) → site_at sites x ≡ None → site_at (map f sites) x ≡ None
   nowhere_map f host [] x none = refl
-  nowhere_map f host (s ∷ sites) x none = go (cases_Bool (eqb s.host x)) (nowhere_map f host sites x) where
-    go : (eqb s.host x ≡ true) ⊎ (eqb s.host x ≡ false) → (site_at sites x ≡ None → site_at (map f sites) x ≡ None) → site_at (map f (s ∷ sites)) x ≡ None
-    go (inl is) later = let z : Some s ≡ None = rw is at none in absurd (cc z)
-    go (inr off) later = let there : eqb (f s).host x ≡ false = ap (λ k. eqb k x) (host s) ∙ off in rw there (later (rw off at none))
+  nowhere_map f host (s ∷ sites) x none = by_test (eqb s.host x)
+      (λ is. let z : Some s ≡ None = rw is at none in absurd (cc z))
+      (λ off. let there : eqb (f s).host x ≡ false = ap (λ k. eqb k x) (host s) ∙ off in rw there (nowhere_map f host sites x (rw off at none)))
 
   ending_out : (k : Work) → k.cut ≡ false → ending_of k ≡ GoesOut
   ending_out k e = rw e refl
@@ -387,20 +376,16 @@ module _ (hosts : List ℕ) (are : AreHosts hosts) (t : List Entry) (w : NodeWor
 
         lost : (x : ℕ) (s : Site) → site_at w.sites x ≡ Some s → k.cut ≡ true
             → (role : Role) × ((link_to (map (link_after_controller h comes k) w.sites) x).controller.side ≡ new_link_end (renewed role))
-        lost x s q e = by (cases_Bool (eqb x h)) where
-          now : (link_to (map (link_after_controller h comes k) w.sites) x).controller.side
-              ≡ (steps_at_controller s.link (cond (eqb x h) comes NoInput) (turns_at k x) CutOff).controller.side
-          now = there x s q ∙ ap (λ z. (steps_at_controller s.link (cond (eqb x h) comes NoInput) (turns_at k x) z).controller.side) (ending_cut k e)
-
-          by : (eqb x h ≡ true) ⊎ (eqb x h ≡ false)
-              → (role : Role) × ((link_to (map (link_after_controller h comes k) w.sites) x).controller.side ≡ new_link_end (renewed role))
-          by (inl is) =
-              let one = step_new s.link comes (turns_at k x) i (input_at_site x s q is) in
-              (one.0, now ∙ (ap (λ b. (steps_at_controller s.link (cond b comes NoInput) (turns_at k x) CutOff).controller.side) is ∙ one.1))
-          by (inr off) = (
-            (sent_all (turned s.link.controller.side (turns_at k x))).role,
-            now ∙ ap (λ b. (steps_at_controller s.link (cond b comes NoInput) (turns_at k x) CutOff).controller.side) off,
-          )
+        lost x s q e = by_test (eqb x h)
+            (λ is. let one = step_new s.link comes (turns_at k x) i (input_at_site x s q is) in
+            (one.0, now ∙ (ap (λ b. (steps_at_controller s.link (cond b comes NoInput) (turns_at k x) CutOff).controller.side) is ∙ one.1)))
+            (λ off. (
+              (sent_all (turned s.link.controller.side (turns_at k x))).role,
+              now ∙ ap (λ b. (steps_at_controller s.link (cond b comes NoInput) (turns_at k x) CutOff).controller.side) off,
+            )) where
+              now : (link_to (map (link_after_controller h comes k) w.sites) x).controller.side
+                  ≡ (steps_at_controller s.link (cond (eqb x h) comes NoInput) (turns_at k x) CutOff).controller.side
+              now = there x s q ∙ ap (λ z. (steps_at_controller s.link (cond (eqb x h) comes NoInput) (turns_at k x) z).controller.side) (ending_cut k e)
 
         goes : (x : ℕ) (s : Site) → site_at w.sites x ≡ Some s → k.cut ≡ false
             → (p : Port) × (port_at k.ports x ≡ Some p) × ((link_to (map (link_after_controller h comes k) w.sites) x).controller.side ≡ sent_all p.side)

@@ -1,5 +1,5 @@
 -- No host sets a block aside.
-use Rattle.std.proofs.Common.{◌≡◌, ℕ, ◌-◌, Bool, true, false, eqb, List, [], ◌∷◌, length, map, sym, refl, ap, ◌∙◌, subst}
+use Rattle.std.proofs.Common.{◌≡◌, ℕ, ◌-◌, false, eqb, List, [], ◌∷◌, length, map, sym, refl, ap, ◌∙◌, subst}
 use Rattle.std.specs.Prelude.{Option, Some, None}
 use Rattle.std.specs.List.{AllByRecursion, flat_map}
 use Rattle.std.specs.Option.{option_map_or}
@@ -99,21 +99,17 @@ turns : (h : ℕ) (t : Turn) (w : Work) → SetsNone t → SetsNoneAside w → S
 turns h t w is a = record {
   number = a.number;
   turns = all_map (λ (p : Port). SetNone p.turns) (λ (p : Port). SetNone p.turns) (λ p. changed_if (eqb p.desk.host h) (after_turn t) p)
-      (λ p b. go (eqb p.desk.host h) p b) w.ports a.turns;
-} where
-  go : (c : Bool) (p : Port) → SetNone p.turns → SetNone (changed_if c (after_turn t) p).turns
-  go true p b = all_append SetsNone p.turns (t ∷ []) b (is, tt)
-  go false p b = b
+      (λ p b. by_test (eqb p.desk.host h) (λ q. rw q (all_append SetsNone p.turns (t ∷ []) b (is, tt))) (λ q. rw q b)) w.ports a.turns;
+}
 
 desks : (h : ℕ) (f : Desk → Desk) (w : Work) → SetsNoneAside w → SetsNoneAside (with_desk h f w)
 desks h f w a = record {
   number = a.number;
   turns = all_map (λ (p : Port). SetNone p.turns) (λ (p : Port). SetNone p.turns)
-      (λ p. changed_if (eqb p.desk.host h) (λ (q : Port). record q { desk = f q.desk }) p) (λ p b. go (eqb p.desk.host h) p b) w.ports a.turns;
-} where
-  go : (c : Bool) (p : Port) → SetNone p.turns → SetNone (changed_if c (λ (q : Port). record q { desk = f q.desk }) p).turns
-  go true p b = b
-  go false p b = b
+      (λ p. changed_if (eqb p.desk.host h) (λ (q : Port). record q { desk = f q.desk }) p) (λ p b. by_test (eqb p.desk.host h)
+      (λ q. rw q b)
+      (λ q. rw q b)) w.ports a.turns;
+}
 
 tells : (h : ℕ) (about : About) (message : List ℕ) (w : Work) → SetsNoneAside w → SetsNoneAside (notified h about message w)
 tells h about message w a =

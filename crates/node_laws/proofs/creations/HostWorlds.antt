@@ -50,10 +50,9 @@ none_map f one (s ∷ sites) a = (one s a.0, none_map f one sites a.1)
 
 none_with : (h : ℕ) (f : Site → Site) → ((s : Site) → HasNoneAside s → HasNoneAside (f s)) → (sites : List Site) → HaveNoneAside sites
     → HaveNoneAside (with_site h f sites)
-none_with h f one sites a = none_map (λ (s : Site). changed_if (eqb s.host h) f s) (λ s b. go (eqb s.host h) s b) sites a where
-  go : (c : Bool) (s : Site) → HasNoneAside s → HasNoneAside (changed_if c f s)
-  go true s b = one s b
-  go false s b = b
+none_with h f one sites a = none_map (λ (s : Site). changed_if (eqb s.host h) f s) (λ s b. by_test (eqb s.host h)
+    (λ q. rw q (one s b))
+    (λ q. rw q b)) sites a
 
 -- what happens at the controller's end leaves the host's
 near_same : (l : Link) (x : EndEvent) → l.host.side.aside ≡ 0 → (happens l (AtController x)).host.side.aside ≡ 0
@@ -174,24 +173,21 @@ boots_none w n a =
     (λ _. none_with n (λ (s : Site). record s { node = Some (boot_found w n) }) (λ s b. b) v.sites still))
 
 lost_none : (w : NodeWorld) (e : End) (why : Loss) → HaveNoneAside w.sites → HaveNoneAside (frame_lost w e why).0.sites
-lost_none w e why a = by_side (cases_Bool e.at_host) where
-  lost : Site → Site
-  lost s = record s { link = happens s.link (at e (Lose why)) }
+lost_none w e why a = by_test e.at_host
+    (λ b. subst HaveNoneAside (sym (far_is b)) (none_with e.link (λ (s : Site). record (lost s) { node = counts why e.link s.node }) one w.sites a))
+    (λ b. subst HaveNoneAside (sym (near_is b)) (none_with e.link lost one w.sites a)) where
+      lost : Site → Site
+      lost s = record s { link = happens s.link (at e (Lose why)) }
 
-  one : (s : Site) → HasNoneAside s → HasNoneAside (lost s)
-  one s b = by_test e.at_host (λ q. rw q b) (λ q. rw q b)
+      one : (s : Site) → HasNoneAside s → HasNoneAside (lost s)
+      one s b = by_test e.at_host (λ q. rw q b) (λ q. rw q b)
 
-  near_is : e.at_host ≡ false → (frame_lost w e why).0.sites ≡ with_site e.link lost w.sites
-  near_is b = rw b refl
+      near_is : e.at_host ≡ false → (frame_lost w e why).0.sites ≡ with_site e.link lost w.sites
+      near_is b = rw b refl
 
-  far_is : e.at_host ≡ true
-      → (frame_lost w e why).0.sites ≡ with_site e.link (λ (s : Site). record (lost s) { node = counts why e.link s.node }) w.sites
-  far_is b = rw b refl
-
-  by_side : (e.at_host ≡ true) ⊎ (e.at_host ≡ false) → HaveNoneAside (frame_lost w e why).0.sites
-  by_side (inl b) =
-      subst HaveNoneAside (sym (far_is b)) (none_with e.link (λ (s : Site). record (lost s) { node = counts why e.link s.node }) one w.sites a)
-  by_side (inr b) = subst HaveNoneAside (sym (near_is b)) (none_with e.link lost one w.sites a)
+      far_is : e.at_host ≡ true
+          → (frame_lost w e why).0.sites ≡ with_site e.link (λ (s : Site). record (lost s) { node = counts why e.link s.node }) w.sites
+      far_is b = rw b refl
 
 -- ## Time
 

@@ -19,7 +19,7 @@ use Rattle.node_laws.specs.telling.Telling.{hosts_in}
 use Rattle.node_laws.specs.readings.Noticed.{ends_between}
 use Rattle.node_laws.specs.creations.Creations.{creations_at, creations_of, IsReadSo, is_asked_pipe, asked_pipes, KnowsAsRead, IfKnowsAsRead, AsidesAreRead}
 use Rattle.node_laws.specs.creations.Worlds.{HasNoneAside, HasSetAside, KeepsCreations}
-use Rattle.node_laws.proofs.Cases.{by_option, by_test}
+use Rattle.node_laws.proofs.Cases.{by_list, by_option, by_test}
 use Rattle.node_laws.proofs.creations.Doing.{takes_short}
 use Rattle.node_laws.proofs.creations.Asks.{asked_of, one_of, waits, desks_wait}
 use Rattle.node_laws.proofs.creations.Near.{none_side, desks_back}
@@ -45,10 +45,7 @@ asks_some x (p ∷ ports) = go (asked_at p) refl (asks_some x ports) where
   go : (o : Option Creation) → asked_at p ≡ o → asks_for ports x ≡ some_wait (waits x (asked_of ports))
       → asks_for (p ∷ ports) x ≡ some_wait (waits x (asked_of (p ∷ ports)))
   go None q later = rw q later
-  go (Some c) q later = by (cases_Bool (eqb c.asker x)) where
-    by : (eqb c.asker x ≡ true) ⊎ (eqb c.asker x ≡ false) → asks_for (p ∷ ports) x ≡ some_wait (waits x (asked_of (p ∷ ports)))
-    by (inl e) = rw (q, e) refl
-    by (inr e) = rw (q, e) later
+  go (Some c) q later = by_test (eqb c.asker x) (λ e. rw (q, e) refl) (λ e. rw (q, e) later)
 
 pub two_ways : (a b : Bool) → (a ≡ true → b ≡ true) → (b ≡ true → a ≡ true) → a ≡ b
 two_ways true b f g = sym (f refl)
@@ -206,12 +203,11 @@ module _ (hosts : List ℕ) (t : List Entry) (w : NodeWorld) (a : KeepsCreations
   in_hosts pid x e = by_option (site_at w.sites x)
       (λ q. let none : length (waits x (asked_of ports)) ≡ 0 =
       ap length (sym (list_is x)) ∙ (sym (a.ends x).aside ∙ ap (λ (z : LinkEnd). z.aside) (none_side w.sites x q)) in
-      absurd (true≢false (sym e ∙ empty (waits x (asked_of ports)) none)))
+      absurd (true≢false (sym e ∙ by_list (waits x (asked_of ports))
+      (λ q. rw q refl)
+      (λ c l q. rw q (absurd (omega (arith, (rw q at none))))))))
       (λ s q. subst (λ l. list_any (is_asked_pipe t pid) l ≡ true) a.kept.hosts_are
-      (any_site pid (is_asked_pipe t pid) w.sites x s q (sym (pipe_is pid x) ∙ e))) where
-        empty : (l : List Creation) → length l ≡ 0 → list_any (is_of_pipe pid) l ≡ false
-        empty [] q = refl
-        empty (c ∷ l) q = absurd (omega (arith, q))
+      (any_site pid (is_asked_pipe t pid) w.sites x s q (sym (pipe_is pid x) ∙ e)))
 
   waiting_is : (pid : ℕ) → list_any (λ p. eqb p pid) (waiting_pipes ports) ≡ list_any (is_asked_pipe t pid) hosts
   waiting_is pid =
@@ -244,10 +240,7 @@ aside_is hosts t w a h = go (asking_in t h) (creations_of w.controller h) (a.rea
 
 none_aside : (sites : List Site) (h : ℕ) → AllByRecursion HasNoneAside sites → (link_to sites h).host.side.aside ≡ 0
 none_aside [] h a = refl
-none_aside (s ∷ sites) h a = go (cases_Bool (eqb s.host h)) (none_aside sites h a.1) where
-  go : (eqb s.host h ≡ true) ⊎ (eqb s.host h ≡ false) → (link_to sites h).host.side.aside ≡ 0 → (link_to (s ∷ sites) h).host.side.aside ≡ 0
-  go (inl is) later = rw is a.0
-  go (inr off) later = rw off later
+none_aside (s ∷ sites) h a = by_test (eqb s.host h) (λ is. rw is a.0) (λ off. rw off (none_aside sites h a.1))
 
 pub asides_are : (hosts : List ℕ) (t : List Entry) (w : NodeWorld) → KeepsCreations hosts t w → AsidesAreRead t w
 asides_are hosts t w a h = (aside_is hosts t w a h, sym (none_aside w.sites h a.hosts_aside))

@@ -1,10 +1,10 @@
 -- What is read of creations as the controller of a world has a step.
-use Rattle.std.proofs.Common.{◌≡◌, ◌⊎◌, inl, inr, ℕ, true, false, eqb, List, [], ◌∷◌, ◌++◌, length, map, sym, refl, ap, ◌∙◌, subst, append_assoc, append-nil}
+use Rattle.std.proofs.Common.{◌≡◌, inl, inr, ℕ, true, false, eqb, List, [], ◌∷◌, ◌++◌, length, map, sym, refl, ap, ◌∙◌, subst, append_assoc, append-nil}
 use Rattle.std.proofs.Common.{arith}
 use Rattle.std.specs.Prelude.{Option, Some, None}
 use Rattle.std.specs.List.{AllByRecursion, find, fold}
 use Rattle.std.specs.Option.{option_map, option_map_or}
-use Rattle.std.proofs.lemmas.Bool.{cases_Bool, eqb-true, true≢false}
+use Rattle.std.proofs.lemmas.Bool.{eqb-true, true≢false}
 use Rattle.swp_base.specs.InMemory.{Plan}
 use Rattle.trace_model.specs.Lines.{IsHost}
 use Rattle.trace_model.specs.declared.entry.Entry.{Entry}
@@ -20,7 +20,7 @@ use Rattle.node_machine.specs.Node.{NodeInput, steps}
 use Rattle.node_machine.specs.world.World.{NodeWorld, Site, site_at, link_to, runs_on, port_for, work_of}
 use Rattle.node_machine.specs.world.NodeFilters.{Book, book_after, book_in, asking_in}
 use Rattle.node_laws.specs.links.Notices.{IsOutside, IsNoticedUp, OnFirst}
-use Rattle.node_laws.proofs.Cases.{by_option}
+use Rattle.node_laws.proofs.Cases.{by_list, by_option, by_test}
 use Rattle.node_laws.proofs.links.Noticing.{UpAt, at_host}
 use Rattle.node_laws.proofs.links.Blocks.{IsWithin, sent_within}
 use Rattle.node_laws.specs.kept.Hosts.{AreDifferent}
@@ -85,12 +85,9 @@ none_side sites x e = ap (λ o. (option_map_or (λ (s : Site). s.link) o (new_li
 pub port_of : (near_ends : ℕ → NumberedEnd) (desks : List Desk) (x : ℕ)
     → port_at (ports_for near_ends desks) x ≡ option_map (λ d. port_for (near_ends x) d) (find (λ (d : Desk). eqb d.host x) desks)
 port_of near_ends [] x = refl
-port_of near_ends (d ∷ desks) x = go (cases_Bool (eqb d.host x)) (port_of near_ends desks x) where
-  go : (eqb d.host x ≡ true) ⊎ (eqb d.host x ≡ false)
-      → port_at (ports_for near_ends desks) x ≡ option_map (λ d. port_for (near_ends x) d) (find (λ (d : Desk). eqb d.host x) desks)
-      → port_at (ports_for near_ends (d ∷ desks)) x ≡ option_map (λ d. port_for (near_ends x) d) (find (λ (d : Desk). eqb d.host x) (d ∷ desks))
-  go (inl is) later = rw is (ap (λ n. Some (port_for (near_ends n) d)) (eqb-true d.host x is))
-  go (inr off) later = rw off later
+port_of near_ends (d ∷ desks) x = by_test (eqb d.host x)
+    (λ is. rw is (ap (λ n. Some (port_for (near_ends n) d)) (eqb-true d.host x is)))
+    (λ off. rw off (port_of near_ends desks x))
 
 pub desks_back : (near_ends : ℕ → NumberedEnd) (desks : List Desk) → map (λ (p : Port). p.desk) (ports_for near_ends desks) ≡ desks
 desks_back near_ends [] = refl
@@ -112,42 +109,31 @@ no_desk : (desks : List Desk) (sites : List Site) (x : ℕ) → map (λ (d : Des
 no_desk [] [] x e none = refl
 no_desk [] (s ∷ sites) x e none = absurd (cc e)
 no_desk (d ∷ desks) [] x e none = absurd (cc e)
-no_desk (d ∷ desks) (s ∷ sites) x e none = go (cases_Bool (eqb s.host x)) (no_desk desks sites x) where
-  one : d.host ≡ s.host
-  one = cc
+no_desk (d ∷ desks) (s ∷ sites) x e none = by_test (eqb s.host x)
+    (λ is. let here : eqb d.host x ≡ true = ap (λ n. eqb n x) one ∙ is in
+    let z : Some d ≡ None = rw here at none in absurd (cc z))
+    (λ off. let passed : eqb d.host x ≡ false = ap (λ n. eqb n x) one ∙ off in
+    rw off (no_desk desks sites x others (rw passed at none))) where
+      one : d.host ≡ s.host
+      one = cc
 
-  others : map (λ (c : Desk). c.host) desks ≡ hosts_in sites
-  others = cc
-
-  go : (eqb s.host x ≡ true) ⊎ (eqb s.host x ≡ false)
-      → (map (λ (c : Desk). c.host) desks ≡ hosts_in sites → find (λ (d : Desk). eqb d.host x) desks ≡ None → site_at sites x ≡ None)
-      → site_at (s ∷ sites) x ≡ None
-  go (inl is) later =
-      let here : eqb d.host x ≡ true = ap (λ n. eqb n x) one ∙ is in
-      let z : Some d ≡ None = rw here at none in absurd (cc z)
-  go (inr off) later =
-      let passed : eqb d.host x ≡ false = ap (λ n. eqb n x) one ∙ off in
-      rw off (later others (rw passed at none))
+      others : map (λ (c : Desk). c.host) desks ≡ hosts_in sites
+      others = cc
 
 no_site : (ports : List Port) (sites : List Site) (x : ℕ) → map (λ (p : Port). p.desk.host) ports ≡ hosts_in sites → site_at sites x ≡ None
     → port_at ports x ≡ None
 no_site [] [] x e none = refl
 no_site [] (s ∷ sites) x e none = absurd (cc e)
 no_site (p ∷ ports) [] x e none = absurd (cc e)
-no_site (p ∷ ports) (s ∷ sites) x e none = go (cases_Bool (eqb s.host x)) (no_site ports sites x) where
-  one : p.desk.host ≡ s.host
-  one = cc
+no_site (p ∷ ports) (s ∷ sites) x e none = by_test (eqb s.host x)
+    (λ is. let z : Some s ≡ None = rw is at none in absurd (cc z))
+    (λ off. let passed : eqb p.desk.host x ≡ false = ap (λ n. eqb n x) one ∙ off in
+    rw passed (no_site ports sites x others (rw off at none))) where
+      one : p.desk.host ≡ s.host
+      one = cc
 
-  others : map (λ (c : Port). c.desk.host) ports ≡ hosts_in sites
-  others = cc
-
-  go : (eqb s.host x ≡ true) ⊎ (eqb s.host x ≡ false)
-      → (map (λ (c : Port). c.desk.host) ports ≡ hosts_in sites → site_at sites x ≡ None → port_at ports x ≡ None)
-      → port_at (p ∷ ports) x ≡ None
-  go (inl is) later = let z : Some s ≡ None = rw is at none in absurd (cc z)
-  go (inr off) later =
-      let passed : eqb p.desk.host x ≡ false = ap (λ n. eqb n x) one ∙ off in
-      rw passed (later others (rw off at none))
+      others : map (λ (c : Port). c.desk.host) ports ≡ hosts_in sites
+      others = cc
 
 -- ## A step
 
@@ -200,17 +186,18 @@ module _ (t : List Entry) (w : NodeWorld) (r : Running) (runs : w.controller ≡
       (λ e. let none : length (waits x asked ++ []) ≡ 0 =
       sym ready.aside ∙ ap (λ (z : LinkEnd). z.aside) (none_side w.sites x (no_desk r.desks w.sites x has.ends e)) in
       subst (EndAt (many x t (hosts_in w.sites) asked []) (waits x asked ++ []))
-      (sym (port_of near_ends r.desks x ∙ ap (option_map (λ d. port_for (near_ends x) d)) e)) (none, empty (waits x asked ++ []) none))
+      (sym (port_of near_ends r.desks x ∙ ap (option_map (λ d. port_for (near_ends x) d)) e)) (
+        none,
+        by_list (waits x asked ++ [])
+            (λ q. rw q refl)
+            (λ c l q. rw q (absurd (omega (arith, (rw q at none))))),
+      ))
       (λ d e. let b : IsBegun x (port_for (near_ends x) d) = begun_at x d e in
       subst (EndAt (many x t (hosts_in w.sites) asked []) (waits x asked ++ [])) (sym b.here)
       (has_is (many x t (hosts_in w.sites) asked []) (waits x asked ++ []) (near_ends x).side refl
       (subst (HasSetAside (waits x asked ++ [])) (sym (same x)) ready))) where
         ready : HasSetAside (waits x asked ++ []) (link_to w.sites x).controller.side
         ready = subst (λ l. HasSetAside l (link_to w.sites x).controller.side) (list_is x) (old.ends x)
-
-        empty : (l : List Creation) → length l ≡ 0 → l ≡ []
-        empty [] q = refl
-        empty (c ∷ l) q = absurd (omega (arith, q))
 
   pub begins : (x : ℕ) → Good x t (hosts_in w.sites) asked [] begun
   begins x = record {
@@ -260,7 +247,7 @@ module _ (t : List Entry) (w : NodeWorld) (r : Running) (runs : w.controller ≡
         → ((x : ℕ) (s : Site) → site_at w.sites x ≡ Some s → after_it.cut ≡ false
         → (p : Port) × (port_at after_it.ports x ≡ Some p) × ((link_to v.sites x).controller.side ≡ sent_all p.side))
         → Reads (t ++ (after_it.entries ++ frames)) v
-    step_reads frames far v runs_so nowhere lost goes = by_cut (cases_Bool after_it.cut) where
+    step_reads frames far v runs_so nowhere lost goes = by_test after_it.cut none some where
       now : List Entry
       now = t ++ (after_it.entries ++ frames)
 
@@ -287,11 +274,10 @@ module _ (t : List Entry) (w : NodeWorld) (r : Running) (runs : w.controller ≡
             let a : IsOff x t (hosts_in w.sites) after_it = off e x in
             let gone : asking_in now x ≡ None = reading_now x ∙ (ap (λ l. asking_in l x) a.ends ∙ asking_more x a.front (entry.Cut 0 ∷ [])) in
             subst (λ m. IsReadSo m (creations_of v.controller x)) (sym gone) (subst (λ o. IsReadSo None (creations_of o x)) (sym (off_is e)) tt);
-        ends = λ x. subst (λ o. HasSetAside (creations_of o x) (link_to v.sites x).controller.side) (sym (off_is e)) (new_end x (site_at w.sites x) refl);
-      } where
-        new_end : (x : ℕ) (o : Option Site) → site_at w.sites x ≡ o → HasSetAside [] (link_to v.sites x).controller.side
-        new_end x None q = subst (HasSetAside []) (sym (nowhere x q)) (new_ready Bare)
-        new_end x (Some s) q = let l = lost x s q e in subst (HasSetAside []) (sym l.1) (new_ready l.0)
+        ends = λ x. subst (λ o. HasSetAside (creations_of o x) (link_to v.sites x).controller.side) (sym (off_is e)) (by_option (site_at w.sites x)
+            (λ q. subst (HasSetAside []) (sym (nowhere x q)) (new_ready Bare))
+            (λ s q. let l = lost x s q e in subst (HasSetAside []) (sym l.1) (new_ready l.0)));
+      }
 
       -- it runs on
       some : after_it.cut ≡ false → Reads now v
@@ -304,25 +290,17 @@ module _ (t : List Entry) (w : NodeWorld) (r : Running) (runs : w.controller ≡
             let a : Still x t (hosts_in w.sites) after_it = on e x in
             subst (λ m. IsReadSo m (creations_of v.controller x)) (sym (reading_now x))
             (subst (IsReadSo (asking_in (t ++ after_it.entries) x)) (sym (creations_now x)) a.good.read);
-        ends = λ x. subst (λ l. HasSetAside l (link_to v.sites x).controller.side) (sym (creations_now x)) (end_now x (site_at w.sites x) refl);
+        ends = λ x. subst (λ l. HasSetAside l (link_to v.sites x).controller.side) (sym (creations_now x)) (by_option (site_at w.sites x)
+            (λ q. let a : Still x t (hosts_in w.sites) after_it = on e x in
+            let gone : EndAt (many x t (hosts_in w.sites) a.asked []) (waits x a.asked ++ []) None =
+            subst (EndAt (many x t (hosts_in w.sites) a.asked []) (waits x a.asked ++ [])) (no_site after_it.ports w.sites x a.good.hosts_are q) a.good.end in
+            subst (HasSetAside (waits x a.asked ++ [])) (sym (nowhere x q)) (bare_ready (waits x a.asked ++ []) gone.1))
+            (λ s q. let a : Still x t (hosts_in w.sites) after_it = on e x in
+            let g = goes x s q e in
+            subst (HasSetAside (waits x a.asked ++ [])) (sym g.2)
+            (ready_is (waits x a.asked ++ []) g.0.side (subst (EndAt (many x t (hosts_in w.sites) a.asked []) (waits x a.asked ++ [])) g.1 a.good.end))));
       } where
         creations_now : (x : ℕ) → creations_of v.controller x ≡ waits x (on e x).asked ++ []
         creations_now x =
             ap (λ o. creations_of o x) (on_is e)
             ∙ (desks_wait x after_it.ports ∙ (ap (waits x) (on e x).good.asked_are ∙ sym (append-nil (waits x (on e x).asked))))
-
-        end_now : (x : ℕ) (o : Option Site) → site_at w.sites x ≡ o → HasSetAside (waits x (on e x).asked ++ []) (link_to v.sites x).controller.side
-        end_now x None q =
-            let a : Still x t (hosts_in w.sites) after_it = on e x in
-            let gone : EndAt (many x t (hosts_in w.sites) a.asked []) (waits x a.asked ++ []) None =
-            subst (EndAt (many x t (hosts_in w.sites) a.asked []) (waits x a.asked ++ [])) (no_site after_it.ports w.sites x a.good.hosts_are q) a.good.end in
-            subst (HasSetAside (waits x a.asked ++ [])) (sym (nowhere x q)) (bare_ready (waits x a.asked ++ []) gone.1)
-        end_now x (Some s) q =
-            let a : Still x t (hosts_in w.sites) after_it = on e x in
-            let g = goes x s q e in
-            subst (HasSetAside (waits x a.asked ++ [])) (sym g.2)
-            (ready_is (waits x a.asked ++ []) g.0.side (subst (EndAt (many x t (hosts_in w.sites) a.asked []) (waits x a.asked ++ [])) g.1 a.good.end))
-
-      by_cut : (after_it.cut ≡ true) ⊎ (after_it.cut ≡ false) → Reads now v
-      by_cut (inl e) = none e
-      by_cut (inr e) = some e

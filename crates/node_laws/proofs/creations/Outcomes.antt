@@ -25,6 +25,7 @@ use Rattle.node_machine.specs.world.NodeFilters.{is_response}
 use Rattle.node_laws.specs.notices.Notices.{has_notice, GoesToFree, IsNoticeOf}
 use Rattle.node_laws.specs.creations.Worlds.{IsProperCommand, AreProper, IsAwaited}
 use Rattle.node_machine.proofs.Walks.{IsServed, controller_holds}
+use Rattle.node_laws.proofs.Cases.{by_option, by_test}
 use Rattle.node_laws.proofs.creations.Asks.{Asked, asked_of, waits, set_asked, none_waits}
 use Rattle.node_laws.proofs.creations.Deciding.{IsAskFor, Suits, AsksNobody, decided_suits, nobody_asked}
 
@@ -107,10 +108,9 @@ module _ (x : ℕ) where
         })
 
     link_stays : (pipe : ℕ) (answer : List ℕ × Option ℕ) → (eqb pipe 1 ≡ true → asks_for ports h ≡ false) → All (link_deeds h pipe answer)
-    link_stays pipe answer free = by_value answer.0 answer.1 where
-      by_value : (message : List ℕ) (value : Option ℕ) → All (link_deeds h pipe (message, value))
-      by_value message None = (one_sent pipe message free, tt)
-      by_value message (Some errors) = (tt, (one_sent pipe message free, tt))
+    link_stays pipe answer free = by_option answer.1
+        (λ q. rw q ((one_sent pipe answer.0 free, tt)))
+        (λ errors q. rw q ((tt, (one_sent pipe answer.0 free, tt))))
 
     -- ## A message
 
@@ -123,12 +123,9 @@ module _ (x : ℕ) where
     -- who asks for none on pipe 01 isn't asked for one by another pipe
     asked : (m : Message) (n : ℕ) → IsServed core ports h m n → cond (goes_through core.tables h m.0 n) (own_gate core.tables h m.0) None ≡ None
         → AsksNobody (decided core.tables (view_for core.tables ports h) h m.0 n (body_in m.1)) ⊎ (asks_for ports h ≡ false)
-    asked m n served gate = by (cases_Bool (eqb m.0 1)) where
-      by : (eqb m.0 1 ≡ true) ⊎ (eqb m.0 1 ≡ false)
-          → AsksNobody (decided core.tables (view_for core.tables ports h) h m.0 n (body_in m.1)) ⊎ (asks_for ports h ≡ false)
-      by (inl is) = inr (served.free is)
-      by (inr off) =
-          inl (nobody_asked (view_for core.tables ports h) h host core.tables m n (body_in m.1) served.command proper off served.not_relayed gate)
+    asked m n served gate = by_test (eqb m.0 1)
+        (λ is. inr (served.free is))
+        (λ off. inl (nobody_asked (view_for core.tables ports h) h host core.tables m n (body_in m.1) served.command proper off served.not_relayed gate))
 
     pub outcome : (m : Message) → Of (controller_deeds (view_of core ports) h m)
     outcome m =

@@ -1,16 +1,14 @@
 -- What is read of a creation that a host asked for, over what a controller notes.
-use Rattle.std.proofs.Common.{◌≡◌, ℕ, ◌&&◌, Bool, true, false, cond, eqb, List, [], ◌∷◌, ◌++◌, map, sym, refl, ap, ◌∙◌, append_assoc}
-use Rattle.std.specs.Prelude.{Option, Some, None, is_some, option_to_list, take, drop}
+use Rattle.std.proofs.Common.{◌≡◌, ℕ, ◌&&◌, true, cond, eqb, List, [], ◌∷◌, ◌++◌, sym, refl, ap, ◌∙◌, append_assoc}
+use Rattle.std.specs.Prelude.{Option, Some, None, is_some, take, drop}
 use Rattle.std.specs.List.{flat_map, list_any}
 use Rattle.std.proofs.lemmas.List.Sums.{fold-append}
 use mathlib.Core.Bool.{and-false, or-false}
 use Rattle.trace_model.specs.declared.entry.Entry.{Entry}
 use Rattle.trace_model.specs.declared.entry.Entry.TheVariants as entry
-use Rattle.swp_base.specs.declared.link_terms.Cause.{Cause}
 use Rattle.link_laws.specs.machine.Machine.{Message, LinkInput, Refused, ended_by, report, whole_acked, after_input}
 use Rattle.link_laws.specs.entries.Entries.{Entry as Noted, sent_unless}
 use Rattle.link_laws.specs.entries.Entries.End.{Controller}
-use Rattle.link_laws.specs.entries.Entries.Entry.{Down}
 use Rattle.history.specs.Filters.{same_end}
 use Rattle.history.specs.Steps.{entries_for, end_of}
 use Rattle.node_machine.specs.Parts.{Creation, Core, Port}
@@ -18,6 +16,7 @@ use Rattle.node_machine.specs.Carrying.{own_side}
 use Rattle.node_machine.specs.Node.{told_at}
 use Rattle.node_machine.specs.world.World.{end_c}
 use Rattle.node_machine.specs.world.NodeFilters.{is_response, asking_after, asking_in}
+use Rattle.node_laws.proofs.Cases.{by_option, by_test}
 use Rattle.node_laws.proofs.readings.Silent.{told_rest, rest_quiet}
 use Rattle.node_laws.specs.notices.Notices.{IsNoticeOf}
 use Rattle.node_laws.proofs.notices.Reading.{same_near, reads, reads_append, told_reads}
@@ -34,7 +33,9 @@ module _ (x : ℕ) where
   -- with the session of its link a creation is read no more
   told_asks : (core : Core) (p : Port) (i : LinkInput) (r : Option (List ℕ)) → own_side core ≡ Controller
       → asks x (told_at core p (Some i)) r ≡ cond (eqb p.desk.host x && is_some (ended_by p.side i)) None r
-  told_asks core p i r side = rw side (go (ended_by p.side i))
+  told_asks core p i r side = rw side (by_option (ended_by p.side i)
+      (λ q. rw q (quiet r ∙ ap (λ b. cond b None r) (sym (and-false (eqb p.desk.host x)))))
+      (λ cause q. rw q (quiet (cond (same_end (end_of p.desk.host Controller) (end_c x)) None r))))
     where
       rest : List Noted
       rest = told_rest Controller p.session (whole_acked (after_input p.side i)) (report p.side i)
@@ -43,11 +44,6 @@ module _ (x : ℕ) where
       quiet c =
           far_asks x (entries_for p.desk.host rest) (quiet_far p.desk.host rest (rest_quiet Controller p.session (whole_acked (after_input p.side i))
           (report p.side i))) c
-
-      go : (o : Option Cause) → asks x (entries_for p.desk.host (map (Down Controller) (option_to_list o) ++ rest)) r
-          ≡ cond (eqb p.desk.host x && is_some o) None r
-      go None = quiet r ∙ ap (λ b. cond b None r) (sym (and-false (eqb p.desk.host x)))
-      go (Some cause) = quiet (cond (same_end (end_of p.desk.host Controller) (end_c x)) None r)
 
   -- what is told of an input tells of creations what it tells of notices
   pub told_same : (core : Core) (p : Port) (o : Option LinkInput) (r : Option (List ℕ)) → own_side core ≡ Controller
@@ -69,11 +65,9 @@ module _ (x : ℕ) where
       → asks x (entries_for k (sent_unless o Controller n m)) r ≡ r
   sent_asks k n m (Some why) r none = refl
   sent_asks k n m None r none =
-      ap (λ b. cond (b && eqb m.0 1 && is_response m.1) None r) (same_near k x) ∙ go (eqb k x && eqb m.0 1 && is_response m.1) none
-    where
-      go : (b : Bool) → (b ≡ true → r ≡ None) → cond b None r ≡ r
-      go true q = sym (q refl)
-      go false q = refl
+      ap (λ b. cond (b && eqb m.0 1 && is_response m.1) None r) (same_near k x) ∙ by_test (eqb k x && eqb m.0 1 && is_response m.1)
+      (λ q. rw q (sym ((rw q at none) refl)))
+      (λ q. rw q refl)
 
   -- the answer
   pub answer_asks : (k n : ℕ) (message : List ℕ) (r : Option (List ℕ)) → eqb k x ≡ true → is_response message ≡ true

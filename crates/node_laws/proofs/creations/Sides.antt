@@ -1,9 +1,9 @@
 -- The end of a controller on a link of its world is what its step makes of it.
-use Rattle.std.proofs.Common.{◌≡◌, ◌⊎◌, inl, inr, ℕ, Bool, true, false, not, cond, eqb, List, [], map, sym, refl, ap, ◌∙◌, subst}
+use Rattle.std.proofs.Common.{◌≡◌, ℕ, Bool, true, false, not, cond, eqb, List, [], map, sym, refl, ap, ◌∙◌, subst}
 use Rattle.std.specs.Prelude.{Option, Some, None, is_some}
 use Rattle.std.specs.List.{flat_map}
 use Rattle.std.specs.Option.{option_map}
-use Rattle.std.proofs.lemmas.Bool.{cases_Bool, true≢false}
+use Rattle.std.proofs.lemmas.Bool.{true≢false}
 use Rattle.trace_model.specs.declared.entry.Entry.{Entry}
 use Rattle.shdlc_core.specs.Machine.{is_waiting}
 use Rattle.shdlc_core.specs.declared.answers.LinkState.TheVariants.{Up, Down}
@@ -18,7 +18,7 @@ use Rattle.node_machine.specs.Node.{NodeInput, input_at, has_come, all_come, wit
 use Rattle.node_machine.specs.Node.{without_notice, after_sessions, synced, steps}
 use Rattle.node_machine.specs.Node.NodeInput.{AtEnd, TimePasses}
 use Rattle.node_machine.specs.world.World.{input_of, ticked_so}
-use Rattle.node_laws.proofs.Cases.{by_list, by_test}
+use Rattle.node_laws.proofs.Cases.{by_list, by_option, by_test}
 use Rattle.node_laws.proofs.links.Noticing.{UpAt, at_all}
 use Rattle.node_laws.proofs.telling.Accounts.{at_changed, turned-append}
 use Rattle.node_laws.proofs.telling.Walks.{AreSilent, rest}
@@ -26,7 +26,6 @@ use Rattle.node_laws.proofs.telling.Mute.{forgotten_mute, all_owed_mute, all_syn
 use Rattle.node_laws.proofs.telling.Steps.{without_same, forgets_same}
 use Rattle.node_laws.proofs.telling.Ticks.{IsLate, late_parts}
 use Rattle.node_laws.proofs.telling.Late.{IsLasting, reset_same}
-use Rattle.node_laws.specs.telling.Telling.{is_due}
 use Rattle.node_laws.proofs.readings.Noticed.{up_is, not_waiting}
 use Rattle.node_laws.specs.notices.Worlds.{IsShut}
 use Rattle.node_laws.proofs.steps.Ports.{come_host, forgets_host, without_host, late_host}
@@ -138,25 +137,17 @@ input_side l NoInput ts i e = absurd (cc e)
 pub near_side : (l : Link) (h k : ℕ) (comes : Comes) (i : LinkInput) (ts : List Turn) (p : Port) → p.desk.host ≡ k → p.side ≡ l.controller.side
     → (eqb k h ≡ true → input_of l comes ≡ Some i)
     → (steps_at_controller l (cond (eqb k h) comes NoInput) ts GoesOut).controller.side ≡ sent_all (turned (has_come p (input_at (AtEnd h i) p)).side ts)
-near_side l h k comes i ts p host side input = go (cases_Bool (eqb k h)) where
-  Goal : Bool → Bool → Type 0
-  Goal b c = (steps_at_controller l (cond b comes NoInput) ts GoesOut).controller.side ≡ sent_all (turned (has_come p (cond c (Some i) None)).side ts)
-
-  go : (eqb k h ≡ true) ⊎ (eqb k h ≡ false) → Goal (eqb k h) (eqb p.desk.host h)
-  go (inl e) =
-      subst (λ b. Goal b (eqb p.desk.host h)) (sym e) (subst (Goal true) (sym (ap (λ n. eqb n h) host ∙ e))
-      (input_side l comes ts i (input e) ∙ ap (λ z. sent_all (turned (after_input z i) ts)) (sym side)))
-  go (inr e) =
-      subst (λ b. Goal b (eqb p.desk.host h)) (sym e) (subst (Goal false) (sym (ap (λ n. eqb n h) host ∙ e))
-      (ap (λ z. sent_all (turned z ts)) (sym side)))
+near_side l h k comes i ts p host side input = by_test (eqb k h)
+    (λ e. subst (λ b. Goal b (eqb p.desk.host h)) (sym e) (subst (Goal true) (sym (ap (λ n. eqb n h) host ∙ e))
+    (input_side l comes ts i (input e) ∙ ap (λ z. sent_all (turned (after_input z i) ts)) (sym side))))
+    (λ e. subst (λ b. Goal b (eqb p.desk.host h)) (sym e) (subst (Goal false) (sym (ap (λ n. eqb n h) host ∙ e))
+    (ap (λ z. sent_all (turned z ts)) (sym side)))) where
+      Goal : Bool → Bool → Type 0
+      Goal b c = (steps_at_controller l (cond b comes NoInput) ts GoesOut).controller.side ≡ sent_all (turned (has_come p (cond c (Some i) None)).side ts)
 
 pub tick_side : (l : Link) (ts : List Turn) (p : Port) → p.side ≡ l.controller.side → p.late ≡ false → UpAt (Some p) → IsShut p.side
     → (ticked_so l (after_tick p).late ts GoesOut).controller.side ≡ sent_all (turned (after_tick p).side ts)
 tick_side l ts p side fresh noticed shut = go (is_late (with_older (has_come p (Some Tick)))) refl where
-  some_of : (o : Option Notice) → p.desk.notice ≡ o → is_due p.desk ≡ true → is_some p.desk.notice ≡ true
-  some_of None e due = let z : false ≡ true = rw e at due in absurd (true≢false (sym z))
-  some_of (Some n) e due = ap (λ (o : Option Notice). is_some o) e
-
   go : (b : Bool) → is_late (with_older (has_come p (Some Tick))) ≡ b
       → (ticked_so l (after_tick p).late ts GoesOut).controller.side ≡ sent_all (turned (after_tick p).side ts)
   go false e =
@@ -168,7 +159,9 @@ tick_side l ts p side fresh noticed shut = go (is_late (with_older (has_come p (
       let late : (after_tick p).late ≡ true = rw e refl in
       let is : (after_tick p).side ≡ after_input (after_input p.side Tick) (Reset None) = rw e refl in
       let parts : IsLate p = late_parts p e in
-      let up : p.side.shdlc.phase ≡ Up = up_is p.side.shdlc.phase (noticed (some_of p.desk.notice refl parts.due)) in
+      let up : p.side.shdlc.phase ≡ Up = up_is p.side.shdlc.phase (noticed (by_option p.desk.notice
+      (λ e. let z : false ≡ true = rw e at parts.due in absurd (true≢false (sym z)))
+      (λ n e. ap (λ (o : Option Notice). is_some o) e))) in
       let lasting : IsLasting p.side = record { active = is_active up; up = up; goes_on = parts.goes_on } in
       let going : is_waiting l.controller.side.shdlc ≡ false =
       not_waiting l.controller.side.shdlc (ap (λ (z : LinkEnd). z.shdlc.phase) (sym side) ∙ up) in

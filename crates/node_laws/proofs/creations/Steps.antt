@@ -93,10 +93,7 @@ flags_left all (p ∷ ports) f = ((λ z. forgets_ended all p ∙ f.0 (sym (forge
 -- the creations of this asker among those that are forgotten
 freed_are : (x : ℕ) (all ports : List Port) → owes x (filter (λ (c : Creation). is_over_at all c.asker) (filter_map asked_at ports))
     ≡ cond (is_over_at all x) (waits x (asked_of ports)) []
-freed_are x all [] = go [] (is_over_at all x) where
-  go : (l : List Creation) (b : Bool) → l ≡ cond b l l
-  go l true = refl
-  go l false = refl
+freed_are x all [] = by_test (is_over_at all x) (λ q. rw q refl) (λ q. rw q refl)
 freed_are x all (p ∷ ports) = by_creation (asked_at p) refl (freed_are x all ports) where
   l : List Creation
   l = filter (λ (c : Creation). is_over_at all c.asker) (filter_map asked_at ports)
@@ -132,15 +129,10 @@ module _ (x : ℕ) (before : List Entry) (hosts : List ℕ) where
       let u : Work = turn_at c.asker Release w in
       let n : ℕ = length (owes x (c ∷ cs)) + j in
       let first : IsOn x before hosts asked owing (cond (eqb c.asker x) (n - 1) n) u = released x before hosts asked owing n c.asker w a in
-      let less : cond (eqb c.asker x) (n - 1) n ≡ length (owes x cs) + j = go (cases_Bool (eqb c.asker x)) in
+      let less : cond (eqb c.asker x) (n - 1) n ≡ length (owes x cs) + j = by_test (eqb c.asker x) (λ e. rw e (omega arith)) (λ e. rw e refl) in
       let next : IsOn x before hosts asked owing (length (owes x cs) + j) u = subst (λ k. IsOn x before hosts asked owing k u) less first in
       subst (IsOn x before hosts asked owing j) (sym (on_is x before hosts (all_done 0 (map (λ (c : Creation). Releases c.asker) cs)) u next.on))
       (frees asked owing j cs u next)
-    where
-      go : (eqb c.asker x ≡ true) ⊎ (eqb c.asker x ≡ false)
-          → cond (eqb c.asker x) ((length (owes x (c ∷ cs)) + j) - 1) (length (owes x (c ∷ cs)) + j) ≡ length (owes x cs) + j
-      go (inl e) = rw e (omega arith)
-      go (inr e) = rw e refl
 
   -- identifiers are kept
   abbrev IsKept : Deed → Type 0
@@ -155,10 +147,9 @@ module _ (x : ℕ) (before : List Entry) (hosts : List ℕ) where
       (λ q. rw q tt)
       (λ i q. by_option (report p.side i).sync
       (λ e. rw (q, e) tt)
-      (λ id e. rw (q, e) (either (not (is_kept_sync core.tables.syncs p.desk.host id) && finds_room core (Sync p.desk.host id)) id))) where
-        either : (b : Bool) (id : ℕ) → AllByRecursion IsKept (cond b (Commits (Sync p.desk.host id) ∷ []) [])
-        either true id = (tt, tt)
-        either false id = tt
+      (λ id e. rw (q, e) (by_test (not (is_kept_sync core.tables.syncs p.desk.host id) && finds_room core (Sync p.desk.host id))
+      (λ q. rw q ((tt, tt)))
+      (λ q. rw q tt))))
 
   pub all_kept : (core : Core) (input : NodeInput) (ports : List Port) → AllByRecursion IsKept (flat_map (synced core input) ports)
   all_kept core input [] = tt
@@ -249,18 +240,16 @@ module _ (x : ℕ) (before : List Entry) (hosts : List ℕ) where
 
       -- where a creation waits or is owed the session of its asker goes on
       some_waits : (waits x now ++ owes x owing ≡ [] → ⊥) → (over ≡ false) × (waits x asked ++ [] ≡ [] → ⊥)
-      some_waits some = go over refl where
-        empty : (l m : List Creation) → length l ≡ length m → m ≡ [] → l ≡ []
-        empty [] m e z = refl
-        empty (d ∷ l) m e z = absurd (omega (arith, e, ap length z))
-
-        go : (b : Bool) → over ≡ b → (over ≡ false) × (waits x asked ++ [] ≡ [] → ⊥)
-        go true e = absurd (some (empty (waits x now ++ owes x owing) [] (same_length ∙ ap (λ b. length (cond b [] (waits x asked))) e) refl))
-        go false e = (
-          e,
-          (λ z. some (empty (waits x now ++ owes x owing) (waits x asked) (same_length ∙ ap (λ b. length (cond b [] (waits x asked))) e)
-              (sym (append-nil (waits x asked)) ∙ z))),
-        )
+      some_waits some = by_test over
+          (λ e. absurd (some (empty (waits x now ++ owes x owing) [] (same_length ∙ ap (λ b. length (cond b [] (waits x asked))) e) refl)))
+          (λ e. (
+            e,
+            (λ z. some (empty (waits x now ++ owes x owing) (waits x asked) (same_length ∙ ap (λ b. length (cond b [] (waits x asked))) e)
+                (sym (append-nil (waits x asked)) ∙ z))),
+          )) where
+            empty : (l m : List Creation) → length l ≡ length m → m ≡ [] → l ≡ []
+            empty [] m e z = refl
+            empty (d ∷ l) m e z = absurd (omega (arith, e, ap length z))
 
       end_at : (o : Option Port) → port_at v.ports x ≡ o → ComeAt n (waits x asked ++ []) o
           → EndAt n (waits x now ++ owes x owing) (option_map without_notice (option_map (forgets v.ports) o))

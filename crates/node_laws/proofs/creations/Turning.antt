@@ -1,8 +1,8 @@
 -- A controller has its turns: the creation that a host asked for stays the one that is read.
-use Rattle.std.proofs.Common.{◌≡◌, inl, ℕ, Bool, true, false, eqb, List, [], ◌∷◌, ◌++◌, map, sym, refl, ap, ◌∙◌, subst, arith}
+use Rattle.std.proofs.Common.{◌≡◌, inl, ℕ, true, false, eqb, List, [], ◌∷◌, ◌++◌, map, sym, refl, ap, ◌∙◌, subst, arith}
 use Rattle.std.specs.Prelude.{Option, Some, None, is_some, nat_lt}
 use Rattle.std.specs.List.{AllByRecursion}
-use Rattle.std.specs.Option.{option_map, option_map_or}
+use Rattle.std.specs.Option.{option_map_or}
 use Rattle.std.proofs.lemmas.Bool.{eqb-true, ne_eqb, eq-eqb, true≢false, ltb-false, lt-ltb}
 use Rattle.trace_model.specs.Lines.{IsHost}
 use Rattle.trace_model.specs.declared.entry.Entry.{Entry}
@@ -16,7 +16,7 @@ use Rattle.node_machine.specs.Carrying.{noting, unless_cut, port_at, changed_if,
 use Rattle.node_machine.specs.Controller.{has_link, asked_at, creation_in, controller_deeds, asks_for, view_of}
 use Rattle.node_machine.specs.Turns.{deeds_of, handles, holds_back, lets_go, have_turns, goes_through_ends, passes}
 use Rattle.node_laws.specs.links.Notices.{AllReach}
-use Rattle.node_laws.proofs.Cases.{by_test}
+use Rattle.node_laws.proofs.Cases.{by_option, by_test}
 use Rattle.node_laws.proofs.links.Noticing.{at_all}
 use Rattle.node_laws.proofs.links.Reaching.{controller_reach}
 use Rattle.node_laws.proofs.readings.Noticed.{up_is}
@@ -44,25 +44,19 @@ due_at asked k c s a =
 -- an end with a link that is up and a block to spare
 block_at : (ports : List Port) (x : ℕ) → nat_lt (option_map_or (λ (p : Port). spare p.side) (port_at ports x) 0) 1 ≡ false → has_link ports x ≡ true
     → HasBlock (port_at ports x)
-block_at ports x room up = go (port_at ports x) room up where
-  go : (o : Option Port) → nat_lt (option_map_or (λ (p : Port). spare p.side) o 0) 1 ≡ false
-      → option_map_or (λ (p : Port). is_up p.side.shdlc.phase) o false ≡ true → HasBlock o
-  go None r u = absurd (true≢false (sym u))
-  go (Some p) r u = (up_is p.side.shdlc.phase u, lt-ltb 0 (spare p.side) (ltb-false (spare p.side) 1 r))
+block_at ports x room up = by_option (port_at ports x)
+    (λ q. rw q (absurd (true≢false (sym (rw q at up)))))
+    (λ p q. rw q (let u = rw q at up in
+    (up_is p.side.shdlc.phase u, lt-ltb 0 (spare p.side) (ltb-false (spare p.side) 1 (rw q at room)))))
 
 -- it has it still, where ends are changed that keep that
 block_with : (k x : ℕ) (g : Port → Port) (ports : List Port) → ((p : Port) → (g p).desk.host ≡ p.desk.host)
     → ((p : Port) → HasBlock (Some p) → HasBlock (Some (g p))) → HasBlock (port_at ports x) → HasBlock (port_at (with_port k g ports) x)
 block_with k x g ports host one a =
-    subst HasBlock (sym (at_all ports x (λ p. changed_if (eqb p.desk.host k) g p) (λ p. changed_host (eqb p.desk.host k) g p host))) (go (port_at ports x) a)
-  where
-    by : (b : Bool) (p : Port) → HasBlock (Some p) → HasBlock (Some (changed_if b g p))
-    by true p z = one p z
-    by false p z = z
-
-    go : (o : Option Port) → HasBlock o → HasBlock (option_map (λ (p : Port). changed_if (eqb p.desk.host k) g p) o)
-    go None z = z
-    go (Some p) z = by (eqb p.desk.host k) p z
+    subst HasBlock (sym (at_all ports x (λ p. changed_if (eqb p.desk.host k) g p) (λ p. changed_host (eqb p.desk.host k) g p host)))
+    (by_option (port_at ports x)
+    (λ q. rw q (rw q at a))
+    (λ p q. rw q (let z = rw q at a in by_test (eqb p.desk.host k) (λ q. rw q (one p z)) (λ q. rw q z))))
 
 module _ (x : ℕ) (before : List Entry) (hosts : List ℕ) (different : AreDifferent hosts) where
   module _ (k : ℕ) (host : IsHost k) where

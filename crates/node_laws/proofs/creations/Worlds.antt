@@ -1,8 +1,8 @@
 -- What a world keeps of the creations that wait over each event.
-use Rattle.std.proofs.Common.{◌≡◌, ◌⊎◌, inl, inr, ℕ, ◌-◌, ◌^◌, ◌≤◌, ◌&&◌, Bool, true, false, not, eqb, List, [], ◌∷◌, ◌++◌, length, map, replicate, sym, refl}
+use Rattle.std.proofs.Common.{◌≡◌, ℕ, ◌-◌, ◌^◌, ◌≤◌, ◌&&◌, Bool, false, not, eqb, List, [], ◌∷◌, ◌++◌, length, map, replicate, sym, refl}
 use Rattle.std.proofs.Common.{ap, ◌∙◌, subst, append_assoc, append-nil}
 use Rattle.std.specs.Prelude.{Option, Some, None}
-use Rattle.std.proofs.lemmas.Bool.{cases_Bool, cond_both}
+use Rattle.std.proofs.lemmas.Bool.{cond_both}
 use Rattle.swp_act.specs.Activation.{new_clf}
 use Rattle.trace_model.specs.declared.entry.Entry.{Entry}
 use Rattle.trace_model.specs.declared.line.End.{End}
@@ -28,7 +28,7 @@ use Rattle.node_machine.specs.world.World.{activates, sending}
 use Rattle.node_machine.specs.world.World.{beginning, new_site, new_world, end_c, end_h, world_step}
 use Rattle.node_machine.specs.world.World.Happening.{Boots, IsCut, Gives, Inits, Takes, Loses, Ticks, Resets, Activates, Arms}
 use Rattle.node_machine.specs.world.NodeFilters.{commands_in}
-use Rattle.node_laws.proofs.Cases.{by_option}
+use Rattle.node_laws.proofs.Cases.{by_option, by_test}
 use Rattle.node_laws.proofs.links.Blocks.{IsWithin, input_within, sent_within}
 use Rattle.node_laws.specs.kept.Hosts.{AreHosts}
 use Rattle.node_laws.specs.kept.Worlds.{AllKeep, MayHappen}
@@ -75,15 +75,9 @@ tick_ready e a =
 off_ends : (sites : List Site) (n : ℕ) → HasSetAside [] (link_to sites n).controller.side
     → HasSetAside [] (link_to (map (λ (s : Site). record s { link = ticks_at_controller s.link [] GoesOut }) sites) n).controller.side
 off_ends [] n a = a
-off_ends (s ∷ sites) n a = go (cases_Bool (eqb s.host n)) (off_ends sites n) where
-  f : Site → Site
-  f s = record s { link = ticks_at_controller s.link [] GoesOut }
-
-  go : (eqb s.host n ≡ true) ⊎ (eqb s.host n ≡ false)
-      → (HasSetAside [] (link_to sites n).controller.side → HasSetAside [] (link_to (map f sites) n).controller.side)
-      → HasSetAside [] (link_to (map f (s ∷ sites)) n).controller.side
-  go (inl is) later = let b : HasSetAside [] s.link.controller.side = rw is at a in rw is (tick_ready s.link.controller.side b)
-  go (inr off) later = let b : HasSetAside [] (link_to sites n).controller.side = rw off at a in rw off (later b)
+off_ends (s ∷ sites) n a = by_test (eqb s.host n)
+    (λ is. let b : HasSetAside [] s.link.controller.side = rw is at a in rw is (tick_ready s.link.controller.side b))
+    (λ off. let b : HasSetAside [] (link_to sites n).controller.side = rw off at a in rw off (off_ends sites n b))
 
 ticked_good : (k : Work) (sites : List Site) → AreGood sites
     → AreGood (map (λ (s : Site). record s { link = ticked_so s.link (is_late_at k s.host) (turns_at k s.host) (ending_of k) }) sites)
@@ -189,27 +183,23 @@ module _ (hosts : List ℕ) (are : AreHosts hosts) (t : List Entry) (w : NodeWor
     by_node (Some r) e has up = subst Fine (sym (on_is r e)) (near_step hosts are t w kept notices a r e has up h comes i input)
 
   comes_reads : (e : End) (comes : Comes) → Reads (t ++ (comes_at w e comes).1) (comes_at w e comes).0
-  comes_reads e comes = by_side (cases_Bool e.at_host) where
-    Fine : NodeWorld × List Entry → Type 0
-    Fine p = Reads (t ++ p.1) p.0
+  comes_reads e comes = by_test e.at_host
+      (λ b. beside_reads t w (comes_at w e comes).0 (comes_at w e comes).1 a (far_beside w e comes notices.sites b))
+      (λ b. by_option (input_of (seen_from e (link_to w.sites e.link)) comes)
+      (λ q. subst Fine (sym (none_is q)) (nothing t w a))
+      (λ i q. subst Fine (sym (near_is i q b)) (near_reads e.link comes i (ap (λ l. input_of l comes) (sym (seen b)) ∙ q)))) where
+        Fine : NodeWorld × List Entry → Type 0
+        Fine p = Reads (t ++ p.1) p.0
 
-    seen : e.at_host ≡ false → seen_from e (link_to w.sites e.link) ≡ link_to w.sites e.link
-    seen b = rw b refl
+        seen : e.at_host ≡ false → seen_from e (link_to w.sites e.link) ≡ link_to w.sites e.link
+        seen b = rw b refl
 
-    none_is : input_of (seen_from e (link_to w.sites e.link)) comes ≡ None → comes_at w e comes ≡ (w, [])
-    none_is q = rw q refl
+        none_is : input_of (seen_from e (link_to w.sites e.link)) comes ≡ None → comes_at w e comes ≡ (w, [])
+        none_is q = rw q refl
 
-    near_is : (i : LinkInput) → input_of (seen_from e (link_to w.sites e.link)) comes ≡ Some i → e.at_host ≡ false
-        → comes_at w e comes ≡ controller_does w e.link comes (steps (AtEnd e.link i))
-    near_is i q b = rw q (rw b refl)
-
-    go : e.at_host ≡ false → (o : Option LinkInput) → input_of (seen_from e (link_to w.sites e.link)) comes ≡ o → Fine (comes_at w e comes)
-    go b None q = subst Fine (sym (none_is q)) (nothing t w a)
-    go b (Some i) q = subst Fine (sym (near_is i q b)) (near_reads e.link comes i (ap (λ l. input_of l comes) (sym (seen b)) ∙ q))
-
-    by_side : (e.at_host ≡ true) ⊎ (e.at_host ≡ false) → Fine (comes_at w e comes)
-    by_side (inl b) = beside_reads t w (comes_at w e comes).0 (comes_at w e comes).1 a (far_beside w e comes notices.sites b)
-    by_side (inr b) = go b (input_of (seen_from e (link_to w.sites e.link)) comes) refl
+        near_is : (i : LinkInput) → input_of (seen_from e (link_to w.sites e.link)) comes ≡ Some i → e.at_host ≡ false
+            → comes_at w e comes ≡ controller_does w e.link comes (steps (AtEnd e.link i))
+        near_is i q b = rw q (rw b refl)
 
   activates_reads : (h sync power : ℕ) → Reads (t ++ (activates w h sync power).1) (activates w h sync power).0
   activates_reads h sync power =
@@ -258,11 +248,7 @@ event_keeps hosts t w c are a boots may few =
 
 new_ends : (content hosts : List ℕ) (n : ℕ) → HasSetAside [] (link_to (map (new_site content) hosts) n).controller.side
 new_ends content [] n = new_ready Bare
-new_ends content (h ∷ hosts) n = go (cases_Bool (eqb h n)) (new_ends content hosts n) where
-  go : (eqb h n ≡ true) ⊎ (eqb h n ≡ false) → HasSetAside [] (link_to (map (new_site content) hosts) n).controller.side
-      → HasSetAside [] (link_to (map (new_site content) (h ∷ hosts)) n).controller.side
-  go (inl is) later = rw is (new_ready (Clf new_clf))
-  go (inr off) later = rw off later
+new_ends content (h ∷ hosts) n = by_test (eqb h n) (λ is. rw is (new_ready (Clf new_clf))) (λ off. rw off (new_ends content hosts n))
 
 pub begin_keeps : (hosts : List ℕ) → AreHosts hosts → KeepsCreations hosts [] (new_world hosts)
 begin_keeps hosts are = record {

@@ -1,10 +1,8 @@
 -- A commit that is cut: which bank is in use then.
-use Rattle.std.proofs.Common.{◌≡◌, ◌⊎◌, inl, inr, ℕ, ◌+◌, ◌<◌, Bool, true, false, cond, List, [], ◌++◌, length, slice_index, sym, refl, ap, ◌∙◌, arith}
-use Rattle.std.specs.Prelude.{Option, Some, None, IsSome}
-use Rattle.std.specs.Option.{option_map_or}
-use Rattle.std.proofs.lemmas.Bool.{cases_Bool, true≢false}
+use Rattle.std.proofs.Common.{◌≡◌, ◌⊎◌, inl, inr, ℕ, ◌+◌, ◌<◌, Bool, true, false, cond, List, [], length, slice_index, sym, refl, ap, ◌∙◌, arith}
+use Rattle.std.specs.Prelude.{IsSome}
+use Rattle.std.proofs.lemmas.Bool.{true≢false}
 use Rattle.swp_base.specs.InMemory.{Memory}
-use Rattle.journal_laws.specs.declared.banks.Side.{Side}
 use Rattle.journal_laws.specs.declared.state.State.{State}
 use Rattle.journal_laws.specs.Banks.{other, bank_place, is_opened_gate, current}
 use Rattle.journal_laws.specs.Writes.{Write, after_writes}
@@ -20,6 +18,7 @@ use Rattle.hci_tables.specs.Tables.{HciTables, AreTables, apply}
 use Rattle.hci_store.specs.Recordable.{IsRecordable}
 use Rattle.hci_store.specs.Committing.{record_fits, snapshot_bodies, room_writes, with_room, commit_writes, committed}
 use Rattle.node_laws.specs.kept.Finds.{Knows, FindsRoom}
+use Rattle.node_laws.proofs.Cases.{by_option, by_test}
 use Rattle.node_laws.proofs.kept.Commits.{says_of, can, room_knows, next_of}
 use Rattle.node_laws.specs.kept.Gates.{opens_gate}
 use Rattle.node_laws.proofs.cuts.Filled.{IsFilled}
@@ -33,12 +32,10 @@ bank_of : (content : List ℕ) (s : State) (t : HciTables) → Knows content s t
 bank_of content s t k = ap (λ (x : State). x.in_use) k.state_is
 
 snapshot_ends : (s : State) (bodies : List (List ℕ)) → IsSome s.in_use → EndsInGate (compact_writes s bodies)
-snapshot_ends s bodies used = by_side s.in_use used where
-  by_side : (o : Option Side) → IsSome o → EndsInGate (option_map_or (λ side. close_bank s.beside (bank_place (other side))
-      ++ open_bank (bank_place (other side)) (s.generation + 1) (count_of s) bodies) o [])
-  by_side None used = absurd (true≢false (sym used))
-  by_side (Some side) used =
-      ends_append (close_bank s.beside (bank_place (other side))) (open_bank (bank_place (other side)) (s.generation + 1) (count_of s) bodies) refl
+snapshot_ends s bodies used = by_option s.in_use
+    (λ q. rw q (absurd (true≢false (sym (rw q at used)))))
+    (λ side q. rw q (ends_append (close_bank s.beside (bank_place (other side)))
+    (open_bank (bank_place (other side)) (s.generation + 1) (count_of s) bodies) refl))
 
 -- ## The writes of a snapshot
 
@@ -102,24 +99,20 @@ module _ (m : Memory) (s : State) (t : HciTables) (c : Command) (k : Knows m.con
   record_moved : (j : ℕ) → cut.i ≡ length first + j
       → IsFilled j cut.fill (append_writes (with_room s t (body_of c)) (body_of c)) (after_writes first m.content) left
       → current left ≡ (with_room s t (body_of c)).in_use
-  record_moved j is filled = by_gate (cases_Bool (opens_gate (length (commit_writes s t (body_of c))) m.plan)) where
-    by_gate : (opens_gate (length (commit_writes s t (body_of c))) m.plan ≡ true) ⊎ (opens_gate (length (commit_writes s t (body_of c))) m.plan ≡ false)
-        → current left ≡ (with_room s t (body_of c)).in_use
-    by_gate (inl opens) =
-        let o = cut.opened (length (commit_writes s t (body_of c))) opens in
-        bank_of left (committed s t (body_of c)) (apply t c)
-        (commit_opened m.content s t c k are may command room cut.i cut.fill left cut.filled o.0 o.1)
-    by_gate (inr opens) =
-        let r = room_knows m.content s t c k are may command room (record_fits s (body_of c)) refl in
-        same_bank (after_writes first m.content) left
-        (record_same (after_writes first m.content) (with_room s t (body_of c)) t r.0 c command r.1 j cut.fill left filled
-        (λ last. cut.closed (length (commit_writes s t (body_of c))) opens (omega (
-          arith,
-          last,
-          is,
-          many m.content s t c k are may command room cut.i cut.fill left cut.filled,
-        ))))
-        ∙ bank_of (after_writes first m.content) (with_room s t (body_of c)) t r.0
+  record_moved j is filled = by_test (opens_gate (length (commit_writes s t (body_of c))) m.plan)
+      (λ opens. let o = cut.opened (length (commit_writes s t (body_of c))) opens in
+      bank_of left (committed s t (body_of c)) (apply t c)
+      (commit_opened m.content s t c k are may command room cut.i cut.fill left cut.filled o.0 o.1))
+      (λ opens. let r = room_knows m.content s t c k are may command room (record_fits s (body_of c)) refl in
+      same_bank (after_writes first m.content) left
+      (record_same (after_writes first m.content) (with_room s t (body_of c)) t r.0 c command r.1 j cut.fill left filled
+      (λ last. cut.closed (length (commit_writes s t (body_of c))) opens (omega (
+        arith,
+        last,
+        is,
+        many m.content s t c k are may command room cut.i cut.fill left cut.filled,
+      ))))
+      ∙ bank_of (after_writes first m.content) (with_room s t (body_of c)) t r.0)
 
   pub bank_moved : (fails_within (length first) m.plan ≡ false) ⊎ (opens_gate (length first) m.plan ≡ true)
       → current left ≡ (with_room s t (body_of c)).in_use

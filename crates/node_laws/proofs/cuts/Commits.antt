@@ -2,7 +2,7 @@
 use Rattle.std.proofs.Common.{◌≡◌, ◌⊎◌, inl, inr, ℕ, ◌+◌, ◌-◌, ◌^◌, ◌<◌, ◌≤◌, ◌==◌, true, false, List, length, slice_index, sym, refl, ap, ◌∙◌, subst, arith}
 use Rattle.std.proofs.Common.{length-append}
 use Rattle.std.specs.Prelude.{Option, Some, None, nat_le}
-use Rattle.std.proofs.lemmas.Bool.{cases_Bool, and_parts, and_from, both_ways, eqb-true, eq-eqb, leb-true, leb-false, and_cases, true≢false, false_from_ne_true}
+use Rattle.std.proofs.lemmas.Bool.{and_parts, and_from, both_ways, eqb-true, eq-eqb, leb-true, leb-false, and_cases, true≢false, false_from_ne_true}
 use Rattle.swp_base.specs.InMemory.{Plan, Memory}
 use Rattle.journal_laws.specs.declared.state.State.{State}
 use Rattle.journal_laws.specs.Banks.{is_opened_gate}
@@ -20,6 +20,7 @@ use Rattle.hci_store.specs.Recordable.{IsRecordable}
 use Rattle.hci_store.specs.Committing.{record_fits, room_writes, with_room, commit_writes, committed}
 use Rattle.hci_store.proofs.CutShort.{room_count}
 use Rattle.node_laws.specs.kept.Finds.{BootFinds, Knows, FindsRoom}
+use Rattle.node_laws.proofs.Cases.{by_test}
 use Rattle.node_laws.proofs.kept.Commits.{says_of, has_room, finds_still, room_knows, room_left, commit_knows, commit_count}
 use Rattle.node_laws.specs.kept.Gates.{opens_gate}
 use Rattle.node_laws.proofs.cuts.Filled.{IsFilled, planned_filled, filled_cut, filled_append}
@@ -147,9 +148,7 @@ module _ (m : Memory) (s : State) (t : HciTables) (c : Command) (k : Knows m.con
 
   -- where fewer commands than a journal counts stand there, the two are different
   pub planned_only : count_of s < 2 ^ 32 - 1 → BootFinds new (apply t c) (count_of (committed s t (body_of c))) → opens_gate (length all) m.plan ≡ true
-  planned_only few found = by_gate (cases_Bool (opens_gate (length all) m.plan)) where
-    by_gate : (opens_gate (length all) m.plan ≡ true) ⊎ (opens_gate (length all) m.plan ≡ false) → opens_gate (length all) m.plan ≡ true
-    by_gate (inl opened) = opened
-    by_gate (inr closed) =
-        let old = planned_closed closed in
-        absurd (omega (arith, few, old.keeps.count_is, found.keeps.count_is, commit_count m.content s t c k are may command room))
+  planned_only few found = by_test (opens_gate (length all) m.plan)
+      (λ opened. opened)
+      (λ closed. let old = planned_closed closed in
+      absurd (omega (arith, few, old.keeps.count_is, found.keeps.count_is, commit_count m.content s t c k are may command room)))

@@ -37,6 +37,7 @@ use Rattle.node_laws.specs.kept.Deeds.{MayBeDone}
 use Rattle.node_machine.specs.Orders.{IsOnOrder}
 use Rattle.node_laws.specs.kept.Hosts.{AreHosts}
 use Rattle.node_laws.specs.kept.Worlds.{SiteKeeps, AllKeep, MayHappen}
+use Rattle.node_laws.proofs.Cases.{by_list, by_test}
 use Rattle.node_laws.proofs.kept.Asking.{same_new}
 use Rattle.node_laws.proofs.kept.Plainly.{plain_entries}
 use Rattle.node_laws.proofs.kept.Doing.{all_fine}
@@ -153,48 +154,44 @@ module _ (hosts : List ℕ) (are : AreHosts hosts) (n : ℕ) where
   counts_on _ h o = refl
 
   lost_exact : (t : List Entry) (r : Reckoning) (w : NodeWorld) (e : End) (why : Loss) → IsThere w n → StandsAt n t r w → ExactAt n t r (frame_lost w e why)
-  lost_exact t r w e why there stands = by_side (cases_Bool e.at_host) where
-    near : Site → Site
-    near s = record s { link = happens s.link (at e (Lose why)) }
+  lost_exact t r w e why there stands = by_test e.at_host
+      (λ side. let is : frame_lost w e why ≡ far_is = rw side refl in
+      subst (ExactAt n t r) (sym is) (plain_exact n t r w far_is (record {
+        plain = plain_entries e.link (first_lost Host why (link_to w.sites e.link).to_host);
+        memory_is = refl;
+        controller = refl;
+        change = λ (s : Site). changed_if (eqb s.host e.link) far s;
+        sites = refl;
+        host = λ s. so_or_so (λ b. (changed_if b far s).host ≡ s.host) refl refl (eqb s.host e.link);
+        memory = λ s. so_or_so (λ b. (changed_if b far s).memory ≡ s.memory) refl refl (eqb s.host e.link);
+        node = λ s. so_or_so (λ b. is_some (changed_if b far s).node ≡ is_some s.node) (counts_on why e.link s.node) refl
+            (eqb s.host e.link);
+      }) there stands))
+      (λ side. let is : frame_lost w e why ≡ near_is = rw side refl in
+      subst (ExactAt n t r) (sym is) (plain_exact n t r w near_is (record {
+        plain = plain_entries e.link (first_lost Controller why (link_to w.sites e.link).to_controller);
+        memory_is = refl;
+        controller = counts_on why e.link w.controller;
+        change = λ (s : Site). changed_if (eqb s.host e.link) near s;
+        sites = refl;
+        host = λ s. so_or_so (λ b. (changed_if b near s).host ≡ s.host) refl refl (eqb s.host e.link);
+        memory = λ s. so_or_so (λ b. (changed_if b near s).memory ≡ s.memory) refl refl (eqb s.host e.link);
+        node = λ s. so_or_so (λ b. is_some (changed_if b near s).node ≡ is_some s.node) refl refl (eqb s.host e.link);
+      }) there stands)) where
+        near : Site → Site
+        near s = record s { link = happens s.link (at e (Lose why)) }
 
-    far : Site → Site
-    far s = record s { link = happens s.link (at e (Lose why)); node = counts why e.link s.node }
+        far : Site → Site
+        far s = record s { link = happens s.link (at e (Lose why)); node = counts why e.link s.node }
 
-    far_is : NodeWorld × List Entry
-    far_is = (record w { sites = with_site e.link far w.sites }, entries_for e.link (first_lost Host why (link_to w.sites e.link).to_host))
+        far_is : NodeWorld × List Entry
+        far_is = (record w { sites = with_site e.link far w.sites }, entries_for e.link (first_lost Host why (link_to w.sites e.link).to_host))
 
-    near_is : NodeWorld × List Entry
-    near_is = (
-      record w { controller = counts why e.link w.controller; sites = with_site e.link near w.sites },
-      entries_for e.link (first_lost Controller why (link_to w.sites e.link).to_controller),
-    )
-
-    by_side : (e.at_host ≡ true) ⊎ (e.at_host ≡ false) → ExactAt n t r (frame_lost w e why)
-    by_side (inl side) =
-        let is : frame_lost w e why ≡ far_is = rw side refl in
-        subst (ExactAt n t r) (sym is) (plain_exact n t r w far_is (record {
-          plain = plain_entries e.link (first_lost Host why (link_to w.sites e.link).to_host);
-          memory_is = refl;
-          controller = refl;
-          change = λ (s : Site). changed_if (eqb s.host e.link) far s;
-          sites = refl;
-          host = λ s. so_or_so (λ b. (changed_if b far s).host ≡ s.host) refl refl (eqb s.host e.link);
-          memory = λ s. so_or_so (λ b. (changed_if b far s).memory ≡ s.memory) refl refl (eqb s.host e.link);
-          node = λ s. so_or_so (λ b. is_some (changed_if b far s).node ≡ is_some s.node) (counts_on why e.link s.node) refl
-              (eqb s.host e.link);
-        }) there stands)
-    by_side (inr side) =
-        let is : frame_lost w e why ≡ near_is = rw side refl in
-        subst (ExactAt n t r) (sym is) (plain_exact n t r w near_is (record {
-          plain = plain_entries e.link (first_lost Controller why (link_to w.sites e.link).to_controller);
-          memory_is = refl;
-          controller = counts_on why e.link w.controller;
-          change = λ (s : Site). changed_if (eqb s.host e.link) near s;
-          sites = refl;
-          host = λ s. so_or_so (λ b. (changed_if b near s).host ≡ s.host) refl refl (eqb s.host e.link);
-          memory = λ s. so_or_so (λ b. (changed_if b near s).memory ≡ s.memory) refl refl (eqb s.host e.link);
-          node = λ s. so_or_so (λ b. is_some (changed_if b near s).node ≡ is_some s.node) refl refl (eqb s.host e.link);
-        }) there stands)
+        near_is : NodeWorld × List Entry
+        near_is = (
+          record w { controller = counts why e.link w.controller; sites = with_site e.link near w.sites },
+          entries_for e.link (first_lost Controller why (link_to w.sites e.link).to_controller),
+        )
 
   -- ## Power
 
@@ -213,57 +210,49 @@ module _ (hosts : List ℕ) (are : AreHosts hosts) (n : ℕ) where
 
   cut_exact : (t : List Entry) (r : Reckoning) (w : NodeWorld) (k : ℕ) (q : Running) → node_at w k ≡ Some q → IsThere w n → StandsAt n t r w
       → GoesExactly n t r (IsCut k) (loses_power_at k w, entry.Cut k ∷ [])
-  cut_exact t r w k q running there stands = by_node (cases_Bool (eqb k n)) where
-    by_node : (eqb k n ≡ true) ⊎ (eqb k n ≡ false) → GoesExactly n t r (IsCut k) (loses_power_at k w, entry.Cut k ∷ [])
-    by_node (inl is) =
-        let same : k ≡ n = eqb-true k n is in
-        subst (λ j. GoesExactly n t r (IsCut j) (loses_power_at j w, entry.Cut j ∷ [])) (sym same) (record {
-          planned = refl;
-          booted = λ before behind many at_it. none_in_cut _ n n many before behind at_it;
-          stands = stands_now (t ++ entry.Cut n ∷ []) (fold (reckoned n) r (entry.Cut n ∷ [])) (loses_power_at n w) (memory_at w n) None
-              (now_loses n w there) (cut_stands n t r (memory_at w n) q (subst (Stands n t r (memory_at w n)) (sym (ap (node_at w) same) ∙ running) stands));
-          there = (now_loses n w there).there;
-        })
-    by_node (inr other) =
-        let a : ExactAt n t r (loses_power_at k w, entry.Cut k ∷ []) =
-        same_exact t r w (loses_power_at k w) (entry.Cut k ∷ []) (same_loses k n w (eqb-false k n other) there)
-        (other_idles k n (entry.Cut k ∷ []) (eqb-false k n other) (refl, tt)) stands in
-        record {
-          planned = refl;
-          booted = λ before behind many at_it. none_in_cut _ k n many before behind at_it;
-          stands = a.exact.stands;
-          there = a.there;
-        }
+  cut_exact t r w k q running there stands = by_test (eqb k n)
+      (λ is. let same : k ≡ n = eqb-true k n is in
+      subst (λ j. GoesExactly n t r (IsCut j) (loses_power_at j w, entry.Cut j ∷ [])) (sym same) (record {
+        planned = refl;
+        booted = λ before behind many at_it. none_in_cut _ n n many before behind at_it;
+        stands = stands_now (t ++ entry.Cut n ∷ []) (fold (reckoned n) r (entry.Cut n ∷ [])) (loses_power_at n w) (memory_at w n) None
+            (now_loses n w there) (cut_stands n t r (memory_at w n) q (subst (Stands n t r (memory_at w n)) (sym (ap (node_at w) same) ∙ running) stands));
+        there = (now_loses n w there).there;
+      }))
+      (λ other. let a : ExactAt n t r (loses_power_at k w, entry.Cut k ∷ []) =
+      same_exact t r w (loses_power_at k w) (entry.Cut k ∷ []) (same_loses k n w (eqb-false k n other) there)
+      (other_idles k n (entry.Cut k ∷ []) (eqb-false k n other) (refl, tt)) stands in
+      record {
+        planned = refl;
+        booted = λ before behind many at_it. none_in_cut _ k n many before behind at_it;
+        stands = a.exact.stands;
+        there = a.there;
+      })
 
   arms_exact : (t : List Entry) (r : Reckoning) (w : NodeWorld) (k : ℕ) (plan : Plan) → IsThere w n → StandsAt n t r w
       → GoesExactly n t r (Arms k plan) (with_memory k (record (memory_at w k) { plan = Some plan }) w, [])
-  arms_exact t r w k plan there stands = by_node (cases_Bool (eqb k n)) where
-    by_node : (eqb k n ≡ true) ⊎ (eqb k n ≡ false) → GoesExactly n t r (Arms k plan) (with_memory k (record (memory_at w k) { plan = Some plan }) w, [])
-    by_node (inl is) =
-        let same : k ≡ n = eqb-true k n is in
-        let armed : Memory = record (memory_at w n) { plan = Some plan } in
-        let now : IsNowAt n (with_memory n armed w) armed (node_at w n) = now_memory n w armed there in
-        let here : begun_by n (Arms n plan) r ≡ record r { memory = record r.memory { plan = Some plan } } =
-        ap (λ b. cond b (record r { memory = record r.memory { plan = Some plan } }) r) (eq-eqb n n refl) in
-        let after_it : StandsAt n (t ++ []) (begun_by n (Arms n plan) r) (with_memory n armed w) =
-        subst (λ x. StandsAt n (t ++ []) x (with_memory n armed w)) (sym here)
-        (stands_now (t ++ []) (record r { memory = record r.memory { plan = Some plan } }) (with_memory n armed w) armed (node_at w n) now
-        (armed_stands n t r (memory_at w n) plan (node_at w n) stands)) in
-        subst (λ j. GoesExactly n t r (Arms j plan) (with_memory j (record (memory_at w j) { plan = Some plan }) w, [])) (sym same) (record {
-          planned = (tt, ap (λ (x : Reckoning). x.due) here ∙ stands.none_due);
-          booted = λ before behind many at_it. none_here _ n many before behind at_it;
-          stands = after_it;
-          there = now.there;
-        })
-      where
-        none_here : (P : Type 0) (j many : ℕ) (before behind : List Entry) → [] ≡ before ++ (entry.Booted j many ∷ behind) → P
-        none_here P j many [] behind at_it = absurd (cc at_it)
-        none_here P j many (e ∷ before) behind at_it = absurd (cc at_it)
-    by_node (inr other) =
-        usual n t r (Arms k plan) (with_memory k (record (memory_at w k) { plan = Some plan }) w, [])
-        (ap (λ b. cond b (record r { memory = record r.memory { plan = Some plan } }) r) other) (λ z. rw other z)
-        (same_exact t r w (with_memory k (record (memory_at w k) { plan = Some plan }) w) []
-        (same_memory k n w (record (memory_at w k) { plan = Some plan }) (eqb-false k n other) there) tt stands)
+  arms_exact t r w k plan there stands = by_test (eqb k n)
+      (λ is. let same : k ≡ n = eqb-true k n is in
+      let armed : Memory = record (memory_at w n) { plan = Some plan } in
+      let now : IsNowAt n (with_memory n armed w) armed (node_at w n) = now_memory n w armed there in
+      let here : begun_by n (Arms n plan) r ≡ record r { memory = record r.memory { plan = Some plan } } =
+      ap (λ b. cond b (record r { memory = record r.memory { plan = Some plan } }) r) (eq-eqb n n refl) in
+      let after_it : StandsAt n (t ++ []) (begun_by n (Arms n plan) r) (with_memory n armed w) =
+      subst (λ x. StandsAt n (t ++ []) x (with_memory n armed w)) (sym here)
+      (stands_now (t ++ []) (record r { memory = record r.memory { plan = Some plan } }) (with_memory n armed w) armed (node_at w n) now
+      (armed_stands n t r (memory_at w n) plan (node_at w n) stands)) in
+      subst (λ j. GoesExactly n t r (Arms j plan) (with_memory j (record (memory_at w j) { plan = Some plan }) w, [])) (sym same) (record {
+        planned = (tt, ap (λ (x : Reckoning). x.due) here ∙ stands.none_due);
+        booted = λ before behind many at_it. by_list before
+            (λ q. rw q (absurd (cc (rw q at at_it))))
+            (λ e before q. rw q (absurd (cc (rw q at at_it))));
+        stands = after_it;
+        there = now.there;
+      }))
+      (λ other. usual n t r (Arms k plan) (with_memory k (record (memory_at w k) { plan = Some plan }) w, [])
+      (ap (λ b. cond b (record r { memory = record r.memory { plan = Some plan } }) r) other) (λ z. rw other z)
+      (same_exact t r w (with_memory k (record (memory_at w k) { plan = Some plan }) w) []
+      (same_memory k n w (record (memory_at w k) { plan = Some plan }) (eqb-false k n other) there) tt stands))
 
   -- ## Boots
 
@@ -287,22 +276,18 @@ module _ (hosts : List ℕ) (are : AreHosts hosts) (n : ℕ) where
     run_is e = rw e refl
 
   boots_other : (t : List Entry) (r : Reckoning) (w : NodeWorld) (k : ℕ) → (k ≡ n → ⊥) → IsThere w n → StandsAt n t r w → ExactAt n t r (boots w k)
-  boots_other t r w k other there stands = by_plan (cases_Bool (fails w k)) where
-    first : IsSameAt n w (written w k)
-    first = same_memory k n w (after_planned (boot_writes (memory w k).content) (memory w k)) other there
-
-    by_plan : (fails w k ≡ true) ⊎ (fails w k ≡ false) → ExactAt n t r (boots w k)
-    by_plan (inl e) =
-        subst (ExactAt n t r) (sym (cut_is w k e))
-        (same_exact t r w (loses_power_at k (written w k)) (entry.Cut k ∷ [])
-        (same_then n w (written w k) (loses_power_at k (written w k)) first (same_loses k n (written w k) other first.there))
-        (other_idles k n (entry.Cut k ∷ []) other (refl, tt)) stands)
-    by_plan (inr e) =
-        let many : ℕ = count_of (starts w k).core.journal in
-        subst (ExactAt n t r) (sym (run_is w k e))
-        (same_exact t r w (with_node k (starts w k) (written w k)) (entry.Booted k many ∷ [])
-        (same_then n w (written w k) (with_node k (starts w k) (written w k)) first (same_node k n (written w k) (starts w k) other first.there))
-        (other_idles k n (entry.Booted k many ∷ []) other (refl, tt)) stands)
+  boots_other t r w k other there stands = by_test (fails w k)
+      (λ e. subst (ExactAt n t r) (sym (cut_is w k e))
+      (same_exact t r w (loses_power_at k (written w k)) (entry.Cut k ∷ [])
+      (same_then n w (written w k) (loses_power_at k (written w k)) first (same_loses k n (written w k) other first.there))
+      (other_idles k n (entry.Cut k ∷ []) other (refl, tt)) stands))
+      (λ e. let many : ℕ = count_of (starts w k).core.journal in
+      subst (ExactAt n t r) (sym (run_is w k e))
+      (same_exact t r w (with_node k (starts w k) (written w k)) (entry.Booted k many ∷ [])
+      (same_then n w (written w k) (with_node k (starts w k) (written w k)) first (same_node k n (written w k) (starts w k) other first.there))
+      (other_idles k n (entry.Booted k many ∷ []) other (refl, tt)) stands)) where
+        first : IsSameAt n w (written w k)
+        first = same_memory k n w (after_planned (boot_writes (memory w k).content) (memory w k)) other there
 
   boots_own : (t : List Entry) (r : Reckoning) (w : NodeWorld) → length (commands_in t n) ≤ 2 ^ 32 - 1 → AllKeep hosts (t ++ (boots w n).1) (boots w n).0
       → IsThere w n → StandsAt n t r w → GoesExactly n t r (Boots n) (boots w n)
@@ -364,16 +349,13 @@ module _ (hosts : List ℕ) (are : AreHosts hosts) (n : ℕ) where
 
   boots_exact : (t : List Entry) (r : Reckoning) (w : NodeWorld) (k : ℕ) → length (commands_in t n) ≤ 2 ^ 32 - 1
       → AllKeep hosts (t ++ (boots w k).1) (boots w k).0 → IsThere w n → StandsAt n t r w → GoesExactly n t r (Boots k) (boots w k)
-  boots_exact t r w k few keep there stands = by_node (cases_Bool (eqb k n)) where
-    by_node : (eqb k n ≡ true) ⊎ (eqb k n ≡ false) → GoesExactly n t r (Boots k) (boots w k)
-    by_node (inl is) =
-        let same : k ≡ n = eqb-true k n is in
-        subst (λ j. GoesExactly n t r (Boots j) (boots w j)) (sym same)
-        (boots_own t r w few (subst (λ j. AllKeep hosts (t ++ (boots w j).1) (boots w j).0) same keep) there stands)
-    by_node (inr other) =
-        usual n t r (Boots k) (boots w k)
-        (ap (λ b. cond b (record r { memory = after_planned (boot_writes r.memory.content) r.memory }) r) other) (λ z. rw other z.0)
-        (boots_other t r w k (eqb-false k n other) there stands)
+  boots_exact t r w k few keep there stands = by_test (eqb k n)
+      (λ is. let same : k ≡ n = eqb-true k n is in
+      subst (λ j. GoesExactly n t r (Boots j) (boots w j)) (sym same)
+      (boots_own t r w few (subst (λ j. AllKeep hosts (t ++ (boots w j).1) (boots w j).0) same keep) there stands))
+      (λ other. usual n t r (Boots k) (boots w k)
+      (ap (λ b. cond b (record r { memory = after_planned (boot_writes r.memory.content) r.memory }) r) other) (λ z. rw other z.0)
+      (boots_other t r w k (eqb-false k n other) there stands))
 
   -- ## Whatever happens
 

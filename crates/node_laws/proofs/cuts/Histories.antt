@@ -1,5 +1,5 @@
 -- What is known of each node at each event of a history.
-use Rattle.std.proofs.Common.{◌≡◌, ◌⊎◌, inl, inr, ℕ, suc, ◌-◌, ◌^◌, ◌≤◌, ◌||◌, true, false, eqb, List, [], ◌∷◌, ◌++◌, length, map, sym, refl, ap, ◌∙◌, subst}
+use Rattle.std.proofs.Common.{◌≡◌, inl, inr, ℕ, suc, ◌-◌, ◌^◌, ◌≤◌, ◌||◌, true, false, eqb, List, [], ◌∷◌, ◌++◌, length, map, sym, refl, ap, ◌∙◌, subst}
 use Rattle.std.proofs.Common.{arith, append_assoc, append-nil, Bool, cond}
 use Rattle.std.specs.Option.{option_map_or}
 use Rattle.std.proofs.lemmas.List.Folds.{list_any-append}
@@ -13,7 +13,7 @@ use Rattle.hci_store.specs.Committing.{record_fits}
 use Rattle.journal_laws.specs.Operations.{format_writes}
 use Rattle.std.specs.Prelude.{Option, IsSome, Some, None, replicate}
 use Rattle.std.specs.List.{AllByRecursion, list_any, flat_map, fold}
-use Rattle.std.proofs.lemmas.Bool.{cond_both, cases_Bool, cond-true, cond-false, eqb-true, true≢false}
+use Rattle.std.proofs.lemmas.Bool.{cond_both, cond-true, cond-false, eqb-true, true≢false}
 use Rattle.std.proofs.lemmas.Grind.{flat_map-append}
 use Rattle.std.proofs.lemmas.List.Sums.{fold-append}
 use Rattle.trace_model.specs.declared.entry.Entry.{Entry}
@@ -65,15 +65,10 @@ begins n = record {
 site_in : (content : List ℕ) (hosts : List ℕ) (n : ℕ) → list_any (λ h. eqb h n) hosts ≡ true
     → (s : Site) × (site_at (map (new_site content) hosts) n ≡ Some s) × (s.memory ≡ new_memory content) × (s.node ≡ None)
 site_in content [] n is = absurd (true≢false (sym is))
-site_in content (h ∷ hosts) n is = by_host (cases_Bool (eqb h n)) (site_in content hosts n) where
-  by_host : (eqb h n ≡ true) ⊎ (eqb h n ≡ false)
-      → (list_any (λ k. eqb k n) hosts ≡ true → (s : Site) × (site_at (map (new_site content) hosts) n ≡ Some s)
-      × (s.memory ≡ new_memory content) × (s.node ≡ None))
-      → (s : Site) × (site_at (map (new_site content) (h ∷ hosts)) n ≡ Some s) × (s.memory ≡ new_memory content) × (s.node ≡ None)
-  by_host (inl same) later = (new_site content h, cond-true (eqb h n) _ _ same, refl, refl)
-  by_host (inr other) later =
-      let rest = later (sym (ap (λ b. b || list_any (λ k. eqb k n) hosts) other) ∙ is) in
-      (rest.0, cond-false (eqb h n) _ _ other ∙ rest.1, rest.2, rest.3)
+site_in content (h ∷ hosts) n is = by_test (eqb h n)
+    (λ same. (new_site content h, cond-true (eqb h n) _ _ same, refl, refl))
+    (λ other. let rest = site_in content hosts n (sym (ap (λ b. b || list_any (λ k. eqb k n) hosts) other) ∙ is) in
+    (rest.0, cond-false (eqb h n) _ _ other ∙ rest.1, rest.2, rest.3))
 
 -- a node of these hosts, as the world begins
 record Begins (n : ℕ) (w : NodeWorld) : Type 0 where
@@ -81,23 +76,19 @@ record Begins (n : ℕ) (w : NodeWorld) : Type 0 where
   stands : StandsAt n [] (reckoning_of false new_book (new_memory (replicate 65536 255))) w
 
 node_begins : (hosts : List ℕ) (n : ℕ) → IsNodeOf hosts n → Begins n (new_world hosts)
-node_begins hosts n is = by_number (cases_Bool (eqb n 0)) where
-  w : NodeWorld
-  w = new_world hosts
+node_begins hosts n is = by_test (eqb n 0)
+    (λ zero_is. subst (λ k. Begins k w) (sym (eqb-true n 0 zero_is)) (record { there = inl refl; stands = begins 0 }))
+    (λ off. let s = site_in (replicate 65536 255) hosts n (sym (ap (λ b. b || list_any (λ h. eqb h n) hosts) off) ∙ is) in
+    record {
+      there = inr (off, (s.0, s.1));
+      stands = subst (λ m. Stands n [] blank m (node_at w n)) (sym (memory_far w n s.0 off s.1 ∙ s.2))
+          (subst (Stands n [] blank (new_memory (replicate 65536 255))) (sym (node_far w n s.0 off s.1 ∙ s.3)) (begins n));
+    }) where
+      w : NodeWorld
+      w = new_world hosts
 
-  blank : Reckoning
-  blank = reckoning_of false new_book (new_memory (replicate 65536 255))
-
-  by_number : (eqb n 0 ≡ true) ⊎ (eqb n 0 ≡ false) → Begins n w
-  by_number (inl zero_is) =
-      subst (λ k. Begins k w) (sym (eqb-true n 0 zero_is)) (record { there = inl refl; stands = begins 0 })
-  by_number (inr off) =
-      let s = site_in (replicate 65536 255) hosts n (sym (ap (λ b. b || list_any (λ h. eqb h n) hosts) off) ∙ is) in
-      record {
-        there = inr (off, (s.0, s.1));
-        stands = subst (λ m. Stands n [] blank m (node_at w n)) (sym (memory_far w n s.0 off s.1 ∙ s.2))
-            (subst (Stands n [] blank (new_memory (replicate 65536 255))) (sym (node_far w n s.0 off s.1 ∙ s.3)) (begins n));
-      }
+      blank : Reckoning
+      blank = reckoning_of false new_book (new_memory (replicate 65536 255))
 
 -- ## Events
 

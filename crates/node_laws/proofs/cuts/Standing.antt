@@ -1,10 +1,10 @@
 -- What is known of a node by what is read of it, and what an event of one node leaves of that.
-use Rattle.std.proofs.Common.{◌≡◌, ◌⊎◌, inl, inr, ℕ, suc, ◌-◌, ◌^◌, ◌&&◌, ◌||◌, min, Bool, true, false, not, cond, List, [], ◌∷◌, ◌++◌, take, length, map, sym}
+use Rattle.std.proofs.Common.{◌≡◌, inl, inr, ℕ, suc, ◌-◌, ◌^◌, ◌&&◌, ◌||◌, min, Bool, true, false, not, cond, List, [], ◌∷◌, ◌++◌, take, length, map, sym}
 use Rattle.std.proofs.Common.{refl, ap, ◌∙◌, subst, arith, append_assoc, append-nil, length-append}
 use Rattle.std.specs.Prelude.{Option, Some, IsSome, is_some}
 use Rattle.std.specs.List.{AllByRecursion, fold, list_any}
 use Rattle.std.proofs.lemmas.List.Folds.{list_any-append}
-use Rattle.std.proofs.lemmas.Bool.{cases_Bool, ne_eqb, eq-eqb, true≢false}
+use Rattle.std.proofs.lemmas.Bool.{ne_eqb, eq-eqb, true≢false}
 use Rattle.std.proofs.Math.Seq.{take-append_seam, take-length}
 use mathlib.Core.Bool.{or-false}
 use Rattle.swp_base.specs.InMemory.{Memory}
@@ -26,6 +26,7 @@ use Rattle.node_laws.specs.kept.Gates.{opens_gate}
 use Rattle.node_laws.specs.kept.Reckonings.{Reckoning, reckoning_of, writes_of, with_written, reckoned, EachIsAsRead}
 use Rattle.node_laws.specs.kept.Finds.{BootFinds}
 use Rattle.node_laws.specs.kept.Books.{StillRuns, HasLostIn}
+use Rattle.node_laws.proofs.Cases.{by_test}
 use Rattle.node_laws.proofs.kept.Books.{book_more, closed_book}
 use Rattle.node_laws.proofs.kept.Commits.{finds_closed, used_of, planned_used}
 use Rattle.node_laws.proofs.kept.Doing.{GoesOn_or_lost}
@@ -278,31 +279,27 @@ module _ (n : ℕ) (links : List ℕ) (t : List Entry) (m : Memory) (q : Running
     lost_is b is = ap (λ x. x && not (opens_gate (length (writes_of c before_it)) before_it.memory.plan)) fails_read ∙ ap not is
 
     found : Found
-    found = by_gate (cases_Bool (opens_gate (length (writes_of c before_it)) before_it.memory.plan)) where
-      by_gate : (opens_gate (length (writes_of c before_it)) before_it.memory.plan ≡ true) ⊎ (opens_gate (length (writes_of c before_it))
-          before_it.memory.plan ≡ false) → Found
-      by_gate (inl opened) =
-          let all = step_opened n l.hosts m t c work l.ran l.may l.room cut (gate ∙ opened) in
-          let same : commands_in (t ++ (commit c work).entries) n ≡ before_it.book.commands ++ c ∷ [] =
-          ap (λ (x : Work). commands_in (t ++ x.entries) n) commits ∙ commands_are in (
-            length (before_it.book.commands ++ c ∷ []),
-            subst (λ b. FindsBy b (length (before_it.book.commands ++ c ∷ [])) (length (before_it.book.commands ++ c ∷ []))) (sym (lost_is true opened)) refl,
-            all_found left (before_it.book.commands ++ c ∷ [])
-                (subst (λ x. BootFinds x (after_commands no_tables (before_it.book.commands ++ c ∷ [])) (min (length (before_it.book.commands ++ c ∷ []))
-                (2 ^ 32 - 1))) left_is
-                (subst
-                (λ l2. BootFinds (after_planned (commit c work).writes m).content (after_commands no_tables l2) (min (length l2) (2 ^ 32 - 1))) same all)),
-          )
-      by_gate (inr closed) =
-          let less = step_closed n l.hosts m t c work l.ran l.may l.room cut (gate ∙ closed) in (
-            length before_it.book.commands,
-            subst (λ b. FindsBy b (length before_it.book.commands) (length (before_it.book.commands ++ c ∷ []))) (sym (lost_is false closed))
-                (one_more before_it.book.commands c),
-            less_found left before_it.book.commands c
-                (subst (λ x. BootFinds x (after_commands no_tables before_it.book.commands) (min (length before_it.book.commands) (2 ^ 32 - 1))) left_is
-                (subst (λ l2. BootFinds (after_planned (commit c work).writes m).content (after_commands no_tables l2) (min (length l2) (2 ^ 32 - 1)))
-                (sym commands_were) less)),
-          )
+    found = by_test (opens_gate (length (writes_of c before_it)) before_it.memory.plan)
+        (λ opened. let all = step_opened n l.hosts m t c work l.ran l.may l.room cut (gate ∙ opened) in
+        let same : commands_in (t ++ (commit c work).entries) n ≡ before_it.book.commands ++ c ∷ [] =
+        ap (λ (x : Work). commands_in (t ++ x.entries) n) commits ∙ commands_are in (
+          length (before_it.book.commands ++ c ∷ []),
+          subst (λ b. FindsBy b (length (before_it.book.commands ++ c ∷ [])) (length (before_it.book.commands ++ c ∷ []))) (sym (lost_is true opened)) refl,
+          all_found left (before_it.book.commands ++ c ∷ [])
+              (subst (λ x. BootFinds x (after_commands no_tables (before_it.book.commands ++ c ∷ [])) (min (length (before_it.book.commands ++ c ∷ []))
+              (2 ^ 32 - 1))) left_is
+              (subst
+              (λ l2. BootFinds (after_planned (commit c work).writes m).content (after_commands no_tables l2) (min (length l2) (2 ^ 32 - 1))) same all)),
+        ))
+        (λ closed. let less = step_closed n l.hosts m t c work l.ran l.may l.room cut (gate ∙ closed) in (
+          length before_it.book.commands,
+          subst (λ b. FindsBy b (length before_it.book.commands) (length (before_it.book.commands ++ c ∷ []))) (sym (lost_is false closed))
+              (one_more before_it.book.commands c),
+          less_found left before_it.book.commands c
+              (subst (λ x. BootFinds x (after_commands no_tables before_it.book.commands) (min (length before_it.book.commands) (2 ^ 32 - 1))) left_is
+              (subst (λ l2. BootFinds (after_planned (commit c work).writes m).content (after_commands no_tables l2) (min (length l2) (2 ^ 32 - 1)))
+              (sym commands_were) less)),
+        ))
 
     step_lost : (later : Option Running) → is_some later ≡ false → Exact n t start k.entries (after_planned k.writes m) later
     step_lost later off = record {

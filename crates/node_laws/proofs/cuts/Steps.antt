@@ -23,6 +23,7 @@ use Rattle.node_machine.specs.world.NodeFilters.{Book, book_in, commands_in}
 use Rattle.node_laws.specs.kept.Finds.{BootFinds, FindsRoom}
 use Rattle.node_laws.specs.kept.Books.{StillRuns}
 use Rattle.journal_laws.proofs.Planned.{plan_of_memory_after as plan_on}
+use Rattle.node_laws.proofs.Cases.{by_option, by_test}
 use Rattle.node_laws.proofs.kept.Commits.{finds_closed, commit_count}
 use Rattle.node_laws.proofs.kept.Books.{book_more, book_command, closed_command, closed_book}
 use Rattle.node_laws.specs.kept.Gates.{opens_gate}
@@ -84,12 +85,10 @@ module _ (n : ℕ) (hosts : List ℕ) (old : Memory) (before : List Entry) (c : 
   lost = loses_power writes (noting (entry.Command w.core.node c ∷ []) w)
 
   fails : fails_within (length writes) w.plan ≡ true
-  fails = by_plan (cases_Bool (fails_within (length writes) w.plan)) where
-    by_plan : (fails_within (length writes) w.plan ≡ true) ⊎ (fails_within (length writes) w.plan ≡ false) → fails_within (length writes) w.plan ≡ true
-    by_plan (inl fails) = fails
-    by_plan (inr none) =
-        let on : (commit c w).cut ≡ false = rw none r.on in
-        absurd (both_ways (commit c w).cut on cut)
+  fails = by_test (fails_within (length writes) w.plan)
+      (λ fails. fails)
+      (λ none. let on : (commit c w).cut ≡ false = rw none r.on in
+      absurd (both_ways (commit c w).cut on cut))
 
   is_lost : commit c w ≡ lost
   is_lost = rw fails refl
@@ -101,18 +100,15 @@ module _ (n : ℕ) (hosts : List ℕ) (old : Memory) (before : List Entry) (c : 
   memory_is = ap (λ (v : Work). (after_planned v.writes old).content) is_lost ∙ ap (λ (m : Memory). m.content) (r.written writes)
 
   pub plan_at : opens_gate (length (commit c w).writes) old.plan ≡ opens_gate (length writes) r.memory.plan
-  plan_at = ap (λ (v : Work). opens_gate (length v.writes) old.plan) is_lost ∙ by_plan r.memory.plan refl where
-    left_is : (after_planned w.writes old).plan ≡ r.memory.plan
-    left_is = ap (λ l. (after_planned l old).plan) (sym (append-nil w.writes)) ∙ ap (λ (m : Memory). m.plan) (r.written [])
-
-    by_plan : (o : Option Plan) → r.memory.plan ≡ o → opens_gate (length (w.writes ++ writes)) old.plan ≡ opens_gate (length writes) r.memory.plan
-    by_plan None is = absurd (true≢false (sym (sym (ap (fails_within (length writes)) is) ∙ now)))
-    by_plan (Some p) is =
-        let sides = and_parts (nat_le 1 p.nth) (nat_le p.nth (length writes)) (sym (ap (fails_within (length writes)) is) ∙ now) in
-        ap (opens_gate (length (w.writes ++ writes))) (plan_before w.writes old p (leb-true 1 p.nth sides.0) (left_is ∙ is))
-        ∙ ap (λ b. b && is_opened_gate (slice_index p.fill 0)) (same_last p.nth (length w.writes) (length writes) (length (w.writes ++ writes))
-        (length-append w.writes writes))
-        ∙ ap (opens_gate (length writes)) (sym is)
+  plan_at = ap (λ (v : Work). opens_gate (length v.writes) old.plan) is_lost ∙ by_option r.memory.plan
+      (λ is. absurd (true≢false (sym (sym (ap (fails_within (length writes)) is) ∙ now))))
+      (λ p is. let sides = and_parts (nat_le 1 p.nth) (nat_le p.nth (length writes)) (sym (ap (fails_within (length writes)) is) ∙ now) in
+      ap (opens_gate (length (w.writes ++ writes))) (plan_before w.writes old p (leb-true 1 p.nth sides.0) (left_is ∙ is))
+      ∙ ap (λ b. b && is_opened_gate (slice_index p.fill 0)) (same_last p.nth (length w.writes) (length writes) (length (w.writes ++ writes))
+      (length-append w.writes writes))
+      ∙ ap (opens_gate (length writes)) (sym is)) where
+        left_is : (after_planned w.writes old).plan ≡ r.memory.plan
+        left_is = ap (λ l. (after_planned l old).plan) (sym (append-nil w.writes)) ∙ ap (λ (m : Memory). m.plan) (r.written [])
 
   -- what is read then
   commands_are : commands_in (before ++ (commit c w).entries) n ≡ commands_in seen n ++ c ∷ []

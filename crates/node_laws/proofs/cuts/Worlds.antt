@@ -2,7 +2,7 @@
 use Rattle.std.proofs.Common.{◌≡◌, ◌⊎◌, inl, inr, ℕ, Bool, true, false, eqb, List, [], ◌∷◌, ◌++◌, map, sym, refl, ap, ◌∙◌, subst, arith}
 use Rattle.std.specs.Prelude.{Option, Some, None, is_some}
 use Rattle.std.specs.List.{AllByRecursion, flat_map}
-use Rattle.std.proofs.lemmas.Bool.{cases_Bool, eq-eqb, ne_eqb, eqb-true, eqb-false}
+use Rattle.std.proofs.lemmas.Bool.{eq-eqb, ne_eqb, eqb-true, eqb-false}
 use Rattle.swp_base.specs.InMemory.{Memory}
 use Rattle.trace_model.specs.Lines.{IsHost}
 use Rattle.trace_model.specs.declared.entry.Entry.{Entry}
@@ -22,7 +22,7 @@ use Rattle.node_machine.specs.Orders.{IsOnOrder}
 use Rattle.node_laws.specs.kept.Hosts.{AreHosts}
 use Rattle.node_laws.specs.kept.Worlds.{NodeKeeps, SiteKeeps, AllKeep}
 use Rattle.registry.proofs.ValueLemmas.{AllByRecursion-append as all_append}
-use Rattle.node_laws.proofs.Cases.{by_option}
+use Rattle.node_laws.proofs.Cases.{by_option, by_test}
 use Rattle.node_laws.proofs.kept.Plainly.{plain_entries, plain_flat}
 use Rattle.node_laws.proofs.kept.Doing.{GoesOn_or_lost}
 use Rattle.node_laws.proofs.kept.Standing.{runs_begun, told_ended}
@@ -72,12 +72,8 @@ exact_near t r v es a = record { exact = a; there = inl refl }
 pub with_here : (f : Site → Site) → ((s : Site) → (f s).host ≡ s.host) → (sites : List Site) (h : ℕ) (s : Site) → site_at sites h ≡ Some s
     → site_at (with_site h f sites) h ≡ Some (f s)
 with_here f same sites h s here =
-    site_map (λ (x : Site). changed_if (eqb x.host h) f x) (λ x. one x (eqb x.host h)) sites h s here
+    site_map (λ (x : Site). changed_if (eqb x.host h) f x) (λ x. by_test (eqb x.host h) (λ q. rw q (same x)) (λ q. rw q refl)) sites h s here
     ∙ ap Some (ap (λ b. changed_if b f s) (eq-eqb s.host h (site_host sites h s here)))
-  where
-    one : (x : Site) (b : Bool) → (changed_if b f x).host ≡ x.host
-    one x true = same x
-    one x false = refl
 
 pub with_there : (f : Site → Site) → ((s : Site) → (f s).host ≡ s.host) → (sites : List Site) (h n : ℕ) (s : Site) → eqb h n ≡ false
     → site_at sites n ≡ Some s → site_at (with_site h f sites) n ≡ Some s
@@ -197,29 +193,25 @@ host_run_exact n t r w h p a there stands = subst (ExactAt n t r) (sym a.is) (by
   es : List Entry
   es = a.work.entries ++ a.more
 
-  by_host : (eqb n 0 ≡ false) → (s : Site) → site_at w.sites n ≡ Some s → (eqb h n ≡ true) ⊎ (eqb h n ≡ false) → ExactAt n t r (v, es)
-  by_host off s here (inl is) =
-      let same : h ≡ n = eqb-true h n is in
-      let found : site_at w.sites n ≡ Some a.site = ap (site_at w.sites) (sym same) ∙ a.there in
-      let now : Stands n t r a.site.memory (Some a.running) = subst (Stands n t r a.site.memory) a.was (stands_far n t r w a.site off found stands) in
-      exact_far n t r v es (a.change a.site) off
-      (subst (λ k. site_at (with_site k a.change w.sites) n ≡ Some (a.change a.site)) (sym same) (with_here a.change a.host w.sites n a.site found))
-      (subst (λ m. Exact n t r es m (a.change a.site).node) (sym a.memory_is)
-      (subst (λ o. Exact n t r es (after_planned a.work.writes a.site.memory) o) (sym a.node_is)
-      (exact_step n (h ∷ []) t a.site.memory a.running r now a.work a.more
-      (subst (λ k. GoesOn_or_lost k (h ∷ []) a.site.memory t a.work) same a.fine) (plain_idles n a.more a.plain))))
-  by_host off s here (inr other) =
-      exact_far n t r v es s off (with_there a.change a.host w.sites h n s other here)
-      (exact_idle n t r es s.memory s.node (stands_far n t r w s off here stands)
-      (run_idles h n (h ∷ []) t a.site.memory a.work a.more a.fine a.plain (eqb-false h n other)))
-
   by_node : IsThere w n → ExactAt n t r (v, es)
   by_node (inl is) =
       subst (λ k. ExactAt k t r (v, es)) (sym is)
       (exact_near t r v es
       (exact_idle 0 t r es w.memory w.controller (subst (λ k. StandsAt k t r w) is stands)
       (run_idles h 0 (h ∷ []) t a.site.memory a.work a.more a.fine a.plain (not_host h a.is_host))))
-  by_node (inr far) = by_host far.0 far.1.0 far.1.1 (cases_Bool (eqb h n))
+  by_node (inr far) = by_test (eqb h n)
+      (λ is. let same : h ≡ n = eqb-true h n is in
+      let found : site_at w.sites n ≡ Some a.site = ap (site_at w.sites) (sym same) ∙ a.there in
+      let now : Stands n t r a.site.memory (Some a.running) = subst (Stands n t r a.site.memory) a.was (stands_far n t r w a.site far.0 found stands) in
+      exact_far n t r v es (a.change a.site) far.0
+      (subst (λ k. site_at (with_site k a.change w.sites) n ≡ Some (a.change a.site)) (sym same) (with_here a.change a.host w.sites n a.site found))
+      (subst (λ m. Exact n t r es m (a.change a.site).node) (sym a.memory_is)
+      (subst (λ o. Exact n t r es (after_planned a.work.writes a.site.memory) o) (sym a.node_is)
+      (exact_step n (h ∷ []) t a.site.memory a.running r now a.work a.more
+      (subst (λ k. GoesOn_or_lost k (h ∷ []) a.site.memory t a.work) same a.fine) (plain_idles n a.more a.plain)))))
+      (λ other. exact_far n t r v es far.1.0 far.0 (with_there a.change a.host w.sites h n far.1.0 other far.1.1)
+      (exact_idle n t r es far.1.0.memory far.1.0.node (stands_far n t r w far.1.0 far.0 far.1.1 stands)
+      (run_idles h n (h ∷ []) t a.site.memory a.work a.more a.fine a.plain (eqb-false h n other))))
 
 module _ (hosts : List ℕ) (are : AreHosts hosts) where
   -- what is there does something in a step of the controller

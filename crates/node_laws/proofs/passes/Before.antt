@@ -99,7 +99,9 @@ coming_none input w = coming_all IsNoTurn (λ h who n acked r. links_none h (tol
 pub before_none : (input : NodeInput) (w : Work) → AreNoTurns (noted_before_pass input w)
 before_none input w =
     all_append IsNoTurn (told_of_coming input w) (syncs ++ cond v.cut [] owing) (coming_none input w)
-    (all_append IsNoTurn syncs (cond v.cut [] owing) (synced_none w.core input w.ports (has_freed input w)) (go v.cut))
+    (all_append IsNoTurn syncs (cond v.cut [] owing) (synced_none w.core input w.ports (has_freed input w)) (by_test v.cut
+    (λ q. rw q tt)
+    (λ q. rw q (owed_none w.core (map (forgets (has_come_so input w).ports) (has_come_so input w).ports) v))))
   where
     v : Work
     v = has_synced input w
@@ -109,10 +111,6 @@ before_none input w =
 
     owing : List Entry
     owing = noted_by_deeds 0 (owed_in_step input w) v
-
-    go : (b : Bool) → AreNoTurns (cond b [] owing)
-    go true = tt
-    go false = owed_none w.core (map (forgets (has_come_so input w).ports) (has_come_so input w).ports) v
 
 -- ## Ends
 

@@ -39,21 +39,17 @@ map_sees f host got holds ports k ms b s = by_option (port_at ports k)
 -- the end with another number stays as it is
 pub other_stays : (j k : ℕ) (f : Port → Port) → ((p : Port) → (f p).desk.host ≡ p.desk.host) → (ports : List Port) → (j == k) ≡ false
     → port_at (with_port j f ports) k ≡ port_at ports k
-other_stays j k f host ports off = go (port_at ports k) refl
+other_stays j k f host ports off = by_option (port_at ports k)
+    (λ q. none_map g keeps ports k q ∙ sym q)
+    (λ p q. at_map g keeps ports k p q ∙ (ap (λ z. Some z) (by_test (p.desk.host == j)
+    (λ e. rw e (absurd (true≢false (sym (eq-eqb j k (sym (eqb-true p.desk.host j e) ∙ eqb-true p.desk.host k (at_host ports k p q))) ∙ off))))
+    (λ e. rw e refl)) ∙ sym q))
   where
     g : Port → Port
     g p = changed_if (p.desk.host == j) f p
 
     keeps : (p : Port) → (g p).desk.host ≡ p.desk.host
     keeps p = changed_host (p.desk.host == j) f p host
-
-    go : (o : Option Port) → port_at ports k ≡ o → port_at (map g ports) k ≡ port_at ports k
-    go None q = none_map g keeps ports k q ∙ sym q
-    go (Some p) q = at_map g keeps ports k p q ∙ (ap (λ z. Some z) (same (p.desk.host == j) refl) ∙ sym q)
-      where
-        same : (b : Bool) → (p.desk.host == j) ≡ b → changed_if b f p ≡ p
-        same true e = absurd (true≢false (sym (eq-eqb j k (sym (eqb-true p.desk.host j e) ∙ eqb-true p.desk.host k (at_host ports k p q))) ∙ off))
-        same false e = refl
 
 -- a turn that fetches no message leaves those that came
 unless_got : (o : Option Refused) (e f : LinkEnd) → f.got ≡ e.got → (unless o e f).got ≡ e.got

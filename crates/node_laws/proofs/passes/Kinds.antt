@@ -13,7 +13,7 @@ use Rattle.link_laws.specs.machine.Machine.Turn.{Give, SetAside}
 use Rattle.link_laws.specs.entries.Entries.{End as Side, sent_unless}
 use Rattle.history.specs.Steps.{end_of, entries_for}
 use Rattle.node_machine.specs.Parts.{Creation, Core, Port, Work, Deed}
-use Rattle.node_machine.specs.Parts.Deed.{Commits, Asks, Tells, Sends, Orders}
+use Rattle.node_machine.specs.Parts.Deed.{Commits, Asks, Tells}
 use Rattle.node_machine.specs.Controller.{is_command_message}
 use Rattle.node_machine.specs.Carrying.{own_side, port_at, noted_of, turn_at, end_of_node}
 use Rattle.node_machine.specs.Turns.{deeds_of}
@@ -21,6 +21,7 @@ use Rattle.node_machine.specs.Node.{NodeInput, all_owed, synced, forgotten}
 use Rattle.node_machine.specs.world.World.{sending, beginning}
 use Rattle.node_machine.proofs.Walks.{Plain, OfHost, any_of_controller, all_of_host, deeds_hold, all_owed_hold, all_synced_hold, forgotten_hold}
 use Rattle.node_laws.specs.passes.Noting.{goes_in, noted_by_deed}
+use Rattle.node_laws.proofs.Cases.{by_test}
 
 -- an entry of a kind that deeds note
 abbrev pub IsOfDeed : Entry → Type 0
@@ -105,10 +106,9 @@ module _ (P : Entry → Type 0) (of_deed : (x : Entry) → IsOfDeed x → P x) w
 
   -- what begins at a host
   pub sending_notes : (h : ℕ) (m : Message) → AllByRecursion (NotesOnly P) (sending h m)
-  sending_notes h m = go (eqb m.0 1 && is_command_message m.1) where
-    go : (b : Bool) → AllByRecursion (NotesOnly P) (cond b (Orders m.1 ∷ []) (Sends h m ∷ []))
-    go true = ((λ k w. given w.core (1, m.1) (port_at w.ports k)), tt)
-    go false = ((λ k w. given w.core m (port_at w.ports h)), tt)
+  sending_notes h m = by_test (eqb m.0 1 && is_command_message m.1)
+      (λ q. rw q (((λ k w. given w.core (1, m.1) (port_at w.ports k)), tt)))
+      (λ q. rw q (((λ k w. given w.core m (port_at w.ports h)), tt)))
 
   pub beginning_notes : (identity : List ℕ) (pipes : List (List ℕ)) → AllByRecursion (NotesOnly P) (beginning identity pipes)
   beginning_notes identity pipes = ((λ k w. tt), ((λ k w. given w.core (1, 3 ∷ []) (port_at w.ports k)), tt))

@@ -16,7 +16,7 @@ use Rattle.node_laws.specs.passes.Passing.{BeginWithTurn, AreAlong, links_of_tur
 use Rattle.node_laws.specs.passes.Passing.{ComesTo, IsTurnSo}
 use Rattle.node_laws.specs.passes.Passing.{ArePassed}
 use Rattle.node_laws.specs.passes.Passing.ComesTo.{Begins, Handles, Holds, LetsGo}
-use Rattle.node_laws.proofs.Cases.{by_test, by_option}
+use Rattle.node_laws.proofs.Cases.{by_list, by_option, by_test}
 use Rattle.node_laws.proofs.passes.Notes.{deeds_note}
 use Rattle.node_laws.proofs.passes.Ends.{HasFirst, has_first, own_changed, deeds_see, SeesAt, Sees}
 use Rattle.node_laws.proofs.passes.Turnless.{reply_none}
@@ -111,12 +111,11 @@ module _ (J : Work → Type 0) (lasts : LastsOverTurns J) where
     entries = sym (append-nil v.entries);
     keeps = λ on. absurd (true≢false (sym off ∙ on));
     begin = tt;
-    each = λ front back x e. none front back x e;
+    each = λ front back x e. by_list front
+        (λ q. rw q (absurd (cc (rw q at e))))
+        (λ z front q. rw q (absurd (cc (rw q at e))));
     along = tt;
-  } where
-    none : (front back : List Entry) (x : Entry) → [] ≡ front ++ (x ∷ back) → IsTurnSo J v front x back
-    none [] back x e = absurd (cc e)
-    none (z ∷ front) back x e = absurd (cc e)
+  }
 
   none_first : (w : Work) (more front back : List Entry) (x : Entry) → [] ≡ front ++ (x ∷ back) → IsTurnSo J w front x (back ++ more)
   none_first w more [] back x e = absurd (cc e)
@@ -210,12 +209,11 @@ module _ (J : Work → Type 0) (lasts : LastsOverTurns J) where
     entries = sym (append-nil w.entries);
     keeps = λ z. j;
     begin = tt;
-    each = λ front back x e. none front back x e;
+    each = λ front back x e. by_list front
+        (λ q. rw q (absurd (cc (rw q at e))))
+        (λ z front q. rw q (absurd (cc (rw q at e))));
     along = tt;
-  } where
-    none : (front back : List Entry) (x : Entry) → [] ≡ front ++ (x ∷ back) → IsTurnSo J w front x back
-    none [] back x e = absurd (cc e)
-    none (z ∷ front) back x e = absurd (cc e)
+  }
   through (h ∷ hosts) w j on = turning h hosts (λ v k still. through hosts v k still) (waiting_at w.ports h) w j on refl
 
 -- ## What turns make of a node

@@ -140,7 +140,18 @@ module _ (sessions : ℕ → Option ℕ) (h : ℕ) where
       → CountsCommands w.core.journal w.core.tables (Commits c ∷ deeds)
       → ((commit c w).cut ≡ false → CountsCommands (commit c w).core.journal (commit c w).core.tables deeds → Noted deeds (commit c w))
       → w.cut ≡ false → Noted (Commits c ∷ deeds) w
-  commits_so c deeds w counts later w_on = go (goes_in c w) refl
+  commits_so c deeds w counts later w_on = by_test (goes_in c w)
+      (λ q. let off : v.cut ≡ true = ap (λ (x : Work). x.cut) (lost q) in
+      rw (off, q) ([], c, rest, refl, refl))
+      (λ q. let on : v.cut ≡ false = ap (λ (x : Work). x.cut) (kept q) ∙ w_on in
+      let C : Work → Type 0 = λ x. CountsCommands x.core.journal x.core.tables deeds in
+      let N : ℕ → ℕ → Type 0 =
+      λ n k. IsReplyNoted (all_done h deeds v).cut n (noted_by_deeds h deeds v) (entries_of_reply n sessions h k deeds) in
+      let a : Noted deeds v = later on (subst C (sym (kept q)) counts.1) in
+      let node : v.core.node ≡ w.core.node = ap (λ (x : Work). x.core.node) (kept q) in
+      let many : count_of v.core.journal ≡ next_count (count_of w.core.journal) = ap (λ (x : Work). count_of x.core.journal) (kept q) ∙ counts.0 in
+      onward (Commits c) deeds w w.core.node (entry.Command w.core.node c ∷ []) rest on (rw q refl)
+      (subst (λ k. N w.core.node k) many (subst (λ n. N n (count_of v.core.journal)) node a)))
     where
       v : Work
       v = commit c w
@@ -159,21 +170,6 @@ module _ (sessions : ℕ → Option ℕ) (h : ℕ) where
 
       rest : List Entry
       rest = entries_of_reply w.core.node sessions h (next_count (count_of w.core.journal)) deeds
-
-      go : (b : Bool) → goes_in c w ≡ b → Noted (Commits c ∷ deeds) w
-      go true q =
-          let off : v.cut ≡ true = ap (λ (x : Work). x.cut) (lost q) in
-          rw (off, q) ([], c, rest, refl, refl)
-      go false q =
-          let on : v.cut ≡ false = ap (λ (x : Work). x.cut) (kept q) ∙ w_on in
-          let C : Work → Type 0 = λ x. CountsCommands x.core.journal x.core.tables deeds in
-          let N : ℕ → ℕ → Type 0 =
-          λ n k. IsReplyNoted (all_done h deeds v).cut n (noted_by_deeds h deeds v) (entries_of_reply n sessions h k deeds) in
-          let a : Noted deeds v = later on (subst C (sym (kept q)) counts.1) in
-          let node : v.core.node ≡ w.core.node = ap (λ (x : Work). x.core.node) (kept q) in
-          let many : count_of v.core.journal ≡ next_count (count_of w.core.journal) = ap (λ (x : Work). count_of x.core.journal) (kept q) ∙ counts.0 in
-          onward (Commits c) deeds w w.core.node (entry.Command w.core.node c ∷ []) rest on (rw q refl)
-          (subst (λ k. N w.core.node k) many (subst (λ n. N n (count_of v.core.journal)) node a))
 
   -- deeds, one after another
   pub noted_so : (deeds : List Deed) (w : Work) → w.cut ≡ false → ((k : ℕ) → session_of_port w.ports k ≡ sessions k) → AreTaken h deeds w

@@ -1,5 +1,5 @@
 -- Entries of one node, and lists in which nothing of a node stands behind its cut.
-use Rattle.std.proofs.Common.{◌≡◌, ℕ, ◌==◌, Bool, true, false, cond, List, [], ◌∷◌, ◌++◌, Option, Some, None, refl, ap, sym, subst, ◌∙◌, append_assoc}
+use Rattle.std.proofs.Common.{◌≡◌, ℕ, ◌==◌, Bool, false, cond, List, [], ◌∷◌, ◌++◌, Option, Some, None, refl, ap, sym, subst, ◌∙◌, append_assoc}
 use Rattle.std.proofs.Common.{append-nil}
 use Rattle.std.specs.List.{AllByRecursion}
 use Rattle.std.specs.Option.{option_map_or}
@@ -69,11 +69,9 @@ pub record IsPart (k : ℕ) (t : List Entry) : Type 0 where
   pub own : AreOwn k front
 
 pub part_own : (k : ℕ) (t : List Entry) → IsPart k t → AreOwn k t
-part_own k t p = subst (AreOwn k) (sym p.is) (all_append (IsOwn k) p.front (cond p.lost (entry.Cut k ∷ []) []) p.own (go p.lost))
-  where
-    go : (b : Bool) → AreOwn k (cond b (entry.Cut k ∷ []) [])
-    go true = (refl, tt)
-    go false = tt
+part_own k t p = subst (AreOwn k) (sym p.is) (all_append (IsOwn k) p.front (cond p.lost (entry.Cut k ∷ []) []) p.own (by_test p.lost
+    (λ q. rw q ((refl, tt)))
+    (λ q. rw q tt)))
 
 -- other nodes go on behind it
 pub over_part : (k : ℕ) (t es : List Entry) → IsPart k t → AreNotOf k es → AreOver es → AreOver (t ++ es)

@@ -135,13 +135,10 @@ module _ (k : ℕ) where
   either_mine false d a = tt
 
   synced_mine : (core : Core) (input : NodeInput) (p : Port) → AreMine (synced core input p)
-  synced_mine core input p = by_option (input_at input p) (λ q. rw q tt) (λ i q. by i (report p.side i).sync refl q)
-    where
-      by : (i : LinkInput) (o : Option ℕ) → (report p.side i).sync ≡ o → input_at input p ≡ Some i → AreMine (synced core input p)
-      by i None e q = rw (q, e) tt
-      by i (Some id) e q =
-          rw (q, e) (either_mine (not (is_kept_sync core.tables.syncs p.desk.host id) && finds_room core (Sync p.desk.host id))
-          (Commits (Sync p.desk.host id) ∷ []) (tt, tt))
+  synced_mine core input p = by_option (input_at input p) (λ q. rw q tt) (λ i q. by_option (report p.side i).sync
+      (λ e. rw (q, e) tt)
+      (λ id e. rw (q, e) (either_mine (not (is_kept_sync core.tables.syncs p.desk.host id) && finds_room core (Sync p.desk.host id))
+      (Commits (Sync p.desk.host id) ∷ []) (tt, tt))))
 
   -- ## A step
 

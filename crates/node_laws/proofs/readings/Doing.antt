@@ -219,42 +219,40 @@ module _ (h : ℕ) (host : IsHost h) (before : List Entry) (now : LinkState) whe
 
   -- a command is committed, or the power is cut
   commit_stands : (c : Command) (w : Work) → Runs w → Stands (commit c w)
-  commit_stands c w r = by_plan (cases_Bool (fails_within (length writes) w.plan)) where
-    writes : List Write
-    writes = commit_writes w.core.journal w.core.tables (body_of c)
+  commit_stands c w r = by_test (fails_within (length writes) w.plan)
+      (λ e. subst Stands (sym (lost_is e)) (inr record {
+        off = refl;
+        node = r.node;
+        port = r.port;
+        is = r.is;
+        its = r.its;
+        short = r.short;
+        order = read_more (noting (entry.Command w.core.node c ∷ []) w) (entry.Cut w.core.node ∷ []) w.core.command None begun.order
+            (cond-true (eqb w.core.node h) None w.core.command (eq-eqb w.core.node h r.node));
+      }))
+      (λ e. subst Stands (sym (kept_is e)) (inl record {
+        on = r.on;
+        node = r.node;
+        port = r.port;
+        is = r.is;
+        its = r.its;
+        phase = r.phase;
+        short = r.short;
+        order = begun.order;
+      })) where
+        writes : List Write
+        writes = commit_writes w.core.journal w.core.tables (body_of c)
 
-    begun : Runs (noting (entry.Command w.core.node c ∷ []) w)
-    begun = noting_runs w (entry.Command w.core.node c ∷ []) refl r
+        begun : Runs (noting (entry.Command w.core.node c ∷ []) w)
+        begun = noting_runs w (entry.Command w.core.node c ∷ []) refl r
 
-    lost_is : fails_within (length writes) w.plan ≡ true
-        → commit c w ≡ Rattle.node_machine.specs.Carrying.loses_power writes (noting (entry.Command w.core.node c ∷ []) w)
-    lost_is e = rw e refl
+        lost_is : fails_within (length writes) w.plan ≡ true
+            → commit c w ≡ Rattle.node_machine.specs.Carrying.loses_power writes (noting (entry.Command w.core.node c ∷ []) w)
+        lost_is e = rw e refl
 
-    kept_is : fails_within (length writes) w.plan ≡ false
-        → commit c w ≡ Rattle.node_machine.specs.Carrying.keeps c writes (noting (entry.Command w.core.node c ∷ []) w)
-    kept_is e = rw e refl
-
-    by_plan : (fails_within (length writes) w.plan ≡ true) ⊎ (fails_within (length writes) w.plan ≡ false) → Stands (commit c w)
-    by_plan (inl e) = subst Stands (sym (lost_is e)) (inr record {
-      off = refl;
-      node = r.node;
-      port = r.port;
-      is = r.is;
-      its = r.its;
-      short = r.short;
-      order = read_more (noting (entry.Command w.core.node c ∷ []) w) (entry.Cut w.core.node ∷ []) w.core.command None begun.order
-          (cond-true (eqb w.core.node h) None w.core.command (eq-eqb w.core.node h r.node));
-    })
-    by_plan (inr e) = subst Stands (sym (kept_is e)) (inl record {
-      on = r.on;
-      node = r.node;
-      port = r.port;
-      is = r.is;
-      its = r.its;
-      phase = r.phase;
-      short = r.short;
-      order = begun.order;
-    })
+        kept_is : fails_within (length writes) w.plan ≡ false
+            → commit c w ≡ Rattle.node_machine.specs.Carrying.keeps c writes (noting (entry.Command w.core.node c ∷ []) w)
+        kept_is e = rw e refl
 
   -- ## Deeds
 

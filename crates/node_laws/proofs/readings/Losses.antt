@@ -14,6 +14,7 @@ use Rattle.history.specs.Steps.{entries_for}
 use Rattle.node_machine.specs.Parts.{Desk, Running}
 use Rattle.node_machine.specs.Carrying.{changed_if}
 use Rattle.node_machine.specs.world.World.{NodeWorld, Site, with_site, link_to, counts, frame_lost}
+use Rattle.node_laws.proofs.Cases.{by_option, by_test}
 use Rattle.node_laws.proofs.kept.Sites.{hosts_with}
 use Rattle.node_laws.specs.readings.Worlds.{IfHostRuns, SiteReads, IfZero, AllRead}
 use Rattle.node_laws.specs.readings.Orders.{order_of}
@@ -83,10 +84,9 @@ module _ (hosts : List ℕ) (t : List Entry) (w : NodeWorld) (all : AllRead host
     site : (es : List Entry) (f : Site → Site) → ((k : ℕ) → AreSilent k es) → ((u : List Entry) (s : Site) → SiteReads u s → SiteReads u (f s))
         → AllByRecursion (SiteReads (t ++ es)) (with_site e.link f w.sites)
     site es f silent one = each_site t es (λ s. changed_if (eqb s.host e.link) f s)
-        (λ s k. by (eqb s.host e.link) s (others_read t es s s (silent s.host) refl refl refl k)) w.sites all.sites where
-          by : (b : Bool) (s : Site) → SiteReads (t ++ es) s → SiteReads (t ++ es) (changed_if b f s)
-          by true s k = one (t ++ es) s k
-          by false s k = k
+        (λ s k. by_test (eqb s.host e.link)
+        (λ q. rw q (one (t ++ es) s (others_read t es s s (silent s.host) refl refl refl k)))
+        (λ q. rw q ((others_read t es s s (silent s.host) refl refl refl k)))) w.sites all.sites
 
     by_side : (b : Bool) → e.at_host ≡ b → Fine (frame_lost w e why)
     by_side false b = subst Fine (sym (near_is b)) (record {
@@ -94,19 +94,22 @@ module _ (hosts : List ℕ) (t : List Entry) (w : NodeWorld) (all : AllRead host
       hosts_are = hosts_with e.link near (λ s. refl) w.sites ∙ all.hosts_are;
       sites = site (entries_for e.link (first_lost Controller why l.to_controller)) near
           (λ k. quiet_silent k e.link (first_lost Controller why l.to_controller) (lost_quiet Controller why l.to_controller))
-          (λ u s k. record { order = k.order; runs = kept s s.node k.runs });
-    }) where
-      kept : (s : Site) (o : Option Running) → IfHostRuns s.host s.link o → IfHostRuns s.host (happens s.link (AtController (Lose why))) o
-      kept s None so = tt
-      kept s (Some r) so = record {
-        number = so.number;
-        desk = so.desk;
-        desks_are = so.desks_are;
-        host = so.host;
-        no_notice = so.no_notice;
-        short = so.short;
-        up = so.up;
-      }
+          (λ u s k. record {
+            order = k.order;
+            runs = by_option s.node
+                (λ q. rw q tt)
+                (λ r q. rw q (let so = rw q at k.runs in
+                record {
+                  number = so.number;
+                  desk = so.desk;
+                  desks_are = so.desks_are;
+                  host = so.host;
+                  no_notice = so.no_notice;
+                  short = so.short;
+                  up = so.up;
+                }));
+          });
+    })
     by_side true b = subst Fine (sym (far_is b)) (record {
       controller = all.controller;
       hosts_are = hosts_with e.link far (λ s. refl) w.sites ∙ all.hosts_are;
@@ -115,17 +118,17 @@ module _ (hosts : List ℕ) (t : List Entry) (w : NodeWorld) (all : AllRead host
           (λ u s k. record {
             order = k.order ∙ sym (order_counts why e.link s.node);
             runs = runs_counts why e.link s.host (far s).link s.node
-                (kept s s.node k.runs);
+                (by_option s.node
+                (λ q. rw q tt)
+                (λ r q. rw q (let so = rw q at k.runs in
+                record {
+                  number = so.number;
+                  desk = so.desk;
+                  desks_are = so.desks_are;
+                  host = so.host;
+                  no_notice = so.no_notice;
+                  short = so.short;
+                  up = so.up;
+                })));
           });
-    }) where
-      kept : (s : Site) (o : Option Running) → IfHostRuns s.host s.link o → IfHostRuns s.host (happens s.link (AtHost (Lose why))) o
-      kept s None so = tt
-      kept s (Some r) so = record {
-        number = so.number;
-        desk = so.desk;
-        desks_are = so.desks_are;
-        host = so.host;
-        no_notice = so.no_notice;
-        short = so.short;
-        up = so.up;
-      }
+    })

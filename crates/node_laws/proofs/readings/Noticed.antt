@@ -1,9 +1,9 @@
 -- An end of a controller after a step, where it has a notice that isn't answered.
-use Rattle.std.proofs.Common.{◌≡◌, ◌⊎◌, inl, inr, ℕ, ◌&&◌, Bool, true, false, not, cond, eqb, List, [], ◌∷◌, map, sym, refl, ap, ◌∙◌, subst}
+use Rattle.std.proofs.Common.{◌≡◌, ℕ, ◌&&◌, Bool, true, false, not, cond, eqb, List, [], ◌∷◌, map, sym, refl, ap, ◌∙◌, subst}
 use Rattle.std.specs.Prelude.{Option, Some, None, is_some, nat_le}
 use Rattle.std.specs.List.{flat_map}
 use Rattle.std.specs.Option.{option_map, option_map_or}
-use Rattle.std.proofs.lemmas.Bool.{true≢false, eqb-true, cases_Bool}
+use Rattle.std.proofs.lemmas.Bool.{true≢false, eqb-true}
 use Rattle.swp_base.specs.InMemory.{Plan}
 use Rattle.trace_model.specs.declared.entry.Entry.{Entry}
 use Rattle.link_laws.specs.sessions.Sessions.{is_up}
@@ -22,6 +22,7 @@ use Rattle.node_machine.specs.Node.{without_notice, after_sessions, synced, step
 use Rattle.node_machine.specs.Node.NodeInput.{AtEnd, TimePasses}
 use Rattle.node_machine.specs.world.World.{port_for, work_of, is_late_at, ticked_so}
 use Rattle.node_laws.specs.links.Notices.{IsComing, IsOutside, IsNoticedUp, IsBegun, OnFirst}
+use Rattle.node_laws.proofs.Cases.{by_option, by_test}
 use Rattle.node_laws.proofs.links.Staying.{stays_up}
 use Rattle.node_laws.proofs.links.Noticing.{up_at, UpAt, at_all, at_host, links_after, Sure, steps_sure}
 use Rattle.node_laws.proofs.telling.Mute.{forgotten_mute, all_owed_mute, all_synced_mute}
@@ -73,22 +74,17 @@ module _ (r : Running) (plan : Option Plan) (near_ends : ℕ → NumberedEnd) (e
 
   pub is_start : (desks : List Desk) (x : ℕ) (q : Port) → port_at (starts desks) x ≡ Some q → IsStart x q
   is_start [] x q e = absurd (cc e)
-  is_start (d ∷ desks) x q e = go (cases_Bool (eqb d.host x)) (is_start desks x q) where
-    go : (eqb d.host x ≡ true) ⊎ (eqb d.host x ≡ false) → (port_at (starts desks) x ≡ Some q → IsStart x q) → IsStart x q
-    go (inl is) later =
-        let found : Some (port_for (near_ends d.host) d) ≡ Some q = rw is at e in
-        let same : port_for (near_ends d.host) d ≡ q = cc in
-        subst (IsStart x) same (record { side = ap (λ n. (near_ends n).side) (eqb-true d.host x is); late = refl })
-    go (inr off) later = later (rw off at e)
+  is_start (d ∷ desks) x q e = by_test (eqb d.host x)
+      (λ is. let found : Some (port_for (near_ends d.host) d) ≡ Some q = rw is at e in
+      let same : port_for (near_ends d.host) d ≡ q = cc in
+      subst (IsStart x) same (record { side = ap (λ n. (near_ends n).side) (eqb-true d.host x is); late = refl }))
+      (λ off. is_start desks x q (rw off at e))
 
   begun_first : (desks : List Desk) (x : ℕ) → OnFirst IsNoticedUp (port_at (starts desks) x) → OnFirst IsBegun (port_at (starts desks) x)
   begun_first [] x a = tt
-  begun_first (d ∷ desks) x a = go (cases_Bool (eqb d.host x)) (begun_first desks x) where
-    go : (eqb d.host x ≡ true) ⊎ (eqb d.host x ≡ false)
-        → (OnFirst IsNoticedUp (port_at (starts desks) x) → OnFirst IsBegun (port_at (starts desks) x))
-        → OnFirst IsBegun (port_at (starts (d ∷ desks)) x)
-    go (inl is) later = let b : IsNoticedUp (port_for (near_ends d.host) d) = rw is at a in rw is (record { up = b; late = refl; ended = refl })
-    go (inr off) later = rw off (later (rw off at a))
+  begun_first (d ∷ desks) x a = by_test (eqb d.host x)
+      (λ is. let b : IsNoticedUp (port_for (near_ends d.host) d) = rw is at a in rw is (record { up = b; late = refl; ended = refl }))
+      (λ off. rw off (begun_first desks x (rw off at a)))
 
   -- ## Over a step
 
@@ -107,11 +103,9 @@ module _ (r : Running) (plan : Option Plan) (near_ends : ℕ → NumberedEnd) (e
     left_link ports x =
         ap up_at (at_all (map (forgets came) ports) x without_notice without_host ∙ ap (option_map without_notice) (at_all ports x (forgets came)
         (forgets_host came)))
-        ∙ go (port_at ports x)
-      where
-        go : (o : Option Port) → up_at (option_map without_notice (option_map (forgets came) o)) ≡ up_at o
-        go None = refl
-        go (Some p) = ap (λ (e : LinkEnd). is_up e.shdlc.phase) ((without_same (forgets came p)).side ∙ (forgets_same came p).side)
+        ∙ by_option (port_at ports x)
+        (λ q. rw q refl)
+        (λ p q. rw q (ap (λ (e : LinkEnd). is_up e.shdlc.phase) ((without_same (forgets came p)).side ∙ (forgets_same came p).side)))
 
     -- an end that has a notice after the step was up once something had come
     pub came_up : (x : ℕ) (p : Port) → port_at k.ports x ≡ Some p → is_some p.desk.notice ≡ true → up_at (port_at came x) ≡ true
@@ -125,10 +119,9 @@ module _ (r : Running) (plan : Option Plan) (near_ends : ℕ → NumberedEnd) (e
 
     late_map : (g : Port → Port) → ((p : Port) → (g p).desk.host ≡ p.desk.host) → ((p : Port) → (g p).late ≡ p.late) → (ports : List Port) (x : ℕ)
         → late_of (map g ports) x ≡ late_of ports x
-    late_map g host late ports x = ap (λ o. option_map_or (λ (p : Port). p.late) o false) (at_all ports x g host) ∙ go (port_at ports x) where
-      go : (o : Option Port) → option_map_or (λ (p : Port). p.late) (option_map g o) false ≡ option_map_or (λ (p : Port). p.late) o false
-      go None = refl
-      go (Some p) = late p
+    late_map g host late ports x = ap (λ o. option_map_or (λ (p : Port). p.late) o false) (at_all ports x g host) ∙ by_option (port_at ports x)
+        (λ q. rw q refl)
+        (λ p q. rw q (late p))
 
     changed_late : (b : Bool) (g : Port → Port) (p : Port) → ((q : Port) → (g q).late ≡ q.late) → (changed_if b g p).late ≡ p.late
     changed_late true g p same = same p
@@ -247,16 +240,13 @@ module _ (r : Running) (plan : Option Plan) (near_ends : ℕ → NumberedEnd) (e
     was_up x is = go (port_at (starts r.desks) x) refl where
       go : (o : Option Port) → port_at (starts r.desks) x ≡ o → (near_ends x).side.shdlc.phase ≡ Up
       go None e = absurd (true≢false (sym is ∙ (late_at x ∙ ap LateOf e)))
-      go (Some q) e = ap (λ (s : LinkEnd). s.shdlc.phase) (sym (is_start r.desks x q e).side) ∙ by_late (cases_Bool (is_late (with_older (come_tick q))))
+      go (Some q) e = ap (λ (s : LinkEnd). s.shdlc.phase) (sym (is_start r.desks x q e).side) ∙ by_test (is_late (with_older (come_tick q)))
+          (λ z. late_up x q e z)
+          (λ off. let was : q.late ≡ true = rw off at late_q in
+          absurd (true≢false (sym was ∙ (is_start r.desks x q e).late)))
         where
           late_q : (reset_late (with_older (come_tick q))).late ≡ true
           late_q = sym (late_at x ∙ ap LateOf e) ∙ is
-
-          by_late : (is_late (with_older (come_tick q)) ≡ true) ⊎ (is_late (with_older (come_tick q)) ≡ false) → q.side.shdlc.phase ≡ Up
-          by_late (inl z) = late_up x q e z
-          by_late (inr off) =
-              let was : q.late ≡ true = rw off at late_q in
-              absurd (true≢false (sym was ∙ (is_start r.desks x q e).late))
 
     pub tick_up : (x : ℕ) (p : Port) (l : Link) (ts : List Turn) → port_at (steps TimePasses begun).ports x ≡ Some p
         → is_some p.desk.notice ≡ true → l.controller.side ≡ (near_ends x).side
@@ -280,20 +270,28 @@ module _ (r : Running) (plan : Option Plan) (near_ends : ℕ → NumberedEnd) (e
 
       too_late : (q : Port) → q.side ≡ l.controller.side → q.side.shdlc.phase ≡ Up → (after_input q.side Tick).shdlc.phase ≡ Up
           → is_up (after_input (after_input q.side Tick) (Reset None)).shdlc.phase ≡ true → Goal true
-      too_late q same was is after = by_role (cases_Bool (is_open q.side.role)) where
-        by_role : (is_open q.side.role ≡ true) ⊎ (is_open q.side.role ≡ false) → Goal true
-        by_role (inl opened) =
-            let still : is_open (after_input q.side Tick).role ≡ true = ap is_open (open_role q.side opened) ∙ opened in
-            absurd (true≢false (sym after ∙ reset_waits (after_input q.side Tick) still is))
-        by_role (inr closed) =
-            reset_is (ap (λ (e : LinkEnd). e.shdlc.phase) (sym same) ∙ was)
-            (ap (λ (e : LinkEnd). is_up (after_input e (Reset None)).shdlc.phase) (sym same)
-            ∙ (ap (λ (e : LinkEnd). is_up e.shdlc.phase) (reset_refused q.side closed) ∙ ap is_up was))
+      too_late q same was is after = by_test (is_open q.side.role)
+          (λ opened. let still : is_open (after_input q.side Tick).role ≡ true = ap is_open (open_role q.side opened) ∙ opened in
+          absurd (true≢false (sym after ∙ reset_waits (after_input q.side Tick) still is)))
+          (λ closed. reset_is (ap (λ (e : LinkEnd). e.shdlc.phase) (sym same) ∙ was)
+          (ap (λ (e : LinkEnd). is_up (after_input e (Reset None)).shdlc.phase) (sym same)
+          ∙ (ap (λ (e : LinkEnd). is_up e.shdlc.phase) (reset_refused q.side closed) ∙ ap is_up was)))
 
       go : (o : Option Port) → port_at (starts r.desks) x ≡ o
           → CameUp x (ticked_so l (is_late_at (steps TimePasses begun) x) ts GoesOut).controller.side.shdlc.phase
       go None e = absurd (true≢false (sym up ∙ ap (λ o. up_at (option_map reset_late (option_map with_older (option_map come_tick o)))) e))
-      go (Some q) e = record { start = q; here = e; up = subst Goal (sym late_q) (by_late (cases_Bool (is_late (with_older (come_tick q))))) } where
+      go (Some q) e = record {
+        start = q;
+        here = e;
+        up = subst Goal (sym late_q) (by_test (is_late (with_older (come_tick q)))
+            (λ is. let parts = both _ old.ended is in
+            let was : q.side.shdlc.phase ≡ Up = late_up x q e is in
+            let now : (after_input q.side Tick).shdlc.phase ≡ Up = stays_up q.side Tick tt was parts.1 in
+            let after : is_up (after_input (after_input q.side Tick) (Reset None)).shdlc.phase ≡ true = rw is at up_q in
+            rw is (too_late q same was now after))
+            (λ off. let after : is_up (after_input q.side Tick).shdlc.phase ≡ true = rw off at up_q in
+            rw off (subst Goal (sym (is_start r.desks x q e).late) (in_time q same after))));
+      } where
         old : Port
         old = with_older (come_tick q)
 
@@ -305,14 +303,3 @@ module _ (r : Running) (plan : Option Plan) (near_ends : ℕ → NumberedEnd) (e
 
         up_q : is_up (reset_late old).side.shdlc.phase ≡ true
         up_q = sym (ap (λ o. up_at (option_map reset_late (option_map with_older (option_map come_tick o)))) e) ∙ up
-
-        by_late : (is_late old ≡ true) ⊎ (is_late old ≡ false) → Goal (reset_late old).late
-        by_late (inl is) =
-            let parts = both _ old.ended is in
-            let was : q.side.shdlc.phase ≡ Up = late_up x q e is in
-            let now : (after_input q.side Tick).shdlc.phase ≡ Up = stays_up q.side Tick tt was parts.1 in
-            let after : is_up (after_input (after_input q.side Tick) (Reset None)).shdlc.phase ≡ true = rw is at up_q in
-            rw is (too_late q same was now after)
-        by_late (inr off) =
-            let after : is_up (after_input q.side Tick).shdlc.phase ≡ true = rw off at up_q in
-            rw off (subst Goal (sym (is_start r.desks x q e).late) (in_time q same after))

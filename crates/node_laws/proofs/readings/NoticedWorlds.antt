@@ -60,15 +60,11 @@ use Rattle.node_machine.proofs.world.Cases.{by_memory, by_running, by_power, boo
 same_sides : (g h : ℕ → NumberedEnd) → ((n : ℕ) → (h n).side ≡ (g n).side) → (desks : List Desk) (x : ℕ) → OnFirst IsNoticedUp (port_at (ports_for g desks) x)
     → OnFirst IsNoticedUp (port_at (ports_for h desks) x)
 same_sides g h same [] x a = tt
-same_sides g h same (d ∷ desks) x a = go (cases_Bool (eqb d.host x)) (same_sides g h same desks x) where
-  go : (eqb d.host x ≡ true) ⊎ (eqb d.host x ≡ false)
-      → (OnFirst IsNoticedUp (port_at (ports_for g desks) x) → OnFirst IsNoticedUp (port_at (ports_for h desks) x))
-      → OnFirst IsNoticedUp (port_at (ports_for h (d ∷ desks)) x)
-  go (inl is) later =
-      let b : IsNoticedUp (port_for (g d.host) d) = rw is at a in
-      let c : IsNoticedUp (port_for (h d.host) d) = λ some. ap (λ (e : LinkEnd). e.shdlc.phase) (same d.host) ∙ b some in
-      rw is c
-  go (inr off) later = rw off (later (rw off at a))
+same_sides g h same (d ∷ desks) x a = by_test (eqb d.host x)
+    (λ is. let b : IsNoticedUp (port_for (g d.host) d) = rw is at a in
+    let c : IsNoticedUp (port_for (h d.host) d) = λ some. ap (λ (e : LinkEnd). e.shdlc.phase) (same d.host) ∙ b some in
+    rw is c)
+    (λ off. rw off (same_sides g h same desks x (rw off at a)))
 
 -- where the links of a controller have the same ends, it has its notices as before
 kept : (v w : List Site) (o : Option Running) → ((n : ℕ) → (link_to v n).controller.side ≡ (link_to w n).controller.side) → IfNoticedUp w o → IfNoticedUp v o
@@ -78,36 +74,26 @@ kept v w (Some r) same a = λ x. same_sides (λ n. (link_to w n).controller) (λ
 -- a controller that boots has none
 none_noticed : (near_ends : ℕ → NumberedEnd) (hosts : List ℕ) (x : ℕ) → OnFirst IsNoticedUp (port_at (ports_for near_ends (map new_desk hosts)) x)
 none_noticed near_ends [] x = tt
-none_noticed near_ends (h ∷ hosts) x = go (cases_Bool (eqb h x)) (none_noticed near_ends hosts x) where
-  go : (eqb h x ≡ true) ⊎ (eqb h x ≡ false) → OnFirst IsNoticedUp (port_at (ports_for near_ends (map new_desk hosts)) x)
-      → OnFirst IsNoticedUp (port_at (ports_for near_ends (map new_desk (h ∷ hosts))) x)
-  go (inl is) later =
-      let b : IsNoticedUp (port_for (near_ends h) (new_desk h)) = λ some. absurd (true≢false (sym some)) in
-      rw is b
-  go (inr off) later = rw off later
+none_noticed near_ends (h ∷ hosts) x = by_test (eqb h x)
+    (λ is. let b : IsNoticedUp (port_for (near_ends h) (new_desk h)) = λ some. absurd (true≢false (sym some)) in
+    rw is b)
+    (λ off. rw off (none_noticed near_ends hosts x))
 
 -- ## Links
 
 pub side_map : (f : Site → Site) → ((s : Site) → (f s).host ≡ s.host) → ((s : Site) → (f s).link.controller.side ≡ s.link.controller.side)
     → (sites : List Site) (n : ℕ) → (link_to (map f sites) n).controller.side ≡ (link_to sites n).controller.side
 side_map f host side [] n = refl
-side_map f host side (s ∷ sites) n = go (cases_Bool (eqb s.host n)) (side_map f host side sites n) where
-  go : (eqb s.host n ≡ true) ⊎ (eqb s.host n ≡ false) → (link_to (map f sites) n).controller.side ≡ (link_to sites n).controller.side
-      → (link_to (map f (s ∷ sites)) n).controller.side ≡ (link_to (s ∷ sites) n).controller.side
-  go (inl is) later = let here : eqb (f s).host n ≡ true = ap (λ k. eqb k n) (host s) ∙ is in rw (is, here) (side s)
-  go (inr off) later = let there : eqb (f s).host n ≡ false = ap (λ k. eqb k n) (host s) ∙ off in rw (off, there) later
+side_map f host side (s ∷ sites) n = by_test (eqb s.host n)
+    (λ is. let here : eqb (f s).host n ≡ true = ap (λ k. eqb k n) (host s) ∙ is in rw (is, here) (side s))
+    (λ off. let there : eqb (f s).host n ≡ false = ap (λ k. eqb k n) (host s) ∙ off in rw (off, there) (side_map f host side sites n))
 
 pub side_with : (h : ℕ) (f : Site → Site) → ((s : Site) → (f s).host ≡ s.host) → ((s : Site) → (f s).link.controller.side ≡ s.link.controller.side)
     → (sites : List Site) (n : ℕ) → (link_to (with_site h f sites) n).controller.side ≡ (link_to sites n).controller.side
 side_with h f host side sites n =
-    side_map (λ (s : Site). changed_if (eqb s.host h) f s) (λ s. hosts (eqb s.host h) s) (λ s. sides (eqb s.host h) s) sites n where
-      hosts : (b : Bool) (s : Site) → (changed_if b f s).host ≡ s.host
-      hosts true s = host s
-      hosts false s = refl
-
-      sides : (b : Bool) (s : Site) → (changed_if b f s).link.controller.side ≡ s.link.controller.side
-      sides true s = side s
-      sides false s = refl
+    side_map (λ (s : Site). changed_if (eqb s.host h) f s) (λ s. by_test (eqb s.host h) (λ q. rw q (host s)) (λ q. rw q refl)) (λ s. by_test (eqb s.host h)
+    (λ q. rw q (side s))
+    (λ q. rw q refl)) sites n
 
 -- what happens at the host's end leaves the controller's
 pub far_side : (l : Link) (e : EndEvent) → (happens l (AtHost e)).controller.side ≡ l.controller.side
@@ -131,7 +117,9 @@ runs_up : (sites : List Site) (k : Work)
     → IfNoticedUp sites (runs_on k)
 runs_up sites k ups = by_test k.cut
     (λ z. subst (IfNoticedUp sites) (sym (off_is z)) tt)
-    (λ z. subst (IfNoticedUp sites) (sym (on_is z)) (λ x. subst (OnFirst IsNoticedUp) (sym (at_is x)) (one x z (port_at k.ports x) refl))) where
+    (λ z. subst (IfNoticedUp sites) (sym (on_is z)) (λ x. subst (OnFirst IsNoticedUp) (sym (at_is x)) (by_option (port_at k.ports x)
+    (λ e. rw e tt)
+    (λ p e. rw e (λ some. ap (λ n. (link_to sites n).controller.side.shdlc.phase) (at_host k.ports x p e) ∙ ups x p z e some))))) where
       g : Desk → Port
       g d = port_for (link_to sites d.host).controller d
 
@@ -144,10 +132,6 @@ runs_up sites k ups = by_test k.cut
       at_is : (x : ℕ) → port_at (map g (map (λ (p : Port). p.desk) k.ports)) x ≡ option_map (λ (p : Port). g p.desk) (port_at k.ports x)
       at_is x = ap (λ l. port_at l x) (desks_map g k.ports) ∙ at_all k.ports x (λ (p : Port). g p.desk) (λ q. refl)
 
-      one : (x : ℕ) → k.cut ≡ false → (o : Option Port) → port_at k.ports x ≡ o → OnFirst IsNoticedUp (option_map (λ (p : Port). g p.desk) o)
-      one x z None e = tt
-      one x z (Some p) e = λ some. ap (λ n. (link_to sites n).controller.side.shdlc.phase) (at_host k.ports x p e) ∙ ups x p z e some
-
 -- a controller has ends only on links with hosts
 record HasSite (sites : List Site) (x : ℕ) : Type 0 where
   pub site : Site
@@ -157,20 +141,16 @@ site_there : (near_ends : ℕ → NumberedEnd) (desks : List Desk) (sites : List
     → port_at (ports_for near_ends desks) x ≡ Some q → HasSite sites x
 site_there near_ends [] sites x q e here = absurd (cc here)
 site_there near_ends (d ∷ desks) [] x q e here = absurd (cc e)
-site_there near_ends (d ∷ desks) (s ∷ sites) x q e here = go (cases_Bool (eqb s.host x)) (site_there near_ends desks sites x q) where
-  one : d.host ≡ s.host
-  one = cc
+site_there near_ends (d ∷ desks) (s ∷ sites) x q e here = by_test (eqb s.host x)
+    (λ is. record { site = s; there = rw is refl })
+    (λ off. let passed : eqb d.host x ≡ false = ap (λ n. eqb n x) one ∙ off in
+    let found_it : HasSite sites x = site_there near_ends desks sites x q others (rw passed at here) in
+    record { site = found_it.site; there = rw off found_it.there }) where
+      one : d.host ≡ s.host
+      one = cc
 
-  others : map (λ (c : Desk). c.host) desks ≡ hosts_in sites
-  others = cc
-
-  go : (eqb s.host x ≡ true) ⊎ (eqb s.host x ≡ false)
-      → (map (λ (c : Desk). c.host) desks ≡ hosts_in sites → port_at (ports_for near_ends desks) x ≡ Some q → HasSite sites x) → HasSite (s ∷ sites) x
-  go (inl is) later = record { site = s; there = rw is refl }
-  go (inr off) later =
-      let passed : eqb d.host x ≡ false = ap (λ n. eqb n x) one ∙ off in
-      let found_it : HasSite sites x = later others (rw passed at here) in
-      record { site = found_it.site; there = rw off found_it.there }
+      others : map (λ (c : Desk). c.host) desks ≡ hosts_in sites
+      others = cc
 
 ending_is : (k : Work) → k.cut ≡ false → ending_of k ≡ GoesOut
 ending_is k z = rw z refl
@@ -413,11 +393,9 @@ host_tick_side s = by_option s.node (λ e. rw e (far_tick s.link [] GoesOut)) (�
 
 pub hosts_tick_side : (sites : List Site) (n : ℕ) → (link_to (hosts_tick sites).0 n).controller.side ≡ (link_to sites n).controller.side
 hosts_tick_side [] n = refl
-hosts_tick_side (s ∷ sites) n = go (cases_Bool (eqb s.host n)) (hosts_tick_side sites n) where
-  go : (eqb s.host n ≡ true) ⊎ (eqb s.host n ≡ false) → (link_to (hosts_tick sites).0 n).controller.side ≡ (link_to sites n).controller.side
-      → (link_to (hosts_tick (s ∷ sites)).0 n).controller.side ≡ (link_to (s ∷ sites) n).controller.side
-  go (inl is) later = let here : eqb (host_ticks s).0.host n ≡ true = ap (λ k. eqb k n) (ticked_number s) ∙ is in rw (is, here) (host_tick_side s)
-  go (inr off) later = let there : eqb (host_ticks s).0.host n ≡ false = ap (λ k. eqb k n) (ticked_number s) ∙ off in rw (off, there) later
+hosts_tick_side (s ∷ sites) n = by_test (eqb s.host n)
+    (λ is. let here : eqb (host_ticks s).0.host n ≡ true = ap (λ k. eqb k n) (ticked_number s) ∙ is in rw (is, here) (host_tick_side s))
+    (λ off. let there : eqb (host_ticks s).0.host n ≡ false = ap (λ k. eqb k n) (ticked_number s) ∙ off in rw (off, there) (hosts_tick_side sites n))
 
 tick_goes_up : (w : NodeWorld) → IsOrderly w → NoticesAreUp w → NoticesAreUp (world_ticks w).0
 tick_goes_up w orderly a =

@@ -1,6 +1,6 @@
 -- What a node notes in a step: a fact of entries holds of all of them, where it holds of what is noted of its own ends, of what it
 -- notes beside them, and of what its deeds note.
-use Rattle.std.proofs.Common.{◌≡◌, ℕ, Bool, true, false, cond, eqb, List, [], ◌∷◌, ◌++◌, length, map, sym, refl, ap, ◌∙◌, subst}
+use Rattle.std.proofs.Common.{◌≡◌, ℕ, cond, eqb, List, [], ◌∷◌, ◌++◌, length, map, sym, refl, ap, ◌∙◌, subst}
 use Rattle.std.specs.Prelude.{Option, Some, None}
 use Rattle.std.specs.List.{AllByRecursion, flat_map}
 use Rattle.std.specs.Option.{option_map_or}
@@ -32,7 +32,7 @@ use Rattle.node_machine.specs.Node.{all_owed, without_notice, after_sessions, sy
 use Rattle.node_machine.specs.Node.NodeInput.{AtEnd, TimePasses}
 use Rattle.registry.proofs.ValueLemmas.{AllByRecursion-append}
 use Rattle.node_machine.proofs.Walks.{Plain, OfHost, any_of_controller, all_of_host, forgotten_hold, all_owed_hold, all_synced_hold, anyone}
-use Rattle.node_laws.proofs.Cases.{by_option}
+use Rattle.node_laws.proofs.Cases.{by_option, by_test}
 use Rattle.node_laws.proofs.steps.StepWalks.{got_at, all_do as all_note, Lasts, rest_lasts}
 use Rattle.node_laws.proofs.steps.Ports.{come_host, forgets_host, late_host, without_host, changed_host, sessions_node, at_port}
 use Rattle.node_laws.proofs.links.Noticing.{at_host}
@@ -156,22 +156,21 @@ module _ (P : Entry → Type 0) (n : ℕ) (who : Side) (At : ℕ → Type 0) whe
         (1, message)) w a)
 
     commits : (c : Command) (w : Work) → Notes w → Notes (commit c w)
-    commits c w a = go (fails_within (length (commit_writes w.core.journal w.core.tables (body_of c))) w.plan) refl where
-      go : (b : Bool) → fails_within (length (commit_writes w.core.journal w.core.tables (body_of c))) w.plan ≡ b → Notes (commit c w)
-      go true q = rw q (record {
-        number = a.number;
-        side = a.side;
-        ends = a.ends;
-        so = AllByRecursion-append P (w.entries ++ entry.Command w.core.node c ∷ []) (entry.Cut w.core.node ∷ [])
-            (AllByRecursion-append P w.entries (entry.Command w.core.node c ∷ []) a.so (beside (entry.Command w.core.node c) a.number, tt))
-            (beside (entry.Cut w.core.node) a.number, tt);
-      })
-      go false q = rw q (record {
-        number = a.number;
-        side = a.side;
-        ends = a.ends;
-        so = AllByRecursion-append P w.entries (entry.Command w.core.node c ∷ []) a.so (beside (entry.Command w.core.node c) a.number, tt);
-      })
+    commits c w a = by_test (fails_within (length (commit_writes w.core.journal w.core.tables (body_of c))) w.plan)
+        (λ q. rw q (record {
+          number = a.number;
+          side = a.side;
+          ends = a.ends;
+          so = AllByRecursion-append P (w.entries ++ entry.Command w.core.node c ∷ []) (entry.Cut w.core.node ∷ [])
+              (AllByRecursion-append P w.entries (entry.Command w.core.node c ∷ []) a.so (beside (entry.Command w.core.node c) a.number, tt))
+              (beside (entry.Cut w.core.node) a.number, tt);
+        }))
+        (λ q. rw q (record {
+          number = a.number;
+          side = a.side;
+          ends = a.ends;
+          so = AllByRecursion-append P w.entries (entry.Command w.core.node c ∷ []) a.so (beside (entry.Command w.core.node c) a.number, tt);
+        }))
 
     does : (h : ℕ) (d : Deed) (w : Work) → NotesSo P d → Notes w → Notes (done h d w)
     does h (Commits c) w q a = commits c w a

@@ -1,6 +1,6 @@
 -- What is read of all hosts as a node loses its power, as it boots, and as a write to a memory is to fail.
 use Rattle.std.proofs.Common.{◌≡◌, ◌⊎◌, inl, inr, ℕ, Bool, true, false, cond, eqb, List, [], ◌∷◌, ◌++◌, length, sym, refl, ap, ◌∙◌, subst, append-nil}
-use Rattle.std.specs.Prelude.{Option, Some, None}
+use Rattle.std.specs.Prelude.{Some, None}
 use Rattle.std.specs.List.{AllByRecursion}
 use Rattle.std.proofs.lemmas.Bool.{cases_Bool, eqb-true}
 use Rattle.swp_base.specs.InMemory.{Memory}
@@ -19,6 +19,7 @@ use Rattle.node_machine.specs.Carrying.{changed_if}
 use Rattle.node_machine.specs.Node.{boot_writes, found}
 use Rattle.node_machine.specs.world.World.{NodeWorld, Site, site_at, node_at, memory_at, with_site, with_memory, with_node, links_of, controller_cut, host_cut}
 use Rattle.node_machine.specs.world.World.{loses_power_at, boots}
+use Rattle.node_laws.proofs.Cases.{by_option, by_test}
 use Rattle.node_laws.proofs.links.Ends.{here_host}
 use Rattle.node_laws.specs.kept.Hosts.{AreDifferent, AreHosts}
 use Rattle.node_laws.proofs.kept.Sites.{site_found, hosts_same, hosts_with, with_site_twice}
@@ -33,11 +34,9 @@ cut_silent n k off = ((λ c. rw off refl), tt)
 -- no host has this number
 none_there : (sites : List Site) (n : ℕ) → site_at sites n ≡ None → AllByRecursion (λ k. eqb k n ≡ false) (hosts_in sites)
 none_there [] n e = tt
-none_there (s ∷ sites) n e = by_host (cases_Bool (eqb s.host n)) (none_there sites n) where
-  by_host : (eqb s.host n ≡ true) ⊎ (eqb s.host n ≡ false) → (site_at sites n ≡ None → AllByRecursion (λ k. eqb k n ≡ false) (hosts_in sites))
-      → AllByRecursion (λ k. eqb k n ≡ false) (hosts_in (s ∷ sites))
-  by_host (inl is) later = let found_it : Some s ≡ None = sym (ap (λ b. cond b (Some s) (site_at sites n)) is) ∙ e in absurd (cc found_it)
-  by_host (inr off) later = (off, later (sym (ap (λ b. cond b (Some s) (site_at sites n)) off) ∙ e))
+none_there (s ∷ sites) n e = by_test (eqb s.host n)
+    (λ is. let found_it : Some s ≡ None = sym (ap (λ b. cond b (Some s) (site_at sites n)) is) ∙ e in absurd (cc found_it))
+    (λ off. (off, none_there sites n (sym (ap (λ b. cond b (Some s) (site_at sites n)) off) ∙ e)))
 
 module _ (hosts : List ℕ) (are : AreHosts hosts) where
   known : (t : List Entry) (w : NodeWorld) → AllRead hosts t w → AllByRecursion IsHost (hosts_in w.sites)
@@ -59,21 +58,19 @@ module _ (hosts : List ℕ) (are : AreHosts hosts) where
       → ((k : ℕ) → eqb n k ≡ false → AreSilent k es) → AllRead hosts t w
       → ((x : Site) → site_at w.sites n ≡ Some x → SiteReads t x → x.host ≡ n → SiteReads (t ++ es) (f x))
       → AllRead hosts (t ++ es) (record w { sites = with_site n f w.sites })
-  alters t es w n f host silent all changed = by_site (site_at w.sites n) refl where
-    by_site : (o : Option Site) → site_at w.sites n ≡ o → AllRead hosts (t ++ es) (record w { sites = with_site n f w.sites })
-    by_site None here = record {
-      controller = all.controller;
-      hosts_are = hosts_with n f host w.sites ∙ all.hosts_are;
-      sites = others_stay t es n f silent w.sites (none_there w.sites n here) all.sites;
-    }
-    by_site (Some x) here =
-        let known_x = site_found (SiteReads t) IsHost w.sites n x all.sites (known t w all) here in
-        record {
-          controller = all.controller;
-          hosts_are = hosts_with n f host w.sites ∙ all.hosts_are;
-          sites = with_reads t es n f silent w.sites x (subst AreDifferent (sym all.hosts_are) are.different) here
-              (changed x here known_x.0 known_x.2) all.sites;
-        }
+  alters t es w n f host silent all changed = by_option (site_at w.sites n)
+      (λ here. record {
+        controller = all.controller;
+        hosts_are = hosts_with n f host w.sites ∙ all.hosts_are;
+        sites = others_stay t es n f silent w.sites (none_there w.sites n here) all.sites;
+      })
+      (λ x here. let known_x = site_found (SiteReads t) IsHost w.sites n x all.sites (known t w all) here in
+      record {
+        controller = all.controller;
+        hosts_are = hosts_with n f host w.sites ∙ all.hosts_are;
+        sites = with_reads t es n f silent w.sites x (subst AreDifferent (sym all.hosts_are) are.different) here
+            (changed x here known_x.0 known_x.2) all.sites;
+      })
 
   loses_near : (w : NodeWorld) (n : ℕ) → eqb n 0 ≡ true → loses_power_at n w ≡ controller_cut w
   loses_near w n e = rw e refl
@@ -82,44 +79,38 @@ module _ (hosts : List ℕ) (are : AreHosts hosts) where
   loses_far w n e = rw e refl
 
   pub cut_read : (t : List Entry) (w : NodeWorld) (n : ℕ) → AllRead hosts t w → AllRead hosts (t ++ entry.Cut n ∷ []) (loses_power_at n w)
-  cut_read t w n all = by_number (cases_Bool (eqb n 0)) where
-    by_number : (eqb n 0 ≡ true) ⊎ (eqb n 0 ≡ false) → AllRead hosts (t ++ entry.Cut n ∷ []) (loses_power_at n w)
-    by_number (inl e) =
-        subst (AllRead hosts (t ++ entry.Cut n ∷ [])) (sym (loses_near w n e))
-        (subst (λ m. AllRead hosts (t ++ entry.Cut m ∷ []) (controller_cut w)) (sym (eqb-true n 0 e)) (near_cut t w all))
-    by_number (inr e) =
-        subst (AllRead hosts (t ++ entry.Cut n ∷ [])) (sym (loses_far w n e))
-        (alters t (entry.Cut n ∷ []) w n host_cut (λ s. refl) (λ k off. cut_silent n k off) all
-        (λ x here reads same. subst (λ m. SiteReads (t ++ entry.Cut m ∷ []) (host_cut x)) same (cut_reads t x)))
+  cut_read t w n all = by_test (eqb n 0)
+      (λ e. subst (AllRead hosts (t ++ entry.Cut n ∷ [])) (sym (loses_near w n e))
+      (subst (λ m. AllRead hosts (t ++ entry.Cut m ∷ []) (controller_cut w)) (sym (eqb-true n 0 e)) (near_cut t w all)))
+      (λ e. subst (AllRead hosts (t ++ entry.Cut n ∷ [])) (sym (loses_far w n e))
+      (alters t (entry.Cut n ∷ []) w n host_cut (λ s. refl) (λ k off. cut_silent n k off) all
+      (λ x here reads same. subst (λ m. SiteReads (t ++ entry.Cut m ∷ []) (host_cut x)) same (cut_reads t x))))
 
   pub memory_read : (t : List Entry) (w : NodeWorld) (n : ℕ) (m : Memory) → AllRead hosts t w → AllRead hosts (t ++ []) (with_memory n m w)
-  memory_read t w n m all = by_number (cases_Bool (eqb n 0)) where
-    near_is : eqb n 0 ≡ true → with_memory n m w ≡ record w { memory = m }
-    near_is e = rw e refl
+  memory_read t w n m all = by_test (eqb n 0)
+      (λ e. subst (AllRead hosts (t ++ [])) (sym (near_is e)) (subst (λ l. AllRead hosts l (record w { memory = m })) (sym (append-nil t))
+      (record { controller = all.controller; hosts_are = all.hosts_are; sites = all.sites })))
+      (λ e. subst (AllRead hosts (t ++ [])) (sym (far_is e)) (record {
+        controller = all.controller;
+        hosts_are = hosts_with n has (λ s. refl) w.sites ∙ all.hosts_are;
+        sites = map_reads t [] g (λ s. change (eqb s.host n) s (λ v. v.host ≡ s.host) refl refl) (λ s. change (eqb s.host n) s (λ v. v.node ≡ s.node) refl refl)
+            (λ s. change (eqb s.host n) s (λ v. v.link.host.side ≡ s.link.host.side) refl refl) (λ k host. tt) w.sites (known t w all) all.sites;
+      })) where
+        near_is : eqb n 0 ≡ true → with_memory n m w ≡ record w { memory = m }
+        near_is e = rw e refl
 
-    far_is : eqb n 0 ≡ false → with_memory n m w ≡ record w { sites = with_site n (λ (s : Site). record s { memory = m }) w.sites }
-    far_is e = rw e refl
+        far_is : eqb n 0 ≡ false → with_memory n m w ≡ record w { sites = with_site n (λ (s : Site). record s { memory = m }) w.sites }
+        far_is e = rw e refl
 
-    has : Site → Site
-    has s = record s { memory = m }
+        has : Site → Site
+        has s = record s { memory = m }
 
-    change : (b : Bool) (s : Site) (P : Site → Type 0) → P s → P (has s) → P (changed_if b has s)
-    change true s P x y = y
-    change false s P x y = x
+        change : (b : Bool) (s : Site) (P : Site → Type 0) → P s → P (has s) → P (changed_if b has s)
+        change true s P x y = y
+        change false s P x y = x
 
-    g : Site → Site
-    g s = changed_if (eqb s.host n) has s
-
-    by_number : (eqb n 0 ≡ true) ⊎ (eqb n 0 ≡ false) → AllRead hosts (t ++ []) (with_memory n m w)
-    by_number (inl e) =
-        subst (AllRead hosts (t ++ [])) (sym (near_is e)) (subst (λ l. AllRead hosts l (record w { memory = m })) (sym (append-nil t))
-        (record { controller = all.controller; hosts_are = all.hosts_are; sites = all.sites }))
-    by_number (inr e) = subst (AllRead hosts (t ++ [])) (sym (far_is e)) (record {
-      controller = all.controller;
-      hosts_are = hosts_with n has (λ s. refl) w.sites ∙ all.hosts_are;
-      sites = map_reads t [] g (λ s. change (eqb s.host n) s (λ v. v.host ≡ s.host) refl refl) (λ s. change (eqb s.host n) s (λ v. v.node ≡ s.node) refl refl)
-          (λ s. change (eqb s.host n) s (λ v. v.link.host.side ≡ s.link.host.side) refl refl) (λ k host. tt) w.sites (known t w all) all.sites;
-    })
+        g : Site → Site
+        g s = changed_if (eqb s.host n) has s
 
   -- ## A boot
 
@@ -191,8 +182,6 @@ module _ (hosts : List ℕ) (are : AreHosts hosts) where
         (boot_reads t x after_it before.content (count_of found_it.core.journal) reads (far_stands e x here))))
 
     pub boots_read : Fine (boots w n)
-    boots_read = by_plan (cases_Bool (fails_within (length (boot_writes before.content)) before.plan)) where
-      by_plan : (fails_within (length (boot_writes before.content)) before.plan ≡ true)
-          ⊎ (fails_within (length (boot_writes before.content)) before.plan ≡ false) → Fine (boots w n)
-      by_plan (inl fails) = subst Fine (sym (lost_is fails)) lost_reads
-      by_plan (inr none) = subst Fine (sym (runs_is none)) (runs_reads (cases_Bool (eqb n 0)))
+    boots_read = by_test (fails_within (length (boot_writes before.content)) before.plan)
+        (λ fails. subst Fine (sym (lost_is fails)) lost_reads)
+        (λ none. subst Fine (sym (runs_is none)) (runs_reads (cases_Bool (eqb n 0))))

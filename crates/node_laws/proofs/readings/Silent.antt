@@ -6,7 +6,6 @@ use Rattle.std.proofs.lemmas.Bool.{eq-eqb, ne_eqb}
 use Rattle.std.proofs.lemmas.List.Sums.{fold-append}
 use Rattle.trace_model.specs.Lines.{IsHost}
 use Rattle.trace_model.specs.declared.entry.Entry.{Entry}
-use Rattle.swp_base.specs.declared.link_terms.Cause.{Cause}
 use Rattle.link_laws.specs.machine.Machine.{Message, LinkInput, Refused, Report, ended_by, report, whole_acked, after_input}
 use Rattle.link_laws.specs.entries.Entries.{End as Side, Entry as Noted, if_so, sent_unless}
 use Rattle.link_laws.specs.entries.Entries.End.{Host}
@@ -19,6 +18,7 @@ use Rattle.node_machine.specs.Node.{told_at}
 use Rattle.node_machine.specs.Controller.{is_command_message}
 use Rattle.node_machine.specs.world.World.{end_h}
 use Rattle.node_machine.specs.world.NodeFilters.{awaited_after, order_in}
+use Rattle.node_laws.proofs.Cases.{by_option}
 use Rattle.node_laws.proofs.telling.Reported.{rest_all}
 
 -- what is read after these entries, where this was read before
@@ -63,19 +63,16 @@ rest_quiet who n acked r = rest_all IsQuiet who n acked tt tt (λ k. tt) tt (λ 
 -- what is told of an input reads as nothing but for the end of a session
 pub told_reads : (h : ℕ) (core : Core) (p : Port) (i : LinkInput) (c : Option (List ℕ)) → own_side core ≡ Host → p.desk.host ≡ h
     → reads h (told_at core p (Some i)) c ≡ cond (is_some (ended_by p.side i)) None c
-told_reads h core p i c side at = rw side (go (ended_by p.side i))
+told_reads h core p i c side at = rw side (by_option (ended_by p.side i)
+    (λ q. rw q (quiet_reads h p.desk.host rest c quiet))
+    (λ cause q. rw q (ap (λ b. reads h (entries_for p.desk.host rest) (cond b None c)) (ap (λ k. same_end (end_h k) (end_h h)) at ∙ same_own h)
+    ∙ quiet_reads h p.desk.host rest None quiet)))
   where
     rest : List Noted
     rest = told_rest Host p.session (whole_acked (after_input p.side i)) (report p.side i)
 
     quiet : AllByRecursion IsQuiet rest
     quiet = rest_quiet Host p.session (whole_acked (after_input p.side i)) (report p.side i)
-
-    go : (o : Option Cause) → reads h (entries_for p.desk.host (map (Down Host) (option_to_list o) ++ rest)) c ≡ cond (is_some o) None c
-    go None = quiet_reads h p.desk.host rest c quiet
-    go (Some cause) =
-        ap (λ b. reads h (entries_for p.desk.host rest) (cond b None c)) (ap (λ k. same_end (end_h k) (end_h h)) at ∙ same_own h)
-        ∙ quiet_reads h p.desk.host rest None quiet
 
 -- a message that is no command on pipe 01 reads as nothing
 no_order : (a b c : Bool) (x y : Option (List ℕ)) → (b && c) ≡ false → cond (a && b && c) x y ≡ y

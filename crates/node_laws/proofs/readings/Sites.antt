@@ -346,20 +346,19 @@ others_read t es s v silent host node side reads_so = record {
   order =
       ap (order_in (t ++ es)) host
       ∙ (order_more t es s.host ∙ (all_silent es (order_in t s.host) silent ∙ (reads_so.order ∙ sym (ap order_of node))));
-  runs = subst (λ n. IfHostRuns n v.link v.node) (sym host) (subst (IfHostRuns s.host v.link) (sym node) (moved s.node reads_so.runs));
+  runs = subst (λ n. IfHostRuns n v.link v.node) (sym host) (subst (IfHostRuns s.host v.link) (sym node) (by_option s.node
+      (λ q. rw q tt)
+      (λ r q. rw q (let so = rw q at reads_so.runs in
+      record {
+        number = so.number;
+        desk = so.desk;
+        desks_are = so.desks_are;
+        host = so.host;
+        no_notice = so.no_notice;
+        short = so.short;
+        up = λ some. ap (λ (e : LinkEnd). e.shdlc.phase) side ∙ so.up some;
+      }))));
 } where
   all_silent : (es : List Entry) (c : Option (List ℕ)) → AllByRecursion (IsSilent s.host) es → reads s.host es c ≡ c
   all_silent [] c all = refl
   all_silent (e ∷ es) c all = ap (reads s.host es) (all.0 c) ∙ all_silent es c all.1
-
-  moved : (o : Option Running) → IfHostRuns s.host s.link o → IfHostRuns s.host v.link o
-  moved None so = tt
-  moved (Some r) so = record {
-    number = so.number;
-    desk = so.desk;
-    desks_are = so.desks_are;
-    host = so.host;
-    no_notice = so.no_notice;
-    short = so.short;
-    up = λ some. ap (λ (e : LinkEnd). e.shdlc.phase) side ∙ so.up some;
-  }

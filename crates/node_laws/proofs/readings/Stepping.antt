@@ -1,8 +1,8 @@
 -- A step of a host: its unanswered command stays the one that is read.
-use Rattle.std.proofs.Common.{◌≡◌, ◌⊎◌, inl, inr, ℕ, ◌||◌, Bool, true, false, cond, List, [], ◌∷◌, ◌++◌, map, sym, refl, ap, ◌∙◌, subst, append-nil}
+use Rattle.std.proofs.Common.{◌≡◌, inl, ℕ, ◌||◌, Bool, true, false, cond, List, [], ◌∷◌, ◌++◌, map, sym, refl, ap, ◌∙◌, subst, append-nil}
 use Rattle.std.specs.Prelude.{Option, Some, None, is_some}
 use Rattle.std.specs.List.{AllByRecursion, flat_map}
-use Rattle.std.proofs.lemmas.Bool.{cases_Bool, true≢false}
+use Rattle.std.proofs.lemmas.Bool.{true≢false}
 use Rattle.trace_model.specs.Lines.{IsHost}
 use Rattle.trace_model.specs.declared.entry.Entry.{Entry}
 use Rattle.hci_tables.specs.declared.command.Command.TheVariants.{Sync}
@@ -109,37 +109,35 @@ module _ (h : ℕ) (host : IsHost h) (before : List Entry) where
   -- the host behind what came
   begun_runs : (now : LinkState) (w : Work) (p q : Port) (more : List Entry) → Runs h host before now w → HasCome w p q more
       → Runs h host before q.side.shdlc.phase (record w { core = after_sessions w.core (q ∷ []); ports = q ∷ []; entries = w.entries ++ more })
-  begun_runs now w p q more r came = by_end (cases_Bool q.ended) where
-    Fine : Core → Type 0
-    Fine core = Runs h host before q.side.shdlc.phase (record w { core = core; ports = q ∷ []; entries = w.entries ++ more })
+  begun_runs now w p q more r came = by_test q.ended
+      (λ e. subst Fine (sym (over_is e)) (record {
+        on = r.on;
+        node = r.node;
+        port = q;
+        is = refl;
+        its = record { host = came.at; no_notice = came.quiet; up = λ some. absurd (true≢false (sym some)) };
+        phase = refl;
+        short = tt;
+        order = read_more h host before now w more w.core.command None r.order (came.told w.core.command ∙ ap (λ b. cond b None w.core.command) e);
+      }))
+      (λ e. subst Fine (sym (on_is e)) (record {
+        on = r.on;
+        node = r.node;
+        port = q;
+        is = refl;
+        its = record { host = came.at; no_notice = came.quiet; up = λ some. came.up some e };
+        phase = refl;
+        short = r.short;
+        order = read_more h host before now w more w.core.command w.core.command r.order (came.told w.core.command ∙ ap (λ b. cond b None w.core.command) e);
+      })) where
+        Fine : Core → Type 0
+        Fine core = Runs h host before q.side.shdlc.phase (record w { core = core; ports = q ∷ []; entries = w.entries ++ more })
 
-    over_is : q.ended ≡ true → after_sessions w.core (q ∷ []) ≡ record w.core { command = None; init = None }
-    over_is e = rw e refl
+        over_is : q.ended ≡ true → after_sessions w.core (q ∷ []) ≡ record w.core { command = None; init = None }
+        over_is e = rw e refl
 
-    on_is : q.ended ≡ false → after_sessions w.core (q ∷ []) ≡ w.core
-    on_is e = rw (e, came.late) refl
-
-    by_end : (q.ended ≡ true) ⊎ (q.ended ≡ false) → Fine (after_sessions w.core (q ∷ []))
-    by_end (inl e) = subst Fine (sym (over_is e)) (record {
-      on = r.on;
-      node = r.node;
-      port = q;
-      is = refl;
-      its = record { host = came.at; no_notice = came.quiet; up = λ some. absurd (true≢false (sym some)) };
-      phase = refl;
-      short = tt;
-      order = read_more h host before now w more w.core.command None r.order (came.told w.core.command ∙ ap (λ b. cond b None w.core.command) e);
-    })
-    by_end (inr e) = subst Fine (sym (on_is e)) (record {
-      on = r.on;
-      node = r.node;
-      port = q;
-      is = refl;
-      its = record { host = came.at; no_notice = came.quiet; up = λ some. came.up some e };
-      phase = refl;
-      short = r.short;
-      order = read_more h host before now w more w.core.command w.core.command r.order (came.told w.core.command ∙ ap (λ b. cond b None w.core.command) e);
-    })
+        on_is : q.ended ≡ false → after_sessions w.core (q ∷ []) ≡ w.core
+        on_is e = rw (e, came.late) refl
 
   -- and what it does then, before its turns
   rest_stands : (now : LinkState) (syncs : List Deed) (v : Work) → MayDo h (λ o. ⊥) syncs → Runs h host before now v → Stands h host before now

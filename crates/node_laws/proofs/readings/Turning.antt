@@ -26,6 +26,7 @@ use Rattle.node_machine.specs.HostReplies.{learned, init_deeds, response_deeds, 
 use Rattle.node_machine.specs.Turns.{deeds_of, handles, holds_back, lets_go, have_turns, goes_through_ends, passes}
 use Rattle.node_machine.specs.world.NodeFilters.{is_response}
 use Rattle.node_laws.specs.readings.Orders.{Fits, MayDo}
+use Rattle.node_laws.proofs.Cases.{by_test}
 use Rattle.node_laws.proofs.readings.Silent.{reads, host_side, same_own}
 use Rattle.node_laws.proofs.readings.Doing.{Runs, Stands, then, noting_runs, desk_runs, turn_runs, all_stand}
 use Rattle.node_laws.proofs.readings.Replying.{ordered_may, posted_may, learned_if, init_may}
@@ -279,20 +280,13 @@ module _ (h : ℕ) (host : IsHost h) (before : List Entry) (now : LinkState) whe
   -- ## Turns
 
   pub holds_stand : (k : ℕ) (short : ℕ × ℕ) (w : Work) → Runs_so w → Stands_so (holds_back k short w)
-  holds_stand k short w r = inl (go (option_map_or (λ (p : Port). p.desk.holds) (port_at w.ports k) false)) where
-    told : Work
-    told = noting (entry.Held (end_of_node w.core k) short.0 short.1 ∷ []) w
-
-    by : Bool → Work
-    by true = turn_at k (Hold true) w
-    by false = turn_at k (Hold true) (with_desk k (λ d. record d { holds = true }) told)
-
-    go : (b : Bool) → Runs_so (by b)
-    go true = turn_runs h host before now k (Hold true) w (λ p. refl) r
-    go false =
-        turn_runs h host before now k (Hold true) (with_desk k (λ d. record d { holds = true }) told) (λ p. refl)
-        (desk_runs h host before now k (λ d. record d { holds = true }) told (λ d. refl) (λ d. refl)
-        (noting_runs h host before now w (entry.Held (end_of_node w.core k) short.0 short.1 ∷ []) refl r))
+  holds_stand k short w r = inl (by_test (option_map_or (λ (p : Port). p.desk.holds) (port_at w.ports k) false)
+      (λ q. rw q (turn_runs h host before now k (Hold true) w (λ p. refl) r))
+      (λ q. rw q (turn_runs h host before now k (Hold true) (with_desk k (λ d. record d { holds = true }) told) (λ p. refl)
+      (desk_runs h host before now k (λ d. record d { holds = true }) told (λ d. refl) (λ d. refl)
+      (noting_runs h host before now w (entry.Held (end_of_node w.core k) short.0 short.1 ∷ []) refl r))))) where
+        told : Work
+        told = noting (entry.Held (end_of_node w.core k) short.0 short.1 ∷ []) w
 
   pub lets_stand : (k : ℕ) (w : Work) → Runs_so w → Stands_so (lets_go k w)
   lets_stand k w r = inl (go (option_map_or (λ (p : Port). is_held p.side) (port_at w.ports k) false)) where

@@ -1,9 +1,9 @@
 -- What a node answers until its next turn, as it is read off what was noted behind its turn.
-use Rattle.std.proofs.Common.{◌≡◌, ◌⊎◌, inl, inr, ℕ, suc, ◌≤◌, ◌||◌, Bool, true, false, cond, List, [], ◌∷◌, ◌++◌, sym, refl, ap, ap₂, ◌∙◌, subst, append_assoc}
+use Rattle.std.proofs.Common.{◌≡◌, ℕ, suc, ◌≤◌, ◌||◌, Bool, true, false, cond, List, [], ◌∷◌, ◌++◌, sym, refl, ap, ap₂, ◌∙◌, subst, append_assoc}
 use Rattle.std.proofs.Common.{append-nil, arith}
 use Rattle.std.specs.Prelude.{◌+◌, not, take, Option, Some, None}
 use Rattle.std.specs.List.{AllByRecursion, filter, list_any, prefix_len}
-use Rattle.std.proofs.lemmas.Bool.{cases_Bool, eq-eqb}
+use Rattle.std.proofs.lemmas.Bool.{eq-eqb}
 use Rattle.trace_model.specs.declared.entry.Entry.{Entry}
 use Rattle.trace_model.specs.declared.entry.Entry.TheVariants as entry
 use Rattle.journal_laws.specs.declared.state.State.{State}
@@ -19,7 +19,7 @@ use Rattle.node_laws.specs.answers.Answered.{AnswersSo, before_turn, is_turn_of,
 use Rattle.node_laws.specs.answers.Order.{is_answer_of}
 use Rattle.node_laws.specs.replies.Known.{IsNoAnswer}
 use Rattle.registry.proofs.ValueLemmas.{AllByRecursion-append as all_append}
-use Rattle.node_laws.proofs.Cases.{by_option}
+use Rattle.node_laws.proofs.Cases.{by_option, by_test}
 use Rattle.node_laws.proofs.replies.Apart.{SendsOver}
 
 -- ## The entries of a reply
@@ -152,10 +152,9 @@ reply_until (x ∷ xs) all es =
 
 pub silent_rest : (es : List Entry) → AllByRecursion IsNoAnswer es → IsSilent es
 silent_rest [] all = (refl, refl)
-silent_rest (x ∷ es) all = go (cases_Bool (is_turn_of 0 x)) (silent_rest es all.1) where
-  go : (is_turn_of 0 x ≡ true) ⊎ (is_turn_of 0 x ≡ false) → IsSilent es → IsSilent (x ∷ es)
-  go (inl turn) later = stop_until x es turn
-  go (inr none) later = quiet_until x es none all.0.0 all.0.1 later
+silent_rest (x ∷ es) all = by_test (is_turn_of 0 x)
+    (λ turn. stop_until x es turn)
+    (λ none. quiet_until x es none all.0.0 all.0.1 (silent_rest es all.1))
 
 -- messages are held until the next turn of the controller, or until all is told
 abbrev pub Trails : List Entry → Type 0

@@ -72,10 +72,7 @@ module _ (ports : List Port) (h : ℕ) where
   decision_fair up core pipe (Ask asked notice c answer) = ((refl, tt), (tt, tt))
 
   link_fair : has_link ports h ≡ true → (pipe : ℕ) (answer : List ℕ × Option ℕ) → Fair (link_deeds h pipe answer)
-  link_fair up pipe answer = by_value answer.0 answer.1 where
-    by_value : (message : List ℕ) (value : Option ℕ) → Fair (link_deeds h pipe (message, value))
-    by_value message None = ((refl, tt), (up, tt))
-    by_value message (Some errors) = ((refl, tt), (tt, (up, tt)))
+  link_fair up pipe answer = by_option answer.1 (λ q. rw q (((refl, tt), (up, tt)))) (λ errors q. rw q (((refl, tt), (tt, (up, tt)))))
 
   gate_fair : has_link ports h ≡ true → (gate errors pipe instruction : ℕ) (body : List ℕ) → Fair (gate_deeds gate errors h pipe instruction body)
   gate_fair up gate errors pipe instruction body =

@@ -1,9 +1,9 @@
 -- The notices that are read tell of the creations that a controller keeps.
-use Rattle.std.proofs.Common.{◌≡◌, ◌⊎◌, inl, inr, ℕ, Bool, true, false, cond, eqb, List, [], ◌∷◌, ◌++◌, sym, refl, ap, ap₂, ◌∙◌, subst}
+use Rattle.std.proofs.Common.{◌≡◌, inl, inr, ℕ, Bool, true, false, cond, eqb, List, [], ◌∷◌, ◌++◌, sym, refl, ap, ap₂, ◌∙◌, subst}
 use Rattle.std.specs.Prelude.{Option, Some, None, IsTrue, ◌&&◌, not}
 use Rattle.std.specs.List.{AllByRecursion}
 use Rattle.std.specs.Option.{option_map, option_map_or, option_and_then}
-use Rattle.std.proofs.lemmas.Bool.{cases_Bool, eqb-true, eq-eqb, true≢false}
+use Rattle.std.proofs.lemmas.Bool.{eqb-true, eq-eqb, true≢false}
 use Rattle.trace_model.specs.declared.entry.Entry.{Entry}
 use Rattle.pipe_table.specs.declared.row.PipeRow.{PipeRow}
 use Rattle.hci_tables.specs.declared.command.Command.{Command}
@@ -40,10 +40,9 @@ use Rattle.node_laws.proofs.steps.Ports.{at_port}
 
 pub same_message : (a b : List ℕ) → same_bytes a b ≡ true → a ≡ b
 same_message [] [] e = refl
-same_message (x ∷ a) (y ∷ b) e = go (cases_Bool (eqb x y)) (same_message a b) where
-  go : (eqb x y ≡ true) ⊎ (eqb x y ≡ false) → (same_bytes a b ≡ true → a ≡ b) → (x ∷ a) ≡ (y ∷ b)
-  go (inl is) later = ap₂ (λ u l. u ∷ l) (eqb-true x y is) (later (rw is at e))
-  go (inr off) later = absurd (true≢false (sym (rw off at e)))
+same_message (x ∷ a) (y ∷ b) e = by_test (eqb x y)
+    (λ is. ap₂ (λ u l. u ∷ l) (eqb-true x y is) (same_message a b (rw is at e)))
+    (λ off. absurd (true≢false (sym (rw off at e))))
 same_message [] (y ∷ b) e = absurd (true≢false (sym e))
 same_message (x ∷ a) [] e = absurd (true≢false (sym e))
 
@@ -90,19 +89,16 @@ is_read_of r c l i k = go r i.front (subst (IsReadSo r) i.is k) where
 pub in_waits : (x : ℕ) (ports : List Port) (k : ℕ) (p : Port) (c : Creation) → port_at ports k ≡ Some p → asked_at p ≡ Some c → c.asker ≡ x
     → IsIn c (waits x (asked_of ports))
 in_waits x [] k p c found asked own = absurd (cc found)
-in_waits x (q ∷ ports) k p c found asked own = go (cases_Bool (eqb q.desk.host k)) (in_waits x ports k p c) where
-  go : (eqb q.desk.host k ≡ true) ⊎ (eqb q.desk.host k ≡ false)
-      → (port_at ports k ≡ Some p → asked_at p ≡ Some c → c.asker ≡ x → IsIn c (waits x (asked_of ports))) → IsIn c (waits x (asked_of (q ∷ ports)))
-  go (inl is) later =
-      let same : Some q ≡ Some p = rw is at found in
-      let one : q ≡ p = cc in
-      record {
-        front = [];
-        back = waits x (asked_of ports);
-        is = ap (λ o. one_of x o ++ waits x (asked_of ports)) (ap asked_at one ∙ asked)
-            ∙ ap (λ b. cond b (c ∷ []) [] ++ waits x (asked_of ports)) (eq-eqb c.asker x own);
-      }
-  go (inr off) later = in_front c (one_of x (asked_at q)) (waits x (asked_of ports)) (later (rw off at found) asked own)
+in_waits x (q ∷ ports) k p c found asked own = by_test (eqb q.desk.host k)
+    (λ is. let same : Some q ≡ Some p = rw is at found in
+    let one : q ≡ p = cc in
+    record {
+      front = [];
+      back = waits x (asked_of ports);
+      is = ap (λ o. one_of x o ++ waits x (asked_of ports)) (ap asked_at one ∙ asked)
+          ∙ ap (λ b. cond b (c ∷ []) [] ++ waits x (asked_of ports)) (eq-eqb c.asker x own);
+    })
+    (λ off. in_front c (one_of x (asked_at q)) (waits x (asked_of ports)) (in_waits x ports k p c (rw off at found) asked own))
 
 -- one waits at an end
 pub record WaitsAtEnd (all : List Port) (c : Creation) : Type 0 where
@@ -117,16 +113,13 @@ waits_at_end x all [] c l found e = absurd (cc e)
 waits_at_end x all (p ∷ ports) c l found e = go (asked_at p) refl (waits_at_end x all ports c l found.1) where
   go : (o : Option Creation) → asked_at p ≡ o → (waits x (asked_of ports) ≡ c ∷ l → WaitsAtEnd all c) → WaitsAtEnd all c
   go None q later = later (sym (ap (λ o. one_of x o ++ waits x (asked_of ports)) q) ∙ e)
-  go (Some d) q later = by (cases_Bool (eqb d.asker x)) where
-    now : one_of x (Some d) ++ waits x (asked_of ports) ≡ c ∷ l
-    now = sym (ap (λ o. one_of x o ++ waits x (asked_of ports)) q) ∙ e
-
-    by : (eqb d.asker x ≡ true) ⊎ (eqb d.asker x ≡ false) → WaitsAtEnd all c
-    by (inl is) =
-        let both : d ∷ waits x (asked_of ports) ≡ c ∷ l = rw is at now in
-        let one : d ≡ c = cc in
-        record { host = p.desk.host; port = p; found = found.0; asked = q ∙ ap (λ d. Some d) one }
-    by (inr off) = later (rw off at now)
+  go (Some d) q later = by_test (eqb d.asker x)
+      (λ is. let both : d ∷ waits x (asked_of ports) ≡ c ∷ l = rw is at now in
+      let one : d ≡ c = cc in
+      record { host = p.desk.host; port = p; found = found.0; asked = q ∙ ap (λ d. Some d) one })
+      (λ off. later (rw off at now)) where
+        now : one_of x (Some d) ++ waits x (asked_of ports) ≡ c ∷ l
+        now = sym (ap (λ o. one_of x o ++ waits x (asked_of ports)) q) ∙ e
 
 -- ## What a notice is about
 

@@ -8,15 +8,14 @@ use Rattle.node_machine.specs.Carrying.{port_at}
 use Rattle.node_laws.specs.kept.Books.{hosts_of_ends}
 use Rattle.node_laws.specs.kept.Hosts.{AreDifferent}
 use Rattle.node_laws.specs.cuts.Histories.{is_one_of}
+use Rattle.node_laws.proofs.Cases.{by_test}
 
 -- one that is found has a host among theirs
 pub one_found : (ports : List Port) (k : ℕ) (p : Port) → port_at ports k ≡ Some p → is_one_of (hosts_of_ends ports) k ≡ true
 one_found [] k p found = absurd (cc found)
-one_found (q ∷ ports) k p found = go (cases_Bool (eqb q.desk.host k)) (one_found ports k p) where
-  go : (eqb q.desk.host k ≡ true) ⊎ (eqb q.desk.host k ≡ false) → (port_at ports k ≡ Some p → is_one_of (hosts_of_ends ports) k ≡ true)
-      → is_one_of (hosts_of_ends (q ∷ ports)) k ≡ true
-  go (inl is) later = ap (λ b. b || is_one_of (hosts_of_ends ports) k) is
-  go (inr off) later = ap (λ b. b || is_one_of (hosts_of_ends ports) k) off ∙ later (rw off at found)
+one_found (q ∷ ports) k p found = by_test (eqb q.desk.host k)
+    (λ is. ap (λ b. b || is_one_of (hosts_of_ends ports) k) is)
+    (λ off. ap (λ b. b || is_one_of (hosts_of_ends ports) k) off ∙ (one_found ports k p) (rw off at found))
 
 -- this holds of each end, where it holds of each that is found by its host
 pub all_found : (P : Port → Type 0) (ports : List Port) → AreDifferent (hosts_of_ends ports) → ((k : ℕ) (p : Port) → port_at ports k ≡ Some p → P p)
@@ -29,12 +28,9 @@ all_found P (p ∷ ports) different each = (
   found_host : (ps : List Port) (k : ℕ) (q : Port) → port_at ps k ≡ Some q → AllByRecursion (λ h. eqb h p.desk.host ≡ false) (hosts_of_ends ps)
       → eqb k p.desk.host ≡ false
   found_host [] k q e off = absurd (cc e)
-  found_host (x ∷ ps) k q e off = go (cases_Bool (eqb x.desk.host k)) (found_host ps k q) where
-    go : (eqb x.desk.host k ≡ true) ⊎ (eqb x.desk.host k ≡ false)
-        → (port_at ps k ≡ Some q → AllByRecursion (λ h. eqb h p.desk.host ≡ false) (hosts_of_ends ps) → eqb k p.desk.host ≡ false)
-        → eqb k p.desk.host ≡ false
-    go (inl is) later = subst (λ n. eqb n p.desk.host ≡ false) (eqb-true x.desk.host k is) off.0
-    go (inr else) later = later (rw else at e) off.1
+  found_host (x ∷ ps) k q e off = by_test (eqb x.desk.host k)
+      (λ is. subst (λ n. eqb n p.desk.host ≡ false) (eqb-true x.desk.host k is) off.0)
+      (λ else. found_host ps k q (rw else at e) off.1)
 
   behind : (k : ℕ) (q : Port) → port_at ports k ≡ Some q → (eqb p.desk.host k ≡ true) ⊎ (eqb p.desk.host k ≡ false) → port_at (p ∷ ports) k ≡ Some q
   behind k q found (inr off) = ap (λ b. cond b (Some p) (port_at ports k)) off ∙ found

@@ -21,6 +21,7 @@ use Rattle.node_laws.specs.kept.Hosts.{AreHosts}
 use Rattle.node_laws.specs.passes.Passing.{AreAlong, ArePassed, BeginWithTurn, IsBehind, IsTurnSo, LastsOverTurns, Stays as StaysThere}
 use Rattle.node_laws.specs.passes.Passing.{is_held_at, links_of_turns, waiting_at}
 use Rattle.node_laws.specs.passes.Passing.ComesTo.{Begins}
+use Rattle.node_laws.proofs.Cases.{by_test}
 use Rattle.node_laws.proofs.passes.Behind.{leaves_behind}
 use Rattle.node_laws.proofs.passes.Ends.{HasFirst, has_first}
 use Rattle.node_laws.specs.answers.Answered.{is_later}
@@ -72,13 +73,11 @@ port_there (p ∷ ports) [] k later is =
     let one : p.desk.host ≡ k = cc in
     let found : eqb p.desk.host k ≡ true = ap (λ n. eqb n k) one ∙ same_number k in
     (p, rw found refl)
-port_there (p ∷ ports) (h ∷ earlier) k later is = by (eqb p.desk.host k) refl (port_there ports earlier k later rest) where
-  rest : hosts_of_ends ports ≡ earlier ++ k ∷ later
-  rest = cc
-
-  by : (b : Bool) → eqb p.desk.host k ≡ b → (q : Port) × (port_at ports k ≡ Some q) → (q : Port) × (port_at (p ∷ ports) k ≡ Some q)
-  by true q next = (p, rw q refl)
-  by false q next = (next.0, rw q next.1)
+port_there (p ∷ ports) (h ∷ earlier) k later is = by_test (eqb p.desk.host k)
+    (λ q. (p, rw q refl))
+    (λ q. ((port_there ports earlier k later rest).0, rw q (port_there ports earlier k later rest).1)) where
+      rest : hosts_of_ends ports ≡ earlier ++ k ∷ later
+      rest = cc
 
 none_later : (k : ℕ) → nat_lt k k ≡ false
 none_later k = le-ltb k k (omega arith)

@@ -1,5 +1,5 @@
 -- In a history, as a pass of the controller begins, the messages that wait at its ends are those that are read.
-use Rattle.std.proofs.Common.{◌≡◌, ℕ, Bool, true, false, cond, eqb, List, [], ◌∷◌, ◌++◌, map, sym, refl, ap, ◌∙◌, subst}
+use Rattle.std.proofs.Common.{◌≡◌, ℕ, false, cond, eqb, List, [], ◌∷◌, ◌++◌, map, sym, refl, ap, ◌∙◌, subst}
 use Rattle.std.specs.Prelude.{Option, Some, None, is_some}
 use Rattle.std.specs.Option.{option_map_or}
 use Rattle.std.proofs.lemmas.Bool.{eqb-true}
@@ -23,6 +23,7 @@ use Rattle.node_machine.specs.world.NodeHistories.{FollowsNodes, NodeHistory, en
 use Rattle.node_laws.specs.kept.Books.{hosts_of_ends}
 use Rattle.node_laws.specs.kept.Hosts.{AreDifferent, AreHosts}
 use Rattle.node_laws.specs.telling.Telling.{HasEnds, hosts_in, MayBoot, world_behind}
+use Rattle.node_laws.proofs.Cases.{by_test}
 use Rattle.node_laws.proofs.telling.Lasting.{AllHold, AnyLine, all_lines, boots_may, events_of_steps, front_holds, lines_hold}
 use Rattle.node_laws.proofs.telling.Nodes.{hosts_same, link_is, ports_for}
 use Rattle.node_laws.proofs.telling.Orderly.{new_orderly, step_orderly}
@@ -101,16 +102,13 @@ history_waits header lines t follows are front back parts =
 pub port_begins : (near_ends : ℕ → NumberedEnd) (desks : List Desk) (k : ℕ) (p : Port) → port_at (ports_for near_ends desks) k ≡ Some p
     → (p.turns ≡ []) × (p.side ≡ (near_ends k).side)
 port_begins near_ends [] k p here = absurd (cc here)
-port_begins near_ends (d ∷ desks) k p here = by (eqb d.host k) refl (port_begins near_ends desks k p) where
-  by : (b : Bool) → eqb d.host k ≡ b → (port_at (ports_for near_ends desks) k ≡ Some p → (p.turns ≡ []) × (p.side ≡ (near_ends k).side))
-      → (p.turns ≡ []) × (p.side ≡ (near_ends k).side)
-  by true q later =
-      let same : Some (port_for (near_ends d.host) d) ≡ Some p = rw q at here in
-      let is : port_for (near_ends d.host) d ≡ p = cc in (
-        ap (λ (x : Port). x.turns) (sym is),
-        ap (λ (x : Port). x.side) (sym is) ∙ ap (λ n. (near_ends n).side) (eqb-true d.host k q),
-      )
-  by false q later = later (rw q at here)
+port_begins near_ends (d ∷ desks) k p here = by_test (eqb d.host k)
+    (λ q. let same : Some (port_for (near_ends d.host) d) ≡ Some p = rw q at here in
+    let is : port_for (near_ends d.host) d ≡ p = cc in (
+      ap (λ (x : Port). x.turns) (sym is),
+      ap (λ (x : Port). x.side) (sym is) ∙ ap (λ n. (near_ends n).side) (eqb-true d.host k q),
+    ))
+    (λ q. port_begins near_ends desks k p (rw q at here))
 
 -- what waits at an end of a controller that runs
 near_read : (t : List Entry) (w : NodeWorld) → AllWait t w → (r : Running) → w.controller ≡ Some r → (k : ℕ) (s : Site) → site_at w.sites k ≡ Some s

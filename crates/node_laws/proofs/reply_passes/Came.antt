@@ -1,9 +1,9 @@
 -- As the pass of a node begins, the messages that wait at its ends are what is read.
-use Rattle.std.proofs.Common.{◌≡◌, ◌⊎◌, inl, inr, ℕ, Bool, true, false, cond, eqb, List, [], ◌∷◌, ◌++◌, map, sym, refl, ap, ◌∙◌, subst, append_assoc}
+use Rattle.std.proofs.Common.{◌≡◌, ℕ, Bool, true, false, cond, eqb, List, [], ◌∷◌, ◌++◌, map, sym, refl, ap, ◌∙◌, subst, append_assoc}
 use Rattle.std.proofs.Common.{append-nil}
 use Rattle.std.specs.Prelude.{◌||◌, Option, Some, None, drop}
 use Rattle.std.specs.List.{AllByRecursion, flat_map}
-use Rattle.std.proofs.lemmas.Bool.{cases_Bool, eqb-true, true≢false}
+use Rattle.std.proofs.lemmas.Bool.{eqb-true, true≢false}
 use Rattle.std.proofs.lemmas.List.Sums.{fold-append}
 use Rattle.trace_model.specs.declared.entry.Entry.{Entry}
 use Rattle.trace_model.specs.declared.entry.Entry.TheVariants as entry
@@ -33,7 +33,6 @@ use Rattle.node_laws.proofs.telling.Mute.{AreMute, forgotten_mute, all_owed_mute
 use Rattle.node_laws.proofs.telling.Away.{at_map}
 use Rattle.node_laws.proofs.telling.Steps.{without_same, forgets_same, come_turns, sessions_side}
 use Rattle.node_laws.proofs.telling.Ticks.{reset_turns}
-use Rattle.node_laws.proofs.turns.Queues.Doing.{Adds, Nothing, Takes, Clears}
 use Rattle.node_laws.proofs.turns.Queues.{Becomes, Goes, goes-append, AreStill, still_goes, doing}
 use Rattle.node_laws.proofs.turns.Ends.{left_by, input_got}
 use Rattle.node_laws.proofs.turns.Passing.{At, Known, all_do as at_all, has_side, known_map, same_is}
@@ -49,20 +48,17 @@ use Rattle.node_laws.proofs.turns.Coming.{gots_go, gots_still, told_goes}
 module _ (e : End) where
   one_read : (s : List Entry) (x : Entry) (q r : List Message) → unhandled_in s e ≡ q → Becomes (doing e x) q r → unhandled_in (s ++ x ∷ []) e ≡ r
   one_read s (entry.Got f n pid message) q r is b =
-      fold-append (unhandled_after e) [] s (entry.Got f n pid message ∷ []) ∙ by (same_end f e) b where
-        by : (c : Bool) → Becomes (cond c (Adds (pid, message)) Nothing) q r → cond c (unhandled_in s e ++ (pid, message) ∷ []) (unhandled_in s e) ≡ r
-        by true b = ap (λ l. l ++ (pid, message) ∷ []) is ∙ b
-        by false b = is ∙ b
+      fold-append (unhandled_after e) [] s (entry.Got f n pid message ∷ []) ∙ by_test (same_end f e)
+      (λ q. rw q (ap (λ l. l ++ (pid, message) ∷ []) is ∙ (rw q at b)))
+      (λ q. rw q (is ∙ (rw q at b)))
   one_read s (entry.Turn f pid message) q r is b =
-      fold-append (unhandled_after e) [] s (entry.Turn f pid message ∷ []) ∙ by (same_end f e) b where
-        by : (c : Bool) → Becomes (cond c (Takes (pid, message)) Nothing) q r → cond c (drop 1 (unhandled_in s e)) (unhandled_in s e) ≡ r
-        by true b = ap (λ l. drop 1 l) (is ∙ b)
-        by false b = is ∙ b
+      fold-append (unhandled_after e) [] s (entry.Turn f pid message ∷ []) ∙ by_test (same_end f e)
+      (λ q. rw q (ap (λ l. drop 1 l) (is ∙ (rw q at b))))
+      (λ q. rw q (is ∙ (rw q at b)))
   one_read s (entry.Booted n k) q r is b =
-      fold-append (unhandled_after e) [] s (entry.Booted n k ∷ []) ∙ by (eqb n (node_of e)) b where
-        by : (c : Bool) → Becomes (cond c Clears Nothing) q r → cond c [] (unhandled_in s e) ≡ r
-        by true b = b
-        by false b = is ∙ b
+      fold-append (unhandled_after e) [] s (entry.Booted n k ∷ []) ∙ by_test (eqb n (node_of e))
+      (λ q. rw q (rw q at b))
+      (λ q. rw q (is ∙ (rw q at b)))
   one_read s x q r is b = fold-append (unhandled_after e) [] s (x ∷ []) ∙ (is ∙ b)
 
   pub goes_read : (s es : List Entry) (q r : List Message) → unhandled_in s e ≡ q → Goes e q es r → unhandled_in (s ++ es) e ≡ r
@@ -131,21 +127,16 @@ module _ (k : ℕ) (who : Side) where
     all_go : (ports : List Port) (p : Port) → AreDifferent (hosts_of_ends ports) → port_at ports k ≡ Some p
         → Goes its_end p.side.got (flat_map noted ports) (has_come p (input_at input p)).side.got
     all_go [] p d here = absurd (cc here)
-    all_go (x ∷ ports) p d here = by (eqb x.desk.host k) refl (all_go ports p d.1) where
-      by : (b : Bool) → eqb x.desk.host k ≡ b
-          → (port_at ports k ≡ Some p → Goes its_end p.side.got (flat_map noted ports) (has_come p (input_at input p)).side.got)
-          → Goes its_end p.side.got (flat_map noted (x ∷ ports)) (has_come p (input_at input p)).side.got
-      by true q later =
-          let same : Some x ≡ Some p = rw q at here in
-          let is : x ≡ p = cc in
-          let A : ℕ → Type 0 = λ n. AllByRecursion (λ j. (eqb j n) ≡ false) (hosts_of_ends ports) in
-          subst (λ (y : Port). Goes its_end y.side.got (flat_map noted (x ∷ ports)) (has_come y (input_at input y)).side.got) is
-          (goes-append its_end (noted x) (flat_map noted ports) x.side.got (has_come x (input_at input x)).side.got (has_come x (input_at input x)).side.got
-          (own_goes core x (input_at input x) side q (comes_outside input x outside))
-          (others_all ports (has_come x (input_at input x)).side.got (subst A (eqb-true x.desk.host k q) d.0)))
-      by false q later =
-          goes-append its_end (noted x) (flat_map noted ports) p.side.got p.side.got (has_come p (input_at input p)).side.got
-          (others_go core x (input_at input x) p.side.got side q) (later (rw q at here))
+    all_go (x ∷ ports) p d here = by_test (eqb x.desk.host k)
+        (λ q. let same : Some x ≡ Some p = rw q at here in
+        let is : x ≡ p = cc in
+        let A : ℕ → Type 0 = λ n. AllByRecursion (λ j. (eqb j n) ≡ false) (hosts_of_ends ports) in
+        subst (λ (y : Port). Goes its_end y.side.got (flat_map noted (x ∷ ports)) (has_come y (input_at input y)).side.got) is
+        (goes-append its_end (noted x) (flat_map noted ports) x.side.got (has_come x (input_at input x)).side.got (has_come x (input_at input x)).side.got
+        (own_goes core x (input_at input x) side q (comes_outside input x outside))
+        (others_all ports (has_come x (input_at input x)).side.got (subst A (eqb-true x.desk.host k q) d.0))))
+        (λ q. goes-append its_end (noted x) (flat_map noted ports) p.side.got p.side.got (has_come p (input_at input p)).side.got
+        (others_go core x (input_at input x) p.side.got side q) (all_go ports p d.1 (rw q at here)))
 
   late_goes : (core : Core) (ports : List Port) (q : List Message) → Goes its_end q (flat_map (told_late core) ports) q
   late_goes core [] q = refl
@@ -227,13 +218,10 @@ module _ (k : ℕ) (who : Side) where
 
 pub one_at : (ports : List Port) (k : ℕ) → is_one_of (hosts_of_ends ports) k ≡ true → (p : Port) × (port_at ports k ≡ Some p)
 one_at [] k one = absurd (true≢false (sym one))
-one_at (p ∷ ports) k one = go (cases_Bool (eqb p.desk.host k)) (one_at ports k) where
-  go : (eqb p.desk.host k ≡ true) ⊎ (eqb p.desk.host k ≡ false) → (is_one_of (hosts_of_ends ports) k ≡ true → (q : Port) × (port_at ports k ≡ Some q))
-      → (q : Port) × (port_at (p ∷ ports) k ≡ Some q)
-  go (inl is) later = (p, ap (λ b. cond b (Some p) (port_at ports k)) is)
-  go (inr off) later =
-      let found = later (sym (ap (λ b. b || is_one_of (hosts_of_ends ports) k) off) ∙ one) in
-      (found.0, ap (λ b. cond b (Some p) (port_at ports k)) off ∙ found.1)
+one_at (p ∷ ports) k one = by_test (eqb p.desk.host k)
+    (λ is. (p, ap (λ b. cond b (Some p) (port_at ports k)) is))
+    (λ off. let found = one_at ports k (sym (ap (λ b. b || is_one_of (hosts_of_ends ports) k) off) ∙ one) in
+    (found.0, ap (λ b. cond b (Some p) (port_at ports k)) off ∙ found.1))
 
 -- an end that a node has as its pass begins it had as its step began
 pub was_there : (input : NodeInput) (w : Work) (k : ℕ) (q : Port) → port_at (comes_to_pass input w).ports k ≡ Some q → (p : Port) × (port_at w.ports k ≡ Some p)

@@ -1,5 +1,5 @@
 -- The generation of the journal of a node grows by one at most with each command that is noted.
-use Rattle.std.proofs.Common.{◌≡◌, ℕ, ◌+◌, ◌≤◌, ◌<◌, Bool, true, false, cond, List, [], ◌∷◌, ◌++◌, map, sym, refl, ap, append-nil, arith, lt-ltb}
+use Rattle.std.proofs.Common.{◌≡◌, ℕ, ◌+◌, ◌≤◌, ◌<◌, Bool, true, cond, List, [], ◌∷◌, ◌++◌, map, sym, refl, ap, append-nil, arith, lt-ltb}
 use Rattle.std.specs.Prelude.{Some, None, length}
 use Rattle.std.specs.List.{AllByRecursion, list_any}
 use Rattle.trace_model.specs.declared.entry.Entry.{Entry}
@@ -64,24 +64,22 @@ module _ (t : List Entry) where
   tells_grow h about message w a = turns_grow h (Give (1, message)) w a
 
   commits_grow : (c : Command) (w : Work) → Grows w → Grows (commit c w)
-  commits_grow c w a = by (fails_within (length writes) w.plan) refl where
-    writes : List Write
-    writes = commit_writes w.core.journal w.core.tables (body_of c)
+  commits_grow c w a = by_test (fails_within (length writes) w.plan)
+      (λ q. rw q (
+      let one = commits-append t ((w.entries ++ entry.Command w.core.node c ∷ []) ++ entry.Cut w.core.node ∷ []) in
+      let two = commits-append (w.entries ++ entry.Command w.core.node c ∷ []) (entry.Cut w.core.node ∷ []) in
+      let four = commits-append w.entries (entry.Command w.core.node c ∷ []) in
+      omega (arith, a, one, two, three, four)))
+      (λ q. rw q (
+      let one = commits-append t (w.entries ++ entry.Command w.core.node c ∷ []) in
+      let four = commits-append w.entries (entry.Command w.core.node c ∷ []) in
+      let grown = commit_grows w.core.journal w.core.tables (body_of c) in
+      omega (arith, a, one, three, four, grown))) where
+        writes : List Write
+        writes = commit_writes w.core.journal w.core.tables (body_of c)
 
-    three : commits (t ++ w.entries) ≡ commits t + commits w.entries
-    three = commits-append t w.entries
-
-    by : (b : Bool) → fails_within (length writes) w.plan ≡ b → Grows (commit c w)
-    by true q = rw q (
-        let one = commits-append t ((w.entries ++ entry.Command w.core.node c ∷ []) ++ entry.Cut w.core.node ∷ []) in
-        let two = commits-append (w.entries ++ entry.Command w.core.node c ∷ []) (entry.Cut w.core.node ∷ []) in
-        let four = commits-append w.entries (entry.Command w.core.node c ∷ []) in
-        omega (arith, a, one, two, three, four))
-    by false q = rw q (
-        let one = commits-append t (w.entries ++ entry.Command w.core.node c ∷ []) in
-        let four = commits-append w.entries (entry.Command w.core.node c ∷ []) in
-        let grown = commit_grows w.core.journal w.core.tables (body_of c) in
-        omega (arith, a, one, three, four, grown))
+        three : commits (t ++ w.entries) ≡ commits t + commits w.entries
+        three = commits-append t w.entries
 
   note_grow : (es : List Entry) (w : Work) → Grows w → Grows (noting es w)
   note_grow es w a = more w (noting es w) es refl refl refl a

@@ -21,7 +21,7 @@ use Rattle.node_laws.specs.kept.Books.{hosts_of_ends}
 use Rattle.node_laws.specs.kept.Hosts.{AreDifferent}
 use Rattle.node_laws.specs.links.Notices.{IsOutside}
 use Rattle.node_laws.specs.telling.Telling.{hosts_in}
-use Rattle.node_laws.proofs.Cases.{by_test}
+use Rattle.node_laws.proofs.Cases.{by_option, by_test}
 use Rattle.node_laws.proofs.telling.Nodes.{hosts_same, link_is}
 use Rattle.node_laws.proofs.read_rooms.Beginning.{HasSite, site_for}
 use Rattle.node_laws.proofs.turns.Lines.{AllWait, Waiting}
@@ -94,48 +94,42 @@ module _ (t : List Entry) (w : NodeWorld) (r : Running) (number : r.core.node �
     by : (o : Option Port) → port_at start.ports k ≡ o → (q : List Message) × Goes (end_c k) [] (t ++ v.entries) q
     by None here =
         let z = any (end_c k) in
-        let none : waiting_at begun.ports k ≡ [] = gone (port_at begun.ports k) refl in (
+        let none : waiting_at begun.ports k ≡ [] = by_option (port_at begun.ports k)
+        (λ q. ap (λ o. option_map_or (λ (p : Port). p.side.got) o []) q)
+        (λ p q. let was = was_there input start k p q in
+        let no : None ≡ Some was.0 = sym here ∙ was.1 in
+        absurd (cc no)) in (
           waiting_at v.ports k ++ z.0,
           runs_comes t Controller k z.0 begun v begun_own
               (subst (λ l. Goes (end_c k) [] (t ++ begun.entries) (l ++ z.0)) (sym none)
               (then_goes (end_c k) z.0 z.0 z.1 (others_before (end_c k) Controller input start z.0 side (none_off k start.ports here) (still (end_c k))))) c,
         )
-      where
-        gone : (o : Option Port) → port_at begun.ports k ≡ o → waiting_at begun.ports k ≡ []
-        gone None q = ap (λ o. option_map_or (λ (p : Port). p.side.got) o []) q
-        gone (Some p) q =
-            let was = was_there input start k p q in
-            let no : None ≡ Some was.0 = sym here ∙ was.1 in
-            absurd (cc no)
-    by (Some p) here = own (port_at begun.ports k) refl where
-      begins : (p.turns ≡ []) × (p.side ≡ (near_ends k).side)
-      begins = port_begins near_ends r.desks k p here
+    by (Some p) here = by_option (port_at begun.ports k)
+        (λ q. let no = there_still input start k p here in let bad : None ≡ Some no.0 = sym q ∙ no.1 in absurd (cc bad))
+        (λ x q. let a = begun_at k Controller input outside start side apart p here begins.0 (still (end_c k)) in
+        let known = subst (Known (end_c k) Controller true (mine k Controller) p.side.got all all) q a.port in
+        let waits : waiting_at begun.ports k ++ [] ≡ all =
+        append-nil (waiting_at begun.ports k) ∙ (ap (λ o. option_map_or (λ (p : Port). p.side.got) o []) q ∙ known.1) in (
+          waiting_at v.ports k ++ [],
+          runs_comes t Controller k [] begun v begun_own
+              (subst (Goes (end_c k) [] (t ++ begun.entries)) (sym waits) (then_goes (end_c k) p.side.got all z a.goes)) c,
+        )) where
+          begins : (p.turns ≡ []) × (p.side ≡ (near_ends k).side)
+          begins = port_begins near_ends r.desks k p here
 
-      apart : AreDifferent (hosts_of_ends start.ports)
-      apart = subst AreDifferent (sym hosts_are) different
+          apart : AreDifferent (hosts_of_ends start.ports)
+          apart = subst AreDifferent (sym hosts_are) different
 
-      all : List Message
-      all = ms k Controller input outside start side apart p here begins.0 (still (end_c k))
+          all : List Message
+          all = ms k Controller input outside start side apart p here begins.0 (still (end_c k))
 
-      z : Goes (end_c k) [] t p.side.got
-      z =
-          let site : HasSite w.sites k = site_for start.ports w.sites k p hosts_are here in
-          let got : site.site.link.controller.side.got ≡ p.side.got =
-          ap (λ (l : Link). l.controller.side.got) (sym (link_is w.sites k site.site site.there))
-          ∙ ap (λ (e : LinkEnd). e.got) (sym (same k) ∙ sym begins.1) in
-          subst (Goes (end_c k) [] t) got (near k site.site site.there)
-
-      own : (o : Option Port) → port_at begun.ports k ≡ o → (q : List Message) × Goes (end_c k) [] (t ++ v.entries) q
-      own None q = let no = there_still input start k p here in let bad : None ≡ Some no.0 = sym q ∙ no.1 in absurd (cc bad)
-      own (Some x) q =
-          let a = begun_at k Controller input outside start side apart p here begins.0 (still (end_c k)) in
-          let known = subst (Known (end_c k) Controller true (mine k Controller) p.side.got all all) q a.port in
-          let waits : waiting_at begun.ports k ++ [] ≡ all =
-          append-nil (waiting_at begun.ports k) ∙ (ap (λ o. option_map_or (λ (p : Port). p.side.got) o []) q ∙ known.1) in (
-            waiting_at v.ports k ++ [],
-            runs_comes t Controller k [] begun v begun_own
-                (subst (Goes (end_c k) [] (t ++ begun.entries)) (sym waits) (then_goes (end_c k) p.side.got all z a.goes)) c,
-          )
+          z : Goes (end_c k) [] t p.side.got
+          z =
+              let site : HasSite w.sites k = site_for start.ports w.sites k p hosts_are here in
+              let got : site.site.link.controller.side.got ≡ p.side.got =
+              ap (λ (l : Link). l.controller.side.got) (sym (link_is w.sites k site.site site.there))
+              ∙ ap (λ (e : LinkEnd). e.got) (sym (same k) ∙ sym begins.1) in
+              subst (Goes (end_c k) [] t) got (near k site.site site.there)
 
   -- in whatever order the ends have their turns
   pub turns_in_order : (v : Work) → ComesTo begun v → AreInTurn (t ++ v.entries)

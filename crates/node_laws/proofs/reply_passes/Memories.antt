@@ -1,10 +1,8 @@
 -- The generation that a memory says grows by one at most where a commit is written to it, whole or cut.
-use Rattle.std.proofs.Common.{◌≡◌, ◌⊎◌, inl, inr, ℕ, ◌+◌, ◌≤◌, ◌<◌, Bool, true, false, cond, List, [], ◌++◌, length, slice_index, sym, refl, ap, ◌∙◌, arith}
-use Rattle.std.specs.Prelude.{◌≢◌, Option, Some, None, IsSome}
-use Rattle.std.specs.Option.{option_map_or}
+use Rattle.std.proofs.Common.{◌≡◌, ◌⊎◌, inl, inr, ℕ, ◌+◌, ◌≤◌, ◌<◌, Bool, true, false, cond, List, [], length, slice_index, sym, refl, ap, ◌∙◌, arith}
+use Rattle.std.specs.Prelude.{◌≢◌, IsSome}
 use Rattle.std.proofs.lemmas.Bool.{cases_Bool, cases_eq, true≢false}
 use Rattle.swp_base.specs.InMemory.{Memory}
-use Rattle.journal_laws.specs.declared.banks.Side.{Side}
 use Rattle.journal_laws.specs.declared.state.State.{State}
 use Rattle.journal_laws.specs.Banks.{bank_place, is_opened_gate, other}
 use Rattle.journal_laws.specs.Writes.{Write, after_writes}
@@ -19,6 +17,7 @@ use Rattle.hci_tables.specs.Tables.{HciTables, AreTables, apply}
 use Rattle.hci_store.specs.Recordable.{IsRecordable}
 use Rattle.hci_store.specs.Committing.{record_fits, snapshot_bodies, room_writes, with_room, commit_writes, committed}
 use Rattle.node_laws.specs.kept.Finds.{Knows, FindsRoom}
+use Rattle.node_laws.proofs.Cases.{by_option, by_test}
 use Rattle.node_laws.proofs.kept.Commits.{says_of, can, room_knows, next_of}
 use Rattle.node_laws.specs.kept.Gates.{opens_gate}
 use Rattle.node_laws.proofs.cuts.Filled.{IsFilled}
@@ -27,12 +26,10 @@ use Rattle.node_laws.proofs.cuts.Commits.{Torn, torn, many, parts, commit_opened
 use Rattle.node_laws.proofs.reply_passes.Growing.{commit_grows}
 
 snapshot_ends : (s : State) (bodies : List (List ℕ)) → IsSome s.in_use → EndsInGate (compact_writes s bodies)
-snapshot_ends s bodies used = by_side s.in_use used where
-  by_side : (o : Option Side) → IsSome o → EndsInGate (option_map_or (λ side. close_bank s.beside (bank_place (other side))
-      ++ open_bank (bank_place (other side)) (s.generation + 1) (count_of s) bodies) o [])
-  by_side None used = absurd (true≢false (sym used))
-  by_side (Some side) used =
-      ends_append (close_bank s.beside (bank_place (other side))) (open_bank (bank_place (other side)) (s.generation + 1) (count_of s) bodies) refl
+snapshot_ends s bodies used = by_option s.in_use
+    (λ q. rw q (absurd (true≢false (sym (rw q at used)))))
+    (λ side q. rw q (ends_append (close_bank s.beside (bank_place (other side)))
+    (open_bank (bank_place (other side)) (s.generation + 1) (count_of s) bodies) refl))
 
 -- the generation of the bank in use
 abbrev pub generation_in : List ℕ → ℕ
@@ -106,25 +103,21 @@ module _ (m : Memory) (s : State) (t : HciTables) (c : Command) (k : Knows m.con
   cut_grows = by_part (parts m.content s t c k are may command room cut.i cut.fill left cut.filled) where
     by_part : Parts → generation_in left ≤ s.generation + 1
     by_part (inl front) = snapshot_grows m.content s t c k are may command room cut.i cut.fill left front.1
-    by_part (inr back) = by_gate (cases_Bool (opens_gate (length (commit_writes s t (body_of c))) m.plan)) where
-      by_gate : (opens_gate (length (commit_writes s t (body_of c))) m.plan ≡ true) ⊎ (opens_gate (length (commit_writes s t (body_of c))) m.plan ≡ false)
-          → generation_in left ≤ s.generation + 1
-      by_gate (inl opens) =
-          let o = cut.opened (length (commit_writes s t (body_of c))) opens in
-          let b = known_generation left (committed s t (body_of c)) (apply t c)
-          (commit_opened m.content s t c k are may command room cut.i cut.fill left cut.filled o.0 o.1) in
-          let grown = commit_grows s t (body_of c) in
-          omega (arith, b, grown)
-      by_gate (inr opens) =
-          let r = room_knows m.content s t c k are may command room (record_fits s (body_of c)) refl in
-          let a = same_generation (after_writes first m.content) left
-          (record_same (after_writes first m.content) (with_room s t (body_of c)) t r.0 c command r.1 back.0 cut.fill left back.2
-          (λ last. cut.closed (length (commit_writes s t (body_of c))) opens (omega (
-            arith,
-            last,
-            back.1,
-            many m.content s t c k are may command room cut.i cut.fill left cut.filled,
-          )))) in
-          let b = known_generation (after_writes first m.content) (with_room s t (body_of c)) t r.0 in
-          let grown = room_grows s t (body_of c) in
-          omega (arith, a, b, grown)
+    by_part (inr back) = by_test (opens_gate (length (commit_writes s t (body_of c))) m.plan)
+        (λ opens. let o = cut.opened (length (commit_writes s t (body_of c))) opens in
+        let b = known_generation left (committed s t (body_of c)) (apply t c)
+        (commit_opened m.content s t c k are may command room cut.i cut.fill left cut.filled o.0 o.1) in
+        let grown = commit_grows s t (body_of c) in
+        omega (arith, b, grown))
+        (λ opens. let r = room_knows m.content s t c k are may command room (record_fits s (body_of c)) refl in
+        let a = same_generation (after_writes first m.content) left
+        (record_same (after_writes first m.content) (with_room s t (body_of c)) t r.0 c command r.1 back.0 cut.fill left back.2
+        (λ last. cut.closed (length (commit_writes s t (body_of c))) opens (omega (
+          arith,
+          last,
+          back.1,
+          many m.content s t c k are may command room cut.i cut.fill left cut.filled,
+        )))) in
+        let b = known_generation (after_writes first m.content) (with_room s t (body_of c)) t r.0 in
+        let grown = room_grows s t (body_of c) in
+        omega (arith, a, b, grown))

@@ -257,15 +257,13 @@ module _ (f : End) (who : Side) where
       (goes-append f (flat_map (λ p. told_at w.core p (input_at input p)) w.ports) (told_of_late input (all_come input w)) q q q
       (others_told w.core input w.ports q side all) (late_told input (all_come input w) q))
       (still_goes f behind q (AllByRecursion-append (λ (x : Entry). doing f x ≡ Nothing) (noted_by_deeds 0 (syncs_in input w) (has_freed input w)) _
-      (deeds_still f 0 (syncs_in input w) (has_freed input w) (all_synced_mute w.core input w.ports)) (by (has_synced input w).cut))))) where
+      (deeds_still f 0 (syncs_in input w) (has_freed input w) (all_synced_mute w.core input w.ports)) (by_test (has_synced input w).cut
+      (λ q. rw q tt)
+      (λ q. rw q (deeds_still f 0 (owed_in_step input w) (has_synced input w) (all_owed_mute (map (forgets (has_come_so input w).ports)
+      (has_come_so input w).ports))))))))) where
         behind : List Entry
         behind = noted_by_deeds 0 (syncs_in input w) (has_freed input w)
             ++ cond (has_synced input w).cut [] (noted_by_deeds 0 (owed_in_step input w) (has_synced input w))
-
-        by : (b : Bool) → AreStill f (cond b [] (noted_by_deeds 0 (owed_in_step input w) (has_synced input w)))
-        by true = tt
-        by false = deeds_still f 0 (owed_in_step input w) (has_synced input w) (all_owed_mute (map (forgets (has_come_so input w).ports)
-            (has_come_so input w).ports))
 
 -- ## In turn
 

@@ -1,5 +1,5 @@
 -- The ends of a round: those of the links ascending, of each link the controller's first; and the events of a round in their parts.
-use Rattle.std.proofs.Common.{◌≡◌, ℕ, ◌==◌, Bool, true, false, List, [], ◌∷◌, ◌++◌, Some, None, refl, ap, sym, subst, ◌∙◌, append_assoc}
+use Rattle.std.proofs.Common.{◌≡◌, ℕ, ◌==◌, false, List, [], ◌∷◌, ◌++◌, Some, None, refl, ap, sym, subst, ◌∙◌, append_assoc}
 use Rattle.std.specs.List.{AllByRecursion, flat_map}
 use Rattle.std.proofs.lemmas.Bool.{eqb-true}
 use Rattle.trace_model.specs.declared.line.End.{End}
@@ -10,6 +10,7 @@ use Rattle.node_machine.specs.world.Lines.{happenings}
 use Rattle.node_machine.specs.world.Rounds.{end_takes_all, ends_take_all}
 use Rattle.node_laws.specs.kept.Hosts.{AreDifferent}
 use Rattle.node_laws.specs.telling.Telling.{hosts_in}
+use Rattle.node_laws.proofs.Cases.{by_test}
 use Rattle.node_laws.proofs.telling.Nodes.{swapped}
 use Rattle.node_laws.specs.rounds.RoundEvents.{events_on, ends_events}
 
@@ -44,27 +45,23 @@ turned_round h (k ∷ hosts) a = (swapped k h a.0, turned_round h hosts a.1)
 
 pub split : (sites : List Site) (h : ℕ) (s : Site) → AreDifferent (hosts_in sites) → site_at sites h ≡ Some s → Split h (hosts_in sites)
 split [] h s d q = absurd (cc q)
-split (x ∷ sites) h s d q = go (x.host == h) refl (split sites h s d.1)
-  where
-    go : (b : Bool) → (x.host == h) ≡ b → (site_at sites h ≡ Some s → Split h (hosts_in sites)) → Split h (hosts_in (x ∷ sites))
-    go true p later =
-        let same : x.host ≡ h = eqb-true x.host h p in
-        record {
-          before = [];
-          behind = hosts_in sites;
-          parts = ap (λ k. k ∷ hosts_in sites) same;
-          first = tt;
-          last = turned_round h (hosts_in sites) (subst (λ n. AllByRecursion (λ k. (k == n) ≡ false) (hosts_in sites)) same d.0);
-        }
-    go false p later =
-        let rest = later (rw p at q) in
-        record {
-          before = x.host ∷ rest.before;
-          behind = rest.behind;
-          parts = ap (λ ks. x.host ∷ ks) rest.parts;
-          first = (swapped x.host h p, rest.first);
-          last = rest.last;
-        }
+split (x ∷ sites) h s d q = by_test (x.host == h)
+    (λ p. let same : x.host ≡ h = eqb-true x.host h p in
+    record {
+      before = [];
+      behind = hosts_in sites;
+      parts = ap (λ k. k ∷ hosts_in sites) same;
+      first = tt;
+      last = turned_round h (hosts_in sites) (subst (λ n. AllByRecursion (λ k. (k == n) ≡ false) (hosts_in sites)) same d.0);
+    })
+    (λ p. let rest = split sites h s d.1 (rw p at q) in
+    record {
+      before = x.host ∷ rest.before;
+      behind = rest.behind;
+      parts = ap (λ ks. x.host ∷ ks) rest.parts;
+      first = (swapped x.host h p, rest.first);
+      last = rest.last;
+    })
 
 pub events-append : (h : ℕ) (xs ys : List End) (w : NodeWorld)
     → ends_events h w (xs ++ ys) ≡ ends_events h w xs ++ ends_events h (ends_take_all w xs).0 ys

@@ -112,22 +112,18 @@ host_took_other : (w : NodeWorld) (k h : ℕ) (s : Site) → site_at w.sites h �
     → GoesOnLink (world_step w (Takes (end_h k))).0 h s []
 host_took_other w k h s q other = go (input_of (exchanged (link_to w.sites k)) NextFrame) (site_at w.sites k) refl refl
   where
-    by_node : (x : Site) (i : LinkInput) (c : Option Running) → input_of (exchanged (link_to w.sites k)) NextFrame ≡ Some i → site_at w.sites k ≡ Some x
-        → x.node ≡ c → GoesOnLink (world_step w (Takes (end_h k))).0 h s []
-    by_node x i None p r t = stays w (world_step w (Takes (end_h k))).0 h s (rw (p, r, t) refl) q
-    by_node x i (Some run) p r t =
-        let work : Work = host_work x run NextFrame (steps (AtEnd k i)) in
-        let u : NodeWorld = record w { sites = with_site k (after_host NextFrame work) w.sites } in
-        let world : (world_step w (Takes (end_h k))).0 ≡ u = rw (p, r, t) refl in
-        let at : site_at u.sites h ≡ Some s =
-        changed_site k (after_host NextFrame work) (λ y. refl) w.sites h s q ∙ ap (λ (b : Bool). Some (changed_if b (after_host NextFrame work) s)) other in
-        record { later = s; is = ap (λ (z : NodeWorld). site_at z.sites h) world ∙ at; host = refl; link = refl }
-
     go : (i : Option LinkInput) (x : Option Site) → input_of (exchanged (link_to w.sites k)) NextFrame ≡ i → site_at w.sites k ≡ x
         → GoesOnLink (world_step w (Takes (end_h k))).0 h s []
     go None x p r = stays w (world_step w (Takes (end_h k))).0 h s (rw p refl) q
     go (Some i) None p r = stays w (world_step w (Takes (end_h k))).0 h s (rw (p, r) refl) q
-    go (Some i) (Some x) p r = by_node x i x.node p r refl
+    go (Some i) (Some x) p r = by_option x.node
+        (λ t. stays w (world_step w (Takes (end_h k))).0 h s (rw (p, r, t) refl) q)
+        (λ run t. let work : Work = host_work x run NextFrame (steps (AtEnd k i)) in
+        let u : NodeWorld = record w { sites = with_site k (after_host NextFrame work) w.sites } in
+        let world : (world_step w (Takes (end_h k))).0 ≡ u = rw (p, r, t) refl in
+        let at : site_at u.sites h ≡ Some s =
+        changed_site k (after_host NextFrame work) (λ y. refl) w.sites h s q ∙ ap (λ (b : Bool). Some (changed_if b (after_host NextFrame work) s)) other in
+        record { later = s; is = ap (λ (z : NodeWorld). site_at z.sites h) world ∙ at; host = refl; link = refl })
 
 -- the end of the host k takes a frame
 host_took : (w : NodeWorld) (k h : ℕ) (s : Site) → site_at w.sites h ≡ Some s → GoesOnLink (world_step w (Takes (end_h k))).0 h s (takes_on s w (end_h k))
@@ -166,22 +162,16 @@ near_ticked l c = ticked_so l c.1 c.0.turns c.0.ending
 controller_ticked : (w : NodeWorld) (h : ℕ) (s : Site) → site_at w.sites h ≡ Some s
     → (later : Site) × (site_at (controller_ticks w).0.sites h ≡ Some later) × (later.host ≡ s.host)
     × (later.link ≡ near_ticked s.link (controller_tick_on s.host w)) × (later.node ≡ s.node)
-controller_ticked w h s q = go w.controller refl
-  where
-    go : (c : Option Running) → w.controller ≡ c
-        → (later : Site) × (site_at (controller_ticks w).0.sites h ≡ Some later) × (later.host ≡ s.host)
-        × (later.link ≡ near_ticked s.link (controller_tick_on s.host w)) × (later.node ≡ s.node)
-    go None p =
-        let F : Site → Site = λ x. record x { link = ticks_at_controller x.link [] GoesOut } in
-        let m = site_map F (λ x. refl) w.sites h s q in
-        let world : (controller_ticks w).0.sites ≡ map F w.sites = rw p refl in
-        (F s, ap (λ ss. site_at ss h) world ∙ m.0, refl, rw p refl, refl)
-    go (Some r) p =
-        let work : Work = steps TimePasses (work_of r w.memory.plan (λ k. (link_to w.sites k).controller) []) in
-        let F : Site → Site = λ x. record x { link = ticked_so x.link (is_late_at work x.host) (turns_at work x.host) (ending_of work) } in
-        let m = site_map F (λ x. refl) w.sites h s q in
-        let world : (controller_ticks w).0.sites ≡ map F w.sites = rw p refl in
-        (F s, ap (λ ss. site_at ss h) world ∙ m.0, refl, rw p refl, refl)
+controller_ticked w h s q = by_option w.controller
+    (λ p. let F : Site → Site = λ x. record x { link = ticks_at_controller x.link [] GoesOut } in
+    let m = site_map F (λ x. refl) w.sites h s q in
+    let world : (controller_ticks w).0.sites ≡ map F w.sites = rw p refl in
+    (F s, ap (λ ss. site_at ss h) world ∙ m.0, refl, rw p refl, refl))
+    (λ r p. let work : Work = steps TimePasses (work_of r w.memory.plan (λ k. (link_to w.sites k).controller) []) in
+    let F : Site → Site = λ x. record x { link = ticked_so x.link (is_late_at work x.host) (turns_at work x.host) (ending_of work) } in
+    let m = site_map F (λ x. refl) w.sites h s q in
+    let world : (controller_ticks w).0.sites ≡ map F w.sites = rw p refl in
+    (F s, ap (λ ss. site_at ss h) world ∙ m.0, refl, rw p refl, refl))
 
 -- the link after both
 tick_is : (l : Link) (late : Bool) (c h : Node)

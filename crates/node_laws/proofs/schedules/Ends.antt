@@ -4,6 +4,7 @@ use Rattle.std.proofs.lemmas.Bool.{and_parts, eqb-true}
 use Rattle.trace_model.specs.declared.line.End.{End}
 use Rattle.history.specs.Filters.{same_side, same_end}
 use Rattle.history.proofs.Filters.{same_end_itself}
+use Rattle.node_laws.proofs.Cases.{by_test}
 
 abbrev pub one_at : Bool → ℕ
 one_at true = 1
@@ -33,22 +34,20 @@ record Without (x : End) (ys : List End) : Type 0 where
 
 take_one : (x : End) (ys : List End) → 1 ≤ count x ys → Without x ys
 take_one x [] some = absurd (omega (arith, some))
-take_one x (y ∷ ys) some = go (same_end y x) refl (take_one x ys) where
-  go : (b : Bool) → same_end y x ≡ b → (1 ≤ count x ys → Without x ys) → Without x (y ∷ ys)
-  go true q later = record {
-    left = ys;
-    long = omega arith;
-    counts = λ e. ap (λ (z : End). one_at (same_end z e) + count e ys) (ends_same y x q);
-  }
-  go false q later =
-      let still : 1 ≤ count x ys = (let none : one_at (same_end y x) ≡ 0 = ap one_at q in omega (arith, some, none)) in
-      let r : Without x ys = later still in
-      let long = r.long in
-      record {
-        left = y ∷ r.left;
-        long = omega (arith, long);
-        counts = λ e. let rest = r.counts e in omega (arith, rest);
-      }
+take_one x (y ∷ ys) some = by_test (same_end y x)
+    (λ q. record {
+      left = ys;
+      long = omega arith;
+      counts = λ e. ap (λ (z : End). one_at (same_end z e) + count e ys) (ends_same y x q);
+    })
+    (λ q. let still : 1 ≤ count x ys = (let none : one_at (same_end y x) ≡ 0 = ap one_at q in omega (arith, some, none)) in
+    let r : Without x ys = take_one x ys still in
+    let long = r.long in
+    record {
+      left = y ∷ r.left;
+      long = omega (arith, long);
+      counts = λ e. let rest = r.counts e in omega (arith, rest);
+    })
 
 pub fewer : (xs ys : List End) → ((e : End) → count e xs ≤ count e ys) → length xs ≤ length ys
 fewer [] ys each = omega arith

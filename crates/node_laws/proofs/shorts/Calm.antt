@@ -1,9 +1,9 @@
 -- Entries that change nothing of what decides a reply of a host: behind them a message there lacks what it lacked before.
-use Rattle.std.proofs.Common.{◌≡◌, ◌⊎◌, inl, inr, ℕ, ◌-◌, ◌+◌, Bool, true, false, cond, eqb, List, [], ◌∷◌, ◌++◌, drop, sym, subst, refl, ap, ap₂, ◌∙◌}
+use Rattle.std.proofs.Common.{◌≡◌, ℕ, ◌-◌, ◌+◌, Bool, true, false, cond, eqb, List, [], ◌∷◌, ◌++◌, drop, sym, subst, refl, ap, ap₂, ◌∙◌}
 use Rattle.std.proofs.Common.{append_assoc, append-nil}
 use Rattle.std.specs.Prelude.{Option, Some, None, is_some}
 use Rattle.std.specs.List.{AllByRecursion, fold, filter_map}
-use Rattle.std.proofs.lemmas.Bool.{cases_Bool, eqb-true}
+use Rattle.std.proofs.lemmas.Bool.{eqb-true}
 use Rattle.std.proofs.lemmas.List.Elements.{filter_map-append}
 use Rattle.std.proofs.lemmas.List.Sums.{fold-append}
 use Rattle.trace_model.specs.declared.entry.Entry.{Entry}
@@ -21,7 +21,7 @@ use Rattle.node_machine.specs.Carrying.{end_of_number, first_lack, needs, port_a
 use Rattle.node_machine.specs.HostReplies.{host_deeds}
 use Rattle.node_machine.specs.world.World.{end_h, ending_of, frames_noted}
 use Rattle.node_machine.specs.world.NodeFilters.{Book, book_after, book_in, order_in, session_now, spare_at, tables_in, unacknowledged_in}
-use Rattle.node_laws.proofs.Cases.{by_option}
+use Rattle.node_laws.proofs.Cases.{by_option, by_test}
 use Rattle.node_laws.proofs.kept.Books.{book_more}
 use Rattle.node_laws.proofs.telling.Frames.{ending_all}
 use Rattle.node_laws.specs.power.Powers.{AreNotOf, is_of_node}
@@ -228,15 +228,12 @@ module _ (hosts : List ℕ) (n : ℕ) (off : eqb n 0 ≡ false) (t s : List Entr
   spares_same : (j : ℕ) → spare_read hosts s n j ≡ spare_read hosts t n j
   spares_same j =
       ap (λ b. cond b (spare_at s (end_of_number n j)) 0) (linked_far hosts n off j)
-      ∙ (by (cases_Bool (eqb n j)) ∙ sym (ap (λ b. cond b (spare_at t (end_of_number n j)) 0) (linked_far hosts n off j))) where
+      ∙ (by_test (eqb n j)
+      (λ z. ap (λ x. cond (eqb n j) x 0) (subst (λ x. spare_at s (end_of_number n x) ≡ spare_at t (end_of_number n x)) (eqb-true n j z) own))
+      (λ z. ap (λ b. cond b (spare_at s (end_of_number n j)) 0) z ∙ sym (ap (λ b. cond b (spare_at t (end_of_number n j)) 0) z)) ∙ sym
+      (ap (λ b. cond b (spare_at t (end_of_number n j)) 0) (linked_far hosts n off j))) where
         own : spare_at s (end_of_number n n) ≡ spare_at t (end_of_number n n)
         own = subst (λ z. spare_at s z ≡ spare_at t z) (sym at_end) spares
-
-        by : (eqb n j ≡ true) ⊎ (eqb n j ≡ false)
-            → cond (eqb n j) (spare_at s (end_of_number n j)) 0 ≡ cond (eqb n j) (spare_at t (end_of_number n j)) 0
-        by (inl z) =
-            ap (λ x. cond (eqb n j) x 0) (subst (λ x. spare_at s (end_of_number n x) ≡ spare_at t (end_of_number n x)) (eqb-true n j z) own)
-        by (inr z) = ap (λ b. cond b (spare_at s (end_of_number n j)) 0) z ∙ sym (ap (λ b. cond b (spare_at t (end_of_number n j)) 0) z)
 
   pub lack_same : (m l : Moment) → until m ≡ s → until l ≡ t → own_read m n ≡ own_read l n → (message : Message)
       → lack_of hosts m (end_h n) message ≡ lack_of hosts l (end_h n) message

@@ -1,7 +1,7 @@
 -- At the end of each event in which a host made a step and runs on, the first message that is left at its end lacks room.
 use Rattle.std.proofs.Common.{◌≡◌, inl, inr, ℕ, ◌≤◌, ◌||◌, true, false, eqb, List, [], ◌∷◌, ◌++◌, refl, sym, ap, ap₂, subst, ◌∙◌}
 use Rattle.std.proofs.Common.{append_assoc, arith}
-use Rattle.std.specs.Prelude.{None, Option, Some, is_some}
+use Rattle.std.specs.Prelude.{None, Some, is_some}
 use Rattle.std.specs.List.{AllByRecursion, list_any}
 use Rattle.std.proofs.lemmas.Bool.{ne_eqb}
 use Rattle.trace_model.specs.Lines.{IsHost, IsNodeOf}
@@ -10,7 +10,6 @@ use Rattle.trace_model.specs.declared.line.End.{End}
 use Rattle.trace_model.specs.declared.line.Header.{Header}
 use Rattle.trace_model.specs.declared.line.Line.{Line}
 use Rattle.link_laws.proofs.entries.Lasting.{same_number}
-use Rattle.node_machine.specs.Parts.{Running}
 use Rattle.node_machine.specs.world.World.{Happening, NodeWorld, Site, end_h, new_world, node_at, site_at, world_step}
 use Rattle.node_machine.specs.world.World.Happening.{Takes}
 use Rattle.node_machine.specs.world.Lines.{Occurrence}
@@ -78,11 +77,10 @@ module _ (header : Header) (lines : List Line) (t : NodeHistory) (follows : Foll
 
       -- where no frame is there, it doesn't run
       missing_off : (c : Happening) → MayTake here c → IsMissing hosts past here is_so n off c → IsOff
-      missing_off (Takes e) takes missing = λ s found. by s found s.node refl where
-        by : (s : Site) → site_at here.sites n ≡ Some s → (x : Option Running) → s.node ≡ x → s.node ≡ None
-        by s found None q = q
-        by s found (Some r) q =
-            absurd (takes (ap (λ (f : End). f.at_host) missing.0) s (ap (λ (f : End). site_at here.sites f.link) missing.0 ∙ found) (ap is_some q) missing.1)
+      missing_off (Takes e) takes missing = λ s found. by_option s.node
+          (λ q. q)
+          (λ r q. absurd (takes (ap (λ (f : End). f.at_host) missing.0) s (ap (λ (f : End). site_at here.sites f.link) missing.0 ∙ found)
+          (ap is_some q) missing.1))
       missing_off _ takes missing = absurd missing
 
       event_short : (c : Happening) → MayTake here c → commits (entries_in past ++ (world_step here c).1) ≤ 4000000000 → Short c (world_step here c).1

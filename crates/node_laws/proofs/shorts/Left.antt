@@ -26,6 +26,7 @@ use Rattle.node_laws.specs.kept.Books.{hosts_of_ends}
 use Rattle.node_laws.specs.passes.Passing.{AreAlong, BeginWithTurn, ComesTo, IsBehind, Stays, is_held_at, lacking, links_of_turns, waiting_at}
 use Rattle.node_laws.specs.passes.Passing.ComesTo.{Begins}
 use Rattle.node_laws.specs.passes.Steps.{comes_to_pass}
+use Rattle.node_laws.proofs.Cases.{by_list}
 use Rattle.node_laws.proofs.passes.Before.{steps_are}
 use Rattle.node_laws.proofs.passes.Behind.{leaves_behind}
 use Rattle.node_laws.proofs.passes.Passing.{comes_lasts}
@@ -99,28 +100,25 @@ module _ (n : ℕ) (w : Work) (is : hosts_of_ends w.ports ≡ n ∷ []) (on : w.
   own_calm false f short = ((tt, tt), ((λ x k r. plainly (end_h n) x k r), tt))
 
   pub left_at : IsLeftAt n w
-  left_at = by (waiting_at c.work.ports n) refl where
-    by : (q : List Message) → waiting_at c.work.ports n ≡ q → IsLeftAt n w
-    by [] q =
-        let own : c.own ≡ [] = subst (Stays c.work last n c.own) q c.stays in
-        inl (record { work = c.work; comes = c.keeps; all = split ∙ (ap (λ l. c.work.entries ++ l) own ∙ append-nil c.work.entries); none = q })
-    by (m ∷ messages) q =
-        let stays : Stays c.work last n c.own (m ∷ messages) = subst (Stays c.work last n c.own) q c.stays in
-        let calm = own_calm (is_held_at c.work.ports n) (end_of_node c.work.core n) stays.0 in
-        inr (
-          m,
-          messages,
-          record {
-            work = c.work;
-            comes = c.keeps;
-            own = c.own;
-            all = split;
-            calm = subst (AreCalmAt n) (sym stays.3) calm.0;
-            leaves = subst (AllByRecursion (Leaves (end_h n))) (sym stays.3) calm.1;
-            waits = q;
-            lacks = ap is_some stays.1;
-          },
-        )
+  left_at = by_list (waiting_at c.work.ports n)
+      (λ q. let own : c.own ≡ [] = subst (Stays c.work last n c.own) q c.stays in
+      inl (record { work = c.work; comes = c.keeps; all = split ∙ (ap (λ l. c.work.entries ++ l) own ∙ append-nil c.work.entries); none = q }))
+      (λ m messages q. let stays : Stays c.work last n c.own (m ∷ messages) = subst (Stays c.work last n c.own) q c.stays in
+      let calm = own_calm (is_held_at c.work.ports n) (end_of_node c.work.core n) stays.0 in
+      inr (
+        m,
+        messages,
+        record {
+          work = c.work;
+          comes = c.keeps;
+          own = c.own;
+          all = split;
+          calm = subst (AreCalmAt n) (sym stays.3) calm.0;
+          leaves = subst (AllByRecursion (Leaves (end_h n))) (sym stays.3) calm.1;
+          waits = q;
+          lacks = ap is_some stays.1;
+        },
+      ))
 
 -- ## A host leaves its end
 

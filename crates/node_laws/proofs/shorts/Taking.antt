@@ -1,5 +1,5 @@
 -- Lines let a host take no more frames than stand on its wire.
-use Rattle.std.proofs.Common.{◌≡◌, ℕ, zero, suc, ◌≤◌, Bool, true, false, List, [], ◌∷◌, length, sym, refl, ap, ◌∙◌, subst, arith}
+use Rattle.std.proofs.Common.{◌≡◌, ℕ, zero, suc, ◌≤◌, true, List, [], ◌∷◌, length, sym, refl, ap, ◌∙◌, subst, arith}
 use Rattle.std.specs.Prelude.{Some, None, is_some, unwrap_or, replicate}
 use Rattle.std.proofs.lemmas.Bool.{true≢false}
 use Rattle.swp_lpdu.specs.Controls.{lpdu_of}
@@ -48,16 +48,12 @@ far_stand w h i n many =
     λ x there on.
     let same : Some (after_host NextFrame k s) ≡ Some x = sym (with_here (after_host NextFrame k) (λ y. refl) w.sites h s found) ∙ there in
     let one : after_host NextFrame k s ≡ x = cc in
-    subst (λ (y : Site). n ≤ length y.link.to_host) one (by_cut k s some k.cut refl (ap (λ (y : Site). is_some y.node) one ∙ on))) where
-      by_cut : (k : Work) (s : Site) → suc n ≤ length s.link.to_host → (b : Bool) → k.cut ≡ b → is_some (runs_on k) ≡ true
-          → n ≤ length (after_host NextFrame k s).link.to_host
-      by_cut k s some true off on =
-          let none : runs_on k ≡ None = rw off refl in
-          absurd (true≢false (sym on ∙ ap is_some none))
-      by_cut k s some false still on =
-          let out : ending_of k ≡ GoesOut = rw still refl in
-          subst (λ (g : Ending). n ≤ length (steps_at_controller (exchanged s.link) NextFrame (turns_at k s.host) g).to_controller) (sym out)
-          (step_near (exchanged s.link) (turns_at k s.host) n some)
+    subst (λ (y : Site). n ≤ length y.link.to_host) one (by_test k.cut
+    (λ off. let none : runs_on k ≡ None = rw off refl in
+    absurd (true≢false (sym (ap (λ (y : Site). is_some y.node) one ∙ on) ∙ ap is_some none)))
+    (λ still. let out : ending_of k ≡ GoesOut = rw still refl in
+    subst (λ (g : Ending). n ≤ length (steps_at_controller (exchanged s.link) NextFrame (turns_at k s.host) g).to_controller) (sym out)
+    (step_near (exchanged s.link) (turns_at k s.host) n some))))
 
 take_stands : (w : NodeWorld) (e : End) (n : ℕ) → e.at_host ≡ true → Stand w e.link (suc n) → Stand (world_step w (Takes e)).0 e.link n
 take_stands w e n far many =

@@ -1,6 +1,5 @@
 -- What lasts over each thing that a node does lasts over all that it does in a step.
 use Rattle.std.proofs.Common.{ℕ, Bool, true, false, List, [], ◌∷◌}
-use Rattle.std.specs.Prelude.{Option, Some, None}
 use Rattle.std.specs.List.{AllByRecursion}
 use Rattle.std.specs.Option.{option_map_or}
 use Rattle.trace_model.specs.declared.entry.Entry.TheVariants as entry
@@ -10,7 +9,7 @@ use Rattle.node_machine.specs.Parts.{Port, Work, Deed}
 use Rattle.node_machine.specs.Carrying.{end_of_node, noting, unless_cut, port_at, with_desk, turn_at, done, all_done, needs, lack}
 use Rattle.node_machine.specs.Turns.{deeds_of, handles, holds_back, lets_go, have_turns, goes_through_ends, passes}
 use Rattle.node_machine.specs.Node.{answers_and_passes}
-use Rattle.node_laws.proofs.Cases.{by_test}
+use Rattle.node_laws.proofs.Cases.{by_option, by_test}
 
 -- the messages that came at the end of the link with this host
 abbrev pub got_at : ℕ → Work → List Message
@@ -92,17 +91,12 @@ module _ (J : Work → Type 0) where
 
     having : (h : ℕ) (messages : List Message) (w : Work) → AllByRecursion (Comes h) messages → J w → J (have_turns h messages w)
     having h [] w comes a = lets l.held h w a
-    having h (m ∷ messages) w comes a = go (lack w.ports (needs h deeds)) (λ v b. having h messages v comes.1 b) where
-      deeds : List Deed
-      deeds = deeds_of w.core w.ports h m
-
-      by : Option (ℕ × ℕ) → Work
-      by None = unless_cut (have_turns h messages) (handles h m deeds w)
-      by (Some short) = holds_back h short w
-
-      go : (o : Option (ℕ × ℕ)) → ((v : Work) → J v → J (have_turns h messages v)) → J (by o)
-      go None later = unless (have_turns h messages) (handles h m deeds w) later (handled h m deeds w comes.0 (l.causes h m w comes.0 a) a)
-      go (Some short) later = holds l.held l.marked l.held_told h short w a
+    having h (m ∷ messages) w comes a = by_option (lack w.ports (needs h deeds))
+        (λ q. rw q (unless (have_turns h messages) (handles h m deeds w) (λ v b. having h messages v comes.1 b)
+        (handled h m deeds w comes.0 (l.causes h m w comes.0 a) a)))
+        (λ short q. rw q (holds l.held l.marked l.held_told h short w a)) where
+          deeds : List Deed
+          deeds = deeds_of w.core w.ports h m
 
     pub all_last : (h : ℕ) (deeds : List Deed) (w : Work) → AllByRecursion May deeds → J w → J (all_done h deeds w)
     all_last h deeds w may a = all_do May l.does h deeds w may a

@@ -1,7 +1,7 @@
 -- A command that neither sets nor clears the whitelist of a host leaves it as it is.
-use Rattle.std.proofs.Common.{◌≡◌, ◌⊎◌, ℕ, ◌≤◌, true, false, not, cond, eqb, leb, ◌&&◌, refl, ap, ◌∙◌, inl, inr}
+use Rattle.std.proofs.Common.{◌≡◌, ℕ, ◌≤◌, true, false, not, cond, eqb, leb, ◌&&◌, refl, ap, ◌∙◌}
 use Rattle.std.specs.Prelude.{IsTrue}
-use Rattle.std.proofs.lemmas.Bool.{and_from, le-leb, cases_Bool}
+use Rattle.std.proofs.lemmas.Bool.{and_from, le-leb}
 use Rattle.registry.specs.Values.{value_at, is_kept, default_of}
 use Rattle.hci_tables.specs.declared.command.Command.{Command}
 use Rattle.hci_tables.specs.declared.command.Command.TheVariants.{Clear, Set, Sync}
@@ -10,12 +10,12 @@ use Rattle.hci_tables.specs.Tables.{HciTables, AreTables, apply, is_kept_sync}
 use Rattle.tables_laws.specs.tables.Changes.{told_value}
 use Rattle.tables_laws.proofs.tables.Values.{values-apply}
 use Rattle.node_laws.specs.steps.Creations.{LeavesWhitelist}
+use Rattle.node_laws.proofs.Cases.{by_test}
 
 synced : (t : HciTables) (h id x : ℕ) → told_value t (Sync h id) x 3 ≡ value_at t.values x 0 3
-synced t h id x = by_host (cases_Bool (eqb h x)) where
-  by_host : (eqb h x ≡ true) ⊎ (eqb h x ≡ false) → told_value t (Sync h id) x 3 ≡ value_at t.values x 0 3
-  by_host (inl same) = ap (λ b. cond (b && false && not (is_kept_sync t.syncs h id)) (default_of 1) (value_at t.values x 0 3)) same
-  by_host (inr other) = ap (λ b. cond (b && false && not (is_kept_sync t.syncs h id)) (default_of 1) (value_at t.values x 0 3)) other
+synced t h id x = by_test (eqb h x)
+    (λ same. ap (λ b. cond (b && false && not (is_kept_sync t.syncs h id)) (default_of 1) (value_at t.values x 0 3)) same)
+    (λ other. ap (λ b. cond (b && false && not (is_kept_sync t.syncs h id)) (default_of 1) (value_at t.values x 0 3)) other)
 
 left : (t : HciTables) (c : Command) (x : ℕ) → LeavesWhitelist x c → told_value t c x 3 ≡ value_at t.values x 0 3
 left t (Set h gate p value) x leaves = ap (λ b. cond b value.items (value_at t.values x 0 3)) leaves

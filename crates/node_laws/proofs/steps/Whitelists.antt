@@ -1,8 +1,8 @@
 -- While a host is asked for a creation, nothing that a controller commits sets or clears its whitelist.
-use Rattle.std.proofs.Common.{◌≡◌, ℕ, Bool, true, false, eqb, ◌&&◌, List, sym, ap, ◌∙◌, inl, inr, ◌⊎◌}
+use Rattle.std.proofs.Common.{◌≡◌, ℕ, Bool, true, false, eqb, ◌&&◌, List, sym, ap, ◌∙◌}
 use Rattle.std.specs.List.{AllByRecursion}
 use Rattle.std.specs.Option.{option_map_or}
-use Rattle.std.proofs.lemmas.Bool.{cases_Bool, eqb-true, true≢false}
+use Rattle.std.proofs.lemmas.Bool.{eqb-true, true≢false}
 use Rattle.hci_tables.specs.declared.command.Command.{Command}
 use Rattle.hci_tables.specs.declared.command.Command.TheVariants.{Clear, Set}
 use Rattle.hci_tables.specs.Tables.{HciTables}
@@ -21,6 +21,7 @@ use Rattle.node_machine.specs.Carrying.{port_at}
 use Rattle.node_machine.specs.Controller.{is_asked_at, view_for, controller_deeds, view_of}
 use Rattle.node_laws.specs.steps.Creations.{LeavesWhitelist, DeedLeavesWhitelist, IsBeingAsked, IsMaking, WaitsForPipes}
 use Rattle.tables_laws.proofs.gate.Decisions.{decided_holds}
+use Rattle.node_laws.proofs.Cases.{by_test}
 use Rattle.node_laws.proofs.steps.Masks.{is_in_mask}
 use Rattle.node_machine.proofs.Walks.{Plain, OfDecision, anyone, all_of_controller}
 
@@ -34,21 +35,16 @@ Leaves x (Ask host notice command answer) = Unit {0}
 
 -- a test that the host x is asked and sends the command itself refuses what it would do to itself
 own_one : (v : LinkView) (h x : ℕ) (b : Bool) → is_asked v x ≡ true → (b && is_asked v h) ≡ false → (eqb h x && b) ≡ false
-own_one v h x b asked refused = by_host (cases_Bool (eqb h x)) where
+own_one v h x b asked refused = by_test (eqb h x) (λ same. by_param b refused same) (λ other. ap (λ c. c && b) other) where
   by_param : (b : Bool) → (b && is_asked v h) ≡ false → eqb h x ≡ true → (eqb h x && b) ≡ false
   by_param false refused same = ap (λ c. c && false) same
   by_param true refused same =
       absurd (true≢false (sym asked ∙ (ap (is_asked v) (sym (eqb-true h x same)) ∙ refused)))
 
-  by_host : (eqb h x ≡ true) ⊎ (eqb h x ≡ false) → (eqb h x && b) ≡ false
-  by_host (inl same) = by_param b refused same
-  by_host (inr other) = ap (λ c. c && b) other
-
 own_all : (v : LinkView) (h x : ℕ) → is_asked v x ≡ true → is_asked v h ≡ false → eqb h x ≡ false
-own_all v h x asked free = by_host (cases_Bool (eqb h x)) where
-  by_host : (eqb h x ≡ true) ⊎ (eqb h x ≡ false) → eqb h x ≡ false
-  by_host (inl same) = absurd (true≢false (sym asked ∙ (ap (is_asked v) (sym (eqb-true h x same)) ∙ free)))
-  by_host (inr other) = other
+own_all v h x asked free = by_test (eqb h x)
+    (λ same. absurd (true≢false (sym asked ∙ (ap (is_asked v) (sym (eqb-true h x same)) ∙ free))))
+    (λ other. other)
 
 decided_leaves : (t : HciTables) (v : LinkView) (h pipe instruction x : ℕ) (body : List ℕ) → is_asked v x ≡ true
     → Leaves x (decided t v h pipe instruction body)

@@ -144,10 +144,9 @@ module _ (x : ℕ) where
 
   pub noticed_map : (f : Port → Port) → ((q : Port) → (f q).desk.host ≡ q.desk.host) → ((q : Port) → (f q).desk.notice ≡ q.desk.notice)
       → (ports : List Port) → noticed (map f ports) x ≡ noticed ports x
-  noticed_map f host notice ports = ap (λ o. option_and_then (λ (p : Port). p.desk.notice) o) (at_all ports x f host) ∙ go (port_at ports x) where
-    go : (o : Option Port) → option_and_then (λ (p : Port). p.desk.notice) (option_map f o) ≡ option_and_then (λ (p : Port). p.desk.notice) o
-    go None = refl
-    go (Some p) = notice p
+  noticed_map f host notice ports = ap (λ o. option_and_then (λ (p : Port). p.desk.notice) o) (at_all ports x f host) ∙ by_option (port_at ports x)
+      (λ q. rw q refl)
+      (λ p q. rw q (notice p))
 
   noticed_with : (k : ℕ) (g : Port → Port) → ((q : Port) → (g q).desk.host ≡ q.desk.host) → ((q : Port) → (g q).desk.notice ≡ q.desk.notice)
       → (ports : List Port) → noticed (with_port k g ports) x ≡ noticed ports x
@@ -252,10 +251,12 @@ module _ (x : ℕ) where
   free_else F ports (Commits c ∷ deeds) has may free = (tt, free_else F ports deeds has may.1 free.1)
   free_else F ports (Sends to m ∷ deeds) has may free = (may.0, free_else (λ n. (eqb to x ≡ false) × F n) ports deeds has may.1 free.1)
   free_else F ports (SaysOk ∷ deeds) has may free = (tt, free_else F ports deeds has may free.1)
-  free_else F ports (Asks to message c ∷ deeds) has may free = (other (eqb to x) refl, free_else (λ n. ⊥) ports deeds has may.2 free.1) where
-    other : (b : Bool) → eqb to x ≡ b → eqb to x ≡ false
-    other true q = absurd (true≢false (sym has ∙ (ap (has_notice ports) (sym (eqb-true to x q)) ∙ free.0)))
-    other false q = q
+  free_else F ports (Asks to message c ∷ deeds) has may free = (
+    by_test (eqb to x)
+        (λ q. absurd (true≢false (sym has ∙ (ap (has_notice ports) (sym (eqb-true to x q)) ∙ free.0))))
+        (λ q. q),
+    free_else (λ n. ⊥) ports deeds has may.2 free.1,
+  )
   free_else F ports (Releases asker ∷ deeds) has may free = (tt, free_else (λ n. ⊥) ports deeds has may free.1)
   free_else F ports (Tells to message ∷ deeds) has may free =
       (other (eqb to x) refl, free_else (λ n. (eqb to x ≡ false) × F n) ports deeds has may.2 free.1) where
@@ -338,15 +339,13 @@ module _ (x : ℕ) where
       was : notice_in (t ++ w.entries) x ≡ None
       was = kept_none (notice_in (t ++ w.entries) x) (noticed w.ports x) q a.kept
 
-      go : (c : Bool) → notified more ≡ c → notified more ≡ true
-      go true z = z
-      go false z =
-          let read : notice_in (t ++ after.entries) x ≡ None =
-          ap (λ es. notice_in (t ++ es) x) entries ∙ read_more x t w.entries more None None was (none_reads more z) in
-          absurd (subst (λ o. IsKeptNotice o (Some n)) read (subst (IsKeptNotice (notice_in (t ++ after.entries) x)) there b.kept))
-
       sent : notified after.entries ≡ true
-      sent = ap notified entries ∙ (more_notified w.entries more ∙ (ap (λ c. notified w.entries || c) (go (notified more) refl) ∙ or-true (notified w.entries)))
+      sent = ap notified entries ∙ (more_notified w.entries more ∙ (ap (λ c. notified w.entries || c) (by_test (notified more)
+          (λ z. z)
+          (λ z. let read : notice_in (t ++ after.entries) x ≡ None =
+          ap (λ es. notice_in (t ++ es) x) entries ∙ read_more x t w.entries more None None was (none_reads more z) in
+          absurd (subst (λ o. IsKeptNotice o (Some n)) read (subst (IsKeptNotice (notice_in (t ++ after.entries) x)) there b.kept)))) ∙ or-true
+          (notified w.entries)))
 
     pub handled_ages : IsOn x t after → AgesIn base after
     handled_ages b = by_option (noticed w.ports x) (λ q. none_ages b q) (λ n q. some_ages n q)

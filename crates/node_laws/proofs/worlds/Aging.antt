@@ -35,7 +35,7 @@ use Rattle.node_laws.specs.kept.Hosts.{AreDifferent}
 use Rattle.node_laws.specs.links.Notices.{IsOutside}
 use Rattle.node_laws.specs.readings.Noticed.{IfNoticedUp}
 use Rattle.node_laws.specs.readings.Orders.{IsFresh}
-use Rattle.node_laws.proofs.Cases.{by_test}
+use Rattle.node_laws.proofs.Cases.{by_option, by_test}
 use Rattle.node_laws.proofs.readings.Sites.{near_end_side, comes_outside, lost_quiet}
 use Rattle.node_laws.specs.telling.Telling.{HasEnds, IfItRuns, hosts_in}
 use Rattle.node_laws.proofs.telling.Lasting.{occurs}
@@ -324,15 +324,11 @@ event_aged age t w (Arms n plan) k old =
 
 pub aged_read : (past : List Occurrence) (w : NodeWorld) (c : Happening) → KeepsNotices (entries_in past) w → AgesAreRead past w.controller
     → AgesAreRead (past ++ occurs w c ∷ []) (world_step w c).0.controller
-aged_read past w c k a = to (world_step w c).0.controller (event_aged (age_in past) (entries_in past) w c k (from w.controller a)) where
-  from : (o : Option Running) → AgesAreRead past o → AreOld (age_in past) o
-  from None a = tt
-  from (Some r) a = a
-
-  age_is : (x : ℕ) → age_in (past ++ occurs w c ∷ []) x ≡ cond (notified x (world_step w c).1) 0 (cond (is_tick c) (age_in past x + 1) (age_in past x))
-  age_is x = fold-append (age_after x) 0 past (occurs w c ∷ [])
-
-  to : (o : Option Running) → AreAged (λ x. cond (is_tick c) (age_in past x + 1) (age_in past x)) (world_step w c).1 o
-      → AgesAreRead (past ++ occurs w c ∷ []) o
-  to None b = tt
-  to (Some r) b = λ x n q. ((b x n q).0 ∙ sym (age_is x), (b x n q).1)
+aged_read past w c k a = by_option (world_step w c).0.controller
+    (λ q. rw q tt)
+    (λ r q. rw q (let b = rw q at (event_aged (age_in past) (entries_in past) w c k (by_option w.controller
+    (λ q. rw q tt)
+    (λ r q. rw q (rw q at a)))) in
+    λ x n q. ((b x n q).0 ∙ sym (age_is x), (b x n q).1))) where
+      age_is : (x : ℕ) → age_in (past ++ occurs w c ∷ []) x ≡ cond (notified x (world_step w c).1) 0 (cond (is_tick c) (age_in past x + 1) (age_in past x))
+      age_is x = fold-append (age_after x) 0 past (occurs w c ∷ [])

@@ -22,7 +22,7 @@ use Rattle.node_laws.specs.kept.Books.{hosts_of_ends}
 use Rattle.node_laws.specs.passes.Passing.{link_of_turn, links_of_turns, IsNoTurn, AreNoTurns, AreAlong, ArePassed, ComesTo}
 use Rattle.node_laws.specs.passes.Passing.ComesTo.{Begins}
 use Rattle.node_laws.specs.passes.Steps.{comes_to_pass, noted_before_pass}
-use Rattle.node_laws.proofs.Cases.{by_option}
+use Rattle.node_laws.proofs.Cases.{by_option, by_test}
 use Rattle.node_laws.proofs.passes.Passing.{through, comes_lasts}
 use Rattle.node_laws.proofs.passes.Before.{before_entries, before_none, before_hosts, steps_are, links_none}
 use Rattle.node_laws.specs.answers.Order.{turn_link, IsAscending}
@@ -118,18 +118,15 @@ pub step_ascends : (input : NodeInput) (w : Work) (frames : List Entry) → AreN
     → AllAscend ((steps input w).entries ++ frames)
 step_ascends input w frames quiet up out =
     subst IsAscending (sym (links_back (steps input w).entries frames out))
-    (subst (λ (v : Work). AllAscend v.entries) (sym (steps_are input w)) (go k.cut refl)) where
+    (subst (λ (v : Work). AllAscend v.entries) (sym (steps_are input w)) (by_test k.cut
+    (λ q. let is : unless_cut passes k ≡ k = rw q refl in subst (λ (v : Work). AllAscend v.entries) (sym is) (turnless_ascend k.entries none))
+    (λ q. let is : unless_cut passes k ≡ passes k = rw q refl in
+    let p : ArePassed (ComesTo k) (hosts_of_ends k.ports) k (passes k) = through (ComesTo k) (comes_lasts k) (hosts_of_ends k.ports) k Begins q in
+    subst (λ (v : Work). AllAscend v.entries) (sym is)
+    (subst AllAscend (sym p.entries) (subst IsAscending (sym (links_front k.entries p.more none))
+    (along_ascends (hosts_of_ends k.ports) (links_of_turns p.more) (subst IsAscending (sym (before_hosts input w)) up) p.along)))))) where
       k : Work
       k = comes_to_pass input w
 
       none : AreNoTurns k.entries
       none = subst AreNoTurns (sym (before_entries input w)) (all_append IsNoTurn w.entries (noted_before_pass input w) quiet (before_none input w))
-
-      go : (b : Bool) → k.cut ≡ b → AllAscend (unless_cut passes k).entries
-      go true q = let is : unless_cut passes k ≡ k = rw q refl in subst (λ (v : Work). AllAscend v.entries) (sym is) (turnless_ascend k.entries none)
-      go false q =
-          let is : unless_cut passes k ≡ passes k = rw q refl in
-          let p : ArePassed (ComesTo k) (hosts_of_ends k.ports) k (passes k) = through (ComesTo k) (comes_lasts k) (hosts_of_ends k.ports) k Begins q in
-          subst (λ (v : Work). AllAscend v.entries) (sym is)
-          (subst AllAscend (sym p.entries) (subst IsAscending (sym (links_front k.entries p.more none))
-          (along_ascends (hosts_of_ends k.ports) (links_of_turns p.more) (subst IsAscending (sym (before_hosts input w)) up) p.along)))

@@ -1,5 +1,5 @@
 -- Whatever happens to a world, all messages at the ends of nodes that run have had their turns, or all before one that is held.
-use Rattle.std.proofs.Common.{◌≡◌, ℕ, Bool, true, false, cond, eqb, List, [], ◌∷◌, ◌++◌, map, refl, sym, ap, subst, ◌∙◌, append_assoc}
+use Rattle.std.proofs.Common.{◌≡◌, ℕ, true, false, cond, eqb, List, [], ◌∷◌, ◌++◌, map, refl, sym, ap, subst, ◌∙◌, append_assoc}
 use Rattle.std.specs.Prelude.{Option, Some, None}
 use Rattle.std.specs.List.{flat_map}
 use Rattle.registry.proofs.ValueLemmas.{AllByRecursion-append as all_append}
@@ -175,21 +175,17 @@ module _ (t : List Entry) (s : Site) (a : SiteWaits t s) (r : Running) (runs : s
     near = subst (λ h. is_done (t ++ (ended.entries ++ frames)) (end_c h) ≡ true) (sym host)
         (idle_done (end_c s.host) t (ended.entries ++ frames) (others_idle (end_c s.host) (ended.entries ++ frames) other) a.rests.near);
     holds = λ x q. subst (λ h. holds_in (t ++ (ended.entries ++ frames)) (end_h h) ≡ is_held_among x.desks h) (sym host)
-        (by ended.cut refl x (sym node ∙ q));
-    far = subst (λ h. is_done (t ++ (ended.entries ++ frames)) (end_h h) ≡ true) (sym host)
-        (subst (λ l. is_done l (end_h s.host) ≡ true) (append_assoc t ended.entries frames)
-        (idle_done (end_h s.host) (t ++ ended.entries) frames idle far_rests));
-  } where
-    by : (b : Bool) → ended.cut ≡ b → (x : Running) → runs_on ended ≡ Some x
-        → holds_in (t ++ (ended.entries ++ frames)) (end_h s.host) ≡ is_held_among x.desks s.host
-    by true lost x q =
-        let none_on : runs_on ended ≡ None = rw lost refl in
-        let no : None ≡ Some x = sym none_on ∙ q in absurd (cc no)
-    by false on x q =
-        let on_is : runs_on ended ≡ Some (record { core = ended.core; desks = map (λ (p : Port). p.desk) ended.ports }) = rw on refl in
-        let all : Some x ≡ Some (record { core = ended.core; desks = map (λ (p : Port). p.desk) ended.ports }) = sym q ∙ on_is in
+        (by_test ended.cut
+        (λ lost. let none_on : runs_on ended ≡ None = rw lost refl in
+        let no : None ≡ Some x = sym none_on ∙ (sym node ∙ q) in absurd (cc no))
+        (λ on. let on_is : runs_on ended ≡ Some (record { core = ended.core; desks = map (λ (p : Port). p.desk) ended.ports }) = rw on refl in
+        let all : Some x ≡ Some (record { core = ended.core; desks = map (λ (p : Port). p.desk) ended.ports }) = sym (sym node ∙ q) ∙ on_is in
         let is : x ≡ record { core = ended.core; desks = map (λ (p : Port). p.desk) ended.ports } = cc in
         ap (λ l. holds_in l (end_h s.host)) (sym (append_assoc t ended.entries frames))
         ∙ (idle_held (end_h s.host) (t ++ ended.entries) frames idle
         ∙ (ended_read_at s.host Host t input from has.number from_side none unbooted s.host on held
-        ∙ (sym (desks_held ended.ports s.host) ∙ ap (λ (y : Running). is_held_among y.desks s.host) (sym is))))
+        ∙ (sym (desks_held ended.ports s.host) ∙ ap (λ (y : Running). is_held_among y.desks s.host) (sym is))))));
+    far = subst (λ h. is_done (t ++ (ended.entries ++ frames)) (end_h h) ≡ true) (sym host)
+        (subst (λ l. is_done l (end_h s.host) ≡ true) (append_assoc t ended.entries frames)
+        (idle_done (end_h s.host) (t ++ ended.entries) frames idle far_rests));
+  }

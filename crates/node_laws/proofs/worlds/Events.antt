@@ -103,10 +103,9 @@ all_map P Q f one (s ∷ sites) a = (one s a.0, all_map P Q f one sites a.1)
 -- one site becomes another one
 all_with : (P Q : Site → Type 0) (k : ℕ) (g : Site → Site) → ((s : Site) → (s.host == k) ≡ true → P s → Q (g s))
     → ((s : Site) → (s.host == k) ≡ false → P s → Q s) → (sites : List Site) → AllByRecursion P sites → AllByRecursion Q (with_site k g sites)
-all_with P Q k g here there sites a = all_map P Q (λ (s : Site). changed_if (s.host == k) g s) (λ s p. by s p (s.host == k) refl) sites a where
-  by : (s : Site) → P s → (b : Bool) → (s.host == k) ≡ b → Q (changed_if (s.host == k) g s)
-  by s p true q = rw q (here s q p)
-  by s p false q = rw q (there s q p)
+all_with P Q k g here there sites a = all_map P Q (λ (s : Site). changed_if (s.host == k) g s) (λ s p. by_test (s.host == k)
+    (λ q. rw q (here s q p))
+    (λ q. rw q (there s q p))) sites a
 
 pub all_rests : (t : List Entry) (sites : List Site) → AllWaiting t sites → AllAtRest t sites
 all_rests t [] a = tt
@@ -394,41 +393,37 @@ booted_near t k s a off = record {
 
 module _ (t : List Entry) (w : NodeWorld) (o : IsOrderly w) (a : AllAtRest t w.sites) where
   pub boot_rests : (n : ℕ) → AllAtRest (t ++ (boots w n).1) (boots w n).0.sites
-  boot_rests n = go (n == 0) refl where
-    m : Memory
-    m = after_planned (boot_writes (memory_at w n).content) (memory_at w n)
+  boot_rests n = by_test (n == 0)
+      (λ z. let same : boot_written w n ≡ record w { memory = m } = rw z refl in
+      let zero : n ≡ 0 = eqb-true n 0 z in
+      by_boot (λ p. AllAtRest (t ++ p.1) p.0.sites) w n (cut_rests t w a n (boot_written w n) (ap (λ (v : NodeWorld). v.sites) same))
+      (by_running (λ u. AllAtRest (t ++ told) u.sites) n (boot_written w n) (boot_found w n)
+      (λ q. subst (λ (v : NodeWorld). AllAtRest (t ++ told) v.sites) (sym same)
+      (subst (λ j. AllAtRest (t ++ entry.Booted j count ∷ []) w.sites) (sym zero)
+      (all_two (SiteRests t) (λ (s : Site). (s.host == 0) ≡ false) (SiteRests (t ++ entry.Booted 0 count ∷ []))
+      (λ s x off. booted_near t count s x off) w.sites a o.hosts)))
+      (λ q. absurd (true≢false (sym z ∙ q)))))
+      (λ z. by_boot (λ p. AllAtRest (t ++ p.1) p.0.sites) w n
+      (cut_rests t (boot_written w n) old n (boot_written w n) refl)
+      (by_running (λ u. AllAtRest (t ++ told) u.sites) n (boot_written w n) (boot_found w n)
+      (λ q. absurd (true≢false (sym q ∙ z)))
+      (λ q. all_with (SiteRests t) (SiteRests (t ++ told)) n (λ s. record s { node = Some (boot_found w n) })
+      (λ s found x. booted_rests t n count s (record s { node = Some (boot_found w n) }) x found z refl
+      (λ r e. let same : Some (boot_found w n) ≡ Some r = e in
+      let is : boot_found w n ≡ r = cc in
+      ap (λ (y : Running). is_held_among y.desks s.host) (sym is) ∙ new_held (links_of w n) s.host))
+      (λ s other x. rest_on t told s s x refl x.holds (z, tt) (same_sym s.host n other, tt)) (boot_written w n).sites old))) where
+        m : Memory
+        m = after_planned (boot_writes (memory_at w n).content) (memory_at w n)
 
-    count : ℕ
-    count = count_of (boot_found w n).core.journal
+        count : ℕ
+        count = count_of (boot_found w n).core.journal
 
-    told : List Entry
-    told = entry.Booted n count ∷ []
+        told : List Entry
+        told = entry.Booted n count ∷ []
 
-    old : AllAtRest t (boot_written w n).sites
-    old = written t w a n m
-
-    go : (b : Bool) → (n == 0) ≡ b → AllAtRest (t ++ (boots w n).1) (boots w n).0.sites
-    go true z =
-        let same : boot_written w n ≡ record w { memory = m } = rw z refl in
-        let zero : n ≡ 0 = eqb-true n 0 z in
-        by_boot (λ p. AllAtRest (t ++ p.1) p.0.sites) w n (cut_rests t w a n (boot_written w n) (ap (λ (v : NodeWorld). v.sites) same))
-        (by_running (λ u. AllAtRest (t ++ told) u.sites) n (boot_written w n) (boot_found w n)
-        (λ q. subst (λ (v : NodeWorld). AllAtRest (t ++ told) v.sites) (sym same)
-        (subst (λ j. AllAtRest (t ++ entry.Booted j count ∷ []) w.sites) (sym zero)
-        (all_two (SiteRests t) (λ (s : Site). (s.host == 0) ≡ false) (SiteRests (t ++ entry.Booted 0 count ∷ []))
-        (λ s x off. booted_near t count s x off) w.sites a o.hosts)))
-        (λ q. absurd (true≢false (sym z ∙ q))))
-    go false z =
-        by_boot (λ p. AllAtRest (t ++ p.1) p.0.sites) w n
-        (cut_rests t (boot_written w n) old n (boot_written w n) refl)
-        (by_running (λ u. AllAtRest (t ++ told) u.sites) n (boot_written w n) (boot_found w n)
-        (λ q. absurd (true≢false (sym q ∙ z)))
-        (λ q. all_with (SiteRests t) (SiteRests (t ++ told)) n (λ s. record s { node = Some (boot_found w n) })
-        (λ s found x. booted_rests t n count s (record s { node = Some (boot_found w n) }) x found z refl
-        (λ r e. let same : Some (boot_found w n) ≡ Some r = e in
-        let is : boot_found w n ≡ r = cc in
-        ap (λ (y : Running). is_held_among y.desks s.host) (sym is) ∙ new_held (links_of w n) s.host))
-        (λ s other x. rest_on t told s s x refl x.holds (z, tt) (same_sym s.host n other, tt)) (boot_written w n).sites old))
+        old : AllAtRest t (boot_written w n).sites
+        old = written t w a n m
 
   -- ## Losses
 

@@ -1,5 +1,5 @@
 -- What is so of messages at the controller, and of those at hosts, is so of each.
-use Rattle.std.proofs.Common.{◌≡◌, ℕ, Bool, true, false, cond, eqb, List, Some, None, refl, ap, subst}
+use Rattle.std.proofs.Common.{◌≡◌, ℕ, false, cond, eqb, List, Some, None, refl, ap, subst}
 use Rattle.std.specs.Prelude.{◌==◌}
 use Rattle.std.proofs.lemmas.Bool.{eq-eqb, eqb-true}
 use Rattle.trace_model.specs.declared.entry.Entry.{Entry}
@@ -9,6 +9,7 @@ use Rattle.node_machine.specs.world.World.{node_of}
 use Rattle.node_laws.specs.answers.Answered.{IsHeldFor, IsReplied}
 use Rattle.node_laws.specs.answers.Moments.{Moment}
 use Rattle.node_laws.specs.answers.Order.{turn_link}
+use Rattle.node_laws.proofs.Cases.{by_test}
 
 abbrev pub IsAnswered : List ℕ → Moment → Entry → List Entry → Type 0
 IsAnswered hosts m x behind = IsReplied hosts m x behind × IsHeldFor hosts m x behind
@@ -23,10 +24,9 @@ IsAnsweredFar hosts m x behind = (n k : ℕ) → (n == 0) ≡ false → turn_lin
 
 module _ (hosts : List ℕ) (m : Moment) (x : Entry) (behind : List Entry) (near : IsAnsweredNear hosts m x behind) (far : IsAnsweredFar hosts m x behind) where
   at_end : (e : End) → turn_link (node_of e) x ≡ Some e.link → IsAnswered hosts m x behind
-  at_end e turn = go (eqb (node_of e) 0) refl where
-    go : (b : Bool) → eqb (node_of e) 0 ≡ b → IsAnswered hosts m x behind
-    go true q = near e.link (subst (λ n. turn_link n x ≡ Some e.link) (eqb-true (node_of e) 0 q) turn)
-    go false q = far (node_of e) e.link q turn
+  at_end e turn = by_test (eqb (node_of e) 0)
+      (λ q. near e.link (subst (λ n. turn_link n x ≡ Some e.link) (eqb-true (node_of e) 0 q) turn))
+      (λ q. far (node_of e) e.link q turn)
 
 own_link : (e : End) → cond (eqb (node_of e) (node_of e)) (Some e.link) None ≡ Some e.link
 own_link e = ap (λ b. cond b (Some e.link) None) (eq-eqb (node_of e) (node_of e) refl)

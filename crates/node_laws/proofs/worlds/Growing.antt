@@ -178,10 +178,9 @@ module _ (x : ℕ) where
       at_all (map with_older (map (λ p. has_come p (Some Tick)) w.ports)) x reset_late (λ q. ap (λ
       (d : Rattle.node_machine.specs.Parts.Desk). d.host) (reset_desk q))
       ∙ (ap (option_map reset_late) (at_all (map (λ p. has_come p (Some Tick)) w.ports) x with_older (λ q. refl)
-      ∙ ap (option_map with_older) (at_all w.ports x (λ p. has_come p (Some Tick)) (λ q. refl))) ∙ three (port_at w.ports x)) where
-        three : (o : Option Port) → option_map reset_late (option_map with_older (option_map (λ p. has_come p (Some Tick)) o)) ≡ option_map (came TimePasses) o
-        three None = refl
-        three (Some p) = refl
+      ∙ ap (option_map with_older) (at_all w.ports x (λ p. has_come p (Some Tick)) (λ q. refl))) ∙ by_option (port_at w.ports x)
+      (λ q. rw q refl)
+      (λ p q. rw q refl))
 
   no_or : (a b : Bool) → (a || b) ≡ false → (a ≡ false) × (b ≡ false)
   no_or true b q = absurd (true≢false q)
@@ -196,37 +195,34 @@ module _ (x : ℕ) where
   came_age (AtEnd h i) p age0 n old s =
       let m = old s.was (ap (λ (d : Rattle.node_machine.specs.Parts.Desk). d.notice) (sym (come_host p (input_at (AtEnd h i) p))) ∙ s.here) in
       (s.age ∙ m.0, subst (λ k. k ≤ 99) (sym s.age) m.1)
-  came_age TimePasses p age0 n old s = by p.desk.notice refl where
-    y : Port
-    y = with_older (has_come p (Some Tick))
+  came_age TimePasses p age0 n old s = by_option p.desk.notice
+      (λ z. let none : None ≡ Some s.was = rw z at here in absurd (cc none))
+      (λ m z. let is : Some (Rattle.node_machine.specs.Node.older_notice m) ≡ Some s.was = rw z at here in
+      let same : Rattle.node_machine.specs.Node.older_notice m ≡ s.was = cc in
+      let age : n.age ≡ m.age + 1 = s.age ∙ sym (ap (λ (k : Notice). k.age) same) in
+      let less : nat_le 100 s.was.age ≡ false = ap (λ o. option_map_or (λ (n : Notice). nat_le 100 n.age) o false) (sym here) ∙ low in (
+        age ∙ ap (λ k. k + 1) (old m z).0,
+        subst (λ k. k ≤ 99) (sym s.age) (young s.was.age less),
+      )) where
+        y : Port
+        y = with_older (has_come p (Some Tick))
 
-    here : y.desk.notice ≡ Some s.was
-    here = ap (λ (d : Rattle.node_machine.specs.Parts.Desk). d.notice) (sym (reset_desk y)) ∙ s.here
+        here : y.desk.notice ≡ Some s.was
+        here = ap (λ (d : Rattle.node_machine.specs.Parts.Desk). d.notice) (sym (reset_desk y)) ∙ s.here
 
-    fresh : (is_late y ≡ false) × (y.ended ≡ false)
-    fresh = by_test (is_late y)
-        (λ z. let late : is_over (reset_late y) ≡ true = rw z (or-true y.ended) in absurd (true≢false (sym late ∙ s.off)))
-        (λ z. let same : reset_late y ≡ y = rw z refl in
-        (z, (no_or y.ended y.late (ap is_over (sym same) ∙ s.off)).0))
+        fresh : (is_late y ≡ false) × (y.ended ≡ false)
+        fresh = by_test (is_late y)
+            (λ z. let late : is_over (reset_late y) ≡ true = rw z (or-true y.ended) in absurd (true≢false (sym late ∙ s.off)))
+            (λ z. let same : reset_late y ≡ y = rw z refl in
+            (z, (no_or y.ended y.late (ap is_over (sym same) ∙ s.off)).0))
 
-    and_not : (a b : Bool) → (a && not b) ≡ false → b ≡ false → a ≡ false
-    and_not true true q z = absurd (true≢false z)
-    and_not true false q z = q
-    and_not false b q z = refl
+        and_not : (a b : Bool) → (a && not b) ≡ false → b ≡ false → a ≡ false
+        and_not true true q z = absurd (true≢false z)
+        and_not true false q z = q
+        and_not false b q z = refl
 
-    low : option_map_or (λ (n : Notice). nat_le 100 n.age) y.desk.notice false ≡ false
-    low = and_not (option_map_or (λ (n : Notice). nat_le 100 n.age) y.desk.notice false) y.ended fresh.0 fresh.1
-
-    by : (o : Option Notice) → p.desk.notice ≡ o → (n.age ≡ age0 + 1) × (n.age ≤ 99)
-    by None z = let none : None ≡ Some s.was = rw z at here in absurd (cc none)
-    by (Some m) z =
-        let is : Some (Rattle.node_machine.specs.Node.older_notice m) ≡ Some s.was = rw z at here in
-        let same : Rattle.node_machine.specs.Node.older_notice m ≡ s.was = cc in
-        let age : n.age ≡ m.age + 1 = s.age ∙ sym (ap (λ (k : Notice). k.age) same) in
-        let less : nat_le 100 s.was.age ≡ false = ap (λ o. option_map_or (λ (n : Notice). nat_le 100 n.age) o false) (sym here) ∙ low in (
-          age ∙ ap (λ k. k + 1) (old m z).0,
-          subst (λ k. k ≤ 99) (sym s.age) (young s.was.age less),
-        )
+        low : option_map_or (λ (n : Notice). nat_le 100 n.age) y.desk.notice false ≡ false
+        low = and_not (option_map_or (λ (n : Notice). nat_le 100 n.age) y.desk.notice false) y.ended fresh.0 fresh.1
 
   -- as a step begins to do what it owes
   module _ (input : NodeInput) (w : Work) (age0 : ℕ) (quiet : notified x w.entries ≡ false) (old : Each x (λ n. (n.age ≡ age0) × (n.age ≤ 99)) w) where
@@ -293,19 +289,16 @@ module _ (x : ℕ) where
 
     -- behind a step in which it keeps its power
     pub step_ages : (steps input w).cut ≡ false → AgesIn x (grown input age0) (steps input w)
-    step_ages on = subst (AgesIn x (grown input age0)) (sym (steps_are input w)) (go (comes_to_pass input w).cut refl) where
-      k : Work
-      k = comes_to_pass input w
+    step_ages on = subst (AgesIn x (grown input age0)) (sym (steps_are input w)) (by_test (comes_to_pass input w).cut
+        (λ z. let is : unless_cut passes k ≡ k = rw z refl in subst (AgesIn x (grown input age0)) (sym is) before)
+        (λ z. let is : unless_cut passes k ≡ passes k = rw z refl in
+        subst (AgesIn x (grown input age0)) (sym is)
+        (pass_ages x t (grown input age0) k z (on_of x t (grown input age0) k stands z) before (ap (λ (y : Work). y.cut) (sym is) ∙ still)))) where
+          k : Work
+          k = comes_to_pass input w
 
-      before : AgesIn x (grown input age0) k
-      before = before_ages input w age0 quiet old
+          before : AgesIn x (grown input age0) k
+          before = before_ages input w age0 quiet old
 
-      still : (unless_cut passes k).cut ≡ false
-      still = ap (λ (z : Work). z.cut) (sym (steps_are input w)) ∙ on
-
-      go : (b : Bool) → k.cut ≡ b → AgesIn x (grown input age0) (unless_cut passes k)
-      go true z = let is : unless_cut passes k ≡ k = rw z refl in subst (AgesIn x (grown input age0)) (sym is) before
-      go false z =
-          let is : unless_cut passes k ≡ passes k = rw z refl in
-          subst (AgesIn x (grown input age0)) (sym is)
-          (pass_ages x t (grown input age0) k z (on_of x t (grown input age0) k stands z) before (ap (λ (y : Work). y.cut) (sym is) ∙ still))
+          still : (unless_cut passes k).cut ≡ false
+          still = ap (λ (z : Work). z.cut) (sym (steps_are input w)) ∙ on

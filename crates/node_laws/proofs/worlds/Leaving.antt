@@ -21,7 +21,7 @@ use Rattle.node_machine.specs.world.NodeHistories.{entries_in}
 use Rattle.node_laws.specs.kept.Hosts.{AreHosts}
 use Rattle.node_laws.specs.passes.Passing.{AreAlong, AreNoTurns, BeginWithTurn, IsNoTurn, link_of_turn, links_of_turns}
 use Rattle.node_laws.specs.passes.Steps.{comes_to_pass, noted_before_pass}
-use Rattle.node_laws.proofs.Cases.{by_test}
+use Rattle.node_laws.proofs.Cases.{by_list, by_test}
 use Rattle.node_laws.proofs.passes.Before.{before_entries, before_none, steps_are}
 use Rattle.node_laws.proofs.power.Doing.{Fine, Lost, Runs}
 use Rattle.node_laws.proofs.power.Steps.{steps_fine}
@@ -46,10 +46,7 @@ module _ (hosts : List ℕ) (past : List Occurrence) (o : Occurrence) (e : End) 
   pub short_off : runs_in (through past o) (node_of e) ≡ false → is_left_short hosts past o e ≡ true
   short_off off =
       ap (λ b. (not (steps_there && b) || is_none (oldest (unhandled_in (through past o) e))) || is_some (lack_at hosts (as_left past o e) e)) off
-      ∙ by steps_there (is_none (oldest (unhandled_in (through past o) e))) (is_some (lack_at hosts (as_left past o e) e)) where
-        by : (a c d : Bool) → ((not (a && false) || c) || d) ≡ true
-        by true c d = refl
-        by false c d = refl
+      ∙ by_test steps_there (λ q. rw q refl) (λ q. rw q refl)
 
   pub short_still : steps_there ≡ false → is_left_short hosts past o e ≡ true
   short_still still =
@@ -60,10 +57,7 @@ module _ (hosts : List ℕ) (past : List Occurrence) (o : Occurrence) (e : End) 
   pub short_none : unhandled_in (through past o) e ≡ [] → is_left_short hosts past o e ≡ true
   short_none none =
       ap (λ l. (not (steps_there && runs_in (through past o) (node_of e)) || is_none (oldest l)) || is_some (lack_at hosts (as_left past o e) e)) none
-      ∙ by (not (steps_there && runs_in (through past o) (node_of e))) (is_some (lack_at hosts (as_left past o e) e)) where
-        by : (a d : Bool) → ((a || true) || d) ≡ true
-        by true d = refl
-        by false d = refl
+      ∙ by_test (not (steps_there && runs_in (through past o) (node_of e))) (λ q. rw q refl) (λ q. rw q refl)
 
   pub short_lacks : is_some (lack_at hosts (as_left past o e) e) ≡ true → is_left_short hosts past o e ≡ true
   short_lacks lacks =
@@ -214,14 +208,16 @@ module _ (hosts : List ℕ) (are : AreHosts hosts) (up : IsAscending hosts) (pas
         ∙ (sym (append_assoc (entries_in past) lead (A ++ es))
         ∙ (ap (λ x. t ++ x) (append_assoc (v.entries ++ l.front) l.own es) ∙ sym (append_assoc t (v.entries ++ l.front) (l.own ++ es))))
 
-    by_back : LacksBehind hosts (t ++ (v.entries ++ l.front)) l.own k → (back : List Entry) → l.back ≡ back → IsShort P
-    by_back lacks [] q =
-        let taken : take_while (before_it k) (lead ++ (P ++ rest)) ≡ (lead ++ A) ++ rest =
+    by : (unhandled_in (t ++ P) (end_c k) ≡ []) ⊎ LacksBehind hosts (t ++ (v.entries ++ l.front)) l.own k → IsShort P
+    by (inl empty) =
+        short_none hosts past (seen P) (end_c k)
+        (ap (λ x. unhandled_in x (end_c k)) (all_of P) ∙ (idle_left (end_c k) (t ++ P) rest idle ∙ empty))
+    by (inr lacks) = by_list l.back
+        (λ q. let taken : take_while (before_it k) (lead ++ (P ++ rest)) ≡ (lead ++ A) ++ rest =
         ap (take_while (before_it k)) (shape [] q) ∙ take_all k ((lead ++ A) ++ rest) (all_append _ (lead ++ A) rest first (none_later k rest after)) in
         short_lacks hosts past (seen P) (end_c k)
-        (lacks (as_left past (seen P) (end_c k)) rest calm idle (ap (λ x. entries_in past ++ x) taken ∙ told rest))
-    by_back lacks (x ∷ back) q =
-        let next = subst BeginWithTurn q l.next in
+        (lacks (as_left past (seen P) (end_c k)) rest calm idle (ap (λ x. entries_in past ++ x) taken ∙ told rest)))
+        (λ x back q. let next = subst BeginWithTurn q l.next in
         let links : AllByRecursion (λ n. k < n) (links_of_turns (x ∷ back)) =
         along_all k (λ n. k < n) later (links_of_turns (x ∷ back)) (highs k earlier later ascending off)
         (subst (λ b. AreAlong later (links_of_turns b)) q l.behind) in
@@ -230,13 +226,7 @@ module _ (hosts : List ℕ) (are : AreHosts hosts) (up : IsAscending hosts) (pas
         ap (take_while (before_it k)) (shape (x ∷ back) q) ∙ take_to k (lead ++ A) x (back ++ rest) first late in
         short_lacks hosts past (seen P) (end_c k)
         (lacks (as_left past (seen P) (end_c k)) [] calm_none tt
-        (ap (λ y. entries_in past ++ y) (taken ∙ sym (append-nil (lead ++ A))) ∙ told []))
-
-    by : (unhandled_in (t ++ P) (end_c k) ≡ []) ⊎ LacksBehind hosts (t ++ (v.entries ++ l.front)) l.own k → IsShort P
-    by (inl empty) =
-        short_none hosts past (seen P) (end_c k)
-        (ap (λ x. unhandled_in x (end_c k)) (all_of P) ∙ (idle_left (end_c k) (t ++ P) rest idle ∙ empty))
-    by (inr lacks) = by_back lacks l.back refl
+        (ap (λ y. entries_in past ++ y) (taken ∙ sym (append-nil (lead ++ A))) ∙ told [])))
 
   gone : Lost 0 last → runs_in (through past (seen last.entries)) 0 ≡ false
   gone l = by_test (runs_in (through past (seen last.entries)) 0)

@@ -1,16 +1,17 @@
 -- No host has a notice to answer, in each world of a history.
 use Rattle.std.proofs.Common.{List, [], eqb, refl, subst, sym, ℕ, ◌++◌, ◌∷◌, ◌≡◌}
-use Rattle.std.specs.Prelude.{None, Option, Some}
+use Rattle.std.specs.Prelude.{None, Option}
 use Rattle.std.specs.List.{AllByRecursion, fold}
 use Rattle.std.proofs.lemmas.Bool.{cond_both}
 use Rattle.trace_model.specs.Lines.{IsHost}
-use Rattle.node_machine.specs.Parts.{Desk, Init, Running}
+use Rattle.node_machine.specs.Parts.{Desk, Init}
 use Rattle.node_machine.specs.world.World.{NodeWorld, Site, new_world, world_step}
 use Rattle.node_machine.specs.world.Lines.{Occurrence}
 use Rattle.node_laws.specs.telling.Telling.{IsOrderly, world_behind}
+use Rattle.node_laws.proofs.Cases.{by_option}
 use Rattle.node_laws.proofs.telling.Orderly.{step_orderly}
 use Rattle.node_laws.proofs.telling.Lasting.{AreCaused}
-use Rattle.node_laws.specs.views.Inits.{IfRunsInit, SiteKeepsInit, init_begun, init_behind}
+use Rattle.node_laws.specs.views.Inits.{SiteKeepsInit, init_begun, init_behind}
 use Rattle.node_laws.proofs.views.Answering.{reads_init}
 use Rattle.node_laws.proofs.views.InitWorlds.{AtSite, Keeps}
 use Rattle.node_laws.proofs.views.InitEvents.{MayKeep, event_keeps}
@@ -31,7 +32,6 @@ module _ (h : ℕ) (host : IsHost h) where
 
 -- the host of a site that keeps its init has none
 pub keeps_none : (i : Option Init) (s : Site) → SiteKeepsInit i s → IfNoNotices s.node
-keeps_none i s k = go s.node k.runs where
-  go : (o : Option Running) → IfRunsInit s.host s.link o → IfNoNotices o
-  go None runs = tt
-  go (Some r) runs = subst (λ ds. AllByRecursion (λ (d : Desk). d.notice ≡ None) ds) (sym runs.desks_are) (runs.no_notice, tt)
+keeps_none i s k = by_option s.node
+    (λ q. rw q tt)
+    (λ r q. rw q (let runs = rw q at k.runs in subst (λ ds. AllByRecursion (λ (d : Desk). d.notice ≡ None) ds) (sym runs.desks_are) (runs.no_notice, tt)))

@@ -183,7 +183,12 @@ module _ (past : List Occurrence) (w : NodeWorld) (k : IsReadBefore past w) (x :
   late_is r runs =
       let u : Port = q w k.orderly t k.notices x s found r runs in
       reset_is w k.orderly t k.notices x s found r runs
-      ∙ ap₂ (λ a b. a && not b) (old_is (at w k.orderly t k.notices x s found r runs).desk.notice refl) (sym
+      ∙ ap₂ (λ a b. a && not b) (by_option (at w k.orderly t k.notices x s found r runs).desk.notice
+      (λ z. rw z (ap (λ b. b && eqb (age_in past x) 99) (sym (ap (λ (o : Option Notice). is_some o) z) ∙ same)))
+      (λ n z. let ages : AgesAreRead past (Some r) = subst (AgesAreRead past) runs k.ages in
+      let age : (n.age ≡ age_in past x) × (n.age ≤ 99) = ages x n (there ∙ z) in
+      rw z (below n.age age.1 ∙ (ap (λ a. eqb a 99) age.0 ∙ ap (λ b. b && eqb (age_in past x) 99)
+      (sym (ap (λ (o : Option Notice). is_some o) z) ∙ same))))) (sym
       (other_end_is w k.orderly t k.notices x s found r runs))
     where
       d : Desk
@@ -196,15 +201,6 @@ module _ (past : List Occurrence) (w : NodeWorld) (k : IsReadBefore past w) (x :
 
       same : is_some d.notice ≡ is_some (notice_in t x)
       same = noticed_is (notice_in t x) (p w k.orderly t k.notices x s found r runs) (kept_notice w k.orderly t k.notices x s found r runs)
-
-      old_is : (o : Option Notice) → d.notice ≡ o
-          → option_map_or (λ (n : Notice). nat_le 100 n.age) (q w k.orderly t k.notices x s found r runs).desk.notice false
-          ≡ (is_some (notice_in t x) && eqb (age_in past x) 99)
-      old_is None z = rw z (ap (λ b. b && eqb (age_in past x) 99) (sym (ap (λ (o : Option Notice). is_some o) z) ∙ same))
-      old_is (Some n) z =
-          let ages : AgesAreRead past (Some r) = subst (AgesAreRead past) runs k.ages in
-          let age : (n.age ≡ age_in past x) × (n.age ≤ 99) = ages x n (there ∙ z) in
-          rw z (below n.age age.1 ∙ (ap (λ a. eqb a 99) age.0 ∙ ap (λ b. b && eqb (age_in past x) 99) (sym (ap (λ (o : Option Notice). is_some o) z) ∙ same)))
 
   near_ticks : tells is_own_reset (end_c x) (world_ticks w).1 ≡ is_late_in past (occurs w Ticks) x
   near_ticks = by_option w.controller

@@ -24,7 +24,7 @@ use Rattle.node_laws.specs.passes.Passing.{AreNoTurns, IsNoTurn, ComesTo, IsBehi
 use Rattle.node_laws.specs.passes.Passing.ComesTo.{Begins}
 use Rattle.node_laws.specs.passes.Steps.{comes_to_pass}
 use Rattle.node_laws.specs.power.Powers.{AreNotOf, is_of_node}
-use Rattle.node_laws.proofs.Cases.{by_test}
+use Rattle.node_laws.proofs.Cases.{by_list, by_test}
 use Rattle.node_laws.proofs.passes.Before.{before_hosts, steps_are}
 use Rattle.node_laws.proofs.passes.Behind.{leaves_behind}
 use Rattle.node_laws.proofs.passes.Passing.{comes_lasts, through}
@@ -48,10 +48,7 @@ module _ (t : List Entry) (e : End) where
   done_off off = rw off refl
 
   pub done_empty : unhandled_in t e ≡ [] → is_done t e ≡ true
-  done_empty none = rw none (by (not (runs_in t (node_of e))) (holds_in t e)) where
-    by : (a b : Bool) → ((a || true) || b) ≡ true
-    by true b = refl
-    by false b = refl
+  done_empty none = rw none (by_test (not (runs_in t (node_of e))) (λ q. rw q refl) (λ q. rw q refl))
 
   pub done_held : holds_in t e ≡ true → is_done t e ≡ true
   done_held held = rw held (or-true (not (runs_in t (node_of e)) || is_none (oldest (unhandled_in t e))))
@@ -160,22 +157,19 @@ pub record SplitAt (hosts : List ℕ) (k : ℕ) : Type 0 where
 
 pub split_at : (ports : List Port) (k : ℕ) (p : Port) → AreDifferent (hosts_of_ends ports) → port_at ports k ≡ Some p → SplitAt (hosts_of_ends ports) k
 split_at [] k p d here = absurd (cc here)
-split_at (x ∷ ports) k p d here = by (eqb x.desk.host k) refl (split_at ports k p d.1) where
-  by : (b : Bool) → eqb x.desk.host k ≡ b → (port_at ports k ≡ Some p → SplitAt (hosts_of_ends ports) k) → SplitAt (hosts_of_ends (x ∷ ports)) k
-  by true q later =
-      let A : ℕ → Type 0 = λ n. AllByRecursion (λ j. (j == n) ≡ false) (hosts_of_ends ports) in record {
-        earlier = [];
-        later = hosts_of_ends ports;
-        is = ap (λ h. h ∷ hosts_of_ends ports) (eqb-true x.desk.host k q);
-        off = subst A (eqb-true x.desk.host k q) d.0;
-      }
-  by false q later =
-      let rest : SplitAt (hosts_of_ends ports) k = later (rw q at here) in record {
-        earlier = x.desk.host ∷ rest.earlier;
-        later = rest.later;
-        is = ap (λ l. x.desk.host ∷ l) rest.is;
-        off = rest.off;
-      }
+split_at (x ∷ ports) k p d here = by_test (eqb x.desk.host k)
+    (λ q. let A : ℕ → Type 0 = λ n. AllByRecursion (λ j. (j == n) ≡ false) (hosts_of_ends ports) in record {
+      earlier = [];
+      later = hosts_of_ends ports;
+      is = ap (λ h. h ∷ hosts_of_ends ports) (eqb-true x.desk.host k q);
+      off = subst A (eqb-true x.desk.host k q) d.0;
+    })
+    (λ q. let rest : SplitAt (hosts_of_ends ports) k = split_at ports k p d.1 (rw q at here) in record {
+      earlier = x.desk.host ∷ rest.earlier;
+      later = rest.later;
+      is = ap (λ l. x.desk.host ∷ l) rest.is;
+      off = rest.off;
+    })
 
 -- ## A step
 
@@ -212,39 +206,35 @@ module _ (n : ℕ) (who : Side) (t : List Entry) (input : NodeInput) (w : Work) 
   pub ended_done : is_done (t ++ ended.entries) e ≡ true
   ended_done = by_fine (steps_fine n input w runs) where
     by_rest : (on : begun.cut ≡ false) → (passes begun).cut ≡ false → ended ≡ passes begun → is_done (t ++ ended.entries) e ≡ true
-    by_rest on still_on is = by_waiting (waiting_at b.work.ports k) refl where
-      v : Work
-      v = passes begun
+    by_rest on still_on is = by_list (waiting_at b.work.ports k)
+        (λ q. done_empty (t ++ ended.entries) e
+        (ap (λ (u : Work). unhandled_in (t ++ u.entries) e) is ∙ (waits on c ∙ (there ∙ q))))
+        (λ m messages q. let stays : Stays b.work (goes_through_ends (s.earlier ++ k ∷ s.later) begun) k b.own (m ∷ messages) =
+        subst (λ l. Stays b.work (goes_through_ends (s.earlier ++ k ∷ s.later) begun) k b.own l) q b.stays in
+        done_held (t ++ ended.entries) e
+        (ended_read_at n who t input w number side none unbooted k (ap (λ (u : Work). u.cut) is ∙ still_on) held
+        ∙ (ap (λ (u : Work). is_held_at u.ports k) (is ∙ sym all) ∙ stays.2))) where
+          v : Work
+          v = passes begun
 
-      c : ComesTo begun v
-      c = (through (ComesTo begun) (comes_lasts begun) (hosts_of_ends begun.ports) begun Begins on).keeps still_on
+          c : ComesTo begun v
+          c = (through (ComesTo begun) (comes_lasts begun) (hosts_of_ends begun.ports) begun Begins on).keeps still_on
 
-      s : SplitAt (hosts_of_ends w.ports) k
-      s = split_at w.ports k p different here
+          s : SplitAt (hosts_of_ends w.ports) k
+          s = split_at w.ports k p different here
 
-      split : hosts_of_ends begun.ports ≡ s.earlier ++ k ∷ s.later
-      split = before_hosts input w ∙ s.is
+          split : hosts_of_ends begun.ports ≡ s.earlier ++ k ∷ s.later
+          split = before_hosts input w ∙ s.is
 
-      b : IsBehind (ComesTo begun) begun (goes_through_ends (s.earlier ++ k ∷ s.later) begun) s.earlier k s.later
-      b = leaves_behind (ComesTo begun) (comes_lasts begun) s.earlier k s.later begun Begins on s.off
-          (subst (λ hs. (goes_through_ends hs begun).cut ≡ false) split still_on)
+          b : IsBehind (ComesTo begun) begun (goes_through_ends (s.earlier ++ k ∷ s.later) begun) s.earlier k s.later
+          b = leaves_behind (ComesTo begun) (comes_lasts begun) s.earlier k s.later begun Begins on s.off
+              (subst (λ hs. (goes_through_ends hs begun).cut ≡ false) split still_on)
 
-      all : goes_through_ends (s.earlier ++ k ∷ s.later) begun ≡ v
-      all = ap (λ hs. goes_through_ends hs begun) (sym split)
+          all : goes_through_ends (s.earlier ++ k ∷ s.later) begun ≡ v
+          all = ap (λ hs. goes_through_ends hs begun) (sym split)
 
-      there : waiting_at v.ports k ≡ waiting_at b.work.ports k
-      there = ap (λ (u : Work). waiting_at u.ports k) (sym all) ∙ b.waits
-
-      by_waiting : (q : List Message) → waiting_at b.work.ports k ≡ q → is_done (t ++ ended.entries) e ≡ true
-      by_waiting [] q =
-          done_empty (t ++ ended.entries) e
-          (ap (λ (u : Work). unhandled_in (t ++ u.entries) e) is ∙ (waits on c ∙ (there ∙ q)))
-      by_waiting (m ∷ messages) q =
-          let stays : Stays b.work (goes_through_ends (s.earlier ++ k ∷ s.later) begun) k b.own (m ∷ messages) =
-          subst (λ l. Stays b.work (goes_through_ends (s.earlier ++ k ∷ s.later) begun) k b.own l) q b.stays in
-          done_held (t ++ ended.entries) e
-          (ended_read_at n who t input w number side none unbooted k (ap (λ (u : Work). u.cut) is ∙ still_on) held
-          ∙ (ap (λ (u : Work). is_held_at u.ports k) (is ∙ sym all) ∙ stays.2))
+          there : waiting_at v.ports k ≡ waiting_at b.work.ports k
+          there = ap (λ (u : Work). waiting_at u.ports k) (sym all) ∙ b.waits
 
     by_fine : Fine n ended → is_done (t ++ ended.entries) e ≡ true
     by_fine (inl r) = by_test begun.cut

@@ -1,6 +1,6 @@
 -- At the end of each event in which the controller made a step and runs on, the first message that is left at an end of it lacked room.
 use Rattle.std.proofs.Common.{◌≡◌, ℕ, ◌≤◌, Bool, true, false, cond, List, [], ◌∷◌, ◌++◌, length, sym, refl, ap, ◌∙◌, subst, append_assoc, append-nil}
-use Rattle.std.specs.Prelude.{◌==◌, Option, Some, None, is_some}
+use Rattle.std.specs.Prelude.{◌==◌, Some, None, is_some}
 use Rattle.std.specs.List.{AllByRecursion, flat_map}
 use Rattle.std.proofs.lemmas.Bool.{true≢false}
 use Rattle.registry.proofs.ValueLemmas.{AllByRecursion-append as all_append}
@@ -175,41 +175,38 @@ module _ (header : Header) (lines : List Line) (t : NodeHistory) (follows : Foll
   -- something comes to an end of it, and behind it other nodes go on
   near_short : (c : Happening) (h : ℕ) (comes : Comes) (i : LinkInput) → input_of (link_to w.sites h) comes ≡ Some i → (rest : List Entry)
       → AreNotOf 0 rest → AreCalm rest → Short c ((controller_does w h comes (steps (AtEnd h i))).1 ++ rest)
-  near_short c h comes i input rest other calm = go w.controller refl where
-    off_is : w.controller ≡ None → controller_does w h comes (steps (AtEnd h i)) ≡ (w, [])
-    off_is q = rw q refl
+  near_short c h comes i input rest other calm = by_option w.controller
+      (λ q. subst (λ (p : NodeWorld × List Entry). Short c (p.1 ++ rest)) (sym (off_is q)) (stands_off c rest q (others_idle (end_c k) rest other)))
+      (λ r q. let l : Link = link_to w.sites h in
+      let begun : Work = controller_begins w r h comes in
+      let v : Work = steps (AtEnd h i) begun in
+      let wires : Site → Link = λ s. wires_for s.link (comes_to h comes s.host) in
+      let frames : List Entry = flat_map (λ (s : Site). frames_noted Controller s.host (wires s) v) w.sites in
+      let has : HasEnds 0 _ r = near_node w r a q in
+      let P : List Entry → Type 0 = λ u. ReadsInStep hosts u (comes_to_pass (AtEnd h i) begun) × IsCarried u Controller (comes_to_pass (AtEnd h i) begun)
+      × BeginsPass u (comes_to_pass (AtEnd h i) begun) in
+      subst (λ (p : NodeWorld × List Entry). Short c (p.1 ++ rest)) (sym (on_is r q))
+      (subst (Short c) (sym (append_assoc v.entries frames rest))
+      (step_short hosts are up past c [] (frames ++ rest) (AtEnd h i) begun
+      (near_runs r w.memory.plan (λ j. near_end_in (link_to w.sites j) (comes_to h comes j)) (entries_for h (arrival Controller l comes)) has.number
+      (links_own 0 h Controller refl (arrival Controller l comes) (arrival_of_side Controller l comes)) (entries_uncut h (arrival Controller l comes)))
+      tt (links_none h (arrival Controller l comes))
+      (all_append _ frames rest (frames_none wires v w.sites) (other_turns 0 rest other))
+      (calm_both frames rest (frames_calm wires v w.sites) calm)
+      (λ on.
+      let known = comes_known header lines t follows are playable sent few past back parts w refl r q h comes i input on in
+      let begins = comes_begins header lines t follows are seven sent few past back parts asked playable w refl r q h comes i input in
+      subst P (sym (append-nil (entries_in past))) (known.0, known.1, begins))
+      earlier k later at off
+      (all_append _ frames rest
+      (flat_idle (end_c k) (λ (s : Site). frames_noted Controller s.host (wires s) v) (λ s. frames_idle (end_c k) Controller s.host (wires s) v) w.sites)
+      (others_idle (end_c k) rest other))))) where
+        off_is : w.controller ≡ None → controller_does w h comes (steps (AtEnd h i)) ≡ (w, [])
+        off_is q = rw q refl
 
-    on_is : (r : Running) → w.controller ≡ Some r
-        → controller_does w h comes (steps (AtEnd h i)) ≡ after_controller w h comes (controller_work w r h comes (steps (AtEnd h i)))
-    on_is r q = rw q refl
-
-    go : (o : Option Running) → w.controller ≡ o → Short c ((controller_does w h comes (steps (AtEnd h i))).1 ++ rest)
-    go None q = subst (λ (p : NodeWorld × List Entry). Short c (p.1 ++ rest)) (sym (off_is q)) (stands_off c rest q (others_idle (end_c k) rest other))
-    go (Some r) q =
-        let l : Link = link_to w.sites h in
-        let begun : Work = controller_begins w r h comes in
-        let v : Work = steps (AtEnd h i) begun in
-        let wires : Site → Link = λ s. wires_for s.link (comes_to h comes s.host) in
-        let frames : List Entry = flat_map (λ (s : Site). frames_noted Controller s.host (wires s) v) w.sites in
-        let has : HasEnds 0 _ r = near_node w r a q in
-        let P : List Entry → Type 0 = λ u. ReadsInStep hosts u (comes_to_pass (AtEnd h i) begun) × IsCarried u Controller (comes_to_pass (AtEnd h i) begun)
-        × BeginsPass u (comes_to_pass (AtEnd h i) begun) in
-        subst (λ (p : NodeWorld × List Entry). Short c (p.1 ++ rest)) (sym (on_is r q))
-        (subst (Short c) (sym (append_assoc v.entries frames rest))
-        (step_short hosts are up past c [] (frames ++ rest) (AtEnd h i) begun
-        (near_runs r w.memory.plan (λ j. near_end_in (link_to w.sites j) (comes_to h comes j)) (entries_for h (arrival Controller l comes)) has.number
-        (links_own 0 h Controller refl (arrival Controller l comes) (arrival_of_side Controller l comes)) (entries_uncut h (arrival Controller l comes)))
-        tt (links_none h (arrival Controller l comes))
-        (all_append _ frames rest (frames_none wires v w.sites) (other_turns 0 rest other))
-        (calm_both frames rest (frames_calm wires v w.sites) calm)
-        (λ on.
-        let known = comes_known header lines t follows are playable sent few past back parts w refl r q h comes i input on in
-        let begins = comes_begins header lines t follows are seven sent few past back parts asked playable w refl r q h comes i input in
-        subst P (sym (append-nil (entries_in past))) (known.0, known.1, begins))
-        earlier k later at off
-        (all_append _ frames rest
-        (flat_idle (end_c k) (λ (s : Site). frames_noted Controller s.host (wires s) v) (λ s. frames_idle (end_c k) Controller s.host (wires s) v) w.sites)
-        (others_idle (end_c k) rest other))))
+        on_is : (r : Running) → w.controller ≡ Some r
+            → controller_does w h comes (steps (AtEnd h i)) ≡ after_controller w h comes (controller_work w r h comes (steps (AtEnd h i)))
+        on_is r q = rw q refl
 
   coming_is : (e : End) (comes : Comes) (i : LinkInput) → e.at_host ≡ false → input_of (link_to w.sites e.link) comes ≡ Some i
       → comes_at w e comes ≡ controller_does w e.link comes (steps (AtEnd e.link i))
@@ -267,66 +264,62 @@ module _ (header : Header) (lines : List Line) (t : NodeHistory) (follows : Foll
       }))
 
   ticks_short : Short Ticks (world_step w Ticks).1
-  ticks_short = go w.controller refl where
-    old : NodeWorld
-    old = (all_aged w).0
+  ticks_short = by_option w.controller
+      (λ q. subst (λ es. Short Ticks ((all_aged w).1 ++ (es ++ far))) (sym (off_of old q))
+      (stands_off Ticks ((all_aged w).1 ++ far) q
+      (all_append _ (all_aged w).1 far (aged_idle (end_c k) w) (others_idle (end_c k) far others))))
+      (λ r q. let v : Work = near_tick old r in
+      let frames : List Entry = flat_map (λ (s : Site). frames_noted Controller s.host s.link v) old.sites in
+      let has : HasEnds 0 _ r = near_node w r a q in
+      subst (λ es. Short Ticks ((all_aged w).1 ++ (es ++ far))) (sym (on_of old r q))
+      (subst (λ es. Short Ticks ((all_aged w).1 ++ es)) (sym (append_assoc v.entries frames far))
+      (step_short hosts are up past Ticks (all_aged w).1 (frames ++ far) TimePasses (as_it_ticks w r)
+      (near_runs r w.memory.plan (λ h. (link_to old.sites h).controller) [] has.number tt tt) aged_none tt
+      (all_append _ frames far (frames_none (λ s. s.link) v old.sites) (other_turns 0 far others))
+      (calm_both frames far (frames_calm (λ s. s.link) v old.sites) calm)
+      (λ on.
+      let known = tick_known header lines t follows are playable sent few past back parts w refl r q on in
+      let begins = tick_begins header lines t follows are seven sent few past back parts asked playable w refl r q in
+      (known.0, known.1, begins))
+      earlier k later at off
+      (all_append _ frames far
+      (flat_idle (end_c k) (λ (s : Site). frames_noted Controller s.host s.link v) (λ s. frames_idle (end_c k) Controller s.host s.link v) old.sites)
+      (others_idle (end_c k) far others))))) where
+        old : NodeWorld
+        old = (all_aged w).0
 
-    near : NodeWorld × List Entry
-    near = controller_ticks old
+        near : NodeWorld × List Entry
+        near = controller_ticks old
 
-    far : List Entry
-    far = (hosts_tick near.0.sites).1
+        far : List Entry
+        far = (hosts_tick near.0.sites).1
 
-    b : IsOrderly old
-    b = orderly_map w w.memory w.controller (λ (x : Site). record x { link = aged x.link }) (λ x. refl) a a.controller (λ x n. n)
+        b : IsOrderly old
+        b = orderly_map w w.memory w.controller (λ (x : Site). record x { link = aged x.link }) (λ x. refl) a a.controller (λ x n. n)
 
-    kept : IsOrderly (record { memory = old.memory; controller = None; sites = near.0.sites })
-    kept = near_orderly old b
+        kept : IsOrderly (record { memory = old.memory; controller = None; sites = near.0.sites })
+        kept = near_orderly old b
 
-    others : AreNotOf 0 far
-    others = others_tick 0 near.0.sites (none_zero near.0.sites kept.hosts) (both_nodes near.0.sites kept.hosts kept.nodes)
+        others : AreNotOf 0 far
+        others = others_tick 0 near.0.sites (none_zero near.0.sites kept.hosts) (both_nodes near.0.sites kept.hosts kept.nodes)
 
-    calm : AreCalm far
-    calm = record {
-      far = (all_tick near.0.sites (near_good old (aged_good w keeps.creations.notices.sites))).1;
-      unheard = others_unheard far others;
-      leave = λ j. ticks_leave (end_c j) (λ (q : false ≡ true). absurd (true≢false (sym q))) near.0.sites
-          (orderly_fine (record { memory = old.memory; controller = None; sites = near.0.sites }) kept)
-          (λ (q : false ≡ true). absurd (true≢false (sym q)));
-    }
+        calm : AreCalm far
+        calm = record {
+          far = (all_tick near.0.sites (near_good old (aged_good w keeps.creations.notices.sites))).1;
+          unheard = others_unheard far others;
+          leave = λ j. ticks_leave (end_c j) (λ (q : false ≡ true). absurd (true≢false (sym q))) near.0.sites
+              (orderly_fine (record { memory = old.memory; controller = None; sites = near.0.sites }) kept)
+              (λ (q : false ≡ true). absurd (true≢false (sym q)));
+        }
 
-    aged_none : NoneThere (all_aged w).1
-    aged_none = turnless_there 0 (all_aged w).1 (aged_turnless w.sites)
+        aged_none : NoneThere (all_aged w).1
+        aged_none = turnless_there 0 (all_aged w).1 (aged_turnless w.sites)
 
-    off_of : (v : NodeWorld) → v.controller ≡ None → (controller_ticks v).1 ≡ []
-    off_of v q = rw q refl
+        off_of : (v : NodeWorld) → v.controller ≡ None → (controller_ticks v).1 ≡ []
+        off_of v q = rw q refl
 
-    on_of : (v : NodeWorld) (r : Running) → v.controller ≡ Some r → (controller_ticks v).1 ≡ (after_near_tick v (near_tick v r)).1
-    on_of v r q = rw q refl
-
-    go : (o : Option Running) → w.controller ≡ o → Short Ticks ((all_aged w).1 ++ (near.1 ++ far))
-    go None q =
-        subst (λ es. Short Ticks ((all_aged w).1 ++ (es ++ far))) (sym (off_of old q))
-        (stands_off Ticks ((all_aged w).1 ++ far) q
-        (all_append _ (all_aged w).1 far (aged_idle (end_c k) w) (others_idle (end_c k) far others)))
-    go (Some r) q =
-        let v : Work = near_tick old r in
-        let frames : List Entry = flat_map (λ (s : Site). frames_noted Controller s.host s.link v) old.sites in
-        let has : HasEnds 0 _ r = near_node w r a q in
-        subst (λ es. Short Ticks ((all_aged w).1 ++ (es ++ far))) (sym (on_of old r q))
-        (subst (λ es. Short Ticks ((all_aged w).1 ++ es)) (sym (append_assoc v.entries frames far))
-        (step_short hosts are up past Ticks (all_aged w).1 (frames ++ far) TimePasses (as_it_ticks w r)
-        (near_runs r w.memory.plan (λ h. (link_to old.sites h).controller) [] has.number tt tt) aged_none tt
-        (all_append _ frames far (frames_none (λ s. s.link) v old.sites) (other_turns 0 far others))
-        (calm_both frames far (frames_calm (λ s. s.link) v old.sites) calm)
-        (λ on.
-        let known = tick_known header lines t follows are playable sent few past back parts w refl r q on in
-        let begins = tick_begins header lines t follows are seven sent few past back parts asked playable w refl r q in
-        (known.0, known.1, begins))
-        earlier k later at off
-        (all_append _ frames far
-        (flat_idle (end_c k) (λ (s : Site). frames_noted Controller s.host s.link v) (λ s. frames_idle (end_c k) Controller s.host s.link v) old.sites)
-        (others_idle (end_c k) far others))))
+        on_of : (v : NodeWorld) (r : Running) → v.controller ≡ Some r → (controller_ticks v).1 ≡ (after_near_tick v (near_tick v r)).1
+        on_of v r q = rw q refl
 
   pub event_short : (c : Happening) → MayStep w c → Short c (world_step w c).1
   event_short (Boots n) may = still (Boots n) (world_step w (Boots n)).1 refl

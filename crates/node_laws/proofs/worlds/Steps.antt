@@ -24,7 +24,7 @@ use Rattle.node_machine.specs.world.World.{end_h, port_for}
 use Rattle.node_machine.specs.world.World.{controller_does, controller_work, after_controller, host_work, host_does, comes_at, input_of}
 use Rattle.node_machine.proofs.world.Cases.{by_controller, by_host, by_coming, after_host_step}
 use Rattle.node_laws.specs.kept.Hosts.{AreDifferent}
-use Rattle.node_laws.proofs.Cases.{by_test}
+use Rattle.node_laws.proofs.Cases.{by_list, by_test}
 use Rattle.node_laws.proofs.links.Noticing.{at_host}
 use Rattle.node_laws.proofs.readings.Sites.{near_end_side}
 use Rattle.node_laws.specs.telling.Telling.{HasEnds, IfItRuns, hosts_in, IsOrderly}
@@ -193,7 +193,11 @@ module _ (w : NodeWorld) (a : IsOrderly w) (k : ℕ) (window : Option ℕ) (x : 
       (arrival_downless Host z.host (exchanged z.link) (AsksReset window))
       (subst AreDifferent (sym (hosts_same near_ends r.desks ∙ one)) (tt, tt))
       (λ h. ap (λ y. same_end (end_of h y) (end_h x)) (host_side r z.host (z.host ∷ []) node (far_number w k z a there)) ∙ far_same h x) k (Reset window)
-      ∙ (reset_value near_ends r.desks (end_h x) x k window (λ y. alone near_ends r.desks one y)
+      ∙ (reset_value near_ends r.desks (end_h x) x k window (λ y. by_list r.desks
+      (λ q. rw q (absurd (cc (rw q at one))))
+      (λ d desks q. rw q (let host : d.host ≡ k = cc in
+      let is : eqb d.host x ≡ true = ap (λ n. eqb n x) host ∙ y in
+      record { desk = d; here = rw is (ap (λ n. Some (port_for (near_ends n) d)) (eqb-true d.host x is)) })))
       (λ y. ap (λ (q : Site). reset_refusal q.link.host.side) (same y) ∙ free y)
       ∙ by_test (eqb k x) (λ y. rw y (ap (λ (q : Site). is_up q.link.host.side.shdlc.phase) (same_site y))) (λ y. rw y refl))))
     where
@@ -204,10 +208,3 @@ module _ (w : NodeWorld) (a : IsOrderly w) (k : ℕ) (window : Option ℕ) (x : 
       same_site : eqb k x ≡ true → z ≡ s
       same_site y =
           let both : Some z ≡ Some s = sym there ∙ (ap (site_at w.sites) (eqb-true k x y) ∙ found) in cc
-
-      alone : (near_ends : ℕ → NumberedEnd) (desks : List Desk) → map (λ (d : Desk). d.host) desks ≡ k ∷ [] → eqb k x ≡ true → Stands near_ends desks x
-      alone near_ends [] q y = absurd (cc q)
-      alone near_ends (d ∷ desks) q y =
-          let host : d.host ≡ k = cc in
-          let is : eqb d.host x ≡ true = ap (λ n. eqb n x) host ∙ y in
-          record { desk = d; here = rw is (ap (λ n. Some (port_for (near_ends n) d)) (eqb-true d.host x is)) }

@@ -70,29 +70,23 @@ step_near l ts n many = go l.to_controller many where
 sites_near : (h : ℕ) (k : Work) (sites : List Site) (n : ℕ) → ending_of k ≡ GoesOut → suc n ≤ length (link_to sites h).to_controller
     → n ≤ length (link_to (map (link_after_controller h NextFrame k) sites) h).to_controller
 sites_near h k [] n out many = omega (arith, many)
-sites_near h k (s ∷ sites) n out many = by (eqb s.host h) refl (sites_near h k sites n out) where
-  moved : Site → Site
-  moved = link_after_controller h NextFrame k
-
-  by : (b : Bool) → eqb s.host h ≡ b
-      → (suc n ≤ length (link_to sites h).to_controller → n ≤ length (link_to (map moved sites) h).to_controller)
-      → n ≤ length (link_to (map moved (s ∷ sites)) h).to_controller
-  by true q later =
-      let was : suc n ≤ length s.link.to_controller = rw q at many in
-      let now : link_to (map moved (s ∷ sites)) h ≡ steps_at_controller s.link NextFrame (turns_at k s.host) GoesOut =
-      ap (λ b. option_map_or (λ (x : Site). x.link) (cond b (Some (moved s)) (site_at (map moved sites) h)) (link_to [] h)) q
-      ∙ (ap (λ b. steps_at_controller s.link (cond b NextFrame NoInput) (turns_at k s.host) (ending_of k)) q
-      ∙ ap (steps_at_controller s.link NextFrame (turns_at k s.host)) out) in
-      let low = step_near s.link (turns_at k s.host) n was in
-      let same = ap (λ (l : Link). length l.to_controller) now in
-      omega (arith, low, same)
-  by false q later =
-      let was : suc n ≤ length (link_to sites h).to_controller = rw q at many in
-      let now : link_to (map moved (s ∷ sites)) h ≡ link_to (map moved sites) h =
-      ap (λ b. option_map_or (λ (x : Site). x.link) (cond b (Some (moved s)) (site_at (map moved sites) h)) (link_to [] h)) q in
-      let low = later was in
-      let same = ap (λ (l : Link). length l.to_controller) now in
-      omega (arith, low, same)
+sites_near h k (s ∷ sites) n out many = by_test (eqb s.host h)
+    (λ q. let was : suc n ≤ length s.link.to_controller = rw q at many in
+    let now : link_to (map moved (s ∷ sites)) h ≡ steps_at_controller s.link NextFrame (turns_at k s.host) GoesOut =
+    ap (λ b. option_map_or (λ (x : Site). x.link) (cond b (Some (moved s)) (site_at (map moved sites) h)) (link_to [] h)) q
+    ∙ (ap (λ b. steps_at_controller s.link (cond b NextFrame NoInput) (turns_at k s.host) (ending_of k)) q
+    ∙ ap (steps_at_controller s.link NextFrame (turns_at k s.host)) out) in
+    let low = step_near s.link (turns_at k s.host) n was in
+    let same = ap (λ (l : Link). length l.to_controller) now in
+    omega (arith, low, same))
+    (λ q. let was : suc n ≤ length (link_to sites h).to_controller = rw q at many in
+    let now : link_to (map moved (s ∷ sites)) h ≡ link_to (map moved sites) h =
+    ap (λ b. option_map_or (λ (x : Site). x.link) (cond b (Some (moved s)) (site_at (map moved sites) h)) (link_to [] h)) q in
+    let low = sites_near h k sites n out was in
+    let same = ap (λ (l : Link). length l.to_controller) now in
+    omega (arith, low, same)) where
+      moved : Site → Site
+      moved = link_after_controller h NextFrame k
 
 -- so many frames stand on the wire to the controller, while it runs
 abbrev Stand : NodeWorld → ℕ → ℕ → Type 0

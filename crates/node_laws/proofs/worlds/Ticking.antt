@@ -27,6 +27,7 @@ use Rattle.node_machine.specs.world.NodeFilters.{notice_in}
 use Rattle.node_machine.proofs.world.Cases.{after_near_tick, near_tick, by_controller_tick, by_host_tick, host_tick, site_ticked, site_unticked}
 use Rattle.node_laws.specs.kept.Hosts.{AreDifferent}
 use Rattle.node_laws.specs.links.Notices.{IsComing}
+use Rattle.node_laws.proofs.Cases.{by_option}
 use Rattle.node_laws.proofs.readings.Silent.{IsQuiet}
 use Rattle.node_laws.proofs.telling.Frames.{wires_all}
 use Rattle.node_laws.specs.telling.Telling.{HasEnds, IfItRuns, hosts_in, IsOrderly}
@@ -242,16 +243,14 @@ module _ (w : NodeWorld) (a : IsOrderly w) where
       reset_is =
           step_is is_own_reset
           ∙ (ap (λ b. b || (is_late q && ends_by is_own_reset (end_c x) q (Some (Reset None)))) (ticked_asked p.side) ∙ go (is_late q) refl) where
-            some_of : (o : Option Notice) → option_map_or (λ (n : Notice). nat_le 100 n.age) o false ≡ true → is_some o ≡ true
-            some_of None z = z
-            some_of (Some n) z = refl
-
             go : (b : Bool) → is_late q ≡ b → (b && ends_by is_own_reset (end_c x) q (Some (Reset None))) ≡ b
             go false z = refl
             go true z =
                 let parts = and_parts (option_map_or (λ (n : Notice). nat_le 100 n.age) q.desk.notice false) (not q.ended) z in
                 reset_only q.side None
-                ∙ reset_ends q.side come.shut (come.up (ap (λ b. b || false) (not_of q.ended parts.1)) (some_of q.desk.notice parts.0))
+                ∙ reset_ends q.side come.shut (come.up (ap (λ b. b || false) (not_of q.ended parts.1)) (by_option q.desk.notice
+                (λ q. rw q (rw q at parts.0))
+                (λ n q. rw q refl)))
 
       -- and otherwise where it has ended as the tick came
       pub other_end_is : tells otherwise (end_c x) (world_ticks w).1 ≡ q.ended

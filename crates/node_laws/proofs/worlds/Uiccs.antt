@@ -14,7 +14,6 @@ use Rattle.swp_act.specs.declared.uicc.UiccAct.{UiccAct}
 use Rattle.swp_act.specs.Activation.{uicc_step, out_ticked, sends, no_act_out}
 use Rattle.gate_answers.specs.declared.response.Response.{Response}
 use Rattle.gate_answers.specs.declared.response.Response.TheVariants as response
-use Rattle.trace_model.specs.declared.entry.Entry.{Entry}
 use Rattle.link_laws.specs.machine.Machine.{LinkInput, Role, report, act_event, act_out}
 use Rattle.link_laws.specs.machine.Machine.Role.{Bare, Clf, Uicc}
 use Rattle.link_laws.specs.messages.Links.{IsUicc}
@@ -133,8 +132,4 @@ only_coming input w a =
     ap (λ ds. told_of_coming input w ++ (noted_by_deeds 0 ds (has_freed input w)
     ++ cond (has_synced input w).cut [] (noted_by_deeds 0 (owed_in_step input w) (has_synced input w)))) (syncs_none w.core input w.ports a)
     ∙ (ap (λ ds. told_of_coming input w ++ cond (has_synced input w).cut [] (noted_by_deeds 0 ds (has_synced input w))) (owing_none input w a)
-    ∙ (ap (λ es. told_of_coming input w ++ es) (neither (has_synced input w).cut []) ∙ append-nil (told_of_coming input w)))
-  where
-    neither : (b : Bool) (es : List Entry) → cond b es es ≡ es
-    neither true es = refl
-    neither false es = refl
+    ∙ (ap (λ es. told_of_coming input w ++ es) (by_test (has_synced input w).cut (λ q. rw q refl) (λ q. rw q refl)) ∙ append-nil (told_of_coming input w)))
