@@ -15,6 +15,7 @@ pub mod Order
 pub mod Orders
 pub mod Frameless
 pub mod Framed
+pub mod NodeParts
 pub mod FramesLast
 pub mod Ascending
 pub mod Turns

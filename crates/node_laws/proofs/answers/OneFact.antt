@@ -1,6 +1,6 @@
 -- What walks over a history find says of each fact of `Answered` whether it holds.
-use Rattle.std.proofs.Common.{◌≡◌, refl, ap, ap₂, sym, subst, append_assoc, append-nil, ℕ, Bool, true}
-use Rattle.std.proofs.Common.{false, true≢false, eqb, List, [], ◌∷◌, ◌++◌, drop, Option, Some, None}
+use Rattle.std.proofs.Common.{◌≡◌, refl, ap, sym, subst, append_assoc, append-nil, ℕ, Bool, true}
+use Rattle.std.proofs.Common.{false, true≢false, List, [], ◌∷◌, ◌++◌, drop, Option, Some, None}
 use Rattle.std.specs.Prelude.{◌==◌, ◌&&◌, not}
 use Rattle.std.specs.List.{AllByRecursion, list_any}
 use Rattle.std.specs.Option.{option_map_or}
@@ -10,7 +10,7 @@ use Rattle.trace_model.specs.declared.entry.Entry.{Entry}
 use Rattle.trace_model.specs.declared.entry.Entry.TheVariants as entry
 use Rattle.trace_model.specs.declared.line.End.{End}
 use Rattle.link_laws.specs.machine.Machine.{Message, oldest}
-use Rattle.history.specs.Filters.{same_end, same_side}
+use Rattle.history.specs.Filters.{same_end}
 use Rattle.node_machine.specs.world.World.{node_of}
 use Rattle.node_machine.specs.world.Lines.{Occurrence}
 use Rattle.node_machine.specs.world.NodeHistories.{NodeHistory, entries_in, node_entries, occurrences_in}
@@ -24,6 +24,7 @@ use Rattle.node_laws.specs.answers.Unasked.{down_in, due, is_reset_due, is_reset
 use Rattle.node_laws.proofs.answers.Rising.{rise_ascends}
 use Rattle.node_laws.proofs.answers.Splits.{same_at_each, at_events, same_at_events, at_entries, same_at_entries, first_or, rest_of}
 use Rattle.node_laws.proofs.answers.Walks.{answers_found, answers_wanted, found, held_found, held_wanted, turn_found, turn_wanted, wanted}
+use Rattle.node_laws.proofs.schedules.Ends.{ends_same}
 
 -- ## Messages have their turns in order
 
@@ -43,20 +44,6 @@ firsts_found before (x ∷ t) = first_found before x ∷ firsts_found (before ++
 abbrev pub firsts_wanted : List Entry → List (Option (Option Message))
 firsts_wanted [] = []
 firsts_wanted (x ∷ t) = first_wanted x ∷ firsts_wanted t
-
-both_true : (a b : Bool) → (a && b) ≡ true → (a ≡ true) × (b ≡ true)
-both_true a b q = and_parts a b q
-
-side_is : (a b : Bool) → same_side a b ≡ true → a ≡ b
-side_is true true q = refl
-side_is true false q = absurd (true≢false (sym q))
-side_is false true q = absurd (true≢false (sym q))
-side_is false false q = refl
-
-end_is : (f e : End) → same_end f e ≡ true → f ≡ e
-end_is f e q =
-    let both = both_true (eqb f.link e.link) (same_side f.at_host e.at_host) q in
-    ap₂ (λ link at_host. record { link = link; at_host = at_host }) (eqb-true f.link e.link both.0) (side_is f.at_host e.at_host both.1)
 
 first_dropped : (ms : List Message) (m : Message) → oldest ms ≡ Some m → ms ≡ m ∷ drop 1 ms
 first_dropped [] m q = absurd (cc q)
@@ -80,7 +67,7 @@ module _ (e : End) where
   becomes before (entry.Got f n pid message) first = by_test (same_end f e) (λ q. rw q refl) (λ q. rw q refl)
   becomes before (entry.Turn f pid message) first = by_test (same_end f e)
       (λ z. rw z (first_dropped (unhandled_in before e) (pid, message)
-      (subst (λ g. oldest (unhandled_in before g) ≡ Some (pid, message)) (end_is f e z) first)))
+      (subst (λ g. oldest (unhandled_in before g) ≡ Some (pid, message)) (ends_same f e z) first)))
       (λ z. rw z refl)
   becomes before (entry.Booted node k) first = by_test (node == node_of e) (λ q. rw q refl) (λ q. rw q refl)
   becomes before x first = refl
@@ -101,8 +88,7 @@ module _ (e : End) where
 -- Where each message that has its turn is the first that came and had none, messages have their turns in the order in which they came.
 pub firsts_in_turn : (t : List Entry) → ((front back : List Entry) (x : Entry) → t ≡ front ++ (x ∷ back) → IsFirstThere front x) → AreInTurn t
 firsts_in_turn t each front back e at =
-    let all : Goes e [] (front ++ back) (unhandled_in t e) = subst (λ l. Goes e [] l (unhandled_in t e)) at (goes_on e t [] each) in
-    let f : Front e [] front = front_goes e front back [] (unhandled_in t e) all in
+    let f : Front e [] front = front_goes e front back [] (unhandled_in t e) (subst (λ l. Goes e [] l (unhandled_in t e)) at (goes_on e t [] each)) in
     (f.left, all_left e front [] [] f.left refl f.goes)
 
 first_so : (t : List Entry) (x : Entry) → first_found t x ≡ first_wanted x → IsFirstThere t x

@@ -44,8 +44,7 @@ low n e (x ∷ entries) is none =
           → AllByRecursion (λ k. e.link ≤ k) (cons_option (if node_of f == n then Some f.link else None) (filter_map (turn_link n) entries))
       at f p later = by_test (node_of f == n)
           (λ q. let same : (node_of f == node_of e) ≡ true = subst (λ k. (node_of f == k) ≡ true) (sym is) q in
-          let less : not (nat_lt f.link e.link) ≡ true = subst (λ b. not (b && nat_lt f.link e.link) ≡ true) same p in
-          rw q (not_below e.link f.link less, later))
+          rw q (not_below e.link f.link (subst (λ b. not (b && nat_lt f.link e.link) ≡ true) same p), later))
           (λ q. rw q later)
 
       one : (x : Entry) → not (option_map_or (is_earlier e) (turn_end x) false) ≡ true

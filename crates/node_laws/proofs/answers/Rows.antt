@@ -45,9 +45,7 @@ module _ (v : NodeView) (h : ℕ) (m : Message) where
   -- a pipe whose other end isn't the controller isn't pipe 01
   not_one : (end : ℕ × ℕ) → far_end v.own.tables h m.0 ≡ Some end → eqb end.0 0 ≡ false → eqb m.0 1 ≡ false
   not_one end f off = by_test (eqb m.0 1)
-      (λ q. let one = eqb-true m.0 1 q in
-      let is : Some (0, 0) ≡ Some end = sym (ap (far_end v.own.tables h) one) ∙ f in
-      let z : (0, 0) ≡ end = cc is in
+      (λ q. let z : (0, 0) ≡ end = cc (sym (ap (far_end v.own.tables h) (eqb-true m.0 1 q)) ∙ f) in
       absurd (true≢false (ap (λ (e : ℕ × ℕ). eqb e.0 0) z ∙ off)))
       (λ q. q)
 
@@ -104,8 +102,7 @@ module _ (v : NodeView) (h : ℕ) (m : Message) where
     command n false true x e3 e4 o f ef = rw (o, x, e3, e4) refl
     command n false false x e3 e4 o None ef = rw (o, x, e3, e4, ef) refl
     command n false false x e3 e4 o (Some end) ef =
-        let same = header_is m.1 IsCommand n x in
-        at_end o (rw (x, e3) refl) (rw (x, e4) refl) end ef (rw (o, x, same, e3, e4, ef) at none)
+        at_end o (rw (x, e3) refl) (rw (x, e4) refl) end ef (rw (o, x, header_is m.1 IsCommand n x, e3, e4, ef) at none)
 
     by : (o : Bool) (f : Option (ℕ × ℕ)) (hd : Result (MessageKind × ℕ) MessageFault) → is_opened v.own.tables h m.0 ≡ o
         → far_end v.own.tables h m.0 ≡ f → header_of m.1 ≡ hd → is_relayed v h m ≡ false
@@ -147,9 +144,7 @@ module _ (v : NodeView) (h : ℕ) (m : Message) where
     by true up = kind (header_of m.1) refl where
       kind : (hd : Result (MessageKind × ℕ) MessageFault) → header_of m.1 ≡ hd → unrelayed (v.up h) h m ≡ first_row (controller_rows v h m)
       kind (Ok (IsCommand, n)) x =
-          let e3 : eqb (instruction_in m.1) 3 ≡ false = rw x at so.not_opening in
-          let e4 : eqb (instruction_in m.1) 4 ≡ false = rw x at so.not_closing in
-          rw (off, up, x, so.far, one, so.opened, e3, e4, so.host) refl
+          rw (off, up, x, so.far, one, so.opened, rw x at so.not_opening, rw x at so.not_closing, so.host) refl
       kind (Ok (IsEvent, n)) x = by_test (eqb n 2) (λ q. rw (off, up, x, q, so.opened, so.far, so.host) refl) (λ q. rw (off, up, x, q) refl)
       kind (Ok (IsResponse, n)) x = rw (off, up, x, one) refl
       kind (Err fault) x = rw (off, up, x) refl

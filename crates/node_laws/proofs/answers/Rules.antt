@@ -171,19 +171,10 @@ module _ (v : NodeView) (h : ℕ) (m : Message) where
       subst (AsksAsAllowed v.own.tables (v.links h) h) (by_option (far_end v.own.tables h m.0)
       (λ f. let z = rw (command, f) at own in absurd (true≢false z))
       (λ end f. ap (λ o. unless_refused o (carried_out v.own.tables (v.links h) h m.0 (instruction_in m.1) (body_in m.1)))
-      (let z : first_of (tests_of_pipe v.own.tables h m.0 (instruction_in m.1)) ≡ None = rw (f, passes) refl in z)
+      (let z : first_of (tests_of_pipe v.own.tables h m.0 (instruction_in m.1)) ≡ None = rw (f, (rw command at opened)) refl in z)
       ∙ ap₂ (λ p q. cond p (opening v.own.tables h m.0 (body_in m.1)) (cond q (closing h m.0 (body_in m.1))
-      (administration v.own.tables (v.links h) h (instruction_in m.1) (body_in m.1)))) three four))
+      (administration v.own.tables (v.links h) h (instruction_in m.1) (body_in m.1)))) (rw command at unopening) (rw command at unclosing)))
       (decided_as_allowed v.own.tables (v.links h) h m.0 (instruction_in m.1) (body_in m.1))
-    where
-      three : eqb (instruction_in m.1) 3 ≡ false
-      three = rw command at unopening
-
-      four : eqb (instruction_in m.1) 4 ≡ false
-      four = rw command at unclosing
-
-      passes : (not (is_opened v.own.tables h m.0) && not (eqb (instruction_in m.1) 3)) ≡ false
-      passes = rw command at opened
 
   asked_as_allowed : HoldsInRows Asked (controller_rows v h m)
   asked_as_allowed = (

@@ -28,7 +28,7 @@ use Rattle.node_machine.specs.Node.{NodeInput, input_at, told_at, told_late, all
 use Rattle.node_machine.specs.Node.NodeInput.{AtEnd, TimePasses}
 use Rattle.node_machine.specs.world.World.{NodeWorld, Site, link_to, near_end_in, arrival, comes_to, input_of, wires_for, frames_noted, all_aged}
 use Rattle.node_machine.specs.world.World.{end_c, site_at}
-use Rattle.node_machine.specs.world.World.{controller_work, after_controller, new_world, world_step}
+use Rattle.node_machine.specs.world.World.{controller_work, new_world, world_step}
 use Rattle.node_machine.specs.world.World.{Happening}
 use Rattle.node_machine.specs.world.World.Happening.{Takes}
 use Rattle.node_machine.specs.world.Lines.{Occurrence}
@@ -197,7 +197,7 @@ module _ (hosts : List ℕ) (most : length hosts ≤ 7) (all : ℕ) (os : List O
         let frames : List Entry =
         flat_map (λ (s : Site). frames_noted Controller s.host (wires_for s.link (comes_to h NextFrame s.host)) k) w.sites in
         let c : Happening = Takes (end_c h) in
-        let did : (world_step w c).1 ≡ k.entries ++ frames = did_so i seen in
+        let did : (world_step w c).1 ≡ k.entries ++ frames = (rw seen (rw runs refl)) in
         let so : IsSo hosts (os ++ occurs w c ∷ []) (world_step w c).0 = next_so of_none hosts os w c a.so tt (λ h q. absurd (true≢false (sym q))) in
         let whole : entries_in (os ++ occurs w c ∷ []) ≡ (entries_in os ++ begun.entries) ++ (on.es ++ frames) =
         flat_map-append (λ (o : Occurrence). o.entries) os (occurs w c ∷ [])
@@ -206,10 +206,6 @@ module _ (hosts : List ℕ) (most : length hosts ≤ 7) (all : ℕ) (os : List O
         let order = in_order_so hosts (os ++ occurs w c ∷ []) (world_step w c).0 so (entries_in os ++ begun.entries) (on.es ++ frames) whole in
         subst (λ (f : End). IsFrontOf (got_in (entries_in os ++ begun.entries) f n) (good_of (sent_in (entries_in os ++ begun.entries) (other_end e) n)))
         (other_twice e) (order.delivered (other_end e) n)
-      where
-        did_so : (i : LinkInput) → input_of (link_to w.sites h) NextFrame ≡ Some i
-            → (world_step w (Takes (end_c h))).1 ≡ (after_controller w h NextFrame (controller_work w r h NextFrame (steps (AtEnd h i)))).1
-        did_so i seen = rw seen (rw runs refl)
 
     -- where no message comes
     quiet : (comes : Comes) (i : LinkInput) → BringsNone (AtEnd h i) → NoGets (controller_begins w r h comes).entries
@@ -301,20 +297,16 @@ module _ (hosts : List ℕ) (most : length hosts ≤ 7) (all : ℕ) (os : List O
   ticks_few v reached =
       let near_ends : ℕ → NumberedEnd = λ k. (link_to (all_aged w).0.sites k).controller in
       let start : Work = as_it_ticks w r in
-      let none = ticks_told start.ports in
-      let long = length-map w.sites (λ (s : Site). s.host) in
       let start_owes : Owes Controller 0 (node_holds (Some r) + 0) start =
       begins_so Controller 0 (hosts_in w.sites) r w.memory.plan near_ends [] 0 (controller_side r (hosts_in w.sites) has) has
-      (omega (arith, long, few)) refl in
-      let was : node_holds w.controller ≡ node_holds (Some r) = ap node_holds runs in
+      (omega (arith, length-map w.sites (λ (s : Site). s.host), few)) refl in
       let lost = gone_free w.sites in
       let cs = costs-append (entries_in os) (all_aged w).1 in
       let ps = pays-append (entries_in os) (all_aged w).1 in
-      let paid = a.paid in
-      pass_few Controller since (world_holds w) (node_holds (Some r) + 0) all (comes_to_pass TimePasses start) v (omega (arith, paid, lost, cs, ps))
-      (omega (arith, was))
+      pass_few Controller since (world_holds w) (node_holds (Some r) + 0) all (comes_to_pass TimePasses start) v (omega (arith, a.paid, lost, cs, ps))
+      (omega (arith, ap node_holds runs))
       (begun_owes Controller (node_holds (Some r) + 0) TimePasses start
-      (less Controller (node_holds (Some r) + 0) 0 (syncs_told TimePasses start.ports) start (omega (arith, none)) start_owes)) reached
+      (less Controller (node_holds (Some r) + 0) 0 (syncs_told TimePasses start.ports) start (omega (arith, ticks_told start.ports)) start_owes)) reached
       (fronts_more since (comes_to_pass TimePasses start).entries (begun_none TimePasses start (λ p. refl) (λ e n. refl))
       (fronts_more (entries_in os) (all_aged w).1 gone_gets before))
       (turns_in_order since (all_aged w).0 r has.number (has.ends ∙ sym old_hosts)
@@ -325,9 +317,7 @@ module _ (hosts : List ℕ) (most : length hosts ≤ 7) (all : ℕ) (os : List O
       gone_free (s ∷ sites) =
           let first = notes_free s.host (aged_entries Controller s.link.to_controller ++ aged_entries Host s.link.to_host)
           (wires_all IsNoSent (λ w c. tt) Controller Host s.link.to_controller s.link.to_host) in
-          let rest = gone_free sites in
-          let both = costs-append (gone s) (flat_map gone sites) in
-          omega (arith, first, rest, both)
+          omega (arith, first, gone_free sites, costs-append (gone s) (flat_map gone sites))
 
 -- ## Behind events
 

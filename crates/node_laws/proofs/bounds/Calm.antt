@@ -36,10 +36,8 @@ use Rattle.node_laws.proofs.bounds.Links.{Rests, FirstOnce, taken_by, start_by, 
 all_good : (es : List LinkEvent) (l : Link) → AllAllowed l es → Good l → Reached (core_of l) → Good (after_link_events l es)
 all_good [] l a g r = g
 all_good (e ∷ es) l a g r =
-    let m : Link = happens l e in
     let st = event_step l e a.0 g r in
-    let next : Reached (core_of m) = subst Reached (sym st.core) (reached_more (core_of l) (core_event l e) st.allowed r) in
-    all_good es m a.1 st.good next
+    all_good es (happens l e) a.1 st.good (subst Reached (sym st.core) (reached_more (core_of l) (core_event l e) st.allowed r))
 
 run_good : (l : Link) → IsRun l → Good l
 run_good l run = subst Good run.run.is (all_good run.events new_line run.run.allowed (start_good new_line IsLine) (start_reached new_line IsLine))
@@ -106,10 +104,9 @@ link_holds l = syncs_on l.to_controller + tries_of l.host.side.role
 pub near_holds : (l : Link) (comes : Comes) (ts : List Turn) (ending : Ending)
     → link_holds (happens l (AtController (Step comes ts ending))) + taken_by comes l.to_controller ≤ link_holds l
 near_holds l comes ts ending =
-    let most = step_in l comes ts ending in
     let same : tries_of (happens_at_controller l (Step comes ts ending)).host.side.role ≡ tries_of l.host.side.role =
     ap (λ (k : NumberedEnd). tries_of k.side.role) (here_host l (Step comes ts ending)) in
-    omega (arith, most, same)
+    omega (arith, step_in l comes ts ending, same)
 
 input_host : (l : Link) (i : LinkInput) (ts : List Turn) (ending : Ending) → (has_input l i ts ending).host ≡ l.host
 input_host l i ts ending =
@@ -118,10 +115,9 @@ input_host l i ts ending =
 
 input_holds : (l : Link) (i : LinkInput) (ts : List Turn) (ending : Ending) → link_holds (has_input l i ts ending) ≤ link_holds l
 input_holds l i ts ending =
-    let most = input_in l i ts ending in
     let same : tries_of (has_input l i ts ending).host.side.role ≡ tries_of l.host.side.role =
     ap (λ (k : NumberedEnd). tries_of k.side.role) (input_host l i ts ending) in
-    omega (arith, most, same)
+    omega (arith, input_in l i ts ending, same)
 
 pub ticked_holds : (l : Link) (late : Bool) (ts : List Turn) (ending : Ending) → link_holds (ticked_so l late ts ending) ≤ link_holds l
 ticked_holds l late ts ending =

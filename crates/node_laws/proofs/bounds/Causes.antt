@@ -59,11 +59,9 @@ module _ (hosts : List ℕ) (most : length hosts ≤ 7) where
       let same : entries_in (os ++ occurs w c ∷ []) ≡ t ++ u =
       flat_map-append (λ (o : Occurrence). o.entries) os (occurs w c ∷ []) ∙ ap (λ z. t ++ z) (append-nil u) in
       let one = length-map w.sites (λ (s : Site). s.host) in
-      let two = ap length a.so.hosts_are in
-      let event = event_paid w c (all_calm w.sites a.so.well.fine.sites) a.so.well.orderly (omega (arith, one, two, most)) in
+      let event = event_paid w c (all_calm w.sites a.so.well.fine.sites) a.so.well.orderly (omega (arith, one, ap length a.so.hosts_are, most)) in
       let cs = costs-append t u in
       let ps = pays-append t u in
-      let before = a.paid in
       record {
         so = next_so of_none hosts os w c a.so (may_happen w c may) (λ h q. absurd (true≢false (sym q)));
         waiting = λ b h.
@@ -75,7 +73,7 @@ module _ (hosts : List ℕ) (most : length hosts ≤ 7) where
               goes = goes-append (end_at b h) t u [] was.messages moved.left was.goes moved.goes;
               waits = moved.waits;
             });
-        paid = subst (λ z. costs z + world_holds (world_step w c).0 ≤ pays z + (all + commands_by c)) (sym same) (omega (arith, event, cs, ps, before));
+        paid = subst (λ z. costs z + world_holds (world_step w c).0 ≤ pays z + (all + commands_by c)) (sym same) (omega (arith, event, cs, ps, a.paid));
       }
 
   -- so few are committed
@@ -83,10 +81,9 @@ module _ (hosts : List ℕ) (most : length hosts ≤ 7) where
   few_so all os w a =
       let t : List Entry = entries_in os in
       let order = in_order_so hosts os w a.so t [] (sym (append-nil t)) in
-      let paid = a.paid in
       few_committed all t (in_turn_of t (λ e. ((a.waiting e.at_host e.link).messages, (a.waiting e.at_host e.link).goes)))
       (λ e n. subst (λ (f : End). IsFrontOf (got_in t f n) (good_of (sent_in t (other_end e) n))) (other_twice e) (order.delivered (other_end e) n))
-      (omega (arith, paid))
+      (omega (arith, a.paid))
 
   all_so : (causes : List Happening) (all : ℕ) (os : List Occurrence) (w : NodeWorld) → PaidSo hosts all os w → AllCome w causes
       → commands_noted (entries_in (os ++ (all_happen w causes).1)) ≤ all + commands_by_all causes
@@ -99,9 +96,7 @@ module _ (hosts : List ℕ) (most : length hosts ≤ 7) where
       (λ q. rw q (let same : commands_noted (entries_in ((os ++ occurs w c ∷ []) ++ later.1)) ≡ commands_noted (entries_in (os ++ (occurs w c ∷ later.1))) =
       ap (λ l. commands_noted (entries_in l)) (append_assoc os (occurs w c ∷ []) later.1) in
       omega (arith, all_so causes (all + commands_by c) (os ++ occurs w c ∷ []) (world_step w c).0 (more_so all os w c a may.0) may.1, same)))
-      (λ q. rw q (let few = few_so all os w a in
-      let same : commands_noted (entries_in (os ++ [])) ≡ commands_noted (entries_in os) = ap (λ l. commands_noted (entries_in l)) (append-nil os) in
-      omega (arith, few, same)))
+      (λ q. rw q (omega (arith, few_so all os w a, ap (λ l. commands_noted (entries_in l)) (append-nil os))))
     where
       later : NodeWorld × List Occurrence
       later = all_happen (world_step w c).0 causes
@@ -109,9 +104,8 @@ module _ (hosts : List ℕ) (most : length hosts ≤ 7) where
   all_events : (events : List Occurrence) (all : ℕ) (os : List Occurrence) (w : NodeWorld) → PaidSo hosts all os w → AreCausedSo w events
       → commands_noted (entries_in (os ++ events)) ≤ all + commands_by_events events
   all_events [] all os w a are =
-      let few = few_so all os w a in
       let same : commands_noted (entries_in (os ++ [])) ≡ commands_noted (entries_in os) = ap (λ l. commands_noted (entries_in l)) (append-nil os) in
-      omega (arith, few, same)
+      omega (arith, few_so all os w a, same)
   all_events (o ∷ events) all os w a are =
       let is : occurs w o.cause ≡ o = ap (λ es. let made : Occurrence = record { cause = o.cause; entries = es } in made) (sym are.0) in
       let next : PaidSo hosts (all + commands_by o.cause) (os ++ o ∷ []) (world_step w o.cause).0 =
@@ -127,11 +121,10 @@ new_so hosts are =
     let header : Header = record { hci = true; hosts = record { items = hosts } } in
     let t : NodeHistory = record { header = header; steps = [] } in
     let follows : FollowsNodes header [] t = record { nodes = refl; header_is = refl; steps_are = refl; sure = tt } in
-    let none = new_hold hosts in
     record {
       so = history_so header [] t follows are tt [] [] refl;
       waiting = λ b h. record { messages = []; goes = refl; waits = none_wait hosts b h };
-      paid = omega (arith, none);
+      paid = omega (arith, new_hold hosts);
     }
   where
     new_hold : (hosts : List ℕ) → sites_hold (new_world hosts).sites ≡ 0

@@ -104,10 +104,7 @@ note_free h _ a = refl
 pub notes_free : (h : ℕ) (notes : List Noted) → AreNoSents notes → costs_at h notes ≡ 0
 notes_free h [] a = refl
 notes_free h (x ∷ notes) a =
-    let both = costs-append (entry_of h x) (entries_for h notes) in
-    let first = note_free h x a.0 in
-    let rest = notes_free h notes a.1 in
-    omega (arith, both, first, rest)
+    omega (arith, costs-append (entry_of h x) (entries_for h notes), note_free h x a.0, notes_free h notes a.1)
 
 -- what is told of an input costs nothing
 pub told_free : (h : ℕ) (who : Side) (n : ℕ) (r : Report) (acked : ℕ) → costs_at h (told who n r acked) ≡ 0

@@ -57,10 +57,8 @@ module _ (side : Side) (all : ℕ) where
   -- these are noted, and pay for themselves or are paid for
   pub noted : (left more : ℕ) (es : List Entry) (w : Work) → costs es + left ≤ pays es + more → Owes side more all w → Owes side left all (noting es w)
   noted left more es w most a =
-      let spent = costs-append w.entries es in
-      let paid = pays-append w.entries es in
       let owes = a.owes in
-      record { side_is = a.side_is; few = a.few; owes = omega (arith, spent, paid, most, owes) }
+      record { side_is = a.side_is; few = a.few; owes = omega (arith, costs-append w.entries es, pays-append w.entries es, most, owes) }
 
   -- its ends hold no more than they and what is left
   pub ended : (left more h : ℕ) (f : Port → Port) (w : Work) → ports_hold (with_port h f w.ports) + left ≤ ports_hold w.ports + more
@@ -96,11 +94,9 @@ module _ (side : Side) (all : ℕ) where
       → costs (option_map_or (noted_of core t) o []) ≤ k
   turn_most core t k is None most = omega arith
   turn_most core (Give m) k is (Some p) most =
-      let one = sent_most p.desk.host p.session m (own_side core) (give_refusal p.side m) in
       let same : message_cost (is_host_side (own_side core)) m.0 m.1 ≡ message_cost (is_host_side side) m.0 m.1 =
       ap (λ s. message_cost (is_host_side s) m.0 m.1) is in
-      let few = most m refl in
-      omega (arith, one, same, few)
+      omega (arith, sent_most p.desk.host p.session m (own_side core) (give_refusal p.side m), same, most m refl)
   turn_most core _ k is (Some p) most = omega arith
 
   turned_so : (left k h : ℕ) (t : Turn) (w : Work) → ((m : Message) → t ≡ Give m → message_cost (is_host_side side) m.0 m.1 ≤ k)
@@ -108,10 +104,8 @@ module _ (side : Side) (all : ℕ) where
   turned_so left k h t w most a =
       let v : Work = record w { ports = with_port h (after_turn t) w.ports } in
       let es : List Entry = option_map_or (noted_of w.core t) (port_at w.ports h) [] in
-      let one : costs es ≤ k = turn_most w.core t k a.side_is (port_at w.ports h) most in
-      let same : ports_hold v.ports ≤ ports_hold w.ports = with_less h (after_turn t) (λ p. omega arith) w.ports in
-      noted left (left + k) es v (omega (arith, one))
-      (ended (left + k) (left + k) h (after_turn t) w (omega (arith, same)) a)
+      noted left (left + k) es v (omega (arith, turn_most w.core t k a.side_is (port_at w.ports h) most))
+      (ended (left + k) (left + k) h (after_turn t) w (omega (arith, with_less h (after_turn t) (λ p. omega arith) w.ports)) a)
 
   -- a message is given, or what else its node does to an end, which costs nothing
   pub given : (left h : ℕ) (m : Message) (w : Work) → Owes side (left + message_cost (is_host_side side) m.0 m.1) all w
@@ -157,10 +151,9 @@ module _ (side : Side) (all : ℕ) where
   told : (left h : ℕ) (message : List ℕ) (w : Work) → Owes side (left + message_cost (is_host_side side) 1 message) all w
       → Owes side left all (with_desk h (λ d. record d { notice = Some (record { about = Removed; age = 0 }) }) (turn_at h (Give (1, message)) w))
   told left h message w a =
-      let sent : Owes side left all (turn_at h (Give (1, message)) w) = given left h (1, message) w a in
       let f : Port → Port = λ p. record p { desk = record p.desk { notice = Some (record { about = Removed; age = 0 }) } } in
       let same = with_less h f (λ p. omega arith) (turn_at h (Give (1, message)) w).ports in
-      ended left left h f (turn_at h (Give (1, message)) w) (omega (arith, same)) sent
+      ended left left h f (turn_at h (Give (1, message)) w) (omega (arith, same)) (given left h (1, message) w a)
 
   does : (left h : ℕ) (d : Deed) (w : Work) → Owes side (left + weight side d) all w → Owes side left all (done h d w)
   does left h (Commits c) w a = committed left c w a
@@ -180,8 +173,7 @@ module _ (side : Side) (all : ℕ) where
   does left h (Drops pid) w a = noted left (left + 0) (entry.Dropped (end_of_node w.core h) pid ∷ []) w (omega arith) a
   does left h (SetsErrors errors) w a =
       let f : Port → Port = λ p. record p { desk = record p.desk { errors = errors } } in
-      let same = with_less h f (λ p. omega arith) w.ports in
-      ended left (left + 0) h f w (omega (arith, same)) a
+      ended left (left + 0) h f w (omega (arith, with_less h f (λ p. omega arith) w.ports)) a
   does left h (Orders message) w a =
       let cost : ℕ = message_cost (is_host_side side) 1 message in
       let core : Core = record w.core { command = Some message } in
@@ -215,19 +207,16 @@ module _ (side : Side) (all : ℕ) where
   pub answered : (left h : ℕ) (w : Work) → Owes side left all w → Owes side (left + holds_at h w.ports) all (done h IsAnswered w)
   answered left h w a =
       let f : Port → Port = λ p. record p { desk = record p.desk { notice = None } } in
-      let freed = frees h f (λ p. refl) w.ports in
-      ended (left + holds_at h w.ports) left h f w (omega (arith, freed)) a
+      ended (left + holds_at h w.ports) left h f w (omega (arith, frees h f (λ p. refl) w.ports)) a
 
   -- the command of a host is answered
   pub heard : (left h : ℕ) (order : List ℕ) (w : Work) → w.core.command ≡ Some order → Owes side left all w
       → Owes side (left + 2) all (done h Hears w)
   heard left h order w is a =
-      let two : order_holds w.core.command ≡ 2 = ap order_holds is in
-      kept (left + 2) left (record w.core { command = None }) w refl (omega (arith, two)) a
+      kept (left + 2) left (record w.core { command = None }) w refl (omega (arith, ap order_holds is)) a
 
   -- its init goes on
   pub went_on : (left gain h : ℕ) (i j : Init) (w : Work) → w.core.init ≡ Some i → init_left j + gain ≤ init_left i → Owes side left all w
       → Owes side (left + gain) all (done h (GoesOn j) w)
   went_on left gain h i j w is most a =
-      let was : init_holds w.core.init ≡ init_left i = ap init_holds is in
-      kept (left + gain) left (record w.core { init = Some j }) w refl (omega (arith, was, most)) a
+      kept (left + gain) left (record w.core { init = Some j }) w refl (omega (arith, ap init_holds is, most)) a

@@ -90,8 +90,7 @@ pub stays_at : (h : ℕ) (f : Port → Port) → ((p : Port) → (f p).desk.host
     → (ports : List Port) → holds_at h (with_port h f ports) ≡ holds_at h ports
 stays_at h f host notice [] = refl
 stays_at h f host notice (p ∷ ports) = by_test (eqb p.desk.host h)
-    (λ q. let is : eqb (f p).desk.host h ≡ true = ap (λ n. eqb n h) (host p) ∙ q in
-    rw (q, is) (ap notice_holds (notice p)))
+    (λ q. rw (q, ap (λ n. eqb n h) (host p) ∙ q) (ap notice_holds (notice p)))
     (λ q. rw (q, q) (stays_at h f host notice ports))
 
 -- where the notice is answered, it holds nothing any more
@@ -99,7 +98,5 @@ pub frees : (h : ℕ) (f : Port → Port) → ((p : Port) → notice_holds (f p)
     → ports_hold (with_port h f ports) + holds_at h ports ≤ ports_hold ports
 frees h f none [] = omega arith
 frees h f none (p ∷ ports) = by_test (eqb p.desk.host h)
-    (λ q. let z = none p in rw q (omega (arith, less, z)))
-    (λ q. rw q (omega (arith, frees h f none ports))) where
-      less : ports_hold (with_port h f ports) ≤ ports_hold ports
-      less = with_less h f (λ p. let z = none p in omega (arith, z)) ports
+    (λ q. let z = none p in rw q (omega (arith, (with_less h f (λ p. let z = none p in omega (arith, z)) ports), z)))
+    (λ q. rw q (omega (arith, frees h f none ports)))

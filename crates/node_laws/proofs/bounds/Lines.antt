@@ -128,10 +128,8 @@ steps_most : (header : Header) (lines : List Line) (w : NodeWorld) → AreNodeLi
 steps_most header [] w are = omega arith
 steps_most header (l ∷ lines) w are =
     let v : NodeWorld = (line_step w l).0 in
-    let both = by-append (occurrences_of (line_step w l).1) (events_of_steps (steps_from v lines)) in
-    let one = step_most header w l are.0 in
     let rest = steps_most header lines v are.1 in
-    omega (arith, both, one, rest)
+    omega (arith, by-append (occurrences_of (line_step w l).1) (events_of_steps (steps_from v lines)), step_most header w l are.0, rest)
 
 -- ## Histories
 
@@ -141,20 +139,15 @@ pub front_so : (header : Header) (lines : List Line) (t : NodeHistory) → Follo
 front_so header lines t follows play front back parts =
     let first : NodeWorld = new_world header.hosts.items in
     let events : List Occurrence = events_of_steps (steps_from first lines) in
-    let is : events ≡ front ++ back = ap events_of_steps (sym follows.steps_are) ∙ parts in
     let all : AreCausedSo first events = caused_so events first (lines_caused MayBeCaused IsPlayable line_may lines first play) in
-    front_caused front back first (subst (AreCausedSo first) is all)
+    front_caused front back first (subst (AreCausedSo first) (ap events_of_steps (sym follows.steps_are) ∙ parts) all)
 
 -- few commands come of them
 pub front_asked : (header : Header) (lines : List Line) (t : NodeHistory) → FollowsNodes header lines t → AreNodeLinesOf header lines
     → (front back : List Occurrence) → occurrences_in t ≡ front ++ back → commands_by_events front ≤ 234 * lines_asking lines
 front_asked header lines t follows are front back parts =
     let first : NodeWorld = new_world header.hosts.items in
-    let is : events_of_steps (steps_from first lines) ≡ front ++ back = ap events_of_steps (sym follows.steps_are) ∙ parts in
-    let most = steps_most header lines first are in
-    let both = by-append front back in
-    let same : commands_by_events (events_of_steps (steps_from first lines)) ≡ commands_by_events (front ++ back) = ap commands_by_events is in
-    omega (arith, most, both, same)
+    omega (arith, steps_most header lines first are, by-append front back, ap commands_by_events (ap events_of_steps (sym follows.steps_are) ∙ parts))
 
 -- and few are noted
 pub lines_bounded : (header : Header) (lines : List Line) (t : NodeHistory) → FollowsNodes header lines t → IsNodeHeader header
@@ -163,5 +156,4 @@ pub lines_bounded : (header : Header) (lines : List Line) (t : NodeHistory) → 
 lines_bounded header lines t follows nodes are front back parts =
     let caused = front_so header lines t follows (playable header lines are) front back parts in
     let few = events_bounded header.hosts.items front (hosts_are header nodes) (hosts_few header nodes) caused in
-    let most = front_asked header lines t follows are front back parts in
-    omega (arith, few, most)
+    omega (arith, few, front_asked header lines t follows are front back parts)

@@ -100,9 +100,7 @@ put_syncs l c = by_test (is_rset c) (λ q. rw q (pushed (l.resets + 1))) (λ q. 
   pushed : (n : ℕ) → syncs_on (fits (l.to_host ++ record { frame = c; age = 0; number = n } ∷ [])) ≤ syncs_on l.to_host + sync_frame c
   pushed n =
       let x : OnWire = record { frame = c; age = 0; number = n } in
-      let less = fits_less (l.to_host ++ x ∷ []) in
-      let both = on-append l.to_host (x ∷ []) in
-      omega (arith, less, both)
+      omega (arith, fits_less (l.to_host ++ x ∷ []), on-append l.to_host (x ∷ []))
 
 put_all_syncs : (cs : List Control) (l : Link) → syncs_on (put_all l cs).to_host ≤ syncs_on l.to_host + syncs_in cs
 unfolding syncs_in
@@ -133,10 +131,7 @@ ended_out l false = refl
 input_out : (m : Link) (e : LinkEnd) (i : LinkInput) (ts : List Turn) (ending : Ending) → IsUicc e.role → ComesOnce i
     → out_holds (finished m (turned (after_input e i) ts) ending) ≤ syncs_on m.to_host + (may_send e + start_of i)
 input_out m e i ts ending is once =
-    let most = finished_out m (turned (after_input e i) ts) ending in
-    let same = turned_sends (after_input e i) ts in
-    let less = input_sends e i is once in
-    omega (arith, most, same, less)
+    omega (arith, finished_out m (turned (after_input e i) ts) ending, turned_sends (after_input e i) ts, input_sends e i is once)
 
 abbrev pub start_by : Comes → ℕ
 start_by (Starts value) = 3
@@ -158,9 +153,7 @@ module _ (l : Link) (rests : Rests l) where
   has_out : (i : LinkInput) (ts : List Turn) (ending : Ending) → ComesOnce i → out_holds (has_input l i ts ending) ≤ out_holds l + start_of i
   has_out i ts ending once =
       let b : Bool = is_some (ended_by l.controller.side i) in
-      let most = input_out (with_ended l b) l.controller.side i ts ending rests.uicc once in
-      let wire : syncs_on (with_ended l b).to_host ≡ syncs_on l.to_host = ap syncs_on (ended_out l b) in
-      omega (arith, most, wire, now)
+      omega (arith, input_out (with_ended l b) l.controller.side i ts ending rests.uicc once, ap syncs_on (ended_out l b), now)
 
   pub tick_out : (ts : List Turn) (ending : Ending) → out_holds (ticks_at_controller l ts ending) ≤ out_holds l
   tick_out ts ending = let most = has_out Tick ts ending tt in omega (arith, most)
@@ -183,9 +176,7 @@ module _ (l : Link) (rests : Rests l) where
       let most = input_out (silent l (deactivated l.controller.side)) l.controller.side Stop ts ending rests.uicc tt in
       omega (arith, most, now)
   step_out NoInput ts ending once =
-      let most = finished_out l (turned l.controller.side ts) ending in
-      let same = turned_sends l.controller.side ts in
-      omega (arith, most, same, now)
+      omega (arith, finished_out l (turned l.controller.side ts) ending, turned_sends l.controller.side ts, now)
 
 -- ## The wire to an end
 
@@ -197,8 +188,7 @@ taken_by _ w = 0
 
 finished_in : (l : Link) (e : LinkEnd) (ending : Ending) → syncs_on (finished l e ending).to_controller ≤ syncs_on l.to_controller
 finished_in l e GoesOut =
-    let same : syncs_on (put_all l (frames_out e)).to_controller ≡ syncs_on l.to_controller = ap syncs_on (beside-put_all (frames_out e) l).to_controller in
-    omega (arith, same)
+    omega (arith, ap syncs_on (beside-put_all (frames_out e) l).to_controller)
 finished_in l e CutOff = omega arith
 
 ended_in : (l : Link) (b : Bool) → (with_ended l b).to_controller ≡ l.to_controller
@@ -208,9 +198,7 @@ ended_in l false = refl
 pub input_in : (l : Link) (i : LinkInput) (ts : List Turn) (ending : Ending) → syncs_on (has_input l i ts ending).to_controller ≤ syncs_on l.to_controller
 input_in l i ts ending =
     let b : Bool = is_some (ended_by l.controller.side i) in
-    let most = finished_in (with_ended l b) (turned (after_input l.controller.side i) ts) ending in
-    let same : syncs_on (with_ended l b).to_controller ≡ syncs_on l.to_controller = ap syncs_on (ended_in l b) in
-    omega (arith, most, same)
+    omega (arith, finished_in (with_ended l b) (turned (after_input l.controller.side i) ts) ending, ap syncs_on (ended_in l b))
 
 pub step_in : (l : Link) (comes : Comes) (ts : List Turn) (ending : Ending)
     → syncs_on (steps_at_controller l comes ts ending).to_controller + taken_by comes l.to_controller ≤ syncs_on l.to_controller

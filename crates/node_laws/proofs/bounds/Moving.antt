@@ -1,5 +1,5 @@
 -- Messages that have their turns were sent: what they pay was paid for, message by message, by the end from which they came.
-use Rattle.std.proofs.Common.{◌≡◌, ℕ, zero, suc, ◌+◌, ◌≤◌, ◌<◌, ◌==◌, Bool, true, false, List, [], ◌∷◌, ◌++◌, refl, ap, ◌∙◌, arith}
+use Rattle.std.proofs.Common.{◌≡◌, ℕ, zero, suc, ◌+◌, ◌≤◌, ◌<◌, ◌==◌, Bool, true, List, [], ◌∷◌, ◌++◌, refl, ap, ◌∙◌, arith}
 use Rattle.std.proofs.Common.{Option, Some, None}
 use Rattle.std.specs.Prelude.{not}
 use Rattle.std.specs.List.{cons_option, filter_map}
@@ -62,32 +62,24 @@ module _ (e : End) where
   at_end [] since are = let now = are [] [] refl in omega (arith, now)
   at_end (entry.Booted node k ∷ t) since are = by_test (node == node_number e)
       (λ q. let fresh : AreFewer [] t = (λ front back is. let z = are (x ∷ front) back (ap (λ l. x ∷ l) is) in rw q at z) in
-      let rest = at_end t [] fresh in
-      omega (arith, rest, now))
+      omega (arith, at_end t [] fresh, (are [] (x ∷ t) refl)))
       (λ q. let on : AreFewer (since ++ x ∷ []) t = (λ front back is. let z = are (x ∷ front) back (ap (λ l. x ∷ l) is) in rw q at z) in
-      let rest = (at_end t (since ++ entry.Booted node k ∷ [])) on in
       let a = turns-append since (x ∷ []) in
       let b = gots-append since (x ∷ []) in
-      omega (arith, rest, a, b)) where
+      omega (arith, (at_end t (since ++ entry.Booted node k ∷ [])) on, a, b)) where
         x : Entry
         x = entry.Booted node k
-
-        now : turns since ≤ gots since
-        now = are [] (x ∷ t) refl
   at_end (x ∷ t) since are =
-      let rest = at_end t (since ++ x ∷ []) (λ front back is. are (x ∷ front) back (ap (λ l. x ∷ l) is)) in
-      let a = turns-append since (x ∷ []) in
       let b = gots-append since (x ∷ []) in
       let c = turns-append (x ∷ []) t in
       let d = gots-append (x ∷ []) t in
-      omega (arith, rest, a, b, c, d)
+      omega (arith, at_end t (since ++ x ∷ []) (λ front back is. are (x ∷ front) back (ap (λ l. x ∷ l) is)), turns-append since (x ∷ []), b, c, d)
 
   pub turned_came : (t : List Entry) → AreInTurn t → turns t ≤ gots t
   turned_came t are =
       let fewer : AreFewer [] t =
       (λ front back is. front_worth e.at_host _ (filter_map (got_entry e) (since_boot (node_number e) [] front)) (are front back e is)) in
-      let last = at_end t [] fewer in
-      omega (arith, last)
+      omega (arith, at_end t [] fewer)
 
   -- ## In all sessions
 
@@ -103,10 +95,8 @@ module _ (e : End) where
   pub fewer_below : (t : List Entry) → ((n : ℕ) → IsFrontOf (got_in t e n) (good_of (sent_in t (other_end e) n))) → (n : ℕ) → got_below t n ≤ sent_below t n
   fewer_below t fronts zero = omega arith
   fewer_below t fronts (suc n) =
-      let one = front_worth e.at_host (got_in t e n) (good_of (sent_in t (other_end e) n)) (fronts n) in
       let good = good_worth e.at_host (sent_in t (other_end e) n) in
-      let rest = fewer_below t fronts n in
-      omega (arith, one, good, rest)
+      omega (arith, front_worth e.at_host (got_in t e n) (good_of (sent_in t (other_end e) n)) (fronts n), good, fewer_below t fronts n)
 
 -- ## Messages that were noted are those of sessions
 
@@ -127,28 +117,20 @@ hits k w (suc n) = worth w (k == n) + hits k w n
 not_yet : (k w n : ℕ) → n ≤ k → hits k w n ≡ 0
 not_yet k w zero below = refl
 not_yet k w (suc n) below =
-    let off : (k == n) ≡ false = ne_eqb k n (λ is. omega (arith, below, is)) in
-    let rest = not_yet k w n (omega (arith, below)) in
-    let one : worth w (k == n) ≡ 0 = ap (worth w) off in
-    omega (arith, one, rest)
+    omega (arith, ap (worth w) (ne_eqb k n (λ is. omega (arith, below, is))), not_yet k w n (omega (arith, below)))
 
 pub hits_most : (k w n : ℕ) → hits k w n ≤ w
 hits_most k w zero = omega arith
 hits_most k w (suc n) = by_test (k == n)
-    (λ q. let is : k ≡ n = eqb-true k n q in
-    let rest = not_yet k w n (omega (arith, is)) in
-    let one : worth w (k == n) ≡ w = ap (worth w) q in
-    omega (arith, one, rest))
-    (λ q. let one : worth w (k == n) ≡ 0 = ap (worth w) q in
-    omega (arith, one, hits_most k w n))
+    (λ q. let one : worth w (k == n) ≡ w = ap (worth w) q in
+    omega (arith, one, not_yet k w n (omega (arith, eqb-true k n q))))
+    (λ q. omega (arith, ap (worth w) q, hits_most k w n))
 
 hits_once : (k w n : ℕ) → k < n → w ≤ hits k w n
 hits_once k w zero below = absurd (omega (arith, below))
 hits_once k w (suc n) below = by_test (k == n)
     (λ q. let one : worth w (k == n) ≡ w = ap (worth w) q in omega (arith, one))
-    (λ q. let apart : k ≡ n → ⊥ = eqb-false k n q in
-    let rest = hits_once k w n (omega (arith, below, apart)) in
-    omega (arith, rest))
+    (λ q. omega (arith, hits_once k w n (omega (arith, below, eqb-false k n q))))
 
 module _ (e : End) where
   -- what one entry tells of the sessions below a number
@@ -168,19 +150,16 @@ module _ (e : End) where
   pub sent_more : (x : Entry) (t : List Entry) (n : ℕ) → sent_below e (x ∷ t) n ≡ sent_of x n + sent_below e t n
   sent_more x t zero = refl
   sent_more x t (suc n) =
-      let one = cons_worth e.at_host (sent_by n (said_of (other_end e) x)) (sent_in t (other_end e) n) in
-      let rest = sent_more x t n in
-      omega (arith, one, rest)
+      omega (arith, cons_worth e.at_host (sent_by n (said_of (other_end e) x)) (sent_in t (other_end e) n), sent_more x t n)
 
   -- a message that came is told in its session
   hit_got : (f : End) (k pid : ℕ) (m : List ℕ) (n : ℕ) → same_end f e ≡ true
       → got_by (entry.Got f k pid m) n ≡ hits k (message_cost (not e.at_host) pid m) n
   hit_got f k pid m zero on = refl
   hit_got f k pid m (suc n) on =
-      let rest = hit_got f k pid m n on in
       let one : worth_if e.at_host (got_in_session n (said_of e (entry.Got f k pid m))) ≡ worth (message_cost (not e.at_host) pid m) (k == n) =
       rw on (by_test (k == n) (λ q. rw q refl) (λ q. rw q refl)) in
-      omega (arith, one, rest)
+      omega (arith, one, hit_got f k pid m n on)
 
   -- the greatest number of a session in which a message came, and one more
   abbrev pub top : List Entry → ℕ
@@ -193,9 +172,8 @@ module _ (e : End) where
   all_got (entry.Got f k pid m ∷ t) n most = by_test (same_end f e)
       (λ q. let is : gots e (x ∷ t) ≡ message_cost (not e.at_host) pid m + gots e t = rw q refl in
       let more = got_more x t n in
-      let hit = hit_got f k pid m n q in
       let once = hits_once k (message_cost (not e.at_host) pid m) n (omega (arith, most)) in
-      omega (arith, is, more, hit, once, (all_got t n (omega (arith, most)))))
+      omega (arith, is, more, hit_got f k pid m n q, once, (all_got t n (omega (arith, most)))))
       (λ q. let is : gots e (x ∷ t) ≡ gots e t = rw q refl in let more = got_more x t n in omega (arith, is, more, (all_got t n (omega (arith, most))))) where
         x : Entry
         x = entry.Got f k pid m

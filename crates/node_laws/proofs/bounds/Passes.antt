@@ -138,10 +138,8 @@ fronts_more t es none fronts e n =
 pub pass_few : (side : Side) (t : List Entry) (before here all : ℕ) (w v : Work) → costs t + before ≤ pays t + all → here ≤ before → Owes side 0 here w
     → ComesTo w v → AreFronts (t ++ w.entries) → AreInTurn (t ++ v.entries) → commands_noted (t ++ v.entries) ≤ all
 pass_few side t before here all w v paid most begun reached fronts turned =
-    let owed = (comes_owe side here w v begun reached).owes in
     let b : Behind w v = comes_behind w v reached in
     let later : AreFronts (t ++ v.entries) =
     subst AreFronts (append_assoc t w.entries b.es ∙ ap (λ z. t ++ z) (sym b.is)) (fronts_more (t ++ w.entries) b.es b.none fronts) in
-    let cs = costs-append t v.entries in
     let ps = pays-append t v.entries in
-    few_committed all (t ++ v.entries) turned later (omega (arith, paid, most, owed, cs, ps))
+    few_committed all (t ++ v.entries) turned later (omega (arith, paid, most, (comes_owe side here w v begun reached).owes, costs-append t v.entries, ps))

@@ -65,13 +65,10 @@ module _ (e : End) where
   turns_are : (t : List Entry) → count e (turn_list t) ≡ turns e t
   turns_are [] = refl
   turns_are (entry.Turn f pid m ∷ t) = by_test (same_end f e)
-      (λ q. let many = count_on e f n (turn_list t) q in
-      let same : n ≡ message_cost (not e.at_host) pid m = ap (λ (x : End). message_cost (not x.at_host) pid m) (ends_same f e q) in
-      let is : turns e (entry.Turn f pid m ∷ t) ≡ message_cost (not e.at_host) pid m + turns e t = rw q refl in
-      omega (arith, many, same, is, turns_are t))
-      (λ q. let many = count_off e f n (turn_list t) q in
-      let is : turns e (entry.Turn f pid m ∷ t) ≡ turns e t = rw q refl in
-      omega (arith, many, is, turns_are t)) where
+      (λ q. let is : turns e (entry.Turn f pid m ∷ t) ≡ message_cost (not e.at_host) pid m + turns e t = rw q refl in
+      omega (arith, count_on e f n (turn_list t) q, ap (λ (x : End). message_cost (not x.at_host) pid m) (ends_same f e q), is, turns_are t))
+      (λ q. let is : turns e (entry.Turn f pid m ∷ t) ≡ turns e t = rw q refl in
+      omega (arith, count_off e f n (turn_list t) q, is, turns_are t)) where
         n : ℕ
         n = message_cost (not f.at_host) pid m
   turns_are (x ∷ t) = turns_are t
@@ -103,25 +100,21 @@ module _ (e : End) where
   none_sent : (x : Entry) → SaysNoSend (said x) → (n : ℕ) → sent_of e x n ≡ 0
   none_sent x none zero = refl
   none_sent x none (suc n) =
-      let one : worth_if e.at_host (sent_by n (said_of (other_end e) x)) ≡ 0 = ap (worth_if e.at_host) (unsent n (other_end e) (said x) none) in
-      let rest = none_sent x none n in
-      omega (arith, one, rest)
+      omega (arith, ap (worth_if e.at_host) (unsent n (other_end e) (said x) none), none_sent x none n)
 
   hit_sent : (f : End) (k pid : ℕ) (m : List ℕ) (n : ℕ) → same_end f (other_end e) ≡ true
       → sent_of e (entry.Sent f k pid m) n ≡ hits k (message_cost (not e.at_host) pid m) n
   hit_sent f k pid m zero on = refl
   hit_sent f k pid m (suc n) on =
-      let rest = hit_sent f k pid m n on in
       let one : worth_if e.at_host (sent_by n (said_of (other_end e) (entry.Sent f k pid m))) ≡ worth (message_cost (not e.at_host) pid m) (k == n) =
       rw on (by_test (k == n) (λ q. rw q refl) (λ q. rw q refl)) in
-      omega (arith, one, rest)
+      omega (arith, one, hit_sent f k pid m n on)
 
   miss_sent : (f : End) (k pid : ℕ) (m : List ℕ) (n : ℕ) → same_end f (other_end e) ≡ false → sent_of e (entry.Sent f k pid m) n ≡ 0
   miss_sent f k pid m zero off = refl
   miss_sent f k pid m (suc n) off =
-      let rest = miss_sent f k pid m n off in
       let one : worth_if e.at_host (sent_by n (said_of (other_end e) (entry.Sent f k pid m))) ≡ 0 = rw off refl in
-      omega (arith, one, rest)
+      omega (arith, one, miss_sent f k pid m n off)
 
   all_sent : (t : List Entry) (n : ℕ) → sent_below e t n ≤ count e (sent_list t)
   all_sent [] n = none_below n where
@@ -130,18 +123,13 @@ module _ (e : End) where
     none_below (suc n) = let rest = none_below n in omega (arith, rest)
   all_sent (entry.Sent f k pid m ∷ t) n = by_test (same_end f (other_end e))
       (λ q. let is : f ≡ other_end e = ends_same f (other_end e) q in
-      let far : other_end f ≡ e = ap other_end is ∙ other_twice e in
-      let on : same_end (other_end f) e ≡ true = ap (λ g. same_end g e) far ∙ same_end_itself e in
-      let many = count_on e (other_end f) c (sent_list t) on in
-      let same : c ≡ message_cost (not e.at_host) pid m = ap (λ (g : End). message_cost g.at_host pid m) is in
+      let many = count_on e (other_end f) c (sent_list t) (ap (λ g. same_end g e) (ap other_end is ∙ other_twice e) ∙ same_end_itself e) in
       let more = sent_more e (entry.Sent f k pid m) t n in
-      let hit = hit_sent f k pid m n q in
       let most = hits_most k (message_cost (not e.at_host) pid m) n in
-      omega (arith, many, same, more, hit, most, (all_sent t n)))
+      omega (arith, many, ap (λ (g : End). message_cost g.at_host pid m) is, more, hit_sent f k pid m n q, most, (all_sent t n)))
       (λ q. let more = sent_more e (entry.Sent f k pid m) t n in
       let none = miss_sent f k pid m n q in
-      let many = count_more e (other_end f) c (sent_list t) in
-      omega (arith, more, none, many, (all_sent t n))) where
+      omega (arith, more, none, count_more e (other_end f) c (sent_list t), (all_sent t n))) where
         c : ℕ
         c = message_cost f.at_host pid m
   all_sent (x ∷ t) n = let rest = all_sent t n in let more = sent_more e x t n in let none = none_sent x tt n in omega (arith, rest, more, none)
@@ -157,13 +145,9 @@ paid_before : (t : List Entry) → AreInTurn t → AreFronts t → pays t ≤ le
 paid_before t turned fronts =
     let few =
     fewer (turn_list t) (sent_list t)
-    (λ e. let a = turns_are e t in
-    let b = turned_came e t turned in
-    let c = all_got e t (top e t) (omega arith) in
-    let d = fewer_below e t (fronts e) (top e t) in
-    let f = all_sent e t (top e t) in omega (arith, a, b, c, d, f)) in
-    let is = pays_are t in
-    omega (arith, few, is)
+    (λ e. let d = fewer_below e t (fronts e) (top e t) in
+    let f = all_sent e t (top e t) in omega (arith, turns_are e t, turned_came e t turned, all_got e t (top e t) (omega arith), d, f)) in
+    omega (arith, few, pays_are t)
 
 -- So what is committed is paid for by what came of causes.
 pub few_committed : (all : ℕ) (t : List Entry) → AreInTurn t → AreFronts t → costs t ≤ pays t + all → commands_noted t ≤ all

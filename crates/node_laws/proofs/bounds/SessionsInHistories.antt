@@ -47,9 +47,8 @@ told_within : (n h : ℕ) (l : Link) (t : List Entry) → l.resets ≤ n → IsL
 told_within n h l t few told =
     let events : List LinkEvent = told.events in
     let end : Link = after_link_events new_line events in
-    let same : end.resets ≡ l.resets = ap (λ (m : Link). m.resets) told.run.is in
     let noted : AreNotedWithin n (entries new_line events) =
-    more end.resets n (entries new_line events) (omega (arith, few, same)) (run_within new_line IsLine events) in
+    more end.resets n (entries new_line events) (omega (arith, few, ap (λ (m : Link). m.resets) told.run.is)) (run_within new_line IsLine events) in
     let all : AreSessionsWithin n (entries_for h (entries new_line events)) = entries_within h n (entries new_line events) noted in
     subst (AreSessionsWithin n) (sym told.told) (each_filter (SessionWithin n) _ (entries_for h (entries new_line events)) all)
 

@@ -112,7 +112,9 @@ taken_within who l x xs ts ending q a =
     let e : LinkEnd = after_input l.controller.side (Take x.frame) in (
       tt,
       each_append (NotedWithin l.resets) (told_of who near (Take x.frame)) (rest_entries who (left_after l x xs) e ts ending)
-          (input_told l.resets who near (Take x.frame) heard) (rest_within l.resets who (left_after l x xs) e ts ending left),
+          (input_told l.resets who near (Take x.frame) heard)
+          (rest_within l.resets who (left_after l x xs) e ts ending
+          (by_test (is_some (ended_by l.controller.side (Take x.frame))) (λ q. rw q heard) (λ q. rw q heard))),
     )
   where
     wire : AllByRecursion (λ (y : OnWire). y.number ≤ l.resets) (x ∷ xs)
@@ -121,9 +123,6 @@ taken_within who l x xs ts ending q a =
     heard : number_of (record l.controller { took = took_with l.controller.took x }) ≤ l.resets
     heard =
         let t = took_low l.resets l.controller.took x a.controller.took wire.0 in let e = a.controller.emitted in omega (arith, t, e)
-
-    left : number_of (left_after l x xs).controller ≤ l.resets
-    left = by_test (is_some (ended_by l.controller.side (Take x.frame))) (λ q. rw q heard) (λ q. rw q heard)
 
 silent_resets : (l : Link) (e : LinkEnd) → (silent l e).resets ≡ l.resets
 silent_resets l e = by_test (is_up l.controller.side.shdlc.phase) (λ q. rw q refl) (λ q. rw q refl)
@@ -140,9 +139,7 @@ restart_within who l i ts ending a =
   where
     silent_low : (e : LinkEnd) → number_of (silent l e).controller ≤ l.resets
     silent_low e =
-        let z = number_low (silent l e).resets (silent l e).controller (silent_numbered l e a).controller in
-        let r = silent_resets l e in
-        omega (arith, z, r)
+        omega (arith, number_low (silent l e).resets (silent l e).controller (silent_numbered l e a).controller, silent_resets l e)
 
 step_within : (who : End) (l : Link) (comes : Comes) (ts : List Turn) (ending : Ending) → HasLowNumbers l
     → AreNotedWithin l.resets (step_entries who l comes ts ending)
@@ -173,16 +170,12 @@ ended_resets l false = refl
 finished_grows : (l : Link) (e : LinkEnd) (ending : Ending) → l.resets ≤ (finished l e ending).resets
 finished_grows l e GoesOut = puts_grow (frames_out e) l
 finished_grows l e CutOff =
-    let k : Link = with_controller l (sent_all e) in
-    let r = silent_resets k (new_link_end (renewed e.role)) in
-    omega (arith, r)
+    omega (arith, silent_resets (with_controller l (sent_all e)) (new_link_end (renewed e.role)))
 
 input_grows : (l : Link) (i : LinkInput) (ts : List Turn) (ending : Ending) → l.resets ≤ (has_input l i ts ending).resets
 input_grows l i ts ending =
     let b : Bool = is_some (ended_by l.controller.side i) in
-    let z = finished_grows (with_ended l b) (turned (after_input l.controller.side i) ts) ending in
-    let r = ended_resets l b in
-    omega (arith, z, r)
+    omega (arith, finished_grows (with_ended l b) (turned (after_input l.controller.side i) ts) ending, ended_resets l b)
 
 taken_grows : (l : Link) (x : OnWire) (xs : List OnWire) (ts : List Turn) (ending : Ending) → l.resets ≤ (has_taken l x xs ts ending).resets
 taken_grows l x xs ts ending =
@@ -213,18 +206,14 @@ event_grows l (AtController e) = here_grows l e
 event_grows l (AtHost e) = here_grows (exchanged l) e
 event_grows l (Ticks c events h) =
     let near : Link = ticks_at_controller (aged l) c.turns c.ending in
-    let x = input_grows (aged l) HasTick c.turns c.ending in
     let y = all_grow events near in
-    let z = input_grows (exchanged (all_at_controller near events)) HasTick h.turns h.ending in
-    omega (arith, x, y, z)
+    omega (arith, input_grows (aged l) HasTick c.turns c.ending, y, input_grows (exchanged (all_at_controller near events)) HasTick h.turns h.ending)
 event_grows l (TicksWithout events h) =
     let y = all_grow events (aged l) in
-    let z = input_grows (exchanged (all_at_controller (aged l) events)) HasTick h.turns h.ending in
-    omega (arith, y, z)
+    omega (arith, y, input_grows (exchanged (all_at_controller (aged l) events)) HasTick h.turns h.ending)
 event_grows l (Activate power c id h) =
-    let x = step_grows l (Starts power) c.turns c.ending in
     let y = step_grows (exchanged (steps_at_controller l (Starts power) c.turns c.ending)) (Starts id) h.turns h.ending in
-    omega (arith, x, y)
+    omega (arith, step_grows l (Starts power) c.turns c.ending, y)
 
 events_grow : (events : List LinkEvent) (l : Link) → l.resets ≤ (after_link_events l events).resets
 events_grow [] l = omega arith
@@ -237,10 +226,9 @@ all_within [] who l a = tt
 all_within (e ∷ es) who l a =
     let m : Link = happens_at_controller l e in
     let end : Link = all_at_controller m es in
-    let x = here_grows l e in
     let y = all_grow es m in
     each_append (NotedWithin end.resets) (here_entries who l e) (entries_of_events who m es)
-    (more l.resets end.resets (here_entries who l e) (omega (arith, x, y)) (here_within who l e a)) (all_within es who m (here_numbered l e a))
+    (more l.resets end.resets (here_entries who l e) (omega (arith, here_grows l e, y)) (here_within who l e a)) (all_within es who m (here_numbered l e a))
 
 tick_within : (n : ℕ) (who : End) (l : Link) (node : Node) → l.resets ≤ n → HasLowNumbers l → AreNotedWithin n (tick_entries who l node)
 tick_within n who l node q a = more l.resets n (tick_entries who l node) q (input_within who l HasTick node.turns node.ending a)
@@ -264,12 +252,11 @@ event_within l (Ticks c events h) a =
     let n : ℕ = (happens l (Ticks c events h)).resets in
     let b : HasLowNumbers (aged l) = aged_numbered l a in
     let d : HasLowNumbers near = tick_numbered (aged l) c.turns c.ending b in
-    let x : l.resets ≤ near.resets = input_grows (aged l) HasTick c.turns c.ending in
     let y : near.resets ≤ k.resets = all_grow events near in
     let z : k.resets ≤ n = input_grows (exchanged k) HasTick h.turns h.ending in
     let middle = more k.resets n (entries_of_events Controller near events) z (all_within events Controller near d) in
     let last = tick_within n Host (exchanged k) h z (exchanged_numbered k (all_numbered events near d)) in
-    let first = tick_within n Controller (aged l) c (omega (arith, x, y, z)) b in (
+    let first = tick_within n Controller (aged l) c (omega (arith, input_grows (aged l) HasTick c.turns c.ending, y, z)) b in (
       tt,
       behind_aged n l _ (each_append (NotedWithin n) (tick_entries Controller (aged l) c) _ first
           (each_append (NotedWithin n) (entries_of_events Controller near events) _ middle last)),
@@ -285,10 +272,9 @@ event_within l (TicksWithout events h) a =
 event_within l (Activate power c id h) a =
     let near : Link = steps_at_controller l (Starts power) c.turns c.ending in
     let n : ℕ = (happens l (Activate power c id h)).resets in
-    let x : l.resets ≤ near.resets = step_grows l (Starts power) c.turns c.ending in
     let y : near.resets ≤ n = step_grows (exchanged near) (Starts id) h.turns h.ending in
     each_append (NotedWithin n) (step_entries Controller l (Starts power) c.turns c.ending) (step_entries Host (exchanged near) (Starts id) h.turns h.ending)
-    (more l.resets n (step_entries Controller l (Starts power) c.turns c.ending) (omega (arith, x, y))
+    (more l.resets n (step_entries Controller l (Starts power) c.turns c.ending) (omega (arith, step_grows l (Starts power) c.turns c.ending, y))
     (step_within Controller l (Starts power) c.turns c.ending a))
     (more near.resets n (step_entries Host (exchanged near) (Starts id) h.turns h.ending) y
     (step_within Host (exchanged near) (Starts id) h.turns h.ending (exchanged_numbered near (steps_numbered l (Starts power) c.turns c.ending a))))

@@ -104,9 +104,6 @@ uicc_sends s ActTick once = ticks s.phase where
   ticks : (p : Phase) → sync_act (out_ticked p s.last).send + tries_left (phase_ticked p) ≤ tries_left p + 0
   ticks Inactive = omega arith
   ticks (Awaiting tries t) = tenth (nat_le 10 (t + 1)) (nat_le 3 tries) refl where
-    Goal : ActOut → Phase → Type 0
-    Goal out p = sync_act out.send + tries_left p ≤ tries_left (Awaiting tries t) + 0
-
     again : ActOut
     again = record { send = s.last; became_active = false; ended_link = false; sync = None; gave_up = None }
 
@@ -114,7 +111,8 @@ uicc_sends s ActTick once = ticks s.phase where
     gives_up = record { send = None; became_active = false; ended_link = false; sync = None; gave_up = Some 3 }
 
     tenth : (b c : Bool) → nat_le 3 tries ≡ c
-        → Goal (cond b (cond c gives_up again) no_act_out) (cond b (cond c Inactive (Awaiting (tries + 1) 0)) (Awaiting tries (t + 1)))
+        → (sync_act (cond b (cond c gives_up again) no_act_out).send + tries_left
+        (cond b (cond c Inactive (Awaiting (tries + 1) 0)) (Awaiting tries (t + 1))) ≤ tries_left (Awaiting tries t) + 0)
     tenth false c q = omega arith
     tenth true true q = omega arith
     tenth true false q = let most = one_most s.last in let few : tries < 3 = leb-false 3 tries q in omega (arith, most, few)
@@ -167,9 +165,6 @@ activated_sends e event is once = by e.role refl is where
   f : LinkEnd
   f = record (put_down out.ended_link e) { role = role_after e.role event }
 
-  dues : syncs_due (with_act out.send f).acts ≡ syncs_due e.acts + sync_act out.send
-  dues = with_due out.send f ∙ ap (λ n. n + sync_act out.send) (down_due out.ended_link e)
-
   by : (r : Role) → e.role ≡ r → IsUicc r → may_send (with_act out.send f) ≤ may_send e + start_event event
   by Bare q is = absurd is
   by (Clf s) q is = absurd is
@@ -177,9 +172,8 @@ activated_sends e event is once = by e.role refl is where
       let one : tries_of (with_act out.send f).role ≡ tries_of (role_after e.role event) = ap tries_of (with_role out.send f) in
       let two : tries_of (role_after e.role event) ≡ tries_left (uicc_step s event).0.phase = ap (λ r. tries_of (role_after r event)) q in
       let three : sync_act out.send ≡ sync_act (uicc_step s event).1.send = ap (λ r. sync_act (act_answer r event).send) q in
-      let four : tries_of e.role ≡ tries_left s.phase = ap tries_of q in
       let most = uicc_sends s event once in
-      omega (arith, dues, one, two, three, four, most)
+      omega (arith, (with_due out.send f ∙ ap (λ n. n + sync_act out.send) (down_due out.ended_link e)), one, two, three, ap tries_of q, most)
 
 -- ## Inputs and turns
 
@@ -217,10 +211,7 @@ took_sends e Ua is once = open_sends e Ua
 restarted_sends : (e : LinkEnd) (event : ActEvent) → IsUicc e.role → IsOnce event
     → may_send (activated (moved e true (stopped e.shdlc)) event) ≤ may_send e + start_event event
 restarted_sends e event is once =
-    let f : LinkEnd = moved e true (stopped e.shdlc) in
-    let most = activated_sends f event is once in
-    let same = moved_sends e true (stopped e.shdlc) in
-    omega (arith, most, same)
+    omega (arith, activated_sends (moved e true (stopped e.shdlc)) event is once, moved_sends e true (stopped e.shdlc))
 
 pub input_sends : (e : LinkEnd) (i : LinkInput) → IsUicc e.role → ComesOnce i → may_send (after_input e i) ≤ may_send e + start_of i
 input_sends e (Take c) is once = took_sends e c is once
@@ -232,10 +223,8 @@ input_sends e Tick is once =
     (λ _. let same = moved_sends e (is_some (tick_answer e.shdlc).ended) (ticked e.shdlc) in omega (arith, same))
     (λ _. activated_sends e ActTick is tt)
 input_sends e (Reset window) is once = by_option (reset_refusal e)
-    (λ q. rw q (let same = moved_sends e (is_some (if_up e.shdlc Asked)) (reset_with e.shdlc w) in omega (arith, same)))
-    (λ why q. rw q (omega arith)) where
-      w : ℕ
-      w = window_of e window
+    (λ q. rw q (let same = moved_sends e (is_some (if_up e.shdlc Asked)) (reset_with e.shdlc (window_of e window)) in omega (arith, same)))
+    (λ why q. rw q (omega arith))
 input_sends e (Start value) is once = restarted_sends e (ActStart value) is tt
 input_sends e Stop is once = restarted_sends e ActStop is tt
 input_sends e (FromNode t) is once = absurd once

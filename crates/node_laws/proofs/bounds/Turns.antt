@@ -1,5 +1,5 @@
 -- Each message that has its turn pays for what is done with it, with what its node keeps.
-use Rattle.std.proofs.Common.{◌≡◌, ℕ, ◌+◌, ◌≤◌, ◌<◌, Bool, true, false, cond, eqb, List, [], ◌∷◌, ◌++◌, length, map, slice_get, refl, ap}
+use Rattle.std.proofs.Common.{◌≡◌, ℕ, ◌+◌, ◌≤◌, Bool, true, false, cond, eqb, List, [], ◌∷◌, ◌++◌, length, map, slice_get, refl, ap}
 use Rattle.std.proofs.Common.{◌∙◌, arith}
 use Rattle.std.specs.Prelude.{Option, Some, None, Result, Ok, Err}
 use Rattle.std.specs.List.{filter, range_with_len}
@@ -11,7 +11,6 @@ use Rattle.hcp_packet.specs.declared.MessageKind.TheVariants.{Command as IsComma
 use Rattle.hcp_packet.specs.declared.MessageFault.{MessageFault}
 use Rattle.hcp_packet.specs.MessageHeader.{header_of}
 use Rattle.journal_laws.specs.Planned.{fails_within}
-use Rattle.journal_laws.specs.Writes.{Write}
 use Rattle.trace_model.specs.declared.entry.Entry.TheVariants as entry
 use Rattle.trace_model.specs.declared.entry.Entry.TheVariants.{InitSame, InitMade, InitFailed}
 use Rattle.hci_tables.specs.declared.command.Command.{Command}
@@ -114,10 +113,7 @@ told_weigh message (x ∷ hosts) = let one = near_most 1 message in let rest = t
 decision_weighs : (core : Core) (h pipe : ℕ) (d : Decision) → weights Controller (decision_deeds (own_view core) h pipe d) ≤ 16
 decision_weighs core h pipe (Answer answer) = let one = near_most pipe answer.items in omega (arith, one)
 decision_weighs core h pipe (Commit c answer tell notice) = by_test (finds_room core c)
-    (λ q. rw q (let other = near_most pipe answer.items in
-    let more = told_weigh notice.items (hosts_where (has tell)) in
-    let few = few_hosts (has tell) in
-    omega (arith, other, more, few)))
+    (λ q. rw q (omega (arith, near_most pipe answer.items, told_weigh notice.items (hosts_where (has tell)), few_hosts (has tell))))
     (λ q. rw q (let one = near_most pipe (answer_of response.NotOk []) in omega (arith, one)))
 decision_weighs core h pipe (Ask asked notice c answer) = let one = near_most 1 notice.items in omega (arith, one)
 
@@ -140,11 +136,9 @@ module _ (all : ℕ) (core : Core) (ports : List Port) (h : ℕ) (m : Message) w
         two : holds_at h ports ≡ 2
         two = rw here (rw asked refl)
 
-        start : Owes Controller 0 all w
-        start = less Controller all (message_cost true m.0 m.1) 0 w (omega arith) a
-
         freed : Owes Controller 2 all (done h IsAnswered w)
-        freed = less Controller all (0 + holds_at h w.ports) 2 (done h IsAnswered w) (omega (arith, same, two)) (answered Controller all 0 h w start)
+        freed = less Controller all (0 + holds_at h w.ports) 2 (done h IsAnswered w) (omega (arith, same, two))
+            (answered Controller all 0 h w (less Controller all (message_cost true m.0 m.1) 0 w (omega arith) a))
 
         rest : (deeds : List Deed) → weights Controller deeds ≤ 2 → Owes Controller 0 all (all_done h (IsAnswered ∷ deeds) w)
         rest deeds most =
@@ -165,8 +159,7 @@ module _ (all : ℕ) (core : Core) (ports : List Port) (h : ℕ) (m : Message) w
     counts = λ errors n served gate.
         weighed_near (link_deeds h m.0 (link_served errors n (body_in m.1)))
         (let answer : List ℕ × Option ℕ = link_served errors n (body_in m.1) in
-        let one = link_weighs Controller h m.0 answer 1 (near_most m.0 answer.0) in
-        let pays = far_cost m.0 m.1 n served.command in omega (arith, one, pays));
+        let pays = far_cost m.0 m.1 n served.command in omega (arith, link_weighs Controller h m.0 answer 1 (near_most m.0 answer.0), pays));
     decides = λ n served gate.
         (let d : Decision = decided core.tables (view_for core.tables ports h) h m.0 n (body_in m.1) in
         weighed_near (decision_deeds (own_view core) h m.0 d)
@@ -206,9 +199,7 @@ ordered_free core errors pipe n body off =
 
 -- a commit leaves the init
 commit_init : (c : Command) (w : Work) → (commit c w).core.init ≡ w.core.init
-commit_init c w = by_test (fails_within (length writes) w.plan) (λ q. rw q refl) (λ q. rw q refl) where
-  writes : List Write
-  writes = commit_writes w.core.journal w.core.tables (body_of c)
+commit_init c w = by_test (fails_within (length (commit_writes w.core.journal w.core.tables (body_of c))) w.plan) (λ q. rw q refl) (λ q. rw q refl)
 
 module _ (all : ℕ) (core : Core) (h : ℕ) where
   -- what is left to do of an init costs one command, where its commands that are left are counted
@@ -221,9 +212,8 @@ module _ (all : ℕ) (core : Core) (h : ℕ) where
   next_paid : (i : Init) (order : List ℕ) → core.init ≡ Some i → slice_get (orders_of i) (i.answered + 1) ≡ Some order
       → LastsFrom (GoesOn (record i { answered = i.answered + 1 }) ∷ Orders order ∷ [])
   next_paid i order runs is w same a =
-      let within : i.answered + 1 < length (orders_of i) = slice_get_within (orders_of i) (i.answered + 1) order is in
       let j : Init = record i { answered = i.answered + 1 } in
-      let gain : init_left j + 18 ≤ init_left i = omega (arith, within) in
+      let gain : init_left j + 18 ≤ init_left i = omega (arith, slice_get_within (orders_of i) (i.answered + 1) order is) in
       let most = far_most 1 order in
       and_then Host all 0 (1 + 18) h (GoesOn j) (Orders order ∷ []) w (omega arith) (went_on Host all 1 18 h i j w (same ∙ runs) gain a)
       (λ v is b. all_owe Host all 0 h (Orders order ∷ []) v (less Host all (1 + 18) (0 + weights Host (Orders order ∷ [])) v (omega (arith, most)) b))
@@ -238,8 +228,7 @@ module _ (all : ℕ) (core : Core) (h : ℕ) where
         let ends : List Deed = Ends (InitMade (end_of_node core core.node) (length i.pipes)) ∷ [] in
         let learns_it : weights Host (learns (own_view core) set) ≤ 1 =
         learns_holds (λ deeds. weights Host deeds ≤ 1) core (omega arith) (λ c may room. omega arith) set in
-        let both = weights-append Host (learns (own_view core) set) ends in
-        weighed_init (learns (own_view core) set ++ ends) (omega (arith, both, learns_it));
+        weighed_init (learns (own_view core) set ++ ends) (omega (arith, weights-append Host (learns (own_view core) set) ends, learns_it));
     next = λ order got. next_paid i order is got;
   })
 
@@ -297,8 +286,7 @@ module _ (all : ℕ) (core : Core) (h : ℕ) (m : Message) where
       let first : List Deed = cond (eqb code 0) (learned (own_view core) order (body_in m.1)) [] in
       let rest : List Deed = init_deeds (own_view core) code (body_in m.1) core.init in
       let start : Owes Host 0 all w = less Host all (message_cost false m.0 m.1) 0 w (omega arith) a in
-      let waits : w.core.command ≡ Some order = ap (λ (x : Core). x.command) same ∙ is in
-      and_then Host all 0 (0 + 2) h Hears (first ++ rest) w (omega arith) (heard Host all 0 h order w waits start)
+      and_then Host all 0 (0 + 2) h Hears (first ++ rest) w (omega arith) (heard Host all 0 h order w (ap (λ (x : Core). x.command) same ∙ is) start)
       (λ v made b.
       learned_paid all core h code order (body_in m.1) rest (init_paid all core h code (body_in m.1) core.init refl) v
       (ap (λ (x : Work). x.core.init) made ∙ ap (λ (x : Core). x.init) same) (less Host all (0 + 2) 2 v (omega arith) b))
@@ -306,12 +294,10 @@ module _ (all : ℕ) (core : Core) (h : ℕ) (m : Message) where
   ordered_paid : (errors n : ℕ) → header_of m.1 ≡ Ok (IsCommand, n) → (b : Bool) → eqb m.0 1 ≡ b
       → IsPaidFar (ordered_deeds (own_view core) errors m.0 n (body_in m.1))
   ordered_paid errors n is true one =
-      let most = ordered_weighs core errors m.0 n (body_in m.1) in
       let pays = notice_cost m.0 m.1 n one is in
-      weighed_far (ordered_deeds (own_view core) errors m.0 n (body_in m.1)) (omega (arith, most, pays))
+      weighed_far (ordered_deeds (own_view core) errors m.0 n (body_in m.1)) (omega (arith, ordered_weighs core errors m.0 n (body_in m.1), pays))
   ordered_paid errors n is false off =
-      let none = ordered_free core errors m.0 n (body_in m.1) off in
-      weighed_far (ordered_deeds (own_view core) errors m.0 n (body_in m.1)) (omega (arith, none))
+      weighed_far (ordered_deeds (own_view core) errors m.0 n (body_in m.1)) (omega (arith, ordered_free core errors m.0 n (body_in m.1) off))
 
   pub host_pays : (p : Port) → IsPaidFar (host_deeds (own_view core) (end_view p) m)
   host_pays p = host_walks IsPaidFar core p m (weighed_far [] (omega arith)) (weighed_far (Drops m.0 ∷ []) (omega arith))

@@ -53,8 +53,7 @@ module _ (side : Side) (all : ℕ) where
   pub marked : (left h : ℕ) (flag : Bool) (w : Work) → Owes side left all w → Owes side left all (with_desk h (λ d. record d { holds = flag }) w)
   marked left h flag w a =
       let f : Port → Port = λ p. record p { desk = record p.desk { holds = flag } } in
-      let same = with_less h f (λ p. omega arith) w.ports in
-      ended side all left left h f w (omega (arith, same)) a
+      ended side all left left h f w (omega (arith, with_less h f (λ p. omega arith) w.ports)) a
 
   pub held : (h : ℕ) (flag : Bool) (w : Work) → Owes side 0 all w → Owes side 0 all (turn_at h (Hold flag) w)
   held h flag w a = turned side all 0 h (Hold flag) w (λ m is. cc is) a
@@ -65,8 +64,7 @@ module _ (side : Side) (all : ℕ) (core : Core) (ports : List Port) (h : ℕ) (
   deeds_pay = by_test (eqb core.node 0)
       (λ q. rw q (let is : Controller ≡ side = sym (ap (λ c. cond c Controller Host) q) ∙ side_is in
       subst (λ s. Goal s true) is (controller_pays all core ports h m v same) a))
-      (λ q. rw q (let is : Host ≡ side = sym (ap (λ c. cond c Controller Host) q) ∙ side_is in
-      subst (λ s. Goal s false) is (far (port_at ports h)) a)) where
+      (λ q. rw q (subst (λ s. Goal s false) (sym (ap (λ c. cond c Controller Host) q) ∙ side_is) (far (port_at ports h)) a)) where
         by : Bool → List Deed
         by true = controller_deeds (view_of core ports) h m
         by false = option_map_or (λ e. host_deeds (own_view core) e m) (option_map end_view (port_at ports h)) []
@@ -122,10 +120,7 @@ owed_weigh side r (Some c) = let none = answer_free (is_host_side side) 1 r [] i
 flat_weigh : {X : Type 0} (side : Side) (f : X → List Deed) → ((x : X) → weights side (f x) ≡ 0) → (xs : List X) → weights side (flat_map f xs) ≡ 0
 flat_weigh side f one [] = refl
 flat_weigh side f one (x ∷ xs) =
-    let both = weights-append side (f x) (flat_map f xs) in
-    let first = one x in
-    let rest = flat_weigh side f one xs in
-    omega (arith, both, first, rest)
+    omega (arith, weights-append side (f x) (flat_map f xs), one x, flat_weigh side f one xs)
 
 all_owed_weigh : (side : Side) (ports : List Port) → weights side (all_owed ports) ≡ 0
 all_owed_weigh side ports =
@@ -156,10 +151,8 @@ synced_weighs side core input p = by_option (input_at input p)
 all_synced : (side : Side) (core : Core) (input : NodeInput) (ports : List Port) → weights side (flat_map (synced core input) ports) ≤ syncs_told input ports
 all_synced side core input [] = omega arith
 all_synced side core input (p ∷ ports) =
-    let both = weights-append side (synced core input p) (flat_map (synced core input) ports) in
-    let first = synced_weighs side core input p in
     let rest = all_synced side core input ports in
-    omega (arith, both, first, rest)
+    omega (arith, weights-append side (synced core input p) (flat_map (synced core input) ports), synced_weighs side core input p, rest)
 
 -- ## What comes
 
@@ -170,7 +163,7 @@ told_costs core p (Some i) = told_free p.desk.host (own_side core) p.session (re
 late_costs : (core : Core) (p : Port) → costs (told_late core p) ≡ 0
 late_costs core p = cond_both (is_late p) (told_at core p (Some (Reset None))) [] (λ es. costs es ≡ 0) (λ _. told_costs core p (Some (Reset None))) (λ _. refl)
 
-flat_costs : {X : Type 0} (f : X → List Entry) → ((x : X) → costs (f x) ≡ 0) → (xs : List X) → costs (flat_map f xs) ≡ 0
+pub flat_costs : {X : Type 0} (f : X → List Entry) → ((x : X) → costs (f x) ≡ 0) → (xs : List X) → costs (flat_map f xs) ≡ 0
 flat_costs f one [] = refl
 flat_costs f one (x ∷ xs) =
     let both = costs-append (f x) (flat_map f xs) in let first = one x in let rest = flat_costs f one xs in omega (arith, both, first, rest)
@@ -209,10 +202,8 @@ module _ (side : Side) (all : ℕ) where
   timed left (AtEnd h i) w a = a
   timed left TimePasses w a =
       let older : List Port = map with_older w.ports in
-      let es : List Entry = flat_map (told_late w.core) older in
       let v : Work = record w { ports = map reset_late older } in
-      let none = flat_costs (told_late w.core) (late_costs w.core) older in
-      noted side all left left es v (omega (arith, none))
+      noted side all left left (flat_map (told_late w.core) older) v (omega (arith, flat_costs (told_late w.core) (late_costs w.core) older))
       (mapped left reset_late late_desk (record w { ports = older }) (mapped left with_older older_desk w a))
 
   before_pass : (left : ℕ) (freed syncs owing : List Deed) (w : Work) → weights side freed ≡ 0 → weights side syncs ≤ left → weights side owing ≡ 0
@@ -230,19 +221,17 @@ module _ (side : Side) (all : ℕ) where
   begun_owes input w a =
       let k : ℕ = syncs_told input w.ports in
       let begun : Work = record w { ports = map (λ p. has_come p (input_at input p)) w.ports } in
-      let es : List Entry = flat_map (λ p. told_at w.core p (input_at input p)) w.ports in
       let none = flat_costs (λ p. told_at w.core p (input_at input p)) (λ p. told_costs w.core p (input_at input p)) w.ports in
       let told : Owes side k all (all_come input w) =
-      noted side all k k es begun (omega (arith, none))
+      noted side all k k (flat_map (λ p. told_at w.core p (input_at input p)) w.ports) begun (omega (arith, none))
       (mapped k (λ p. has_come p (input_at input p)) (λ p. come_desk p (input_at input p)) w a) in
       let came : Work = times_out input (all_come input w) in
-      let out : Owes side k all came = timed k input (all_come input w) told in
       let syncs : List Deed = flat_map (synced w.core input) w.ports in
       let left : List Port = map (forgets came.ports) came.ports in
       let core : Core = after_sessions came.core came.ports in
       let less_core = sessions_hold came.core came.ports in
       let cored : Owes side k all (record came { core = core }) =
-      kept side all k k core came (sessions_node came.core came.ports) (omega (arith, less_core)) out in
+      kept side all k k core came (sessions_node came.core came.ports) (omega (arith, less_core)) (timed k input (all_come input w) told) in
       let begins : Owes side k all (record came { core = core; ports = map without_notice left }) =
       mapped k without_notice without_desk (record came { core = core; ports = left })
       (mapped k (forgets came.ports) (forgets_desk came.ports) (record came { core = core }) cored) in

@@ -58,7 +58,8 @@ use Rattle.node_laws.proofs.bounds.Syncs.{sync_frame, sync_told, input_sync, nea
 use Rattle.node_laws.proofs.bounds.Links.{FirstOnce, taken_by, start_by}
 use Rattle.node_laws.proofs.bounds.Calm.{IsResting, IsCalm, all_resting, still_rest, link_holds, near_holds, ticked_holds, ticked_host, near_tick_holds}
 use Rattle.node_laws.proofs.bounds.Calm.{near_tick_host, far_holds, far_tick_holds, far_cut_holds, aged_holds, lost_holds}
-use Rattle.node_laws.proofs.bounds.Works.{syncs_told, steps_owe, begins_owe}
+use Rattle.node_laws.proofs.bounds.Works.{syncs_told, steps_owe, begins_owe, flat_costs}
+use Rattle.node_laws.proofs.readings.Sites.{near_end_side}
 
 -- ## What nodes keep
 
@@ -82,11 +83,6 @@ IsPaid all w after = Pays (world_holds w) (world_holds after.0) all after.1
 pub pays_then : (a b c m n : ℕ) (s t : List Entry) → Pays a b m s → Pays b c n t → Pays a c (m + n) (s ++ t)
 pays_then a b c m n s t first later =
     let cs = costs-append s t in let ps = pays-append s t in omega (arith, cs, ps, first, later)
-
-flat_free : {X : Type 0} (f : X → List Entry) → ((x : X) → costs (f x) ≡ 0) → (xs : List X) → costs (flat_map f xs) ≡ 0
-flat_free f one [] = refl
-flat_free f one (x ∷ xs) =
-    let all = costs-append (f x) (flat_map f xs) in let first = one x in let rest = flat_free f one xs in omega (arith, all, first, rest)
 
 -- ## Sites that change
 
@@ -117,8 +113,7 @@ one_taken taken h [] s here = absurd (cc here)
 one_taken taken h (x ∷ sites) s here = by_test (eqb x.host h)
     (λ q. let found : Some x ≡ Some s = rw q at here in
     let is : x ≡ s = cc in
-    let same : taken x ≡ taken s = ap taken is in
-    omega (arith, same))
+    omega (arith, ap taken is))
     (λ q. let rest = one_taken taken h sites s (rw q at here) in omega (arith, rest))
 
 -- a host that isn't there changes nothing
@@ -134,12 +129,8 @@ one_swaps h g [] s apart here = absurd (cc here)
 one_swaps h g (x ∷ sites) s apart here = by_test (eqb x.host h)
     (λ q. let found : Some x ≡ Some s = rw q at here in
     let is : x ≡ s = cc in
-    let number : x.host ≡ h = eqb-true x.host h q in
-    let off : AllByRecursion (λ k. (k == h) ≡ false) (hosts_in sites) = subst (λ n. AllByRecursion (λ k. (k == n) ≡ false) (hosts_in sites)) number apart.0 in
-    let rest = off_same h g sites off in
-    let before : site_holds x ≡ site_holds s = ap site_holds is in
-    let behind : site_holds (g x) ≡ site_holds (g s) = ap (λ (y : Site). site_holds (g y)) is in
-    rw q (omega (arith, rest, before, behind)))
+    let rest = off_same h g sites (subst (λ n. AllByRecursion (λ k. (k == n) ≡ false) (hosts_in sites)) (eqb-true x.host h q) apart.0) in
+    rw q (omega (arith, rest, ap site_holds is, ap (λ (y : Site). site_holds (g y)) is)))
     (λ q. let rest = one_swaps h g sites s apart.1 (rw q at here) in rw q (omega (arith, rest)))
 
 -- ## Frames
@@ -163,9 +154,8 @@ ports_are near_ends (d ∷ desks) = ap (λ n. notice_holds d.notice + n) (ports_
 -- a node that runs on keeps no more than its work
 runs_hold : (k : Work) → node_holds (runs_on k) ≤ core_holds k.core + ports_hold k.ports
 runs_hold k =
-    let same = desks_are k.ports in
     cond_both k.cut None (Some (record { core = k.core; desks = map (λ (p : Port). p.desk) k.ports }))
-    (λ (o : Option Running). node_holds o ≤ core_holds k.core + ports_hold k.ports) (λ _. omega arith) (λ _. omega (arith, same))
+    (λ (o : Option Running). node_holds o ≤ core_holds k.core + ports_hold k.ports) (λ _. omega arith) (λ _. omega (arith, desks_are k.ports))
 
 -- a node begins with what it keeps, and may spend so much
 pub begins_so : (side : Side) (n : ℕ) (hosts : List ℕ) (r : Running) (plan : Option Plan) (near_ends : ℕ → NumberedEnd) (es : List Entry) (left : ℕ)
@@ -173,20 +163,15 @@ pub begins_so : (side : Side) (n : ℕ) (hosts : List ℕ) (r : Running) (plan :
     → Owes side left (node_holds (Some r) + left) (work_of r plan near_ends es)
 begins_so side n hosts r plan near_ends es left side_is has few none =
     let one = length-map r.desks (λ (d : Desk). port_for (near_ends d.host) d) in
-    let two = length-map r.desks (λ (d : Desk). d.host) in
     let three = ap length has.ends in
     let same = ports_are near_ends r.desks in
-    record { side_is = side_is; few = omega (arith, one, two, three, few); owes = omega (arith, none, same) }
+    record { side_is = side_is; few = omega (arith, one, length-map r.desks (λ (d : Desk). d.host), three, few); owes = omega (arith, none, same) }
 
 -- its step is paid for, where frames go out behind it
 step_pays : (side : Side) (before all : ℕ) (k : Work) (frames : List Entry) → Owes side 0 (before + all) k → costs frames ≡ 0
     → Pays before (node_holds (runs_on k)) all (k.entries ++ frames)
 step_pays side before all k frames owed none =
-    let cs = costs-append k.entries frames in
-    let ps = pays-append k.entries frames in
-    let on = runs_hold k in
-    let owes = owed.owes in
-    omega (arith, cs, ps, on, owes, none)
+    omega (arith, costs-append k.entries frames, pays-append k.entries frames, runs_hold k, owed.owes, none)
 
 pub controller_side : (r : Running) (hosts : List ℕ) → HasEnds 0 hosts r → own_side r.core ≡ Controller
 controller_side r hosts has = ap (λ n. cond (eqb n 0) Controller Host) has.number
@@ -199,10 +184,6 @@ hosts_long sites = length-map sites (λ (s : Site). s.host)
 
 -- ## Identifiers
 
-near_side : (l : Link) (comes : Comes) → (near_end_in l comes).side ≡ l.controller.side
-near_side l NextFrame = by_list l.to_controller (λ q. rw q refl) (λ x xs q. rw q refl)
-near_side l _ = refl
-
 -- an end of a controller tells of an identifier as a frame with one comes
 one_told : (h : ℕ) (i : LinkInput) (p : Port) → option_map_or (λ j. sync_told (report p.side j).sync) (input_at (AtEnd h i) p) 0
     ≤ worth (input_sync i) (eqb p.desk.host h)
@@ -211,24 +192,17 @@ one_told h i p = by_test (eqb p.desk.host h) (λ q. rw q (near_tells p.side i)) 
 none_told : (h : ℕ) (i : LinkInput) (ports : List Port) → AllByRecursion (λ k. (k == h) ≡ false) (hosts_of_ends ports) → syncs_told (AtEnd h i) ports ≡ 0
 none_told h i [] off = refl
 none_told h i (p ∷ ports) off =
-    let one = one_told h i p in
-    let none : worth (input_sync i) (eqb p.desk.host h) ≡ 0 = ap (worth (input_sync i)) off.0 in
-    let rest = none_told h i ports off.1 in
-    omega (arith, one, none, rest)
+    omega (arith, one_told h i p, ap (worth (input_sync i)) off.0, none_told h i ports off.1)
 
 pub told_once : (h : ℕ) (i : LinkInput) (ports : List Port) → AreDifferent (hosts_of_ends ports) → syncs_told (AtEnd h i) ports ≤ input_sync i
 told_once h i [] apart = omega arith
 told_once h i (p ∷ ports) apart = by_test (eqb p.desk.host h)
-    (λ q. let number : p.desk.host ≡ h = eqb-true p.desk.host h q in
-    let off : AllByRecursion (λ k. (k == h) ≡ false) (hosts_of_ends ports) =
-    subst (λ n. AllByRecursion (λ k. (k == n) ≡ false) (hosts_of_ends ports)) number apart.0 in
-    let none = none_told h i ports off in
+    (λ q. let off : AllByRecursion (λ k. (k == h) ≡ false) (hosts_of_ends ports) =
+    subst (λ n. AllByRecursion (λ k. (k == n) ≡ false) (hosts_of_ends ports)) (eqb-true p.desk.host h q) apart.0 in
     let one = one_told h i p in
     let is : worth (input_sync i) (eqb p.desk.host h) ≡ input_sync i = ap (worth (input_sync i)) q in
-    omega (arith, none, one, is))
-    (λ q. let one = one_told h i p in
-    let is : worth (input_sync i) (eqb p.desk.host h) ≡ 0 = ap (worth (input_sync i)) q in
-    omega (arith, one, is, (told_once h i ports apart.1)))
+    omega (arith, none_told h i ports off, one, is))
+    (λ q. omega (arith, one_told h i p, ap (worth (input_sync i)) q, (told_once h i ports apart.1)))
 
 -- nothing tells of one in a tick
 pub ticks_told : (ports : List Port) → syncs_told TimePasses ports ≡ 0
@@ -262,20 +236,15 @@ came_from sites h comes i seen = go (site_at sites h) refl where
   go : (o : Option Site) → site_at sites h ≡ o → input_sync i ≤ all_taken taken sites
   go None none =
       let away : link_to sites h ≡ new_link Bare Bare = ap (λ o. option_map_or (λ (s : Site). s.link) o (new_link Bare Bare)) none in
-      let most = on_link (new_link Bare Bare) comes i (ap (λ l. input_of l comes) (sym away) ∙ seen) in
-      let zero = nothing comes in
-      omega (arith, most, zero)
+      omega (arith, on_link (new_link Bare Bare) comes i (ap (λ l. input_of l comes) (sym away) ∙ seen), nothing comes)
     where
       nothing : (comes : Comes) → taken_by comes [] ≡ 0
       nothing NextFrame = refl
       nothing _ = refl
   go (Some s) here =
-      let is : link_to sites h ≡ s.link = link_is sites h s here in
-      let most = on_link s.link comes i (ap (λ l. input_of l comes) (sym is) ∙ seen) in
       let on : comes_to h comes s.host ≡ comes = ap (λ b. cond b comes NoInput) (eq-eqb s.host h (site_host sites h s here)) in
       let same : taken s ≡ taken_by comes s.link.to_controller = ap (λ c. taken_by c s.link.to_controller) on in
-      let one = one_taken taken h sites s here in
-      omega (arith, most, same, one)
+      omega (arith, on_link s.link comes i (ap (λ l. input_of l comes) (sym (link_is sites h s here)) ∙ seen), same, one_taken taken h sites s here)
 
 -- what is taken off the wires was held there
 pub all_took : (w : NodeWorld) (h : ℕ) (comes : Comes) → all_taken (λ s. taken_by (comes_to h comes s.host) s.link.to_controller) w.sites ≤ sites_hold w.sites
@@ -301,17 +270,14 @@ near_paid : (w : NodeWorld) (r : Running) (near_ends : ℕ → NumberedEnd) (es 
 near_paid w r near_ends es f memory g taken left wires orderly few runs none holds came does =
     let has : HasEnds 0 (hosts_in w.sites) r = subst (IfItRuns 0 (hosts_in w.sites)) runs orderly.controller in
     let begun : Work = work_of r w.memory.plan near_ends es in
-    let long = hosts_long w.sites in
     let start : Owes Controller left (node_holds (Some r) + left) begun =
     begins_so Controller 0 (hosts_in w.sites) r w.memory.plan near_ends es left (controller_side r (hosts_in w.sites) has) has
-    (omega (arith, long, few)) none in
+    (omega (arith, hosts_long w.sites, few)) none in
     let frames : List Entry = flat_map (λ (s : Site). frames_noted Controller s.host (wires s) (f begun)) w.sites in
     let paid =
     step_pays Controller (node_holds (Some r)) left (f begun) frames (does (node_holds (Some r) + left) start)
-    (flat_free (λ (s : Site). frames_noted Controller s.host (wires s) (f begun)) (λ s. frames_free Controller s.host (wires s) (f begun)) w.sites) in
-    let was : node_holds w.controller ≡ node_holds (Some r) = ap node_holds runs in
-    let less = sites_take g taken holds w.sites in
-    omega (arith, paid, was, less, came)
+    (flat_costs (λ (s : Site). frames_noted Controller s.host (wires s) (f begun)) (λ s. frames_free Controller s.host (wires s) (f begun)) w.sites) in
+    omega (arith, paid, ap node_holds runs, sites_take g taken holds w.sites, came)
 
 nothing_paid : (all : ℕ) (w : NodeWorld) → IsPaid all w (w, [])
 nothing_paid all w = omega arith
@@ -326,14 +292,12 @@ controller_paid w h i comes orderly few seen =
     let begun : Work = work_of r w.memory.plan near_ends es in
     let k : Work = steps (AtEnd h i) begun in
     let has : HasEnds 0 (hosts_in w.sites) r = subst (IfItRuns 0 (hosts_in w.sites)) q orderly.controller in
-    let apart : AreDifferent (hosts_of_ends begun.ports) = subst AreDifferent (sym (hosts_same near_ends r.desks ∙ has.ends)) orderly.different in
-    let once = told_once h i begun.ports apart in
-    let came = came_from w.sites h comes i seen in
+    let once = told_once h i begun.ports (subst AreDifferent (sym (hosts_same near_ends r.desks ∙ has.ends)) orderly.different) in
     near_paid w r near_ends es (steps (AtEnd h i)) (after_planned k.writes w.memory) (link_after_controller h comes k)
     (λ s. taken_by (comes_to h comes s.host) s.link.to_controller) (syncs_told (AtEnd h i) begun.ports)
     (λ s. wires_for s.link (comes_to h comes s.host)) orderly few q (arrival_free Controller h (link_to w.sites h) comes)
     (λ s. let most = near_holds s.link (comes_to h comes s.host) (turns_at k s.host) (ending_of k) in omega (arith, most))
-    (omega (arith, once, came)) (λ all a. steps_owe Controller all (AtEnd h i) begun a))
+    (omega (arith, once, came_from w.sites h comes i seen)) (λ all a. steps_owe Controller all (AtEnd h i) begun a))
 
 -- the end of a host, whatever comes to it
 uicc_ports : (near_ends : ℕ → NumberedEnd) (desks : List Desk) → ((k : ℕ) → IsUicc (near_ends k).side.role)
@@ -342,7 +306,7 @@ uicc_ports near_ends [] are = tt
 uicc_ports near_ends (d ∷ desks) are = (are d.host, uicc_ports near_ends desks are)
 
 uicc_near : (l : Link) (comes : Comes) → IsUicc l.controller.side.role → IsUicc (near_end_in l comes).side.role
-uicc_near l comes is = subst (λ (e : LinkEnd). IsUicc e.role) (sym (near_side l comes)) is
+uicc_near l comes is = subst (λ (e : LinkEnd). IsUicc e.role) (sym (near_end_side l comes)) is
 
 -- what holds of all sites holds of this one, and it is what is left to know of it
 abbrev Known : List Site → Type 0
@@ -370,10 +334,8 @@ host_paid w h comes f left does known once orderly =
     step_pays Host (node_holds (Some r)) left (f begun) (frames_noted Host h (wires_for (exchanged s.link) comes) (f begun))
     (does (node_holds (Some r) + left) begun (uicc_ports near_ends r.desks (λ k. uicc_near (exchanged s.link) comes rests.uicc)) start)
     (frames_free Host h (wires_for (exchanged s.link) comes) (f begun)) in
-    let was : node_holds s.node ≡ node_holds (Some r) = ap node_holds q in
-    let swapped = one_swaps h (after_host comes (f begun)) w.sites s orderly.different here in
     let link = far_holds s.link comes (turns_at (f begun) s.host) (ending_of (f begun)) rests (once s here) in
-    omega (arith, paid, was, swapped, link))
+    omega (arith, paid, ap node_holds q, one_swaps h (after_host comes (f begun)) w.sites s orderly.different here, link))
 
 -- in a step
 host_steps_paid : (w : NodeWorld) (h : ℕ) (comes : Comes) (i : LinkInput) → Known w.sites
@@ -443,10 +405,8 @@ sending_weighs h m = by_test (m.0 == 1 && is_command_message m.1)
 beginning_weighs : (identity : List ℕ) (pipes : List (List ℕ)) → weights Host (beginning identity pipes) ≤ 18 * (5 + length pipes)
 beginning_weighs identity pipes =
     let i : Init = record { identity = identity; pipes = pipes; answered = 0 } in
-    let many = length-map pipes (λ (pipe : List ℕ). 16 ∷ pipe) in
-    let both = length-append (map (λ pipe. 16 ∷ pipe) pipes) ((1 ∷ 1 ∷ identity) ∷ []) in
     let most = far_most 1 (3 ∷ []) in
-    omega (arith, many, both, most)
+    omega (arith, length-map pipes (λ (pipe : List ℕ). 16 ∷ pipe), length-append (map (λ pipe. 16 ∷ pipe) pipes) ((1 ∷ 1 ∷ identity) ∷ []), most)
 
 -- ## Time
 
@@ -474,28 +434,22 @@ host_tick_paid s has off rests =
     let begun : Work = work_of r s.memory.plan near_ends [] in
     let k : Work = host_tick s r in
     let ends : HasEnds s.host (s.host ∷ []) r = subst (IfItRuns s.host (s.host ∷ [])) q has in
-    let none = ticks_told begun.ports in
     let start : Owes Host 0 (node_holds (Some r) + 0) begun =
     begins_so Host s.host (s.host ∷ []) r s.memory.plan near_ends [] 0 (host_side s.host r (s.host ∷ []) off ends) ends (omega arith) refl in
     let paid =
     step_pays Host (node_holds (Some r)) 0 k (frames_noted Host s.host (exchanged s.link) k)
     (steps_owe Host (node_holds (Some r) + 0) TimePasses begun
-    (less Host (node_holds (Some r) + 0) 0 (syncs_told TimePasses begun.ports) begun (omega (arith, none)) start))
+    (less Host (node_holds (Some r) + 0) 0 (syncs_told TimePasses begun.ports) begun (omega (arith, ticks_told begun.ports)) start))
     (frames_free Host s.host (exchanged s.link) k) in
-    let was : node_holds s.node ≡ node_holds (Some r) = ap node_holds q in
-    let link = far_tick_holds s.link (turns_at k s.host) (ending_of k) rests in
-    omega (arith, paid, was, link))
+    omega (arith, paid, ap node_holds q, far_tick_holds s.link (turns_at k s.host) (ending_of k) rests))
 
 hosts_tick_paid : (sites : List Site) → AllByRecursion (λ (s : Site). IfItRuns s.host (s.host ∷ []) s.node) sites
     → AllByRecursion (λ (s : Site). (s.host == 0) ≡ false) sites → Known sites
     → Pays (sites_hold sites) (sites_hold (hosts_tick sites).0) 0 (hosts_tick sites).1
 hosts_tick_paid [] has off known = omega arith
 hosts_tick_paid (s ∷ sites) has off known =
-    let first = host_tick_paid s has.0 off.0 known.0 in
-    let rest = hosts_tick_paid sites has.1 off.1 known.1 in
-    let cs = costs-append (host_ticks s).1 (hosts_tick sites).1 in
     let ps = pays-append (host_ticks s).1 (hosts_tick sites).1 in
-    omega (arith, first, rest, cs, ps)
+    omega (arith, host_tick_paid s has.0 off.0 known.0, hosts_tick_paid sites has.1 off.1 known.1, costs-append (host_ticks s).1 (hosts_tick sites).1, ps)
 
 -- the ends of hosts rest behind the tick of the controller
 near_known : (w : NodeWorld) → Known w.sites → Known (controller_ticks w).0.sites
@@ -512,20 +466,16 @@ ticks_paid w calm orderly few =
     let far : List Site × List Entry = hosts_tick near.0.sites in
     let f : Site → List Entry = λ s. entries_for s.host (aged_entries Controller s.link.to_controller ++ aged_entries Host s.link.to_host) in
     let none : costs old.1 ≡ 0 =
-    flat_free f (λ s. notes_free s.host (aged_entries Controller s.link.to_controller ++ aged_entries Host s.link.to_host)
+    flat_costs f (λ s. notes_free s.host (aged_entries Controller s.link.to_controller ++ aged_entries Host s.link.to_host)
     (wires_all IsNoSent (λ w c. tt) Controller Host s.link.to_controller s.link.to_host)) w.sites in
     let fine : IsOrderly old.0 = orderly_map w w.memory w.controller age (λ s. refl) orderly orderly.controller (λ s n. n) in
-    let old_long : length old.0.sites ≡ length w.sites = length-map w.sites age in
     let less = sites_less age (λ s. let link = aged_holds s.link in omega (arith, link)) w.sites in
-    let first = controller_tick_paid old.0 fine (omega (arith, old_long, few)) in
     let behind : IsOrderly (record { memory = old.0.memory; controller = None; sites = near.0.sites }) = near_orderly old.0 fine in
-    let known : Known old.0.sites = still_rest age (λ s. refl) w.sites (all_resting w.sites calm) in
-    let rest = hosts_tick_paid near.0.sites behind.nodes behind.hosts (near_known old.0 known) in
+    let rest = hosts_tick_paid near.0.sites behind.nodes behind.hosts (near_known old.0 (still_rest age (λ s. refl) w.sites (all_resting w.sites calm))) in
     let ca = costs-append old.1 (near.1 ++ far.1) in
     let pa = pays-append old.1 (near.1 ++ far.1) in
-    let cb = costs-append near.1 far.1 in
     let pb = pays-append near.1 far.1 in
-    omega (arith, none, less, first, rest, ca, pa, cb, pb)
+    omega (arith, none, less, controller_tick_paid old.0 fine (omega (arith, length-map w.sites age, few)), rest, ca, pa, costs-append near.1 far.1, pb)
 
 -- ## Power, memories and losses
 
@@ -533,12 +483,10 @@ power_less : (n : ℕ) (w : NodeWorld) → world_holds (loses_power_at n w) ≤ 
 power_less n w =
     by_power (λ v. world_holds v ≤ world_holds w) n w
     (λ q. let less =
-    sites_less (λ (s : Site). record s { link = cut_link s }) (λ s. let link = near_holds s.link NoInput [] CutOff in omega (arith, link)) w.sites in
+    sites_less (λ (s : Site). record s { link = (happens s.link (AtController (Step NoInput [] CutOff))) })
+    (λ s. let link = near_holds s.link NoInput [] CutOff in omega (arith, link)) w.sites in
     omega (arith, less))
     (λ q. let less = with_less n host_cut (λ s. let link = far_cut_holds s.link in omega (arith, link)) w.sites in omega (arith, less))
-  where
-    cut_link : Site → Link
-    cut_link s = happens s.link (AtController (Step NoInput [] CutOff))
 
 memory_less : (n : ℕ) (m : Memory) (w : NodeWorld) → world_holds (with_memory n m w) ≤ world_holds w
 memory_less n m w =
@@ -559,8 +507,7 @@ boots_paid w n =
     by_boot (IsPaid 0 w) w n
     (let two = power_less n (boot_written w n) in omega (arith, written, two))
     (
-    let none = new_hold (links_of w n) in
-    let two = running_less n (boot_found w n) (boot_written w n) (omega (arith, none)) in omega (arith, written, two))
+    let two = running_less n (boot_found w n) (boot_written w n) (omega (arith, new_hold (links_of w n))) in omega (arith, written, two))
   where
     written : world_holds (boot_written w n) ≤ world_holds w
     written = memory_less n (after_planned (boot_writes (memory_at w n).content) (memory_at w n)) w
@@ -593,8 +540,7 @@ lost_paid w e why =
     let none =
     notes_free e.link (first_lost Controller why (link_to w.sites e.link).to_controller) (losses Controller (link_to w.sites e.link).to_controller) in
     let less = with_less e.link (site_lost e why) (λ s. let link = lost_holds s.link why e.at_host in omega (arith, link)) w.sites in
-    let same = counts_hold why e.link w.controller in
-    omega (arith, none, less, same))
+    omega (arith, none, less, counts_hold why e.link w.controller))
   where
     losses : (who : Side) (xs : List OnWire) → AllByRecursion IsNoSent (first_lost who why xs)
     losses who xs = lost_all IsNoSent (λ w c why. tt) who why xs

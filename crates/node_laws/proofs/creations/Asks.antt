@@ -1,9 +1,9 @@
 -- The creations that wait at the ends of a controller, by the hosts of the ends, and those of one asker among them.
-use Rattle.std.proofs.Common.{◌≡◌, ◌⊎◌, inl, inr, ℕ, Bool, true, false, cond, eqb, ◌||◌, List, [], ◌∷◌, ◌++◌, map, length, sym, refl, ap, ap₂, ◌∙◌, subst}
+use Rattle.std.proofs.Common.{◌≡◌, ◌⊎◌, inl, inr, ℕ, Bool, true, false, cond, eqb, List, [], ◌∷◌, ◌++◌, map, length, sym, refl, ap, ap₂, ◌∙◌, subst}
 use Rattle.std.proofs.Common.{append_assoc, append-nil, length-append, arith}
 use Rattle.std.specs.Prelude.{Option, Some, None}
 use Rattle.std.specs.List.{AllByRecursion, filter, filter_map}
-use Rattle.std.proofs.lemmas.Bool.{cases_Bool, eqb-true, true≢false}
+use Rattle.std.proofs.lemmas.Bool.{cases_Bool, eqb-true, true≢false, or_parts}
 use Rattle.node_laws.specs.kept.Hosts.{AreDifferent}
 use Rattle.node_machine.specs.Parts.{Creation, Notice, Port}
 use Rattle.node_machine.specs.Carrying.{port_at, changed_if, with_port}
@@ -204,21 +204,18 @@ module _ (x : ℕ) (asked : Asked) (k : ℕ) where
   -- or by this one
   pub asked_here : (c : Creation) → Split asked k None → eqb c.asker x ≡ true → waits x asked ≡ [] → waits x (set_asked k (Some c) asked) ≡ c ∷ []
   asked_here c s is none =
-      let parts = both_empty (waits x s.front) (waits x s.back) (sym (was_parts None s) ∙ none) in
+      let or_parts = both_empty (waits x s.front) (waits x s.back) (sym (was_parts None s) ∙ none) in
       in_parts None (Some c) s
       ∙ (ap (λ l. waits x s.front ++ (l ++ waits x s.back)) (one_here x c is)
-      ∙ (ap (λ l. l ++ (c ∷ waits x s.back)) parts.0 ∙ ap (λ l. c ∷ l) parts.1))
+      ∙ (ap (λ l. l ++ (c ∷ waits x s.back)) or_parts.0 ∙ ap (λ l. c ∷ l) or_parts.1))
 
 -- one that asks for none
 pub none_waits : (x : ℕ) (ports : List Port) → asks_for ports x ≡ false → waits x (asked_of ports) ≡ []
 none_waits x [] e = refl
 none_waits x (p ∷ ports) e = by_option (asked_at p)
     (λ q. rw q (none_waits x ports (rw q at e)))
-    (λ c q. let two = parts (eqb c.asker x) (asks_for ports x) (rw q at e) in
-    rw q (ap (λ l. l ++ waits x (asked_of ports)) (one_else x c two.0) ∙ none_waits x ports two.1)) where
-      parts : (a b : Bool) → (a || b) ≡ false → (a ≡ false) × (b ≡ false)
-      parts true b z = absurd (true≢false z)
-      parts false b z = (refl, z)
+    (λ c q. let two = or_parts (eqb c.asker x) (asks_for ports x) (rw q at e) in
+    rw q (ap (λ l. l ++ waits x (asked_of ports)) (one_else x c two.0) ∙ none_waits x ports two.1))
 
 -- ## Sessions that ended
 

@@ -49,8 +49,7 @@ AsksNobody _ = Unit {0}
 gate_fine : (gate : ℕ) → not (eqb gate 4 || eqb gate 5) ≡ false → eqb gate 0 ≡ false
 gate_fine gate e = by_test (eqb gate 4)
     (λ is. ap (λ n. eqb n 0) (eqb-true gate 4 is))
-    (λ off. let five : eqb gate 5 ≡ true = not-false (eqb gate 5) (rw off at e) in
-    ap (λ n. eqb n 0) (eqb-true gate 5 five))
+    (λ off. ap (λ n. eqb n 0) (eqb-true gate 5 (not-false (eqb gate 5) (rw off at e))))
 
 module _ (v : LinkView) (h : ℕ) (host : eqb h 0 ≡ false) where
   tells_suit : (c : Command) (told notice : List ℕ) → IsProperCommand c → is_response notice ≡ false
@@ -94,8 +93,7 @@ module _ (v : LinkView) (h : ℕ) (host : eqb h 0 ≡ false) where
       (λ here. let same : Some (row.creator, row.creator_gate) ≡ Some end = rw (off, here) at e in
       let is : (row.creator, row.creator_gate) ≡ end = cc in
       absurd (true≢false (sym zero_is ∙ (ap (λ (p : ℕ × ℕ). eqb p.0 0) (sym is) ∙ of.host))))
-      (λ none. let gone : None ≡ Some end = rw (off, none) at e in
-      absurd (cc gone))) where
+      (λ none. absurd (cc (rw (off, none) at e)))) where
         of : IsProper row
         of = proper row refl
 
@@ -113,11 +111,8 @@ module _ (v : LinkView) (h : ℕ) (host : eqb h 0 ≡ false) where
   is_through t m instruction command proper off none gate opened there three four = by_option (far_end t h m.0)
       (λ e. let z : true ≡ false = rw e at there in true≢false z)
       (λ end e. by_test (eqb end.0 0)
-      (λ is. let real = far_end_proper t m.0 end proper off e is in
-      let z : Some end.1 ≡ None = rw (opened, three, four, e, is, real) at gate in
-      cc z)
-      (λ other. let z : Some end.0 ≡ None = rw (opened, command, three, four, e, other) at none in
-      cc z))
+      (λ is. cc (rw (opened, three, four, e, is, far_end_proper t m.0 end proper off e is) at gate))
+      (λ other. cc (rw (opened, command, three, four, e, other) at none)))
 
   pub nobody_asked : (t : HciTables) (m : Message) (instruction : ℕ) (body : List ℕ) → header_of m.1 ≡ Ok (IsCommand, instruction) → AreProper t.rows
       → eqb m.0 1 ≡ false → relayed_to t h m ≡ None → cond (goes_through t h m.0 instruction) (own_gate t h m.0) None ≡ None

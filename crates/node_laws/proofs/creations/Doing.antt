@@ -1,14 +1,13 @@
 -- A controller does the deeds of a message: the creation that a host asked for stays the one that is read.
 use Rattle.std.proofs.Common.{append_assoc, append-nil, ◌≡◌, ◌⊎◌, inl, inr, ℕ, ◌+◌, ◌-◌, ◌≤◌, ◌&&◌, Bool, true, false, cond, eqb, List, [], ◌∷◌, ◌++◌, length}
 use Rattle.std.proofs.Common.{map, sym, refl, ap, ap₂, ◌∙◌, subst, arith}
-use Rattle.std.specs.Prelude.{Option, Some, None, nat_lt, ◌/◌}
+use Rattle.std.specs.Prelude.{Option, Some, None, ◌/◌}
 use Rattle.std.specs.List.{AllByRecursion, fold}
 use Rattle.std.specs.Option.{option_map, option_map_or}
 use Rattle.std.proofs.lemmas.Bool.{cases_Bool, eqb-true, eq-eqb, true≢false, le-ltb}
 use Rattle.trace_model.specs.declared.entry.Entry.{Entry}
 use Rattle.trace_model.specs.declared.entry.Entry.TheVariants as entry
 use Rattle.journal_laws.specs.Planned.{fails_within}
-use Rattle.journal_laws.specs.Writes.{Write}
 use Rattle.hci_tables.specs.declared.command.Command.{Command}
 use Rattle.hci_tables.specs.Bodies.{body_of}
 use Rattle.hci_store.specs.Committing.{commit_writes}
@@ -22,7 +21,7 @@ use Rattle.node_machine.specs.Parts.{Creation, Desk, Core, Port, Work}
 use Rattle.node_machine.specs.Parts.About.{Removed}
 use Rattle.node_machine.specs.Parts.Deed.{IsAnswered}
 use Rattle.node_machine.specs.Carrying.{own_side, noting, unless_cut, port_at, changed_if, with_port, with_desk, after_turn, noted_of, turn_at, notified}
-use Rattle.node_machine.specs.Carrying.{loses_power, keeps, commit, done}
+use Rattle.node_machine.specs.Carrying.{commit, done}
 use Rattle.node_machine.specs.Controller.{creation_in, asked_at}
 use Rattle.node_machine.specs.world.NodeFilters.{Book, is_response, book_after, book_in, asking_in}
 use Rattle.node_laws.proofs.Cases.{by_option, by_test}
@@ -128,9 +127,7 @@ alone (Some m) (d ∷ e ∷ a) b c k = absurd k
 -- an end that is up, with a block to spare, takes a message of one block
 pub takes_short : (e : LinkEnd) (answer : List ℕ) → e.shdlc.phase ≡ Up → length answer ≤ 32 → in_use e + e.aside ≤ 127 → give_refusal e (1, answer) ≡ None
 takes_short e answer up short room =
-    let not_long : nat_lt 4096 (length answer) ≡ false = le-ltb 4096 (length answer) (omega (arith, short)) in
-    let fits : nat_lt (spare e) (need answer) ≡ false = le-ltb (spare e) (need answer) (omega (arith, one_block (length answer) short, room)) in
-    rw (up, not_long, fits) refl
+    rw (up, le-ltb 4096 (length answer) (omega (arith, short)), le-ltb (spare e) (need answer) (omega (arith, one_block (length answer) short, room))) refl
   where
     one_block : (n : ℕ) → n ≤ 32 → (n + 31) / 32 ≤ 1
     one_block n q = omega (arith, q)
@@ -449,8 +446,8 @@ module _ (x : ℕ) (before : List Entry) (hosts : List ℕ) where
 
   pub commits : (asked : Asked) (owed : List Creation) (n : ℕ) (c : Command) (w : Work) → IsProperCommand c → IsOn asked owed n w
       → IsOn asked owed n (commit c w) ⊎ IsOff (commit c w)
-  commits asked owed n c w may a = by_test (fails_within (length writes) w.plan)
-      (λ e. inr (subst IsOff (sym (lost_is e)) (record {
+  commits asked owed n c w may a = by_test (fails_within (length (commit_writes w.core.journal w.core.tables (body_of c))) w.plan)
+      (λ e. inr (rw e (record {
         off = refl;
         front = before ++ noted.entries;
         ends = sym (append_assoc before noted.entries (entry.Cut w.core.node ∷ []))
@@ -458,7 +455,7 @@ module _ (x : ℕ) (before : List Entry) (hosts : List ℕ) where
         book = subst IsProperBook (sym (ap (λ l. book_in l 0) (sym (append_assoc before noted.entries (entry.Cut w.core.node ∷ [])))
             ∙ book_more (before ++ noted.entries) (entry.Cut w.core.node ∷ []) 0)) book;
       })))
-      (λ e. inl (subst (IsOn asked owed n) (sym (kept_is e)) (record {
+      (λ e. inl (rw e (record {
         on = a.on;
         node = a.node;
         asked_are = a.asked_are;
@@ -470,17 +467,8 @@ module _ (x : ℕ) (before : List Entry) (hosts : List ℕ) where
         read = subst (λ r. IsReadSo r (waits x asked ++ owes x owed)) (sym (ask_more x before w.entries (entry.Command w.core.node c ∷ []))) a.read;
         end = a.end;
       }))) where
-        writes : List Write
-        writes = commit_writes w.core.journal w.core.tables (body_of c)
-
         noted : Work
         noted = noting (entry.Command w.core.node c ∷ []) w
-
-        lost_is : fails_within (length writes) w.plan ≡ true → commit c w ≡ loses_power writes noted
-        lost_is e = rw e refl
-
-        kept_is : fails_within (length writes) w.plan ≡ false → commit c w ≡ keeps c writes noted
-        kept_is e = rw e refl
 
         book : IsProperBook (book_in (before ++ noted.entries) 0)
         book = subst IsProperBook (sym (ap (λ l. book_in l 0) (sym (append_assoc before w.entries (entry.Command w.core.node c ∷ [])))

@@ -97,25 +97,12 @@ sites_beside w h f es far host side =
 host_beside : (w : NodeWorld) (h : ℕ) (comes : Comes) (f : Work → Work) → AreGood w.sites → ((k : Work) → IsFarWork k → IsFarWork (f k))
     → BesideBy w (host_does w h comes f)
 host_beside w h comes f good keeps = by_option (site_at w.sites h)
-    (λ e. subst (BesideBy w) (sym (none_is e)) (stays w))
+    (λ e. rw e (stays w))
     (λ s e. by_node s e (good_at w.sites h s good e) s.node refl) where
-      none_is : site_at w.sites h ≡ None → host_does w h comes f ≡ (w, [])
-      none_is e = rw e refl
-
-      off_is : (s : Site) → site_at w.sites h ≡ Some s → s.node ≡ None → host_does w h comes f ≡ (w, [])
-      off_is s here e = rw here (rw e refl)
-
-      on_is : (s : Site) (r : Running) → site_at w.sites h ≡ Some s → s.node ≡ Some r → host_does w h comes f
-          ≡ (
-            record w { sites = with_site h (after_host comes (host_work s r comes f)) w.sites },
-            (host_work s r comes f).entries ++ frames_noted Host h (wires_for (exchanged s.link) comes) (host_work s r comes f),
-          )
-      on_is s r here e = rw here (rw e refl)
-
       by_node : (s : Site) → site_at w.sites h ≡ Some s → IsGoodSite s → (o : Option Running) → s.node ≡ o → BesideBy w (host_does w h comes f)
-      by_node s here fine None e = subst (BesideBy w) (sym (off_is s here e)) (stays w)
+      by_node s here fine None e = subst (BesideBy w) (sym (rw here (rw e refl))) (stays w)
       by_node s here fine (Some r) e =
-          subst (BesideBy w) (sym (on_is s r here e))
+          subst (BesideBy w) (sym (rw here (rw e refl)))
           (sites_beside w h (after_host comes k) (k.entries ++ frames) (far-append k.entries frames far.far (frames_quiet Host h
           (wires_for (exchanged s.link) comes) k)) (λ z. refl) (λ z. far_side z.link (Step comes (turns_at k z.host) (ending_of k))))
         where
@@ -132,14 +119,8 @@ host_beside w h comes f good keeps = by_option (site_at w.sites h)
 
 pub far_beside : (w : NodeWorld) (e : End) (comes : Comes) → AreGood w.sites → e.at_host ≡ true → BesideBy w (comes_at w e comes)
 far_beside w e comes good far = by_option (input_of (seen_from e (link_to w.sites e.link)) comes)
-    (λ q. subst (BesideBy w) (sym (none_is q)) (stays w))
-    (λ i q. subst (BesideBy w) (sym (far_is i q)) (host_beside w e.link comes (steps (AtEnd e.link i)) good (λ k b. steps_far (AtEnd e.link i) k b))) where
-      none_is : input_of (seen_from e (link_to w.sites e.link)) comes ≡ None → comes_at w e comes ≡ (w, [])
-      none_is q = rw q refl
-
-      far_is : (i : LinkInput) → input_of (seen_from e (link_to w.sites e.link)) comes ≡ Some i
-          → comes_at w e comes ≡ host_does w e.link comes (steps (AtEnd e.link i))
-      far_is i q = rw q (rw far refl)
+    (λ q. rw q (stays w))
+    (λ i q. subst (BesideBy w) (sym (rw q (rw far refl))) (host_beside w e.link comes (steps (AtEnd e.link i)) good (λ k b. steps_far (AtEnd e.link i) k b)))
 
 pub begins_beside : (w : NodeWorld) (h : ℕ) (deeds : List Deed) → AreGood w.sites → AreOwn deeds
     → BesideBy w (host_does w h NoInput (begins_with h deeds))
@@ -294,9 +275,8 @@ module _ (hosts : List ℕ) (are : AreHosts hosts) (t : List Entry) (w : NodeWor
     go (d ∷ desks) [] e z = absurd (cc z)
     go (d ∷ desks) (y ∷ sites) e z = by_test (eqb y.host x)
         (λ is. let here : eqb d.host x ≡ true = ap (λ n. eqb n x) one ∙ is in (d, rw here refl))
-        (λ off. let passed : eqb d.host x ≡ false = ap (λ n. eqb n x) one ∙ off in
-        let found_it = go desks sites others (rw off at z) in
-        (found_it.0, rw passed found_it.1)) where
+        (λ off. let found_it = go desks sites others (rw off at z) in
+        (found_it.0, rw (ap (λ n. eqb n x) one ∙ off) found_it.1)) where
           one : d.host ≡ y.host
           one = cc
 
@@ -410,10 +390,11 @@ module _ (hosts : List ℕ) (are : AreHosts hosts) (t : List Entry) (w : NodeWor
 
     pub near_tick : (es : List Entry) → Reads (t ++ es) w → Reads ((t ++ es) ++ (controller_ticks (all_aged w).0).1) (controller_ticks (all_aged w).0).0
     near_tick es before =
-        subst (λ (p : NodeWorld × List Entry). Reads ((t ++ es) ++ p.1) p.0) (sym on_is)
+        rw runs
         (step_reads (t ++ es) w r runs has notices.orderly.different all_hosts ups shut_at
         (rows_of r runs) before w.memory.plan near_ends same [] tt TimePasses tt
-        frames (far_flat (λ (s : Site). frames_noted Controller s.host s.link k) (λ s. frames_quiet Controller s.host s.link k) (all_aged w).0.sites)
+        (flat_map (λ (s : Site). frames_noted Controller s.host s.link k) (all_aged w).0.sites)
+        (far_flat (λ (s : Site). frames_noted Controller s.host s.link k) (λ s. frames_quiet Controller s.host s.link k) (all_aged w).0.sites)
         ticked_world refl
         (λ x none. none_side ticked_world.sites x (nowhere_map ticked (λ s. refl) (map older w.sites) x (nowhere_map older (λ s. refl) w.sites x none)))
         lost goes)
@@ -433,14 +414,8 @@ module _ (hosts : List ℕ) (are : AreHosts hosts) (t : List Entry) (w : NodeWor
         ticked : Site → Site
         ticked s = record s { link = ticked_so s.link (is_late_at k s.host) (turns_at k s.host) (ending_of k) }
 
-        frames : List Entry
-        frames = flat_map (λ (s : Site). frames_noted Controller s.host s.link k) (all_aged w).0.sites
-
         ticked_world : NodeWorld
         ticked_world = record { memory = after_planned k.writes w.memory; controller = runs_on k; sites = map ticked (all_aged w).0.sites }
-
-        on_is : controller_ticks (all_aged w).0 ≡ (ticked_world, k.entries ++ frames)
-        on_is = rw runs refl
 
         there : (x : ℕ) (s : Site) → site_at w.sites x ≡ Some s → (link_to ticked_world.sites x).controller.side
             ≡ (ticked_so (aged s.link) (is_late_at k x) (turns_at k x) (ending_of k)).controller.side

@@ -224,20 +224,13 @@ all_ticked (s ∷ sites) good a = (host_tick_none s good.0 a.0, all_ticked sites
 
 near_none : (w : NodeWorld) → HaveNoneAside w.sites → HaveNoneAside (controller_ticks w).0.sites
 near_none w a = by_option w.controller
-    (λ e. subst HaveNoneAside (sym (off_is e)) (none_map (λ (s : Site). record s { link = ticks_at_controller s.link [] GoesOut })
+    (λ e. rw e (none_map (λ (s : Site). record s { link = ticks_at_controller s.link [] GoesOut })
     (λ s b. ap (λ (h : NumberedEnd). h.side.aside) (tick_host s.link [] GoesOut) ∙ b) w.sites a))
-    (λ r e. subst HaveNoneAside (sym (on_is r e)) (none_map
+    (λ r e. rw e (none_map
     (λ (s : Site). record s { link = ticked_so s.link (is_late_at (k r) s.host) (turns_at (k r) s.host) (ending_of (k r)) })
     (λ s b. ticked_same s.link (is_late_at (k r) s.host) (turns_at (k r) s.host) (ending_of (k r)) b) w.sites a)) where
       k : Running → Work
       k r = steps TimePasses (work_of r w.memory.plan (λ h. (link_to w.sites h).controller) [])
-
-      off_is : w.controller ≡ None → (controller_ticks w).0.sites ≡ map (λ (s : Site). record s { link = ticks_at_controller s.link [] GoesOut }) w.sites
-      off_is e = rw e refl
-
-      on_is : (r : Running) → w.controller ≡ Some r → (controller_ticks w).0.sites
-          ≡ map (λ (s : Site). record s { link = ticked_so s.link (is_late_at (k r) s.host) (turns_at (k r) s.host) (ending_of (k r)) }) w.sites
-      on_is r e = rw e refl
 
 pub aged_none : (w : NodeWorld) → HaveNoneAside w.sites → HaveNoneAside (all_aged w).0.sites
 aged_none w a = none_map (λ (s : Site). record s { link = aged s.link }) (λ s b. b) w.sites a

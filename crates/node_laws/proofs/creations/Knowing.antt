@@ -92,11 +92,10 @@ module _ (pid : ℕ) where
       by_pipe (Some n) z = by (either_true (eqb n pid) (list_any is_it (waiting_pipes ports)) (rw (q, z) at e)) where
         by : (eqb n pid ≡ true) ⊎ (list_any is_it (waiting_pipes ports) ≡ true) → HasAsker (p ∷ ports)
         by (inl is) =
-            let first : is_of_pipe pid c ≡ true = ap (λ o. option_map_or (λ (n : ℕ). eqb n pid) o false) z ∙ is in
             record {
               asker = c.asker;
               waits_there = ap (λ o. list_any (is_of_pipe pid) (one_of c.asker o ++ waits c.asker (asked_of ports))) q
-                  ∙ first_here c (waits c.asker (asked_of ports)) first;
+                  ∙ first_here c (waits c.asker (asked_of ports)) (ap (λ o. option_map_or (λ (n : ℕ). eqb n pid) o false) z ∙ is);
             }
         by (inr tail) = behind (later tail)
 

@@ -33,8 +33,7 @@ module _ (hosts : List ℕ) (are : AreHosts hosts) where
 
   lasts : (t : List Entry) (w : NodeWorld) (c : Happening) → Holds t w → May w c → Holds (t ++ (world_step w c).1) (world_step w c).0
   lasts t w c holds may few =
-      let before : IsFew t = few_front t (world_step w c).1 few in
-      event_keeps hosts t w c are (holds before) may.0 may.1 (λ n. few t (world_step w c).1 n refl)
+      event_keeps hosts t w c are (holds (few_front t (world_step w c).1 few)) may.0 may.1 (λ n. few t (world_step w c).1 n refl)
 
   lines_may : (w : NodeWorld) (l : Line) → IsSentByHost l → refusal_in w l ≡ None → AllMay May w (happenings w l)
   lines_may w l sent none = both_may (happenings w l) w (boots_may w l tt none) (line_may hosts are w l sent none)

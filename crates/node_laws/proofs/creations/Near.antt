@@ -110,10 +110,8 @@ no_desk [] [] x e none = refl
 no_desk [] (s ∷ sites) x e none = absurd (cc e)
 no_desk (d ∷ desks) [] x e none = absurd (cc e)
 no_desk (d ∷ desks) (s ∷ sites) x e none = by_test (eqb s.host x)
-    (λ is. let here : eqb d.host x ≡ true = ap (λ n. eqb n x) one ∙ is in
-    let z : Some d ≡ None = rw here at none in absurd (cc z))
-    (λ off. let passed : eqb d.host x ≡ false = ap (λ n. eqb n x) one ∙ off in
-    rw off (no_desk desks sites x others (rw passed at none))) where
+    (λ is. let z : Some d ≡ None = rw (ap (λ n. eqb n x) one ∙ is) at none in absurd (cc z))
+    (λ off. rw off (no_desk desks sites x others (rw (ap (λ n. eqb n x) one ∙ off) at none))) where
       one : d.host ≡ s.host
       one = cc
 
@@ -127,8 +125,7 @@ no_site [] (s ∷ sites) x e none = absurd (cc e)
 no_site (p ∷ ports) [] x e none = absurd (cc e)
 no_site (p ∷ ports) (s ∷ sites) x e none = by_test (eqb s.host x)
     (λ is. let z : Some s ≡ None = rw is at none in absurd (cc z))
-    (λ off. let passed : eqb p.desk.host x ≡ false = ap (λ n. eqb n x) one ∙ off in
-    rw passed (no_site ports sites x others (rw off at none))) where
+    (λ off. rw (ap (λ n. eqb n x) one ∙ off) (no_site ports sites x others (rw off at none))) where
       one : p.desk.host ≡ s.host
       one = cc
 

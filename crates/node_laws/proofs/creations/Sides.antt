@@ -68,9 +68,8 @@ module _ (x : ℕ) (e : LinkEnd) (late : Bool) where
 begins_so : (x : ℕ) (c : Port) (v : Work) (all : List Port) → port_at v.ports x ≡ Some c → c.turns ≡ []
     → IsMade x c.side c.late (record v { core = after_sessions v.core all; ports = map without_notice (map (forgets all) v.ports) })
 begins_so x c v all here none =
-    let q : Port = without_notice (forgets all c) in
     record {
-      port = q;
+      port = (without_notice (forgets all c));
       here = at_all (map (forgets all) v.ports) x without_notice without_host
           ∙ ap (option_map without_notice) (at_all v.ports x (forgets all) (forgets_host all) ∙ ap (option_map (forgets all)) here);
       is = (without_same (forgets all c)).side ∙ ((forgets_same all c).side
@@ -162,13 +161,11 @@ tick_side l ts p side fresh noticed shut = go (is_late (with_older (has_come p (
       let up : p.side.shdlc.phase ≡ Up = up_is p.side.shdlc.phase (noticed (by_option p.desk.notice
       (λ e. let z : false ≡ true = rw e at parts.due in absurd (true≢false (sym z)))
       (λ n e. ap (λ (o : Option Notice). is_some o) e))) in
-      let lasting : IsLasting p.side = record { active = is_active up; up = up; goes_on = parts.goes_on } in
+      let lasting : IsLasting p.side = record
+      { active = by_test (is_open p.side.role) (λ z. z) (λ z. let w : Up ≡ Down = sym up ∙ shut z in absurd (cc w)); up = up; goes_on = parts.goes_on } in
       let going : is_waiting l.controller.side.shdlc ≡ false =
       not_waiting l.controller.side.shdlc (ap (λ (z : LinkEnd). z.shdlc.phase) (sym side) ∙ up) in
       ap (λ b. (ticked_so l b ts GoesOut).controller.side) late
       ∙ (ap (λ b. (cond (not b) (has_input l (Reset None) ts GoesOut) (ticks_at_controller l ts GoesOut)).controller.side) going
       ∙ (ap (λ z. sent_all (turned (after_input z (Reset None)) ts)) (sym side)
       ∙ ap (λ z. sent_all (turned z ts)) (sym (is ∙ reset_same p.side lasting))))
-    where
-      is_active : p.side.shdlc.phase ≡ Up → is_open p.side.role ≡ true
-      is_active up = by_test (is_open p.side.role) (λ z. z) (λ z. let w : Up ≡ Down = sym up ∙ shut z in absurd (cc w))

@@ -115,8 +115,7 @@ freed_are x all (p ∷ ports) = by_creation (asked_at p) refl (freed_are x all p
         rw (q, over, is, here) (ap (λ k. c ∷ k) same)
     by_asker (inl is) (inr off) =
         let here : is_over_at all x ≡ false = ap (is_over_at all) (sym (eqb-true c.asker x is)) ∙ off in
-        let same : owes x l ≡ [] = later ∙ ap (λ b. cond b w []) here in
-        rw (q, off, here) same
+        rw (q, off, here) (later ∙ ap (λ b. cond b w []) here)
     by_asker (inr else) (inl over) = rw (q, over, else) later
     by_asker (inr else) (inr off) = rw (q, off, else) later
 
@@ -185,10 +184,9 @@ module _ (x : ℕ) (before : List Entry) (hosts : List ℕ) where
         subst (λ d. Fine x before hosts (all_done 0 d w)) (sym same) (more w b)
     by_creation more (Some c) q =
         let same : flat_map (λ p. owed r (asked_at p)) (p ∷ ports) ++ rest ≡ Releases c.asker ∷ Sends c.asker (1, answer_of r []) ∷ later = rw q refl in
-        let b : Good x before hosts asked (c ∷ (filter_map asked_at ports ++ owing)) w = rw q at a in
         subst (λ d. Fine x before hosts (all_done 0 d w)) (sym same)
         (pays_then x before hosts (Fine x before hosts) 0 asked (filter_map asked_at ports ++ owing) c (answer_of r []) later w (answer_response r)
-        (omega arith) b
+        (omega arith) (rw q at a)
         (λ v d. more v d))
 
   -- ## Steps
@@ -253,7 +251,7 @@ module _ (x : ℕ) (before : List Entry) (hosts : List ℕ) where
 
       end_at : (o : Option Port) → port_at v.ports x ≡ o → ComeAt n (waits x asked ++ []) o
           → EndAt n (waits x now ++ owes x owing) (option_map without_notice (option_map (forgets v.ports) o))
-      end_at None e z = (z.0, gone)
+      end_at None e z = (z.0, (empty (waits x now ++ owes x owing) (same_length ∙ none over)))
         where
           empty : (l : List Creation) → length l ≡ 0 → l ≡ []
           empty [] q = refl
@@ -262,9 +260,6 @@ module _ (x : ℕ) (before : List Entry) (hosts : List ℕ) where
           none : (b : Bool) → length (cond b [] (waits x asked)) ≡ 0
           none true = refl
           none false = ap length (sym (append-nil (waits x asked)) ∙ z.1)
-
-          gone : waits x now ++ owes x owing ≡ []
-          gone = empty (waits x now ++ owes x owing) (same_length ∙ none over)
       end_at (Some p) e z =
           let q : Port = without_notice (forgets v.ports p) in
           let side : q.side ≡ p.side = (without_same (forgets v.ports p)).side ∙ (forgets_same v.ports p).side in
@@ -273,11 +268,8 @@ module _ (x : ℕ) (before : List Entry) (hosts : List ℕ) where
             aside = z.aside;
             up = λ some.
                 let so = some_waits some in
-                z.up (sym (ap (λ o. option_map_or is_over o false) e) ∙ (sym over_now ∙ so.0)) so.1;
+                z.up (sym (ap (λ o. option_map_or is_over o false) e) ∙ (sym (over_at v.ports x (subst AreDifferent (sym c.hosts_are) different)) ∙ so.0)) so.1;
           })
-        where
-          over_now : over ≡ option_map_or is_over (port_at v.ports x) false
-          over_now = over_at v.ports x (subst AreDifferent (sym c.hosts_are) different)
 
       pub begins : IsOn x before hosts now owing n begun
       begins = record {
@@ -327,9 +319,6 @@ module _ (x : ℕ) (before : List Entry) (hosts : List ℕ) where
           then_fine x before hosts passes (unless_cut (all_done 0 (all_owed left)) s) answered
           (λ l b. passes_good x before hosts different l (unless_cut (all_done 0 (all_owed left)) s) all b)
         where
-          ended : List Port
-          ended = filter (λ (p : Port). p.ended) left
-
           lates : List Port
           lates = filter (λ (p : Port). p.late) left
 
@@ -338,7 +327,7 @@ module _ (x : ℕ) (before : List Entry) (hosts : List ℕ) where
 
           pay : (s : Work) → Good x before hosts now owing s → Fine x before hosts (all_done 0 (all_owed left) s)
           pay s b =
-              pays_all now response.NotConnected ended (filter_map asked_at lates) second s b
+              pays_all now response.NotConnected (filter (λ (p : Port). p.ended) left) (filter_map asked_at lates) second s b
               (λ y d. subst (λ l. Fine x before hosts (all_done 0 l y)) (append-nil second)
               (pays_all now response.Timeout lates [] [] y (subst (λ l. Good x before hosts now l y) (sym (append-nil (filter_map asked_at lates))) d)
               (λ z e. inl (record { asked = now; good = e }))))

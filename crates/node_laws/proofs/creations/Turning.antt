@@ -46,8 +46,7 @@ block_at : (ports : List Port) (x : ℕ) → nat_lt (option_map_or (λ (p : Port
     → HasBlock (port_at ports x)
 block_at ports x room up = by_option (port_at ports x)
     (λ q. rw q (absurd (true≢false (sym (rw q at up)))))
-    (λ p q. rw q (let u = rw q at up in
-    (up_is p.side.shdlc.phase u, lt-ltb 0 (spare p.side) (ltb-false (spare p.side) 1 (rw q at room)))))
+    (λ p q. rw q ((up_is p.side.shdlc.phase (rw q at up), lt-ltb 0 (spare p.side) (ltb-false (spare p.side) 1 (rw q at room)))))
 
 -- it has it still, where ends are changed that keep that
 block_with : (k x : ℕ) (g : Port → Port) (ports : List Port) → ((p : Port) → (g p).desk.host ≡ p.desk.host)
@@ -160,7 +159,8 @@ module _ (x : ℕ) (before : List Entry) (hosts : List ℕ) (different : AreDiff
     have_good : (messages : List Message) (asked : Asked) (w : Work) → Good x before hosts asked [] w → Fine x before hosts (have_turns k messages w)
     have_good [] asked w a = inl (record { asked = asked; good = lets_good asked w a })
     have_good (m ∷ messages) asked w a =
-        subst (Fine x before hosts) (sym is) (go (lack w.ports (needs k now)) refl (λ l v b. have_good messages l v b)) where
+        subst (Fine x before hosts) (sym (ap (λ d. by d (lack w.ports (needs k d))) deeds_are))
+        (go (lack w.ports (needs k now)) refl (λ l v b. have_good messages l v b)) where
           now : List Deed
           now = controller_deeds (view_of w.core w.ports) k m
 
@@ -170,9 +170,6 @@ module _ (x : ℕ) (before : List Entry) (hosts : List ℕ) (different : AreDiff
 
           deeds_are : deeds_of w.core w.ports k m ≡ now
           deeds_are = let zero : eqb w.core.node 0 ≡ true = eq-eqb w.core.node 0 a.node in rw zero refl
-
-          is : have_turns k (m ∷ messages) w ≡ by now (lack w.ports (needs k now))
-          is = ap (λ d. by d (lack w.ports (needs k d))) deeds_are
 
           go : (o : Option (ℕ × ℕ)) → lack w.ports (needs k now) ≡ o
               → ((l : Asked) (v : Work) → Good x before hosts l [] v → Fine x before hosts (have_turns k messages v)) → Fine x before hosts (by now o)

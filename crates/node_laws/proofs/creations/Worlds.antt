@@ -99,18 +99,9 @@ aged_good w a = good_map (λ (s : Site). record s { link = aged s.link }) (λ s 
 
 pub near_good : (w : NodeWorld) → AreGood w.sites → AreGood (controller_ticks w).0.sites
 near_good w a = by_option w.controller
-    (λ e. subst AreGood (sym (off_is e)) (good_map (λ (s : Site). record s { link = ticks_at_controller s.link [] GoesOut })
+    (λ e. rw e (good_map (λ (s : Site). record s { link = ticks_at_controller s.link [] GoesOut })
     (λ s b. record { host = b.host; node = b.node; shut = ticks_shut s.link [] GoesOut b.shut }) w.sites a))
-    (λ r e. subst AreGood (sym (on_is r e)) (ticked_good (k r) w.sites a)) where
-      k : Running → Work
-      k r = steps TimePasses (work_of r w.memory.plan (λ h. (link_to w.sites h).controller) [])
-
-      off_is : w.controller ≡ None → (controller_ticks w).0.sites ≡ map (λ (s : Site). record s { link = ticks_at_controller s.link [] GoesOut }) w.sites
-      off_is e = rw e refl
-
-      on_is : (r : Running) → w.controller ≡ Some r → (controller_ticks w).0.sites
-          ≡ map (λ (s : Site). record s { link = ticked_so s.link (is_late_at (k r) s.host) (turns_at (k r) s.host) (ending_of (k r)) }) w.sites
-      on_is r e = rw e refl
+    (λ r e. rw e (ticked_good (steps TimePasses (work_of r w.memory.plan (λ h. (link_to w.sites h).controller) [])) w.sites a))
 
 module _ (hosts : List ℕ) (are : AreHosts hosts) (t : List Entry) (w : NodeWorld) (kept : AllKeep hosts t w) (notices : KeepsNotices t w) (a : Reads t w) where
   controller_ticked : Reads (t ++ ((all_aged w).1 ++ (controller_ticks (all_aged w).0).1)) (controller_ticks (all_aged w).0).0
@@ -130,19 +121,11 @@ module _ (hosts : List ℕ) (are : AreHosts hosts) (t : List Entry) (w : NodeWor
       alone : NodeWorld
       alone = record old { sites = map (λ (s : Site). record s { link = ticks_at_controller s.link [] GoesOut }) old.sites }
 
-      off_of : (v : NodeWorld) → v.controller ≡ None
-          → controller_ticks v ≡ (record v { sites = map (λ (s : Site). record s { link = ticks_at_controller s.link [] GoesOut }) v.sites }, [])
-      off_of v e = rw e refl
-
-      off_is : w.controller ≡ None
-          → controller_ticks old ≡ (record old { sites = map (λ (s : Site). record s { link = ticks_at_controller s.link [] GoesOut }) old.sites }, [])
-      off_is e = off_of old e
-
       by_node : (o : Option Running) → w.controller ≡ o → IfItRuns 0 (hosts_in w.sites) o → IfNoticedUp w.sites o
           → Reads ((t ++ es) ++ (controller_ticks old).1) (controller_ticks old).0
       by_node (Some r) e has up = near_tick hosts are t w kept notices a r e has up es still
       by_node None e has up =
-          subst (λ (p : NodeWorld × List Entry). Reads ((t ++ es) ++ p.1) p.0) (sym (off_is e)) (nothing (t ++ es) alone (record {
+          rw e (nothing (t ++ es) alone (record {
             book = still.book;
             due = still.due;
             read = still.read;
@@ -186,20 +169,13 @@ module _ (hosts : List ℕ) (are : AreHosts hosts) (t : List Entry) (w : NodeWor
   comes_reads e comes = by_test e.at_host
       (λ b. beside_reads t w (comes_at w e comes).0 (comes_at w e comes).1 a (far_beside w e comes notices.sites b))
       (λ b. by_option (input_of (seen_from e (link_to w.sites e.link)) comes)
-      (λ q. subst Fine (sym (none_is q)) (nothing t w a))
-      (λ i q. subst Fine (sym (near_is i q b)) (near_reads e.link comes i (ap (λ l. input_of l comes) (sym (seen b)) ∙ q)))) where
+      (λ q. rw q (nothing t w a))
+      (λ i q. subst Fine (sym (rw q (rw b refl))) (near_reads e.link comes i (ap (λ l. input_of l comes) (sym (seen b)) ∙ q)))) where
         Fine : NodeWorld × List Entry → Type 0
         Fine p = Reads (t ++ p.1) p.0
 
         seen : e.at_host ≡ false → seen_from e (link_to w.sites e.link) ≡ link_to w.sites e.link
         seen b = rw b refl
-
-        none_is : input_of (seen_from e (link_to w.sites e.link)) comes ≡ None → comes_at w e comes ≡ (w, [])
-        none_is q = rw q refl
-
-        near_is : (i : LinkInput) → input_of (seen_from e (link_to w.sites e.link)) comes ≡ Some i → e.at_host ≡ false
-            → comes_at w e comes ≡ controller_does w e.link comes (steps (AtEnd e.link i))
-        near_is i q b = rw q (rw b refl)
 
   activates_reads : (h sync power : ℕ) → Reads (t ++ (activates w h sync power).1) (activates w h sync power).0
   activates_reads h sync power =

@@ -31,7 +31,7 @@ same_bank c d same = sym (in_use_is d) ∙ ap (λ (j : Journal). j.in_use) same 
 bank_of : (content : List ℕ) (s : State) (t : HciTables) → Knows content s t → current content ≡ s.in_use
 bank_of content s t k = ap (λ (x : State). x.in_use) k.state_is
 
-snapshot_ends : (s : State) (bodies : List (List ℕ)) → IsSome s.in_use → EndsInGate (compact_writes s bodies)
+pub snapshot_ends : (s : State) (bodies : List (List ℕ)) → IsSome s.in_use → EndsInGate (compact_writes s bodies)
 snapshot_ends s bodies used = by_option s.in_use
     (λ q. rw q (absurd (true≢false (sym (rw q at used)))))
     (λ side q. rw q (ends_append (close_bank s.beside (bank_place (other side)))

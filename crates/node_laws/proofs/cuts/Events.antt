@@ -232,8 +232,7 @@ module _ (hosts : List ℕ) (are : AreHosts hosts) (n : ℕ) where
   arms_exact : (t : List Entry) (r : Reckoning) (w : NodeWorld) (k : ℕ) (plan : Plan) → IsThere w n → StandsAt n t r w
       → GoesExactly n t r (Arms k plan) (with_memory k (record (memory_at w k) { plan = Some plan }) w, [])
   arms_exact t r w k plan there stands = by_test (eqb k n)
-      (λ is. let same : k ≡ n = eqb-true k n is in
-      let armed : Memory = record (memory_at w n) { plan = Some plan } in
+      (λ is. let armed : Memory = record (memory_at w n) { plan = Some plan } in
       let now : IsNowAt n (with_memory n armed w) armed (node_at w n) = now_memory n w armed there in
       let here : begun_by n (Arms n plan) r ≡ record r { memory = record r.memory { plan = Some plan } } =
       ap (λ b. cond b (record r { memory = record r.memory { plan = Some plan } }) r) (eq-eqb n n refl) in
@@ -241,7 +240,7 @@ module _ (hosts : List ℕ) (are : AreHosts hosts) (n : ℕ) where
       subst (λ x. StandsAt n (t ++ []) x (with_memory n armed w)) (sym here)
       (stands_now (t ++ []) (record r { memory = record r.memory { plan = Some plan } }) (with_memory n armed w) armed (node_at w n) now
       (armed_stands n t r (memory_at w n) plan (node_at w n) stands)) in
-      subst (λ j. GoesExactly n t r (Arms j plan) (with_memory j (record (memory_at w j) { plan = Some plan }) w, [])) (sym same) (record {
+      subst (λ j. GoesExactly n t r (Arms j plan) (with_memory j (record (memory_at w j) { plan = Some plan }) w, [])) (sym (eqb-true k n is)) (record {
         planned = (tt, ap (λ (x : Reckoning). x.due) here ∙ stands.none_due);
         booted = λ before behind many at_it. by_list before
             (λ q. rw q (absurd (cc (rw q at at_it))))
@@ -328,7 +327,7 @@ module _ (hosts : List ℕ) (are : AreHosts hosts) (n : ℕ) where
         let es : List Entry = entry.Booted n many ∷ [] in
         let right : FindsExactly r many =
         boot_found n t r (memory w n) (links_of w n) (node_at w n) stands
-        (subst (λ b. length b ≤ 2 ^ 32 - 1) (sym (ap (λ b. commands_of b) stands.book_is)) few) in
+        (subst (λ b. length b ≤ 2 ^ 32 - 1) (sym (ap (λ b. b.commands) stands.book_is)) few) in
         let kept : AllKeep hosts (t ++ es) v = subst (λ (p : NodeWorld × List Entry). AllKeep hosts (t ++ p.1) p.0) (run_is w n e) keep in
         let runs = runs_of hosts are (t ++ es) v n (starts w n) kept now.there now.running in
         subst (GoesExactly n t r (Boots n)) (sym (run_is w n e)) (record {
@@ -343,9 +342,6 @@ module _ (hosts : List ℕ) (are : AreHosts hosts) (n : ℕ) where
               (subst (λ (m : Memory). Rattle.node_laws.specs.kept.Worlds.RunsSo n runs.0 m.content (t ++ es) (starts w n)) now.memory runs.1)));
           there = now.there;
         })
-      where
-        commands_of : Rattle.node_machine.specs.world.NodeFilters.Book → List Rattle.hci_tables.specs.declared.command.Command.Command
-        commands_of b = b.commands
 
   boots_exact : (t : List Entry) (r : Reckoning) (w : NodeWorld) (k : ℕ) → length (commands_in t n) ≤ 2 ^ 32 - 1
       → AllKeep hosts (t ++ (boots w k).1) (boots w k).0 → IsThere w n → StandsAt n t r w → GoesExactly n t r (Boots k) (boots w k)

@@ -132,9 +132,8 @@ new_all n r (e ∷ es) each new = new_all n (reckoned n r e) es each.2 (new_one 
 new_event : (n : ℕ) (r : Reckoning) (c : Happening) (es : List Entry) → boots_it n c ≡ false → IsCutAsPlanned n r c es → IsNew r
     → IsNew (reckoned_within n c r es)
 new_event n r (Boots k) es none planned new =
-    let each : EachIsAsRead n r es = rw none at planned in
     subst (λ x. IsNew (fold (reckoned n) x es))
-    (sym (ap (λ b. cond b (record r { memory = after_planned (boot_writes r.memory.content) r.memory }) r) none)) (new_all n r es each new)
+    (sym (ap (λ b. cond b (record r { memory = after_planned (boot_writes r.memory.content) r.memory }) r) none)) (new_all n r es (rw none at planned) new)
 new_event n r (IsCut k) es none planned new =
     subst (λ l. IsNew (fold (reckoned n) r l)) (sym planned) (new_one n r (entry.Cut k) tt new)
 new_event n r (Arms k plan) es none planned new =
@@ -306,7 +305,8 @@ module _ (header : Header) (lines : List Line) (t : NodeHistory) (follows : Foll
   pub commands_write_so : CommandsWriteSo t
   commands_write_so front back n c node is booted = by_test (record_fits (state_of content) (body_of c))
       (λ fits. two_writes c r fits ∙ sym (ap (λ b. cond b 2 (cond (is_open_beside content) 5 4)) fits))
-      (λ full. snapshot_writes c r full used ∙ sym (ap (λ b. cond b 2 (cond (is_open_beside content) 5 4)) full))
+      (λ full. snapshot_writes c r full (subst (λ (m : Memory). IsSome (current m.content)) (sym k.stands.memory_is) (k.stands.used booted)) ∙ sym
+      (ap (λ b. cond b 2 (cond (is_open_beside content) 5 4)) full))
     where
       k : IsKnown header.hosts.items are n front (world_behind w0 front) back
       k = known n node front back is
@@ -316,9 +316,6 @@ module _ (header : Header) (lines : List Line) (t : NodeHistory) (follows : Foll
 
       content : List ℕ
       content = r.memory.content
-
-      used : IsSome (current content)
-      used = subst (λ (m : Memory). IsSome (current m.content)) (sym k.stands.memory_is) (k.stands.used booted)
 
   pub memories_hold : MemoriesHold t
   memories_hold front back n node is =

@@ -35,9 +35,8 @@ finds_cut : (m : Memory) (t : HciTables) (many : ℕ) → BootFinds m.content t 
     → BootFinds (after_planned (boot_writes m.content) m).content t many
 finds_cut m t many f fails = by_option (current m.content)
     (λ is. let cut = planned_cut (boot_writes m.content) m fails in
-    let formats : boot_writes m.content ≡ format_writes = ap (λ p. option_map_or (λ _. []) p format_writes) is in
     left_formatted m.content t many f is cut.0 (after_planned (boot_writes m.content) m).content
-    (subst (λ w. IsCut cut.0 w m.content (after_planned (boot_writes m.content) m).content) formats cut.1))
+    (subst (λ w. IsCut cut.0 w m.content (after_planned (boot_writes m.content) m).content) (ap (λ p. option_map_or (λ _. []) p format_writes) is) cut.1))
     (λ side is. absurd (true≢false (sym fails ∙ ap (λ p. fails_within (length (option_map_or (λ _. []) p format_writes)) m.plan) is ∙ none_within m.plan)))
 
 -- only a boot that formats can be cut

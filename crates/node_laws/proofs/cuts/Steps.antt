@@ -44,10 +44,9 @@ one_before None p n low later is = absurd (cc)
 one_before (Some q) p n low later is =
     let nearer : Some (record q { nth = q.nth - 1 }) ≡ farther n p = sym (ap (λ b. cond b None (Some (record q { nth = q.nth - 1 }))) later) ∙ is in
     let same : record q { nth = q.nth - 1 } ≡ record { nth = p.nth + n; fill = p.fill } = cc in
-    let number : q.nth - 1 ≡ p.nth + n = ap (λ (x : Plan). x.nth) same in
     let filling : q.fill ≡ p.fill = ap (λ (x : Plan). x.fill) same in
     let filled : Some q ≡ Some (record { nth = q.nth; fill = p.fill }) = ap (λ f. Some (record { nth = q.nth; fill = f })) filling in
-    filled ∙ ap (λ k. Some (record { nth = k; fill = p.fill })) (omega (arith, number, low))
+    filled ∙ ap (λ k. Some (record { nth = k; fill = p.fill })) (omega (arith, ap (λ (x : Plan). x.nth) same, low))
 
 -- a plan that is left behind writes was planned before them
 plan_before : (writes : List Write) (m : Memory) (p : Plan) → 1 ≤ p.nth → (after_planned writes m).plan ≡ Some p → m.plan ≡ farther (length writes) p
@@ -103,12 +102,12 @@ module _ (n : ℕ) (hosts : List ℕ) (old : Memory) (before : List Entry) (c : 
   plan_at = ap (λ (v : Work). opens_gate (length v.writes) old.plan) is_lost ∙ by_option r.memory.plan
       (λ is. absurd (true≢false (sym (sym (ap (fails_within (length writes)) is) ∙ now))))
       (λ p is. let sides = and_parts (nat_le 1 p.nth) (nat_le p.nth (length writes)) (sym (ap (fails_within (length writes)) is) ∙ now) in
-      ap (opens_gate (length (w.writes ++ writes))) (plan_before w.writes old p (leb-true 1 p.nth sides.0) (left_is ∙ is))
+      ap (opens_gate (length (w.writes ++ writes)))
+      (plan_before w.writes old p (leb-true 1 p.nth sides.0)
+      ((ap (λ l. (after_planned l old).plan) (sym (append-nil w.writes)) ∙ ap (λ (m : Memory). m.plan) (r.written [])) ∙ is))
       ∙ ap (λ b. b && is_opened_gate (slice_index p.fill 0)) (same_last p.nth (length w.writes) (length writes) (length (w.writes ++ writes))
       (length-append w.writes writes))
-      ∙ ap (opens_gate (length writes)) (sym is)) where
-        left_is : (after_planned w.writes old).plan ≡ r.memory.plan
-        left_is = ap (λ l. (after_planned l old).plan) (sym (append-nil w.writes)) ∙ ap (λ (m : Memory). m.plan) (r.written [])
+      ∙ ap (opens_gate (length writes)) (sym is))
 
   -- what is read then
   commands_are : commands_in (before ++ (commit c w).entries) n ≡ commands_in seen n ++ c ∷ []

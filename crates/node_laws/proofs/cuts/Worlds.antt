@@ -266,12 +266,11 @@ module _ (hosts : List ℕ) (are : AreHosts hosts) where
         by_node x here (Some q) e k host same =
             let work : Work = host_work x q comes f in
             let begun : List Entry = entries_for x.host (arrival Host (exchanged x.link) comes) in
-            let start : Work = work_of q x.memory.plan (λ k. near_end_in (exchanged x.link) comes) begun in
             let more : List Entry = frames_noted Host h (wires_for (exchanged x.link) comes) work in
             let on_is : host_does w h comes f ≡ (record w { sites = with_site h (after_host comes work) w.sites }, work.entries ++ more) = rw here (rw e refl)
             in
             let fine : GoesOn_or_lost x.host (x.host ∷ []) x.memory t work =
-            step x q here e host k.runs.on t start refl
+            step x q here e host k.runs.on t (work_of q x.memory.plan (λ k. near_end_in (exchanged x.link) comes) begun) refl
             (runs_begun x.host (x.host ∷ []) t x.memory q (λ k. near_end_in (exchanged x.link) comes) begun
             (plain_entries x.host (arrival Host (exchanged x.link) comes)) k.runs) in
             host_run_exact n t r w h (host_does w h comes f) (record {

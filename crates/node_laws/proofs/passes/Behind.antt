@@ -79,13 +79,10 @@ pub held_own : (h : ℕ) (short : ℕ × ℕ) (w : Work) (m : Message) (messages
 held_own h short w m messages waiting = by_test (is_held_at w.ports h)
     (λ q. rw q (turn_sees h (waiting_at w.ports h) true h (Hold true) w tt (refl, q)))
     (λ q. let is = own_changed h (λ (p : Port). record p { desk = record p.desk { holds = true } }) (λ p. refl) w.ports first.port first.here in
-    let got : first.port.side.got ≡ waiting_at w.ports h = first.got ∙ sym waiting in
-    rw q (turn_sees h (waiting_at w.ports h) true h (Hold true) (with_desk h (λ d. record d { holds = true }) told) tt
-    (subst (Sees (waiting_at w.ports h) true) (sym is) (got, refl))))
+    rw q (turn_sees h (waiting_at w.ports h) true h (Hold true)
+    (with_desk h (λ d. record d { holds = true }) (noting (entry.Held (end_of_node w.core h) short.0 short.1 ∷ []) w)) tt
+    (subst (Sees (waiting_at w.ports h) true) (sym is) (first.got ∙ sym waiting, refl))))
   where
-    told : Work
-    told = noting (entry.Held (end_of_node w.core h) short.0 short.1 ∷ []) w
-
     first : HasFirst w.ports h m messages
     first = has_first w.ports h m messages waiting
 
@@ -252,11 +249,8 @@ module _ (J : Work → Type 0) (lasts : LastsOverTurns J) where
       u : Work
       u = have_turns h (waiting_at v.ports h) v
 
-      u_goes : (unless_cut (goes_through_ends later) u).cut ≡ false
-      u_goes = subst P (uncut (goes_through_ends (h ∷ later)) v v_on) v_goes
-
       u_on : u.cut ≡ false
-      u_on = was_on (goes_through_ends later) u u_goes
+      u_on = was_on (goes_through_ends later) u (subst P (uncut (goes_through_ends (h ∷ later)) v v_on) v_goes)
 
       s : StopsAt J h v u
       s = stopping J lasts h (waiting_at v.ports h) v (first.keeps v_on) v_on refl u_on

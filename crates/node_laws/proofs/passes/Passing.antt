@@ -77,9 +77,8 @@ takes_sees h m messages w e =
     let first : HasFirst w.ports h m messages = has_first w.ports h m messages e in
     let p : Port = first.port in
     let told : Work = noting (entry.Turn (end_of_node w.core h) m.0 m.1 ∷ []) w in
-    let one = own_changed h (after_turn FetchMessage) (λ q. refl) w.ports p first.here in
     let two = own_changed h (λ (q : Port). record q { desk = record q.desk { holds = false } }) (λ q. refl) (turn_at h FetchMessage told).ports
-    (after_turn FetchMessage p) one in
+    (after_turn FetchMessage p) (own_changed h (after_turn FetchMessage) (λ q. refl) w.ports p first.here) in
     subst (Sees messages false) (sym two) (ap (λ l. drop 1 l) first.got, refl)
 
 pub handles_sees : (h : ℕ) (m : Message) (messages : List Message) (deeds : List Deed) (w : Work) → waiting_at w.ports h ≡ m ∷ messages

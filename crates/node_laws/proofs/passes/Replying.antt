@@ -91,12 +91,9 @@ given_so core to m ports takes = go (port_at ports to) refl
     go None q = rw q refl
     go (Some p) q = by p.side.shdlc.phase refl
       where
-        host : p.desk.host ≡ to
-        host = eqb-true p.desk.host to (at_host ports to p q)
-
         by : (s : LinkState) → p.side.shdlc.phase ≡ s
             → option_map_or (noted_of core (Give m)) (port_at ports to) [] ≡ sent_in_session core.node (session_of_port ports) to m
-        by Up e = let none : give_refusal p.side m ≡ None = takes p q e in rw (q, none, e, host) refl
+        by Up e = let none : give_refusal p.side m ≡ None = takes p q e in rw (q, none, e, (eqb-true p.desk.host to (at_host ports to p q))) refl
         by Down e = rw (q, e) refl
         by Waiting e = rw (q, e) refl
 
@@ -141,17 +138,15 @@ module _ (sessions : ℕ → Option ℕ) (h : ℕ) where
       → ((commit c w).cut ≡ false → CountsCommands (commit c w).core.journal (commit c w).core.tables deeds → Noted deeds (commit c w))
       → w.cut ≡ false → Noted (Commits c ∷ deeds) w
   commits_so c deeds w counts later w_on = by_test (goes_in c w)
-      (λ q. let off : v.cut ≡ true = ap (λ (x : Work). x.cut) (lost q) in
-      rw (off, q) ([], c, rest, refl, refl))
+      (λ q. rw (ap (λ (x : Work). x.cut) (lost q), q) ([], c, rest, refl, refl))
       (λ q. let on : v.cut ≡ false = ap (λ (x : Work). x.cut) (kept q) ∙ w_on in
       let C : Work → Type 0 = λ x. CountsCommands x.core.journal x.core.tables deeds in
       let N : ℕ → ℕ → Type 0 =
       λ n k. IsReplyNoted (all_done h deeds v).cut n (noted_by_deeds h deeds v) (entries_of_reply n sessions h k deeds) in
-      let a : Noted deeds v = later on (subst C (sym (kept q)) counts.1) in
       let node : v.core.node ≡ w.core.node = ap (λ (x : Work). x.core.node) (kept q) in
       let many : count_of v.core.journal ≡ next_count (count_of w.core.journal) = ap (λ (x : Work). count_of x.core.journal) (kept q) ∙ counts.0 in
       onward (Commits c) deeds w w.core.node (entry.Command w.core.node c ∷ []) rest on (rw q refl)
-      (subst (λ k. N w.core.node k) many (subst (λ n. N n (count_of v.core.journal)) node a)))
+      (subst (λ k. N w.core.node k) many (subst (λ n. N n (count_of v.core.journal)) node (later on (subst C (sym (kept q)) counts.1)))))
     where
       v : Work
       v = commit c w

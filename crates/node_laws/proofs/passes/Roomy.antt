@@ -33,9 +33,7 @@ short_enough s n most room = omega arith
 takes_it : (e : LinkEnd) (m : Message) → e.shdlc.phase ≡ Up → nat_lt (spare e) (need m.1) ≡ false → give_refusal e m ≡ None
 takes_it e m up room =
     let most : spare e ≤ 128 = omega arith in
-    let short : length m.1 ≤ 4096 = short_enough (spare e) (length m.1) most (ltb-false (spare e) (need m.1) room) in
-    let not_long : nat_lt 4096 (length m.1) ≡ false = le-ltb 4096 (length m.1) short in
-    rw (up, not_long, room) refl
+    rw (up, le-ltb 4096 (length m.1) (short_enough (spare e) (length m.1) most (ltb-false (spare e) (need m.1) room)), room) refl
 
 pub has_room : (ports : List Port) (h : ℕ) (m : Message) → need m.1 ≤ spare_of ports h → TakesMessage ports h m
 has_room ports h m room p here up =

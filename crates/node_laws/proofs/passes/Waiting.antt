@@ -82,10 +82,9 @@ module _ (k : ℕ) (w : Work) where
       go false off = other_handles k s.0 s.1 h m deeds v off (sees v a)
       go true e =
           let is : h ≡ k = eqb-true h k e in
-          let left : SeesAt h messages false u = handles_sees h m messages deeds v waiting in
           let rest : messages ≡ drop 1 s.0 =
           ap (λ l. drop 1 l) (sym waiting ∙ (ap (waiting_at v.ports) is ∙ a.waits)) in
-          subst (λ l. SeesAt k l false u) rest (subst (λ n. SeesAt n messages false u) is left)
+          subst (λ l. SeesAt k l false u) rest (subst (λ n. SeesAt n messages false u) is (handles_sees h m messages deeds v waiting))
 
   held : (v : Work) (h : ℕ) (m : Message) (messages : List Message) (short : ℕ × ℕ) → Read v → waiting_at v.ports h ≡ m ∷ messages
       → Read (holds_back h short v)
@@ -109,9 +108,7 @@ module _ (k : ℕ) (w : Work) where
 
       own : h ≡ k → SeesAt k s.0 true u
       own is =
-          let kept : SeesAt h (waiting_at v.ports h) true u = held_own h short v m messages waiting in
-          let here : SeesAt k (waiting_at v.ports k) true u = subst (λ n. SeesAt n (waiting_at v.ports n) true u) is kept in
-          subst (λ l. SeesAt k l true u) a.waits here
+          subst (λ l. SeesAt k l true u) a.waits (subst (λ n. SeesAt n (waiting_at v.ports n) true u) is (held_own h short v m messages waiting))
 
       by : (b : Bool) → is_held_at v.ports h ≡ b → (c : Bool) → (h == k) ≡ c → SeesAt k (told b).0 (told b).1 u
       by b q false off =
@@ -119,8 +116,7 @@ module _ (k : ℕ) (w : Work) where
           subst (λ (z : State). SeesAt k z.0 z.1 u) (sym (by_test b (λ q. rw q refl) (λ q. rw q (after ∙ ap (λ c. cond c (s.0, true) s) off)))) other
       by true q true e =
           let is : h ≡ k = eqb-true h k e in
-          let flag : true ≡ s.1 = sym q ∙ (ap (is_held_at v.ports) is ∙ a.held) in
-          subst (λ c. SeesAt k s.0 c u) flag (own is)
+          subst (λ c. SeesAt k s.0 c u) (sym q ∙ (ap (is_held_at v.ports) is ∙ a.held)) (own is)
       by false q true e =
           subst (λ (z : State). SeesAt k z.0 z.1 u) (sym (after ∙ ap (λ c. cond c (s.0, true) s) e)) (own (eqb-true h k e))
 

@@ -122,8 +122,7 @@ host_part w h comes f does a =
     let is : s.host ≡ h = site_host w.sites h s found in
     let node : HasEnds s.host (s.host ∷ []) r =
     subst (IfItRuns s.host (s.host ∷ [])) q (site_is (λ (x : Site). IfItRuns x.host (x.host ∷ []) x.node) w.sites h s a.nodes found) in
-    let other : (s.host == 0) ≡ false = site_is (λ (x : Site). (x.host == 0) ≡ false) w.sites h s a.hosts found in
-    let off : (h == 0) ≡ false = subst (λ j. (j == 0) ≡ false) is other in
+    let off : (h == 0) ≡ false = subst (λ j. (j == 0) ≡ false) is (site_is (λ (x : Site). (x.host == 0) ≡ false) w.sites h s a.hosts found) in
     let P : ℕ → Type 0 = λ j. HasEnds j (j ∷ []) r in
     let l : Link = exchanged s.link in
     let es : List Entry = entries_for s.host (arrival Host l comes) in
@@ -161,10 +160,9 @@ pub far_tick : (s : Site) → (s.host == 0) ≡ false → IfItRuns s.host (s.hos
 far_tick s other runs =
     by_host_tick (λ p. IsPart s.host p.1) s (λ q. nothing_part s.host)
     (λ r q.
-    let n : HasEnds s.host (s.host ∷ []) r = subst (IfItRuns s.host (s.host ∷ [])) q runs in
     far_part s.host (host_tick s r) (exchanged s.link)
     (steps_fine s.host TimePasses (work_of r s.memory.plan (λ h. s.link.host) [])
-    (far_runs s.host r s.memory.plan (λ h. s.link.host) [] other n tt tt)))
+    (far_runs s.host r s.memory.plan (λ h. s.link.host) [] other (subst (IfItRuns s.host (s.host ∷ [])) q runs) tt tt)))
 
 abbrev pub AreNodes : List Site → Type 0
 AreNodes sites = AllByRecursion (λ (s : Site). ((s.host == 0) ≡ false) × IfItRuns s.host (s.host ∷ []) s.node) sites

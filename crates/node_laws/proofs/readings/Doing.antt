@@ -7,7 +7,6 @@ use Rattle.trace_model.specs.Lines.{IsHost}
 use Rattle.trace_model.specs.declared.entry.Entry.{Entry}
 use Rattle.trace_model.specs.declared.entry.Entry.TheVariants as entry
 use Rattle.journal_laws.specs.Planned.{fails_within}
-use Rattle.journal_laws.specs.Writes.{Write}
 use Rattle.hci_tables.specs.declared.command.Command.{Command}
 use Rattle.hci_tables.specs.Bodies.{body_of}
 use Rattle.hci_store.specs.Committing.{commit_writes}
@@ -219,8 +218,8 @@ module _ (h : ℕ) (host : IsHost h) (before : List Entry) (now : LinkState) whe
 
   -- a command is committed, or the power is cut
   commit_stands : (c : Command) (w : Work) → Runs w → Stands (commit c w)
-  commit_stands c w r = by_test (fails_within (length writes) w.plan)
-      (λ e. subst Stands (sym (lost_is e)) (inr record {
+  commit_stands c w r = by_test (fails_within (length (commit_writes w.core.journal w.core.tables (body_of c))) w.plan)
+      (λ e. rw e (inr record {
         off = refl;
         node = r.node;
         port = r.port;
@@ -230,7 +229,7 @@ module _ (h : ℕ) (host : IsHost h) (before : List Entry) (now : LinkState) whe
         order = read_more (noting (entry.Command w.core.node c ∷ []) w) (entry.Cut w.core.node ∷ []) w.core.command None begun.order
             (cond-true (eqb w.core.node h) None w.core.command (eq-eqb w.core.node h r.node));
       }))
-      (λ e. subst Stands (sym (kept_is e)) (inl record {
+      (λ e. rw e (inl record {
         on = r.on;
         node = r.node;
         port = r.port;
@@ -240,19 +239,8 @@ module _ (h : ℕ) (host : IsHost h) (before : List Entry) (now : LinkState) whe
         short = r.short;
         order = begun.order;
       })) where
-        writes : List Write
-        writes = commit_writes w.core.journal w.core.tables (body_of c)
-
         begun : Runs (noting (entry.Command w.core.node c ∷ []) w)
         begun = noting_runs w (entry.Command w.core.node c ∷ []) refl r
-
-        lost_is : fails_within (length writes) w.plan ≡ true
-            → commit c w ≡ Rattle.node_machine.specs.Carrying.loses_power writes (noting (entry.Command w.core.node c ∷ []) w)
-        lost_is e = rw e refl
-
-        kept_is : fails_within (length writes) w.plan ≡ false
-            → commit c w ≡ Rattle.node_machine.specs.Carrying.keeps c writes (noting (entry.Command w.core.node c ∷ []) w)
-        kept_is e = rw e refl
 
   -- ## Deeds
 

@@ -204,12 +204,9 @@ module _ (hosts : List ℕ) (are : AreHosts hosts) where
   -- what a host notes in a tick tells nothing of another one
   tick_silent : (t : List Entry) (s : Site) (k : ℕ) → IsHost s.host → eqb s.host k ≡ false → SiteReads t s → AreSilent k (host_ticks s).1
   tick_silent t s k host off keeps = by_node s.node refl where
-    off_is : s.node ≡ None → (host_ticks s).1 ≡ []
-    off_is e = rw e refl
-
     by_node : (o : Option Running) → s.node ≡ o → AreSilent k (host_ticks s).1
-    by_node None e = subst (AreSilent k) (sym (off_is e)) tt
-    by_node (Some r) e = subst (AreSilent k) (sym (on_is e)) (silent-append k work.entries (frames_noted Host s.host (exchanged s.link) work)
+    by_node None e = rw e tt
+    by_node (Some r) e = rw e (silent-append k work.entries (frames_noted Host s.host (exchanged s.link) work)
         (steps_away k s.host off Host TimePasses begun
         (host_away s r host (subst (IfHostRuns s.host s.link) e keeps.runs) k off s.link.host [] tt)).so
         (frames_silent k Host s.host (exchanged s.link) work)) where
@@ -218,9 +215,6 @@ module _ (hosts : List ℕ) (are : AreHosts hosts) where
 
           work : Work
           work = steps TimePasses begun
-
-          on_is : s.node ≡ Some r → (host_ticks s).1 ≡ work.entries ++ frames_noted Host s.host (exchanged s.link) work
-          on_is e = rw e refl
 
   all_tick_silent : (t : List Entry) (k : ℕ) (sites : List Site) → AllByRecursion IsHost (hosts_in sites) → AllByRecursion (λ h. eqb h k ≡ false)
       (hosts_in sites)
@@ -251,14 +245,13 @@ module _ (hosts : List ℕ) (are : AreHosts hosts) where
       let there : AllByRecursion (SiteReads (t ++ es)) sites =
       moved t es s.host (λ k off. tick_silent t s k known.0 off all.0) sites different.0 all.1 in
       let rest = sites_tick sites (t ++ es) different.1 known.1 there in
-      let first : SiteReads (t ++ es) (host_ticks s).0 = ticks_read t s known.0 all.0 in
       let silent : AreSilent (host_ticks s).0.host later =
       subst (λ n. AreSilent n later) (sym (tick_host_same s)) (all_tick_silent (t ++ es) s.host sites known.1 different.0 there) in (
         ap₂ (λ x l. x ∷ l) (tick_host_same s) rest.0,
         (
           subst (λ l. SiteReads l (host_ticks s).0) (append_assoc t es later) (others_read (t ++ es) later (host_ticks s).0
               (host_ticks s).0 silent refl refl refl
-              first),
+              (ticks_read t s known.0 all.0)),
           subst (λ l. AllByRecursion (SiteReads l) (hosts_tick sites).0) (append_assoc t es later) rest.1,
         ),
       )
@@ -274,7 +267,6 @@ module _ (hosts : List ℕ) (are : AreHosts hosts) where
       let old : NodeWorld × List Entry = all_aged w in
       let near : NodeWorld × List Entry = controller_ticks old.0 in
       let far : List Site × List Entry = hosts_tick near.0.sites in
-      let one : AllRead hosts (t ++ old.1) old.0 = aged_read t w all in
-      let two : AllRead hosts ((t ++ old.1) ++ near.1) near.0 = near_ticks (t ++ old.1) old.0 one in
+      let two : AllRead hosts ((t ++ old.1) ++ near.1) near.0 = near_ticks (t ++ old.1) old.0 (aged_read t w all) in
       let three : AllRead hosts (((t ++ old.1) ++ near.1) ++ far.1) (record near.0 { sites = far.0 }) = far_ticks ((t ++ old.1) ++ near.1) near.0 two in
       subst (λ l. AllRead hosts l (record near.0 { sites = far.0 })) (append_assoc (t ++ old.1) near.1 far.1 ∙ append_assoc t old.1 (near.1 ++ far.1)) three

@@ -1,5 +1,5 @@
 -- What is read of all hosts as a frame is lost on its way.
-use Rattle.std.proofs.Common.{◌≡◌, ◌+◌, ℕ, Bool, true, false, eqb, List, [], ◌∷◌, ◌++◌, map, sym, refl, ap, ◌∙◌, subst}
+use Rattle.std.proofs.Common.{◌≡◌, ◌+◌, ℕ, Bool, true, false, eqb, List, [], ◌∷◌, ◌++◌, map, sym, refl, ap, ◌∙◌}
 use Rattle.std.specs.Prelude.{Option, Some, None}
 use Rattle.std.specs.List.{AllByRecursion}
 use Rattle.trace_model.specs.declared.entry.Entry.{Entry}
@@ -59,9 +59,6 @@ each_site t es g one (s ∷ sites) all = (one s all.0, each_site t es g one site
 module _ (hosts : List ℕ) (t : List Entry) (w : NodeWorld) (all : AllRead hosts t w) where
   pub lost_read : (e : End) (why : Loss) → AllRead hosts (t ++ (frame_lost w e why).1) (frame_lost w e why).0
   lost_read e why = by_side e.at_host refl where
-    Fine : NodeWorld × List Entry → Type 0
-    Fine p = AllRead hosts (t ++ p.1) p.0
-
     l : Link
     l = link_to w.sites e.link
 
@@ -71,16 +68,6 @@ module _ (hosts : List ℕ) (t : List Entry) (w : NodeWorld) (all : AllRead host
     far : Site → Site
     far s = record s { link = happens s.link (AtHost (Lose why)); node = counts why e.link s.node }
 
-    near_is : e.at_host ≡ false → frame_lost w e why
-        ≡ (
-          record w { controller = counts why e.link w.controller; sites = with_site e.link near w.sites },
-          entries_for e.link (first_lost Controller why l.to_controller),
-        )
-    near_is b = rw b refl
-
-    far_is : e.at_host ≡ true → frame_lost w e why ≡ (record w { sites = with_site e.link far w.sites }, entries_for e.link (first_lost Host why l.to_host))
-    far_is b = rw b refl
-
     site : (es : List Entry) (f : Site → Site) → ((k : ℕ) → AreSilent k es) → ((u : List Entry) (s : Site) → SiteReads u s → SiteReads u (f s))
         → AllByRecursion (SiteReads (t ++ es)) (with_site e.link f w.sites)
     site es f silent one = each_site t es (λ s. changed_if (eqb s.host e.link) f s)
@@ -88,8 +75,8 @@ module _ (hosts : List ℕ) (t : List Entry) (w : NodeWorld) (all : AllRead host
         (λ q. rw q (one (t ++ es) s (others_read t es s s (silent s.host) refl refl refl k)))
         (λ q. rw q ((others_read t es s s (silent s.host) refl refl refl k)))) w.sites all.sites
 
-    by_side : (b : Bool) → e.at_host ≡ b → Fine (frame_lost w e why)
-    by_side false b = subst Fine (sym (near_is b)) (record {
+    by_side : (b : Bool) → e.at_host ≡ b → (AllRead hosts (t ++ (frame_lost w e why).1) (frame_lost w e why).0)
+    by_side false b = rw b (record {
       controller = zero_counts why e.link w.controller all.controller;
       hosts_are = hosts_with e.link near (λ s. refl) w.sites ∙ all.hosts_are;
       sites = site (entries_for e.link (first_lost Controller why l.to_controller)) near
@@ -110,7 +97,7 @@ module _ (hosts : List ℕ) (t : List Entry) (w : NodeWorld) (all : AllRead host
                 }));
           });
     })
-    by_side true b = subst Fine (sym (far_is b)) (record {
+    by_side true b = rw b (record {
       controller = all.controller;
       hosts_are = hosts_with e.link far (λ s. refl) w.sites ∙ all.hosts_are;
       sites = site (entries_for e.link (first_lost Host why l.to_host)) far

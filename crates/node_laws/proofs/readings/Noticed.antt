@@ -242,11 +242,8 @@ module _ (r : Running) (plan : Option Plan) (near_ends : ℕ → NumberedEnd) (e
       go None e = absurd (true≢false (sym is ∙ (late_at x ∙ ap LateOf e)))
       go (Some q) e = ap (λ (s : LinkEnd). s.shdlc.phase) (sym (is_start r.desks x q e).side) ∙ by_test (is_late (with_older (come_tick q)))
           (λ z. late_up x q e z)
-          (λ off. let was : q.late ≡ true = rw off at late_q in
+          (λ off. let was : q.late ≡ true = rw off at (sym (late_at x ∙ ap LateOf e) ∙ is) in
           absurd (true≢false (sym was ∙ (is_start r.desks x q e).late)))
-        where
-          late_q : (reset_late (with_older (come_tick q))).late ≡ true
-          late_q = sym (late_at x ∙ ap LateOf e) ∙ is
 
     pub tick_up : (x : ℕ) (p : Port) (l : Link) (ts : List Turn) → port_at (steps TimePasses begun).ports x ≡ Some p
         → is_some p.desk.notice ≡ true → l.controller.side ≡ (near_ends x).side
@@ -283,7 +280,7 @@ module _ (r : Running) (plan : Option Plan) (near_ends : ℕ → NumberedEnd) (e
       go (Some q) e = record {
         start = q;
         here = e;
-        up = subst Goal (sym late_q) (by_test (is_late (with_older (come_tick q)))
+        up = subst Goal (sym (late_at x ∙ ap LateOf e)) (by_test (is_late (with_older (come_tick q)))
             (λ is. let parts = both _ old.ended is in
             let was : q.side.shdlc.phase ≡ Up = late_up x q e is in
             let now : (after_input q.side Tick).shdlc.phase ≡ Up = stays_up q.side Tick tt was parts.1 in
@@ -297,9 +294,6 @@ module _ (r : Running) (plan : Option Plan) (near_ends : ℕ → NumberedEnd) (e
 
         same : q.side ≡ l.controller.side
         same = (is_start r.desks x q e).side ∙ sym side
-
-        late_q : is_late_at (steps TimePasses begun) x ≡ (reset_late old).late
-        late_q = late_at x ∙ ap LateOf e
 
         up_q : is_up (reset_late old).side.shdlc.phase ≡ true
         up_q = sym (ap (λ o. up_at (option_map reset_late (option_map with_older (option_map come_tick o)))) e) ∙ up

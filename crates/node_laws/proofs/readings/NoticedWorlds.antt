@@ -2,7 +2,6 @@
 use Rattle.std.proofs.Common.{◌≡◌, ◌⊎◌, inl, inr, ℕ, ◌+◌, Bool, true, false, not, cond, eqb, List, [], ◌∷◌, map, min, sym, refl, ap, ◌∙◌, subst, arith}
 use Rattle.std.specs.Prelude.{Option, Some, None, is_some}
 use Rattle.std.specs.List.{AllByRecursion}
-use Rattle.std.specs.Option.{option_map}
 use Rattle.std.proofs.lemmas.Bool.{true≢false, eqb-true, cases_Bool, ne_eqb}
 use Rattle.swp_base.specs.InMemory.{Memory}
 use Rattle.journal_laws.specs.Planned.{after_planned}
@@ -61,8 +60,7 @@ same_sides : (g h : ℕ → NumberedEnd) → ((n : ℕ) → (h n).side ≡ (g n)
     → OnFirst IsNoticedUp (port_at (ports_for h desks) x)
 same_sides g h same [] x a = tt
 same_sides g h same (d ∷ desks) x a = by_test (eqb d.host x)
-    (λ is. let b : IsNoticedUp (port_for (g d.host) d) = rw is at a in
-    let c : IsNoticedUp (port_for (h d.host) d) = λ some. ap (λ (e : LinkEnd). e.shdlc.phase) (same d.host) ∙ b some in
+    (λ is. let c : IsNoticedUp (port_for (h d.host) d) = λ some. ap (λ (e : LinkEnd). e.shdlc.phase) (same d.host) ∙ (rw is at a) some in
     rw is c)
     (λ off. rw off (same_sides g h same desks x (rw off at a)))
 
@@ -116,21 +114,13 @@ runs_up : (sites : List Site) (k : Work)
     → ((x : ℕ) (p : Port) → k.cut ≡ false → port_at k.ports x ≡ Some p → is_some p.desk.notice ≡ true → (link_to sites x).controller.side.shdlc.phase ≡ Up)
     → IfNoticedUp sites (runs_on k)
 runs_up sites k ups = by_test k.cut
-    (λ z. subst (IfNoticedUp sites) (sym (off_is z)) tt)
-    (λ z. subst (IfNoticedUp sites) (sym (on_is z)) (λ x. subst (OnFirst IsNoticedUp) (sym (at_is x)) (by_option (port_at k.ports x)
+    (λ z. rw z tt)
+    (λ z. rw z (λ x. subst (OnFirst IsNoticedUp)
+    (sym (ap (λ l. port_at l x) (desks_map g k.ports) ∙ at_all k.ports x (λ (p : Port). g p.desk) (λ q. refl))) (by_option (port_at k.ports x)
     (λ e. rw e tt)
     (λ p e. rw e (λ some. ap (λ n. (link_to sites n).controller.side.shdlc.phase) (at_host k.ports x p e) ∙ ups x p z e some))))) where
       g : Desk → Port
       g d = port_for (link_to sites d.host).controller d
-
-      on_is : k.cut ≡ false → runs_on k ≡ Some (record { core = k.core; desks = map (λ (p : Port). p.desk) k.ports })
-      on_is z = rw z refl
-
-      off_is : k.cut ≡ true → runs_on k ≡ None
-      off_is z = rw z refl
-
-      at_is : (x : ℕ) → port_at (map g (map (λ (p : Port). p.desk) k.ports)) x ≡ option_map (λ (p : Port). g p.desk) (port_at k.ports x)
-      at_is x = ap (λ l. port_at l x) (desks_map g k.ports) ∙ at_all k.ports x (λ (p : Port). g p.desk) (λ q. refl)
 
 -- a controller has ends only on links with hosts
 record HasSite (sites : List Site) (x : ℕ) : Type 0 where
@@ -143,8 +133,7 @@ site_there near_ends [] sites x q e here = absurd (cc here)
 site_there near_ends (d ∷ desks) [] x q e here = absurd (cc e)
 site_there near_ends (d ∷ desks) (s ∷ sites) x q e here = by_test (eqb s.host x)
     (λ is. record { site = s; there = rw is refl })
-    (λ off. let passed : eqb d.host x ≡ false = ap (λ n. eqb n x) one ∙ off in
-    let found_it : HasSite sites x = site_there near_ends desks sites x q others (rw passed at here) in
+    (λ off. let found_it : HasSite sites x = site_there near_ends desks sites x q others (rw (ap (λ n. eqb n x) one ∙ off) at here) in
     record { site = found_it.site; there = rw off found_it.there }) where
       one : d.host ≡ s.host
       one = cc
@@ -188,7 +177,8 @@ module _ (w : NodeWorld) (r : Running) (runs : w.controller ≡ Some r) (has : H
           ap (λ (l : Link). l.controller.side.shdlc.phase) (link_is (map (link_after_controller h comes k) w.sites) x (link_after_controller h comes k s)
           (site_map (link_after_controller h comes k) (λ y. refl) w.sites x s found_it.there))
           ∙ ap (λ e. (steps_at_controller s.link (comes_to h comes s.host) ts e).controller.side.shdlc.phase) (ending_is k z)
-          ∙ step_phase s.link (eqb s.host h) comes i ts (λ is. ap (λ l. input_of l comes) (sym (link_of is)) ∙ input)
+          ∙ step_phase s.link (eqb s.host h) comes i ts
+          (λ is. ap (λ l. input_of l comes) (sym (ap (link_to w.sites) (sym (eqb-true s.host h is) ∙ number) ∙ link_is w.sites x s found_it.there)) ∙ input)
           ∙ ap (λ n. (cond (eqb n h) (after_input s.link.controller.side i) s.link.controller.side).shdlc.phase) number
           ∙ ap (λ e. (cond (eqb x h) (after_input e i) e).shdlc.phase) (sym side)
           ∙ up_is (cond (eqb x h) (after_input (near_ends x).side i) (near_ends x).side).shdlc.phase came.up
@@ -201,9 +191,6 @@ module _ (w : NodeWorld) (r : Running) (runs : w.controller ≡ Some r) (has : H
 
           number : s.host ≡ x
           number = site_host w.sites x s found_it.there
-
-          link_of : eqb s.host h ≡ true → link_to w.sites h ≡ s.link
-          link_of is = ap (link_to w.sites) (sym (eqb-true s.host h is) ∙ number) ∙ link_is w.sites x s found_it.there
 
           side : (near_ends x).side ≡ s.link.controller.side
           side = near_end_side (link_to w.sites x) (comes_to h comes x) ∙ ap (λ (l : Link). l.controller.side) (link_is w.sites x s found_it.there)
@@ -372,9 +359,6 @@ controller_tick_up w orderly a = go w.controller refl orderly.controller a where
   k : Running → Work
   k r = steps TimePasses (work_of r w.memory.plan (λ h. (link_to w.sites h).controller) [])
 
-  off_is : w.controller ≡ None → (controller_ticks w).0.controller ≡ None
-  off_is e = rw e refl
-
   on_is : (r : Running) → w.controller ≡ Some r → (controller_ticks w).0 ≡ record {
     memory = after_planned (k r).writes w.memory;
     controller = runs_on (k r);
@@ -383,7 +367,7 @@ controller_tick_up w orderly a = go w.controller refl orderly.controller a where
   on_is r e = rw e refl
 
   go : (o : Option Running) → w.controller ≡ o → IfItRuns 0 (hosts_in w.sites) o → IfNoticedUp w.sites o → NoticesAreUp (controller_ticks w).0
-  go None e has b = subst (IfNoticedUp (controller_ticks w).0.sites) (sym (off_is e)) tt
+  go None e has b = rw e tt
   go (Some r) e has b = subst NoticesAreUp (sym (on_is r e)) (near_tick w r e has b)
 
 pub host_tick_side : (s : Site) → (host_ticks s).0.link.controller.side ≡ s.link.controller.side
@@ -458,8 +442,5 @@ late_resets w r h turns ending orderly a runs late =
     has : HasEnds 0 (hosts_in w.sites) r
     has = subst (IfItRuns 0 (hosts_in w.sites)) runs orderly.controller
 
-    noticed : IfNoticedUp w.sites (Some r)
-    noticed = subst (IfNoticedUp w.sites) runs a
-
     up : l.controller.side.shdlc.phase ≡ Up
-    up = was_up r w.memory.plan (λ n. (link_to w.sites n).controller) [] has.number noticed h late
+    up = was_up r w.memory.plan (λ n. (link_to w.sites n).controller) [] has.number (subst (IfNoticedUp w.sites) runs a) h late

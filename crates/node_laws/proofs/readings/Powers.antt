@@ -88,20 +88,14 @@ module _ (hosts : List ℕ) (are : AreHosts hosts) where
 
   pub memory_read : (t : List Entry) (w : NodeWorld) (n : ℕ) (m : Memory) → AllRead hosts t w → AllRead hosts (t ++ []) (with_memory n m w)
   memory_read t w n m all = by_test (eqb n 0)
-      (λ e. subst (AllRead hosts (t ++ [])) (sym (near_is e)) (subst (λ l. AllRead hosts l (record w { memory = m })) (sym (append-nil t))
+      (λ e. rw e (subst (λ l. AllRead hosts l (record w { memory = m })) (sym (append-nil t))
       (record { controller = all.controller; hosts_are = all.hosts_are; sites = all.sites })))
-      (λ e. subst (AllRead hosts (t ++ [])) (sym (far_is e)) (record {
+      (λ e. rw e (record {
         controller = all.controller;
         hosts_are = hosts_with n has (λ s. refl) w.sites ∙ all.hosts_are;
         sites = map_reads t [] g (λ s. change (eqb s.host n) s (λ v. v.host ≡ s.host) refl refl) (λ s. change (eqb s.host n) s (λ v. v.node ≡ s.node) refl refl)
             (λ s. change (eqb s.host n) s (λ v. v.link.host.side ≡ s.link.host.side) refl refl) (λ k host. tt) w.sites (known t w all) all.sites;
       })) where
-        near_is : eqb n 0 ≡ true → with_memory n m w ≡ record w { memory = m }
-        near_is e = rw e refl
-
-        far_is : eqb n 0 ≡ false → with_memory n m w ≡ record w { sites = with_site n (λ (s : Site). record s { memory = m }) w.sites }
-        far_is e = rw e refl
-
         has : Site → Site
         has s = record s { memory = m }
 

@@ -1,9 +1,9 @@
 -- A host with its link over what happens to it: its unanswered command stays the one that is read.
-use Rattle.std.proofs.Common.{◌≡◌, inl, inr, ℕ, ◌&&◌, Bool, true, false, cond, eqb, List, [], ◌∷◌, ◌++◌, map, sym, refl, ap, ◌∙◌, subst, append-nil}
+use Rattle.std.proofs.Common.{◌≡◌, inl, inr, ℕ, ◌&&◌, true, false, cond, eqb, List, [], ◌∷◌, ◌++◌, map, sym, refl, ap, ◌∙◌, subst, append-nil}
 use Rattle.std.proofs.Common.{append_assoc}
 use Rattle.std.specs.Prelude.{Option, Some, None, is_some}
 use Rattle.std.specs.List.{AllByRecursion}
-use Rattle.std.proofs.lemmas.Bool.{eq-eqb, eqb-true, true≢false, cond-true}
+use Rattle.std.proofs.lemmas.Bool.{eq-eqb, eqb-true, true≢false, cond-true, and_parts}
 use Rattle.trace_model.specs.Lines.{IsHost}
 use Rattle.trace_model.specs.declared.entry.Entry.{Entry}
 use Rattle.link_laws.specs.sessions.Sessions.{OnWire}
@@ -194,17 +194,12 @@ comes_reads t s r comes i host reads_so node input =
 
       stands : Stands s.host host t now k
       stands =
-          subst (λ n. Stands s.host host t n k) (came first.port first.its.host (port_side first))
+          subst (λ n. Stands s.host host t n k)
+          (came first.port first.its.host (ap (λ (p : Port). p.side) (sym (only first)) ∙ near_end_side (exchanged s.link) comes))
           (steps_stand s.host host t near_end.side.shdlc.phase (AtEnd s.host i) begun (comes_outside (exchanged s.link) comes i input) first
-          (port_fresh first)) where
+          (subst (λ (p : Port). (p.ended ≡ false) × (p.late ≡ false)) (only first) (refl, refl))) where
             only : (f : Runs s.host host t near_end.side.shdlc.phase begun) → port_for near_end so.desk ≡ f.port
             only f = let both : port_for near_end so.desk ∷ [] ≡ f.port ∷ [] = sym (ap (map (λ (d : Desk). port_for near_end d)) so.desks_are) ∙ f.is in cc
-
-            port_side : (f : Runs s.host host t near_end.side.shdlc.phase begun) → f.port.side ≡ s.link.host.side
-            port_side f = ap (λ (p : Port). p.side) (sym (only f)) ∙ near_end_side (exchanged s.link) comes
-
-            port_fresh : (f : Runs s.host host t near_end.side.shdlc.phase begun) → (f.port.ended ≡ false) × (f.port.late ≡ false)
-            port_fresh f = subst (λ (p : Port). (p.ended ≡ false) × (p.late ≡ false)) (only f) (refl, refl)
 
       phase : k.cut ≡ false → (after_host comes k s).link.host.side.shdlc.phase ≡ now
       phase on =
@@ -250,13 +245,9 @@ acts_reads t s r deeds host reads_so node may =
 -- what a host sends or begins may be done, where its end takes it
 pub sending_may : (h : ℕ) (e : LinkEnd) (m : Message) → give_refusal e m ≡ None → MayDo h (λ order. give_refusal e (1, order) ≡ None) (sending h m)
 sending_may h e m taken = by_test (eqb m.0 1 && is_command_message m.1)
-    (λ z. rw z (let both = parts (eqb m.0 1) (is_command_message m.1) z in
+    (λ z. rw z (let both = and_parts (eqb m.0 1) (is_command_message m.1) z in
     (ap (λ n. give_refusal e (n, m.1)) (sym (eqb-true m.0 1 both.0)) ∙ taken, both.1, tt)))
-    (λ z. rw z (z, tt)) where
-      parts : (a b : Bool) → (a && b) ≡ true → (a ≡ true) × (b ≡ true)
-      parts true true z = (refl, refl)
-      parts true false z = absurd (true≢false (sym z))
-      parts false b z = absurd (true≢false (sym z))
+    (λ z. rw z (z, tt))
 
 pub beginning_may : (h : ℕ) (e : LinkEnd) (identity : List ℕ) (pipes : List (List ℕ)) → give_refusal e (1, 3 ∷ []) ≡ None
     → AreInitsShort (Some (record { identity = identity; pipes = pipes; answered = 0 }))

@@ -143,8 +143,7 @@ module _ (h : ℕ) (host : IsHost h) (before : List Entry) where
   rest_stands : (now : LinkState) (syncs : List Deed) (v : Work) → MayDo h (λ o. ⊥) syncs → Runs h host before now v → Stands h host before now
       (unless_cut (all_done 0 []) (all_done 0 syncs v))
   rest_stands now syncs v may r =
-      let kept : Stands h host before now (all_done 0 syncs v) = all_stand h host before now 0 (λ o. ⊥) syncs v (λ o x. absurd x) may r in
-      then h host before now (all_done 0 []) (all_done 0 syncs v) kept (λ s. inl s)
+      then h host before now (all_done 0 []) (all_done 0 syncs v) (all_stand h host before now 0 (λ o. ⊥) syncs v (λ o x. absurd x) may r) (λ s. inl s)
 
   behind_stands : (now : LinkState) (syncs : List Deed) (w : Work) (p q : Port) (more : List Entry) → MayDo h (λ o. ⊥) syncs
       → Runs h host before now w → HasCome w p q more
@@ -155,15 +154,12 @@ module _ (h : ℕ) (host : IsHost h) (before : List Entry) where
         begun : List Port → Work
         begun ports = record w { core = after_sessions w.core (q ∷ []); ports = ports; entries = w.entries ++ more }
 
-        left : map (forgets (q ∷ [])) (q ∷ []) ≡ q ∷ []
-        left = ap (λ x. x ∷ []) (forgets_same (q ∷ []) q came.quiet)
-
         then_owed : List Deed → List Deed → Work → Work
         then_owed freed owing v = unless_cut (all_done 0 owing) (all_done 0 syncs (all_done 0 freed v))
 
         is : behind syncs (record w { ports = q ∷ []; entries = w.entries ++ more }) ≡ then_owed [] [] (begun (q ∷ []))
         is =
-            ap (λ l. then_owed (forgotten (q ∷ [])) (all_owed l) (begun (map without_notice l))) left
+            ap (λ l. then_owed (forgotten (q ∷ [])) (all_owed l) (begun (map without_notice l))) (ap (λ x. x ∷ []) (forgets_same (q ∷ []) q came.quiet))
             ∙ (ap (λ d. then_owed d (all_owed (q ∷ [])) (begun (map without_notice (q ∷ [])))) (none_forgotten q came.quiet)
             ∙ (ap (λ d. then_owed [] d (begun (map without_notice (q ∷ [])))) (none_owed q came.quiet)
             ∙ ap (λ x. then_owed [] [] (begun (x ∷ []))) (without_same q came.quiet)))
@@ -172,16 +168,13 @@ module _ (h : ℕ) (host : IsHost h) (before : List Entry) where
   pub ready_stand : (now : LinkState) (input : NodeInput) (w : Work) → IsOutside input → (r : Runs h host before now w) → IsFresh r.port
       → Stands h host before (has_come r.port (input_at input r.port)).side.shdlc.phase (comes_to_pass input w)
   ready_stand now input w out r fresh =
-      subst (λ v. Stands h host before q.side.shdlc.phase (comes_to_pass input v)) (sym w_is)
+      subst (λ v. Stands h host before q.side.shdlc.phase (comes_to_pass input v)) (sym (ap (λ ps. record w { ports = ps }) r.is))
       (subst (λ u. Stands h host before q.side.shdlc.phase (behind syncs u)) (sym came_is) (behind_stands now syncs w p q more may r came)) where
         p : Port
         p = r.port
 
         v : Work
         v = record w { ports = p ∷ [] }
-
-        w_is : w ≡ v
-        w_is = ap (λ ps. record w { ports = ps }) r.is
 
         q : Port
         q = has_come p (input_at input p)

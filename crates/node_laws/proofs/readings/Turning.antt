@@ -149,11 +149,9 @@ module _ (h : ℕ) (host : IsHost h) (before : List Entry) (now : LinkState) whe
     same_port : last ≡ p
     same_port = let both : last ∷ [] ≡ p ∷ [] = sym ports_are ∙ is in cc
 
-    room : nat_lt (spare r.port.side) (need order) ≡ false
-    room = sym (ap (λ o. nat_lt (option_map_or (λ (p : Port). spare p.side) o 0) (need order)) (port_is w r)) ∙ has.1
-
     taken : give_refusal r.port.side (1, order) ≡ None
-    taken = takes_it r.port.side order (up_now r.port.side.shdlc.phase up) has.0 room
+    taken = takes_it r.port.side order (up_now r.port.side.shdlc.phase up) has.0
+        (sym (ap (λ o. nat_lt (option_map_or (λ (p : Port). spare p.side) o 0) (need order)) (port_is w r)) ∙ has.1)
 
     changed : (b : Bool) (f : Port → Port) (q : Port) → ((q : Port) → give_refusal (f q).side (1, order) ≡ give_refusal q.side (1, order))
         → give_refusal (changed_if b f q).side (1, order) ≡ give_refusal q.side (1, order)
@@ -314,10 +312,7 @@ module _ (h : ℕ) (host : IsHost h) (before : List Entry) (now : LinkState) whe
 
   pub passes_stand : (w : Work) → Runs_so w → Stands_so (passes w)
   passes_stand w r =
-      subst (λ hosts. Stands_so (goes_through_ends hosts w)) (sym hosts_are)
+      subst (λ hosts. Stands_so (goes_through_ends hosts w)) (sym (ap (map (λ (p : Port). p.desk.host)) r.is ∙ ap (λ k. k ∷ []) r.its.host))
       (then h host before now (goes_through_ends []) (have_turns h messages w) (have_stand messages w r) (λ s. inl s)) where
         messages : List Message
         messages = option_map_or (λ (p : Port). p.side.got) (port_at w.ports h) []
-
-        hosts_are : map (λ (p : Port). p.desk.host) w.ports ≡ h ∷ []
-        hosts_are = ap (map (λ (p : Port). p.desk.host)) r.is ∙ ap (λ k. k ∷ []) r.its.host

@@ -116,12 +116,7 @@ controller_away r number k host plan near_ends es silent = record {
 }
 
 pub runs_zero : (k : Work) → k.core.node ≡ 0 → IfZero (runs_on k)
-runs_zero k e = by_test k.cut (λ z. subst IfZero (sym (off_is z)) tt) (λ z. subst IfZero (sym (on_is z)) e) where
-  on_is : k.cut ≡ false → runs_on k ≡ Some (record { core = k.core; desks = map (λ (p : Port). p.desk) k.ports })
-  on_is z = rw z refl
-
-  off_is : k.cut ≡ true → runs_on k ≡ None
-  off_is z = rw z refl
+runs_zero k e = by_test k.cut (λ z. rw z tt) (λ z. rw z e)
 
 -- a host begins a step away from each other one
 pub host_away : (x : Site) (r : Running) → IsHost x.host → HostRuns x.host x.link r → (k : ℕ) (other : eqb x.host k ≡ false) (near_end : NumberedEnd)
@@ -247,24 +242,13 @@ module _ (hosts : List ℕ) (are : AreHosts hosts) where
     Fine : NodeWorld × List Entry → Type 0
     Fine p = AllRead hosts (t ++ p.1) p.0
 
-    none_is : input_of (seen_from e (link_to w.sites e.link)) comes ≡ None → comes_at w e comes ≡ (w, [])
-    none_is q = rw q refl
-
-    near_is : (i : LinkInput) → input_of (seen_from e (link_to w.sites e.link)) comes ≡ Some i → e.at_host ≡ false
-        → comes_at w e comes ≡ controller_does w e.link comes (steps (AtEnd e.link i))
-    near_is i q b = rw q (rw b refl)
-
-    far_is : (i : LinkInput) → input_of (seen_from e (link_to w.sites e.link)) comes ≡ Some i → e.at_host ≡ true
-        → comes_at w e comes ≡ host_does w e.link comes (steps (AtEnd e.link i))
-    far_is i q b = rw q (rw b refl)
-
     seen : e.at_host ≡ true → seen_from e (link_to w.sites e.link) ≡ exchanged (link_to w.sites e.link)
     seen b = rw b refl
 
     go : (o : Option LinkInput) → input_of (seen_from e (link_to w.sites e.link)) comes ≡ o → (b : Bool) → e.at_host ≡ b → Fine (comes_at w e comes)
-    go None q b z = subst Fine (sym (none_is q)) (nothing t w all)
-    go (Some i) q false z = subst Fine (sym (near_is i q z)) (near_comes t w e.link comes i all)
-    go (Some i) q true z = subst Fine (sym (far_is i q z)) (far_comes t w e.link comes i all (ap (λ l. input_of l comes) (sym (seen z)) ∙ q))
+    go None q b z = rw q (nothing t w all)
+    go (Some i) q false z = subst Fine (sym (rw q (rw z refl))) (near_comes t w e.link comes i all)
+    go (Some i) q true z = subst Fine (sym (rw q (rw z refl))) (far_comes t w e.link comes i all (ap (λ l. input_of l comes) (sym (seen z)) ∙ q))
 
   pub activates_read : (t : List Entry) (w : NodeWorld) (h sync power : ℕ) → AllRead hosts t w
       → AllRead hosts (t ++ (activates w h sync power).1) (activates w h sync power).0

@@ -76,8 +76,7 @@ module _ (ports : List Port) (sessions : ℕ → Option ℕ) (h : ℕ) where
       record { entries = (refl, later.entries); few = later.few }
   reply_entries count None command init (Asks to message c ∷ deeds) over may = absurd may.0
   reply_entries count (Some s) command init (Asks to message c ∷ deeds) over may =
-      let es : List Entry = entries_of_reply 0 sessions h count deeds in
-      let later = with_sent to (1, message) es 0 (reply_entries count None command init deeds over.1 may.1) in
+      let later = with_sent to (1, message) (entries_of_reply 0 sessions h count deeds) 0 (reply_entries count None command init deeds over.1 may.1) in
       let none = later.few in record { entries = (tt, later.entries); few = omega (arith, none) }
   reply_entries count journal command init (Tells to message ∷ deeds) over may =
       with_sent to (1, message) (entries_of_reply 0 sessions h count deeds) (most_of journal) (reply_entries count journal command init deeds over.1 may)
@@ -207,8 +206,7 @@ answers_so true noted reply later rest is all trails power none =
     ∙ (append_assoc front (entry.Command 0 c ∷ entry.Cut 0 ∷ []) rest ∙ sym (append_assoc front (entry.Command 0 c ∷ []) (entry.Cut 0 ∷ rest)))) in
     let parts = reply_until (front ++ (entry.Command 0 c ∷ [])) first (entry.Cut 0 ∷ rest) in
     let cut = first_until (entry.Cut 0) rest refl in
-    let none_behind : answers_until (entry.Cut 0 ∷ rest) ≡ [] = cut.0 ∙ (silent_rest rest none).0 in
     ap answers_until es
-    ∙ ((parts.0 ∙ (ap (λ l. (front ++ (entry.Command 0 c ∷ [])) ++ l) none_behind ∙ append-nil (front ++ (entry.Command 0 c ∷ []))))
+    ∙ ((parts.0 ∙ (ap (λ l. (front ++ (entry.Command 0 c ∷ [])) ++ l) (cut.0 ∙ (silent_rest rest none).0) ∙ append-nil (front ++ (entry.Command 0 c ∷ []))))
     ∙ sym (ap (λ b. cond b (to_command reply) reply) (ap cut_until es ∙ (parts.1 ∙ cut.1))
     ∙ (ap to_command is.3 ∙ first_command front is.2 c (subst (λ l. commands_told l ≤ 1) is.3 all.few))))

@@ -175,8 +175,7 @@ read_of t m = awaited_in (about_read t (Some m))
 waits_read : (t : List Entry) (m : List ℕ) (row : PipeRow) → m ≡ 18 ∷ ends_of row → row.opened ≡ false → asking_in t row.creator ≡ Some m
     → read_of t m ≡ Some (Some (record { asker = row.creator; command = Create row; answer = answer_of response.Ok (ends_of row) }))
 waits_read t m row is off asked =
-    let there : asking_in t row.creator ≡ Some (18 ∷ ends_of row) = asked ∙ ap (λ z. Some z) is in
-    rw (is, there, message_same (18 ∷ ends_of row))
+    rw (is, asked ∙ ap (λ z. Some z) is, message_same (18 ∷ ends_of row))
     (ap (λ o. Some (Some (record { asker = row.creator; command = Create (record row { opened = o }); answer = answer_of response.Ok (ends_of row) })))
     (sym off))
 

@@ -71,8 +71,7 @@ port_there [] [] k later is = absurd (cc is)
 port_there [] (h ∷ earlier) k later is = absurd (cc is)
 port_there (p ∷ ports) [] k later is =
     let one : p.desk.host ≡ k = cc in
-    let found : eqb p.desk.host k ≡ true = ap (λ n. eqb n k) one ∙ same_number k in
-    (p, rw found refl)
+    (p, rw (ap (λ n. eqb n k) one ∙ same_number k) refl)
 port_there (p ∷ ports) (h ∷ earlier) k later is = by_test (eqb p.desk.host k)
     (λ q. (p, rw q refl))
     (λ q. ((port_there ports earlier k later rest).0, rw q (port_there ports earlier k later rest).1)) where
@@ -116,8 +115,7 @@ module _ (hosts : List ℕ) (are : AreHosts hosts) (t : List Entry) (w : Work) (
       → AllByRecursion (λ x. is_later (end_c k) x ≡ false) (cond held [] (entry.Held (end_of_node v.core k) short.0 short.1 ∷ []))
   own_late v s k true short = tt
   own_late v s k false short =
-      let at : end_of_node v.core k ≡ end_c k = own_end_is v.core k s.step.runs.keeps.node in
-      (ap (λ f. is_later (end_c k) (entry.Held f short.0 short.1)) at ∙ none_later k, tt)
+      (ap (λ f. is_later (end_c k) (entry.Held f short.0 short.1)) (own_end_is v.core k s.step.runs.keeps.node) ∙ none_later k, tt)
 
   own_left : (s : List Entry) (e f : End) (held : Bool) (short : ℕ × ℕ)
       → unhandled_in (s ++ cond held [] (entry.Held f short.0 short.1 ∷ [])) e ≡ unhandled_in s e

@@ -54,8 +54,7 @@ module _ (hosts : List ℕ) (are : AreHosts hosts) (t : List Entry) (begun : Wor
       let host : IsHost h = found_end IsHost v.ports h first.port first.here (subst (AllByRecursion IsHost) (sym s.step.runs.keeps.hosts_are) are.all) in
       let noted : List Entry = noted_by_deeds h deeds (takes_up h m v) in
       let reply : List Entry = entries_of_reply 0 (session_of_port v.ports) h (count_of v.core.journal) deeds in
-      let so : IsReplyNoted u.cut 0 noted reply = noted_so_far hosts are t v k h host m on room in
-      let is : IsReplyNoted false 0 noted reply = subst (λ b. IsReplyNoted b 0 noted reply) still so in
+      let is : IsReplyNoted false 0 noted reply = subst (λ b. IsReplyNoted b 0 noted reply) still (noted_so_far hosts are t v k h host m on room) in
       let entries : u.entries ≡ v.entries ++ (entry.Turn (end_c h) m.0 m.1 ∷ reply) =
       handles_entries h m deeds v
       ∙ (ap (λ f. v.entries ++ (entry.Turn f m.0 m.1 ∷ noted)) (own_end_is v.core h s.step.runs.keeps.node)
@@ -74,8 +73,7 @@ module _ (hosts : List ℕ) (are : AreHosts hosts) (t : List Entry) (begun : Wor
   held_stays v h m messages short s on waiting lacks =
       let u : Work = holds_back h short v in
       let step : ReadsInStep hosts t u = holds_reads hosts are t h short v s.step in
-      let es : List Entry = cond (is_held_at v.ports h) [] (entry.Held (end_c h) short.0 short.1 ∷ []) in
-      let entries : u.entries ≡ v.entries ++ es =
+      let entries : u.entries ≡ v.entries ++ (cond (is_held_at v.ports h) [] (entry.Held (end_c h) short.0 short.1 ∷ [])) =
       (holds_notes h short v).entries
       ∙ ap (λ f. v.entries ++ cond (is_held_at v.ports h) [] (entry.Held f short.0 short.1 ∷ [])) (own_end_is v.core h s.step.runs.keeps.node) in
       record {
@@ -87,14 +85,12 @@ module _ (hosts : List ℕ) (are : AreHosts hosts) (t : List Entry) (begun : Wor
 
   left_stays : (v : Work) (h : ℕ) → Stays v → v.cut ≡ false → waiting_at v.ports h ≡ [] → Stays (lets_go h v)
   left_stays v h s on waiting =
-      let u : Work = lets_go h v in
-      let step : ReadsInStep hosts t u = lets_reads hosts are t h v s.step in
-      let entries : u.entries ≡ v.entries ++ [] = (lets_notes h v).entries in
+      let step : ReadsInStep hosts t (lets_go h v) = lets_reads hosts are t h v s.step in
       record {
         comes = LetsGo v h s.comes on waiting;
         step = step;
         carried = lets_last t Controller h v s.carried;
-        messages = messages_left t v s.messages h (step.runs.keeps.hosts_are ∙ sym s.step.runs.keeps.hosts_are) entries;
+        messages = messages_left t v s.messages h (step.runs.keeps.hosts_are ∙ sym s.step.runs.keeps.hosts_are) ((lets_notes h v).entries);
       }
 
   pub all_stays : LastsOverTurns Stays

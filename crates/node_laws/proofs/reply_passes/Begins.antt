@@ -89,12 +89,10 @@ pub history_waits : (header : Header) (lines : List Line) (t : NodeHistory) → 
     → (front back : List Occurrence) → occurrences_in t ≡ front ++ back → WaitsRead (entries_in front) (world_behind (new_world header.hosts.items) front)
 history_waits header lines t follows are front back parts =
     let hosts : List ℕ = header.hosts.items in
-    let events : List Occurrence = events_of_steps (steps_from (new_world hosts) lines) in
-    let all : AllHold WaitsRead MayBoot AnyLine reads_last boots_may [] (new_world hosts) events =
+    let all : AllHold WaitsRead MayBoot AnyLine reads_last boots_may [] (new_world hosts) (events_of_steps (steps_from (new_world hosts) lines)) =
     lines_hold WaitsRead MayBoot AnyLine reads_last boots_may lines [] (new_world hosts) (new_reads hosts are) (all_lines lines) in
-    let same : events ≡ front ++ back = sym (ap events_of_steps follows.steps_are) ∙ parts in
     front_holds WaitsRead MayBoot AnyLine reads_last boots_may front back [] (new_world hosts)
-    (subst (AllHold WaitsRead MayBoot AnyLine reads_last boots_may [] (new_world hosts)) same all)
+    (subst (AllHold WaitsRead MayBoot AnyLine reads_last boots_may [] (new_world hosts)) (sym (ap events_of_steps follows.steps_are) ∙ parts) all)
 
 -- ## The controller
 

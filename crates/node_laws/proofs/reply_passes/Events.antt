@@ -93,17 +93,13 @@ pub lines_long : (header : Header) (lines : List Line) (w : NodeWorld) → IsFin
 lines_long header [] w fine are play = omega arith
 lines_long header (l ∷ lines) w fine are play =
     let v : NodeWorld = (line_step w l).0 in
-    let here : List Occurrence = occurrences_of (line_step w l).1 in
-    let first = line_long header w l (fine_few w.sites fine.sites) are.0 in
     let rest = lines_long header lines v (lines_fine (l ∷ []) w (play.0, tt) fine) are.1 play.1 in
-    let both = length-append here (events_of_steps (steps_from v lines)) in
-    omega (arith, first, rest, both)
+    let both = length-append (occurrences_of (line_step w l).1) (events_of_steps (steps_from v lines)) in
+    omega (arith, line_long header w l (fine_few w.sites fine.sites) are.0, rest, both)
 
 -- behind any first events of a history
 pub front_long : (header : Header) (lines : List Line) (t : NodeHistory) → FollowsNodes header lines t → AreNodeLinesOf header lines → ArePlayable lines
     → (front back : List Occurrence) → occurrences_in t ≡ front ++ back → length front ≤ 100 * length lines
 front_long header lines t follows are play front back parts =
     let all = lines_long header lines (new_world header.hosts.items) (world_fine header.hosts.items [] tt) are play in
-    let is = ap length (ap events_of_steps (sym follows.steps_are) ∙ parts) in
-    let both = length-append front back in
-    omega (arith, all, is, both)
+    omega (arith, all, ap length (ap events_of_steps (sym follows.steps_are) ∙ parts), length-append front back)

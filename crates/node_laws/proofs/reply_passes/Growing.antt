@@ -5,7 +5,6 @@ use Rattle.std.specs.List.{AllByRecursion, list_any}
 use Rattle.trace_model.specs.declared.entry.Entry.{Entry}
 use Rattle.trace_model.specs.declared.entry.Entry.TheVariants as entry
 use Rattle.journal_laws.specs.declared.state.State.{State}
-use Rattle.journal_laws.specs.Writes.{Write}
 use Rattle.journal_laws.specs.Journal.{count_of}
 use Rattle.journal_laws.specs.Planned.{fails_within}
 use Rattle.hci_tables.specs.declared.command.Command.{Command}
@@ -49,13 +48,9 @@ module _ (t : List Entry) where
 
   more : (w v : Work) (es : List Entry) → v.core.journal ≡ w.core.journal → v.cut ≡ w.cut → v.entries ≡ w.entries ++ es → Grows w → Grows v
   more w v es journal cut entries a =
-      let g = ap (λ (s : State). s.generation) journal in
-      let c = ap spent cut in
-      let e = ap (λ l. commits (t ++ l)) entries in
       let one = commits-append t (w.entries ++ es) in
-      let two = commits-append w.entries es in
       let three = commits-append t w.entries in
-      omega (arith, g, c, e, one, two, three, a)
+      omega (arith, ap (λ (s : State). s.generation) journal, ap spent cut, ap (λ l. commits (t ++ l)) entries, one, commits-append w.entries es, three, a)
 
   turns_grow : (h : ℕ) (x : Turn) (w : Work) → Grows w → Grows (turn_at h x w)
   turns_grow h x w a = more w (turn_at h x w) _ refl refl refl a
@@ -64,20 +59,16 @@ module _ (t : List Entry) where
   tells_grow h about message w a = turns_grow h (Give (1, message)) w a
 
   commits_grow : (c : Command) (w : Work) → Grows w → Grows (commit c w)
-  commits_grow c w a = by_test (fails_within (length writes) w.plan)
+  commits_grow c w a = by_test (fails_within (length (commit_writes w.core.journal w.core.tables (body_of c))) w.plan)
       (λ q. rw q (
       let one = commits-append t ((w.entries ++ entry.Command w.core.node c ∷ []) ++ entry.Cut w.core.node ∷ []) in
       let two = commits-append (w.entries ++ entry.Command w.core.node c ∷ []) (entry.Cut w.core.node ∷ []) in
       let four = commits-append w.entries (entry.Command w.core.node c ∷ []) in
       omega (arith, a, one, two, three, four)))
       (λ q. rw q (
-      let one = commits-append t (w.entries ++ entry.Command w.core.node c ∷ []) in
       let four = commits-append w.entries (entry.Command w.core.node c ∷ []) in
       let grown = commit_grows w.core.journal w.core.tables (body_of c) in
-      omega (arith, a, one, three, four, grown))) where
-        writes : List Write
-        writes = commit_writes w.core.journal w.core.tables (body_of c)
-
+      omega (arith, a, commits-append t (w.entries ++ entry.Command w.core.node c ∷ []), three, four, grown))) where
         three : commits (t ++ w.entries) ≡ commits t + commits w.entries
         three = commits-append t w.entries
 

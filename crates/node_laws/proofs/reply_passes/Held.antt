@@ -181,9 +181,6 @@ module _ (t : List Entry) (w : NodeWorld) (before : HoldsRead t w) where
     c : Work
     c = steps input begun
 
-    side : own_side r.core ≡ Controller
-    side = ap (λ m. cond (eqb m 0) Controller Host) number
-
     by : (b : Bool) → c.cut ≡ b → ThenRead t (v, c.entries ++ frames)
     by true lost = off v (c.entries ++ frames) (node ∙ off_is) where
       off_is : runs_on c ≡ None
@@ -197,7 +194,8 @@ module _ (t : List Entry) (w : NodeWorld) (before : HoldsRead t w) where
           let same : Some x ≡ Some (record { core = c.core; desks = map (λ (p : Port). p.desk) c.ports }) = sym q ∙ (node ∙ on_is) in
           let is : x ≡ record { core = c.core; desks = map (λ (p : Port). p.desk) c.ports } = cc in
           let read : holds_in (t ++ c.entries) (end_c k) ≡ is_held_at c.ports k =
-          ended_read 0 Controller t input begun number side none un still (λ j. before r runs j ∙ sym (ports_held near_ends r.desks j)) k in
+          ended_read 0 Controller t input begun number (ap (λ m. cond (eqb m 0) Controller Host) number) none un still
+          (λ j. before r runs j ∙ sym (ports_held near_ends r.desks j)) k in
           ap (λ l. holds_in l (end_c k)) (sym (append_assoc t c.entries frames))
           ∙ (leaves (t ++ c.entries) k ∙ (read ∙ (sym (desks_held c.ports k) ∙ ap (λ (y : Running). is_held_among y.desks k) (sym is))))
 
@@ -334,9 +332,8 @@ ticks_read t w before orderly =
     let old : NodeWorld × List Entry = all_aged w in
     let near : NodeWorld × List Entry = controller_ticks old.0 in
     let far : List Site × List Entry = hosts_tick near.0.sites in
-    let first : HoldsRead (t ++ old.1) old.0 = stays t w before old.0 old.1 refl (aged_leave w) in
     let second : HoldsRead ((t ++ old.1) ++ near.1) near.0 =
-    near_tick_read (t ++ old.1) old.0 first (λ r q. number_of t w before orderly r q) in
+    near_tick_read (t ++ old.1) old.0 (stays t w before old.0 old.1 refl (aged_leave w)) (λ r q. number_of t w before orderly r q) in
     let fine : AreFine near.0.sites = near_tick_fine old.0 (map_fine (λ (s : Site). record s { link = aged s.link }) (λ s. refl) (λ s. refl) w.sites
     (orderly_fine w orderly)) in
     let third : HoldsRead (((t ++ old.1) ++ near.1) ++ far.1) (record near.0 { sites = far.0 }) =

@@ -158,17 +158,14 @@ module _ (n : ℕ) (who : Side) (t : List Entry) (input : NodeInput) (w : Work) 
       (λ off. absurd (true≢false (sym off ∙ (sym (ap (λ (v : Work). v.cut) (off_is off)) ∙ still))))
       (λ on. let v : Work = passes begun in
       let p : ArePassed (ComesTo begun) (hosts_of_ends begun.ports) begun v = walk on in
-      let on_still : v.cut ≡ false = sym (ap (λ (v : Work). v.cut) (on_is on)) ∙ still in
-      let a : IsWaitingRead k begun v = waiting_read k begun v (p.keeps on_still) in
+      let a : IsWaitingRead k begun v = waiting_read k begun v (p.keeps (sym (ap (λ (v : Work). v.cut) (on_is on)) ∙ still)) in
       let same : a.more ≡ p.more = append_cancel_left begun.entries a.more p.more (sym a.entries ∙ p.entries) in
       let now : List Entry = t ++ begun.entries in
-      let shape : t ++ v.entries ≡ now ++ p.more = ap (λ l. t ++ l) p.entries ∙ sym (append_assoc t begun.entries p.more) in
       let told : holds_in (now ++ p.more) (at_end k) ≡ (waits_behind k (waiting_at begun.ports k, holds_in now (at_end k)) p.more).1 =
       told_all k (is_host_side who) now p.more (waiting_at begun.ports k) (more_sided on) in
-      let was : holds_in now (at_end k) ≡ is_held_at begun.ports k = begun_read_at k read in
       ap (λ (u : Work). holds_in (t ++ u.entries) (at_end k)) (on_is on)
-      ∙ (ap (λ l. holds_in l (at_end k)) shape
-      ∙ (told ∙ (ap (λ b. (waits_behind k (waiting_at begun.ports k, b) p.more).1) was
+      ∙ (ap (λ l. holds_in l (at_end k)) (ap (λ l. t ++ l) p.entries ∙ sym (append_assoc t begun.entries p.more))
+      ∙ (told ∙ (ap (λ b. (waits_behind k (waiting_at begun.ports k, b) p.more).1) (begun_read_at k read)
       ∙ (ap (λ l. (waits_behind k (waiting_at begun.ports k, is_held_at begun.ports k) l).1) (sym same)
       ∙ (sym a.held ∙ ap (λ (u : Work). is_held_at u.ports k) (sym (on_is on))))))))
 

@@ -1,13 +1,13 @@
 -- The generation that a memory says grows by one at most where a commit is written to it, whole or cut.
 use Rattle.std.proofs.Common.{◌≡◌, ◌⊎◌, inl, inr, ℕ, ◌+◌, ◌≤◌, ◌<◌, Bool, true, false, cond, List, [], length, slice_index, sym, refl, ap, ◌∙◌, arith}
-use Rattle.std.specs.Prelude.{◌≢◌, IsSome}
-use Rattle.std.proofs.lemmas.Bool.{cases_Bool, cases_eq, true≢false}
+use Rattle.std.specs.Prelude.{◌≢◌}
+use Rattle.std.proofs.lemmas.Bool.{cases_Bool, cases_eq}
 use Rattle.swp_base.specs.InMemory.{Memory}
 use Rattle.journal_laws.specs.declared.state.State.{State}
-use Rattle.journal_laws.specs.Banks.{bank_place, is_opened_gate, other}
+use Rattle.journal_laws.specs.Banks.{is_opened_gate}
 use Rattle.journal_laws.specs.Writes.{Write, after_writes}
-use Rattle.journal_laws.specs.Journal.{Journal, count_of, journal, state_of}
-use Rattle.journal_laws.specs.Operations.{append_writes, close_bank, compact_writes, open_bank}
+use Rattle.journal_laws.specs.Journal.{Journal, journal, state_of}
+use Rattle.journal_laws.specs.Operations.{append_writes, compact_writes}
 use Rattle.journal_laws.specs.Planned.{fails_within, after_planned}
 use Rattle.nv_journal.proofs.Compacting as compacting
 use Rattle.hci_tables.specs.declared.command.Command.{Command}
@@ -17,19 +17,14 @@ use Rattle.hci_tables.specs.Tables.{HciTables, AreTables, apply}
 use Rattle.hci_store.specs.Recordable.{IsRecordable}
 use Rattle.hci_store.specs.Committing.{record_fits, snapshot_bodies, room_writes, with_room, commit_writes, committed}
 use Rattle.node_laws.specs.kept.Finds.{Knows, FindsRoom}
-use Rattle.node_laws.proofs.Cases.{by_option, by_test}
+use Rattle.node_laws.proofs.Cases.{by_test}
 use Rattle.node_laws.proofs.kept.Commits.{says_of, can, room_knows, next_of}
 use Rattle.node_laws.specs.kept.Gates.{opens_gate}
 use Rattle.node_laws.proofs.cuts.Filled.{IsFilled}
-use Rattle.node_laws.proofs.cuts.Gates.{EndsInGate, ends_append, gate_opened, gate_closed}
+use Rattle.node_laws.proofs.cuts.Gates.{gate_opened, gate_closed}
 use Rattle.node_laws.proofs.cuts.Commits.{Torn, torn, many, parts, commit_opened, record_same}
 use Rattle.node_laws.proofs.reply_passes.Growing.{commit_grows}
-
-snapshot_ends : (s : State) (bodies : List (List ℕ)) → IsSome s.in_use → EndsInGate (compact_writes s bodies)
-snapshot_ends s bodies used = by_option s.in_use
-    (λ q. rw q (absurd (true≢false (sym (rw q at used)))))
-    (λ side q. rw q (ends_append (close_bank s.beside (bank_place (other side)))
-    (open_bank (bank_place (other side)) (s.generation + 1) (count_of s) bodies) refl))
+use Rattle.node_laws.proofs.cuts.Banks.{snapshot_ends}
 
 -- the generation of the bank in use
 abbrev pub generation_in : List ℕ → ℕ
@@ -59,9 +54,7 @@ module _ (content : List ℕ) (s : State) (t : HciTables) (c : Command) (k : Kno
     whole is =
         let b = known_generation (after_writes (room_writes s t (body_of c)) content) (with_room s t (body_of c)) t
         (room_knows content s t c k are may command room (record_fits s (body_of c)) refl).0 in
-        let a = ap generation_in is in
-        let grown = room_grows s t (body_of c) in
-        omega (arith, a, b, grown)
+        omega (arith, ap generation_in is, b, room_grows s t (body_of c))
 
     by_fit : (b : Bool) → record_fits s (body_of c) ≡ b → IsFilled i fill (by_room b) content new
         → (is_opened_gate (slice_index fill 0) ≡ true) ⊎ (is_opened_gate (slice_index fill 0) ≡ false) → generation_in new ≤ s.generation + 1
@@ -107,8 +100,7 @@ module _ (m : Memory) (s : State) (t : HciTables) (c : Command) (k : Knows m.con
         (λ opens. let o = cut.opened (length (commit_writes s t (body_of c))) opens in
         let b = known_generation left (committed s t (body_of c)) (apply t c)
         (commit_opened m.content s t c k are may command room cut.i cut.fill left cut.filled o.0 o.1) in
-        let grown = commit_grows s t (body_of c) in
-        omega (arith, b, grown))
+        omega (arith, b, commit_grows s t (body_of c)))
         (λ opens. let r = room_knows m.content s t c k are may command room (record_fits s (body_of c)) refl in
         let a = same_generation (after_writes first m.content) left
         (record_same (after_writes first m.content) (with_room s t (body_of c)) t r.0 c command r.1 back.0 cut.fill left back.2
@@ -118,6 +110,4 @@ module _ (m : Memory) (s : State) (t : HciTables) (c : Command) (k : Knows m.con
           back.1,
           many m.content s t c k are may command room cut.i cut.fill left cut.filled,
         )))) in
-        let b = known_generation (after_writes first m.content) (with_room s t (body_of c)) t r.0 in
-        let grown = room_grows s t (body_of c) in
-        omega (arith, a, b, grown))
+        omega (arith, a, known_generation (after_writes first m.content) (with_room s t (body_of c)) t r.0, room_grows s t (body_of c)))

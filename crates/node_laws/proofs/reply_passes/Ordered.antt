@@ -154,8 +154,7 @@ module _ (t : List Entry) (who : Side) (k : ℕ) (z : List Message) where
         by : (b : Bool) → eqb h k ≡ b → waiting_at (holds_back h short v).ports k ≡ waiting_at v.ports k
         by false off = (other_holds k (waiting_at v.ports k) (is_held_at v.ports k) h short v off (refl, refl)).0
         by true on =
-            let is : h ≡ k = eqb-true h k on in
-            subst (λ n. waiting_at (holds_back h short v).ports n ≡ waiting_at v.ports n) is (held_own h short v m messages waiting).0
+            subst (λ n. waiting_at (holds_back h short v).ports n ≡ waiting_at v.ports n) (eqb-true h k on) (held_own h short v m messages waiting).0
 
   pub runs_comes : (w v : Work) → own_side w.core ≡ who → Runs w → ComesTo w v → Runs v
   runs_comes w v side a c = (comes_so (λ u. (own_side u.core ≡ who) × Runs u) (record {
@@ -208,9 +207,8 @@ module _ (t : List Entry) (who : Side) (f : End) (off : has_side who f ≡ false
     handled_apart : (u : Work) (h : ℕ) (m : Message) → own_side u.core ≡ who → Apart u → Apart (handles h m (deeds_of u.core u.ports h m) u)
     handled_apart u h m own b =
         let deeds : List Deed = deeds_of u.core u.ports h m in
-        let other : same_end (end_of h who) f ≡ false = off_end h in
         let quiet : doing f (entry.Turn (end_of_node u.core h) m.0 m.1) ≡ Nothing =
-        ap (λ s. doing f (entry.Turn (end_of h s) m.0 m.1)) own ∙ rw other refl in
+        ap (λ s. doing f (entry.Turn (end_of h s) m.0 m.1)) own ∙ rw (off_end h) refl in
         apart_more u (handles h m deeds u) (entry.Turn (end_of_node u.core h) m.0 m.1 ∷ noted_by_deeds h deeds (takes_up h m u))
         (handles_entries h m deeds u) (quiet, deeds_still f h deeds (takes_up h m u) (deeds_mute u.core u.ports h m)) b
 

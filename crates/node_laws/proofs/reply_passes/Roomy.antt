@@ -39,7 +39,7 @@ use Rattle.node_machine.specs.world.World.{loses_power_at}
 use Rattle.node_machine.specs.world.World.{memory_at, near_end_in, new_world, sending, beginning, wires_for, work_of, world_step, world_ticks}
 use Rattle.node_machine.specs.world.World.Happening.{Boots, IsCut, Gives, Inits, Takes, Loses, Ticks, Resets, Activates, Arms}
 use Rattle.node_machine.specs.world.Lines.{Occurrence}
-use Rattle.node_machine.specs.world.NodeHistories.{FollowsNodes, NodeHistory, entries_in, node_entries, occurrences_in, steps_from}
+use Rattle.node_machine.specs.world.NodeHistories.{FollowsNodes, NodeHistory, entries_in, node_entries, occurrences_in}
 use Rattle.node_machine.proofs.world.Cases.{by_boot, by_coming, by_controller, by_controller_tick, by_host, by_loss, by_memory, by_power, by_running}
 use Rattle.node_machine.proofs.world.Cases.{boot_found}
 use Rattle.node_machine.proofs.world.Cases.{boot_written, near_tick, after_near_tick}
@@ -70,9 +70,7 @@ module _ (n : ℕ) (node : IsNodeNumber n) (hosts : List ℕ) (are : AreHosts ho
 
   pub node_begins_grown : Grows t node_begun
   node_begins_grown =
-      let k = known_generation m.content r.core.journal r.core.tables runs.knows in
-      let more = commits-append t es in
-      omega (arith, k, more, few)
+      omega (arith, known_generation m.content r.core.journal r.core.tables runs.knows, commits-append t es, few)
 
   still : StillRuns n hosts m t node_begun
   still = runs_begun n hosts t m r near_ends es plain runs
@@ -89,8 +87,7 @@ module _ (n : ℕ) (node : IsNodeNumber n) (hosts : List ℕ) (are : AreHosts ho
 
     by : GoesOn_or_lost n hosts m t k → generation_in (after_planned k.writes m).content ≤ 1 + commits (t ++ k.entries)
     by (inl (on, order)) =
-        let is : after_planned k.writes m ≡ on.memory = ap (λ l. after_planned l m) (sym (append-nil k.writes)) ∙ on.written [] in
-        let a = ap (λ (x : Memory). generation_in x.content) is in
+        let a = ap (λ (x : Memory). generation_in x.content) (ap (λ l. after_planned l m) (sym (append-nil k.writes)) ∙ on.written []) in
         let b = known_generation on.memory.content k.core.journal k.core.tables on.knows in
         omega (arith, a, b, grown)
     by (inr lost) =
@@ -98,14 +95,9 @@ module _ (n : ℕ) (node : IsNodeNumber n) (hosts : List ℕ) (are : AreHosts ho
         let ran : StillRuns n lost.lost.hosts m t u = lost.lost.ran in
         let writes : List Write = commit_writes u.core.journal u.core.tables (body_of lost.command) in
         let fails : fails_within (length writes) ran.memory.plan ≡ true = ap (fails_within (length writes)) (sym ran.plan_is) ∙ lost.lost.fails in
-        let made : k.writes ≡ u.writes ++ writes = ap (λ (x : Work). x.writes) lost.lost.is in
-        let core : k.core ≡ u.core = ap (λ (x : Work). x.core) lost.lost.is in
-        let is : after_planned k.writes m ≡ after_planned writes ran.memory = ap (λ l. after_planned l m) made ∙ ran.written writes in
-        let a = ap (λ (x : Memory). generation_in x.content) is in
+        let a = ap (λ (x : Memory). generation_in x.content) (ap (λ l. after_planned l m) (ap (λ (x : Work). x.writes) lost.lost.is) ∙ ran.written writes) in
         let b = cut_grows ran.memory u.core.journal u.core.tables lost.command ran.knows ran.sorted ran.recordable lost.lost.may lost.lost.room fails in
-        let c = ap (λ (x : Core). x.journal.generation) core in
-        let d = ap spent lost.off in
-        omega (arith, a, b, c, d, grown)
+        omega (arith, a, b, ap (λ (x : Core). x.journal.generation) (ap (λ (x : Work). x.core) lost.lost.is), ap spent lost.off, grown)
 
 -- ## A step of the controller
 
@@ -150,11 +142,9 @@ boot_grown m most size few = by_bank (current m.content) refl where
     by_plan (inl fails) =
         let cut = planned_cut format_writes m fails in
         let left : List ℕ = (after_planned format_writes m).content in
-        let said = (format_is_cut m.content unused).says cut.0 left cut.1 in
-        let a = ap (λ l. generation_in (after_planned l m).content) formats in
-        let b = ap (λ (j : Journal). j.head.generation) said in
+        let b = ap (λ (j : Journal). j.head.generation) ((format_is_cut m.content unused).says cut.0 left cut.1) in
         let either = by_gate (eqb (cut.0 + 1) (length format_writes) && is_opened_gate (slice_index left (last_place format_writes))) in
-        omega (arith, a, b, either)
+        omega (arith, ap (λ l. generation_in (after_planned l m).content) formats, b, either)
       where
         by_gate : (b : Bool) → (journal (cond b (after_writes format_writes m.content) m.content)).head.generation ≤ 1 + most
         by_gate true = whole
@@ -315,10 +305,8 @@ pub history_lasts : (P : List Entry → NodeWorld → Type 0) (header : Header) 
     → P (entries_in front) (world_behind (new_world header.hosts.items) front)
 history_lasts P header lines t follows are sent few lasts begins front back parts =
     let hosts : List ℕ = header.hosts.items in
-    let events : List Occurrence = events_of_steps (steps_from (new_world hosts) lines) in
-    let is : occurrences_in t ≡ events = ap events_of_steps follows.steps_are in
     let caused : AreCaused Any (new_world hosts) (front ++ back) =
-    subst (AreCaused Any (new_world hosts)) (sym is ∙ parts)
+    subst (AreCaused Any (new_world hosts)) (sym (ap events_of_steps follows.steps_are) ∙ parts)
     (lines_caused Any AnyLine (λ w l any none. all_any w _) lines (new_world hosts) (all_lines lines)) in
     fronts_last P hosts lasts (occurrences_in t) (λ f b p. (events_so header lines t follows are sent few f b p).keep) [] front back parts caused begins
 

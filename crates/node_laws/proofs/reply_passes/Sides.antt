@@ -18,7 +18,7 @@ use Rattle.history.specs.Steps.{end_of, entries_for, entry_of}
 use Rattle.node_machine.specs.Parts.{Port, Work, Deed}
 use Rattle.node_machine.specs.Parts.Deed.{Sends, Ends}
 use Rattle.node_machine.specs.Carrying.{own_side, port_at, all_done}
-use Rattle.node_machine.specs.Turns.{deeds_of, holds_back, lets_go}
+use Rattle.node_machine.specs.Turns.{deeds_of}
 use Rattle.node_machine.specs.Node.{NodeInput, steps, begins_with, after_sessions, without_notice, forgets, forgotten}
 use Rattle.node_machine.specs.Node.NodeInput.{AtEnd, TimePasses}
 use Rattle.node_laws.proofs.Cases.{by_test}
@@ -142,15 +142,10 @@ module _ (who : Side) where
         handling IsSide (λ es u s p a. a) (λ k f u host a. a) (λ k t u a. a) (λ x y cut core ports entries a. ap
         (λ (m : ℕ). cond (eqb m 0) Controller Host) core ∙ a)
         (λ writes u a. a) h m (deeds_of v.core v.ports h m) v (deeds_mute v.core v.ports h m) a;
-    held = λ v h m messages short a on waiting lacks. held_side h short v a;
-    let_go = λ v h a on waiting. lets_side h v a;
-  }) w side v c where
-    held_side : (h : ℕ) (short : ℕ × ℕ) (v : Work) → IsSide v → IsSide (holds_back h short v)
-    held_side h short v a =
-        by_test (option_map_or (λ (p : Port). p.desk.holds) (port_at v.ports h) false) (λ q. rw q a) (λ q. rw q a)
-
-    lets_side : (h : ℕ) (v : Work) → IsSide v → IsSide (lets_go h v)
-    lets_side h v a = by_test (option_map_or (λ (p : Port). is_held p.side) (port_at v.ports h) false) (λ q. rw q a) (λ q. rw q a)
+    held = λ v h m messages short a on waiting lacks. by_test (option_map_or (λ (p : Port). p.desk.holds) (port_at v.ports h) false) (λ q. rw q a)
+        (λ q. rw q a);
+    let_go = λ v h a on waiting. by_test (option_map_or (λ (p : Port). is_held p.side) (port_at v.ports h) false) (λ q. rw q a) (λ q. rw q a);
+  }) w side v c
 
   turn_sided : (w : Work) → IsSide w → (front back : List Entry) (x : Entry) → IsTurnSo (ComesTo w) w front x back → IsNoBoot x
       → IsOnSide (is_host_side who) x
@@ -165,9 +160,7 @@ module _ (who : Side) where
 
   pub pass_sided : (w v : Work) (hosts : List ℕ) → IsSide w → (p : ArePassed (ComesTo w) hosts w v) → AreNoBoots p.more → AreOnSide (is_host_side who) p.more
   pass_sided w v hosts side p un = each_all (IsOnSide (is_host_side who)) p.more (λ front back x e.
-      turn_sided w side front back x (p.each front back x e) (one_of front back x (subst AreNoBoots e un))) where
-        one_of : (front back : List Entry) (x : Entry) → AreNoBoots (front ++ (x ∷ back)) → IsNoBoot x
-        one_of front back x a = (front_unbooted front (x ∷ back) a).1.0
+      turn_sided w side front back x (p.each front back x e) ((front_unbooted front (x ∷ back) (subst AreNoBoots e un)).1.0))
 
 -- ## What is read of messages that are held
 

@@ -92,8 +92,7 @@ module _ (w : NodeWorld) (h : ℕ) (s : Site) (fine : IsFineWorld w) (q : site_a
       go (Some i) None p r = subst (AllAllowed s.link) (sym (let z : site_takes s ≡ [] = rw (p, r) refl in z)) tt
       go (Some i) (Some r) p t =
           let work : Work = host_work s r NextFrame (steps (AtEnd s.host i)) in
-          let one : LinkEvent = AtHost (Step NextFrame (turns_at work s.host) (ending_of work)) in
-          let events : site_takes s ≡ one ∷ [] = rw (p, t) refl in
+          let events : site_takes s ≡ (AtHost (Step NextFrame (turns_at work s.host) (ending_of work))) ∷ [] = rw (p, t) refl in
           subst (AllAllowed s.link) (sym events) (far_step i r t, tt)
 
   pub takes_allowed : (e : End) → AllAllowed s.link (link_events_in h w (Takes e))
@@ -128,8 +127,7 @@ module _ (w : NodeWorld) (h : ℕ) (s : Site) (fine : IsFineWorld w) (q : site_a
       go : (c : Option Running) → x.node ≡ c → AreSendableTurns (site_ticks x).turns
       go c p =
           let clean : Clean x.link.host.side = (let C : LinkEnd → Type 0 = Clean in subst C (sym side) here.link.line.far) in
-          let sends : AreSendableTurns (host_turns x c) = far_sends x c clean (subst IsFineNode (sym node ∙ p) here.node) in
-          subst AreSendableTurns (sym (is c p)) sends
+          subst AreSendableTurns (sym (is c p)) (far_sends x c clean (subst IsFineNode (sym node ∙ p) here.node))
         where
           is : (c : Option Running) → x.node ≡ c → (site_ticks x).turns ≡ host_turns x c
           is None r = rw r refl

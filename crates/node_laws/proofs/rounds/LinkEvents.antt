@@ -32,8 +32,7 @@ site_map f keeps (x ∷ sites) h s q = by_test (x.host == h)
     let kept : ((f x).host == h) ≡ true = ap (λ (k : ℕ). k == h) (keeps x) ∙ p in
     (rw kept (ap (λ (y : Site). Some (f y)) same), ap (λ (y : Site). y.host) (sym same) ∙ eqb-true x.host h p))
     (λ p. let r = site_map f keeps sites h s (rw p at q) in
-    let kept : ((f x).host == h) ≡ false = ap (λ (k : ℕ). k == h) (keeps x) ∙ p in
-    (rw kept r.0, r.1))
+    (rw (ap (λ (k : ℕ). k == h) (keeps x) ∙ p) r.0, r.1))
 
 -- the controller's end of the link with the host k takes a frame
 controller_took : (w : NodeWorld) (k h : ℕ) (s : Site) → site_at w.sites h ≡ Some s
@@ -50,9 +49,8 @@ controller_took w k h s q = go (input_of (link_to w.sites k) NextFrame) w.contro
     go (Some i) None p r = none (controller_takes s.host w k) (world_step w (Takes (end_c k))).0 (rw (p, r) refl) (rw (p, r) refl)
     go (Some i) (Some r) p t =
         let work : Work = controller_work w r k NextFrame (steps (AtEnd k i)) in
-        let v : NodeWorld = (after_controller w k NextFrame work).0 in
         let one : LinkEvent = AtController (Step (comes_to k NextFrame s.host) (turns_at work s.host) (ending_of work)) in
-        let world : (world_step w (Takes (end_c k))).0 ≡ v = rw (p, t) refl in
+        let world : (world_step w (Takes (end_c k))).0 ≡ ((after_controller w k NextFrame work).0) = rw (p, t) refl in
         let events : controller_takes s.host w k ≡ one ∷ [] = rw (p, t) refl in
         let F : Site → Site = link_after_controller k NextFrame work in
         let m = site_map F (λ x. refl) w.sites h s q in
@@ -100,10 +98,9 @@ host_took_own w s q = go (input_of (exchanged s.link) NextFrame) s.node refl ref
         let one : LinkEvent = AtHost (Step NextFrame (turns_at work s.host) (ending_of work)) in
         let world : (world_step w (Takes (end_h s.host))).0 ≡ v = rw (link, p, q, t) refl in
         let events : site_takes s ≡ one ∷ [] = rw (p, t) refl in
-        let same : (s.host == s.host) ≡ true = eq-eqb s.host s.host refl in
         let at : site_at v.sites s.host ≡ Some (after_host NextFrame work s) =
         changed_site s.host (after_host NextFrame work) (λ x. refl) w.sites s.host s q
-        ∙ ap (λ (b : Bool). Some (changed_if b (after_host NextFrame work) s)) same in
+        ∙ ap (λ (b : Bool). Some (changed_if b (after_host NextFrame work) s)) (eq-eqb s.host s.host refl) in
         goes_as w (world_step w (Takes (end_h s.host))).0 s.host s (site_takes s) (one ∷ []) events
         (record { later = after_host NextFrame work s; is = ap (λ (u : NodeWorld). site_at u.sites s.host) world ∙ at; host = refl; link = refl })
 
@@ -135,12 +132,11 @@ host_took w k h s q = go (s.host == k) refl
     go : (b : Bool) → (s.host == k) ≡ b → GoesOnLink (world_step w (Takes (end_h k))).0 h s (takes_on s w (end_h k))
     go false p = goes_as w (world_step w (Takes (end_h k))).0 h s (takes_on s w (end_h k)) [] (rw p refl) (host_took_other w k h s q p)
     go true p =
-        let same : s.host ≡ k = eqb-true s.host k p in
         let own : GoesOnLink (world_step w (Takes (end_h s.host))).0 s.host s (site_takes s) =
         host_took_own w s (ap (site_at w.sites) at ∙ q) in
         let P : ℕ → Type 0 = λ j. GoesOnLink (world_step w (Takes (end_h j))).0 s.host s (site_takes s) in
         let Q : ℕ → Type 0 = λ j. GoesOnLink (world_step w (Takes (end_h k))).0 j s (site_takes s) in
-        goes_as w (world_step w (Takes (end_h k))).0 h s (takes_on s w (end_h k)) (site_takes s) (rw p refl) (subst Q at (subst P same own))
+        goes_as w (world_step w (Takes (end_h k))).0 h s (takes_on s w (end_h k)) (site_takes s) (rw p refl) (subst Q at (subst P (eqb-true s.host k p) own))
 
 -- ## A tick
 
@@ -195,7 +191,6 @@ world_ticked w h s q =
     let between : Site = near.0 in
     let H : Site → Site = λ x. (host_ticks x).0 in
     let far = site_map H (λ x. (site_ticked x).0) (controller_ticks old).0.sites h between near.1 in
-    let all : (world_step w Ticks).0.sites ≡ map H (controller_ticks old).0.sites = hosts_tick_map (controller_ticks old).0.sites in
     let c : Node × Bool = controller_tick_on s.host old in
     let d : Node = site_ticks between in
     record {
@@ -205,7 +200,7 @@ world_ticked w h s q =
       far = ap (λ (l : Link). l.host.side) near.3 ∙ ap (λ (e : NumberedEnd). e.side) (so_host (aged s.link) c.1 c.0.turns c.0.ending);
       goes = record {
         later = H between;
-        is = ap (λ ss. site_at ss h) all ∙ far.0;
+        is = ap (λ ss. site_at ss h) (hosts_tick_map (controller_ticks old).0.sites) ∙ far.0;
         host = (site_ticked between).0 ∙ near.2;
         link = (site_ticked between).1
             ∙ (ap (λ (l : Link). exchanged (ticks_at_controller (exchanged l) d.turns d.ending)) near.3 ∙ tick_is s.link c.1 c.0 d);

@@ -75,9 +75,7 @@ pub near_low : (n : ℕ) (l : Link) (comes : Comes) → FewRsets n l → number_
 near_low n l NextFrame f = by_list l.to_controller
     (λ q. rw q (let z = number_low l.resets l.controller f.numbered.controller in omega (arith, z, few)))
     (λ x xs q. rw q (let wire : WireIsLow l.resets (x ∷ xs) = rw q at f.numbered.to_controller in
-    let t = took_low l.resets l.controller.took x f.numbered.controller.took wire.0 in
-    let e = f.numbered.controller.emitted in
-    omega (arith, t, e, few)))
+    omega (arith, took_low l.resets l.controller.took x f.numbered.controller.took wire.0, f.numbered.controller.emitted, few)))
   where
     few : l.resets ≤ n
     few = let z = f.made in omega (arith, z)
@@ -218,15 +216,13 @@ few_behind_world_tick n w a =
     let old : NodeWorld = (all_aged w).0 in
     let near : NodeWorld = (controller_ticks old).0 in
     let b : FewRsetsOnEach (n + 1) near.sites = few_behind_tick n old (few_behind_ages n w a) in
-    let c : FewRsetsOnEach (n + 1 + 1) (hosts_tick near.sites).0 = few_behind_hosts_tick (n + 1) near.sites b in
-    each_longer (n + 1 + 1) (n + 2) (hosts_tick near.sites).0 (omega arith) c
+    each_longer (n + 1 + 1) (n + 2) (hosts_tick near.sites).0 (omega arith) (few_behind_hosts_tick (n + 1) near.sites b)
 
 -- ## Whatever happens
 
 few_activated : (n : ℕ) (w : NodeWorld) (h sync power : ℕ) → FewRsetsOnEach n w.sites → FewRsetsOnEach n (activates w h sync power).0.sites
 few_activated n w h sync power a =
-    let near : NodeWorld = (comes_at w (end_c h) (Starts power)).0 in
-    few_plain n near (end_h h) (Starts sync) refl (few_plain n w (end_c h) (Starts power) refl a)
+    few_plain n ((comes_at w (end_c h) (Starts power)).0) (end_h h) (Starts sync) refl (few_plain n w (end_c h) (Starts power) refl a)
 
 -- what happens has each link make so many more RSETs at most
 pub few_behind_step : (n : ℕ) (w : NodeWorld) (c : Happening) → FewRsetsOnEach n w.sites → FewRsetsOnEach (n + rsets_by c) (world_step w c).0.sites

@@ -52,9 +52,6 @@ take_one x (y ∷ ys) some = by_test (same_end y x)
 pub fewer : (xs ys : List End) → ((e : End) → count e xs ≤ count e ys) → length xs ≤ length ys
 fewer [] ys each = omega arith
 fewer (x ∷ xs) ys each =
-    let own : one_at (same_end x x) ≡ 1 = ap one_at (same_end_itself x) in
-    let here = each x in
-    let r : Without x ys = take_one x ys (omega (arith, here, own)) in
-    let long = r.long in
+    let r : Without x ys = take_one x ys (omega (arith, each x, ap one_at (same_end_itself x))) in
     let rest = fewer xs r.left (λ e. let most = each e in let is = r.counts e in omega (arith, most, is)) in
-    omega (arith, long, rest)
+    omega (arith, r.long, rest)

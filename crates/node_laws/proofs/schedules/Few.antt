@@ -36,11 +36,8 @@ module _ (header : Header) (lines : List Line) (t : NodeHistory) (follows : Foll
   -- each line that asks for something makes 234 commands at most
   pub bounded : (front back : List Entry) (n : ℕ) → node_entries t ≡ front ++ back → length (commands_in front n) ≤ 234 * lines_asking lines
   bounded front back n is =
-      let kept = kept_few n front new_book in
-      let both = commits-append front back in
-      let same = ap commits is in
       let all = lines_bounded header lines t follows nodes are (occurrences_in t) [] (sym (append-nil (occurrences_in t))) in
-      omega (arith, kept, both, same, all)
+      omega (arith, kept_few n front new_book, commits-append front back, ap commits is, all)
 
   -- so behind 20,000 such lines no journal counts too many
   pub are_few : lines_asking lines ≤ 20000 → IsFew (node_entries t)

@@ -47,15 +47,13 @@ few_above : (low : ℕ) (xs : List ℕ) → low ≤ 7 → AllByRecursion (IsAbov
 few_above low [] most over hosts sorted = omega (arith, most)
 few_above low (x ∷ xs) most over hosts sorted =
     let rest = few_above x xs hosts.0.1 (sorted_head nat_cmp x xs sorted) hosts.1 (sorted_tail nat_cmp x xs sorted) in
-    let more = above low x over.0 in
-    omega (arith, rest, more)
+    omega (arith, rest, above low x over.0)
 
 few : (xs : List ℕ) → AllByRecursion IsHost xs → IsStrictlySortedBy nat_cmp xs → length xs ≤ 7
 few [] hosts sorted = omega arith
 few (x ∷ xs) hosts sorted =
     let rest = few_above x xs hosts.0.1 (sorted_head nat_cmp x xs sorted) hosts.1 (sorted_tail nat_cmp x xs sorted) in
-    let low = hosts.0.0 in
-    omega (arith, rest, low)
+    omega (arith, rest, hosts.0.0)
 
 pub hosts_few : (header : Header) → IsNodeHeader header → length header.hosts.items ≤ 7
 hosts_few header is =

@@ -1,5 +1,5 @@
 -- No wire of a link holds more than 64 frames.
-use Rattle.std.proofs.Common.{◌≡◌, ◌+◌, ◌≤◌, Bool, true, false, List, [], ◌∷◌, ◌++◌, length, length-append, length-drop, subst, arith}
+use Rattle.std.proofs.Common.{◌+◌, ◌≤◌, Bool, true, false, List, [], ◌∷◌, ◌++◌, length, length-append, length-drop, subst, arith}
 use Rattle.std.specs.Prelude.{nat_lt, is_some}
 use Rattle.std.proofs.lemmas.Bool.{ltb-false}
 use Rattle.swp_base.specs.declared.control_frames.Control.{Control}
@@ -25,10 +25,8 @@ pub record IsFewWires (l : Link) : Type 0 where
 
 fits_few : (wire : List OnWire) (x : OnWire) → length wire ≤ 64 → length (fits (wire ++ x ∷ [])) ≤ 64
 fits_few wire x few = by_test (nat_lt 64 (length (wire ++ x ∷ [])))
-    (λ q. rw q (let less = length-drop 1 (wire ++ x ∷ []) in omega (arith, less, long, few)))
-    (λ q. rw q (let low = ltb-false 64 (length (wire ++ x ∷ [])) q in omega (arith, low))) where
-      long : length (wire ++ x ∷ []) ≡ length wire + 1
-      long = length-append wire (x ∷ [])
+    (λ q. rw q (let less = length-drop 1 (wire ++ x ∷ []) in omega (arith, less, (length-append wire (x ∷ [])), few)))
+    (λ q. rw q (let low = ltb-false 64 (length (wire ++ x ∷ [])) q in omega (arith, low)))
 
 put_few : (l : Link) (c : Control) → IsFewWires l → IsFewWires (put l c)
 put_few l c a = by_test (is_rset c)
@@ -88,9 +86,7 @@ step_few l NoInput ts ending a = finished_few l (turned l.controller.side ts) en
 here_few : (l : Link) (e : EndEvent) → IsFewWires l → IsFewWires (happens_at_controller l e)
 here_few l (Step comes ts ending) a = step_few l comes ts ending a
 here_few l (Lose why) a =
-    let less = length-drop 1 l.to_controller in
-    let few = a.to_controller in
-    record { to_controller = omega (arith, less, few); to_host = a.to_host }
+    record { to_controller = omega (arith, length-drop 1 l.to_controller, a.to_controller); to_host = a.to_host }
 
 all_few : (l : Link) (es : List EndEvent) → IsFewWires l → IsFewWires (all_at_controller l es)
 all_few l [] a = a
@@ -107,11 +103,7 @@ aged_wire_few (x ∷ wire) = by_test (nat_lt x.age 4) (λ q. rw q (omega (arith,
 
 aged_few : (l : Link) → IsFewWires l → IsFewWires (aged l)
 aged_few l a =
-    let near = aged_wire_few l.to_controller in
-    let far = aged_wire_few l.to_host in
-    let p = a.to_controller in
-    let q = a.to_host in
-    record { to_controller = omega (arith, near, p); to_host = omega (arith, far, q) }
+    record { to_controller = omega (arith, aged_wire_few l.to_controller, a.to_controller); to_host = omega (arith, aged_wire_few l.to_host, a.to_host) }
 
 tick_few : (l : Link) (ts : List Turn) (ending : Ending) → IsFewWires l → IsFewWires (ticks_at_controller l ts ending)
 tick_few l ts ending a = input_few l Tick ts ending a
@@ -130,9 +122,8 @@ event_few l (TicksWithout events h) a =
     swapped_few (ticks_at_controller (exchanged near) h.turns h.ending) (tick_few (exchanged near) h.turns h.ending (swapped_few near fine))
 event_few l (Activate power c id h) a =
     let near : Link = steps_at_controller l (Starts power) c.turns c.ending in
-    let fine : IsFewWires near = step_few l (Starts power) c.turns c.ending a in
     swapped_few (steps_at_controller (exchanged near) (Starts id) h.turns h.ending)
-    (step_few (exchanged near) (Starts id) h.turns h.ending (swapped_few near fine))
+    (step_few (exchanged near) (Starts id) h.turns h.ending (swapped_few near (step_few l (Starts power) c.turns c.ending a)))
 
 pub after_few : (es : List LinkEvent) (l : Link) → IsFewWires l → IsFewWires (after_link_events l es)
 after_few [] l a = a

@@ -229,11 +229,11 @@ module _ (hosts : List ℕ) (n : ℕ) (off : eqb n 0 ≡ false) (t s : List Entr
   spares_same j =
       ap (λ b. cond b (spare_at s (end_of_number n j)) 0) (linked_far hosts n off j)
       ∙ (by_test (eqb n j)
-      (λ z. ap (λ x. cond (eqb n j) x 0) (subst (λ x. spare_at s (end_of_number n x) ≡ spare_at t (end_of_number n x)) (eqb-true n j z) own))
+      (λ z. ap (λ x. cond (eqb n j) x 0)
+      (subst (λ x. spare_at s (end_of_number n x) ≡ spare_at t (end_of_number n x)) (eqb-true n j z)
+      (subst (λ z. spare_at s z ≡ spare_at t z) (sym at_end) spares)))
       (λ z. ap (λ b. cond b (spare_at s (end_of_number n j)) 0) z ∙ sym (ap (λ b. cond b (spare_at t (end_of_number n j)) 0) z)) ∙ sym
-      (ap (λ b. cond b (spare_at t (end_of_number n j)) 0) (linked_far hosts n off j))) where
-        own : spare_at s (end_of_number n n) ≡ spare_at t (end_of_number n n)
-        own = subst (λ z. spare_at s z ≡ spare_at t z) (sym at_end) spares
+      (ap (λ b. cond b (spare_at t (end_of_number n j)) 0) (linked_far hosts n off j)))
 
   pub lack_same : (m l : Moment) → until m ≡ s → until l ≡ t → own_read m n ≡ own_read l n → (message : Message)
       → lack_of hosts m (end_h n) message ≡ lack_of hosts l (end_h n) message

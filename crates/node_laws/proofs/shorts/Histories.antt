@@ -110,10 +110,8 @@ module _ (header : Header) (lines : List Line) (t : NodeHistory) (follows : Foll
             → AllByRecursion (λ n. is_left_short hosts past o (end_h n) ≡ true) hs
         each earlier [] at all = tt
         each earlier (h ∷ hs) at all =
-            let some : 1 ≤ h = all.0.0 in
-            let zero_off : eqb h 0 ≡ false = ne_eqb h 0 (λ (z : h ≡ 0). omega (arith, some, z)) in
-            let one : list_any (λ k. eqb k h) hosts ≡ true = ap (λ l. list_any (λ k. eqb k h) l) at ∙ is_one earlier h hs in
-            let node : IsNodeOf hosts h = ap₂ (λ a b. a || b) zero_off one in (
+            let zero_off : eqb h 0 ≡ false = ne_eqb h 0 (λ (z : h ≡ 0). omega (arith, all.0.0, z)) in
+            let node : IsNodeOf hosts h = ap₂ (λ a b. a || b) zero_off (ap (λ l. list_any (λ k. eqb k h) l) at ∙ is_one earlier h hs) in (
               host_short past back o parts h zero_off (subst (λ (x : Header). IsNodeOf x.hosts.items h) (sym follows.header_is) node),
               each (earlier ++ h ∷ []) hs (at ∙ sym (append_assoc earlier (h ∷ []) hs)) all.1,
             )

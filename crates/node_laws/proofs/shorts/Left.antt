@@ -37,7 +37,7 @@ use Rattle.node_laws.specs.views.Inits.{init_begun, init_in}
 use Rattle.node_laws.proofs.views.Answering.{init_append, reads_init}
 use Rattle.node_laws.proofs.views.Leaving.{IsRead, Leaves, leaves_all, plainly, reads, reads_append}
 use Rattle.node_laws.specs.answers.Answered.{as_left, is_later, is_left_short, through}
-use Rattle.node_laws.specs.answers.Moments.{Moment, own_read, lack_at, lack_of, runs_in, unhandled_in, until}
+use Rattle.node_laws.specs.answers.Moments.{Moment, own_read, lack_of, runs_in, unhandled_in, until}
 use Rattle.node_laws.specs.reply_passes.Counts.{commands_noted as commits}
 use Rattle.node_laws.proofs.reply_passes.Growing.{commits-append}
 use Rattle.node_laws.proofs.reply_passes.Sides.{AreNoBoots}
@@ -157,89 +157,84 @@ module _ (hosts : List ℕ) (n : ℕ) (host : IsHost n) (past : List Occurrence)
     moment es = record { past = past; cause = cause; so_far = lead ++ es }
 
     left_short : (m : Message) (messages : List Message) → LeftAt n w m messages → IsShort (passes w).entries
-    left_short m messages l = short_lacks hosts past (seen P) (end_h n) lacks where
-      P : List Entry
-      P = (passes w).entries
+    left_short m messages l = short_lacks hosts past (seen P) (end_h n)
+        (ap is_some (ap (λ l. option_and_then (lack_of hosts late (end_h n)) (oldest l)) waits ∙ lack_late) ∙ l.lacks) where
+          P : List Entry
+          P = (passes w).entries
 
-      v : Work
-      v = l.work
+          v : Work
+          v = l.work
 
-      es : List Entry
-      es = l.own ++ rest
+          es : List Entry
+          es = l.own ++ rest
 
-      es_calm : AreCalmAt n es
-      es_calm = all_append _ l.own rest l.calm calm
+          es_calm : AreCalmAt n es
+          es_calm = all_append _ l.own rest l.calm calm
 
-      es_leave : AllByRecursion (Leaves (end_h n)) es
-      es_leave = all_append (Leaves (end_h n)) l.own rest l.leaves leaves
+          late : Moment
+          late = as_left past (seen P) (end_h n)
 
-      late : Moment
-      late = as_left past (seen P) (end_h n)
+          early : Moment
+          early = moment v.entries
 
-      early : Moment
-      early = moment v.entries
+          so_far : late.so_far ≡ (lead ++ v.entries) ++ es
+          so_far =
+              all_taken n (lead ++ (P ++ rest))
+              ∙ (ap (λ s. lead ++ (s ++ rest)) l.all
+              ∙ (ap (λ s. lead ++ s) (append_assoc v.entries l.own rest) ∙ sym (append_assoc lead v.entries es)))
 
-      so_far : late.so_far ≡ (lead ++ v.entries) ++ es
-      so_far =
-          all_taken n (lead ++ (P ++ rest))
-          ∙ (ap (λ s. lead ++ (s ++ rest)) l.all
-          ∙ (ap (λ s. lead ++ s) (append_assoc v.entries l.own rest) ∙ sym (append_assoc lead v.entries es)))
+          told : List Entry
+          told = t ++ v.entries
 
-      told : List Entry
-      told = t ++ v.entries
+          early_is : until early ≡ told
+          early_is = sym (append_assoc (entries_in past) lead v.entries)
 
-      early_is : until early ≡ told
-      early_is = sym (append_assoc (entries_in past) lead v.entries)
+          late_is : until late ≡ told ++ es
+          late_is =
+              ap (λ s. entries_in past ++ s) so_far
+              ∙ (sym (append_assoc (entries_in past) (lead ++ v.entries) es) ∙ ap (λ s. s ++ es) early_is)
 
-      late_is : until late ≡ told ++ es
-      late_is =
-          ap (λ s. entries_in past ++ s) so_far
-          ∙ (sym (append_assoc (entries_in past) (lead ++ v.entries) es) ∙ ap (λ s. s ++ es) early_is)
+          with_so_far : List Entry → Option Init
+          with_so_far s = reads_init n s (init_begun n (init_in past n) cause)
 
-      with_so_far : List Entry → Option Init
-      with_so_far s = reads_init n s (init_begun n (init_in past n) cause)
+          init_is : (own_read early n).init ≡ reads_init n v.entries i
+          init_is = ap (λ y. reads_init n (lead ++ v.entries) y) begun ∙ (init_append n lead v.entries i ∙ ap (λ y. reads_init n v.entries y) stays)
 
-      init_is : (own_read early n).init ≡ reads_init n v.entries i
-      init_is = ap (λ y. reads_init n (lead ++ v.entries) y) begun ∙ (init_append n lead v.entries i ∙ ap (λ y. reads_init n v.entries y) stays)
+          init_same : (own_read late n).init ≡ (own_read early n).init
+          init_same =
+              ap with_so_far so_far
+              ∙ (init_append n (lead ++ v.entries) es (init_begun n (init_in past n) cause) ∙ init_calm n es (with_so_far (lead ++ v.entries)) es_calm)
 
-      init_same : (own_read late n).init ≡ (own_read early n).init
-      init_same =
-          ap with_so_far so_far
-          ∙ (init_append n (lead ++ v.entries) es (init_begun n (init_in past n) cause) ∙ init_calm n es (with_so_far (lead ++ v.entries)) es_calm)
+          k : HostKnows n host t i (errors_behind n t) b.memory b.order_phase b.init_phase v
+          k = known hosts n host t i w on b unbooted few v l.comes
 
-      k : HostKnows n host t i (errors_behind n t) b.memory b.order_phase b.init_phase v
-      k = known hosts n host t i w on b unbooted few v l.comes
+          core : own_read late n ≡ own_read early n
+          core =
+              ap₂ (λ (tables : HciTables) (order : Option (List ℕ)). record (own_read late n) { tables = tables; command = order })
+              (ap (λ s. tables_in s n) late_is ∙ (tables_calm n told es es_calm ∙ ap (λ s. tables_in s n) (sym early_is)))
+              (ap (λ s. order_in s n) late_is ∙ (order_calm n told es es_calm ∙ ap (λ s. order_in s n) (sym early_is)))
+              ∙ ap (λ (y : Option Init). record (own_read early n) { init = y }) init_same
 
-      core : own_read late n ≡ own_read early n
-      core =
-          ap₂ (λ (tables : HciTables) (order : Option (List ℕ)). record (own_read late n) { tables = tables; command = order })
-          (ap (λ s. tables_in s n) late_is ∙ (tables_calm n told es es_calm ∙ ap (λ s. tables_in s n) (sym early_is)))
-          (ap (λ s. order_in s n) late_is ∙ (order_calm n told es es_calm ∙ ap (λ s. order_in s n) (sym early_is)))
-          ∙ ap (λ (y : Option Init). record (own_read early n) { init = y }) init_same
+          errors_same : errors_in (told ++ es) (end_h n) ≡ errors_in told (end_h n)
+          errors_same =
+              let count : ErrorCount = reads (end_h n) v.entries (errors_behind n t) in
+              let now : IsRead (reads (end_h n) es count) k.errors.errors =
+              leaves_all (end_h n) es count k.errors.errors (all_append (Leaves (end_h n)) l.own rest l.leaves leaves) k.errors.read in
+              let first : reads (end_h n) told no_errors ≡ count = reads_append (end_h n) t v.entries no_errors in
+              ap (λ (x : ErrorCount). x.errors) (reads_append (end_h n) told es no_errors ∙ ap (λ x. reads (end_h n) es x) first)
+              ∙ (now.is ∙ (sym k.errors.read.is ∙ ap (λ (x : ErrorCount). x.errors) (sym first)))
 
-      errors_same : errors_in (told ++ es) (end_h n) ≡ errors_in told (end_h n)
-      errors_same =
-          let count : ErrorCount = reads (end_h n) v.entries (errors_behind n t) in
-          let now : IsRead (reads (end_h n) es count) k.errors.errors =
-          leaves_all (end_h n) es count k.errors.errors es_leave k.errors.read in
-          let first : reads (end_h n) told no_errors ≡ count = reads_append (end_h n) t v.entries no_errors in
-          ap (λ (x : ErrorCount). x.errors) (reads_append (end_h n) told es no_errors ∙ ap (λ x. reads (end_h n) es x) first)
-          ∙ (now.is ∙ (sym k.errors.read.is ∙ ap (λ (x : ErrorCount). x.errors) (sym first)))
+          lack_late : lack_of hosts late (end_h n) m ≡ lacking v n m
+          lack_late =
+              lack_same hosts n (zero hosts n host t i b.memory b.order_phase b.init_phase) told (told ++ es) (session_calm n told es es_calm)
+              (spare_calm n told es es_calm) errors_same late early late_is early_is core m
+              ∙ lack_is hosts n host t i b.memory b.order_phase b.init_phase v k (b.ends v l.comes) (comes_none w v b.none l.comes)
+              (room_at hosts n host t i w on b unbooted few v l.comes l.own l.all) early (record { at = early_is; init = init_is }) m
 
-      lack_late : lack_of hosts late (end_h n) m ≡ lacking v n m
-      lack_late =
-          lack_same hosts n (zero hosts n host t i b.memory b.order_phase b.init_phase) told (told ++ es) (session_calm n told es es_calm)
-          (spare_calm n told es es_calm) errors_same late early late_is early_is core m
-          ∙ lack_is hosts n host t i b.memory b.order_phase b.init_phase v k (b.ends v l.comes) (comes_none w v b.none l.comes)
-          (room_at hosts n host t i w on b unbooted few v l.comes l.own l.all) early (record { at = early_is; init = init_is }) m
-
-      waits : unhandled_in (until late) (end_h n) ≡ m ∷ messages
-      waits =
-          ap (λ s. unhandled_in s (end_h n)) late_is
-          ∙ (waits_calm n told es es_calm ∙ (waits_read hosts n host t i w on b unbooted few v l.comes ∙ l.waits))
-
-      lacks : is_some (lack_at hosts late (end_h n)) ≡ true
-      lacks = ap is_some (ap (λ l. option_and_then (lack_of hosts late (end_h n)) (oldest l)) waits ∙ lack_late) ∙ l.lacks
+          waits : unhandled_in (until late) (end_h n) ≡ m ∷ messages
+          waits =
+              ap (λ s. unhandled_in s (end_h n)) late_is
+              ∙ (waits_calm n told es es_calm ∙ (waits_read hosts n host t i w on b unbooted few v l.comes ∙ l.waits))
 
     pub pass_short : hosts_of_ends w.ports ≡ n ∷ [] → (passes w).cut ≡ false → IsShort (passes w).entries
     pass_short is still = by (left_at n w is on still) where

@@ -44,7 +44,6 @@ far_stand : (w : NodeWorld) (h : ℕ) (i : LinkInput) (n : ℕ) → Stand w h (s
 far_stand w h i n many =
     by_host (λ p. Stand p.0 h n) w h NextFrame (steps (AtEnd h i)) (fewer w h n many) (λ s r found q.
     let k : Work = host_work s r NextFrame (steps (AtEnd h i)) in
-    let some : suc n ≤ length s.link.to_host = many s found (ap is_some q) in
     λ x there on.
     let same : Some (after_host NextFrame k s) ≡ Some x = sym (with_here (after_host NextFrame k) (λ y. refl) w.sites h s found) ∙ there in
     let one : after_host NextFrame k s ≡ x = cc in
@@ -53,7 +52,7 @@ far_stand w h i n many =
     absurd (true≢false (sym (ap (λ (y : Site). is_some y.node) one ∙ on) ∙ ap is_some none)))
     (λ still. let out : ending_of k ≡ GoesOut = rw still refl in
     subst (λ (g : Ending). n ≤ length (steps_at_controller (exchanged s.link) NextFrame (turns_at k s.host) g).to_controller) (sym out)
-    (step_near (exchanged s.link) (turns_at k s.host) n some))))
+    (step_near (exchanged s.link) (turns_at k s.host) n (many s found (ap is_some q))))))
 
 take_stands : (w : NodeWorld) (e : End) (n : ℕ) → e.at_host ≡ true → Stand w e.link (suc n) → Stand (world_step w (Takes e)).0 e.link n
 take_stands w e n far many =
@@ -68,9 +67,7 @@ takes_may : (n : ℕ) (w : NodeWorld) (e : End) → e.at_host ≡ true → Stand
 takes_may zero w e far many = tt
 takes_may (suc n) w e far many = (
   λ at s found on none.
-      let some = many s found on in
-      let empty = ap (λ (xs : List OnWire). length xs) (sym (frames_far w e s far found) ∙ none) in
-      absurd (omega (arith, some, empty)),
+      absurd (omega (arith, many s found on, ap (λ (xs : List OnWire). length xs) (sym (frames_far w e s far found) ∙ none))),
   takes_may n (world_step w (Takes e)).0 e far (take_stands w e n far many),
 )
 
@@ -86,8 +83,7 @@ damage_may w e places (x ∷ xs) here = by (verdict_on (lpdu_of x.frame) places)
 pub line_takes : (w : NodeWorld) (l : Line) → IsSentByHost l → refusal_in w l ≡ None → AllMay MayTake w (happenings w l)
 line_takes w (line.Deliver e count) is none = by_test e.at_host
     (λ far. takes_may (taken_of count (frames_at w e)) w e far
-    (λ s found on. let most = taken_most count (frames_at w e) in
-    let same = ap (λ (xs : List OnWire). length xs) (frames_far w e s far found) in omega (arith, most, same)))
+    (λ s found on. let same = ap (λ (xs : List OnWire). length xs) (frames_far w e s far found) in omega (arith, taken_most count (frames_at w e), same)))
     (λ near. repeated_may MayTake (Takes e) (λ v far. absurd (true≢false (sym far ∙ near))) (taken_of count (frames_at w e)) w)
 line_takes w (line.Damage e places) is none = damage_may w e places.items (frames_at w e) refl
 line_takes w (line.Tick times) is none = repeated_may MayTake Ticks (λ v. tt) (unwrap_or times 1) w

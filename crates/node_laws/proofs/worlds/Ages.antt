@@ -4,12 +4,11 @@ use Rattle.std.proofs.Common.{sym, ap, ap₂, subst, ◌∙◌, ◌||◌, ◌&&�
 use Rattle.std.specs.Prelude.{is_some}
 use Rattle.std.specs.List.{AllByRecursion, list_any}
 use Rattle.std.specs.Option.{option_map, option_map_or, option_and_then}
-use Rattle.std.proofs.lemmas.Bool.{true≢false, eqb-true}
-use mathlib.Core.Bool.{and-false, or-false, or-true}
+use Rattle.std.proofs.lemmas.Bool.{true≢false, eqb-true, or_parts}
+use mathlib.Core.Bool.{or-false, or-true}
 use Rattle.trace_model.specs.Lines.{IsHost}
 use Rattle.trace_model.specs.declared.entry.Entry.{Entry}
 use Rattle.trace_model.specs.declared.entry.Entry.TheVariants as entry
-use Rattle.trace_model.specs.declared.line.End.{End}
 use Rattle.link_laws.specs.machine.Machine.{Message, Refused, Turn, give_refusal}
 use Rattle.link_laws.specs.machine.Machine.Turn.{Give, FetchMessage, SetAside, Release}
 use Rattle.link_laws.specs.entries.Entries.{End as Side, sent_unless}
@@ -29,7 +28,7 @@ use Rattle.node_laws.proofs.links.Noticing.{at_all, at_host}
 use Rattle.node_laws.specs.notices.Notices.{IsKeptNotice, GoesToFree, has_notice}
 use Rattle.node_laws.proofs.notices.Reading.{reads, read_more}
 use Rattle.node_laws.proofs.notices.Own.{IsFar}
-use Rattle.node_laws.proofs.notices.Far.{AreFar}
+use Rattle.node_laws.proofs.notices.Far.{AreFar, not_near}
 use Rattle.node_laws.proofs.notices.Freeing.{controller_free}
 use Rattle.node_laws.proofs.notices.Telling.{MayTell, noticed, Outcome, controller_outcome}
 use Rattle.node_laws.proofs.notices.Telling.Outcome.{Leaves, IsHeard}
@@ -40,9 +39,6 @@ use Rattle.node_laws.specs.passes.Passing.{takes_up}
 use Rattle.node_laws.proofs.passes.Notes.{deed_notes}
 use Rattle.node_laws.proofs.passes.Passing.{takes_entries}
 use Rattle.node_laws.specs.answers.Unasked.{notifies}
-
-not_near : (e : End) (x : ℕ) → e.at_host ≡ true → same_end e (end_c x) ≡ false
-not_near e x far = ap (λ b. eqb e.link x && same_side b false) far ∙ and-false (eqb e.link x)
 
 module _ (x : ℕ) where
   -- a notice to the host x is sent among these
@@ -82,14 +78,10 @@ module _ (x : ℕ) where
   one_reads (entry.Cut n) q = either_none _
   one_reads e q = refl
 
-  no_or : (a b : Bool) → (a || b) ≡ false → (a ≡ false) × (b ≡ false)
-  no_or true b q = absurd (true≢false q)
-  no_or false b q = (refl, q)
-
   none_reads : (es : List Entry) → notified es ≡ false → reads x es None ≡ None
   none_reads [] q = refl
   none_reads (e ∷ es) q =
-      let parts = no_or (notifies x e) (notified es) q in ap (reads x es) (one_reads e parts.0) ∙ none_reads es parts.1
+      let parts = or_parts (notifies x e) (notified es) q in ap (reads x es) (one_reads e parts.0) ∙ none_reads es parts.1
 
   -- ## What deeds note
 
@@ -308,18 +300,16 @@ module _ (x : ℕ) where
 
     -- a notice that was there stays, or is answered
     some_ages : (n : Notice) → noticed w.ports x ≡ Some n → AgesIn base after
-    some_ages n q = else_ages base k deeds begun elses begun_ages where
-      free : AllByRecursion (GoesToFree w.ports) deeds
-      free = controller_free w.core w.ports k m
+    some_ages n q = else_ages base k deeds begun
+        (by deeds free (controller_outcome x k w.core w.ports a.sorted a.two host.0 host.1 a.right a.up m)) begun_ages where
+          free : AllByRecursion (GoesToFree w.ports) deeds
+          free = controller_free w.core w.ports k m
 
-      by : (ds : List Deed) → AllByRecursion (GoesToFree w.ports) ds → Outcome x k w.ports m ds → AllByRecursion IsElse ds
-      by ds free (Leaves none may) = free_else _ w.ports ds (has_of w.ports n q) may free
-      by ds free (IsHeard rest e is may) =
-          let f : AllByRecursion (GoesToFree w.ports) (IsAnswered ∷ rest) = subst (AllByRecursion (GoesToFree w.ports)) e free in
-          subst (AllByRecursion IsElse) (sym e) (tt, free_else _ w.ports rest (has_of w.ports n q) may f.1)
-
-      elses : AllByRecursion IsElse deeds
-      elses = by deeds free (controller_outcome x k w.core w.ports a.sorted a.two host.0 host.1 a.right a.up m)
+          by : (ds : List Deed) → AllByRecursion (GoesToFree w.ports) ds → Outcome x k w.ports m ds → AllByRecursion IsElse ds
+          by ds free (Leaves none may) = free_else _ w.ports ds (has_of w.ports n q) may free
+          by ds free (IsHeard rest e is may) =
+              let f : AllByRecursion (GoesToFree w.ports) (IsAnswered ∷ rest) = subst (AllByRecursion (GoesToFree w.ports)) e free in
+              subst (AllByRecursion IsElse) (sym e) (tt, free_else _ w.ports rest (has_of w.ports n q) may f.1)
 
     -- where there was none, one that is there is new
     none_ages : IsOn x t after → noticed w.ports x ≡ None → AgesIn base after
@@ -336,14 +326,12 @@ module _ (x : ℕ) where
       entries : after.entries ≡ w.entries ++ more
       entries = Rattle.node_laws.proofs.passes.Passing.handles_entries k m deeds w
 
-      was : notice_in (t ++ w.entries) x ≡ None
-      was = kept_none (notice_in (t ++ w.entries) x) (noticed w.ports x) q a.kept
-
       sent : notified after.entries ≡ true
       sent = ap notified entries ∙ (more_notified w.entries more ∙ (ap (λ c. notified w.entries || c) (by_test (notified more)
           (λ z. z)
           (λ z. let read : notice_in (t ++ after.entries) x ≡ None =
-          ap (λ es. notice_in (t ++ es) x) entries ∙ read_more x t w.entries more None None was (none_reads more z) in
+          ap (λ es. notice_in (t ++ es) x) entries ∙ read_more x t w.entries more None None
+          (kept_none (notice_in (t ++ w.entries) x) (noticed w.ports x) q a.kept) (none_reads more z) in
           absurd (subst (λ o. IsKeptNotice o (Some n)) read (subst (IsKeptNotice (notice_in (t ++ after.entries) x)) there b.kept)))) ∙ or-true
           (notified w.entries)))
 

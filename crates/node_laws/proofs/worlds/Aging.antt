@@ -329,6 +329,4 @@ aged_read past w c k a = by_option (world_step w c).0.controller
     (λ r q. rw q (let b = rw q at (event_aged (age_in past) (entries_in past) w c k (by_option w.controller
     (λ q. rw q tt)
     (λ r q. rw q (rw q at a)))) in
-    λ x n q. ((b x n q).0 ∙ sym (age_is x), (b x n q).1))) where
-      age_is : (x : ℕ) → age_in (past ++ occurs w c ∷ []) x ≡ cond (notified x (world_step w c).1) 0 (cond (is_tick c) (age_in past x + 1) (age_in past x))
-      age_is x = fold-append (age_after x) 0 past (occurs w c ∷ [])
+    λ x n q. ((b x n q).0 ∙ sym (fold-append (age_after x) 0 past (occurs w c ∷ [])), (b x n q).1)))

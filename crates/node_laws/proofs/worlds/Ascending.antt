@@ -26,6 +26,7 @@ use Rattle.node_laws.proofs.Cases.{by_option, by_test}
 use Rattle.node_laws.proofs.passes.Passing.{through, comes_lasts}
 use Rattle.node_laws.proofs.passes.Before.{before_entries, before_none, before_hosts, steps_are, links_none}
 use Rattle.node_laws.specs.answers.Order.{turn_link, IsAscending}
+use Rattle.node_laws.proofs.passes.Walking.{links_behind}
 
 -- ## Numbers
 
@@ -108,9 +109,6 @@ turnless_ascend es a = subst IsAscending (sym (none_there link_of_turn es a)) tt
 pub frames_turnless : (who : Side) (h : ℕ) (l : Link) (k : Work) → AreNoTurns (frames_noted who h l k)
 frames_turnless who h l k = by_option (port_at k.ports h) (λ q. rw q tt) (λ p q. rw q (links_none h (ending_entries who l p.side (ending_of k))))
 
-links_front : (a b : List Entry) → AreNoTurns a → links_of_turns (a ++ b) ≡ links_of_turns b
-links_front a b none = links_append link_of_turn a b ∙ ap (λ l. l ++ links_of_turns b) (none_there link_of_turn a none)
-
 links_back : (a b : List Entry) → AreNoTurns b → links_of_turns (a ++ b) ≡ links_of_turns a
 links_back a b none = links_append link_of_turn a b ∙ (ap (λ l. links_of_turns a ++ l) (none_there link_of_turn b none) ∙ append-nil (links_of_turns a))
 
@@ -123,7 +121,7 @@ step_ascends input w frames quiet up out =
     (λ q. let is : unless_cut passes k ≡ passes k = rw q refl in
     let p : ArePassed (ComesTo k) (hosts_of_ends k.ports) k (passes k) = through (ComesTo k) (comes_lasts k) (hosts_of_ends k.ports) k Begins q in
     subst (λ (v : Work). AllAscend v.entries) (sym is)
-    (subst AllAscend (sym p.entries) (subst IsAscending (sym (links_front k.entries p.more none))
+    (subst AllAscend (sym p.entries) (subst IsAscending (sym (links_behind k.entries p.more none))
     (along_ascends (hosts_of_ends k.ports) (links_of_turns p.more) (subst IsAscending (sym (before_hosts input w)) up) p.along)))))) where
       k : Work
       k = comes_to_pass input w

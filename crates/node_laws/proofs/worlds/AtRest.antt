@@ -99,8 +99,7 @@ site_one ports [] k s same here = absurd (cc here)
 site_one [] (x ∷ sites) k s same here = absurd (cc same)
 site_one (p ∷ ports) (x ∷ sites) k s same here = by_test (eqb x.host k)
     (λ q. let found : eqb p.desk.host k ≡ true = ap (λ n. eqb n k) one ∙ q in (p, rw found refl))
-    (λ q. let passed : eqb p.desk.host k ≡ false = ap (λ n. eqb n k) one ∙ q in
-    let rest = site_one ports sites k s others (rw q at here) in (rest.0, rw passed rest.1)) where
+    (λ q. let rest = site_one ports sites k s others (rw q at here) in (rest.0, rw (ap (λ n. eqb n k) one ∙ q) rest.1)) where
       one : p.desk.host ≡ x.host
       one = cc
 
@@ -163,10 +162,9 @@ module _ (t : List Entry) (s : Site) (a : SiteWaits t s) (r : Running) (runs : s
   far_rests =
       let p = its_port from.ports from_hosts in
       let begins = port_begins near_ends r.desks s.host p.0 p.1 in
-      let got : s.link.host.side.got ≡ p.0.side.got = sym same ∙ ap (λ (e : LinkEnd). e.got) (sym begins.1) in
       ended_done s.host Host t input from has.number from_side none unbooted outside (subst AreDifferent (sym from_hosts) (tt, tt))
       (far_runs s.host r s.memory.plan near_ends es off has own uncut) s.host held p.0 p.1 begins.0 refl still
-      (subst (Goes (end_h s.host) [] t) got (a.goes r runs))
+      (subst (Goes (end_h s.host) [] t) (sym same ∙ ap (λ (e : LinkEnd). e.got) (sym begins.1)) (a.goes r runs))
 
   -- the site behind it
   pub far_site : (v : Site) (frames : List Entry) → v.host ≡ s.host → v.node ≡ runs_on ended → AreIdle (end_h s.host) frames

@@ -119,10 +119,9 @@ host_rests u s b off runs =
     by_host_tick (λ p. IsPart s.host p.1 → SiteRests (u ++ p.1) p.0) s
     (λ q part. rest_on u [] s (record s { link = exchanged (ticks_at_controller (exchanged s.link) [] GoesOut) }) b.rests refl b.rests.holds tt tt)
     (λ r q part.
-    let has : HasEnds s.host (s.host ∷ []) r = subst (IfItRuns s.host (s.host ∷ [])) q runs in
     let v : Work = host_tick s r in
     let frames : List Entry = frames_noted Host s.host (exchanged s.link) v in
-    far_site u s b r q has off (λ h. s.link.host) [] refl tt tt tt tt tt TimePasses tt
+    far_site u s b r q (subst (IfItRuns s.host (s.host ∷ [])) q runs) off (λ h. s.link.host) [] refl tt tt tt tt tt TimePasses tt
     (record s {
       link = exchanged (ticks_at_controller (exchanged s.link) (turns_at v s.host) (ending_of v));
       memory = after_planned v.writes s.memory;
@@ -147,9 +146,6 @@ hosts_rest u (s ∷ sites) d n b = (
   part : IsPart s.host es
   part = far_tick s n.0.0 n.0.1
 
-  moved : (host_ticks s).0.host ≡ s.host
-  moved = by_host_tick (λ p. p.0.host ≡ s.host) s (λ q. refl) (λ r q. refl)
-
   head : SiteRests (u ++ (es ++ later)) (host_ticks s).0
   head =
       let first : SiteRests (u ++ es) (host_ticks s).0 = host_rests u s b.0 n.0.0 n.0.1 in
@@ -157,7 +153,7 @@ hosts_rest u (s ∷ sites) d n b = (
       subst (λ l. SiteRests l (host_ticks s).0) (append_assoc u es later)
       (rest_on (u ++ es) later (host_ticks s).0 (host_ticks s).0 first refl first.holds
       (others_idle (end_c (host_ticks s).0.host) later (others_tick 0 sites (zeros sites n.1) n.1))
-      (subst H (sym moved) (others_idle (end_h s.host) later (others_tick s.host sites d.0 n.1))))
+      (subst H (sym (by_host_tick (λ p. p.0.host ≡ s.host) s (λ q. refl) (λ r q. refl))) (others_idle (end_h s.host) later (others_tick s.host sites d.0 n.1))))
     where
       zeros : (sites : List Site) → AreNodes sites → AllByRecursion (λ h. (h == 0) ≡ false) (hosts_in sites)
       zeros [] n = tt
@@ -242,13 +238,11 @@ pub history_rests : (header : Header) (lines : List Line) (t : NodeHistory) → 
     → (front back : List Occurrence) → occurrences_in t ≡ front ++ back → IsAtRest (entries_in front) (world_behind (new_world header.hosts.items) front)
 history_rests header lines t follows are front back parts =
     let hosts : List ℕ = header.hosts.items in
-    let events : List Occurrence = events_of_steps (steps_from (new_world hosts) lines) in
-    let all : AllHold IsAtRest MayBoot AnyLine rest_lasts boots_may [] (new_world hosts) events =
+    let all : AllHold IsAtRest MayBoot AnyLine rest_lasts boots_may [] (new_world hosts) (events_of_steps (steps_from (new_world hosts) lines)) =
     lines_hold IsAtRest MayBoot AnyLine rest_lasts boots_may lines [] (new_world hosts)
     (record { reads = new_reads hosts are; rests = new_rests hosts }) (all_lines lines) in
-    let same : events ≡ front ++ back = sym (ap events_of_steps follows.steps_are) ∙ parts in
     front_holds IsAtRest MayBoot AnyLine rest_lasts boots_may front back [] (new_world hosts)
-    (subst (AllHold IsAtRest MayBoot AnyLine rest_lasts boots_may [] (new_world hosts)) same all)
+    (subst (AllHold IsAtRest MayBoot AnyLine rest_lasts boots_may [] (new_world hosts)) (sym (ap events_of_steps follows.steps_are) ∙ parts) all)
 
 done_of : (t : List Entry) (sites : List Site) → AllAtRest t sites → AllByRecursion (λ e. is_done t e ≡ true) (ends_in (hosts_in sites))
 done_of t [] a = tt

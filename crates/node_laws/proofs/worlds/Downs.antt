@@ -49,25 +49,22 @@ beginning_none = beginning_notes IsDownless (of_deeds IsDownless of_step)
 
 -- ## What links note
 
-quiet_none : (h : ℕ) (notes : List Noted) → AllByRecursion IsQuiet notes → AreDownless (entries_for h notes)
-quiet_none h [] all = tt
-quiet_none h (Down who cause ∷ notes) all = absurd all.0
-quiet_none h (Sent who n m ∷ notes) all = absurd all.0
-quiet_none h (Tick ∷ notes) all = quiet_none h notes all.1
-quiet_none h (Restarted who ∷ notes) all = quiet_none h notes all.1
-quiet_none h (Cut who ∷ notes) all = quiet_none h notes all.1
-quiet_none h (_ ∷ notes) all = (refl, quiet_none h notes all.1)
-
 pub notes_downless : (h : ℕ) (notes : List Noted) → AllByRecursion IsQuiet notes → AreDownless (entries_for h notes)
-notes_downless = quiet_none
+notes_downless h [] all = tt
+notes_downless h (Down who cause ∷ notes) all = absurd all.0
+notes_downless h (Sent who n m ∷ notes) all = absurd all.0
+notes_downless h (Tick ∷ notes) all = notes_downless h notes all.1
+notes_downless h (Restarted who ∷ notes) all = notes_downless h notes all.1
+notes_downless h (Cut who ∷ notes) all = notes_downless h notes all.1
+notes_downless h (_ ∷ notes) all = (refl, notes_downless h notes all.1)
 
 pub frames_downless : (who : Side) (h : ℕ) (l : Link) (k : Work) → AreDownless (frames_noted who h l k)
 frames_downless who h l k = by_option (port_at k.ports h)
     (λ q. rw q tt)
-    (λ p q. rw q (quiet_none h (ending_entries who l p.side (ending_of k)) (ending_quiet who l p.side (ending_of k))))
+    (λ p q. rw q (notes_downless h (ending_entries who l p.side (ending_of k)) (ending_quiet who l p.side (ending_of k))))
 
 pub arrival_downless : (who : Side) (h : ℕ) (l : Link) (comes : Comes) → AreDownless (entries_for h (arrival who l comes))
-arrival_downless who h l comes = quiet_none h (arrival who l comes) (arrival_quiet who l comes)
+arrival_downless who h l comes = notes_downless h (arrival who l comes) (arrival_quiet who l comes)
 
 pub flat_downless : {X : Type 0} (f : X → List Entry) → ((x : X) → AreDownless (f x)) → (xs : List X) → AreDownless (flat_map f xs)
 flat_downless f one [] = tt
@@ -121,7 +118,7 @@ module _ (test : EndedBy → Bool) (e : End) where
         others = told_rest who n acked rep
 
         none : ends_in_list (entries_for h others) ≡ false
-        none = any_none (entries_for h others) (quiet_none h others (rest_quiet who n acked rep))
+        none = any_none (entries_for h others) (notes_downless h others (rest_quiet who n acked rep))
 
   -- why a session ends as this comes
   abbrev pub ends_by : Port → Option LinkInput → Bool

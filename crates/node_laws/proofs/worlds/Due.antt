@@ -160,9 +160,7 @@ module _ (t : List Entry) (s : Site) (r : Running) (has : HasEnds s.host (s.host
           (subst (λ ds. AnswersSo s.host (X ∷ frames) (noted_of_deeds (t ++ ds) s.host s.host D)) (sym (none_down (X ∷ frames) (refl, downless)))
           (subst (λ u. AnswersSo s.host (X ∷ frames) (noted_of_deeds u s.host s.host D)) (sym (append-nil t))
           (subst (AnswersSo s.host (X ∷ frames)) (sym wanted)
-          (one_due s.host X frames answers refl refl none)))) where
-            answers : is_answer_of s.host X ≡ true
-            answers = rw off (same_number s.host)
+          (one_due s.host X frames (rw off (same_number s.host)) refl refl none))))
 
 -- ## Lines
 
@@ -246,7 +244,6 @@ module _ (t : List Entry) (w : NodeWorld) (a : IsOrderly w) (sites : AreHostSite
       let s : Site = found.0 in
       let r : Running = may.node in
       let is : s.host ≡ e.link = site_host w.sites e.link s found.1 in
-      let number : (s.host == 0) ≡ false = far_number w e.link s a found.1 in
       let takes : give_refusal s.link.host.side m ≡ None =
       ap (λ (l : Link). give_refusal l.host.side m) (sym (link_is w.sites e.link s found.1)) ∙ may.taken in
       let R : ℕ → Type 0 = λ k. session_now t (end_h k) k ≡ number_now s.link.host in
@@ -255,7 +252,7 @@ module _ (t : List Entry) (w : NodeWorld) (a : IsOrderly w) (sites : AreHostSite
       let frames : ℕ → List Entry = λ k. frames_noted Host k (wires_for (exchanged s.link) NoInput) (v k) in
       let G : ℕ → Type 0 = λ k. AnswersSo k ((v k).entries ++ frames k) (noted_of_deeds (t ++ filter is_down ((v k).entries ++ frames k)) k k (D k)) in
       let own : G s.host =
-      begun_due t s r (far_node w e.link s r a found.1 found.2) number m takes read (D s.host)
+      begun_due t s r (far_node w e.link s r a found.1 found.2) (far_number w e.link s a found.1) m takes read (D s.host)
       (taken s r (takes_message s r takes)) (counts s r) (on s r) (reply s.host)
       (frames s.host) (unanswered_all s.host (frames s.host) (out_unanswered Host s.host (wires_for (exchanged s.link) NoInput) (v s.host)))
       (frames_downless Host s.host (wires_for (exchanged s.link) NoInput) (v s.host)) in

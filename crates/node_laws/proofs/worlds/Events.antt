@@ -229,8 +229,7 @@ module _ (t : List Entry) (w : NodeWorld) (a : IsOrderly w) (before : AllWaiting
   one_rests h s here es part off g does =
       all_with Stood (SiteRests (t ++ es)) h g
       (λ x found b.
-      let there : site_at w.sites h ≡ Some x = ap (site_at w.sites) (sym (eqb-true x.host h found)) ∙ b.1 in
-      let both : Some s ≡ Some x = sym here ∙ there in
+      let both : Some s ≡ Some x = sym here ∙ (ap (site_at w.sites) (sym (eqb-true x.host h found)) ∙ b.1) in
       let one : s ≡ x = cc in
       let P : Site → Type 0 = λ y. SiteRests (t ++ es) (g y) in subst P one (does (subst (SiteWaits t) (sym one) b.0)))
       (λ x other b. other_rests h es part off x other b.0) w.sites stood
@@ -241,15 +240,13 @@ module _ (t : List Entry) (w : NodeWorld) (a : IsOrderly w) (before : AllWaiting
       by_host (λ p. IsPart h p.1 → AllAtRest (t ++ p.1) p.0.sites) w h comes (steps (AtEnd h i))
       (λ part. subst (λ l. AllAtRest l w.sites) (sym (append-nil t)) (all_rests t w.sites before))
       (λ s r here q part.
-      let is : s.host ≡ h = site_host w.sites h s here in
       let fine = site_fine h s r w.sites (orderly_fine w a) here q in
       let v : Work = host_work s r comes (steps (AtEnd h i)) in
       let frames : List Entry = frames_noted Host h (wires_for (exchanged s.link) comes) v in
-      let off : (h == 0) ≡ false = subst (λ n. (n == 0) ≡ false) is fine.1 in
+      let off : (h == 0) ≡ false = subst (λ n. (n == 0) ≡ false) (site_host w.sites h s here) fine.1 in
       let there : link_to w.sites h ≡ s.link = link_is w.sites h s here in
-      let es : List Entry = entries_for s.host (arrival Host (exchanged s.link) comes) in
       one_rests h s here (v.entries ++ frames) part off (after_host comes v)
-      (λ b. far_site t s b r q fine.0 fine.1 (λ n. near_end_in (exchanged s.link) comes) es
+      (λ b. far_site t s b r q fine.0 fine.1 (λ n. near_end_in (exchanged s.link) comes) (entries_for s.host (arrival Host (exchanged s.link) comes))
       (ap (λ (e : LinkEnd). e.got) (near_end_side (exchanged s.link) comes)) (links_none s.host (arrival Host (exchanged s.link) comes))
       (notes_unbooted s.host (arrival Host (exchanged s.link) comes))
       (links_own s.host s.host Host refl (arrival Host (exchanged s.link) comes) (arrival_of_side Host (exchanged s.link) comes))
@@ -288,14 +285,12 @@ module _ (t : List Entry) (w : NodeWorld) (a : IsOrderly w) (before : AllWaiting
           → AreIdle (end_h s.host) frames → AreNotOf 0 (v.entries ++ frames) → SiteRests (t ++ (v.entries ++ frames)) (after_host NoInput v s)
       begun_rests s b r q h deeds mute turnless v frames is idle other =
           let from : Work = host_begins s r NoInput in
-          let es : List Entry = noted_by_deeds h deeds from in
-          let none : AreNoTurns es = noted_none h deeds from turnless in
-          let noted : v.entries ≡ es = ap (λ (u : Work). u.entries) (sym is) ∙ deeds_note h deeds from in
+          let noted : v.entries ≡ (noted_by_deeds h deeds from) = ap (λ (u : Work). u.entries) (sym is) ∙ deeds_note h deeds from in
           let unbooted : AreNoBoots v.entries =
           subst (λ (u : Work). AreNoBoots u.entries) is (begins_unbooted r.core.node (own_side r.core) h deeds from mute refl refl tt) in
           let own : AreIdle (end_h s.host) v.entries =
           quiet_idle (end_h s.host) v.entries (subst (AreStill (end_h s.host)) (sym noted) (deeds_still (end_h s.host) h deeds from mute))
-          (subst AreNoTurns (sym noted) none) unbooted in
+          (subst AreNoTurns (sym noted) (noted_none h deeds from turnless)) unbooted in
           let all : AreIdle (end_h s.host) (v.entries ++ frames) = all_append (IsIdle (end_h s.host)) v.entries frames own idle in
           let sees : SeesAt s.host (waiting_at from.ports s.host) (is_held_at from.ports s.host) v =
           subst (SeesAt s.host (waiting_at from.ports s.host) (is_held_at from.ports s.host)) is
@@ -371,8 +366,7 @@ module _ (t : List Entry) (w : NodeWorld) (a : AllAtRest t w.sites) where
 booted_rests : (t : List Entry) (n k : ℕ) (s v : Site) → SiteRests t s → (s.host == n) ≡ true → (n == 0) ≡ false → v.host ≡ s.host
     → ((r : Running) → v.node ≡ Some r → is_held_among r.desks s.host ≡ false) → SiteRests (t ++ entry.Booted n k ∷ []) v
 booted_rests t n k s v a found off host none =
-    let is : n ≡ s.host = sym (eqb-true s.host n found) in
-    let here : (n == s.host) ≡ true = ap (λ j. n == j) (sym is) ∙ same_number n in record {
+    let here : (n == s.host) ≡ true = ap (λ j. n == j) (sym (sym (eqb-true s.host n found))) ∙ same_number n in record {
       near = subst (λ h. is_done (t ++ entry.Booted n k ∷ []) (end_c h) ≡ true) (sym host)
           (idle_done (end_c s.host) t (entry.Booted n k ∷ []) (off, tt) a.near);
       holds = λ r q. subst (λ h. holds_in (t ++ entry.Booted n k ∷ []) (end_h h) ≡ is_held_among r.desks h) (sym host)
@@ -395,11 +389,10 @@ module _ (t : List Entry) (w : NodeWorld) (o : IsOrderly w) (a : AllAtRest t w.s
   pub boot_rests : (n : ℕ) → AllAtRest (t ++ (boots w n).1) (boots w n).0.sites
   boot_rests n = by_test (n == 0)
       (λ z. let same : boot_written w n ≡ record w { memory = m } = rw z refl in
-      let zero : n ≡ 0 = eqb-true n 0 z in
       by_boot (λ p. AllAtRest (t ++ p.1) p.0.sites) w n (cut_rests t w a n (boot_written w n) (ap (λ (v : NodeWorld). v.sites) same))
       (by_running (λ u. AllAtRest (t ++ told) u.sites) n (boot_written w n) (boot_found w n)
       (λ q. subst (λ (v : NodeWorld). AllAtRest (t ++ told) v.sites) (sym same)
-      (subst (λ j. AllAtRest (t ++ entry.Booted j count ∷ []) w.sites) (sym zero)
+      (subst (λ j. AllAtRest (t ++ entry.Booted j count ∷ []) w.sites) (sym (eqb-true n 0 z))
       (all_two (SiteRests t) (λ (s : Site). (s.host == 0) ≡ false) (SiteRests (t ++ entry.Booted 0 count ∷ []))
       (λ s x off. booted_near t count s x off) w.sites a o.hosts)))
       (λ q. absurd (true≢false (sym z ∙ q)))))

@@ -4,7 +4,7 @@ use Rattle.std.proofs.Common.{sym, ap, ap₂, subst, ◌∙◌, ◌||◌, ◌&&�
 use Rattle.std.specs.Prelude.{◌+◌, not, nat_le}
 use Rattle.std.specs.List.{flat_map}
 use Rattle.std.specs.Option.{option_map, option_map_or, option_and_then}
-use Rattle.std.proofs.lemmas.Bool.{true≢false, eq-eqb}
+use Rattle.std.proofs.lemmas.Bool.{true≢false, eq-eqb, or_parts}
 use mathlib.Core.Bool.{or-true}
 use Rattle.trace_model.specs.Lines.{IsHost}
 use Rattle.trace_model.specs.declared.entry.Entry.{Entry}
@@ -83,7 +83,7 @@ module _ (x : ℕ) (t : List Entry) (base : ℕ) where
     handled = λ w h m messages a on waits room still.
         let host : IsHost h = waiting_host w.ports h m messages a.0.hosts waits in
         let deeds : List Deed = controller_deeds (view_of w.core w.ports) h m in
-        let are : deeds_of w.core w.ports h m ≡ deeds = own_deeds w h m a.0.node in
+        let are : deeds_of w.core w.ports h m ≡ deeds = (let zero : eqb w.core.node 0 ≡ true = eq-eqb w.core.node 0 a.0.node in rw zero refl) in
         subst (λ ds. (handles h m ds w).cut ≡ false → G (handles h m ds w)) (sym are)
         (λ on.
         let b : IsOn x t (handles h m deeds w) = on_of (handles h m deeds w) (handled_stand x t h m w host a.0 (ap (λ ds. lack w.ports (needs h ds))
@@ -91,9 +91,7 @@ module _ (x : ℕ) (t : List Entry) (base : ℕ) where
         (b, handled_ages x t base h m w host a.0 a.1 b)) still;
     held = λ w h m messages short a on waits lacks. (holds_stand x t h short w a.0, holds_ages h short w a.1);
     let_go = λ w h a on waits. (lets_stand x t h w a.0, lets (AgesIn x base) held_ages h w a.1);
-  } where
-    own_deeds : (w : Work) (h : ℕ) (m : Message) → w.core.node ≡ 0 → deeds_of w.core w.ports h m ≡ controller_deeds (view_of w.core w.ports) h m
-    own_deeds w h m node = let zero : eqb w.core.node 0 ≡ true = eq-eqb w.core.node 0 node in rw zero refl
+  }
 
   pub pass_ages : (w : Work) → w.cut ≡ false → IsOn x t w → AgesIn x base w → (passes w).cut ≡ false → AgesIn x base (passes w)
   pass_ages w on a ages still = ((through G lasts (hosts_of_ends w.ports) w (a, ages) on).keeps still).1
@@ -139,11 +137,8 @@ module _ (x : ℕ) where
   stayed ports q n is = by_test (is_forgotten ports (asked_at q))
       (λ z. by_notice (rw z at parts.0) q.desk.notice refl (rw z at parts.1))
       (λ z. record { was = n; here = rw z at parts.1; age = refl; off = rw z at parts.0 }) where
-        over : (r : Port) → (without_notice r).desk.notice ≡ Some n → (is_over r ≡ false) × (r.desk.notice ≡ Some n)
-        over r z = by_test (is_over r) (λ y. let none : None ≡ Some n = rw y at z in absurd (cc none)) (λ y. (y, rw y at z))
-
         parts : (is_over (forgets ports q) ≡ false) × ((forgets ports q).desk.notice ≡ Some n)
-        parts = over (forgets ports q) is
+        parts = by_test (is_over (forgets ports q)) (λ y. let none : None ≡ Some n = rw y at is in absurd (cc none)) (λ y. (y, rw y at is))
 
         forgot : Option Notice → Option Notice
         forgot o = option_map_or (λ (n : Notice). Some (record n { about = Rattle.node_machine.specs.Parts.About.Forgotten })) o None
@@ -182,10 +177,6 @@ module _ (x : ℕ) where
       (λ q. rw q refl)
       (λ p q. rw q refl))
 
-  no_or : (a b : Bool) → (a || b) ≡ false → (a ≡ false) × (b ≡ false)
-  no_or true b q = absurd (true≢false q)
-  no_or false b q = (refl, q)
-
   young : (n : ℕ) → nat_le 100 n ≡ false → n ≤ 99
   young n q = grind (arith, q)
 
@@ -199,9 +190,8 @@ module _ (x : ℕ) where
       (λ z. let none : None ≡ Some s.was = rw z at here in absurd (cc none))
       (λ m z. let is : Some (Rattle.node_machine.specs.Node.older_notice m) ≡ Some s.was = rw z at here in
       let same : Rattle.node_machine.specs.Node.older_notice m ≡ s.was = cc in
-      let age : n.age ≡ m.age + 1 = s.age ∙ sym (ap (λ (k : Notice). k.age) same) in
       let less : nat_le 100 s.was.age ≡ false = ap (λ o. option_map_or (λ (n : Notice). nat_le 100 n.age) o false) (sym here) ∙ low in (
-        age ∙ ap (λ k. k + 1) (old m z).0,
+        (s.age ∙ sym (ap (λ (k : Notice). k.age) same)) ∙ ap (λ k. k + 1) (old m z).0,
         subst (λ k. k ≤ 99) (sym s.age) (young s.was.age less),
       )) where
         y : Port
@@ -214,7 +204,7 @@ module _ (x : ℕ) where
         fresh = by_test (is_late y)
             (λ z. let late : is_over (reset_late y) ≡ true = rw z (or-true y.ended) in absurd (true≢false (sym late ∙ s.off)))
             (λ z. let same : reset_late y ≡ y = rw z refl in
-            (z, (no_or y.ended y.late (ap is_over (sym same) ∙ s.off)).0))
+            (z, (or_parts y.ended y.late (ap is_over (sym same) ∙ s.off)).0))
 
         and_not : (a b : Bool) → (a && not b) ≡ false → b ≡ false → a ≡ false
         and_not true true q z = absurd (true≢false z)
@@ -293,12 +283,10 @@ module _ (x : ℕ) where
         (λ z. let is : unless_cut passes k ≡ k = rw z refl in subst (AgesIn x (grown input age0)) (sym is) before)
         (λ z. let is : unless_cut passes k ≡ passes k = rw z refl in
         subst (AgesIn x (grown input age0)) (sym is)
-        (pass_ages x t (grown input age0) k z (on_of x t (grown input age0) k stands z) before (ap (λ (y : Work). y.cut) (sym is) ∙ still)))) where
+        (pass_ages x t (grown input age0) k z (on_of x t (grown input age0) k stands z) before
+        (ap (λ (y : Work). y.cut) (sym is) ∙ (ap (λ (z : Work). z.cut) (sym (steps_are input w)) ∙ on))))) where
           k : Work
           k = comes_to_pass input w
 
           before : AgesIn x (grown input age0) k
           before = before_ages input w age0 quiet old
-
-          still : (unless_cut passes k).cut ≡ false
-          still = ap (λ (z : Work). z.cut) (sym (steps_are input w)) ∙ on

@@ -34,7 +34,6 @@ use Rattle.node_laws.specs.answers.Unasked.{is_reset_down, is_reset_due}
 use Rattle.std.proofs.Common.{append-nil}
 use Rattle.std.proofs.lemmas.List.Concat.{flat_map-append}
 use Rattle.node_machine.specs.world.World.{Happening}
-use Rattle.node_machine.specs.world.NodeHistories.{steps_from}
 use Rattle.node_laws.specs.telling.Telling.{MayBoot}
 use Rattle.node_laws.proofs.telling.Lasting.{AnyLine, EachHolds, all_lines, boots_may, front_each, lines_each, occurs}
 use Rattle.node_laws.proofs.notices.Events.{begins_read, event_read}
@@ -68,12 +67,9 @@ IsFound sites h = (s : Site) × (site_at sites h ≡ Some s)
 each_found : (sites : List Site) → AllByRecursion (IsFound sites) (hosts_in sites)
 each_found [] = tt
 each_found (s ∷ sites) = ((s, rw (eq-eqb s.host s.host refl) refl), more (hosts_in sites) (each_found sites)) where
-  one : (h : ℕ) → IsFound sites h → IsFound (s ∷ sites) h
-  one h found = by_test (eqb s.host h) (λ q. (s, rw q refl)) (λ q. (found.0, rw q found.1))
-
   more : (hosts : List ℕ) → AllByRecursion (IsFound sites) hosts → AllByRecursion (IsFound (s ∷ sites)) hosts
   more [] a = tt
-  more (h ∷ hosts) a = (one h a.0, more hosts a.1)
+  more (h ∷ hosts) a = ((by_test (eqb s.host h) (λ q. (s, rw q refl)) (λ q. (a.0.0, rw q a.0.1))), more hosts a.1)
 
 -- both ends of each link
 all_ends : (P : End → Type 0) (hosts : List ℕ) → AllByRecursion (λ h. P (end_c h) × P (end_h h)) hosts → AllByRecursion P (ends_in hosts)
@@ -102,9 +98,8 @@ pub ages_read : (header : Header) (lines : List Line) (t : NodeHistory) → Foll
 ages_read header lines t follows are past back parts =
     let hosts : List ℕ = header.hosts.items in
     let P : List Occurrence → Type 0 = λ events. EachHolds IsAgedSo MayBoot AnyLine aged_so boots_may [] (new_world hosts) events in
-    let is : events_of_steps (steps_from (new_world hosts) lines) ≡ past ++ back = ap events_of_steps (sym follows.steps_are) ∙ parts in
     (front_each IsAgedSo MayBoot AnyLine aged_so boots_may past back [] (new_world hosts)
-    (subst P is (lines_each IsAgedSo MayBoot AnyLine aged_so boots_may lines [] (new_world hosts)
+    (subst P (ap events_of_steps (sym follows.steps_are) ∙ parts) (lines_each IsAgedSo MayBoot AnyLine aged_so boots_may lines [] (new_world hosts)
     (record { notices = begins_read hosts are; ages = tt }) (all_lines lines)))).ages
 
 module _ (header : Header) (lines : List Line) (t : NodeHistory) (follows : FollowsNodes header lines t) (are : AreHosts header.hosts.items)
@@ -125,16 +120,14 @@ module _ (header : Header) (lines : List Line) (t : NodeHistory) (follows : Foll
 
     pub quiet : NoNotices w.sites
     quiet = all_found (λ (s : Site). IfNoNotices s.node) w.sites so.well.orderly.different one where
-      same : events_of_steps (Rattle.node_machine.specs.world.NodeHistories.steps_from (new_world hosts) lines) ≡ past ++ back
-      same = sym (ap events_of_steps follows.steps_are) ∙ parts
-
       one : (h : ℕ) (s : Site) → site_at w.sites h ≡ Some s → IfNoNotices s.node
       one h s found =
           let host : IsHost h = subst IsHost (site_host w.sites h s found) (site_is IsGoodSite w.sites h s notices.sites found).host in
           let i : Option Init = fold (init_behind h) None past in
           let keeps : Keeps h host w i =
           front_keeps h host past back (new_world hosts) None (new_orderly hosts are.different (none_zero hosts are.all)) (new_keeps h host hosts)
-          (subst (AreCaused MayKeep (new_world hosts)) same (lines_caused MayKeep IsBegunByHost line_may lines (new_world hosts) sides)) in
+          (subst (AreCaused MayKeep (new_world hosts)) (sym (ap events_of_steps follows.steps_are) ∙ parts)
+          (lines_caused MayKeep IsBegunByHost line_may lines (new_world hosts) sides)) in
           keeps_none i s (subst (AtSite i) found keeps)
 
     module _ (ages : AgesAreRead past w.controller) where

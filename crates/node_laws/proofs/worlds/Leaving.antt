@@ -144,8 +144,7 @@ module _ (k : ℕ) where
     both [] a b = tt
     both (h ∷ hs) a b =
         let apart : h ≡ k → ⊥ = λ q. true≢false (sym (eq-eqb h k q) ∙ b.0) in
-        let low : k ≤ h = a.0 in
-        (omega (arith, apart, low), both hs a.1 b.1)
+        (omega (arith, apart, a.0), both hs a.1 b.1)
   highs (h ∷ earlier) later up off = highs earlier later up.1 off
 
 -- ## A step
@@ -217,11 +216,10 @@ module _ (hosts : List ℕ) (are : AreHosts hosts) (up : IsAscending hosts) (pas
         ap (take_while (before_it k)) (shape [] q) ∙ take_all k ((lead ++ A) ++ rest) (all_append _ (lead ++ A) rest first (none_later k rest after)) in
         short_lacks hosts past (seen P) (end_c k)
         (lacks (as_left past (seen P) (end_c k)) rest calm idle (ap (λ x. entries_in past ++ x) taken ∙ told rest)))
-        (λ x back q. let next = subst BeginWithTurn q l.next in
-        let links : AllByRecursion (λ n. k < n) (links_of_turns (x ∷ back)) =
+        (λ x back q. let links : AllByRecursion (λ n. k < n) (links_of_turns (x ∷ back)) =
         along_all k (λ n. k < n) later (links_of_turns (x ∷ back)) (highs k earlier later ascending off)
         (subst (λ b. AreAlong later (links_of_turns b)) q l.behind) in
-        let late : is_later (end_c k) x ≡ true = head_later k x back next (l.near x back q) links in
+        let late : is_later (end_c k) x ≡ true = head_later k x back (subst BeginWithTurn q l.next) (l.near x back q) links in
         let taken : take_while (before_it k) (lead ++ (P ++ rest)) ≡ lead ++ A =
         ap (take_while (before_it k)) (shape (x ∷ back) q) ∙ take_to k (lead ++ A) x (back ++ rest) first late in
         short_lacks hosts past (seen P) (end_c k)

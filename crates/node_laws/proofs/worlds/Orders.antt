@@ -1,14 +1,12 @@
 -- In each event of a world what comes to a node is noted before what it answers.
-use Rattle.std.proofs.Common.{◌≡◌, ℕ, Bool, true, false, List, [], ◌∷◌, ◌++◌, None, refl, sym, subst}
+use Rattle.std.proofs.Common.{◌≡◌, ℕ, false, List, [], ◌∷◌, ◌++◌, refl, sym, subst}
 use Rattle.std.specs.Prelude.{◌==◌}
 use Rattle.std.specs.List.{AllByRecursion, flat_map}
-use Rattle.std.proofs.lemmas.Bool.{eqb-true}
-use Rattle.registry.proofs.ValueLemmas.{AllByRecursion-append as all_append}
 use Rattle.trace_model.specs.declared.entry.Entry.{Entry}
 use Rattle.trace_model.specs.declared.line.End.{End}
 use Rattle.trace_model.specs.declared.line.Header.{Header}
 use Rattle.trace_model.specs.declared.line.Line.{Line}
-use Rattle.link_laws.specs.messages.Links.{Loss, Comes, aged, exchanged}
+use Rattle.link_laws.specs.messages.Links.{Loss, Comes, exchanged}
 use Rattle.link_laws.specs.messages.Links.Comes.{NextFrame, AsksReset, Starts, NoInput}
 use Rattle.link_laws.specs.entries.Entries.{first_lost, aged_entries}
 use Rattle.link_laws.specs.entries.Entries.End.{Controller, Host}
@@ -16,9 +14,9 @@ use Rattle.history.specs.Steps.{entries_for}
 use Rattle.node_machine.specs.Parts.{Work, Deed}
 use Rattle.node_machine.specs.Node.{steps, begins_with}
 use Rattle.node_machine.specs.Node.NodeInput.{AtEnd, TimePasses}
-use Rattle.node_machine.specs.world.World.{Site, NodeWorld, Happening, site_at, link_to, wires_for, work_of, frames_noted}
+use Rattle.node_machine.specs.world.World.{Site, NodeWorld, Happening, link_to, wires_for, work_of, frames_noted}
 use Rattle.node_machine.specs.world.World.{comes_to, controller_work, host_work, host_does}
-use Rattle.node_machine.specs.world.World.{boots, frame_lost, all_aged, controller_ticks, host_ticks, hosts_tick, world_ticks, sending}
+use Rattle.node_machine.specs.world.World.{boots, frame_lost, all_aged, host_ticks, world_ticks, sending}
 use Rattle.node_machine.specs.world.World.{beginning, comes_at, end_c, end_h}
 use Rattle.node_machine.specs.world.World.{world_step, controller_does, activates, new_world}
 use Rattle.node_machine.specs.world.World.Happening.{Boots, IsCut, Gives, Inits, Takes, Loses, Ticks, Resets, Activates, Arms}
@@ -26,24 +24,19 @@ use Rattle.node_machine.specs.world.Lines.{Occurrence, happenings}
 use Rattle.node_machine.specs.world.NodeHistories.{LineStep, NodeHistory, FollowsNodes, occurrences_of, occurrences_in}
 use Rattle.node_machine.proofs.world.Cases.{by_controller, by_host, by_coming, by_boot, by_loss, near_tick, by_controller_tick, host_tick, by_host_tick}
 use Rattle.node_laws.specs.kept.Hosts.{AreDifferent}
-use Rattle.node_laws.specs.telling.Telling.{hosts_in, IsOrderly}
+use Rattle.node_laws.specs.telling.Telling.{IsOrderly}
 use Rattle.node_laws.proofs.All.{all_flat}
-use Rattle.node_laws.proofs.Cases.{by_test}
 use Rattle.node_laws.proofs.telling.Lasting.{Any, AnyLine, all_any, all_lines, AreCaused, lines_caused}
 use Rattle.node_laws.proofs.telling.Orderly.{step_orderly, new_orderly}
-use Rattle.node_laws.proofs.telling.Events.{orderly_map, comes_goes}
-use Rattle.node_laws.proofs.telling.WorldTicks.{near_orderly}
 use Rattle.node_laws.proofs.telling.Frames.{lost_all, wires_all}
 use Rattle.node_laws.specs.passes.Steps.{controller_begins, controller_tick_begins}
-use Rattle.node_laws.specs.power.Powers.{AreNotOf}
-use Rattle.node_laws.proofs.power.Parts.{own_not, part_own}
 use Rattle.node_laws.specs.answers.Order.{NodesHearFirst}
 use Rattle.node_laws.proofs.worlds.Steps.{host_begins}
 use Rattle.node_laws.proofs.worlds.Hearing.{IsFrame, IsParted, IsUnheard, AreUnheard, AreUnanswered, NotesUnheard, frames_unheard, out_unheard}
 use Rattle.node_laws.proofs.worlds.Hearing.{arrival_unanswered}
 use Rattle.node_laws.proofs.worlds.Hearing.{step_parted, deeds_parted, sending_unheard, beginning_unheard, IsUnanswered}
-use Rattle.node_laws.proofs.power.Events.{AreNodes, both_nodes, comes_part, far_tick, near_ticks_part, no_site, none_zero, others_tick}
 use Rattle.node_laws.proofs.worlds.Order.{IsPartedFor, parted_for, others_behind, not_of_before, unanswered_before, first_heard}
+use Rattle.node_laws.proofs.worlds.NodeParts.{activates_part, ticks_part}
 
 only_back : (es : List Entry) → AreUnheard es → IsParted es
 only_back es a = record { front = []; back = es; is = refl; unanswered = tt; unheard = a }
@@ -98,26 +91,9 @@ boots_parted w n = by_boot (λ p. IsParted p.1) w n (only_back _ (refl, tt)) (on
 -- ## Activation
 
 activates_parted : (n : ℕ) (w : NodeWorld) → IsOrderly w → (h sync power : ℕ) → IsPartedFor n (activates w h sync power).1
-activates_parted n w a h sync power = by_test (0 == n)
-    (λ q. others_behind n near.1 far.1 (parted_for n near.1 (comes_parted w (end_c h) (Starts power)))
-    (subst (λ m. AreNotOf m far.1) (eqb-true 0 n q) (zero_far (h == 0) refl)))
-    (λ q. not_of_before n far.1 near.1 (own_not 0 n near.1 q (part_own 0 near.1 (comes_part w (end_c h) (Starts power) a)))
-    (parted_for n far.1 (comes_parted near.0 (end_h h) (Starts sync)))) where
-      near : NodeWorld × List Entry
-      near = comes_at w (end_c h) (Starts power)
-
-      far : NodeWorld × List Entry
-      far = comes_at near.0 (end_h h) (Starts sync)
-
-      b : IsOrderly near.0
-      b = (comes_goes w (end_c h) (Starts power) a).orderly
-
-      zero_far : (c : Bool) → (h == 0) ≡ c → AreNotOf 0 far.1
-      zero_far false q = own_not h 0 far.1 q (part_own h far.1 (comes_part near.0 (end_h h) (Starts sync) b))
-      zero_far true q =
-          let none : site_at near.0.sites h ≡ None = no_site near.0.sites h q b.hosts in
-          let is : far.1 ≡ [] = rw none refl in
-          subst (AreNotOf 0) (sym is) tt
+activates_parted n w a h sync power =
+    activates_part (IsPartedFor n) n (others_behind n) (not_of_before n) w a h sync power
+    (parted_for n _ (comes_parted w (end_c h) (Starts power))) (λ b. parted_for n _ (comes_parted _ (end_h h) (Starts sync)))
 
 -- ## Ticks
 
@@ -127,56 +103,24 @@ host_parted s =
     (λ r q. step_parted TimePasses (work_of r s.memory.plan (λ h. s.link.host) []) (frames_noted Host s.host (exchanged s.link) (host_tick s r)) tt
     (out_unheard Host s.host (exchanged s.link) (host_tick s r)))
 
-hosts_parted : (n : ℕ) (sites : List Site) → AreDifferent (hosts_in sites) → AreNodes sites → IsPartedFor n (hosts_tick sites).1
-hosts_parted n [] d a = parted_for n [] (only_back [] tt)
-hosts_parted n (s ∷ sites) d a = by_test (s.host == n)
-    (λ q. others_behind n (host_ticks s).1 (hosts_tick sites).1 (parted_for n (host_ticks s).1 (host_parted s))
-    (subst (λ m. AreNotOf m (hosts_tick sites).1) (eqb-true s.host n q) (others_tick s.host sites d.0 a.1)))
-    (λ q. not_of_before n (hosts_tick sites).1 (host_ticks s).1 (own_not s.host n (host_ticks s).1 q
-    (part_own s.host (host_ticks s).1 (far_tick s a.0.0 a.0.1)))
-    (hosts_parted n sites d.1 a.1))
-
 pub aged_unanswered : (sites : List Site)
     → AreUnanswered (flat_map (λ (s : Site). entries_for s.host (aged_entries Controller s.link.to_controller ++ aged_entries Host s.link.to_host)) sites)
-aged_unanswered [] = tt
-aged_unanswered (s ∷ sites) =
-    all_append IsUnanswered (entries_for s.host (aged_entries Controller s.link.to_controller ++ aged_entries Host s.link.to_host)) _
-    (frames_unheard s.host (aged_entries Controller s.link.to_controller ++ aged_entries Host s.link.to_host)
-    (wires_all IsFrame (λ w c. tt) Controller Host s.link.to_controller s.link.to_host)).1
-    (aged_unanswered sites)
+aged_unanswered =
+    all_flat IsUnanswered (λ (s : Site). entries_for s.host (aged_entries Controller s.link.to_controller ++ aged_entries Host s.link.to_host))
+    (λ s. (frames_unheard s.host (aged_entries Controller s.link.to_controller ++ aged_entries Host s.link.to_host)
+    (wires_all IsFrame (λ w c. tt) Controller Host s.link.to_controller s.link.to_host)).1)
 
 ticks_parted : (n : ℕ) (w : NodeWorld) → IsOrderly w → IsPartedFor n (world_ticks w).1
-ticks_parted n w a = unanswered_before n (near.1 ++ (hosts_tick near.0.sites).1) (all_aged w).1 (aged_unanswered w.sites) (go (0 == n) refl) where
-  old : NodeWorld
-  old = (all_aged w).0
-
-  near : NodeWorld × List Entry
-  near = controller_ticks old
-
-  b : IsOrderly old
-  b = orderly_map w w.memory w.controller (λ (x : Site). record x { link = aged x.link }) (λ x. refl) a a.controller (λ x n. n)
-
-  kept : IsOrderly (record { memory = old.memory; controller = None; sites = near.0.sites })
-  kept = near_orderly old b
-
-  nodes : AreNodes near.0.sites
-  nodes = both_nodes near.0.sites kept.hosts kept.nodes
-
-  first : IsParted near.1
-  first =
-      by_controller_tick (λ p. IsParted p.1) old (λ q. only_back [] tt)
-      (λ r q. step_parted TimePasses (controller_tick_begins old r)
-      (flat_map (λ (s : Site). frames_noted Controller s.host s.link (near_tick old r)) old.sites) tt
-      (all_flat IsUnheard (λ (s : Site). frames_noted Controller s.host s.link (near_tick old r)) (λ s. out_unheard Controller s.host s.link (near_tick old r))
-      old.sites))
-
-  go : (c : Bool) → (0 == n) ≡ c → IsPartedFor n (near.1 ++ (hosts_tick near.0.sites).1)
-  go false q =
-      not_of_before n (hosts_tick near.0.sites).1 near.1 (own_not 0 n near.1 q (part_own 0 near.1 (near_ticks_part old b)))
-      (hosts_parted n near.0.sites kept.different nodes)
-  go true q =
-      others_behind n near.1 (hosts_tick near.0.sites).1 (parted_for n near.1 first)
-      (subst (λ m. AreNotOf m (hosts_tick near.0.sites).1) (eqb-true 0 n q) (others_tick 0 near.0.sites (none_zero near.0.sites kept.hosts) nodes))
+ticks_parted n w a =
+    ticks_part (IsPartedFor n) n (others_behind n) (not_of_before n) (parted_for n [] (only_back [] tt))
+    (λ s runs. parted_for n (host_ticks s).1 (host_parted s)) w a (λ es p. unanswered_before n es (all_aged w).1 (aged_unanswered w.sites) p)
+    (parted_for n _ (by_controller_tick (λ p. IsParted p.1) old (λ q. only_back [] tt)
+    (λ r q. step_parted TimePasses (controller_tick_begins old r)
+    (flat_map (λ (s : Site). frames_noted Controller s.host s.link (near_tick old r)) old.sites) tt
+    (all_flat IsUnheard (λ (s : Site). frames_noted Controller s.host s.link (near_tick old r)) (λ s. out_unheard Controller s.host s.link (near_tick old r))
+    old.sites)))) where
+      old : NodeWorld
+      old = (all_aged w).0
 
 -- ## Events
 

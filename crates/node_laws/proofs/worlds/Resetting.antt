@@ -185,8 +185,7 @@ module _ (past : List Occurrence) (w : NodeWorld) (k : IsReadBefore past w) (x :
       reset_is w k.orderly t k.notices x s found r runs
       ∙ ap₂ (λ a b. a && not b) (by_option (at w k.orderly t k.notices x s found r runs).desk.notice
       (λ z. rw z (ap (λ b. b && eqb (age_in past x) 99) (sym (ap (λ (o : Option Notice). is_some o) z) ∙ same)))
-      (λ n z. let ages : AgesAreRead past (Some r) = subst (AgesAreRead past) runs k.ages in
-      let age : (n.age ≡ age_in past x) × (n.age ≤ 99) = ages x n (there ∙ z) in
+      (λ n z. let age : (n.age ≡ age_in past x) × (n.age ≤ 99) = (subst (AgesAreRead past) runs k.ages) x n (there ∙ z) in
       rw z (below n.age age.1 ∙ (ap (λ a. eqb a 99) age.0 ∙ ap (λ b. b && eqb (age_in past x) 99)
       (sym (ap (λ (o : Option Notice). is_some o) z) ∙ same))))) (sym
       (other_end_is w k.orderly t k.notices x s found r runs))

@@ -69,8 +69,7 @@ AreIdle e es = AllByRecursion (IsIdle e) es
 module _ (e : End) where
   pub other_end : (f : End) → (node_of f == node_of e) ≡ false → same_end f e ≡ false
   other_end f off = by_test (same_end f e)
-      (λ q. let same : f ≡ e = ends_same f e q in
-      absurd (true≢false (sym (ap (λ z. node_of z == node_of e) same ∙ same_number (node_of e)) ∙ off)))
+      (λ q. absurd (true≢false (sym (ap (λ z. node_of z == node_of e) (ends_same f e q) ∙ same_number (node_of e)) ∙ off)))
       (λ q. q)
 
   idle_other : (x : Entry) → is_of_node (node_of e) x ≡ false → IsIdle e x
@@ -208,7 +207,8 @@ module _ (n : ℕ) (who : Side) (t : List Entry) (input : NodeInput) (w : Work) 
     by_rest : (on : begun.cut ≡ false) → (passes begun).cut ≡ false → ended ≡ passes begun → is_done (t ++ ended.entries) e ≡ true
     by_rest on still_on is = by_list (waiting_at b.work.ports k)
         (λ q. done_empty (t ++ ended.entries) e
-        (ap (λ (u : Work). unhandled_in (t ++ u.entries) e) is ∙ (waits on c ∙ (there ∙ q))))
+        (ap (λ (u : Work). unhandled_in (t ++ u.entries) e) is ∙ (waits on
+        ((through (ComesTo begun) (comes_lasts begun) (hosts_of_ends begun.ports) begun Begins on).keeps still_on) ∙ (there ∙ q))))
         (λ m messages q. let stays : Stays b.work (goes_through_ends (s.earlier ++ k ∷ s.later) begun) k b.own (m ∷ messages) =
         subst (λ l. Stays b.work (goes_through_ends (s.earlier ++ k ∷ s.later) begun) k b.own l) q b.stays in
         done_held (t ++ ended.entries) e
@@ -216,9 +216,6 @@ module _ (n : ℕ) (who : Side) (t : List Entry) (input : NodeInput) (w : Work) 
         ∙ (ap (λ (u : Work). is_held_at u.ports k) (is ∙ sym all) ∙ stays.2))) where
           v : Work
           v = passes begun
-
-          c : ComesTo begun v
-          c = (through (ComesTo begun) (comes_lasts begun) (hosts_of_ends begun.ports) begun Begins on).keeps still_on
 
           s : SplitAt (hosts_of_ends w.ports) k
           s = split_at w.ports k p different here

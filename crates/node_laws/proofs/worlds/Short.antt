@@ -23,9 +23,9 @@ use Rattle.node_machine.specs.Parts.{Running, Work}
 use Rattle.node_machine.specs.Carrying.{port_at}
 use Rattle.node_machine.specs.Node.{steps}
 use Rattle.node_machine.specs.Node.NodeInput.{AtEnd, TimePasses}
-use Rattle.node_machine.specs.world.World.{Happening, NodeWorld, Site, after_controller, all_aged, arrival, comes_at, comes_to, controller_does}
+use Rattle.node_machine.specs.world.World.{Happening, NodeWorld, Site, all_aged, arrival, comes_at, comes_to, controller_does}
 use Rattle.node_machine.specs.world.World.{controller_ticks}
-use Rattle.node_machine.specs.world.World.{controller_work, end_c, end_h, ending_of, frames_noted, host_work, hosts_tick, input_of, link_to}
+use Rattle.node_machine.specs.world.World.{end_c, end_h, ending_of, frames_noted, host_work, hosts_tick, input_of, link_to}
 use Rattle.node_machine.specs.world.World.{near_end_in, new_world}
 use Rattle.node_machine.specs.world.World.{node_of, wires_for, world_step}
 use Rattle.node_machine.specs.world.World.Happening.{Activates, Arms, Boots, Gives, Inits, IsCut, Loses, Resets, Takes, Ticks}
@@ -176,7 +176,7 @@ module _ (header : Header) (lines : List Line) (t : NodeHistory) (follows : Foll
   near_short : (c : Happening) (h : ℕ) (comes : Comes) (i : LinkInput) → input_of (link_to w.sites h) comes ≡ Some i → (rest : List Entry)
       → AreNotOf 0 rest → AreCalm rest → Short c ((controller_does w h comes (steps (AtEnd h i))).1 ++ rest)
   near_short c h comes i input rest other calm = by_option w.controller
-      (λ q. subst (λ (p : NodeWorld × List Entry). Short c (p.1 ++ rest)) (sym (off_is q)) (stands_off c rest q (others_idle (end_c k) rest other)))
+      (λ q. rw q (stands_off c rest q (others_idle (end_c k) rest other)))
       (λ r q. let l : Link = link_to w.sites h in
       let begun : Work = controller_begins w r h comes in
       let v : Work = steps (AtEnd h i) begun in
@@ -185,7 +185,7 @@ module _ (header : Header) (lines : List Line) (t : NodeHistory) (follows : Foll
       let has : HasEnds 0 _ r = near_node w r a q in
       let P : List Entry → Type 0 = λ u. ReadsInStep hosts u (comes_to_pass (AtEnd h i) begun) × IsCarried u Controller (comes_to_pass (AtEnd h i) begun)
       × BeginsPass u (comes_to_pass (AtEnd h i) begun) in
-      subst (λ (p : NodeWorld × List Entry). Short c (p.1 ++ rest)) (sym (on_is r q))
+      rw q
       (subst (Short c) (sym (append_assoc v.entries frames rest))
       (step_short hosts are up past c [] (frames ++ rest) (AtEnd h i) begun
       (near_runs r w.memory.plan (λ j. near_end_in (link_to w.sites j) (comes_to h comes j)) (entries_for h (arrival Controller l comes)) has.number
@@ -200,13 +200,7 @@ module _ (header : Header) (lines : List Line) (t : NodeHistory) (follows : Foll
       earlier k later at off
       (all_append _ frames rest
       (flat_idle (end_c k) (λ (s : Site). frames_noted Controller s.host (wires s) v) (λ s. frames_idle (end_c k) Controller s.host (wires s) v) w.sites)
-      (others_idle (end_c k) rest other))))) where
-        off_is : w.controller ≡ None → controller_does w h comes (steps (AtEnd h i)) ≡ (w, [])
-        off_is q = rw q refl
-
-        on_is : (r : Running) → w.controller ≡ Some r
-            → controller_does w h comes (steps (AtEnd h i)) ≡ after_controller w h comes (controller_work w r h comes (steps (AtEnd h i)))
-        on_is r q = rw q refl
+      (others_idle (end_c k) rest other)))))
 
   coming_is : (e : End) (comes : Comes) (i : LinkInput) → e.at_host ≡ false → input_of (link_to w.sites e.link) comes ≡ Some i
       → comes_at w e comes ≡ controller_does w e.link comes (steps (AtEnd e.link i))

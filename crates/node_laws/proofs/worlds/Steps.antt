@@ -21,8 +21,8 @@ use Rattle.node_machine.specs.Node.{input_at, steps, begins_with}
 use Rattle.node_machine.specs.Node.NodeInput.{AtEnd}
 use Rattle.node_machine.specs.world.World.{Site, NodeWorld, site_at, link_to, near_end_in, arrival, wires_for, work_of, frames_noted, comes_to, end_c}
 use Rattle.node_machine.specs.world.World.{end_h, port_for}
-use Rattle.node_machine.specs.world.World.{controller_does, controller_work, after_controller, host_work, host_does, comes_at, input_of}
-use Rattle.node_machine.proofs.world.Cases.{by_controller, by_host, by_coming, after_host_step}
+use Rattle.node_machine.specs.world.World.{controller_does, controller_work, host_work, host_does, comes_at, input_of}
+use Rattle.node_machine.proofs.world.Cases.{by_controller, by_host, by_coming}
 use Rattle.node_laws.specs.kept.Hosts.{AreDifferent}
 use Rattle.node_laws.proofs.Cases.{by_list, by_test}
 use Rattle.node_laws.proofs.links.Noticing.{at_host}
@@ -162,7 +162,7 @@ module _ (w : NodeWorld) (a : IsOrderly w) (k : ℕ) (window : Option ℕ) (x : 
       let node : HasEnds 0 (hosts_in w.sites) r = near_node w r a runs in
       let side : (near_ends x).side ≡ s.link.controller.side =
       near_end_side (link_to w.sites x) (comes_to k (AsksReset window) x) ∙ ap (λ (l : Link). l.controller.side) (link_is w.sites x s found) in
-      subst (λ (p : NodeWorld × List Entry). IsReset p (end_c x) k x s.link.controller.side) (sym (on_is runs))
+      rw runs
       (near_frames is_own_reset (end_c x) w k (AsksReset window) (controller_work w r k (AsksReset window) (steps (AtEnd k (Reset window))))
       ∙ (step_at is_own_reset (end_c x) x (controller_begins w r k (AsksReset window))
       (arrival_downless Controller k (link_to w.sites k) (AsksReset window))
@@ -171,10 +171,6 @@ module _ (w : NodeWorld) (a : IsOrderly w) (k : ℕ) (window : Option ℕ) (x : 
       ∙ (reset_value near_ends r.desks (end_c x) x k window (λ y. stands near_ends r.desks w.sites x s node.ends found)
       (λ y. ap reset_refusal side ∙ free y)
       ∙ ap (λ (z : LinkEnd). eqb k x && is_up z.shdlc.phase) side)))
-    where
-      on_is : w.controller ≡ Some r → controller_does w k (AsksReset window) (steps (AtEnd k (Reset window)))
-          ≡ after_controller w k (AsksReset window) (controller_work w r k (AsksReset window) (steps (AtEnd k (Reset window))))
-      on_is e = rw e refl
 
   -- so has a host, whose end this is or isn't
   pub far_reset : (z : Site) (r : Running) → site_at w.sites k ≡ Some z → z.node ≡ Some r
@@ -183,10 +179,9 @@ module _ (w : NodeWorld) (a : IsOrderly w) (k : ℕ) (window : Option ℕ) (x : 
   far_reset z r there runs free =
       let near_ends : ℕ → NumberedEnd = λ j. near_end_in (exchanged z.link) (AsksReset window) in
       let node : HasEnds z.host (z.host ∷ []) r = far_node w k z r a there runs in
-      let own : z.host ≡ k = site_host w.sites k z there in
-      let one : map (λ (d : Desk). d.host) r.desks ≡ k ∷ [] = node.ends ∙ ap (λ n. n ∷ []) own in
+      let one : map (λ (d : Desk). d.host) r.desks ≡ k ∷ [] = node.ends ∙ ap (λ n. n ∷ []) (site_host w.sites k z there) in
       let same : eqb k x ≡ true → z ≡ s = λ y. same_site y in
-      subst (λ (p : NodeWorld × List Entry). IsReset p (end_h x) k x s.link.host.side) (sym (on_is there runs))
+      rw (there, runs)
       (any_back is_own_reset (end_h x) (host_work z r (AsksReset window) (steps (AtEnd k (Reset window)))).entries _
       (frames_downless Host k (wires_for (exchanged z.link) (AsksReset window)) (host_work z r (AsksReset window) (steps (AtEnd k (Reset window)))))
       ∙ (step_at is_own_reset (end_h x) x (host_begins z r (AsksReset window))
@@ -201,10 +196,6 @@ module _ (w : NodeWorld) (a : IsOrderly w) (k : ℕ) (window : Option ℕ) (x : 
       (λ y. ap (λ (q : Site). reset_refusal q.link.host.side) (same y) ∙ free y)
       ∙ by_test (eqb k x) (λ y. rw y (ap (λ (q : Site). is_up q.link.host.side.shdlc.phase) (same_site y))) (λ y. rw y refl))))
     where
-      on_is : site_at w.sites k ≡ Some z → z.node ≡ Some r → host_does w k (AsksReset window) (steps (AtEnd k (Reset window)))
-          ≡ after_host_step w k (AsksReset window) z (host_work z r (AsksReset window) (steps (AtEnd k (Reset window))))
-      on_is e q = rw (e, q) refl
-
       same_site : eqb k x ≡ true → z ≡ s
       same_site y =
           let both : Some z ≡ Some s = sym there ∙ (ap (site_at w.sites) (eqb-true k x y) ∙ found) in cc

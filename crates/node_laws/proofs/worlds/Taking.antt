@@ -76,15 +76,11 @@ sites_near h k (s ∷ sites) n out many = by_test (eqb s.host h)
     ap (λ b. option_map_or (λ (x : Site). x.link) (cond b (Some (moved s)) (site_at (map moved sites) h)) (link_to [] h)) q
     ∙ (ap (λ b. steps_at_controller s.link (cond b NextFrame NoInput) (turns_at k s.host) (ending_of k)) q
     ∙ ap (steps_at_controller s.link NextFrame (turns_at k s.host)) out) in
-    let low = step_near s.link (turns_at k s.host) n was in
     let same = ap (λ (l : Link). length l.to_controller) now in
-    omega (arith, low, same))
-    (λ q. let was : suc n ≤ length (link_to sites h).to_controller = rw q at many in
-    let now : link_to (map moved (s ∷ sites)) h ≡ link_to (map moved sites) h =
+    omega (arith, step_near s.link (turns_at k s.host) n was, same))
+    (λ q. let now : link_to (map moved (s ∷ sites)) h ≡ link_to (map moved sites) h =
     ap (λ b. option_map_or (λ (x : Site). x.link) (cond b (Some (moved s)) (site_at (map moved sites) h)) (link_to [] h)) q in
-    let low = sites_near h k sites n out was in
-    let same = ap (λ (l : Link). length l.to_controller) now in
-    omega (arith, low, same)) where
+    omega (arith, sites_near h k sites n out (rw q at many), ap (λ (l : Link). length l.to_controller) now)) where
       moved : Site → Site
       moved = link_after_controller h NextFrame k
 
@@ -121,9 +117,7 @@ takes_may (suc n) w e off near many = (
   (
     off,
     λ at on none.
-        let some = many on in
-        let empty = ap (λ (xs : List OnWire). length xs) (sym (frames_near w e near) ∙ none) in
-        absurd (omega (arith, some, empty)),
+        absurd (omega (arith, many on, ap (λ (xs : List OnWire). length xs) (sym (frames_near w e near) ∙ none))),
   ),
   takes_may n (world_step w (Takes e)).0 e off near (take_stands w e n near many),
 )
@@ -133,8 +127,7 @@ takes_may (suc n) w e off near many = (
 pub off_zero : (header : Header) → IsNodeHeader header → (h : ℕ) → Contains header.hosts.items h → (h == 0) ≡ false
 off_zero header nodes h (k, below, is) =
     let host : IsHost h = subst IsHost is (nodes.hosts k h below) in
-    let some : 1 ≤ h = host.0 in
-    ne_eqb h 0 (λ (zero_it : h ≡ 0). omega (arith, some, zero_it))
+    ne_eqb h 0 (λ (zero_it : h ≡ 0). omega (arith, host.0, zero_it))
 
 pub taken_most : (count : Option ℕ) (wire : List OnWire) → taken_of count wire ≤ length wire
 taken_most None wire = omega arith
@@ -154,8 +147,7 @@ module _ (header : Header) (nodes : IsNodeHeader header) where
   line_steps w (line.Deliver e count) is none = by_test e.at_host
       (λ far. repeated_may MayStep (Takes e) (λ v. (off, λ near. absurd (true≢false (sym far ∙ near)))) (taken_of count (frames_at w e)) w)
       (λ near. takes_may (taken_of count (frames_at w e)) w e off near
-      (λ on. let most = taken_most count (frames_at w e) in
-      let same = ap (λ (xs : List OnWire). length xs) (frames_near w e near) in omega (arith, most, same))) where
+      (λ on. let same = ap (λ (xs : List OnWire). length xs) (frames_near w e near) in omega (arith, taken_most count (frames_at w e), same))) where
         off : (e.link == 0) ≡ false
         off = off_zero header nodes e.link is.0
   line_steps w (line.Damage e places) is none = damage_may w e (off_zero header nodes e.link is.0) places.items (frames_at w e) refl

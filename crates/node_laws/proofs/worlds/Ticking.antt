@@ -76,8 +76,7 @@ module _ (test : EndedBy → Bool) (e : End) where
       → tells test e (flat_map (told_late core) (map with_older (map (λ p. has_come p (Some Tick)) ports))) ≡ false
   late_none core [] a = refl
   late_none core (p ∷ ports) a =
-      let rest : List Entry = flat_map (told_late core) (map with_older (map (λ p. has_come p (Some Tick)) ports)) in
-      any_append test e (told_late core (ticked p)) rest
+      any_append test e (told_late core (ticked p)) (flat_map (told_late core) (map with_older (map (λ p. has_come p (Some Tick)) ports)))
       ∙ ap₂ (λ x y. x || y) (ap (tells test e) none) (late_none core ports a.1)
     where
       none : told_late core (with_older (has_come p (Some Tick))) ≡ []

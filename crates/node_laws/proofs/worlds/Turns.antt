@@ -1,15 +1,13 @@
 -- In each event a node's turns are in the order of its ends.
-use Rattle.std.proofs.Common.{◌≡◌, ℕ, cond, Bool, true, false, List, [], ◌∷◌, ◌++◌, Some, None, refl, sym, ap, subst, ◌∙◌}
-use Rattle.std.specs.Prelude.{◌==◌}
+use Rattle.std.proofs.Common.{◌≡◌, ℕ, cond, false, List, [], ◌∷◌, ◌++◌, Some, None, refl, sym, ap, subst, ◌∙◌}
 use Rattle.std.specs.List.{AllByRecursion, flat_map}
-use Rattle.std.proofs.lemmas.Bool.{eqb-true}
 use Rattle.registry.proofs.ValueLemmas.{AllByRecursion-append as all_append}
 use Rattle.trace_model.specs.declared.entry.Entry.{Entry}
 use Rattle.trace_model.specs.declared.line.End.{End}
 use Rattle.trace_model.specs.declared.line.Header.{Header}
 use Rattle.trace_model.specs.declared.line.Line.{Line}
 use Rattle.link_laws.specs.machine.Machine.LinkInput.{Start}
-use Rattle.link_laws.specs.messages.Links.{Loss, Comes, aged, exchanged}
+use Rattle.link_laws.specs.messages.Links.{Loss, Comes, exchanged}
 use Rattle.link_laws.specs.messages.Links.Comes.{NextFrame, AsksReset, Starts, NoInput}
 use Rattle.link_laws.specs.entries.Entries.{first_lost, aged_entries}
 use Rattle.link_laws.specs.entries.Entries.End.{Controller, Host}
@@ -17,26 +15,20 @@ use Rattle.history.specs.Steps.{entries_for}
 use Rattle.node_machine.specs.Parts.{Work, Deed}
 use Rattle.node_machine.specs.Node.{steps, begins_with}
 use Rattle.node_machine.specs.Node.NodeInput.{AtEnd, TimePasses}
-use Rattle.node_machine.specs.world.World.{Site, NodeWorld, Happening, site_at, link_to, wires_for, work_of, frames_noted}
+use Rattle.node_machine.specs.world.World.{Site, NodeWorld, Happening, link_to, wires_for, work_of, frames_noted}
 use Rattle.node_machine.specs.world.World.{comes_to, controller_work, host_work, host_does}
-use Rattle.node_machine.specs.world.World.{boots, frame_lost, all_aged, controller_ticks, host_ticks, hosts_tick, world_ticks, sending}
+use Rattle.node_machine.specs.world.World.{boots, frame_lost, all_aged, controller_ticks, host_ticks, world_ticks, sending}
 use Rattle.node_machine.specs.world.World.{beginning, comes_at, end_c, end_h}
 use Rattle.node_machine.specs.world.World.{world_step, controller_does, activates, new_world}
 use Rattle.node_machine.specs.world.World.Happening.{Boots, IsCut, Gives, Inits, Takes, Loses, Ticks, Resets, Activates, Arms}
 use Rattle.node_machine.specs.world.NodeHistories.{NodeHistory, FollowsNodes}
 use Rattle.node_machine.proofs.world.Cases.{by_controller, by_host, by_coming, by_boot, by_loss, near_tick, by_controller_tick, host_tick, by_host_tick}
-use Rattle.node_laws.specs.kept.Hosts.{AreDifferent}
 use Rattle.node_laws.specs.telling.Telling.{IfItRuns, hosts_in, IsOrderly}
 use Rattle.node_laws.proofs.All.{all_flat}
-use Rattle.node_laws.proofs.Cases.{by_test}
-use Rattle.node_laws.proofs.telling.Events.{orderly_map, comes_goes}
-use Rattle.node_laws.proofs.telling.WorldTicks.{near_orderly}
 use Rattle.node_laws.specs.passes.Steps.{controller_begins, controller_tick_begins}
 use Rattle.node_laws.specs.power.Powers.{AreNotOf}
-use Rattle.node_laws.proofs.power.Parts.{own_not, part_own}
 use Rattle.node_laws.specs.answers.Order.{TurnsAscend, turn_link, IsAscending}
 use Rattle.node_laws.proofs.worlds.Steps.{host_begins}
-use Rattle.node_laws.proofs.power.Events.{AreNodes, both_nodes, comes_part, far_tick, near_ticks_part, no_site, none_zero, others_tick}
 use Rattle.std.specs.List.{filter_map}
 use Rattle.std.proofs.Common.{append-nil}
 use Rattle.trace_model.specs.declared.entry.Entry.TheVariants as entry
@@ -57,6 +49,7 @@ use Rattle.node_laws.proofs.order.Lines.{history_so}
 use Rattle.node_laws.proofs.order.Asked.{AreDone, done_back, history_done}
 use Rattle.node_laws.proofs.worlds.Steps.{near_node, far_node}
 use Rattle.node_laws.proofs.worlds.Ascending.{AllAscend, ascends_part, turnless_ascend, frames_turnless, step_ascends, links_append, none_there}
+use Rattle.node_laws.proofs.worlds.NodeParts.{activates_part, ticks_part}
 
 -- ## Steps
 
@@ -138,26 +131,12 @@ module _ (n : ℕ) where
 -- ## Activation
 
 activates_own : (n : ℕ) (w : NodeWorld) → IsOrderly w → IsAscending (hosts_in w.sites) → (h sync power : ℕ) → Own n (activates w h sync power).1
-activates_own n w a up h sync power = by_test (0 == n)
-    (λ q. own_behind n near.1 far.1 (ascends_part n near.1 (comes_ascends w a up (end_c h) (Starts power)))
-    (subst (λ m. AreNotOf m far.1) (eqb-true 0 n q) (zero_far (h == 0) refl)))
-    (λ q. own_before n far.1 near.1 (own_not 0 n near.1 q (part_own 0 near.1 (comes_part w (end_c h) (Starts power) a)))
-    (ascends_part n far.1 (far_ascends near.0 b h (Starts sync) (Start sync)))) where
+activates_own n w a up h sync power =
+    activates_part (Own n) n (own_behind n) (own_before n) w a h sync power
+    (ascends_part n near.1 (comes_ascends w a up (end_c h) (Starts power)))
+    (λ b. ascends_part n (comes_at near.0 (end_h h) (Starts sync)).1 (far_ascends near.0 b h (Starts sync) (Start sync))) where
       near : NodeWorld × List Entry
       near = comes_at w (end_c h) (Starts power)
-
-      far : NodeWorld × List Entry
-      far = comes_at near.0 (end_h h) (Starts sync)
-
-      b : IsOrderly near.0
-      b = (comes_goes w (end_c h) (Starts power) a).orderly
-
-      zero_far : (c : Bool) → (h == 0) ≡ c → AreNotOf 0 far.1
-      zero_far false q = own_not h 0 far.1 q (part_own h far.1 (comes_part near.0 (end_h h) (Starts sync) b))
-      zero_far true q =
-          let none : site_at near.0.sites h ≡ None = no_site near.0.sites h q b.hosts in
-          let is : far.1 ≡ [] = rw none refl in
-          subst (AreNotOf 0) (sym is) tt
 
 -- ## Ticks
 
@@ -169,14 +148,6 @@ host_ascends s runs =
     step_ascends TimePasses (work_of r s.memory.plan (λ h. s.link.host) []) (frames_noted Host s.host (exchanged s.link) (host_tick s r)) tt
     (subst IsAscending (sym (hosts_same (λ h. s.link.host) r.desks ∙ node.ends)) (tt, tt))
     (frames_turnless Host s.host (exchanged s.link) (host_tick s r)))
-
-hosts_own : (n : ℕ) (sites : List Site) → AreDifferent (hosts_in sites) → AreNodes sites → Own n (hosts_tick sites).1
-hosts_own n [] d a = tt
-hosts_own n (s ∷ sites) d a = by_test (s.host == n)
-    (λ q. own_behind n (host_ticks s).1 (hosts_tick sites).1 (ascends_part n (host_ticks s).1 (host_ascends s a.0.1))
-    (subst (λ m. AreNotOf m (hosts_tick sites).1) (eqb-true s.host n q) (others_tick s.host sites d.0 a.1)))
-    (λ q. own_before n (hosts_tick sites).1 (host_ticks s).1 (own_not s.host n (host_ticks s).1 q (part_own s.host (host_ticks s).1 (far_tick s a.0.0 a.0.1)))
-    (hosts_own n sites d.1 a.1))
 
 pub aged_turnless : (sites : List Site)
     → AreNoTurns (flat_map (λ (s : Site). entries_for s.host
@@ -197,41 +168,17 @@ turnless_there n (x ∷ es) a = (turnless_one n x a.0, turnless_there n es a.1)
 
 ticks_own : (n : ℕ) (w : NodeWorld) → IsOrderly w → IsAscending (hosts_in w.sites) → Own n (world_ticks w).1
 ticks_own n w a up =
-    subst IsAscending (sym (links_append (turn_link n) (all_aged w).1 (near.1 ++ (hosts_tick near.0.sites).1)
-    ∙ ap (λ l. l ++ filter_map (turn_link n) (near.1 ++ (hosts_tick near.0.sites).1))
-    (none_there (turn_link n) (all_aged w).1 (turnless_there n (all_aged w).1 (aged_turnless w.sites))))) (go (0 == n) refl) where
+    ticks_part (Own n) n (own_behind n) (own_before n) tt (λ s runs. ascends_part n (host_ticks s).1 (host_ascends s runs)) w a
+    (λ es p. subst IsAscending (sym (links_append (turn_link n) (all_aged w).1 es ∙ ap (λ l. l ++ filter_map (turn_link n) es)
+    (none_there (turn_link n) (all_aged w).1 (turnless_there n (all_aged w).1 (aged_turnless w.sites))))) p)
+    (ascends_part n (controller_ticks old).1 (by_controller_tick (λ p. AllAscend p.1) old (λ q. tt)
+    (λ r q. step_ascends TimePasses (controller_tick_begins old r)
+    (flat_map (λ (s : Site). frames_noted Controller s.host s.link (near_tick old r)) old.sites) tt
+    (subst IsAscending (sym (hosts_same (λ k. (link_to old.sites k).controller) r.desks ∙ (near_node w r a q).ends)) up)
+    (all_flat IsNoTurn (λ (s : Site). frames_noted Controller s.host s.link (near_tick old r)) (λ s. frames_turnless Controller s.host s.link (near_tick old r))
+    old.sites)))) where
       old : NodeWorld
       old = (all_aged w).0
-
-      near : NodeWorld × List Entry
-      near = controller_ticks old
-
-      b : IsOrderly old
-      b = orderly_map w w.memory w.controller (λ (x : Site). record x { link = aged x.link }) (λ x. refl) a a.controller (λ x n. n)
-
-      kept : IsOrderly (record { memory = old.memory; controller = None; sites = near.0.sites })
-      kept = near_orderly old b
-
-      nodes : AreNodes near.0.sites
-      nodes = both_nodes near.0.sites kept.hosts kept.nodes
-
-      first : AllAscend near.1
-      first =
-          by_controller_tick (λ p. AllAscend p.1) old (λ q. tt)
-          (λ r q. step_ascends TimePasses (controller_tick_begins old r)
-          (flat_map (λ (s : Site). frames_noted Controller s.host s.link (near_tick old r)) old.sites) tt
-          (subst IsAscending (sym (hosts_same (λ k. (link_to old.sites k).controller) r.desks ∙ (near_node w r a q).ends)) up)
-          (all_flat IsNoTurn (λ (s : Site). frames_noted Controller s.host s.link (near_tick old r)) (λ s. frames_turnless Controller s.host s.link
-          (near_tick old r))
-          old.sites))
-
-      go : (c : Bool) → (0 == n) ≡ c → Own n (near.1 ++ (hosts_tick near.0.sites).1)
-      go false q =
-          own_before n (hosts_tick near.0.sites).1 near.1 (own_not 0 n near.1 q (part_own 0 near.1 (near_ticks_part old b)))
-          (hosts_own n near.0.sites kept.different nodes)
-      go true q =
-          own_behind n near.1 (hosts_tick near.0.sites).1 (ascends_part n near.1 first)
-          (subst (λ m. AreNotOf m (hosts_tick near.0.sites).1) (eqb-true 0 n q) (others_tick 0 near.0.sites (none_zero near.0.sites kept.hosts) nodes))
 
 -- ## Events
 
