@@ -88,9 +88,8 @@ module _ (hosts : List ℕ) (most : length hosts ≤ 7) where
   all_so : (causes : List Happening) (all : ℕ) (os : List Occurrence) (w : NodeWorld) → PaidSo hosts all os w → AllCome w causes
       → commands_noted (entries_in (os ++ (all_happen w causes).1)) ≤ all + commands_by_all causes
   all_so [] all os w a may =
-      let few = few_so all os w a in
       let same : commands_noted (entries_in (os ++ [])) ≡ commands_noted (entries_in os) = ap (λ l. commands_noted (entries_in l)) (append-nil os) in
-      omega (arith, few, same)
+      omega (arith, few_so all os w a, same)
   all_so (c ∷ causes) all os w a may =
       by_test (can_happen w c)
       (λ q. rw q (let same : commands_noted (entries_in ((os ++ occurs w c ∷ []) ++ later.1)) ≡ commands_noted (entries_in (os ++ (occurs w c ∷ later.1))) =

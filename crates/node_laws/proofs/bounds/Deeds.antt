@@ -168,8 +168,7 @@ module _ (side : Side) (all : ℕ) where
   does left h (Tells to message) w a = told left to message w a
   does left h IsAnswered w a =
       let f : Port → Port = λ p. record p { desk = record p.desk { notice = None } } in
-      let same = with_less h f (λ p. omega arith) w.ports in
-      ended left (left + 0) h f w (omega (arith, same)) a
+      ended left (left + 0) h f w (omega (arith, with_less h f (λ p. omega arith) w.ports)) a
   does left h (Drops pid) w a = noted left (left + 0) (entry.Dropped (end_of_node w.core h) pid ∷ []) w (omega arith) a
   does left h (SetsErrors errors) w a =
       let f : Port → Port = λ p. record p { desk = record p.desk { errors = errors } } in

@@ -64,9 +64,8 @@ module _ (e : End) where
       (λ q. let fresh : AreFewer [] t = (λ front back is. let z = are (x ∷ front) back (ap (λ l. x ∷ l) is) in rw q at z) in
       omega (arith, at_end t [] fresh, (are [] (x ∷ t) refl)))
       (λ q. let on : AreFewer (since ++ x ∷ []) t = (λ front back is. let z = are (x ∷ front) back (ap (λ l. x ∷ l) is) in rw q at z) in
-      let a = turns-append since (x ∷ []) in
       let b = gots-append since (x ∷ []) in
-      omega (arith, (at_end t (since ++ entry.Booted node k ∷ [])) on, a, b)) where
+      omega (arith, (at_end t (since ++ entry.Booted node k ∷ [])) on, turns-append since (x ∷ []), b)) where
         x : Entry
         x = entry.Booted node k
   at_end (x ∷ t) since are =
@@ -122,8 +121,7 @@ not_yet k w (suc n) below =
 pub hits_most : (k w n : ℕ) → hits k w n ≤ w
 hits_most k w zero = omega arith
 hits_most k w (suc n) = by_test (k == n)
-    (λ q. let one : worth w (k == n) ≡ w = ap (worth w) q in
-    omega (arith, one, not_yet k w n (omega (arith, eqb-true k n q))))
+    (λ q. omega (arith, ap (worth w) q, not_yet k w n (omega (arith, eqb-true k n q))))
     (λ q. omega (arith, ap (worth w) q, hits_most k w n))
 
 hits_once : (k w n : ℕ) → k < n → w ≤ hits k w n

@@ -62,8 +62,7 @@ module _ (side : Side) (all : ℕ) (core : Core) (ports : List Port) (h : ℕ) (
     (same : holds_at h v.ports ≡ holds_at h ports) (a : Owes side (turn_pay side all m) all v) where
   deeds_pay : Owes side 0 all (all_done h (deeds_of core ports h m) v)
   deeds_pay = by_test (eqb core.node 0)
-      (λ q. rw q (let is : Controller ≡ side = sym (ap (λ c. cond c Controller Host) q) ∙ side_is in
-      subst (λ s. Goal s true) is (controller_pays all core ports h m v same) a))
+      (λ q. rw q (subst (λ s. Goal s true) (sym (ap (λ c. cond c Controller Host) q) ∙ side_is) (controller_pays all core ports h m v same) a))
       (λ q. rw q (subst (λ s. Goal s false) (sym (ap (λ c. cond c Controller Host) q) ∙ side_is) (far (port_at ports h)) a)) where
         by : Bool → List Deed
         by true = controller_deeds (view_of core ports) h m

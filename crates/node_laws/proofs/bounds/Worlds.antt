@@ -199,9 +199,7 @@ told_once h i [] apart = omega arith
 told_once h i (p ∷ ports) apart = by_test (eqb p.desk.host h)
     (λ q. let off : AllByRecursion (λ k. (k == h) ≡ false) (hosts_of_ends ports) =
     subst (λ n. AllByRecursion (λ k. (k == n) ≡ false) (hosts_of_ends ports)) (eqb-true p.desk.host h q) apart.0 in
-    let one = one_told h i p in
-    let is : worth (input_sync i) (eqb p.desk.host h) ≡ input_sync i = ap (worth (input_sync i)) q in
-    omega (arith, none_told h i ports off, one, is))
+    omega (arith, none_told h i ports off, one_told h i p, ap (worth (input_sync i)) q))
     (λ q. omega (arith, one_told h i p, ap (worth (input_sync i)) q, (told_once h i ports apart.1)))
 
 -- nothing tells of one in a tick

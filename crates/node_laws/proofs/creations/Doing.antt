@@ -319,12 +319,10 @@ module _ (x : ℕ) (before : List Entry) (hosts : List ℕ) where
           end = subst (λ l. EndAt n l (port_at v.ports x)) same second.end;
         } in
         gives asked owed (many asked owed) c.asker (1, answer) v
-        (λ z. absurd (true≢false (sym (first_of (eqb c.asker x) true (is_response answer) z) ∙ off)))
+        (λ z. absurd (true≢false (sym (by_test (eqb c.asker x)
+        (λ q. rw q refl)
+        (λ q. rw q (absurd (true≢false (sym (rw q at z)))))) ∙ off)))
         (subst (λ j. IsOn asked owed j v) (ap length same) third)
-      where
-        first_of : (a b d : Bool) → (a && b && d) ≡ true → a ≡ true
-        first_of true b d z = refl
-        first_of false b d z = absurd (true≢false (sym z))
 
     here_so : eqb c.asker x ≡ true → Good asked owed (turn_at c.asker (Give (1, answer)) v)
     here_so here = by_port (port_at v.ports x) refl second.end where

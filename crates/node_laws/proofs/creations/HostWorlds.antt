@@ -69,11 +69,8 @@ ticked_same l late ts ending a =
 host_none : (w : NodeWorld) (h : ℕ) (comes : Comes) (f : Work → Work) → AreGood w.sites → ((k : Work) → SetsNoneAside k → SetsNoneAside (f k))
     → HaveNoneAside w.sites → HaveNoneAside (host_does w h comes f).0.sites
 host_none w h comes f good keeps a = by_option (site_at w.sites h)
-    (λ e. subst Fine (sym (none_is e)) a)
+    (λ e. rw e a)
     (λ s e. by_node s e (good_at w.sites h s good e) s.node refl) where
-      none_is : site_at w.sites h ≡ None → (host_does w h comes f).0 ≡ w
-      none_is e = rw e refl
-
       off_is : (s : Site) → site_at w.sites h ≡ Some s → s.node ≡ None → (host_does w h comes f).0 ≡ w
       off_is s here e = rw here (rw e refl)
 
@@ -112,9 +109,6 @@ comes_none w e comes good a = go (input_of (seen_from e (link_to w.sites e.link)
   Fine : NodeWorld → Type 0
   Fine v = HaveNoneAside v.sites
 
-  none_is : input_of (seen_from e (link_to w.sites e.link)) comes ≡ None → (comes_at w e comes).0 ≡ w
-  none_is q = rw q refl
-
   near_is : (i : LinkInput) → input_of (seen_from e (link_to w.sites e.link)) comes ≡ Some i → e.at_host ≡ false
       → (comes_at w e comes).0 ≡ (controller_does w e.link comes (steps (AtEnd e.link i))).0
   near_is i q b = rw q (rw b refl)
@@ -138,7 +132,7 @@ comes_none w e comes good a = go (input_of (seen_from e (link_to w.sites e.link)
 
   go : (o : Option LinkInput) → input_of (seen_from e (link_to w.sites e.link)) comes ≡ o → (e.at_host ≡ true) ⊎ (e.at_host ≡ false)
       → Fine (comes_at w e comes).0
-  go None q side = subst Fine (sym (none_is q)) a
+  go None q side = rw q a
   go (Some i) q (inl far) =
       subst Fine (sym (far_is i q far)) (host_none w e.link comes (steps (AtEnd e.link i)) good (λ k b. steps_none (AtEnd e.link i) k b) a)
   go (Some i) q (inr off) = subst Fine (sym (near_is i q off)) (near i)
@@ -175,15 +169,12 @@ boots_none w n a =
 lost_none : (w : NodeWorld) (e : End) (why : Loss) → HaveNoneAside w.sites → HaveNoneAside (frame_lost w e why).0.sites
 lost_none w e why a = by_test e.at_host
     (λ b. subst HaveNoneAside (sym (far_is b)) (none_with e.link (λ (s : Site). record (lost s) { node = counts why e.link s.node }) one w.sites a))
-    (λ b. subst HaveNoneAside (sym (near_is b)) (none_with e.link lost one w.sites a)) where
+    (λ b. rw b (none_with e.link lost one w.sites a)) where
       lost : Site → Site
       lost s = record s { link = happens s.link (at e (Lose why)) }
 
       one : (s : Site) → HasNoneAside s → HasNoneAside (lost s)
       one s b = by_test e.at_host (λ q. rw q b) (λ q. rw q b)
-
-      near_is : e.at_host ≡ false → (frame_lost w e why).0.sites ≡ with_site e.link lost w.sites
-      near_is b = rw b refl
 
       far_is : e.at_host ≡ true
           → (frame_lost w e why).0.sites ≡ with_site e.link (λ (s : Site). record (lost s) { node = counts why e.link s.node }) w.sites

@@ -24,7 +24,7 @@ use Rattle.node_machine.specs.Node.{without_notice, after_sessions, synced, answ
 use Rattle.node_machine.specs.Node.NodeInput.{AtEnd, TimePasses}
 use Rattle.node_machine.specs.world.NodeFilters.{is_response}
 use Rattle.node_laws.specs.links.Notices.{IsOutside}
-use Rattle.node_laws.proofs.Cases.{by_option, by_test}
+use Rattle.node_laws.proofs.Cases.{by_list, by_option, by_test}
 use Rattle.node_laws.proofs.links.Noticing.{UpAt, at_all}
 use Rattle.node_laws.proofs.telling.Steps.{without_same, forgets_same}
 use Rattle.node_laws.specs.kept.Hosts.{AreDifferent}
@@ -111,8 +111,7 @@ freed_are x all (p ∷ ports) = by_creation (asked_at p) refl (freed_are x all p
     by_asker : (eqb c.asker x ≡ true) ⊎ (eqb c.asker x ≡ false) → (is_over_at all c.asker ≡ true) ⊎ (is_over_at all c.asker ≡ false) → Goal
     by_asker (inl is) (inl over) =
         let here : is_over_at all x ≡ true = ap (is_over_at all) (sym (eqb-true c.asker x is)) ∙ over in
-        let same : owes x l ≡ w = later ∙ ap (λ b. cond b w []) here in
-        rw (q, over, is, here) (ap (λ k. c ∷ k) same)
+        rw (q, over, is, here) (ap (λ k. c ∷ k) (later ∙ ap (λ b. cond b w []) here))
     by_asker (inl is) (inr off) =
         let here : is_over_at all x ≡ false = ap (is_over_at all) (sym (eqb-true c.asker x is)) ∙ off in
         rw (q, off, here) (later ∙ ap (λ b. cond b w []) here)
@@ -180,8 +179,7 @@ module _ (x : ℕ) (before : List Entry) (hosts : List ℕ) where
         → (o : Option Creation) → asked_at p ≡ o → Fine x before hosts (all_done 0 (flat_map (λ p. owed r (asked_at p)) (p ∷ ports) ++ rest) w)
     by_creation more None q =
         let same : flat_map (λ p. owed r (asked_at p)) (p ∷ ports) ++ rest ≡ later = rw q refl in
-        let b : Good x before hosts asked (filter_map asked_at ports ++ owing) w = rw q at a in
-        subst (λ d. Fine x before hosts (all_done 0 d w)) (sym same) (more w b)
+        subst (λ d. Fine x before hosts (all_done 0 d w)) (sym same) (more w (rw q at a))
     by_creation more (Some c) q =
         let same : flat_map (λ p. owed r (asked_at p)) (p ∷ ports) ++ rest ≡ Releases c.asker ∷ Sends c.asker (1, answer_of r []) ∷ later = rw q refl in
         subst (λ d. Fine x before hosts (all_done 0 d w)) (sym same)
@@ -251,12 +249,13 @@ module _ (x : ℕ) (before : List Entry) (hosts : List ℕ) where
 
       end_at : (o : Option Port) → port_at v.ports x ≡ o → ComeAt n (waits x asked ++ []) o
           → EndAt n (waits x now ++ owes x owing) (option_map without_notice (option_map (forgets v.ports) o))
-      end_at None e z = (z.0, (empty (waits x now ++ owes x owing) (same_length ∙ none over)))
+      end_at None e z = (
+        z.0,
+        (by_list (waits x now ++ owes x owing)
+            (λ q. rw q refl)
+            (λ d l q. rw q (absurd (omega (arith, (rw q at (same_length ∙ none over))))))),
+      )
         where
-          empty : (l : List Creation) → length l ≡ 0 → l ≡ []
-          empty [] q = refl
-          empty (d ∷ l) q = absurd (omega (arith, q))
-
           none : (b : Bool) → length (cond b [] (waits x asked)) ≡ 0
           none true = refl
           none false = ap length (sym (append-nil (waits x asked)) ∙ z.1)

@@ -290,58 +290,54 @@ module _ (hosts : List ℕ) (are : AreHosts hosts) (n : ℕ) where
 
   boots_own : (t : List Entry) (r : Reckoning) (w : NodeWorld) → length (commands_in t n) ≤ 2 ^ 32 - 1 → AllKeep hosts (t ++ (boots w n).1) (boots w n).0
       → IsThere w n → StandsAt n t r w → GoesExactly n t r (Boots n) (boots w n)
-  boots_own t r w few keep there stands = by_plan (cases_Bool (fails w n)) where
-    here : begun_by n (Boots n) r ≡ booting n t r (memory w n)
-    here = ap (λ b. cond b (booting n t r (memory w n)) r) (eq-eqb n n refl)
+  boots_own t r w few keep there stands = by_test (fails w n)
+      (λ e. let v : NodeWorld = loses_power_at n (written w n) in
+      let off : IsNowAt n v (memory_at (written w n) n) None = now_loses n (written w n) first.there in
+      let now : IsNowAt n v (after_planned (boot_writes (memory w n).content) (memory w n)) None =
+      record { memory = off.memory ∙ first.memory; running = off.running; there = off.there } in
+      let es : List Entry = entry.Cut n ∷ [] in
+      subst (GoesExactly n t r (Boots n)) (sym (cut_is w n e)) (record {
+        planned = planned_is es true e refl;
+        booted = λ before behind many at_it. none_in_cut _ n n many before behind at_it;
+        stands = subst (λ x. StandsAt n (t ++ es) (fold (reckoned n) x es) v) (sym here)
+            (stands_now (t ++ es) (fold (reckoned n) (booting n t r (memory w n)) es) v (after_planned (boot_writes (memory w n).content) (memory w n)) None
+            now (boot_cut n t r (memory w n) (node_at w n) stands e));
+        there = now.there;
+      }))
+      (λ e. let v : NodeWorld = with_node n (starts w n) (written w n) in
+      let on : IsNowAt n v (memory_at (written w n) n) (Some (starts w n)) = now_node n (written w n) (starts w n) first.there in
+      let now : IsNowAt n v (after_planned (boot_writes (memory w n).content) (memory w n)) (Some (starts w n)) =
+      record { memory = on.memory ∙ first.memory; running = on.running; there = on.there } in
+      let many : ℕ = count_of (starts w n).core.journal in
+      let es : List Entry = entry.Booted n many ∷ [] in
+      let right : FindsExactly r many =
+      boot_found n t r (memory w n) (links_of w n) (node_at w n) stands
+      (subst (λ b. length b ≤ 2 ^ 32 - 1) (sym (ap (λ b. b.commands) stands.book_is)) few) in
+      let kept : AllKeep hosts (t ++ es) v = subst (λ (p : NodeWorld × List Entry). AllKeep hosts (t ++ p.1) p.0) (run_is w n e) keep in
+      let runs = runs_of hosts are (t ++ es) v n (starts w n) kept now.there now.running in
+      subst (GoesExactly n t r (Boots n)) (sym (run_is w n e)) (record {
+        planned = planned_is es false e (many, refl, right);
+        booted = λ before behind found at_it.
+            subst (λ x. FindsExactly (fold (reckoned n) x before) found) (sym here)
+            (one_booted n many found (booting n t r (memory w n)) before behind at_it right);
+        stands = subst (λ x. StandsAt n (t ++ es) (fold (reckoned n) x es) v) (sym here)
+            (stands_now (t ++ es) (fold (reckoned n) (booting n t r (memory w n)) es) v (after_planned (boot_writes (memory w n).content) (memory w n))
+            (Some (starts w n)) now
+            (boot_run n t r (memory w n) runs.0 many (node_at w n) (starts w n) stands
+            (subst (λ (m : Memory). Rattle.node_laws.specs.kept.Worlds.RunsSo n runs.0 m.content (t ++ es) (starts w n)) now.memory runs.1)));
+        there = now.there;
+      })) where
+        here : begun_by n (Boots n) r ≡ booting n t r (memory w n)
+        here = ap (λ b. cond b (booting n t r (memory w n)) r) (eq-eqb n n refl)
 
-    planned_is : (es : List Entry) (b : Bool) → fails w n ≡ b → IsBootedBy b n r es → IsCutAsPlanned n r (Boots n) es
-    planned_is es b e x =
-        let same : fails_within (length (boot_writes r.memory.content)) r.memory.plan ≡ b =
-        ap (λ (m : Memory). fails_within (length (boot_writes m.content)) m.plan) stands.memory_is ∙ e in
-        rw (eq-eqb n n refl) (rw same x)
+        planned_is : (es : List Entry) (b : Bool) → fails w n ≡ b → IsBootedBy b n r es → IsCutAsPlanned n r (Boots n) es
+        planned_is es b e x =
+            let same : fails_within (length (boot_writes r.memory.content)) r.memory.plan ≡ b =
+            ap (λ (m : Memory). fails_within (length (boot_writes m.content)) m.plan) stands.memory_is ∙ e in
+            rw (eq-eqb n n refl) (rw same x)
 
-    first : IsNowAt n (written w n) (after_planned (boot_writes (memory w n).content) (memory w n)) (node_at w n)
-    first = now_memory n w (after_planned (boot_writes (memory w n).content) (memory w n)) there
-
-    by_plan : (fails w n ≡ true) ⊎ (fails w n ≡ false) → GoesExactly n t r (Boots n) (boots w n)
-    by_plan (inl e) =
-        let v : NodeWorld = loses_power_at n (written w n) in
-        let off : IsNowAt n v (memory_at (written w n) n) None = now_loses n (written w n) first.there in
-        let now : IsNowAt n v (after_planned (boot_writes (memory w n).content) (memory w n)) None =
-        record { memory = off.memory ∙ first.memory; running = off.running; there = off.there } in
-        let es : List Entry = entry.Cut n ∷ [] in
-        subst (GoesExactly n t r (Boots n)) (sym (cut_is w n e)) (record {
-          planned = planned_is es true e refl;
-          booted = λ before behind many at_it. none_in_cut _ n n many before behind at_it;
-          stands = subst (λ x. StandsAt n (t ++ es) (fold (reckoned n) x es) v) (sym here)
-              (stands_now (t ++ es) (fold (reckoned n) (booting n t r (memory w n)) es) v (after_planned (boot_writes (memory w n).content) (memory w n)) None
-              now (boot_cut n t r (memory w n) (node_at w n) stands e));
-          there = now.there;
-        })
-    by_plan (inr e) =
-        let v : NodeWorld = with_node n (starts w n) (written w n) in
-        let on : IsNowAt n v (memory_at (written w n) n) (Some (starts w n)) = now_node n (written w n) (starts w n) first.there in
-        let now : IsNowAt n v (after_planned (boot_writes (memory w n).content) (memory w n)) (Some (starts w n)) =
-        record { memory = on.memory ∙ first.memory; running = on.running; there = on.there } in
-        let many : ℕ = count_of (starts w n).core.journal in
-        let es : List Entry = entry.Booted n many ∷ [] in
-        let right : FindsExactly r many =
-        boot_found n t r (memory w n) (links_of w n) (node_at w n) stands
-        (subst (λ b. length b ≤ 2 ^ 32 - 1) (sym (ap (λ b. b.commands) stands.book_is)) few) in
-        let kept : AllKeep hosts (t ++ es) v = subst (λ (p : NodeWorld × List Entry). AllKeep hosts (t ++ p.1) p.0) (run_is w n e) keep in
-        let runs = runs_of hosts are (t ++ es) v n (starts w n) kept now.there now.running in
-        subst (GoesExactly n t r (Boots n)) (sym (run_is w n e)) (record {
-          planned = planned_is es false e (many, refl, right);
-          booted = λ before behind found at_it.
-              subst (λ x. FindsExactly (fold (reckoned n) x before) found) (sym here)
-              (one_booted n many found (booting n t r (memory w n)) before behind at_it right);
-          stands = subst (λ x. StandsAt n (t ++ es) (fold (reckoned n) x es) v) (sym here)
-              (stands_now (t ++ es) (fold (reckoned n) (booting n t r (memory w n)) es) v (after_planned (boot_writes (memory w n).content) (memory w n))
-              (Some (starts w n)) now
-              (boot_run n t r (memory w n) runs.0 many (node_at w n) (starts w n) stands
-              (subst (λ (m : Memory). Rattle.node_laws.specs.kept.Worlds.RunsSo n runs.0 m.content (t ++ es) (starts w n)) now.memory runs.1)));
-          there = now.there;
-        })
+        first : IsNowAt n (written w n) (after_planned (boot_writes (memory w n).content) (memory w n)) (node_at w n)
+        first = now_memory n w (after_planned (boot_writes (memory w n).content) (memory w n)) there
 
   boots_exact : (t : List Entry) (r : Reckoning) (w : NodeWorld) (k : ℕ) → length (commands_in t n) ≤ 2 ^ 32 - 1
       → AllKeep hosts (t ++ (boots w k).1) (boots w k).0 → IsThere w n → StandsAt n t r w → GoesExactly n t r (Boots k) (boots w k)

@@ -1,5 +1,5 @@
 -- What a step of the controller or of a host leaves of what is known of each node.
-use Rattle.std.proofs.Common.{◌≡◌, ◌⊎◌, inl, inr, ℕ, Bool, true, false, eqb, List, [], ◌∷◌, ◌++◌, map, sym, refl, ap, ◌∙◌, subst, arith}
+use Rattle.std.proofs.Common.{◌≡◌, ◌⊎◌, inl, inr, ℕ, false, eqb, List, [], ◌∷◌, ◌++◌, map, sym, refl, ap, ◌∙◌, subst, arith}
 use Rattle.std.specs.Prelude.{Option, Some, None, is_some}
 use Rattle.std.specs.List.{AllByRecursion, flat_map}
 use Rattle.std.proofs.lemmas.Bool.{eq-eqb, ne_eqb, eqb-true, eqb-false}
@@ -78,12 +78,8 @@ with_here f same sites h s here =
 pub with_there : (f : Site → Site) → ((s : Site) → (f s).host ≡ s.host) → (sites : List Site) (h n : ℕ) (s : Site) → eqb h n ≡ false
     → site_at sites n ≡ Some s → site_at (with_site h f sites) n ≡ Some s
 with_there f same sites h n s other here =
-    site_map (λ (x : Site). changed_if (eqb x.host h) f x) (λ x. one x (eqb x.host h)) sites n s here
+    site_map (λ (x : Site). changed_if (eqb x.host h) f x) (λ x. by_test (eqb x.host h) (λ q. rw q (same x)) (λ q. rw q refl)) sites n s here
     ∙ ap Some (ap (λ b. changed_if b f s) (ne_eqb s.host h (λ is. eqb-false h n other (sym is ∙ site_host sites n s here))))
-  where
-    one : (x : Site) (b : Bool) → (changed_if b f x).host ≡ x.host
-    one x true = same x
-    one x false = refl
 
 -- ## Nothing of memories
 

@@ -237,13 +237,12 @@ module _ (r : Running) (plan : Option Plan) (near_ends : ℕ → NumberedEnd) (e
 
     -- an end whose notice is late was up as the step began
     pub was_up : (x : ℕ) → is_late_at (steps TimePasses begun) x ≡ true → (near_ends x).side.shdlc.phase ≡ Up
-    was_up x is = go (port_at (starts r.desks) x) refl where
-      go : (o : Option Port) → port_at (starts r.desks) x ≡ o → (near_ends x).side.shdlc.phase ≡ Up
-      go None e = absurd (true≢false (sym is ∙ (late_at x ∙ ap LateOf e)))
-      go (Some q) e = ap (λ (s : LinkEnd). s.shdlc.phase) (sym (is_start r.desks x q e).side) ∙ by_test (is_late (with_older (come_tick q)))
-          (λ z. late_up x q e z)
-          (λ off. let was : q.late ≡ true = rw off at (sym (late_at x ∙ ap LateOf e) ∙ is) in
-          absurd (true≢false (sym was ∙ (is_start r.desks x q e).late)))
+    was_up x is = by_option (port_at (starts r.desks) x)
+        (λ e. absurd (true≢false (sym is ∙ (late_at x ∙ ap LateOf e))))
+        (λ q e. ap (λ (s : LinkEnd). s.shdlc.phase) (sym (is_start r.desks x q e).side) ∙ by_test (is_late (with_older (come_tick q)))
+        (λ z. late_up x q e z)
+        (λ off. let was : q.late ≡ true = rw off at (sym (late_at x ∙ ap LateOf e) ∙ is) in
+        absurd (true≢false (sym was ∙ (is_start r.desks x q e).late))))
 
     pub tick_up : (x : ℕ) (p : Port) (l : Link) (ts : List Turn) → port_at (steps TimePasses begun).ports x ≡ Some p
         → is_some p.desk.notice ≡ true → l.controller.side ≡ (near_ends x).side

@@ -250,10 +250,7 @@ controller_up w h comes i orderly a input = go w.controller refl orderly.control
   go (Some r) e has b = subst NoticesAreUp (sym (on_is r e)) (near_step w r e has b h comes i input)
 
 host_up : (w : NodeWorld) (h : ℕ) (comes : Comes) (f : Work → Work) → NoticesAreUp w → NoticesAreUp (host_does w h comes f).0
-host_up w h comes f a = by_option (site_at w.sites h) (λ e. subst NoticesAreUp (sym (none_is e)) a) (λ x e. by_node x e x.node refl) where
-  none_is : site_at w.sites h ≡ None → (host_does w h comes f).0 ≡ w
-  none_is e = rw e refl
-
+host_up w h comes f a = by_option (site_at w.sites h) (λ e. rw e a) (λ x e. by_node x e x.node refl) where
   off_is : (x : Site) → site_at w.sites h ≡ Some x → x.node ≡ None → (host_does w h comes f).0 ≡ w
   off_is x here e = rw here (rw e refl)
 
@@ -271,9 +268,6 @@ host_up w h comes f a = by_option (site_at w.sites h) (λ e. subst NoticesAreUp 
 
 comes_up : (w : NodeWorld) (e : End) (comes : Comes) → IsOrderly w → NoticesAreUp w → NoticesAreUp (comes_at w e comes).0
 comes_up w e comes orderly a = go (input_of (seen_from e (link_to w.sites e.link)) comes) refl e.at_host refl where
-  none_is : input_of (seen_from e (link_to w.sites e.link)) comes ≡ None → (comes_at w e comes).0 ≡ w
-  none_is q = rw q refl
-
   near_is : (i : LinkInput) → input_of (seen_from e (link_to w.sites e.link)) comes ≡ Some i → e.at_host ≡ false
       → (comes_at w e comes).0 ≡ (controller_does w e.link comes (steps (AtEnd e.link i))).0
   near_is i q b = rw q (rw b refl)
@@ -286,7 +280,7 @@ comes_up w e comes orderly a = go (input_of (seen_from e (link_to w.sites e.link
   seen b = rw b refl
 
   go : (o : Option LinkInput) → input_of (seen_from e (link_to w.sites e.link)) comes ≡ o → (b : Bool) → e.at_host ≡ b → NoticesAreUp (comes_at w e comes).0
-  go None q b z = subst NoticesAreUp (sym (none_is q)) a
+  go None q b z = rw q a
   go (Some i) q false z =
       subst NoticesAreUp (sym (near_is i q z)) (controller_up w e.link comes i orderly a (ap (λ l. input_of l comes) (sym (seen z)) ∙ q))
   go (Some i) q true z = subst NoticesAreUp (sym (far_is i q z)) (host_up w e.link comes (steps (AtEnd e.link i)) a)
@@ -340,13 +334,10 @@ lost_up w e why a = by_test e.at_host
     (λ b. subst NoticesAreUp (sym (far_is b))
     (kept (with_site e.link (λ (s : Site). record (lost s) { node = counts why e.link s.node }) w.sites) w.sites w.controller
     (side_with e.link (λ (s : Site). record (lost s) { node = counts why e.link s.node }) (λ s. refl) (λ s. lost_side e why s.link) w.sites) a))
-    (λ b. subst NoticesAreUp (sym (near_is b)) (kept (with_site e.link lost w.sites) w.sites (counts why e.link w.controller)
+    (λ b. rw b (kept (with_site e.link lost w.sites) w.sites (counts why e.link w.controller)
     (side_with e.link lost (λ s. refl) (λ s. lost_side e why s.link) w.sites) (counts_up w.sites why e.link w.controller a))) where
       lost : Site → Site
       lost s = record s { link = happens s.link (at e (Lose why)) }
-
-      near_is : e.at_host ≡ false → (frame_lost w e why).0 ≡ record w { controller = counts why e.link w.controller; sites = with_site e.link lost w.sites }
-      near_is b = rw b refl
 
       far_is : e.at_host ≡ true
           → (frame_lost w e why).0 ≡ record w { sites = with_site e.link (λ (s : Site). record (lost s) { node = counts why e.link s.node }) w.sites }

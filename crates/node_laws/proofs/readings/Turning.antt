@@ -204,9 +204,6 @@ module _ (h : ℕ) (host : IsHost h) (before : List Entry) (now : LinkState) whe
     Shown : Bool → Result (MessageKind × ℕ) MessageFault → List Deed → Type 0
     Shown b x deeds = is_up r.port.side.shdlc.phase ≡ b → header_of m.1 ≡ x → host_deeds (own_view w.core) (end_view r.port) m ≡ deeds
 
-    dropped : (x : Result (MessageKind × ℕ) MessageFault) → Shown false x (Drops m.0 ∷ [])
-    dropped x u q = rw u refl
-
     ordered : (n : ℕ) → Shown true (Ok (IsCommand, n)) (ordered_deeds (own_view w.core) r.port.desk.errors m.0 n (body_in m.1))
     ordered n u q = rw (u, q) refl
 
@@ -224,7 +221,7 @@ module _ (h : ℕ) (host : IsHost h) (before : List Entry) (now : LinkState) whe
         → Handled m w (host_deeds (own_view w.core) (end_view r.port) m)
     go false x u q =
         let none : w.core.command ≡ None = none_of w.core.command (λ some. true≢false (sym (up_is _ (r.its.up some)) ∙ u)) in
-        subst (Handled m w) (sym (dropped x u q)) (λ lacks. all_stand h host before now h (λ o. ⊥) (Drops m.0 ∷ []) (fetched m w) (λ o z. absurd z) tt
+        rw u (λ lacks. all_stand h host before now h (λ o. ⊥) (Drops m.0 ∷ []) (fetched m w) (λ o z. absurd z) tt
         (fetched_runs m w (same_none (answers m) w.core.command none) r))
     go true (Ok (IsCommand, instruction)) u q =
         let other : is_response m.1 ≡ false = rw q refl in
@@ -240,28 +237,26 @@ module _ (h : ℕ) (host : IsHost h) (before : List Entry) (now : LinkState) whe
         (does_stand w m (cond back (Sends w.core.node m ∷ []) []) r u
         (same_if (answers m) w.core.command (off_right (eqb m.0 1) (is_response m.1) other))
         (posted_may h NotLong w.core m back no_command))
-    go true (Ok (IsResponse, code)) u q = subst (Handled m w) (sym (answered code u q)) (by_pipe (eqb m.0 1) refl) where
-      is : is_response m.1 ≡ true
-      is = rw q refl
+    go true (Ok (IsResponse, code)) u q = subst (Handled m w) (sym (answered code u q)) (by_test (eqb m.0 1)
+        (λ e. rw e (by_order (ap (λ b. b && is_response m.1) e ∙ is) w.core.command refl))
+        (λ e. rw e (does_stand w m [] r u (same_if (answers m) w.core.command (ap (λ b. b && is_response m.1) e)) tt))) where
+          is : is_response m.1 ≡ true
+          is = rw q refl
 
-      unheard : w.core.command ≡ None → response_deeds (own_view w.core) code (body_in m.1) ≡ []
-      unheard e = rw e refl
+          unheard : w.core.command ≡ None → response_deeds (own_view w.core) code (body_in m.1) ≡ []
+          unheard e = rw e refl
 
-      heard : (order : List ℕ) → w.core.command ≡ Some order → response_deeds (own_view w.core) code (body_in m.1)
-          ≡ Hears ∷ cond (eqb code 0) (learned (own_view w.core) order (body_in m.1)) [] ++ init_deeds (own_view w.core) code (body_in m.1) w.core.init
-      heard order e = rw e refl
+          heard : (order : List ℕ) → w.core.command ≡ Some order → response_deeds (own_view w.core) code (body_in m.1)
+              ≡ Hears ∷ cond (eqb code 0) (learned (own_view w.core) order (body_in m.1)) [] ++ init_deeds (own_view w.core) code (body_in m.1) w.core.init
+          heard order e = rw e refl
 
-      by_order : answers m ≡ true → (c : Option (List ℕ)) → w.core.command ≡ c → Handled m w (response_deeds (own_view w.core) code (body_in m.1))
-      by_order one None e = subst (Handled m w) (sym (unheard e)) (does_stand w m [] r u (same_none (answers m) w.core.command e) tt)
-      by_order one (Some order) e =
-          subst (Handled m w) (sym (heard order e)) (hears_stand w m (cond (eqb code 0) (learned (own_view w.core) order
-          (body_in m.1)) [] ++ init_deeds (own_view w.core) code (body_in m.1) w.core.init) r u one
-          (learned_if h NotLong (eqb code 0) w.core order (body_in m.1) (init_deeds (own_view w.core) code (body_in m.1) w.core.init)
-          (init_may h w.core code (body_in m.1) NotLong w.core.init r.short (λ order command short. short))))
-
-      by_pipe : (b : Bool) → eqb m.0 1 ≡ b → Handled m w (cond b (response_deeds (own_view w.core) code (body_in m.1)) [])
-      by_pipe true e = by_order (ap (λ b. b && is_response m.1) e ∙ is) w.core.command refl
-      by_pipe false e = does_stand w m [] r u (same_if (answers m) w.core.command (ap (λ b. b && is_response m.1) e)) tt
+          by_order : answers m ≡ true → (c : Option (List ℕ)) → w.core.command ≡ c → Handled m w (response_deeds (own_view w.core) code (body_in m.1))
+          by_order one None e = subst (Handled m w) (sym (unheard e)) (does_stand w m [] r u (same_none (answers m) w.core.command e) tt)
+          by_order one (Some order) e =
+              subst (Handled m w) (sym (heard order e)) (hears_stand w m (cond (eqb code 0) (learned (own_view w.core) order
+              (body_in m.1)) [] ++ init_deeds (own_view w.core) code (body_in m.1) w.core.init) r u one
+              (learned_if h NotLong (eqb code 0) w.core order (body_in m.1) (init_deeds (own_view w.core) code (body_in m.1) w.core.init)
+              (init_may h w.core code (body_in m.1) NotLong w.core.init r.short (λ order command short. short))))
     go true (Err fault) u q =
         let other : is_response m.1 ≡ false = rw q refl in
         subst (Handled m w) (sym (unread fault u q))
@@ -287,14 +282,9 @@ module _ (h : ℕ) (host : IsHost h) (before : List Entry) (now : LinkState) whe
         told = noting (entry.Held (end_of_node w.core k) short.0 short.1 ∷ []) w
 
   pub lets_stand : (k : ℕ) (w : Work) → Runs_so w → Stands_so (lets_go k w)
-  lets_stand k w r = inl (go (option_map_or (λ (p : Port). is_held p.side) (port_at w.ports k) false)) where
-    by : Bool → Work
-    by true = turn_at k (Hold false) w
-    by false = w
-
-    go : (b : Bool) → Runs_so (by b)
-    go true = turn_runs h host before now k (Hold false) w (λ p. refl) r
-    go false = r
+  lets_stand k w r = inl (by_test (option_map_or (λ (p : Port). is_held p.side) (port_at w.ports k) false)
+      (λ q. rw q (turn_runs h host before now k (Hold false) w (λ p. refl) r))
+      (λ q. rw q r))
 
   have_stand : (messages : List Message) (w : Work) → Runs_so w → Stands_so (have_turns h messages w)
   have_stand [] w r = lets_stand h w r

@@ -182,16 +182,13 @@ module _ (hosts : List ℕ) (are : AreHosts hosts) where
       → input_of (exchanged (link_to w.sites h)) comes ≡ Some i
       → AllRead hosts (t ++ (host_does w h comes (steps (AtEnd h i))).1) (host_does w h comes (steps (AtEnd h i))).0
   far_comes t w h comes i all input = by_option (site_at w.sites h)
-      (λ e. subst Fine (sym (none_is e)) (nothing t w all))
+      (λ e. rw e (nothing t w all))
       (λ x e. let known = site_found (SiteReads t) IsHost w.sites h x all.sites (all_hosts t w all) e in by_node x e known.0 known.1 known.2 x.node refl) where
         f : Work → Work
         f = steps (AtEnd h i)
 
         Fine : NodeWorld × List Entry → Type 0
         Fine p = AllRead hosts (t ++ p.1) p.0
-
-        none_is : site_at w.sites h ≡ None → host_does w h comes f ≡ (w, [])
-        none_is e = rw e refl
 
         off_is : (x : Site) → site_at w.sites h ≡ Some x → x.node ≡ None → host_does w h comes f ≡ (w, [])
         off_is x here e = rw here (rw e refl)

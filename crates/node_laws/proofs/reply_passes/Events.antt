@@ -1,16 +1,14 @@
 -- A line causes 100 events at most.
-use Rattle.std.proofs.Common.{◌≡◌, ℕ, ◌*◌, ◌≤◌, Bool, true, false, cond, List, [], ◌∷◌, ◌++◌, length, length-append, sym, refl, ap, ◌∙◌}
+use Rattle.std.proofs.Common.{◌≡◌, ℕ, ◌*◌, ◌≤◌, Bool, true, false, cond, List, [], ◌∷◌, ◌++◌, length, length-append, sym, ap, ◌∙◌}
 use Rattle.std.proofs.Common.{arith, Option, Some, None}
 use Rattle.std.specs.List.{AllByRecursion}
-use Rattle.std.specs.Option.{option_map_or}
 use Rattle.std.proofs.lemmas.List.{length-replicate}
 use Rattle.trace_model.specs.declared.line.End.{End}
 use Rattle.trace_model.specs.declared.line.Header.{Header}
 use Rattle.trace_model.specs.declared.line.Line.{Line}
 use Rattle.trace_model.specs.declared.line.Line.TheVariants as line
 use Rattle.link_laws.specs.sessions.Sessions.{OnWire}
-use Rattle.link_laws.specs.messages.Links.{Link, exchanged, new_link}
-use Rattle.link_laws.specs.machine.Machine.Role.{Bare}
+use Rattle.link_laws.specs.messages.Links.{Link, exchanged}
 use Rattle.history.specs.Damage.{Verdict}
 use Rattle.history.specs.Damage.Verdict.{Same}
 use Rattle.history.specs.Follows.{taken_of, first_verdict}
@@ -39,14 +37,12 @@ fine_few [] a = tt
 fine_few (s ∷ sites) a = (run_few s.link a.0.link.run, fine_few sites a.1)
 
 frames_few : (w : NodeWorld) (e : End) → AreFewWires w.sites → length (frames_at w e) ≤ 64
-frames_few w e few = by_side (link_to w.sites e.link) (by_site (site_at w.sites e.link) refl) e.at_host where
-  by_site : (o : Option Site) → site_at w.sites e.link ≡ o → IsFewWires (option_map_or (λ (s : Site). s.link) o (new_link Bare Bare))
-  by_site None here = record { to_controller = omega arith; to_host = omega arith }
-  by_site (Some s) here = site_is (λ (x : Site). IsFewWires x.link) w.sites e.link s few here
-
-  by_side : (l : Link) → IsFewWires l → (b : Bool) → length (cond b (exchanged l) l).to_controller ≤ 64
-  by_side l a true = a.to_host
-  by_side l a false = a.to_controller
+frames_few w e few = by_side (link_to w.sites e.link) (by_option (site_at w.sites e.link)
+    (λ here. rw here (record { to_controller = omega arith; to_host = omega arith }))
+    (λ s here. rw here (site_is (λ (x : Site). IsFewWires x.link) w.sites e.link s few here))) e.at_host where
+      by_side : (l : Link) → IsFewWires l → (b : Bool) → length (cond b (exchanged l) l).to_controller ≤ 64
+      by_side l a true = a.to_host
+      by_side l a false = a.to_controller
 
 taken_few : (count : Option ℕ) (wire : List OnWire) → length wire ≤ 64 → taken_of count wire ≤ 64
 taken_few None wire few = few

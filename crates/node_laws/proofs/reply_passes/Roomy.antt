@@ -136,9 +136,8 @@ boot_grown m most size few = by_bank (current m.content) refl where
     by_plan : (fails_within (length format_writes) m.plan ≡ true) ⊎ (fails_within (length format_writes) m.plan ≡ false)
         → generation_in (after_planned (boot_writes m.content) m).content ≤ 1 + most
     by_plan (inr none) =
-        let a = ap (λ l. generation_in (after_planned l m).content) formats in
         let b = ap generation_in (planned_whole format_writes m none).0 in
-        omega (arith, a, b, whole)
+        omega (arith, ap (λ l. generation_in (after_planned l m).content) formats, b, whole)
     by_plan (inl fails) =
         let cut = planned_cut format_writes m fails in
         let left : List ℕ = (after_planned format_writes m).content in

@@ -29,8 +29,7 @@ pub site_map : (f : Site → Site) → ((s : Site) → (f s).host ≡ s.host) �
 site_map f keeps [] h s q = cc
 site_map f keeps (x ∷ sites) h s q = by_test (x.host == h)
     (λ p. let same : x ≡ s = (let z : Some x ≡ Some s = rw p at q in cc) in
-    let kept : ((f x).host == h) ≡ true = ap (λ (k : ℕ). k == h) (keeps x) ∙ p in
-    (rw kept (ap (λ (y : Site). Some (f y)) same), ap (λ (y : Site). y.host) (sym same) ∙ eqb-true x.host h p))
+    (rw (ap (λ (k : ℕ). k == h) (keeps x) ∙ p) (ap (λ (y : Site). Some (f y)) same), ap (λ (y : Site). y.host) (sym same) ∙ eqb-true x.host h p))
     (λ p. let r = site_map f keeps sites h s (rw p at q) in
     (rw (ap (λ (k : ℕ). k == h) (keeps x) ∙ p) r.0, r.1))
 

@@ -250,11 +250,11 @@ module _ (x : ℕ) where
     free_else (λ n. ⊥) ports deeds has may.2 free.1,
   )
   free_else F ports (Releases asker ∷ deeds) has may free = (tt, free_else (λ n. ⊥) ports deeds has may free.1)
-  free_else F ports (Tells to message ∷ deeds) has may free =
-      (other (eqb to x) refl, free_else (λ n. (eqb to x ≡ false) × F n) ports deeds has may.2 free.1) where
-        other : (b : Bool) → eqb to x ≡ b → eqb to x ≡ false
-        other true q = absurd (true≢false (sym has ∙ (ap (has_notice ports) (sym (eqb-true to x q)) ∙ free.0)))
-        other false q = q
+  free_else F ports (Tells to message ∷ deeds) has may free = (
+    by_test (eqb to x) (λ q. absurd (true≢false (sym has ∙ (ap (has_notice ports) (sym (eqb-true to x q)) ∙ free.0)))) (λ q. q),
+    free_else
+        (λ n. (eqb to x ≡ false) × F n) ports deeds has may.2 free.1,
+  )
   free_else F ports (Drops pid ∷ deeds) has may free = (tt, free_else F ports deeds has may free.1)
   free_else F ports (SetsErrors errors ∷ deeds) has may free = (tt, free_else F ports deeds has may free.1)
   free_else F ports (_ ∷ deeds) has may free = absurd may

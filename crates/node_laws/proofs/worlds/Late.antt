@@ -168,12 +168,9 @@ module _ (n : ℕ) where
     B : Work
     B = comes_to_pass input w
 
-    entries : B.entries ≡ w.entries ++ told_of_coming input w
-    entries = before_entries input w ∙ ap (λ es. w.entries ++ es) (only_coming input w hosts)
-
     none : AllByRecursion NoAnswer B.entries
     none =
-        subst (AllByRecursion NoAnswer) (sym entries)
+        subst (AllByRecursion NoAnswer) (sym (before_entries input w ∙ ap (λ es. w.entries ++ es) (only_coming input w hosts)))
         (unanswered_all n (w.entries ++ told_of_coming input w)
         (all_append IsUnanswered w.entries (told_of_coming input w) quiet (coming_unanswered input w)))
 

@@ -208,15 +208,13 @@ module _ (n : ℕ) (who : Side) (t : List Entry) (input : NodeInput) (w : Work) 
     by_rest on still_on is = by_list (waiting_at b.work.ports k)
         (λ q. done_empty (t ++ ended.entries) e
         (ap (λ (u : Work). unhandled_in (t ++ u.entries) e) is ∙ (waits on
-        ((through (ComesTo begun) (comes_lasts begun) (hosts_of_ends begun.ports) begun Begins on).keeps still_on) ∙ (there ∙ q))))
+        ((through (ComesTo begun) (comes_lasts begun) (hosts_of_ends begun.ports) begun Begins on).keeps still_on) ∙ ((ap
+        (λ (u : Work). waiting_at u.ports k) (sym all) ∙ b.waits) ∙ q))))
         (λ m messages q. let stays : Stays b.work (goes_through_ends (s.earlier ++ k ∷ s.later) begun) k b.own (m ∷ messages) =
         subst (λ l. Stays b.work (goes_through_ends (s.earlier ++ k ∷ s.later) begun) k b.own l) q b.stays in
         done_held (t ++ ended.entries) e
         (ended_read_at n who t input w number side none unbooted k (ap (λ (u : Work). u.cut) is ∙ still_on) held
         ∙ (ap (λ (u : Work). is_held_at u.ports k) (is ∙ sym all) ∙ stays.2))) where
-          v : Work
-          v = passes begun
-
           s : SplitAt (hosts_of_ends w.ports) k
           s = split_at w.ports k p different here
 
@@ -227,11 +225,8 @@ module _ (n : ℕ) (who : Side) (t : List Entry) (input : NodeInput) (w : Work) 
           b = leaves_behind (ComesTo begun) (comes_lasts begun) s.earlier k s.later begun Begins on s.off
               (subst (λ hs. (goes_through_ends hs begun).cut ≡ false) split still_on)
 
-          all : goes_through_ends (s.earlier ++ k ∷ s.later) begun ≡ v
+          all : goes_through_ends (s.earlier ++ k ∷ s.later) begun ≡ (passes begun)
           all = ap (λ hs. goes_through_ends hs begun) (sym split)
-
-          there : waiting_at v.ports k ≡ waiting_at b.work.ports k
-          there = ap (λ (u : Work). waiting_at u.ports k) (sym all) ∙ b.waits
 
     by_fine : Fine n ended → is_done (t ++ ended.entries) e ≡ true
     by_fine (inl r) = by_test begun.cut

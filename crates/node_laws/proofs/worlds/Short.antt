@@ -29,7 +29,7 @@ use Rattle.node_machine.specs.world.World.{end_c, end_h, ending_of, frames_noted
 use Rattle.node_machine.specs.world.World.{near_end_in, new_world}
 use Rattle.node_machine.specs.world.World.{node_of, wires_for, world_step}
 use Rattle.node_machine.specs.world.World.Happening.{Activates, Arms, Boots, Gives, Inits, IsCut, Loses, Resets, Takes, Ticks}
-use Rattle.node_machine.specs.world.Lines.{Occurrence, frames_at}
+use Rattle.node_machine.specs.world.Lines.{Occurrence}
 use Rattle.node_machine.specs.world.NodeHistories.{FollowsNodes, NodeHistory, entries_in, node_entries, occurrences_in}
 use Rattle.node_machine.proofs.world.Cases.{after_near_tick, by_coming, by_host, near_tick}
 use Rattle.node_laws.specs.kept.Hosts.{AreDifferent, AreHosts, IsFew, IsSentByHost}
@@ -74,7 +74,7 @@ use Rattle.node_laws.proofs.worlds.AtRest.{flat_idle, frames_idle}
 use Rattle.node_laws.proofs.worlds.Done.{aged_idle}
 use Rattle.node_laws.proofs.worlds.Hearing.{IsFrame}
 use Rattle.node_laws.proofs.worlds.Leaving.{idle_on, short_off, short_still, step_short}
-use Rattle.node_laws.proofs.worlds.Lifting.{NoneThere, far_not, frames_none}
+use Rattle.node_laws.proofs.worlds.Lifting.{far_not, frames_none}
 use Rattle.node_laws.proofs.worlds.Powered.{off_read}
 use Rattle.node_laws.proofs.worlds.Resting.{AreIdle, others_idle}
 use Rattle.node_laws.proofs.worlds.Steps.{far_node, far_number, near_node}
@@ -228,10 +228,7 @@ module _ (header : Header) (lines : List Line) (t : NodeHistory) (follows : Foll
         by_wire near [] q =
             by_option w.controller
             (λ z. subst (λ (p : NodeWorld × List Entry). Short (Takes e) p.1) (sym none_is) (stands_off (Takes e) [] z tt))
-            (λ r z. absurd (may.1 near (ap is_some z) empty)) where
-              empty : frames_at w e ≡ []
-              empty = rw near q
-
+            (λ r z. absurd (may.1 near (ap is_some z) (rw near q))) where
               none_is : comes_at w e NextFrame ≡ (w, [])
               none_is = let no : input_of (seen_from e (link_to w.sites e.link)) NextFrame ≡ None = rw near (rw q refl) in rw no refl
         by_wire near (x ∷ xs) q = let input : input_of (link_to w.sites e.link) NextFrame ≡ Some (Take x.frame) = rw q refl in
@@ -268,7 +265,7 @@ module _ (header : Header) (lines : List Line) (t : NodeHistory) (follows : Foll
       subst (λ es. Short Ticks ((all_aged w).1 ++ (es ++ far))) (sym (on_of old r q))
       (subst (λ es. Short Ticks ((all_aged w).1 ++ es)) (sym (append_assoc v.entries frames far))
       (step_short hosts are up past Ticks (all_aged w).1 (frames ++ far) TimePasses (as_it_ticks w r)
-      (near_runs r w.memory.plan (λ h. (link_to old.sites h).controller) [] has.number tt tt) aged_none tt
+      (near_runs r w.memory.plan (λ h. (link_to old.sites h).controller) [] has.number tt tt) (turnless_there 0 (all_aged w).1 (aged_turnless w.sites)) tt
       (all_append _ frames far (frames_none (λ s. s.link) v old.sites) (other_turns 0 far others))
       (calm_both frames far (frames_calm (λ s. s.link) v old.sites) calm)
       (λ on.
@@ -305,9 +302,6 @@ module _ (header : Header) (lines : List Line) (t : NodeHistory) (follows : Foll
               (orderly_fine (record { memory = old.memory; controller = None; sites = near.0.sites }) kept)
               (λ (q : false ≡ true). absurd (true≢false (sym q)));
         }
-
-        aged_none : NoneThere (all_aged w).1
-        aged_none = turnless_there 0 (all_aged w).1 (aged_turnless w.sites)
 
         off_of : (v : NodeWorld) → v.controller ≡ None → (controller_ticks v).1 ≡ []
         off_of v q = rw q refl

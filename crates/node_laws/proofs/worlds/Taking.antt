@@ -71,13 +71,11 @@ sites_near : (h : ℕ) (k : Work) (sites : List Site) (n : ℕ) → ending_of k 
     → n ≤ length (link_to (map (link_after_controller h NextFrame k) sites) h).to_controller
 sites_near h k [] n out many = omega (arith, many)
 sites_near h k (s ∷ sites) n out many = by_test (eqb s.host h)
-    (λ q. let was : suc n ≤ length s.link.to_controller = rw q at many in
-    let now : link_to (map moved (s ∷ sites)) h ≡ steps_at_controller s.link NextFrame (turns_at k s.host) GoesOut =
+    (λ q. let now : link_to (map moved (s ∷ sites)) h ≡ steps_at_controller s.link NextFrame (turns_at k s.host) GoesOut =
     ap (λ b. option_map_or (λ (x : Site). x.link) (cond b (Some (moved s)) (site_at (map moved sites) h)) (link_to [] h)) q
     ∙ (ap (λ b. steps_at_controller s.link (cond b NextFrame NoInput) (turns_at k s.host) (ending_of k)) q
     ∙ ap (steps_at_controller s.link NextFrame (turns_at k s.host)) out) in
-    let same = ap (λ (l : Link). length l.to_controller) now in
-    omega (arith, step_near s.link (turns_at k s.host) n was, same))
+    omega (arith, step_near s.link (turns_at k s.host) n (rw q at many), ap (λ (l : Link). length l.to_controller) now))
     (λ q. let now : link_to (map moved (s ∷ sites)) h ≡ link_to (map moved sites) h =
     ap (λ b. option_map_or (λ (x : Site). x.link) (cond b (Some (moved s)) (site_at (map moved sites) h)) (link_to [] h)) q in
     omega (arith, sites_near h k sites n out (rw q at many), ap (λ (l : Link). length l.to_controller) now)) where
