@@ -18,10 +18,9 @@ use Rattle.node_laws.proofs.turns.Lines.{in_turn}
 use Rattle.node_laws.proofs.answers.Rising.{turns_rise, rise_ascends}
 use Rattle.node_laws.proofs.worlds.Orders.{hear_first}
 use Rattle.node_laws.specs.answers.Moments.{Moment, until, holds_in, reply, lack_of, lack_at, noted_of_deeds}
-use Rattle.node_laws.specs.answers.Order.{NodesHearFirst}
+use Rattle.node_laws.specs.answers.Order.{NodesHearFirst, is_answer_of}
 use Rattle.node_laws.specs.answers.Unasked.{down_in, due, is_reset_due, is_reset_down}
 use Rattle.node_laws.specs.answers.Answered.{Answered, IsReplied, IsHeldFor, before_turn, to_command, through, ends_in, is_done, is_left_short}
-use Rattle.node_laws.specs.answers.Order.{is_answer_of}
 use Rattle.node_laws.proofs.answers.Splits.{same_at_each, at_events, same_at_events, at_entries, same_at_entries}
 
 -- ## What is found

@@ -26,10 +26,8 @@ use Rattle.node_machine.specs.Carrying.{own_side, unless_cut, needs, lack}
 use Rattle.node_machine.specs.Turns.{deeds_of, handles, holds_back, lets_go, have_turns, goes_through_ends, passes}
 use Rattle.node_machine.specs.Node.{NodeInput, input_at, told_at, told_late, all_come, with_older, is_late, forgets, steps}
 use Rattle.node_machine.specs.Node.NodeInput.{AtEnd, TimePasses}
-use Rattle.node_machine.specs.world.World.{NodeWorld, Site, link_to, near_end_in, arrival, comes_to, input_of, wires_for, frames_noted, all_aged}
-use Rattle.node_machine.specs.world.World.{end_c, site_at}
-use Rattle.node_machine.specs.world.World.{controller_work, new_world, world_step}
-use Rattle.node_machine.specs.world.World.{Happening}
+use Rattle.node_machine.specs.world.World.{NodeWorld, Site, link_to, near_end_in, arrival, comes_to, input_of, wires_for, frames_noted, all_aged, end_c}
+use Rattle.node_machine.specs.world.World.{site_at, controller_work, new_world, world_step, Happening}
 use Rattle.node_machine.specs.world.World.Happening.{Takes}
 use Rattle.node_machine.specs.world.Lines.{Occurrence}
 use Rattle.node_machine.specs.world.NodeHistories.{entries_in}

@@ -10,9 +10,8 @@ use Rattle.shdlc_core.specs.Machine.{is_waiting}
 use Rattle.link_laws.specs.machine.Machine.{LinkEnd, Role, LinkInput, Turn, turned, after_input, ended_by}
 use Rattle.link_laws.specs.machine.Machine.Role.{Bare, Clf, Uicc}
 use Rattle.link_laws.specs.machine.Machine.LinkInput.{Take, Tick, Reset}
-use Rattle.link_laws.specs.messages.Links.{NumberedEnd, Link, LinkEvent, Ending, Comes, Loss, IsClf, IsUicc, AllAllowed, happens}
-use Rattle.link_laws.specs.messages.Links.{after_link_events, exchanged, aged}
-use Rattle.link_laws.specs.messages.Links.{with_ended, has_input, ticks_at_controller, happens_at_controller}
+use Rattle.link_laws.specs.messages.Links.{NumberedEnd, Link, LinkEvent, Ending, Comes, Loss, IsClf, IsUicc, AllAllowed, happens, after_link_events}
+use Rattle.link_laws.specs.messages.Links.{exchanged, aged, with_ended, has_input, ticks_at_controller, happens_at_controller}
 use Rattle.link_laws.specs.messages.Links.EndEvent.{Step, Lose}
 use Rattle.link_laws.specs.messages.Links.LinkEvent.{AtController, AtHost}
 use Rattle.link_laws.specs.messages.Links.Ending.{CutOff}

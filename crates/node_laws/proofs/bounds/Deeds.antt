@@ -1,6 +1,5 @@
 -- What each deed of a node costs, and that a node can always pay for it.
-use Rattle.std.proofs.Common.{◌≡◌, ℕ, ◌+◌, ◌≤◌, true, List, [], ◌∷◌, ◌++◌, length, sym, refl, ap, subst, arith, Option, Some}
-use Rattle.std.proofs.Common.{None}
+use Rattle.std.proofs.Common.{◌≡◌, ℕ, ◌+◌, ◌≤◌, true, List, [], ◌∷◌, ◌++◌, length, sym, refl, ap, subst, arith, Option, Some, None}
 use Rattle.std.proofs.lemmas.List.{length-map}
 use Rattle.std.specs.Option.{option_map_or}
 use Rattle.trace_model.specs.declared.entry.Entry.{Entry}
@@ -17,13 +16,11 @@ use Rattle.link_laws.specs.entries.Entries.{End as Side}
 use Rattle.node_machine.specs.Parts.{Init, Notice, Core, Port, Work, Deed}
 use Rattle.node_machine.specs.Parts.About.{Waits, Removed}
 use Rattle.node_machine.specs.Parts.Deed.{Commits, Sends, SaysOk, Asks, Releases, Tells, IsAnswered, Drops, SetsErrors, Orders, Hears, GoesOn, Ends}
-use Rattle.node_machine.specs.Carrying.{own_side, end_of_node, noting, port_at, with_port, with_desk, after_turn, noted_of, turn_at}
-use Rattle.node_machine.specs.Carrying.{commit, done, all_done}
+use Rattle.node_machine.specs.Carrying.{own_side, end_of_node, noting, port_at, with_port, with_desk, after_turn, noted_of, turn_at, commit, done, all_done}
 use Rattle.node_machine.specs.Controller.{creation_in}
 use Rattle.node_laws.proofs.Cases.{by_option, by_test}
 use Rattle.node_laws.proofs.bounds.Costs.{costs, pays, cost, message_cost, costs-append, pays-append, is_host_side, sent_most}
-use Rattle.node_laws.proofs.bounds.Holding.{core_holds, ports_hold, notice_holds, order_holds, init_holds, init_left, holds_at, with_less}
-use Rattle.node_laws.proofs.bounds.Holding.{with_more, frees}
+use Rattle.node_laws.proofs.bounds.Holding.{core_holds, ports_hold, notice_holds, order_holds, init_holds, init_left, holds_at, with_less, with_more, frees}
 
 -- What was noted so far, with what the node keeps and what it may still spend, is paid for by what had its turn and by what was there.
 pub record Owes (side : Side) (left all : ℕ) (w : Work) : Type 0 where

@@ -1,7 +1,6 @@
 -- What a node keeps and what may come of it: a creation that waits, the unanswered command of a host, and the commands that are left of its
 -- init.
-use Rattle.std.proofs.Common.{◌≡◌, ℕ, ◌+◌, ◌*◌, ◌-◌, ◌≤◌, Bool, true, false, eqb, List, [], ◌∷◌, length, map, refl, ap, ◌∙◌, arith, Option, Some}
-use Rattle.std.proofs.Common.{None}
+use Rattle.std.proofs.Common.{◌≡◌, ℕ, ◌+◌, ◌*◌, ◌-◌, ◌≤◌, Bool, true, false, eqb, List, [], ◌∷◌, length, map, refl, ap, ◌∙◌, arith, Option, Some, None}
 use Rattle.std.specs.Option.{option_map_or}
 use Rattle.node_machine.specs.Parts.{Init, Creation, Notice, Desk, Core, Running, Port}
 use Rattle.node_machine.specs.Carrying.{port_at, changed_if, with_port}

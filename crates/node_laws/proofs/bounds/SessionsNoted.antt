@@ -17,10 +17,9 @@ use Rattle.link_laws.specs.messages.Links.Comes.{NextFrame, AsksReset, Starts, S
 use Rattle.link_laws.specs.messages.Links.Loss.{TooMany}
 use Rattle.link_laws.specs.messages.Links.EndEvent.{Step, Lose}
 use Rattle.link_laws.specs.messages.Links.LinkEvent.{AtController, AtHost, Ticks, TicksWithout, Activate}
-use Rattle.link_laws.specs.entries.Entries.{End, Entry, told, told_of, turn_entry, turn_entries, first_lost, pushed_out, wire_with}
-use Rattle.link_laws.specs.entries.Entries.{put_entries, puts_entries, ending_entries, rest_entries, input_entries, left_after, taken_entries}
-use Rattle.link_laws.specs.entries.Entries.{restart_entries, step_entries, here_entries, entries_of_events, aged_entries, tick_entries, event_entries}
-use Rattle.link_laws.specs.entries.Entries.{entries, far}
+use Rattle.link_laws.specs.entries.Entries.{End, Entry, told, told_of, turn_entry, turn_entries, first_lost, pushed_out, wire_with, put_entries, puts_entries}
+use Rattle.link_laws.specs.entries.Entries.{ending_entries, rest_entries, input_entries, left_after, taken_entries, restart_entries, step_entries}
+use Rattle.link_laws.specs.entries.Entries.{here_entries, entries_of_events, aged_entries, tick_entries, event_entries, entries, far}
 use Rattle.link_laws.specs.entries.Entries.End.{Controller, Host}
 use Rattle.link_laws.specs.entries.Entries.Entry.{Up, Acked, Got, Sent, Tick, Restarted, Cut}
 use Rattle.history.specs.Steps.{entry_of, entries_for}

@@ -19,10 +19,9 @@ use Rattle.shdlc_core.specs.declared.answers.LinkState.{LinkState}
 use Rattle.shdlc_core.specs.declared.answers.LinkState.TheVariants.{Down, Waiting, Up}
 use Rattle.shdlc_core.specs.Machine.{EndState, taken, take_answer, ticked, tick_answer, stopped, reset_with}
 use Rattle.link_laws.specs.sessions.Sessions.{OnWire}
-use Rattle.link_laws.specs.machine.Machine.{LinkEnd, ActDue, Role, LinkInput, Turn, in_front, with_act, moved, put_down, activated, heard, took}
-use Rattle.link_laws.specs.machine.Machine.{is_open, is_faulty}
-use Rattle.link_laws.specs.machine.Machine.{turn, turned, after_input, give_refusal, aside_refusal, reset_refusal, window_of, if_up}
-use Rattle.link_laws.specs.machine.Machine.{role_after, act_answer, act_event, act_out, report}
+use Rattle.link_laws.specs.machine.Machine.{LinkEnd, ActDue, Role, LinkInput, Turn, in_front, with_act, moved, put_down, activated, heard, took, is_open}
+use Rattle.link_laws.specs.machine.Machine.{is_faulty, turn, turned, after_input, give_refusal, aside_refusal, reset_refusal, window_of, if_up, role_after}
+use Rattle.link_laws.specs.machine.Machine.{act_answer, act_event, act_out, report}
 use Rattle.link_laws.specs.machine.Machine.Role.{Bare, Clf, Uicc}
 use Rattle.link_laws.specs.machine.Machine.LinkInput.{Take, TakeUnknown, TakeBroken, Tick, Reset, Start, Stop, FromNode, Fetch}
 use Rattle.link_laws.specs.machine.Machine.Turn.{Give, SetAside}

@@ -25,9 +25,7 @@ use Rattle.node_machine.specs.Controller.{asked_at, controller_deeds, view_of}
 use Rattle.node_machine.specs.HostReplies.{host_deeds}
 use Rattle.node_machine.specs.Turns.{deeds_of, handles, have_turns, goes_through_ends, passes}
 use Rattle.node_machine.specs.Node.{NodeInput, input_at, has_come, told_at, all_come, with_older, is_late, reset_late, told_late, times_out, is_over}
-use Rattle.node_machine.specs.Node.{is_over_at}
-use Rattle.node_machine.specs.Node.{is_forgotten, forgotten, forgets, owed, all_owed, without_notice, after_sessions, synced}
-use Rattle.node_machine.specs.Node.{steps, begins_with}
+use Rattle.node_machine.specs.Node.{is_over_at, is_forgotten, forgotten, forgets, owed, all_owed, without_notice, after_sessions, synced, steps, begins_with}
 use Rattle.node_machine.specs.Node.NodeInput.{AtEnd, TimePasses}
 use Rattle.node_laws.specs.passes.Steps.{comes_to_pass}
 use Rattle.node_laws.proofs.Cases.{by_option, by_test}

@@ -14,9 +14,8 @@ use Rattle.journal_laws.specs.Planned.{after_planned}
 use Rattle.link_laws.specs.machine.Machine.{Message, LinkEnd, LinkInput, report}
 use Rattle.link_laws.specs.machine.Machine.LinkInput.{Take, Tick, Reset, Start, Stop}
 use Rattle.link_laws.specs.machine.Machine.Role.{Bare}
-use Rattle.link_laws.specs.messages.Links.{NumberedEnd, Link, Comes, Loss, IsUicc, new_link, exchanged, aged}
+use Rattle.link_laws.specs.messages.Links.{NumberedEnd, Link, Comes, Loss, IsUicc, new_link, exchanged, aged, happens}
 use Rattle.link_laws.specs.messages.Links.Comes.{NextFrame, AsksReset, Starts, Stops, NoInput}
-use Rattle.link_laws.specs.messages.Links.{happens}
 use Rattle.link_laws.specs.messages.Links.Ending.{GoesOut, CutOff}
 use Rattle.link_laws.specs.messages.Links.EndEvent.{Step}
 use Rattle.link_laws.specs.messages.Links.LinkEvent.{AtController}
@@ -30,16 +29,13 @@ use Rattle.node_machine.specs.Controller.{is_command_message}
 use Rattle.node_machine.specs.Node.{NodeInput, boot_writes, input_at, new_desk, with_error, steps, begins_with}
 use Rattle.node_machine.specs.Node.NodeInput.{AtEnd, TimePasses}
 use Rattle.node_machine.specs.world.World.{NodeWorld, Site, Happening, link_to, ending_of, runs_on, near_end_in, arrival, wires_for, site_at, with_site}
-use Rattle.node_machine.specs.world.World.{frames_noted, comes_to, controller_work, controller_does, host_does, after_host, link_after_controller}
-use Rattle.node_machine.specs.world.World.{turns_at, input_of, is_late_at}
-use Rattle.node_machine.specs.world.World.{port_for, work_of, boots, with_node, with_memory, loses_power_at, links_of, host_cut, counts, memory_at}
-use Rattle.node_machine.specs.world.World.{frame_lost, all_aged, controller_ticks, host_ticks, hosts_tick, world_ticks, sending, beginning, comes_at}
-use Rattle.node_machine.specs.world.World.{activates, end_c}
-use Rattle.node_machine.specs.world.World.{end_h, world_step}
+use Rattle.node_machine.specs.world.World.{frames_noted, comes_to, controller_work, controller_does, host_does, after_host, link_after_controller, turns_at}
+use Rattle.node_machine.specs.world.World.{input_of, is_late_at, port_for, work_of, boots, with_node, with_memory, loses_power_at, links_of, host_cut, counts}
+use Rattle.node_machine.specs.world.World.{memory_at, frame_lost, all_aged, controller_ticks, host_ticks, hosts_tick, world_ticks, sending, beginning}
+use Rattle.node_machine.specs.world.World.{comes_at, activates, end_c, end_h, world_step}
 use Rattle.node_machine.specs.world.World.Happening.{Boots, IsCut, Gives, Inits, Takes, Loses, Ticks, Resets, Activates, Arms}
 use Rattle.node_machine.proofs.world.Cases.{by_controller, by_host, by_coming, by_boot, by_loss, by_power, by_memory, by_running, near_tick}
-use Rattle.node_machine.proofs.world.Cases.{by_controller_tick, host_tick}
-use Rattle.node_machine.proofs.world.Cases.{by_host_tick, site_ticked, site_unticked, site_lost, boot_written, boot_found}
+use Rattle.node_machine.proofs.world.Cases.{by_controller_tick, host_tick, by_host_tick, site_ticked, site_unticked, site_lost, boot_written, boot_found}
 use Rattle.node_laws.specs.kept.Books.{hosts_of_ends}
 use Rattle.node_laws.specs.kept.Hosts.{AreDifferent}
 use Rattle.node_laws.specs.telling.Telling.{HasEnds, IfItRuns, hosts_in, IsOrderly}

@@ -9,8 +9,7 @@ use Rattle.swp_act.specs.declared.ActEvent.TheVariants.{Start as ActStart, Take 
 use Rattle.shdlc_core.specs.declared.answers.LinkState.{LinkState}
 use Rattle.shdlc_core.specs.declared.answers.LinkState.TheVariants.{Up}
 use Rattle.shdlc_core.specs.Machine.{taken, take_answer, ticked, tick_answer, stopped}
-use Rattle.link_laws.specs.machine.Machine.{LinkEnd, LinkInput, is_faulty, is_open, act_answer, role_after, with_act, moved, put_down, activated}
-use Rattle.link_laws.specs.machine.Machine.{heard}
+use Rattle.link_laws.specs.machine.Machine.{LinkEnd, LinkInput, is_faulty, is_open, act_answer, role_after, with_act, moved, put_down, activated, heard}
 use Rattle.link_laws.specs.machine.Machine.{had_tick, took, reset_refusal, after_input}
 use Rattle.link_laws.specs.machine.Machine.LinkInput.{Take, Tick, Reset, Start, Stop}
 use Rattle.node_laws.specs.links.Notices.{IsComing}

@@ -1,6 +1,5 @@
 -- What comes to the ends of a controller: with the session of its asker a creation is neither read nor kept any more.
-use Rattle.std.proofs.Common.{append_assoc, ◌≡◌, ℕ, ◌&&◌, ◌||◌, Bool, true, false, not, cond, eqb, List, [], ◌∷◌, ◌++◌, map, sym, refl, ap, ◌∙◌}
-use Rattle.std.proofs.Common.{subst}
+use Rattle.std.proofs.Common.{append_assoc, ◌≡◌, ℕ, ◌&&◌, ◌||◌, Bool, true, false, not, cond, eqb, List, [], ◌∷◌, ◌++◌, map, sym, refl, ap, ◌∙◌, subst}
 use Rattle.std.specs.Prelude.{Option, Some, None, is_some, nat_le}
 use Rattle.std.specs.List.{AllByRecursion, flat_map}
 use Rattle.std.specs.Option.{option_map, option_map_or}
@@ -8,11 +7,10 @@ use Rattle.std.proofs.lemmas.Bool.{eqb-true, eqb-false, ne_eqb, true≢false}
 use mathlib.Core.Bool.{or-false, or-true}
 use Rattle.trace_model.specs.declared.entry.Entry.{Entry}
 use Rattle.shdlc_core.specs.declared.answers.LinkState.TheVariants.{Up}
-use Rattle.link_laws.specs.machine.Machine.{LinkEnd, LinkInput, after_input, ended_by}
+use Rattle.link_laws.specs.machine.Machine.{LinkEnd, LinkInput, after_input, ended_by, report, whole_acked}
 use Rattle.link_laws.specs.machine.Machine.LinkInput.{Tick, Reset}
 use Rattle.link_laws.specs.entries.Entries.End.{Controller}
 use Rattle.link_laws.specs.entries.Entries.{told}
-use Rattle.link_laws.specs.machine.Machine.{report, whole_acked}
 use Rattle.node_machine.specs.Parts.{Creation, Notice, Port, Work}
 use Rattle.node_machine.specs.Carrying.{own_side, port_at}
 use Rattle.node_machine.specs.Controller.{asked_at}

@@ -15,9 +15,8 @@ use Rattle.gate_answers.specs.Answers.{answer_of, first_of, param_in}
 use Rattle.gate_admin.specs.declared.view.LinkView.{LinkView}
 use Rattle.gate_admin.specs.declared.decision.Decision.{Decision}
 use Rattle.gate_admin.specs.declared.decision.Decision.TheVariants.{Answer, Commit, Ask}
-use Rattle.gate_admin.specs.Decide.{ends_of, far_end, far_end_of, commits_and_tells, dest_in, dest_gate_in, opening}
-use Rattle.gate_admin.specs.Decide.{closing, carried_out, decided, created, told_of_deletion}
-use Rattle.gate_admin.specs.Decide.{told_of_clearing, tests_to_create, tests_to_open, tests_of_pipe}
+use Rattle.gate_admin.specs.Decide.{ends_of, far_end, far_end_of, commits_and_tells, dest_in, dest_gate_in, opening, closing, carried_out, decided, created}
+use Rattle.gate_admin.specs.Decide.{told_of_deletion, told_of_clearing, tests_to_create, tests_to_open, tests_of_pipe}
 use Rattle.gate_admin.proofs.CreationLemmas.{AllFalse, all_false}
 use Rattle.link_laws.specs.machine.Machine.{Message}
 use Rattle.node_machine.specs.Controller.{own_gate, goes_through, relayed_to}

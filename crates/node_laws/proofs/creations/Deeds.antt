@@ -32,8 +32,7 @@ use Rattle.node_laws.specs.creations.Worlds.{IsProperCommand, IsProperBook, IsAw
 use Rattle.node_laws.proofs.creations.Asks.{Asked, waits, owes, set_asked, Split, asked_else, asked_here}
 use Rattle.node_laws.proofs.creations.Reading.{ask_more, asked_reads}
 use Rattle.node_laws.proofs.creations.Outcomes.{LeavesAsked}
-use Rattle.node_laws.proofs.creations.Doing.{EndAt, plain_of, at_here, IsOn, IsOff, reading, many, Good, on_is, off_is, notes, sets, alters_so}
-use Rattle.node_laws.proofs.creations.Doing.{gives, desks}
+use Rattle.node_laws.proofs.creations.Doing.{EndAt, plain_of, at_here, IsOn, IsOff, reading, many, Good, on_is, off_is, notes, sets, alters_so, gives, desks}
 use Rattle.node_laws.proofs.creations.Doing.{pays, tells, heard, done_so, commits}
 use Rattle.pipe_table.specs.declared.row.PipeRow.{PipeRow}
 

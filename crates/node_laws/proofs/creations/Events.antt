@@ -1,6 +1,5 @@
 -- What is read of creations over whatever happens.
-use Rattle.std.proofs.Common.{◌≡◌, ℕ, ◌&&◌, Bool, true, false, not, cond, eqb, List, [], ◌∷◌, ◌++◌, map, sym, refl, ap, ◌∙◌}
-use Rattle.std.proofs.Common.{subst, append-nil}
+use Rattle.std.proofs.Common.{◌≡◌, ℕ, ◌&&◌, Bool, true, false, not, cond, eqb, List, [], ◌∷◌, ◌++◌, map, sym, refl, ap, ◌∙◌, subst, append-nil}
 use Rattle.std.specs.Prelude.{Option, Some, None}
 use Rattle.std.specs.List.{AllByRecursion, flat_map, find, cons_option, filter_map}
 use Rattle.std.specs.Option.{option_map_or}
@@ -14,8 +13,7 @@ use Rattle.trace_model.specs.declared.entry.Entry.TheVariants as entry
 use Rattle.trace_model.specs.declared.line.End.{End}
 use Rattle.link_laws.specs.machine.Machine.{LinkInput, Role, Turn, new_link_end, renewed, sent_all, turned, after_input, deactivated, started}
 use Rattle.link_laws.specs.machine.Machine.Role.{Bare}
-use Rattle.link_laws.specs.messages.Links.{Link, NumberedEnd, Loss, Comes, exchanged, aged, happens, steps_at_controller}
-use Rattle.link_laws.specs.messages.Links.{has_taken}
+use Rattle.link_laws.specs.messages.Links.{Link, NumberedEnd, Loss, Comes, exchanged, aged, happens, steps_at_controller, has_taken}
 use Rattle.link_laws.specs.messages.Links.Ending.{GoesOut, CutOff}
 use Rattle.link_laws.specs.messages.Links.Comes.{NextFrame, AsksReset, Starts, NoInput, Stops}
 use Rattle.link_laws.specs.messages.Links.Loss.{Broken}
@@ -30,13 +28,10 @@ use Rattle.node_machine.specs.Carrying.{port_at}
 use Rattle.node_machine.specs.Controller.{creation_in}
 use Rattle.node_machine.specs.Node.{steps, begins_with, boot_writes, found, new_desk, with_error, has_come, input_at}
 use Rattle.node_machine.specs.Node.NodeInput.{AtEnd, TimePasses}
-use Rattle.node_machine.specs.world.World.{NodeWorld, Site, node_at, memory_at, site_at, with_site, with_memory, with_node, link_to, links_of}
-use Rattle.node_machine.specs.world.World.{ending_of, runs_on}
-use Rattle.node_machine.specs.world.World.{turns_at, input_of, near_end_in, arrival, wires_for, work_of, frames_noted, comes_to, controller_work}
-use Rattle.node_machine.specs.world.World.{link_after_controller}
-use Rattle.node_machine.specs.world.World.{after_controller, host_work, after_host, host_does, controller_cut, host_cut, loses_power_at, boots}
-use Rattle.node_machine.specs.world.World.{counts, frame_lost}
-use Rattle.node_machine.specs.world.World.{all_aged, is_late_at, ticked_so, controller_ticks, comes_at, port_for}
+use Rattle.node_machine.specs.world.World.{NodeWorld, Site, node_at, memory_at, site_at, with_site, with_memory, with_node, link_to, links_of, ending_of}
+use Rattle.node_machine.specs.world.World.{runs_on, turns_at, input_of, near_end_in, arrival, wires_for, work_of, frames_noted, comes_to, controller_work}
+use Rattle.node_machine.specs.world.World.{link_after_controller, after_controller, host_work, after_host, host_does, controller_cut, host_cut}
+use Rattle.node_machine.specs.world.World.{loses_power_at, boots, counts, frame_lost, all_aged, is_late_at, ticked_so, controller_ticks, comes_at, port_for}
 use Rattle.node_machine.specs.world.NodeFilters.{book_in, asking_in}
 use Rattle.node_laws.specs.kept.Hosts.{AreHosts}
 use Rattle.node_laws.specs.kept.Worlds.{AllKeep, IfRuns, RunsSo}

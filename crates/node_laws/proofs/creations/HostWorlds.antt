@@ -22,12 +22,10 @@ use Rattle.node_machine.specs.Parts.{Desk, Port, Running, Work, Deed}
 use Rattle.node_machine.specs.Carrying.{changed_if}
 use Rattle.node_machine.specs.Node.{steps, begins_with, boot_writes}
 use Rattle.node_machine.specs.Node.NodeInput.{AtEnd, TimePasses}
-use Rattle.node_machine.specs.world.World.{NodeWorld, Site, Happening, memory_at, site_at, with_site, with_memory, link_to, ending_of, turns_at}
-use Rattle.node_machine.specs.world.World.{input_of, near_end_in, arrival, port_for, work_of, comes_to, controller_work, link_after_controller}
-use Rattle.node_machine.specs.world.World.{after_controller}
-use Rattle.node_machine.specs.world.World.{controller_does, host_work, after_host, host_does, host_cut, loses_power_at, boots, counts, frame_lost}
-use Rattle.node_machine.specs.world.World.{all_aged, is_late_at, ticked_so, controller_ticks, host_ticks, hosts_tick, comes_at, sending, beginning}
-use Rattle.node_machine.specs.world.World.{new_site, end_c}
+use Rattle.node_machine.specs.world.World.{NodeWorld, Site, Happening, memory_at, site_at, with_site, with_memory, link_to, ending_of, turns_at, input_of}
+use Rattle.node_machine.specs.world.World.{near_end_in, arrival, port_for, work_of, comes_to, controller_work, link_after_controller, after_controller}
+use Rattle.node_machine.specs.world.World.{controller_does, host_work, after_host, host_does, host_cut, loses_power_at, boots, counts, frame_lost, all_aged}
+use Rattle.node_machine.specs.world.World.{is_late_at, ticked_so, controller_ticks, host_ticks, hosts_tick, comes_at, sending, beginning, new_site, end_c}
 use Rattle.node_machine.specs.world.World.{end_h, world_step}
 use Rattle.node_machine.specs.world.World.Happening.{Boots, IsCut, Gives, Inits, Takes, Loses, Ticks, Resets, Activates, Arms}
 use Rattle.node_laws.proofs.Cases.{by_option, by_test}

@@ -22,10 +22,8 @@ use Rattle.node_machine.specs.Parts.{Running, Work}
 use Rattle.node_machine.specs.Node.{steps}
 use Rattle.node_machine.specs.Node.NodeInput.{AtEnd, TimePasses}
 use Rattle.node_machine.specs.world.World.{NodeWorld, Site, Happening, memory_at, link_to, ending_of, turns_at, input_of, work_of, controller_work}
-use Rattle.node_machine.specs.world.World.{after_controller}
-use Rattle.node_machine.specs.world.World.{controller_does, all_aged, is_late_at, ticked_so, controller_ticks, hosts_tick, world_ticks, comes_at}
-use Rattle.node_machine.specs.world.World.{activates, sending}
-use Rattle.node_machine.specs.world.World.{beginning, new_site, new_world, end_c, end_h, world_step}
+use Rattle.node_machine.specs.world.World.{after_controller, controller_does, all_aged, is_late_at, ticked_so, controller_ticks, hosts_tick, world_ticks}
+use Rattle.node_machine.specs.world.World.{comes_at, activates, sending, beginning, new_site, new_world, end_c, end_h, world_step}
 use Rattle.node_machine.specs.world.World.Happening.{Boots, IsCut, Gives, Inits, Takes, Loses, Ticks, Resets, Activates, Arms}
 use Rattle.node_machine.specs.world.NodeFilters.{commands_in}
 use Rattle.node_laws.proofs.Cases.{by_option, by_test}
@@ -51,8 +49,7 @@ use Rattle.node_laws.proofs.creations.Rows.{new_proper}
 use Rattle.node_laws.proofs.creations.Asides.{input_aside}
 use Rattle.node_laws.proofs.creations.HostWorlds.{event_none, new_none}
 use Rattle.node_laws.proofs.creations.Near.{Reads, new_ready}
-use Rattle.node_laws.proofs.creations.Events.{Beside, beside_reads, far_beside, begins_beside, memory_beside, lost_beside, cut_reads, boots_reads}
-use Rattle.node_laws.proofs.creations.Events.{near_step}
+use Rattle.node_laws.proofs.creations.Events.{Beside, beside_reads, far_beside, begins_beside, memory_beside, lost_beside, cut_reads, boots_reads, near_step}
 use Rattle.node_laws.proofs.creations.Events.{near_tick}
 
 nothing : (t : List Entry) (w : NodeWorld) → Reads t w → Reads (t ++ []) w

@@ -38,10 +38,9 @@ use Rattle.node_laws.proofs.kept.Kept.{all_begin, blank_finds, are_kept}
 use Rattle.journal_laws.proofs.Opening.{fresh}
 use Rattle.node_laws.specs.telling.Telling.{world_behind}
 use Rattle.node_laws.proofs.telling.Lasting.{AllMay, AreCaused, lines_caused}
-use Rattle.node_laws.specs.cuts.Histories.{CommandsWriteSo, MemoriesHold}
-use Rattle.node_laws.specs.cuts.Histories.{boots_it, BootsWriteSo, FindsBy, FindsExactly, begun_by, with_event, reckoned_within, reckoning_in}
+use Rattle.node_laws.specs.cuts.Histories.{CommandsWriteSo, MemoriesHold, boots_it, BootsWriteSo, FindsBy, FindsExactly, begun_by, with_event}
+use Rattle.node_laws.specs.cuts.Histories.{reckoned_within, reckoning_in, AreFoundExactly, StandsInMemories, IsCutAsPlanned, AreCutAsPlanned, KeptExactly}
 use Rattle.trace_model.specs.Lines.{IsNodeOf}
-use Rattle.node_laws.specs.cuts.Histories.{AreFoundExactly, StandsInMemories, IsCutAsPlanned, AreCutAsPlanned, KeptExactly}
 use Rattle.node_laws.proofs.cuts.Counting.{two_writes, snapshot_writes}
 use Rattle.node_laws.proofs.cuts.Standing.{FindsMany, Stands, book_then}
 use Rattle.node_laws.proofs.cuts.Worlds.{IsThere, StandsAt, memory_far, node_far}

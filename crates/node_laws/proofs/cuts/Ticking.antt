@@ -15,8 +15,7 @@ use Rattle.node_machine.specs.Parts.{Running, Work}
 use Rattle.node_machine.specs.Node.{steps}
 use Rattle.node_machine.specs.Node.NodeInput.{TimePasses}
 use Rattle.node_machine.specs.world.World.{NodeWorld, Site, site_at, link_to, runs_on, work_of, all_aged, is_late_at, ticked_so, turns_at, ending_of}
-use Rattle.node_machine.specs.world.World.{frames_noted}
-use Rattle.node_machine.specs.world.World.{controller_ticks, host_ticks, hosts_tick, world_ticks}
+use Rattle.node_machine.specs.world.World.{frames_noted, controller_ticks, host_ticks, hosts_tick, world_ticks}
 use Rattle.node_laws.specs.kept.Reckonings.{Reckoning, reckoned}
 use Rattle.node_laws.specs.kept.Books.{IsOf}
 use Rattle.node_laws.specs.kept.Hosts.{AreDifferent, AreHosts}

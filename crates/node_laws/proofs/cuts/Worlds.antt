@@ -12,10 +12,9 @@ use Rattle.link_laws.specs.entries.Entries.End.{Controller, Host}
 use Rattle.history.specs.Steps.{entries_for}
 use Rattle.node_machine.specs.Parts.{Running, Work}
 use Rattle.node_machine.specs.Carrying.{changed_if}
-use Rattle.node_machine.specs.world.World.{NodeWorld, Site, node_at, site_at, with_site, link_to, memory_at, runs_on, near_end_in, arrival, wires_for, work_of}
-use Rattle.node_machine.specs.world.World.{frames_noted, comes_to, controller_work, link_after_controller, after_controller, controller_does}
-use Rattle.node_machine.specs.world.World.{host_work, after_host}
-use Rattle.node_machine.specs.world.World.{host_does}
+use Rattle.node_machine.specs.world.World.{NodeWorld, Site, node_at, site_at, with_site, link_to, memory_at, runs_on, near_end_in, arrival, wires_for}
+use Rattle.node_machine.specs.world.World.{work_of, frames_noted, comes_to, controller_work, link_after_controller, after_controller, controller_does}
+use Rattle.node_machine.specs.world.World.{host_work, after_host, host_does}
 use Rattle.node_laws.specs.kept.Reckonings.{Reckoning}
 use Rattle.node_laws.specs.kept.Books.{IsPlain, StillRuns}
 use Rattle.node_machine.specs.Orders.{IsOnOrder}

@@ -7,8 +7,7 @@ use Rattle.trace_model.specs.declared.entry.Entry.TheVariants as entry
 use Rattle.link_laws.specs.machine.Machine.Turn.{Hold, FetchMessage}
 use Rattle.node_machine.specs.Parts.{Port, Work, Deed}
 use Rattle.node_machine.specs.Carrying.{port_at, noted_of, end_of_node, all_done}
-use Rattle.node_machine.specs.Node.{NodeInput, all_come, times_out, forgets, forgotten, after_sessions}
-use Rattle.node_machine.specs.Node.{without_notice, synced, all_owed, steps}
+use Rattle.node_machine.specs.Node.{NodeInput, all_come, times_out, forgets, forgotten, after_sessions, without_notice, synced, all_owed, steps}
 use Rattle.node_machine.proofs.Walks.{anyone}
 use Rattle.node_laws.proofs.steps.StepWalks.{Lasts, rest_lasts, all_last}
 use Rattle.node_laws.specs.passes.Noting.{noted_by_deed}

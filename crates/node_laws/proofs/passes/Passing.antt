@@ -12,9 +12,8 @@ use Rattle.node_machine.specs.Parts.{Core, Port, Work, Deed}
 use Rattle.node_machine.specs.Carrying.{noting, unless_cut, port_at, noted_of, with_desk, after_turn, turn_at, end_of_node}
 use Rattle.node_machine.specs.Turns.{deeds_of, handles, holds_back, lets_go, have_turns, goes_through_ends}
 use Rattle.node_laws.specs.passes.Noting.{noted_by_deeds}
-use Rattle.node_laws.specs.passes.Passing.{BeginWithTurn, AreAlong, links_of_turns, waiting_at, is_held_at, lacking, takes_up, LastsOverTurns}
-use Rattle.node_laws.specs.passes.Passing.{ComesTo, IsTurnSo}
-use Rattle.node_laws.specs.passes.Passing.{ArePassed}
+use Rattle.node_laws.specs.passes.Passing.{BeginWithTurn, AreAlong, links_of_turns, waiting_at, is_held_at, lacking, takes_up, LastsOverTurns, ComesTo}
+use Rattle.node_laws.specs.passes.Passing.{IsTurnSo, ArePassed}
 use Rattle.node_laws.specs.passes.Passing.ComesTo.{Begins, Handles, Holds, LetsGo}
 use Rattle.node_laws.proofs.Cases.{by_list, by_option, by_test}
 use Rattle.node_laws.proofs.passes.Notes.{deeds_note}

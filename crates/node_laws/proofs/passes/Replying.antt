@@ -24,8 +24,7 @@ use Rattle.node_laws.proofs.steps.Ports.{changed_host}
 use Rattle.node_laws.proofs.telling.Accounts.{at_host}
 use Rattle.node_laws.proofs.telling.Away.{at_map, none_map}
 use Rattle.node_laws.specs.passes.Noting.{goes_in, noted_by_deed, noted_by_deeds, session_of_port, sent_in_session, next_count, entries_of_reply}
-use Rattle.node_laws.specs.passes.Noting.{CountsCommands}
-use Rattle.node_laws.specs.passes.Noting.{TakesMessage, AreTaken, IsReplyNoted}
+use Rattle.node_laws.specs.passes.Noting.{CountsCommands, TakesMessage, AreTaken, IsReplyNoted}
 use Rattle.node_laws.proofs.links.Noticing.{turn-phase}
 
 -- ## Sessions

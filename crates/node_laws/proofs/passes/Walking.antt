@@ -9,8 +9,7 @@ use Rattle.node_machine.specs.Carrying.{end_of_node}
 use Rattle.node_machine.specs.Turns.{deeds_of, handles}
 use Rattle.node_laws.specs.passes.Noting.{noted_by_deeds}
 use Rattle.node_laws.specs.passes.Passing.{IsNoTurn, AreNoTurns, BeginWithTurn, AreAlong, links_of_turns, waiting_at, is_held_at, lacking, takes_up}
-use Rattle.node_laws.specs.passes.Passing.{LastsOverTurns}
-use Rattle.node_laws.specs.passes.Passing.{HadTurn, WasHeld, IsTurnSo, ArePassed}
+use Rattle.node_laws.specs.passes.Passing.{LastsOverTurns, HadTurn, WasHeld, IsTurnSo, ArePassed}
 use Rattle.node_laws.proofs.passes.Turnless.{reply_none}
 
 -- ## Lists of entries

@@ -19,8 +19,7 @@ use Rattle.node_machine.specs.Parts.{About, Desk, Core, Port, Work, Deed}
 use Rattle.node_machine.specs.Parts.About.{Waits, Removed}
 use Rattle.node_machine.specs.Parts.Deed.{Commits, Sends, SaysOk, Asks, Releases, Tells, IsAnswered, Drops, SetsErrors, Orders, Hears, GoesOn, Ends}
 use Rattle.node_machine.specs.Carrying.{own_side, end_of_node, noting, unless_cut, port_at, changed_if, with_port, with_desk, after_turn, noted_of, turn_at}
-use Rattle.node_machine.specs.Carrying.{end_of_number}
-use Rattle.node_machine.specs.Carrying.{notified, loses_power, keeps, commit, done, all_done}
+use Rattle.node_machine.specs.Carrying.{end_of_number, notified, loses_power, keeps, commit, done, all_done}
 use Rattle.node_machine.specs.Turns.{deeds_of, handles, holds_back, lets_go, have_turns, goes_through_ends, passes}
 use Rattle.node_machine.specs.world.World.{node_of}
 use Rattle.node_laws.proofs.Cases.{by_test, by_option}

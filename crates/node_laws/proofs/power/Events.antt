@@ -19,9 +19,8 @@ use Rattle.node_machine.specs.Controller.{is_command_message}
 use Rattle.node_machine.specs.Node.{steps, begins_with}
 use Rattle.node_machine.specs.Node.NodeInput.{AtEnd, TimePasses}
 use Rattle.node_machine.specs.world.World.{Site, NodeWorld, Happening, site_at, link_to, near_end_in, arrival, wires_for, work_of, frames_noted, comes_to}
-use Rattle.node_machine.specs.world.World.{controller_does, host_work, host_does, boots, frame_lost, all_aged}
-use Rattle.node_machine.specs.world.World.{controller_ticks, host_ticks, hosts_tick, world_ticks, sending}
-use Rattle.node_machine.specs.world.World.{beginning, comes_at, end_c, end_h, world_step, node_of}
+use Rattle.node_machine.specs.world.World.{controller_does, host_work, host_does, boots, frame_lost, all_aged, controller_ticks, host_ticks, hosts_tick}
+use Rattle.node_machine.specs.world.World.{world_ticks, sending, beginning, comes_at, end_c, end_h, world_step, node_of}
 use Rattle.node_machine.specs.world.World.Happening.{Boots, IsCut, Gives, Inits, Takes, Loses, Ticks, Resets, Activates, Arms}
 use Rattle.node_machine.proofs.world.Cases.{by_controller, by_host, by_coming, by_boot, by_loss, near_tick, by_controller_tick, host_tick, by_host_tick}
 use Rattle.node_laws.specs.kept.Books.{hosts_of_ends}

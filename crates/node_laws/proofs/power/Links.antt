@@ -11,8 +11,7 @@ use Rattle.link_laws.specs.messages.Links.{Link, Comes, Loss, put}
 use Rattle.link_laws.specs.messages.Links.Ending.{GoesOut}
 use Rattle.link_laws.specs.messages.Links.Comes.{NextFrame}
 use Rattle.link_laws.specs.messages.Links.Loss.{TooMany}
-use Rattle.link_laws.specs.entries.Entries.{End as Side, Entry as Noted, far, told, sent_unless, turn_entry, first_lost, pushed_out}
-use Rattle.link_laws.specs.entries.Entries.{wire_with, put_entries}
+use Rattle.link_laws.specs.entries.Entries.{End as Side, Entry as Noted, far, told, sent_unless, turn_entry, first_lost, pushed_out, wire_with, put_entries}
 use Rattle.link_laws.specs.entries.Entries.{puts_entries, ending_entries}
 use Rattle.link_laws.specs.entries.Entries.Entry.{Up, Down, Active, GaveUp, Acked, Got, Sent, Emit, Took, Lost}
 use Rattle.history.specs.Steps.{end_of, entry_of, entries_for}

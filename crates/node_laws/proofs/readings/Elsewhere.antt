@@ -11,8 +11,7 @@ use Rattle.history.specs.Steps.{entry_of, entries_for, end_of}
 use Rattle.node_machine.specs.Parts.{Work, Deed}
 use Rattle.node_machine.specs.Controller.{is_command_message}
 use Rattle.node_machine.specs.Carrying.{all_done}
-use Rattle.node_machine.specs.Node.{NodeInput}
-use Rattle.node_machine.specs.Node.{steps}
+use Rattle.node_machine.specs.Node.{NodeInput, steps}
 use Rattle.node_machine.specs.world.World.{end_h}
 use Rattle.node_machine.specs.world.NodeFilters.{is_response}
 use Rattle.node_laws.specs.readings.Orders.{IsSilent}

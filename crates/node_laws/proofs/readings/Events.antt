@@ -21,10 +21,9 @@ use Rattle.node_machine.specs.Controller.{is_command_message}
 use Rattle.node_machine.specs.Parts.Deed.{Sends, Orders}
 use Rattle.node_machine.specs.Node.{steps, begins_with}
 use Rattle.node_machine.specs.Node.NodeInput.{TimePasses}
-use Rattle.node_machine.specs.world.World.{NodeWorld, Site, site_at, with_site, link_to, ending_of, runs_on, turns_at, wires_for, work_of}
-use Rattle.node_machine.specs.world.World.{frames_noted, host_work}
-use Rattle.node_machine.specs.world.World.{after_host, host_does, sending, beginning, new_site, new_world, is_late_at, ticked_so, all_aged, controller_ticks}
-use Rattle.node_machine.specs.world.World.{host_ticks, hosts_tick, world_ticks}
+use Rattle.node_machine.specs.world.World.{NodeWorld, Site, site_at, with_site, link_to, ending_of, runs_on, turns_at, wires_for, work_of, frames_noted}
+use Rattle.node_machine.specs.world.World.{host_work, after_host, host_does, sending, beginning, new_site, new_world, is_late_at, ticked_so, all_aged}
+use Rattle.node_machine.specs.world.World.{controller_ticks, host_ticks, hosts_tick, world_ticks}
 use Rattle.node_laws.proofs.Cases.{by_option}
 use Rattle.node_laws.proofs.links.Ends.{here_host}
 use Rattle.link_laws.proofs.entries.Together.{ticks_host as tick_host}

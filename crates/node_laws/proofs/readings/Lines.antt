@@ -15,8 +15,7 @@ use Rattle.link_laws.specs.messages.Links.Comes.{NextFrame, AsksReset}
 use Rattle.node_machine.specs.Controller.{is_command_message}
 use Rattle.node_machine.specs.world.World.{NodeWorld, Happening, node_at, node_of, link_to, memory_at, new_world, world_step}
 use Rattle.node_machine.specs.world.World.Happening.{Boots, IsCut, Gives, Inits, Takes, Loses, Ticks, Resets, Activates, Arms}
-use Rattle.node_machine.specs.world.Lines.{first_cause, if_off, machine_in, frames_at, has_order, if_waiting, if_not_sent, refusal_in, happenings}
-use Rattle.node_machine.specs.world.Lines.{Occurrence}
+use Rattle.node_machine.specs.world.Lines.{first_cause, if_off, machine_in, frames_at, has_order, if_waiting, if_not_sent, refusal_in, happenings, Occurrence}
 use Rattle.node_machine.specs.world.NodeHistories.{FollowsNodes, NodeHistory, entries_in, node_entries, occurrences_in, steps_from, world_after}
 use Rattle.node_laws.specs.telling.Telling.{world_behind}
 use Rattle.node_laws.specs.kept.Hosts.{AreHosts, IsSentByHost}

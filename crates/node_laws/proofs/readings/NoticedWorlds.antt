@@ -14,8 +14,7 @@ use Rattle.shdlc_core.specs.declared.answers.LinkState.TheVariants.{Up}
 use Rattle.link_laws.specs.machine.Machine.{LinkEnd, LinkInput, Turn, after_input}
 use Rattle.link_laws.specs.machine.Machine.LinkInput.{Reset}
 use Rattle.link_laws.specs.messages.Links.{Link, NumberedEnd, Ending, Comes, Loss, EndEvent, exchanged, aged, has_input, steps_at_controller}
-use Rattle.link_laws.specs.messages.Links.{ticks_at_controller}
-use Rattle.link_laws.specs.messages.Links.{happens}
+use Rattle.link_laws.specs.messages.Links.{ticks_at_controller, happens}
 use Rattle.link_laws.specs.messages.Links.Ending.{GoesOut, CutOff}
 use Rattle.link_laws.specs.messages.Links.Comes.{NextFrame, AsksReset, Starts, NoInput}
 use Rattle.link_laws.specs.messages.Links.Loss.{Broken}
@@ -31,9 +30,8 @@ use Rattle.node_machine.specs.Node.NodeInput.{AtEnd, TimePasses}
 use Rattle.node_machine.specs.world.World.{NodeWorld, Site, Happening, site_at, link_to, memory_at, with_site, with_memory, links_of, ending_of, runs_on}
 use Rattle.node_machine.specs.world.World.{turns_at, input_of, near_end_in, arrival, port_for, work_of, comes_to, controller_work, link_after_controller}
 use Rattle.node_machine.specs.world.World.{after_controller, controller_does, host_work, after_host, host_does, host_cut, loses_power_at, boots, counts}
-use Rattle.node_machine.specs.world.World.{frame_lost, all_aged, is_late_at, ticked_so, controller_ticks, host_ticks, hosts_tick, world_ticks}
-use Rattle.node_machine.specs.world.World.{sending, beginning}
-use Rattle.node_machine.specs.world.World.{comes_at, end_c, end_h, new_world, world_step}
+use Rattle.node_machine.specs.world.World.{frame_lost, all_aged, is_late_at, ticked_so, controller_ticks, host_ticks, hosts_tick, world_ticks, sending}
+use Rattle.node_machine.specs.world.World.{beginning, comes_at, end_c, end_h, new_world, world_step}
 use Rattle.node_machine.specs.world.World.Happening.{Boots, IsCut, Gives, Inits, Takes, Loses, Ticks, Resets, Activates, Arms}
 use Rattle.node_machine.specs.world.Lines.{happenings}
 use Rattle.node_machine.specs.world.NodeHistories.{world_after}

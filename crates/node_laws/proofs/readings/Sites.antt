@@ -1,6 +1,5 @@
 -- A host with its link over what happens to it: its unanswered command stays the one that is read.
-use Rattle.std.proofs.Common.{◌≡◌, inl, inr, ℕ, ◌&&◌, true, false, cond, eqb, List, [], ◌∷◌, ◌++◌, map, sym, refl, ap, ◌∙◌, subst, append-nil}
-use Rattle.std.proofs.Common.{append_assoc}
+use Rattle.std.proofs.Common.{◌≡◌, inl, inr, ℕ, ◌&&◌, true, false, cond, eqb, List, [], ◌∷◌, ◌++◌, map, sym, refl, ap, ◌∙◌, subst, append-nil, append_assoc}
 use Rattle.std.specs.Prelude.{Option, Some, None, is_some}
 use Rattle.std.specs.List.{AllByRecursion}
 use Rattle.std.proofs.lemmas.Bool.{eq-eqb, eqb-true, true≢false, cond-true, and_parts}
@@ -26,9 +25,8 @@ use Rattle.node_machine.specs.Controller.{is_command_message}
 use Rattle.node_machine.specs.Carrying.{port_at}
 use Rattle.node_machine.specs.Node.{input_at, has_come, steps, begins_with, found, new_desk}
 use Rattle.node_machine.specs.Node.NodeInput.{AtEnd, TimePasses}
-use Rattle.node_machine.specs.world.World.{Site, ending_of, runs_on, sending, beginning, host_cut, turns_at, input_of, near_end_in, arrival}
-use Rattle.node_machine.specs.world.World.{wires_for, port_for}
-use Rattle.node_machine.specs.world.World.{work_of, frames_noted, host_work, after_host, host_ticks}
+use Rattle.node_machine.specs.world.World.{Site, ending_of, runs_on, sending, beginning, host_cut, turns_at, input_of, near_end_in, arrival, wires_for}
+use Rattle.node_machine.specs.world.World.{port_for, work_of, frames_noted, host_work, after_host, host_ticks}
 use Rattle.node_machine.specs.world.NodeFilters.{order_in}
 use Rattle.node_laws.specs.links.Notices.{IsComing}
 use Rattle.node_laws.proofs.Cases.{by_list, by_option, by_test}

@@ -22,10 +22,8 @@ use Rattle.node_machine.specs.Carrying.{changed_if, port_at}
 use Rattle.node_machine.specs.Node.{steps}
 use Rattle.node_machine.specs.Node.NodeInput.{AtEnd}
 use Rattle.node_machine.specs.world.World.{NodeWorld, Site, site_at, with_site, link_to, ending_of, runs_on, turns_at, input_of, near_end_in, arrival}
-use Rattle.node_machine.specs.world.World.{wires_for}
-use Rattle.node_machine.specs.world.World.{port_for, work_of, frames_noted, comes_to, controller_work, link_after_controller, controller_does}
-use Rattle.node_machine.specs.world.World.{host_work, after_host}
-use Rattle.node_machine.specs.world.World.{host_does, comes_at, activates, end_c, end_h}
+use Rattle.node_machine.specs.world.World.{wires_for, port_for, work_of, frames_noted, comes_to, controller_work, link_after_controller, controller_does}
+use Rattle.node_machine.specs.world.World.{host_work, after_host, host_does, comes_at, activates, end_c, end_h}
 use Rattle.node_laws.proofs.Cases.{by_option, by_test}
 use Rattle.node_laws.proofs.links.Ends.{here_host}
 use Rattle.node_laws.specs.kept.Hosts.{AreDifferent, AreHosts}

@@ -16,8 +16,7 @@ use Rattle.node_machine.specs.Carrying.{own_side, port_at}
 use Rattle.node_machine.specs.Node.{NodeInput}
 use Rattle.node_machine.specs.Node.NodeInput.{AtEnd, TimePasses}
 use Rattle.node_machine.specs.world.World.{NodeWorld, Site, Happening, site_at, link_to, input_of, near_end_in, arrival, comes_to, port_for, work_of}
-use Rattle.node_machine.specs.world.World.{new_world, world_step}
-use Rattle.node_machine.specs.world.World.{all_aged, end_c}
+use Rattle.node_machine.specs.world.World.{new_world, world_step, all_aged, end_c}
 use Rattle.node_machine.specs.world.Lines.{Occurrence}
 use Rattle.node_machine.specs.world.NodeHistories.{FollowsNodes, NodeHistory, entries_in, occurrences_in, steps_from}
 use Rattle.node_laws.specs.kept.Books.{hosts_of_ends}
@@ -35,9 +34,8 @@ use Rattle.node_laws.proofs.kept.Sites.{hosts_same as sites_same}
 use Rattle.node_laws.specs.read_steps.Worlds.{as_it_ticks}
 use Rattle.node_laws.proofs.read_rooms.Beginning.{HasSite, site_for}
 use Rattle.node_laws.proofs.turns.Queues.{AreStill, goes-append}
-use Rattle.node_laws.proofs.turns.Lines.{AllWait, Waiting}
-use Rattle.node_laws.proofs.turns.Works.{ByPower, Leaves, Moves, NearWaits, aged_none, arrival_still, end_at, flat_leaves, sites_is}
-use Rattle.node_laws.proofs.turns.Works.{still_leaves}
+use Rattle.node_laws.proofs.turns.Lines.{AllWait, Waiting, none_wait}
+use Rattle.node_laws.proofs.turns.Works.{ByPower, Leaves, Moves, NearWaits, aged_none, arrival_still, end_at, flat_leaves, sites_is, still_leaves}
 use Rattle.node_laws.proofs.turns.Worlds.{events_move}
 use Rattle.node_laws.proofs.turns.Coming.{notes_still}
 use Rattle.node_laws.specs.passes.Passing.{AreNoTurns}
@@ -49,7 +47,6 @@ use Rattle.node_laws.proofs.reply_passes.Sides.{AreNoBoots, notes_unbooted}
 use Rattle.node_laws.proofs.reply_passes.Holding.{begun_read}
 use Rattle.node_laws.proofs.reply_passes.Held.{HoldsRead, aged_leave, event_holds, is_held_among, ports_held}
 use Rattle.node_laws.proofs.reply_passes.Came.{came_read, goes_read, was_there}
-use Rattle.node_laws.proofs.turns.Lines.{none_wait}
 
 -- ## Worlds
 

@@ -1,6 +1,5 @@
 -- A line causes 100 events at most.
-use Rattle.std.proofs.Common.{◌≡◌, ℕ, ◌*◌, ◌≤◌, Bool, true, false, cond, List, [], ◌∷◌, ◌++◌, length, length-append, sym, ap, ◌∙◌}
-use Rattle.std.proofs.Common.{arith, Option, Some, None}
+use Rattle.std.proofs.Common.{◌≡◌, ℕ, ◌*◌, ◌≤◌, Bool, true, false, cond, List, [], ◌∷◌, ◌++◌, length, length-append, sym, ap, ◌∙◌, arith, Option, Some, None}
 use Rattle.std.specs.List.{AllByRecursion}
 use Rattle.std.proofs.lemmas.List.{length-replicate}
 use Rattle.trace_model.specs.declared.line.End.{End}
@@ -15,8 +14,7 @@ use Rattle.history.specs.Follows.{taken_of, first_verdict}
 use Rattle.node_machine.specs.Parts.{Running}
 use Rattle.node_machine.specs.world.World.{NodeWorld, Site, Happening, node_at, site_at, link_to, new_world, world_step}
 use Rattle.node_machine.specs.world.World.Happening.{Takes, Ticks}
-use Rattle.node_machine.specs.world.Lines.{frames_at, refusal_in, happens_by, happenings, Occurrence, can_happen, all_happen, tables_told, goes_on}
-use Rattle.node_machine.specs.world.Lines.{line_step}
+use Rattle.node_machine.specs.world.Lines.{frames_at, refusal_in, happens_by, happenings, Occurrence, can_happen, all_happen, tables_told, goes_on, line_step}
 use Rattle.node_machine.specs.world.NodeHistories.{NodeHistory, FollowsNodes, steps_from, occurrences_of, occurrences_in}
 use Rattle.node_laws.specs.links.Runs.{ArePlayable}
 use Rattle.node_laws.proofs.Cases.{by_option, by_test}

@@ -21,16 +21,13 @@ use Rattle.history.specs.Steps.{entries_for}
 use Rattle.node_machine.specs.Parts.{Core, Desk, Running, Port, Work, Deed}
 use Rattle.node_machine.specs.Carrying.{port_at, own_side, noted_of}
 use Rattle.node_machine.specs.Controller.{is_command_message}
-use Rattle.node_machine.specs.Node.{steps, begins_with, new_desk, with_error}
-use Rattle.node_machine.specs.Node.{NodeInput}
+use Rattle.node_machine.specs.Node.{steps, begins_with, new_desk, with_error, NodeInput}
 use Rattle.node_machine.specs.Node.NodeInput.{AtEnd, TimePasses}
-use Rattle.node_machine.specs.world.World.{NodeWorld, Site, Happening, site_at, link_to, links_of, runs_on, near_end_in, arrival, wires_for, port_for, work_of}
-use Rattle.node_machine.specs.world.World.{frames_noted, comes_to, controller_work, after_controller, controller_does, host_work, host_does, all_aged}
-use Rattle.node_machine.specs.world.World.{controller_ticks, host_ticks, hosts_tick, world_ticks, comes_at, activates, boots, counts, frame_lost, memory_at}
-use Rattle.node_machine.specs.world.World.{with_memory}
-use Rattle.node_machine.specs.world.World.{loses_power_at, with_node, controller_cut, host_cut, with_site, link_after_controller, sending, beginning}
-use Rattle.node_machine.specs.world.World.{world_step}
-use Rattle.node_machine.specs.world.World.{end_c, end_h, ending_of}
+use Rattle.node_machine.specs.world.World.{NodeWorld, Site, Happening, site_at, link_to, links_of, runs_on, near_end_in, arrival, wires_for, port_for}
+use Rattle.node_machine.specs.world.World.{work_of, frames_noted, comes_to, controller_work, after_controller, controller_does, host_work, host_does}
+use Rattle.node_machine.specs.world.World.{all_aged, controller_ticks, host_ticks, hosts_tick, world_ticks, comes_at, activates, boots, counts, frame_lost}
+use Rattle.node_machine.specs.world.World.{memory_at, with_memory, loses_power_at, with_node, controller_cut, host_cut, with_site, link_after_controller}
+use Rattle.node_machine.specs.world.World.{sending, beginning, world_step, end_c, end_h, ending_of}
 use Rattle.node_machine.specs.world.World.Happening.{Boots, IsCut, Gives, Inits, Takes, Loses, Ticks, Resets, Activates, Arms}
 use Rattle.node_machine.proofs.world.Cases.{after_host_step, by_controller, by_host, by_coming, by_power, by_memory, by_running, by_boot, by_loss}
 use Rattle.node_machine.proofs.world.Cases.{by_controller_tick}

@@ -29,14 +29,13 @@ use Rattle.node_laws.proofs.turns.Queues.Doing.{Nothing, Takes}
 use Rattle.node_laws.proofs.turns.Queues.{Becomes, Front, Goes, goes-append, AreStill, all_left, all_still, doing, front_goes, still_goes}
 use Rattle.node_laws.proofs.turns.Passing.{has_side, same_is}
 use Rattle.node_laws.specs.passes.Noting.{goes_in, noted_by_deed, noted_by_deeds}
-use Rattle.node_laws.specs.passes.Passing.{ComesTo, takes_up, waiting_at}
+use Rattle.node_laws.specs.passes.Passing.{ComesTo, takes_up, waiting_at, is_held_at}
 use Rattle.node_laws.specs.passes.Steps.{comes_to_pass, has_come_so, has_freed, has_synced, noted_before_pass, owed_in_step, syncs_in}
 use Rattle.node_laws.specs.passes.Steps.{told_of_coming, told_of_late}
 use Rattle.node_laws.proofs.passes.Before.{before_entries}
 use Rattle.node_laws.proofs.passes.Behind.{held_own, other_handles, other_holds}
 use Rattle.node_laws.proofs.passes.Ends.{SeesAt, lets_see}
 use Rattle.node_laws.proofs.passes.Passing.{comes_so, handles_entries, handles_sees, holds_notes, lets_notes, own_held}
-use Rattle.node_laws.specs.passes.Passing.{is_held_at}
 use Rattle.node_laws.specs.passes.Passing.ComesTo.{Begins, Handles, Holds, LetsGo}
 use Rattle.node_laws.proofs.reply_passes.Sides.{is_host_side, side_comes}
 use Rattle.node_laws.proofs.turns.Coming.{gots_still, told_goes}

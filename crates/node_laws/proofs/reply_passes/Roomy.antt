@@ -19,9 +19,8 @@ use Rattle.journal_laws.specs.Writes.{Write, after_writes, last_place}
 use Rattle.journal_laws.specs.Journal.{Journal, count_of, journal}
 use Rattle.journal_laws.specs.Operations.{IsUnformatted, format_writes}
 use Rattle.journal_laws.specs.Planned.{fails_within, after_planned}
-use Rattle.journal_laws.proofs.Opening.{format_is_cut, format_state}
+use Rattle.journal_laws.proofs.Opening.{format_is_cut, format_state, fresh}
 use Rattle.journal_laws.proofs.InUse.{no_journal}
-use Rattle.journal_laws.proofs.Opening.{fresh}
 use Rattle.hci_tables.specs.Bodies.{body_of}
 use Rattle.hci_store.specs.Committing.{commit_writes}
 use Rattle.link_laws.specs.machine.Machine.{LinkInput}
@@ -33,16 +32,14 @@ use Rattle.node_machine.specs.Parts.{Core, Running, Work}
 use Rattle.node_machine.specs.Node.{NodeInput, boot_writes, steps, begins_with}
 use Rattle.node_machine.specs.Node.NodeInput.{AtEnd, TimePasses}
 use Rattle.node_machine.specs.world.World.{NodeWorld, Site, Happening, all_aged, arrival, boots, comes_at, comes_to, activates, controller_does}
-use Rattle.node_machine.specs.world.World.{controller_ticks}
-use Rattle.node_machine.specs.world.World.{controller_work, after_controller, end_c, end_h, frame_lost, frames_noted, host_does, hosts_tick, link_to}
-use Rattle.node_machine.specs.world.World.{loses_power_at}
-use Rattle.node_machine.specs.world.World.{memory_at, near_end_in, new_world, sending, beginning, wires_for, work_of, world_step, world_ticks}
+use Rattle.node_machine.specs.world.World.{controller_ticks, controller_work, after_controller, end_c, end_h, frame_lost, frames_noted, host_does, hosts_tick}
+use Rattle.node_machine.specs.world.World.{link_to, loses_power_at, memory_at, near_end_in, new_world, sending, beginning, wires_for, work_of, world_step}
+use Rattle.node_machine.specs.world.World.{world_ticks}
 use Rattle.node_machine.specs.world.World.Happening.{Boots, IsCut, Gives, Inits, Takes, Loses, Ticks, Resets, Activates, Arms}
 use Rattle.node_machine.specs.world.Lines.{Occurrence}
 use Rattle.node_machine.specs.world.NodeHistories.{FollowsNodes, NodeHistory, entries_in, node_entries, occurrences_in}
 use Rattle.node_machine.proofs.world.Cases.{by_boot, by_coming, by_controller, by_controller_tick, by_host, by_loss, by_memory, by_power, by_running}
-use Rattle.node_machine.proofs.world.Cases.{boot_found}
-use Rattle.node_machine.proofs.world.Cases.{boot_written, near_tick, after_near_tick}
+use Rattle.node_machine.proofs.world.Cases.{boot_found, boot_written, near_tick, after_near_tick}
 use Rattle.node_laws.specs.telling.Telling.{world_behind}
 use Rattle.node_laws.proofs.telling.Lasting.{Any, AnyLine, AreCaused, all_any, all_lines, events_of_steps, lines_caused}
 use Rattle.node_laws.proofs.order.Asked.{behind_push}

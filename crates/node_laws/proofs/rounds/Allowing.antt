@@ -29,8 +29,7 @@ use Rattle.node_laws.proofs.links.Worlds.{IsFineNode, IsFineSite, IsFineWorld, n
 use Rattle.node_laws.proofs.order.Ticking.{aged_clean, near_sends, far_sends}
 use Rattle.node_laws.proofs.telling.WorldTicks.{host_turns, near_turns}
 use Rattle.node_machine.specs.world.Rounds.{ends_in_order, end_takes_all, ends_take_all, world_after_round}
-use Rattle.node_laws.specs.rounds.LinkEvents.{link_events_in, controller_takes, site_takes, takes_on, site_ticks, tick_so, controller_tick_on}
-use Rattle.node_laws.specs.rounds.LinkEvents.{ticks_on}
+use Rattle.node_laws.specs.rounds.LinkEvents.{link_events_in, controller_takes, site_takes, takes_on, site_ticks, tick_so, controller_tick_on, ticks_on}
 use Rattle.node_laws.specs.rounds.RoundEvents.{events_on, ends_events, round_events, rounds_events}
 use Rattle.node_laws.proofs.rounds.BareRounds.{allowed-append}
 use Rattle.node_laws.proofs.rounds.LinkEvents.{takes_go, ticks_go, Ticked, world_ticked}

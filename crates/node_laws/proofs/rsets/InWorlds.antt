@@ -5,8 +5,7 @@ use Rattle.swp_base.specs.InMemory.{Memory}
 use Rattle.trace_model.specs.declared.line.End.{End}
 use Rattle.shdlc_core.specs.Machine.{is_waiting}
 use Rattle.link_laws.specs.machine.Machine.{Turn}
-use Rattle.link_laws.specs.messages.Links.{Link, Comes, Ending, Loss, LinkEvent, exchanged, aged, happens, ticks_at_controller}
-use Rattle.link_laws.specs.messages.Links.{number_of}
+use Rattle.link_laws.specs.messages.Links.{Link, Comes, Ending, Loss, LinkEvent, exchanged, aged, happens, ticks_at_controller, number_of}
 use Rattle.link_laws.specs.messages.Links.Ending.{GoesOut, CutOff}
 use Rattle.link_laws.specs.messages.Links.Comes.{NextFrame, AsksReset, Starts, NoInput}
 use Rattle.link_laws.specs.messages.Links.EndEvent.{Step, Lose}
@@ -16,19 +15,16 @@ use Rattle.node_machine.specs.Carrying.{changed_if}
 use Rattle.node_machine.specs.Node.{steps, begins_with}
 use Rattle.node_machine.specs.Node.NodeInput.{AtEnd}
 use Rattle.node_machine.specs.world.World.{Site, NodeWorld, Happening, new_world, new_site, with_site, ending_of, turns_at, is_late_at, comes_to, ticked_so}
-use Rattle.node_machine.specs.world.World.{near_end_in}
-use Rattle.node_machine.specs.world.World.{link_after_controller, controller_does, after_host, host_does, controller_work, host_work}
-use Rattle.node_machine.specs.world.World.{host_cut, loses_power_at, with_memory, with_node, boots, memory_at}
-use Rattle.node_machine.specs.world.World.{counts, frame_lost, all_aged, controller_ticks, host_ticks, hosts_tick, world_ticks, comes_at, end_c, end_h}
-use Rattle.node_machine.specs.world.World.{activates, world_step, sending, beginning}
+use Rattle.node_machine.specs.world.World.{near_end_in, link_after_controller, controller_does, after_host, host_does, controller_work, host_work, host_cut}
+use Rattle.node_machine.specs.world.World.{loses_power_at, with_memory, with_node, boots, memory_at, counts, frame_lost, all_aged, controller_ticks}
+use Rattle.node_machine.specs.world.World.{host_ticks, hosts_tick, world_ticks, comes_at, end_c, end_h, activates, world_step, sending, beginning}
 use Rattle.node_machine.specs.world.World.Happening.{Boots, IsCut, Gives, Inits, Takes, Loses, Ticks, Resets, Activates, Arms}
 use Rattle.node_machine.specs.world.Lines.{Occurrence, can_happen, all_happen}
 use Rattle.node_machine.proofs.world.Cases.{by_controller, by_host, by_coming, by_power, by_memory, by_running, boot_written, boot_found, by_boot, by_loss}
 use Rattle.node_machine.proofs.world.Cases.{site_lost, site_ticked, near_tick, host_tick, by_controller_tick, by_host_tick}
 use Rattle.node_laws.specs.telling.Telling.{world_behind}
 use Rattle.link_laws.specs.messages.Rsets.{FewRsets, WireIsLow, resets_in_coming, rset_causes}
-use Rattle.node_laws.specs.rsets.Causes.{FewRsetsOnEach, NumbersWithinOnEach, happened_in, world_ticks_in}
-use Rattle.node_laws.specs.rsets.Causes.{resets_among, others_among, rsets_by, rsets_by_all}
+use Rattle.node_laws.specs.rsets.Causes.{FewRsetsOnEach, NumbersWithinOnEach, happened_in, world_ticks_in, resets_among, others_among, rsets_by, rsets_by_all}
 use Rattle.node_laws.proofs.Cases.{by_test, by_list}
 use Rattle.link_laws.proofs.messages.RsetsOnLinks.{made_by_event, made_in_tick, made_in_tick_there}
 use Rattle.link_laws.proofs.messages.RsetNumbers.{number_low, took_low, exchanged_numbered, aged_numbered, tick_numbered, tick_there_numbered}

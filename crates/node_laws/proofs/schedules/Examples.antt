@@ -9,10 +9,9 @@ use Rattle.trace_model.specs.declared.line.End.{End}
 use Rattle.trace_model.specs.declared.line.Header.{Header}
 use Rattle.trace_model.specs.declared.line.Line.{Line}
 use Rattle.trace_model.specs.declared.line.Line.TheVariants as line
-use Rattle.trace_model.specs.Lines.{IsHost}
+use Rattle.trace_model.specs.Lines.{IsHost, IsNodeHeader}
 use Rattle.node_machine.specs.world.World.{end_c, end_h}
 use Rattle.node_laws.specs.schedules.Ranges.{IsNodeLineOf, AreNodeLinesOf}
-use Rattle.trace_model.specs.Lines.{IsNodeHeader}
 
 -- `swp 1 hci 01 02`
 abbrev two_hosts : Header

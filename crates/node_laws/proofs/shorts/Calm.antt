@@ -30,8 +30,7 @@ use Rattle.node_laws.proofs.readings.Silent.{order_more}
 use Rattle.node_laws.specs.views.Errors.{errors_in}
 use Rattle.node_laws.specs.views.Inits.{LeavesInit}
 use Rattle.node_laws.proofs.views.Answering.{reads_init}
-use Rattle.node_laws.specs.answers.Moments.{Moment, end_read, is_up_read, lack_of, own_read, reply, runs_in, spare_read, unhandled_after, unhandled_in}
-use Rattle.node_laws.specs.answers.Moments.{until}
+use Rattle.node_laws.specs.answers.Moments.{Moment, end_read, is_up_read, lack_of, own_read, reply, runs_in, spare_read, unhandled_after, unhandled_in, until}
 use Rattle.node_laws.proofs.replies.Turns.{lack_alike}
 use Rattle.node_laws.proofs.worlds.Hearing.{IsFrame}
 use Rattle.node_laws.proofs.worlds.Resting.{idle_unhandled, other_end, others_idle}

@@ -1,7 +1,6 @@
 -- Behind a step of a host that runs on, the first message that is left at its end lacks room, as it is read.
 use Rattle.std.proofs.Common.{◌≡◌, ◌⊎◌, inl, inr, ℕ, ◌≤◌, Bool, true, false, cond, List, [], ◌∷◌, ◌++◌, sym, refl, ap, ap₂, ◌∙◌, subst, append_assoc}
-use Rattle.std.proofs.Common.{append-nil}
-use Rattle.std.proofs.Common.{arith}
+use Rattle.std.proofs.Common.{append-nil, arith}
 use Rattle.std.specs.Prelude.{Option, is_some, not}
 use Rattle.std.specs.List.{AllByRecursion, take_while}
 use Rattle.std.specs.Option.{option_and_then}

@@ -11,8 +11,7 @@ use Rattle.gate_admin.specs.declared.view.LinkView.{LinkView}
 use Rattle.gate_admin.specs.declared.decision.Decision.{Decision}
 use Rattle.gate_admin.specs.declared.decision.Decision.TheVariants.{Answer, Commit, Ask}
 use Rattle.gate_admin.specs.View.{has, hosts_where, is_asked}
-use Rattle.gate_admin.specs.Decide.{tests_to_set_it, tests_to_clear}
-use Rattle.gate_admin.specs.Decide.{decided}
+use Rattle.gate_admin.specs.Decide.{tests_to_set_it, tests_to_clear, decided}
 use Rattle.gate_admin.proofs.CreationLemmas.{AllFalse, all_false}
 use Rattle.link_laws.specs.machine.Machine.{Message}
 use Rattle.node_machine.specs.Parts.{Core, Port}

@@ -20,12 +20,10 @@ use Rattle.node_machine.specs.Parts.{Desk, Notice, Running, Port, Work, Deed}
 use Rattle.node_machine.specs.Carrying.{changed_if}
 use Rattle.node_machine.specs.Node.{NodeInput, steps, begins_with, new_desk, with_error}
 use Rattle.node_machine.specs.Node.NodeInput.{AtEnd, TimePasses}
-use Rattle.node_machine.specs.world.World.{NodeWorld, Site, Happening, link_to, near_end_in, arrival, wires_for}
-use Rattle.node_machine.specs.world.World.{work_of, frames_noted, comes_to, runs_on, counts}
-use Rattle.node_machine.specs.world.World.{controller_does, controller_work, host_does, comes_at, end_c, end_h}
-use Rattle.node_machine.specs.world.World.{all_aged, controller_ticks, hosts_tick, world_ticks}
-use Rattle.node_machine.specs.world.World.{input_of, world_step, activates, sending, beginning, frame_lost, boots}
-use Rattle.node_machine.specs.world.World.{loses_power_at, with_memory, memory_at}
+use Rattle.node_machine.specs.world.World.{NodeWorld, Site, Happening, link_to, near_end_in, arrival, wires_for, work_of, frames_noted, comes_to, runs_on}
+use Rattle.node_machine.specs.world.World.{counts, controller_does, controller_work, host_does, comes_at, end_c, end_h, all_aged, controller_ticks}
+use Rattle.node_machine.specs.world.World.{hosts_tick, world_ticks, input_of, world_step, activates, sending, beginning, frame_lost, boots, loses_power_at}
+use Rattle.node_machine.specs.world.World.{with_memory, memory_at}
 use Rattle.node_machine.specs.world.World.Happening.{Boots, IsCut, Gives, Inits, Takes, Loses, Ticks, Resets, Activates, Arms}
 use Rattle.node_machine.specs.world.Lines.{Occurrence}
 use Rattle.node_machine.specs.world.NodeHistories.{entries_in}

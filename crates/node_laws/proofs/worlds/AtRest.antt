@@ -9,9 +9,8 @@ use Rattle.trace_model.specs.declared.entry.Entry.TheVariants as entry
 use Rattle.trace_model.specs.declared.line.End.{End}
 use Rattle.link_laws.specs.machine.Machine.{LinkEnd}
 use Rattle.link_laws.specs.messages.Links.{Link, NumberedEnd}
-use Rattle.link_laws.specs.entries.Entries.{ending_entries}
+use Rattle.link_laws.specs.entries.Entries.{ending_entries, End as Side}
 use Rattle.link_laws.specs.entries.Entries.End.{Controller, Host}
-use Rattle.link_laws.specs.entries.Entries.{End as Side}
 use Rattle.link_laws.proofs.entries.Lasting.{same_number}
 use Rattle.node_machine.specs.Parts.{Port, Running, Work}
 use Rattle.node_machine.specs.Carrying.{own_side, port_at}

@@ -14,8 +14,7 @@ use Rattle.shdlc_core.specs.declared.answers.LinkState.TheVariants.{Up as IsUpNo
 use Rattle.shdlc_core.specs.Machine.{EndState, take_answer, tick_answer, timed, Timed, taken, runs_timer, nothing_taken, nothing_ticked}
 use Rattle.shdlc_core.specs.Machine.Timed.{Runs, Over, Spent}
 use Rattle.link_laws.specs.sessions.Sessions.{is_up}
-use Rattle.link_laws.specs.machine.Machine.{LinkEnd, ended_by, ended_by_reset, ended_by_act, reset_refusal, if_up, is_open, is_faulty}
-use Rattle.link_laws.specs.machine.Machine.{act_answer}
+use Rattle.link_laws.specs.machine.Machine.{LinkEnd, ended_by, ended_by_reset, ended_by_act, reset_refusal, if_up, is_open, is_faulty, act_answer}
 use Rattle.link_laws.specs.machine.Machine.LinkInput.{Take, Tick, Reset, Start}
 use Rattle.node_laws.specs.answers.Unasked.{is_own_reset}
 use Rattle.node_laws.proofs.Cases.{by_option}

@@ -17,11 +17,10 @@ use Rattle.link_laws.proofs.entries.Together.{ticks_host}
 use Rattle.history.specs.Steps.{entries_for}
 use Rattle.node_machine.specs.Parts.{Running, Work}
 use Rattle.node_machine.specs.Node.NodeInput.{TimePasses}
-use Rattle.node_machine.specs.world.World.{NodeWorld, Site, Happening, site_at, link_to, turns_at, ending_of, frames_noted, all_aged}
+use Rattle.node_machine.specs.world.World.{NodeWorld, Site, Happening, site_at, link_to, turns_at, ending_of, frames_noted, all_aged, runs_on}
+use Rattle.node_machine.specs.world.World.{controller_ticks, host_ticks, hosts_tick, world_ticks, comes_at, memory_at, end_c, end_h, sending, beginning}
+use Rattle.node_machine.specs.world.World.{world_step, new_world}
 use Rattle.journal_laws.specs.Planned.{after_planned}
-use Rattle.node_machine.specs.world.World.{runs_on}
-use Rattle.node_machine.specs.world.World.{controller_ticks, host_ticks, hosts_tick, world_ticks, comes_at, memory_at}
-use Rattle.node_machine.specs.world.World.{end_c, end_h, sending, beginning, world_step, new_world}
 use Rattle.node_machine.specs.world.World.Happening.{Boots, IsCut, Gives, Inits, Takes, Loses, Ticks, Resets, Activates, Arms}
 use Rattle.node_machine.specs.world.Lines.{Occurrence}
 use Rattle.node_machine.specs.world.NodeHistories.{FollowsNodes, NodeHistory, entries_in, occurrences_in, steps_from}
@@ -48,9 +47,8 @@ use Rattle.node_laws.proofs.reply_passes.InTurn.{near_goes}
 use Rattle.node_laws.proofs.worlds.AtRest.{SiteRests, SiteWaits, far_site, flat_idle, frames_idle, idle_still, near_rests, site_on}
 use Rattle.node_laws.proofs.worlds.Events.{AllAtRest, AllWaiting, after_near, all_rests, each_done, far_begins, far_coming, far_idle, idle_all, near_comes}
 use Rattle.node_laws.proofs.worlds.Events.{boot_rests, cut_rests, lost_rests, quiet_links, rest_on, same_sym, waiting_from, written}
-use Rattle.node_laws.proofs.power.Events.{far_tick, near_ticks_part, sending_mine}
+use Rattle.node_laws.proofs.power.Events.{far_tick, near_ticks_part, sending_mine, AreNodes, both_nodes, others_tick}
 use Rattle.node_laws.proofs.worlds.Resting.{AreIdle, idle_done, others_idle}
-use Rattle.node_laws.proofs.power.Events.{AreNodes, both_nodes, others_tick}
 use Rattle.node_laws.proofs.worlds.Late.{ticked_host}
 
 -- ## Time

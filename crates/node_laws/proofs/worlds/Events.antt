@@ -10,7 +10,7 @@ use Rattle.trace_model.specs.declared.entry.Entry.{Entry}
 use Rattle.trace_model.specs.declared.entry.Entry.TheVariants as entry
 use Rattle.trace_model.specs.declared.line.End.{End}
 use Rattle.journal_laws.specs.Journal.{count_of}
-use Rattle.link_laws.specs.machine.Machine.{LinkInput}
+use Rattle.link_laws.specs.machine.Machine.{LinkInput, LinkEnd}
 use Rattle.link_laws.specs.messages.Links.{Comes, Loss, NumberedEnd, exchanged, happens}
 use Rattle.link_laws.specs.messages.Links.Comes.{NoInput}
 use Rattle.link_laws.specs.messages.Links.Ending.{CutOff}
@@ -22,16 +22,14 @@ use Rattle.link_laws.specs.entries.Entries.End.{Controller, Host}
 use Rattle.link_laws.proofs.entries.Lasting.{same_number}
 use Rattle.history.specs.Steps.{entries_for}
 use Rattle.journal_laws.specs.Planned.{after_planned}
-use Rattle.link_laws.specs.machine.Machine.{LinkEnd}
 use Rattle.node_machine.specs.Parts.{Deed, Port, Running, Work}
 use Rattle.node_machine.specs.Carrying.{changed_if, own_side}
 use Rattle.node_machine.specs.Node.{begins_with, boot_writes, steps, with_error}
 use Rattle.node_machine.specs.Node.NodeInput.{AtEnd}
 use Rattle.node_machine.specs.world.World.{NodeWorld, Site, site_at, with_site, link_to, input_of, near_end_in, arrival, wires_for, node_of, comes_to}
 use Rattle.node_machine.specs.world.World.{frames_noted, controller_work, controller_does, host_work, host_does, link_after_controller, after_host, counts}
-use Rattle.node_machine.specs.world.World.{comes_at, boots, frame_lost, memory_at}
-use Rattle.node_machine.specs.world.World.{end_c, end_h, with_memory, loses_power_at, controller_cut, host_cut, turns_at, ending_of}
-use Rattle.node_machine.specs.world.World.{links_of, runs_on}
+use Rattle.node_machine.specs.world.World.{comes_at, boots, frame_lost, memory_at, end_c, end_h, with_memory, loses_power_at, controller_cut, host_cut}
+use Rattle.node_machine.specs.world.World.{turns_at, ending_of, links_of, runs_on}
 use Rattle.node_machine.proofs.world.Cases.{by_controller, by_host, by_coming, by_boot, by_loss, by_power}
 use Rattle.node_machine.proofs.world.Cases.{by_memory, by_running, boot_found, boot_written, site_lost}
 use Rattle.node_laws.specs.kept.Hosts.{AreDifferent}

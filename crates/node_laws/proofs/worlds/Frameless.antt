@@ -1,6 +1,5 @@
 -- What a node notes in a step tells of no frame that goes out; the frames that go out of it stand behind that.
-use Rattle.std.proofs.Common.{◌≡◌, ℕ, Bool, true, false, List, [], ◌∷◌, ◌++◌, None}
-use Rattle.std.proofs.Common.{refl}
+use Rattle.std.proofs.Common.{◌≡◌, ℕ, Bool, true, false, List, [], ◌∷◌, ◌++◌, None, refl}
 use Rattle.std.specs.List.{AllByRecursion}
 use Rattle.registry.proofs.ValueLemmas.{AllByRecursion-append as all_append}
 use Rattle.trace_model.specs.declared.entry.Entry.{Entry}
@@ -8,8 +7,7 @@ use Rattle.trace_model.specs.declared.entry.Entry.TheVariants as entry
 use Rattle.link_laws.specs.sessions.Sessions.{OnWire}
 use Rattle.link_laws.specs.machine.Machine.{Message}
 use Rattle.link_laws.specs.messages.Links.{Link, Comes, Loss}
-use Rattle.link_laws.specs.entries.Entries.{End as Side, Entry as Noted, told, first_lost}
-use Rattle.link_laws.specs.entries.Entries.{ending_entries, aged_entries}
+use Rattle.link_laws.specs.entries.Entries.{End as Side, Entry as Noted, told, first_lost, ending_entries, aged_entries}
 use Rattle.link_laws.specs.entries.Entries.Entry.{Emit, Lost, Tick, Restarted, Cut}
 use Rattle.history.specs.Steps.{entries_for}
 use Rattle.node_machine.specs.Parts.{Work, Deed}

@@ -16,10 +16,8 @@ use Rattle.history.specs.Steps.{entries_for}
 use Rattle.node_machine.specs.Parts.{Work, Deed}
 use Rattle.node_machine.specs.Node.{steps, begins_with}
 use Rattle.node_machine.specs.Node.NodeInput.{AtEnd, TimePasses}
-use Rattle.node_machine.specs.world.World.{Site, NodeWorld, Happening, link_to, wires_for, work_of, frames_noted}
-use Rattle.node_machine.specs.world.World.{comes_to, controller_work, host_work, host_does}
-use Rattle.node_machine.specs.world.World.{boots, frame_lost, all_aged, host_ticks, world_ticks, sending}
-use Rattle.node_machine.specs.world.World.{beginning, comes_at, end_c, end_h}
+use Rattle.node_machine.specs.world.World.{Site, NodeWorld, Happening, link_to, wires_for, work_of, frames_noted, comes_to, controller_work, host_work}
+use Rattle.node_machine.specs.world.World.{host_does, boots, frame_lost, all_aged, host_ticks, world_ticks, sending, beginning, comes_at, end_c, end_h}
 use Rattle.node_machine.specs.world.World.{world_step, controller_does, activates, new_world}
 use Rattle.node_machine.specs.world.World.Happening.{Boots, IsCut, Gives, Inits, Takes, Loses, Ticks, Resets, Activates, Arms}
 use Rattle.node_machine.specs.world.Lines.{Occurrence, happenings}

@@ -18,9 +18,8 @@ use Rattle.node_machine.specs.Parts.{Creation, Notice, Core, Port, Work, Deed}
 use Rattle.node_machine.specs.Controller.{controller_deeds, asked_at, view_of}
 use Rattle.node_machine.specs.Carrying.{own_side, port_at, noted_of, noting, turn_at, with_desk, end_of_node, all_done, lack, needs, unless_cut}
 use Rattle.node_machine.specs.Turns.{deeds_of, handles, holds_back, passes}
-use Rattle.node_machine.specs.Node.{NodeInput, input_at, told_at, has_come, all_come, with_older, reset_late, is_late}
-use Rattle.node_machine.specs.Node.{told_late, is_over, is_forgotten, forgets, forgotten}
-use Rattle.node_machine.specs.Node.{without_notice, after_sessions, synced, steps}
+use Rattle.node_machine.specs.Node.{NodeInput, input_at, told_at, has_come, all_come, with_older, reset_late, is_late, told_late, is_over, is_forgotten}
+use Rattle.node_machine.specs.Node.{forgets, forgotten, without_notice, after_sessions, synced, steps}
 use Rattle.node_machine.specs.Node.NodeInput.{AtEnd, TimePasses}
 use Rattle.node_laws.specs.kept.Books.{hosts_of_ends}
 use Rattle.node_machine.proofs.Walks.{all_owed_hold, all_synced_hold, forgotten_hold}

@@ -1,6 +1,5 @@
 -- In a step of a node what comes to it is noted before what it answers.
-use Rattle.std.proofs.Common.{◌≡◌, ℕ, Bool, true, false, List, [], ◌∷◌, ◌++◌, None}
-use Rattle.std.proofs.Common.{refl, ap, ◌∙◌, append_assoc}
+use Rattle.std.proofs.Common.{◌≡◌, ℕ, Bool, true, false, List, [], ◌∷◌, ◌++◌, None, refl, ap, ◌∙◌, append_assoc}
 use Rattle.std.specs.List.{AllByRecursion}
 use Rattle.registry.proofs.ValueLemmas.{AllByRecursion-append as all_append}
 use Rattle.trace_model.specs.declared.entry.Entry.{Entry}

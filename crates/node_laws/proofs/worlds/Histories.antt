@@ -1,5 +1,5 @@
 -- Over histories sessions end by resets exactly where those are due.
-use Rattle.std.proofs.Common.{◌≡◌, ℕ, false, List, [], ◌∷◌, ◌++◌, Option, Some, None, refl, sym, ap, subst, ◌∙◌, eqb}
+use Rattle.std.proofs.Common.{◌≡◌, ℕ, false, List, [], ◌∷◌, ◌++◌, Option, Some, None, refl, sym, ap, subst, ◌∙◌, eqb, append-nil}
 use Rattle.std.specs.List.{AllByRecursion, fold, list_any}
 use Rattle.std.proofs.lemmas.Bool.{eqb-true, eqb-false, eq-eqb}
 use Rattle.trace_model.specs.Lines.{IsHost}
@@ -8,12 +8,12 @@ use Rattle.trace_model.specs.declared.line.End.{End}
 use Rattle.trace_model.specs.declared.line.Header.{Header}
 use Rattle.trace_model.specs.declared.line.Line.{Line}
 use Rattle.node_machine.specs.Parts.{Init}
-use Rattle.node_machine.specs.world.World.{NodeWorld, Site, site_at, new_world, world_step, end_c, end_h}
+use Rattle.node_machine.specs.world.World.{NodeWorld, Site, site_at, new_world, world_step, end_c, end_h, Happening}
 use Rattle.node_machine.specs.world.Lines.{Occurrence}
 use Rattle.node_machine.specs.world.NodeHistories.{NodeHistory, FollowsNodes, entries_in, node_entries, occurrences_in}
 use Rattle.node_laws.specs.kept.Hosts.{AreHosts, AreDifferent, IsFew, IsSentByHost}
 use Rattle.node_laws.specs.links.Runs.{ArePlayable}
-use Rattle.node_laws.specs.telling.Telling.{hosts_in, world_behind}
+use Rattle.node_laws.specs.telling.Telling.{hosts_in, world_behind, MayBoot}
 use Rattle.node_laws.proofs.Cases.{by_test}
 use Rattle.node_laws.proofs.telling.Lasting.{AreCaused, lines_caused, events_of_steps}
 use Rattle.node_laws.proofs.telling.Nodes.{site_host}
@@ -31,10 +31,7 @@ use Rattle.node_laws.proofs.views.Lines.{none_zero}
 use Rattle.node_laws.specs.answers.Moments.{AtEachOccurrence}
 use Rattle.node_laws.specs.answers.Answered.{AreReset, ends_in}
 use Rattle.node_laws.specs.answers.Unasked.{is_reset_down, is_reset_due}
-use Rattle.std.proofs.Common.{append-nil}
 use Rattle.std.proofs.lemmas.List.Concat.{flat_map-append}
-use Rattle.node_machine.specs.world.World.{Happening}
-use Rattle.node_laws.specs.telling.Telling.{MayBoot}
 use Rattle.node_laws.proofs.telling.Lasting.{AnyLine, EachHolds, all_lines, boots_may, front_each, lines_each, occurs}
 use Rattle.node_laws.proofs.notices.Events.{begins_read, event_read}
 use Rattle.node_laws.proofs.worlds.Aging.{aged_read}

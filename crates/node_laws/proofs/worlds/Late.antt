@@ -25,8 +25,7 @@ use Rattle.node_machine.specs.Node.NodeInput.{AtEnd, TimePasses}
 use Rattle.node_machine.specs.Turns.{passes}
 use Rattle.node_machine.specs.world.World.{NodeWorld, Site, all_aged, boots, comes_at, comes_to, controller_does, controller_ticks, controller_work, end_c}
 use Rattle.node_machine.specs.world.World.{end_h, ending_of, is_late_at, frame_lost, frames_noted, host_does, host_ticks, host_work, hosts_tick}
-use Rattle.node_machine.specs.world.World.{link_after_controller}
-use Rattle.node_machine.specs.world.World.{link_to, near_end_in, turns_at, wires_for, work_of, world_ticks}
+use Rattle.node_machine.specs.world.World.{link_after_controller, link_to, near_end_in, turns_at, wires_for, work_of, world_ticks}
 use Rattle.node_machine.proofs.world.Cases.{by_boot, by_coming, by_controller, by_controller_tick, by_host, by_host_tick, by_loss, host_tick, near_tick}
 use Rattle.node_machine.proofs.world.Cases.{site_ticked, site_unticked}
 use Rattle.node_laws.specs.kept.Hosts.{AreDifferent}

@@ -58,11 +58,9 @@ use Rattle.node_laws.proofs.reply_passes.Whole.{comes_are_replied, ticks_are_rep
 use Rattle.node_laws.proofs.worlds.Ascending.{frames_turnless}
 use Rattle.node_laws.proofs.worlds.Hearing.{out_unanswered}
 use Rattle.node_laws.proofs.worlds.Order.{other_answers, unanswered_all}
-use Rattle.node_laws.proofs.power.Events.{comes_part}
+use Rattle.node_laws.proofs.power.Events.{comes_part, both_nodes, none_zero, others_tick}
 use Rattle.node_laws.proofs.worlds.Steps.{far_number}
-use Rattle.node_laws.proofs.power.Events.{both_nodes, none_zero, others_tick}
-use Rattle.node_laws.proofs.worlds.Turns.{turnless_there, other_turns, aged_turnless}
-use Rattle.node_laws.proofs.worlds.Turns.{begun_turnless, lost_turnless, boots_turnless}
+use Rattle.node_laws.proofs.worlds.Turns.{turnless_there, other_turns, aged_turnless, begun_turnless, lost_turnless, boots_turnless}
 
 -- ## Where an entry stands
 

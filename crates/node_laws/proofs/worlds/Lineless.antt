@@ -9,8 +9,7 @@ use Rattle.link_laws.specs.machine.Machine.{LinkInput, Report}
 use Rattle.link_laws.specs.messages.Links.{Link, Comes, exchanged}
 use Rattle.link_laws.specs.messages.Links.Comes.{NextFrame, AsksReset, Starts, NoInput}
 use Rattle.link_laws.specs.messages.Links.Loss.{TooOld, TooMany}
-use Rattle.link_laws.specs.entries.Entries.{End as Side, Entry as Noted, told}
-use Rattle.link_laws.specs.entries.Entries.{ending_entries, aged_entries}
+use Rattle.link_laws.specs.entries.Entries.{End as Side, Entry as Noted, told, ending_entries, aged_entries}
 use Rattle.link_laws.specs.entries.Entries.End.{Controller, Host}
 use Rattle.link_laws.specs.entries.Entries.Entry.{Lost, Tick, Restarted, Cut}
 use Rattle.history.specs.Steps.{entries_for}
@@ -19,9 +18,8 @@ use Rattle.node_machine.specs.Carrying.{port_at, all_done}
 use Rattle.node_machine.specs.Node.{NodeInput, steps, begins_with}
 use Rattle.node_machine.specs.Node.NodeInput.{AtEnd, TimePasses}
 use Rattle.node_machine.specs.world.World.{Site, NodeWorld, Happening, arrival, frames_noted, ending_of, sending, beginning, link_to, wires_for, work_of}
-use Rattle.node_machine.specs.world.World.{comes_to, controller_work, host_work, host_does, controller_does, controller_ticks}
-use Rattle.node_machine.specs.world.World.{host_ticks, hosts_tick, world_ticks}
-use Rattle.node_machine.specs.world.World.{all_aged, activates, comes_at, end_c, end_h, world_step}
+use Rattle.node_machine.specs.world.World.{comes_to, controller_work, host_work, host_does, controller_does, controller_ticks, host_ticks, hosts_tick}
+use Rattle.node_machine.specs.world.World.{world_ticks, all_aged, activates, comes_at, end_c, end_h, world_step}
 use Rattle.node_machine.specs.world.World.Happening.{Boots, IsCut, Gives, Inits, Takes, Loses, Ticks, Resets, Activates, Arms}
 use Rattle.node_machine.proofs.world.Cases.{by_controller, by_host, by_coming, by_boot, near_tick, by_controller_tick, host_tick, by_host_tick}
 use Rattle.node_laws.specs.passes.Steps.{told_of_coming, controller_begins, controller_tick_begins}

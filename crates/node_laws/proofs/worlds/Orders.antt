@@ -14,10 +14,8 @@ use Rattle.history.specs.Steps.{entries_for}
 use Rattle.node_machine.specs.Parts.{Work, Deed}
 use Rattle.node_machine.specs.Node.{steps, begins_with}
 use Rattle.node_machine.specs.Node.NodeInput.{AtEnd, TimePasses}
-use Rattle.node_machine.specs.world.World.{Site, NodeWorld, Happening, link_to, wires_for, work_of, frames_noted}
-use Rattle.node_machine.specs.world.World.{comes_to, controller_work, host_work, host_does}
-use Rattle.node_machine.specs.world.World.{boots, frame_lost, all_aged, host_ticks, world_ticks, sending}
-use Rattle.node_machine.specs.world.World.{beginning, comes_at, end_c, end_h}
+use Rattle.node_machine.specs.world.World.{Site, NodeWorld, Happening, link_to, wires_for, work_of, frames_noted, comes_to, controller_work, host_work}
+use Rattle.node_machine.specs.world.World.{host_does, boots, frame_lost, all_aged, host_ticks, world_ticks, sending, beginning, comes_at, end_c, end_h}
 use Rattle.node_machine.specs.world.World.{world_step, controller_does, activates, new_world}
 use Rattle.node_machine.specs.world.World.Happening.{Boots, IsCut, Gives, Inits, Takes, Loses, Ticks, Resets, Activates, Arms}
 use Rattle.node_machine.specs.world.Lines.{Occurrence, happenings}
@@ -33,8 +31,7 @@ use Rattle.node_laws.specs.passes.Steps.{controller_begins, controller_tick_begi
 use Rattle.node_laws.specs.answers.Order.{NodesHearFirst}
 use Rattle.node_laws.proofs.worlds.Steps.{host_begins}
 use Rattle.node_laws.proofs.worlds.Hearing.{IsFrame, IsParted, IsUnheard, AreUnheard, AreUnanswered, NotesUnheard, frames_unheard, out_unheard}
-use Rattle.node_laws.proofs.worlds.Hearing.{arrival_unanswered}
-use Rattle.node_laws.proofs.worlds.Hearing.{step_parted, deeds_parted, sending_unheard, beginning_unheard, IsUnanswered}
+use Rattle.node_laws.proofs.worlds.Hearing.{arrival_unanswered, step_parted, deeds_parted, sending_unheard, beginning_unheard, IsUnanswered}
 use Rattle.node_laws.proofs.worlds.Order.{IsPartedFor, parted_for, others_behind, not_of_before, unanswered_before, first_heard}
 use Rattle.node_laws.proofs.worlds.NodeParts.{activates_part, ticks_part}
 

@@ -22,9 +22,8 @@ use Rattle.history.specs.Follows.{as_noted}
 use Rattle.node_machine.specs.Parts.{Desk, Notice, Port, Running}
 use Rattle.node_machine.specs.Node.{steps}
 use Rattle.node_machine.specs.Node.NodeInput.{AtEnd}
-use Rattle.node_machine.specs.world.World.{Site, NodeWorld, Happening, site_at, link_to, node_at, input_of, comes_at, end_c, end_h, world_step}
-use Rattle.node_machine.specs.world.World.{world_ticks, sending}
-use Rattle.node_machine.specs.world.World.{beginning, host_does, all_aged}
+use Rattle.node_machine.specs.world.World.{Site, NodeWorld, Happening, site_at, link_to, node_at, input_of, comes_at, end_c, end_h, world_step, world_ticks}
+use Rattle.node_machine.specs.world.World.{sending, beginning, host_does, all_aged}
 use Rattle.node_machine.specs.world.World.Happening.{Boots, IsCut, Gives, Inits, Takes, Loses, Ticks, Resets, Activates, Arms}
 use Rattle.node_machine.specs.world.Lines.{Occurrence, refusal_in, if_off, machine_in}
 use Rattle.node_machine.specs.world.NodeHistories.{entries_in}

@@ -16,7 +16,7 @@ use Rattle.node_laws.specs.answers.Answered.{Answered, AreDue, AreLeftShort, Are
 use Rattle.node_laws.specs.answers.Moments.{AtEachEntry, AtEachOccurrence}
 use Rattle.trace_model.specs.Lines.{IsNodeHeader}
 use Rattle.node_laws.specs.schedules.Ranges.{AreNodeLinesOf, lines_asking}
-use Rattle.node_laws.proofs.schedules.Ranges.{hosts_are, playable, sent_by_hosts, inits_of_hosts}
+use Rattle.node_laws.proofs.schedules.Ranges.{hosts_are, playable, sent_by_hosts, inits_of_hosts, hosts_few}
 use Rattle.node_laws.proofs.schedules.Few.{are_few}
 use Rattle.node_laws.specs.answers.Order.{NodesHearFirst, TurnsAscend}
 use Rattle.std.proofs.lemmas.Map.Keys.{sorted_from_strictly_increasing}
@@ -31,10 +31,8 @@ use Rattle.history.proofs.legal.Complete.{complete}
 use Rattle.history.proofs.legal.Settled.{settled}
 use Rattle.node_laws.proofs.turns.Lines.{in_turn}
 use Rattle.node_laws.proofs.order.LegalLemmas.{legal}
-use Rattle.node_laws.specs.answers.Headline.{IsLegal, IsPlayed}
-use Rattle.node_laws.specs.answers.Headline.{PlayedHistory}
+use Rattle.node_laws.specs.answers.Headline.{IsLegal, IsPlayed, PlayedHistory}
 use Rattle.node_laws.specs.answers.Headline.PlayedHistory.{OfLink, OfNodes}
-use Rattle.node_laws.proofs.schedules.Ranges.{hosts_few}
 use Rattle.node_laws.specs.bounds.Commands.{commands_by_events}
 use Rattle.node_laws.specs.reply_passes.Counts.{commands_noted}
 use Rattle.node_laws.proofs.bounds.Lines.{front_asked, lines_bounded}

@@ -23,11 +23,9 @@ use Rattle.node_machine.specs.Parts.{Running, Work}
 use Rattle.node_machine.specs.Carrying.{port_at}
 use Rattle.node_machine.specs.Node.{steps}
 use Rattle.node_machine.specs.Node.NodeInput.{AtEnd, TimePasses}
-use Rattle.node_machine.specs.world.World.{Happening, NodeWorld, Site, all_aged, arrival, comes_at, comes_to, controller_does}
-use Rattle.node_machine.specs.world.World.{controller_ticks}
-use Rattle.node_machine.specs.world.World.{end_c, end_h, ending_of, frames_noted, host_work, hosts_tick, input_of, link_to}
-use Rattle.node_machine.specs.world.World.{near_end_in, new_world}
-use Rattle.node_machine.specs.world.World.{node_of, wires_for, world_step}
+use Rattle.node_machine.specs.world.World.{Happening, NodeWorld, Site, all_aged, arrival, comes_at, comes_to, controller_does, controller_ticks, end_c, end_h}
+use Rattle.node_machine.specs.world.World.{ending_of, frames_noted, host_work, hosts_tick, input_of, link_to, near_end_in, new_world, node_of, wires_for}
+use Rattle.node_machine.specs.world.World.{world_step}
 use Rattle.node_machine.specs.world.World.Happening.{Activates, Arms, Boots, Gives, Inits, IsCut, Loses, Resets, Takes, Ticks}
 use Rattle.node_machine.specs.world.Lines.{Occurrence}
 use Rattle.node_machine.specs.world.NodeHistories.{FollowsNodes, NodeHistory, entries_in, node_entries, occurrences_in}

@@ -19,9 +19,8 @@ use Rattle.node_machine.specs.Parts.{Desk, Running, Port, Work, Deed}
 use Rattle.node_machine.specs.Carrying.{own_side, port_at}
 use Rattle.node_machine.specs.Node.{input_at, steps, begins_with}
 use Rattle.node_machine.specs.Node.NodeInput.{AtEnd}
-use Rattle.node_machine.specs.world.World.{Site, NodeWorld, site_at, link_to, near_end_in, arrival, wires_for, work_of, frames_noted, comes_to, end_c}
-use Rattle.node_machine.specs.world.World.{end_h, port_for}
-use Rattle.node_machine.specs.world.World.{controller_does, controller_work, host_work, host_does, comes_at, input_of}
+use Rattle.node_machine.specs.world.World.{Site, NodeWorld, site_at, link_to, near_end_in, arrival, wires_for, work_of, frames_noted, comes_to, end_c, end_h}
+use Rattle.node_machine.specs.world.World.{port_for, controller_does, controller_work, host_work, host_does, comes_at, input_of}
 use Rattle.node_machine.proofs.world.Cases.{by_controller, by_host, by_coming}
 use Rattle.node_laws.specs.kept.Hosts.{AreDifferent}
 use Rattle.node_laws.proofs.Cases.{by_list, by_test}

@@ -20,9 +20,8 @@ use Rattle.node_machine.specs.Parts.{Desk, Notice, Core, Running, Port, Work}
 use Rattle.node_machine.specs.Carrying.{own_side}
 use Rattle.node_machine.specs.Node.{told_at, has_come, all_come, with_older, is_late, told_late, steps}
 use Rattle.node_machine.specs.Node.NodeInput.{TimePasses}
-use Rattle.node_machine.specs.world.World.{Site, NodeWorld, site_at, link_to, work_of, frames_noted, end_c, port_for}
-use Rattle.node_machine.specs.world.World.{all_aged, controller_ticks, host_ticks, hosts_tick}
-use Rattle.node_machine.specs.world.World.{world_ticks}
+use Rattle.node_machine.specs.world.World.{Site, NodeWorld, site_at, link_to, work_of, frames_noted, end_c, port_for, all_aged, controller_ticks, host_ticks}
+use Rattle.node_machine.specs.world.World.{hosts_tick, world_ticks}
 use Rattle.node_machine.specs.world.NodeFilters.{notice_in}
 use Rattle.node_machine.proofs.world.Cases.{after_near_tick, near_tick, by_controller_tick, by_host_tick, host_tick, site_ticked, site_unticked}
 use Rattle.node_laws.specs.kept.Hosts.{AreDifferent}

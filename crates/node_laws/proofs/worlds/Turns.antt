@@ -1,6 +1,6 @@
 -- In each event a node's turns are in the order of its ends.
-use Rattle.std.proofs.Common.{◌≡◌, ℕ, cond, false, List, [], ◌∷◌, ◌++◌, Some, None, refl, sym, ap, subst, ◌∙◌}
-use Rattle.std.specs.List.{AllByRecursion, flat_map}
+use Rattle.std.proofs.Common.{◌≡◌, ℕ, cond, false, List, [], ◌∷◌, ◌++◌, Some, None, refl, sym, ap, subst, ◌∙◌, append-nil}
+use Rattle.std.specs.List.{AllByRecursion, flat_map, filter_map}
 use Rattle.registry.proofs.ValueLemmas.{AllByRecursion-append as all_append}
 use Rattle.trace_model.specs.declared.entry.Entry.{Entry}
 use Rattle.trace_model.specs.declared.line.End.{End}
@@ -15,39 +15,31 @@ use Rattle.history.specs.Steps.{entries_for}
 use Rattle.node_machine.specs.Parts.{Work, Deed}
 use Rattle.node_machine.specs.Node.{steps, begins_with}
 use Rattle.node_machine.specs.Node.NodeInput.{AtEnd, TimePasses}
-use Rattle.node_machine.specs.world.World.{Site, NodeWorld, Happening, link_to, wires_for, work_of, frames_noted}
-use Rattle.node_machine.specs.world.World.{comes_to, controller_work, host_work, host_does}
-use Rattle.node_machine.specs.world.World.{boots, frame_lost, all_aged, controller_ticks, host_ticks, world_ticks, sending}
-use Rattle.node_machine.specs.world.World.{beginning, comes_at, end_c, end_h}
-use Rattle.node_machine.specs.world.World.{world_step, controller_does, activates, new_world}
+use Rattle.node_machine.specs.world.World.{Site, NodeWorld, Happening, link_to, wires_for, work_of, frames_noted, comes_to, controller_work, host_work}
+use Rattle.node_machine.specs.world.World.{host_does, boots, frame_lost, all_aged, controller_ticks, host_ticks, world_ticks, sending, beginning, comes_at}
+use Rattle.node_machine.specs.world.World.{end_c, end_h, world_step, controller_does, activates, new_world, near_end_in, arrival}
 use Rattle.node_machine.specs.world.World.Happening.{Boots, IsCut, Gives, Inits, Takes, Loses, Ticks, Resets, Activates, Arms}
 use Rattle.node_machine.specs.world.NodeHistories.{NodeHistory, FollowsNodes}
 use Rattle.node_machine.proofs.world.Cases.{by_controller, by_host, by_coming, by_boot, by_loss, near_tick, by_controller_tick, host_tick, by_host_tick}
-use Rattle.node_laws.specs.telling.Telling.{IfItRuns, hosts_in, IsOrderly}
+use Rattle.node_laws.specs.telling.Telling.{IfItRuns, hosts_in, IsOrderly, HasEnds, world_behind}
 use Rattle.node_laws.proofs.All.{all_flat}
 use Rattle.node_laws.specs.passes.Steps.{controller_begins, controller_tick_begins}
-use Rattle.node_laws.specs.power.Powers.{AreNotOf}
+use Rattle.node_laws.specs.power.Powers.{AreNotOf, is_of_node}
 use Rattle.node_laws.specs.answers.Order.{TurnsAscend, turn_link, IsAscending}
-use Rattle.node_laws.proofs.worlds.Steps.{host_begins}
-use Rattle.std.specs.List.{filter_map}
-use Rattle.std.proofs.Common.{append-nil}
+use Rattle.node_laws.proofs.worlds.Steps.{host_begins, near_node, far_node}
 use Rattle.trace_model.specs.declared.entry.Entry.TheVariants as entry
 use Rattle.link_laws.specs.machine.Machine.{LinkInput}
 use Rattle.node_machine.specs.Carrying.{all_done}
-use Rattle.node_machine.specs.world.World.{near_end_in, arrival}
-use Rattle.node_laws.specs.telling.Telling.{HasEnds, world_behind}
 use Rattle.node_laws.proofs.telling.Nodes.{hosts_same}
 use Rattle.node_laws.specs.passes.Noting.{noted_by_deeds}
 use Rattle.node_laws.specs.passes.Passing.{AreNoTurns, IsNoTurn}
 use Rattle.node_laws.proofs.passes.Before.{links_none}
 use Rattle.node_laws.proofs.passes.Notes.{deeds_note}
 use Rattle.node_laws.proofs.passes.Turnless.{noted_none, NotesNoTurn, sending_turnless, beginning_turnless}
-use Rattle.node_laws.specs.power.Powers.{is_of_node}
 use Rattle.node_laws.specs.kept.Hosts.{AreHosts}
 use Rattle.node_laws.specs.links.Runs.{ArePlayable}
 use Rattle.node_laws.proofs.order.Lines.{history_so}
 use Rattle.node_laws.proofs.order.Asked.{AreDone, done_back, history_done}
-use Rattle.node_laws.proofs.worlds.Steps.{near_node, far_node}
 use Rattle.node_laws.proofs.worlds.Ascending.{AllAscend, ascends_part, turnless_ascend, frames_turnless, step_ascends, links_append, none_there}
 use Rattle.node_laws.proofs.worlds.NodeParts.{activates_part, ticks_part}
 
