@@ -10,7 +10,7 @@ ghost use Rattle.history.specs.Follows.{if_beyond};
 ghost use Rattle.link_wires.specs.Damages.{told_as, told_verdict};
 
 use swp_base::{FrameFault, Lpdu};
-use swp_frame::{Deframer, Fed, FrameBits, write_frame};
+use swp_frame::{Deframer, Fed, FrameBits};
 use trace_model::{LostCause, NoCause};
 
 /// What a reader makes of a damaged frame.
@@ -96,14 +96,7 @@ fn verdict_of(lpdu: &Lpdu, read: Result<Lpdu, LostCause>) -> Verdict
     }
 }
 
-/// What is read of a frame whose bits at these places are changed, with eight 0 bits behind it.
-pub fn verdict_on(lpdu: &Lpdu, places: &[u16]) -> Verdict
-    ensures { result ≡ told_as (verdict_on lpdu.now places.now) }
-{
-    verdict_in(lpdu, &mut write_frame(lpdu), places)
-}
-
-/// The same where the frame is written already.
+/// What is read of a frame, which is written already, whose bits at these places are changed, with eight 0 bits behind it.
 pub(crate) fn verdict_in(lpdu: &Lpdu, frame: &mut FrameBits, places: &[u16]) -> Verdict
     requires frame { frame.old.bits.items ≡ frame_of lpdu.now }
     requires sized { length frame.old.bits.items ≤ 323 }
@@ -111,13 +104,6 @@ pub(crate) fn verdict_in(lpdu: &Lpdu, frame: &mut FrameBits, places: &[u16]) -> 
 {
     damage(frame, places);
     verdict_of(lpdu, first_read(frame.bits.as_slice()))
-}
-
-/// Where one of these places is past the frame of an LPDU, which has so many bits.
-pub fn beyond(lpdu: &Lpdu, places: &[u16]) -> Option<NoCause>
-    ensures { result ≡ if_beyond (length (frame_of lpdu.now)) places.now }
-{
-    past(write_frame(lpdu).bits.len() as u16, places)
 }
 
 /// Where one of these places is past so many bits.

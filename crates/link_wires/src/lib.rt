@@ -7,7 +7,6 @@ mod finding;
 mod putting;
 mod wire;
 
-pub use damage::{Verdict, beyond, verdict_on};
 pub use finding::{Damaged, Misread, damaged_first};
 pub use putting::{lose_first, put_frame};
-pub use wire::{Flying, empty_wire, grow_older, put_last, taken};
+pub use wire::{Flying, empty_wire, grow_older, taken};
