@@ -1,12 +1,11 @@
 //! Lines of the few forms that most lines have are read at once where they have no fault and their words stand as they are written.
 //! Each other line is left to the table of the forms.
-ghost use Rattle.std.specs.Prelude.{◌≡◌, ◌==◌, ◌||◌, ◌≤◌, ℕ, not, false, List, [], ◌∷◌, length, codes, Some, None, Ok, IfSome};
+ghost use Rattle.std.specs.Prelude.{◌≡◌, ◌==◌, ◌||◌, ◌≤◌, not, false, [], ◌∷◌, length, codes, Some, None, Ok, IfSome};
 ghost use Rattle.std.specs.List.{list_any};
 ghost use Rattle.trace_model.specs.declared.line.Line.TheVariants as line;
 ghost use Rattle.schedule_text.specs.declared.read.Read.TheVariants as read;
 ghost use Rattle.trace_model.specs.Lines.{MayFollow};
 ghost use Rattle.schedule_text.specs.Words.{words, spaced};
-ghost use Rattle.schedule_text.specs.Values.{bytes_value};
 ghost use Rattle.schedule_text.specs.Forms.{row_for};
 ghost use Rattle.schedule_text.specs.Lines.{by_row, line_of};
 ghost use Rattle.schedule_text.specs.AtOnce.{EndAndWord};
@@ -35,18 +34,10 @@ pub fn read_at_once(header: &Header, bytes: &[u8], spare: &mut Vec<u8>, line: &m
     if bytes.len() > MAX_LINE {
         return;
     }
-    short_at_once(header, bytes, spare, line);
-}
-
-/// The line, which isn't too long.
-#[inline(always)]
-fn short_at_once(header: &Header, bytes: &[u8], spare: &mut Vec<u8>, line: &mut Option<Line>)
-    requires short { length bytes.now ≤ 9000 }
-    requires none { line.old ≡ None }
-    ensures { IfSome line.new (λ said. line_of (Some header.now) bytes.now ≡ Ok (read.Line said)) }
-{
     if let Some(rest) = behind_deliver(bytes) {
-        deliver_at_once(header, rest, line);
+        if let Some(at) = end_at_once(header, rest) {
+            *line = Some(Line::Deliver { at, count: None });
+        }
         return;
     }
     if let Some(rest) = behind_send(bytes) {
@@ -115,18 +106,6 @@ fn bare_at_once(header: &Header, bytes: &[u8], line: &mut Option<Line>)
     }
 }
 
-/// The line `deliver E`, if it has no fault.
-#[inline(always)]
-fn deliver_at_once(header: &Header, rest: &[u8], line: &mut Option<Line>)
-    requires none { line.old ≡ None }
-    ensures { IfSome line.new (λ said. Ok (read.Line said)
-        ≡ by_row (Some header.now) (row_for (codes "deliver") (words rest.now)) (words rest.now)) }
-{
-    if let Some(at) = end_at_once(header, rest) {
-        *line = Some(Line::Deliver { at, count: None });
-    }
-}
-
 /// The line `reset E` or `reset E W`, if it has no fault.
 #[inline(always)]
 fn reset_at_once(header: &Header, rest: &[u8], line: &mut Option<Line>)
@@ -184,31 +163,28 @@ fn send_at_once(header: &Header, rest: &[u8], spare: &mut Vec<u8>, line: &mut Op
     ensures { IfSome line.new (λ said. Ok (read.Line said)
         ≡ by_row (Some header.now) (row_for (codes "send") (words rest.now)) (words rest.now)) }
 {
-    if let Some((at, pid, digits)) = sending(header, rest) {
-        if let Some(bytes) = message_at_once(digits, spare) {
-            *line = Some(Line::Send {
-                at,
-                pid,
-                message: Octets { bytes },
-            });
-        }
-    }
-}
-
-/// The end, the pipe and the digits of the message of a line `send E PID HEX`, if the first two have no fault and one space stands before
-/// each word.
-#[inline(always)]
-fn sending<'a>(header: &Header, rest: &'a [u8]) -> Option<(End, u8, &'a [u8])>
-    ensures { IfSome result (λ sent. (bytes : List ℕ) → bytes_value sent.2.now ≡ Some bytes → 1 ≤ length bytes → length bytes ≤ 4500
-        → Ok (read.Line (line.Send sent.0 sent.1 bytes)) ≡ by_row (Some header.now) (row_for (codes "send") (words rest.now)) (words rest.now)) }
-{
-    let (first, second, third) = three_words(rest)?;
-    let at = end_of(first)?;
-    let pid = byte_of(second)?;
+    let Some((first, second, digits)) = three_words(rest) else {
+        return;
+    };
+    let Some(at) = end_of(first) else {
+        return;
+    };
+    let Some(pid) = byte_of(second) else {
+        return;
+    };
     if !knows(header, at.link) || !may_send(header, at) || 0x70 <= pid {
-        return None;
+        return;
     }
-    Some((at, pid, third))
+    if digits.len() < 2 || MOST_DIGITS < digits.len() {
+        return;
+    }
+    if let Some(bytes) = bytes_of(spare, digits) {
+        *line = Some(Line::Send {
+            at,
+            pid,
+            message: Octets { bytes },
+        });
+    }
 }
 
 /// Three words, the first of three letters and the second of two, if one space stands before each.
@@ -233,18 +209,6 @@ fn behind_space(line: &[u8]) -> Option<&[u8]>
     if *letter == b' ' { Some(more) } else { None }
 }
 
-/// The bytes of a message, if its digits are right and there is memory for them.
-#[inline(always)]
-fn message_at_once(digits: &[u8], spare: &mut Vec<u8>) -> Option<Vec<u8>>
-    ensures { IfSome result (λ bytes. (bytes_value digits.now ≡ Some bytes.items) × (1 ≤ length bytes.items) × (length bytes.items ≤ 4500)) }
-{
-    if digits.len() < 2 || MOST_DIGITS < digits.len() {
-        return None;
-    }
-    let bytes = bytes_of(spare, digits)?;
-    Some(bytes)
-}
-
 /// Whether an end of this world may send.
 fn may_send(header: &Header, at: End) -> bool
     ensures { result ≡ (not header.now.hci || at.at_host) }
@@ -252,7 +216,7 @@ fn may_send(header: &Header, at: End) -> bool
     !header.hci || at.at_host
 }
 
-/// The end of a line `deliver E`, `lose E` or `reset E`, if it has no fault and one space stands before the end.
+/// The end of a line `deliver E`, `lose E`, `reset E`, `busy E` or `ready E`, if it has no fault and one space stands before the end.
 #[inline(always)]
 fn end_at_once(header: &Header, rest: &[u8]) -> Option<End>
     ensures deliver { IfSome result (λ at. Ok (read.Line (line.Deliver at None))

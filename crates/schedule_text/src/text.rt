@@ -58,8 +58,6 @@ pub(crate) enum Part<'a> {
     Number(u32),
     /// How many there are of something, decimal.
     Count(usize),
-    /// A decimal number, if there is one.
-    Maybe(Option<u8>),
     /// Decimal numbers, each a word.
     Numbers(&'a [u16]),
     /// Bytes, each a word of two hexadecimal digits.
@@ -226,7 +224,6 @@ impl Text {
             Part::Bytes(bytes) => self.hex(bytes),
             Part::Number(number) => self.short_number(*number),
             Part::Count(count) => self.number(*count as u64),
-            Part::Maybe(number) => self.maybe(*number),
             Part::Numbers(numbers) => self.numbers(numbers),
             Part::EachByte(bytes) => self.each_byte(bytes),
             Part::EachThree(threes) => self.each_three(threes),

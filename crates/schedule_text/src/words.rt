@@ -1,6 +1,5 @@
 //! The words of a line, which stand apart by spaces.
-ghost use Rattle.std.specs.Prelude.{◌≡◌, ℕ, ◌<◌, ◌==◌, not, [], ◌∷◌, codes, length, take, drop, position, unwrap_or, slice_get, IfSome, IfNone};
-ghost use Rattle.std.specs.List.{position_or_len};
+ghost use Rattle.std.specs.Prelude.{◌≡◌, ◌<◌, ◌==◌, not, [], ◌∷◌, codes, length, position, unwrap_or, slice_get, IfSome, IfNone};
 ghost use Rattle.std.specs.Option.{option_copied};
 ghost use Rattle.schedule_text.specs.Words.{words};
 
@@ -132,14 +131,8 @@ fn first_space(line: &[u8]) -> Option<usize>
     if line.len() < LONG {
         line.iter().position(|b| *b == b' ')
     } else {
-        space_in(line)
+        memchr(b' ', line)
     }
-}
-
-fn space_in(line: &[u8]) -> Option<usize>
-    ensures { result ≡ position (λ b. b == 32) line.now }
-{
-    memchr(b' ', line)
 }
 
 /// Word `k` of a line, counted from 0.

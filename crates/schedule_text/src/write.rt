@@ -8,7 +8,7 @@ ghost use Rattle.schedule_text.specs.Entries.{count_words, entry_words, lines_be
 ghost use Rattle.schedule_text.specs.Growth.{Start, all_text, HoldsText, HoldsWords};
 
 use crate::text::Part::{
-    Byte, Bytes, Count, EachByte, EachThree, End, Maybe, Number, Numbers, TwoBytes, Word,
+    Byte, Bytes, Count, EachByte, EachThree, End, Number, Numbers, TwoBytes, Word,
 };
 use crate::text::Text;
 use crate::transcript::Transcript;
@@ -483,7 +483,7 @@ fn write_line(text: &mut Text, line: &Line)
     }
 }
 
-/// Appends the words of a line, whatever its form.
+/// Appends the words of a line, whatever its form: most of them by their parts.
 #[cold]
 #[inline(never)]
 fn write_by_parts(text: &mut Text, line: &Line)
@@ -491,21 +491,16 @@ fn write_by_parts(text: &mut Text, line: &Line)
         → HoldsWords start (first ∷ (more ++ line_words line.now)) text.new }
 {
     match line {
-        Line::Send { at, pid, message } => text.parts(&[
-            Word(b"send"),
-            End(*at),
-            Byte(*pid),
-            Bytes(message.as_slice()),
-        ]),
-        Line::Deliver { at, count } => { text.parts(&[Word(b"deliver"), End(*at), Maybe(*count)]) }
-        Line::Lose { at } => text.parts(&[Word(b"lose"), End(*at)]),
+        Line::Send { at, pid, message } => write_send(text, *at, *pid, message.as_slice()),
+        Line::Deliver { at, count } => write_deliver(text, *at, *count),
+        Line::Lose { at } => write_lose(text, *at),
         Line::Damage { at, places } => text.parts(&[
             Word(b"damage"),
             End(*at),
             Numbers(places.as_slice()),
         ]),
-        Line::Tick { times } => text.parts(&[Word(b"tick"), Maybe(*times)]),
-        Line::Reset { at, window } => { text.parts(&[Word(b"reset"), End(*at), Maybe(*window)]) }
+        Line::Tick { times } => write_tick(text, *times),
+        Line::Reset { at, window } => write_reset(text, *at, *window),
         Line::Busy { at } => text.parts(&[Word(b"busy"), End(*at)]),
         Line::Ready { at } => text.parts(&[Word(b"ready"), End(*at)]),
         Line::Boot { node } => text.parts(&[Word(b"boot"), Byte(*node)]),
@@ -533,7 +528,7 @@ fn write_by_parts(text: &mut Text, line: &Line)
             EachThree(pipes.as_slice()),
         ]),
         Line::Tables { node } => text.parts(&[Word(b"tables"), Byte(*node)]),
-        Line::Settle { rounds } => text.parts(&[Word(b"settle"), Number(*rounds)]),
+        Line::Settle { rounds } => write_settle(text, *rounds),
     }
 }
 
