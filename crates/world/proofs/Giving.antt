@@ -37,15 +37,6 @@ still h node =
       count = h.count;
     }
 
--- what follows where there is something
-pub if_some : {X P Q : Type 0} (o : Option X) → IfSome o (λ x. P) → (P → Q) → IfSome o (λ x. Q)
-if_some None p f = tt
-if_some (Some x) p f = f p
-
-pub none_of : {X : Type 0} (o : Option X) → is_some o ≡ false → o ≡ None
-none_of None q = refl
-none_of (Some x) q = absurd (let z : true ≡ false = q in cc)
-
 -- a refused message changes nothing
 pub refused_give : {near far : Side} {resets : ℕ} {l : Link} {new : Node} (x : Message) (o : Option NoCause) (entries : List Entry)
     → LinkStandsFor near far resets l → o ≡ as_noted (give_refusal l.controller.side x) → NodeStandsFor new (turn l.controller.side (Give x))

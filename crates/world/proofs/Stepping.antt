@@ -4,7 +4,7 @@ use Rattle.circular_buffer.specs.Buffer.{Buffer}
 use Rattle.swp_base.specs.declared.control_frames.Control.{Control}
 use Rattle.trace_model.specs.declared.entry.Entry.{Entry}
 use Rattle.trace_model.specs.declared.line.End.{End}
-use Rattle.link_laws.specs.sessions.Sessions.{OnWire}
+use Rattle.link_laws.specs.sessions.Sessions.{OnWire, aged_wire}
 use Rattle.link_laws.specs.machine.Machine.{LinkEnd}
 use Rattle.link_laws.specs.messages.Links.{NumberedEnd, Link, Loss, put}
 use Rattle.link_laws.specs.messages.Links.EndEvent.{Lose}
@@ -59,4 +59,18 @@ lost_is h r =
         count = h.count;
       };
       noted = r.1;
+    }
+
+-- the frames to the near end have grown older
+pub aged_is : {near far : Side} {resets : ℕ} {l : Link} {wire : Buffer Flying} → LinkStandsFor near far resets l
+    → WireStandsFor wire (aged_wire l.to_controller)
+    → LinkStandsFor (record near { wire = wire }) far resets (record l { to_controller = aged_wire l.to_controller })
+aged_is h w =
+    record {
+      here = record {
+        has = record { node = h.here.has.node; put_is = h.here.has.put_is; took_is = h.here.has.took_is; wire_is = w };
+        idle = h.here.idle;
+      };
+      there = h.there;
+      count = h.count;
     }

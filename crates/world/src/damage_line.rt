@@ -6,9 +6,9 @@ ghost use Rattle.history.specs.Follows.{machine_of, misread};
 ghost use Rattle.world.specs.Lines.{SidesStandFor, Does, IsMisread};
 
 use crate::side::Side;
-use crate::steps::{lose_frame, take_frame};
+use crate::steps::take_frame;
 use arrayvec::ArrayVec;
-use link_wires::{Damaged, Misread, damaged_first};
+use link_wires::{Damaged, Misread, damaged_first, lose_first};
 use std::alloc::AllocError;
 use trace_model::{End, Entry};
 
@@ -44,7 +44,7 @@ pub(crate) fn damage_line(
             Ok(None)
         }
         Damaged::Lost(cause) => {
-            lose_frame(at, cause, near, far, *resets, entries)?;
+            lose_first(at, cause, &mut near.wire, entries)?;
             Ok(None)
         }
         Damaged::Undetected(misread) => Ok(Some(misread)),

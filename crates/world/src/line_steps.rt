@@ -1,5 +1,5 @@
 //! What each line does, seen from the end that it speaks of.
-ghost use Rattle.std.specs.Prelude.{◌≡◌, ℕ, ◌+◌, ◌<◌, ◌≤◌, ◌^◌, [], List, length, OnOk, OnErr, None, false};
+ghost use Rattle.std.specs.Prelude.{◌≡◌, ◌+◌, ◌<◌, ◌≤◌, ◌^◌, [], length, OnOk, OnErr, None, false};
 ghost use Rattle.trace_model.specs.declared.line.Header.{Header};
 ghost use Rattle.trace_model.specs.declared.line.Line.TheVariants as line;
 ghost use Rattle.trace_model.specs.declared.line.End.{End as NamedEnd};
@@ -9,9 +9,10 @@ ghost use Rattle.history.specs.Follows.{machine_of, misread};
 ghost use Rattle.world.specs.Lines.{SidesStandFor, Does, HaveSent, IsMisread, end_for};
 
 use crate::damage_line::damage_line;
-use crate::lines::{busy_line, lose_line, ready_line, reset_line, send_line};
+use crate::lines::{lose_line, reset_line, send_line};
 use crate::repeats::{deliver_line, tick_line};
 use crate::side::Side;
+use crate::steps::set_ready;
 use arrayvec::ArrayVec;
 use link_wires::Misread;
 use std::alloc::AllocError;
@@ -108,11 +109,11 @@ pub(crate) fn play_line(
             Ok(())
         }
         Line::Busy { .. } => {
-            busy_line(at, near, far, resets, entries)?;
+            set_ready(at, near, far, resets, false, entries)?;
             Ok(())
         }
         Line::Ready { .. } => {
-            ready_line(at, near, far, resets, entries)?;
+            set_ready(at, near, far, resets, true, entries)?;
             Ok(())
         }
         Line::Boot { .. } => Ok(()),

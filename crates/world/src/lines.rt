@@ -1,17 +1,19 @@
 //! What a line does on a link, and what is noted of it: the near side is that of the end that the line speaks of.
-ghost use Rattle.std.specs.Prelude.{◌≡◌, ℕ, ◌+◌, ◌<◌, ◌≤◌, ◌^◌, [], List, length, not, OnOk, IfSome};
+ghost use Rattle.std.specs.Prelude.{◌≡◌, ◌+◌, ◌<◌, ◌≤◌, ◌^◌, [], length, OnOk, IfSome};
 ghost use Rattle.hcp_packet.specs.Packets.{IsSendable};
 ghost use Rattle.trace_model.specs.declared.line.Line.TheVariants as line;
 ghost use Rattle.link_laws.specs.messages.Links.{Link};
 ghost use Rattle.history.specs.Follows.{machine_of};
 ghost use Rattle.world.specs.Lines.{SidesStandFor, Does};
 
+use crate::forgetting::kept;
 use crate::side::Side;
-use crate::steps::{give_message, lose_frame, reset_end, set_ready};
+use crate::steps::send_all;
+use link_wires::lose_first;
 use std::alloc::AllocError;
 use trace_model::{End, Entry, LostCause, NoCause, Octets};
 
-/// A line `send`: the message is given to the end, or the line is refused.
+/// A line `send`: the message, which isn't empty, is given to the end to send on a pipe of 0 to 111, or the line is refused.
 pub(crate) fn send_line(
     at: End,
     near: &mut Side,
@@ -30,13 +32,21 @@ pub(crate) fn send_line(
         → OnOk result (Does near.new far.new resets.new at l (line.Send at pid message.now) entries.new.items) }
     ensures grows { resets.new ≤ resets.old + 12 }
 {
-    if let Some(cause) = give_message(at, near, far, resets, pid, message, spare, entries)? {
+    if let Some(cause) = near.node.give(pid, message.as_slice()) {
         entries.push(Entry::No { cause })?;
+        return Ok(());
     }
-    Ok(())
+    let place = near.place(at);
+    entries.push(Entry::Sent {
+        at,
+        session: place.session,
+        pid,
+        message: kept(spare, message)?,
+    })?;
+    send_all(at, near, far, resets, entries)
 }
 
-/// A line `reset`: a reset is asked for at the end, or the line is refused.
+/// A line `reset`: a reset is asked for at the end, with a window of 1 to 4 or with the end's own one, or the line is refused.
 pub(crate) fn reset_line(
     at: End,
     near: &mut Side,
@@ -53,46 +63,12 @@ pub(crate) fn reset_line(
         → OnOk result (Does near.new far.new resets.new at l (line.Reset at window) entries.new.items) }
     ensures grows { resets.new ≤ resets.old + 12 }
 {
-    if let Some(cause) = reset_end(at, near, far, resets, window, entries)? {
+    let place = near.place(at);
+    if let Some(cause) = near.node.reset(place, window, entries)? {
         entries.push(Entry::No { cause })?;
+        return Ok(());
     }
-    Ok(())
-}
-
-/// A line `busy`: the end takes no fragments from now on.
-pub(crate) fn busy_line(
-    at: End,
-    near: &mut Side,
-    far: &mut Side,
-    resets: &mut u32,
-    entries: &mut Vec<Entry>,
-) -> Result<(), AllocError>
-    requires state { (l : Link) × SidesStandFor near.old far.old resets.old at l }
-    requires room { resets.old + 12 < 2 ^ 32 }
-    requires nothing { entries.old.items ≡ [] }
-    ensures stands { (l : Link) → SidesStandFor near.old far.old resets.old at l
-        → OnOk result (Does near.new far.new resets.new at l (line.Busy at) entries.new.items) }
-    ensures grows { resets.new ≤ resets.old + 12 }
-{
-    set_ready(at, near, far, resets, false, entries)
-}
-
-/// A line `ready`: the end takes fragments again.
-pub(crate) fn ready_line(
-    at: End,
-    near: &mut Side,
-    far: &mut Side,
-    resets: &mut u32,
-    entries: &mut Vec<Entry>,
-) -> Result<(), AllocError>
-    requires state { (l : Link) × SidesStandFor near.old far.old resets.old at l }
-    requires room { resets.old + 12 < 2 ^ 32 }
-    requires nothing { entries.old.items ≡ [] }
-    ensures stands { (l : Link) → SidesStandFor near.old far.old resets.old at l
-        → OnOk result (Does near.new far.new resets.new at l (line.Ready at) entries.new.items) }
-    ensures grows { resets.new ≤ resets.old + 12 }
-{
-    set_ready(at, near, far, resets, true, entries)
+    send_all(at, near, far, resets, entries)
 }
 
 /// A line `lose`: the first frame on the wire to the end is lost, or the line is refused where there is none.
@@ -113,5 +89,5 @@ pub(crate) fn lose_line(
         })?;
         return Ok(());
     }
-    lose_frame(at, LostCause::Asked, near, far, resets, entries)
+    lose_first(at, LostCause::Asked, &mut near.wire, entries)
 }

@@ -6,8 +6,8 @@ ghost use Rattle.history.specs.Histories.Cause.{Taken, Ticked};
 ghost use Rattle.world.specs.Lines.{SidesStandFor, Does, HasCaused, HasRepeated, HaveSent};
 
 use crate::side::Side;
-use crate::steps::{age_frames, take_frame, tick_end};
-use link_wires::taken;
+use crate::steps::{take_frame, tick_end};
+use link_wires::{grow_older, taken};
 use std::alloc::AllocError;
 use trace_model::{End, Entry, NoCause};
 
@@ -77,8 +77,8 @@ pub(crate) fn tick(
         → OnOk result (HasCaused near.new far.new resets.new at l Ticked entries.old.items entries.new.items) }
     ensures grows { resets.new ≤ resets.old + 24 }
 {
-    age_frames(at, near, far, *resets, entries)?;
-    age_frames(at.other(), far, near, *resets, entries)?;
+    grow_older(at, &mut near.wire, entries)?;
+    grow_older(at.other(), &mut far.wire, entries)?;
     tick_end(at, near, far, resets, entries)?;
     tick_end(at.other(), far, near, resets, entries)
 }

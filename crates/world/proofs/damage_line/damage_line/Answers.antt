@@ -5,6 +5,7 @@ use Rattle.link_laws.specs.messages.Links.{Loss}
 use Rattle.history.specs.Histories.Cause.{Taken, WasLost}
 use Rattle.history.specs.Follows.{seen_from, frames_to, damage_causes, if_out_of_reach, first_verdict}
 use Rattle.world.proofs.LineLemmas.{refused_does, happened_does}
+use Rattle.world.proofs.Stepping.{lost_is}
 use Rattle.world.proofs.damage_line.damage_line.Goals as goal
 
 pub returns-in_ok-push-in-Refused-clause-stands : goal.returns-in_ok-push-in-Refused-clause-stands
@@ -27,13 +28,13 @@ returns-in_ok-take_frame-in-Same-clause-stands c l h few none =
       is = refl;
     })
 
-pub returns-in_ok-lose_frame-in-Lost-clause-stands : goal.returns-in_ok-lose_frame-in-Lost-clause-stands
-returns-in_ok-lose_frame-in-Lost-clause-stands c l h few none =
+pub returns-in_ok-lose_first-in-Lost-clause-stands : goal.returns-in_ok-lose_first-in-Lost-clause-stands
+returns-in_ok-lose_first-in-Lost-clause-stands c l h few none =
     let wire : List OnWire = frames_to l c.args.at in
     let found = c.in-Lost.ensures wire h.here.has.wire_is in
     let why : Loss = found.1.0 in
     let value = sym c.as_slice.ensures.value in
-    happened_does (c.in_ok-lose_frame-in-Lost.ensures.stands (seen_from c.args.at l) why h found.1.2) c.requires.nothing
+    happened_does (lost_is h (c.in_ok-lose_first-in-Lost.ensures (seen_from c.args.at l).to_controller why h.here.has.wire_is found.1.2)) c.requires.nothing
     (record {
       cause = WasLost c.args.at why;
       none = ap (λ ps. if_out_of_reach wire ps) value ∙ found.0;

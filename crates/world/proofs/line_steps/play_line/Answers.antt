@@ -1,10 +1,13 @@
-use Rattle.std.proofs.Common.{◌≡◌, sym, ap, subst, ◌∙◌}
+use Rattle.std.proofs.Common.{◌≡◌, refl, sym, ap, subst, ◌∙◌}
+use Rattle.std.specs.Prelude.{true, false}
 use Rattle.trace_model.specs.declared.line.End.{End}
 use Rattle.trace_model.specs.declared.line.Line.{Line}
 use Rattle.trace_model.specs.declared.line.Line.TheVariants as line
 use Rattle.trace_model.specs.Lines.{IsLineOf}
+use Rattle.history.specs.Histories.Cause.{Readied}
+use Rattle.history.specs.Follows.{seen_from}
 use Rattle.world.specs.Lines.{end_for}
-use Rattle.world.proofs.LineLemmas.{same_does}
+use Rattle.world.proofs.LineLemmas.{same_does, happened_does}
 use Rattle.world.proofs.Repeating.{few_here, few_short}
 use Rattle.world.proofs.line_steps.play_line.Goals as goal
 
@@ -41,19 +44,21 @@ returns-in_ok-reset_line-in-Reset-clause-stands c l h sent none =
     same_does (i.is ∙ ap (λ (e : End). line.Reset e i.window) (sym at))
     (c.in_ok-reset_line-in-Reset.ensures.stands l h (few_short (few_here c.args.at sent)))
 
-pub returns-in_ok-busy_line-in-Busy-clause-stands : goal.returns-in_ok-busy_line-in-Busy-clause-stands
-returns-in_ok-busy_line-in-Busy-clause-stands c l h sent none =
+pub returns-in_ok-set_ready-in-Busy-clause-stands : goal.returns-in_ok-set_ready-in-Busy-clause-stands
+returns-in_ok-set_ready-in-Busy-clause-stands c l h sent none =
     let i = c.in-Busy in
     let at : c.args.at ≡ i.at = c.requires.seen.2 ∙ ap (end_for c.requires.seen.0) i.is in
     same_does (i.is ∙ ap (λ (e : End). line.Busy e) (sym at))
-    (c.in_ok-busy_line-in-Busy.ensures.stands l h)
+    (happened_does (c.in_ok-set_ready-in-Busy.ensures.stands (seen_from c.args.at l) h) c.requires.nothing
+    (record { cause = Readied c.args.at false; none = refl; causes = refl; is = refl }))
 
-pub returns-in_ok-ready_line-in-Ready-clause-stands : goal.returns-in_ok-ready_line-in-Ready-clause-stands
-returns-in_ok-ready_line-in-Ready-clause-stands c l h sent none =
+pub returns-in_ok-set_ready-in-Ready-clause-stands : goal.returns-in_ok-set_ready-in-Ready-clause-stands
+returns-in_ok-set_ready-in-Ready-clause-stands c l h sent none =
     let i = c.in-Ready in
     let at : c.args.at ≡ i.at = c.requires.seen.2 ∙ ap (end_for c.requires.seen.0) i.is in
     same_does (i.is ∙ ap (λ (e : End). line.Ready e) (sym at))
-    (c.in_ok-ready_line-in-Ready.ensures.stands l h)
+    (happened_does (c.in_ok-set_ready-in-Ready.ensures.stands (seen_from c.args.at l) h) c.requires.nothing
+    (record { cause = Readied c.args.at true; none = refl; causes = refl; is = refl }))
 
 pub returns-in-Boot : goal.returns-in-Boot
 returns-in-Boot c =

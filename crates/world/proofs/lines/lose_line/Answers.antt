@@ -6,6 +6,7 @@ use Rattle.history.specs.Histories.Cause.{WasLost}
 use Rattle.history.specs.Follows.{seen_from}
 use Rattle.link_wires.proofs.Results.{on_ok}
 use Rattle.world.proofs.LineLemmas.{refused_does, happened_does, none_there, some_there}
+use Rattle.world.proofs.Stepping.{lost_is}
 use Rattle.world.proofs.lines.lose_line.Goals as goal
 
 pub returns-then-is_empty : goal.returns-then-is_empty
@@ -18,8 +19,8 @@ returns-then-is_empty c = record {
 pub returns : goal.returns
 returns c = record {
   stands = λ l h.
-      on_ok c.lose_frame.result (c.lose_frame.ensures.stands (seen_from c.args.at l) OnDemand h refl)
-      (λ has. happened_does has c.requires.nothing
+      on_ok c.lose_first.result (c.lose_first.ensures (seen_from c.args.at l).to_controller OnDemand h.here.has.wire_is refl)
+      (λ r. happened_does (lost_is h r) c.requires.nothing
       (record {
         cause = WasLost c.args.at OnDemand;
         none = some_there h.here.has.wire_is c.if-is_empty.ensures;

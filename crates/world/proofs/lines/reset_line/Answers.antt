@@ -1,23 +1,56 @@
 use Rattle.std.proofs.Common.{[], ◌∷◌, ◌++◌, refl, sym, ap, ◌∙◌}
+use Rattle.std.specs.Prelude.{is_some}
 use Rattle.trace_model.specs.declared.entry.Entry.TheVariants.{No}
+use Rattle.link_laws.specs.machine.Machine.{LinkEnd, after_input, ended_by}
+use Rattle.link_laws.specs.machine.Machine.LinkInput.{Reset}
+use Rattle.link_laws.specs.messages.Links.{Link, with_ended}
 use Rattle.history.specs.Histories.Cause.{WasReset}
 use Rattle.history.specs.Follows.{seen_from}
+use Rattle.link_wires.proofs.Results.{on_ok}
+use Rattle.world.proofs.Bare.{reset_most}
+use Rattle.world.proofs.Acting.{room_here, midway, input_noted}
+use Rattle.world.proofs.Giving.{still}
 use Rattle.world.proofs.LineLemmas.{refused_does, happened_does, some_holds}
 use Rattle.world.proofs.lines.reset_line.Goals as goal
 
-pub reset_end-requires-clause-state : goal.reset_end-requires-clause-state
-reset_end-requires-clause-state c = (seen_from c.args.at c.requires.state.0, c.requires.state.1, c.requires.state.2)
+pub reset-requires-clause-stands : goal.reset-requires-clause-stands
+reset-requires-clause-stands c =
+    let s = c.requires.state in
+    ((seen_from c.args.at s.0).controller.side, s.1.here.has.node, room_here s.1)
 
-pub returns-in_ok-push-clause-stands : goal.returns-in_ok-push-clause-stands
-returns-in_ok-push-clause-stands c l h sent =
+pub returns-in-Some-clause-stands : goal.returns-in-Some-clause-stands
+returns-in-Some-clause-stands c l h short =
+    let m : LinkEnd = (seen_from c.args.at l).controller.side in
     let k = c.in_ok-cause.ensures in
-    let none = some_holds c.in_ok-cause.field-0 c.in-Some.cause c.in-Some.is (k.unchanged (seen_from c.args.at l) h) in
-    refused_does (sym (k.refused (seen_from c.args.at l) h) ∙ c.in-Some.is) none.0
-    (c.in_ok-push.ensures.items ∙ ap (λ es. es ++ No c.in-Some.cause ∷ []) (none.1 ∙ c.requires.nothing))
+    let room = room_here h in
+    let same = some_holds c.in_ok-cause.field-0 c.in-Some.cause c.in-Some.is (k.unchanged m h.here.has.node room) in
+    refused_does (sym (k.refused m h.here.has.node room) ∙ c.in-Some.is) (still h same.0)
+    (c.in_ok-push.ensures.items ∙ ap (λ es. es ++ No c.in-Some.cause ∷ []) (same.1 ∙ c.requires.nothing))
 
-pub returns-in_default-clause-stands : goal.returns-in_default-clause-stands
-returns-in_default-clause-stands c l h sent =
-    let k = c.in_ok-cause.ensures in
-    let none = sym (k.refused (seen_from c.args.at l) h) ∙ c.in_default.is in
-    happened_does (k.stands (seen_from c.args.at l) h sent c.in_default.is) c.requires.nothing
-    (record { cause = WasReset c.args.at c.args.window; none = none; causes = refl; is = refl })
+pub send_all-requires-clause-state : goal.send_all-requires-clause-state
+send_all-requires-clause-state c =
+    let s = c.requires.state in
+    let k : Link = seen_from c.args.at s.0 in
+    let m : LinkEnd = k.controller.side in
+    let w = c.args.window in
+    let t = c.in_ok-cause.ensures.stands m s.1.here.has.node (room_here s.1) s.2 c.in_default.is in (
+      with_ended k (is_some (ended_by m (Reset w))),
+      after_input m (Reset w),
+      midway (is_some (ended_by m (Reset w))) s.1 t.0 (reset_most m w s.1.here.idle),
+    )
+
+pub returns-clause-stands : goal.returns-clause-stands
+returns-clause-stands c l h short =
+    let k : Link = seen_from c.args.at l in
+    let m : LinkEnd = k.controller.side in
+    let w = c.args.window in
+    let room = room_here h in
+    let so = c.in_ok-cause.ensures in
+    let t = so.stands m h.here.has.node room short c.in_default.is in
+    on_ok c.send_all.result
+    (c.send_all.ensures.stands (with_ended k (is_some (ended_by m (Reset w)))) (after_input m (Reset w))
+    (midway (is_some (ended_by m (Reset w))) h t.0 (reset_most m w h.here.idle)))
+    (λ r. happened_does
+    (record { stands = r.0; noted = input_noted (Reset w) c.args.entries.now.items h c.place-place.ensures t.1 r.1 })
+    c.requires.nothing
+    (record { cause = WasReset c.args.at w; none = sym (so.refused m h.here.has.node room) ∙ c.in_default.is; causes = refl; is = refl }))

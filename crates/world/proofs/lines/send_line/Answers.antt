@@ -1,20 +1,56 @@
-use Rattle.std.proofs.Common.{[], ◌∷◌, ◌++◌, refl, sym, ap, ◌∙◌}
+use Rattle.std.proofs.Common.{◌≡◌, List, ℕ, [], ◌∷◌, ◌++◌, refl, sym, ap, subst, ◌∙◌}
+use Rattle.std.specs.Prelude.{Some, false, is_some}
 use Rattle.trace_model.specs.declared.entry.Entry.TheVariants.{No}
+use Rattle.link_laws.specs.machine.Machine.{LinkEnd, Message, give_refusal, turn}
+use Rattle.link_laws.specs.machine.Machine.Turn.{Give}
+use Rattle.link_laws.specs.messages.Links.{Link}
 use Rattle.history.specs.Histories.Cause.{Given}
-use Rattle.history.specs.Follows.{seen_from}
-use Rattle.world.proofs.LineLemmas.{refused_does, happened_does, some_holds}
+use Rattle.history.specs.Follows.{as_noted, seen_from}
+use Rattle.link_wires.proofs.Results.{on_ok}
+use Rattle.world.specs.declared.node.Place.{Place}
+use Rattle.world.specs.Nodes.{NodeStandsFor}
+use Rattle.world.proofs.Bare.{give_most}
+use Rattle.world.proofs.Acting.{midway, session_is}
+use Rattle.world.proofs.Giving.{refused_give, accepted, gives}
+use Rattle.world.proofs.LineLemmas.{refused_does, happened_does}
 use Rattle.world.proofs.lines.send_line.Goals as goal
 
-pub returns-in_ok-push-clause-stands : goal.returns-in_ok-push-clause-stands
-returns-in_ok-push-clause-stands c l h =
-    let k = c.in_ok-cause.ensures in
-    let none = some_holds c.in_ok-cause.field-0 c.in-Some.cause c.in-Some.is (k.unchanged (seen_from c.args.at l) h) in
-    refused_does (sym (k.refused (seen_from c.args.at l) h) ∙ c.in-Some.is) none.0
-    (c.in_ok-push.ensures.items ∙ ap (λ es. es ++ No c.in-Some.cause ∷ []) (none.1 ∙ c.requires.nothing))
+pub returns-in-Some-clause-stands : goal.returns-in-Some-clause-stands
+returns-in-Some-clause-stands c l h =
+    let m : LinkEnd = (seen_from c.args.at l).controller.side in
+    let x : Message = (c.args.pid, c.args.message.now) in
+    let P : List ℕ → Type 0 = λ b. c.give.result ≡ as_noted (give_refusal m (c.args.pid, b)) in
+    let Q : List ℕ → Type 0 = λ b. NodeStandsFor c.give.new.self (turn m (Give (c.args.pid, b))) in
+    let refused = sym c.in-Some.is ∙ subst P c.as_slice.ensures (c.give.ensures.refused m h.here.has.node) in
+    let none = refused_give x (Some c.in-Some.cause) c.args.entries.now.items h refused
+    (subst Q c.as_slice.ensures (c.give.ensures.stands m h.here.has.node)) in
+    refused_does (sym refused) none.0 (c.in_ok-push.ensures.items ∙ ap (λ es. es ++ No c.in-Some.cause ∷ []) c.requires.nothing)
 
-pub returns-in_default-clause-stands : goal.returns-in_default-clause-stands
-returns-in_default-clause-stands c l h =
-    let k = c.in_ok-cause.ensures in
-    let none = sym (k.refused (seen_from c.args.at l) h) ∙ c.in_default.is in
-    happened_does (k.stands (seen_from c.args.at l) h c.in_default.is) c.requires.nothing
-    (record { cause = Given c.args.at (c.args.pid, c.args.message.now); none = none; causes = refl; is = refl })
+pub send_all-requires-clause-state : goal.send_all-requires-clause-state
+send_all-requires-clause-state c =
+    let s = c.requires.state in
+    let k : Link = seen_from c.args.at s.0 in
+    let m : LinkEnd = k.controller.side in
+    let x : Message = (c.args.pid, c.args.message.now) in
+    let Q : List ℕ → Type 0 = λ b. NodeStandsFor c.give.new.self (turn m (Give (c.args.pid, b))) in (
+      k,
+      turn m (Give x),
+      midway false s.1 (subst Q c.as_slice.ensures (c.give.ensures.stands m s.1.here.has.node)) (give_most m x s.1.here.idle),
+    )
+
+pub returns-clause-stands : goal.returns-clause-stands
+returns-clause-stands c l h =
+    let k : Link = seen_from c.args.at l in
+    let m : LinkEnd = k.controller.side in
+    let x : Message = (c.args.pid, c.args.message.now) in
+    let P : List ℕ → Type 0 = λ b. c.give.result ≡ as_noted (give_refusal m (c.args.pid, b)) in
+    let Q : List ℕ → Type 0 = λ b. NodeStandsFor c.give.new.self (turn m (Give (c.args.pid, b))) in
+    let so : c.give.result ≡ as_noted (give_refusal m x) = subst P c.as_slice.ensures (c.give.ensures.refused m h.here.has.node) in
+    on_ok c.send_all.result
+    (c.send_all.ensures.stands k (turn m (Give x))
+    (midway false h (subst Q c.as_slice.ensures (c.give.ensures.stands m h.here.has.node)) (give_most m x h.here.idle)))
+    (λ r. happened_does
+    (gives (ap (λ (p : Place). p.session) c.place-place.ensures ∙ session_is h)
+    (accepted c.give.result (give_refusal m x) so (ap is_some c.in_default.is)) c.in_ok-kept.ensures c.in_ok-push-2.ensures.items r)
+    c.requires.nothing
+    (record { cause = Given c.args.at x; none = sym so ∙ c.in_default.is; causes = refl; is = refl }))

@@ -11,6 +11,7 @@ use Rattle.world.specs.Lines.{HaveSent}
 use Rattle.link_wires.proofs.Results.{on_ok}
 use Rattle.world.proofs.LineLemmas.{seen_here, seen_at_controller}
 use Rattle.world.proofs.Given.{sent_ticked}
+use Rattle.world.proofs.Stepping.{aged_is}
 use Rattle.world.proofs.Repeating.{tick_noted, turned_round, few_short}
 use Rattle.world.proofs.repeats.tick.Goals as goal
 
@@ -19,11 +20,12 @@ tick_end-requires-clause-state c =
     let l : Link = c.requires.state.0 in
     let m : Link = record l { to_controller = aged_wire l.to_controller } in
     let h = seen_here c.args.at c.requires.controller c.requires.state.1 in
-    let a = c.in_ok-age_frames.ensures.stands l h in
-    let b = c.in_ok-age_frames-2.ensures.stands (exchanged m) (turned_round a.0) in
+    let a = c.in_ok-grow_older.ensures l.to_controller h.here.has.wire_is in
+    let turned = turned_round (aged_is h a.0) in
+    let b = c.in_ok-grow_older-2.ensures (exchanged m).to_controller turned.here.has.wire_is in
     let sent = c.requires.state.2.here in (
       aged l,
-      turned_round b.0,
+      turned_round (aged_is turned b.0),
       few_short sent,
     )
 
@@ -32,9 +34,10 @@ tick_end-requires-2-clause-state c =
     let l : Link = c.requires.state.0 in
     let m : Link = record l { to_controller = aged_wire l.to_controller } in
     let h = seen_here c.args.at c.requires.controller c.requires.state.1 in
-    let a = c.in_ok-age_frames.ensures.stands l h in
-    let b = c.in_ok-age_frames-2.ensures.stands (exchanged m) (turned_round a.0) in
-    let both = turned_round b.0 in
+    let a = c.in_ok-grow_older.ensures l.to_controller h.here.has.wire_is in
+    let turned = turned_round (aged_is h a.0) in
+    let b = c.in_ok-grow_older-2.ensures (exchanged m).to_controller turned.here.has.wire_is in
+    let both = turned_round (aged_is turned b.0) in
     let t = c.in_ok-tick_end.ensures.stands (aged l) both (few_short c.requires.state.2.here) in
     let near : Link = ticks_at_controller (aged l) [] GoesOut in
     let sent : HaveSent near 320000 = sent_ticked 320000 (aged l) (record { here = c.requires.state.2.here; there = c.requires.state.2.there }) in (
@@ -47,9 +50,10 @@ pub returns-clause-stands : goal.returns-clause-stands
 returns-clause-stands c l stands few =
     let m : Link = record l { to_controller = aged_wire l.to_controller } in
     let h = seen_here c.args.at c.requires.controller stands in
-    let a = c.in_ok-age_frames.ensures.stands l h in
-    let b = c.in_ok-age_frames-2.ensures.stands (exchanged m) (turned_round a.0) in
-    let both = turned_round b.0 in
+    let a = c.in_ok-grow_older.ensures l.to_controller h.here.has.wire_is in
+    let turned = turned_round (aged_is h a.0) in
+    let b = c.in_ok-grow_older-2.ensures (exchanged m).to_controller turned.here.has.wire_is in
+    let both = turned_round (aged_is turned b.0) in
     let t = c.in_ok-tick_end.ensures.stands (aged l) both (few_short few.here) in
     let near : Link = ticks_at_controller (aged l) [] GoesOut in
     let sent : HaveSent near 320000 = sent_ticked 320000 (aged l) (record { here = few.here; there = few.there }) in
@@ -58,7 +62,7 @@ returns-clause-stands c l stands few =
     (few_short sent.there))
     (λ last.
     let P : End → Type 0 = λ e.
-    AreNoted e c.age_frames.new.entries.items c.age_frames-2.new.entries.items (aged_entries (side_of e) l.to_host) in
+    AreNoted e c.grow_older.new.entries.items c.grow_older-2.new.entries.items (aged_entries (side_of e) l.to_host) in
     let Q : End → Type 0 = λ e.
     AreNoted e c.tick_end.new.entries.items c.tick_end-2.new.entries.items (tick_entries (side_of e) (exchanged near) idle) in
     record {

@@ -1,5 +1,6 @@
 use Rattle.std.proofs.Common.{◌≡◌, ℕ, suc, ◌+◌, ◌-◌, subst, arith}
 use Rattle.world.proofs.Sending.{Sending, IsAboutToSend, sending_starts, sending_goes_on, sending_stops, sending_ends}
+use Rattle.world.proofs.Stepping.{put_is, goes_out}
 use Rattle.world.proofs.steps.send_all.Goals as goal
 
 pub loop-init : goal.loop-init
@@ -22,12 +23,12 @@ returns-in_default-clause-stands c l m h =
 pub returns-in_default-clause-grows : goal.returns-in_default-clause-grows
 returns-in_default-clause-grows c = let i = c.loop.invariant.1 in omega (arith, i, c.loop-test.true)
 
-pub put-requires : goal.put-requires
-put-requires c = let i = c.loop.invariant.1 in let r = c.requires.room in omega (arith, i, r, c.loop-test.true)
+pub put_frame-requires : goal.put_frame-requires
+put_frame-requires c = let i = c.loop.invariant.1 in let r = c.requires.room in omega (arith, i, r, c.loop-test.true)
 
-pub returns-in_err-put-clause-grows : goal.returns-in_err-put-clause-grows
-returns-in_err-put-clause-grows c =
-    let i = c.loop.invariant.1 in let g = c.put.ensures.grows in omega (arith, i, g, c.loop-test.true)
+pub returns-in_err-put_frame-clause-grows : goal.returns-in_err-put_frame-clause-grows
+returns-in_err-put_frame-clause-grows c =
+    let i = c.loop.invariant.1 in let g = c.put_frame.ensures.grows in omega (arith, i, g, c.loop-test.true)
 
 pub loop-preserved : goal.loop-preserved
 loop-preserved c =
@@ -39,8 +40,9 @@ loop-preserved c =
           let node = s.midway.here.node in
           let about : IsAboutToSend n.new.self s.e n.result =
           record { node = n.ensures.stands s.e node; fetched_is = n.ensures.answer s.e node; read = n.ensures.read s.e node } in
-          sending_goes_on s about c.in-Some.is (λ k e f. c.in_ok-put.ensures.stands k e f)),
-      (let i = c.loop.invariant.1 in let g = c.put.ensures.grows in omega (arith, i, g)),
+          sending_goes_on s about c.in-Some.is
+          (λ k e f midway is read. let r = c.in_ok-put_frame.ensures.stands k f (goes_out midway) is read in (put_is f midway r.0, r.1))),
+      (let i = c.loop.invariant.1 in let g = c.put_frame.ensures.grows in omega (arith, i, g)),
     )
 
 pub returns-clause-stands : goal.returns-clause-stands
