@@ -1,4 +1,3 @@
-pub mod Finding
 pub mod Cutting
 pub mod Texts
 pub mod Fitting

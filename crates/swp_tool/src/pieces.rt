@@ -1,5 +1,5 @@
 //! A schedule comes in pieces; each line is played as soon as it has ended.
-ghost use Rattle.std.specs.Prelude.{◌≡◌, ◌==◌, ◌+◌, ◌<◌, ◌≤◌, ◌++◌, ◌∷◌, [], List, ℕ, length, position, OnOk, IfOk, IfErr, IfSome, IfNone};
+ghost use Rattle.std.specs.Prelude.{◌≡◌, ◌==◌, ◌+◌, ◌<◌, ◌≤◌, ◌++◌, ◌∷◌, [], List, ℕ, length, OnOk, IfOk, IfErr, IfSome, IfNone};
 ghost use Rattle.std.specs.Str.Lines.{strip_carriage_return};
 ghost use Rattle.swp_tool.specs.Replays.{HasPlayed};
 ghost use Rattle.swp_tool.specs.Transcripts.{IsDoneText};
@@ -75,20 +75,9 @@ impl Pieces {
         ensures halts { IfErr result (λ why. (bytes written : List ℕ) → HasRead self.old bytes written
             → HaltsAtEnd why self.new.replay.count bytes (written ++ self.new.replay.text.items)) }
     {
-        match self.play_rest(alloc) {
-            Ok(()) => self.close(alloc),
-            Err(why) => Err(why),
+        if let Err(why) = self.play_rest(alloc) {
+            return Err(why);
         }
-    }
-
-    /// Gathers the last line of the transcript.
-    fn close(&mut self, alloc: Global) -> Result<(), Halt>
-        ensures counted { self.new.replay.count ≡ self.old.replay.count }
-        ensures done { OnOk result ((bytes written : List ℕ) → HasPlayed self.old.replay (schedule_read bytes) written
-            → IsDoneText bytes (written ++ self.new.replay.text.items)) }
-        ensures halts { IfErr result (λ why. (bytes written : List ℕ) → HasPlayed self.old.replay (schedule_read bytes) written
-            → HaltsAtEnd why self.new.replay.count bytes (written ++ self.new.replay.text.items)) }
-    {
         match self.replay.close(alloc) {
             Ok(()) => Ok(()),
             Err(why) => Err(why),
@@ -113,7 +102,7 @@ impl Pieces {
         }
     }
 
-    /// Takes bytes and the LF that ends their line.
+    /// Takes bytes and the LF that ends their line, which is played where it stands if it lies whole in the piece.
     fn take_line(&mut self, alloc: Global, bytes: &[u8]) -> Result<(), Halt>
         requires reading { IsReading self.old }
         requires lacks { LacksLineFeed bytes.now }
@@ -128,32 +117,15 @@ impl Pieces {
             return Err(Halt::TooMany);
         }
         if self.partial.is_empty() && bytes.len() <= MAX_LINE + 1 {
-            return self.play_whole(alloc, bytes);
+            match self.replay.play(alloc, without_carriage_return(bytes)) {
+                Ok(()) => return Ok(()),
+                Err(why) => return Err(why),
+            }
         }
         if let Err(why) = self.keep(bytes) {
             return Err(why);
         }
         match self.end_line(alloc) {
-            Ok(()) => Ok(()),
-            Err(why) => Err(why),
-        }
-    }
-
-    /// Plays a line that lies whole in a piece, where it stands.
-    fn play_whole(&mut self, alloc: Global, bytes: &[u8]) -> Result<(), Halt>
-        requires reading { IsReading self.old }
-        requires none { self.old.partial.items ≡ [] }
-        requires lacks { LacksLineFeed bytes.now }
-        requires short { length bytes.now ≤ 9001 }
-        requires room { self.old.replay.count < 20000 }
-        ensures read { OnOk result ((before written : List ℕ) → HasRead self.old before written → HasRead self.new (before ++ ended_line bytes.now) written) }
-        ensures reading { OnOk result (IsReading self.new) }
-        ensures counted { self.new.replay.count ≤ 20000 }
-        ensures progress { OnOk result (bytes_left self.new + length (ended_line bytes.now) ≤ bytes_left self.old) }
-        ensures halts { IfErr result (λ why. (before written : List ℕ) → HasRead self.old before written
-            → Halts why self.new.replay.count (before ++ ended_line bytes.now) (written ++ self.new.replay.text.items)) }
-    {
-        match self.replay.play(alloc, without_carriage_return(bytes)) {
             Ok(()) => Ok(()),
             Err(why) => Err(why),
         }
@@ -214,14 +186,8 @@ fn cut_line(bytes: &[u8]) -> Option<(&[u8], &[u8])>
     ensures lacks { IfSome result (λ r. LacksLineFeed r.0.now) }
     ensures none { IfNone result (LacksLineFeed bytes.now) }
 {
-    let end = line_feed_in(bytes)?;
+    let end = memchr(b'\n', bytes)?;
     Some((&bytes[..end], &bytes[end + 1..]))
-}
-
-fn line_feed_in(bytes: &[u8]) -> Option<usize>
-    ensures { result ≡ position (λ b. b == 10) bytes.now }
-{
-    memchr(b'\n', bytes)
 }
 
 /// A line without the CR at its end, if it has one.

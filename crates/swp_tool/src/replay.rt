@@ -1,13 +1,12 @@
 //! The lines of a schedule are played one by one, and the transcript is gathered.
-ghost use Rattle.std.specs.Prelude.{◌≡◌, ◌+◌, ◌<◌, ◌++◌, ◌∷◌, [], List, ℕ, Ok, None, OnOk, OnErr, IfOk, IfErr, IfSome, IsSomeAnd, ◌⊎◌, ◌≢◌};
+ghost use Rattle.std.specs.Prelude.{◌≡◌, ◌+◌, ◌<◌, ◌++◌, ◌∷◌, [], List, ℕ, Ok, None, OnOk, OnErr, IfOk, IfErr, IsSomeAnd, ◌⊎◌, ◌≢◌};
 ghost use Rattle.trace_model.specs.declared.line.Header.{Header};
 ghost use Rattle.trace_model.specs.declared.line.Line.{Line};
 ghost use Rattle.trace_model.specs.Lines.{MayBegin, MayFollow};
 ghost use Rattle.schedule_text.specs.Entries.{entry_lines};
-ghost use Rattle.schedule_text.specs.Lines.{line_of};
-ghost use Rattle.lines_told.specs.lines.Below.{IsPlayedLine, misread_below};
+ghost use Rattle.lines_told.specs.lines.Below.{misread_below};
 ghost use Rattle.lines_told.specs.lines.Plays.{Play, lines_played, schedule_told};
-ghost use Rattle.world.specs.Worlds.{IsWorldAt, HasRoomForLine, world_header};
+ghost use Rattle.world.specs.Worlds.{IsWorldAt, world_header};
 ghost use Rattle.swp_tool.specs.Schedules.{Schedule, and_line, and_said, nothing_read};
 ghost use Rattle.swp_tool.specs.Replays.{Runs, WasStepped, HasPlayed, HasFew, HaltsOn, HaltsBefore, HaltsAt};
 ghost use Rattle.swp_tool.specs.Transcripts.{done_line};
@@ -88,7 +87,8 @@ impl Replay {
         }
     }
 
-    /// Plays the next line, without the end of the line. Where it halts, the text stays as it was.
+    /// Plays the next line, without the end of the line: it is read at once, where there is a world and the line has one of the forms that
+    /// most lines have. Where it halts, the text stays as it was.
     #[inline(always)]
     pub fn play(&mut self, alloc: Global, bytes: &[u8]) -> Result<(), Halt>
         requires few { HasFew self.old }
@@ -100,23 +100,18 @@ impl Replay {
         ensures same { OnErr result (self.new.text.items ≡ self.old.text.items) }
         ensures uncounted { OnErr result (self.new.count ≡ self.old.count) }
     {
+        let Some(world) = &self.world else {
+            return self.play_any(alloc, bytes);
+        };
         let mut read = None;
-        self.read_at_once(bytes, &mut read);
-        let done = self.play_read(alloc, bytes, &read);
-        self.keep(read);
-        done
-    }
-
-    /// Reads the next line, if there is a world and the line has one of the forms that most lines have.
-    #[inline(always)]
-    fn read_at_once(&mut self, bytes: &[u8], read: &mut Option<Line>)
-        requires none { read.old ≡ None }
-        ensures said { IfSome read.new (λ said. IsSomeAnd self.new.world (λ w. line_of (Some (world_header w)) bytes.now ≡ Ok (Read.Line said))) }
-        ensures follows { IfSome read.new (λ said. IsSomeAnd self.new.world (λ w. MayFollow (world_header w) said)) }
-        ensures same { self.new ≡ record self.old { spare = self.new.spare } }
-    {
-        if let Some(world) = &self.world {
-            read_at_once(world.header(), bytes, &mut self.spare, read);
+        read_at_once(world.header(), bytes, &mut self.spare, &mut read);
+        match &read {
+            Some(line) => {
+                let done = self.go_on(alloc, line);
+                self.keep(read);
+                done
+            }
+            None => self.play_any(alloc, bytes),
         }
     }
 
@@ -127,26 +122,6 @@ impl Replay {
     {
         if let Some(Line::Send { message, .. }) = read {
             self.spare = message.bytes;
-        }
-    }
-
-    /// Plays the next line, which was read where it could be at once.
-    #[inline(always)]
-    fn play_read(&mut self, alloc: Global, bytes: &[u8], read: &Option<Line>) -> Result<(), Halt>
-        requires few { HasFew self.old }
-        requires next { self.old.count < 20000 }
-        requires said { IfSome read.now (λ said. IsSomeAnd self.old.world (λ w. line_of (Some (world_header w)) bytes.now ≡ Ok (Read.Line said))) }
-        requires follows { IfSome read.now (λ said. IsSomeAnd self.old.world (λ w. MayFollow (world_header w) said)) }
-        ensures played { OnOk result ((s : Schedule) (written : List ℕ) → HasPlayed self.old s written → HasPlayed self.new (and_line s bytes.now) written) }
-        ensures halts { IfErr result (λ why. (s : Schedule) (written : List ℕ) → HasPlayed self.old s written → HaltsAt why s bytes.now) }
-        ensures few { OnOk result (HasFew self.new) }
-        ensures count { OnOk result (self.new.count ≡ self.old.count + 1) }
-        ensures same { OnErr result (self.new.text.items ≡ self.old.text.items) }
-        ensures uncounted { OnErr result (self.new.count ≡ self.old.count) }
-    {
-        match read {
-            Some(line) => self.go_on(alloc, line),
-            None => self.play_any(alloc, bytes),
         }
     }
 
@@ -265,7 +240,8 @@ fn open(alloc: Global, header: &Header, text: &mut Transcript) -> Result<World, 
     Ok(world)
 }
 
-/// Has a world play a line, and gathers the text of the line and of what it caused.
+/// Has a world play a line, by rounds where it lets the links settle and else by a step, and gathers the text of the line and of what it
+/// caused.
 #[inline(always)]
 fn play_line(
     alloc: Global,
@@ -286,25 +262,10 @@ fn play_line(
 {
     match line {
         Line::Settle { rounds } => settle(alloc, world, *rounds, text),
-        _ => step(alloc, world, line, text),
+        _ => {
+            world.step(alloc, line)?;
+            write_step(alloc, line, world.entries(), text)?;
+            Ok(())
+        }
     }
-}
-
-/// Steps a world by a line, and gathers the text of the line and of what it caused.
-#[inline(always)]
-fn step(alloc: Global, world: &mut World, line: &Line, text: &mut Transcript) -> Result<(), Halt>
-    requires line { IsPlayedLine (world_header world.old) line.now }
-    requires room { HasRoomForLine world.old }
-    ensures runs { OnOk result ((header : Header) (lines : List Line) (before : List ℕ) → Runs world.old header lines (before ++ text.old.items)
-        → Runs world.new header (lines ++ line.now ∷ []) (before ++ text.new.items)) }
-    ensures told { OnOk result ((header : Header) (plays : List Play) → IsWorldAt world.old header plays
-        → misread_below header (lines_played header plays) line.now ≡ None) }
-    ensures stepped { OnOk result ((most : ℕ) → WasStepped world.old most → WasStepped world.new (most + 1)) }
-    ensures halts { IfErr result (λ why. (header : Header) (plays : List Play) → IsWorldAt world.old header plays
-        → HaltsOn why (misread_below header (lines_played header plays) line.now)) }
-    ensures same { OnErr result (text.new.items ≡ text.old.items) }
-{
-    world.step(alloc, line)?;
-    write_step(alloc, line, world.entries(), text)?;
-    Ok(())
 }
