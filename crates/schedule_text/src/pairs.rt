@@ -14,6 +14,7 @@ const AT_ONCE: usize = 32;
 
 /// The bytes of pairs of hexadecimal digits, of either case, if there is memory for them. They lie in memory that is left over, which
 /// goes where there are none. It takes a quarter of the instructions of the kit's decoder, which reads digit by digit.
+#[inline(always)]
 pub(crate) fn bytes_of(spare: &mut Vec<u8>, digits: &[u8]) -> Option<Vec<u8>>
     ensures { IfSome result (λ bytes. bytes_value digits.now ≡ Some bytes.items) }
 {

@@ -126,6 +126,7 @@ impl Replay {
     }
 
     /// Plays the next line, whatever its form.
+    #[cold]
     #[inline(never)]
     fn play_any(&mut self, alloc: Global, bytes: &[u8]) -> Result<(), Halt>
         requires few { HasFew self.old }

@@ -32,16 +32,18 @@ pub(crate) fn send_line(
         → OnOk result (Does near.new far.new resets.new at l (line.Send at pid message.now) entries.new.items) }
     ensures grows { resets.new ≤ resets.old + 12 }
 {
-    if let Some(cause) = near.node.give(pid, message.as_slice()) {
+    let refused = near.node.give(pid, message.as_slice());
+    if let Some(cause) = refused {
         entries.push(Entry::No { cause })?;
         return Ok(());
     }
     let place = near.place(at);
+    let message = kept(spare, message)?;
     entries.push(Entry::Sent {
         at,
         session: place.session,
         pid,
-        message: kept(spare, message)?,
+        message,
     })?;
     send_all(at, near, far, resets, entries)
 }

@@ -19,11 +19,11 @@ pub returns-in-Some-clause-stands : goal.returns-in-Some-clause-stands
 returns-in-Some-clause-stands c l h =
     let m : LinkEnd = (seen_from c.args.at l).controller.side in
     let x : Message = (c.args.pid, c.args.message.now) in
-    let P : List ℕ → Type 0 = λ b. c.give.result ≡ as_noted (give_refusal m (c.args.pid, b)) in
-    let Q : List ℕ → Type 0 = λ b. NodeStandsFor c.give.new.self (turn m (Give (c.args.pid, b))) in
-    let refused = sym c.in-Some.is ∙ subst P c.as_slice.ensures (c.give.ensures.refused m h.here.has.node) in
+    let P : List ℕ → Type 0 = λ b. c.give-refused.result ≡ as_noted (give_refusal m (c.args.pid, b)) in
+    let Q : List ℕ → Type 0 = λ b. NodeStandsFor c.give-refused.new.self (turn m (Give (c.args.pid, b))) in
+    let refused = sym c.in-Some.is ∙ subst P c.as_slice.ensures (c.give-refused.ensures.refused m h.here.has.node) in
     let none = refused_give x (Some c.in-Some.cause) c.args.entries.now.items h refused
-    (subst Q c.as_slice.ensures (c.give.ensures.stands m h.here.has.node)) in
+    (subst Q c.as_slice.ensures (c.give-refused.ensures.stands m h.here.has.node)) in
     refused_does (sym refused) none.0 (c.in_ok-push.ensures.items ∙ ap (λ es. es ++ No c.in-Some.cause ∷ []) c.requires.nothing)
 
 pub send_all-requires-clause-state : goal.send_all-requires-clause-state
@@ -32,10 +32,10 @@ send_all-requires-clause-state c =
     let k : Link = seen_from c.args.at s.0 in
     let m : LinkEnd = k.controller.side in
     let x : Message = (c.args.pid, c.args.message.now) in
-    let Q : List ℕ → Type 0 = λ b. NodeStandsFor c.give.new.self (turn m (Give (c.args.pid, b))) in (
+    let Q : List ℕ → Type 0 = λ b. NodeStandsFor c.give-refused.new.self (turn m (Give (c.args.pid, b))) in (
       k,
       turn m (Give x),
-      midway false s.1 (subst Q c.as_slice.ensures (c.give.ensures.stands m s.1.here.has.node)) (give_most m x s.1.here.idle),
+      midway false s.1 (subst Q c.as_slice.ensures (c.give-refused.ensures.stands m s.1.here.has.node)) (give_most m x s.1.here.idle),
     )
 
 pub returns-clause-stands : goal.returns-clause-stands
@@ -43,14 +43,14 @@ returns-clause-stands c l h =
     let k : Link = seen_from c.args.at l in
     let m : LinkEnd = k.controller.side in
     let x : Message = (c.args.pid, c.args.message.now) in
-    let P : List ℕ → Type 0 = λ b. c.give.result ≡ as_noted (give_refusal m (c.args.pid, b)) in
-    let Q : List ℕ → Type 0 = λ b. NodeStandsFor c.give.new.self (turn m (Give (c.args.pid, b))) in
-    let so : c.give.result ≡ as_noted (give_refusal m x) = subst P c.as_slice.ensures (c.give.ensures.refused m h.here.has.node) in
+    let P : List ℕ → Type 0 = λ b. c.give-refused.result ≡ as_noted (give_refusal m (c.args.pid, b)) in
+    let Q : List ℕ → Type 0 = λ b. NodeStandsFor c.give-refused.new.self (turn m (Give (c.args.pid, b))) in
+    let so : c.give-refused.result ≡ as_noted (give_refusal m x) = subst P c.as_slice.ensures (c.give-refused.ensures.refused m h.here.has.node) in
     on_ok c.send_all.result
     (c.send_all.ensures.stands k (turn m (Give x))
-    (midway false h (subst Q c.as_slice.ensures (c.give.ensures.stands m h.here.has.node)) (give_most m x h.here.idle)))
+    (midway false h (subst Q c.as_slice.ensures (c.give-refused.ensures.stands m h.here.has.node)) (give_most m x h.here.idle)))
     (λ r. happened_does
     (gives (ap (λ (p : Place). p.session) c.place-place.ensures ∙ session_is h)
-    (accepted c.give.result (give_refusal m x) so (ap is_some c.in_default.is)) c.in_ok-kept.ensures c.in_ok-push-2.ensures.items r)
+    (accepted c.give-refused.result (give_refusal m x) so (ap is_some c.in_default.is)) c.in_ok-message.ensures c.in_ok-push-2.ensures.items r)
     c.requires.nothing
     (record { cause = Given c.args.at x; none = sym so ∙ c.in_default.is; causes = refl; is = refl }))
