@@ -54,7 +54,8 @@ returns-in_ok-write_step-in_default-clause-runs c header lines before runs =
     let more = entry_line (entry.Echo line) ++ entry_lines c.entries.result.now in
     let was = entry_lines (schedule_told header lines) in
     record {
-      stands = subst (IsWorldAt c.step.new.self header) (sym (said_plays header lines line still)) (subst P same (c.in_ok-step-in_default.ensures.stands plays stands));
+      stands = subst (IsWorldAt c.step.new.self header) (sym (said_plays header lines line still))
+          (subst P same (c.in_ok-step-in_default.ensures.stands plays stands));
       text_is = ap (λ l. before ++ l) c.in_ok-write_step-in_default.ensures.ok
           ∙ (sym (append_assoc before c.args.text.now.items more)
           ∙ (ap (λ l. l ++ more) runs.text_is
