@@ -22,7 +22,9 @@ use Rattle.node_machine.specs.Parts.{Core, Port, Work}
 use Rattle.node_machine.specs.Carrying.{port_at, noted_of, end_of_node, with_port, after_turn, turn_at, commit, keeps, loses_power, noting}
 use Rattle.node_machine.specs.Carrying.{has_room_for, plan_behind}
 use Rattle.trace_model.specs.declared.line.End.{End}
-use Rattle.node_ends.specs.Ends.{KeptEnds, takes_at, EndsStandFor}
+use Rattle.link_end.specs.declared.report.SendRefused.{SendRefused}
+use Rattle.link_end.specs.Reports.{by_refusal_told}
+use Rattle.node_ends.specs.Ends.{KeptEnds, takes_at, given_at, EndsStandFor}
 use Rattle.node_core.specs.declared.node.Node.{Node}
 use Rattle.node_core.specs.Noting.{unnumbered}
 use Rattle.node_core.specs.Nodes.{CoreStandsFor, IsInStep}
@@ -98,6 +100,52 @@ sent_under_way {n = n} {noted = noted} {now = now} {start = start} {w = w} {at =
           ∙ ap (λ es. start ++ map unnumbered (w.entries ++ es)) (sym s.notes_are);
       power = u.power;
     }
+
+-- nothing is noted of a message that an end doesn't take
+pub none_noted : (core : Core) (h : ℕ) (m : Message) (ports : List Port) → false ≡ takes_at m (port_at ports h)
+    → option_map_or (noted_of core (Give m)) (port_at ports h) [] ≡ []
+none_noted core h m ports refuses = by (port_at ports h) refl
+  where
+    by_refusal : (p : Port) → port_at ports h ≡ Some p → (o : Option Refused) → give_refusal p.side m ≡ o
+        → option_map_or (noted_of core (Give m)) (port_at ports h) [] ≡ []
+    by_refusal p at None q = absurd (true≢false (sym (refuses ∙ (ap (takes_at m) at ∙ ap (λ o. is_none o) q))))
+    by_refusal p at (Some why) q = rw (at, q) refl
+
+    by : (o : Option Port) → port_at ports h ≡ o → option_map_or (noted_of core (Give m)) (port_at ports h) [] ≡ []
+    by None at = rw at refl
+    by (Some p) at = by_refusal p at (give_refusal p.side m) refl
+
+-- a message was refused, and nothing noted
+pub refused_under_way : {N : Type 0} {n : Node N} {ends : KeptEnds} {noted start : List Entry} {was : Bool} {w : Work} (m : Message) (h : ℕ)
+    → IsInStep n noted was start w → EndsStandFor ends (with_port h (after_turn (Give m)) w.ports) → false ≡ takes_at m (port_at w.ports h)
+    → IsInStep (record n { ends = ends }) noted was start (turn_at h (Give m) w)
+refused_under_way {start = start} {w = w} m h u stands refuses = record {
+  node = u.node;
+  core = λ live. (let k = u.core live in record { journal = k.journal; tables = k.tables; command = k.command; init = k.init });
+  ends = stands;
+  noted_are = λ kept.
+      u.noted_are kept
+      ∙ ap (λ es. start ++ map unnumbered es)
+      (sym (ap (λ es. w.entries ++ es) (none_noted w.core h m w.ports refuses) ∙ append-nil w.entries));
+  power = u.power;
+}
+
+-- whether an end takes a message, by what it tells
+pub told_taken : (m : Message) (port : Option Port) → Ok tt ≡ given_at m port → true ≡ takes_at m port
+told_taken m None is = cc
+told_taken m (Some p) is = by (give_refusal p.side m) is
+  where
+    by : (o : Option Refused) → Ok tt ≡ by_refusal_told o → true ≡ is_none o
+    by None e = refl
+    by (Some why) e = cc
+
+pub told_refused : (m : Message) (port : Option Port) (why : SendRefused) → Err why ≡ given_at m port → false ≡ takes_at m port
+told_refused m None why is = refl
+told_refused m (Some p) why is = by (give_refusal p.side m) is
+  where
+    by : (o : Option Refused) → Err why ≡ by_refusal_told o → false ≡ is_none o
+    by None e = cc
+    by (Some because) e = refl
 
 -- ## Commits
 

@@ -18,7 +18,7 @@ use Rattle.node_core.specs.Noting.{unnumbered}
 use Rattle.node_core.specs.Nodes.{IsInStep}
 use Rattle.node_core.specs.Bringing.{Brings}
 use Rattle.node_core.specs.Handling.{has_turn}
-use Rattle.node_core.proofs.Doing.{more_noted, sent_noted}
+use Rattle.node_core.proofs.Doing.{more_noted, sent_noted, none_noted}
 use Rattle.node_core.proofs.Steps.{silent_notes, plainly}
 
 -- ## Ports
@@ -48,21 +48,7 @@ got_still h (p ∷ ports) = by (p.desk.host == h) refl (got_still h ports)
     by true q later = rw (q, q) refl
     by false q later = rw (q, q) later
 
--- ## Entries
-
--- nothing is noted of a message that an end doesn't take
-pub none_noted : (core : Core) (h : ℕ) (m : Message) (ports : List Port) → false ≡ takes_at m (port_at ports h)
-    → option_map_or (noted_of core (Give m)) (port_at ports h) [] ≡ []
-none_noted core h m ports refuses = by (port_at ports h) refl
-  where
-    by_refusal : (p : Port) → port_at ports h ≡ Some p → (o : Option Refused) → give_refusal p.side m ≡ o
-        → option_map_or (noted_of core (Give m)) (port_at ports h) [] ≡ []
-    by_refusal p at None q = absurd (true≢false (sym (refuses ∙ (ap (takes_at m) at ∙ ap (λ o. is_none o) q))))
-    by_refusal p at (Some why) q = rw (at, q) refl
-
-    by : (o : Option Port) → port_at ports h ≡ o → option_map_or (noted_of core (Give m)) (port_at ports h) [] ≡ []
-    by None at = rw at refl
-    by (Some p) at = by_refusal p at (give_refusal p.side m) refl
+-- ## Turns
 
 -- the end that had a message, as it has its turn
 abbrev pub turned : ℕ → Work → Work

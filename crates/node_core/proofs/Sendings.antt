@@ -1,7 +1,7 @@
 -- A host that sends a message by itself, and why it doesn't.
-use Rattle.std.proofs.Common.{◌≡◌, ℕ, Bool, true, false, cond, not, ◌&&◌, List, [], ◌∷◌, length, refl, sym, ap, ◌∙◌}
-use Rattle.std.specs.Prelude.{Option, Some, None, nat_lt, is_some, option_map, ◌==◌}
-use Rattle.std.specs.Option.{option_map_or}
+use Rattle.std.proofs.Common.{◌≡◌, ℕ, Bool, true, false, cond, not, ◌&&◌, List, [], ◌∷◌, length, refl, sym, ap, ◌∙◌, subst}
+use Rattle.std.specs.Prelude.{Option, Some, None, Result, Ok, Err, OnOk, OnErr, IfErr, nat_lt, is_some, option_map, ◌==◌}
+use Rattle.std.proofs.lemmas.Bool.{eqb-true}
 use Rattle.trace_model.specs.declared.entry.Entry.{Entry}
 use Rattle.trace_model.specs.declared.entry.NoCause.TheVariants as no
 use Rattle.link_laws.specs.sessions.Sessions.{is_up}
@@ -9,16 +9,23 @@ use Rattle.shdlc_core.specs.declared.answers.LinkState.{LinkState}
 use Rattle.shdlc_core.specs.declared.answers.LinkState.TheVariants.{Down, Waiting as IsWaiting, Up}
 use Rattle.link_laws.specs.machine.Machine.{LinkEnd as Machine, Message, Refused, give_refusal, need, spare}
 use Rattle.link_laws.specs.machine.Machine.Refused.{TooLong, Full}
-use Rattle.node_machine.specs.Parts.{Port, Work, Deed}
-use Rattle.node_machine.specs.Parts.Deed.{Sends, Orders}
-use Rattle.node_machine.specs.Carrying.{port_at, done, all_done}
+use Rattle.link_laws.specs.machine.Machine.Turn.{Give}
+use Rattle.link_end.specs.declared.report.SendRefused.{SendRefused}
+use Rattle.link_end.specs.declared.report.SendRefused.TheVariants as at_end
+use Rattle.link_end.specs.Reports.{by_refusal_told, give_told}
+use Rattle.node_machine.specs.Parts.{Init, Port, Work, Deed}
+use Rattle.node_machine.specs.Parts.Deed.{GoesOn, Sends, Orders}
+use Rattle.node_machine.specs.Carrying.{port_at, turn_at, done, all_done}
 use Rattle.node_machine.specs.Controller.{is_command_message, has_link}
 use Rattle.node_machine.specs.world.World.{sending}
 use Rattle.node_machine.specs.world.Lines.{if_waiting}
 use Rattle.node_deeds.specs.declared.inits.Ordered.{Ordered}
 use Rattle.node_deeds.specs.Shown.{ordered_by}
 use Rattle.node_core.specs.declared.node.Node.{Node}
+use Rattle.node_ends.specs.Ends.{given_at, TellsLengthOf}
+use Rattle.node_core.specs.declared.giving.HostRefused.{HostRefused}
 use Rattle.node_core.specs.Nodes.{IsInStep}
+use Rattle.node_core.specs.Giving.{host_refused, ordered_if, refused_as, TellsLength}
 
 -- ## Refusals
 
@@ -54,23 +61,47 @@ waiting_refuses p m up = ap (if_waiting true) (up_refuses p m up) ∙ by (nat_lt
     by false true = refl
     by false false = refl
 
--- one that is too long, one that finds no room, and one that is taken
-pub long_refuses : (p : Port) (m : Message) → is_up p.side.shdlc.phase ≡ true → nat_lt 4096 (length m.1) ≡ true
-    → if_waiting false (give_refusal p.side m) ≡ Some no.TooLong
-long_refuses p m up long =
-    ap (if_waiting false) (up_refuses p m up
-    ∙ ap (λ b. cond b (Some (TooLong (length m.1))) (cond (nat_lt (spare p.side) (need m.1)) (Some (Full (need m.1) (spare p.side))) None)) long)
+-- what is told where its end refuses a message
+abbrev pub host_told : Result (Unit {0}) SendRefused → Result (Unit {0}) HostRefused
+host_told (Ok done) = Ok done
+host_told (Err why) = Err (host_refused why)
 
-pub by_room : (p : Port) (m : Message) (b : Bool) → is_up p.side.shdlc.phase ≡ true → nat_lt 4096 (length m.1) ≡ false
-    → nat_lt (spare p.side) (need m.1) ≡ b → if_waiting false (give_refusal p.side m) ≡ cond b (Some (no.Full (need m.1) (spare p.side))) None
-by_room p m b up short room =
-    ap (if_waiting false) (up_refuses p m up
-    ∙ (ap (λ t. cond t (Some (TooLong (length m.1))) (cond (nat_lt (spare p.side) (need m.1)) (Some (Full (need m.1) (spare p.side))) None)) short
-    ∙ ap (λ t. cond t (Some (Full (need m.1) (spare p.side))) None) room)) ∙ by b
+end_refuses : (p : Port) (m : Message) → refused_as (host_told (give_told p.side m)) ≡ if_waiting false (give_refusal p.side m)
+end_refuses p m = by p.side.shdlc.phase refl
   where
-    by : (t : Bool) → if_waiting false (cond t (Some (Full (need m.1) (spare p.side))) None) ≡ cond t (Some (no.Full (need m.1) (spare p.side))) None
-    by true = refl
-    by false = refl
+    by_size : (a b : Bool)
+        → refused_as (host_told (by_refusal_told (cond a (Some (TooLong (length m.1))) (cond b (Some (Full (need m.1) (spare p.side))) None))))
+        ≡ if_waiting false (cond a (Some (TooLong (length m.1))) (cond b (Some (Full (need m.1) (spare p.side))) None))
+    by_size true b = refl
+    by_size false true = refl
+    by_size false false = refl
+
+    by : (x : LinkState) → p.side.shdlc.phase ≡ x → refused_as (host_told (give_told p.side m)) ≡ if_waiting false (give_refusal p.side m)
+    by Down q = rw q refl
+    by IsWaiting q = rw q refl
+    by Up q = rw q (by_size (nat_lt 4096 (length m.1)) (nat_lt (spare p.side) (need m.1)))
+
+pub told_refusal : {r : Result (Unit {0}) SendRefused} (m : Message) (port : Option Port) (p : Port) → r ≡ given_at m port → port ≡ Some p
+    → refused_as (host_told r) ≡ if_waiting false (give_refusal p.side m)
+told_refusal {r} m port p told at =
+    ap (λ (x : Result (Unit {0}) SendRefused). refused_as (host_told x)) (told ∙ ap (given_at m) at) ∙ end_refuses p m
+
+-- the length that is told is that of the message
+pub told_length : (len : ℕ) (why : SendRefused) → TellsLengthOf len why → TellsLength len (Some (host_refused why))
+told_length len at_end.NotUp told = tt
+told_length len (at_end.TooLong n) told = told
+told_length len (at_end.Full need spare) told = tt
+
+-- ## Answers
+
+pub where_ok : {A E : Type 0} {r : Result (Unit {0}) E} → r ≡ Ok tt → OnOk r A → A
+where_ok {A} {E} is a = let P : Result (Unit {0}) E → Type 0 = λ x. OnOk x A in subst P is a
+
+pub where_err : {A E : Type 0} {r : Result (Unit {0}) E} {why : E} → r ≡ Err why → OnErr r A → A
+where_err {A} {E} is a = let P : Result (Unit {0}) E → Type 0 = λ x. OnErr x A in subst P is a
+
+pub of_err : {E : Type 0} {r : Result (Unit {0}) E} {why : E} (Q : E → Type 0) → r ≡ Err why → IfErr r Q → Q why
+of_err {E} Q is a = let P : Result (Unit {0}) E → Type 0 = λ x. IfErr x Q in subst P is a
 
 -- ## Commands that wait
 
@@ -86,10 +117,6 @@ waits_same {w = w} u live =
 
 pub linked : (ports : List Port) (h : ℕ) (p : Port) → port_at ports h ≡ Some p → has_link ports h ≡ is_up p.side.shdlc.phase
 linked ports h p at = rw at refl
-
-pub spare_at : (ports : List Port) (h : ℕ) (p : Port) → port_at ports h ≡ Some p
-    → option_map_or (λ (q : Port). spare q.side) (port_at ports h) 0 ≡ spare p.side
-spare_at ports h p at = rw at refl
 
 -- ## What is given
 
@@ -117,3 +144,21 @@ given_both h d e w live = sym (goes live ∙ alone h e (done h d w))
   where
     goes : (done h d w).cut ≡ false → all_done h (d ∷ e ∷ []) w ≡ all_done h (e ∷ []) (done h d w)
     goes q = rw q refl
+
+-- a message that was sent, and waits for its answer where it is a command
+both : (a b : Bool) → (a && b) ≡ true → a ≡ true
+both true b e = refl
+both false b e = cc
+
+pub given_so : (h pipe : ℕ) (message : List ℕ) (w : Work) (order : Bool) → order ≡ (pipe == 1 && is_command_message message)
+    → ordered_if order message (turn_at h (Give (pipe, message)) w) ≡ all_done h (sending h (pipe, message)) w
+given_so h pipe message w true is =
+    ap (λ (n : ℕ). ordered_if true message (turn_at h (Give (n, message)) w))
+    (eqb-true pipe 1 (both (pipe == 1) (is_command_message message) (sym is)))
+    ∙ given_order h pipe message w (sym is)
+given_so h pipe message w false is = given_other h pipe message w (sym is)
+
+-- an init begins behind its first command as before it
+pub begun_so : (h : ℕ) (i : Init) (w : Work) → w.cut ≡ false
+    → done h (GoesOn i) (all_done h (sending h (1, 3 ∷ [])) w) ≡ all_done h (GoesOn i ∷ Orders (3 ∷ []) ∷ []) w
+begun_so h i w live = ap (done h (GoesOn i)) (alone h (Orders (3 ∷ [])) w) ∙ given_both h (GoesOn i) (Orders (3 ∷ [])) w live

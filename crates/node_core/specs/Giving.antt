@@ -1,8 +1,10 @@
 -- What a host does by itself, and what is told where it doesn't.
-use Rattle.std.specs.Prelude.{◌≡◌, ℕ, Bool, false, List, ◌++◌, map, Option, Some, None, Result, Ok, Err}
+use Rattle.std.specs.Prelude.{◌≡◌, ℕ, Bool, true, false, List, ◌++◌, map, Option, Some, None, Result, Ok, Err}
 use Rattle.trace_model.specs.declared.entry.Entry.{Entry}
 use Rattle.trace_model.specs.declared.entry.NoCause.{NoCause}
 use Rattle.trace_model.specs.declared.entry.NoCause.TheVariants as no
+use Rattle.link_end.specs.declared.report.SendRefused.{SendRefused}
+use Rattle.link_end.specs.declared.report.SendRefused.TheVariants as at_end
 use Rattle.node_machine.specs.Parts.{Work}
 use Rattle.node_ends.specs.Holding.{kept_number}
 use Rattle.node_core.specs.declared.node.Node.{Node}
@@ -17,6 +19,17 @@ refusal_noted NotUp = no.NotUp
 refusal_noted Waiting = no.Waiting
 refusal_noted (TooLong len) = no.TooLong
 refusal_noted (Full need spare) = no.Full need spare
+
+-- why a host doesn't send a message, as the end of its link tells
+abbrev pub host_refused : SendRefused → HostRefused
+host_refused at_end.NotUp = NotUp
+host_refused (at_end.TooLong len) = TooLong len
+host_refused (at_end.Full need spare) = Full need spare
+
+-- a command on pipe 01 waits for its answer
+abbrev pub ordered_if : Bool → List ℕ → Work → Work
+ordered_if true message w = record w { core = record w.core { command = Some message } }
+ordered_if false message w = w
 
 -- why a call was refused, where it was
 abbrev pub refused_as : Result (Unit {0}) HostRefused → Option NoCause

@@ -4,6 +4,7 @@ use crate::node::Node;
 use crate::noting::note;
 use crate::running::Ran;
 use hci_tables::Command;
+use link_end::SendRefused;
 use node_deeds::{About, Deed, InitEnd, Unanswered, ordered_by};
 use pipe_table::PipeRow;
 use swp_base::Nv;
@@ -11,17 +12,17 @@ use trace_model::{End, Entry, Octets, Watch};
 
 impl<N: Nv + Drop> Node<N> {
     ghost use Rattle.node_core.specs.Running.{ran_so};
-    ghost use Rattle.std.specs.Prelude.{◌≡◌, ◌<◌, ℕ, true, false, ◌∷◌, [], map, length, IsTrue};
+    ghost use Rattle.std.specs.Prelude.{◌≡◌, ◌<◌, ℕ, true, false, List, ◌∷◌, [], map, length, IsTrue, IfErr, OnErr};
     ghost use Rattle.hcp_packet.specs.Packets.{IsSendable};
     ghost use Rattle.hci_tables.specs.Commands.{IsCommand};
     ghost use Rattle.gate_admin.specs.Decide.{ends_of};
     ghost use Rattle.link_laws.specs.machine.Machine.Turn.{Give, Release};
-    ghost use Rattle.node_machine.specs.Parts.{Core};
+    ghost use Rattle.node_machine.specs.Parts.{Core, Port};
     ghost use Rattle.node_machine.specs.Parts.Deed.{Asks, SaysOk, Drops};
     ghost use Rattle.node_deeds.specs.Shown.{about_shown, creation_of_row};
     ghost use Rattle.node_deeds.specs.Replies.{IsSoundAbout};
     ghost use Rattle.hci_tables.specs.declared.command.Command.TheVariants.{Create};
-    ghost use Rattle.node_ends.specs.Ends.{FewAreDue};
+    ghost use Rattle.node_ends.specs.Ends.{EndsStandFor, FewAreDue, TellsLengthOf, given_at};
     ghost use Rattle.node_machine.specs.Carrying.{turn_at, commit, notified, done, all_done, port_at, has_room_for, end_of_node};
     ghost use Rattle.node_core.specs.Nodes.{IsUsable, Carries, CarriesOut, CarriesUnseen, IsInSomeStep};
     ghost use Rattle.node_core.specs.Faults.{CountsFaults};
@@ -45,6 +46,42 @@ impl<N: Nv + Drop> Node<N> {
     }
 
     // A message, which isn't empty, goes to the host of this link, or from a host to the controller, on a pipe that isn't reserved.
+    //
+    // # Errors
+    //
+    // Why the end of the link refuses it. Nothing changes then.
+    pub(crate) fn try_send<W: Watch>(
+        &mut self,
+        host: u8,
+        pipe: u8,
+        message: &[u8],
+        watch: &mut W,
+    ) -> Result<(), SendRefused>
+        requires sendable { IsSendable (pipe, message.now) }
+        ensures carried { Carries W.noted W.is_short (self.old, watch.old) (self.new, watch.new) (turn_at host (Give (pipe, message.now))) }
+        ensures answer { (ports : List Port) → EndsStandFor self.old.ends ports → result ≡ given_at (pipe, message.now) (port_at ports host) }
+        ensures long { IfErr result (TellsLengthOf (length message.now)) }
+        ensures unchanged { OnErr result ((self.new ≡ self.old) × (watch.new ≡ watch.old)) }
+        ensures store { self.new.store ≡ self.old.store }
+        ensures number { self.new.number ≡ self.old.number }
+        ensures tasks { self.new.tasks ≡ self.old.tasks }
+    {
+        match self.ends.send(host, pipe, message) {
+            Ok(()) => {
+                let entry = Entry::Sent {
+                    at: self.end_at(host),
+                    session: 0,
+                    pid: pipe,
+                    message: Octets::new(self.alloc),
+                };
+                note(watch, entry, message);
+                Ok(())
+            }
+            Err(why) => Err(why),
+        }
+    }
+
+    // The same, where it doesn't matter whether the end of the link takes it.
     pub(crate) fn send<W: Watch>(&mut self, host: u8, pipe: u8, message: &[u8], watch: &mut W)
         requires sendable { IsSendable (pipe, message.now) }
         ensures carried { Carries W.noted W.is_short (self.old, watch.old) (self.new, watch.new) (turn_at host (Give (pipe, message.now))) }
@@ -52,15 +89,7 @@ impl<N: Nv + Drop> Node<N> {
         ensures number { self.new.number ≡ self.old.number }
         ensures tasks { self.new.tasks ≡ self.old.tasks }
     {
-        if self.ends.send(host, pipe, message) {
-            let entry = Entry::Sent {
-                at: self.end_at(host),
-                session: 0,
-                pid: pipe,
-                message: Octets::new(self.alloc),
-            };
-            note(watch, entry, message);
-        }
+        let _ = self.try_send(host, pipe, message, watch);
     }
 
     // A command for which there is room is committed: it is noted, and then written.

@@ -1,11 +1,13 @@
 //! What a host does by itself: it sends a message, or begins an init.
 ghost use Rattle.std.specs.Prelude.{◌≡◌, ◌≤◌, ◌==◌, ◌&&◌, length};
 ghost use Rattle.node_machine.specs.Controller.{is_command_message};
+ghost use Rattle.node_core.specs.Giving.{host_refused};
 
 use crate::node::Node;
 use arrayvec::ArrayVec;
 use hcp_packet::{MessageKind, read_header};
-use node_deeds::Init;
+use link_end::SendRefused;
+use node_deeds::{Init, ordered_by};
 use swp_base::Nv;
 use trace_model::Watch;
 
@@ -36,6 +38,17 @@ fn is_command(message: &[u8]) -> bool
     matches!(read_header(message), Ok((MessageKind::Command, _)))
 }
 
+// Why a host doesn't send a message that the end of its link refuses.
+fn refused_by(why: SendRefused) -> HostRefused
+    ensures { result ≡ host_refused why }
+{
+    match why {
+        SendRefused::NotUp => HostRefused::NotUp,
+        SendRefused::TooLong { len } => HostRefused::TooLong { len },
+        SendRefused::Full { need, spare } => HostRefused::Full { need, spare },
+    }
+}
+
 // The pipes that an init is to make.
 fn pipes_of(pipes: &[[u8; 3]]) -> ArrayVec<[u8; 3], 8>
     requires { length pipes.now ≤ 8 }
@@ -47,7 +60,7 @@ fn pipes_of(pipes: &[[u8; 3]]) -> ArrayVec<[u8; 3], 8>
 }
 
 impl<N: Nv + Drop> Node<N> {
-    ghost use Rattle.std.specs.Prelude.{◌≡◌, ◌≤◌, ◌==◌, ◌&&◌, ℕ, Bool, List, ◌∷◌, [], length, is_some, Some, option_map, IsTrue, OnOk, OnErr, IfErr};
+    ghost use Rattle.std.specs.Prelude.{◌≡◌, ◌≤◌, ◌==◌, ◌&&◌, ℕ, Bool, true, false, List, ◌∷◌, [], length, is_some, Some, IsTrue, OnOk, OnErr, IfErr};
     ghost use Rattle.trace_model.specs.declared.entry.Entry.{Entry as Noted};
     ghost use Rattle.hcp_packet.specs.Packets.{IsSendable};
     ghost use Rattle.link_laws.specs.machine.Machine.{Message, give_refusal};
@@ -59,7 +72,8 @@ impl<N: Nv + Drop> Node<N> {
     ghost use Rattle.node_machine.specs.world.World.{sending, beginning};
     ghost use Rattle.node_machine.specs.world.Lines.{if_waiting};
     ghost use Rattle.node_core.specs.Nodes.{IsInStep, Carries, CarriesUnseen};
-    ghost use Rattle.node_core.specs.Giving.{refusal_noted, refused_as, TellsLength};
+    ghost use Rattle.node_ends.specs.Ends.{EndsStandFor};
+    ghost use Rattle.node_core.specs.Giving.{refusal_noted, refused_as, ordered_if, TellsLength};
 
     // Whether one that has to wait for the last command on pipe 01 does so.
     fn has_to_wait(&self, waits: bool) -> bool
@@ -68,48 +82,55 @@ impl<N: Nv + Drop> Node<N> {
         waits && self.tasks.command.is_some()
     }
 
-    // Why a message of so many bytes isn't sent, where it isn't: one that has to wait is told of while a command on pipe 01 isn't answered.
-    fn refusal(&self, waits: bool, len: usize) -> Option<HostRefused>
-        requires live { IsTrue self.now.store.journal.live }
-        ensures why { (noted : List Noted) (short : Bool) (start : List Noted) (w : Work) (p : Port) (m : Message) → IsInStep self.now noted short start w
-            → port_at w.ports self.now.number ≡ Some p → length m.1 ≡ len
-            → option_map refusal_noted result ≡ if_waiting (waits && is_some w.core.command) (give_refusal p.side m) }
-        ensures long { TellsLength len result }
+    // Why a command that has to wait for another one isn't sent: where the end isn't up, that comes first.
+    fn why_waiting(&self) -> HostRefused
+        ensures why { (ports : List Port) (p : Port) (m : Message) → EndsStandFor self.now.ends ports → port_at ports self.now.number ≡ Some p
+            → Some (refusal_noted result) ≡ if_waiting true (give_refusal p.side m) }
+        ensures long { (len : ℕ) → TellsLength len (Some result) }
     {
-        let host = self.number;
-        if !self.ends.has_link(host) {
-            return Some(HostRefused::NotUp);
+        if self.ends.has_link(self.number) {
+            HostRefused::Waiting
+        } else {
+            HostRefused::NotUp
         }
-        if self.has_to_wait(waits) {
-            return Some(HostRefused::Waiting);
-        }
-        if len > 4096 {
-            let len = len.min(u32::MAX as usize) as u32;
-            return Some(HostRefused::TooLong { len });
-        }
-        let need = ((len + 31) / 32) as u16;
-        let spare = self.ends.spare(host);
-        if need > spare {
-            return Some(HostRefused::Full { need, spare });
-        }
-        None
     }
 
-    // A host sends a message, which isn't empty, as a command on pipe 01 or as any other one.
-    fn give<W: Watch>(&mut self, is_order: bool, pipe: u8, message: &[u8], watch: &mut W)
-        requires live { IsTrue self.old.store.journal.live }
-        requires order { is_order ≡ (pipe == 1 && is_command_message message.now) }
-        requires sendable { IsSendable (pipe, message.now) }
-        ensures given { Carries W.noted W.is_short (self.old, watch.old) (self.new, watch.new)
-            (begins_with self.old.number (sending self.old.number (pipe, message.now))) }
+    // A message was sent: where it is a command on pipe 01, it waits for the answer.
+    fn wait_for(&mut self, is_order: bool, message: &[u8])
+        ensures waits { CarriesUnseen self.old self.new (ordered_if is_order message.now) }
         ensures store { self.new.store ≡ self.old.store }
         ensures number { self.new.number ≡ self.old.number }
     {
-        let host = self.number;
         if is_order {
-            self.order(host, message, watch);
-        } else {
-            self.send(host, pipe, message, watch);
+            self.tasks.command = Some(ordered_by(message));
+        }
+    }
+
+    // A host sends a message, which isn't empty, as a command on pipe 01 or as any other one.
+    fn give<W: Watch>(
+        &mut self,
+        is_order: bool,
+        pipe: u8,
+        message: &[u8],
+        watch: &mut W,
+    ) -> Result<(), HostRefused>
+        requires order { is_order ≡ (pipe == 1 && is_command_message message.now) }
+        requires sendable { IsSendable (pipe, message.now) }
+        ensures refusal { (ports : List Port) (p : Port) → EndsStandFor self.old.ends ports → port_at ports self.old.number ≡ Some p
+            → refused_as result ≡ if_waiting false (give_refusal p.side (pipe, message.now)) }
+        ensures long { IfErr result (λ why. TellsLength (length message.now) (Some why)) }
+        ensures given { OnOk result (Carries W.noted W.is_short (self.old, watch.old) (self.new, watch.new)
+            (begins_with self.old.number (sending self.old.number (pipe, message.now)))) }
+        ensures unchanged { OnErr result ((self.new ≡ self.old) × (watch.new ≡ watch.old)) }
+        ensures store { self.new.store ≡ self.old.store }
+        ensures number { self.new.number ≡ self.old.number }
+    {
+        match self.try_send(self.number, pipe, message, watch) {
+            Ok(()) => {
+                self.wait_for(is_order, message);
+                Ok(())
+            }
+            Err(why) => Err(refused_by(why)),
         }
     }
 
@@ -139,11 +160,10 @@ impl<N: Nv + Drop> Node<N> {
         ensures number { self.new.number ≡ self.old.number }
     {
         let is_order = is_order(pipe, message);
-        if let Some(why) = self.refusal(is_order, message.len()) {
-            return Err(why);
+        if self.has_to_wait(is_order) {
+            return Err(self.why_waiting());
         }
-        self.give(is_order, pipe, message, watch);
-        Ok(())
+        self.give(is_order, pipe, message, watch)
     }
 
     // An init begins to run, with at most eight pipes.
@@ -185,12 +205,12 @@ impl<N: Nv + Drop> Node<N> {
         ensures store { self.new.store ≡ self.old.store }
         ensures number { self.new.number ≡ self.old.number }
     {
-        if let Some(why) = self.refusal(true, 1) {
-            return Err(why);
+        match self.give_step(1, &[3], watch) {
+            Ok(()) => {
+                self.run_init(identity, pipes);
+                Ok(())
+            }
+            Err(why) => Err(why),
         }
-        let host = self.number;
-        self.run_init(identity, pipes);
-        self.order(host, &[3], watch);
-        Ok(())
     }
 }

@@ -1,11 +1,19 @@
 -- What a node does to an end has nothing to do with the messages that came there and wait.
-use Rattle.std.proofs.Common.{◌≡◌, true, false, refl, sym, ◌∙◌}
-use Rattle.std.specs.Prelude.{Option, Some, None, Result, Ok, Err, is_none}
-use Rattle.link_laws.specs.machine.Machine.{LinkEnd as Machine, Message, Refused, turn, give_refusal, aside_refusal}
+use Rattle.std.proofs.Common.{◌≡◌, ℕ, Bool, true, false, cond, List, length, refl, sym, ap, ap₂, ◌∙◌, subst}
+use Rattle.std.specs.Prelude.{Option, Some, None, Result, Ok, Err, IfErr, OnErr, nat_lt, slice_set, slice_index_or}
+use Rattle.std.proofs.lemmas.List.{set-get_or}
+use Rattle.block_pool.specs.Pool.{PoolState}
+use Rattle.shdlc_core.specs.declared.answers.LinkState.{LinkState}
+use Rattle.shdlc_core.specs.declared.answers.LinkState.TheVariants.{Down, Waiting, Up}
+use Rattle.link_laws.specs.machine.Machine.{LinkEnd as Machine, Message, Refused, turn, give_refusal, aside_refusal, need, spare}
+use Rattle.link_laws.specs.machine.Machine.Refused.{TooLong, Full}
 use Rattle.link_laws.specs.machine.Machine.Turn.{Give, SetAside}
 use Rattle.link_end.specs.declared.report.SendRefused.{SendRefused}
+use Rattle.link_end.specs.declared.link.LinkEnd.{LinkEnd}
 use Rattle.link_end.specs.Reports.{by_refusal_told, give_told}
+use Rattle.node_ends.specs.declared.seat.Seat.{Seat}
 use Rattle.node_ends.specs.Holding.{without_got}
+use Rattle.node_ends.specs.Ends.{KeptEnds, TellsLengthOf}
 
 pub give_without : (m : Machine) (x : Message) → turn (without_got m) (Give x) ≡ without_got (turn m (Give x))
 give_without m x = by (give_refusal m x) refl
@@ -37,17 +45,38 @@ aside_got m = by (aside_refusal m) refl
 
 -- ## Answers
 
-taken_none : (o : Option Refused) → by_refusal_told o ≡ Ok tt → true ≡ is_none o
-taken_none None e = refl
-taken_none (Some why) e = cc
+-- the length that is told of a message that is too long is its own
+pub told_length : {r : Result (Unit {0}) SendRefused} (m : Machine) (x : Message) → r ≡ give_told m x → IfErr r (TellsLengthOf (length x.1))
+told_length {r} m x told =
+    let P : Result (Unit {0}) SendRefused → Type 0 = λ a. IfErr a (TellsLengthOf (length x.1)) in
+    subst P (sym told) (by m.shdlc.phase refl)
+  where
+    sized : (long full : Bool)
+        → IfErr (by_refusal_told (cond long (Some (TooLong (length x.1))) (cond full (Some (Full (need x.1) (spare m))) None))) (TellsLengthOf (length x.1))
+    sized true full = refl
+    sized false true = tt
+    sized false false = tt
 
-refused_some : (o : Option Refused) (why : SendRefused) → by_refusal_told o ≡ Err why → false ≡ is_none o
-refused_some None why e = cc
-refused_some (Some because) why e = refl
+    by : (p : LinkState) → m.shdlc.phase ≡ p → IfErr (give_told m x) (TellsLengthOf (length x.1))
+    by Down q = rw q tt
+    by Waiting q = rw q tt
+    by Up q = rw q (sized (nat_lt 4096 (length x.1)) (nat_lt (spare m) (need x.1)))
 
-pub told_taken : {r : Result (Unit {0}) SendRefused} (m : Machine) (x : Message) → r ≡ Ok tt → r ≡ give_told m x → true ≡ is_none (give_refusal m x)
-told_taken m x is told = taken_none (give_refusal m x) (sym told ∙ is)
+-- ## Refusals change nothing
 
-pub told_refused : {r : Result (Unit {0}) SendRefused} {why : SendRefused} (m : Machine) (x : Message) → r ≡ Err why → r ≡ give_told m x
-    → false ≡ is_none (give_refusal m x)
-told_refused {r} {why} m x is told = refused_some (give_refusal m x) why (sym told ∙ is)
+abbrev kept_ends : PoolState → List Seat → KeptEnds
+kept_ends pool seats = record { pool = pool; seats = seats }
+
+pub where_refused : {A B : Type 0} (r : Result (Unit {0}) SendRefused) → (A → B) → OnErr r A → OnErr r B
+where_refused (Ok done) f a = tt
+where_refused (Err why) f a = f a
+
+pub same_end : (old new : LinkEnd) → new.link ≡ old.link → new.deframer ≡ old.deframer → new.byte_link ≡ old.byte_link → new ≡ old
+same_end old new link deframer bytes =
+    ap₂ (λ l d. record new { link = l; deframer = d }) link deframer ∙ ap (λ b. record old { byte_link = b }) bytes
+
+-- an end that is written back as it was
+pub none_written : {old new : PoolState} {seats : List Seat} {shown : KeptEnds} (i : ℕ) (s t : Seat) → s ≡ slice_index_or seats i s → new ≡ old → t ≡ s
+    → kept_ends old seats ≡ shown → kept_ends new (slice_set seats i t) ≡ shown
+none_written {old} {new} {seats} i s t is pool same shown =
+    ap₂ kept_ends pool (ap (slice_set seats i) (same ∙ is) ∙ set-get_or seats i s) ∙ shown

@@ -1,6 +1,6 @@
 -- What is kept of the ends of a node, and for which ports of its machine it stands.
 use Rattle.std.specs.Prelude.{◌≡◌, ◌≢◌, ℕ, zero, suc, ◌+◌, ◌*◌, ◌==◌, Bool, true, false, if◌then◌else◌, List, [], ◌∷◌, length, take, ◌≤◌, is_none, Option}
-use Rattle.std.specs.Prelude.{◌&&◌, not, Some, None, option_map}
+use Rattle.std.specs.Prelude.{◌&&◌, not, Some, None, option_map, Result, Err}
 use Rattle.std.specs.List.{AllByRecursion, list_all}
 use Rattle.std.specs.Option.{option_map_or}
 use Rattle.block_pool.specs.Pool.{PoolState}
@@ -10,7 +10,9 @@ use Rattle.swp_lpdu.specs.Controls.{lpdu_of}
 use Rattle.swp_act.specs.declared.ActEvent.TheVariants.{Start as ActStart}
 use Rattle.link_end.specs.Roles.{MayStart}
 use Rattle.link_end.specs.declared.report.LinkReport.{LinkReport}
-use Rattle.link_end.specs.Reports.{reset_told}
+use Rattle.link_end.specs.declared.report.SendRefused.{SendRefused}
+use Rattle.link_end.specs.declared.report.SendRefused.TheVariants.{NotUp, TooLong, Full}
+use Rattle.link_end.specs.Reports.{give_told, reset_told}
 use Rattle.node_machine.specs.Parts.{Port}
 use Rattle.node_machine.specs.Carrying.{port_at}
 use Rattle.node_machine.specs.Node.{is_late, is_over}
@@ -69,6 +71,17 @@ place_in h (s ∷ seats) = if s.desk.host == h then Some 0 else option_map suc (
 -- an end, where there is one, takes a message for sending
 abbrev pub takes_at : Message → Option Port → Bool
 takes_at m port = option_map_or (λ (p : Port). is_none (give_refusal p.side m)) port false
+
+-- what is told of a message that is given for sending to an end, where there is one: one that isn't there isn't up
+abbrev pub given_at : Message → Option Port → Result (Unit {0}) SendRefused
+given_at m None = Err NotUp
+given_at m (Some p) = give_told p.side m
+
+-- a length that is told is this one; 4,294,967,295 stands for any greater number
+abbrev pub TellsLengthOf : ℕ → SendRefused → Type 0
+TellsLengthOf len NotUp = Unit {0}
+TellsLengthOf len (TooLong told) = told ≡ kept_number len
+TellsLengthOf len (Full need spare) = Unit {0}
 
 -- at most six control frames wait to be sent at an end, where there is one
 abbrev pub FewAreDue : Option Port → Type 0

@@ -8,7 +8,7 @@ use crate::new_seats::add_seats;
 use crate::places::place_of;
 use crate::seat::Seat;
 use block_pool::Pool;
-use link_end::{LinkReport, ResetRefused};
+use link_end::{LinkReport, ResetRefused, SendRefused};
 use node_deeds::Unanswered;
 use std::alloc::Global;
 use std::marker::Model;
@@ -36,7 +36,7 @@ impl Model for Ends {
 
 impl Ends {
     ghost use Rattle.node_ends.specs.Making.{AreAllDifferent, new_port};
-    ghost use Rattle.std.specs.Prelude.{IfOk, OnOk, MatchResult, None, map};
+    ghost use Rattle.std.specs.Prelude.{IfErr, IfOk, OnErr, OnOk, MatchResult, None, map};
     ghost use Rattle.link_laws.specs.machine.Machine.{whole_acked};
     ghost use Rattle.node_machine.specs.Node.{with_older, without_notice, reset_late, is_over_at, forgets};
     ghost use Rattle.node_ends.specs.Holding.{kept_number};
@@ -53,10 +53,9 @@ impl Ends {
     ghost use Rattle.node_deeds.specs.Cores.{IsSoundRow};
     ghost use Rattle.node_machine.specs.Parts.{Port};
     ghost use Rattle.std.specs.Option.{option_map_or};
-    ghost use Rattle.link_laws.specs.machine.Machine.{spare};
     ghost use Rattle.node_machine.specs.Controller.{has_link};
     ghost use Rattle.node_machine.specs.Carrying.{port_at, with_port, after_turn};
-    ghost use Rattle.node_ends.specs.Ends.{EndsStandFor, FewAreDue, IsHeldWhileOneWaits, held_at, takes_at, at_place, late_told};
+    ghost use Rattle.node_ends.specs.Ends.{EndsStandFor, FewAreDue, IsHeldWhileOneWaits, held_at, given_at, TellsLengthOf, at_place, late_told};
     ghost use Rattle.node_ends.specs.Inputs.{input_of_end, refusal_at, MayComeAt};
     ghost use Rattle.node_ends.specs.Ends.{has_sent, frame_at, HasNoneDue};
 
@@ -74,16 +73,22 @@ impl Ends {
     }
 
     /// A message, which isn't empty, is given to the end of the link with this host, to be sent on a pipe that isn't reserved.
-    /// Whether there is such an end and it takes the message.
-    pub fn send(&mut self, host: u8, pipe: u8, message: &[u8]) -> bool
+    ///
+    /// # Errors
+    ///
+    /// `NotUp` where there is no such end or it isn't up; `TooLong` where the message has more than 4,096 bytes, with 4,294,967,295 for any
+    /// greater number; `Full` where its blocks exceed what is spare; tested in this order. Nothing changes then.
+    pub fn send(&mut self, host: u8, pipe: u8, message: &[u8]) -> Result<(), SendRefused>
         requires sendable { IsSendable (pipe, message.now) }
         ensures stands { (ports : List Port) → EndsStandFor self.old ports
             → EndsStandFor self.new (with_port host (after_turn (Give (pipe, message.now))) ports) }
         ensures answer { (ports : List Port) → EndsStandFor self.old ports
-            → result ≡ takes_at (pipe, message.now) (port_at ports host) }
+            → result ≡ given_at (pipe, message.now) (port_at ports host) }
+        ensures long { IfErr result (TellsLengthOf (length message.now)) }
+        ensures unchanged { OnErr result (self.new ≡ self.old) }
     {
         let Some(i) = place_of(self.seats.as_slice(), host) else {
-            return false;
+            return Err(SendRefused::NotUp);
         };
         let seat = &mut self.seats[i];
         seat.send(&mut self.pool, pipe, message)
@@ -344,16 +349,6 @@ impl Ends {
             let seat = &mut self.seats[i];
             seat.forget();
         }
-    }
-
-    /// How many blocks the end of the link with this host has to spare for messages; 0 where there is no such end.
-    pub fn spare(&self, host: u8) -> u16
-        ensures { (ports : List Port) → EndsStandFor self.now ports → result ≡ option_map_or (λ (p : Port). spare p.side) (port_at ports host) 0 }
-    {
-        let Some(i) = place_of(self.seats.as_slice(), host) else {
-            return 0;
-        };
-        self.pool.spare(2 * i as u8)
     }
 
     /// Whether the link with this host is up.

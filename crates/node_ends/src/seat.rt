@@ -4,7 +4,7 @@ ghost use Rattle.node_ends.specs.Holding.{as_waiting, where_done};
 
 use crate::inputs::LinkInput;
 use block_pool::{Chain, Pool};
-use link_end::{LinkEnd, LinkReport, ResetRefused};
+use link_end::{LinkEnd, LinkReport, ResetRefused, SendRefused};
 use node_deeds::{About, Desk, Unanswered};
 use shdlc_core::LinkState;
 use swp_base::Control;
@@ -33,19 +33,19 @@ pub struct Seat {
 }
 
 impl Seat {
-    ghost use Rattle.std.specs.Prelude.{◌≡◌, ◌||◌, ◌&&◌, not, true, false, ◌≤◌, ◌<◌, ◌∷◌, [], ℕ, List, None, is_none, is_some, length, take, IfSome, IfNone};
+    ghost use Rattle.std.specs.Prelude.{◌≡◌, ◌||◌, ◌&&◌, not, true, false, ◌≤◌, ◌<◌, ◌∷◌, [], ℕ, List, None, is_some, length, take, IfSome, IfNone};
     ghost use Rattle.block_pool.specs.Pool.{PoolState};
     ghost use Rattle.hcp_packet.specs.Packets.{IsSendable};
-    ghost use Rattle.link_laws.specs.machine.Machine.{LinkEnd as Machine, turn, is_held, give_refusal, after_input, lpdu_input, report};
+    ghost use Rattle.link_laws.specs.machine.Machine.{LinkEnd as Machine, turn, is_held, after_input, lpdu_input, report};
     ghost use Rattle.swp_lpdu.specs.Controls.{control_of};
     ghost use Rattle.link_end.specs.Reports.{report_told};
     ghost use Rattle.link_laws.specs.sessions.Sessions.{is_up};
     ghost use Rattle.link_laws.specs.machine.Machine.Turn.{Give, Hold, SetAside, Release, FetchMessage};
     ghost use Rattle.link_laws.specs.machine.Machine.LinkInput.{Tick, Reset, Start, Stop};
     ghost use Rattle.link_laws.specs.machine.AtRest.{end_rests};
-    ghost use Rattle.std.specs.Prelude.{◌==◌, Some, Ok, MatchResult, OnOk};
+    ghost use Rattle.std.specs.Prelude.{◌==◌, Some, Ok, MatchResult, OnErr, OnOk};
     ghost use Rattle.link_end.specs.Roles.{MayStart};
-    ghost use Rattle.link_end.specs.Reports.{reset_told};
+    ghost use Rattle.link_end.specs.Reports.{give_told, reset_told};
     ghost use Rattle.swp_act.specs.declared.ActEvent.TheVariants.{Start as ActStart};
     ghost use Rattle.link_end.specs.Ends.{EndStandsFor, Accounts, controls_in};
     ghost use Rattle.node_ends.specs.Desks.{grown_older, kept_notice, has_hundred_ticks, asker_of, as_forgotten};
@@ -56,17 +56,24 @@ impl Seat {
     ghost use Rattle.node_ends.specs.Inputs.{input_of_end, refusal_at, MayComeAt};
     ghost use Rattle.node_ends.specs.Holding.{HoldsSeat, Moves, WaitsHeld, acked_since, acked_by_reset, ends_by, where_done};
 
-    /// A message, which isn't empty, is given to the end to send on a pipe that isn't reserved. Whether it is taken.
-    pub(crate) fn send(&mut self, pool: &mut Pool, pipe: u8, message: &[u8]) -> bool
+    /// A message, which isn't empty, is given to the end to send on a pipe that isn't reserved.
+    ///
+    /// # Errors
+    ///
+    /// Why the end refuses it, as the end of the link tells. Nothing changes then.
+    pub(crate) fn send(
+        &mut self,
+        pool: &mut Pool,
+        pipe: u8,
+        message: &[u8],
+    ) -> Result<(), SendRefused>
         requires stands { (m : Machine) × HoldsSeat pool.old self.old m }
         requires sendable { IsSendable (pipe, message.now) }
         ensures becomes { SeatBecomes pool.old pool.new self.old self.new (after_turn (Give (pipe, message.now))) }
-        ensures answer { (m : Machine) → HoldsSeat pool.old self.old m → result ≡ is_none (give_refusal m (pipe, message.now)) }
+        ensures answer { (m : Machine) → HoldsSeat pool.old self.old m → result ≡ give_told m (pipe, message.now) }
+        ensures unchanged { OnErr result ((pool.new ≡ pool.old) × (self.new ≡ self.old)) }
     {
-        match self.side.send(pool, pipe, message) {
-            Ok(()) => true,
-            Err(_why) => false,
-        }
+        self.side.send(pool, pipe, message)
     }
 
     /// The end is held, so that it takes no fragments, or let go.

@@ -1,31 +1,33 @@
-use Rattle.std.proofs.Common.{◌∷◌, [], not, refl, sym, ap, ◌∙◌, subst}
-use Rattle.std.specs.Prelude.{option_map}
+use Rattle.std.proofs.Common.{◌∷◌, [], not, sym, ap, ◌∙◌, subst}
+use Rattle.std.specs.Prelude.{Result}
 use Rattle.node_machine.specs.Parts.{Init, Work}
-use Rattle.node_machine.specs.Parts.Deed.{GoesOn, Orders}
-use Rattle.node_machine.specs.Carrying.{done}
+use Rattle.node_machine.specs.Carrying.{all_done}
+use Rattle.node_machine.specs.world.World.{sending}
 use Rattle.node_core.specs.declared.giving.HostRefused.{HostRefused}
 use Rattle.node_core.specs.Nodes.{IsInStep}
-use Rattle.node_core.specs.Giving.{refusal_noted}
-use Rattle.node_core.proofs.HavingTurns.{no_some}
-use Rattle.node_core.proofs.Sendings.{given_both}
+use Rattle.node_core.specs.Giving.{refused_as}
+use Rattle.node_core.proofs.Sendings.{begun_so, where_ok, where_err}
 use Rattle.node_core.proofs.node.Node.init_step.Goals as goal
 
-pub returns-in-Some-clause-refusal : goal.returns-in-Some-clause-refusal
-returns-in-Some-clause-refusal g c noted short start w p u at =
-    ap (option_map (λ (r : HostRefused). refusal_noted r)) (sym c.in-Some.is)
-    ∙ c.refusal.ensures.why noted short start w p (1, 3 ∷ []) u at refl
+pub returns-in-Ok-clause-refusal : goal.returns-in-Ok-clause-refusal
+returns-in-Ok-clause-refusal g c noted short start w p u at =
+    ap (λ (r : Result (Unit {0}) HostRefused). refused_as r) (sym c.in-Ok.is) ∙ c.give_step.ensures.refusal noted short start w p u at
 
-pub returns-clause-refusal : goal.returns-clause-refusal
-returns-clause-refusal g c noted short start w p u at =
-    ap (option_map (λ (r : HostRefused). refusal_noted r)) (sym (no_some c.refusal.result c.in_default.not-Some))
-    ∙ c.refusal.ensures.why noted short start w p (1, 3 ∷ []) u at refl
+pub returns-in-Err-clause-refusal : goal.returns-in-Err-clause-refusal
+returns-in-Err-clause-refusal g c noted short start w p u at =
+    ap (λ (r : Result (Unit {0}) HostRefused). refused_as r) (sym c.in-Err.is) ∙ c.give_step.ensures.refusal noted short start w p u at
 
-pub returns-clause-begun : goal.returns-clause-begun
-returns-clause-begun g c start w u =
+pub returns-in-Ok-clause-begun : goal.returns-in-Ok-clause-begun
+returns-in-Ok-clause-begun g c start w u =
     let h = c.args.self.now.number in
-    let o = c.order in
+    let t = c.give_step in
+    let noted = g.W.Watch.noted t.new.watch in
+    let short = g.W.Watch.is_short t.new.watch in
     let i : Init = record { identity = c.args.identity.now; pipes = c.args.pipes.now; answered = 0 } in
-    let first : Work = done h (GoesOn i) w in
-    let run = c.run_init.ensures.runs_it h (g.W.Watch.noted c.args.watch.now) (g.W.Watch.is_short c.args.watch.now) start w u in
-    let P : Work → Type 0 = λ v. IsInStep o.new.self (g.W.Watch.noted o.new.watch) (g.W.Watch.is_short o.new.watch) start v in
-    subst P (given_both h (GoesOn i) (Orders (3 ∷ [])) w (u.power ∙ ap not c.requires.live)) (o.ensures.carried start first run)
+    let first : Work = all_done h (sending h (1, 3 ∷ [])) w in
+    let given = where_ok c.in-Ok.is t.ensures.given in
+    let P : Work → Type 0 = λ v. IsInStep c.run_init.new.self noted short start v in
+    subst P (begun_so h i w (u.power ∙ ap not c.requires.live)) (c.run_init.ensures.runs_it h noted short start first (given start w u))
+
+pub returns-in-Err-clause-unchanged : goal.returns-in-Err-clause-unchanged
+returns-in-Err-clause-unchanged g c = where_err c.in-Err.is c.give_step.ensures.unchanged
