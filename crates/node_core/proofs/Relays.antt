@@ -1,14 +1,13 @@
 -- A message that is relayed: it has its turn and is sent in one.
 use Rattle.std.proofs.Common.{◌≡◌, ℕ, Bool, true, false, List, [], ◌∷◌, ◌++◌, map, refl, sym, ap, ◌∙◌, subst, append-nil}
-use Rattle.std.specs.Prelude.{Option, Some, None, is_none, ◌==◌}
+use Rattle.std.specs.Prelude.{◌==◌}
 use Rattle.std.specs.Option.{option_map_or}
-use Rattle.std.proofs.lemmas.Bool.{true≢false}
 use Rattle.trace_model.specs.declared.entry.Entry.{Entry}
 use Rattle.trace_model.specs.declared.entry.Entry.TheVariants as entry
 use Rattle.trace_model.specs.declared.line.End.{End}
-use Rattle.link_laws.specs.machine.Machine.{Message, Refused, give_refusal}
+use Rattle.link_laws.specs.machine.Machine.{Message}
 use Rattle.link_laws.specs.machine.Machine.Turn.{Give, FetchMessage}
-use Rattle.node_machine.specs.Parts.{Core, Port, Work, Deed as DeedOf}
+use Rattle.node_machine.specs.Parts.{Port, Work, Deed as DeedOf}
 use Rattle.node_machine.specs.Parts.Deed.{Sends}
 use Rattle.node_machine.specs.Carrying.{port_at, noted_of, end_of_node, with_port, after_turn, turn_at, with_desk, done, all_done}
 use Rattle.node_machine.specs.Turns.{handles}

@@ -1,4 +1,4 @@
-use Rattle.std.proofs.Common.{◌≡◌, length, sym, ap, ◌∙◌, subst}
+use Rattle.std.proofs.Common.{length, sym, ap, ◌∙◌, subst}
 use Rattle.std.specs.Prelude.{Some, Err}
 use Rattle.link_laws.specs.machine.Machine.{Message}
 use Rattle.link_laws.specs.machine.Machine.Turn.{Give}
