@@ -5,10 +5,11 @@ use Rattle.std.proofs.Common.{arith, map}
 use Rattle.std.specs.Prelude.{replicate}
 use Rattle.std.specs.List.{AllByRecursion}
 use Rattle.std.proofs.lemmas.Bool.{eqb-true, eq-eqb}
-use Rattle.node_laws.proofs.Words.{AcksAtMost, Activates, AreDifferent, AreHosts, ArePlayable, End, FollowsNodes, Gives, Good, Happening, Header, IsLine, Line}
-use Rattle.node_laws.proofs.Words.{Link, LinkEvent, NodeHistory, NodeWorld, Occurrence, Reached, Resets, Site, Takes, after_link_events, all_happen, by_test}
-use Rattle.node_laws.proofs.Words.{can_happen, core_of, ends_in_order, ends_take_all, frames_at, from_start, happenings, hosts_in, link_events_in, new_line}
-use Rattle.node_laws.proofs.Words.{new_site, new_world, occurrences_in, reached, site_at, world_behind, world_step}
+use Rattle.node_laws.proofs.Words.{AcksAtMost, Activates, AreDifferent, AreHosts, ArePlayable, End, FollowsNodes, Gives, GoesOnLink, Good, Happening, Header}
+use Rattle.node_laws.proofs.Words.{IsLine, Line, Link, LinkEvent, NodeHistory, NodeWorld, Occurrence, Reached, Resets, Site, Takes, after_link_events}
+use Rattle.node_laws.proofs.Words.{all_happen, by_test, can_happen, core_of, end_takes_all, ends_events, ends_in_order, ends_take_all, events_on, frames_at}
+use Rattle.node_laws.proofs.Words.{from_start, happenings, hosts_in, link_events_in, new_line, new_site, new_world, occurrences_in, reached, round_events}
+use Rattle.node_laws.proofs.Words.{rounds_of_world, site_at, world_after_round, world_behind, world_step}
 use Rattle.trace_model.specs.declared.line.Line.TheVariants as line
 use Rattle.node_machine.specs.world.World.Happening.{Ticks as TimePassing}
 use Rattle.node_laws.proofs.telling.Nodes.{swapped}
@@ -20,9 +21,6 @@ use Rattle.node_laws.proofs.order.Lines.{history_so}
 use Rattle.node_laws.proofs.order.Strangers.{step_kept}
 use Rattle.node_laws.proofs.telling.Events.{after-append}
 use Rattle.node_laws.specs.acked.InTurn.{CountsWithin, IsAckedWithin}
-use Rattle.node_machine.specs.world.Rounds.{end_takes_all, world_after_round, rounds_of_world}
-use Rattle.node_laws.specs.rounds.LinkEvents.{GoesOnLink}
-use Rattle.node_laws.specs.rounds.RoundEvents.{events_on, ends_events, round_events}
 use Rattle.node_laws.specs.acked.AckedRounds.{HostAcksAtMost, AreAckedWithin, amid_round, Leg, world_after_legs, MayCome, AllMayCome}
 use Rattle.node_laws.specs.acked.AckedRounds.Leg.{Comes, Rounds}
 use Rattle.node_laws.proofs.acked.InTurn.{in_turn_acks, front_acks, whole_few}

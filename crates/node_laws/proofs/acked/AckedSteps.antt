@@ -3,14 +3,14 @@ use Rattle.std.proofs.Common.{◌≡◌, ℕ, ◌+◌, ◌≤◌, ◌==◌, Bool
 use Rattle.std.specs.Prelude.{replicate}
 use Rattle.std.specs.List.{AllByRecursion}
 use Rattle.node_laws.proofs.Words.{AcksAtMost, Activates, AllAllowed, AllAtController, AllAtHost, AreDifferent, AreSendableTurns, Arms, AsksReset, AtController}
-use Rattle.node_laws.proofs.Words.{AtEnd, AtHost, Boots, CanCome, Comes, CutOff, Deed, End, Ending, Gives, Happening, Inits, IsCut, IsEvent, Link, LinkEvent}
-use Rattle.node_laws.proofs.Words.{Lose, Loses, Loss, Memory, NextFrame, NoInput, NodeWorld, NumberedEnd, Resets, Running, Site, Start, Starts, Step, Takes}
-use Rattle.node_laws.proofs.Words.{Turn, Work, after_host, after_planned, beginning, begins_with, boot_found, boot_writes, boot_written, boots, by_boot}
+use Rattle.node_laws.proofs.Words.{AtEnd, AtHost, Boots, CanCome, Comes, CutOff, Deed, End, Ending, Gives, GoesOnLink, Happening, Inits, IsCut, IsEvent, Link}
+use Rattle.node_laws.proofs.Words.{LinkEvent, Lose, Loses, Loss, Memory, NextFrame, NoInput, NodeWorld, NumberedEnd, Resets, Running, Site, Start, Starts, Step}
+use Rattle.node_laws.proofs.Words.{Takes, Turn, Work, after_host, after_planned, beginning, begins_with, boot_found, boot_writes, boot_written, boots, by_boot}
 use Rattle.node_laws.proofs.Words.{by_coming, by_controller, by_host, by_loss, by_memory, by_power, by_running, by_test, changed_if, comes_at, comes_to}
 use Rattle.node_laws.proofs.Words.{controller_does, controller_work, counts, end_c, end_h, ending_of, ends_in_order, ends_take_all, exchanged, frame_lost}
 use Rattle.node_laws.proofs.Words.{frames_at, happens, host_cut, host_does, host_work, link_after_controller, link_events_in, link_to, loses_power_at}
-use Rattle.node_laws.proofs.Words.{memory_at, near_end_in, new_world, sending, site_at, site_lost, steps, turns_at, with_memory, with_node, with_site, work_of}
-use Rattle.node_laws.proofs.Words.{world_step}
+use Rattle.node_laws.proofs.Words.{memory_at, near_end_in, new_world, rounds_of_world, sending, site_at, site_lost, steps, turns_at, with_memory, with_node}
+use Rattle.node_laws.proofs.Words.{with_site, work_of, world_step}
 use Rattle.node_machine.specs.world.World.Happening.{Ticks as TimePassing}
 use Rattle.node_laws.proofs.telling.Worlds.{site_is}
 use Rattle.node_laws.proofs.links.Deeds.{AreFine}
@@ -21,11 +21,9 @@ use Rattle.node_laws.proofs.links.Worlds.{fine_clean, ports_fine, turns_fine, ma
 use Rattle.node_laws.proofs.links.Playing.{MayHappen, plain_reach, sending_fine, starts_fine, starts_then}
 use Rattle.node_laws.proofs.order.Strangers.{step_kept}
 use Rattle.node_laws.specs.acked.InTurn.{CountsFit, IsAckedWithin, TakesNoFrame}
-use Rattle.node_laws.specs.rounds.LinkEvents.{GoesOnLink}
 use Rattle.node_laws.specs.acked.AckedRounds.{HostAcksAtMost, AreAckedWithin, Leg, AllMayCome, amid_round, frames_taken, rounds_gone}
 use Rattle.node_laws.specs.acked.AckedRounds.{taken_in, world_after_legs}
 use Rattle.node_laws.specs.acked.AckedRounds.Leg.{Comes as LegComes, Rounds}
-use Rattle.node_machine.specs.world.Rounds.{rounds_of_world}
 use Rattle.node_laws.proofs.acked.InTurn.{near_acks, far_acks, none_acks}
 use Rattle.node_laws.proofs.rounds.Allowing.{takes_allowed, ticks_allowed}
 use Rattle.node_laws.proofs.rounds.LinkEvents.{takes_go, ticks_go}

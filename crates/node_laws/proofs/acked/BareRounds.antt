@@ -3,11 +3,10 @@ use Rattle.std.proofs.Common.{◌≡◌, ℕ, zero, suc, ◌*◌, List, [], ◌�
 use Rattle.std.specs.Prelude.{replicate}
 use Rattle.std.proofs.lemmas.List.{map-append}
 use Rattle.node_laws.proofs.Words.{AcksAtMost, AllAllowed, AllAtController, AllAtHost, AreTakenInTurn, Controller, Good, Host, Link, LinkEvent, Reached}
-use Rattle.node_laws.proofs.Words.{after_link_events, core_of, end_of, from_start, reached}
+use Rattle.node_laws.proofs.Words.{after_link_events, core_of, end_of, event_of, from_start, link_after_all, reached}
 use Rattle.link_laws.specs.messages.Links.{IsStart}
 use Rattle.history.specs.Histories.{Cause}
 use Rattle.history.specs.Histories.Cause.{Taken, Ticked}
-use Rattle.history.specs.Steps.{event_of, link_after_all}
 use Rattle.node_laws.specs.rounds.BareRounds.{causes_of_round, link_after_round, causes_of_rounds}
 use Rattle.node_laws.proofs.acked.InTurn.{good_after, front_acks}
 use Rattle.node_laws.proofs.rounds.BareRounds.{after_causes, bare_round_allowed}

@@ -3,16 +3,14 @@ use Rattle.std.proofs.Common.{◌≡◌, ℕ, zero, suc, ◌==◌, ◌&&◌, Boo
 use Rattle.std.proofs.Common.{refl, ap, sym, subst, ◌∙◌, length, append_assoc}
 use Rattle.std.specs.Prelude.{replicate}
 use Rattle.node_laws.proofs.Words.{AllAtController, AllAtHost, AreDifferent, AreTakenInTurn, AtController, AtHost, End, Link, LinkEvent, NextFrame, Node}
-use Rattle.node_laws.proofs.Words.{NodeWorld, Site, Takes, all_aged, by_option, by_test, can_happen, controller_ticks, end_c, end_h, ends_in_order}
-use Rattle.node_laws.proofs.Words.{ends_take_all, exchanged, frames_at, happenings, hosts_in, input_of, is_waiting, link_events_in, link_to, site_at}
-use Rattle.node_laws.proofs.Words.{world_step}
+use Rattle.node_laws.proofs.Words.{NodeWorld, Site, Takes, all_aged, by_option, by_test, can_happen, controller_takes, controller_ticks, end_c, end_h}
+use Rattle.node_laws.proofs.Words.{end_takes_all, ends_events, ends_in_order, ends_take_all, events_on, exchanged, frames_at, happenings, hosts_in, input_of}
+use Rattle.node_laws.proofs.Words.{is_waiting, link_events_in, link_to, round_events, site_at, site_takes, ticks_on, world_step}
 use Rattle.trace_model.specs.declared.line.Line.TheVariants as line
 use Rattle.node_machine.specs.world.World.Happening.{Ticks as TimePassing}
 use Rattle.node_laws.proofs.telling.Nodes.{site_host}
 use Rattle.node_laws.specs.acked.InTurn.{TakeNoFrames}
-use Rattle.node_machine.specs.world.Rounds.{end_takes_all}
-use Rattle.node_laws.specs.rounds.LinkEvents.{controller_takes, site_takes, tick_so, ticks_on, on_site}
-use Rattle.node_laws.specs.rounds.RoundEvents.{events_on, ends_events, round_events}
+use Rattle.node_laws.specs.rounds.LinkEvents.{tick_so, on_site}
 use Rattle.node_laws.proofs.rounds.Ends.{ends_of, order_is, ends-append, AreOthers, Split, split, events-append}
 
 -- ## One frame

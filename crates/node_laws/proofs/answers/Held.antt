@@ -1,14 +1,11 @@
 -- A message that is held for room is answered once there is room.
 use Rattle.std.proofs.Common.{◌≡◌, refl, Bool, true, false, [], ◌∷◌}
 use Rattle.std.specs.List.{filter}
-use Rattle.trace_model.specs.declared.entry.Entry.{Entry}
+use Rattle.node_laws.proofs.Words.{Answered, Entry, end_c, node_entries}
 use Rattle.trace_model.specs.declared.entry.Entry.TheVariants as entry
 use Rattle.journal_laws.specs.Records.{found_from}
 use Rattle.gate_admin.specs.View.{hosts_where}
 use Rattle.pipe_table.specs.PipeRows.{lowest_free}
-use Rattle.node_machine.specs.world.World.{end_c}
-use Rattle.node_machine.specs.world.NodeHistories.{node_entries}
-use Rattle.node_laws.specs.answers.Answered.{Answered}
 use Rattle.node_laws.proofs.answers.Walks.{answered, all_in_turn, history_of_lines}
 use Rattle.node_laws.proofs.answers.Schedules.{held_lines}
 

@@ -3,21 +3,14 @@ use Rattle.std.proofs.Common.{◌≡◌, ℕ, Bool, true, false, cond, eqb, List
 use Rattle.std.specs.Prelude.{Option, Some, None, Result, Ok, Err, is_some}
 use Rattle.std.specs.Option.{option_map_or}
 use Rattle.std.proofs.lemmas.Bool.{ne_eqb}
-use Rattle.hcp_packet.specs.declared.MessageKind.{MessageKind}
+use Rattle.node_laws.proofs.Words.{Deed, Message, MessageFault, MessageKind, NodeView, OwnView, PipeRow, body_in, by_test, controller_rows, deeds_far}
+use Rattle.node_laws.proofs.Words.{first_row, gate_of_pipe, header_of, host_deeds, instruction_in, is_gate, is_host, pipe_at, pipe_named_in}
 use Rattle.hcp_packet.specs.declared.MessageKind.TheVariants.{Command as IsCommand, Event as IsEvent, Response as IsResponse}
-use Rattle.hcp_packet.specs.declared.MessageFault.{MessageFault}
-use Rattle.hcp_packet.specs.MessageHeader.{header_of}
-use Rattle.pipe_table.specs.declared.row.PipeRow.{PipeRow}
-use Rattle.pipe_table.specs.PipeRows.{pipe_at}
-use Rattle.hci_tables.specs.Commands.{is_host}
-use Rattle.gate_answers.specs.Answers.{instruction_in, body_in}
-use Rattle.link_laws.specs.machine.Machine.{Message}
-use Rattle.node_machine.specs.Parts.{Deed, OwnView, EndView, NodeView}
-use Rattle.node_machine.specs.HostReplies.{is_welcome, pipe_named_in, is_gate, gate_of_pipe, host_deeds}
+use Rattle.node_machine.specs.Parts.{EndView}
+use Rattle.node_machine.specs.HostReplies.{is_welcome}
 use Rattle.node_machine.specs.Turns.{deeds_for}
-use Rattle.node_machine.proofs.Walks.{deeds_near, deeds_far}
-use Rattle.node_laws.specs.answers.Rows.{first_row, controller_rows, host_rows, answer_rows}
-use Rattle.node_laws.proofs.Cases.{by_test}
+use Rattle.node_machine.proofs.Walks.{deeds_near}
+use Rattle.node_laws.specs.answers.Rows.{host_rows, answer_rows}
 use Rattle.node_laws.proofs.answers.Rows.{header_is, controller_by_rows}
 
 -- two bytes or more aren't one

@@ -6,21 +6,14 @@ use Rattle.std.specs.List.{AllByRecursion, list_any}
 use Rattle.std.specs.Option.{option_map_or}
 use Rattle.std.proofs.lemmas.Bool.{and_parts, eqb-true, not-true}
 use Rattle.std.proofs.lemmas.List.Sums.{fold-append}
-use Rattle.trace_model.specs.declared.entry.Entry.{Entry}
+use Rattle.node_laws.proofs.Words.{AreDue, AreInTurn, AreReset, AtEachEntry, AtEachOccurrence, End, Entry, IsHeldFor, IsReplied, Message, Moment, NodeHistory}
+use Rattle.node_laws.proofs.Words.{NodesHearFirst, Occurrence, TurnsAscend, by_test, down_in, due, ends_in, entries_in, is_done, is_left_short, is_reset_down}
+use Rattle.node_laws.proofs.Words.{is_reset_due, node_entries, node_of, noted_of_deeds, occurrences_in, oldest, same_end, through, unhandled_after}
+use Rattle.node_laws.proofs.Words.{unhandled_in}
 use Rattle.trace_model.specs.declared.entry.Entry.TheVariants as entry
-use Rattle.trace_model.specs.declared.line.End.{End}
-use Rattle.link_laws.specs.machine.Machine.{Message, oldest}
-use Rattle.history.specs.Filters.{same_end}
-use Rattle.node_machine.specs.world.World.{node_of}
-use Rattle.node_machine.specs.world.Lines.{Occurrence}
-use Rattle.node_machine.specs.world.NodeHistories.{NodeHistory, entries_in, node_entries, occurrences_in}
-use Rattle.node_machine.specs.world.NodeLegal.{AreInTurn}
-use Rattle.node_laws.proofs.Cases.{by_test}
 use Rattle.node_laws.proofs.turns.Queues.{Becomes, Front, Goes, all_left, doing, front_goes}
-use Rattle.node_laws.specs.answers.Answered.{AreDone, AreDue, AreLeftShort, AreReset, IsHeldFor, IsReplied, ends_in, is_done, is_left_short, through}
-use Rattle.node_laws.specs.answers.Moments.{AtEachEntry, AtEachOccurrence, Moment, noted_of_deeds, unhandled_after, unhandled_in}
-use Rattle.node_laws.specs.answers.Order.{HearsFirst, NodesHearFirst, TurnsAscend, answerer, hears}
-use Rattle.node_laws.specs.answers.Unasked.{down_in, due, is_reset_due, is_reset_down}
+use Rattle.node_laws.specs.answers.Answered.{AreDone, AreLeftShort}
+use Rattle.node_laws.specs.answers.Order.{HearsFirst, answerer, hears}
 use Rattle.node_laws.proofs.answers.Rising.{rise_ascends}
 use Rattle.node_laws.proofs.answers.Splits.{same_at_each, at_events, same_at_events, at_entries, same_at_entries, first_or, rest_of}
 use Rattle.node_laws.proofs.answers.Walks.{answers_found, answers_wanted, found, held_found, held_wanted, turn_found, turn_wanted, wanted}

@@ -3,15 +3,11 @@ use Rattle.std.proofs.Common.{◌≡◌, refl, ◌==◌, Bool, true, false, List
 use Rattle.std.specs.Prelude.{not, ◌&&◌}
 use Rattle.std.specs.List.{filter}
 use Rattle.swp_base.specs.declared.link_terms.Cause.TheVariants as cause
-use Rattle.trace_model.specs.declared.entry.Entry.{Entry}
+use Rattle.node_laws.proofs.Words.{Answered, Entry, NodeHistory, end_c, end_h, node_entries, same_bytes}
 use Rattle.trace_model.specs.declared.entry.Entry.TheVariants as entry
 use Rattle.journal_laws.specs.Records.{found_from}
 use Rattle.gate_admin.specs.View.{hosts_where}
 use Rattle.pipe_table.specs.PipeRows.{lowest_free}
-use Rattle.history.specs.Damage.{same_bytes}
-use Rattle.node_machine.specs.world.World.{end_c, end_h}
-use Rattle.node_machine.specs.world.NodeHistories.{NodeHistory, node_entries}
-use Rattle.node_laws.specs.answers.Answered.{Answered}
 use Rattle.node_laws.proofs.answers.Walks.{answered, all_in_turn, history_of_lines}
 use Rattle.node_laws.proofs.answers.Schedules.{notice_late_lines, deletion_late_lines, forgotten_lines, asked_reset_lines, cut_while_asked_lines}
 use Rattle.node_laws.proofs.answers.Schedules.{host_held_lines}

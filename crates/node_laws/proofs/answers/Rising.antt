@@ -5,12 +5,8 @@ use Rattle.std.specs.List.{AllByRecursion, cons_option, filter_map}
 use Rattle.std.specs.Option.{option_map_or}
 use Rattle.std.proofs.lemmas.Bool.{and_parts, eqb-true}
 use Rattle.std.proofs.lemmas.Bool.Decides.{nat_tests}
-use Rattle.trace_model.specs.declared.entry.Entry.{Entry}
+use Rattle.node_laws.proofs.Words.{End, Entry, IsAscending, by_test, node_of, turn_link}
 use Rattle.trace_model.specs.declared.entry.Entry.TheVariants as entry
-use Rattle.trace_model.specs.declared.line.End.{End}
-use Rattle.node_machine.specs.world.World.{node_of}
-use Rattle.node_laws.specs.answers.Order.{turn_link, IsAscending}
-use Rattle.node_laws.proofs.Cases.{by_test}
 
 -- the end at which a message has its turn, or is held
 abbrev turn_end : Entry → Option End

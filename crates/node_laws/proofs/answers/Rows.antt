@@ -4,26 +4,14 @@ use Rattle.std.specs.Prelude.{Option, Some, None, Result, Ok, Err}
 use Rattle.std.specs.Option.{option_map_or}
 use Rattle.std.proofs.lemmas.Bool.{cond_both, eqb-true, true≢false}
 use mathlib.Core.Bool.{and-false}
-use Rattle.hcp_packet.specs.declared.MessageKind.{MessageKind}
+use Rattle.node_laws.proofs.Words.{About, Decision, Drops, Message, MessageFault, MessageKind, NodeView, Response, Sends, SetOpened, Waits, answers, body_in}
+use Rattle.node_laws.proofs.Words.{by_option, by_test, carried_out, closing, commits, controller_deeds, controller_rows, decided, decision_deeds}
+use Rattle.node_laws.proofs.Words.{deeds_by_relay, far_end, first_of, first_row, gate_deeds, goes_through, header_of, instruction_in, is_opened, kind_deeds}
+use Rattle.node_laws.proofs.Words.{opening, others_opened, own_deeds, own_gate, relay_deeds, relayed_to, served_at, tests_of_pipe, unless_asking, unrelayed}
 use Rattle.hcp_packet.specs.declared.MessageKind.TheVariants.{Command as IsCommand, Event as IsEvent, Response as IsResponse}
-use Rattle.hcp_packet.specs.declared.MessageFault.{MessageFault}
-use Rattle.hcp_packet.specs.MessageHeader.{header_of}
-use Rattle.hci_tables.specs.Tables.{is_opened}
-use Rattle.hci_tables.specs.declared.command.Command.TheVariants.{SetOpened}
-use Rattle.gate_answers.specs.declared.response.Response.{Response}
 use Rattle.gate_answers.specs.declared.response.Response.TheVariants as response
-use Rattle.gate_answers.specs.Answers.{first_of, instruction_in, body_in}
-use Rattle.gate_admin.specs.declared.decision.Decision.{Decision}
-use Rattle.gate_admin.specs.Decide.{answers, commits, unless_refused, tests_of_pipe, far_end, others_opened, opening, closing, administration}
-use Rattle.gate_admin.specs.Decide.{carried_out, decided}
-use Rattle.link_laws.specs.machine.Machine.{Message}
-use Rattle.node_machine.specs.Parts.{About, NodeView}
-use Rattle.node_machine.specs.Parts.About.{Waits}
-use Rattle.node_machine.specs.Parts.Deed.{Sends, Drops}
-use Rattle.node_machine.specs.Controller.{relayed_to, unrelayed, unless_asking, kind_deeds, own_deeds, relay_deeds, deeds_by_relay, controller_deeds}
-use Rattle.node_machine.specs.Controller.{decision_deeds, gate_deeds, own_gate, goes_through, served_at}
-use Rattle.node_laws.specs.answers.Rows.{first_row, is_order, far_host, is_relayed, decides, controller_rows}
-use Rattle.node_laws.proofs.Cases.{by_option, by_test}
+use Rattle.gate_admin.specs.Decide.{unless_refused, administration}
+use Rattle.node_laws.specs.answers.Rows.{is_order, far_host, is_relayed, decides}
 
 -- the instruction of a header is the one of its message
 pub header_is : (message : List ℕ) (k : MessageKind) (n : ℕ) → header_of message ≡ Ok (k, n) → n ≡ instruction_in message

@@ -5,31 +5,20 @@ use Rattle.std.specs.Prelude.{Option, Some, None, map, is_none}
 use Rattle.std.specs.List.{AllByRecursion}
 use Rattle.std.specs.Option.{option_map_or}
 use Rattle.std.proofs.lemmas.Bool.{cond_both, and_parts, true≢false}
-use Rattle.trace_model.specs.declared.entry.Entry.TheVariants.{InitSame, InitMade, InitFailed}
-use Rattle.hci_tables.specs.declared.command.Command.{Command}
-use Rattle.hci_tables.specs.declared.command.Command.TheVariants.{Create, Delete, Clear, SetOpened, Set}
-use Rattle.hci_tables.specs.Commands.{is_command}
-use Rattle.hci_tables.specs.Tables.{is_opened}
+use Rattle.node_laws.proofs.Words.{Answer, Ask, AsksAsAllowed, Clear, Command, Commit, Commits, Create, Creation, Decision, Deed, Delete, Ends, Hears, Init}
+use Rattle.node_laws.proofs.Words.{InitFailed, InitMade, InitSame, Message, NodeView, OwnView, Sends, Set, SetOpened, Tells, accepts, agreed, answer_of}
+use Rattle.node_laws.proofs.Words.{answers, body_in, by_option, by_test, carried_out, closing, commit_deeds, commits, controller_rows, decided_as_allowed}
+use Rattle.node_laws.proofs.Words.{deeds_far, end_of_number, far_end, first_of, first_row, has, hosts_where, init_deeds, instruction_in, is_command}
+use Rattle.node_laws.proofs.Words.{is_command_message, is_opened, learned, learns, link_deeds, link_served, opening, orders_of, others_opened, param_in}
+use Rattle.node_laws.proofs.Words.{pipe_named_in, tests_of_pipe}
 use Rattle.gate_answers.specs.declared.response.Response.TheVariants as response
-use Rattle.gate_answers.specs.Answers.{answer_of, first_of, instruction_in, body_in, param_in}
-use Rattle.gate_admin.specs.declared.decision.Decision.{Decision}
-use Rattle.gate_admin.specs.declared.decision.Decision.TheVariants.{Answer, Commit, Ask}
-use Rattle.gate_admin.specs.View.{has, hosts_where}
-use Rattle.gate_admin.specs.Decide.{answers, commits, unless_refused, tests_of_pipe, far_end, others_opened, opening, closing, administration, carried_out}
-use Rattle.gate_link.specs.Link.{link_served}
-use Rattle.tables_laws.specs.gate.Rules.{AsksAsAllowed}
-use Rattle.tables_laws.proofs.gate.Decisions.{decided_as_allowed}
-use Rattle.link_laws.specs.machine.Machine.{Message}
-use Rattle.node_machine.specs.Parts.{Init, Creation, Deed, OwnView, EndView, NodeView}
-use Rattle.node_machine.specs.Parts.Deed.{Commits, Sends, Tells, Hears, Ends}
-use Rattle.node_machine.specs.Carrying.{end_of_number}
-use Rattle.node_machine.specs.Controller.{commit_deeds, link_deeds, agreed, is_command_message}
-use Rattle.node_machine.specs.HostReplies.{accepts, pipe_named_in, orders_of, is_same, learns, init_agreed, init_deeds, deleted_by, created_by, learned}
+use Rattle.gate_admin.specs.Decide.{unless_refused, administration}
+use Rattle.node_machine.specs.Parts.{EndView}
+use Rattle.node_machine.specs.HostReplies.{is_same, init_agreed, deleted_by, created_by}
 use Rattle.node_machine.specs.Turns.{deeds_for}
-use Rattle.node_machine.proofs.Walks.{deeds_near, deeds_far}
-use Rattle.node_laws.specs.answers.Rows.{first_row, far_host, is_order, is_relayed, leads_to_gate, waiting_for, decides, controller_rows, host_rows}
+use Rattle.node_machine.proofs.Walks.{deeds_near}
+use Rattle.node_laws.specs.answers.Rows.{far_host, is_order, is_relayed, leads_to_gate, waiting_for, decides, host_rows}
 use Rattle.node_laws.specs.answers.Rules.{IsForAsker, IsSentAsAllowed, IsAskedAsAllowed, commits_first}
-use Rattle.node_laws.proofs.Cases.{by_option, by_test}
 use Rattle.node_laws.proofs.answers.Rows.{controller_by_rows}
 use Rattle.node_laws.proofs.answers.HostRows.{host_by_rows}
 

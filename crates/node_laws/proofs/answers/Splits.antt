@@ -1,10 +1,7 @@
 -- Facts at each place of a history follow from two walks over it that find the same.
 use Rattle.std.proofs.Common.{◌≡◌, ap, sym, subst, append_assoc, append-nil, List, [], ◌∷◌, ◌++◌, map}
 use Rattle.std.specs.List.{AllByRecursion}
-use Rattle.trace_model.specs.declared.entry.Entry.{Entry}
-use Rattle.node_machine.specs.world.World.{Happening}
-use Rattle.node_machine.specs.world.Lines.{Occurrence}
-use Rattle.node_laws.specs.answers.Moments.{Moment}
+use Rattle.node_laws.proofs.Words.{Entry, Happening, Moment, Occurrence}
 
 -- the first element, or this one
 abbrev pub first_or : {X : Type 0} → X → List X → X

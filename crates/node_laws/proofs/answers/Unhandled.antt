@@ -5,18 +5,10 @@ use Rattle.std.specs.List.{filter_map}
 use Rattle.std.proofs.lemmas.List.Elements.{filter_map-append}
 use Rattle.std.proofs.lemmas.List.Sums.{fold-append}
 use Rattle.std.proofs.lemmas.List.{append_cancel_left}
-use Rattle.trace_model.specs.declared.entry.Entry.{Entry}
+use Rattle.node_laws.proofs.Words.{AreInTurn, End, Entry, IsFrontOf, Message, by_test, got_entry, node_of, oldest, same_end, same_end_itself, since_boot}
+use Rattle.node_laws.proofs.Words.{turn_entry_at, unhandled_after, unhandled_in}
 use Rattle.trace_model.specs.declared.entry.Entry.TheVariants as entry
-use Rattle.trace_model.specs.declared.line.End.{End}
-use Rattle.hcp_packet.specs.Packets.{IsFrontOf}
-use Rattle.link_laws.specs.machine.Machine.{Message, oldest}
-use Rattle.history.specs.Filters.{same_end}
-use Rattle.node_machine.specs.world.World.{node_of}
-use Rattle.node_machine.specs.world.NodeLegal.{since_boot, got_entry, turn_entry_at, AreInTurn}
 use Rattle.node_laws.specs.turns.Turns.{AreLeft}
-use Rattle.node_laws.specs.answers.Moments.{unhandled_after, unhandled_in}
-use Rattle.node_laws.proofs.Cases.{by_test}
-use Rattle.history.proofs.Filters.{same_end_itself}
 
 -- what was noted since a node booted, with one entry more
 abbrev with_entry : ℕ → List Entry → Entry → List Entry

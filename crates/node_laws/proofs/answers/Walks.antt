@@ -3,24 +3,17 @@ use Rattle.std.proofs.Common.{◌≡◌, refl, ap, sym, subst, ℕ, Bool, true, 
 use Rattle.std.specs.Prelude.{◌==◌, ◌&&◌, is_none}
 use Rattle.std.specs.List.{AllByRecursion, filter, list_any}
 use Rattle.std.proofs.lemmas.Bool.{and_parts}
-use Rattle.trace_model.specs.declared.entry.Entry.{Entry}
+use Rattle.node_laws.proofs.Words.{Answered, AreDifferent, AreInTurn, Entry, FollowsNodes, Header, IsHeldFor, IsReplied, Line, Moment, NodeHistory, NodeWorld}
+use Rattle.node_laws.proofs.Words.{NodesHearFirst, Occurrence, before_turn, down_in, due, ends_in, entries_in, holds_in, is_answer_of, is_cut_of, is_done}
+use Rattle.node_laws.proofs.Words.{is_left_short, is_reset_down, is_reset_due, lack_at, lack_of, line_step, new_world, node_entries, node_of, noted_of_deeds}
+use Rattle.node_laws.proofs.Words.{occurrences_in, reply, steps_from, through, to_command, until}
 use Rattle.trace_model.specs.declared.entry.Entry.TheVariants as entry
-use Rattle.trace_model.specs.declared.line.Header.{Header}
-use Rattle.trace_model.specs.declared.line.Line.{Line}
 use Rattle.trace_model.specs.declared.line.Line.TheVariants as line
-use Rattle.node_machine.specs.world.World.{NodeWorld, new_world, node_of}
-use Rattle.node_machine.specs.world.Lines.{Occurrence, line_step, misread_in}
-use Rattle.node_machine.specs.world.NodeHistories.{NodeHistory, FollowsNodes, NoneIsMisread, entries_in, node_entries, occurrences_in, steps_from}
-use Rattle.node_machine.specs.world.NodeLegal.{AreInTurn}
-use Rattle.node_laws.specs.kept.Reckonings.{is_cut_of}
-use Rattle.node_laws.specs.kept.Hosts.{AreDifferent}
+use Rattle.node_machine.specs.world.Lines.{misread_in}
+use Rattle.node_machine.specs.world.NodeHistories.{NoneIsMisread}
 use Rattle.node_laws.proofs.turns.Lines.{in_turn}
 use Rattle.node_laws.proofs.answers.Rising.{turns_rise, rise_ascends}
 use Rattle.node_laws.proofs.worlds.Orders.{hear_first}
-use Rattle.node_laws.specs.answers.Moments.{Moment, until, holds_in, reply, lack_of, lack_at, noted_of_deeds}
-use Rattle.node_laws.specs.answers.Order.{NodesHearFirst, is_answer_of}
-use Rattle.node_laws.specs.answers.Unasked.{down_in, due, is_reset_due, is_reset_down}
-use Rattle.node_laws.specs.answers.Answered.{Answered, IsReplied, IsHeldFor, before_turn, to_command, through, ends_in, is_done, is_left_short}
 use Rattle.node_laws.proofs.answers.Splits.{same_at_each, at_events, same_at_events, at_entries, same_at_entries}
 
 -- ## What is found

@@ -2,20 +2,13 @@
 use Rattle.std.proofs.Common.{◌≤◌, arith, refl, ap, sym, Bool, true, false, true≢false, List, [], ◌∷◌, ◌++◌, None}
 use Rattle.std.specs.Prelude.{is_some}
 use Rattle.swp_base.specs.declared.link_terms.Cause.TheVariants as cause
-use Rattle.trace_model.specs.declared.entry.Entry.{Entry}
-use Rattle.trace_model.specs.declared.entry.Entry.TheVariants.{Up, Down, Emit, Sent, Got, Took, Turn, Held, Command, Booted, Cut}
+use Rattle.node_laws.proofs.Words.{Answered, Booted, Boots, CutsEndParts, Entry, Held, NodeHistory, Occurred, Occurrence, Takes, Ticks, end_c}
+use Rattle.trace_model.specs.declared.entry.Entry.TheVariants.{Up, Down, Emit, Sent, Got, Took, Turn, Command, Cut}
 use Rattle.trace_model.specs.declared.line.Line.TheVariants as line
 use Rattle.hci_tables.specs.declared.command.Command.TheVariants as command
 use Rattle.journal_laws.specs.Records.{found_from}
 use Rattle.gate_admin.specs.View.{hosts_where}
 use Rattle.pipe_table.specs.PipeRows.{lowest_free}
-use Rattle.node_machine.specs.world.World.{end_c}
-use Rattle.node_machine.specs.world.World.Happening.{Boots, Takes, Ticks}
-use Rattle.node_machine.specs.world.Lines.{Occurrence}
-use Rattle.node_machine.specs.world.Lines.LineOutcome.{Occurred}
-use Rattle.node_machine.specs.world.NodeHistories.{NodeHistory}
-use Rattle.node_laws.specs.power.Powers.{CutsEndParts}
-use Rattle.node_laws.specs.answers.Answered.{Answered}
 use Rattle.node_laws.proofs.answers.Walks.{header_of_hosts}
 
 abbrev pub is_empty : {X : Type 0} → List X → Bool

@@ -1,21 +1,15 @@
 -- Small wrong histories of a link that is activated as its causes say aren't legal: those of a reset, and of a memory.
 use Rattle.std.proofs.Common.{◌≡◌, refl, ap, sym, true, true≢false, List, [], ◌∷◌, ◌++◌, get_or, arith, Option, Some, None}
 use Rattle.std.specs.Prelude.{is_some, unwrap_or}
-use Rattle.trace_model.specs.declared.entry.Entry.{Entry}
+use Rattle.node_laws.proofs.Words.{Activates, Asked, Entry, IsUpheld, LegalWorld, Memory, Occurrence, Resets, Site, Ticks, end_c, end_h, new_site, new_world}
+use Rattle.node_laws.proofs.Words.{site_at, world_behind}
 use Rattle.trace_model.specs.declared.entry.Entry.TheVariants.{Down, Emit, Took, Lost, Active, Command}
 use Rattle.trace_model.specs.declared.entry.LostCause.TheVariants as lost
-use Rattle.swp_base.specs.declared.link_terms.Cause.TheVariants.{Asked}
 use Rattle.hci_tables.specs.declared.command.Command.TheVariants as command
 use Rattle.journal_laws.specs.Records.{found_from}
 use Rattle.gate_admin.specs.View.{hosts_where}
 use Rattle.pipe_table.specs.PipeRows.{lowest_free}
-use Rattle.swp_base.specs.InMemory.{Memory}
-use Rattle.node_machine.specs.world.World.{Site, new_site, new_world, site_at, end_c, end_h}
-use Rattle.node_machine.specs.world.World.Happening.{Ticks, Resets, Activates}
-use Rattle.node_machine.specs.world.Lines.{Occurrence}
-use Rattle.node_laws.specs.telling.Telling.{world_behind}
-use Rattle.node_laws.specs.order.Resets.{IsUpheld, IsUpheldInTick}
-use Rattle.node_laws.specs.answers.Headline.{LegalWorld}
+use Rattle.node_laws.specs.order.Resets.{IsUpheldInTick}
 use Rattle.node_laws.proofs.answers.Wrong.{told, boot, takes}
 use Rattle.node_laws.proofs.answers.WrongWorlds.{boots_host, host_takes}
 

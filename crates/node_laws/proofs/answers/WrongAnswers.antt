@@ -1,16 +1,11 @@
 -- Small wrong histories of nodes aren't answered: for each of five facts of `Answered` one that it alone refuses.
 use Rattle.std.proofs.Common.{◌≤◌, arith, refl, ap, sym, ℕ, true≢false, List, [], ◌∷◌, ◌++◌, replicate, None}
-use Rattle.trace_model.specs.declared.entry.Entry.{Entry}
-use Rattle.trace_model.specs.declared.entry.Entry.TheVariants.{Up, Sent, Got, Acked, Turn, Held, Dropped}
+use Rattle.node_laws.proofs.Words.{Entry, Gives, Held, NodeHistory, Occurred, Occurrence, Takes, end_c, end_h, entries_in}
+use Rattle.trace_model.specs.declared.entry.Entry.TheVariants.{Up, Sent, Got, Acked, Turn, Dropped}
 use Rattle.trace_model.specs.declared.line.Line.TheVariants as line
 use Rattle.journal_laws.specs.Records.{found_from}
 use Rattle.gate_admin.specs.View.{hosts_where}
 use Rattle.pipe_table.specs.PipeRows.{lowest_free}
-use Rattle.node_machine.specs.world.World.{end_c, end_h}
-use Rattle.node_machine.specs.world.World.Happening.{Gives, Takes}
-use Rattle.node_machine.specs.world.Lines.{Occurrence}
-use Rattle.node_machine.specs.world.Lines.LineOutcome.{Occurred}
-use Rattle.node_machine.specs.world.NodeHistories.{NodeHistory, entries_in}
 use Rattle.node_laws.proofs.answers.OneFact.{RefusedByOnly, others_hold}
 use Rattle.node_laws.proofs.answers.OneFact.Fact.{InTurn, Done, Short, Ascending, Heard}
 use Rattle.node_laws.proofs.answers.Walks.{header_of_hosts}

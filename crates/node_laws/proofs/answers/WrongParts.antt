@@ -5,9 +5,7 @@ use Rattle.hci_tables.specs.declared.command.Command.TheVariants as command
 use Rattle.journal_laws.specs.Records.{found_from}
 use Rattle.gate_admin.specs.View.{hosts_where}
 use Rattle.pipe_table.specs.PipeRows.{lowest_free}
-use Rattle.node_machine.specs.world.World.Happening.{Activates}
-use Rattle.node_machine.specs.world.Lines.{Occurrence}
-use Rattle.node_laws.specs.answers.Headline.{LegalWorld}
+use Rattle.node_laws.proofs.Words.{Activates, LegalWorld, Occurrence}
 use Rattle.node_laws.proofs.answers.Wrong.{told, ticks}
 use Rattle.node_laws.proofs.answers.WrongWorlds.{host_alone, gives, sent, emitted, got}
 

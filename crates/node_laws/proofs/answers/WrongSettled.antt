@@ -1,29 +1,17 @@
 -- A small wrong history of a link that settles isn't legal, and the law of what has settled refuses it too.
 use Rattle.std.proofs.Common.{◌≡◌, ◌∙◌, refl, ap, sym, ℕ, true≢false, List, [], ◌∷◌, ◌++◌, Some, None}
 use Rattle.std.specs.Prelude.{is_some}
-use Rattle.swp_base.specs.declared.control_frames.Act.TheVariants.{Ready, PowerMode}
+use Rattle.node_laws.proofs.Words.{AsksReset, AtController, AtHost, Bare, Clf, GoesOut, IsRunOf, IsUpheld, LegalWorld, Link, LinkEvent, NextFrame, NumberedEnd}
+use Rattle.node_laws.proofs.Words.{Occurrence, PowerMode, Ready, Resets, Role, Starts, Step, Uicc, after_link_events, end_c, end_h, entries_in, new_line}
+use Rattle.node_laws.proofs.Words.{new_link_end}
 use Rattle.swp_act.specs.declared.Phase.TheVariants.{Active as IsActive}
 use Rattle.trace_model.specs.declared.entry.LostCause.TheVariants as lost
 use Rattle.trace_model.specs.declared.entry.Entry.TheVariants.{Up, Emit, Took, Lost}
 use Rattle.journal_laws.specs.Records.{found_from}
 use Rattle.gate_admin.specs.View.{hosts_where}
 use Rattle.pipe_table.specs.PipeRows.{lowest_free}
-use Rattle.link_laws.specs.machine.Machine.{Role, new_link_end}
-use Rattle.link_laws.specs.machine.Machine.Role.{Bare, Clf, Uicc}
-use Rattle.link_laws.specs.messages.Links.{Link, LinkEvent, NumberedEnd, after_link_events}
-use Rattle.link_laws.specs.messages.Links.Comes.{NextFrame, AsksReset, Starts}
-use Rattle.link_laws.specs.messages.Links.Ending.{GoesOut}
-use Rattle.link_laws.specs.messages.Links.EndEvent.{Step}
-use Rattle.link_laws.specs.messages.Links.LinkEvent.{AtController, AtHost}
 use Rattle.link_laws.specs.messages.Settled.{IsSettled, sure_of}
-use Rattle.node_machine.specs.world.World.{end_c, end_h}
-use Rattle.node_machine.specs.world.World.Happening.{Resets}
-use Rattle.node_machine.specs.world.Lines.{Occurrence}
-use Rattle.node_laws.specs.links.Runs.{IsRunOf, new_line}
-use Rattle.node_machine.specs.world.NodeHistories.{entries_in}
 use Rattle.node_laws.specs.order.Told.{HasSettled}
-use Rattle.node_laws.specs.order.Resets.{IsUpheld}
-use Rattle.node_laws.specs.answers.Headline.{LegalWorld}
 use Rattle.node_laws.proofs.answers.Wrong.{told, takes}
 use Rattle.node_laws.proofs.answers.WrongWorlds.{host_takes}
 use Rattle.node_laws.proofs.answers.WrongActivated.{activated, site}

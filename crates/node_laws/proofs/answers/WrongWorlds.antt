@@ -2,23 +2,15 @@
 use Rattle.std.proofs.Common.{◌≡◌, ◌≤◌, inl, inr, arith, refl, ap, sym, ℕ, false, true≢false, List, [], ◌∷◌, ◌++◌, None}
 use Rattle.std.specs.Prelude.{is_some}
 use Rattle.swp_base.specs.declared.link_terms.Cause.TheVariants as cause
-use Rattle.trace_model.specs.declared.entry.Entry.{Entry}
-use Rattle.trace_model.specs.declared.entry.Entry.TheVariants.{Up, Down, Emit, Sent, Got, Acked, Took, Turn, Held, Dropped, Command, AnyOk, Booted, Cut}
+use Rattle.node_laws.proofs.Words.{Booted, Boots, Entry, FindsCommands, Gives, HciTables, Held, IsCut, LegalWorld, LineStep, NodeHistory, Occurred, Occurrence}
+use Rattle.node_laws.proofs.Words.{PipeRow, Takes, ToldTables, end_c, end_h, entries_in, no_tables}
+use Rattle.trace_model.specs.declared.entry.Entry.TheVariants.{Up, Down, Emit, Sent, Got, Acked, Took, Turn, Dropped, Command, AnyOk, Cut}
 use Rattle.trace_model.specs.declared.line.Line.TheVariants as line
-use Rattle.pipe_table.specs.declared.row.PipeRow.{PipeRow}
 use Rattle.hci_tables.specs.declared.command.Command.TheVariants as command
-use Rattle.hci_tables.specs.Tables.{HciTables, no_tables}
 use Rattle.journal_laws.specs.Records.{found_from}
 use Rattle.gate_admin.specs.View.{hosts_where}
 use Rattle.pipe_table.specs.PipeRows.{lowest_free}
-use Rattle.node_machine.specs.world.World.{end_c, end_h}
-use Rattle.node_machine.specs.world.World.Happening.{Boots, IsCut, Gives, Takes}
-use Rattle.node_machine.specs.world.Lines.{Occurrence}
-use Rattle.node_machine.specs.world.Lines.LineOutcome.{Occurred, ToldTables}
-use Rattle.node_machine.specs.world.NodeHistories.{LineStep, NodeHistory, entries_in}
-use Rattle.node_machine.specs.world.NodeLegal.{FindsCommands}
 use Rattle.node_laws.specs.order.Told.{IsStillInSession}
-use Rattle.node_laws.specs.answers.Headline.{LegalWorld}
 use Rattle.node_laws.proofs.answers.Walks.{header_of_hosts}
 use Rattle.node_laws.proofs.answers.Wrong.{is_empty, told, boot, comes_up, begins, takes, ticks}
 

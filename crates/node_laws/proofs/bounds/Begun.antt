@@ -7,41 +7,21 @@ use Rattle.std.specs.Option.{option_map_or}
 use Rattle.std.proofs.lemmas.Bool.{true≢false, cond_both}
 use Rattle.std.proofs.lemmas.List.{length-map}
 use Rattle.std.proofs.lemmas.List.Concat.{flat_map-append}
-use Rattle.registry.proofs.ValueLemmas.{AllByRecursion-append}
-use Rattle.trace_model.specs.declared.entry.Entry.{Entry}
-use Rattle.trace_model.specs.declared.line.End.{End}
-use Rattle.trace_model.specs.Ends.{other_end}
-use Rattle.hcp_packet.specs.Packets.{good_of, IsFrontOf}
-use Rattle.link_laws.specs.machine.Machine.{Message, LinkInput, Report, report, whole_acked, after_input}
-use Rattle.link_laws.specs.machine.Machine.LinkInput.{Reset, Start, Stop}
-use Rattle.link_laws.specs.messages.Links.{NumberedEnd, Comes, aged}
-use Rattle.link_laws.specs.messages.Links.Comes.{NextFrame, AsksReset, Starts, Stops, NoInput}
-use Rattle.link_laws.specs.entries.Entries.{End as Side, Entry as Noted, if_so, told, aged_entries}
-use Rattle.link_laws.specs.entries.Entries.End.{Controller, Host}
-use Rattle.link_laws.specs.entries.Entries.Entry.{Up, Down, Active, GaveUp, Acked, Got}
-use Rattle.history.specs.Filters.{sent_in, got_in}
-use Rattle.history.specs.Steps.{entries_for}
-use Rattle.node_machine.specs.Parts.{Core, Running, Port, Work}
-use Rattle.node_machine.specs.Carrying.{own_side, unless_cut, needs, lack}
-use Rattle.node_machine.specs.Turns.{deeds_of, handles, holds_back, lets_go, have_turns, goes_through_ends, passes}
-use Rattle.node_machine.specs.Node.{NodeInput, input_at, told_at, told_late, all_come, with_older, is_late, forgets, steps}
-use Rattle.node_machine.specs.Node.NodeInput.{AtEnd, TimePasses}
-use Rattle.node_machine.specs.world.World.{NodeWorld, Site, link_to, near_end_in, arrival, comes_to, input_of, wires_for, frames_noted, all_aged, end_c}
-use Rattle.node_machine.specs.world.World.{site_at, controller_work, new_world, world_step, Happening}
-use Rattle.node_machine.specs.world.World.Happening.{Takes}
-use Rattle.node_machine.specs.world.Lines.{Occurrence}
-use Rattle.node_machine.specs.world.NodeHistories.{entries_in}
-use Rattle.node_laws.specs.kept.Hosts.{AreDifferent, AreHosts}
-use Rattle.node_laws.specs.telling.Telling.{HasEnds, IfItRuns, hosts_in, world_behind}
-use Rattle.node_laws.proofs.Cases.{by_option}
+use Rattle.node_laws.proofs.Words.{Acked, Active, AllByRecursion-append, AreCausedSo, AreDifferent, AreHosts, AsksReset, AtEnd, Comes, ComesTo, Controller}
+use Rattle.node_laws.proofs.Words.{Core, Down, End, Entry, GaveUp, Got, Happening, HasEnds, Host, IfItRuns, IsFrontOf, LinkInput, Message, NextFrame, NoInput}
+use Rattle.node_laws.proofs.Words.{NodeInput, NodeWorld, NumberedEnd, Occurrence, Port, Report, Reset, Running, Site, Start, Starts, Stop, Stops, Takes}
+use Rattle.node_laws.proofs.Words.{TimePasses, Work, after_input, aged, aged_entries, all_aged, all_come, arrival, as_it_ticks, by_option, comes_to}
+use Rattle.node_laws.proofs.Words.{comes_to_pass, commands_by_events, commands_noted, controller_begins, controller_work, deeds_of, end_c, entries_for}
+use Rattle.node_laws.proofs.Words.{entries_in, forgets, frames_noted, goes_through_ends, good_of, got_in, handles, has_come_so, has_freed, has_synced}
+use Rattle.node_laws.proofs.Words.{have_turns, holds_back, hosts_in, hosts_of_ends, if_so, input_at, input_of, is_late, lack, lets_go, link_to, near_end_in}
+use Rattle.node_laws.proofs.Words.{needs, new_world, noted_by_deeds, other_end, owed_in_step, own_side, passes, report, sent_in, site_at, steps, syncs_in, told}
+use Rattle.node_laws.proofs.Words.{told_at, told_late, told_of_coming, told_of_late, unless_cut, whole_acked, wires_for, with_older, world_behind, world_step}
+use Rattle.link_laws.specs.entries.Entries.{End as Side, Entry as Noted}
+use Rattle.link_laws.specs.entries.Entries.Entry.{Up}
 use Rattle.node_laws.proofs.kept.Sites.{hosts_same as sites_same}
 use Rattle.node_laws.proofs.telling.Lasting.{occurs}
 use Rattle.node_laws.proofs.telling.Mute.{all_owed_mute, all_synced_mute}
 use Rattle.node_laws.proofs.steps.StepWalks.{unless, got_at}
-use Rattle.node_laws.specs.passes.Noting.{noted_by_deeds}
-use Rattle.node_laws.specs.passes.Passing.{ComesTo}
-use Rattle.node_laws.specs.passes.Steps.{comes_to_pass, controller_begins, has_come_so, has_freed, has_synced, syncs_in, owed_in_step}
-use Rattle.node_laws.specs.passes.Steps.{told_of_coming, told_of_late}
 use Rattle.node_laws.proofs.passes.Before.{before_entries}
 use Rattle.node_laws.proofs.passes.Passing.{handles_entries, holds_notes, lets_notes, own_held}
 use Rattle.node_laws.proofs.order.Lines.{IsSo, of_none, next_so}
@@ -49,15 +29,11 @@ use Rattle.node_laws.proofs.order.Ordered.{in_order_so}
 use Rattle.node_laws.proofs.turns.Coming.{IsNoGot, AreNoGots, notes_still, so_none, ended_none, tries_none}
 use Rattle.node_laws.proofs.turns.Lines.{AllWait}
 use Rattle.node_laws.proofs.turns.Queues.{Goes, goes-append}
-use Rattle.node_laws.specs.bounds.Commands.{AreCausedSo, commands_by_events}
-use Rattle.node_laws.specs.reply_passes.Counts.{commands_noted}
 use Rattle.node_laws.proofs.reply_passes.Ordered.{deeds_still}
 use Rattle.node_laws.proofs.telling.Frames.{wires_all}
 use Rattle.node_laws.proofs.telling.Nodes.{hosts_same}
-use Rattle.node_laws.specs.kept.Books.{hosts_of_ends}
 use Rattle.node_laws.proofs.readings.Sites.{comes_outside, near_end_side}
 use Rattle.node_laws.proofs.turns.Works.{Leaves, aged_none, arrival_still, flat_leaves, sites_is, still_leaves}
-use Rattle.node_laws.specs.read_steps.Worlds.{as_it_ticks}
 use Rattle.node_laws.proofs.reply_passes.InTurn.{near_goes, turns_in_order}
 use Rattle.node_laws.proofs.bounds.Costs.{IsNoSent, costs, costs-append, pays-append, notes_free}
 use Rattle.node_laws.proofs.bounds.Holding.{node_holds}

@@ -3,28 +3,13 @@ use Rattle.std.proofs.Common.{◌≡◌, ℕ, ◌+◌, ◌≤◌, Bool, true, fa
 use Rattle.std.specs.Prelude.{is_some, not, ◌&&◌}
 use Rattle.std.specs.List.{AllByRecursion}
 use Rattle.std.proofs.lemmas.Bool.{cond_both}
-use Rattle.swp_base.specs.declared.control_frames.Control.{Control}
+use Rattle.node_laws.proofs.Words.{AllAllowed, AtController, AtHost, Bare, Clf, Comes, Control, CutOff, Ending, Good, IsClf, IsLine, IsRun, IsUicc, Link}
+use Rattle.node_laws.proofs.Words.{LinkEnd, LinkEvent, LinkInput, Lose, Loss, NextFrame, NoInput, NumberedEnd, OnWire, Reached, Reset, Role, Site, Step, Take}
+use Rattle.node_laws.proofs.Words.{Tick, Turn, Uicc, after_input, after_link_events, aged, core_event, core_of, ended_by, event_step, exchanged, happens}
+use Rattle.node_laws.proofs.Words.{happens_at_controller, has_input, host_ended, host_finished, is_waiting, new_line, reached_more, start_good, start_reached}
+use Rattle.node_laws.proofs.Words.{ticked_so, ticks_at_controller, turned, with_ended}
 use Rattle.swp_base.specs.declared.control_frames.Control.TheVariants.{Act as ActFrame}
-use Rattle.link_laws.specs.sessions.Sessions.{OnWire}
-use Rattle.shdlc_core.specs.Machine.{is_waiting}
-use Rattle.link_laws.specs.machine.Machine.{LinkEnd, Role, LinkInput, Turn, turned, after_input, ended_by}
-use Rattle.link_laws.specs.machine.Machine.Role.{Bare, Clf, Uicc}
-use Rattle.link_laws.specs.machine.Machine.LinkInput.{Take, Tick, Reset}
-use Rattle.link_laws.specs.messages.Links.{NumberedEnd, Link, LinkEvent, Ending, Comes, Loss, IsClf, IsUicc, AllAllowed, happens, after_link_events}
-use Rattle.link_laws.specs.messages.Links.{exchanged, aged, with_ended, has_input, ticks_at_controller, happens_at_controller}
-use Rattle.link_laws.specs.messages.Links.EndEvent.{Step, Lose}
-use Rattle.link_laws.specs.messages.Links.LinkEvent.{AtController, AtHost}
-use Rattle.link_laws.specs.messages.Links.Ending.{CutOff}
-use Rattle.link_laws.specs.messages.Links.Comes.{NextFrame, NoInput}
-use Rattle.link_laws.specs.messages.Links.IsStart.{IsLine}
-use Rattle.link_laws.specs.messages.Projection.{core_of, core_event}
 use Rattle.link_laws.proofs.messages.ActsInOrder.{ActsInOrder, Without, is_again}
-use Rattle.link_laws.proofs.messages.Project.{host_ended}
-use Rattle.link_laws.proofs.messages.Runs.{Good, Reached, reached_more, event_step}
-use Rattle.link_laws.proofs.messages.Whole.{start_good, start_reached}
-use Rattle.link_laws.proofs.entries.Stepping.{host_finished}
-use Rattle.node_machine.specs.world.World.{Site, ticked_so}
-use Rattle.node_laws.specs.links.Runs.{new_line, IsRun}
 use Rattle.node_laws.proofs.links.Ends.{here_host}
 use Rattle.node_laws.proofs.links.Worlds.{IsFineSite}
 use Rattle.node_laws.proofs.bounds.Syncs.{syncs_on, tries_of, ComesOnce}

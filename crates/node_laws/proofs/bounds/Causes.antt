@@ -3,19 +3,9 @@ use Rattle.std.proofs.Common.{◌≡◌, ℕ, ◌+◌, ◌≤◌, Bool, true, Li
 use Rattle.std.proofs.lemmas.Bool.{true≢false}
 use Rattle.std.proofs.lemmas.List.{length-map}
 use Rattle.std.proofs.lemmas.List.Concat.{flat_map-append}
-use Rattle.trace_model.specs.declared.entry.Entry.{Entry}
-use Rattle.trace_model.specs.declared.line.End.{End}
-use Rattle.trace_model.specs.declared.line.Header.{Header}
-use Rattle.trace_model.specs.Ends.{other_end}
-use Rattle.hcp_packet.specs.Packets.{good_of, IsFrontOf}
-use Rattle.history.specs.Filters.{sent_in, got_in}
-use Rattle.node_machine.specs.world.World.{NodeWorld, Site, Happening, new_world, world_step}
-use Rattle.node_machine.specs.world.World.Happening.{Boots, Gives, Resets, Activates}
-use Rattle.node_machine.specs.world.Lines.{Occurrence, can_happen, all_happen}
-use Rattle.node_machine.specs.world.NodeHistories.{FollowsNodes, NodeHistory, entries_in}
-use Rattle.node_laws.specs.kept.Hosts.{AreHosts}
-use Rattle.node_laws.specs.telling.Telling.{MayBoot, world_behind}
-use Rattle.node_laws.proofs.Cases.{by_test}
+use Rattle.node_laws.proofs.Words.{Activates, AreCausedSo, AreHosts, Boots, End, Entry, FollowsNodes, Gives, Happening, Header, IsFrontOf, MayBoot, NodeHistory}
+use Rattle.node_laws.proofs.Words.{NodeWorld, Occurrence, Resets, Site, all_happen, by_test, can_happen, commands_by, commands_by_events, commands_noted}
+use Rattle.node_laws.proofs.Words.{entries_in, good_of, got_in, new_world, other_end, sent_in, world_behind, world_step}
 use Rattle.node_laws.proofs.telling.Lasting.{occurs}
 use Rattle.node_laws.proofs.links.Playing.{MayHappen}
 use Rattle.node_laws.proofs.order.Lines.{IsSo, of_none, next_so, history_so}
@@ -25,8 +15,7 @@ use Rattle.node_laws.proofs.turns.Works.{end_at, Moves}
 use Rattle.node_laws.proofs.turns.Worlds.{events_move}
 use Rattle.node_laws.proofs.turns.Lines.{Waiting, none_wait}
 use Rattle.node_laws.proofs.reply_passes.Ordered.{in_turn_of}
-use Rattle.node_laws.specs.reply_passes.Counts.{commands_noted}
-use Rattle.node_laws.specs.bounds.Commands.{MayBeCaused, AllCome, AreCausedSo, commands_by, commands_by_all, commands_by_events}
+use Rattle.node_laws.specs.bounds.Commands.{MayBeCaused, AllCome, commands_by_all}
 use Rattle.node_laws.proofs.bounds.Costs.{costs, pays, costs-append, pays-append}
 use Rattle.node_laws.proofs.bounds.Calm.{all_calm}
 use Rattle.node_laws.proofs.bounds.Worlds.{world_holds, sites_hold, event_paid}

@@ -3,14 +3,9 @@
 use Rattle.std.proofs.Common.{◌≡◌, ℕ, ◌+◌, ◌≤◌, ◌&&◌, Bool, true, false, eqb, List, [], ◌∷◌, ◌++◌, refl, ap, arith, Option, Some, None}
 use Rattle.std.specs.Prelude.{not}
 use Rattle.std.specs.List.{AllByRecursion}
-use Rattle.trace_model.specs.declared.entry.Entry.{Entry}
+use Rattle.node_laws.proofs.Words.{Controller, Entry, Host, Message, Refused, Report, Sent, entries_for, entry_of, is_command_message, sent_unless, told}
 use Rattle.trace_model.specs.declared.entry.Entry.TheVariants as entry
-use Rattle.link_laws.specs.machine.Machine.{Message, Report, Refused}
-use Rattle.link_laws.specs.entries.Entries.{End as Side, Entry as Noted, told, sent_unless}
-use Rattle.link_laws.specs.entries.Entries.End.{Controller, Host}
-use Rattle.link_laws.specs.entries.Entries.Entry.{Sent}
-use Rattle.history.specs.Steps.{entry_of, entries_for}
-use Rattle.node_machine.specs.Controller.{is_command_message}
+use Rattle.link_laws.specs.entries.Entries.{End as Side, Entry as Noted}
 use Rattle.node_laws.proofs.telling.Reported.{told_all}
 
 -- ## Entries

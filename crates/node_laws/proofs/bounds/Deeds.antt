@@ -2,23 +2,12 @@
 use Rattle.std.proofs.Common.{◌≡◌, ℕ, ◌+◌, ◌≤◌, true, List, [], ◌∷◌, ◌++◌, length, sym, refl, ap, subst, arith, Option, Some, None}
 use Rattle.std.proofs.lemmas.List.{length-map}
 use Rattle.std.specs.Option.{option_map_or}
-use Rattle.trace_model.specs.declared.entry.Entry.{Entry}
+use Rattle.node_laws.proofs.Words.{Asks, Command, Commits, Core, Deed, Drops, Ends, Entry, Give, GoesOn, Hears, Init, IsAnswered, Message, Notice, Orders, Port}
+use Rattle.node_laws.proofs.Words.{Release, Releases, Removed, SaysOk, Sends, SetAside, SetsErrors, Tells, Turn, Waits, Work, Write, after_turn, all_done}
+use Rattle.node_laws.proofs.Words.{body_of, by_option, by_test, commit, commit_writes, count_of, creation_in, done, end_of_node, fails_within, give_refusal}
+use Rattle.node_laws.proofs.Words.{noted_of, noting, own_side, port_at, turn_at, with_desk, with_port}
 use Rattle.trace_model.specs.declared.entry.Entry.TheVariants as entry
-use Rattle.journal_laws.specs.Planned.{fails_within}
-use Rattle.journal_laws.specs.Writes.{Write}
-use Rattle.journal_laws.specs.Journal.{count_of}
-use Rattle.hci_tables.specs.declared.command.Command.{Command}
-use Rattle.hci_tables.specs.Bodies.{body_of}
-use Rattle.hci_store.specs.Committing.{commit_writes}
-use Rattle.link_laws.specs.machine.Machine.{Message, Turn, give_refusal}
-use Rattle.link_laws.specs.machine.Machine.Turn.{Give, SetAside, Release}
 use Rattle.link_laws.specs.entries.Entries.{End as Side}
-use Rattle.node_machine.specs.Parts.{Init, Notice, Core, Port, Work, Deed}
-use Rattle.node_machine.specs.Parts.About.{Waits, Removed}
-use Rattle.node_machine.specs.Parts.Deed.{Commits, Sends, SaysOk, Asks, Releases, Tells, IsAnswered, Drops, SetsErrors, Orders, Hears, GoesOn, Ends}
-use Rattle.node_machine.specs.Carrying.{own_side, end_of_node, noting, port_at, with_port, with_desk, after_turn, noted_of, turn_at, commit, done, all_done}
-use Rattle.node_machine.specs.Controller.{creation_in}
-use Rattle.node_laws.proofs.Cases.{by_option, by_test}
 use Rattle.node_laws.proofs.bounds.Costs.{costs, pays, cost, message_cost, costs-append, pays-append, is_host_side, sent_most}
 use Rattle.node_laws.proofs.bounds.Holding.{core_holds, ports_hold, notice_holds, order_holds, init_holds, init_left, holds_at, with_less, with_more, frees}
 

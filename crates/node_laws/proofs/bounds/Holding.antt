@@ -2,11 +2,7 @@
 -- init.
 use Rattle.std.proofs.Common.{◌≡◌, ℕ, ◌+◌, ◌*◌, ◌-◌, ◌≤◌, Bool, true, false, eqb, List, [], ◌∷◌, length, map, refl, ap, ◌∙◌, arith, Option, Some, None}
 use Rattle.std.specs.Option.{option_map_or}
-use Rattle.node_machine.specs.Parts.{Init, Creation, Notice, Desk, Core, Running, Port}
-use Rattle.node_machine.specs.Carrying.{port_at, changed_if, with_port}
-use Rattle.node_machine.specs.Controller.{creation_in, asked_at}
-use Rattle.node_machine.specs.HostReplies.{orders_of}
-use Rattle.node_laws.proofs.Cases.{by_test}
+use Rattle.node_laws.proofs.Words.{Core, Creation, Desk, Init, Notice, Port, Running, asked_at, by_test, changed_if, creation_in, orders_of, port_at, with_port}
 
 -- of a creation that waits come its command and an answer
 abbrev pub waiting : Option Creation → ℕ

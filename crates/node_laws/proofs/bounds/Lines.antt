@@ -2,28 +2,17 @@
 use Rattle.std.proofs.Common.{◌≡◌, ℕ, zero, suc, ◌+◌, ◌*◌, ◌≤◌, Bool, true, false, cond, List, [], ◌∷◌, ◌++◌, length, sym, refl, ap, ◌∙◌, subst, arith}
 use Rattle.std.proofs.Common.{Option, Some, None}
 use Rattle.std.specs.Prelude.{replicate, is_some, unwrap_or}
-use Rattle.trace_model.specs.declared.entry.NoCause.{NoCause}
+use Rattle.node_laws.proofs.Words.{AreCausedSo, AreNodeLinesOf, ArePlayable, End, FollowsNodes, Happening, Header, IsNodeHeader, IsNodeLineOf, IsPlayable, Line}
+use Rattle.node_laws.proofs.Words.{NoCause, NodeHistory, NodeWorld, Occurrence, Running, Same, Takes, Ticks, Verdict, all_happen, by_option, by_test}
+use Rattle.node_laws.proofs.Words.{can_happen, commands_by, commands_by_events, commands_noted, entries_in, first_cause, first_verdict, frames_at, goes_on}
+use Rattle.node_laws.proofs.Words.{happenings, happens_by, if_off, line_step, lines_asking, new_world, node_at, occurrences_in, occurrences_of, refusal_in}
+use Rattle.node_laws.proofs.Words.{steps_from, tables_told, taken_of, world_step}
 use Rattle.trace_model.specs.declared.entry.NoCause.TheVariants as cause
-use Rattle.trace_model.specs.declared.line.End.{End}
-use Rattle.trace_model.specs.declared.line.Header.{Header}
-use Rattle.trace_model.specs.declared.line.Line.{Line}
 use Rattle.trace_model.specs.declared.line.Line.TheVariants as line
-use Rattle.trace_model.specs.Lines.{IsNodeHeader}
-use Rattle.history.specs.Damage.{Verdict}
-use Rattle.history.specs.Damage.Verdict.{Same}
-use Rattle.history.specs.Follows.{first_verdict, taken_of}
-use Rattle.node_machine.specs.Parts.{Running}
-use Rattle.node_machine.specs.world.World.{NodeWorld, Happening, node_at, new_world, world_step}
-use Rattle.node_machine.specs.world.World.Happening.{Takes, Ticks}
-use Rattle.node_machine.specs.world.Lines.{if_true, if_off, first_cause, frames_at, refusal_in, happens_by, happenings, Occurrence, can_happen, all_happen}
-use Rattle.node_machine.specs.world.Lines.{tables_told, goes_on, line_step}
-use Rattle.node_machine.specs.world.NodeHistories.{FollowsNodes, NodeHistory, steps_from, occurrences_of, occurrences_in, entries_in}
-use Rattle.node_laws.specs.links.Runs.{ArePlayable, IsPlayable}
-use Rattle.node_laws.proofs.Cases.{by_option, by_test}
+use Rattle.node_machine.specs.world.Lines.{if_true}
 use Rattle.node_laws.proofs.telling.Lasting.{AllMay, AreCaused, events_of_steps, lines_caused, repeated_may, damaged_may}
-use Rattle.node_laws.specs.reply_passes.Counts.{commands_noted}
-use Rattle.node_laws.specs.schedules.Ranges.{IsNodeLineOf, AreNodeLinesOf, asking, lines_asking}
-use Rattle.node_laws.specs.bounds.Commands.{MayBeCaused, AreCausedSo, commands_by, commands_by_all, commands_by_events}
+use Rattle.node_laws.specs.schedules.Ranges.{asking}
+use Rattle.node_laws.specs.bounds.Commands.{MayBeCaused, commands_by_all}
 use Rattle.node_laws.proofs.schedules.Ranges.{hosts_are, hosts_few, playable}
 use Rattle.node_laws.proofs.bounds.Causes.{events_bounded}
 

@@ -1,25 +1,17 @@
 -- Identifiers of UICCs on a link: those on the wire and those that the host may still send, over what happens there.
 use Rattle.std.proofs.Common.{◌≡◌, ℕ, zero, suc, ◌+◌, ◌-◌, ◌≤◌, Bool, true, false, List, [], ◌∷◌, ◌++◌, length, take, drop, refl, ap, ◌∙◌, arith, Some}
 use Rattle.std.specs.Prelude.{nat_lt, is_some}
-use Rattle.swp_base.specs.declared.control_frames.Control.{Control}
+use Rattle.node_laws.proofs.Words.{AsksReset, Bare, Comes, Control, CutOff, Ending, GoesOut, IsUicc, Link, LinkEnd, LinkInput, NextFrame, NoInput, OnWire}
+use Rattle.node_laws.proofs.Words.{Ready, Reset, Role, Start, Starts, Stop, Stops, Take, Tick, Turn, after_input, by_list, by_test, deactivated, ended_by}
+use Rattle.node_laws.proofs.Words.{finished, frames_out, has_input, is_rset, left_after, most_frames, put, put_all, renewed, silent, started}
+use Rattle.node_laws.proofs.Words.{steps_at_controller, ticks_at_controller, turned, with_ended}
 use Rattle.swp_base.specs.declared.control_frames.Control.TheVariants.{Act as ActFrame}
-use Rattle.shdlc_core.specs.Machine.{most_frames}
 use Rattle.swp_base.specs.declared.control_frames.Act.{Act}
-use Rattle.swp_base.specs.declared.control_frames.Act.TheVariants.{Ready}
-use Rattle.link_laws.specs.sessions.Sessions.{OnWire, fits, aged_wire, is_rset}
+use Rattle.link_laws.specs.sessions.Sessions.{fits, aged_wire}
 use Rattle.link_laws.specs.sessions.Losses.{is_act}
-use Rattle.link_laws.specs.machine.Machine.{LinkEnd, ActDue, Role, LinkInput, Turn, among, frames_out, after_input, turned, renewed, started, deactivated}
-use Rattle.link_laws.specs.machine.Machine.{ended_by}
-use Rattle.link_laws.specs.machine.Machine.Role.{Bare}
-use Rattle.link_laws.specs.machine.Machine.LinkInput.{Take, Tick, Reset, Start, Stop}
-use Rattle.link_laws.specs.messages.Links.{Link, Ending, Comes, IsUicc, put, put_all, with_ended, finished, has_input, silent}
-use Rattle.link_laws.specs.messages.Links.{steps_at_controller, ticks_at_controller}
-use Rattle.link_laws.specs.messages.Links.Ending.{GoesOut, CutOff}
-use Rattle.link_laws.specs.messages.Links.Comes.{NextFrame, AsksReset, Starts, Stops, NoInput}
-use Rattle.link_laws.specs.entries.Entries.{left_after}
+use Rattle.link_laws.specs.machine.Machine.{ActDue, among}
 use Rattle.link_laws.proofs.messages.ActsInOrder.{NoActs, no_acts}
 use Rattle.link_laws.proofs.messages.Project.{beside-put_all}
-use Rattle.node_laws.proofs.Cases.{by_list, by_test}
 use Rattle.node_laws.proofs.bounds.Syncs.{sync_frame, sync_act, syncs_on, syncs_due, tries_of, may_send, start_of, ComesOnce, input_sends, turned_sends}
 
 -- ## Wires

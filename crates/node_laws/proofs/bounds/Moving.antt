@@ -4,15 +4,10 @@ use Rattle.std.specs.Prelude.{not}
 use Rattle.std.specs.List.{cons_option, filter_map}
 use Rattle.std.proofs.lemmas.Bool.{eqb-true, eqb-false, ne_eqb}
 use Rattle.std.proofs.lemmas.List.Elements.{filter_map-append}
-use Rattle.trace_model.specs.declared.entry.Entry.{Entry}
+use Rattle.node_laws.proofs.Words.{AreInTurn, End, Entry, IsFrontOf, Message, by_test, good_of, got_entry, got_in, got_in_session, node_number, other_end}
+use Rattle.node_laws.proofs.Words.{said_of, same_end, sent_by, sent_in, since_boot, turn_entry_at}
 use Rattle.trace_model.specs.declared.entry.Entry.TheVariants as entry
-use Rattle.trace_model.specs.declared.line.End.{End}
-use Rattle.trace_model.specs.Ends.{other_end}
-use Rattle.hcp_packet.specs.Packets.{good_of, is_good, IsFrontOf}
-use Rattle.link_laws.specs.machine.Machine.{Message}
-use Rattle.history.specs.Filters.{same_end, said_of, sent_by, sent_in, got_in_session, got_in}
-use Rattle.node_machine.specs.world.NodeLegal.{since_boot, got_entry, turn_entry_at, node_number, AreInTurn}
-use Rattle.node_laws.proofs.Cases.{by_test}
+use Rattle.hcp_packet.specs.Packets.{is_good}
 use Rattle.node_laws.proofs.bounds.Costs.{message_cost, worth}
 
 -- ## Messages that weigh

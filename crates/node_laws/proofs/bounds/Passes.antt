@@ -5,28 +5,17 @@ use Rattle.std.specs.Prelude.{if◌then◌else◌}
 use Rattle.std.specs.List.{cons_option}
 use Rattle.std.specs.Option.{option_map_or}
 use Rattle.std.proofs.lemmas.List.Elements.{filter-append, filter_map-append}
-use Rattle.trace_model.specs.declared.entry.Entry.{Entry}
+use Rattle.node_laws.proofs.Words.{AreInTurn, ComesTo, End, Entry, Gets, IsFrontOf, Message, Port, Saying, Work, at_end, by_test, commands_noted, deeds_of}
+use Rattle.node_laws.proofs.Words.{end_of_node, good_of, got_in, got_in_session, handles, holds_back, lets_go, noted_by_deeds, other_end, port_at, said}
+use Rattle.node_laws.proofs.Words.{said_of, same_end, sent_by, sent_in, takes_up}
 use Rattle.trace_model.specs.declared.entry.Entry.TheVariants as entry
-use Rattle.trace_model.specs.declared.line.End.{End}
-use Rattle.trace_model.specs.Ends.{other_end}
-use Rattle.hcp_packet.specs.Packets.{good_of, is_good, IsFrontOf}
-use Rattle.link_laws.specs.machine.Machine.{Message}
+use Rattle.hcp_packet.specs.Packets.{is_good}
 use Rattle.link_laws.specs.entries.Entries.{End as Side}
-use Rattle.history.specs.Filters.{Saying, said, at_end, same_end, said_of, sent_by, sent_in, got_in_session, got_in}
-use Rattle.history.specs.Filters.Saying.{Gets}
-use Rattle.node_machine.specs.Parts.{Port, Work}
-use Rattle.node_machine.specs.Carrying.{end_of_node, port_at}
-use Rattle.node_machine.specs.Turns.{deeds_of, handles, holds_back, lets_go}
-use Rattle.node_machine.specs.world.NodeLegal.{AreInTurn}
-use Rattle.node_laws.specs.passes.Noting.{noted_by_deeds}
-use Rattle.node_laws.specs.passes.Passing.{ComesTo, takes_up}
-use Rattle.node_laws.proofs.Cases.{by_test}
 use Rattle.node_laws.proofs.passes.Passing.{comes_so, handles_entries, holds_notes, lets_notes, own_held}
 use Rattle.node_laws.proofs.turns.Queues.{AreStill}
 use Rattle.node_laws.proofs.turns.Queues.Doing.{Nothing, Adds}
 use Rattle.node_laws.proofs.telling.Mute.{deeds_mute}
 use Rattle.node_laws.proofs.steps.StepWalks.{lets, holds}
-use Rattle.node_laws.specs.reply_passes.Counts.{commands_noted}
 use Rattle.node_laws.proofs.reply_passes.Ordered.{deeds_still}
 use Rattle.node_laws.proofs.bounds.Costs.{costs, pays, costs-append, pays-append}
 use Rattle.node_laws.proofs.bounds.Deeds.{Owes, noted}

@@ -1,18 +1,11 @@
 -- All messages that have their turns were sent, at all ends: so what is noted is paid for by causes alone.
 use Rattle.std.proofs.Common.{◌≡◌, ℕ, zero, suc, ◌+◌, ◌≤◌, ◌==◌, Bool, true, false, List, [], ◌∷◌, ◌++◌, refl, ap, ◌∙◌, arith, Option, Some, None}
 use Rattle.std.specs.Prelude.{not, if◌then◌else◌, replicate, length}
-use Rattle.trace_model.specs.declared.entry.Entry.{Entry}
+use Rattle.node_laws.proofs.Words.{AreInTurn, End, Entry, IsFrontOf, Saying, at_end, by_test, commands_noted, good_of, got_in, other_end, said, said_of}
+use Rattle.node_laws.proofs.Words.{same_end, same_end_itself, sent_by, sent_in}
 use Rattle.trace_model.specs.declared.entry.Entry.TheVariants as entry
-use Rattle.trace_model.specs.declared.line.End.{End}
-use Rattle.trace_model.specs.Ends.{other_end}
-use Rattle.hcp_packet.specs.Packets.{good_of, IsFrontOf}
-use Rattle.history.specs.Filters.{Saying, said, at_end, same_end, said_of, sent_by, sent_in, got_in}
 use Rattle.history.specs.Filters.Saying.{Sends}
-use Rattle.history.proofs.Filters.{same_end_itself}
-use Rattle.node_machine.specs.world.NodeLegal.{AreInTurn}
-use Rattle.node_laws.proofs.Cases.{by_test}
 use Rattle.node_laws.proofs.schedules.Ends.{count, one_at, ends_same, fewer}
-use Rattle.node_laws.specs.reply_passes.Counts.{commands_noted}
 use Rattle.node_laws.proofs.bounds.Costs.{message_cost, worth, costs, pays}
 use Rattle.node_laws.proofs.bounds.Moving.{turns, turned_came, sent_below, fewer_below, hits, hits_most, sent_of, sent_more, top, all_got, worth_if}
 

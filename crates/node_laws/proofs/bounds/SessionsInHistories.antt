@@ -3,26 +3,17 @@ use Rattle.std.proofs.Common.{◌≡◌, ℕ, ◌≤◌, List, [], ◌∷◌, �
 use Rattle.std.specs.Prelude.{◌==◌}
 use Rattle.std.specs.List.{AllByRecursion}
 use Rattle.registry.proofs.ValueLemmas.{AllByRecursion-filter as each_filter}
-use Rattle.trace_model.specs.declared.entry.Entry.{Entry}
-use Rattle.trace_model.specs.declared.line.Header.{Header}
-use Rattle.trace_model.specs.declared.line.Line.{Line}
+use Rattle.node_laws.proofs.Words.{AreHosts, ArePlayable, Entry, FollowsNodes, Header, IsLine, IsLinkTold, Line, Link, LinkEvent, NodeHistory, Occurrence, Site}
+use Rattle.node_laws.proofs.Words.{after_link_events, by_test, entries, entries_for, entries_in, event_of, link_after_all, new_line, new_world, occurrences_in}
+use Rattle.node_laws.proofs.Words.{of_link, site_at, world_behind}
 use Rattle.trace_model.specs.Lines.{IsLineOf}
-use Rattle.link_laws.specs.messages.Links.{Link, LinkEvent, after_link_events}
-use Rattle.link_laws.specs.messages.Links.IsStart.{IsBare, IsLine}
-use Rattle.link_laws.specs.entries.Entries.{entries, trace}
+use Rattle.link_laws.specs.messages.Links.IsStart.{IsBare}
+use Rattle.link_laws.specs.entries.Entries.{trace}
 use Rattle.history.specs.Histories.{Cause, History, all_entries, all_events, causes_of}
 use Rattle.history.specs.Follows.{Follows, host_of}
-use Rattle.history.specs.Steps.{bare_link, entries_for, event_of, link_after, link_after_all}
+use Rattle.history.specs.Steps.{bare_link, link_after}
 use Rattle.history.proofs.legal.Runs.{link_events}
 use Rattle.history.proofs.legal.Ordered.{IsRun, is_run, run_entries}
-use Rattle.node_machine.specs.world.World.{Site, new_world, site_at}
-use Rattle.node_machine.specs.world.Lines.{Occurrence}
-use Rattle.node_machine.specs.world.NodeHistories.{FollowsNodes, NodeHistory, entries_in, occurrences_in}
-use Rattle.node_laws.specs.kept.Hosts.{AreHosts}
-use Rattle.node_laws.specs.telling.Telling.{of_link, world_behind}
-use Rattle.node_laws.specs.links.Runs.{ArePlayable, new_line}
-use Rattle.node_laws.specs.order.Told.{IsLinkTold}
-use Rattle.node_laws.proofs.Cases.{by_test}
 use Rattle.node_laws.proofs.order.Lines.{history_so}
 use Rattle.link_laws.specs.messages.Rsets.{NumbersWithin}
 use Rattle.node_laws.specs.rsets.Causes.{NumbersWithinOnEach, happened_in, rsets_by_all}

@@ -3,30 +3,25 @@ use Rattle.std.proofs.Common.{◌≡◌, ℕ, ◌≤◌, Bool, true, false, List
 use Rattle.std.specs.Prelude.{nat_lt, is_some}
 use Rattle.std.specs.List.{AllByRecursion}
 use Rattle.registry.proofs.ValueLemmas.{AllByRecursion-append as each_append}
-use Rattle.swp_base.specs.declared.control_frames.Control.{Control}
-use Rattle.link_laws.specs.sessions.Sessions.{OnWire, is_rset, is_up, took_with}
-use Rattle.link_laws.specs.machine.Machine.{LinkEnd, LinkInput, Report, Turn, after_input, deactivated, ended_by, frames_out, give_refusal, report}
-use Rattle.link_laws.specs.machine.Machine.{started, turn, turned, whole_acked, new_link_end, renewed, sent_all}
-use Rattle.link_laws.specs.machine.Machine.LinkInput.{Take, Tick as HasTick, Reset, Start, Stop}
-use Rattle.link_laws.specs.machine.Machine.Turn.{Give}
-use Rattle.link_laws.specs.messages.Links.{NumberedEnd, Link, Ending, Comes, Loss, EndEvent, LinkEvent, Node, IsStart, number_of, put, put_all}
-use Rattle.link_laws.specs.messages.Links.{with_controller, with_ended, silent, finished, has_input, has_taken, has_restarted, steps_at_controller}
-use Rattle.link_laws.specs.messages.Links.{ticks_at_controller, exchanged, aged, happens_at_controller, all_at_controller, happens, after_link_events}
-use Rattle.link_laws.specs.messages.Links.Ending.{GoesOut, CutOff}
-use Rattle.link_laws.specs.messages.Links.Comes.{NextFrame, AsksReset, Starts, Stops, NoInput}
-use Rattle.link_laws.specs.messages.Links.Loss.{TooMany}
-use Rattle.link_laws.specs.messages.Links.EndEvent.{Step, Lose}
-use Rattle.link_laws.specs.messages.Links.LinkEvent.{AtController, AtHost, Ticks, TicksWithout, Activate}
-use Rattle.link_laws.specs.entries.Entries.{End, Entry, told, told_of, turn_entry, turn_entries, first_lost, pushed_out, wire_with, put_entries, puts_entries}
-use Rattle.link_laws.specs.entries.Entries.{ending_entries, rest_entries, input_entries, left_after, taken_entries, restart_entries, step_entries}
-use Rattle.link_laws.specs.entries.Entries.{here_entries, entries_of_events, aged_entries, tick_entries, event_entries, entries, far}
-use Rattle.link_laws.specs.entries.Entries.End.{Controller, Host}
-use Rattle.link_laws.specs.entries.Entries.Entry.{Up, Acked, Got, Sent, Tick, Restarted, Cut}
-use Rattle.history.specs.Steps.{entry_of, entries_for}
+use Rattle.node_laws.proofs.Words.{Acked, Activate, AsksReset, AtController, AtHost, Comes, Control, Controller, Cut, CutOff, EndEvent, Ending, Give, GoesOut}
+use Rattle.node_laws.proofs.Words.{Got, Host, Link, LinkEnd, LinkEvent, LinkInput, Lose, Loss, NextFrame, NoInput, Node, NumberedEnd, OnWire, Report, Reset}
+use Rattle.node_laws.proofs.Words.{Restarted, Sent, Start, Starts, Step, Stop, Stops, Take, TicksWithout, TooMany, Turn, after_input, after_link_events, aged}
+use Rattle.node_laws.proofs.Words.{aged_entries, all_at_controller, by_list, by_option, by_test, deactivated, ended_by, ending_entries, entries, entries_for}
+use Rattle.node_laws.proofs.Words.{entries_of_events, entry_of, event_entries, exchanged, far, finished, first_lost, frames_out, give_refusal, happens}
+use Rattle.node_laws.proofs.Words.{happens_at_controller, has_input, has_taken, here_entries, input_entries, is_rset, is_up, left_after, new_link_end}
+use Rattle.node_laws.proofs.Words.{number_of, pushed_out, put, put_all, put_entries, puts_entries, renewed, report, rest_entries, sent_all, silent, started}
+use Rattle.node_laws.proofs.Words.{step_entries, steps_at_controller, taken_entries, tick_entries, ticks_at_controller, told, told_of, took_with, turn}
+use Rattle.node_laws.proofs.Words.{turn_entries, turn_entry, turned, whole_acked, wire_with, with_ended}
+use Rattle.link_laws.specs.machine.Machine.LinkInput.{Tick as HasTick}
+use Rattle.link_laws.specs.messages.Links.{IsStart}
+use Rattle.link_laws.specs.messages.Links.{with_controller, has_restarted}
+use Rattle.link_laws.specs.messages.Links.LinkEvent.{Ticks}
+use Rattle.link_laws.specs.entries.Entries.{End, Entry}
+use Rattle.link_laws.specs.entries.Entries.{restart_entries}
+use Rattle.link_laws.specs.entries.Entries.Entry.{Up, Tick}
 use Rattle.link_laws.specs.messages.Rsets.{HasLowNumbers}
 use Rattle.node_laws.specs.bounds.Resets.{NotedWithin, AreNotedWithin, SessionWithin, AreSessionsWithin}
 use Rattle.node_laws.proofs.telling.Reported.{told_all}
-use Rattle.node_laws.proofs.Cases.{by_test, by_list, by_option}
 use Rattle.link_laws.proofs.messages.RsetNumbers.{number_low, exchanged_numbered, aged_numbered, silent_numbered, took_low}
 use Rattle.link_laws.proofs.messages.RsetNumbers.{steps_numbered, tick_numbered, here_numbered, all_numbered, event_numbered, start_numbered}
 

@@ -2,31 +2,20 @@
 use Rattle.std.proofs.Common.{◌≡◌, ℕ, ◌+◌, ◌-◌, ◌≤◌, ◌<◌, Bool, true, false, cond, List, [], ◌∷◌, ◌++◌, map, refl, ap, ◌∙◌, arith, Option, Some, None}
 use Rattle.std.specs.Prelude.{nat_le, is_some, length}
 use Rattle.std.proofs.lemmas.Bool.{cond_both, leb-false}
-use Rattle.swp_base.specs.declared.control_frames.Control.{Control}
-use Rattle.swp_base.specs.declared.control_frames.Control.TheVariants.{I, S, Rset, Ua, Act as ActFrame, Clt}
+use Rattle.node_laws.proofs.Words.{ActEvent, ActOut, Asked, Awaiting, Bare, Clf, Clt, Control, EndState, Fetch, FromNode, Give, I, Inactive, IsUicc, LinkEnd}
+use Rattle.node_laws.proofs.Words.{LinkInput, LinkState, OnWire, Phase, PowerMode, Ready, Reset, Role, Rset, S, SetAside, Start, Stop, SyncId, Take, TakeBroken}
+use Rattle.node_laws.proofs.Words.{TakeUnknown, Tick, Turn, Ua, Uicc, UiccAct, Up, Waiting, act_answer, act_event, act_out, activated, after_input}
+use Rattle.node_laws.proofs.Words.{aside_refusal, by_option, by_test, give_refusal, heard, if_up, is_faulty, is_open, moved, no_act_out, out_ticked, put_down}
+use Rattle.node_laws.proofs.Words.{report, reset_refusal, reset_with, role_after, stopped, take_answer, taken, tick_answer, ticked, took, turn, turned}
+use Rattle.node_laws.proofs.Words.{uicc_step, window_of, with_act}
+use Rattle.swp_base.specs.declared.control_frames.Control.TheVariants.{Act as ActFrame}
 use Rattle.swp_base.specs.declared.control_frames.Act.{Act}
-use Rattle.swp_base.specs.declared.control_frames.Act.TheVariants.{Ready, SyncId, PowerMode}
-use Rattle.swp_act.specs.declared.ActEvent.{ActEvent}
 use Rattle.swp_act.specs.declared.ActEvent.TheVariants.{Start as ActStart, Take as ActTake, Tick as ActTick, Stop as ActStop}
-use Rattle.swp_act.specs.declared.ActOut.{ActOut}
-use Rattle.swp_act.specs.declared.Phase.{Phase}
-use Rattle.swp_act.specs.declared.Phase.TheVariants.{Inactive, Awaiting, Active}
-use Rattle.swp_act.specs.declared.uicc.UiccAct.{UiccAct}
+use Rattle.swp_act.specs.declared.Phase.TheVariants.{Active}
 use Rattle.swp_act.specs.declared.clf.ClfAct.{ClfAct}
-use Rattle.swp_base.specs.declared.link_terms.Cause.TheVariants.{Asked}
-use Rattle.swp_act.specs.Activation.{uicc_step, clf_step, clf_synced, clf_readied, uicc_powered, phase_ticked, out_ticked, no_act_out}
-use Rattle.shdlc_core.specs.declared.answers.LinkState.{LinkState}
-use Rattle.shdlc_core.specs.declared.answers.LinkState.TheVariants.{Down, Waiting, Up}
-use Rattle.shdlc_core.specs.Machine.{EndState, taken, take_answer, ticked, tick_answer, stopped, reset_with}
-use Rattle.link_laws.specs.sessions.Sessions.{OnWire}
-use Rattle.link_laws.specs.machine.Machine.{LinkEnd, ActDue, Role, LinkInput, Turn, in_front, with_act, moved, put_down, activated, heard, took, is_open}
-use Rattle.link_laws.specs.machine.Machine.{is_faulty, turn, turned, after_input, give_refusal, aside_refusal, reset_refusal, window_of, if_up, role_after}
-use Rattle.link_laws.specs.machine.Machine.{act_answer, act_event, act_out, report}
-use Rattle.link_laws.specs.machine.Machine.Role.{Bare, Clf, Uicc}
-use Rattle.link_laws.specs.machine.Machine.LinkInput.{Take, TakeUnknown, TakeBroken, Tick, Reset, Start, Stop, FromNode, Fetch}
-use Rattle.link_laws.specs.machine.Machine.Turn.{Give, SetAside}
-use Rattle.link_laws.specs.messages.Links.{IsUicc}
-use Rattle.node_laws.proofs.Cases.{by_option, by_test}
+use Rattle.swp_act.specs.Activation.{clf_step, clf_synced, clf_readied, uicc_powered, phase_ticked}
+use Rattle.shdlc_core.specs.declared.answers.LinkState.TheVariants.{Down}
+use Rattle.link_laws.specs.machine.Machine.{ActDue, in_front}
 
 -- ## Frames with an identifier
 

@@ -4,38 +4,23 @@ use Rattle.std.specs.Prelude.{Option, Some, None, Result, Ok, Err}
 use Rattle.std.specs.List.{filter, range_with_len}
 use Rattle.std.proofs.lemmas.Bool.{cond_both}
 use Rattle.std.proofs.lemmas.Option.{slice_get_within}
-use Rattle.link_laws.specs.sessions.Sessions.{is_up}
-use Rattle.hcp_packet.specs.declared.MessageKind.{MessageKind}
+use Rattle.node_laws.proofs.Words.{Answer, Ask, Clear, Command, Commit, Commits, Controller, Core, Create, Creation, Decision, Deed, Delete, Drops, Ends}
+use Rattle.node_laws.proofs.Words.{GoesOn, Hears, Host, Init, InitFailed, InitMade, InitSame, IsAnswered, Message, MessageFault, MessageKind, Orders, Port}
+use Rattle.node_laws.proofs.Words.{Releases, Response, SaysOk, Sends, Set, Tells, Work, accepts, agreed, all_done, answer_of, answers_on, asked_at, body_in}
+use Rattle.node_laws.proofs.Words.{body_of, by_option, by_test, commit, commit_writes, controller_deeds, controller_holds, count_in, decided, decision_deeds}
+use Rattle.node_laws.proofs.Words.{done, end_of_node, end_view, fails_within, finds_room, first_of, gate_of_pipe, gates, has, header_of, host_deeds}
+use Rattle.node_laws.proofs.Words.{identity_served, init_deeds, is_command_message, is_gate, is_up, learned, learned_holds, learns, learns_holds, link_deeds}
+use Rattle.node_laws.proofs.Words.{link_served, ordered_deeds, ordered_holds, orders_of, own_view, param_in, port_at, response_deeds, tests_to_get}
+use Rattle.node_laws.proofs.Words.{tests_to_set_errors, value_in, view_for, view_of}
 use Rattle.hcp_packet.specs.declared.MessageKind.TheVariants.{Command as IsCommand, Event as IsEvent, Response as IsResponse}
-use Rattle.hcp_packet.specs.declared.MessageFault.{MessageFault}
-use Rattle.hcp_packet.specs.MessageHeader.{header_of}
-use Rattle.journal_laws.specs.Planned.{fails_within}
 use Rattle.trace_model.specs.declared.entry.Entry.TheVariants as entry
-use Rattle.trace_model.specs.declared.entry.Entry.TheVariants.{InitSame, InitMade, InitFailed}
-use Rattle.hci_tables.specs.declared.command.Command.{Command}
-use Rattle.hci_tables.specs.declared.command.Command.TheVariants.{Create, Delete, Clear, Set}
-use Rattle.hci_tables.specs.Bodies.{body_of}
-use Rattle.hci_store.specs.Committing.{commit_writes}
-use Rattle.gate_answers.specs.declared.response.Response.{Response}
 use Rattle.gate_answers.specs.declared.response.Response.TheVariants as response
-use Rattle.gate_answers.specs.Answers.{answer_of, body_in, tests_to_set, tests_to_get, first_of, param_in, value_in}
-use Rattle.gate_admin.specs.declared.decision.Decision.{Decision}
-use Rattle.gate_admin.specs.declared.decision.Decision.TheVariants.{Answer, Commit, Ask}
-use Rattle.gate_admin.specs.View.{has, hosts_where}
-use Rattle.gate_admin.specs.Decide.{decided}
-use Rattle.gate_link.specs.Link.{link_served, link_unless_refused, tests_to_set_errors, count_bytes, count_in}
-use Rattle.gate_identity.specs.Identity.{identity_served, identity_unless_refused, identity_value}
-use Rattle.link_laws.specs.machine.Machine.{Message}
+use Rattle.gate_answers.specs.Answers.{tests_to_set}
+use Rattle.gate_admin.specs.View.{hosts_where}
+use Rattle.gate_link.specs.Link.{link_unless_refused, count_bytes}
+use Rattle.gate_identity.specs.Identity.{identity_unless_refused, identity_value}
 use Rattle.link_laws.specs.entries.Entries.{End as Side}
-use Rattle.link_laws.specs.entries.Entries.End.{Controller, Host}
-use Rattle.node_machine.specs.Parts.{Init, Creation, Core, Port, Work, Deed}
-use Rattle.node_machine.specs.Parts.Deed.{Commits, Sends, SaysOk, Releases, Tells, IsAnswered, Drops, Orders, Hears, GoesOn, Ends}
-use Rattle.node_machine.specs.Carrying.{end_of_node, port_at, commit, done, all_done, finds_room, own_view, end_view}
-use Rattle.node_machine.specs.Controller.{asked_at, view_for, answers_on, decision_deeds, link_deeds, gates, agreed, is_command_message, view_of}
-use Rattle.node_machine.specs.Controller.{controller_deeds}
-use Rattle.node_machine.specs.HostReplies.{accepts, learns, orders_of, init_deeds, learned, response_deeds, is_gate, gate_of_pipe, ordered_deeds, host_deeds}
-use Rattle.node_machine.proofs.Walks.{controller_holds, ordered_holds, learns_holds, learned_holds, init_holds as init_walks}
-use Rattle.node_laws.proofs.Cases.{by_option, by_test}
+use Rattle.node_machine.proofs.Walks.{init_holds as init_walks}
 use Rattle.node_laws.proofs.bounds.Costs.{message_cost, plain_free, near_most, far_most, off_free}
 use Rattle.node_laws.proofs.bounds.Holding.{holds_at, init_left}
 use Rattle.node_laws.proofs.bounds.Deeds.{Owes, weight, weights, weights-append, less, all_owe, and_then, committed, answered, heard, went_on}

@@ -5,30 +5,16 @@ use Rattle.std.specs.List.{flat_map, filter, filter_map, list_any}
 use Rattle.std.specs.Option.{option_map, option_map_or}
 use Rattle.std.proofs.lemmas.Bool.{cond_both}
 use Rattle.std.proofs.lemmas.List.{length-map}
-use Rattle.trace_model.specs.declared.entry.Entry.{Entry}
+use Rattle.node_laws.proofs.Words.{AtEnd, Commits, Controller, Core, Creation, Deed, Entry, FetchMessage, Hold, Host, LinkInput, Message, NodeInput, Port}
+use Rattle.node_laws.proofs.Words.{Releases, Reset, Response, Sync, TimePasses, Work, after_input, after_sessions, after_turn, all_come, all_done, all_owed}
+use Rattle.node_laws.proofs.Words.{asked_at, begins_with, by_option, by_test, comes_to_pass, controller_deeds, deeds_of, end_of, end_of_node, end_view}
+use Rattle.node_laws.proofs.Words.{finds_room, forgets, forgotten, goes_through_ends, handles, has_come, have_turns, host_deeds, input_at, is_forgotten}
+use Rattle.node_laws.proofs.Words.{is_kept_sync, is_late, is_over, is_over_at, lack, needs, noting, owed, own_side, own_view, passes, port_at, report}
+use Rattle.node_laws.proofs.Words.{reset_late, steps, synced, times_out, told_at, told_late, turn_at, unless_cut, view_of, whole_acked, with_desk, with_older}
+use Rattle.node_laws.proofs.Words.{without_notice}
 use Rattle.trace_model.specs.declared.entry.Entry.TheVariants as entry
-use Rattle.hci_tables.specs.declared.command.Command.TheVariants.{Sync}
-use Rattle.hci_tables.specs.Tables.{is_kept_sync}
-use Rattle.gate_answers.specs.declared.response.Response.{Response}
 use Rattle.gate_answers.specs.declared.response.Response.TheVariants as response
-use Rattle.link_laws.specs.machine.Machine.{Message, LinkInput, report, whole_acked, after_input}
-use Rattle.link_laws.specs.machine.Machine.LinkInput.{Reset}
-use Rattle.link_laws.specs.machine.Machine.Turn.{FetchMessage, Hold}
 use Rattle.link_laws.specs.entries.Entries.{End as Side}
-use Rattle.link_laws.specs.entries.Entries.End.{Controller, Host}
-use Rattle.history.specs.Steps.{end_of}
-use Rattle.node_machine.specs.Parts.{Creation, Core, Port, Work, Deed}
-use Rattle.node_machine.specs.Parts.Deed.{Commits, Releases}
-use Rattle.node_machine.specs.Carrying.{own_side, end_of_node, noting, unless_cut, port_at, with_desk, after_turn, turn_at, all_done, needs, lack, finds_room}
-use Rattle.node_machine.specs.Carrying.{own_view, end_view}
-use Rattle.node_machine.specs.Controller.{asked_at, controller_deeds, view_of}
-use Rattle.node_machine.specs.HostReplies.{host_deeds}
-use Rattle.node_machine.specs.Turns.{deeds_of, handles, have_turns, goes_through_ends, passes}
-use Rattle.node_machine.specs.Node.{NodeInput, input_at, has_come, told_at, all_come, with_older, is_late, reset_late, told_late, times_out, is_over}
-use Rattle.node_machine.specs.Node.{is_over_at, is_forgotten, forgotten, forgets, owed, all_owed, without_notice, after_sessions, synced, steps, begins_with}
-use Rattle.node_machine.specs.Node.NodeInput.{AtEnd, TimePasses}
-use Rattle.node_laws.specs.passes.Steps.{comes_to_pass}
-use Rattle.node_laws.proofs.Cases.{by_option, by_test}
 use Rattle.node_laws.proofs.steps.StepWalks.{unless, lets, holds, got_at}
 use Rattle.node_laws.proofs.steps.Ports.{sessions_node}
 use Rattle.node_laws.proofs.bounds.Costs.{costs, message_cost, costs-append, is_host_side, told_free}

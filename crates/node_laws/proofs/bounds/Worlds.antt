@@ -2,51 +2,29 @@
 use Rattle.std.proofs.Common.{◌≡◌, ℕ, ◌+◌, ◌*◌, ◌≤◌, ◌==◌, ◌&&◌, Bool, true, false, cond, eqb, List, [], ◌∷◌, ◌++◌, length, map, sym, refl, ap, ◌∙◌, arith}
 use Rattle.std.proofs.Common.{Option, Some, None, subst}
 use Rattle.std.specs.Prelude.{min}
-use Rattle.link_laws.specs.sessions.Sessions.{OnWire}
+use Rattle.node_laws.proofs.Words.{Activates, AreDifferent, Arms, AsksReset, AtController, AtEnd, Bare, Boots, Broken, Comes, Controller, CutOff, Deed, Desk}
+use Rattle.node_laws.proofs.Words.{End, Entry, Gives, GoesOut, Happening, HasEnds, Host, IfItRuns, Init, Inits, IsCut, IsOrderly, IsUicc, Link, LinkEnd}
+use Rattle.node_laws.proofs.Words.{LinkInput, Loses, Loss, Memory, Message, NextFrame, NoInput, NodeInput, NodeWorld, NumberedEnd, OnWire, Plan, Port, Reset}
+use Rattle.node_laws.proofs.Words.{Resets, Running, Site, Start, Starts, Step, Stop, Stops, Take, Takes, Tick, Ticks, TimePasses, Work, activates, after_host}
+use Rattle.node_laws.proofs.Words.{after_planned, aged, aged_entries, all_aged, arrival, beginning, begins_with, boot_found, boot_writes, boot_written, boots}
+use Rattle.node_laws.proofs.Words.{by_boot, by_coming, by_controller, by_controller_tick, by_host, by_host_tick, by_list, by_loss, by_memory, by_option}
+use Rattle.node_laws.proofs.Words.{by_power, by_running, by_test, changed_if, comes_at, comes_to, commands_by, controller_does, controller_ticks}
+use Rattle.node_laws.proofs.Words.{controller_work, counts, end_c, end_h, ending_entries, ending_of, entries_for, exchanged, first_lost, frame_lost}
+use Rattle.node_laws.proofs.Words.{frames_noted, happens, host_cut, host_does, host_tick, host_ticks, hosts_in, hosts_of_ends, hosts_tick, input_at, input_of}
+use Rattle.node_laws.proofs.Words.{is_command_message, is_late_at, link_after_controller, link_to, links_of, loses_power_at, memory_at, near_end_in, near_tick}
+use Rattle.node_laws.proofs.Words.{new_desk, new_link, own_side, port_at, port_for, report, runs_on, sending, site_at, site_lost, site_ticked, site_unticked}
+use Rattle.node_laws.proofs.Words.{steps, turns_at, wires_for, with_error, with_memory, with_node, with_site, work_of, world_step, world_ticks}
 use Rattle.std.proofs.lemmas.Bool.{true≢false, cond_both, eqb-true, eq-eqb}
 use Rattle.std.proofs.lemmas.List.{length-map, length-append}
 use Rattle.std.specs.List.{AllByRecursion, flat_map}
 use Rattle.std.specs.Option.{option_map_or}
-use Rattle.swp_base.specs.InMemory.{Memory, Plan}
-use Rattle.trace_model.specs.declared.entry.Entry.{Entry}
-use Rattle.trace_model.specs.declared.line.End.{End}
-use Rattle.journal_laws.specs.Planned.{after_planned}
-use Rattle.link_laws.specs.machine.Machine.{Message, LinkEnd, LinkInput, report}
-use Rattle.link_laws.specs.machine.Machine.LinkInput.{Take, Tick, Reset, Start, Stop}
-use Rattle.link_laws.specs.machine.Machine.Role.{Bare}
-use Rattle.link_laws.specs.messages.Links.{NumberedEnd, Link, Comes, Loss, IsUicc, new_link, exchanged, aged, happens}
-use Rattle.link_laws.specs.messages.Links.Comes.{NextFrame, AsksReset, Starts, Stops, NoInput}
-use Rattle.link_laws.specs.messages.Links.Ending.{GoesOut, CutOff}
-use Rattle.link_laws.specs.messages.Links.EndEvent.{Step}
-use Rattle.link_laws.specs.messages.Links.LinkEvent.{AtController}
-use Rattle.link_laws.specs.messages.Links.Loss.{Broken}
-use Rattle.link_laws.specs.entries.Entries.{End as Side, first_lost, ending_entries, aged_entries}
-use Rattle.link_laws.specs.entries.Entries.End.{Controller, Host}
-use Rattle.history.specs.Steps.{entries_for}
-use Rattle.node_machine.specs.Parts.{Init, Desk, Running, Port, Work, Deed}
-use Rattle.node_machine.specs.Carrying.{own_side, port_at, changed_if}
-use Rattle.node_machine.specs.Controller.{is_command_message}
-use Rattle.node_machine.specs.Node.{NodeInput, boot_writes, input_at, new_desk, with_error, steps, begins_with}
-use Rattle.node_machine.specs.Node.NodeInput.{AtEnd, TimePasses}
-use Rattle.node_machine.specs.world.World.{NodeWorld, Site, Happening, link_to, ending_of, runs_on, near_end_in, arrival, wires_for, site_at, with_site}
-use Rattle.node_machine.specs.world.World.{frames_noted, comes_to, controller_work, controller_does, host_does, after_host, link_after_controller, turns_at}
-use Rattle.node_machine.specs.world.World.{input_of, is_late_at, port_for, work_of, boots, with_node, with_memory, loses_power_at, links_of, host_cut, counts}
-use Rattle.node_machine.specs.world.World.{memory_at, frame_lost, all_aged, controller_ticks, host_ticks, hosts_tick, world_ticks, sending, beginning}
-use Rattle.node_machine.specs.world.World.{comes_at, activates, end_c, end_h, world_step}
-use Rattle.node_machine.specs.world.World.Happening.{Boots, IsCut, Gives, Inits, Takes, Loses, Ticks, Resets, Activates, Arms}
-use Rattle.node_machine.proofs.world.Cases.{by_controller, by_host, by_coming, by_boot, by_loss, by_power, by_memory, by_running, near_tick}
-use Rattle.node_machine.proofs.world.Cases.{by_controller_tick, host_tick, by_host_tick, site_ticked, site_unticked, site_lost, boot_written, boot_found}
-use Rattle.node_laws.specs.kept.Books.{hosts_of_ends}
-use Rattle.node_laws.specs.kept.Hosts.{AreDifferent}
-use Rattle.node_laws.specs.telling.Telling.{HasEnds, IfItRuns, hosts_in, IsOrderly}
-use Rattle.node_laws.proofs.Cases.{by_test, by_list, by_option}
+use Rattle.link_laws.specs.entries.Entries.{End as Side}
 use Rattle.node_laws.proofs.telling.Nodes.{hosts_same, link_is, site_host}
 use Rattle.node_laws.proofs.telling.Worlds.{site_is}
 use Rattle.node_laws.proofs.links.Ends.{here_host}
 use Rattle.node_laws.proofs.telling.Events.{orderly_map, comes_goes}
 use Rattle.node_laws.proofs.telling.WorldTicks.{near_orderly}
 use Rattle.node_laws.proofs.telling.Frames.{ending_all, arrival_all, lost_all, wires_all}
-use Rattle.node_laws.specs.bounds.Commands.{commands_by}
 use Rattle.node_laws.proofs.bounds.Costs.{IsNoSent, worth, costs, pays, costs-append, pays-append, notes_free, far_most}
 use Rattle.node_laws.proofs.bounds.Holding.{core_holds, ports_hold, desks_hold, node_holds, desks_are, notice_holds}
 use Rattle.node_laws.proofs.bounds.Deeds.{Owes, weights, less}

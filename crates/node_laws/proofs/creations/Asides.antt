@@ -1,19 +1,12 @@
 -- What comes to an end leaves the blocks that are set aside there.
 use Rattle.std.proofs.Common.{◌≡◌, Bool, true, false, cond, Option, Some, None, refl, ◌∙◌}
 use Rattle.std.specs.Prelude.{ℕ, is_some}
-use Rattle.swp_base.specs.declared.control_frames.Control.{Control}
-use Rattle.swp_base.specs.declared.control_frames.Control.TheVariants.{I, S, Rset, Ua, Act as ActFrame, Clt}
+use Rattle.node_laws.proofs.Words.{ActEvent, Clt, Control, I, IsComing, LinkEnd, LinkInput, LinkState, Reset, Rset, S, Start, Stop, Take, Tick, Ua, Up}
+use Rattle.node_laws.proofs.Words.{act_answer, activated, after_input, by_option, by_test, had_tick, heard, is_faulty, is_open, moved, put_down, reset_refusal}
+use Rattle.node_laws.proofs.Words.{role_after, stopped, take_answer, taken, tick_answer, ticked, took, with_act}
+use Rattle.swp_base.specs.declared.control_frames.Control.TheVariants.{Act as ActFrame}
 use Rattle.swp_base.specs.declared.control_frames.Act.{Act}
-use Rattle.swp_act.specs.declared.ActEvent.{ActEvent}
 use Rattle.swp_act.specs.declared.ActEvent.TheVariants.{Start as ActStart, Take as ActTake, Tick as ActTick, Stop as ActStop}
-use Rattle.shdlc_core.specs.declared.answers.LinkState.{LinkState}
-use Rattle.shdlc_core.specs.declared.answers.LinkState.TheVariants.{Up}
-use Rattle.shdlc_core.specs.Machine.{taken, take_answer, ticked, tick_answer, stopped}
-use Rattle.link_laws.specs.machine.Machine.{LinkEnd, LinkInput, is_faulty, is_open, act_answer, role_after, with_act, moved, put_down, activated, heard}
-use Rattle.link_laws.specs.machine.Machine.{had_tick, took, reset_refusal, after_input}
-use Rattle.link_laws.specs.machine.Machine.LinkInput.{Take, Tick, Reset, Start, Stop}
-use Rattle.node_laws.specs.links.Notices.{IsComing}
-use Rattle.node_laws.proofs.Cases.{by_option, by_test}
 use Rattle.node_laws.proofs.links.Blocks.{moved_aside}
 
 down_aside : (b : Bool) (e : LinkEnd) → (put_down b e).aside ≡ e.aside

@@ -4,13 +4,8 @@ use Rattle.std.proofs.Common.{append_assoc, append-nil, length-append, arith}
 use Rattle.std.specs.Prelude.{Option, Some, None}
 use Rattle.std.specs.List.{AllByRecursion, filter, filter_map}
 use Rattle.std.proofs.lemmas.Bool.{cases_Bool, eqb-true, true≢false, or_parts}
-use Rattle.node_laws.specs.kept.Hosts.{AreDifferent}
-use Rattle.node_machine.specs.Parts.{Creation, Notice, Port}
-use Rattle.node_machine.specs.Carrying.{port_at, changed_if, with_port}
-use Rattle.node_machine.specs.Controller.{creation_in, asked_at, asks_for}
-use Rattle.node_machine.specs.Node.{forgets, without_notice, is_over_at}
-use Rattle.node_laws.specs.creations.Creations.{creations_at, IsReadSo}
-use Rattle.node_laws.proofs.Cases.{by_option, by_test}
+use Rattle.node_laws.proofs.Words.{AreDifferent, Creation, IsReadSo, Notice, Port, asked_at, asks_for, by_option, by_test, changed_if, creation_in}
+use Rattle.node_laws.proofs.Words.{creations_at, forgets, is_over_at, port_at, with_port, without_notice}
 
 -- the creation for which each host is asked
 abbrev pub Asked : Type 0

@@ -5,37 +5,21 @@ use Rattle.std.specs.List.{AllByRecursion, flat_map}
 use Rattle.std.specs.Option.{option_map, option_map_or}
 use Rattle.std.proofs.lemmas.Bool.{eqb-true, eqb-false, ne_eqb, true≢false}
 use mathlib.Core.Bool.{or-false, or-true}
-use Rattle.trace_model.specs.declared.entry.Entry.{Entry}
-use Rattle.shdlc_core.specs.declared.answers.LinkState.TheVariants.{Up}
-use Rattle.link_laws.specs.machine.Machine.{LinkEnd, LinkInput, after_input, ended_by, report, whole_acked}
-use Rattle.link_laws.specs.machine.Machine.LinkInput.{Tick, Reset}
-use Rattle.link_laws.specs.entries.Entries.End.{Controller}
-use Rattle.link_laws.specs.entries.Entries.{told}
-use Rattle.node_machine.specs.Parts.{Creation, Notice, Port, Work}
-use Rattle.node_machine.specs.Carrying.{own_side, port_at}
-use Rattle.node_machine.specs.Controller.{asked_at}
-use Rattle.node_machine.specs.Node.{NodeInput, input_at, has_come, told_at, all_come, with_older, is_late, reset_late, told_late, times_out}
-use Rattle.node_machine.specs.Node.{is_over, is_over_at}
-use Rattle.node_machine.specs.Node.NodeInput.{AtEnd, TimePasses}
-use Rattle.node_machine.specs.world.NodeFilters.{book_in}
-use Rattle.node_laws.specs.links.Notices.{IsComing, IsOutside}
-use Rattle.node_laws.proofs.Cases.{by_test, by_option}
+use Rattle.node_laws.proofs.Words.{AreDifferent, AtEnd, Controller, Creation, Entry, IsComing, IsFresh, IsOutside, IsPlain, IsProperBook, IsShut, LinkEnd}
+use Rattle.node_laws.proofs.Words.{LinkInput, NodeInput, Notice, Port, Reset, Tick, TimePasses, Up, Work, after_input, all_come, asked_at, book_in, by_option}
+use Rattle.node_laws.proofs.Words.{by_test, ended_by, has_come, input_at, is_late, is_over, is_over_at, own_side, port_at, report, reset_late, times_out, told}
+use Rattle.node_laws.proofs.Words.{told_at, told_late, whole_acked, with_older}
 use Rattle.node_laws.proofs.links.Staying.{stays_up}
 use Rattle.node_laws.proofs.links.Noticing.{UpAt, at_all, at_host, outside as from_outside}
 use Rattle.node_laws.proofs.links.Blocks.{IsWithin, input_within}
-use Rattle.node_laws.specs.kept.Hosts.{AreDifferent}
 use Rattle.node_laws.proofs.kept.Books.{book_more, plain_fold}
 use Rattle.node_laws.proofs.kept.Plainly.{plain_entries, plain_flat, hosts_map}
-use Rattle.node_laws.specs.kept.Books.{IsPlain}
-use Rattle.node_laws.specs.readings.Orders.{IsFresh}
 use Rattle.node_laws.proofs.readings.Noticed.{up_is}
 use Rattle.node_laws.proofs.notices.Reading.{reads}
 use Rattle.node_laws.proofs.notices.Far.{asks}
 use Rattle.node_laws.proofs.notices.Doing.{controller_side}
 use Rattle.node_laws.proofs.notices.Shut.{input_shut}
 use Rattle.node_laws.proofs.notices.Stepping.{flat_reads, told_elsewhere, told_here, late_elsewhere, reset_ends}
-use Rattle.node_laws.specs.notices.Worlds.{IsShut}
-use Rattle.node_laws.specs.creations.Worlds.{IsProperBook}
 use Rattle.node_laws.proofs.creations.Asks.{Asked, asked_of, waits, asked_map}
 use Rattle.node_laws.proofs.creations.Reading.{ask_more, told_same, flat_same}
 use Rattle.node_laws.proofs.creations.Asides.{input_aside}

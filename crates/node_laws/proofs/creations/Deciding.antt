@@ -5,27 +5,17 @@ use Rattle.std.specs.Prelude.{Option, Some, None, Ok, is_none}
 use Rattle.std.specs.Option.{option_and_then}
 use Rattle.std.proofs.lemmas.Bool.{cond_both, true≢false, eqb-true, eqb-false, ne_eqb, not-false}
 use Rattle.hcp_packet.specs.declared.MessageKind.TheVariants.{Command as IsCommand}
-use Rattle.hcp_packet.specs.MessageHeader.{header_of}
-use Rattle.pipe_table.specs.PipeRows.{pipe_at}
-use Rattle.pipe_table.specs.declared.row.PipeRow.{PipeRow}
-use Rattle.hci_tables.specs.Tables.{HciTables, is_opened}
-use Rattle.hci_tables.specs.declared.command.Command.TheVariants.{Create, Delete, Clear}
+use Rattle.node_laws.proofs.Words.{Answer, AreProper, Ask, Clear, Command, Commit, Create, Decision, Delete, HciTables, IsProperCommand, LinkView, Message}
+use Rattle.node_laws.proofs.Words.{PipeRow, all_false, answer_of, by_option, by_test, carried_out, closing, commits_and_tells, decided, decided_holds, ends_of}
+use Rattle.node_laws.proofs.Words.{far_end, far_end_of, first_of, goes_through, header_of, is_opened, is_response, new_row, opening, own_gate, param_in}
+use Rattle.node_laws.proofs.Words.{pipe_at, relayed_to, tests_of_pipe, told_of_clearing, told_of_deletion}
 use Rattle.gate_answers.specs.declared.response.Response.TheVariants as response
-use Rattle.gate_answers.specs.Answers.{answer_of, first_of, param_in}
-use Rattle.gate_admin.specs.declared.view.LinkView.{LinkView}
-use Rattle.gate_admin.specs.declared.decision.Decision.{Decision}
-use Rattle.gate_admin.specs.declared.decision.Decision.TheVariants.{Answer, Commit, Ask}
-use Rattle.gate_admin.specs.Decide.{ends_of, far_end, far_end_of, commits_and_tells, dest_in, dest_gate_in, opening, closing, carried_out, decided, created}
-use Rattle.gate_admin.specs.Decide.{told_of_deletion, told_of_clearing, tests_to_create, tests_to_open, tests_of_pipe}
-use Rattle.gate_admin.proofs.CreationLemmas.{AllFalse, all_false}
-use Rattle.link_laws.specs.machine.Machine.{Message}
-use Rattle.node_machine.specs.Controller.{own_gate, goes_through, relayed_to}
-use Rattle.node_machine.specs.world.NodeFilters.{is_response}
-use Rattle.node_laws.specs.creations.Worlds.{IsProper, IsProperCommand, AreProper}
-use Rattle.node_laws.proofs.Cases.{by_option, by_test}
+use Rattle.gate_admin.specs.Decide.{dest_in, dest_gate_in, created}
+use Rattle.gate_admin.specs.Decide.{tests_to_create, tests_to_open}
+use Rattle.gate_admin.proofs.CreationLemmas.{AllFalse}
+use Rattle.node_laws.specs.creations.Worlds.{IsProper}
 use Rattle.node_laws.proofs.creations.Rows.{proper_at}
-use Rattle.hci_tables.specs.declared.command.Command.{Command}
-use Rattle.tables_laws.proofs.gate.Decisions.{unless, new_row, decided_holds}
+use Rattle.tables_laws.proofs.gate.Decisions.{unless}
 
 -- a host is asked for this creation by this notice
 pub record IsAskFor (h : ℕ) (notice : List ℕ) (row : PipeRow) : Type 0 where

@@ -5,36 +5,22 @@ use Rattle.std.specs.Prelude.{Option, Some, None, nat_lt}
 use Rattle.std.specs.List.{AllByRecursion}
 use Rattle.std.specs.Option.{option_map_or}
 use Rattle.std.proofs.lemmas.Bool.{true≢false}
-use Rattle.trace_model.specs.declared.entry.Entry.{Entry}
+use Rattle.node_laws.proofs.Words.{Asks, Commits, Creation, Deed, Drops, Entry, Give, IsAnswered, IsAwaited, IsNoticeOf, IsProperBook, IsProperCommand}
+use Rattle.node_laws.proofs.Words.{IsReadSo, LinkEnd, PipeRow, Port, Release, Releases, Removed, SaysOk, Sends, SetAside, SetsErrors, Tells, Up, Waits, Work}
+use Rattle.node_laws.proofs.Words.{after_turn, agreed, all_done, answer_of, book_in, by_test, commit, count_of, done, end_of_node, ends_of, is_response}
+use Rattle.node_laws.proofs.Words.{noted_of, notified, noting, port_at, spare, turn, turn_at, unless_cut, with_port}
 use Rattle.trace_model.specs.declared.entry.Entry.TheVariants as entry
-use Rattle.journal_laws.specs.Journal.{count_of}
 use Rattle.gate_answers.specs.declared.response.Response.TheVariants as response
-use Rattle.gate_answers.specs.Answers.{answer_of}
-use Rattle.gate_admin.specs.Decide.{ends_of}
-use Rattle.shdlc_core.specs.declared.answers.LinkState.TheVariants.{Up}
-use Rattle.link_laws.specs.machine.Machine.{LinkEnd, turn, spare}
-use Rattle.link_laws.specs.machine.Machine.Turn.{Give, SetAside, Release}
-use Rattle.node_machine.specs.Parts.{Creation, Port, Work, Deed}
-use Rattle.node_machine.specs.Parts.About.{Waits, Removed}
-use Rattle.node_machine.specs.Parts.Deed.{Commits, Sends, SaysOk, Asks, Releases, Tells, IsAnswered, Drops, SetsErrors}
-use Rattle.node_machine.specs.Carrying.{noting, unless_cut, port_at, with_port, after_turn, noted_of, turn_at, notified, commit, done, all_done, end_of_node}
-use Rattle.node_machine.specs.Controller.{agreed}
-use Rattle.node_machine.specs.world.NodeFilters.{is_response, book_in}
-use Rattle.node_laws.proofs.Cases.{by_test}
 use Rattle.node_laws.proofs.links.Noticing.{turn-phase}
 use Rattle.node_laws.proofs.links.Blocks.{turn_within}
 use Rattle.node_laws.proofs.kept.Books.{book_more}
-use Rattle.node_laws.specs.notices.Notices.{IsNoticeOf}
 use Rattle.node_laws.proofs.notices.Far.{asks}
 use Rattle.node_laws.proofs.notices.Doing.{else_same}
-use Rattle.node_laws.specs.creations.Creations.{IsReadSo}
-use Rattle.node_laws.specs.creations.Worlds.{IsProperCommand, IsProperBook, IsAwaited}
 use Rattle.node_laws.proofs.creations.Asks.{Asked, waits, owes, set_asked, Split, asked_else, asked_here}
 use Rattle.node_laws.proofs.creations.Reading.{ask_more, asked_reads}
 use Rattle.node_laws.proofs.creations.Outcomes.{LeavesAsked}
 use Rattle.node_laws.proofs.creations.Doing.{EndAt, plain_of, at_here, IsOn, IsOff, reading, many, Good, on_is, off_is, notes, sets, alters_so, gives, desks}
 use Rattle.node_laws.proofs.creations.Doing.{pays, tells, heard, done_so, commits}
-use Rattle.pipe_table.specs.declared.row.PipeRow.{PipeRow}
 
 -- a block is to spare at an end that is up
 abbrev pub HasBlock : Option Port → Type 0

@@ -5,34 +5,18 @@ use Rattle.std.specs.Prelude.{Option, Some, None, ◌/◌}
 use Rattle.std.specs.List.{AllByRecursion, fold}
 use Rattle.std.specs.Option.{option_map, option_map_or}
 use Rattle.std.proofs.lemmas.Bool.{cases_Bool, eqb-true, eq-eqb, true≢false, le-ltb}
-use Rattle.trace_model.specs.declared.entry.Entry.{Entry}
+use Rattle.node_laws.proofs.Words.{AreProper, Book, Command, Controller, Core, Creation, Desk, Entry, FetchMessage, Give, Hold, IfAwaited, IsAnswered}
+use Rattle.node_laws.proofs.Words.{IsAwaited, IsProperBook, IsProperCommand, IsReadSo, LinkEnd, Message, Port, Release, Removed, SetAside, Turn, Up, Work}
+use Rattle.node_laws.proofs.Words.{after_turn, asked_at, asking_in, body_of, book_after, book_in, by_option, by_test, changed_if, commit, commit_writes}
+use Rattle.node_laws.proofs.Words.{creation_in, done, entries_for, fails_within, give_refusal, in_use, is_response, need, noted_of, notified, noting, own_side}
+use Rattle.node_laws.proofs.Words.{port_at, sent_unless, spare, turn, turn_at, turn_entry, unless_cut, with_desk, with_port}
 use Rattle.trace_model.specs.declared.entry.Entry.TheVariants as entry
-use Rattle.journal_laws.specs.Planned.{fails_within}
-use Rattle.hci_tables.specs.declared.command.Command.{Command}
-use Rattle.hci_tables.specs.Bodies.{body_of}
-use Rattle.hci_store.specs.Committing.{commit_writes}
-use Rattle.shdlc_core.specs.declared.answers.LinkState.TheVariants.{Up}
-use Rattle.link_laws.specs.machine.Machine.{LinkEnd, Message, Turn, turn, give_refusal, in_use, spare, need}
-use Rattle.link_laws.specs.machine.Machine.Turn.{Give, Hold, FetchMessage, SetAside, Release}
-use Rattle.link_laws.specs.entries.Entries.{sent_unless, turn_entry}
-use Rattle.link_laws.specs.entries.Entries.End.{Controller}
-use Rattle.history.specs.Steps.{entries_for}
-use Rattle.node_machine.specs.Parts.{Creation, Desk, Core, Port, Work}
-use Rattle.node_machine.specs.Parts.About.{Removed}
-use Rattle.node_machine.specs.Parts.Deed.{IsAnswered}
-use Rattle.node_machine.specs.Carrying.{own_side, noting, unless_cut, port_at, changed_if, with_port, with_desk, after_turn, noted_of, turn_at, notified}
-use Rattle.node_machine.specs.Carrying.{commit, done}
-use Rattle.node_machine.specs.Controller.{creation_in, asked_at}
-use Rattle.node_machine.specs.world.NodeFilters.{Book, is_response, book_after, book_in, asking_in}
-use Rattle.node_laws.proofs.Cases.{by_option, by_test}
 use Rattle.node_laws.proofs.links.Noticing.{turn-phase, at_all, at_host}
 use Rattle.node_laws.proofs.links.Blocks.{IsWithin, turn_within}
 use Rattle.node_laws.proofs.kept.Books.{plain_fold, book_command, book_more}
 use Rattle.node_laws.proofs.kept.Plainly.{plain_entries}
 use Rattle.node_laws.proofs.notices.Far.{asks}
 use Rattle.node_laws.proofs.notices.Doing.{controller_side, else_same}
-use Rattle.node_laws.specs.creations.Creations.{IsReadSo}
-use Rattle.node_laws.specs.creations.Worlds.{IsProperCommand, AreProper, IsProperBook, IsAwaited, IfAwaited}
 use Rattle.node_laws.proofs.creations.Rows.{proper_apply, proper_command}
 use Rattle.node_laws.proofs.creations.Asks.{Asked, asked_of, one_of, waits, owes, set_asked, read_none, none_read, both_empty, asked_with, asked_set, Split}
 use Rattle.node_laws.proofs.creations.Asks.{left_same, owed_read, owed_length}

@@ -4,57 +4,32 @@ use Rattle.std.specs.Prelude.{Option, Some, None}
 use Rattle.std.specs.List.{AllByRecursion, flat_map, find, cons_option, filter_map}
 use Rattle.std.specs.Option.{option_map_or}
 use Rattle.std.proofs.lemmas.Bool.{eqb-true}
-use Rattle.swp_base.specs.InMemory.{Memory}
-use Rattle.journal_laws.specs.Journal.{count_of}
-use Rattle.journal_laws.specs.Planned.{after_planned}
-use Rattle.trace_model.specs.Lines.{IsHost}
-use Rattle.trace_model.specs.declared.entry.Entry.{Entry}
+use Rattle.node_laws.proofs.Words.{AllKeep, AreHosts, AreProper, AsksReset, AtController, AtEnd, Bare, Broken, Comes, Controller, CutOff, Deed, Desk, End}
+use Rattle.node_laws.proofs.Words.{Entry, GoesOut, HasEnds, HasSetAside, HciTables, Host, IfAwaited, IfHostNode, IfNoticedUp, IfRuns, IsGoodSite, IsHost}
+use Rattle.node_laws.proofs.Words.{IsProperBook, IsReadSo, IsShut, KeepsNotices, Link, LinkInput, Loss, Memory, NextFrame, NoInput, NodeWorld, NumberedEnd}
+use Rattle.node_laws.proofs.Words.{Port, Reset, Role, Running, RunsSo, Site, Starts, Step, Stops, Take, Tick, TimePasses, Turn, Work, after_controller}
+use Rattle.node_laws.proofs.Words.{after_host, after_input, after_planned, aged, all_aged, arrival, asking_in, begins_with, book_in, boot_found, boot_writes}
+use Rattle.node_laws.proofs.Words.{boot_written, boots, by_boot, by_list, by_loss, by_memory, by_option, by_power, by_running, by_test, comes_at, comes_to}
+use Rattle.node_laws.proofs.Words.{controller_cut, controller_ticks, controller_work, count_of, counts, creation_in, creations_at, creations_of, deactivated}
+use Rattle.node_laws.proofs.Words.{ending_of, entries_for, exchanged, first_lost, found, frame_lost, frames_noted, happens, has_come, has_taken, host_cut}
+use Rattle.node_laws.proofs.Words.{host_does, host_work, hosts_in, input_at, input_of, is_late_at, is_waiting, link_after_controller, link_to, links_of}
+use Rattle.node_laws.proofs.Words.{loses_power_at, memory_at, near_end_in, new_desk, new_link_end, node_at, port_at, port_for, renewed, runs_on, seen_from}
+use Rattle.node_laws.proofs.Words.{sent_all, site_at, site_lost, started, steps, steps_at_controller, ticked_so, turned, turns_at, wires_for, with_error}
+use Rattle.node_laws.proofs.Words.{with_memory, with_node, with_site, work_of}
 use Rattle.trace_model.specs.declared.entry.Entry.TheVariants as entry
-use Rattle.trace_model.specs.declared.line.End.{End}
-use Rattle.link_laws.specs.machine.Machine.{LinkInput, Role, Turn, new_link_end, renewed, sent_all, turned, after_input, deactivated, started}
-use Rattle.link_laws.specs.machine.Machine.Role.{Bare}
-use Rattle.link_laws.specs.messages.Links.{Link, NumberedEnd, Loss, Comes, exchanged, aged, happens, steps_at_controller, has_taken}
-use Rattle.link_laws.specs.messages.Links.Ending.{GoesOut, CutOff}
-use Rattle.link_laws.specs.messages.Links.Comes.{NextFrame, AsksReset, Starts, NoInput, Stops}
-use Rattle.link_laws.specs.messages.Links.Loss.{Broken}
-use Rattle.link_laws.specs.messages.Links.EndEvent.{Step}
-use Rattle.link_laws.specs.messages.Links.LinkEvent.{AtController}
-use Rattle.link_laws.specs.entries.Entries.{first_lost}
-use Rattle.link_laws.specs.entries.Entries.End.{Controller, Host}
-use Rattle.history.specs.Steps.{entries_for}
-use Rattle.history.specs.Follows.{seen_from}
-use Rattle.node_machine.specs.Parts.{Desk, Running, Port, Work, Deed}
-use Rattle.node_machine.specs.Carrying.{port_at}
-use Rattle.node_machine.specs.Controller.{creation_in}
-use Rattle.node_machine.specs.Node.{steps, begins_with, boot_writes, found, new_desk, with_error, has_come, input_at}
-use Rattle.node_machine.specs.Node.NodeInput.{AtEnd, TimePasses}
-use Rattle.node_machine.specs.world.World.{NodeWorld, Site, node_at, memory_at, site_at, with_site, with_memory, with_node, link_to, links_of, ending_of}
-use Rattle.node_machine.specs.world.World.{runs_on, turns_at, input_of, near_end_in, arrival, wires_for, work_of, frames_noted, comes_to, controller_work}
-use Rattle.node_machine.specs.world.World.{link_after_controller, after_controller, host_work, after_host, host_does, controller_cut, host_cut}
-use Rattle.node_machine.specs.world.World.{loses_power_at, boots, counts, frame_lost, all_aged, is_late_at, ticked_so, controller_ticks, comes_at, port_for}
-use Rattle.node_machine.specs.world.NodeFilters.{book_in, asking_in}
-use Rattle.node_laws.specs.kept.Hosts.{AreHosts}
-use Rattle.node_laws.specs.kept.Worlds.{AllKeep, IfRuns, RunsSo}
-use Rattle.node_laws.specs.telling.Telling.{HasEnds, hosts_in}
-use Rattle.node_laws.proofs.Cases.{by_list, by_option, by_test}
 use Rattle.node_laws.proofs.telling.Events.{site_map}
 use Rattle.node_laws.proofs.telling.Nodes.{site_host, link_is}
-use Rattle.node_laws.specs.readings.Noticed.{IfNoticedUp}
 use Rattle.node_laws.proofs.readings.NoticedWorlds.{side_map, side_with, far_side, lost_side}
 use Rattle.node_laws.proofs.readings.Sites.{near_end_side, comes_outside, lost_quiet}
-use Rattle.node_laws.specs.notices.Worlds.{IfHostNode, IsGoodSite, IsShut, KeepsNotices}
 use Rattle.node_laws.proofs.notices.Own.{AreOwn}
 use Rattle.node_laws.proofs.notices.Far.{AreFar, far-append, far_flat, quiet_far, IsFarWork, all_do, steps_far, asking_more}
 use Rattle.node_laws.proofs.notices.Sites.{AreGood, good_at, link_shut, frames_quiet, arrival_quiet}
-use Rattle.node_machine.proofs.world.Cases.{by_power, by_memory, by_running, boot_written, boot_found, written_off, by_boot, site_lost, by_loss}
-use Rattle.node_laws.specs.creations.Creations.{creations_at, creations_of, IsReadSo, of_asker}
-use Rattle.node_laws.specs.creations.Worlds.{AreProper, IsProperBook, IfAwaited, HasSetAside, AreAwaited}
+use Rattle.node_machine.proofs.world.Cases.{written_off}
+use Rattle.node_laws.specs.creations.Creations.{of_asker}
+use Rattle.node_laws.specs.creations.Worlds.{AreAwaited}
 use Rattle.node_laws.proofs.creations.Rows.{proper_found}
 use Rattle.node_laws.proofs.creations.Near.{Reads, far_book, far_reading, new_ready, none_side, IsBegun, begun_at, step_reads}
 use Rattle.node_laws.proofs.creations.Sides.{near_made, tick_made, after_tick, near_side, tick_side}
-use Rattle.link_laws.specs.machine.Machine.LinkInput.{Reset, Tick, Take}
-use Rattle.shdlc_core.specs.Machine.{is_waiting}
-use Rattle.hci_tables.specs.Tables.{HciTables}
 use Rattle.node_laws.proofs.kept.Books.{book_more}
 
 -- ## Beside the controller

@@ -3,25 +3,13 @@ use Rattle.std.proofs.Common.{◌≡◌, ℕ, ◌-◌, false, eqb, List, [], ◌
 use Rattle.std.specs.Prelude.{Option, Some, None}
 use Rattle.std.specs.List.{AllByRecursion, flat_map}
 use Rattle.std.specs.Option.{option_map_or}
-use Rattle.trace_model.specs.declared.entry.Entry.{Entry}
-use Rattle.journal_laws.specs.Planned.{fails_within}
-use Rattle.hci_tables.specs.declared.command.Command.{Command}
-use Rattle.hci_tables.specs.Bodies.{body_of}
-use Rattle.hci_store.specs.Committing.{commit_writes}
-use Rattle.link_laws.specs.machine.Machine.{LinkEnd, LinkInput, Message, Turn, after_input, turn, turned}
-use Rattle.link_laws.specs.machine.Machine.LinkInput.{Take, Tick, Reset, Start, Stop}
-use Rattle.link_laws.specs.machine.Machine.Turn.{Give, Hold, FetchMessage, SetAside, Release}
-use Rattle.link_laws.specs.messages.Links.{Link, Comes, Ending, finished, has_taken, steps_at_controller, ticks_at_controller}
-use Rattle.link_laws.specs.messages.Links.Ending.{GoesOut, CutOff}
-use Rattle.link_laws.specs.messages.Links.Comes.{NextFrame, AsksReset, Starts, Stops, NoInput}
-use Rattle.node_machine.specs.Parts.{About, Desk, Core, Port, Work, Deed}
-use Rattle.node_machine.specs.Parts.About.{Removed}
-use Rattle.node_machine.specs.Parts.Deed.{Commits, Sends, SaysOk, Asks, Releases, Tells, IsAnswered, Drops, SetsErrors, Orders, Hears, GoesOn, Ends}
-use Rattle.node_machine.specs.Carrying.{noting, port_at, changed_if, with_desk, after_turn, turn_at, notified, commit, done, all_done}
-use Rattle.node_machine.specs.Node.{NodeInput, input_at, has_come, all_come, with_older, is_late, reset_late, times_out, forgotten, forgets, all_owed}
-use Rattle.node_machine.specs.Node.{without_notice, after_sessions, synced, steps}
-use Rattle.node_machine.specs.Node.NodeInput.{AtEnd, TimePasses}
-use Rattle.node_laws.proofs.Cases.{by_list, by_test, by_option}
+use Rattle.node_laws.proofs.Words.{About, Asks, AsksReset, AtEnd, Comes, Command, Commits, Core, CutOff, Deed, Desk, Drops, Ending, Ends, Entry, FetchMessage}
+use Rattle.node_laws.proofs.Words.{Give, GoesOn, GoesOut, Hears, Hold, IsAnswered, Link, LinkEnd, LinkInput, Message, NextFrame, NoInput, NodeInput, Orders}
+use Rattle.node_laws.proofs.Words.{Port, Release, Releases, Removed, Reset, SaysOk, Sends, SetAside, SetsErrors, Start, Starts, Stop, Stops, Take, Tells, Tick}
+use Rattle.node_laws.proofs.Words.{TimePasses, Turn, Work, after_input, after_sessions, after_turn, all_come, all_done, all_owed, anyone, body_of, by_list}
+use Rattle.node_laws.proofs.Words.{by_option, by_test, changed_if, commit, commit_writes, done, fails_within, finished, forgets, forgotten, has_come, has_taken}
+use Rattle.node_laws.proofs.Words.{input_at, is_late, notified, noting, port_at, reset_late, steps, steps_at_controller, synced, ticks_at_controller, times_out}
+use Rattle.node_laws.proofs.Words.{turn, turn_at, turned, with_desk, with_older, without_notice}
 use Rattle.node_laws.proofs.telling.Steps.{without_same, forgets_same}
 use Rattle.node_laws.proofs.notices.Own.{IsOwn, AreOwn, deeds_own, forgotten_own, all_owed_own, all_synced_own}
 use Rattle.node_laws.proofs.notices.Doing.{all_map}
@@ -30,7 +18,6 @@ use Rattle.node_laws.proofs.creations.Asides.{input_aside}
 use Rattle.node_laws.proofs.creations.Doing.{give_aside}
 use Rattle.node_laws.proofs.steps.Ports.{at_port, sessions_node}
 use Rattle.node_laws.proofs.steps.StepWalks.{got_at, all_do as all_none, Lasts, rest_lasts}
-use Rattle.node_machine.proofs.Walks.{anyone}
 
 -- ## One end
 

@@ -3,41 +3,21 @@ use Rattle.std.proofs.Common.{◌≡◌, ◌⊎◌, inl, inr, ℕ, ◌&&◌, Boo
 use Rattle.std.specs.Prelude.{Option, Some, None}
 use Rattle.std.specs.List.{AllByRecursion}
 use Rattle.std.proofs.lemmas.Bool.{cases_Bool, cond_both}
-use Rattle.swp_base.specs.InMemory.{Memory}
-use Rattle.journal_laws.specs.Planned.{after_planned}
-use Rattle.trace_model.specs.declared.entry.Entry.{Entry}
-use Rattle.trace_model.specs.declared.line.End.{End}
-use Rattle.shdlc_core.specs.Machine.{is_waiting}
-use Rattle.link_laws.specs.machine.Machine.{LinkInput, Turn}
-use Rattle.link_laws.specs.machine.Machine.LinkInput.{Reset}
-use Rattle.link_laws.specs.messages.Links.{NumberedEnd, Link, Comes, EndEvent, Ending, Loss, aged, exchanged, happens, has_input, ticks_at_controller}
-use Rattle.link_laws.specs.messages.Links.Ending.{CutOff, GoesOut}
-use Rattle.link_laws.specs.messages.Links.Comes.{NextFrame, AsksReset, Starts, NoInput}
-use Rattle.link_laws.specs.messages.Links.EndEvent.{Step, Lose}
-use Rattle.link_laws.specs.messages.Links.LinkEvent.{AtController}
-use Rattle.history.specs.Steps.{at, entries_for}
-use Rattle.link_laws.specs.entries.Entries.End.{Host}
-use Rattle.history.specs.Follows.{seen_from}
-use Rattle.node_machine.specs.Parts.{Desk, Port, Running, Work, Deed}
-use Rattle.node_machine.specs.Carrying.{changed_if}
-use Rattle.node_machine.specs.Node.{steps, begins_with, boot_writes}
-use Rattle.node_machine.specs.Node.NodeInput.{AtEnd, TimePasses}
-use Rattle.node_machine.specs.world.World.{NodeWorld, Site, Happening, memory_at, site_at, with_site, with_memory, link_to, ending_of, turns_at, input_of}
-use Rattle.node_machine.specs.world.World.{near_end_in, arrival, port_for, work_of, comes_to, controller_work, link_after_controller, after_controller}
-use Rattle.node_machine.specs.world.World.{controller_does, host_work, after_host, host_does, host_cut, loses_power_at, boots, counts, frame_lost, all_aged}
-use Rattle.node_machine.specs.world.World.{is_late_at, ticked_so, controller_ticks, host_ticks, hosts_tick, comes_at, sending, beginning, new_site, end_c}
-use Rattle.node_machine.specs.world.World.{end_h, world_step}
-use Rattle.node_machine.specs.world.World.Happening.{Boots, IsCut, Gives, Inits, Takes, Loses, Ticks, Resets, Activates, Arms}
-use Rattle.node_laws.proofs.Cases.{by_option, by_test}
+use Rattle.node_laws.proofs.Words.{Activates, Arms, AsksReset, AtController, AtEnd, Boots, Comes, CutOff, Deed, Desk, End, EndEvent, Ending, Entry, Gives}
+use Rattle.node_laws.proofs.Words.{GoesOut, Happening, HasNoneAside, Host, IfHostNode, Inits, IsCut, IsGoodSite, KeepsNotices, Link, LinkInput, Lose, Loses}
+use Rattle.node_laws.proofs.Words.{Loss, Memory, NextFrame, NoInput, NodeWorld, NumberedEnd, Port, Reset, Resets, Running, Site, Starts, Step, Takes, Ticks}
+use Rattle.node_laws.proofs.Words.{TimePasses, Turn, Work, after_controller, after_host, after_planned, aged, all_aged, arrival, at, beginning, begins_with}
+use Rattle.node_laws.proofs.Words.{boot_found, boot_writes, boot_written, boots, by_boot, by_memory, by_option, by_power, by_running, by_test, changed_if}
+use Rattle.node_laws.proofs.Words.{comes_at, comes_to, controller_does, controller_ticks, controller_work, counts, end_c, end_h, ending_of, entries_for}
+use Rattle.node_laws.proofs.Words.{exchanged, frame_lost, happens, has_input, host_cut, host_does, host_ticks, host_work, hosts_tick, input_of, is_late_at}
+use Rattle.node_laws.proofs.Words.{is_waiting, link_after_controller, link_to, loses_power_at, memory_at, near_end_in, new_site, port_for, seen_from, sending}
+use Rattle.node_laws.proofs.Words.{site_at, steps, ticked_so, ticks_at_controller, turns_at, with_memory, with_site, work_of, world_step}
 use Rattle.node_laws.proofs.links.Ends.{here_host}
 use Rattle.link_laws.proofs.entries.Together.{ticks_host as tick_host}
-use Rattle.node_laws.specs.notices.Worlds.{IfHostNode, IsGoodSite, KeepsNotices}
 use Rattle.node_laws.proofs.notices.Own.{AreOwn}
 use Rattle.node_laws.proofs.notices.Sites.{AreGood, good_at, sending_own, beginning_own}
 use Rattle.node_laws.proofs.notices.Near.{comes_reads as notices_come}
-use Rattle.node_laws.specs.creations.Worlds.{HasNoneAside}
 use Rattle.node_laws.proofs.creations.HostSides.{SetsNoneAside, SetNone, step_none, tick_none, all_do, steps_none, none_at}
-use Rattle.node_machine.proofs.world.Cases.{by_memory, by_running, by_power, boot_written, boot_found, by_boot}
 
 abbrev pub HaveNoneAside : List Site → Type 0
 HaveNoneAside sites = AllByRecursion HasNoneAside sites

@@ -5,21 +5,12 @@ use Rattle.std.specs.List.{AllByRecursion, find, list_any, range_with_len}
 use Rattle.std.specs.Option.{option_map_or}
 use Rattle.std.proofs.lemmas.Bool.{cases_Bool, eqb-true, eq-eqb, true≢false}
 use mathlib.Core.Bool.{or-false}
-use Rattle.trace_model.specs.declared.entry.Entry.{Entry}
-use Rattle.hci_tables.specs.declared.command.Command.{Command}
-use Rattle.link_laws.specs.machine.Machine.{LinkEnd, turn, give_refusal}
-use Rattle.link_laws.specs.machine.Machine.Turn.{Release}
-use Rattle.pipe_table.specs.declared.row.PipeRow.{PipeRow}
-use Rattle.pipe_table.specs.PipeRows.{pipe_at, is_free, lowest_free}
-use Rattle.node_machine.specs.Parts.{Creation, Running, Port}
-use Rattle.node_machine.specs.Controller.{asked_at, asks_for, pipe_of, waiting_pipes}
-use Rattle.node_machine.specs.world.World.{NodeWorld, Site, site_at, link_to, end_c}
-use Rattle.node_machine.specs.world.NodeFilters.{asking_in, aside_in}
-use Rattle.node_laws.specs.telling.Telling.{hosts_in}
-use Rattle.node_laws.specs.readings.Noticed.{ends_between}
-use Rattle.node_laws.specs.creations.Creations.{creations_at, creations_of, IsReadSo, is_asked_pipe, asked_pipes, KnowsAsRead, IfKnowsAsRead, AsidesAreRead}
-use Rattle.node_laws.specs.creations.Worlds.{HasNoneAside, HasSetAside, KeepsCreations}
-use Rattle.node_laws.proofs.Cases.{by_list, by_option, by_test}
+use Rattle.node_laws.proofs.Words.{Command, Creation, Entry, HasNoneAside, HasSetAside, IsReadSo, KeepsCreations, LinkEnd, NodeWorld, PipeRow, Port, Release}
+use Rattle.node_laws.proofs.Words.{Running, Site, aside_in, asked_at, asked_pipes, asking_in, asks_for, by_list, by_option, by_test, creations_at, creations_of}
+use Rattle.node_laws.proofs.Words.{end_c, ends_between, give_refusal, hosts_in, is_asked_pipe, link_to, pipe_at, site_at, turn, waiting_pipes}
+use Rattle.pipe_table.specs.PipeRows.{is_free, lowest_free}
+use Rattle.node_machine.specs.Controller.{pipe_of}
+use Rattle.node_laws.specs.creations.Creations.{KnowsAsRead, IfKnowsAsRead, AsidesAreRead}
 use Rattle.node_laws.proofs.creations.Doing.{takes_short}
 use Rattle.node_laws.proofs.creations.Asks.{asked_of, one_of, waits, desks_wait}
 use Rattle.node_laws.proofs.creations.Near.{none_side, desks_back}

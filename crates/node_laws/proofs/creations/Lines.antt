@@ -3,19 +3,11 @@ use Rattle.std.proofs.Common.{◌≡◌, ℕ, List, [], ◌∷◌, ◌++◌, sym
 use Rattle.std.specs.Prelude.{None}
 use Rattle.std.specs.List.{AllByRecursion, flat_map}
 use Rattle.std.proofs.lemmas.List.Concat.{flat_map-append}
-use Rattle.trace_model.specs.declared.entry.Entry.{Entry}
-use Rattle.trace_model.specs.declared.line.Header.{Header}
-use Rattle.trace_model.specs.declared.line.Line.{Line}
-use Rattle.node_machine.specs.world.World.{NodeWorld, Happening, new_world, world_step}
-use Rattle.node_machine.specs.world.Lines.{Occurrence, refusal_in, happenings}
-use Rattle.node_machine.specs.world.NodeHistories.{LineStep, NodeHistory, FollowsNodes, steps_from, occurrences_of, occurrences_in, entries_in, node_entries}
-use Rattle.node_machine.specs.world.NodeHistories.{world_after}
-use Rattle.node_laws.specs.kept.Hosts.{AreHosts, IsFew, IsSentByHost}
-use Rattle.node_laws.specs.kept.Worlds.{MayHappen}
+use Rattle.node_laws.proofs.Words.{AreHosts, Entry, FollowsNodes, Happening, Header, IsFew, IsSentByHost, KeepsCreations, Line, LineStep, MayBoot, MayHappen}
+use Rattle.node_laws.proofs.Words.{NodeHistory, NodeWorld, Occurrence, entries_in, happenings, new_world, node_entries, occurrences_in, occurrences_of}
+use Rattle.node_laws.proofs.Words.{refusal_in, steps_from, world_after, world_behind, world_step}
 use Rattle.node_laws.proofs.kept.Lines.{MayAllHappen, line_may, few_front}
-use Rattle.node_laws.specs.telling.Telling.{MayBoot, world_behind}
 use Rattle.node_laws.proofs.telling.Lasting.{AllMay, boots_may, events_of_steps, AllHold, front_holds, lines_hold, lines_last}
-use Rattle.node_laws.specs.creations.Worlds.{KeepsCreations}
 use Rattle.node_laws.proofs.creations.Worlds.{begin_keeps, event_keeps}
 
 -- what may happen to nodes and their memories

@@ -5,36 +5,20 @@ use Rattle.std.specs.Prelude.{Option, Some, None}
 use Rattle.std.specs.List.{AllByRecursion, find, fold}
 use Rattle.std.specs.Option.{option_map, option_map_or}
 use Rattle.std.proofs.lemmas.Bool.{eqb-true, true≢false}
-use Rattle.swp_base.specs.InMemory.{Plan}
-use Rattle.trace_model.specs.Lines.{IsHost}
-use Rattle.trace_model.specs.declared.entry.Entry.{Entry}
+use Rattle.node_laws.proofs.Words.{AreDifferent, AreProper, Bare, Book, Creation, Desk, Entry, HasEnds, HasSetAside, IfAwaited, IfNoticedUp, IsFresh, IsHost}
+use Rattle.node_laws.proofs.Words.{IsNoticedUp, IsOutside, IsProperBook, IsReadSo, IsShut, LinkEnd, NodeInput, NodeWorld, NumberedEnd, OnFirst, Plan, Port}
+use Rattle.node_laws.proofs.Words.{Role, Running, Site, Work, asking_in, book_after, book_in, by_list, by_option, by_test, creation_in, creations_at}
+use Rattle.node_laws.proofs.Words.{creations_of, hosts_in, is_up, link_to, new_link, new_link_end, port_at, port_for, renewed, runs_on, sent_all, site_at}
+use Rattle.node_laws.proofs.Words.{steps, work_of}
 use Rattle.trace_model.specs.declared.entry.Entry.TheVariants as entry
-use Rattle.link_laws.specs.sessions.Sessions.{is_up}
-use Rattle.link_laws.specs.machine.Machine.{LinkEnd, Role, sent_all, new_link_end, renewed}
-use Rattle.link_laws.specs.machine.Machine.Role.{Bare}
-use Rattle.link_laws.specs.messages.Links.{NumberedEnd, new_link}
-use Rattle.node_machine.specs.Parts.{Creation, Desk, Running, Port, Work}
-use Rattle.node_machine.specs.Carrying.{port_at}
-use Rattle.node_machine.specs.Controller.{creation_in}
-use Rattle.node_machine.specs.Node.{NodeInput, steps}
-use Rattle.node_machine.specs.world.World.{NodeWorld, Site, site_at, link_to, runs_on, port_for, work_of}
-use Rattle.node_machine.specs.world.NodeFilters.{Book, book_after, book_in, asking_in}
-use Rattle.node_laws.specs.links.Notices.{IsOutside, IsNoticedUp, OnFirst}
-use Rattle.node_laws.proofs.Cases.{by_list, by_option, by_test}
 use Rattle.node_laws.proofs.links.Noticing.{UpAt, at_host}
 use Rattle.node_laws.proofs.links.Blocks.{IsWithin, sent_within}
-use Rattle.node_laws.specs.kept.Hosts.{AreDifferent}
 use Rattle.node_laws.proofs.kept.Books.{book_more}
-use Rattle.node_laws.specs.telling.Telling.{HasEnds, hosts_in}
 use Rattle.node_laws.proofs.telling.Nodes.{ports_for, hosts_same}
-use Rattle.node_laws.specs.readings.Noticed.{IfNoticedUp}
-use Rattle.node_laws.specs.readings.Orders.{IsFresh}
 use Rattle.node_laws.proofs.readings.Sites.{sent_phase}
-use Rattle.node_laws.specs.notices.Worlds.{IsShut}
 use Rattle.node_laws.proofs.notices.Own.{IsFar}
 use Rattle.node_laws.proofs.notices.Far.{AreFar, asking_more, far_asks}
-use Rattle.node_laws.specs.creations.Creations.{creations_at, creations_of, IsReadSo}
-use Rattle.node_laws.specs.creations.Worlds.{AreProper, IsProperBook, IfAwaited, HasSetAside, AreAwaited}
+use Rattle.node_laws.specs.creations.Worlds.{AreAwaited}
 use Rattle.node_laws.proofs.creations.Asks.{Asked, asked_of, waits, desks_wait}
 use Rattle.node_laws.proofs.creations.Doing.{EndHas, EndAt, IsOff, Good, many}
 use Rattle.node_laws.proofs.creations.Deeds.{Still, Fine}

@@ -3,29 +3,13 @@ use Rattle.std.proofs.Common.{◌≡◌, ◌⊎◌, inl, inr, ℕ, Bool, true, f
 use Rattle.std.specs.Prelude.{Option, Some, None, is_some}
 use Rattle.std.specs.List.{AllByRecursion}
 use Rattle.std.proofs.lemmas.Bool.{cases_Bool, true≢false, eqb-true}
-use Rattle.pipe_table.specs.declared.row.PipeRow.{PipeRow}
-use Rattle.hci_tables.specs.declared.command.Command.{Command}
+use Rattle.node_laws.proofs.Words.{Answer, AreDifferent, AreProper, Ask, Asks, Command, Commit, Commits, Core, Creation, Decision, Deed, Drops, GoesToFree}
+use Rattle.node_laws.proofs.Words.{IsAnswered, IsAwaited, IsNoticeOf, IsProperCommand, LinkView, Message, Notice, PipeRow, Port, SaysOk, Sends, SetsErrors}
+use Rattle.node_laws.proofs.Words.{Tells, agreed, answer_of, asked_at, asks_for, body_in, by_option, by_test, commit_deeds, controller_deeds, controller_holds}
+use Rattle.node_laws.proofs.Words.{creation_in, decided, decision_deeds, finds_room, gates, goes_through, has, has_link, has_notice, hosts_where}
+use Rattle.node_laws.proofs.Words.{identity_served, is_response, link_deeds, link_served, own_gate, own_view, port_at, view_for, view_of}
 use Rattle.gate_answers.specs.declared.response.Response.TheVariants as response
-use Rattle.gate_answers.specs.Answers.{answer_of, body_in}
-use Rattle.gate_admin.specs.declared.view.LinkView.{LinkView}
-use Rattle.gate_admin.specs.declared.decision.Decision.{Decision}
-use Rattle.gate_admin.specs.declared.decision.Decision.TheVariants.{Answer, Commit, Ask}
-use Rattle.gate_admin.specs.View.{has, hosts_where}
-use Rattle.gate_admin.specs.Decide.{decided}
-use Rattle.gate_link.specs.Link.{link_served}
-use Rattle.gate_identity.specs.Identity.{identity_served}
-use Rattle.node_laws.specs.kept.Hosts.{AreDifferent}
-use Rattle.link_laws.specs.machine.Machine.{Message}
-use Rattle.node_machine.specs.Parts.{Creation, Notice, Core, Port, Deed}
-use Rattle.node_machine.specs.Parts.Deed.{Commits, Sends, SaysOk, Asks, Tells, IsAnswered, Drops, SetsErrors}
-use Rattle.node_machine.specs.Carrying.{port_at, finds_room, own_view}
-use Rattle.node_machine.specs.Controller.{has_link, creation_in, asked_at, asks_for, view_for, commit_deeds, decision_deeds, link_deeds, gates, own_gate}
-use Rattle.node_machine.specs.Controller.{goes_through, agreed, controller_deeds, view_of}
-use Rattle.node_machine.specs.world.NodeFilters.{is_response}
-use Rattle.node_laws.specs.notices.Notices.{has_notice, GoesToFree, IsNoticeOf}
-use Rattle.node_laws.specs.creations.Worlds.{IsProperCommand, AreProper, IsAwaited}
-use Rattle.node_machine.proofs.Walks.{IsServed, controller_holds}
-use Rattle.node_laws.proofs.Cases.{by_option, by_test}
+use Rattle.node_machine.proofs.Walks.{IsServed}
 use Rattle.node_laws.proofs.creations.Asks.{Asked, asked_of, waits, set_asked, none_waits}
 use Rattle.node_laws.proofs.creations.Deciding.{IsAskFor, Suits, AsksNobody, decided_suits, nobody_asked}
 

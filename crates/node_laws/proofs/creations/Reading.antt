@@ -4,21 +4,12 @@ use Rattle.std.specs.Prelude.{Option, Some, None, is_some, take, drop}
 use Rattle.std.specs.List.{flat_map, list_any}
 use Rattle.std.proofs.lemmas.List.Sums.{fold-append}
 use mathlib.Core.Bool.{and-false, or-false}
-use Rattle.trace_model.specs.declared.entry.Entry.{Entry}
+use Rattle.node_laws.proofs.Words.{Controller, Core, Creation, Entry, IsNoticeOf, LinkInput, Message, Port, Refused, after_input, asking_in, by_option, by_test}
+use Rattle.node_laws.proofs.Words.{end_c, end_of, ended_by, entries_for, is_response, own_side, report, same_end, sent_unless, told_at, whole_acked}
 use Rattle.trace_model.specs.declared.entry.Entry.TheVariants as entry
-use Rattle.link_laws.specs.machine.Machine.{Message, LinkInput, Refused, ended_by, report, whole_acked, after_input}
-use Rattle.link_laws.specs.entries.Entries.{Entry as Noted, sent_unless}
-use Rattle.link_laws.specs.entries.Entries.End.{Controller}
-use Rattle.history.specs.Filters.{same_end}
-use Rattle.history.specs.Steps.{entries_for, end_of}
-use Rattle.node_machine.specs.Parts.{Creation, Core, Port}
-use Rattle.node_machine.specs.Carrying.{own_side}
-use Rattle.node_machine.specs.Node.{told_at}
-use Rattle.node_machine.specs.world.World.{end_c}
-use Rattle.node_machine.specs.world.NodeFilters.{is_response, asking_after, asking_in}
-use Rattle.node_laws.proofs.Cases.{by_option, by_test}
+use Rattle.link_laws.specs.entries.Entries.{Entry as Noted}
+use Rattle.node_machine.specs.world.NodeFilters.{asking_after}
 use Rattle.node_laws.proofs.readings.Silent.{told_rest, rest_quiet}
-use Rattle.node_laws.specs.notices.Notices.{IsNoticeOf}
 use Rattle.node_laws.proofs.notices.Reading.{same_near, reads, reads_append, told_reads}
 use Rattle.node_laws.proofs.notices.Far.{asks, asking_more, far_asks, quiet_far}
 

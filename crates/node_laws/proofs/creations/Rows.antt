@@ -4,14 +4,12 @@ use Rattle.std.specs.Prelude.{not, Some}
 use Rattle.std.specs.List.{AllByRecursion}
 use Rattle.std.proofs.lemmas.Bool.{cond_both}
 use Rattle.sorted_rows.specs.Rows.{rows_before, rows_behind}
-use Rattle.pipe_table.specs.declared.row.PipeRow.{PipeRow}
-use Rattle.pipe_table.specs.PipeRows.{pid_of, joins_host, as_opened, with_opened, all_closed, pipe_at}
-use Rattle.hci_tables.specs.declared.command.Command.{Command}
-use Rattle.hci_tables.specs.declared.command.Command.TheVariants.{Create, Delete, Clear, SetOpened, Set, Sync}
-use Rattle.hci_tables.specs.Tables.{HciTables, no_tables, apply, after_commands, with_static}
-use Rattle.node_machine.specs.world.NodeFilters.{Book, new_book, with_command, with_found}
+use Rattle.node_laws.proofs.Words.{AreProper, Book, Clear, Command, Create, Delete, HciTables, IsProperBook, IsProperCommand, PipeRow, Set, SetOpened, Sync}
+use Rattle.node_laws.proofs.Words.{after_commands, apply, new_book, no_tables, pid_of, pipe_at, with_command, with_found}
+use Rattle.pipe_table.specs.PipeRows.{joins_host, as_opened, with_opened, all_closed}
+use Rattle.hci_tables.specs.Tables.{with_static}
 use Rattle.registry.proofs.ValueLemmas.{AllByRecursion-append as all_append, AllByRecursion-filter, AllByRecursion-take}
-use Rattle.node_laws.specs.creations.Worlds.{IsProper, IsProperCommand, AreProper, IsProperBook}
+use Rattle.node_laws.specs.creations.Worlds.{IsProper}
 
 all_same : {X : Type 0} (P : X → Type 0) (f : X → X) → ((x : X) → P x → P (f x)) → (xs : List X) → AllByRecursion P xs → AllByRecursion P (map f xs)
 all_same P f one [] a = tt

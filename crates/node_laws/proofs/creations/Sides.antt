@@ -4,21 +4,12 @@ use Rattle.std.specs.Prelude.{Option, Some, None, is_some}
 use Rattle.std.specs.List.{flat_map}
 use Rattle.std.specs.Option.{option_map}
 use Rattle.std.proofs.lemmas.Bool.{true≢false}
-use Rattle.trace_model.specs.declared.entry.Entry.{Entry}
-use Rattle.shdlc_core.specs.Machine.{is_waiting}
-use Rattle.shdlc_core.specs.declared.answers.LinkState.TheVariants.{Up, Down}
-use Rattle.link_laws.specs.machine.Machine.{LinkEnd, LinkInput, Turn, is_open, after_input, turn, turned, sent_all}
-use Rattle.link_laws.specs.machine.Machine.LinkInput.{Take, Tick, Reset, Start, Stop}
-use Rattle.link_laws.specs.messages.Links.{Link, Comes, steps_at_controller, ticks_at_controller, has_input, has_taken}
-use Rattle.link_laws.specs.messages.Links.Ending.{GoesOut}
-use Rattle.link_laws.specs.messages.Links.Comes.{NextFrame, AsksReset, Starts, Stops, NoInput}
-use Rattle.node_machine.specs.Parts.{Notice, Desk, Port, Work}
-use Rattle.node_machine.specs.Carrying.{noting, port_at, changed_if, with_port, with_desk, after_turn, turn_at}
-use Rattle.node_machine.specs.Node.{NodeInput, input_at, has_come, all_come, with_older, is_late, reset_late, times_out, forgets, forgotten, all_owed}
-use Rattle.node_machine.specs.Node.{without_notice, after_sessions, synced, steps}
-use Rattle.node_machine.specs.Node.NodeInput.{AtEnd, TimePasses}
-use Rattle.node_machine.specs.world.World.{input_of, ticked_so}
-use Rattle.node_laws.proofs.Cases.{by_list, by_option, by_test}
+use Rattle.node_laws.proofs.Words.{AsksReset, AtEnd, Comes, Desk, Entry, GoesOut, IsShut, Link, LinkEnd, LinkInput, NextFrame, NoInput, NodeInput, Notice, Port}
+use Rattle.node_laws.proofs.Words.{Reset, Start, Starts, Stop, Stops, Take, Tick, TimePasses, Turn, Up, Work, after_input, after_sessions, after_turn, all_come}
+use Rattle.node_laws.proofs.Words.{all_owed, by_list, by_option, by_test, changed_if, forgets, forgotten, has_come, has_input, has_taken, input_at, input_of}
+use Rattle.node_laws.proofs.Words.{is_late, is_open, is_waiting, noting, port_at, reset_late, sent_all, steps, steps_at_controller, synced, ticked_so}
+use Rattle.node_laws.proofs.Words.{ticks_at_controller, times_out, turn, turn_at, turned, with_desk, with_older, with_port, without_notice}
+use Rattle.shdlc_core.specs.declared.answers.LinkState.TheVariants.{Down}
 use Rattle.node_laws.proofs.links.Noticing.{UpAt, at_all}
 use Rattle.node_laws.proofs.telling.Accounts.{at_changed, turned-append}
 use Rattle.node_laws.proofs.telling.Walks.{AreSilent, rest}
@@ -27,7 +18,6 @@ use Rattle.node_laws.proofs.telling.Steps.{without_same, forgets_same}
 use Rattle.node_laws.proofs.telling.Ticks.{IsLate, late_parts}
 use Rattle.node_laws.proofs.telling.Late.{IsLasting, reset_same}
 use Rattle.node_laws.proofs.readings.Noticed.{up_is, not_waiting}
-use Rattle.node_laws.specs.notices.Worlds.{IsShut}
 use Rattle.node_laws.proofs.steps.Ports.{come_host, forgets_host, without_host, late_host}
 
 module _ (x : ℕ) (e : LinkEnd) (late : Bool) where

@@ -5,34 +5,15 @@ use Rattle.std.specs.Prelude.{Option, Some, None}
 use Rattle.std.specs.List.{AllByRecursion, flat_map, filter, filter_map}
 use Rattle.std.specs.Option.{option_map, option_map_or}
 use Rattle.std.proofs.lemmas.Bool.{cases_Bool, eqb-true}
-use Rattle.trace_model.specs.Lines.{IsHost}
-use Rattle.trace_model.specs.declared.entry.Entry.{Entry}
-use Rattle.hci_tables.specs.declared.command.Command.TheVariants.{Sync}
-use Rattle.hci_tables.specs.Tables.{HciTables, is_kept_sync}
-use Rattle.gate_answers.specs.declared.response.Response.{Response}
+use Rattle.node_laws.proofs.Words.{AreDifferent, AreProper, AtEnd, Commits, Core, Creation, Deed, Entry, HciTables, IfAwaited, IsAwaited, IsFresh, IsHost}
+use Rattle.node_laws.proofs.Words.{IsOutside, IsProperCommand, IsReadSo, IsShut, NodeInput, Port, Release, Releases, Response, Sends, Sync, TimePasses, Work}
+use Rattle.node_laws.proofs.Words.{after_sessions, all_come, all_done, all_owed, answer_of, answers_and_passes, asked_at, by_list, by_option, by_test, commit}
+use Rattle.node_laws.proofs.Words.{finds_room, forgets, forgotten, input_at, is_forgotten, is_kept_sync, is_over, is_over_at, is_response, owed, passes}
+use Rattle.node_laws.proofs.Words.{port_at, report, steps, synced, times_out, turn_at, unless_cut, without_notice}
 use Rattle.gate_answers.specs.declared.response.Response.TheVariants as response
-use Rattle.gate_answers.specs.Answers.{answer_of}
-use Rattle.link_laws.specs.machine.Machine.{report}
-use Rattle.link_laws.specs.machine.Machine.Turn.{Release}
-use Rattle.node_machine.specs.Parts.{Creation, Core, Port, Work, Deed}
-use Rattle.node_machine.specs.Parts.Deed.{Commits, Releases, Sends}
-use Rattle.node_machine.specs.Carrying.{unless_cut, port_at, turn_at, commit, all_done, finds_room}
-use Rattle.node_machine.specs.Controller.{asked_at}
-use Rattle.node_machine.specs.Turns.{passes}
-use Rattle.node_machine.specs.Node.{NodeInput, input_at, all_come, times_out, is_over, is_over_at, is_forgotten, forgets, forgotten, owed, all_owed}
-use Rattle.node_machine.specs.Node.{without_notice, after_sessions, synced, answers_and_passes, steps}
-use Rattle.node_machine.specs.Node.NodeInput.{AtEnd, TimePasses}
-use Rattle.node_machine.specs.world.NodeFilters.{is_response}
-use Rattle.node_laws.specs.links.Notices.{IsOutside}
-use Rattle.node_laws.proofs.Cases.{by_list, by_option, by_test}
 use Rattle.node_laws.proofs.links.Noticing.{UpAt, at_all}
 use Rattle.node_laws.proofs.telling.Steps.{without_same, forgets_same}
-use Rattle.node_laws.specs.kept.Hosts.{AreDifferent}
 use Rattle.node_laws.proofs.kept.Plainly.{hosts_map}
-use Rattle.node_laws.specs.readings.Orders.{IsFresh}
-use Rattle.node_laws.specs.notices.Worlds.{IsShut}
-use Rattle.node_laws.specs.creations.Creations.{IsReadSo}
-use Rattle.node_laws.specs.creations.Worlds.{IsProperCommand, AreProper, IsAwaited, IfAwaited}
 use Rattle.node_laws.proofs.creations.Asks.{Asked, asked_of, waits, owes, owes-append, forgot, stays, ended_of, late_of, Parts, owed_parts}
 use Rattle.node_laws.proofs.creations.Doing.{EndHas, EndAt, IsOn, IsOff, Good, many, reading, on_is, released, commits}
 use Rattle.node_laws.proofs.creations.Deeds.{Fine, then, then_fine, pays_then}

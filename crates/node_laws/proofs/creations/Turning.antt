@@ -4,27 +4,16 @@ use Rattle.std.specs.Prelude.{Option, Some, None, is_some, nat_lt}
 use Rattle.std.specs.List.{AllByRecursion}
 use Rattle.std.specs.Option.{option_map_or}
 use Rattle.std.proofs.lemmas.Bool.{eqb-true, ne_eqb, eq-eqb, true≢false, ltb-false, lt-ltb}
-use Rattle.trace_model.specs.Lines.{IsHost}
-use Rattle.trace_model.specs.declared.entry.Entry.{Entry}
+use Rattle.node_laws.proofs.Words.{AllReach, AreDifferent, Asks, Creation, Deed, Entry, FetchMessage, GoesToFree, Hold, IfAwaited, IsAwaited, IsHost, Message}
+use Rattle.node_laws.proofs.Words.{Notice, Port, Work, after_turn, asked_at, asks_for, by_option, by_test, changed_if, controller_deeds, creation_in, deeds_of}
+use Rattle.node_laws.proofs.Words.{end_of_node, goes_through_ends, handles, has_link, have_turns, holds_back, is_held, is_up, lack, lets_go, need, needs}
+use Rattle.node_laws.proofs.Words.{noting, passes, port_at, spare, turn_at, unless_cut, view_of, with_desk, with_port}
 use Rattle.trace_model.specs.declared.entry.Entry.TheVariants as entry
-use Rattle.link_laws.specs.sessions.Sessions.{is_up}
-use Rattle.link_laws.specs.machine.Machine.{Message, spare, is_held, need}
-use Rattle.link_laws.specs.machine.Machine.Turn.{FetchMessage, Hold}
-use Rattle.node_machine.specs.Parts.{Creation, Notice, Port, Work, Deed}
-use Rattle.node_machine.specs.Parts.Deed.{Asks}
-use Rattle.node_machine.specs.Carrying.{noting, unless_cut, port_at, changed_if, with_port, with_desk, after_turn, turn_at, end_of_node, needs, lack}
-use Rattle.node_machine.specs.Controller.{has_link, asked_at, creation_in, controller_deeds, asks_for, view_of}
-use Rattle.node_machine.specs.Turns.{deeds_of, handles, holds_back, lets_go, have_turns, goes_through_ends, passes}
-use Rattle.node_laws.specs.links.Notices.{AllReach}
-use Rattle.node_laws.proofs.Cases.{by_option, by_test}
 use Rattle.node_laws.proofs.links.Noticing.{at_all}
 use Rattle.node_laws.proofs.links.Reaching.{controller_reach}
 use Rattle.node_laws.proofs.readings.Noticed.{up_is}
 use Rattle.node_laws.proofs.readings.Turning.{lack_parts}
-use Rattle.node_laws.specs.kept.Hosts.{AreDifferent}
-use Rattle.node_laws.specs.notices.Notices.{GoesToFree}
 use Rattle.node_laws.proofs.notices.Freeing.{controller_free}
-use Rattle.node_laws.specs.creations.Worlds.{IsAwaited, IfAwaited}
 use Rattle.node_laws.proofs.creations.Asks.{Asked, asked_of, waits, none_waits, Split, split_at}
 use Rattle.node_laws.proofs.creations.Outcomes.{IsAskedSo, Outcome, outcome, all_leave, LeavesAsked}
 use Rattle.node_laws.proofs.creations.Outcomes.Outcome.{Stays, IsAsking, IsHeard, IsDone}

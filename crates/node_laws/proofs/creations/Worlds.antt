@@ -3,48 +3,24 @@ use Rattle.std.proofs.Common.{◌≡◌, ℕ, ◌-◌, ◌^◌, ◌≤◌, ◌&&
 use Rattle.std.proofs.Common.{ap, ◌∙◌, subst, append_assoc, append-nil}
 use Rattle.std.specs.Prelude.{Option, Some, None}
 use Rattle.std.proofs.lemmas.Bool.{cond_both}
-use Rattle.swp_act.specs.Activation.{new_clf}
-use Rattle.trace_model.specs.declared.entry.Entry.{Entry}
-use Rattle.trace_model.specs.declared.line.End.{End}
-use Rattle.shdlc_core.specs.Machine.{is_waiting}
-use Rattle.link_laws.specs.machine.Machine.{LinkEnd, LinkInput, Turn, after_input, sent_all}
-use Rattle.link_laws.specs.machine.Machine.LinkInput.{Tick, Reset}
-use Rattle.link_laws.specs.machine.Machine.Role.{Bare, Clf}
-use Rattle.link_laws.specs.messages.Links.{Link, Comes, Ending, aged, has_input, ticks_at_controller}
-use Rattle.link_laws.specs.messages.Links.Ending.{GoesOut}
-use Rattle.link_laws.specs.messages.Links.Comes.{NextFrame, AsksReset, Starts}
-use Rattle.link_laws.specs.messages.Links.EndEvent.{Step}
-use Rattle.link_laws.specs.entries.Entries.{aged_entries}
-use Rattle.link_laws.specs.entries.Entries.End.{Controller, Host}
-use Rattle.history.specs.Steps.{entries_for}
-use Rattle.history.specs.Follows.{seen_from}
-use Rattle.node_machine.specs.Parts.{Running, Work}
-use Rattle.node_machine.specs.Node.{steps}
-use Rattle.node_machine.specs.Node.NodeInput.{AtEnd, TimePasses}
-use Rattle.node_machine.specs.world.World.{NodeWorld, Site, Happening, memory_at, link_to, ending_of, turns_at, input_of, work_of, controller_work}
-use Rattle.node_machine.specs.world.World.{after_controller, controller_does, all_aged, is_late_at, ticked_so, controller_ticks, hosts_tick, world_ticks}
-use Rattle.node_machine.specs.world.World.{comes_at, activates, sending, beginning, new_site, new_world, end_c, end_h, world_step}
-use Rattle.node_machine.specs.world.World.Happening.{Boots, IsCut, Gives, Inits, Takes, Loses, Ticks, Resets, Activates, Arms}
-use Rattle.node_machine.specs.world.NodeFilters.{commands_in}
-use Rattle.node_laws.proofs.Cases.{by_option, by_test}
+use Rattle.node_laws.proofs.Words.{Activates, AllKeep, AreHosts, Arms, AsksReset, AtEnd, Bare, Boots, Clf, Comes, Controller, End, Ending, Entry, Gives}
+use Rattle.node_laws.proofs.Words.{GoesOut, Happening, HasSetAside, Host, IfItRuns, IfNoticedUp, Inits, IsCut, IsShut, KeepsCreations, KeepsNotices, Link}
+use Rattle.node_laws.proofs.Words.{LinkEnd, LinkInput, Loses, MayBoot, MayHappen, NextFrame, NodeWorld, Reset, Resets, Running, Site, Starts, Step, Takes, Tick}
+use Rattle.node_laws.proofs.Words.{Ticks, TimePasses, Turn, Work, activates, after_controller, after_input, aged, aged_entries, all_aged, beginning, by_option}
+use Rattle.node_laws.proofs.Words.{by_test, comes_at, commands_in, controller_does, controller_ticks, controller_work, creations_of, end_c, end_h, ending_of}
+use Rattle.node_laws.proofs.Words.{entries_for, has_input, hosts_in, hosts_tick, input_of, is_late_at, is_waiting, link_to, memory_at, new_clf, new_site}
+use Rattle.node_laws.proofs.Words.{new_world, seen_from, sending, sent_all, steps, ticked_so, ticks_at_controller, turns_at, work_of, world_step, world_ticks}
 use Rattle.node_laws.proofs.links.Blocks.{IsWithin, input_within, sent_within}
-use Rattle.node_laws.specs.kept.Hosts.{AreHosts}
-use Rattle.node_laws.specs.kept.Worlds.{AllKeep, MayHappen}
 use Rattle.node_laws.proofs.kept.Kept.{all_begin}
 use Rattle.node_laws.proofs.kept.Lines.{world_goes}
-use Rattle.node_laws.specs.telling.Telling.{IfItRuns, hosts_in, MayBoot}
 use Rattle.node_laws.proofs.telling.Frames.{wires_all}
-use Rattle.node_laws.specs.readings.Noticed.{IfNoticedUp}
 use Rattle.node_laws.proofs.readings.NoticedWorlds.{side_map, hosts_tick_side}
 use Rattle.node_laws.proofs.readings.Silent.{IsQuiet}
-use Rattle.node_laws.specs.notices.Worlds.{IsShut, KeepsNotices}
 use Rattle.node_laws.proofs.notices.Far.{AreFar, far_flat, quiet_far}
 use Rattle.node_laws.proofs.notices.Shut.{here_shut, ticks_shut}
 use Rattle.node_laws.proofs.notices.Sites.{AreGood, good_map, sending_own, beginning_own, all_tick}
 use Rattle.node_laws.proofs.notices.Near.{comes_reads as notices_come}
 use Rattle.node_laws.proofs.notices.Events.{event_read, begins_read}
-use Rattle.node_laws.specs.creations.Creations.{creations_of}
-use Rattle.node_laws.specs.creations.Worlds.{HasSetAside, KeepsCreations}
 use Rattle.node_laws.proofs.creations.Rows.{new_proper}
 use Rattle.node_laws.proofs.creations.Asides.{input_aside}
 use Rattle.node_laws.proofs.creations.HostWorlds.{event_none, new_none}

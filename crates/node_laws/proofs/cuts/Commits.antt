@@ -3,26 +3,14 @@ use Rattle.std.proofs.Common.{◌≡◌, ◌⊎◌, inl, inr, ℕ, ◌+◌, ◌-
 use Rattle.std.proofs.Common.{length-append}
 use Rattle.std.specs.Prelude.{Option, Some, None, nat_le}
 use Rattle.std.proofs.lemmas.Bool.{and_parts, and_from, both_ways, eqb-true, eq-eqb, leb-true, leb-false, and_cases, true≢false, false_from_ne_true}
-use Rattle.swp_base.specs.InMemory.{Plan, Memory}
-use Rattle.journal_laws.specs.declared.state.State.{State}
-use Rattle.journal_laws.specs.Banks.{is_opened_gate}
-use Rattle.journal_laws.specs.Writes.{Write, after_writes}
-use Rattle.journal_laws.specs.Journal.{journal, count_of, left}
-use Rattle.journal_laws.specs.Operations.{append_writes, IsAllOrNothing}
-use Rattle.journal_laws.specs.Planned.{fails_within, after_planned}
+use Rattle.node_laws.proofs.Words.{AreTables, BootFinds, Command, FindsRoom, HciTables, IsAllOrNothing, IsCommand, IsRecordable, Knows, Memory, Plan, State}
+use Rattle.node_laws.proofs.Words.{Write, after_planned, after_writes, append_writes, apply, body_of, by_test, commit_writes, committed, count_of, fails_within}
+use Rattle.node_laws.proofs.Words.{is_opened_gate, journal, opens_gate, record_fits, room_writes, with_room}
+use Rattle.journal_laws.specs.Journal.{left}
 use Rattle.journal_laws.proofs.Cuts.{length-cut}
 use Rattle.nv_journal.proofs.Appending as appending
-use Rattle.hci_tables.specs.declared.command.Command.{Command}
-use Rattle.hci_tables.specs.Commands.{IsCommand}
-use Rattle.hci_tables.specs.Bodies.{body_of}
-use Rattle.hci_tables.specs.Tables.{HciTables, AreTables, apply}
-use Rattle.hci_store.specs.Recordable.{IsRecordable}
-use Rattle.hci_store.specs.Committing.{record_fits, room_writes, with_room, commit_writes, committed}
 use Rattle.hci_store.proofs.CutShort.{room_count}
-use Rattle.node_laws.specs.kept.Finds.{BootFinds, Knows, FindsRoom}
-use Rattle.node_laws.proofs.Cases.{by_test}
 use Rattle.node_laws.proofs.kept.Commits.{says_of, has_room, finds_still, room_knows, room_left, commit_knows, commit_count}
-use Rattle.node_laws.specs.kept.Gates.{opens_gate}
 use Rattle.node_laws.proofs.cuts.Filled.{IsFilled, planned_filled, filled_cut, filled_append}
 use Rattle.node_laws.proofs.cuts.Gates.{ends_append, gate_opened, gate_closed}
 

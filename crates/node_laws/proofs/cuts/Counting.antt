@@ -2,15 +2,8 @@
 use Rattle.std.proofs.Common.{◌≡◌, Bool, true, false, cond, length, refl, sym}
 use Rattle.std.specs.Prelude.{Option, Some, None, IsSome}
 use Rattle.std.proofs.lemmas.Bool.{true≢false}
-use Rattle.journal_laws.specs.declared.banks.Side.{Side}
-use Rattle.journal_laws.specs.declared.state.State.{State}
-use Rattle.journal_laws.specs.Banks.{current}
-use Rattle.journal_laws.specs.Journal.{state_of, is_open_beside}
-use Rattle.hci_tables.specs.declared.command.Command.{Command}
-use Rattle.hci_tables.specs.Bodies.{body_of}
-use Rattle.hci_tables.specs.Tables.{HciTables}
-use Rattle.hci_store.specs.Committing.{record_fits, commit_writes}
-use Rattle.node_laws.specs.kept.Reckonings.{Reckoning, writes_of}
+use Rattle.node_laws.proofs.Words.{Command, HciTables, Reckoning, Side, State, body_of, commit_writes, current, record_fits, state_of, writes_of}
+use Rattle.journal_laws.specs.Journal.{is_open_beside}
 
 pub two_writes : (c : Command) (r : Reckoning) → record_fits (state_of r.memory.content) (body_of c) ≡ true → length (writes_of c r) ≡ 2
 two_writes c r is = rw is refl

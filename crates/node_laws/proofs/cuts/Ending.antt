@@ -1,11 +1,8 @@
 -- How a step of a node ends in which it loses its power.
 use Rattle.std.proofs.Common.{◌≡◌, inl, inr, ℕ, true, List, [], ◌∷◌, ◌++◌, sym, ap, ◌∙◌, append_assoc}
 use Rattle.std.proofs.lemmas.Bool.{true≢false}
-use Rattle.swp_base.specs.InMemory.{Memory}
-use Rattle.trace_model.specs.declared.entry.Entry.{Entry}
+use Rattle.node_laws.proofs.Words.{Command, Entry, Memory, Work}
 use Rattle.trace_model.specs.declared.entry.Entry.TheVariants as entry
-use Rattle.hci_tables.specs.declared.command.Command.{Command}
-use Rattle.node_machine.specs.Parts.{Work}
 use Rattle.node_laws.proofs.kept.Doing.{GoesOn_or_lost}
 
 pub lost_ends : (n : ℕ) (hosts : List ℕ) (old : Memory) (before : List Entry) (k : Work) → GoesOn_or_lost n hosts old before k → k.cut ≡ true

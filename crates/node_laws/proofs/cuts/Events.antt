@@ -4,40 +4,14 @@ use Rattle.std.proofs.Common.{arith}
 use Rattle.std.specs.Prelude.{Option, Some, None, is_some}
 use Rattle.std.specs.List.{AllByRecursion, fold}
 use Rattle.std.proofs.lemmas.Bool.{cond_both, cases_Bool, eq-eqb, ne_eqb, eqb-true, eqb-false}
-use Rattle.swp_base.specs.InMemory.{Memory, Plan}
-use Rattle.trace_model.specs.Lines.{IsHost}
-use Rattle.trace_model.specs.declared.entry.Entry.{Entry}
+use Rattle.node_laws.proofs.Words.{Activates, AllKeep, AreHosts, Arms, AsksReset, AtEnd, Boots, Broken, Comes, Controller, Core, EachIsAsRead, End, Entry}
+use Rattle.node_laws.proofs.Words.{FindsExactly, Gives, Happening, Host, Inits, IsAllowedStill, IsCut, IsHost, IsOnOrder, LinkInput, Lose, Loses, Loss}
+use Rattle.node_laws.proofs.Words.{MayBeDone, MayHappen, Memory, Message, NextFrame, NoInput, NodeWorld, Orders, Plan, Reckoning, Resets, Running, Sends, Site}
+use Rattle.node_laws.proofs.Words.{SiteKeeps, Starts, Takes, Ticks, activates, after_planned, at, beginning, begins_with, begun_by, boot_writes, boots, by_list}
+use Rattle.node_laws.proofs.Words.{by_test, changed_if, comes_at, commands_in, count_of, counts, end_c, end_h, entries_for, fails_within, first_lost, found}
+use Rattle.node_laws.proofs.Words.{frame_lost, happens, host_does, input_of, is_command_message, link_to, links_of, loses_power_at, memory_at, node_at}
+use Rattle.node_laws.proofs.Words.{reckoned, seen_from, sending, site_at, steps, with_memory, with_node, with_site, world_step}
 use Rattle.trace_model.specs.declared.entry.Entry.TheVariants as entry
-use Rattle.trace_model.specs.declared.line.End.{End}
-use Rattle.journal_laws.specs.Journal.{count_of}
-use Rattle.journal_laws.specs.Planned.{fails_within, after_planned}
-use Rattle.link_laws.specs.machine.Machine.{Message, LinkInput}
-use Rattle.link_laws.specs.messages.Links.{Comes, Loss, happens}
-use Rattle.link_laws.specs.messages.Links.Comes.{NextFrame, AsksReset, Starts, NoInput}
-use Rattle.link_laws.specs.messages.Links.Loss.{Broken}
-use Rattle.link_laws.specs.messages.Links.EndEvent.{Lose}
-use Rattle.link_laws.specs.entries.Entries.{first_lost}
-use Rattle.link_laws.specs.entries.Entries.End.{Controller, Host}
-use Rattle.history.specs.Steps.{at, entries_for}
-use Rattle.history.specs.Follows.{seen_from}
-use Rattle.node_machine.specs.Parts.{Core, Running}
-use Rattle.node_machine.specs.Parts.Deed.{Sends, Orders}
-use Rattle.node_machine.specs.Carrying.{changed_if}
-use Rattle.node_machine.specs.Controller.{is_command_message}
-use Rattle.node_machine.specs.Node.{steps, begins_with, found, boot_writes}
-use Rattle.node_machine.specs.Node.NodeInput.{AtEnd}
-use Rattle.node_laws.specs.steps.Waiting.{IsAllowedStill}
-use Rattle.node_machine.specs.world.World.{NodeWorld, Site, Happening, node_at, site_at, with_site, link_to, input_of, host_does, loses_power_at, memory_at}
-use Rattle.node_machine.specs.world.World.{with_memory, with_node, links_of, boots, counts, frame_lost, sending, beginning, comes_at, activates, end_c, end_h}
-use Rattle.node_machine.specs.world.World.{world_step}
-use Rattle.node_machine.specs.world.World.Happening.{Boots, IsCut, Gives, Inits, Takes, Loses, Ticks, Resets, Activates, Arms}
-use Rattle.node_machine.specs.world.NodeFilters.{commands_in}
-use Rattle.node_laws.specs.kept.Reckonings.{Reckoning, reckoned, EachIsAsRead}
-use Rattle.node_laws.specs.kept.Deeds.{MayBeDone}
-use Rattle.node_machine.specs.Orders.{IsOnOrder}
-use Rattle.node_laws.specs.kept.Hosts.{AreHosts}
-use Rattle.node_laws.specs.kept.Worlds.{SiteKeeps, AllKeep, MayHappen}
-use Rattle.node_laws.proofs.Cases.{by_list, by_test}
 use Rattle.node_laws.proofs.kept.Asking.{same_new}
 use Rattle.node_laws.proofs.kept.Plainly.{plain_entries}
 use Rattle.node_laws.proofs.kept.Doing.{all_fine}
@@ -45,7 +19,7 @@ use Rattle.node_laws.proofs.kept.Stepping.{steps_fine}
 use Rattle.node_laws.proofs.kept.Sites.{site_found}
 use Rattle.node_laws.proofs.kept.Events.{no_order, comes_goes}
 use Rattle.node_laws.proofs.kept.Reckoned.{IsNothingFor, other_idles}
-use Rattle.node_laws.specs.cuts.Histories.{FindsExactly, begun_by, reckoned_within, IsBootedBy, IsCutAsPlanned}
+use Rattle.node_laws.specs.cuts.Histories.{reckoned_within, IsBootedBy, IsCutAsPlanned}
 use Rattle.node_laws.proofs.cuts.Standing.{Stands, exact_idle, stands_same}
 use Rattle.node_laws.proofs.cuts.Worlds.{IsThere, StandsAt, ExactAt, plain_exact, none_exact, controller_exact, host_exact}
 use Rattle.node_laws.proofs.cuts.Powers.{booting, boot_cut, boot_found, boot_run, cut_stands, armed_stands}

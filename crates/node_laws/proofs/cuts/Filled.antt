@@ -4,10 +4,9 @@ use Rattle.std.proofs.Common.{sym, refl, ap, ◌∙◌, subst, arith}
 use Rattle.std.specs.Prelude.{Option, Some, None}
 use Rattle.std.proofs.lemmas.Bool.{ne_eqb}
 use Rattle.std.proofs.lemmas.List.FromFn.{length-map-range_with_len}
-use Rattle.swp_base.specs.InMemory.{Plan, Memory, is_next, plan_after, memory_after, cycled, torn_bytes}
-use Rattle.swp_base.specs.Outside.{overwritten}
-use Rattle.journal_laws.specs.Writes.{Write, after_writes, IsCut}
-use Rattle.journal_laws.specs.Planned.{after_planned}
+use Rattle.node_laws.proofs.Words.{Memory, Plan, Write, after_planned, after_writes, is_next, memory_after, overwritten, plan_after, torn_bytes}
+use Rattle.swp_base.specs.InMemory.{cycled}
+use Rattle.journal_laws.specs.Writes.{IsCut}
 use Rattle.node_laws.proofs.kept.Planned.{content_on, content_torn}
 use Rattle.journal_laws.proofs.Planned.{plan_of_memory_after as plan_on}
 

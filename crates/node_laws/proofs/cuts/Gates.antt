@@ -2,13 +2,10 @@
 use Rattle.std.proofs.Common.{◌≡◌, ◌⊎◌, inl, inr, ℕ, zero, suc, ◌+◌, ◌==◌, ◌&&◌, true, false, cond, List, [], ◌∷◌, ◌++◌, length, slice_index, sym, ap, ◌∙◌}
 use Rattle.std.proofs.Common.{subst, arith}
 use Rattle.std.proofs.lemmas.Bool.{cases_eq, and_left, and_right, ne_eqb, eqb-true}
-use Rattle.swp_base.specs.Outside.{overwritten}
+use Rattle.node_laws.proofs.Words.{IsAllOrNothing, Write, after_writes, is_opened_gate, journal, overwritten}
 use Rattle.swp_base.proofs.WriteLemmas.{length-overwritten}
 use Rattle.swp_base.specs.InMemory.{cycled}
-use Rattle.journal_laws.specs.Banks.{is_opened_gate}
-use Rattle.journal_laws.specs.Writes.{Write, after_writes, FitIn, last_place}
-use Rattle.journal_laws.specs.Journal.{journal}
-use Rattle.journal_laws.specs.Operations.{IsAllOrNothing}
+use Rattle.journal_laws.specs.Writes.{FitIn, last_place}
 use Rattle.node_laws.proofs.cuts.Filled.{IsFilled, filled_cut, one_filled}
 use Rattle.journal_laws.proofs.Cuts.{at_place as byte_there}
 

@@ -3,44 +3,25 @@ use Rattle.std.proofs.Common.{◌≡◌, inl, inr, ℕ, suc, ◌-◌, ◌^◌, �
 use Rattle.std.proofs.Common.{arith, append_assoc, append-nil, Bool, cond}
 use Rattle.std.specs.Option.{option_map_or}
 use Rattle.std.proofs.lemmas.List.Folds.{list_any-append}
-use Rattle.swp_base.specs.InMemory.{Memory}
-use Rattle.journal_laws.specs.declared.banks.Side.{Side}
-use Rattle.journal_laws.specs.Banks.{current}
-use Rattle.journal_laws.specs.Journal.{state_of, is_open_beside}
-use Rattle.hci_tables.specs.declared.command.Command.{Command}
-use Rattle.hci_tables.specs.Bodies.{body_of}
-use Rattle.hci_store.specs.Committing.{record_fits}
-use Rattle.journal_laws.specs.Operations.{format_writes}
+use Rattle.node_laws.proofs.Words.{AllKeep, AreHosts, Arms, Book, Boots, Command, CutBehindCommand, EachIsAsRead, Entry, FindsBy, FindsCommands, FindsExactly}
+use Rattle.node_laws.proofs.Words.{FollowsNodes, Happening, Header, IsCut, IsFew, IsNodeOf, IsSentByHost, Line, LineStep, MayHappen, Memory, NodeHistory}
+use Rattle.node_laws.proofs.Words.{NodeWorld, Occurrence, Reckoning, Side, Site, after_planned, begun_by, body_of, book_in, boot_writes, by_test, commands_in}
+use Rattle.node_laws.proofs.Words.{current, entries_in, format_writes, fresh, happenings, last_in, memory_at, new_book, new_memory, new_site, new_world}
+use Rattle.node_laws.proofs.Words.{node_at, node_entries, occurrences_in, occurrences_of, reckoned, reckoning_of, record_fits, site_at, state_of, with_found}
+use Rattle.node_laws.proofs.Words.{with_written, world_behind, world_step}
+use Rattle.journal_laws.specs.Journal.{is_open_beside}
 use Rattle.std.specs.Prelude.{Option, IsSome, Some, None, replicate}
 use Rattle.std.specs.List.{AllByRecursion, list_any, flat_map, fold}
 use Rattle.std.proofs.lemmas.Bool.{cond_both, cond-true, cond-false, eqb-true, true≢false}
 use Rattle.std.proofs.lemmas.Grind.{flat_map-append}
 use Rattle.std.proofs.lemmas.List.Sums.{fold-append}
-use Rattle.trace_model.specs.declared.entry.Entry.{Entry}
 use Rattle.trace_model.specs.declared.entry.Entry.TheVariants as entry
-use Rattle.trace_model.specs.declared.line.Header.{Header}
-use Rattle.trace_model.specs.declared.line.Line.{Line}
-use Rattle.journal_laws.specs.Planned.{after_planned}
-use Rattle.node_machine.specs.Node.{boot_writes}
-use Rattle.node_machine.specs.world.World.Happening.{Boots, IsCut, Arms}
-use Rattle.node_machine.specs.world.NodeLegal.{last_in, FindsCommands}
-use Rattle.node_machine.specs.world.NodeLegal.Last.{CutBehindCommand}
-use Rattle.node_machine.specs.world.World.{NodeWorld, Site, Happening, new_memory, new_site, new_world, node_at, site_at, memory_at, world_step}
-use Rattle.node_machine.specs.world.Lines.{Occurrence, happenings}
-use Rattle.node_machine.specs.world.NodeHistories.{LineStep, NodeHistory, FollowsNodes, occurrences_of, occurrences_in, entries_in, node_entries}
-use Rattle.node_machine.specs.world.NodeFilters.{Book, new_book, with_found, book_in, commands_in}
-use Rattle.node_laws.specs.kept.Reckonings.{Reckoning, reckoning_of, with_written, reckoned, IsAsRead, EachIsAsRead}
-use Rattle.node_laws.specs.kept.Hosts.{AreHosts, IsFew, IsSentByHost}
-use Rattle.node_laws.specs.kept.Worlds.{AllKeep, MayHappen}
-use Rattle.node_laws.proofs.Cases.{by_test}
+use Rattle.node_laws.specs.kept.Reckonings.{IsAsRead}
 use Rattle.node_laws.proofs.kept.Lines.{MayAllHappen, line_may, world_goes}
 use Rattle.node_laws.proofs.kept.Kept.{all_begin, blank_finds, are_kept}
-use Rattle.journal_laws.proofs.Opening.{fresh}
-use Rattle.node_laws.specs.telling.Telling.{world_behind}
 use Rattle.node_laws.proofs.telling.Lasting.{AllMay, AreCaused, lines_caused}
-use Rattle.node_laws.specs.cuts.Histories.{CommandsWriteSo, MemoriesHold, boots_it, BootsWriteSo, FindsBy, FindsExactly, begun_by, with_event}
+use Rattle.node_laws.specs.cuts.Histories.{CommandsWriteSo, MemoriesHold, boots_it, BootsWriteSo, with_event}
 use Rattle.node_laws.specs.cuts.Histories.{reckoned_within, reckoning_in, AreFoundExactly, StandsInMemories, IsCutAsPlanned, AreCutAsPlanned, KeptExactly}
-use Rattle.trace_model.specs.Lines.{IsNodeOf}
 use Rattle.node_laws.proofs.cuts.Counting.{two_writes, snapshot_writes}
 use Rattle.node_laws.proofs.cuts.Standing.{FindsMany, Stands, book_then}
 use Rattle.node_laws.proofs.cuts.Worlds.{IsThere, StandsAt, memory_far, node_far}

@@ -3,19 +3,8 @@ use Rattle.std.proofs.Common.{◌≡◌, ◌⊎◌, inl, inr, ℕ, true, false, 
 use Rattle.std.specs.Prelude.{Option, Some, None}
 use Rattle.std.specs.List.{AllByRecursion}
 use Rattle.std.proofs.lemmas.Bool.{cases_Bool, ne_eqb, eqb-true}
-use Rattle.swp_base.specs.InMemory.{Memory}
-use Rattle.trace_model.specs.Lines.{IsHost}
-use Rattle.trace_model.specs.declared.entry.Entry.{Entry}
-use Rattle.link_laws.specs.messages.Links.{happens}
-use Rattle.link_laws.specs.messages.Links.LinkEvent.{AtController}
-use Rattle.link_laws.specs.messages.Links.Comes.{NoInput}
-use Rattle.link_laws.specs.messages.Links.Ending.{CutOff}
-use Rattle.link_laws.specs.messages.Links.EndEvent.{Step}
-use Rattle.node_machine.specs.Parts.{Running}
-use Rattle.node_machine.specs.world.World.{NodeWorld, Site, node_at, site_at, with_site, controller_cut, host_cut, loses_power_at, memory_at}
-use Rattle.node_machine.specs.world.World.{with_memory, with_node}
-use Rattle.node_laws.specs.kept.Hosts.{AreHosts}
-use Rattle.node_laws.specs.kept.Worlds.{RunsSo, IfRuns, SiteKeeps, AllKeep}
+use Rattle.node_laws.proofs.Words.{AllKeep, AreHosts, AtController, CutOff, Entry, IfRuns, IsHost, Memory, NoInput, NodeWorld, Running, RunsSo, Site, SiteKeeps}
+use Rattle.node_laws.proofs.Words.{Step, controller_cut, happens, host_cut, loses_power_at, memory_at, node_at, site_at, with_memory, with_node, with_site}
 use Rattle.node_laws.proofs.kept.Sites.{site_found}
 use Rattle.node_laws.proofs.telling.Events.{site_map}
 use Rattle.node_laws.proofs.cuts.Worlds.{IsThere, memory_far, node_far, with_here, with_there}

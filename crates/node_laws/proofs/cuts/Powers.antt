@@ -5,25 +5,14 @@ use Rattle.std.specs.Prelude.{Option, Some, None, is_some}
 use Rattle.std.specs.Option.{option_map_or}
 use Rattle.std.specs.List.{fold}
 use Rattle.std.proofs.lemmas.Bool.{eq-eqb, true≢false}
-use Rattle.swp_base.specs.InMemory.{Memory, Plan}
-use Rattle.trace_model.specs.declared.entry.Entry.{Entry}
+use Rattle.node_laws.proofs.Words.{Book, BootFinds, Entry, FindsBy, FindsExactly, HciTables, Memory, Plan, Reckoning, Running, RunsSo, after_commands}
+use Rattle.node_laws.proofs.Words.{after_planned, book_in, boot_writes, by_option, close, count_of, current, fails_within, format_writes, found, no_tables}
+use Rattle.node_laws.proofs.Words.{reckoned, state_of, with_found}
 use Rattle.trace_model.specs.declared.entry.Entry.TheVariants as entry
 use Rattle.journal_laws.specs.Writes.{IsCut}
-use Rattle.journal_laws.specs.Banks.{current}
-use Rattle.journal_laws.specs.Journal.{state_of, count_of}
-use Rattle.journal_laws.specs.Operations.{format_writes, started_state}
-use Rattle.journal_laws.specs.Planned.{fails_within, after_planned}
+use Rattle.journal_laws.specs.Operations.{started_state}
 use Rattle.journal_laws.proofs.Planned.{none_within}
-use Rattle.hci_tables.specs.Tables.{HciTables, no_tables, after_commands, close}
 use Rattle.hci_store.proofs.Starting.{counted}
-use Rattle.node_machine.specs.Parts.{Running}
-use Rattle.node_machine.specs.Node.{found, boot_writes}
-use Rattle.node_machine.specs.world.NodeFilters.{Book, with_found, book_in}
-use Rattle.node_laws.specs.kept.Reckonings.{Reckoning, reckoned}
-use Rattle.node_laws.specs.cuts.Histories.{FindsBy, FindsExactly}
-use Rattle.node_laws.specs.kept.Finds.{BootFinds}
-use Rattle.node_laws.specs.kept.Worlds.{RunsSo}
-use Rattle.node_laws.proofs.Cases.{by_option}
 use Rattle.node_laws.proofs.kept.Books.{closed_book}
 use Rattle.node_laws.proofs.kept.Planned.{planned_cut}
 use Rattle.node_laws.proofs.kept.Commits.{finds_closed, used_of}

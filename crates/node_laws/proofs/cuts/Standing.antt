@@ -7,31 +7,16 @@ use Rattle.std.proofs.lemmas.List.Folds.{list_any-append}
 use Rattle.std.proofs.lemmas.Bool.{ne_eqb, eq-eqb, true≢false}
 use Rattle.std.proofs.Math.Seq.{take-append_seam, take-length}
 use mathlib.Core.Bool.{or-false}
-use Rattle.swp_base.specs.InMemory.{Memory}
-use Rattle.trace_model.specs.declared.entry.Entry.{Entry}
+use Rattle.node_laws.proofs.Words.{Book, BootFinds, Command, EachIsAsRead, Entry, FindsBy, Memory, Port, Reckoning, Running, StillRuns, Work, Write}
+use Rattle.node_laws.proofs.Words.{after_commands, after_planned, body_of, book_after, book_in, by_test, close, commands_in, commit, commit_writes, count_of}
+use Rattle.node_laws.proofs.Words.{current, fails_within, no_tables, opens_gate, reckoned, reckoning_of, runs_on, with_written, writes_of}
 use Rattle.trace_model.specs.declared.entry.Entry.TheVariants as entry
-use Rattle.journal_laws.specs.Banks.{current}
-use Rattle.journal_laws.specs.Writes.{Write}
-use Rattle.journal_laws.specs.Journal.{count_of}
-use Rattle.journal_laws.specs.Planned.{fails_within, after_planned}
-use Rattle.hci_tables.specs.declared.command.Command.{Command}
-use Rattle.hci_tables.specs.Bodies.{body_of}
-use Rattle.hci_tables.specs.Tables.{no_tables, after_commands, close}
-use Rattle.hci_store.specs.Committing.{commit_writes}
-use Rattle.node_machine.specs.Parts.{Running, Port, Work}
-use Rattle.node_machine.specs.Carrying.{commit}
-use Rattle.node_machine.specs.world.World.{runs_on}
-use Rattle.node_machine.specs.world.NodeFilters.{Book, book_after, book_in, commands_in}
-use Rattle.node_laws.specs.kept.Gates.{opens_gate}
-use Rattle.node_laws.specs.kept.Reckonings.{Reckoning, reckoning_of, writes_of, with_written, reckoned, EachIsAsRead}
-use Rattle.node_laws.specs.kept.Finds.{BootFinds}
-use Rattle.node_laws.specs.kept.Books.{StillRuns, HasLostIn}
-use Rattle.node_laws.proofs.Cases.{by_test}
+use Rattle.node_laws.specs.kept.Books.{HasLostIn}
 use Rattle.node_laws.proofs.kept.Books.{book_more, closed_book}
 use Rattle.node_laws.proofs.kept.Commits.{finds_closed, used_of, planned_used}
 use Rattle.node_laws.proofs.kept.Doing.{GoesOn_or_lost}
 use Rattle.node_laws.proofs.kept.Reckoned.{IsNothingFor, fold_book, fold_more, idle_fold, idle_each, each_more, writes_are, reckoned_command}
-use Rattle.node_laws.specs.cuts.Histories.{FindsBy, is_boot_of}
+use Rattle.node_laws.specs.cuts.Histories.{is_boot_of}
 use Rattle.node_laws.proofs.cuts.Steps.{plan_at, step_opened, step_closed}
 
 -- A boot would find so many of these commands.

@@ -4,29 +4,14 @@ use Rattle.std.proofs.Common.{slice_index, sym, refl, ap, ◌∙◌, subst, arit
 use Rattle.std.specs.Prelude.{Option, Some, None, nat_le}
 use Rattle.std.proofs.lemmas.Bool.{cases_Bool, and_parts, both_ways, leb-true, true≢false}
 use Rattle.std.proofs.lemmas.Bool.Decides.{nat_tests}
-use Rattle.swp_base.specs.Outside.{overwritten, one_more}
-use Rattle.swp_base.specs.InMemory.{Plan, Memory, is_next, plan_after, memory_after, torn_bytes}
-use Rattle.trace_model.specs.declared.entry.Entry.{Entry}
+use Rattle.node_laws.proofs.Words.{Book, BootFinds, Command, Entry, FindsRoom, IsCommand, Memory, Plan, StillRuns, Work, Write, after_commands, after_planned}
+use Rattle.node_laws.proofs.Words.{apply, body_of, book_in, by_option, by_test, close, commands_in, commit, commit_writes, committed, count_of, fails_within}
+use Rattle.node_laws.proofs.Words.{is_next, is_opened_gate, loses_power, memory_after, no_tables, noting, opens_gate, overwritten, plan_after, torn_bytes}
+use Rattle.swp_base.specs.Outside.{one_more}
 use Rattle.trace_model.specs.declared.entry.Entry.TheVariants as entry
-use Rattle.journal_laws.specs.Banks.{is_opened_gate}
-use Rattle.journal_laws.specs.Writes.{Write}
-use Rattle.journal_laws.specs.Journal.{count_of}
-use Rattle.journal_laws.specs.Planned.{fails_within, after_planned}
-use Rattle.hci_tables.specs.declared.command.Command.{Command}
-use Rattle.hci_tables.specs.Commands.{IsCommand}
-use Rattle.hci_tables.specs.Bodies.{body_of}
-use Rattle.hci_tables.specs.Tables.{no_tables, apply, after_commands, close}
-use Rattle.hci_store.specs.Committing.{commit_writes, committed}
-use Rattle.node_machine.specs.Parts.{Work}
-use Rattle.node_machine.specs.Carrying.{noting, loses_power, commit}
-use Rattle.node_machine.specs.world.NodeFilters.{Book, book_in, commands_in}
-use Rattle.node_laws.specs.kept.Finds.{BootFinds, FindsRoom}
-use Rattle.node_laws.specs.kept.Books.{StillRuns}
 use Rattle.journal_laws.proofs.Planned.{plan_of_memory_after as plan_on}
-use Rattle.node_laws.proofs.Cases.{by_option, by_test}
 use Rattle.node_laws.proofs.kept.Commits.{finds_closed, commit_count}
 use Rattle.node_laws.proofs.kept.Books.{book_more, book_command, closed_command, closed_book}
-use Rattle.node_laws.specs.kept.Gates.{opens_gate}
 use Rattle.node_laws.proofs.cuts.Commits.{planned_opened, planned_closed}
 
 -- ## The plan

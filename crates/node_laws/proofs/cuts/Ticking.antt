@@ -3,23 +3,10 @@ use Rattle.std.proofs.Common.{◌≡◌, ◌⊎◌, inl, inr, ℕ, true, false, 
 use Rattle.std.specs.Prelude.{Option, Some, None}
 use Rattle.std.specs.List.{AllByRecursion, fold, flat_map}
 use Rattle.std.proofs.lemmas.Bool.{cases_Bool, cond-true, cond-false, eqb-true, eqb-false}
-use Rattle.trace_model.specs.Lines.{IsHost}
-use Rattle.trace_model.specs.declared.entry.Entry.{Entry}
-use Rattle.journal_laws.specs.Planned.{after_planned}
-use Rattle.link_laws.specs.messages.Links.{exchanged, aged, ticks_at_controller}
-use Rattle.link_laws.specs.messages.Links.Ending.{GoesOut}
-use Rattle.link_laws.specs.entries.Entries.{aged_entries}
-use Rattle.link_laws.specs.entries.Entries.End.{Controller, Host}
-use Rattle.history.specs.Steps.{entries_for}
-use Rattle.node_machine.specs.Parts.{Running, Work}
-use Rattle.node_machine.specs.Node.{steps}
-use Rattle.node_machine.specs.Node.NodeInput.{TimePasses}
-use Rattle.node_machine.specs.world.World.{NodeWorld, Site, site_at, link_to, runs_on, work_of, all_aged, is_late_at, ticked_so, turns_at, ending_of}
-use Rattle.node_machine.specs.world.World.{frames_noted, controller_ticks, host_ticks, hosts_tick, world_ticks}
-use Rattle.node_laws.specs.kept.Reckonings.{Reckoning, reckoned}
-use Rattle.node_laws.specs.kept.Books.{IsOf}
-use Rattle.node_laws.specs.kept.Hosts.{AreDifferent, AreHosts}
-use Rattle.node_laws.specs.kept.Worlds.{NodeKeeps, SiteKeeps, AllKeep}
+use Rattle.node_laws.proofs.Words.{AllKeep, AreDifferent, AreHosts, Controller, Entry, GoesOut, Host, IsHost, IsOf, NodeKeeps, NodeWorld, Reckoning, Running}
+use Rattle.node_laws.proofs.Words.{Site, SiteKeeps, TimePasses, Work, after_planned, aged, aged_entries, all_aged, controller_ticks, ending_of, entries_for}
+use Rattle.node_laws.proofs.Words.{exchanged, frames_noted, host_ticks, hosts_tick, is_late_at, link_to, reckoned, runs_on, site_at, steps, ticked_so}
+use Rattle.node_laws.proofs.Words.{ticks_at_controller, turns_at, work_of, world_ticks}
 use Rattle.registry.proofs.ValueLemmas.{AllByRecursion-append as all_append}
 use Rattle.node_laws.proofs.kept.Plainly.{plain_entries, plain_flat}
 use Rattle.node_laws.proofs.kept.Doing.{GoesOn_or_lost}

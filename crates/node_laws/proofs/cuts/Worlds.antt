@@ -3,25 +3,11 @@ use Rattle.std.proofs.Common.{◌≡◌, ◌⊎◌, inl, inr, ℕ, false, eqb, L
 use Rattle.std.specs.Prelude.{Option, Some, None, is_some}
 use Rattle.std.specs.List.{AllByRecursion, flat_map}
 use Rattle.std.proofs.lemmas.Bool.{eq-eqb, ne_eqb, eqb-true, eqb-false}
-use Rattle.swp_base.specs.InMemory.{Memory}
-use Rattle.trace_model.specs.Lines.{IsHost}
-use Rattle.trace_model.specs.declared.entry.Entry.{Entry}
-use Rattle.journal_laws.specs.Planned.{after_planned}
-use Rattle.link_laws.specs.messages.Links.{Comes, exchanged}
-use Rattle.link_laws.specs.entries.Entries.End.{Controller, Host}
-use Rattle.history.specs.Steps.{entries_for}
-use Rattle.node_machine.specs.Parts.{Running, Work}
-use Rattle.node_machine.specs.Carrying.{changed_if}
-use Rattle.node_machine.specs.world.World.{NodeWorld, Site, node_at, site_at, with_site, link_to, memory_at, runs_on, near_end_in, arrival, wires_for}
-use Rattle.node_machine.specs.world.World.{work_of, frames_noted, comes_to, controller_work, link_after_controller, after_controller, controller_does}
-use Rattle.node_machine.specs.world.World.{host_work, after_host, host_does}
-use Rattle.node_laws.specs.kept.Reckonings.{Reckoning}
-use Rattle.node_laws.specs.kept.Books.{IsPlain, StillRuns}
-use Rattle.node_machine.specs.Orders.{IsOnOrder}
-use Rattle.node_laws.specs.kept.Hosts.{AreHosts}
-use Rattle.node_laws.specs.kept.Worlds.{NodeKeeps, SiteKeeps, AllKeep}
+use Rattle.node_laws.proofs.Words.{AllKeep, AreHosts, Comes, Controller, Entry, Host, IsHost, IsOnOrder, IsPlain, Memory, NodeKeeps, NodeWorld, Reckoning}
+use Rattle.node_laws.proofs.Words.{Running, Site, SiteKeeps, StillRuns, Work, after_controller, after_host, after_planned, arrival, by_option, by_test}
+use Rattle.node_laws.proofs.Words.{changed_if, comes_to, controller_does, controller_work, entries_for, exchanged, frames_noted, host_does, host_work}
+use Rattle.node_laws.proofs.Words.{link_after_controller, link_to, memory_at, near_end_in, node_at, runs_on, site_at, wires_for, with_site, work_of}
 use Rattle.registry.proofs.ValueLemmas.{AllByRecursion-append as all_append}
-use Rattle.node_laws.proofs.Cases.{by_option, by_test}
 use Rattle.node_laws.proofs.kept.Plainly.{plain_entries, plain_flat}
 use Rattle.node_laws.proofs.kept.Doing.{GoesOn_or_lost}
 use Rattle.node_laws.proofs.kept.Standing.{runs_begun, told_ended}

@@ -11,12 +11,12 @@ use Rattle.registry.proofs.ValueLemmas.{AllByRecursion-append as all_append}
 use Rattle.node_laws.proofs.Words.{AnswersSo, AreDifferent, AreHosts, AreNamed, AreNotOf, AreSessionsRead, AsksReset, AtEnd, Bare, Comes, Command, Controller}
 use Rattle.node_laws.proofs.Words.{Creation, Desk, End, Entry, Happening, HasEnds, HasRoomForAll, HciTables, IfRuns, IsClf, IsDueAt, IsFresh, IsNamed}
 use Rattle.node_laws.proofs.Words.{IsNoAnswer, IsOrderly, Link, LinkEnd, LinkInput, LinkState, NextFrame, NoInput, NodeWorld, NumberedEnd, Occurrence, OnWire}
-use Rattle.node_laws.proofs.Words.{Port, ReadsBetween, Reset, Response, Running, RunsSo, Site, Start, Starts, Stop, Stops, Take, Work, after_controller}
+use Rattle.node_laws.proofs.Words.{Port, ReadsBetween, Reset, Response, Running, RunsSo, Site, Start, Starts, Stop, Stops, Take, Work, after_controller, age_in}
 use Rattle.node_laws.proofs.Words.{all_flat, arrival, asking_in, begun_at, by_option, by_test, comes_to, controller_begins, controller_does, creation_read}
-use Rattle.node_laws.proofs.Words.{down_in, end_c, end_of, ended_by, entries_for, entries_in, frames_noted, goes_down, has_come, has_come_so, hosts_in}
-use Rattle.node_laws.proofs.Words.{hosts_of_ends, input_at, input_of, is_answer_of, is_late_in, is_of_node, is_over, is_own_reset, link_to, lpdu_of}
-use Rattle.node_laws.proofs.Words.{near_end_in, new_link, new_sync, node_of, notice_in, number_now, owed, owed_in, port_at, port_for, report, same_end}
-use Rattle.node_laws.proofs.Words.{session_now, session_of_port, site_at, steps, synced, syncs_in, tables_in, told_of_coming, wires_for}
+use Rattle.node_laws.proofs.Words.{down_in, due, end_c, end_of, ended_by, ends_session, entries_for, entries_in, frames_noted, goes_down, has_come, has_come_so}
+use Rattle.node_laws.proofs.Words.{hosts_in, hosts_of_ends, input_at, input_of, is_answer_of, is_late_in, is_of_node, is_over, is_own_reset, is_tick, link_to}
+use Rattle.node_laws.proofs.Words.{lpdu_of, near_end_in, new_link, new_sync, node_of, noted_of_deeds, notice_in, number_now, owed, owed_in, port_at, port_for}
+use Rattle.node_laws.proofs.Words.{report, same_end, session_now, session_of_port, site_at, steps, synced, syncs_in, tables_in, told_of_coming, wires_for}
 use Rattle.trace_model.specs.declared.entry.Entry.TheVariants as entry
 use Rattle.gate_answers.specs.declared.response.Response.TheVariants as response
 use Rattle.shdlc_core.specs.declared.answers.LinkState.TheVariants.{Up as IsUpNow}
@@ -34,8 +34,6 @@ use Rattle.node_laws.proofs.notices.Far.{AreFar, far_reads}
 use Rattle.node_laws.proofs.notices.Reading.{notice_more}
 use Rattle.node_laws.proofs.notices.Sites.{arrival_quiet}
 use Rattle.node_laws.proofs.steps.Ports.{at_port}
-use Rattle.node_laws.specs.answers.Moments.{noted_of_deeds}
-use Rattle.node_laws.specs.answers.Unasked.{age_in, due, ends_session, is_tick}
 use Rattle.node_laws.specs.answers.Unasked.{still_asked}
 use Rattle.node_laws.proofs.dues.Ended.{any_cause, ends_at}
 use Rattle.node_laws.proofs.dues.Freed.{IsElse, come_found, come_none, come_so, same_port}

@@ -7,11 +7,9 @@ use Rattle.std.proofs.lemmas.Bool.{true≢false}
 use Rattle.std.proofs.lemmas.List.Sums.{fold-append}
 use Rattle.swp_base.specs.declared.link_terms.Cause.{Cause as EndedBy}
 use Rattle.node_laws.proofs.Words.{Creation, End, Entry, Notice, PipeRow, Port, asked_at, asking_in, body_in, by_option, by_test, creation_in, creation_read}
-use Rattle.node_laws.proofs.Words.{end_c, forgets, instruction_in, is_forgotten, is_over_at, same_end, session_now}
+use Rattle.node_laws.proofs.Words.{end_c, ends_session, forgets, instruction_in, is_down, is_forgotten, is_over_at, pipe_named_in, same_bytes, same_end}
+use Rattle.node_laws.proofs.Words.{session_now}
 use Rattle.trace_model.specs.declared.entry.Entry.TheVariants as entry
-use Rattle.history.specs.Damage.{same_bytes}
-use Rattle.node_machine.specs.HostReplies.{pipe_named_in}
-use Rattle.node_laws.specs.answers.Unasked.{ends_session, is_down}
 use Rattle.node_laws.proofs.worlds.Downs.{ends_in_list}
 
 -- ## Entries that tell of sessions that end

@@ -3,15 +3,15 @@ use Rattle.std.proofs.Common.{◌≡◌, ℕ, ◌≤◌, false, cond, List, [], 
 use Rattle.std.specs.Prelude.{◌==◌, IsTrue, Some, None, unwrap_or}
 use Rattle.std.specs.List.{AllByRecursion, flat_map}
 use Rattle.std.proofs.lemmas.Bool.{true≢false}
-use Rattle.trace_model.specs.Lines.{IsNodeHeader}
-use Rattle.node_laws.proofs.Words.{Activates, AreHosts, AreNotOf, ArePlayable, Arms, AsksReset, AtEnd, Boots, Comes, Controller, Deed, End, Entry, FollowsNodes}
-use Rattle.node_laws.proofs.Words.{Gives, Happening, Header, Host, Inits, IsBegunByHost, IsClf, IsCut, IsDueAt, IsFew, IsOrderly, IsSentByHost, Line, LinkInput}
-use Rattle.node_laws.proofs.Words.{Loses, Loss, NextFrame, NoInput, NodeHistory, NodeWorld, Occurrence, OnWire, ReadsBetween, Resets, Site, Starts, Takes}
-use Rattle.node_laws.proofs.Words.{Ticks, Work, all_aged, beginning, begins_with, begun_at, boot_found, boots, by_boot, by_coming, by_controller}
-use Rattle.node_laws.proofs.Words.{by_controller_tick, by_loss, by_test, comes_at, comes_to, controller_does, controller_ticks, controller_work, count_of}
-use Rattle.node_laws.proofs.Words.{end_c, end_h, entries_for, entries_in, first_lost, first_verdict, frame_lost, frames_at, frames_noted, happenings, host_does}
-use Rattle.node_laws.proofs.Words.{hosts_tick, input_of, is_answer_of, link_to, near_tick, new_world, node_entries, node_of, occurrences_in, refusal_in}
-use Rattle.node_laws.proofs.Words.{sending, site_at, steps, tables_in, taken_of, wires_for, world_behind, world_step, world_ticks}
+use Rattle.node_laws.proofs.Words.{Activates, AreDue, AreHosts, AreNodeLinesOf, AreNotOf, ArePlayable, Arms, AsksReset, AtEachOccurrence, AtEnd, Boots, Comes}
+use Rattle.node_laws.proofs.Words.{Controller, Deed, End, Entry, FollowsNodes, Gives, Happening, Header, Host, Inits, IsBegunByHost, IsClf, IsCut, IsDueAt}
+use Rattle.node_laws.proofs.Words.{IsFew, IsNodeHeader, IsNodeLineOf, IsOrderly, IsSentByHost, Line, LinkInput, Loses, Loss, NextFrame, NoInput, NodeHistory}
+use Rattle.node_laws.proofs.Words.{NodeWorld, Occurrence, OnWire, ReadsBetween, Resets, Site, Starts, Takes, Ticks, Work, all_aged, beginning, begins_with}
+use Rattle.node_laws.proofs.Words.{begun_at, boot_found, boots, by_boot, by_coming, by_controller, by_controller_tick, by_loss, by_test, comes_at, comes_to}
+use Rattle.node_laws.proofs.Words.{commands_by_events, controller_does, controller_ticks, controller_work, count_of, end_c, end_h, entries_for, entries_in}
+use Rattle.node_laws.proofs.Words.{first_lost, first_verdict, frame_lost, frames_at, frames_noted, happenings, host_does, hosts_tick, input_of, is_answer_of}
+use Rattle.node_laws.proofs.Words.{is_tick, link_to, near_tick, new_world, node_entries, node_of, occurrences_in, refusal_in, sending, site_at, steps}
+use Rattle.node_laws.proofs.Words.{tables_in, taken_of, wires_for, world_behind, world_step, world_ticks}
 use Rattle.trace_model.specs.declared.entry.Entry.TheVariants as entry
 use Rattle.trace_model.specs.declared.line.Line.TheVariants as line
 use Rattle.link_laws.specs.entries.Entries.{End as Side}
@@ -25,15 +25,10 @@ use Rattle.node_laws.proofs.power.Doing.{IsMine}
 use Rattle.node_laws.proofs.power.Events.{begins_part, sending_mine}
 use Rattle.node_laws.proofs.power.Parts.{own_not, part_own}
 use Rattle.node_laws.proofs.readings.Sites.{lost_quiet}
-use Rattle.node_laws.specs.answers.Answered.{AreDue}
-use Rattle.node_laws.specs.answers.Moments.{AtEachOccurrence}
-use Rattle.node_laws.specs.answers.Unasked.{is_tick}
-use Rattle.node_laws.specs.schedules.Ranges.{AreNodeLinesOf, IsNodeLineOf}
 use Rattle.node_laws.proofs.dues.Comes.{comes_due, nothing_due, others_due, owed_calm}
 use Rattle.node_laws.proofs.dues.Ended.{any_cause, ends_at}
 use Rattle.node_laws.proofs.dues.Taken.{IsUnread, first_tookless, tookless_all}
 use Rattle.node_laws.proofs.dues.Ticks.{off_due, on_due}
-use Rattle.node_laws.specs.bounds.Commands.{commands_by_events}
 use Rattle.node_laws.proofs.reply_passes.Whole.{comes_roomy}
 use Rattle.node_laws.proofs.read_steps.Reading.{history_reads}
 use Rattle.node_laws.proofs.worlds.Downs.{any_none, notes_downless}

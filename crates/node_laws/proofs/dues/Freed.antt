@@ -6,14 +6,13 @@ use Rattle.std.specs.Option.{option_map_or}
 use Rattle.std.proofs.lemmas.Bool.{eqb-true, true≢false}
 use Rattle.node_laws.proofs.Words.{AreDifferent, AreHosts, AtEnd, Command, Commits, Creation, Deed, Entry, IsFresh, IsOutside, LinkEnd, LinkInput, LinkState}
 use Rattle.node_laws.proofs.Words.{NodeInput, Port, Release, Releases, Tick, TimePasses, Up, Work, after_sessions, all_done, all_synced_hold, asked_at, by_test}
-use Rattle.node_laws.proofs.Words.{commit, done, forgets, forgotten, forgotten_hold, has_come, has_come_so, has_freed, has_synced, hosts_of_ends, input_at}
-use Rattle.node_laws.proofs.Words.{is_forgotten, is_late, is_over, is_over_at, is_up, owed, owed_in_step, port_at, reset_late, session_of_port, syncs_in}
-use Rattle.node_laws.proofs.Words.{with_older, without_notice}
+use Rattle.node_laws.proofs.Words.{commit, done, forgets, forgotten, forgotten_hold, goes_in, has_come, has_come_so, has_freed, has_synced, hosts_of_ends}
+use Rattle.node_laws.proofs.Words.{input_at, is_forgotten, is_late, is_over, is_over_at, is_up, owed, owed_in_step, port_at, reset_late, session_of_port}
+use Rattle.node_laws.proofs.Words.{syncs_in, with_older, without_notice}
 use Rattle.gate_answers.specs.declared.response.Response.TheVariants as response
 use Rattle.node_laws.proofs.steps.Ports.{at_port, come_host, forgets_host, late_host, without_host}
 use Rattle.node_laws.proofs.telling.Away.{at_map, none_map}
 use Rattle.node_laws.proofs.telling.Steps.{come_session, forgets_same, without_same}
-use Rattle.node_laws.specs.passes.Noting.{goes_in}
 use Rattle.node_laws.proofs.links.Noticing.{at_host}
 use Rattle.node_laws.proofs.passes.Replying.{session_in, session_map, turn_sessions}
 use Rattle.node_laws.proofs.creations.Asks.{Asked, asked_of, waits}

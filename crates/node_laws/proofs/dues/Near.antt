@@ -4,11 +4,11 @@ use Rattle.std.specs.Prelude.{◌-◌, ◌^◌, min, length, Option, Some, None}
 use Rattle.std.specs.List.{AllByRecursion, flat_map}
 use Rattle.std.specs.Option.{option_map_or}
 use Rattle.node_laws.proofs.Words.{AnswersSo, AreHosts, AreNamed, Command, Deed, Entry, Happening, IsDueAt, IsNoAnswer, NodeInput, Occurrence, Port, Work}
-use Rattle.node_laws.proofs.Words.{asking_in, begun_at, commands_in, down_in, end_c, entries_in, entries_of_reply, goes_down, has_come_so, is_late_in, is_over}
-use Rattle.node_laws.proofs.Words.{is_over_at, new_sync, notice_in, owed_in, owed_in_step, port_at, session_now, session_of_port, steps, syncs_in, tables_in}
+use Rattle.node_laws.proofs.Words.{asking_in, begun_at, commands_in, down_in, due, end_c, entries_in, entries_of_reply, goes_down, has_come_so, is_late_in}
+use Rattle.node_laws.proofs.Words.{is_over, is_over_at, new_sync, notice_in, owed_in, owed_in_step, port_at, session_now, session_of_port, steps, syncs_in}
+use Rattle.node_laws.proofs.Words.{tables_in}
 use Rattle.node_laws.proofs.power.Parts.{AreOwn}
 use Rattle.node_laws.proofs.creations.Coming.{over_at}
-use Rattle.node_laws.specs.answers.Unasked.{due}
 use Rattle.node_laws.proofs.dues.Deeds.{owed_read}
 use Rattle.node_laws.proofs.dues.Ended.{any_cause, downs_are, downs_end, session_behind}
 use Rattle.node_laws.proofs.dues.Freed.{IsElse, come_different, come_found, come_so}

@@ -2,10 +2,9 @@
 use Rattle.std.proofs.Common.{◌≡◌, ℕ, true, false, cond, List, [], ◌∷◌, ◌++◌, sym, refl, ap, ◌∙◌, subst, arith}
 use Rattle.std.specs.Prelude.{Option, Some, None}
 use Rattle.std.specs.List.{AllByRecursion}
-use Rattle.node_laws.proofs.Words.{Command, Commits, Deed, Entry, IsReplyNoted, Work, all_done, by_test, commit, count_of, entries_of_reply, noted_by_deeds}
-use Rattle.node_laws.proofs.Words.{session_of_port, unless_cut}
+use Rattle.node_laws.proofs.Words.{Command, Commits, Deed, Entry, IsReplyNoted, Work, all_done, by_test, commit, count_of, entries_of_reply, goes_in}
+use Rattle.node_laws.proofs.Words.{next_count, noted_by_deeds, session_of_port, unless_cut}
 use Rattle.trace_model.specs.declared.entry.Entry.TheVariants as entry
-use Rattle.node_laws.specs.passes.Noting.{goes_in, next_count}
 use Rattle.node_laws.proofs.passes.Replying.{noted_so}
 use Rattle.node_laws.proofs.creations.Doing.{off_is, on_is}
 use Rattle.node_laws.proofs.dues.Owed.{Goes, IsOwing, SentSo, owed_counts, owed_entries, owed_same}

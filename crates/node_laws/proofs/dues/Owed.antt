@@ -6,11 +6,11 @@ use Rattle.std.specs.List.{AllByRecursion, filter, filter_map, flat_map}
 use Rattle.std.specs.Option.{option_map_or}
 use Rattle.std.proofs.lemmas.Bool.{eq-eqb}
 use Rattle.registry.proofs.ValueLemmas.{AllByRecursion-append as all_append}
-use Rattle.node_laws.proofs.Words.{Creation, Deed, Entry, Give, HciTables, Message, Port, Release, Releases, Response, Sends, State, Work, after_turn, all_done}
-use Rattle.node_laws.proofs.Words.{all_owed, answer_of, asked_at, by_test, end_of_number, entries_of_reply, in_use, is_response, owed, port_at, turn_at}
+use Rattle.node_laws.proofs.Words.{AreTaken, CountsCommands, Creation, Deed, Entry, Give, HciTables, Message, Port, Release, Releases, Response, Sends, State}
+use Rattle.node_laws.proofs.Words.{TakesMessage, Work, after_turn, all_done, all_owed, answer_of, asked_at, by_test, end_of_number, entries_of_reply, in_use}
+use Rattle.node_laws.proofs.Words.{is_response, owed, port_at, turn_at}
 use Rattle.trace_model.specs.declared.entry.Entry.TheVariants as entry
 use Rattle.gate_answers.specs.declared.response.Response.TheVariants as response
-use Rattle.node_laws.specs.passes.Noting.{AreTaken, CountsCommands, TakesMessage}
 use Rattle.node_laws.proofs.creations.Asks.{Asked, waits, owes}
 use Rattle.node_laws.proofs.creations.Doing.{EndAt, Good, at_here, on_is, pays, takes_short}
 use Rattle.node_laws.proofs.replies.Answering.{AreReplyEntries, commands_told}

@@ -4,14 +4,13 @@ use Rattle.std.specs.Prelude.{Option, Some}
 use Rattle.std.specs.List.{AllByRecursion}
 use Rattle.std.proofs.lemmas.Bool.{true≢false}
 use Rattle.registry.proofs.ValueLemmas.{AllByRecursion-append as all_append}
-use Rattle.node_laws.proofs.Words.{AnswersSo, AreHosts, ArePassed, ComesTo, Command, Cut, Deed, Entry, IsNoAnswer, IsReplyNoted, NodeInput, Port, Restarted}
-use Rattle.node_laws.proofs.Words.{Work, all_done, all_owed_hold, by_test, comes_to_pass, entries_for, entries_of_reply, forgets, has_come_so, has_freed}
-use Rattle.node_laws.proofs.Words.{has_synced, hosts_of_ends, is_answer_of, is_cut_of, is_over_at, is_turn_of, noted_by_deeds, owed_in_step, passes, port_at}
-use Rattle.node_laws.proofs.Words.{session_of_port, steps, syncs_in, told, told_of_coming, unless_cut}
+use Rattle.node_laws.proofs.Words.{AnswersSo, AreHosts, ArePassed, BeginWithTurn, ComesTo, Command, Cut, Deed, Entry, IsNoAnswer, IsReplyNoted, IsTurnSo}
+use Rattle.node_laws.proofs.Words.{NodeInput, Port, Restarted, Work, all_done, all_owed_hold, by_test, comes_to_pass, entries_for, entries_of_reply, forgets}
+use Rattle.node_laws.proofs.Words.{has_come_so, has_freed, has_synced, hosts_of_ends, is_answer_of, is_cut_of, is_over_at, is_turn_of, noted_by_deeds}
+use Rattle.node_laws.proofs.Words.{owed_in_step, passes, port_at, session_of_port, steps, syncs_in, told, told_of_coming, unless_cut}
 use Rattle.trace_model.specs.declared.entry.Entry.TheVariants as entry
 use Rattle.link_laws.specs.entries.Entries.{Entry as Noted}
 use Rattle.link_laws.specs.entries.Entries.Entry.{Tick as Ticked}
-use Rattle.node_laws.specs.passes.Passing.{BeginWithTurn, IsTurnSo}
 use Rattle.node_laws.specs.passes.Passing.ComesTo.{Begins}
 use Rattle.node_laws.proofs.passes.Coming.{coming_all}
 use Rattle.node_laws.proofs.passes.Before.{before_entries, steps_are}

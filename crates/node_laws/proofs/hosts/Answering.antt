@@ -4,10 +4,9 @@ use Rattle.std.proofs.Common.{append_assoc, append-nil, arith}
 use Rattle.std.specs.Prelude.{not, take}
 use Rattle.std.specs.List.{AllByRecursion, filter, list_any, prefix_len}
 use Rattle.std.proofs.lemmas.Bool.{eq-eqb, true≢false}
-use Rattle.node_laws.proofs.Words.{AnswersSo, Command, Entry, IsReplyNoted, by_test, is_answer_of, is_cut_of, is_turn_of, node_of}
+use Rattle.node_laws.proofs.Words.{AnswersSo, Command, Entry, IsReplyNoted, before_turn, by_test, commands_noted, is_answer_of, is_cut_of, is_turn_of, node_of}
+use Rattle.node_laws.proofs.Words.{to_command}
 use Rattle.trace_model.specs.declared.entry.Entry.TheVariants as entry
-use Rattle.node_laws.specs.answers.Answered.{before_turn, to_command}
-use Rattle.node_laws.specs.reply_passes.Counts.{commands_noted}
 use Rattle.node_laws.proofs.reply_passes.Growing.{commits-append}
 use Rattle.node_laws.proofs.worlds.Late.{before_first}
 

@@ -4,16 +4,15 @@ use Rattle.std.specs.Prelude.{Option, Some, None}
 use Rattle.std.specs.Option.{option_map_or}
 use Rattle.std.specs.List.{AllByRecursion}
 use Rattle.std.proofs.lemmas.Bool.{cond-true, eq-eqb, true≢false}
-use Rattle.node_laws.proofs.Words.{AreDifferent, AreNoTurns, ArePortsRead, Comes, Entry, HasEnds, HoldsInStep, Host, IfRuns, Init, IsFresh, IsOutside, IsPlain}
-use Rattle.node_laws.proofs.Words.{Link, LinkEnd, LinkState, Message, NoInput, NodeInput, NumberedEnd, Port, Running, RunsSo, Site, Work, arrival}
-use Rattle.node_laws.proofs.Words.{comes_to_pass, end_h, entries_for, has_come, hosts_of_ends, input_at, own_side, port_at, steps, waiting_at, work_of}
+use Rattle.node_laws.proofs.Words.{AreDifferent, AreNoTurns, ArePortsRead, Comes, Entry, HasEnds, HoldsInStep, Host, IfHostRuns, IfRuns, Init, IsFresh}
+use Rattle.node_laws.proofs.Words.{IsOutside, IsPlain, Link, LinkEnd, LinkState, Message, NoInput, NodeInput, NumberedEnd, Port, Running, RunsSo, Site, Work}
+use Rattle.node_laws.proofs.Words.{arrival, comes_to_pass, end_h, entries_for, has_come, hosts_of_ends, input_at, order_of, own_side, port_at, steps}
+use Rattle.node_laws.proofs.Words.{waiting_at, work_of}
 use Rattle.node_laws.proofs.kept.Doing.{GoesOn_or_lost}
 use Rattle.node_laws.proofs.kept.Plainly.{plain_entries}
 use Rattle.node_laws.proofs.kept.Standing.{runs_begun}
 use Rattle.node_laws.proofs.kept.Stepping.{ready_fine}
 use Rattle.node_laws.proofs.telling.Nodes.{hosts_same}
-use Rattle.node_laws.specs.readings.Orders.{order_of}
-use Rattle.node_laws.specs.readings.Worlds.{IfHostRuns}
 use Rattle.node_laws.proofs.telling.Powers.{entries_uncut}
 use Rattle.node_laws.proofs.telling.Walks.{AreUncut}
 use Rattle.node_laws.proofs.passes.Before.{links_none}

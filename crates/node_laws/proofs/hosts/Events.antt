@@ -12,9 +12,9 @@ use Rattle.node_laws.proofs.Words.{IsReplied, Link, LinkInput, Loses, Lost, Next
 use Rattle.node_laws.proofs.Words.{Site, Start, Starts, Step, Take, Takes, Ticks, TimePasses, Work, aged, aged_entries, all_aged, all_flat, arrival, beginning}
 use Rattle.node_laws.proofs.Words.{boots, by_coming, by_controller, by_controller_tick, by_host_tick, by_option, by_test, comes_at, comes_to, comes_to_pass}
 use Rattle.node_laws.proofs.Words.{controller_ticks, controller_work, end_c, end_h, ending_of, entries_for, entries_in, exchanged, frame_lost, frames_at}
-use Rattle.node_laws.proofs.Words.{frames_noted, host_begins_step, host_tick, host_ticks, hosts_in, hosts_tick, init_begun, init_in, input_of}
-use Rattle.node_laws.proofs.Words.{link_after_controller, link_to, near_end_in, near_tick, node_of, sending, site_at, site_ticked, site_unticked, steps}
-use Rattle.node_laws.proofs.Words.{ticks_host, turns_at, wires_for, work_of, world_step, world_ticks}
+use Rattle.node_laws.proofs.Words.{frames_noted, host_begins_step, host_tick, host_ticks, hosts_in, hosts_tick, init_begun, init_in, input_of, is_left_short}
+use Rattle.node_laws.proofs.Words.{link_after_controller, link_to, makes_step, near_end_in, near_tick, node_of, sending, site_at, site_ticked, site_unticked}
+use Rattle.node_laws.proofs.Words.{steps, ticks_host, turn_link, turns_at, wires_for, work_of, world_step, world_ticks}
 use Rattle.link_laws.specs.entries.Entries.{Entry as Noted}
 use Rattle.link_laws.specs.entries.Entries.{End as Side}
 use Rattle.node_laws.proofs.telling.Events.{comes_goes, orderly_map, site_map}
@@ -32,8 +32,6 @@ use Rattle.node_laws.proofs.views.Events.{aged_entries_still, ticks_leave}
 use Rattle.node_laws.proofs.views.Leaving.{IsStill, Leaves, still_leaves}
 use Rattle.node_laws.proofs.views.Nodes.{arrival_still, frames_still, others_step}
 use Rattle.node_laws.proofs.views.Worlds.{AreFine, near_other}
-use Rattle.node_laws.specs.answers.Answered.{is_left_short, makes_step}
-use Rattle.node_laws.specs.answers.Order.{turn_link}
 use Rattle.node_laws.specs.reply_passes.Counts.{commands_noted as commits}
 use Rattle.node_laws.proofs.passes.Turnless.{beginning_turnless, sending_turnless}
 use Rattle.node_laws.proofs.read_rooms.HostLines.{activated_read, host_read, ticked_read}

@@ -10,13 +10,11 @@ use Rattle.node_laws.proofs.Words.{Memory, NextFrame, NoInput, NodeHistory, Node
 use Rattle.node_laws.proofs.Words.{SiteKeeps, Starts, Takes, Ticks, TimePasses, Work, after_host, after_planned, aged, all_aged, arrival, beginning}
 use Rattle.node_laws.proofs.Words.{begins_with, boot_found, boot_writes, boot_written, boots, by_boot, by_coming, by_controller, by_controller_tick, by_host}
 use Rattle.node_laws.proofs.Words.{by_host_tick, by_loss, by_memory, by_power, by_running, by_test, changed_if, comes_at, controller_does, controller_ticks}
-use Rattle.node_laws.proofs.Words.{count_of, end_c, end_h, entries_for, entries_in, exchanged, frame_lost, frames_noted, host_cut, host_does, host_tick}
+use Rattle.node_laws.proofs.Words.{count_of, end_c, end_h, entries_for, entries_in, exchanged, frame_lost, frames_noted, fresh, host_cut, host_does, host_tick}
 use Rattle.node_laws.proofs.Words.{host_ticks, host_work, hosts_in, hosts_tick, is_command_message, loses_power_at, memory_at, near_end_in, near_tick}
-use Rattle.node_laws.proofs.Words.{new_world, node_entries, occurrences_in, sending, site_at, site_ticked, site_unticked, steps, wires_for, with_site, work_of}
-use Rattle.node_laws.proofs.Words.{world_behind, world_step, world_ticks}
+use Rattle.node_laws.proofs.Words.{new_world, no_journal, node_entries, occurrences_in, sending, site_at, site_ticked, site_unticked, steps, wires_for}
+use Rattle.node_laws.proofs.Words.{with_site, work_of, world_behind, world_step, world_ticks}
 use Rattle.trace_model.specs.declared.entry.Entry.TheVariants as entry
-use Rattle.journal_laws.proofs.InUse.{no_journal}
-use Rattle.journal_laws.proofs.Opening.{fresh}
 use Rattle.node_laws.proofs.kept.Events.{comes_goes}
 use Rattle.node_laws.proofs.kept.Plainly.{plain_entries}
 use Rattle.node_laws.proofs.kept.Standing.{runs_begun}

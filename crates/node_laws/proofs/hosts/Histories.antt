@@ -3,18 +3,16 @@ use Rattle.std.proofs.Common.{◌≡◌, ℕ, ◌≤◌, List, ◌∷◌, ◌++�
 use Rattle.std.specs.Prelude.{None, Some}
 use Rattle.std.specs.List.{AllByRecursion}
 use Rattle.std.proofs.lemmas.List.Concat.{flat_map-append}
-use Rattle.node_laws.proofs.Words.{AreHosts, ArePlayable, Entry, FollowsNodes, Header, IsBegunByHost, IsFew, IsHeldFor, IsHost, IsReplied, IsSentByHost, Line}
-use Rattle.node_laws.proofs.Words.{NodeHistory, NodeWorld, Occurrence, Site, SiteKeeps, end_h, entries_in, init_in, new_world, node_entries, occurrences_in}
-use Rattle.node_laws.proofs.Words.{site_at, steps_from, world_behind}
+use Rattle.node_laws.proofs.Words.{AreHosts, ArePlayable, AtEachEntry, Entry, FollowsNodes, HasNoneAside, Header, IsBegunByHost, IsFew, IsHeldFor, IsHost}
+use Rattle.node_laws.proofs.Words.{IsInitOfHost, IsReplied, IsSentByHost, Line, NodeHistory, NodeWorld, Occurrence, Site, SiteKeeps, SiteReads, end_h}
+use Rattle.node_laws.proofs.Words.{entries_in, init_in, new_world, node_entries, occurrences_in, site_at, steps_from, world_behind}
 use Rattle.node_laws.proofs.telling.Lasting.{AreCaused, events_of_steps, lines_caused}
 use Rattle.node_laws.proofs.telling.Nodes.{site_host}
 use Rattle.node_laws.proofs.telling.Orderly.{new_orderly}
 use Rattle.node_laws.proofs.telling.Worlds.{site_is}
-use Rattle.node_laws.specs.readings.Worlds.{IsInitOfHost, SiteReads}
 use Rattle.node_laws.proofs.order.Asked.{AreDone, done_back, history_done}
 use Rattle.node_laws.proofs.order.Lines.{IsSo, history_so}
 use Rattle.node_laws.proofs.readings.Lines.{events_read}
-use Rattle.node_laws.specs.creations.Worlds.{HasNoneAside}
 use Rattle.node_laws.proofs.creations.Lines.{history_keeps}
 use Rattle.node_laws.proofs.views.InitEvents.{MayKeep}
 use Rattle.node_laws.proofs.views.InitLines.{line_may}
@@ -23,7 +21,6 @@ use Rattle.node_laws.proofs.views.Lines.{events_so, none_zero, real_of}
 use Rattle.node_laws.proofs.views.Lines.{IsSo as AllSo}
 use Rattle.node_laws.proofs.views.Nodes.{IfKeeps}
 use Rattle.node_laws.proofs.views.Worlds.{far_node, host_node}
-use Rattle.node_laws.specs.answers.Moments.{AtEachEntry}
 use Rattle.node_laws.specs.reply_passes.Counts.{commands_noted as commits}
 use Rattle.node_laws.proofs.reply_passes.Growing.{commits-append}
 use Rattle.node_laws.proofs.worlds.AtRest.{SiteWaits}

@@ -3,11 +3,10 @@
 use Rattle.std.proofs.Common.{◌≡◌, inl, inr, ℕ, true, false, List, [], ◌∷◌, sym, refl, ◌∙◌, subst}
 use Rattle.std.specs.Prelude.{Option, None}
 use Rattle.std.proofs.lemmas.Bool.{true≢false}
-use Rattle.node_laws.proofs.Words.{Deed, Entry, ErrorCount, Init, IsHost, IsOnOrder, LinkState, Memory, Message, StillRuns, Work, deeds_of, end_h, handles}
-use Rattle.node_laws.proofs.Words.{holds_back, lacking, lets_go, waiting_at}
+use Rattle.node_laws.proofs.Words.{Deed, Entry, ErrorCount, Init, IsHost, IsOnOrder, LastsOverTurns, LinkState, Memory, Message, StillRuns, Work, deeds_of}
+use Rattle.node_laws.proofs.Words.{end_h, handles, holds_back, lacking, lets_go, waiting_at}
 use Rattle.node_laws.proofs.kept.Doing.{GoesOn_or_lost}
 use Rattle.node_laws.proofs.kept.Turning.{deeds_fit, deeds_may, handles_fine, holds_fine, lets_fine}
-use Rattle.node_laws.specs.passes.Passing.{LastsOverTurns}
 use Rattle.node_laws.proofs.passes.Ends.{HasFirst, has_first}
 use Rattle.node_laws.proofs.passes.Passing.{holds_notes, lets_notes}
 use Rattle.node_laws.proofs.readings.Doing.{Runs, Stands}

@@ -3,18 +3,15 @@ use Rattle.std.proofs.Common.{◌≡◌, ℕ, ◌≤◌, false, List, [], ◌∷
 use Rattle.std.specs.Prelude.{Option}
 use Rattle.std.specs.List.{AllByRecursion}
 use Rattle.registry.proofs.ValueLemmas.{AllByRecursion-append as all_append}
-use Rattle.node_laws.proofs.Words.{AreNoTurns, AreNotOf, ArePassed, ComesTo, Entry, Happening, Init, IsHeldFor, IsHost, IsReplied, Moment, NodeInput}
+use Rattle.node_laws.proofs.Words.{AreNoTurns, AreNotOf, ArePassed, ComesTo, Entry, Happening, Init, IsHeldFor, IsHost, IsNoTurn, IsReplied, Moment, NodeInput}
 use Rattle.node_laws.proofs.Words.{Occurrence, Work, by_test, comes_to_pass, entries_in, hosts_of_ends, init_begun, init_in, is_answer_of, is_cut_of}
-use Rattle.node_laws.proofs.Words.{is_of_node, passes, steps}
+use Rattle.node_laws.proofs.Words.{is_of_node, noted_before_pass, passes, steps, turn_link}
 use Rattle.trace_model.specs.declared.entry.Entry.TheVariants as entry
 use Rattle.node_laws.proofs.telling.Walks.{AreUncut, IsUncut}
-use Rattle.node_laws.specs.passes.Passing.{IsNoTurn}
 use Rattle.node_laws.specs.passes.Passing.ComesTo.{Begins}
-use Rattle.node_laws.specs.passes.Steps.{noted_before_pass}
 use Rattle.node_laws.proofs.passes.Before.{before_entries, before_none, steps_are}
 use Rattle.node_laws.proofs.passes.Passing.{comes_lasts, through}
 use Rattle.node_laws.proofs.views.Answering.{init_append, reads_init}
-use Rattle.node_laws.specs.answers.Order.{turn_link}
 use Rattle.node_laws.specs.reply_passes.Counts.{commands_noted as commits}
 use Rattle.node_laws.proofs.reply_passes.Growing.{commits-append}
 use Rattle.node_laws.proofs.reply_passes.Sides.{AreNoBoots}

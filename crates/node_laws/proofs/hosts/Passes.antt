@@ -4,19 +4,16 @@ use Rattle.std.specs.Prelude.{Option, Some, None}
 use Rattle.std.specs.Option.{option_and_then}
 use Rattle.std.proofs.lemmas.Bool.{true≢false}
 use Rattle.std.proofs.lemmas.List.{append_cancel_left}
-use Rattle.node_laws.proofs.Words.{ArePassed, ArePortsRead, ComesTo, End, Entry, HasRoomForAll, Host, Init, IsHeldFor, IsHost, IsReplied, LinkState, Memory}
-use Rattle.node_laws.proofs.Words.{Moment, Work, deeds_of, end_h, end_of, end_of_node, handles, hosts_of_ends, lacking, node_of, noted_by_deeds, own_side}
-use Rattle.node_laws.proofs.Words.{passes, waiting_at}
+use Rattle.node_laws.proofs.Words.{ArePassed, ArePortsRead, BeginWithTurn, ComesTo, End, Entry, HadTurn, HasRoomForAll, Host, Init, IsHeldFor, IsHost}
+use Rattle.node_laws.proofs.Words.{IsReplied, IsWaitingRead, LinkState, Memory, Moment, WasHeld, Work, deeds_of, end_h, end_of, end_of_node, handles, holds_in}
+use Rattle.node_laws.proofs.Words.{hosts_of_ends, is_held_at, lack_at, lack_of, lacking, node_of, noted_by_deeds, oldest, own_side, passes, takes_up}
+use Rattle.node_laws.proofs.Words.{unhandled_in, until, waiting_at, waits_behind}
 use Rattle.trace_model.specs.declared.entry.Entry.TheVariants as entry
-use Rattle.link_laws.specs.machine.Machine.{oldest}
-use Rattle.node_laws.specs.passes.Passing.{BeginWithTurn, HadTurn, IsWaitingRead, WasHeld, is_held_at, takes_up}
-use Rattle.node_laws.specs.passes.Passing.{waits_behind}
 use Rattle.node_laws.specs.passes.Passing.ComesTo.{Begins}
 use Rattle.node_laws.proofs.passes.Passing.{comes_lasts, comes_so, through}
 use Rattle.node_laws.proofs.passes.Waiting.{waiting_read}
 use Rattle.node_laws.proofs.readings.Silent.{host_side}
 use Rattle.node_laws.proofs.turns.Queues.{Goes}
-use Rattle.node_laws.specs.answers.Moments.{holds_in, lack_at, lack_of, unhandled_in, until}
 use Rattle.node_laws.specs.reply_passes.Counts.{commands_noted as commits}
 use Rattle.node_laws.proofs.reply_passes.Came.{goes_read}
 use Rattle.node_laws.proofs.reply_passes.Growing.{Grows, comes_grow, commits-append, few_find_room}

@@ -4,15 +4,12 @@ use Rattle.std.specs.Prelude.{Option, Some, None}
 use Rattle.std.specs.List.{AllByRecursion}
 use Rattle.std.specs.Option.{option_map_or}
 use Rattle.std.proofs.lemmas.Bool.{cond_both, eq-eqb}
-use Rattle.node_laws.proofs.Words.{Asks, Clear, Command, Commits, Core, Create, Deed, Delete, Drops, Ends, Entry, GoesOn, Hears, Init, IsAnswered, IsPlain}
-use Rattle.node_laws.proofs.Words.{MayBeDone, Message, Orders, Port, Releases, SaysOk, Sends, Set, SetsErrors, State, Tells, accepts, body_in, by_option}
-use Rattle.node_laws.proofs.Words.{by_test, end_of_node, end_of_number, end_view, entries_of_reply, finds_room, host_deeds, host_holds, init_deeds}
-use Rattle.node_laws.proofs.Words.{is_answer_of, learned, learned_holds, learns, learns_holds, link_deeds, link_served, node_of, ordered_deeds, ordered_holds}
-use Rattle.node_laws.proofs.Words.{own_view}
+use Rattle.node_laws.proofs.Words.{Asks, Clear, Command, Commits, Core, Create, Deed, Delete, Drops, Ends, Entry, GiveOnce, GoesOn, Hears, Init, IsAnswered}
+use Rattle.node_laws.proofs.Words.{IsPlain, MayBeDone, Message, Orders, Port, Releases, SaysOk, Sends, Set, SetsErrors, State, Tells, accepts, body_in}
+use Rattle.node_laws.proofs.Words.{by_option, by_test, commands_noted, end_of_node, end_of_number, end_view, entries_of_reply, finds_room, host_deeds}
+use Rattle.node_laws.proofs.Words.{host_holds, init_deeds, init_holds, is_answer_of, learned, learned_holds, learns, learns_holds, link_deeds, link_served}
+use Rattle.node_laws.proofs.Words.{next_count, node_of, ordered_deeds, ordered_holds, own_view, sent_in_session}
 use Rattle.trace_model.specs.declared.entry.Entry.TheVariants as entry
-use Rattle.node_machine.proofs.Walks.{init_holds}
-use Rattle.node_laws.specs.passes.Noting.{GiveOnce, next_count, sent_in_session}
-use Rattle.node_laws.specs.reply_passes.Counts.{commands_noted}
 use Rattle.node_laws.proofs.replies.Answering.{most_of}
 
 -- ## Deeds

@@ -3,21 +3,18 @@ use Rattle.std.proofs.Common.{◌≡◌, ℕ, ◌&&◌, false, cond, eqb, List, 
 use Rattle.std.specs.Prelude.{Option, Some, None}
 use Rattle.std.specs.Option.{option_map}
 use Rattle.std.specs.List.{AllByRecursion, fold}
-use Rattle.node_laws.proofs.Words.{AreNotOf, Book, Entry, Init, IsHost, Last, LeavesInit, Link, LinkEnd, Running, Site, SiteKeeps, SiteKeepsInit, book_after}
-use Rattle.node_laws.proofs.Words.{book_in, end_h, is_command_message, is_of_node, is_response, last_after, last_in, no_errors, with_command, with_found}
-use Rattle.node_laws.proofs.Words.{with_response}
+use Rattle.node_laws.proofs.Words.{AreNotOf, Book, Entry, Init, IsHost, IsSilent, Last, LeavesInit, Link, LinkEnd, Running, Site, SiteKeeps, SiteKeepsInit}
+use Rattle.node_laws.proofs.Words.{SiteReads, book_after, book_in, end_h, holds_in, is_command_message, is_of_node, is_response, last_after, last_in, no_errors}
+use Rattle.node_laws.proofs.Words.{with_command, with_found, with_response}
 use Rattle.trace_model.specs.declared.entry.Entry.TheVariants as entry
 use Rattle.node_laws.proofs.kept.Books.{book_more, last_more}
 use Rattle.node_laws.proofs.kept.Standing.{IsSame, keeps_same}
-use Rattle.node_laws.specs.readings.Orders.{IsSilent}
-use Rattle.node_laws.specs.readings.Worlds.{SiteReads}
 use Rattle.node_laws.proofs.readings.Sites.{others_read}
 use Rattle.node_laws.proofs.turns.Queues.{Goes, goes-append, still_goes}
 use Rattle.node_laws.proofs.views.Answering.{reads_init}
 use Rattle.node_laws.proofs.views.InitWorlds.{keep_same, leaves_all}
 use Rattle.node_laws.proofs.views.Leaving.{Leaves, reads_append}
 use Rattle.node_laws.proofs.views.Nodes.{IfKeeps, leaves_kept}
-use Rattle.node_laws.specs.answers.Moments.{holds_in}
 use Rattle.node_laws.proofs.reply_passes.Held.{is_held_among}
 use Rattle.node_laws.proofs.worlds.AtRest.{idle_still}
 use Rattle.node_laws.proofs.worlds.Resting.{idle_held, other_end, others_idle}

@@ -8,21 +8,19 @@ use Rattle.std.specs.Option.{option_and_then, option_map_or}
 use Rattle.std.proofs.lemmas.Bool.{cases_Bool, cond-true, eq-eqb, eqb-true, ne_eqb}
 use mathlib.Core.Bool.{or-false}
 use Rattle.node_laws.proofs.Words.{AnswersSo, ArePortsRead, Deed, Entry, ErrorCount, HasRoomForAll, Host, Init, IsHost, IsReplied, IsReplyNoted, LinkState}
-use Rattle.node_laws.proofs.Words.{MayBeDone, Memory, Message, Moment, Port, Work, commands_in, count_of, deeds_of, end_h, end_of_number, end_view}
-use Rattle.node_laws.proofs.Words.{entries_of_reply, errors_in, finds_room, handles, host_deeds, is_one_of, is_up, lack, lacking, needs, no_errors}
-use Rattle.node_laws.proofs.Words.{noted_by_deeds, own_view, port_at, same_number, session_now, session_of_port, spare, tables_in}
+use Rattle.node_laws.proofs.Words.{MayBeDone, Memory, Message, Moment, Port, Work, commands_in, count_of, deeds_far, deeds_of, end_h, end_of_number, end_view}
+use Rattle.node_laws.proofs.Words.{entries_of_reply, errors_in, finds_room, first_lack, handles, host_deeds, is_one_of, is_up, is_up_read, lack, lack_of}
+use Rattle.node_laws.proofs.Words.{lacking, needs, no_errors, noted_by_deeds, noted_of_deeds, order_in, own_read, own_view, port_at, reply, same_number}
+use Rattle.node_laws.proofs.Words.{session_now, session_of_port, spare, spare_at, spare_read, tables_in, takes_up, until}
 use Rattle.trace_model.specs.declared.entry.Entry.TheVariants as entry
-use Rattle.node_machine.specs.Carrying.{first_lack, spare_with}
-use Rattle.node_machine.proofs.Walks.{deeds_far}
-use Rattle.node_machine.specs.world.NodeFilters.{order_in, spare_at}
+use Rattle.node_machine.specs.Carrying.{spare_with}
 use Rattle.node_laws.proofs.kept.Turning.{deeds_may}
-use Rattle.node_laws.specs.passes.Passing.{takes_up}
 use Rattle.node_laws.proofs.passes.Counts.{counts_one, reply_noted}
 use Rattle.node_laws.proofs.views.Answering.{reads_init}
 use Rattle.node_laws.proofs.views.Doing.{HasErrors}
 use Rattle.node_laws.proofs.views.Going.{deeds_is}
 use Rattle.node_laws.proofs.views.Leaving.{reads, reads_append}
-use Rattle.node_laws.specs.answers.Moments.{end_read, is_linked, is_up_read, lack_of, noted_of_deeds, own_read, reply, spare_read, until}
+use Rattle.node_laws.specs.answers.Moments.{end_read, is_linked}
 use Rattle.node_laws.specs.answers.Moments.{view_read}
 use Rattle.node_laws.proofs.replies.Turns.{lack_alike, some_if}
 use Rattle.node_laws.proofs.hosts.Answering.{AreUnanswered, TrailsOff, answers_so}

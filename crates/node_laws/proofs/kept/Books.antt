@@ -6,11 +6,10 @@ use Rattle.std.proofs.lemmas.Bool.{cond_both, eq-eqb}
 use Rattle.std.proofs.lemmas.List.Sums.{fold-append}
 use Rattle.std.proofs.Math.Seq.{take-append_seam, take-length}
 use Rattle.node_laws.proofs.Words.{AreToldBehind, Book, BootFinds, Command, CutBehindCommand, Entry, HciTables, IsOf, IsPlain, Last, WouldFind, after_commands}
-use Rattle.node_laws.proofs.Words.{apply, book_after, book_in, close, current, last_after, last_in, no_tables, with_command, with_found}
+use Rattle.node_laws.proofs.Words.{apply, book_after, book_in, close, current, last_after, last_in, new_book, no_tables, with_command, with_found}
 use Rattle.trace_model.specs.declared.entry.Entry.TheVariants as entry
 use Rattle.std.specs.Prelude.{IsSome}
 use Rattle.hci_store.proofs.Closing.{close-close, same_closed}
-use Rattle.node_machine.specs.world.NodeFilters.{new_book}
 use Rattle.node_machine.specs.world.NodeLegal.Last.{NothingYet, CommandLast}
 use Rattle.node_laws.specs.kept.Books.{IsTold}
 use Rattle.node_laws.proofs.kept.Commits.{finds_closed}

@@ -5,19 +5,18 @@ use Rattle.std.specs.Prelude.{Option, Some, None, IsSome, is_some}
 use Rattle.std.specs.Option.{option_map_or}
 use Rattle.std.specs.List.{AllByRecursion, fold}
 use Rattle.std.proofs.lemmas.Bool.{cond_both, eq-eqb, true≢false}
-use Rattle.node_laws.proofs.Words.{AreTables, AreTables-apply, Book, BootFinds, Command, Creation, CutBehindCommand, Desk, Entry, HciTables, IsCommand}
-use Rattle.node_laws.proofs.Words.{IsRecordable, Knows, Memory, NodeKeeps, NumberedEnd, Port, Running, RunsSo, State, WaitsFor, WouldFind, after_commands}
-use Rattle.node_laws.proofs.Words.{after_planned, after_writes, applied, apply, asked_at, book_in, boot_writes, by_test, close, commands_in, count_of, current}
-use Rattle.node_laws.proofs.Words.{fails_within, found, last_in, new_desk, no_tables, port_at, port_for, with_found}
+use Rattle.node_laws.proofs.Words.{AreTables, AreTables-apply, Book, BootFinds, Command, Creation, CutBehindCommand, Desk, Entry, FindsCommands, HciTables}
+use Rattle.node_laws.proofs.Words.{IsCommand, IsRecordable, Knows, Memory, NodeKeeps, NumberedEnd, Port, Running, RunsSo, Side, State, WaitsFor, WouldFind}
+use Rattle.node_laws.proofs.Words.{after_commands, after_planned, after_writes, applied, apply, asked_at, book_in, boot_writes, by_test, close, commands_in}
+use Rattle.node_laws.proofs.Words.{count_of, current, fails_within, format_writes, found, is_command, last_in, new_desk, no_tables, port_at, port_for, state_of}
+use Rattle.node_laws.proofs.Words.{with_found}
 use Rattle.trace_model.specs.declared.entry.Entry.TheVariants as entry
-use Rattle.journal_laws.specs.declared.banks.Side.{Side}
 use Rattle.journal_laws.specs.Writes.{IsCut}
-use Rattle.journal_laws.specs.Journal.{records, state_of, count}
-use Rattle.journal_laws.specs.Operations.{format_writes, formatted, started_state}
+use Rattle.journal_laws.specs.Journal.{records, count}
+use Rattle.journal_laws.specs.Operations.{formatted, started_state}
 use Rattle.journal_laws.proofs.Planned.{none_within}
 use Rattle.nv_journal.specs.Kept.{Says}
 use Rattle.nv_journal.proofs.Formatting.{says_formatted, format_all_or_nothing, no_records_then}
-use Rattle.hci_tables.specs.Commands.{is_command}
 use Rattle.hci_tables.specs.Bodies.{spelled_by, if_command, command_of}
 use Rattle.tables_laws.proofs.tables.SortedTables.{AreTables-close, AreTables-none}
 use Rattle.hci_store.specs.Image.{tables_of}
@@ -25,7 +24,6 @@ use Rattle.hci_store.proofs.Recorded.{recordable-none, recordable-close, recorda
 use Rattle.hci_store.proofs.Closing.{close-close}
 use Rattle.hci_store.proofs.CutShort.{holds_still}
 use Rattle.hci_store.proofs.Starting.{counted}
-use Rattle.node_machine.specs.world.NodeLegal.{FindsCommands}
 use Rattle.node_laws.proofs.kept.Planned.{planned_whole, planned_cut}
 use Rattle.node_laws.proofs.kept.Commits.{IsLeftBetween, finds_closed, left_finds, knows_from}
 use Rattle.node_laws.proofs.kept.Books.{book_more, closed_book, finds_all}

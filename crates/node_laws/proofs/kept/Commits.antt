@@ -3,14 +3,13 @@ use Rattle.std.proofs.Common.{◌≡◌, ◌⊎◌, inl, inr, ℕ, zero, suc, �
 use Rattle.std.proofs.Common.{refl, ap, ◌∙◌, subst, arith}
 use Rattle.std.specs.Prelude.{Option, Some, None, IsSome, option_map}
 use Rattle.std.proofs.lemmas.Bool.{leb-true, ltb-true}
-use Rattle.swp_base.specs.Outside.{overwritten}
-use Rattle.node_laws.proofs.Words.{AreTables, BootFinds, Command, HciTables, IsCommand, IsRecordable, Journal, Knows, Memory, State, Write, after_planned}
-use Rattle.node_laws.proofs.Words.{after_writes, apply, body_of, close, commit_writes, count_of, current, fails_within}
-use Rattle.journal_laws.specs.declared.banks.Side.{Side}
+use Rattle.node_laws.proofs.Words.{AreTables, BootFinds, Command, FindsRoom, HciTables, IsAllOrNothing, IsCommand, IsRecordable, Journal, Knows, Memory, Side}
+use Rattle.node_laws.proofs.Words.{State, Write, after_planned, after_writes, append_writes, apply, body_of, close, commit_writes, committed, compact_writes}
+use Rattle.node_laws.proofs.Words.{count_of, current, fails_within, journal, overwritten, record_fits, room_writes, snapshot_bodies, with_room}
 use Rattle.journal_laws.specs.Banks.{other}
 use Rattle.journal_laws.specs.Writes.{IsCut}
-use Rattle.journal_laws.specs.Journal.{journal, left, IsSound}
-use Rattle.journal_laws.specs.Operations.{append_writes, compact_writes, HasRoomForBody, CanCompact, appended, compacted, IsAllOrNothing}
+use Rattle.journal_laws.specs.Journal.{left, IsSound}
+use Rattle.journal_laws.specs.Operations.{HasRoomForBody, CanCompact, appended, compacted}
 use Rattle.journal_laws.proofs.InUse.{in_use_is}
 use Rattle.journal_laws.proofs.Kept.{append_count, compact_count, same_count}
 use Rattle.journal_laws.proofs.Cuts.{length-after, length-cut}
@@ -19,10 +18,8 @@ use Rattle.nv_journal.proofs.Appending as appending
 use Rattle.nv_journal.proofs.Compacting as compacting
 use Rattle.hci_store.specs.Snapshots.{snapshot_of}
 use Rattle.hci_store.specs.Stored.{HoldsTables}
-use Rattle.hci_store.specs.Committing.{record_fits, snapshot_bodies, room_writes, with_room, committed}
 use Rattle.hci_store.proofs.CutShort.{journal_left, holds_still, room_count, is_body, are_bodies}
 use Rattle.hci_store.proofs.Committed.{all_recordable, holds_more, holds_snapshot}
-use Rattle.node_laws.specs.kept.Finds.{FindsRoom}
 use Rattle.node_laws.proofs.kept.Snapshots.{snapshot_fits}
 use Rattle.node_laws.proofs.kept.Planned.{planned_whole, planned_cut}
 

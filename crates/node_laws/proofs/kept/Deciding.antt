@@ -5,15 +5,13 @@ use Rattle.std.specs.Option.{option_and_then}
 use Rattle.std.proofs.lemmas.Bool.{cond_both, cases_eq, eqb-true, ne_eqb, true≢false, and_from, le-leb, lt-ltb, not-false}
 use Rattle.sorted_rows.proofs.RowLemmas.{row_of-within}
 use Rattle.registry.specs.Access.{access_of}
-use Rattle.registry.specs.Values.{is_kept}
-use Rattle.node_laws.proofs.Words.{AreTables, HciTables, IsCommand, IsRecordableDecision, LinkView, PipeRow, decided, decided_holds, far_end_of, is_host}
-use Rattle.node_laws.proofs.Words.{param_in, pid_of, pipe_at, value_in}
-use Rattle.hci_tables.specs.declared.command.Command.TheVariants.{SetOpened}
+use Rattle.node_laws.proofs.Words.{AreTables, HciTables, IsCommand, IsRecordableDecision, LinkView, PipeRow, SetOpened, all_false, decided, decided_holds}
+use Rattle.node_laws.proofs.Words.{far_end, far_end_of, is_host, is_kept, param_in, pid_of, pipe_at, tests_of_pipe, value_in}
 use Rattle.hci_tables.specs.Commands.{is_allowed}
 use Rattle.gate_answers.specs.Answers.{is_unknown_access, is_read_only}
-use Rattle.gate_admin.specs.Decide.{far_end, tests_of_pipe, tests_to_set_it}
+use Rattle.gate_admin.specs.Decide.{tests_to_set_it}
 use Rattle.gate_admin.specs.Decide.{tests_to_delete}
-use Rattle.gate_admin.proofs.CreationLemmas.{AllFalse, all_false, creation-recordable}
+use Rattle.gate_admin.proofs.CreationLemmas.{AllFalse, creation-recordable}
 
 row_dynamic : (t : HciTables) (h pipe : ℕ) → AreTables t → is_none (option_and_then (far_end_of h) (pipe_at t.rows pipe)) ≡ false → (2 ≤ pipe) × (pipe < 112)
 row_dynamic t h pipe are some = by_row (pipe_at t.rows pipe) refl some where

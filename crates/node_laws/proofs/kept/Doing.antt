@@ -4,21 +4,17 @@ use Rattle.std.proofs.Common.{eqb, eqb-true, ◌≡◌, ◌⊎◌, inl, inr, ℕ
 use Rattle.std.proofs.Common.{arith, append_assoc, length-append}
 use Rattle.std.specs.Prelude.{Option, Some, None}
 use Rattle.std.proofs.lemmas.Bool.{cases_Bool}
-use Rattle.node_laws.proofs.Words.{AreTables-apply, Asks, Book, BootFinds, Command, Commits, Creation, CutBehindCommand, Deed, Drops, Ends, Entry, Give, GoesOn}
-use Rattle.node_laws.proofs.Words.{HciTables, Hears, Init, IsAllowedStill, IsAnswered, IsCommand, IsOf, IsOnOrder, MayBeDone, MayWait, Memory, Orders, Port}
-use Rattle.node_laws.proofs.Words.{Release, Releases, Removed, SaysOk, Sends, SetAside, SetsErrors, State, StillRuns, Tells, Waits, Work, WouldFind, Write}
-use Rattle.node_laws.proofs.Words.{after_commands, after_planned, all_done, apply, asked_at, body_of, book_in, by_test, changed_if, close, commands_in, commit}
-use Rattle.node_laws.proofs.Words.{commit_writes, count_of, done, end_of_node, fails_within, keeps, last_in, loses_power, no_tables, notified, noting, port_at}
-use Rattle.node_laws.proofs.Words.{reckoning_of, tables_in, turn_at, unless_cut, with_command}
+use Rattle.node_laws.proofs.Words.{AreTables-apply, Asks, Book, BootFinds, Command, Commits, Creation, CutBehindCommand, Deed, Drops, Ends, Entry, FindsRoom}
+use Rattle.node_laws.proofs.Words.{Give, GoesOn, HciTables, Hears, Init, IsAllowedFor, IsAllowedStill, IsAnswered, IsCommand, IsOf, IsOnOrder, MayBeDone}
+use Rattle.node_laws.proofs.Words.{MayWait, Memory, Orders, Port, Reckoning, Release, Releases, Removed, SaysOk, Sends, SetAside, SetsErrors, State, StillRuns}
+use Rattle.node_laws.proofs.Words.{Tells, Waits, Work, WouldFind, Write, after_commands, after_planned, all_done, apply, asked_at, body_of, book_in, by_test}
+use Rattle.node_laws.proofs.Words.{changed_if, close, commands_in, commit, commit_writes, committed, count_of, done, end_of_node, fails_within, keeps, last_in}
+use Rattle.node_laws.proofs.Words.{loses_power, no_tables, notified, noting, port_at, reckoned, reckoning_of, tables_in, turn_at, unless_cut, with_command}
 use Rattle.trace_model.specs.declared.entry.Entry.TheVariants as entry
-use Rattle.hci_store.specs.Committing.{committed}
 use Rattle.hci_store.proofs.Recorded.{recordable-apply}
-use Rattle.node_laws.specs.steps.Waiting.{IsAllowedFor}
 use Rattle.node_laws.proofs.kept.Asking.{NoneNew, same_new, new_then, may_still, port_found}
 use Rattle.node_machine.specs.Carrying.{plan_behind}
 use Rattle.node_machine.specs.world.NodeLegal.{IsAllowedBy}
-use Rattle.node_laws.specs.kept.Finds.{FindsRoom}
-use Rattle.node_laws.specs.kept.Reckonings.{Reckoning, reckoned}
 use Rattle.node_laws.proofs.kept.Reckoned.{fold_book, make_more, make_ok, command_makes}
 use Rattle.node_laws.specs.kept.Books.{HasLostPower}
 use Rattle.node_laws.proofs.kept.Planned.{planned_whole, after_planned-append}

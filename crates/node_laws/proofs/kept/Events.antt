@@ -10,12 +10,10 @@ use Rattle.node_laws.proofs.Words.{IfRuns, Init, IsAllowedStill, IsHost, IsOf, I
 use Rattle.node_laws.proofs.Words.{NodeKeeps, NodeWorld, NumberedEnd, Orders, Plan, Running, Sends, Site, SiteKeeps, Starts, Step, WaitsFor, activates}
 use Rattle.node_laws.proofs.Words.{after_planned, asked_at, beginning, begins_with, book_in, boot_writes, boots, by_coming, by_loss, by_test, changed_if}
 use Rattle.node_laws.proofs.Words.{comes_at, commands_in, controller_cut, count_of, counts, creation_in, end_c, end_h, entries_for, fails_within, first_lost}
-use Rattle.node_laws.proofs.Words.{found, frame_lost, happens, host_cut, host_does, is_command_message, link_to, loses_power_at, memory_at, node_at, port_at}
-use Rattle.node_laws.proofs.Words.{port_for, sending, site_at, site_lost, steps, with_error, with_found, with_memory, with_site}
+use Rattle.node_laws.proofs.Words.{found, frame_lost, happens, host_cut, host_does, is_command_message, link_to, loses_power_at, memory_at, new_book}
+use Rattle.node_laws.proofs.Words.{new_memory, node_at, port_at, port_for, sending, site_at, site_lost, steps, with_error, with_found, with_memory, with_site}
 use Rattle.trace_model.specs.declared.entry.Entry.TheVariants as entry
 use Rattle.node_laws.proofs.kept.Asking.{NoneNew, same_new, may_still, map_found, map_two}
-use Rattle.node_machine.specs.world.World.{new_memory}
-use Rattle.node_machine.specs.world.NodeFilters.{new_book}
 use Rattle.node_laws.specs.kept.Worlds.{IsStranger}
 use Rattle.node_laws.proofs.kept.Books.{book_more, plain_told}
 use Rattle.node_laws.proofs.kept.Plainly.{plain_entries}

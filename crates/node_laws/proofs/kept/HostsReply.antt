@@ -6,12 +6,11 @@ use Rattle.std.specs.Option.{option_map_or}
 use Rattle.std.proofs.lemmas.Bool.{cond_both, and_parts, and_from, le-leb, lt-ltb}
 use Rattle.node_laws.proofs.Words.{AreTables, Clear, Command, Commits, Core, Create, Deed, Delete, Ends, HciTables, Init, InitSame, IsCommand, IsOnOrder}
 use Rattle.node_laws.proofs.Words.{MayBeDone, Message, PipeRow, Port, Set, State, accepts, answer_of, body_in, by_test, end_of_node, end_view, finds_room}
-use Rattle.node_laws.proofs.Words.{host_deeds, host_holds, init_deeds, is_host, learned, learned_holds, learns, learns_holds, link_served, ordered_deeds}
-use Rattle.node_laws.proofs.Words.{ordered_holds, own_view, pid_of, pipe_at}
+use Rattle.node_laws.proofs.Words.{host_deeds, host_holds, init_deeds, is_command, is_dynamic, is_host, learned, learned_holds, learns, learns_holds}
+use Rattle.node_laws.proofs.Words.{link_served, ordered_deeds, ordered_holds, orders_of, own_view, pid_of, pipe_at, pipe_named_in}
 use Rattle.sorted_rows.proofs.RowLemmas.{row_of-within}
-use Rattle.hci_tables.specs.Commands.{is_command, is_dynamic}
 use Rattle.gate_answers.specs.declared.response.Response.TheVariants as response
-use Rattle.node_machine.specs.HostReplies.{is_open_gate, is_welcome, pipe_named_in, orders_of, is_same, init_agreed}
+use Rattle.node_machine.specs.HostReplies.{is_open_gate, is_welcome, is_same, init_agreed}
 use Rattle.node_laws.proofs.kept.Replies.{commit_may, link_may}
 
 -- a pipe that a message names is closed

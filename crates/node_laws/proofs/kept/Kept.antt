@@ -5,19 +5,15 @@ use Rattle.std.specs.Prelude.{None, replicate}
 use Rattle.std.specs.List.{AllByRecursion, flat_map, fold}
 use Rattle.std.proofs.lemmas.Grind.{flat_map-append}
 use Rattle.std.proofs.lemmas.Bool.{eqb-true, eq-eqb}
-use Rattle.node_laws.proofs.Words.{AllKeep, AreHosts, AreToldBehind, Book, BootFinds, CutBehindCommand, Entry, FollowsNodes, HciTables, Header, IsFew}
-use Rattle.node_laws.proofs.Words.{IsSentByHost, Journal, Last, Line, LineStep, NodeHistory, NodeKeeps, Site, SiteKeeps, applied, book_after, book_in, by_test}
-use Rattle.node_laws.proofs.Words.{close, commands_in, entries_in, last_after, last_in, new_site, new_world, no_tables, node_entries, occurrences_of}
-use Rattle.node_laws.proofs.Words.{steps_from, tables_in, world_after}
+use Rattle.node_laws.proofs.Words.{AllKeep, AreHosts, AreToldBehind, Book, BootFinds, CutBehindCommand, Entry, FindsCommands, FollowsNodes, HciTables, Header}
+use Rattle.node_laws.proofs.Words.{IsFew, IsSentByHost, Journal, Last, Line, LineStep, NodeHistory, NodeKeeps, Site, SiteKeeps, ToldTables, applied, book_after}
+use Rattle.node_laws.proofs.Words.{book_in, by_test, close, commands_in, entries_in, fresh, journal, last_after, last_in, new_memory, new_site, new_world}
+use Rattle.node_laws.proofs.Words.{no_journal, no_tables, node_entries, occurrences_of, steps_from, tables_in, world_after}
 use Rattle.trace_model.specs.declared.entry.Entry.TheVariants as entry
-use Rattle.journal_laws.specs.Journal.{unformatted, journal, IsSound}
+use Rattle.journal_laws.specs.Journal.{unformatted, IsSound}
 use Rattle.journal_laws.specs.Operations.{IsUnformatted}
-use Rattle.journal_laws.proofs.InUse.{no_journal}
-use Rattle.journal_laws.proofs.Opening.{fresh}
 use Rattle.hci_store.specs.Image.{are_commands}
-use Rattle.node_machine.specs.world.World.{new_memory}
-use Rattle.node_machine.specs.world.Lines.LineOutcome.{ToldTables}
-use Rattle.node_machine.specs.world.NodeLegal.{FindsCommands, AreFound, AreAllAnswered, AreAnswered, Kept, Allowed}
+use Rattle.node_machine.specs.world.NodeLegal.{AreFound, AreAllAnswered, AreAnswered, Kept, Allowed}
 use Rattle.node_machine.specs.world.NodeLegal.Last.{NothingYet, CommandLast, OtherLast}
 use Rattle.node_laws.specs.kept.Books.{IsTold}
 use Rattle.node_laws.proofs.kept.Books.{book_more, last_more}

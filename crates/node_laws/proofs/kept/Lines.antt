@@ -6,18 +6,13 @@ use Rattle.std.specs.List.{AllByRecursion, flat_map}
 use Rattle.std.proofs.lemmas.Grind.{flat_map-append}
 use Rattle.std.proofs.lemmas.Bool.{cases_Bool, eqb-true, true≢false, ne_eqb}
 use Rattle.node_laws.proofs.Words.{Activates, AllKeep, AreHosts, Arms, AsksReset, Boots, End, Entry, Gives, Happening, IfRuns, Inits, IsCut, IsFew, IsHost}
-use Rattle.node_laws.proofs.Words.{IsSentByHost, Line, LineOutcome, LineStep, Loses, LostFor, NextFrame, NoCause, NodeWorld, Occurrence, Refused, Resets}
-use Rattle.node_laws.proofs.Words.{Running, Same, Site, SiteKeeps, Takes, Ticks, Undetected, Verdict, all_happen, by_option, by_test, can_happen, commands_in}
-use Rattle.node_laws.proofs.Words.{entries_in, first_verdict, frames_at, give_refusal, goes_on, happenings, happens_by, if_not_sent, if_off, is_command_message}
-use Rattle.node_laws.proofs.Words.{line_step, machine_in, node_at, node_of, occurrences_of, refusal_in, site_at, steps_from, tables_in, taken_of, world_after}
-use Rattle.node_laws.proofs.Words.{world_step}
+use Rattle.node_laws.proofs.Words.{IsSentByHost, Line, LineOutcome, LineStep, Loses, LostFor, MayHappen, NextFrame, NoCause, NodeWorld, NotUp, Occurrence}
+use Rattle.node_laws.proofs.Words.{Refused, Resets, Running, Same, Site, SiteKeeps, Takes, Ticks, ToldTables, Undetected, Verdict, all_happen, by_option}
+use Rattle.node_laws.proofs.Words.{by_test, can_happen, commands_in, entries_in, first_cause, first_verdict, frames_at, give_refusal, goes_on, happenings}
+use Rattle.node_laws.proofs.Words.{happens_by, has_order, if_not_sent, if_off, if_waiting, is_command_message, line_step, machine_in, node_at, node_of}
+use Rattle.node_laws.proofs.Words.{occurrences_of, refusal_in, site_at, steps_from, tables_in, tables_told, taken_of, world_after, world_step}
 use Rattle.trace_model.specs.declared.entry.NoCause.TheVariants as cause
 use Rattle.trace_model.specs.declared.line.Line.TheVariants as line
-use Rattle.link_laws.specs.machine.Machine.Refused.{NotUp}
-use Rattle.node_machine.specs.world.Lines.{first_cause, has_order, if_waiting}
-use Rattle.node_machine.specs.world.Lines.{tables_told}
-use Rattle.node_machine.specs.world.Lines.LineOutcome.{ToldTables}
-use Rattle.node_laws.specs.kept.Worlds.{MayHappen}
 use Rattle.node_laws.proofs.kept.Sites.{site_found}
 use Rattle.node_laws.proofs.kept.Worlds.{Goes, goes_not, goes_then}
 use Rattle.node_laws.proofs.kept.Events.{GoesBy, comes_goes, activates_goes, gives_goes, inits_goes, lost_goes, cut_goes, arms_goes, boots_goes}

@@ -3,9 +3,9 @@ use Rattle.std.proofs.Common.{◌≡◌, ℕ, ◌%◌, Bool, true, false, not, c
 use Rattle.std.specs.Prelude.{Option, Some, None}
 use Rattle.std.proofs.lemmas.Bool.{cases_Bool, true≢false, not-true, not-false}
 use Rattle.std.proofs.lemmas.List.FromFn.{length-map-range_with_len}
-use Rattle.node_laws.proofs.Words.{Memory, Plan, Write, after_planned, after_writes, fails_within}
-use Rattle.swp_base.specs.InMemory.{is_next, plan_after, memory_after, torn_bytes, WritesAsPlanned}
-use Rattle.swp_base.specs.Outside.{overwritten, one_more, IsWritten}
+use Rattle.node_laws.proofs.Words.{Memory, Plan, Write, after_planned, after_writes, fails_within, is_next, memory_after, overwritten, plan_after, torn_bytes}
+use Rattle.swp_base.specs.InMemory.{WritesAsPlanned}
+use Rattle.swp_base.specs.Outside.{one_more, IsWritten}
 use Rattle.journal_laws.specs.Writes.{IsCut, AreMade}
 use Rattle.journal_laws.proofs.Made.{made_whole, made_in_part}
 use Rattle.journal_laws.proofs.Planned.{planned_answer, plan_of_memory_after as plan_on}

@@ -3,12 +3,10 @@ use Rattle.std.proofs.Common.{◌≡◌, ℕ, ◌&&◌, true, false, not, cond, 
 use Rattle.std.specs.List.{AllByRecursion, fold}
 use Rattle.std.proofs.lemmas.Bool.{cond_both, eq-eqb, ne_eqb}
 use Rattle.std.proofs.lemmas.List.Sums.{fold-append}
-use Rattle.node_laws.proofs.Words.{Command, Entry, HciTables, IsOf, IsPlain, Memory, State, after_planned, body_of, book_after, commit_writes, fails_within}
-use Rattle.node_laws.proofs.Words.{is_cut_of, with_command, with_found}
+use Rattle.node_laws.proofs.Words.{Command, EachIsAsRead, Entry, HciTables, IsOf, IsPlain, Memory, Reckoning, State, after_planned, body_of, book_after}
+use Rattle.node_laws.proofs.Words.{commit_writes, fails_within, is_cut_of, opens_gate, reckoned, state_of, with_command, with_found, with_written, writes_of}
 use Rattle.trace_model.specs.declared.entry.Entry.TheVariants as entry
-use Rattle.journal_laws.specs.Journal.{state_of}
-use Rattle.node_laws.specs.kept.Gates.{opens_gate}
-use Rattle.node_laws.specs.kept.Reckonings.{Reckoning, writes_of, with_written, reckoned, IsAsRead, EachIsAsRead, MakeOf}
+use Rattle.node_laws.specs.kept.Reckonings.{IsAsRead, MakeOf}
 
 -- ## Books
 

@@ -4,9 +4,8 @@ use Rattle.std.specs.Prelude.{Option, Some, None, map}
 use Rattle.std.specs.List.{AllByRecursion}
 use Rattle.node_laws.proofs.Words.{About, Answer, AreTables, Ask, Command, Commit, Core, Creation, Decision, Deed, Forgotten, IsCommand, IsOnOrder}
 use Rattle.node_laws.proofs.Words.{IsRecordableDecision, LinkView, MayBeDone, Message, Notice, Port, Removed, State, Tells, Waits, WaitsAt, WaitsFor, agreed}
-use Rattle.node_laws.proofs.Words.{body_in, commit_deeds, controller_deeds, controller_holds, creation_in, decided, decision_deeds, finds_room, has, link_deeds}
-use Rattle.node_laws.proofs.Words.{link_served, own_view, view_for, view_of}
-use Rattle.gate_admin.specs.View.{hosts_where}
+use Rattle.node_laws.proofs.Words.{body_in, commit_deeds, controller_deeds, controller_holds, creation_in, decided, decision_deeds, finds_room, has}
+use Rattle.node_laws.proofs.Words.{hosts_where, link_deeds, link_served, own_view, view_for, view_of}
 use Rattle.node_laws.proofs.steps.Ports.{at_port}
 use Rattle.node_laws.proofs.kept.Deciding.{decided_recordable}
 

@@ -4,13 +4,12 @@ use Rattle.std.specs.List.{AllByRecursion}
 use Rattle.std.proofs.lemmas.Bool.{and_parts}
 use Rattle.sorted_rows.proofs.RowLemmas.{length-rows}
 use Rattle.journal_laws.specs.Records.{used}
-use Rattle.node_laws.proofs.Words.{AreTables, Command, HciTables, IsCommand, IsRecordable, PipeRow, body_of, pid_of}
+use Rattle.node_laws.proofs.Words.{AreTables, Command, HciTables, IsCommand, IsRecordable, PipeRow, body_of, is_kept, pid_of, snapshot_bodies}
 use Rattle.registry.specs.declared.value.RegValue.{RegValue}
-use Rattle.registry.specs.Values.{place_of_value, is_kept}
+use Rattle.registry.specs.Values.{place_of_value}
 use Rattle.hci_tables.specs.Commands.{is_allowed}
 use Rattle.hci_tables.specs.Tables.{sync_host, static_place}
 use Rattle.hci_store.specs.Snapshots.{sync_command, set_command, create_command, open_command, static_command, snapshot_of}
-use Rattle.hci_store.specs.Committing.{snapshot_bodies}
 use Rattle.hci_store.proofs.ReadAgain.{short_value}
 
 -- how many bytes the records of commands take

@@ -4,22 +4,20 @@ use Rattle.std.proofs.Common.{append-nil}
 use Rattle.std.specs.Prelude.{Option, Some, None}
 use Rattle.std.specs.List.{AllByRecursion, flat_map, list_any}
 use Rattle.std.proofs.lemmas.Bool.{cond_both, cases_Bool, and_parts, and_from, le-leb, eqb-true, true≢false}
-use Rattle.node_laws.proofs.Words.{ActOut, AreDifferent, AreHosts, AreTables, AtEnd, Bare, Clf, Commits, Core, Creation, Deed, Entry, Give, HciTables, Inactive}
-use Rattle.node_laws.proofs.Words.{Init, IsAllowedStill, IsCommand, IsHost, IsOnOrder, IsPlain, LinkInput, MayBeDone, MayWait, Memory, NodeInput, Notice, Phase}
-use Rattle.node_laws.proofs.Words.{Port, Release, Releases, Reset, Role, Sends, State, StillRuns, Sync, TimePasses, Uicc, WaitsAt, WaitsFor, Work, act_answer}
-use Rattle.node_laws.proofs.Words.{act_out, after_input, after_sessions, all_come, all_done, all_owed, all_owed_hold, apply, asked_at, by_option, creation_in}
-use Rattle.node_laws.proofs.Words.{finds_room, forgets, forgotten, forgotten_hold, has_come, hosts_of_ends, input_at, is_forgotten, is_kept_sync, is_late}
-use Rattle.node_laws.proofs.Words.{is_open, is_over, own_side, passes, report, reset_late, steps, synced, times_out, told, told_at, told_late, turn_at}
-use Rattle.node_laws.proofs.Words.{unless_cut, whole_acked, with_older, without_notice}
+use Rattle.node_laws.proofs.Words.{ActOut, AreDifferent, AreHosts, AreTables, AtEnd, Awaiting, Bare, Clf, Commits, Core, Creation, Deed, Entry, Give, HciTables}
+use Rattle.node_laws.proofs.Words.{Inactive, Init, IsAllowedStill, IsCommand, IsHost, IsNodeNumber, IsOnOrder, IsPlain, LinkInput, MayBeDone, MayWait, Memory}
+use Rattle.node_laws.proofs.Words.{NodeInput, Notice, Phase, Port, Release, Releases, Reset, Role, Sends, State, StillRuns, Sync, TimePasses, Uicc, WaitsAt}
+use Rattle.node_laws.proofs.Words.{WaitsFor, Work, act_answer, act_out, after_input, after_sessions, all_come, all_done, all_owed, all_owed_hold, apply}
+use Rattle.node_laws.proofs.Words.{asked_at, by_option, creation_in, finds_room, forgets, forgotten, forgotten_hold, has_come, hosts_of_ends, input_at}
+use Rattle.node_laws.proofs.Words.{is_forgotten, is_kept_sync, is_late, is_open, is_over, out_ticked, own_side, passes, report, reset_late, steps, synced}
+use Rattle.node_laws.proofs.Words.{times_out, told, told_at, told_late, turn_at, unless_cut, whole_acked, with_older, without_notice}
 use Rattle.swp_act.specs.declared.ActEvent.TheVariants.{Tick as ActTick}
 use Rattle.swp_base.specs.declared.control_frames.Act.{Act}
-use Rattle.swp_act.specs.declared.Phase.TheVariants.{Awaiting, Active}
-use Rattle.swp_act.specs.Activation.{out_ticked}
+use Rattle.swp_act.specs.declared.Phase.TheVariants.{Active}
 use Rattle.node_laws.proofs.steps.Values.{whitelist_left}
 use Rattle.node_laws.proofs.steps.Waits.{within, same_list}
 use Rattle.node_laws.proofs.kept.Asking.{same_new}
 use Rattle.registry.proofs.ValueLemmas.{AllByRecursion-append as all_append}
-use Rattle.node_laws.specs.kept.Hosts.{IsNodeNumber}
 use Rattle.node_laws.proofs.kept.Plainly.{Plainly, runs_plainly, plainly_same, plainly_core, plainly_ports, plainly_then, plainly_map, plain_flat}
 use Rattle.node_laws.proofs.kept.Plainly.{plain_entries}
 use Rattle.node_laws.proofs.kept.Doing.{uncut, GoesOn_or_lost, all_fine}

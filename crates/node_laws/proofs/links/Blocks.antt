@@ -8,9 +8,9 @@ use Rattle.node_laws.proofs.Words.{FromNode, Give, Hold, I, Line, Link, LinkEnd,
 use Rattle.node_laws.proofs.Words.{SetAside, Site, Start, Starts, Step, Stop, Take, TakeBroken, TakeUnknown, Tick, TicksWithout, Turn, Ua, Up, Waiting}
 use Rattle.node_laws.proofs.Words.{act_answer, activated, after_input, after_link_events, aged, all_at_controller, by_list, by_option, by_test, exchanged}
 use Rattle.node_laws.proofs.Words.{frame_fetched, give_refusal, had_tick, happens, happens_at_controller, heard, if_up, in_use, is_faulty, is_open, most_frames}
-use Rattle.node_laws.proofs.Words.{moved, need, new_line, new_link_end, new_world, put_down, renewed, reset_refusal, reset_with, role_after, sent_all, spare}
-use Rattle.node_laws.proofs.Words.{steps_at_controller, stopped, take_answer, taken, tick_answer, ticked, ticks_at_controller, took, turn, turned, whole_among}
-use Rattle.node_laws.proofs.Words.{window_of, with_act, world_after}
+use Rattle.node_laws.proofs.Words.{moved, need, need_of_all, new_line, new_link_end, new_world, put_down, renewed, reset_refusal, reset_with, role_after}
+use Rattle.node_laws.proofs.Words.{sent_all, spare, steps_at_controller, stopped, take_answer, taken, tick_answer, ticked, ticks_at_controller, took, turn}
+use Rattle.node_laws.proofs.Words.{turned, whole_among, window_of, with_act, world_after}
 use Rattle.swp_base.specs.declared.control_frames.Control.TheVariants.{Act as ActFrame}
 use Rattle.swp_base.specs.declared.control_frames.Act.{Act}
 use Rattle.swp_act.specs.declared.ActEvent.TheVariants.{Start as ActStart, Take as ActTake, Tick as ActTick, Stop as ActStop}
@@ -19,7 +19,7 @@ use Rattle.shdlc_core.specs.Machine.{with_ready, fetched}
 use Rattle.link_laws.proofs.sessions.Ties.{fetched-phase, after_frames-phase}
 use Rattle.hcp_packet.specs.Packets.{packet_count}
 use Rattle.link_laws.specs.machine.Machine.{reset_by}
-use Rattle.link_laws.specs.machine.Machine.{given, need_of_all}
+use Rattle.link_laws.specs.machine.Machine.{given}
 use Rattle.link_laws.proofs.machine.Shifts.{IsNotUp, Shift, taken_shift, ticked_shift, reset_shift}
 use Rattle.link_laws.proofs.machine.Shifts.Shift.{Stays, Ends, Renews, Begins, Rests}
 use Rattle.link_laws.proofs.machine.Sound.{SentAfter, whole_more, whole_few, need_less, need_more}

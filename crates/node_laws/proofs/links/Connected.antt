@@ -4,9 +4,8 @@ use Rattle.std.specs.Prelude.{Option, Some, None}
 use Rattle.std.specs.List.{AllByRecursion}
 use Rattle.std.specs.Option.{option_map_or, option_and_then}
 use Rattle.std.proofs.lemmas.Bool.{true≢false}
-use Rattle.node_laws.proofs.Words.{Answer, Ask, Commit, Decision, HciTables, LinkView, by_test, decided, decided_holds, far_end_of, has, is_connected, mask_of}
-use Rattle.node_laws.proofs.Words.{param_in, pipe_at, shares, told_of_clearing}
-use Rattle.gate_admin.specs.View.{hosts_where}
+use Rattle.node_laws.proofs.Words.{Answer, Ask, Commit, Decision, HciTables, LinkView, by_test, decided, decided_holds, far_end_of, has, hosts_where}
+use Rattle.node_laws.proofs.Words.{is_connected, mask_of, param_in, pipe_at, shares, told_of_clearing}
 use Rattle.node_laws.proofs.links.Masking.{nobody, alone, from_mask, all_in}
 
 -- they are connected

@@ -3,10 +3,8 @@ use Rattle.std.proofs.Common.{ℕ, ◌<◌, Bool, true, false, List, [], subst, 
 use Rattle.std.specs.Prelude.{Option, Some, None}
 use Rattle.std.specs.List.{AllByRecursion}
 use Rattle.node_laws.proofs.Words.{Answer, Ask, Asks, Command, Commit, Core, Creation, Decision, Deed, Desk, IsSendable, LinkView, Message, Orders, Port, Sends}
-use Rattle.node_laws.proofs.Words.{Tells, agreed, answer_of, body_in, commit_deeds, controller_deeds, controller_holds, creation_in, decided, decision_deeds}
-use Rattle.node_laws.proofs.Words.{finds_room, gates, has, identity_served, link_deeds, link_served, own_view, view_for, view_of}
-use Rattle.gate_admin.specs.View.{hosts_where}
-use Rattle.node_machine.specs.Controller.{answers_on}
+use Rattle.node_laws.proofs.Words.{Tells, agreed, answer_of, answers_on, body_in, commit_deeds, controller_deeds, controller_holds, creation_in, decided}
+use Rattle.node_laws.proofs.Words.{decision_deeds, finds_room, gates, has, hosts_where, identity_served, link_deeds, link_served, own_view, view_for, view_of}
 use Rattle.node_laws.proofs.steps.Ports.{at_port}
 use Rattle.node_machine.proofs.Walks.{told_hold}
 use Rattle.node_laws.proofs.links.Decisions.{IsSpoken, Speaks, decided_speaks, link_spoken, identity_spoken}

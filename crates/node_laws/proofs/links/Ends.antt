@@ -5,11 +5,10 @@ use Rattle.node_laws.proofs.Words.{ActEvent, AsksReset, Bare, Clf, Clt, Comes, C
 use Rattle.node_laws.proofs.Words.{Link, LinkEnd, LinkInput, Lose, NextFrame, NoInput, Reset, Role, Rset, S, Start, Starts, Step, Stop, Stops, Take, TakeBroken}
 use Rattle.node_laws.proofs.Words.{TakeUnknown, Tick, Turn, Ua, Uicc, activated, activated_role, after_input, by_list, by_test, ended_by, finished}
 use Rattle.node_laws.proofs.Words.{frame_fetched, had_tick, happens_at_controller, has_taken, heard, host_ended, host_finished, is_faulty, is_open, is_up}
-use Rattle.node_laws.proofs.Words.{moved, new_link_end, put_down, renewed, reset_role, role_after, sent_all, silent, steps_at_controller, stopped, take_answer}
-use Rattle.node_laws.proofs.Words.{taken, tick_answer, ticked, ticks_at_controller, took, turned, turned_role, with_ended}
+use Rattle.node_laws.proofs.Words.{moved, moved_role, new_link_end, put_down, renewed, reset_role, role_after, sent_all, silent, steps_at_controller, stopped}
+use Rattle.node_laws.proofs.Words.{take_answer, taken, tick_answer, ticked, ticks_at_controller, took, turned, turned_role, with_ended}
 use Rattle.swp_base.specs.declared.control_frames.Control.TheVariants.{Act as ActFrame}
 use Rattle.swp_act.specs.declared.ActEvent.TheVariants.{Take as ActTake, Tick as ActTick, Start as ActStart, Stop as ActStop}
-use Rattle.link_laws.proofs.messages.Project.{moved_role}
 use Rattle.node_laws.proofs.links.Got.{Clean, input_clean, turned_clean}
 use Rattle.link_laws.proofs.entries.Settling.{down_role}
 

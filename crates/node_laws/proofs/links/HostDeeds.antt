@@ -2,10 +2,9 @@
 use Rattle.std.proofs.Common.{ℕ, ◌<◌, List, [], arith}
 use Rattle.std.specs.List.{AllByRecursion}
 use Rattle.node_laws.proofs.Words.{Clear, Command, Core, Create, Delete, Init, IsSendable, Message, OfHost, Port, accepts, answer_of, body_in, end_view}
-use Rattle.node_laws.proofs.Words.{finds_room, gates, host_deeds, host_holds, identity_served, link_served, ordered_deeds, ordered_holds, own_view}
+use Rattle.node_laws.proofs.Words.{finds_room, gates, host_deeds, host_holds, identity_served, link_served, ordered_deeds, ordered_holds, orders_of, own_view}
 use Rattle.gate_answers.specs.declared.response.Response.TheVariants as response
 use Rattle.registry.proofs.ValueLemmas.{AllByRecursion-get}
-use Rattle.node_machine.specs.HostReplies.{orders_of}
 use Rattle.node_laws.proofs.links.Decisions.{IsSpoken, link_spoken, identity_spoken}
 use Rattle.node_machine.proofs.Walks.{all_heard, orders_hold}
 use Rattle.node_laws.proofs.links.Deeds.{IsFine, AreFine, answers_fine, commit_fine, link_fine, low}

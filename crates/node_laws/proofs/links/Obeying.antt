@@ -2,8 +2,7 @@
 use Rattle.std.proofs.Common.{◌≡◌, ℕ, List, [], ◌∷◌, subst}
 use Rattle.std.specs.Prelude.{Some}
 use Rattle.std.specs.List.{AllByRecursion}
-use Rattle.swp_base.specs.declared.link_terms.Cause.TheVariants.{Chain}
-use Rattle.node_laws.proofs.Words.{ArePlayable, AreUpTogether, IsLine, IsRun, IsRunOf, Line, Link, LinkEvent, OnWire, Site, Take, Up, ended_by, new_line}
+use Rattle.node_laws.proofs.Words.{ArePlayable, AreUpTogether, Chain, IsLine, IsRun, IsRunOf, Line, Link, LinkEvent, OnWire, Site, Take, Up, ended_by, new_line}
 use Rattle.node_laws.proofs.Words.{new_world, number_of, talk_of, world_after}
 use Rattle.link_laws.specs.messages.Links.{talk_now}
 use Rattle.link_laws.specs.messages.Order.{InOrder}

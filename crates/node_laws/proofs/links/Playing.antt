@@ -6,13 +6,12 @@ use Rattle.node_laws.proofs.Words.{Activates, ArePlayable, Arms, AsksReset, AtCo
 use Rattle.node_laws.proofs.Words.{IsCut, IsPlayable, IsRun, IsSendable, IsWindow, Line, Link, Loses, LostFor, Message, NextFrame, NoCause, NoInput, NodeWorld}
 use Rattle.node_laws.proofs.Words.{OnDemand, Resets, Same, Site, Start, Starts, Step, Stops, Takes, Ticks, Undetected, Verdict, Work, activates, all_happen}
 use Rattle.node_laws.proofs.Words.{beginning, begins_with, by_coming, by_option, by_some, by_test, can_happen, comes_at, controller_work, end_c, end_h}
-use Rattle.node_laws.proofs.Words.{ending_of, exchanged, first_verdict, frames_at, goes_on, happens, happens_by, host_does, if_off, is_command_message}
-use Rattle.node_laws.proofs.Words.{line_step, link_after_controller, memory_at, new_site, new_world, refusal_in, sending, steps, taken_of, turns_at}
-use Rattle.node_laws.proofs.Words.{world_after, world_step}
+use Rattle.node_laws.proofs.Words.{ending_of, exchanged, first_cause, first_verdict, frames_at, goes_on, happens, happens_by, host_does, if_off}
+use Rattle.node_laws.proofs.Words.{is_command_message, line_step, link_after_controller, memory_at, new_site, new_world, refusal_in, sending, steps, taken_of}
+use Rattle.node_laws.proofs.Words.{turns_at, world_after, world_step}
 use Rattle.trace_model.specs.declared.entry.NoCause.TheVariants as no
 use Rattle.trace_model.specs.declared.line.Line.TheVariants as line
 use Rattle.link_laws.proofs.messages.Runs.{IsIdleClf, started_clf, can_start}
-use Rattle.node_machine.specs.world.Lines.{first_cause}
 use Rattle.node_laws.proofs.links.Deeds.{AreFine}
 use Rattle.node_laws.proofs.links.Works.{all_done_fine, steps_fine}
 use Rattle.node_laws.proofs.links.Sites.{MayCome, new_fine}

@@ -3,12 +3,9 @@ use Rattle.std.proofs.Common.{◌≡◌, ℕ, true, false, List, [], ◌∷◌}
 use Rattle.std.specs.Prelude.{Option, Some, None}
 use Rattle.std.specs.List.{AllByRecursion}
 use Rattle.std.specs.Option.{option_map_or}
-use Rattle.node_laws.proofs.Words.{AllReach, Answer, Ask, Command, Commit, Core, Create, Decision, HciTables, LinkView, Message, OfDecision, Plain, Port}
-use Rattle.node_laws.proofs.Words.{all_of_controller, body_in, controller_deeds, decided, has, has_link, is_connected, is_connected_at, is_opened, is_up}
-use Rattle.node_laws.proofs.Words.{port_at, view_for, view_of}
-use Rattle.gate_admin.specs.View.{hosts_where}
-use Rattle.tables_laws.specs.gate.Rules.{AsksAsAllowed, IsAskedFor}
-use Rattle.tables_laws.proofs.gate.Decisions.{decided_as_allowed}
+use Rattle.node_laws.proofs.Words.{AllReach, Answer, Ask, AsksAsAllowed, Command, Commit, Core, Create, Decision, HciTables, IsAskedFor, LinkView, Message}
+use Rattle.node_laws.proofs.Words.{OfDecision, Plain, Port, all_of_controller, body_in, controller_deeds, decided, decided_as_allowed, has, has_link}
+use Rattle.node_laws.proofs.Words.{hosts_where, is_connected, is_connected_at, is_opened, is_up, port_at, view_for, view_of}
 use Rattle.node_laws.specs.links.Notices.{Reaches}
 use Rattle.node_laws.proofs.links.Masking.{from_mask}
 use Rattle.node_laws.proofs.links.Connected.{AreConnected, decided_tells, TellsConnected}

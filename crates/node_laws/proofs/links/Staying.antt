@@ -2,12 +2,12 @@
 use Rattle.std.proofs.Common.{◌≡◌, Bool, true, false, cond, Option, Some, None, refl, ap, sym, subst, ◌∙◌}
 use Rattle.std.specs.Prelude.{is_some}
 use Rattle.std.proofs.lemmas.Bool.{true≢false}
-use Rattle.node_laws.proofs.Words.{ActEvent, Asked, Cause, Clt, Control, EndState, I, IsComing, LinkEnd, LinkInput, Reset, Rset, S, Start, Stop, Take, Tick, Ua}
-use Rattle.node_laws.proofs.Words.{Up, act_answer, activated, after_input, by_option, by_test, ended_by, had_tick, heard, if_up, is_faulty, is_open, moved}
-use Rattle.node_laws.proofs.Words.{put_down, reset_refusal, role_after, take_answer, taken, tick_answer, ticked, with_act}
+use Rattle.node_laws.proofs.Words.{ActEvent, Asked, Cause, Chain, Clt, Control, EndState, I, IsComing, LinkEnd, LinkInput, Reset, Rset, S, Start, Stop, Take}
+use Rattle.node_laws.proofs.Words.{Tick, Ua, Up, act_answer, activated, after_input, by_option, by_test, ended_by, had_tick, heard, if_up, is_faulty, is_open}
+use Rattle.node_laws.proofs.Words.{moved, put_down, reset_refusal, role_after, take_answer, taken, tick_answer, ticked, with_act}
 use Rattle.swp_base.specs.declared.control_frames.Control.TheVariants.{Act as ActFrame}
 use Rattle.swp_base.specs.declared.control_frames.Act.{Act}
-use Rattle.swp_base.specs.declared.link_terms.Cause.TheVariants.{Act as ByAct, Chain}
+use Rattle.swp_base.specs.declared.link_terms.Cause.TheVariants.{Act as ByAct}
 use Rattle.swp_act.specs.declared.ActEvent.TheVariants.{Take as ActTake, Tick as ActTick}
 use Rattle.link_laws.specs.machine.Machine.{ended_by_act}
 use Rattle.link_laws.proofs.machine.Shifts.{Shift, taken_shift, ticked_shift}

@@ -4,14 +4,13 @@ use Rattle.std.specs.Prelude.{Option, Some, None, map, not, ◌&&◌}
 use Rattle.std.specs.List.{AllByRecursion}
 use Rattle.node_laws.proofs.Words.{AreSendableTurns, AsksReset, AtController, Broken, CanCome, Comes, CutOff, Desk, End, Ending, GoesOut, Link, Lose, Loss}
 use Rattle.node_laws.proofs.Words.{Memory, NextFrame, NoInput, Node, NodeWorld, NumberedEnd, Port, Running, Site, Step, TimePasses, Turn, Work}
-use Rattle.node_laws.proofs.Words.{after_controller, after_host, after_planned, aged, all_aged, all_map, boot_found, boot_writes, boot_written, boots, by_boot}
-use Rattle.node_laws.proofs.Words.{by_controller, by_controller_tick, by_host, by_host_tick, by_list, by_loss, by_memory, by_option, by_power, by_running}
-use Rattle.node_laws.proofs.Words.{by_test, changed_if, comes_to, controller_cut, controller_does, controller_ticks, controller_work, counts, ending_of}
-use Rattle.node_laws.proofs.Words.{exchanged, frame_lost, happens, host_cut, host_does, host_tick, host_ticks, host_work, hosts_tick, is_late_at, is_waiting}
-use Rattle.node_laws.proofs.Words.{link_after_controller, link_to, links_of, loses_power_at, memory_at, near_end_in, near_tick, new_desk, port_at, port_for}
-use Rattle.node_laws.proofs.Words.{runs_on, site_at, site_lost, ticked_so, ticks_at_controller, turns_at, with_error, with_memory, with_node, with_site}
-use Rattle.node_laws.proofs.Words.{work_of, world_ticks}
-use Rattle.history.specs.Steps.{at}
+use Rattle.node_laws.proofs.Words.{after_controller, after_host, after_planned, aged, all_aged, all_map, at, boot_found, boot_writes, boot_written, boots}
+use Rattle.node_laws.proofs.Words.{by_boot, by_controller, by_controller_tick, by_host, by_host_tick, by_list, by_loss, by_memory, by_option, by_power}
+use Rattle.node_laws.proofs.Words.{by_running, by_test, changed_if, comes_to, controller_cut, controller_does, controller_ticks, controller_work, counts}
+use Rattle.node_laws.proofs.Words.{ending_of, exchanged, frame_lost, happens, host_cut, host_does, host_tick, host_ticks, host_work, hosts_tick, is_late_at}
+use Rattle.node_laws.proofs.Words.{is_waiting, link_after_controller, link_to, links_of, loses_power_at, memory_at, near_end_in, near_tick, new_desk, port_at}
+use Rattle.node_laws.proofs.Words.{port_for, runs_on, site_at, site_lost, ticked_so, ticks_at_controller, turns_at, with_error, with_memory, with_node}
+use Rattle.node_laws.proofs.Words.{with_site, work_of, world_ticks}
 use Rattle.node_laws.proofs.links.Got.{Clean}
 use Rattle.node_laws.proofs.links.Deeds.{IsTrueDesk}
 use Rattle.node_laws.proofs.links.Works.{AreFinePorts, IsFineWork, fine_at, steps_fine}

@@ -5,14 +5,11 @@ use Rattle.std.specs.List.{AllByRecursion}
 use Rattle.std.specs.Option.{option_map_or, option_and_then}
 use Rattle.std.proofs.lemmas.Bool.{cond_both, eqb-true, eqb-false, ne_eqb, true≢false}
 use Rattle.node_laws.proofs.Words.{Answer, Ask, Clear, Command, Commit, Create, Decision, Delete, HciTables, IsAbout, JoinTwo, LinkView, PipeRow, Removed}
-use Rattle.node_laws.proofs.Words.{Response, Set, answer_of, by_test, commits_and_tells, decided, decided_holds, far_end_of, has, is_connected, is_notice}
-use Rattle.node_laws.proofs.Words.{mask_of, param_in, pipe_at, shares, told_of_clearing, told_of_deletion, value_in}
-use Rattle.hci_tables.specs.declared.command.Command.TheVariants.{SetOpened}
+use Rattle.node_laws.proofs.Words.{Response, Set, SetOpened, answer_of, by_test, commits, commits_and_tells, decided, decided_holds, ends_of, far_end_of, has}
+use Rattle.node_laws.proofs.Words.{hosts_where, is_connected, is_notice, mask_of, new_row, others_opened, param_in, pipe_at, shares, told_of_clearing}
+use Rattle.node_laws.proofs.Words.{told_of_deletion, value_in}
 use Rattle.gate_answers.specs.declared.response.Response.TheVariants as response
-use Rattle.gate_admin.specs.View.{hosts_where}
-use Rattle.gate_admin.specs.Decide.{ends_of, commits}
-use Rattle.gate_admin.specs.Decide.{others_opened}
-use Rattle.tables_laws.proofs.gate.Decisions.{new_row, joins_two}
+use Rattle.tables_laws.proofs.gate.Decisions.{joins_two}
 use Rattle.node_laws.proofs.links.Masking.{nobody, alone, from_mask, all_in}
 
 -- it is no notice

@@ -6,8 +6,8 @@ use Rattle.std.specs.Option.{option_map, option_map_or, option_and_then}
 use Rattle.std.proofs.lemmas.Bool.{cases_Bool, eqb-true, eqb-false, ne_eqb, eq-eqb}
 use Rattle.std.proofs.lemmas.Bool.{true≢false}
 use Rattle.node_laws.proofs.Words.{About, AreTables, AreTables-apply, Asks, Command, Commits, Controller, Core, Deed, Desk, Drops, Entry, Give, IsAbout}
-use Rattle.node_laws.proofs.Words.{IsCommand, IsHost, IsKeptNotice, IsRightNotice, JoinTwo, Message, Notice, Port, Release, Releases, Removed, SaysOk, Sends}
-use Rattle.node_laws.proofs.Words.{SetAside, SetsErrors, Tells, Turn, Waits, Work, Write, after_turn, all_done, body_of, by_cut, by_test}
+use Rattle.node_laws.proofs.Words.{IsCommand, IsHost, IsKeptNotice, IsRightAbout, IsRightNotice, JoinTwo, Message, Notice, Port, Release, Releases, Removed}
+use Rattle.node_laws.proofs.Words.{SaysOk, Sends, SetAside, SetsErrors, Tells, Turn, Waits, Work, Write, after_turn, all_done, body_of, by_cut, by_test}
 use Rattle.node_laws.proofs.Words.{changed_if, commit, commit_writes, done, entries_for, fails_within, give_refusal, is_notice, is_up, keeps, noted_of}
 use Rattle.node_laws.proofs.Words.{notice_in, notified, noting, own_side, port_at, sent_unless, turn_at, unless_cut, with_desk, with_port}
 use Rattle.node_laws.proofs.Each.{all_map as each_map}
@@ -17,7 +17,6 @@ use Rattle.link_laws.proofs.messages.Project.{give_tells}
 use Rattle.node_laws.proofs.links.Noticing.{turn-phase, UpAt, at_all, at_host}
 use Rattle.node_laws.proofs.notices.Reading.{reads, read_more, sent_reads, sent_elsewhere, notice_reads}
 use Rattle.node_laws.proofs.notices.Telling.{AreRight, noticed, MayTell}
-use Rattle.node_laws.specs.notices.Worlds.{IsRightAbout}
 
 abbrev pub AreHostEnds : List Port → Type 0
 AreHostEnds ports = AllByRecursion (λ (p : Port). IsHost p.desk.host) ports

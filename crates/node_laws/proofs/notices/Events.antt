@@ -5,12 +5,13 @@ use Rattle.std.specs.List.{AllByRecursion, fold}
 use Rattle.std.specs.Option.{option_map_or}
 use Rattle.std.proofs.lemmas.Bool.{eqb-true}
 use Rattle.node_laws.proofs.Words.{Activates, AreHosts, AreTables, AreTables-apply, Arms, AsksReset, AtController, AtHost, Boots, Broken, Command, Controller}
-use Rattle.node_laws.proofs.Words.{ControllerReads, CutOff, Desk, End, Entry, Gives, Happening, HciTables, Host, IfReads, Inits, IsCommand, IsCut, IsHost}
-use Rattle.node_laws.proofs.Words.{IsKeptNotice, IsRightNotice, JoinTwo, KeepsNotices, Link, Lose, Loses, Loss, MayBoot, Memory, NextFrame, NoInput, NodeWorld}
-use Rattle.node_laws.proofs.Words.{OnWire, Resets, Running, Site, Step, Takes, Ticks, after_planned, applied, apply, beginning, boot_found, boot_writes}
-use Rattle.node_laws.proofs.Words.{boot_written, boots, by_boot, by_memory, by_power, by_running, by_test, close, controller_cut, count_of, counts, entries_for}
-use Rattle.node_laws.proofs.Words.{first_lost, found, frame_lost, happens, host_cut, link_to, links_of, loses_power_at, memory_at, new_desk, new_site}
-use Rattle.node_laws.proofs.Words.{new_world, no_tables, node_at, notice_at, notice_in, sending, with_error, with_memory, with_node, with_site, world_step}
+use Rattle.node_laws.proofs.Words.{ControllerReads, CutOff, Desk, End, Entry, Gives, Happening, HciTables, Host, IfHostNode, IfReads, Inits, IsCommand, IsCut}
+use Rattle.node_laws.proofs.Words.{IsHost, IsKeptNotice, IsRightNotice, JoinTwo, KeepsNotices, Link, Lose, Loses, Loss, MayBoot, Memory, NextFrame, NoInput}
+use Rattle.node_laws.proofs.Words.{NodeWorld, OnWire, Resets, Running, Site, Step, Takes, Ticks, after_planned, applied, apply, beginning, boot_found}
+use Rattle.node_laws.proofs.Words.{boot_writes, boot_written, boots, by_boot, by_memory, by_power, by_running, by_test, close, controller_cut, count_of, counts}
+use Rattle.node_laws.proofs.Words.{entries_for, first_lost, found, frame_lost, happens, host_cut, link_to, links_of, loses_power_at, memory_at, new_desk}
+use Rattle.node_laws.proofs.Words.{new_site, new_world, no_tables, node_at, notice_at, notice_in, sending, with_error, with_memory, with_node, with_site}
+use Rattle.node_laws.proofs.Words.{world_step}
 use Rattle.journal_laws.specs.Journal.{records}
 use Rattle.trace_model.specs.declared.entry.Entry.TheVariants as entry
 use Rattle.hci_tables.specs.Bodies.{spelled_by, command_of}
@@ -27,7 +28,6 @@ use Rattle.node_laws.proofs.notices.Far.{quiet_far, asking_more}
 use Rattle.node_laws.proofs.notices.Sites.{AreGood, Reads, AreHushed, still_reads, far_hushed, good_map, good_with, far_shut, begins_reads, sending_own}
 use Rattle.node_laws.proofs.notices.Sites.{beginning_own}
 use Rattle.node_laws.proofs.notices.Near.{comes_reads, ticks_reads, activates_reads}
-use Rattle.node_laws.specs.notices.Worlds.{IfHostNode}
 use Rattle.node_laws.proofs.kept.Booting.{command_read}
 use Rattle.link_laws.specs.entries.Entries.{End as Side}
 

@@ -4,16 +4,16 @@ use Rattle.std.specs.Prelude.{Option, Some, None, nat_le}
 use Rattle.std.specs.List.{AllByRecursion, list_any, filter}
 use Rattle.std.specs.Option.{option_map_or, option_and_then}
 use Rattle.std.proofs.lemmas.Bool.{true≢false, leb-true}
-use Rattle.node_laws.proofs.Words.{Answer, Ask, Clear, Command, Commit, Core, Decision, Delete, HciTables, LinkView, Message, OfDecision, Plain, Port}
-use Rattle.node_laws.proofs.Words.{all_of_controller, body_in, by_test, commits_and_tells, controller_deeds, decided, decided_holds, far_end_of, has}
-use Rattle.node_laws.proofs.Words.{is_connected, mask_of, param_in, pipe_at, shares, told_of_clearing, told_of_deletion, view_for, view_of}
+use Rattle.node_laws.proofs.Words.{Answer, Ask, Clear, Command, Commit, Core, Decision, Delete, GoesToFree, HciTables, LinkView, Message, OfDecision, Plain}
+use Rattle.node_laws.proofs.Words.{Port, all_false, all_of_controller, body_in, by_test, commits_and_tells, controller_deeds, decided, decided_holds}
+use Rattle.node_laws.proofs.Words.{far_end_of, has, has_notice, is_connected, mask_of, param_in, pipe_at, shares, told_of_clearing, told_of_deletion, view_for}
+use Rattle.node_laws.proofs.Words.{view_of}
 use Rattle.gate_admin.specs.View.{hosts_where, is_noticed}
 use Rattle.gate_admin.specs.Decide.{dest_in}
 use Rattle.gate_admin.specs.Decide.{tests_to_create, tests_to_delete, tests_to_clear}
-use Rattle.gate_admin.proofs.CreationLemmas.{AllFalse, all_false}
+use Rattle.gate_admin.proofs.CreationLemmas.{AllFalse}
 use Rattle.node_laws.proofs.steps.Masks.{is_in_mask}
 use Rattle.node_laws.proofs.links.Masking.{nobody, alone, from_mask, all_in, has_small}
-use Rattle.node_laws.specs.notices.Notices.{has_notice, GoesToFree}
 
 -- ## Decisions
 

@@ -5,10 +5,9 @@ use Rattle.std.specs.List.{AllByRecursion, fold}
 use Rattle.std.proofs.Math.Bool.{and-true}
 use Rattle.std.proofs.lemmas.List.Sums.{fold-append}
 use mathlib.Core.Bool.{and-false}
-use Rattle.node_laws.proofs.Words.{Cause, Controller, Core, Down, Entry, LinkInput, Message, Port, Refused, Sent, after_input, end_c, end_of, ended_by}
-use Rattle.node_laws.proofs.Words.{entries_for, is_notice, notice_in, own_side, report, same_end, sent_unless, told_at, whole_acked}
+use Rattle.node_laws.proofs.Words.{Cause, Controller, Core, Down, Entry, LinkInput, Message, Port, Refused, Sent, after_input, awaited_after, end_c, end_of}
+use Rattle.node_laws.proofs.Words.{ended_by, entries_for, is_notice, notice_in, own_side, report, same_end, sent_unless, told_at, whole_acked}
 use Rattle.link_laws.specs.entries.Entries.{End as Side, Entry as Noted}
-use Rattle.node_machine.specs.world.NodeFilters.{awaited_after}
 use Rattle.node_laws.proofs.readings.Silent.{IsQuiet, told_rest, rest_quiet}
 
 -- the end of this link is the one with that host

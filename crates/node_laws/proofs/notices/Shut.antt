@@ -5,14 +5,13 @@ use Rattle.std.proofs.lemmas.Bool.{true≢false}
 use Rattle.node_laws.proofs.Words.{ActEvent, Bare, Clf, Clt, Control, EndEvent, Ending, Fetch, FromNode, I, IsShut, Link, LinkEnd, LinkInput, LinkState}
 use Rattle.node_laws.proofs.Words.{Refused, Reset, Role, Rset, S, Start, Stop, Take, TakeBroken, TakeUnknown, Tick, Turn, Ua, Uicc, Up, act_answer, activated}
 use Rattle.node_laws.proofs.Words.{activated_role, after_input, by_list, by_test, frame_fetched, had_tick, happens_at_controller, heard, is_open, moved}
-use Rattle.node_laws.proofs.Words.{new_link_end, put_down, renewed, reset_refusal, role_after, sent_all, stopped, tick_answer, ticked, ticks_at_controller}
-use Rattle.node_laws.proofs.Words.{took, turn, turned, turned_role, with_act}
+use Rattle.node_laws.proofs.Words.{moved_role, new_link_end, put_down, renewed, reset_refusal, role_after, sent_all, stopped, tick_answer, ticked}
+use Rattle.node_laws.proofs.Words.{ticks_at_controller, took, turn, turned, turned_role, with_act}
 use Rattle.swp_base.specs.declared.control_frames.Control.TheVariants.{Act as ActFrame}
 use Rattle.swp_base.specs.declared.control_frames.Act.{Act}
 use Rattle.swp_act.specs.declared.ActEvent.TheVariants.{Start as ActStart, Take as ActTake, Tick as ActTick, Stop as ActStop}
 use Rattle.shdlc_core.specs.declared.answers.LinkState.TheVariants.{Down}
 use Rattle.link_laws.proofs.sessions.Ties.{fetched-phase}
-use Rattle.link_laws.proofs.messages.Project.{moved_role}
 use Rattle.link_laws.proofs.messages.Steps.{role_closes}
 use Rattle.link_laws.proofs.messages.Finishing.{tick_role}
 use Rattle.node_laws.proofs.links.Ends.{here_is, tick_is}

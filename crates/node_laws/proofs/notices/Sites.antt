@@ -3,12 +3,12 @@ use Rattle.std.proofs.Common.{◌≡◌, ℕ, ◌&&◌, true, eqb, List, [], ◌
 use Rattle.std.specs.Prelude.{Option, Some, None}
 use Rattle.std.specs.List.{AllByRecursion}
 use Rattle.std.proofs.lemmas.Bool.{cond_both, true≢false}
-use Rattle.node_laws.proofs.Words.{AtEnd, AtHost, Comes, Deed, End, EndEvent, Ending, Entry, GoesOut, Host, IfReads, IsKeptNotice, IsShut, Link, Message}
-use Rattle.node_laws.proofs.Words.{NextFrame, NoInput, NodeWorld, NumberedEnd, Orders, Running, Sends, Site, Step, TimePasses, Work, after_host, all_changed}
-use Rattle.node_laws.proofs.Words.{all_map, arrival, asking_in, beginning, begins_with, by_coming, by_host, by_host_tick, by_list, by_option, by_test, comes_at}
-use Rattle.node_laws.proofs.Words.{ending_entries, ending_of, entries_for, exchanged, frames_noted, happens, host_does, host_tick, host_ticks, host_work}
-use Rattle.node_laws.proofs.Words.{hosts_tick, is_command_message, link_to, near_end_in, notice_at, notice_in, port_at, runs_on, sending, site_at, steps}
-use Rattle.node_laws.proofs.Words.{ticks_at_controller, turns_at, wires_for, with_site, work_of}
+use Rattle.node_laws.proofs.Words.{AtEnd, AtHost, Comes, Deed, End, EndEvent, Ending, Entry, GoesOut, Host, IfHostNode, IfReads, IsGoodSite, IsKeptNotice}
+use Rattle.node_laws.proofs.Words.{IsShut, Link, Message, NextFrame, NoInput, NodeWorld, NumberedEnd, Orders, Running, Sends, Site, Step, TimePasses, Work}
+use Rattle.node_laws.proofs.Words.{after_host, all_changed, all_map, arrival, asking_in, beginning, begins_with, by_coming, by_host, by_host_tick, by_list}
+use Rattle.node_laws.proofs.Words.{by_option, by_test, comes_at, ending_entries, ending_of, entries_for, exchanged, frames_noted, happens, host_does, host_tick}
+use Rattle.node_laws.proofs.Words.{host_ticks, host_work, hosts_tick, is_command_message, link_to, near_end_in, notice_at, notice_in, port_at, runs_on, sending}
+use Rattle.node_laws.proofs.Words.{site_at, steps, ticks_at_controller, turns_at, wires_for, with_site, work_of}
 use Rattle.link_laws.specs.entries.Entries.{End as Side}
 use Rattle.node_laws.proofs.links.Ends.{here_host}
 use Rattle.link_laws.proofs.entries.Together.{ticks_host as tick_host}
@@ -16,7 +16,6 @@ use Rattle.node_laws.proofs.readings.Sites.{ending_quiet}
 use Rattle.node_laws.proofs.notices.Reading.{reads, notice_more}
 use Rattle.node_laws.proofs.notices.Own.{AreOwn}
 use Rattle.node_laws.proofs.notices.Far.{AreFar, far-append, far_reads, far_asks, asks, asking_more, quiet_far, IsFarWork, all_do, steps_far}
-use Rattle.node_laws.specs.notices.Worlds.{IfHostNode, IsGoodSite}
 
 abbrev pub AreGood : List Site → Type 0
 AreGood sites = AllByRecursion IsGoodSite sites

@@ -4,24 +4,20 @@ use Rattle.std.specs.Prelude.{Option, Some, None, is_some}
 use Rattle.std.specs.List.{AllByRecursion, filter}
 use Rattle.std.specs.Option.{option_map_or, option_and_then}
 use Rattle.std.proofs.lemmas.Bool.{true≢false, eqb-true, eqb-false, ne_eqb, and_parts}
-use Rattle.node_laws.proofs.Words.{About, Answer, AreDifferent, AreTables, Ask, Asks, Command, Commit, Commits, Core, Create, Creation, Decision, Deed, Drops}
-use Rattle.node_laws.proofs.Words.{Forgotten, HciTables, IsAnswered, IsCommand, IsNoticeOf, IsRecordableDecision, IsRightNotice, JoinTwo, LinkView, Message}
-use Rattle.node_laws.proofs.Words.{Notice, PipeRow, Port, Releases, Removed, SaysOk, Sends, SetsErrors, Tells, Waits, agreed, answer_of, asked_at, body_in}
-use Rattle.node_laws.proofs.Words.{by_test, commit_deeds, controller_deeds, controller_holds, creation_in, decided, decision_deeds, finds_room, gates, has}
-use Rattle.node_laws.proofs.Words.{has_link, identity_served, is_host, is_notice, is_response, link_deeds, link_served, own_gate, own_view, port_at, view_for}
-use Rattle.node_laws.proofs.Words.{view_of}
-use Rattle.hci_tables.specs.Commands.{is_dynamic}
+use Rattle.node_laws.proofs.Words.{About, Answer, AreDifferent, AreTables, Ask, Asks, AsksAsAllowed, Command, Commit, Commits, Core, Create, Creation, Decision}
+use Rattle.node_laws.proofs.Words.{Deed, Drops, Forgotten, HciTables, IsAnswered, IsAskedFor, IsCommand, IsNoticeOf, IsRecordableDecision, IsRightAbout}
+use Rattle.node_laws.proofs.Words.{IsRightNotice, JoinTwo, LinkView, Message, Notice, PipeRow, Port, Releases, Removed, SaysOk, Sends, SetsErrors, Tells, Waits}
+use Rattle.node_laws.proofs.Words.{agreed, answer_of, answers_on, asked_at, body_in, by_test, commit_deeds, controller_deeds, controller_holds, creation_in}
+use Rattle.node_laws.proofs.Words.{decided, decided_as_allowed, decision_deeds, finds_room, gates, has, has_link, identity_served, is_dynamic, is_host}
+use Rattle.node_laws.proofs.Words.{is_notice, is_response, link_deeds, link_served, own_gate, own_view, port_at, view_for, view_of}
 use Rattle.gate_answers.specs.declared.response.Response.TheVariants as response
 use Rattle.gate_admin.specs.View.{hosts_where}
-use Rattle.tables_laws.specs.gate.Rules.{IsAskedFor, AsksAsAllowed}
-use Rattle.tables_laws.proofs.gate.Decisions.{decided_as_allowed}
-use Rattle.node_machine.specs.Controller.{answers_on}
 use Rattle.node_laws.proofs.links.Noticing.{UpAt}
 use Rattle.node_laws.proofs.steps.Ports.{at_port}
 use Rattle.node_machine.proofs.Walks.{AnswersNone}
 use Rattle.node_laws.proofs.kept.Deciding.{decided_recordable}
 use Rattle.node_laws.proofs.notices.Deciding.{IsOther, IsRemoval, IsAsking, AreTold, Says, answer_other, decided_says}
-use Rattle.node_laws.specs.notices.Worlds.{IsRight, IsRightAbout}
+use Rattle.node_laws.specs.notices.Worlds.{IsRight}
 
 -- ## Creations
 

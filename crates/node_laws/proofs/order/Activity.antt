@@ -5,21 +5,19 @@ use Rattle.std.specs.List.{AllByRecursion, fold}
 use Rattle.std.proofs.lemmas.Bool.{true≢false}
 use Rattle.std.proofs.lemmas.List.Sums.{fold-append}
 use Rattle.swp_base.specs.declared.control_frames.Act.{Act as Activation}
-use Rattle.node_laws.proofs.Words.{Acked, Act, ActEvent, ActOut, Activate, Active, AllAllowed, AsksReset, AtController, AtHost, Bare, Clf, Clt, Control}
-use Rattle.node_laws.proofs.Words.{Controller, Cut, CutOff, Down, EndEvent, Ending, GaveUp, GoesOut, Got, Host, I, Inactive, IsEvent, IsLine, Link, LinkEnd}
-use Rattle.node_laws.proofs.Words.{LinkEvent, LinkInput, Lose, NextFrame, NoInput, Node, NumberedEnd, OnWire, Phase, PowerMode, Ready, Report, Reset, Restarted}
-use Rattle.node_laws.proofs.Words.{Role, Rset, S, Start, Starts, Step, Stop, Stops, SyncId, Take, TicksWithout, Turn, Ua, Uicc, act_answer, act_out, activated}
-use Rattle.node_laws.proofs.Words.{activated_role, after_input, after_link_events, aged, aged_entries, all_at_controller, by_test, ended_by, entries}
-use Rattle.node_laws.proofs.Words.{entries_of_events, event_entries, exchanged, far, finished, first_lost, frames_out, happens, happens_at_controller}
-use Rattle.node_laws.proofs.Words.{has_taken, heard, here_entries, if_so, input_entries, is_open, left_after, moved, new_line, number_of, puts_entries, renewed}
-use Rattle.node_laws.proofs.Words.{report, reset_role, rest_entries, role_after, silent, step_entries, stopped, taken_entries, tick_answer, tick_entries}
-use Rattle.node_laws.proofs.Words.{ticked, ticks_at_controller, ticks_host, told, told_of, took_with, turn_entries, turned, turned_role, whole_acked}
-use Rattle.node_laws.proofs.Words.{with_ended}
+use Rattle.node_laws.proofs.Words.{Acked, Act, ActEvent, ActOut, Activate, Active, AllAllowed, AsksReset, AtController, AtHost, Awaiting, Bare, Clf, Clt}
+use Rattle.node_laws.proofs.Words.{Control, Controller, Cut, CutOff, Down, EndEvent, Ending, GaveUp, GoesOut, Got, Host, I, Inactive, IsEvent, IsLine, Link}
+use Rattle.node_laws.proofs.Words.{LinkEnd, LinkEvent, LinkInput, Lose, NextFrame, NoInput, Node, NumberedEnd, OnWire, Phase, PowerMode, Ready, Report, Reset}
+use Rattle.node_laws.proofs.Words.{Restarted, Role, Rset, S, Sounds, Start, Starts, Step, Stop, Stops, SyncId, Take, TicksWithout, Turn, Ua, Uicc, UiccAct}
+use Rattle.node_laws.proofs.Words.{act_answer, act_event, act_out, activated, activated_role, after_input, after_link_events, aged, aged_entries}
+use Rattle.node_laws.proofs.Words.{all_at_controller, by_test, ended_by, entries, entries_of_events, event_entries, exchanged, far, finished, first_lost}
+use Rattle.node_laws.proofs.Words.{frames_out, happens, happens_at_controller, has_taken, heard, here_entries, if_so, input_entries, is_open, left_after, moved}
+use Rattle.node_laws.proofs.Words.{new_line, no_act_out, number_of, puts_entries, renewed, report, reset_role, rest_entries, role_after, silent, step_entries}
+use Rattle.node_laws.proofs.Words.{stopped, taken_entries, tick_answer, tick_entries, ticked, ticks_at_controller, ticks_host, told, told_of, took_with}
+use Rattle.node_laws.proofs.Words.{turn_entries, turned, turned_role, uicc_step, whole_acked, with_ended}
 use Rattle.swp_act.specs.declared.ActEvent.TheVariants.{Start as ActStart, Take as ActTake, Tick as ActTick, Stop as ActStop}
-use Rattle.swp_act.specs.declared.uicc.UiccAct.{UiccAct}
-use Rattle.swp_act.specs.Activation.{is_active, no_act_out, sends, uicc_step}
-use Rattle.swp_act.specs.declared.Phase.TheVariants.{Awaiting, Active as IsActive}
-use Rattle.link_laws.specs.machine.Machine.{act_event}
+use Rattle.swp_act.specs.Activation.{is_active, sends}
+use Rattle.swp_act.specs.declared.Phase.TheVariants.{Active as IsActive}
 use Rattle.link_laws.specs.machine.Machine.LinkInput.{Tick as HasTick}
 use Rattle.link_laws.specs.messages.Links.{IsOwn, AreOwn}
 use Rattle.link_laws.specs.messages.Links.LinkEvent.{Ticks}
@@ -31,7 +29,7 @@ use Rattle.link_laws.specs.entries.Entries.Entry.{Up, Tick}
 use Rattle.link_laws.specs.entries.Filters.{same_link_end}
 use Rattle.link_laws.proofs.entries.Books.{same_self, same_far}
 use Rattle.link_laws.proofs.entries.Settling.{heard_role}
-use Rattle.link_laws.proofs.entries.Running.{Sounds, before_here, before_there, IsUnderWay, goes_on, start_under_way}
+use Rattle.link_laws.proofs.entries.Running.{before_here, before_there, IsUnderWay, goes_on, start_under_way}
 use Rattle.node_laws.proofs.order.Listing.{Holds, are-append, are_so, are_mapped, are_last, are_turns, are_lost, are_puts, are_aged}
 use Rattle.node_laws.proofs.links.Ends.{here_is, tick_is, here_host, role_input}
 

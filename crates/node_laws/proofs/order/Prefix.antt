@@ -2,14 +2,13 @@
 use Rattle.std.proofs.Common.{◌≡◌, ℕ, Bool, true, false, List, [], ◌∷◌, ◌++◌, Option, Some, None, refl, ap, sym, subst, ◌∙◌}
 use Rattle.std.specs.Prelude.{◌==◌, ◌||◌}
 use Rattle.std.specs.List.{cons_option, filter, filter_map, flat_map, fold, list_any}
-use Rattle.node_laws.proofs.Words.{End, Entry, IsLine, IsLinkTold, Link, Saying, by_test, entries, entries_for, entry_of, is_of, new_line, of_link, other_end}
-use Rattle.node_laws.proofs.Words.{said, same_number, tells_of}
+use Rattle.node_laws.proofs.Words.{End, Entry, IsLine, IsLinkTold, Link, Saying, acked_after, acked_in, at_end, by_test, entries, entries_for, entry_of, got_in}
+use Rattle.node_laws.proofs.Words.{got_in_session, is_of, new_line, of_link, other_end, said, said_of, same_number, sent_by, sent_in, tells_of}
 use Rattle.trace_model.specs.declared.entry.Entry.TheVariants as entry
 use Rattle.link_laws.specs.entries.Entries.{End as Side, Entry as Noted}
 use Rattle.link_laws.specs.entries.Order.{InOrderIn}
 use Rattle.link_laws.proofs.entries.Running.{at_each_moment}
 use Rattle.link_laws.proofs.entries.Chains.{no_chain_noted}
-use Rattle.history.specs.Filters.{at_end, said_of, sent_by, sent_in, got_in_session, got_in, acked_after, acked_in}
 use Rattle.history.specs.Legal.{is_chain_fault}
 use Rattle.history.proofs.legal.Noted.{fault-all}
 use Rattle.history.proofs.legal.Ordered.{IsOneAtMost, front_given, one_entry, AtEnd, read_as, empty, order_at}

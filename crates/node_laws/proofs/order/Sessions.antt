@@ -4,16 +4,16 @@ use Rattle.std.specs.Prelude.{◌==◌, ◌&&◌, if◌then◌else◌}
 use Rattle.std.specs.List.{fold}
 use Rattle.std.proofs.lemmas.Bool.{eqb-true, true≢false}
 use Rattle.node_laws.proofs.Words.{Acked, Active, AreSessionsRead, Begins, Controller, Counts, Cut, Down, Emit, End, Entry, GaveUp, Gets, Got, Host, IsLine}
-use Rattle.node_laws.proofs.Words.{IsLinkTold, Link, Lost, Puts, Readiness, Restarted, Saying, Sent, Standing, Took, after_power, becomes_at, end_of, entries}
-use Rattle.node_laws.proofs.Words.{law_noted, lpdu_of, made_active, new_line, new_standing, no_longer_waits, said_far, said_near, same_end, same_side, standing}
-use Rattle.node_laws.proofs.Words.{standing_by_law, stands_noted, stands_said, without_power}
+use Rattle.node_laws.proofs.Words.{IsLinkTold, Link, Lost, Puts, Readiness, Restarted, Saying, Sent, Standing, Took, after_power, at_end, becomes_at, end_of}
+use Rattle.node_laws.proofs.Words.{entries, law_noted, lpdu_of, made_active, new_line, new_standing, no_longer_waits, said_far, said_near, same_end, same_side}
+use Rattle.node_laws.proofs.Words.{standing, standing_by_law, stands_noted, stands_said, without_power}
 use Rattle.trace_model.specs.declared.entry.Entry.TheVariants as entry
 use Rattle.link_laws.specs.entries.Entries.{End as Side, Entry as Noted}
 use Rattle.link_laws.specs.entries.Entries.Entry.{Up, Tick}
 use Rattle.link_laws.specs.entries.Filters.{same_link_end as same_in}
 use Rattle.link_laws.specs.entries.Sessions.{hear, number_now as session_at}
 use Rattle.link_laws.proofs.entries.Heard.{controller_heard, host_heard}
-use Rattle.history.specs.Filters.{at_end, session_after}
+use Rattle.history.specs.Filters.{session_after}
 use Rattle.history.specs.Filters.Saying.{Ends, Sends, Takes, Loses}
 use Rattle.history.proofs.legal.Noted.{same_as, if_said}
 

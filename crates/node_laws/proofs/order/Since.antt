@@ -6,9 +6,8 @@ use Rattle.std.specs.List.{list_any}
 use Rattle.std.proofs.lemmas.Bool.{true≢false, ltb-true, ltb-false}
 use Rattle.shdlc_core.specs.declared.answers.LinkState.TheVariants.{Up as IsUpNow}
 use Rattle.node_laws.proofs.Words.{AllAllowed, Good, IsEvent, IsLine, Link, LinkEvent, NumberedEnd, Reached, Seen, after_link_events, begins, by_test, core_end}
-use Rattle.node_laws.proofs.Words.{core_event, core_of, entries, event_entries, happens, kept, new_line, number_of, see_all, silences}
-use Rattle.link_laws.proofs.messages.Runs.{event_step, reached_more}
-use Rattle.link_laws.proofs.messages.Whole.{start_good, start_reached}
+use Rattle.node_laws.proofs.Words.{core_event, core_of, entries, event_entries, event_step, happens, kept, new_line, number_of, reached_more, see_all, silences}
+use Rattle.node_laws.proofs.Words.{start_good, start_reached}
 use Rattle.link_laws.specs.entries.Entries.{Entry}
 use Rattle.link_laws.specs.entries.Quiet.{since}
 use Rattle.link_laws.specs.entries.Reading.{nothing_seen}

@@ -9,9 +9,9 @@ use Rattle.node_laws.proofs.Words.{Acked, Act, Active, Asked, AsksReset, Cause, 
 use Rattle.node_laws.proofs.Words.{FindsReady, GaveUp, GoesOut, Got, Host, I, IsRunOf, Link, LinkEnd, LinkEvent, LinkInput, LinkState, Lost, Node, Refused}
 use Rattle.node_laws.proofs.Words.{Report, Reset, Restarted, Rset, S, Step, TicksWithout, Turn, Ua, act_answer, after_input, aged, aged_entries}
 use Rattle.node_laws.proofs.Words.{behind_reset_of, by_test, cuts_on, end_c, end_h, end_of, ended_by, entries_for, event_entries, exchanged, frames_out}
-use Rattle.node_laws.proofs.Words.{happens, happens_at_controller, if_so, if_up, is_open, is_own_reset, is_rset, lost_as, lpdu_of, number_of, of_link, or_none}
-use Rattle.node_laws.proofs.Words.{puts_entries, report, reset_refusal, rest_entries, runs_timer, said, same_number, step_entries, tells_of, tick_answer}
-use Rattle.node_laws.proofs.Words.{tick_entries, ticks_at_controller, told, told_of, turn_entries, turned, whole_acked, with_ended}
+use Rattle.node_laws.proofs.Words.{happens, happens_at_controller, if_so, if_up, is_open, is_own_reset, is_reset_down, is_rset, lost_as, lpdu_of, number_of}
+use Rattle.node_laws.proofs.Words.{of_link, or_none, puts_entries, report, reset_refusal, rest_entries, runs_timer, said, same_number, step_entries, tells_of}
+use Rattle.node_laws.proofs.Words.{tick_answer, tick_entries, ticks_at_controller, told, told_of, turn_entries, turned, whole_acked, with_ended}
 use Rattle.trace_model.specs.declared.entry.Entry.TheVariants as entry
 use Rattle.swp_base.specs.declared.link_terms.Cause.TheVariants.{Act as ByAct}
 use Rattle.swp_act.specs.declared.ActEvent.TheVariants.{Tick as ActTick}
@@ -24,7 +24,6 @@ use Rattle.link_laws.specs.entries.Entries.Entry.{Up, Tick}
 use Rattle.link_laws.specs.entries.Settled.{withholds}
 use Rattle.node_laws.specs.order.Resets.{asks_at}
 use Rattle.node_laws.proofs.order.Withheld.{loses_one_on}
-use Rattle.node_laws.specs.answers.Unasked.{is_reset_down}
 use Rattle.node_laws.proofs.telling.Reported.{rest_all}
 use Rattle.node_laws.proofs.telling.Accounts.{untold}
 use Rattle.node_laws.proofs.telling.WorldTicks.{tick_event}

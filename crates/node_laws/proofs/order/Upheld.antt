@@ -3,11 +3,11 @@ use Rattle.std.proofs.Common.{◌≡◌, ℕ, ◌==◌, Bool, true, false, cond,
 use Rattle.std.proofs.Common.{◌++◌, Option, Some, refl, ap, sym, subst, ◌∙◌, append-nil, append_assoc}
 use Rattle.std.specs.List.{fold, list_any}
 use Rattle.std.proofs.lemmas.Bool.{eqb-true, true≢false}
-use Rattle.node_laws.proofs.Words.{Activates, AreHosts, ArePlayable, Controller, End, Entry, FollowsNodes, Happening, Header, Host, Line, Link, NodeHistory}
-use Rattle.node_laws.proofs.Words.{NodeWorld, Occurrence, Readiness, Resets, Site, Standing, as_event_begins, as_event_ends, behind_reset_of, by_option}
-use Rattle.node_laws.proofs.Words.{by_test, cuts_on, end_c, entries_in, hosts_in, new_standing, new_world, occurrences_in, of_link, or_none, other_end}
-use Rattle.node_laws.proofs.Words.{readiness_of, said, same_number, site_at, standing, stands_noted, tells_of, without_power, world_behind, world_step}
-use Rattle.node_laws.proofs.Words.{world_ticks}
+use Rattle.node_laws.proofs.Words.{Activates, AreHosts, ArePlayable, Controller, End, Entry, FollowsNodes, Happening, Header, Host, IsUpheld, Line, Link}
+use Rattle.node_laws.proofs.Words.{NodeHistory, NodeWorld, Occurrence, Readiness, Resets, Site, Standing, as_event_begins, as_event_ends, behind_reset_of}
+use Rattle.node_laws.proofs.Words.{by_option, by_test, cuts_on, end_c, entries_in, hosts_in, new_standing, new_world, occurrences_in, of_link, or_none}
+use Rattle.node_laws.proofs.Words.{other_end, readiness_of, said, same_number, site_at, standing, stands_noted, tells_of, without_power, world_behind}
+use Rattle.node_laws.proofs.Words.{world_step, world_ticks}
 use Rattle.trace_model.specs.declared.entry.Entry.TheVariants as entry
 use Rattle.history.specs.Follows.{machine_of}
 use Rattle.node_laws.specs.telling.Standing.{standing_behind}
@@ -15,7 +15,7 @@ use Rattle.node_laws.proofs.telling.Accounts.{of-append}
 use Rattle.node_laws.proofs.telling.Powers.{other_said}
 use Rattle.node_laws.proofs.telling.Lasting.{occurs}
 use Rattle.node_laws.specs.order.Told.{AreBothUp}
-use Rattle.node_laws.specs.order.Resets.{withheld_in, withholds_in, opens_on, ready_at, IsLeftAlone, IsUpheld, ResetNodes}
+use Rattle.node_laws.specs.order.Resets.{withheld_in, withholds_in, opens_on, ready_at, IsLeftAlone, ResetNodes}
 use Rattle.node_laws.specs.order.Resets.{IsUpheldInTick, TickResetNodes}
 use Rattle.node_laws.proofs.order.Withheld.{AreBelieved, event_believed, loses_one_on, none_lost_behind, none_withheld_on, withholds_on}
 use Rattle.node_laws.proofs.order.Ticking.{ticked_since}

@@ -8,12 +8,11 @@ use Rattle.node_laws.proofs.Words.{Ending, Entry, FetchMessage, GaveUp, Gets, Gi
 use Rattle.node_laws.proofs.Words.{LinkEvent, Lost, Node, OnWire, Puts, Release, Reset, Restarted, Role, Saying, Seen, Sent, Session, SetAside, Standing}
 use Rattle.node_laws.proofs.Words.{Starts, Step, Stops, Took, Turn, Uicc, after_link_events, aged, aged_entries, aside_refusal, becomes_at, by_option, end_of}
 use Rattle.node_laws.proofs.Words.{entries, event_entries, exchanged, frames_on, frames_out, happens, inactive, kept, law_noted, lpdu_of, made_active, new_line}
-use Rattle.node_laws.proofs.Words.{no_longer_waits, no_session, readiness_of, said_far, said_near, same_number, see, see_all, silent, standing, standing_by_law}
-use Rattle.node_laws.proofs.Words.{stands_said, started, step_entries, tick_entries, turn, turned}
+use Rattle.node_laws.proofs.Words.{no_longer_waits, no_session, put_all, readiness_of, said_far, said_near, same_number, see, see_all, silent, standing}
+use Rattle.node_laws.proofs.Words.{standing_by_law, stands_said, started, step_entries, tick_entries, turn, turned}
 use Rattle.shdlc_core.specs.declared.answers.LinkState.TheVariants.{Down as IsDown}
 use Rattle.shdlc_core.specs.Machine.{frame_due, with_ready}
 use Rattle.link_laws.specs.sessions.Sessions.{older}
-use Rattle.link_laws.specs.messages.Links.{put_all}
 use Rattle.link_laws.specs.entries.Entries.{End as Side, Entry as Noted}
 use Rattle.link_laws.specs.entries.Entries.Entry.{Up, Tick}
 use Rattle.link_laws.specs.entries.Reading.{nothing_seen}

@@ -2,30 +2,18 @@
 use Rattle.std.proofs.Common.{◌≡◌, ℕ, ◌==◌, Bool, true, false, cond, List, [], ◌∷◌, ◌++◌, map, refl, ap, sym, ◌∙◌, append_assoc, append-nil}
 use Rattle.std.specs.List.{flat_map}
 use Rattle.registry.proofs.ValueLemmas.{AllByRecursion-append as all_append}
-use Rattle.trace_model.specs.declared.entry.Entry.{Entry}
-use Rattle.link_laws.specs.entries.Entries.{Entry as Told, told}
-use Rattle.link_laws.specs.entries.Entries.Entry.{Tick, Restarted, Cut}
-use Rattle.history.specs.Steps.{entry_of, entries_for}
-use Rattle.node_machine.specs.Parts.{Creation, Port, Work, Deed}
-use Rattle.node_machine.specs.Parts.Deed.{Releases}
-use Rattle.link_laws.specs.machine.Machine.Turn.{Release}
-use Rattle.node_machine.specs.Carrying.{unless_cut, changed_if, with_port, after_turn, turn_at, all_done}
-use Rattle.node_laws.specs.kept.Books.{hosts_of_ends}
-use Rattle.node_laws.proofs.All.{all_flat}
-use Rattle.node_laws.proofs.Cases.{by_test}
+use Rattle.node_laws.proofs.Words.{AreNoTurns, AtEnd, Creation, Cut, Deed, Entry, IsNoTurn, NodeInput, Port, Release, Releases, Restarted, TimePasses, Work}
+use Rattle.node_laws.proofs.Words.{after_sessions, after_turn, all_come, all_done, all_flat, by_test, changed_if, comes_to_pass, entries_for, entry_of, forgets}
+use Rattle.node_laws.proofs.Words.{forgotten, has_come, has_come_so, has_freed, has_synced, hosts_of_ends, input_at, is_late, noted_before_pass, noted_by_deeds}
+use Rattle.node_laws.proofs.Words.{owed_in_step, passes, reset_late, steps, syncs_in, told, told_at, told_of_coming, told_of_late, turn_at, unless_cut}
+use Rattle.node_laws.proofs.Words.{with_older, with_port, without_notice}
+use Rattle.link_laws.specs.entries.Entries.{Entry as Told}
+use Rattle.link_laws.specs.entries.Entries.Entry.{Tick}
 use Rattle.node_laws.proofs.kept.Plainly.{hosts_map}
 use Rattle.node_laws.proofs.steps.Ports.{come_host, forgets_host, changed_host, without_host}
 use Rattle.node_laws.proofs.telling.Mute.{AreMute, forgotten_mute, all_owed_mute, all_synced_mute}
 use Rattle.node_laws.proofs.telling.Walks.{every_do}
 use Rattle.node_laws.proofs.steps.StepWalks.{unless}
-use Rattle.node_machine.specs.Turns.{passes}
-use Rattle.node_machine.specs.Node.{NodeInput, input_at, has_come, told_at, all_come, with_older, is_late, reset_late, forgotten, after_sessions}
-use Rattle.node_machine.specs.Node.{forgets, without_notice, steps}
-use Rattle.node_machine.specs.Node.NodeInput.{AtEnd, TimePasses}
-use Rattle.node_laws.specs.passes.Noting.{noted_by_deeds}
-use Rattle.node_laws.specs.passes.Passing.{IsNoTurn, AreNoTurns}
-use Rattle.node_laws.specs.passes.Steps.{has_come_so, told_of_late, told_of_coming, syncs_in, owed_in_step, has_freed, has_synced, comes_to_pass}
-use Rattle.node_laws.specs.passes.Steps.{noted_before_pass}
 use Rattle.node_laws.proofs.passes.Coming.{coming_all}
 use Rattle.node_laws.proofs.passes.Notes.{deeds_note}
 use Rattle.node_laws.proofs.passes.Turnless.{synced_none, owed_none}

@@ -4,18 +4,12 @@ use Rattle.std.proofs.Common.{append-nil}
 use Rattle.std.specs.List.{AllByRecursion}
 use Rattle.std.proofs.lemmas.Bool.{true≢false}
 use Rattle.std.proofs.lemmas.List.Elements.{filter_map-append}
-use Rattle.trace_model.specs.declared.entry.Entry.{Entry}
+use Rattle.node_laws.proofs.Words.{AreAlong, ArePassed, Deed, Desk, Entry, FetchMessage, Hold, IsBehind, LastsOverTurns, Message, Port, Work, after_turn}
+use Rattle.node_laws.proofs.Words.{by_option, by_test, deeds_of, end_of_node, goes_through_ends, handles, have_turns, holds_back, is_held_at, lacking, lets_go}
+use Rattle.node_laws.proofs.Words.{link_of_turn, links_of_turns, noted_by_deeds, noting, takes_up, turn_at, unless_cut, waiting_at, with_desk}
 use Rattle.trace_model.specs.declared.entry.Entry.TheVariants as entry
-use Rattle.link_laws.specs.machine.Machine.{Message}
-use Rattle.link_laws.specs.machine.Machine.Turn.{Hold, FetchMessage}
-use Rattle.node_machine.specs.Parts.{Desk, Port, Work, Deed}
-use Rattle.node_machine.specs.Carrying.{noting, unless_cut, with_desk, after_turn, turn_at, end_of_node}
-use Rattle.node_machine.specs.Turns.{deeds_of, handles, holds_back, lets_go, have_turns, goes_through_ends}
-use Rattle.node_laws.proofs.Cases.{by_test, by_option}
 use Rattle.node_laws.proofs.steps.StepWalks.{unless as unless_lost}
-use Rattle.node_laws.specs.passes.Noting.{noted_by_deeds}
-use Rattle.node_laws.specs.passes.Passing.{link_of_turn, AreAlong, links_of_turns, waiting_at, is_held_at, lacking, takes_up, LastsOverTurns, ArePassed, Stays}
-use Rattle.node_laws.specs.passes.Passing.{IsBehind}
+use Rattle.node_laws.specs.passes.Passing.{Stays}
 use Rattle.node_laws.proofs.passes.Ends.{Sees, SeesAt, HasFirst, has_first, own_changed, other_stays, turn_sees, deeds_see, lets_see}
 use Rattle.node_laws.proofs.passes.Turnless.{reply_none}
 use Rattle.node_laws.proofs.passes.Walking.{no_links}

@@ -2,18 +2,10 @@
 use Rattle.std.proofs.Common.{ℕ, map, Option, Some, None}
 use Rattle.std.specs.List.{AllByRecursion, flat_map}
 use Rattle.registry.proofs.ValueLemmas.{AllByRecursion-append as all_append}
-use Rattle.trace_model.specs.declared.entry.Entry.{Entry}
-use Rattle.link_laws.specs.machine.Machine.{LinkInput, Report, report, whole_acked, after_input}
-use Rattle.link_laws.specs.machine.Machine.LinkInput.{Reset}
-use Rattle.link_laws.specs.entries.Entries.{End as Side, told}
-use Rattle.history.specs.Steps.{entries_for}
-use Rattle.node_machine.specs.Parts.{Core, Port, Work}
-use Rattle.node_machine.specs.Carrying.{own_side}
-use Rattle.node_machine.specs.Node.{NodeInput, input_at, told_at, all_come, with_older, is_late, told_late}
-use Rattle.node_machine.specs.Node.NodeInput.{AtEnd, TimePasses}
-use Rattle.node_laws.specs.passes.Steps.{told_of_coming, told_of_late}
-use Rattle.node_laws.proofs.Cases.{by_test}
-use Rattle.node_laws.proofs.All.{all_flat}
+use Rattle.node_laws.proofs.Words.{AtEnd, Core, Entry, LinkInput, NodeInput, Port, Report, Reset, TimePasses, Work, after_input, all_come, all_flat, by_test}
+use Rattle.node_laws.proofs.Words.{entries_for, input_at, is_late, own_side, report, told, told_at, told_late, told_of_coming, told_of_late, whole_acked}
+use Rattle.node_laws.proofs.Words.{with_older}
+use Rattle.link_laws.specs.entries.Entries.{End as Side}
 
 module _ (P : Entry → Type 0) (told_one : (h : ℕ) (who : Side) (n acked : ℕ) (r : Report) → AllByRecursion P (entries_for h (told who n r acked))) where
   at_one : (core : Core) (p : Port) (o : Option LinkInput) → AllByRecursion P (told_at core p o)

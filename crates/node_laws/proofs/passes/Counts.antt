@@ -1,23 +1,10 @@
 -- The commands of a reply are counted one by one, and its entries are made of sessions and a count.
 use Rattle.std.proofs.Common.{◌≡◌, ℕ, ◌≤◌, false, List, [], ◌∷◌, Option, Some, None, refl, ◌∙◌, arith}
 use Rattle.trace_model.specs.declared.entry.Entry.TheVariants as entry
-use Rattle.journal_laws.specs.declared.state.State.{State}
-use Rattle.journal_laws.specs.Journal.{count_of}
-use Rattle.hci_tables.specs.Bodies.{body_of}
-use Rattle.hci_tables.specs.Tables.{HciTables, AreTables, apply}
-use Rattle.hci_store.specs.Committing.{committed}
-use Rattle.hci_store.specs.Recordable.{IsRecordable}
-use Rattle.link_laws.specs.machine.Machine.{Message}
-use Rattle.link_laws.specs.machine.Machine.Turn.{FetchMessage}
-use Rattle.node_machine.specs.Parts.{Init, Work, Deed}
-use Rattle.node_machine.specs.Parts.Deed.{Commits, Asks, Orders, Hears, GoesOn, Ends}
-use Rattle.node_machine.specs.Carrying.{noting, turn_at, end_of_node, needs, lack}
-use Rattle.node_machine.specs.Turns.{handles}
-use Rattle.node_laws.specs.kept.Finds.{Knows}
-use Rattle.node_laws.specs.kept.Deeds.{MayBeDone}
+use Rattle.node_laws.proofs.Words.{AreTables, AreTaken, Asks, Commits, CountsCommands, Deed, Ends, FetchMessage, GiveOnce, GoesOn, HciTables, Hears, Init}
+use Rattle.node_laws.proofs.Words.{IsNoneOf, IsRecordable, IsReplyNoted, Knows, MayBeDone, Message, Orders, State, Work, apply, body_of, committed, count_of}
+use Rattle.node_laws.proofs.Words.{end_of_node, entries_of_reply, handles, lack, needs, noted_by_deeds, noting, session_of_port, takes_up, turn_at}
 use Rattle.node_laws.proofs.kept.Commits.{commit_count}
-use Rattle.node_laws.specs.passes.Noting.{noted_by_deeds, session_of_port, entries_of_reply, CountsCommands, AreTaken, IsNoneOf, GiveOnce, IsReplyNoted}
-use Rattle.node_laws.specs.passes.Passing.{takes_up}
 use Rattle.node_laws.proofs.passes.Replying.{noted_so, turn_sessions, desk_sessions}
 use Rattle.node_laws.proofs.passes.Roomy.{spare_of, all_taken, desk_spare, fetch_spare}
 

@@ -4,22 +4,16 @@ use Rattle.std.specs.Prelude.{◌+◌}
 use Rattle.std.specs.Option.{option_map_or}
 use Rattle.std.proofs.lemmas.Bool.{eqb-true, eq-eqb, true≢false}
 use Rattle.trace_model.specs.declared.entry.Entry.TheVariants as entry
-use Rattle.hci_tables.specs.declared.command.Command.{Command}
-use Rattle.link_laws.specs.machine.Machine.{Message, LinkEnd, Refused, Turn, turn, unless, give_refusal, aside_refusal, given, is_held}
-use Rattle.link_laws.specs.machine.Machine.Turn.{Give, Hold, FetchMessage, SetAside, Release}
-use Rattle.node_machine.specs.Parts.{About, Desk, Port, Work, Deed}
-use Rattle.node_machine.specs.Parts.About.{Waits, Removed}
-use Rattle.node_machine.specs.Parts.Deed.{Commits, Sends, Asks, Releases, Tells, IsAnswered, SetsErrors, Orders}
-use Rattle.node_machine.specs.Carrying.{noting, port_at, changed_if, with_port, with_desk, after_turn, turn_at, notified, commit, done, all_done}
-use Rattle.node_machine.specs.Turns.{lets_go}
-use Rattle.node_laws.proofs.Cases.{by_option, by_test}
+use Rattle.node_laws.proofs.Words.{About, Asks, Command, Commits, Deed, Desk, FetchMessage, Give, Hold, IsAnswered, LinkEnd, Message, Orders, Port, Refused}
+use Rattle.node_laws.proofs.Words.{Release, Releases, Removed, Sends, SetAside, SetsErrors, Tells, Turn, Waits, Work, after_turn, all_done, aside_refusal}
+use Rattle.node_laws.proofs.Words.{by_option, by_test, changed_if, commit, done, give_refusal, goes_in, is_held, lets_go, notified, noting, port_at, turn}
+use Rattle.node_laws.proofs.Words.{turn_at, waiting_at, with_desk, with_port}
+use Rattle.link_laws.specs.machine.Machine.{unless, given}
 use Rattle.node_laws.proofs.steps.Ports.{changed_host}
 use Rattle.node_laws.proofs.telling.Accounts.{at_host}
 use Rattle.node_laws.proofs.telling.Away.{at_map, none_map}
 use Rattle.node_laws.proofs.telling.Walks.{IsNoFetch}
 use Rattle.node_laws.proofs.steps.StepWalks.{unless as unless_lost}
-use Rattle.node_laws.specs.passes.Noting.{goes_in}
-use Rattle.node_laws.specs.passes.Passing.{waiting_at}
 
 -- these messages wait there, and whether the first one was noted as held
 abbrev pub Sees : List Message → Bool → Option Port → Type 0

@@ -2,16 +2,10 @@
 use Rattle.std.proofs.Common.{◌≡◌, ℕ, List, [], ◌∷◌, ◌++◌, map, sym, subst, ap, ◌∙◌, append_assoc, append-nil}
 use Rattle.std.specs.List.{AllByRecursion, flat_map}
 use Rattle.std.specs.Option.{option_map_or}
-use Rattle.trace_model.specs.declared.entry.Entry.{Entry}
+use Rattle.node_laws.proofs.Words.{Deed, Entry, FetchMessage, Hold, NodeInput, Port, Work, after_sessions, all_come, all_done, all_owed, anyone, end_of_node}
+use Rattle.node_laws.proofs.Words.{forgets, forgotten, noted_by_deed, noted_of, port_at, steps, synced, times_out, told_of_coming, without_notice}
 use Rattle.trace_model.specs.declared.entry.Entry.TheVariants as entry
-use Rattle.link_laws.specs.machine.Machine.Turn.{Hold, FetchMessage}
-use Rattle.node_machine.specs.Parts.{Port, Work, Deed}
-use Rattle.node_machine.specs.Carrying.{port_at, noted_of, end_of_node, all_done}
-use Rattle.node_machine.specs.Node.{NodeInput, all_come, times_out, forgets, forgotten, after_sessions, without_notice, synced, all_owed, steps}
-use Rattle.node_machine.proofs.Walks.{anyone}
 use Rattle.node_laws.proofs.steps.StepWalks.{Lasts, rest_lasts, all_last}
-use Rattle.node_laws.specs.passes.Noting.{noted_by_deed}
-use Rattle.node_laws.specs.passes.Steps.{told_of_coming}
 use Rattle.registry.proofs.ValueLemmas.{AllByRecursion-append as all_append}
 use Rattle.node_laws.proofs.passes.Kinds.{IsOfDeed, NotesOnly, turn_notes, causes_note, forgotten_note, owed_note, synced_note}
 use Rattle.node_laws.proofs.passes.Notes.{deed_notes}

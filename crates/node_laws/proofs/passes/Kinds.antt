@@ -2,26 +2,12 @@
 use Rattle.std.proofs.Common.{ℕ, Bool, true, false, cond, eqb, ◌&&◌, List, [], ◌∷◌, Option, Some, None}
 use Rattle.std.specs.List.{AllByRecursion, flat_map}
 use Rattle.std.specs.Option.{option_map_or}
-use Rattle.trace_model.specs.declared.entry.Entry.{Entry}
+use Rattle.node_laws.proofs.Words.{Asks, Command, Commits, Core, Creation, Deed, Entry, Give, Message, NodeInput, OfHost, Plain, Port, Refused, SetAside, Sync}
+use Rattle.node_laws.proofs.Words.{Tells, Turn, Work, all_of_host, all_owed, all_owed_hold, all_synced_hold, answer_of, any_of_controller, beginning, by_test}
+use Rattle.node_laws.proofs.Words.{count_of, deeds_hold, deeds_of, end_of, end_of_node, entries_for, forgotten, forgotten_hold, give_refusal, goes_in}
+use Rattle.node_laws.proofs.Words.{is_command_message, noted_by_deed, noted_of, own_side, port_at, sending, sent_unless, synced, turn_at}
 use Rattle.trace_model.specs.declared.entry.Entry.TheVariants as entry
-use Rattle.journal_laws.specs.Journal.{count_of}
-use Rattle.hci_tables.specs.declared.command.Command.{Command}
-use Rattle.hci_tables.specs.declared.command.Command.TheVariants.{Sync}
-use Rattle.gate_answers.specs.Answers.{answer_of}
-use Rattle.link_laws.specs.machine.Machine.{Message, Refused, Turn, give_refusal}
-use Rattle.link_laws.specs.machine.Machine.Turn.{Give, SetAside}
-use Rattle.link_laws.specs.entries.Entries.{End as Side, sent_unless}
-use Rattle.history.specs.Steps.{end_of, entries_for}
-use Rattle.node_machine.specs.Parts.{Creation, Core, Port, Work, Deed}
-use Rattle.node_machine.specs.Parts.Deed.{Commits, Asks, Tells}
-use Rattle.node_machine.specs.Controller.{is_command_message}
-use Rattle.node_machine.specs.Carrying.{own_side, port_at, noted_of, turn_at, end_of_node}
-use Rattle.node_machine.specs.Turns.{deeds_of}
-use Rattle.node_machine.specs.Node.{NodeInput, all_owed, synced, forgotten}
-use Rattle.node_machine.specs.world.World.{sending, beginning}
-use Rattle.node_machine.proofs.Walks.{Plain, OfHost, any_of_controller, all_of_host, deeds_hold, all_owed_hold, all_synced_hold, forgotten_hold}
-use Rattle.node_laws.specs.passes.Noting.{goes_in, noted_by_deed}
-use Rattle.node_laws.proofs.Cases.{by_test}
+use Rattle.link_laws.specs.entries.Entries.{End as Side}
 
 -- an entry of a kind that deeds note
 abbrev pub IsOfDeed : Entry → Type 0

@@ -1,15 +1,10 @@
 -- What deeds note, and what they leave as it is.
 use Rattle.std.proofs.Common.{◌≡◌, ℕ, List, [], ◌∷◌, ◌++◌, Option, Some, None, refl, ap, sym, ◌∙◌, append_assoc, append-nil}
 use Rattle.std.specs.Option.{option_map_or}
-use Rattle.trace_model.specs.declared.entry.Entry.{Entry}
+use Rattle.node_laws.proofs.Words.{Asks, Command, Commits, Core, Deed, Entry, Give, GoesOn, Hears, IsAnswered, Port, Release, Releases, SetAside, SetsErrors}
+use Rattle.node_laws.proofs.Words.{Work, all_done, by_test, commit, done, goes_in, noted_by_deed, noted_by_deeds, noted_of, port_at, turn_at}
 use Rattle.trace_model.specs.declared.entry.Entry.TheVariants as entry
-use Rattle.hci_tables.specs.declared.command.Command.{Command}
-use Rattle.link_laws.specs.machine.Machine.Turn.{Give, SetAside, Release}
-use Rattle.node_machine.specs.Parts.{Core, Port, Work, Deed}
-use Rattle.node_machine.specs.Parts.Deed.{Commits, Asks, Releases, IsAnswered, SetsErrors, Hears, GoesOn}
-use Rattle.node_machine.specs.Carrying.{port_at, noted_of, turn_at, commit, done, all_done}
-use Rattle.node_laws.specs.passes.Noting.{noted_at, goes_in, noted_by_deed, noted_by_deeds}
-use Rattle.node_laws.proofs.Cases.{by_test}
+use Rattle.node_laws.specs.passes.Noting.{noted_at}
 
 -- a block that is set aside or released isn't noted
 aside_none : (core : Core) (o : Option Port) → option_map_or (noted_of core SetAside) o [] ≡ []

@@ -4,18 +4,12 @@ use Rattle.std.proofs.Common.{append-nil}
 use Rattle.std.specs.Prelude.{drop}
 use Rattle.std.specs.Option.{option_map_or}
 use Rattle.std.proofs.lemmas.Bool.{true≢false}
-use Rattle.trace_model.specs.declared.entry.Entry.{Entry}
+use Rattle.node_laws.proofs.Words.{AreAlong, ArePassed, BeginWithTurn, ComesTo, Core, Deed, Entry, FetchMessage, Handles, Hold, IsTurnSo, LastsOverTurns}
+use Rattle.node_laws.proofs.Words.{LetsGo, Message, Port, Work, after_turn, by_list, by_option, by_test, deeds_of, end_of_node, goes_through_ends, handles}
+use Rattle.node_laws.proofs.Words.{have_turns, holds_back, is_held, is_held_at, lacking, lets_go, links_of_turns, noted_by_deeds, noted_of, noting, port_at}
+use Rattle.node_laws.proofs.Words.{takes_up, turn_at, unless_cut, waiting_at, with_desk}
 use Rattle.trace_model.specs.declared.entry.Entry.TheVariants as entry
-use Rattle.link_laws.specs.machine.Machine.{Message, is_held}
-use Rattle.link_laws.specs.machine.Machine.Turn.{Hold, FetchMessage}
-use Rattle.node_machine.specs.Parts.{Core, Port, Work, Deed}
-use Rattle.node_machine.specs.Carrying.{noting, unless_cut, port_at, noted_of, with_desk, after_turn, turn_at, end_of_node}
-use Rattle.node_machine.specs.Turns.{deeds_of, handles, holds_back, lets_go, have_turns, goes_through_ends}
-use Rattle.node_laws.specs.passes.Noting.{noted_by_deeds}
-use Rattle.node_laws.specs.passes.Passing.{BeginWithTurn, AreAlong, links_of_turns, waiting_at, is_held_at, lacking, takes_up, LastsOverTurns, ComesTo}
-use Rattle.node_laws.specs.passes.Passing.{IsTurnSo, ArePassed}
-use Rattle.node_laws.specs.passes.Passing.ComesTo.{Begins, Handles, Holds, LetsGo}
-use Rattle.node_laws.proofs.Cases.{by_list, by_option, by_test}
+use Rattle.node_laws.specs.passes.Passing.ComesTo.{Begins, Holds}
 use Rattle.node_laws.proofs.passes.Notes.{deeds_note}
 use Rattle.node_laws.proofs.passes.Ends.{HasFirst, has_first, own_changed, deeds_see, SeesAt, Sees}
 use Rattle.node_laws.proofs.passes.Turnless.{reply_none}

@@ -2,29 +2,17 @@
 use Rattle.std.proofs.Common.{◌≡◌, ℕ, ◌==◌, Bool, true, false, cond, List, [], ◌∷◌, ◌++◌, Option, Some, None, map, refl, ap, sym, subst, ◌∙◌, append_assoc}
 use Rattle.std.specs.Option.{option_map_or, option_and_then}
 use Rattle.std.proofs.lemmas.Bool.{eqb-true}
-use Rattle.trace_model.specs.declared.entry.Entry.{Entry}
+use Rattle.node_laws.proofs.Words.{About, AreTaken, Asks, Command, Commits, Core, CountsCommands, Deed, Desk, Drops, Ends, Entry, Give, GoesOn, Hears}
+use Rattle.node_laws.proofs.Words.{IsAnswered, IsReplyNoted, LinkState, Message, Orders, Port, Release, Releases, Removed, SaysOk, Sends, SetAside, SetsErrors}
+use Rattle.node_laws.proofs.Words.{TakesMessage, Tells, Turn, Up, Waiting, Waits, Work, Write, after_turn, all_done, body_of, by_option, by_test, changed_if}
+use Rattle.node_laws.proofs.Words.{commit, commit_writes, count_of, done, end_of_node, entries_of_reply, give_refusal, goes_in, is_up, keeps, loses_power}
+use Rattle.node_laws.proofs.Words.{next_count, noted_by_deed, noted_by_deeds, noted_of, notified, noting, port_at, sent_in_session, session_of_port, turn_at}
+use Rattle.node_laws.proofs.Words.{with_desk}
 use Rattle.trace_model.specs.declared.entry.Entry.TheVariants as entry
-use Rattle.shdlc_core.specs.declared.answers.LinkState.{LinkState}
-use Rattle.shdlc_core.specs.declared.answers.LinkState.TheVariants.{Down, Waiting, Up}
-use Rattle.journal_laws.specs.Journal.{count_of}
-use Rattle.hci_tables.specs.declared.command.Command.{Command}
-use Rattle.hci_tables.specs.Bodies.{body_of}
-use Rattle.journal_laws.specs.Writes.{Write}
-use Rattle.hci_store.specs.Committing.{commit_writes}
-use Rattle.link_laws.specs.sessions.Sessions.{is_up}
-use Rattle.link_laws.specs.machine.Machine.{Message, Turn, give_refusal}
-use Rattle.link_laws.specs.machine.Machine.Turn.{Give, SetAside, Release}
-use Rattle.node_machine.specs.Parts.{About, Desk, Core, Port, Work, Deed}
-use Rattle.node_machine.specs.Parts.About.{Waits, Removed}
-use Rattle.node_machine.specs.Parts.Deed.{Commits, Sends, SaysOk, Asks, Releases, Tells, IsAnswered, Drops, SetsErrors, Orders, Hears, GoesOn, Ends}
-use Rattle.node_machine.specs.Carrying.{noting, port_at, changed_if, with_desk, after_turn, noted_of, turn_at, notified, loses_power, keeps, commit, done}
-use Rattle.node_machine.specs.Carrying.{all_done, end_of_node}
-use Rattle.node_laws.proofs.Cases.{by_option, by_test}
+use Rattle.shdlc_core.specs.declared.answers.LinkState.TheVariants.{Down}
 use Rattle.node_laws.proofs.steps.Ports.{changed_host}
 use Rattle.node_laws.proofs.telling.Accounts.{at_host}
 use Rattle.node_laws.proofs.telling.Away.{at_map, none_map}
-use Rattle.node_laws.specs.passes.Noting.{goes_in, noted_by_deed, noted_by_deeds, session_of_port, sent_in_session, next_count, entries_of_reply}
-use Rattle.node_laws.specs.passes.Noting.{CountsCommands, TakesMessage, AreTaken, IsReplyNoted}
 use Rattle.node_laws.proofs.links.Noticing.{turn-phase}
 
 -- ## Sessions

@@ -4,18 +4,12 @@ use Rattle.std.specs.Prelude.{nat_lt}
 use Rattle.std.specs.Option.{option_map_or}
 use Rattle.std.proofs.lemmas.Bool.{ltb-false, le-ltb}
 use Rattle.trace_model.specs.declared.entry.Entry.TheVariants as entry
-use Rattle.shdlc_core.specs.declared.answers.LinkState.TheVariants.{Up}
-use Rattle.hci_tables.specs.declared.command.Command.{Command}
-use Rattle.link_laws.specs.machine.Machine.{Message, LinkEnd, Turn, give_refusal, need, spare, in_use}
-use Rattle.link_laws.specs.machine.Machine.Turn.{Give, FetchMessage, SetAside, Release}
-use Rattle.node_machine.specs.Parts.{About, Desk, Port, Work, Deed}
-use Rattle.node_machine.specs.Parts.About.{Waits, Removed}
-use Rattle.node_machine.specs.Parts.Deed.{Commits, Sends, SaysOk, Asks, Releases, Tells, IsAnswered, Drops, SetsErrors, Orders, Hears, GoesOn, Ends}
-use Rattle.node_machine.specs.Carrying.{noting, port_at, changed_if, with_desk, after_turn, turn_at, notified, commit, done, needs, lack}
-use Rattle.node_laws.proofs.Cases.{by_option, by_test}
+use Rattle.node_laws.proofs.Words.{About, AreTaken, Asks, Command, Commits, Deed, Desk, Drops, Ends, FetchMessage, Give, GiveOnce, GoesOn, Hears, IsAnswered}
+use Rattle.node_laws.proofs.Words.{IsNoneOf, LinkEnd, Message, Orders, Port, Release, Releases, Removed, SaysOk, Sends, SetAside, SetsErrors, TakesMessage}
+use Rattle.node_laws.proofs.Words.{Tells, Turn, Up, Waits, Work, after_turn, by_option, by_test, changed_if, commit, done, give_refusal, goes_in, in_use, lack}
+use Rattle.node_laws.proofs.Words.{need, needs, notified, noting, port_at, spare, turn_at, with_desk}
 use Rattle.node_laws.proofs.steps.Ports.{changed_host}
 use Rattle.node_laws.proofs.telling.Away.{at_map}
-use Rattle.node_laws.specs.passes.Noting.{goes_in, TakesMessage, AreTaken, IsNoneOf, GiveOnce}
 use Rattle.node_laws.proofs.passes.Ends.{other_stays}
 
 -- ## Blocks

@@ -2,17 +2,9 @@
 use Rattle.std.proofs.Common.{ℕ, List, [], ◌∷◌, refl}
 use Rattle.std.specs.List.{AllByRecursion, flat_map}
 use Rattle.registry.proofs.ValueLemmas.{AllByRecursion-append as all_append}
-use Rattle.trace_model.specs.declared.entry.Entry.{Entry}
+use Rattle.node_laws.proofs.Words.{AreNoTurns, Core, Deed, Entry, IsNoTurn, Message, NodeInput, Port, Work, all_owed, beginning, by_test, deeds_of, done}
+use Rattle.node_laws.proofs.Words.{noted_by_deed, noted_by_deeds, sending, synced}
 use Rattle.trace_model.specs.declared.entry.Entry.TheVariants as entry
-use Rattle.link_laws.specs.machine.Machine.{Message}
-use Rattle.node_machine.specs.Parts.{Core, Port, Work, Deed}
-use Rattle.node_machine.specs.Carrying.{done}
-use Rattle.node_machine.specs.Turns.{deeds_of}
-use Rattle.node_machine.specs.Node.{NodeInput, all_owed, synced}
-use Rattle.node_laws.specs.passes.Noting.{noted_by_deed, noted_by_deeds}
-use Rattle.node_laws.specs.passes.Passing.{IsNoTurn, AreNoTurns}
-use Rattle.node_machine.specs.world.World.{sending, beginning}
-use Rattle.node_laws.proofs.Cases.{by_test}
 use Rattle.node_laws.proofs.passes.Kinds.{IsOfDeed, NotesOnly, causes_note, owed_note, synced_note, sending_notes, beginning_notes}
 
 of_deed : (x : Entry) → IsOfDeed x → IsNoTurn x

@@ -2,16 +2,10 @@
 use Rattle.std.proofs.Common.{◌≡◌, ℕ, ◌==◌, Bool, true, false, cond, List, [], ◌∷◌, ◌++◌, refl, ap, sym, subst, ◌∙◌, append_assoc, append-nil}
 use Rattle.std.specs.Prelude.{drop}
 use Rattle.std.proofs.lemmas.Bool.{eqb-true}
-use Rattle.trace_model.specs.declared.entry.Entry.{Entry}
+use Rattle.node_laws.proofs.Words.{AreNoTurns, ComesTo, Deed, Entry, IsNoTurn, IsWaitingRead, LastsOverTurns, Message, Work, by_test, deeds_of, end_of_node}
+use Rattle.node_laws.proofs.Words.{handles, holds_back, is_held_at, lets_go, noted_by_deeds, takes_up, waiting_at, waits_behind}
 use Rattle.trace_model.specs.declared.entry.Entry.TheVariants as entry
-use Rattle.link_laws.specs.machine.Machine.{Message}
-use Rattle.node_machine.specs.Parts.{Work, Deed}
-use Rattle.node_machine.specs.Carrying.{end_of_node}
-use Rattle.node_machine.specs.Turns.{deeds_of, handles, holds_back, lets_go}
-use Rattle.node_laws.specs.passes.Noting.{noted_by_deeds}
-use Rattle.node_laws.specs.passes.Passing.{IsNoTurn, AreNoTurns, waiting_at, is_held_at, takes_up, LastsOverTurns, ComesTo, waiting_after}
-use Rattle.node_laws.specs.passes.Passing.{waits_behind, IsWaitingRead}
-use Rattle.node_laws.proofs.Cases.{by_test}
+use Rattle.node_laws.specs.passes.Passing.{waiting_after}
 use Rattle.node_laws.proofs.passes.Ends.{SeesAt, lets_see}
 use Rattle.node_laws.proofs.passes.Turnless.{reply_none}
 use Rattle.node_laws.proofs.passes.Passing.{lets_notes, own_held, holds_notes, handles_entries, handles_sees, link_is, comes_so}

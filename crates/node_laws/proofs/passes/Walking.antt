@@ -1,15 +1,9 @@
 -- A fact of a node is carried through its pass, to each turn of it.
 use Rattle.std.proofs.Common.{◌≡◌, ◌⊎◌, inl, inr, ℕ, Bool, true, false, cond, List, [], ◌∷◌, ◌++◌, Some, None, refl, ap, sym, subst, ◌∙◌, append_assoc}
 use Rattle.std.proofs.Common.{append-nil}
-use Rattle.trace_model.specs.declared.entry.Entry.{Entry}
+use Rattle.node_laws.proofs.Words.{AreAlong, AreNoTurns, ArePassed, BeginWithTurn, Deed, Entry, HadTurn, IsNoTurn, IsTurnSo, LastsOverTurns, Message, WasHeld}
+use Rattle.node_laws.proofs.Words.{Work, deeds_of, end_of_node, handles, is_held_at, lacking, links_of_turns, noted_by_deeds, takes_up, waiting_at}
 use Rattle.trace_model.specs.declared.entry.Entry.TheVariants as entry
-use Rattle.link_laws.specs.machine.Machine.{Message}
-use Rattle.node_machine.specs.Parts.{Work, Deed}
-use Rattle.node_machine.specs.Carrying.{end_of_node}
-use Rattle.node_machine.specs.Turns.{deeds_of, handles}
-use Rattle.node_laws.specs.passes.Noting.{noted_by_deeds}
-use Rattle.node_laws.specs.passes.Passing.{IsNoTurn, AreNoTurns, BeginWithTurn, AreAlong, links_of_turns, waiting_at, is_held_at, lacking, takes_up}
-use Rattle.node_laws.specs.passes.Passing.{LastsOverTurns, HadTurn, WasHeld, IsTurnSo, ArePassed}
 use Rattle.node_laws.proofs.passes.Turnless.{reply_none}
 
 -- ## Lists of entries

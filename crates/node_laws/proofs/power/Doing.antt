@@ -4,31 +4,16 @@ use Rattle.std.proofs.lemmas.Bool.{eqb-true}
 use Rattle.std.specs.List.{AllByRecursion}
 use Rattle.std.specs.Option.{option_map_or}
 use Rattle.registry.proofs.ValueLemmas.{AllByRecursion-append as all_append}
-use Rattle.trace_model.specs.declared.entry.Entry.{Entry}
+use Rattle.node_laws.proofs.Words.{About, Asks, Command, Commits, Core, Deed, Desk, Drops, Ends, Entry, FetchMessage, Give, GoesOn, Hears, Hold, IsAnswered}
+use Rattle.node_laws.proofs.Words.{Message, OfHost, Orders, Plain, Port, Release, Releases, Removed, SaysOk, Sends, SetAside, SetsErrors, Tells, Turn, Waits}
+use Rattle.node_laws.proofs.Words.{Work, Write, after_turn, all_done, all_of_host, any_of_controller, body_of, by_option, by_test, changed_if, commit}
+use Rattle.node_laws.proofs.Words.{commit_writes, count_of, deeds_of, done, end_of, end_of_node, end_of_number, goes_in, goes_through_ends, handles, have_turns}
+use Rattle.node_laws.proofs.Words.{holds_back, is_held, is_held_at, keeps, lacking, lets_go, loses_power, node_of, noted_of, notified, noting, own_side, passes}
+use Rattle.node_laws.proofs.Words.{port_at, takes_up, turn_at, turn_entry, unless_cut, waiting_at, with_desk, with_port}
 use Rattle.trace_model.specs.declared.entry.Entry.TheVariants as entry
-use Rattle.journal_laws.specs.Journal.{count_of}
-use Rattle.journal_laws.specs.Writes.{Write}
-use Rattle.hci_tables.specs.declared.command.Command.{Command}
-use Rattle.hci_tables.specs.Bodies.{body_of}
-use Rattle.hci_store.specs.Committing.{commit_writes}
-use Rattle.link_laws.specs.machine.Machine.{Message, Turn, is_held}
-use Rattle.link_laws.specs.machine.Machine.Turn.{Give, Hold, FetchMessage, SetAside, Release}
-use Rattle.link_laws.specs.entries.Entries.{turn_entry}
-use Rattle.history.specs.Steps.{end_of}
-use Rattle.node_machine.specs.Parts.{About, Desk, Core, Port, Work, Deed}
-use Rattle.node_machine.specs.Parts.About.{Waits, Removed}
-use Rattle.node_machine.specs.Parts.Deed.{Commits, Sends, SaysOk, Asks, Releases, Tells, IsAnswered, Drops, SetsErrors, Orders, Hears, GoesOn, Ends}
-use Rattle.node_machine.specs.Carrying.{own_side, end_of_node, noting, unless_cut, port_at, changed_if, with_port, with_desk, after_turn, noted_of, turn_at}
-use Rattle.node_machine.specs.Carrying.{end_of_number, notified, loses_power, keeps, commit, done, all_done}
-use Rattle.node_machine.specs.Turns.{deeds_of, handles, holds_back, lets_go, have_turns, goes_through_ends, passes}
-use Rattle.node_machine.specs.world.World.{node_of}
-use Rattle.node_laws.proofs.Cases.{by_test, by_option}
 use Rattle.node_laws.proofs.steps.Ports.{changed_host}
 use Rattle.node_laws.proofs.telling.Walks.{IsUncut, AreUncut}
 use Rattle.node_laws.proofs.telling.Powers.{entries_uncut}
-use Rattle.node_laws.specs.passes.Noting.{goes_in}
-use Rattle.node_laws.specs.passes.Passing.{waiting_at, is_held_at, lacking, takes_up}
-use Rattle.node_machine.proofs.Walks.{Plain, OfHost, any_of_controller, all_of_host}
 use Rattle.node_laws.proofs.passes.Passing.{have_handled, have_held}
 use Rattle.node_laws.proofs.power.Parts.{IsOwn, AreOwn}
 use Rattle.node_laws.proofs.power.Links.{links_own, turn_of_side}

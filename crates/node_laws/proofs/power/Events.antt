@@ -4,29 +4,14 @@ use Rattle.std.specs.Prelude.{◌&&◌}
 use Rattle.std.specs.List.{AllByRecursion, flat_map}
 use Rattle.std.proofs.lemmas.Bool.{eqb-true, true≢false}
 use Rattle.registry.proofs.ValueLemmas.{AllByRecursion-append as all_append}
-use Rattle.swp_base.specs.InMemory.{Plan}
-use Rattle.trace_model.specs.declared.entry.Entry.{Entry}
-use Rattle.trace_model.specs.declared.line.End.{End}
-use Rattle.link_laws.specs.machine.Machine.{Message}
-use Rattle.link_laws.specs.machine.Machine.LinkInput.{Start}
-use Rattle.link_laws.specs.messages.Links.{NumberedEnd, Link, Comes, Loss, exchanged, aged}
-use Rattle.link_laws.specs.messages.Links.Comes.{NextFrame, AsksReset, Starts, NoInput}
-use Rattle.link_laws.specs.entries.Entries.{Entry as Noted, first_lost, aged_entries}
-use Rattle.link_laws.specs.entries.Entries.End.{Controller, Host}
-use Rattle.history.specs.Steps.{entries_for}
-use Rattle.node_machine.specs.Parts.{Running, Port, Work, Deed}
-use Rattle.node_machine.specs.Controller.{is_command_message}
-use Rattle.node_machine.specs.Node.{steps, begins_with}
-use Rattle.node_machine.specs.Node.NodeInput.{AtEnd, TimePasses}
-use Rattle.node_machine.specs.world.World.{Site, NodeWorld, Happening, site_at, link_to, near_end_in, arrival, wires_for, work_of, frames_noted, comes_to}
-use Rattle.node_machine.specs.world.World.{controller_does, host_work, host_does, boots, frame_lost, all_aged, controller_ticks, host_ticks, hosts_tick}
-use Rattle.node_machine.specs.world.World.{world_ticks, sending, beginning, comes_at, end_c, end_h, world_step, node_of}
-use Rattle.node_machine.specs.world.World.Happening.{Boots, IsCut, Gives, Inits, Takes, Loses, Ticks, Resets, Activates, Arms}
-use Rattle.node_machine.proofs.world.Cases.{by_controller, by_host, by_coming, by_boot, by_loss, near_tick, by_controller_tick, host_tick, by_host_tick}
-use Rattle.node_laws.specs.kept.Books.{hosts_of_ends}
-use Rattle.node_laws.specs.kept.Hosts.{AreDifferent}
-use Rattle.node_laws.specs.telling.Telling.{HasEnds, IfItRuns, hosts_in, IsOrderly}
-use Rattle.node_laws.proofs.Cases.{by_test}
+use Rattle.node_laws.proofs.Words.{Activates, AreDifferent, AreNotOf, Arms, AsksReset, AtEnd, Boots, Comes, Controller, Deed, End, Entry, Gives, Happening}
+use Rattle.node_laws.proofs.Words.{HasEnds, Host, IfItRuns, Inits, IsCut, IsOrderly, Link, Loses, Loss, Message, NextFrame, NoInput, NodeWorld, NumberedEnd}
+use Rattle.node_laws.proofs.Words.{Plan, Port, Resets, Running, Site, Start, Starts, Takes, Ticks, TimePasses, Work, aged, aged_entries, all_aged, arrival}
+use Rattle.node_laws.proofs.Words.{beginning, begins_with, boots, by_boot, by_coming, by_controller, by_controller_tick, by_host, by_host_tick, by_loss}
+use Rattle.node_laws.proofs.Words.{by_test, comes_at, comes_to, controller_does, controller_ticks, end_c, end_h, entries_for, exchanged, first_lost, frame_lost}
+use Rattle.node_laws.proofs.Words.{frames_noted, host_does, host_tick, host_ticks, host_work, hosts_in, hosts_of_ends, hosts_tick, is_command_message, link_to}
+use Rattle.node_laws.proofs.Words.{near_end_in, near_tick, node_of, sending, site_at, steps, wires_for, work_of, world_step, world_ticks}
+use Rattle.link_laws.specs.entries.Entries.{Entry as Noted}
 use Rattle.node_laws.proofs.telling.Walks.{IsUncut, AreUncut}
 use Rattle.node_laws.proofs.telling.Nodes.{site_host, ports_for, hosts_same}
 use Rattle.node_laws.proofs.telling.Worlds.{site_is}
@@ -34,7 +19,6 @@ use Rattle.node_laws.proofs.telling.Events.{orderly_map, comes_goes}
 use Rattle.node_laws.proofs.telling.Powers.{entries_uncut}
 use Rattle.node_laws.proofs.telling.WorldTicks.{near_orderly}
 use Rattle.node_laws.proofs.telling.Shapes.{frames_uncut, frames_none}
-use Rattle.node_laws.specs.power.Powers.{AreNotOf}
 use Rattle.node_laws.proofs.power.Parts.{IsOwn, AreOwn, AreOver, IsPart, own_not, over_front, over_part, part_own, nothing_part, part_over}
 use Rattle.node_laws.proofs.power.Links.{links_own, arrival_of_side}
 use Rattle.node_laws.proofs.power.Doing.{IsEndOf, AreEnds, Runs, Fine, IsMine, deeds_fine}

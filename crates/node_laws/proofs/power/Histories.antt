@@ -1,16 +1,10 @@
 -- Over histories.
 use Rattle.std.proofs.Common.{◌≡◌, ◌==◌, false, List, [], ◌∷◌, ◌++◌, sym, subst}
 use Rattle.std.specs.List.{AllByRecursion, flat_map}
-use Rattle.trace_model.specs.declared.line.Header.{Header}
-use Rattle.trace_model.specs.declared.line.Line.{Line}
-use Rattle.node_machine.specs.world.World.{NodeWorld, new_world, world_step}
-use Rattle.node_machine.specs.world.Lines.{Occurrence, happenings}
-use Rattle.node_machine.specs.world.NodeHistories.{LineStep, NodeHistory, FollowsNodes, occurrences_of, occurrences_in}
-use Rattle.node_laws.specs.kept.Hosts.{AreDifferent}
-use Rattle.node_laws.specs.telling.Telling.{IsOrderly}
+use Rattle.node_laws.proofs.Words.{AreDifferent, CutsEndParts, FollowsNodes, Header, IsOrderly, Line, LineStep, NodeHistory, NodeWorld, Occurrence, happenings}
+use Rattle.node_laws.proofs.Words.{new_world, occurrences_in, occurrences_of, world_step}
 use Rattle.node_laws.proofs.telling.Lasting.{Any, AnyLine, all_any, all_lines, AreCaused, lines_caused}
 use Rattle.node_laws.proofs.telling.Orderly.{step_orderly, new_orderly}
-use Rattle.node_laws.specs.power.Powers.{CutsEndParts}
 use Rattle.node_laws.proofs.power.Parts.{AreOver, over_split}
 use Rattle.node_laws.proofs.power.Events.{step_over}
 

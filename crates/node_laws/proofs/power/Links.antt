@@ -3,20 +3,12 @@ use Rattle.std.proofs.Common.{◌≡◌, ℕ, List, [], ◌∷◌, length, Optio
 use Rattle.std.specs.Prelude.{nat_lt}
 use Rattle.std.specs.List.{AllByRecursion}
 use Rattle.registry.proofs.ValueLemmas.{AllByRecursion-append as all_append}
-use Rattle.swp_base.specs.declared.control_frames.Control.{Control}
-use Rattle.link_laws.specs.sessions.Sessions.{OnWire}
-use Rattle.link_laws.specs.machine.Machine.{Message, LinkEnd, Refused, Turn, Report, frames_out, give_refusal}
-use Rattle.link_laws.specs.machine.Machine.Turn.{Give}
-use Rattle.link_laws.specs.messages.Links.{Link, Comes, Loss, put}
-use Rattle.link_laws.specs.messages.Links.Ending.{GoesOut}
-use Rattle.link_laws.specs.messages.Links.Comes.{NextFrame}
-use Rattle.link_laws.specs.messages.Links.Loss.{TooMany}
-use Rattle.link_laws.specs.entries.Entries.{End as Side, Entry as Noted, far, told, sent_unless, turn_entry, first_lost, pushed_out, wire_with, put_entries}
-use Rattle.link_laws.specs.entries.Entries.{puts_entries, ending_entries}
-use Rattle.link_laws.specs.entries.Entries.Entry.{Up, Down, Active, GaveUp, Acked, Got, Sent, Emit, Took, Lost}
-use Rattle.history.specs.Steps.{end_of, entry_of, entries_for}
-use Rattle.node_machine.specs.world.World.{node_of, arrival}
-use Rattle.node_laws.proofs.Cases.{by_list, by_test}
+use Rattle.node_laws.proofs.Words.{Acked, Active, Comes, Control, Down, Emit, GaveUp, Give, GoesOut, Got, Link, LinkEnd, Loss, Lost, Message, NextFrame, OnWire}
+use Rattle.node_laws.proofs.Words.{Refused, Report, Sent, TooMany, Took, Turn, arrival, by_list, by_test, end_of, ending_entries, entries_for, entry_of, far}
+use Rattle.node_laws.proofs.Words.{first_lost, frames_out, give_refusal, node_of, pushed_out, put, put_entries, puts_entries, sent_unless, told, turn_entry}
+use Rattle.node_laws.proofs.Words.{wire_with}
+use Rattle.link_laws.specs.entries.Entries.{End as Side, Entry as Noted}
+use Rattle.link_laws.specs.entries.Entries.Entry.{Up}
 use Rattle.node_laws.proofs.power.Parts.{IsOwn, AreOwn}
 use Rattle.node_laws.proofs.telling.Reported.{told_all}
 

@@ -3,11 +3,10 @@ use Rattle.std.proofs.Common.{◌≡◌, ℕ, ◌==◌, Bool, false, cond, List,
 use Rattle.std.specs.List.{AllByRecursion}
 use Rattle.std.specs.Option.{option_map_or}
 use Rattle.registry.proofs.ValueLemmas.{AllByRecursion-append as all_append}
-use Rattle.trace_model.specs.declared.entry.Entry.{Entry}
+use Rattle.node_laws.proofs.Words.{AreNotOf, Entry, by_test}
 use Rattle.trace_model.specs.declared.entry.Entry.TheVariants as entry
-use Rattle.node_laws.proofs.Cases.{by_test}
 use Rattle.node_laws.proofs.telling.Walks.{IsUncut, AreUncut}
-use Rattle.node_laws.specs.power.Powers.{node_told, AreNotOf}
+use Rattle.node_laws.specs.power.Powers.{node_told}
 
 -- where a node is told of it is this one
 abbrev pub IsAt : ℕ → Option ℕ → Type 0

@@ -4,35 +4,18 @@ use Rattle.std.proofs.Common.{append-nil}
 use Rattle.std.specs.Prelude.{not}
 use Rattle.std.specs.List.{AllByRecursion, flat_map, filter}
 use Rattle.registry.proofs.ValueLemmas.{AllByRecursion-append as all_append}
-use Rattle.trace_model.specs.declared.entry.Entry.{Entry}
-use Rattle.hci_tables.specs.declared.command.Command.TheVariants.{Sync}
-use Rattle.hci_tables.specs.Tables.{is_kept_sync}
-use Rattle.gate_answers.specs.declared.response.Response.{Response}
+use Rattle.node_laws.proofs.Words.{AtEnd, Commits, Core, Creation, Deed, Entry, GoesOut, Link, LinkInput, NodeInput, Port, Release, Releases, Reset, Response}
+use Rattle.node_laws.proofs.Words.{Sync, TimePasses, Work, after_input, after_sessions, all_come, all_done, all_owed, asked_at, by_option, by_test}
+use Rattle.node_laws.proofs.Words.{comes_to_pass, end_of, ending_entries, finds_room, forgets, frames_noted, has_come_so, has_freed, has_synced, hosts_of_ends}
+use Rattle.node_laws.proofs.Words.{input_at, is_kept_sync, is_late, node_of, owed, owed_in_step, own_side, passes, port_at, report, steps, synced, syncs_in}
+use Rattle.node_laws.proofs.Words.{told, told_at, told_late, told_of_coming, told_of_late, turn_at, whole_acked, with_older, without_notice}
 use Rattle.gate_answers.specs.declared.response.Response.TheVariants as response
-use Rattle.link_laws.specs.machine.Machine.{LinkInput, after_input, report, whole_acked}
-use Rattle.link_laws.specs.machine.Machine.LinkInput.{Reset}
-use Rattle.link_laws.specs.machine.Machine.Turn.{Release}
-use Rattle.link_laws.specs.entries.Entries.{End as Side, told, ending_entries}
-use Rattle.link_laws.specs.messages.Links.{Link}
-use Rattle.link_laws.specs.messages.Links.Ending.{GoesOut}
-use Rattle.history.specs.Steps.{end_of}
-use Rattle.node_machine.specs.Parts.{Creation, Core, Port, Work, Deed}
-use Rattle.node_machine.specs.Parts.Deed.{Commits, Releases}
-use Rattle.node_machine.specs.Carrying.{own_side, port_at, finds_room, turn_at, all_done}
-use Rattle.node_machine.specs.Controller.{asked_at}
-use Rattle.node_machine.specs.Turns.{passes}
-use Rattle.node_machine.specs.Node.{NodeInput, input_at, told_at, all_come, with_older, is_late, told_late, forgets, owed, all_owed, without_notice}
-use Rattle.node_machine.specs.Node.{after_sessions, synced, steps}
-use Rattle.node_machine.specs.Node.NodeInput.{AtEnd, TimePasses}
-use Rattle.node_machine.specs.world.World.{node_of, frames_noted}
-use Rattle.node_laws.specs.kept.Books.{hosts_of_ends}
-use Rattle.node_laws.proofs.Cases.{by_option, by_test}
+use Rattle.link_laws.specs.entries.Entries.{End as Side}
 use Rattle.node_laws.proofs.kept.Plainly.{hosts_map}
 use Rattle.node_laws.proofs.steps.Ports.{come_host, forgets_host, sessions_node, without_host}
 use Rattle.node_laws.proofs.telling.Walks.{IsUncut, AreUncut}
 use Rattle.node_laws.proofs.telling.Powers.{entries_uncut}
 use Rattle.node_laws.proofs.telling.Shapes.{frames_none}
-use Rattle.node_laws.specs.passes.Steps.{has_come_so, told_of_late, told_of_coming, syncs_in, owed_in_step, has_freed, has_synced, comes_to_pass}
 use Rattle.node_laws.proofs.passes.Coming.{coming_all}
 use Rattle.node_laws.proofs.passes.Before.{come_entries, come_hosts}
 use Rattle.node_laws.proofs.power.Parts.{IsOwn, AreOwn, IsPart}

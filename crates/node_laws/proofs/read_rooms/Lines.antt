@@ -1,7 +1,7 @@
 -- Of worlds behind the events of a history.
 use Rattle.std.proofs.Common.{◌≡◌, ℕ, List, ◌++◌, Some, map, refl, sym, ◌∙◌}
 use Rattle.node_laws.proofs.Words.{ArePortsRead, AtEnd, Comes, Controller, Desk, HasEnds, HoldsInStep, LinkInput, NodeWorld, Occurrence, Running, Site}
-use Rattle.node_laws.proofs.Words.{TimePasses, aged, all_aged, controller_begins, entries_in, hosts_in, input_of, link_to}
+use Rattle.node_laws.proofs.Words.{TimePasses, aged, all_aged, controller_begins, controller_tick_begins, entries_in, hosts_in, input_of, link_to}
 use Rattle.node_laws.proofs.kept.Sites.{hosts_same}
 use Rattle.node_laws.proofs.telling.Worlds.{node_is}
 use Rattle.node_laws.proofs.order.Lines.{IsSo}
@@ -9,7 +9,6 @@ use Rattle.node_laws.proofs.order.Ticking.{timely}
 use Rattle.node_laws.proofs.read_rooms.Beginning.{comes_carried}
 use Rattle.node_laws.proofs.read_rooms.Ticking.{tick_carried}
 use Rattle.node_laws.proofs.read_rooms.Turning.{step_read}
-use Rattle.node_laws.specs.passes.Steps.{controller_tick_begins}
 
 module _ (hosts : List ℕ) (os : List Occurrence) (w : NodeWorld) (a : IsSo hosts os w) (r : Running) (runs : w.controller ≡ Some r) where
   pub comes_read : (k : ℕ) (comes : Comes) (i : LinkInput) → input_of (link_to w.sites k) comes ≡ Some i

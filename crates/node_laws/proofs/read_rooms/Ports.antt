@@ -2,10 +2,9 @@
 use Rattle.std.proofs.Common.{◌≡◌, ℕ, List, ◌++◌, Option, Some, None, refl, ap, sym, ◌∙◌}
 use Rattle.std.specs.Prelude.{if◌then◌else◌, drop}
 use Rattle.node_laws.proofs.Words.{AreSendableTurns, Controller, End, Entry, Host, IsReadOff, LinkEnd, LinkState, NumberedEnd, Port, Up, Work, end_of, is_up}
-use Rattle.node_laws.proofs.Words.{node_of, number_of, session_now, spare, talk_of, whole_acked}
+use Rattle.node_laws.proofs.Words.{node_of, number_of, session_now, spare, talk_of, unacknowledged_in, whole_acked}
 use Rattle.link_laws.specs.entries.Entries.{End as Side, Entry as Noted}
 use Rattle.link_laws.specs.entries.Sessions.{number_now as own_session}
-use Rattle.node_machine.specs.world.NodeFilters.{unacknowledged_in}
 use Rattle.node_laws.proofs.telling.Walks.{AreUncut}
 use Rattle.node_laws.proofs.order.Sessions.{node_on}
 use Rattle.node_laws.proofs.notices.Sparing.{spare_is}

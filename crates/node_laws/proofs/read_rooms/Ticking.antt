@@ -3,8 +3,8 @@ use Rattle.std.proofs.Common.{◌≡◌, ℕ, ◌==◌, true, false, List, [], �
 use Rattle.std.specs.Prelude.{nat_lt}
 use Rattle.node_laws.proofs.Words.{AsksReset, Controller, Desk, Entry, HasEnds, Host, IfDue, IsLinkTold, IsOrderly, IsTimely, Link, Lost, NoInput, NodeWorld}
 use Rattle.node_laws.proofs.Words.{NumberedEnd, OnWire, Port, Reset, Running, Site, Tick, TimePasses, TooOld, Work, after_sessions, aged, aged_entries}
-use Rattle.node_laws.proofs.Words.{all_aged, all_come, by_test, comes_to_pass, forgets, has_come, hosts_in, hosts_of_ends, is_late, link_to, reset_late}
-use Rattle.node_laws.proofs.Words.{site_at, times_out, with_older, without_notice, without_power}
+use Rattle.node_laws.proofs.Words.{all_aged, all_come, by_test, comes_to_pass, controller_tick_begins, forgets, has_come, hosts_in, hosts_of_ends, is_late}
+use Rattle.node_laws.proofs.Words.{link_to, reset_late, site_at, times_out, with_older, without_notice, without_power}
 use Rattle.link_laws.specs.entries.Entries.{End as Side, Entry as Noted}
 use Rattle.link_laws.proofs.entries.Books.{Silent, silent-append, silent_cons}
 use Rattle.link_laws.proofs.entries.Hearing.{passes-append, passes_aged}
@@ -27,7 +27,6 @@ use Rattle.node_laws.proofs.read_rooms.Reading.{AreNoted, noted_more, its_notes,
 use Rattle.node_laws.proofs.read_rooms.Carrying.{Carries}
 use Rattle.node_laws.proofs.read_rooms.Lasting.{IsCarried}
 use Rattle.node_laws.proofs.read_rooms.Beginning.{carries_from, HasSite, site_for, pass_carried, begun_fine}
-use Rattle.node_laws.specs.passes.Steps.{controller_tick_begins}
 
 -- ## Frames that are too old
 

@@ -2,16 +2,14 @@
 use Rattle.std.proofs.Common.{◌≡◌, ℕ, ◌&&◌, Bool, true, false, cond, eqb, List, map, sym, refl, ap, ◌∙◌}
 use Rattle.std.specs.Prelude.{Option, Some, None, Result, Ok, Err}
 use Rattle.std.specs.Option.{option_map}
-use Rattle.node_laws.proofs.Words.{About, Answer, Ask, Commit, Creation, Decision, Deed, IsSameView, Message, MessageFault, MessageKind, Tells, agreed, body_in}
-use Rattle.node_laws.proofs.Words.{commit_deeds, controller_deeds, decided, decision_deeds, has, header_of, own_gate}
+use Rattle.node_laws.proofs.Words.{About, Answer, Ask, Commit, Creation, Decision, Deed, IsSameView, KnowsTheSame, Message, MessageFault, MessageKind, NodeView}
+use Rattle.node_laws.proofs.Words.{OwnView, Tells, agreed, body_in, commit_deeds, controller_deeds, creation_of, decided, decision_deeds, deeds_by_relay}
+use Rattle.node_laws.proofs.Words.{gate_deeds, goes_through, has, header_of, hosts_where, kind_deeds, own_deeds, own_gate, relay_deeds, relayed_to, served_at}
+use Rattle.node_laws.proofs.Words.{unless_asking, unrelayed}
 use Rattle.hcp_packet.specs.declared.MessageKind.TheVariants.{Command as IsCommand, Event as IsEvent, Response as IsResponse}
-use Rattle.gate_admin.specs.View.{hosts_where}
-use Rattle.node_machine.specs.Parts.{OwnView, NodeView}
-use Rattle.node_machine.specs.Controller.{creation_of, gate_deeds, goes_through, served_at, command_deeds}
-use Rattle.node_machine.specs.Controller.{creation_deeds, notice_deeds, relayed_to, unrelayed, event_deeds, unless_asking, if_notice, kind_deeds}
-use Rattle.node_machine.specs.Controller.{own_deeds, relay_deeds, deeds_by_relay}
+use Rattle.node_machine.specs.Controller.{command_deeds}
+use Rattle.node_machine.specs.Controller.{creation_deeds, notice_deeds, event_deeds, if_notice}
 use Rattle.node_laws.proofs.views.Viewing.{decided_same}
-use Rattle.node_laws.specs.read_steps.Alike.{KnowsTheSame}
 
 -- what a response does, by the creation that the notice is about which it answers
 by_awaited : OwnView → ℕ → Option (Option Creation) → List Deed

@@ -5,15 +5,14 @@ use Rattle.std.specs.List.{AllByRecursion, fold}
 use Rattle.std.specs.Option.{option_map_or}
 use Rattle.std.proofs.lemmas.Bool.{eqb-true, true≢false}
 use Rattle.node_laws.proofs.Words.{AllByRecursion-append, AreNamed, Asks, Command, Commits, Controller, Core, Create, Creation, Deed, Drops, Ends, Entry}
-use Rattle.node_laws.proofs.Words.{FetchMessage, Give, HciTables, Hold, Host, IsAllowedStill, IsNamed, IsNoticeOf, LinkInput, Message, Orders, Port, Refused}
-use Rattle.node_laws.proofs.Words.{Release, Releases, Reset, SaysOk, Sends, SetAside, SetsErrors, Tells, Turn, Work, after_input, all_done, body_of, by_cut}
-use Rattle.node_laws.proofs.Words.{by_option, by_test, commit, commit_writes, done, end_c, end_of_node, ended_by, entries_for, fails_within, give_refusal}
-use Rattle.node_laws.proofs.Words.{handles, holds_back, instruction_in, is_held, is_late, is_notice, is_response, lets_go, noted_of, notice_in, noting}
-use Rattle.node_laws.proofs.Words.{own_side, port_at, report, same_end, same_side, sent_unless, told_at, told_late, turn_at, unless_cut, whole_acked, with_desk}
+use Rattle.node_laws.proofs.Words.{FetchMessage, Give, HciTables, Hold, Host, IsAllowedFor, IsAllowedStill, IsNamed, IsNoticeOf, LinkInput, Message, Orders}
+use Rattle.node_laws.proofs.Words.{Port, Refused, Release, Releases, Reset, SaysOk, Sends, SetAside, SetsErrors, Tells, Turn, Work, after_input, all_done}
+use Rattle.node_laws.proofs.Words.{awaited_after, body_of, by_cut, by_option, by_test, commit, commit_writes, done, end_c, end_of_node, ended_by, entries_for}
+use Rattle.node_laws.proofs.Words.{fails_within, give_refusal, handles, holds_back, instruction_in, is_held, is_late, is_notice, is_response, lets_go, noted_of}
+use Rattle.node_laws.proofs.Words.{notice_in, noting, own_side, port_at, report, same_end, same_side, sent_unless, told_at, told_late, turn_at, unless_cut}
+use Rattle.node_laws.proofs.Words.{whole_acked, with_desk}
 use Rattle.trace_model.specs.declared.entry.Entry.TheVariants as entry
 use Rattle.link_laws.specs.entries.Entries.{End as Side, Entry as Noted}
-use Rattle.node_machine.specs.world.NodeFilters.{awaited_after}
-use Rattle.node_laws.specs.steps.Waiting.{IsAllowedFor}
 use Rattle.node_laws.proofs.links.Noticing.{at_host}
 use Rattle.node_laws.proofs.readings.Silent.{told_rest, rest_quiet}
 use Rattle.node_laws.proofs.notices.Deciding.{IsRemoval}

@@ -4,11 +4,10 @@ use Rattle.std.specs.Prelude.{Some, None}
 use Rattle.std.specs.List.{AllByRecursion}
 use Rattle.std.specs.Option.{option_map_or}
 use Rattle.node_laws.proofs.Words.{AllByRecursion-append, AreHosts, AreNamed, AtEnd, Comes, Entry, FollowsNodes, Header, IsFew, IsHost, IsNamed, IsSentByHost}
-use Rattle.node_laws.proofs.Words.{Line, LinkInput, Message, NodeHistory, NodeWorld, Occurrence, Port, ReadsBetween, Running, TimePasses, Work, all_aged}
-use Rattle.node_laws.proofs.Words.{as_it_ticks, comes_to_pass, controller_begins, deeds_of, entries_in, handles, holds_back, input_of, lack, lets_go, link_to}
-use Rattle.node_laws.proofs.Words.{needs, new_world, node_entries, occurrences_in, port_at, world_behind}
+use Rattle.node_laws.proofs.Words.{Line, LinkInput, Message, NodeHistory, NodeWorld, Occurrence, Port, ReadsBetween, ReadsInStep, Running, TimePasses, Work}
+use Rattle.node_laws.proofs.Words.{all_aged, as_it_ticks, comes_to_pass, controller_begins, deeds_of, entries_in, handles, holds_back, input_of, lack, lets_go}
+use Rattle.node_laws.proofs.Words.{link_to, needs, new_world, node_entries, occurrences_in, port_at, world_behind}
 use Rattle.node_laws.proofs.notices.Near.{aged_far}
-use Rattle.node_laws.specs.read_steps.Works.{ReadsInStep}
 use Rattle.node_laws.proofs.read_steps.Lasting.{found_end, got_end}
 use Rattle.node_laws.proofs.read_steps.Running.{runs_handled, runs_holds, runs_lets}
 use Rattle.node_laws.proofs.read_steps.Naming.{far_named, handles_named, holds_named, lets_named}

@@ -3,11 +3,11 @@ use Rattle.std.proofs.Common.{◌≡◌, inl, inr, ℕ, eqb, true, false, List, 
 use Rattle.std.specs.Prelude.{Some}
 use Rattle.std.specs.List.{AllByRecursion}
 use Rattle.std.proofs.lemmas.Bool.{true≢false}
-use Rattle.node_laws.proofs.Words.{AreDifferent, AreHosts, AreNamed, AtEnd, Book, Comes, Controller, ControllerReads, Desk, Entry, ErrorCount, HasEnds}
-use Rattle.node_laws.proofs.Words.{HciTables, Host, IfItRuns, IfNoticedUp, IfReads, IfRuns, IsFresh, IsHost, IsKeptNotice, IsOutside, IsPlain, IsReadSo, IsShut}
-use Rattle.node_laws.proofs.Words.{KeepsBetween, KeepsInStep, LinkInput, NodeInput, NodeWorld, NumberedEnd, Port, Running, RunsInStep, RunsSo, Site, TimePasses}
-use Rattle.node_laws.proofs.Words.{Work, aged_entries, all_aged, arrival, as_it_ticks, book_in, comes_to, comes_to_pass, controller_begins, end_c, entries_for}
-use Rattle.node_laws.proofs.Words.{hosts_in, input_of, link_to, near_end_in, no_errors, passes, steps, synced, work_of}
+use Rattle.node_laws.proofs.Words.{AreDifferent, AreHosts, AreNamed, AreProper, AtEnd, Book, Comes, Controller, ControllerReads, Desk, Entry, ErrorCount}
+use Rattle.node_laws.proofs.Words.{HasEnds, HciTables, Host, IfItRuns, IfNoticedUp, IfReads, IfRuns, IsFresh, IsHost, IsKeptNotice, IsOutside, IsPlain}
+use Rattle.node_laws.proofs.Words.{IsReadSo, IsShut, KeepsBetween, KeepsInStep, LinkInput, NodeInput, NodeWorld, NumberedEnd, Port, Running, RunsInStep, RunsSo}
+use Rattle.node_laws.proofs.Words.{Site, TimePasses, Work, aged_entries, all_aged, arrival, as_it_ticks, book_in, comes_to, comes_to_pass, controller_begins}
+use Rattle.node_laws.proofs.Words.{creations_of, end_c, entries_for, hosts_in, input_of, link_to, near_end_in, no_errors, passes, steps, synced, work_of}
 use Rattle.node_laws.proofs.kept.Plainly.{plain_entries, plain_flat}
 use Rattle.node_laws.proofs.kept.Standing.{keeps_same, plain_same, runs_begun}
 use Rattle.node_laws.proofs.telling.Nodes.{hosts_same}
@@ -18,8 +18,6 @@ use Rattle.node_laws.proofs.notices.Steps.{owed_all}
 use Rattle.node_laws.proofs.notices.Far.{AreFar}
 use Rattle.node_laws.proofs.notices.Near.{begins as begins_noticed, aged_far, aged_side, all_ports}
 use Rattle.node_laws.proofs.notices.Sites.{Reads as NoticeReads, arrival_quiet, far_hushed, link_shut, still_reads}
-use Rattle.node_laws.specs.creations.Creations.{creations_of}
-use Rattle.node_laws.specs.creations.Worlds.{AreProper}
 use Rattle.node_laws.proofs.creations.Asks.{asked_of}
 use Rattle.node_laws.proofs.creations.Doing.{Good}
 use Rattle.node_laws.proofs.creations.Deeds.{Still, Fine}

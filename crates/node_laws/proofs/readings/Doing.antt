@@ -3,30 +3,14 @@ use Rattle.std.proofs.Common.{◌≡◌, ◌⊎◌, inl, inr, ℕ, ◌&&◌, Boo
 use Rattle.std.specs.Prelude.{Option, Some, None}
 use Rattle.std.specs.Option.{option_map_or}
 use Rattle.std.proofs.lemmas.Bool.{cases_Bool, eq-eqb, cond-true}
-use Rattle.trace_model.specs.Lines.{IsHost}
-use Rattle.trace_model.specs.declared.entry.Entry.{Entry}
+use Rattle.node_laws.proofs.Words.{AreInitsShort, Command, Commits, Core, Deed, Desk, Drops, Ends, Entry, Fits, Give, GoesOn, Host, IsHost, LinkState, MayDo}
+use Rattle.node_laws.proofs.Words.{Message, NotUp, Orders, Port, Release, Releases, SaysOk, Sends, SetsErrors, Turn, Up, Waiting, Work, after_turn, all_done}
+use Rattle.node_laws.proofs.Words.{body_of, by_test, changed_if, commit, commit_writes, done, entries_for, fails_within, give_refusal, is_command_message}
+use Rattle.node_laws.proofs.Words.{noted_of, noting, order_in, own_side, port_at, sent_unless, turn_at, unless_cut, with_desk, with_port}
 use Rattle.trace_model.specs.declared.entry.Entry.TheVariants as entry
-use Rattle.journal_laws.specs.Planned.{fails_within}
-use Rattle.hci_tables.specs.declared.command.Command.{Command}
-use Rattle.hci_tables.specs.Bodies.{body_of}
-use Rattle.hci_store.specs.Committing.{commit_writes}
-use Rattle.shdlc_core.specs.declared.answers.LinkState.{LinkState}
-use Rattle.shdlc_core.specs.declared.answers.LinkState.TheVariants.{Up, Waiting, Down}
-use Rattle.link_laws.specs.machine.Machine.{Message, Turn, give_refusal}
-use Rattle.link_laws.specs.machine.Machine.Refused.{NotUp}
-use Rattle.link_laws.specs.machine.Machine.Turn.{Give, Release}
-use Rattle.link_laws.specs.entries.Entries.{sent_unless}
-use Rattle.link_laws.specs.entries.Entries.End.{Host}
-use Rattle.history.specs.Steps.{entries_for}
-use Rattle.node_machine.specs.Parts.{Desk, Core, Port, Work, Deed}
-use Rattle.node_machine.specs.Parts.Deed.{Commits, Sends, SaysOk, Releases, Drops, SetsErrors, Orders, GoesOn, Ends}
-use Rattle.node_machine.specs.Controller.{is_command_message}
-use Rattle.node_machine.specs.Carrying.{own_side, noting, unless_cut, port_at, changed_if, with_port, with_desk, after_turn, noted_of, turn_at, commit, done}
-use Rattle.node_machine.specs.Carrying.{all_done}
-use Rattle.node_machine.specs.world.NodeFilters.{order_in}
-use Rattle.node_laws.proofs.Cases.{by_test}
+use Rattle.shdlc_core.specs.declared.answers.LinkState.TheVariants.{Down}
 use Rattle.node_laws.proofs.links.Noticing.{turn-phase}
-use Rattle.node_laws.specs.readings.Orders.{AreInitsShort, IsItsEnd, KeepsOrder, Fits, MayDo}
+use Rattle.node_laws.specs.readings.Orders.{IsItsEnd, KeepsOrder}
 use Rattle.node_laws.proofs.readings.Silent.{reads, order_more, host_side, sent_reads, order_reads}
 
 module _ (h : ℕ) (host : IsHost h) (before : List Entry) (now : LinkState) where

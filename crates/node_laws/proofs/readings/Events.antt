@@ -3,34 +3,15 @@ use Rattle.std.proofs.Common.{◌≡◌, ℕ, ◌&&◌, Bool, false, not, eqb, L
 use Rattle.std.specs.Prelude.{Option, Some, None, replicate}
 use Rattle.std.specs.List.{AllByRecursion, flat_map}
 use Rattle.std.proofs.lemmas.Bool.{cond_both, eqb-false, ne_eqb}
-use Rattle.journal_laws.specs.Planned.{after_planned}
-use Rattle.trace_model.specs.Lines.{IsHost}
-use Rattle.trace_model.specs.declared.entry.Entry.{Entry}
-use Rattle.shdlc_core.specs.Machine.{is_waiting}
-use Rattle.link_laws.specs.machine.Machine.{Message, Turn, give_refusal}
-use Rattle.link_laws.specs.messages.Links.{Link, NumberedEnd, Ending, exchanged, aged, ticks_at_controller, has_input}
-use Rattle.link_laws.specs.messages.Links.Ending.{GoesOut}
-use Rattle.link_laws.specs.messages.Links.Comes.{NoInput, AsksReset}
-use Rattle.link_laws.specs.messages.Links.EndEvent.{Step}
-use Rattle.link_laws.specs.machine.Machine.LinkInput.{Reset}
-use Rattle.link_laws.specs.entries.Entries.{aged_entries}
-use Rattle.link_laws.specs.entries.Entries.End.{Controller, Host}
-use Rattle.history.specs.Steps.{entries_for}
-use Rattle.node_machine.specs.Parts.{Running, Work, Deed}
-use Rattle.node_machine.specs.Controller.{is_command_message}
-use Rattle.node_machine.specs.Parts.Deed.{Sends, Orders}
-use Rattle.node_machine.specs.Node.{steps, begins_with}
-use Rattle.node_machine.specs.Node.NodeInput.{TimePasses}
-use Rattle.node_machine.specs.world.World.{NodeWorld, Site, site_at, with_site, link_to, ending_of, runs_on, turns_at, wires_for, work_of, frames_noted}
-use Rattle.node_machine.specs.world.World.{host_work, after_host, host_does, sending, beginning, new_site, new_world, is_late_at, ticked_so, all_aged}
-use Rattle.node_machine.specs.world.World.{controller_ticks, host_ticks, hosts_tick, world_ticks}
-use Rattle.node_laws.proofs.Cases.{by_option}
+use Rattle.node_laws.proofs.Words.{AllRead, AreDifferent, AreHosts, AreInitsShort, AsksReset, Controller, Deed, Ending, Entry, GoesOut, Host, IfHostRuns}
+use Rattle.node_laws.proofs.Words.{IfZero, IsHost, Link, MayDo, Message, NoInput, NodeWorld, NumberedEnd, Orders, Reset, Running, Sends, Site, SiteReads, Step}
+use Rattle.node_laws.proofs.Words.{TimePasses, Turn, Work, after_host, after_planned, aged, aged_entries, all_aged, beginning, begins_with, by_option}
+use Rattle.node_laws.proofs.Words.{controller_ticks, ending_of, entries_for, exchanged, frames_noted, give_refusal, has_input, host_does, host_ticks, host_work}
+use Rattle.node_laws.proofs.Words.{hosts_tick, init_of, is_command_message, is_late_at, is_waiting, link_to, new_site, new_world, runs_on, sending, site_at}
+use Rattle.node_laws.proofs.Words.{steps, ticked_so, ticks_at_controller, turns_at, wires_for, with_site, work_of, world_ticks}
 use Rattle.node_laws.proofs.links.Ends.{here_host}
 use Rattle.link_laws.proofs.entries.Together.{ticks_host as tick_host}
-use Rattle.node_laws.specs.kept.Hosts.{AreDifferent, AreHosts}
 use Rattle.node_laws.proofs.kept.Sites.{site_found, hosts_same, hosts_with}
-use Rattle.node_laws.specs.readings.Orders.{AreInitsShort, MayDo}
-use Rattle.node_laws.specs.readings.Worlds.{IfHostRuns, SiteReads, IfZero, AllRead, init_of}
 use Rattle.node_laws.proofs.telling.Frames.{wires_all}
 use Rattle.node_laws.proofs.readings.Silent.{IsQuiet}
 use Rattle.node_laws.proofs.readings.Sites.{acts_reads, sending_may, beginning_may, ticks_read, others_read}

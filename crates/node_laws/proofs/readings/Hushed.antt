@@ -1,12 +1,8 @@
 -- What other nodes do tells nothing of the unanswered command of a host.
 use Rattle.std.proofs.Common.{ℕ, List, refl}
 use Rattle.std.specs.List.{AllByRecursion}
-use Rattle.link_laws.specs.machine.Machine.{Message}
-use Rattle.node_machine.specs.Parts.{Core, Port, Deed}
-use Rattle.node_machine.specs.Turns.{deeds_of}
-use Rattle.node_laws.specs.readings.Orders.{IsSilent}
+use Rattle.node_laws.proofs.Words.{Core, Deed, IsSilent, Message, Port, deeds_hold, deeds_of}
 use Rattle.node_laws.proofs.readings.Noting.{NotesSo, controller_notes, host_notes}
-use Rattle.node_machine.proofs.Walks.{deeds_hold}
 
 -- what deeds end in tells nothing of it
 abbrev pub AreHushed : ℕ → List Deed → Type 0

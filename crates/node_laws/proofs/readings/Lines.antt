@@ -2,26 +2,15 @@
 use Rattle.std.proofs.Common.{◌≡◌, ℕ, Bool, true, false, eqb, ◌&&◌, List, [], ◌∷◌, ◌++◌, sym, refl, ap, ◌∙◌, subst}
 use Rattle.std.specs.Prelude.{Option, Some, None, unwrap_or, IsTrue}
 use Rattle.std.specs.List.{AllByRecursion}
-use Rattle.trace_model.specs.declared.entry.Entry.{Entry}
-use Rattle.trace_model.specs.declared.entry.NoCause.{NoCause}
-use Rattle.trace_model.specs.declared.line.End.{End}
-use Rattle.trace_model.specs.declared.line.Header.{Header}
-use Rattle.trace_model.specs.declared.line.Line.{Line}
+use Rattle.node_laws.proofs.Words.{Activates, AllRead, AreHosts, Arms, AsksReset, Boots, End, Entry, FollowsNodes, Gives, Happening, Header, Inits, IsCut}
+use Rattle.node_laws.proofs.Words.{IsInitOfHost, IsSentByHost, Line, Loses, Message, NextFrame, NoCause, NodeHistory, NodeWorld, NotUp, Occurrence, Refused}
+use Rattle.node_laws.proofs.Words.{Resets, Takes, Ticks, entries_in, first_cause, first_verdict, frames_at, give_refusal, happenings, has_order, if_not_sent}
+use Rattle.node_laws.proofs.Words.{if_off, if_waiting, is_command_message, link_to, machine_in, memory_at, new_world, node_at, node_entries, node_of}
+use Rattle.node_laws.proofs.Words.{occurrences_in, refusal_in, steps_from, taken_of, world_after, world_behind, world_step}
 use Rattle.trace_model.specs.declared.line.Line.TheVariants as line
-use Rattle.history.specs.Follows.{first_verdict, taken_of}
-use Rattle.link_laws.specs.machine.Machine.{Message, Refused, give_refusal}
-use Rattle.link_laws.specs.machine.Machine.Refused.{NotUp}
-use Rattle.link_laws.specs.messages.Links.Comes.{NextFrame, AsksReset}
-use Rattle.node_machine.specs.Controller.{is_command_message}
-use Rattle.node_machine.specs.world.World.{NodeWorld, Happening, node_at, node_of, link_to, memory_at, new_world, world_step}
-use Rattle.node_machine.specs.world.World.Happening.{Boots, IsCut, Gives, Inits, Takes, Loses, Ticks, Resets, Activates, Arms}
-use Rattle.node_machine.specs.world.Lines.{first_cause, if_off, machine_in, frames_at, has_order, if_waiting, if_not_sent, refusal_in, happenings, Occurrence}
-use Rattle.node_machine.specs.world.NodeHistories.{FollowsNodes, NodeHistory, entries_in, node_entries, occurrences_in, steps_from, world_after}
-use Rattle.node_laws.specs.telling.Telling.{world_behind}
-use Rattle.node_laws.specs.kept.Hosts.{AreHosts, IsSentByHost}
 use Rattle.node_laws.proofs.telling.Lasting.{AllHold, AllMay, damaged_may, entries_of_steps, events_of_steps, front_holds, lines_hold, lines_last}
 use Rattle.node_laws.proofs.telling.Lasting.{repeated_may, stands_none}
-use Rattle.node_laws.specs.readings.Worlds.{AllRead, MayBeRead, IsInitOfHost}
+use Rattle.node_laws.specs.readings.Worlds.{MayBeRead}
 use Rattle.node_laws.proofs.readings.Worlds.{comes_read, activates_read}
 use Rattle.node_laws.proofs.readings.Events.{all_begin, gives_read, inits_read, ticks_read_all}
 use Rattle.node_laws.proofs.readings.Powers.{cut_read, boots_read, memory_read}

@@ -2,22 +2,10 @@
 use Rattle.std.proofs.Common.{◌≡◌, ◌+◌, ℕ, Bool, true, false, eqb, List, [], ◌∷◌, ◌++◌, map, sym, refl, ap, ◌∙◌}
 use Rattle.std.specs.Prelude.{Option, Some, None}
 use Rattle.std.specs.List.{AllByRecursion}
-use Rattle.trace_model.specs.declared.entry.Entry.{Entry}
-use Rattle.trace_model.specs.declared.line.End.{End}
-use Rattle.link_laws.specs.messages.Links.{Link, Loss, happens}
-use Rattle.link_laws.specs.messages.Links.Loss.{Broken}
-use Rattle.link_laws.specs.messages.Links.EndEvent.{Lose}
-use Rattle.link_laws.specs.messages.Links.LinkEvent.{AtController, AtHost}
-use Rattle.link_laws.specs.entries.Entries.{first_lost}
-use Rattle.link_laws.specs.entries.Entries.End.{Controller, Host}
-use Rattle.history.specs.Steps.{entries_for}
-use Rattle.node_machine.specs.Parts.{Desk, Running}
-use Rattle.node_machine.specs.Carrying.{changed_if}
-use Rattle.node_machine.specs.world.World.{NodeWorld, Site, with_site, link_to, counts, frame_lost}
-use Rattle.node_laws.proofs.Cases.{by_option, by_test}
+use Rattle.node_laws.proofs.Words.{AllRead, AtController, AtHost, Broken, Controller, Desk, End, Entry, Host, IfHostRuns, IfZero, Link, Lose, Loss, NodeWorld}
+use Rattle.node_laws.proofs.Words.{Running, Site, SiteReads, by_option, by_test, changed_if, counts, entries_for, first_lost, frame_lost, happens, link_to}
+use Rattle.node_laws.proofs.Words.{order_of, with_site}
 use Rattle.node_laws.proofs.kept.Sites.{hosts_with}
-use Rattle.node_laws.specs.readings.Worlds.{IfHostRuns, SiteReads, IfZero, AllRead}
-use Rattle.node_laws.specs.readings.Orders.{order_of}
 use Rattle.node_laws.proofs.readings.Sites.{lost_quiet, others_read}
 use Rattle.node_laws.proofs.readings.Elsewhere.{AreSilent, quiet_silent}
 

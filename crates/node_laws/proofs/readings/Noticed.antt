@@ -4,25 +4,14 @@ use Rattle.std.specs.Prelude.{Option, Some, None, is_some, nat_le}
 use Rattle.std.specs.List.{flat_map}
 use Rattle.std.specs.Option.{option_map, option_map_or}
 use Rattle.std.proofs.lemmas.Bool.{true≢false, eqb-true}
-use Rattle.swp_base.specs.InMemory.{Plan}
-use Rattle.trace_model.specs.declared.entry.Entry.{Entry}
-use Rattle.link_laws.specs.sessions.Sessions.{is_up}
-use Rattle.shdlc_core.specs.declared.answers.LinkState.{LinkState}
-use Rattle.shdlc_core.specs.declared.answers.LinkState.TheVariants.{Up, Waiting, Down}
-use Rattle.shdlc_core.specs.Machine.{EndState, is_waiting, ticked, tick_answer}
-use Rattle.link_laws.specs.machine.Machine.{LinkEnd, LinkInput, Turn, is_open, after_input, had_tick}
-use Rattle.link_laws.specs.machine.Machine.LinkInput.{Tick, Reset}
-use Rattle.link_laws.specs.messages.Links.{Link, NumberedEnd, has_input, ticks_at_controller}
-use Rattle.link_laws.specs.messages.Links.Ending.{GoesOut}
-use Rattle.link_laws.proofs.messages.Project.{moved_role}
-use Rattle.node_machine.specs.Parts.{Notice, Desk, Running, Port, Work}
-use Rattle.node_machine.specs.Carrying.{noting, port_at, changed_if, with_desk, after_turn, turn_at}
-use Rattle.node_machine.specs.Node.{NodeInput, input_at, has_come, all_come, with_older, is_late, reset_late, times_out, forgets, forgotten, all_owed}
-use Rattle.node_machine.specs.Node.{without_notice, after_sessions, synced, steps}
-use Rattle.node_machine.specs.Node.NodeInput.{AtEnd, TimePasses}
-use Rattle.node_machine.specs.world.World.{port_for, work_of, is_late_at, ticked_so}
-use Rattle.node_laws.specs.links.Notices.{IsComing, IsOutside, IsNoticedUp, IsBegun, OnFirst}
-use Rattle.node_laws.proofs.Cases.{by_option, by_test}
+use Rattle.node_laws.proofs.Words.{AtEnd, Desk, EndState, Entry, GoesOut, IsComing, IsNoticedUp, IsOutside, Link, LinkEnd, LinkInput, LinkState, NodeInput}
+use Rattle.node_laws.proofs.Words.{Notice, NumberedEnd, OnFirst, Plan, Port, Reset, Running, Tick, TimePasses, Turn, Up, Waiting, Work, after_input}
+use Rattle.node_laws.proofs.Words.{after_sessions, after_turn, all_come, all_owed, by_option, by_test, changed_if, forgets, forgotten, had_tick, has_come}
+use Rattle.node_laws.proofs.Words.{has_input, input_at, is_late, is_late_at, is_open, is_up, is_waiting, moved_role, noting, port_at, port_for, reset_late}
+use Rattle.node_laws.proofs.Words.{steps, synced, tick_answer, ticked, ticked_so, ticks_at_controller, times_out, turn_at, with_desk, with_older}
+use Rattle.node_laws.proofs.Words.{without_notice, work_of}
+use Rattle.shdlc_core.specs.declared.answers.LinkState.TheVariants.{Down}
+use Rattle.node_laws.specs.links.Notices.{IsBegun}
 use Rattle.node_laws.proofs.links.Staying.{stays_up}
 use Rattle.node_laws.proofs.links.Noticing.{up_at, UpAt, at_all, at_host, links_after, Sure, steps_sure}
 use Rattle.node_laws.proofs.telling.Mute.{forgotten_mute, all_owed_mute, all_synced_mute}

@@ -3,54 +3,27 @@ use Rattle.std.proofs.Common.{◌≡◌, ◌⊎◌, inl, inr, ℕ, ◌+◌, Bool
 use Rattle.std.specs.Prelude.{Option, Some, None, is_some}
 use Rattle.std.specs.List.{AllByRecursion}
 use Rattle.std.proofs.lemmas.Bool.{true≢false, eqb-true, cases_Bool, ne_eqb}
-use Rattle.swp_base.specs.InMemory.{Memory}
-use Rattle.journal_laws.specs.Planned.{after_planned}
-use Rattle.trace_model.specs.Lines.{IsHost}
-use Rattle.trace_model.specs.declared.entry.Entry.{Entry}
-use Rattle.trace_model.specs.declared.line.End.{End}
-use Rattle.trace_model.specs.declared.line.Line.{Line}
-use Rattle.shdlc_core.specs.declared.answers.LinkState.{LinkState}
-use Rattle.shdlc_core.specs.declared.answers.LinkState.TheVariants.{Up}
-use Rattle.link_laws.specs.machine.Machine.{LinkEnd, LinkInput, Turn, after_input}
-use Rattle.link_laws.specs.machine.Machine.LinkInput.{Reset}
-use Rattle.link_laws.specs.messages.Links.{Link, NumberedEnd, Ending, Comes, Loss, EndEvent, exchanged, aged, has_input, steps_at_controller}
-use Rattle.link_laws.specs.messages.Links.{ticks_at_controller, happens}
-use Rattle.link_laws.specs.messages.Links.Ending.{GoesOut, CutOff}
-use Rattle.link_laws.specs.messages.Links.Comes.{NextFrame, AsksReset, Starts, NoInput}
-use Rattle.link_laws.specs.messages.Links.Loss.{Broken}
-use Rattle.link_laws.specs.messages.Links.EndEvent.{Step, Lose}
-use Rattle.link_laws.specs.messages.Links.LinkEvent.{AtHost}
-use Rattle.link_laws.specs.entries.Entries.End.{Controller}
-use Rattle.history.specs.Steps.{at, entries_for}
-use Rattle.history.specs.Follows.{seen_from}
-use Rattle.node_machine.specs.Parts.{Desk, Running, Port, Work}
-use Rattle.node_machine.specs.Carrying.{port_at, changed_if}
-use Rattle.node_machine.specs.Node.{steps, begins_with, boot_writes, new_desk, with_error}
-use Rattle.node_machine.specs.Node.NodeInput.{AtEnd, TimePasses}
-use Rattle.node_machine.specs.world.World.{NodeWorld, Site, Happening, site_at, link_to, memory_at, with_site, with_memory, links_of, ending_of, runs_on}
-use Rattle.node_machine.specs.world.World.{turns_at, input_of, near_end_in, arrival, port_for, work_of, comes_to, controller_work, link_after_controller}
-use Rattle.node_machine.specs.world.World.{after_controller, controller_does, host_work, after_host, host_does, host_cut, loses_power_at, boots, counts}
-use Rattle.node_machine.specs.world.World.{frame_lost, all_aged, is_late_at, ticked_so, controller_ticks, host_ticks, hosts_tick, world_ticks, sending}
-use Rattle.node_machine.specs.world.World.{beginning, comes_at, end_c, end_h, new_world, world_step}
-use Rattle.node_machine.specs.world.World.Happening.{Boots, IsCut, Gives, Inits, Takes, Loses, Ticks, Resets, Activates, Arms}
-use Rattle.node_machine.specs.world.Lines.{happenings}
-use Rattle.node_machine.specs.world.NodeHistories.{world_after}
-use Rattle.node_laws.specs.links.Notices.{IsNoticedUp, OnFirst}
-use Rattle.node_laws.proofs.Cases.{by_option, by_test}
+use Rattle.node_laws.proofs.Words.{Activates, AreHosts, Arms, AsksReset, AtEnd, AtHost, Boots, Broken, Comes, Controller, CutOff, Desk, End, EndEvent, Ending}
+use Rattle.node_laws.proofs.Words.{Entry, Gives, GoesOut, Happening, HasEnds, IfItRuns, IfNoticedUp, Inits, IsCut, IsHost, IsNoticedUp, IsOrderly, Line, Link}
+use Rattle.node_laws.proofs.Words.{LinkEnd, LinkInput, LinkState, Lose, Loses, Loss, Memory, NextFrame, NoInput, NodeWorld, NoticesAreUp, NumberedEnd, OnFirst}
+use Rattle.node_laws.proofs.Words.{Port, Reset, Resets, Running, Site, Starts, Step, Takes, Ticks, TimePasses, Turn, Up, Work, after_controller, after_host}
+use Rattle.node_laws.proofs.Words.{after_input, after_planned, aged, all_aged, arrival, at, beginning, begins_with, boot_found, boot_writes, boot_written}
+use Rattle.node_laws.proofs.Words.{boots, by_boot, by_memory, by_option, by_power, by_running, by_test, changed_if, comes_at, comes_to, controller_does}
+use Rattle.node_laws.proofs.Words.{controller_ticks, controller_work, counts, end_c, end_h, ending_of, entries_for, exchanged, frame_lost, happenings, happens}
+use Rattle.node_laws.proofs.Words.{has_input, host_cut, host_does, host_ticks, host_work, hosts_in, hosts_tick, input_of, is_late_at, link_after_controller}
+use Rattle.node_laws.proofs.Words.{link_to, links_of, loses_power_at, memory_at, near_end_in, new_desk, new_world, port_at, port_for, runs_on, seen_from}
+use Rattle.node_laws.proofs.Words.{sending, site_at, steps, steps_at_controller, ticked_so, ticks_at_controller, turns_at, with_error, with_memory, with_site}
+use Rattle.node_laws.proofs.Words.{work_of, world_after, world_step, world_ticks}
 use Rattle.node_laws.proofs.links.Ends.{here_host}
 use Rattle.link_laws.proofs.entries.Together.{ticks_host as tick_host}
 use Rattle.node_laws.proofs.links.Noticing.{at_all, at_host}
-use Rattle.node_laws.specs.kept.Hosts.{AreHosts}
-use Rattle.node_laws.specs.telling.Telling.{HasEnds, IfItRuns, hosts_in, IsOrderly}
 use Rattle.node_laws.proofs.telling.Events.{site_map, orderly_map, comes_goes}
 use Rattle.node_laws.proofs.telling.Lasting.{Any, AnyLine, all_any, all_lines, lines_last}
 use Rattle.node_laws.proofs.telling.Nodes.{site_host, link_is, ports_for}
 use Rattle.node_laws.proofs.telling.Orderly.{new_orderly, step_orderly}
 use Rattle.node_laws.proofs.telling.WorldTicks.{tick_host as ticked_number}
-use Rattle.node_laws.specs.readings.Noticed.{IfNoticedUp, NoticesAreUp}
 use Rattle.node_laws.proofs.readings.Sites.{near_end_side, comes_outside, sent_phase, stepped_phase}
 use Rattle.node_laws.proofs.readings.Noticed.{up_is, not_waiting, CameUp, input_up, tick_up, was_up}
-use Rattle.node_machine.proofs.world.Cases.{by_memory, by_running, by_power, boot_written, boot_found, by_boot}
 
 -- ## Ends
 

@@ -5,34 +5,18 @@ use Rattle.std.specs.Prelude.{Option, Some, None}
 use Rattle.std.specs.List.{AllByRecursion, flat_map}
 use Rattle.std.specs.Option.{option_map_or}
 use Rattle.std.proofs.lemmas.Bool.{cond_both}
-use Rattle.trace_model.specs.declared.entry.Entry.{Entry}
+use Rattle.node_laws.proofs.Words.{About, Acked, Active, AllByRecursion-append, Asks, AtEnd, Command, Commits, Controller, Core, Deed, Desk, Down, Drops, Ends}
+use Rattle.node_laws.proofs.Words.{Entry, FetchMessage, GaveUp, Give, GoesOn, Got, Hears, Hold, Host, IsAnswered, LinkInput, Message, NodeInput, OfHost, Orders}
+use Rattle.node_laws.proofs.Words.{Plain, Port, Release, Releases, Removed, Report, Reset, SaysOk, Sends, Sent, SetAside, SetsErrors, Tells, TimePasses, Turn}
+use Rattle.node_laws.proofs.Words.{Waits, Work, after_input, after_sessions, after_turn, all_come, all_done, all_of_host, all_owed, all_owed_hold}
+use Rattle.node_laws.proofs.Words.{all_synced_hold, any_of_controller, anyone, body_of, by_option, by_test, changed_if, commit, commit_writes, controller_deeds}
+use Rattle.node_laws.proofs.Words.{count_of, deeds_of, done, end_of, end_of_node, end_view, entries_for, entry_of, fails_within, forgets, forgotten}
+use Rattle.node_laws.proofs.Words.{forgotten_hold, give_refusal, has_come, host_deeds, input_at, is_late, noted_of, notified, noting, own_side, own_view}
+use Rattle.node_laws.proofs.Words.{port_at, report, reset_late, steps, synced, times_out, told, told_at, told_late, turn_at, view_of, whole_acked, with_desk}
+use Rattle.node_laws.proofs.Words.{with_older, with_port, without_notice}
 use Rattle.trace_model.specs.declared.entry.Entry.TheVariants as entry
-use Rattle.journal_laws.specs.Planned.{fails_within}
-use Rattle.journal_laws.specs.Journal.{count_of}
-use Rattle.hci_tables.specs.declared.command.Command.{Command}
-use Rattle.hci_tables.specs.Bodies.{body_of}
-use Rattle.hci_store.specs.Committing.{commit_writes}
-use Rattle.link_laws.specs.machine.Machine.{Message, LinkInput, Turn, Report, give_refusal, report, whole_acked, after_input}
-use Rattle.link_laws.specs.machine.Machine.LinkInput.{Reset}
-use Rattle.link_laws.specs.machine.Machine.Turn.{Give, Hold, FetchMessage, SetAside, Release}
-use Rattle.link_laws.specs.entries.Entries.{End as Side, Entry as Noted, told}
-use Rattle.link_laws.specs.entries.Entries.End.{Controller, Host}
-use Rattle.link_laws.specs.entries.Entries.Entry.{Up, Down, Active, GaveUp, Acked, Got, Sent}
-use Rattle.history.specs.Steps.{entries_for, entry_of, end_of}
-use Rattle.node_machine.specs.Parts.{About, Desk, Core, Port, Work, Deed}
-use Rattle.node_machine.specs.Parts.About.{Waits, Removed}
-use Rattle.node_machine.specs.Parts.Deed.{Commits, Sends, SaysOk, Asks, Releases, Tells, IsAnswered, Drops, SetsErrors, Orders, Hears, GoesOn, Ends}
-use Rattle.node_machine.specs.Carrying.{own_side, noting, port_at, changed_if, with_port, with_desk, after_turn, noted_of, turn_at, notified}
-use Rattle.node_machine.specs.Carrying.{commit, done, all_done, end_of_node, own_view, end_view}
-use Rattle.node_machine.specs.Controller.{controller_deeds, view_of}
-use Rattle.node_machine.specs.HostReplies.{host_deeds}
-use Rattle.node_machine.specs.Turns.{deeds_of}
-use Rattle.node_machine.specs.Node.{NodeInput, input_at, has_come, told_at, all_come, with_older, is_late, reset_late, told_late, times_out, forgotten, forgets}
-use Rattle.node_machine.specs.Node.{all_owed, without_notice, after_sessions, synced, steps}
-use Rattle.node_machine.specs.Node.NodeInput.{AtEnd, TimePasses}
-use Rattle.registry.proofs.ValueLemmas.{AllByRecursion-append}
-use Rattle.node_machine.proofs.Walks.{Plain, OfHost, any_of_controller, all_of_host, forgotten_hold, all_owed_hold, all_synced_hold, anyone}
-use Rattle.node_laws.proofs.Cases.{by_option, by_test}
+use Rattle.link_laws.specs.entries.Entries.{End as Side, Entry as Noted}
+use Rattle.link_laws.specs.entries.Entries.Entry.{Up}
 use Rattle.node_laws.proofs.steps.StepWalks.{got_at, all_do as all_note, Lasts, rest_lasts}
 use Rattle.node_laws.proofs.steps.Ports.{come_host, forgets_host, late_host, without_host, changed_host, sessions_node, at_port}
 use Rattle.node_laws.proofs.links.Noticing.{at_host}

@@ -3,27 +3,12 @@ use Rattle.std.proofs.Common.{◌≡◌, ◌⊎◌, inl, inr, ℕ, Bool, true, f
 use Rattle.std.specs.Prelude.{Some, None}
 use Rattle.std.specs.List.{AllByRecursion}
 use Rattle.std.proofs.lemmas.Bool.{cases_Bool, eqb-true}
-use Rattle.swp_base.specs.InMemory.{Memory}
-use Rattle.journal_laws.specs.Journal.{count_of}
-use Rattle.journal_laws.specs.Planned.{fails_within, after_planned}
-use Rattle.trace_model.specs.Lines.{IsHost}
-use Rattle.trace_model.specs.declared.entry.Entry.{Entry}
+use Rattle.node_laws.proofs.Words.{AllRead, AreDifferent, AreHosts, AtController, CutOff, Entry, IsHost, Memory, NoInput, NodeWorld, NumberedEnd, Running, Site}
+use Rattle.node_laws.proofs.Words.{SiteReads, Step, after_planned, boot_writes, boots, by_option, by_test, changed_if, controller_cut, count_of, fails_within}
+use Rattle.node_laws.proofs.Words.{found, happens, host_cut, links_of, loses_power_at, memory_at, node_at, site_at, with_memory, with_node, with_site}
 use Rattle.trace_model.specs.declared.entry.Entry.TheVariants as entry
-use Rattle.link_laws.specs.messages.Links.{NumberedEnd, happens}
-use Rattle.link_laws.specs.messages.Links.Ending.{CutOff}
-use Rattle.link_laws.specs.messages.Links.Comes.{NoInput}
-use Rattle.link_laws.specs.messages.Links.EndEvent.{Step}
-use Rattle.link_laws.specs.messages.Links.LinkEvent.{AtController}
-use Rattle.node_machine.specs.Parts.{Running}
-use Rattle.node_machine.specs.Carrying.{changed_if}
-use Rattle.node_machine.specs.Node.{boot_writes, found}
-use Rattle.node_machine.specs.world.World.{NodeWorld, Site, site_at, node_at, memory_at, with_site, with_memory, with_node, links_of, controller_cut, host_cut}
-use Rattle.node_machine.specs.world.World.{loses_power_at, boots}
-use Rattle.node_laws.proofs.Cases.{by_option, by_test}
 use Rattle.node_laws.proofs.links.Ends.{here_host}
-use Rattle.node_laws.specs.kept.Hosts.{AreDifferent, AreHosts}
 use Rattle.node_laws.proofs.kept.Sites.{site_found, hosts_same, hosts_with, with_site_twice}
-use Rattle.node_laws.specs.readings.Worlds.{SiteReads, AllRead}
 use Rattle.node_laws.proofs.readings.Sites.{cut_reads, boot_reads, others_read}
 use Rattle.node_laws.proofs.readings.Elsewhere.{AreSilent}
 use Rattle.node_laws.proofs.readings.Worlds.{hosts_in, none_zero, map_reads, others_stay, with_reads}

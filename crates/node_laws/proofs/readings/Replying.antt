@@ -3,24 +3,13 @@ use Rattle.std.proofs.Common.{◌≡◌, ℕ, ◌≤◌, ◌&&◌, Bool, true, f
 use Rattle.std.specs.Prelude.{Option, Some, None, ◌+◌}
 use Rattle.std.specs.List.{AllByRecursion}
 use Rattle.std.proofs.lemmas.Bool.{cond_both}
-use Rattle.trace_model.specs.declared.entry.Entry.TheVariants.{InitMade}
-use Rattle.hci_tables.specs.declared.command.Command.{Command}
-use Rattle.hci_tables.specs.declared.command.Command.TheVariants.{Create, Delete, Clear, Set}
-use Rattle.gate_answers.specs.declared.response.Response.{Response}
+use Rattle.node_laws.proofs.Words.{AreInitsShort, Clear, Command, Core, Create, Deed, Delete, Ends, Init, InitMade, MayDo, Message, Response, Sends, Set}
+use Rattle.node_laws.proofs.Words.{accepts, answer_of, answers_on, by_test, end_of_node, finds_room, gates, identity_served, init_deeds, init_holds}
+use Rattle.node_laws.proofs.Words.{is_command_message, learned, learned_holds, learns, learns_holds, link_deeds, link_served, ordered_deeds, ordered_holds}
+use Rattle.node_laws.proofs.Words.{orders_of, own_view}
 use Rattle.gate_answers.specs.declared.response.Response.TheVariants as response
-use Rattle.gate_answers.specs.Answers.{answer_of}
-use Rattle.gate_link.specs.Link.{link_served}
-use Rattle.gate_identity.specs.Identity.{identity_served}
-use Rattle.link_laws.specs.machine.Machine.{Message}
 use Rattle.registry.proofs.ValueLemmas.{AllByRecursion-get}
-use Rattle.node_machine.specs.Parts.{Init, Core, Deed}
-use Rattle.node_machine.specs.Parts.Deed.{Sends, Ends}
-use Rattle.node_machine.specs.Carrying.{end_of_node, finds_room, own_view}
-use Rattle.node_machine.specs.Controller.{answers_on, link_deeds, gates, is_command_message}
-use Rattle.node_machine.specs.HostReplies.{accepts, orders_of, learns, init_deeds, learned, ordered_deeds}
-use Rattle.node_machine.proofs.Walks.{ordered_holds, learns_holds, learned_holds, init_holds, orders_hold}
-use Rattle.node_laws.specs.readings.Orders.{AreInitsShort, MayDo}
-use Rattle.node_laws.proofs.Cases.{by_test}
+use Rattle.node_machine.proofs.Walks.{orders_hold}
 
 -- an answer is no command
 pub no_command : (r : Response) (value : List ℕ) → is_command_message (answer_of r value) ≡ false

@@ -4,21 +4,11 @@ use Rattle.std.specs.Prelude.{Option, Some, None, is_some, nat_lt, option_to_lis
 use Rattle.std.specs.List.{AllByRecursion, fold}
 use Rattle.std.proofs.lemmas.Bool.{eq-eqb, ne_eqb}
 use Rattle.std.proofs.lemmas.List.Sums.{fold-append}
-use Rattle.trace_model.specs.Lines.{IsHost}
-use Rattle.trace_model.specs.declared.entry.Entry.{Entry}
-use Rattle.link_laws.specs.machine.Machine.{Message, LinkInput, Refused, Report, ended_by, report, whole_acked, after_input}
-use Rattle.link_laws.specs.entries.Entries.{End as Side, Entry as Noted, if_so, sent_unless}
-use Rattle.link_laws.specs.entries.Entries.End.{Host}
-use Rattle.link_laws.specs.entries.Entries.Entry.{Up, Down, Active, GaveUp, Acked, Got, Sent}
-use Rattle.history.specs.Filters.{same_end}
-use Rattle.history.specs.Steps.{entries_for, end_of}
-use Rattle.node_machine.specs.Parts.{Core, Port}
-use Rattle.node_machine.specs.Carrying.{own_side}
-use Rattle.node_machine.specs.Node.{told_at}
-use Rattle.node_machine.specs.Controller.{is_command_message}
-use Rattle.node_machine.specs.world.World.{end_h}
-use Rattle.node_machine.specs.world.NodeFilters.{awaited_after, order_in}
-use Rattle.node_laws.proofs.Cases.{by_option}
+use Rattle.node_laws.proofs.Words.{Acked, Active, Core, Down, Entry, GaveUp, Got, Host, IsHost, LinkInput, Message, Port, Refused, Report, Sent, after_input}
+use Rattle.node_laws.proofs.Words.{awaited_after, by_option, end_h, end_of, ended_by, entries_for, if_so, is_command_message, order_in, own_side, report}
+use Rattle.node_laws.proofs.Words.{same_end, sent_unless, told_at, whole_acked}
+use Rattle.link_laws.specs.entries.Entries.{End as Side, Entry as Noted}
+use Rattle.link_laws.specs.entries.Entries.Entry.{Up}
 use Rattle.node_laws.proofs.telling.Reported.{rest_all}
 
 -- what is read after these entries, where this was read before

@@ -3,37 +3,19 @@ use Rattle.std.proofs.Common.{◌≡◌, inl, inr, ℕ, ◌&&◌, true, false, c
 use Rattle.std.specs.Prelude.{Option, Some, None, is_some}
 use Rattle.std.specs.List.{AllByRecursion}
 use Rattle.std.proofs.lemmas.Bool.{eq-eqb, eqb-true, true≢false, cond-true, and_parts}
-use Rattle.trace_model.specs.Lines.{IsHost}
-use Rattle.trace_model.specs.declared.entry.Entry.{Entry}
-use Rattle.link_laws.specs.sessions.Sessions.{OnWire}
-use Rattle.shdlc_core.specs.Machine.{most_frames}
+use Rattle.node_laws.proofs.Words.{AreInitsShort, AsksReset, AtEnd, Comes, CutOff, Deed, Desk, Ending, Entry, Fits, GoesOut, Host, IfHostRuns, IsComing, IsHost}
+use Rattle.node_laws.proofs.Words.{IsSilent, Link, LinkEnd, LinkInput, LinkState, Loss, MayDo, Memory, Message, NextFrame, NoInput, NumberedEnd, OnWire, Port}
+use Rattle.node_laws.proofs.Words.{Reset, Running, Site, SiteReads, Start, Starts, Stop, Stops, Take, Tick, TimePasses, Turn, Work, after_host, after_input}
+use Rattle.node_laws.proofs.Words.{after_planned, arrival, beginning, begins_with, by_list, by_option, by_test, ended_by, ending_entries, ending_of}
+use Rattle.node_laws.proofs.Words.{entries_for, exchanged, finished, first_lost, found, frames_noted, give_refusal, has_come, host_cut, host_ticks, host_work}
+use Rattle.node_laws.proofs.Words.{input_at, input_of, is_command_message, most_frames, near_end_in, new_desk, order_in, order_of, port_at, port_for, runs_on}
+use Rattle.node_laws.proofs.Words.{sending, sent_all, steps, steps_at_controller, ticks_at_controller, turn, turned, turns_at, wires_for, with_ended, work_of}
 use Rattle.link_laws.proofs.sessions.Ties.{after_frames-phase}
-use Rattle.shdlc_core.specs.declared.answers.LinkState.{LinkState}
-use Rattle.link_laws.specs.machine.Machine.{Message, give_refusal, LinkEnd, LinkInput, Turn, turn, turned, after_input, sent_all, ended_by}
-use Rattle.link_laws.specs.machine.Machine.LinkInput.{Take, Tick, Reset, Start, Stop}
-use Rattle.link_laws.specs.messages.Links.{Link, NumberedEnd, Ending, Comes, Loss, exchanged, with_ended, finished, ticks_at_controller, steps_at_controller}
-use Rattle.link_laws.specs.messages.Links.Ending.{GoesOut, CutOff}
-use Rattle.link_laws.specs.messages.Links.Comes.{NextFrame, AsksReset, Starts, Stops, NoInput}
-use Rattle.link_laws.specs.entries.Entries.{End as Side, first_lost, ending_entries}
-use Rattle.link_laws.specs.entries.Entries.End.{Host}
-use Rattle.history.specs.Steps.{entries_for}
-use Rattle.swp_base.specs.InMemory.{Memory}
-use Rattle.journal_laws.specs.Planned.{after_planned}
+use Rattle.link_laws.specs.entries.Entries.{End as Side}
 use Rattle.trace_model.specs.declared.entry.Entry.TheVariants as entry
-use Rattle.node_machine.specs.Parts.{Desk, Running, Port, Work, Deed}
-use Rattle.node_machine.specs.Controller.{is_command_message}
-use Rattle.node_machine.specs.Carrying.{port_at}
-use Rattle.node_machine.specs.Node.{input_at, has_come, steps, begins_with, found, new_desk}
-use Rattle.node_machine.specs.Node.NodeInput.{AtEnd, TimePasses}
-use Rattle.node_machine.specs.world.World.{Site, ending_of, runs_on, sending, beginning, host_cut, turns_at, input_of, near_end_in, arrival, wires_for}
-use Rattle.node_machine.specs.world.World.{port_for, work_of, frames_noted, host_work, after_host, host_ticks}
-use Rattle.node_machine.specs.world.NodeFilters.{order_in}
-use Rattle.node_laws.specs.links.Notices.{IsComing}
-use Rattle.node_laws.proofs.Cases.{by_list, by_option, by_test}
 use Rattle.node_laws.proofs.links.Noticing.{turn-phase}
 use Rattle.node_laws.proofs.telling.Frames.{lost_all, ending_all, arrival_all}
-use Rattle.node_laws.specs.readings.Orders.{order_of, AreInitsShort, IsSilent, Fits, MayDo}
-use Rattle.node_laws.specs.readings.Worlds.{HostRuns, IfHostRuns, SiteReads}
+use Rattle.node_laws.specs.readings.Worlds.{HostRuns}
 use Rattle.node_laws.proofs.readings.Silent.{IsQuiet, reads, order_more, quiet_reads}
 use Rattle.node_laws.proofs.readings.Doing.{Runs, Stands, all_stand}
 use Rattle.node_laws.proofs.readings.Stepping.{steps_stand}

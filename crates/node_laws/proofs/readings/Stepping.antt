@@ -3,24 +3,12 @@ use Rattle.std.proofs.Common.{◌≡◌, inl, ℕ, ◌||◌, Bool, true, false, 
 use Rattle.std.specs.Prelude.{Option, Some, None, is_some}
 use Rattle.std.specs.List.{AllByRecursion, flat_map}
 use Rattle.std.proofs.lemmas.Bool.{true≢false}
-use Rattle.trace_model.specs.Lines.{IsHost}
-use Rattle.trace_model.specs.declared.entry.Entry.{Entry}
-use Rattle.hci_tables.specs.declared.command.Command.TheVariants.{Sync}
-use Rattle.shdlc_core.specs.declared.answers.LinkState.{LinkState}
-use Rattle.shdlc_core.specs.declared.answers.LinkState.TheVariants.{Up}
-use Rattle.link_laws.specs.machine.Machine.{LinkInput, report}
-use Rattle.node_machine.specs.Parts.{Core, Port, Work, Deed}
-use Rattle.node_machine.specs.Parts.Deed.{Commits}
-use Rattle.node_machine.specs.Carrying.{noting, unless_cut, all_done}
-use Rattle.node_machine.specs.Turns.{passes}
-use Rattle.node_machine.specs.Node.{NodeInput, input_at, has_come, told_at, all_come, with_older, reset_late, told_late, times_out, forgotten, forgets}
-use Rattle.node_machine.specs.Node.{all_owed, without_notice, after_sessions, synced, steps, begins_with}
-use Rattle.node_machine.specs.Node.NodeInput.{AtEnd, TimePasses}
-use Rattle.node_laws.specs.links.Notices.{IsComing, IsOutside}
-use Rattle.node_laws.proofs.Cases.{by_option, by_test}
+use Rattle.node_laws.proofs.Words.{AtEnd, Commits, Core, Deed, Entry, Fits, IsComing, IsFresh, IsHost, IsOutside, LinkInput, LinkState, MayDo, NodeInput, Port}
+use Rattle.node_laws.proofs.Words.{Sync, TimePasses, Up, Work, after_sessions, all_come, all_done, all_owed, begins_with, by_option, by_test, comes_to_pass}
+use Rattle.node_laws.proofs.Words.{forgets, forgotten, has_come, input_at, noting, passes, report, reset_late, steps, synced, times_out, told_at, told_late}
+use Rattle.node_laws.proofs.Words.{unless_cut, with_older, without_notice}
 use Rattle.node_laws.proofs.links.Staying.{stays_up}
-use Rattle.node_laws.specs.passes.Steps.{comes_to_pass}
-use Rattle.node_laws.specs.readings.Orders.{IsItsEnd, KeepsOrder, IsFresh, Fits, MayDo}
+use Rattle.node_laws.specs.readings.Orders.{IsItsEnd, KeepsOrder}
 use Rattle.node_laws.proofs.readings.Silent.{reads, host_side, told_reads}
 use Rattle.node_laws.proofs.readings.Doing.{Runs, Stands, stands_keep, keeps_stand, then, read_more, all_stand}
 use Rattle.node_laws.proofs.readings.Turning.{passes_stand}

@@ -3,30 +3,16 @@ use Rattle.std.proofs.Common.{◌≡◌, inl, ℕ, ◌≤◌, ◌&&◌, Bool, tr
 use Rattle.std.specs.Prelude.{Option, Some, None, Result, Ok, Err, is_some, nat_lt}
 use Rattle.std.specs.Option.{option_map, option_map_or}
 use Rattle.std.proofs.lemmas.Bool.{eq-eqb, true≢false, cond-true, le-ltb, ne_eqb}
-use Rattle.trace_model.specs.Lines.{IsHost}
-use Rattle.trace_model.specs.declared.entry.Entry.{Entry}
+use Rattle.node_laws.proofs.Words.{Commits, Deed, Drops, Ends, Entry, FetchMessage, Fits, GoesOn, Hears, Hold, IsHost, LinkEnd, LinkState, MayDo, Message}
+use Rattle.node_laws.proofs.Words.{MessageFault, MessageKind, Orders, Port, Releases, SaysOk, Sends, SetsErrors, Up, Waiting, Work, after_turn, all_done}
+use Rattle.node_laws.proofs.Words.{body_in, by_test, changed_if, deeds_of, done, end_of_node, end_view, gate_of_pipe, give_refusal, goes_through_ends, handles}
+use Rattle.node_laws.proofs.Words.{have_turns, header_of, holds_back, host_deeds, init_deeds, is_command_message, is_gate, is_held, is_response, is_up, lack}
+use Rattle.node_laws.proofs.Words.{learned, lets_go, need, needs, noting, ordered_deeds, own_view, passes, port_at, response_deeds, spare, turn_at, unless_cut}
+use Rattle.node_laws.proofs.Words.{with_desk, with_port}
 use Rattle.trace_model.specs.declared.entry.Entry.TheVariants as entry
-use Rattle.hcp_packet.specs.declared.MessageKind.{MessageKind}
 use Rattle.hcp_packet.specs.declared.MessageKind.TheVariants.{Command as IsCommand, Event as IsEvent, Response as IsResponse}
-use Rattle.hcp_packet.specs.declared.MessageFault.{MessageFault}
-use Rattle.hcp_packet.specs.MessageHeader.{header_of}
-use Rattle.link_laws.specs.sessions.Sessions.{is_up}
-use Rattle.shdlc_core.specs.declared.answers.LinkState.{LinkState}
-use Rattle.shdlc_core.specs.declared.answers.LinkState.TheVariants.{Up, Waiting, Down}
-use Rattle.gate_answers.specs.Answers.{body_in}
-use Rattle.link_laws.specs.machine.Machine.{Message, LinkEnd, give_refusal, spare, need, is_held}
-use Rattle.link_laws.specs.machine.Machine.Turn.{Hold, FetchMessage}
+use Rattle.shdlc_core.specs.declared.answers.LinkState.TheVariants.{Down}
 use Rattle.gate_loopback.specs.Loopback.{posts_back}
-use Rattle.node_machine.specs.Parts.{Port, Work, Deed}
-use Rattle.node_machine.specs.Parts.Deed.{Commits, Sends, SaysOk, Releases, Drops, SetsErrors, Orders, Hears, GoesOn, Ends}
-use Rattle.node_machine.specs.Controller.{is_command_message}
-use Rattle.node_machine.specs.Carrying.{noting, unless_cut, port_at, changed_if, with_port, with_desk, after_turn, turn_at, end_of_node, done, all_done, needs}
-use Rattle.node_machine.specs.Carrying.{lack, own_view, end_view}
-use Rattle.node_machine.specs.HostReplies.{learned, init_deeds, response_deeds, ordered_deeds, is_gate, gate_of_pipe, host_deeds}
-use Rattle.node_machine.specs.Turns.{deeds_of, handles, holds_back, lets_go, have_turns, goes_through_ends, passes}
-use Rattle.node_machine.specs.world.NodeFilters.{is_response}
-use Rattle.node_laws.specs.readings.Orders.{Fits, MayDo}
-use Rattle.node_laws.proofs.Cases.{by_test}
 use Rattle.node_laws.proofs.readings.Silent.{reads, host_side, same_own}
 use Rattle.node_laws.proofs.readings.Doing.{Runs, Stands, then, noting_runs, desk_runs, turn_runs, all_stand}
 use Rattle.node_laws.proofs.readings.Replying.{ordered_may, posted_may, learned_if, init_may}

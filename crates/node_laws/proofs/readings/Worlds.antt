@@ -5,30 +5,15 @@ use Rattle.std.specs.Prelude.{Option, Some, None}
 use Rattle.std.specs.List.{AllByRecursion, flat_map}
 use Rattle.std.proofs.lemmas.Bool.{cases_Bool, eqb-true, eqb-false, ne_eqb, cond-true, cond-false}
 use mathlib.Core.Bool.{and-false}
-use Rattle.swp_base.specs.InMemory.{Plan}
-use Rattle.trace_model.specs.Lines.{IsHost}
-use Rattle.trace_model.specs.declared.entry.Entry.{Entry}
-use Rattle.trace_model.specs.declared.line.End.{End}
-use Rattle.link_laws.specs.machine.Machine.{LinkInput}
-use Rattle.link_laws.specs.messages.Links.{Link, NumberedEnd, Comes, exchanged}
-use Rattle.link_laws.specs.messages.Links.Comes.{Starts}
-use Rattle.link_laws.specs.messages.Links.EndEvent.{Step}
+use Rattle.node_laws.proofs.Words.{AllRead, AreDifferent, AreHosts, AtEnd, Comes, Controller, Desk, End, Entry, Host, IfHostRuns, IfZero, IsHost, Link}
+use Rattle.node_laws.proofs.Words.{LinkInput, NodeWorld, NumberedEnd, Plan, Port, Running, Site, SiteReads, Starts, Step, Work, activates, after_host, arrival}
+use Rattle.node_laws.proofs.Words.{by_option, by_test, changed_if, comes_at, comes_to, controller_does, controller_work, end_c, end_h, ending_of, entries_for}
+use Rattle.node_laws.proofs.Words.{exchanged, frames_noted, host_does, host_work, input_of, link_after_controller, link_to, near_end_in, port_at, port_for}
+use Rattle.node_laws.proofs.Words.{runs_on, seen_from, site_at, steps, turns_at, wires_for, with_site, work_of}
 use Rattle.link_laws.specs.entries.Entries.{End as Side}
-use Rattle.link_laws.specs.entries.Entries.End.{Controller, Host}
-use Rattle.history.specs.Steps.{entries_for}
-use Rattle.history.specs.Follows.{seen_from}
-use Rattle.node_machine.specs.Parts.{Desk, Running, Port, Work}
-use Rattle.node_machine.specs.Carrying.{changed_if, port_at}
-use Rattle.node_machine.specs.Node.{steps}
-use Rattle.node_machine.specs.Node.NodeInput.{AtEnd}
-use Rattle.node_machine.specs.world.World.{NodeWorld, Site, site_at, with_site, link_to, ending_of, runs_on, turns_at, input_of, near_end_in, arrival}
-use Rattle.node_machine.specs.world.World.{wires_for, port_for, work_of, frames_noted, comes_to, controller_work, link_after_controller, controller_does}
-use Rattle.node_machine.specs.world.World.{host_work, after_host, host_does, comes_at, activates, end_c, end_h}
-use Rattle.node_laws.proofs.Cases.{by_option, by_test}
 use Rattle.node_laws.proofs.links.Ends.{here_host}
-use Rattle.node_laws.specs.kept.Hosts.{AreDifferent, AreHosts}
 use Rattle.node_laws.proofs.kept.Sites.{site_found, hosts_same, hosts_with}
-use Rattle.node_laws.specs.readings.Worlds.{HostRuns, IfHostRuns, SiteReads, IfZero, AllRead}
+use Rattle.node_laws.specs.readings.Worlds.{HostRuns}
 use Rattle.node_laws.proofs.readings.Sites.{ending_quiet, arrival_quiet, comes_reads, others_read}
 use Rattle.node_laws.proofs.readings.Elsewhere.{AreSilent, silent-append, silent_flat, quiet_silent, Away, IsAway, steps_away}
 

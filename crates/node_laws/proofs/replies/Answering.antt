@@ -4,22 +4,11 @@ use Rattle.std.proofs.Common.{append-nil, arith}
 use Rattle.std.specs.Prelude.{◌+◌, not, take, Option, Some, None}
 use Rattle.std.specs.List.{AllByRecursion, filter, list_any, prefix_len}
 use Rattle.std.proofs.lemmas.Bool.{eq-eqb}
-use Rattle.trace_model.specs.declared.entry.Entry.{Entry}
+use Rattle.node_laws.proofs.Words.{AnswersSo, Asks, Command, Commits, Deed, Drops, Ends, Entry, GoesOn, Hears, Init, IsNoAnswer, IsReplyNoted, MayBeDone}
+use Rattle.node_laws.proofs.Words.{Message, Orders, Port, SaysOk, Sends, State, Tells, before_turn, by_option, by_test, entries_of_reply, is_answer_of}
+use Rattle.node_laws.proofs.Words.{is_cut_of, is_turn_of, next_count, node_of, sent_in_session, to_command}
 use Rattle.trace_model.specs.declared.entry.Entry.TheVariants as entry
-use Rattle.journal_laws.specs.declared.state.State.{State}
-use Rattle.hci_tables.specs.declared.command.Command.{Command}
-use Rattle.link_laws.specs.machine.Machine.{Message}
-use Rattle.node_machine.specs.Parts.{Init, Port, Deed}
-use Rattle.node_machine.specs.Parts.Deed.{Commits, Sends, SaysOk, Asks, Tells, Drops, Orders, Hears, GoesOn, Ends}
-use Rattle.node_machine.specs.world.World.{node_of}
-use Rattle.node_laws.specs.kept.Deeds.{MayBeDone}
-use Rattle.node_laws.specs.kept.Reckonings.{is_cut_of}
-use Rattle.node_laws.specs.passes.Noting.{IsReplyNoted, next_count, sent_in_session, entries_of_reply}
-use Rattle.node_laws.specs.answers.Answered.{AnswersSo, before_turn, is_turn_of, to_command}
-use Rattle.node_laws.specs.answers.Order.{is_answer_of}
-use Rattle.node_laws.specs.replies.Known.{IsNoAnswer}
 use Rattle.registry.proofs.ValueLemmas.{AllByRecursion-append as all_append}
-use Rattle.node_laws.proofs.Cases.{by_option, by_test}
 use Rattle.node_laws.proofs.replies.Apart.{SendsOver}
 
 -- ## The entries of a reply

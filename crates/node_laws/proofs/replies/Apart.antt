@@ -3,34 +3,20 @@ use Rattle.std.proofs.Common.{◌≡◌, ℕ, ◌≤◌, ◌&&◌, Bool, true, f
 use Rattle.std.specs.Prelude.{Option, Some, None, Result, Ok, Err}
 use Rattle.std.specs.List.{AllByRecursion}
 use Rattle.std.proofs.lemmas.Bool.{cond_both, true≢false, eq-eqb}
-use Rattle.hcp_packet.specs.declared.MessageKind.{MessageKind}
+use Rattle.node_laws.proofs.Words.{Answer, AreTables, Ask, Asks, Command, Commit, Commits, Core, Creation, Decision, Deed, Drops, Ends, GiveOnce, GoesOn, Hears}
+use Rattle.node_laws.proofs.Words.{IsAnswered, IsNoneOf, JoinTwo, Message, MessageFault, MessageKind, Orders, Port, Releases, SaysOk, Sends, SetsErrors, Tells}
+use Rattle.node_laws.proofs.Words.{agreed, answer_of, answers_on, asked_at, asks_for, body_in, by_option, by_test, commit_deeds, controller_deeds, creation_in}
+use Rattle.node_laws.proofs.Words.{decided, decision_deeds, deeds_by_relay, finds_room, gate_deeds, gates, goes_through, has, has_link, header_of, hosts_where}
+use Rattle.node_laws.proofs.Words.{identity_served, is_command_message, kind_deeds, link_deeds, link_served, own_deeds, own_gate, own_view, port_at}
+use Rattle.node_laws.proofs.Words.{relay_deeds, relayed_to, served_at, unless_asking, unrelayed, view_for, view_of}
 use Rattle.hcp_packet.specs.declared.MessageKind.TheVariants.{Command as IsCommandKind, Event as IsEvent, Response as IsResponse}
-use Rattle.hcp_packet.specs.declared.MessageFault.{MessageFault}
-use Rattle.hcp_packet.specs.MessageHeader.{header_of}
-use Rattle.hci_tables.specs.declared.command.Command.{Command}
-use Rattle.hci_tables.specs.Tables.{AreTables}
-use Rattle.tables_laws.specs.tables.Changes.{JoinTwo}
 use Rattle.gate_answers.specs.declared.response.Response.TheVariants as response
-use Rattle.gate_answers.specs.Answers.{answer_of, body_in}
-use Rattle.gate_admin.specs.declared.decision.Decision.{Decision}
-use Rattle.gate_admin.specs.declared.decision.Decision.TheVariants.{Answer, Commit, Ask}
-use Rattle.gate_admin.specs.View.{has, hosts_where}
-use Rattle.gate_admin.specs.Decide.{decided}
-use Rattle.gate_link.specs.Link.{link_served}
-use Rattle.gate_identity.specs.Identity.{identity_served}
-use Rattle.link_laws.specs.machine.Machine.{Message}
-use Rattle.node_machine.specs.Parts.{Creation, Core, Port, Deed}
-use Rattle.node_machine.specs.Parts.Deed.{Commits, Sends, SaysOk, Asks, Releases, Tells, IsAnswered, Drops, SetsErrors, Orders, Hears, GoesOn, Ends}
-use Rattle.node_machine.specs.Carrying.{port_at, finds_room, own_view}
-use Rattle.node_machine.specs.Controller.{has_link, creation_in, asked_at, asks_for, view_for, answers_on, commit_deeds, decision_deeds, link_deeds, gates}
-use Rattle.node_machine.specs.Controller.{gate_deeds, own_gate, goes_through, served_at, agreed, creation_deeds, notice_deeds, is_command_message}
-use Rattle.node_machine.specs.Controller.{relayed_to, unrelayed, event_deeds, unless_asking, if_notice, kind_deeds, own_deeds, relay_deeds, deeds_by_relay}
-use Rattle.node_machine.specs.Controller.{controller_deeds, view_of, about_at}
-use Rattle.node_laws.proofs.Cases.{by_option, by_test}
+use Rattle.node_machine.specs.Controller.{creation_deeds, notice_deeds}
+use Rattle.node_machine.specs.Controller.{event_deeds, if_notice}
+use Rattle.node_machine.specs.Controller.{about_at}
 use Rattle.node_laws.proofs.links.Noticing.{UpAt}
 use Rattle.node_laws.proofs.notices.Telling.{AreRight, IsShort, MayTell, Outcome, controller_outcome}
 use Rattle.node_laws.proofs.notices.Telling.Outcome.{Leaves, IsHeard}
-use Rattle.node_laws.specs.passes.Noting.{IsNoneOf, GiveOnce}
 
 -- what a deed sends itself goes to an end that is up, and it begins and ends no init
 abbrev pub SendsOver : List Port → Deed → Type 0

@@ -5,31 +5,18 @@ use Rattle.std.specs.List.{AllByRecursion, fold, filter_map}
 use Rattle.std.proofs.lemmas.List.Elements.{filter_map-append}
 use Rattle.std.proofs.lemmas.List.Sums.{fold-append}
 use Rattle.registry.proofs.ValueLemmas.{AllByRecursion-append as all_append}
-use Rattle.trace_model.specs.declared.entry.Entry.{Entry}
+use Rattle.node_laws.proofs.Words.{AreHosts, AreNamed, Begins, Book, Counts, End, EndsAreRead, Entry, ErrorCount, Gets, IsKeptNotice, IsNamed, IsProperBook}
+use Rattle.node_laws.proofs.Words.{IsReadSo, KeepsBeside, KeepsInStep, Message, Moment, Port, Puts, Saying, Work, acked_after, acked_in, asking_in, book_in}
+use Rattle.node_laws.proofs.Words.{creations_at, desks_of, end_c, errors_after, lack_of, lacking, need_of_all, no_errors, notice_at, notice_in, noting, said_of}
+use Rattle.node_laws.proofs.Words.{same_end, sent_by, sent_in, session_now, spare_at, unacknowledged_in, until}
 use Rattle.trace_model.specs.declared.entry.Entry.TheVariants as entry
-use Rattle.trace_model.specs.declared.line.End.{End}
-use Rattle.link_laws.specs.machine.Machine.{Message, need_of_all}
-use Rattle.history.specs.Filters.{Saying, acked_after, acked_in, said_of, same_end, sent_by, sent_in}
-use Rattle.history.specs.Filters.Saying.{Begins, Counts, Ends, Gets, Loses, Puts, Sends, Takes}
-use Rattle.node_machine.specs.Parts.{Work, Port}
-use Rattle.node_machine.specs.Carrying.{noting}
-use Rattle.node_machine.specs.world.World.{end_c}
-use Rattle.node_machine.specs.world.NodeFilters.{Book, asking_in, book_in, notice_in, session_now, spare_at, unacknowledged_in}
-use Rattle.node_laws.specs.kept.Hosts.{AreHosts}
+use Rattle.history.specs.Filters.Saying.{Ends, Loses, Sends, Takes}
 use Rattle.node_laws.proofs.kept.Books.{book_more}
-use Rattle.node_laws.specs.creations.Creations.{creations_at, IsReadSo}
-use Rattle.node_laws.specs.creations.Worlds.{IsProperBook}
-use Rattle.node_laws.specs.notices.Notices.{IsKeptNotice, notice_at}
-use Rattle.node_laws.specs.views.Errors.{ErrorCount, errors_after, no_errors}
 use Rattle.node_laws.proofs.creations.Near.{far_fold, far_reading}
 use Rattle.node_laws.proofs.notices.Far.{AreFar, far-append, far_reads, not_near}
 use Rattle.node_laws.proofs.notices.Own.{IsFar}
 use Rattle.node_laws.proofs.views.Leaving.{IsRead, Leaves, leaves_all, reads_append}
-use Rattle.node_laws.specs.passes.Passing.{lacking}
-use Rattle.node_laws.specs.answers.Moments.{Moment, lack_of, until}
-use Rattle.node_laws.specs.replies.Known.{EndsAreRead, KeepsBeside}
-use Rattle.node_laws.specs.read_steps.Names.{AreNamed, IsNamed}
-use Rattle.node_laws.specs.read_steps.Works.{HasErrorsRead, KeepsInStep, desks_of}
+use Rattle.node_laws.specs.read_steps.Works.{HasErrorsRead}
 use Rattle.node_laws.proofs.replies.Turns.{lack_so}
 use Rattle.node_laws.proofs.read_steps.Naming.{far_named}
 

@@ -4,34 +4,16 @@ use Rattle.std.specs.Prelude.{Option, Some, None, IsTrue, ◌&&◌, not}
 use Rattle.std.specs.List.{AllByRecursion}
 use Rattle.std.specs.Option.{option_map, option_map_or, option_and_then}
 use Rattle.std.proofs.lemmas.Bool.{eqb-true, eq-eqb, true≢false}
-use Rattle.trace_model.specs.declared.entry.Entry.{Entry}
-use Rattle.pipe_table.specs.declared.row.PipeRow.{PipeRow}
-use Rattle.hci_tables.specs.declared.command.Command.{Command}
-use Rattle.hci_tables.specs.declared.command.Command.TheVariants.{Create}
-use Rattle.hci_tables.specs.Commands.{IsCommand, is_host, is_dynamic}
+use Rattle.node_laws.proofs.Words.{About, AreDifferent, AreHosts, AreNamed, Command, Create, Creation, Entry, Forgotten, IfAwaited, IsAbout, IsAwaited}
+use Rattle.node_laws.proofs.Words.{IsCommand, IsKeptNotice, IsNoticeOf, IsReadSo, IsRightAbout, IsRightNotice, KeepsInStep, Notice, PipeRow, Port, Removed}
+use Rattle.node_laws.proofs.Words.{Waits, Work, answer_of, asked_at, asking_in, body_in, by_option, by_test, creation_in, creation_of, creation_read, ends_of}
+use Rattle.node_laws.proofs.Words.{hosts_of_ends, instruction_in, is_dynamic, is_host, notice_in, pipe_named_in, port_at, same_bytes}
 use Rattle.gate_answers.specs.declared.response.Response.TheVariants as response
-use Rattle.gate_answers.specs.Answers.{answer_of, instruction_in, body_in}
-use Rattle.gate_admin.specs.Decide.{ends_of}
-use Rattle.history.specs.Damage.{same_bytes}
-use Rattle.node_machine.specs.Parts.{Creation, About, Notice, Port, Work}
-use Rattle.node_machine.specs.Parts.About.{Waits, Forgotten, Removed}
-use Rattle.node_machine.specs.Carrying.{port_at}
-use Rattle.node_machine.specs.Controller.{creation_of, creation_in, about_of, asked_at}
-use Rattle.node_machine.specs.HostReplies.{pipe_named_in}
-use Rattle.node_machine.specs.world.NodeFilters.{notice_in, asking_in}
-use Rattle.node_laws.proofs.Cases.{by_option, by_test}
+use Rattle.node_machine.specs.Controller.{about_of}
 use Rattle.node_laws.proofs.telling.Accounts.{at_host}
-use Rattle.node_laws.specs.kept.Books.{hosts_of_ends}
-use Rattle.node_laws.specs.kept.Hosts.{AreHosts, AreDifferent}
-use Rattle.node_laws.specs.notices.Notices.{IsAbout, IsNoticeOf, IsKeptNotice}
-use Rattle.node_laws.specs.notices.Worlds.{IsRightAbout, IsRightNotice}
-use Rattle.node_laws.specs.creations.Creations.{IsReadSo}
-use Rattle.node_laws.specs.creations.Worlds.{IsAwaited, IfAwaited}
 use Rattle.node_laws.proofs.creations.Asks.{asked_of, one_of, waits, desks_wait}
-use Rattle.node_laws.specs.read_steps.Works.{KeepsInStep}
 use Rattle.node_laws.proofs.read_steps.Knowing.{notice_is}
-use Rattle.node_laws.specs.answers.Moments.{about_read, creation_read}
-use Rattle.node_laws.specs.read_steps.Names.{AreNamed}
+use Rattle.node_laws.specs.answers.Moments.{about_read}
 use Rattle.node_laws.proofs.read_steps.Naming.{names_read}
 use Rattle.node_laws.proofs.replies.Ends.{all_found}
 use Rattle.node_laws.proofs.steps.Ports.{at_port}

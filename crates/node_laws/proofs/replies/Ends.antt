@@ -3,12 +3,7 @@ use Rattle.std.proofs.Common.{◌≡◌, ◌⊎◌, inl, inr, ℕ, ◌||◌, tru
 use Rattle.std.specs.Prelude.{Some}
 use Rattle.std.specs.List.{AllByRecursion}
 use Rattle.std.proofs.lemmas.Bool.{cases_Bool, eqb-true, eq-eqb, true≢false}
-use Rattle.node_machine.specs.Parts.{Port}
-use Rattle.node_machine.specs.Carrying.{port_at}
-use Rattle.node_laws.specs.kept.Books.{hosts_of_ends}
-use Rattle.node_laws.specs.kept.Hosts.{AreDifferent}
-use Rattle.node_laws.specs.cuts.Histories.{is_one_of}
-use Rattle.node_laws.proofs.Cases.{by_test}
+use Rattle.node_laws.proofs.Words.{AreDifferent, Port, by_test, hosts_of_ends, is_one_of, port_at}
 
 -- one that is found has a host among theirs
 pub one_found : (ports : List Port) (k : ℕ) (p : Port) → port_at ports k ≡ Some p → is_one_of (hosts_of_ends ports) k ≡ true

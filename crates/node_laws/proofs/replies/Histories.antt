@@ -2,40 +2,22 @@
 use Rattle.std.proofs.Common.{◌≡◌, ℕ, false, List, ◌++◌, map, sym, refl, ◌∙◌, subst}
 use Rattle.std.specs.Prelude.{Some}
 use Rattle.std.specs.List.{AllByRecursion}
-use Rattle.trace_model.specs.declared.entry.Entry.{Entry}
+use Rattle.node_laws.proofs.Words.{AreHosts, ArePassed, ArePlayable, AreRepliedIn, AtEnd, BeginsPass, Comes, Controller, Desk, Entry, FollowsNodes, HasEnds}
+use Rattle.node_laws.proofs.Words.{Header, IsFew, IsSentByHost, KeepsBeside, KeepsInStep, LastsOverTurns, Line, LinkInput, NodeHistory, NodeWorld, Occurrence}
+use Rattle.node_laws.proofs.Words.{ReadsBetween, ReadsInStep, Running, Site, TimePasses, Work, aged, all_aged, as_it_ticks, comes_to_pass, controller_begins}
+use Rattle.node_laws.proofs.Words.{entries_in, hosts_in, hosts_of_ends, input_of, link_to, new_world, node_entries, occurrences_in, passes, world_behind}
 use Rattle.trace_model.specs.declared.entry.Entry.TheVariants as entry
-use Rattle.trace_model.specs.declared.line.Header.{Header}
-use Rattle.trace_model.specs.declared.line.Line.{Line}
-use Rattle.link_laws.specs.machine.Machine.{LinkInput}
-use Rattle.link_laws.specs.entries.Entries.End.{Controller}
-use Rattle.link_laws.specs.messages.Links.{Comes, aged}
-use Rattle.node_machine.specs.Parts.{Desk, Running, Work}
-use Rattle.node_machine.specs.Turns.{passes}
-use Rattle.node_machine.specs.Node.NodeInput.{AtEnd, TimePasses}
-use Rattle.node_machine.specs.world.World.{NodeWorld, Site, all_aged, input_of, link_to, new_world}
-use Rattle.node_machine.specs.world.Lines.{Occurrence}
-use Rattle.node_machine.specs.world.NodeHistories.{FollowsNodes, NodeHistory, entries_in, node_entries, occurrences_in}
-use Rattle.node_laws.specs.links.Runs.{ArePlayable}
-use Rattle.node_laws.specs.telling.Telling.{HasEnds, hosts_in, world_behind}
 use Rattle.node_laws.proofs.telling.Worlds.{node_is}
-use Rattle.node_laws.specs.kept.Books.{hosts_of_ends}
-use Rattle.node_laws.specs.kept.Hosts.{AreHosts, IsFew, IsSentByHost}
 use Rattle.node_laws.proofs.kept.Sites.{hosts_same}
 use Rattle.node_laws.proofs.order.Lines.{IsSo, history_so}
 use Rattle.node_laws.proofs.order.Ticking.{timely}
-use Rattle.node_laws.specs.read_steps.Works.{KeepsInStep, ReadsInStep}
-use Rattle.node_laws.specs.read_steps.Worlds.{ReadsBetween, as_it_ticks}
 use Rattle.node_laws.proofs.read_steps.Reading.{comes_reads, history_reads, tick_reads}
 use Rattle.node_laws.proofs.read_rooms.Beginning.{comes_carried}
 use Rattle.node_laws.proofs.read_rooms.Lasting.{IsCarried}
 use Rattle.node_laws.proofs.read_rooms.Ticking.{tick_carried}
-use Rattle.node_laws.specs.passes.Passing.{ArePassed, LastsOverTurns}
 use Rattle.node_laws.specs.passes.Passing.ComesTo.{Begins}
-use Rattle.node_laws.specs.replies.Known.{KeepsBeside}
-use Rattle.node_laws.specs.replies.Passes.{AreRepliedIn, BeginsPass}
 use Rattle.node_laws.proofs.replies.Passes.{held_for, split_of, turn_replied, walked}
 use Rattle.node_laws.proofs.replies.Staying.{Stays, all_stays, beside_of}
-use Rattle.node_laws.specs.passes.Steps.{comes_to_pass, controller_begins}
 
 module _ (hosts : List ℕ) (are : AreHosts hosts) (t : List Entry) (w : Work) (step : ReadsInStep hosts t w) (carried : IsCarried t Controller w)
     (b : BeginsPass t w) where

@@ -3,29 +3,15 @@ use Rattle.std.proofs.Common.{◌≡◌, ℕ, ◌&&◌, true, false, eqb, List, 
 use Rattle.std.specs.Prelude.{Some, None, is_some}
 use Rattle.std.specs.Option.{option_map, option_map_or, option_and_then}
 use Rattle.std.proofs.lemmas.Bool.{and_parts, eq-eqb}
-use Rattle.trace_model.specs.declared.entry.Entry.{Entry}
-use Rattle.link_laws.specs.sessions.Sessions.{is_up}
-use Rattle.link_laws.specs.machine.Machine.{Message}
-use Rattle.node_machine.specs.Parts.{Core, Port, Work}
-use Rattle.node_machine.specs.Carrying.{port_at}
-use Rattle.node_machine.specs.Controller.{has_link, creation_of, about_at, view_for, view_of, controller_deeds}
-use Rattle.node_machine.specs.Turns.{deeds_of}
-use Rattle.node_machine.specs.world.World.{end_c}
-use Rattle.node_machine.specs.world.NodeFilters.{notice_in, asking_in, tables_in, session_now}
-use Rattle.node_laws.specs.kept.Books.{hosts_of_ends}
-use Rattle.node_laws.specs.kept.Hosts.{AreHosts}
-use Rattle.node_laws.specs.cuts.Histories.{is_one_of}
-use Rattle.node_laws.specs.notices.Notices.{IsKeptNotice}
-use Rattle.node_laws.proofs.Cases.{by_option}
+use Rattle.node_laws.proofs.Words.{AreHosts, AreNamed, Core, Entry, HasRoomForAll, IsKeptNotice, IsSameView, KeepsInStep, KnowsTheSame, Message, Moment, Port}
+use Rattle.node_laws.proofs.Words.{Work, asking_in, by_option, controller_deeds, creation_of, deeds_of, end_c, has_link, hosts_of_ends, is_one_of, is_up}
+use Rattle.node_laws.proofs.Words.{is_up_read, notice_in, port_at, reply, session_now, tables_in, until, view_at, view_for, view_of}
+use Rattle.node_machine.specs.Controller.{about_at}
 use Rattle.node_laws.proofs.notices.Turning.{kept_none}
-use Rattle.node_laws.specs.views.Views.{IsSameView, view_at}
-use Rattle.node_laws.specs.read_steps.Alike.{KnowsTheSame}
-use Rattle.node_laws.specs.read_steps.Works.{KeepsInStep, LinksAreRead}
+use Rattle.node_laws.specs.read_steps.Works.{LinksAreRead}
 use Rattle.node_laws.proofs.read_steps.Alike.{same_deeds}
 use Rattle.node_laws.proofs.read_steps.Knowing.{there_is, notice_is, creations_known, view_known}
-use Rattle.node_laws.specs.answers.Moments.{Moment, about_read, is_up_read, view_read, reply, until}
-use Rattle.node_laws.specs.replies.Known.{HasRoomForAll}
-use Rattle.node_laws.specs.read_steps.Names.{AreNamed}
+use Rattle.node_laws.specs.answers.Moments.{about_read, view_read}
 use Rattle.node_laws.proofs.replies.Ends.{one_found}
 use Rattle.node_laws.proofs.replies.Creations.{awaited_same}
 

@@ -6,29 +6,15 @@ use Rattle.std.specs.List.{AllByRecursion}
 use Rattle.std.specs.Option.{option_map_or, option_and_then}
 use Rattle.std.proofs.lemmas.Bool.{le-ltb}
 use Rattle.std.proofs.lemmas.List.Sums.{fold-append}
-use Rattle.trace_model.specs.declared.entry.Entry.{Entry}
+use Rattle.node_laws.proofs.Words.{AreAlong, AreHosts, ArePassed, BeginWithTurn, BeginsPass, Controller, End, Entry, IsBehind, IsTurnSo, KeepsBeside}
+use Rattle.node_laws.proofs.Words.{KeepsInStep, LastsOverTurns, Message, Moment, Port, ReadsInStep, Work, by_test, end_c, end_of_node, goes_through_ends}
+use Rattle.node_laws.proofs.Words.{hosts_of_ends, is_held_at, is_later, lack_at, lack_of, links_of_turns, oldest, passes, port_at, same_number, unhandled_after}
+use Rattle.node_laws.proofs.Words.{unhandled_in, until, waiting_at}
 use Rattle.trace_model.specs.declared.entry.Entry.TheVariants as entry
-use Rattle.trace_model.specs.declared.line.End.{End}
-use Rattle.link_laws.specs.machine.Machine.{Message, oldest}
-use Rattle.link_laws.specs.entries.Entries.End.{Controller}
-use Rattle.link_laws.proofs.entries.Lasting.{same_number}
-use Rattle.node_machine.specs.Parts.{Port, Work}
-use Rattle.node_machine.specs.Carrying.{end_of_node, port_at}
-use Rattle.node_machine.specs.Turns.{goes_through_ends, passes}
-use Rattle.node_machine.specs.world.World.{end_c}
-use Rattle.node_laws.specs.kept.Books.{hosts_of_ends}
-use Rattle.node_laws.specs.kept.Hosts.{AreHosts}
-use Rattle.node_laws.specs.passes.Passing.{AreAlong, ArePassed, BeginWithTurn, IsBehind, IsTurnSo, LastsOverTurns, Stays as StaysThere}
-use Rattle.node_laws.specs.passes.Passing.{is_held_at, links_of_turns, waiting_at}
+use Rattle.node_laws.specs.passes.Passing.{Stays as StaysThere}
 use Rattle.node_laws.specs.passes.Passing.ComesTo.{Begins}
-use Rattle.node_laws.proofs.Cases.{by_test}
 use Rattle.node_laws.proofs.passes.Behind.{leaves_behind}
 use Rattle.node_laws.proofs.passes.Ends.{HasFirst, has_first}
-use Rattle.node_laws.specs.answers.Answered.{is_later}
-use Rattle.node_laws.specs.answers.Moments.{Moment, lack_at, lack_of, unhandled_after, unhandled_in, until}
-use Rattle.node_laws.specs.replies.Known.{KeepsBeside}
-use Rattle.node_laws.specs.replies.Passes.{BeginsPass}
-use Rattle.node_laws.specs.read_steps.Works.{KeepsInStep, ReadsInStep}
 use Rattle.node_laws.proofs.replies.Calm.{AreCalm, calm_both, calm_none, lack_calm}
 use Rattle.node_laws.proofs.replies.Passes.{own_end_is, split_of, walked}
 use Rattle.node_laws.proofs.replies.Staying.{Stays, all_stays, beside_of}

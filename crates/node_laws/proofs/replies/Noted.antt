@@ -4,20 +4,9 @@ use Rattle.std.specs.Prelude.{Option, Some, None}
 use Rattle.std.specs.List.{AllByRecursion}
 use Rattle.std.specs.Option.{option_map_or, option_and_then}
 use Rattle.std.proofs.lemmas.Bool.{true≢false}
-use Rattle.trace_model.specs.declared.entry.Entry.{Entry}
+use Rattle.node_laws.proofs.Words.{AllReach, Asks, Commits, Deed, Drops, Ends, EndsAreRead, Entry, Message, Orders, Port, SaysOk, Sends, Tells, by_option}
+use Rattle.node_laws.proofs.Words.{end_c, entries_of_reply, has_link, is_up, next_count, port_at, sent_in_session, session_now, session_of_port}
 use Rattle.trace_model.specs.declared.entry.Entry.TheVariants as entry
-use Rattle.link_laws.specs.sessions.Sessions.{is_up}
-use Rattle.link_laws.specs.machine.Machine.{Message}
-use Rattle.node_machine.specs.Parts.{Port, Deed}
-use Rattle.node_machine.specs.Parts.Deed.{Commits, Sends, SaysOk, Asks, Tells, Drops, Orders, Ends}
-use Rattle.node_machine.specs.Carrying.{port_at}
-use Rattle.node_machine.specs.Controller.{has_link}
-use Rattle.node_machine.specs.world.World.{end_c}
-use Rattle.node_machine.specs.world.NodeFilters.{session_now}
-use Rattle.node_laws.specs.links.Notices.{AllReach}
-use Rattle.node_laws.specs.passes.Noting.{next_count, sent_in_session, entries_of_reply, session_of_port}
-use Rattle.node_laws.specs.replies.Known.{EndsAreRead}
-use Rattle.node_laws.proofs.Cases.{by_option}
 use Rattle.node_laws.proofs.replies.Apart.{SendsOver}
 
 module _ (t : List Entry) (ports : List Port) (ends : EndsAreRead t ports) (h : ℕ) where

@@ -5,29 +5,15 @@ use Rattle.std.specs.List.{AllByRecursion}
 use Rattle.std.specs.Option.{option_map_or, option_and_then}
 use Rattle.std.proofs.lemmas.Bool.{true≢false}
 use Rattle.std.proofs.lemmas.List.{append_cancel_left}
-use Rattle.trace_model.specs.Lines.{IsHost}
-use Rattle.trace_model.specs.declared.entry.Entry.{Entry}
+use Rattle.node_laws.proofs.Words.{AnswersSo, AreHosts, ArePassed, BeginWithTurn, Core, Deed, End, Entry, HadTurn, IsHeldFor, IsHost, IsNoAnswer, IsReplied}
+use Rattle.node_laws.proofs.Words.{KeepsBeside, KeepsInStep, LastsOverTurns, Message, MessagesAreRead, Moment, Port, WasHeld, Work, count_of, deeds_of, end_c}
+use Rattle.node_laws.proofs.Words.{end_of, end_of_node, entries_of_reply, handles, holds_in, hosts_of_ends, lack_at, lack_of, lacking, node_of, noted_by_deeds}
+use Rattle.node_laws.proofs.Words.{oldest, passes, session_of_port, takes_up, unhandled_in, until, waiting_at}
 use Rattle.trace_model.specs.declared.entry.Entry.TheVariants as entry
-use Rattle.trace_model.specs.declared.line.End.{End}
-use Rattle.journal_laws.specs.Journal.{count_of}
-use Rattle.link_laws.specs.machine.Machine.{Message, oldest}
-use Rattle.history.specs.Steps.{end_of}
-use Rattle.node_machine.specs.Parts.{Core, Port, Work, Deed}
-use Rattle.node_machine.specs.Carrying.{end_of_node}
-use Rattle.node_machine.specs.Turns.{deeds_of, handles, passes}
-use Rattle.node_machine.specs.world.World.{node_of, end_c}
-use Rattle.node_laws.specs.kept.Books.{hosts_of_ends}
-use Rattle.node_laws.specs.kept.Hosts.{AreHosts}
 use Rattle.node_laws.proofs.notices.Doing.{controller_side}
-use Rattle.node_laws.specs.read_steps.Works.{KeepsInStep}
 use Rattle.node_laws.proofs.read_steps.Lasting.{found_end, handles_keeps, holds_keeps, lets_keeps}
-use Rattle.node_laws.specs.passes.Noting.{entries_of_reply, noted_by_deeds, session_of_port}
-use Rattle.node_laws.specs.passes.Passing.{ArePassed, BeginWithTurn, HadTurn, LastsOverTurns, WasHeld, lacking, takes_up, waiting_at}
 use Rattle.node_laws.proofs.passes.Ends.{HasFirst, has_first}
 use Rattle.node_laws.proofs.passes.Passing.{through}
-use Rattle.node_laws.specs.answers.Answered.{AnswersSo, IsHeldFor, IsReplied}
-use Rattle.node_laws.specs.answers.Moments.{Moment, holds_in, lack_at, lack_of, unhandled_in, until}
-use Rattle.node_laws.specs.replies.Known.{IsNoAnswer, KeepsBeside, MessagesAreRead}
 use Rattle.node_laws.proofs.replies.Answering.{Trails, answers_so}
 use Rattle.node_laws.proofs.replies.Turns.{lack_so, noted_read, noted_so_far, told_so}
 

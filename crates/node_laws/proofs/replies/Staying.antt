@@ -2,27 +2,17 @@
 use Rattle.std.proofs.Common.{◌≡◌, ℕ, false, cond, List, [], ◌∷◌, ◌++◌, sym, ap, ◌∙◌, subst}
 use Rattle.std.specs.Prelude.{Some, None}
 use Rattle.std.specs.List.{AllByRecursion}
-use Rattle.trace_model.specs.Lines.{IsHost}
-use Rattle.trace_model.specs.declared.entry.Entry.{Entry}
+use Rattle.node_laws.proofs.Words.{AreHosts, ComesTo, Controller, Deed, EndsAreRead, Entry, Handles, HasRoomForAll, IsHost, IsReplyNoted, KeepsBeside}
+use Rattle.node_laws.proofs.Words.{LastsOverTurns, LetsGo, Message, MessagesAreRead, ReadsInStep, Work, count_of, deeds_of, end_c, entries_of_reply, handles}
+use Rattle.node_laws.proofs.Words.{holds_back, is_held_at, lacking, lets_go, noted_by_deeds, session_of_port, takes_up, waiting_at}
 use Rattle.trace_model.specs.declared.entry.Entry.TheVariants as entry
-use Rattle.journal_laws.specs.Journal.{count_of}
-use Rattle.link_laws.specs.machine.Machine.{Message}
-use Rattle.link_laws.specs.entries.Entries.End.{Controller}
-use Rattle.node_machine.specs.Parts.{Work, Deed}
-use Rattle.node_machine.specs.Turns.{deeds_of, handles, holds_back, lets_go}
-use Rattle.node_machine.specs.world.World.{end_c}
-use Rattle.node_laws.specs.kept.Hosts.{AreHosts}
-use Rattle.node_laws.specs.read_steps.Works.{ReadsInStep}
 use Rattle.node_laws.proofs.read_steps.Knowing.{aside_known}
 use Rattle.node_laws.proofs.read_steps.Lasting.{found_end}
 use Rattle.node_laws.proofs.read_steps.Reading.{handles_reads, holds_reads, lets_reads}
-use Rattle.node_laws.specs.passes.Noting.{IsReplyNoted, entries_of_reply, noted_by_deeds, session_of_port}
-use Rattle.node_laws.specs.passes.Passing.{ComesTo, LastsOverTurns, is_held_at, lacking, takes_up, waiting_at}
-use Rattle.node_laws.specs.passes.Passing.ComesTo.{Handles, Holds as HoldsBack, LetsGo}
+use Rattle.node_laws.specs.passes.Passing.ComesTo.{Holds as HoldsBack}
 use Rattle.node_laws.proofs.passes.Ends.{HasFirst, has_first}
 use Rattle.node_laws.proofs.passes.Passing.{handles_entries, holds_notes, lets_notes}
 use Rattle.node_laws.proofs.read_rooms.Lasting.{IsCarried, handles_last, holds_last, lets_last, ports_read as carried_read}
-use Rattle.node_laws.specs.replies.Known.{EndsAreRead, HasRoomForAll, KeepsBeside, MessagesAreRead}
 use Rattle.node_laws.proofs.replies.Turns.{noted_so_far, told_so}
 use Rattle.node_laws.proofs.replies.Passes.{own_end_is}
 use Rattle.node_laws.proofs.replies.Waiting.{messages_handled, messages_held, messages_left}

@@ -3,40 +3,20 @@ use Rattle.std.proofs.Common.{◌≡◌, ℕ, Bool, true, false, cond, List, [],
 use Rattle.std.specs.Prelude.{nat_lt, Option, Some, None, is_some}
 use Rattle.std.specs.List.{AllByRecursion}
 use Rattle.std.specs.Option.{option_map_or}
-use Rattle.trace_model.specs.Lines.{IsHost}
-use Rattle.trace_model.specs.declared.entry.Entry.{Entry}
-use Rattle.link_laws.specs.sessions.Sessions.{is_up}
-use Rattle.journal_laws.specs.Journal.{count_of}
-use Rattle.link_laws.specs.machine.Machine.{Message}
-use Rattle.node_machine.specs.Parts.{Creation, Core, Port, Work, Deed}
-use Rattle.node_machine.specs.Carrying.{port_at, needs, first_lack, spare_with, lack}
-use Rattle.node_machine.specs.Controller.{has_link, asked_at, controller_deeds, view_of}
-use Rattle.node_machine.specs.Turns.{deeds_of, handles}
-use Rattle.node_machine.specs.world.World.{end_c}
-use Rattle.node_machine.specs.world.NodeFilters.{session_now, spare_at}
-use Rattle.node_laws.specs.links.Notices.{AllReach}
-use Rattle.node_laws.proofs.Cases.{by_option}
+use Rattle.node_laws.proofs.Words.{AllReach, AreHosts, AreNamed, Core, Creation, Deed, EndsAreRead, Entry, GiveOnce, HasAsideAt, HasRoomForAll, IsHost}
+use Rattle.node_laws.proofs.Words.{IsKeptNotice, IsReplyNoted, KeepsBeside, KeepsInStep, KnowsTheSame, MayBeDone, Message, Moment, Port, StillRuns, Work}
+use Rattle.node_laws.proofs.Words.{asked_at, by_option, controller_deeds, count_of, creations_at, deeds_of, desks_of, end_c, entries_of_reply, first_lack}
+use Rattle.node_laws.proofs.Words.{handles, has_link, is_one_of, is_up, lack, lack_of, lacking, needs, noted_by_deeds, noted_of_deeds, port_at, reply}
+use Rattle.node_laws.proofs.Words.{session_now, session_of_port, spare_at, spare_read, takes_up, until, view_of}
+use Rattle.node_machine.specs.Carrying.{spare_with}
 use Rattle.node_laws.proofs.links.Reaching.{controller_reach}
-use Rattle.node_laws.specs.kept.Books.{StillRuns}
-use Rattle.node_laws.specs.kept.Deeds.{MayBeDone}
-use Rattle.node_laws.specs.kept.Hosts.{AreHosts}
-use Rattle.node_laws.specs.cuts.Histories.{is_one_of}
 use Rattle.node_laws.proofs.kept.Replies.{controller_may}
-use Rattle.node_laws.specs.notices.Notices.{IsKeptNotice}
 use Rattle.node_laws.proofs.notices.Doing.{Holds}
-use Rattle.node_laws.specs.creations.Creations.{creations_at}
 use Rattle.node_laws.proofs.creations.Asks.{desks_wait}
-use Rattle.node_laws.specs.read_steps.Alike.{KnowsTheSame}
-use Rattle.node_laws.specs.read_steps.Works.{HasAsideAt, KeepsInStep, desks_of}
 use Rattle.node_laws.proofs.read_steps.Alike.{same_deeds}
 use Rattle.node_laws.proofs.read_steps.Knowing.{there_is}
 use Rattle.node_laws.proofs.read_steps.Parts.{to_notices}
-use Rattle.node_laws.specs.passes.Noting.{IsReplyNoted, GiveOnce, entries_of_reply, noted_by_deeds, session_of_port}
-use Rattle.node_laws.specs.passes.Passing.{lacking, takes_up}
 use Rattle.node_laws.proofs.passes.Counts.{counts_one, reply_noted}
-use Rattle.node_laws.specs.answers.Moments.{Moment, lack_of, noted_of_deeds, reply, spare_read, until}
-use Rattle.node_laws.specs.replies.Known.{EndsAreRead, HasRoomForAll, KeepsBeside}
-use Rattle.node_laws.specs.read_steps.Names.{AreNamed}
 use Rattle.node_laws.proofs.replies.Creations.{IsIn, in_waits}
 use Rattle.node_laws.proofs.replies.Knowing.{AreUpAsRead, own_deeds, reply_so}
 use Rattle.node_laws.proofs.replies.Apart.{FirstSent, SendsOver, controller_apart, controller_sends}

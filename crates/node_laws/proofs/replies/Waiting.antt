@@ -5,23 +5,12 @@ use Rattle.std.specs.Prelude.{Some, drop}
 use Rattle.std.specs.Option.{option_map_or}
 use Rattle.std.proofs.lemmas.Bool.{cases_Bool, eqb-true, eq-eqb}
 use Rattle.std.proofs.lemmas.List.Sums.{fold-append}
-use Rattle.trace_model.specs.declared.entry.Entry.{Entry}
+use Rattle.node_laws.proofs.Words.{Deed, End, Entry, Message, MessagesAreRead, Port, Work, end_c, handles, holds_back, holds_in, hosts_of_ends, is_held_at}
+use Rattle.node_laws.proofs.Words.{is_one_of, lets_go, port_at, same_end, unhandled_after, unhandled_in, waiting_at}
 use Rattle.trace_model.specs.declared.entry.Entry.TheVariants as entry
-use Rattle.trace_model.specs.declared.line.End.{End}
-use Rattle.history.specs.Filters.{same_end}
-use Rattle.link_laws.specs.machine.Machine.{Message}
-use Rattle.node_machine.specs.Parts.{Port, Work, Deed}
-use Rattle.node_machine.specs.Carrying.{port_at}
-use Rattle.node_machine.specs.Turns.{handles, holds_back, lets_go}
-use Rattle.node_machine.specs.world.World.{end_c}
-use Rattle.node_laws.specs.kept.Books.{hosts_of_ends}
-use Rattle.node_laws.specs.cuts.Histories.{is_one_of}
-use Rattle.node_laws.specs.passes.Passing.{is_held_at, waiting_at}
 use Rattle.node_laws.proofs.passes.Ends.{HasFirst, SeesAt, has_first, lets_see}
 use Rattle.node_laws.proofs.passes.Passing.{handles_sees}
 use Rattle.node_laws.proofs.passes.Behind.{held_own, other_handles, other_holds}
-use Rattle.node_laws.specs.answers.Moments.{holds_in, unhandled_after, unhandled_in}
-use Rattle.node_laws.specs.replies.Known.{MessagesAreRead}
 use Rattle.node_laws.proofs.reply_passes.Came.{one_at}
 use Rattle.node_laws.proofs.replies.Ends.{one_found}
 use Rattle.node_laws.proofs.replies.Answering.{AreReplyEntries, IsReplyEntry}

@@ -3,46 +3,26 @@ use Rattle.std.proofs.Common.{◌≡◌, ℕ, false, cond, eqb, List, [], ◌∷
 use Rattle.std.specs.Prelude.{Option, Some, None, is_some}
 use Rattle.std.specs.Option.{option_map_or}
 use Rattle.std.proofs.lemmas.Bool.{eqb-true}
-use Rattle.trace_model.specs.declared.entry.Entry.{Entry}
-use Rattle.trace_model.specs.declared.line.Header.{Header}
-use Rattle.trace_model.specs.declared.line.Line.{Line}
-use Rattle.link_laws.specs.machine.Machine.{LinkEnd, LinkInput}
-use Rattle.link_laws.specs.messages.Links.{Link, NumberedEnd, Comes, aged}
-use Rattle.link_laws.specs.entries.Entries.{aged_entries}
-use Rattle.link_laws.specs.entries.Entries.End.{Controller, Host}
-use Rattle.history.specs.Steps.{entries_for}
-use Rattle.node_machine.specs.Parts.{Desk, Running, Port, Work}
-use Rattle.node_machine.specs.Carrying.{own_side, port_at}
-use Rattle.node_machine.specs.Node.{NodeInput}
-use Rattle.node_machine.specs.Node.NodeInput.{AtEnd, TimePasses}
-use Rattle.node_machine.specs.world.World.{NodeWorld, Site, Happening, site_at, link_to, input_of, near_end_in, arrival, comes_to, port_for, work_of}
-use Rattle.node_machine.specs.world.World.{new_world, world_step, all_aged, end_c}
-use Rattle.node_machine.specs.world.Lines.{Occurrence}
-use Rattle.node_machine.specs.world.NodeHistories.{FollowsNodes, NodeHistory, entries_in, occurrences_in, steps_from}
-use Rattle.node_laws.specs.kept.Books.{hosts_of_ends}
-use Rattle.node_laws.specs.kept.Hosts.{AreDifferent, AreHosts}
-use Rattle.node_laws.specs.telling.Telling.{HasEnds, hosts_in, MayBoot, world_behind}
-use Rattle.node_laws.proofs.Cases.{by_test}
+use Rattle.node_laws.proofs.Words.{AreDifferent, AreHosts, AreNoTurns, AtEnd, Comes, Controller, Desk, Entry, FollowsNodes, Happening, HasEnds, Header, Host}
+use Rattle.node_laws.proofs.Words.{IsOutside, Line, Link, LinkEnd, LinkInput, MayBoot, MessagesAreRead, NodeHistory, NodeInput, NodeWorld, NumberedEnd}
+use Rattle.node_laws.proofs.Words.{Occurrence, Port, Running, Site, TimePasses, Work, aged, aged_entries, all_aged, arrival, as_it_ticks, by_test, comes_to}
+use Rattle.node_laws.proofs.Words.{comes_to_pass, controller_begins, end_c, entries_for, entries_in, holds_in, hosts_in, hosts_of_ends, input_of, link_to}
+use Rattle.node_laws.proofs.Words.{near_end_in, new_world, occurrences_in, own_side, port_at, port_for, site_at, steps_from, unhandled_in, work_of}
+use Rattle.node_laws.proofs.Words.{world_behind, world_step}
 use Rattle.node_laws.proofs.telling.Lasting.{AllHold, AnyLine, all_lines, boots_may, events_of_steps, front_holds, lines_hold}
 use Rattle.node_laws.proofs.telling.Nodes.{hosts_same, link_is, ports_for}
 use Rattle.node_laws.proofs.telling.Orderly.{new_orderly, step_orderly}
 use Rattle.node_laws.proofs.telling.Worlds.{node_is}
 use Rattle.node_laws.proofs.readings.NoticedWorlds.{numbers}
 use Rattle.node_laws.proofs.readings.Sites.{comes_outside, near_end_side}
-use Rattle.node_laws.specs.links.Notices.{IsOutside}
 use Rattle.node_laws.proofs.kept.Sites.{hosts_same as sites_same}
-use Rattle.node_laws.specs.read_steps.Worlds.{as_it_ticks}
 use Rattle.node_laws.proofs.read_rooms.Beginning.{HasSite, site_for}
 use Rattle.node_laws.proofs.turns.Queues.{AreStill, goes-append}
 use Rattle.node_laws.proofs.turns.Lines.{AllWait, Waiting, none_wait}
 use Rattle.node_laws.proofs.turns.Works.{ByPower, Leaves, Moves, NearWaits, aged_none, arrival_still, end_at, flat_leaves, sites_is, still_leaves}
 use Rattle.node_laws.proofs.turns.Worlds.{events_move}
 use Rattle.node_laws.proofs.turns.Coming.{notes_still}
-use Rattle.node_laws.specs.passes.Passing.{AreNoTurns}
-use Rattle.node_laws.specs.passes.Steps.{comes_to_pass, controller_begins}
 use Rattle.node_laws.proofs.passes.Before.{links_none}
-use Rattle.node_laws.specs.replies.Known.{MessagesAreRead}
-use Rattle.node_laws.specs.answers.Moments.{holds_in, unhandled_in}
 use Rattle.node_laws.proofs.reply_passes.Sides.{AreNoBoots, notes_unbooted}
 use Rattle.node_laws.proofs.reply_passes.Holding.{begun_read}
 use Rattle.node_laws.proofs.reply_passes.Held.{HoldsRead, aged_leave, event_holds, is_held_among, ports_held}

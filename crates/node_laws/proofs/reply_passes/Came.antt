@@ -4,28 +4,13 @@ use Rattle.std.specs.Prelude.{◌||◌, Option, Some, None, drop}
 use Rattle.std.specs.List.{AllByRecursion, flat_map}
 use Rattle.std.proofs.lemmas.Bool.{eqb-true, true≢false}
 use Rattle.std.proofs.lemmas.List.Sums.{fold-append}
-use Rattle.trace_model.specs.declared.entry.Entry.{Entry}
+use Rattle.node_laws.proofs.Words.{AreDifferent, AtEnd, Controller, Core, Deed, End, Entry, Got, Host, IsComing, IsOutside, LinkEnd, LinkInput, Message}
+use Rattle.node_laws.proofs.Words.{NodeInput, Port, Reset, TimePasses, Work, after_input, after_sessions, all_come, all_done, by_test, comes_to_pass, end_of}
+use Rattle.node_laws.proofs.Words.{entries_for, forgets, forgotten, has_come, has_come_so, has_freed, has_synced, hosts_of_ends, input_at, is_late, is_one_of}
+use Rattle.node_laws.proofs.Words.{node_of, owed_in_step, own_side, port_at, report, reset_got, reset_late, same_end, syncs_in, times_out, told, told_at}
+use Rattle.node_laws.proofs.Words.{told_late, unhandled_after, unhandled_in, whole_acked, with_older, without_notice}
 use Rattle.trace_model.specs.declared.entry.Entry.TheVariants as entry
-use Rattle.trace_model.specs.declared.line.End.{End}
-use Rattle.link_laws.specs.machine.Machine.{Message, LinkEnd, LinkInput, after_input, report, whole_acked}
-use Rattle.link_laws.specs.machine.Machine.LinkInput.{Reset}
-use Rattle.link_laws.proofs.machine.Kept.{reset_got}
-use Rattle.link_laws.specs.entries.Entries.{End as Side, told}
-use Rattle.link_laws.specs.entries.Entries.End.{Controller, Host}
-use Rattle.link_laws.specs.entries.Entries.Entry.{Got}
-use Rattle.history.specs.Filters.{same_end}
-use Rattle.history.specs.Steps.{end_of, entries_for}
-use Rattle.node_machine.specs.Parts.{Core, Port, Work, Deed}
-use Rattle.node_machine.specs.Carrying.{own_side, port_at, all_done}
-use Rattle.node_machine.specs.Node.{NodeInput, input_at, has_come, told_at, all_come, with_older, is_late, reset_late, told_late, times_out, forgotten, forgets}
-use Rattle.node_machine.specs.Node.{without_notice, after_sessions}
-use Rattle.node_machine.specs.Node.NodeInput.{AtEnd, TimePasses}
-use Rattle.node_machine.specs.world.World.{node_of}
-use Rattle.node_laws.specs.kept.Books.{hosts_of_ends}
-use Rattle.node_laws.specs.kept.Hosts.{AreDifferent}
-use Rattle.node_laws.specs.cuts.Histories.{is_one_of}
-use Rattle.node_laws.specs.links.Notices.{IsComing, IsOutside}
-use Rattle.node_laws.proofs.Cases.{by_test}
+use Rattle.link_laws.specs.entries.Entries.{End as Side}
 use Rattle.node_laws.proofs.steps.Ports.{come_host, forgets_host, without_host, late_host}
 use Rattle.node_laws.proofs.steps.StepWalks.{unless}
 use Rattle.node_laws.proofs.telling.Mute.{AreMute, forgotten_mute, all_owed_mute, all_synced_mute}
@@ -35,10 +20,8 @@ use Rattle.node_laws.proofs.telling.Ticks.{reset_turns}
 use Rattle.node_laws.proofs.turns.Queues.{Becomes, Goes, goes-append, AreStill, still_goes, doing}
 use Rattle.node_laws.proofs.turns.Ends.{left_by, input_got}
 use Rattle.node_laws.proofs.turns.Passing.{At, Known, all_do as at_all, has_side, known_map, same_is}
-use Rattle.node_laws.specs.passes.Steps.{has_come_so, has_freed, has_synced, comes_to_pass, syncs_in, owed_in_step}
 use Rattle.node_laws.proofs.passes.Before.{before_hosts}
 use Rattle.node_laws.proofs.replies.Ends.{one_found}
-use Rattle.node_laws.specs.answers.Moments.{unhandled_after, unhandled_in}
 use Rattle.node_laws.proofs.reply_passes.Sides.{is_host_side}
 use Rattle.node_laws.proofs.turns.Coming.{gots_go, gots_still, told_goes}
 

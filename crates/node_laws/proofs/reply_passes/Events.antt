@@ -2,27 +2,15 @@
 use Rattle.std.proofs.Common.{◌≡◌, ℕ, ◌*◌, ◌≤◌, Bool, true, false, cond, List, [], ◌∷◌, ◌++◌, length, length-append, sym, ap, ◌∙◌, arith, Option, Some, None}
 use Rattle.std.specs.List.{AllByRecursion}
 use Rattle.std.proofs.lemmas.List.{length-replicate}
-use Rattle.trace_model.specs.declared.line.End.{End}
-use Rattle.trace_model.specs.declared.line.Header.{Header}
-use Rattle.trace_model.specs.declared.line.Line.{Line}
+use Rattle.node_laws.proofs.Words.{AreNodeLinesOf, ArePlayable, End, FollowsNodes, Happening, Header, IsNodeLineOf, Line, Link, NodeHistory, NodeWorld}
+use Rattle.node_laws.proofs.Words.{Occurrence, OnWire, Running, Same, Site, Takes, Ticks, Verdict, all_happen, by_option, by_test, can_happen, exchanged}
+use Rattle.node_laws.proofs.Words.{first_verdict, frames_at, goes_on, happenings, happens_by, line_step, link_to, new_world, node_at, occurrences_in}
+use Rattle.node_laws.proofs.Words.{occurrences_of, refusal_in, site_at, steps_from, tables_told, taken_of, world_step}
 use Rattle.trace_model.specs.declared.line.Line.TheVariants as line
-use Rattle.link_laws.specs.sessions.Sessions.{OnWire}
-use Rattle.link_laws.specs.messages.Links.{Link, exchanged}
-use Rattle.history.specs.Damage.{Verdict}
-use Rattle.history.specs.Damage.Verdict.{Same}
-use Rattle.history.specs.Follows.{taken_of, first_verdict}
-use Rattle.node_machine.specs.Parts.{Running}
-use Rattle.node_machine.specs.world.World.{NodeWorld, Site, Happening, node_at, site_at, link_to, new_world, world_step}
-use Rattle.node_machine.specs.world.World.Happening.{Takes, Ticks}
-use Rattle.node_machine.specs.world.Lines.{frames_at, refusal_in, happens_by, happenings, Occurrence, can_happen, all_happen, tables_told, goes_on, line_step}
-use Rattle.node_machine.specs.world.NodeHistories.{NodeHistory, FollowsNodes, steps_from, occurrences_of, occurrences_in}
-use Rattle.node_laws.specs.links.Runs.{ArePlayable}
-use Rattle.node_laws.proofs.Cases.{by_option, by_test}
 use Rattle.node_laws.proofs.links.Worlds.{AreFineSites, IsFineWorld}
 use Rattle.node_laws.proofs.links.Playing.{lines_fine, world_fine}
 use Rattle.node_laws.proofs.telling.Lasting.{events_of_steps}
 use Rattle.node_laws.proofs.telling.Worlds.{site_is}
-use Rattle.node_laws.specs.schedules.Ranges.{IsNodeLineOf, AreNodeLinesOf}
 use Rattle.node_laws.proofs.schedules.Wires.{IsFewWires, run_few}
 
 -- ## Causes

@@ -2,29 +2,13 @@
 use Rattle.std.proofs.Common.{◌≡◌, ℕ, ◌+◌, ◌≤◌, ◌<◌, Bool, true, cond, List, [], ◌∷◌, ◌++◌, map, sym, refl, ap, append-nil, arith, lt-ltb}
 use Rattle.std.specs.Prelude.{Some, None, length}
 use Rattle.std.specs.List.{AllByRecursion, list_any}
-use Rattle.trace_model.specs.declared.entry.Entry.{Entry}
+use Rattle.node_laws.proofs.Words.{About, Asks, AtEnd, ComesTo, Command, Commits, Core, Deed, Drops, Ends, Entry, FetchMessage, Give, HciTables, Hold, Message}
+use Rattle.node_laws.proofs.Words.{NodeInput, Orders, Port, Release, Releases, Removed, SaysOk, Sends, SetAside, State, Tells, TimePasses, Turn, Waits, Work}
+use Rattle.node_laws.proofs.Words.{after_sessions, all_come, all_done, anyone, body_of, by_test, comes_to_pass, commit, commit_writes, committed, count_of}
+use Rattle.node_laws.proofs.Words.{deeds_of, done, end_of_node, fails_within, finds_room, forgets, forgotten, has_come_so, has_freed, has_synced, is_over}
+use Rattle.node_laws.proofs.Words.{notified, noting, owed_in_step, record_fits, steps, syncs_in, turn_at, without_notice}
 use Rattle.trace_model.specs.declared.entry.Entry.TheVariants as entry
-use Rattle.journal_laws.specs.declared.state.State.{State}
-use Rattle.journal_laws.specs.Journal.{count_of}
-use Rattle.journal_laws.specs.Planned.{fails_within}
-use Rattle.hci_tables.specs.declared.command.Command.{Command}
-use Rattle.hci_tables.specs.Bodies.{body_of}
-use Rattle.hci_tables.specs.Tables.{HciTables}
-use Rattle.hci_store.specs.Committing.{commit_writes, committed, record_fits}
-use Rattle.link_laws.specs.machine.Machine.{Message, Turn}
-use Rattle.link_laws.specs.machine.Machine.Turn.{Give, Hold, FetchMessage, SetAside, Release}
-use Rattle.node_machine.specs.Parts.{About, Core, Port, Work, Deed}
-use Rattle.node_machine.specs.Parts.About.{Waits, Removed}
-use Rattle.node_machine.specs.Parts.Deed.{Commits, Sends, SaysOk, Asks, Releases, Tells, Drops, Orders, Ends}
-use Rattle.node_machine.specs.Carrying.{noting, turn_at, commit, done, all_done, notified, end_of_node, finds_room}
-use Rattle.node_machine.specs.Turns.{deeds_of}
-use Rattle.node_machine.specs.Node.{NodeInput, steps, after_sessions, forgets, forgotten, without_notice, all_come, is_over}
-use Rattle.node_machine.specs.Node.NodeInput.{AtEnd, TimePasses}
-use Rattle.node_laws.proofs.Cases.{by_test}
 use Rattle.node_laws.proofs.steps.StepWalks.{Lasts, all_last, got_at, handled, holds, lets, rest_lasts, unless}
-use Rattle.node_machine.proofs.Walks.{anyone}
-use Rattle.node_laws.specs.passes.Passing.{ComesTo}
-use Rattle.node_laws.specs.passes.Steps.{has_come_so, has_freed, has_synced, comes_to_pass, syncs_in, owed_in_step}
 use Rattle.node_laws.proofs.passes.Passing.{comes_so}
 use Rattle.node_laws.specs.reply_passes.Counts.{commands_noted as commits}
 

@@ -5,45 +5,26 @@ use Rattle.std.specs.Option.{option_map_or}
 use Rattle.std.specs.List.{AllByRecursion, find, flat_map}
 use Rattle.std.proofs.lemmas.Bool.{true≢false}
 use Rattle.std.proofs.lemmas.List.Sums.{fold-append}
-use Rattle.swp_base.specs.InMemory.{Memory, Plan}
-use Rattle.trace_model.specs.declared.entry.Entry.{Entry}
+use Rattle.node_laws.proofs.Words.{Activates, AreNoTurns, Arms, AsksReset, AtEnd, Boots, Broken, Comes, Controller, Core, Deed, Desk, End, Entry, Give, Gives}
+use Rattle.node_laws.proofs.Words.{Happening, HasEnds, Host, IfItRuns, Inits, IsCut, IsOrderly, Link, LinkInput, Loses, Loss, Memory, Message, NextFrame}
+use Rattle.node_laws.proofs.Words.{NoInput, NodeInput, NodeWorld, NumberedEnd, Plan, Port, Resets, Running, Site, Starts, Takes, Ticks, TimePasses, Turn, Work}
+use Rattle.node_laws.proofs.Words.{activates, after_controller, after_host_step, after_near_tick, aged, aged_entries, all_aged, arrival, beginning, begins_with}
+use Rattle.node_laws.proofs.Words.{boot_found, boot_written, boots, by_boot, by_coming, by_controller, by_controller_tick, by_host, by_host_tick, by_loss}
+use Rattle.node_laws.proofs.Words.{by_memory, by_option, by_power, by_running, by_test, comes_at, comes_to, controller_cut, controller_does, controller_ticks}
+use Rattle.node_laws.proofs.Words.{controller_work, count_of, counts, end_c, end_h, ending_entries, ending_of, entries_for, exchanged, first_lost, frame_lost}
+use Rattle.node_laws.proofs.Words.{frames_noted, holds_in, host_cut, host_does, host_tick, host_ticks, host_work, hosts_in, hosts_tick, is_command_message}
+use Rattle.node_laws.proofs.Words.{is_held_at, link_after_controller, link_to, links_of, loses_power_at, memory_at, near_end_in, near_tick, new_desk}
+use Rattle.node_laws.proofs.Words.{noted_by_deed, noted_of, own_side, port_at, port_for, runs_on, sending, site_at, site_ticked, site_unticked, steps}
+use Rattle.node_laws.proofs.Words.{turn_entry, wires_for, with_error, with_memory, with_node, with_site, work_of, world_step, world_ticks}
 use Rattle.trace_model.specs.declared.entry.Entry.TheVariants as entry
-use Rattle.trace_model.specs.declared.line.End.{End}
-use Rattle.journal_laws.specs.Journal.{count_of}
-use Rattle.link_laws.specs.machine.Machine.{Message, LinkInput, Turn}
-use Rattle.link_laws.specs.machine.Machine.Turn.{Give}
-use Rattle.link_laws.specs.messages.Links.{NumberedEnd, Link, Comes, Loss, exchanged, aged}
-use Rattle.link_laws.specs.messages.Links.Comes.{AsksReset, NextFrame, NoInput, Starts}
-use Rattle.link_laws.specs.messages.Links.Loss.{Broken}
-use Rattle.link_laws.specs.entries.Entries.{End as Side, aged_entries, ending_entries, first_lost, turn_entry}
-use Rattle.link_laws.specs.entries.Entries.End.{Controller, Host}
-use Rattle.history.specs.Steps.{entries_for}
-use Rattle.node_machine.specs.Parts.{Core, Desk, Running, Port, Work, Deed}
-use Rattle.node_machine.specs.Carrying.{port_at, own_side, noted_of}
-use Rattle.node_machine.specs.Controller.{is_command_message}
-use Rattle.node_machine.specs.Node.{steps, begins_with, new_desk, with_error, NodeInput}
-use Rattle.node_machine.specs.Node.NodeInput.{AtEnd, TimePasses}
-use Rattle.node_machine.specs.world.World.{NodeWorld, Site, Happening, site_at, link_to, links_of, runs_on, near_end_in, arrival, wires_for, port_for}
-use Rattle.node_machine.specs.world.World.{work_of, frames_noted, comes_to, controller_work, after_controller, controller_does, host_work, host_does}
-use Rattle.node_machine.specs.world.World.{all_aged, controller_ticks, host_ticks, hosts_tick, world_ticks, comes_at, activates, boots, counts, frame_lost}
-use Rattle.node_machine.specs.world.World.{memory_at, with_memory, loses_power_at, with_node, controller_cut, host_cut, with_site, link_after_controller}
-use Rattle.node_machine.specs.world.World.{sending, beginning, world_step, end_c, end_h, ending_of}
-use Rattle.node_machine.specs.world.World.Happening.{Boots, IsCut, Gives, Inits, Takes, Loses, Ticks, Resets, Activates, Arms}
-use Rattle.node_machine.proofs.world.Cases.{after_host_step, by_controller, by_host, by_coming, by_power, by_memory, by_running, by_boot, by_loss}
-use Rattle.node_machine.proofs.world.Cases.{by_controller_tick}
-use Rattle.node_machine.proofs.world.Cases.{by_host_tick, after_near_tick, near_tick, host_tick, boot_written, boot_found, site_ticked, site_unticked}
-use Rattle.node_laws.specs.telling.Telling.{HasEnds, IfItRuns, hosts_in, IsOrderly}
-use Rattle.node_laws.proofs.Cases.{by_test, by_option}
+use Rattle.link_laws.specs.entries.Entries.{End as Side}
 use Rattle.node_laws.proofs.telling.Mute.{AreMute}
 use Rattle.node_laws.proofs.telling.Worlds.{site_is, node_is}
 use Rattle.node_laws.proofs.telling.Events.{sending_mute}
 use Rattle.node_laws.proofs.passes.Turnless.{noted_none}
 use Rattle.node_laws.proofs.views.Worlds.{AreFine, orderly_fine, map_fine}
-use Rattle.node_laws.specs.passes.Passing.{AreNoTurns, is_held_at}
-use Rattle.node_laws.specs.passes.Noting.{noted_by_deed}
 use Rattle.node_laws.proofs.passes.Before.{links_none}
 use Rattle.node_laws.proofs.passes.Notes.{deeds_note}
-use Rattle.node_laws.specs.answers.Moments.{holds_in}
 use Rattle.node_laws.proofs.reply_passes.Sides.{AreNoBoots, AreOnSide, begins_unbooted, far_all, notes_unbooted, quiet_all}
 use Rattle.node_laws.proofs.reply_passes.Holding.{all_sided, ended_read}
 

@@ -3,32 +3,21 @@ use Rattle.std.proofs.Common.{◌≡◌, ℕ, Bool, true, false, List, ◌++◌,
 use Rattle.std.specs.Prelude.{Option, Some, None}
 use Rattle.std.specs.Option.{option_map_or}
 use Rattle.std.proofs.lemmas.Bool.{true≢false}
-use Rattle.registry.proofs.ValueLemmas.{AllByRecursion-append}
+use Rattle.node_laws.proofs.Words.{AllByRecursion-append, AreNoTurns, ArePassed, AtEnd, ComesTo, End, Entry, IsNoTurn, IsWaitingRead, LinkInput, Message}
+use Rattle.node_laws.proofs.Words.{NodeInput, Port, TimePasses, Work, after_sessions, all_done, asked_at, by_test, comes_to_pass, forgets, forgotten, has_come}
+use Rattle.node_laws.proofs.Words.{has_come_so, has_freed, has_synced, holds_in, hosts_of_ends, input_at, is_forgotten, is_held_at, is_late, is_over}
+use Rattle.node_laws.proofs.Words.{noted_before_pass, owed_in_step, own_side, passes, reset_late, steps, syncs_in, waiting_at, waits_behind, with_older}
+use Rattle.node_laws.proofs.Words.{without_notice}
 use Rattle.std.proofs.lemmas.List.{append_cancel_left}
-use Rattle.trace_model.specs.declared.entry.Entry.{Entry}
-use Rattle.trace_model.specs.declared.line.End.{End}
-use Rattle.link_laws.specs.machine.Machine.{Message, LinkInput}
 use Rattle.link_laws.specs.entries.Entries.{End as Side}
-use Rattle.node_machine.specs.Parts.{Port, Work}
-use Rattle.node_machine.specs.Carrying.{own_side, all_done}
-use Rattle.node_machine.specs.Turns.{passes}
-use Rattle.node_machine.specs.Node.{NodeInput, input_at, has_come, with_older, is_late, reset_late, forgotten, forgets, is_over, without_notice}
-use Rattle.node_machine.specs.Node.{steps, is_forgotten, after_sessions}
-use Rattle.node_machine.specs.Controller.{asked_at}
-use Rattle.node_machine.specs.Node.NodeInput.{AtEnd, TimePasses}
-use Rattle.node_laws.specs.kept.Books.{hosts_of_ends}
-use Rattle.node_laws.proofs.Cases.{by_test}
 use Rattle.node_laws.proofs.steps.Ports.{come_host, forgets_host, without_host, late_host}
 use Rattle.node_laws.proofs.steps.StepWalks.{unless}
 use Rattle.node_laws.proofs.turns.Passing.{map_is}
-use Rattle.node_laws.specs.passes.Passing.{ComesTo, ArePassed, IsWaitingRead, AreNoTurns, IsNoTurn, waiting_at, is_held_at, waits_behind}
 use Rattle.node_laws.specs.passes.Passing.ComesTo.{Begins}
-use Rattle.node_laws.specs.passes.Steps.{has_come_so, has_freed, has_synced, comes_to_pass, noted_before_pass, syncs_in, owed_in_step}
 use Rattle.node_laws.proofs.passes.Before.{before_entries, before_none, steps_are}
 use Rattle.node_laws.proofs.passes.Ends.{SeesAt, deeds_see}
 use Rattle.node_laws.proofs.passes.Passing.{through, comes_lasts}
 use Rattle.node_laws.proofs.passes.Waiting.{waiting_read}
-use Rattle.node_laws.specs.answers.Moments.{holds_in}
 use Rattle.node_laws.proofs.reply_passes.Sides.{AreNoBoots, AreOnSide, IsOnSide, begun_side, front_unbooted, is_host_side, pass_sided, quiet_all, quiet_sided}
 use Rattle.node_laws.proofs.reply_passes.Sides.{steps_unbooted, told_all}
 

@@ -4,31 +4,15 @@ use Rattle.std.specs.Prelude.{Option, Some, None, is_some}
 use Rattle.std.specs.Option.{option_map_or}
 use Rattle.std.specs.List.{AllByRecursion}
 use mathlib.Core.Bool.{and-false}
-use Rattle.trace_model.specs.declared.entry.Entry.{Entry}
-use Rattle.trace_model.specs.declared.line.End.{End}
-use Rattle.link_laws.specs.machine.Machine.{LinkEnd, Message}
-use Rattle.link_laws.specs.messages.Links.{Link, NumberedEnd}
-use Rattle.link_laws.specs.entries.Entries.End.{Controller, Host}
-use Rattle.history.specs.Filters.{same_end}
-use Rattle.history.specs.Steps.{end_of}
-use Rattle.node_machine.specs.Parts.{Desk, Running, Port, Work}
-use Rattle.node_machine.specs.Carrying.{own_side, port_at}
-use Rattle.node_machine.specs.Node.{NodeInput}
-use Rattle.node_machine.specs.world.World.{NodeWorld, Site, end_c, link_to, site_at, work_of}
-use Rattle.node_machine.specs.world.NodeLegal.{AreInTurn}
-use Rattle.node_laws.specs.kept.Books.{hosts_of_ends}
-use Rattle.node_laws.specs.kept.Hosts.{AreDifferent}
-use Rattle.node_laws.specs.links.Notices.{IsOutside}
-use Rattle.node_laws.specs.telling.Telling.{hosts_in}
-use Rattle.node_laws.proofs.Cases.{by_option, by_test}
+use Rattle.node_laws.proofs.Words.{AreDifferent, AreInTurn, ComesTo, Controller, Desk, End, Entry, Host, IsOutside, Link, LinkEnd, Message, NodeInput}
+use Rattle.node_laws.proofs.Words.{NodeWorld, NumberedEnd, Port, Running, Site, Work, by_option, by_test, comes_to_pass, end_c, end_of, hosts_in, hosts_of_ends}
+use Rattle.node_laws.proofs.Words.{link_to, own_side, port_at, same_end, site_at, waiting_at, work_of}
 use Rattle.node_laws.proofs.telling.Nodes.{hosts_same, link_is}
 use Rattle.node_laws.proofs.read_rooms.Beginning.{HasSite, site_for}
 use Rattle.node_laws.proofs.turns.Lines.{AllWait, Waiting}
 use Rattle.node_laws.proofs.turns.Queues.{AreStill, Goes, goes-append}
 use Rattle.node_laws.proofs.turns.Passing.{Known, same_is}
 use Rattle.node_laws.proofs.turns.Works.{ByPower, NearWaits}
-use Rattle.node_laws.specs.passes.Passing.{ComesTo, waiting_at}
-use Rattle.node_laws.specs.passes.Steps.{comes_to_pass}
 use Rattle.node_laws.proofs.reply_passes.Came.{begun_at, mine, ms, there_still, was_there}
 use Rattle.node_laws.proofs.reply_passes.Begins.{port_begins}
 use Rattle.node_laws.proofs.reply_passes.Sides.{begun_side}

@@ -2,24 +2,11 @@
 use Rattle.std.proofs.Common.{◌≡◌, ◌⊎◌, inl, inr, ℕ, ◌+◌, ◌≤◌, ◌<◌, Bool, true, false, cond, List, [], length, slice_index, sym, refl, ap, ◌∙◌, arith}
 use Rattle.std.specs.Prelude.{◌≢◌}
 use Rattle.std.proofs.lemmas.Bool.{cases_Bool, cases_eq}
-use Rattle.swp_base.specs.InMemory.{Memory}
-use Rattle.journal_laws.specs.declared.state.State.{State}
-use Rattle.journal_laws.specs.Banks.{is_opened_gate}
-use Rattle.journal_laws.specs.Writes.{Write, after_writes}
-use Rattle.journal_laws.specs.Journal.{Journal, journal, state_of}
-use Rattle.journal_laws.specs.Operations.{append_writes, compact_writes}
-use Rattle.journal_laws.specs.Planned.{fails_within, after_planned}
+use Rattle.node_laws.proofs.Words.{AreTables, Command, FindsRoom, HciTables, IsCommand, IsRecordable, Journal, Knows, Memory, State, Write, after_planned}
+use Rattle.node_laws.proofs.Words.{after_writes, append_writes, apply, body_of, by_test, commit_writes, committed, compact_writes, fails_within, is_opened_gate}
+use Rattle.node_laws.proofs.Words.{journal, opens_gate, record_fits, room_writes, snapshot_bodies, state_of, with_room}
 use Rattle.nv_journal.proofs.Compacting as compacting
-use Rattle.hci_tables.specs.declared.command.Command.{Command}
-use Rattle.hci_tables.specs.Commands.{IsCommand}
-use Rattle.hci_tables.specs.Bodies.{body_of}
-use Rattle.hci_tables.specs.Tables.{HciTables, AreTables, apply}
-use Rattle.hci_store.specs.Recordable.{IsRecordable}
-use Rattle.hci_store.specs.Committing.{record_fits, snapshot_bodies, room_writes, with_room, commit_writes, committed}
-use Rattle.node_laws.specs.kept.Finds.{Knows, FindsRoom}
-use Rattle.node_laws.proofs.Cases.{by_test}
 use Rattle.node_laws.proofs.kept.Commits.{says_of, can, room_knows, next_of}
-use Rattle.node_laws.specs.kept.Gates.{opens_gate}
 use Rattle.node_laws.proofs.cuts.Filled.{IsFilled}
 use Rattle.node_laws.proofs.cuts.Gates.{gate_opened, gate_closed}
 use Rattle.node_laws.proofs.cuts.Commits.{Torn, torn, many, parts, commit_opened, record_same}

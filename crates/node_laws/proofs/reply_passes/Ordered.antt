@@ -5,38 +5,23 @@ use Rattle.std.specs.List.{AllByRecursion, flat_map}
 use Rattle.std.specs.Option.{option_map_or}
 use Rattle.std.proofs.lemmas.Bool.{eqb-true}
 use mathlib.Core.Bool.{and-false}
-use Rattle.trace_model.specs.declared.entry.Entry.{Entry}
+use Rattle.node_laws.proofs.Words.{AllByRecursion-append, AreInTurn, Asks, AtEnd, ComesTo, Commits, Controller, Core, Deed, Drops, End, Ends, Entry, Give}
+use Rattle.node_laws.proofs.Words.{Handles, Host, LetsGo, LinkInput, Message, NodeInput, Orders, Port, Refused, Reset, SaysOk, Sends, SetAside, Tells}
+use Rattle.node_laws.proofs.Words.{TimePasses, Work, after_input, all_come, by_test, comes_to_pass, deeds_of, done, end_of, end_of_node, entries_for, forgets}
+use Rattle.node_laws.proofs.Words.{give_refusal, goes_in, handles, has_come_so, has_freed, has_synced, holds_back, input_at, is_held_at, is_late, lets_go}
+use Rattle.node_laws.proofs.Words.{noted_before_pass, noted_by_deed, noted_by_deeds, noted_of, owed_in_step, own_side, port_at, report, same_end, sent_unless}
+use Rattle.node_laws.proofs.Words.{syncs_in, takes_up, told, told_at, told_late, told_of_coming, told_of_late, turn_at, waiting_at, whole_acked, with_older}
 use Rattle.trace_model.specs.declared.entry.Entry.TheVariants as entry
-use Rattle.trace_model.specs.declared.line.End.{End}
-use Rattle.registry.proofs.ValueLemmas.{AllByRecursion-append}
-use Rattle.link_laws.specs.machine.Machine.{Message, LinkInput, Refused, give_refusal, report, whole_acked, after_input}
-use Rattle.link_laws.specs.machine.Machine.LinkInput.{Reset}
-use Rattle.link_laws.specs.machine.Machine.Turn.{Give, SetAside}
-use Rattle.link_laws.specs.entries.Entries.{End as Side, sent_unless, told}
-use Rattle.link_laws.specs.entries.Entries.End.{Controller, Host}
-use Rattle.history.specs.Filters.{same_end}
-use Rattle.history.specs.Steps.{end_of, entries_for}
-use Rattle.node_machine.specs.Parts.{Core, Port, Work, Deed}
-use Rattle.node_machine.specs.Parts.Deed.{Commits, Sends, SaysOk, Asks, Tells, Drops, Orders, Ends}
-use Rattle.node_machine.specs.Carrying.{own_side, end_of_node, noted_of, port_at, turn_at, done}
-use Rattle.node_machine.specs.Turns.{deeds_of, handles, holds_back, lets_go}
-use Rattle.node_machine.specs.Node.{NodeInput, input_at, told_at, told_late, with_older, is_late, all_come, forgets}
-use Rattle.node_machine.specs.Node.NodeInput.{AtEnd, TimePasses}
-use Rattle.node_machine.specs.world.NodeLegal.{AreInTurn}
-use Rattle.node_laws.proofs.Cases.{by_test}
+use Rattle.link_laws.specs.entries.Entries.{End as Side}
 use Rattle.node_laws.proofs.telling.Mute.{IsMute, AreMute, deeds_mute, all_owed_mute, all_synced_mute}
 use Rattle.node_laws.proofs.turns.Queues.Doing.{Nothing, Takes}
 use Rattle.node_laws.proofs.turns.Queues.{Becomes, Front, Goes, goes-append, AreStill, all_left, all_still, doing, front_goes, still_goes}
 use Rattle.node_laws.proofs.turns.Passing.{has_side, same_is}
-use Rattle.node_laws.specs.passes.Noting.{goes_in, noted_by_deed, noted_by_deeds}
-use Rattle.node_laws.specs.passes.Passing.{ComesTo, takes_up, waiting_at, is_held_at}
-use Rattle.node_laws.specs.passes.Steps.{comes_to_pass, has_come_so, has_freed, has_synced, noted_before_pass, owed_in_step, syncs_in}
-use Rattle.node_laws.specs.passes.Steps.{told_of_coming, told_of_late}
 use Rattle.node_laws.proofs.passes.Before.{before_entries}
 use Rattle.node_laws.proofs.passes.Behind.{held_own, other_handles, other_holds}
 use Rattle.node_laws.proofs.passes.Ends.{SeesAt, lets_see}
 use Rattle.node_laws.proofs.passes.Passing.{comes_so, handles_entries, handles_sees, holds_notes, lets_notes, own_held}
-use Rattle.node_laws.specs.passes.Passing.ComesTo.{Begins, Handles, Holds, LetsGo}
+use Rattle.node_laws.specs.passes.Passing.ComesTo.{Begins, Holds}
 use Rattle.node_laws.proofs.reply_passes.Sides.{is_host_side, side_comes}
 use Rattle.node_laws.proofs.turns.Coming.{gots_still, told_goes}
 

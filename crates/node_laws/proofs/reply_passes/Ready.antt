@@ -2,29 +2,15 @@
 use Rattle.std.proofs.Common.{◌≡◌, ℕ, ◌≤◌, List, [], ◌++◌, ap, subst, arith}
 use Rattle.std.specs.Prelude.{Some}
 use Rattle.std.specs.List.{AllByRecursion}
-use Rattle.trace_model.specs.declared.line.Header.{Header}
-use Rattle.trace_model.specs.declared.line.Line.{Line}
-use Rattle.link_laws.specs.machine.Machine.{LinkInput}
-use Rattle.link_laws.specs.messages.Links.{Comes}
-use Rattle.link_laws.specs.entries.Entries.End.{Controller}
-use Rattle.history.specs.Steps.{entries_for}
-use Rattle.node_machine.specs.Parts.{Running, Work}
-use Rattle.node_machine.specs.Node.NodeInput.{AtEnd, TimePasses}
-use Rattle.node_machine.specs.world.World.{NodeWorld, all_aged, arrival, comes_to, input_of, link_to, near_end_in, new_world}
-use Rattle.node_machine.specs.world.Lines.{Occurrence}
-use Rattle.node_machine.specs.world.NodeHistories.{FollowsNodes, NodeHistory, entries_in, node_entries, occurrences_in}
-use Rattle.node_laws.specs.telling.Telling.{world_behind}
-use Rattle.node_laws.specs.kept.Hosts.{AreHosts, IsFew, IsSentByHost}
-use Rattle.node_laws.specs.kept.Worlds.{AllKeep, IfRuns, RunsSo}
+use Rattle.node_laws.proofs.Words.{AllKeep, AreHosts, AtEnd, Comes, ComesTo, Controller, FollowsNodes, HasRoomForAll, Header, IfRuns, IsFew, IsSentByHost, Line}
+use Rattle.node_laws.proofs.Words.{LinkInput, MessagesAreRead, NodeHistory, NodeWorld, Occurrence, Running, RunsSo, TimePasses, Work, all_aged, arrival}
+use Rattle.node_laws.proofs.Words.{as_it_ticks, comes_to, comes_to_pass, controller_begins, entries_for, entries_in, input_of, link_to, near_end_in, new_world}
+use Rattle.node_laws.proofs.Words.{node_entries, noted_before_pass, occurrences_in, world_behind}
 use Rattle.node_laws.proofs.kept.Plainly.{plain_entries}
 use Rattle.node_laws.proofs.kept.Ticking.{aged_goes}
 use Rattle.node_laws.proofs.views.Lines.{events_so}
-use Rattle.node_laws.specs.read_steps.Worlds.{as_it_ticks}
-use Rattle.node_laws.specs.passes.Passing.{ComesTo}
-use Rattle.node_laws.specs.passes.Steps.{comes_to_pass, controller_begins, noted_before_pass}
 use Rattle.node_laws.proofs.passes.Before.{before_entries}
 use Rattle.node_laws.specs.reply_passes.Counts.{commands_noted as commits}
-use Rattle.node_laws.specs.replies.Known.{HasRoomForAll, MessagesAreRead}
 use Rattle.node_laws.proofs.reply_passes.Begins.{comes_messages, history_waits, tick_messages, WaitsRead}
 use Rattle.node_laws.proofs.reply_passes.Growing.{Grows, begun_grows, comes_grow, commits-append, few_find_room}
 use Rattle.node_laws.proofs.reply_passes.Roomy.{IsGrown, begins_grown, history_grown}

@@ -6,46 +6,22 @@ use Rattle.std.specs.Option.{option_map_or}
 use Rattle.std.specs.List.{AllByRecursion, flat_map}
 use Rattle.std.proofs.lemmas.Bool.{cases_Bool, true≢false}
 use Rattle.std.proofs.lemmas.List.Concat.{flat_map-append}
-use Rattle.swp_base.specs.InMemory.{Memory, Plan}
-use Rattle.trace_model.specs.declared.entry.Entry.{Entry}
+use Rattle.node_laws.proofs.Words.{Activates, AllKeep, AreHosts, Arms, AsksReset, AtEnd, Boots, Comes, Controller, Core, End, Entry, FollowsNodes, Gives}
+use Rattle.node_laws.proofs.Words.{Happening, Header, IfRuns, Inits, IsCut, IsFew, IsNodeNumber, IsPlain, IsSentByHost, Journal, Line, LinkInput, Loses, Loss}
+use Rattle.node_laws.proofs.Words.{Memory, NextFrame, NoInput, NodeHistory, NodeInput, NodeWorld, NumberedEnd, Occurrence, Plan, Resets, Running, RunsSo, Side}
+use Rattle.node_laws.proofs.Words.{Site, Starts, State, StillRuns, Takes, Ticks, TimePasses, Work, Write, activates, after_controller, after_near_tick}
+use Rattle.node_laws.proofs.Words.{after_planned, after_writes, all_aged, arrival, beginning, begins_with, body_of, boot_found, boot_writes, boot_written}
+use Rattle.node_laws.proofs.Words.{boots, by_boot, by_coming, by_controller, by_controller_tick, by_host, by_loss, by_memory, by_power, by_running, comes_at}
+use Rattle.node_laws.proofs.Words.{comes_to, commit_writes, controller_does, controller_ticks, controller_work, count_of, current, end_c, end_h, entries_for}
+use Rattle.node_laws.proofs.Words.{entries_in, fails_within, format_writes, frame_lost, frames_noted, fresh, host_does, hosts_tick, is_opened_gate, journal}
+use Rattle.node_laws.proofs.Words.{link_to, loses_power_at, memory_at, near_end_in, near_tick, new_world, no_journal, node_entries, occurrences_in, sending}
+use Rattle.node_laws.proofs.Words.{steps, wires_for, work_of, world_behind, world_step, world_ticks}
 use Rattle.trace_model.specs.declared.entry.Entry.TheVariants as entry
-use Rattle.trace_model.specs.declared.line.Header.{Header}
-use Rattle.trace_model.specs.declared.line.Line.{Line}
-use Rattle.trace_model.specs.declared.line.End.{End}
-use Rattle.journal_laws.specs.declared.banks.Side.{Side}
-use Rattle.journal_laws.specs.declared.state.State.{State}
-use Rattle.journal_laws.specs.Banks.{current, is_opened_gate}
-use Rattle.journal_laws.specs.Writes.{Write, after_writes, last_place}
-use Rattle.journal_laws.specs.Journal.{Journal, count_of, journal}
-use Rattle.journal_laws.specs.Operations.{IsUnformatted, format_writes}
-use Rattle.journal_laws.specs.Planned.{fails_within, after_planned}
-use Rattle.journal_laws.proofs.Opening.{format_is_cut, format_state, fresh}
-use Rattle.journal_laws.proofs.InUse.{no_journal}
-use Rattle.hci_tables.specs.Bodies.{body_of}
-use Rattle.hci_store.specs.Committing.{commit_writes}
-use Rattle.link_laws.specs.machine.Machine.{LinkInput}
-use Rattle.link_laws.specs.messages.Links.{NumberedEnd, Comes, Loss}
-use Rattle.link_laws.specs.messages.Links.Comes.{AsksReset, NextFrame, NoInput, Starts}
-use Rattle.link_laws.specs.entries.Entries.End.{Controller}
-use Rattle.history.specs.Steps.{entries_for}
-use Rattle.node_machine.specs.Parts.{Core, Running, Work}
-use Rattle.node_machine.specs.Node.{NodeInput, boot_writes, steps, begins_with}
-use Rattle.node_machine.specs.Node.NodeInput.{AtEnd, TimePasses}
-use Rattle.node_machine.specs.world.World.{NodeWorld, Site, Happening, all_aged, arrival, boots, comes_at, comes_to, activates, controller_does}
-use Rattle.node_machine.specs.world.World.{controller_ticks, controller_work, after_controller, end_c, end_h, frame_lost, frames_noted, host_does, hosts_tick}
-use Rattle.node_machine.specs.world.World.{link_to, loses_power_at, memory_at, near_end_in, new_world, sending, beginning, wires_for, work_of, world_step}
-use Rattle.node_machine.specs.world.World.{world_ticks}
-use Rattle.node_machine.specs.world.World.Happening.{Boots, IsCut, Gives, Inits, Takes, Loses, Ticks, Resets, Activates, Arms}
-use Rattle.node_machine.specs.world.Lines.{Occurrence}
-use Rattle.node_machine.specs.world.NodeHistories.{FollowsNodes, NodeHistory, entries_in, node_entries, occurrences_in}
-use Rattle.node_machine.proofs.world.Cases.{by_boot, by_coming, by_controller, by_controller_tick, by_host, by_loss, by_memory, by_power, by_running}
-use Rattle.node_machine.proofs.world.Cases.{boot_found, boot_written, near_tick, after_near_tick}
-use Rattle.node_laws.specs.telling.Telling.{world_behind}
+use Rattle.journal_laws.specs.Writes.{last_place}
+use Rattle.journal_laws.specs.Operations.{IsUnformatted}
+use Rattle.journal_laws.proofs.Opening.{format_is_cut, format_state}
 use Rattle.node_laws.proofs.telling.Lasting.{Any, AnyLine, AreCaused, all_any, all_lines, events_of_steps, lines_caused}
 use Rattle.node_laws.proofs.order.Asked.{behind_push}
-use Rattle.node_laws.specs.kept.Books.{IsPlain, StillRuns}
-use Rattle.node_laws.specs.kept.Hosts.{AreHosts, IsFew, IsNodeNumber, IsSentByHost}
-use Rattle.node_laws.specs.kept.Worlds.{AllKeep, IfRuns, RunsSo}
 use Rattle.node_laws.proofs.kept.Doing.{GoesOn_or_lost}
 use Rattle.node_laws.proofs.kept.Plainly.{plain_entries}
 use Rattle.node_laws.proofs.kept.Planned.{planned_cut, planned_whole}

@@ -4,32 +4,20 @@ use Rattle.std.specs.Prelude.{not}
 use Rattle.std.specs.Option.{option_map_or}
 use Rattle.std.specs.List.{AllByRecursion}
 use Rattle.std.proofs.lemmas.List.Sums.{fold-append}
-use Rattle.trace_model.specs.declared.entry.Entry.{Entry}
+use Rattle.node_laws.proofs.Words.{AllByRecursion-append, AreNoTurns, ArePassed, AtEnd, ComesTo, Controller, Cut, Deed, End, Ends, Entry, Host, IsNoTurn}
+use Rattle.node_laws.proofs.Words.{IsTurnSo, Message, NodeInput, Port, Restarted, Sends, TimePasses, Work, after_sessions, all_done, begins_with, by_test}
+use Rattle.node_laws.proofs.Words.{comes_to_pass, deeds_of, end_of, entries_for, entry_of, forgets, forgotten, has_come_so, has_freed, has_synced, holds_in}
+use Rattle.node_laws.proofs.Words.{is_held, owed_in_step, own_side, port_at, same_end, same_side, steps, syncs_in, waits_behind, without_notice}
 use Rattle.trace_model.specs.declared.entry.Entry.TheVariants as entry
-use Rattle.trace_model.specs.declared.line.End.{End}
-use Rattle.registry.proofs.ValueLemmas.{AllByRecursion-append}
-use Rattle.link_laws.specs.machine.Machine.{Message, is_held}
 use Rattle.link_laws.specs.entries.Entries.{End as Side, Entry as Noted}
-use Rattle.link_laws.specs.entries.Entries.End.{Controller, Host}
-use Rattle.link_laws.specs.entries.Entries.Entry.{Tick, Restarted, Cut}
-use Rattle.history.specs.Filters.{same_end, same_side}
-use Rattle.history.specs.Steps.{end_of, entries_for, entry_of}
-use Rattle.node_machine.specs.Parts.{Port, Work, Deed}
-use Rattle.node_machine.specs.Parts.Deed.{Sends, Ends}
-use Rattle.node_machine.specs.Carrying.{own_side, port_at, all_done}
-use Rattle.node_machine.specs.Turns.{deeds_of}
-use Rattle.node_machine.specs.Node.{NodeInput, steps, begins_with, after_sessions, without_notice, forgets, forgotten}
-use Rattle.node_machine.specs.Node.NodeInput.{AtEnd, TimePasses}
-use Rattle.node_laws.proofs.Cases.{by_test}
+use Rattle.link_laws.specs.entries.Entries.Entry.{Tick}
 use Rattle.node_laws.proofs.telling.Mute.{IsPlain, IsMute, AreMute, deeds_mute, forgotten_mute, all_owed_mute, all_synced_mute}
 use Rattle.node_laws.proofs.readings.Noting.{IsBeside, NotesSo, Notes, all_do as notes_do, steps_note}
 use Rattle.node_laws.proofs.telling.Walks.{all_last, handling}
 use Rattle.node_laws.proofs.telling.Steps.{sessions_side}
 use Rattle.node_laws.proofs.steps.StepWalks.{unless}
-use Rattle.node_laws.specs.passes.Steps.{has_come_so, has_freed, has_synced, comes_to_pass, syncs_in, owed_in_step}
 use Rattle.node_laws.proofs.passes.Passing.{comes_so}
-use Rattle.node_laws.specs.passes.Passing.{ComesTo, ArePassed, IsTurnSo, AreNoTurns, IsNoTurn, waiting_after, waits_behind}
-use Rattle.node_laws.specs.answers.Moments.{holds_in}
+use Rattle.node_laws.specs.passes.Passing.{waiting_after}
 
 -- ## No boots
 

@@ -2,30 +2,15 @@
 use Rattle.std.proofs.Common.{◌≡◌, ℕ, ◌≤◌, false, List, ◌++◌, length, arith}
 use Rattle.std.specs.Prelude.{Some}
 use Rattle.std.specs.List.{AllByRecursion}
-use Rattle.trace_model.specs.declared.entry.Entry.{Entry}
-use Rattle.trace_model.specs.declared.line.Header.{Header}
-use Rattle.trace_model.specs.declared.line.Line.{Line}
-use Rattle.link_laws.specs.machine.Machine.{LinkInput}
-use Rattle.link_laws.specs.messages.Links.{Comes}
-use Rattle.node_machine.specs.Parts.{Running, Work}
-use Rattle.node_machine.specs.Node.NodeInput.{AtEnd, TimePasses}
-use Rattle.node_machine.specs.world.World.{NodeWorld, all_aged, input_of, link_to, new_world}
-use Rattle.node_machine.specs.world.Lines.{Occurrence}
-use Rattle.node_machine.specs.world.NodeHistories.{FollowsNodes, NodeHistory, entries_in, node_entries, occurrences_in}
-use Rattle.node_laws.specs.links.Runs.{ArePlayable}
-use Rattle.node_laws.specs.telling.Telling.{world_behind}
-use Rattle.node_laws.specs.kept.Hosts.{AreHosts, IsFew, IsSentByHost}
-use Rattle.node_laws.specs.read_steps.Worlds.{as_it_ticks}
-use Rattle.node_laws.specs.passes.Steps.{comes_to_pass, controller_begins}
-use Rattle.node_laws.specs.bounds.Commands.{AreCausedSo, commands_by_events}
-use Rattle.node_laws.specs.replies.Passes.{AreRepliedIn, BeginsPass}
+use Rattle.node_laws.proofs.Words.{AreCausedSo, AreHosts, ArePlayable, AreRepliedIn, AtEnd, BeginsPass, Comes, ComesTo, Entry, FollowsNodes, HasRoomForAll}
+use Rattle.node_laws.proofs.Words.{Header, IsFew, IsSentByHost, Line, LinkInput, NodeHistory, NodeWorld, Occurrence, Running, TimePasses, Work, all_aged}
+use Rattle.node_laws.proofs.Words.{as_it_ticks, comes_to_pass, commands_by_events, controller_begins, entries_in, input_of, link_to, new_world, node_entries}
+use Rattle.node_laws.proofs.Words.{occurrences_in, world_behind}
 use Rattle.node_laws.proofs.bounds.Begun.{passes_bounded, ticks_bounded}
 use Rattle.node_laws.proofs.bounds.Lines.{front_so}
 use Rattle.node_laws.proofs.replies.Histories.{comes_replied, tick_replied}
 use Rattle.node_laws.specs.reply_passes.Counts.{commands_noted as commits}
-use Rattle.node_laws.specs.replies.Known.{HasRoomForAll}
 use Rattle.node_laws.proofs.reply_passes.Ready.{comes_room, comes_wait, starts_room, tick_room, tick_waits}
-use Rattle.node_laws.specs.passes.Passing.{ComesTo}
 use Rattle.node_laws.specs.passes.Passing.ComesTo.{Begins}
 
 module _ (header : Header) (lines : List Line) (t : NodeHistory) (follows : FollowsNodes header lines t) (are : AreHosts header.hosts.items)

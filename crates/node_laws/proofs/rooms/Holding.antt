@@ -1,26 +1,18 @@
 -- The messages of an end that aren't acknowledged whole are those that are read to be so.
 use Rattle.std.proofs.Common.{◌≡◌, ℕ, cond, List, [], ◌∷◌, ◌++◌, Some, None, refl, ap, ap₂, sym, subst, ◌∙◌}
 use Rattle.std.specs.Prelude.{drop}
-use Rattle.trace_model.specs.declared.entry.Entry.{Entry}
-use Rattle.trace_model.specs.declared.line.End.{End}
-use Rattle.shdlc_core.specs.declared.answers.LinkState.{LinkState}
-use Rattle.shdlc_core.specs.declared.answers.LinkState.TheVariants.{Up, Waiting, Down}
-use Rattle.link_laws.specs.machine.Machine.{Message, whole_among, whole_acked}
+use Rattle.node_laws.proofs.Words.{AllAllowed, End, Entry, Good, IsLine, IsLinkTold, IsReadOff, Link, LinkEvent, LinkState, Message, NumberedEnd, Reached}
+use Rattle.node_laws.proofs.Words.{Sounds, Up, Waiting, after_link_events, aside_in, core_event, core_of, end_c, end_h, event_entries, event_step, happens}
+use Rattle.node_laws.proofs.Words.{new_line, node_of, number_of, reached_more, same_number, session_now, start_good, start_reached, talk_of, unacknowledged_in}
+use Rattle.node_laws.proofs.Words.{whole_acked, whole_among}
+use Rattle.shdlc_core.specs.declared.answers.LinkState.TheVariants.{Down}
 use Rattle.link_laws.proofs.machine.Runs.{Sound}
-use Rattle.link_laws.specs.messages.Links.{NumberedEnd, Link, LinkEvent, number_of, talk_now, talk_of, ended_talk, happens, after_link_events, AllAllowed}
-use Rattle.link_laws.specs.messages.Links.IsStart.{IsLine}
-use Rattle.link_laws.specs.messages.Projection.{core_of, core_event}
-use Rattle.link_laws.proofs.messages.Runs.{Good, Reached, reached_more, event_step}
-use Rattle.link_laws.proofs.messages.Whole.{start_good, start_reached}
-use Rattle.link_laws.specs.entries.Entries.{Entry as Note, event_entries, first_entries}
+use Rattle.link_laws.specs.messages.Links.{talk_now, ended_talk}
+use Rattle.link_laws.specs.entries.Entries.{Entry as Note, first_entries}
 use Rattle.link_laws.specs.entries.Sessions.{number_now as own_session}
 use Rattle.link_laws.proofs.entries.Books.{up_talk}
-use Rattle.link_laws.proofs.entries.Lasting.{same_number}
-use Rattle.link_laws.proofs.entries.Running.{Sounds, Noted, note_event, start_noted}
-use Rattle.node_machine.specs.world.World.{end_c, end_h, node_of}
-use Rattle.node_machine.specs.world.NodeFilters.{session_now, unacknowledged_in, aside_in}
-use Rattle.node_laws.specs.links.Runs.{new_line}
-use Rattle.node_laws.specs.order.Told.{IsLinkTold, IsReadOff, AreReadOff}
+use Rattle.link_laws.proofs.entries.Running.{Noted, note_event, start_noted}
+use Rattle.node_laws.specs.order.Told.{AreReadOff}
 use Rattle.node_laws.proofs.order.Quiet.{read_off}
 use Rattle.node_laws.specs.notices.Spares.{IsEndRead}
 use Rattle.node_laws.specs.rooms.Rooms.{IsHeldRead, AreHeldRead}

@@ -1,13 +1,8 @@
 -- Of worlds of nodes: what both ends of each link have to spare.
 use Rattle.std.proofs.Common.{◌≡◌, ℕ, false, eqb, List, Some, ap, sym, ◌∙◌}
-use Rattle.trace_model.specs.declared.entry.Entry.{Entry}
-use Rattle.link_laws.specs.messages.Links.{Link}
-use Rattle.node_machine.specs.world.World.{Site, NodeWorld, site_at, end_c, end_h}
-use Rattle.node_machine.specs.world.Lines.{Occurrence}
-use Rattle.node_machine.specs.world.NodeHistories.{entries_in}
+use Rattle.node_laws.proofs.Words.{AreSessionsRead, Entry, IsLinkTold, Link, NodeWorld, Occurrence, Site, end_c, end_h, entries_in, site_at}
 use Rattle.node_laws.proofs.telling.Nodes.{site_host, link_is}
 use Rattle.node_laws.proofs.telling.Worlds.{site_is}
-use Rattle.node_laws.specs.order.Told.{IsLinkTold, AreSessionsRead}
 use Rattle.node_laws.proofs.order.Lines.{IsSo}
 use Rattle.node_laws.proofs.order.Sessions.{are_read}
 use Rattle.node_laws.proofs.notices.Sparing.{spare_is}

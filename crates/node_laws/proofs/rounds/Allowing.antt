@@ -2,24 +2,15 @@
 use Rattle.std.proofs.Common.{◌≡◌, ℕ, zero, suc, ◌==◌, ◌&&◌, Bool, true, false, not, List, [], ◌∷◌, ◌++◌, Option, Some, None}
 use Rattle.std.proofs.Common.{refl, sym, subst, ◌∙◌, cond, length}
 use Rattle.std.proofs.lemmas.Bool.{and_parts, not-true}
-use Rattle.trace_model.specs.declared.line.End.{End}
+use Rattle.node_laws.proofs.Words.{AllAllowed, AreSendableTurns, AsksReset, AtController, AtEnd, AtHost, Controller, End, Happening, Host, IsEvent, LinkEnd}
+use Rattle.node_laws.proofs.Words.{LinkEvent, LinkInput, NextFrame, Node, NodeWorld, NumberedEnd, Running, Site, Step, Takes, TicksWithout, Work}
+use Rattle.node_laws.proofs.Words.{after_link_events, all_aged, all_happen, arrival, by_test, can_happen, comes_to, controller_takes, controller_work}
+use Rattle.node_laws.proofs.Words.{end_takes_all, ending_of, ends_events, ends_in_order, ends_take_all, entries_for, events_on, exchanged, frames_at}
+use Rattle.node_laws.proofs.Words.{happenings, host_work, input_of, is_waiting, link_events_in, link_to, near_end_in, round_events, site_at, site_takes, steps}
+use Rattle.node_laws.proofs.Words.{ticks_on, turns_at, work_of, world_after_round, world_step}
 use Rattle.trace_model.specs.declared.line.Line.TheVariants as line
-use Rattle.shdlc_core.specs.Machine.{is_waiting}
-use Rattle.link_laws.specs.machine.Machine.{LinkEnd, LinkInput}
-use Rattle.link_laws.specs.messages.Links.{NumberedEnd, LinkEvent, Node, exchanged, AllAllowed, IsEvent, AreSendableTurns, after_link_events}
-use Rattle.link_laws.specs.messages.Links.Comes.{NextFrame, AsksReset}
-use Rattle.link_laws.specs.messages.Links.EndEvent.{Step}
-use Rattle.link_laws.specs.messages.Links.LinkEvent.{AtController, AtHost, Ticks, TicksWithout}
-use Rattle.link_laws.specs.entries.Entries.End.{Controller, Host}
-use Rattle.history.specs.Steps.{entries_for}
-use Rattle.node_machine.specs.Parts.{Running, Work}
-use Rattle.node_machine.specs.Node.{steps}
-use Rattle.node_machine.specs.Node.NodeInput.{AtEnd}
-use Rattle.node_machine.specs.world.World.{Site, NodeWorld, Happening, site_at, link_to, input_of, near_end_in, arrival, controller_work, host_work}
-use Rattle.node_machine.specs.world.World.{comes_to, turns_at, ending_of, work_of, all_aged, world_step}
-use Rattle.node_machine.specs.world.World.Happening.{Takes, Ticks as TimePassing}
-use Rattle.node_machine.specs.world.Lines.{all_happen, can_happen, happenings, frames_at}
-use Rattle.node_laws.proofs.Cases.{by_test}
+use Rattle.link_laws.specs.messages.Links.LinkEvent.{Ticks}
+use Rattle.node_machine.specs.world.World.Happening.{Ticks as TimePassing}
 use Rattle.node_laws.proofs.telling.Worlds.{site_is}
 use Rattle.node_laws.proofs.links.Got.{Clean}
 use Rattle.node_laws.proofs.links.Playing.{step_fine}
@@ -28,9 +19,8 @@ use Rattle.node_laws.proofs.links.Works.{IsFineWork, steps_fine}
 use Rattle.node_laws.proofs.links.Worlds.{IsFineNode, IsFineSite, IsFineWorld, near_end_clean, near_clean, fine_clean, ports_fine, turns_fine, may_here}
 use Rattle.node_laws.proofs.order.Ticking.{aged_clean, near_sends, far_sends}
 use Rattle.node_laws.proofs.telling.WorldTicks.{host_turns, near_turns}
-use Rattle.node_machine.specs.world.Rounds.{ends_in_order, end_takes_all, ends_take_all, world_after_round}
-use Rattle.node_laws.specs.rounds.LinkEvents.{link_events_in, controller_takes, site_takes, takes_on, site_ticks, tick_so, controller_tick_on, ticks_on}
-use Rattle.node_laws.specs.rounds.RoundEvents.{events_on, ends_events, round_events, rounds_events}
+use Rattle.node_laws.specs.rounds.LinkEvents.{takes_on, site_ticks, tick_so, controller_tick_on}
+use Rattle.node_laws.specs.rounds.RoundEvents.{rounds_events}
 use Rattle.node_laws.proofs.rounds.BareRounds.{allowed-append}
 use Rattle.node_laws.proofs.rounds.LinkEvents.{takes_go, ticks_go, Ticked, world_ticked}
 use Rattle.node_laws.proofs.rounds.RoundEvents.{ArePassing, all_go, takes_pass, ends_go, round_goes}

@@ -2,16 +2,10 @@
 use Rattle.std.proofs.Common.{◌≡◌, ℕ, zero, suc, List, [], ◌∷◌, ◌++◌, map, refl, ap, sym, subst, ◌∙◌, length}
 use Rattle.std.specs.Prelude.{replicate}
 use Rattle.std.proofs.lemmas.List.{map-append}
-use Rattle.link_laws.specs.machine.Machine.Turn.{FetchMessage}
-use Rattle.link_laws.specs.messages.Links.{Link, EndEvent, LinkEvent, happens, after_link_events, AllAllowed}
-use Rattle.link_laws.specs.messages.Links.Ending.{GoesOut}
-use Rattle.link_laws.specs.messages.Links.Comes.{NextFrame}
-use Rattle.link_laws.specs.messages.Links.EndEvent.{Step}
-use Rattle.link_laws.specs.messages.Links.LinkEvent.{AtController, AtHost}
-use Rattle.link_laws.specs.entries.Entries.End.{Controller, Host}
+use Rattle.node_laws.proofs.Words.{AllAllowed, AtController, AtHost, Controller, EndEvent, FetchMessage, GoesOut, Host, Link, LinkEvent, NextFrame, Step}
+use Rattle.node_laws.proofs.Words.{after_link_events, end_of, event_of, happens, link_after_all}
 use Rattle.history.specs.Histories.{Cause}
 use Rattle.history.specs.Histories.Cause.{Taken, Ticked}
-use Rattle.history.specs.Steps.{end_of, event_of, link_after_all}
 use Rattle.node_laws.specs.rounds.BareRounds.{causes_of_round}
 
 -- what causes do to the link

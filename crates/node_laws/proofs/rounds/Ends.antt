@@ -2,17 +2,10 @@
 use Rattle.std.proofs.Common.{◌≡◌, ℕ, ◌==◌, false, List, [], ◌∷◌, ◌++◌, Some, None, refl, ap, sym, subst, ◌∙◌, append_assoc}
 use Rattle.std.specs.List.{AllByRecursion, flat_map}
 use Rattle.std.proofs.lemmas.Bool.{eqb-true}
-use Rattle.trace_model.specs.declared.line.End.{End}
+use Rattle.node_laws.proofs.Words.{AreDifferent, End, LinkEvent, NodeWorld, Site, by_test, end_c, end_h, end_takes_all, ends_events, ends_take_all, events_on}
+use Rattle.node_laws.proofs.Words.{happenings, hosts_in, site_at}
 use Rattle.trace_model.specs.declared.line.Line.TheVariants as line
-use Rattle.link_laws.specs.messages.Links.{LinkEvent}
-use Rattle.node_machine.specs.world.World.{Site, NodeWorld, site_at, end_c, end_h}
-use Rattle.node_machine.specs.world.Lines.{happenings}
-use Rattle.node_machine.specs.world.Rounds.{end_takes_all, ends_take_all}
-use Rattle.node_laws.specs.kept.Hosts.{AreDifferent}
-use Rattle.node_laws.specs.telling.Telling.{hosts_in}
-use Rattle.node_laws.proofs.Cases.{by_test}
 use Rattle.node_laws.proofs.telling.Nodes.{swapped}
-use Rattle.node_laws.specs.rounds.RoundEvents.{events_on, ends_events}
 
 -- the ends of the links with these hosts
 abbrev pub ends_of : List ℕ → List End

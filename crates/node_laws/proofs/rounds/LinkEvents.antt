@@ -1,26 +1,14 @@
 -- What happens in a world is on each link the event that is said of it.
 use Rattle.std.proofs.Common.{◌≡◌, ℕ, ◌==◌, ◌&&◌, Bool, true, false, not, List, [], ◌∷◌, map, Option, Some, None, refl, ap, sym, subst, ◌∙◌}
 use Rattle.std.proofs.lemmas.Bool.{eqb-true, eq-eqb}
-use Rattle.trace_model.specs.declared.line.End.{End}
-use Rattle.link_laws.specs.machine.Machine.{LinkInput}
-use Rattle.shdlc_core.specs.Machine.{is_waiting}
-use Rattle.link_laws.specs.messages.Links.{NumberedEnd, Link, LinkEvent, Node, exchanged, aged, ticks_at_controller, happens, after_link_events}
-use Rattle.link_laws.specs.messages.Links.Ending.{GoesOut}
-use Rattle.link_laws.specs.messages.Links.Comes.{NextFrame}
-use Rattle.link_laws.specs.messages.Links.EndEvent.{Step}
-use Rattle.link_laws.specs.messages.Links.LinkEvent.{AtController, AtHost}
-use Rattle.node_machine.specs.Parts.{Running, Work}
-use Rattle.node_machine.specs.Carrying.{changed_if}
-use Rattle.node_machine.specs.Node.{steps}
-use Rattle.node_machine.specs.Node.NodeInput.{AtEnd, TimePasses}
-use Rattle.node_machine.specs.world.World.{Site, NodeWorld, site_at, link_to, input_of, controller_work, host_work, link_after_controller, after_controller}
-use Rattle.node_machine.specs.world.World.{comes_to, turns_at, ending_of, after_host, with_site, world_step, end_c, end_h}
-use Rattle.node_machine.specs.world.World.Happening.{Takes, Ticks}
-use Rattle.node_machine.specs.world.World.{all_aged, controller_ticks, host_ticks, hosts_tick, ticked_so, is_late_at, work_of}
-use Rattle.node_laws.proofs.Cases.{by_option, by_test}
+use Rattle.node_laws.proofs.Words.{AtController, AtEnd, AtHost, End, GoesOnLink, GoesOut, Link, LinkEvent, LinkInput, NextFrame, Node, NodeWorld, NumberedEnd}
+use Rattle.node_laws.proofs.Words.{Running, Site, Step, Takes, Ticks, TimePasses, Work, after_controller, after_host, after_link_events, aged, all_aged}
+use Rattle.node_laws.proofs.Words.{by_option, by_test, changed_if, comes_to, controller_takes, controller_ticks, controller_work, end_c, end_h, ending_of}
+use Rattle.node_laws.proofs.Words.{exchanged, happens, host_ticks, host_work, hosts_tick, input_of, is_late_at, is_waiting, link_after_controller}
+use Rattle.node_laws.proofs.Words.{link_events_in, link_to, site_at, site_takes, steps, ticked_so, ticks_at_controller, ticks_on, turns_at, with_site, work_of}
+use Rattle.node_laws.proofs.Words.{world_step}
 use Rattle.node_laws.proofs.links.Worlds.{so_host}
-use Rattle.node_laws.specs.rounds.LinkEvents.{GoesOnLink, link_events_in, controller_takes, site_takes, takes_on, site_ticks, tick_so, controller_tick_on}
-use Rattle.node_laws.specs.rounds.LinkEvents.{ticks_on}
+use Rattle.node_laws.specs.rounds.LinkEvents.{takes_on, site_ticks, tick_so, controller_tick_on}
 
 -- ## Sites that change and keep their hosts
 

@@ -1,31 +1,17 @@
 -- Few RSETs are put on the links of a world: two at most in each tick, and one where a reset is asked for.
 use Rattle.std.proofs.Common.{◌≡◌, ℕ, ◌+◌, ◌≤◌, ◌==◌, Bool, true, false, List, [], ◌∷◌, map, refl, arith}
 use Rattle.std.specs.Prelude.{Some, None, not, ◌&&◌, replicate}
-use Rattle.swp_base.specs.InMemory.{Memory}
-use Rattle.trace_model.specs.declared.line.End.{End}
-use Rattle.shdlc_core.specs.Machine.{is_waiting}
-use Rattle.link_laws.specs.machine.Machine.{Turn}
-use Rattle.link_laws.specs.messages.Links.{Link, Comes, Ending, Loss, LinkEvent, exchanged, aged, happens, ticks_at_controller, number_of}
-use Rattle.link_laws.specs.messages.Links.Ending.{GoesOut, CutOff}
-use Rattle.link_laws.specs.messages.Links.Comes.{NextFrame, AsksReset, Starts, NoInput}
-use Rattle.link_laws.specs.messages.Links.EndEvent.{Step, Lose}
-use Rattle.link_laws.specs.messages.Links.LinkEvent.{AtController, AtHost}
-use Rattle.node_machine.specs.Parts.{Running, Work}
-use Rattle.node_machine.specs.Carrying.{changed_if}
-use Rattle.node_machine.specs.Node.{steps, begins_with}
-use Rattle.node_machine.specs.Node.NodeInput.{AtEnd}
-use Rattle.node_machine.specs.world.World.{Site, NodeWorld, Happening, new_world, new_site, with_site, ending_of, turns_at, is_late_at, comes_to, ticked_so}
-use Rattle.node_machine.specs.world.World.{near_end_in, link_after_controller, controller_does, after_host, host_does, controller_work, host_work, host_cut}
-use Rattle.node_machine.specs.world.World.{loses_power_at, with_memory, with_node, boots, memory_at, counts, frame_lost, all_aged, controller_ticks}
-use Rattle.node_machine.specs.world.World.{host_ticks, hosts_tick, world_ticks, comes_at, end_c, end_h, activates, world_step, sending, beginning}
-use Rattle.node_machine.specs.world.World.Happening.{Boots, IsCut, Gives, Inits, Takes, Loses, Ticks, Resets, Activates, Arms}
-use Rattle.node_machine.specs.world.Lines.{Occurrence, can_happen, all_happen}
-use Rattle.node_machine.proofs.world.Cases.{by_controller, by_host, by_coming, by_power, by_memory, by_running, boot_written, boot_found, by_boot, by_loss}
-use Rattle.node_machine.proofs.world.Cases.{site_lost, site_ticked, near_tick, host_tick, by_controller_tick, by_host_tick}
-use Rattle.node_laws.specs.telling.Telling.{world_behind}
+use Rattle.node_laws.proofs.Words.{Activates, Arms, AsksReset, AtController, AtEnd, AtHost, Boots, Comes, CutOff, End, Ending, Gives, GoesOut, Happening, Inits}
+use Rattle.node_laws.proofs.Words.{IsCut, Link, LinkEvent, Lose, Loses, Loss, Memory, NextFrame, NoInput, NodeWorld, Occurrence, Resets, Running, Site, Starts}
+use Rattle.node_laws.proofs.Words.{Step, Takes, Ticks, Turn, Work, activates, after_host, aged, all_aged, all_happen, beginning, begins_with, boot_found}
+use Rattle.node_laws.proofs.Words.{boot_written, boots, by_boot, by_coming, by_controller, by_controller_tick, by_host, by_host_tick, by_list, by_loss}
+use Rattle.node_laws.proofs.Words.{by_memory, by_power, by_running, by_test, can_happen, changed_if, comes_at, comes_to, controller_does, controller_ticks}
+use Rattle.node_laws.proofs.Words.{controller_work, counts, end_c, end_h, ending_of, exchanged, frame_lost, happens, host_cut, host_does, host_tick, host_ticks}
+use Rattle.node_laws.proofs.Words.{host_work, hosts_tick, is_late_at, is_waiting, link_after_controller, loses_power_at, memory_at, near_end_in, near_tick}
+use Rattle.node_laws.proofs.Words.{new_site, new_world, number_of, sending, site_lost, site_ticked, steps, ticked_so, ticks_at_controller, turns_at}
+use Rattle.node_laws.proofs.Words.{with_memory, with_node, with_site, world_behind, world_step, world_ticks}
 use Rattle.link_laws.specs.messages.Rsets.{FewRsets, WireIsLow, resets_in_coming, rset_causes}
 use Rattle.node_laws.specs.rsets.Causes.{FewRsetsOnEach, NumbersWithinOnEach, happened_in, world_ticks_in, resets_among, others_among, rsets_by, rsets_by_all}
-use Rattle.node_laws.proofs.Cases.{by_test, by_list}
 use Rattle.link_laws.proofs.messages.RsetsOnLinks.{made_by_event, made_in_tick, made_in_tick_there}
 use Rattle.link_laws.proofs.messages.RsetNumbers.{number_low, took_low, exchanged_numbered, aged_numbered, tick_numbered, tick_there_numbered}
 use Rattle.link_laws.proofs.messages.RsetNumbers.{event_numbered, numbers_within}

@@ -1,10 +1,7 @@
 -- Ends in lists: where none stands more often in one list than in another, the first is no longer.
 use Rattle.std.proofs.Common.{◌≡◌, ℕ, ◌+◌, ◌≤◌, ◌==◌, Bool, true, false, List, [], ◌∷◌, length, sym, refl, ap, ap₂, arith}
 use Rattle.std.proofs.lemmas.Bool.{and_parts, eqb-true}
-use Rattle.trace_model.specs.declared.line.End.{End}
-use Rattle.history.specs.Filters.{same_side, same_end}
-use Rattle.history.proofs.Filters.{same_end_itself}
-use Rattle.node_laws.proofs.Cases.{by_test}
+use Rattle.node_laws.proofs.Words.{End, by_test, same_end, same_end_itself, same_side}
 
 abbrev pub one_at : Bool → ℕ
 one_at true = 1

@@ -5,13 +5,8 @@ use Rattle.std.specs.List.Sorted.{IsStrictlyIncreasing}
 use Rattle.std.proofs.lemmas.Bool.{true≢false}
 use Rattle.std.proofs.lemmas.List.Elements.{All-from_recursion}
 use Rattle.swp_base.specs.Bits.{IsByte}
-use Rattle.trace_model.specs.declared.line.End.{End}
-use Rattle.trace_model.specs.declared.line.Header.{Header}
-use Rattle.trace_model.specs.declared.line.Line.{Line}
+use Rattle.node_laws.proofs.Words.{AreNodeLinesOf, End, Header, IsHost, IsNodeHeader, IsNodeLineOf, Line, end_c, end_h}
 use Rattle.trace_model.specs.declared.line.Line.TheVariants as line
-use Rattle.trace_model.specs.Lines.{IsHost, IsNodeHeader}
-use Rattle.node_machine.specs.world.World.{end_c, end_h}
-use Rattle.node_laws.specs.schedules.Ranges.{IsNodeLineOf, AreNodeLinesOf}
 
 -- `swp 1 hci 01 02`
 abbrev two_hosts : Header

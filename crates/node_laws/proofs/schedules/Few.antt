@@ -2,15 +2,9 @@
 use Rattle.std.proofs.Common.{◌≡◌, ℕ, ◌+◌, ◌*◌, ◌≤◌, ◌==◌, Bool, true, false, cond, List, [], ◌∷◌, ◌++◌, length, length-append, length-take, sym, ap}
 use Rattle.std.proofs.Common.{append-nil, arith}
 use Rattle.std.specs.List.{fold}
-use Rattle.trace_model.specs.declared.entry.Entry.{Entry}
+use Rattle.node_laws.proofs.Words.{AreNodeLinesOf, Book, Entry, FollowsNodes, Header, IsFew, IsNodeHeader, Line, NodeHistory, book_after, commands_in}
+use Rattle.node_laws.proofs.Words.{lines_asking, new_book, node_entries, occurrences_in, with_command, with_found}
 use Rattle.trace_model.specs.declared.entry.Entry.TheVariants as entry
-use Rattle.trace_model.specs.declared.line.Header.{Header}
-use Rattle.trace_model.specs.declared.line.Line.{Line}
-use Rattle.trace_model.specs.Lines.{IsNodeHeader}
-use Rattle.node_machine.specs.world.NodeHistories.{NodeHistory, FollowsNodes, node_entries, occurrences_in}
-use Rattle.node_machine.specs.world.NodeFilters.{Book, with_command, with_found, book_after, commands_in, new_book}
-use Rattle.node_laws.specs.kept.Hosts.{IsFew}
-use Rattle.node_laws.specs.schedules.Ranges.{AreNodeLinesOf, lines_asking}
 use Rattle.node_laws.specs.reply_passes.Counts.{commands_noted as commits}
 use Rattle.node_laws.proofs.reply_passes.Growing.{commits-append}
 use Rattle.node_laws.proofs.bounds.Lines.{lines_bounded}

@@ -2,19 +2,14 @@
 use Rattle.std.proofs.Common.{◌+◌, ◌≤◌, Bool, true, false, List, [], ◌∷◌, ◌++◌, length, length-append, length-drop, subst, arith}
 use Rattle.std.specs.Prelude.{nat_lt, is_some}
 use Rattle.std.proofs.lemmas.Bool.{ltb-false}
-use Rattle.swp_base.specs.declared.control_frames.Control.{Control}
-use Rattle.link_laws.specs.sessions.Sessions.{OnWire, is_rset, fits, aged_wire, took_with}
-use Rattle.link_laws.specs.machine.Machine.{LinkEnd, LinkInput, Turn, turned, after_input, frames_out, ended_by, started, deactivated}
-use Rattle.link_laws.specs.machine.Machine.LinkInput.{Take, Tick, Reset}
-use Rattle.link_laws.specs.messages.Links.{Link, Ending, Comes, EndEvent, LinkEvent, exchanged, put, put_all, with_ended, finished, has_input, has_taken}
-use Rattle.link_laws.specs.messages.Links.{has_restarted, steps_at_controller, happens_at_controller, all_at_controller, aged, ticks_at_controller, happens}
-use Rattle.link_laws.specs.messages.Links.{after_link_events, silent}
-use Rattle.link_laws.specs.messages.Links.Ending.{GoesOut, CutOff}
-use Rattle.link_laws.specs.messages.Links.Comes.{NextFrame, AsksReset, Starts, Stops, NoInput}
-use Rattle.link_laws.specs.messages.Links.EndEvent.{Step, Lose}
-use Rattle.link_laws.specs.messages.Links.LinkEvent.{AtController, AtHost, Ticks, TicksWithout, Activate}
-use Rattle.node_laws.specs.links.Runs.{IsRun, new_line}
-use Rattle.node_laws.proofs.Cases.{by_test}
+use Rattle.node_laws.proofs.Words.{Activate, AsksReset, AtController, AtHost, Comes, Control, CutOff, EndEvent, Ending, GoesOut, IsRun, Link, LinkEnd}
+use Rattle.node_laws.proofs.Words.{LinkEvent, LinkInput, Lose, NextFrame, NoInput, OnWire, Reset, Starts, Step, Stops, Take, Tick, TicksWithout, Turn}
+use Rattle.node_laws.proofs.Words.{after_input, after_link_events, aged, all_at_controller, by_test, deactivated, ended_by, exchanged, finished, frames_out}
+use Rattle.node_laws.proofs.Words.{happens, happens_at_controller, has_input, has_taken, is_rset, new_line, put, put_all, silent, started, steps_at_controller}
+use Rattle.node_laws.proofs.Words.{ticks_at_controller, took_with, turned, with_ended}
+use Rattle.link_laws.specs.sessions.Sessions.{fits, aged_wire}
+use Rattle.link_laws.specs.messages.Links.{has_restarted}
+use Rattle.link_laws.specs.messages.Links.LinkEvent.{Ticks}
 
 -- both wires hold 64 frames at most
 pub record IsFewWires (l : Link) : Type 0 where

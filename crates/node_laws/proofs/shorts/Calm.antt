@@ -6,31 +6,19 @@ use Rattle.std.specs.List.{AllByRecursion, fold, filter_map}
 use Rattle.std.proofs.lemmas.Bool.{eqb-true}
 use Rattle.std.proofs.lemmas.List.Elements.{filter_map-append}
 use Rattle.std.proofs.lemmas.List.Sums.{fold-append}
-use Rattle.trace_model.specs.declared.entry.Entry.{Entry}
+use Rattle.node_laws.proofs.Words.{AreNotOf, Begins, Book, Counts, Cut, Emit, End, Entry, Gets, Init, IsSilent, LeavesInit, Link, Lost, Message, Moment, Puts}
+use Rattle.node_laws.proofs.Words.{Saying, Took, Work, acked_after, acked_in, book_after, book_in, by_option, by_test, end_h, end_of_number, ending_entries}
+use Rattle.node_laws.proofs.Words.{ending_of, entries_for, errors_in, first_lack, frames_noted, host_deeds, is_of_node, is_up_read, lack_of, need_of_all, needs}
+use Rattle.node_laws.proofs.Words.{order_in, own_read, port_at, reply, runs_in, said_of, same_end, sent_by, sent_in, session_now, spare_at, spare_read}
+use Rattle.node_laws.proofs.Words.{tables_in, unacknowledged_in, unhandled_after, unhandled_in, until}
 use Rattle.trace_model.specs.declared.entry.Entry.TheVariants as entry
-use Rattle.trace_model.specs.declared.line.End.{End}
-use Rattle.link_laws.specs.machine.Machine.{Message, need_of_all}
-use Rattle.link_laws.specs.messages.Links.{Link}
-use Rattle.link_laws.specs.entries.Entries.{End as Side, Entry as Noted, ending_entries}
-use Rattle.link_laws.specs.entries.Entries.Entry.{Cut, Emit, Lost, Took}
-use Rattle.history.specs.Steps.{entries_for}
-use Rattle.history.specs.Filters.{Saying, acked_after, acked_in, said_of, same_end, sent_by, sent_in}
-use Rattle.history.specs.Filters.Saying.{Begins, Counts, Ends, Gets, Loses, Puts, Sends, Takes}
-use Rattle.node_machine.specs.Parts.{Init, Work}
-use Rattle.node_machine.specs.Carrying.{end_of_number, first_lack, needs, port_at}
-use Rattle.node_machine.specs.HostReplies.{host_deeds}
-use Rattle.node_machine.specs.world.World.{end_h, ending_of, frames_noted}
-use Rattle.node_machine.specs.world.NodeFilters.{Book, book_after, book_in, order_in, session_now, spare_at, tables_in, unacknowledged_in}
-use Rattle.node_laws.proofs.Cases.{by_option, by_test}
+use Rattle.link_laws.specs.entries.Entries.{End as Side, Entry as Noted}
+use Rattle.history.specs.Filters.Saying.{Ends, Loses, Sends, Takes}
 use Rattle.node_laws.proofs.kept.Books.{book_more}
 use Rattle.node_laws.proofs.telling.Frames.{ending_all}
-use Rattle.node_laws.specs.power.Powers.{AreNotOf, is_of_node}
-use Rattle.node_laws.specs.readings.Orders.{IsSilent}
 use Rattle.node_laws.proofs.readings.Silent.{order_more}
-use Rattle.node_laws.specs.views.Errors.{errors_in}
-use Rattle.node_laws.specs.views.Inits.{LeavesInit}
 use Rattle.node_laws.proofs.views.Answering.{reads_init}
-use Rattle.node_laws.specs.answers.Moments.{Moment, end_read, is_up_read, lack_of, own_read, reply, runs_in, spare_read, unhandled_after, unhandled_in, until}
+use Rattle.node_laws.specs.answers.Moments.{end_read}
 use Rattle.node_laws.proofs.replies.Turns.{lack_alike}
 use Rattle.node_laws.proofs.worlds.Hearing.{IsFrame}
 use Rattle.node_laws.proofs.worlds.Resting.{idle_unhandled, other_end, others_idle}

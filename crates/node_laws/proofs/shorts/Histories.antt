@@ -3,27 +3,12 @@ use Rattle.std.proofs.Common.{◌≡◌, inl, inr, ℕ, ◌≤◌, ◌||◌, tru
 use Rattle.std.specs.Prelude.{None, Some, is_some}
 use Rattle.std.specs.List.{AllByRecursion, list_any}
 use Rattle.std.proofs.lemmas.Bool.{ne_eqb}
-use Rattle.trace_model.specs.Lines.{IsHost, IsNodeOf}
-use Rattle.trace_model.specs.declared.entry.Entry.{Entry}
-use Rattle.trace_model.specs.declared.line.End.{End}
-use Rattle.trace_model.specs.declared.line.Header.{Header}
-use Rattle.trace_model.specs.declared.line.Line.{Line}
-use Rattle.link_laws.proofs.entries.Lasting.{same_number}
-use Rattle.node_machine.specs.world.World.{Happening, NodeWorld, Site, end_h, new_world, node_at, site_at, world_step}
-use Rattle.node_machine.specs.world.World.Happening.{Takes}
-use Rattle.node_machine.specs.world.Lines.{Occurrence}
-use Rattle.node_machine.specs.world.NodeHistories.{FollowsNodes, NodeHistory, entries_in, node_entries, occurrences_in}
-use Rattle.node_laws.specs.kept.Hosts.{AreHosts, IsFew, IsSentByHost}
-use Rattle.node_laws.specs.telling.Telling.{world_behind}
-use Rattle.node_laws.proofs.Cases.{by_option, by_test}
+use Rattle.node_laws.proofs.Words.{AreHosts, ArePlayable, AtEachOccurrence, End, Entry, FollowsNodes, Happening, Header, IsBegunByHost, IsFew, IsHost}
+use Rattle.node_laws.proofs.Words.{IsInitOfHost, IsNodeOf, IsSentByHost, Line, NodeHistory, NodeWorld, Occurrence, Site, Takes, by_option, by_test, end_h}
+use Rattle.node_laws.proofs.Words.{entries_in, is_left_short, new_world, node_at, node_entries, occurrences_in, same_number, site_at, world_behind, world_step}
 use Rattle.node_laws.proofs.cuts.Worlds.{node_far}
 use Rattle.node_laws.proofs.telling.Lasting.{AreCaused, events_of_steps, lines_caused}
-use Rattle.node_laws.specs.links.Runs.{ArePlayable}
 use Rattle.node_laws.proofs.order.Lines.{IsSo}
-use Rattle.node_laws.specs.readings.Worlds.{IsInitOfHost}
-use Rattle.node_laws.specs.views.Inits.{IsBegunByHost}
-use Rattle.node_laws.specs.answers.Answered.{is_left_short}
-use Rattle.node_laws.specs.answers.Moments.{AtEachOccurrence}
 use Rattle.node_laws.specs.reply_passes.Counts.{commands_noted as commits}
 use Rattle.node_laws.proofs.worlds.Leaving.{short_off, short_still}
 use Rattle.node_laws.proofs.worlds.Powered.{off_read}

@@ -7,36 +7,21 @@ use Rattle.std.specs.Option.{option_and_then}
 use Rattle.std.proofs.lemmas.Bool.{true≢false}
 use Rattle.std.proofs.lemmas.List.Sums.{take_while-cons}
 use Rattle.registry.proofs.ValueLemmas.{AllByRecursion-append as all_append}
-use Rattle.trace_model.specs.Lines.{IsHost}
-use Rattle.trace_model.specs.declared.entry.Entry.{Entry}
+use Rattle.node_laws.proofs.Words.{AreAlong, BeginWithTurn, ComesTo, End, Entry, ErrorCount, Happening, HciTables, Init, IsBehind, IsHost, Message, Moment}
+use Rattle.node_laws.proofs.Words.{NodeInput, Occurrence, Work, by_list, comes_to_pass, end_h, end_of_node, entries_in, errors_in, goes_through_ends}
+use Rattle.node_laws.proofs.Words.{hosts_of_ends, init_begun, init_in, is_held_at, is_later, is_left_short, lack_of, lacking, links_of_turns, no_errors, oldest}
+use Rattle.node_laws.proofs.Words.{order_in, own_read, passes, runs_in, steps, tables_in, through, unhandled_in, until, waiting_at}
 use Rattle.trace_model.specs.declared.entry.Entry.TheVariants as entry
-use Rattle.trace_model.specs.declared.line.End.{End}
-use Rattle.hci_tables.specs.Tables.{HciTables}
-use Rattle.link_laws.specs.machine.Machine.{Message, oldest}
-use Rattle.node_machine.specs.Parts.{Init, Work}
-use Rattle.node_machine.specs.Carrying.{end_of_node}
-use Rattle.node_machine.specs.Turns.{goes_through_ends, passes}
-use Rattle.node_machine.specs.Node.{NodeInput, steps}
-use Rattle.node_machine.specs.world.World.{Happening, end_h}
-use Rattle.node_machine.specs.world.Lines.{Occurrence}
-use Rattle.node_machine.specs.world.NodeHistories.{entries_in}
-use Rattle.node_machine.specs.world.NodeFilters.{order_in, tables_in}
-use Rattle.node_laws.specs.kept.Books.{hosts_of_ends}
-use Rattle.node_laws.specs.passes.Passing.{AreAlong, BeginWithTurn, ComesTo, IsBehind, Stays, is_held_at, lacking, links_of_turns, waiting_at}
+use Rattle.node_laws.specs.passes.Passing.{Stays}
 use Rattle.node_laws.specs.passes.Passing.ComesTo.{Begins}
-use Rattle.node_laws.specs.passes.Steps.{comes_to_pass}
-use Rattle.node_laws.proofs.Cases.{by_list}
 use Rattle.node_laws.proofs.passes.Before.{steps_are}
 use Rattle.node_laws.proofs.passes.Behind.{leaves_behind}
 use Rattle.node_laws.proofs.passes.Passing.{comes_lasts}
 use Rattle.node_laws.proofs.power.Doing.{Fine, Lost, Runs}
 use Rattle.node_laws.proofs.power.Steps.{steps_fine}
-use Rattle.node_laws.specs.views.Errors.{ErrorCount, errors_in, no_errors}
-use Rattle.node_laws.specs.views.Inits.{init_begun, init_in}
 use Rattle.node_laws.proofs.views.Answering.{init_append, reads_init}
 use Rattle.node_laws.proofs.views.Leaving.{IsRead, Leaves, leaves_all, plainly, reads, reads_append}
-use Rattle.node_laws.specs.answers.Answered.{as_left, is_later, is_left_short, through}
-use Rattle.node_laws.specs.answers.Moments.{Moment, own_read, lack_of, runs_in, unhandled_in, until}
+use Rattle.node_laws.specs.answers.Answered.{as_left}
 use Rattle.node_laws.specs.reply_passes.Counts.{commands_noted as commits}
 use Rattle.node_laws.proofs.reply_passes.Growing.{commits-append}
 use Rattle.node_laws.proofs.reply_passes.Sides.{AreNoBoots}

@@ -2,27 +2,13 @@
 use Rattle.std.proofs.Common.{◌≡◌, ℕ, zero, suc, ◌≤◌, true, List, [], ◌∷◌, length, sym, refl, ap, ◌∙◌, subst, arith}
 use Rattle.std.specs.Prelude.{Some, None, is_some, unwrap_or, replicate}
 use Rattle.std.proofs.lemmas.Bool.{true≢false}
-use Rattle.swp_lpdu.specs.Controls.{lpdu_of}
-use Rattle.trace_model.specs.declared.line.End.{End}
-use Rattle.trace_model.specs.declared.line.Line.{Line}
+use Rattle.node_laws.proofs.Words.{AtEnd, End, Ending, GoesOut, Happening, IsSentByHost, Line, Link, LinkInput, LostFor, NextFrame, NodeWorld, OnWire, Same}
+use Rattle.node_laws.proofs.Words.{Site, Takes, Ticks, Undetected, Verdict, Work, after_host, by_coming, by_host, by_test, ending_of, exchanged, first_verdict}
+use Rattle.node_laws.proofs.Words.{frames_at, happenings, happens_by, host_does, host_work, lpdu_of, refusal_in, runs_on, site_at, steps, steps_at_controller}
+use Rattle.node_laws.proofs.Words.{taken_of, turns_at, world_step}
 use Rattle.trace_model.specs.declared.line.Line.TheVariants as line
-use Rattle.link_laws.specs.sessions.Sessions.{OnWire}
-use Rattle.link_laws.specs.machine.Machine.{LinkInput}
-use Rattle.link_laws.specs.messages.Links.{Ending, Link, exchanged, steps_at_controller}
-use Rattle.link_laws.specs.messages.Links.Comes.{NextFrame}
-use Rattle.link_laws.specs.messages.Links.Ending.{GoesOut}
-use Rattle.history.specs.Damage.{Verdict, verdict_on}
-use Rattle.history.specs.Damage.Verdict.{LostFor, Same, Undetected}
-use Rattle.history.specs.Follows.{first_verdict, frames_to, taken_of}
-use Rattle.node_machine.specs.Parts.{Work}
-use Rattle.node_machine.specs.Node.{steps}
-use Rattle.node_machine.specs.Node.NodeInput.{AtEnd}
-use Rattle.node_machine.specs.world.World.{Happening, NodeWorld, Site, after_host, ending_of, host_does, host_work, runs_on, site_at, turns_at, world_step}
-use Rattle.node_machine.specs.world.World.Happening.{Takes, Ticks}
-use Rattle.node_machine.specs.world.Lines.{frames_at, happenings, happens_by, refusal_in}
-use Rattle.node_machine.proofs.world.Cases.{by_coming, by_host}
-use Rattle.node_laws.specs.kept.Hosts.{IsSentByHost}
-use Rattle.node_laws.proofs.Cases.{by_test}
+use Rattle.history.specs.Damage.{verdict_on}
+use Rattle.history.specs.Follows.{frames_to}
 use Rattle.node_laws.proofs.cuts.Worlds.{with_here}
 use Rattle.node_laws.proofs.telling.Lasting.{AllMay, repeated_may}
 use Rattle.node_laws.proofs.telling.Nodes.{link_is}

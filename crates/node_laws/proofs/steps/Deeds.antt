@@ -1,19 +1,8 @@
 -- What a controller does with a message commits and asks for creations only as it may.
 use Rattle.std.proofs.Common.{ℕ, List, refl, inl, inr}
-use Rattle.hci_tables.specs.Tables.{HciTables}
-use Rattle.gate_answers.specs.Answers.{body_in}
-use Rattle.gate_admin.specs.declared.decision.Decision.{Decision}
-use Rattle.gate_admin.specs.declared.decision.Decision.TheVariants.{Answer, Commit, Ask}
-use Rattle.gate_admin.specs.View.{has, hosts_where}
-use Rattle.gate_admin.specs.Decide.{decided}
-use Rattle.tables_laws.specs.gate.Rules.{AsksAsAllowed}
-use Rattle.tables_laws.proofs.gate.Decisions.{decided_as_allowed}
-use Rattle.link_laws.specs.machine.Machine.{Message}
-use Rattle.node_machine.specs.Parts.{Core, Port}
-use Rattle.node_machine.specs.Parts.Deed.{Tells}
-use Rattle.node_machine.specs.Controller.{view_for, controller_deeds, view_of}
+use Rattle.node_laws.proofs.Words.{Answer, Ask, AsksAsAllowed, Commit, Core, Decision, HciTables, Message, OfDecision, Plain, Port, Tells, all_of_controller}
+use Rattle.node_laws.proofs.Words.{anyone, body_in, controller_deeds, decided, decided_as_allowed, has, hosts_where, view_for, view_of}
 use Rattle.node_laws.specs.steps.Creations.{IsAllowedDeed, AreAllowedDeeds}
-use Rattle.node_machine.proofs.Walks.{Plain, OfDecision, anyone, all_of_controller}
 
 plain : (t : HciTables) (ports : List Port) (h : ℕ) → Plain (IsAllowedDeed t ports h)
 plain t ports h = record { sends = λ to x. tt; says_ok = tt; releases = λ asker. tt; is_answered = tt; drops = λ pid. tt }

@@ -3,12 +3,8 @@ use Rattle.std.proofs.Common.{◌≡◌, ℕ, Bool, true, false, eqb, List, [], 
 use Rattle.std.specs.Prelude.{Option, Some, None}
 use Rattle.std.specs.List.{list_any, AllByRecursion}
 use Rattle.std.proofs.lemmas.Bool.{cond_both}
-use Rattle.link_laws.specs.machine.Machine.{LinkInput}
-use Rattle.node_machine.specs.Parts.{Core, Port}
-use Rattle.node_machine.specs.Carrying.{port_at, changed_if}
-use Rattle.node_machine.specs.Controller.{asked_at}
-use Rattle.node_machine.specs.Node.{has_come, is_late, reset_late, is_over, is_forgotten, forgets, without_notice, after_sessions}
-use Rattle.node_laws.proofs.Cases.{by_test}
+use Rattle.node_laws.proofs.Words.{Core, LinkInput, Port, after_sessions, asked_at, by_test, changed_if, forgets, has_come, is_forgotten, is_late, is_over}
+use Rattle.node_laws.proofs.Words.{port_at, reset_late, without_notice}
 
 pub come_host : (p : Port) (o : Option LinkInput) → (has_come p o).desk.host ≡ p.desk.host
 come_host p None = refl

@@ -3,13 +3,9 @@ use Rattle.std.proofs.Common.{ℕ, Bool, true, false, List, [], ◌∷◌}
 use Rattle.std.specs.List.{AllByRecursion}
 use Rattle.std.specs.Option.{option_map_or}
 use Rattle.trace_model.specs.declared.entry.Entry.TheVariants as entry
-use Rattle.link_laws.specs.machine.Machine.{Message, is_held}
-use Rattle.link_laws.specs.machine.Machine.Turn.{FetchMessage, Hold}
-use Rattle.node_machine.specs.Parts.{Port, Work, Deed}
-use Rattle.node_machine.specs.Carrying.{end_of_node, noting, unless_cut, port_at, with_desk, turn_at, done, all_done, needs, lack}
-use Rattle.node_machine.specs.Turns.{deeds_of, handles, holds_back, lets_go, have_turns, goes_through_ends, passes}
-use Rattle.node_machine.specs.Node.{answers_and_passes}
-use Rattle.node_laws.proofs.Cases.{by_option, by_test}
+use Rattle.node_laws.proofs.Words.{Deed, FetchMessage, Hold, Message, Port, Work, all_done, answers_and_passes, by_option, by_test, deeds_of, done, end_of_node}
+use Rattle.node_laws.proofs.Words.{goes_through_ends, handles, have_turns, holds_back, is_held, lack, lets_go, needs, noting, passes, port_at, turn_at}
+use Rattle.node_laws.proofs.Words.{unless_cut, with_desk}
 
 -- the messages that came at the end of the link with this host
 abbrev pub got_at : ℕ → Work → List Message

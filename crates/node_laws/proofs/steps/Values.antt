@@ -2,15 +2,11 @@
 use Rattle.std.proofs.Common.{◌≡◌, ℕ, ◌≤◌, true, false, not, cond, eqb, leb, ◌&&◌, refl, ap, ◌∙◌}
 use Rattle.std.specs.Prelude.{IsTrue}
 use Rattle.std.proofs.lemmas.Bool.{and_from, le-leb}
-use Rattle.registry.specs.Values.{value_at, is_kept, default_of}
-use Rattle.hci_tables.specs.declared.command.Command.{Command}
-use Rattle.hci_tables.specs.declared.command.Command.TheVariants.{Clear, Set, Sync}
-use Rattle.hci_tables.specs.Commands.{IsCommand}
-use Rattle.hci_tables.specs.Tables.{HciTables, AreTables, apply, is_kept_sync}
+use Rattle.node_laws.proofs.Words.{AreTables, Clear, Command, HciTables, IsCommand, Set, Sync, apply, by_test, is_kept, is_kept_sync}
+use Rattle.registry.specs.Values.{value_at, default_of}
 use Rattle.tables_laws.specs.tables.Changes.{told_value}
 use Rattle.tables_laws.proofs.tables.Values.{values-apply}
 use Rattle.node_laws.specs.steps.Creations.{LeavesWhitelist}
-use Rattle.node_laws.proofs.Cases.{by_test}
 
 synced : (t : HciTables) (h id x : ℕ) → told_value t (Sync h id) x 3 ≡ value_at t.values x 0 3
 synced t h id x = by_test (eqb h x)

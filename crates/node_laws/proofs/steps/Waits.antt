@@ -5,21 +5,13 @@ use Rattle.std.specs.List.{AllByRecursion}
 use Rattle.std.proofs.lemmas.Bool.{and_parts, leb-true, eq-eqb, or_left, or_right}
 use Rattle.whitelist.specs.Whitelist.{holds}
 use Rattle.registry.specs.Values.{value_at}
-use Rattle.hci_tables.specs.declared.command.Command.{Command}
-use Rattle.hci_tables.specs.declared.command.Command.TheVariants.{Create}
-use Rattle.hci_tables.specs.Commands.{IsCommand}
-use Rattle.hci_tables.specs.Tables.{HciTables, AreTables, apply}
-use Rattle.gate_admin.specs.declared.view.LinkView.{LinkView}
+use Rattle.node_laws.proofs.Words.{About, AreTables, Asks, Command, Commits, Core, Create, Creation, Deed, Forgotten, HciTables, IsAllowedFor, IsAllowedStill}
+use Rattle.node_laws.proofs.Words.{IsAskedFor, IsCommand, LinkView, MayWait, Message, Notice, Port, Removed, Waits, apply, asked_at, controller_deeds}
+use Rattle.node_laws.proofs.Words.{creation_in, is_asked_at, view_for, view_of}
 use Rattle.gate_admin.specs.Decide.{allows}
-use Rattle.tables_laws.specs.gate.Rules.{EndsAtController, IsAskedFor}
-use Rattle.link_laws.specs.machine.Machine.{Message}
-use Rattle.node_machine.specs.Parts.{Creation, About, Notice, Core, Port, Deed}
-use Rattle.node_machine.specs.Parts.About.{Waits, Forgotten, Removed}
-use Rattle.node_machine.specs.Parts.Deed.{Commits, Asks}
-use Rattle.node_machine.specs.Controller.{creation_in, asked_at, is_asked_at, view_for, controller_deeds, view_of}
+use Rattle.tables_laws.specs.gate.Rules.{EndsAtController}
 use Rattle.node_machine.specs.world.NodeLegal.{IsAllowedBy}
 use Rattle.node_laws.specs.steps.Creations.{IsWaitedFor, IsAllowedDeed, DeedLeavesWhitelist, IsBeingAsked, IsMaking, WaitsForPipes}
-use Rattle.node_laws.specs.steps.Waiting.{IsAllowedFor, MayWait, IsAllowedStill}
 use Rattle.node_laws.proofs.steps.Deeds.{controller_fine}
 use Rattle.node_laws.proofs.steps.Values.{whitelist_left}
 use Rattle.node_laws.proofs.steps.Whitelists.{whitelists_stay}

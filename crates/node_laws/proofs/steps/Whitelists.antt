@@ -3,26 +3,14 @@ use Rattle.std.proofs.Common.{◌≡◌, ℕ, Bool, true, false, eqb, ◌&&◌, 
 use Rattle.std.specs.List.{AllByRecursion}
 use Rattle.std.specs.Option.{option_map_or}
 use Rattle.std.proofs.lemmas.Bool.{eqb-true, true≢false}
-use Rattle.hci_tables.specs.declared.command.Command.{Command}
-use Rattle.hci_tables.specs.declared.command.Command.TheVariants.{Clear, Set}
-use Rattle.hci_tables.specs.Tables.{HciTables}
-use Rattle.gate_answers.specs.Answers.{body_in, param_in}
-use Rattle.gate_admin.specs.declared.view.LinkView.{LinkView}
-use Rattle.gate_admin.specs.declared.decision.Decision.{Decision}
-use Rattle.gate_admin.specs.declared.decision.Decision.TheVariants.{Answer, Commit, Ask}
-use Rattle.gate_admin.specs.View.{has, hosts_where, is_asked}
-use Rattle.gate_admin.specs.Decide.{tests_to_set_it, tests_to_clear, decided}
-use Rattle.gate_admin.proofs.CreationLemmas.{AllFalse, all_false}
-use Rattle.link_laws.specs.machine.Machine.{Message}
-use Rattle.node_machine.specs.Parts.{Core, Port}
-use Rattle.node_machine.specs.Parts.Deed.{Tells}
-use Rattle.node_machine.specs.Carrying.{port_at}
-use Rattle.node_machine.specs.Controller.{is_asked_at, view_for, controller_deeds, view_of}
+use Rattle.node_laws.proofs.Words.{Answer, Ask, Clear, Command, Commit, Core, Decision, HciTables, LinkView, Message, OfDecision, Plain, Port, Set, Tells}
+use Rattle.node_laws.proofs.Words.{all_false, all_of_controller, anyone, body_in, by_test, controller_deeds, decided, decided_holds, has, hosts_where}
+use Rattle.node_laws.proofs.Words.{is_asked_at, param_in, port_at, view_for, view_of}
+use Rattle.gate_admin.specs.View.{is_asked}
+use Rattle.gate_admin.specs.Decide.{tests_to_set_it, tests_to_clear}
+use Rattle.gate_admin.proofs.CreationLemmas.{AllFalse}
 use Rattle.node_laws.specs.steps.Creations.{LeavesWhitelist, DeedLeavesWhitelist, IsBeingAsked, IsMaking, WaitsForPipes}
-use Rattle.tables_laws.proofs.gate.Decisions.{decided_holds}
-use Rattle.node_laws.proofs.Cases.{by_test}
 use Rattle.node_laws.proofs.steps.Masks.{is_in_mask}
-use Rattle.node_machine.proofs.Walks.{Plain, OfDecision, anyone, all_of_controller}
 
 -- ## Decisions
 

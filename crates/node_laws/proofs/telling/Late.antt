@@ -2,15 +2,15 @@
 -- the tick does and tells.
 use Rattle.std.proofs.Common.{◌≡◌, ℕ, ◌-◌, Bool, true, false, cond, List, [], ◌∷◌, ◌++◌, map, Option, Some, None, refl, ap, sym, ◌∙◌, arith}
 use Rattle.std.specs.Prelude.{is_some, nat_lt, option_to_list}
-use Rattle.node_laws.proofs.Words.{Acked, ActOut, Active, Asked, Cause, Down, EndState, GaveUp, LinkEnd, Reset, Tick, Up, Waiting, act_out, after_input}
-use Rattle.node_laws.proofs.Words.{ended_by, if_so, is_open, no_session, report, runs_timer, tick_answer, ticked, told, whole_acked, whole_among}
+use Rattle.node_laws.proofs.Words.{Acked, ActOut, Active, Asked, Cause, Down, EndState, GaveUp, LinkEnd, Reset, Tick, Up, Waiting, act_event, act_out}
+use Rattle.node_laws.proofs.Words.{after_input, ended_by, if_so, is_open, no_act_out, no_session, report, runs_timer, tick_answer, ticked, told, whole_acked}
+use Rattle.node_laws.proofs.Words.{whole_among}
 use Rattle.swp_base.specs.declared.link_terms.Cause.TheVariants.{NoAnswer}
 use Rattle.shdlc_core.specs.declared.answers.Ticked.{Ticked}
 use Rattle.shdlc_core.specs.declared.answers.Due.TheVariants.{Rset as Rset_due}
 use Rattle.shdlc_core.specs.Machine.{timed, Timed, nothing_ticked}
 use Rattle.shdlc_core.specs.Machine.Timed.{Runs, Over, Spent}
-use Rattle.swp_act.specs.Activation.{no_act_out}
-use Rattle.link_laws.specs.machine.Machine.{in_front, act_event, gave_up_by}
+use Rattle.link_laws.specs.machine.Machine.{in_front, gave_up_by}
 use Rattle.link_laws.specs.entries.Entries.{End as Side, Entry as Noted}
 use Rattle.link_laws.specs.entries.Entries.Entry.{Up as IsUpNow}
 

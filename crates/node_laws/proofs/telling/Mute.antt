@@ -2,9 +2,8 @@
 use Rattle.std.proofs.Common.{◌≡◌, ℕ, false, List, refl}
 use Rattle.std.specs.List.{AllByRecursion, flat_map}
 use Rattle.node_laws.proofs.Words.{Core, Deed, Ends, Entry, Message, NodeInput, OfHost, Plain, Port, all_of_host, all_owed, all_owed_hold, all_synced_hold}
-use Rattle.node_laws.proofs.Words.{deeds_of, forgotten, forgotten_hold, synced, tells_of}
+use Rattle.node_laws.proofs.Words.{any_of_controller, deeds_hold, deeds_of, forgotten, forgotten_hold, synced, tells_of}
 use Rattle.trace_model.specs.declared.entry.Entry.TheVariants as entry
-use Rattle.node_machine.proofs.Walks.{any_of_controller, deeds_hold}
 
 -- what a node notes beside its links, its turns, its boots and its power
 abbrev pub IsPlain : Entry → Type 0

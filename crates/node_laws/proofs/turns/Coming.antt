@@ -9,8 +9,8 @@ use mathlib.Core.Bool.{and-false}
 use Rattle.node_laws.proofs.Words.{Acked, Active, AreDifferent, AtEnd, Cause, Core, Cut, Deed, Down, End, Entry, GaveUp, Got, IsComing, IsOutside, LinkEnd}
 use Rattle.node_laws.proofs.Words.{LinkInput, Message, NodeInput, Port, Report, Reset, Restarted, Tick, TimePasses, Work, after_input, after_sessions, all_come}
 use Rattle.node_laws.proofs.Words.{all_owed, answers_and_passes, begins_with, by_test, end_of, entries_for, entry_of, forgets, forgotten, has_come}
-use Rattle.node_laws.proofs.Words.{hosts_of_ends, if_so, input_at, is_late, own_side, port_at, report, reset_late, same_end, steps, synced, times_out, told}
-use Rattle.node_laws.proofs.Words.{told_at, told_late, whole_acked, with_older, without_notice}
+use Rattle.node_laws.proofs.Words.{hosts_of_ends, if_so, input_at, is_late, own_side, port_at, report, reset_got, reset_late, same_end, steps, synced}
+use Rattle.node_laws.proofs.Words.{times_out, told, told_at, told_late, whole_acked, with_older, without_notice}
 use Rattle.trace_model.specs.declared.entry.Entry.TheVariants as entry
 use Rattle.link_laws.specs.entries.Entries.{End as Side, Entry as Noted}
 use Rattle.link_laws.specs.entries.Entries.Entry.{Up, Tick as Ticked}
@@ -23,7 +23,6 @@ use Rattle.node_laws.proofs.turns.Queues.Doing.{Adds}
 use Rattle.node_laws.proofs.turns.Queues.{Becomes, Goes, goes-append, AreStill, still_goes, doing}
 use Rattle.node_laws.proofs.turns.Ends.{left_by, input_got}
 use Rattle.node_laws.proofs.turns.Passing.{has_side, same_is, map_is, Knows, Stands, known_map, does, rest}
-use Rattle.link_laws.proofs.machine.Kept.{reset_got}
 use Rattle.node_laws.proofs.steps.Ports.{come_host, forgets_host, without_host, late_host}
 
 -- ## Notes

@@ -4,12 +4,11 @@ use Rattle.std.specs.Prelude.{drop, is_some, not, ◌&&◌}
 use Rattle.swp_act.specs.declared.ActEvent.TheVariants.{Start as ActStart, Tick as ActTick, Stop as ActStop}
 use Rattle.node_laws.proofs.Words.{AsksReset, Comes, CutOff, Ending, FetchMessage, Give, GoesOut, IsComing, Link, LinkEnd, LinkInput, Message, NextFrame}
 use Rattle.node_laws.proofs.Words.{NoInput, Reset, SetAside, Start, Starts, Stop, Stops, Take, Tick, Turn, after_input, aside_refusal, by_list, by_option}
-use Rattle.node_laws.proofs.Words.{by_test, ended_by, finished, give_refusal, has_input, input_of, is_open, is_waiting, moved, silent, started}
-use Rattle.node_laws.proofs.Words.{steps_at_controller, stopped, tick_answer, ticked, ticked_so, ticks_at_controller, turn, turned, with_ended}
-use Rattle.link_laws.specs.machine.Machine.{deactivated}
+use Rattle.node_laws.proofs.Words.{by_test, deactivated, ended_by, finished, give_refusal, has_input, input_of, is_open, is_waiting, moved, reset_got, silent}
+use Rattle.node_laws.proofs.Words.{started, steps_at_controller, stopped, tick_answer, ticked, ticked_so, ticks_at_controller, turn, turned, with_ended}
 use Rattle.link_laws.specs.machine.Machine.{got_by}
 use Rattle.node_laws.proofs.telling.Parts.{after_coming, IsStep}
-use Rattle.link_laws.proofs.machine.Kept.{moved_got, activated_got, reset_got, took_got}
+use Rattle.link_laws.proofs.machine.Kept.{moved_got, activated_got, took_got}
 
 -- ## Turns
 

@@ -2,9 +2,8 @@
 use Rattle.std.proofs.Common.{◌≡◌, ℕ, ◌==◌, Bool, true, false, List, [], ◌∷◌, ◌++◌, Option, Some, None, map, refl, ap, sym, subst}
 use Rattle.std.specs.Prelude.{is_some, replicate}
 use Rattle.std.specs.List.{AllByRecursion}
-use Rattle.node_laws.proofs.Words.{AreDifferent, Entry, FollowsNodes, Happening, Header, IsOrderly, Line, MayBoot, Message, NodeHistory, NodeWorld, Running}
-use Rattle.node_laws.proofs.Words.{Site, by_option, end_c, end_h, new_site, new_world, node_entries, site_at, world_after, world_step}
-use Rattle.node_machine.specs.world.NodeLegal.{AreInTurn}
+use Rattle.node_laws.proofs.Words.{AreDifferent, AreInTurn, Entry, FollowsNodes, Happening, Header, IsOrderly, Line, MayBoot, Message, NodeHistory, NodeWorld}
+use Rattle.node_laws.proofs.Words.{Running, Site, by_option, end_c, end_h, new_site, new_world, node_entries, site_at, world_after, world_step}
 use Rattle.node_laws.proofs.telling.Lasting.{AnyLine, boots_may, all_lines, entries_of_steps, lines_last}
 use Rattle.node_laws.proofs.telling.Orderly.{step_orderly, new_orderly}
 use Rattle.node_laws.proofs.telling.Worlds.{site_is}

@@ -3,11 +3,10 @@ use Rattle.std.proofs.Common.{◌≡◌, ℕ, ◌==◌, List, [], ◌∷◌, ◌
 use Rattle.std.specs.Prelude.{if◌then◌else◌}
 use Rattle.std.specs.List.{AllByRecursion, filter_map}
 use Rattle.std.proofs.lemmas.List.Elements.{filter_map-append}
-use Rattle.node_laws.proofs.Words.{End, Entry, Message, by_test, same_end}
+use Rattle.node_laws.proofs.Words.{End, Entry, Message, by_test, got_entry, node_number, same_end, since_boot, turn_entry_at}
 use Rattle.trace_model.specs.declared.entry.Entry.TheVariants as entry
 use Rattle.node_laws.proofs.telling.Mute.{IsPlain}
 use Rattle.node_laws.proofs.telling.Walks.{ArePlain}
-use Rattle.node_machine.specs.world.NodeLegal.{since_boot, got_entry, turn_entry_at, node_number}
 
 -- what an entry does to the messages that wait at an end
 pub data Doing : Type 0 where

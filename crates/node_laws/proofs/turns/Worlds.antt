@@ -11,11 +11,10 @@ use Rattle.node_laws.proofs.Words.{Ticks, Work, activates, after_host, after_hos
 use Rattle.node_laws.proofs.Words.{boot_found, boot_writes, boot_written, boots, by_boot, by_coming, by_controller, by_controller_tick, by_host, by_host_tick}
 use Rattle.node_laws.proofs.Words.{by_loss, by_memory, by_option, by_power, by_test, comes_at, controller_does, controller_ticks, count_of, counts, end_c}
 use Rattle.node_laws.proofs.Words.{end_h, entries_for, exchanged, first_lost, frame_lost, frames_noted, happens, host_cut, host_does, host_ticks, host_work}
-use Rattle.node_laws.proofs.Words.{hosts_in, hosts_tick, input_of, link_to, loses_power_at, memory_at, node_at, same_end, sending, site_at, site_lost}
-use Rattle.node_laws.proofs.Words.{site_unticked, steps, ticks_at_controller, wires_for, with_memory, with_node, with_site, world_step, world_ticks}
+use Rattle.node_laws.proofs.Words.{hosts_in, hosts_tick, input_of, link_to, loses_power_at, memory_at, node_at, node_number, same_end, sending, site_at}
+use Rattle.node_laws.proofs.Words.{site_lost, site_unticked, steps, ticks_at_controller, wires_for, with_memory, with_node, with_site, world_step, world_ticks}
 use Rattle.trace_model.specs.declared.entry.Entry.TheVariants as entry
 use Rattle.link_laws.specs.entries.Entries.{End as Side}
-use Rattle.node_machine.specs.world.NodeLegal.{node_number}
 use Rattle.node_laws.proofs.kept.Sites.{with_site_twice}
 use Rattle.node_laws.proofs.links.Ends.{here_host}
 use Rattle.link_laws.proofs.entries.Together.{ticks_host as tick_host}

@@ -7,13 +7,12 @@ use Rattle.std.proofs.lemmas.Bool.{cases_Bool, cond_both, true≢false}
 use Rattle.std.proofs.lemmas.List.Sums.{fold-append}
 use Rattle.node_laws.proofs.Words.{Asks, Command, Core, Deed, Drops, Ends, Entry, GoesOn, Hears, Host, Init, InitMade, LinkState, Message, MessageFault}
 use Rattle.node_laws.proofs.Words.{MessageKind, Orders, Plain, Port, Sends, Set, Tells, Up, Waiting, body_in, by_option, end_h, end_of, end_of_node, end_view}
-use Rattle.node_laws.proofs.Words.{header_of, host_deeds, init_deeds, is_response, is_up, learned, learned_holds, learns, learns_holds, ordered_deeds, own_side}
-use Rattle.node_laws.proofs.Words.{own_view, same_end, with_response}
+use Rattle.node_laws.proofs.Words.{gate_of_pipe, header_of, host_deeds, init_deeds, init_holds, is_gate, is_response, is_up, learned, learned_holds, learns}
+use Rattle.node_laws.proofs.Words.{learns_holds, ordered_deeds, own_side, own_view, response_deeds, same_end, with_response}
 use Rattle.shdlc_core.specs.declared.answers.LinkState.TheVariants.{Down}
 use Rattle.hcp_packet.specs.declared.MessageKind.TheVariants.{Command as IsCommand, Event as IsEvent, Response as IsResponse}
 use Rattle.gate_loopback.specs.Loopback.{posts_back}
-use Rattle.node_machine.specs.HostReplies.{response_deeds, is_gate, gate_of_pipe}
-use Rattle.node_machine.proofs.Walks.{all_ordered, init_holds}
+use Rattle.node_machine.proofs.Walks.{all_ordered}
 use Rattle.node_laws.specs.views.Inits.{init_after}
 use Rattle.node_laws.proofs.readings.Silent.{same_own}
 

@@ -6,13 +6,12 @@ use Rattle.std.specs.Option.{option_map_or}
 use Rattle.std.proofs.lemmas.Bool.{cases_Bool, eqb-true, true≢false}
 use mathlib.Core.Bool.{and-true}
 use Rattle.node_laws.proofs.Words.{About, Asks, Book, Command, Commits, Controller, Core, Deed, Desk, Drops, End, Ends, Entry, ErrorCount, Give, GoesOn, Hears}
-use Rattle.node_laws.proofs.Words.{Hold, Host, InitMade, InitSame, IsAnswered, Orders, Port, Release, Releases, Removed, SaysOk, Sends, SetAside, SetsErrors}
-use Rattle.node_laws.proofs.Words.{Tells, Turn, Waits, Work, Write, after_turn, all_done, apply, body_of, by_cut, by_option, by_test, changed_if, changed_same}
-use Rattle.node_laws.proofs.Words.{commit, commit_writes, count_of, done, end_of, end_of_node, errors_after, fails_within, give_refusal, holds_back}
-use Rattle.node_laws.proofs.Words.{hosts_of_ends, is_held, lets_go, node_of, noted_of, notified, noting, own_side, port_at, same_end, turn_at, turn_entry}
-use Rattle.node_laws.proofs.Words.{unless_cut, with_command, with_desk, with_port}
+use Rattle.node_laws.proofs.Words.{Hold, Host, InitFailed, InitMade, InitSame, IsAnswered, Orders, Port, Release, Releases, Removed, SaysOk, Sends, SetAside}
+use Rattle.node_laws.proofs.Words.{SetsErrors, Tells, Turn, Waits, Work, Write, after_turn, all_done, apply, body_of, by_cut, by_option, by_test, changed_if}
+use Rattle.node_laws.proofs.Words.{changed_same, commit, commit_writes, count_of, done, end_of, end_of_node, errors_after, fails_within, give_refusal}
+use Rattle.node_laws.proofs.Words.{holds_back, hosts_of_ends, is_held, lets_go, node_of, noted_of, notified, noting, own_side, port_at, same_end, turn_at}
+use Rattle.node_laws.proofs.Words.{turn_entry, unless_cut, with_command, with_desk, with_port}
 use Rattle.trace_model.specs.declared.entry.Entry.TheVariants as entry
-use Rattle.trace_model.specs.declared.entry.Entry.TheVariants.{InitFailed}
 use Rattle.link_laws.specs.entries.Entries.{End as Side}
 use Rattle.node_laws.proofs.views.Leaving.{reads, reads_append, IsRead, IsStill, still_all, notes_still, IsUndamaged, plainly, beside_leaves}
 use Rattle.node_laws.proofs.views.Setting.{IsUnset, AreUnset, IsInitEnd}

@@ -4,16 +4,14 @@ use Rattle.std.specs.Prelude.{Option, Some, None, IsTrue, unwrap_or}
 use Rattle.std.specs.List.{AllByRecursion, fold}
 use Rattle.std.proofs.lemmas.Bool.{cond_both}
 use Rattle.node_laws.proofs.Words.{AreHosts, End, FollowsNodes, Header, Init, IsBegunByHost, IsHost, IsOrderly, Line, LinkEnd, LinkState, Message, NodeHistory}
-use Rattle.node_laws.proofs.Words.{NodeWorld, Occurrence, Takes, Ticks, Up, Waiting, by_option, first_verdict, frames_at, give_refusal, happenings, if_not_sent}
-use Rattle.node_laws.proofs.Words.{if_off, init_begun, init_in, init_of_running, is_command_message, link_to, machine_in, new_world, node_at, node_of}
-use Rattle.node_laws.proofs.Words.{occurrences_in, refusal_in, site_at, steps_from, taken_of, world_after, world_behind, world_step}
+use Rattle.node_laws.proofs.Words.{NodeWorld, NotUp, Occurrence, Takes, Ticks, Up, Waiting, by_option, first_verdict, frames_at, give_refusal, happenings}
+use Rattle.node_laws.proofs.Words.{has_order, if_not_sent, if_off, if_waiting, init_begun, init_behind, init_in, init_of_running, is_command_message, link_to}
+use Rattle.node_laws.proofs.Words.{machine_in, new_world, node_at, node_of, occurrences_in, refusal_in, site_at, steps_from, taken_of, world_after}
+use Rattle.node_laws.proofs.Words.{world_behind, world_step}
 use Rattle.trace_model.specs.declared.line.Line.TheVariants as line
 use Rattle.shdlc_core.specs.declared.answers.LinkState.TheVariants.{Down}
-use Rattle.link_laws.specs.machine.Machine.Refused.{NotUp}
-use Rattle.node_machine.specs.world.Lines.{has_order, if_waiting}
 use Rattle.node_laws.proofs.telling.Orderly.{step_orderly, new_orderly}
 use Rattle.node_laws.proofs.telling.Lasting.{AllMay, repeated_may, damaged_may, stands_none, events_of_steps, behind_lines}
-use Rattle.node_laws.specs.views.Inits.{init_behind}
 use Rattle.node_laws.proofs.views.Answering.{reads_init}
 use Rattle.node_laws.proofs.kept.Lines.{first_none, off_none}
 use Rattle.node_laws.proofs.views.Lines.{none_zero}

@@ -7,14 +7,13 @@ use Rattle.std.proofs.lemmas.Bool.{cond_both, eqb-true, true≢false, ne_eqb}
 use Rattle.std.proofs.lemmas.Grind.{flat_map-append}
 use Rattle.node_laws.proofs.Words.{Activates, AllKeep, AreHosts, Arms, AsksReset, Book, Boots, Desk, End, Entry, ErrorCount, FollowsNodes, Gives, Happening}
 use Rattle.node_laws.proofs.Words.{HasEnds, Header, IfItRuns, IfRuns, Inits, IsCut, IsFew, IsHost, IsOrderly, IsSameView, IsSentByHost, KeepsNotices, Line}
-use Rattle.node_laws.proofs.Words.{Loses, LostFor, MayBoot, Message, NextFrame, NodeHistory, NodeWorld, Occurrence, OnWire, Orders, Resets, Running, Same}
-use Rattle.node_laws.proofs.Words.{Sends, Takes, Ticks, Undetected, Verdict, beginning, by_test, ends_between, entries_in, errors_in, errors_of, first_verdict}
-use Rattle.node_laws.proofs.Words.{frames_at, happenings, happens_by, hosts_in, if_not_sent, if_off, is_command_message, is_one_of, memory_at, new_world}
-use Rattle.node_laws.proofs.Words.{no_errors, node_at, node_entries, node_of, occurrences_in, refusal_in, sending, site_at, steps_from, taken_of, view_at}
-use Rattle.node_laws.proofs.Words.{view_for, world_after, world_behind, world_step}
+use Rattle.node_laws.proofs.Words.{Loses, LostFor, MayBoot, MayHappen, Message, NextFrame, NodeHistory, NodeWorld, Occurrence, OnWire, Orders, Resets, Running}
+use Rattle.node_laws.proofs.Words.{Same, Sends, Takes, Ticks, Undetected, Verdict, beginning, by_test, ends_between, entries_in, errors_in, errors_of}
+use Rattle.node_laws.proofs.Words.{first_verdict, frames_at, happenings, happens_by, hosts_in, if_not_sent, if_off, is_command_message, is_one_of, memory_at}
+use Rattle.node_laws.proofs.Words.{new_world, no_errors, node_at, node_entries, node_of, occurrences_in, refusal_in, sending, site_at, steps_from, taken_of}
+use Rattle.node_laws.proofs.Words.{view_at, view_for, world_after, world_behind, world_step}
 use Rattle.trace_model.specs.declared.line.Line.TheVariants as line
 use Rattle.history.specs.Follows.{if_empty}
-use Rattle.node_laws.specs.kept.Worlds.{MayHappen}
 use Rattle.node_laws.proofs.kept.Kept.{all_begin}
 use Rattle.node_laws.proofs.kept.Lines.{world_goes, few_front, first_none, off_none, send_may}
 use Rattle.node_laws.proofs.telling.Orderly.{step_orderly, new_orderly}

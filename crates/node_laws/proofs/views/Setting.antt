@@ -6,20 +6,15 @@ use Rattle.std.specs.List.{AllByRecursion}
 use Rattle.std.specs.Option.{option_map_or}
 use Rattle.std.proofs.lemmas.Bool.{cond_both, eqb-true, true≢false}
 use mathlib.Core.Bool.{and-true}
-use Rattle.node_laws.proofs.Words.{Answer, Ask, Commit, Core, Decision, Deed, Drops, Ends, Entry, HciTables, InitMade, InitSame, LinkView, Message}
+use Rattle.node_laws.proofs.Words.{Answer, Ask, Commit, Core, Decision, Deed, Drops, Ends, Entry, HciTables, InitFailed, InitMade, InitSame, LinkView, Message}
 use Rattle.node_laws.proofs.Words.{MessageFault, MessageKind, OfDecision, OfHost, Plain, Port, Sends, SetsErrors, Tells, Up, all_of_controller, all_of_host}
-use Rattle.node_laws.proofs.Words.{answer_of, anyone, body_in, by_option, by_test, controller_deeds, decided, decision_deeds, end_view, errors_set_by, has}
-use Rattle.node_laws.proofs.Words.{has_link, header_of, host_deeds, is_opened, is_up, link_deeds, link_served, ordered_deeds, own_gate, own_view, port_at}
-use Rattle.node_laws.proofs.Words.{value_in, view_for, view_of}
-use Rattle.trace_model.specs.declared.entry.Entry.TheVariants.{InitFailed}
+use Rattle.node_laws.proofs.Words.{answer_of, answers, anyone, asks_for, body_in, by_option, by_test, controller_deeds, count_in, decided, decision_deeds}
+use Rattle.node_laws.proofs.Words.{deeds_by_relay, end_view, errors_set_by, far_end, first_of, goes_through, has, has_link, header_of, host_deeds, hosts_where}
+use Rattle.node_laws.proofs.Words.{is_opened, is_up, kind_deeds, link_deeds, link_served, ordered_deeds, own_deeds, own_gate, own_view, port_at, relayed_to}
+use Rattle.node_laws.proofs.Words.{served_at, tests_to_get, tests_to_set_errors, unless_asking, value_in, view_for, view_of}
 use Rattle.hcp_packet.specs.declared.MessageKind.TheVariants.{Command as IsCommand, Event as IsEvent, Response as IsResponse}
 use Rattle.gate_answers.specs.declared.response.Response.TheVariants as response
-use Rattle.gate_answers.specs.Answers.{first_of, tests_to_get}
-use Rattle.gate_admin.specs.View.{hosts_where}
-use Rattle.gate_admin.specs.Decide.{far_end, answers}
-use Rattle.gate_link.specs.Link.{tests_to_set_errors, count_in}
-use Rattle.node_machine.specs.Controller.{asks_for, goes_through, served_at, relayed_to}
-use Rattle.node_machine.specs.Controller.{unless_asking, kind_deeds, own_deeds, deeds_by_relay, command_deeds}
+use Rattle.node_machine.specs.Controller.{command_deeds}
 use Rattle.node_laws.proofs.readings.Noticed.{up_is}
 
 -- an init ends so

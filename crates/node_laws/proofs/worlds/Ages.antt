@@ -6,26 +6,15 @@ use Rattle.std.specs.List.{AllByRecursion, list_any}
 use Rattle.std.specs.Option.{option_map, option_map_or, option_and_then}
 use Rattle.std.proofs.lemmas.Bool.{true≢false, eqb-true, or_parts}
 use mathlib.Core.Bool.{or-false, or-true}
-use Rattle.trace_model.specs.Lines.{IsHost}
-use Rattle.trace_model.specs.declared.entry.Entry.{Entry}
+use Rattle.node_laws.proofs.Words.{About, Asks, Commits, Controller, Core, Deed, Desk, Drops, Ends, Entry, FetchMessage, Give, GoesToFree, Host, IsAnswered}
+use Rattle.node_laws.proofs.Words.{IsHost, IsKeptNotice, Message, Notice, Orders, Port, Refused, Release, Releases, SaysOk, Sends, SetAside, SetsErrors, Tells}
+use Rattle.node_laws.proofs.Words.{Turn, Work, after_turn, all_done, awaited_after, by_option, by_test, changed_if, controller_deeds, done, end_c, end_of}
+use Rattle.node_laws.proofs.Words.{entries_for, give_refusal, goes_in, handles, has_notice, is_notice, noted_by_deed, noted_of, notice_in, own_side, port_at}
+use Rattle.node_laws.proofs.Words.{same_end, same_side, sent_unless, takes_up, turn_at, view_of, with_desk, with_port}
 use Rattle.trace_model.specs.declared.entry.Entry.TheVariants as entry
-use Rattle.link_laws.specs.machine.Machine.{Message, Refused, Turn, give_refusal}
-use Rattle.link_laws.specs.machine.Machine.Turn.{Give, FetchMessage, SetAside, Release}
-use Rattle.link_laws.specs.entries.Entries.{End as Side, sent_unless}
-use Rattle.link_laws.specs.entries.Entries.End.{Controller, Host}
-use Rattle.history.specs.Filters.{same_end, same_side}
-use Rattle.history.specs.Steps.{end_of, entries_for}
-use Rattle.node_machine.specs.Parts.{About, Notice, Desk, Core, Port, Work, Deed}
-use Rattle.node_machine.specs.Parts.Deed.{Commits, Sends, SaysOk, Asks, Releases, Tells, IsAnswered, Drops, SetsErrors, Orders, Ends}
-use Rattle.node_machine.specs.Controller.{controller_deeds, view_of}
-use Rattle.node_machine.specs.Carrying.{own_side, port_at, changed_if, with_port, with_desk, after_turn, noted_of, turn_at, done, all_done}
-use Rattle.node_machine.specs.Turns.{handles}
-use Rattle.node_machine.specs.world.World.{end_c}
-use Rattle.node_machine.specs.world.NodeFilters.{is_notice, notice_in, awaited_after}
-use Rattle.node_laws.proofs.Cases.{by_option, by_test}
+use Rattle.link_laws.specs.entries.Entries.{End as Side}
 use Rattle.node_laws.proofs.steps.StepWalks.{all_do}
 use Rattle.node_laws.proofs.links.Noticing.{at_all, at_host}
-use Rattle.node_laws.specs.notices.Notices.{IsKeptNotice, GoesToFree, has_notice}
 use Rattle.node_laws.proofs.notices.Reading.{reads, read_more}
 use Rattle.node_laws.proofs.notices.Own.{IsFar}
 use Rattle.node_laws.proofs.notices.Far.{AreFar, not_near}
@@ -34,8 +23,6 @@ use Rattle.node_laws.proofs.notices.Telling.{MayTell, noticed, Outcome, controll
 use Rattle.node_laws.proofs.notices.Telling.Outcome.{Leaves, IsHeard}
 use Rattle.node_laws.proofs.notices.Doing.{IsOn, commit_ports, else_same}
 use Rattle.node_laws.proofs.notices.Turning.{kept_none}
-use Rattle.node_laws.specs.passes.Noting.{noted_by_deed, goes_in}
-use Rattle.node_laws.specs.passes.Passing.{takes_up}
 use Rattle.node_laws.proofs.passes.Notes.{deed_notes}
 use Rattle.node_laws.proofs.passes.Passing.{takes_entries}
 use Rattle.node_laws.specs.answers.Unasked.{notifies}

@@ -4,49 +4,25 @@ use Rattle.std.specs.Prelude.{◌+◌}
 use Rattle.std.specs.List.{AllByRecursion}
 use Rattle.std.proofs.lemmas.Bool.{true≢false}
 use Rattle.std.proofs.lemmas.List.Sums.{fold-append}
-use Rattle.swp_base.specs.InMemory.{Plan}
-use Rattle.journal_laws.specs.Journal.{count_of}
-use Rattle.trace_model.specs.declared.entry.Entry.{Entry}
+use Rattle.node_laws.proofs.Words.{Activates, AreDifferent, Arms, AsksReset, AtEnd, Boots, Broken, Comes, Controller, ControllerReads, Deed, Desk, End, Entry}
+use Rattle.node_laws.proofs.Words.{Gives, Happening, HasEnds, Host, IfHostNode, IfItRuns, IfNoticedUp, IfReads, Inits, IsCut, IsFresh, IsOutside, IsShut}
+use Rattle.node_laws.proofs.Words.{KeepsNotices, LinkInput, Loses, Loss, NextFrame, NoInput, NodeInput, NodeWorld, Notice, NumberedEnd, Occurrence, Plan, Port}
+use Rattle.node_laws.proofs.Words.{Resets, Running, Site, Starts, Takes, Ticks, TimePasses, Work, activates, age_in, all_aged, arrival, beginning, begins_with}
+use Rattle.node_laws.proofs.Words.{boot_found, boot_written, boots, by_boot, by_coming, by_controller, by_controller_tick, by_host, by_loss, by_memory}
+use Rattle.node_laws.proofs.Words.{by_option, by_power, by_running, by_test, changed_if, comes_at, comes_to, controller_does, controller_ticks, controller_work}
+use Rattle.node_laws.proofs.Words.{count_of, counts, end_c, end_h, entries_for, entries_in, exchanged, first_lost, frame_lost, frames_noted, has_come_so}
+use Rattle.node_laws.proofs.Words.{host_does, hosts_in, hosts_tick, input_of, is_tick, link_to, loses_power_at, memory_at, near_end_in, near_tick, new_desk}
+use Rattle.node_laws.proofs.Words.{notice_at, runs_on, sending, steps, wires_for, with_error, with_memory, work_of, world_step, world_ticks}
 use Rattle.trace_model.specs.declared.entry.Entry.TheVariants as entry
-use Rattle.trace_model.specs.declared.line.End.{End}
-use Rattle.link_laws.specs.machine.Machine.{LinkInput}
-use Rattle.link_laws.specs.messages.Links.{Loss, Comes, NumberedEnd, exchanged}
-use Rattle.link_laws.specs.messages.Links.Comes.{NextFrame, AsksReset, Starts, NoInput}
-use Rattle.link_laws.specs.messages.Links.Loss.{Broken}
-use Rattle.link_laws.specs.entries.Entries.{first_lost}
-use Rattle.link_laws.specs.entries.Entries.End.{Controller, Host}
-use Rattle.history.specs.Steps.{entries_for}
-use Rattle.node_machine.specs.Parts.{Desk, Notice, Running, Port, Work, Deed}
-use Rattle.node_machine.specs.Carrying.{changed_if}
-use Rattle.node_machine.specs.Node.{NodeInput, steps, begins_with, new_desk, with_error}
-use Rattle.node_machine.specs.Node.NodeInput.{AtEnd, TimePasses}
-use Rattle.node_machine.specs.world.World.{NodeWorld, Site, Happening, link_to, near_end_in, arrival, wires_for, work_of, frames_noted, comes_to, runs_on}
-use Rattle.node_machine.specs.world.World.{counts, controller_does, controller_work, host_does, comes_at, end_c, end_h, all_aged, controller_ticks}
-use Rattle.node_machine.specs.world.World.{hosts_tick, world_ticks, input_of, world_step, activates, sending, beginning, frame_lost, boots, loses_power_at}
-use Rattle.node_machine.specs.world.World.{with_memory, memory_at}
-use Rattle.node_machine.specs.world.World.Happening.{Boots, IsCut, Gives, Inits, Takes, Loses, Ticks, Resets, Activates, Arms}
-use Rattle.node_machine.specs.world.Lines.{Occurrence}
-use Rattle.node_machine.specs.world.NodeHistories.{entries_in}
-use Rattle.node_machine.proofs.world.Cases.{by_controller, by_host, by_coming, by_controller_tick, near_tick, by_power, by_memory, by_running}
-use Rattle.node_machine.proofs.world.Cases.{by_boot, boot_written, boot_found, by_loss}
-use Rattle.node_laws.specs.kept.Hosts.{AreDifferent}
-use Rattle.node_laws.specs.links.Notices.{IsOutside}
-use Rattle.node_laws.specs.readings.Noticed.{IfNoticedUp}
-use Rattle.node_laws.specs.readings.Orders.{IsFresh}
-use Rattle.node_laws.proofs.Cases.{by_option, by_test}
 use Rattle.node_laws.proofs.readings.Sites.{near_end_side, comes_outside, lost_quiet}
-use Rattle.node_laws.specs.telling.Telling.{HasEnds, IfItRuns, hosts_in}
 use Rattle.node_laws.proofs.telling.Lasting.{occurs}
 use Rattle.node_laws.proofs.telling.Nodes.{hosts_same}
-use Rattle.node_laws.specs.notices.Notices.{notice_at}
-use Rattle.node_laws.specs.notices.Worlds.{ControllerReads, IfReads, IfHostNode, IsShut, KeepsNotices}
 use Rattle.node_laws.proofs.notices.Far.{AreFar, far-append, far_flat, quiet_far, IsFarWork, steps_far, all_do}
 use Rattle.node_laws.proofs.notices.Sites.{AreGood, Reads, good_at, link_shut, frames_quiet, arrival_quiet, sending_own, beginning_own}
 use Rattle.node_laws.proofs.notices.Doing.{IsOn}
 use Rattle.node_laws.proofs.notices.Near.{begins, all_ports, aged_side, aged_far, comes_reads, noticed_desks}
 use Rattle.node_laws.proofs.notices.Steps.{HasCome, came_near, came_tick}
-use Rattle.node_laws.specs.passes.Steps.{has_come_so}
-use Rattle.node_laws.specs.answers.Unasked.{age_in, age_after, is_tick}
+use Rattle.node_laws.specs.answers.Unasked.{age_after}
 use Rattle.node_laws.proofs.worlds.Ages.{notified, more_notified, still_notified, far_notifies, AgeIs}
 use Rattle.node_laws.proofs.worlds.Growing.{grown, step_ages}
 use Rattle.node_laws.proofs.worlds.Resetting.{AgesAreRead, noticed_ports}

@@ -9,23 +9,14 @@ use Rattle.std.specs.Ordering.{nat_cmp}
 use Rattle.std.proofs.lemmas.Cmp.{ranked}
 use Rattle.std.proofs.lemmas.Map.Keys.{sorted_head, sorted_tail}
 use Rattle.registry.proofs.ValueLemmas.{AllByRecursion-append as all_append}
-use Rattle.trace_model.specs.declared.entry.Entry.{Entry}
+use Rattle.node_laws.proofs.Words.{AreAlong, AreNoTurns, ArePassed, ComesTo, Entry, IsAscending, IsNoTurn, Link, NodeInput, Work, by_option, by_test}
+use Rattle.node_laws.proofs.Words.{comes_to_pass, ending_entries, ending_of, frames_noted, hosts_of_ends, link_of_turn, links_of_turns, node_of}
+use Rattle.node_laws.proofs.Words.{noted_before_pass, passes, port_at, steps, turn_link, unless_cut}
 use Rattle.trace_model.specs.declared.entry.Entry.TheVariants as entry
-use Rattle.link_laws.specs.messages.Links.{Link}
-use Rattle.link_laws.specs.entries.Entries.{End as Side, ending_entries}
-use Rattle.node_machine.specs.Parts.{Work}
-use Rattle.node_machine.specs.Carrying.{port_at, unless_cut}
-use Rattle.node_machine.specs.Turns.{passes}
-use Rattle.node_machine.specs.Node.{NodeInput, steps}
-use Rattle.node_machine.specs.world.World.{node_of, frames_noted, ending_of}
-use Rattle.node_laws.specs.kept.Books.{hosts_of_ends}
-use Rattle.node_laws.specs.passes.Passing.{link_of_turn, links_of_turns, IsNoTurn, AreNoTurns, AreAlong, ArePassed, ComesTo}
+use Rattle.link_laws.specs.entries.Entries.{End as Side}
 use Rattle.node_laws.specs.passes.Passing.ComesTo.{Begins}
-use Rattle.node_laws.specs.passes.Steps.{comes_to_pass, noted_before_pass}
-use Rattle.node_laws.proofs.Cases.{by_option, by_test}
 use Rattle.node_laws.proofs.passes.Passing.{through, comes_lasts}
 use Rattle.node_laws.proofs.passes.Before.{before_entries, before_none, before_hosts, steps_are, links_none}
-use Rattle.node_laws.specs.answers.Order.{turn_link, IsAscending}
 use Rattle.node_laws.proofs.passes.Walking.{links_behind}
 
 -- ## Numbers

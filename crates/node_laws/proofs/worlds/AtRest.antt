@@ -3,34 +3,17 @@ use Rattle.std.proofs.Common.{◌≡◌, ℕ, true, false, cond, eqb, List, [], 
 use Rattle.std.specs.Prelude.{Option, Some, None}
 use Rattle.std.specs.List.{flat_map}
 use Rattle.registry.proofs.ValueLemmas.{AllByRecursion-append as all_append}
-use Rattle.swp_base.specs.InMemory.{Plan}
-use Rattle.trace_model.specs.declared.entry.Entry.{Entry}
+use Rattle.node_laws.proofs.Words.{AreDifferent, AreNoTurns, AreNotOf, Controller, End, Entry, HasEnds, Host, IsOutside, Link, LinkEnd, NodeInput, NumberedEnd}
+use Rattle.node_laws.proofs.Words.{Plan, Port, Running, Site, Work, by_option, by_test, end_c, end_h, ending_entries, ending_of, frames_noted, holds_in}
+use Rattle.node_laws.proofs.Words.{hosts_in, hosts_of_ends, is_done, is_held_at, link_to, own_side, port_at, runs_on, same_number, site_at, steps, work_of}
 use Rattle.trace_model.specs.declared.entry.Entry.TheVariants as entry
-use Rattle.trace_model.specs.declared.line.End.{End}
-use Rattle.link_laws.specs.machine.Machine.{LinkEnd}
-use Rattle.link_laws.specs.messages.Links.{Link, NumberedEnd}
-use Rattle.link_laws.specs.entries.Entries.{ending_entries, End as Side}
-use Rattle.link_laws.specs.entries.Entries.End.{Controller, Host}
-use Rattle.link_laws.proofs.entries.Lasting.{same_number}
-use Rattle.node_machine.specs.Parts.{Port, Running, Work}
-use Rattle.node_machine.specs.Carrying.{own_side, port_at}
-use Rattle.node_machine.specs.Node.{NodeInput, steps}
-use Rattle.node_machine.specs.world.World.{Site, site_at, link_to, runs_on, end_c, end_h, ending_of, frames_noted, work_of}
-use Rattle.node_laws.specs.kept.Books.{hosts_of_ends}
-use Rattle.node_laws.specs.kept.Hosts.{AreDifferent}
-use Rattle.node_laws.specs.telling.Telling.{HasEnds, hosts_in}
-use Rattle.node_laws.proofs.Cases.{by_test, by_option}
+use Rattle.link_laws.specs.entries.Entries.{End as Side}
 use Rattle.node_laws.proofs.telling.Nodes.{hosts_same, link_is}
 use Rattle.node_laws.proofs.telling.Walks.{AreUncut}
-use Rattle.node_laws.specs.links.Notices.{IsOutside}
-use Rattle.node_laws.specs.passes.Passing.{AreNoTurns, is_held_at}
-use Rattle.node_laws.specs.power.Powers.{AreNotOf}
 use Rattle.node_laws.proofs.power.Parts.{AreOwn}
 use Rattle.node_laws.proofs.turns.Queues.Doing.{Adds, Takes, Clears, Nothing}
 use Rattle.node_laws.proofs.turns.Queues.{AreStill, Goes, doing, goes-append, still_goes}
 use Rattle.node_laws.proofs.turns.Works.{frames_still}
-use Rattle.node_laws.specs.answers.Moments.{holds_in}
-use Rattle.node_laws.specs.answers.Answered.{is_done}
 use Rattle.node_laws.proofs.reply_passes.Begins.{port_begins}
 use Rattle.node_laws.proofs.reply_passes.Held.{desks_held, host_side, is_held_among, ports_held}
 use Rattle.node_laws.proofs.reply_passes.Holding.{ended_read_at}

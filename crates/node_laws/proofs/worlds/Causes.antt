@@ -3,21 +3,16 @@ use Rattle.std.proofs.Common.{◌≡◌, ℕ, Bool, true, false, cond, eqb, Opti
 use Rattle.std.specs.Prelude.{is_some, not}
 use Rattle.std.specs.Option.{option_map_or}
 use Rattle.std.proofs.lemmas.Bool.{cond_both}
-use Rattle.swp_base.specs.declared.control_frames.Control.{Control}
+use Rattle.node_laws.proofs.Words.{ActEvent, Asked, Chain, Control, EndState, LinkEnd, LinkState, Reset, Start, Take, Tick, act_answer, by_option, ended_by}
+use Rattle.node_laws.proofs.Words.{if_up, is_faulty, is_open, is_own_reset, is_up, reset_refusal, runs_timer, take_answer, taken, tick_answer}
 use Rattle.swp_base.specs.declared.control_frames.Control.TheVariants as control
 use Rattle.swp_base.specs.declared.link_terms.Cause.{Cause as EndedBy}
-use Rattle.swp_base.specs.declared.link_terms.Cause.TheVariants.{Asked, NoAnswer, Peer, Act as ByAct, Chain}
-use Rattle.swp_act.specs.declared.ActEvent.{ActEvent}
+use Rattle.swp_base.specs.declared.link_terms.Cause.TheVariants.{NoAnswer, Peer, Act as ByAct}
 use Rattle.swp_act.specs.declared.ActEvent.TheVariants.{Take as ActTake, Tick as ActTick}
-use Rattle.shdlc_core.specs.declared.answers.LinkState.{LinkState}
 use Rattle.shdlc_core.specs.declared.answers.LinkState.TheVariants.{Up as IsUpNow, Waiting as IsWaitingNow, Down as IsDown}
-use Rattle.shdlc_core.specs.Machine.{EndState, take_answer, tick_answer, timed, Timed, taken, runs_timer, nothing_taken, nothing_ticked}
+use Rattle.shdlc_core.specs.Machine.{timed, Timed, nothing_taken, nothing_ticked}
 use Rattle.shdlc_core.specs.Machine.Timed.{Runs, Over, Spent}
-use Rattle.link_laws.specs.sessions.Sessions.{is_up}
-use Rattle.link_laws.specs.machine.Machine.{LinkEnd, ended_by, ended_by_reset, ended_by_act, reset_refusal, if_up, is_open, is_faulty, act_answer}
-use Rattle.link_laws.specs.machine.Machine.LinkInput.{Take, Tick, Reset, Start}
-use Rattle.node_laws.specs.answers.Unasked.{is_own_reset}
-use Rattle.node_laws.proofs.Cases.{by_option}
+use Rattle.link_laws.specs.machine.Machine.{ended_by_reset, ended_by_act}
 
 -- it is a reset on demand
 abbrev pub asked : Option EndedBy → Bool

@@ -4,42 +4,24 @@ use Rattle.std.specs.Prelude.{◌==◌, Some, None}
 use Rattle.std.specs.List.{AllByRecursion, flat_map}
 use Rattle.std.proofs.lemmas.Bool.{true≢false}
 use Rattle.std.proofs.lemmas.List.Concat.{flat_map-append}
-use Rattle.trace_model.specs.declared.entry.Entry.{Entry}
-use Rattle.trace_model.specs.declared.line.End.{End}
-use Rattle.trace_model.specs.declared.line.Header.{Header}
-use Rattle.trace_model.specs.declared.line.Line.{Line}
-use Rattle.link_laws.specs.messages.Links.{Comes, NumberedEnd, aged, exchanged, ticks_at_controller}
-use Rattle.link_laws.specs.messages.Links.Comes.{AsksReset, NextFrame, Starts}
-use Rattle.link_laws.specs.messages.Links.Ending.{GoesOut}
-use Rattle.link_laws.specs.entries.Entries.{aged_entries}
-use Rattle.link_laws.specs.entries.Entries.End.{Controller, Host}
-use Rattle.link_laws.proofs.entries.Together.{ticks_host}
-use Rattle.history.specs.Steps.{entries_for}
-use Rattle.node_machine.specs.Parts.{Running, Work}
-use Rattle.node_machine.specs.Node.NodeInput.{TimePasses}
-use Rattle.node_machine.specs.world.World.{NodeWorld, Site, Happening, site_at, link_to, turns_at, ending_of, frames_noted, all_aged, runs_on}
-use Rattle.node_machine.specs.world.World.{controller_ticks, host_ticks, hosts_tick, world_ticks, comes_at, memory_at, end_c, end_h, sending, beginning}
-use Rattle.node_machine.specs.world.World.{world_step, new_world}
-use Rattle.journal_laws.specs.Planned.{after_planned}
-use Rattle.node_machine.specs.world.World.Happening.{Boots, IsCut, Gives, Inits, Takes, Loses, Ticks, Resets, Activates, Arms}
-use Rattle.node_machine.specs.world.Lines.{Occurrence}
-use Rattle.node_machine.specs.world.NodeHistories.{FollowsNodes, NodeHistory, entries_in, occurrences_in, steps_from}
-use Rattle.node_machine.proofs.world.Cases.{by_coming, by_controller_tick, by_host_tick, host_tick, near_tick, site_ticked, site_unticked}
-use Rattle.node_laws.specs.kept.Hosts.{AreDifferent, AreHosts}
-use Rattle.node_laws.specs.telling.Telling.{HasEnds, IfItRuns, IsOrderly, MayBoot, hosts_in, world_behind}
-use Rattle.node_laws.proofs.Cases.{by_test}
+use Rattle.node_laws.proofs.Words.{Activates, AreDifferent, AreHosts, ArePlayable, Arms, AsksReset, AtEachOccurrence, Boots, Comes, Controller, End, Entry}
+use Rattle.node_laws.proofs.Words.{FollowsNodes, Gives, GoesOut, Happening, HasEnds, Header, Host, IfItRuns, Inits, IsCut, IsOrderly, Line, Loses, MayBoot}
+use Rattle.node_laws.proofs.Words.{NextFrame, NodeHistory, NodeWorld, NumberedEnd, Occurrence, Resets, Running, Site, Starts, Takes, Ticks, TimePasses, Work}
+use Rattle.node_laws.proofs.Words.{after_planned, aged, aged_entries, all_aged, beginning, by_coming, by_controller_tick, by_host_tick, by_test, comes_at}
+use Rattle.node_laws.proofs.Words.{controller_ticks, end_c, end_h, ending_of, ends_in, entries_for, entries_in, exchanged, frames_noted, host_tick, host_ticks}
+use Rattle.node_laws.proofs.Words.{hosts_in, hosts_tick, is_done, link_to, memory_at, near_tick, new_world, occurrences_in, runs_on, sending, site_at}
+use Rattle.node_laws.proofs.Words.{site_ticked, site_unticked, steps_from, through, ticks_at_controller, ticks_host, turns_at, world_behind, world_step}
+use Rattle.node_laws.proofs.Words.{world_ticks}
 use Rattle.node_laws.proofs.kept.Sites.{hosts_same as sites_same}
 use Rattle.node_laws.proofs.telling.Events.{comes_goes, orderly_map, sending_mute}
 use Rattle.node_laws.proofs.telling.Lasting.{AllHold, AnyLine, all_lines, boots_may, events_of_steps, front_holds, lines_hold}
 use Rattle.node_laws.proofs.telling.WorldTicks.{near_orderly}
 use Rattle.node_laws.proofs.telling.Worlds.{node_is}
-use Rattle.node_laws.specs.links.Runs.{ArePlayable}
 use Rattle.node_laws.proofs.order.Lines.{IsSo, history_so}
 use Rattle.node_laws.proofs.power.Parts.{IsPart, own_not, part_own}
 use Rattle.node_laws.proofs.turns.Queues.{Goes, goes-append, still_goes}
 use Rattle.node_laws.proofs.turns.Works.{aged_none, sites_is}
-use Rattle.node_laws.specs.answers.Answered.{AreDone, ends_in, is_done, through}
-use Rattle.node_laws.specs.answers.Moments.{AtEachOccurrence}
+use Rattle.node_laws.specs.answers.Answered.{AreDone}
 use Rattle.node_laws.proofs.passes.Turnless.{beginning_turnless, sending_turnless}
 use Rattle.node_laws.proofs.reply_passes.Begins.{WaitsRead, new_reads, reads_last}
 use Rattle.node_laws.proofs.reply_passes.Held.{aged_leave}

@@ -6,26 +6,17 @@ use Rattle.std.proofs.lemmas.Bool.{true≢false}
 use mathlib.Core.Bool.{or-false}
 use Rattle.registry.proofs.ValueLemmas.{AllByRecursion-append as all_append}
 use Rattle.swp_base.specs.declared.link_terms.Cause.{Cause as EndedBy}
-use Rattle.trace_model.specs.declared.entry.Entry.{Entry}
+use Rattle.node_laws.proofs.Words.{Comes, Core, Cut, Deed, Down, End, Entry, Link, LinkInput, Message, NodeInput, Port, Report, Restarted, Sent, Work}
+use Rattle.node_laws.proofs.Words.{after_input, all_done, arrival, beginning, by_option, by_test, end_of, ended_by, ending_entries, ending_of, ends_session}
+use Rattle.node_laws.proofs.Words.{entries_for, frames_noted, is_down, own_side, port_at, report, same_end, sending, steps, told, told_at, told_of_coming}
+use Rattle.node_laws.proofs.Words.{whole_acked}
 use Rattle.trace_model.specs.declared.entry.Entry.TheVariants as entry
-use Rattle.trace_model.specs.declared.line.End.{End}
-use Rattle.link_laws.specs.machine.Machine.{Message, LinkInput, Report, after_input, report, whole_acked, ended_by}
-use Rattle.link_laws.specs.messages.Links.{Link, Comes}
-use Rattle.link_laws.specs.entries.Entries.{End as Side, Entry as Noted, told, ending_entries}
-use Rattle.link_laws.specs.entries.Entries.Entry.{Down, Sent, Tick, Restarted, Cut}
-use Rattle.history.specs.Filters.{same_end}
-use Rattle.history.specs.Steps.{end_of, entries_for}
-use Rattle.node_machine.specs.Parts.{Core, Port, Work, Deed}
-use Rattle.node_machine.specs.Carrying.{own_side, port_at, all_done}
-use Rattle.node_machine.specs.Node.{NodeInput, steps, told_at}
-use Rattle.node_machine.specs.world.World.{arrival, frames_noted, ending_of, sending, beginning}
-use Rattle.node_laws.proofs.Cases.{by_option, by_test}
+use Rattle.link_laws.specs.entries.Entries.{End as Side, Entry as Noted}
+use Rattle.link_laws.specs.entries.Entries.Entry.{Tick}
 use Rattle.node_laws.proofs.readings.Silent.{IsQuiet, told_rest, rest_quiet}
 use Rattle.node_laws.proofs.readings.Sites.{ending_quiet, arrival_quiet}
-use Rattle.node_laws.specs.passes.Steps.{told_of_coming}
 use Rattle.node_laws.proofs.passes.Kinds.{NotesOnly, sending_notes, beginning_notes}
 use Rattle.node_laws.proofs.passes.InSteps.{IsOfStep, of_deeds, step_keeps, deeds_keep}
-use Rattle.node_laws.specs.answers.Unasked.{is_down, ends_session}
 
 -- an entry tells of no session that ends
 abbrev pub IsDownless : Entry → Type 0

@@ -4,45 +4,21 @@ use Rattle.std.specs.Prelude.{IsTrue, unwrap_or}
 use Rattle.std.specs.List.{AllByRecursion, filter, list_any}
 use Rattle.std.specs.Option.{option_and_then, option_map_or}
 use Rattle.std.proofs.lemmas.Bool.{and_parts, eqb-true}
-use Rattle.trace_model.specs.declared.entry.Entry.{Entry}
+use Rattle.node_laws.proofs.Words.{Activates, AnswersSo, AreHosts, ArePlayable, AreSessionsRead, AreTaken, Arms, AsksReset, AtEachOccurrence, Boots}
+use Rattle.node_laws.proofs.Words.{CountsCommands, Deed, End, Entry, FollowsNodes, Gives, Happening, HasEnds, Header, Host, Inits, IsBegunByHost, IsCut}
+use Rattle.node_laws.proofs.Words.{IsDueAt, IsFew, IsOrderly, IsReplyNoted, IsSentByHost, Line, Link, LinkEnd, LinkState, Loses, Message, NextFrame, NoInput}
+use Rattle.node_laws.proofs.Words.{NodeHistory, NodeWorld, NumberedEnd, Occurrence, Orders, Port, Resets, Running, Sends, Site, Takes, TakesMessage, Ticks, Up}
+use Rattle.node_laws.proofs.Words.{Work, all_done, before_turn, beginning, begins_with, begun_at, by_option, by_test, count_of, due, end_h, end_of_number}
+use Rattle.node_laws.proofs.Words.{entries_in, entries_of_reply, exchanged, first_cause, first_verdict, frames_at, frames_noted, give_refusal, happenings}
+use Rattle.node_laws.proofs.Words.{host_does, host_work, if_not_sent, if_off, if_waiting, is_answer_of, is_command_message, is_cut_of, is_down, is_turn_of}
+use Rattle.node_laws.proofs.Words.{is_up, link_to, near_end_in, new_world, node_at, node_entries, node_of, noted_by_deeds, noted_of_deeds, number_now}
+use Rattle.node_laws.proofs.Words.{number_of, occurrences_in, refusal_in, same_number, sending, sent_in_session, session_now, session_of_port, site_at}
+use Rattle.node_laws.proofs.Words.{steps_from, taken_of, to_command, wires_for, world_behind, world_step}
 use Rattle.trace_model.specs.declared.entry.Entry.TheVariants as entry
-use Rattle.trace_model.specs.declared.line.End.{End}
-use Rattle.trace_model.specs.declared.line.Header.{Header}
-use Rattle.trace_model.specs.declared.line.Line.{Line}
 use Rattle.trace_model.specs.declared.line.Line.TheVariants as line
-use Rattle.journal_laws.specs.Journal.{count_of}
-use Rattle.shdlc_core.specs.declared.answers.LinkState.{LinkState}
-use Rattle.shdlc_core.specs.declared.answers.LinkState.TheVariants.{Up}
-use Rattle.link_laws.specs.sessions.Sessions.{is_up}
-use Rattle.link_laws.specs.machine.Machine.{LinkEnd, Message, give_refusal}
-use Rattle.link_laws.specs.messages.Links.{Link, NumberedEnd, exchanged, number_of}
-use Rattle.link_laws.specs.messages.Links.Comes.{AsksReset, NextFrame, NoInput}
-use Rattle.link_laws.specs.entries.Entries.End.{Host}
-use Rattle.link_laws.specs.entries.Sessions.{number_now}
-use Rattle.link_laws.proofs.entries.Lasting.{same_number}
-use Rattle.history.specs.Follows.{first_verdict, taken_of}
-use Rattle.node_machine.specs.Parts.{Deed, Port, Running, Work}
-use Rattle.node_machine.specs.Parts.Deed.{Orders, Sends}
-use Rattle.node_machine.specs.Carrying.{all_done, end_of_number}
-use Rattle.node_machine.specs.Controller.{is_command_message}
-use Rattle.node_machine.specs.Node.{begins_with}
-use Rattle.node_machine.specs.world.World.{Happening, NodeWorld, Site, beginning, end_h, frames_noted, host_does, host_work, link_to, near_end_in, new_world}
-use Rattle.node_machine.specs.world.World.{node_at, node_of, sending, site_at, wires_for, world_step}
-use Rattle.node_machine.specs.world.World.Happening.{Activates, Arms, Boots, Gives, Inits, IsCut, Loses, Resets, Takes, Ticks}
-use Rattle.node_machine.specs.world.Lines.{Occurrence, first_cause, frames_at, happenings, if_not_sent, if_off, if_waiting, refusal_in}
-use Rattle.node_machine.specs.world.NodeHistories.{FollowsNodes, NodeHistory, entries_in, node_entries, occurrences_in, steps_from}
-use Rattle.node_machine.specs.world.NodeFilters.{session_now}
-use Rattle.node_laws.specs.kept.Hosts.{AreHosts, IsFew, IsSentByHost}
-use Rattle.node_laws.specs.kept.Reckonings.{is_cut_of}
-use Rattle.node_laws.specs.telling.Telling.{HasEnds, IsOrderly, world_behind}
-use Rattle.node_laws.proofs.Cases.{by_option, by_test}
 use Rattle.node_laws.proofs.kept.Lines.{first_none, off_none}
 use Rattle.node_laws.proofs.telling.Lasting.{AllMay, AreCaused, damaged_may, events_of_steps, lines_caused, repeated_may}
 use Rattle.node_laws.proofs.telling.Nodes.{Stands, link_is, site_host, stands}
-use Rattle.node_laws.specs.links.Runs.{ArePlayable}
-use Rattle.node_laws.specs.order.Told.{AreSessionsRead}
-use Rattle.node_laws.specs.passes.Noting.{AreTaken, CountsCommands, IsReplyNoted, TakesMessage, entries_of_reply, noted_by_deeds}
-use Rattle.node_laws.specs.passes.Noting.{sent_in_session, session_of_port}
 use Rattle.node_laws.proofs.links.Worlds.{IsFineSite}
 use Rattle.node_laws.proofs.order.Lines.{IsSo, history_so, host_number}
 use Rattle.node_laws.proofs.order.Sessions.{are_read}
@@ -52,13 +28,8 @@ use Rattle.node_laws.proofs.power.Doing.{IsMine}
 use Rattle.node_laws.proofs.power.Events.{begins_part, sending_mine}
 use Rattle.node_laws.proofs.power.Parts.{own_not, part_own}
 use Rattle.node_laws.proofs.readings.Lines.{is_taken}
-use Rattle.node_laws.specs.views.Inits.{IsBegunByHost}
 use Rattle.node_laws.proofs.views.InitWorlds.{present}
 use Rattle.node_laws.proofs.views.Lines.{none_zero}
-use Rattle.node_laws.specs.answers.Answered.{AnswersSo, IsDueAt, before_turn, is_turn_of, to_command}
-use Rattle.node_laws.specs.answers.Moments.{AtEachOccurrence, noted_of_deeds}
-use Rattle.node_laws.specs.answers.Order.{is_answer_of}
-use Rattle.node_laws.specs.answers.Unasked.{begun_at, due, is_down}
 use Rattle.node_laws.proofs.reply_passes.Begins.{port_begins}
 use Rattle.node_laws.proofs.worlds.Downs.{AreDownless, frames_downless}
 use Rattle.node_laws.proofs.worlds.Events.{all_two}

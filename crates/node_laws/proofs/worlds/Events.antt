@@ -5,44 +5,21 @@ use Rattle.std.specs.List.{AllByRecursion, flat_map}
 use Rattle.std.proofs.lemmas.Bool.{true≢false, eqb-true}
 use Rattle.std.proofs.lemmas.List.Sums.{fold-append}
 use Rattle.registry.proofs.ValueLemmas.{AllByRecursion-append as all_append}
-use Rattle.swp_base.specs.InMemory.{Memory}
-use Rattle.trace_model.specs.declared.entry.Entry.{Entry}
+use Rattle.node_laws.proofs.Words.{AreDifferent, AreNoTurns, AreNotOf, AtController, AtEnd, Broken, Comes, Controller, CutOff, Deed, End, Entry, HasEnds, Host}
+use Rattle.node_laws.proofs.Words.{IsOrderly, LinkEnd, LinkInput, Loss, Memory, NoInput, NodeWorld, NumberedEnd, Port, Running, Site, Step, Work, after_host}
+use Rattle.node_laws.proofs.Words.{after_planned, arrival, begins_with, boot_found, boot_writes, boot_written, boots, by_boot, by_coming, by_controller}
+use Rattle.node_laws.proofs.Words.{by_host, by_loss, by_memory, by_power, by_running, by_test, changed_if, comes_at, comes_to, controller_cut, controller_does}
+use Rattle.node_laws.proofs.Words.{controller_work, count_of, counts, end_c, end_h, ending_of, entries_for, exchanged, first_lost, frame_lost, frames_noted}
+use Rattle.node_laws.proofs.Words.{happens, holds_in, host_cut, host_does, host_work, hosts_in, input_of, is_done, is_held_at, link_after_controller, link_to}
+use Rattle.node_laws.proofs.Words.{links_of, loses_power_at, memory_at, near_end_in, node_of, noted_by_deeds, own_side, runs_on, same_number, site_at}
+use Rattle.node_laws.proofs.Words.{site_lost, steps, turns_at, unhandled_after, unhandled_in, waiting_at, wires_for, with_error, with_memory, with_site}
 use Rattle.trace_model.specs.declared.entry.Entry.TheVariants as entry
-use Rattle.trace_model.specs.declared.line.End.{End}
-use Rattle.journal_laws.specs.Journal.{count_of}
-use Rattle.link_laws.specs.machine.Machine.{LinkInput, LinkEnd}
-use Rattle.link_laws.specs.messages.Links.{Comes, Loss, NumberedEnd, exchanged, happens}
-use Rattle.link_laws.specs.messages.Links.Comes.{NoInput}
-use Rattle.link_laws.specs.messages.Links.Ending.{CutOff}
-use Rattle.link_laws.specs.messages.Links.EndEvent.{Step}
-use Rattle.link_laws.specs.messages.Links.LinkEvent.{AtController}
-use Rattle.link_laws.specs.messages.Links.Loss.{Broken}
-use Rattle.link_laws.specs.entries.Entries.{Entry as Noted, first_lost}
-use Rattle.link_laws.specs.entries.Entries.End.{Controller, Host}
-use Rattle.link_laws.proofs.entries.Lasting.{same_number}
-use Rattle.history.specs.Steps.{entries_for}
-use Rattle.journal_laws.specs.Planned.{after_planned}
-use Rattle.node_machine.specs.Parts.{Deed, Port, Running, Work}
-use Rattle.node_machine.specs.Carrying.{changed_if, own_side}
-use Rattle.node_machine.specs.Node.{begins_with, boot_writes, steps, with_error}
-use Rattle.node_machine.specs.Node.NodeInput.{AtEnd}
-use Rattle.node_machine.specs.world.World.{NodeWorld, Site, site_at, with_site, link_to, input_of, near_end_in, arrival, wires_for, node_of, comes_to}
-use Rattle.node_machine.specs.world.World.{frames_noted, controller_work, controller_does, host_work, host_does, link_after_controller, after_host, counts}
-use Rattle.node_machine.specs.world.World.{comes_at, boots, frame_lost, memory_at, end_c, end_h, with_memory, loses_power_at, controller_cut, host_cut}
-use Rattle.node_machine.specs.world.World.{turns_at, ending_of, links_of, runs_on}
-use Rattle.node_machine.proofs.world.Cases.{by_controller, by_host, by_coming, by_boot, by_loss, by_power}
-use Rattle.node_machine.proofs.world.Cases.{by_memory, by_running, boot_found, boot_written, site_lost}
-use Rattle.node_laws.specs.kept.Hosts.{AreDifferent}
-use Rattle.node_laws.specs.telling.Telling.{HasEnds, IsOrderly, hosts_in}
-use Rattle.node_laws.proofs.Cases.{by_test}
+use Rattle.link_laws.specs.entries.Entries.{Entry as Noted}
 use Rattle.node_laws.proofs.telling.Mute.{AreMute}
 use Rattle.node_laws.proofs.telling.Nodes.{link_is, site_host}
 use Rattle.node_laws.proofs.telling.Powers.{entries_uncut}
 use Rattle.node_laws.proofs.telling.Worlds.{node_is}
-use Rattle.node_laws.specs.power.Powers.{AreNotOf}
 use Rattle.node_laws.proofs.passes.Before.{links_none}
-use Rattle.node_laws.specs.passes.Noting.{noted_by_deeds}
-use Rattle.node_laws.specs.passes.Passing.{AreNoTurns, is_held_at, waiting_at}
 use Rattle.node_laws.proofs.links.Ends.{here_host}
 use Rattle.node_laws.proofs.passes.Ends.{SeesAt, deeds_see}
 use Rattle.node_laws.proofs.passes.Notes.{deeds_note}
@@ -57,8 +34,6 @@ use Rattle.node_laws.proofs.turns.Coming.{AreNoGots, notes_still}
 use Rattle.node_laws.proofs.turns.Queues.{AreStill, Goes}
 use Rattle.node_laws.proofs.turns.Works.{ByPower, FarWaits, arrival_still, lost_none}
 use Rattle.node_laws.proofs.views.Worlds.{orderly_fine}
-use Rattle.node_laws.specs.answers.Moments.{holds_in, unhandled_after, unhandled_in}
-use Rattle.node_laws.specs.answers.Answered.{is_done}
 use Rattle.node_laws.proofs.reply_passes.Begins.{WaitsRead}
 use Rattle.node_laws.proofs.reply_passes.Held.{desks_held, error_held, is_held_among, new_held, ports_held, site_fine}
 use Rattle.node_laws.proofs.reply_passes.Ordered.{deeds_still}

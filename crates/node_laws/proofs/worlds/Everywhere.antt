@@ -2,14 +2,8 @@
 use Rattle.std.proofs.Common.{◌≡◌, ℕ, false, cond, eqb, List, Some, None, refl, ap, subst}
 use Rattle.std.specs.Prelude.{◌==◌}
 use Rattle.std.proofs.lemmas.Bool.{eq-eqb, eqb-true}
-use Rattle.trace_model.specs.declared.entry.Entry.{Entry}
+use Rattle.node_laws.proofs.Words.{End, Entry, IsHeldFor, IsReplied, Moment, by_test, node_of, turn_link}
 use Rattle.trace_model.specs.declared.entry.Entry.TheVariants as entry
-use Rattle.trace_model.specs.declared.line.End.{End}
-use Rattle.node_machine.specs.world.World.{node_of}
-use Rattle.node_laws.specs.answers.Answered.{IsHeldFor, IsReplied}
-use Rattle.node_laws.specs.answers.Moments.{Moment}
-use Rattle.node_laws.specs.answers.Order.{turn_link}
-use Rattle.node_laws.proofs.Cases.{by_test}
 
 abbrev pub IsAnswered : List ℕ → Moment → Entry → List Entry → Type 0
 IsAnswered hosts m x behind = IsReplied hosts m x behind × IsHeldFor hosts m x behind

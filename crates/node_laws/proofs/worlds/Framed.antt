@@ -5,12 +5,9 @@ use Rattle.std.specs.List.{AllByRecursion}
 use Rattle.std.specs.Option.{option_map_or}
 use Rattle.std.proofs.lemmas.Bool.{true≢false}
 use Rattle.registry.proofs.ValueLemmas.{AllByRecursion-append as all_append}
-use Rattle.trace_model.specs.declared.entry.Entry.{Entry}
+use Rattle.node_laws.proofs.Words.{AreNotOf, Entry, by_test, is_of_node, node_of}
 use Rattle.trace_model.specs.declared.entry.Entry.TheVariants as entry
-use Rattle.node_machine.specs.world.World.{node_of}
-use Rattle.node_laws.specs.power.Powers.{AreNotOf, is_of_node}
 use Rattle.node_laws.specs.answers.Order.{emits}
-use Rattle.node_laws.proofs.Cases.{by_test}
 use Rattle.node_laws.proofs.worlds.Frameless.{AreInside, IsOut, AreOut}
 
 -- first no frame goes out, and then nothing else happens

@@ -2,20 +2,12 @@
 use Rattle.std.proofs.Common.{◌≡◌, ℕ, Bool, true, false, List, [], ◌∷◌, ◌++◌, None, refl}
 use Rattle.std.specs.List.{AllByRecursion}
 use Rattle.registry.proofs.ValueLemmas.{AllByRecursion-append as all_append}
-use Rattle.trace_model.specs.declared.entry.Entry.{Entry}
+use Rattle.node_laws.proofs.Words.{Comes, Cut, Deed, Emit, Entry, Link, Loss, Lost, Message, NodeInput, OnWire, Restarted, Work, aged_entries, all_done}
+use Rattle.node_laws.proofs.Words.{arrival, beginning, by_option, ending_entries, ending_of, entries_for, first_lost, frames_noted, port_at, sending, steps}
+use Rattle.node_laws.proofs.Words.{told, told_of_coming}
 use Rattle.trace_model.specs.declared.entry.Entry.TheVariants as entry
-use Rattle.link_laws.specs.sessions.Sessions.{OnWire}
-use Rattle.link_laws.specs.machine.Machine.{Message}
-use Rattle.link_laws.specs.messages.Links.{Link, Comes, Loss}
-use Rattle.link_laws.specs.entries.Entries.{End as Side, Entry as Noted, told, first_lost, ending_entries, aged_entries}
-use Rattle.link_laws.specs.entries.Entries.Entry.{Emit, Lost, Tick, Restarted, Cut}
-use Rattle.history.specs.Steps.{entries_for}
-use Rattle.node_machine.specs.Parts.{Work, Deed}
-use Rattle.node_machine.specs.Carrying.{port_at, all_done}
-use Rattle.node_machine.specs.Node.{NodeInput, steps}
-use Rattle.node_machine.specs.world.World.{arrival, frames_noted, ending_of, sending, beginning}
-use Rattle.node_laws.specs.passes.Steps.{told_of_coming}
-use Rattle.node_laws.proofs.Cases.{by_option}
+use Rattle.link_laws.specs.entries.Entries.{End as Side, Entry as Noted}
+use Rattle.link_laws.specs.entries.Entries.Entry.{Tick}
 use Rattle.node_laws.proofs.passes.Coming.{coming_all}
 use Rattle.node_laws.proofs.passes.Kinds.{NotesOnly, sending_notes, beginning_notes}
 use Rattle.node_laws.proofs.passes.InSteps.{IsOfStep, of_deeds, step_keeps, deeds_keep}

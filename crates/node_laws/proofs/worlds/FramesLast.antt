@@ -3,34 +3,16 @@ use Rattle.std.proofs.Common.{◌≡◌, ℕ, false, List, [], ◌∷◌, ◌++�
 use Rattle.std.specs.Prelude.{◌==◌}
 use Rattle.std.specs.List.{AllByRecursion, flat_map}
 use Rattle.std.proofs.lemmas.Bool.{ne_eqb}
-use Rattle.trace_model.specs.declared.entry.Entry.{Entry}
-use Rattle.trace_model.specs.declared.line.End.{End}
-use Rattle.trace_model.specs.declared.line.Header.{Header}
-use Rattle.trace_model.specs.declared.line.Line.{Line}
-use Rattle.link_laws.specs.machine.Machine.{LinkInput}
-use Rattle.link_laws.specs.messages.Links.{Loss, Comes, exchanged}
-use Rattle.link_laws.specs.messages.Links.Comes.{NextFrame, AsksReset, Starts, NoInput}
-use Rattle.link_laws.specs.entries.Entries.{aged_entries}
-use Rattle.link_laws.specs.entries.Entries.End.{Controller, Host}
-use Rattle.history.specs.Steps.{entries_for}
-use Rattle.node_machine.specs.Parts.{Work, Deed}
-use Rattle.node_machine.specs.Node.{steps, begins_with}
-use Rattle.node_machine.specs.Node.NodeInput.{AtEnd, TimePasses}
-use Rattle.node_machine.specs.world.World.{Site, NodeWorld, Happening, link_to, wires_for, work_of, frames_noted, comes_to, controller_work, host_work}
-use Rattle.node_machine.specs.world.World.{host_does, boots, frame_lost, all_aged, host_ticks, world_ticks, sending, beginning, comes_at, end_c, end_h}
-use Rattle.node_machine.specs.world.World.{world_step, controller_does, activates, new_world}
-use Rattle.node_machine.specs.world.World.Happening.{Boots, IsCut, Gives, Inits, Takes, Loses, Ticks, Resets, Activates, Arms}
-use Rattle.node_machine.specs.world.Lines.{Occurrence, happenings}
-use Rattle.node_machine.specs.world.NodeHistories.{LineStep, NodeHistory, FollowsNodes, occurrences_of, occurrences_in}
-use Rattle.node_machine.proofs.world.Cases.{by_controller, by_host, by_coming, by_boot, by_loss, near_tick, by_controller_tick, host_tick, by_host_tick}
-use Rattle.node_laws.specs.kept.Hosts.{AreDifferent}
-use Rattle.node_laws.specs.telling.Telling.{IsOrderly}
-use Rattle.node_laws.proofs.All.{all_flat}
+use Rattle.node_laws.proofs.Words.{Activates, AreDifferent, Arms, AsksReset, AtEnd, Boots, Comes, Controller, Deed, End, Entry, FollowsNodes, Gives, Happening}
+use Rattle.node_laws.proofs.Words.{Header, Host, Inits, IsCut, IsHost, IsNodeHeader, IsOrderly, Line, LineStep, LinkInput, Loses, Loss, NextFrame, NoInput}
+use Rattle.node_laws.proofs.Words.{NodeHistory, NodeWorld, Occurrence, Resets, Site, Starts, Takes, Ticks, TimePasses, Work, activates, aged_entries, all_aged}
+use Rattle.node_laws.proofs.Words.{all_flat, beginning, begins_with, boots, by_boot, by_coming, by_controller, by_controller_tick, by_host, by_host_tick}
+use Rattle.node_laws.proofs.Words.{by_loss, comes_at, comes_to, controller_begins, controller_does, controller_tick_begins, controller_work, end_c, end_h}
+use Rattle.node_laws.proofs.Words.{entries_for, exchanged, frame_lost, frames_noted, happenings, host_does, host_tick, host_ticks, host_work, link_to}
+use Rattle.node_laws.proofs.Words.{near_tick, new_world, occurrences_in, occurrences_of, sending, steps, wires_for, work_of, world_step, world_ticks}
 use Rattle.node_laws.proofs.telling.Lasting.{Any, AnyLine, all_any, all_lines, AreCaused, lines_caused}
 use Rattle.node_laws.proofs.telling.Orderly.{step_orderly, new_orderly}
-use Rattle.node_laws.specs.passes.Steps.{controller_begins, controller_tick_begins}
 use Rattle.node_laws.specs.answers.Order.{NodesEmitLast}
-use Rattle.trace_model.specs.Lines.{IsHost, IsNodeHeader}
 use Rattle.node_laws.proofs.schedules.Ranges.{hosts_are}
 use Rattle.node_laws.proofs.worlds.Steps.{host_begins}
 use Rattle.node_laws.proofs.worlds.Frameless.{IsInside, AreInside, IsOut, AreOut, NotesInside, sending_inside, beginning_inside, arrival_inside, lost_inside}

@@ -6,24 +6,15 @@ use Rattle.std.specs.List.{flat_map}
 use Rattle.std.specs.Option.{option_map, option_map_or, option_and_then}
 use Rattle.std.proofs.lemmas.Bool.{true≢false, eq-eqb, or_parts}
 use mathlib.Core.Bool.{or-true}
-use Rattle.trace_model.specs.Lines.{IsHost}
-use Rattle.trace_model.specs.declared.entry.Entry.{Entry}
+use Rattle.node_laws.proofs.Words.{AtEnd, Core, Creation, Deed, Entry, Hold, IsHost, LastsOverTurns, LinkInput, Message, NodeInput, Notice, Port, Report, Reset}
+use Rattle.node_laws.proofs.Words.{Tick, TimePasses, Work, after_input, after_sessions, all_come, all_done, all_owed_hold, all_synced_hold, asked_at, by_option}
+use Rattle.node_laws.proofs.Words.{by_test, comes_to_pass, controller_deeds, deeds_of, end_of_node, entries_for, forgets, forgotten, forgotten_hold, handles}
+use Rattle.node_laws.proofs.Words.{has_come, has_come_so, has_freed, has_synced, holds_back, hosts_of_ends, input_at, is_forgotten, is_late, is_over, lack}
+use Rattle.node_laws.proofs.Words.{needs, noted_of, noting, owed_in_step, own_side, passes, port_at, report, reset_late, steps, synced, syncs_in, told, told_at}
+use Rattle.node_laws.proofs.Words.{told_late, told_of_coming, told_of_late, turn_at, unless_cut, view_of, waiting_at, whole_acked, with_desk, with_older}
+use Rattle.node_laws.proofs.Words.{without_notice}
 use Rattle.trace_model.specs.declared.entry.Entry.TheVariants as entry
-use Rattle.link_laws.specs.machine.Machine.{LinkInput, Message, Report, after_input, report, whole_acked}
-use Rattle.link_laws.specs.machine.Machine.LinkInput.{Tick, Reset}
-use Rattle.link_laws.specs.machine.Machine.Turn.{Hold}
-use Rattle.link_laws.specs.entries.Entries.{End as Side, Entry as Noted, told}
-use Rattle.history.specs.Steps.{entries_for}
-use Rattle.node_machine.specs.Parts.{Creation, Notice, Core, Port, Work, Deed}
-use Rattle.node_machine.specs.Controller.{controller_deeds, asked_at, view_of}
-use Rattle.node_machine.specs.Carrying.{own_side, port_at, noted_of, noting, turn_at, with_desk, end_of_node, all_done, lack, needs, unless_cut}
-use Rattle.node_machine.specs.Turns.{deeds_of, handles, holds_back, passes}
-use Rattle.node_machine.specs.Node.{NodeInput, input_at, told_at, has_come, all_come, with_older, reset_late, is_late, told_late, is_over, is_forgotten}
-use Rattle.node_machine.specs.Node.{forgets, forgotten, without_notice, after_sessions, synced, steps}
-use Rattle.node_machine.specs.Node.NodeInput.{AtEnd, TimePasses}
-use Rattle.node_laws.specs.kept.Books.{hosts_of_ends}
-use Rattle.node_machine.proofs.Walks.{all_owed_hold, all_synced_hold, forgotten_hold}
-use Rattle.node_laws.proofs.Cases.{by_option, by_test}
+use Rattle.link_laws.specs.entries.Entries.{End as Side, Entry as Noted}
 use Rattle.node_laws.proofs.steps.Ports.{at_port}
 use Rattle.node_laws.proofs.steps.StepWalks.{holds, lets, unless}
 use Rattle.node_laws.proofs.links.Noticing.{at_all, at_host}
@@ -35,8 +26,6 @@ use Rattle.node_laws.proofs.notices.Doing.{IsOn, Stands, then, all_stand, AreHos
 use Rattle.node_laws.proofs.notices.Turning.{handled_stand, holds_stand, lets_stand}
 use Rattle.node_laws.proofs.notices.Stepping.{no_notices_may, no_notices_flat, synced_no_notices, TellNoNotices}
 use Rattle.node_laws.proofs.notices.Steps.{HasCome, begun, frees, owed_all}
-use Rattle.node_laws.specs.passes.Passing.{LastsOverTurns, waiting_at}
-use Rattle.node_laws.specs.passes.Steps.{has_come_so, told_of_coming, told_of_late, syncs_in, owed_in_step, has_freed, has_synced, comes_to_pass}
 use Rattle.node_laws.proofs.passes.Passing.{through}
 use Rattle.node_laws.proofs.passes.Before.{come_entries, steps_are}
 use Rattle.node_laws.proofs.worlds.Ages.{notified, more_notified, still_notified, far_notifies, AgeIs, AgesIn, Each, each_same}

@@ -2,21 +2,14 @@
 use Rattle.std.proofs.Common.{◌≡◌, ℕ, Bool, true, false, List, [], ◌∷◌, ◌++◌, None, refl, ap, ◌∙◌, append_assoc}
 use Rattle.std.specs.List.{AllByRecursion}
 use Rattle.registry.proofs.ValueLemmas.{AllByRecursion-append as all_append}
-use Rattle.trace_model.specs.declared.entry.Entry.{Entry}
+use Rattle.node_laws.proofs.Words.{Acked, Comes, Cut, Deed, Down, Emit, Entry, Got, Link, Lost, Message, NodeInput, Report, Restarted, Sent, Took, Work}
+use Rattle.node_laws.proofs.Words.{all_done, arrival, beginning, by_option, ending_entries, ending_of, entries_for, frames_noted, port_at, sending, steps, told}
+use Rattle.node_laws.proofs.Words.{told_of_coming}
 use Rattle.trace_model.specs.declared.entry.Entry.TheVariants as entry
-use Rattle.link_laws.specs.machine.Machine.{Message, Report}
-use Rattle.link_laws.specs.messages.Links.{Link, Comes}
-use Rattle.link_laws.specs.entries.Entries.{End as Side, Entry as Noted, told, ending_entries}
-use Rattle.link_laws.specs.entries.Entries.Entry.{Up, Down, Acked, Got, Sent, Emit, Took, Lost, Tick, Restarted, Cut}
-use Rattle.history.specs.Steps.{entries_for}
-use Rattle.node_machine.specs.Parts.{Work, Deed}
-use Rattle.node_machine.specs.Carrying.{port_at, all_done}
-use Rattle.node_machine.specs.Node.{NodeInput, steps}
-use Rattle.node_machine.specs.world.World.{arrival, frames_noted, ending_of, sending, beginning}
-use Rattle.node_laws.proofs.Cases.{by_option}
+use Rattle.link_laws.specs.entries.Entries.{End as Side, Entry as Noted}
+use Rattle.link_laws.specs.entries.Entries.Entry.{Up, Tick}
 use Rattle.node_laws.proofs.readings.Silent.{told_rest, rest_quiet, IsQuiet}
 use Rattle.node_laws.proofs.telling.Frames.{ending_all, arrival_all}
-use Rattle.node_laws.specs.passes.Steps.{told_of_coming}
 use Rattle.node_laws.proofs.passes.Coming.{coming_all}
 use Rattle.node_laws.proofs.passes.Kinds.{NotesOnly, sending_notes, beginning_notes}
 use Rattle.node_laws.proofs.passes.InSteps.{IsOfStep, of_deeds, IsBehind, step_notes, deeds_note}

@@ -2,19 +2,10 @@
 use Rattle.std.proofs.Common.{◌≡◌, ℕ, false, List, [], ◌∷◌, ◌++◌, Option, Some, None, refl, sym, ap, subst, ◌∙◌, eqb, append-nil}
 use Rattle.std.specs.List.{AllByRecursion, fold, list_any}
 use Rattle.std.proofs.lemmas.Bool.{eqb-true, eqb-false, eq-eqb}
-use Rattle.trace_model.specs.Lines.{IsHost}
-use Rattle.trace_model.specs.declared.entry.Entry.{Entry}
-use Rattle.trace_model.specs.declared.line.End.{End}
-use Rattle.trace_model.specs.declared.line.Header.{Header}
-use Rattle.trace_model.specs.declared.line.Line.{Line}
-use Rattle.node_machine.specs.Parts.{Init}
-use Rattle.node_machine.specs.world.World.{NodeWorld, Site, site_at, new_world, world_step, end_c, end_h, Happening}
-use Rattle.node_machine.specs.world.Lines.{Occurrence}
-use Rattle.node_machine.specs.world.NodeHistories.{NodeHistory, FollowsNodes, entries_in, node_entries, occurrences_in}
-use Rattle.node_laws.specs.kept.Hosts.{AreHosts, AreDifferent, IsFew, IsSentByHost}
-use Rattle.node_laws.specs.links.Runs.{ArePlayable}
-use Rattle.node_laws.specs.telling.Telling.{hosts_in, world_behind, MayBoot}
-use Rattle.node_laws.proofs.Cases.{by_test}
+use Rattle.node_laws.proofs.Words.{AreDifferent, AreHosts, ArePlayable, AreReset, AtEachOccurrence, End, Entry, FollowsNodes, Happening, Header, Init}
+use Rattle.node_laws.proofs.Words.{IsBegunByHost, IsFew, IsGoodSite, IsHost, IsSentByHost, KeepsNotices, Line, MayBoot, NodeHistory, NodeWorld, Occurrence}
+use Rattle.node_laws.proofs.Words.{Site, by_test, end_c, end_h, ends_in, entries_in, hosts_in, init_behind, is_reset_down, is_reset_due, new_world}
+use Rattle.node_laws.proofs.Words.{node_entries, occurrences_in, site_at, world_behind, world_step}
 use Rattle.node_laws.proofs.telling.Lasting.{AreCaused, lines_caused, events_of_steps}
 use Rattle.node_laws.proofs.telling.Nodes.{site_host}
 use Rattle.node_laws.proofs.telling.Orderly.{new_orderly}
@@ -22,15 +13,10 @@ use Rattle.node_laws.proofs.telling.Worlds.{site_is}
 use Rattle.node_laws.proofs.order.Lines.{IsSo, history_so, host_number}
 use Rattle.node_laws.proofs.order.Sessions.{are_read}
 use Rattle.node_laws.proofs.order.Asked.{AreDone, done_back, history_done}
-use Rattle.node_laws.specs.notices.Worlds.{KeepsNotices, IsGoodSite}
 use Rattle.node_laws.proofs.creations.Lines.{history_keeps}
-use Rattle.node_laws.specs.views.Inits.{IsBegunByHost, init_behind}
 use Rattle.node_laws.proofs.views.InitWorlds.{AtSite, Keeps}
 use Rattle.node_laws.proofs.views.InitEvents.{MayKeep}
 use Rattle.node_laws.proofs.views.Lines.{none_zero}
-use Rattle.node_laws.specs.answers.Moments.{AtEachOccurrence}
-use Rattle.node_laws.specs.answers.Answered.{AreReset, ends_in}
-use Rattle.node_laws.specs.answers.Unasked.{is_reset_down, is_reset_due}
 use Rattle.std.proofs.lemmas.List.Concat.{flat_map-append}
 use Rattle.node_laws.proofs.telling.Lasting.{AnyLine, EachHolds, all_lines, boots_may, front_each, lines_each, occurs}
 use Rattle.node_laws.proofs.notices.Events.{begins_read, event_read}

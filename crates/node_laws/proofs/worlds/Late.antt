@@ -5,40 +5,21 @@ use Rattle.std.specs.List.{AllByRecursion, filter}
 use Rattle.std.proofs.lemmas.Bool.{true≢false, eqb-true}
 use Rattle.std.proofs.lemmas.List.Sums.{take_while-cons}
 use Rattle.registry.proofs.ValueLemmas.{AllByRecursion-append as all_append}
-use Rattle.trace_model.specs.declared.entry.Entry.{Entry}
+use Rattle.node_laws.proofs.Words.{AreDifferent, AreNotOf, ArePassed, AsksReset, AtEnd, BeginWithTurn, Comes, ComesTo, Controller, Desk, End, Entry, GoesOut}
+use Rattle.node_laws.proofs.Words.{Host, IsOrderly, IsTurnSo, IsUicc, LinkEnd, LinkInput, Loss, NodeInput, NodeWorld, NumberedEnd, Site, Starts, Step}
+use Rattle.node_laws.proofs.Words.{TimePasses, Work, aged, all_aged, before_turn, boots, by_boot, by_coming, by_controller, by_controller_tick, by_host}
+use Rattle.node_laws.proofs.Words.{by_host_tick, by_loss, by_test, comes_at, comes_to, comes_to_pass, controller_does, controller_ticks, controller_work, end_c}
+use Rattle.node_laws.proofs.Words.{end_h, ending_of, entries_for, exchanged, first_lost, frame_lost, frames_noted, host_does, host_tick, host_ticks, host_work}
+use Rattle.node_laws.proofs.Words.{hosts_in, hosts_of_ends, hosts_tick, is_answer_of, is_late_at, is_turn_of, is_waiting, link_after_controller, link_to}
+use Rattle.node_laws.proofs.Words.{near_end_in, near_tick, passes, same_number, site_ticked, site_unticked, steps, ticks_host, told_of_coming, turns_at}
+use Rattle.node_laws.proofs.Words.{wires_for, work_of, world_ticks}
 use Rattle.trace_model.specs.declared.entry.Entry.TheVariants as entry
-use Rattle.trace_model.specs.declared.line.End.{End}
-use Rattle.shdlc_core.specs.Machine.{is_waiting}
-use Rattle.link_laws.specs.machine.Machine.{LinkEnd, LinkInput}
-use Rattle.link_laws.specs.messages.Links.{Comes, IsUicc, Loss, NumberedEnd, aged, exchanged}
-use Rattle.link_laws.specs.messages.Links.Comes.{AsksReset, Starts}
-use Rattle.link_laws.specs.messages.Links.Ending.{GoesOut}
-use Rattle.link_laws.specs.messages.Links.EndEvent.{Step}
-use Rattle.link_laws.specs.entries.Entries.{first_lost}
-use Rattle.link_laws.specs.entries.Entries.End.{Controller, Host}
-use Rattle.link_laws.proofs.entries.Lasting.{same_number}
-use Rattle.link_laws.proofs.entries.Together.{ticks_host}
-use Rattle.history.specs.Steps.{entries_for}
-use Rattle.node_machine.specs.Parts.{Desk, Work}
-use Rattle.node_machine.specs.Node.{NodeInput, steps}
-use Rattle.node_machine.specs.Node.NodeInput.{AtEnd, TimePasses}
-use Rattle.node_machine.specs.Turns.{passes}
-use Rattle.node_machine.specs.world.World.{NodeWorld, Site, all_aged, boots, comes_at, comes_to, controller_does, controller_ticks, controller_work, end_c}
-use Rattle.node_machine.specs.world.World.{end_h, ending_of, is_late_at, frame_lost, frames_noted, host_does, host_ticks, host_work, hosts_tick}
-use Rattle.node_machine.specs.world.World.{link_after_controller, link_to, near_end_in, turns_at, wires_for, work_of, world_ticks}
-use Rattle.node_machine.proofs.world.Cases.{by_boot, by_coming, by_controller, by_controller_tick, by_host, by_host_tick, by_loss, host_tick, near_tick}
-use Rattle.node_machine.proofs.world.Cases.{site_ticked, site_unticked}
-use Rattle.node_laws.specs.kept.Hosts.{AreDifferent}
-use Rattle.node_laws.specs.telling.Telling.{IsOrderly, hosts_in}
-use Rattle.node_laws.proofs.Cases.{by_test}
 use Rattle.node_laws.proofs.telling.Events.{comes_goes, orderly_map}
 use Rattle.node_laws.proofs.telling.Frames.{lost_all}
 use Rattle.node_laws.proofs.telling.Nodes.{ports_for}
 use Rattle.node_laws.proofs.telling.Worlds.{site_is}
 use Rattle.node_laws.proofs.telling.WorldTicks.{near_orderly}
-use Rattle.node_laws.specs.passes.Passing.{ArePassed, BeginWithTurn, ComesTo, IsTurnSo}
 use Rattle.node_laws.specs.passes.Passing.ComesTo.{Begins}
-use Rattle.node_laws.specs.passes.Steps.{comes_to_pass, told_of_coming}
 use Rattle.node_laws.proofs.links.Ends.{here_host}
 use Rattle.node_laws.proofs.passes.Before.{before_entries, steps_are}
 use Rattle.node_laws.proofs.passes.Passing.{comes_lasts, through}
@@ -46,10 +27,6 @@ use Rattle.node_laws.proofs.power.Events.{AreNodes, both_nodes, controller_part,
 use Rattle.node_laws.proofs.power.Parts.{AreOwn, IsPart, own_not, part_own}
 use Rattle.node_laws.proofs.power.Steps.{steps_fine}
 use Rattle.node_laws.proofs.readings.Sites.{near_end_side}
-use Rattle.node_laws.specs.power.Powers.{AreNotOf}
-use Rattle.node_laws.specs.kept.Books.{hosts_of_ends}
-use Rattle.node_laws.specs.answers.Order.{is_answer_of}
-use Rattle.node_laws.specs.answers.Answered.{before_turn, is_turn_of}
 use Rattle.node_laws.proofs.worlds.Events.{same_sym}
 use Rattle.node_laws.proofs.worlds.Hearing.{AreUnanswered, IsFrame, IsUnanswered, arrival_unanswered, coming_unanswered, frames_unheard, out_unanswered}
 use Rattle.node_laws.proofs.worlds.Order.{others_answer, unanswered_all}

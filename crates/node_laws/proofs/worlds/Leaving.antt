@@ -7,29 +7,15 @@ use Rattle.std.proofs.lemmas.Bool.{le-ltb, lt-ltb, eq-eqb, true≢false}
 use Rattle.std.proofs.lemmas.List.Sums.{take_while-cons}
 use mathlib.Core.Bool.{or-true}
 use Rattle.registry.proofs.ValueLemmas.{AllByRecursion-append as all_append}
-use Rattle.trace_model.specs.declared.entry.Entry.{Entry}
+use Rattle.node_laws.proofs.Words.{AreAlong, AreHosts, AreNoTurns, BeginWithTurn, BeginsPass, Controller, End, Entry, Happening, IsAscending, IsNoTurn}
+use Rattle.node_laws.proofs.Words.{NodeInput, Occurrence, ReadsInStep, Work, by_list, by_test, comes_to_pass, end_c, entries_in, is_later, is_left_short}
+use Rattle.node_laws.proofs.Words.{lack_at, link_of_turn, links_of_turns, makes_step, node_of, noted_before_pass, oldest, passes, runs_in, steps, through}
+use Rattle.node_laws.proofs.Words.{turn_link, unhandled_in}
 use Rattle.trace_model.specs.declared.entry.Entry.TheVariants as entry
-use Rattle.trace_model.specs.declared.line.End.{End}
-use Rattle.link_laws.specs.machine.Machine.{oldest}
-use Rattle.link_laws.specs.entries.Entries.End.{Controller}
-use Rattle.node_machine.specs.Parts.{Work}
-use Rattle.node_machine.specs.Turns.{passes}
-use Rattle.node_machine.specs.Node.{NodeInput, steps}
-use Rattle.node_machine.specs.world.World.{Happening, end_c, node_of}
-use Rattle.node_machine.specs.world.Lines.{Occurrence}
-use Rattle.node_machine.specs.world.NodeHistories.{entries_in}
-use Rattle.node_laws.specs.kept.Hosts.{AreHosts}
-use Rattle.node_laws.specs.passes.Passing.{AreAlong, AreNoTurns, BeginWithTurn, IsNoTurn, link_of_turn, links_of_turns}
-use Rattle.node_laws.specs.passes.Steps.{comes_to_pass, noted_before_pass}
-use Rattle.node_laws.proofs.Cases.{by_list, by_test}
 use Rattle.node_laws.proofs.passes.Before.{before_entries, before_none, steps_are}
 use Rattle.node_laws.proofs.power.Doing.{Fine, Lost, Runs}
 use Rattle.node_laws.proofs.power.Steps.{steps_fine}
-use Rattle.node_laws.specs.answers.Answered.{as_left, is_later, is_left_short, makes_step, through}
-use Rattle.node_laws.specs.answers.Moments.{lack_at, runs_in, unhandled_in}
-use Rattle.node_laws.specs.answers.Order.{IsAscending, turn_link}
-use Rattle.node_laws.specs.replies.Passes.{BeginsPass}
-use Rattle.node_laws.specs.read_steps.Works.{ReadsInStep}
+use Rattle.node_laws.specs.answers.Answered.{as_left}
 use Rattle.node_laws.proofs.replies.Calm.{AreCalm, calm_none}
 use Rattle.node_laws.proofs.replies.Left.{IsLeft, IsNear, LacksBehind, idle_left, is_left}
 use Rattle.node_laws.proofs.read_rooms.Lasting.{IsCarried}

@@ -4,56 +4,29 @@ use Rattle.std.specs.Prelude.{◌==◌}
 use Rattle.std.specs.List.{AllByRecursion, flat_map}
 use Rattle.std.proofs.lemmas.Bool.{true≢false}
 use Rattle.registry.proofs.ValueLemmas.{AllByRecursion-append as all_append}
-use Rattle.trace_model.specs.declared.entry.Entry.{Entry}
+use Rattle.node_laws.proofs.Words.{Activates, AreHosts, AreNoTurns, AreNotOf, ArePassed, ArePlayable, AreRepliedIn, Arms, AsksReset, AtEachEntry, AtEnd, Boots}
+use Rattle.node_laws.proofs.Words.{Comes, ComesTo, Controller, End, Entry, FollowsNodes, Gives, Happening, Header, Inits, IsCut, IsFew, IsHeldFor, IsNoAnswer}
+use Rattle.node_laws.proofs.Words.{IsNoTurn, IsOrderly, IsReplied, IsSentByHost, Line, Link, LinkInput, Loses, Moment, NextFrame, NodeHistory, NodeInput}
+use Rattle.node_laws.proofs.Words.{NodeWorld, Occurrence, Resets, Running, Site, Starts, Takes, Ticks, TimePasses, Work, aged, all_aged, all_flat, arrival}
+use Rattle.node_laws.proofs.Words.{as_it_ticks, beginning, boots, by_coming, by_controller, by_controller_tick, by_host, by_test, comes_at, comes_to}
+use Rattle.node_laws.proofs.Words.{comes_to_pass, commands_by_events, controller_begins, controller_does, controller_ticks, controller_work, end_c, end_h}
+use Rattle.node_laws.proofs.Words.{entries_in, frame_lost, frames_noted, hosts_of_ends, hosts_tick, input_of, is_answer_of, is_cut_of, is_of_node, link_to}
+use Rattle.node_laws.proofs.Words.{near_tick, new_world, node_entries, node_of, noted_before_pass, occurrences_in, passes, sending, steps, turn_link, until}
+use Rattle.node_laws.proofs.Words.{wires_for, world_behind, world_step, world_ticks}
 use Rattle.trace_model.specs.declared.entry.Entry.TheVariants as entry
-use Rattle.trace_model.specs.declared.line.End.{End}
-use Rattle.trace_model.specs.declared.line.Header.{Header}
-use Rattle.trace_model.specs.declared.line.Line.{Line}
-use Rattle.link_laws.specs.machine.Machine.{LinkInput}
-use Rattle.link_laws.specs.messages.Links.{Comes, Link, aged}
-use Rattle.link_laws.specs.messages.Links.Comes.{NextFrame, AsksReset, Starts}
-use Rattle.link_laws.specs.entries.Entries.End.{Controller}
-use Rattle.node_machine.specs.Parts.{Running, Work}
-use Rattle.node_machine.specs.Turns.{passes}
-use Rattle.node_machine.specs.Node.{NodeInput, steps}
-use Rattle.node_machine.specs.Node.NodeInput.{AtEnd, TimePasses}
-use Rattle.node_machine.specs.world.World.{Site, NodeWorld, Happening, link_to, input_of, node_of, wires_for, frames_noted, comes_to, controller_work}
-use Rattle.node_machine.specs.world.World.{arrival, controller_does, all_aged, controller_ticks, hosts_tick, world_ticks, comes_at}
-use Rattle.node_machine.specs.world.World.{end_c, end_h, sending, beginning, boots, frame_lost, world_step, new_world}
-use Rattle.node_machine.specs.world.World.Happening.{Boots, IsCut, Gives, Inits, Takes, Loses, Ticks, Resets, Activates, Arms}
-use Rattle.node_machine.specs.world.Lines.{Occurrence}
-use Rattle.node_machine.specs.world.NodeHistories.{FollowsNodes, NodeHistory, entries_in, node_entries, occurrences_in}
-use Rattle.node_machine.proofs.world.Cases.{by_controller, by_host, by_coming, by_controller_tick, near_tick}
-use Rattle.node_laws.specs.kept.Reckonings.{is_cut_of}
-use Rattle.node_laws.specs.kept.Hosts.{AreHosts, IsFew, IsSentByHost}
-use Rattle.node_laws.specs.telling.Telling.{IsOrderly, world_behind}
-use Rattle.node_laws.proofs.All.{all_flat}
-use Rattle.node_laws.proofs.Cases.{by_test}
 use Rattle.node_laws.proofs.telling.Events.{comes_goes, orderly_map}
 use Rattle.node_laws.proofs.telling.Shapes.{frames_uncut}
 use Rattle.node_laws.proofs.telling.Walks.{AreUncut, IsUncut}
 use Rattle.node_laws.proofs.telling.WorldTicks.{near_orderly}
 use Rattle.node_laws.proofs.telling.Nodes.{site_host}
-use Rattle.node_laws.specs.links.Runs.{ArePlayable}
-use Rattle.node_laws.specs.passes.Passing.{AreNoTurns, IsNoTurn, ComesTo, ArePassed}
 use Rattle.node_laws.specs.passes.Passing.ComesTo.{Begins}
-use Rattle.node_laws.specs.passes.Steps.{comes_to_pass, controller_begins, noted_before_pass}
-use Rattle.node_laws.specs.power.Powers.{AreNotOf, is_of_node}
 use Rattle.node_laws.proofs.passes.Turnless.{sending_turnless, beginning_turnless}
 use Rattle.node_laws.proofs.passes.Before.{before_entries, before_none, links_none, steps_are}
 use Rattle.node_laws.proofs.passes.Passing.{through, comes_lasts}
 use Rattle.node_laws.proofs.power.Parts.{own_not, part_own, IsPart}
 use Rattle.node_laws.proofs.order.Lines.{IsSo, history_so}
 use Rattle.node_laws.proofs.order.Asked.{AreDone, done_back, history_done}
-use Rattle.node_laws.specs.kept.Books.{hosts_of_ends}
-use Rattle.node_laws.specs.answers.Moments.{Moment, until, AtEachEntry}
-use Rattle.node_laws.specs.answers.Order.{is_answer_of, turn_link}
-use Rattle.node_laws.specs.answers.Answered.{IsReplied, IsHeldFor}
 use Rattle.node_laws.proofs.worlds.Everywhere.{IsAnsweredNear}
-use Rattle.node_laws.specs.replies.Known.{IsNoAnswer}
-use Rattle.node_laws.specs.replies.Passes.{AreRepliedIn}
-use Rattle.node_laws.specs.read_steps.Worlds.{as_it_ticks}
-use Rattle.node_laws.specs.bounds.Commands.{commands_by_events}
 use Rattle.node_laws.proofs.reply_passes.Whole.{comes_are_replied, ticks_are_replied}
 use Rattle.node_laws.proofs.worlds.Ascending.{frames_turnless}
 use Rattle.node_laws.proofs.worlds.Hearing.{out_unanswered}

@@ -2,29 +2,16 @@
 use Rattle.std.proofs.Common.{◌≡◌, ℕ, false, List, [], ◌∷◌, ◌++◌, refl}
 use Rattle.std.specs.List.{AllByRecursion, flat_map}
 use Rattle.registry.proofs.ValueLemmas.{AllByRecursion-append as all_append}
-use Rattle.trace_model.specs.declared.entry.Entry.{Entry}
+use Rattle.node_laws.proofs.Words.{Activates, Arms, AsksReset, AtEnd, Boots, Comes, Controller, Cut, Deed, End, Entry, Gives, Happening, Host, Inits, IsCut}
+use Rattle.node_laws.proofs.Words.{Link, LinkInput, Loses, Lost, NextFrame, NoInput, NodeInput, NodeWorld, Report, Resets, Restarted, Site, Starts, Takes}
+use Rattle.node_laws.proofs.Words.{Ticks, TimePasses, TooMany, TooOld, Work, activates, aged_entries, all_aged, all_done, all_flat, arrival, beginning}
+use Rattle.node_laws.proofs.Words.{begins_with, by_boot, by_coming, by_controller, by_controller_tick, by_host, by_host_tick, by_option, comes_at, comes_to}
+use Rattle.node_laws.proofs.Words.{controller_begins, controller_does, controller_tick_begins, controller_ticks, controller_work, end_c, end_h, ending_entries}
+use Rattle.node_laws.proofs.Words.{ending_of, entries_for, exchanged, frames_noted, host_does, host_tick, host_ticks, host_work, hosts_tick, link_to, near_tick}
+use Rattle.node_laws.proofs.Words.{port_at, sending, steps, told, told_of_coming, wires_for, work_of, world_step, world_ticks}
 use Rattle.trace_model.specs.declared.entry.Entry.TheVariants as entry
-use Rattle.trace_model.specs.declared.line.End.{End}
-use Rattle.link_laws.specs.machine.Machine.{LinkInput, Report}
-use Rattle.link_laws.specs.messages.Links.{Link, Comes, exchanged}
-use Rattle.link_laws.specs.messages.Links.Comes.{NextFrame, AsksReset, Starts, NoInput}
-use Rattle.link_laws.specs.messages.Links.Loss.{TooOld, TooMany}
-use Rattle.link_laws.specs.entries.Entries.{End as Side, Entry as Noted, told, ending_entries, aged_entries}
-use Rattle.link_laws.specs.entries.Entries.End.{Controller, Host}
-use Rattle.link_laws.specs.entries.Entries.Entry.{Lost, Tick, Restarted, Cut}
-use Rattle.history.specs.Steps.{entries_for}
-use Rattle.node_machine.specs.Parts.{Work, Deed}
-use Rattle.node_machine.specs.Carrying.{port_at, all_done}
-use Rattle.node_machine.specs.Node.{NodeInput, steps, begins_with}
-use Rattle.node_machine.specs.Node.NodeInput.{AtEnd, TimePasses}
-use Rattle.node_machine.specs.world.World.{Site, NodeWorld, Happening, arrival, frames_noted, ending_of, sending, beginning, link_to, wires_for, work_of}
-use Rattle.node_machine.specs.world.World.{comes_to, controller_work, host_work, host_does, controller_does, controller_ticks, host_ticks, hosts_tick}
-use Rattle.node_machine.specs.world.World.{world_ticks, all_aged, activates, comes_at, end_c, end_h, world_step}
-use Rattle.node_machine.specs.world.World.Happening.{Boots, IsCut, Gives, Inits, Takes, Loses, Ticks, Resets, Activates, Arms}
-use Rattle.node_machine.proofs.world.Cases.{by_controller, by_host, by_coming, by_boot, near_tick, by_controller_tick, host_tick, by_host_tick}
-use Rattle.node_laws.specs.passes.Steps.{told_of_coming, controller_begins, controller_tick_begins}
-use Rattle.node_laws.proofs.Cases.{by_option}
-use Rattle.node_laws.proofs.All.{all_flat}
+use Rattle.link_laws.specs.entries.Entries.{End as Side, Entry as Noted}
+use Rattle.link_laws.specs.entries.Entries.Entry.{Tick}
 use Rattle.node_laws.proofs.passes.Coming.{coming_all}
 use Rattle.node_laws.proofs.passes.Kinds.{NotesOnly, sending_notes, beginning_notes}
 use Rattle.node_laws.proofs.passes.InSteps.{IsOfStep, step_keeps, deeds_keep, of_deeds}

@@ -2,19 +2,12 @@
 use Rattle.std.proofs.Common.{◌≡◌, ℕ, List, [], ◌∷◌, ◌++◌, None, refl, sym, subst}
 use Rattle.std.specs.Prelude.{◌==◌}
 use Rattle.std.proofs.lemmas.Bool.{eqb-true}
-use Rattle.trace_model.specs.declared.entry.Entry.{Entry}
-use Rattle.link_laws.specs.messages.Links.{aged}
-use Rattle.link_laws.specs.messages.Links.Comes.{Starts}
-use Rattle.node_machine.specs.world.World.{Site, NodeWorld, all_aged, controller_ticks, host_ticks, hosts_tick, world_ticks, comes_at, end_c, end_h}
-use Rattle.node_machine.specs.world.World.{activates}
-use Rattle.node_laws.specs.kept.Hosts.{AreDifferent}
-use Rattle.node_laws.specs.telling.Telling.{hosts_in, IsOrderly, IfItRuns}
+use Rattle.node_laws.proofs.Words.{AreDifferent, AreNotOf, Entry, IfItRuns, IsOrderly, NodeWorld, Site, Starts, activates, aged, all_aged, by_test, comes_at}
+use Rattle.node_laws.proofs.Words.{controller_ticks, end_c, end_h, host_ticks, hosts_in, hosts_tick, world_ticks}
 use Rattle.node_laws.proofs.telling.Events.{orderly_map, comes_goes}
 use Rattle.node_laws.proofs.telling.WorldTicks.{near_orderly}
-use Rattle.node_laws.specs.power.Powers.{AreNotOf}
 use Rattle.node_laws.proofs.power.Parts.{own_not, part_own}
 use Rattle.node_laws.proofs.power.Events.{AreNodes, both_nodes, comes_part, far_tick, near_ticks_part, no_site, none_zero, others_tick}
-use Rattle.node_laws.proofs.Cases.{by_test}
 
 -- P is had by entries of the node n: it lasts as entries of other nodes come behind them, or before them.
 module _ (P : List Entry → Type 0) (n : ℕ) (behind : (es fs : List Entry) → P es → AreNotOf n fs → P (es ++ fs))

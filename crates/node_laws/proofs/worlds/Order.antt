@@ -5,10 +5,9 @@ use Rattle.std.specs.List.{AllByRecursion}
 use Rattle.std.specs.Option.{option_map_or}
 use Rattle.std.proofs.lemmas.Bool.{true≢false}
 use Rattle.registry.proofs.ValueLemmas.{AllByRecursion-append as all_append}
-use Rattle.trace_model.specs.declared.entry.Entry.{Entry}
+use Rattle.node_laws.proofs.Words.{AreNotOf, Entry, is_answer_of, is_of_node}
 use Rattle.trace_model.specs.declared.entry.Entry.TheVariants as entry
-use Rattle.node_laws.specs.power.Powers.{AreNotOf, is_of_node}
-use Rattle.node_laws.specs.answers.Order.{is_answer_of, hears}
+use Rattle.node_laws.specs.answers.Order.{hears}
 use Rattle.node_laws.proofs.worlds.Hearing.{IsParted, IsUnheard, AreUnheard, AreUnanswered}
 
 module _ (n : ℕ) where

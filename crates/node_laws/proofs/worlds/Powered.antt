@@ -3,23 +3,12 @@ use Rattle.std.proofs.Common.{◌≡◌, ℕ, false, List, [], ◌∷◌, ◌++�
 use Rattle.std.specs.Prelude.{◌==◌, None, is_some, replicate}
 use Rattle.std.specs.List.{AllByRecursion, fold}
 use Rattle.std.proofs.lemmas.List.Sums.{fold-append}
-use Rattle.trace_model.specs.Lines.{IsNodeOf}
-use Rattle.trace_model.specs.declared.entry.Entry.{Entry}
+use Rattle.node_laws.proofs.Words.{AreHosts, Arms, Boots, Entry, FollowsNodes, Happening, Header, IsFew, IsNodeOf, IsSentByHost, Line, NodeHistory, Occurrence}
+use Rattle.node_laws.proofs.Words.{Reckoning, begun_by, by_test, entries_in, new_book, new_memory, new_world, node_at, node_entries, occurrences_in, reckoned}
+use Rattle.node_laws.proofs.Words.{reckoning_of, runs_in, world_behind}
 use Rattle.trace_model.specs.declared.entry.Entry.TheVariants as entry
-use Rattle.trace_model.specs.declared.line.Header.{Header}
-use Rattle.trace_model.specs.declared.line.Line.{Line}
-use Rattle.node_machine.specs.world.World.{Happening, new_memory, new_world, node_at}
-use Rattle.node_machine.specs.world.World.Happening.{Arms, Boots}
-use Rattle.node_machine.specs.world.Lines.{Occurrence}
-use Rattle.node_machine.specs.world.NodeFilters.{new_book}
-use Rattle.node_machine.specs.world.NodeHistories.{FollowsNodes, NodeHistory, entries_in, node_entries, occurrences_in}
-use Rattle.node_laws.specs.cuts.Histories.{begun_by, with_event}
-use Rattle.node_laws.specs.kept.Hosts.{AreHosts, IsFew, IsSentByHost}
-use Rattle.node_laws.specs.kept.Reckonings.{Reckoning, reckoned, reckoning_of}
-use Rattle.node_laws.specs.telling.Telling.{world_behind}
-use Rattle.node_laws.proofs.Cases.{by_test}
+use Rattle.node_laws.specs.cuts.Histories.{with_event}
 use Rattle.node_laws.proofs.cuts.Histories.{known}
-use Rattle.node_laws.specs.answers.Moments.{runs_in}
 
 module _ (n : ℕ) where
   run_one : (s : List Entry) (r : Reckoning) (x : Entry) → r.runs ≡ runs_in s n → (reckoned n r x).runs ≡ runs_in (s ++ x ∷ []) n

@@ -3,15 +3,10 @@ use Rattle.std.proofs.Common.{List, [], eqb, refl, subst, sym, ℕ, ◌++◌, �
 use Rattle.std.specs.Prelude.{None, Option}
 use Rattle.std.specs.List.{AllByRecursion, fold}
 use Rattle.std.proofs.lemmas.Bool.{cond_both}
-use Rattle.trace_model.specs.Lines.{IsHost}
-use Rattle.node_machine.specs.Parts.{Desk, Init}
-use Rattle.node_machine.specs.world.World.{NodeWorld, Site, new_world, world_step}
-use Rattle.node_machine.specs.world.Lines.{Occurrence}
-use Rattle.node_laws.specs.telling.Telling.{IsOrderly, world_behind}
-use Rattle.node_laws.proofs.Cases.{by_option}
+use Rattle.node_laws.proofs.Words.{Desk, Init, IsHost, IsOrderly, NodeWorld, Occurrence, Site, SiteKeepsInit, by_option, init_begun, init_behind, new_world}
+use Rattle.node_laws.proofs.Words.{world_behind, world_step}
 use Rattle.node_laws.proofs.telling.Orderly.{step_orderly}
 use Rattle.node_laws.proofs.telling.Lasting.{AreCaused}
-use Rattle.node_laws.specs.views.Inits.{SiteKeepsInit, init_begun, init_behind}
 use Rattle.node_laws.proofs.views.Answering.{reads_init}
 use Rattle.node_laws.proofs.views.InitWorlds.{AtSite, Keeps}
 use Rattle.node_laws.proofs.views.InitEvents.{MayKeep, event_keeps}

@@ -5,44 +5,24 @@ use Rattle.std.specs.List.{list_any}
 use Rattle.std.specs.Option.{option_map_or, option_and_then}
 use Rattle.std.proofs.lemmas.Bool.{true≢false, eqb-true, eqb-false}
 use mathlib.Core.Bool.{and-false, and-true}
-use Rattle.trace_model.specs.declared.entry.Entry.{Entry}
-use Rattle.trace_model.specs.declared.line.End.{End}
+use Rattle.node_laws.proofs.Words.{Activates, AreSessionsRead, Arms, AsksReset, AtEnd, Boots, Controller, Desk, End, Entry, Gives, Happening, Host, IfReads}
+use Rattle.node_laws.proofs.Words.{Inits, IsCut, IsOrderly, KeepsNotices, Link, LinkEnd, LinkInput, LinkState, Loses, Loss, NextFrame, NodeWorld, Notice}
+use Rattle.node_laws.proofs.Words.{NumberedEnd, Occurrence, Port, Refused, Reset, Resets, Running, Site, Start, Starts, Take, Takes, Ticks, age_in, all_aged}
+use Rattle.node_laws.proofs.Words.{beginning, by_boot, by_list, by_loss, by_option, by_test, comes_at, end_c, end_h, ended_by, entries_in, first_lost}
+use Rattle.node_laws.proofs.Words.{host_does, if_off, input_of, is_late_in, is_own_reset, is_reset_down, is_reset_due, is_up, link_to, machine_in, node_at}
+use Rattle.node_laws.proofs.Words.{notice_at, notice_in, refusal_in, reset_refusal, sending, session_now, site_at, steps, world_step, world_ticks}
 use Rattle.trace_model.specs.declared.line.Line.TheVariants as line
-use Rattle.shdlc_core.specs.declared.answers.LinkState.{LinkState}
 use Rattle.shdlc_core.specs.declared.answers.LinkState.TheVariants.{Up as IsUpNow}
-use Rattle.link_laws.specs.sessions.Sessions.{is_up}
-use Rattle.link_laws.specs.machine.Machine.{LinkInput, LinkEnd, Refused, ended_by, reset_refusal}
-use Rattle.link_laws.specs.machine.Machine.LinkInput.{Take, Reset, Start}
-use Rattle.link_laws.specs.messages.Links.{Link, Loss, NumberedEnd}
-use Rattle.link_laws.specs.messages.Links.Comes.{NextFrame, AsksReset, Starts}
-use Rattle.link_laws.specs.entries.Entries.{first_lost}
-use Rattle.link_laws.specs.entries.Entries.End.{Controller, Host}
 use Rattle.link_laws.specs.entries.Sessions.{number_now as session_at}
 use Rattle.history.specs.Follows.{as_noted}
-use Rattle.node_machine.specs.Parts.{Desk, Notice, Port, Running}
-use Rattle.node_machine.specs.Node.{steps}
-use Rattle.node_machine.specs.Node.NodeInput.{AtEnd}
-use Rattle.node_machine.specs.world.World.{Site, NodeWorld, Happening, site_at, link_to, node_at, input_of, comes_at, end_c, end_h, world_step, world_ticks}
-use Rattle.node_machine.specs.world.World.{sending, beginning, host_does, all_aged}
-use Rattle.node_machine.specs.world.World.Happening.{Boots, IsCut, Gives, Inits, Takes, Loses, Ticks, Resets, Activates, Arms}
-use Rattle.node_machine.specs.world.Lines.{Occurrence, refusal_in, if_off, machine_in}
-use Rattle.node_machine.specs.world.NodeHistories.{entries_in}
-use Rattle.node_machine.specs.world.NodeFilters.{notice_in, session_now}
-use Rattle.node_machine.proofs.world.Cases.{by_boot, by_loss}
-use Rattle.node_laws.proofs.Cases.{by_list, by_option, by_test}
 use Rattle.node_laws.proofs.kept.Lines.{first_none, off_none}
-use Rattle.node_laws.specs.order.Told.{AreSessionsRead}
 use Rattle.node_laws.proofs.order.Asked.{IsAskedIn}
 use Rattle.node_laws.proofs.readings.Sites.{lost_quiet}
-use Rattle.node_laws.specs.telling.Telling.{IsOrderly}
 use Rattle.node_laws.proofs.telling.Lasting.{occurs}
 use Rattle.node_laws.proofs.telling.Nodes.{link_is, ports_for, site_host}
 use Rattle.node_laws.proofs.views.InitWorlds.{present}
-use Rattle.node_laws.specs.notices.Notices.{notice_at}
-use Rattle.node_laws.specs.notices.Worlds.{IfReads, KeepsNotices}
 use Rattle.node_laws.proofs.notices.Telling.{noticed}
 use Rattle.node_laws.proofs.notices.Knowing.{noticed_is}
-use Rattle.node_laws.specs.answers.Unasked.{is_own_reset, is_reset_down, is_reset_due, is_late_in, age_in}
 use Rattle.node_laws.proofs.worlds.Causes.{otherwise, frame_asked, start_asked}
 use Rattle.node_laws.proofs.worlds.Downs.{any_none, any_append, notes_downless, sending_none, beginning_none}
 use Rattle.node_laws.proofs.worlds.Telling.{near_far, far_near}

@@ -5,26 +5,13 @@ use Rattle.std.specs.List.{AllByRecursion}
 use Rattle.std.proofs.lemmas.Bool.{true≢false, eqb-true}
 use Rattle.std.proofs.lemmas.List.Sums.{fold-append}
 use mathlib.Core.Bool.{or-true}
-use Rattle.trace_model.specs.declared.entry.Entry.{Entry}
+use Rattle.node_laws.proofs.Words.{AreDifferent, AreNoTurns, AreNotOf, ComesTo, End, Entry, IsBehind, IsNoTurn, IsOutside, Message, NodeInput, Port, Work}
+use Rattle.node_laws.proofs.Words.{by_list, by_test, comes_to_pass, goes_through_ends, holds_in, hosts_of_ends, is_done, is_held_at, is_of_node, node_of}
+use Rattle.node_laws.proofs.Words.{oldest, own_side, passes, port_at, runs_in, same_end, same_number, steps, unhandled_after, unhandled_in, waiting_at}
 use Rattle.trace_model.specs.declared.entry.Entry.TheVariants as entry
-use Rattle.trace_model.specs.declared.line.End.{End}
-use Rattle.link_laws.specs.machine.Machine.{Message, oldest}
 use Rattle.link_laws.specs.entries.Entries.{End as Side}
-use Rattle.link_laws.proofs.entries.Lasting.{same_number}
-use Rattle.history.specs.Filters.{same_end}
-use Rattle.node_machine.specs.Parts.{Port, Work}
-use Rattle.node_machine.specs.Carrying.{own_side, port_at}
-use Rattle.node_machine.specs.Turns.{passes, goes_through_ends}
-use Rattle.node_machine.specs.Node.{NodeInput, steps}
-use Rattle.node_machine.specs.world.World.{node_of}
-use Rattle.node_laws.specs.kept.Books.{hosts_of_ends}
-use Rattle.node_laws.specs.kept.Hosts.{AreDifferent}
-use Rattle.node_laws.specs.links.Notices.{IsOutside}
-use Rattle.node_laws.specs.passes.Passing.{AreNoTurns, IsNoTurn, ComesTo, IsBehind, Stays, is_held_at, waiting_at}
+use Rattle.node_laws.specs.passes.Passing.{Stays}
 use Rattle.node_laws.specs.passes.Passing.ComesTo.{Begins}
-use Rattle.node_laws.specs.passes.Steps.{comes_to_pass}
-use Rattle.node_laws.specs.power.Powers.{AreNotOf, is_of_node}
-use Rattle.node_laws.proofs.Cases.{by_list, by_test}
 use Rattle.node_laws.proofs.passes.Before.{before_hosts, steps_are}
 use Rattle.node_laws.proofs.passes.Behind.{leaves_behind}
 use Rattle.node_laws.proofs.passes.Passing.{comes_lasts, through}
@@ -33,8 +20,6 @@ use Rattle.node_laws.proofs.power.Steps.{steps_fine}
 use Rattle.node_laws.proofs.turns.Passing.{Known}
 use Rattle.node_laws.proofs.turns.Queues.Doing.{Adds, Nothing}
 use Rattle.node_laws.proofs.turns.Queues.{AreStill, Goes, doing, goes-append}
-use Rattle.node_laws.specs.answers.Moments.{holds_in, runs_in, unhandled_after, unhandled_in}
-use Rattle.node_laws.specs.answers.Answered.{is_done}
 use Rattle.node_laws.proofs.reply_passes.Came.{begun_at, goes_read, mine, ms, there_still}
 use Rattle.node_laws.proofs.reply_passes.Holding.{ended_read_at}
 use Rattle.node_laws.proofs.reply_passes.Ordered.{runs_comes}

@@ -1,24 +1,15 @@
 -- A schedule whose header and lines are in their ranges meets what is asked for.
 use Rattle.std.proofs.Common.{◌≡◌, ℕ, ◌≤◌, true, List, [], ◌∷◌, ◌++◌, sym, append-nil, arith}
 use Rattle.std.specs.List.{AllByRecursion}
-use Rattle.trace_model.specs.declared.line.Header.{Header}
-use Rattle.trace_model.specs.declared.line.Line.{Line}
+use Rattle.node_laws.proofs.Words.{Answered, AreDue, AreNodeLinesOf, AreReset, AtEachEntry, AtEachOccurrence, CutsEndParts, FollowsNodes, Header, IsBegunByHost}
+use Rattle.node_laws.proofs.Words.{IsInitOfHost, IsNodeHeader, Line, NodeHistory, NodesHearFirst, Occurrence, TurnsAscend, commands_by_events, commands_noted}
+use Rattle.node_laws.proofs.Words.{end_c, end_h, ends_in, is_left_short, lines_asking, node_entries, occurrences_in}
 use Rattle.trace_model.specs.declared.line.Line.TheVariants as line
-use Rattle.node_machine.specs.world.World.{end_c, end_h}
-use Rattle.node_machine.specs.world.Lines.{Occurrence}
-use Rattle.node_machine.specs.world.NodeHistories.{FollowsNodes, NodeHistory, node_entries, occurrences_in}
-use Rattle.node_laws.specs.readings.Worlds.{IsInitOfHost}
-use Rattle.node_laws.specs.views.Inits.{IsBegunByHost}
 use Rattle.node_laws.proofs.views.Lines.{none_zero}
-use Rattle.node_laws.specs.power.Powers.{CutsEndParts}
 use Rattle.node_laws.proofs.power.Histories.{cuts_end}
-use Rattle.node_laws.specs.answers.Answered.{Answered, AreDue, AreLeftShort, AreReset, ends_in, is_left_short}
-use Rattle.node_laws.specs.answers.Moments.{AtEachEntry, AtEachOccurrence}
-use Rattle.trace_model.specs.Lines.{IsNodeHeader}
-use Rattle.node_laws.specs.schedules.Ranges.{AreNodeLinesOf, lines_asking}
+use Rattle.node_laws.specs.answers.Answered.{AreLeftShort}
 use Rattle.node_laws.proofs.schedules.Ranges.{hosts_are, playable, sent_by_hosts, inits_of_hosts, hosts_few}
 use Rattle.node_laws.proofs.schedules.Few.{are_few}
-use Rattle.node_laws.specs.answers.Order.{NodesHearFirst, TurnsAscend}
 use Rattle.std.proofs.lemmas.Map.Keys.{sorted_from_strictly_increasing}
 use Rattle.node_laws.proofs.worlds.Ascending.{rising}
 use Rattle.node_laws.proofs.worlds.Turns.{turns_ascend}
@@ -33,8 +24,6 @@ use Rattle.node_laws.proofs.turns.Lines.{in_turn}
 use Rattle.node_laws.proofs.order.LegalLemmas.{legal}
 use Rattle.node_laws.specs.answers.Headline.{IsLegal, IsPlayed, PlayedHistory}
 use Rattle.node_laws.specs.answers.Headline.PlayedHistory.{OfLink, OfNodes}
-use Rattle.node_laws.specs.bounds.Commands.{commands_by_events}
-use Rattle.node_laws.specs.reply_passes.Counts.{commands_noted}
 use Rattle.node_laws.proofs.bounds.Lines.{front_asked, lines_bounded}
 use Rattle.node_laws.proofs.hosts.Histories.{hosts_answer}
 use Rattle.node_laws.proofs.shorts.Histories.{hosts_left_short}

@@ -4,44 +4,22 @@ use Rattle.std.specs.Prelude.{◌==◌, Some, None, is_some}
 use Rattle.std.specs.List.{AllByRecursion, flat_map}
 use Rattle.std.proofs.lemmas.Bool.{true≢false}
 use Rattle.registry.proofs.ValueLemmas.{AllByRecursion-append as all_append}
-use Rattle.trace_model.specs.Lines.{IsNodeHeader}
-use Rattle.trace_model.specs.declared.entry.Entry.{Entry}
+use Rattle.node_laws.proofs.Words.{Activates, AreDifferent, AreHosts, AreNodeLinesOf, AreNotOf, ArePlayable, Arms, AsksReset, AtEachOccurrence, AtEnd}
+use Rattle.node_laws.proofs.Words.{BeginsPass, Boots, Comes, Controller, Cut, Emit, End, Entry, FollowsNodes, Gives, Happening, HasEnds, Header, Host, Inits}
+use Rattle.node_laws.proofs.Words.{IsAscending, IsCut, IsFew, IsNodeHeader, IsOrderly, IsSentByHost, KeepsBetween, Line, Link, LinkInput, Loses, Lost}
+use Rattle.node_laws.proofs.Words.{NextFrame, NodeHistory, NodeWorld, Occurrence, ReadsInStep, Reset, Resets, Running, Site, Start, Starts, Take, Takes, Ticks}
+use Rattle.node_laws.proofs.Words.{TimePasses, Took, Work, after_near_tick, aged, all_aged, all_flat, arrival, as_it_ticks, by_coming, by_host, by_option}
+use Rattle.node_laws.proofs.Words.{by_test, comes_at, comes_to, comes_to_pass, commands_by_events, controller_begins, controller_does, controller_ticks, end_c}
+use Rattle.node_laws.proofs.Words.{end_h, end_of, ending_entries, ending_of, entries_for, entries_in, exchanged, frames_noted, host_work, hosts_tick, input_of}
+use Rattle.node_laws.proofs.Words.{is_left_short, is_of_node, link_to, makes_step, near_end_in, near_tick, new_world, node_entries, node_of, occurrences_in}
+use Rattle.node_laws.proofs.Words.{port_at, runs_in, seen_from, steps, wires_for, world_behind, world_step}
 use Rattle.trace_model.specs.declared.entry.Entry.TheVariants as entry
-use Rattle.trace_model.specs.declared.line.End.{End}
-use Rattle.trace_model.specs.declared.line.Header.{Header}
-use Rattle.trace_model.specs.declared.line.Line.{Line}
-use Rattle.link_laws.specs.machine.Machine.{LinkInput}
-use Rattle.link_laws.specs.machine.Machine.LinkInput.{Reset, Start, Take}
-use Rattle.link_laws.specs.messages.Links.{Comes, Link, aged, exchanged}
-use Rattle.link_laws.specs.messages.Links.Comes.{AsksReset, NextFrame, Starts}
-use Rattle.link_laws.specs.entries.Entries.{End as Side, Entry as Noted, ending_entries}
-use Rattle.link_laws.specs.entries.Entries.Entry.{Cut, Emit, Lost, Took}
-use Rattle.link_laws.specs.entries.Entries.End.{Controller, Host}
-use Rattle.history.specs.Follows.{seen_from}
-use Rattle.history.specs.Steps.{end_of, entries_for}
-use Rattle.node_machine.specs.Parts.{Running, Work}
-use Rattle.node_machine.specs.Carrying.{port_at}
-use Rattle.node_machine.specs.Node.{steps}
-use Rattle.node_machine.specs.Node.NodeInput.{AtEnd, TimePasses}
-use Rattle.node_machine.specs.world.World.{Happening, NodeWorld, Site, all_aged, arrival, comes_at, comes_to, controller_does, controller_ticks, end_c, end_h}
-use Rattle.node_machine.specs.world.World.{ending_of, frames_noted, host_work, hosts_tick, input_of, link_to, near_end_in, new_world, node_of, wires_for}
-use Rattle.node_machine.specs.world.World.{world_step}
-use Rattle.node_machine.specs.world.World.Happening.{Activates, Arms, Boots, Gives, Inits, IsCut, Loses, Resets, Takes, Ticks}
-use Rattle.node_machine.specs.world.Lines.{Occurrence}
-use Rattle.node_machine.specs.world.NodeHistories.{FollowsNodes, NodeHistory, entries_in, node_entries, occurrences_in}
-use Rattle.node_machine.proofs.world.Cases.{after_near_tick, by_coming, by_host, near_tick}
-use Rattle.node_laws.specs.kept.Hosts.{AreDifferent, AreHosts, IsFew, IsSentByHost}
-use Rattle.node_laws.specs.telling.Telling.{HasEnds, IsOrderly, world_behind}
-use Rattle.node_laws.proofs.All.{all_flat}
-use Rattle.node_laws.proofs.Cases.{by_option, by_test}
+use Rattle.link_laws.specs.entries.Entries.{End as Side, Entry as Noted}
 use Rattle.node_laws.proofs.telling.Events.{comes_goes, orderly_map}
 use Rattle.node_laws.proofs.telling.Frames.{ending_all}
 use Rattle.node_laws.proofs.telling.Lasting.{AreCaused, events_of_steps, lines_caused}
 use Rattle.node_laws.proofs.telling.Powers.{entries_uncut}
 use Rattle.node_laws.proofs.telling.WorldTicks.{near_orderly}
-use Rattle.node_laws.specs.links.Runs.{ArePlayable}
-use Rattle.node_laws.specs.passes.Steps.{comes_to_pass, controller_begins}
-use Rattle.node_laws.specs.power.Powers.{AreNotOf, is_of_node}
 use Rattle.node_laws.proofs.order.Lines.{IsSo, history_so}
 use Rattle.node_laws.proofs.passes.Before.{links_none}
 use Rattle.node_laws.proofs.power.Events.{both_nodes, near_runs, none_zero, others_tick}
@@ -55,14 +33,6 @@ use Rattle.node_laws.proofs.views.Events.{ticks_leave}
 use Rattle.node_laws.proofs.views.Leaving.{IsStill, Leaves, still_leaves}
 use Rattle.node_laws.proofs.views.Nodes.{arrival_still, frames_still, others_step}
 use Rattle.node_laws.proofs.views.Worlds.{orderly_fine}
-use Rattle.node_laws.specs.answers.Answered.{is_left_short, makes_step}
-use Rattle.node_laws.specs.answers.Moments.{AtEachOccurrence, runs_in}
-use Rattle.node_laws.specs.answers.Order.{IsAscending}
-use Rattle.node_laws.specs.replies.Passes.{BeginsPass}
-use Rattle.node_laws.specs.schedules.Ranges.{AreNodeLinesOf}
-use Rattle.node_laws.specs.read_steps.Works.{ReadsInStep}
-use Rattle.node_laws.specs.read_steps.Worlds.{KeepsBetween, as_it_ticks}
-use Rattle.node_laws.specs.bounds.Commands.{commands_by_events}
 use Rattle.node_laws.proofs.reply_passes.Whole.{comes_begins, tick_begins}
 use Rattle.node_laws.proofs.replies.Calm.{AreCalm, IsUnheard, calm_both}
 use Rattle.node_laws.proofs.replies.Histories.{comes_known, tick_known}

@@ -5,34 +5,17 @@ use Rattle.std.specs.List.{AllByRecursion, flat_map}
 use Rattle.std.specs.Option.{option_map_or}
 use Rattle.std.proofs.lemmas.Bool.{eqb-true, eqb-false, ne_eqb, eq-eqb}
 use Rattle.swp_base.specs.declared.link_terms.Cause.{Cause as EndedBy}
-use Rattle.trace_model.specs.declared.entry.Entry.{Entry}
-use Rattle.trace_model.specs.declared.line.End.{End}
-use Rattle.link_laws.specs.sessions.Sessions.{is_up}
-use Rattle.link_laws.specs.machine.Machine.{LinkInput, LinkEnd, reset_refusal, ended_by}
-use Rattle.link_laws.specs.machine.Machine.LinkInput.{Reset}
-use Rattle.link_laws.specs.messages.Links.{Comes, Link, NumberedEnd, exchanged}
-use Rattle.link_laws.specs.messages.Links.Comes.{AsksReset, NoInput}
-use Rattle.link_laws.specs.entries.Entries.End.{Controller, Host}
-use Rattle.history.specs.Filters.{same_end}
-use Rattle.history.specs.Steps.{end_of, entries_for}
-use Rattle.node_machine.specs.Parts.{Desk, Running, Port, Work, Deed}
-use Rattle.node_machine.specs.Carrying.{own_side, port_at}
-use Rattle.node_machine.specs.Node.{input_at, steps, begins_with}
-use Rattle.node_machine.specs.Node.NodeInput.{AtEnd}
-use Rattle.node_machine.specs.world.World.{Site, NodeWorld, site_at, link_to, near_end_in, arrival, wires_for, work_of, frames_noted, comes_to, end_c, end_h}
-use Rattle.node_machine.specs.world.World.{port_for, controller_does, controller_work, host_work, host_does, comes_at, input_of}
-use Rattle.node_machine.proofs.world.Cases.{by_controller, by_host, by_coming}
-use Rattle.node_laws.specs.kept.Hosts.{AreDifferent}
-use Rattle.node_laws.proofs.Cases.{by_list, by_test}
+use Rattle.node_laws.proofs.Words.{AreDifferent, AsksReset, AtEnd, Comes, Controller, Deed, Desk, End, Entry, HasEnds, Host, IfItRuns, IsOrderly, Link, LinkEnd}
+use Rattle.node_laws.proofs.Words.{LinkInput, NoInput, NodeWorld, NumberedEnd, Port, Reset, Running, Site, Work, arrival, begins_with, by_coming, by_controller}
+use Rattle.node_laws.proofs.Words.{by_host, by_list, by_test, comes_at, comes_to, controller_begins, controller_does, controller_work, end_c, end_h, end_of}
+use Rattle.node_laws.proofs.Words.{ended_by, entries_for, exchanged, frames_noted, host_does, host_work, hosts_in, input_at, input_of, is_own_reset, is_up}
+use Rattle.node_laws.proofs.Words.{link_to, near_end_in, own_side, port_at, port_for, reset_refusal, same_end, site_at, steps, wires_for, work_of}
 use Rattle.node_laws.proofs.links.Noticing.{at_host}
 use Rattle.node_laws.proofs.readings.Sites.{near_end_side}
-use Rattle.node_laws.specs.telling.Telling.{HasEnds, IfItRuns, hosts_in, IsOrderly}
 use Rattle.node_laws.proofs.telling.Nodes.{ports_for, hosts_same, site_host, link_is, Stands, stands}
 use Rattle.node_laws.proofs.telling.Worlds.{site_is}
 use Rattle.node_laws.proofs.notices.Doing.{controller_side}
-use Rattle.node_laws.specs.passes.Steps.{controller_begins}
 use Rattle.node_laws.proofs.worlds.Causes.{reset_asked}
-use Rattle.node_laws.specs.answers.Unasked.{is_own_reset}
 use Rattle.node_laws.proofs.worlds.Downs.{NotesNoEnd, ends_in_list, any_none, any_back, ends_by, arrival_downless, frames_downless, flat_downless, deeds_tell}
 use Rattle.node_laws.proofs.worlds.Telling.{step_none, step_other, step_at, near_same, far_same}
 

@@ -3,33 +3,14 @@ use Rattle.std.proofs.Common.{◌≡◌, ℕ, zero, suc, ◌≤◌, Bool, true, 
 use Rattle.std.specs.Prelude.{◌==◌, Option, Some, None, is_some, unwrap_or, replicate, Contains}
 use Rattle.std.specs.Option.{option_map_or}
 use Rattle.std.proofs.lemmas.Bool.{ne_eqb, true≢false}
-use Rattle.swp_base.specs.declared.control_frames.Control.{Control}
-use Rattle.swp_lpdu.specs.Controls.{lpdu_of}
-use Rattle.trace_model.specs.Lines.{IsHost, IsNodeHeader}
-use Rattle.trace_model.specs.declared.line.End.{End}
-use Rattle.trace_model.specs.declared.line.Header.{Header}
-use Rattle.trace_model.specs.declared.line.Line.{Line}
+use Rattle.node_laws.proofs.Words.{AtEnd, Control, End, GoesOut, Happening, Header, IsHost, IsNodeHeader, IsNodeLineOf, Line, Link, LinkInput, LostFor}
+use Rattle.node_laws.proofs.Words.{NextFrame, NoInput, NodeWorld, OnWire, Resets, Same, Site, Take, Takes, Ticks, Turn, Undetected, Verdict, Work, after_input}
+use Rattle.node_laws.proofs.Words.{by_coming, by_controller, by_test, controller_does, controller_work, ended_by, ending_of, first_verdict, frames_at}
+use Rattle.node_laws.proofs.Words.{frames_out, happenings, happens_by, has_taken, is_rset, link_after_controller, link_to, lpdu_of, put, put_all, refusal_in}
+use Rattle.node_laws.proofs.Words.{runs_on, site_at, steps, steps_at_controller, taken_of, turned, turns_at, with_ended, world_step}
 use Rattle.trace_model.specs.declared.line.Line.TheVariants as line
-use Rattle.link_laws.specs.sessions.Sessions.{OnWire, is_rset}
-use Rattle.link_laws.specs.machine.Machine.{LinkInput, Turn, after_input, ended_by, frames_out, turned}
-use Rattle.link_laws.specs.machine.Machine.LinkInput.{Take}
-use Rattle.link_laws.specs.messages.Links.{Link, has_taken, put, put_all, steps_at_controller, with_ended}
-use Rattle.link_laws.specs.messages.Links.Comes.{NextFrame, NoInput}
-use Rattle.link_laws.specs.messages.Links.Ending.{GoesOut}
-use Rattle.history.specs.Damage.{Verdict, verdict_on}
-use Rattle.history.specs.Damage.Verdict.{LostFor, Same, Undetected}
-use Rattle.history.specs.Follows.{first_verdict, taken_of}
-use Rattle.node_machine.specs.Parts.{Work}
-use Rattle.node_machine.specs.Node.{steps}
-use Rattle.node_machine.specs.Node.NodeInput.{AtEnd}
-use Rattle.node_machine.specs.world.World.{Happening, NodeWorld, Site, controller_does, controller_work, ending_of, link_after_controller}
-use Rattle.node_machine.specs.world.World.{link_to, runs_on, site_at, turns_at, world_step}
-use Rattle.node_machine.specs.world.World.Happening.{Resets, Takes, Ticks}
-use Rattle.node_machine.specs.world.Lines.{frames_at, happenings, happens_by, refusal_in}
-use Rattle.node_machine.proofs.world.Cases.{by_coming, by_controller}
-use Rattle.node_laws.proofs.Cases.{by_test}
+use Rattle.history.specs.Damage.{verdict_on}
 use Rattle.node_laws.proofs.telling.Lasting.{AllMay, repeated_may}
-use Rattle.node_laws.specs.schedules.Ranges.{IsNodeLineOf}
 
 -- the controller takes a frame only where one stands on its wire, while it runs; and a host whose end takes a frame, or is reset, is no
 -- controller

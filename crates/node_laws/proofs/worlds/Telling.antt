@@ -5,24 +5,11 @@ use Rattle.std.specs.Option.{option_map_or, option_map}
 use Rattle.std.proofs.lemmas.Bool.{eqb-true, eqb-false, ne_eqb}
 use mathlib.Core.Bool.{and-false, and-true, or-false}
 use Rattle.swp_base.specs.declared.link_terms.Cause.{Cause as EndedBy}
-use Rattle.trace_model.specs.declared.entry.Entry.{Entry}
-use Rattle.trace_model.specs.declared.line.End.{End}
-use Rattle.link_laws.specs.machine.Machine.{LinkInput}
-use Rattle.link_laws.specs.machine.Machine.LinkInput.{Tick, Reset}
-use Rattle.link_laws.specs.entries.Entries.End.{Controller, Host}
-use Rattle.history.specs.Filters.{same_end}
-use Rattle.history.specs.Steps.{end_of}
-use Rattle.node_machine.specs.Parts.{Core, Port, Work}
-use Rattle.node_machine.specs.Carrying.{own_side, port_at}
-use Rattle.node_machine.specs.Node.{NodeInput, input_at, told_at, has_come, all_come, with_older, is_late, told_late, steps}
-use Rattle.node_machine.specs.Node.NodeInput.{AtEnd, TimePasses}
-use Rattle.node_machine.specs.world.World.{end_c, end_h}
-use Rattle.node_laws.specs.kept.Books.{hosts_of_ends}
-use Rattle.node_laws.specs.kept.Hosts.{AreDifferent}
-use Rattle.node_laws.proofs.Cases.{by_option, by_test}
+use Rattle.node_laws.proofs.Words.{AreDifferent, AtEnd, Controller, Core, End, Entry, Host, LinkInput, NodeInput, Port, Reset, Tick, TimePasses, Work, all_come}
+use Rattle.node_laws.proofs.Words.{by_option, by_test, end_c, end_h, end_of, has_come, hosts_of_ends, input_at, is_late, own_side, port_at, same_end, steps}
+use Rattle.node_laws.proofs.Words.{told_at, told_late, told_of_coming, told_of_late, with_older}
 use Rattle.node_laws.proofs.kept.Plainly.{hosts_map}
 use Rattle.node_laws.proofs.links.Noticing.{at_all}
-use Rattle.node_laws.specs.passes.Steps.{told_of_coming, told_of_late}
 use Rattle.node_laws.proofs.worlds.Downs.{AreDownless, ends_in_list, any_append, any_front, ends_by, at_any, step_tells}
 
 pub near_same : (h x : ℕ) → same_end (end_of h Controller) (end_c x) ≡ eqb h x

@@ -7,42 +7,22 @@ use Rattle.std.specs.Option.{option_map_or, option_and_then}
 use Rattle.std.proofs.lemmas.Bool.{and_parts}
 use mathlib.Core.Bool.{and-false, or-false}
 use Rattle.swp_base.specs.declared.link_terms.Cause.{Cause as EndedBy}
-use Rattle.trace_model.specs.declared.entry.Entry.{Entry}
-use Rattle.trace_model.specs.declared.line.End.{End}
-use Rattle.link_laws.specs.machine.Machine.{LinkInput, ended_by}
-use Rattle.link_laws.specs.machine.Machine.LinkInput.{Tick, Reset}
-use Rattle.link_laws.specs.messages.Links.{NumberedEnd, aged, exchanged}
-use Rattle.link_laws.specs.entries.Entries.{aged_entries}
-use Rattle.link_laws.specs.entries.Entries.End.{Controller, Host}
-use Rattle.history.specs.Filters.{same_end}
-use Rattle.history.specs.Steps.{end_of, entries_for}
-use Rattle.node_machine.specs.Parts.{Desk, Notice, Core, Running, Port, Work}
-use Rattle.node_machine.specs.Carrying.{own_side}
-use Rattle.node_machine.specs.Node.{told_at, has_come, all_come, with_older, is_late, told_late, steps}
-use Rattle.node_machine.specs.Node.NodeInput.{TimePasses}
-use Rattle.node_machine.specs.world.World.{Site, NodeWorld, site_at, link_to, work_of, frames_noted, end_c, port_for, all_aged, controller_ticks, host_ticks}
-use Rattle.node_machine.specs.world.World.{hosts_tick, world_ticks}
-use Rattle.node_machine.specs.world.NodeFilters.{notice_in}
-use Rattle.node_machine.proofs.world.Cases.{after_near_tick, near_tick, by_controller_tick, by_host_tick, host_tick, site_ticked, site_unticked}
-use Rattle.node_laws.specs.kept.Hosts.{AreDifferent}
-use Rattle.node_laws.specs.links.Notices.{IsComing}
-use Rattle.node_laws.proofs.Cases.{by_option}
+use Rattle.node_laws.proofs.Words.{AreDifferent, Controller, Core, Desk, End, Entry, HasEnds, Host, IfItRuns, IfNoticedUp, IfReads, IsComing, IsKeptNotice}
+use Rattle.node_laws.proofs.Words.{IsOrderly, KeepsNotices, LinkInput, NodeWorld, Notice, NumberedEnd, Port, Reset, Running, Site, Tick, TimePasses, Work}
+use Rattle.node_laws.proofs.Words.{after_near_tick, aged, aged_entries, all_aged, all_come, by_controller_tick, by_host_tick, by_option, controller_tick_begins}
+use Rattle.node_laws.proofs.Words.{controller_ticks, end_c, end_of, ended_by, entries_for, exchanged, frames_noted, has_come, host_tick, host_ticks, hosts_in}
+use Rattle.node_laws.proofs.Words.{hosts_tick, is_late, is_own_reset, link_to, near_tick, notice_in, own_side, port_for, same_end, site_at, site_ticked}
+use Rattle.node_laws.proofs.Words.{site_unticked, steps, told_at, told_late, told_of_coming, told_of_late, with_older, work_of, world_ticks}
 use Rattle.node_laws.proofs.readings.Silent.{IsQuiet}
 use Rattle.node_laws.proofs.telling.Frames.{wires_all}
-use Rattle.node_laws.specs.telling.Telling.{HasEnds, IfItRuns, hosts_in, IsOrderly}
 use Rattle.node_laws.proofs.telling.Nodes.{ports_for, hosts_same, Stands, stands}
 use Rattle.node_laws.proofs.telling.Events.{orderly_map}
 use Rattle.node_laws.proofs.telling.WorldTicks.{near_orderly}
-use Rattle.node_laws.specs.notices.Notices.{IsKeptNotice}
-use Rattle.node_laws.specs.notices.Worlds.{IfReads, KeepsNotices}
 use Rattle.node_laws.proofs.notices.Doing.{IsOn, controller_side}
 use Rattle.node_laws.proofs.notices.Near.{begins, aged_side}
 use Rattle.node_laws.proofs.notices.Sites.{link_shut}
 use Rattle.node_laws.proofs.notices.Stepping.{IsCome, come_is, older_is, reset_ends}
 use Rattle.node_laws.proofs.links.Noticing.{UpAt}
-use Rattle.node_laws.specs.readings.Noticed.{IfNoticedUp}
-use Rattle.node_laws.specs.passes.Steps.{controller_tick_begins, told_of_coming, told_of_late}
-use Rattle.node_laws.specs.answers.Unasked.{is_own_reset}
 use Rattle.node_laws.proofs.worlds.Causes.{otherwise, ticked_asked, other_is, reset_only, reset_other}
 use Rattle.node_laws.proofs.worlds.Downs.{AreDownless, any_front, any_back, any_append, ends_by, at_any, frames_downless, flat_downless, step_tells}
 use Rattle.node_laws.proofs.worlds.Downs.{notes_downless}

@@ -2,42 +2,20 @@
 use Rattle.std.proofs.Common.{◌≡◌, ℕ, cond, false, List, [], ◌∷◌, ◌++◌, Some, None, refl, sym, ap, subst, ◌∙◌, append-nil}
 use Rattle.std.specs.List.{AllByRecursion, flat_map, filter_map}
 use Rattle.registry.proofs.ValueLemmas.{AllByRecursion-append as all_append}
-use Rattle.trace_model.specs.declared.entry.Entry.{Entry}
-use Rattle.trace_model.specs.declared.line.End.{End}
-use Rattle.trace_model.specs.declared.line.Header.{Header}
-use Rattle.trace_model.specs.declared.line.Line.{Line}
-use Rattle.link_laws.specs.machine.Machine.LinkInput.{Start}
-use Rattle.link_laws.specs.messages.Links.{Loss, Comes, exchanged}
-use Rattle.link_laws.specs.messages.Links.Comes.{NextFrame, AsksReset, Starts, NoInput}
-use Rattle.link_laws.specs.entries.Entries.{first_lost, aged_entries}
-use Rattle.link_laws.specs.entries.Entries.End.{Controller, Host}
-use Rattle.history.specs.Steps.{entries_for}
-use Rattle.node_machine.specs.Parts.{Work, Deed}
-use Rattle.node_machine.specs.Node.{steps, begins_with}
-use Rattle.node_machine.specs.Node.NodeInput.{AtEnd, TimePasses}
-use Rattle.node_machine.specs.world.World.{Site, NodeWorld, Happening, link_to, wires_for, work_of, frames_noted, comes_to, controller_work, host_work}
-use Rattle.node_machine.specs.world.World.{host_does, boots, frame_lost, all_aged, controller_ticks, host_ticks, world_ticks, sending, beginning, comes_at}
-use Rattle.node_machine.specs.world.World.{end_c, end_h, world_step, controller_does, activates, new_world, near_end_in, arrival}
-use Rattle.node_machine.specs.world.World.Happening.{Boots, IsCut, Gives, Inits, Takes, Loses, Ticks, Resets, Activates, Arms}
-use Rattle.node_machine.specs.world.NodeHistories.{NodeHistory, FollowsNodes}
-use Rattle.node_machine.proofs.world.Cases.{by_controller, by_host, by_coming, by_boot, by_loss, near_tick, by_controller_tick, host_tick, by_host_tick}
-use Rattle.node_laws.specs.telling.Telling.{IfItRuns, hosts_in, IsOrderly, HasEnds, world_behind}
-use Rattle.node_laws.proofs.All.{all_flat}
-use Rattle.node_laws.specs.passes.Steps.{controller_begins, controller_tick_begins}
-use Rattle.node_laws.specs.power.Powers.{AreNotOf, is_of_node}
-use Rattle.node_laws.specs.answers.Order.{TurnsAscend, turn_link, IsAscending}
+use Rattle.node_laws.proofs.Words.{Activates, AreHosts, AreNoTurns, AreNotOf, ArePlayable, Arms, AsksReset, AtEnd, Boots, Comes, Controller, Deed, End, Entry}
+use Rattle.node_laws.proofs.Words.{FollowsNodes, Gives, Happening, HasEnds, Header, Host, IfItRuns, Inits, IsAscending, IsCut, IsNoTurn, IsOrderly, Line}
+use Rattle.node_laws.proofs.Words.{LinkInput, Loses, Loss, NextFrame, NoInput, NodeHistory, NodeWorld, Resets, Site, Start, Starts, Takes, Ticks, TimePasses}
+use Rattle.node_laws.proofs.Words.{TurnsAscend, Work, activates, aged_entries, all_aged, all_done, all_flat, arrival, beginning, begins_with, boots, by_boot}
+use Rattle.node_laws.proofs.Words.{by_coming, by_controller, by_controller_tick, by_host, by_host_tick, by_loss, comes_at, comes_to, controller_begins}
+use Rattle.node_laws.proofs.Words.{controller_does, controller_tick_begins, controller_ticks, controller_work, end_c, end_h, entries_for, exchanged, first_lost}
+use Rattle.node_laws.proofs.Words.{frame_lost, frames_noted, host_does, host_tick, host_ticks, host_work, hosts_in, is_of_node, link_to, near_end_in, near_tick}
+use Rattle.node_laws.proofs.Words.{new_world, noted_by_deeds, sending, steps, turn_link, wires_for, work_of, world_behind, world_step, world_ticks}
 use Rattle.node_laws.proofs.worlds.Steps.{host_begins, near_node, far_node}
 use Rattle.trace_model.specs.declared.entry.Entry.TheVariants as entry
-use Rattle.link_laws.specs.machine.Machine.{LinkInput}
-use Rattle.node_machine.specs.Carrying.{all_done}
 use Rattle.node_laws.proofs.telling.Nodes.{hosts_same}
-use Rattle.node_laws.specs.passes.Noting.{noted_by_deeds}
-use Rattle.node_laws.specs.passes.Passing.{AreNoTurns, IsNoTurn}
 use Rattle.node_laws.proofs.passes.Before.{links_none}
 use Rattle.node_laws.proofs.passes.Notes.{deeds_note}
 use Rattle.node_laws.proofs.passes.Turnless.{noted_none, NotesNoTurn, sending_turnless, beginning_turnless}
-use Rattle.node_laws.specs.kept.Hosts.{AreHosts}
-use Rattle.node_laws.specs.links.Runs.{ArePlayable}
 use Rattle.node_laws.proofs.order.Lines.{history_so}
 use Rattle.node_laws.proofs.order.Asked.{AreDone, done_back, history_done}
 use Rattle.node_laws.proofs.worlds.Ascending.{AllAscend, ascends_part, turnless_ascend, frames_turnless, step_ascends, links_append, none_there}

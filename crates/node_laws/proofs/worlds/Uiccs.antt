@@ -4,25 +4,14 @@ use Rattle.std.specs.Prelude.{◌+◌, nat_le}
 use Rattle.std.specs.List.{AllByRecursion, flat_map, filter}
 use Rattle.std.proofs.lemmas.Bool.{cond_both}
 use Rattle.swp_base.specs.declared.control_frames.Act.{Act}
-use Rattle.swp_base.specs.declared.control_frames.Act.TheVariants.{SyncId, Ready, PowerMode}
-use Rattle.swp_act.specs.declared.ActEvent.{ActEvent}
+use Rattle.node_laws.proofs.Words.{ActEvent, AtEnd, Awaiting, Bare, Clf, Core, Inactive, IsUicc, LinkInput, NodeInput, Phase, Port, PowerMode, Ready, Response}
+use Rattle.node_laws.proofs.Words.{Role, SyncId, TimePasses, Uicc, UiccAct, Work, act_event, act_out, all_come, all_owed, asked_at, by_option, by_test, forgets}
+use Rattle.node_laws.proofs.Words.{has_come, has_come_so, has_freed, has_synced, input_at, is_late, no_act_out, noted_before_pass, noted_by_deeds, out_ticked}
+use Rattle.node_laws.proofs.Words.{owed, owed_in_step, report, reset_late, synced, told_of_coming, uicc_step, with_older}
 use Rattle.swp_act.specs.declared.ActEvent.TheVariants.{Start as ActStart, Take as ActTake, Tick as ActTick, Stop as ActStop}
-use Rattle.swp_act.specs.declared.Phase.{Phase}
-use Rattle.swp_act.specs.declared.Phase.TheVariants.{Inactive, Awaiting, Active as ActiveNow}
-use Rattle.swp_act.specs.declared.uicc.UiccAct.{UiccAct}
-use Rattle.swp_act.specs.Activation.{uicc_step, out_ticked, sends, no_act_out}
-use Rattle.gate_answers.specs.declared.response.Response.{Response}
+use Rattle.swp_act.specs.declared.Phase.TheVariants.{Active as ActiveNow}
+use Rattle.swp_act.specs.Activation.{sends}
 use Rattle.gate_answers.specs.declared.response.Response.TheVariants as response
-use Rattle.link_laws.specs.machine.Machine.{LinkInput, Role, report, act_event, act_out}
-use Rattle.link_laws.specs.machine.Machine.Role.{Bare, Clf, Uicc}
-use Rattle.link_laws.specs.messages.Links.{IsUicc}
-use Rattle.node_machine.specs.Parts.{Core, Port, Work}
-use Rattle.node_machine.specs.Controller.{asked_at}
-use Rattle.node_machine.specs.Node.{NodeInput, all_come, all_owed, forgets, has_come, input_at, is_late, owed, reset_late, synced, with_older}
-use Rattle.node_machine.specs.Node.NodeInput.{AtEnd, TimePasses}
-use Rattle.node_laws.specs.passes.Noting.{noted_by_deeds}
-use Rattle.node_laws.specs.passes.Steps.{has_come_so, has_freed, has_synced, noted_before_pass, owed_in_step, told_of_coming}
-use Rattle.node_laws.proofs.Cases.{by_option, by_test}
 use Rattle.node_laws.proofs.readings.Stepping.{forgets_same}
 
 -- ## Identifiers
