@@ -4,7 +4,7 @@ use Rattle.std.proofs.Common.{refl, ap, sym, subst, ◌∙◌, length, append_as
 use Rattle.std.proofs.Common.{arith, map}
 use Rattle.std.specs.Prelude.{replicate}
 use Rattle.std.specs.List.{AllByRecursion}
-use Rattle.std.proofs.lemmas.Bool.{eqb-true, eq-eqb}
+use Rattle.std.proofs.lemmas.Bool.{eqb-true}
 use Rattle.node_laws.proofs.Words.{AcksAtMost, Activates, AreDifferent, AreHosts, ArePlayable, End, FollowsNodes, Gives, GoesOnLink, Good, Happening, Header}
 use Rattle.node_laws.proofs.Words.{IsLine, Line, Link, LinkEvent, NodeHistory, NodeWorld, Occurrence, Reached, Resets, Site, Takes, after_link_events}
 use Rattle.node_laws.proofs.Words.{all_happen, by_test, can_happen, core_of, end_takes_all, ends_events, ends_in_order, ends_take_all, events_on, frames_at}
@@ -28,6 +28,7 @@ use Rattle.node_laws.proofs.rounds.Allowing.{fine_there, round_allowed}
 use Rattle.node_laws.proofs.rounds.RoundEvents.{ArePassing, all_go, takes_pass, ends_go, round_goes}
 use Rattle.node_laws.proofs.acked.RoundsInTurn.{round_in_turn}
 use Rattle.node_laws.proofs.rounds.Ends.{events-append}
+use Rattle.node_laws.proofs.worlds.Histories.{all_found}
 
 -- ## Worlds that may be reached
 
@@ -151,18 +152,6 @@ other_number (x ∷ sites) h n s a q = by_test (x.host == h)
     (λ p. let same : x.host ≡ h = eqb-true x.host h p in swapped h n (ap (λ k. k == n) (sym same) ∙ a.0))
     (λ p. other_number sites h n s a.1 (rw p at q))
 
--- what holds of the site with each number holds of all
-all_of : (P : Site → Type 0) (sites : List Site) → AreDifferent (hosts_in sites) → ((h : ℕ) (s : Site) → site_at sites h ≡ Some s → P s)
-    → AllByRecursion P sites
-all_of P [] d each = tt
-all_of P (x ∷ sites) d each = (each x.host x found, all_of P sites d.1 (λ h s q. each h s (behind h s q)))
-  where
-    found : site_at (x ∷ sites) x.host ≡ Some x
-    found = let same : (x.host == x.host) ≡ true = eq-eqb x.host x.host refl in rw same refl
-
-    behind : (h : ℕ) (s : Site) → site_at sites h ≡ Some s → site_at (x ∷ sites) h ≡ Some s
-    behind h s q = let other : (x.host == h) ≡ false = other_number sites h x.host s d.0 q in rw other q
-
 -- where hosts stay, a site is found where one was found
 found_before : (sites later : List Site) (h : ℕ) (t : Site) → hosts_in later ≡ hosts_in sites → site_at later h ≡ Some t
     → (s : Site) × (site_at sites h ≡ Some s)
@@ -182,7 +171,7 @@ found_before (x ∷ sites) (y ∷ later) h t same q = by_test (x.host == h)
 
 pub all_within : (more b : ℕ) (w v : NodeWorld) → IsSound w → hosts_in v.sites ≡ hosts_in w.sites
     → ((h : ℕ) (s : Site) → site_at w.sites h ≡ Some s → HostAcksAtMost more h s v) → AreAckedWithin b w → AreAckedWithin (b + more) v
-all_within more b w v s same each a = all_of (λ (t : Site). IsAckedWithin (b + more) t.link) v.sites (subst AreDifferent (sym same) s.different) one
+all_within more b w v s same each a = all_found (λ (t : Site). IsAckedWithin (b + more) t.link) v.sites (subst AreDifferent (sym same) s.different) one
   where
     one : (h : ℕ) (t : Site) → site_at v.sites h ≡ Some t → IsAckedWithin (b + more) t.link
     one h t q =

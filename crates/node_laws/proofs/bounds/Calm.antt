@@ -1,19 +1,20 @@
 -- The ends of hosts between events: none has a frame of activation that is due, and none on its way to it is sent again.
 use Rattle.std.proofs.Common.{◌≡◌, ℕ, ◌+◌, ◌≤◌, Bool, true, false, cond, List, [], ◌∷◌, map, sym, ap, ◌∙◌, subst, arith, None}
-use Rattle.std.specs.Prelude.{is_some, not, ◌&&◌}
+use Rattle.std.specs.Prelude.{not, ◌&&◌}
 use Rattle.std.specs.List.{AllByRecursion}
 use Rattle.std.proofs.lemmas.Bool.{cond_both}
 use Rattle.node_laws.proofs.Words.{AllAllowed, AtController, AtHost, Bare, Clf, Comes, Control, CutOff, Ending, Good, IsClf, IsLine, IsRun, IsUicc, Link}
 use Rattle.node_laws.proofs.Words.{LinkEnd, LinkEvent, LinkInput, Lose, Loss, NextFrame, NoInput, NumberedEnd, OnWire, Reached, Reset, Role, Site, Step, Take}
-use Rattle.node_laws.proofs.Words.{Tick, Turn, Uicc, after_input, after_link_events, aged, core_event, core_of, ended_by, event_step, exchanged, happens}
-use Rattle.node_laws.proofs.Words.{happens_at_controller, has_input, host_ended, host_finished, is_waiting, new_line, reached_more, start_good, start_reached}
-use Rattle.node_laws.proofs.Words.{ticked_so, ticks_at_controller, turned, with_ended}
+use Rattle.node_laws.proofs.Words.{Tick, Turn, Uicc, after_link_events, aged, core_event, core_of, event_step, exchanged, happens}
+use Rattle.node_laws.proofs.Words.{happens_at_controller, has_input, is_waiting, new_line, reached_more, start_good, start_reached}
+use Rattle.node_laws.proofs.Words.{ticked_so, ticks_at_controller}
 use Rattle.swp_base.specs.declared.control_frames.Control.TheVariants.{Act as ActFrame}
 use Rattle.link_laws.proofs.messages.ActsInOrder.{ActsInOrder, Without, is_again}
 use Rattle.node_laws.proofs.links.Ends.{here_host}
 use Rattle.node_laws.proofs.links.Worlds.{IsFineSite}
 use Rattle.node_laws.proofs.bounds.Syncs.{syncs_on, tries_of, ComesOnce}
 use Rattle.node_laws.proofs.bounds.Links.{Rests, FirstOnce, taken_by, start_by, aged_less, drop_less, input_in, step_in, step_out, tick_out, cut_out}
+use Rattle.node_laws.proofs.telling.WorldTicks.{host_left}
 
 -- ## Runs
 
@@ -92,15 +93,10 @@ near_holds l comes ts ending =
     ap (λ (k : NumberedEnd). tries_of k.side.role) (here_host l (Step comes ts ending)) in
     omega (arith, step_in l comes ts ending, same)
 
-input_host : (l : Link) (i : LinkInput) (ts : List Turn) (ending : Ending) → (has_input l i ts ending).host ≡ l.host
-input_host l i ts ending =
-    host_finished (with_ended l (is_some (ended_by l.controller.side i))) (turned (after_input l.controller.side i) ts) ending
-    ∙ host_ended l (is_some (ended_by l.controller.side i))
-
 input_holds : (l : Link) (i : LinkInput) (ts : List Turn) (ending : Ending) → link_holds (has_input l i ts ending) ≤ link_holds l
 input_holds l i ts ending =
     let same : tries_of (has_input l i ts ending).host.side.role ≡ tries_of l.host.side.role =
-    ap (λ (k : NumberedEnd). tries_of k.side.role) (input_host l i ts ending) in
+    ap (λ (k : NumberedEnd). tries_of k.side.role) (host_left l i ts ending) in
     omega (arith, input_in l i ts ending, same)
 
 pub ticked_holds : (l : Link) (late : Bool) (ts : List Turn) (ending : Ending) → link_holds (ticked_so l late ts ending) ≤ link_holds l
@@ -112,13 +108,13 @@ pub ticked_host : (l : Link) (late : Bool) (ts : List Turn) (ending : Ending) �
 ticked_host l late ts ending =
     ap (λ (k : NumberedEnd). k.side)
     (cond_both (late && not (is_waiting l.controller.side.shdlc)) (has_input l (Reset None) ts ending) (ticks_at_controller l ts ending)
-    (λ (k : Link). k.host ≡ l.host) (λ _. input_host l (Reset None) ts ending) (λ _. input_host l Tick ts ending))
+    (λ (k : Link). k.host ≡ l.host) (λ _. host_left l (Reset None) ts ending) (λ _. host_left l Tick ts ending))
 
 pub near_tick_holds : (l : Link) (ts : List Turn) (ending : Ending) → link_holds (ticks_at_controller l ts ending) ≤ link_holds l
 near_tick_holds l ts ending = input_holds l Tick ts ending
 
 pub near_tick_host : (l : Link) (ts : List Turn) (ending : Ending) → (ticks_at_controller l ts ending).host.side ≡ l.host.side
-near_tick_host l ts ending = ap (λ (k : NumberedEnd). k.side) (input_host l Tick ts ending)
+near_tick_host l ts ending = ap (λ (k : NumberedEnd). k.side) (host_left l Tick ts ending)
 
 -- something happens at the end of the host
 pub far_holds : (l : Link) (comes : Comes) (ts : List Turn) (ending : Ending) → Rests (exchanged l) → (comes ≡ NextFrame → FirstOnce l.to_host)

@@ -13,6 +13,7 @@ use Rattle.link_laws.specs.machine.Machine.{ActDue, among}
 use Rattle.link_laws.proofs.messages.ActsInOrder.{NoActs, no_acts}
 use Rattle.link_laws.proofs.messages.Project.{beside-put_all}
 use Rattle.node_laws.proofs.bounds.Syncs.{sync_frame, sync_act, syncs_on, syncs_due, tries_of, may_send, start_of, ComesOnce, input_sends, turned_sends}
+use Rattle.node_laws.proofs.worlds.Taking.{ended_near}
 
 -- ## Wires
 
@@ -182,14 +183,10 @@ finished_in l e GoesOut =
     omega (arith, ap syncs_on (beside-put_all (frames_out e) l).to_controller)
 finished_in l e CutOff = omega arith
 
-ended_in : (l : Link) (b : Bool) → (with_ended l b).to_controller ≡ l.to_controller
-ended_in l true = refl
-ended_in l false = refl
-
 pub input_in : (l : Link) (i : LinkInput) (ts : List Turn) (ending : Ending) → syncs_on (has_input l i ts ending).to_controller ≤ syncs_on l.to_controller
 input_in l i ts ending =
     let b : Bool = is_some (ended_by l.controller.side i) in
-    omega (arith, finished_in (with_ended l b) (turned (after_input l.controller.side i) ts) ending, ap syncs_on (ended_in l b))
+    omega (arith, finished_in (with_ended l b) (turned (after_input l.controller.side i) ts) ending, ap syncs_on (ended_near l b))
 
 pub step_in : (l : Link) (comes : Comes) (ts : List Turn) (ending : Ending)
     → syncs_on (steps_at_controller l comes ts ending).to_controller + taken_by comes l.to_controller ≤ syncs_on l.to_controller
@@ -197,7 +194,7 @@ step_in l NextFrame ts ending = by_list l.to_controller
     (λ q. rw q (let same : syncs_on l.to_controller ≡ 0 = ap syncs_on q in omega (arith, same)))
     (λ x xs q. rw q (let b : Bool = is_some (ended_by l.controller.side (Take x.frame)) in
     let same : syncs_on (with_ended (record l { to_controller = xs }) b).to_controller ≡ syncs_on xs =
-    ap syncs_on (ended_in (record l { to_controller = xs }) b) in
+    ap syncs_on (ended_near (record l { to_controller = xs }) b) in
     let most = finished_in (left_after l x xs) (turned (after_input l.controller.side (Take x.frame)) ts) ending in
     omega (arith, most, same)))
 step_in l (AsksReset window) ts ending = let most = input_in l (Reset window) ts ending in omega (arith, most)

@@ -23,7 +23,7 @@ use Rattle.node_laws.proofs.notices.Steps.{sessions_tables}
 use Rattle.registry.proofs.ValueLemmas.{AllByRecursion-append as all_joined}
 use Rattle.node_laws.proofs.steps.Ports.{forgets_host, sessions_node, without_host}
 
-answer_response : (r : Response) → is_response (answer_of r []) ≡ true
+pub answer_response : (r : Response) → is_response (answer_of r []) ≡ true
 answer_response response.Ok = refl
 answer_response _ = refl
 
@@ -64,7 +64,7 @@ owed_due test (p ∷ ports) a = by_test (test p) refl (owed_due test ports a.1) 
 
 -- ## What stays of an end
 
-forgets_ended : (all : List Port) (p : Port) → (forgets all p).ended ≡ p.ended
+pub forgets_ended : (all : List Port) (p : Port) → (forgets all p).ended ≡ p.ended
 forgets_ended all p = by_test (is_forgotten all (asked_at p)) (λ e. rw e refl) (λ e. rw e refl)
 
 flags_left : (all ports : List Port) → AreFlagged ports → AreFlagged (map (forgets all) ports)

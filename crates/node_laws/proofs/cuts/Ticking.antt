@@ -14,10 +14,11 @@ use Rattle.node_laws.proofs.kept.Stepping.{steps_fine}
 use Rattle.node_laws.proofs.kept.Standing.{runs_begun}
 use Rattle.node_laws.proofs.kept.Sites.{hosts_in}
 use Rattle.node_laws.proofs.kept.Worlds.{step_keeps, plain_frames}
-use Rattle.node_laws.proofs.kept.Ticking.{moved, none_zero, aged_goes, near_ticks}
+use Rattle.node_laws.proofs.kept.Ticking.{moved, aged_goes, near_ticks}
 use Rattle.node_laws.proofs.kept.Reckoned.{IsNothingFor, plain_idles, other_idles}
 use Rattle.node_laws.proofs.cuts.Standing.{Stands, Exact, exact_idle, exact_then, exact_step}
 use Rattle.node_laws.proofs.cuts.Worlds.{IsThere, StandsAt, ExactAt, stands_far, exact_far, exact_near, plain_exact, run_exact}
+use Rattle.node_laws.proofs.readings.NoticedWorlds.{numbers}
 
 -- one part of an event, and another
 pub exact_both : (n : ℕ) (t : List Entry) (r : Reckoning) (p q : NodeWorld × List Entry) → ExactAt n t r p
@@ -199,7 +200,7 @@ module _ (hosts : List ℕ) (are : AreHosts hosts) (n : ℕ) where
         subst (λ k. ExactAt k t r (v, (hosts_tick w.sites).1)) (sym is)
         (exact_near t r v (hosts_tick w.sites).1
         (exact_idle 0 t r (hosts_tick w.sites).1 w.memory w.controller (subst (λ k. StandsAt k t r w) is stands)
-        (others_tick 0 t w.sites different are_hosts all.sites (none_zero (hosts_in w.sites) are_hosts))))
+        (others_tick 0 t w.sites different are_hosts all.sites (numbers (hosts_in w.sites) are_hosts))))
     by_node (inr far) =
         let s : Site = far.1.0 in
         let rest : SiteStands n t r (hosts_tick w.sites) =

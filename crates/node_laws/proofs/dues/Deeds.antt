@@ -15,10 +15,11 @@ use Rattle.node_laws.proofs.creations.Coming.{ComeAt, over_at}
 use Rattle.node_laws.proofs.creations.Doing.{many}
 use Rattle.node_laws.specs.answers.Unasked.{still_asked}
 use Rattle.node_laws.proofs.dues.Ended.{any_cause, asking_behind, downs_are, downs_end, kept_behind, read_behind, unless_over}
-use Rattle.node_laws.proofs.dues.Freed.{come, come_different, forgets_ended}
+use Rattle.node_laws.proofs.dues.Freed.{come, come_different}
 use Rattle.node_laws.proofs.replies.Creations.{IsIn, asked_same, awaited_same, in_waits}
 use Rattle.node_laws.proofs.replies.Ends.{all_found}
 use Rattle.node_laws.proofs.read_steps.Starting.{IsBegun}
+use Rattle.node_laws.proofs.creations.Steps.{forgets_ended}
 
 -- ## Lists
 

@@ -4,32 +4,30 @@ use Rattle.std.specs.Prelude.{Option, Some, None}
 use Rattle.std.specs.List.{AllByRecursion, filter, filter_map, flat_map}
 use Rattle.std.specs.Option.{option_map_or}
 use Rattle.std.proofs.lemmas.Bool.{eqb-true, true≢false}
-use Rattle.node_laws.proofs.Words.{AreDifferent, AreHosts, AtEnd, Command, Commits, Creation, Deed, Entry, IsFresh, IsOutside, LinkEnd, LinkInput, LinkState}
+use Rattle.node_laws.proofs.Words.{AreDifferent, AreHosts, AtEnd, Commits, Creation, Deed, Entry, IsFresh, IsOutside, LinkEnd, LinkInput, LinkState}
 use Rattle.node_laws.proofs.Words.{NodeInput, Port, Release, Releases, Tick, TimePasses, Up, Work, after_sessions, all_done, all_synced_hold, asked_at, by_test}
-use Rattle.node_laws.proofs.Words.{commit, done, forgets, forgotten, forgotten_hold, goes_in, has_come, has_come_so, has_freed, has_synced, hosts_of_ends}
-use Rattle.node_laws.proofs.Words.{input_at, is_forgotten, is_late, is_over, is_over_at, is_up, owed, owed_in_step, port_at, reset_late, session_of_port}
+use Rattle.node_laws.proofs.Words.{done, forgets, forgotten, forgotten_hold, has_come, has_come_so, has_freed, has_synced, hosts_of_ends}
+use Rattle.node_laws.proofs.Words.{input_at, is_over, is_over_at, is_up, owed, owed_in_step, port_at, reset_late, session_of_port}
 use Rattle.node_laws.proofs.Words.{syncs_in, with_older, without_notice}
 use Rattle.gate_answers.specs.declared.response.Response.TheVariants as response
 use Rattle.node_laws.proofs.steps.Ports.{at_port, come_host, forgets_host, late_host, without_host}
 use Rattle.node_laws.proofs.telling.Away.{at_map, none_map}
 use Rattle.node_laws.proofs.telling.Steps.{come_session, forgets_same, without_same}
 use Rattle.node_laws.proofs.links.Noticing.{at_host}
-use Rattle.node_laws.proofs.passes.Replying.{session_in, session_map, turn_sessions}
+use Rattle.node_laws.proofs.passes.Replying.{session_in, session_map, turn_sessions, commit_sessions}
 use Rattle.node_laws.proofs.creations.Asks.{Asked, asked_of, waits}
 use Rattle.node_laws.proofs.creations.Coming.{ComeAt, HasCome, came_near, came_tick, over_at}
 use Rattle.node_laws.proofs.creations.Doing.{EndAt, Good, IsOn, IsOff, many}
-use Rattle.node_laws.proofs.creations.Steps.{all_kept, begins, frees, keeps_all, shared}
+use Rattle.node_laws.proofs.creations.Steps.{all_kept, begins, frees, keeps_all, shared, forgets_ended}
 use Rattle.node_laws.proofs.dues.Ended.{kept_behind, unless_over}
 use Rattle.node_laws.proofs.dues.Owed.{AllGood, Goes, IfOwed, SentSo, owed_all, owed_taken}
 use Rattle.node_laws.proofs.replies.Creations.{IsIn, in_waits}
 use Rattle.node_laws.proofs.replies.Ends.{all_found}
 use Rattle.node_laws.proofs.read_steps.Parts.{to_creations, to_notices}
 use Rattle.node_laws.proofs.read_steps.Starting.{IsBegun}
+use Rattle.node_laws.proofs.telling.Ticks.{reset_session}
 
 -- ## Sessions
-
-commit_session : (c : Command) (w : Work) (k : ℕ) → session_of_port (commit c w).ports k ≡ session_of_port w.ports k
-commit_session c w k = by_test (goes_in c w) (λ q. rw q refl) (λ q. rw q refl)
 
 -- a deed that sends nothing
 abbrev SendsNothing : Deed → Type 0
@@ -38,7 +36,7 @@ SendsNothing (Releases asker) = Unit {0}
 SendsNothing _ = ⊥
 
 one_session : (d : Deed) (w : Work) (k : ℕ) → SendsNothing d → session_of_port (done 0 d w).ports k ≡ session_of_port w.ports k
-one_session (Commits c) w k is = commit_session c w k
+one_session (Commits c) w k is = commit_sessions c w k
 one_session (Releases asker) w k is = turn_sessions asker Release w k
 one_session _ w k is = absurd is
 
@@ -78,12 +76,9 @@ come_none TimePasses w k none =
 pub same_port : (p q : Port) → Some p ≡ Some q → p ≡ q
 same_port p q e = cc
 
-late_session : (p : Port) → (reset_late p).session ≡ p.session
-late_session p = by_test (is_late p) (λ q. rw q refl) (λ q. rw q refl)
-
 come_number : (input : NodeInput) (p : Port) → (come_so input p).session ≡ p.session
 come_number (AtEnd h i) p = come_session p (input_at (AtEnd h i) p)
-come_number TimePasses p = late_session (with_older (has_come p (Some Tick)))
+come_number TimePasses p = reset_session (with_older (has_come p (Some Tick)))
 
 -- the end isn't the one to which something comes
 abbrev pub IsElse : NodeInput → ℕ → Type 0
@@ -97,9 +92,6 @@ else_goes h i p fresh over = by_test (eqb p.desk.host h)
     (λ q. let same : come_so (AtEnd h i) p ≡ p = rw q refl in
     let off : is_over p ≡ false = rw (fresh.0, fresh.1) refl in
     absurd (true≢false (sym over ∙ (ap is_over same ∙ off))))
-
-pub forgets_ended : (all : List Port) (p : Port) → (forgets all p).ended ≡ p.ended
-forgets_ended all p = by_test (is_forgotten all (asked_at p)) (λ q. rw q refl) (λ q. rw q refl)
 
 pub forgets_over : (all : List Port) (p : Port) → is_over (forgets all p) ≡ is_over p
 forgets_over all p = ap (λ b. b || (forgets all p).late) (forgets_ended all p) ∙ ap (λ b. p.ended || b) (forgets_same all p).late

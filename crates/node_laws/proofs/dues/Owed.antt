@@ -8,16 +8,13 @@ use Rattle.std.proofs.lemmas.Bool.{eq-eqb}
 use Rattle.registry.proofs.ValueLemmas.{AllByRecursion-append as all_append}
 use Rattle.node_laws.proofs.Words.{AreTaken, CountsCommands, Creation, Deed, Entry, Give, HciTables, Message, Port, Release, Releases, Response, Sends, State}
 use Rattle.node_laws.proofs.Words.{TakesMessage, Work, after_turn, all_done, all_owed, answer_of, asked_at, by_test, end_of_number, entries_of_reply, in_use}
-use Rattle.node_laws.proofs.Words.{is_response, owed, port_at, turn_at}
+use Rattle.node_laws.proofs.Words.{owed, port_at, turn_at}
 use Rattle.trace_model.specs.declared.entry.Entry.TheVariants as entry
 use Rattle.gate_answers.specs.declared.response.Response.TheVariants as response
 use Rattle.node_laws.proofs.creations.Asks.{Asked, waits, owes}
 use Rattle.node_laws.proofs.creations.Doing.{EndAt, Good, at_here, on_is, pays, takes_short}
 use Rattle.node_laws.proofs.replies.Answering.{AreReplyEntries, commands_told}
-
-is_answer : (r : Response) → is_response (answer_of r []) ≡ true
-is_answer response.Ok = refl
-is_answer _ = refl
+use Rattle.node_laws.proofs.creations.Steps.{answer_response}
 
 -- ## Room
 
@@ -74,7 +71,7 @@ module _ (hosts : List ℕ) (t : List Entry) where
         let b : AllGood asked (c ∷ left) w = subst (λ l. AllGood asked (l ++ owing) w) list a in
         let v : Work = turn_at c.asker Release w in
         let u : Work = turn_at c.asker (Give (1, answer)) v in
-        let goes : Goes later u = more u (λ x. pays x t hosts asked left c answer w (is_answer r) (omega arith) (b x)) in
+        let goes : Goes later u = more u (λ x. pays x t hosts asked left c answer w (answer_response r) (omega arith) (b x)) in
         subst (λ d. Goes d w) (sym same) (
           (tt, (takes_owed asked left c answer w (omega arith) (b c.asker), goes.0)),
           ap (λ (z : Work). z.cut) (on_is 0 t hosts (all_done 0 (Sends c.asker (1, answer) ∷ later)) v (b 0).on ∙ on_is 0 t hosts (all_done 0 later) u (b 0).on)

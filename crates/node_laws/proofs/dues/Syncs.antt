@@ -15,6 +15,7 @@ use Rattle.swp_act.specs.Activation.{clf_step}
 use Rattle.node_laws.proofs.dues.Noted.{one_command}
 use Rattle.node_laws.proofs.dues.Taken.{brought, keeps_new}
 use Rattle.node_laws.proofs.worlds.Uiccs.{tick_none}
+use Rattle.node_laws.proofs.kept.Stepping.{synced_other}
 
 -- ## What an input brings
 
@@ -98,14 +99,11 @@ module _ (core : Core) (room : (c : Command) → finds_room core c ≡ true) whe
         ∙ (both (is_kept_sync core.tables.syncs p.desk.host id) (Commits (Sync p.desk.host id) ∷ [])
         ∙ ap (λ k. cond (is_kept_sync core.tables.syncs k id) [] (Commits (Sync k id) ∷ [])) host))
 
-synced_else : (core : Core) (h : ℕ) (i : LinkInput) (p : Port) → eqb p.desk.host h ≡ false → synced core (AtEnd h i) p ≡ []
-synced_else core h i p off = let none : input_at (AtEnd h i) p ≡ None = rw off refl in rw none refl
-
 none_else : (core : Core) (h : ℕ) (i : LinkInput) (k : ℕ) (ports : List Port) → AllByRecursion (λ (j : ℕ). eqb j k ≡ false) (hosts_of_ends ports) → k ≡ h
     → flat_map (synced core (AtEnd h i)) ports ≡ []
 none_else core h i k [] a same = refl
 none_else core h i k (p ∷ ports) a same =
-    ap (λ ds. ds ++ flat_map (synced core (AtEnd h i)) ports) (synced_else core h i p (subst (λ n. eqb p.desk.host n ≡ false) same a.0))
+    ap (λ ds. ds ++ flat_map (synced core (AtEnd h i)) ports) (synced_other core h i p (subst (λ n. eqb p.desk.host n ≡ false) same a.0))
     ∙ none_else core h i k ports a.1 same
 
 -- that of the end to which it comes
@@ -116,7 +114,7 @@ synced_at core h i (p ∷ ports) d = by_test (eqb p.desk.host h)
     (λ q. ap (λ ds. synced core (AtEnd h i) p ++ ds) (none_else core h i p.desk.host ports d.0 (eqb-true p.desk.host h q))
     ∙ (append-nil (synced core (AtEnd h i) p)
     ∙ sym (ap (λ b. option_map_or (synced core (AtEnd h i)) (cond b (Some p) (port_at ports h)) []) q)))
-    (λ q. ap (λ ds. ds ++ flat_map (synced core (AtEnd h i)) ports) (synced_else core h i p q)
+    (λ q. ap (λ ds. ds ++ flat_map (synced core (AtEnd h i)) ports) (synced_other core h i p q)
     ∙ (synced_at core h i ports d.1 ∙ sym (ap (λ b. option_map_or (synced core (AtEnd h i)) (cond b (Some p) (port_at ports h)) []) q)))
 
 -- a tick brings none

@@ -168,7 +168,7 @@ tick_sync role = cond_both (is_open role) None (Some ActTick) (λ e. (act_out ro
 synced_tick : (core : Core) (p : Port) → synced core TimePasses p ≡ []
 synced_tick core p = rw (tick_sync p.side.role) refl
 
-synced_other : (core : Core) (h : ℕ) (i : LinkInput) (p : Port) → eqb p.desk.host h ≡ false → synced core (AtEnd h i) p ≡ []
+pub synced_other : (core : Core) (h : ℕ) (i : LinkInput) (p : Port) → eqb p.desk.host h ≡ false → synced core (AtEnd h i) p ≡ []
 synced_other core h i p e = rw e refl
 
 sync_may : (h id : ℕ) → IsHost h → IsCommand (Sync h id)

@@ -1,7 +1,7 @@
 -- What all nodes keep over a tick.
 use Rattle.std.proofs.Common.{◌≡◌, inl, inr, ℕ, false, eqb, List, [], ◌∷◌, ◌++◌, map, sym, refl, ap, ap₂, ◌∙◌, subst, arith, append_assoc, append-nil}
 use Rattle.std.specs.List.{AllByRecursion, flat_map}
-use Rattle.std.proofs.lemmas.Bool.{eqb-false, ne_eqb}
+use Rattle.std.proofs.lemmas.Bool.{eqb-false}
 use Rattle.node_laws.proofs.Words.{AllKeep, AreDifferent, AreHosts, AreToldBehind, Controller, Entry, Host, IsHost, IsOf, NodeKeeps, NodeWorld, Site, SiteKeeps}
 use Rattle.node_laws.proofs.Words.{TimePasses, Work, after_planned, aged, aged_entries, all_aged, book_in, by_controller_tick, by_host_tick, controller_ticks}
 use Rattle.node_laws.proofs.Words.{entries_for, exchanged, frames_noted, host_tick, host_ticks, hosts_tick, last_in, link_to, near_tick, runs_on, site_ticked}
@@ -14,6 +14,7 @@ use Rattle.node_laws.proofs.kept.Standing.{IsSame, same_then, other_same, keeps_
 use Rattle.node_laws.proofs.kept.Sites.{hosts_in}
 use Rattle.node_laws.proofs.kept.Worlds.{Goes, goes_then, step_keeps, controller_goes, plain_frames}
 use Rattle.node_laws.proofs.kept.Events.{GoesBy, plain_goes}
+use Rattle.node_laws.proofs.readings.NoticedWorlds.{numbers}
 
 -- ## Hosts
 
@@ -89,10 +90,6 @@ sites_tick (s ∷ sites) t different hosts all =
               (rest.others n off.1));
         }
 
-pub none_zero : (hosts : List ℕ) → AllByRecursion IsHost hosts → AllByRecursion (λ k. eqb k 0 ≡ false) hosts
-none_zero [] all = tt
-none_zero (h ∷ hosts) all = (ne_eqb h 0 (λ e. omega (arith, e, all.0.0)), none_zero hosts all.1)
-
 module _ (hosts : List ℕ) (are : AreHosts hosts) where
   pub aged_goes : (t : List Entry) (w : NodeWorld) → AllKeep hosts t w → GoesBy hosts are t (all_aged w)
   aged_goes t w all =
@@ -124,7 +121,7 @@ module _ (hosts : List ℕ) (are : AreHosts hosts) where
       record {
         keep = record {
           controller = keeps_same 0 hosts t (t ++ (hosts_tick w.sites).1) w.memory w.controller (ticks.others 0 (subst (AllByRecursion
-              (λ k. eqb k 0 ≡ false)) (sym all.hosts_are) (none_zero hosts are.all))) all.controller;
+              (λ k. eqb k 0 ≡ false)) (sym all.hosts_are) (numbers hosts are.all))) all.controller;
           hosts_are = ticks.hosts ∙ all.hosts_are;
           sites = ticks.keep;
           strangers = λ n strange. (ticks.others n (subst (AllByRecursion (λ k. eqb k n ≡ false))

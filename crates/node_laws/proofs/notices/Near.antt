@@ -45,7 +45,7 @@ host_ports : (near_ends : ℕ → NumberedEnd) (desks : List Desk) → AllByRecu
 host_ports near_ends [] a = tt
 host_ports near_ends (d ∷ desks) a = (a.0, host_ports near_ends desks a.1)
 
-noticed_ports : (near_ends : ℕ → NumberedEnd) (desks : List Desk) (x : ℕ) → noticed (ports_for near_ends desks) x ≡ notice_at desks x
+pub noticed_ports : (near_ends : ℕ → NumberedEnd) (desks : List Desk) (x : ℕ) → noticed (ports_for near_ends desks) x ≡ notice_at desks x
 noticed_ports near_ends [] x = refl
 noticed_ports near_ends (d ∷ desks) x = by_test (eqb d.host x) (λ is. rw is refl) (λ off. rw off (noticed_ports near_ends desks x))
 

@@ -53,7 +53,7 @@ on_if : (b : Bool) → (cond b None (Some no.Off)) ≡ None → b ≡ true
 on_if true q = refl
 on_if false q = absurd (cc q)
 
-none_refused : (o : Option Refused) → as_noted o ≡ None → o ≡ None
+pub none_refused : (o : Option Refused) → as_noted o ≡ None → o ≡ None
 none_refused None q = refl
 none_refused (Some why) q = absurd (cc q)
 

@@ -1,22 +1,23 @@
 -- What a node notes in a step before its pass.
-use Rattle.std.proofs.Common.{◌≡◌, ℕ, ◌==◌, Bool, true, false, cond, List, [], ◌∷◌, ◌++◌, map, refl, ap, sym, ◌∙◌, append_assoc, append-nil}
+use Rattle.std.proofs.Common.{◌≡◌, ℕ, Bool, true, false, cond, List, [], ◌∷◌, ◌++◌, map, refl, ap, sym, ◌∙◌, append_assoc, append-nil}
 use Rattle.std.specs.List.{flat_map}
 use Rattle.registry.proofs.ValueLemmas.{AllByRecursion-append as all_append}
 use Rattle.node_laws.proofs.Words.{AreNoTurns, AtEnd, Creation, Cut, Deed, Entry, IsNoTurn, NodeInput, Port, Release, Releases, Restarted, TimePasses, Work}
-use Rattle.node_laws.proofs.Words.{after_sessions, after_turn, all_come, all_done, all_flat, by_test, changed_if, comes_to_pass, entries_for, entry_of, forgets}
+use Rattle.node_laws.proofs.Words.{after_sessions, after_turn, all_come, all_done, all_flat, by_test, comes_to_pass, entries_for, entry_of, forgets}
 use Rattle.node_laws.proofs.Words.{forgotten, has_come, has_come_so, has_freed, has_synced, hosts_of_ends, input_at, is_late, noted_before_pass, noted_by_deeds}
 use Rattle.node_laws.proofs.Words.{owed_in_step, passes, reset_late, steps, syncs_in, told, told_at, told_of_coming, told_of_late, turn_at, unless_cut}
-use Rattle.node_laws.proofs.Words.{with_older, with_port, without_notice}
+use Rattle.node_laws.proofs.Words.{with_older, without_notice}
 use Rattle.link_laws.specs.entries.Entries.{Entry as Told}
 use Rattle.link_laws.specs.entries.Entries.Entry.{Tick}
 use Rattle.node_laws.proofs.kept.Plainly.{hosts_map}
-use Rattle.node_laws.proofs.steps.Ports.{come_host, forgets_host, changed_host, without_host}
+use Rattle.node_laws.proofs.steps.Ports.{come_host, forgets_host, without_host}
 use Rattle.node_laws.proofs.telling.Mute.{AreMute, forgotten_mute, all_owed_mute, all_synced_mute}
 use Rattle.node_laws.proofs.telling.Walks.{every_do}
 use Rattle.node_laws.proofs.steps.StepWalks.{unless}
 use Rattle.node_laws.proofs.passes.Coming.{coming_all}
 use Rattle.node_laws.proofs.passes.Notes.{deeds_note}
 use Rattle.node_laws.proofs.passes.Turnless.{synced_none, owed_none}
+use Rattle.node_laws.proofs.views.Turning.{with_hosts}
 
 -- ## What is noted
 
@@ -105,15 +106,10 @@ before_none input w =
 abbrev HasHosts : List ℕ → Work → Type 0
 HasHosts hosts w = hosts_of_ends w.ports ≡ hosts
 
-changed_all : (j : ℕ) (f : Port → Port) → ((p : Port) → (f p).desk.host ≡ p.desk.host) → (ports : List Port)
-    → hosts_of_ends (with_port j f ports) ≡ hosts_of_ends ports
-changed_all j f host ports =
-    hosts_map (λ p. changed_if (p.desk.host == j) f p) (λ p. changed_host (p.desk.host == j) f p host) ports
-
 done_hosts : (hosts : List ℕ) (h : ℕ) (deeds : List Deed) (w : Work) → AreMute deeds → HasHosts hosts w → HasHosts hosts (all_done h deeds w)
 done_hosts hosts h deeds w mute a =
-    every_do (HasHosts hosts) (λ es v p b. b) (λ k f v host b. changed_all k (λ p. record p { desk = f p.desk }) (λ p. host p.desk) v.ports ∙ b)
-    (λ k t v n b. changed_all k (after_turn t) (λ p. refl) v.ports ∙ b) (λ u v c n ports e b. ap hosts_of_ends ports ∙ b) (λ writes v b. b) h deeds w mute a
+    every_do (HasHosts hosts) (λ es v p b. b) (λ k f v host b. with_hosts k (λ p. record p { desk = f p.desk }) (λ p. host p.desk) v.ports ∙ b)
+    (λ k t v n b. with_hosts k (after_turn t) (λ p. refl) v.ports ∙ b) (λ u v c n ports e b. ap hosts_of_ends ports ∙ b) (λ writes v b. b) h deeds w mute a
 
 pub come_hosts : (input : NodeInput) (w : Work) → hosts_of_ends (has_come_so input w).ports ≡ hosts_of_ends w.ports
 come_hosts (AtEnd h i) w = hosts_map (λ p. has_come p (input_at (AtEnd h i) p)) (λ p. come_host p (input_at (AtEnd h i) p)) w.ports

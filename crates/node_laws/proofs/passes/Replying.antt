@@ -49,7 +49,7 @@ notified_sessions j about message w k =
     desk_sessions j (λ d. record d { notice = Some (record { about = about; age = 0 }) }) (turn_at j (Give (1, message)) w) (λ d. refl) k
     ∙ turn_sessions j (Give (1, message)) w k
 
-commit_sessions : (c : Command) (w : Work) (k : ℕ) → session_of_port (commit c w).ports k ≡ session_of_port w.ports k
+pub commit_sessions : (c : Command) (w : Work) (k : ℕ) → session_of_port (commit c w).ports k ≡ session_of_port w.ports k
 commit_sessions c w k = by_test (goes_in c w) (λ q. rw q refl) (λ q. rw q refl)
 
 deed_sessions : (h : ℕ) (d : Deed) (w : Work) (k : ℕ) → session_of_port (done h d w).ports k ≡ session_of_port w.ports k

@@ -3,18 +3,13 @@ use Rattle.std.proofs.Common.{◌≡◌, ℕ, ◌≤◌, ◌&&◌, Bool, true, f
 use Rattle.std.specs.Prelude.{Option, Some, None, ◌+◌}
 use Rattle.std.specs.List.{AllByRecursion}
 use Rattle.std.proofs.lemmas.Bool.{cond_both}
-use Rattle.node_laws.proofs.Words.{AreInitsShort, Clear, Command, Core, Create, Deed, Delete, Ends, Init, InitMade, MayDo, Message, Response, Sends, Set}
-use Rattle.node_laws.proofs.Words.{accepts, answer_of, answers_on, by_test, end_of_node, finds_room, gates, identity_served, init_deeds, init_holds}
+use Rattle.node_laws.proofs.Words.{AreInitsShort, Clear, Command, Core, Create, Deed, Delete, Ends, Init, InitMade, MayDo, Message, Sends, Set}
+use Rattle.node_laws.proofs.Words.{accepts, answers_on, by_test, end_of_node, finds_room, gates, identity_served, init_deeds, init_holds}
 use Rattle.node_laws.proofs.Words.{is_command_message, learned, learned_holds, learns, learns_holds, link_deeds, link_served, ordered_deeds, ordered_holds}
 use Rattle.node_laws.proofs.Words.{orders_of, own_view}
-use Rattle.gate_answers.specs.declared.response.Response.TheVariants as response
+use Rattle.node_laws.proofs.bounds.Turns.{answer_plain}
 use Rattle.registry.proofs.ValueLemmas.{AllByRecursion-get}
 use Rattle.node_machine.proofs.Walks.{orders_hold}
-
--- an answer is no command
-pub no_command : (r : Response) (value : List ℕ) → is_command_message (answer_of r value) ≡ false
-no_command response.Ok value = refl
-no_command _ value = refl
 
 module _ (h : ℕ) (F : List ℕ → Type 0) where
   abbrev May : List Deed → Type 0
@@ -40,7 +35,7 @@ module _ (h : ℕ) (F : List ℕ → Type 0) where
   pub ordered_may : (core : Core) (errors pipe n : ℕ) (body : List ℕ) → May (ordered_deeds (own_view core) errors pipe n body)
   ordered_may core errors pipe n body = ordered_holds May core errors pipe n body (record {
     none = tt;
-    refuses = λ r. (no_command r [], tt);
+    refuses = λ r. (answer_plain r [], tt);
     creates = λ row named welcome. accepts_may core (Create row);
     deletes = λ pid kept. accepts_may core (Delete pid);
     clears = λ x host. accepts_may core (Clear x);

@@ -7,7 +7,7 @@ use Rattle.std.proofs.lemmas.List.Sums.{fold-append}
 use Rattle.node_laws.proofs.Words.{AreDifferent, AtEnd, Controller, Core, Deed, End, Entry, Got, Host, IsComing, IsOutside, LinkEnd, LinkInput, Message}
 use Rattle.node_laws.proofs.Words.{NodeInput, Port, Reset, TimePasses, Work, after_input, after_sessions, all_come, all_done, by_test, comes_to_pass, end_of}
 use Rattle.node_laws.proofs.Words.{entries_for, forgets, forgotten, has_come, has_come_so, has_freed, has_synced, hosts_of_ends, input_at, is_late, is_one_of}
-use Rattle.node_laws.proofs.Words.{node_of, owed_in_step, own_side, port_at, report, reset_got, reset_late, same_end, syncs_in, times_out, told, told_at}
+use Rattle.node_laws.proofs.Words.{node_of, owed_in_step, own_side, port_at, report, reset_late, same_end, syncs_in, times_out, told, told_at}
 use Rattle.node_laws.proofs.Words.{told_late, unhandled_after, unhandled_in, whole_acked, with_older, without_notice}
 use Rattle.trace_model.specs.declared.entry.Entry.TheVariants as entry
 use Rattle.link_laws.specs.entries.Entries.{End as Side}
@@ -23,7 +23,7 @@ use Rattle.node_laws.proofs.turns.Passing.{At, Known, all_do as at_all, has_side
 use Rattle.node_laws.proofs.passes.Before.{before_hosts}
 use Rattle.node_laws.proofs.replies.Ends.{one_found}
 use Rattle.node_laws.proofs.reply_passes.Sides.{is_host_side}
-use Rattle.node_laws.proofs.turns.Coming.{gots_go, gots_still, told_goes}
+use Rattle.node_laws.proofs.turns.Coming.{gots_go, gots_still, told_goes, reset_side}
 
 -- ## What is read
 
@@ -57,9 +57,6 @@ IfComing (Some i) = IsComing i
 comes_outside : (input : NodeInput) (p : Port) → IsOutside input → IfComing (input_at input p)
 comes_outside (AtEnd h i) p a = by_test (eqb p.desk.host h) (λ q. rw q a) (λ q. rw q tt)
 comes_outside TimePasses p a = tt
-
-reset_side : (p : Port) → (reset_late p).side.got ≡ p.side.got
-reset_side p = by_test (is_late p) (λ q. rw q (reset_got p.side None)) (λ q. rw q refl)
 
 -- an end of a node on this side
 module _ (k : ℕ) (who : Side) where

@@ -5,7 +5,6 @@ use Rattle.std.specs.Prelude.{◌&&◌, slice_index, Option, Some, None, replica
 use Rattle.std.specs.Option.{option_map_or}
 use Rattle.std.specs.List.{AllByRecursion, flat_map}
 use Rattle.std.proofs.lemmas.Bool.{cases_Bool, true≢false}
-use Rattle.std.proofs.lemmas.List.Concat.{flat_map-append}
 use Rattle.node_laws.proofs.Words.{Activates, AllKeep, AreHosts, Arms, AsksReset, AtEnd, Boots, Comes, Controller, Core, End, Entry, FollowsNodes, Gives}
 use Rattle.node_laws.proofs.Words.{Happening, Header, IfRuns, Inits, IsCut, IsFew, IsNodeNumber, IsPlain, IsSentByHost, Journal, Line, LinkInput, Loses, Loss}
 use Rattle.node_laws.proofs.Words.{Memory, NextFrame, NoInput, NodeHistory, NodeInput, NodeWorld, NumberedEnd, Occurrence, Plan, Resets, Running, RunsSo, Side}
@@ -32,6 +31,7 @@ use Rattle.node_laws.proofs.views.Lines.{events_so}
 use Rattle.node_laws.specs.reply_passes.Counts.{commands_noted as commits}
 use Rattle.node_laws.proofs.reply_passes.Growing.{Grows, commits-append, spent, steps_grow}
 use Rattle.node_laws.proofs.reply_passes.Memories.{cut_grows, generation_in, known_generation}
+use Rattle.node_laws.proofs.read_steps.Events.{entries_one}
 
 -- ## A step of a node
 
@@ -245,9 +245,6 @@ module _ (hosts : List ℕ) (are : AreHosts hosts) where
   event_grown t w (Arms n plan) before all = arms_grown t w before n plan
 
 -- ## Histories
-
-entries_one : (xs : List Occurrence) (o : Occurrence) → entries_in (xs ++ o ∷ []) ≡ entries_in xs ++ o.entries
-entries_one xs o = flat_map-append (λ (o : Occurrence). o.entries) xs (o ∷ []) ∙ ap (λ l. entries_in xs ++ l) (append-nil o.entries)
 
 -- what lasts over each event, where all nodes keep what is read, holds behind any first ones
 module _ (P : List Entry → NodeWorld → Type 0) (hosts : List ℕ)

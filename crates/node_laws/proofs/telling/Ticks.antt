@@ -52,7 +52,7 @@ late_parts p late = go p.desk.notice (is_some (ended_by p.side Tick)) refl refl
 reset_same_end : (p : Port) → is_late p ≡ false → SameEnd p (reset_late p)
 reset_same_end p q = rw q (record { session = refl; late = refl; side = refl; turns = refl })
 
-reset_session : (p : Port) → (reset_late p).session ≡ p.session
+pub reset_session : (p : Port) → (reset_late p).session ≡ p.session
 reset_session p = by_test (is_late p) (λ q. rw q refl) (λ q. rw q refl)
 
 pub reset_turns : (p : Port) → (reset_late p).turns ≡ p.turns

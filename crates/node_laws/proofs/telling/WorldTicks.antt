@@ -376,7 +376,7 @@ near_orderly w a =
     (λ r q. orderly_map w w.memory None (site_ticked (near_tick w r)) (λ x. refl) a tt (λ x n. n))
 
 -- an input to the controller's end leaves the other one
-host_left : (l : Link) (i : LinkInput) (ts : List Turn) (ending : Ending) → (has_input l i ts ending).host ≡ l.host
+pub host_left : (l : Link) (i : LinkInput) (ts : List Turn) (ending : Ending) → (has_input l i ts ending).host ≡ l.host
 host_left l i ts ending =
     host_finished (with_ended l (is_some (ended_by l.controller.side i))) (turned (after_input l.controller.side i) ts) ending
     ∙ host_ended l (is_some (ended_by l.controller.side i))

@@ -116,7 +116,7 @@ Fresh e who own s begin None = Unit {0}
 Fresh e who true s begin (Some p) = (p.turns ≡ []) × (p.side ≡ s) × (s.got ≡ begin)
 Fresh e who false s begin (Some p) = has_side who e ≡ false
 
-reset_side : (p : Port) → (reset_late p).side.got ≡ p.side.got
+pub reset_side : (p : Port) → (reset_late p).side.got ≡ p.side.got
 reset_side p = by_test (is_late p) (λ q. rw q (reset_got p.side None)) (λ q. rw q refl)
 
 module _ (e : End) (who : Side) (own : Bool) (mine : own ≡ true → has_side who e ≡ true) (begin : List Message) (s : LinkEnd) where

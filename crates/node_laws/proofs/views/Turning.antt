@@ -58,7 +58,7 @@ sent_noted w h m t = ap (λ es. w.entries ++ es) (ap (λ o. option_map_or (noted
     ∙ (ap (λ o. entries_for t.port.desk.host (sent_unless o (own_side w.core) t.port.session m)) t.takes
     ∙ ap (λ n. entry.Sent (end_of n (own_side w.core)) t.port.session m.0 m.1 ∷ []) (at_host w.ports h t.port t.here)))
 
-with_hosts : (k : ℕ) (f : Port → Port) → ((p : Port) → (f p).desk.host ≡ p.desk.host) → (ports : List Port)
+pub with_hosts : (k : ℕ) (f : Port → Port) → ((p : Port) → (f p).desk.host ≡ p.desk.host) → (ports : List Port)
     → hosts_of_ends (with_port k f ports) ≡ hosts_of_ends ports
 with_hosts k f host ports = hosts_map (λ p. changed_if (eqb p.desk.host k) f p)
     (λ p. changed_same (λ (q : Port). q.desk.host) (eqb p.desk.host k) f p host) ports

@@ -66,7 +66,7 @@ site_there (x ∷ desks) (s ∷ sites) h d same e = by_test (eqb x.host h)
 
 -- ## Sessions
 
-up_is : (near_end : NumberedEnd) → is_some (session_at near_end) ≡ is_up near_end.side.shdlc.phase
+pub up_is : (near_end : NumberedEnd) → is_some (session_at near_end) ≡ is_up near_end.side.shdlc.phase
 up_is near_end = by near_end.side.shdlc.phase refl where
   by : (s : LinkState) → near_end.side.shdlc.phase ≡ s → is_some (session_at near_end) ≡ is_up near_end.side.shdlc.phase
   by Up q = rw q refl

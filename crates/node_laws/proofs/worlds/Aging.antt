@@ -20,12 +20,12 @@ use Rattle.node_laws.proofs.telling.Nodes.{hosts_same}
 use Rattle.node_laws.proofs.notices.Far.{AreFar, far-append, far_flat, quiet_far, IsFarWork, steps_far, all_do}
 use Rattle.node_laws.proofs.notices.Sites.{AreGood, Reads, good_at, link_shut, frames_quiet, arrival_quiet, sending_own, beginning_own}
 use Rattle.node_laws.proofs.notices.Doing.{IsOn}
-use Rattle.node_laws.proofs.notices.Near.{begins, all_ports, aged_side, aged_far, comes_reads, noticed_desks}
+use Rattle.node_laws.proofs.notices.Near.{begins, all_ports, aged_side, aged_far, comes_reads, noticed_desks, noticed_ports}
 use Rattle.node_laws.proofs.notices.Steps.{HasCome, came_near, came_tick}
 use Rattle.node_laws.specs.answers.Unasked.{age_after}
 use Rattle.node_laws.proofs.worlds.Ages.{notified, more_notified, still_notified, far_notifies, AgeIs}
 use Rattle.node_laws.proofs.worlds.Growing.{grown, step_ages}
-use Rattle.node_laws.proofs.worlds.Resetting.{AgesAreRead, noticed_ports}
+use Rattle.node_laws.proofs.worlds.Resetting.{AgesAreRead}
 
 -- the notices of a controller that runs are as old as this, or new where one was sent
 abbrev pub AreAged : (ℕ → ℕ) → List Entry → Option Running → Type 0

@@ -33,7 +33,7 @@ of_hosts Q [] a = tt
 of_hosts Q (s ∷ sites) a = (a.0, of_hosts Q sites a.1)
 
 -- so it is with each site where it is so with each that is found
-all_found : (P : Site → Type 0) (sites : List Site) → AreDifferent (hosts_in sites) → ((h : ℕ) (s : Site) → site_at sites h ≡ Some s → P s)
+pub all_found : (P : Site → Type 0) (sites : List Site) → AreDifferent (hosts_in sites) → ((h : ℕ) (s : Site) → site_at sites h ≡ Some s → P s)
     → AllByRecursion P sites
 all_found P [] d f = tt
 all_found P (s ∷ sites) d f = (f s.host s (rw (eq-eqb s.host s.host refl) refl), all_found P sites d.1 later) where

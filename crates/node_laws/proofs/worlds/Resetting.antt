@@ -1,33 +1,33 @@
 -- In each event sessions end by resets exactly where those are due.
-use Rattle.std.proofs.Common.{◌≡◌, ℕ, ◌≤◌, Bool, true, false, List, [], ◌∷◌, Option, Some, None, refl, sym, ap, ap₂, subst, ◌∙◌, ◌||◌, ◌&&◌, eqb, arith}
+use Rattle.std.proofs.Common.{◌≡◌, ℕ, ◌≤◌, Bool, true, false, List, Option, Some, None, refl, sym, ap, ap₂, subst, ◌∙◌, ◌||◌, ◌&&◌, eqb, arith}
 use Rattle.std.specs.Prelude.{◌+◌, is_some, not, nat_le}
 use Rattle.std.specs.List.{list_any}
 use Rattle.std.specs.Option.{option_map_or, option_and_then}
 use Rattle.std.proofs.lemmas.Bool.{true≢false, eqb-true, eqb-false}
 use mathlib.Core.Bool.{and-false, and-true}
 use Rattle.node_laws.proofs.Words.{Activates, AreSessionsRead, Arms, AsksReset, AtEnd, Boots, Controller, Desk, End, Entry, Gives, Happening, Host, IfReads}
-use Rattle.node_laws.proofs.Words.{Inits, IsCut, IsOrderly, KeepsNotices, Link, LinkEnd, LinkInput, LinkState, Loses, Loss, NextFrame, NodeWorld, Notice}
-use Rattle.node_laws.proofs.Words.{NumberedEnd, Occurrence, Port, Refused, Reset, Resets, Running, Site, Start, Starts, Take, Takes, Ticks, age_in, all_aged}
+use Rattle.node_laws.proofs.Words.{Inits, IsCut, IsOrderly, KeepsNotices, Link, LinkEnd, LinkInput, Loses, Loss, NextFrame, NodeWorld, Notice}
+use Rattle.node_laws.proofs.Words.{Occurrence, Port, Reset, Resets, Running, Site, Start, Starts, Take, Takes, Ticks, age_in, all_aged}
 use Rattle.node_laws.proofs.Words.{beginning, by_boot, by_list, by_loss, by_option, by_test, comes_at, end_c, end_h, ended_by, entries_in, first_lost}
 use Rattle.node_laws.proofs.Words.{host_does, if_off, input_of, is_late_in, is_own_reset, is_reset_down, is_reset_due, is_up, link_to, machine_in, node_at}
 use Rattle.node_laws.proofs.Words.{notice_at, notice_in, refusal_in, reset_refusal, sending, session_now, site_at, steps, world_step, world_ticks}
 use Rattle.trace_model.specs.declared.line.Line.TheVariants as line
-use Rattle.shdlc_core.specs.declared.answers.LinkState.TheVariants.{Up as IsUpNow}
-use Rattle.link_laws.specs.entries.Sessions.{number_now as session_at}
 use Rattle.history.specs.Follows.{as_noted}
 use Rattle.node_laws.proofs.kept.Lines.{first_none, off_none}
 use Rattle.node_laws.proofs.order.Asked.{IsAskedIn}
 use Rattle.node_laws.proofs.readings.Sites.{lost_quiet}
 use Rattle.node_laws.proofs.telling.Lasting.{occurs}
-use Rattle.node_laws.proofs.telling.Nodes.{link_is, ports_for, site_host}
+use Rattle.node_laws.proofs.telling.Nodes.{link_is, site_host}
 use Rattle.node_laws.proofs.views.InitWorlds.{present}
-use Rattle.node_laws.proofs.notices.Telling.{noticed}
 use Rattle.node_laws.proofs.notices.Knowing.{noticed_is}
 use Rattle.node_laws.proofs.worlds.Causes.{otherwise, frame_asked, start_asked}
 use Rattle.node_laws.proofs.worlds.Downs.{any_none, any_append, notes_downless, sending_none, beginning_none}
 use Rattle.node_laws.proofs.worlds.Telling.{near_far, far_near}
 use Rattle.node_laws.proofs.worlds.Steps.{tells, near_other, far_other, comes_none, begins_none, near_reset, far_reset, far_number}
 use Rattle.node_laws.proofs.worlds.Ticking.{NoNotices, far_tick, off_tick, at, p, q, kept_notice, reset_is, other_end_is}
+use Rattle.node_laws.proofs.views.Viewing.{up_is}
+use Rattle.node_laws.proofs.order.Resets.{none_refused}
+use Rattle.node_laws.proofs.notices.Near.{noticed_ports}
 
 -- The age of each notice of a controller that runs is what is read, below a hundred.
 abbrev pub AgesAreRead : List Occurrence → Option Running → Type 0
@@ -41,20 +41,6 @@ pub record IsReadBefore (past : List Occurrence) (w : NodeWorld) : Type 0 where
   pub sessions : (x : ℕ) (s : Site) → site_at w.sites x ≡ Some s → AreSessionsRead (entries_in past) x s.link
   pub quiet : NoNotices w.sites
   pub ages : AgesAreRead past w.controller
-
-up_is : (h : NumberedEnd) → is_some (session_at h) ≡ is_up h.side.shdlc.phase
-up_is h = go h.side.shdlc.phase refl where
-  go : (l : LinkState) → h.side.shdlc.phase ≡ l → is_some (session_at h) ≡ is_up h.side.shdlc.phase
-  go IsUpNow z = rw z refl
-  go _ z = rw z refl
-
-noted_none : (o : Option Refused) → as_noted o ≡ None → o ≡ None
-noted_none None z = refl
-noted_none (Some why) z = absurd (cc z)
-
-pub noticed_ports : (near_ends : ℕ → NumberedEnd) (desks : List Desk) (x : ℕ) → noticed (ports_for near_ends desks) x ≡ notice_at desks x
-noticed_ports near_ends [] x = refl
-noticed_ports near_ends (d ∷ desks) x = by_test (eqb d.host x) (λ is. rw is refl) (λ off. rw off (noticed_ports near_ends desks x))
 
 -- what comes ends no session by a reset unless it is one
 frames_none : (side : LinkEnd) (i : LinkInput) (l : Link) → input_of l NextFrame ≡ Some i → option_map_or is_own_reset (ended_by side i) false ≡ false
@@ -112,7 +98,7 @@ module _ (past : List Occurrence) (w : NodeWorld) (k : IsReadBefore past w) (x :
       let parts = first_none (if_off w 0) (as_noted (reset_refusal (machine_in w (end_c f)))) free in
       let runs : (r : Running) × (node_at w 0 ≡ Some r) = off_none (node_at w 0) parts.0 in
       near_reset w k.orderly f window x s found runs.0 runs.1
-      (λ z. ap (λ (l : Link). reset_refusal l.controller.side) (sym (linked f z)) ∙ noted_none (reset_refusal (machine_in w (end_c f))) parts.1)
+      (λ z. ap (λ (l : Link). reset_refusal l.controller.side) (sym (linked f z)) ∙ none_refused (reset_refusal (machine_in w (end_c f))) parts.1)
       ∙ ap₂ (λ a b. a && b) (sym (and-true (eqb f x))) (sym (ap is_some (k.sessions x s found).controller ∙ up_is s.link.controller))
 
   far_resets : (f : ℕ) (far : Bool) (window : Option ℕ) → refusal_in w (line.Reset (record { link = f; at_host = far }) window) ≡ None
@@ -147,7 +133,7 @@ module _ (past : List Occurrence) (w : NodeWorld) (k : IsReadBefore past w) (x :
         let zero : eqb f 0 ≡ false = ap (λ n. eqb n 0) (sym (site_host w.sites f s there)) ∙ far_number w f s k.orderly there in
         let runs : (r : Running) × (node_at w f ≡ Some r) = off_none (node_at w f) parts.0 in
         far_reset w k.orderly f window x s found s runs.0 there (sym (present w f zero s there) ∙ runs.1)
-        (λ z. ap (λ (l : Link). reset_refusal l.host.side) (sym (linked f z)) ∙ noted_none (reset_refusal (machine_in w (end_h f))) parts.1)
+        (λ z. ap (λ (l : Link). reset_refusal l.host.side) (sym (linked f z)) ∙ none_refused (reset_refusal (machine_in w (end_h f))) parts.1)
         ∙ ap₂ (λ a b. a && b) (sym (and-true (eqb f x))) (sym (ap is_some (k.sessions x s found).host ∙ up_is s.link.host))
 
   -- ## Ticks

@@ -28,7 +28,7 @@ puts_near : (l : Link) (cs : List Control) → (put_all l cs).to_controller ≡ 
 puts_near l [] = refl
 puts_near l (c ∷ cs) = puts_near (put l c) cs ∙ put_near l c
 
-ended_near : (l : Link) (b : Bool) → (with_ended l b).to_controller ≡ l.to_controller
+pub ended_near : (l : Link) (b : Bool) → (with_ended l b).to_controller ≡ l.to_controller
 ended_near l true = refl
 ended_near l false = refl
 
