@@ -37,7 +37,8 @@ use Rattle.node_laws.specs.passes.Steps.{syncs_in}
 use Rattle.node_laws.proofs.Cases.{by_test}
 use Rattle.node_laws.proofs.passes.Notes.{deeds_note}
 use Rattle.node_laws.proofs.worlds.Late.{BeginsBehind}
-use Rattle.node_laws.proofs.worlds.Uiccs.{tick_none, uicc_sync}
+use Rattle.node_laws.proofs.worlds.Uiccs.{uicc_sync}
+use Rattle.node_laws.proofs.kept.Stepping.{ticked_sync}
 use Rattle.journal_laws.specs.Journal.{count_of}
 use Rattle.lone_laws.specs.alone.Lone.{Lone, LoneCause, end_of_node_alone, lone_end, lone_input, node_input, lone_arrival, emits_behind}
 use Rattle.lone_laws.specs.alone.Lone.{frames_behind, session_with}
@@ -78,7 +79,7 @@ clf_sync s (ActTake Ready false) = go s.phase refl where
   go Inactive q = rw q refl
   go _ q = rw q refl
 clf_sync s (ActTake (PowerMode code) false) = refl
-clf_sync s ActTick = tick_none s.phase s.last
+clf_sync s ActTick = ticked_sync s.phase s.last
 clf_sync s ActStop = refl
 
 out_none : (r : Role) (o : Option ActEvent) → kind_of r ≡ Some false → (act_out r o).sync ≡ None

@@ -9,18 +9,13 @@ use Rattle.node_laws.proofs.Words.{happenings, happens_by, if_off, line_step, li
 use Rattle.node_laws.proofs.Words.{steps_from, tables_told, taken_of, world_step}
 use Rattle.trace_model.specs.declared.entry.NoCause.TheVariants as cause
 use Rattle.trace_model.specs.declared.line.Line.TheVariants as line
-use Rattle.node_machine.specs.world.Lines.{if_true}
-use Rattle.node_laws.proofs.telling.Lasting.{AllMay, AreCaused, events_of_steps, lines_caused, repeated_may, damaged_may}
+use Rattle.node_laws.proofs.telling.Lasting.{AllMay, AreCaused, events_of_steps, lines_caused, repeated_may, damaged_may, stands_none}
 use Rattle.node_laws.specs.schedules.Ranges.{asking}
 use Rattle.node_laws.specs.bounds.Commands.{MayBeCaused, commands_by_all}
 use Rattle.node_laws.proofs.schedules.Ranges.{hosts_are, hosts_few, playable}
 use Rattle.node_laws.proofs.bounds.Causes.{events_bounded}
 
 -- ## What lines cause may come
-
-off_none : (o : Option Running) → if_true (is_some o) cause.Running ≡ None → o ≡ None
-off_none None q = refl
-off_none (Some r) q = absurd (cc q)
 
 both_on : (b : Bool) (why : Option NoCause) → first_cause (cond b None (Some cause.Off)) why ≡ None → b ≡ true
 both_on true why q = refl
@@ -34,7 +29,7 @@ line_may w (line.Tick times) p q = repeated_may MayBeCaused Ticks (λ v. tt) (un
 line_may w (line.Reset e window) p q = (p, tt)
 line_may w (line.Busy e) p q = tt
 line_may w (line.Ready e) p q = tt
-line_may w (line.Boot n) p q = (off_none (node_at w n) q, tt)
+line_may w (line.Boot n) p q = (stands_none (node_at w n) q, tt)
 line_may w (line.Activate host sync power) p q = (both_on (is_some w.controller) (if_off w host) q, tt)
 line_may w (line.Tables n) p q = tt
 line_may w (line.Settle n) p q = tt

@@ -19,7 +19,7 @@ use Rattle.node_laws.proofs.Words.{with_memory, with_node, with_site, work_of}
 use Rattle.trace_model.specs.declared.entry.Entry.TheVariants as entry
 use Rattle.node_laws.proofs.telling.Events.{site_map}
 use Rattle.node_laws.proofs.telling.Nodes.{site_host, link_is}
-use Rattle.node_laws.proofs.readings.NoticedWorlds.{side_map, side_with, far_side, lost_side}
+use Rattle.node_laws.proofs.readings.NoticedWorlds.{side_map, side_with, far_side, lost_side, ending_is}
 use Rattle.node_laws.proofs.readings.Sites.{near_end_side, comes_outside, lost_quiet}
 use Rattle.node_laws.proofs.notices.Own.{AreOwn}
 use Rattle.node_laws.proofs.notices.Far.{AreFar, far-append, far_flat, quiet_far, IsFarWork, all_do, steps_far, asking_more}
@@ -31,6 +31,7 @@ use Rattle.node_laws.proofs.creations.Rows.{proper_found}
 use Rattle.node_laws.proofs.creations.Near.{Reads, far_book, far_reading, new_ready, none_side, IsBegun, begun_at, step_reads}
 use Rattle.node_laws.proofs.creations.Sides.{near_made, tick_made, after_tick, near_side, tick_side}
 use Rattle.node_laws.proofs.kept.Books.{book_more}
+use Rattle.node_laws.proofs.turns.Works.{site_none}
 
 -- ## Beside the controller
 
@@ -253,16 +254,6 @@ module _ (hosts : List ℕ) (are : AreHosts hosts) (t : List Entry) (w : NodeWor
           others : map (λ (c : Desk). c.host) desks ≡ hosts_in sites
           others = cc
 
-  -- no end where no site is
-  nowhere_map : (f : Site → Site) → ((s : Site) → (f s).host ≡ s.host) → (sites : List Site) (x : ℕ) → site_at sites x ≡ None → site_at (map f sites) x ≡ None
-  nowhere_map f host [] x none = refl
-  nowhere_map f host (s ∷ sites) x none = by_test (eqb s.host x)
-      (λ is. let z : Some s ≡ None = rw is at none in absurd (cc z))
-      (λ off. let there : eqb (f s).host x ≡ false = ap (λ k. eqb k x) (host s) ∙ off in rw there (nowhere_map f host sites x (rw off at none)))
-
-  ending_out : (k : Work) → k.cut ≡ false → ending_of k ≡ GoesOut
-  ending_out k e = rw e refl
-
   ending_cut : (k : Work) → k.cut ≡ true → ending_of k ≡ CutOff
   ending_cut k e = rw e refl
 
@@ -295,7 +286,7 @@ module _ (hosts : List ℕ) (are : AreHosts hosts) (t : List Entry) (w : NodeWor
         (far_flat (λ (s : Site). frames_noted Controller s.host (wires_for s.link (comes_to h comes s.host)) k)
         (λ s. frames_quiet Controller s.host (wires_for s.link (comes_to h comes s.host)) k) w.sites)
         (after_controller w h comes k).0 refl
-        (λ x none. none_side (map (link_after_controller h comes k) w.sites) x (nowhere_map (link_after_controller h comes k) (λ s. refl) w.sites x none))
+        (λ x none. none_side (map (link_after_controller h comes k) w.sites) x (site_none (link_after_controller h comes k) (λ s. refl) w.sites x none))
         lost goes
       where
         near_ends : ℕ → NumberedEnd
@@ -351,7 +342,7 @@ module _ (hosts : List ℕ) (are : AreHosts hosts) (t : List Entry) (w : NodeWor
               made.port,
               made.here,
               there x s q
-                  ∙ (ap (λ z. (steps_at_controller s.link (cond (eqb x h) comes NoInput) (turns_at k x) z).controller.side) (ending_out k e)
+                  ∙ (ap (λ z. (steps_at_controller s.link (cond (eqb x h) comes NoInput) (turns_at k x) z).controller.side) (ending_is k e)
                   ∙ (near_side s.link h x comes i (turns_at k x) p b.host side (λ is. input_at_site x s q is)
                   ∙ (ap (λ ts. sent_all (turned (has_come p (input_at (AtEnd h i) p)).side ts))
                   (turns_of k x made.port made.here)
@@ -366,7 +357,7 @@ module _ (hosts : List ℕ) (are : AreHosts hosts) (t : List Entry) (w : NodeWor
         (flat_map (λ (s : Site). frames_noted Controller s.host s.link k) (all_aged w).0.sites)
         (far_flat (λ (s : Site). frames_noted Controller s.host s.link k) (λ s. frames_quiet Controller s.host s.link k) (all_aged w).0.sites)
         ticked_world refl
-        (λ x none. none_side ticked_world.sites x (nowhere_map ticked (λ s. refl) (map older w.sites) x (nowhere_map older (λ s. refl) w.sites x none)))
+        (λ x none. none_side ticked_world.sites x (site_none ticked (λ s. refl) (map older w.sites) x (site_none older (λ s. refl) w.sites x none)))
         lost goes)
       where
         older : Site → Site
@@ -418,7 +409,7 @@ module _ (hosts : List ℕ) (are : AreHosts hosts) (t : List Entry) (w : NodeWor
               made.port,
               made.here,
               there x s q
-                  ∙ (ap (λ z. (ticked_so (aged s.link) (is_late_at k x) (turns_at k x) z).controller.side) (ending_out k e)
+                  ∙ (ap (λ z. (ticked_so (aged s.link) (is_late_at k x) (turns_at k x) z).controller.side) (ending_is k e)
                   ∙ (ap (λ z. (ticked_so (aged s.link) z (turns_at k x) GoesOut).controller.side) late
                   ∙ (tick_side (aged s.link) (turns_at k x) p side b.late b.up (subst IsShut (sym b.side) (shut_at x))
                   ∙ (ap (λ ts. sent_all (turned (after_tick p).side ts)) (turns_of k x made.port made.here) ∙ ap sent_all (sym made.is))))),

@@ -4,7 +4,7 @@ use Rattle.std.proofs.Common.{arith}
 use Rattle.std.specs.Prelude.{Option, Some, None, is_some}
 use Rattle.std.specs.List.{AllByRecursion, fold}
 use Rattle.std.proofs.lemmas.Bool.{cond_both, cases_Bool, eq-eqb, ne_eqb, eqb-true, eqb-false}
-use Rattle.node_laws.proofs.Words.{Activates, AllKeep, AreHosts, Arms, AsksReset, AtEnd, Boots, Broken, Comes, Controller, Core, EachIsAsRead, End, Entry}
+use Rattle.node_laws.proofs.Words.{Activates, AllKeep, AreHosts, Arms, AsksReset, AtEnd, Boots, Comes, Controller, Core, EachIsAsRead, End, Entry}
 use Rattle.node_laws.proofs.Words.{FindsExactly, Gives, Happening, Host, Inits, IsAllowedStill, IsCut, IsHost, IsOnOrder, LinkInput, Lose, Loses, Loss}
 use Rattle.node_laws.proofs.Words.{MayBeDone, MayHappen, Memory, Message, NextFrame, NoInput, NodeWorld, Orders, Plan, Reckoning, Resets, Running, Sends, Site}
 use Rattle.node_laws.proofs.Words.{SiteKeeps, Starts, Takes, Ticks, activates, after_planned, at, beginning, begins_with, begun_by, boot_writes, boots, by_list}
@@ -25,6 +25,7 @@ use Rattle.node_laws.proofs.cuts.Worlds.{IsThere, StandsAt, ExactAt, plain_exact
 use Rattle.node_laws.proofs.cuts.Powers.{booting, boot_cut, boot_found, boot_run, cut_stands, armed_stands}
 use Rattle.node_laws.proofs.cuts.Places.{IsSameAt, same_then, same_memory, same_node, same_loses, IsNowAt, now_memory, now_node, now_loses, runs_of}
 use Rattle.node_laws.proofs.cuts.Ticking.{exact_both, ticks_exact}
+use Rattle.node_laws.proofs.turns.Worlds.{counts_power}
 
 -- how the entries of an event come, and what is known of the node after it
 pub record GoesExactly (n : ℕ) (t : List Entry) (r : Reckoning) (c : Happening) (p : NodeWorld × List Entry) : Type 0 where
@@ -122,11 +123,6 @@ module _ (hosts : List ℕ) (are : AreHosts hosts) (n : ℕ) where
 
   -- ## Losses
 
-  counts_on : (why : Loss) (h : ℕ) (o : Option Running) → is_some (counts why h o) ≡ is_some o
-  counts_on (Broken fault) h None = refl
-  counts_on (Broken fault) h (Some q) = refl
-  counts_on _ h o = refl
-
   lost_exact : (t : List Entry) (r : Reckoning) (w : NodeWorld) (e : End) (why : Loss) → IsThere w n → StandsAt n t r w → ExactAt n t r (frame_lost w e why)
   lost_exact t r w e why there stands = by_test e.at_host
       (λ side. let is : frame_lost w e why ≡ far_is = rw side refl in
@@ -138,14 +134,14 @@ module _ (hosts : List ℕ) (are : AreHosts hosts) (n : ℕ) where
         sites = refl;
         host = λ s. so_or_so (λ b. (changed_if b far s).host ≡ s.host) refl refl (eqb s.host e.link);
         memory = λ s. so_or_so (λ b. (changed_if b far s).memory ≡ s.memory) refl refl (eqb s.host e.link);
-        node = λ s. so_or_so (λ b. is_some (changed_if b far s).node ≡ is_some s.node) (counts_on why e.link s.node) refl
+        node = λ s. so_or_so (λ b. is_some (changed_if b far s).node ≡ is_some s.node) (counts_power why e.link s.node) refl
             (eqb s.host e.link);
       }) there stands))
       (λ side. let is : frame_lost w e why ≡ near_is = rw side refl in
       subst (ExactAt n t r) (sym is) (plain_exact n t r w near_is (record {
         plain = plain_entries e.link (first_lost Controller why (link_to w.sites e.link).to_controller);
         memory_is = refl;
-        controller = counts_on why e.link w.controller;
+        controller = counts_power why e.link w.controller;
         change = λ (s : Site). changed_if (eqb s.host e.link) near s;
         sites = refl;
         host = λ s. so_or_so (λ b. (changed_if b near s).host ≡ s.host) refl refl (eqb s.host e.link);

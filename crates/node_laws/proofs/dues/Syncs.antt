@@ -14,8 +14,7 @@ use Rattle.swp_act.specs.declared.clf.ClfAct.{ClfAct}
 use Rattle.swp_act.specs.Activation.{clf_step}
 use Rattle.node_laws.proofs.dues.Noted.{one_command}
 use Rattle.node_laws.proofs.dues.Taken.{brought, keeps_new}
-use Rattle.node_laws.proofs.worlds.Uiccs.{tick_none}
-use Rattle.node_laws.proofs.kept.Stepping.{synced_other}
+use Rattle.node_laws.proofs.kept.Stepping.{synced_other, ticked_sync}
 
 -- ## What an input brings
 
@@ -65,7 +64,7 @@ tick_brings e a =
     go : (r : Role) → IsClf r → (act_out r (Some ActTick)).sync ≡ None
     go Bare a = absurd a
     go (Uicc s) a = absurd a
-    go (Clf s) a = tick_none s.phase s.last
+    go (Clf s) a = ticked_sync s.phase s.last
 
 -- ## The command that keeps it
 

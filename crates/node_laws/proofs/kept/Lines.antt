@@ -17,6 +17,7 @@ use Rattle.node_laws.proofs.kept.Sites.{site_found}
 use Rattle.node_laws.proofs.kept.Worlds.{Goes, goes_not, goes_then}
 use Rattle.node_laws.proofs.kept.Events.{GoesBy, comes_goes, activates_goes, gives_goes, inits_goes, lost_goes, cut_goes, arms_goes, boots_goes}
 use Rattle.node_laws.proofs.kept.Ticking.{ticks_goes}
+use Rattle.node_laws.proofs.telling.Lasting.{told_nothing}
 
 -- ## What may happen
 
@@ -149,10 +150,6 @@ module _ (hosts : List ℕ) (are : AreHosts hosts) where
   -- a line goes on, but for one that tells tables
   abbrev LineFine : List Entry → NodeWorld × LineOutcome → Type 0
   LineFine t p = Goes hosts are t p.0 (entries_in (occurrences_of p.1))
-
-  told_nothing : (n : ℕ) (o : Option Running) → occurrences_of (tables_told n o) ≡ []
-  told_nothing n None = refl
-  told_nothing n (Some r) = refl
 
   on_goes : (t : List Entry) (w : NodeWorld) (l : Line) → AllKeep hosts t w → MayAllHappen w (happenings w l)
       → IsFew (t ++ entries_in (occurrences_of (goes_on w l).1)) → LineFine t (goes_on w l)

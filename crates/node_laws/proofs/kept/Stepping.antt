@@ -150,7 +150,7 @@ freed_cut (_ ∷ deeds) all w on = absurd all.0
 
 -- ## Sync
 
-ticked_sync : (phase : Phase) (last : Option Act) → (out_ticked phase last).sync ≡ None
+pub ticked_sync : (phase : Phase) (last : Option Act) → (out_ticked phase last).sync ≡ None
 ticked_sync Inactive last = refl
 ticked_sync (Awaiting tries ticks) last =
     cond_both (leb 10 (ticks + 1)) _ _ (λ (o : ActOut). o.sync ≡ None)

@@ -52,7 +52,7 @@ fine_found content =
     (AreTables-close (tables_of content) fine.0, JoinTwo-closed (tables_of content).rows fine.1)
 
 -- a controller that boots has no notices
-none_noticed : (hosts : List ℕ) (x : ℕ) → notice_at (map new_desk hosts) x ≡ None
+pub none_noticed : (hosts : List ℕ) (x : ℕ) → notice_at (map new_desk hosts) x ≡ None
 none_noticed [] x = refl
 none_noticed (h ∷ hosts) x = by_test (eqb h x) (λ is. rw is refl) (λ off. rw off (none_noticed hosts x))
 
@@ -133,7 +133,7 @@ boots_reads t w n a stands =
 -- ## Losses
 
 -- frames that are counted leave the notices
-noticed_counted : (h : ℕ) (desks : List Desk) (x : ℕ) → notice_at (with_error h desks) x ≡ notice_at desks x
+pub noticed_counted : (h : ℕ) (desks : List Desk) (x : ℕ) → notice_at (with_error h desks) x ≡ notice_at desks x
 noticed_counted h [] x = refl
 noticed_counted h (d ∷ desks) x = by_test (eqb d.host h)
     (λ q. rw q (by_test (eqb d.host x) (λ is. rw is refl) (λ off. rw off (noticed_counted h desks x))))

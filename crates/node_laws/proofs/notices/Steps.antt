@@ -19,6 +19,7 @@ use Rattle.node_laws.proofs.notices.Stepping.{synced_no_notices, flat_reads, tol
 use Rattle.node_laws.proofs.notices.Stepping.{late_is, forgets_is, without_is}
 use Rattle.registry.proofs.ValueLemmas.{AllByRecursion-append as all_append}
 use Rattle.node_laws.proofs.steps.Ports.{at_port, come_host, forgets_host, sessions_node, without_host, late_host}
+use Rattle.node_laws.proofs.kept.Doing.{uncut}
 
 -- the hosts of ends that keep theirs
 hosts_map : (f : Port → Port) → ((p : Port) → (f p).desk.host ≡ p.desk.host) → (ports : List Port)
@@ -103,11 +104,8 @@ module _ (x : ℕ) (before : List Entry) (w : Work) (a : IsOn x before w) where
       let u : Work = turn_at c.asker Release v in
       let freed : IsOn x before u = turns x before IsKeptNotice c.asker Release v (λ p r. refl) b in
       let on : unless_cut (all_done 0 (map (λ (c : Creation). Releases c.asker) cs)) u ≡ all_done 0 (map (λ (c : Creation). Releases c.asker) cs) u =
-      not_cut (all_done 0 (map (λ (c : Creation). Releases c.asker) cs)) u freed.on in
+      uncut (all_done 0 (map (λ (c : Creation). Releases c.asker) cs)) u freed.on in
       subst (IsOn x before) (sym on) (frees cs u freed)
-    where
-      not_cut : (f : Work → Work) (u : Work) → u.cut ≡ false → unless_cut f u ≡ f u
-      not_cut f u e = rw e refl
 
   rest : (cs : List Creation) (syncs owing : List Deed) (v : Work) → TellNoNotices syncs → TellNoNotices owing → IsOn x before v
       → Stands x before (answers_and_passes (map (λ (c : Creation). Releases c.asker) cs) syncs owing v)

@@ -2,15 +2,15 @@
 use Rattle.std.proofs.Common.{◌≡◌, ℕ, Bool, true, false, cond, List, [], ◌∷◌, ◌++◌, map, refl, ap, sym, ◌∙◌, append_assoc, append-nil}
 use Rattle.std.specs.List.{flat_map}
 use Rattle.registry.proofs.ValueLemmas.{AllByRecursion-append as all_append}
-use Rattle.node_laws.proofs.Words.{AreNoTurns, AtEnd, Creation, Cut, Deed, Entry, IsNoTurn, NodeInput, Port, Release, Releases, Restarted, TimePasses, Work}
+use Rattle.node_laws.proofs.Words.{AreNoTurns, AtEnd, Creation, Cut, Deed, Entry, IsNoTurn, NodeInput, Release, Releases, Restarted, TimePasses, Work}
 use Rattle.node_laws.proofs.Words.{after_sessions, after_turn, all_come, all_done, all_flat, by_test, comes_to_pass, entries_for, entry_of, forgets}
-use Rattle.node_laws.proofs.Words.{forgotten, has_come, has_come_so, has_freed, has_synced, hosts_of_ends, input_at, is_late, noted_before_pass, noted_by_deeds}
+use Rattle.node_laws.proofs.Words.{forgotten, has_come, has_come_so, has_freed, has_synced, hosts_of_ends, input_at, noted_before_pass, noted_by_deeds}
 use Rattle.node_laws.proofs.Words.{owed_in_step, passes, reset_late, steps, syncs_in, told, told_at, told_of_coming, told_of_late, turn_at, unless_cut}
 use Rattle.node_laws.proofs.Words.{with_older, without_notice}
 use Rattle.link_laws.specs.entries.Entries.{Entry as Told}
 use Rattle.link_laws.specs.entries.Entries.Entry.{Tick}
 use Rattle.node_laws.proofs.kept.Plainly.{hosts_map}
-use Rattle.node_laws.proofs.steps.Ports.{come_host, forgets_host, without_host}
+use Rattle.node_laws.proofs.steps.Ports.{come_host, forgets_host, without_host, late_host}
 use Rattle.node_laws.proofs.telling.Mute.{AreMute, forgotten_mute, all_owed_mute, all_synced_mute}
 use Rattle.node_laws.proofs.telling.Walks.{every_do}
 use Rattle.node_laws.proofs.steps.StepWalks.{unless}
@@ -114,12 +114,9 @@ done_hosts hosts h deeds w mute a =
 pub come_hosts : (input : NodeInput) (w : Work) → hosts_of_ends (has_come_so input w).ports ≡ hosts_of_ends w.ports
 come_hosts (AtEnd h i) w = hosts_map (λ p. has_come p (input_at (AtEnd h i) p)) (λ p. come_host p (input_at (AtEnd h i) p)) w.ports
 come_hosts TimePasses w =
-    hosts_map reset_late reset_host (map with_older (all_come TimePasses w).ports)
+    hosts_map reset_late late_host (map with_older (all_come TimePasses w).ports)
     ∙ (hosts_map with_older (λ p. refl) (all_come TimePasses w).ports
     ∙ hosts_map (λ p. has_come p (input_at TimePasses p)) (λ p. come_host p (input_at TimePasses p)) w.ports)
-  where
-    reset_host : (p : Port) → (reset_late p).desk.host ≡ p.desk.host
-    reset_host p = by_test (is_late p) (λ q. rw q refl) (λ q. rw q refl)
 
 pub before_hosts : (input : NodeInput) (w : Work) → hosts_of_ends (comes_to_pass input w).ports ≡ hosts_of_ends w.ports
 before_hosts input w =

@@ -1,15 +1,14 @@
 -- What is read of all hosts of a world as one of them acts, and over a tick.
-use Rattle.std.proofs.Common.{◌≡◌, ℕ, ◌&&◌, Bool, false, not, eqb, List, [], ◌∷◌, ◌++◌, map, sym, refl, ap, ap₂, ◌∙◌, subst, arith, append-nil, append_assoc}
+use Rattle.std.proofs.Common.{◌≡◌, ℕ, ◌&&◌, false, eqb, List, [], ◌∷◌, ◌++◌, map, sym, refl, ap, ap₂, ◌∙◌, subst, arith, append-nil, append_assoc}
 use Rattle.std.specs.Prelude.{Option, Some, None, replicate}
 use Rattle.std.specs.List.{AllByRecursion, flat_map}
 use Rattle.std.proofs.lemmas.Bool.{cond_both, eqb-false, ne_eqb}
-use Rattle.node_laws.proofs.Words.{AllRead, AreDifferent, AreHosts, AreInitsShort, AsksReset, Controller, Deed, Ending, Entry, GoesOut, Host, IfHostRuns}
-use Rattle.node_laws.proofs.Words.{IfZero, IsHost, Link, MayDo, Message, NoInput, NodeWorld, NumberedEnd, Orders, Reset, Running, Sends, Site, SiteReads, Step}
-use Rattle.node_laws.proofs.Words.{TimePasses, Turn, Work, after_host, after_planned, aged, aged_entries, all_aged, beginning, begins_with, by_option}
-use Rattle.node_laws.proofs.Words.{controller_ticks, ending_of, entries_for, exchanged, frames_noted, give_refusal, has_input, host_does, host_ticks, host_work}
-use Rattle.node_laws.proofs.Words.{hosts_tick, init_of, is_command_message, is_late_at, is_waiting, link_to, new_site, new_world, runs_on, sending, site_at}
+use Rattle.node_laws.proofs.Words.{AllRead, AreDifferent, AreHosts, AreInitsShort, Controller, Deed, Entry, GoesOut, Host, IfHostRuns}
+use Rattle.node_laws.proofs.Words.{IfZero, IsHost, Link, MayDo, Message, NoInput, NodeWorld, NumberedEnd, Orders, Running, Sends, Site, SiteReads}
+use Rattle.node_laws.proofs.Words.{TimePasses, Work, after_host, after_planned, aged, aged_entries, all_aged, beginning, begins_with, by_option}
+use Rattle.node_laws.proofs.Words.{controller_ticks, ending_of, entries_for, exchanged, frames_noted, give_refusal, host_does, host_ticks, host_work}
+use Rattle.node_laws.proofs.Words.{hosts_tick, init_of, is_command_message, is_late_at, link_to, new_site, new_world, runs_on, sending, site_at}
 use Rattle.node_laws.proofs.Words.{steps, ticked_so, ticks_at_controller, turns_at, wires_for, with_site, work_of, world_ticks}
-use Rattle.node_laws.proofs.links.Ends.{here_host}
 use Rattle.link_laws.proofs.entries.Together.{ticks_host as tick_host}
 use Rattle.node_laws.proofs.kept.Sites.{site_found, hosts_same, hosts_with}
 use Rattle.node_laws.proofs.telling.Frames.{wires_all}
@@ -18,6 +17,7 @@ use Rattle.node_laws.proofs.readings.Sites.{acts_reads, sending_may, beginning_m
 use Rattle.node_laws.proofs.readings.Hushed.{AreHushed}
 use Rattle.node_laws.proofs.readings.Elsewhere.{AreSilent, silent-append, silent_flat, quiet_silent, IsAway, all_do, steps_away}
 use Rattle.node_laws.proofs.readings.Worlds.{hosts_in, frames_silent, none_zero, map_reads, with_reads, controller_away, host_away, runs_zero}
+use Rattle.node_laws.proofs.links.Worlds.{so_host}
 
 -- ## The beginning
 
@@ -126,12 +126,6 @@ module _ (hosts : List ℕ) (are : AreHosts hosts) where
         s.link.to_host)) w.sites) w.sites (subst (AllByRecursion IsHost) (sym all.hosts_are) are.all) all.sites;
   }
 
-  ticked_host : (l : Link) (late : Bool) (ts : List Turn) (ending : Ending) → (ticked_so l late ts ending).host ≡ l.host
-  ticked_host l late ts ending =
-      cond_both (late && not (is_waiting l.controller.side.shdlc)) (has_input l (Reset None) ts ending) (ticks_at_controller l ts ending)
-      (λ (m : Link). m.host ≡ l.host)
-      (λ _. here_host l (Step (AsksReset None) ts ending)) (λ _. tick_host l ts ending)
-
   near_ticks : (t : List Entry) (w : NodeWorld) → AllRead hosts t w → AllRead hosts (t ++ (controller_ticks w).1) (controller_ticks w).0
   near_ticks t w all = by_node w.controller refl all.controller where
     Fine : NodeWorld × List Entry → Type 0
@@ -156,7 +150,7 @@ module _ (hosts : List ℕ) (are : AreHosts hosts) where
       controller = runs_zero k (away 1 (omega arith, omega arith)).number;
       hosts_are = hosts_same ticked (λ s. refl) w.sites ∙ all.hosts_are;
       sites = map_reads t (k.entries ++ frames) ticked (λ s. refl) (λ s. refl)
-          (λ s. ap (λ (x : NumberedEnd). x.side) (ticked_host s.link (is_late_at k s.host) (turns_at k s.host) (ending_of k)))
+          (λ s. ap (λ (x : NumberedEnd). x.side) (so_host s.link (is_late_at k s.host) (turns_at k s.host) (ending_of k)))
           (λ n host. silent-append n k.entries frames (away n host).so (silent_flat n (λ (s : Site). frames_noted Controller s.host s.link k)
           (λ s. frames_silent n Controller s.host s.link k) w.sites)) w.sites known all.sites;
     }) where

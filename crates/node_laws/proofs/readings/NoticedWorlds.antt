@@ -112,7 +112,7 @@ site_there near_ends (d ∷ desks) (s ∷ sites) x q e here = by_test (eqb s.hos
       others : map (λ (c : Desk). c.host) desks ≡ hosts_in sites
       others = cc
 
-ending_is : (k : Work) → k.cut ≡ false → ending_of k ≡ GoesOut
+pub ending_is : (k : Work) → k.cut ≡ false → ending_of k ≡ GoesOut
 ending_is k z = rw z refl
 
 step_phase : (l : Link) (b : Bool) (comes : Comes) (i : LinkInput) (ts : List Turn) → (b ≡ true → input_of l comes ≡ Some i)

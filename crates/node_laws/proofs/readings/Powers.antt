@@ -1,5 +1,5 @@
 -- What is read of all hosts as a node loses its power, as it boots, and as a write to a memory is to fail.
-use Rattle.std.proofs.Common.{◌≡◌, ◌⊎◌, inl, inr, ℕ, Bool, true, false, cond, eqb, List, [], ◌∷◌, ◌++◌, length, sym, refl, ap, ◌∙◌, subst, append-nil}
+use Rattle.std.proofs.Common.{◌≡◌, ◌⊎◌, inl, inr, ℕ, Bool, true, false, eqb, List, [], ◌∷◌, ◌++◌, length, sym, refl, ap, ◌∙◌, subst, append-nil}
 use Rattle.std.specs.Prelude.{Some, None}
 use Rattle.std.specs.List.{AllByRecursion}
 use Rattle.std.proofs.lemmas.Bool.{cases_Bool, eqb-true}
@@ -8,20 +8,14 @@ use Rattle.node_laws.proofs.Words.{SiteReads, Step, after_planned, boot_writes, 
 use Rattle.node_laws.proofs.Words.{found, happens, host_cut, links_of, loses_power_at, memory_at, node_at, site_at, with_memory, with_node, with_site}
 use Rattle.trace_model.specs.declared.entry.Entry.TheVariants as entry
 use Rattle.node_laws.proofs.links.Ends.{here_host}
-use Rattle.node_laws.proofs.kept.Sites.{site_found, hosts_same, hosts_with, with_site_twice}
+use Rattle.node_laws.proofs.kept.Sites.{site_found, hosts_same, hosts_with, with_site_twice, none_found}
 use Rattle.node_laws.proofs.readings.Sites.{cut_reads, boot_reads, others_read}
 use Rattle.node_laws.proofs.readings.Elsewhere.{AreSilent}
 use Rattle.node_laws.proofs.readings.Worlds.{hosts_in, none_zero, map_reads, others_stay, with_reads}
+use Rattle.node_laws.proofs.kept.Events.{loses_is}
 
 cut_silent : (n k : ℕ) → eqb n k ≡ false → AreSilent k (entry.Cut n ∷ [])
 cut_silent n k off = ((λ c. rw off refl), tt)
-
--- no host has this number
-none_there : (sites : List Site) (n : ℕ) → site_at sites n ≡ None → AllByRecursion (λ k. eqb k n ≡ false) (hosts_in sites)
-none_there [] n e = tt
-none_there (s ∷ sites) n e = by_test (eqb s.host n)
-    (λ is. let found_it : Some s ≡ None = sym (ap (λ b. cond b (Some s) (site_at sites n)) is) ∙ e in absurd (cc found_it))
-    (λ off. (off, none_there sites n (sym (ap (λ b. cond b (Some s) (site_at sites n)) off) ∙ e)))
 
 module _ (hosts : List ℕ) (are : AreHosts hosts) where
   known : (t : List Entry) (w : NodeWorld) → AllRead hosts t w → AllByRecursion IsHost (hosts_in w.sites)
@@ -47,7 +41,7 @@ module _ (hosts : List ℕ) (are : AreHosts hosts) where
       (λ here. record {
         controller = all.controller;
         hosts_are = hosts_with n f host w.sites ∙ all.hosts_are;
-        sites = others_stay t es n f silent w.sites (none_there w.sites n here) all.sites;
+        sites = others_stay t es n f silent w.sites (none_found w.sites n here) all.sites;
       })
       (λ x here. let known_x = site_found (SiteReads t) IsHost w.sites n x all.sites (known t w all) here in
       record {
@@ -60,14 +54,11 @@ module _ (hosts : List ℕ) (are : AreHosts hosts) where
   loses_near : (w : NodeWorld) (n : ℕ) → eqb n 0 ≡ true → loses_power_at n w ≡ controller_cut w
   loses_near w n e = rw e refl
 
-  loses_far : (w : NodeWorld) (n : ℕ) → eqb n 0 ≡ false → loses_power_at n w ≡ record w { sites = with_site n host_cut w.sites }
-  loses_far w n e = rw e refl
-
   pub cut_read : (t : List Entry) (w : NodeWorld) (n : ℕ) → AllRead hosts t w → AllRead hosts (t ++ entry.Cut n ∷ []) (loses_power_at n w)
   cut_read t w n all = by_test (eqb n 0)
       (λ e. subst (AllRead hosts (t ++ entry.Cut n ∷ [])) (sym (loses_near w n e))
       (subst (λ m. AllRead hosts (t ++ entry.Cut m ∷ []) (controller_cut w)) (sym (eqb-true n 0 e)) (near_cut t w all)))
-      (λ e. subst (AllRead hosts (t ++ entry.Cut n ∷ [])) (sym (loses_far w n e))
+      (λ e. subst (AllRead hosts (t ++ entry.Cut n ∷ [])) (sym (loses_is w n e))
       (alters t (entry.Cut n ∷ []) w n host_cut (λ s. refl) (λ k off. cut_silent n k off) all
       (λ x here reads same. subst (λ m. SiteReads (t ++ entry.Cut m ∷ []) (host_cut x)) same (cut_reads t x))))
 

@@ -77,7 +77,7 @@ behind_all : (causes : List Happening) (w : NodeWorld) → world_behind w (all_h
 behind_all [] w = refl
 behind_all (c ∷ causes) w = by_test (can_happen w c) (λ q. rw q (behind_all causes (world_step w c).0)) (λ q. rw q refl)
 
-told_nothing : (n : ℕ) (o : Option Running) → occurrences_of (tables_told n o) ≡ []
+pub told_nothing : (n : ℕ) (o : Option Running) → occurrences_of (tables_told n o) ≡ []
 told_nothing n None = refl
 told_nothing n (Some r) = refl
 

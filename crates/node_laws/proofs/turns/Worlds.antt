@@ -251,7 +251,7 @@ boots_move w n a off =
 
 -- ## Losses
 
-counts_power : (why : Loss) (h : ℕ) (o : Option Running) → is_some (counts why h o) ≡ is_some o
+pub counts_power : (why : Loss) (h : ℕ) (o : Option Running) → is_some (counts why h o) ≡ is_some o
 counts_power (Broken fault) h None = refl
 counts_power (Broken fault) h (Some r) = refl
 counts_power _ h o = refl

@@ -1,18 +1,18 @@
 -- In each event the ages of the controller's notices stay those that are read.
-use Rattle.std.proofs.Common.{◌≡◌, ℕ, ◌≤◌, Bool, true, false, cond, List, [], ◌∷◌, ◌++◌, map, Option, Some, None, refl, sym, ap, subst, ◌∙◌, ◌||◌, eqb, min}
+use Rattle.std.proofs.Common.{◌≡◌, ℕ, ◌≤◌, cond, List, [], ◌∷◌, ◌++◌, map, Option, Some, None, refl, sym, ap, subst, ◌∙◌, ◌||◌}
 use Rattle.std.specs.Prelude.{◌+◌}
 use Rattle.std.specs.List.{AllByRecursion}
 use Rattle.std.proofs.lemmas.Bool.{true≢false}
 use Rattle.std.proofs.lemmas.List.Sums.{fold-append}
-use Rattle.node_laws.proofs.Words.{Activates, AreDifferent, Arms, AsksReset, AtEnd, Boots, Broken, Comes, Controller, ControllerReads, Deed, Desk, End, Entry}
+use Rattle.node_laws.proofs.Words.{Activates, AreDifferent, Arms, AsksReset, AtEnd, Boots, Broken, Comes, Controller, ControllerReads, Deed, End, Entry}
 use Rattle.node_laws.proofs.Words.{Gives, Happening, HasEnds, Host, IfHostNode, IfItRuns, IfNoticedUp, IfReads, Inits, IsCut, IsFresh, IsOutside, IsShut}
 use Rattle.node_laws.proofs.Words.{KeepsNotices, LinkInput, Loses, Loss, NextFrame, NoInput, NodeInput, NodeWorld, Notice, NumberedEnd, Occurrence, Plan, Port}
 use Rattle.node_laws.proofs.Words.{Resets, Running, Site, Starts, Takes, Ticks, TimePasses, Work, activates, age_in, all_aged, arrival, beginning, begins_with}
 use Rattle.node_laws.proofs.Words.{boot_found, boot_written, boots, by_boot, by_coming, by_controller, by_controller_tick, by_host, by_loss, by_memory}
-use Rattle.node_laws.proofs.Words.{by_option, by_power, by_running, by_test, changed_if, comes_at, comes_to, controller_does, controller_ticks, controller_work}
+use Rattle.node_laws.proofs.Words.{by_option, by_power, by_running, by_test, comes_at, comes_to, controller_does, controller_ticks, controller_work}
 use Rattle.node_laws.proofs.Words.{count_of, counts, end_c, end_h, entries_for, entries_in, exchanged, first_lost, frame_lost, frames_noted, has_come_so}
-use Rattle.node_laws.proofs.Words.{host_does, hosts_in, hosts_tick, input_of, is_tick, link_to, loses_power_at, memory_at, near_end_in, near_tick, new_desk}
-use Rattle.node_laws.proofs.Words.{notice_at, runs_on, sending, steps, wires_for, with_error, with_memory, work_of, world_step, world_ticks}
+use Rattle.node_laws.proofs.Words.{host_does, hosts_in, hosts_tick, input_of, is_tick, link_to, loses_power_at, memory_at, near_end_in, near_tick}
+use Rattle.node_laws.proofs.Words.{notice_at, runs_on, sending, steps, wires_for, with_memory, work_of, world_step, world_ticks}
 use Rattle.trace_model.specs.declared.entry.Entry.TheVariants as entry
 use Rattle.node_laws.proofs.readings.Sites.{near_end_side, comes_outside, lost_quiet}
 use Rattle.node_laws.proofs.telling.Lasting.{occurs}
@@ -26,6 +26,7 @@ use Rattle.node_laws.specs.answers.Unasked.{age_after}
 use Rattle.node_laws.proofs.worlds.Ages.{notified, more_notified, still_notified, far_notifies, AgeIs}
 use Rattle.node_laws.proofs.worlds.Growing.{grown, step_ages}
 use Rattle.node_laws.proofs.worlds.Resetting.{AgesAreRead}
+use Rattle.node_laws.proofs.notices.Events.{noticed_counted, none_noticed}
 
 -- the notices of a controller that runs are as old as this, or new where one was sent
 abbrev pub AreAged : (ℕ → ℕ) → List Entry → Option Running → Type 0
@@ -168,23 +169,9 @@ module _ (age : ℕ → ℕ) where
             (λ i at q. host_leaves near.0 good h (Starts sync) (steps (AtEnd h i)) (λ v b. steps_far (AtEnd h i) v b))
             (λ i at q. absurd (true≢false at))
 
-  -- frames that are counted leave the notices
-  counted : (h : ℕ) (desks : List Desk) (x : ℕ) → notice_at (with_error h desks) x ≡ notice_at desks x
-  counted h [] x = refl
-  counted h (d ∷ desks) x = by_error (eqb d.host h) (eqb d.host x) refl (counted h desks x) where
-    more : Desk → Desk
-    more c = record c { errors = min 65535 (c.errors + 1) }
-
-    by_error : (b c : Bool) → eqb d.host x ≡ c → notice_at (with_error h desks) x ≡ notice_at desks x
-        → notice_at (changed_if b more d ∷ with_error h desks) x ≡ notice_at (d ∷ desks) x
-    by_error true true is later = rw is refl
-    by_error true false off later = rw off later
-    by_error false true is later = rw is refl
-    by_error false false off later = rw off later
-
   counts_old : (why : Loss) (h : ℕ) (o : Option Running) → AreOld age o → AreOld age (counts why h o)
   counts_old (Broken fault) h None a = tt
-  counts_old (Broken fault) h (Some r) a = λ x n q. a x n (sym (counted h r.desks x) ∙ q)
+  counts_old (Broken fault) h (Some r) a = λ x n q. a x n (sym (noticed_counted h r.desks x) ∙ q)
   counts_old _ h o a = a
 
   lost_aged : (w : NodeWorld) → AreOld age w.controller → (e : End) (why : Loss) → AreAged age (frame_lost w e why).1 (frame_lost w e why).0.controller
@@ -203,15 +190,11 @@ module _ (age : ℕ → ℕ) where
   cut_aged w n old =
       by_power (λ v. AreAged age (entry.Cut n ∷ []) v.controller) n w (λ z. tt) (λ z. far_aged age (entry.Cut n ∷ []) w.controller (z, tt) old)
 
-  none_new : (hosts : List ℕ) (x : ℕ) → notice_at (map new_desk hosts) x ≡ None
-  none_new [] x = refl
-  none_new (h ∷ hosts) x = by_test (eqb h x) (λ is. rw is refl) (λ off. rw off (none_new hosts x))
-
   boots_aged : (w : NodeWorld) (n : ℕ) → AreOld age w.controller → AreAged age (boots w n).1 (boots w n).0.controller
   boots_aged w n old =
       by_boot (λ p. AreAged age p.1 p.0.controller) w n (cut_aged (boot_written w n) n still)
       (by_running (λ v. AreAged age (entry.Booted n (count_of (boot_found w n).core.journal) ∷ []) v.controller) n (boot_written w n) (boot_found w n)
-      (λ z x m q. let none : None ≡ Some m = sym (none_new (Rattle.node_machine.specs.world.World.links_of w n) x) ∙ q in absurd (cc none))
+      (λ z x m q. let none : None ≡ Some m = sym (none_noticed (Rattle.node_machine.specs.world.World.links_of w n) x) ∙ q in absurd (cc none))
       (λ z. far_aged age (entry.Booted n (count_of (boot_found w n).core.journal) ∷ []) (boot_written w n).controller (z, tt) still))
     where
       still : AreOld age (boot_written w n).controller

@@ -15,7 +15,7 @@ use Rattle.node_laws.proofs.Words.{told_late, told_of_coming, told_of_late, turn
 use Rattle.node_laws.proofs.Words.{without_notice}
 use Rattle.trace_model.specs.declared.entry.Entry.TheVariants as entry
 use Rattle.link_laws.specs.entries.Entries.{End as Side, Entry as Noted}
-use Rattle.node_laws.proofs.steps.Ports.{at_port}
+use Rattle.node_laws.proofs.steps.Ports.{at_port, forgets_host, without_host}
 use Rattle.node_laws.proofs.steps.StepWalks.{holds, lets, unless}
 use Rattle.node_laws.proofs.links.Noticing.{at_all, at_host}
 use Rattle.node_laws.proofs.readings.Silent.{told_rest, rest_quiet}
@@ -209,12 +209,6 @@ module _ (x : ℕ) where
 
     abbrev u : Work
     u = record v { core = after_sessions v.core v.ports; ports = map without_notice (map (forgets v.ports) v.ports) }
-
-    forgets_host : (ports : List Port) (q : Port) → (forgets ports q).desk.host ≡ q.desk.host
-    forgets_host ports q = by_test (is_forgotten ports (asked_at q)) (λ z. rw z refl) (λ z. rw z refl)
-
-    without_host : (q : Port) → (without_notice q).desk.host ≡ q.desk.host
-    without_host q = by_test (is_over q) (λ z. rw z refl) (λ z. rw z refl)
 
     is : noticed u.ports x
         ≡ option_and_then (λ (p : Port). p.desk.notice) (option_map without_notice (option_map (forgets v.ports) (option_map (came input) (port_at w.ports x))))

@@ -2,29 +2,16 @@
 use Rattle.std.proofs.Common.{◌≡◌, Bool, true, false, cond, List, [], ◌∷◌, ◌++◌, map, Option, Some, None, refl, ap, ◌∙◌, append-nil}
 use Rattle.std.specs.Prelude.{◌+◌, nat_le}
 use Rattle.std.specs.List.{AllByRecursion, flat_map, filter}
-use Rattle.std.proofs.lemmas.Bool.{cond_both}
-use Rattle.swp_base.specs.declared.control_frames.Act.{Act}
-use Rattle.node_laws.proofs.Words.{ActEvent, AtEnd, Awaiting, Bare, Clf, Core, Inactive, IsUicc, LinkInput, NodeInput, Phase, Port, PowerMode, Ready, Response}
+use Rattle.node_laws.proofs.Words.{ActEvent, AtEnd, Bare, Clf, Core, Inactive, IsUicc, LinkInput, NodeInput, Phase, Port, PowerMode, Ready, Response}
 use Rattle.node_laws.proofs.Words.{Role, SyncId, TimePasses, Uicc, UiccAct, Work, act_event, act_out, all_come, all_owed, asked_at, by_option, by_test, forgets}
-use Rattle.node_laws.proofs.Words.{has_come, has_come_so, has_freed, has_synced, input_at, is_late, no_act_out, noted_before_pass, noted_by_deeds, out_ticked}
+use Rattle.node_laws.proofs.Words.{has_come, has_come_so, has_freed, has_synced, input_at, is_late, noted_before_pass, noted_by_deeds}
 use Rattle.node_laws.proofs.Words.{owed, owed_in_step, report, reset_late, synced, told_of_coming, uicc_step, with_older}
 use Rattle.swp_act.specs.declared.ActEvent.TheVariants.{Start as ActStart, Take as ActTake, Tick as ActTick, Stop as ActStop}
-use Rattle.swp_act.specs.declared.Phase.TheVariants.{Active as ActiveNow}
-use Rattle.swp_act.specs.Activation.{sends}
 use Rattle.gate_answers.specs.declared.response.Response.TheVariants as response
 use Rattle.node_laws.proofs.readings.Stepping.{forgets_same}
+use Rattle.node_laws.proofs.kept.Stepping.{ticked_sync}
 
 -- ## Identifiers
-
-pub tick_none : (p : Phase) (last : Option Act) → (out_ticked p last).sync ≡ None
-tick_none Inactive last = refl
-tick_none (Awaiting tries ticks) last =
-    cond_both (nat_le 10 (ticks + 1))
-    (cond (nat_le 3 tries) (record { send = None; became_active = false; ended_link = false; sync = None; gave_up = Some 3 }) (sends last)) no_act_out
-    (λ o. o.sync ≡ None)
-    (λ _. cond_both (nat_le 3 tries) (record { send = None; became_active = false; ended_link = false; sync = None; gave_up = Some 3 }) (sends last)
-    (λ o. o.sync ≡ None) (λ _. refl) (λ _. refl)) (λ _. refl)
-tick_none ActiveNow last = refl
 
 pub uicc_sync : (s : UiccAct) (event : ActEvent) → (uicc_step s event).1.sync ≡ None
 uicc_sync s (ActStart value) = refl
@@ -36,7 +23,7 @@ uicc_sync s (ActTake (PowerMode code) false) = go (nat_le code 1) refl s.phase r
   go true z Inactive q = rw (z, q) refl
   go true z _ q = rw (z, q) refl
   go false z p q = rw z refl
-uicc_sync s ActTick = tick_none s.phase s.last
+uicc_sync s ActTick = ticked_sync s.phase s.last
 uicc_sync s ActStop = refl
 
 out_none : (r : Role) (o : Option ActEvent) → IsUicc r → (act_out r o).sync ≡ None
