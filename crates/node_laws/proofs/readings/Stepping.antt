@@ -16,25 +16,25 @@ use Rattle.node_laws.proofs.links.Noticing.{outside}
 
 -- ## An end without a notice
 
-pub older_same : (q : Port) → q.desk.notice ≡ None → with_older q ≡ q
+older_same : (q : Port) → q.desk.notice ≡ None → with_older q ≡ q
 older_same q e = rw e refl
 
-pub late_same : (q : Port) → q.desk.notice ≡ None → reset_late q ≡ q
+late_same : (q : Port) → q.desk.notice ≡ None → reset_late q ≡ q
 late_same q e = rw e refl
 
-pub late_told : (core : Core) (q : Port) → q.desk.notice ≡ None → told_late core q ≡ []
+late_told : (core : Core) (q : Port) → q.desk.notice ≡ None → told_late core q ≡ []
 late_told core q e = rw e refl
 
 pub forgets_same : (ports : List Port) (q : Port) → q.desk.notice ≡ None → forgets ports q ≡ q
 forgets_same ports q e = rw e refl
 
-pub without_same : (q : Port) → q.desk.notice ≡ None → without_notice q ≡ q
+without_same : (q : Port) → q.desk.notice ≡ None → without_notice q ≡ q
 without_same q e = by_test (q.ended || q.late) (λ z. rw z (ap (λ n. record q { desk = record q.desk { notice = n } }) (sym e))) (λ z. rw z refl)
 
-pub none_forgotten : (q : Port) → q.desk.notice ≡ None → forgotten (q ∷ []) ≡ []
+none_forgotten : (q : Port) → q.desk.notice ≡ None → forgotten (q ∷ []) ≡ []
 none_forgotten q e = rw e refl
 
-pub none_owed : (q : Port) → q.desk.notice ≡ None → all_owed (q ∷ []) ≡ []
+none_owed : (q : Port) → q.desk.notice ≡ None → all_owed (q ∷ []) ≡ []
 none_owed q e = go q.ended q.late refl refl where
   go : (a b : Bool) → q.ended ≡ a → q.late ≡ b → all_owed (q ∷ []) ≡ []
   go true true x y = rw (x, y, e) refl
@@ -42,12 +42,52 @@ none_owed q e = go q.ended q.late refl refl where
   go false true x y = rw (x, y, e) refl
   go false false x y = rw (x, y) refl
 
+-- time passes at an end without a notice, and nothing more comes of it
+times_same : (input : NodeInput) (w : Work) (q : Port) → w.ports ≡ q ∷ [] → q.desk.notice ≡ None → times_out input w ≡ w
+times_same (AtEnd k i) w q is quiet = refl
+times_same TimePasses w q is quiet =
+    ap (λ ps. times_out TimePasses (record w { ports = ps })) is
+    ∙ (ap (λ x. noting (told_late w.core x ++ []) (record w { ports = reset_late x ∷ [] })) (older_same q quiet)
+    ∙ (ap (λ es. noting (es ++ []) (record w { ports = reset_late q ∷ [] })) (late_told w.core q quiet)
+    ∙ (ap (λ x. noting [] (record w { ports = x ∷ [] })) (late_same q quiet)
+    ∙ (ap (λ es. record w { entries = es; ports = q ∷ [] }) (append-nil w.entries)
+    ∙ ap (λ ps. record w { ports = ps }) (sym is)))))
+
+pub came_is : (input : NodeInput) (w : Work) (p : Port) → (has_come p (input_at input p)).desk.notice ≡ None
+    → times_out input (all_come input (record w { ports = p ∷ [] }))
+    ≡ record w { ports = has_come p (input_at input p) ∷ []; entries = w.entries ++ told_at w.core p (input_at input p) }
+came_is input w p quiet =
+    let q : Port = has_come p (input_at input p) in
+    times_same input (all_come input (record w { ports = p ∷ [] })) q refl quiet
+    ∙ ap (λ es. record w { ports = q ∷ []; entries = w.entries ++ es }) (append-nil (told_at w.core p (input_at input p)))
+
+-- the sessions behind what came to an end that ends, or that goes on
+pub over_is : (core : Core) (q : Port) → q.ended ≡ true → after_sessions core (q ∷ []) ≡ record core { command = None; init = None }
+over_is core q e = rw e refl
+
+pub on_is : (core : Core) (q : Port) → q.late ≡ false → q.ended ≡ false → after_sessions core (q ∷ []) ≡ core
+on_is core q late e = rw (e, late) refl
+
 -- what stands behind what came, before the node passes its ends
-abbrev behind : List Deed → Work → Work
+abbrev pub behind : List Deed → Work → Work
 behind syncs came =
     unless_cut (all_done 0 (all_owed (map (forgets came.ports) came.ports)))
     (all_done 0 syncs (all_done 0 (forgotten came.ports)
     (record came { core = after_sessions came.core came.ports; ports = map without_notice (map (forgets came.ports) came.ports) })))
+
+pub behind_is : (syncs : List Deed) (w : Work) (q : Port) (more : List Entry) → q.desk.notice ≡ None
+    → behind syncs (record w { ports = q ∷ []; entries = w.entries ++ more })
+    ≡ unless_cut (all_done 0 []) (all_done 0 syncs (record w { core = after_sessions w.core (q ∷ []); ports = q ∷ []; entries = w.entries ++ more }))
+behind_is syncs w q more quiet =
+    ap (λ l. then_owed (forgotten (q ∷ [])) (all_owed l) (begun (map without_notice l))) (ap (λ x. x ∷ []) (forgets_same (q ∷ []) q quiet))
+    ∙ (ap (λ d. then_owed d (all_owed (q ∷ [])) (begun (map without_notice (q ∷ [])))) (none_forgotten q quiet)
+    ∙ (ap (λ d. then_owed [] d (begun (map without_notice (q ∷ [])))) (none_owed q quiet)
+    ∙ ap (λ x. then_owed [] [] (begun (x ∷ []))) (without_same q quiet))) where
+      begun : List Port → Work
+      begun ports = record w { core = after_sessions w.core (q ∷ []); ports = ports; entries = w.entries ++ more }
+
+      then_owed : List Deed → List Deed → Work → Work
+      then_owed freed owing v = unless_cut (all_done 0 owing) (all_done 0 syncs (all_done 0 freed v))
 
 synced_may : (h : ℕ) (F : List ℕ → Type 0) (core : Core) (input : NodeInput) (p : Port) → MayDo h F (synced core input p)
 synced_may h F core input p = by_option (input_at input p)
@@ -83,22 +123,11 @@ module _ (h : ℕ) (host : IsHost h) (before : List Entry) where
     up = λ some ended. stays_up p.side i (coming i refl) (its.up some) ended;
   }
 
-  -- time passes at an end without a notice, and nothing more comes of it
-  times_same : (input : NodeInput) (w : Work) (q : Port) → w.ports ≡ q ∷ [] → q.desk.notice ≡ None → times_out input w ≡ w
-  times_same (AtEnd k i) w q is quiet = refl
-  times_same TimePasses w q is quiet =
-      ap (λ ps. times_out TimePasses (record w { ports = ps })) is
-      ∙ (ap (λ x. noting (told_late w.core x ++ []) (record w { ports = reset_late x ∷ [] })) (older_same q quiet)
-      ∙ (ap (λ es. noting (es ++ []) (record w { ports = reset_late q ∷ [] })) (late_told w.core q quiet)
-      ∙ (ap (λ x. noting [] (record w { ports = x ∷ [] })) (late_same q quiet)
-      ∙ (ap (λ es. record w { entries = es; ports = q ∷ [] }) (append-nil w.entries)
-      ∙ ap (λ ps. record w { ports = ps }) (sym is)))))
-
   -- the host behind what came
   begun_runs : (now : LinkState) (w : Work) (p q : Port) (more : List Entry) → Runs h host before now w → HasCome w p q more
       → Runs h host before q.side.shdlc.phase (record w { core = after_sessions w.core (q ∷ []); ports = q ∷ []; entries = w.entries ++ more })
   begun_runs now w p q more r came = by_test q.ended
-      (λ e. subst Fine (sym (over_is e)) (record {
+      (λ e. subst Fine (sym (over_is w.core q e)) (record {
         on = r.on;
         node = r.node;
         port = q;
@@ -108,7 +137,7 @@ module _ (h : ℕ) (host : IsHost h) (before : List Entry) where
         short = tt;
         order = read_more h host before now w more w.core.command None r.order (came.told w.core.command ∙ ap (λ b. cond b None w.core.command) e);
       }))
-      (λ e. subst Fine (sym (on_is e)) (record {
+      (λ e. subst Fine (sym (on_is w.core q came.late e)) (record {
         on = r.on;
         node = r.node;
         port = q;
@@ -121,12 +150,6 @@ module _ (h : ℕ) (host : IsHost h) (before : List Entry) where
         Fine : Core → Type 0
         Fine core = Runs h host before q.side.shdlc.phase (record w { core = core; ports = q ∷ []; entries = w.entries ++ more })
 
-        over_is : q.ended ≡ true → after_sessions w.core (q ∷ []) ≡ record w.core { command = None; init = None }
-        over_is e = rw e refl
-
-        on_is : q.ended ≡ false → after_sessions w.core (q ∷ []) ≡ w.core
-        on_is e = rw (e, came.late) refl
-
   -- and what it does then, before its turns
   rest_stands : (now : LinkState) (syncs : List Deed) (v : Work) → MayDo h (λ o. ⊥) syncs → Runs h host before now v → Stands h host before now
       (unless_cut (all_done 0 []) (all_done 0 syncs v))
@@ -137,27 +160,17 @@ module _ (h : ℕ) (host : IsHost h) (before : List Entry) where
       → Runs h host before now w → HasCome w p q more
       → Stands h host before q.side.shdlc.phase (behind syncs (record w { ports = q ∷ []; entries = w.entries ++ more }))
   behind_stands now syncs w p q more may r came =
-      subst (Stands h host before q.side.shdlc.phase) (sym is) (rest_stands q.side.shdlc.phase syncs (begun (q ∷ [])) may
-      (begun_runs now w p q more r came)) where
-        begun : List Port → Work
-        begun ports = record w { core = after_sessions w.core (q ∷ []); ports = ports; entries = w.entries ++ more }
-
-        then_owed : List Deed → List Deed → Work → Work
-        then_owed freed owing v = unless_cut (all_done 0 owing) (all_done 0 syncs (all_done 0 freed v))
-
-        is : behind syncs (record w { ports = q ∷ []; entries = w.entries ++ more }) ≡ then_owed [] [] (begun (q ∷ []))
-        is =
-            ap (λ l. then_owed (forgotten (q ∷ [])) (all_owed l) (begun (map without_notice l))) (ap (λ x. x ∷ []) (forgets_same (q ∷ []) q came.quiet))
-            ∙ (ap (λ d. then_owed d (all_owed (q ∷ [])) (begun (map without_notice (q ∷ [])))) (none_forgotten q came.quiet)
-            ∙ (ap (λ d. then_owed [] d (begun (map without_notice (q ∷ [])))) (none_owed q came.quiet)
-            ∙ ap (λ x. then_owed [] [] (begun (x ∷ []))) (without_same q came.quiet)))
+      let begun : Work = record w { core = after_sessions w.core (q ∷ []); ports = q ∷ []; entries = w.entries ++ more } in
+      subst (Stands h host before q.side.shdlc.phase) (sym (behind_is syncs w q more came.quiet)) (rest_stands q.side.shdlc.phase syncs begun may
+      (begun_runs now w p q more r came))
 
   -- as its pass begins
   pub ready_stand : (now : LinkState) (input : NodeInput) (w : Work) → IsOutside input → (r : Runs h host before now w) → IsFresh r.port
       → Stands h host before (has_come r.port (input_at input r.port)).side.shdlc.phase (comes_to_pass input w)
   ready_stand now input w out r fresh =
       subst (λ v. Stands h host before q.side.shdlc.phase (comes_to_pass input v)) (sym (ap (λ ps. record w { ports = ps }) r.is))
-      (subst (λ u. Stands h host before q.side.shdlc.phase (behind syncs u)) (sym came_is) (behind_stands now syncs w p q more may r came)) where
+      (subst (λ u. Stands h host before q.side.shdlc.phase (behind syncs u)) (sym (came_is input w p came.quiet))
+      (behind_stands now syncs w p q more may r came)) where
         p : Port
         p = r.port
 
@@ -178,11 +191,6 @@ module _ (h : ℕ) (host : IsHost h) (before : List Entry) where
 
         may : MayDo h (λ o. ⊥) syncs
         may = subst (MayDo h (λ o. ⊥)) (sym (append-nil (synced w.core input p))) (synced_may h (λ o. ⊥) w.core input p)
-
-        came_is : times_out input (all_come input v) ≡ record w { ports = q ∷ []; entries = w.entries ++ more }
-        came_is =
-            times_same input (all_come input v) q refl came.quiet
-            ∙ ap (λ es. record w { ports = q ∷ []; entries = w.entries ++ es }) (append-nil more)
 
   pub steps_stand : (now : LinkState) (input : NodeInput) (w : Work) → IsOutside input → (r : Runs h host before now w) → IsFresh r.port
       → Stands h host before (has_come r.port (input_at input r.port)).side.shdlc.phase (steps input w)

@@ -1,38 +1,19 @@
 -- Something comes to a host, or it begins something: the init that runs there stays what is read.
-use Rattle.std.proofs.Common.{◌≡◌, ◌⊎◌, inl, inr, ℕ, ◌&&◌, true, false, cond, eqb, List, [], ◌∷◌, ◌++◌, map, sym, refl, ap, ◌∙◌, subst, append-nil}
+use Rattle.std.proofs.Common.{◌≡◌, ◌⊎◌, inl, inr, ℕ, ◌&&◌, true, false, cond, eqb, List, [], ◌∷◌, ◌++◌, sym, refl, ap, ◌∙◌, subst}
 use Rattle.std.specs.Prelude.{Option, Some, None}
 use Rattle.std.specs.List.{AllByRecursion, flat_map}
 use Rattle.std.proofs.lemmas.Bool.{cases_Bool, cond_both, true≢false}
-use Rattle.node_laws.proofs.Words.{AtEnd, Core, Deed, Entry, Init, IsComing, IsFresh, IsHost, IsOutside, LinkInput, LinkState, Message, NodeInput, Orders, Port}
-use Rattle.node_laws.proofs.Words.{Sends, TimePasses, Up, Work, after_sessions, all_come, all_done, all_owed, all_synced_hold, beginning, begins_with}
-use Rattle.node_laws.proofs.Words.{comes_to_pass, forgets, forgotten, has_come, init_of, init_of_running, input_at, is_command_message, noting, passes}
-use Rattle.node_laws.proofs.Words.{reset_late, runs_on, sending, steps, synced, times_out, told_at, told_late, unless_cut, without_notice}
+use Rattle.node_laws.proofs.Words.{Core, Deed, Entry, Init, IsComing, IsFresh, IsHost, IsOutside, LinkInput, LinkState, Message, NodeInput, Orders, Port}
+use Rattle.node_laws.proofs.Words.{Sends, Up, Work, after_sessions, all_done, all_synced_hold, beginning, begins_with}
+use Rattle.node_laws.proofs.Words.{comes_to_pass, has_come, init_of, init_of_running, input_at, is_command_message, passes}
+use Rattle.node_laws.proofs.Words.{runs_on, sending, steps, synced, told_at, unless_cut}
 use Rattle.node_laws.proofs.links.Noticing.{outside}
 use Rattle.node_laws.proofs.links.Staying.{stays_up}
 use Rattle.node_laws.proofs.readings.Silent.{host_side}
 use Rattle.node_laws.specs.views.Inits.{KeepsInit}
 use Rattle.node_laws.proofs.views.Answering.{reads_init, init_append, IsNeutral, AreNeutral, MayGo, neutral_stays}
 use Rattle.node_laws.proofs.views.Going.{Base, Stands, then, all_go, passes_stand, told_init}
-use Rattle.node_laws.proofs.readings.Stepping.{late_told, forgets_same, none_forgotten, none_owed, older_same, late_same, without_same}
-
--- ## An end without a notice
-
-times_same : (input : NodeInput) (w : Work) (q : Port) → w.ports ≡ q ∷ [] → q.desk.notice ≡ None → times_out input w ≡ w
-times_same (AtEnd k i) w q is quiet = refl
-times_same TimePasses w q is quiet =
-    ap (λ ps. times_out TimePasses (record w { ports = ps })) is
-    ∙ (ap (λ x. noting (told_late w.core x ++ []) (record w { ports = reset_late x ∷ [] })) (older_same q quiet)
-    ∙ (ap (λ es. noting (es ++ []) (record w { ports = reset_late q ∷ [] })) (late_told w.core q quiet)
-    ∙ (ap (λ x. noting [] (record w { ports = x ∷ [] })) (late_same q quiet)
-    ∙ (ap (λ es. record w { entries = es; ports = q ∷ [] }) (append-nil w.entries)
-    ∙ ap (λ ps. record w { ports = ps }) (sym is)))))
-
--- what stands behind what came, before the node passes its ends
-abbrev behind : List Deed → Work → Work
-behind syncs came =
-    unless_cut (all_done 0 (all_owed (map (forgets came.ports) came.ports)))
-    (all_done 0 syncs (all_done 0 (forgotten came.ports)
-    (record came { core = after_sessions came.core came.ports; ports = map without_notice (map (forgets came.ports) came.ports) })))
+use Rattle.node_laws.proofs.readings.Stepping.{behind, behind_is, came_is, on_is, over_is}
 
 module _ (h : ℕ) (host : IsHost h) (i0 : Option Init) where
   -- what came to the end of a host
@@ -67,12 +48,6 @@ module _ (h : ℕ) (host : IsHost h) (i0 : Option Init) where
     Fine : Core → Type 0
     Fine core = Stands h host i0 q.side.shdlc.phase (record w { core = core; ports = q ∷ []; entries = w.entries ++ more })
 
-    over_is : q.ended ≡ true → after_sessions w.core (q ∷ []) ≡ record w.core { command = None; init = None }
-    over_is e = rw e refl
-
-    on_is : q.ended ≡ false → after_sessions w.core (q ∷ []) ≡ w.core
-    on_is e = rw (e, came.late) refl
-
     read : reads_init h (w.entries ++ more) i0 ≡ cond q.ended None w.core.init
     read = init_append h w.entries more i0 ∙ (came.told (reads_init h w.entries i0) ∙ ap (λ y. cond q.ended None y) (s.on on).0)
 
@@ -80,12 +55,12 @@ module _ (h : ℕ) (host : IsHost h) (i0 : Option Init) where
     base core number = record { number = number; port = q; is = refl; at = came.at; quiet = came.quiet; phase = refl }
 
     by_end : (q.ended ≡ true) ⊎ (q.ended ≡ false) → Fine (after_sessions w.core (q ∷ []))
-    by_end (inl e) = subst Fine (sym (over_is e)) (record {
+    by_end (inl e) = subst Fine (sym (over_is w.core q e)) (record {
       base = base (record w.core { command = None; init = None }) s.base.number;
       on = λ z. (read ∙ ap (λ b. cond b None w.core.init) e, λ some. absurd (true≢false (sym some)));
       off = λ z. absurd (true≢false (sym z ∙ on));
     })
-    by_end (inr e) = subst Fine (sym (on_is e)) (record {
+    by_end (inr e) = subst Fine (sym (on_is w.core q came.late e)) (record {
       base = base w.core s.base.number;
       on = λ z. (read ∙ ap (λ b. cond b None w.core.init) e, λ some. (((s.on on).1 some).0, came.up ((s.on on).1 some).1 e));
       off = λ z. absurd (true≢false (sym z ∙ on));
@@ -103,30 +78,17 @@ module _ (h : ℕ) (host : IsHost h) (i0 : Option Init) where
       → Stands h host i0 now w → HasCome now w q more
       → Stands h host i0 q.side.shdlc.phase (behind syncs (record w { ports = q ∷ []; entries = w.entries ++ more }))
   behind_stands now syncs w q more neutral on s came =
-      subst (Stands h host i0 q.side.shdlc.phase) (sym is) (rest_stands q.side.shdlc.phase syncs (begun (q ∷ [])) neutral on (begun_stands now w q more on s
-      came)) where
-        begun : List Port → Work
-        begun ports = record w { core = after_sessions w.core (q ∷ []); ports = ports; entries = w.entries ++ more }
-
-        left : map (forgets (q ∷ [])) (q ∷ []) ≡ q ∷ []
-        left = ap (λ x. x ∷ []) (forgets_same (q ∷ []) q came.quiet)
-
-        then_owed : List Deed → List Deed → Work → Work
-        then_owed freed owing v = unless_cut (all_done 0 owing) (all_done 0 syncs (all_done 0 freed v))
-
-        is : behind syncs (record w { ports = q ∷ []; entries = w.entries ++ more }) ≡ then_owed [] [] (begun (q ∷ []))
-        is =
-            ap (λ l. then_owed (forgotten (q ∷ [])) (all_owed l) (begun (map without_notice l))) left
-            ∙ (ap (λ d. then_owed d (all_owed (q ∷ [])) (begun (map without_notice (q ∷ [])))) (none_forgotten q came.quiet)
-            ∙ (ap (λ d. then_owed [] d (begun (map without_notice (q ∷ [])))) (none_owed q came.quiet)
-            ∙ ap (λ x. then_owed [] [] (begun (x ∷ []))) (without_same q came.quiet)))
+      let begun : Work = record w { core = after_sessions w.core (q ∷ []); ports = q ∷ []; entries = w.entries ++ more } in
+      subst (Stands h host i0 q.side.shdlc.phase) (sym (behind_is syncs w q more came.quiet))
+      (rest_stands q.side.shdlc.phase syncs begun neutral on (begun_stands now w q more on s came))
 
   -- as its pass begins
   pub ready_stand : (now : LinkState) (input : NodeInput) (w : Work) → IsOutside input → w.cut ≡ false → (s : Stands h host i0 now w) → IsFresh s.base.port
       → Stands h host i0 (has_come s.base.port (input_at input s.base.port)).side.shdlc.phase (comes_to_pass input w)
   ready_stand now input w out on s fresh =
       subst (λ v. Stands h host i0 q.side.shdlc.phase (comes_to_pass input v)) (sym w_is)
-      (subst (λ u. Stands h host i0 q.side.shdlc.phase (behind syncs u)) (sym came_is) (behind_stands now syncs w q more neutral on s came)) where
+      (subst (λ u. Stands h host i0 q.side.shdlc.phase (behind syncs u)) (sym (came_is input w p came.quiet))
+      (behind_stands now syncs w q more neutral on s came)) where
         p : Port
         p = s.base.port
 
@@ -150,11 +112,6 @@ module _ (h : ℕ) (host : IsHost h) (i0 : Option Init) where
 
         neutral : AreNeutral syncs
         neutral = all_synced_hold IsNeutral (λ host id. tt) w.core input (p ∷ [])
-
-        came_is : times_out input (all_come input v) ≡ record w { ports = q ∷ []; entries = w.entries ++ more }
-        came_is =
-            times_same input (all_come input v) q refl came.quiet
-            ∙ ap (λ es. record w { ports = q ∷ []; entries = w.entries ++ es }) (append-nil more)
 
   pub steps_stand : (now : LinkState) (input : NodeInput) (w : Work) → IsOutside input → w.cut ≡ false → (s : Stands h host i0 now w) → IsFresh s.base.port
       → Stands h host i0 (has_come s.base.port (input_at input s.base.port)).side.shdlc.phase (steps input w)
