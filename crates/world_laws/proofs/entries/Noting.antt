@@ -1,41 +1,36 @@
 -- What is noted of a step holds the frames that it sends and the messages that it brings, as they are over fragments.
 use Rattle.std.proofs.Common.{◌≡◌, ℕ, Bool, true, false, cond, List, [], ◌∷◌, ◌++◌, length, map, Option, Some, None, refl, ap, sym, subst, ◌∙◌, append-nil}
 use Rattle.std.specs.Prelude.{is_some, option_to_list, nat_lt, ◌||◌}
-use Rattle.std.specs.List.{list_any}
+use Rattle.world_laws.proofs.Words.{Acked, Act, ActEvent, Active, AllKeepPower, AreSendableTurns, AsksReset, Comes, Control, Cut, CutOff, EndEvent, Ending}
+use Rattle.world_laws.proofs.Words.{GaveUp, Give, GoesOut, Got, IsAllowed, Link, LinkEnd, LinkInput, Lose, Loss, Lost, Message, NextFrame, NoInput, NumberedEnd}
+use Rattle.world_laws.proofs.Words.{OnWire, Reset, Starts, Step, Take, Tells, Turn, activated, after_input, aged_entries, by_option, by_test, core_here}
+use Rattle.world_laws.proofs.Words.{core_of, core_take, core_turns, emitted_turns, ended_by, far, first_lost, frames_by, frames_out, give_refusal, got_turns}
+use Rattle.world_laws.proofs.Words.{gots_noted, here_entries, if_so, is_cut, is_open, left_after, list_any, moved, number_of, pushed_out, put, put_entries}
+use Rattle.world_laws.proofs.Words.{puts_entries, report, reports_to, reset_by, reset_refusal, rest_entries, step_entries, stopped, taken_entries, told_of}
+use Rattle.world_laws.proofs.Words.{took_with, turn, turn_entries, turned, whole_acked, window_of, wire_with, with_ended}
 use Rattle.std.proofs.lemmas.Bool.{or_parts}
-use Rattle.swp_base.specs.declared.control_frames.Control.{Control}
-use Rattle.swp_base.specs.declared.control_frames.Control.TheVariants.{Act}
-use Rattle.swp_act.specs.declared.ActEvent.{ActEvent}
 use Rattle.swp_act.specs.declared.ActEvent.TheVariants.{Start as ActStart, Stop as ActStop}
-use Rattle.shdlc_core.specs.Machine.{stopped}
-use Rattle.link_laws.specs.sessions.Sessions.{OnWire, ShdlcEndEvent as CoreEndEvent, took_with}
+use Rattle.link_laws.specs.sessions.Sessions.{ShdlcEndEvent as CoreEndEvent}
 use Rattle.link_laws.specs.sessions.Sessions.{shdlc_happens_at_controller as core_happens_here}
 use Rattle.link_laws.specs.sessions.Sessions.ShdlcEndEvent.{Turns as CoreTurns, Deliver as CoreDeliver, Reset as CoreReset}
-use Rattle.link_laws.specs.machine.Machine.{Message, LinkEnd, Refused, LinkInput, Turn, Report, report, turn, turned, give_refusal, reset_refusal, reset_by}
-use Rattle.link_laws.specs.machine.Machine.{window_of}
-use Rattle.link_laws.specs.machine.Machine.{after_input, got_by, frames_out, whole_acked, is_open, ended_by, moved, activated, started, deactivated}
-use Rattle.link_laws.specs.machine.Machine.LinkInput.{Take, Reset, Start, Stop}
-use Rattle.link_laws.specs.machine.Machine.Turn.{Give}
-use Rattle.link_laws.specs.messages.Links.{NumberedEnd, Link, Ending, Comes, Loss, EndEvent, number_of, put, with_ended, silent, AreSendableTurns}
-use Rattle.link_laws.specs.messages.Links.{IsAllowed, IsOwn}
-use Rattle.link_laws.specs.messages.Links.Ending.{GoesOut, CutOff}
-use Rattle.link_laws.specs.messages.Links.Comes.{NextFrame, AsksReset, Starts, Stops, NoInput}
-use Rattle.link_laws.specs.messages.Links.EndEvent.{Step, Lose}
+use Rattle.link_laws.specs.machine.Machine.{Refused, Report}
+use Rattle.link_laws.specs.machine.Machine.{got_by, started, deactivated}
+use Rattle.link_laws.specs.machine.Machine.LinkInput.{Start, Stop}
+use Rattle.link_laws.specs.messages.Links.{silent}
+use Rattle.link_laws.specs.messages.Links.{IsOwn}
+use Rattle.link_laws.specs.messages.Links.Comes.{Stops}
 use Rattle.link_laws.specs.messages.Links.Loss.{TooMany, TooOld}
-use Rattle.link_laws.specs.messages.Projection.{core_of, core_turns, core_step, core_here, core_reset, core_restart, core_take, core_ending}
+use Rattle.link_laws.specs.messages.Projection.{core_step, core_reset, core_restart, core_ending}
 use Rattle.link_laws.proofs.messages.ActsInOrder.{LinkInOrder, IsPolite, polite_of}
-use Rattle.link_laws.proofs.messages.Project.{Tells}
 use Rattle.link_laws.proofs.messages.Steps.{Rests, ComesFirst, FromHost, core_first}
-use Rattle.link_laws.specs.entries.Entries.{End, Entry, far, if_so, told, told_of, turn_entry, turn_entries, first_lost, pushed_out, wire_with}
-use Rattle.link_laws.specs.entries.Entries.{put_entries, puts_entries, rest_entries, taken_entries, restart_entries, step_entries, here_entries}
-use Rattle.link_laws.specs.entries.Entries.{aged_entries, left_after}
-use Rattle.link_laws.specs.entries.Entries.Entry.{Up, Down, Active, GaveUp, Acked, Got, Emit, Lost, Cut}
-use Rattle.tap_reading.specs.Tap.{TapReport, reports_to}
-use Rattle.world_laws.specs.fragments.Emitted.{emitted_turns, got_turns, frames_by, AllKeepPower}
-use Rattle.world_laws.specs.entries.Hearing.{is_clf, frames_heard, gots_noted, is_cut}
+use Rattle.link_laws.specs.entries.Entries.{End, Entry, told, turn_entry}
+use Rattle.link_laws.specs.entries.Entries.{restart_entries}
+use Rattle.link_laws.specs.entries.Entries.Entry.{Up, Down, Emit}
+use Rattle.tap_reading.specs.Tap.{TapReport}
+use Rattle.world_laws.specs.entries.Hearing.{is_clf, frames_heard}
 use Rattle.world_laws.proofs.entries.Reading.{AreWritten}
 use Rattle.world_laws.proofs.entries.Sending.{numbered, got_now, Sends, take_sends, idle_sends, reset_sends, restart_sends}
-use Rattle.node_laws.proofs.Cases.{by_list, by_option, by_test}
+use Rattle.node_laws.proofs.Cases.{by_list}
 
 -- ## Entries
 

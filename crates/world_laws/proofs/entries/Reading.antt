@@ -5,23 +5,20 @@ use Rattle.std.proofs.Common.{ap, sym, subst, ◌∙◌, arith}
 use Rattle.std.specs.Prelude.{nat_le, nat_lt, slice_get, Ok}
 use Rattle.std.proofs.lemmas.Bool.{le-leb, le-ltb}
 use Rattle.std.proofs.lemmas.List.{length-take}
-use Rattle.swp_base.specs.declared.control_frames.Kind.TheVariants.{Rr, Rej, Rnr, Srej}
-use Rattle.swp_base.specs.declared.control_frames.Control.{Control}
-use Rattle.swp_base.specs.declared.control_frames.Control.TheVariants.{I, S, Act}
+use Rattle.world_laws.proofs.Words.{Act, Control, Due, EndState, Fragment, I, LinkEnd, Message, Rr, S, Srej, by_option, expected, frames_by, frames_now}
+use Rattle.world_laws.proofs.Words.{frames_of, frames_out, most_frames}
+use Rattle.swp_base.specs.declared.control_frames.Kind.TheVariants.{Rej, Rnr}
 use Rattle.swp_base.specs.declared.control_frames.Act.{Act as Activation}
 use Rattle.swp_base.specs.declared.control_frames.Act.TheVariants.{Ready, SyncId, PowerMode}
-use Rattle.shdlc_core.specs.declared.answers.Due.{Due}
 use Rattle.shdlc_core.specs.declared.answers.Due.TheVariants.{Rset as Rset_due, Ua as Ua_due}
-use Rattle.shdlc_core.specs.Machine.{EndState, Fragment, fetched, frame_due, control_due, frames_of, most_frames, expected}
+use Rattle.shdlc_core.specs.Machine.{fetched, frame_due, control_due}
 use Rattle.shdlc_core.proofs.Histories.{fragment_due-within}
 use Rattle.link_laws.proofs.places.Joined.{fetch_cases}
 use Rattle.hcp_packet.specs.Packets.{packets_of, parts_of, packet_bytes, packet_count, fragments_of}
 use Rattle.swp_lpdu.specs.Controls.{control_of, lpdu_of, lpdu_row_of, lpdu_row, i_frame}
-use Rattle.link_laws.specs.machine.Machine.{LinkEnd, Message, among, frames_out}
-use Rattle.link_laws.proofs.messages.Project.{Mid, due_now, frames_now, among_now}
+use Rattle.link_laws.specs.machine.Machine.{among}
+use Rattle.link_laws.proofs.messages.Project.{Mid, due_now, among_now}
 use Rattle.tap_reading.specs.Lpdus.{frames_read}
-use Rattle.world_laws.specs.fragments.Emitted.{frames_by}
-use Rattle.node_laws.proofs.Cases.{by_option}
 
 -- numbers below 8, and from 1 to 29 bytes in an I frame
 abbrev pub IsWritten : Control → Type 0

@@ -3,43 +3,34 @@ use Rattle.std.proofs.Common.{◌≡◌, ℕ, zero, suc, ◌+◌, Bool, true, fa
 use Rattle.std.proofs.Common.{refl, ap, sym}
 use Rattle.std.proofs.Common.{subst, ◌∙◌, append-nil}
 use Rattle.std.specs.Prelude.{is_some, option_to_list, ◌==◌}
-use Rattle.std.proofs.lemmas.Bool.{true≢false}
-use Rattle.swp_base.specs.declared.control_frames.Control.{Control}
-use Rattle.swp_base.specs.declared.control_frames.Control.TheVariants.{I, S, Rset, Ua, Act, Clt}
+use Rattle.world_laws.proofs.Words.{Act, ActEvent, AreSendableTurns, Clt, Control, EndState, Fragment, I, Link, LinkEnd, LinkState, Message, Now, OnWire, Rset}
+use Rattle.world_laws.proofs.Words.{S, Take, Tells, Turn, Ua, act_answer, activated, by_test, core_of, core_take, core_turns, emitted_here, emitted_turns}
+use Rattle.world_laws.proofs.Words.{frames_now, frames_out, good_of, got_here, got_turns, got_with, is_act, is_open, is_rset, mid_moved, moved, number_of}
+use Rattle.world_laws.proofs.Words.{opened, reset_by, reset_refusal, reset_with, sent_then, stopped, take_answer, taken, took, took_with, true≢false, turned}
+use Rattle.world_laws.proofs.Words.{turns_mid}
 use Rattle.swp_base.specs.declared.control_frames.Act.{Act as Activation}
 use Rattle.swp_base.specs.declared.link_terms.Cause.TheVariants.{Asked}
-use Rattle.swp_act.specs.declared.ActEvent.{ActEvent}
 use Rattle.swp_act.specs.declared.ActEvent.TheVariants.{Take as ActTake}
-use Rattle.shdlc_core.specs.declared.answers.LinkState.{LinkState}
 use Rattle.shdlc_core.specs.declared.answers.LinkState.TheVariants.{Down as IsDown, Waiting as IsWaitingNow, Up as IsUpNow}
-use Rattle.shdlc_core.specs.Machine.{EndState, Fragment, taken, take_answer, reset_with, stopped}
-use Rattle.link_laws.specs.sessions.Sessions.{OnWire, ShdlcLink as CoreLink, ShdlcTurn as CoreTurn, ShdlcEndEvent as CoreEndEvent, shdlc_turned as core_turned}
-use Rattle.link_laws.specs.sessions.Sessions.{is_rset, took_with, shdlc_number_of as core_number_of, shdlc_silent as core_silent}
+use Rattle.link_laws.specs.sessions.Sessions.{ShdlcLink as CoreLink, ShdlcTurn as CoreTurn, ShdlcEndEvent as CoreEndEvent, shdlc_turned as core_turned}
+use Rattle.link_laws.specs.sessions.Sessions.{shdlc_number_of as core_number_of, shdlc_silent as core_silent}
 use Rattle.link_laws.specs.sessions.Sessions.ShdlcEndEvent.{Turns as CoreTurns, Deliver as CoreDeliver, Ignore as CoreIgnore, Acts as CoreActs}
 use Rattle.link_laws.specs.sessions.Sessions.ShdlcEndEvent.{Lose as CoreLose}
 use Rattle.link_laws.specs.sessions.Sessions.ShdlcEndEvent.{Reset as CoreReset, Stop as CoreStop}
-use Rattle.link_laws.specs.sessions.Losses.{is_act}
 use Rattle.link_laws.proofs.sessions.Wire.{IsData}
 use Rattle.link_laws.proofs.sessions.Steps.{passes}
-use Rattle.hcp_packet.specs.Packets.{packets_in, good_of}
+use Rattle.hcp_packet.specs.Packets.{packets_in}
 use Rattle.hcp_chain.specs.Joining.{are_taken, given_by}
-use Rattle.link_laws.specs.machine.Machine.{Message, LinkEnd, Turn, turned, is_open, role_after, act_answer, activated, is_faulty, messages_got, news, moved}
-use Rattle.link_laws.specs.machine.Machine.{took}
-use Rattle.link_laws.specs.machine.Machine.{frames_out, got_by, if_up, reset_refusal, reset_by}
-use Rattle.link_laws.specs.machine.Machine.LinkInput.{Take}
-use Rattle.link_laws.proofs.machine.Runs.{opened}
+use Rattle.link_laws.specs.machine.Machine.{role_after, is_faulty, messages_got, news}
+use Rattle.link_laws.specs.machine.Machine.{got_by, if_up}
 use Rattle.link_laws.proofs.machine.Reports.{shdlc_is as shdlc_moved}
-use Rattle.link_laws.specs.messages.Links.{Link, AreSendableTurns, number_of}
-use Rattle.link_laws.specs.messages.Projection.{core_of, core_turns, core_take}
-use Rattle.link_laws.proofs.messages.Project.{Now, Tells, frames_now, turns_mid, mid_moved}
 use Rattle.link_laws.proofs.messages.Steps.{ComesFirst, Heard, is_shdlc, heard_end, heard_is, counted_is, mid_counted, took_open, took_closed}
 use Rattle.link_laws.proofs.messages.Steps.{no_fault_first, polite}
 use Rattle.link_laws.proofs.messages.Steps.{role_closes, act_mid}
 use Rattle.link_laws.proofs.messages.Finishing.{reset_tells, reset_keeps, restart_mid}
-use Rattle.world_laws.specs.fragments.Emitted.{sent_then, emitted_here, brought_by, got_with, got_here, emitted_turns, got_turns}
+use Rattle.world_laws.specs.fragments.Emitted.{brought_by}
 use Rattle.world_laws.proofs.entries.Reading.{AreWritten, out_is, out_written}
 use Rattle.world_laws.proofs.fragments.Taking.{Accepted, takes_data, accepts_none}
-use Rattle.node_laws.proofs.Cases.{by_test}
 
 -- ## What comes with a frame
 

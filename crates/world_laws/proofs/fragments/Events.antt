@@ -4,34 +4,27 @@ use Rattle.std.proofs.Common.{subst, ◌∙◌, arith, length, map, drop}
 use Rattle.std.specs.Prelude.{nat_lt, is_some}
 use Rattle.std.proofs.lemmas.Bool.{ltb-false}
 use Rattle.swp_base.specs.declared.control_frames.Act.{Act as Activation}
-use Rattle.swp_base.specs.declared.control_frames.Control.{Control}
-use Rattle.swp_base.specs.declared.control_frames.Control.TheVariants.{Rset, Act}
-use Rattle.shdlc_core.specs.declared.answers.LinkState.{LinkState}
-use Rattle.shdlc_core.specs.declared.answers.LinkState.TheVariants.{Down, Waiting, Up}
+use Rattle.world_laws.proofs.Words.{Act, Below, Control, Down, EndState, Fragment, LinkState, NumberedShdlc, OnWire, Rset, SafeLink, Session, ShdlcLink}
+use Rattle.world_laws.proofs.Words.{ShdlcTurn, TapState, Up, Waiting, by_test, emitted_here, emitted_tick, frames_of, got_here, hears_all, is_act, is_rset}
+use Rattle.world_laws.proofs.Words.{most_frames, no_session, of_up, reset_with, sans, sent_then, shdlc_number_of, shdlc_put, shdlc_session_of, shdlc_turned}
+use Rattle.world_laws.proofs.Words.{stopped, take_answer, taken, tap_hears, tells_all, tick_answer, ticked, took_with}
 use Rattle.shdlc_core.specs.declared.answers.Due.TheVariants.{Rset as Rset_due}
-use Rattle.shdlc_core.specs.Machine.{EndState, Session, Fragment, no_session, take_answer, taken, ticked, tick_answer, reset_with, stopped, frames_of}
-use Rattle.shdlc_core.specs.Machine.{most_frames}
 use Rattle.shdlc_core.specs.Machine.{waiting_from, runs_timer, sent_again, asked_again, given_up}
-use Rattle.link_laws.specs.sessions.Sessions.{OnWire, NumberedShdlc, ShdlcLink, shdlc_number_of, shdlc_session_of, shdlc_put, shdlc_put_all}
-use Rattle.link_laws.specs.sessions.Sessions.{shdlc_becomes, with_shdlc_ended, took_with, is_rset, is_up, ShdlcTurn, shdlc_turned, act_frame}
+use Rattle.link_laws.specs.sessions.Sessions.{shdlc_put_all}
+use Rattle.link_laws.specs.sessions.Sessions.{shdlc_becomes, with_shdlc_ended, is_up, act_frame}
 use Rattle.link_laws.specs.sessions.Sessions.{ShdlcEndEvent, IsTurn}
 use Rattle.link_laws.specs.sessions.Sessions.{shdlc_silent, shdlc_happens_at_controller, shdlc_ticks_at_controller}
 use Rattle.link_laws.specs.sessions.Sessions.ShdlcEndEvent.{Turns, Deliver, Ignore, Acts, Lose, Reset, Cut, Stop}
-use Rattle.link_laws.specs.sessions.Losses.{is_act, sans}
 use Rattle.link_laws.proofs.sessions.Hand.{NothingIsOut, idle_out, nothing_out}
-use Rattle.link_laws.proofs.sessions.Data.{Below, of_up}
 use Rattle.link_laws.proofs.sessions.Safe.{Safe}
-use Rattle.link_laws.proofs.sessions.Sending.{SafeLink}
 use Rattle.link_laws.proofs.sessions.Steps.{took, took_other, passes_act, act_not_rset, counts}
-use Rattle.tap_reading.specs.Tap.{TapState, tap_hears}
-use Rattle.world_laws.specs.fragments.Emitted.{hears_all, tells_all, sent_then, emitted_here, got_here, KeepsPower, emitted_tick}
+use Rattle.world_laws.specs.fragments.Emitted.{KeepsPower}
 use Rattle.world_laws.proofs.fragments.Wires.{NoUa, no_ua-drop, no_ua-rest, no_ua-from}
 use Rattle.world_laws.proofs.fragments.Sides.{ever_sent, Tracks, Knows, KnowsLink, Alike, alike_end, alike_none, Becomes, tracks_on, tracks_far}
 use Rattle.world_laws.proofs.fragments.Frames.{CanSend, can_send, knows_wire}
 use Rattle.world_laws.proofs.fragments.Turning.{knows_rset}
 use Rattle.world_laws.proofs.fragments.Going.{GoesAt, hears_all-append, tells_all-append, knows_side, Went, went_none, went_one, goes_of}
 use Rattle.world_laws.proofs.fragments.Taking.{Heard, got_now, knows_rest, takes_heard}
-use Rattle.node_laws.proofs.Cases.{by_test}
 
 -- what the tap knows after this at the controller's end
 abbrev pub HeardHere : Bool → TapState → ShdlcLink → ShdlcEndEvent → Type 0

@@ -3,18 +3,16 @@ use Rattle.std.proofs.Common.{◌≡◌, ℕ, zero, suc, ◌+◌, ◌%◌, ◌<�
 use Rattle.std.proofs.Common.{subst}
 use Rattle.std.proofs.Common.{◌∙◌, arith, length, max}
 use Rattle.std.specs.Prelude.{take, nat_lt, slice_get}
-use Rattle.std.proofs.lemmas.Bool.{eq-eqb, ne_eqb, cases_eq, lt-ltb}
+use Rattle.world_laws.proofs.Words.{Down, Fragment, I, Kind, NumberedShdlc, OnWire, S, Session, TapSide, TapState, Up, eq-eqb, expected, fits, listed_at}
+use Rattle.world_laws.proofs.Words.{ne_eqb, no_session, of_up, shdlc_number_of, shdlc_session_of, tap_hears, tap_tells}
+use Rattle.std.proofs.lemmas.Bool.{cases_eq, lt-ltb}
 use Rattle.std.proofs.lemmas.List.{length-take-le}
 use Rattle.std.proofs.lemmas.Option.{slice_get_within}
-use Rattle.swp_base.specs.declared.control_frames.Kind.{Kind}
-use Rattle.swp_base.specs.declared.control_frames.Control.TheVariants.{I, S}
-use Rattle.shdlc_core.specs.declared.answers.LinkState.TheVariants.{Down, Up}
-use Rattle.shdlc_core.specs.Machine.{Session, Fragment, no_session, sent_next, fragment_due, expected}
+use Rattle.shdlc_core.specs.Machine.{sent_next, fragment_due}
 use Rattle.shdlc_core.proofs.Histories.{fragment_due-within}
-use Rattle.link_laws.specs.sessions.Sessions.{OnWire, NumberedShdlc, fits, shdlc_number_of, shdlc_session_of}
-use Rattle.link_laws.proofs.sessions.Data.{Base, of_up}
-use Rattle.tap_reading.specs.Tap.{TapSide, TapState, listed_at, counted_at, adds, with_fragment, tells_more, with_number, is_in_session, tap_hears}
-use Rattle.tap_reading.specs.Tap.{told_by, tap_tells}
+use Rattle.link_laws.proofs.sessions.Data.{Base}
+use Rattle.tap_reading.specs.Tap.{counted_at, adds, with_fragment, tells_more, with_number, is_in_session}
+use Rattle.tap_reading.specs.Tap.{told_by}
 use Rattle.world_laws.proofs.fragments.Wires.{is_ua, NoUa, no_ua-push, no_ua-fits}
 use Rattle.world_laws.proofs.fragments.Sides.{ever_sent, Tracks, Knows, session_above}
 use Rattle.world_laws.proofs.fragments.Sides.{tracks_far}

@@ -1,29 +1,21 @@
 -- An end has its turns, and then all that is due goes out: what the tap knows then.
 use Rattle.std.proofs.Common.{◌≡◌, ℕ, zero, suc, ◌+◌, ◌%◌, ◌≤◌, Bool, false, List, [], ◌∷◌, ◌++◌, Some, None, refl, ap, sym}
 use Rattle.std.proofs.Common.{subst, ◌∙◌, arith, length, length-append, append_assoc, append-nil, map}
-use Rattle.std.proofs.lemmas.List.{map-append, take-append-le}
-use Rattle.swp_base.specs.declared.control_frames.Kind.{Kind}
-use Rattle.swp_base.specs.declared.control_frames.Kind.TheVariants.{Rr}
-use Rattle.swp_base.specs.declared.control_frames.Control.{Control}
-use Rattle.swp_base.specs.declared.control_frames.Control.TheVariants.{I, S}
-use Rattle.shdlc_core.specs.declared.answers.LinkState.{LinkState}
-use Rattle.shdlc_core.specs.declared.answers.LinkState.TheVariants.{Down, Waiting, Up}
-use Rattle.shdlc_core.specs.declared.answers.Due.{Due}
+use Rattle.world_laws.proofs.Words.{Control, Down, Due, EndState, Fragment, I, Kind, LinkState, NumberedShdlc, OnWire, Rr, S, SafeLink, Session, ShdlcLink}
+use Rattle.world_laws.proofs.Words.{ShdlcTurn, TapState, Up, Waiting, by_option, expected, frames_of, hears_all, map-append, most_frames, no_session, of_up}
+use Rattle.world_laws.proofs.Words.{shdlc_number_of, shdlc_put, shdlc_turned, tap_hears, tap_tells, tells_all}
+use Rattle.std.proofs.lemmas.List.{take-append-le}
 use Rattle.shdlc_core.specs.declared.answers.Due.TheVariants.{Rr as Rr_due}
-use Rattle.shdlc_core.specs.Machine.{EndState, Session, Fragment, no_session, sent_next, fetched, frame_due, fragment_due, control_due, expected, frames_of}
-use Rattle.shdlc_core.specs.Machine.{after_frames, most_frames, put_out}
+use Rattle.shdlc_core.specs.Machine.{sent_next, fetched, frame_due, fragment_due, control_due}
+use Rattle.shdlc_core.specs.Machine.{after_frames, put_out}
 use Rattle.link_laws.proofs.places.Idle.{fetched_idle, after_frames_idle}
 use Rattle.link_laws.proofs.places.Joined.{fetch_cases, changed}
-use Rattle.link_laws.specs.sessions.Sessions.{OnWire, NumberedShdlc, ShdlcLink, shdlc_put, shdlc_put_all, shdlc_becomes, shdlc_number_of, ShdlcTurn}
-use Rattle.link_laws.specs.sessions.Sessions.{shdlc_turn, shdlc_turned}
+use Rattle.link_laws.specs.sessions.Sessions.{shdlc_put_all, shdlc_becomes}
+use Rattle.link_laws.specs.sessions.Sessions.{shdlc_turn}
 use Rattle.link_laws.specs.sessions.Sessions.ShdlcTurn.{Offer, SetReady}
-use Rattle.link_laws.proofs.sessions.Data.{of_up}
-use Rattle.link_laws.proofs.sessions.Sending.{SafeLink, ready_by, phase_known, controls, room, controls_same, put_all-append, frames_in_order, at_most_one}
-use Rattle.tap_reading.specs.Tap.{TapState, tap_hears, tap_tells}
-use Rattle.world_laws.specs.fragments.Emitted.{hears_all, tells_all}
+use Rattle.link_laws.proofs.sessions.Sending.{ready_by, phase_known, controls, room, controls_same, put_all-append, frames_in_order, at_most_one}
 use Rattle.world_laws.proofs.fragments.Sides.{Knows, KnowsLink, SameLists, Alike, alike_update, alike_none, tracks_on, tracks_far}
 use Rattle.world_laws.proofs.fragments.Frames.{can_send, Goes, goes_fragment, answer_says, knows_wire}
-use Rattle.node_laws.proofs.Cases.{by_option}
 
 pub hears_all-append : (bare : Bool) (t : TapState) (cs ds : List Control) → hears_all bare t (cs ++ ds) ≡ hears_all bare (hears_all bare t cs) ds
 hears_all-append bare t [] ds = refl

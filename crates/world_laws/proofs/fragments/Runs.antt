@@ -1,25 +1,23 @@
 -- The tap hears all frames of every run of a link over fragments: it knows both ends, and tells what they got.
 use Rattle.std.proofs.Common.{◌≡◌, ℕ, ◌≤◌, Bool, true, false, List, [], ◌∷◌, ◌++◌, Option, Some, None, ◌⊎◌, inl, inr, refl, ap, sym, subst, ◌∙◌}
 use Rattle.std.proofs.Common.{append_assoc, arith}
-use Rattle.std.proofs.lemmas.List.{map-append}
-use Rattle.swp_base.specs.declared.control_frames.Control.{Control}
-use Rattle.shdlc_core.specs.declared.answers.LinkState.TheVariants.{Up}
-use Rattle.shdlc_core.specs.Machine.{is_waiting}
-use Rattle.link_laws.specs.sessions.Sessions.{OnWire, NumberedShdlc, ShdlcLink, IsShdlcStart, shdlc_exchanged, ShdlcTurn, ShdlcEndEvent}
+use Rattle.world_laws.proofs.Words.{AllKeepPower, Control, HasItsTick, NumberedShdlc, OnWire, SafeLink, ShdlcLink, ShdlcTurn, TapSide, TapState, Up, by_test}
+use Rattle.world_laws.proofs.Words.{emitted_here, emitted_tick, emitted_turns, frames_by, got_here, hears_all, is_waiting, listed_at, map-append, reports_to}
+use Rattle.world_laws.proofs.Words.{safe_aged, safe_turns, tap_hears, tap_tells, tells_all}
+use Rattle.link_laws.specs.sessions.Sessions.{IsShdlcStart, shdlc_exchanged, ShdlcEndEvent}
 use Rattle.link_laws.specs.sessions.Sessions.{shdlc_happens_at_controller}
 use Rattle.link_laws.specs.sessions.Sessions.{shdlc_aged, ShdlcLinkEvent, AreTurns, start, start_down, shdlc_all_at_controller, ticks_or_cut, ticks_if_waiting}
 use Rattle.link_laws.specs.sessions.Sessions.{AllShdlcAllowed}
 use Rattle.link_laws.specs.sessions.Sessions.{shdlc_happens, shdlc_after, aged_wire}
 use Rattle.link_laws.specs.sessions.Sessions.IsShdlcStart.{BothUp, BothDown}
 use Rattle.link_laws.specs.sessions.Sessions.ShdlcLinkEvent.{AtController, AtHost, Tick, TickWithout}
-use Rattle.link_laws.proofs.sessions.Sending.{SafeLink}
-use Rattle.link_laws.proofs.sessions.Steps.{safe_turn, safe_turns, safe_exchanged, safe_aged, tick_or_cut, tick_if_waiting, safe_event, safe_start}
-use Rattle.tap_reading.specs.Tap.{TapSide, TapState, TapReport, new_tap, tap_exchanged, tap_hears, tap_tells, reports_to, tap_after_frame, tap_reports}
+use Rattle.link_laws.proofs.sessions.Steps.{safe_turn, safe_exchanged, tick_or_cut, tick_if_waiting, safe_event, safe_start}
+use Rattle.tap_reading.specs.Tap.{TapReport, new_tap, tap_exchanged, tap_after_frame, tap_reports}
 use Rattle.tap_reading.specs.Tap.{tap_after}
-use Rattle.tap_reading.specs.Tap.{tapped_from, tapped, listed_at}
-use Rattle.world_laws.specs.fragments.Emitted.{hears_all, tells_all, emitted_here, got_here, emitted_tick, emitted_if_waiting, emitted_turns, frames_by}
+use Rattle.tap_reading.specs.Tap.{tapped_from, tapped}
+use Rattle.world_laws.specs.fragments.Emitted.{emitted_if_waiting}
 use Rattle.world_laws.specs.fragments.Emitted.{emitted_event}
-use Rattle.world_laws.specs.fragments.Emitted.{got_event, emitted, got, AllKeepPower, HasItsTick, NoneIsCut}
+use Rattle.world_laws.specs.fragments.Emitted.{got_event, emitted, got, NoneIsCut}
 use Rattle.world_laws.proofs.fragments.Wires.{NoUa, no_ua-aged}
 use Rattle.world_laws.specs.fragments.Knowing.{StartsSo, IsTrackedBy, ever_sent}
 use Rattle.world_laws.proofs.fragments.Sides.{Tracks, Knows, KnowsLink}
@@ -28,7 +26,6 @@ use Rattle.world_laws.proofs.fragments.Sides.{tracks_on}
 use Rattle.world_laws.proofs.fragments.Going.{hears_all-append, tells_all-append}
 use Rattle.world_laws.proofs.fragments.Taking.{Heard}
 use Rattle.world_laws.proofs.fragments.Events.{here_heard, turn_heard, tick_heard}
-use Rattle.node_laws.proofs.Cases.{by_test}
 
 -- ## Frames of both sides
 

@@ -1,13 +1,11 @@
 -- What a tap that has heard all frames of a link so far knows of its two ends.
 use Rattle.std.proofs.Common.{◌≡◌, ℕ, ◌+◌, ◌<◌, ◌≤◌, ◌==◌, Bool, true, false, List, ◌∷◌, ◌⊎◌, inl, inr, refl, ap, sym}
 use Rattle.std.proofs.Common.{◌∙◌, arith, length}
-use Rattle.std.proofs.lemmas.Bool.{ne_eqb}
-use Rattle.shdlc_core.specs.declared.answers.LinkState.{LinkState}
-use Rattle.shdlc_core.specs.declared.answers.LinkState.TheVariants.{Down, Waiting, Up}
-use Rattle.shdlc_core.specs.Machine.{Session, Fragment, new_session, no_session}
-use Rattle.link_laws.specs.sessions.Sessions.{OnWire, NumberedShdlc, ShdlcLink, shdlc_number_of, shdlc_session_of, ended_session}
-use Rattle.link_laws.proofs.sessions.Data.{Below, none_ended, of_up, of_update, of_end, of_none, of_begin}
-use Rattle.tap_reading.specs.Tap.{TapSide, TapState, listed_at}
+use Rattle.world_laws.proofs.Words.{Below, Down, Fragment, LinkState, NumberedShdlc, OnWire, Session, ShdlcLink, TapSide, TapState, Up, Waiting, listed_at}
+use Rattle.world_laws.proofs.Words.{ne_eqb, no_session, none_ended, of_up, shdlc_number_of, shdlc_session_of}
+use Rattle.shdlc_core.specs.Machine.{new_session}
+use Rattle.link_laws.specs.sessions.Sessions.{ended_session}
+use Rattle.link_laws.proofs.sessions.Data.{of_update, of_end, of_none, of_begin}
 pub use Rattle.world_laws.specs.fragments.Knowing.{ever_sent}
 use Rattle.world_laws.proofs.fragments.Wires.{NoUa}
 

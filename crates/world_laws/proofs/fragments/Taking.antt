@@ -2,34 +2,27 @@
 use Rattle.std.proofs.Common.{◌≡◌, ℕ, ◌+◌, ◌<◌, ◌≤◌, ◌==◌, Bool, true, false, List, [], ◌∷◌, ◌++◌, Option, Some, None, ◌⊎◌, inl, inr, refl, ap}
 use Rattle.std.proofs.Common.{sym, subst, ◌∙◌, arith, max, min}
 use Rattle.std.specs.Prelude.{nat_lt, is_some}
-use Rattle.std.proofs.lemmas.Bool.{ne_eqb}
-use Rattle.swp_base.specs.declared.control_frames.Kind.{Kind}
-use Rattle.swp_base.specs.declared.control_frames.Kind.TheVariants.{Rr, Rej, Rnr, Srej}
-use Rattle.swp_base.specs.declared.control_frames.Control.{Control}
-use Rattle.swp_base.specs.declared.control_frames.Control.TheVariants.{I, S, Rset, Ua, Act, Clt}
-use Rattle.shdlc_core.specs.declared.answers.LinkState.{LinkState}
-use Rattle.shdlc_core.specs.declared.answers.LinkState.TheVariants.{Down, Waiting, Up}
-use Rattle.shdlc_core.specs.declared.answers.Due.{Due}
+use Rattle.world_laws.proofs.Words.{Act, Below, Clt, Control, Down, Due, EndState, Fragment, I, Kind, LinkState, NumberedShdlc, OnWire, Rr, Rset, S, Session}
+use Rattle.world_laws.proofs.Words.{ShdlcLink, ShdlcTurn, Srej, TapState, Ua, Up, Waiting, by_option, by_test, expected, fits, got_with, hears_all, ne_eqb}
+use Rattle.world_laws.proofs.Words.{no_session, none_ended, sans, sent_then, shdlc_number_of, shdlc_put, shdlc_session_of, shdlc_turned, take_answer, taken}
+use Rattle.world_laws.proofs.Words.{tap_hears, tells_all, took_with}
+use Rattle.swp_base.specs.declared.control_frames.Kind.TheVariants.{Rej, Rnr}
 use Rattle.shdlc_core.specs.declared.answers.Due.TheVariants.{Rr as Rr_due, Rej as Rej_due, Rnr as Rnr_due, Rset as Rset_due, Ua as Ua_due}
-use Rattle.shdlc_core.specs.Machine.{EndState, Session, Fragment, new_session, no_session, taken, take_answer, place_of, ahead}
-use Rattle.shdlc_core.specs.Machine.{up_with, expected}
-use Rattle.link_laws.specs.sessions.Sessions.{OnWire, NumberedShdlc, ShdlcLink, fits, shdlc_number_of, shdlc_session_of, ended_session, shdlc_put}
-use Rattle.link_laws.specs.sessions.Sessions.{with_shdlc_ended, took_with, ShdlcTurn, shdlc_turned}
-use Rattle.link_laws.specs.sessions.Losses.{sans}
+use Rattle.shdlc_core.specs.Machine.{new_session, place_of, ahead}
+use Rattle.shdlc_core.specs.Machine.{up_with}
+use Rattle.link_laws.specs.sessions.Sessions.{ended_session}
+use Rattle.link_laws.specs.sessions.Sessions.{with_shdlc_ended}
 use Rattle.link_laws.proofs.sessions.Wire.{IsData, rsets, live}
 use Rattle.link_laws.proofs.sessions.Hand.{peer_of, IsRset, rset_told, ua_told, ahead_not_waiting}
-use Rattle.link_laws.proofs.sessions.Data.{Below, below_more, none_ended, IsAnswer, TakenUp, taken_up}
+use Rattle.link_laws.proofs.sessions.Data.{below_more, IsAnswer, TakenUp, taken_up}
 use Rattle.link_laws.proofs.sessions.Safe.{Safe, session_with, pair_from, frame_cases}
 use Rattle.link_laws.proofs.sessions.Steps.{took, took_other, not_rset, passes}
-use Rattle.tap_reading.specs.Tap.{TapState, tap_hears}
-use Rattle.world_laws.specs.fragments.Emitted.{hears_all, tells_all, sent_then, got_with}
 use Rattle.world_laws.proofs.fragments.Wires.{NoUa, no_ua-rest}
 use Rattle.world_laws.proofs.fragments.Sides.{ever_sent, Knows, KnowsLink, Alike, alike_end, alike_none, alike_begin, alike_then, Becomes}
 use Rattle.world_laws.proofs.fragments.Sides.{tracks_on, tracks_far}
 use Rattle.world_laws.proofs.fragments.Frames.{CanSend, can_send, still_no_ua}
 use Rattle.world_laws.proofs.fragments.Turning.{Answers, knows_ua, Accepts, knows_accepted}
 use Rattle.world_laws.proofs.fragments.Going.{GoesAt, knows_side, goes_answer, Went, went_none, went_one}
-use Rattle.node_laws.proofs.Cases.{by_test, by_option}
 
 -- ## A frame of a session at an end that is Up
 

@@ -2,18 +2,15 @@
 use Rattle.std.proofs.Common.{◌≡◌, ℕ, zero, suc, ◌+◌, ◌%◌, ◌<◌, ◌≤◌, ◌==◌, Bool, true, false, cond, List, [], ◌∷◌, ◌++◌, Some, ◌⊎◌, inl, inr, refl, ap}
 use Rattle.std.proofs.Common.{sym, subst, ◌∙◌, arith, length, max, map, drop, length-append, append_assoc}
 use Rattle.std.specs.Prelude.{take, nat_lt}
-use Rattle.std.proofs.lemmas.Bool.{eq-eqb, ltb-true, ltb-false, lt-ltb}
+use Rattle.world_laws.proofs.Words.{Below, Down, Fragment, NumberedShdlc, OnWire, Rr, Rset, S, Session, TapSide, TapState, Ua, Up, Waiting, eq-eqb, expected}
+use Rattle.world_laws.proofs.Words.{fits, good_of, got_with, listed_at, no_session, none_ended, of_up, shdlc_number_of, shdlc_session_of, tap_hears, tap_tells}
+use Rattle.std.proofs.lemmas.Bool.{ltb-true, ltb-false, lt-ltb}
 use Rattle.std.proofs.lemmas.List.{length-take-le}
-use Rattle.swp_base.specs.declared.control_frames.Kind.TheVariants.{Rr}
-use Rattle.swp_base.specs.declared.control_frames.Control.TheVariants.{S, Rset, Ua}
-use Rattle.shdlc_core.specs.declared.answers.LinkState.TheVariants.{Down, Waiting, Up}
-use Rattle.shdlc_core.specs.Machine.{Session, Fragment, no_session, expected}
-use Rattle.hcp_packet.specs.Packets.{packets_in, good_of}
+use Rattle.hcp_packet.specs.Packets.{packets_in}
 use Rattle.hcp_chain.specs.Joining.{are_taken, given_by}
-use Rattle.link_laws.specs.sessions.Sessions.{OnWire, NumberedShdlc, fits, shdlc_number_of, shdlc_session_of}
-use Rattle.link_laws.proofs.sessions.Data.{Base, Below, below_more, none_ended, of_up, of_update}
-use Rattle.tap_reading.specs.Tap.{TapSide, TapState, listed_at, renumbered, tells_more, with_number, is_in_session, tap_hears, news_behind, told_by, tap_tells}
-use Rattle.world_laws.specs.fragments.Emitted.{brought_by, got_with}
+use Rattle.link_laws.proofs.sessions.Data.{Base, below_more, of_update}
+use Rattle.tap_reading.specs.Tap.{renumbered, tells_more, with_number, is_in_session, news_behind, told_by}
+use Rattle.world_laws.specs.fragments.Emitted.{brought_by}
 use Rattle.world_laws.proofs.fragments.Wires.{is_ua, NoUa}
 use Rattle.world_laws.proofs.fragments.Sides.{ever_sent, Tracks, Knows, session_ended, session_above, Alike, tracks_far, tracks_renumbered}
 use Rattle.world_laws.proofs.fragments.Frames.{still_no_ua, count_up, in_session, session_now}

@@ -2,12 +2,9 @@
 use Rattle.std.proofs.Common.{◌≡◌, Bool, true, false, List, [], ◌∷◌, ◌++◌, refl, ap, drop}
 use Rattle.std.specs.Prelude.{nat_lt, ◌||◌, length}
 use Rattle.std.proofs.lemmas.Bool.{or_parts}
-use Rattle.swp_base.specs.declared.control_frames.Control.{Control}
-use Rattle.swp_base.specs.declared.control_frames.Control.TheVariants.{Ua}
-use Rattle.link_laws.specs.sessions.Sessions.{OnWire, fits, aged_wire}
-use Rattle.link_laws.specs.sessions.Losses.{sans}
+use Rattle.world_laws.proofs.Words.{Control, OnWire, Ua, by_test, fits, sans}
+use Rattle.link_laws.specs.sessions.Sessions.{aged_wire}
 use Rattle.link_laws.proofs.sessions.Wire.{uas}
-use Rattle.node_laws.proofs.Cases.{by_test}
 
 abbrev pub is_ua : Control → Bool
 is_ua Ua = true

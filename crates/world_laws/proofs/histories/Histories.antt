@@ -1,25 +1,14 @@
 -- What a tap reports over a history of a bare link.
 use Rattle.std.proofs.Common.{◌≡◌, ℕ, ◌==◌, true, false, List, [], ◌∷◌, ◌++◌, refl, ap, sym, subst, ◌∙◌}
-use Rattle.std.specs.List.{AllByRecursion, list_any}
-use Rattle.std.proofs.lemmas.Bool.{eq-eqb}
+use Rattle.world_laws.proofs.Words.{AllByRecursion, Controller, Cut, Event, Follows, Got, Header, History, Host, IsBare, IsLineOf, Line, Restarted, all_events}
+use Rattle.world_laws.proofs.Words.{bare_link, causes_of, entries_for, entries_of, eq-eqb, gots_noted, gots_on, host_of, is_cut, is_run, link_events, list_any}
+use Rattle.world_laws.proofs.Words.{lpdus_heard, lpdus_on, notes_of, of_allowed, plain_trace, run_entries, tapped_lpdus}
 use Rattle.swp_lpdu.specs.Controls.{lpdu_of}
-use Rattle.trace_model.specs.declared.line.Header.{Header}
-use Rattle.trace_model.specs.declared.line.Line.{Line}
-use Rattle.trace_model.specs.Lines.{IsLineOf}
-use Rattle.link_laws.specs.messages.Links.IsStart.{IsBare}
 use Rattle.link_laws.specs.entries.Entries.{Entry as Noted}
-use Rattle.link_laws.specs.entries.Entries.End.{Controller, Host}
-use Rattle.link_laws.specs.entries.Entries.Entry.{Got, Emit, Restarted, Cut}
-use Rattle.history.specs.Histories.{Event, History, all_events, entries_of, causes_of}
-use Rattle.history.specs.Steps.{entries_for, bare_link}
-use Rattle.history.specs.Follows.{Follows, host_of}
-use Rattle.history.proofs.legal.Runs.{AreOf, link_events, of_front, of_allowed}
-use Rattle.history.proofs.legal.Ordered.{is_run, run_entries, notes_of}
-use Rattle.history.proofs.legal.Plain.{ArePlain, plain_trace}
-use Rattle.tap_reading.specs.Lpdus.{tapped_lpdus}
-use Rattle.world_laws.specs.entries.Hearing.{lpdus_heard, gots_noted, is_cut}
+use Rattle.link_laws.specs.entries.Entries.Entry.{Emit}
+use Rattle.history.proofs.legal.Runs.{AreOf, of_front}
+use Rattle.history.proofs.legal.Plain.{ArePlain}
 use Rattle.world_laws.proofs.entries.Events.{tap_reports_lpdus}
-use Rattle.world_laws.specs.histories.Tapping.{lpdus_on, gots_on}
 
 pub lpdus_same : (h : ℕ) (t : List Noted) → lpdus_on h (entries_for h t) ≡ lpdus_heard t
 lpdus_same h [] = refl

@@ -1,21 +1,11 @@
 -- The rounds of a bare link are the same whatever number its host has.
 use Rattle.std.proofs.Common.{◌≡◌, ℕ, zero, suc, cond, List, [], ◌∷◌, ◌++◌, map, refl, ap, sym, ◌∙◌, length}
 use Rattle.std.specs.Prelude.{replicate}
-use Rattle.std.proofs.lemmas.List.{map-append}
-use Rattle.link_laws.specs.machine.Machine.Turn.{FetchMessage}
-use Rattle.link_laws.specs.messages.Links.{Link, LinkEvent, after_link_events}
-use Rattle.link_laws.specs.messages.Links.Ending.{GoesOut}
-use Rattle.link_laws.specs.messages.Links.Comes.{NextFrame}
-use Rattle.link_laws.specs.messages.Links.EndEvent.{Step}
-use Rattle.link_laws.specs.messages.Links.LinkEvent.{AtHost}
-use Rattle.link_laws.specs.entries.Entries.End.{Controller, Host}
-use Rattle.history.specs.Histories.{Cause}
-use Rattle.history.specs.Histories.Cause.{Taken, Ticked}
-use Rattle.history.specs.Steps.{end_of, event_of, link_after_all}
-use Rattle.link_laws.specs.messages.Rest.{link_rests, steps_to_rest}
-use Rattle.node_laws.specs.rounds.BareRounds.{causes_of_round, link_after_round, causes_of_rounds}
-use Rattle.world_laws.specs.links.Settling.{rounds_to_settle, settling_events}
-use Rattle.node_laws.proofs.rounds.BareRounds.{after_causes, map-replicate}
+use Rattle.world_laws.proofs.Words.{AtHost, Cause, Controller, FetchMessage, GoesOut, Host, Link, LinkEvent, NextFrame, Step, Taken, Ticked, after_causes}
+use Rattle.world_laws.proofs.Words.{after_link_events, causes_of_round, causes_of_rounds, end_of, event_of, link_after_all, link_after_round, link_rests}
+use Rattle.world_laws.proofs.Words.{map-append, rounds_to_settle, settling_events}
+use Rattle.link_laws.specs.messages.Rest.{steps_to_rest}
+use Rattle.node_laws.proofs.rounds.BareRounds.{map-replicate}
 use Rattle.world_laws.proofs.links.RoundCauses.{near, far}
 
 -- what is the same on the link leads to the same one

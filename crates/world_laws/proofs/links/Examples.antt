@@ -1,16 +1,10 @@
 -- Worked examples of bare worlds that settle, computed from their definitions: the rounds, and what is noted of them.
 use Rattle.std.proofs.Common.{◌≡◌, refl, ℕ, List, [], ◌∷◌, None}
-use Rattle.trace_model.specs.declared.entry.Entry.{Entry}
-use Rattle.trace_model.specs.declared.entry.Entry.TheVariants.{Took, Acked, Emit}
-use Rattle.trace_model.specs.declared.line.End.{End}
-use Rattle.trace_model.specs.declared.line.Line.{Line}
+use Rattle.world_laws.proofs.Words.{Controller, Emit, End, Entry, Host, Line, Link, Took, bare_link, end_of, entries_of, events_at, rounds_to_settle}
+use Rattle.world_laws.proofs.Words.{settling_causes}
+use Rattle.trace_model.specs.declared.entry.Entry.TheVariants.{Acked}
 use Rattle.trace_model.specs.declared.line.Line.TheVariants.{Send, Deliver, Lose, Busy}
-use Rattle.link_laws.specs.messages.Links.{Link}
-use Rattle.link_laws.specs.entries.Entries.End.{Controller, Host}
-use Rattle.history.specs.Histories.{entries_of}
-use Rattle.history.specs.Steps.{end_of, bare_link, events_at}
 use Rattle.history.specs.Follows.{link_after_lines}
-use Rattle.world_laws.specs.links.Settling.{rounds_to_settle, settling_causes}
 
 abbrev end_c : End
 end_c = end_of 2 Controller

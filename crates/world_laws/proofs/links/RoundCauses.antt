@@ -2,20 +2,13 @@
 use Rattle.std.proofs.Common.{◌≡◌, ℕ, zero, suc, ◌+◌, ◌*◌, ◌≤◌, List, [], ◌∷◌, ◌++◌, map, refl, ap, sym, subst, ◌∙◌, length, arith}
 use Rattle.std.specs.Prelude.{replicate}
 use Rattle.std.proofs.lemmas.List.{length-append, length-replicate}
-use Rattle.link_laws.specs.sessions.Sessions.{OnWire}
-use Rattle.link_laws.specs.machine.Machine.Turn.{FetchMessage}
-use Rattle.link_laws.specs.messages.Links.{Link, exchanged}
+use Rattle.world_laws.proofs.Words.{AreRoundCauses, Cause, Controller, FetchMessage, Host, Link, OnWire, Taken, Ticked, after_causes, after_steps, bare_link}
+use Rattle.world_laws.proofs.Words.{causes_of, causes_of_round, causes_of_rounds, end_of, event_of, events_at, exchanged, link_after, link_after_all}
+use Rattle.world_laws.proofs.Words.{link_after_round, rounds_to_settle, settling_causes}
 use Rattle.link_laws.specs.entries.Entries.{End as Side}
-use Rattle.link_laws.specs.entries.Entries.End.{Controller, Host}
-use Rattle.history.specs.Histories.{Cause, causes_of}
-use Rattle.history.specs.Histories.Cause.{Taken, Ticked}
-use Rattle.history.specs.Steps.{bare_link, end_of, event_of, link_after, link_after_all, event_at, events_at}
-use Rattle.link_laws.specs.messages.Rest.{after_steps}
-use Rattle.node_laws.specs.rounds.BareRounds.{causes_of_round, link_after_round, causes_of_rounds}
-use Rattle.world_laws.specs.links.Settling.{rounds_to_settle, settling_causes}
-use Rattle.world_laws.specs.links.RoundCauses.{AreRoundCauses, times_ticked}
+use Rattle.history.specs.Steps.{event_at}
+use Rattle.world_laws.specs.links.RoundCauses.{times_ticked}
 use Rattle.world_laws.proofs.links.Settling.{wire_after, rounds}
-use Rattle.node_laws.proofs.rounds.BareRounds.{after_causes}
 use Rattle.node_laws.proofs.schedules.Wires.{IsFewWires, after_few}
 
 -- ## One list behind another

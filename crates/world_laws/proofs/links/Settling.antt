@@ -3,32 +3,16 @@ use Rattle.std.proofs.Common.{◌≡◌, ℕ, zero, suc, ◌+◌, ◌*◌, ◌<�
 use Rattle.std.proofs.Common.{arith, length}
 use Rattle.std.specs.Prelude.{replicate, is_some}
 use Rattle.std.proofs.lemmas.Bool.{cases_lt}
-use Rattle.std.proofs.lemmas.List.{map-append}
-use Rattle.link_laws.specs.sessions.Sessions.{OnWire, took_with}
-use Rattle.link_laws.specs.machine.Machine.Turn.{FetchMessage}
-use Rattle.link_laws.specs.machine.Machine.{LinkEnd, Turn, turned, after_input, ended_by, frames_out}
-use Rattle.link_laws.specs.machine.Machine.LinkInput.{Take}
-use Rattle.link_laws.specs.messages.Links.{Link, LinkEvent, IsStart, exchanged, with_ended, happens, happens_at_controller}
-use Rattle.link_laws.specs.messages.Links.{after_link_events, talk_now}
-use Rattle.link_laws.specs.messages.Links.{AllAllowed}
-use Rattle.link_laws.specs.messages.Links.Ending.{GoesOut}
-use Rattle.link_laws.specs.messages.Links.Comes.{NextFrame}
-use Rattle.link_laws.specs.messages.Links.EndEvent.{Step}
-use Rattle.link_laws.specs.messages.Links.LinkEvent.{AtController, AtHost, Ticks}
-use Rattle.link_laws.proofs.messages.Project.{beside-put_all}
-use Rattle.link_laws.specs.entries.Entries.End.{Controller, Host}
-use Rattle.history.specs.Histories.{Cause}
-use Rattle.history.specs.Histories.Cause.{Taken, Ticked}
-use Rattle.history.specs.Steps.{end_of, event_of, link_after_all, idle}
+use Rattle.world_laws.proofs.Words.{AllAllowed, AreLinkRounds, AtController, AtHost, Cause, Controller, EarlierGot, FetchMessage, GoesOut, Host}
+use Rattle.world_laws.proofs.Words.{IsLinkUndisturbed, IsStart, Link, LinkEnd, LinkEvent, NextFrame, OnWire, Step, Take, Taken, Ticked, Ticks, Turn}
+use Rattle.world_laws.proofs.Words.{after_causes, after_events-append, after_input, after_link_events, after_steps, allowed-append, beside-put_all}
+use Rattle.world_laws.proofs.Words.{causes_of_round, causes_of_rounds, end_of, ended_by, event_of, exchanged, first_rest, fragments_left, frames_out, happens}
+use Rattle.world_laws.proofs.Words.{happens_at_controller, link_after_all, link_after_round, link_rests, map-append, rounds_to_settle, settling_events}
+use Rattle.world_laws.proofs.Words.{talk_now, took_with, turned, with_ended}
+use Rattle.history.specs.Steps.{idle}
 use Rattle.lines_told.specs.messages.Recovery.{AllOrdinaryOnLink, come_to_controller, come_to_host, times_among, IsLinkRound}
-use Rattle.lines_told.specs.messages.Recovery.{AreLinkRounds, IsLinkUndisturbed, fragments_left, EarlierGot}
-use Rattle.link_laws.specs.messages.Rest.{link_rests, after_steps}
-use Rattle.lines_told.proofs.messages.Rest.{first_rest}
-use Rattle.lines_told.proofs.messages.Projected.{after_events-append}
 use Rattle.lines_told.proofs.messages.Law.{got_by_host, got_by_controller, rest_at_host, rest_at_controller}
-use Rattle.node_laws.specs.rounds.BareRounds.{causes_of_round, link_after_round, causes_of_rounds}
-use Rattle.node_laws.proofs.rounds.BareRounds.{after_causes, map-replicate, allowed-append, take_one, bare_round_allowed}
-use Rattle.world_laws.specs.links.Settling.{rounds_to_settle, settling_events}
+use Rattle.node_laws.proofs.rounds.BareRounds.{map-replicate, take_one, bare_round_allowed}
 
 -- ## Frames that are taken
 

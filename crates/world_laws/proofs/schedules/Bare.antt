@@ -1,28 +1,14 @@
 -- Where the link of a bare world settles behind plays, it has brought all.
 use Rattle.std.proofs.Common.{◌≡◌, ℕ, zero, suc, ◌+◌, ◌*◌, ◌≤◌, false, List, [], ◌∷◌, ◌++◌, refl, ap, sym, subst, ◌∙◌}
 use Rattle.std.specs.Prelude.{replicate}
-use Rattle.std.specs.List.{AllByRecursion}
-use Rattle.trace_model.specs.declared.line.Header.{Header}
-use Rattle.trace_model.specs.declared.line.Line.{Line}
-use Rattle.trace_model.specs.Lines.{IsLineOf}
-use Rattle.link_laws.specs.messages.Links.{Link, AllAllowed, after_link_events}
-use Rattle.link_laws.specs.messages.Links.IsStart.{IsBare}
-use Rattle.link_laws.specs.messages.Rest.{link_rests, after_steps}
-use Rattle.link_laws.specs.entries.Entries.End.{Controller, Host}
-use Rattle.history.specs.Histories.{History, all_events, causes_of}
-use Rattle.history.specs.Steps.{bare_link, end_of}
-use Rattle.history.specs.Follows.{Follows, host_of}
+use Rattle.world_laws.proofs.Words.{AllAllowed, AllByRecursion, Controller, Follows, Header, History, Host, IsBare, IsLineOf, IsLinkUndisturbed, Line, Link}
+use Rattle.world_laws.proofs.Words.{Play, Round, after_causes, after_link_events, after_steps, all_events, bare_link, bare_link_behind, causes_of, end_of}
+use Rattle.world_laws.proofs.Words.{fragments_left, host_of, lines_played, link_after_round, link_events, link_rests, of_allowed, round_behind, rounds_to_rest}
+use Rattle.world_laws.proofs.Words.{rounds_to_settle, settling_causes, settling_events}
 use Rattle.history.proofs.Leading.{events_in, lines_lead}
-use Rattle.history.proofs.legal.Runs.{link_events, of_allowed, of_steps}
-use Rattle.lines_told.specs.messages.Recovery.{IsLinkUndisturbed, fragments_left}
-use Rattle.lines_told.specs.lines.Below.{bare_link_behind}
-use Rattle.lines_told.specs.lines.Plays.{Play, lines_played, round_behind, rounds_to_rest}
-use Rattle.lines_told.specs.lines.Plays.Play.{Round}
+use Rattle.history.proofs.legal.Runs.{of_steps}
 use Rattle.lines_told.proofs.lines.BareRounds.{bare_round, bare_round_goes, bare_played_rounds, round_causes}
 use Rattle.lines_told.proofs.lines.Resting.{alike, bare_comes_to_rest}
-use Rattle.node_laws.specs.rounds.BareRounds.{link_after_round}
-use Rattle.node_laws.proofs.rounds.BareRounds.{after_causes}
-use Rattle.world_laws.specs.links.Settling.{rounds_to_settle, settling_causes, settling_events}
 use Rattle.world_laws.specs.links.Resting.{LinkBrought}
 use Rattle.world_laws.proofs.links.Settling.{settled_at_host, settled_at_controller}
 use Rattle.world_laws.proofs.links.RoundCauses.{settles}

@@ -1,41 +1,21 @@
 -- What the link of a bare world has brought behind a line that lets it settle, as the history of the schedule notes it.
 use Rattle.std.proofs.Common.{◌≡◌, ℕ, ◌+◌, ◌*◌, ◌≤◌, false, List, [], ◌∷◌, ◌++◌, ap, sym, subst, ◌∙◌, arith}
 use Rattle.std.specs.Prelude.{replicate}
-use Rattle.std.specs.List.{AllByRecursion}
-use Rattle.trace_model.specs.declared.entry.Entry.{Entry}
-use Rattle.trace_model.specs.declared.line.Header.{Header}
-use Rattle.trace_model.specs.declared.line.Line.{Line}
+use Rattle.world_laws.proofs.Words.{AllByRecursion, AreBothUpIn, BothBrought, Controller, Entry, Event, Follows, Header, History, Host, IsBare, IsLineOf}
+use Rattle.world_laws.proofs.Words.{IsLinkUndisturbed, IsReadOff, IsRun, Known, Line, Link, Play, Round, Talk, after_link_events, all_entries, all_events}
+use Rattle.world_laws.proofs.Words.{bare_link, bare_link_behind, causes_of, controller_heard, end_c, end_h, end_of, entries_for, fragments_left}
+use Rattle.world_laws.proofs.Words.{fragments_noted, host_heard, host_of, is_run, lines_played, lines_played_of, link_events, notes_of, of_allowed, of_can}
+use Rattle.world_laws.proofs.Words.{plain_trace, plays_of, rounds_to_rest, run_entries, session-all, session_up, settling_events, start_good, start_reached}
+use Rattle.world_laws.proofs.Words.{talk_now}
 use Rattle.trace_model.specs.declared.line.Line.TheVariants as saying
-use Rattle.trace_model.specs.Lines.{IsLineOf}
-use Rattle.link_laws.specs.messages.Links.{Link, Talk, after_link_events, talk_now, talk_of}
-use Rattle.link_laws.specs.messages.Links.IsStart.{IsBare}
+use Rattle.link_laws.specs.messages.Links.{talk_of}
 use Rattle.link_laws.specs.entries.Entries.{Entry as Noted}
-use Rattle.link_laws.specs.entries.Entries.End.{Controller, Host}
 use Rattle.link_laws.specs.entries.Sessions.{IsRead}
-use Rattle.link_laws.proofs.messages.Whole.{start_good, start_reached}
-use Rattle.link_laws.proofs.entries.Hearing.{session_up}
 use Rattle.link_laws.proofs.entries.Running.{read_here, read_there}
-use Rattle.history.specs.Histories.{Event, History, all_entries, all_events, causes_of}
 use Rattle.history.specs.Filters.{session_number}
-use Rattle.history.specs.Steps.{bare_link, end_of, entries_for}
-use Rattle.history.specs.Follows.{Follows, host_of}
 use Rattle.history.proofs.legal.Noted.{sent-all, got-all, acked-all}
-use Rattle.history.proofs.legal.Ordered.{IsRun, is_run, notes_of, run_entries}
-use Rattle.history.proofs.legal.Plain.{plain_trace}
-use Rattle.history.proofs.legal.Reading.{session-all}
-use Rattle.history.proofs.legal.Runs.{link_events, of_allowed, of_can}
-use Rattle.history.proofs.legal.Sessions.{controller_heard, host_heard}
-use Rattle.node_machine.specs.world.World.{end_c, end_h}
-use Rattle.node_laws.specs.order.Told.{IsReadOff}
-use Rattle.lines_told.specs.messages.Recovery.{IsLinkUndisturbed, fragments_left}
-use Rattle.lines_told.proofs.messages.Projected.{Known, known_after}
-use Rattle.lines_told.specs.lines.Below.{bare_link_behind}
-use Rattle.lines_told.specs.lines.Plays.{Play, lines_played, lines_played_of, plays_of, rounds_to_rest}
-use Rattle.lines_told.specs.lines.Plays.Play.{Round}
+use Rattle.lines_told.proofs.messages.Projected.{known_after}
 use Rattle.world_laws.specs.links.Resting.{LinkBrought}
-use Rattle.world_laws.specs.links.Settling.{settling_events}
-use Rattle.world_laws.specs.worlds.Brought.{AreBothUpIn, BothBrought}
-use Rattle.world_laws.specs.worlds.NotedFragments.{fragments_noted}
 use Rattle.world_laws.proofs.worlds.NotedFragments.{end_left}
 use Rattle.world_laws.proofs.schedules.Bare.{happened_leads, bare_settled}
 use Rattle.world_laws.proofs.schedules.Nodes.{brought, with_settle}

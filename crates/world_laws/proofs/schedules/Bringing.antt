@@ -1,28 +1,13 @@
 -- Behind plays a world that settles has brought all, where nothing that disturbs it is noted of its rounds.
 use Rattle.std.proofs.Common.{◌≡◌, inl, inr, ℕ, ◌+◌, ◌*◌, ◌≤◌, true, false, List, ◌++◌, Some, subst, sym, ◌∙◌}
 use Rattle.std.specs.Prelude.{replicate}
-use Rattle.std.specs.List.{AllByRecursion}
-use Rattle.std.proofs.lemmas.Bool.{true≢false}
-use Rattle.trace_model.specs.declared.line.Header.{Header}
-use Rattle.trace_model.specs.Lines.{IsHeader, IsNodeHeader, MayBegin}
-use Rattle.history.specs.Follows.{Follows, host_of}
-use Rattle.history.specs.Histories.{History, all_entries}
-use Rattle.node_machine.specs.world.NodeHistories.{FollowsNodes, NodeHistory, node_entries}
-use Rattle.node_machine.specs.world.World.{Site, site_at}
-use Rattle.node_laws.specs.kept.Hosts.{AreHosts}
-use Rattle.node_laws.specs.links.Runs.{ArePlayable}
-use Rattle.node_laws.specs.order.Told.{AreUpWith}
-use Rattle.node_laws.proofs.order.HostsStay.{hosts_stay_behind}
-use Rattle.node_laws.proofs.schedules.Ranges.{hosts_are}
-use Rattle.lines_told.specs.lines.Below.{IsPlayedLine, bare_link_behind, nodes_behind}
-use Rattle.lines_told.specs.lines.Plays.{IsPlayFor, Play, lines_played, rounds_to_rest}
-use Rattle.lines_told.specs.lines.Plays.Play.{Round}
-use Rattle.lines_told.proofs.lines.Lines.{lines_may_be_played}
-use Rattle.lines_told.proofs.lines.Plays.{all-append, rounds_for}
-use Rattle.world_laws.specs.worlds.Brought.{AreBothUpIn, BothBrought}
+use Rattle.world_laws.proofs.Words.{AllByRecursion, AreBothReady, AreBothUpIn, AreHosts, ArePlayable, ArePoweredNotes, AreUnheldNotes, AreUpWith, BothBrought}
+use Rattle.world_laws.proofs.Words.{Follows, FollowsNodes, Header, History, IsHeader, IsPlayFor, IsPlayedLine, NodeHistory, Play, Round, Site, all-append}
+use Rattle.world_laws.proofs.Words.{all_entries, bare_link_behind, entries_since, fragments_noted, host_of, hosts_are, hosts_stay_behind, lines_may_be_played}
+use Rattle.world_laws.proofs.Words.{lines_played, node_entries, nodes_behind, rounds_for, rounds_to_rest, site_at, true≢false}
+use Rattle.trace_model.specs.Lines.{IsNodeHeader, MayBegin}
 use Rattle.world_laws.specs.worlds.BroughtBehind.{BringsAll}
-use Rattle.world_laws.specs.worlds.NotedFragments.{fragments_noted}
-use Rattle.world_laws.specs.worlds.Undisturbed.{AreBothReady, AreLeftReady, ArePoweredNotes, AreUndisturbedNotes, AreUnheldNotes, entries_since}
+use Rattle.world_laws.specs.worlds.Undisturbed.{AreLeftReady, AreUndisturbedNotes}
 use Rattle.world_laws.proofs.schedules.BareNoted.{bare_behind}
 use Rattle.world_laws.proofs.schedules.Nodes.{noted_behind}
 use Rattle.world_laws.proofs.schedules.Played.{played_bare, played_playable}

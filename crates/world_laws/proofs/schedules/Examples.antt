@@ -1,13 +1,9 @@
 -- Worked examples of schedules of a bare world whose lines let the link settle, computed from their definitions.
 use Rattle.std.proofs.Common.{◌≡◌, refl, false, [], ◌∷◌, None}
-use Rattle.trace_model.specs.declared.entry.Entry.TheVariants.{Acked, Echo, Emit, Got, Head, Lost, Sent, Settled, Took, Up}
+use Rattle.world_laws.proofs.Words.{Controller, Emit, End, Header, Host, Line, Settle, Took, end_of}
+use Rattle.trace_model.specs.declared.entry.Entry.TheVariants.{Acked, Echo, Got, Head, Lost, Sent, Settled, Up}
 use Rattle.trace_model.specs.declared.entry.LostCause.TheVariants.{Asked}
-use Rattle.trace_model.specs.declared.line.End.{End}
-use Rattle.trace_model.specs.declared.line.Header.{Header}
-use Rattle.trace_model.specs.declared.line.Line.{Line}
-use Rattle.trace_model.specs.declared.line.Line.TheVariants.{Send, Deliver, Lose, Busy, Settle}
-use Rattle.link_laws.specs.entries.Entries.End.{Controller, Host}
-use Rattle.history.specs.Steps.{end_of}
+use Rattle.trace_model.specs.declared.line.Line.TheVariants.{Send, Deliver, Lose, Busy}
 use Rattle.lines_told.specs.lines.Plays.{schedule_told}
 
 -- `swp 1 bare 02`

@@ -1,36 +1,21 @@
 -- Where the links of a world of nodes settle behind plays, they have brought all.
 use Rattle.std.proofs.Common.{◌≡◌, ℕ, ◌+◌, ◌*◌, ◌≤◌, true, List, [], ◌∷◌, ◌++◌, Some, refl, ap, sym, subst, ◌∙◌, append-nil, arith, length}
 use Rattle.std.specs.Prelude.{replicate}
-use Rattle.hcp_packet.specs.Packets.{good_of, IsFrontOf}
-use Rattle.trace_model.specs.declared.entry.Entry.{Entry}
-use Rattle.trace_model.specs.declared.line.End.{End}
-use Rattle.trace_model.specs.declared.line.Header.{Header}
-use Rattle.trace_model.specs.declared.line.Line.{Line}
+use Rattle.world_laws.proofs.Words.{AreHosts, ArePlayable, AreUpWith, BothBrought, EarlierGot, End, Entry, FollowsNodes, Header, IsLinkTold, IsLinkUndisturbed}
+use Rattle.world_laws.proofs.Words.{IsReadOff, Line, LinkSettled, Message, NodeHistory, NodeWorld, Play, Round, Site, Talk, end_c, end_h, events_of_steps}
+use Rattle.world_laws.proofs.Words.{fragments_left, fragments_noted, good_of, host_number, lines_played, lines_played_of, new_world, node_entries, nodes_behind}
+use Rattle.world_laws.proofs.Words.{occurrences_in, plays_of, rounds_events, rounds_of_world, rounds_to_rest, site_at, steps_from, talk_now, world_behind}
+use Rattle.world_laws.proofs.Words.{world_rounds_to_settle, world_settling}
+use Rattle.hcp_packet.specs.Packets.{IsFrontOf}
 use Rattle.trace_model.specs.declared.line.Line.TheVariants as saying
-use Rattle.link_laws.specs.machine.Machine.{Message}
 use Rattle.history.specs.Filters.{got_in}
-use Rattle.link_laws.specs.messages.Links.{Talk, talk_now}
-use Rattle.node_machine.specs.world.World.{Site, NodeWorld, new_world, site_at, end_c, end_h}
-use Rattle.node_machine.specs.world.NodeHistories.{FollowsNodes, NodeHistory, NoneIsMisread, node_entries, occurrences_in, steps_from}
-use Rattle.node_machine.specs.world.Rounds.{rounds_of_world, world_rounds_to_settle, world_settling}
-use Rattle.node_laws.specs.kept.Hosts.{AreHosts}
-use Rattle.node_laws.specs.telling.Telling.{world_behind}
-use Rattle.node_laws.proofs.telling.Lasting.{behind_lines, events_of_steps}
-use Rattle.node_laws.specs.links.Runs.{ArePlayable}
-use Rattle.node_laws.specs.order.Told.{AreUpWith, IsReadOff, IsLinkTold}
-use Rattle.node_laws.proofs.order.Lines.{host_number}
+use Rattle.node_machine.specs.world.NodeHistories.{NoneIsMisread}
+use Rattle.node_laws.proofs.telling.Lasting.{behind_lines}
 use Rattle.node_laws.proofs.order.Quiet.{near_now, far_now, up_near, up_far}
-use Rattle.lines_told.specs.messages.Recovery.{EarlierGot, IsLinkUndisturbed, fragments_left}
-use Rattle.lines_told.specs.lines.Below.{nodes_behind}
-use Rattle.lines_told.specs.lines.Plays.{Play, lines_played, lines_played_of, plays_of, rounds_to_rest}
-use Rattle.lines_told.specs.lines.Plays.Play.{Round}
 use Rattle.lines_told.proofs.lines.Plays.{plays_more}
 use Rattle.lines_told.proofs.lines.NodeRounds.{played_rounds}
 use Rattle.lines_told.proofs.lines.Resting.{nodes_come_to_rest}
-use Rattle.node_laws.specs.rounds.RoundEvents.{rounds_events}
-use Rattle.world_laws.specs.worlds.LinkSettled.{LinkSettled}
-use Rattle.world_laws.specs.worlds.NotedFragments.{fragments_noted}
-use Rattle.world_laws.specs.worlds.Brought.{HasBrought, BothBrought}
+use Rattle.world_laws.specs.worlds.Brought.{HasBrought}
 use Rattle.world_laws.proofs.worlds.NotedFragments.{link_left}
 use Rattle.world_laws.proofs.worlds.Rounds.{IsReached}
 use Rattle.world_laws.proofs.worlds.WorldRounds.{reached_behind, world_settled}

@@ -1,37 +1,19 @@
 -- Where links are at rest behind plays, the history of these plays notes it.
 use Rattle.std.proofs.Common.{◌≡◌, ℕ, List, Some, refl, ap, sym, subst, ◌∙◌}
-use Rattle.std.specs.List.{AllByRecursion}
-use Rattle.trace_model.specs.declared.entry.Entry.{Entry}
-use Rattle.trace_model.specs.declared.line.Header.{Header}
-use Rattle.trace_model.specs.declared.line.Line.{Line}
-use Rattle.trace_model.specs.Lines.{IsLineOf}
+use Rattle.world_laws.proofs.Words.{AllByRecursion, AreHosts, ArePlayable, Controller, Entry, Event, Follows, FollowsNodes, Header, History, Host, IsBare}
+use Rattle.world_laws.proofs.Words.{IsLineOf, IsRun, Line, Link, NodeHistory, NodeWorld, Site, after_link_events, all_entries, all_events, bare_link}
+use Rattle.world_laws.proofs.Words.{bare_link_behind, causes_of, controller_heard, end_c, end_h, entries_for, host_heard, host_number, host_of, is_run}
+use Rattle.world_laws.proofs.Words.{link_events, new_world, node_entries, nodes_behind, notes_of, occurrences_in, of_allowed, of_can, plain_trace, run_entries}
+use Rattle.world_laws.proofs.Words.{session-all, session_up, site_at, world_behind}
 use Rattle.link_laws.specs.places.Wire.{OnWire}
-use Rattle.link_laws.specs.messages.Links.{Link, after_link_events}
-use Rattle.link_laws.specs.messages.Links.IsStart.{IsBare}
 use Rattle.link_laws.specs.entries.Entries.{Entry as Noted}
-use Rattle.link_laws.specs.entries.Entries.End.{Controller, Host}
 use Rattle.link_laws.specs.entries.Reading.{Seen, nothing_seen}
 use Rattle.link_laws.proofs.entries.Ages.{read_off as seen_off}
-use Rattle.link_laws.proofs.entries.Hearing.{session_up}
 use Rattle.link_laws.proofs.entries.Running.{read_here, read_there}
-use Rattle.history.specs.Histories.{Event, History, all_entries, all_events, causes_of}
-use Rattle.history.specs.Steps.{bare_link, entries_for}
-use Rattle.history.specs.Follows.{Follows, host_of}
-use Rattle.history.proofs.legal.Ordered.{IsRun, is_run, notes_of, run_entries}
-use Rattle.history.proofs.legal.Plain.{plain_trace}
-use Rattle.history.proofs.legal.Reading.{bytes_on, session-all, wire-controller, wire-host}
-use Rattle.history.proofs.legal.Runs.{link_events, of_allowed, of_can}
-use Rattle.history.proofs.legal.Sessions.{controller_heard, host_heard}
-use Rattle.node_machine.specs.world.World.{Site, NodeWorld, new_world, site_at, end_c, end_h}
-use Rattle.node_machine.specs.world.NodeHistories.{FollowsNodes, NodeHistory, node_entries, occurrences_in}
-use Rattle.node_laws.specs.kept.Hosts.{AreHosts}
-use Rattle.node_laws.specs.telling.Telling.{world_behind}
-use Rattle.node_laws.specs.links.Runs.{ArePlayable}
+use Rattle.history.proofs.legal.Reading.{bytes_on, wire-controller, wire-host}
 use Rattle.node_laws.specs.order.Told.{AreReadOff, AreSessionsRead, frames_on}
-use Rattle.node_laws.proofs.order.Lines.{host_number}
 use Rattle.node_laws.proofs.order.Quiet.{read_off}
 use Rattle.node_laws.proofs.order.Sessions.{are_read}
-use Rattle.lines_told.specs.lines.Below.{bare_link_behind, nodes_behind}
 use Rattle.world_laws.specs.links.Resting.{IsLinkQuiet}
 use Rattle.world_laws.specs.worlds.NotedRest.{AreNotedQuiet, AreNotedQuietInBare}
 use Rattle.world_laws.proofs.schedules.Bare.{happened_leads}

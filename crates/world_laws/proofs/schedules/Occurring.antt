@@ -1,23 +1,16 @@
 -- What occurs over the lines of a round of a world of nodes is what occurs in the round, and so it is with more rounds.
 use Rattle.std.proofs.Common.{◌≡◌, ℕ, zero, suc, Bool, true, false, List, [], ◌∷◌, ◌++◌, None, refl, ap, sym, ◌∙◌, length, append-nil, append_assoc}
 use Rattle.std.specs.Prelude.{replicate, if◌then◌else◌, not, ◌&&◌}
-use Rattle.trace_model.specs.declared.line.End.{End}
-use Rattle.trace_model.specs.declared.line.Header.{Header}
-use Rattle.trace_model.specs.declared.line.Line.{Line}
+use Rattle.world_laws.proofs.Words.{End, Header, Line, NodeWorld, Occurrence, OnWire, Play, Round, Takes, all_happen, end_takes_all, ends_in_order}
+use Rattle.world_laws.proofs.Words.{ends_take_all, events_of_steps, frames_at, is_clear, lines_played, new_world, node_of, nodes_behind, played_more}
+use Rattle.world_laws.proofs.Words.{round_behind, rounds_of_world, steps_from, world_after_round, world_round}
 use Rattle.trace_model.specs.declared.line.Line.TheVariants as saying
-use Rattle.link_laws.specs.sessions.Sessions.{OnWire}
-use Rattle.link_laws.specs.messages.Rest.{is_clear}
-use Rattle.node_machine.specs.world.World.{NodeWorld, new_world, node_of}
-use Rattle.node_machine.specs.world.World.Happening.{Takes, Ticks}
-use Rattle.node_machine.specs.world.Lines.{LineOutcome, Occurrence, all_happen, frames_at, goes_on, is_running, line_step, refusal_in}
-use Rattle.node_machine.specs.world.NodeHistories.{occurrences_of, steps_from, world_after}
-use Rattle.node_machine.specs.world.Rounds.{end_takes_all, ends_in_order, ends_take_all, rounds_of_world, world_after_round, world_round}
-use Rattle.node_laws.proofs.telling.Lasting.{events_of_steps}
-use Rattle.lines_told.specs.lines.Below.{nodes_behind}
-use Rattle.lines_told.specs.lines.Plays.{Play, lines_played, round_behind, round_in, taking_in}
-use Rattle.lines_told.specs.lines.Plays.Play.{Round}
+use Rattle.node_machine.specs.world.World.Happening.{Ticks}
+use Rattle.node_machine.specs.world.Lines.{LineOutcome, goes_on, is_running, line_step, refusal_in}
+use Rattle.node_machine.specs.world.NodeHistories.{occurrences_of, world_after}
+use Rattle.lines_told.specs.lines.Plays.{round_in, taking_in}
 use Rattle.lines_told.proofs.lines.NodeRounds.{played_round, round_lines, takes_so}
-use Rattle.lines_told.proofs.lines.Plays.{played_more, round_first}
+use Rattle.lines_told.proofs.lines.Plays.{round_first}
 
 -- what occurs over these lines, one after another
 abbrev pub occurring : NodeWorld → List Line → List Occurrence

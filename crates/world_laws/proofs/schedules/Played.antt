@@ -1,16 +1,11 @@
 -- What may be played below a header is what the laws of its worlds ask for.
 use Rattle.std.proofs.Common.{◌≡◌, ℕ, false, List, [], ◌∷◌, ap, sym, ◌∙◌}
 use Rattle.std.specs.Prelude.{IsTrue}
-use Rattle.std.specs.List.{AllByRecursion}
-use Rattle.std.proofs.lemmas.Bool.{true≢false}
-use Rattle.trace_model.specs.declared.line.Header.{Header}
-use Rattle.trace_model.specs.declared.line.Line.{Line}
+use Rattle.world_laws.proofs.Words.{AllByRecursion, ArePlayable, Header, IsLineOf, IsPlayedLine, Line, true≢false}
 use Rattle.trace_model.specs.declared.line.Line.TheVariants as saying
-use Rattle.trace_model.specs.Lines.{IsLineOf}
-use Rattle.node_laws.specs.links.Runs.{ArePlayable}
 use Rattle.node_laws.specs.schedules.Ranges.{AreNodeLinesOf}
 use Rattle.node_laws.proofs.schedules.Ranges.{in_range, playable}
-use Rattle.lines_told.specs.lines.Below.{IsPlayedLine, is_settling}
+use Rattle.lines_told.specs.lines.Below.{is_settling}
 
 settles_not : (line : Line) (rounds : ℕ) → is_settling line ≡ false → line ≡ saying.Settle rounds → ⊥
 settles_not line rounds plain is = true≢false (sym (ap is_settling is) ∙ plain)

@@ -1,20 +1,12 @@
 -- Links at rest are quiet, and quiet links are at rest.
 use Rattle.std.proofs.Common.{◌≡◌, ℕ, Bool, true, false, ◌==◌, List, [], ◌∷◌, refl, ap, sym, subst, ◌∙◌, Some, length}
 use Rattle.std.specs.Prelude.{◌&&◌}
-use Rattle.std.specs.List.{AllByRecursion}
-use Rattle.std.proofs.lemmas.Bool.{and_parts, eq-eqb, eqb-true, true≢false}
-use Rattle.shdlc_core.specs.declared.answers.LinkState.{LinkState}
-use Rattle.shdlc_core.specs.declared.answers.LinkState.TheVariants.{Down, Waiting, Up}
+use Rattle.world_laws.proofs.Words.{AllByRecursion, Down, Link, LinkEnd, LinkState, Site, Up, Waiting, and_parts, by_test, eq-eqb, eqb-true, is_clear}
+use Rattle.world_laws.proofs.Words.{is_waiting, link_rests, site_at, true≢false, whole_acked}
 use Rattle.link_laws.specs.places.Wire.{OnWire}
 use Rattle.link_laws.specs.machine.AtRest.{end_rests}
-use Rattle.link_laws.specs.machine.Machine.{LinkEnd, whole_acked}
-use Rattle.shdlc_core.specs.Machine.{is_waiting}
-use Rattle.link_laws.specs.messages.Links.{Link}
-use Rattle.link_laws.specs.messages.Rest.{is_clear, link_rests}
-use Rattle.node_machine.specs.world.World.{Site, site_at}
 use Rattle.node_machine.specs.world.Rounds.{sites_rest}
 use Rattle.world_laws.specs.links.Resting.{IsEndQuiet, IsLinkQuiet}
-use Rattle.node_laws.proofs.Cases.{by_test}
 
 -- ## Ends and wires
 

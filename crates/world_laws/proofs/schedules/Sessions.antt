@@ -1,13 +1,8 @@
 -- The session of an end that is up.
 use Rattle.std.proofs.Common.{◌≡◌, ℕ, ◌==◌, true, List, refl, ap, sym, subst, ◌∙◌, length}
-use Rattle.std.proofs.lemmas.Bool.{eq-eqb}
-use Rattle.shdlc_core.specs.declared.answers.LinkState.TheVariants.{Up}
-use Rattle.trace_model.specs.declared.entry.Entry.{Entry}
-use Rattle.trace_model.specs.declared.line.End.{End}
-use Rattle.link_laws.specs.machine.Machine.{Message}
-use Rattle.link_laws.specs.messages.Links.{NumberedEnd, Talk, number_of, talk_now, talk_of}
+use Rattle.world_laws.proofs.Words.{End, Entry, IsReadOff, Message, NumberedEnd, Talk, Up, eq-eqb, number_of, talk_now}
+use Rattle.link_laws.specs.messages.Links.{talk_of}
 use Rattle.history.specs.Filters.{sent_in, acked_in}
-use Rattle.node_laws.specs.order.Told.{IsReadOff}
 use Rattle.world_laws.specs.links.Resting.{IsEndQuiet}
 
 -- the session that goes on

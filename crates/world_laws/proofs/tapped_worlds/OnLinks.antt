@@ -1,13 +1,8 @@
 -- A tap that was there from the beginning of a history tells what was got.
 use Rattle.std.proofs.Common.{◌≡◌, ℕ, Bool, true, false, List, ◌++◌, sym, subst}
-use Rattle.std.specs.List.{list_any}
-use Rattle.trace_model.specs.declared.entry.Entry.{Entry}
-use Rattle.history.specs.Histories.{entries_of}
-use Rattle.node_laws.specs.order.Resets.{cuts_on}
-use Rattle.node_laws.proofs.schedules.Ranges.{hosts_are, playable}
-use Rattle.tap_reading.specs.Lpdus.{tapped_lpdus}
+use Rattle.world_laws.proofs.Words.{Entry, cuts_on, entries_of, gots_on, hosts_are, list_any, lpdus_on, tapped_lpdus}
+use Rattle.node_laws.proofs.schedules.Ranges.{playable}
 use Rattle.world_laws.specs.histories.OnLinks.{AreOfLink}
-use Rattle.world_laws.specs.histories.Tapping.{gots_on, lpdus_on}
 use Rattle.world_laws.proofs.histories.Histories.{tap_reports_history}
 use Rattle.world_laws.proofs.tapped_worlds.Worlds.{tap_reports_world}
 

@@ -1,34 +1,20 @@
 -- What a tap reports over a history of a world of nodes.
 use Rattle.std.proofs.Common.{◌≡◌, ℕ, false, List, [], ◌∷◌, ◌++◌, Option, Some, None, refl, ap, sym, subst, ◌∙◌}
-use Rattle.std.specs.List.{cons_option, filter_map, list_any}
-use Rattle.trace_model.specs.declared.entry.Entry.{Entry}
-use Rattle.trace_model.specs.declared.line.End.{End}
-use Rattle.trace_model.specs.declared.line.Header.{Header}
-use Rattle.trace_model.specs.declared.line.Line.{Line}
-use Rattle.link_laws.specs.messages.Links.{Link}
-use Rattle.link_laws.specs.messages.Links.IsStart.{IsLine}
-use Rattle.link_laws.specs.entries.Entries.{Entry as Noted, entries}
+use Rattle.world_laws.proofs.Words.{AreHosts, ArePlayable, End, Entry, FollowsNodes, Header, IsLine, IsLinkTold, Line, Link, NodeHistory, Occurrence, by_test}
+use Rattle.world_laws.proofs.Words.{cuts_on, entries, entries_for, entries_in, gots_noted, gots_on, is_cut, list_any, lpdus_heard, lpdus_on, new_line}
+use Rattle.world_laws.proofs.Words.{new_world, occurrences_in, of_link, tapped_lpdus, world_behind}
+use Rattle.std.specs.List.{cons_option, filter_map}
+use Rattle.link_laws.specs.entries.Entries.{Entry as Noted}
 use Rattle.history.specs.Filters.{Saying, said}
 use Rattle.history.specs.Filters.Saying.{Gets, Puts}
-use Rattle.history.specs.Steps.{entries_for}
-use Rattle.node_machine.specs.world.World.{new_world}
-use Rattle.node_machine.specs.world.Lines.{Occurrence}
-use Rattle.node_machine.specs.world.NodeHistories.{FollowsNodes, NodeHistory, entries_in, occurrences_in}
-use Rattle.node_laws.specs.kept.Hosts.{AreHosts}
-use Rattle.node_laws.specs.telling.Telling.{is_of, tells_of, of_link, world_behind}
-use Rattle.node_laws.proofs.Cases.{by_test}
+use Rattle.node_laws.specs.telling.Telling.{is_of, tells_of}
 use Rattle.node_laws.proofs.telling.Accounts.{untold}
-use Rattle.node_laws.specs.links.Runs.{ArePlayable, new_line}
-use Rattle.node_laws.specs.order.Resets.{cuts_on}
-use Rattle.node_laws.specs.order.Told.{IsLinkTold}
 use Rattle.node_laws.proofs.order.Lines.{IsSo, history_so}
 use Rattle.node_laws.proofs.order.Ordered.{Whether, whether}
 use Rattle.node_laws.proofs.order.Ordered.Whether.{Stands, IsNone}
 use Rattle.node_laws.proofs.order.Strangers.{IsStrange}
 use Rattle.node_laws.proofs.order.Watches.{no_cut}
-use Rattle.tap_reading.specs.Lpdus.{tapped_lpdus}
-use Rattle.world_laws.specs.entries.Hearing.{lpdus_heard, gots_noted, is_cut}
-use Rattle.world_laws.specs.histories.Tapping.{put_on, lpdus_on, got_on, gots_on}
+use Rattle.world_laws.specs.histories.Tapping.{put_on, got_on}
 use Rattle.world_laws.proofs.entries.Events.{tap_reports_lpdus}
 use Rattle.world_laws.proofs.histories.Histories.{lpdus_same, gots_same}
 

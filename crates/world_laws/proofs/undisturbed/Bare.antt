@@ -1,42 +1,23 @@
 -- The link of a bare world is undisturbed while it settles, where nothing that disturbs it is noted of its rounds.
 use Rattle.std.proofs.Common.{◌≡◌, ℕ, true, false, List, [], ◌∷◌, ◌++◌, map, refl, ap, sym, subst, ◌∙◌, length, Option, Some, None}
 use Rattle.std.specs.Prelude.{drop, replicate}
-use Rattle.std.specs.List.{AllByRecursion, list_any}
+use Rattle.world_laws.proofs.Words.{AllAllowed, AllByRecursion, AreBothReady, AreBothUpIn, AreReadyThroughout, AreRoundCauses, AreUnstarted, Cause, Controller}
+use Rattle.world_laws.proofs.Words.{Cut, Entry, Event, Follows, Header, History, Host, IsBare, IsLineOf, IsLinkUndisturbed, IsRun, IsUnderWay, Link, LinkEvent}
+use Rattle.world_laws.proofs.Words.{Play, Restarted, Round, Taken, Ticked, after_link_events, all_entries, all_events, bare_link, bare_link_behind, by_test}
+use Rattle.world_laws.proofs.Words.{causes_of, causes_of_rounds, controller_heard, end_of, entries, entries_for, entries_since, event_of, first_entries}
+use Rattle.world_laws.proofs.Words.{flat_map-append, heard, host_heard, host_of, is_run, lines_played, link_after, link_events, list_any, map-append, notes_of}
+use Rattle.world_laws.proofs.Words.{of_allowed, of_can, plain_trace, rounds_to_rest, rounds_to_settle, run_entries, session-all, session_up, settling_causes}
+use Rattle.world_laws.proofs.Words.{settling_events}
 use Rattle.std.proofs.Math.Seq.{drop-append_seam}
-use Rattle.std.proofs.lemmas.List.{map-append}
-use Rattle.std.proofs.lemmas.List.Concat.{flat_map-append}
-use Rattle.trace_model.specs.declared.entry.Entry.{Entry}
-use Rattle.trace_model.specs.declared.line.Header.{Header}
-use Rattle.trace_model.specs.Lines.{IsLineOf}
-use Rattle.link_laws.specs.messages.Links.{Link, LinkEvent, AllAllowed, after_link_events}
-use Rattle.link_laws.specs.messages.Links.IsStart.{IsBare}
-use Rattle.link_laws.specs.entries.Entries.{End as Side, Entry as Noted, entries, first_entries}
-use Rattle.link_laws.specs.entries.Entries.End.{Controller, Host}
-use Rattle.link_laws.specs.entries.Entries.Entry.{Restarted, Cut}
-use Rattle.link_laws.proofs.entries.Hearing.{heard, heard-append, session_up}
-use Rattle.link_laws.proofs.entries.Running.{IsUnderWay, start_under_way}
+use Rattle.link_laws.specs.entries.Entries.{End as Side, Entry as Noted}
+use Rattle.link_laws.proofs.entries.Hearing.{heard-append}
+use Rattle.link_laws.proofs.entries.Running.{start_under_way}
 use Rattle.history.specs.Filters.{session_number}
-use Rattle.history.specs.Follows.{Follows, host_of}
-use Rattle.history.specs.Histories.{Cause, Event, History, all_entries, all_events, causes_of}
-use Rattle.history.specs.Histories.Cause.{Taken, Ticked}
-use Rattle.history.specs.Steps.{bare_link, end_of, entries_for, entry_of, event_of, link_after}
-use Rattle.history.proofs.legal.Ordered.{IsRun, is_run, notes_of, run_entries}
-use Rattle.history.proofs.legal.Plain.{ArePlain, plain_trace}
-use Rattle.history.proofs.legal.Reading.{session-all}
-use Rattle.history.proofs.legal.Runs.{link_events, of_allowed, of_can}
-use Rattle.history.proofs.legal.Sessions.{controller_heard, host_heard}
-use Rattle.node_laws.specs.rounds.BareRounds.{causes_of_rounds}
-use Rattle.node_laws.proofs.Cases.{by_test}
-use Rattle.node_laws.proofs.order.Watches.{AreUnstarted, is_cut}
-use Rattle.lines_told.specs.messages.Recovery.{IsLinkUndisturbed}
+use Rattle.history.specs.Steps.{entry_of}
+use Rattle.history.proofs.legal.Plain.{ArePlain}
+use Rattle.node_laws.proofs.order.Watches.{is_cut}
 use Rattle.lines_told.proofs.messages.Projected.{allowed_parts}
-use Rattle.lines_told.specs.lines.Below.{bare_link_behind}
-use Rattle.lines_told.specs.lines.Plays.{Play, lines_played, rounds_to_rest}
-use Rattle.lines_told.specs.lines.Plays.Play.{Round}
-use Rattle.world_laws.specs.links.RoundCauses.{AreRoundCauses}
-use Rattle.world_laws.specs.links.Settling.{rounds_to_settle, settling_causes, settling_events}
-use Rattle.world_laws.specs.worlds.Brought.{AreBothUpIn}
-use Rattle.world_laws.specs.worlds.Undisturbed.{AreBothReady, AreReadyThroughout, AreUndisturbedNotes, entries_since}
+use Rattle.world_laws.specs.worlds.Undisturbed.{AreUndisturbedNotes}
 use Rattle.world_laws.proofs.links.RoundCauses.{rounds_are}
 use Rattle.world_laws.proofs.schedules.Bare.{as_many, happened_leads}
 use Rattle.world_laws.proofs.undisturbed.Losing.{Calm}

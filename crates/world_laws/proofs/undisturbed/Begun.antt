@@ -1,35 +1,25 @@
 -- Where nothing that disturbs a link is noted of an event in a round, no session begins at its ends, which are up.
 use Rattle.std.proofs.Common.{◌≡◌, ℕ, Bool, true, false, List, [], ◌∷◌, ◌++◌, map, Option, Some, None, length, refl, ap, sym, subst, ◌∙◌}
 use Rattle.std.specs.Prelude.{◌||◌, nat_lt, is_some, option_to_list}
-use Rattle.std.specs.List.{list_any}
-use Rattle.std.proofs.lemmas.Bool.{true≢false}
-use Rattle.std.proofs.lemmas.List.Folds.{list_any-append}
-use Rattle.swp_base.specs.declared.control_frames.Control.{Control}
+use Rattle.world_laws.proofs.Words.{Acked, Activate, Active, AsksReset, AtController, AtHost, Control, Controller, CutOff, EndEvent, Ending, GaveUp, Give}
+use Rattle.world_laws.proofs.Words.{GoesOut, Got, Host, Link, LinkEnd, LinkEvent, Lose, Loss, NextFrame, NoInput, Node, NumberedEnd, OnWire, Reset, Step, Take}
+use Rattle.world_laws.proofs.Words.{Ticks, TicksWithout, Turn, after_input, aged, aged_entries, all_at_controller, by_option, by_test, ended_by}
+use Rattle.world_laws.proofs.Words.{entries_of_events, event_entries, exchanged, far, first_lost, frames_out, give_refusal, if_so, left_after, list_any}
+use Rattle.world_laws.proofs.Words.{list_any-append, number_of, pushed_out, put, put_entries, puts_entries, report, rest_entries, step_entries, taken_entries}
+use Rattle.world_laws.proofs.Words.{tick_entries, ticks_at_controller, told_of, took, took_with, true≢false, turn, turn_entries, turned, whole_acked, wire_with}
+use Rattle.world_laws.proofs.Words.{with_ended}
 use Rattle.swp_base.specs.declared.link_terms.Cause.{Cause}
 use Rattle.shdlc_core.specs.declared.answers.LinkState.TheVariants.{Up as IsUpNow}
-use Rattle.link_laws.specs.sessions.Sessions.{OnWire, took_with}
-use Rattle.link_laws.specs.machine.Machine.{LinkEnd, Report, Turn, turn, after_input, ended_by, began_by, give_refusal, report, whole_acked}
-use Rattle.link_laws.specs.machine.Machine.{frames_out, turned, took}
-use Rattle.link_laws.specs.machine.Machine.LinkInput.{Take, Reset, Tick as HasTick}
-use Rattle.link_laws.specs.machine.Machine.Turn.{Give}
+use Rattle.link_laws.specs.machine.Machine.{Report, began_by}
+use Rattle.link_laws.specs.machine.Machine.LinkInput.{Tick as HasTick}
 use Rattle.link_laws.proofs.machine.Reports.{take_so}
 use Rattle.link_laws.proofs.machine.Runs.{Sound}
 use Rattle.link_laws.proofs.machine.Shifts.{Shift}
 use Rattle.link_laws.proofs.machine.Shifts.Shift.{Stays, Ends, Renews, Begins, Rests}
-use Rattle.link_laws.specs.messages.Links.{Link, Node, NumberedEnd, Ending, EndEvent, LinkEvent, Loss, exchanged, aged, number_of, put, with_ended}
-use Rattle.link_laws.specs.messages.Links.{ticks_at_controller, all_at_controller}
-use Rattle.link_laws.specs.messages.Links.Ending.{GoesOut, CutOff}
-use Rattle.link_laws.specs.messages.Links.Comes.{NextFrame, AsksReset, NoInput}
-use Rattle.link_laws.specs.messages.Links.EndEvent.{Step, Lose}
-use Rattle.link_laws.specs.messages.Links.LinkEvent.{AtController, AtHost, Ticks, TicksWithout, Activate}
-use Rattle.link_laws.specs.entries.Entries.{End, Entry, far, if_so, told, told_of, turn_entry, turn_entries, first_lost, pushed_out, wire_with}
-use Rattle.link_laws.specs.entries.Entries.{put_entries, puts_entries, rest_entries, left_after, taken_entries, step_entries, aged_entries, tick_entries}
-use Rattle.link_laws.specs.entries.Entries.{entries_of_events, event_entries}
-use Rattle.link_laws.specs.entries.Entries.End.{Controller, Host}
-use Rattle.link_laws.specs.entries.Entries.Entry.{Up, Down, Active, GaveUp, Acked, Got}
+use Rattle.link_laws.specs.entries.Entries.{End, Entry, told, turn_entry}
+use Rattle.link_laws.specs.entries.Entries.Entry.{Up, Down}
 use Rattle.world_laws.proofs.undisturbed.Losing.{Calm, calm_parts}
 use Rattle.world_laws.proofs.undisturbed.Events.{IsRoundEvent}
-use Rattle.node_laws.proofs.Cases.{by_test, by_option}
 
 -- a session begins
 abbrev pub begins_one : Entry → Bool

@@ -2,39 +2,26 @@
 use Rattle.std.proofs.Common.{◌≡◌, ℕ, zero, suc, ◌==◌, Bool, true, false, List, [], ◌∷◌, ◌++◌, Option, Some, None, refl, ap, sym, subst, ◌∙◌, cond}
 use Rattle.std.proofs.Common.{append-nil, append_assoc}
 use Rattle.std.specs.Prelude.{replicate, not, is_some, unwrap_or, ◌&&◌, if◌then◌else◌}
-use Rattle.std.specs.List.{fold, AllByRecursion}
-use Rattle.std.proofs.lemmas.Bool.{true≢false, eq-eqb}
-use Rattle.trace_model.specs.declared.line.End.{End}
-use Rattle.trace_model.specs.declared.line.Header.{Header}
-use Rattle.trace_model.specs.declared.line.Line.{Line}
+use Rattle.world_laws.proofs.Words.{AllByRecursion, AreRoundCauses, AsksReset, AtController, AtHost, Cause, End, EndEvent, FetchMessage, Give, GoesOut, Header}
+use Rattle.world_laws.proofs.Words.{Hold, IsHeader, IsPlayedLine, Line, Link, Lose, MayFollow, NextFrame, NoInput, Play, Reset, Round, Step, Taken, Tick}
+use Rattle.world_laws.proofs.Words.{Ticked, Turn, after_causes, after_input, aged, bare_link, bare_link_behind, by_option, by_test, causes_of, ended_by, eq-eqb}
+use Rattle.world_laws.proofs.Words.{events_at, exchanged, happens, happens_at_controller, host_of, lines_played, link_after, link_after_all, played_more}
+use Rattle.world_laws.proofs.Words.{plays_of, rounds_to_rest, rounds_to_settle, settling_causes, ticks_at_controller, true≢false, turned, with_ended}
+use Rattle.std.specs.List.{fold}
 use Rattle.trace_model.specs.declared.line.Line.TheVariants as saying
-use Rattle.trace_model.specs.Lines.{IsHeader, IsEndOf, MayFollow}
-use Rattle.link_laws.specs.machine.Machine.{Turn, turned, after_input, ended_by}
-use Rattle.link_laws.specs.machine.Machine.LinkInput.{Reset, Tick}
-use Rattle.link_laws.specs.machine.Machine.Turn.{Give, Hold, FetchMessage}
-use Rattle.link_laws.specs.messages.Links.{Link, EndEvent, exchanged, aged, with_ended, happens, happens_at_controller, ticks_at_controller}
-use Rattle.link_laws.specs.messages.Links.Ending.{GoesOut}
-use Rattle.link_laws.specs.messages.Links.Comes.{NextFrame, AsksReset, NoInput}
-use Rattle.link_laws.specs.messages.Links.EndEvent.{Step, Lose}
-use Rattle.link_laws.specs.messages.Links.LinkEvent.{AtController, AtHost}
+use Rattle.trace_model.specs.Lines.{IsEndOf}
 use Rattle.history.specs.Damage.{Verdict}
 use Rattle.history.specs.Damage.Verdict.{Same}
-use Rattle.history.specs.Histories.{Cause, Outcome, events_of, causes_of}
-use Rattle.history.specs.Histories.Cause.{Given, Taken, WasLost, Ticked, WasReset, Readied}
+use Rattle.history.specs.Histories.{Outcome, events_of}
+use Rattle.history.specs.Histories.Cause.{Given, WasLost, WasReset, Readied}
 use Rattle.history.specs.Histories.Outcome.{Refused, Caused}
-use Rattle.history.specs.Steps.{bare_link, events_at, link_after, link_after_all}
-use Rattle.history.specs.Follows.{causes_in, damage_causes, first_verdict, frames_to, link_after_line, outcome_of, refusal, host_of, taken_of}
+use Rattle.history.specs.Follows.{causes_in, damage_causes, first_verdict, frames_to, link_after_line, outcome_of, refusal, taken_of}
 use Rattle.history.specs.Filters.{same_side}
 use Rattle.history.proofs.legal.Asked.{only_one}
-use Rattle.node_laws.proofs.Cases.{by_option, by_test}
-use Rattle.node_laws.proofs.rounds.BareRounds.{after_causes}
-use Rattle.lines_told.specs.lines.Below.{IsPlayedLine, bare_link_behind, is_settling}
-use Rattle.lines_told.specs.lines.Plays.{Play, lines_played, plays_of_line, plays_of, rounds_to_rest}
-use Rattle.lines_told.specs.lines.Plays.Play.{Said, Round}
-use Rattle.lines_told.proofs.lines.Plays.{played_more}
+use Rattle.lines_told.specs.lines.Below.{is_settling}
+use Rattle.lines_told.specs.lines.Plays.{plays_of_line}
+use Rattle.lines_told.specs.lines.Plays.Play.{Said}
 use Rattle.lines_told.proofs.lines.BareRounds.{lines-append}
-use Rattle.world_laws.specs.links.RoundCauses.{AreRoundCauses}
-use Rattle.world_laws.specs.links.Settling.{settling_causes, rounds_to_settle}
 use Rattle.world_laws.specs.worlds.Undisturbed.{busy_after, is_left_busy}
 use Rattle.world_laws.proofs.links.RoundCauses.{again, rounds_are}
 use Rattle.world_laws.proofs.schedules.Bare.{settled_link}

@@ -2,33 +2,21 @@
 use Rattle.std.proofs.Common.{◌≡◌, ℕ, zero, suc, Bool, true, false, List, [], ◌∷◌, ◌++◌, None, refl, ap, sym, subst, ◌∙◌, cond}
 use Rattle.std.proofs.Common.{length, append_assoc, append-nil}
 use Rattle.std.specs.Prelude.{replicate, is_some}
-use Rattle.trace_model.specs.declared.line.End.{End}
-use Rattle.trace_model.specs.declared.line.Header.{Header}
-use Rattle.trace_model.specs.declared.line.Line.{Line}
+use Rattle.world_laws.proofs.Words.{Cause, Controller, End, Event, GoesOut, Header, Host, Line, Link, LinkEnd, NextFrame, NumberedEnd, OnWire, Play, Round}
+use Rattle.world_laws.proofs.Words.{Take, Taken, Turn, after_input, bare_link, bare_link_behind, beside-put_all, causes_of, causes_of_round, causes_of_rounds}
+use Rattle.world_laws.proofs.Words.{end_of, ended_by, events_at, frames_out, host_of, is_clear, lines_played, link_after_round, played_more, round_behind}
+use Rattle.world_laws.proofs.Words.{took_with, turn, turned, with_ended}
 use Rattle.trace_model.specs.declared.line.Line.TheVariants as saying
-use Rattle.link_laws.specs.sessions.Sessions.{OnWire, took_with}
-use Rattle.link_laws.specs.machine.Machine.{LinkEnd, Turn, turn, turned, after_input, ended_by, frames_out}
-use Rattle.link_laws.specs.machine.Machine.LinkInput.{Take}
-use Rattle.link_laws.specs.messages.Links.{Link, NumberedEnd, with_ended, becomes}
+use Rattle.link_laws.specs.messages.Links.{becomes}
 use Rattle.link_laws.specs.messages.Links.{steps_at_controller}
-use Rattle.link_laws.specs.messages.Links.Ending.{GoesOut}
-use Rattle.link_laws.specs.messages.Links.Comes.{NextFrame}
-use Rattle.link_laws.specs.entries.Entries.End.{Controller, Host}
-use Rattle.link_laws.proofs.messages.Project.{beside-put_all}
-use Rattle.history.specs.Histories.{Cause, Event, Step as HistoryStep, events_of, causes_of}
-use Rattle.history.specs.Histories.Cause.{Taken, Readied}
+use Rattle.history.specs.Histories.{Step as HistoryStep, events_of}
+use Rattle.history.specs.Histories.Cause.{Readied}
 use Rattle.history.specs.Histories.Outcome.{Caused}
-use Rattle.history.specs.Steps.{bare_link, end_of, events_at}
 use Rattle.history.specs.Follows.{StepsFollow, causes_in, frames_to, link_after_line, link_after_lines, outcome_of, refusal}
-use Rattle.history.specs.Follows.{host_of}
 use Rattle.history.specs.Filters.{same_side}
 use Rattle.history.proofs.Leading.{events_in}
-use Rattle.link_laws.specs.messages.Rest.{is_clear}
-use Rattle.node_laws.specs.rounds.BareRounds.{causes_of_round, link_after_round, causes_of_rounds}
-use Rattle.lines_told.specs.lines.Below.{bare_link_behind}
-use Rattle.lines_told.specs.lines.Plays.{Play, taking_on, round_on, round_behind, lines_played}
-use Rattle.lines_told.specs.lines.Plays.Play.{Round}
-use Rattle.lines_told.proofs.lines.Plays.{played_more, round_first}
+use Rattle.lines_told.specs.lines.Plays.{taking_on, round_on}
+use Rattle.lines_told.proofs.lines.Plays.{round_first}
 use Rattle.lines_told.proofs.lines.BareRounds.{takes_on, causes_on, bare_round_lines}
 use Rattle.world_laws.proofs.links.RoundCauses.{again}
 use Rattle.world_laws.proofs.schedules.Bare.{one_round}

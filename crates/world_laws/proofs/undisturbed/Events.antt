@@ -1,47 +1,36 @@
 -- Where both ends of a link are up and ready, and nothing that disturbs it is noted of an event in a round, it is undisturbed there.
 use Rattle.std.proofs.Common.{◌≡◌, Bool, true, false, List, [], ◌∷◌, ◌++◌, map, Some, None, refl, ap, sym, subst, ◌∙◌}
 use Rattle.std.specs.Prelude.{◌||◌, not, nat_lt, is_some, option_to_list}
-use Rattle.std.specs.List.{list_any}
-use Rattle.std.proofs.lemmas.Bool.{true≢false}
-use Rattle.swp_base.specs.declared.control_frames.Control.{Control}
-use Rattle.swp_base.specs.declared.control_frames.Control.TheVariants.{I, S, Rset, Ua, Act, Clt}
+use Rattle.world_laws.proofs.Words.{Acked, Act, Activate, Active, AsksReset, AtController, AtHost, Clt, Control, Controller, CutOff, EndEvent, Ending, GaveUp}
+use Rattle.world_laws.proofs.Words.{GoesOut, Got, Host, I, IsEvent, IsUnderWay, Link, LinkEnd, LinkEvent, Lose, NextFrame, NoInput, Node, NumberedEnd, OnWire}
+use Rattle.world_laws.proofs.Words.{Reset, Rset, S, Step, Take, Tells, Ticks, TicksWithout, Turn, Ua, Up, after_input, aged, aged_entries, all_at_controller}
+use Rattle.world_laws.proofs.Words.{by_test, core_event, core_of, core_take, core_tick, core_tick_rest, core_turns, ended_by, entries_of_events, event_entries}
+use Rattle.world_laws.proofs.Words.{event_step, exchanged, happens, if_so, is_act, is_open, left_after, list_any, number_of, open_up, report, rest_entries}
+use Rattle.world_laws.proofs.Words.{rests_of, safe_aged, shdlc_number_of, step_entries, taken_entries, tick_entries, ticks_at_controller, told_of, took}
+use Rattle.world_laws.proofs.Words.{took_with, true≢false, whole_acked, with_ended}
 use Rattle.swp_base.specs.declared.link_terms.Cause.TheVariants.{Asked}
-use Rattle.shdlc_core.specs.declared.answers.LinkState.TheVariants.{Up}
-use Rattle.link_laws.specs.sessions.Sessions.{OnWire, ShdlcLink as CoreLink, ShdlcTurn as CoreTurn, ShdlcEndEvent as CoreEndEvent}
+use Rattle.link_laws.specs.sessions.Sessions.{ShdlcLink as CoreLink, ShdlcTurn as CoreTurn, ShdlcEndEvent as CoreEndEvent}
 use Rattle.link_laws.specs.sessions.Sessions.{ShdlcLinkEvent as CoreLinkEvent}
-use Rattle.link_laws.specs.sessions.Sessions.{shdlc_number_of, took_with}
 use Rattle.link_laws.specs.sessions.Sessions.{shdlc_after as core_after, shdlc_exchanged as core_exchanged, shdlc_happens as core_happens}
 use Rattle.link_laws.specs.sessions.Sessions.{shdlc_happens_at_controller as core_happens_here, shdlc_aged as core_aged, ticks_or_cut as core_ticks_or_cut}
 use Rattle.link_laws.specs.sessions.Sessions.{shdlc_all_at_controller as core_all_here}
 use Rattle.link_laws.specs.sessions.Sessions.ShdlcEndEvent.{Turns as CoreTurns, Deliver as CoreDeliver, Acts as CoreActs, Lose as CoreLose}
 use Rattle.link_laws.specs.sessions.Sessions.ShdlcLinkEvent.{AtController as CoreAtController, AtHost as CoreAtHost, Tick as CoreTick}
-use Rattle.link_laws.specs.sessions.Losses.{Losses, no_losses, is_act, counts_first, came_up, is_up_with, noted_here, noted_turns, noted_aged, noted_tick}
+use Rattle.link_laws.specs.sessions.Losses.{Losses, no_losses, counts_first, came_up, is_up_with, noted_here, noted_turns, noted_aged, noted_tick}
 use Rattle.link_laws.specs.sessions.Losses.{noted_event}
-use Rattle.link_laws.proofs.sessions.Steps.{safe_aged}
-use Rattle.link_laws.specs.machine.Machine.{LinkEnd, Turn, is_open, after_input, ended_by, began_by, took, report, whole_acked}
-use Rattle.link_laws.specs.machine.Machine.LinkInput.{Take, Reset, Tick as HasTick}
-use Rattle.link_laws.specs.messages.Links.{Link, NumberedEnd, Node, Ending, EndEvent, LinkEvent, exchanged, aged, happens, number_of, with_ended}
-use Rattle.link_laws.specs.messages.Links.{ticks_at_controller, all_at_controller, IsEvent, IsNode}
-use Rattle.link_laws.specs.messages.Links.Ending.{GoesOut, CutOff}
-use Rattle.link_laws.specs.messages.Links.Comes.{NextFrame, AsksReset, NoInput}
-use Rattle.link_laws.specs.messages.Links.EndEvent.{Step, Lose}
-use Rattle.link_laws.specs.messages.Links.LinkEvent.{AtController, AtHost, Ticks, TicksWithout, Activate}
-use Rattle.link_laws.specs.messages.Projection.{core_of, core_turns, core_take, core_ending, core_step, core_event, core_tick, core_tick_rest}
+use Rattle.link_laws.specs.machine.Machine.{began_by}
+use Rattle.link_laws.specs.machine.Machine.LinkInput.{Tick as HasTick}
+use Rattle.link_laws.specs.messages.Links.{IsNode}
+use Rattle.link_laws.specs.messages.Projection.{core_ending, core_step}
 use Rattle.link_laws.proofs.messages.Finishing.{step_tick}
-use Rattle.link_laws.proofs.messages.Project.{Tells}
-use Rattle.link_laws.proofs.messages.Runs.{event_step, safe_reached, rests_of, tells_same}
-use Rattle.link_laws.specs.entries.Entries.{End, Entry, left_after, told_of, rest_entries, taken_entries, step_entries, aged_entries}
-use Rattle.link_laws.specs.entries.Entries.{tick_entries, entries_of_events, event_entries}
-use Rattle.link_laws.specs.entries.Entries.End.{Controller, Host}
-use Rattle.link_laws.specs.entries.Entries.{if_so}
-use Rattle.link_laws.specs.entries.Entries.Entry.{Up as NotedUp, Down, Active, GaveUp, Acked, Got}
+use Rattle.link_laws.proofs.messages.Runs.{safe_reached, tells_same}
+use Rattle.link_laws.specs.entries.Entries.{End, Entry}
+use Rattle.link_laws.specs.entries.Entries.Entry.{Up as NotedUp, Down}
 use Rattle.link_laws.proofs.entries.Disturbing.{idle_noted}
 use Rattle.link_laws.proofs.entries.Lasting.{taken_noted}
-use Rattle.link_laws.proofs.entries.Running.{Before, IsUnderWay, before_here, before_there}
+use Rattle.link_laws.proofs.entries.Running.{Before, before_here, before_there}
 use Rattle.lines_told.specs.fragments.Rounds.{BothTakeFragments, AreUndisturbed}
-use Rattle.lines_told.proofs.messages.Projected.{open_up}
 use Rattle.world_laws.proofs.undisturbed.Losing.{troubles, Calm, calm_parts, rest_calm, cut_troubles, ages_calm, tick_calm}
-use Rattle.node_laws.proofs.Cases.{by_test}
 
 -- an event in a round of a world: an end takes a frame, the controller's node has turns there, or time passes, in which the controller's end
 -- may be reset

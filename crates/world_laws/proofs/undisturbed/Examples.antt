@@ -1,20 +1,14 @@
 -- A worked example of a link of nodes that settles and holds no message meanwhile, computed from the definitions.
 use Rattle.std.proofs.Common.{◌≡◌, refl, List, [], ◌∷◌, None}
 use Rattle.std.specs.Prelude.{true}
-use Rattle.trace_model.specs.declared.entry.Entry.{Entry}
-use Rattle.trace_model.specs.declared.entry.Entry.TheVariants.{Acked, Active, AnyOk, Booted, Command, Emit, Got, Sent, Took, Turn, Up}
+use Rattle.world_laws.proofs.Words.{ArePoweredNotes, AreUnheldNotes, AreUpWith, Emit, Entry, Happening, NodeWorld, Occurrence, Takes, Took, all_happen, end_c}
+use Rattle.world_laws.proofs.Words.{end_h, entries_in, fragments_noted, new_world, world_settling}
+use Rattle.trace_model.specs.declared.entry.Entry.TheVariants.{Acked, Active, AnyOk, Booted, Command, Got, Sent, Turn, Up}
 use Rattle.hci_tables.specs.declared.command.Command.TheVariants as command
 use Rattle.journal_laws.specs.Records.{found_from}
 use Rattle.gate_admin.specs.View.{hosts_where}
 use Rattle.pipe_table.specs.PipeRows.{lowest_free}
-use Rattle.node_machine.specs.world.World.{Happening, NodeWorld, end_c, end_h, new_world}
-use Rattle.node_machine.specs.world.World.Happening.{Activates, Boots, Gives, Resets, Takes}
-use Rattle.node_machine.specs.world.Lines.{Occurrence, all_happen}
-use Rattle.node_machine.specs.world.NodeHistories.{entries_in}
-use Rattle.node_machine.specs.world.Rounds.{world_settling}
-use Rattle.node_laws.specs.order.Told.{AreUpWith}
-use Rattle.world_laws.specs.worlds.NotedFragments.{fragments_noted}
-use Rattle.world_laws.specs.worlds.Undisturbed.{ArePoweredNotes, AreUnheldNotes}
+use Rattle.node_machine.specs.world.World.Happening.{Activates, Boots, Gives, Resets}
 
 -- the link of host 02 is activated and reset, and the host sends ANY_OPEN_PIPE on pipe 01
 abbrev causes : List Happening

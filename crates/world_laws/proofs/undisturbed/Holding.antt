@@ -3,24 +3,22 @@ use Rattle.std.proofs.Common.{◌≡◌, ℕ, ◌==◌, Bool, true, false, List,
 use Rattle.std.specs.Prelude.{not}
 use Rattle.std.specs.Option.{option_map_or}
 use Rattle.std.specs.List.{flat_map}
-use Rattle.std.proofs.lemmas.Bool.{eqb-true, true≢false}
-use Rattle.trace_model.specs.declared.entry.Entry.{Entry}
+use Rattle.world_laws.proofs.Words.{AtEnd, Entry, FetchMessage, Give, Hold, LinkInput, Message, Reset, Tick, Turn, Work, after_input, by_option, by_test}
+use Rattle.world_laws.proofs.Words.{changed_if, eqb-true, steps, true≢false}
 use Rattle.trace_model.specs.declared.entry.Entry.TheVariants as entry
 use Rattle.hci_tables.specs.declared.command.Command.{Command}
-use Rattle.link_laws.specs.machine.Machine.{LinkInput, Message, Turn, after_input, is_held}
-use Rattle.link_laws.specs.machine.Machine.LinkInput.{Reset, Tick}
-use Rattle.link_laws.specs.machine.Machine.Turn.{FetchMessage, Give, Hold, Release, SetAside}
-use Rattle.node_machine.specs.Parts.{About, Desk, Port, Work, Deed}
+use Rattle.link_laws.specs.machine.Machine.{is_held}
+use Rattle.link_laws.specs.machine.Machine.Turn.{Release, SetAside}
+use Rattle.node_machine.specs.Parts.{About, Desk, Port, Deed}
 use Rattle.node_machine.specs.Parts.About.{Waits, Removed}
 use Rattle.node_machine.specs.Parts.Deed.{Commits, Sends, Asks, Releases, Tells, IsAnswered, SetsErrors, Orders}
-use Rattle.node_machine.specs.Carrying.{after_turn, all_done, changed_if, commit, done, end_of_node, notified, noting, port_at, turn_at}
+use Rattle.node_machine.specs.Carrying.{after_turn, all_done, commit, done, end_of_node, notified, noting, port_at, turn_at}
 use Rattle.node_machine.specs.Carrying.{unless_cut, with_desk, with_port}
 use Rattle.node_machine.specs.Controller.{asked_at}
 use Rattle.node_machine.specs.Turns.{deeds_of, goes_through_ends, handles, have_turns, holds_back, lets_go, passes}
 use Rattle.node_machine.specs.Node.{NodeInput, after_sessions, all_come, all_owed, forgets, forgotten, has_come, input_at, is_forgotten, is_late}
-use Rattle.node_machine.specs.Node.{is_over, reset_late, steps, synced, times_out, with_older, without_notice}
-use Rattle.node_machine.specs.Node.NodeInput.{AtEnd, TimePasses}
-use Rattle.node_laws.proofs.Cases.{by_option, by_test}
+use Rattle.node_machine.specs.Node.{is_over, reset_late, synced, times_out, with_older, without_notice}
+use Rattle.node_machine.specs.Node.NodeInput.{TimePasses}
 use Rattle.node_laws.proofs.kept.Doing.{stays_cut, uncut}
 use Rattle.node_laws.proofs.steps.Ports.{changed_host, come_host, forgets_host, late_host, without_host}
 use Rattle.node_laws.proofs.steps.StepWalks.{unless}

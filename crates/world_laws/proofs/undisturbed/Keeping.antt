@@ -1,38 +1,32 @@
 -- Whatever happens to a world, an end of a link that takes no fragments is one whose first message was noted as held, and its node runs.
 use Rattle.std.proofs.Common.{◌≡◌, ℕ, ◌==◌, Bool, true, false, cond, List, [], ◌∷◌, map, Option, Some, None, refl, ap, sym, subst, ◌∙◌}
 use Rattle.std.specs.Option.{option_map_or}
-use Rattle.std.proofs.lemmas.Bool.{eqb-true, true≢false}
+use Rattle.world_laws.proofs.Words.{AsksReset, AtController, AtEnd, AtHost, Comes, Controller, CutOff, End, Entry, GoesOut, Happening, Host, IsOrderly, Link}
+use Rattle.world_laws.proofs.Words.{LinkEnd, LinkInput, Lose, Loss, MayBoot, NextFrame, NoInput, NodeWorld, NumberedEnd, Running, Site, Starts, Step, Takes}
+use Rattle.world_laws.proofs.Words.{Work, after_controller, aged, all_aged, changed_if, comes_to, controller_ticks, controller_work, end_c, end_h, ending_of}
+use Rattle.world_laws.proofs.Words.{entries_for, eqb-true, exchanged, happens, host_work, hosts_in, input_of, link_to, runs_on, site_at, site_host, site_is}
+use Rattle.world_laws.proofs.Words.{steps, ticks_at_controller, true≢false, turns_at, world_step}
 use Rattle.swp_base.specs.InMemory.{Memory, Plan}
 use Rattle.journal_laws.specs.Planned.{after_planned}
-use Rattle.trace_model.specs.declared.entry.Entry.{Entry}
-use Rattle.trace_model.specs.declared.line.End.{End}
 use Rattle.link_laws.proofs.entries.Lasting.{same_number}
 use Rattle.link_laws.proofs.entries.Together.{ticks_host}
-use Rattle.link_laws.specs.machine.Machine.{LinkEnd, LinkInput}
-use Rattle.link_laws.specs.messages.Links.{Comes, Link, Loss, NumberedEnd, aged, exchanged, happens, ticks_at_controller}
-use Rattle.link_laws.specs.messages.Links.Comes.{AsksReset, NextFrame, NoInput, Starts}
-use Rattle.link_laws.specs.messages.Links.EndEvent.{Lose, Step}
-use Rattle.link_laws.specs.messages.Links.Ending.{CutOff, GoesOut}
-use Rattle.link_laws.specs.messages.Links.LinkEvent.{AtController, AtHost}
 use Rattle.link_laws.specs.messages.Links.Loss.{Broken}
-use Rattle.link_laws.specs.entries.Entries.End.{Controller, Host}
-use Rattle.history.specs.Steps.{entries_for}
-use Rattle.node_machine.specs.Parts.{Deed, Port, Running, Work}
-use Rattle.node_machine.specs.Carrying.{changed_if, port_at}
-use Rattle.node_machine.specs.Node.{begins_with, boot_writes, steps}
-use Rattle.node_machine.specs.Node.NodeInput.{AtEnd, TimePasses}
-use Rattle.node_machine.specs.world.World.{Happening, NodeWorld, Site, after_controller, after_host, all_aged, arrival, beginning, boots, comes_at}
-use Rattle.node_machine.specs.world.World.{comes_to, controller_does, controller_ticks, controller_work, counts, end_c, end_h, ending_of, frame_lost}
-use Rattle.node_machine.specs.world.World.{host_cut, host_does, host_ticks, host_work, hosts_tick, input_of, is_late_at, link_after_controller, link_to}
-use Rattle.node_machine.specs.world.World.{loses_power_at, memory_at, near_end_in, node_at, runs_on, sending, site_at, turns_at, with_memory, with_node}
-use Rattle.node_machine.specs.world.World.{with_site, work_of, world_step, world_ticks}
-use Rattle.node_machine.specs.world.World.Happening.{Activates, Arms, Boots, Gives, Inits, IsCut, Loses, Resets, Takes, Ticks as TimePassing}
+use Rattle.node_machine.specs.Parts.{Deed, Port}
+use Rattle.node_machine.specs.Carrying.{port_at}
+use Rattle.node_machine.specs.Node.{begins_with, boot_writes}
+use Rattle.node_machine.specs.Node.NodeInput.{TimePasses}
+use Rattle.node_machine.specs.world.World.{after_host, arrival, beginning, boots, comes_at}
+use Rattle.node_machine.specs.world.World.{controller_does, counts, frame_lost}
+use Rattle.node_machine.specs.world.World.{host_cut, host_does, host_ticks, hosts_tick, is_late_at, link_after_controller}
+use Rattle.node_machine.specs.world.World.{loses_power_at, memory_at, near_end_in, node_at, sending, with_memory, with_node}
+use Rattle.node_machine.specs.world.World.{with_site, work_of, world_ticks}
+use Rattle.node_machine.specs.world.World.Happening.{Activates, Arms, Boots, Gives, Inits, IsCut, Loses, Resets, Ticks as TimePassing}
 use Rattle.node_machine.proofs.world.Cases.{after_tick, boot_found, boot_written, by_boot, by_coming, by_controller, by_controller_tick, by_host, by_host_tick}
 use Rattle.node_machine.proofs.world.Cases.{by_loss, by_memory, by_power, by_running, host_tick, near_tick, site_lost, site_ticked, site_unticked}
-use Rattle.node_laws.specs.telling.Telling.{HasEnds, IfItRuns, IsOrderly, MayBoot, hosts_in}
+use Rattle.node_laws.specs.telling.Telling.{HasEnds, IfItRuns}
 use Rattle.node_laws.proofs.telling.Events.{comes_goes, orderly_map}
-use Rattle.node_laws.proofs.telling.Nodes.{Stands, link_is, site_host, stands}
-use Rattle.node_laws.proofs.telling.Worlds.{node_is, site_is}
+use Rattle.node_laws.proofs.telling.Nodes.{Stands, link_is, stands}
+use Rattle.node_laws.proofs.telling.Worlds.{node_is}
 use Rattle.node_laws.proofs.telling.WorldTicks.{near_orderly}
 use Rattle.node_laws.specs.passes.Passing.{is_held_at}
 use Rattle.node_laws.proofs.links.Ends.{here_host}

@@ -1,30 +1,23 @@
 -- Where a frame of an end's step is lost, or its session ends, it is noted: so where nothing of this is noted no frame is lost.
 use Rattle.std.proofs.Common.{◌≡◌, Bool, true, false, cond, List, [], ◌∷◌, ◌++◌, length, Some, None, refl, ap, sym, subst, ◌∙◌, arith, length-append}
 use Rattle.std.specs.Prelude.{◌+◌, ◌||◌, nat_lt, is_some}
-use Rattle.std.specs.List.{list_any}
-use Rattle.std.proofs.lemmas.Bool.{true≢false, and_parts, ltb-true}
-use Rattle.std.proofs.lemmas.List.Folds.{list_any-append}
-use Rattle.swp_base.specs.declared.control_frames.Control.{Control}
+use Rattle.world_laws.proofs.Words.{AreSendableTurns, Control, Cut, CutOff, EndState, GoesOut, Link, LinkEnd, Lost, Now, OnWire, Restarted, Tells, Turn}
+use Rattle.world_laws.proofs.Words.{after_input, aged_entries, and_parts, by_test, core_of, core_turns, far, first_lost, frames_out, is_act, is_open, is_rset}
+use Rattle.world_laws.proofs.Words.{list_any, list_any-append, mid_moved, moved, opened, pushed_out, put, put_entries, puts_entries, rest_entries, sans}
+use Rattle.world_laws.proofs.Words.{tick_answer, tick_entries, ticked, told_of, true≢false, turn_entries, turned, turns_mid, wire_with, with_ended}
+use Rattle.std.proofs.lemmas.Bool.{ltb-true}
 use Rattle.shdlc_core.specs.declared.answers.LinkState.TheVariants.{Down as IsDown}
-use Rattle.shdlc_core.specs.Machine.{EndState, ticked, tick_answer}
-use Rattle.link_laws.specs.sessions.Sessions.{OnWire, ShdlcLink as CoreLink, ShdlcTurn as CoreTurn, shdlc_turned as core_turned, is_rset}
-use Rattle.link_laws.specs.sessions.Losses.{Losses, is_act, sans, counts_first, overflows, loses_aged, noted_loss, noted_all, noted_out, noted_tick, noted_aged}
-use Rattle.link_laws.specs.machine.Machine.{LinkEnd, Turn, turned, is_open, moved, after_input, frames_out}
+use Rattle.link_laws.specs.sessions.Sessions.{ShdlcLink as CoreLink, ShdlcTurn as CoreTurn, shdlc_turned as core_turned}
+use Rattle.link_laws.specs.sessions.Losses.{Losses, counts_first, overflows, loses_aged, noted_loss, noted_all, noted_out, noted_tick, noted_aged}
 use Rattle.link_laws.specs.machine.Machine.LinkInput.{Tick as HasTick}
 use Rattle.link_laws.proofs.machine.Reports.{shdlc_is as shdlc_moved}
-use Rattle.link_laws.proofs.machine.Runs.{opened}
-use Rattle.link_laws.specs.messages.Links.{Link, put, with_ended, AreSendableTurns}
-use Rattle.link_laws.specs.messages.Links.Ending.{GoesOut, CutOff}
 use Rattle.link_laws.specs.messages.Links.Loss.{TooMany}
-use Rattle.link_laws.specs.messages.Projection.{core_of, core_turns}
 use Rattle.link_laws.proofs.messages.Ends.{ticked_keeps}
-use Rattle.link_laws.proofs.messages.Project.{Now, Tells, turns_mid, with_ended-core, mid_moved, put-core}
+use Rattle.link_laws.proofs.messages.Project.{with_ended-core, put-core}
 use Rattle.link_laws.proofs.messages.Finishing.{tick_open}
-use Rattle.link_laws.specs.entries.Entries.{End, Entry, far, first_lost, pushed_out, wire_with, put_entries, puts_entries, turn_entries, rest_entries}
-use Rattle.link_laws.specs.entries.Entries.{told_of, aged_entries, tick_entries}
-use Rattle.link_laws.specs.entries.Entries.Entry.{Down, Lost, Restarted, Cut}
+use Rattle.link_laws.specs.entries.Entries.{End, Entry}
+use Rattle.link_laws.specs.entries.Entries.Entry.{Down}
 use Rattle.link_laws.proofs.entries.Losing.{out_noted}
-use Rattle.node_laws.proofs.Cases.{by_test}
 
 -- a frame is lost, a session ends, or an end is started, stopped or cut off
 abbrev pub troubles : Entry → Bool

@@ -2,27 +2,15 @@
 -- nothing of the kind of what these rounds are there, and both ends are up behind them.
 use Rattle.std.proofs.Common.{◌≡◌, ℕ, zero, suc, Bool, true, false, List, [], ◌∷◌, ◌++◌, Some, None, refl, ap, sym, subst, ◌∙◌, length}
 use Rattle.std.specs.Prelude.{◌||◌}
-use Rattle.std.specs.List.{list_any}
-use Rattle.std.proofs.lemmas.List.Concat.{flat_map-append}
-use Rattle.std.proofs.lemmas.List.Folds.{list_any-append}
-use Rattle.trace_model.specs.declared.entry.Entry.{Entry}
-use Rattle.trace_model.specs.declared.line.End.{End}
+use Rattle.world_laws.proofs.Words.{ArePassing, ArePoweredNotes, End, Entry, Happening, Link, LinkEvent, NodeWorld, Occurrence, Site, Takes}
+use Rattle.world_laws.proofs.Words.{after_events-append, after_link_events, all_go, all_happen, can_happen, end_takes_all, ends_events, ends_go, ends_in_order}
+use Rattle.world_laws.proofs.Words.{ends_take_all, entries, entries_in, events_on, flat_map-append, frames_at, happenings, link_events_in, list_any}
+use Rattle.world_laws.proofs.Words.{list_any-append, round_events, round_goes, rounds_events, rounds_of_world, site_at, takes_go, takes_pass, ticks_go}
+use Rattle.world_laws.proofs.Words.{world_after_round, world_round, world_step}
 use Rattle.trace_model.specs.declared.line.Line.TheVariants as line
-use Rattle.link_laws.specs.messages.Links.{Link, LinkEvent, after_link_events}
-use Rattle.link_laws.specs.entries.Entries.{entries}
 use Rattle.node_laws.proofs.telling.Events.{entries-append}
-use Rattle.node_machine.specs.world.World.{Site, NodeWorld, Happening, site_at, world_step}
-use Rattle.node_machine.specs.world.World.Happening.{Takes, Ticks as TimePassing}
-use Rattle.node_machine.specs.world.Lines.{Occurrence, all_happen, can_happen, frames_at, happenings}
-use Rattle.node_machine.specs.world.NodeHistories.{entries_in}
-use Rattle.node_machine.specs.world.Rounds.{end_takes_all, ends_in_order, ends_take_all, rounds_of_world, world_after_round, world_round}
-use Rattle.node_laws.specs.rounds.LinkEvents.{link_events_in}
-use Rattle.node_laws.specs.rounds.RoundEvents.{ends_events, events_on, round_events, rounds_events}
+use Rattle.node_machine.specs.world.World.Happening.{Ticks as TimePassing}
 use Rattle.node_laws.proofs.rounds.Allowing.{takes_allowed}
-use Rattle.node_laws.proofs.rounds.LinkEvents.{takes_go, ticks_go}
-use Rattle.node_laws.proofs.rounds.RoundEvents.{ArePassing, all_go, ends_go, round_goes, takes_pass}
-use Rattle.lines_told.proofs.messages.Projected.{after_events-append}
-use Rattle.world_laws.specs.worlds.Undisturbed.{ArePoweredNotes}
 use Rattle.world_laws.proofs.undisturbed.Losing.{Calm, troubles}
 use Rattle.world_laws.proofs.undisturbed.Runs.{AreBothUpNow, AreRoundEvents}
 use Rattle.world_laws.proofs.undisturbed.Noted.{calm_told, powered_parts}

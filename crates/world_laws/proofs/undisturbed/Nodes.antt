@@ -2,40 +2,18 @@
 use Rattle.std.proofs.Common.{◌≡◌, ℕ, false, ◌==◌, List, ◌++◌, Some, ap, sym, subst, ◌∙◌, length}
 use Rattle.std.specs.Prelude.{drop, replicate}
 use Rattle.std.proofs.Math.Seq.{drop-append_seam}
-use Rattle.std.proofs.lemmas.List.Concat.{flat_map-append}
-use Rattle.trace_model.specs.declared.entry.Entry.{Entry}
-use Rattle.trace_model.specs.declared.line.Header.{Header}
-use Rattle.trace_model.specs.declared.line.Line.{Line}
-use Rattle.link_laws.specs.messages.Links.{Link, LinkEvent, AllAllowed, after_link_events}
-use Rattle.link_laws.specs.messages.Links.IsStart.{IsLine}
-use Rattle.link_laws.specs.entries.Entries.{entries}
-use Rattle.link_laws.specs.entries.Entries.End.{Controller, Host}
+use Rattle.world_laws.proofs.Words.{AllAllowed, AreHosts, ArePlayable, ArePoweredNotes, AreReadyThroughout, AreUpWith, Controller, Entry, FollowsNodes}
+use Rattle.world_laws.proofs.Words.{GoesOnLink, Header, Host, IsLine, IsLinkUndisturbed, IsUnderWay, Line, Link, LinkEvent, NodeHistory, NodeWorld, Occurrence}
+use Rattle.world_laws.proofs.Words.{Play, Round, Site, after_events-append, after_link_events, allowed-append, entries, entries_in, entries_since}
+use Rattle.world_laws.proofs.Words.{events_of_steps, fine_there, flat_map-append, heard, host_number, lines_played, new_line, new_world, node_entries}
+use Rattle.world_laws.proofs.Words.{nodes_behind, occurrences_in, rounds_allowed, rounds_events, rounds_go, rounds_of_world, rounds_to_rest, session_up}
+use Rattle.world_laws.proofs.Words.{site_at, world_behind}
 use Rattle.link_laws.specs.entries.Sessions.{number_now}
-use Rattle.link_laws.proofs.entries.Hearing.{heard, session_up}
-use Rattle.link_laws.proofs.entries.Running.{IsUnderWay, start_under_way}
-use Rattle.node_machine.specs.world.World.{Site, NodeWorld, new_world, site_at}
-use Rattle.node_machine.specs.world.Lines.{Occurrence}
-use Rattle.node_machine.specs.world.NodeHistories.{FollowsNodes, NodeHistory, LineStep, entries_in, node_entries, occurrences_in}
-use Rattle.node_machine.specs.world.Rounds.{rounds_of_world}
-use Rattle.node_laws.specs.kept.Hosts.{AreHosts}
-use Rattle.node_laws.specs.telling.Telling.{world_behind}
-use Rattle.node_laws.proofs.telling.Lasting.{events_of_steps}
-use Rattle.node_laws.specs.links.Runs.{ArePlayable, new_line}
-use Rattle.node_laws.specs.order.Told.{AreSessionsRead, AreUpWith}
-use Rattle.node_laws.specs.rounds.LinkEvents.{GoesOnLink}
-use Rattle.node_laws.specs.rounds.RoundEvents.{rounds_events}
-use Rattle.node_laws.proofs.order.Lines.{host_number}
+use Rattle.link_laws.proofs.entries.Running.{start_under_way}
+use Rattle.node_machine.specs.world.NodeHistories.{LineStep}
+use Rattle.node_laws.specs.order.Told.{AreSessionsRead}
 use Rattle.node_laws.proofs.order.Sessions.{are_read}
-use Rattle.node_laws.proofs.rounds.Allowing.{fine_there, rounds_allowed}
-use Rattle.node_laws.proofs.rounds.BareRounds.{allowed-append}
-use Rattle.node_laws.proofs.rounds.RoundEvents.{rounds_go}
-use Rattle.lines_told.specs.messages.Recovery.{IsLinkUndisturbed}
-use Rattle.lines_told.proofs.messages.Projected.{after_events-append}
-use Rattle.lines_told.specs.lines.Below.{nodes_behind}
-use Rattle.lines_told.specs.lines.Plays.{Play, lines_played, rounds_to_rest}
-use Rattle.lines_told.specs.lines.Plays.Play.{Round}
 use Rattle.lines_told.proofs.lines.NodeRounds.{played_rounds}
-use Rattle.world_laws.specs.worlds.Undisturbed.{ArePoweredNotes, AreReadyThroughout, entries_since}
 use Rattle.world_laws.proofs.schedules.Nodes.{last, reached}
 use Rattle.world_laws.proofs.schedules.Occurring.{rounds_occur}
 use Rattle.world_laws.proofs.undisturbed.Begun.{Unbegun}

@@ -1,26 +1,19 @@
 -- Where entries tell of nothing that disturbs a link, the law of one link notes nothing that does.
 use Rattle.std.proofs.Common.{◌≡◌, ℕ, ◌==◌, Bool, false, List, [], ◌∷◌, ◌++◌, Option, Some, None, refl, ap, sym, subst, ◌∙◌, append-nil}
 use Rattle.std.specs.Prelude.{◌||◌}
-use Rattle.std.specs.List.{list_any}
-use Rattle.std.proofs.lemmas.Bool.{true≢false}
-use Rattle.std.proofs.lemmas.List.Folds.{list_any-append}
-use Rattle.trace_model.specs.declared.entry.Entry.{Entry}
-use Rattle.trace_model.specs.declared.line.End.{End}
-use Rattle.link_laws.specs.messages.Links.{Link, LinkEvent}
-use Rattle.link_laws.specs.entries.Entries.{Entry as Noted, entries, event_entries}
-use Rattle.link_laws.specs.entries.Entries.Entry.{Down, Lost, Restarted, Cut}
+use Rattle.world_laws.proofs.Words.{ArePoweredNotes, AreUnstarted, Cut, End, Entry, Link, LinkEvent, Lost, Restarted, by_test, cuts_on, end_of, entries}
+use Rattle.world_laws.proofs.Words.{entries_for, event_entries, list_any, list_any-append, of_link, true≢false}
+use Rattle.link_laws.specs.entries.Entries.{Entry as Noted}
+use Rattle.link_laws.specs.entries.Entries.Entry.{Down}
 use Rattle.history.specs.Filters.{Saying, said}
 use Rattle.history.specs.Filters.Saying.{Ends, Loses}
 use Rattle.history.specs.Legal.{has_lost, loses_on}
-use Rattle.history.specs.Steps.{end_of, entries_for}
 use Rattle.history.proofs.legal.Reading.{link_same}
-use Rattle.node_laws.specs.telling.Telling.{of_link, is_of, tells_of, TellOf}
-use Rattle.node_laws.proofs.Cases.{by_test}
+use Rattle.node_laws.specs.telling.Telling.{is_of, tells_of, TellOf}
 use Rattle.node_laws.proofs.telling.Accounts.{untold}
 use Rattle.node_laws.specs.telling.Standing.{Standing, standing, standing_by_law, StandsOf}
-use Rattle.node_laws.specs.order.Resets.{cuts_on}
-use Rattle.node_laws.proofs.order.Watches.{AreUnstarted, is_cut, no_cut}
-use Rattle.world_laws.specs.worlds.Undisturbed.{ArePoweredNotes, ends_on, has_ended}
+use Rattle.node_laws.proofs.order.Watches.{is_cut, no_cut}
+use Rattle.world_laws.specs.worlds.Undisturbed.{ends_on, has_ended}
 use Rattle.world_laws.proofs.undisturbed.Losing.{Calm, or_calm}
 use Rattle.world_laws.proofs.undisturbed.Events.{IsRoundEvent}
 use Rattle.world_laws.proofs.undisturbed.Runs.{AreRoundEvents}

@@ -1,17 +1,9 @@
 -- The lines of a schedule of a world of nodes may be played, also with a line behind them that lets the links settle.
 use Rattle.std.proofs.Common.{List, [], ℕ, ◌∷◌, ◌++◌, inr, subst, sym}
 use Rattle.std.specs.Prelude.{replicate}
-use Rattle.std.specs.List.{AllByRecursion}
-use Rattle.trace_model.specs.declared.line.Header.{Header}
-use Rattle.trace_model.specs.declared.line.Line.{Line}
-use Rattle.trace_model.specs.declared.line.Line.TheVariants.{Settle}
-use Rattle.trace_model.specs.Lines.{IsNodeHeader, MayFollow}
-use Rattle.node_laws.specs.links.Runs.{ArePlayable}
-use Rattle.node_laws.proofs.order.HostsStay.{hosts_stay_behind}
-use Rattle.lines_told.specs.lines.Plays.{IsPlayFor, lines_played, lines_played_of, plays_of, rounds_to_rest}
-use Rattle.lines_told.specs.lines.Plays.Play.{Round}
-use Rattle.lines_told.proofs.lines.Lines.{lines_may_be_played}
-use Rattle.lines_told.proofs.lines.Plays.{all-append, plays_for, rounds_for}
+use Rattle.world_laws.proofs.Words.{AllByRecursion, ArePlayable, Header, IsPlayFor, Line, MayFollow, Round, Settle, all-append, hosts_stay_behind}
+use Rattle.world_laws.proofs.Words.{lines_may_be_played, lines_played, lines_played_of, plays_for, plays_of, rounds_for, rounds_to_rest}
+use Rattle.trace_model.specs.Lines.{IsNodeHeader}
 use Rattle.world_laws.proofs.schedules.Nodes.{with_settle}
 use Rattle.world_laws.proofs.schedules.Played.{played_playable}
 

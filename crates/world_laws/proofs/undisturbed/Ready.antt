@@ -1,24 +1,18 @@
 -- What an end takes and sends leaves whether it takes fragments: its node alone says so.
 use Rattle.std.proofs.Common.{◌≡◌, ℕ, ◌==◌, Bool, true, false, Option, Some, None, refl, ap, ◌∙◌, cond}
 use Rattle.std.specs.Prelude.{nat_lt, not, is_some}
-use Rattle.swp_base.specs.declared.control_frames.Kind.{Kind}
-use Rattle.swp_base.specs.declared.control_frames.Kind.TheVariants.{Srej}
-use Rattle.swp_base.specs.declared.control_frames.Control.{Control}
-use Rattle.swp_base.specs.declared.control_frames.Control.TheVariants.{I, S, Rset, Ua, Act, Clt}
+use Rattle.world_laws.proofs.Words.{Act, ActEvent, Clt, Control, Down, EndState, FetchMessage, Fragment, Give, Hold, I, Kind, LinkEnd, LinkState, Reset, Rset}
+use Rattle.world_laws.proofs.Words.{S, Srej, Turn, Ua, Up, Waiting, act_answer, activated, after_input, by_option, by_test, give_refusal, is_open, is_waiting}
+use Rattle.world_laws.proofs.Words.{most_frames, moved, reset_refusal, reset_with, take_answer, taken, tick_answer, ticked, took, turn, window_of}
 use Rattle.swp_base.specs.declared.control_frames.Act.{Act as Activation}
-use Rattle.swp_act.specs.declared.ActEvent.{ActEvent}
 use Rattle.swp_act.specs.declared.ActEvent.TheVariants.{Tick as ActTick}
-use Rattle.shdlc_core.specs.declared.answers.LinkState.{LinkState}
-use Rattle.shdlc_core.specs.declared.answers.LinkState.TheVariants.{Down, Waiting, Up}
-use Rattle.shdlc_core.specs.Machine.{EndState, Fragment, place_of, acknowledged, ahead, received, reset_taken, taken, take_answer, ticked, tick_answer, timed}
-use Rattle.shdlc_core.specs.Machine.{runs_timer, is_waiting, reset_with, with_ready, Timed, most_frames}
+use Rattle.shdlc_core.specs.Machine.{place_of, acknowledged, ahead, received, reset_taken, timed}
+use Rattle.shdlc_core.specs.Machine.{runs_timer, with_ready, Timed}
 use Rattle.shdlc_core.specs.Machine.Timed.{Runs}
-use Rattle.link_laws.specs.machine.Machine.{LinkEnd, Turn, is_open, act_answer, with_act, put_down, activated, moved, heard, took, turn}
-use Rattle.link_laws.specs.machine.Machine.{give_refusal, aside_refusal, had_tick, reset_refusal, after_input, window_of, is_faulty, sent_all}
-use Rattle.link_laws.specs.machine.Machine.LinkInput.{Reset}
-use Rattle.link_laws.specs.machine.Machine.Turn.{Give, Hold, FetchMessage, SetAside, Release}
+use Rattle.link_laws.specs.machine.Machine.{with_act, put_down, heard}
+use Rattle.link_laws.specs.machine.Machine.{aside_refusal, had_tick, is_faulty, sent_all}
+use Rattle.link_laws.specs.machine.Machine.Turn.{SetAside, Release}
 use Rattle.lines_told.proofs.fragments.Sends.{sent_same}
-use Rattle.node_laws.proofs.Cases.{by_test, by_option}
 
 received_ready : (e : EndState) (ns : ℕ) (info : Fragment) → (received e ns info).ready ≡ e.ready
 received_ready e ns info = go e.ready (ahead e.session ns == 0) (nat_lt (ahead e.session ns) 4) e.session.gap_open refl refl refl refl

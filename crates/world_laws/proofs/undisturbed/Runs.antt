@@ -1,24 +1,19 @@
 -- Where nothing that disturbs a link is noted of its rounds, and both its ends are up before them and ready throughout, it is undisturbed.
 use Rattle.std.proofs.Common.{◌≡◌, ℕ, List, [], ◌∷◌, ◌++◌, Some, None, refl, ap, sym, subst, ◌∙◌, append_assoc, append-nil}
-use Rattle.std.proofs.lemmas.Bool.{true≢false}
+use Rattle.world_laws.proofs.Words.{AllAllowed, AreReadyThroughout, Controller, Cut, Host, IsLinkUndisturbed, IsStart, IsUnderWay, Link, LinkEvent, Lost}
+use Rattle.world_laws.proofs.Words.{Restarted, after_events-append, after_link_events, allowed-append, by_test, core_events, core_of, entries, event_entries}
+use Rattle.world_laws.proofs.Words.{first_entries, happens, heard, number_of, session_up, true≢false}
 use Rattle.shdlc_core.specs.declared.answers.LinkState.TheVariants.{Up as IsUpNow}
-use Rattle.link_laws.specs.messages.Links.{Link, LinkEvent, IsStart, AllAllowed, happens, after_link_events, number_of}
-use Rattle.link_laws.specs.messages.Projection.{core_of, core_events}
-use Rattle.link_laws.specs.entries.Entries.{End, Entry, event_entries, entries, first_entries, trace}
-use Rattle.link_laws.specs.entries.Entries.End.{Controller, Host}
-use Rattle.link_laws.specs.entries.Entries.Entry.{Up, Down, Lost, Restarted, Cut}
+use Rattle.link_laws.specs.entries.Entries.{End, Entry, trace}
+use Rattle.link_laws.specs.entries.Entries.Entry.{Up, Down}
 use Rattle.link_laws.specs.entries.Filters.{same_link_end}
 use Rattle.link_laws.specs.entries.Sessions.{number_now}
-use Rattle.link_laws.proofs.entries.Hearing.{heard, heard-append, up_session, session_up}
+use Rattle.link_laws.proofs.entries.Hearing.{heard-append, up_session}
 use Rattle.link_laws.proofs.entries.Heard.{controller_heard, host_heard}
-use Rattle.link_laws.proofs.entries.Running.{IsUnderWay, goes_on}
-use Rattle.node_laws.proofs.Cases.{by_test}
+use Rattle.link_laws.proofs.entries.Running.{goes_on}
 use Rattle.node_laws.proofs.telling.Events.{entries-append}
-use Rattle.node_laws.proofs.rounds.BareRounds.{allowed-append}
 use Rattle.lines_told.specs.fragments.Rounds.{BothTakeFragments}
-use Rattle.lines_told.specs.messages.Recovery.{IsLinkUndisturbed}
-use Rattle.lines_told.proofs.messages.Projected.{after_events-append, allowed_parts}
-use Rattle.world_laws.specs.worlds.Undisturbed.{AreReadyThroughout}
+use Rattle.lines_told.proofs.messages.Projected.{allowed_parts}
 use Rattle.world_laws.proofs.undisturbed.Losing.{Calm, calm_parts}
 use Rattle.world_laws.proofs.undisturbed.Begun.{Unbegun, both_none, event_none}
 use Rattle.world_laws.proofs.undisturbed.Events.{IsRoundEvent, calm_event}

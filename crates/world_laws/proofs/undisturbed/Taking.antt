@@ -1,32 +1,19 @@
 -- What a world of nodes notes as an end takes a frame is on each link what the law of one link notes of the event there.
 use Rattle.std.proofs.Common.{◌≡◌, ℕ, ◌==◌, Bool, true, false, cond, List, [], ◌∷◌, ◌++◌, Option, Some, None, refl, ap, sym, subst, ◌∙◌}
-use Rattle.std.proofs.lemmas.Bool.{eq-eqb, eqb-true, true≢false}
-use Rattle.trace_model.specs.declared.entry.Entry.{Entry}
-use Rattle.trace_model.specs.declared.line.End.{End}
-use Rattle.link_laws.specs.machine.Machine.{LinkInput, Turn}
-use Rattle.link_laws.specs.messages.Links.{Link, LinkEvent, Ending, exchanged}
-use Rattle.link_laws.specs.messages.Links.Ending.{GoesOut, CutOff}
-use Rattle.link_laws.specs.messages.Links.Comes.{NextFrame, NoInput}
-use Rattle.link_laws.specs.messages.Links.EndEvent.{Step}
-use Rattle.link_laws.specs.messages.Links.LinkEvent.{AtController, AtHost}
-use Rattle.link_laws.specs.entries.Entries.{End as Side, Entry as Noted, step_entries}
-use Rattle.link_laws.specs.entries.Entries.End.{Controller, Host}
-use Rattle.node_machine.specs.Parts.{Running, Work}
-use Rattle.node_machine.specs.Node.{steps}
-use Rattle.node_machine.specs.Node.NodeInput.{AtEnd}
-use Rattle.node_machine.specs.world.World.{Site, NodeWorld, site_at, link_to, input_of, controller_work, after_controller, host_work, host_does, comes_to}
-use Rattle.node_machine.specs.world.World.{turns_at, ending_of, end_c, end_h, world_step}
-use Rattle.node_machine.specs.world.World.Happening.{Takes}
+use Rattle.world_laws.proofs.Words.{AreUnstarted, AtController, AtEnd, AtHost, Controller, CutOff, End, Ending, Entry, GoesOut, Host, IsOrderly, Link}
+use Rattle.world_laws.proofs.Words.{LinkEvent, LinkInput, NextFrame, NoInput, NodeWorld, Running, Site, Step, Takes, Turn, Work, after_controller, by_test}
+use Rattle.world_laws.proofs.Words.{comes_to, controller_takes, controller_work, end_c, end_h, ending_of, eq-eqb, eqb-true, exchanged, host_work, hosts_in}
+use Rattle.world_laws.proofs.Words.{input_of, link_events_in, link_to, of_link, site_at, site_host, site_takes, step_entries, steps, true≢false, turns_at}
+use Rattle.world_laws.proofs.Words.{world_step}
+use Rattle.link_laws.specs.entries.Entries.{End as Side, Entry as Noted}
+use Rattle.node_machine.specs.world.World.{host_does}
 use Rattle.node_machine.proofs.world.Cases.{after_host_step, by_coming, by_host}
-use Rattle.node_laws.specs.telling.Telling.{of_link, HasEnds, IfItRuns, IsOrderly, hosts_in}
+use Rattle.node_laws.specs.telling.Telling.{HasEnds, IfItRuns}
 use Rattle.node_laws.specs.telling.Standing.{Standing, standing}
-use Rattle.node_laws.proofs.Cases.{by_test}
-use Rattle.node_laws.proofs.telling.Nodes.{given, controller_stands, controller_tells, link_is, site_host, swapped}
+use Rattle.node_laws.proofs.telling.Nodes.{given, controller_stands, controller_tells, link_is, swapped}
 use Rattle.node_laws.proofs.telling.Shapes.{IsShaped, last_of, shaped_step}
 use Rattle.node_laws.proofs.telling.Worlds.{host_does_step}
-use Rattle.node_laws.proofs.order.Watches.{AreUnstarted}
 use Rattle.node_laws.proofs.order.Wires.{clear_unstarted}
-use Rattle.node_laws.specs.rounds.LinkEvents.{controller_takes, link_events_in, site_takes}
 use Rattle.world_laws.proofs.undisturbed.Events.{IsRoundEvent}
 use Rattle.world_laws.proofs.undisturbed.Noted.{IsTold, event_told, none_told, one_told, silent_told}
 

@@ -1,43 +1,26 @@
 -- Where nothing that disturbs a link is noted of a tick of the world, and both its ends are up before it, the tick is one of the link in which
 -- no node loses its power and no notice is late, and so both ends are up behind it.
 use Rattle.std.proofs.Common.{◌≡◌, ℕ, ◌&&◌, Bool, true, false, not, List, [], ◌∷◌, ◌++◌, Some, None, refl, ap, sym, subst, ◌∙◌}
-use Rattle.std.proofs.lemmas.Bool.{and_parts, not-true}
+use Rattle.world_laws.proofs.Words.{AllAllowed, ArePoweredNotes, AreSendableTurns, AsksReset, Clf, Controller, GoesOut, Host, IsEvent, IsLine, Known, Link}
+use Rattle.world_laws.proofs.Words.{LinkEnd, LinkEvent, Node, NodeWorld, Running, Site, Step, Ticks, TicksWithout, Turn, Uicc, Work, after_events-append}
+use Rattle.world_laws.proofs.Words.{after_link_events, aged, all_aged, allowed-append, and_parts, by_option, by_test, controller_ticks, ending_of, entries}
+use Rattle.world_laws.proofs.Words.{entries_in, event_entries, event_step, exchanged, fine_there, happens, is_open, is_waiting, link_events_in, new_line}
+use Rattle.world_laws.proofs.Words.{new_link_end, open_up, runs_on, site_at, site_host, tick_so, ticks_at_controller, world_step}
+use Rattle.std.proofs.lemmas.Bool.{not-true}
 use Rattle.swp_act.specs.Activation.{new_clf, new_uicc}
 use Rattle.shdlc_core.specs.declared.answers.LinkState.TheVariants.{Up as IsUpNow}
-use Rattle.shdlc_core.specs.Machine.{is_waiting}
-use Rattle.link_laws.specs.machine.Machine.{LinkEnd, Turn, is_open, new_link_end}
-use Rattle.link_laws.specs.machine.Machine.Role.{Clf, Uicc}
 use Rattle.link_laws.specs.sessions.Sessions.{ShdlcLink as CoreLink}
-use Rattle.link_laws.specs.messages.Links.{Link, LinkEvent, Node, AllAllowed, AreSendableTurns, IsEvent, aged, after_link_events, exchanged, happens}
-use Rattle.link_laws.specs.messages.Links.{ticks_at_controller}
-use Rattle.link_laws.specs.messages.Links.Comes.{AsksReset}
-use Rattle.link_laws.specs.messages.Links.Ending.{GoesOut}
-use Rattle.link_laws.specs.messages.Links.EndEvent.{Step}
-use Rattle.link_laws.specs.messages.Links.IsStart.{IsLine}
-use Rattle.link_laws.specs.messages.Links.LinkEvent.{Ticks, TicksWithout}
-use Rattle.link_laws.proofs.messages.Runs.{event_step}
-use Rattle.link_laws.specs.entries.Entries.{entries, event_entries}
-use Rattle.link_laws.specs.entries.Entries.End.{Controller, Host}
-use Rattle.node_machine.specs.Parts.{Running, Work}
-use Rattle.node_machine.specs.world.World.{Site, NodeWorld, site_at, all_aged, controller_ticks, host_ticks, runs_on, ending_of, world_step, world_ticks}
+use Rattle.node_machine.specs.world.World.{host_ticks, world_ticks}
 use Rattle.node_machine.specs.world.World.Happening.{Ticks as TimePassing}
-use Rattle.node_machine.specs.world.NodeHistories.{entries_in}
 use Rattle.node_machine.proofs.world.Cases.{host_tick, near_tick}
-use Rattle.node_laws.proofs.Cases.{by_option, by_test}
-use Rattle.node_laws.proofs.telling.Nodes.{site_host}
 use Rattle.node_laws.proofs.telling.WorldTicks.{Ticking, between, between_far, host_turns, near_turns, tick_event, ticking}
-use Rattle.node_laws.specs.links.Runs.{new_line}
 use Rattle.node_laws.proofs.links.Got.{Clean}
 use Rattle.node_laws.proofs.links.Sites.{AreNodes, reset_allowed, tick_allowed}
 use Rattle.node_laws.proofs.links.Worlds.{IsFineSite}
 use Rattle.node_laws.proofs.order.Ticking.{aged_clean, far_sends, near_sends, timely}
 use Rattle.node_laws.proofs.order.Wires.{tick_unstarted}
-use Rattle.node_laws.specs.rounds.LinkEvents.{controller_tick_on, link_events_in, site_ticks, tick_so, ticks_on}
-use Rattle.node_laws.proofs.rounds.Allowing.{fine_there}
-use Rattle.node_laws.proofs.rounds.BareRounds.{allowed-append}
+use Rattle.node_laws.specs.rounds.LinkEvents.{controller_tick_on, site_ticks, ticks_on}
 use Rattle.node_laws.proofs.rounds.LinkEvents.{Ticked, world_ticked}
-use Rattle.lines_told.proofs.messages.Projected.{Known, after_events-append, open_up}
-use Rattle.world_laws.specs.worlds.Undisturbed.{ArePoweredNotes}
 use Rattle.world_laws.proofs.undisturbed.Losing.{Calm, calm_parts}
 use Rattle.world_laws.proofs.undisturbed.Events.{IsRoundEvent, TickParts, goes_out, reset_ends, tick_parts}
 use Rattle.world_laws.proofs.undisturbed.Runs.{AreBothUpNow, AreRoundEvents, up_after}

@@ -2,48 +2,28 @@
 use Rattle.std.proofs.Common.{◌≡◌, ℕ, zero, suc, ◌==◌, Bool, true, false, cond, List, [], ◌∷◌, ◌++◌, map, Option, Some, None, refl, ap, sym, subst, ◌∙◌}
 use Rattle.std.proofs.Common.{append-nil, append_assoc, length}
 use Rattle.std.specs.Prelude.{replicate}
-use Rattle.std.specs.List.{list_any}
-use Rattle.std.proofs.lemmas.Bool.{true≢false}
-use Rattle.std.proofs.lemmas.List.Concat.{flat_map-append}
-use Rattle.std.proofs.lemmas.List.Folds.{list_any-append}
+use Rattle.world_laws.proofs.Words.{AreBothReady, AreHosts, ArePassing, ArePlayable, AreReadyThroughout, AreUnheldNotes, End, Entry, FollowsNodes, GoesOnLink}
+use Rattle.world_laws.proofs.Words.{Happening, Header, Line, Link, LinkEvent, LinkInput, MayBoot, NextFrame, NodeHistory, NodeWorld, Occurrence, Play, Round}
+use Rattle.world_laws.proofs.Words.{Running, Site, Takes, after_link_events, all_aged, all_go, all_happen, by_test, can_happen, controller_takes}
+use Rattle.world_laws.proofs.Words.{controller_ticks, end_c, end_h, end_takes_all, ends_events, ends_go, ends_in_order, ends_take_all, entries_in}
+use Rattle.world_laws.proofs.Words.{entries_since, events_of_steps, events_on, exchanged, flat_map-append, frames_at, happenings, happens, input_of}
+use Rattle.world_laws.proofs.Words.{lines_played, link_events_in, link_to, list_any, list_any-append, new_world, node_entries, node_of, nodes_behind}
+use Rattle.world_laws.proofs.Words.{occurrences_in, round_events, round_goes, rounds_events, rounds_of_world, rounds_to_rest, site_at, site_host, site_is}
+use Rattle.world_laws.proofs.Words.{site_takes, steps_from, takes_go, takes_pass, ticks_go, true≢false, world_behind, world_round, world_step}
 use Rattle.std.proofs.lemmas.List.Sums.{fold-append}
-use Rattle.trace_model.specs.declared.entry.Entry.{Entry}
 use Rattle.trace_model.specs.declared.entry.Entry.TheVariants as entry
-use Rattle.trace_model.specs.declared.line.End.{End}
-use Rattle.trace_model.specs.declared.line.Header.{Header}
-use Rattle.trace_model.specs.declared.line.Line.{Line}
 use Rattle.trace_model.specs.declared.line.Line.TheVariants as line
-use Rattle.link_laws.specs.machine.Machine.{LinkInput}
-use Rattle.link_laws.specs.messages.Links.{Link, LinkEvent, after_link_events, exchanged, happens}
-use Rattle.link_laws.specs.messages.Links.Comes.{NextFrame}
 use Rattle.history.specs.Filters.{same_end}
-use Rattle.node_machine.specs.Parts.{Running}
-use Rattle.node_machine.specs.world.World.{Happening, NodeWorld, Site, all_aged, controller_ticks, end_c, end_h, input_of, link_to, new_site, new_world}
-use Rattle.node_machine.specs.world.World.{node_of, site_at, world_step}
-use Rattle.node_machine.specs.world.World.Happening.{Takes, Ticks as TimePassing}
-use Rattle.node_machine.specs.world.Lines.{Occurrence, all_happen, can_happen, frames_at, happenings}
-use Rattle.node_machine.specs.world.NodeHistories.{FollowsNodes, NodeHistory, entries_in, node_entries, occurrences_in, steps_from}
-use Rattle.node_machine.specs.world.Rounds.{end_takes_all, ends_in_order, ends_take_all, rounds_of_world, world_round}
-use Rattle.node_laws.specs.kept.Hosts.{AreHosts}
-use Rattle.node_laws.specs.telling.Telling.{MayBoot, world_behind}
-use Rattle.node_laws.proofs.Cases.{by_test}
-use Rattle.node_laws.proofs.telling.Lasting.{AllHold, AnyLine, all_lines, boots_may, events_of_steps, front_holds, lines_hold}
-use Rattle.node_laws.proofs.telling.Nodes.{site_host}
-use Rattle.node_laws.proofs.telling.Worlds.{site_is}
-use Rattle.node_laws.specs.links.Runs.{ArePlayable}
-use Rattle.node_laws.specs.rounds.LinkEvents.{GoesOnLink, controller_takes, link_events_in, on_site, site_takes, takes_on, ticks_on}
-use Rattle.node_laws.specs.rounds.RoundEvents.{ends_events, events_on, round_events, rounds_events}
-use Rattle.node_laws.proofs.rounds.LinkEvents.{takes_go, ticks_go}
-use Rattle.node_laws.proofs.rounds.RoundEvents.{ArePassing, all_go, ends_go, round_goes, takes_pass}
+use Rattle.node_machine.specs.world.World.{new_site}
+use Rattle.node_machine.specs.world.World.Happening.{Ticks as TimePassing}
+use Rattle.node_laws.proofs.telling.Lasting.{AllHold, AnyLine, all_lines, boots_may, front_holds, lines_hold}
+use Rattle.node_laws.specs.rounds.LinkEvents.{on_site, takes_on, ticks_on}
 use Rattle.node_laws.specs.answers.Moments.{holds_in}
 use Rattle.node_laws.proofs.reply_passes.Begins.{reads_last}
 use Rattle.node_laws.proofs.reply_passes.Held.{is_held_among}
 use Rattle.node_laws.proofs.worlds.AtRest.{SiteRests}
 use Rattle.node_laws.proofs.worlds.Done.{IsAtRest, event_rests, history_rests}
-use Rattle.lines_told.specs.lines.Below.{nodes_behind}
-use Rattle.lines_told.specs.lines.Plays.{Play, lines_played, rounds_to_rest}
-use Rattle.lines_told.specs.lines.Plays.Play.{Round}
-use Rattle.world_laws.specs.worlds.Undisturbed.{AreBothReady, AreReadyThroughout, AreUnheldNotes, entries_since, is_held_on}
+use Rattle.world_laws.specs.worlds.Undisturbed.{is_held_on}
 use Rattle.world_laws.proofs.schedules.Nodes.{last}
 use Rattle.world_laws.proofs.undisturbed.Keeping.{HeldAt, HeldIn, IsHeldSo, SiteHeld, event_kept}
 use Rattle.world_laws.proofs.undisturbed.Losing.{or_calm}

@@ -2,22 +2,16 @@
 use Rattle.std.proofs.Common.{◌≡◌, ℕ, zero, suc, ◌+◌, true, List, [], ◌∷◌, ◌++◌, None, refl, ap, sym, subst, ◌∙◌, length}
 use Rattle.std.proofs.Common.{arith}
 use Rattle.std.specs.Prelude.{replicate}
-use Rattle.std.specs.List.{AllByRecursion}
-use Rattle.trace_model.specs.declared.line.End.{End}
+use Rattle.world_laws.proofs.Words.{AllByRecursion, ArePassing, End, Happening, IsOrderly, MayBoot, NodeWorld, Occurrence, Takes, all_happen, by_test}
+use Rattle.world_laws.proofs.Words.{can_happen, end_takes_all, ends_in_order, ends_take_all, frames_at, happened_in, happenings, rounds_of_world, takes_pass}
+use Rattle.world_laws.proofs.Words.{world_after_round, world_round, world_step}
 use Rattle.trace_model.specs.declared.line.Line.TheVariants as line
-use Rattle.node_machine.specs.world.World.{NodeWorld, Happening, world_step}
-use Rattle.node_machine.specs.world.World.Happening.{Takes, Ticks}
-use Rattle.node_machine.specs.world.Lines.{Occurrence, all_happen, can_happen, frames_at, happenings}
-use Rattle.node_laws.specs.telling.Telling.{IsOrderly}
-use Rattle.node_laws.proofs.Cases.{by_test}
+use Rattle.node_machine.specs.world.World.Happening.{Ticks}
 use Rattle.node_laws.proofs.telling.Orderly.{step_orderly}
 use Rattle.node_laws.specs.readings.Worlds.{MayBeRead}
 use Rattle.node_laws.specs.kept.Worlds.{MayHappen}
-use Rattle.node_laws.specs.telling.Telling.{MayBoot}
-use Rattle.node_machine.specs.world.Rounds.{ends_in_order, end_takes_all, ends_take_all, world_round, world_after_round, rounds_of_world}
-use Rattle.node_laws.specs.rsets.Causes.{happened_in, world_ticks_in}
+use Rattle.node_laws.specs.rsets.Causes.{world_ticks_in}
 use Rattle.world_laws.specs.worlds.RoundCauses.{world_round_causes, AllCanHappen, IsTakeOrTick, IsOfRound, AreOfRounds}
-use Rattle.node_laws.proofs.rounds.RoundEvents.{ArePassing, takes_pass}
 use Rattle.world_laws.proofs.worlds.Replayed.{IsWhole, happens_first, none_happens, causes-append, both, whole_all, whole_ends, whole_round}
 use Rattle.world_laws.proofs.worlds.TakenInRounds.{takes_of}
 

@@ -1,9 +1,11 @@
 -- While a link is undisturbed, no node of it loses power and no notice on it is late.
 use Rattle.std.proofs.Common.{◌≡◌, ℕ, subst, Bool, true, false, ◌&&◌, not, List, [], ◌∷◌, ◌++◌, Option, Some, None, ◌⊎◌, inl, inr, map, refl, ap, sym, ◌∙◌}
-use Rattle.shdlc_core.specs.declared.answers.LinkState.{LinkState}
-use Rattle.shdlc_core.specs.declared.answers.LinkState.TheVariants.{Down, Waiting, Up}
-use Rattle.shdlc_core.specs.Machine.{new_end, is_waiting, reset_with}
-use Rattle.link_laws.specs.sessions.Sessions.{NumberedShdlc as CoreEnd, OnWire, ShdlcLink as CoreLink, ShdlcTurn as CoreTurn, ShdlcEndEvent as CoreEndEvent}
+use Rattle.world_laws.proofs.Words.{AsksReset, AtController, AtHost, CutOff, Down, Ending, GoesOut, IsLinkUndisturbed, Link, LinkEnd, LinkEvent, LinkState}
+use Rattle.world_laws.proofs.Words.{NextFrame, NoInput, Node, OnWire, Step, Ticks, TicksWithout, Turn, Up, Waiting, after_input, aged, and_parts, by_test}
+use Rattle.world_laws.proofs.Words.{core_all, core_event, core_of, core_take, core_tick, core_tick_rest, core_turns, is_open, is_waiting, reset_by}
+use Rattle.world_laws.proofs.Words.{reset_refusal, reset_with, tick_so, window_of}
+use Rattle.shdlc_core.specs.Machine.{new_end}
+use Rattle.link_laws.specs.sessions.Sessions.{NumberedShdlc as CoreEnd, ShdlcLink as CoreLink, ShdlcTurn as CoreTurn, ShdlcEndEvent as CoreEndEvent}
 use Rattle.link_laws.specs.sessions.Sessions.{shdlc_exchanged as core_exchanged, shdlc_happens as core_happens}
 use Rattle.link_laws.specs.sessions.Sessions.{shdlc_happens_at_controller as core_happens_here}
 use Rattle.link_laws.specs.sessions.Sessions.{shdlc_after as core_after}
@@ -17,18 +19,9 @@ use Rattle.lines_told.proofs.fragments.Sends.{sent_same}
 use Rattle.lines_told.proofs.fragments.Events.{tick_host}
 use Rattle.lines_told.proofs.fragments.Wide.{silent_host}
 use Rattle.lines_told.proofs.fragments.Stretches.{began, ended}
-use Rattle.link_laws.specs.machine.Machine.{LinkEnd, Turn, is_open, after_input, reset_refusal, reset_by, window_of}
 use Rattle.link_laws.specs.machine.Machine.LinkInput.{Tick as InputTick}
-use Rattle.link_laws.specs.messages.Links.{Link, LinkEvent, Node, Ending, aged}
-use Rattle.node_laws.specs.rounds.LinkEvents.{tick_so}
-use Rattle.node_laws.proofs.Cases.{by_test}
-use Rattle.std.proofs.lemmas.Bool.{and_parts, not-true}
-use Rattle.link_laws.specs.messages.Links.Ending.{GoesOut, CutOff}
-use Rattle.link_laws.specs.messages.Links.Comes.{NextFrame, NoInput, AsksReset}
-use Rattle.link_laws.specs.messages.Links.EndEvent.{Step}
-use Rattle.link_laws.specs.messages.Links.LinkEvent.{AtController, AtHost, Ticks, TicksWithout}
-use Rattle.link_laws.specs.messages.Projection.{core_of, core_take, core_turns, core_tick, core_tick_rest, core_event, core_all, core_reset, is_lost_tick}
-use Rattle.lines_told.specs.messages.Recovery.{IsLinkUndisturbed}
+use Rattle.std.proofs.lemmas.Bool.{not-true}
+use Rattle.link_laws.specs.messages.Projection.{core_reset, is_lost_tick}
 
 -- an end whose node has lost power is down
 silent_down : (c : CoreLink) → (core_silent c (new_end 4)).controller.side.phase ≡ Down

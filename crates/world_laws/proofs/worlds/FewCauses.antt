@@ -4,16 +4,11 @@ use Rattle.std.proofs.Common.{arith}
 use Rattle.std.specs.Prelude.{replicate}
 use Rattle.std.specs.List.{flat_map}
 use Rattle.std.proofs.lemmas.List.{length-map, length-append, length-replicate}
-use Rattle.trace_model.specs.declared.line.End.{End}
-use Rattle.node_machine.specs.world.World.{Site, NodeWorld, Happening, end_c, end_h, world_step}
-use Rattle.node_machine.specs.world.World.Happening.{Takes, Ticks}
-use Rattle.node_machine.specs.world.Lines.{Occurrence, all_happen, can_happen, frames_at}
-use Rattle.node_laws.proofs.Cases.{by_test}
+use Rattle.world_laws.proofs.Words.{End, Happening, NodeWorld, Occurrence, Site, Takes, all_happen, by_test, can_happen, end_c, end_h, end_takes_all}
+use Rattle.world_laws.proofs.Words.{ends_in_order, ends_take_all, fine_there, frames_at, happened_in, rounds_of_world, world_round, world_step}
+use Rattle.node_machine.specs.world.World.Happening.{Ticks}
 use Rattle.node_laws.proofs.order.Strangers.{step_kept}
-use Rattle.node_machine.specs.world.Rounds.{ends_in_order, end_takes_all, ends_take_all, world_round, rounds_of_world}
-use Rattle.node_laws.specs.rsets.Causes.{happened_in}
 use Rattle.world_laws.specs.worlds.RoundCauses.{world_round_causes, AreFewOnWires}
-use Rattle.node_laws.proofs.rounds.Allowing.{fine_there}
 use Rattle.world_laws.proofs.worlds.Rounds.{IsReached}
 use Rattle.world_laws.proofs.worlds.Replayed.{happens_first, none_happens, causes-append, both}
 use Rattle.world_laws.proofs.worlds.CausesOfRounds.{kept_end, kept_round, kept_rounds}

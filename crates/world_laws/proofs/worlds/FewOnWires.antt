@@ -1,16 +1,10 @@
 -- No wire of a world holds more than 64 frames, and so it stays over its rounds.
 use Rattle.std.proofs.Common.{◌≡◌, ◌≤◌, false, List, [], ◌∷◌, length, sym, refl, ap, ◌∙◌, subst, arith}
 use Rattle.std.specs.Prelude.{ℕ, ◌==◌, Some, None}
-use Rattle.trace_model.specs.declared.line.End.{End}
-use Rattle.link_laws.specs.messages.Links.{LinkEvent, after_link_events}
-use Rattle.node_machine.specs.world.World.{Site, NodeWorld, site_at, end_c, end_h, world_step}
-use Rattle.node_machine.specs.world.World.Happening.{Takes, Ticks as TimePassing}
-use Rattle.node_machine.specs.world.Lines.{frames_at}
-use Rattle.node_laws.specs.telling.Telling.{hosts_in}
-use Rattle.node_laws.specs.rounds.LinkEvents.{GoesOnLink, link_events_in}
-use Rattle.node_laws.proofs.Cases.{by_option, by_test}
+use Rattle.world_laws.proofs.Words.{End, GoesOnLink, LinkEvent, NodeWorld, Site, Takes, after_link_events, by_option, by_test, end_c, end_h, frames_at}
+use Rattle.world_laws.proofs.Words.{hosts_in, link_events_in, site_at, takes_go, ticks_go, world_step}
+use Rattle.node_machine.specs.world.World.Happening.{Ticks as TimePassing}
 use Rattle.node_laws.proofs.order.Strangers.{step_kept}
-use Rattle.node_laws.proofs.rounds.LinkEvents.{takes_go, ticks_go}
 use Rattle.node_laws.proofs.schedules.Wires.{IsFewWires, after_few}
 use Rattle.world_laws.specs.worlds.RoundCauses.{AreFewOnWires}
 

@@ -6,21 +6,13 @@ use Rattle.std.proofs.lemmas.Bool.{leb-true}
 use Rattle.std.proofs.lemmas.List.{length-map}
 use Rattle.hcp_packet.specs.Packets.{packets_of, packet_count, packet_bytes, fragments_of}
 use Rattle.hcp_packet.proofs.Joining.{packets_are_counted}
-use Rattle.trace_model.specs.declared.entry.Entry.{Entry}
-use Rattle.trace_model.specs.declared.line.End.{End}
-use Rattle.link_laws.specs.machine.Machine.{Message, whole_among}
-use Rattle.link_laws.specs.messages.Links.{Talk, talk_now}
+use Rattle.world_laws.proofs.Words.{AreUpWith, End, Entry, IsLinkTold, IsReadOff, Known, Message, NodeWorld, Site, Talk, by_test, end_c, end_h, entries_in}
+use Rattle.world_laws.proofs.Words.{fragments_left, fragments_noted, host_number, site_at, talk_now}
+use Rattle.link_laws.specs.machine.Machine.{whole_among}
 use Rattle.link_laws.proofs.messages.Project.{Says}
-use Rattle.node_machine.specs.world.World.{Site, NodeWorld, site_at, end_c, end_h}
-use Rattle.node_machine.specs.world.NodeHistories.{entries_in}
-use Rattle.node_laws.specs.order.Told.{IsLinkTold, IsReadOff, AreUpWith}
-use Rattle.node_laws.proofs.Cases.{by_test}
-use Rattle.node_laws.proofs.order.Lines.{host_number}
 use Rattle.node_laws.proofs.order.Quiet.{near_now, far_now, up_near, up_far}
 use Rattle.lines_told.specs.fragments.Rounds.{undelivered}
-use Rattle.lines_told.specs.messages.Recovery.{fragments_left}
-use Rattle.lines_told.proofs.messages.Projected.{Known}
-use Rattle.world_laws.specs.worlds.NotedFragments.{fragments_unacked, fragments_noted}
+use Rattle.world_laws.specs.worlds.NotedFragments.{fragments_unacked}
 use Rattle.world_laws.proofs.worlds.Rounds.{IsReached, known_there}
 
 -- of the fragments of messages behind so many, those of the messages that are among these whole are left out

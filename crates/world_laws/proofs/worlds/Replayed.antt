@@ -1,15 +1,9 @@
 -- What the causes of events do is what happened, and so with rounds of a world.
 use Rattle.std.proofs.Common.{◌≡◌, ℕ, zero, suc, true, false, List, [], ◌∷◌, ◌++◌, None, refl, ap, sym, subst, ◌∙◌}
-use Rattle.std.proofs.lemmas.List.{map-append}
-use Rattle.trace_model.specs.declared.line.End.{End}
+use Rattle.world_laws.proofs.Words.{End, Happening, NodeWorld, Occurrence, all_happen, by_test, can_happen, end_takes_all, ends_in_order, ends_take_all}
+use Rattle.world_laws.proofs.Words.{happened_in, happenings, map-append, rounds_of_world, world_round, world_rounds_to_settle, world_settling, world_step}
 use Rattle.trace_model.specs.declared.line.Line.TheVariants as line
-use Rattle.node_machine.specs.world.World.{NodeWorld, Happening, world_step}
 use Rattle.node_machine.specs.world.World.Happening.{Ticks}
-use Rattle.node_machine.specs.world.Lines.{Occurrence, all_happen, can_happen, happenings}
-use Rattle.node_machine.specs.world.Rounds.{ends_in_order, end_takes_all, ends_take_all, world_round, rounds_of_world, world_rounds_to_settle}
-use Rattle.node_machine.specs.world.Rounds.{world_settling}
-use Rattle.node_laws.specs.rsets.Causes.{happened_in}
-use Rattle.node_laws.proofs.Cases.{by_test}
 use Rattle.world_laws.specs.worlds.RoundCauses.{AllCanHappen}
 
 -- what happens first, and then

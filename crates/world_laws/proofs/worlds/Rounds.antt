@@ -2,48 +2,25 @@
 use Rattle.std.proofs.Common.{◌≡◌, ℕ, zero, suc, ◌+◌, ◌≤◌, ◌⊎◌, inl, inr, ◌==◌, Bool, true, false, List, [], ◌∷◌, ◌++◌, Option, Some, None}
 use Rattle.std.proofs.Common.{refl, ap, sym, subst, ◌∙◌, length, arith}
 use Rattle.std.specs.Prelude.{replicate}
-use Rattle.std.proofs.lemmas.Bool.{true≢false, eq-eqb}
+use Rattle.world_laws.proofs.Words.{Activate, AllAllowed, ArePassing, AtController, AtEnd, AtHost, Clf, Down, End, Ending, GoesOut, Happening, IsLine}
+use Rattle.world_laws.proofs.Words.{IsLinkUndisturbed, Known, Link, LinkEnd, LinkEvent, LinkInput, NextFrame, NoInput, NodeWorld, Occurrence, OnWire, Running}
+use Rattle.world_laws.proofs.Words.{Site, Step, Take, Takes, Ticks, TicksWithout, Turn, Uicc, Up, Work, after_events-append, after_link_events, all_happen}
+use Rattle.world_laws.proofs.Words.{beside-put_all, by_test, can_happen, comes_to, controller_takes, controller_work, core_events, end_c, end_h, end_takes_all}
+use Rattle.world_laws.proofs.Words.{ending_of, ends_in_order, ends_take_all, eq-eqb, events_on, exchanged, fine_there, frames_at, frames_out, happenings}
+use Rattle.world_laws.proofs.Words.{happens, host_number, host_work, input_of, link_events_in, link_to, new_line, new_link_end, site_at, site_host, site_takes}
+use Rattle.world_laws.proofs.Words.{start_good, start_reached, steps, takes_go, takes_pass, true≢false, turned, turns_at, world_after_round, world_step}
 use Rattle.swp_act.specs.Activation.{new_clf, new_uicc}
-use Rattle.trace_model.specs.declared.line.End.{End}
 use Rattle.trace_model.specs.declared.line.Line.TheVariants as line
-use Rattle.shdlc_core.specs.declared.answers.LinkState.TheVariants.{Up, Down}
-use Rattle.link_laws.specs.sessions.Sessions.{OnWire}
-use Rattle.link_laws.specs.machine.Machine.{LinkEnd, LinkInput, Turn, frames_out, new_link_end, turned}
-use Rattle.link_laws.specs.machine.Machine.LinkInput.{Take}
-use Rattle.link_laws.specs.machine.Machine.Role.{Clf, Uicc}
-use Rattle.link_laws.specs.messages.Links.{Link, LinkEvent, Ending, exchanged, happens, after_link_events, AllAllowed}
-use Rattle.link_laws.specs.messages.Links.IsStart.{IsLine}
-use Rattle.link_laws.specs.messages.Links.Ending.{GoesOut}
-use Rattle.link_laws.specs.messages.Links.Comes.{NextFrame, NoInput}
-use Rattle.link_laws.specs.messages.Links.EndEvent.{Step}
-use Rattle.link_laws.specs.messages.Links.LinkEvent.{AtController, AtHost, Ticks, TicksWithout, Activate}
-use Rattle.link_laws.specs.messages.Projection.{core_events}
-use Rattle.link_laws.proofs.messages.Whole.{start_good, start_reached}
-use Rattle.link_laws.proofs.messages.Project.{beside-put_all}
-use Rattle.node_machine.specs.Parts.{Running, Work}
-use Rattle.node_machine.specs.Node.{steps}
-use Rattle.node_machine.specs.Node.NodeInput.{AtEnd}
-use Rattle.node_machine.specs.world.World.{Site, NodeWorld, Happening, site_at, link_to, input_of, controller_work, host_work, comes_to, turns_at, ending_of}
-use Rattle.node_machine.specs.world.World.{end_c, end_h, world_step}
-use Rattle.node_machine.specs.world.World.Happening.{Takes, Ticks as TimePassing}
-use Rattle.node_machine.specs.world.Lines.{Occurrence, all_happen, can_happen, happenings, frames_at}
+use Rattle.node_machine.specs.world.World.Happening.{Ticks as TimePassing}
 use Rattle.node_laws.specs.telling.Telling.{IfOff}
-use Rattle.node_laws.proofs.Cases.{by_test}
-use Rattle.node_laws.proofs.telling.Nodes.{site_host}
-use Rattle.node_laws.specs.links.Runs.{new_line}
-use Rattle.node_laws.proofs.order.Lines.{IsSo, of_none, next_so, host_number}
-use Rattle.lines_told.specs.messages.Recovery.{IsLinkStretch, IsLinkUndisturbed, come_to_controller, come_to_host}
+use Rattle.node_laws.proofs.order.Lines.{IsSo, of_none, next_so}
+use Rattle.lines_told.specs.messages.Recovery.{IsLinkStretch, come_to_controller, come_to_host}
 use Rattle.lines_told.specs.messages.Recovery.{times_among, AllOrdinaryOnLink}
 use Rattle.lines_told.proofs.fragments.Stretches.{began}
-use Rattle.lines_told.proofs.messages.Projected.{Known, known_after, in_parts, after_events-append}
-use Rattle.node_machine.specs.world.Rounds.{ends_in_order, end_takes_all, ends_take_all, world_after_round}
-use Rattle.node_laws.specs.rounds.LinkEvents.{link_events_in, controller_takes, site_takes}
-use Rattle.node_laws.specs.rounds.RoundEvents.{events_on}
+use Rattle.lines_told.proofs.messages.Projected.{known_after, in_parts}
 use Rattle.world_laws.proofs.links.Settling.{wire_after}
-use Rattle.node_laws.proofs.rounds.Allowing.{fine_there, on_allowed}
+use Rattle.node_laws.proofs.rounds.Allowing.{on_allowed}
 use Rattle.world_laws.proofs.worlds.Endings.{idle_goes_out, take_goes_out, host_take_goes_out}
-use Rattle.node_laws.proofs.rounds.LinkEvents.{takes_go}
-use Rattle.node_laws.proofs.rounds.RoundEvents.{ArePassing, takes_pass}
 
 -- ## Worlds that a history reaches
 

@@ -2,29 +2,14 @@
 use Rattle.std.proofs.Common.{◌≡◌, ℕ, zero, suc, ◌<◌, ◌≤◌, ◌==◌, Bool, true, false, List, [], ◌∷◌, Option, Some, None, refl, ap, sym, subst, ◌∙◌, length}
 use Rattle.std.proofs.Common.{arith}
 use Rattle.std.specs.Prelude.{replicate, is_some}
-use Rattle.std.proofs.lemmas.Bool.{true≢false, eq-eqb}
-use Rattle.trace_model.specs.declared.line.End.{End}
-use Rattle.link_laws.specs.sessions.Sessions.{OnWire}
-use Rattle.link_laws.specs.machine.Machine.{Turn}
-use Rattle.link_laws.specs.machine.Machine.LinkInput.{Take}
-use Rattle.link_laws.specs.messages.Links.{Link, Ending, exchanged, happens_at_controller}
-use Rattle.link_laws.specs.messages.Links.Ending.{GoesOut}
-use Rattle.link_laws.specs.messages.Links.Comes.{NextFrame}
-use Rattle.link_laws.specs.messages.Links.EndEvent.{Step}
-use Rattle.node_machine.specs.Parts.{Running, Work}
-use Rattle.node_machine.specs.Carrying.{changed_if}
-use Rattle.node_machine.specs.Node.{steps}
-use Rattle.node_machine.specs.Node.NodeInput.{AtEnd}
-use Rattle.node_machine.specs.world.World.{Site, NodeWorld, site_at, link_to, node_at, node_of, input_of, controller_work, host_work, after_host}
-use Rattle.node_machine.specs.world.World.{after_controller, link_after_controller, with_site, turns_at, ending_of, runs_on, comes_to, end_c, end_h, world_step}
-use Rattle.node_machine.specs.world.World.Happening.{Takes}
-use Rattle.node_machine.specs.world.Lines.{Occurrence, all_happen, can_happen, is_running, frames_at}
-use Rattle.node_laws.specs.telling.Telling.{IsOrderly}
-use Rattle.node_laws.proofs.Cases.{by_option, by_test}
-use Rattle.node_laws.proofs.telling.Nodes.{site_host}
+use Rattle.world_laws.proofs.Words.{AtEnd, End, Ending, GoesOut, IsOrderly, Link, NextFrame, NodeWorld, Occurrence, OnWire, Running, Site, Step, Take, Takes}
+use Rattle.world_laws.proofs.Words.{Turn, Work, after_controller, all_happen, by_option, by_test, can_happen, changed_if, comes_to, controller_work, end_c}
+use Rattle.world_laws.proofs.Words.{end_h, ending_of, eq-eqb, exchanged, frames_at, happened_in, happens_at_controller, host_work, input_of, link_to, node_of}
+use Rattle.world_laws.proofs.Words.{runs_on, site_at, site_host, site_is, steps, true≢false, turns_at, world_step}
+use Rattle.node_machine.specs.world.World.{node_at, after_host}
+use Rattle.node_machine.specs.world.World.{link_after_controller, with_site}
+use Rattle.node_machine.specs.world.Lines.{is_running}
 use Rattle.node_laws.proofs.telling.Orderly.{step_orderly}
-use Rattle.node_laws.proofs.telling.Worlds.{site_is}
-use Rattle.node_laws.specs.rsets.Causes.{happened_in}
 use Rattle.world_laws.specs.worlds.RoundCauses.{CanTake, AreOfRounds}
 use Rattle.world_laws.proofs.links.Settling.{wire_after}
 use Rattle.node_laws.proofs.rounds.LinkEvents.{site_map, changed_site}

@@ -1,18 +1,12 @@
 -- A link of a world that settles.
 use Rattle.std.proofs.Common.{◌≡◌, ℕ, ◌+◌, ◌*◌, ◌<◌, ◌≤◌, true, ◌==◌, List, [], ◌∷◌, Some, ◌⊎◌, inl, inr, ap, sym, subst}
 use Rattle.std.proofs.Common.{◌∙◌, arith}
-use Rattle.std.proofs.lemmas.Bool.{cases_lt, and_parts}
-use Rattle.link_laws.specs.messages.Links.{Link, LinkEvent, IsStart, AllAllowed, after_link_events, talk_now}
-use Rattle.node_machine.specs.world.World.{Site, NodeWorld, site_at}
-use Rattle.lines_told.specs.messages.Recovery.{AreLinkRounds, EarlierGot, IsLinkUndisturbed, fragments_left}
-use Rattle.link_laws.specs.messages.Rest.{link_rests}
-use Rattle.lines_told.proofs.messages.Rest.{first_rest}
+use Rattle.world_laws.proofs.Words.{AllAllowed, AreLinkRounds, EarlierGot, IsLinkUndisturbed, IsStart, Link, LinkEvent, LinkSettled, NodeWorld, Site}
+use Rattle.world_laws.proofs.Words.{after_link_events, and_parts, by_test, first_rest, fragments_left, link_rests, rounds_events, rounds_go, site_at, talk_now}
+use Rattle.world_laws.proofs.Words.{world_after_round, world_rests, world_rounds_to_settle, world_settling}
+use Rattle.std.proofs.lemmas.Bool.{cases_lt}
 use Rattle.lines_told.proofs.messages.Law.{got_by_host, got_by_controller, rest_at_host, rest_at_controller}
-use Rattle.node_machine.specs.world.Rounds.{sites_rest, world_rests, world_after_round, world_rounds_to_settle, world_settling}
-use Rattle.node_laws.specs.rounds.RoundEvents.{rounds_events}
-use Rattle.world_laws.specs.worlds.LinkSettled.{LinkSettled}
-use Rattle.node_laws.proofs.Cases.{by_test}
-use Rattle.node_laws.proofs.rounds.RoundEvents.{rounds_go}
+use Rattle.node_machine.specs.world.Rounds.{sites_rest}
 use Rattle.world_laws.proofs.worlds.WorldRest.{settling_is}
 
 -- each link of a world at rest is

@@ -1,33 +1,22 @@
 -- The rounds of a world of nodes are rounds of each undisturbed link, so such a link of a settled world has brought all.
 use Rattle.std.proofs.Common.{◌≡◌, ℕ, zero, suc, ◌+◌, ◌*◌, ◌≤◌, ◌==◌, Bool, List, [], ◌∷◌, ◌++◌, Some, None, refl, ap, sym, subst, ◌∙◌, length}
 use Rattle.std.proofs.Common.{append_assoc, arith}
-use Rattle.trace_model.specs.declared.line.End.{End}
-use Rattle.trace_model.specs.declared.line.Header.{Header}
-use Rattle.trace_model.specs.declared.line.Line.{Line}
+use Rattle.world_laws.proofs.Words.{AllAllowed, AreHosts, AreLinkRounds, ArePlayable, End, FollowsNodes, Happening, Header, IsLine, IsLinkUndisturbed, Known}
+use Rattle.world_laws.proofs.Words.{Line, Link, LinkEvent, LinkSettled, Node, NodeHistory, NodeWorld, Occurrence, OnWire, Site, after_events-append}
+use Rattle.world_laws.proofs.Words.{after_link_events, all_aged, all_go, end_c, end_h, end_takes_all, ends_events, ends_go, ends_in_order, ends_take_all}
+use Rattle.world_laws.proofs.Words.{events_on, fine_there, fragments_left, frames_at, happenings, hosts_in, new_line, new_world, occurrences_in, open_up}
+use Rattle.world_laws.proofs.Words.{round_events, round_goes, rounds_allowed, rounds_events, site_at, site_host, takes_pass, tick_so, world_after_round}
+use Rattle.world_laws.proofs.Words.{world_behind, world_rounds_to_settle, world_settling, world_step}
 use Rattle.trace_model.specs.declared.line.Line.TheVariants as line
-use Rattle.link_laws.specs.sessions.Sessions.{OnWire}
-use Rattle.link_laws.specs.messages.Links.{Link, LinkEvent, Node, after_link_events, AllAllowed}
-use Rattle.link_laws.specs.messages.Links.IsStart.{IsLine}
-use Rattle.node_machine.specs.world.World.{Site, NodeWorld, Happening, new_world, site_at, end_c, end_h, all_aged, world_step}
 use Rattle.node_machine.specs.world.World.Happening.{Ticks as TimePassing}
-use Rattle.node_machine.specs.world.Lines.{Occurrence, happenings, frames_at}
-use Rattle.node_machine.specs.world.NodeHistories.{FollowsNodes, NodeHistory, occurrences_in}
-use Rattle.node_laws.specs.kept.Hosts.{AreHosts}
-use Rattle.node_laws.specs.telling.Telling.{hosts_in, world_behind}
-use Rattle.node_laws.proofs.telling.Nodes.{site_host}
-use Rattle.node_laws.specs.links.Runs.{ArePlayable, new_line}
 use Rattle.node_laws.proofs.order.Lines.{history_so}
-use Rattle.lines_told.specs.messages.Recovery.{IsLinkStretch, IsLinkRound, AreLinkRounds, IsLinkUndisturbed, fragments_left}
-use Rattle.lines_told.proofs.messages.Projected.{Known, in_parts, open_up, after_events-append}
-use Rattle.node_machine.specs.world.Rounds.{ends_in_order, end_takes_all, ends_take_all, world_after_round, world_rounds_to_settle, world_settling}
-use Rattle.node_laws.specs.rounds.LinkEvents.{controller_tick_on, site_ticks, tick_so}
-use Rattle.node_laws.specs.rounds.RoundEvents.{events_on, ends_events, round_events, rounds_events}
-use Rattle.world_laws.specs.worlds.LinkSettled.{LinkSettled}
-use Rattle.node_laws.proofs.rounds.Allowing.{fine_there, ends_allowed, round_allowed, rounds_allowed}
+use Rattle.lines_told.specs.messages.Recovery.{IsLinkStretch, IsLinkRound}
+use Rattle.lines_told.proofs.messages.Projected.{in_parts}
+use Rattle.node_laws.specs.rounds.LinkEvents.{controller_tick_on, site_ticks}
+use Rattle.node_laws.proofs.rounds.Allowing.{ends_allowed, round_allowed}
 use Rattle.node_laws.proofs.rounds.Ends.{ends_of, order_is, ends-append, AreOthers, Split, split, events-append}
 use Rattle.world_laws.proofs.worlds.Endings.{calm_tick}
 use Rattle.node_laws.proofs.rounds.LinkEvents.{Ticked, world_ticked}
-use Rattle.node_laws.proofs.rounds.RoundEvents.{all_go, takes_pass, ends_go, round_goes}
 use Rattle.world_laws.proofs.worlds.Rounds.{IsReached, reached_end, reached_ends, reached_round, known_there, near_up, far_up, stretch_then}
 use Rattle.world_laws.proofs.worlds.Rounds.{IsIdle, idle_none, idle_then, idle_many, other_many, near_many, far_many}
 use Rattle.world_laws.proofs.worlds.WorldLaw.{settled}

@@ -1,8 +1,5 @@
 use Rattle.std.proofs.Common.{arith}
-use Rattle.link_laws.specs.messages.Rest.{link_rests}
-use Rattle.lines_told.proofs.messages.Rest.{first_rest}
-use Rattle.node_laws.specs.rounds.BareRounds.{link_after_round}
-use Rattle.world_laws.specs.links.Settling.{rounds_to_settle}
+use Rattle.world_laws.proofs.Words.{first_rest, link_after_round, link_rests, rounds_to_settle}
 use Rattle.world_laws.proofs.links.RoundCauses.{rounds_few, bare_few}
 use Rattle.world_laws.proofs.bare_rounds_as_causes.settling_causes_are_few.Goals as goal
 

@@ -1,6 +1,5 @@
 use Rattle.std.proofs.Common.{arith}
-use Rattle.lines_told.proofs.messages.Rest.{first_rest}
-use Rattle.node_machine.specs.world.Rounds.{world_after_round, world_rests, world_rounds_to_settle}
+use Rattle.world_laws.proofs.Words.{first_rest, world_after_round, world_rests, world_rounds_to_settle}
 use Rattle.world_laws.proofs.worlds.CausesOfRounds.{ticks_are}
 use Rattle.world_laws.proofs.rounds_as_causes.time_passes_once_in_a_round.Goals as goal
 

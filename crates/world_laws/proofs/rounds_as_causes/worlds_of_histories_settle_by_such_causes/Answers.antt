@@ -1,7 +1,5 @@
 use Rattle.std.proofs.Common.{ℕ, List}
-use Rattle.node_machine.specs.world.World.{NodeWorld, new_world}
-use Rattle.node_laws.specs.telling.Telling.{world_behind}
-use Rattle.node_machine.specs.world.Rounds.{world_rounds_to_settle}
+use Rattle.world_laws.proofs.Words.{NodeWorld, new_world, world_behind, world_rounds_to_settle}
 use Rattle.world_laws.proofs.worlds.WorldRounds.{reached_behind}
 use Rattle.world_laws.proofs.worlds.CausesOfRounds.{of_rounds}
 use Rattle.world_laws.proofs.worlds.FewCauses.{rounds_few, reached_few, reached_small}

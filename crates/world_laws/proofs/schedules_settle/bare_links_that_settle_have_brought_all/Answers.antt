@@ -1,12 +1,7 @@
 use Rattle.std.proofs.Common.{inl, subst, sym, ◌++◌}
 use Rattle.std.specs.Prelude.{replicate}
-use Rattle.std.specs.List.{AllByRecursion}
-use Rattle.trace_model.specs.Lines.{IsLineOf}
-use Rattle.lines_told.specs.lines.Plays.{IsPlayFor, lines_played, plays_of, rounds_to_rest}
-use Rattle.lines_told.specs.lines.Plays.Play.{Round}
-use Rattle.node_laws.proofs.order.HostsStay.{hosts_stay_behind}
-use Rattle.lines_told.proofs.lines.Lines.{lines_may_be_played}
-use Rattle.lines_told.proofs.lines.Plays.{all-append, plays_for, rounds_for}
+use Rattle.world_laws.proofs.Words.{AllByRecursion, IsLineOf, IsPlayFor, Round, all-append, hosts_stay_behind, lines_may_be_played, lines_played, plays_for}
+use Rattle.world_laws.proofs.Words.{plays_of, rounds_for, rounds_to_rest}
 use Rattle.world_laws.proofs.schedules.Bare.{bare_settled}
 use Rattle.world_laws.proofs.schedules.BareNoted.{bare_noted}
 use Rattle.world_laws.proofs.schedules.Nodes.{with_settle}

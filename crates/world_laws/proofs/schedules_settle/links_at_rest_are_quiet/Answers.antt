@@ -1,10 +1,6 @@
 use Rattle.std.proofs.Common.{inl, inr, sym, ◌∙◌}
-use Rattle.lines_told.specs.lines.Below.{bare_link_behind, nodes_behind}
-use Rattle.lines_told.specs.lines.Plays.{lines_played}
-use Rattle.node_laws.proofs.order.HostsStay.{hosts_stay_behind}
-use Rattle.lines_told.proofs.lines.Lines.{lines_may_be_played}
+use Rattle.world_laws.proofs.Words.{bare_link_behind, hosts_are, hosts_stay_behind, lines_may_be_played, lines_played, nodes_behind}
 use Rattle.lines_told.proofs.lines.Resting.{nodes_rest, bare_rests}
-use Rattle.node_laws.proofs.schedules.Ranges.{hosts_are}
 use Rattle.world_laws.proofs.schedules.NotedQuiet.{noted_quiet, noted_quiet_in_bare}
 use Rattle.world_laws.proofs.schedules.Played.{played_bare, played_playable}
 use Rattle.world_laws.proofs.schedules.Resting.{link_quiet, link_resting, site_quiet, sites_quiet, sites_resting}

@@ -1,12 +1,7 @@
 use Rattle.std.proofs.Common.{inr, subst, sym, ◌++◌}
 use Rattle.std.specs.Prelude.{replicate}
-use Rattle.node_laws.proofs.schedules.Ranges.{hosts_are}
-use Rattle.node_laws.specs.links.Runs.{ArePlayable}
-use Rattle.lines_told.specs.lines.Plays.{IsPlayFor, lines_played, plays_of, rounds_to_rest}
-use Rattle.lines_told.specs.lines.Plays.Play.{Round}
-use Rattle.node_laws.proofs.order.HostsStay.{hosts_stay_behind}
-use Rattle.lines_told.proofs.lines.Lines.{lines_may_be_played}
-use Rattle.lines_told.proofs.lines.Plays.{all-append, plays_for, rounds_for}
+use Rattle.world_laws.proofs.Words.{ArePlayable, IsPlayFor, Round, all-append, hosts_are, hosts_stay_behind, lines_may_be_played, lines_played, plays_for}
+use Rattle.world_laws.proofs.Words.{plays_of, rounds_for, rounds_to_rest}
 use Rattle.world_laws.proofs.schedules.Nodes.{nodes_settled, noted_settled, with_settle}
 use Rattle.world_laws.proofs.schedules.Played.{played_playable}
 use Rattle.world_laws.proofs.schedules_settle.links_of_nodes_that_settle_have_brought_all.Goals as goal

@@ -1,18 +1,9 @@
 use Rattle.std.proofs.Common.{List, [], ℕ, ◌∷◌, inl, subst, sym, ◌++◌, true, false}
 use Rattle.std.specs.Prelude.{replicate}
-use Rattle.std.specs.List.{AllByRecursion}
-use Rattle.trace_model.specs.declared.line.Header.{Header}
-use Rattle.trace_model.specs.declared.line.Line.{Line}
-use Rattle.trace_model.specs.declared.line.Line.TheVariants.{Settle}
-use Rattle.trace_model.specs.Lines.{IsHeader, IsLineOf, MayFollow}
-use Rattle.history.specs.Follows.{Follows, host_of}
-use Rattle.lines_told.specs.lines.Below.{bare_link_behind}
-use Rattle.lines_told.specs.lines.Plays.{IsPlayFor, lines_played, lines_played_of, plays_of, rounds_to_rest}
-use Rattle.lines_told.specs.lines.Plays.Play.{Round}
-use Rattle.node_laws.proofs.order.HostsStay.{hosts_stay_behind}
-use Rattle.lines_told.proofs.lines.Lines.{lines_may_be_played}
-use Rattle.lines_told.proofs.lines.Plays.{all-append, plays_for, rounds_for}
-use Rattle.world_laws.specs.worlds.Undisturbed.{AreBothReady, AreLeftReady}
+use Rattle.world_laws.proofs.Words.{AllByRecursion, AreBothReady, Follows, Header, IsHeader, IsLineOf, IsPlayFor, Line, MayFollow, Round, Settle, all-append}
+use Rattle.world_laws.proofs.Words.{bare_link_behind, host_of, hosts_stay_behind, lines_may_be_played, lines_played, lines_played_of, plays_for, plays_of}
+use Rattle.world_laws.proofs.Words.{rounds_for, rounds_to_rest}
+use Rattle.world_laws.specs.worlds.Undisturbed.{AreLeftReady}
 use Rattle.world_laws.proofs.schedules.BareNoted.{bare_behind}
 use Rattle.world_laws.proofs.schedules.Nodes.{with_settle}
 use Rattle.world_laws.proofs.schedules.Played.{played_bare}

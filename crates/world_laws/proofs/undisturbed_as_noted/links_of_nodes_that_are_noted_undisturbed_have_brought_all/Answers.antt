@@ -1,9 +1,5 @@
 use Rattle.std.proofs.Common.{List, subst}
-use Rattle.trace_model.specs.declared.line.Line.{Line}
-use Rattle.node_machine.specs.world.NodeHistories.{FollowsNodes}
-use Rattle.node_laws.specs.links.Runs.{ArePlayable}
-use Rattle.node_laws.proofs.schedules.Ranges.{hosts_are}
-use Rattle.lines_told.specs.lines.Plays.{plays_of}
+use Rattle.world_laws.proofs.Words.{ArePlayable, FollowsNodes, Line, hosts_are, plays_of}
 use Rattle.world_laws.proofs.schedules.Nodes.{noted_behind, with_settle}
 use Rattle.world_laws.proofs.undisturbed.Nodes.{nodes_undisturbed, nodes_up_later}
 use Rattle.world_laws.proofs.undisturbed.Playable.{playable, playable_with}

@@ -1,9 +1,5 @@
 use Rattle.std.proofs.Common.{◌≤◌, arith}
-use Rattle.node_machine.specs.world.World.{new_world}
-use Rattle.node_machine.specs.world.NodeHistories.{entries_in}
-use Rattle.node_laws.specs.telling.Telling.{world_behind}
-use Rattle.lines_told.specs.messages.Recovery.{fragments_left}
-use Rattle.world_laws.specs.worlds.NotedFragments.{fragments_noted}
+use Rattle.world_laws.proofs.Words.{entries_in, fragments_left, fragments_noted, new_world, world_behind}
 use Rattle.world_laws.proofs.worlds.NotedFragments.{link_left}
 use Rattle.world_laws.proofs.worlds.WorldRounds.{reached_behind, world_settled}
 use Rattle.world_laws.proofs.worlds_of_nodes_settle.links_of_settled_worlds_have_brought_all.Goals as goal

@@ -1,6 +1,4 @@
-use Rattle.node_machine.specs.world.World.{new_world}
-use Rattle.node_laws.specs.telling.Telling.{world_behind}
-use Rattle.node_laws.proofs.rounds.Allowing.{rounds_allowed}
+use Rattle.world_laws.proofs.Words.{new_world, rounds_allowed, world_behind}
 use Rattle.world_laws.proofs.worlds.WorldRounds.{reached_behind, rounds_are}
 use Rattle.world_laws.proofs.worlds_of_nodes_settle.rounds_of_a_world_are_rounds_of_each_undisturbed_link.Goals as goal
 

@@ -1,5 +1,4 @@
-use Rattle.lines_told.proofs.messages.Rest.{first_rest}
-use Rattle.node_machine.specs.world.Rounds.{world_after_round, world_rests}
+use Rattle.world_laws.proofs.Words.{first_rest, world_after_round, world_rests}
 use Rattle.world_laws.proofs.worlds.WorldRest.{settling_is}
 use Rattle.world_laws.proofs.worlds_of_nodes_settle.worlds_settle_soonest.Goals as goal
 
