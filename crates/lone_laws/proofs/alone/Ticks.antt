@@ -5,8 +5,7 @@ use Rattle.swp_base.specs.declared.link_terms.FrameFault.TheVariants as fault
 use Rattle.journal_laws.specs.Records.{found_from}
 use Rattle.gate_admin.specs.View.{hosts_where}
 use Rattle.pipe_table.specs.PipeRows.{lowest_free}
-use Rattle.lone_laws.specs.alone.Lone.LoneCause.{FrameComes, FrameIsRefused, TickComes, StartComes, StopComes}
-use Rattle.lone_laws.specs.alone.Ends.{end_causes}
+use Rattle.lone_laws.proofs.Words.{FrameComes, FrameIsRefused, StartComes, StopComes, TickComes, end_causes}
 use Rattle.lone_laws.specs.alone.Ends.EndForm.{OnLine}
 use Rattle.lone_laws.proofs.alone.Examples.{clf, uicc, c1_record}
 

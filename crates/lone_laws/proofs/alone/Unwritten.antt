@@ -1,16 +1,11 @@
 -- In a step of a node nothing is written for what it notes: its frames go out behind it.
 use Rattle.std.proofs.Common.{◌≡◌, ℕ, List, [], ◌∷◌, refl}
-use Rattle.std.specs.List.{AllByRecursion}
-use Rattle.trace_model.specs.declared.entry.Entry.{Entry}
+use Rattle.lone_laws.proofs.Words.{AllByRecursion, Deed, Entry, NodeInput, Port, Sends, Work, deeds_of, own_side, steps}
 use Rattle.trace_model.specs.declared.entry.Entry.TheVariants as entry
 use Rattle.link_laws.specs.entries.Entries.{End as Side, Entry as Noted}
 use Rattle.link_laws.specs.entries.Entries.Entry.{Emit, Took, Lost, Tick, Restarted, Cut}
 use Rattle.history.specs.Steps.{entry_of}
-use Rattle.node_machine.specs.Parts.{Port, Work, Deed}
-use Rattle.node_machine.specs.Parts.Deed.{Sends, Ends}
-use Rattle.node_machine.specs.Carrying.{own_side}
-use Rattle.node_machine.specs.Turns.{deeds_of}
-use Rattle.node_machine.specs.Node.{NodeInput, steps}
+use Rattle.node_machine.specs.Parts.Deed.{Ends}
 use Rattle.node_laws.proofs.telling.Mute.{IsPlain, IsMute, AreMute, deeds_mute}
 use Rattle.node_laws.proofs.readings.Noting.{IsOwnNote, IsBeside, NotesSo, steps_note}
 use Rattle.lone_laws.specs.alone.Ends.{EndForm, entry_written}

@@ -1,26 +1,21 @@
 -- What one walk over a history of a node alone finds says whether a fact of its answers holds.
 use Rattle.std.proofs.Common.{◌≡◌, ap, sym, subst, append_assoc, append-nil, ℕ, Bool, true, false, true≢false, List, [], ◌∷◌, ◌++◌, Option, Some, None}
 use Rattle.std.specs.Prelude.{◌==◌}
-use Rattle.std.specs.List.{AllByRecursion, list_any}
-use Rattle.std.specs.Option.{option_map_or}
-use Rattle.std.proofs.lemmas.Bool.{eqb-true}
-use Rattle.trace_model.specs.declared.entry.Entry.{Entry}
+use Rattle.lone_laws.proofs.Words.{AllByRecursion, AnsweredAlone, AreInTurn, AtEachNoted, Core, Entry, HearsFirstAlone, IsDueAlone, IsFirstThere, IsHeldAlone}
+use Rattle.lone_laws.proofs.Words.{IsRepliedAlone, IsResetAlone, LoneEvent, Message, core_since, entries_of_events_alone, eqb-true, lack_since, list_any}
+use Rattle.lone_laws.proofs.Words.{noted_since, oldest, option_map_or, reply_since, sync_due, unhandled_in}
 use Rattle.trace_model.specs.declared.entry.Entry.TheVariants as entry
-use Rattle.link_laws.specs.machine.Machine.{Message, oldest}
-use Rattle.node_machine.specs.Parts.{Core}
-use Rattle.node_machine.specs.world.NodeLegal.{AreInTurn}
-use Rattle.node_laws.specs.answers.Moments.{holds_in, unhandled_in}
+use Rattle.node_laws.specs.answers.Moments.{holds_in}
 use Rattle.node_laws.specs.answers.Order.{answerer, hears}
 use Rattle.node_laws.proofs.answers.Walks.{answers_found, answers_wanted}
 use Rattle.node_laws.proofs.answers.Splits.{first_or, rest_of}
 use Rattle.node_laws.proofs.answers.Rising.{turns_rise, rise_ascends}
-use Rattle.lone_laws.specs.alone.Lone.{LoneEvent}
-use Rattle.lone_laws.specs.alone.Known.{core_since, first_lack_since, lack_since, reply_since}
-use Rattle.lone_laws.specs.alone.Answers.{AnsweredAlone, AtEachLoneEvent, AtEachNoted, IsDueAlone, IsHeldAlone, IsRepliedAlone, IsResetAlone}
-use Rattle.lone_laws.specs.alone.Answers.{HearsFirstAlone, TurnsAscendAlone, entries_of_events_alone, is_asked_down, is_done_alone}
-use Rattle.lone_laws.specs.alone.Answers.{is_reset_alone, is_short_alone, noted_since, sync_due}
+use Rattle.lone_laws.specs.alone.Known.{first_lack_since}
+use Rattle.lone_laws.specs.alone.Answers.{AtEachLoneEvent}
+use Rattle.lone_laws.specs.alone.Answers.{TurnsAscendAlone, is_asked_down, is_done_alone}
+use Rattle.lone_laws.specs.alone.Answers.{is_reset_alone, is_short_alone}
 use Rattle.node_laws.proofs.answers.OneFact.Fact.{InTurn, Replied, Held, Done, Short, Due, Reset, Ascending, Heard}
-use Rattle.node_laws.proofs.answers.OneFact.{IsFirstThere, Fact, is_fact, some_is, both_are, none_heard, none_hears, Unless}
+use Rattle.node_laws.proofs.answers.OneFact.{Fact, is_fact, some_is, both_are, none_heard, none_hears, Unless}
 use Rattle.lone_laws.proofs.answered.Queued.{are_in_turn}
 
 -- ## Walks

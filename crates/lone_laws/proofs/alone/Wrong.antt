@@ -3,17 +3,11 @@ use Rattle.std.proofs.Common.{◌≡◌, ◌≤◌, arith, refl, ap, sym, ℕ, B
 use Rattle.std.specs.Prelude.{is_some}
 use Rattle.swp_base.specs.declared.link_terms.Cause.TheVariants as cause
 use Rattle.swp_base.specs.declared.link_terms.FrameFault.TheVariants as fault
-use Rattle.trace_model.specs.declared.entry.Entry.{Entry}
+use Rattle.lone_laws.proofs.Words.{AnsweredAlone, Core, Entry, FrameIsRefused, LoneEvent, TickComes, end_c, formatted}
 use Rattle.trace_model.specs.declared.entry.Entry.TheVariants.{Up, Down, Sent, Got, Acked, Turn, Held, Dropped}
-use Rattle.journal_laws.specs.Operations.{formatted}
 use Rattle.hci_tables.specs.Tables.{no_tables}
 use Rattle.gate_admin.specs.View.{hosts_where}
 use Rattle.pipe_table.specs.PipeRows.{lowest_free}
-use Rattle.node_machine.specs.Parts.{Core}
-use Rattle.node_machine.specs.world.World.{end_c}
-use Rattle.lone_laws.specs.alone.Lone.{LoneEvent}
-use Rattle.lone_laws.specs.alone.Lone.LoneCause.{FrameIsRefused, TickComes}
-use Rattle.lone_laws.specs.alone.Answers.{AnsweredAlone}
 use Rattle.lone_laws.proofs.alone.Walks.{IsFound, RefusedByOnly, all_found, others_hold}
 use Rattle.node_laws.proofs.answers.OneFact.{Fact}
 use Rattle.node_laws.proofs.answers.OneFact.Fact.{InTurn, Replied, Held as HeldFact, Done, Short, Due, Reset, Ascending, Heard}

@@ -1,13 +1,11 @@
 -- Small wrong memories don't keep the commands of a run: one for each fact of `FindsBehind`, of which the others hold.
 use Rattle.std.proofs.Common.{◌≡◌, inl, inr, ◌+◌, arith, refl, ap, sym, subst, ℕ, Bool, true, false, true≢false, List, [], ◌∷◌, ◌++◌, length, replicate, None}
 use Rattle.std.proofs.lemmas.Bool.{leb-true}
-use Rattle.journal_laws.specs.Journal.{journal, records}
+use Rattle.lone_laws.proofs.Words.{Command, Counts, CountsAll, FindsBehind, HciTables, IsReadyMemory, close, journal, records, tables_of}
 use Rattle.journal_laws.specs.Records.{found_from}
-use Rattle.hci_tables.specs.declared.command.Command.{Command}
 use Rattle.hci_tables.specs.declared.command.Command.TheVariants as command
-use Rattle.hci_tables.specs.Tables.{HciTables, close}
-use Rattle.hci_store.specs.Image.{image_fault, tables_of}
-use Rattle.lone_laws.specs.alone.Memories.{Counts, CountsAll, FindsBehind, FindsTables, IsKeptIn, IsReadyMemory}
+use Rattle.hci_store.specs.Image.{image_fault}
+use Rattle.lone_laws.specs.alone.Memories.{FindsTables, IsKeptIn}
 
 -- a memory that says nothing
 abbrev blank : List ℕ

@@ -1,29 +1,15 @@
 -- In each step of a node alone messages have their turns, and are held, as is read.
 use Rattle.std.proofs.Common.{◌≡◌, ℕ, ◌≤◌, Bool, true, false, eqb, List, [], ◌∷◌, ◌++◌, map, refl, sym, ap, subst, ◌∙◌, append_assoc, append-nil}
 use Rattle.std.specs.Prelude.{Option, Some, None}
-use Rattle.std.specs.List.{AllByRecursion}
-use Rattle.std.specs.Option.{option_map_or}
-use Rattle.swp_base.specs.declared.control_frames.Control.{Control}
-use Rattle.swp_lpdu.specs.Controls.{lpdu_of}
-use Rattle.trace_model.specs.declared.entry.Entry.{Entry}
+use Rattle.lone_laws.proofs.Words.{AllByRecursion, BeginWithTurn, ComesTo, Control, Core, Deed, End, Entry, Hold, IsHeldAlone, IsTurnSo, LastsOverTurns}
+use Rattle.lone_laws.proofs.Words.{LinkInput, Lone, LoneCause, Message, Port, Running, Work, after_turn, by_test, count_of, deeds_of, emits_behind, end_of_node}
+use Rattle.lone_laws.proofs.Words.{end_of_node_alone, errors_found, handles, holds_back, lack_since, lets, link_of_turn, lone_input, lpdu_of, noted_by_deeds}
+use Rattle.lone_laws.proofs.Words.{noted_of, noted_since, noting, oldest, option_map_or, port_at, reply_since, session_now, session_with, takes_up, turn_at}
+use Rattle.lone_laws.proofs.Words.{unhandled_in, waiting_at, with_desk}
 use Rattle.trace_model.specs.declared.entry.Entry.TheVariants as entry
-use Rattle.trace_model.specs.declared.line.End.{End}
-use Rattle.link_laws.specs.machine.Machine.{Message, LinkInput, oldest}
-use Rattle.link_laws.specs.machine.Machine.Turn.{Hold}
-use Rattle.journal_laws.specs.Journal.{count_of}
-use Rattle.node_machine.specs.Parts.{Core, Running, Port, Work, Deed}
-use Rattle.node_machine.specs.Carrying.{end_of_node, noting, noted_of, port_at, with_desk, after_turn, turn_at}
-use Rattle.node_machine.specs.Turns.{deeds_of, handles, holds_back}
-use Rattle.node_machine.specs.world.NodeFilters.{session_now}
-use Rattle.node_laws.specs.answers.Moments.{unhandled_in}
-use Rattle.node_laws.proofs.Cases.{by_test}
-use Rattle.node_laws.proofs.steps.StepWalks.{lets}
-use Rattle.node_laws.specs.passes.Passing.{LastsOverTurns, ComesTo, IsTurnSo, BeginWithTurn, link_of_turn, waiting_at, lacking, takes_up}
-use Rattle.node_laws.specs.passes.Noting.{noted_by_deeds}
+use Rattle.node_laws.specs.passes.Passing.{lacking}
 use Rattle.node_laws.proofs.passes.Passing.{comes_so}
-use Rattle.lone_laws.specs.alone.Lone.{Lone, LoneCause, end_of_node_alone, lone_input, emits_behind, session_with}
-use Rattle.lone_laws.specs.alone.Known.{errors_found, reply_since, lack_since, first_lack_since}
-use Rattle.lone_laws.specs.alone.Answers.{IsHeldAlone, noted_since}
+use Rattle.lone_laws.specs.alone.Known.{first_lack_since}
 use Rattle.lone_laws.proofs.answered.Mine.{AnswersOwn, IsRepliedOwn}
 use Rattle.lone_laws.proofs.answered.Reading.{Read, left_is}
 use Rattle.lone_laws.proofs.answered.Turning.{IsHere, alone_here}

@@ -1,26 +1,19 @@
 -- A node with one link in a step before its pass: something comes to its end, and an identifier may be kept; nothing else is done.
 use Rattle.std.proofs.Common.{◌≡◌, ℕ, Bool, true, false, cond, eqb, List, [], ◌∷◌, ◌++◌, map, refl, sym, ap, ap₂, ◌∙◌, append-nil}
 use Rattle.std.specs.Prelude.{Some, None, is_some}
-use Rattle.std.specs.List.{flat_map, list_any}
-use Rattle.std.proofs.lemmas.Bool.{cond_both}
-use Rattle.trace_model.specs.declared.entry.Entry.{Entry}
-use Rattle.trace_model.specs.declared.line.End.{End}
+use Rattle.lone_laws.proofs.Words.{Core, End, Entry, LinkEnd, LinkInput, NodeInput, Port, Reset, Start, Stop, Take, TakeUnknown, Tick, Work, after_input}
+use Rattle.lone_laws.proofs.Words.{after_sessions, all_come, all_done, all_owed, comes_to_pass, cond_both, end_of, end_of_node_alone, flat_map, forgets}
+use Rattle.lone_laws.proofs.Words.{forgotten, input_at, is_open, list_any, moved, node_input, own_side, report, same_end, stopped, syncs_in, tick_answer}
+use Rattle.lone_laws.proofs.Words.{ticked, times_out, told_at, unless_cut, whole_acked, without_notice}
 use Rattle.swp_act.specs.declared.ActEvent.TheVariants.{Start as ActStart, Tick as ActTick, Stop as ActStop}
-use Rattle.shdlc_core.specs.Machine.{ticked, tick_answer, stopped}
-use Rattle.link_laws.specs.machine.Machine.{LinkEnd, LinkInput, is_open, moved, had_tick, started, deactivated, after_input, got_by, report, whole_acked}
-use Rattle.link_laws.specs.machine.Machine.LinkInput.{Take, TakeUnknown, TakeBroken, Tick, Reset, Start, Stop, FromNode, Fetch}
+use Rattle.link_laws.specs.machine.Machine.{had_tick, started, deactivated, got_by}
+use Rattle.link_laws.specs.machine.Machine.LinkInput.{TakeBroken, FromNode, Fetch}
 use Rattle.link_laws.proofs.machine.Kept.{moved_got, activated_got, reset_got, took_got}
-use Rattle.history.specs.Filters.{same_end}
-use Rattle.history.specs.Steps.{end_of}
-use Rattle.node_machine.specs.Parts.{Core, Port, Work}
-use Rattle.node_machine.specs.Carrying.{own_side, unless_cut, all_done}
-use Rattle.node_machine.specs.Node.{NodeInput, input_at, has_come, told_at, all_come, with_older, is_late, reset_late, told_late, times_out, forgotten}
-use Rattle.node_machine.specs.Node.{forgets, is_over}
-use Rattle.node_machine.specs.Node.{all_owed, without_notice, after_sessions}
+use Rattle.node_machine.specs.Node.{has_come, with_older, is_late, reset_late, told_late}
+use Rattle.node_machine.specs.Node.{is_over}
 use Rattle.node_machine.specs.Node.NodeInput.{AtEnd, TimePasses}
 use Rattle.node_laws.proofs.steps.StepWalks.{unless}
-use Rattle.node_laws.specs.passes.Steps.{has_come_so, syncs_in, has_freed, has_synced, comes_to_pass}
-use Rattle.lone_laws.specs.alone.Lone.{end_of_node_alone, node_input}
+use Rattle.node_laws.specs.passes.Steps.{has_come_so, has_freed, has_synced}
 use Rattle.lone_laws.proofs.answered.Reading.{eqb_same, Read, read_all, told_read, reads_of, Alone, read_more}
 use Rattle.lone_laws.proofs.answered.Turning.{same_self, own_end}
 

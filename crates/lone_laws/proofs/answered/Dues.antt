@@ -1,51 +1,30 @@
 -- Before the first turn in an event a node alone answers what is due.
 use Rattle.std.proofs.Common.{◌≡◌, ℕ, ◌≤◌, Bool, true, false, cond, eqb, ◌&&◌, ◌||◌, List, [], ◌∷◌, ◌++◌, refl, sym, ap, subst, ◌∙◌, append_assoc, append-nil}
 use Rattle.std.specs.Prelude.{Option, Some, None, not, Result, Ok, Err}
-use Rattle.std.specs.List.{AllByRecursion, filter, list_any, flat_map}
-use Rattle.std.proofs.lemmas.Bool.{cond_both}
-use Rattle.registry.proofs.ValueLemmas.{AllByRecursion-append}
-use Rattle.swp_base.specs.declared.control_frames.Control.{Control}
+use Rattle.lone_laws.proofs.Words.{Acked, ActEvent, Active, AllByRecursion, AllByRecursion-append, ComesTo, Commits, Control, Core, Deed, Down, End, Entry}
+use Rattle.lone_laws.proofs.Words.{FrameComes, FrameIsRefused, GaveUp, Got, IsTurnSo, LinkEnd, LinkInput, Lone, LoneCause, LpduFault, Port, Report, ResetComes}
+use Rattle.lone_laws.proofs.Words.{Running, StartComes, StopComes, TickComes, Up, Work, after_input, all_come, all_done, by_test, cond_both, control_of}
+use Rattle.lone_laws.proofs.Words.{core_since, count_of, emits_behind, end_of_node_alone, entries_for, filter, flat_map, frames_behind, goes_in, input_at}
+use Rattle.lone_laws.proofs.Words.{is_open, list_any, lone_arrival, lone_end, lone_input, lpdu_input, node_input, noted_by_deeds, noted_since, own_side, report}
+use Rattle.lone_laws.proofs.Words.{session_now, session_with, sync_due, synced, syncs_in, to_command, told, told_at, whole_acked}
 use Rattle.swp_base.specs.declared.control_frames.Control.TheVariants as control
 use Rattle.swp_base.specs.declared.control_frames.Act.TheVariants.{SyncId, Ready, PowerMode}
-use Rattle.swp_lpdu.specs.declared.LpduFault.{LpduFault}
-use Rattle.swp_lpdu.specs.Controls.{control_of}
-use Rattle.swp_act.specs.declared.ActEvent.{ActEvent}
 use Rattle.swp_act.specs.declared.ActEvent.TheVariants.{Start as ActStart, Take as ActTake, Tick as ActTick, Stop as ActStop}
 use Rattle.swp_act.specs.declared.Phase.{Phase}
 use Rattle.swp_act.specs.declared.Phase.TheVariants.{Inactive}
 use Rattle.swp_act.specs.declared.clf.ClfAct.{ClfAct}
 use Rattle.swp_act.specs.Activation.{clf_step}
-use Rattle.trace_model.specs.declared.entry.Entry.{Entry}
 use Rattle.trace_model.specs.declared.entry.Entry.TheVariants as entry
-use Rattle.trace_model.specs.declared.line.End.{End}
 use Rattle.hci_tables.specs.declared.command.Command.TheVariants.{Sync}
 use Rattle.hci_tables.specs.Tables.{is_kept_sync}
-use Rattle.link_laws.specs.machine.Machine.{LinkEnd, LinkInput, Report, Role, report, after_input, whole_acked, act_out, act_event, lpdu_input}
-use Rattle.link_laws.specs.machine.Machine.{is_open}
+use Rattle.link_laws.specs.machine.Machine.{Role, act_out, act_event}
 use Rattle.link_laws.specs.machine.Machine.Role.{Bare, Clf, Uicc}
-use Rattle.link_laws.specs.entries.Entries.{End as Side, Entry as Noted, told}
-use Rattle.link_laws.specs.entries.Entries.Entry.{Up, Down, Active, GaveUp, Acked, Got}
-use Rattle.history.specs.Steps.{entries_for}
-use Rattle.node_machine.specs.Parts.{Core, Running, Port, Work, Deed}
-use Rattle.node_machine.specs.Parts.Deed.{Commits}
-use Rattle.node_machine.specs.Carrying.{own_side, all_done, finds_room}
-use Rattle.node_machine.specs.Node.{all_come, told_at, synced, input_at}
-use Rattle.node_machine.specs.world.NodeFilters.{session_now}
-use Rattle.node_laws.specs.passes.Noting.{noted_by_deeds, goes_in}
-use Rattle.node_laws.specs.passes.Passing.{ComesTo, IsTurnSo}
-use Rattle.node_laws.specs.passes.Steps.{syncs_in}
-use Rattle.node_laws.proofs.Cases.{by_test}
+use Rattle.link_laws.specs.entries.Entries.{End as Side, Entry as Noted}
+use Rattle.node_machine.specs.Carrying.{finds_room}
 use Rattle.node_laws.proofs.passes.Notes.{deeds_note}
 use Rattle.node_laws.proofs.worlds.Late.{BeginsBehind}
 use Rattle.node_laws.proofs.worlds.Uiccs.{uicc_sync}
 use Rattle.node_laws.proofs.kept.Stepping.{ticked_sync}
-use Rattle.journal_laws.specs.Journal.{count_of}
-use Rattle.lone_laws.specs.alone.Lone.{Lone, LoneCause, end_of_node_alone, lone_end, lone_input, node_input, lone_arrival, emits_behind}
-use Rattle.lone_laws.specs.alone.Lone.{frames_behind, session_with}
-use Rattle.lone_laws.specs.alone.Lone.LoneCause.{FrameComes, FrameIsRefused, TickComes, ResetComes, StartComes, StopComes}
-use Rattle.lone_laws.specs.alone.Known.{core_since}
-use Rattle.node_laws.specs.answers.Answered.{to_command}
-use Rattle.lone_laws.specs.alone.Answers.{noted_since, sync_due}
 use Rattle.lone_laws.proofs.answered.Mine.{is_own_answer, is_own_cut, to_turn, AnswersOwn, IsDueOwn}
 use Rattle.lone_laws.proofs.answered.Reading.{Read, Alone, core_is}
 use Rattle.lone_laws.proofs.answered.Coming.{comes_there, came_entries, pass_is}

@@ -1,17 +1,11 @@
 -- A whole run over a memory that a boot left answers every message, and the memory keeps its commands.
 use Rattle.std.proofs.Common.{◌≡◌, inl, inr, ℕ, ◌+◌, ◌-◌, ◌^◌, Bool, true, false, cond, List, [], ◌∷◌, length, refl, sym, subst, arith}
 use Rattle.std.specs.Prelude.{min, is_none}
-use Rattle.std.proofs.lemmas.Bool.{true≢false}
-use Rattle.swp_base.specs.InMemory.{Memory}
-use Rattle.hci_tables.specs.declared.command.Command.{Command}
-use Rattle.hci_tables.specs.Tables.{after_commands}
+use Rattle.lone_laws.proofs.Words.{AnsweredAlone, Command, Counts, CountsAll, FindsBehind, IsReadyMemory, Lone, Memory, after_commands, commands_of_entries}
+use Rattle.lone_laws.proofs.Words.{end_causes, entries_of_events_alone, found, lone_after, true≢false}
 use Rattle.hci_store.specs.Stored.{FindsSame}
-use Rattle.node_machine.specs.Node.{found}
-use Rattle.lone_laws.specs.alone.Answers.{AnsweredAlone, entries_of_events_alone}
-use Rattle.lone_laws.specs.alone.Ends.{EndForm, end_causes, end_history, end_node, end_written}
-use Rattle.lone_laws.specs.alone.Lone.{Lone, lone_after}
-use Rattle.lone_laws.specs.alone.Memories.{Counts, CountsAll, FindsBehind, FindsTables, IsHeldBehind, IsKeptIn, IsReadyMemory, IsTakenMemory, behind_boot}
-use Rattle.lone_laws.specs.alone.Memories.{commands_of_entries}
+use Rattle.lone_laws.specs.alone.Ends.{EndForm, end_history, end_node, end_written}
+use Rattle.lone_laws.specs.alone.Memories.{FindsTables, IsHeldBehind, IsKeptIn, IsTakenMemory, behind_boot}
 use Rattle.lone_laws.specs.alone.Runs.{IsAnsweredRun}
 use Rattle.lone_laws.proofs.answered.Ready.{counts_all, finds_same, is_ready}
 use Rattle.lone_laws.proofs.answered.Runs.{run_held}

@@ -1,41 +1,23 @@
 -- REC_ERROR of a node alone is what is read, over each message that it handles.
 use Rattle.std.proofs.Common.{◌≡◌, ℕ, Bool, true, false, cond, eqb, ◌&&◌, List, [], ◌∷◌, ◌++◌, refl, sym, ap, subst, ◌∙◌, append-nil}
 use Rattle.std.specs.Prelude.{Option, Some, None, unwrap_or}
-use Rattle.std.specs.List.{AllByRecursion, fold}
-use Rattle.std.specs.Option.{option_map_or}
-use Rattle.std.proofs.lemmas.Bool.{true≢false, eqb-true}
-use Rattle.std.proofs.lemmas.List.Sums.{fold-append}
-use Rattle.registry.proofs.ValueLemmas.{AllByRecursion-append}
-use Rattle.trace_model.specs.declared.entry.Entry.{Entry}
+use Rattle.lone_laws.proofs.Words.{Acked, Active, AllByRecursion, AllByRecursion-append, AreNoBoots, Command, Commits, Core, Deed, Down, Drops, End, Entry}
+use Rattle.lone_laws.proofs.Words.{ErrorCount, GaveUp, Give, Got, HciTables, IsAnswered, IsNoBoot, Message, Port, Report, SaysOk, Sends, SetsErrors, Turn, Up}
+use Rattle.lone_laws.proofs.Words.{Work, after_turn, all_done, apply, by_test, changed_if, controller_deeds, core_noted, core_with, done, end_c}
+use Rattle.lone_laws.proofs.Words.{end_of_node_alone, end_view, entries_for, eqb-true, errors_found, fold, fold-append, host_deeds, is_up, option_map_or}
+use Rattle.lone_laws.proofs.Words.{own_view, port_at, same_end, told, true≢false, turn_at, unless_cut, view_of, with_port}
 use Rattle.trace_model.specs.declared.entry.Entry.TheVariants as entry
-use Rattle.trace_model.specs.declared.line.End.{End}
 use Rattle.shdlc_core.specs.declared.answers.LinkState.TheVariants.{Up as IsUpNow}
-use Rattle.link_laws.specs.sessions.Sessions.{is_up}
 use Rattle.gate_answers.specs.declared.response.Response.TheVariants as response
 use Rattle.gate_answers.specs.Answers.{answer_of}
-use Rattle.hci_tables.specs.declared.command.Command.{Command}
-use Rattle.hci_tables.specs.Tables.{HciTables, apply}
-use Rattle.link_laws.specs.machine.Machine.{Message, Report, Turn}
-use Rattle.link_laws.specs.machine.Machine.Turn.{Give}
-use Rattle.link_laws.specs.entries.Entries.{End as Side, Entry as Noted, told}
-use Rattle.link_laws.specs.entries.Entries.Entry.{Up, Down, Active, GaveUp, Acked, Got}
-use Rattle.history.specs.Filters.{same_end}
-use Rattle.history.specs.Steps.{entries_for}
-use Rattle.node_machine.specs.Parts.{Core, Port, Work, Deed}
-use Rattle.node_machine.specs.Parts.Deed.{Commits, Sends, SaysOk, IsAnswered, Drops, SetsErrors}
-use Rattle.node_machine.specs.Carrying.{port_at, changed_if, with_port, after_turn, turn_at, done, all_done, unless_cut, own_view, end_view}
-use Rattle.node_machine.specs.Controller.{own_gate, controller_deeds, view_of}
-use Rattle.node_machine.specs.HostReplies.{host_deeds}
-use Rattle.node_machine.specs.world.World.{end_c, end_h}
+use Rattle.link_laws.specs.entries.Entries.{End as Side, Entry as Noted}
+use Rattle.node_machine.specs.Controller.{own_gate}
+use Rattle.node_machine.specs.world.World.{end_h}
 use Rattle.node_machine.specs.world.NodeFilters.{with_command}
-use Rattle.node_laws.specs.views.Errors.{ErrorCount, errors_after, errors_set_by, is_any_ok, leads_to_link_gate}
+use Rattle.node_laws.specs.views.Errors.{errors_after, errors_set_by, is_any_ok, leads_to_link_gate}
 use Rattle.node_laws.proofs.telling.Reported.{told_all}
-use Rattle.node_laws.proofs.Cases.{by_test}
-use Rattle.node_laws.proofs.reply_passes.Sides.{IsNoBoot, AreNoBoots}
 use Rattle.node_laws.proofs.views.Setting.{AreUnset, is_link_gate, SetsNone, IsUpAt, SetDeeds, controller_unset, controller_sets, host_unset, host_sets}
 use Rattle.node_laws.proofs.views.Setting.SetDeeds.{IsSet as IsSetSo, IsRefused as IsRefusedSo, IsDropped as IsDroppedSo}
-use Rattle.lone_laws.specs.alone.Lone.{end_of_node_alone}
-use Rattle.lone_laws.specs.alone.Known.{core_noted, core_with, errors_found}
 use Rattle.lone_laws.proofs.answered.Turning.{same_self}
 use Rattle.lone_laws.proofs.answered.Replying.{session_of_end, sent_alone, unless_on}
 use Rattle.lone_laws.proofs.answered.Told.{entries_of_deeds}

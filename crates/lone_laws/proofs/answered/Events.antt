@@ -1,15 +1,9 @@
 -- What holds of each event of a node alone holds of its history, and what holds of each turn of a pass of each entry.
 use Rattle.std.proofs.Common.{◌≡◌, Bool, true, false, cond, List, [], ◌∷◌, ◌++◌, map, refl, sym, ap, subst, ◌∙◌, append_assoc, append-nil, inl, inr}
 use Rattle.std.specs.Prelude.{◌⊎◌, None, is_some}
-use Rattle.std.specs.List.{AllByRecursion}
-use Rattle.swp_base.specs.declared.control_frames.Control.{Control}
-use Rattle.swp_lpdu.specs.Controls.{lpdu_of}
-use Rattle.trace_model.specs.declared.entry.Entry.{Entry}
+use Rattle.lone_laws.proofs.Words.{AllByRecursion, AreNoTurns, Control, End, Entry, Lone, LoneCause, LoneEvent, entries_of_events_alone, link_of_turn}
+use Rattle.lone_laws.proofs.Words.{lone_events, lone_step, lpdu_of}
 use Rattle.trace_model.specs.declared.entry.Entry.TheVariants as entry
-use Rattle.trace_model.specs.declared.line.End.{End}
-use Rattle.node_laws.specs.passes.Passing.{link_of_turn, AreNoTurns}
-use Rattle.lone_laws.specs.alone.Lone.{Lone, LoneCause, LoneEvent, lone_step, lone_events}
-use Rattle.lone_laws.specs.alone.Answers.{entries_of_events_alone}
 
 -- ## Lists
 

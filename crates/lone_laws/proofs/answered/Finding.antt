@@ -2,15 +2,13 @@
 use Rattle.std.proofs.Common.{◌≡◌, ◌⊎◌, inl, inr, ℕ, ◌+◌, ◌^◌, ◌<◌, ◌≤◌, Bool, true, false, cond, nat_lt, List, [], ◌∷◌, length, sym, refl, ap}
 use Rattle.std.proofs.Common.{◌∙◌, subst, arith}
 use Rattle.std.specs.Prelude.{◌-◌, min, Option, Some, None, IsSome, is_some}
-use Rattle.std.specs.Option.{option_map_or}
+use Rattle.lone_laws.proofs.Words.{AreTables, Command, Counts, HciTables, IsCommand, IsRecordable, Memory, State, Write, after_planned, after_writes, apply}
+use Rattle.lone_laws.proofs.Words.{body_of, commit_writes, count_of, counted, current, fails_within, format_writes, formatted, journal, option_map_or}
+use Rattle.lone_laws.proofs.Words.{planned_whole, records, state_of}
 use Rattle.std.proofs.lemmas.Bool.{and_from, leb-true, ltb-true}
-use Rattle.swp_base.specs.InMemory.{Memory}
-use Rattle.journal_laws.specs.declared.state.State.{State}
-use Rattle.journal_laws.specs.Banks.{current}
-use Rattle.journal_laws.specs.Writes.{Write, after_writes, IsCut}
-use Rattle.journal_laws.specs.Journal.{Journal, journal, records, state_of, count_of, gate_at, left, IsSound}
-use Rattle.journal_laws.specs.Operations.{append_writes, compact_writes, format_writes, HasRoomForBody, CanCompact, appended, compacted, formatted}
-use Rattle.journal_laws.specs.Planned.{fails_within, after_planned}
+use Rattle.journal_laws.specs.Writes.{IsCut}
+use Rattle.journal_laws.specs.Journal.{Journal, gate_at, left, IsSound}
+use Rattle.journal_laws.specs.Operations.{append_writes, compact_writes, HasRoomForBody, CanCompact, appended, compacted}
 use Rattle.journal_laws.proofs.Kept.{append_count, compact_count, same_count}
 use Rattle.journal_laws.proofs.Cuts.{length-after, length-cut}
 use Rattle.nv_journal.specs.declared.JournalFault.{JournalFault}
@@ -20,23 +18,17 @@ use Rattle.nv_journal.specs.Kept.{Says}
 use Rattle.nv_journal.proofs.Appending as appending
 use Rattle.nv_journal.proofs.Compacting as compacting
 use Rattle.nv_journal.proofs.Formatting.{says_formatted, format_all_or_nothing, no_records_then}
-use Rattle.hci_tables.specs.declared.command.Command.{Command}
-use Rattle.hci_tables.specs.Commands.{IsCommand}
-use Rattle.hci_tables.specs.Bodies.{body_of, command_of}
-use Rattle.hci_tables.specs.Tables.{HciTables, AreTables, apply}
+use Rattle.hci_tables.specs.Bodies.{command_of}
 use Rattle.hci_store.specs.Image.{are_commands, first_other, image_fault}
-use Rattle.hci_store.specs.Recordable.{IsRecordable}
 use Rattle.hci_store.specs.Snapshots.{snapshot_of}
 use Rattle.hci_store.specs.Stored.{HoldsTables}
-use Rattle.hci_store.specs.Committing.{record_fits, snapshot_bodies, room_writes, with_room, commit_writes, committed}
+use Rattle.hci_store.specs.Committing.{record_fits, snapshot_bodies, room_writes, with_room, committed}
 use Rattle.hci_store.proofs.CutShort.{holds_still, room_count, is_body, are_bodies}
 use Rattle.hci_store.proofs.Committed.{all_recordable, holds_more, holds_snapshot}
-use Rattle.hci_store.proofs.Starting.{counted}
 use Rattle.node_laws.specs.kept.Finds.{FindsRoom}
 use Rattle.node_laws.proofs.kept.Commits.{after-append, cut-append, some_other, IsLeftBetween, says_either}
 use Rattle.node_laws.proofs.kept.Snapshots.{snapshot_fits}
-use Rattle.node_laws.proofs.kept.Planned.{planned_whole, planned_cut}
-use Rattle.lone_laws.specs.alone.Memories.{Counts}
+use Rattle.node_laws.proofs.kept.Planned.{planned_cut}
 
 -- ## Sound memories
 

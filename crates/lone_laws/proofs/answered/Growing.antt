@@ -2,43 +2,36 @@
 use Rattle.std.proofs.Common.{◌≡◌, ◌⊎◌, inl, inr, ℕ, zero, suc, ◌+◌, ◌-◌, ◌<◌, ◌≤◌, Bool, true, false, cond, eqb, List, [], ◌∷◌, ◌++◌, length, take, drop, map}
 use Rattle.std.proofs.Common.{refl, sym, ap, ◌∙◌, arith}
 use Rattle.std.specs.Prelude.{not, Some, None}
-use Rattle.std.specs.List.{filter, flat_map, AllByRecursion}
-use Rattle.std.proofs.lemmas.Bool.{true≢false, and_parts}
-use Rattle.swp_base.specs.declared.control_frames.Control.{Control}
-use Rattle.swp_base.specs.declared.control_frames.Control.TheVariants.{I, S, Rset, Ua, Act as ActFrame, Clt}
+use Rattle.lone_laws.proofs.Words.{AllByRecursion, Clt, Command, Commits, Control, Deed, Desk, EndState, FetchMessage, Give, Hold, I, IsAnswered, LinkEnd}
+use Rattle.lone_laws.proofs.Words.{LinkInput, LinkState, Message, NodeInput, Port, Release, Releases, Rset, S, Sends, SetAside, SetsErrors, Sound, Take, Tells}
+use Rattle.lone_laws.proofs.Words.{Turn, Ua, Work, after_input, after_sessions, after_turn, all_come, all_owed, asked_at, began_by, body_of, by_option, by_test}
+use Rattle.lone_laws.proofs.Words.{changed_if, commit, commit_writes, done, fails_within, filter, flat_map, forgets, forgotten, give_refusal, is_open, noting}
+use Rattle.lone_laws.proofs.Words.{rsets_since, sent_all, steps, synced, take_answer, times_out, true≢false, turn, turn_at, with_desk, with_port}
+use Rattle.lone_laws.proofs.Words.{without_notice}
+use Rattle.std.proofs.lemmas.Bool.{and_parts}
+use Rattle.swp_base.specs.declared.control_frames.Control.TheVariants.{Act as ActFrame}
 use Rattle.trace_model.specs.declared.entry.Entry.TheVariants as entry
-use Rattle.shdlc_core.specs.declared.answers.LinkState.{LinkState}
 use Rattle.shdlc_core.specs.declared.answers.LinkState.TheVariants.{Down, Waiting, Up}
 use Rattle.shdlc_core.specs.declared.answers.Due.{Due}
 use Rattle.shdlc_core.specs.declared.answers.Due.TheVariants.{Rr as Rr_due, Rset as Rset_due}
-use Rattle.shdlc_core.specs.Machine.{EndState, control_due, is_waiting, take_answer, with_ready, fetched, frames_of, after_frames, most_frames}
-use Rattle.journal_laws.specs.Planned.{fails_within}
-use Rattle.hci_tables.specs.declared.command.Command.{Command}
-use Rattle.hci_tables.specs.Bodies.{body_of}
-use Rattle.hci_store.specs.Committing.{commit_writes}
+use Rattle.shdlc_core.specs.Machine.{control_due, is_waiting, with_ready, fetched, frames_of, after_frames, most_frames}
 use Rattle.link_laws.specs.sessions.Sessions.{is_rset}
-use Rattle.link_laws.specs.machine.Machine.{Message, LinkEnd, ActDue, LinkInput, Turn, is_open, give_refusal}
-use Rattle.link_laws.specs.machine.Machine.{aside_refusal, turn, among}
-use Rattle.link_laws.specs.machine.Machine.{frames_out, sent_all, after_input, began_by}
-use Rattle.link_laws.specs.machine.Machine.LinkInput.{Take}
-use Rattle.link_laws.specs.machine.Machine.Turn.{Give, Hold, FetchMessage, SetAside, Release}
+use Rattle.link_laws.specs.machine.Machine.{ActDue}
+use Rattle.link_laws.specs.machine.Machine.{aside_refusal, among}
+use Rattle.link_laws.specs.machine.Machine.{frames_out}
 use Rattle.link_laws.specs.messages.Rsets.{rsets_among, rsets_due}
 use Rattle.link_laws.proofs.places.Joined.{fetch_cases}
 use Rattle.link_laws.proofs.machine.Shifts.{Shift}
 use Rattle.link_laws.proofs.machine.Shifts.Shift.{Stays, Ends, Renews, Begins, Rests}
-use Rattle.link_laws.proofs.machine.Runs.{Sound}
 use Rattle.link_laws.proofs.machine.Reports.{take_so}
-use Rattle.node_machine.specs.Parts.{Desk, Port, Work, Deed}
-use Rattle.node_machine.specs.Parts.Deed.{Commits, Sends, Asks as AsksFor, Releases, Tells, IsAnswered, SetsErrors, Orders}
+use Rattle.node_machine.specs.Parts.Deed.{Asks as AsksFor, Orders}
 use Rattle.node_machine.specs.Parts.About.{Waits, Removed}
-use Rattle.node_machine.specs.Carrying.{noting, changed_if, with_port, with_desk, after_turn, turn_at, notified, commit, done}
-use Rattle.node_machine.specs.Node.{NodeInput, all_come, times_out, synced, steps, forgotten, forgets, all_owed, without_notice, after_sessions, is_over}
+use Rattle.node_machine.specs.Carrying.{notified}
+use Rattle.node_machine.specs.Node.{is_over}
 use Rattle.node_machine.specs.Node.{is_forgotten}
-use Rattle.node_machine.specs.Controller.{asked_at}
 use Rattle.node_machine.specs.Parts.{About}
-use Rattle.node_laws.proofs.Cases.{by_list, by_test, by_option}
+use Rattle.node_laws.proofs.Cases.{by_list}
 use Rattle.node_laws.proofs.steps.StepWalks.{Lasts, rest_lasts, got_at}
-use Rattle.lone_laws.specs.alone.Lone.{rsets_since}
 use Rattle.lone_laws.proofs.answered.Coming.{IsLoneInput}
 use Rattle.lone_laws.proofs.answered.Numbers.{no_fewer, one_more, IsAsked, input_asked}
 

@@ -1,34 +1,18 @@
 -- Between events of a node alone all that is read of it is what it keeps.
 use Rattle.std.proofs.Common.{◌≡◌, ℕ, ◌≤◌, Bool, true, false, cond, eqb, List, [], ◌∷◌, ◌++◌, map, refl, sym, ap, subst, ◌∙◌, append_assoc, arith}
 use Rattle.std.specs.Prelude.{◌+◌, length, Some, None}
-use Rattle.std.specs.List.{AllByRecursion, filter}
-use Rattle.std.proofs.lemmas.Bool.{true≢false}
-use Rattle.swp_base.specs.declared.control_frames.Control.{Control}
-use Rattle.swp_lpdu.specs.Controls.{lpdu_of}
-use Rattle.trace_model.specs.declared.entry.Entry.{Entry}
+use Rattle.lone_laws.proofs.Words.{AllByRecursion, ComesTo, Commits, Control, Core, Deed, Desk, End, Entry, FrameComes, LinkEnd, LinkInput, Lone, LoneCause}
+use Rattle.lone_laws.proofs.Words.{Port, Running, Work, after_input, all_come, all_do, all_done, done, emits_behind, errors_found, filter, frames_behind}
+use Rattle.lone_laws.proofs.Words.{goes_in, lone_arrival, lone_behind_step, lone_end, lone_input, lone_port, lpdu_of, node_input, own_side, passes, port_at}
+use Rattle.lone_laws.proofs.Words.{report, rsets_since, sent_all, session_with, steps_are, syncs_in, told_at, true≢false, whole_acked}
 use Rattle.trace_model.specs.declared.entry.Entry.TheVariants as entry
-use Rattle.trace_model.specs.declared.line.End.{End}
-use Rattle.link_laws.specs.machine.Machine.{LinkEnd, LinkInput, after_input, report, whole_acked, frames_out, sent_all}
+use Rattle.link_laws.specs.machine.Machine.{frames_out}
 use Rattle.link_laws.specs.sessions.Sessions.{is_rset}
 use Rattle.link_laws.proofs.entries.Stepping.{sound_sent}
-use Rattle.node_machine.specs.Parts.{Desk, Core, Running, Port, Work, Deed}
-use Rattle.node_machine.specs.Parts.Deed.{Commits}
-use Rattle.node_machine.specs.Carrying.{own_side, done, all_done, port_at}
-use Rattle.node_machine.specs.Node.{all_come, told_at}
-use Rattle.node_machine.specs.Turns.{passes}
 use Rattle.node_machine.proofs.Walks.{all_synced_hold}
 use Rattle.node_laws.proofs.Cases.{by_list}
-use Rattle.node_laws.proofs.steps.StepWalks.{all_do}
 use Rattle.node_laws.proofs.links.Works.{fine_at}
-use Rattle.node_laws.specs.passes.Noting.{goes_in}
-use Rattle.node_laws.specs.passes.Passing.{ComesTo}
-use Rattle.node_laws.specs.passes.Steps.{syncs_in}
-use Rattle.node_laws.proofs.passes.Before.{steps_are}
-use Rattle.lone_laws.specs.alone.Lone.{Lone, LoneCause, lone_end, lone_input, node_input, lone_arrival, lone_port, rsets_since, session_with, side_behind}
-use Rattle.lone_laws.specs.alone.Lone.{emits_behind}
-use Rattle.lone_laws.specs.alone.Lone.{frames_behind, lone_behind_step}
-use Rattle.lone_laws.specs.alone.Lone.LoneCause.{FrameComes}
-use Rattle.lone_laws.specs.alone.Known.{errors_found}
+use Rattle.lone_laws.specs.alone.Lone.{side_behind}
 use Rattle.lone_laws.proofs.answered.Reading.{eqb_same, Read, Alone}
 use Rattle.lone_laws.proofs.answered.Coming.{IsLoneInput, pass_is, came_is, came_ports, came_entries}
 use Rattle.lone_laws.proofs.answered.Stepping.{lone_comes, passed}

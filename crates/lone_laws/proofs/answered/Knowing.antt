@@ -1,29 +1,17 @@
 -- What is known of a node alone at each turn of a step: what it keeps, its session and its blocks are read.
 use Rattle.std.proofs.Common.{◌≡◌, ℕ, ◌<◌, ◌≤◌, true, false, cond, eqb, List, [], ◌∷◌, ◌++◌, map, refl, sym, ap, subst, ◌∙◌, append_assoc}
 use Rattle.std.specs.Prelude.{Some, None}
-use Rattle.std.specs.List.{AllByRecursion}
-use Rattle.std.specs.Option.{option_map_or}
-use Rattle.trace_model.specs.declared.entry.Entry.{Entry}
+use Rattle.lone_laws.proofs.Words.{AllByRecursion, Core, Deed, End, Entry, FetchMessage, Hold, LastsOverTurns, LinkEnd, LinkInput, Lone, LoneCause, Message}
+use Rattle.lone_laws.proofs.Words.{Port, Reset, Running, Sound, Start, Stop, Take, TakeUnknown, Tick, Work, after_input, all_come, all_do, all_done, began_by}
+use Rattle.lone_laws.proofs.Words.{by_test, deeds_of, end_of_node, handles, holds_back, lets, lone_arrival, lone_end, lone_input, lone_port, node_input, noting}
+use Rattle.lone_laws.proofs.Words.{option_map_or, own_side, port_at, report, rsets_since, session_with, syncs_in, takes_up, told_at, turn_at, waiting_at}
+use Rattle.lone_laws.proofs.Words.{whole_acked, with_desk}
 use Rattle.trace_model.specs.declared.entry.Entry.TheVariants as entry
-use Rattle.trace_model.specs.declared.line.End.{End}
 use Rattle.hcp_packet.specs.Packets.{AreSendable}
-use Rattle.link_laws.specs.machine.Machine.{Message, LinkEnd, LinkInput, after_input, began_by, report, whole_acked}
-use Rattle.link_laws.specs.machine.Machine.LinkInput.{Take, TakeUnknown, Tick, Reset, Start, Stop}
-use Rattle.link_laws.specs.machine.Machine.Turn.{Hold, FetchMessage}
-use Rattle.link_laws.proofs.machine.Runs.{Sound, sound_input}
-use Rattle.node_machine.specs.Parts.{Core, Running, Port, Work, Deed}
-use Rattle.node_machine.specs.Carrying.{own_side, end_of_node, noting, port_at, with_desk, turn_at, all_done}
-use Rattle.node_machine.specs.Turns.{deeds_of, handles, holds_back}
-use Rattle.node_machine.specs.Node.{all_come, told_at}
-use Rattle.node_laws.proofs.Cases.{by_test}
-use Rattle.node_laws.proofs.steps.StepWalks.{all_do, lets}
+use Rattle.link_laws.proofs.machine.Runs.{sound_input}
 use Rattle.node_laws.proofs.links.Deeds.{IsFine, AreFine, IsTrueDesk}
 use Rattle.node_machine.proofs.Walks.{all_synced_hold}
 use Rattle.node_laws.proofs.links.Works.{IsFinePort, IsFineWork, fine_at, deeds_fine, all_done_fine, handles_fine, holds_fine, lets_fine, came_fine}
-use Rattle.node_laws.specs.passes.Passing.{LastsOverTurns, waiting_at, takes_up}
-use Rattle.node_laws.specs.passes.Steps.{syncs_in}
-use Rattle.lone_laws.specs.alone.Lone.{Lone, LoneCause, lone_end, lone_input, node_input, lone_arrival, lone_port, rsets_since}
-use Rattle.lone_laws.specs.alone.Lone.{session_with}
 use Rattle.lone_laws.proofs.answered.Own.{IsOwnDeed}
 use Rattle.lone_laws.proofs.answered.Reading.{Read, Alone}
 use Rattle.lone_laws.proofs.answered.Turning.{IsHere, alone_here, own_deeds, alone_handled, alone_held, alone_lasts}

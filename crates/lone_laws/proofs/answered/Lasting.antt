@@ -1,25 +1,15 @@
 -- Over the events of a node alone what it keeps is read, and what holds of each event holds of all.
 use Rattle.std.proofs.Common.{◌≡◌, ◌≤◌, Bool, true, false, cond, eqb, List, [], ◌∷◌, ◌++◌, map, refl, sym, ap, subst, ◌∙◌, append_assoc}
 use Rattle.std.specs.Prelude.{◌+◌, min, Option, Some, None, is_some}
-use Rattle.std.specs.Option.{option_map_or}
-use Rattle.std.proofs.lemmas.Bool.{true≢false}
-use Rattle.swp_base.specs.declared.control_frames.Control.{Control}
-use Rattle.swp_lpdu.specs.Controls.{lpdu_of}
-use Rattle.trace_model.specs.declared.entry.Entry.{Entry}
+use Rattle.lone_laws.proofs.Words.{AreTables, Control, Desk, End, Entry, FrameComes, FrameIsRefused, JoinTwo, LinkEnd, LinkInput, Lone, LoneCause, Port}
+use Rattle.lone_laws.proofs.Words.{Running, Work, by_option, changed_if, does_by_power, emits_behind, lone_arrival, lone_behind_step, lone_end, lone_input}
+use Rattle.lone_laws.proofs.Words.{lone_port, lone_step, lone_work, lpdu_of, node_input, noted_of_refused, option_map_or, port_at, session_with, steps}
+use Rattle.lone_laws.proofs.Words.{true≢false, with_refusal}
 use Rattle.trace_model.specs.declared.entry.Entry.TheVariants as entry
-use Rattle.trace_model.specs.declared.line.End.{End}
-use Rattle.hci_tables.specs.Tables.{AreTables}
-use Rattle.tables_laws.specs.tables.Changes.{JoinTwo}
-use Rattle.link_laws.specs.machine.Machine.{LinkEnd, LinkInput}
-use Rattle.node_machine.specs.Parts.{Desk, Running, Port, Work}
-use Rattle.node_machine.specs.Carrying.{changed_if, port_at}
-use Rattle.node_machine.specs.Node.{steps}
-use Rattle.lone_laws.specs.alone.Lone.{Lone, LoneCause, lone_end, lone_input, node_input, lone_arrival, lone_port, lone_work, side_behind, emits_behind}
-use Rattle.lone_laws.specs.alone.Lone.{session_with, lone_behind_step, does_with_input, does_by_power, lone_step, with_refusal, noted_of_refused}
-use Rattle.lone_laws.specs.alone.Lone.LoneCause.{FrameComes, FrameIsRefused}
+use Rattle.lone_laws.specs.alone.Lone.{side_behind}
+use Rattle.lone_laws.specs.alone.Lone.{does_with_input}
 use Rattle.lone_laws.proofs.answered.Reading.{eqb_same, Read, read_all, read-append, reads_of, AreNothing, nothing_read, Alone}
 use Rattle.lone_laws.proofs.answered.Stepping.{lone_comes, alone_steps}
-use Rattle.node_laws.proofs.Cases.{by_option}
 
 -- ## Between events
 

@@ -1,26 +1,22 @@
 -- A node with one link goes by what is said of such a node, and does by that what it does.
 use Rattle.std.proofs.Common.{◌≡◌, ◌⊎◌, inl, inr, ℕ, ◌&&◌, ◌||◌, Bool, true, false, cond, eqb, List, [], ◌∷◌, refl, sym, ap, ◌∙◌}
 use Rattle.std.specs.Prelude.{Some, None, is_some}
-use Rattle.std.specs.List.{cons_option, list_any}
-use Rattle.std.specs.Option.{option_map, option_map_or, option_and_then}
-use Rattle.std.proofs.lemmas.Bool.{cases_Bool, eqb-true}
+use Rattle.lone_laws.proofs.Words.{Core, Creation, Message, Port, by_test, creation_in, deeds_for, deeds_of, end_view, eqb-true, first_lack, host_deeds, is_up}
+use Rattle.lone_laws.proofs.Words.{lack, list_any, option_map_or, own_view, port_at, spare, spare_with_link, view_of, view_with_link}
+use Rattle.std.specs.List.{cons_option}
+use Rattle.std.specs.Option.{option_map, option_and_then}
+use Rattle.std.proofs.lemmas.Bool.{cases_Bool}
 use mathlib.Core.Bool.{and-false, and-true}
 use Rattle.hci_tables.specs.Tables.{is_opened}
-use Rattle.link_laws.specs.sessions.Sessions.{is_up}
-use Rattle.link_laws.specs.machine.Machine.{Message, spare}
-use Rattle.node_machine.specs.Parts.{Creation, Core, NodeView, Port}
-use Rattle.node_machine.specs.Carrying.{end_view, first_lack, lack, own_view, port_at, spare_with}
-use Rattle.node_machine.specs.Controller.{about_of, creation_in, creation_of, is_asked_at, is_connected_at, pipe_of, view_of}
-use Rattle.node_machine.specs.HostReplies.{host_deeds}
-use Rattle.node_machine.specs.Turns.{deeds_for, deeds_of}
+use Rattle.node_machine.specs.Parts.{NodeView}
+use Rattle.node_machine.specs.Carrying.{spare_with}
+use Rattle.node_machine.specs.Controller.{about_of, creation_of, is_asked_at, is_connected_at, pipe_of}
 use Rattle.node_machine.proofs.Walks.{deeds_near, deeds_far}
 use Rattle.node_laws.specs.views.Views.{IsSameView}
-use Rattle.node_laws.proofs.Cases.{by_test}
 use Rattle.node_laws.proofs.views.Viewing.{where_same}
 use Rattle.node_laws.specs.read_steps.Alike.{KnowsTheSame}
 use Rattle.node_laws.proofs.read_steps.Alike.{same_deeds}
 use Rattle.node_laws.proofs.replies.Turns.{lack_alike}
-use Rattle.lone_laws.specs.alone.Known.{spare_with_link, view_with_link}
 use Rattle.lone_laws.proofs.answered.Reading.{eqb_same}
 
 module _ (core : Core) (p : Port) (h : ℕ) (host : p.desk.host ≡ h) where

@@ -2,34 +2,22 @@
 use Rattle.std.proofs.Common.{◌≡◌, ◌⊎◌, inl, inr, ℕ, ◌+◌, ◌-◌, ◌^◌, true, false, List, [], ◌∷◌, ◌++◌, length, refl, sym, ap, subst, ◌∙◌, arith}
 use Rattle.std.proofs.Common.{append_assoc, append-nil, length-append}
 use Rattle.std.specs.Prelude.{min, Option, Some, None}
-use Rattle.std.specs.List.{AllByRecursion}
+use Rattle.lone_laws.proofs.Words.{AllByRecursion, AreTables, AreTables-apply, Command, Commits, Deed, Drops, Entry, HciTables, IsAnswered, IsCommand}
+use Rattle.lone_laws.proofs.Words.{IsRecordable, Memory, SaysOk, Sends, SetsErrors, State, Work, Write, after_commands, after_planned, all_done, apply, body_of}
+use Rattle.lone_laws.proofs.Words.{commands_of_entries, commit, commit_writes, count_of, done, end_of_node, fails_within, fold-append, keeps, loses_power}
+use Rattle.lone_laws.proofs.Words.{noting, planned_whole, unless_cut}
 use Rattle.std.proofs.lemmas.Bool.{cases_Bool}
-use Rattle.std.proofs.lemmas.List.Sums.{fold-append}
-use Rattle.swp_base.specs.InMemory.{Memory}
-use Rattle.trace_model.specs.declared.entry.Entry.{Entry}
 use Rattle.trace_model.specs.declared.entry.Entry.TheVariants as entry
-use Rattle.journal_laws.specs.declared.state.State.{State}
-use Rattle.journal_laws.specs.Journal.{count_of}
-use Rattle.journal_laws.specs.Planned.{fails_within, after_planned}
-use Rattle.journal_laws.specs.Writes.{Write}
-use Rattle.hci_tables.specs.declared.command.Command.{Command}
-use Rattle.hci_tables.specs.Commands.{IsCommand}
-use Rattle.hci_tables.specs.Bodies.{body_of}
-use Rattle.hci_tables.specs.Tables.{HciTables, AreTables, after_commands, apply}
-use Rattle.tables_laws.proofs.tables.SortedTables.{AreTables-apply}
 use Rattle.hci_store.proofs.Recorded.{recordable-apply}
-use Rattle.hci_store.specs.Committing.{commit_writes, committed}
-use Rattle.hci_store.specs.Recordable.{IsRecordable}
-use Rattle.node_machine.specs.Parts.{Init, Work, Deed}
-use Rattle.node_machine.specs.Parts.Deed.{Commits, Sends, SaysOk, IsAnswered, Drops, SetsErrors}
-use Rattle.node_machine.specs.Carrying.{all_done, commit, done, end_of_node, keeps, loses_power, noting, plan_behind, unless_cut}
+use Rattle.hci_store.specs.Committing.{committed}
+use Rattle.node_machine.specs.Parts.{Init}
+use Rattle.node_machine.specs.Carrying.{plan_behind}
 use Rattle.node_laws.specs.kept.Books.{IsPlain}
 use Rattle.node_laws.specs.kept.Deeds.{MayBeDone}
 use Rattle.node_laws.specs.kept.Finds.{FindsRoom}
 use Rattle.node_laws.proofs.kept.Doing.{stays_cut, uncut}
 use Rattle.node_laws.proofs.kept.Plainly.{Plainly, plainly_desk, plainly_noting, plainly_turn}
-use Rattle.node_laws.proofs.kept.Planned.{after_planned-append, planned_whole}
-use Rattle.lone_laws.specs.alone.Memories.{commands_of_entries}
+use Rattle.node_laws.proofs.kept.Planned.{after_planned-append}
 use Rattle.lone_laws.proofs.answered.Finding.{FindsIf, KnowsIf, commit_count, finds_counting, planned_knows, planned_left}
 
 -- ## Commands

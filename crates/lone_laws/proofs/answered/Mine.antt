@@ -1,30 +1,21 @@
 -- All that a node alone notes is its own, so its answers are read as those of a node among others.
 use Rattle.std.proofs.Common.{◌≡◌, ℕ, Bool, true, false, cond, eqb, ◌||◌, List, [], ◌∷◌, ◌++◌, inl, inr, map, refl, sym, ap, ap₂, subst, ◌∙◌}
 use Rattle.std.specs.Prelude.{None, not, if◌then◌else◌}
-use Rattle.std.specs.List.{filter, list_any}
-use Rattle.std.proofs.lemmas.Bool.{eq-eqb, eqb-true}
+use Rattle.lone_laws.proofs.Words.{Control, Core, Desk, Entry, FrameComes, IsDueAlone, IsRepliedAlone, LinkInput, Lone, LoneCause, LoneEvent, NodeInput}
+use Rattle.lone_laws.proofs.Words.{Running, Work, by_test, core_since, eqb-true, filter, lack_since, list_any, lone_arrival, lone_end, lone_port, lone_work}
+use Rattle.lone_laws.proofs.Words.{lpdu_of, noted_since, reply_since, session_with, steps, sync_due, to_command}
+use Rattle.std.proofs.lemmas.Bool.{eq-eqb}
 use Rattle.std.proofs.lemmas.List.Sums.{take_while-cons}
 use Rattle.registry.proofs.ValueLemmas.{AllByRecursion-append as all_append}
-use Rattle.swp_base.specs.declared.control_frames.Control.{Control}
-use Rattle.swp_lpdu.specs.Controls.{lpdu_of}
-use Rattle.trace_model.specs.declared.entry.Entry.{Entry}
 use Rattle.trace_model.specs.declared.entry.Entry.TheVariants as entry
-use Rattle.link_laws.specs.machine.Machine.{LinkInput}
-use Rattle.node_machine.specs.Parts.{Core, Desk, Running, Work}
-use Rattle.node_machine.specs.Node.{NodeInput, steps}
 use Rattle.node_machine.specs.world.World.{node_of}
 use Rattle.node_laws.specs.kept.Reckonings.{is_cut_of}
-use Rattle.node_laws.specs.answers.Answered.{AnswersSo, before_turn, is_turn_of, to_command}
+use Rattle.node_laws.specs.answers.Answered.{AnswersSo, before_turn, is_turn_of}
 use Rattle.node_laws.specs.answers.Order.{is_answer_of}
-use Rattle.node_laws.proofs.Cases.{by_test}
 use Rattle.node_laws.proofs.telling.Walks.{AreUncut}
 use Rattle.node_laws.proofs.power.Parts.{IsOwn, AreOwn}
 use Rattle.node_laws.proofs.power.Doing.{AreEnds, Fine, IsEndOf, Runs}
 use Rattle.node_laws.proofs.power.Steps.{steps_fine}
-use Rattle.lone_laws.specs.alone.Lone.{Lone, LoneCause, LoneEvent, lone_arrival, lone_end, lone_port, lone_work, session_with}
-use Rattle.lone_laws.specs.alone.Lone.LoneCause.{FrameComes}
-use Rattle.lone_laws.specs.alone.Known.{core_since, lack_since, reply_since}
-use Rattle.lone_laws.specs.alone.Answers.{IsDueAlone, IsRepliedAlone, noted_since, sync_due}
 
 -- ## Answers of any node
 

@@ -2,30 +2,24 @@
 use Rattle.std.proofs.Common.{◌≡◌, ◌⊎◌, inl, inr, ℕ, ◌+◌, ◌≤◌, Bool, true, false, cond, List, [], ◌∷◌, ◌++◌, length, refl, sym, ap}
 use Rattle.std.proofs.Common.{subst, ◌∙◌, arith, length-append}
 use Rattle.std.specs.Prelude.{nat_lt, ◌==◌, is_some, Option, Some, None}
-use Rattle.std.proofs.lemmas.Bool.{true≢false}
-use Rattle.swp_base.specs.declared.control_frames.Control.{Control}
-use Rattle.swp_base.specs.declared.control_frames.Control.TheVariants.{I, S, Rset, Ua, Act as ActFrame, Clt}
+use Rattle.lone_laws.proofs.Words.{Act, ActEvent, Clt, Control, EndState, I, LinkEnd, LinkInput, LinkState, Reset, Rset, S, Start, Stop, Take, TakeUnknown}
+use Rattle.lone_laws.proofs.Words.{Tick, Ua, act_answer, activated, after_input, by_option, by_test, heard, is_faulty, is_open, moved, put_down, reset_refusal}
+use Rattle.lone_laws.proofs.Words.{reset_with, role_after, stopped, take_answer, taken, tick_answer, ticked, true≢false, window_of, with_act}
+use Rattle.swp_base.specs.declared.control_frames.Control.TheVariants.{Act as ActFrame}
 use Rattle.swp_base.specs.declared.control_frames.Kind.{Kind}
 use Rattle.swp_base.specs.declared.control_frames.Kind.TheVariants.{Rr, Rej, Rnr, Srej}
-use Rattle.swp_base.specs.declared.control_frames.Act.{Act}
 use Rattle.swp_base.specs.declared.link_terms.Cause.TheVariants.{Asked}
-use Rattle.swp_act.specs.declared.ActEvent.{ActEvent}
 use Rattle.swp_act.specs.declared.ActEvent.TheVariants.{Start as ActStart, Take as ActTake, Tick as ActTick, Stop as ActStop}
-use Rattle.shdlc_core.specs.declared.answers.LinkState.{LinkState}
 use Rattle.shdlc_core.specs.declared.answers.LinkState.TheVariants.{Down, Waiting, Up}
 use Rattle.shdlc_core.specs.declared.answers.Due.{Due}
 use Rattle.shdlc_core.specs.declared.answers.Due.TheVariants.{Rr as Rr_due, Rej as Rej_due, Rnr as Rnr_due, Rset as Rset_due, Ua as Ua_due}
-use Rattle.shdlc_core.specs.Machine.{EndState, Fragment, due_left, waiting_from, place_of, acknowledged, received, taken, take_answer}
-use Rattle.shdlc_core.specs.Machine.{runs_timer, ticked, tick_answer}
-use Rattle.shdlc_core.specs.Machine.{is_waiting, reset_with, sent_again, stopped}
-use Rattle.link_laws.specs.machine.Machine.{LinkEnd, LinkInput, is_open, is_faulty, moved, put_down, with_act, activated, act_answer}
-use Rattle.link_laws.specs.machine.Machine.{role_after, heard, if_up, window_of, reset_refusal}
-use Rattle.link_laws.specs.machine.Machine.{after_input}
-use Rattle.link_laws.specs.machine.Machine.LinkInput.{Take, TakeUnknown, Tick, Reset, Start, Stop}
+use Rattle.shdlc_core.specs.Machine.{Fragment, due_left, waiting_from, place_of, acknowledged, received}
+use Rattle.shdlc_core.specs.Machine.{runs_timer}
+use Rattle.shdlc_core.specs.Machine.{is_waiting, sent_again}
+use Rattle.link_laws.specs.machine.Machine.{if_up}
 use Rattle.link_laws.specs.messages.Rsets.{rsets_among}
 use Rattle.link_laws.proofs.places.Joined.{received_cases}
 use Rattle.lone_laws.proofs.answered.Coming.{IsLoneInput}
-use Rattle.node_laws.proofs.Cases.{by_option, by_test}
 
 -- ## Control frames that are due
 

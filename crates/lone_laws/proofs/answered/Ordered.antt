@@ -1,27 +1,20 @@
 -- Messages have their turns in order, and behind each event all have had them, or all before one that is held.
 use Rattle.std.proofs.Common.{◌≡◌, ◌≤◌, Bool, true, false, cond, eqb, ◌||◌, List, [], ◌∷◌, ◌++◌, map, refl, sym, ap, ap₂, subst, ◌∙◌, append_assoc, append-nil}
 use Rattle.std.specs.Prelude.{Some, None, is_none}
-use Rattle.std.specs.Option.{option_map_or}
-use Rattle.trace_model.specs.declared.entry.Entry.{Entry}
+use Rattle.lone_laws.proofs.Words.{AllByRecursion-append, AreNoTurns, BeginWithTurn, ComesTo, Core, End, Entry, FrameComes, IsTurnSo, LinkInput, Lone}
+use Rattle.lone_laws.proofs.Words.{LoneCause, Message, Port, Running, Work, by_test, comes_to_pass, emits_behind, frames_behind, hosts_of_ends, link_of_turn}
+use Rattle.lone_laws.proofs.Words.{lone_arrival, lone_end, lone_input, lone_work, node_input, oldest, option_map_or, passes, steps, steps_are, unhandled_in}
+use Rattle.lone_laws.proofs.Words.{waiting_at}
 use Rattle.trace_model.specs.declared.entry.Entry.TheVariants as entry
-use Rattle.trace_model.specs.declared.line.End.{End}
-use Rattle.link_laws.specs.machine.Machine.{Message, LinkInput, oldest}
-use Rattle.node_machine.specs.Parts.{Core, Running, Port, Work}
-use Rattle.node_machine.specs.Turns.{passes, goes_through_ends}
-use Rattle.node_machine.specs.Node.{steps}
-use Rattle.node_laws.specs.answers.Moments.{holds_in, unhandled_in}
-use Rattle.node_laws.specs.kept.Books.{hosts_of_ends}
-use Rattle.registry.proofs.ValueLemmas.{AllByRecursion-append}
-use Rattle.node_laws.specs.passes.Passing.{BeginWithTurn, link_of_turn, IsNoTurn, AreNoTurns, ComesTo, ArePassed, IsTurnSo, IsBehind, Stays}
-use Rattle.node_laws.specs.passes.Passing.{waiting_at, is_held_at}
+use Rattle.node_machine.specs.Turns.{goes_through_ends}
+use Rattle.node_laws.specs.answers.Moments.{holds_in}
+use Rattle.node_laws.specs.passes.Passing.{IsNoTurn, ArePassed, IsBehind, Stays}
+use Rattle.node_laws.specs.passes.Passing.{is_held_at}
 use Rattle.node_laws.specs.passes.Passing.ComesTo.{Begins}
-use Rattle.node_laws.specs.passes.Steps.{comes_to_pass, noted_before_pass}
-use Rattle.node_laws.proofs.Cases.{by_test}
+use Rattle.node_laws.specs.passes.Steps.{noted_before_pass}
 use Rattle.node_laws.proofs.passes.Passing.{comes_lasts}
-use Rattle.node_laws.proofs.passes.Before.{steps_are, before_entries, before_none}
+use Rattle.node_laws.proofs.passes.Before.{before_entries, before_none}
 use Rattle.node_laws.proofs.passes.Behind.{leaves_behind}
-use Rattle.lone_laws.specs.alone.Lone.{Lone, LoneCause, lone_end, lone_input, node_input, lone_arrival, lone_work, frames_behind, emits_behind}
-use Rattle.lone_laws.specs.alone.Lone.LoneCause.{FrameComes}
 use Rattle.lone_laws.specs.alone.Answers.{is_at_rest}
 use Rattle.lone_laws.proofs.answered.Reading.{eqb_same, Read, read_all, read-append, left_is, held_is, reads_of, nothing_read, Alone}
 use Rattle.lone_laws.proofs.answered.Turning.{own_end, IsHere, alone_here, alone_at, link_is}

@@ -1,12 +1,11 @@
 -- A node with one link asks nobody for a pipe and tells nobody of one: what it does with a message is of its own.
 use Rattle.std.proofs.Common.{◌≡◌, ℕ, ◌≤◌, Bool, true, false, cond, eqb, ◌&&◌, not, List, [], ◌∷◌, refl, sym, ap, ◌∙◌, inl, inr}
 use Rattle.std.specs.Prelude.{Some, None}
-use Rattle.std.specs.List.{AllByRecursion, list_all}
-use Rattle.std.specs.Option.{option_map_or}
-use Rattle.std.proofs.lemmas.Bool.{true≢false, and_parts, not-true, not_from_false, not-false, and_cases, eqb-true, eqb-false, false≢true}
-use Rattle.hci_tables.specs.Commands.{IsCommand}
-use Rattle.hci_tables.specs.Tables.{HciTables, AreTables}
-use Rattle.tables_laws.specs.tables.Changes.{JoinTwo}
+use Rattle.lone_laws.proofs.Words.{AllByRecursion, AreTables, Commits, Core, Creation, Deed, Drops, HciTables, IsAnswered, IsCommand, JoinTwo, Message, Port}
+use Rattle.lone_laws.proofs.Words.{Releases, SaysOk, Sends, SetsErrors, Tells, asked_at, controller_deeds, creation_in, end_view, eqb-true, host_deeds}
+use Rattle.lone_laws.proofs.Words.{option_map_or, own_view, port_at, true≢false, view_of}
+use Rattle.std.specs.List.{list_all}
+use Rattle.std.proofs.lemmas.Bool.{and_parts, not-true, not_from_false, not-false, and_cases, eqb-false, false≢true}
 use Rattle.gate_answers.specs.Answers.{body_in}
 use Rattle.gate_admin.specs.declared.view.LinkView.{LinkView}
 use Rattle.gate_admin.specs.declared.decision.Decision.{Decision}
@@ -16,12 +15,7 @@ use Rattle.gate_admin.specs.Decide.{decided, tests_to_create, dest_in, IsRecorda
 use Rattle.gate_admin.proofs.CreationLemmas.{AllFalse, all_false}
 use Rattle.tables_laws.specs.gate.Rules.{TellsOthers}
 use Rattle.tables_laws.proofs.gate.Decisions.{decided_holds, decided_tells_others}
-use Rattle.link_laws.specs.machine.Machine.{Message}
-use Rattle.node_machine.specs.Parts.{Creation, Core, Port, Deed}
-use Rattle.node_machine.specs.Parts.Deed.{Commits, Sends, SaysOk, Releases, Tells, IsAnswered, Drops, SetsErrors}
-use Rattle.node_machine.specs.Carrying.{port_at, own_view, end_view}
-use Rattle.node_machine.specs.Controller.{is_connected_at, creation_in, asked_at, view_for, controller_deeds, view_of}
-use Rattle.node_machine.specs.HostReplies.{host_deeds}
+use Rattle.node_machine.specs.Controller.{is_connected_at, view_for}
 use Rattle.node_machine.proofs.Walks.{Plain, OfDecision, all_of_controller, all_ordered, host_holds}
 use Rattle.node_laws.proofs.links.Masking.{nobody, from_mask}
 use Rattle.node_laws.proofs.kept.Deciding.{decided_recordable}

@@ -1,23 +1,14 @@
 -- A node that has lost its power in a step has noted it.
 use Rattle.std.proofs.Common.{◌≡◌, ℕ, Bool, true, false, ◌||◌, List, [], ◌∷◌, ◌++◌, map, refl, sym, subst, ◌∙◌}
 use Rattle.std.specs.Prelude.{length}
-use Rattle.std.specs.List.{list_any, flat_map}
-use Rattle.std.proofs.lemmas.Bool.{true≢false}
-use Rattle.trace_model.specs.declared.entry.Entry.{Entry}
+use Rattle.lone_laws.proofs.Words.{Commits, Deed, Drops, Entry, FetchMessage, Hold, IsAnswered, NodeInput, Port, Releases, SaysOk, Sends, SetsErrors, Tells}
+use Rattle.lone_laws.proofs.Words.{Turn, Work, after_sessions, all_come, all_owed, body_of, by_test, commit_writes, done, end_of_node, fails_within, flat_map}
+use Rattle.lone_laws.proofs.Words.{forgets, forgotten, keeps, list_any, loses_power, noted_of, noting, option_map_or, port_at, steps, synced, times_out}
+use Rattle.lone_laws.proofs.Words.{true≢false, turn_at, without_notice}
 use Rattle.trace_model.specs.declared.entry.Entry.TheVariants as entry
-use Rattle.journal_laws.specs.Planned.{fails_within}
-use Rattle.hci_tables.specs.Bodies.{body_of}
-use Rattle.hci_store.specs.Committing.{commit_writes}
-use Rattle.node_machine.specs.Parts.{Work, Port, Deed}
-use Rattle.node_machine.specs.Parts.Deed.{Commits, Sends, SaysOk, Asks, Releases, Tells, IsAnswered, Drops, SetsErrors, Orders, Hears, GoesOn, Ends}
-use Rattle.node_machine.specs.Carrying.{end_of_node, noting, port_at, noted_of, turn_at, done, loses_power, keeps}
-use Rattle.link_laws.specs.machine.Machine.{Turn}
-use Rattle.link_laws.specs.machine.Machine.Turn.{FetchMessage, Hold}
-use Rattle.std.specs.Option.{option_map_or}
-use Rattle.node_machine.specs.Node.{NodeInput, steps, all_come, times_out, synced, forgotten, forgets, all_owed, without_notice, after_sessions}
+use Rattle.node_machine.specs.Parts.Deed.{Asks, Orders, Hears, GoesOn, Ends}
 use Rattle.node_machine.specs.Node.NodeInput.{AtEnd, TimePasses}
 use Rattle.node_machine.proofs.Walks.{anyone}
-use Rattle.node_laws.proofs.Cases.{by_test}
 use Rattle.node_laws.proofs.steps.StepWalks.{Lasts, rest_lasts}
 use Rattle.node_laws.specs.passes.Noting.{noted_by_deed}
 use Rattle.node_laws.proofs.passes.Notes.{deed_notes}

@@ -2,39 +2,19 @@
 -- and whether the first of them was noted as held.
 use Rattle.std.proofs.Common.{◌≡◌, ℕ, Bool, true, false, cond, eqb, List, [], ◌∷◌, ◌++◌, map, refl, sym, ap, ◌∙◌, append_assoc, append-nil, arith}
 use Rattle.std.specs.Prelude.{◌+◌, nat_lt, length, Option, Some, None, option_to_list}
-use Rattle.std.specs.List.{AllByRecursion, fold}
-use Rattle.std.specs.Option.{option_map_or}
-use Rattle.std.proofs.lemmas.Bool.{true≢false}
+use Rattle.lone_laws.proofs.Words.{Acked, Active, AllByRecursion, AreTables, AreTables-apply, Command, Commits, Core, Deed, Desk, Down, Drops, End, Entry}
+use Rattle.lone_laws.proofs.Words.{FetchMessage, GaveUp, Give, Got, Hold, IsAnswered, IsCommand, JoinTwo, LinkEnd, Message, Port, Release, Releases, Report}
+use Rattle.lone_laws.proofs.Words.{SaysOk, Sends, SetAside, SetsErrors, Turn, Up, Work, after_turn, body_of, by_test, changed_if, commit, commit_writes}
+use Rattle.lone_laws.proofs.Words.{core_noted, core_with, done, end_of, end_of_node, end_of_node_alone, entries_for, fails_within, fold, fold-append}
+use Rattle.lone_laws.proofs.Words.{give_refusal, if_so, keeps, noted_of, noting, option_map_or, own_side, port_at, same_end, told, true≢false, turn, turn_at}
+use Rattle.lone_laws.proofs.Words.{unhandled_after, with_desk, with_port}
 use Rattle.std.proofs.lemmas.Grind.{common_steps}
-use Rattle.std.proofs.lemmas.List.Sums.{fold-append}
 use Rattle.swp_base.specs.declared.link_terms.Cause.{Cause as EndedBy}
-use Rattle.trace_model.specs.declared.entry.Entry.{Entry}
 use Rattle.trace_model.specs.declared.entry.Entry.TheVariants as entry
-use Rattle.trace_model.specs.declared.line.End.{End}
-use Rattle.journal_laws.specs.Planned.{fails_within}
-use Rattle.hci_tables.specs.declared.command.Command.{Command}
-use Rattle.hci_tables.specs.Bodies.{body_of}
-use Rattle.hci_tables.specs.Commands.{IsCommand}
-use Rattle.hci_tables.specs.Tables.{AreTables}
-use Rattle.hci_store.specs.Committing.{commit_writes}
-use Rattle.tables_laws.specs.tables.Changes.{JoinTwo}
 use Rattle.tables_laws.proofs.tables.TwoHosts.{JoinTwo-after}
-use Rattle.tables_laws.proofs.tables.SortedTables.{AreTables-apply}
-use Rattle.link_laws.specs.machine.Machine.{Message, Refused, LinkEnd, Turn, turn, given, give_refusal, aside_refusal, unless, Report}
-use Rattle.link_laws.specs.machine.Machine.Turn.{Give, Hold, FetchMessage, SetAside, Release}
-use Rattle.link_laws.specs.entries.Entries.{End as Side, Entry as Noted, told, if_so}
-use Rattle.link_laws.specs.entries.Entries.Entry.{Up, Down, Active, GaveUp, Acked, Got}
-use Rattle.history.specs.Filters.{same_end}
-use Rattle.history.specs.Steps.{end_of, entries_for}
-use Rattle.node_machine.specs.Parts.{Desk, Core, Port, Work, Deed}
-use Rattle.node_machine.specs.Parts.Deed.{Commits, Sends, SaysOk, Releases, IsAnswered, Drops, SetsErrors}
-use Rattle.node_machine.specs.Carrying.{own_side, end_of_node, noting, port_at, changed_if, with_port, with_desk, after_turn, noted_of, turn_at}
-use Rattle.node_machine.specs.Carrying.{keeps}
-use Rattle.node_machine.specs.Carrying.{commit, done}
-use Rattle.node_laws.specs.answers.Moments.{holds_after, unhandled_after}
-use Rattle.node_laws.proofs.Cases.{by_test}
-use Rattle.lone_laws.specs.alone.Lone.{end_of_node_alone}
-use Rattle.lone_laws.specs.alone.Known.{core_with, core_noted}
+use Rattle.link_laws.specs.machine.Machine.{Refused, given, aside_refusal, unless}
+use Rattle.link_laws.specs.entries.Entries.{End as Side, Entry as Noted}
+use Rattle.node_laws.specs.answers.Moments.{holds_after}
 use Rattle.lone_laws.proofs.answered.Own.{IsOwnDeed}
 
 -- a number is itself

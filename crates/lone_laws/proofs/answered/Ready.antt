@@ -2,23 +2,19 @@
 use Rattle.std.proofs.Common.{◌≡◌, ◌⊎◌, inl, inr, ℕ, ◌+◌, ◌<◌, ◌≤◌, true, false, ◌==◌, ◌||◌, List, [], ◌++◌, map, IsTrue, sym, refl, ap, ap₂, ◌∙◌}
 use Rattle.std.proofs.Common.{subst, arith}
 use Rattle.std.specs.Prelude.{Option, Some, None, IsSome}
-use Rattle.std.specs.Option.{option_map_or}
-use Rattle.std.proofs.lemmas.Bool.{eqb-true, true≢false}
+use Rattle.lone_laws.proofs.Words.{AreTables, CountsAll, HciTables, IsReadyMemory, IsRecordable, State, after_writes, boot_writes, by_test, close, count_of}
+use Rattle.lone_laws.proofs.Words.{counted, current, eqb-true, format_writes, formatted, found, journal, option_map_or, records, state_of, tables_of}
+use Rattle.lone_laws.proofs.Words.{true≢false}
 use Rattle.std.proofs.lemmas.Bool.Decides.{nat_tests}
 use Rattle.journal_laws.specs.declared.banks.Side.{Side}
-use Rattle.journal_laws.specs.declared.state.State.{State}
-use Rattle.journal_laws.specs.Banks.{current}
-use Rattle.journal_laws.specs.Journal.{journal, records, state_of, count_of, count, IsSound}
-use Rattle.journal_laws.specs.Operations.{format_writes, formatted, started_state, compact_writes, compacted, CanCompact}
-use Rattle.journal_laws.specs.Writes.{after_writes}
+use Rattle.journal_laws.specs.Journal.{count, IsSound}
+use Rattle.journal_laws.specs.Operations.{started_state, compact_writes, compacted, CanCompact}
 use Rattle.journal_laws.proofs.Kept.{compact_count}
 use Rattle.nv_journal.specs.Kept.{Says}
 use Rattle.nv_journal.proofs.Compacting as compacting
 use Rattle.nv_journal.proofs.Formatting.{says_formatted, no_records_then}
-use Rattle.hci_tables.specs.Tables.{HciTables, AreTables, close}
 use Rattle.hci_store.specs.Committing.{snapshot_bodies}
-use Rattle.hci_store.specs.Image.{are_commands, tables_of}
-use Rattle.hci_store.specs.Recordable.{IsRecordable}
+use Rattle.hci_store.specs.Image.{are_commands}
 use Rattle.hci_store.specs.Snapshots.{snapshot_of}
 use Rattle.hci_store.specs.Starting.{migration_writes, migrated, ready_state}
 use Rattle.hci_store.specs.Stored.{FindsSame, HoldsTables}
@@ -26,13 +22,11 @@ use Rattle.hci_store.proofs.Applying.{sound_has_no_fault}
 use Rattle.hci_store.proofs.Closing.{close-close}
 use Rattle.hci_store.proofs.Committed.{all_recordable, holds_snapshot}
 use Rattle.hci_store.proofs.CutShort.{are_bodies, holds_still}
-use Rattle.hci_store.proofs.Starting.{counted}
-use Rattle.node_machine.specs.Node.{boot_writes, found, new_desk}
-use Rattle.node_laws.proofs.Cases.{by_test}
+use Rattle.node_machine.specs.Node.{new_desk}
 use Rattle.node_laws.proofs.kept.Commits.{some_other}
 use Rattle.node_laws.proofs.kept.Booting.{good_found}
 use Rattle.node_laws.proofs.kept.Snapshots.{snapshot_fits}
-use Rattle.lone_laws.specs.alone.Memories.{CountsAll, IsReadyMemory, IsTakenMemory, behind_boot}
+use Rattle.lone_laws.specs.alone.Memories.{IsTakenMemory, behind_boot}
 use Rattle.lone_laws.proofs.answered.Finding.{KnowsIf, fault_none, knows_from}
 
 first_version : (v : ℕ) → IsTrue (v == 1 || v == 2) → (v == 2) ≡ false → v ≡ 1

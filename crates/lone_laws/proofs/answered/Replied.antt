@@ -1,38 +1,21 @@
 -- At each turn of a step a node alone replies to its message as is read.
 use Rattle.std.proofs.Common.{◌≡◌, ℕ, ◌≤◌, Bool, true, false, cond, eqb, ◌&&◌, List, [], ◌∷◌, ◌++◌, refl, sym, ap, ap₂, subst, ◌∙◌, append_assoc}
 use Rattle.std.specs.Prelude.{Some, None, is_some, nat_lt}
-use Rattle.std.specs.Option.{option_map_or}
-use Rattle.std.proofs.lemmas.Bool.{eqb-true}
-use Rattle.registry.proofs.ValueLemmas.{AllByRecursion-append}
-use Rattle.trace_model.specs.declared.entry.Entry.{Entry}
+use Rattle.lone_laws.proofs.Words.{AllByRecursion-append, AreNoBoots, AreTables, Core, Deed, End, Entry, ErrorCount, FetchMessage, IsNoBoot, JoinTwo, Message}
+use Rattle.lone_laws.proofs.Words.{Port, Sends, Work, after_turn, all_done, by_test, changed_if, core_since, deeds_for, deeds_of, end_of_node}
+use Rattle.lone_laws.proofs.Words.{end_of_node_alone, end_view, eqb-true, errors_found, first_lack, handles, is_up, is_up_read, lack, lack_since, needs}
+use Rattle.lone_laws.proofs.Words.{noted_by_deeds, option_map_or, port_at, reply_since, same_end, session_now, spare, spare_with_link, takes_up, view_with_link}
+use Rattle.lone_laws.proofs.Words.{waiting_at, with_port}
 use Rattle.trace_model.specs.declared.entry.Entry.TheVariants as entry
-use Rattle.trace_model.specs.declared.line.End.{End}
 use Rattle.shdlc_core.specs.declared.answers.LinkState.TheVariants.{Up as IsUpNow}
-use Rattle.link_laws.specs.sessions.Sessions.{is_up}
-use Rattle.history.specs.Filters.{same_end}
-use Rattle.hci_tables.specs.Tables.{AreTables}
-use Rattle.tables_laws.specs.tables.Changes.{JoinTwo}
-use Rattle.link_laws.specs.machine.Machine.{Message, spare}
-use Rattle.link_laws.specs.machine.Machine.Turn.{FetchMessage}
-use Rattle.node_machine.specs.Parts.{Core, Port, Work, Deed}
-use Rattle.node_machine.specs.Parts.Deed.{Sends}
-use Rattle.node_machine.specs.Carrying.{end_of_node, end_view, port_at, changed_if, with_port, after_turn, all_done, needs, first_lack, lack}
-use Rattle.node_machine.specs.Turns.{deeds_for, deeds_of, handles}
-use Rattle.node_machine.specs.world.NodeFilters.{session_now}
-use Rattle.node_laws.specs.answers.Moments.{is_up_read}
-use Rattle.node_laws.specs.passes.Passing.{waiting_at, lacking, takes_up}
-use Rattle.node_laws.specs.passes.Noting.{noted_by_deeds}
-use Rattle.node_laws.proofs.Cases.{by_test}
+use Rattle.node_laws.specs.passes.Passing.{lacking}
 use Rattle.node_laws.proofs.passes.Notes.{deeds_note}
 use Rattle.node_laws.proofs.passes.Passing.{takes_entries}
 use Rattle.node_laws.proofs.passes.Counts.{taken_at_once}
 use Rattle.node_laws.proofs.views.Setting.{IsUpAt}
-use Rattle.lone_laws.specs.alone.Lone.{end_of_node_alone}
-use Rattle.lone_laws.specs.alone.Known.{errors_found, errors_since, core_since}
-use Rattle.lone_laws.specs.alone.Known.{end_since, spare_since, spare_with_link, view_with_link, reply_since}
-use Rattle.node_laws.specs.views.Errors.{ErrorCount, errors_after, errors_set_by, leads_to_link_gate}
-use Rattle.node_laws.proofs.reply_passes.Sides.{IsNoBoot, AreNoBoots}
-use Rattle.lone_laws.specs.alone.Known.{lack_since}
+use Rattle.lone_laws.specs.alone.Known.{errors_since}
+use Rattle.lone_laws.specs.alone.Known.{end_since, spare_since}
+use Rattle.node_laws.specs.views.Errors.{errors_after, errors_set_by, leads_to_link_gate}
 use Rattle.lone_laws.proofs.answered.Reading.{eqb_same, Read, core_is, Alone}
 use Rattle.lone_laws.proofs.answered.Linked.{one_deeds, one_lack}
 use Rattle.lone_laws.proofs.answered.Turning.{same_self, own_end, IsHere, alone_here, link_is}

@@ -1,34 +1,15 @@
 -- What a node alone notes of a message that has its turn is the reply that is read.
 use Rattle.std.proofs.Common.{◌≡◌, ℕ, Bool, true, false, cond, eqb, ◌||◌, List, [], ◌∷◌, ◌++◌, refl, sym, ap, ap₂, subst, ◌∙◌}
 use Rattle.std.specs.Prelude.{Option, Some, None}
-use Rattle.std.specs.List.{AllByRecursion, filter, list_any}
-use Rattle.std.specs.Option.{option_map_or}
-use Rattle.std.proofs.lemmas.Bool.{true≢false, eqb-true}
-use Rattle.trace_model.specs.declared.entry.Entry.{Entry}
+use Rattle.lone_laws.proofs.Words.{AllByRecursion, AreNoBoots, Command, Commits, Core, Deed, Drops, End, Entry, Give, IsAnswered, IsNoBoot, LinkState, Message}
+use Rattle.lone_laws.proofs.Words.{Port, SaysOk, Sends, SetsErrors, Work, Write, all_done, body_of, by_test, changed_if, commit_writes, core_with, count_of}
+use Rattle.lone_laws.proofs.Words.{done, end_of, end_of_node, end_of_node_alone, entries_for, eqb-true, filter, give_refusal, goes_in, is_up, keeps, lack}
+use Rattle.lone_laws.proofs.Words.{list_any, loses_power, needs, noted_by_deeds, noted_of, noting, option_map_or, own_side, port_at, to_command, true≢false}
+use Rattle.lone_laws.proofs.Words.{unless_cut, with_port}
 use Rattle.trace_model.specs.declared.entry.Entry.TheVariants as entry
-use Rattle.trace_model.specs.declared.line.End.{End}
-use Rattle.shdlc_core.specs.declared.answers.LinkState.{LinkState}
 use Rattle.shdlc_core.specs.declared.answers.LinkState.TheVariants.{Down as IsDown, Waiting as IsWaitingNow, Up as IsUpNow}
-use Rattle.link_laws.specs.sessions.Sessions.{is_up}
-use Rattle.journal_laws.specs.Writes.{Write}
-use Rattle.journal_laws.specs.Journal.{count_of}
-use Rattle.hci_tables.specs.declared.command.Command.{Command}
-use Rattle.hci_tables.specs.Bodies.{body_of}
-use Rattle.hci_store.specs.Committing.{commit_writes}
-use Rattle.link_laws.specs.machine.Machine.{Message, give_refusal}
-use Rattle.link_laws.specs.machine.Machine.Turn.{Give}
 use Rattle.link_laws.specs.entries.Entries.{sent_unless}
-use Rattle.history.specs.Steps.{end_of, entries_for}
-use Rattle.node_machine.specs.Parts.{Core, Port, Work, Deed}
-use Rattle.node_machine.specs.Parts.Deed.{Commits, Sends, SaysOk, IsAnswered, Drops, SetsErrors}
-use Rattle.node_machine.specs.Carrying.{own_side, end_of_node, noting, port_at, changed_if, with_port, noted_of, unless_cut, loses_power, keeps, done}
-use Rattle.node_machine.specs.Carrying.{all_done, needs, lack}
-use Rattle.node_laws.specs.passes.Noting.{noted_at, goes_in, noted_by_deeds}
-use Rattle.lone_laws.specs.alone.Lone.{end_of_node_alone}
-use Rattle.lone_laws.specs.alone.Known.{core_with}
-use Rattle.node_laws.specs.answers.Answered.{to_command}
-use Rattle.node_laws.proofs.Cases.{by_test}
-use Rattle.node_laws.proofs.reply_passes.Sides.{IsNoBoot, AreNoBoots}
+use Rattle.node_laws.specs.passes.Noting.{noted_at}
 use Rattle.lone_laws.proofs.answered.Mine.{is_own_answer, is_own_turn, is_own_cut, to_turn, AnswersOwn}
 use Rattle.lone_laws.proofs.answered.Reading.{eqb_same}
 use Rattle.lone_laws.proofs.answered.Turning.{own_end}

@@ -1,45 +1,26 @@
 -- Sessions of a node alone end by resets exactly where they are asked for.
 use Rattle.std.proofs.Common.{ℕ, ◌≤◌, Bool, true, false, cond, List, [], ◌∷◌, map, Option, Some, None, refl}
-use Rattle.std.specs.List.{AllByRecursion}
+use Rattle.lone_laws.proofs.Words.{Acked, Active, AllByRecursion, Control, Core, Down, End, Entry, FrameComes, FrameIsRefused, GaveUp, Got, IsResetAlone}
+use Rattle.lone_laws.proofs.Words.{LinkEnd, LinkInput, LinkState, Lone, LoneCause, LpduFault, NodeInput, Report, ResetComes, Running, Sound, StartComes}
+use Rattle.lone_laws.proofs.Words.{StopComes, TickComes, Up, Work, after_input, all_come, cond_both, control_of, emits_behind, entries_for, frames_behind}
+use Rattle.lone_laws.proofs.Words.{if_so, is_open, is_up, is_up_read, list_any, lone_arrival, lone_end, lone_input, lpdu_input, lpdu_of, node_input, own_side}
+use Rattle.lone_laws.proofs.Words.{report, reset_refusal, session_now, session_with, tick_answer, told, told_at, whole_acked}
 use Rattle.trace_model.specs.declared.entry.Entry.TheVariants as entry
 use Rattle.link_laws.specs.entries.Entries.{End as Side}
-use Rattle.history.specs.Steps.{entries_for}
-use Rattle.node_machine.specs.Parts.{Core, Work}
-use Rattle.node_machine.specs.Carrying.{own_side}
-use Rattle.node_machine.specs.Node.{NodeInput}
 use Rattle.std.proofs.Common.{◌≡◌, ◌++◌, ◌||◌, eqb, sym, ap, subst, ◌∙◌}
-use Rattle.std.proofs.lemmas.Bool.{cond_both}
 use Rattle.std.specs.Prelude.{is_some, option_to_list, nat_lt}
-use Rattle.std.specs.List.{list_any}
-use Rattle.swp_base.specs.declared.control_frames.Control.{Control}
 use Rattle.swp_base.specs.declared.link_terms.Cause.{Cause as EndedBy}
 use Rattle.swp_base.specs.declared.link_terms.Cause.TheVariants.{Asked, Act as ByAct}
-use Rattle.swp_lpdu.specs.declared.LpduFault.{LpduFault}
-use Rattle.swp_lpdu.specs.Controls.{lpdu_of, control_of}
-use Rattle.trace_model.specs.declared.entry.Entry.{Entry}
-use Rattle.trace_model.specs.declared.line.End.{End}
-use Rattle.shdlc_core.specs.declared.answers.LinkState.{LinkState}
 use Rattle.shdlc_core.specs.declared.answers.LinkState.TheVariants.{Up as IsUpNow, Waiting as IsWaitingNow, Down as IsDown}
-use Rattle.shdlc_core.specs.Machine.{tick_answer}
-use Rattle.link_laws.specs.sessions.Sessions.{is_up}
-use Rattle.link_laws.specs.machine.Machine.{LinkEnd, LinkInput, Report, after_input, report, ended_by, ended_by_reset, reset_refusal}
-use Rattle.link_laws.specs.machine.Machine.{whole_acked, lpdu_input, is_open}
-use Rattle.link_laws.specs.entries.Entries.{Entry as Noted, told, if_so}
-use Rattle.link_laws.specs.entries.Entries.Entry.{Up, Down, Active, GaveUp, Acked, Got}
+use Rattle.link_laws.specs.machine.Machine.{ended_by, ended_by_reset}
+use Rattle.link_laws.specs.entries.Entries.{Entry as Noted}
 use Rattle.node_laws.proofs.passes.Before.{come_entries}
 use Rattle.node_laws.proofs.passes.InSteps.{IsOfStep, step_keeps}
-use Rattle.node_machine.specs.world.NodeFilters.{session_now}
-use Rattle.node_laws.specs.answers.Moments.{is_up_read}
 use Rattle.node_laws.proofs.telling.Reported.{rest_all}
-use Rattle.lone_laws.specs.alone.Lone.{Lone, LoneCause, lone_end, lone_input, node_input, lone_arrival, emits_behind, frames_behind, session_with}
-use Rattle.lone_laws.specs.alone.Lone.LoneCause.{FrameComes, FrameIsRefused, TickComes, ResetComes, StartComes, StopComes}
-use Rattle.lone_laws.specs.alone.Answers.{is_asked_down, is_reset_alone, IsResetAlone}
+use Rattle.lone_laws.specs.alone.Answers.{is_asked_down, is_reset_alone}
 use Rattle.swp_act.specs.declared.ActEvent.TheVariants.{Tick as ActTick}
 use Rattle.link_laws.specs.machine.Machine.{ended_by_act}
-use Rattle.link_laws.proofs.machine.Runs.{Sound}
 use Rattle.std.specs.Prelude.{Result, Ok, Err}
-use Rattle.node_machine.specs.Parts.{Running}
-use Rattle.node_machine.specs.Node.{all_come, told_at}
 use Rattle.lone_laws.proofs.answered.Reading.{Alone}
 use Rattle.lone_laws.proofs.answered.Coming.{came_entries, came_is}
 use Rattle.lone_laws.proofs.answered.Stepping.{lone_comes}

@@ -1,22 +1,14 @@
 -- In an event of a node alone turns stand in the order of their links, since it has one, and nothing comes behind an answer.
 use Rattle.std.proofs.Common.{◌≡◌, ℕ, ◌≤◌, List, [], ◌∷◌, ◌++◌, map, refl, sym, ap, subst, arith}
 use Rattle.std.specs.Prelude.{◌==◌, if◌then◌else◌, Some, None}
-use Rattle.std.specs.List.{AllByRecursion, cons_option, filter_map}
-use Rattle.swp_base.specs.declared.control_frames.Control.{Control}
-use Rattle.swp_lpdu.specs.Controls.{lpdu_of}
-use Rattle.trace_model.specs.declared.entry.Entry.{Entry}
+use Rattle.lone_laws.proofs.Words.{AllByRecursion, Control, End, Entry, FrameComes, HearsFirstAlone, Lone, LoneCause, NodeInput, Work, by_test, lone_arrival}
+use Rattle.lone_laws.proofs.Words.{lpdu_of, steps}
+use Rattle.std.specs.List.{cons_option, filter_map}
 use Rattle.trace_model.specs.declared.entry.Entry.TheVariants as entry
-use Rattle.trace_model.specs.declared.line.End.{End}
-use Rattle.node_machine.specs.Node.{NodeInput, steps}
-use Rattle.node_machine.specs.Parts.{Work}
 use Rattle.node_machine.specs.world.World.{node_of}
 use Rattle.node_laws.specs.answers.Order.{IsAscending, turn_link}
-use Rattle.node_laws.proofs.Cases.{by_test}
 use Rattle.node_laws.proofs.worlds.Hearing.{AreUnanswered, AreUnheard, IsParted, step_parted}
 use Rattle.node_laws.proofs.worlds.Order.{first_heard, parted_for}
-use Rattle.lone_laws.specs.alone.Lone.{Lone, LoneCause, lone_arrival}
-use Rattle.lone_laws.specs.alone.Lone.LoneCause.{FrameComes}
-use Rattle.lone_laws.specs.alone.Answers.{HearsFirstAlone}
 use Rattle.lone_laws.proofs.answered.Ordered.{IsAtEnd}
 
 -- ## Turns

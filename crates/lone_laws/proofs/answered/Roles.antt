@@ -1,24 +1,16 @@
 -- An end of a CLF stays one, and so does an end of a UICC; what each takes of activation.
 use Rattle.std.proofs.Common.{◌≡◌, Bool, true, false, cond, ◌++◌, refl, ◌∙◌}
 use Rattle.std.specs.Prelude.{Option, Some, None, is_some}
-use Rattle.std.proofs.lemmas.Bool.{cond_both}
-use Rattle.swp_base.specs.declared.control_frames.Control.{Control}
-use Rattle.swp_base.specs.declared.control_frames.Control.TheVariants.{I, S, Rset, Ua, Act as ActFrame, Clt}
-use Rattle.swp_base.specs.declared.control_frames.Act.{Act}
-use Rattle.swp_act.specs.declared.ActEvent.{ActEvent}
+use Rattle.lone_laws.proofs.Words.{Act, ActEvent, Clt, Control, EndState, I, LinkEnd, LinkInput, LinkState, Reset, Rset, S, Start, Stop, Take, TakeUnknown}
+use Rattle.lone_laws.proofs.Words.{Tick, Ua, act_answer, activated, after_input, by_option, cond_both, heard, is_faulty, is_open, moved, put_down}
+use Rattle.lone_laws.proofs.Words.{reset_refusal, reset_with, role_after, stopped, take_answer, taken, tick_answer, ticked, window_of, with_act}
+use Rattle.swp_base.specs.declared.control_frames.Control.TheVariants.{Act as ActFrame}
 use Rattle.swp_act.specs.declared.ActEvent.TheVariants.{Start as ActStart, Take as ActTake, Tick as ActTick, Stop as ActStop}
-use Rattle.shdlc_core.specs.declared.answers.LinkState.{LinkState}
 use Rattle.shdlc_core.specs.declared.answers.LinkState.TheVariants.{Up as IsUpNow}
-use Rattle.shdlc_core.specs.Machine.{EndState, taken, take_answer, ticked, tick_answer, stopped, reset_with}
-use Rattle.link_laws.specs.machine.Machine.{LinkEnd, LinkInput, is_open, is_faulty, moved, put_down, with_act, activated, act_answer, role_after}
-use Rattle.link_laws.specs.machine.Machine.{heard}
 use Rattle.link_laws.specs.machine.Machine.{news}
-use Rattle.link_laws.specs.machine.Machine.{window_of, reset_refusal, after_input}
-use Rattle.link_laws.specs.machine.Machine.LinkInput.{Take, TakeUnknown, Tick, Reset, Start, Stop}
 use Rattle.lone_laws.proofs.answered.Coming.{IsLoneInput}
 use Rattle.link_laws.specs.machine.Machine.{Role}
 use Rattle.link_laws.specs.machine.Machine.Role.{Bare, Clf, Uicc}
-use Rattle.node_laws.proofs.Cases.{by_option}
 
 -- an end of a CLF, or of a UICC
 abbrev pub kind_of : Role → Option Bool

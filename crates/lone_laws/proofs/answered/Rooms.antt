@@ -2,40 +2,24 @@
 use Rattle.std.proofs.Common.{◌≡◌, ℕ, zero, suc, ◌<◌, ◌+◌, ◌-◌, Bool, true, false, cond, eqb, not, List, [], ◌∷◌, ◌++◌, length, refl, sym, ap, subst}
 use Rattle.std.proofs.Common.{◌∙◌, append_assoc, append-nil, arith}
 use Rattle.std.specs.Prelude.{Some, None}
-use Rattle.std.specs.Option.{option_map_or}
-use Rattle.std.proofs.lemmas.Bool.{true≢false, eqb-true}
-use Rattle.trace_model.specs.declared.entry.Entry.{Entry}
+use Rattle.lone_laws.proofs.Words.{Command, Commits, Deed, Desk, Drops, End, EndState, Entry, FetchMessage, Give, Hold, IsAnswered, LinkEnd, LinkState, Message}
+use Rattle.lone_laws.proofs.Words.{Port, Release, Releases, SaysOk, Sends, SetAside, SetsErrors, Sound, Turn, Work, after_turn, body_of, by_option, by_test}
+use Rattle.lone_laws.proofs.Words.{changed_if, commit, commit_writes, done, end_of, end_of_node, end_of_node_alone, entries_for, eqb-true, fails_within}
+use Rattle.lone_laws.proofs.Words.{give_refusal, is_up, keeps, loses_power, noted_of, noting, option_map_or, own_side, port_at, same_end, sent_all, spare}
+use Rattle.lone_laws.proofs.Words.{spare_at, true≢false, turn, turn_at, whole_acked, with_desk, with_port}
 use Rattle.trace_model.specs.declared.entry.Entry.TheVariants as entry
-use Rattle.trace_model.specs.declared.line.End.{End}
-use Rattle.shdlc_core.specs.declared.answers.LinkState.{LinkState}
 use Rattle.shdlc_core.specs.declared.answers.LinkState.TheVariants.{Down as IsDown, Waiting as IsWaitingNow, Up as IsUpNow}
-use Rattle.shdlc_core.specs.Machine.{EndState, most_frames, after_frames, fetched}
-use Rattle.link_laws.specs.sessions.Sessions.{is_up}
+use Rattle.shdlc_core.specs.Machine.{most_frames, after_frames, fetched}
 use Rattle.hcp_packet.specs.Packets.{IsSendable, packet_count, fragments_of}
-use Rattle.journal_laws.specs.Planned.{fails_within}
-use Rattle.hci_tables.specs.declared.command.Command.{Command}
-use Rattle.hci_tables.specs.Bodies.{body_of}
-use Rattle.hci_store.specs.Committing.{commit_writes}
-use Rattle.link_laws.specs.machine.Machine.{Message, LinkEnd, Turn, turn, given, give_refusal, sent_all, whole_among, whole_acked, in_use}
-use Rattle.link_laws.specs.machine.Machine.{spare}
+use Rattle.link_laws.specs.machine.Machine.{given, whole_among, in_use}
 use Rattle.link_laws.specs.machine.Machine.Refused.{NotUp}
-use Rattle.link_laws.specs.machine.Machine.Turn.{Give, Hold, FetchMessage, SetAside, Release}
 use Rattle.link_laws.proofs.machine.Sound.{whole_given}
-use Rattle.link_laws.proofs.machine.Runs.{Sound, sound_turn}
+use Rattle.link_laws.proofs.machine.Runs.{sound_turn}
 use Rattle.link_laws.proofs.places.Joined.{ready_cases}
 use Rattle.link_laws.proofs.places.Joined.{fetch_cases}
 use Rattle.link_laws.specs.entries.Entries.{End as Side, turn_entry}
 use Rattle.link_laws.proofs.entries.Stepping.{fetched_acked}
-use Rattle.history.specs.Filters.{same_end}
-use Rattle.history.specs.Steps.{end_of, entries_for}
-use Rattle.node_machine.specs.Parts.{Desk, Port, Work, Deed}
-use Rattle.node_machine.specs.Parts.Deed.{Commits, Sends, SaysOk, Releases, IsAnswered, Drops, SetsErrors}
-use Rattle.node_machine.specs.Carrying.{own_side, end_of_node, noting, port_at, changed_if, with_port, with_desk, after_turn, noted_of, turn_at, loses_power}
-use Rattle.node_machine.specs.Carrying.{keeps, commit, done}
-use Rattle.node_machine.specs.world.NodeFilters.{spare_at}
-use Rattle.node_laws.proofs.Cases.{by_test, by_option}
 use Rattle.node_laws.proofs.links.Deeds.{IsFine}
-use Rattle.lone_laws.specs.alone.Lone.{end_of_node_alone}
 use Rattle.lone_laws.proofs.answered.Own.{IsOwnDeed}
 use Rattle.lone_laws.proofs.answered.Roles.{kind_of}
 use Rattle.lone_laws.proofs.answered.Turning.{same_self, own_end}

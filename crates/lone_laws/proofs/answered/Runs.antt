@@ -3,55 +3,35 @@ use Rattle.std.proofs.Common.{◌≡◌, ◌⊎◌, inl, inr, ℕ, ◌+◌, ◌-
 use Rattle.std.proofs.Common.{subst, ◌∙◌, arith}
 use Rattle.std.proofs.Common.{append_assoc, append-nil}
 use Rattle.std.specs.Prelude.{min, Option, Some, None, is_some, IsSome}
-use Rattle.std.specs.List.{AllByRecursion}
-use Rattle.std.specs.Option.{option_map_or}
-use Rattle.std.proofs.lemmas.Bool.{true≢false}
-use Rattle.swp_base.specs.InMemory.{Memory}
-use Rattle.swp_base.specs.declared.control_frames.Control.{Control}
-use Rattle.swp_lpdu.specs.Controls.{lpdu_of}
-use Rattle.trace_model.specs.declared.entry.Entry.{Entry}
-use Rattle.trace_model.specs.declared.line.End.{End}
+use Rattle.lone_laws.proofs.Words.{AllByRecursion, AreTables, Command, Control, Core, CountsAll, Deed, End, Entry, FetchMessage, FindsBehind, FrameComes}
+use Rattle.lone_laws.proofs.Words.{FrameIsRefused, HciTables, Hold, IsReadyMemory, IsRecordable, LinkInput, Lone, LoneCause, LoneEvent, Memory, Message, Port}
+use Rattle.lone_laws.proofs.Words.{Running, Work, after_commands, after_planned, after_writes, all_come, all_done, boot_writes, by_option, by_test, close}
+use Rattle.lone_laws.proofs.Words.{comes_to_pass, commands_of_entries, count_of, counted, current, deeds_of, does_by_power, emits_behind, end_of_node}
+use Rattle.lone_laws.proofs.Words.{entries_of_events_alone, fails_within, format_writes, formatted, found, frames_behind, handles, holds_back, hosts_of_ends}
+use Rattle.lone_laws.proofs.Words.{lack, lone_after, lone_arrival, lone_behind_step, lone_end, lone_events, lone_input, lone_step, lone_work, lpdu_of, needs}
+use Rattle.lone_laws.proofs.Words.{node_input, noted_of_refused, noting, option_map_or, passes, planned_whole, port_at, session_with, state_of, steps}
+use Rattle.lone_laws.proofs.Words.{steps_are, syncs_in, tables_of, true≢false, turn_at, waiting_at, with_desk, with_refusal}
 use Rattle.trace_model.specs.declared.entry.Entry.TheVariants as entry
 use Rattle.journal_laws.specs.declared.banks.Side.{Side}
-use Rattle.journal_laws.specs.Banks.{current}
-use Rattle.journal_laws.specs.Journal.{count, count_of, state_of}
-use Rattle.journal_laws.specs.Operations.{format_writes, formatted, started_state}
-use Rattle.journal_laws.specs.Planned.{after_planned, fails_within}
-use Rattle.journal_laws.specs.Writes.{after_writes}
-use Rattle.hci_tables.specs.declared.command.Command.{Command}
-use Rattle.hci_store.specs.Image.{tables_of}
-use Rattle.hci_tables.specs.Tables.{HciTables, AreTables, after_commands, close}
-use Rattle.hci_store.specs.Recordable.{IsRecordable}
+use Rattle.journal_laws.specs.Journal.{count}
+use Rattle.journal_laws.specs.Operations.{started_state}
 use Rattle.hci_store.proofs.Applying.{sound_has_no_fault}
 use Rattle.hci_store.proofs.Closing.{close-close}
-use Rattle.hci_store.proofs.Starting.{counted}
-use Rattle.link_laws.specs.machine.Machine.{LinkInput, Message, is_held}
-use Rattle.link_laws.specs.machine.Machine.Turn.{FetchMessage, Hold}
-use Rattle.node_machine.specs.Parts.{Core, Port, Running, Work, Deed}
-use Rattle.node_machine.specs.Carrying.{all_done, end_of_node, lack, needs, noting, port_at, turn_at, with_desk}
-use Rattle.node_machine.specs.Turns.{deeds_of, goes_through_ends, handles, have_turns, holds_back, lets_go, passes}
-use Rattle.node_machine.specs.Node.{all_come, boot_writes, found, steps}
+use Rattle.link_laws.specs.machine.Machine.{is_held}
+use Rattle.node_machine.specs.Turns.{goes_through_ends, have_turns, lets_go}
 use Rattle.node_machine.specs.world.World.{runs_on}
-use Rattle.node_laws.specs.kept.Books.{WaitsAt, hosts_of_ends}
+use Rattle.node_laws.specs.kept.Books.{WaitsAt}
 use Rattle.node_machine.specs.Orders.{IsOnOrder}
 use Rattle.node_laws.specs.kept.Deeds.{MayBeDone}
-use Rattle.node_laws.proofs.Cases.{by_option, by_test}
 use Rattle.node_laws.proofs.kept.Booting.{good_found}
 use Rattle.node_laws.proofs.kept.HostsReply.{OneOrNone, host_may}
 use Rattle.node_laws.proofs.kept.Plainly.{plainly_desk, plainly_noting, plainly_then, plainly_turn}
-use Rattle.node_laws.proofs.kept.Planned.{planned_cut, planned_whole}
+use Rattle.node_laws.proofs.kept.Planned.{planned_cut}
 use Rattle.node_laws.proofs.kept.Replies.{controller_may}
 use Rattle.node_laws.proofs.kept.Stepping.{one_may, plainly_come, syncs_one}
-use Rattle.node_laws.specs.passes.Passing.{waiting_at}
-use Rattle.node_laws.specs.passes.Steps.{comes_to_pass, syncs_in}
-use Rattle.node_laws.proofs.passes.Before.{steps_are}
 use Rattle.node_laws.proofs.passes.Passing.{handles_sees}
-use Rattle.lone_laws.specs.alone.Lone.{Lone, LoneCause, LoneEvent, lone_after, lone_arrival, lone_behind_step, lone_booted, lone_end, lone_events, lone_input}
-use Rattle.lone_laws.specs.alone.Lone.{does_by_power, emits_behind, lone_step, lone_work, node_input, session_with, with_refusal}
-use Rattle.lone_laws.specs.alone.Lone.{frames_behind, noted_of_refused}
-use Rattle.lone_laws.specs.alone.Lone.LoneCause.{FrameComes, FrameIsRefused}
-use Rattle.lone_laws.specs.alone.Answers.{entries_of_events_alone}
-use Rattle.lone_laws.specs.alone.Memories.{CountsAll, FindsAllButLast, FindsBehind, IsHeldBehind, IsReadyMemory, commands_of_entries}
+use Rattle.lone_laws.specs.alone.Lone.{lone_booted}
+use Rattle.lone_laws.specs.alone.Memories.{FindsAllButLast, IsHeldBehind}
 use Rattle.lone_laws.proofs.answered.Coming.{IsLoneInput, pass_is}
 use Rattle.lone_laws.proofs.answered.Lasting.{LoneKeeps, arrival_nothing, begins_alone, step_is}
 use Rattle.lone_laws.proofs.answered.Finding.{FindsIf, KnowsIf, fault_none, finds_counting, knows_formatted, left_formatted}

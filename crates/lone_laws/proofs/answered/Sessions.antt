@@ -3,19 +3,16 @@ use Rattle.std.proofs.Common.{◌≡◌, ℕ, zero, suc, ◌+◌, ◌<◌, ◌�
 use Rattle.std.proofs.Common.{sym, ap, ap₂, subst, ◌∙◌, append_assoc}
 use Rattle.std.proofs.Common.{append-nil, arith}
 use Rattle.std.specs.Prelude.{drop, max, not, ◌&&◌, Option, Some, None, is_some}
-use Rattle.std.specs.List.{AllByRecursion, filter_map}
+use Rattle.lone_laws.proofs.Words.{AllByRecursion, End, Entry, Message, by_test, fold-append, same_end, session_now, spare_at}
+use Rattle.std.specs.List.{filter_map}
 use Rattle.std.proofs.lemmas.Grind.{common_steps}
 use Rattle.std.proofs.lemmas.List.Elements.{filter_map-append}
-use Rattle.std.proofs.lemmas.List.Sums.{fold-append}
 use Rattle.swp_base.specs.declared.link_terms.Cause.{Cause as EndedBy}
-use Rattle.trace_model.specs.declared.entry.Entry.{Entry}
 use Rattle.trace_model.specs.declared.entry.Entry.TheVariants as entry
-use Rattle.trace_model.specs.declared.line.End.{End}
-use Rattle.link_laws.specs.machine.Machine.{Message, need_of_all}
-use Rattle.history.specs.Filters.{Saying, same_end, said_of, sent_by, sent_in, acked_after, acked_in}
+use Rattle.link_laws.specs.machine.Machine.{need_of_all}
+use Rattle.history.specs.Filters.{Saying, said_of, sent_by, sent_in, acked_after, acked_in}
 use Rattle.history.specs.Filters.Saying.{Begins, Ends, Sends, Gets, Counts, Puts, Takes, Loses}
-use Rattle.node_machine.specs.world.NodeFilters.{asking_after, asking_in, session_now, spare_at, unacknowledged_in}
-use Rattle.node_laws.proofs.Cases.{by_test}
+use Rattle.node_machine.specs.world.NodeFilters.{asking_after, asking_in, unacknowledged_in}
 
 -- what an end has of its session: its number, while there is one, the messages sent in it, and how many of them are acknowledged
 pub record Talk : Type 0 where

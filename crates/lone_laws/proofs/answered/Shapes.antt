@@ -1,10 +1,9 @@
 -- What a node with one link does with a message: nothing, or one message is dropped or sent, behind a command or REC_ERROR, if at all.
 use Rattle.std.proofs.Common.{◌≡◌, ℕ, Bool, true, false, cond, eqb, List, [], ◌∷◌, map, sym, ap, ◌∙◌}
 use Rattle.std.specs.Prelude.{Option, Some, None}
-use Rattle.std.specs.List.{AllByRecursion}
-use Rattle.hci_tables.specs.declared.command.Command.{Command}
+use Rattle.lone_laws.proofs.Words.{AllByRecursion, Command, Commits, Core, Creation, Deed, Drops, IsAnswered, JoinTwo, Message, Port, SaysOk, Sends, SetsErrors}
+use Rattle.lone_laws.proofs.Words.{Tells, asked_at, by_option, by_test, controller_deeds, creation_in, end_view, host_deeds, own_view, port_at, view_of}
 use Rattle.hci_tables.specs.declared.command.Command.TheVariants.{Create, Delete, Clear}
-use Rattle.tables_laws.specs.tables.Changes.{JoinTwo}
 use Rattle.gate_answers.specs.declared.response.Response.TheVariants as response
 use Rattle.gate_answers.specs.Answers.{answer_of, body_in}
 use Rattle.gate_admin.specs.declared.view.LinkView.{LinkView}
@@ -15,15 +14,11 @@ use Rattle.gate_admin.specs.Decide.{decided}
 use Rattle.gate_identity.specs.Identity.{identity_served}
 use Rattle.gate_link.specs.Link.{link_served}
 use Rattle.tables_laws.proofs.gate.Decisions.{decided_tells_others}
-use Rattle.link_laws.specs.machine.Machine.{Message}
-use Rattle.node_machine.specs.Parts.{Creation, Core, Port, Deed}
-use Rattle.node_machine.specs.Parts.Deed.{Commits, Sends, SaysOk, Tells, IsAnswered, Drops, SetsErrors}
-use Rattle.node_machine.specs.Carrying.{port_at, finds_room, own_view, end_view}
-use Rattle.node_machine.specs.Controller.{creation_in, asked_at, view_for, commit_deeds, decision_deeds, link_deeds, gates, controller_deeds, view_of}
-use Rattle.node_machine.specs.HostReplies.{accepts, ordered_deeds, host_deeds}
+use Rattle.node_machine.specs.Carrying.{finds_room}
+use Rattle.node_machine.specs.Controller.{view_for, commit_deeds, decision_deeds, link_deeds, gates}
+use Rattle.node_machine.specs.HostReplies.{accepts, ordered_deeds}
 use Rattle.node_machine.proofs.Walks.{controller_holds, ordered_holds, host_holds}
 use Rattle.lone_laws.proofs.answered.Own.{TellsNobody, tells_nobody, asks_nobody}
-use Rattle.node_laws.proofs.Cases.{by_option, by_test}
 
 pub data IsLoneReply : List Deed → Type 0 where
   IsNone : IsLoneReply []

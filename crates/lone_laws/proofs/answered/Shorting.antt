@@ -2,27 +2,15 @@
 use Rattle.std.proofs.Common.{◌≡◌, ℕ, ◌≤◌, Bool, true, false, cond, eqb, ◌||◌, List, [], ◌∷◌, ◌++◌, map, refl, sym, ap, ap₂, subst, ◌∙◌, append_assoc}
 use Rattle.std.proofs.Common.{append-nil}
 use Rattle.std.specs.Prelude.{Option, Some, None, is_some, is_none}
-use Rattle.std.specs.List.{AllByRecursion, fold}
-use Rattle.std.specs.Option.{option_map_or, option_and_then}
-use Rattle.std.proofs.lemmas.List.Sums.{fold-append}
-use Rattle.registry.proofs.ValueLemmas.{AllByRecursion-append}
-use Rattle.swp_base.specs.declared.control_frames.Control.{Control}
-use Rattle.swp_lpdu.specs.Controls.{lpdu_of}
-use Rattle.trace_model.specs.declared.entry.Entry.{Entry}
+use Rattle.lone_laws.proofs.Words.{AllByRecursion, AllByRecursion-append, BeginWithTurn, ComesTo, Control, Core, End, Entry, ErrorCount, LinkInput, Lone}
+use Rattle.lone_laws.proofs.Words.{LoneCause, Message, Port, Running, Work, core_noted, core_since, deeds_for, emits_behind, end_of_node, end_of_node_alone}
+use Rattle.lone_laws.proofs.Words.{errors_found, first_lack, fold, fold-append, frames_behind, is_up_read, lack_since, lone_input, lpdu_of, needs, oldest}
+use Rattle.lone_laws.proofs.Words.{option_map_or, session_with, spare_at, spare_with_link, unhandled_after, unhandled_in, view_with_link, waiting_at}
+use Rattle.std.specs.Option.{option_and_then}
 use Rattle.trace_model.specs.declared.entry.Entry.TheVariants as entry
-use Rattle.trace_model.specs.declared.line.End.{End}
-use Rattle.link_laws.specs.machine.Machine.{Message, LinkInput, oldest}
-use Rattle.node_machine.specs.Parts.{Core, Running, Port, Work}
-use Rattle.node_machine.specs.Carrying.{end_of_node, end_of_number, needs, first_lack}
-use Rattle.node_machine.specs.Turns.{deeds_for}
-use Rattle.node_machine.specs.world.NodeFilters.{spare_at}
-use Rattle.node_laws.specs.answers.Moments.{is_up_read, unhandled_after, unhandled_in}
-use Rattle.node_laws.specs.passes.Passing.{BeginWithTurn, AreAlong, links_of_turns, ComesTo, IsBehind, Stays, waiting_at, is_held_at}
-use Rattle.lone_laws.specs.alone.Lone.{Lone, LoneCause, end_of_node_alone, lone_input, emits_behind, frames_behind, session_with}
-use Rattle.node_laws.specs.views.Errors.{ErrorCount}
-use Rattle.lone_laws.specs.alone.Known.{errors_found, core_noted, core_since}
-use Rattle.lone_laws.specs.alone.Known.{spare_with_link, view_with_link}
-use Rattle.lone_laws.specs.alone.Known.{errors_since, lack_since}
+use Rattle.node_machine.specs.Carrying.{end_of_number}
+use Rattle.node_laws.specs.passes.Passing.{AreAlong, links_of_turns, IsBehind, Stays, is_held_at}
+use Rattle.lone_laws.specs.alone.Known.{errors_since}
 use Rattle.lone_laws.specs.alone.Answers.{is_left_lacking}
 use Rattle.lone_laws.proofs.answered.Reading.{eqb_same, Read, Alone, left_is}
 use Rattle.lone_laws.proofs.answered.Sessions.{IsSilent, AreSilent, sessions_same, spares_same}

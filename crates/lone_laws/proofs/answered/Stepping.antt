@@ -1,31 +1,15 @@
 -- A node with one link keeps over each event what is read.
 use Rattle.std.proofs.Common.{◌≡◌, ℕ, ◌≤◌, Bool, true, false, List, [], ◌∷◌, refl, sym, subst, ◌∙◌, append-nil}
 use Rattle.std.specs.Prelude.{Some, Result, Ok, Err}
-use Rattle.std.specs.List.{AllByRecursion, flat_map}
-use Rattle.std.proofs.lemmas.Bool.{true≢false, cond_both, and_from, le-leb}
-use Rattle.swp_base.specs.declared.control_frames.Control.{Control}
-use Rattle.swp_lpdu.specs.declared.LpduFault.{LpduFault}
-use Rattle.swp_lpdu.specs.Controls.{control_of}
-use Rattle.trace_model.specs.declared.entry.Entry.{Entry}
-use Rattle.trace_model.specs.declared.line.End.{End}
+use Rattle.lone_laws.proofs.Words.{AllByRecursion, ComesTo, Commits, Control, Core, End, Entry, FrameComes, FrameIsRefused, IsCommand, LinkInput, LoneCause}
+use Rattle.lone_laws.proofs.Words.{LpduFault, NodeInput, Port, ResetComes, StartComes, StopComes, TickComes, Work, all_come, all_do, all_done, by_option}
+use Rattle.lone_laws.proofs.Words.{comes_to_pass, cond_both, control_of, end_of_node_alone, flat_map, hosts_of_ends, input_at, lone_input, lpdu_input}
+use Rattle.lone_laws.proofs.Words.{node_input, passes, report, steps, steps_are, synced, syncs_in, true≢false, unless_cut}
+use Rattle.std.proofs.lemmas.Bool.{and_from, le-leb}
 use Rattle.hci_tables.specs.declared.command.Command.TheVariants.{Sync}
-use Rattle.hci_tables.specs.Commands.{IsCommand}
-use Rattle.link_laws.specs.machine.Machine.{LinkInput, lpdu_input, report}
-use Rattle.node_machine.specs.Parts.{Core, Port, Work}
-use Rattle.node_machine.specs.Parts.Deed.{Commits}
-use Rattle.node_machine.specs.Carrying.{unless_cut, all_done}
-use Rattle.node_machine.specs.Turns.{passes}
-use Rattle.node_machine.specs.Node.{NodeInput, input_at, synced, steps, all_come}
-use Rattle.node_laws.proofs.Cases.{by_option}
-use Rattle.node_laws.proofs.steps.StepWalks.{all_do}
-use Rattle.node_laws.specs.passes.Passing.{ComesTo, ArePassed}
+use Rattle.node_laws.specs.passes.Passing.{ArePassed}
 use Rattle.node_laws.specs.passes.Passing.ComesTo.{Begins}
-use Rattle.node_laws.specs.passes.Steps.{syncs_in, comes_to_pass}
 use Rattle.node_laws.proofs.passes.Passing.{through, comes_lasts}
-use Rattle.node_laws.proofs.passes.Before.{steps_are}
-use Rattle.node_laws.specs.kept.Books.{hosts_of_ends}
-use Rattle.lone_laws.specs.alone.Lone.{LoneCause, end_of_node_alone, lone_input, node_input}
-use Rattle.lone_laws.specs.alone.Lone.LoneCause.{FrameComes, FrameIsRefused, TickComes, ResetComes, StartComes, StopComes}
 use Rattle.lone_laws.proofs.answered.Own.{IsOwnDeed}
 use Rattle.lone_laws.proofs.answered.Reading.{Read, Alone, alone_does}
 use Rattle.lone_laws.proofs.answered.Turning.{alone_at}

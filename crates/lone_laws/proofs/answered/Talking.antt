@@ -2,37 +2,28 @@
 use Rattle.std.proofs.Common.{◌≡◌, ℕ, ◌<◌, ◌≤◌, ◌-◌, Bool, true, false, cond, List, [], ◌∷◌, ◌++◌, map, refl, sym, ap, ap₂, subst, ◌∙◌, append_assoc}
 use Rattle.std.proofs.Common.{append-nil, arith}
 use Rattle.std.specs.Prelude.{nat_lt, Option, Some, None, is_some, option_to_list}
-use Rattle.std.proofs.lemmas.Bool.{cond_both, ltb-true, ltb-false}
+use Rattle.lone_laws.proofs.Words.{Acked, Act, ActEvent, Active, Clt, Control, Down, End, EndState, Entry, GaveUp, Got, I, LinkEnd, LinkInput, LinkState}
+use Rattle.lone_laws.proofs.Words.{Message, Report, Reset, Rset, S, Sound, Start, Stop, Take, TakeUnknown, Tick, Ua, Up, act_answer, activated, after_input}
+use Rattle.lone_laws.proofs.Words.{began_by, by_option, by_test, cond_both, end_of, entries_for, heard, if_so, is_faulty, is_open, is_up, moved, put_down}
+use Rattle.lone_laws.proofs.Words.{report, reset_refusal, reset_with, role_after, same_end, stopped, take_answer, taken, tick_answer, ticked, told, whole_acked}
+use Rattle.lone_laws.proofs.Words.{window_of, with_act}
+use Rattle.std.proofs.lemmas.Bool.{ltb-true, ltb-false}
 use Rattle.std.proofs.lemmas.List.Concat.{flat_map-append}
-use Rattle.swp_base.specs.declared.control_frames.Control.{Control}
-use Rattle.swp_base.specs.declared.control_frames.Control.TheVariants.{I, S, Rset, Ua, Act as ActFrame, Clt}
-use Rattle.swp_base.specs.declared.control_frames.Act.{Act}
+use Rattle.swp_base.specs.declared.control_frames.Control.TheVariants.{Act as ActFrame}
 use Rattle.swp_base.specs.declared.link_terms.Cause.{Cause as EndedBy}
-use Rattle.swp_act.specs.declared.ActEvent.{ActEvent}
 use Rattle.swp_act.specs.declared.ActEvent.TheVariants.{Start as ActStart, Take as ActTake, Tick as ActTick, Stop as ActStop}
-use Rattle.trace_model.specs.declared.entry.Entry.{Entry}
-use Rattle.trace_model.specs.declared.line.End.{End}
-use Rattle.shdlc_core.specs.declared.answers.LinkState.{LinkState}
 use Rattle.shdlc_core.specs.declared.answers.LinkState.TheVariants.{Down as IsDown, Waiting as IsWaitingNow, Up as IsUpNow}
-use Rattle.shdlc_core.specs.Machine.{EndState, taken, take_answer, ticked, tick_answer, stopped, reset_with}
-use Rattle.link_laws.specs.sessions.Sessions.{is_up}
-use Rattle.link_laws.specs.machine.Machine.{Message, LinkEnd, LinkInput, Report, is_open, is_faulty, moved, put_down, with_act, activated, act_answer}
-use Rattle.link_laws.specs.machine.Machine.{role_after, heard, news}
-use Rattle.link_laws.specs.machine.Machine.{window_of, reset_refusal, after_input, ended_by, began_by, got_by, report}
-use Rattle.link_laws.specs.machine.Machine.{whole_among, whole_acked}
-use Rattle.link_laws.specs.machine.Machine.LinkInput.{Take, TakeUnknown, Tick, Reset, Start, Stop}
+use Rattle.link_laws.specs.machine.Machine.{news}
+use Rattle.link_laws.specs.machine.Machine.{ended_by, got_by}
+use Rattle.link_laws.specs.machine.Machine.{whole_among}
 use Rattle.link_laws.proofs.machine.Shifts.{Shift, IsNotUp}
 use Rattle.link_laws.proofs.machine.Shifts.Shift.{Stays, Ends, Renews, Begins, Rests}
 use Rattle.link_laws.proofs.machine.Sound.{Data, SentAfter, whole_more}
-use Rattle.link_laws.proofs.machine.Runs.{Sound}
 use Rattle.link_laws.proofs.machine.Reports.{Becomes, take_so, tick_so, reset_so, start_so, stop_so}
-use Rattle.link_laws.specs.entries.Entries.{End as Side, Entry as Noted, told, if_so}
-use Rattle.link_laws.specs.entries.Entries.Entry.{Up, Down, Active, GaveUp, Acked, Got}
-use Rattle.history.specs.Filters.{same_end}
-use Rattle.history.specs.Steps.{end_of, entry_of, entries_for}
+use Rattle.link_laws.specs.entries.Entries.{End as Side, Entry as Noted}
+use Rattle.history.specs.Steps.{entry_of}
 use Rattle.lone_laws.proofs.answered.Coming.{IsLoneInput}
 use Rattle.lone_laws.proofs.answered.Sessions.{Talk, no_session_now, AreSilent, Reads, reads_silent, reads_down, reads_up, reads_acked}
-use Rattle.node_laws.proofs.Cases.{by_option, by_test}
 
 -- ## What is told
 

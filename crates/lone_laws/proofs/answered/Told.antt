@@ -1,22 +1,11 @@
 -- What is noted of the deeds of a node alone, one after another, are the entries of a reply of such a node among others.
 use Rattle.std.proofs.Common.{◌≡◌, ℕ, Bool, true, false, cond, eqb, List, [], ◌∷◌, ◌++◌, map, refl, sym, ap, ◌∙◌}
 use Rattle.std.specs.Prelude.{Option, Some, None}
-use Rattle.std.specs.List.{fold}
-use Rattle.std.specs.Option.{option_map_or}
-use Rattle.std.proofs.lemmas.Bool.{eqb-true}
-use Rattle.trace_model.specs.declared.entry.Entry.{Entry}
+use Rattle.lone_laws.proofs.Words.{Command, Commits, Core, Deed, Drops, End, Entry, Message, SaysOk, Sends, by_test, core_noted, core_since, core_with}
+use Rattle.lone_laws.proofs.Words.{count_of, end_of_node_alone, eqb-true, fold, option_map_or}
 use Rattle.trace_model.specs.declared.entry.Entry.TheVariants as entry
-use Rattle.trace_model.specs.declared.line.End.{End}
-use Rattle.journal_laws.specs.Journal.{count_of}
-use Rattle.hci_tables.specs.declared.command.Command.{Command}
-use Rattle.link_laws.specs.machine.Machine.{Message}
-use Rattle.node_machine.specs.Parts.{Core, Deed}
-use Rattle.node_machine.specs.Parts.Deed.{Commits, Sends, SaysOk, Drops}
 use Rattle.node_machine.specs.Carrying.{end_of_number}
 use Rattle.node_laws.specs.passes.Noting.{entries_of_reply, next_count, sent_in_session}
-use Rattle.node_laws.proofs.Cases.{by_test}
-use Rattle.lone_laws.specs.alone.Lone.{end_of_node_alone}
-use Rattle.lone_laws.specs.alone.Known.{core_with, core_noted, core_since}
 use Rattle.lone_laws.specs.alone.Answers.{telling_count}
 use Rattle.lone_laws.proofs.answered.Reading.{eqb_same}
 use Rattle.lone_laws.proofs.answered.Shapes.{IsLoneReply}

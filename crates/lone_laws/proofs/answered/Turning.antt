@@ -1,24 +1,12 @@
 -- What a node with one link keeps is read over each turn of its pass.
 use Rattle.std.proofs.Common.{◌≡◌, ℕ, ◌≤◌, Bool, true, false, cond, eqb, ◌&&◌, List, [], ◌∷◌, ◌++◌, refl, sym, ap, subst, ◌∙◌}
 use Rattle.std.specs.Prelude.{Some, None, drop}
-use Rattle.std.specs.Option.{option_map_or}
-use Rattle.std.proofs.lemmas.Bool.{eqb-true}
-use Rattle.trace_model.specs.declared.entry.Entry.{Entry}
+use Rattle.lone_laws.proofs.Words.{AreTables, ComesTo, Core, End, Entry, FetchMessage, Hold, JoinTwo, LastsOverTurns, Message, Port, Work, after_turn, all_do}
+use Rattle.lone_laws.proofs.Words.{by_test, changed_if, deeds_of, end_of_node, end_of_node_alone, eqb-true, handles, holds_back, lets, noting, option_map_or}
+use Rattle.lone_laws.proofs.Words.{port_at, same_end, takes_up, waiting_at, with_desk, with_port}
 use Rattle.trace_model.specs.declared.entry.Entry.TheVariants as entry
-use Rattle.trace_model.specs.declared.line.End.{End}
-use Rattle.hci_tables.specs.Tables.{AreTables}
-use Rattle.tables_laws.specs.tables.Changes.{JoinTwo}
-use Rattle.link_laws.specs.machine.Machine.{Message}
-use Rattle.link_laws.specs.machine.Machine.Turn.{Hold, FetchMessage}
-use Rattle.history.specs.Filters.{same_end, same_side}
-use Rattle.node_machine.specs.Parts.{Core, Port, Work}
-use Rattle.node_machine.specs.Carrying.{end_of_node, noting, port_at, changed_if, with_port, with_desk, after_turn}
-use Rattle.node_machine.specs.Turns.{deeds_of, handles, holds_back}
-use Rattle.node_laws.proofs.Cases.{by_test}
-use Rattle.node_laws.proofs.steps.StepWalks.{all_do, lets}
-use Rattle.node_laws.specs.passes.Passing.{waiting_at, takes_up, LastsOverTurns, ComesTo}
+use Rattle.history.specs.Filters.{same_side}
 use Rattle.node_laws.proofs.passes.Passing.{comes_so, takes_entries}
-use Rattle.lone_laws.specs.alone.Lone.{end_of_node_alone}
 use Rattle.lone_laws.proofs.answered.Own.{IsOwnDeed, AreOwnDeeds, controller_own, host_own}
 use Rattle.lone_laws.proofs.answered.Reading.{eqb_same, Read, read_all, reads_of, Alone, read_more, alone_turn}
 use Rattle.lone_laws.proofs.answered.Reading.{alone_does}

@@ -2,51 +2,34 @@
 use Rattle.std.proofs.Common.{◌≡◌, ℕ, ◌≤◌, Bool, true, false, cond, eqb, ◌&&◌, ◌||◌, List, [], ◌∷◌, ◌++◌, map, refl, sym, ap, ap₂, subst, ◌∙◌}
 use Rattle.std.proofs.Common.{arith}
 use Rattle.std.specs.Prelude.{◌+◌, min, not, Option, Some, None, is_some, is_none, length}
-use Rattle.std.specs.List.{AllByRecursion, fold, list_any}
-use Rattle.std.specs.Option.{option_map_or}
-use Rattle.std.proofs.lemmas.Bool.{true≢false}
-use Rattle.std.proofs.lemmas.List.Sums.{fold-append}
-use Rattle.registry.proofs.ValueLemmas.{AllByRecursion-append}
-use Rattle.swp_base.specs.InMemory.{Memory}
+use Rattle.lone_laws.proofs.Words.{AllByRecursion, AllByRecursion-append, AnsweredAlone, AreInTurn, AreNoTurns, AreTables, AreTables-apply, AtEachNoted}
+use Rattle.lone_laws.proofs.Words.{Command, Core, Desk, End, Entry, ErrorCount, FrameIsRefused, HciTables, HearsFirstAlone, IsCommand, IsDueAlone, IsFirstThere}
+use Rattle.lone_laws.proofs.Words.{IsHeldAlone, IsNoBoot, IsRepliedAlone, IsResetAlone, JoinTwo, LinkInput, Lone, LoneCause, LoneEvent, Memory, Running, Work}
+use Rattle.lone_laws.proofs.Words.{apply, boot_writes, by_option, by_test, changed_if, close, does_by_power, emits_behind, entries_of_events_alone}
+use Rattle.lone_laws.proofs.Words.{errors_found, fails_within, fold, fold-append, found, frames_behind, link_of_turn, list_any, lone_arrival, lone_behind_step}
+use Rattle.lone_laws.proofs.Words.{lone_end, lone_events, lone_input, lone_step, lone_work, node_input, noted_of_refused, oldest, option_map_or, records}
+use Rattle.lone_laws.proofs.Words.{tables_of, true≢false, unhandled_after, with_refusal}
 use Rattle.swp_base.specs.declared.link_terms.FrameFault.{FrameFault}
 use Rattle.swp_base.specs.declared.link_terms.FrameFault.TheVariants as fault
-use Rattle.journal_laws.specs.Journal.{records}
-use Rattle.journal_laws.specs.Planned.{fails_within}
-use Rattle.trace_model.specs.declared.entry.Entry.{Entry}
 use Rattle.trace_model.specs.declared.entry.Entry.TheVariants as entry
-use Rattle.trace_model.specs.declared.line.End.{End}
-use Rattle.hci_tables.specs.declared.command.Command.{Command}
-use Rattle.hci_tables.specs.Commands.{IsCommand}
 use Rattle.hci_tables.specs.Bodies.{spelled_by, command_of}
-use Rattle.hci_tables.specs.Tables.{HciTables, AreTables, no_tables, apply, close}
-use Rattle.tables_laws.specs.tables.Changes.{JoinTwo}
-use Rattle.tables_laws.proofs.tables.SortedTables.{AreTables-apply, AreTables-close, AreTables-none}
+use Rattle.hci_tables.specs.Tables.{no_tables}
+use Rattle.tables_laws.proofs.tables.SortedTables.{AreTables-close, AreTables-none}
 use Rattle.tables_laws.proofs.tables.TwoHosts.{JoinTwo-after, JoinTwo-closed}
-use Rattle.hci_store.specs.Image.{applied, tables_of}
-use Rattle.node_machine.specs.world.NodeLegal.{AreInTurn}
-use Rattle.node_laws.specs.answers.Moments.{holds_after, unhandled_after}
-use Rattle.node_laws.proofs.Cases.{by_option, by_test}
+use Rattle.hci_store.specs.Image.{applied}
+use Rattle.node_laws.specs.answers.Moments.{holds_after}
 use Rattle.node_laws.proofs.kept.Booting.{command_read}
 use Rattle.link_laws.specs.messages.Links.Loss.{Broken}
 use Rattle.history.specs.Steps.{lost_as}
-use Rattle.link_laws.specs.machine.Machine.{LinkInput, oldest}
 use Rattle.link_laws.proofs.machine.Runs.{new_sound}
-use Rattle.node_machine.specs.Parts.{Desk, Core, Running, Work}
-use Rattle.node_machine.specs.Carrying.{changed_if}
-use Rattle.node_machine.specs.Node.{boot_writes, found, new_desk, with_error}
+use Rattle.node_machine.specs.Node.{new_desk, with_error}
 use Rattle.node_machine.specs.world.NodeFilters.{was_refused}
-use Rattle.node_laws.specs.passes.Passing.{link_of_turn, AreNoTurns}
 use Rattle.node_laws.specs.answers.Order.{is_answer_of}
-use Rattle.node_laws.specs.views.Errors.{ErrorCount}
-use Rattle.node_laws.proofs.reply_passes.Sides.{IsNoBoot}
-use Rattle.lone_laws.specs.alone.Lone.{Lone, LoneCause, LoneEvent, lone_end, lone_input, node_input, lone_arrival, lone_work, emits_behind, with_refusal}
-use Rattle.lone_laws.specs.alone.Lone.{frames_behind, noted_of_refused, lone_behind_step, does_by_power, lone_step, lone_events, lone_booted, role_alone}
-use Rattle.lone_laws.specs.alone.Lone.LoneCause.{FrameIsRefused}
-use Rattle.lone_laws.specs.alone.Known.{errors_found}
-use Rattle.lone_laws.specs.alone.Answers.{AtEachNoted, AtEachLoneEvent, entries_of_events_alone, runs_behind, is_at_rest, is_left_lacking}
+use Rattle.lone_laws.specs.alone.Lone.{lone_booted, role_alone}
+use Rattle.lone_laws.specs.alone.Answers.{AtEachLoneEvent, runs_behind, is_at_rest, is_left_lacking}
 use Rattle.lone_laws.specs.alone.Answers.{is_done_alone}
-use Rattle.lone_laws.specs.alone.Answers.{is_short_alone, goes_through_end, IsRepliedAlone, IsHeldAlone, IsDueAlone, IsResetAlone}
-use Rattle.lone_laws.specs.alone.Answers.{AnsweredAlone, HearsFirstAlone, TurnsAscendAlone}
+use Rattle.lone_laws.specs.alone.Answers.{is_short_alone, goes_through_end}
+use Rattle.lone_laws.specs.alone.Answers.{TurnsAscendAlone}
 use Rattle.lone_laws.proofs.answered.Mine.{cut_same, due_is, own_behind, replied_is, step_own}
 use Rattle.lone_laws.proofs.answered.Reading.{eqb_same}
 use Rattle.lone_laws.proofs.answered.Turning.{same_self}
@@ -64,7 +47,6 @@ use Rattle.lone_laws.proofs.answered.Dues.{due_in_step}
 use Rattle.lone_laws.proofs.answered.Resets.{reset_in_step}
 use Rattle.node_laws.specs.kept.Reckonings.{is_cut_of}
 use Rattle.node_laws.proofs.power.Parts.{AreOwn}
-use Rattle.node_laws.proofs.answers.OneFact.{IsFirstThere}
 use Rattle.lone_laws.proofs.answered.Queued.{are_in_turn}
 use Rattle.lone_laws.proofs.answered.Rising.{heard_in_step, own_ascend}
 
