@@ -1,3 +1,4 @@
+pub mod Words
 pub mod texts
 pub mod told
 pub mod nodes

@@ -1,14 +1,10 @@
 -- The numbers of a world of nodes that is in range are bounded by the RSETs that its links made and the fragments that count as acknowledged at
 -- their ends, whatever it came through.
 use Rattle.std.proofs.Common.{ℕ, ◌≤◌, Bool, true, false, List, [], ◌∷◌, arith}
-use Rattle.std.specs.List.{AllByRecursion}
-use Rattle.link_laws.specs.machine.Machine.{LinkEnd}
-use Rattle.link_laws.specs.messages.Links.{NumberedEnd, Link}
-use Rattle.link_laws.specs.messages.Rsets.{EndIsLow, FewRsets}
-use Rattle.node_machine.specs.world.World.{NodeWorld, Site}
+use Rattle.told_laws.proofs.Words.{AllByRecursion, FewRsets, FewRsetsOnEach, Link, LinkEnd, NodeWorld, NumberedEnd, Site}
+use Rattle.link_laws.specs.messages.Rsets.{EndIsLow}
 use Rattle.node_laws.specs.acked.InTurn.{IsAckedWithin}
 use Rattle.node_laws.specs.acked.AckedRounds.{AreAckedWithin}
-use Rattle.node_laws.specs.rsets.Causes.{FewRsetsOnEach}
 use Rattle.told_laws.proofs.told.Wires.{wire_within}
 use Rattle.told_laws.proofs.nodes.Sides.{IsLineFrame}
 use Rattle.told_laws.proofs.nodes.Machines.{SideIn}

@@ -2,28 +2,24 @@
 use Rattle.std.proofs.Common.{◌≡◌, ℕ, zero, suc, ◌≤◌, ◌<◌, Bool, true, false, cond, nat_lt, List, [], ◌∷◌, length, refl, subst, arith}
 use Rattle.std.proofs.Common.{Some}
 use Rattle.std.specs.Prelude.{◌==◌, IsTrue, take, replicate, nat_le, slice_index}
-use Rattle.std.specs.List.{AllByRecursion, find, fold}
-use Rattle.std.proofs.lemmas.Bool.{cond_both, and_parts, leb-true, ltb-true}
-use Rattle.swp_base.specs.Bits.{IsByte}
+use Rattle.told_laws.proofs.Words.{AllByRecursion, AllByRecursion-filter, ArePipeRows, Clear, Command, Create, Delete, Entry, HciTables, IsByte, IsSaidCommand}
+use Rattle.told_laws.proofs.Words.{IsSaidValue, PipeRow, RegValue, Set, by_option, cond_both, leb-true, ltb-true, pid_of}
+use Rattle.std.specs.List.{find, fold}
+use Rattle.std.proofs.lemmas.Bool.{and_parts}
 use Rattle.sorted_rows.specs.Rows.{row_of, rows_before, rows_behind, with_row}
 use Rattle.sorted_rows.proofs.RowLemmas.{AreRows-filter, AreRows-map, AreRows-with_row}
-use Rattle.pipe_table.specs.declared.row.PipeRow.{PipeRow}
-use Rattle.pipe_table.specs.PipeRows.{IsDynamic, ArePipeRows, pid_of, as_opened, with_opened, all_closed}
-use Rattle.registry.specs.declared.value.RegValue.{RegValue}
+use Rattle.pipe_table.specs.PipeRows.{IsDynamic, as_opened, with_opened, all_closed}
 use Rattle.registry.specs.Values.{value_at, with_value, is_default, default_of, place_of_value, value_place}
-use Rattle.registry.proofs.ValueLemmas.{AllByRecursion-append as each-append, AllByRecursion-filter, AllByRecursion-take}
-use Rattle.hci_tables.specs.declared.command.Command.{Command}
-use Rattle.hci_tables.specs.declared.command.Command.TheVariants.{Create, Delete, Clear, SetOpened, Set, Sync}
+use Rattle.registry.proofs.ValueLemmas.{AllByRecursion-append as each-append, AllByRecursion-take}
+use Rattle.hci_tables.specs.declared.command.Command.TheVariants.{SetOpened, Sync}
 use Rattle.hci_tables.specs.Commands.{is_command, is_dynamic}
-use Rattle.hci_tables.specs.Tables.{HciTables, no_tables, apply, after_commands, static_place, sync_host, with_static, is_kept_sync, without_identity}
-use Rattle.trace_model.specs.declared.entry.Entry.{Entry}
+use Rattle.hci_tables.specs.Tables.{no_tables, apply, after_commands, static_place, sync_host, with_static, is_kept_sync, without_identity}
 use Rattle.trace_model.specs.declared.entry.Entry.TheVariants as entry
 use Rattle.node_machine.specs.world.NodeFilters.{Book, new_book, with_command, with_found, book_after, tables_in}
-use Rattle.told_laws.specs.texts.Ranges.{IsSaidPipe, IsSaidCommand, IsSaidStatic, IsSaidValue, IsSaidSync}
+use Rattle.told_laws.specs.texts.Ranges.{IsSaidPipe, IsSaidStatic, IsSaidSync}
 use Rattle.told_laws.proofs.told.Lines.{each_all, all_each}
 use Rattle.told_laws.proofs.nodes.Sides.{AreBytes}
 use Rattle.told_laws.proofs.nodes.Ranges.{IsIn, AreIn, IsShortCommand}
-use Rattle.node_laws.proofs.Cases.{by_option}
 
 -- ## Bytes
 

@@ -2,26 +2,23 @@
 use Rattle.std.proofs.Common.{◌≡◌, ℕ, ◌≤◌, ◌<◌, Bool, true, false, cond, eqb, List, [], ◌∷◌, length, refl, ap}
 use Rattle.std.proofs.Common.{subst, arith, Option, Some, None, drop}
 use Rattle.std.specs.Prelude.{◌==◌, ◌&&◌, nat_lt, not, Result, Ok, Err}
-use Rattle.std.specs.List.{AllByRecursion, filter}
-use Rattle.std.specs.Option.{option_map_or}
-use Rattle.std.proofs.lemmas.Bool.{cond_both}
+use Rattle.told_laws.proofs.Words.{AllByRecursion, AllByRecursion-filter, ArePipeRows, Clear, Command, Commits, Core, Create, Deed, Delete, Desk, Ends, GoesOn}
+use Rattle.told_laws.proofs.Words.{HciTables, IsByte, IsSaidCommand, Message, Orders, PipeRow, Port, Sends, Set, answer_of, by_option, by_test, cond_both}
+use Rattle.told_laws.proofs.Words.{option_map_or, pid_of, port_at}
+use Rattle.std.specs.List.{filter}
 use Rattle.std.proofs.lemmas.List.Sums.{count_by-le-length}
-use Rattle.swp_base.specs.Bits.{IsByte}
 use Rattle.sorted_rows.proofs.RowLemmas.{length-rows}
-use Rattle.pipe_table.specs.declared.row.PipeRow.{PipeRow}
-use Rattle.pipe_table.specs.PipeRows.{ArePipeRows, pid_of, opened_on, ends_at}
+use Rattle.pipe_table.specs.PipeRows.{opened_on, ends_at}
 use Rattle.hcp_packet.specs.declared.MessageKind.{MessageKind}
 use Rattle.hcp_packet.specs.declared.MessageKind.TheVariants.{Command as IsCommand, Event as IsEvent, Response as IsResponse}
 use Rattle.hcp_packet.specs.declared.MessageFault.{MessageFault}
 use Rattle.hcp_packet.specs.MessageHeader.{header_of}
 use Rattle.registry.specs.Values.{value_at}
-use Rattle.registry.proofs.ValueLemmas.{AllByRecursion-filter}
-use Rattle.hci_tables.specs.declared.command.Command.{Command}
-use Rattle.hci_tables.specs.declared.command.Command.TheVariants.{Create, Delete, Clear, SetOpened, Set}
-use Rattle.hci_tables.specs.Tables.{HciTables, is_opened}
+use Rattle.hci_tables.specs.declared.command.Command.TheVariants.{SetOpened}
+use Rattle.hci_tables.specs.Tables.{is_opened}
 use Rattle.gate_answers.specs.declared.response.Response.{Response}
 use Rattle.gate_answers.specs.declared.response.Response.TheVariants as response
-use Rattle.gate_answers.specs.Answers.{answer_of, code_of, first_of, tests_to_set, tests_to_get, param_in, value_in as value_behind, body_in}
+use Rattle.gate_answers.specs.Answers.{code_of, first_of, tests_to_set, tests_to_get, param_in, value_in as value_behind, body_in}
 use Rattle.gate_admin.specs.declared.view.LinkView.{LinkView}
 use Rattle.gate_admin.specs.declared.decision.Decision.{Decision}
 use Rattle.gate_admin.specs.declared.decision.Decision.TheVariants.{Answer, Commit, Ask}
@@ -33,19 +30,16 @@ use Rattle.gate_admin.proofs.CreationLemmas.{creation-recordable}
 use Rattle.tables_laws.proofs.gate.Decisions.{unless, new_row}
 use Rattle.gate_link.specs.Link.{count_bytes, count_in, tests_to_set_errors, link_served, link_unless_refused as link_unless}
 use Rattle.gate_identity.specs.Identity.{identity_value, identity_served, identity_unless_refused as identity_unless}
-use Rattle.link_laws.specs.machine.Machine.{Message}
-use Rattle.node_machine.specs.Parts.{Init, Creation, Desk, Core, Port, Deed}
-use Rattle.node_machine.specs.Parts.Deed.{Commits, Sends, Asks, Tells, Drops, SetsErrors, Orders, GoesOn, Ends}
-use Rattle.node_machine.specs.Carrying.{finds_room, port_at, own_view}
+use Rattle.node_machine.specs.Parts.{Init, Creation}
+use Rattle.node_machine.specs.Parts.Deed.{Asks, Tells, Drops, SetsErrors}
+use Rattle.node_machine.specs.Carrying.{finds_room, own_view}
 use Rattle.node_machine.specs.Controller.{creation_in, view_for, answers_on, commit_deeds, decision_deeds, link_deeds, gates, agreed, controller_deeds}
 use Rattle.node_machine.specs.Controller.{has_link, is_command_message, relayed_to, served_at, notice_deeds, creation_deeds, kind_deeds}
 use Rattle.node_machine.specs.Controller.{goes_through, own_gate, asks_for, relay_deeds}
 use Rattle.node_machine.specs.Controller.{view_of, about_at}
-use Rattle.node_laws.proofs.Cases.{by_option, by_test}
 use Rattle.node_laws.proofs.steps.Ports.{at_port}
 use Rattle.node_machine.proofs.Walks.{told_hold}
 use Rattle.node_laws.proofs.links.Masking.{nobody}
-use Rattle.told_laws.specs.texts.Ranges.{IsSaidCommand}
 use Rattle.told_laws.proofs.told.Lines.{each_all}
 use Rattle.told_laws.proofs.told.Wires.{drop_each}
 use Rattle.told_laws.proofs.nodes.Sides.{AreBytes, IsMail}

@@ -2,37 +2,26 @@
 use Rattle.std.proofs.Common.{◌≡◌, ℕ, ◌+◌, ◌≤◌, ◌<◌, ◌==◌, Bool, true, false, List, [], ◌∷◌, ◌++◌, map, subst, arith}
 use Rattle.std.proofs.Common.{Option, Some, None, not}
 use Rattle.std.specs.Prelude.{◌&&◌, min}
-use Rattle.std.specs.List.{AllByRecursion, flat_map}
-use Rattle.std.proofs.lemmas.Bool.{cond_both}
+use Rattle.told_laws.proofs.Words.{AllByRecursion, AsksReset, Comes, Controller, CutOff, Deed, Desk, End, Entry, GoesOut, Happening, Host, Link, Lose, Loss}
+use Rattle.told_laws.proofs.Words.{Message, NextFrame, NoInput, NodeWorld, Orders, Reset, Running, Sends, Site, Starts, Step, Takes, Tick, Ticks, Work, aged}
+use Rattle.told_laws.proofs.Words.{aged_entries, at, by_test, changed_if, cond_both, entries_for, exchanged, first_lost, flat_map, happens_at_controller}
+use Rattle.told_laws.proofs.Words.{has_input, link_to, ticks_at_controller, world_step}
 use Rattle.swp_base.specs.InMemory.{Memory}
-use Rattle.trace_model.specs.declared.entry.Entry.{Entry}
-use Rattle.trace_model.specs.declared.line.End.{End}
 use Rattle.shdlc_core.specs.Machine.{is_waiting}
 use Rattle.journal_laws.specs.Planned.{after_planned}
-use Rattle.link_laws.specs.machine.Machine.{Message}
-use Rattle.link_laws.specs.machine.Machine.LinkInput.{Tick, Reset}
-use Rattle.link_laws.specs.messages.Links.{Link, Comes, Loss, exchanged, aged, has_input, ticks_at_controller, happens, happens_at_controller}
-use Rattle.link_laws.specs.messages.Links.Ending.{GoesOut, CutOff}
-use Rattle.link_laws.specs.messages.Links.Comes.{NextFrame, AsksReset, Starts, NoInput}
+use Rattle.link_laws.specs.messages.Links.{happens}
 use Rattle.link_laws.specs.messages.Links.Loss.{Broken}
-use Rattle.link_laws.specs.messages.Links.EndEvent.{Step, Lose}
 use Rattle.link_laws.specs.messages.Links.LinkEvent.{AtController}
-use Rattle.link_laws.specs.entries.Entries.{first_lost, aged_entries}
-use Rattle.link_laws.specs.entries.Entries.End.{Controller, Host}
-use Rattle.history.specs.Steps.{at, entries_for}
 use Rattle.registry.proofs.ValueLemmas.{AllByRecursion-append as each-append}
-use Rattle.node_machine.specs.Parts.{Desk, Running, Work, Deed}
-use Rattle.node_machine.specs.Parts.Deed.{Sends, Orders}
-use Rattle.node_machine.specs.Carrying.{changed_if}
 use Rattle.node_machine.specs.Controller.{is_command_message}
 use Rattle.node_machine.specs.Node.{steps, begins_with, new_desk, with_error, boot_writes}
 use Rattle.node_machine.specs.Node.NodeInput.{AtEnd, TimePasses}
-use Rattle.node_machine.specs.world.World.{Site, NodeWorld, Happening, link_to, ending_of, turns_at, work_of, frames_noted}
+use Rattle.node_machine.specs.world.World.{ending_of, turns_at, work_of, frames_noted}
 use Rattle.node_machine.specs.world.World.{controller_does, host_does, host_cut, loses_power_at, memory_at, with_memory, with_node, links_of}
 use Rattle.node_machine.specs.world.World.{boots, counts, frame_lost}
 use Rattle.node_machine.specs.world.World.{all_aged, is_late_at, ticked_so, controller_ticks, host_ticks, hosts_tick, world_ticks, sending, beginning, comes_at}
-use Rattle.node_machine.specs.world.World.{end_c, end_h, activates, world_step, link_after_controller, controller_work}
-use Rattle.node_machine.specs.world.World.Happening.{Boots, IsCut, Gives, Inits, Takes, Loses, Ticks, Resets, Activates, Arms}
+use Rattle.node_machine.specs.world.World.{end_c, end_h, activates, link_after_controller, controller_work}
+use Rattle.node_machine.specs.world.World.Happening.{Boots, IsCut, Gives, Inits, Loses, Resets, Activates, Arms}
 use Rattle.node_machine.proofs.world.Cases.{by_controller, by_coming, by_power, by_memory, by_running, boot_written, boot_found, site_lost, by_boot, by_loss}
 use Rattle.node_machine.proofs.world.Cases.{near_tick, by_controller_tick, host_tick, by_host_tick}
 use Rattle.told_laws.proofs.told.Links.{IsLowWindow}
@@ -45,7 +34,6 @@ use Rattle.told_laws.proofs.nodes.Works.{IsWorkIn, steps_in, begins_in}
 use Rattle.told_laws.proofs.nodes.Worlds.{IsNodeIn, IfNodeIn, IsSiteIn, IsWorldIn, IfTables, SitesHave, world_more, sites_more, sites_map, site_changed}
 use Rattle.told_laws.proofs.nodes.Worlds.{link_there, on_wire, noted_frames, turns_of, still_runs, work_begins, comes_input, IsStepIn, nothing_done}
 use Rattle.told_laws.proofs.nodes.Worlds.{controller_step, host_step, work_more}
-use Rattle.node_laws.proofs.Cases.{by_test}
 
 -- ## What comes to an end
 

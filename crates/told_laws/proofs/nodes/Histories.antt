@@ -1,23 +1,20 @@
 -- All that is told of a history of nodes is in its range.
 use Rattle.std.proofs.Common.{◌≡◌, inl, inr, ℕ, ◌+◌, ◌-◌, ◌*◌, ◌^◌, ◌≤◌, ◌<◌, Bool, true, false, List, [], ◌∷◌, ◌++◌, length, refl, sym}
 use Rattle.std.proofs.Common.{subst, arith, append_assoc, append-nil, Option, Some, None}
-use Rattle.std.specs.List.{AllByRecursion}
+use Rattle.told_laws.proofs.Words.{AllByRecursion, Entry, FewRsetsOnEach, Happening, IsFew, NodeWorld, Occurrence, Running, Site, all_happen, entries_in}
+use Rattle.told_laws.proofs.Words.{few_front, world_step}
 use Rattle.hci_tables.specs.Tables.{AreTables}
-use Rattle.trace_model.specs.declared.entry.Entry.{Entry}
 use Rattle.trace_model.specs.declared.entry.Entry.TheVariants as entry
 use Rattle.registry.proofs.ValueLemmas.{AllByRecursion-append as each-append}
-use Rattle.node_machine.specs.Parts.{Running}
-use Rattle.node_machine.specs.world.World.{NodeWorld, Site, Happening, world_step}
 use Rattle.node_machine.specs.world.World.Happening.{Boots}
-use Rattle.node_machine.specs.world.Lines.{Occurrence, can_happen, all_happen}
-use Rattle.node_machine.specs.world.NodeHistories.{entries_in}
+use Rattle.node_machine.specs.world.Lines.{can_happen}
 use Rattle.node_machine.specs.world.NodeFilters.{commands_in}
 use Rattle.node_machine.specs.world.NodeLegal.{FindsCommands}
-use Rattle.node_laws.specs.kept.Hosts.{AreHosts, IsFew}
+use Rattle.node_laws.specs.kept.Hosts.{AreHosts}
 use Rattle.node_laws.specs.kept.Books.{IsTold, AreToldBehind}
 use Rattle.node_laws.specs.kept.Worlds.{IfRuns, SiteKeeps, AllKeep, MayHappen}
-use Rattle.node_laws.proofs.kept.Lines.{MayAllHappen, world_goes, few_front}
-use Rattle.node_laws.specs.rsets.Causes.{FewRsetsOnEach, rsets_by}
+use Rattle.node_laws.proofs.kept.Lines.{MayAllHappen, world_goes}
+use Rattle.node_laws.specs.rsets.Causes.{rsets_by}
 use Rattle.node_laws.proofs.rsets.InWorlds.{each_longer, few_behind_step}
 use Rattle.told_laws.proofs.told.Lines.{top}
 use Rattle.told_laws.proofs.nodes.Ranges.{AreIn, in-append, all_in_more}

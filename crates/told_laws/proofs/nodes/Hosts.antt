@@ -3,33 +3,26 @@ use Rattle.std.proofs.Common.{◌≡◌, ℕ, ◌+◌, ◌%◌, ◌≤◌, ◌<�
 use Rattle.std.proofs.Common.{Option, Some, None}
 use Rattle.std.proofs.Common.{slice_get, ◌^◌, ◌/◌}
 use Rattle.std.specs.Prelude.{◌&&◌, nat_lt, nat_le, is_some, Result, Ok, Err}
-use Rattle.std.specs.List.{AllByRecursion}
-use Rattle.std.specs.Option.{option_map_or}
-use Rattle.std.proofs.lemmas.Bool.{cond_both, and_parts, leb-true, ltb-true}
-use Rattle.swp_base.specs.Bits.{IsByte}
+use Rattle.told_laws.proofs.Words.{AllByRecursion, ArePipeRows, Clear, Command, Commits, Core, Create, Deed, Delete, Ends, GoesOn, IsByte, IsEnd, IsSaidCommand}
+use Rattle.told_laws.proofs.Words.{Message, Orders, PipeRow, Port, Sends, Set, answer_of, cond_both, leb-true, ltb-true, option_map_or, pid_of}
+use Rattle.std.proofs.lemmas.Bool.{and_parts}
 use Rattle.sorted_rows.proofs.RowLemmas.{row_of-within}
-use Rattle.pipe_table.specs.declared.row.PipeRow.{PipeRow}
-use Rattle.pipe_table.specs.PipeRows.{IsDynamic, ArePipeRows, pid_of, pipe_at}
+use Rattle.pipe_table.specs.PipeRows.{IsDynamic, pipe_at}
 use Rattle.hcp_packet.specs.declared.MessageKind.{MessageKind}
 use Rattle.hcp_packet.specs.declared.MessageKind.TheVariants.{Command as IsCommand, Event as IsEvent, Response as IsResponse}
 use Rattle.hcp_packet.specs.declared.MessageFault.{MessageFault}
 use Rattle.hcp_packet.specs.declared.MessageFault.TheVariants.{ReservedType as Reserved}
 use Rattle.hcp_packet.specs.MessageHeader.{header_of}
 use Rattle.registry.proofs.ValueLemmas.{AllByRecursion-append as each-append, AllByRecursion-get}
-use Rattle.hci_tables.specs.declared.command.Command.{Command}
-use Rattle.hci_tables.specs.declared.command.Command.TheVariants.{Create, Delete, Clear, Set}
 use Rattle.hci_tables.specs.Commands.{is_command, is_host, is_dynamic}
 use Rattle.gate_answers.specs.declared.response.Response.TheVariants as response
-use Rattle.gate_answers.specs.Answers.{answer_of, body_in, instruction_in}
+use Rattle.gate_answers.specs.Answers.{body_in, instruction_in}
 use Rattle.gate_link.specs.Link.{link_served}
 use Rattle.gate_identity.specs.Identity.{identity_served}
 use Rattle.gate_loopback.specs.Loopback.{posts_back}
 use Rattle.link_laws.specs.sessions.Sessions.{is_up}
-use Rattle.link_laws.specs.machine.Machine.{Message}
 use Rattle.trace_model.specs.declared.entry.Entry.TheVariants.{InitSame, InitMade, InitFailed}
-use Rattle.told_laws.specs.texts.Ranges.{IsEnd, IsSaidCommand}
-use Rattle.node_machine.specs.Parts.{Init, Core, Port, Deed}
-use Rattle.node_machine.specs.Parts.Deed.{Commits, Sends, Orders, GoesOn, Ends}
+use Rattle.node_machine.specs.Parts.{Init}
 use Rattle.node_machine.specs.Carrying.{own_side, end_of_node, finds_room, own_view, end_view}
 use Rattle.node_machine.specs.Controller.{gates}
 use Rattle.node_machine.specs.HostReplies.{accepts, pipe_named_in, orders_of, is_same, learns, init_agreed, init_deeds, deleted_by, created_by, learned}

@@ -2,40 +2,27 @@
 use Rattle.std.proofs.Common.{◌≡◌, inr, ℕ, zero, suc, ◌≤◌, Bool, true, false, cond, List, [], ◌∷◌, length, refl}
 use Rattle.std.proofs.Common.{subst, arith, Option, Some, None, All, nat_lt, Contains}
 use Rattle.std.specs.Prelude.{replicate, unwrap_or}
-use Rattle.std.specs.List.{AllByRecursion}
-use Rattle.std.proofs.lemmas.Bool.{cond_both, ltb-false}
+use Rattle.told_laws.proofs.Words.{AllByRecursion, Down, End, Happening, HciTables, Header, IsByte, IsHost, IsSaidValue, Line, LinkEnd, LinkState, Message}
+use Rattle.told_laws.proofs.Words.{NoCause, NodeWorld, OnWire, Refused, RegValue, Takes, Ticks, Up, Waiting, by_test, cond_both, frames_at, give_refusal}
+use Rattle.told_laws.proofs.Words.{header_hosts, link_to, lpdu_of, ltb-false, need, pid_of, reset_refusal, spare}
 use Rattle.std.proofs.lemmas.List.{length-replicate}
 use Rattle.std.proofs.lemmas.List.Elements.{recursion_from_All}
-use Rattle.swp_base.specs.Bits.{IsByte}
 use Rattle.swp_frame.specs.Stuffing.{frame_of}
-use Rattle.swp_lpdu.specs.Controls.{lpdu_of}
 use Rattle.sorted_rows.proofs.RowLemmas.{length-rows}
-use Rattle.pipe_table.specs.PipeRows.{pid_of}
-use Rattle.registry.specs.declared.value.RegValue.{RegValue}
 use Rattle.registry.specs.Values.{place_of_value}
-use Rattle.hci_tables.specs.Tables.{HciTables, AreTables, static_place, sync_host}
-use Rattle.trace_model.specs.declared.entry.NoCause.{NoCause}
+use Rattle.hci_tables.specs.Tables.{AreTables, static_place, sync_host}
 use Rattle.trace_model.specs.declared.entry.NoCause.TheVariants as no
-use Rattle.trace_model.specs.declared.line.End.{End}
-use Rattle.trace_model.specs.declared.line.Header.{Header}
-use Rattle.trace_model.specs.declared.line.Line.{Line}
 use Rattle.trace_model.specs.declared.line.Line.TheVariants as line
-use Rattle.trace_model.specs.Lines.{IsHost, IsNodeHeader, IsEndOf, IsNodeOf}
-use Rattle.schedule_text.proofs.ReadAgainLemmas.{header_hosts, node_fits}
-use Rattle.told_laws.specs.texts.Ranges.{IsSaidValue, AreSaidTables}
-use Rattle.link_laws.specs.sessions.Sessions.{OnWire}
-use Rattle.link_laws.specs.machine.Machine.{Message, Refused, give_refusal, reset_refusal, LinkEnd, need, spare}
-use Rattle.shdlc_core.specs.declared.answers.LinkState.{LinkState}
-use Rattle.shdlc_core.specs.declared.answers.LinkState.TheVariants.{Down, Waiting, Up}
+use Rattle.trace_model.specs.Lines.{IsNodeHeader, IsEndOf, IsNodeOf}
+use Rattle.schedule_text.proofs.ReadAgainLemmas.{node_fits}
+use Rattle.told_laws.specs.texts.Ranges.{AreSaidTables}
 use Rattle.link_laws.specs.machine.Machine.Refused.{NotUp, TooLong, Full}
 use Rattle.history.specs.Damage.{Verdict}
 use Rattle.history.specs.Damage.Verdict.{Same, LostFor, Undetected}
 use Rattle.history.specs.Follows.{as_noted, if_empty, if_out_of_reach, taken_of, first_verdict}
-use Rattle.node_machine.specs.world.World.{NodeWorld, Happening, node_of, link_to}
-use Rattle.node_machine.specs.world.World.Happening.{Takes, Ticks}
-use Rattle.node_machine.specs.world.Lines.{first_cause, is_running, if_off, machine_in, frames_at, if_waiting, if_not_sent, refusal_in}
+use Rattle.node_machine.specs.world.World.{node_of}
+use Rattle.node_machine.specs.world.Lines.{first_cause, is_running, if_off, machine_in, if_waiting, if_not_sent, refusal_in}
 use Rattle.node_machine.specs.world.Lines.{happens_by, happenings}
-use Rattle.node_laws.proofs.Cases.{by_test}
 use Rattle.node_laws.proofs.kept.Lines.{first_none}
 use Rattle.node_laws.specs.schedules.Ranges.{IsNodeLineOf}
 use Rattle.told_laws.proofs.told.Wires.{WireIs}

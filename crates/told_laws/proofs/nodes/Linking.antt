@@ -3,30 +3,24 @@ use Rattle.std.proofs.Common.{◌≡◌, ℕ, zero, suc, ◌+◌, ◌-◌, ◌�
 use Rattle.std.proofs.Common.{subst, arith, Option, Some, None, length-append}
 use Rattle.std.proofs.lemmas.List.{length-map}
 use Rattle.std.specs.Prelude.{is_some}
-use Rattle.std.proofs.lemmas.Bool.{cond_both}
-use Rattle.swp_base.specs.declared.control_frames.Control.{Control}
-use Rattle.swp_base.specs.declared.control_frames.Control.TheVariants.{I, S, Rset, Ua, Act as ActFrame, Clt}
-use Rattle.swp_base.specs.declared.control_frames.Act.{Act}
-use Rattle.swp_base.specs.declared.link_terms.Cause.TheVariants.{Asked}
+use Rattle.told_laws.proofs.Words.{Act, Asked, AsksReset, Bare, Clt, Comes, Control, CutOff, EndState, Give, GoesOut, I, Link, LinkEnd, LinkInput, LinkState}
+use Rattle.told_laws.proofs.Words.{Lose, Loss, NextFrame, NoInput, NumberedEnd, OnWire, Refused, Reset, Rset, S, SetAside, Start, Starts, Stop, Take, Tick}
+use Rattle.told_laws.proofs.Words.{Turn, Ua, Up, act_answer, activated, after_input, aged, all_frames, among, cond_both, ended_by, exchanged, frames_out}
+use Rattle.told_laws.proofs.Words.{give_refusal, given, happens_at_controller, has_input, heard, if_up, in_front, is_faulty, is_open, is_rset, moved, put}
+use Rattle.told_laws.proofs.Words.{put_down, reset_by, reset_refusal, reset_with, sent_all, stopped, take_answer, taken, tick_answer, ticked, took, took_with}
+use Rattle.told_laws.proofs.Words.{turn, unless, window_of, with_ended}
+use Rattle.swp_base.specs.declared.control_frames.Control.TheVariants.{Act as ActFrame}
 use Rattle.swp_act.specs.declared.ActEvent.{ActEvent}
 use Rattle.swp_act.specs.declared.ActEvent.TheVariants.{Start as ActStart, Take as ActTake, Tick as ActTick, Stop as ActStop}
 use Rattle.swp_act.specs.Activation.{new_clf, new_uicc}
-use Rattle.shdlc_core.specs.declared.answers.LinkState.{LinkState}
-use Rattle.shdlc_core.specs.declared.answers.LinkState.TheVariants.{Up}
-use Rattle.shdlc_core.specs.Machine.{EndState, taken, take_answer, ticked, tick_answer, reset_with, stopped, all_frames}
-use Rattle.link_laws.specs.sessions.Sessions.{OnWire, is_rset, is_up, took_with}
-use Rattle.link_laws.specs.machine.Machine.{Role, ActDue, LinkEnd, LinkInput, Turn, Refused, is_faulty, is_open, act_answer, role_after, with_act}
-use Rattle.link_laws.specs.machine.Machine.{in_front, moved, put_down}
-use Rattle.link_laws.specs.machine.Machine.{activated, heard, took, give_refusal, given, aside_refusal, turn, turned, reset_refusal, if_up}
-use Rattle.link_laws.specs.machine.Machine.{reset_by, window_of, among, frames_out, sent_all, after_input, renewed, new_link_end, unless, ended_by}
-use Rattle.link_laws.specs.machine.Machine.Role.{Bare, Clf, Uicc}
-use Rattle.link_laws.specs.machine.Machine.LinkInput.{Take, Tick, Reset, Start, Stop}
-use Rattle.link_laws.specs.machine.Machine.Turn.{Give, SetAside}
-use Rattle.link_laws.specs.messages.Links.{NumberedEnd, Link, Ending, Comes, Loss, new_link, exchanged, put, put_all, with_controller, with_ended}
-use Rattle.link_laws.specs.messages.Links.{silent, cut, finished, has_input, has_taken, has_restarted, steps_at_controller, happens_at_controller, aged}
-use Rattle.link_laws.specs.messages.Links.Ending.{GoesOut, CutOff}
-use Rattle.link_laws.specs.messages.Links.Comes.{NextFrame, AsksReset, Starts, Stops, NoInput}
-use Rattle.link_laws.specs.messages.Links.EndEvent.{Lose}
+use Rattle.link_laws.specs.sessions.Sessions.{is_up}
+use Rattle.link_laws.specs.machine.Machine.{Role, ActDue, role_after, with_act}
+use Rattle.link_laws.specs.machine.Machine.{aside_refusal, turned}
+use Rattle.link_laws.specs.machine.Machine.{renewed, new_link_end}
+use Rattle.link_laws.specs.machine.Machine.Role.{Clf, Uicc}
+use Rattle.link_laws.specs.messages.Links.{Ending, new_link, put_all, with_controller}
+use Rattle.link_laws.specs.messages.Links.{silent, cut, finished, has_taken, has_restarted, steps_at_controller}
+use Rattle.link_laws.specs.messages.Links.Comes.{Stops}
 use Rattle.told_laws.proofs.told.Ends.{frames_few}
 use Rattle.told_laws.proofs.told.Links.{IsLowWindow, took_low}
 use Rattle.told_laws.proofs.told.Wires.{WireIs, wire_more, wire_dropped, wire_put, wire_aged}

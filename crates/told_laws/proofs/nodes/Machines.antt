@@ -3,13 +3,12 @@ use Rattle.std.proofs.Common.{◌≡◌, ℕ, ◌+◌, ◌≤◌, ◌<◌, Bool,
 use Rattle.std.proofs.Common.{take, ◌-◌}
 use Rattle.std.proofs.Common.{Option, Some, None}
 use Rattle.std.specs.Prelude.{is_some, nat_le, not}
-use Rattle.std.specs.List.{AllByRecursion}
-use Rattle.std.proofs.lemmas.Bool.{cond_both}
-use Rattle.swp_base.specs.declared.control_frames.Control.{Control}
-use Rattle.swp_base.specs.declared.control_frames.Control.TheVariants.{I, S, Rset, Ua, Act as ActFrame, Clt}
-use Rattle.swp_base.specs.declared.control_frames.Act.{Act}
-use Rattle.swp_base.specs.declared.control_frames.Act.TheVariants.{Ready, SyncId, PowerMode}
-use Rattle.swp_base.specs.declared.link_terms.Cause.TheVariants.{Asked}
+use Rattle.told_laws.proofs.Words.{Act, AllByRecursion, Asked, Bare, Clt, Control, Down, EndState, FetchMessage, Give, Hold, I, LinkEnd, LinkInput, LinkState}
+use Rattle.told_laws.proofs.Words.{PowerMode, Ready, Refused, Report, Reset, Rset, S, SetAside, Start, Stop, SyncId, Take, Tick, Turn, Ua, Up, Waiting}
+use Rattle.told_laws.proofs.Words.{act_answer, activated, after_input, all_frames, among, by_test, cond_both, frames_out, give_refusal, given, heard, if_up}
+use Rattle.told_laws.proofs.Words.{in_front, is_faulty, is_open, moved, put_down, report, reset_by, reset_refusal, reset_with, sent_all, stopped, take_answer}
+use Rattle.told_laws.proofs.Words.{taken, tick_answer, ticked, took, turn, unless, whole_acked, window_of}
+use Rattle.swp_base.specs.declared.control_frames.Control.TheVariants.{Act as ActFrame}
 use Rattle.swp_act.specs.declared.ActEvent.{ActEvent}
 use Rattle.swp_act.specs.declared.ActEvent.TheVariants.{Start as ActStart, Take as ActTake, Tick as ActTick, Stop as ActStop}
 use Rattle.swp_act.specs.declared.ActOut.{ActOut}
@@ -18,25 +17,20 @@ use Rattle.swp_act.specs.declared.Phase.TheVariants.{Inactive, Awaiting, Active}
 use Rattle.swp_act.specs.declared.uicc.UiccAct.{UiccAct}
 use Rattle.swp_act.specs.declared.clf.ClfAct.{ClfAct}
 use Rattle.swp_act.specs.Activation.{out_ticked, no_act_out, uicc_powered, sends}
-use Rattle.shdlc_core.specs.declared.answers.LinkState.{LinkState}
-use Rattle.shdlc_core.specs.declared.answers.LinkState.TheVariants.{Down, Waiting, Up}
-use Rattle.shdlc_core.specs.Machine.{EndState, taken, take_answer, ticked, tick_answer, reset_with, stopped, all_frames}
 use Rattle.hcp_packet.specs.Packets.{packet_bytes, packets_of}
 use Rattle.registry.proofs.ValueLemmas.{AllByRecursion-append as each-append}
 use Rattle.told_laws.proofs.told.Ends.{IsFrame, IfTries, few_tries, frames_in}
 use Rattle.told_laws.proofs.told.Links.{IsLowWindow, fragments_in}
 use Rattle.told_laws.proofs.told.Wires.{drop_each}
-use Rattle.link_laws.specs.machine.Machine.{Role, ActDue, LinkEnd, LinkInput, Turn, Refused, Report, messages_got, is_faulty, is_open, role_after, act_answer}
-use Rattle.link_laws.specs.machine.Machine.{with_act, in_front, moved, put_down, activated, started, deactivated, news, heard, took, give_refusal}
-use Rattle.link_laws.specs.machine.Machine.{given, aside_refusal}
-use Rattle.link_laws.specs.machine.Machine.{turn, turned, reset_refusal, if_up, reset_by, window_of, had_tick, among, frames_out, sent_all, after_input}
-use Rattle.link_laws.specs.machine.Machine.{brought, report, whole_acked, unless}
-use Rattle.link_laws.specs.machine.Machine.Role.{Bare, Clf, Uicc}
-use Rattle.link_laws.specs.machine.Machine.LinkInput.{Take, Tick, Reset, Start, Stop}
-use Rattle.link_laws.specs.machine.Machine.Turn.{Give, Hold, FetchMessage, SetAside, Release}
+use Rattle.link_laws.specs.machine.Machine.{Role, ActDue, messages_got, role_after}
+use Rattle.link_laws.specs.machine.Machine.{with_act, started, deactivated, news}
+use Rattle.link_laws.specs.machine.Machine.{aside_refusal}
+use Rattle.link_laws.specs.machine.Machine.{turned, had_tick}
+use Rattle.link_laws.specs.machine.Machine.{brought}
+use Rattle.link_laws.specs.machine.Machine.Role.{Clf, Uicc}
+use Rattle.link_laws.specs.machine.Machine.Turn.{Release}
 use Rattle.told_laws.proofs.nodes.Sides.{IsAct, IsLineFrame, plain_frame, EndIn, end_taken, end_ticked, end_reset, end_stopped, end_readied, end_out}
 use Rattle.told_laws.proofs.nodes.Sides.{end_sent, end_more, IsMail, mail_told, AreMail, got_in, whole_low}
-use Rattle.node_laws.proofs.Cases.{by_test}
 
 -- ## Activation
 

@@ -1,32 +1,20 @@
 -- The entries of a world of nodes are in their ranges, where no number of a session in them is above a bound. What a boot finds and what ANY_OK
 -- counts isn't spoken of.
 use Rattle.std.proofs.Common.{ℕ, ◌+◌, ◌/◌, ◌%◌, ◌≤◌, ◌<◌, Bool, true, false, nat_lt, List, [], ◌∷◌, ◌++◌, length, arith, Option, Some, None, map}
-use Rattle.std.specs.List.{AllByRecursion}
+use Rattle.told_laws.proofs.Words.{Acked, Active, AllByRecursion, Cause, Clt, Command, Control, Emit, Entry, GaveUp, Got, I, IsByte, IsEnd, IsEntry}
+use Rattle.told_laws.proofs.Words.{IsSaidCommand, Loss, Lost, OnWire, PowerMode, Ready, Report, Rset, S, Sent, Set, SyncId, Took, Ua, aged_entries, all_mapped}
+use Rattle.told_laws.proofs.Words.{by_test, entries_for, first_lost, lpdu_of, told}
 use Rattle.std.specs.Option.{option_to_list}
-use Rattle.block_pool.proofs.HoldingLemmas.{all_mapped}
-use Rattle.swp_base.specs.Bits.{IsByte}
-use Rattle.swp_base.specs.declared.control_frames.Control.{Control}
-use Rattle.swp_base.specs.declared.control_frames.Control.TheVariants.{I, S, Rset, Ua, Act as ActFrame, Clt}
-use Rattle.swp_base.specs.declared.control_frames.Act.TheVariants.{Ready, SyncId, PowerMode}
-use Rattle.swp_lpdu.specs.Controls.{lpdu_of}
-use Rattle.trace_model.specs.declared.entry.Entry.{Entry}
+use Rattle.swp_base.specs.declared.control_frames.Control.TheVariants.{Act as ActFrame}
 use Rattle.trace_model.specs.declared.entry.Entry.TheVariants as entry
-use Rattle.link_laws.specs.sessions.Sessions.{OnWire}
-use Rattle.link_laws.specs.machine.Machine.{Report}
-use Rattle.link_laws.specs.messages.Links.{Loss}
-use Rattle.link_laws.specs.entries.Entries.{End as Side, Entry as Noted, if_so, told, first_lost, aged_entries}
-use Rattle.link_laws.specs.entries.Entries.Entry.{Up, Down, Active, GaveUp, Acked, Got, Sent, Emit, Took, Lost}
-use Rattle.history.specs.Steps.{entry_of, entries_for}
-use Rattle.hci_tables.specs.declared.command.Command.{Command}
-use Rattle.hci_tables.specs.declared.command.Command.TheVariants.{Set}
-use Rattle.told_laws.specs.texts.Ranges.{IsEnd, IsEntry, IsSaidCommand}
+use Rattle.link_laws.specs.entries.Entries.{End as Side, Entry as Noted, if_so}
+use Rattle.link_laws.specs.entries.Entries.Entry.{Up, Down}
+use Rattle.history.specs.Steps.{entry_of}
 use Rattle.registry.proofs.ValueLemmas.{AllByRecursion-append as each-append}
 use Rattle.told_laws.proofs.told.Lines.{IsLpdu, lpdu_by, lpdu_in, end_in}
-use Rattle.swp_base.specs.declared.link_terms.Cause.{Cause}
 use Rattle.told_laws.proofs.told.Ends.{IfTries}
 use Rattle.told_laws.proofs.nodes.Sides.{IsLineFrame, IsMail}
 use Rattle.told_laws.proofs.nodes.Machines.{ReportIn}
-use Rattle.node_laws.proofs.Cases.{by_test}
 
 -- ## Entries
 

@@ -3,21 +3,14 @@
 use Rattle.std.proofs.Common.{◌≡◌, ℕ, zero, suc, ◌+◌, ◌*◌, ◌≤◌, Bool, true, false, List, [], ◌∷◌, ◌++◌, length, refl, sym, subst, ap, ◌∙◌, arith}
 use Rattle.std.proofs.Common.{append_assoc, append-nil}
 use Rattle.std.specs.Prelude.{replicate}
-use Rattle.std.specs.List.{AllByRecursion, flat_map}
-use Rattle.std.proofs.lemmas.Bool.{true≢false}
-use Rattle.std.proofs.lemmas.List.Concat.{flat_map-append}
-use Rattle.trace_model.specs.declared.entry.Entry.{Entry}
-use Rattle.trace_model.specs.declared.line.End.{End}
-use Rattle.node_machine.specs.world.World.{NodeWorld, Site, Happening, end_c, end_h, world_step}
-use Rattle.node_machine.specs.world.World.Happening.{Takes, Ticks}
-use Rattle.node_machine.specs.world.Lines.{Occurrence, all_happen, can_happen, frames_at}
-use Rattle.node_machine.specs.world.NodeHistories.{entries_in}
+use Rattle.told_laws.proofs.Words.{AllByRecursion, End, Entry, FewRsetsOnEach, Happening, IsFew, NodeWorld, Occurrence, Site, Takes, Ticks, all_happen}
+use Rattle.told_laws.proofs.Words.{entries_in, few_front, flat_map, flat_map-append, frames_at, true≢false, world_step}
+use Rattle.node_machine.specs.world.World.{end_c, end_h}
+use Rattle.node_machine.specs.world.Lines.{can_happen}
 use Rattle.node_machine.specs.world.Rounds.{ends_in_order, end_takes_all, ends_take_all, world_round}
-use Rattle.node_laws.specs.kept.Hosts.{AreHosts, IsFew}
+use Rattle.node_laws.specs.kept.Hosts.{AreHosts}
 use Rattle.node_laws.specs.kept.Worlds.{MayHappen}
-use Rattle.node_laws.proofs.kept.Lines.{few_front}
 use Rattle.node_laws.specs.acked.AckedRounds.{AreAckedWithin, amid_round}
-use Rattle.node_laws.specs.rsets.Causes.{FewRsetsOnEach}
 use Rattle.node_laws.proofs.acked.AckedRounds.{IsSound, each_amid, each_rounds}
 use Rattle.node_laws.proofs.rsets.InWorlds.{few_behind_step, each_longer}
 use Rattle.told_laws.proofs.told.Lines.{top}

@@ -2,37 +2,27 @@
 use Rattle.std.proofs.Common.{◌≡◌, inr, ℕ, zero, suc, ◌+◌, ◌*◌, ◌≤◌, Bool, true, false, eqb, List, [], ◌∷◌, ◌++◌, length, map, refl, sym}
 use Rattle.std.proofs.Common.{subst, ap, ◌∙◌, arith, append_assoc, append-nil, Option, Some, None, All}
 use Rattle.std.specs.Prelude.{replicate, if◌then◌else◌, not, ◌&&◌}
-use Rattle.std.specs.List.{AllByRecursion, flat_map}
-use Rattle.std.proofs.lemmas.Bool.{cond_both, true≢false}
-use Rattle.std.proofs.lemmas.List.Concat.{flat_map-append}
-use Rattle.swp_base.specs.Bits.{IsByte}
-use Rattle.trace_model.specs.declared.entry.Entry.{Entry}
+use Rattle.told_laws.proofs.Words.{AllByRecursion, AreFewPlays, End, Entry, Happening, Header, IsByte, IsEntry, IsFew, IsHost, IsPlayFor, Line, MayBegin}
+use Rattle.told_laws.proofs.Words.{NoCause, NodeWorld, Occurrence, OnWire, Play, Round, Running, Said, Site, Takes, Ticks, all_happen, all_mapped, by_test}
+use Rattle.told_laws.proofs.Words.{cond_both, entries_in, few_front, flat_map, flat_map-append, frames_at, hosts_stay_behind, lines_of_play, lines_played}
+use Rattle.told_laws.proofs.Words.{played_more, true≢false}
 use Rattle.trace_model.specs.declared.entry.Entry.TheVariants as entry
-use Rattle.trace_model.specs.declared.entry.NoCause.{NoCause}
-use Rattle.trace_model.specs.declared.line.Header.{Header}
-use Rattle.trace_model.specs.declared.line.Line.{Line}
 use Rattle.trace_model.specs.declared.line.Line.TheVariants as line
-use Rattle.trace_model.specs.Lines.{IsHost, IsNodeHeader, MayBegin}
-use Rattle.trace_model.specs.declared.line.End.{End}
-use Rattle.told_laws.specs.texts.Ranges.{IsEntry}
+use Rattle.trace_model.specs.Lines.{IsNodeHeader}
 use Rattle.told_laws.proofs.texts.ReadLemmas.{said_in}
-use Rattle.link_laws.specs.sessions.Sessions.{OnWire}
 use Rattle.link_laws.specs.messages.Rest.{is_clear}
 use Rattle.registry.proofs.ValueLemmas.{AllByRecursion-append as each-append}
-use Rattle.node_machine.specs.Parts.{Running}
-use Rattle.node_machine.specs.world.World.{NodeWorld, Site, Happening, node_at, node_of, site_at, new_world, new_site}
-use Rattle.node_machine.specs.world.World.Happening.{Takes, Ticks}
-use Rattle.node_machine.specs.world.Lines.{refusal_in, happenings, frames_at, is_running}
-use Rattle.node_machine.specs.world.Lines.{Occurrence, all_happen, LineOutcome, tables_told, goes_on, line_step, noted_below}
+use Rattle.node_machine.specs.world.World.{node_at, node_of, site_at, new_world, new_site}
+use Rattle.node_machine.specs.world.Lines.{refusal_in, happenings, is_running}
+use Rattle.node_machine.specs.world.Lines.{LineOutcome, tables_told, goes_on, line_step, noted_below}
 use Rattle.node_machine.specs.world.Lines.LineOutcome.{WasRefused, Occurred}
-use Rattle.node_machine.specs.world.NodeHistories.{LineStep, NodeHistory, FollowsNodes, NoneIsMisread, steps_from, occurrences_of, entries_in, world_after}
+use Rattle.node_machine.specs.world.NodeHistories.{LineStep, NodeHistory, FollowsNodes, NoneIsMisread, steps_from, occurrences_of, world_after}
 use Rattle.node_machine.specs.world.Rounds.{ends_in_order, end_takes_all, ends_take_all, world_round}
-use Rattle.node_laws.specs.kept.Hosts.{AreDifferent, IsFew, IsSentByHost}
-use Rattle.node_laws.proofs.Cases.{by_test}
-use Rattle.node_laws.proofs.kept.Lines.{MayAllHappen, line_may, few_front}
+use Rattle.node_laws.specs.kept.Hosts.{AreDifferent, IsSentByHost}
+use Rattle.node_laws.proofs.kept.Lines.{MayAllHappen, line_may}
 use Rattle.node_laws.proofs.kept.Kept.{all_begin}
 use Rattle.node_laws.proofs.acked.AckedRounds.{IsSound, sound_new}
-use Rattle.node_laws.proofs.order.HostsStay.{hosts_stay, hosts_stay_behind}
+use Rattle.node_laws.proofs.order.HostsStay.{hosts_stay}
 use Rattle.node_laws.proofs.links.Playing.{world_fine}
 use Rattle.node_laws.proofs.rsets.InWorlds.{few_in_new_world}
 use Rattle.node_laws.specs.schedules.Ranges.{IsNodeLineOf, AreNodeLinesOf, lines_asking}
@@ -40,13 +30,12 @@ use Rattle.node_laws.proofs.bounds.Lines.{asking-append, asking_few}
 use Rattle.node_laws.proofs.schedules.Ranges.{hosts_are, in_range, playable, sent_by_hosts}
 use Rattle.node_laws.proofs.schedules.Few.{are_few}
 use Rattle.lines_told.specs.lines.Below.{IsPlayedLine, entries_below, is_settling, nodes_behind}
-use Rattle.lines_told.specs.lines.Plays.{Play, IsPlayFor, AreFewPlays, lines_of_play, lines_played, lines_said, rounds_played, round_behind, round_in}
+use Rattle.lines_told.specs.lines.Plays.{lines_said, rounds_played, round_behind, round_in}
 use Rattle.lines_told.specs.lines.Plays.{taking_in}
-use Rattle.lines_told.specs.lines.Plays.Play.{Said, Round}
 use Rattle.lines_told.specs.lines.RoundLines.{IsRoundLine}
 use Rattle.lines_told.proofs.lines.Lines.{lines_may_be_played, round_known}
 use Rattle.lines_told.proofs.lines.NodeRounds.{told_in, after-append, told-append, takes_so, round_is, round_told, round_lines}
-use Rattle.lines_told.proofs.lines.Plays.{played_more, said-append, played-append, for_with}
+use Rattle.lines_told.proofs.lines.Plays.{said-append, played-append, for_with}
 use Rattle.told_laws.specs.told.NodesTold.{line_told, nodes_told}
 use Rattle.told_laws.proofs.told.Lines.{each_all, IfCause, top}
 use Rattle.told_laws.proofs.told.Coming.{front_each, back_each}
@@ -57,7 +46,7 @@ use Rattle.told_laws.proofs.nodes.Worlds.{IsSiteIn}
 use Rattle.told_laws.proofs.nodes.Happenings.{HappensIn}
 use Rattle.told_laws.proofs.nodes.Histories.{IsCounted, IsFull, IfFull, AllFull, Stands, all_full, events_in, stands_more}
 use Rattle.told_laws.proofs.nodes.Rounds.{round_stands}
-use Rattle.block_pool.proofs.HoldingLemmas.{all_mapped, all_joined}
+use Rattle.block_pool.proofs.HoldingLemmas.{all_joined}
 use Rattle.told_laws.proofs.nodes.Lines.{number_low, caused_in, few_caused, refused_in, said_tables}
 
 -- an entry is in its range, and what it counts is a number of a text

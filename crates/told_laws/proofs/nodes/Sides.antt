@@ -3,31 +3,24 @@
 use Rattle.std.proofs.Common.{◌≡◌, ℕ, zero, suc, ◌+◌, ◌-◌, ◌%◌, ◌≤◌, ◌<◌, Bool, true, false, nat_lt, List, [], ◌∷◌, length, refl, sym}
 use Rattle.std.proofs.Common.{arith, Option, Some, None}
 use Rattle.std.specs.Prelude.{nat_le, not, ◌==◌}
-use Rattle.std.specs.List.{AllByRecursion}
-use Rattle.std.proofs.lemmas.Bool.{cond_both, ltb-true, ltb-false, leb-true, true≢false}
-use Rattle.swp_base.specs.declared.control_frames.Control.{Control}
-use Rattle.swp_base.specs.declared.control_frames.Control.TheVariants.{I, S, Rset, Ua, Act as ActFrame, Clt}
+use Rattle.told_laws.proofs.Words.{Act, AllByRecursion, AllByRecursion-filter, Clt, Control, Down, EndState, I, IsByte, LinkState, Message, PowerMode, Ready}
+use Rattle.told_laws.proofs.Words.{Rset, S, Srej, SyncId, Ua, Up, Waiting, by_test, cond_both, leb-true, ltb-false, ltb-true, reset_with, stopped, taken}
+use Rattle.told_laws.proofs.Words.{ticked, true≢false}
+use Rattle.swp_base.specs.declared.control_frames.Control.TheVariants.{Act as ActFrame}
 use Rattle.swp_base.specs.declared.control_frames.Kind.{Kind}
-use Rattle.swp_base.specs.declared.control_frames.Kind.TheVariants.{Srej}
-use Rattle.swp_base.specs.declared.control_frames.Act.{Act}
-use Rattle.swp_base.specs.declared.control_frames.Act.TheVariants.{Ready, SyncId, PowerMode}
-use Rattle.swp_base.specs.Bits.{IsByte}
-use Rattle.shdlc_core.specs.declared.answers.LinkState.{LinkState}
-use Rattle.shdlc_core.specs.declared.answers.LinkState.TheVariants.{Down, Waiting, Up}
 use Rattle.shdlc_core.specs.declared.answers.Due.{Due}
-use Rattle.shdlc_core.specs.Machine.{Timed, timed, runs_timer, EndState, Fragment, Session, place_of, received, accepted, gap_found, repeated, discarded, ahead}
-use Rattle.shdlc_core.specs.Machine.{acknowledged, taken, ticked, reset_with, stopped, with_ready, put_out, fragment_due, fetched, after_frames}
+use Rattle.shdlc_core.specs.Machine.{Timed, timed, runs_timer, Fragment, Session, place_of, received, accepted, gap_found, repeated, discarded, ahead}
+use Rattle.shdlc_core.specs.Machine.{acknowledged, with_ready, put_out, fragment_due, fetched, after_frames}
 use Rattle.shdlc_core.specs.Machine.Timed.{Runs, Over, Spent}
 use Rattle.shdlc_core.proofs.Histories.{in_phase}
 use Rattle.hcp_packet.specs.declared.Packet.{Packet}
 use Rattle.hcp_packet.specs.Packets.{packets_in, packet_count, is_good, good_of}
 use Rattle.hcp_chain.specs.Joining.{join_step, message_in, given_by, is_fifth, grown, so_far, others}
-use Rattle.registry.proofs.ValueLemmas.{AllByRecursion-append as each-append, AllByRecursion-filter}
+use Rattle.registry.proofs.ValueLemmas.{AllByRecursion-append as each-append}
 use Rattle.told_laws.proofs.told.Ends.{IsFragment, IsFrame, Ranged, ranged_taken, ranged_ticked, ranged_reset, ranged_stopped, ranged_ready, ranged_out}
 use Rattle.told_laws.proofs.told.Ends.{ranged_after}
-use Rattle.link_laws.specs.machine.Machine.{Message, messages_got, whole_among}
+use Rattle.link_laws.specs.machine.Machine.{messages_got, whole_among}
 use Rattle.told_laws.proofs.told.Links.{IsTellable}
-use Rattle.node_laws.proofs.Cases.{by_test}
 
 -- ## Frames
 

@@ -1,26 +1,23 @@
 -- A node in a step, whatever comes to it: its ends, what it keeps and what it notes are in their ranges.
 use Rattle.std.proofs.Common.{◌≡◌, ℕ, ◌+◌, ◌≤◌, ◌<◌, ◌==◌, Bool, true, false, eqb, nat_lt, List, [], ◌∷◌, ◌++◌, length, map, refl, subst, arith}
 use Rattle.std.proofs.Common.{Option, Some, None}
-use Rattle.std.specs.List.{AllByRecursion, flat_map, list_any}
-use Rattle.std.specs.Option.{option_map_or}
-use Rattle.std.proofs.lemmas.Bool.{cond_both, eqb-true}
-use Rattle.trace_model.specs.declared.entry.Entry.{Entry}
+use Rattle.told_laws.proofs.Words.{AllByRecursion, Command, Commits, Core, Deed, Desk, Ends, Entry, FetchMessage, Give, GoesOn, Hold, IsByte, LinkEnd}
+use Rattle.told_laws.proofs.Words.{LinkInput, Message, Orders, Port, Reset, Sends, SetAside, Turn, Work, after_input, answer_of, by_option, by_test, changed_if}
+use Rattle.told_laws.proofs.Words.{cond_both, flat_map, give_refusal, need, option_map_or, port_at, report, spare, told, whole_acked}
+use Rattle.std.specs.List.{list_any}
+use Rattle.std.proofs.lemmas.Bool.{eqb-true}
 use Rattle.trace_model.specs.declared.entry.Entry.TheVariants as entry
 use Rattle.journal_laws.specs.Planned.{fails_within}
-use Rattle.hci_tables.specs.declared.command.Command.{Command}
 use Rattle.hci_tables.specs.declared.command.Command.TheVariants.{Sync}
 use Rattle.hci_tables.specs.Bodies.{body_of}
 use Rattle.hci_store.specs.Committing.{commit_writes}
-use Rattle.gate_answers.specs.Answers.{answer_of}
-use Rattle.link_laws.specs.machine.Machine.{Message, LinkEnd, LinkInput, Turn, give_refusal, after_input, report, whole_acked, need, spare}
-use Rattle.link_laws.specs.machine.Machine.LinkInput.{Reset}
-use Rattle.link_laws.specs.machine.Machine.Turn.{Give, Hold, FetchMessage, SetAside, Release}
-use Rattle.link_laws.specs.entries.Entries.{End as Side, turn_entry, sent_unless, told}
+use Rattle.link_laws.specs.machine.Machine.Turn.{Release}
+use Rattle.link_laws.specs.entries.Entries.{End as Side, turn_entry, sent_unless}
 use Rattle.registry.proofs.ValueLemmas.{AllByRecursion-append as each-append}
-use Rattle.node_machine.specs.Parts.{About, Notice, Desk, Core, Port, Work, Deed}
+use Rattle.node_machine.specs.Parts.{About, Notice}
 use Rattle.node_machine.specs.Parts.About.{Waits, Forgotten, Removed}
-use Rattle.node_machine.specs.Parts.Deed.{Commits, Sends, SaysOk, Asks, Releases, Tells, IsAnswered, Drops, SetsErrors, Orders, Hears, GoesOn, Ends}
-use Rattle.node_machine.specs.Carrying.{own_side, end_of_node, noting, port_at, changed_if, with_port, with_desk, after_turn, noted_of, turn_at}
+use Rattle.node_machine.specs.Parts.Deed.{SaysOk, Asks, Releases, Tells, IsAnswered, Drops, SetsErrors, Hears}
+use Rattle.node_machine.specs.Carrying.{own_side, end_of_node, noting, with_port, with_desk, after_turn, noted_of, turn_at}
 use Rattle.node_machine.specs.Carrying.{notified, commit}
 use Rattle.node_machine.specs.Carrying.{done, all_done, unless_cut, needs, lack}
 use Rattle.node_machine.specs.Controller.{creation_in, asked_at}
@@ -29,11 +26,9 @@ use Rattle.node_machine.specs.Node.{NodeInput, input_at, has_come, told_at, all_
 use Rattle.node_machine.specs.Node.{times_out, is_over}
 use Rattle.node_machine.specs.Node.{is_forgotten, forgotten, forgets, all_owed, without_notice, after_sessions, synced, steps, answers_and_passes}
 use Rattle.node_machine.specs.Node.NodeInput.{AtEnd, TimePasses}
-use Rattle.node_laws.proofs.Cases.{by_option, by_test}
 use Rattle.node_laws.proofs.steps.StepWalks.{got_at, unless, lets}
 use Rattle.node_machine.proofs.Walks.{forgotten_hold, all_owed_hold}
 use Rattle.told_laws.proofs.told.Lines.{each_all}
-use Rattle.swp_base.specs.Bits.{IsByte}
 use Rattle.told_laws.proofs.nodes.Sides.{IsMail, AreMail}
 use Rattle.told_laws.proofs.nodes.Machines.{SideIn, side_more, side_turn, side_input, side_reset_at, IsTurnIn, AreTurnsIn, IsInputIn, IfSync}
 use Rattle.told_laws.proofs.nodes.Machines.{report_in, acked_in}

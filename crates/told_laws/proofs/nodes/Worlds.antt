@@ -1,28 +1,19 @@
 -- A world of nodes, whatever happens to it: its links and nodes, and what is noted, are in their ranges.
 use Rattle.std.proofs.Common.{◌≡◌, ℕ, ◌+◌, ◌≤◌, ◌==◌, Bool, true, false, eqb, nat_lt, List, [], ◌∷◌, ◌++◌, length, map, refl, subst, arith}
 use Rattle.std.proofs.Common.{Option, Some, None, drop}
-use Rattle.std.specs.List.{AllByRecursion, flat_map}
-use Rattle.std.proofs.lemmas.Bool.{cond_both, eqb-true}
+use Rattle.told_laws.proofs.Words.{AllByRecursion, ArePipeRows, AsksReset, Bare, Comes, Control, Controller, CutOff, Desk, Entry, GoesOut, Host, Link, LinkEnd}
+use Rattle.told_laws.proofs.Words.{LinkInput, NextFrame, NoInput, NodeWorld, NumberedEnd, OnWire, Port, Reset, Running, Site, Start, Starts, Step, Stop, Take}
+use Rattle.told_laws.proofs.Words.{Work, by_option, by_test, changed_if, cond_both, exchanged, first_lost, flat_map, frames_out, happens_at_controller, is_rset}
+use Rattle.told_laws.proofs.Words.{link_to, port_at, put, took_with}
+use Rattle.std.proofs.lemmas.Bool.{eqb-true}
 use Rattle.swp_base.specs.InMemory.{Plan}
-use Rattle.swp_base.specs.declared.control_frames.Control.{Control}
-use Rattle.trace_model.specs.declared.entry.Entry.{Entry}
-use Rattle.pipe_table.specs.PipeRows.{ArePipeRows}
-use Rattle.link_laws.specs.sessions.Sessions.{OnWire, is_rset, fits, took_with}
-use Rattle.link_laws.specs.machine.Machine.{LinkEnd, LinkInput, frames_out}
-use Rattle.link_laws.specs.machine.Machine.LinkInput.{Take, Reset, Start, Stop}
-use Rattle.link_laws.specs.machine.Machine.Role.{Bare}
-use Rattle.link_laws.specs.messages.Links.{NumberedEnd, Link, Ending, Comes, new_link, number_of, exchanged}
-use Rattle.link_laws.specs.messages.Links.{happens_at_controller, put}
-use Rattle.link_laws.specs.messages.Links.Ending.{GoesOut, CutOff}
-use Rattle.link_laws.specs.messages.Links.Comes.{NextFrame, AsksReset, Starts, Stops, NoInput}
+use Rattle.link_laws.specs.sessions.Sessions.{fits}
+use Rattle.link_laws.specs.messages.Links.{Ending, new_link, number_of}
+use Rattle.link_laws.specs.messages.Links.Comes.{Stops}
 use Rattle.link_laws.specs.messages.Links.Loss.{TooMany}
-use Rattle.link_laws.specs.messages.Links.EndEvent.{Step}
-use Rattle.link_laws.specs.entries.Entries.{End as Side, ending_entries, puts_entries, pushed_out, put_entries, wire_with, far, first_lost}
-use Rattle.link_laws.specs.entries.Entries.End.{Controller, Host}
+use Rattle.link_laws.specs.entries.Entries.{End as Side, ending_entries, puts_entries, pushed_out, put_entries, wire_with, far}
 use Rattle.registry.proofs.ValueLemmas.{AllByRecursion-append as each-append}
-use Rattle.node_machine.specs.Parts.{Desk, Running, Port, Work}
-use Rattle.node_machine.specs.Carrying.{changed_if, port_at}
-use Rattle.node_machine.specs.world.World.{Site, NodeWorld, site_at, with_site, link_to, ending_of, runs_on, turns_at, input_of, near_end_in, arrival}
+use Rattle.node_machine.specs.world.World.{site_at, with_site, ending_of, runs_on, turns_at, input_of, near_end_in, arrival}
 use Rattle.node_machine.specs.world.World.{wires_for, port_for, work_of, frames_noted, comes_to, controller_work, link_after_controller, after_controller}
 use Rattle.node_machine.specs.world.World.{controller_does, host_work, after_host, host_does}
 use Rattle.node_machine.proofs.world.Cases.{by_controller, by_host}
@@ -37,7 +28,7 @@ use Rattle.told_laws.proofs.nodes.Commands.{AreTablesIn}
 use Rattle.told_laws.proofs.nodes.Deeds.{IsDeskIn}
 use Rattle.told_laws.proofs.nodes.Hosts.{IfBytes, IfInit}
 use Rattle.told_laws.proofs.nodes.Works.{port_more, IsPortIn, ArePortsIn, IsWorkIn}
-use Rattle.node_laws.proofs.Cases.{by_test, by_list, by_option}
+use Rattle.node_laws.proofs.Cases.{by_list}
 
 -- ## What is kept
 

@@ -1,7 +1,9 @@
 -- The words of entries hold no space and no LF.
 use Rattle.std.proofs.Common.{◌≡◌, ◌==◌, ◌&&◌, ℕ, suc, ◌/◌, ◌%◌, ◌<◌, Bool, true, false, not, cond, nat_lt, List, [], ◌∷◌, ◌++◌, length, slice_index, refl}
 use Rattle.std.proofs.Common.{sym, ◌∙◌, subst, arith, Option, Some, None, IfSome, All, codes, map}
-use Rattle.std.specs.List.{list_all, AllByRecursion}
+use Rattle.told_laws.proofs.Words.{AllByRecursion, AreOctets, Cause, Command, End, Entry, HciTables, IsCause, IsEntry, IsLineSaid, IsNumber, Line, NoCause}
+use Rattle.told_laws.proofs.Words.{PipeRow, RegValue, byte_text, entry_words, hex_or_dash, line_words, two_bytes_text}
+use Rattle.std.specs.List.{list_all}
 use Rattle.std.specs.Char.{is_ascii_digit}
 use Rattle.std.specs.Str.{all_ascii_digits}
 use Rattle.std.specs.Fmt.{decimal}
@@ -11,27 +13,16 @@ use Rattle.std.proofs.lemmas.List.Sums.{AllPass-from_list_all}
 use Rattle.std.proofs.lemmas.List.Folds.{list_all-append}
 use Rattle.std.proofs.Math.ListN.{get_or-eq_default}
 use Rattle.hex.specs.Hex.{encode_with, encode_upper, upper_digits}
-use Rattle.swp_base.specs.declared.link_terms.Cause.{Cause}
 use Rattle.swp_base.specs.declared.link_terms.Cause.TheVariants as why
-use Rattle.pipe_table.specs.declared.row.PipeRow.{PipeRow}
-use Rattle.registry.specs.declared.value.RegValue.{RegValue}
-use Rattle.hci_tables.specs.Tables.{HciTables}
-use Rattle.hci_tables.specs.declared.command.Command.{Command}
 use Rattle.hci_tables.specs.declared.command.Command.TheVariants as command
-use Rattle.tables_text.specs.Tables.{hex_or_dash, state_as_word}
-use Rattle.trace_model.specs.declared.line.End.{End}
-use Rattle.trace_model.specs.declared.line.Line.{Line}
+use Rattle.tables_text.specs.Tables.{state_as_word}
 use Rattle.trace_model.specs.declared.line.Line.TheVariants as line
 use Rattle.trace_model.specs.declared.entry.LostCause.{LostCause}
 use Rattle.trace_model.specs.declared.entry.LostCause.TheVariants as lost
-use Rattle.trace_model.specs.declared.entry.NoCause.{NoCause}
 use Rattle.trace_model.specs.declared.entry.NoCause.TheVariants as cause
-use Rattle.trace_model.specs.declared.entry.Entry.{Entry}
 use Rattle.trace_model.specs.declared.entry.Entry.TheVariants as entry
-use Rattle.schedule_text.specs.Entries.{byte_text, two_bytes_text, end_text, number_words, line_words, down_word, lost_word, cause_words, command_words}
-use Rattle.schedule_text.specs.Entries.{entry_words}
+use Rattle.schedule_text.specs.Entries.{end_text, number_words, down_word, lost_word, cause_words, command_words}
 use Rattle.schedule_text.proofs.AgainLemmas.{IsWord, hex_word, end_word, number_word, by_size, own}
-use Rattle.told_laws.specs.texts.Ranges.{AreOctets, IsNumber, IsLineSaid, IsCause, IsEntry}
 use Rattle.told_laws.proofs.texts.RowLemmas.{pipe_words, static_words, value_words, sync_words, rows_words}
 
 -- no LF

@@ -1,16 +1,10 @@
 -- Entries with the same words are the same.
 use Rattle.std.proofs.Common.{◌≡◌, ℕ, ◌≤◌, Bool, true, false, cond, List, [], get_or, refl, sym, ◌∙◌, ap, arith, All, map, codes}
 use Rattle.std.specs.Str.{bytes_eq}
-use Rattle.trace_model.specs.declared.line.Header.{Header}
-use Rattle.trace_model.specs.declared.line.Line.{Line}
+use Rattle.told_laws.proofs.Words.{Entry, Header, IsByte, IsEntry, Line, MayBegin, byte_text, entry_words, header_hosts, line_words}
 use Rattle.trace_model.specs.declared.line.Line.TheVariants as line
-use Rattle.trace_model.specs.declared.entry.Entry.{Entry}
 use Rattle.trace_model.specs.declared.entry.Entry.TheVariants as entry
-use Rattle.trace_model.specs.Lines.{MayBegin}
-use Rattle.schedule_text.proofs.ReadAgainLemmas.{header_hosts}
-use Rattle.schedule_text.specs.Entries.{byte_text, header_words, line_words, entry_words}
-use Rattle.swp_base.specs.Bits.{IsByte}
-use Rattle.told_laws.specs.texts.Ranges.{IsEntry}
+use Rattle.schedule_text.specs.Entries.{header_words}
 use Rattle.told_laws.proofs.texts.SameLemmas.{head, other_word, other_words, same_end, same_byte, same_bytes, same_number, same_lost, same_map, same_down}
 use Rattle.told_laws.proofs.texts.SameLemmas.{same_cause}
 use Rattle.told_laws.proofs.texts.SameLemmas.{behind, behind_two, same_command, same_said}

@@ -1,15 +1,12 @@
 -- A line that is read is in its range.
 use Rattle.std.proofs.Common.{◌≡◌, ℕ, ◌^◌, ◌≤◌, ◌<◌, List, length, get_or, subst, arith, inl, Option, Some, None, Ok, IfSome}
-use Rattle.trace_model.specs.declared.line.End.{End}
-use Rattle.trace_model.specs.declared.line.Header.{Header}
-use Rattle.trace_model.specs.declared.line.Line.{Line}
+use Rattle.told_laws.proofs.Words.{End, Header, IsEnd, IsHeader, IsHost, IsLineOf, IsLineSaid, IsNumber, Line, MayBegin, header_hosts}
 use Rattle.trace_model.specs.declared.line.Line.TheVariants as line
-use Rattle.trace_model.specs.Lines.{IsHost, IsHeader, IsEndOf, IsNodeOf, IsLineOf, MayBegin, MayFollow}
+use Rattle.trace_model.specs.Lines.{IsEndOf, IsNodeOf, MayFollow}
 use Rattle.schedule_text.specs.declared.read.Read.TheVariants as read
 use Rattle.schedule_text.specs.Lines.{line_of}
 use Rattle.schedule_text.proofs.LinesLemmas.{MayFollow-line_of}
-use Rattle.schedule_text.proofs.ReadAgainLemmas.{header_hosts, node_fits}
-use Rattle.told_laws.specs.texts.Ranges.{IsEnd, IsNumber, IsLineSaid}
+use Rattle.schedule_text.proofs.ReadAgainLemmas.{node_fits}
 
 end_in : (header : Header) → MayBegin header → (e : End) → IsEndOf header e → IsEnd e
 end_in header is e known =

@@ -1,16 +1,13 @@
 -- Tables with the same lines are the same.
 use Rattle.std.proofs.Common.{◌≡◌, ℕ, Bool, true, false, List, [], ◌∷◌, ◌++◌, length, refl, sym, ◌∙◌, ap, arith, map, codes, append_assoc, length-append}
-use Rattle.std.specs.List.{flat_map}
+use Rattle.told_laws.proofs.Words.{HciTables, IsSaidValue, PipeRow, RegValue, byte_text, flat_map, hex_or_dash, two_bytes_text}
 use Rattle.std.proofs.lemmas.Grind.{flat_map-append}
 use Rattle.std.proofs.lemmas.List.{length-map}
-use Rattle.pipe_table.specs.declared.row.PipeRow.{PipeRow}
-use Rattle.registry.specs.declared.value.RegValue.{RegValue}
-use Rattle.hci_tables.specs.Tables.{HciTables}
-use Rattle.tables_text.specs.Tables.{hex_or_dash, end_words, state_as_word, pipe_line, static_line, value_line, sync_line, rows_text}
+use Rattle.tables_text.specs.Tables.{end_words, state_as_word, pipe_line, static_line, value_line, sync_line, rows_text}
 use Rattle.tables_text.specs.Tables as told
 use Rattle.schedule_text.specs.Words.{spaced}
-use Rattle.schedule_text.specs.Entries.{byte_text, two_bytes_text, count_words}
-use Rattle.told_laws.specs.texts.Ranges.{IsSaidPipe, IsSaidStatic, IsSaidValue, IsSaidSync, AreSaidTables}
+use Rattle.schedule_text.specs.Entries.{count_words}
+use Rattle.told_laws.specs.texts.Ranges.{IsSaidPipe, IsSaidStatic, IsSaidSync, AreSaidTables}
 use Rattle.told_laws.proofs.texts.SameLemmas.{other_word, same_map, same_byte, same_number, same_two, same_value, same_row}
 
 -- ## The words of the lines of tables

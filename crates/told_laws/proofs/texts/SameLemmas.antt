@@ -6,24 +6,18 @@ use Rattle.std.proofs.lemmas.Slice.Eq.{bytes_eq-Decides}
 use Rattle.std.specs.Fmt.{decimal}
 use Rattle.std.proofs.lemmas.Fmt.{decimal_injective}
 use Rattle.hex.specs.Hex.{encode_upper}
-use Rattle.swp_base.specs.declared.link_terms.Cause.{Cause}
+use Rattle.told_laws.proofs.Words.{AreOctets, Cause, Command, End, IsByte, IsCause, IsEnd, IsLineSaid, IsNumber, IsSaidCommand, Line, NoCause, PipeRow}
+use Rattle.told_laws.proofs.Words.{byte_text, hex_or_dash, line_words, two_bytes_text}
 use Rattle.swp_base.specs.declared.link_terms.Cause.TheVariants as why
-use Rattle.pipe_table.specs.declared.row.PipeRow.{PipeRow}
-use Rattle.hci_tables.specs.declared.command.Command.{Command}
 use Rattle.hci_tables.specs.declared.command.Command.TheVariants as command
-use Rattle.tables_text.specs.Tables.{hex_or_dash}
-use Rattle.trace_model.specs.declared.line.End.{End}
-use Rattle.trace_model.specs.declared.line.Line.{Line}
 use Rattle.trace_model.specs.declared.line.Line.TheVariants as line
 use Rattle.trace_model.specs.declared.entry.LostCause.{LostCause}
 use Rattle.trace_model.specs.declared.entry.LostCause.TheVariants as lost
-use Rattle.trace_model.specs.declared.entry.NoCause.{NoCause}
 use Rattle.trace_model.specs.declared.entry.NoCause.TheVariants as cause
 use Rattle.schedule_text.specs.Values.{byte_value, bytes_value, end_value}
-use Rattle.schedule_text.specs.Entries.{byte_text, two_bytes_text, end_text, number_words, line_words, down_word, lost_word, cause_words, command_words}
+use Rattle.schedule_text.specs.Entries.{end_text, number_words, down_word, lost_word, cause_words, command_words}
 use Rattle.schedule_text.proofs.AgainLemmas.{byte_again, bytes_again, end_again, length-hex}
-use Rattle.swp_base.specs.Bits.{IsByte}
-use Rattle.told_laws.specs.texts.Ranges.{IsEnd, AreOctets, IsNumber, IsTwoBytes, IsLineSaid, IsCause, IsSaidCommand}
+use Rattle.told_laws.specs.texts.Ranges.{IsTwoBytes}
 
 -- other words
 abbrev pub head : List (List ℕ) → List ℕ

@@ -1,14 +1,13 @@
 -- The texts of entries end at their first LF.
 use Rattle.std.proofs.Common.{◌≡◌, ◌==◌, ◌&&◌, ℕ, suc, Bool, true, false, not, List, [], ◌∷◌, ◌++◌, length, refl, sym, ◌∙◌, ap, subst, arith, All, append_assoc}
 use Rattle.std.proofs.Common.{length-append}
-use Rattle.std.specs.List.{list_all, flat_map, AllByRecursion}
+use Rattle.told_laws.proofs.Words.{AllByRecursion, Entry, IsEntry, entry_words, flat_map}
+use Rattle.std.specs.List.{list_all}
 use Rattle.std.proofs.lemmas.List.Folds.{list_all-append}
-use Rattle.trace_model.specs.declared.entry.Entry.{Entry}
 use Rattle.trace_model.specs.declared.entry.Entry.TheVariants as entry
 use Rattle.schedule_text.specs.Words.{words, spaced}
-use Rattle.schedule_text.specs.Entries.{entry_words, lines_behind, entry_text, entry_line}
+use Rattle.schedule_text.specs.Entries.{lines_behind, entry_text, entry_line}
 use Rattle.schedule_text.proofs.AgainLemmas.{IsWord, words-spaced}
-use Rattle.told_laws.specs.texts.Ranges.{IsEntry}
 use Rattle.std.proofs.lemmas.Grind.{flat_map-append}
 use Rattle.told_laws.proofs.texts.SameLemmas.{other_words}
 use Rattle.std.proofs.lemmas.List.{append-nil}

@@ -1,28 +1,16 @@
 -- All that is told of plays in a bare world is in its range.
 use Rattle.std.proofs.Common.{◌≡◌, ℕ, ◌+◌, ◌*◌, ◌≤◌, true, List, [], ◌∷◌, ◌++◌, refl, ap, arith, sym, ◌∙◌, inl}
-use Rattle.std.proofs.lemmas.Bool.{true≢false}
-use Rattle.std.specs.List.{AllByRecursion}
-use Rattle.trace_model.specs.declared.line.End.{End}
-use Rattle.trace_model.specs.declared.line.Header.{Header}
-use Rattle.trace_model.specs.declared.line.Line.{Line}
+use Rattle.told_laws.proofs.Words.{AllByRecursion, AreFewPlays, Controller, End, Follows, Header, History, Host, IsEntry, IsHeader, IsLineOf, IsPlayFor, Line}
+use Rattle.told_laws.proofs.Words.{Link, Play, Round, Said, by_test, entries_told, host_of, hosts_stay_behind, lines_of_play, lines_played, true≢false}
 use Rattle.trace_model.specs.declared.line.Line.TheVariants as line
-use Rattle.trace_model.specs.Lines.{IsHeader, IsLineOf}
-use Rattle.told_laws.specs.texts.Ranges.{IsEntry}
-use Rattle.link_laws.specs.messages.Links.{Link}
 use Rattle.link_laws.specs.messages.Rest.{is_clear}
-use Rattle.link_laws.specs.entries.Entries.End.{Controller, Host}
-use Rattle.history.specs.Histories.{History}
-use Rattle.history.specs.Follows.{Follows, frames_to, host_of, link_after_lines}
+use Rattle.history.specs.Follows.{frames_to, link_after_lines}
 use Rattle.history.specs.Steps.{end_of}
-use Rattle.node_laws.proofs.Cases.{by_test}
-use Rattle.node_laws.proofs.order.HostsStay.{hosts_stay_behind}
 use Rattle.lines_told.specs.lines.Below.{IsPlayedLine, bare_link_behind}
-use Rattle.lines_told.specs.lines.Plays.{Play, AreFewPlays, IsPlayFor, lines_of_play, lines_played, lines_said, rounds_played, round_on, taking_on}
-use Rattle.lines_told.specs.lines.Plays.Play.{Said, Round}
+use Rattle.lines_told.specs.lines.Plays.{lines_said, rounds_played, round_on, taking_on}
 use Rattle.lines_told.proofs.lines.Lines.{lines_may_be_played}
 use Rattle.lines_told.proofs.lines.BareRounds.{bare_round_lines}
 use Rattle.lines_told.proofs.lines.Plays.{said-append, played-append}
-use Rattle.told_laws.specs.told.Told.{entries_told}
 use Rattle.told_laws.proofs.told.Lines.{line_cheap, lines_cost}
 use Rattle.told_laws.proofs.told.Coming.{told_in}
 use Rattle.told_laws.proofs.told.Plays.{lines_from, played_from}

@@ -1,35 +1,24 @@
 -- The messages that came are among those that were sent, so all that is told of a history is in its range.
 use Rattle.std.proofs.Common.{◌≡◌, ℕ, ◌+◌, ◌≤◌, ◌<◌, List, [], ◌∷◌, ◌++◌, refl, sym, ap, subst, arith, inl, Option, Some, None}
 use Rattle.std.specs.Prelude.{◌==◌}
-use Rattle.std.specs.List.{AllByRecursion, flat_map, cons_option}
-use Rattle.std.proofs.lemmas.List.Concat.{flat_map-append}
-use Rattle.block_pool.proofs.HoldingLemmas.{all_mapped, all_joined}
-use Rattle.trace_model.specs.declared.entry.Entry.{Entry}
+use Rattle.told_laws.proofs.Words.{AllByRecursion, AreOctets, End, Entry, Follows, Header, History, IsByte, IsEntry, IsHeader, IsLineOf, Line, Message, Outcome}
+use Rattle.told_laws.proofs.Words.{all_mapped, bare_link, by_test, entries_told, flat_map, flat_map-append, host_of, noted, step_told}
+use Rattle.std.specs.List.{cons_option}
+use Rattle.block_pool.proofs.HoldingLemmas.{all_joined}
 use Rattle.trace_model.specs.declared.entry.Entry.TheVariants as entry
-use Rattle.trace_model.specs.declared.line.End.{End}
-use Rattle.trace_model.specs.declared.line.Header.{Header}
-use Rattle.trace_model.specs.declared.line.Line.{Line}
 use Rattle.trace_model.specs.Ends.{other_end}
-use Rattle.trace_model.specs.Lines.{IsHeader, IsLineOf}
 use Rattle.hcp_packet.specs.Packets.{IsFrontOf, good_of, is_good}
-use Rattle.link_laws.specs.machine.Machine.{Message}
 use Rattle.link_laws.proofs.entries.Lasting.{same_number}
-use Rattle.history.specs.Histories.{Event, Outcome, Step, History, noted, events_of, entries_of, all_events, all_entries}
+use Rattle.history.specs.Histories.{Event, Step, events_of, entries_of, all_events, all_entries}
 use Rattle.history.specs.Histories.Outcome.{Refused, Caused}
 use Rattle.history.specs.Filters.{Saying, same_end, said, at_end, said_of, sent_by, sent_in, got_in_session, got_in}
 use Rattle.history.specs.Filters.Saying.{Sends}
-use Rattle.history.specs.Steps.{bare_link}
-use Rattle.history.specs.Follows.{Follows, host_of}
 use Rattle.history.specs.Legal.{IsInOrder}
 use Rattle.history.proofs.legal.Ordered.{in_order}
 use Rattle.history.proofs.legal.Runs.{events_in}
-use Rattle.swp_base.specs.Bits.{IsByte}
-use Rattle.told_laws.specs.texts.Ranges.{AreOctets, IsEntry}
-use Rattle.told_laws.specs.told.Told.{step_told, entries_told}
 use Rattle.registry.proofs.ValueLemmas.{AllByRecursion-append as each-append}
 use Rattle.told_laws.proofs.told.Lines.{IsApart, AreApart, bare_stands, host_low, lines_cost, steps_told, top}
 use Rattle.history.proofs.Filters.{same_end_itself}
-use Rattle.node_laws.proofs.Cases.{by_test}
 
 -- ## Parts of lists
 

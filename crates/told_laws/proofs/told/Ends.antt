@@ -2,24 +2,20 @@
 use Rattle.std.proofs.Common.{◌≡◌, ℕ, zero, suc, ◌%◌, ◌≤◌, ◌<◌, Bool, true, false, List, [], ◌∷◌, length, slice_get, refl, sym, subst, arith}
 use Rattle.std.proofs.Common.{Option, Some, None}
 use Rattle.std.specs.Prelude.{◌==◌}
-use Rattle.std.specs.List.{AllByRecursion}
+use Rattle.told_laws.proofs.Words.{AllByRecursion, Clt, Control, Down, EndState, I, IsByte, LinkState, Rset, S, Srej, Ua, Up, Waiting, by_option, reset_with}
+use Rattle.told_laws.proofs.Words.{stopped, taken, tick_answer, ticked}
 use Rattle.std.proofs.lemmas.Grind.{common_steps}
-use Rattle.swp_base.specs.declared.control_frames.Control.{Control}
-use Rattle.swp_base.specs.declared.control_frames.Control.TheVariants.{I, S, Rset, Ua, Act, Clt}
+use Rattle.swp_base.specs.declared.control_frames.Control.TheVariants.{Act}
 use Rattle.swp_base.specs.declared.control_frames.Kind.{Kind}
-use Rattle.swp_base.specs.declared.control_frames.Kind.TheVariants.{Rr, Rej, Rnr, Srej}
-use Rattle.shdlc_core.specs.declared.answers.LinkState.{LinkState}
-use Rattle.shdlc_core.specs.declared.answers.LinkState.TheVariants.{Down, Waiting, Up}
+use Rattle.swp_base.specs.declared.control_frames.Kind.TheVariants.{Rr, Rej, Rnr}
 use Rattle.shdlc_core.specs.declared.answers.Due.{Due}
 use Rattle.shdlc_core.specs.declared.answers.Due.TheVariants.{Rset as Rset_due, Ua as Ua_due}
-use Rattle.shdlc_core.specs.Machine.{Timed, timed, runs_timer, EndState, Fragment, Session, place_of, received, acknowledged, taken, ticked, tick_answer}
-use Rattle.shdlc_core.specs.Machine.{reset_with, stopped, with_ready, put_out, frame_due, fragment_due, control_due, expected, fetched, frames_of, after_frames}
+use Rattle.shdlc_core.specs.Machine.{Timed, timed, runs_timer, Fragment, Session, place_of, received, acknowledged}
+use Rattle.shdlc_core.specs.Machine.{with_ready, put_out, frame_due, fragment_due, control_due, expected, fetched, frames_of, after_frames}
 use Rattle.shdlc_core.specs.Machine.Timed.{Runs, Over, Spent}
 use Rattle.shdlc_core.proofs.Histories.{in_phase, received-sending}
-use Rattle.swp_base.specs.Bits.{IsByte}
 use Rattle.shdlc_core.proofs.Timers.{grown_tries, timed-over}
 use Rattle.registry.proofs.ValueLemmas.{AllByRecursion-append as each-append, AllByRecursion-get}
-use Rattle.node_laws.proofs.Cases.{by_option}
 
 -- ## Fragments and frames
 

@@ -2,57 +2,40 @@
 use Rattle.std.proofs.Common.{◌≡◌, ℕ, zero, suc, ◌+◌, ◌*◌, ◌^◌, ◌/◌, ◌≤◌, ◌<◌, Bool, true, false, cond, nat_lt, List, [], ◌∷◌, ◌++◌, length, replicate, refl}
 use Rattle.std.proofs.Common.{sym, subst, arith, Option, Some, None, All, length-append}
 use Rattle.std.specs.Prelude.{unwrap_or, ◌==◌, ◌%◌}
-use Rattle.std.specs.List.{AllByRecursion, flat_map}
-use Rattle.std.proofs.lemmas.Bool.{ltb-false}
-use Rattle.swp_base.specs.declared.control_frames.Control.{Control}
-use Rattle.swp_base.specs.declared.control_frames.Control.TheVariants.{I, S, Rset, Ua, Act, Clt}
-use Rattle.swp_base.specs.declared.control_frames.Kind.TheVariants.{Rr, Rej, Rnr, Srej}
-use Rattle.swp_base.specs.Bits.{bits_of, IsByte}
+use Rattle.told_laws.proofs.Words.{Acked, Active, AllByRecursion, AreOctets, Clt, Control, Controller, Down, Emit, End, Entry, FewRsets, GaveUp, Got, Header}
+use Rattle.told_laws.proofs.Words.{Host, I, IsByte, IsCause, IsEnd, IsEntry, IsHeader, IsLineOf, IsNumber, Line, Link, LinkEnd, LinkState, Lost, Message}
+use Rattle.told_laws.proofs.Words.{NoCause, OnWire, Outcome, Rset, S, Sent, Srej, Taken, Ticked, Took, Ua, Up, Waiting, bare_link, by_test, entries_for}
+use Rattle.told_laws.proofs.Words.{flat_map, give_refusal, host_of, is_open, lpdu_of, ltb-false, need, noted, reset_refusal, spare, step_told}
+use Rattle.swp_base.specs.declared.control_frames.Control.TheVariants.{Act}
+use Rattle.swp_base.specs.declared.control_frames.Kind.TheVariants.{Rr, Rej, Rnr}
+use Rattle.swp_base.specs.Bits.{bits_of}
 use Rattle.swp_base.proofs.BitLemmas.{length-bits_of}
 use Rattle.swp_crc.specs.Crc.{crc_of}
 use Rattle.swp_frame.specs.Stuffing.{stuffed_after, stuffed, start_of_frame, end_of_frame, with_crc, frame_of}
-use Rattle.swp_lpdu.specs.Controls.{lpdu_of}
-use Rattle.shdlc_core.specs.declared.answers.LinkState.{LinkState}
-use Rattle.shdlc_core.specs.declared.answers.LinkState.TheVariants.{Down, Waiting, Up}
 use Rattle.shdlc_core.specs.Machine.{is_waiting}
-use Rattle.trace_model.specs.declared.entry.Entry.{Entry}
 use Rattle.trace_model.specs.declared.entry.Entry.TheVariants as entry
-use Rattle.trace_model.specs.declared.entry.NoCause.{NoCause}
 use Rattle.trace_model.specs.declared.entry.NoCause.TheVariants as why
-use Rattle.trace_model.specs.declared.line.End.{End}
-use Rattle.trace_model.specs.declared.line.Header.{Header}
-use Rattle.trace_model.specs.declared.line.Line.{Line}
 use Rattle.trace_model.specs.declared.line.Line.TheVariants as line
-use Rattle.trace_model.specs.Lines.{IsHeader, IsLineOf}
-use Rattle.link_laws.specs.sessions.Sessions.{OnWire}
-use Rattle.link_laws.specs.machine.Machine.{LinkEnd, Message, give_refusal, reset_refusal, is_open, need, spare}
 use Rattle.link_laws.specs.machine.Machine.Refused.{TooLong, Full, Inactive, IsWaiting}
-use Rattle.link_laws.specs.messages.Links.{Link}
-use Rattle.link_laws.specs.messages.Rsets.{FewRsets}
 use Rattle.link_laws.specs.messages.Links.IsStart.{IsBare}
 use Rattle.link_laws.proofs.messages.RsetNumbers.{start_numbered}
 use Rattle.link_laws.specs.entries.Entries.{End as Side, Entry as Noted, event_entries}
-use Rattle.link_laws.specs.entries.Entries.End.{Controller, Host}
-use Rattle.link_laws.specs.entries.Entries.Entry.{Up as Begins, Down as Ends, Active, GaveUp, Acked, Got, Sent, Emit, Took, Lost, Tick, Cut}
-use Rattle.history.specs.Histories.{Cause, Event, Outcome, Step, noted, entries_of, causes_of}
-use Rattle.history.specs.Histories.Cause.{Taken, Ticked}
+use Rattle.link_laws.specs.entries.Entries.Entry.{Up as Begins, Down as Ends, Tick, Cut}
+use Rattle.history.specs.Histories.{Cause, Event, Step, entries_of, causes_of}
 use Rattle.history.specs.Histories.Outcome.{Refused as LineRefused, Caused}
 use Rattle.history.specs.BareRsets.{rsets_by_bare}
 use Rattle.history.proofs.RsetsInBareWorlds.{few_after}
 use Rattle.history.specs.Damage.{Verdict}
 use Rattle.history.specs.Damage.Verdict.{Same, LostFor, Undetected}
-use Rattle.history.specs.Steps.{bare_link, end_of, entry_of, entries_for, event_of, events_at, link_after, link_after_all}
+use Rattle.history.specs.Steps.{end_of, entry_of, event_of, events_at, link_after, link_after_all}
 use Rattle.history.specs.Follows.{refusal, as_noted, if_empty, if_beyond, if_out_of_reach, machine_of, frames_to, taken_of, first_verdict, damage_causes}
-use Rattle.history.specs.Follows.{causes_in, outcome_of, host_of, link_after_line, StepsFollow}
-use Rattle.told_laws.specs.texts.Ranges.{IsEnd, AreOctets, IsNumber, IsCause, IsEntry}
+use Rattle.history.specs.Follows.{causes_in, outcome_of, link_after_line, StepsFollow}
 use Rattle.told_laws.proofs.texts.ReadLemmas.{bare_said_in}
-use Rattle.told_laws.specs.told.Told.{step_told}
 use Rattle.told_laws.proofs.told.Ends.{IsFrame}
 use Rattle.registry.proofs.ValueLemmas.{AllByRecursion-append as each-append}
 use Rattle.told_laws.proofs.told.Links.{LinkIs, CanTell, bare_is, given_by, link_more, link_within, link_caused}
 use Rattle.told_laws.proofs.told.Wires.{WireIs}
 use Rattle.told_laws.proofs.told.Notes.{IsNoted, AreNoted, noted_event}
-use Rattle.node_laws.proofs.Cases.{by_test}
 
 -- ## Bytes
 

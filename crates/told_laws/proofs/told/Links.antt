@@ -2,39 +2,28 @@
 use Rattle.std.proofs.Common.{◌≡◌, ℕ, zero, suc, ◌+◌, ◌≤◌, ◌<◌, Bool, true, false, cond, List, [], ◌∷◌, ◌++◌, length, take, drop, map, refl, sym, ap}
 use Rattle.std.proofs.Common.{subst, arith, Option, Some, None, length-append}
 use Rattle.std.specs.Prelude.{is_some, if◌then◌else◌, ◌==◌, not}
-use Rattle.std.specs.List.{AllByRecursion}
-use Rattle.swp_base.specs.declared.control_frames.Control.{Control}
-use Rattle.swp_base.specs.declared.control_frames.Control.TheVariants.{I, S, Rset, Ua, Act, Clt}
-use Rattle.shdlc_core.specs.declared.answers.LinkState.{LinkState}
-use Rattle.shdlc_core.specs.declared.answers.LinkState.TheVariants.{Down, Waiting, Up}
-use Rattle.shdlc_core.specs.Machine.{EndState, taken, take_answer, ticked, tick_answer, reset_with, stopped, all_frames}
+use Rattle.told_laws.proofs.Words.{AllByRecursion, Asked, AsksReset, Bare, Clt, Control, Down, End, EndState, FetchMessage, FewRsets, Give, GoesOut, Hold, I}
+use Rattle.told_laws.proofs.Words.{IsByte, Link, LinkEnd, LinkInput, LinkState, Lose, Loss, Message, NextFrame, NoInput, NumberedEnd, OnWire, Refused, Reset}
+use Rattle.told_laws.proofs.Words.{Rset, S, Step, Take, Taken, Tick, Ticked, Ua, Up, Waiting, activated, after_input, aged, all_frames, among, at, bare_link}
+use Rattle.told_laws.proofs.Words.{by_test, ended_by, exchanged, frames_out, give_refusal, given, happens_at_controller, has_input, heard, if_up, in_front}
+use Rattle.told_laws.proofs.Words.{is_faulty, is_open, is_rset, moved, put, put_down, reset_by, reset_refusal, reset_with, sent_all, stopped, take_answer}
+use Rattle.told_laws.proofs.Words.{taken, tick_answer, ticked, ticks_at_controller, took, took_with, turn, unless, window_of, with_ended}
+use Rattle.swp_base.specs.declared.control_frames.Control.TheVariants.{Act}
 use Rattle.hcp_packet.specs.Packets.{packets_of, parts_of, packet_count, packet_bytes}
-use Rattle.trace_model.specs.declared.line.End.{End}
-use Rattle.link_laws.specs.sessions.Sessions.{OnWire, is_rset, took_with}
-use Rattle.link_laws.specs.machine.Machine.{LinkEnd, LinkInput, Refused, Message, after_input, turn, moved, put_down, activated, heard, took, is_open}
-use Rattle.link_laws.specs.machine.Machine.{is_faulty}
-use Rattle.link_laws.specs.machine.Machine.{news, if_up, reset_by, reset_refusal, ended_by, window_of, give_refusal, given, unless, among, frames_out, sent_all}
-use Rattle.link_laws.specs.machine.Machine.{had_tick, in_front}
-use Rattle.link_laws.specs.machine.Machine.Role.{Bare}
-use Rattle.link_laws.specs.machine.Machine.LinkInput.{Take, Tick, Reset}
-use Rattle.link_laws.specs.machine.Machine.Turn.{Give, Hold, FetchMessage}
-use Rattle.swp_base.specs.declared.link_terms.Cause.TheVariants.{Asked}
+use Rattle.link_laws.specs.machine.Machine.{news}
+use Rattle.link_laws.specs.machine.Machine.{had_tick}
 use Rattle.swp_act.specs.declared.ActEvent.TheVariants.{Tick as ActTick}
-use Rattle.link_laws.specs.messages.Links.{NumberedEnd, Link, EndEvent, Loss, put, put_all, becomes, with_ended, has_input, happens_at_controller}
-use Rattle.link_laws.specs.messages.Links.{ticks_at_controller, aged, exchanged, happens}
-use Rattle.link_laws.specs.messages.Rsets.{EndIsLow, FewRsets}
-use Rattle.link_laws.specs.messages.Links.Ending.{GoesOut}
-use Rattle.link_laws.specs.messages.Links.Comes.{NextFrame, AsksReset, NoInput}
-use Rattle.link_laws.specs.messages.Links.EndEvent.{Step, Lose}
+use Rattle.link_laws.specs.messages.Links.{EndEvent, put_all, becomes}
+use Rattle.link_laws.specs.messages.Links.{happens}
+use Rattle.link_laws.specs.messages.Rsets.{EndIsLow}
 use Rattle.history.specs.Histories.{Cause}
-use Rattle.history.specs.Histories.Cause.{Given, Taken, WasLost, Ticked, WasReset, Readied}
-use Rattle.history.specs.Steps.{at, bare_link, link_after}
-use Rattle.swp_base.specs.Bits.{IsByte}
+use Rattle.history.specs.Histories.Cause.{Given, WasLost, WasReset, Readied}
+use Rattle.history.specs.Steps.{link_after}
 use Rattle.told_laws.proofs.told.Ends.{IsFragment, IsFrame, Ranged, ranged_taken, ranged_ticked, ranged_reset, ranged_stopped, ranged_ready, ranged_out}
 use Rattle.told_laws.proofs.told.Ends.{ranged_after, frames_in, frames_few}
 use Rattle.registry.proofs.ValueLemmas.{AllByRecursion-take}
 use Rattle.told_laws.proofs.told.Wires.{drop_each, FrameIs, WireIs, wire_more, wire_within, wire_dropped, wire_put, wire_aged}
-use Rattle.node_laws.proofs.Cases.{by_list, by_test}
+use Rattle.node_laws.proofs.Cases.{by_list}
 
 -- ## Messages
 

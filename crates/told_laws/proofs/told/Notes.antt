@@ -1,37 +1,30 @@
 -- What is noted of an event of a bare link is in its range, but for the messages that came.
 use Rattle.std.proofs.Common.{◌≡◌, ℕ, ◌+◌, ◌≤◌, Bool, true, false, cond, nat_lt, List, [], ◌∷◌, ◌++◌, length, map, refl, sym, subst, arith, Option, Some, None}
 use Rattle.std.specs.Prelude.{is_some, option_to_list, if◌then◌else◌, not}
-use Rattle.std.specs.List.{AllByRecursion}
-use Rattle.block_pool.proofs.HoldingLemmas.{all_mapped}
-use Rattle.swp_base.specs.declared.control_frames.Control.{Control}
-use Rattle.shdlc_core.specs.Machine.{tick_answer}
+use Rattle.told_laws.proofs.Words.{Acked, Active, AllByRecursion, AsksReset, Control, Controller, Emit, FetchMessage, GaveUp, Give, GoesOut, Got, Hold, Host}
+use Rattle.told_laws.proofs.Words.{Link, LinkEnd, LinkInput, Lose, Loss, Lost, Message, NextFrame, NoInput, NumberedEnd, OnWire, Refused, Report, Reset, Sent}
+use Rattle.told_laws.proofs.Words.{Take, Taken, Ticked, Took, act_answer, after_input, aged, aged_entries, all_mapped, at, by_test, ended_by, exchanged}
+use Rattle.told_laws.proofs.Words.{first_lost, frames_out, give_refusal, put, report, tick_answer, ticks_at_controller, told, took_with, turn, whole_acked}
+use Rattle.told_laws.proofs.Words.{with_ended}
 use Rattle.trace_model.specs.declared.line.End.{End as NamedEnd}
-use Rattle.link_laws.specs.sessions.Sessions.{OnWire, took_with}
-use Rattle.link_laws.specs.machine.Machine.{LinkEnd, Refused, LinkInput, Report, report, whole_acked, turn, give_refusal, after_input, ended_by, frames_out}
-use Rattle.link_laws.specs.machine.Machine.{gave_up_by, act_answer, Message}
-use Rattle.link_laws.specs.machine.Machine.LinkInput.{Take, Tick as HasTick, Reset}
-use Rattle.link_laws.specs.machine.Machine.Turn.{Give, Hold, FetchMessage}
+use Rattle.link_laws.specs.machine.Machine.{gave_up_by}
+use Rattle.link_laws.specs.machine.Machine.LinkInput.{Tick as HasTick}
 use Rattle.link_laws.proofs.machine.Sound.{whole_few}
 use Rattle.swp_act.specs.declared.ActEvent.TheVariants.{Tick as ActTick}
-use Rattle.link_laws.specs.messages.Links.{NumberedEnd, Link, Loss, EndEvent, exchanged, number_of, put, with_ended, ticks_at_controller, aged}
-use Rattle.link_laws.specs.messages.Links.Ending.{GoesOut}
-use Rattle.link_laws.specs.messages.Links.Comes.{NextFrame, AsksReset, NoInput}
-use Rattle.link_laws.specs.messages.Links.EndEvent.{Lose}
+use Rattle.link_laws.specs.messages.Links.{EndEvent, number_of}
 use Rattle.link_laws.specs.messages.Links.Loss.{TooMany}
-use Rattle.link_laws.specs.entries.Entries.{End, Entry, far, if_so, told, told_of, turn_entry, turn_entries, sent_unless, first_lost, wire_with, put_entries}
-use Rattle.link_laws.specs.entries.Entries.{puts_entries, rest_entries, taken_entries, step_entries, here_entries, aged_entries, tick_entries, event_entries}
-use Rattle.link_laws.specs.entries.Entries.End.{Controller, Host}
-use Rattle.link_laws.specs.entries.Entries.Entry.{Up, Down, Active, GaveUp, Acked, Got, Sent, Emit, Took, Lost}
+use Rattle.link_laws.specs.entries.Entries.{End, Entry, far, if_so, told_of, turn_entry, turn_entries, sent_unless, wire_with, put_entries}
+use Rattle.link_laws.specs.entries.Entries.{puts_entries, rest_entries, taken_entries, step_entries, here_entries, tick_entries, event_entries}
+use Rattle.link_laws.specs.entries.Entries.Entry.{Up, Down}
 use Rattle.history.specs.Histories.{Cause}
-use Rattle.history.specs.Histories.Cause.{Given, Taken, WasLost, Ticked, WasReset, Readied}
-use Rattle.history.specs.Steps.{at, idle, event_of}
+use Rattle.history.specs.Histories.Cause.{Given, WasLost, WasReset, Readied}
+use Rattle.history.specs.Steps.{idle, event_of}
 use Rattle.told_laws.proofs.told.Ends.{IsFrame, IfTries, few_tries}
 use Rattle.registry.proofs.ValueLemmas.{AllByRecursion-append as each-append}
 use Rattle.told_laws.proofs.told.Links.{IsTellable, EndIs, LinkIs, CanTell, IsLowWindow, opens, end_took, end_ticked, end_reset, end_given}
 use Rattle.told_laws.proofs.told.Links.{end_held, end_fetched, link_more, link_swapped, link_aged, link_ended, link_left, left_with, link_put, link_ticked}
 use Rattle.told_laws.proofs.told.Links.{put_frame, put_frame_is, took_low, out_is}
 use Rattle.told_laws.proofs.told.Wires.{FrameIs, WireIs, pushed_is}
-use Rattle.node_laws.proofs.Cases.{by_test}
 
 -- no number in it is above n
 abbrev pub IsNoted : ℕ → Entry → Type 0

@@ -1,11 +1,7 @@
 -- The lines that plays come to behind other plays.
 use Rattle.std.proofs.Common.{◌≡◌, List, [], ◌∷◌, ◌++◌, sym, ap, ◌∙◌, append-nil, append_assoc}
-use Rattle.trace_model.specs.declared.line.Header.{Header}
-use Rattle.trace_model.specs.declared.line.Line.{Line}
-use Rattle.lines_told.specs.lines.Plays.{Play, lines_of_play, lines_played}
+use Rattle.told_laws.proofs.Words.{Header, Line, Play, hosts_stay_behind, lines_of_play, lines_played, played_more}
 use Rattle.lines_told.specs.lines.RoundLines.{HostsStay}
-use Rattle.lines_told.proofs.lines.Plays.{played_more}
-use Rattle.node_laws.proofs.order.HostsStay.{hosts_stay_behind}
 
 -- a world of nodes keeps the hosts of its header
 pub keeps_hosts : (header : Header) → HostsStay header

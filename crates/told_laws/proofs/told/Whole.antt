@@ -1,36 +1,28 @@
 -- All that is told of a schedule is in its range: its header, its opening, and its lines, each with what is noted below it.
 use Rattle.std.proofs.Common.{◌≡◌, inl, inr, ℕ, zero, suc, ◌≤◌, true, false, List, [], ◌∷◌, ◌++◌, length, replicate, None, refl, sym, ap, subst}
 use Rattle.std.proofs.Common.{◌∙◌, arith, append-nil, append_assoc, length-append, All}
-use Rattle.std.specs.List.{AllByRecursion, flat_map}
+use Rattle.told_laws.proofs.Words.{AllByRecursion, AreFewPlays, Entry, Follows, Header, History, IsEntry, IsPlayFor, Line, Link, MayBegin, NodeWorld, Outcome}
+use Rattle.told_laws.proofs.Words.{Play, Round, Said, bare_link, flat_map, host_of, hosts_stay_behind, lines_played, noted, played_more, step_told}
 use Rattle.registry.proofs.ValueLemmas.{AllByRecursion-append as each-append}
-use Rattle.trace_model.specs.declared.entry.Entry.{Entry}
 use Rattle.trace_model.specs.declared.entry.Entry.TheVariants.{Echo}
-use Rattle.trace_model.specs.declared.line.Header.{Header}
-use Rattle.trace_model.specs.declared.line.Line.{Line}
 use Rattle.trace_model.specs.declared.line.Line.TheVariants as line
-use Rattle.trace_model.specs.Lines.{MayBegin, MayFollow}
-use Rattle.told_laws.specs.texts.Ranges.{IsEntry}
+use Rattle.trace_model.specs.Lines.{MayFollow}
 use Rattle.told_laws.proofs.texts.ReadLemmas.{said_in}
-use Rattle.link_laws.specs.messages.Links.{Link}
-use Rattle.history.specs.Histories.{History, Outcome, Step, noted}
-use Rattle.history.specs.Steps.{bare_link}
-use Rattle.history.specs.Follows.{Follows, StepsFollow, host_of, link_after_line, misread, opening_of, outcome_of}
+use Rattle.history.specs.Histories.{Step}
+use Rattle.history.specs.Follows.{StepsFollow, link_after_line, misread, opening_of, outcome_of}
 use Rattle.node_machine.specs.world.Lines.{misread_in}
 use Rattle.node_machine.specs.world.NodeHistories.{NoneIsMisread}
-use Rattle.node_machine.specs.world.World.{NodeWorld, new_world}
-use Rattle.node_laws.proofs.order.HostsStay.{hosts_stay_behind}
+use Rattle.node_machine.specs.world.World.{new_world}
 use Rattle.lines_told.specs.lines.Below.{bare_link_behind, misread_below, nodes_behind, opening_told, told_below}
-use Rattle.lines_told.specs.lines.Plays.{Play, AreFewPlays, IsPlayFor, lines_played, lines_played_of, plays_of, plays_of_line, round_behind, rounds_to_rest}
+use Rattle.lines_told.specs.lines.Plays.{lines_played_of, plays_of, plays_of_line, round_behind, rounds_to_rest}
 use Rattle.lines_told.specs.lines.Plays.{schedule_told, told_behind, told_of_line, told_of_lines, told_of_rounds}
-use Rattle.lines_told.specs.lines.Plays.Play.{Said, Round}
 use Rattle.lines_told.specs.lines.RoundLines.{IsRoundLine}
 use Rattle.lines_told.proofs.lines.BareRounds.{lines-append}
 use Rattle.lines_told.proofs.lines.Lines.{round_known, sure_below}
 use Rattle.lines_told.proofs.lines.NodeRounds.{after-append}
-use Rattle.lines_told.proofs.lines.Plays.{played_more, plays_for, plays_more, round_first}
+use Rattle.lines_told.proofs.lines.Plays.{plays_for, plays_more, round_first}
 use Rattle.lines_told.proofs.lines.Resting.{at_most, few_plays}
 use Rattle.lines_told.proofs.lines.Told.{behind-append, told_nodes}
-use Rattle.told_laws.specs.told.Told.{step_told}
 use Rattle.told_laws.proofs.told.Lines.{each_all, host_low}
 use Rattle.told_laws.proofs.told.Coming.{front_each, back_each}
 use Rattle.told_laws.proofs.told.BarePlays.{bare_told_in}

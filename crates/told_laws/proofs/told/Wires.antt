@@ -1,12 +1,8 @@
 -- The frames on a wire are in their ranges, whichever those are.
 use Rattle.std.proofs.Common.{◌≡◌, ℕ, zero, suc, ◌+◌, ◌≤◌, ◌<◌, Bool, true, false, nat_lt, List, [], ◌∷◌, ◌++◌, length, drop, refl, arith, length-append}
-use Rattle.std.specs.List.{AllByRecursion}
-use Rattle.std.proofs.lemmas.Bool.{ltb-true, ltb-false}
-use Rattle.block_pool.proofs.HoldingLemmas.{all_mapped}
-use Rattle.swp_base.specs.declared.control_frames.Control.{Control}
-use Rattle.link_laws.specs.sessions.Sessions.{OnWire, fits, aged_wire}
+use Rattle.told_laws.proofs.Words.{AllByRecursion, Control, OnWire, all_mapped, by_test, ltb-false, ltb-true}
+use Rattle.link_laws.specs.sessions.Sessions.{fits, aged_wire}
 use Rattle.link_laws.specs.messages.Rsets.{WireIsLow}
-use Rattle.node_laws.proofs.Cases.{by_test}
 
 pub drop_each : {X : Type 0} (P : X → Type 0) (n : ℕ) (xs : List X) → AllByRecursion P xs → AllByRecursion P (drop n xs)
 drop_each P zero xs h = h
