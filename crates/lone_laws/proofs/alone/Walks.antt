@@ -11,9 +11,7 @@ use Rattle.node_laws.proofs.answers.Walks.{answers_found, answers_wanted}
 use Rattle.node_laws.proofs.answers.Splits.{first_or, rest_of}
 use Rattle.node_laws.proofs.answers.Rising.{turns_rise, rise_ascends}
 use Rattle.lone_laws.specs.alone.Known.{first_lack_since}
-use Rattle.lone_laws.specs.alone.Answers.{AtEachLoneEvent}
-use Rattle.lone_laws.specs.alone.Answers.{TurnsAscendAlone, is_asked_down, is_done_alone}
-use Rattle.lone_laws.specs.alone.Answers.{is_reset_alone, is_short_alone}
+use Rattle.lone_laws.specs.alone.Answers.{AtEachLoneEvent, TurnsAscendAlone, is_asked_down, is_done_alone, is_reset_alone, is_short_alone}
 use Rattle.node_laws.proofs.answers.OneFact.Fact.{InTurn, Replied, Held, Done, Short, Due, Reset, Ascending, Heard}
 use Rattle.node_laws.proofs.answers.OneFact.{Fact, is_fact, some_is, both_are, none_heard, none_hears, Unless}
 use Rattle.lone_laws.proofs.answered.Queued.{are_in_turn}

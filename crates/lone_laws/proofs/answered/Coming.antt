@@ -9,8 +9,7 @@ use Rattle.swp_act.specs.declared.ActEvent.TheVariants.{Start as ActStart, Tick 
 use Rattle.link_laws.specs.machine.Machine.{had_tick, started, deactivated, got_by}
 use Rattle.link_laws.specs.machine.Machine.LinkInput.{TakeBroken, FromNode, Fetch}
 use Rattle.link_laws.proofs.machine.Kept.{moved_got, activated_got, reset_got, took_got}
-use Rattle.node_machine.specs.Node.{has_come, with_older, is_late, reset_late, told_late}
-use Rattle.node_machine.specs.Node.{is_over}
+use Rattle.node_machine.specs.Node.{has_come, with_older, is_late, reset_late, told_late, is_over}
 use Rattle.node_machine.specs.Node.NodeInput.{AtEnd, TimePasses}
 use Rattle.node_laws.proofs.steps.StepWalks.{unless}
 use Rattle.node_laws.specs.passes.Steps.{has_come_so, has_freed, has_synced}

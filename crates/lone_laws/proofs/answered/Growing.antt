@@ -16,9 +16,7 @@ use Rattle.shdlc_core.specs.declared.answers.Due.{Due}
 use Rattle.shdlc_core.specs.declared.answers.Due.TheVariants.{Rr as Rr_due, Rset as Rset_due}
 use Rattle.shdlc_core.specs.Machine.{control_due, is_waiting, with_ready, fetched, frames_of, after_frames, most_frames}
 use Rattle.link_laws.specs.sessions.Sessions.{is_rset}
-use Rattle.link_laws.specs.machine.Machine.{ActDue}
-use Rattle.link_laws.specs.machine.Machine.{aside_refusal, among}
-use Rattle.link_laws.specs.machine.Machine.{frames_out}
+use Rattle.link_laws.specs.machine.Machine.{ActDue, aside_refusal, among, frames_out}
 use Rattle.link_laws.specs.messages.Rsets.{rsets_among, rsets_due}
 use Rattle.link_laws.proofs.places.Joined.{fetch_cases}
 use Rattle.link_laws.proofs.machine.Shifts.{Shift}
@@ -27,8 +25,7 @@ use Rattle.link_laws.proofs.machine.Reports.{take_so}
 use Rattle.node_machine.specs.Parts.Deed.{Asks as AsksFor, Orders}
 use Rattle.node_machine.specs.Parts.About.{Waits, Removed}
 use Rattle.node_machine.specs.Carrying.{notified}
-use Rattle.node_machine.specs.Node.{is_over}
-use Rattle.node_machine.specs.Node.{is_forgotten}
+use Rattle.node_machine.specs.Node.{is_over, is_forgotten}
 use Rattle.node_machine.specs.Parts.{About}
 use Rattle.node_laws.proofs.Cases.{by_list}
 use Rattle.node_laws.proofs.steps.StepWalks.{Lasts, rest_lasts, got_at}

@@ -2,9 +2,9 @@
 use Rattle.std.proofs.Common.{◌≡◌, ℕ, ◌≤◌, Bool, true, false, cond, eqb, List, [], ◌∷◌, ◌++◌, map, refl, sym, ap, subst, ◌∙◌, append_assoc, arith}
 use Rattle.std.specs.Prelude.{◌+◌, length, Some, None}
 use Rattle.lone_laws.proofs.Words.{AllByRecursion, ComesTo, Commits, Control, Core, Deed, Desk, End, Entry, FrameComes, LinkEnd, LinkInput, Lone, LoneCause}
-use Rattle.lone_laws.proofs.Words.{Port, Running, Work, after_input, all_come, all_do, all_done, done, emits_behind, errors_found, filter, frames_behind}
-use Rattle.lone_laws.proofs.Words.{goes_in, lone_arrival, lone_behind_step, lone_end, lone_input, lone_port, lpdu_of, node_input, own_side, passes, port_at}
-use Rattle.lone_laws.proofs.Words.{report, rsets_since, sent_all, session_with, steps_are, syncs_in, told_at, true≢false, whole_acked}
+use Rattle.lone_laws.proofs.Words.{Port, Running, Work, after_input, all_come, all_do, all_done, by_test, done, emits_behind, errors_found, filter}
+use Rattle.lone_laws.proofs.Words.{frames_behind, goes_in, lone_arrival, lone_behind_step, lone_end, lone_input, lone_port, lpdu_of, node_input, own_side}
+use Rattle.lone_laws.proofs.Words.{passes, port_at, report, rsets_since, sent_all, session_with, steps_are, syncs_in, told_at, true≢false, whole_acked}
 use Rattle.trace_model.specs.declared.entry.Entry.TheVariants as entry
 use Rattle.link_laws.specs.machine.Machine.{frames_out}
 use Rattle.link_laws.specs.sessions.Sessions.{is_rset}
@@ -111,10 +111,9 @@ module _ (rest : Core) (t : List Entry) (l : Lone) (some : 1 ≤ l.link) (most :
       (told_settled e a.port.desk.host (own_side first.core) s (whole_acked (after_input l.side i)) (report l.side i)) errs_first))
 
   commits_errs : (h : ℕ) (d : Deed) (v : Work) → IsCommits d → (v.cut ≡ false → Errs v) → (done h d v).cut ≡ false → Errs (done h d v)
-  commits_errs h (Commits x) v may b = go (goes_in x v) refl where
-    go : (z : Bool) → goes_in x v ≡ z → (done h (Commits x) v).cut ≡ false → Errs (done h (Commits x) v)
-    go true q = rw q (λ still. absurd (true≢false still))
-    go false q = rw q (λ still. errs_more rest l.number l.link some most s t its v (entry.Command v.core.node x ∷ []) (((λ z. refl), tt), tt) (b still))
+  commits_errs h (Commits x) v may b = by_test (goes_in x v)
+      (λ q. rw q (λ still. absurd (true≢false still)))
+      (λ q. rw q (λ still. errs_more rest l.number l.link some most s t its v (entry.Command v.core.node x ∷ []) (((λ z. refl), tt), tt) (b still)))
   commits_errs h _ v may b = absurd may
 
   pub all_passing : passing.cut ≡ false → KnowsAll rest l.number l.link some most s t passing
@@ -190,14 +189,12 @@ module _ (rest : Core) (t : List Entry) (l : Lone) (some : 1 ≤ l.link) (most :
 
   pub keeps_behind : (m : Running) → behind.node ≡ Some m → LoneKeeps R (t ++ (last.entries ++ emits)) behind m
       → KeepsAll rest (t ++ (last.entries ++ emits)) behind m
-  keeps_behind m runs keep = go last.cut refl where
-    go : (b : Bool) → last.cut ≡ b → KeepsAll rest (t ++ (last.entries ++ emits)) behind m
-    go true off = let gone : None ≡ Some m = sym (ap (λ b. cond b None (Some now)) off) ∙ runs in absurd (cc gone)
-    go false on =
-        let both : Some now ≡ Some m = sym (ap (λ b. cond b None (Some now)) on) ∙ runs in
-        let is : now ≡ m = cc in
-        record {
-          keep = keep;
-          talks = talks_behind on;
-          errs = subst (λ (x : Running). ErrorsAre e (errors_found G) (t ++ (last.entries ++ emits)) (errors_of x.desks)) is (errs_behind on);
-        }
+  keeps_behind m runs keep = by_test last.cut
+      (λ off. let gone : None ≡ Some m = sym (ap (λ b. cond b None (Some now)) off) ∙ runs in absurd (cc gone))
+      (λ on. let both : Some now ≡ Some m = sym (ap (λ b. cond b None (Some now)) on) ∙ runs in
+      let is : now ≡ m = cc in
+      record {
+        keep = keep;
+        talks = talks_behind on;
+        errs = subst (λ (x : Running). ErrorsAre e (errors_found G) (t ++ (last.entries ++ emits)) (errors_of x.desks)) is (errs_behind on);
+      })

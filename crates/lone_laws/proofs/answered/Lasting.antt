@@ -2,12 +2,11 @@
 use Rattle.std.proofs.Common.{◌≡◌, ◌≤◌, Bool, true, false, cond, eqb, List, [], ◌∷◌, ◌++◌, map, refl, sym, ap, subst, ◌∙◌, append_assoc}
 use Rattle.std.specs.Prelude.{◌+◌, min, Option, Some, None, is_some}
 use Rattle.lone_laws.proofs.Words.{AreTables, Control, Desk, End, Entry, FrameComes, FrameIsRefused, JoinTwo, LinkEnd, LinkInput, Lone, LoneCause, Port}
-use Rattle.lone_laws.proofs.Words.{Running, Work, by_option, changed_if, does_by_power, emits_behind, lone_arrival, lone_behind_step, lone_end, lone_input}
-use Rattle.lone_laws.proofs.Words.{lone_port, lone_step, lone_work, lpdu_of, node_input, noted_of_refused, option_map_or, port_at, session_with, steps}
-use Rattle.lone_laws.proofs.Words.{true≢false, with_refusal}
+use Rattle.lone_laws.proofs.Words.{Running, Work, by_option, by_test, changed_if, does_by_power, emits_behind, lone_arrival, lone_behind_step, lone_end}
+use Rattle.lone_laws.proofs.Words.{lone_input, lone_port, lone_step, lone_work, lpdu_of, node_input, noted_of_refused, option_map_or, port_at, session_with}
+use Rattle.lone_laws.proofs.Words.{steps, true≢false, with_refusal}
 use Rattle.trace_model.specs.declared.entry.Entry.TheVariants as entry
-use Rattle.lone_laws.specs.alone.Lone.{side_behind}
-use Rattle.lone_laws.specs.alone.Lone.{does_with_input}
+use Rattle.lone_laws.specs.alone.Lone.{side_behind, does_with_input}
 use Rattle.lone_laws.proofs.answered.Reading.{eqb_same, Read, read_all, read-append, reads_of, AreNothing, nothing_read, Alone}
 use Rattle.lone_laws.proofs.answered.Stepping.{lone_comes, alone_steps}
 
@@ -74,33 +73,31 @@ step_is l n c i runs comes = ap (does_by_power l c) runs ∙ ap (does_with_input
 -- the node behind a step of it
 keeps_work : (r : Read) (t : List Entry) (l : Lone) (i : LinkInput) (w : Work) → (w.cut ≡ false → Alone l.number l.link r t w)
     → IfKeeps r (t ++ (w.entries ++ emits_behind l w)) (lone_behind_step l i w)
-keeps_work r t l i w all = go w.cut refl where
-  on_still : Running
-  on_still = record { core = w.core; desks = map (λ (p : Port). p.desk) w.ports }
-
-  go : (b : Bool) → w.cut ≡ b → IfKeeps r (t ++ (w.entries ++ emits_behind l w)) (lone_behind_step l i w)
-  go true off = λ n runs. let gone : None ≡ Some n = sym (ap (λ b. cond b None (Some on_still)) off) ∙ runs in absurd (cc gone)
-  go false on = λ n runs.
-      let a : Alone l.number l.link r t w = all on in
-      let is : record { core = w.core; desks = map (λ (p : Port). p.desk) w.ports } ≡ n =
-      (let some : Some (record { core = w.core; desks = map (λ (p : Port). p.desk) w.ports }) ≡ Some n =
-      sym (ap (λ b. cond b None (Some (record { core = w.core; desks = map (λ (p : Port). p.desk) w.ports }))) on) ∙ runs in cc) in
-      subst (LoneKeeps r (t ++ (w.entries ++ emits_behind l w)) (lone_behind_step l i w)) is (record {
-        desk = a.port.desk;
-        desks_are = ap (map (λ (p : Port). p.desk)) a.ports_are;
-        host = a.host;
-        none = a.none;
-        node = a.node;
-        command = a.command;
-        init = a.init;
-        good = a.good;
-        read =
-            ap (read_all (lone_end l) r) (sym (append_assoc t w.entries (emits_behind l w)))
-            ∙ (read-append (lone_end l) r (t ++ w.entries) (emits_behind l w)
-            ∙ (ap (λ z. read_all (lone_end l) z (emits_behind l w)) a.read
-            ∙ (nothing_read (lone_end l) (emits_behind l w) (emits_nothing (lone_end l) (lone_end l) _) (reads_of w.core a.port)
-            ∙ ap (λ (s : LinkEnd). record { core = w.core; left = s.got; held = a.port.desk.holds }) (sym (side_is r t l w a on)))));
-      })
+keeps_work r t l i w all = by_test w.cut
+    (λ off. λ n runs. let gone : None ≡ Some n = sym (ap (λ b. cond b None (Some on_still)) off) ∙ runs in absurd (cc gone))
+    (λ on. λ n runs.
+    let a : Alone l.number l.link r t w = all on in
+    let is : record { core = w.core; desks = map (λ (p : Port). p.desk) w.ports } ≡ n =
+    (let some : Some (record { core = w.core; desks = map (λ (p : Port). p.desk) w.ports }) ≡ Some n =
+    sym (ap (λ b. cond b None (Some (record { core = w.core; desks = map (λ (p : Port). p.desk) w.ports }))) on) ∙ runs in cc) in
+    subst (LoneKeeps r (t ++ (w.entries ++ emits_behind l w)) (lone_behind_step l i w)) is (record {
+      desk = a.port.desk;
+      desks_are = ap (map (λ (p : Port). p.desk)) a.ports_are;
+      host = a.host;
+      none = a.none;
+      node = a.node;
+      command = a.command;
+      init = a.init;
+      good = a.good;
+      read =
+          ap (read_all (lone_end l) r) (sym (append_assoc t w.entries (emits_behind l w)))
+          ∙ (read-append (lone_end l) r (t ++ w.entries) (emits_behind l w)
+          ∙ (ap (λ z. read_all (lone_end l) z (emits_behind l w)) a.read
+          ∙ (nothing_read (lone_end l) (emits_behind l w) (emits_nothing (lone_end l) (lone_end l) _) (reads_of w.core a.port)
+          ∙ ap (λ (s : LinkEnd). record { core = w.core; left = s.got; held = a.port.desk.holds }) (sym (side_is r t l w a on)))));
+    })) where
+      on_still : Running
+      on_still = record { core = w.core; desks = map (λ (p : Port). p.desk) w.ports }
 
 -- a frame that is refused
 counted_keeps : (r : Read) (t : List Entry) (l : Lone) (n : Running) (es : List Entry) → AreNothing (lone_end l) es → LoneKeeps r t l n

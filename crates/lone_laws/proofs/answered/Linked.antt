@@ -42,13 +42,11 @@ module _ (core : Core) (p : Port) (h : ℕ) (host : p.desk.host ≡ h) where
 
     connected_is : (k : ℕ) → option_map_or (is_connected_at core.tables) (port_at (p ∷ []) k) false
         ≡ (eqb h k && (is_up p.side.shdlc.phase && is_opened core.tables k 1))
-    connected_is k = one_test (is_connected_at core.tables) k ∙ by (cases_Bool (eqb h k)) where
-      at : ℕ → Bool
-      at x = is_up p.side.shdlc.phase && is_opened core.tables x 1
-
-      by : (eqb h k ≡ true) ⊎ (eqb h k ≡ false) → (eqb h k && at p.desk.host) ≡ (eqb h k && at k)
-      by (inl z) = ap (λ x. eqb h k && at x) (host ∙ eqb-true h k z)
-      by (inr z) = ap (λ b. b && at p.desk.host) z ∙ sym (ap (λ b. b && at k) z)
+    connected_is k = one_test (is_connected_at core.tables) k ∙ by_test ((eqb h k))
+        (λ z. ap (λ x. eqb h k && at x) (host ∙ eqb-true h k z))
+        (λ z. ap (λ b. b && at p.desk.host) z ∙ sym (ap (λ b. b && at k) z)) where
+          at : ℕ → Bool
+          at x = is_up p.side.shdlc.phase && is_opened core.tables x 1
 
     nobody : is_asked_at p ≡ false
     nobody = ap (λ n. is_asked_at (record p { desk = record p.desk { notice = n } })) none
@@ -82,9 +80,7 @@ module _ (core : Core) (p : Port) (h : ℕ) (host : p.desk.host ≡ h) where
     ends_are = ap (λ b. option_map end_view (cond b (Some p) None)) here ∙ sym (ap (λ b. cond b (Some (end_view p)) None) (eqb_same h))
 
     pub one_deeds : (m : Message) → deeds_of core (p ∷ []) h m ≡ deeds_for (view_with_link core h (end_view p) (spare p.side)) h m
-    one_deeds m = by (cases_Bool (eqb core.node 0)) where
-      by : (eqb core.node 0 ≡ true) ⊎ (eqb core.node 0 ≡ false) → deeds_for machine h m ≡ deeds_for said h m
-      by (inl q) = deeds_near machine h m q ∙ (same_deeds machine said h knows m ∙ sym (deeds_near said h m q))
-      by (inr q) =
-          deeds_far machine h m q
-          ∙ (ap (λ o. option_map_or (λ e. host_deeds (own_view core) e m) o []) ends_are ∙ sym (deeds_far said h m q))
+    one_deeds m = by_test ((eqb core.node 0))
+        (λ q. deeds_near machine h m q ∙ (same_deeds machine said h knows m ∙ sym (deeds_near said h m q)))
+        (λ q. deeds_far machine h m q
+        ∙ (ap (λ o. option_map_or (λ e. host_deeds (own_view core) e m) o []) ends_are ∙ sym (deeds_far said h m q)))

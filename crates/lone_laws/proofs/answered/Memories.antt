@@ -4,8 +4,8 @@ use Rattle.std.proofs.Common.{append_assoc, append-nil, length-append}
 use Rattle.std.specs.Prelude.{min, Option, Some, None}
 use Rattle.lone_laws.proofs.Words.{AllByRecursion, AreTables, AreTables-apply, Command, Commits, Deed, Drops, Entry, HciTables, IsAnswered, IsCommand}
 use Rattle.lone_laws.proofs.Words.{IsRecordable, Memory, SaysOk, Sends, SetsErrors, State, Work, Write, after_commands, after_planned, all_done, apply, body_of}
-use Rattle.lone_laws.proofs.Words.{commands_of_entries, commit, commit_writes, count_of, done, end_of_node, fails_within, fold-append, keeps, loses_power}
-use Rattle.lone_laws.proofs.Words.{noting, planned_whole, unless_cut}
+use Rattle.lone_laws.proofs.Words.{by_test, commands_of_entries, commit, commit_writes, count_of, done, end_of_node, fails_within, fold-append, keeps}
+use Rattle.lone_laws.proofs.Words.{loses_power, noting, planned_whole, unless_cut}
 use Rattle.std.proofs.lemmas.Bool.{cases_Bool}
 use Rattle.trace_model.specs.declared.entry.Entry.TheVariants as entry
 use Rattle.hci_store.proofs.Recorded.{recordable-apply}
@@ -199,12 +199,9 @@ module _ (E : Type 0) (tables : HciTables) (many : ℕ) (before : List Command) 
           (min (many + length (noted w ++ c ∷ [])) (2 ^ 32 - 1)) found count_then))
 
     pub commit_holds : HoldsOrLoses (commit c w)
-    commit_holds = by_plan (cases_Bool (fails_within (length writes) w.plan)) where
-      by_plan : (fails_within (length writes) w.plan ≡ true) ⊎ (fails_within (length writes) w.plan ≡ false) → HoldsOrLoses (commit c w)
-      by_plan (inl fails) =
-          let is : commit c w ≡ loses_power writes begun = rw fails refl in subst HoldsOrLoses (sym is) (inr (lost_then fails))
-      by_plan (inr none) =
-          let is : commit c w ≡ keeps c writes begun = rw none refl in subst HoldsOrLoses (sym is) (inl (kept_then none))
+    commit_holds = by_test ((fails_within (length writes) w.plan))
+        (λ fails. let is : commit c w ≡ loses_power writes begun = rw fails refl in subst HoldsOrLoses (sym is) (inr (lost_then fails)))
+        (λ none. let is : commit c w ≡ keeps c writes begun = rw none refl in subst HoldsOrLoses (sym is) (inl (kept_then none)))
 
   -- ## Deeds
 

@@ -13,9 +13,7 @@ use Rattle.swp_act.specs.declared.ActEvent.TheVariants.{Start as ActStart, Take 
 use Rattle.shdlc_core.specs.declared.answers.LinkState.TheVariants.{Down, Waiting, Up}
 use Rattle.shdlc_core.specs.declared.answers.Due.{Due}
 use Rattle.shdlc_core.specs.declared.answers.Due.TheVariants.{Rr as Rr_due, Rej as Rej_due, Rnr as Rnr_due, Rset as Rset_due, Ua as Ua_due}
-use Rattle.shdlc_core.specs.Machine.{Fragment, due_left, waiting_from, place_of, acknowledged, received}
-use Rattle.shdlc_core.specs.Machine.{runs_timer}
-use Rattle.shdlc_core.specs.Machine.{is_waiting, sent_again}
+use Rattle.shdlc_core.specs.Machine.{Fragment, due_left, waiting_from, place_of, acknowledged, received, runs_timer, is_waiting, sent_again}
 use Rattle.link_laws.specs.machine.Machine.{if_up}
 use Rattle.link_laws.specs.messages.Rsets.{rsets_among}
 use Rattle.link_laws.proofs.places.Joined.{received_cases}

@@ -8,8 +8,7 @@ use Rattle.lone_laws.proofs.Words.{waiting_at}
 use Rattle.trace_model.specs.declared.entry.Entry.TheVariants as entry
 use Rattle.node_machine.specs.Turns.{goes_through_ends}
 use Rattle.node_laws.specs.answers.Moments.{holds_in}
-use Rattle.node_laws.specs.passes.Passing.{IsNoTurn, ArePassed, IsBehind, Stays}
-use Rattle.node_laws.specs.passes.Passing.{is_held_at}
+use Rattle.node_laws.specs.passes.Passing.{IsNoTurn, ArePassed, IsBehind, Stays, is_held_at}
 use Rattle.node_laws.specs.passes.Passing.ComesTo.{Begins}
 use Rattle.node_laws.specs.passes.Steps.{noted_before_pass}
 use Rattle.node_laws.proofs.passes.Passing.{comes_lasts}

@@ -1,6 +1,5 @@
 -- A boot makes a memory ready: what the next boot finds there is what it found.
-use Rattle.std.proofs.Common.{◌≡◌, ◌⊎◌, inl, inr, ℕ, ◌+◌, ◌<◌, ◌≤◌, true, false, ◌==◌, ◌||◌, List, [], ◌++◌, map, IsTrue, sym, refl, ap, ap₂, ◌∙◌}
-use Rattle.std.proofs.Common.{subst, arith}
+use Rattle.std.proofs.Common.{◌≡◌, ◌⊎◌, inl, inr, ℕ, ◌+◌, ◌<◌, ◌≤◌, true, false, ◌==◌, ◌||◌, List, [], ◌++◌, map, IsTrue, sym, refl, ap, ap₂, ◌∙◌, subst, arith}
 use Rattle.std.specs.Prelude.{Option, Some, None, IsSome}
 use Rattle.lone_laws.proofs.Words.{AreTables, CountsAll, HciTables, IsReadyMemory, IsRecordable, State, after_writes, boot_writes, by_test, close, count_of}
 use Rattle.lone_laws.proofs.Words.{counted, current, eqb-true, format_writes, formatted, found, journal, option_map_or, records, state_of, tables_of}

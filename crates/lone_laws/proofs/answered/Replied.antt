@@ -13,8 +13,7 @@ use Rattle.node_laws.proofs.passes.Notes.{deeds_note}
 use Rattle.node_laws.proofs.passes.Passing.{takes_entries}
 use Rattle.node_laws.proofs.passes.Counts.{taken_at_once}
 use Rattle.node_laws.proofs.views.Setting.{IsUpAt}
-use Rattle.lone_laws.specs.alone.Known.{errors_since}
-use Rattle.lone_laws.specs.alone.Known.{end_since, spare_since}
+use Rattle.lone_laws.specs.alone.Known.{errors_since, end_since, spare_since}
 use Rattle.node_laws.specs.views.Errors.{errors_after, errors_set_by, leads_to_link_gate}
 use Rattle.lone_laws.proofs.answered.Reading.{eqb_same, Read, core_is, Alone}
 use Rattle.lone_laws.proofs.answered.Linked.{one_deeds, one_lack}

@@ -1,26 +1,22 @@
 -- Sessions of a node alone end by resets exactly where they are asked for.
-use Rattle.std.proofs.Common.{ℕ, ◌≤◌, Bool, true, false, cond, List, [], ◌∷◌, map, Option, Some, None, refl}
+use Rattle.std.proofs.Common.{ℕ, ◌≤◌, Bool, true, false, cond, List, [], ◌∷◌, map, Option, Some, None, refl, ◌≡◌, ◌++◌, ◌||◌, eqb, sym, ap, subst, ◌∙◌}
 use Rattle.lone_laws.proofs.Words.{Acked, Active, AllByRecursion, Control, Core, Down, End, Entry, FrameComes, FrameIsRefused, GaveUp, Got, IsResetAlone}
 use Rattle.lone_laws.proofs.Words.{LinkEnd, LinkInput, LinkState, Lone, LoneCause, LpduFault, NodeInput, Report, ResetComes, Running, Sound, StartComes}
 use Rattle.lone_laws.proofs.Words.{StopComes, TickComes, Up, Work, after_input, all_come, cond_both, control_of, emits_behind, entries_for, frames_behind}
 use Rattle.lone_laws.proofs.Words.{if_so, is_open, is_up, is_up_read, list_any, lone_arrival, lone_end, lone_input, lpdu_input, lpdu_of, node_input, own_side}
 use Rattle.lone_laws.proofs.Words.{report, reset_refusal, session_now, session_with, tick_answer, told, told_at, whole_acked}
 use Rattle.trace_model.specs.declared.entry.Entry.TheVariants as entry
-use Rattle.link_laws.specs.entries.Entries.{End as Side}
-use Rattle.std.proofs.Common.{◌≡◌, ◌++◌, ◌||◌, eqb, sym, ap, subst, ◌∙◌}
-use Rattle.std.specs.Prelude.{is_some, option_to_list, nat_lt}
+use Rattle.link_laws.specs.entries.Entries.{End as Side, Entry as Noted}
+use Rattle.std.specs.Prelude.{is_some, option_to_list, nat_lt, Result, Ok, Err}
 use Rattle.swp_base.specs.declared.link_terms.Cause.{Cause as EndedBy}
 use Rattle.swp_base.specs.declared.link_terms.Cause.TheVariants.{Asked, Act as ByAct}
 use Rattle.shdlc_core.specs.declared.answers.LinkState.TheVariants.{Up as IsUpNow, Waiting as IsWaitingNow, Down as IsDown}
-use Rattle.link_laws.specs.machine.Machine.{ended_by, ended_by_reset}
-use Rattle.link_laws.specs.entries.Entries.{Entry as Noted}
+use Rattle.link_laws.specs.machine.Machine.{ended_by, ended_by_reset, ended_by_act}
 use Rattle.node_laws.proofs.passes.Before.{come_entries}
 use Rattle.node_laws.proofs.passes.InSteps.{IsOfStep, step_keeps}
 use Rattle.node_laws.proofs.telling.Reported.{rest_all}
 use Rattle.lone_laws.specs.alone.Answers.{is_asked_down, is_reset_alone}
 use Rattle.swp_act.specs.declared.ActEvent.TheVariants.{Tick as ActTick}
-use Rattle.link_laws.specs.machine.Machine.{ended_by_act}
-use Rattle.std.specs.Prelude.{Result, Ok, Err}
 use Rattle.lone_laws.proofs.answered.Reading.{Alone}
 use Rattle.lone_laws.proofs.answered.Coming.{came_entries, came_is}
 use Rattle.lone_laws.proofs.answered.Stepping.{lone_comes}

@@ -7,9 +7,8 @@ use Rattle.lone_laws.proofs.Words.{reset_refusal, reset_with, role_after, stoppe
 use Rattle.swp_base.specs.declared.control_frames.Control.TheVariants.{Act as ActFrame}
 use Rattle.swp_act.specs.declared.ActEvent.TheVariants.{Start as ActStart, Take as ActTake, Tick as ActTick, Stop as ActStop}
 use Rattle.shdlc_core.specs.declared.answers.LinkState.TheVariants.{Up as IsUpNow}
-use Rattle.link_laws.specs.machine.Machine.{news}
+use Rattle.link_laws.specs.machine.Machine.{news, Role}
 use Rattle.lone_laws.proofs.answered.Coming.{IsLoneInput}
-use Rattle.link_laws.specs.machine.Machine.{Role}
 use Rattle.link_laws.specs.machine.Machine.Role.{Bare, Clf, Uicc}
 
 -- an end of a CLF, or of a UICC

@@ -15,8 +15,7 @@ use Rattle.link_laws.specs.machine.Machine.{given, whole_among, in_use}
 use Rattle.link_laws.specs.machine.Machine.Refused.{NotUp}
 use Rattle.link_laws.proofs.machine.Sound.{whole_given}
 use Rattle.link_laws.proofs.machine.Runs.{sound_turn}
-use Rattle.link_laws.proofs.places.Joined.{ready_cases}
-use Rattle.link_laws.proofs.places.Joined.{fetch_cases}
+use Rattle.link_laws.proofs.places.Joined.{ready_cases, fetch_cases}
 use Rattle.link_laws.specs.entries.Entries.{End as Side, turn_entry}
 use Rattle.link_laws.proofs.entries.Stepping.{fetched_acked}
 use Rattle.node_laws.proofs.links.Deeds.{IsFine}
@@ -163,52 +162,48 @@ module _ (number h s : ℕ) (t : List Entry) where
 
   -- its node does something to it
   pub talks_turn : (k : ℕ) (y : Turn) (w : Work) → IsLoneTurn y → Of w → Of (turn_at k y w)
-  talks_turn k y w may a = go (eqb a.port.desk.host k) refl where
-    f : Port → Port
-    f = after_turn y
+  talks_turn k y w may a = by_test (eqb a.port.desk.host k)
+      (λ q. let noted : es ≡ noted_of w.core y a.port =
+      ap (λ ps. option_map_or (noted_of w.core y) (port_at ps k) []) a.ports_are
+      ∙ ap (λ b. option_map_or (noted_of w.core y) (cond b (Some a.port) None) []) q in
+      record {
+        port = f a.port;
+        ports_are = ap (with_port k f) a.ports_are ∙ ap (λ b. changed_if b f a.port ∷ []) q;
+        host = a.host;
+        node = a.node;
+        same = a.same;
+        aside = lone_turn_aside a.port.side y may a.aside;
+        role = lone_turn_kind a.port.side y may ∙ a.role;
+        sound = lone_turn_sound a.port.side y may a.sound;
+        talk = then_noted w es (turn a.port.side y)
+            (subst (λ l. Reads e number s ((t ++ w.entries) ++ l) (talk_of_side (turn a.port.side y) s))
+            (sym (noted ∙ ap (λ k. entries_for a.port.desk.host (turn_entry (own_side w.core) k a.port.side y)) a.same))
+            (turn_reads e number (own_side w.core) a.port.desk.host own (t ++ w.entries) a.port.side s y may a.sound a.talk));
+      })
+      (λ q. let noted : es ≡ [] =
+      ap (λ ps. option_map_or (noted_of w.core y) (port_at ps k) []) a.ports_are
+      ∙ ap (λ b. option_map_or (noted_of w.core y) (cond b (Some a.port) None) []) q in
+      record {
+        port = a.port;
+        ports_are = ap (with_port k f) a.ports_are ∙ ap (λ b. changed_if b f a.port ∷ []) q;
+        host = a.host;
+        node = a.node;
+        same = a.same;
+        aside = a.aside;
+        role = a.role;
+        sound = a.sound;
+        talk = then_noted w es a.port.side
+            (subst (λ l. Reads e number s ((t ++ w.entries) ++ l) (talk_of_side a.port.side s)) (sym noted)
+            (none_more e number (own_side w.core) a.port.desk.host own (t ++ w.entries) s a.port.side a.talk));
+      }) where
+        f : Port → Port
+        f = after_turn y
 
-    own : same_end (end_of a.port.desk.host (own_side w.core)) e ≡ true
-    own = ap (λ z. same_end z e) (own_end w.core number h a.port.desk.host a.node a.host) ∙ same_self e
+        own : same_end (end_of a.port.desk.host (own_side w.core)) e ≡ true
+        own = ap (λ z. same_end z e) (own_end w.core number h a.port.desk.host a.node a.host) ∙ same_self e
 
-    es : List Entry
-    es = option_map_or (noted_of w.core y) (port_at w.ports k) []
-
-    go : (b : Bool) → eqb a.port.desk.host k ≡ b → Of (turn_at k y w)
-    go true q =
-        let noted : es ≡ noted_of w.core y a.port =
-        ap (λ ps. option_map_or (noted_of w.core y) (port_at ps k) []) a.ports_are
-        ∙ ap (λ b. option_map_or (noted_of w.core y) (cond b (Some a.port) None) []) q in
-        record {
-          port = f a.port;
-          ports_are = ap (with_port k f) a.ports_are ∙ ap (λ b. changed_if b f a.port ∷ []) q;
-          host = a.host;
-          node = a.node;
-          same = a.same;
-          aside = lone_turn_aside a.port.side y may a.aside;
-          role = lone_turn_kind a.port.side y may ∙ a.role;
-          sound = lone_turn_sound a.port.side y may a.sound;
-          talk = then_noted w es (turn a.port.side y)
-              (subst (λ l. Reads e number s ((t ++ w.entries) ++ l) (talk_of_side (turn a.port.side y) s))
-              (sym (noted ∙ ap (λ k. entries_for a.port.desk.host (turn_entry (own_side w.core) k a.port.side y)) a.same))
-              (turn_reads e number (own_side w.core) a.port.desk.host own (t ++ w.entries) a.port.side s y may a.sound a.talk));
-        }
-    go false q =
-        let noted : es ≡ [] =
-        ap (λ ps. option_map_or (noted_of w.core y) (port_at ps k) []) a.ports_are
-        ∙ ap (λ b. option_map_or (noted_of w.core y) (cond b (Some a.port) None) []) q in
-        record {
-          port = a.port;
-          ports_are = ap (with_port k f) a.ports_are ∙ ap (λ b. changed_if b f a.port ∷ []) q;
-          host = a.host;
-          node = a.node;
-          same = a.same;
-          aside = a.aside;
-          role = a.role;
-          sound = a.sound;
-          talk = then_noted w es a.port.side
-              (subst (λ l. Reads e number s ((t ++ w.entries) ++ l) (talk_of_side a.port.side s)) (sym noted)
-              (none_more e number (own_side w.core) a.port.desk.host own (t ++ w.entries) s a.port.side a.talk));
-        }
+        es : List Entry
+        es = option_map_or (noted_of w.core y) (port_at w.ports k) []
 
   -- ## Deeds
 

@@ -1,7 +1,6 @@
 -- Over a whole run of a node alone its memory holds its commands, or all but the last one where its power went in that one's writes.
-use Rattle.std.proofs.Common.{◌≡◌, ◌⊎◌, inl, inr, ℕ, ◌+◌, ◌-◌, ◌^◌, ◌≤◌, Bool, true, false, cond, eqb, List, [], ◌∷◌, ◌++◌, length, map, refl, sym, ap}
-use Rattle.std.proofs.Common.{subst, ◌∙◌, arith}
-use Rattle.std.proofs.Common.{append_assoc, append-nil}
+use Rattle.std.proofs.Common.{◌≡◌, ◌⊎◌, inl, inr, ℕ, ◌+◌, ◌-◌, ◌^◌, ◌≤◌, Bool, true, false, cond, eqb, List, [], ◌∷◌, ◌++◌, length, map, refl, sym, ap, subst}
+use Rattle.std.proofs.Common.{◌∙◌, arith, append_assoc, append-nil}
 use Rattle.std.specs.Prelude.{min, Option, Some, None, is_some, IsSome}
 use Rattle.lone_laws.proofs.Words.{AllByRecursion, AreTables, Command, Control, Core, CountsAll, Deed, End, Entry, FetchMessage, FindsBehind, FrameComes}
 use Rattle.lone_laws.proofs.Words.{FrameIsRefused, HciTables, Hold, IsReadyMemory, IsRecordable, LinkInput, Lone, LoneCause, LoneEvent, Memory, Message, Port}
@@ -81,12 +80,10 @@ module _ (rest : Core) (number h : ℕ) (some : 1 ≤ h) (most : h ≤ 7) (its :
 
   turn_may : (k : ℕ) (m : Message) (w : Work) → Has w → Of w → k ≡ h
       → MayBeDone (Some w.core.journal) w.core.command w.core.init (deeds_of w.core w.ports k m)
-  turn_may k m w g a same = by (eqb w.core.node 0) refl where
-    by : (b : Bool) → eqb w.core.node 0 ≡ b → MayBeDone (Some w.core.journal) w.core.command w.core.init (deeds_of w.core w.ports k m)
-    by true q =
-        rw q (controller_may w.core (on_none w a) g.sorted w.ports (waits_none w a) k (subst (λ n. 1 ≤ n) (sym same) some)
-        (subst (λ n. n ≤ 7) (sym same) most) m)
-    by false q = rw q (by_option (port_at w.ports k) (λ q. rw q (on_none w a)) (λ p q. rw q (host_may w.core (on_none w a) g.sorted (small w a) p m)))
+  turn_may k m w g a same = by_test (eqb w.core.node 0)
+      (λ q. rw q (controller_may w.core (on_none w a) g.sorted w.ports (waits_none w a) k (subst (λ n. 1 ≤ n) (sym same) some)
+      (subst (λ n. n ≤ 7) (sym same) most) m))
+      (λ q. rw q (by_option (port_at w.ports k) (λ q. rw q (on_none w a)) (λ p q. rw q (host_may w.core (on_none w a) g.sorted (small w a) p m))))
 
   handled_holds : (k : ℕ) (m : Message) (messages : List Message) (w : Work) → Has w → Of w → waiting_at w.ports k ≡ m ∷ messages
       → Fine (handles k m (deeds_of w.core w.ports k m) w)
@@ -309,32 +306,27 @@ module _ (E : Type 0) (tables : HciTables) (many : ℕ) where
     pub run_remembers : (causes : List LoneCause) (t : List Entry) (l : Lone) → Between rest number h t l → AllRemembered E tables many t l
         → AllRemembered E tables many (t ++ entries_of_events_alone (lone_events l causes)) (lone_after l causes)
     run_remembers [] t l k b = subst (λ x. AllRemembered E tables many x l) (sym (append-nil t)) b
-    run_remembers (c ∷ causes) t l k b = by (is_some l.node) refl (run_remembers causes) where
-      Later : Type 0
-      Later =
-          (u : List Entry) (v : Lone) → Between rest number h u v → AllRemembered E tables many u v
-          → AllRemembered E tables many (u ++ entries_of_events_alone (lone_events v causes)) (lone_after v causes)
+    run_remembers (c ∷ causes) t l k b = by_test (is_some l.node)
+        (λ q. let event : LoneEvent = record { cause = c; entries = (lone_step l c).1 } in
+        let is : lone_events l (c ∷ causes) ≡ event ∷ lone_events (lone_step l c).0 causes =
+        ap (λ b. cond b (event ∷ lone_events (lone_step l c).0 causes) []) q in
+        subst (λ x. AllRemembered E tables many (t ++ entries_of_events_alone x) (lone_after l (c ∷ causes))) (sym is)
+        (subst (λ x. AllRemembered E tables many x (lone_after l (c ∷ causes)))
+        (append_assoc t (lone_step l c).1 (entries_of_events_alone (lone_events (lone_step l c).0 causes)))
+        ((run_remembers causes) (t ++ (lone_step l c).1) (lone_step l c).0 (each_step rest number h some most its t l c q k).1 (step_remembers t l c q k b))))
+        (λ q. let event : LoneEvent = record { cause = c; entries = (lone_step l c).1 } in
+        let is : lone_events l (c ∷ causes) ≡ [] = ap (λ b. cond b (event ∷ lone_events (lone_step l c).0 causes) []) q in
+        let same : lone_after l (c ∷ causes) ≡ l = off_stays (c ∷ causes) l (none_of l.node q) in
+        subst (λ x. AllRemembered E tables many (t ++ entries_of_events_alone x) (lone_after l (c ∷ causes))) (sym is)
+        (subst (λ (x : Lone). AllRemembered E tables many (t ++ []) x) (sym same) (subst (λ x. AllRemembered E tables many x l) (sym (append-nil t)) b))) where
+          Later : Type 0
+          Later =
+              (u : List Entry) (v : Lone) → Between rest number h u v → AllRemembered E tables many u v
+              → AllRemembered E tables many (u ++ entries_of_events_alone (lone_events v causes)) (lone_after v causes)
 
-      none_of : (o : Option Running) → is_some o ≡ false → o ≡ None
-      none_of None q = refl
-      none_of (Some n) q = absurd (true≢false q)
-
-      by : (x : Bool) → is_some l.node ≡ x → Later
-          → AllRemembered E tables many (t ++ entries_of_events_alone (lone_events l (c ∷ causes))) (lone_after l (c ∷ causes))
-      by true q later =
-          let event : LoneEvent = record { cause = c; entries = (lone_step l c).1 } in
-          let is : lone_events l (c ∷ causes) ≡ event ∷ lone_events (lone_step l c).0 causes =
-          ap (λ b. cond b (event ∷ lone_events (lone_step l c).0 causes) []) q in
-          subst (λ x. AllRemembered E tables many (t ++ entries_of_events_alone x) (lone_after l (c ∷ causes))) (sym is)
-          (subst (λ x. AllRemembered E tables many x (lone_after l (c ∷ causes)))
-          (append_assoc t (lone_step l c).1 (entries_of_events_alone (lone_events (lone_step l c).0 causes)))
-          (later (t ++ (lone_step l c).1) (lone_step l c).0 (each_step rest number h some most its t l c q k).1 (step_remembers t l c q k b)))
-      by false q later =
-          let event : LoneEvent = record { cause = c; entries = (lone_step l c).1 } in
-          let is : lone_events l (c ∷ causes) ≡ [] = ap (λ b. cond b (event ∷ lone_events (lone_step l c).0 causes) []) q in
-          let same : lone_after l (c ∷ causes) ≡ l = off_stays (c ∷ causes) l (none_of l.node q) in
-          subst (λ x. AllRemembered E tables many (t ++ entries_of_events_alone x) (lone_after l (c ∷ causes))) (sym is)
-          (subst (λ (x : Lone). AllRemembered E tables many (t ++ []) x) (sym same) (subst (λ x. AllRemembered E tables many x l) (sym (append-nil t)) b))
+          none_of : (o : Option Running) → is_some o ≡ false → o ≡ None
+          none_of None q = refl
+          none_of (Some n) q = absurd (true≢false q)
 
 -- ## Its beginning
 

@@ -13,9 +13,7 @@ use Rattle.swp_base.specs.declared.control_frames.Control.TheVariants.{Act as Ac
 use Rattle.swp_base.specs.declared.link_terms.Cause.{Cause as EndedBy}
 use Rattle.swp_act.specs.declared.ActEvent.TheVariants.{Start as ActStart, Take as ActTake, Tick as ActTick, Stop as ActStop}
 use Rattle.shdlc_core.specs.declared.answers.LinkState.TheVariants.{Down as IsDown, Waiting as IsWaitingNow, Up as IsUpNow}
-use Rattle.link_laws.specs.machine.Machine.{news}
-use Rattle.link_laws.specs.machine.Machine.{ended_by, got_by}
-use Rattle.link_laws.specs.machine.Machine.{whole_among}
+use Rattle.link_laws.specs.machine.Machine.{news, ended_by, got_by, whole_among}
 use Rattle.link_laws.proofs.machine.Shifts.{Shift, IsNotUp}
 use Rattle.link_laws.proofs.machine.Shifts.Shift.{Stays, Ends, Renews, Begins, Rests}
 use Rattle.link_laws.proofs.machine.Sound.{Data, SentAfter, whole_more}

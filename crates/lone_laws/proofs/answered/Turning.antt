@@ -8,8 +8,7 @@ use Rattle.trace_model.specs.declared.entry.Entry.TheVariants as entry
 use Rattle.history.specs.Filters.{same_side}
 use Rattle.node_laws.proofs.passes.Passing.{comes_so, takes_entries}
 use Rattle.lone_laws.proofs.answered.Own.{IsOwnDeed, AreOwnDeeds, controller_own, host_own}
-use Rattle.lone_laws.proofs.answered.Reading.{eqb_same, Read, read_all, reads_of, Alone, read_more, alone_turn}
-use Rattle.lone_laws.proofs.answered.Reading.{alone_does}
+use Rattle.lone_laws.proofs.answered.Reading.{eqb_same, Read, read_all, reads_of, Alone, read_more, alone_turn, alone_does}
 
 -- ## Its end
 

@@ -1,6 +1,5 @@
 -- Every history of a node alone answers as is read.
-use Rattle.std.proofs.Common.{◌≡◌, ℕ, ◌≤◌, Bool, true, false, cond, eqb, ◌&&◌, ◌||◌, List, [], ◌∷◌, ◌++◌, map, refl, sym, ap, ap₂, subst, ◌∙◌}
-use Rattle.std.proofs.Common.{arith}
+use Rattle.std.proofs.Common.{◌≡◌, ℕ, ◌≤◌, Bool, true, false, cond, eqb, ◌&&◌, ◌||◌, List, [], ◌∷◌, ◌++◌, map, refl, sym, ap, ap₂, subst, ◌∙◌, arith}
 use Rattle.std.specs.Prelude.{◌+◌, min, not, Option, Some, None, is_some, is_none, length}
 use Rattle.lone_laws.proofs.Words.{AllByRecursion, AllByRecursion-append, AnsweredAlone, AreInTurn, AreNoTurns, AreTables, AreTables-apply, AtEachNoted}
 use Rattle.lone_laws.proofs.Words.{Command, Core, Desk, End, Entry, ErrorCount, FrameIsRefused, HciTables, HearsFirstAlone, IsCommand, IsDueAlone, IsFirstThere}
@@ -26,9 +25,7 @@ use Rattle.node_machine.specs.Node.{new_desk, with_error}
 use Rattle.node_machine.specs.world.NodeFilters.{was_refused}
 use Rattle.node_laws.specs.answers.Order.{is_answer_of}
 use Rattle.lone_laws.specs.alone.Lone.{lone_booted, role_alone}
-use Rattle.lone_laws.specs.alone.Answers.{AtEachLoneEvent, runs_behind, is_at_rest, is_left_lacking}
-use Rattle.lone_laws.specs.alone.Answers.{is_done_alone}
-use Rattle.lone_laws.specs.alone.Answers.{is_short_alone, goes_through_end}
+use Rattle.lone_laws.specs.alone.Answers.{AtEachLoneEvent, runs_behind, is_at_rest, is_left_lacking, is_done_alone, is_short_alone, goes_through_end}
 use Rattle.lone_laws.specs.alone.Answers.{TurnsAscendAlone}
 use Rattle.lone_laws.proofs.answered.Mine.{cut_same, due_is, own_behind, replied_is, step_own}
 use Rattle.lone_laws.proofs.answered.Reading.{eqb_same}
@@ -129,16 +126,14 @@ module _ (rest : Core) (t : List Entry) (l : Lone) (some : 1 ≤ l.link) (most :
   }
 
   runs_still : (m : Running) → (lone_behind_step l i last).node ≡ Some m → last.cut ≡ false
-  runs_still m q = go last.cut refl where
-    go : (b : Bool) → last.cut ≡ b → last.cut ≡ false
-    go false z = z
-    go true z =
-        let gone : None ≡ Some m = sym (ap (λ b. cond b None (Some (record {
-          core = last.core;
-          desks = map
-              (λ (p : Rattle.node_machine.specs.Parts.Port). p.desk) last.ports;
-        }))) z) ∙ q in
-        absurd (cc gone)
+  runs_still m q = by_test last.cut
+      (λ z. let gone : None ≡ Some m = sym (ap (λ b. cond b None (Some (record {
+        core = last.core;
+        desks = map
+            (λ (p : Rattle.node_machine.specs.Parts.Port). p.desk) last.ports;
+      }))) z) ∙ q in
+      absurd (cc gone))
+      (λ z. z)
 
   pub input_step : EventFacts G l.link t (record { cause = c; entries = (lone_step l c).1 })
       × ((m : Running) → (lone_step l c).0.node ≡ Some m → KeepsAll rest (t ++ (lone_step l c).1) (lone_step l c).0 m)

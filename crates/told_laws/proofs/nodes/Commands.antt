@@ -1,6 +1,5 @@
 -- Commands and tables of a world of nodes are in their ranges.
-use Rattle.std.proofs.Common.{◌≡◌, ℕ, zero, suc, ◌≤◌, ◌<◌, Bool, true, false, cond, nat_lt, List, [], ◌∷◌, length, refl, subst, arith}
-use Rattle.std.proofs.Common.{Some}
+use Rattle.std.proofs.Common.{◌≡◌, ℕ, zero, suc, ◌≤◌, ◌<◌, Bool, true, false, cond, nat_lt, List, [], ◌∷◌, length, refl, subst, arith, Some}
 use Rattle.std.specs.Prelude.{◌==◌, IsTrue, take, replicate, nat_le, slice_index}
 use Rattle.told_laws.proofs.Words.{AllByRecursion, AllByRecursion-filter, ArePipeRows, Clear, Command, Create, Delete, Entry, HciTables, IsByte, IsSaidCommand}
 use Rattle.told_laws.proofs.Words.{IsSaidValue, PipeRow, RegValue, Set, by_option, cond_both, leb-true, ltb-true, pid_of}

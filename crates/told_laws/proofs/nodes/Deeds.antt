@@ -1,6 +1,5 @@
 -- What nodes do with a message is in its range: what they send and tell are bytes, and what they commit can be told.
-use Rattle.std.proofs.Common.{◌≡◌, ℕ, ◌≤◌, ◌<◌, Bool, true, false, cond, eqb, List, [], ◌∷◌, length, refl, ap}
-use Rattle.std.proofs.Common.{subst, arith, Option, Some, None, drop}
+use Rattle.std.proofs.Common.{◌≡◌, ℕ, ◌≤◌, ◌<◌, Bool, true, false, cond, eqb, List, [], ◌∷◌, length, refl, ap, subst, arith, Option, Some, None, drop}
 use Rattle.std.specs.Prelude.{◌==◌, ◌&&◌, nat_lt, not, Result, Ok, Err}
 use Rattle.told_laws.proofs.Words.{AllByRecursion, AllByRecursion-filter, ArePipeRows, Clear, Command, Commits, Core, Create, Deed, Delete, Desk, Ends, GoesOn}
 use Rattle.told_laws.proofs.Words.{HciTables, IsByte, IsSaidCommand, Message, Orders, PipeRow, Port, Sends, Set, answer_of, by_option, by_test, cond_both}
@@ -34,9 +33,8 @@ use Rattle.node_machine.specs.Parts.{Init, Creation}
 use Rattle.node_machine.specs.Parts.Deed.{Asks, Tells, Drops, SetsErrors}
 use Rattle.node_machine.specs.Carrying.{finds_room, own_view}
 use Rattle.node_machine.specs.Controller.{creation_in, view_for, answers_on, commit_deeds, decision_deeds, link_deeds, gates, agreed, controller_deeds}
-use Rattle.node_machine.specs.Controller.{has_link, is_command_message, relayed_to, served_at, notice_deeds, creation_deeds, kind_deeds}
-use Rattle.node_machine.specs.Controller.{goes_through, own_gate, asks_for, relay_deeds}
-use Rattle.node_machine.specs.Controller.{view_of, about_at}
+use Rattle.node_machine.specs.Controller.{has_link, is_command_message, relayed_to, served_at, notice_deeds, creation_deeds, kind_deeds, goes_through, own_gate}
+use Rattle.node_machine.specs.Controller.{asks_for, relay_deeds, view_of, about_at}
 use Rattle.node_laws.proofs.steps.Ports.{at_port}
 use Rattle.node_machine.proofs.Walks.{told_hold}
 use Rattle.node_laws.proofs.links.Masking.{nobody}

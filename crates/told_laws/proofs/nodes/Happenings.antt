@@ -1,6 +1,5 @@
 -- Whatever happens to a world of nodes keeps it, and what is noted of it, in range.
-use Rattle.std.proofs.Common.{◌≡◌, ℕ, ◌+◌, ◌≤◌, ◌<◌, ◌==◌, Bool, true, false, List, [], ◌∷◌, ◌++◌, map, subst, arith}
-use Rattle.std.proofs.Common.{Option, Some, None, not}
+use Rattle.std.proofs.Common.{◌≡◌, ℕ, ◌+◌, ◌≤◌, ◌<◌, ◌==◌, Bool, true, false, List, [], ◌∷◌, ◌++◌, map, subst, arith, Option, Some, None, not}
 use Rattle.std.specs.Prelude.{◌&&◌, min}
 use Rattle.told_laws.proofs.Words.{AllByRecursion, AsksReset, Comes, Controller, CutOff, Deed, Desk, End, Entry, GoesOut, Happening, Host, Link, Lose, Loss}
 use Rattle.told_laws.proofs.Words.{Message, NextFrame, NoInput, NodeWorld, Orders, Reset, Running, Sends, Site, Starts, Step, Takes, Tick, Ticks, Work, aged}
@@ -16,11 +15,10 @@ use Rattle.registry.proofs.ValueLemmas.{AllByRecursion-append as each-append}
 use Rattle.node_machine.specs.Controller.{is_command_message}
 use Rattle.node_machine.specs.Node.{steps, begins_with, new_desk, with_error, boot_writes}
 use Rattle.node_machine.specs.Node.NodeInput.{AtEnd, TimePasses}
-use Rattle.node_machine.specs.world.World.{ending_of, turns_at, work_of, frames_noted}
-use Rattle.node_machine.specs.world.World.{controller_does, host_does, host_cut, loses_power_at, memory_at, with_memory, with_node, links_of}
-use Rattle.node_machine.specs.world.World.{boots, counts, frame_lost}
-use Rattle.node_machine.specs.world.World.{all_aged, is_late_at, ticked_so, controller_ticks, host_ticks, hosts_tick, world_ticks, sending, beginning, comes_at}
-use Rattle.node_machine.specs.world.World.{end_c, end_h, activates, link_after_controller, controller_work}
+use Rattle.node_machine.specs.world.World.{ending_of, turns_at, work_of, frames_noted, controller_does, host_does, host_cut, loses_power_at, memory_at}
+use Rattle.node_machine.specs.world.World.{with_memory, with_node, links_of, boots, counts, frame_lost, all_aged, is_late_at, ticked_so, controller_ticks}
+use Rattle.node_machine.specs.world.World.{host_ticks, hosts_tick, world_ticks, sending, beginning, comes_at, end_c, end_h, activates, link_after_controller}
+use Rattle.node_machine.specs.world.World.{controller_work}
 use Rattle.node_machine.specs.world.World.Happening.{Boots, IsCut, Gives, Inits, Loses, Resets, Activates, Arms}
 use Rattle.node_machine.proofs.world.Cases.{by_controller, by_coming, by_power, by_memory, by_running, boot_written, boot_found, site_lost, by_boot, by_loss}
 use Rattle.node_machine.proofs.world.Cases.{near_tick, by_controller_tick, host_tick, by_host_tick}

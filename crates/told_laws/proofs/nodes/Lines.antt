@@ -21,8 +21,7 @@ use Rattle.history.specs.Damage.{Verdict}
 use Rattle.history.specs.Damage.Verdict.{Same, LostFor, Undetected}
 use Rattle.history.specs.Follows.{as_noted, if_empty, if_out_of_reach, taken_of, first_verdict}
 use Rattle.node_machine.specs.world.World.{node_of}
-use Rattle.node_machine.specs.world.Lines.{first_cause, is_running, if_off, machine_in, if_waiting, if_not_sent, refusal_in}
-use Rattle.node_machine.specs.world.Lines.{happens_by, happenings}
+use Rattle.node_machine.specs.world.Lines.{first_cause, is_running, if_off, machine_in, if_waiting, if_not_sent, refusal_in, happens_by, happenings}
 use Rattle.node_laws.proofs.kept.Lines.{first_none}
 use Rattle.node_laws.specs.schedules.Ranges.{IsNodeLineOf}
 use Rattle.told_laws.proofs.told.Wires.{WireIs}

@@ -5,21 +5,18 @@ use Rattle.std.proofs.lemmas.List.{length-map}
 use Rattle.std.specs.Prelude.{is_some}
 use Rattle.told_laws.proofs.Words.{Act, Asked, AsksReset, Bare, Clt, Comes, Control, CutOff, EndState, Give, GoesOut, I, Link, LinkEnd, LinkInput, LinkState}
 use Rattle.told_laws.proofs.Words.{Lose, Loss, NextFrame, NoInput, NumberedEnd, OnWire, Refused, Reset, Rset, S, SetAside, Start, Starts, Stop, Take, Tick}
-use Rattle.told_laws.proofs.Words.{Turn, Ua, Up, act_answer, activated, after_input, aged, all_frames, among, cond_both, ended_by, exchanged, frames_out}
-use Rattle.told_laws.proofs.Words.{give_refusal, given, happens_at_controller, has_input, heard, if_up, in_front, is_faulty, is_open, is_rset, moved, put}
-use Rattle.told_laws.proofs.Words.{put_down, reset_by, reset_refusal, reset_with, sent_all, stopped, take_answer, taken, tick_answer, ticked, took, took_with}
-use Rattle.told_laws.proofs.Words.{turn, unless, window_of, with_ended}
+use Rattle.told_laws.proofs.Words.{Turn, Ua, Up, act_answer, activated, after_input, aged, all_frames, among, by_test, cond_both, ended_by, exchanged}
+use Rattle.told_laws.proofs.Words.{frames_out, give_refusal, given, happens_at_controller, has_input, heard, if_up, in_front, is_faulty, is_open, is_rset}
+use Rattle.told_laws.proofs.Words.{moved, put, put_down, reset_by, reset_refusal, reset_with, sent_all, stopped, take_answer, taken, tick_answer, ticked, took}
+use Rattle.told_laws.proofs.Words.{took_with, turn, unless, window_of, with_ended}
 use Rattle.swp_base.specs.declared.control_frames.Control.TheVariants.{Act as ActFrame}
 use Rattle.swp_act.specs.declared.ActEvent.{ActEvent}
 use Rattle.swp_act.specs.declared.ActEvent.TheVariants.{Start as ActStart, Take as ActTake, Tick as ActTick, Stop as ActStop}
 use Rattle.swp_act.specs.Activation.{new_clf, new_uicc}
 use Rattle.link_laws.specs.sessions.Sessions.{is_up}
-use Rattle.link_laws.specs.machine.Machine.{Role, ActDue, role_after, with_act}
-use Rattle.link_laws.specs.machine.Machine.{aside_refusal, turned}
-use Rattle.link_laws.specs.machine.Machine.{renewed, new_link_end}
+use Rattle.link_laws.specs.machine.Machine.{Role, ActDue, role_after, with_act, aside_refusal, turned, renewed, new_link_end}
 use Rattle.link_laws.specs.machine.Machine.Role.{Clf, Uicc}
-use Rattle.link_laws.specs.messages.Links.{Ending, new_link, put_all, with_controller}
-use Rattle.link_laws.specs.messages.Links.{silent, cut, finished, has_taken, has_restarted, steps_at_controller}
+use Rattle.link_laws.specs.messages.Links.{Ending, new_link, put_all, with_controller, silent, cut, finished, has_taken, has_restarted, steps_at_controller}
 use Rattle.link_laws.specs.messages.Links.Comes.{Stops}
 use Rattle.told_laws.proofs.told.Ends.{frames_few}
 use Rattle.told_laws.proofs.told.Links.{IsLowWindow, took_low}
@@ -200,33 +197,29 @@ link_in_aged b c n l h =
 -- ## Frames go out
 
 put_in : (c : Bool) (n : ℕ) (l : Link) (x : Control) → IsLineFrame x → AllBut c n l → AllBut c (n + 1) (put l x)
-put_in c n l x is h = go (is_rset x) refl
+put_in c n l x is h = by_test (is_rset x)
+    (λ q. let r = h.resets in
+    let y : OnWire = record { frame = x; age = 0; number = l.resets + 1 } in
+    rw q (record {
+      emitted = omega (arith, r);
+      took = up.took;
+      far = up.far;
+      to_near = up.to_near;
+      to_far = wire_put IsLineFrame (n + 1) l.to_host y up.to_far (record { frame = is; number = omega (arith, r) });
+      resets = omega (arith, r);
+    }))
+    (λ q. let y : OnWire = record { frame = x; age = 0; number = 0 } in
+    rw q (record {
+      emitted = up.emitted;
+      took = up.took;
+      far = up.far;
+      to_near = up.to_near;
+      to_far = wire_put IsLineFrame (n + 1) l.to_host y up.to_far (record { frame = is; number = omega arith });
+      resets = up.resets;
+    }))
   where
     up : AllBut c (n + 1) l
     up = but_more c n (n + 1) l (omega arith) h
-
-    go : (b : Bool) → is_rset x ≡ b → AllBut c (n + 1) (put l x)
-    go true q =
-        let r = h.resets in
-        let y : OnWire = record { frame = x; age = 0; number = l.resets + 1 } in
-        rw q (record {
-          emitted = omega (arith, r);
-          took = up.took;
-          far = up.far;
-          to_near = up.to_near;
-          to_far = wire_put IsLineFrame (n + 1) l.to_host y up.to_far (record { frame = is; number = omega (arith, r) });
-          resets = omega (arith, r);
-        })
-    go false q =
-        let y : OnWire = record { frame = x; age = 0; number = 0 } in
-        rw q (record {
-          emitted = up.emitted;
-          took = up.took;
-          far = up.far;
-          to_near = up.to_near;
-          to_far = wire_put IsLineFrame (n + 1) l.to_host y up.to_far (record { frame = is; number = omega arith });
-          resets = up.resets;
-        })
 
 puts_in : (c : Bool) (xs : List Control) (n : ℕ) (l : Link) → AreFramesIn xs → AllBut c n l → AllBut c (n + length xs) (put_all l xs)
 puts_in c [] n l is h = but_more c n (n + 0) l (omega arith) h

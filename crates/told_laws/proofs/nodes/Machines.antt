@@ -1,7 +1,6 @@
 -- An end of a link of a world of nodes with its activation and its messages is in its range, whatever comes to it and whatever its node does to it.
-use Rattle.std.proofs.Common.{◌≡◌, ℕ, ◌+◌, ◌≤◌, ◌<◌, Bool, true, false, cond, List, [], ◌∷◌, length, drop, map, refl, arith, zero, suc}
-use Rattle.std.proofs.Common.{take, ◌-◌}
-use Rattle.std.proofs.Common.{Option, Some, None}
+use Rattle.std.proofs.Common.{◌≡◌, ℕ, ◌+◌, ◌≤◌, ◌<◌, Bool, true, false, cond, List, [], ◌∷◌, length, drop, map, refl, arith, zero, suc, take, ◌-◌, Option, Some}
+use Rattle.std.proofs.Common.{None}
 use Rattle.std.specs.Prelude.{is_some, nat_le, not}
 use Rattle.told_laws.proofs.Words.{Act, AllByRecursion, Asked, Bare, Clt, Control, Down, EndState, FetchMessage, Give, Hold, I, LinkEnd, LinkInput, LinkState}
 use Rattle.told_laws.proofs.Words.{PowerMode, Ready, Refused, Report, Reset, Rset, S, SetAside, Start, Stop, SyncId, Take, Tick, Turn, Ua, Up, Waiting}
@@ -22,10 +21,7 @@ use Rattle.registry.proofs.ValueLemmas.{AllByRecursion-append as each-append}
 use Rattle.told_laws.proofs.told.Ends.{IsFrame, IfTries, few_tries, frames_in}
 use Rattle.told_laws.proofs.told.Links.{IsLowWindow, fragments_in}
 use Rattle.told_laws.proofs.told.Wires.{drop_each}
-use Rattle.link_laws.specs.machine.Machine.{Role, ActDue, messages_got, role_after}
-use Rattle.link_laws.specs.machine.Machine.{with_act, started, deactivated, news}
-use Rattle.link_laws.specs.machine.Machine.{aside_refusal}
-use Rattle.link_laws.specs.machine.Machine.{turned, had_tick}
+use Rattle.link_laws.specs.machine.Machine.{Role, ActDue, messages_got, role_after, with_act, started, deactivated, news, aside_refusal, turned, had_tick}
 use Rattle.link_laws.specs.machine.Machine.{brought}
 use Rattle.link_laws.specs.machine.Machine.Role.{Clf, Uicc}
 use Rattle.link_laws.specs.machine.Machine.Turn.{Release}

@@ -3,7 +3,7 @@
 use Rattle.std.proofs.Common.{◌≡◌, ℕ, zero, suc, ◌+◌, ◌*◌, ◌≤◌, Bool, true, false, List, [], ◌∷◌, ◌++◌, length, refl, sym, subst, ap, ◌∙◌, arith}
 use Rattle.std.proofs.Common.{append_assoc, append-nil}
 use Rattle.std.specs.Prelude.{replicate}
-use Rattle.told_laws.proofs.Words.{AllByRecursion, End, Entry, FewRsetsOnEach, Happening, IsFew, NodeWorld, Occurrence, Site, Takes, Ticks, all_happen}
+use Rattle.told_laws.proofs.Words.{AllByRecursion, End, Entry, FewRsetsOnEach, Happening, IsFew, NodeWorld, Occurrence, Site, Takes, Ticks, all_happen, by_test}
 use Rattle.told_laws.proofs.Words.{entries_in, few_front, flat_map, flat_map-append, frames_at, true≢false, world_step}
 use Rattle.node_machine.specs.world.World.{end_c, end_h}
 use Rattle.node_machine.specs.world.Lines.{can_happen}
@@ -28,25 +28,19 @@ after_taken w e k = (all_happen w (replicate k (Takes e))).0
 one_taken_more : (k : ℕ) (w : NodeWorld) (e : End) → can_happen (after_taken w e k) (Takes e) ≡ true
     → (world_step (after_taken w e k) (Takes e)).0 ≡ after_taken w e (suc k)
 one_taken_more zero w e q = sym (ap (λ (p : NodeWorld × List Occurrence). p.0) (first_happens (Takes e) [] w q))
-one_taken_more (suc k) w e q = go (can_happen w (Takes e)) refl (λ can. one_taken_more k (world_step w (Takes e)).0 e can)
+one_taken_more (suc k) w e q = by_test (can_happen w (Takes e))
+    (λ is. let same : after_taken w e (suc k) ≡ after_taken v e k =
+    ap (λ (p : NodeWorld × List Occurrence). p.0) (first_happens (Takes e) (replicate k (Takes e)) w is) in
+    let can : can_happen (after_taken v e k) (Takes e) ≡ true = ap (λ (u : NodeWorld). can_happen u (Takes e)) (sym same) ∙ q in
+    ap (λ (u : NodeWorld). (world_step u (Takes e)).0) same
+    ∙ (one_taken_more k v e can
+    ∙ sym (ap (λ (p : NodeWorld × List Occurrence). p.0) (first_happens (Takes e) (replicate (suc k) (Takes e)) w is))))
+    (λ is. let same : after_taken w e (suc k) ≡ w =
+    ap (λ (p : NodeWorld × List Occurrence). p.0) (none_happens (Takes e) (replicate k (Takes e)) w is) in
+    absurd (true≢false (sym q ∙ (ap (λ (u : NodeWorld). can_happen u (Takes e)) same ∙ is))))
   where
     v : NodeWorld
     v = (world_step w (Takes e)).0
-
-    go : (b : Bool) → can_happen w (Takes e) ≡ b
-        → (can_happen (after_taken v e k) (Takes e) ≡ true → (world_step (after_taken v e k) (Takes e)).0 ≡ after_taken v e (suc k))
-        → (world_step (after_taken w e (suc k)) (Takes e)).0 ≡ after_taken w e (suc (suc k))
-    go true is rest =
-        let same : after_taken w e (suc k) ≡ after_taken v e k =
-        ap (λ (p : NodeWorld × List Occurrence). p.0) (first_happens (Takes e) (replicate k (Takes e)) w is) in
-        let can : can_happen (after_taken v e k) (Takes e) ≡ true = ap (λ (u : NodeWorld). can_happen u (Takes e)) (sym same) ∙ q in
-        ap (λ (u : NodeWorld). (world_step u (Takes e)).0) same
-        ∙ (rest can
-        ∙ sym (ap (λ (p : NodeWorld × List Occurrence). p.0) (first_happens (Takes e) (replicate (suc k) (Takes e)) w is)))
-    go false is rest =
-        let same : after_taken w e (suc k) ≡ w =
-        ap (λ (p : NodeWorld × List Occurrence). p.0) (none_happens (Takes e) (replicate k (Takes e)) w is) in
-        absurd (true≢false (sym q ∙ (ap (λ (u : NodeWorld). can_happen u (Takes e)) same ∙ is)))
 
 -- one end more has taken all that stood on its wire
 end_taken_more : (front : List End) (w : NodeWorld) (e : End) → (end_takes_all (ends_take_all w front).0 e).0 ≡ (ends_take_all w (front ++ e ∷ [])).0

@@ -13,8 +13,7 @@ use Rattle.told_laws.proofs.texts.ReadLemmas.{said_in}
 use Rattle.link_laws.specs.messages.Rest.{is_clear}
 use Rattle.registry.proofs.ValueLemmas.{AllByRecursion-append as each-append}
 use Rattle.node_machine.specs.world.World.{node_at, node_of, site_at, new_world, new_site}
-use Rattle.node_machine.specs.world.Lines.{refusal_in, happenings, is_running}
-use Rattle.node_machine.specs.world.Lines.{LineOutcome, tables_told, goes_on, line_step, noted_below}
+use Rattle.node_machine.specs.world.Lines.{refusal_in, happenings, is_running, LineOutcome, tables_told, goes_on, line_step, noted_below}
 use Rattle.node_machine.specs.world.Lines.LineOutcome.{WasRefused, Occurred}
 use Rattle.node_machine.specs.world.NodeHistories.{LineStep, NodeHistory, FollowsNodes, NoneIsMisread, steps_from, occurrences_of, world_after}
 use Rattle.node_machine.specs.world.Rounds.{ends_in_order, end_takes_all, ends_take_all, world_round}
@@ -30,8 +29,7 @@ use Rattle.node_laws.proofs.bounds.Lines.{asking-append, asking_few}
 use Rattle.node_laws.proofs.schedules.Ranges.{hosts_are, in_range, playable, sent_by_hosts}
 use Rattle.node_laws.proofs.schedules.Few.{are_few}
 use Rattle.lines_told.specs.lines.Below.{IsPlayedLine, entries_below, is_settling, nodes_behind}
-use Rattle.lines_told.specs.lines.Plays.{lines_said, rounds_played, round_behind, round_in}
-use Rattle.lines_told.specs.lines.Plays.{taking_in}
+use Rattle.lines_told.specs.lines.Plays.{lines_said, rounds_played, round_behind, round_in, taking_in}
 use Rattle.lines_told.specs.lines.RoundLines.{IsRoundLine}
 use Rattle.lines_told.proofs.lines.Lines.{lines_may_be_played, round_known}
 use Rattle.lines_told.proofs.lines.NodeRounds.{told_in, after-append, told-append, takes_so, round_is, round_told, round_lines}

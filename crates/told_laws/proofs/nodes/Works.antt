@@ -17,14 +17,12 @@ use Rattle.registry.proofs.ValueLemmas.{AllByRecursion-append as each-append}
 use Rattle.node_machine.specs.Parts.{About, Notice}
 use Rattle.node_machine.specs.Parts.About.{Waits, Forgotten, Removed}
 use Rattle.node_machine.specs.Parts.Deed.{SaysOk, Asks, Releases, Tells, IsAnswered, Drops, SetsErrors, Hears}
-use Rattle.node_machine.specs.Carrying.{own_side, end_of_node, noting, with_port, with_desk, after_turn, noted_of, turn_at}
-use Rattle.node_machine.specs.Carrying.{notified, commit}
-use Rattle.node_machine.specs.Carrying.{done, all_done, unless_cut, needs, lack}
+use Rattle.node_machine.specs.Carrying.{own_side, end_of_node, noting, with_port, with_desk, after_turn, noted_of, turn_at, notified, commit, done, all_done}
+use Rattle.node_machine.specs.Carrying.{unless_cut, needs, lack}
 use Rattle.node_machine.specs.Controller.{creation_in, asked_at}
 use Rattle.node_machine.specs.Turns.{deeds_of, handles, holds_back, lets_go, have_turns, goes_through_ends, passes}
-use Rattle.node_machine.specs.Node.{NodeInput, input_at, has_come, told_at, all_come, older_notice, with_older, is_late, reset_late, told_late}
-use Rattle.node_machine.specs.Node.{times_out, is_over}
-use Rattle.node_machine.specs.Node.{is_forgotten, forgotten, forgets, all_owed, without_notice, after_sessions, synced, steps, answers_and_passes}
+use Rattle.node_machine.specs.Node.{NodeInput, input_at, has_come, told_at, all_come, older_notice, with_older, is_late, reset_late, told_late, times_out}
+use Rattle.node_machine.specs.Node.{is_over, is_forgotten, forgotten, forgets, all_owed, without_notice, after_sessions, synced, steps, answers_and_passes}
 use Rattle.node_machine.specs.Node.NodeInput.{AtEnd, TimePasses}
 use Rattle.node_laws.proofs.steps.StepWalks.{got_at, unless, lets}
 use Rattle.node_machine.proofs.Walks.{forgotten_hold, all_owed_hold}
@@ -143,30 +141,26 @@ module _ (b : Bool) (n : ℕ) where
   node_byte w a = let small = a.core.node in omega (arith, small)
 
   commit_in : (c : Command) (w : Work) → IsCommandIn c → IsWorkIn b n w → IsWorkIn b n (commit c w)
-  commit_in c w is a = go (fails_within (length (commit_writes w.core.journal w.core.tables (body_of c))) w.plan) refl
+  commit_in c w is a = by_test (fails_within (length (commit_writes w.core.journal w.core.tables (body_of c))) w.plan)
+      (λ q. rw q (record {
+        core = a.core;
+        ports = a.ports;
+        entries = in-append n (w.entries ++ entry.Command w.core.node c ∷ []) (entry.Cut w.core.node ∷ []) begun (node_byte w a, tt);
+      }))
+      (λ q. rw q (record {
+        core = record {
+          node = a.core.node;
+          tables = applied_in c w.core.tables is.said is.short a.core.tables;
+          rows = rows_applied c w.core.tables is.made a.core.rows;
+          command = a.core.command;
+          init = a.core.init;
+        };
+        ports = a.ports;
+        entries = begun;
+      }))
     where
       begun : AreIn n (w.entries ++ entry.Command w.core.node c ∷ [])
       begun = in-append n w.entries (entry.Command w.core.node c ∷ []) a.entries ((node_byte w a, is.said, is.short), tt)
-
-      go : (x : Bool) → fails_within (length (commit_writes w.core.journal w.core.tables (body_of c))) w.plan ≡ x → IsWorkIn b n (commit c w)
-      go true q =
-          rw q (record {
-            core = a.core;
-            ports = a.ports;
-            entries = in-append n (w.entries ++ entry.Command w.core.node c ∷ []) (entry.Cut w.core.node ∷ []) begun (node_byte w a, tt);
-          })
-      go false q =
-          rw q (record {
-            core = record {
-              node = a.core.node;
-              tables = applied_in c w.core.tables is.said is.short a.core.tables;
-              rows = rows_applied c w.core.tables is.made a.core.rows;
-              command = a.core.command;
-              init = a.core.init;
-            };
-            ports = a.ports;
-            entries = begun;
-          })
 
   -- deeds are done at an end of the node
   abbrev IsHostNumber : ℕ → Type 0

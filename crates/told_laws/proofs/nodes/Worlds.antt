@@ -22,8 +22,7 @@ use Rattle.told_laws.proofs.told.Wires.{FrameIs, WireIs, drop_each}
 use Rattle.told_laws.proofs.nodes.Sides.{IsLineFrame}
 use Rattle.told_laws.proofs.nodes.Machines.{SideIn, AreTurnsIn, IsInputIn, AreFramesIn, out_in}
 use Rattle.told_laws.proofs.nodes.Ranges.{IsNotedIn, AreIn, in-append, all_in_more, AreNotedIn, all_entries_in, first_lost_in}
-use Rattle.told_laws.proofs.nodes.Linking.{NumberedIn, LinkIn, ComesIn, link_in_more, link_exchanged, link_steps}
-use Rattle.told_laws.proofs.nodes.Linking.{no_link_in}
+use Rattle.told_laws.proofs.nodes.Linking.{NumberedIn, LinkIn, ComesIn, link_in_more, link_exchanged, link_steps, no_link_in}
 use Rattle.told_laws.proofs.nodes.Commands.{AreTablesIn}
 use Rattle.told_laws.proofs.nodes.Deeds.{IsDeskIn}
 use Rattle.told_laws.proofs.nodes.Hosts.{IfBytes, IfInit}

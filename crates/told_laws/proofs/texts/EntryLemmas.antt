@@ -6,8 +6,7 @@ use Rattle.trace_model.specs.declared.line.Line.TheVariants as line
 use Rattle.trace_model.specs.declared.entry.Entry.TheVariants as entry
 use Rattle.schedule_text.specs.Entries.{header_words}
 use Rattle.told_laws.proofs.texts.SameLemmas.{head, other_word, other_words, same_end, same_byte, same_bytes, same_number, same_lost, same_map, same_down}
-use Rattle.told_laws.proofs.texts.SameLemmas.{same_cause}
-use Rattle.told_laws.proofs.texts.SameLemmas.{behind, behind_two, same_command, same_said}
+use Rattle.told_laws.proofs.texts.SameLemmas.{same_cause, behind, behind_two, same_command, same_said}
 use Rattle.told_laws.proofs.texts.RowLemmas.{rows_words, same_counts, same_tables}
 
 hosts_are_bytes : (header : Header) → MayBegin header → All IsByte header.hosts.items

@@ -10,11 +10,9 @@ use Rattle.told_laws.proofs.Words.{is_faulty, is_open, is_rset, moved, put, put_
 use Rattle.told_laws.proofs.Words.{taken, tick_answer, ticked, ticks_at_controller, took, took_with, turn, unless, window_of, with_ended}
 use Rattle.swp_base.specs.declared.control_frames.Control.TheVariants.{Act}
 use Rattle.hcp_packet.specs.Packets.{packets_of, parts_of, packet_count, packet_bytes}
-use Rattle.link_laws.specs.machine.Machine.{news}
-use Rattle.link_laws.specs.machine.Machine.{had_tick}
+use Rattle.link_laws.specs.machine.Machine.{news, had_tick}
 use Rattle.swp_act.specs.declared.ActEvent.TheVariants.{Tick as ActTick}
-use Rattle.link_laws.specs.messages.Links.{EndEvent, put_all, becomes}
-use Rattle.link_laws.specs.messages.Links.{happens}
+use Rattle.link_laws.specs.messages.Links.{EndEvent, put_all, becomes, happens}
 use Rattle.link_laws.specs.messages.Rsets.{EndIsLow}
 use Rattle.history.specs.Histories.{Cause}
 use Rattle.history.specs.Histories.Cause.{Given, WasLost, WasReset, Readied}
@@ -220,31 +218,27 @@ put_frame_is most n l c is h = record { frame = is; number = go (is_rset c) }
     go false = omega arith
 
 pub link_put : (most n : ℕ) (l : Link) (c : Control) → IsFrame c → LinkIs most n l → LinkIs most (n + 1) (put l c)
-link_put most n l c is h = go (is_rset c) refl
+link_put most n l c is h = by_test (is_rset c)
+    (λ q. let r = h.resets in
+    let x : OnWire = record { frame = c; age = 0; number = l.resets + 1 } in
+    rw q (record {
+      near = record { side = up.near.side; emitted = omega (arith, r); took = up.near.took };
+      far = up.far;
+      to_near = up.to_near;
+      to_far = wire_put IsFrame (n + 1) l.to_host x up.to_far (record { frame = is; number = omega (arith, r) });
+      resets = omega (arith, r);
+    }))
+    (λ q. let x : OnWire = record { frame = c; age = 0; number = 0 } in
+    rw q (record {
+      near = up.near;
+      far = up.far;
+      to_near = up.to_near;
+      to_far = wire_put IsFrame (n + 1) l.to_host x up.to_far (record { frame = is; number = omega arith });
+      resets = up.resets;
+    }))
   where
     up : LinkIs most (n + 1) l
     up = link_up most n (n + 1) l (omega arith) h
-
-    go : (b : Bool) → is_rset c ≡ b → LinkIs most (n + 1) (put l c)
-    go true q =
-        let r = h.resets in
-        let x : OnWire = record { frame = c; age = 0; number = l.resets + 1 } in
-        rw q (record {
-          near = record { side = up.near.side; emitted = omega (arith, r); took = up.near.took };
-          far = up.far;
-          to_near = up.to_near;
-          to_far = wire_put IsFrame (n + 1) l.to_host x up.to_far (record { frame = is; number = omega (arith, r) });
-          resets = omega (arith, r);
-        })
-    go false q =
-        let x : OnWire = record { frame = c; age = 0; number = 0 } in
-        rw q (record {
-          near = up.near;
-          far = up.far;
-          to_near = up.to_near;
-          to_far = wire_put IsFrame (n + 1) l.to_host x up.to_far (record { frame = is; number = omega arith });
-          resets = up.resets;
-        })
 
 link_puts : (cs : List Control) (most n : ℕ) (l : Link) → AllByRecursion IsFrame cs → LinkIs most n l → LinkIs most (n + length cs) (put_all l cs)
 link_puts [] most n l is h = link_up most n (n + 0) l (omega arith) h

@@ -45,20 +45,17 @@ module _ (P : Control → Type 0) where
   pushed_is n w x h is = each_pushed n w x h.frames is
 
   pub wire_put : (n : ℕ) (w : List OnWire) (x : OnWire) → WireIs P n w → FrameIs P n x → WireIs P n (fits (w ++ x ∷ []))
-  wire_put n w x h is = go (nat_lt 64 (length (w ++ x ∷ []))) refl
+  wire_put n w x h is = by_test (nat_lt 64 (length (w ++ x ∷ [])))
+      (λ q. let more = ltb-true 64 (length (w ++ x ∷ [])) q in
+      let few = h.few in
+      rw q (record {
+        frames = drop_each (FrameIs P n) 1 (w ++ x ∷ []) (pushed_is n w x h is);
+        few = one_less (w ++ x ∷ []) 64 more (omega (arith, long, few));
+      }))
+      (λ q. let less = ltb-false 64 (length (w ++ x ∷ [])) q in rw q (record { frames = pushed_is n w x h is; few = less }))
     where
       long : length (w ++ x ∷ []) ≡ length w + 1
       long = length-append w (x ∷ [])
-
-      go : (b : Bool) → nat_lt 64 (length (w ++ x ∷ [])) ≡ b → WireIs P n (fits (w ++ x ∷ []))
-      go true q =
-          let more = ltb-true 64 (length (w ++ x ∷ [])) q in
-          let few = h.few in
-          rw q (record {
-            frames = drop_each (FrameIs P n) 1 (w ++ x ∷ []) (pushed_is n w x h is);
-            few = one_less (w ++ x ∷ []) 64 more (omega (arith, long, few));
-          })
-      go false q = let less = ltb-false 64 (length (w ++ x ∷ [])) q in rw q (record { frames = pushed_is n w x h is; few = less })
 
   each_aged : (n : ℕ) (w : List OnWire) → AllByRecursion (FrameIs P n) w → AllByRecursion (FrameIs P n) (aged_wire w)
   each_aged n [] h = tt

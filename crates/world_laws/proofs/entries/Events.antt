@@ -1,6 +1,5 @@
 -- What is noted of each event of a link, and of a whole run, holds the frames that are sent then and the messages that come.
-use Rattle.std.proofs.Common.{◌≡◌, Bool, true, false, List, [], ◌∷◌, ◌++◌, map, Option, inl, inr, refl, ap, sym, subst, ◌∙◌}
-use Rattle.std.proofs.Common.{append_assoc}
+use Rattle.std.proofs.Common.{◌≡◌, Bool, true, false, List, [], ◌∷◌, ◌++◌, map, Option, inl, inr, refl, ap, sym, subst, ◌∙◌, append_assoc}
 use Rattle.world_laws.proofs.Words.{Activate, AllAllowed, AllKeepPower, AtController, AtHost, Clf, Control, Controller, EndEvent, GoesOut, HasItsTick, Host}
 use Rattle.world_laws.proofs.Words.{IsAllowed, IsBare, IsEvent, IsLine, IsStart, Link, LinkEnd, LinkEvent, Node, NumberedEnd, SafeLink, Starts, Ticks}
 use Rattle.world_laws.proofs.Words.{TicksWithout, Uicc, aged, aged_entries, all_at_controller, core_all, core_event, core_events, core_here, core_of, core_tick}
@@ -10,8 +9,7 @@ use Rattle.world_laws.proofs.Words.{reports_to, rests_of, safe_aged, safe_turns,
 use Rattle.link_laws.specs.sessions.Sessions.{ShdlcLink as CoreLink, ShdlcTurn as CoreTurn, ShdlcEndEvent as CoreEndEvent, ShdlcLinkEvent as CoreLinkEvent}
 use Rattle.link_laws.specs.sessions.Sessions.{shdlc_exchanged as core_exchanged, shdlc_happens as core_happens, shdlc_after as core_after}
 use Rattle.link_laws.specs.sessions.Sessions.{shdlc_happens_at_controller as core_happens_here, shdlc_all_at_controller as core_all_here}
-use Rattle.link_laws.specs.sessions.Sessions.{shdlc_aged as core_aged}
-use Rattle.link_laws.specs.sessions.Sessions.{ticks_or_cut as core_ticks_or_cut, ticks_if_waiting as core_ticks_if_waiting}
+use Rattle.link_laws.specs.sessions.Sessions.{shdlc_aged as core_aged, ticks_or_cut as core_ticks_or_cut, ticks_if_waiting as core_ticks_if_waiting}
 use Rattle.link_laws.specs.sessions.Sessions.ShdlcLinkEvent.{AtController as CoreAtController, AtHost as CoreAtHost, Tick as CoreTick}
 use Rattle.link_laws.specs.sessions.Sessions.ShdlcLinkEvent.{TickWithout as CoreTickWithout}
 use Rattle.link_laws.proofs.sessions.Steps.{safe_exchanged, tick_or_cut, tick_if_waiting}
@@ -20,25 +18,20 @@ use Rattle.link_laws.specs.machine.Machine.Role.{Bare}
 use Rattle.link_laws.specs.messages.Links.{CanStart, IsUicc, IsNode}
 use Rattle.link_laws.specs.messages.Links.EndEvent.{Step as EndStep}
 use Rattle.link_laws.proofs.messages.Finishing.{step_tick, all_here-append}
-use Rattle.link_laws.proofs.messages.Runs.{Good, Reached, safe_reached, reached_more, from_host, from_controller, step_own, all_step}
-use Rattle.link_laws.proofs.messages.Runs.{tells_same, seen}
+use Rattle.link_laws.proofs.messages.Runs.{Good, Reached, safe_reached, reached_more, from_host, from_controller, step_own, all_step, tells_same, seen}
 use Rattle.link_laws.proofs.messages.Runs.{rest_both, started_clf, clf_starts, can_start}
 use Rattle.link_laws.proofs.messages.Whole.{core_starts, allowed}
 use Rattle.link_laws.specs.entries.Entries.{Entry, trace}
 use Rattle.link_laws.specs.entries.Entries.Entry.{Tick}
 use Rattle.tap_reading.specs.Tap.{tapped}
-use Rattle.world_laws.specs.fragments.Emitted.{emitted_if_waiting}
-use Rattle.world_laws.specs.fragments.Emitted.{emitted_event, got_event}
-use Rattle.world_laws.specs.fragments.Emitted.{emitted, got}
-use Rattle.world_laws.specs.fragments.Emitted.{NoneIsCut}
+use Rattle.world_laws.specs.fragments.Emitted.{emitted_if_waiting, emitted_event, got_event, emitted, got, NoneIsCut}
 use Rattle.world_laws.specs.fragments.Knowing.{StartsSo}
 use Rattle.world_laws.proofs.fragments.Runs.{reported}
 use Rattle.world_laws.specs.entries.Hearing.{frames_heard, is_bare}
 use Rattle.world_laws.proofs.entries.Reading.{AreWritten, written-append, BothWritten, both-append, both_by, all_read}
 use Rattle.world_laws.proofs.entries.Noting.{Notes, notes_then, silent_none, silent_aged, NoCut, no_cut_parts, here_notes}
 use Rattle.world_laws.proofs.entries.Ticking.{turns-append, frames_by-append, reports_to-append, power-append, turns_bring_none, all_notes, TickNotes}
-use Rattle.world_laws.proofs.entries.Ticking.{tick_notes}
-use Rattle.world_laws.proofs.entries.Ticking.{tick_power}
+use Rattle.world_laws.proofs.entries.Ticking.{tick_notes, tick_power}
 
 -- ## Lists of events over fragments
 

@@ -10,21 +10,17 @@ use Rattle.world_laws.proofs.Words.{puts_entries, report, reports_to, reset_by, 
 use Rattle.world_laws.proofs.Words.{took_with, turn, turn_entries, turned, whole_acked, window_of, wire_with, with_ended}
 use Rattle.std.proofs.lemmas.Bool.{or_parts}
 use Rattle.swp_act.specs.declared.ActEvent.TheVariants.{Start as ActStart, Stop as ActStop}
-use Rattle.link_laws.specs.sessions.Sessions.{ShdlcEndEvent as CoreEndEvent}
-use Rattle.link_laws.specs.sessions.Sessions.{shdlc_happens_at_controller as core_happens_here}
+use Rattle.link_laws.specs.sessions.Sessions.{ShdlcEndEvent as CoreEndEvent, shdlc_happens_at_controller as core_happens_here}
 use Rattle.link_laws.specs.sessions.Sessions.ShdlcEndEvent.{Turns as CoreTurns, Deliver as CoreDeliver, Reset as CoreReset}
-use Rattle.link_laws.specs.machine.Machine.{Refused, Report}
-use Rattle.link_laws.specs.machine.Machine.{got_by, started, deactivated}
+use Rattle.link_laws.specs.machine.Machine.{Refused, Report, got_by, started, deactivated}
 use Rattle.link_laws.specs.machine.Machine.LinkInput.{Start, Stop}
-use Rattle.link_laws.specs.messages.Links.{silent}
-use Rattle.link_laws.specs.messages.Links.{IsOwn}
+use Rattle.link_laws.specs.messages.Links.{silent, IsOwn}
 use Rattle.link_laws.specs.messages.Links.Comes.{Stops}
 use Rattle.link_laws.specs.messages.Links.Loss.{TooMany, TooOld}
 use Rattle.link_laws.specs.messages.Projection.{core_step, core_reset, core_restart, core_ending}
 use Rattle.link_laws.proofs.messages.ActsInOrder.{LinkInOrder, IsPolite, polite_of}
 use Rattle.link_laws.proofs.messages.Steps.{Rests, ComesFirst, FromHost, core_first}
-use Rattle.link_laws.specs.entries.Entries.{End, Entry, told, turn_entry}
-use Rattle.link_laws.specs.entries.Entries.{restart_entries}
+use Rattle.link_laws.specs.entries.Entries.{End, Entry, told, turn_entry, restart_entries}
 use Rattle.link_laws.specs.entries.Entries.Entry.{Up, Down, Emit}
 use Rattle.tap_reading.specs.Tap.{TapReport}
 use Rattle.world_laws.specs.entries.Hearing.{is_clf, frames_heard}

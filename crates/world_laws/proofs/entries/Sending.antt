@@ -1,7 +1,6 @@
 -- What an end puts on the link in a step, and what it gets, over messages and over fragments.
-use Rattle.std.proofs.Common.{◌≡◌, ℕ, zero, suc, ◌+◌, Bool, true, false, not, List, [], ◌∷◌, ◌++◌, length, map, drop, Option, Some, None, ◌⊎◌, inl, inr}
-use Rattle.std.proofs.Common.{refl, ap, sym}
-use Rattle.std.proofs.Common.{subst, ◌∙◌, append-nil}
+use Rattle.std.proofs.Common.{◌≡◌, ℕ, zero, suc, ◌+◌, Bool, true, false, not, List, [], ◌∷◌, ◌++◌, length, map, drop, Option, Some, None, ◌⊎◌, inl, inr, refl}
+use Rattle.std.proofs.Common.{ap, sym, subst, ◌∙◌, append-nil}
 use Rattle.std.specs.Prelude.{is_some, option_to_list, ◌==◌}
 use Rattle.world_laws.proofs.Words.{Act, ActEvent, AreSendableTurns, Clt, Control, EndState, Fragment, I, Link, LinkEnd, LinkState, Message, Now, OnWire, Rset}
 use Rattle.world_laws.proofs.Words.{S, Take, Tells, Turn, Ua, act_answer, activated, by_test, core_of, core_take, core_turns, emitted_here, emitted_turns}
@@ -15,18 +14,15 @@ use Rattle.shdlc_core.specs.declared.answers.LinkState.TheVariants.{Down as IsDo
 use Rattle.link_laws.specs.sessions.Sessions.{ShdlcLink as CoreLink, ShdlcTurn as CoreTurn, ShdlcEndEvent as CoreEndEvent, shdlc_turned as core_turned}
 use Rattle.link_laws.specs.sessions.Sessions.{shdlc_number_of as core_number_of, shdlc_silent as core_silent}
 use Rattle.link_laws.specs.sessions.Sessions.ShdlcEndEvent.{Turns as CoreTurns, Deliver as CoreDeliver, Ignore as CoreIgnore, Acts as CoreActs}
-use Rattle.link_laws.specs.sessions.Sessions.ShdlcEndEvent.{Lose as CoreLose}
-use Rattle.link_laws.specs.sessions.Sessions.ShdlcEndEvent.{Reset as CoreReset, Stop as CoreStop}
+use Rattle.link_laws.specs.sessions.Sessions.ShdlcEndEvent.{Lose as CoreLose, Reset as CoreReset, Stop as CoreStop}
 use Rattle.link_laws.proofs.sessions.Wire.{IsData}
 use Rattle.link_laws.proofs.sessions.Steps.{passes}
 use Rattle.hcp_packet.specs.Packets.{packets_in}
 use Rattle.hcp_chain.specs.Joining.{are_taken, given_by}
-use Rattle.link_laws.specs.machine.Machine.{role_after, is_faulty, messages_got, news}
-use Rattle.link_laws.specs.machine.Machine.{got_by, if_up}
+use Rattle.link_laws.specs.machine.Machine.{role_after, is_faulty, messages_got, news, got_by, if_up}
 use Rattle.link_laws.proofs.machine.Reports.{shdlc_is as shdlc_moved}
-use Rattle.link_laws.proofs.messages.Steps.{ComesFirst, Heard, is_shdlc, heard_end, heard_is, counted_is, mid_counted, took_open, took_closed}
-use Rattle.link_laws.proofs.messages.Steps.{no_fault_first, polite}
-use Rattle.link_laws.proofs.messages.Steps.{role_closes, act_mid}
+use Rattle.link_laws.proofs.messages.Steps.{ComesFirst, Heard, is_shdlc, heard_end, heard_is, counted_is, mid_counted, took_open, took_closed, no_fault_first}
+use Rattle.link_laws.proofs.messages.Steps.{polite, role_closes, act_mid}
 use Rattle.link_laws.proofs.messages.Finishing.{reset_tells, reset_keeps, restart_mid}
 use Rattle.world_laws.specs.fragments.Emitted.{brought_by}
 use Rattle.world_laws.proofs.entries.Reading.{AreWritten, out_is, out_written}

@@ -10,10 +10,8 @@ use Rattle.world_laws.proofs.Words.{most_frames, no_session, of_up, reset_with, 
 use Rattle.world_laws.proofs.Words.{stopped, take_answer, taken, tap_hears, tells_all, tick_answer, ticked, took_with}
 use Rattle.shdlc_core.specs.declared.answers.Due.TheVariants.{Rset as Rset_due}
 use Rattle.shdlc_core.specs.Machine.{waiting_from, runs_timer, sent_again, asked_again, given_up}
-use Rattle.link_laws.specs.sessions.Sessions.{shdlc_put_all}
-use Rattle.link_laws.specs.sessions.Sessions.{shdlc_becomes, with_shdlc_ended, is_up, act_frame}
-use Rattle.link_laws.specs.sessions.Sessions.{ShdlcEndEvent, IsTurn}
-use Rattle.link_laws.specs.sessions.Sessions.{shdlc_silent, shdlc_happens_at_controller, shdlc_ticks_at_controller}
+use Rattle.link_laws.specs.sessions.Sessions.{shdlc_put_all, shdlc_becomes, with_shdlc_ended, is_up, act_frame, ShdlcEndEvent, IsTurn, shdlc_silent}
+use Rattle.link_laws.specs.sessions.Sessions.{shdlc_happens_at_controller, shdlc_ticks_at_controller}
 use Rattle.link_laws.specs.sessions.Sessions.ShdlcEndEvent.{Turns, Deliver, Ignore, Acts, Lose, Reset, Cut, Stop}
 use Rattle.link_laws.proofs.sessions.Hand.{NothingIsOut, idle_out, nothing_out}
 use Rattle.link_laws.proofs.sessions.Safe.{Safe}

@@ -1,7 +1,6 @@
 -- What the tap knows after a frame of an end.
 use Rattle.std.proofs.Common.{◌≡◌, ℕ, zero, suc, ◌+◌, ◌%◌, ◌<◌, ◌≤◌, ◌==◌, Bool, true, false, cond, List, [], ◌∷◌, ◌++◌, Some, ◌⊎◌, inl, inr, refl, ap, sym}
-use Rattle.std.proofs.Common.{subst}
-use Rattle.std.proofs.Common.{◌∙◌, arith, length, max}
+use Rattle.std.proofs.Common.{subst, ◌∙◌, arith, length, max}
 use Rattle.std.specs.Prelude.{take, nat_lt, slice_get}
 use Rattle.world_laws.proofs.Words.{Down, Fragment, I, Kind, NumberedShdlc, OnWire, S, Session, TapSide, TapState, Up, eq-eqb, expected, fits, listed_at}
 use Rattle.world_laws.proofs.Words.{ne_eqb, no_session, of_up, shdlc_number_of, shdlc_session_of, tap_hears, tap_tells}
@@ -11,11 +10,9 @@ use Rattle.std.proofs.lemmas.Option.{slice_get_within}
 use Rattle.shdlc_core.specs.Machine.{sent_next, fragment_due}
 use Rattle.shdlc_core.proofs.Histories.{fragment_due-within}
 use Rattle.link_laws.proofs.sessions.Data.{Base}
-use Rattle.tap_reading.specs.Tap.{counted_at, adds, with_fragment, tells_more, with_number, is_in_session}
-use Rattle.tap_reading.specs.Tap.{told_by}
+use Rattle.tap_reading.specs.Tap.{counted_at, adds, with_fragment, tells_more, with_number, is_in_session, told_by}
 use Rattle.world_laws.proofs.fragments.Wires.{is_ua, NoUa, no_ua-push, no_ua-fits}
-use Rattle.world_laws.proofs.fragments.Sides.{ever_sent, Tracks, Knows, session_above}
-use Rattle.world_laws.proofs.fragments.Sides.{tracks_far}
+use Rattle.world_laws.proofs.fragments.Sides.{ever_sent, Tracks, Knows, session_above, tracks_far}
 
 -- ## Wires
 

@@ -6,12 +6,10 @@ use Rattle.world_laws.proofs.Words.{ShdlcTurn, TapState, Up, Waiting, by_option,
 use Rattle.world_laws.proofs.Words.{shdlc_number_of, shdlc_put, shdlc_turned, tap_hears, tap_tells, tells_all}
 use Rattle.std.proofs.lemmas.List.{take-append-le}
 use Rattle.shdlc_core.specs.declared.answers.Due.TheVariants.{Rr as Rr_due}
-use Rattle.shdlc_core.specs.Machine.{sent_next, fetched, frame_due, fragment_due, control_due}
-use Rattle.shdlc_core.specs.Machine.{after_frames, put_out}
+use Rattle.shdlc_core.specs.Machine.{sent_next, fetched, frame_due, fragment_due, control_due, after_frames, put_out}
 use Rattle.link_laws.proofs.places.Idle.{fetched_idle, after_frames_idle}
 use Rattle.link_laws.proofs.places.Joined.{fetch_cases, changed}
-use Rattle.link_laws.specs.sessions.Sessions.{shdlc_put_all, shdlc_becomes}
-use Rattle.link_laws.specs.sessions.Sessions.{shdlc_turn}
+use Rattle.link_laws.specs.sessions.Sessions.{shdlc_put_all, shdlc_becomes, shdlc_turn}
 use Rattle.link_laws.specs.sessions.Sessions.ShdlcTurn.{Offer, SetReady}
 use Rattle.link_laws.proofs.sessions.Sending.{ready_by, phase_known, controls, room, controls_same, put_all-append, frames_in_order, at_most_one}
 use Rattle.world_laws.proofs.fragments.Sides.{Knows, KnowsLink, SameLists, Alike, alike_update, alike_none, tracks_on, tracks_far}

@@ -4,25 +4,18 @@ use Rattle.std.proofs.Common.{append_assoc, arith}
 use Rattle.world_laws.proofs.Words.{AllKeepPower, Control, HasItsTick, NumberedShdlc, OnWire, SafeLink, ShdlcLink, ShdlcTurn, TapSide, TapState, Up, by_test}
 use Rattle.world_laws.proofs.Words.{emitted_here, emitted_tick, emitted_turns, frames_by, got_here, hears_all, is_waiting, listed_at, map-append, reports_to}
 use Rattle.world_laws.proofs.Words.{safe_aged, safe_turns, tap_hears, tap_tells, tells_all}
-use Rattle.link_laws.specs.sessions.Sessions.{IsShdlcStart, shdlc_exchanged, ShdlcEndEvent}
-use Rattle.link_laws.specs.sessions.Sessions.{shdlc_happens_at_controller}
-use Rattle.link_laws.specs.sessions.Sessions.{shdlc_aged, ShdlcLinkEvent, AreTurns, start, start_down, shdlc_all_at_controller, ticks_or_cut, ticks_if_waiting}
-use Rattle.link_laws.specs.sessions.Sessions.{AllShdlcAllowed}
-use Rattle.link_laws.specs.sessions.Sessions.{shdlc_happens, shdlc_after, aged_wire}
+use Rattle.link_laws.specs.sessions.Sessions.{IsShdlcStart, shdlc_exchanged, ShdlcEndEvent, shdlc_happens_at_controller, shdlc_aged, ShdlcLinkEvent, AreTurns}
+use Rattle.link_laws.specs.sessions.Sessions.{start, start_down, shdlc_all_at_controller, ticks_or_cut, ticks_if_waiting, AllShdlcAllowed, shdlc_happens}
+use Rattle.link_laws.specs.sessions.Sessions.{shdlc_after, aged_wire}
 use Rattle.link_laws.specs.sessions.Sessions.IsShdlcStart.{BothUp, BothDown}
 use Rattle.link_laws.specs.sessions.Sessions.ShdlcLinkEvent.{AtController, AtHost, Tick, TickWithout}
 use Rattle.link_laws.proofs.sessions.Steps.{safe_turn, safe_exchanged, tick_or_cut, tick_if_waiting, safe_event, safe_start}
-use Rattle.tap_reading.specs.Tap.{TapReport, new_tap, tap_exchanged, tap_after_frame, tap_reports}
-use Rattle.tap_reading.specs.Tap.{tap_after}
-use Rattle.tap_reading.specs.Tap.{tapped_from, tapped}
-use Rattle.world_laws.specs.fragments.Emitted.{emitted_if_waiting}
-use Rattle.world_laws.specs.fragments.Emitted.{emitted_event}
-use Rattle.world_laws.specs.fragments.Emitted.{got_event, emitted, got, NoneIsCut}
+use Rattle.tap_reading.specs.Tap.{TapReport, new_tap, tap_exchanged, tap_after_frame, tap_reports, tap_after, tapped_from, tapped}
+use Rattle.world_laws.specs.fragments.Emitted.{emitted_if_waiting, emitted_event, got_event, emitted, got, NoneIsCut}
 use Rattle.world_laws.proofs.fragments.Wires.{NoUa, no_ua-aged}
 use Rattle.world_laws.specs.fragments.Knowing.{StartsSo, IsTrackedBy, ever_sent}
-use Rattle.world_laws.proofs.fragments.Sides.{Tracks, Knows, KnowsLink}
+use Rattle.world_laws.proofs.fragments.Sides.{Tracks, Knows, KnowsLink, tracks_on}
 use Rattle.world_laws.proofs.fragments.Frames.{count_up, session_now}
-use Rattle.world_laws.proofs.fragments.Sides.{tracks_on}
 use Rattle.world_laws.proofs.fragments.Going.{hears_all-append, tells_all-append}
 use Rattle.world_laws.proofs.fragments.Taking.{Heard}
 use Rattle.world_laws.proofs.fragments.Events.{here_heard, turn_heard, tick_heard}

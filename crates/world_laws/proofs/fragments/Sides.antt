@@ -1,6 +1,5 @@
 -- What a tap that has heard all frames of a link so far knows of its two ends.
-use Rattle.std.proofs.Common.{◌≡◌, ℕ, ◌+◌, ◌<◌, ◌≤◌, ◌==◌, Bool, true, false, List, ◌∷◌, ◌⊎◌, inl, inr, refl, ap, sym}
-use Rattle.std.proofs.Common.{◌∙◌, arith, length}
+use Rattle.std.proofs.Common.{◌≡◌, ℕ, ◌+◌, ◌<◌, ◌≤◌, ◌==◌, Bool, true, false, List, ◌∷◌, ◌⊎◌, inl, inr, refl, ap, sym, ◌∙◌, arith, length}
 use Rattle.world_laws.proofs.Words.{Below, Down, Fragment, LinkState, NumberedShdlc, OnWire, Session, ShdlcLink, TapSide, TapState, Up, Waiting, listed_at}
 use Rattle.world_laws.proofs.Words.{ne_eqb, no_session, none_ended, of_up, shdlc_number_of, shdlc_session_of}
 use Rattle.shdlc_core.specs.Machine.{new_session}

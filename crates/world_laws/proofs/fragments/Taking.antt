@@ -8,10 +8,8 @@ use Rattle.world_laws.proofs.Words.{no_session, none_ended, sans, sent_then, shd
 use Rattle.world_laws.proofs.Words.{tap_hears, tells_all, took_with}
 use Rattle.swp_base.specs.declared.control_frames.Kind.TheVariants.{Rej, Rnr}
 use Rattle.shdlc_core.specs.declared.answers.Due.TheVariants.{Rr as Rr_due, Rej as Rej_due, Rnr as Rnr_due, Rset as Rset_due, Ua as Ua_due}
-use Rattle.shdlc_core.specs.Machine.{new_session, place_of, ahead}
-use Rattle.shdlc_core.specs.Machine.{up_with}
-use Rattle.link_laws.specs.sessions.Sessions.{ended_session}
-use Rattle.link_laws.specs.sessions.Sessions.{with_shdlc_ended}
+use Rattle.shdlc_core.specs.Machine.{new_session, place_of, ahead, up_with}
+use Rattle.link_laws.specs.sessions.Sessions.{ended_session, with_shdlc_ended}
 use Rattle.link_laws.proofs.sessions.Wire.{IsData, rsets, live}
 use Rattle.link_laws.proofs.sessions.Hand.{peer_of, IsRset, rset_told, ua_told, ahead_not_waiting}
 use Rattle.link_laws.proofs.sessions.Data.{below_more, IsAnswer, TakenUp, taken_up}

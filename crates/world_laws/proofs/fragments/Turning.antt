@@ -2,8 +2,9 @@
 use Rattle.std.proofs.Common.{◌≡◌, ℕ, zero, suc, ◌+◌, ◌%◌, ◌<◌, ◌≤◌, ◌==◌, Bool, true, false, cond, List, [], ◌∷◌, ◌++◌, Some, ◌⊎◌, inl, inr, refl, ap}
 use Rattle.std.proofs.Common.{sym, subst, ◌∙◌, arith, length, max, map, drop, length-append, append_assoc}
 use Rattle.std.specs.Prelude.{take, nat_lt}
-use Rattle.world_laws.proofs.Words.{Below, Down, Fragment, NumberedShdlc, OnWire, Rr, Rset, S, Session, TapSide, TapState, Ua, Up, Waiting, eq-eqb, expected}
-use Rattle.world_laws.proofs.Words.{fits, good_of, got_with, listed_at, no_session, none_ended, of_up, shdlc_number_of, shdlc_session_of, tap_hears, tap_tells}
+use Rattle.world_laws.proofs.Words.{Below, Down, Fragment, NumberedShdlc, OnWire, Rr, Rset, S, Session, TapSide, TapState, Ua, Up, Waiting, by_test, eq-eqb}
+use Rattle.world_laws.proofs.Words.{expected, fits, good_of, got_with, listed_at, no_session, none_ended, of_up, shdlc_number_of, shdlc_session_of, tap_hears}
+use Rattle.world_laws.proofs.Words.{tap_tells}
 use Rattle.std.proofs.lemmas.Bool.{ltb-true, ltb-false, lt-ltb}
 use Rattle.std.proofs.lemmas.List.{length-take-le}
 use Rattle.hcp_packet.specs.Packets.{packets_in}
@@ -98,7 +99,29 @@ pub record Answers (n m f : NumberedShdlc) (s : TapSide) : Type 0 where
 
 pub knows_ua : {bare : Bool} {t : TapState} {n m f : NumberedShdlc} {to_n to_n' to_f to_f' : List OnWire} {r : ℕ} → Answers n m f t.clf
     → NoUa to_n' ⊎ (n.emitted ≤ t.uicc.number) → Knows bare t n f to_n to_f r → Knows bare (tap_hears bare t Ua) m f to_n' to_f' r
-knows_ua {bare} {t} {n} {m} {f} {to_n} {to_n'} {to_f} {to_f'} {r} a told h = go (nat_lt t.clf.number t.uicc.asked) refl
+knows_ua {bare} {t} {n} {m} {f} {to_n} {to_n'} {to_f} {to_f'} {r} a told h = by_test (nat_lt t.clf.number t.uicc.asked)
+    (λ q. let k : ℕ = t.uicc.asked in
+    let i : t.clf.number < k = ltb-true t.clf.number k q in
+    let z : TapSide = record t.clf { number = k; count = 0 } in
+    let is : renumbered t.clf k ≡ z = rw q refl in
+    let none : shdlc_session_of n k ≡ no_session =
+    session_above n t.clf.number k h.near.past (omega (arith, i, h.near.from, h.far.asked, a.newer)) i in
+    let f_none : shdlc_session_of f k ≡ no_session =
+    session_ended f far_not_up k ∙ none_ended f.emitted k f.past (omega (arith, h.far.asked)) a.far_past in
+    subst P (sym is) (record {
+      near = near z refl refl refl (omega (arith, i)) (omega (arith, i, h.far.asked))
+          (sym ((ap (length {A = Fragment}) (a.alike k).acc) ∙ ap (λ (y : Session). length y.acc) none));
+      far = tracks_renumbered {n = n} {m = m} {to_f = to_f} i (omega (arith, a.emitted)) f_none (inr (omega (arith, h.far.asked))) h.far;
+      rsets = h.rsets;
+    }))
+    (λ q. let i : t.uicc.asked ≤ t.clf.number = ltb-false t.clf.number t.uicc.asked q in
+    let is : renumbered t.clf t.uicc.asked ≡ t.clf = rw q refl in
+    subst P (sym is) (record {
+      near = near t.clf refl refl refl (omega arith) (omega (arith, i, h.far.asked))
+          (h.near.count ∙ sym (ap (length {A = Fragment}) (a.alike t.clf.number).acc));
+      far = tracks_far {n = n} {m = m} {to_f = to_f} refl (omega (arith, a.emitted)) (inr (omega (arith, i, h.far.asked))) h.far;
+      rsets = h.rsets;
+    }))
   where
     P : TapSide → Type 0
     P z = Knows bare (record t { clf = z }) m f to_n' to_f' r
@@ -132,32 +155,6 @@ knows_ua {bare} {t} {n} {m} {f} {to_n} {to_n'} {to_f} {to_f'} {r} a told h = go 
           met = λ u. omega (arith, a.newest u, a.emitted, far_up);
           told = tells told;
         }
-
-    go : (b : Bool) → nat_lt t.clf.number t.uicc.asked ≡ b → Knows bare (tap_hears bare t Ua) m f to_n' to_f' r
-    go true q =
-        let k : ℕ = t.uicc.asked in
-        let i : t.clf.number < k = ltb-true t.clf.number k q in
-        let z : TapSide = record t.clf { number = k; count = 0 } in
-        let is : renumbered t.clf k ≡ z = rw q refl in
-        let none : shdlc_session_of n k ≡ no_session =
-        session_above n t.clf.number k h.near.past (omega (arith, i, h.near.from, h.far.asked, a.newer)) i in
-        let f_none : shdlc_session_of f k ≡ no_session =
-        session_ended f far_not_up k ∙ none_ended f.emitted k f.past (omega (arith, h.far.asked)) a.far_past in
-        subst P (sym is) (record {
-          near = near z refl refl refl (omega (arith, i)) (omega (arith, i, h.far.asked))
-              (sym ((ap (length {A = Fragment}) (a.alike k).acc) ∙ ap (λ (y : Session). length y.acc) none));
-          far = tracks_renumbered {n = n} {m = m} {to_f = to_f} i (omega (arith, a.emitted)) f_none (inr (omega (arith, h.far.asked))) h.far;
-          rsets = h.rsets;
-        })
-    go false q =
-        let i : t.uicc.asked ≤ t.clf.number = ltb-false t.clf.number t.uicc.asked q in
-        let is : renumbered t.clf t.uicc.asked ≡ t.clf = rw q refl in
-        subst P (sym is) (record {
-          near = near t.clf refl refl refl (omega arith) (omega (arith, i, h.far.asked))
-              (h.near.count ∙ sym (ap (length {A = Fragment}) (a.alike t.clf.number).acc));
-          far = tracks_far {n = n} {m = m} {to_f = to_f} refl (omega (arith, a.emitted)) (inr (omega (arith, i, h.far.asked))) h.far;
-          rsets = h.rsets;
-        })
 
 -- ## A fragment that was accepted
 

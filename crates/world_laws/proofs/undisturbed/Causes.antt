@@ -7,8 +7,7 @@ use Rattle.world_laws.proofs.Words.{Take, Taken, Turn, after_input, bare_link, b
 use Rattle.world_laws.proofs.Words.{end_of, ended_by, events_at, frames_out, host_of, is_clear, lines_played, link_after_round, played_more, round_behind}
 use Rattle.world_laws.proofs.Words.{took_with, turn, turned, with_ended}
 use Rattle.trace_model.specs.declared.line.Line.TheVariants as saying
-use Rattle.link_laws.specs.messages.Links.{becomes}
-use Rattle.link_laws.specs.messages.Links.{steps_at_controller}
+use Rattle.link_laws.specs.messages.Links.{becomes, steps_at_controller}
 use Rattle.history.specs.Histories.{Step as HistoryStep, events_of}
 use Rattle.history.specs.Histories.Cause.{Readied}
 use Rattle.history.specs.Histories.Outcome.{Caused}

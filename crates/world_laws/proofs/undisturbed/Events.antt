@@ -9,15 +9,13 @@ use Rattle.world_laws.proofs.Words.{event_step, exchanged, happens, if_so, is_ac
 use Rattle.world_laws.proofs.Words.{rests_of, safe_aged, shdlc_number_of, step_entries, taken_entries, tick_entries, ticks_at_controller, told_of, took}
 use Rattle.world_laws.proofs.Words.{took_with, true≢false, whole_acked, with_ended}
 use Rattle.swp_base.specs.declared.link_terms.Cause.TheVariants.{Asked}
-use Rattle.link_laws.specs.sessions.Sessions.{ShdlcLink as CoreLink, ShdlcTurn as CoreTurn, ShdlcEndEvent as CoreEndEvent}
-use Rattle.link_laws.specs.sessions.Sessions.{ShdlcLinkEvent as CoreLinkEvent}
+use Rattle.link_laws.specs.sessions.Sessions.{ShdlcLink as CoreLink, ShdlcTurn as CoreTurn, ShdlcEndEvent as CoreEndEvent, ShdlcLinkEvent as CoreLinkEvent}
 use Rattle.link_laws.specs.sessions.Sessions.{shdlc_after as core_after, shdlc_exchanged as core_exchanged, shdlc_happens as core_happens}
 use Rattle.link_laws.specs.sessions.Sessions.{shdlc_happens_at_controller as core_happens_here, shdlc_aged as core_aged, ticks_or_cut as core_ticks_or_cut}
 use Rattle.link_laws.specs.sessions.Sessions.{shdlc_all_at_controller as core_all_here}
 use Rattle.link_laws.specs.sessions.Sessions.ShdlcEndEvent.{Turns as CoreTurns, Deliver as CoreDeliver, Acts as CoreActs, Lose as CoreLose}
 use Rattle.link_laws.specs.sessions.Sessions.ShdlcLinkEvent.{AtController as CoreAtController, AtHost as CoreAtHost, Tick as CoreTick}
-use Rattle.link_laws.specs.sessions.Losses.{Losses, no_losses, counts_first, came_up, is_up_with, noted_here, noted_turns, noted_aged, noted_tick}
-use Rattle.link_laws.specs.sessions.Losses.{noted_event}
+use Rattle.link_laws.specs.sessions.Losses.{Losses, no_losses, counts_first, came_up, is_up_with, noted_here, noted_turns, noted_aged, noted_tick, noted_event}
 use Rattle.link_laws.specs.machine.Machine.{began_by}
 use Rattle.link_laws.specs.machine.Machine.LinkInput.{Tick as HasTick}
 use Rattle.link_laws.specs.messages.Links.{IsNode}

@@ -12,8 +12,7 @@ use Rattle.link_laws.specs.machine.Machine.Turn.{Release, SetAside}
 use Rattle.node_machine.specs.Parts.{About, Desk, Port, Deed}
 use Rattle.node_machine.specs.Parts.About.{Waits, Removed}
 use Rattle.node_machine.specs.Parts.Deed.{Commits, Sends, Asks, Releases, Tells, IsAnswered, SetsErrors, Orders}
-use Rattle.node_machine.specs.Carrying.{after_turn, all_done, commit, done, end_of_node, notified, noting, port_at, turn_at}
-use Rattle.node_machine.specs.Carrying.{unless_cut, with_desk, with_port}
+use Rattle.node_machine.specs.Carrying.{after_turn, all_done, commit, done, end_of_node, notified, noting, port_at, turn_at, unless_cut, with_desk, with_port}
 use Rattle.node_machine.specs.Controller.{asked_at}
 use Rattle.node_machine.specs.Turns.{deeds_of, goes_through_ends, handles, have_turns, holds_back, lets_go, passes}
 use Rattle.node_machine.specs.Node.{NodeInput, after_sessions, all_come, all_owed, forgets, forgotten, has_come, input_at, is_forgotten, is_late}
@@ -151,51 +150,43 @@ module _ (k : ℕ) (ready : Bool) where
     where
       go : (o : Option Port) → port_at w.ports k ≡ o → There (AreTold ready) o → Kept (lets_go k w)
       go None q x = absurd x
-      go (Some p) q x = by p.side.shdlc.ready refl
+      go (Some p) q x = by_test p.side.shdlc.ready
+          (λ r. let none : option_map_or (λ (p : Port). is_held p.side) (port_at w.ports k) false ≡ false = side_is ∙ ap not r in
+          let stays : lets_go k w ≡ w = rw none refl in
+          subst Kept (sym stays)
+          (subst (There (KeepsHeld ready)) (sym q) (record { told = x; held = λ busy. absurd (true≢false (sym r ∙ busy)) })))
+          (λ r. let some : option_map_or (λ (p : Port). is_held p.side) (port_at w.ports k) false ≡ true = side_is ∙ ap not r in
+          let goes : lets_go k w ≡ turn_at k (Hold false) w = rw some refl in
+          subst Kept (sym goes)
+          (subst (There (KeepsHeld ready)) (sym (own_changed k (after_turn (Hold false)) (λ p. refl) w.ports p q))
+          (record { told = told_after (Hold false) p x; held = λ busy. absurd (true≢false (sym (turn_ready p.side (Hold false)) ∙ busy)) })))
         where
           side_is : option_map_or (λ (p : Port). is_held p.side) (port_at w.ports k) false ≡ is_held p.side
           side_is = rw q refl
-
-          by : (b : Bool) → p.side.shdlc.ready ≡ b → Kept (lets_go k w)
-          by true r =
-              let none : option_map_or (λ (p : Port). is_held p.side) (port_at w.ports k) false ≡ false = side_is ∙ ap not r in
-              let stays : lets_go k w ≡ w = rw none refl in
-              subst Kept (sym stays)
-              (subst (There (KeepsHeld ready)) (sym q) (record { told = x; held = λ busy. absurd (true≢false (sym r ∙ busy)) }))
-          by false r =
-              let some : option_map_or (λ (p : Port). is_held p.side) (port_at w.ports k) false ≡ true = side_is ∙ ap not r in
-              let goes : lets_go k w ≡ turn_at k (Hold false) w = rw some refl in
-              subst Kept (sym goes)
-              (subst (There (KeepsHeld ready)) (sym (own_changed k (after_turn (Hold false)) (λ p. refl) w.ports p q))
-              (record { told = told_after (Hold false) p x; held = λ busy. absurd (true≢false (sym (turn_ready p.side (Hold false)) ∙ busy)) }))
 
   holds_own : (short : ℕ × ℕ) (w : Work) → Told w → Kept (holds_back k short w)
   holds_own short w a = go (port_at w.ports k) refl a
     where
       go : (o : Option Port) → port_at w.ports k ≡ o → There (AreTold ready) o → Kept (holds_back k short w)
       go None q x = absurd x
-      go (Some p) q x = by (is_held_at w.ports k) refl
+      go (Some p) q x = by_test (is_held_at w.ports k)
+          (λ r. let goes : holds_back k short w ≡ turn_at k (Hold true) w = rw r refl in
+          let holds : p.desk.holds ≡ true = sym (ap (λ (o : Option Port). option_map_or (λ (p : Port). p.desk.holds) o false) q) ∙ r in
+          subst Kept (sym goes)
+          (subst (There (KeepsHeld ready)) (sym (own_changed k (after_turn (Hold true)) (λ p. refl) w.ports p q))
+          (record { told = told_after (Hold true) p x; held = λ busy. holds })))
+          (λ r. let v : Work = with_desk k (λ d. record d { holds = true }) (noting one w) in
+          let goes : holds_back k short w ≡ turn_at k (Hold true) v = rw r refl in
+          let here : port_at v.ports k ≡ Some (marked p) = own_changed k marked (λ p. refl) w.ports p q in
+          subst Kept (sym goes)
+          (subst (There (KeepsHeld ready)) (sym (own_changed k (after_turn (Hold true)) (λ p. refl) v.ports (marked p) here))
+          (record { told = told_after (Hold true) (marked p) x; held = λ busy. refl })))
         where
           one : List Entry
           one = entry.Held (end_of_node w.core k) short.0 short.1 ∷ []
 
           marked : Port → Port
           marked z = record z { desk = record z.desk { holds = true } }
-
-          by : (b : Bool) → is_held_at w.ports k ≡ b → Kept (holds_back k short w)
-          by true r =
-              let goes : holds_back k short w ≡ turn_at k (Hold true) w = rw r refl in
-              let holds : p.desk.holds ≡ true = sym (ap (λ (o : Option Port). option_map_or (λ (p : Port). p.desk.holds) o false) q) ∙ r in
-              subst Kept (sym goes)
-              (subst (There (KeepsHeld ready)) (sym (own_changed k (after_turn (Hold true)) (λ p. refl) w.ports p q))
-              (record { told = told_after (Hold true) p x; held = λ busy. holds }))
-          by false r =
-              let v : Work = with_desk k (λ d. record d { holds = true }) (noting one w) in
-              let goes : holds_back k short w ≡ turn_at k (Hold true) v = rw r refl in
-              let here : port_at v.ports k ≡ Some (marked p) = own_changed k marked (λ p. refl) w.ports p q in
-              subst Kept (sym goes)
-              (subst (There (KeepsHeld ready)) (sym (own_changed k (after_turn (Hold true)) (λ p. refl) v.ports (marked p) here))
-              (record { told = told_after (Hold true) (marked p) x; held = λ busy. refl }))
 
   own_turns : (messages : List Message) (w : Work) → Told w → IfOn Kept (have_turns k messages w)
   own_turns [] w a = λ on. lets_own w a
@@ -252,23 +243,18 @@ module _ (k : ℕ) (ready : Bool) where
 
   going : (hosts : List ℕ) (w : Work) → Kept w → IfOn Kept (goes_through_ends hosts w)
   going [] w a = λ on. a
-  going (h ∷ hosts) w a = by v.cut refl (λ u x. going hosts u x)
+  going (h ∷ hosts) w a = by_test v.cut
+      (λ z. subst (IfOn Kept) (sym (stays_cut (goes_through_ends hosts) v z)) (λ on. absurd (true≢false (sym z ∙ on))))
+      (λ z. subst (IfOn Kept) (sym (uncut (goes_through_ends hosts) v z)) (going hosts v (first z)))
     where
       v : Work
       v = have_turns h (waiting_at w.ports h) w
 
       first : IfOn Kept v
-      first = go (h == k) refl
-        where
-          go : (b : Bool) → (h == k) ≡ b → IfOn Kept v
-          go true q =
-              let P : ℕ → Type 0 = λ j. IfOn Kept (have_turns j (waiting_at w.ports j) w) in
-              subst P (sym (eqb-true h k q)) (own_turns (waiting_at w.ports k) w (kept_told w a))
-          go false q = λ on. other_turns h q (waiting_at w.ports h) w a
-
-      by : (c : Bool) → v.cut ≡ c → ((u : Work) → Kept u → IfOn Kept (goes_through_ends hosts u)) → IfOn Kept (goes_through_ends (h ∷ hosts) w)
-      by true z later = subst (IfOn Kept) (sym (stays_cut (goes_through_ends hosts) v z)) (λ on. absurd (true≢false (sym z ∙ on)))
-      by false z later = subst (IfOn Kept) (sym (uncut (goes_through_ends hosts) v z)) (later v (first z))
+      first = by_test (h == k)
+          (λ q. let P : ℕ → Type 0 = λ j. IfOn Kept (have_turns j (waiting_at w.ports j) w) in
+          subst P (sym (eqb-true h k q)) (own_turns (waiting_at w.ports k) w (kept_told w a)))
+          (λ q. λ on. other_turns h q (waiting_at w.ports h) w a)
 
   -- ## What comes
 

@@ -15,11 +15,9 @@ use Rattle.node_machine.specs.Parts.{Deed, Port}
 use Rattle.node_machine.specs.Carrying.{port_at}
 use Rattle.node_machine.specs.Node.{begins_with, boot_writes}
 use Rattle.node_machine.specs.Node.NodeInput.{TimePasses}
-use Rattle.node_machine.specs.world.World.{after_host, arrival, beginning, boots, comes_at}
-use Rattle.node_machine.specs.world.World.{controller_does, counts, frame_lost}
-use Rattle.node_machine.specs.world.World.{host_cut, host_does, host_ticks, hosts_tick, is_late_at, link_after_controller}
-use Rattle.node_machine.specs.world.World.{loses_power_at, memory_at, near_end_in, node_at, sending, with_memory, with_node}
-use Rattle.node_machine.specs.world.World.{with_site, work_of, world_ticks}
+use Rattle.node_machine.specs.world.World.{after_host, arrival, beginning, boots, comes_at, controller_does, counts, frame_lost, host_cut, host_does}
+use Rattle.node_machine.specs.world.World.{host_ticks, hosts_tick, is_late_at, link_after_controller, loses_power_at, memory_at, near_end_in, node_at, sending}
+use Rattle.node_machine.specs.world.World.{with_memory, with_node, with_site, work_of, world_ticks}
 use Rattle.node_machine.specs.world.World.Happening.{Activates, Arms, Boots, Gives, Inits, IsCut, Loses, Resets, Ticks as TimePassing}
 use Rattle.node_machine.proofs.world.Cases.{after_tick, boot_found, boot_written, by_boot, by_coming, by_controller, by_controller_tick, by_host, by_host_tick}
 use Rattle.node_machine.proofs.world.Cases.{by_loss, by_memory, by_power, by_running, host_tick, near_tick, site_lost, site_ticked, site_unticked}

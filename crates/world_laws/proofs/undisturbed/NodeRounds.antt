@@ -3,10 +3,10 @@
 use Rattle.std.proofs.Common.{◌≡◌, ℕ, zero, suc, Bool, true, false, List, [], ◌∷◌, ◌++◌, Some, None, refl, ap, sym, subst, ◌∙◌, length}
 use Rattle.std.specs.Prelude.{◌||◌}
 use Rattle.world_laws.proofs.Words.{ArePassing, ArePoweredNotes, End, Entry, Happening, Link, LinkEvent, NodeWorld, Occurrence, Site, Takes}
-use Rattle.world_laws.proofs.Words.{after_events-append, after_link_events, all_go, all_happen, can_happen, end_takes_all, ends_events, ends_go, ends_in_order}
-use Rattle.world_laws.proofs.Words.{ends_take_all, entries, entries_in, events_on, flat_map-append, frames_at, happenings, link_events_in, list_any}
-use Rattle.world_laws.proofs.Words.{list_any-append, round_events, round_goes, rounds_events, rounds_of_world, site_at, takes_go, takes_pass, ticks_go}
-use Rattle.world_laws.proofs.Words.{world_after_round, world_round, world_step}
+use Rattle.world_laws.proofs.Words.{after_events-append, after_link_events, all_go, all_happen, by_test, can_happen, end_takes_all, ends_events, ends_go}
+use Rattle.world_laws.proofs.Words.{ends_in_order, ends_take_all, entries, entries_in, events_on, flat_map-append, frames_at, happenings, link_events_in}
+use Rattle.world_laws.proofs.Words.{list_any, list_any-append, round_events, round_goes, rounds_events, rounds_of_world, site_at, takes_go, takes_pass}
+use Rattle.world_laws.proofs.Words.{ticks_go, world_after_round, world_round, world_step}
 use Rattle.trace_model.specs.declared.line.Line.TheVariants as line
 use Rattle.node_laws.proofs.telling.Events.{entries-append}
 use Rattle.node_machine.specs.world.World.Happening.{Ticks as TimePassing}
@@ -58,7 +58,18 @@ module _ (hosts : List ℕ) (h : ℕ) where
   all_calmly : (causes : List Happening) (w : NodeWorld) (s : Site) → ArePassing causes → IsReached hosts w → site_at w.sites h ≡ Some s
       → AreBothUpNow s.link → ArePoweredNotes (entries_in (all_happen w causes).1) h → GoesCalmly s.link (events_on h w causes)
   all_calmly [] w s p r q up notes = calm_none s.link up
-  all_calmly (Takes e ∷ causes) w s p r q up notes = go (can_happen w (Takes e)) refl (all_calmly causes (world_step w (Takes e)).0)
+  all_calmly (Takes e ∷ causes) w s p r q up notes = by_test (can_happen w (Takes e))
+      (λ c. let now : List Entry = (world_step w (Takes e)).1 in
+      let later : List Entry = entries_in (all_happen v causes).1 in
+      let is = ap (λ (z : NodeWorld × List Occurrence). entries_in z.1) (happens_first w (Takes e) causes c) in
+      let both = powered_parts h now later (subst (λ t. ArePoweredNotes t h) is notes) in
+      let g = takes_go w e h s q in
+      let one = takes_calmly w e s r q up both.0 in
+      let more = (all_calmly causes (world_step w (Takes e)).0) g.later p (reached_takes hosts w e r) g.is (subst AreBothUpNow (sym g.link) one.up) both.1 in
+      subst (GoesCalmly s.link) (sym (on_first h w e causes c))
+      (calm_then s.link (link_events_in h w (Takes e)) (events_on h v causes) one (subst (λ l. GoesCalmly l (events_on h v causes)) g.link more)))
+      (λ c. let none : events_on h w (Takes e ∷ causes) ≡ [] = rw c refl in
+      subst (GoesCalmly s.link) (sym none) (calm_none s.link up))
     where
       v : NodeWorld
       v = (world_step w (Takes e)).0
@@ -66,21 +77,6 @@ module _ (hosts : List ℕ) (h : ℕ) where
       Rest : Type 0
       Rest = (t : Site) → ArePassing causes → IsReached hosts v → site_at v.sites h ≡ Some t → AreBothUpNow t.link
           → ArePoweredNotes (entries_in (all_happen v causes).1) h → GoesCalmly t.link (events_on h v causes)
-
-      go : (b : Bool) → can_happen w (Takes e) ≡ b → Rest → GoesCalmly s.link (events_on h w (Takes e ∷ causes))
-      go false c rest =
-          let none : events_on h w (Takes e ∷ causes) ≡ [] = rw c refl in
-          subst (GoesCalmly s.link) (sym none) (calm_none s.link up)
-      go true c rest =
-          let now : List Entry = (world_step w (Takes e)).1 in
-          let later : List Entry = entries_in (all_happen v causes).1 in
-          let is = ap (λ (z : NodeWorld × List Occurrence). entries_in z.1) (happens_first w (Takes e) causes c) in
-          let both = powered_parts h now later (subst (λ t. ArePoweredNotes t h) is notes) in
-          let g = takes_go w e h s q in
-          let one = takes_calmly w e s r q up both.0 in
-          let more = rest g.later p (reached_takes hosts w e r) g.is (subst AreBothUpNow (sym g.link) one.up) both.1 in
-          subst (GoesCalmly s.link) (sym (on_first h w e causes c))
-          (calm_then s.link (link_events_in h w (Takes e)) (events_on h v causes) one (subst (λ l. GoesCalmly l (events_on h v causes)) g.link more))
   all_calmly (TimePassing ∷ causes) w s p r q up notes =
       let v : NodeWorld = (world_step w TimePassing).0 in
       let both = powered_parts h (world_step w TimePassing).1 (entries_in (all_happen v causes).1) notes in

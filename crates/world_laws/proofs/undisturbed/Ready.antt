@@ -6,11 +6,9 @@ use Rattle.world_laws.proofs.Words.{S, Srej, Turn, Ua, Up, Waiting, act_answer, 
 use Rattle.world_laws.proofs.Words.{most_frames, moved, reset_refusal, reset_with, take_answer, taken, tick_answer, ticked, took, turn, window_of}
 use Rattle.swp_base.specs.declared.control_frames.Act.{Act as Activation}
 use Rattle.swp_act.specs.declared.ActEvent.TheVariants.{Tick as ActTick}
-use Rattle.shdlc_core.specs.Machine.{place_of, acknowledged, ahead, received, reset_taken, timed}
-use Rattle.shdlc_core.specs.Machine.{runs_timer, with_ready, Timed}
+use Rattle.shdlc_core.specs.Machine.{place_of, acknowledged, ahead, received, reset_taken, timed, runs_timer, with_ready, Timed}
 use Rattle.shdlc_core.specs.Machine.Timed.{Runs}
-use Rattle.link_laws.specs.machine.Machine.{with_act, put_down, heard}
-use Rattle.link_laws.specs.machine.Machine.{aside_refusal, had_tick, is_faulty, sent_all}
+use Rattle.link_laws.specs.machine.Machine.{with_act, put_down, heard, aside_refusal, had_tick, is_faulty, sent_all}
 use Rattle.link_laws.specs.machine.Machine.Turn.{SetAside, Release}
 use Rattle.lines_told.proofs.fragments.Sends.{sent_same}
 

@@ -207,20 +207,17 @@ module _ (hosts : List ℕ) (w : NodeWorld) (h : ℕ) (s : Site) (r : IsReached 
       ap (λ (z : Site). z.link) one ∙ (g.goes.link ∙ ap (after_link_events s.link) (sym is ∙ as_ticked))
 
   event_so : tick_so s.link late t.near t.far ≡ event
-  event_so = go (late && not (is_waiting s.link.controller.side.shdlc)) refl
-    where
-      go : (b : Bool) → (late && not (is_waiting s.link.controller.side.shdlc)) ≡ b → tick_so s.link late t.near t.far ≡ event
-      go false q = rw q refl
-      go true q =
-          let reset : LinkEvent = TicksWithout (Step (AsksReset None) t.near.turns t.near.ending ∷ []) t.far in
-          let is : tick_so s.link late t.near t.far ≡ reset = rw q refl in
-          let waits : is_waiting s.link.controller.side.shdlc ≡ false =
-          not-true (is_waiting s.link.controller.side.shdlc) (and_parts late (not (is_waiting s.link.controller.side.shdlc)) q).1 in
-          let there : (happens s.link reset).controller.side.shdlc.phase ≡ IsUpNow =
-          ap (λ (l : Link). l.controller.side.shdlc.phase) (sym (goes_on ∙ ap (happens s.link) is)) ∙ later_up.controller in
-          let core = (event_step s.link reset (reset_allowed s.link t.near t.far sends fine.link.line waits) known.good known.reached).core in
-          absurd (late_not_up s.link t.near.turns near_open waits t.near.ending t.far far_open far_out
-          (sym (ap (λ (c : CoreLink). c.controller.side.phase) core) ∙ there))
+  event_so = by_test (late && not (is_waiting s.link.controller.side.shdlc))
+      (λ q. let reset : LinkEvent = TicksWithout (Step (AsksReset None) t.near.turns t.near.ending ∷ []) t.far in
+      let is : tick_so s.link late t.near t.far ≡ reset = rw q refl in
+      let waits : is_waiting s.link.controller.side.shdlc ≡ false =
+      not-true (is_waiting s.link.controller.side.shdlc) (and_parts late (not (is_waiting s.link.controller.side.shdlc)) q).1 in
+      let there : (happens s.link reset).controller.side.shdlc.phase ≡ IsUpNow =
+      ap (λ (l : Link). l.controller.side.shdlc.phase) (sym (goes_on ∙ ap (happens s.link) is)) ∙ later_up.controller in
+      let core = (event_step s.link reset (reset_allowed s.link t.near t.far sends fine.link.line waits) known.good known.reached).core in
+      absurd (late_not_up s.link t.near.turns near_open waits t.near.ending t.far far_open far_out
+      (sym (ap (λ (c : CoreLink). c.controller.side.phase) core) ∙ there)))
+      (λ q. rw q refl)
 
   pub tick_calmly : GoesCalmly s.link (link_events_in h w TimePassing)
   tick_calmly =

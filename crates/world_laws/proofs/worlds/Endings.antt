@@ -7,10 +7,9 @@ use Rattle.world_laws.proofs.Words.{reset_refusal, reset_with, tick_so, window_o
 use Rattle.shdlc_core.specs.Machine.{new_end}
 use Rattle.link_laws.specs.sessions.Sessions.{NumberedShdlc as CoreEnd, ShdlcLink as CoreLink, ShdlcTurn as CoreTurn, ShdlcEndEvent as CoreEndEvent}
 use Rattle.link_laws.specs.sessions.Sessions.{shdlc_exchanged as core_exchanged, shdlc_happens as core_happens}
-use Rattle.link_laws.specs.sessions.Sessions.{shdlc_happens_at_controller as core_happens_here}
-use Rattle.link_laws.specs.sessions.Sessions.{shdlc_after as core_after}
-use Rattle.link_laws.specs.sessions.Sessions.{shdlc_silent as core_silent, ticks_or_cut as core_ticks_or_cut, shdlc_all_at_controller as core_all_here}
-use Rattle.link_laws.specs.sessions.Sessions.{shdlc_aged as core_aged, ticks_if_waiting as core_ticks_if_waiting, shdlc_turned as core_turned}
+use Rattle.link_laws.specs.sessions.Sessions.{shdlc_happens_at_controller as core_happens_here, shdlc_after as core_after, shdlc_silent as core_silent}
+use Rattle.link_laws.specs.sessions.Sessions.{ticks_or_cut as core_ticks_or_cut, shdlc_all_at_controller as core_all_here, shdlc_aged as core_aged}
+use Rattle.link_laws.specs.sessions.Sessions.{ticks_if_waiting as core_ticks_if_waiting, shdlc_turned as core_turned}
 use Rattle.link_laws.specs.sessions.Sessions.ShdlcEndEvent.{Turns as CoreTurns, Cut as CoreCut, Reset as CoreReset}
 use Rattle.link_laws.specs.sessions.Sessions.ShdlcLinkEvent.{AtController as CoreAtController, AtHost as CoreAtHost}
 use Rattle.link_laws.proofs.sessions.Ties.{turned-phase}
@@ -194,17 +193,13 @@ pub record IsCalmTick (l : Link) (late : Bool) (c h : Node) : Type 0 where
 
 pub calm_tick : (l : Link) (late : Bool) (c h : Node) → is_open l.controller.side.role ≡ true → is_open l.host.side.role ≡ true
     → IsLinkUndisturbed l (tick_so l late c h ∷ []) → IsCalmTick l late c h
-calm_tick l late c h p q u = go (late && not (is_waiting l.controller.side.shdlc)) refl
-  where
-    go : (b : Bool) → (late && not (is_waiting l.controller.side.shdlc)) ≡ b → IsCalmTick l late c h
-    go false r =
-        let is : tick_so l late c h ≡ Ticks c [] h = rw r refl in
-        let v : IsLinkUndisturbed l (Ticks c [] h ∷ []) = subst (λ e. IsLinkUndisturbed l (e ∷ [])) is u in
-        record { is = is; near = near_tick_goes_out l c.turns h.turns c.ending h.ending p v; far = far_tick_goes_out l c.turns h.turns c.ending h.ending q v }
-    go true r =
-        let is : tick_so l late c h ≡ TicksWithout (Step (AsksReset None) c.turns c.ending ∷ []) h = rw r refl in
-        let v : IsLinkUndisturbed l (TicksWithout (Step (AsksReset None) c.turns c.ending ∷ []) h ∷ []) =
-        subst (λ e. IsLinkUndisturbed l (e ∷ [])) is u in
-        let waits : is_waiting l.controller.side.shdlc ≡ false =
-        not-true (is_waiting l.controller.side.shdlc) (and_parts late (not (is_waiting l.controller.side.shdlc)) r).1 in
-        absurd (not_late l c.turns p waits c.ending h v)
+calm_tick l late c h p q u = by_test (late && not (is_waiting l.controller.side.shdlc))
+    (λ r. let is : tick_so l late c h ≡ TicksWithout (Step (AsksReset None) c.turns c.ending ∷ []) h = rw r refl in
+    let v : IsLinkUndisturbed l (TicksWithout (Step (AsksReset None) c.turns c.ending ∷ []) h ∷ []) =
+    subst (λ e. IsLinkUndisturbed l (e ∷ [])) is u in
+    let waits : is_waiting l.controller.side.shdlc ≡ false =
+    not-true (is_waiting l.controller.side.shdlc) (and_parts late (not (is_waiting l.controller.side.shdlc)) r).1 in
+    absurd (not_late l c.turns p waits c.ending h v))
+    (λ r. let is : tick_so l late c h ≡ Ticks c [] h = rw r refl in
+    let v : IsLinkUndisturbed l (Ticks c [] h ∷ []) = subst (λ e. IsLinkUndisturbed l (e ∷ [])) is u in
+    record { is = is; near = near_tick_goes_out l c.turns h.turns c.ending h.ending p v; far = far_tick_goes_out l c.turns h.turns c.ending h.ending q v })

@@ -14,8 +14,7 @@ use Rattle.trace_model.specs.declared.line.Line.TheVariants as line
 use Rattle.node_machine.specs.world.World.Happening.{Ticks as TimePassing}
 use Rattle.node_laws.specs.telling.Telling.{IfOff}
 use Rattle.node_laws.proofs.order.Lines.{IsSo, of_none, next_so}
-use Rattle.lines_told.specs.messages.Recovery.{IsLinkStretch, come_to_controller, come_to_host}
-use Rattle.lines_told.specs.messages.Recovery.{times_among, AllOrdinaryOnLink}
+use Rattle.lines_told.specs.messages.Recovery.{IsLinkStretch, come_to_controller, come_to_host, times_among, AllOrdinaryOnLink}
 use Rattle.lines_told.proofs.fragments.Stretches.{began}
 use Rattle.lines_told.proofs.messages.Projected.{known_after, in_parts}
 use Rattle.world_laws.proofs.links.Settling.{wire_after}
@@ -259,7 +258,16 @@ module _ (hosts : List ℕ) (h : ℕ) where
   pub idle_many : (m k : ℕ) (w : NodeWorld) (s : Site) → IsReached hosts w → site_at w.sites h ≡ Some s → (s.host == k) ≡ false
       → IsLinkUndisturbed s.link (events_on h w (replicate m (Takes (end_c k)))) → IsIdle s.link (events_on h w (replicate m (Takes (end_c k))))
   idle_many zero k w s r q other u = idle_none s.link
-  idle_many (suc m) k w s r q other u = go (can_happen w (Takes (end_c k))) refl (idle_many m k)
+  idle_many (suc m) k w s r q other u = by_test (can_happen w (Takes (end_c k)))
+      (λ p. let b = behind w s (end_c k) m r q p u in
+      let v : NodeWorld = (world_step w (Takes (end_c k))).0 in
+      let more = (idle_many m k) v b.later b.reached b.is (ap (λ n. n == k) b.host ∙ other) b.then in
+      subst (IsIdle s.link) (sym (on_first h w (end_c k) (replicate m (Takes (end_c k))) p))
+      (idle_then s.link (link_events_in h w (Takes (end_c k))) (events_on h v (replicate m (Takes (end_c k))))
+      (first (link_events_in h w (Takes (end_c k))) b.now (idle_take w h s q k other))
+      (subst (λ l. IsIdle l (events_on h v (replicate m (Takes (end_c k))))) b.link more)))
+      (λ p. let none : events_on h w (replicate (suc m) (Takes (end_c k))) ≡ [] = rw p refl in
+      subst (IsIdle s.link) (sym none) (idle_none s.link))
     where
       Rest : Type 0
       Rest = (v : NodeWorld) (t : Site) → IsReached hosts v → site_at v.sites h ≡ Some t → (t.host == k) ≡ false
@@ -271,19 +279,6 @@ module _ (hosts : List ℕ) (h : ℕ) where
       first es calm (inr some) =
           let out : some.1 ≡ GoesOut = idle_goes_out s.link some.0 some.1 (subst (IsLinkUndisturbed s.link) some.2 calm) in
           subst (IsIdle s.link) (sym (some.2 ∙ ap (λ e. AtController (Step NoInput some.0 e) ∷ []) out)) (idle_step s.link some.0)
-
-      go : (b : Bool) → can_happen w (Takes (end_c k)) ≡ b → Rest → IsIdle s.link (events_on h w (replicate (suc m) (Takes (end_c k))))
-      go false p rest =
-          let none : events_on h w (replicate (suc m) (Takes (end_c k))) ≡ [] = rw p refl in
-          subst (IsIdle s.link) (sym none) (idle_none s.link)
-      go true p rest =
-          let b = behind w s (end_c k) m r q p u in
-          let v : NodeWorld = (world_step w (Takes (end_c k))).0 in
-          let more = rest v b.later b.reached b.is (ap (λ n. n == k) b.host ∙ other) b.then in
-          subst (IsIdle s.link) (sym (on_first h w (end_c k) (replicate m (Takes (end_c k))) p))
-          (idle_then s.link (link_events_in h w (Takes (end_c k))) (events_on h v (replicate m (Takes (end_c k))))
-          (first (link_events_in h w (Takes (end_c k))) b.now (idle_take w h s q k other))
-          (subst (λ l. IsIdle l (events_on h v (replicate m (Takes (end_c k))))) b.link more))
 
   -- the host's end of another link does
   pub other_many : (m k : ℕ) (w : NodeWorld) (s : Site) → site_at w.sites h ≡ Some s → (s.host == k) ≡ false

@@ -1,13 +1,11 @@
 -- In a round each end takes frames that stand on its wire, while its node runs, and then time passes.
-use Rattle.std.proofs.Common.{◌≡◌, ℕ, zero, suc, ◌<◌, ◌≤◌, ◌==◌, Bool, true, false, List, [], ◌∷◌, Option, Some, None, refl, ap, sym, subst, ◌∙◌, length}
-use Rattle.std.proofs.Common.{arith}
+use Rattle.std.proofs.Common.{◌≡◌, ℕ, zero, suc, ◌<◌, ◌≤◌, ◌==◌, Bool, true, false, List, [], ◌∷◌, Option, Some, None, refl, ap, sym, subst, ◌∙◌, length, arith}
 use Rattle.std.specs.Prelude.{replicate, is_some}
 use Rattle.world_laws.proofs.Words.{AtEnd, End, Ending, GoesOut, IsOrderly, Link, NextFrame, NodeWorld, Occurrence, OnWire, Running, Site, Step, Take, Takes}
 use Rattle.world_laws.proofs.Words.{Turn, Work, after_controller, all_happen, by_option, by_test, can_happen, changed_if, comes_to, controller_work, end_c}
 use Rattle.world_laws.proofs.Words.{end_h, ending_of, eq-eqb, exchanged, frames_at, happened_in, happens_at_controller, host_work, input_of, link_to, node_of}
 use Rattle.world_laws.proofs.Words.{runs_on, site_at, site_host, site_is, steps, true≢false, turns_at, world_step}
-use Rattle.node_machine.specs.world.World.{node_at, after_host}
-use Rattle.node_machine.specs.world.World.{link_after_controller, with_site}
+use Rattle.node_machine.specs.world.World.{node_at, after_host, link_after_controller, with_site}
 use Rattle.node_machine.specs.world.Lines.{is_running}
 use Rattle.node_laws.proofs.telling.Orderly.{step_orderly}
 use Rattle.world_laws.specs.worlds.RoundCauses.{CanTake, AreOfRounds}

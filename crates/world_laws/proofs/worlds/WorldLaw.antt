@@ -1,6 +1,5 @@
 -- A link of a world that settles.
-use Rattle.std.proofs.Common.{◌≡◌, ℕ, ◌+◌, ◌*◌, ◌<◌, ◌≤◌, true, ◌==◌, List, [], ◌∷◌, Some, ◌⊎◌, inl, inr, ap, sym, subst}
-use Rattle.std.proofs.Common.{◌∙◌, arith}
+use Rattle.std.proofs.Common.{◌≡◌, ℕ, ◌+◌, ◌*◌, ◌<◌, ◌≤◌, true, ◌==◌, List, [], ◌∷◌, Some, ◌⊎◌, inl, inr, ap, sym, subst, ◌∙◌, arith}
 use Rattle.world_laws.proofs.Words.{AllAllowed, AreLinkRounds, EarlierGot, IsLinkUndisturbed, IsStart, Link, LinkEvent, LinkSettled, NodeWorld, Site}
 use Rattle.world_laws.proofs.Words.{after_link_events, and_parts, by_test, first_rest, fragments_left, link_rests, rounds_events, rounds_go, site_at, talk_now}
 use Rattle.world_laws.proofs.Words.{world_after_round, world_rests, world_rounds_to_settle, world_settling}
