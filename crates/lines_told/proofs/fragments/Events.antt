@@ -6,8 +6,7 @@ use Rattle.shdlc_core.specs.Machine.{EndState, ticked, tick_answer, frames_of}
 use Rattle.std.specs.Prelude.{is_some}
 use Rattle.link_laws.specs.places.Wire.{OnWire, aged_wire, sans, loses_aged}
 use Rattle.link_laws.specs.sessions.Sessions.{NumberedShdlc, ShdlcLink, shdlc_exchanged, shdlc_put_all, shdlc_turned, act_frame, with_shdlc_ended, ShdlcTurn}
-use Rattle.link_laws.specs.sessions.Sessions.{ShdlcEndEvent}
-use Rattle.link_laws.specs.sessions.Sessions.{IsShdlcAllowed, shdlc_happens_at_controller, shdlc_ticks_at_controller, shdlc_aged, AreTurns}
+use Rattle.link_laws.specs.sessions.Sessions.{ShdlcEndEvent, IsShdlcAllowed, shdlc_happens_at_controller, shdlc_ticks_at_controller, shdlc_aged, AreTurns}
 use Rattle.link_laws.specs.sessions.Sessions.{shdlc_all_at_controller, shdlc_happens}
 use Rattle.link_laws.specs.sessions.Sessions.ShdlcEndEvent.{Turns, Deliver, Acts, Lose}
 use Rattle.link_laws.specs.sessions.Sessions.ShdlcLinkEvent.{Tick}

@@ -11,9 +11,8 @@ use Rattle.shdlc_core.specs.declared.answers.Due.{Due}
 use Rattle.shdlc_core.specs.declared.answers.Due.TheVariants.{Rr as Rr_due}
 use Rattle.shdlc_core.specs.Machine.{EndState, taken, take_answer, ticked, tick_answer, runs_timer, sent_again, waiting_from, frames_of}
 use Rattle.link_laws.specs.places.Wire.{OnWire, is_act, sans, counts_first, with_frame}
-use Rattle.link_laws.specs.sessions.Sessions.{NumberedShdlc, ShdlcLink, shdlc_put, shdlc_put_all, shdlc_becomes}
-use Rattle.link_laws.specs.sessions.Sessions.{with_shdlc_ended, took_with, act_frame, ShdlcTurn, shdlc_turned, shdlc_happens_at_controller}
-use Rattle.link_laws.specs.sessions.Sessions.{shdlc_ticks_at_controller}
+use Rattle.link_laws.specs.sessions.Sessions.{NumberedShdlc, ShdlcLink, shdlc_put, shdlc_put_all, shdlc_becomes, with_shdlc_ended, took_with, act_frame}
+use Rattle.link_laws.specs.sessions.Sessions.{ShdlcTurn, shdlc_turned, shdlc_happens_at_controller, shdlc_ticks_at_controller}
 use Rattle.link_laws.specs.sessions.Sessions.ShdlcEndEvent.{Turns, Deliver, Acts, Lose}
 use Rattle.link_laws.specs.sessions.Losses.{Losses, noted_loss, noted_all, noted_out, came_up, noted_here, noted_tick}
 use Rattle.link_laws.proofs.sessions.Wire.{IsData, live}

@@ -1,6 +1,5 @@
 -- An end sends all that is due: what this leaves of the end, and what stands on the wire then.
-use Rattle.std.proofs.Common.{◌≡◌, ℕ, zero, suc, ◌%◌, ◌<◌, Bool, true, false, List, [], ◌∷◌, Some, inl, refl, ap, sym, ◌∙◌}
-use Rattle.std.proofs.Common.{arith, length}
+use Rattle.std.proofs.Common.{◌≡◌, ℕ, zero, suc, ◌%◌, ◌<◌, Bool, true, false, List, [], ◌∷◌, Some, inl, refl, ap, sym, ◌∙◌, arith, length}
 use Rattle.std.proofs.lemmas.Bool.{or_parts}
 use Rattle.swp_base.specs.declared.control_frames.Control.{Control}
 use Rattle.swp_base.specs.declared.control_frames.Control.TheVariants.{I}

@@ -1,6 +1,5 @@
 -- A stretch of events, and a round: how far they bring the places of both ends.
-use Rattle.std.proofs.Common.{◌≡◌, ℕ, ◌<◌, ◌≤◌, List, [], ◌∷◌, ◌++◌, ◌⊎◌, inl, inr, Some, None, refl, ap, sym, subst, ◌∙◌, arith}
-use Rattle.std.proofs.Common.{length}
+use Rattle.std.proofs.Common.{◌≡◌, ℕ, ◌<◌, ◌≤◌, List, [], ◌∷◌, ◌++◌, ◌⊎◌, inl, inr, Some, None, refl, ap, sym, subst, ◌∙◌, arith, length}
 use mathlib.Core.List.{IsPrefix}
 use Rattle.link_laws.specs.sessions.Sessions.{ShdlcLink, shdlc_exchanged, ShdlcLinkEvent, shdlc_happens, shdlc_after}
 use Rattle.link_laws.specs.sessions.Sessions.ShdlcLinkEvent.{AtController, AtHost, Tick, TickWithout}

@@ -1,5 +1,5 @@
 -- What the turns of its node leave of an end that is up.
-use Rattle.std.proofs.Common.{◌≡◌, List, [], ◌∷◌, ◌++◌, refl, ap, sym, subst, ◌∙◌, append_assoc}
+use Rattle.std.proofs.Common.{◌≡◌, Bool, false, List, [], ◌∷◌, ◌++◌, refl, ap, sym, subst, ◌∙◌, append_assoc}
 use Rattle.std.proofs.lemmas.List.{append-nil}
 use Rattle.shdlc_core.specs.declared.answers.LinkState.TheVariants.{Up}
 use Rattle.shdlc_core.specs.declared.answers.Due.{Due}
@@ -32,8 +32,11 @@ pub record Turned (e f : EndState) : Type 0 where
   pub no_rnr : NoRnr e.due → NoRnr f.due
   pub first : (d : Due) (ds : List Due) → e.due ≡ d ∷ ds → (es : List Due) × (f.due ≡ d ∷ es)
 
-unturned : (e : EndState) → Turned e e
-unturned e =
+-- more is offered, and its answers are due still
+turned_so : (e : EndState) (ready noted : Bool) (out more : List Fragment) (due : List Due) → out ≡ e.session.out ++ more
+    → (AnswersOnly e.due → AnswersOnly due) → (NoRnr e.due → NoRnr due) → ((d : Due) (ds : List Due) → e.due ≡ d ∷ ds → (es : List Due) × (due ≡ d ∷ es))
+    → Turned e (record e { ready = ready; due = due; session = record e.session { out = out; answered_rnr = noted } })
+turned_so e ready noted out more due is answers no_rnr first =
     record {
       phase = refl;
       timer = refl;
@@ -43,12 +46,20 @@ unturned e =
       busy = refl;
       probe = refl;
       acc = refl;
-      more = [];
-      out = sym (append-nil e.session.out);
-      answers = λ a. a;
-      no_rnr = λ a. a;
-      first = λ d ds q. (ds, q);
+      more = more;
+      out = is;
+      answers = answers;
+      no_rnr = no_rnr;
+      first = first;
     }
+
+-- no more than this is changed
+ready_so : (e : EndState) (ready noted : Bool) → Turned e (record e { ready = ready; session = record e.session { answered_rnr = noted } })
+ready_so e ready noted =
+    turned_so e ready noted e.session.out [] e.due (sym (append-nil e.session.out)) (λ a. a) (λ a. a) (λ d ds q. (ds, q))
+
+unturned : (e : EndState) → Turned e e
+unturned e = ready_so e e.ready e.session.answered_rnr
 
 then_turned : {d e f : EndState} → Turned d e → Turned e f → Turned d f
 then_turned {d} a b =
@@ -71,53 +82,11 @@ then_turned {d} a b =
 one_turn : (e : EndState) (t : ShdlcTurn) → e.phase ≡ Up → Turned e (shdlc_turn e t)
 one_turn e (Offer fragments) up =
     subst (Turned e) (sym (offer_up e fragments up))
-    (record {
-      phase = refl;
-      timer = refl;
-      window = refl;
-      acked = refl;
-      next = refl;
-      busy = refl;
-      probe = refl;
-      acc = refl;
-      more = fragments;
-      out = refl;
-      answers = λ a. a;
-      no_rnr = λ a. a;
-      first = λ d ds q. (ds, q);
-    })
+    (turned_so e e.ready e.session.answered_rnr (e.session.out ++ fragments) fragments e.due refl (λ a. a) (λ a. a) (λ d ds q. (ds, q)))
 one_turn e (SetReady r) up =
-    ready_cases (Turned e) e r (unturned e)
-    (record {
-      phase = refl;
-      timer = refl;
-      window = refl;
-      acked = refl;
-      next = refl;
-      busy = refl;
-      probe = refl;
-      acc = refl;
-      more = [];
-      out = sym (append-nil e.session.out);
-      answers = λ a. a;
-      no_rnr = λ a. a;
-      first = λ d ds q. (ds, q);
-    })
-    (record {
-      phase = refl;
-      timer = refl;
-      window = refl;
-      acked = refl;
-      next = refl;
-      busy = refl;
-      probe = refl;
-      acc = refl;
-      more = [];
-      out = sym (append-nil e.session.out);
-      answers = answers_more e.due;
-      no_rnr = no_rnr_more e.due;
-      first = λ d ds q. (ds ++ Rr_due ∷ [], ap (λ l. l ++ Rr_due ∷ []) q);
-    })
+    ready_cases (Turned e) e r (unturned e) (ready_so e r false)
+    (turned_so e r false e.session.out [] (e.due ++ Rr_due ∷ []) (sym (append-nil e.session.out)) (answers_more e.due) (no_rnr_more e.due)
+    (λ d ds q. (ds ++ Rr_due ∷ [], ap (λ l. l ++ Rr_due ∷ []) q)))
 
 pub turned_up : (ts : List ShdlcTurn) (e : EndState) → e.phase ≡ Up → Turned e (shdlc_turned e ts)
 turned_up [] e up = unturned e

@@ -1,6 +1,5 @@
 -- The window of a session isn't 0, whatever happened on the link before.
-use Rattle.std.proofs.Common.{◌≡◌, ℕ, ◌+◌, ◌<◌, ◌==◌, Bool, true, false, List, [], ◌∷◌, ◌++◌, Option, Some, None, refl, sym, subst, ◌∙◌}
-use Rattle.std.proofs.Common.{arith, min, map}
+use Rattle.std.proofs.Common.{◌≡◌, ℕ, ◌+◌, ◌<◌, ◌==◌, Bool, true, false, List, [], ◌∷◌, ◌++◌, Option, Some, None, refl, sym, subst, ◌∙◌, arith, min, map}
 use Rattle.std.specs.Prelude.{nat_lt, is_some}
 use Rattle.std.proofs.lemmas.Bool.{eqb-false}
 use Rattle.swp_base.specs.declared.control_frames.Kind.{Kind}
@@ -15,9 +14,8 @@ use Rattle.shdlc_core.specs.Machine.{EndState, place_of, acknowledged, received,
 use Rattle.shdlc_core.specs.Machine.{waiting_from, asked_again, given_up, up_with, due_left, reset_taken, reset_with, is_waiting, frames_of}
 use Rattle.link_laws.specs.places.Wire.{OnWire}
 use Rattle.link_laws.proofs.places.Joined.{received_cases, ready_cases}
-use Rattle.link_laws.specs.sessions.Sessions.{NumberedShdlc, ShdlcLink, shdlc_exchanged, shdlc_put_all, shdlc_becomes, with_shdlc_ended, took_with}
-use Rattle.link_laws.specs.sessions.Sessions.{is_up, act_frame}
-use Rattle.link_laws.specs.sessions.Sessions.{ShdlcTurn, shdlc_turn, shdlc_turned, ShdlcEndEvent, shdlc_silent, shdlc_happens_at_controller}
+use Rattle.link_laws.specs.sessions.Sessions.{NumberedShdlc, ShdlcLink, shdlc_exchanged, shdlc_put_all, shdlc_becomes, with_shdlc_ended, took_with, is_up}
+use Rattle.link_laws.specs.sessions.Sessions.{act_frame, ShdlcTurn, shdlc_turn, shdlc_turned, ShdlcEndEvent, shdlc_silent, shdlc_happens_at_controller}
 use Rattle.link_laws.specs.sessions.Sessions.{shdlc_ticks_at_controller, shdlc_aged, ShdlcLinkEvent, AreTurns, IsTurn, shdlc_all_at_controller, ticks_or_cut}
 use Rattle.link_laws.specs.sessions.Sessions.{ticks_if_waiting, AllShdlcAllowed, shdlc_happens, shdlc_after, IsShdlcStart}
 use Rattle.link_laws.specs.sessions.Sessions.ShdlcTurn.{Offer, SetReady}

@@ -1,6 +1,5 @@
 -- The lines of a round of a bare link do what the round does.
-use Rattle.std.proofs.Common.{◌≡◌, ℕ, zero, suc, false, List, [], ◌∷◌, ◌++◌, None, refl, ap, sym, ◌∙◌, length}
-use Rattle.std.proofs.Common.{append-nil}
+use Rattle.std.proofs.Common.{◌≡◌, ℕ, zero, suc, false, List, [], ◌∷◌, ◌++◌, None, refl, ap, sym, ◌∙◌, length, append-nil}
 use Rattle.std.specs.Prelude.{replicate, if◌then◌else◌}
 use Rattle.trace_model.specs.declared.line.End.{End}
 use Rattle.trace_model.specs.declared.line.Header.{Header}
@@ -26,11 +25,11 @@ pub lines-append : (h : ℕ) (xs ys : List Line) (l : Link) → link_after_lines
 lines-append h [] ys l = refl
 lines-append h (x ∷ xs) ys l = lines-append h xs ys (link_after_line l (outcome_of h l x))
 
-link-append : (l : Link) (cs ds : List Cause) → link_after_all l (cs ++ ds) ≡ link_after_all (link_after_all l cs) ds
+pub link-append : (l : Link) (cs ds : List Cause) → link_after_all l (cs ++ ds) ≡ link_after_all (link_after_all l cs) ds
 link-append l [] ds = refl
 link-append l (c ∷ cs) ds = link-append (link_after l c) cs ds
 
-again : (h : ℕ) (l : Link) (cs : List Cause) → causes_of (events_at h l cs) ≡ cs
+pub again : (h : ℕ) (l : Link) (cs : List Cause) → causes_of (events_at h l cs) ≡ cs
 again h l [] = refl
 again h l (c ∷ cs) = ap (λ (ds : List Cause). c ∷ ds) (again h (link_after l c) cs)
 

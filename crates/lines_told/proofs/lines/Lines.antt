@@ -1,12 +1,13 @@
 -- The lines of a round may be played, and none of them is misread; so it is with the lines that plays come to.
-use Rattle.std.proofs.Common.{◌≡◌, ℕ, suc, ◌<◌, inl, inr, Bool, true, false, List, [], ◌∷◌, ◌++◌, None, refl, ap, sym, subst, ◌∙◌, length, arith}
-use Rattle.std.specs.Prelude.{map, replicate, if◌then◌else◌, not, ◌&&◌, Contains, slice_index}
+use Rattle.std.proofs.Common.{◌≡◌, ℕ, suc, ◌<◌, inl, inr, Bool, true, false, List, [], ◌∷◌, ◌++◌, None, refl, sym, subst, ◌∙◌, length, arith}
+use Rattle.std.specs.Prelude.{IsTrue, map, if◌then◌else◌, not, ◌&&◌, Contains, slice_index}
 use Rattle.std.specs.List.{AllByRecursion, flat_map, fold}
+use Rattle.std.proofs.lemmas.Bool.{true≢false}
 use Rattle.trace_model.specs.declared.line.End.{End}
 use Rattle.trace_model.specs.declared.line.Header.{Header}
 use Rattle.trace_model.specs.declared.line.Line.{Line}
 use Rattle.trace_model.specs.declared.line.Line.TheVariants as saying
-use Rattle.trace_model.specs.Lines.{IsEndOf, MayBegin}
+use Rattle.trace_model.specs.Lines.{IsEndOf, IsLineOf, MayBegin}
 use Rattle.link_laws.specs.messages.Links.{Link}
 use Rattle.link_laws.specs.messages.Rest.{is_clear}
 use Rattle.link_laws.specs.entries.Entries.End.{Controller, Host}
@@ -23,6 +24,26 @@ use Rattle.lines_told.specs.lines.RoundLines.{IsRoundLine, HostsStay}
 use Rattle.lines_told.proofs.lines.Plays.{all-append}
 use Rattle.lines_told.proofs.lines.NodeRounds.{round_lines}
 use Rattle.lines_told.proofs.lines.BareRounds.{bare_round_lines}
+
+-- ## What may be played in a bare world
+
+module _ (header : Header) (bare : header.hci ≡ false) where
+  no_nodes : IsTrue header.hci → ⊥
+  no_nodes nodes = true≢false (sym nodes ∙ bare)
+
+  pub bare_line : (line : Line) → IsPlayedLine header line → IsLineOf header line
+  bare_line (saying.Boot node) may = absurd (no_nodes may.may_follow.0)
+  bare_line (saying.Cut node) may = absurd (no_nodes may.may_follow.0)
+  bare_line (saying.Activate host sync power) may = absurd (no_nodes may.may_follow.0)
+  bare_line (saying.Arm node nth fill) may = absurd (no_nodes may.may_follow.0)
+  bare_line (saying.Init e identity pipes) may = absurd (no_nodes may.may_follow.0)
+  bare_line (saying.Tables node) may = absurd (no_nodes may.may_follow.0)
+  bare_line (saying.Settle rounds) may = absurd (true≢false may.settles_not)
+  bare_line line may = may.may_follow
+
+  pub bare_lines : (lines : List Line) → AllByRecursion (IsPlayedLine header) lines → AllByRecursion (IsLineOf header) lines
+  bare_lines [] may = tt
+  bare_lines (line ∷ lines) may = (bare_line line may.0, bare_lines lines may.1)
 
 -- ## What a line of a round is
 

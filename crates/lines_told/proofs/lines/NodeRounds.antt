@@ -1,6 +1,5 @@
 -- The lines of a round in a world of nodes do what the round does, and tell of it; and none of them is misread.
-use Rattle.std.proofs.Common.{◌≡◌, ℕ, zero, suc, Bool, true, false, List, [], ◌∷◌, ◌++◌, None, refl, ap, sym, subst, ◌∙◌, length}
-use Rattle.std.proofs.Common.{append-nil, append_assoc}
+use Rattle.std.proofs.Common.{◌≡◌, ℕ, zero, suc, Bool, true, false, List, [], ◌∷◌, ◌++◌, None, refl, ap, sym, subst, ◌∙◌, length, append-nil, append_assoc}
 use Rattle.std.specs.Prelude.{replicate, if◌then◌else◌, not, ◌&&◌}
 use Rattle.std.specs.List.{flat_map}
 use Rattle.std.proofs.lemmas.List.Concat.{flat_map-append}
@@ -49,7 +48,7 @@ pub record TakesSo (w : NodeWorld) (e : End) : Type 0 where
   pub world : world_after w (taking_in w e) ≡ (end_takes_all w e).0
   pub told : told_in w (taking_in w e) ≡ entries_in (end_takes_all w e).1
 
-none_taken : (k : ℕ) (w : NodeWorld) (e : End) → is_running w (node_of e) ≡ false → all_happen w (replicate k (Takes e)) ≡ (w, [])
+pub none_taken : (k : ℕ) (w : NodeWorld) (e : End) → is_running w (node_of e) ≡ false → all_happen w (replicate k (Takes e)) ≡ (w, [])
 none_taken zero w e q = refl
 none_taken (suc k) w e q = rw q refl
 

@@ -1,10 +1,9 @@
 -- The law over messages.
 use Rattle.std.proofs.Common.{◌≡◌, ℕ, ◌+◌, ◌-◌, ◌*◌, ◌≤◌, Bool, true, false, ◌&&◌, List, [], ◌∷◌, ◌++◌, take, map, refl, ap, sym, subst, ◌∙◌, arith, length}
-use Rattle.std.proofs.Common.{length-append}
-use Rattle.std.proofs.Common.{append_assoc}
-use Rattle.std.proofs.lemmas.List.{length-map, append-nil}
+use Rattle.std.proofs.Common.{length-append, append_assoc}
+use Rattle.std.proofs.lemmas.List.{length-map, append-nil, take_all}
 use Rattle.std.proofs.lemmas.List.Elements.{filter_map-append}
-use Rattle.std.proofs.lemmas.Bool.{leb-false}
+use Rattle.std.proofs.lemmas.Bool.{leb-false, and_parts, eqb-true}
 use Rattle.std.specs.Prelude.{nat_le}
 use Rattle.hcp_packet.specs.declared.Packet.{Packet}
 use Rattle.hcp_packet.specs.Packets.{packets_of, packet_count, packet_bytes, packet_of, fragments_of, good_of, good_messages_of, packets_in, messages_of}
@@ -24,8 +23,6 @@ use Rattle.link_laws.proofs.machine.Sound.{whole_acked_before}
 use Rattle.shdlc_core.specs.declared.answers.LinkState.TheVariants.{Up}
 use Rattle.link_laws.specs.machine.AtRest.{end_rests}
 use Rattle.link_laws.specs.messages.Rest.{is_clear, link_rests}
-use Rattle.std.proofs.lemmas.Bool.{and_parts, eqb-true}
-use Rattle.std.proofs.lemmas.List.{take_all}
 use Rattle.link_laws.specs.messages.Links.{Talk, Link, LinkEvent, IsStart, after_link_events, talk_now, AllAllowed}
 use Rattle.link_laws.specs.messages.Projection.{core_of, core_events}
 use Rattle.link_laws.proofs.messages.Project.{Says}
@@ -55,22 +52,23 @@ sent_front early late a b front =
       ap (λ ms. ms ++ messages_after q r) (sym (joined_again early (sendable early a))) ∙ (sym all ∙ joined_again late (sendable late b)),
     )
 
+-- how many fragments messages have
+pub fragments_counted : (m : Message) (ms : List Message) → length (fragments_of (m ∷ ms)) ≡ packet_count (length m.1) + length (fragments_of ms)
+fragments_counted m ms =
+    let a = length-append (map packet_bytes (packets_of m.0 m.1)) (fragments_of ms) in
+    let b = length-map (packets_of m.0 m.1) packet_bytes ∙ packets_are_counted m.0 m.1 in
+    omega (arith, a, b)
+
 -- messages of which all fragments are among so many are whole
 whole_front : (early later : List Message) (n : ℕ) → length (fragments_of early) ≤ n → length early ≤ whole_among (early ++ later) n
 whole_front [] later n i = omega arith
 whole_front (m ∷ ms) later n i = go (nat_le (packet_count (length m.1)) n) refl (whole_front ms later (n - packet_count (length m.1)))
   where
-    count : length (fragments_of (m ∷ ms)) ≡ packet_count (length m.1) + length (fragments_of ms)
-    count =
-        let a = length-append (map packet_bytes (packets_of m.0 m.1)) (fragments_of ms) in
-        let b = length-map (packets_of m.0 m.1) packet_bytes ∙ packets_are_counted m.0 m.1 in
-        omega (arith, a, b)
-
     go : (b : Bool) → nat_le (packet_count (length m.1)) n ≡ b
         → (length (fragments_of ms) ≤ n - packet_count (length m.1) → length ms ≤ whole_among (ms ++ later) (n - packet_count (length m.1)))
         → length (m ∷ ms) ≤ whole_among ((m ∷ ms) ++ later) n
-    go true q rest = rw q (let r = rest (omega (arith, i, count)) in omega (arith, r))
-    go false q rest = absurd (let z = leb-false (packet_count (length m.1)) n q in omega (arith, i, count, z))
+    go true q rest = rw q (let r = rest (omega (arith, i, fragments_counted m ms)) in omega (arith, r))
+    go false q rest = absurd (let z = leb-false (packet_count (length m.1)) n q in omega (arith, i, fragments_counted m ms, z))
 
 -- the near end's own messages
 in_messages : (before now other : Talk) → Says before → Says now → CoreInOrder now.session other.session

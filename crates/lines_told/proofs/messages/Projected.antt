@@ -13,8 +13,7 @@ use Rattle.lines_told.specs.fragments.Rounds.{IsStretch, IsRound, AreRounds, Are
 use Rattle.lines_told.proofs.fragments.Stretches.{began, undisturbed_parts}
 use Rattle.link_laws.specs.machine.Machine.{LinkEnd, Turn, is_open, after_input}
 use Rattle.link_laws.specs.machine.Machine.LinkInput.{Tick as InputTick}
-use Rattle.link_laws.specs.messages.Links.{NumberedEnd, Link, Ending, EndEvent, LinkEvent, exchanged, happens, aged, ticks_at_controller}
-use Rattle.link_laws.specs.messages.Links.{happens_at_controller}
+use Rattle.link_laws.specs.messages.Links.{NumberedEnd, Link, Ending, EndEvent, LinkEvent, exchanged, happens, aged, ticks_at_controller, happens_at_controller}
 use Rattle.link_laws.specs.messages.Links.{after_link_events, AllAllowed, IsEvent}
 use Rattle.link_laws.specs.messages.Links.Ending.{GoesOut}
 use Rattle.link_laws.specs.messages.Links.Comes.{NextFrame, NoInput}
@@ -22,8 +21,7 @@ use Rattle.link_laws.specs.messages.Links.EndEvent.{Step}
 use Rattle.link_laws.specs.messages.Links.LinkEvent.{AtController, AtHost, Ticks, TicksWithout, Activate}
 use Rattle.link_laws.specs.messages.Projection.{core_of, core_turns, core_take, core_here, core_all, core_tick, core_tick_rest, core_event, core_events}
 use Rattle.link_laws.proofs.messages.Runs.{Good, Reached, run, event_step, reached_more}
-use Rattle.lines_told.specs.messages.Recovery.{IsOrdinaryStep, AreOrdinaryOwn, IsOrdinaryOnLink, AllOrdinaryOnLink, come_here, come_to_controller}
-use Rattle.lines_told.specs.messages.Recovery.{come_to_host}
+use Rattle.lines_told.specs.messages.Recovery.{IsOrdinaryStep, AreOrdinaryOwn, IsOrdinaryOnLink, AllOrdinaryOnLink, come_here, come_to_controller, come_to_host}
 use Rattle.lines_told.specs.messages.Recovery.{times_among, IsLinkStretch, IsLinkRound, AreLinkRounds, IsLinkUndisturbed}
 
 -- ## At one end

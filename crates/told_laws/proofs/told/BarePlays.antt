@@ -1,14 +1,14 @@
 -- All that is told of plays in a bare world is in its range.
-use Rattle.std.proofs.Common.{◌≡◌, ℕ, ◌+◌, ◌*◌, ◌≤◌, true, List, [], ◌∷◌, ◌++◌, refl, ap, arith, sym, ◌∙◌, inl}
-use Rattle.told_laws.proofs.Words.{AllByRecursion, AreFewPlays, Controller, End, Follows, Header, History, Host, IsEntry, IsHeader, IsLineOf, IsPlayFor, Line}
-use Rattle.told_laws.proofs.Words.{Link, Play, Round, Said, by_test, entries_told, host_of, hosts_stay_behind, lines_of_play, lines_played, true≢false}
+use Rattle.std.proofs.Common.{◌≡◌, ℕ, ◌+◌, ◌*◌, ◌≤◌, List, [], ◌∷◌, ◌++◌, refl, ap, arith, inl}
+use Rattle.told_laws.proofs.Words.{AllByRecursion, AreFewPlays, Controller, End, Follows, Header, History, Host, IsEntry, IsHeader, IsPlayFor, Line}
+use Rattle.told_laws.proofs.Words.{Link, Play, Round, Said, by_test, entries_told, host_of, hosts_stay_behind, lines_of_play, lines_played}
 use Rattle.trace_model.specs.declared.line.Line.TheVariants as line
 use Rattle.link_laws.specs.messages.Rest.{is_clear}
 use Rattle.history.specs.Follows.{frames_to, link_after_lines}
 use Rattle.history.specs.Steps.{end_of}
-use Rattle.lines_told.specs.lines.Below.{IsPlayedLine, bare_link_behind}
+use Rattle.lines_told.specs.lines.Below.{bare_link_behind}
 use Rattle.lines_told.specs.lines.Plays.{lines_said, rounds_played, round_on, taking_on}
-use Rattle.lines_told.proofs.lines.Lines.{lines_may_be_played}
+use Rattle.lines_told.proofs.lines.Lines.{bare_line, bare_lines, lines_may_be_played}
 use Rattle.lines_told.proofs.lines.BareRounds.{bare_round_lines}
 use Rattle.lines_told.proofs.lines.Plays.{said-append, played-append}
 use Rattle.told_laws.proofs.told.Lines.{line_cheap, lines_cost}
@@ -34,26 +34,9 @@ round_cost h (e ∷ ends) l =
     omega (arith, both, none, rest)
 
 module _ (header : Header) (is : IsHeader header) where
-  not_of_nodes : header.hci ≡ true → ⊥
-  not_of_nodes nodes = true≢false (sym nodes ∙ is.bare)
-
-  pub bare_line : (l : Line) → IsPlayedLine header l → IsLineOf header l
-  bare_line (line.Boot node) may = absurd (not_of_nodes may.may_follow.0)
-  bare_line (line.Cut node) may = absurd (not_of_nodes may.may_follow.0)
-  bare_line (line.Activate host sync power) may = absurd (not_of_nodes may.may_follow.0)
-  bare_line (line.Arm node nth fill) may = absurd (not_of_nodes may.may_follow.0)
-  bare_line (line.Init e identity pipes) may = absurd (not_of_nodes may.may_follow.0)
-  bare_line (line.Tables node) may = absurd (not_of_nodes may.may_follow.0)
-  bare_line (line.Settle rounds) may = absurd (true≢false may.settles_not)
-  bare_line _ may = may.may_follow
-
-  pub bare_lines : (lines : List Line) → AllByRecursion (IsPlayedLine header) lines → AllByRecursion (IsLineOf header) lines
-  bare_lines [] may = tt
-  bare_lines (l ∷ lines) may = (bare_line l may.0, bare_lines lines may.1)
-
   play_cost : (before : List Line) (p : Play) → IsPlayFor header p → lines_cost (lines_of_play header before p)
       ≤ 200 * lines_said (p ∷ []) + 2 * rounds_played (p ∷ [])
-  play_cost before (Said l) may = let cheap = line_cheap header l (bare_line l may) in omega (arith, cheap)
+  play_cost before (Said l) may = let cheap = line_cheap header l (bare_line header is.bare l may) in omega (arith, cheap)
   play_cost before Round may =
       let h : ℕ = host_of header in
       let same = ap lines_cost (bare_round_lines header is.bare before) in
@@ -80,4 +63,4 @@ module _ (header : Header) (is : IsHeader header) where
       let said = most.said in
       let rounds = most.rounds in
       told_in header lines t
-      (bare_lines lines (lines_may_be_played header (inl is) (hosts_stay_behind header) plays may)) is follows (omega (arith, same, cost, said, rounds))
+      (bare_lines header is.bare lines (lines_may_be_played header (inl is) (hosts_stay_behind header) plays may)) is follows (omega (arith, same, cost, said, rounds))

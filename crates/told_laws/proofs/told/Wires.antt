@@ -1,5 +1,5 @@
 -- The frames on a wire are in their ranges, whichever those are.
-use Rattle.std.proofs.Common.{◌≡◌, ℕ, zero, suc, ◌+◌, ◌≤◌, ◌<◌, Bool, true, false, nat_lt, List, [], ◌∷◌, ◌++◌, length, drop, refl, arith, length-append}
+use Rattle.std.proofs.Common.{◌≡◌, ℕ, zero, suc, ◌+◌, ◌≤◌, ◌<◌, nat_lt, List, [], ◌∷◌, ◌++◌, length, drop, arith, length-append}
 use Rattle.told_laws.proofs.Words.{AllByRecursion, Control, OnWire, all_mapped, by_test, ltb-false, ltb-true}
 use Rattle.link_laws.specs.sessions.Sessions.{fits, aged_wire}
 use Rattle.link_laws.specs.messages.Rsets.{WireIsLow}
