@@ -13,7 +13,7 @@ use Rattle.node_machine.specs.Node.{has_come, with_older, is_late, reset_late, t
 use Rattle.node_machine.specs.Node.NodeInput.{AtEnd, TimePasses}
 use Rattle.node_laws.proofs.steps.StepWalks.{unless}
 use Rattle.node_laws.specs.passes.Steps.{has_come_so, has_freed, has_synced}
-use Rattle.lone_laws.proofs.answered.Reading.{eqb_same, Read, read_all, told_read, reads_of, Alone, read_more}
+use Rattle.lone_laws.proofs.answered.Reading.{eqb_same, Read, read_all, told_read, reads_of, Alone, read_more, alone_as}
 use Rattle.lone_laws.proofs.answered.Turning.{same_self, own_end}
 
 -- ## What comes
@@ -156,21 +156,11 @@ module _ (number h : ℕ) (r : Read) (t : List Entry) where
     alone_comes =
         let told_it : List Entry = told_at w.core a.port (Some i) in
         let R : Read = reads_of w.core a.port in
-        record {
-          port = came_port;
-          ports_are = came_ports;
-          host = a.host;
-          none = a.none;
-          node = a.node;
-          command = a.command;
-          init = a.init;
-          good = a.good;
-          read =
-              ap (λ es. read_all e r (t ++ es)) came_entries
-              ∙ read_more number h r t w told_it R (reads_of w.core came_port) a.read
-              (told_read e a.port.desk.host (own_side w.core) a.port.session (whole_acked (after_input a.port.side i)) (report a.port.side i) R own_side_end
-              ∙ ap (λ z. record R { left = z }) (sym (lone_got a.port.side i may)));
-        }
+        alone_as a came_port (all_come input w).ports (all_come input w).entries came_ports a.host a.none
+        (ap (λ es. read_all e r (t ++ es)) came_entries
+        ∙ read_more number h r t w told_it R (reads_of w.core came_port) a.read
+        (told_read e a.port.desk.host (own_side w.core) a.port.session (whole_acked (after_input a.port.side i)) (report a.port.side i) R own_side_end
+        ∙ ap (λ z. record R { left = z }) (sym (lone_got a.port.side i may))))
 
     pub came_is : has_come_so input w ≡ all_come input w
     came_is = times_none input (all_come input w) came_port came_ports a.none

@@ -1,5 +1,5 @@
 -- Between events of a node alone all that is read of it is what it keeps.
-use Rattle.std.proofs.Common.{◌≡◌, ℕ, ◌≤◌, Bool, true, false, cond, eqb, List, [], ◌∷◌, ◌++◌, map, refl, sym, ap, subst, ◌∙◌, append_assoc, arith}
+use Rattle.std.proofs.Common.{◌≡◌, ℕ, ◌≤◌, true, false, cond, eqb, List, [], ◌∷◌, ◌++◌, map, refl, sym, ap, subst, ◌∙◌, append_assoc, arith}
 use Rattle.std.specs.Prelude.{◌+◌, length, Some, None}
 use Rattle.lone_laws.proofs.Words.{AllByRecursion, ComesTo, Commits, Control, Core, Deed, Desk, End, Entry, FrameComes, LinkEnd, LinkInput, Lone, LoneCause}
 use Rattle.lone_laws.proofs.Words.{Port, Running, Work, after_input, all_come, all_do, all_done, by_test, done, emits_behind, errors_found, filter}

@@ -6,7 +6,6 @@ use Rattle.lone_laws.proofs.Words.{AllByRecursion, AreTables, AreTables-apply, C
 use Rattle.lone_laws.proofs.Words.{IsRecordable, Memory, SaysOk, Sends, SetsErrors, State, Work, Write, after_commands, after_planned, all_done, apply, body_of}
 use Rattle.lone_laws.proofs.Words.{by_test, commands_of_entries, commit, commit_writes, count_of, done, end_of_node, fails_within, fold-append, keeps}
 use Rattle.lone_laws.proofs.Words.{loses_power, noting, planned_whole, unless_cut}
-use Rattle.std.proofs.lemmas.Bool.{cases_Bool}
 use Rattle.trace_model.specs.declared.entry.Entry.TheVariants as entry
 use Rattle.hci_store.proofs.Recorded.{recordable-apply}
 use Rattle.hci_store.specs.Committing.{committed}

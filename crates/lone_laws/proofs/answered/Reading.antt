@@ -135,6 +135,23 @@ pub record Alone (number h : ℕ) (r : Read) (t : List Entry) (w : Work) : Type 
   pub good : eqb number 0 ≡ true → AreTables w.core.tables × JoinTwo w.core.tables.rows
   pub read : read_all (end_of_node_alone number h) r (t ++ w.entries) ≡ reads_of w.core port
 
+-- so it stays where the machine is the same, and what is read more is what the end has then
+pub alone_as : {number h : ℕ} {r : Read} {t : List Entry} {w : Work} → Alone number h r t w → (q : Port) (ps : List Port) (es : List Entry) → ps ≡ q ∷ []
+    → q.desk.host ≡ h → q.desk.notice ≡ None → read_all (end_of_node_alone number h) r (t ++ es) ≡ reads_of w.core q
+    → Alone number h r t (record w { ports = ps; entries = es })
+alone_as a q ps es ports host none read =
+    record {
+      port = q;
+      ports_are = ports;
+      host = host;
+      none = none;
+      node = a.node;
+      command = a.command;
+      init = a.init;
+      good = a.good;
+      read = read;
+    }
+
 -- an end is changed in nothing that is read
 pub record IsSamePort (p q : Port) : Type 0 where
   pub host : q.desk.host ≡ p.desk.host
@@ -181,17 +198,8 @@ module _ (number h : ℕ) (r : Read) (t : List Entry) where
   -- which says nothing of it
   pub alone_note : (es : List Entry) (w : Work) → AreNothing e es → Of w → Of (noting es w)
   alone_note es w nothing a =
-      record {
-        port = a.port;
-        ports_are = a.ports_are;
-        host = a.host;
-        none = a.none;
-        node = a.node;
-        command = a.command;
-        init = a.init;
-        good = a.good;
-        read = read_more w es (reads_of w.core a.port) (reads_of w.core a.port) a.read (nothing_read e es nothing (reads_of w.core a.port));
-      }
+      alone_as a a.port w.ports (w.entries ++ es) a.ports_are a.host a.none
+      (read_more w es (reads_of w.core a.port) (reads_of w.core a.port) a.read (nothing_read e es nothing (reads_of w.core a.port)))
 
   -- the end is changed in nothing that is read
   pub alone_change : (k : ℕ) (f : Port → Port) (w : Work) → ((p : Port) → IsSamePort p (f p)) → Of w → Of (record w { ports = with_port k f w.ports })
@@ -199,17 +207,8 @@ module _ (number h : ℕ) (r : Read) (t : List Entry) where
       let b : Bool = eqb a.port.desk.host k in
       let q : Port = changed_if b f a.port in
       let s : IsSamePort a.port q = same_if b f a.port (same a.port) in
-      record {
-        port = q;
-        ports_are = ap (with_port k f) a.ports_are;
-        host = s.host ∙ a.host;
-        none = s.none a.none;
-        node = a.node;
-        command = a.command;
-        init = a.init;
-        good = a.good;
-        read = a.read ∙ (ap (λ z. record (reads_of w.core a.port) { left = z }) (sym s.got) ∙ ap (λ z. record (reads_of w.core q) { held = z }) (sym s.holds));
-      }
+      alone_as a q (with_port k f w.ports) w.entries (ap (with_port k f) a.ports_are) (s.host ∙ a.host) (s.none a.none)
+      (a.read ∙ (ap (λ z. record (reads_of w.core a.port) { left = z }) (sym s.got) ∙ ap (λ z. record (reads_of w.core q) { held = z }) (sym s.holds)))
 
   sent_nothing : (core : Core) (x : Turn) (o : Option Port) → AreNothing e (option_map_or (noted_of core x) o [])
   sent_nothing core x None = tt

@@ -103,6 +103,23 @@ pub record Talks (number h s : ℕ) (t : List Entry) (w : Work) : Type 0 where
   pub sound : Sound port.side
   pub talk : Reads (end_of_node_alone number h) number s (t ++ w.entries) (talk_of_side port.side s)
 
+-- so it stays where no more than the desk of its end changes
+talks_as : {number h s : ℕ} {t : List Entry} {w : Work} (a : Talks number h s t w) (d : Desk) (ps : List Port) (es : List Entry)
+    → ps ≡ record a.port { desk = d } ∷ [] → d.host ≡ h → Reads (end_of_node_alone number h) number s (t ++ es) (talk_of_side a.port.side s)
+    → Talks number h s t (record w { ports = ps; entries = es })
+talks_as a d ps es ports host talk =
+    record {
+      port = record a.port { desk = d };
+      ports_are = ports;
+      host = host;
+      node = a.node;
+      same = a.same;
+      aside = a.aside;
+      role = a.role;
+      sound = a.sound;
+      talk = talk;
+    }
+
 module _ (number h s : ℕ) (t : List Entry) where
   abbrev e : End
   e = end_of_node_alone number h
@@ -117,17 +134,8 @@ module _ (number h s : ℕ) (t : List Entry) where
 
   pub talks_note : (es : List Entry) (w : Work) → AreSilent es → Of w → Of (noting es w)
   talks_note es w silent a =
-      record {
-        port = a.port;
-        ports_are = a.ports_are;
-        host = a.host;
-        node = a.node;
-        same = a.same;
-        aside = a.aside;
-        role = a.role;
-        sound = a.sound;
-        talk = then_noted w es a.port.side (reads_silent e number s (t ++ w.entries) es (talk_of_side a.port.side s) silent a.talk);
-      }
+      talks_as a a.port.desk w.ports (w.entries ++ es) a.ports_are a.host
+      (then_noted w es a.port.side (reads_silent e number s (t ++ w.entries) es (talk_of_side a.port.side s) silent a.talk))
 
   -- what is kept of the end changes
   pub talks_desk : (k : ℕ) (f : Desk → Desk) (w : Work) → ((d : Desk) → (f d).host ≡ d.host) → Of w → Of (with_desk k f w)
@@ -136,29 +144,8 @@ module _ (number h s : ℕ) (t : List Entry) where
     g p = record p { desk = f p.desk }
 
     go : (b : Bool) → with_port k g w.ports ≡ changed_if b g a.port ∷ [] → Of (with_desk k f w)
-    go true ports = record {
-      port = g a.port;
-      ports_are = ports;
-      host = keeps a.port.desk
-          ∙ a.host;
-      node = a.node;
-      same = a.same;
-      aside = a.aside;
-      role = a.role;
-      sound = a.sound;
-      talk = a.talk;
-    }
-    go false ports = record {
-      port = a.port;
-      ports_are = ports;
-      host = a.host;
-      node = a.node;
-      same = a.same;
-      aside = a.aside;
-      role = a.role;
-      sound = a.sound;
-      talk = a.talk;
-    }
+    go true ports = talks_as a (f a.port.desk) (with_port k g w.ports) w.entries ports (keeps a.port.desk ∙ a.host) a.talk
+    go false ports = talks_as a a.port.desk (with_port k g w.ports) w.entries ports a.host a.talk
 
   -- its node does something to it
   pub talks_turn : (k : ℕ) (y : Turn) (w : Work) → IsLoneTurn y → Of w → Of (turn_at k y w)
@@ -183,19 +170,10 @@ module _ (number h s : ℕ) (t : List Entry) where
       (λ q. let noted : es ≡ [] =
       ap (λ ps. option_map_or (noted_of w.core y) (port_at ps k) []) a.ports_are
       ∙ ap (λ b. option_map_or (noted_of w.core y) (cond b (Some a.port) None) []) q in
-      record {
-        port = a.port;
-        ports_are = ap (with_port k f) a.ports_are ∙ ap (λ b. changed_if b f a.port ∷ []) q;
-        host = a.host;
-        node = a.node;
-        same = a.same;
-        aside = a.aside;
-        role = a.role;
-        sound = a.sound;
-        talk = then_noted w es a.port.side
-            (subst (λ l. Reads e number s ((t ++ w.entries) ++ l) (talk_of_side a.port.side s)) (sym noted)
-            (none_more e number (own_side w.core) a.port.desk.host own (t ++ w.entries) s a.port.side a.talk));
-      }) where
+      talks_as a a.port.desk (turn_at k y w).ports (w.entries ++ es) (ap (with_port k f) a.ports_are ∙ ap (λ b. changed_if b f a.port ∷ []) q) a.host
+      (then_noted w es a.port.side
+      (subst (λ l. Reads e number s ((t ++ w.entries) ++ l) (talk_of_side a.port.side s)) (sym noted)
+      (none_more e number (own_side w.core) a.port.desk.host own (t ++ w.entries) s a.port.side a.talk)))) where
         f : Port → Port
         f = after_turn y
 

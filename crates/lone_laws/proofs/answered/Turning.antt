@@ -8,7 +8,7 @@ use Rattle.trace_model.specs.declared.entry.Entry.TheVariants as entry
 use Rattle.history.specs.Filters.{same_side}
 use Rattle.node_laws.proofs.passes.Passing.{comes_so, takes_entries}
 use Rattle.lone_laws.proofs.answered.Own.{IsOwnDeed, AreOwnDeeds, controller_own, host_own}
-use Rattle.lone_laws.proofs.answered.Reading.{eqb_same, Read, read_all, reads_of, Alone, read_more, alone_turn, alone_does}
+use Rattle.lone_laws.proofs.answered.Reading.{eqb_same, Read, read_all, reads_of, Alone, read_more, alone_turn, alone_does, alone_as}
 
 -- ## Its end
 
@@ -74,20 +74,11 @@ module _ (number h : ℕ) (some : 1 ≤ h) (most : h ≤ 7) (r : Read) (t : List
       let its : end_of_node w.core k ≡ e = own_end w.core number h k a.node (link_is k a.port a.host here.own) in
       let own : same_end (end_of_node w.core k) e ≡ true = ap (λ x. same_end x e) its ∙ same_self e in
       let R : Read = reads_of w.core a.port in
-      record {
-        port = g (f a.port);
-        ports_are = ap (λ ps. with_port k g (with_port k f ps)) a.ports_are ∙ (ap (with_port k g) one ∙ two);
-        host = a.host;
-        none = a.none;
-        node = a.node;
-        command = a.command;
-        init = a.init;
-        good = a.good;
-        read =
-            ap (λ es. read_all e r (t ++ es)) (takes_entries k m w)
-            ∙ read_more number h r t w turned R (reads_of w.core (g (f a.port))) a.read
-            (ap (λ b. record R { left = cond b (drop 1 R.left) R.left; held = cond b false R.held }) own);
-      }
+      alone_as a (g (f a.port)) (takes_up k m w).ports (takes_up k m w).entries
+      (ap (λ ps. with_port k g (with_port k f ps)) a.ports_are ∙ (ap (with_port k g) one ∙ two)) a.host a.none
+      (ap (λ es. read_all e r (t ++ es)) (takes_entries k m w)
+      ∙ read_more number h r t w turned R (reads_of w.core (g (f a.port))) a.read
+      (ap (λ b. record R { left = cond b (drop 1 R.left) R.left; held = cond b false R.held }) own))
 
   abbrev While : Work → Type 0
   While w = w.cut ≡ false → Of w
@@ -111,17 +102,8 @@ module _ (number h : ℕ) (some : 1 ≤ h) (most : h ≤ 7) (r : Read) (t : List
       let its : end_of_node w.core k ≡ e = own_end w.core number h k a.node (link_is k a.port a.host here.own) in
       let own : same_end (end_of_node w.core k) e ≡ true = ap (λ x. same_end x e) its ∙ same_self e in
       let R : Read = reads_of w.core a.port in
-      record {
-        port = g a.port;
-        ports_are = ap (with_port k g) a.ports_are ∙ one;
-        host = a.host;
-        none = a.none;
-        node = a.node;
-        command = a.command;
-        init = a.init;
-        good = a.good;
-        read = read_more number h r t w held R (reads_of w.core (g a.port)) a.read (ap (λ b. record R { held = cond b true R.held }) own);
-      }
+      alone_as a (g a.port) (with_port k g w.ports) (w.entries ++ held) (ap (with_port k g) a.ports_are ∙ one) a.host a.none
+      (read_more number h r t w held R (reads_of w.core (g a.port)) a.read (ap (λ b. record R { held = cond b true R.held }) own))
 
   pub alone_held : (k : ℕ) (m : Message) (messages : List Message) (short : ℕ × ℕ) (w : Work) → Of w → waiting_at w.ports k ≡ m ∷ messages
       → Of (holds_back k short w)
