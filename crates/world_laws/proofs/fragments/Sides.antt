@@ -138,10 +138,11 @@ tracks_on {bare} {s} {t} {n} {m} {to_n' = to_n'} b met told h =
     tells (inl q) = inl q
     tells (inr q) = inr (omega (arith, q, b.emitted))
 
--- the other side, where the near end has taken or sent no RSET
-pub tracks_far : {bare : Bool} {s s' t : TapSide} {n m f : NumberedShdlc} {to_f to_f' : List OnWire} → s'.number ≡ s.number → n.emitted ≤ m.emitted
-    → NoUa to_f' ⊎ (f.emitted ≤ s.number) → Tracks bare t s f n to_f → Tracks bare t s' f m to_f'
-tracks_far {s = s} {s'} {t} {f = f} {to_f' = to_f'} number emitted told h =
+-- the other side, where the number of the near one is no less, and its list there is what the far end has sent
+tracks_other : {bare : Bool} {s s' t : TapSide} {n m f : NumberedShdlc} {to_f to_f' : List OnWire} → s.number ≤ s'.number → n.emitted ≤ m.emitted
+    → NoUa to_f' ⊎ (f.emitted ≤ s'.number) → listed_at t s'.number ≡ ever_sent (shdlc_session_of f s'.number) → Tracks bare t s f n to_f
+    → Tracks bare t s' f m to_f'
+tracks_other number emitted told list h =
     record {
       asked = h.asked;
       from = h.from;
@@ -151,32 +152,21 @@ tracks_far {s = s} {s'} {t} {f = f} {to_f' = to_f'} number emitted told h =
       named = h.named;
       past = h.past;
       count = h.count;
-      list = rw number h.list;
+      list = list;
       low = omega (arith, h.low);
       met = λ u. omega (arith, h.met u);
-      told = tells told;
+      told = told;
     }
-  where
-    tells : NoUa to_f' ⊎ (f.emitted ≤ s.number) → NoUa to_f' ⊎ (f.emitted ≤ s'.number)
-    tells (inl q) = inl q
-    tells (inr q) = inr (omega (arith, q))
+
+-- so where the near end has taken or sent no RSET
+pub tracks_far : {bare : Bool} {s s' t : TapSide} {n m f : NumberedShdlc} {to_f to_f' : List OnWire} → s'.number ≡ s.number → n.emitted ≤ m.emitted
+    → NoUa to_f' ⊎ (f.emitted ≤ s.number) → Tracks bare t s f n to_f → Tracks bare t s' f m to_f'
+tracks_far {s = s} {s'} {t} {f = f} {to_f' = to_f'} number emitted told h =
+    tracks_other {to_f' = to_f'} (omega (arith, number)) emitted (rw number told) (rw number h.list) h
 
 -- the other side, where the near one has a new number, at which the far end has no session
 pub tracks_renumbered : {bare : Bool} {s s' t : TapSide} {n m f : NumberedShdlc} {to_f to_f' : List OnWire} → s.number < s'.number → n.emitted ≤ m.emitted
     → shdlc_session_of f s'.number ≡ no_session → NoUa to_f' ⊎ (f.emitted ≤ s'.number) → Tracks bare t s f n to_f → Tracks bare t s' f m to_f'
 tracks_renumbered {s = s} {s'} {t} {f = f} more emitted none told h =
     let other : (t.listed == s'.number) ≡ false = ne_eqb t.listed s'.number (λ e. omega (arith, e, h.low)) in
-    record {
-      asked = h.asked;
-      from = h.from;
-      upto = h.upto;
-      now = h.now;
-      took = omega (arith, h.took);
-      named = h.named;
-      past = h.past;
-      count = h.count;
-      list = rw (other, none) refl;
-      low = omega (arith, h.low);
-      met = λ u. omega (arith, h.met u);
-      told = told;
-    }
+    tracks_other (omega (arith, more)) emitted told (rw (other, none) refl) h

@@ -3,7 +3,7 @@ use Rattle.std.proofs.Common.{◌≡◌, ℕ, zero, suc, ◌+◌, ◌*◌, ◌�
 use Rattle.std.specs.Prelude.{replicate}
 use Rattle.std.proofs.lemmas.List.{length-append, length-replicate}
 use Rattle.world_laws.proofs.Words.{AreRoundCauses, Cause, Controller, FetchMessage, Host, Link, OnWire, Taken, Ticked, after_causes, after_steps, bare_link}
-use Rattle.world_laws.proofs.Words.{causes_of, causes_of_round, causes_of_rounds, end_of, event_of, events_at, exchanged, link_after, link_after_all}
+use Rattle.world_laws.proofs.Words.{causes_of_round, causes_of_rounds, end_of, event_of, events_at, exchanged, link_after, link_after_all}
 use Rattle.world_laws.proofs.Words.{link_after_round, rounds_to_settle, settling_causes}
 use Rattle.link_laws.specs.entries.Entries.{End as Side}
 use Rattle.history.specs.Steps.{event_at}
@@ -13,17 +13,9 @@ use Rattle.node_laws.proofs.schedules.Wires.{IsFewWires, after_few}
 
 -- ## One list behind another
 
-pub link-append : (l : Link) (cs ds : List Cause) → link_after_all l (cs ++ ds) ≡ link_after_all (link_after_all l cs) ds
-link-append l [] ds = refl
-link-append l (c ∷ cs) ds = link-append (link_after l c) cs ds
-
 pub events-append : (h : ℕ) (l : Link) (cs ds : List Cause) → events_at h l (cs ++ ds) ≡ events_at h l cs ++ events_at h (link_after_all l cs) ds
 events-append h l [] ds = refl
 events-append h l (c ∷ cs) ds = ap (λ es. event_at h l c ∷ es) (events-append h (link_after l c) cs ds)
-
-pub again : (h : ℕ) (l : Link) (cs : List Cause) → causes_of (events_at h l cs) ≡ cs
-again h l [] = refl
-again h l (c ∷ cs) = ap (λ ds. c ∷ ds) (again h (link_after l c) cs)
 
 -- ## What they do
 

@@ -10,7 +10,8 @@ use Rattle.world_laws.specs.worlds.BroughtBehind.{BringsAll}
 use Rattle.world_laws.specs.worlds.Undisturbed.{AreLeftReady, AreUndisturbedNotes}
 use Rattle.world_laws.proofs.schedules.BareNoted.{bare_behind}
 use Rattle.world_laws.proofs.schedules.Nodes.{noted_behind}
-use Rattle.world_laws.proofs.schedules.Played.{played_bare, played_playable}
+use Rattle.lines_told.proofs.lines.Lines.{bare_lines}
+use Rattle.world_laws.proofs.schedules.Played.{played_playable}
 use Rattle.world_laws.proofs.undisturbed.Bare.{bare_undisturbed, up_later}
 use Rattle.world_laws.proofs.undisturbed.Busy.{played_ready}
 use Rattle.world_laws.proofs.undisturbed.Nodes.{nodes_undisturbed, nodes_up_later}
@@ -72,8 +73,8 @@ module _ (header : Header) (begun : MayBegin header) (plays : List Play) (may : 
         → 24 * (fragments_noted (all_entries t) (host_of header) k + 1) ≤ n → BothBrought (all_entries t) (all_entries later) (host_of header) k
     of_link bare t later follows goes_on k up left notes =
         let is = bare_header header bare begun in
-        let valid = played_bare header bare (lines_played header plays) first_played in
-        let later_valid = played_bare header bare (lines_played header (settled header plays n)) all_played in
+        let valid = bare_lines header bare (lines_played header plays) first_played in
+        let later_valid = bare_lines header bare (lines_played header (settled header plays n)) all_played in
         let ready : AreBothReady (bare_link_behind header (lines_played header plays)) = record {
           controller = played_ready header is false (lines_played header plays) first_played left.controller;
           host = played_ready header is true (lines_played header plays) first_played left.host;

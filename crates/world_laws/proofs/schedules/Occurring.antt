@@ -9,7 +9,7 @@ use Rattle.node_machine.specs.world.World.Happening.{Ticks}
 use Rattle.node_machine.specs.world.Lines.{LineOutcome, goes_on, is_running, line_step, refusal_in}
 use Rattle.node_machine.specs.world.NodeHistories.{occurrences_of, world_after}
 use Rattle.lines_told.specs.lines.Plays.{round_in, taking_in}
-use Rattle.lines_told.proofs.lines.NodeRounds.{played_round, round_lines, takes_so}
+use Rattle.lines_told.proofs.lines.NodeRounds.{none_taken, played_round, round_lines, takes_so}
 use Rattle.lines_told.proofs.lines.Plays.{round_first}
 
 -- what occurs over these lines, one after another
@@ -26,10 +26,6 @@ occurring-append (x ∷ xs) ys w =
 
 -- ## An end takes all that stands on its wire
 
-none_occurs : (k : ℕ) (w : NodeWorld) (e : End) → is_running w (node_of e) ≡ false → all_happen w (replicate k (Takes e)) ≡ (w, [])
-none_occurs zero w e q = refl
-none_occurs (suc k) w e q = rw q refl
-
 -- the lines of a taking, where its node runs or not and these frames stand
 abbrev taken_if : End → Bool → List OnWire → List Line
 taken_if e runs frames = if runs && not (is_clear frames) then saying.Deliver e None ∷ [] else []
@@ -41,7 +37,7 @@ taking_occurs w e = go (is_running w (node_of e)) (frames_at w e) refl refl
         → occurring w (taking_in w e) ≡ (end_takes_all w e).1
     go false frames p q =
         ap (λ (b : Bool). occurring w (taken_if e b (frames_at w e))) p
-        ∙ sym (ap (λ (r : NodeWorld × List Occurrence). r.1) (none_occurs (length (frames_at w e)) w e p))
+        ∙ sym (ap (λ (r : NodeWorld × List Occurrence). r.1) (none_taken (length (frames_at w e)) w e p))
     go true [] p q =
         ap (λ (b : Bool). occurring w (taken_if e b (frames_at w e))) p
         ∙ (ap (λ (xs : List OnWire). occurring w (taken_if e true xs)) q

@@ -1,7 +1,6 @@
 -- What may be played below a header is what the laws of its worlds ask for.
 use Rattle.std.proofs.Common.{◌≡◌, ℕ, false, List, [], ◌∷◌, ap, sym, ◌∙◌}
-use Rattle.std.specs.Prelude.{IsTrue}
-use Rattle.world_laws.proofs.Words.{AllByRecursion, ArePlayable, Header, IsLineOf, IsPlayedLine, Line, true≢false}
+use Rattle.world_laws.proofs.Words.{AllByRecursion, ArePlayable, Header, IsPlayedLine, Line, true≢false}
 use Rattle.trace_model.specs.declared.line.Line.TheVariants as saying
 use Rattle.node_laws.specs.schedules.Ranges.{AreNodeLinesOf}
 use Rattle.node_laws.proofs.schedules.Ranges.{in_range, playable}
@@ -18,22 +17,3 @@ module _ (header : Header) where
 
   pub played_playable : (lines : List Line) → AllByRecursion (IsPlayedLine header) lines → ArePlayable lines
   played_playable lines may = playable header lines (in_ranges lines may)
-
-  -- in a bare world
-  module _ (bare : header.hci ≡ false) where
-    no_nodes : IsTrue header.hci → ⊥
-    no_nodes nodes = true≢false (sym nodes ∙ bare)
-
-    bare_line : (line : Line) → IsPlayedLine header line → IsLineOf header line
-    bare_line (saying.Boot node) may = absurd (no_nodes may.may_follow.0)
-    bare_line (saying.Cut node) may = absurd (no_nodes may.may_follow.0)
-    bare_line (saying.Activate host sync power) may = absurd (no_nodes may.may_follow.0)
-    bare_line (saying.Arm node nth fill) may = absurd (no_nodes may.may_follow.0)
-    bare_line (saying.Init e identity pipes) may = absurd (no_nodes may.may_follow.0)
-    bare_line (saying.Tables node) may = absurd (no_nodes may.may_follow.0)
-    bare_line (saying.Settle rounds) may = absurd (true≢false may.settles_not)
-    bare_line line may = may.may_follow
-
-    pub played_bare : (lines : List Line) → AllByRecursion (IsPlayedLine header) lines → AllByRecursion (IsLineOf header) lines
-    played_bare [] may = tt
-    played_bare (line ∷ lines) may = (bare_line line may.0, played_bare lines may.1)

@@ -21,9 +21,9 @@ use Rattle.history.proofs.legal.Asked.{only_one}
 use Rattle.lines_told.specs.lines.Below.{is_settling}
 use Rattle.lines_told.specs.lines.Plays.{plays_of_line}
 use Rattle.lines_told.specs.lines.Plays.Play.{Said}
-use Rattle.lines_told.proofs.lines.BareRounds.{lines-append}
+use Rattle.lines_told.proofs.lines.BareRounds.{lines-append, again}
 use Rattle.world_laws.specs.worlds.Undisturbed.{busy_after, is_left_busy}
-use Rattle.world_laws.proofs.links.RoundCauses.{again, rounds_are}
+use Rattle.world_laws.proofs.links.RoundCauses.{rounds_are}
 use Rattle.world_laws.proofs.schedules.Bare.{settled_link}
 use Rattle.world_laws.proofs.undisturbed.Causes.{ready_at, readied_by, HasReady, became, ended_host, turned_ready, frame_readied}
 use Rattle.world_laws.proofs.undisturbed.Ready.{had_tick_ready, asked_ready}

@@ -16,8 +16,7 @@ use Rattle.history.specs.Filters.{same_side}
 use Rattle.history.proofs.Leading.{events_in}
 use Rattle.lines_told.specs.lines.Plays.{taking_on, round_on}
 use Rattle.lines_told.proofs.lines.Plays.{round_first}
-use Rattle.lines_told.proofs.lines.BareRounds.{takes_on, causes_on, bare_round_lines}
-use Rattle.world_laws.proofs.links.RoundCauses.{again}
+use Rattle.lines_told.proofs.lines.BareRounds.{takes_on, causes_on, bare_round_lines, again}
 use Rattle.world_laws.proofs.schedules.Bare.{one_round}
 use Rattle.world_laws.proofs.undisturbed.Ready.{ready_after, turn_ready, took_ready, sent_ready}
 

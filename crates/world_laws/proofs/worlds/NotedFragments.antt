@@ -1,16 +1,15 @@
 -- The fragments that are left on a link are at most those that are noted.
-use Rattle.std.proofs.Common.{◌≡◌, ℕ, ◌+◌, ◌-◌, ◌≤◌, List, [], ◌∷◌, drop, length, map, Some, ap, ap₂, subst, ◌∙◌, length-append, arith}
+use Rattle.std.proofs.Common.{◌≡◌, ℕ, ◌+◌, ◌-◌, ◌≤◌, List, [], ◌∷◌, drop, length, Some, ap, ap₂, subst, arith}
 use Rattle.std.specs.Prelude.{nat_le}
 use Rattle.std.proofs.lemmas.Bool.{leb-true}
-use Rattle.std.proofs.lemmas.List.{length-map}
-use Rattle.hcp_packet.specs.Packets.{packets_of, packet_count, packet_bytes, fragments_of}
-use Rattle.hcp_packet.proofs.Joining.{packets_are_counted}
+use Rattle.hcp_packet.specs.Packets.{packet_count, fragments_of}
 use Rattle.world_laws.proofs.Words.{AreUpWith, End, Entry, IsLinkTold, IsReadOff, Known, Message, NodeWorld, Site, Talk, by_test, end_c, end_h, entries_in}
 use Rattle.world_laws.proofs.Words.{fragments_left, fragments_noted, host_number, site_at, talk_now}
 use Rattle.link_laws.specs.machine.Machine.{whole_among}
 use Rattle.link_laws.proofs.messages.Project.{Says}
 use Rattle.node_laws.proofs.order.Quiet.{near_now, far_now, up_near, up_far}
 use Rattle.lines_told.specs.fragments.Rounds.{undelivered}
+use Rattle.lines_told.proofs.messages.Law.{fragments_counted}
 use Rattle.world_laws.specs.worlds.NotedFragments.{fragments_unacked}
 use Rattle.world_laws.proofs.worlds.Rounds.{IsReached, known_there}
 
@@ -19,14 +18,8 @@ left_behind : (sent : List Message) (n : ℕ) → length (fragments_of sent) ≤
 left_behind [] n = omega arith
 left_behind (m ∷ ms) n = by_test (nat_le (packet_count (length m.1)) n)
     (λ q. let fits : packet_count (length m.1) ≤ n = leb-true (packet_count (length m.1)) n q in
-    rw q (omega (arith, count, fits, left_behind ms (n - packet_count (length m.1)))))
+    rw q (omega (arith, fragments_counted m ms, fits, left_behind ms (n - packet_count (length m.1)))))
     (λ q. rw q (omega arith))
-  where
-    count : length (fragments_of (m ∷ ms)) ≡ packet_count (length m.1) + length (fragments_of ms)
-    count =
-        let a = length-append (map packet_bytes (packets_of m.0 m.1)) (fragments_of ms) in
-        let b = length-map (packets_of m.0 m.1) packet_bytes ∙ packets_are_counted m.0 m.1 in
-        omega (arith, a, b)
 
 pub end_left : (t : List Entry) (e : End) (n : ℕ) (talk : Talk) → Says talk → IsReadOff t e n talk → undelivered talk.session ≤ fragments_unacked t e n
 end_left t e n talk says read =

@@ -5,13 +5,13 @@ use Rattle.world_laws.proofs.Words.{plays_of, rounds_for, rounds_to_rest}
 use Rattle.world_laws.proofs.schedules.Bare.{bare_settled}
 use Rattle.world_laws.proofs.schedules.BareNoted.{bare_noted}
 use Rattle.world_laws.proofs.schedules.Nodes.{with_settle}
-use Rattle.world_laws.proofs.schedules.Played.{played_bare}
+use Rattle.lines_told.proofs.lines.Lines.{bare_lines}
 use Rattle.world_laws.proofs.schedules_settle.bare_links_that_settle_have_brought_all.Goals as goal
 
 pub returns-clause-plays : goal.returns-clause-plays
 returns-clause-plays c = λ header is plays may t.
     bare_settled header is.bare plays t
-    (played_bare header is.bare (lines_played header plays) (lines_may_be_played header (inl is) (hosts_stay_behind header) plays may))
+    (bare_lines header is.bare (lines_played header plays) (lines_may_be_played header (inl is) (hosts_stay_behind header) plays may))
 
 pub returns-clause-noted : goal.returns-clause-noted
 returns-clause-noted c = λ header is lines may n t later.
@@ -21,6 +21,6 @@ returns-clause-noted c = λ header is lines may n t later.
     (rounds_for header (rounds_to_rest header (plays_of header lines) n)) in
     let played = lines_may_be_played header (inl is) (hosts_stay_behind header) in
     bare_noted header is.bare lines n t later
-    (played_bare header is.bare (lines_played header (plays_of header lines)) (played (plays_of header lines) before))
+    (bare_lines header is.bare (lines_played header (plays_of header lines)) (played (plays_of header lines) before))
     (subst (AllByRecursion (IsLineOf header)) (sym (with_settle header lines n))
-    (played_bare header is.bare (lines_played header (plays_of header lines ++ rounds)) (played (plays_of header lines ++ rounds) all)))
+    (bare_lines header is.bare (lines_played header (plays_of header lines ++ rounds)) (played (plays_of header lines ++ rounds) all)))

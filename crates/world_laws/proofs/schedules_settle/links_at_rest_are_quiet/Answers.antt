@@ -2,7 +2,8 @@ use Rattle.std.proofs.Common.{inl, inr, sym, ◌∙◌}
 use Rattle.world_laws.proofs.Words.{bare_link_behind, hosts_are, hosts_stay_behind, lines_may_be_played, lines_played, nodes_behind}
 use Rattle.lines_told.proofs.lines.Resting.{nodes_rest, bare_rests}
 use Rattle.world_laws.proofs.schedules.NotedQuiet.{noted_quiet, noted_quiet_in_bare}
-use Rattle.world_laws.proofs.schedules.Played.{played_bare, played_playable}
+use Rattle.lines_told.proofs.lines.Lines.{bare_lines}
+use Rattle.world_laws.proofs.schedules.Played.{played_playable}
 use Rattle.world_laws.proofs.schedules.Resting.{link_quiet, link_resting, site_quiet, sites_quiet, sites_resting}
 use Rattle.world_laws.proofs.schedules_settle.links_at_rest_are_quiet.Goals as goal
 
@@ -32,5 +33,5 @@ returns-clause-nodes_noted c = λ header is plays may t follows rests h s found.
 pub returns-clause-bare_noted : goal.returns-clause-bare_noted
 returns-clause-bare_noted c = λ header is plays may t follows rests.
     noted_quiet_in_bare header (lines_played header plays) t
-    (played_bare header is.bare (lines_played header plays) (lines_may_be_played header (inl is) (hosts_stay_behind header) plays may)) follows
+    (bare_lines header is.bare (lines_played header plays) (lines_may_be_played header (inl is) (hosts_stay_behind header) plays may)) follows
     (link_quiet (bare_link_behind header (lines_played header plays)) (sym (bare_rests header is.bare plays) ∙ rests))

@@ -6,7 +6,7 @@ use Rattle.world_laws.proofs.Words.{rounds_for, rounds_to_rest}
 use Rattle.world_laws.specs.worlds.Undisturbed.{AreLeftReady}
 use Rattle.world_laws.proofs.schedules.BareNoted.{bare_behind}
 use Rattle.world_laws.proofs.schedules.Nodes.{with_settle}
-use Rattle.world_laws.proofs.schedules.Played.{played_bare}
+use Rattle.lines_told.proofs.lines.Lines.{bare_lines}
 use Rattle.world_laws.proofs.undisturbed.Bare.{bare_undisturbed, up_later}
 use Rattle.world_laws.proofs.undisturbed.Busy.{schedule_ready}
 use Rattle.world_laws.proofs.undisturbed_as_noted.bare_links_that_are_noted_undisturbed_have_brought_all.Goals as goal
@@ -14,7 +14,7 @@ use Rattle.world_laws.proofs.undisturbed_as_noted.bare_links_that_are_noted_undi
 valid : (header : Header) → IsHeader header → (lines : List Line) → AllByRecursion (MayFollow header) lines
     → AllByRecursion (IsLineOf header) (lines_played_of header lines)
 valid header is lines may =
-    played_bare header is.bare (lines_played_of header lines)
+    bare_lines header is.bare (lines_played_of header lines)
     (lines_may_be_played header (inl is) (hosts_stay_behind header) (plays_of header lines) (plays_for header lines may))
 
 valid_with : (header : Header) → IsHeader header → (lines : List Line) → AllByRecursion (MayFollow header) lines → (n : ℕ)
@@ -24,7 +24,7 @@ valid_with header is lines may n =
     let all = all-append (IsPlayFor header) (plays_of header lines) rounds (plays_for header lines may)
     (rounds_for header (rounds_to_rest header (plays_of header lines) n)) in
     subst (AllByRecursion (IsLineOf header)) (sym (with_settle header lines n))
-    (played_bare header is.bare (lines_played header (plays_of header lines ++ rounds))
+    (bare_lines header is.bare (lines_played header (plays_of header lines ++ rounds))
     (lines_may_be_played header (inl is) (hosts_stay_behind header) (plays_of header lines ++ rounds) all))
 
 are_ready : (header : Header) → IsHeader header → (lines : List Line) → AllByRecursion (MayFollow header) lines → AreLeftReady lines (host_of header)
