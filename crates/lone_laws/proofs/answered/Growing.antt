@@ -16,6 +16,7 @@ use Rattle.shdlc_core.specs.declared.answers.Due.{Due}
 use Rattle.shdlc_core.specs.declared.answers.Due.TheVariants.{Rr as Rr_due, Rset as Rset_due}
 use Rattle.shdlc_core.specs.Machine.{control_due, is_waiting, with_ready, fetched, frames_of, after_frames, most_frames}
 use Rattle.link_laws.specs.sessions.Sessions.{is_rset}
+use Rattle.link_laws.proofs.sessions.Sending.{at_most_one}
 use Rattle.link_laws.specs.machine.Machine.{ActDue, aside_refusal, among, frames_out}
 use Rattle.link_laws.specs.messages.Rsets.{rsets_among, rsets_due}
 use Rattle.link_laws.proofs.places.Joined.{fetch_cases}
@@ -327,14 +328,10 @@ numbered_then e session rsets a sound i may f turned = go (began_by e i) refl wh
       let one = input.0 in
       let none = ap (λ (l : List Due). length l) a.emptied in
       let turns = turned.few in
-      let rnr = at_most s.shdlc.session.answered_rnr in
+      let rnr = at_most_one s.shdlc.session.answered_rnr in
       let less = at_least f.shdlc.session.answered_rnr in
       omega (arith, one, none, turns, rnr, less)
     where
-      at_most : (b : Bool) → cond b 1 0 ≤ 1
-      at_most true = omega arith
-      at_most false = omega arith
-
       at_least : (b : Bool) → 0 ≤ cond b 1 0
       at_least true = omega arith
       at_least false = omega arith

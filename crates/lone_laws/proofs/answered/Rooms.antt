@@ -1,21 +1,22 @@
 -- The session of the end of a node alone, and the blocks that it has to spare, are what is read at each turn of a step.
-use Rattle.std.proofs.Common.{◌≡◌, ℕ, zero, suc, ◌<◌, ◌+◌, ◌-◌, Bool, true, false, cond, eqb, not, List, [], ◌∷◌, ◌++◌, length, refl, sym, ap, subst}
+use Rattle.std.proofs.Common.{◌≡◌, ℕ, ◌<◌, ◌+◌, ◌-◌, Bool, true, false, cond, eqb, not, List, [], ◌∷◌, ◌++◌, length, refl, sym, ap, subst}
 use Rattle.std.proofs.Common.{◌∙◌, append_assoc, append-nil, arith}
 use Rattle.std.specs.Prelude.{Some, None}
-use Rattle.lone_laws.proofs.Words.{Command, Commits, Deed, Desk, Drops, End, EndState, Entry, FetchMessage, Give, Hold, IsAnswered, LinkEnd, LinkState, Message}
+use Rattle.lone_laws.proofs.Words.{Command, Commits, Deed, Desk, Drops, End, Entry, FetchMessage, Give, Hold, IsAnswered, LinkEnd, LinkState, Message}
 use Rattle.lone_laws.proofs.Words.{Port, Release, Releases, SaysOk, Sends, SetAside, SetsErrors, Sound, Turn, Work, after_turn, body_of, by_option, by_test}
 use Rattle.lone_laws.proofs.Words.{changed_if, commit, commit_writes, done, end_of, end_of_node, end_of_node_alone, entries_for, eqb-true, fails_within}
 use Rattle.lone_laws.proofs.Words.{give_refusal, is_up, keeps, loses_power, noted_of, noting, option_map_or, own_side, port_at, same_end, sent_all, spare}
 use Rattle.lone_laws.proofs.Words.{spare_at, true≢false, turn, turn_at, whole_acked, with_desk, with_port}
 use Rattle.trace_model.specs.declared.entry.Entry.TheVariants as entry
 use Rattle.shdlc_core.specs.declared.answers.LinkState.TheVariants.{Down as IsDown, Waiting as IsWaitingNow, Up as IsUpNow}
-use Rattle.shdlc_core.specs.Machine.{most_frames, after_frames, fetched}
+use Rattle.shdlc_core.specs.Machine.{most_frames}
 use Rattle.hcp_packet.specs.Packets.{IsSendable, packet_count, fragments_of}
 use Rattle.link_laws.specs.machine.Machine.{given, whole_among, in_use}
+use Rattle.link_laws.proofs.sessions.Ties.{after_frames-phase}
 use Rattle.link_laws.specs.machine.Machine.Refused.{NotUp}
 use Rattle.link_laws.proofs.machine.Sound.{whole_given}
 use Rattle.link_laws.proofs.machine.Runs.{sound_turn}
-use Rattle.link_laws.proofs.places.Joined.{ready_cases, fetch_cases}
+use Rattle.link_laws.proofs.places.Joined.{ready_cases}
 use Rattle.link_laws.specs.entries.Entries.{End as Side, turn_entry}
 use Rattle.link_laws.proofs.entries.Stepping.{fetched_acked}
 use Rattle.node_laws.proofs.links.Deeds.{IsFine}
@@ -241,11 +242,7 @@ spare_is number h s t side its sound none r =
 
 -- ## Frames go out
 
-sent_phase : (n : ℕ) (e : EndState) → (after_frames n e).phase ≡ e.phase
-sent_phase zero e = refl
-sent_phase (suc n) e = sent_phase n (fetched e) ∙ fetch_cases (λ f o. f.phase ≡ e.phase) e (λ d ds p. refl) (λ p q. refl) (λ info p q. refl)
-
 pub sent_same : (s : LinkEnd) (k : ℕ) → talk_of_side (sent_all s) k ≡ talk_of_side s k
 sent_same s k =
-    ap (λ p. record { session = cond (is_up p) (Some k) None; sent = s.sent; acked = whole_acked (sent_all s) }) (sent_phase most_frames s.shdlc)
+    ap (λ p. record { session = cond (is_up p) (Some k) None; sent = s.sent; acked = whole_acked (sent_all s) }) (after_frames-phase most_frames s.shdlc)
     ∙ ap (λ n. record { session = cond (is_up s.shdlc.phase) (Some k) None; sent = s.sent; acked = whole_among s.sent n }) (fetched_acked most_frames s.shdlc)

@@ -5,7 +5,6 @@ use Rattle.told_laws.proofs.Words.{AllByRecursion, ArePipeRows, AsksReset, Bare,
 use Rattle.told_laws.proofs.Words.{LinkInput, NextFrame, NoInput, NodeWorld, NumberedEnd, OnWire, Port, Reset, Running, Site, Start, Starts, Step, Stop, Take}
 use Rattle.told_laws.proofs.Words.{Work, by_option, by_test, changed_if, cond_both, exchanged, first_lost, flat_map, frames_out, happens_at_controller, is_rset}
 use Rattle.told_laws.proofs.Words.{link_to, port_at, put, took_with}
-use Rattle.std.proofs.lemmas.Bool.{eqb-true}
 use Rattle.swp_base.specs.InMemory.{Plan}
 use Rattle.link_laws.specs.sessions.Sessions.{fits}
 use Rattle.link_laws.specs.messages.Links.{Ending, new_link, number_of}
@@ -28,6 +27,8 @@ use Rattle.told_laws.proofs.nodes.Deeds.{IsDeskIn}
 use Rattle.told_laws.proofs.nodes.Hosts.{IfBytes, IfInit}
 use Rattle.told_laws.proofs.nodes.Works.{port_more, IsPortIn, ArePortsIn, IsWorkIn}
 use Rattle.node_laws.proofs.Cases.{by_list}
+use Rattle.node_laws.proofs.telling.Nodes.{site_host}
+use Rattle.node_laws.proofs.telling.Worlds.{site_is}
 
 -- ## What is kept
 
@@ -98,16 +99,10 @@ site_changed n k more h f one sites a =
     go true s is = one s is
     go false s is = site_in_more n k more s is
 
-site_found : (P : Site → Type 0) (sites : List Site) (h : ℕ) (s : Site) → AllByRecursion P sites → site_at sites h ≡ Some s → P s
-site_found P [] h s a q = absurd (cc q)
-site_found P (x ∷ sites) h s a q =
-    cond_both (eqb x.host h) (Some x) (site_at sites h) (λ o. o ≡ Some s → P s) (λ _ z. let same : x ≡ s = cc in subst P same a.0)
-    (λ _ z. site_found P sites h s a.1 z) q
-
 pub link_there : (n : ℕ) (sites : List Site) (h : ℕ) → AllByRecursion (IsSiteIn n) sites → LinkIn false true n (link_to sites h)
 link_there n sites h a = by_option (site_at sites h)
     (λ q. rw q (link_in_more false true 0 n (new_link Bare Bare) (omega arith) (no_link_in false true)))
-    (λ s q. rw q (site_found (IsSiteIn n) sites h s a q).link)
+    (λ s q. rw q (site_is (IsSiteIn n) sites h s a q).link)
 
 -- ## Frames
 
@@ -299,14 +294,14 @@ module _ (n : ℕ) (w : NodeWorld) (is : IsWorldIn n w) where
   host_step h comes f may keeps has =
       by_host (IsStepIn (n + 13)) w h comes f nothing_done
       (λ s r there q.
-      let here : IsSiteIn n s = site_found (IsSiteIn n) w.sites h s is.sites there in
+      let here : IsSiteIn n s = site_is (IsSiteIn n) w.sites h s is.sites there in
       let far : LinkIn true false n (exchanged s.link) = link_exchanged false true n s.link here.link in
       let small = here.host in
       let k : Work = host_work s r comes f in
       let a : IsWorkIn true (n + 8) k =
       keeps (work_of r s.memory.plan (λ j. near_end_in (exchanged s.link) comes) _)
       (work_begins true n r s.memory.plan (λ j. near_end_in (exchanged s.link) comes) _ (subst IfNodeIn q here.node)
-      (subst IfTables q (site_found (λ (x : Site). IfTables x.node) w.sites h s has there))
+      (subst IfTables q (site_is (λ (x : Site). IfTables x.node) w.sites h s has there))
       (λ j. near_in true false n (exchanged s.link) comes far)
       (all_entries_in s.host n (omega (arith, small)) (arrival Host (exchanged s.link) comes) (arrives_in true false n Host (exchanged s.link) comes far))) in
       record {
@@ -327,11 +322,5 @@ module _ (n : ℕ) (w : NodeWorld) (is : IsWorldIn n w) where
             (wires_on true false n (exchanged s.link) comes far)));
       })
     where
-      host_is : (sites : List Site) (k : ℕ) (s : Site) → site_at sites k ≡ Some s → s.host ≡ k
-      host_is [] k s q = absurd (cc q)
-      host_is (x ∷ sites) k s q =
-          cond_both (eqb x.host k) (Some x) (site_at sites k) (λ o. o ≡ Some s → s.host ≡ k)
-          (λ e z. let same : x ≡ s = cc in subst (λ (y : Site). y.host ≡ k) same (eqb-true x.host k e)) (λ _ z. host_is sites k s z) q
-
       host_low : (k : ℕ) (s : Site) → s.host ≤ 7 → site_at w.sites k ≡ Some s → k ≤ 7
-      host_low k s small q = let same = host_is w.sites k s q in omega (arith, small, same)
+      host_low k s small q = let same = site_host w.sites k s q in omega (arith, small, same)
