@@ -1,9 +1,8 @@
 -- Each event of a round, and so each stretch of them, brings the places of both ends on their way.
-use Rattle.std.proofs.Common.{◌≡◌, ℕ, true, false, ◌||◌, List, [], ◌∷◌, Some, refl, ap, sym, ◌∙◌, arith, map}
+use Rattle.std.proofs.Common.{◌≡◌, ℕ, true, false, ◌||◌, List, [], ◌∷◌, Some, refl, ap, sym, ◌∙◌, arith, map, is_some}
 use Rattle.std.proofs.lemmas.Bool.{or_parts}
 use Rattle.shdlc_core.specs.declared.answers.LinkState.TheVariants.{Up}
 use Rattle.shdlc_core.specs.Machine.{EndState, ticked, tick_answer, frames_of}
-use Rattle.std.specs.Prelude.{is_some}
 use Rattle.link_laws.specs.places.Wire.{OnWire, aged_wire, sans, loses_aged}
 use Rattle.link_laws.specs.sessions.Sessions.{NumberedShdlc, ShdlcLink, shdlc_exchanged, shdlc_put_all, shdlc_turned, act_frame, with_shdlc_ended, ShdlcTurn}
 use Rattle.link_laws.specs.sessions.Sessions.{ShdlcEndEvent, IsShdlcAllowed, shdlc_happens_at_controller, shdlc_ticks_at_controller, shdlc_aged, AreTurns}

@@ -1,7 +1,6 @@
 -- Each thing that the near end of a link does, where both ends are up in one session: how far it brings the places of both ends.
-use Rattle.std.proofs.Common.{◌≡◌, ℕ, ◌+◌, ◌<◌, ◌≤◌, Bool, true, false, not, List, [], ◌∷◌, Some, ◌⊎◌, inl, inr}
-use Rattle.std.proofs.Common.{refl, ap, sym, subst, ◌∙◌, arith, length, drop, map}
-use Rattle.std.specs.Prelude.{nat_lt, is_some}
+use Rattle.std.proofs.Common.{◌≡◌, ℕ, ◌+◌, ◌<◌, ◌≤◌, Bool, true, false, not, List, [], ◌∷◌, Some, ◌⊎◌, inl, inr, refl, ap, sym, subst, ◌∙◌, arith, length, drop}
+use Rattle.std.proofs.Common.{map, nat_lt, is_some}
 use Rattle.std.proofs.lemmas.Bool.{cases_lt, ltb-true, or_parts, true≢false}
 use Rattle.swp_base.specs.declared.control_frames.Control.{Control}
 use Rattle.swp_base.specs.declared.control_frames.Control.TheVariants.{Ua}

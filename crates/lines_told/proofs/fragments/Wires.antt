@@ -1,7 +1,6 @@
 -- Frames that stand on a wire, among the first so many of them or anywhere, as frames are put behind them, taken or grow older.
-use Rattle.std.proofs.Common.{◌≡◌, ℕ, zero, suc, ◌+◌, ◌≤◌, Bool, true, false, cond, ◌&&◌, List, [], ◌∷◌, ◌++◌, ◌⊎◌, inl, inr, refl, arith, length, drop}
-use Rattle.std.specs.Prelude.{nat_lt}
-use Rattle.std.proofs.lemmas.Bool.{true≢false}
+use Rattle.std.proofs.Common.{◌≡◌, ℕ, zero, suc, ◌+◌, ◌≤◌, Bool, true, false, cond, ◌&&◌, List, [], ◌∷◌, ◌++◌, ◌⊎◌, inl, inr, refl, arith, length, drop, nat_lt}
+use Rattle.std.proofs.Common.{true≢false}
 use Rattle.swp_base.specs.declared.control_frames.Control.{Control}
 use Rattle.link_laws.specs.places.Wire.{OnWire, fits, aged_wire, is_act, is_rnr, sans, overflows, loses_aged, counts_first}
 

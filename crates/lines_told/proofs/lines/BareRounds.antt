@@ -1,6 +1,5 @@
 -- The lines of a round of a bare link do what the round does.
-use Rattle.std.proofs.Common.{◌≡◌, ℕ, zero, suc, false, List, [], ◌∷◌, ◌++◌, None, refl, ap, sym, ◌∙◌, length, append-nil}
-use Rattle.std.specs.Prelude.{replicate, if◌then◌else◌}
+use Rattle.std.proofs.Common.{◌≡◌, ℕ, zero, suc, false, List, [], ◌∷◌, ◌++◌, None, refl, ap, sym, ◌∙◌, length, append-nil, replicate, if◌then◌else◌}
 use Rattle.trace_model.specs.declared.line.End.{End}
 use Rattle.trace_model.specs.declared.line.Header.{Header}
 use Rattle.trace_model.specs.declared.line.Line.{Line}

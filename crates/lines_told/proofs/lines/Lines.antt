@@ -1,8 +1,7 @@
 -- The lines of a round may be played, and none of them is misread; so it is with the lines that plays come to.
-use Rattle.std.proofs.Common.{◌≡◌, ℕ, suc, ◌<◌, inl, inr, Bool, true, false, List, [], ◌∷◌, ◌++◌, None, refl, sym, subst, ◌∙◌, length, arith}
-use Rattle.std.specs.Prelude.{IsTrue, map, if◌then◌else◌, not, ◌&&◌, Contains, slice_index}
+use Rattle.std.proofs.Common.{◌≡◌, ℕ, suc, ◌<◌, inl, inr, Bool, true, false, List, [], ◌∷◌, ◌++◌, None, refl, sym, subst, ◌∙◌, length, arith, IsTrue, map}
+use Rattle.std.proofs.Common.{if◌then◌else◌, not, ◌&&◌, Contains, slice_index, true≢false}
 use Rattle.std.specs.List.{AllByRecursion, flat_map, fold}
-use Rattle.std.proofs.lemmas.Bool.{true≢false}
 use Rattle.trace_model.specs.declared.line.End.{End}
 use Rattle.trace_model.specs.declared.line.Header.{Header}
 use Rattle.trace_model.specs.declared.line.Line.{Line}

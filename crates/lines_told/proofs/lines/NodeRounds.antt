@@ -1,7 +1,6 @@
 -- The lines of a round in a world of nodes do what the round does, and tell of it; and none of them is misread.
 use Rattle.std.proofs.Common.{◌≡◌, ℕ, zero, suc, Bool, true, false, List, [], ◌∷◌, ◌++◌, None, refl, ap, sym, subst, ◌∙◌, length, append-nil, append_assoc}
-use Rattle.std.specs.Prelude.{replicate, if◌then◌else◌, not, ◌&&◌}
-use Rattle.std.specs.List.{flat_map}
+use Rattle.std.proofs.Common.{replicate, if◌then◌else◌, not, ◌&&◌, flat_map}
 use Rattle.std.proofs.lemmas.List.Concat.{flat_map-append}
 use Rattle.trace_model.specs.declared.entry.Entry.{Entry}
 use Rattle.trace_model.specs.declared.line.End.{End}

@@ -1,10 +1,9 @@
 -- The law over messages.
 use Rattle.std.proofs.Common.{◌≡◌, ℕ, ◌+◌, ◌-◌, ◌*◌, ◌≤◌, Bool, true, false, ◌&&◌, List, [], ◌∷◌, ◌++◌, take, map, refl, ap, sym, subst, ◌∙◌, arith, length}
-use Rattle.std.proofs.Common.{length-append, append_assoc}
+use Rattle.std.proofs.Common.{length-append, append_assoc, nat_le}
 use Rattle.std.proofs.lemmas.List.{length-map, append-nil, take_all}
 use Rattle.std.proofs.lemmas.List.Elements.{filter_map-append}
 use Rattle.std.proofs.lemmas.Bool.{leb-false, and_parts, eqb-true}
-use Rattle.std.specs.Prelude.{nat_le}
 use Rattle.hcp_packet.specs.declared.Packet.{Packet}
 use Rattle.hcp_packet.specs.Packets.{packets_of, packet_count, packet_bytes, packet_of, fragments_of, good_of, good_messages_of, packets_in, messages_of}
 use Rattle.hcp_packet.specs.Packets.{messages_after, message_ended_by, IsFrontOf}

@@ -1,6 +1,5 @@
 -- Worked examples compute.
-use Rattle.std.proofs.Common.{◌≡◌, refl, List, [], ◌∷◌, ◌++◌, ℕ, map, take, replicate, None}
-use Rattle.std.specs.Prelude.{true, false}
+use Rattle.std.proofs.Common.{◌≡◌, refl, List, [], ◌∷◌, ◌++◌, ℕ, map, take, replicate, None, true, false}
 use Rattle.swp_base.specs.Bits.{bits_of_byte}
 use Rattle.lone_laws.proofs.Words.{Entry, FrameComes, FrameIsRefused, Lone, LoneCause, LoneEvent, Memory, ResetComes, StartComes, StopComes, end_c, end_causes}
 use Rattle.lone_laws.proofs.Words.{lone_after, lone_events}

@@ -1,6 +1,5 @@
 -- What one walk over a history of a node alone finds says whether a fact of its answers holds.
-use Rattle.std.proofs.Common.{◌≡◌, ap, sym, subst, append_assoc, append-nil, ℕ, Bool, true, false, true≢false, List, [], ◌∷◌, ◌++◌, Option, Some, None}
-use Rattle.std.specs.Prelude.{◌==◌}
+use Rattle.std.proofs.Common.{◌≡◌, ap, sym, subst, append_assoc, append-nil, ℕ, Bool, true, false, true≢false, List, [], ◌∷◌, ◌++◌, Option, Some, None, ◌==◌}
 use Rattle.lone_laws.proofs.Words.{AllByRecursion, AnsweredAlone, AreInTurn, AtEachNoted, Core, Entry, HearsFirstAlone, IsDueAlone, IsFirstThere, IsHeldAlone}
 use Rattle.lone_laws.proofs.Words.{IsRepliedAlone, IsResetAlone, LoneEvent, Message, core_since, entries_of_events_alone, eqb-true, lack_since, list_any}
 use Rattle.lone_laws.proofs.Words.{noted_since, oldest, option_map_or, reply_since, sync_due, unhandled_in}

@@ -1,6 +1,5 @@
 -- Small wrong histories of a node alone aren't answered: for each fact of `AnsweredAlone` one that it alone refuses.
-use Rattle.std.proofs.Common.{◌≡◌, ◌≤◌, arith, refl, ap, sym, ℕ, Bool, true, false, true≢false, List, [], ◌∷◌, replicate, Option, Some, None}
-use Rattle.std.specs.Prelude.{is_some}
+use Rattle.std.proofs.Common.{◌≡◌, ◌≤◌, arith, refl, ap, sym, ℕ, Bool, true, false, true≢false, List, [], ◌∷◌, replicate, Option, Some, None, is_some}
 use Rattle.swp_base.specs.declared.link_terms.Cause.TheVariants as cause
 use Rattle.swp_base.specs.declared.link_terms.FrameFault.TheVariants as fault
 use Rattle.lone_laws.proofs.Words.{AnsweredAlone, Core, Entry, FrameIsRefused, LoneEvent, TickComes, end_c, formatted}

@@ -1,6 +1,5 @@
 -- A node with one link in a step before its pass: something comes to its end, and an identifier may be kept; nothing else is done.
-use Rattle.std.proofs.Common.{◌≡◌, ℕ, Bool, true, false, cond, eqb, List, [], ◌∷◌, ◌++◌, map, refl, sym, ap, ap₂, ◌∙◌, append-nil}
-use Rattle.std.specs.Prelude.{Some, None, is_some}
+use Rattle.std.proofs.Common.{◌≡◌, ℕ, Bool, true, false, cond, eqb, List, [], ◌∷◌, ◌++◌, map, refl, sym, ap, ap₂, ◌∙◌, append-nil, Some, None, is_some}
 use Rattle.lone_laws.proofs.Words.{Core, End, Entry, LinkEnd, LinkInput, NodeInput, Port, Reset, Start, Stop, Take, TakeUnknown, Tick, Work, after_input}
 use Rattle.lone_laws.proofs.Words.{after_sessions, all_come, all_done, all_owed, comes_to_pass, cond_both, end_of, end_of_node_alone, flat_map, forgets}
 use Rattle.lone_laws.proofs.Words.{forgotten, input_at, is_open, list_any, moved, node_input, own_side, report, same_end, stopped, syncs_in, tick_answer}

@@ -1,6 +1,5 @@
 -- A whole run over a memory that a boot left answers every message, and the memory keeps its commands.
-use Rattle.std.proofs.Common.{◌≡◌, inl, inr, ℕ, ◌+◌, ◌-◌, ◌^◌, Bool, true, false, cond, List, [], ◌∷◌, length, refl, sym, subst, arith}
-use Rattle.std.specs.Prelude.{min, is_none}
+use Rattle.std.proofs.Common.{◌≡◌, inl, inr, ℕ, ◌+◌, ◌-◌, ◌^◌, Bool, true, false, cond, List, [], ◌∷◌, length, refl, sym, subst, arith, min, is_none}
 use Rattle.lone_laws.proofs.Words.{AnsweredAlone, Command, Counts, CountsAll, FindsBehind, IsReadyMemory, Lone, Memory, after_commands, commands_of_entries}
 use Rattle.lone_laws.proofs.Words.{end_causes, entries_of_events_alone, found, lone_after, true≢false}
 use Rattle.hci_store.specs.Stored.{FindsSame}

@@ -1,7 +1,6 @@
 -- A commit, whole or cut, over a memory that holds what a node knows. What is said of counts may rest on something that is known of the first memory.
-use Rattle.std.proofs.Common.{◌≡◌, ◌⊎◌, inl, inr, ℕ, ◌+◌, ◌^◌, ◌<◌, ◌≤◌, Bool, true, false, cond, nat_lt, List, [], ◌∷◌, length, sym, refl, ap}
-use Rattle.std.proofs.Common.{◌∙◌, subst, arith}
-use Rattle.std.specs.Prelude.{◌-◌, min, Option, Some, None, IsSome, is_some}
+use Rattle.std.proofs.Common.{◌≡◌, ◌⊎◌, inl, inr, ℕ, ◌+◌, ◌^◌, ◌<◌, ◌≤◌, Bool, true, false, cond, nat_lt, List, [], ◌∷◌, length, sym, refl, ap, ◌∙◌, subst}
+use Rattle.std.proofs.Common.{arith, ◌-◌, min, Option, Some, None, IsSome, is_some}
 use Rattle.lone_laws.proofs.Words.{AreTables, Command, Counts, HciTables, IsCommand, IsRecordable, Memory, State, Write, after_planned, after_writes, apply}
 use Rattle.lone_laws.proofs.Words.{body_of, commit_writes, count_of, counted, current, fails_within, format_writes, formatted, journal, option_map_or}
 use Rattle.lone_laws.proofs.Words.{planned_whole, records, state_of}

@@ -1,7 +1,6 @@
 -- Each session of a node alone has a greater number than those before it.
 use Rattle.std.proofs.Common.{◌≡◌, ◌⊎◌, inl, inr, ℕ, zero, suc, ◌+◌, ◌-◌, ◌<◌, ◌≤◌, Bool, true, false, cond, eqb, List, [], ◌∷◌, ◌++◌, length, take, drop, map}
-use Rattle.std.proofs.Common.{refl, sym, ap, ◌∙◌, arith}
-use Rattle.std.specs.Prelude.{not, Some, None}
+use Rattle.std.proofs.Common.{refl, sym, ap, ◌∙◌, arith, not, Some, None}
 use Rattle.lone_laws.proofs.Words.{AllByRecursion, Clt, Command, Commits, Control, Deed, Desk, EndState, FetchMessage, Give, Hold, I, IsAnswered, LinkEnd}
 use Rattle.lone_laws.proofs.Words.{LinkInput, LinkState, Message, NodeInput, Port, Release, Releases, Rset, S, Sends, SetAside, SetsErrors, Sound, Take, Tells}
 use Rattle.lone_laws.proofs.Words.{Turn, Ua, Work, after_input, after_sessions, after_turn, all_come, all_owed, asked_at, began_by, body_of, by_option, by_test}

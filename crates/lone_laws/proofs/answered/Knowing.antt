@@ -1,6 +1,5 @@
 -- What is known of a node alone at each turn of a step: what it keeps, its session and its blocks are read.
-use Rattle.std.proofs.Common.{◌≡◌, ℕ, ◌<◌, ◌≤◌, true, false, cond, eqb, List, [], ◌∷◌, ◌++◌, map, refl, sym, ap, subst, ◌∙◌, append_assoc}
-use Rattle.std.specs.Prelude.{Some, None}
+use Rattle.std.proofs.Common.{◌≡◌, ℕ, ◌<◌, ◌≤◌, true, false, cond, eqb, List, [], ◌∷◌, ◌++◌, map, refl, sym, ap, subst, ◌∙◌, append_assoc, Some, None}
 use Rattle.lone_laws.proofs.Words.{AllByRecursion, Core, Deed, End, Entry, FetchMessage, Hold, LastsOverTurns, LinkEnd, LinkInput, Lone, LoneCause, Message}
 use Rattle.lone_laws.proofs.Words.{Port, Reset, Running, Sound, Start, Stop, Take, TakeUnknown, Tick, Work, after_input, all_come, all_do, all_done, began_by}
 use Rattle.lone_laws.proofs.Words.{by_test, deeds_of, end_of_node, handles, holds_back, lets, lone_arrival, lone_end, lone_input, lone_port, node_input, noting}

@@ -1,10 +1,9 @@
 -- A node with one link goes by what is said of such a node, and does by that what it does.
-use Rattle.std.proofs.Common.{◌≡◌, ℕ, ◌&&◌, ◌||◌, Bool, true, false, cond, eqb, List, [], ◌∷◌, refl, sym, ap, ◌∙◌}
-use Rattle.std.specs.Prelude.{Some, None, is_some}
+use Rattle.std.proofs.Common.{◌≡◌, ℕ, ◌&&◌, ◌||◌, Bool, true, false, cond, eqb, List, [], ◌∷◌, refl, sym, ap, ◌∙◌, Some, None, is_some, option_map}
+use Rattle.std.proofs.Common.{option_and_then}
 use Rattle.lone_laws.proofs.Words.{Core, Creation, Message, Port, by_test, creation_in, deeds_for, deeds_of, end_view, eqb-true, first_lack, host_deeds, is_up}
 use Rattle.lone_laws.proofs.Words.{lack, list_any, option_map_or, own_view, port_at, spare, spare_with_link, view_of, view_with_link}
 use Rattle.std.specs.List.{cons_option}
-use Rattle.std.specs.Option.{option_map, option_and_then}
 use mathlib.Core.Bool.{and-false, and-true}
 use Rattle.hci_tables.specs.Tables.{is_opened}
 use Rattle.node_machine.specs.Parts.{NodeView}

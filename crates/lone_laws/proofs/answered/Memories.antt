@@ -1,7 +1,6 @@
 -- The memory of a node alone holds its commands, or all but the last one where its power went in that one's writes.
-use Rattle.std.proofs.Common.{◌≡◌, ◌⊎◌, inl, inr, ℕ, ◌+◌, ◌-◌, ◌^◌, true, false, List, [], ◌∷◌, ◌++◌, length, refl, sym, ap, subst, ◌∙◌, arith}
-use Rattle.std.proofs.Common.{append_assoc, append-nil, length-append}
-use Rattle.std.specs.Prelude.{min, Option, Some, None}
+use Rattle.std.proofs.Common.{◌≡◌, ◌⊎◌, inl, inr, ℕ, ◌+◌, ◌-◌, ◌^◌, true, false, List, [], ◌∷◌, ◌++◌, length, refl, sym, ap, subst, ◌∙◌, arith, append_assoc}
+use Rattle.std.proofs.Common.{append-nil, length-append, min, Option, Some, None}
 use Rattle.lone_laws.proofs.Words.{AllByRecursion, AreTables, AreTables-apply, Command, Commits, Deed, Drops, Entry, HciTables, IsAnswered, IsCommand}
 use Rattle.lone_laws.proofs.Words.{IsRecordable, Memory, SaysOk, Sends, SetsErrors, State, Work, Write, after_commands, after_planned, all_done, apply, body_of}
 use Rattle.lone_laws.proofs.Words.{by_test, commands_of_entries, commit, commit_writes, count_of, done, end_of_node, fails_within, fold-append, keeps}

@@ -1,10 +1,9 @@
 -- All that a node alone notes is its own, so its answers are read as those of a node among others.
-use Rattle.std.proofs.Common.{◌≡◌, ℕ, Bool, true, false, cond, eqb, ◌||◌, List, [], ◌∷◌, ◌++◌, inl, inr, map, refl, sym, ap, ap₂, subst, ◌∙◌}
-use Rattle.std.specs.Prelude.{None, not, if◌then◌else◌}
+use Rattle.std.proofs.Common.{◌≡◌, ℕ, Bool, true, false, cond, eqb, ◌||◌, List, [], ◌∷◌, ◌++◌, inl, inr, map, refl, sym, ap, ap₂, subst, ◌∙◌, None, not}
+use Rattle.std.proofs.Common.{if◌then◌else◌, eq-eqb}
 use Rattle.lone_laws.proofs.Words.{Control, Core, Desk, Entry, FrameComes, IsDueAlone, IsRepliedAlone, LinkInput, Lone, LoneCause, LoneEvent, NodeInput}
 use Rattle.lone_laws.proofs.Words.{Running, Work, by_test, core_since, eqb-true, filter, lack_since, list_any, lone_arrival, lone_end, lone_port, lone_work}
 use Rattle.lone_laws.proofs.Words.{lpdu_of, noted_since, reply_since, session_with, steps, sync_due, to_command}
-use Rattle.std.proofs.lemmas.Bool.{eq-eqb}
 use Rattle.std.proofs.lemmas.List.Sums.{take_while-cons}
 use Rattle.registry.proofs.ValueLemmas.{AllByRecursion-append as all_append}
 use Rattle.trace_model.specs.declared.entry.Entry.TheVariants as entry

@@ -1,7 +1,6 @@
 -- The sessions of a node alone have growing numbers: behind each one that waits an RSET went out, or is about to.
-use Rattle.std.proofs.Common.{◌≡◌, ◌⊎◌, inl, inr, ℕ, ◌+◌, ◌≤◌, Bool, true, false, cond, List, [], ◌∷◌, ◌++◌, length, refl, sym, ap}
-use Rattle.std.proofs.Common.{subst, ◌∙◌, arith, length-append}
-use Rattle.std.specs.Prelude.{nat_lt, ◌==◌, is_some, Option, Some, None}
+use Rattle.std.proofs.Common.{◌≡◌, ◌⊎◌, inl, inr, ℕ, ◌+◌, ◌≤◌, Bool, true, false, cond, List, [], ◌∷◌, ◌++◌, length, refl, sym, ap, subst, ◌∙◌, arith}
+use Rattle.std.proofs.Common.{length-append, nat_lt, ◌==◌, is_some, Option, Some, None}
 use Rattle.lone_laws.proofs.Words.{Act, ActEvent, Clt, Control, EndState, I, LinkEnd, LinkInput, LinkState, Reset, Rset, S, Start, Stop, Take, TakeUnknown}
 use Rattle.lone_laws.proofs.Words.{Tick, Ua, act_answer, activated, after_input, by_option, by_test, heard, is_faulty, is_open, moved, put_down, reset_refusal}
 use Rattle.lone_laws.proofs.Words.{reset_with, role_after, stopped, take_answer, taken, tick_answer, ticked, true≢false, window_of, with_act}

@@ -1,6 +1,5 @@
 -- A node with one link asks nobody for a pipe and tells nobody of one: what it does with a message is of its own.
-use Rattle.std.proofs.Common.{◌≡◌, ℕ, ◌≤◌, Bool, true, false, cond, eqb, ◌&&◌, not, List, [], ◌∷◌, refl, sym, ap, ◌∙◌, inl, inr}
-use Rattle.std.specs.Prelude.{Some, None}
+use Rattle.std.proofs.Common.{◌≡◌, ℕ, ◌≤◌, Bool, true, false, cond, eqb, ◌&&◌, not, List, [], ◌∷◌, refl, sym, ap, ◌∙◌, inl, inr, Some, None}
 use Rattle.lone_laws.proofs.Words.{AllByRecursion, AreTables, Commits, Core, Creation, Deed, Drops, HciTables, IsAnswered, IsCommand, JoinTwo, Message, Port}
 use Rattle.lone_laws.proofs.Words.{Releases, SaysOk, Sends, SetsErrors, Tells, asked_at, controller_deeds, creation_in, end_view, eqb-true, host_deeds}
 use Rattle.lone_laws.proofs.Words.{option_map_or, own_view, port_at, true≢false, view_of}

@@ -1,6 +1,5 @@
 -- A node that has lost its power in a step has noted it.
-use Rattle.std.proofs.Common.{◌≡◌, ℕ, Bool, true, false, ◌||◌, List, [], ◌∷◌, ◌++◌, map, refl, sym, subst, ◌∙◌}
-use Rattle.std.specs.Prelude.{length}
+use Rattle.std.proofs.Common.{◌≡◌, ℕ, Bool, true, false, ◌||◌, List, [], ◌∷◌, ◌++◌, map, refl, sym, subst, ◌∙◌, length}
 use Rattle.lone_laws.proofs.Words.{Commits, Deed, Drops, Entry, FetchMessage, Hold, IsAnswered, NodeInput, Port, Releases, SaysOk, Sends, SetsErrors, Tells}
 use Rattle.lone_laws.proofs.Words.{Turn, Work, after_sessions, all_come, all_owed, body_of, by_test, commit_writes, done, end_of_node, fails_within, flat_map}
 use Rattle.lone_laws.proofs.Words.{forgets, forgotten, keeps, list_any, loses_power, noted_of, noting, option_map_or, port_at, steps, synced, times_out}

@@ -1,6 +1,5 @@
 -- Where each message that has its turn is the first that came and had none, messages have their turns in the order in which they came.
-use Rattle.std.proofs.Common.{◌≡◌, List, [], ◌∷◌, ◌++◌, inl, inr, refl, sym, ap, subst, append_assoc}
-use Rattle.std.specs.Prelude.{◌⊎◌}
+use Rattle.std.proofs.Common.{◌≡◌, List, [], ◌∷◌, ◌++◌, inl, inr, refl, sym, ap, subst, append_assoc, ◌⊎◌}
 use Rattle.lone_laws.proofs.Words.{AreInTurn, AtEachNoted, Entry, IsFirstThere, LoneEvent, entries_of_events_alone}
 use Rattle.node_laws.proofs.answers.OneFact.{firsts_in_turn}
 use Rattle.lone_laws.proofs.answered.Events.{split_at, InFirst, InSecond}

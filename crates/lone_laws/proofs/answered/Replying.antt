@@ -1,6 +1,5 @@
 -- What a node alone notes of a message that has its turn is the reply that is read.
-use Rattle.std.proofs.Common.{◌≡◌, ℕ, Bool, true, false, cond, eqb, ◌||◌, List, [], ◌∷◌, ◌++◌, refl, sym, ap, ap₂, subst, ◌∙◌}
-use Rattle.std.specs.Prelude.{Option, Some, None}
+use Rattle.std.proofs.Common.{◌≡◌, ℕ, Bool, true, false, cond, eqb, ◌||◌, List, [], ◌∷◌, ◌++◌, refl, sym, ap, ap₂, subst, ◌∙◌, Option, Some, None}
 use Rattle.lone_laws.proofs.Words.{AllByRecursion, AreNoBoots, Command, Commits, Core, Deed, Drops, End, Entry, Give, IsAnswered, IsNoBoot, LinkState, Message}
 use Rattle.lone_laws.proofs.Words.{Port, SaysOk, Sends, SetsErrors, Work, Write, all_done, body_of, by_test, changed_if, commit_writes, core_with, count_of}
 use Rattle.lone_laws.proofs.Words.{done, end_of, end_of_node, end_of_node_alone, entries_for, eqb-true, filter, give_refusal, goes_in, is_up, keeps, lack}

@@ -1,6 +1,5 @@
 -- In an event of a node alone turns stand in the order of their links, since it has one, and nothing comes behind an answer.
-use Rattle.std.proofs.Common.{◌≡◌, ℕ, ◌≤◌, List, [], ◌∷◌, ◌++◌, map, refl, sym, ap, subst, arith}
-use Rattle.std.specs.Prelude.{◌==◌, if◌then◌else◌, Some, None}
+use Rattle.std.proofs.Common.{◌≡◌, ℕ, ◌≤◌, List, [], ◌∷◌, ◌++◌, map, refl, sym, ap, subst, arith, ◌==◌, if◌then◌else◌, Some, None}
 use Rattle.lone_laws.proofs.Words.{AllByRecursion, Control, End, Entry, FrameComes, HearsFirstAlone, Lone, LoneCause, NodeInput, Work, by_test, lone_arrival}
 use Rattle.lone_laws.proofs.Words.{lpdu_of, steps}
 use Rattle.std.specs.List.{cons_option, filter_map}

@@ -1,6 +1,5 @@
 -- An end of a CLF stays one, and so does an end of a UICC; what each takes of activation.
-use Rattle.std.proofs.Common.{◌≡◌, Bool, true, false, cond, ◌++◌, refl, ◌∙◌}
-use Rattle.std.specs.Prelude.{Option, Some, None, is_some}
+use Rattle.std.proofs.Common.{◌≡◌, Bool, true, false, cond, ◌++◌, refl, ◌∙◌, Option, Some, None, is_some}
 use Rattle.lone_laws.proofs.Words.{Act, ActEvent, Clt, Control, EndState, I, LinkEnd, LinkInput, LinkState, Reset, Rset, S, Start, Stop, Take, TakeUnknown}
 use Rattle.lone_laws.proofs.Words.{Tick, Ua, act_answer, activated, after_input, by_option, cond_both, heard, is_faulty, is_open, moved, put_down}
 use Rattle.lone_laws.proofs.Words.{reset_refusal, reset_with, role_after, stopped, take_answer, taken, tick_answer, ticked, window_of, with_act}

@@ -1,7 +1,6 @@
 -- The session of the end of a node alone, and the blocks that it has to spare, are what is read at each turn of a step.
-use Rattle.std.proofs.Common.{◌≡◌, ℕ, ◌<◌, ◌+◌, ◌-◌, Bool, true, false, cond, eqb, not, List, [], ◌∷◌, ◌++◌, length, refl, sym, ap, subst}
-use Rattle.std.proofs.Common.{◌∙◌, append_assoc, append-nil, arith}
-use Rattle.std.specs.Prelude.{Some, None}
+use Rattle.std.proofs.Common.{◌≡◌, ℕ, ◌<◌, ◌+◌, ◌-◌, Bool, true, false, cond, eqb, not, List, [], ◌∷◌, ◌++◌, length, refl, sym, ap, subst, ◌∙◌, append_assoc}
+use Rattle.std.proofs.Common.{append-nil, arith, Some, None}
 use Rattle.lone_laws.proofs.Words.{Command, Commits, Deed, Desk, Drops, End, Entry, FetchMessage, Give, Hold, IsAnswered, LinkEnd, LinkState, Message}
 use Rattle.lone_laws.proofs.Words.{Port, Release, Releases, SaysOk, Sends, SetAside, SetsErrors, Sound, Turn, Work, after_turn, body_of, by_option, by_test}
 use Rattle.lone_laws.proofs.Words.{changed_if, commit, commit_writes, done, end_of, end_of_node, end_of_node_alone, entries_for, eqb-true, fails_within}

@@ -1,7 +1,6 @@
 -- Over a whole run of a node alone its memory holds its commands, or all but the last one where its power went in that one's writes.
 use Rattle.std.proofs.Common.{◌≡◌, ◌⊎◌, inl, inr, ℕ, ◌+◌, ◌-◌, ◌^◌, ◌≤◌, Bool, true, false, cond, eqb, List, [], ◌∷◌, ◌++◌, length, map, refl, sym, ap, subst}
-use Rattle.std.proofs.Common.{◌∙◌, arith, append_assoc, append-nil}
-use Rattle.std.specs.Prelude.{min, Option, Some, None, is_some, IsSome}
+use Rattle.std.proofs.Common.{◌∙◌, arith, append_assoc, append-nil, min, Option, Some, None, is_some, IsSome}
 use Rattle.lone_laws.proofs.Words.{AllByRecursion, AreTables, Command, Control, Core, CountsAll, Deed, End, Entry, FetchMessage, FindsBehind, FrameComes}
 use Rattle.lone_laws.proofs.Words.{FrameIsRefused, HciTables, Hold, IsReadyMemory, IsRecordable, LinkInput, Lone, LoneCause, LoneEvent, Memory, Message, Port}
 use Rattle.lone_laws.proofs.Words.{Running, Work, after_commands, after_planned, after_writes, all_come, all_done, boot_writes, by_option, by_test, close}

@@ -1,9 +1,7 @@
 -- The session of an end, the messages sent in it and how many of them are acknowledged are read of a node alone by the words for any node.
 use Rattle.std.proofs.Common.{◌≡◌, ℕ, zero, suc, ◌+◌, ◌<◌, ◌≤◌, ◌-◌, Bool, true, false, cond, eqb, List, [], ◌∷◌, ◌++◌, refl, sym, ap, ap₂, subst, ◌∙◌}
-use Rattle.std.proofs.Common.{append_assoc, append-nil, arith}
-use Rattle.std.specs.Prelude.{drop, max, not, ◌&&◌, Option, Some, None, is_some}
+use Rattle.std.proofs.Common.{append_assoc, append-nil, arith, drop, max, not, ◌&&◌, Option, Some, None, is_some, filter_map}
 use Rattle.lone_laws.proofs.Words.{AllByRecursion, End, Entry, Message, by_test, fold-append, same_end, session_now, spare_at}
-use Rattle.std.specs.List.{filter_map}
 use Rattle.std.proofs.lemmas.Grind.{common_steps}
 use Rattle.std.proofs.lemmas.List.Elements.{filter_map-append}
 use Rattle.swp_base.specs.declared.link_terms.Cause.{Cause as EndedBy}

@@ -1,6 +1,5 @@
 -- What a node with one link does with a message: nothing, or one message is dropped or sent, behind a command or REC_ERROR, if at all.
-use Rattle.std.proofs.Common.{◌≡◌, ℕ, Bool, true, false, cond, eqb, List, [], ◌∷◌, map, sym, ap, ◌∙◌}
-use Rattle.std.specs.Prelude.{Option, Some, None}
+use Rattle.std.proofs.Common.{◌≡◌, ℕ, Bool, true, false, cond, eqb, List, [], ◌∷◌, map, sym, ap, ◌∙◌, Option, Some, None}
 use Rattle.lone_laws.proofs.Words.{AllByRecursion, Command, Commits, Core, Creation, Deed, Drops, IsAnswered, JoinTwo, Message, Port, SaysOk, Sends, SetsErrors}
 use Rattle.lone_laws.proofs.Words.{Tells, asked_at, by_option, by_test, controller_deeds, creation_in, end_view, host_deeds, own_view, port_at, view_of}
 use Rattle.hci_tables.specs.declared.command.Command.TheVariants.{Create, Delete, Clear}

@@ -1,12 +1,10 @@
 -- Behind each step of a node alone that runs on, the first message that came and had no turn lacks room.
 use Rattle.std.proofs.Common.{◌≡◌, ℕ, ◌≤◌, Bool, true, false, cond, eqb, ◌||◌, List, [], ◌∷◌, ◌++◌, map, refl, sym, ap, ap₂, subst, ◌∙◌, append_assoc}
-use Rattle.std.proofs.Common.{append-nil}
-use Rattle.std.specs.Prelude.{Option, Some, None, is_some, is_none}
+use Rattle.std.proofs.Common.{append-nil, Option, Some, None, is_some, is_none, option_and_then}
 use Rattle.lone_laws.proofs.Words.{AllByRecursion, AllByRecursion-append, BeginWithTurn, ComesTo, Control, Core, End, Entry, ErrorCount, LinkInput, Lone}
 use Rattle.lone_laws.proofs.Words.{LoneCause, Message, Port, Running, Work, core_noted, core_since, deeds_for, emits_behind, end_of_node, end_of_node_alone}
 use Rattle.lone_laws.proofs.Words.{errors_found, first_lack, fold, fold-append, frames_behind, is_up_read, lack_since, lone_input, lpdu_of, needs, oldest}
 use Rattle.lone_laws.proofs.Words.{option_map_or, session_with, spare_at, spare_with_link, unhandled_after, unhandled_in, view_with_link, waiting_at}
-use Rattle.std.specs.Option.{option_and_then}
 use Rattle.trace_model.specs.declared.entry.Entry.TheVariants as entry
 use Rattle.node_machine.specs.Carrying.{end_of_number}
 use Rattle.node_laws.specs.passes.Passing.{AreAlong, links_of_turns, IsBehind, Stays, is_held_at}

@@ -1,6 +1,5 @@
 -- A node with one link keeps over each event what is read.
-use Rattle.std.proofs.Common.{◌≡◌, ℕ, ◌≤◌, Bool, true, false, List, [], ◌∷◌, refl, sym, subst, ◌∙◌, append-nil}
-use Rattle.std.specs.Prelude.{Some, Result, Ok, Err}
+use Rattle.std.proofs.Common.{◌≡◌, ℕ, ◌≤◌, Bool, true, false, List, [], ◌∷◌, refl, sym, subst, ◌∙◌, append-nil, Some, Result, Ok, Err}
 use Rattle.lone_laws.proofs.Words.{AllByRecursion, ComesTo, Commits, Control, Core, End, Entry, FrameComes, FrameIsRefused, IsCommand, LinkInput, LoneCause}
 use Rattle.lone_laws.proofs.Words.{LpduFault, NodeInput, Port, ResetComes, StartComes, StopComes, TickComes, Work, all_come, all_do, all_done, by_option}
 use Rattle.lone_laws.proofs.Words.{comes_to_pass, cond_both, control_of, end_of_node_alone, flat_map, hosts_of_ends, input_at, lone_input, lpdu_input}

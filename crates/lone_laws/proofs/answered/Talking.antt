@@ -1,13 +1,11 @@
 -- The session of an end, the messages sent in it and how many of them are acknowledged are what is read, over what comes to it.
 use Rattle.std.proofs.Common.{◌≡◌, ℕ, ◌<◌, ◌≤◌, ◌-◌, Bool, true, false, cond, List, [], ◌∷◌, ◌++◌, map, refl, sym, ap, ap₂, subst, ◌∙◌, append_assoc}
-use Rattle.std.proofs.Common.{append-nil, arith}
-use Rattle.std.specs.Prelude.{nat_lt, Option, Some, None, is_some, option_to_list}
+use Rattle.std.proofs.Common.{append-nil, arith, nat_lt, Option, Some, None, is_some, option_to_list, ltb-true, ltb-false}
 use Rattle.lone_laws.proofs.Words.{Acked, Act, ActEvent, Active, Clt, Control, Down, End, EndState, Entry, GaveUp, Got, I, LinkEnd, LinkInput, LinkState}
 use Rattle.lone_laws.proofs.Words.{Message, Report, Reset, Rset, S, Sound, Start, Stop, Take, TakeUnknown, Tick, Ua, Up, act_answer, activated, after_input}
 use Rattle.lone_laws.proofs.Words.{began_by, by_option, by_test, cond_both, end_of, entries_for, heard, if_so, is_faulty, is_open, is_up, moved, put_down}
 use Rattle.lone_laws.proofs.Words.{report, reset_refusal, reset_with, role_after, same_end, stopped, take_answer, taken, tick_answer, ticked, told, whole_acked}
 use Rattle.lone_laws.proofs.Words.{window_of, with_act}
-use Rattle.std.proofs.lemmas.Bool.{ltb-true, ltb-false}
 use Rattle.std.proofs.lemmas.List.Concat.{flat_map-append}
 use Rattle.swp_base.specs.declared.control_frames.Control.TheVariants.{Act as ActFrame}
 use Rattle.swp_base.specs.declared.link_terms.Cause.{Cause as EndedBy}

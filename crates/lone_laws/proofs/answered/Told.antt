@@ -1,6 +1,5 @@
 -- What is noted of the deeds of a node alone, one after another, are the entries of a reply of such a node among others.
-use Rattle.std.proofs.Common.{◌≡◌, ℕ, Bool, true, false, cond, eqb, List, [], ◌∷◌, ◌++◌, map, refl, sym, ap, ◌∙◌}
-use Rattle.std.specs.Prelude.{Option, Some, None}
+use Rattle.std.proofs.Common.{◌≡◌, ℕ, Bool, true, false, cond, eqb, List, [], ◌∷◌, ◌++◌, map, refl, sym, ap, ◌∙◌, Option, Some, None}
 use Rattle.lone_laws.proofs.Words.{Command, Commits, Core, Deed, Drops, End, Entry, Message, SaysOk, Sends, by_test, core_noted, core_since, core_with}
 use Rattle.lone_laws.proofs.Words.{count_of, end_of_node_alone, eqb-true, fold, option_map_or}
 use Rattle.trace_model.specs.declared.entry.Entry.TheVariants as entry

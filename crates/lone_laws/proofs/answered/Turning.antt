@@ -1,6 +1,5 @@
 -- What a node with one link keeps is read over each turn of its pass.
-use Rattle.std.proofs.Common.{◌≡◌, ℕ, ◌≤◌, Bool, true, false, cond, eqb, ◌&&◌, List, [], ◌∷◌, ◌++◌, refl, sym, ap, subst, ◌∙◌}
-use Rattle.std.specs.Prelude.{Some, None, drop}
+use Rattle.std.proofs.Common.{◌≡◌, ℕ, ◌≤◌, Bool, true, false, cond, eqb, ◌&&◌, List, [], ◌∷◌, ◌++◌, refl, sym, ap, subst, ◌∙◌, Some, None, drop}
 use Rattle.lone_laws.proofs.Words.{AreTables, ComesTo, Core, End, Entry, FetchMessage, Hold, JoinTwo, LastsOverTurns, Message, Port, Work, after_turn, all_do}
 use Rattle.lone_laws.proofs.Words.{by_test, changed_if, deeds_of, end_of_node, end_of_node_alone, eqb-true, handles, holds_back, lets, noting, option_map_or}
 use Rattle.lone_laws.proofs.Words.{port_at, same_end, takes_up, waiting_at, with_desk, with_port}

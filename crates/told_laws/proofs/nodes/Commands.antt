@@ -1,9 +1,8 @@
 -- Commands and tables of a world of nodes are in their ranges.
-use Rattle.std.proofs.Common.{◌≡◌, ℕ, zero, suc, ◌≤◌, ◌<◌, Bool, true, false, cond, nat_lt, List, [], ◌∷◌, length, refl, subst, arith, Some}
-use Rattle.std.specs.Prelude.{◌==◌, IsTrue, take, replicate, nat_le, slice_index}
+use Rattle.std.proofs.Common.{◌≡◌, ℕ, zero, suc, ◌≤◌, ◌<◌, Bool, true, false, cond, nat_lt, List, [], ◌∷◌, length, refl, subst, arith, Some, ◌==◌, IsTrue, take}
+use Rattle.std.proofs.Common.{replicate, nat_le, slice_index, find, fold}
 use Rattle.told_laws.proofs.Words.{AllByRecursion, AllByRecursion-filter, ArePipeRows, Clear, Command, Create, Delete, Entry, HciTables, IsByte, IsSaidCommand}
 use Rattle.told_laws.proofs.Words.{IsSaidValue, PipeRow, RegValue, Set, by_option, cond_both, leb-true, ltb-true, pid_of}
-use Rattle.std.specs.List.{find, fold}
 use Rattle.std.proofs.lemmas.Bool.{and_parts}
 use Rattle.sorted_rows.specs.Rows.{row_of, rows_before, rows_behind, with_row}
 use Rattle.sorted_rows.proofs.RowLemmas.{AreRows-filter, AreRows-map, AreRows-with_row}

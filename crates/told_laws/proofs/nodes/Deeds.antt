@@ -1,10 +1,9 @@
 -- What nodes do with a message is in its range: what they send and tell are bytes, and what they commit can be told.
-use Rattle.std.proofs.Common.{◌≡◌, ℕ, ◌≤◌, ◌<◌, Bool, true, false, cond, eqb, List, [], ◌∷◌, length, refl, ap, subst, arith, Option, Some, None, drop}
-use Rattle.std.specs.Prelude.{◌==◌, ◌&&◌, nat_lt, not, Result, Ok, Err}
+use Rattle.std.proofs.Common.{◌≡◌, ℕ, ◌≤◌, ◌<◌, Bool, true, false, cond, eqb, List, [], ◌∷◌, length, refl, ap, subst, arith, Option, Some, None, drop, ◌==◌}
+use Rattle.std.proofs.Common.{◌&&◌, nat_lt, not, Result, Ok, Err, filter}
 use Rattle.told_laws.proofs.Words.{AllByRecursion, AllByRecursion-filter, ArePipeRows, Clear, Command, Commits, Core, Create, Deed, Delete, Desk, Ends, GoesOn}
 use Rattle.told_laws.proofs.Words.{HciTables, IsByte, IsSaidCommand, Message, Orders, PipeRow, Port, Sends, Set, answer_of, by_option, by_test, cond_both}
 use Rattle.told_laws.proofs.Words.{option_map_or, pid_of, port_at}
-use Rattle.std.specs.List.{filter}
 use Rattle.std.proofs.lemmas.List.Sums.{count_by-le-length}
 use Rattle.sorted_rows.proofs.RowLemmas.{length-rows}
 use Rattle.pipe_table.specs.PipeRows.{opened_on, ends_at}

@@ -1,6 +1,5 @@
 -- Whatever happens to a world of nodes keeps it, and what is noted of it, in range.
-use Rattle.std.proofs.Common.{◌≡◌, ℕ, ◌+◌, ◌≤◌, ◌<◌, ◌==◌, Bool, true, false, List, [], ◌∷◌, ◌++◌, map, subst, arith, Option, Some, None, not}
-use Rattle.std.specs.Prelude.{◌&&◌, min}
+use Rattle.std.proofs.Common.{◌≡◌, ℕ, ◌+◌, ◌≤◌, ◌<◌, ◌==◌, Bool, true, false, List, [], ◌∷◌, ◌++◌, map, subst, arith, Option, Some, None, not, ◌&&◌, min}
 use Rattle.told_laws.proofs.Words.{AllByRecursion, AsksReset, Comes, Controller, CutOff, Deed, Desk, End, Entry, GoesOut, Happening, Host, Link, Lose, Loss}
 use Rattle.told_laws.proofs.Words.{Message, NextFrame, NoInput, NodeWorld, Orders, Reset, Running, Sends, Site, Starts, Step, Takes, Tick, Ticks, Work, aged}
 use Rattle.told_laws.proofs.Words.{aged_entries, at, by_test, changed_if, cond_both, entries_for, exchanged, first_lost, flat_map, happens_at_controller}

@@ -1,7 +1,6 @@
 -- What hosts do with a message is in its range.
 use Rattle.std.proofs.Common.{◌≡◌, ℕ, ◌+◌, ◌%◌, ◌≤◌, ◌<◌, Bool, true, false, cond, eqb, List, [], ◌∷◌, ◌++◌, length, map, refl, subst, arith, Option, Some}
-use Rattle.std.proofs.Common.{None, slice_get, ◌^◌, ◌/◌}
-use Rattle.std.specs.Prelude.{◌&&◌, nat_lt, nat_le, is_some, Result, Ok, Err}
+use Rattle.std.proofs.Common.{None, slice_get, ◌^◌, ◌/◌, ◌&&◌, nat_lt, nat_le, is_some, Result, Ok, Err}
 use Rattle.told_laws.proofs.Words.{AllByRecursion, ArePipeRows, Clear, Command, Commits, Core, Create, Deed, Delete, Ends, GoesOn, IsByte, IsEnd, IsSaidCommand}
 use Rattle.told_laws.proofs.Words.{Message, Orders, PipeRow, Port, Sends, Set, answer_of, cond_both, leb-true, ltb-true, option_map_or, pid_of}
 use Rattle.std.proofs.lemmas.Bool.{and_parts}

@@ -1,7 +1,6 @@
 -- What is told of the lines of a schedule of nodes is in its range.
-use Rattle.std.proofs.Common.{◌≡◌, inr, ℕ, zero, suc, ◌≤◌, Bool, true, false, cond, List, [], ◌∷◌, length, refl}
-use Rattle.std.proofs.Common.{subst, arith, Option, Some, None, All, nat_lt, Contains}
-use Rattle.std.specs.Prelude.{replicate, unwrap_or}
+use Rattle.std.proofs.Common.{◌≡◌, inr, ℕ, zero, suc, ◌≤◌, Bool, true, false, cond, List, [], ◌∷◌, length, refl, subst, arith, Option, Some, None, All, nat_lt}
+use Rattle.std.proofs.Common.{Contains, replicate, unwrap_or}
 use Rattle.told_laws.proofs.Words.{AllByRecursion, Down, End, Happening, HciTables, Header, IsByte, IsHost, IsSaidValue, Line, LinkEnd, LinkState, Message}
 use Rattle.told_laws.proofs.Words.{NoCause, NodeWorld, OnWire, Refused, RegValue, Takes, Ticks, Up, Waiting, by_test, cond_both, frames_at, give_refusal}
 use Rattle.told_laws.proofs.Words.{header_hosts, link_to, lpdu_of, ltb-false, need, pid_of, reset_refusal, spare}

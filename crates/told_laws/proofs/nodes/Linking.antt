@@ -1,8 +1,7 @@
 -- The link of a host is in its range over each step at one of its ends.
-use Rattle.std.proofs.Common.{◌≡◌, ℕ, zero, suc, ◌+◌, ◌-◌, ◌≤◌, Bool, true, false, cond, List, [], ◌∷◌, length, take, drop, map, refl, ap}
-use Rattle.std.proofs.Common.{subst, arith, Option, Some, None, length-append}
+use Rattle.std.proofs.Common.{◌≡◌, ℕ, zero, suc, ◌+◌, ◌-◌, ◌≤◌, Bool, true, false, cond, List, [], ◌∷◌, length, take, drop, map, refl, ap, subst, arith, Option}
+use Rattle.std.proofs.Common.{Some, None, length-append, is_some}
 use Rattle.std.proofs.lemmas.List.{length-map}
-use Rattle.std.specs.Prelude.{is_some}
 use Rattle.told_laws.proofs.Words.{Act, Asked, AsksReset, Bare, Clt, Comes, Control, CutOff, EndState, Give, GoesOut, I, Link, LinkEnd, LinkInput, LinkState}
 use Rattle.told_laws.proofs.Words.{Lose, Loss, NextFrame, NoInput, NumberedEnd, OnWire, Refused, Reset, Rset, S, SetAside, Start, Starts, Stop, Take, Tick}
 use Rattle.told_laws.proofs.Words.{Turn, Ua, Up, act_answer, activated, after_input, aged, all_frames, among, by_test, cond_both, ended_by, exchanged}

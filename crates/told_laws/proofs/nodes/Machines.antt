@@ -1,7 +1,6 @@
 -- An end of a link of a world of nodes with its activation and its messages is in its range, whatever comes to it and whatever its node does to it.
 use Rattle.std.proofs.Common.{◌≡◌, ℕ, ◌+◌, ◌≤◌, ◌<◌, Bool, true, false, cond, List, [], ◌∷◌, length, drop, map, refl, arith, zero, suc, take, ◌-◌, Option, Some}
-use Rattle.std.proofs.Common.{None}
-use Rattle.std.specs.Prelude.{is_some, nat_le, not}
+use Rattle.std.proofs.Common.{None, is_some, nat_le, not}
 use Rattle.told_laws.proofs.Words.{Act, AllByRecursion, Asked, Bare, Clt, Control, Down, EndState, FetchMessage, Give, Hold, I, LinkEnd, LinkInput, LinkState}
 use Rattle.told_laws.proofs.Words.{PowerMode, Ready, Refused, Report, Reset, Rset, S, SetAside, Start, Stop, SyncId, Take, Tick, Turn, Ua, Up, Waiting}
 use Rattle.told_laws.proofs.Words.{act_answer, activated, after_input, all_frames, among, by_test, cond_both, frames_out, give_refusal, given, heard, if_up}

@@ -1,8 +1,7 @@
 -- A world of nodes stays in range over a round, in which at most four fragments more count as acknowledged at each end of its links, and at most
 -- two RSETs more are made on each; so does what is noted of it.
-use Rattle.std.proofs.Common.{◌≡◌, ℕ, zero, suc, ◌+◌, ◌*◌, ◌≤◌, Bool, true, false, List, [], ◌∷◌, ◌++◌, length, refl, sym, subst, ap, ◌∙◌, arith}
-use Rattle.std.proofs.Common.{append_assoc, append-nil}
-use Rattle.std.specs.Prelude.{replicate}
+use Rattle.std.proofs.Common.{◌≡◌, ℕ, zero, suc, ◌+◌, ◌*◌, ◌≤◌, Bool, true, false, List, [], ◌∷◌, ◌++◌, length, refl, sym, subst, ap, ◌∙◌, arith, append_assoc}
+use Rattle.std.proofs.Common.{append-nil, replicate}
 use Rattle.told_laws.proofs.Words.{AllByRecursion, End, Entry, FewRsetsOnEach, Happening, IsFew, NodeWorld, Occurrence, Site, Takes, Ticks, all_happen, by_test}
 use Rattle.told_laws.proofs.Words.{entries_in, few_front, flat_map, flat_map-append, frames_at, true≢false, world_step}
 use Rattle.node_machine.specs.world.World.{end_c, end_h}

@@ -1,7 +1,6 @@
 -- All that is told of plays in a world of nodes is in its range, and so is all that is told of a history that follows their lines.
-use Rattle.std.proofs.Common.{◌≡◌, inr, ℕ, zero, suc, ◌+◌, ◌*◌, ◌≤◌, Bool, true, false, eqb, List, [], ◌∷◌, ◌++◌, length, map, refl, sym}
-use Rattle.std.proofs.Common.{subst, ap, ◌∙◌, arith, append_assoc, append-nil, Option, Some, None, All}
-use Rattle.std.specs.Prelude.{replicate, if◌then◌else◌, not, ◌&&◌}
+use Rattle.std.proofs.Common.{◌≡◌, inr, ℕ, zero, suc, ◌+◌, ◌*◌, ◌≤◌, Bool, true, false, eqb, List, [], ◌∷◌, ◌++◌, length, map, refl, sym, subst, ap, ◌∙◌, arith}
+use Rattle.std.proofs.Common.{append_assoc, append-nil, Option, Some, None, All, replicate, if◌then◌else◌, not, ◌&&◌}
 use Rattle.told_laws.proofs.Words.{AllByRecursion, AreFewPlays, End, Entry, Happening, Header, IsByte, IsEntry, IsFew, IsHost, IsPlayFor, Line, MayBegin}
 use Rattle.told_laws.proofs.Words.{NoCause, NodeWorld, Occurrence, OnWire, Play, Round, Running, Said, Site, Takes, Ticks, all_happen, all_mapped, by_test}
 use Rattle.told_laws.proofs.Words.{cond_both, entries_in, few_front, flat_map, flat_map-append, frames_at, hosts_stay_behind, lines_of_play, lines_played}

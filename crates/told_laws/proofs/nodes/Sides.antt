@@ -1,8 +1,7 @@
 -- The ends of the links of a world of nodes are in their ranges, whatever comes to them: frames and messages are bytes, and no count is above
 -- a bound.
-use Rattle.std.proofs.Common.{◌≡◌, ℕ, zero, suc, ◌+◌, ◌-◌, ◌%◌, ◌≤◌, ◌<◌, Bool, true, false, nat_lt, List, [], ◌∷◌, length, refl, sym}
-use Rattle.std.proofs.Common.{arith, Option, Some, None}
-use Rattle.std.specs.Prelude.{nat_le, not, ◌==◌}
+use Rattle.std.proofs.Common.{◌≡◌, ℕ, zero, suc, ◌+◌, ◌-◌, ◌%◌, ◌≤◌, ◌<◌, Bool, true, false, nat_lt, List, [], ◌∷◌, length, refl, sym, arith, Option, Some}
+use Rattle.std.proofs.Common.{None, nat_le, not, ◌==◌}
 use Rattle.told_laws.proofs.Words.{Act, AllByRecursion, AllByRecursion-filter, Clt, Control, Down, EndState, I, IsByte, LinkState, Message, PowerMode, Ready}
 use Rattle.told_laws.proofs.Words.{Rset, S, Srej, SyncId, Ua, Up, Waiting, by_test, cond_both, leb-true, ltb-false, ltb-true, reset_with, stopped, taken}
 use Rattle.told_laws.proofs.Words.{ticked, true≢false}

@@ -1,11 +1,10 @@
 -- A node in a step, whatever comes to it: its ends, what it keeps and what it notes are in their ranges.
-use Rattle.std.proofs.Common.{◌≡◌, ℕ, ◌+◌, ◌≤◌, ◌<◌, ◌==◌, Bool, true, false, eqb, nat_lt, List, [], ◌∷◌, ◌++◌, length, map, refl, subst, arith}
-use Rattle.std.proofs.Common.{Option, Some, None}
+use Rattle.std.proofs.Common.{◌≡◌, ℕ, ◌+◌, ◌≤◌, ◌<◌, ◌==◌, Bool, true, false, eqb, nat_lt, List, [], ◌∷◌, ◌++◌, length, map, refl, subst, arith, Option, Some}
+use Rattle.std.proofs.Common.{None, eqb-true}
 use Rattle.told_laws.proofs.Words.{AllByRecursion, Command, Commits, Core, Deed, Desk, Ends, Entry, FetchMessage, Give, GoesOn, Hold, IsByte, LinkEnd}
 use Rattle.told_laws.proofs.Words.{LinkInput, Message, Orders, Port, Reset, Sends, SetAside, Turn, Work, after_input, answer_of, by_option, by_test, changed_if}
 use Rattle.told_laws.proofs.Words.{cond_both, flat_map, give_refusal, need, option_map_or, port_at, report, spare, told, whole_acked}
 use Rattle.std.specs.List.{list_any}
-use Rattle.std.proofs.lemmas.Bool.{eqb-true}
 use Rattle.trace_model.specs.declared.entry.Entry.TheVariants as entry
 use Rattle.journal_laws.specs.Planned.{fails_within}
 use Rattle.hci_tables.specs.declared.command.Command.TheVariants.{Sync}

@@ -1,12 +1,11 @@
 -- The words of entries hold no space and no LF.
-use Rattle.std.proofs.Common.{◌≡◌, ◌==◌, ◌&&◌, ℕ, suc, ◌/◌, ◌%◌, ◌<◌, Bool, true, false, not, cond, nat_lt, List, [], ◌∷◌, ◌++◌, length, slice_index, refl}
-use Rattle.std.proofs.Common.{sym, ◌∙◌, subst, arith, Option, Some, None, IfSome, All, codes, map}
+use Rattle.std.proofs.Common.{◌≡◌, ◌==◌, ◌&&◌, ℕ, suc, ◌/◌, ◌%◌, ◌<◌, Bool, true, false, not, cond, nat_lt, List, [], ◌∷◌, ◌++◌, length, slice_index, refl, sym}
+use Rattle.std.proofs.Common.{◌∙◌, subst, arith, Option, Some, None, IfSome, All, codes, map, decimal}
 use Rattle.told_laws.proofs.Words.{AllByRecursion, AreOctets, Cause, Command, End, Entry, HciTables, IsCause, IsEntry, IsLineSaid, IsNumber, Line, NoCause}
 use Rattle.told_laws.proofs.Words.{PipeRow, RegValue, byte_text, entry_words, hex_or_dash, line_words, two_bytes_text}
 use Rattle.std.specs.List.{list_all}
 use Rattle.std.specs.Char.{is_ascii_digit}
 use Rattle.std.specs.Str.{all_ascii_digits}
-use Rattle.std.specs.Fmt.{decimal}
 use Rattle.std.proofs.lemmas.Fmt.{digits_decimal}
 use Rattle.std.proofs.lemmas.Bool.Decides.{nat_tests}
 use Rattle.std.proofs.lemmas.List.Sums.{AllPass-from_list_all}

@@ -1,6 +1,5 @@
 -- Entries with the same words are the same.
-use Rattle.std.proofs.Common.{◌≡◌, ℕ, ◌≤◌, Bool, true, false, cond, List, [], get_or, refl, sym, ◌∙◌, ap, arith, All, map, codes}
-use Rattle.std.specs.Str.{bytes_eq}
+use Rattle.std.proofs.Common.{◌≡◌, ℕ, ◌≤◌, Bool, true, false, cond, List, [], get_or, refl, sym, ◌∙◌, ap, arith, All, map, codes, bytes_eq}
 use Rattle.told_laws.proofs.Words.{Entry, Header, IsByte, IsEntry, Line, MayBegin, byte_text, entry_words, header_hosts, line_words}
 use Rattle.trace_model.specs.declared.line.Line.TheVariants as line
 use Rattle.trace_model.specs.declared.entry.Entry.TheVariants as entry

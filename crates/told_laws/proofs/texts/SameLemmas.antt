@@ -1,9 +1,7 @@
 -- What says the same words is the same.
 use Rattle.std.proofs.Common.{◌≡◌, ℕ, zero, suc, ◌/◌, ◌%◌, ◌<◌, Bool, true, false, cond, List, [], ◌∷◌, length, refl, sym, ◌∙◌, ap, arith, Option, Some, None}
-use Rattle.std.proofs.Common.{IfSome, All, map}
-use Rattle.std.specs.Str.{bytes_eq}
+use Rattle.std.proofs.Common.{IfSome, All, map, bytes_eq, decimal}
 use Rattle.std.proofs.lemmas.Slice.Eq.{bytes_eq-Decides}
-use Rattle.std.specs.Fmt.{decimal}
 use Rattle.std.proofs.lemmas.Fmt.{decimal_injective}
 use Rattle.hex.specs.Hex.{encode_upper}
 use Rattle.told_laws.proofs.Words.{AreOctets, Cause, Command, End, IsByte, IsCause, IsEnd, IsLineSaid, IsNumber, IsSaidCommand, Line, NoCause, PipeRow}

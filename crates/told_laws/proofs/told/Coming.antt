@@ -1,6 +1,5 @@
 -- The messages that came are among those that were sent, so all that is told of a history is in its range.
-use Rattle.std.proofs.Common.{◌≡◌, ℕ, ◌+◌, ◌≤◌, ◌<◌, List, [], ◌∷◌, ◌++◌, refl, sym, ap, subst, arith, inl, Option, Some, None}
-use Rattle.std.specs.Prelude.{◌==◌}
+use Rattle.std.proofs.Common.{◌≡◌, ℕ, ◌+◌, ◌≤◌, ◌<◌, List, [], ◌∷◌, ◌++◌, refl, sym, ap, subst, arith, inl, Option, Some, None, ◌==◌}
 use Rattle.told_laws.proofs.Words.{AllByRecursion, AreOctets, End, Entry, Follows, Header, History, IsByte, IsEntry, IsHeader, IsLineOf, Line, Message, Outcome}
 use Rattle.told_laws.proofs.Words.{all_mapped, bare_link, by_test, entries_told, flat_map, flat_map-append, host_of, noted, step_told}
 use Rattle.std.specs.List.{cons_option}

@@ -1,7 +1,6 @@
 -- The frames of an SHDLC end are in their ranges, whatever comes to it.
-use Rattle.std.proofs.Common.{◌≡◌, ℕ, zero, suc, ◌%◌, ◌≤◌, ◌<◌, Bool, true, false, List, [], ◌∷◌, length, slice_get, refl, sym, subst, arith}
-use Rattle.std.proofs.Common.{Option, Some, None}
-use Rattle.std.specs.Prelude.{◌==◌}
+use Rattle.std.proofs.Common.{◌≡◌, ℕ, zero, suc, ◌%◌, ◌≤◌, ◌<◌, Bool, true, false, List, [], ◌∷◌, length, slice_get, refl, sym, subst, arith, Option, Some}
+use Rattle.std.proofs.Common.{None, ◌==◌}
 use Rattle.told_laws.proofs.Words.{AllByRecursion, Clt, Control, Down, EndState, I, IsByte, LinkState, Rset, S, Srej, Ua, Up, Waiting, by_option, reset_with}
 use Rattle.told_laws.proofs.Words.{stopped, taken, tick_answer, ticked}
 use Rattle.std.proofs.lemmas.Grind.{common_steps}

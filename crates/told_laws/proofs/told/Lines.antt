@@ -1,7 +1,6 @@
 -- What is told of a line of a schedule is in its range, but for the messages that came.
 use Rattle.std.proofs.Common.{◌≡◌, ℕ, zero, suc, ◌+◌, ◌*◌, ◌^◌, ◌/◌, ◌≤◌, ◌<◌, Bool, true, false, cond, nat_lt, List, [], ◌∷◌, ◌++◌, length, replicate, refl}
-use Rattle.std.proofs.Common.{sym, subst, arith, Option, Some, None, All, length-append}
-use Rattle.std.specs.Prelude.{unwrap_or, ◌==◌, ◌%◌}
+use Rattle.std.proofs.Common.{sym, subst, arith, Option, Some, None, All, length-append, unwrap_or, ◌==◌, ◌%◌}
 use Rattle.told_laws.proofs.Words.{Acked, Active, AllByRecursion, AreOctets, Clt, Control, Controller, Down, Emit, End, Entry, FewRsets, GaveUp, Got, Header}
 use Rattle.told_laws.proofs.Words.{Host, I, IsByte, IsCause, IsEnd, IsEntry, IsHeader, IsLineOf, IsNumber, Line, Link, LinkEnd, LinkState, Lost, Message}
 use Rattle.told_laws.proofs.Words.{NoCause, OnWire, Outcome, Rset, S, Sent, Srej, Taken, Ticked, Took, Ua, Up, Waiting, bare_link, by_test, entries_for}

@@ -1,7 +1,6 @@
 -- The ends of a bare link, and what is on its wires, are in their ranges.
-use Rattle.std.proofs.Common.{◌≡◌, ℕ, zero, suc, ◌+◌, ◌≤◌, ◌<◌, Bool, true, false, cond, List, [], ◌∷◌, ◌++◌, length, take, drop, map, refl, sym, ap}
-use Rattle.std.proofs.Common.{subst, arith, Option, Some, None, length-append}
-use Rattle.std.specs.Prelude.{is_some, if◌then◌else◌, ◌==◌, not}
+use Rattle.std.proofs.Common.{◌≡◌, ℕ, zero, suc, ◌+◌, ◌≤◌, ◌<◌, Bool, true, false, cond, List, [], ◌∷◌, ◌++◌, length, take, drop, map, refl, sym, ap, subst}
+use Rattle.std.proofs.Common.{arith, Option, Some, None, length-append, is_some, if◌then◌else◌, ◌==◌, not}
 use Rattle.told_laws.proofs.Words.{AllByRecursion, Asked, AsksReset, Bare, Clt, Control, Down, End, EndState, FetchMessage, FewRsets, Give, GoesOut, Hold, I}
 use Rattle.told_laws.proofs.Words.{IsByte, Link, LinkEnd, LinkInput, LinkState, Lose, Loss, Message, NextFrame, NoInput, NumberedEnd, OnWire, Refused, Reset}
 use Rattle.told_laws.proofs.Words.{Rset, S, Step, Take, Taken, Tick, Ticked, Ua, Up, Waiting, activated, after_input, aged, all_frames, among, at, bare_link}

@@ -1,9 +1,6 @@
 -- Each frame that an end puts on a link is read again from its LPDU.
 use Rattle.std.proofs.Common.{◌≡◌, ℕ, zero, suc, ◌+◌, ◌*◌, ◌/◌, ◌%◌, ◌-◌, ◌<◌, ◌≤◌, Bool, true, false, List, [], ◌∷◌, ◌++◌, length, map, drop, Option, Some}
-use Rattle.std.proofs.Common.{None, refl, ap, sym, subst, ◌∙◌, arith}
-use Rattle.std.specs.Prelude.{nat_le, nat_lt, slice_get, Ok}
-use Rattle.std.proofs.lemmas.Bool.{le-leb, le-ltb}
-use Rattle.std.proofs.lemmas.List.{length-take}
+use Rattle.std.proofs.Common.{None, refl, ap, sym, subst, ◌∙◌, arith, nat_le, nat_lt, slice_get, Ok, le-leb, le-ltb, length-take}
 use Rattle.world_laws.proofs.Words.{Act, Control, Due, EndState, Fragment, I, LinkEnd, Message, Rr, S, Srej, by_option, expected, frames_by, frames_now}
 use Rattle.world_laws.proofs.Words.{frames_of, frames_out, most_frames}
 use Rattle.swp_base.specs.declared.control_frames.Kind.TheVariants.{Rej, Rnr}

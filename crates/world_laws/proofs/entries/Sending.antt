@@ -1,7 +1,6 @@
 -- What an end puts on the link in a step, and what it gets, over messages and over fragments.
 use Rattle.std.proofs.Common.{◌≡◌, ℕ, zero, suc, ◌+◌, Bool, true, false, not, List, [], ◌∷◌, ◌++◌, length, map, drop, Option, Some, None, ◌⊎◌, inl, inr, refl}
-use Rattle.std.proofs.Common.{ap, sym, subst, ◌∙◌, append-nil}
-use Rattle.std.specs.Prelude.{is_some, option_to_list, ◌==◌}
+use Rattle.std.proofs.Common.{ap, sym, subst, ◌∙◌, append-nil, is_some, option_to_list, ◌==◌}
 use Rattle.world_laws.proofs.Words.{Act, ActEvent, AreSendableTurns, Clt, Control, EndState, Fragment, I, Link, LinkEnd, LinkState, Message, Now, OnWire, Rset}
 use Rattle.world_laws.proofs.Words.{S, Take, Tells, Turn, Ua, act_answer, activated, by_test, core_of, core_take, core_turns, emitted_here, emitted_turns}
 use Rattle.world_laws.proofs.Words.{frames_now, frames_out, good_of, got_here, got_turns, got_with, is_act, is_open, is_rset, mid_moved, moved, number_of}

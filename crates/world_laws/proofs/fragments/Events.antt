@@ -1,8 +1,6 @@
 -- What the tap knows after whatever happens at the controller's end.
-use Rattle.std.proofs.Common.{◌≡◌, ℕ, ◌+◌, ◌≤◌, Bool, true, false, List, [], ◌∷◌, ◌++◌, Some, None, ◌⊎◌, inl, inr, refl, ap, sym}
-use Rattle.std.proofs.Common.{subst, ◌∙◌, arith, length, map, drop}
-use Rattle.std.specs.Prelude.{nat_lt, is_some}
-use Rattle.std.proofs.lemmas.Bool.{ltb-false}
+use Rattle.std.proofs.Common.{◌≡◌, ℕ, ◌+◌, ◌≤◌, Bool, true, false, List, [], ◌∷◌, ◌++◌, Some, None, ◌⊎◌, inl, inr, refl, ap, sym, subst, ◌∙◌, arith, length}
+use Rattle.std.proofs.Common.{map, drop, nat_lt, is_some, ltb-false}
 use Rattle.swp_base.specs.declared.control_frames.Act.{Act as Activation}
 use Rattle.world_laws.proofs.Words.{Act, Below, Control, Down, EndState, Fragment, LinkState, NumberedShdlc, OnWire, Rset, SafeLink, Session, ShdlcLink}
 use Rattle.world_laws.proofs.Words.{ShdlcTurn, TapState, Up, Waiting, by_test, emitted_here, emitted_tick, frames_of, got_here, hears_all, is_act, is_rset}

@@ -1,11 +1,9 @@
 -- What the tap knows after a frame of an end.
 use Rattle.std.proofs.Common.{◌≡◌, ℕ, zero, suc, ◌+◌, ◌%◌, ◌<◌, ◌≤◌, ◌==◌, Bool, true, false, cond, List, [], ◌∷◌, ◌++◌, Some, ◌⊎◌, inl, inr, refl, ap, sym}
-use Rattle.std.proofs.Common.{subst, ◌∙◌, arith, length, max}
-use Rattle.std.specs.Prelude.{take, nat_lt, slice_get}
+use Rattle.std.proofs.Common.{subst, ◌∙◌, arith, length, max, take, nat_lt, slice_get, length-take-le}
 use Rattle.world_laws.proofs.Words.{Down, Fragment, I, Kind, NumberedShdlc, OnWire, S, Session, TapSide, TapState, Up, eq-eqb, expected, fits, listed_at}
 use Rattle.world_laws.proofs.Words.{ne_eqb, no_session, of_up, shdlc_number_of, shdlc_session_of, tap_hears, tap_tells}
 use Rattle.std.proofs.lemmas.Bool.{cases_eq, lt-ltb}
-use Rattle.std.proofs.lemmas.List.{length-take-le}
 use Rattle.std.proofs.lemmas.Option.{slice_get_within}
 use Rattle.shdlc_core.specs.Machine.{sent_next, fragment_due}
 use Rattle.shdlc_core.proofs.Histories.{fragment_due-within}

@@ -1,7 +1,6 @@
 -- The controller's end takes a frame: what the tap knows once the answers went out, and what they told.
-use Rattle.std.proofs.Common.{◌≡◌, ℕ, ◌+◌, ◌<◌, ◌≤◌, ◌==◌, Bool, true, false, List, [], ◌∷◌, ◌++◌, Option, Some, None, ◌⊎◌, inl, inr, refl, ap}
-use Rattle.std.proofs.Common.{sym, subst, ◌∙◌, arith, max, min}
-use Rattle.std.specs.Prelude.{nat_lt, is_some}
+use Rattle.std.proofs.Common.{◌≡◌, ℕ, ◌+◌, ◌<◌, ◌≤◌, ◌==◌, Bool, true, false, List, [], ◌∷◌, ◌++◌, Option, Some, None, ◌⊎◌, inl, inr, refl, ap, sym, subst, ◌∙◌}
+use Rattle.std.proofs.Common.{arith, max, min, nat_lt, is_some}
 use Rattle.world_laws.proofs.Words.{Act, Below, Clt, Control, Down, Due, EndState, Fragment, I, Kind, LinkState, NumberedShdlc, OnWire, Rr, Rset, S, Session}
 use Rattle.world_laws.proofs.Words.{ShdlcLink, ShdlcTurn, Srej, TapState, Ua, Up, Waiting, by_option, by_test, expected, fits, got_with, hears_all, ne_eqb}
 use Rattle.world_laws.proofs.Words.{no_session, none_ended, sans, sent_then, shdlc_number_of, shdlc_put, shdlc_session_of, shdlc_turned, take_answer, taken}

@@ -1,12 +1,9 @@
 -- What the tap knows after an RSET or a UA of an end, and after the answer to a fragment that was accepted.
-use Rattle.std.proofs.Common.{◌≡◌, ℕ, zero, suc, ◌+◌, ◌%◌, ◌<◌, ◌≤◌, ◌==◌, Bool, true, false, cond, List, [], ◌∷◌, ◌++◌, Some, ◌⊎◌, inl, inr, refl, ap}
-use Rattle.std.proofs.Common.{sym, subst, ◌∙◌, arith, length, max, map, drop, length-append, append_assoc}
-use Rattle.std.specs.Prelude.{take, nat_lt}
+use Rattle.std.proofs.Common.{◌≡◌, ℕ, zero, suc, ◌+◌, ◌%◌, ◌<◌, ◌≤◌, ◌==◌, Bool, true, false, cond, List, [], ◌∷◌, ◌++◌, Some, ◌⊎◌, inl, inr, refl, ap, sym}
+use Rattle.std.proofs.Common.{subst, ◌∙◌, arith, length, max, map, drop, length-append, append_assoc, take, nat_lt, ltb-true, ltb-false, lt-ltb, length-take-le}
 use Rattle.world_laws.proofs.Words.{Below, Down, Fragment, NumberedShdlc, OnWire, Rr, Rset, S, Session, TapSide, TapState, Ua, Up, Waiting, by_test, eq-eqb}
 use Rattle.world_laws.proofs.Words.{expected, fits, good_of, got_with, listed_at, no_session, none_ended, of_up, shdlc_number_of, shdlc_session_of, tap_hears}
 use Rattle.world_laws.proofs.Words.{tap_tells}
-use Rattle.std.proofs.lemmas.Bool.{ltb-true, ltb-false, lt-ltb}
-use Rattle.std.proofs.lemmas.List.{length-take-le}
 use Rattle.hcp_packet.specs.Packets.{packets_in}
 use Rattle.hcp_chain.specs.Joining.{are_taken, given_by}
 use Rattle.link_laws.proofs.sessions.Data.{Base, below_more, of_update}

@@ -1,6 +1,5 @@
 -- Whether a UA stands on a wire.
-use Rattle.std.proofs.Common.{◌≡◌, Bool, true, false, List, [], ◌∷◌, ◌++◌, refl, ap, drop}
-use Rattle.std.specs.Prelude.{nat_lt, ◌||◌, length}
+use Rattle.std.proofs.Common.{◌≡◌, Bool, true, false, List, [], ◌∷◌, ◌++◌, refl, ap, drop, nat_lt, ◌||◌, length}
 use Rattle.std.proofs.lemmas.Bool.{or_parts}
 use Rattle.world_laws.proofs.Words.{Control, OnWire, Ua, by_test, fits, sans}
 use Rattle.link_laws.specs.sessions.Sessions.{aged_wire}

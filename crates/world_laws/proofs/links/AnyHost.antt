@@ -1,6 +1,5 @@
 -- The rounds of a bare link are the same whatever number its host has.
-use Rattle.std.proofs.Common.{◌≡◌, ℕ, zero, suc, cond, List, [], ◌∷◌, ◌++◌, map, refl, ap, sym, ◌∙◌, length}
-use Rattle.std.specs.Prelude.{replicate}
+use Rattle.std.proofs.Common.{◌≡◌, ℕ, zero, suc, cond, List, [], ◌∷◌, ◌++◌, map, refl, ap, sym, ◌∙◌, length, replicate}
 use Rattle.world_laws.proofs.Words.{AtHost, Cause, Controller, FetchMessage, GoesOut, Host, Link, LinkEvent, NextFrame, Step, Taken, Ticked, after_causes}
 use Rattle.world_laws.proofs.Words.{after_link_events, causes_of_round, causes_of_rounds, end_of, event_of, link_after_all, link_after_round, link_rests}
 use Rattle.world_laws.proofs.Words.{map-append, rounds_to_settle, settling_events}

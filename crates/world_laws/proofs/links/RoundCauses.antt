@@ -1,6 +1,5 @@
 -- The causes of the rounds of a bare link: what they are, what they do, and how many they are.
-use Rattle.std.proofs.Common.{◌≡◌, ℕ, zero, suc, ◌+◌, ◌*◌, ◌≤◌, List, [], ◌∷◌, ◌++◌, map, refl, ap, sym, subst, ◌∙◌, length, arith}
-use Rattle.std.specs.Prelude.{replicate}
+use Rattle.std.proofs.Common.{◌≡◌, ℕ, zero, suc, ◌+◌, ◌*◌, ◌≤◌, List, [], ◌∷◌, ◌++◌, map, refl, ap, sym, subst, ◌∙◌, length, arith, replicate}
 use Rattle.std.proofs.lemmas.List.{length-append, length-replicate}
 use Rattle.world_laws.proofs.Words.{AreRoundCauses, Cause, Controller, FetchMessage, Host, Link, OnWire, Taken, Ticked, after_causes, after_steps, bare_link}
 use Rattle.world_laws.proofs.Words.{causes_of_round, causes_of_rounds, end_of, event_of, events_at, exchanged, link_after, link_after_all}

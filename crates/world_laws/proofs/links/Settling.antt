@@ -1,7 +1,6 @@
 -- The rounds in which a link settles are rounds of the law of recovery.
 use Rattle.std.proofs.Common.{◌≡◌, ℕ, zero, suc, ◌+◌, ◌*◌, ◌<◌, ◌≤◌, Bool, true, false, List, [], ◌∷◌, ◌++◌, map, refl, ap, sym, subst, ◌∙◌, ◌⊎◌, inl, inr}
-use Rattle.std.proofs.Common.{arith, length}
-use Rattle.std.specs.Prelude.{replicate, is_some}
+use Rattle.std.proofs.Common.{arith, length, replicate, is_some}
 use Rattle.std.proofs.lemmas.Bool.{cases_lt}
 use Rattle.world_laws.proofs.Words.{AllAllowed, AreLinkRounds, AtController, AtHost, Cause, Controller, EarlierGot, FetchMessage, GoesOut, Host}
 use Rattle.world_laws.proofs.Words.{IsLinkUndisturbed, IsStart, Link, LinkEnd, LinkEvent, NextFrame, OnWire, Step, Take, Taken, Ticked, Ticks, Turn}

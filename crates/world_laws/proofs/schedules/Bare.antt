@@ -1,6 +1,5 @@
 -- Where the link of a bare world settles behind plays, it has brought all.
-use Rattle.std.proofs.Common.{◌≡◌, ℕ, zero, suc, ◌+◌, ◌*◌, ◌≤◌, false, List, [], ◌∷◌, ◌++◌, refl, ap, sym, subst, ◌∙◌}
-use Rattle.std.specs.Prelude.{replicate}
+use Rattle.std.proofs.Common.{◌≡◌, ℕ, zero, suc, ◌+◌, ◌*◌, ◌≤◌, false, List, [], ◌∷◌, ◌++◌, refl, ap, sym, subst, ◌∙◌, replicate}
 use Rattle.world_laws.proofs.Words.{AllAllowed, AllByRecursion, Controller, Follows, Header, History, Host, IsBare, IsLineOf, IsLinkUndisturbed, Line, Link}
 use Rattle.world_laws.proofs.Words.{Play, Round, after_causes, after_link_events, after_steps, all_events, bare_link, bare_link_behind, causes_of, end_of}
 use Rattle.world_laws.proofs.Words.{fragments_left, host_of, lines_played, link_after_round, link_events, link_rests, of_allowed, round_behind, rounds_to_rest}

@@ -1,6 +1,5 @@
 -- What the link of a bare world has brought behind a line that lets it settle, as the history of the schedule notes it.
-use Rattle.std.proofs.Common.{◌≡◌, ℕ, ◌+◌, ◌*◌, ◌≤◌, false, List, [], ◌∷◌, ◌++◌, ap, sym, subst, ◌∙◌, arith}
-use Rattle.std.specs.Prelude.{replicate}
+use Rattle.std.proofs.Common.{◌≡◌, ℕ, ◌+◌, ◌*◌, ◌≤◌, false, List, [], ◌∷◌, ◌++◌, ap, sym, subst, ◌∙◌, arith, replicate}
 use Rattle.world_laws.proofs.Words.{AllByRecursion, AreBothUpIn, BothBrought, Controller, Entry, Event, Follows, Header, History, Host, IsBare, IsLineOf}
 use Rattle.world_laws.proofs.Words.{IsLinkUndisturbed, IsReadOff, IsRun, Known, Line, Link, Play, Round, Talk, after_link_events, all_entries, all_events}
 use Rattle.world_laws.proofs.Words.{bare_link, bare_link_behind, causes_of, controller_heard, end_c, end_h, end_of, entries_for, fragments_left}

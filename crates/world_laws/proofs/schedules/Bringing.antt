@@ -1,6 +1,5 @@
 -- Behind plays a world that settles has brought all, where nothing that disturbs it is noted of its rounds.
-use Rattle.std.proofs.Common.{◌≡◌, inl, inr, ℕ, ◌+◌, ◌*◌, ◌≤◌, true, false, List, ◌++◌, Some, subst, sym, ◌∙◌}
-use Rattle.std.specs.Prelude.{replicate}
+use Rattle.std.proofs.Common.{◌≡◌, inl, inr, ℕ, ◌+◌, ◌*◌, ◌≤◌, true, false, List, ◌++◌, Some, subst, sym, ◌∙◌, replicate}
 use Rattle.world_laws.proofs.Words.{AllByRecursion, AreBothReady, AreBothUpIn, AreHosts, ArePlayable, ArePoweredNotes, AreUnheldNotes, AreUpWith, BothBrought}
 use Rattle.world_laws.proofs.Words.{Follows, FollowsNodes, Header, History, IsHeader, IsPlayFor, IsPlayedLine, NodeHistory, Play, Round, Site, all-append}
 use Rattle.world_laws.proofs.Words.{all_entries, bare_link_behind, entries_since, fragments_noted, host_of, hosts_are, hosts_stay_behind, lines_may_be_played}

@@ -1,6 +1,5 @@
 -- Where the links of a world of nodes settle behind plays, they have brought all.
-use Rattle.std.proofs.Common.{◌≡◌, ℕ, ◌+◌, ◌*◌, ◌≤◌, true, List, [], ◌∷◌, ◌++◌, Some, refl, ap, sym, subst, ◌∙◌, append-nil, arith, length}
-use Rattle.std.specs.Prelude.{replicate}
+use Rattle.std.proofs.Common.{◌≡◌, ℕ, ◌+◌, ◌*◌, ◌≤◌, true, List, [], ◌∷◌, ◌++◌, Some, refl, ap, sym, subst, ◌∙◌, append-nil, arith, length, replicate}
 use Rattle.world_laws.proofs.Words.{AreHosts, ArePlayable, AreUpWith, BothBrought, EarlierGot, End, Entry, FollowsNodes, Header, IsLinkTold, IsLinkUndisturbed}
 use Rattle.world_laws.proofs.Words.{IsReadOff, Line, LinkSettled, Message, NodeHistory, NodeWorld, Play, Round, Site, Talk, end_c, end_h, events_of_steps}
 use Rattle.world_laws.proofs.Words.{fragments_left, fragments_noted, good_of, host_number, lines_played, lines_played_of, new_world, node_entries, nodes_behind}

@@ -1,6 +1,5 @@
 -- Links at rest are quiet, and quiet links are at rest.
-use Rattle.std.proofs.Common.{◌≡◌, ℕ, Bool, true, false, ◌==◌, List, [], ◌∷◌, refl, ap, sym, subst, ◌∙◌, Some, length}
-use Rattle.std.specs.Prelude.{◌&&◌}
+use Rattle.std.proofs.Common.{◌≡◌, ℕ, Bool, true, false, ◌==◌, List, [], ◌∷◌, refl, ap, sym, subst, ◌∙◌, Some, length, ◌&&◌}
 use Rattle.world_laws.proofs.Words.{AllByRecursion, Down, Link, LinkEnd, LinkState, Site, Up, Waiting, and_parts, by_test, eq-eqb, eqb-true, is_clear}
 use Rattle.world_laws.proofs.Words.{is_waiting, link_rests, site_at, true≢false, whole_acked}
 use Rattle.link_laws.specs.places.Wire.{OnWire}

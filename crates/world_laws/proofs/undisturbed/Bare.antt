@@ -1,6 +1,5 @@
 -- The link of a bare world is undisturbed while it settles, where nothing that disturbs it is noted of its rounds.
-use Rattle.std.proofs.Common.{◌≡◌, ℕ, true, false, List, [], ◌∷◌, ◌++◌, map, refl, ap, sym, subst, ◌∙◌, length, Option, Some, None}
-use Rattle.std.specs.Prelude.{drop, replicate}
+use Rattle.std.proofs.Common.{◌≡◌, ℕ, true, false, List, [], ◌∷◌, ◌++◌, map, refl, ap, sym, subst, ◌∙◌, length, Option, Some, None, drop, replicate}
 use Rattle.world_laws.proofs.Words.{AllAllowed, AllByRecursion, AreBothReady, AreBothUpIn, AreReadyThroughout, AreRoundCauses, AreUnstarted, Cause, Controller}
 use Rattle.world_laws.proofs.Words.{Cut, Entry, Event, Follows, Header, History, Host, IsBare, IsLineOf, IsLinkUndisturbed, IsRun, IsUnderWay, Link, LinkEvent}
 use Rattle.world_laws.proofs.Words.{Play, Restarted, Round, Taken, Ticked, after_link_events, all_entries, all_events, bare_link, bare_link_behind, by_test}

@@ -1,13 +1,11 @@
 -- Whether the ends of a bare world take fragments behind the lines of a schedule: the last line that says so decides.
-use Rattle.std.proofs.Common.{◌≡◌, ℕ, zero, suc, ◌==◌, Bool, true, false, List, [], ◌∷◌, ◌++◌, Option, Some, None, refl, ap, sym, subst, ◌∙◌, cond}
-use Rattle.std.proofs.Common.{append-nil, append_assoc}
-use Rattle.std.specs.Prelude.{replicate, not, is_some, unwrap_or, ◌&&◌, if◌then◌else◌}
+use Rattle.std.proofs.Common.{◌≡◌, ℕ, zero, suc, ◌==◌, Bool, true, false, List, [], ◌∷◌, ◌++◌, Option, Some, None, refl, ap, sym, subst, ◌∙◌, cond, append-nil}
+use Rattle.std.proofs.Common.{append_assoc, replicate, not, is_some, unwrap_or, ◌&&◌, if◌then◌else◌, fold}
 use Rattle.world_laws.proofs.Words.{AllByRecursion, AreRoundCauses, AsksReset, AtController, AtHost, Cause, End, EndEvent, FetchMessage, Give, GoesOut, Header}
 use Rattle.world_laws.proofs.Words.{Hold, IsHeader, IsPlayedLine, Line, Link, Lose, MayFollow, NextFrame, NoInput, Play, Reset, Round, Step, Taken, Tick}
 use Rattle.world_laws.proofs.Words.{Ticked, Turn, after_causes, after_input, aged, bare_link, bare_link_behind, by_option, by_test, causes_of, ended_by, eq-eqb}
 use Rattle.world_laws.proofs.Words.{events_at, exchanged, happens, happens_at_controller, host_of, lines_played, link_after, link_after_all, played_more}
 use Rattle.world_laws.proofs.Words.{plays_of, rounds_to_rest, rounds_to_settle, settling_causes, ticks_at_controller, true≢false, turned, with_ended}
-use Rattle.std.specs.List.{fold}
 use Rattle.trace_model.specs.declared.line.Line.TheVariants as saying
 use Rattle.trace_model.specs.Lines.{IsEndOf}
 use Rattle.history.specs.Damage.{Verdict}

@@ -1,7 +1,6 @@
 -- What a history of a bare world notes behind an earlier one, where rounds stand between them; and whether its ends take fragments.
-use Rattle.std.proofs.Common.{◌≡◌, ℕ, zero, suc, Bool, true, false, List, [], ◌∷◌, ◌++◌, None, refl, ap, sym, subst, ◌∙◌, cond}
-use Rattle.std.proofs.Common.{length, append_assoc, append-nil}
-use Rattle.std.specs.Prelude.{replicate, is_some}
+use Rattle.std.proofs.Common.{◌≡◌, ℕ, zero, suc, Bool, true, false, List, [], ◌∷◌, ◌++◌, None, refl, ap, sym, subst, ◌∙◌, cond, length, append_assoc}
+use Rattle.std.proofs.Common.{append-nil, replicate, is_some}
 use Rattle.world_laws.proofs.Words.{Cause, Controller, End, Event, GoesOut, Header, Host, Line, Link, LinkEnd, NextFrame, NumberedEnd, OnWire, Play, Round}
 use Rattle.world_laws.proofs.Words.{Take, Taken, Turn, after_input, bare_link, bare_link_behind, beside-put_all, causes_of, causes_of_round, causes_of_rounds}
 use Rattle.world_laws.proofs.Words.{end_of, ended_by, events_at, frames_out, host_of, is_clear, lines_played, link_after_round, played_more, round_behind}

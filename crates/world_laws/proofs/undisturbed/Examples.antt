@@ -1,6 +1,5 @@
 -- A worked example of a link of nodes that settles and holds no message meanwhile, computed from the definitions.
-use Rattle.std.proofs.Common.{◌≡◌, refl, List, [], ◌∷◌, None}
-use Rattle.std.specs.Prelude.{true}
+use Rattle.std.proofs.Common.{◌≡◌, refl, List, [], ◌∷◌, None, true}
 use Rattle.world_laws.proofs.Words.{ArePoweredNotes, AreUnheldNotes, AreUpWith, Emit, Entry, Happening, NodeWorld, Occurrence, Takes, Took, all_happen, end_c}
 use Rattle.world_laws.proofs.Words.{end_h, entries_in, fragments_noted, new_world, world_settling}
 use Rattle.trace_model.specs.declared.entry.Entry.TheVariants.{Acked, Active, AnyOk, Booted, Command, Got, Sent, Turn, Up}

@@ -1,8 +1,6 @@
 -- Behind each step of a node an end that takes no fragments is one whose first message was noted as held.
-use Rattle.std.proofs.Common.{◌≡◌, ℕ, ◌==◌, Bool, true, false, List, [], ◌∷◌, map, Option, Some, None, refl, ap, sym, subst, ◌∙◌}
-use Rattle.std.specs.Prelude.{not}
+use Rattle.std.proofs.Common.{◌≡◌, ℕ, ◌==◌, Bool, true, false, List, [], ◌∷◌, map, Option, Some, None, refl, ap, sym, subst, ◌∙◌, not, flat_map}
 use Rattle.std.specs.Option.{option_map_or}
-use Rattle.std.specs.List.{flat_map}
 use Rattle.world_laws.proofs.Words.{AtEnd, Entry, FetchMessage, Give, Hold, LinkInput, Message, Reset, Tick, Turn, Work, after_input, by_option, by_test}
 use Rattle.world_laws.proofs.Words.{changed_if, eqb-true, steps, true≢false}
 use Rattle.trace_model.specs.declared.entry.Entry.TheVariants as entry

@@ -1,11 +1,10 @@
 -- Where a frame of an end's step is lost, or its session ends, it is noted: so where nothing of this is noted no frame is lost.
-use Rattle.std.proofs.Common.{◌≡◌, Bool, true, false, cond, List, [], ◌∷◌, ◌++◌, length, Some, None, refl, ap, sym, subst, ◌∙◌, arith, length-append}
-use Rattle.std.specs.Prelude.{◌+◌, ◌||◌, nat_lt, is_some}
+use Rattle.std.proofs.Common.{◌≡◌, Bool, true, false, cond, List, [], ◌∷◌, ◌++◌, length, Some, None, refl, ap, sym, subst, ◌∙◌, arith, length-append, ◌+◌, ◌||◌}
+use Rattle.std.proofs.Common.{nat_lt, is_some, ltb-true}
 use Rattle.world_laws.proofs.Words.{AreSendableTurns, Control, Cut, CutOff, EndState, GoesOut, Link, LinkEnd, Lost, Now, OnWire, Restarted, Tells, Turn}
 use Rattle.world_laws.proofs.Words.{after_input, aged_entries, and_parts, by_test, core_of, core_turns, far, first_lost, frames_out, is_act, is_open, is_rset}
 use Rattle.world_laws.proofs.Words.{list_any, list_any-append, mid_moved, moved, opened, pushed_out, put, put_entries, puts_entries, rest_entries, sans}
 use Rattle.world_laws.proofs.Words.{tick_answer, tick_entries, ticked, told_of, true≢false, turn_entries, turned, turns_mid, wire_with, with_ended}
-use Rattle.std.proofs.lemmas.Bool.{ltb-true}
 use Rattle.shdlc_core.specs.declared.answers.LinkState.TheVariants.{Down as IsDown}
 use Rattle.link_laws.specs.sessions.Sessions.{ShdlcLink as CoreLink, ShdlcTurn as CoreTurn, shdlc_turned as core_turned}
 use Rattle.link_laws.specs.sessions.Losses.{Losses, counts_first, overflows, loses_aged, noted_loss, noted_all, noted_out, noted_tick, noted_aged}

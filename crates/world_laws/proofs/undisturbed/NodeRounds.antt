@@ -1,7 +1,6 @@
 -- Where nothing that disturbs a link is noted of rounds of a world of nodes, and both its ends are up before them, the law of one link notes
 -- nothing of the kind of what these rounds are there, and both ends are up behind them.
-use Rattle.std.proofs.Common.{◌≡◌, ℕ, zero, suc, List, [], ◌∷◌, ◌++◌, Some, None, refl, ap, sym, subst, ◌∙◌, length}
-use Rattle.std.specs.Prelude.{◌||◌}
+use Rattle.std.proofs.Common.{◌≡◌, ℕ, zero, suc, List, [], ◌∷◌, ◌++◌, Some, None, refl, ap, sym, subst, ◌∙◌, length, ◌||◌}
 use Rattle.world_laws.proofs.Words.{ArePassing, ArePoweredNotes, End, Entry, Happening, Link, LinkEvent, NodeWorld, Occurrence, Site, Takes}
 use Rattle.world_laws.proofs.Words.{after_events-append, after_link_events, all_go, all_happen, by_test, can_happen, end_takes_all, ends_events, ends_go}
 use Rattle.world_laws.proofs.Words.{ends_in_order, ends_take_all, entries, entries_in, events_on, flat_map-append, frames_at, happenings, link_events_in}

@@ -1,6 +1,5 @@
 -- A link of a world of nodes is undisturbed while it settles, where nothing that disturbs it is noted of its rounds.
-use Rattle.std.proofs.Common.{◌≡◌, ℕ, false, ◌==◌, List, ◌++◌, Some, ap, sym, subst, ◌∙◌, length}
-use Rattle.std.specs.Prelude.{drop, replicate}
+use Rattle.std.proofs.Common.{◌≡◌, ℕ, false, ◌==◌, List, ◌++◌, Some, ap, sym, subst, ◌∙◌, length, drop, replicate}
 use Rattle.std.proofs.Math.Seq.{drop-append_seam}
 use Rattle.world_laws.proofs.Words.{AllAllowed, AreHosts, ArePlayable, ArePoweredNotes, AreReadyThroughout, AreUpWith, Controller, Entry, FollowsNodes}
 use Rattle.world_laws.proofs.Words.{GoesOnLink, Header, Host, IsLine, IsLinkUndisturbed, IsUnderWay, Line, Link, LinkEvent, NodeHistory, NodeWorld, Occurrence}

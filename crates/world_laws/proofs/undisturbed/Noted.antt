@@ -1,6 +1,5 @@
 -- Where entries tell of nothing that disturbs a link, the law of one link notes nothing that does.
-use Rattle.std.proofs.Common.{◌≡◌, ℕ, ◌==◌, Bool, false, List, [], ◌∷◌, ◌++◌, Option, Some, None, refl, ap, sym, subst, ◌∙◌, append-nil}
-use Rattle.std.specs.Prelude.{◌||◌}
+use Rattle.std.proofs.Common.{◌≡◌, ℕ, ◌==◌, Bool, false, List, [], ◌∷◌, ◌++◌, Option, Some, None, refl, ap, sym, subst, ◌∙◌, append-nil, ◌||◌}
 use Rattle.world_laws.proofs.Words.{ArePoweredNotes, AreUnstarted, Cut, End, Entry, Link, LinkEvent, Lost, Restarted, by_test, cuts_on, end_of, entries}
 use Rattle.world_laws.proofs.Words.{entries_for, event_entries, list_any, list_any-append, of_link, true≢false}
 use Rattle.link_laws.specs.entries.Entries.{Entry as Noted}

@@ -1,6 +1,5 @@
 -- What an end takes and sends leaves whether it takes fragments: its node alone says so.
-use Rattle.std.proofs.Common.{◌≡◌, ℕ, ◌==◌, Bool, true, false, Option, Some, None, refl, ap, ◌∙◌, cond}
-use Rattle.std.specs.Prelude.{nat_lt, not, is_some}
+use Rattle.std.proofs.Common.{◌≡◌, ℕ, ◌==◌, Bool, true, false, Option, Some, None, refl, ap, ◌∙◌, cond, nat_lt, not, is_some}
 use Rattle.world_laws.proofs.Words.{Act, ActEvent, Clt, Control, Down, EndState, FetchMessage, Fragment, Give, Hold, I, Kind, LinkEnd, LinkState, Reset, Rset}
 use Rattle.world_laws.proofs.Words.{S, Srej, Turn, Ua, Up, Waiting, act_answer, activated, after_input, by_option, by_test, give_refusal, is_open, is_waiting}
 use Rattle.world_laws.proofs.Words.{most_frames, moved, reset_refusal, reset_with, take_answer, taken, tick_answer, ticked, took, turn, window_of}

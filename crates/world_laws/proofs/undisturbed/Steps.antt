@@ -1,6 +1,5 @@
 -- Whether an end takes fragments behind a step is told by the turns of its node alone.
-use Rattle.std.proofs.Common.{◌≡◌, Bool, true, false, cond, List, [], ◌∷◌, ◌++◌, Some, None, refl, ap, ◌∙◌}
-use Rattle.std.specs.Prelude.{is_some, not, ◌&&◌}
+use Rattle.std.proofs.Common.{◌≡◌, Bool, true, false, cond, List, [], ◌∷◌, ◌++◌, Some, None, refl, ap, ◌∙◌, is_some, not, ◌&&◌}
 use Rattle.swp_act.specs.declared.ActEvent.TheVariants.{Start as ActStart, Stop as ActStop}
 use Rattle.shdlc_core.specs.Machine.{is_waiting, stopped}
 use Rattle.link_laws.specs.machine.Machine.{LinkEnd, LinkInput, Role, Turn, after_input, ended_by, moved, new_link_end, renewed, sent_all, turn, turned}

@@ -1,7 +1,6 @@
 -- Where no message is noted as held at either end of a link of nodes, both its ends take fragments throughout the rounds of the world.
 use Rattle.std.proofs.Common.{◌≡◌, ℕ, zero, suc, ◌==◌, Bool, true, false, cond, List, [], ◌∷◌, ◌++◌, map, Option, Some, None, refl, ap, sym, subst, ◌∙◌}
-use Rattle.std.proofs.Common.{append-nil, append_assoc, length}
-use Rattle.std.specs.Prelude.{replicate}
+use Rattle.std.proofs.Common.{append-nil, append_assoc, length, replicate}
 use Rattle.world_laws.proofs.Words.{AreBothReady, AreHosts, ArePassing, ArePlayable, AreReadyThroughout, AreUnheldNotes, End, Entry, FollowsNodes, GoesOnLink}
 use Rattle.world_laws.proofs.Words.{Happening, Header, Line, Link, LinkEvent, LinkInput, MayBoot, NextFrame, NodeHistory, NodeWorld, Occurrence, Play, Round}
 use Rattle.world_laws.proofs.Words.{Running, Site, Takes, after_link_events, all_aged, all_go, all_happen, by_test, can_happen, controller_takes}

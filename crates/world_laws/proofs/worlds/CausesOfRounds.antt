@@ -1,6 +1,5 @@
 -- The causes of the rounds of a world: what they are, how often time passes among them, and how many they are.
-use Rattle.std.proofs.Common.{◌≡◌, ℕ, zero, suc, ◌+◌, true, List, [], ◌∷◌, ◌++◌, None, refl, ap, sym, subst, ◌∙◌, length, arith}
-use Rattle.std.specs.Prelude.{replicate}
+use Rattle.std.proofs.Common.{◌≡◌, ℕ, zero, suc, ◌+◌, true, List, [], ◌∷◌, ◌++◌, None, refl, ap, sym, subst, ◌∙◌, length, arith, replicate}
 use Rattle.world_laws.proofs.Words.{AllByRecursion, ArePassing, End, Happening, IsOrderly, MayBoot, NodeWorld, Occurrence, Takes, all_happen, by_test}
 use Rattle.world_laws.proofs.Words.{can_happen, end_takes_all, ends_in_order, ends_take_all, frames_at, happened_in, happenings, rounds_of_world, takes_pass}
 use Rattle.world_laws.proofs.Words.{world_after_round, world_round, world_step}

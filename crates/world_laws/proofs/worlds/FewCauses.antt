@@ -1,7 +1,5 @@
 -- A round of a world has few causes: no more than 64 frames stand on each wire.
-use Rattle.std.proofs.Common.{◌≡◌, ℕ, zero, suc, ◌+◌, ◌*◌, ◌≤◌, List, [], ◌∷◌, refl, ap, ◌∙◌, length, arith}
-use Rattle.std.specs.Prelude.{replicate}
-use Rattle.std.specs.List.{flat_map}
+use Rattle.std.proofs.Common.{◌≡◌, ℕ, zero, suc, ◌+◌, ◌*◌, ◌≤◌, List, [], ◌∷◌, refl, ap, ◌∙◌, length, arith, replicate, flat_map}
 use Rattle.std.proofs.lemmas.List.{length-map, length-append, length-replicate}
 use Rattle.world_laws.proofs.Words.{End, Happening, NodeWorld, Occurrence, Site, Takes, all_happen, by_test, can_happen, end_c, end_h, end_takes_all}
 use Rattle.world_laws.proofs.Words.{ends_in_order, ends_take_all, fine_there, frames_at, happened_in, rounds_of_world, world_round, world_step}

@@ -1,6 +1,5 @@
 -- No wire of a world holds more than 64 frames, and so it stays over its rounds.
-use Rattle.std.proofs.Common.{◌≡◌, ◌≤◌, false, List, [], ◌∷◌, length, sym, refl, ap, ◌∙◌, subst, arith}
-use Rattle.std.specs.Prelude.{ℕ, ◌==◌, Some, None}
+use Rattle.std.proofs.Common.{◌≡◌, ◌≤◌, false, List, [], ◌∷◌, length, sym, refl, ap, ◌∙◌, subst, arith, ℕ, ◌==◌, Some, None}
 use Rattle.world_laws.proofs.Words.{End, GoesOnLink, LinkEvent, NodeWorld, Site, Takes, after_link_events, by_option, by_test, end_c, end_h, frames_at}
 use Rattle.world_laws.proofs.Words.{hosts_in, link_events_in, site_at, takes_go, ticks_go, world_step}
 use Rattle.node_machine.specs.world.World.Happening.{Ticks as TimePassing}

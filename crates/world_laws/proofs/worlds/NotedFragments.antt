@@ -1,7 +1,5 @@
 -- The fragments that are left on a link are at most those that are noted.
-use Rattle.std.proofs.Common.{◌≡◌, ℕ, ◌+◌, ◌-◌, ◌≤◌, List, [], ◌∷◌, drop, length, Some, ap, ap₂, subst, arith}
-use Rattle.std.specs.Prelude.{nat_le}
-use Rattle.std.proofs.lemmas.Bool.{leb-true}
+use Rattle.std.proofs.Common.{◌≡◌, ℕ, ◌+◌, ◌-◌, ◌≤◌, List, [], ◌∷◌, drop, length, Some, ap, ap₂, subst, arith, nat_le, leb-true}
 use Rattle.hcp_packet.specs.Packets.{packet_count, fragments_of}
 use Rattle.world_laws.proofs.Words.{AreUpWith, End, Entry, IsLinkTold, IsReadOff, Known, Message, NodeWorld, Site, Talk, by_test, end_c, end_h, entries_in}
 use Rattle.world_laws.proofs.Words.{fragments_left, fragments_noted, host_number, site_at, talk_now}

@@ -1,7 +1,6 @@
 -- Where a link is undisturbed the rounds of a world of nodes are rounds of it.
-use Rattle.std.proofs.Common.{◌≡◌, ℕ, zero, suc, ◌+◌, ◌≤◌, ◌⊎◌, inl, inr, ◌==◌, Bool, true, false, List, [], ◌∷◌, ◌++◌, Option, Some, None}
-use Rattle.std.proofs.Common.{refl, ap, sym, subst, ◌∙◌, length, arith}
-use Rattle.std.specs.Prelude.{replicate}
+use Rattle.std.proofs.Common.{◌≡◌, ℕ, zero, suc, ◌+◌, ◌≤◌, ◌⊎◌, inl, inr, ◌==◌, Bool, true, false, List, [], ◌∷◌, ◌++◌, Option, Some, None, refl, ap, sym}
+use Rattle.std.proofs.Common.{subst, ◌∙◌, length, arith, replicate}
 use Rattle.world_laws.proofs.Words.{Activate, AllAllowed, ArePassing, AtController, AtEnd, AtHost, Clf, Down, End, Ending, GoesOut, Happening, IsLine}
 use Rattle.world_laws.proofs.Words.{IsLinkUndisturbed, Known, Link, LinkEnd, LinkEvent, LinkInput, NextFrame, NoInput, NodeWorld, Occurrence, OnWire, Running}
 use Rattle.world_laws.proofs.Words.{Site, Step, Take, Takes, Ticks, TicksWithout, Turn, Uicc, Up, Work, after_events-append, after_link_events, all_happen}

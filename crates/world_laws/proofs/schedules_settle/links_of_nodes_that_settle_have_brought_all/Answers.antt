@@ -1,5 +1,4 @@
-use Rattle.std.proofs.Common.{inr, subst, sym, ◌++◌}
-use Rattle.std.specs.Prelude.{replicate}
+use Rattle.std.proofs.Common.{inr, subst, sym, ◌++◌, replicate}
 use Rattle.world_laws.proofs.Words.{ArePlayable, IsPlayFor, Round, all-append, hosts_are, hosts_stay_behind, lines_may_be_played, lines_played, plays_for}
 use Rattle.world_laws.proofs.Words.{plays_of, rounds_for, rounds_to_rest}
 use Rattle.world_laws.proofs.schedules.Nodes.{nodes_settled, noted_settled, with_settle}

@@ -1,5 +1,4 @@
-use Rattle.std.proofs.Common.{List, [], ℕ, ◌∷◌, inl, subst, sym, ◌++◌, true, false}
-use Rattle.std.specs.Prelude.{replicate}
+use Rattle.std.proofs.Common.{List, [], ℕ, ◌∷◌, inl, subst, sym, ◌++◌, true, false, replicate}
 use Rattle.world_laws.proofs.Words.{AllByRecursion, AreBothReady, Follows, Header, IsHeader, IsLineOf, IsPlayFor, Line, MayFollow, Round, Settle, all-append}
 use Rattle.world_laws.proofs.Words.{bare_link_behind, host_of, hosts_stay_behind, lines_may_be_played, lines_played, lines_played_of, plays_for, plays_of}
 use Rattle.world_laws.proofs.Words.{rounds_for, rounds_to_rest}
