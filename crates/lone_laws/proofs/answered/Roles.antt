@@ -1,12 +1,12 @@
 -- An end of a CLF stays one, and so does an end of a UICC; what each takes of activation.
-use Rattle.std.proofs.Common.{◌≡◌, Bool, true, false, cond, ◌++◌, refl, ◌∙◌, Option, Some, None, is_some}
+use Rattle.std.proofs.Common.{◌≡◌, ℕ, ◌+◌, Bool, true, false, cond, List, ◌++◌, refl, ◌∙◌, Option, Some, None, is_some}
 use Rattle.lone_laws.proofs.Words.{Act, ActEvent, Clt, Control, EndState, I, LinkEnd, LinkInput, LinkState, Reset, Rset, S, Start, Stop, Take, TakeUnknown}
 use Rattle.lone_laws.proofs.Words.{Tick, Ua, act_answer, activated, after_input, by_option, cond_both, heard, is_faulty, is_open, moved, put_down}
 use Rattle.lone_laws.proofs.Words.{reset_refusal, reset_with, role_after, stopped, take_answer, taken, tick_answer, ticked, window_of, with_act}
 use Rattle.swp_base.specs.declared.control_frames.Control.TheVariants.{Act as ActFrame}
 use Rattle.swp_act.specs.declared.ActEvent.TheVariants.{Start as ActStart, Take as ActTake, Tick as ActTick, Stop as ActStop}
 use Rattle.shdlc_core.specs.declared.answers.LinkState.TheVariants.{Up as IsUpNow}
-use Rattle.link_laws.specs.machine.Machine.{news, Role}
+use Rattle.link_laws.specs.machine.Machine.{Message, news, Role}
 use Rattle.lone_laws.proofs.answered.Coming.{IsLoneInput}
 use Rattle.link_laws.specs.machine.Machine.Role.{Bare, Clf, Uicc}
 
@@ -40,27 +40,38 @@ activated_kind e event =
     act_kind (act_answer e.role event).send (record (put_down (act_answer e.role event).ended_link e) { role = role_after e.role event })
     ∙ after_kind e.role event
 
-heard_kind : (e : LinkEnd) (c : Control) → kind_of (heard e c).role ≡ kind_of e.role
-heard_kind e c =
-    cond_both (is_faulty (taken e.shdlc c).session) (put_down true e)
-    (let f : LinkEnd = moved e (is_some (take_answer e.shdlc c).ended) (taken e.shdlc c) in record f { got = e.got ++ news e.shdlc.session (taken e.shdlc c) })
-    (λ f. kind_of f.role ≡ kind_of e.role) (λ _. down_kind true e) (λ _. moved_kind e (is_some (take_answer e.shdlc c).ended) (taken e.shdlc c))
+-- ## What no input changes
 
-open_kind : (e : LinkEnd) (c : Control) → kind_of (cond (is_open e.role) (heard e c) e).role ≡ kind_of e.role
-open_kind e c = cond_both (is_open e.role) (heard e c) e (λ f. kind_of f.role ≡ kind_of e.role) (λ _. heard_kind e c) (λ _. refl)
+-- what no step of an end changes stays whatever comes to the end
+module _ {A : Type 0} (f : LinkEnd → A) (down : (b : Bool) (e : LinkEnd) → f (put_down b e) ≡ f e)
+    (moves : (e : LinkEnd) (b : Bool) (s : EndState) → f (moved e b s) ≡ f e) (acts : (e : LinkEnd) (event : ActEvent) → f (activated e event) ≡ f e)
+    (gets : (e : LinkEnd) (got : List Message) → f (record e { got = got }) ≡ f e)
+    (passes : (e : LinkEnd) (n : ℕ) → f (record e { passed_over = n }) ≡ f e) where
+  heard_keeps : (e : LinkEnd) (c : Control) → f (heard e c) ≡ f e
+  heard_keeps e c =
+      let g : LinkEnd = moved e (is_some (take_answer e.shdlc c).ended) (taken e.shdlc c) in
+      let got : List Message = e.got ++ news e.shdlc.session (taken e.shdlc c) in
+      cond_both (is_faulty (taken e.shdlc c).session) (put_down true e) (record g { got = got }) (λ z. f z ≡ f e) (λ _. down true e)
+      (λ _. gets g got ∙ moves e (is_some (take_answer e.shdlc c).ended) (taken e.shdlc c))
+
+  open_keeps : (e : LinkEnd) (c : Control) → f (cond (is_open e.role) (heard e c) e) ≡ f e
+  open_keeps e c = cond_both (is_open e.role) (heard e c) e (λ z. f z ≡ f e) (λ _. heard_keeps e c) (λ _. refl)
+
+  pub input_keeps : (e : LinkEnd) (i : LinkInput) → IsLoneInput i → f (after_input e i) ≡ f e
+  input_keeps e (Take (I ns nr info)) a = open_keeps e (I ns nr info)
+  input_keeps e (Take (S kind nr)) a = open_keeps e (S kind nr)
+  input_keeps e (Take (Rset window caps)) a = open_keeps e (Rset window caps)
+  input_keeps e (Take Ua) a = open_keeps e Ua
+  input_keeps e (Take (ActFrame act again)) a = acts e (ActTake act again)
+  input_keeps e (Take Clt) a = passes e (e.passed_over + 1)
+  input_keeps e TakeUnknown a = passes e (e.passed_over + 1)
+  input_keeps e Tick a =
+      cond_both (is_open e.role) (moved e (is_some (tick_answer e.shdlc).ended) (ticked e.shdlc)) (activated e ActTick) (λ z. f z ≡ f e)
+      (λ _. moves e (is_some (tick_answer e.shdlc).ended) (ticked e.shdlc)) (λ _. acts e ActTick)
+  input_keeps e (Reset window) a = by_option (reset_refusal e) (λ q. rw q (moves e _ (reset_with e.shdlc (window_of e window)))) (λ why q. rw q refl)
+  input_keeps e (Start value) a = acts (moved e true (stopped e.shdlc)) (ActStart value) ∙ moves e true (stopped e.shdlc)
+  input_keeps e Stop a = acts (moved e true (stopped e.shdlc)) ActStop ∙ moves e true (stopped e.shdlc)
+  input_keeps e _ a = absurd a
 
 pub input_kind : (e : LinkEnd) (i : LinkInput) → IsLoneInput i → kind_of (after_input e i).role ≡ kind_of e.role
-input_kind e (Take (I ns nr info)) a = open_kind e (I ns nr info)
-input_kind e (Take (S kind nr)) a = open_kind e (S kind nr)
-input_kind e (Take (Rset window caps)) a = open_kind e (Rset window caps)
-input_kind e (Take Ua) a = open_kind e Ua
-input_kind e (Take (ActFrame act again)) a = activated_kind e (ActTake act again)
-input_kind e (Take Clt) a = refl
-input_kind e TakeUnknown a = refl
-input_kind e Tick a =
-    cond_both (is_open e.role) (moved e (is_some (tick_answer e.shdlc).ended) (ticked e.shdlc)) (activated e ActTick) (λ f. kind_of f.role ≡ kind_of e.role)
-    (λ _. moved_kind e (is_some (tick_answer e.shdlc).ended) (ticked e.shdlc)) (λ _. activated_kind e ActTick)
-input_kind e (Reset window) a = by_option (reset_refusal e) (λ q. rw q (moved_kind e _ (reset_with e.shdlc (window_of e window)))) (λ why q. rw q refl)
-input_kind e (Start value) a = activated_kind (moved e true (stopped e.shdlc)) (ActStart value)
-input_kind e Stop a = activated_kind (moved e true (stopped e.shdlc)) ActStop
-input_kind e _ a = absurd a
+input_kind e i a = input_keeps (λ z. kind_of z.role) down_kind moved_kind activated_kind (λ z got. refl) (λ z n. refl) e i a

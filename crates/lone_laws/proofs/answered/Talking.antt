@@ -1,17 +1,13 @@
 -- The session of an end, the messages sent in it and how many of them are acknowledged are what is read, over what comes to it.
 use Rattle.std.proofs.Common.{◌≡◌, ℕ, ◌<◌, ◌≤◌, ◌-◌, Bool, true, false, cond, List, [], ◌∷◌, ◌++◌, map, refl, sym, ap, ap₂, subst, ◌∙◌, append_assoc}
 use Rattle.std.proofs.Common.{append-nil, arith, nat_lt, Option, Some, None, is_some, option_to_list, ltb-true, ltb-false}
-use Rattle.lone_laws.proofs.Words.{Acked, Act, ActEvent, Active, Clt, Control, Down, End, EndState, Entry, GaveUp, Got, I, LinkEnd, LinkInput, LinkState}
-use Rattle.lone_laws.proofs.Words.{Message, Report, Reset, Rset, S, Sound, Start, Stop, Take, TakeUnknown, Tick, Ua, Up, act_answer, activated, after_input}
-use Rattle.lone_laws.proofs.Words.{began_by, by_option, by_test, cond_both, end_of, entries_for, heard, if_so, is_faulty, is_open, is_up, moved, put_down}
-use Rattle.lone_laws.proofs.Words.{report, reset_refusal, reset_with, role_after, same_end, stopped, take_answer, taken, tick_answer, ticked, told, whole_acked}
-use Rattle.lone_laws.proofs.Words.{window_of, with_act}
+use Rattle.lone_laws.proofs.Words.{Acked, Act, ActEvent, Active, Down, End, EndState, Entry, GaveUp, Got, LinkEnd, LinkInput, LinkState, Message, Report, Reset}
+use Rattle.lone_laws.proofs.Words.{Sound, Start, Stop, Take, TakeUnknown, Tick, Up, act_answer, activated, after_input, began_by, by_option, by_test, end_of}
+use Rattle.lone_laws.proofs.Words.{entries_for, if_so, is_up, moved, put_down, report, role_after, same_end, told, whole_acked, with_act}
 use Rattle.std.proofs.lemmas.List.Concat.{flat_map-append}
-use Rattle.swp_base.specs.declared.control_frames.Control.TheVariants.{Act as ActFrame}
 use Rattle.swp_base.specs.declared.link_terms.Cause.{Cause as EndedBy}
-use Rattle.swp_act.specs.declared.ActEvent.TheVariants.{Start as ActStart, Take as ActTake, Tick as ActTick, Stop as ActStop}
 use Rattle.shdlc_core.specs.declared.answers.LinkState.TheVariants.{Down as IsDown, Waiting as IsWaitingNow, Up as IsUpNow}
-use Rattle.link_laws.specs.machine.Machine.{news, ended_by, got_by, whole_among}
+use Rattle.link_laws.specs.machine.Machine.{ended_by, got_by, whole_among}
 use Rattle.link_laws.proofs.machine.Shifts.{Shift, IsNotUp}
 use Rattle.link_laws.proofs.machine.Shifts.Shift.{Stays, Ends, Renews, Begins, Rests}
 use Rattle.link_laws.proofs.machine.Sound.{Data, SentAfter, whole_more}
@@ -19,6 +15,7 @@ use Rattle.link_laws.proofs.machine.Reports.{Becomes, take_so, tick_so, reset_so
 use Rattle.link_laws.specs.entries.Entries.{End as Side, Entry as Noted}
 use Rattle.history.specs.Steps.{entry_of}
 use Rattle.lone_laws.proofs.answered.Coming.{IsLoneInput}
+use Rattle.lone_laws.proofs.answered.Roles.{input_keeps}
 use Rattle.lone_laws.proofs.answered.Sessions.{Talk, no_session_now, AreSilent, Reads, reads_silent, reads_down, reads_up, reads_acked}
 
 -- ## What is told
@@ -271,27 +268,5 @@ activated_aside e event =
     act_aside (act_answer e.role event).send (record (put_down (act_answer e.role event).ended_link e) { role = role_after e.role event })
     ∙ down_aside (act_answer e.role event).ended_link e
 
-heard_aside : (e : LinkEnd) (c : Control) → (heard e c).aside ≡ e.aside
-heard_aside e c =
-    cond_both (is_faulty (taken e.shdlc c).session) (put_down true e)
-    (let f : LinkEnd = moved e (is_some (take_answer e.shdlc c).ended) (taken e.shdlc c) in record f { got = e.got ++ news e.shdlc.session (taken e.shdlc c) })
-    (λ f. f.aside ≡ e.aside) (λ _. down_aside true e) (λ _. moved_aside e (is_some (take_answer e.shdlc c).ended) (taken e.shdlc c))
-
-open_aside : (e : LinkEnd) (c : Control) → (cond (is_open e.role) (heard e c) e).aside ≡ e.aside
-open_aside e c = cond_both (is_open e.role) (heard e c) e (λ f. f.aside ≡ e.aside) (λ _. heard_aside e c) (λ _. refl)
-
 pub input_aside : (e : LinkEnd) (i : LinkInput) → IsLoneInput i → (after_input e i).aside ≡ e.aside
-input_aside e (Take (I ns nr info)) a = open_aside e (I ns nr info)
-input_aside e (Take (S kind nr)) a = open_aside e (S kind nr)
-input_aside e (Take (Rset window caps)) a = open_aside e (Rset window caps)
-input_aside e (Take Ua) a = open_aside e Ua
-input_aside e (Take (ActFrame act again)) a = activated_aside e (ActTake act again)
-input_aside e (Take Clt) a = refl
-input_aside e TakeUnknown a = refl
-input_aside e Tick a =
-    cond_both (is_open e.role) (moved e (is_some (tick_answer e.shdlc).ended) (ticked e.shdlc)) (activated e ActTick) (λ f. f.aside ≡ e.aside)
-    (λ _. moved_aside e (is_some (tick_answer e.shdlc).ended) (ticked e.shdlc)) (λ _. activated_aside e ActTick)
-input_aside e (Reset window) a = by_option (reset_refusal e) (λ q. rw q (moved_aside e _ (reset_with e.shdlc (window_of e window)))) (λ why q. rw q refl)
-input_aside e (Start value) a = activated_aside (moved e true (stopped e.shdlc)) (ActStart value)
-input_aside e Stop a = activated_aside (moved e true (stopped e.shdlc)) ActStop
-input_aside e _ a = absurd a
+input_aside e i a = input_keeps (λ z. z.aside) down_aside moved_aside activated_aside (λ z got. refl) (λ z n. refl) e i a
