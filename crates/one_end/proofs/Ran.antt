@@ -71,10 +71,6 @@ behind_spared : (ws : List Write) (k : ℕ) (fill : List ℕ) → plan_behind ws
 behind_spared [] k fill = ap (λ n. plan_of n fill) (omega arith)
 behind_spared (w ∷ ws) k fill = ap (plan_behind ws) (nearer_by (length ws) k fill) ∙ behind_spared ws k fill
 
-none_behind : (ws : List Write) → plan_behind ws None ≡ None
-none_behind [] = refl
-none_behind (w ∷ ws) = none_behind ws
-
 -- bytes as a fill give themselves
 fills_itself : (fill : List ℕ) → cycled fill (length fill) ≡ fill
 fills_itself fill =

@@ -1,10 +1,10 @@
 -- What a node alone answers to all that comes to it is the run of `end`.
-use Rattle.std.proofs.Common.{◌≡◌, ℕ, ◌+◌, ◌<◌, length, take, get_or, Bool, true, false, cond, List, [], ◌∷◌, ◌++◌, reverse, refl, sym, ap, ◌∙◌}
-use Rattle.std.proofs.Common.{append_assoc, append-nil}
+use Rattle.std.proofs.Common.{◌≡◌, ℕ, ◌+◌, ◌<◌, Bool, true, false, cond, List, [], ◌∷◌, ◌++◌, reverse, refl, sym, ap, ◌∙◌}
+use Rattle.std.proofs.Common.{append_assoc}
 use Rattle.std.specs.Prelude.{Option, Some, None, is_none, is_some}
 use Rattle.std.specs.List.{flat_map}
 use Rattle.std.proofs.lemmas.Bool.{true≢false}
-use Rattle.std.proofs.lemmas.List.{reverse-append, take_more}
+use Rattle.std.proofs.lemmas.List.{reverse-append}
 use Rattle.node_machine.specs.Parts.{Running}
 use Rattle.link_laws.specs.machine.Machine.{LinkInput}
 use Rattle.lone_laws.specs.alone.Lone.{Lone, LoneCause, lone_input, lone_step, lone_events, lone_after, does_by_power, does_with_input}
@@ -110,13 +110,3 @@ bytes_on form number (b ∷ first) bytes older =
     (sym (append_assoc (reverse first) (b ∷ []) older) ∙ ap (λ z. z ++ older) (sym (reverse-append (b ∷ []) first)))
     ∙ sym (append_assoc (byte_brings form number b older) (bytes_bring form number (b ∷ older) first)
     (bytes_bring form number (reverse (b ∷ first) ++ older) bytes)))
-
--- one byte more comes
-pub one_on : (form : EndForm) (number : ℕ) (bytes older : List ℕ) (i : ℕ) → i < length bytes
-    → bytes_bring form number older (take (i + 1) bytes)
-    ≡ bytes_bring form number older (take i bytes) ++ byte_brings form number (get_or bytes i 0) (reverse (take i bytes) ++ older)
-one_on form number bytes older i within =
-    ap (bytes_bring form number older) (take_more bytes i 0 within)
-    ∙ (bytes_on form number (take i bytes) (get_or bytes i 0 ∷ []) older
-    ∙ ap (λ z. bytes_bring form number older (take i bytes) ++ z)
-    (append-nil (byte_brings form number (get_or bytes i 0) (reverse (take i bytes) ++ older))))
