@@ -7,15 +7,14 @@ use Rattle.std.proofs.lemmas.List.Concat.{flat_map-append}
 use Rattle.swp_lpdu.specs.Controls.{control_of}
 use Rattle.swp_decode.specs.declared.line.Wire.TheVariants.{S1, S2}
 use Rattle.swp_decode.specs.Frames.{record_frames, frames_told, frame_given}
-use Rattle.swp_decode.specs.Kept.{DecoderStandsFor}
 use Rattle.tap_reading.specs.Tap.{TapReport, new_tap, tap_after, tapped_from, tapped}
 use Rattle.tap_reading.specs.Lpdus.{frame_read, frames_read, tapped_lpdus}
-use Rattle.swp_tap.specs.Hearing.{TapValue, StandsFor}
+use Rattle.swp_tap.specs.Hearing.{TapValue}
 use Rattle.swp_tap.proofs.Hearing.{tapped-append}
 use Rattle.swp_words.specs.declared.tapping.Tapping.{Tapping}
-use Rattle.swp_words.specs.Records.{IsGathered, IsFront}
+use Rattle.swp_words.specs.Records.{IsFront}
 use Rattle.swp_words.specs.Taps.{report_line, report_lines, IsTapping}
-use Rattle.swp_words.proofs.Recording.{newest, front_further, nothing_gathered}
+use Rattle.swp_words.proofs.Recording.{newest, front_further}
 
 -- how many bytes were read
 pub count_heard : {bare tells : Bool} {t : Tapping} {earlier bytes before after : List ℕ} → IsTapping bare tells t earlier bytes before after
@@ -74,18 +73,6 @@ front_of_frames {tells} {least} {before} {after} bare frames more rest all front
     subst (λ l. IsFront tells least (report_lines bare l) before after) is (front_of_more bare (frames ++ more) rest front longer)
 
 -- ## A tap
-
--- before the first byte
-pub nothing_heard : (bare tells : Bool) (t : Tapping) (before : List ℕ) → DecoderStandsFor t.decoder [] → t.text.items ≡ [] → t.tap.bare ≡ bare
-    → StandsFor t.tap [] → IsTapping bare tells t [] [] before before
-nothing_heard bare tells t before stands none is heard = record {
-  decoder = stands;
-  heard = record {
-    bare_is = is;
-    stands = heard;
-    lines = subst (λ l. IsGathered tells l 0 [] before before) (sym none) (nothing_gathered tells before);
-  };
-}
 
 -- the frames of a record with one byte more
 pub byte_frames : (read : List ℕ) (byte : ℕ)

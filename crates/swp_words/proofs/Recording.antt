@@ -1,5 +1,5 @@
 -- What a command that reads a line record has written and gathered.
-use Rattle.std.proofs.Common.{◌≡◌, ℕ, ◌+◌, ◌≤◌, arith, inr, Bool, true, false, IsTrue, List, [], ◌∷◌, ◌++◌, length, take, min, refl, sym, ap, ◌∙◌, append_assoc}
+use Rattle.std.proofs.Common.{◌≡◌, ℕ, ◌+◌, ◌≤◌, arith, Bool, true, false, IsTrue, List, [], ◌∷◌, ◌++◌, length, take, min, refl, sym, ap, ◌∙◌, append_assoc}
 use Rattle.std.proofs.Common.{subst, inl}
 use Rattle.std.specs.Prelude.{reverse, nat_lt, if◌then◌else◌, Result, Ok, Err, OnErr, OnOk, IfOk}
 use Rattle.std.proofs.lemmas.List.{append-nil, reverse-append, length-reverse, length-append, take-append-le, take_min}
@@ -11,16 +11,12 @@ use Rattle.swp_decode.specs.declared.line.Wire.TheVariants.{S1, S2}
 use Rattle.swp_decode.specs.Kept.{DecoderStandsFor}
 use Rattle.swp_words.specs.declared.status.Status.{Status}
 use Rattle.swp_words.specs.declared.status.Status.TheVariants as status
-use Rattle.swp_words.specs.Records.{most_bytes, piece_of, whole_record, IsGathered, IsFront, IsFrontOfSome, IsFrontOfWhole, IsBrokenOff}
+use Rattle.swp_words.specs.Records.{most_bytes, piece_of, whole_record, IsGathered, IsFront}
 use Rattle.swp_words.specs.Records.{EndedIn, RecordedBy, HasRecorded}
 use Rattle.swp_words.specs.Decodings.{IsDecoding}
 use Rattle.swp_words.proofs.Taken.{behind}
 
 -- ## Text that is gathered
-
--- before the first byte
-pub nothing_gathered : (tells : Bool) (before : List ℕ) → IsGathered tells [] 0 [] before before
-nothing_gathered tells before = record { written = []; after_is = λ told. sym (append-nil before); text_is = refl; enough = omega arith }
 
 -- no more had to be written than there is
 pub enough_text : {tells : Bool} {gathered : List ℕ} {least : ℕ} {text before after : List ℕ} → IsGathered tells gathered least text before after
@@ -47,12 +43,6 @@ written_out {tells} {gathered} none {least} {text} {before} {was} {after} h is w
   text_is = ap (λ l. (h.written ++ gathered) ++ l) is ∙ (append-nil (h.written ++ gathered) ∙ h.text_is);
   enough = omega (arith, ap length h.text_is);
 }
-
--- less had to be written
-pub lessened : {tells : Bool} {gathered : List ℕ} {most least : ℕ} {text before after : List ℕ} → IsGathered tells gathered most text before after
-    → least ≤ most
-    → IsGathered tells gathered least text before after
-lessened h few = record { written = h.written; after_is = h.after_is; text_is = h.text_is; enough = omega (arith, h.enough, few) }
 
 -- more is gathered
 pub more_gathered : {tells : Bool} {gathered : List ℕ} (now more : List ℕ) {least : ℕ} {text before after : List ℕ}
@@ -92,10 +82,6 @@ pub on_err : {T E : Type 0} (P : Type 0) (r : Result T E) → P → OnErr r P
 on_err P (Ok x) h = tt
 on_err P (Err e) h = h
 
-pub on_ok : {T E : Type 0} (P : Type 0) (r : Result T E) → P → OnOk r P
-on_ok P (Ok x) h = h
-on_ok P (Err e) h = tt
-
 -- where one thing follows from another, it does so of an error and of what is none
 pub map_err : {T E : Type 0} (P Q : Type 0) (r : Result T E) → (P → Q) → OnErr r P → OnErr r Q
 map_err P Q (Ok x) f h = h
@@ -122,11 +108,6 @@ piece_fits count len h = by_room (nat_lt most_bytes (count + 8192)) h where
   by_room true few = omega (arith, few)
   by_room false few = few
 
--- a front of the lines of some bytes
-pub front_of_some : {lines : List ℕ → List ℕ} {tells : Bool} {earlier before after : List ℕ} (bytes rest : List ℕ)
-    → IsFront tells (length (lines earlier)) (lines bytes) before after → IsFrontOfSome lines tells earlier (bytes ++ rest) before after
-front_of_some bytes rest front = record { bytes = bytes; rest = rest; input_is = refl; front = front }
-
 -- how reading a piece ended, said of the whole: the piece comes behind earlier bytes, and before what is left
 pub ended_in : (lines : List ℕ → List ℕ) (tells : Bool) (given : ℕ) (why : Status) (earlier : List ℕ) {input : List ℕ} (piece left before after : List ℕ)
     → input ≡ earlier ++ (piece ++ left) → length piece ≤ 8192 → length piece ≤ given
@@ -144,18 +125,6 @@ ended_in lines tells given (status.Undetected line) earlier piece left before af
 ended_in lines tells given status.NvFault earlier piece left before after is few at_once h = absurd h
 ended_in lines tells given (status.BadImage why) earlier piece left before after is few at_once h = absurd h
 
--- a write failed behind the end of the input: the lines of all of it had been written
-pub broken_off_at_end : (lines : List ℕ → List ℕ) (tells : Bool) (given : ℕ) (input before after : List ℕ) → length input ≤ 16777216
-    → IsFront tells (length (lines input)) (whole_record lines input) before after → IsBrokenOff lines tells given input [] before after
-broken_off_at_end lines tells given input before after few front = record {
-  earlier = input;
-  piece = [];
-  input_is = sym (append-nil input);
-  few = omega arith;
-  at_once = omega arith;
-  front = inr (refl, subst (λ l. IsFrontOfWhole lines tells input l before after) (sym (append-nil input)) (record { few = few; front = front }));
-}
-
 -- before the first byte
 pub nothing_recorded : (tells : Bool) (lines : List ℕ → List ℕ) (reads : List ℕ → Type 0) (count : ℕ) (input before : List ℕ) → reads []
     → count ≡ 0 → lines [] ≡ []
@@ -169,12 +138,6 @@ nothing_recorded tells lines reads count input before none zero no_lines = recor
 }
 
 -- ## Decodings
-
--- before the first byte
-pub nothing_decoded : (tells : Bool) (d : Decoding) (before : List ℕ) → DecoderStandsFor d.decoder [] → d.text.items ≡ []
-    → IsDecoding tells d [] [] before before
-nothing_decoded tells d before stands none =
-    record { stands = stands; lines = subst (λ l. IsGathered tells l 0 [] before before) (sym none) (nothing_gathered tells before) }
 
 -- a step adds the lines of its byte
 pub step_decodes : {tells : Bool} (e : Decoding) (byte : ℕ) {earlier before after : List ℕ} (bytes gathered : List ℕ)
