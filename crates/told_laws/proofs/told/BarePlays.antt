@@ -63,4 +63,5 @@ module _ (header : Header) (is : IsHeader header) where
       let said = most.said in
       let rounds = most.rounds in
       told_in header lines t
-      (bare_lines header is.bare lines (lines_may_be_played header (inl is) (hosts_stay_behind header) plays may)) is follows (omega (arith, same, cost, said, rounds))
+      (bare_lines header is.bare lines (lines_may_be_played header (inl is) (hosts_stay_behind header) plays may)) is follows
+      (omega (arith, same, cost, said, rounds))
