@@ -1,6 +1,8 @@
 -- A node that has booted runs.
-use Rattle.std.proofs.Common.{◌≡◌, ◌≢◌, ℕ, ◌+◌, ◌≤◌, List, [], ◌∷◌, map, length, refl, sym, ap, subst, arith}
+use Rattle.std.proofs.Common.{◌≡◌, ◌≢◌, ℕ, zero, suc, ◌+◌, ◌≤◌, List, [], ◌∷◌, map, length, refl, sym, ap, subst, arith}
+use Rattle.std.specs.Prelude.{◌==◌, false}
 use Rattle.std.specs.List.{AllByRecursion}
+use Rattle.std.proofs.lemmas.Bool.{ne_eqb}
 use Rattle.link_laws.specs.messages.Links.{IsClf, IsUicc}
 use Rattle.swp_base.specs.declared.link_terms.Role.{Role as Named}
 use Rattle.swp_base.specs.declared.link_terms.Role.TheVariants.{Bare, Clf, Uicc}
@@ -10,9 +12,11 @@ use Rattle.node_ends.specs.Ends.{EndsStandFor, AreOfHosts}
 use Rattle.node_ends.specs.Making.{new_port}
 use Rattle.node_core.specs.declared.node.Node.{Node}
 use Rattle.node_core.specs.Nodes.{IsUsable}
-use Rattle.node_core.specs.Booting.{BeginsAs}
+use Rattle.gate_admin.specs.View.{has, hosts_where}
+use Rattle.node_core.specs.Booting.{BeginsAs, role_at, hosts_linked}
 use Rattle.node_core.specs.Turning.{HasOwnLink, HaveOwnRoles, AreAtMostDue}
 use Rattle.node_core.specs.Running.{RunsAs, AreInTime, AreHeldWhileOneWaits, between, core_kept}
+use Rattle.node_core.proofs.Masks.{hosts_within, links_within}
 
 one_few : (role : Named) (h : ℕ) → length (new_port role h).side.acts + length (new_port role h).side.shdlc.due ≤ 5
 one_few Bare h = omega arith
@@ -44,14 +48,14 @@ new_uiccs [] = tt
 new_uiccs (h ∷ hosts) = (tt, new_uiccs hosts)
 
 -- the new ends of a controller, and those of a host
-pub clf_roles : (node : ℕ) (hosts : List ℕ) → node ≡ 0 → HaveOwnRoles node (map (new_port Clf) hosts)
+clf_roles : (node : ℕ) (hosts : List ℕ) → node ≡ 0 → HaveOwnRoles node (map (new_port Clf) hosts)
 clf_roles node hosts none = record { clf = λ zero. new_clfs hosts; uicc = λ some. absurd (some none) }
 
-pub uicc_roles : (node : ℕ) (hosts : List ℕ) → node ≢ 0 → HaveOwnRoles node (map (new_port Uicc) hosts)
+uicc_roles : (node : ℕ) (hosts : List ℕ) → node ≢ 0 → HaveOwnRoles node (map (new_port Uicc) hosts)
 uicc_roles node hosts some = record { clf = λ zero. absurd (some zero); uicc = λ other. new_uiccs hosts }
 
 -- a node with new ends, whose links are in order
-pub new_runs : {N : Type 0} (n : Node N) (number : ℕ) (role : Named) (hosts : List ℕ) → BeginsAs number role hosts n → IsUsable n.store
+new_runs : {N : Type 0} (n : Node N) (number : ℕ) (role : Named) (hosts : List ℕ) → BeginsAs number role hosts n → IsUsable n.store
     → AreOfHosts (map (new_port role) hosts) → HasOwnLink n.number (map (new_port role) hosts) → HaveOwnRoles n.number (map (new_port role) hosts)
     → RunsAs n (core_kept n) (map (new_port role) hosts)
 new_runs n number role hosts b usable of own roles =
@@ -67,3 +71,29 @@ new_runs n number role hosts b usable of own roles =
       in_time = new_in_time role hosts;
       held = new_held role hosts;
     }
+
+some_number : (k : ℕ) → (suc k == 0) ≡ false
+some_number k = ne_eqb (suc k) 0 (λ e. omega (arith, e))
+
+-- the controller with links to the hosts of a mask, or a host with the link of its number
+pub linked_runs : {N : Type 0} (n : Node N) (number mask : ℕ) → number ≤ 7 → BeginsAs number (role_at number) (hosts_linked number mask) n
+    → IsUsable n.store → RunsAs n (core_kept n) (map (new_port (role_at number)) (hosts_linked number mask))
+linked_runs n zero mask low b usable =
+    let hosts : List ℕ = hosts_where (has mask) in
+    new_runs n 0 Clf hosts b usable (links_within Clf hosts (hosts_within (has mask))) (λ some. absurd (some b.number_is))
+    (clf_roles n.number hosts b.number_is)
+linked_runs n (suc k) mask low b usable =
+    let none = some_number k in
+    let begins = rw none at b in
+    let same = begins.number_is in
+    rw (none) (new_runs n (suc k) Uicc (suc k ∷ []) begins usable ((omega arith, low), tt) (λ some. ap (λ (h : ℕ). h ∷ []) (sym same))
+    (uicc_roles n.number (suc k ∷ []) (λ zero. omega (arith, same, zero))))
+
+-- a host has the link of its number
+pub host_role : (h : ℕ) → 1 ≤ h → role_at h ≡ Uicc
+host_role zero some = absurd (omega (arith, some))
+host_role (suc k) some = rw (some_number k) refl
+
+pub host_linked : (h mask : ℕ) → 1 ≤ h → hosts_linked h mask ≡ h ∷ []
+host_linked zero mask some = absurd (omega (arith, some))
+host_linked (suc k) mask some = rw (some_number k) refl

@@ -1,10 +1,12 @@
--- The hosts of a mask are those from 01 to 07, each once.
+-- The hosts to which a node has links are from 01 to 07, each once.
 use Rattle.std.proofs.Common.{◌≡◌, ◌≢◌, ℕ, zero, suc, ◌+◌, ◌≤◌, ◌<◌, Bool, true, false, List, [], ◌∷◌, map, refl, arith}
+use Rattle.std.specs.Prelude.{◌==◌, if◌then◌else◌}
 use Rattle.std.specs.List.{AllByRecursion, filter, range_with_len}
 use Rattle.swp_base.specs.declared.link_terms.Role.{Role as Named}
-use Rattle.gate_admin.specs.View.{hosts_where}
+use Rattle.gate_admin.specs.View.{has, hosts_where}
 use Rattle.node_ends.specs.Ends.{AreOfHosts}
 use Rattle.node_ends.specs.Making.{AreAllDifferent, new_port}
+use Rattle.node_core.specs.Booting.{hosts_linked}
 
 kept_all : (P : ℕ → Type 0) (test : ℕ → Bool) (xs : List ℕ) → AllByRecursion P xs → AllByRecursion P (filter test xs)
 kept_all P test [] all = tt
@@ -46,3 +48,10 @@ hosts_within test = kept_all (λ g. (1 ≤ g) × (g ≤ 7)) test (range_with_len
 pub links_within : (role : Named) (hosts : List ℕ) → AllByRecursion (λ (g : ℕ). (1 ≤ g) × (g ≤ 7)) hosts → AreOfHosts (map (new_port role) hosts)
 links_within role [] all = tt
 links_within role (h ∷ hosts) all = (all.0, links_within role hosts all.1)
+
+pub linked_differ : (number mask : ℕ) → AreAllDifferent (hosts_linked number mask)
+linked_differ number mask = by (number == 0)
+  where
+    by : (b : Bool) → AreAllDifferent (if b then hosts_where (has mask) else number ∷ [])
+    by true = hosts_differ (has mask)
+    by false = (tt, tt)

@@ -1,7 +1,8 @@
 -- A boot of a node: what it finds in its memory, whatever stands there, and what a boot that is refused leaves.
-use Rattle.std.specs.Prelude.{◌≡◌, ◌≢◌, ◌⊎◌, ℕ, Bool, List, map, false, Some, None, IsTrue}
+use Rattle.std.specs.Prelude.{◌≡◌, ◌≢◌, ◌==◌, ◌⊎◌, ℕ, Bool, List, [], ◌∷◌, map, if◌then◌else◌, false, Some, None, IsTrue}
 use Rattle.swp_base.specs.Outside.{Rose}
 use Rattle.swp_base.specs.declared.link_terms.Role.{Role as Named}
+use Rattle.swp_base.specs.declared.link_terms.Role.TheVariants.{Clf, Uicc}
 use Rattle.nv_journal.specs.declared.JournalFault.{JournalFault}
 use Rattle.nv_journal.specs.declared.JournalFault.TheVariants.{NvFault, GenerationsSpent}
 use Rattle.nv_journal.specs.Refusals.{IsImageFault}
@@ -10,6 +11,7 @@ use Rattle.hci_store.specs.Refusals.{IsSpent, IsOnlyRead}
 use Rattle.hci_store.specs.Stored.{FindsSame}
 use Rattle.journal_laws.specs.Writes.{AreRead}
 use Rattle.hci_store.specs.Starting.{ready_state, ready_writes, HasWritten}
+use Rattle.gate_admin.specs.View.{has, hosts_where}
 use Rattle.node_machine.specs.Parts.{Running}
 use Rattle.node_machine.specs.Node.{found}
 use Rattle.node_ends.specs.Ends.{EndsStandFor}
@@ -23,6 +25,14 @@ use Rattle.node_core.specs.declared.booting.BootFault.TheVariants.{NoMemory, Jou
 abbrev pub found_in_memory : ℕ → List ℕ → List ℕ → Running
 found_in_memory node hosts content =
     let r : Running = found node hosts content in record r { core = record r.core { journal = ready_state content } }
+
+-- the role of a node's ends: the CLF's at the controller, the UICC's at a host
+abbrev pub role_at : ℕ → Named
+role_at number = if number == 0 then Clf else Uicc
+
+-- the hosts to which a node has links: the controller to those of a mask, a host to itself
+abbrev pub hosts_linked : ℕ → ℕ → List ℕ
+hosts_linked number mask = if number == 0 then hosts_where (has mask) else number ∷ []
 
 -- a node as it begins, with new ends of the links with these hosts
 pub record BeginsAs {N : Type 0} (number : ℕ) (role : Named) (hosts : List ℕ) (n : Node N) : Type 0 where

@@ -1,25 +1,23 @@
-//! A controller: a node with a link to each of its hosts, and the buffer in which it reads a message.
-use crate::booting::{BootFault, BootRefused};
-use crate::hosts::hosts_of;
+//! A controller: a node that runs with a link to each of its hosts.
+use crate::booting::BootRefused;
 use crate::inputs::NodeInput;
-use crate::node::{MESSAGE, Node};
-use crate::running::{Ran, Stepped};
+use crate::running::Ran;
+use crate::running_node::RunningNode;
 use arrayvec::ArrayVec;
 use hci_store::Store;
 use link_end::ResetRefused;
 use node_ends::LinkInput;
 use std::alloc::Global;
 use std::marker::Model;
-use swp_base::{Control, Lpdu, MemNv, Nv, Role};
-use swp_lpdu::{LpduFault, read_lpdu};
+use swp_base::{Lpdu, MemNv, Nv};
+use swp_lpdu::read_lpdu;
 use trace_model::Watch;
 
-/// A controller that runs, a host controller of ETSI TS 102 622, section 4.2. Contracts see it as its node: the buffer keeps nothing from
-/// one call to the next. Its calls are this project's own.
+/// A controller that runs, a host controller of ETSI TS 102 622, section 4.2. Contracts see it as its node. Its calls are
+/// this project's own.
 #[derive(Drop)]
 pub struct Controller<N: Nv + Drop> {
-    node: Node<N>,
-    buffer: Box<[u8; MESSAGE]>,
+    node: RunningNode<N>,
 }
 
 impl<N: Nv + Drop> Model for Controller<N> {
@@ -49,7 +47,7 @@ impl<N: Nv + Drop> Controller<N> {
     ghost use Rattle.node_machine.specs.Carrying.{port_at, with_port};
     ghost use Rattle.node_machine.specs.Node.{steps};
     ghost use Rattle.node_machine.specs.Node.NodeInput.{AtEnd, TimePasses};
-    ghost use Rattle.node_ends.specs.Ends.{has_sent, frame_at, are_at_rest, HasNoneDue};
+    ghost use Rattle.node_ends.specs.Ends.{has_sent, frame_at, are_at_rest};
     ghost use Rattle.node_ends.specs.Making.{new_port};
     ghost use Rattle.node_core.specs.Booting.{found_in_memory, IsBootRefused};
     ghost use Rattle.node_core.specs.Bringing.{Brings};
@@ -76,15 +74,8 @@ impl<N: Nv + Drop> Controller<N> {
         ensures count { IfOk result (λ c. N.faults nv ≤ N.faults c.store.journal.nv) }
         ensures refused { IfErr result (λ e. IsBootRefused N.reads N.writes N.faults N.tells N.content nv e.nv e.fault) }
     {
-        let Ok(buffer) = Box::new(alloc, [0; MESSAGE]) else {
-            return Err(BootRefused {
-                nv,
-                fault: BootFault::NoMemory,
-            });
-        };
-        let hosts = hosts_of(hosts);
-        match Node::boot(alloc, 0, Role::Clf, hosts.as_slice(), nv) {
-            Ok(node) => Ok(Controller { node, buffer }),
+        match RunningNode::boot(alloc, 0, hosts, nv) {
+            Ok(node) => Ok(Controller { node }),
             Err(refused) => Err(refused),
         }
     }
@@ -97,34 +88,13 @@ impl<N: Nv + Drop> Controller<N> {
         ensures count { N.faults self.old.store.journal.nv ≤ N.faults self.new.store.journal.nv }
         ensures rose { result ≡ Ran.Stopped → Rose (N.faults self.old.store.journal.nv) (N.faults self.new.store.journal.nv) }
     {
-        self.take_step(host, &read_lpdu(lpdu), watch).ran
-    }
-
-    /// What an LPDU says is taken from the link with this host, as `take` takes the LPDU. The answer says, too, whether the end of the link
-    /// became active.
-    pub fn take_step<W: Watch>(
-        &mut self,
-        host: u8,
-        read: &Result<Control, LpduFault>,
-        watch: &mut W,
-    ) -> Stepped
-        requires may { MayStep self.old }
-        requires read { (lpdu : List ℕ) × (read.now ≡ control_of lpdu) }
-        ensures stepped { (start : List Noted) (w : Work) (lpdu : List ℕ) → BeginsStep self.old (W.noted watch.old) (W.is_short watch.old) start w
-            → read.now ≡ control_of lpdu → Brings N.writes self.old.store.journal.nv self.new.store.journal.nv
-            (HasStepped self.new (W.noted watch.new) (W.is_short watch.new) start) (steps (AtEnd host (lpdu_input lpdu))) w }
-        ensures active { (start : List Noted) (w : Work) (lpdu : List ℕ) → BeginsStep self.old (W.noted watch.old) (W.is_short watch.old) start w
-            → read.now ≡ control_of lpdu → result.became_active ≡ becomes_active_by (lpdu_input lpdu) (port_at w.ports host) }
-        ensures ran { result.ran ≡ ran_so self.new.store.journal.live }
-        ensures count { N.faults self.old.store.journal.nv ≤ N.faults self.new.store.journal.nv }
-        ensures rose { result.ran ≡ Ran.Stopped → Rose (N.faults self.old.store.journal.nv) (N.faults self.new.store.journal.nv) }
-    {
+        let read = read_lpdu(lpdu);
         let input = NodeInput::At {
             host,
-            what: LinkInput::Frame(read),
+            what: LinkInput::Frame(&read),
         };
-        let stepped = self.node.step(input, &mut self.buffer, watch);
-        stepped.unwrap()
+        let stepped = self.node.step(input, watch);
+        stepped.unwrap().ran
     }
 
     /// A tick passes at all links. Every frame of the step before was fetched.
@@ -135,7 +105,7 @@ impl<N: Nv + Drop> Controller<N> {
         ensures count { N.faults self.old.store.journal.nv ≤ N.faults self.new.store.journal.nv }
         ensures rose { result ≡ Ran.Stopped → Rose (N.faults self.old.store.journal.nv) (N.faults self.new.store.journal.nv) }
     {
-        let stepped = self.node.step(NodeInput::Tick, &mut self.buffer, watch);
+        let stepped = self.node.step(NodeInput::Tick, watch);
         stepped.unwrap().ran
     }
 
@@ -166,7 +136,7 @@ impl<N: Nv + Drop> Controller<N> {
             host,
             what: LinkInput::Reset(window),
         };
-        let stepped = match self.node.step(input, &mut self.buffer, watch) {
+        let stepped = match self.node.step(input, watch) {
             Ok(stepped) => stepped,
             Err(why) => return Err(why),
         };
@@ -187,7 +157,7 @@ impl<N: Nv + Drop> Controller<N> {
             host,
             what: LinkInput::Start(power as u16),
         };
-        let stepped = self.node.step(input, &mut self.buffer, watch);
+        let stepped = self.node.step(input, watch);
         stepped.unwrap().ran
     }
 
@@ -203,7 +173,7 @@ impl<N: Nv + Drop> Controller<N> {
             host,
             what: LinkInput::Stop,
         };
-        let stepped = self.node.step(input, &mut self.buffer, watch);
+        let stepped = self.node.step(input, watch);
         stepped.unwrap().ran
     }
 
@@ -228,16 +198,6 @@ impl<N: Nv + Drop> Controller<N> {
         self.node.next_out(host)
     }
 
-    /// Whether no frame is due to this host. False says nothing, as where the ends of other hosts stand otherwise than from 01 on.
-    #[inline(always)]
-    pub fn has_none_due(&self, host: u8) -> bool
-        requires runs { (core : Core) × (ports : List Port) × RunsAs self.now core ports }
-        ensures { (core : Core) (ports : List Port) (p : Port) → RunsAs self.now core ports → port_at ports host ≡ Some p → IsTrue result → HasNoneDue p.side }
-    {
-        self.node
-            .has_none_due(usize::from(host.saturating_sub(1)), host)
-    }
-
     /// Whether all its ends are at rest: none waits for the acceptance of a reset, and at each that is Up all messages that were sent in
     /// its session are acknowledged. This project's own.
     pub fn is_at_rest(&self) -> bool
@@ -259,7 +219,7 @@ impl<N: Nv + Drop> Controller<N> {
         ensures nv { result ≡ self.store.journal.nv }
         ensures size { N.capacity result ≡ 65536 }
     {
-        let Controller { node, buffer: _ } = self;
+        let Controller { node } = self;
         node.into_nv()
     }
 }

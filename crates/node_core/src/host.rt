@@ -1,25 +1,23 @@
-//! A host: a node with the link that has its number, and the buffer in which it reads a message.
-use crate::booting::{BootFault, BootRefused};
+//! A host: a node that runs with the link that has its number.
+use crate::booting::BootRefused;
 use crate::giving::HostRefused;
 use crate::inputs::NodeInput;
-use crate::node::{MESSAGE, Node};
 use crate::running::Ran;
+use crate::running_node::RunningNode;
 use arrayvec::ArrayVec;
 use hci_store::Store;
 use link_end::ResetRefused;
 use node_ends::LinkInput;
 use std::alloc::Global;
 use std::marker::Model;
-use swp_base::{Control, Lpdu, MemNv, Nv, Role};
-use swp_lpdu::{LpduFault, read_lpdu};
+use swp_base::{Lpdu, MemNv, Nv};
+use swp_lpdu::read_lpdu;
 use trace_model::Watch;
 
-/// A host that runs, of ETSI TS 102 622, section 4.2. Contracts see it as its node: the buffer keeps nothing from one call to the next. Its
-/// calls are this project's own.
+/// A host that runs, of ETSI TS 102 622, section 4.2. Contracts see it as its node. Its calls are this project's own.
 #[derive(Drop)]
 pub struct Host<N: Nv + Drop> {
-    node: Node<N>,
-    buffer: Box<[u8; MESSAGE]>,
+    node: RunningNode<N>,
 }
 
 impl<N: Nv + Drop> Model for Host<N> {
@@ -54,7 +52,7 @@ impl<N: Nv + Drop> Host<N> {
     ghost use Rattle.node_machine.specs.Node.NodeInput.{AtEnd, TimePasses};
     ghost use Rattle.node_machine.specs.world.World.{sending, beginning};
     ghost use Rattle.node_machine.specs.world.Lines.{if_waiting};
-    ghost use Rattle.node_ends.specs.Ends.{has_sent, frame_at, are_at_rest, HasNoneDue};
+    ghost use Rattle.node_ends.specs.Ends.{has_sent, frame_at, are_at_rest};
     ghost use Rattle.node_ends.specs.Making.{new_port};
     ghost use Rattle.node_core.specs.Booting.{found_in_memory, IsBootRefused};
     ghost use Rattle.node_core.specs.Bringing.{Brings};
@@ -86,14 +84,8 @@ impl<N: Nv + Drop> Host<N> {
         ensures count { IfOk result (λ h. N.faults nv ≤ N.faults h.store.journal.nv) }
         ensures refused { IfErr result (λ e. IsBootRefused N.reads N.writes N.faults N.tells N.content nv e.nv e.fault) }
     {
-        let Ok(buffer) = Box::new(alloc, [0; MESSAGE]) else {
-            return Err(BootRefused {
-                nv,
-                fault: BootFault::NoMemory,
-            });
-        };
-        match Node::boot(alloc, host, Role::Uicc, &[host], nv) {
-            Ok(node) => Ok(Host { node, buffer }),
+        match RunningNode::boot(alloc, host, 0, nv) {
+            Ok(node) => Ok(Host { node }),
             Err(refused) => Err(refused),
         }
     }
@@ -108,27 +100,13 @@ impl<N: Nv + Drop> Host<N> {
         ensures count { N.faults self.old.store.journal.nv ≤ N.faults self.new.store.journal.nv }
         ensures rose { result ≡ Ran.Stopped → Rose (N.faults self.old.store.journal.nv) (N.faults self.new.store.journal.nv) }
     {
-        self.take_read(&read_lpdu(lpdu), watch)
-    }
-
-    /// What an LPDU says is taken from the link, as `take` takes the LPDU.
-    pub fn take_read<W: Watch>(&mut self, read: &Result<Control, LpduFault>, watch: &mut W) -> Ran
-        requires may { MayStep self.old }
-        requires read { (lpdu : List ℕ) × (read.now ≡ control_of lpdu) }
-        ensures stepped { (start : List Noted) (w : Work) (lpdu : List ℕ) → BeginsStep self.old (W.noted watch.old) (W.is_short watch.old) start w
-            → read.now ≡ control_of lpdu → Brings N.writes self.old.store.journal.nv self.new.store.journal.nv
-            (HasStepped self.new (W.noted watch.new) (W.is_short watch.new) start) (steps (AtEnd self.old.number (lpdu_input lpdu))) w }
-        ensures number { self.new.number ≡ self.old.number }
-        ensures ran { result ≡ ran_so self.new.store.journal.live }
-        ensures count { N.faults self.old.store.journal.nv ≤ N.faults self.new.store.journal.nv }
-        ensures rose { result ≡ Ran.Stopped → Rose (N.faults self.old.store.journal.nv) (N.faults self.new.store.journal.nv) }
-    {
         let host = self.node.number();
+        let read = read_lpdu(lpdu);
         let input = NodeInput::At {
             host,
-            what: LinkInput::Frame(read),
+            what: LinkInput::Frame(&read),
         };
-        let stepped = self.node.step(input, &mut self.buffer, watch);
+        let stepped = self.node.step(input, watch);
         stepped.unwrap().ran
     }
 
@@ -141,7 +119,7 @@ impl<N: Nv + Drop> Host<N> {
         ensures count { N.faults self.old.store.journal.nv ≤ N.faults self.new.store.journal.nv }
         ensures rose { result ≡ Ran.Stopped → Rose (N.faults self.old.store.journal.nv) (N.faults self.new.store.journal.nv) }
     {
-        let stepped = self.node.step(NodeInput::Tick, &mut self.buffer, watch);
+        let stepped = self.node.step(NodeInput::Tick, watch);
         stepped.unwrap().ran
     }
 
@@ -173,7 +151,7 @@ impl<N: Nv + Drop> Host<N> {
     {
         let host = self.node.number();
         let input = NodeInput::At { host, what };
-        if let Err(why) = self.node.step(input, &mut self.buffer, watch) {
+        if let Err(why) = self.node.step(input, watch) {
             return Err(why);
         }
         Ok(())
@@ -257,17 +235,6 @@ impl<N: Nv + Drop> Host<N> {
         self.node.next_out(host)
     }
 
-    /// Whether no frame is due. False says nothing.
-    #[inline(always)]
-    pub fn has_none_due(&self) -> bool
-        requires runs { (core : Core) × (ports : List Port) × RunsAs self.now core ports }
-        ensures { (core : Core) (ports : List Port) (p : Port) → RunsAs self.now core ports → port_at ports self.now.number ≡ Some p
-            → IsTrue result → HasNoneDue p.side }
-    {
-        let host = self.node.number();
-        self.node.has_none_due(0, host)
-    }
-
     /// A message, which isn't empty, is sent on a pipe that isn't reserved (ETSI TS 102 622, section 5). Nothing is committed.
     ///
     /// # Errors
@@ -294,11 +261,7 @@ impl<N: Nv + Drop> Host<N> {
         ensures store { self.new.store ≡ self.old.store }
         ensures number { self.new.number ≡ self.old.number }
     {
-        if let Err(why) = self.node.give_step(pipe, message, watch) {
-            return Err(why);
-        }
-        self.node.end_step();
-        Ok(())
+        self.node.send(pipe, message, watch)
     }
 
     /// An init begins, with the identity that it is to set and at most eight pipes that it is to make: its first command is sent (ETSI TS
@@ -325,11 +288,7 @@ impl<N: Nv + Drop> Host<N> {
         ensures store { self.new.store ≡ self.old.store }
         ensures number { self.new.number ≡ self.old.number }
     {
-        if let Err(why) = self.node.init_step(identity, pipes, watch) {
-            return Err(why);
-        }
-        self.node.end_step();
-        Ok(())
+        self.node.init(identity, pipes, watch)
     }
 
     /// Whether its end is at rest: it doesn't wait for the acceptance of a reset, and where it is Up all messages that were sent in its
@@ -353,7 +312,7 @@ impl<N: Nv + Drop> Host<N> {
         ensures nv { result ≡ self.store.journal.nv }
         ensures size { N.capacity result ≡ 65536 }
     {
-        let Host { node, .. } = self;
+        let Host { node } = self;
         node.into_nv()
     }
 }

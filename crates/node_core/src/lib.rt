@@ -18,6 +18,7 @@ mod owing;
 mod relaying;
 mod reporting;
 mod running;
+mod running_node;
 mod syncing;
 mod timeouts;
 mod turns;
@@ -34,3 +35,4 @@ pub use running::{
     a_reset_of_an_end_that_became_active_is_not_refused, frames_of_a_node_go_out,
     numbers_of_sessions_are_not_kept,
 };
+pub use running_node::RunningNode;

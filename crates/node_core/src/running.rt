@@ -68,91 +68,11 @@ impl<N: Nv + Drop> Node<N> {
         }
     }
 
-    /// A frame on its way to the end of the link with this host was refused: one more for REC_ERROR (ETSI TS 102 622,
-    /// section 7.1), which stops at FFFF.
-    pub fn refused(&mut self, host: u8)
-        requires runs { (core : Core) × (ports : List Port) × RunsAs self.old core ports }
-        ensures runs { (core : Core) (ports : List Port) → RunsAs self.old core ports → RunsAs self.new core (with_port host one_more_error ports) }
-        ensures store { self.new.store ≡ self.old.store }
-        ensures number { self.new.number ≡ self.old.number }
-    {
-        self.ends.count_error(host);
-    }
 
-    /// Fetches the frame that the end of the link with this host is to send now; `None` where it has none to send.
-    #[inline(always)]
-    pub fn next_out(&mut self, host: u8) -> Option<Lpdu>
-        requires runs { (core : Core) × (ports : List Port) × RunsAs self.old core ports }
-        ensures answer { (core : Core) (ports : List Port) → RunsAs self.old core ports → result ≡ frame_at (port_at ports host) }
-        ensures read { (core : Core) (ports : List Port) (p : Port) → RunsAs self.old core ports → port_at ports host ≡ Some p
-            → IfSome (next_frame p.side) (λ c. control_of (lpdu_of c) ≡ Ok c) }
-        ensures runs { (core : Core) (ports : List Port) → RunsAs self.old core ports → RunsAs self.new core (with_port host has_sent ports) }
-        ensures store { self.new.store ≡ self.old.store }
-        ensures number { self.new.number ≡ self.old.number }
-    {
-        self.ends.next_out(host)
-    }
 
-    /// Whether no frame is due at the end of the link with this host, which is looked for at this place alone. False says nothing.
-    #[inline(always)]
-    pub fn has_none_due(&self, near: usize, host: u8) -> bool
-        requires runs { (core : Core) × (ports : List Port) × RunsAs self.now core ports }
-        ensures { (core : Core) (ports : List Port) (p : Port) → RunsAs self.now core ports → port_at ports host ≡ Some p → IsTrue result → HasNoneDue p.side }
-    {
-        let Some(there) = self.ends.host(near) else {
-            return false;
-        };
-        if there != host {
-            return false;
-        }
-        self.ends.is_idle(near)
-    }
 
-    /// Whether all its ends are at rest: none waits for the acceptance of a reset, and at each that is Up all messages that were sent in
-    /// its session are acknowledged. This project's own.
-    pub fn is_at_rest(&self) -> bool
-        requires runs { (core : Core) × (ports : List Port) × RunsAs self.now core ports }
-        ensures { (core : Core) (ports : List Port) → RunsAs self.now core ports → result ≡ are_at_rest ports }
-    {
-        self.ends.are_at_rest()
-    }
 
-    /// The tables, and the memory in which they are kept.
-    pub fn store(&self) -> &Store<N>
-        ensures { result.now ≡ self.now.store }
-    {
-        &self.store
-    }
 
-    /// The memory. It has 65,536 bytes.
-    pub fn into_nv(self) -> N
-        ensures nv { result ≡ self.store.journal.nv }
-        ensures size { N.capacity result ≡ 65536 }
-    {
-        let Node { store, .. } = self;
-        store.into_nv()
-    }
-}
-
-impl Node<MemNv> {
-    ghost use Rattle.std.specs.Prelude.{◌≡◌, ◌<◌, Some, List, length};
-    ghost use Rattle.node_machine.specs.Parts.{Core, Port};
-    ghost use Rattle.node_core.specs.Running.{RunsAs};
-
-    /// Plans that the `nth` write of the memory from now fails, where 1 is the next. Byte i of its range becomes byte i of `fill`,
-    /// modulo its length. An earlier plan is given up. Nothing else changes.
-    pub fn arm(&mut self, nth: u32, fill: ArrayVec<u8, 64>)
-        requires nth { 0 < nth }
-        requires fill { 0 < length fill.items }
-        ensures runs { (core : Core) (ports : List Port) → RunsAs self.old core ports → RunsAs self.new core ports }
-        ensures tables { self.new.store.tables ≡ self.old.store.tables }
-        ensures journal { self.new.store.journal ≡ record self.old.store.journal {
-          nv = record self.old.store.journal.nv { plan = Some (record { nth = nth; fill = fill.items }) };
-        } }
-        ensures number { self.new.number ≡ self.old.number }
-    {
-        self.store.arm(nth, fill);
-    }
 }
 
 /// A node between its steps keeps neither the numbers of sessions nor what was done to its ends in a step.

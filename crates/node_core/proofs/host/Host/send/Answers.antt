@@ -1,80 +1,10 @@
-use Rattle.std.proofs.Common.{◌≡◌, ◌≢◌, ◌≤◌, ◌&&◌, ℕ, List, ◌∙◌, ap, refl, sym, subst, arith}
-use Rattle.std.specs.Prelude.{Some, None, Result, Ok, Err, OnOk, option_map, is_some, ◌==◌}
-use Rattle.trace_model.specs.declared.entry.Entry.{Entry}
-use Rattle.link_laws.specs.machine.Machine.{give_refusal}
-use Rattle.node_machine.specs.Parts.{Port, Work}
-use Rattle.node_machine.specs.Carrying.{port_at, all_done}
-use Rattle.node_machine.specs.Controller.{is_command_message}
-use Rattle.node_machine.specs.world.World.{sending}
-use Rattle.node_machine.specs.world.Lines.{if_waiting}
-use Rattle.node_core.specs.declared.node.Node.{Node}
-use Rattle.node_core.specs.declared.giving.HostRefused.{HostRefused}
-use Rattle.node_core.specs.Nodes.{IsInStep}
-use Rattle.node_core.specs.Running.{RunsAs, HasStepped, between}
-use Rattle.node_core.specs.Giving.{refused_as, IsAsked}
-use Rattle.node_core.proofs.Between.{at_rest, rests_in_step, kept_at}
-use Rattle.node_core.proofs.Asking.{asked_in_step, has_sent_so}
 use Rattle.node_core.proofs.host.Host.send.Goals as goal
 
-some : (n : ℕ) → 1 ≤ n → n ≢ 0
-some n low none = omega (arith, low, none)
-
-ok_of : (r : Result (Unit {0}) HostRefused) → ((why : HostRefused) → r ≡ Err why → ⊥) → r ≡ Ok tt
-ok_of (Ok done) none = refl
-ok_of (Err why) none = absurd (none why refl)
-
-pub returns-in-Err-clause-refusal : goal.returns-in-Err-clause-refusal
-returns-in-Err-clause-refusal g c core ports p runs at =
-    let noted = g.W.Watch.noted c.args.watch.now in
-    let short = g.W.Watch.is_short c.args.watch.now in
-    let F : Node g.row.N.Denot → Type 0 = λ n. RunsAs n core ports → port_at ports n.number ≡ Some p
-    → refused_as (Err c.in-Err.why) ≡ if_waiting ((c.args.pipe == 1 && is_command_message c.args.message.now) && is_some core.command)
-    (give_refusal p.side (c.args.pipe, c.args.message.now)) in
-    let whole : F c.self.inside.node = λ r here. (
-    ap (λ (x : Result (Unit {0}) HostRefused). refused_as x) (sym c.in-Err.is)
-    ∙ c.give_step.ensures.refusal noted short noted (at_rest core ports) (between p) (rests_in_step noted short r)
-    (kept_at c.self.inside.node.number ports ∙ ap (option_map between) here)) in
-    subst F c.self.view_is whole runs at
+pub send-requires-clause-some : goal.send-requires-clause-some
+send-requires-clause-some g c = c.self.invariant
 
 pub returns-clause-refusal : goal.returns-clause-refusal
-returns-clause-refusal g c core ports p runs at =
-    let noted = g.W.Watch.noted c.args.watch.now in
-    let short = g.W.Watch.is_short c.args.watch.now in
-    let ok = ok_of c.give_step.result c.in_default.not-Err in
-    let F : Node g.row.N.Denot → Type 0 = λ n. RunsAs n core ports → port_at ports n.number ≡ Some p
-    → None ≡ if_waiting ((c.args.pipe == 1 && is_command_message c.args.message.now) && is_some core.command)
-    (give_refusal p.side (c.args.pipe, c.args.message.now)) in
-    let whole : F c.self.inside.node = λ r here. (
-    ap (λ (x : Result (Unit {0}) HostRefused). refused_as x) (sym ok)
-    ∙ c.give_step.ensures.refusal noted short noted (at_rest core ports) (between p) (rests_in_step noted short r)
-    (kept_at c.self.inside.node.number ports ∙ ap (option_map between) here)) in
-    subst F c.self.view_is whole runs at
+returns-clause-refusal g c = rw (← c.self.view_is) c.send.ensures.refusal
 
 pub returns-clause-given : goal.returns-clause-given
-returns-clause-given g c start w asked =
-    let t = c.give_step in
-    let ok = ok_of t.result c.in_default.not-Err in
-    let F : Node g.row.N.Denot → Type 0 = λ n. IsAsked n (g.W.Watch.noted c.args.watch.now) (g.W.Watch.is_short c.args.watch.now) start w
-    → HasStepped c.end_step.new.self (g.W.Watch.noted t.new.watch) (g.W.Watch.is_short t.new.watch) start
-    (all_done n.number (sending n.number (c.args.pipe, c.args.message.now)) w) in
-    let whole : F c.self.inside.node = λ a. by ok a in
-    subst F c.self.view_is whole asked
-  where
-    by : c.give_step.result ≡ Ok tt → IsAsked c.self.inside.node (g.W.Watch.noted c.args.watch.now) (g.W.Watch.is_short c.args.watch.now) start w
-        → HasStepped c.end_step.new.self (g.W.Watch.noted c.give_step.new.watch) (g.W.Watch.is_short c.give_step.new.watch) start
-        (all_done c.self.inside.node.number (sending c.self.inside.node.number (c.args.pipe, c.args.message.now)) w)
-    by ok a =
-        let t = c.give_step in
-        let e = c.end_step.ensures in
-        let nonzero = some c.self.inside.node.number c.self.invariant in
-        let taken : (p : Port) → port_at w.ports c.self.inside.node.number ≡ Some p
-        → None ≡ if_waiting ((c.args.pipe == 1 && is_command_message c.args.message.now) && is_some w.core.command)
-        (give_refusal p.side (c.args.pipe, c.args.message.now)) =
-        λ p at. ap (λ (x : Result (Unit {0}) HostRefused). refused_as x) (sym ok)
-        ∙ t.ensures.refusal (g.W.Watch.noted c.args.watch.now) (g.W.Watch.is_short c.args.watch.now) start w p (asked_in_step a) at in
-        let G : Result (Unit {0}) HostRefused → Type 0 = λ x. OnOk x ((start : List Entry) (w : Work)
-        → IsInStep c.self.inside.node (g.W.Watch.noted c.args.watch.now) (g.W.Watch.is_short c.args.watch.now) start w
-        → IsInStep t.new.self (g.W.Watch.noted t.new.watch) (g.W.Watch.is_short t.new.watch) start
-        (all_done c.self.inside.node.number (sending c.self.inside.node.number (c.args.pipe, c.args.message.now)) w)) in
-        let given = subst G ok t.ensures.given in
-        has_sent_so c.args.pipe c.args.message.now a nonzero taken (given start w (asked_in_step a)) t.ensures.store e.ended e.store e.number e.tasks
+returns-clause-given g c = rw (← c.self.view_is) c.send.ensures.given

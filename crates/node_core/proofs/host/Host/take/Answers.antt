@@ -1,7 +1,16 @@
+use Rattle.std.proofs.lemmas.Result.{IfOk-at_ok}
+use Rattle.node_core.proofs.SeenAsNode.{seen_may, never_refused}
 use Rattle.node_core.proofs.host.Host.take.Goals as goal
 
-pub take_read-requires-clause-read : goal.take_read-requires-clause-read
-take_read-requires-clause-read g c = (c.args.lpdu.now, c.read_lpdu.ensures.says)
+pub step-stepped-requires : goal.step-stepped-requires
+step-stepped-requires g c =
+    let m = seen_may c.self.view_is c.requires.may in (m.core, m.ports, m.runs, m.sent, (c.args.lpdu.now, c.read_lpdu-read.ensures.says))
+
+pub unwrap-requires : goal.unwrap-requires
+unwrap-requires g c =
+    let m = seen_may c.self.view_is c.requires.may in never_refused c.step-stepped.result (c.step-stepped.ensures.refusal m.core m.ports m.runs)
 
 pub returns-clause-stepped : goal.returns-clause-stepped
-returns-clause-stepped g c start w begins = c.take_read.ensures.stepped start w c.args.lpdu.now begins c.read_lpdu.ensures.says
+returns-clause-stepped g c =
+    let s = IfOk-at_ok _ c.unwrap.ensures c.step-stepped.ensures.stepped in
+    rw (← c.self.view_is) (λ start w begins. rw (← c.read_lpdu-read.ensures.says, ← c.number-host.ensures) (s start w begins))

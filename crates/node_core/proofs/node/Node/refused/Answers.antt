@@ -1,7 +1,0 @@
-use Rattle.std.proofs.Common.{map, refl}
-use Rattle.node_core.specs.Running.{between}
-use Rattle.node_core.proofs.Between.{refused_runs}
-use Rattle.node_core.proofs.node.Node.refused.Goals as goal
-
-pub returns-clause-runs : goal.returns-clause-runs
-returns-clause-runs g c core ports r = refused_runs c.args.host r (c.count_error.ensures (map between ports) r.ends) refl refl refl
