@@ -12,11 +12,14 @@ use block_pool::{Chain, NoRoom, Pool};
 use hcp_chain::MAX_MESSAGE;
 use link_messages::{Inbox, Outbox};
 use shdlc_core::{FragmentDue, LinkState, Shdlc};
-use std::alloc::{AllocError, Global};
+use std::alloc::Global;
 use swp_act::ActEvent;
-use swp_base::{Act, Cause, Control, Role};
+use swp_base::{Act, Cause, Control, Lpdu, NoMemory, Role};
+use swp_lpdu::{LpduFault, write_fragment, write_lpdu};
 
-/// One end of a link, from control frames to messages and back.
+/// One end of a link (ETSI TS 102 613), from what an LPDU says to messages and back: its activation, its SHDLC end, and the messages
+/// that it cuts and joins, which lie in the blocks of its node's pool. `LinkEnd` reads LPDUs, a line and a byte link for it. After it is
+/// made no call takes memory; no clause forces that.
 #[derive(Drop)]
 pub struct End {
     activation: Activation,
@@ -29,24 +32,23 @@ pub struct End {
 }
 
 impl End {
-    ghost use Rattle.std.specs.Prelude.{◌≡◌, ◌≢◌, ℕ, ◌+◌, ◌-◌, ◌<◌, ◌≤◌, [], map, length, true, false, None, Some, IfOk, IfErr, IfSome, OnOk, OnErr, is_some};
-    ghost use Rattle.std.specs.Prelude.{option_map, if◌then◌else◌, IsTrue, OnSome};
+    ghost use Rattle.std.specs.Prelude.{◌≡◌, ◌≢◌, ℕ, ◌+◌, ◌-◌, ◌<◌, ◌≤◌, [], List, map, length, true, false, None, Some, Ok, IfOk, IfErr, IfSome, OnOk, OnErr};
+    ghost use Rattle.std.specs.Prelude.{is_some, option_map, if◌then◌else◌, IsTrue, OnSome};
     ghost use Rattle.std.specs.Bool.{OnTrue, OnFalse};
     ghost use Rattle.shdlc_core.specs.Kept.{frame_shown};
-    ghost use Rattle.shdlc_core.specs.Offering.{StandsBefore};
     ghost use Rattle.shdlc_core.specs.Machine.{stopped, ticked, tick_answer};
     ghost use Rattle.block_pool.specs.Pool.{PoolState, used_of, chain_bytes};
     ghost use Rattle.hcp_packet.specs.Packets.{IsSendable};
+    ghost use Rattle.swp_lpdu.specs.Controls.{lpdu_of, control_of};
     ghost use Rattle.link_laws.specs.machine.Machine.{LinkEnd as Machine, moved, put_down, if_up, with_act, activated, heard, report, after_input, next_frame};
-    ghost use Rattle.link_laws.specs.machine.Machine.{is_held, is_open, oldest, new_link_end, in_front as due_in_front};
-    ghost use Rattle.link_laws.specs.machine.Machine.LinkInput.{Take, TakeUnknown, Reset, Start, Stop, FromNode, Fetch};
+    ghost use Rattle.link_laws.specs.machine.Machine.{lpdu_input, is_held, oldest, new_link_end, in_front as due_in_front};
+    ghost use Rattle.link_laws.specs.machine.Machine.LinkInput.{Take, Tick, Reset, Start, Stop, FromNode, Fetch};
     ghost use Rattle.link_laws.specs.machine.Machine.Turn.{Give, Hold, FetchMessage};
     ghost use Rattle.link_laws.specs.machine.AtRest.{end_rests};
     ghost use Rattle.link_end.specs.Roles.{role_of, new_role, MayStart};
     ghost use Rattle.link_end.specs.Reports.{report_told, nothing_told, act_told, heard_told, give_told, pass_told, reset_told, IsShdlc};
-    ghost use Rattle.link_messages.specs.Outgoing.{OutboxLiesIn, LeavesOthersBut, waiting_in};
+    ghost use Rattle.link_messages.specs.Outgoing.{OutboxLiesIn, LeavesOthersBut};
     ghost use Rattle.link_messages.specs.Incoming.{InboxLiesIn};
-    ghost use Rattle.link_end.specs.Dues.{kept_in_front};
     ghost use Rattle.link_end.specs.Ends.{IsFree, MayPass, Halfway, EndStandsFor, EndLeavesOthers, MayTake, Accounts, controls_in, IsFragmentNext};
     ghost use Rattle.link_end.specs.Inputs.{heard_bit};
     ghost use Rattle.link_end.specs.Idle.{IsIdle};
@@ -55,8 +57,9 @@ impl End {
     // The window that an end asks for, until a reset names another.
     const WINDOW: u8 = 4;
 
-    /// An end of this role, which is Up where it is bare, with an owner of 128 blocks for what it sends and one of 512 for what comes.
-    pub fn make(alloc: Global, role: Role, out_owner: u8, in_owner: u8) -> Result<End, AllocError>
+    /// An end of this role, with an owner of 128 blocks for what it sends and one of 512 for what comes. Its window is 4, and it is Up
+    /// where it is bare.
+    pub fn make(alloc: Global, role: Role, out_owner: u8, in_owner: u8) -> Result<End, NoMemory>
         ensures stands { IfOk result (λ k. (pool : PoolState) → IsFree pool out_owner in_owner → EndStandsFor k pool (new_link_end (new_role role))) }
         ensures owners { IfOk result (λ k. (k.outbox.owner ≡ out_owner) × (k.inbox.joiner.owner ≡ in_owner)) }
         ensures accounts { IfOk result (λ k. (pool : PoolState) → used_of pool in_owner ≡ 0 → Accounts k pool None) }
@@ -334,20 +337,22 @@ impl End {
         }
     }
 
-    /// Counts a frame whose LPDU is outside the grammar. Nothing else changes.
-    pub fn take_unknown(&mut self) -> LinkReport
-        ensures stands { (pool : PoolState) (m : Machine) → EndStandsFor self.old pool m → EndStandsFor self.new pool (after_input m TakeUnknown) }
-        ensures answer { (m : Machine) → result ≡ report_told (report m TakeUnknown) }
-        ensures boxes { (self.new.outbox ≡ self.old.outbox) × (self.new.inbox ≡ self.old.inbox) }
+    /// Takes what an LPDU says: a frame as `take` does; one outside the grammar is counted and changes nothing else. It asks for what
+    /// `take` asks for.
+    pub fn take_read(&mut self, pool: &mut Pool, read: &Result<Control, LpduFault>) -> LinkReport
+        requires stands { (m : Machine) × EndStandsFor self.old pool.old m }
+        requires ready { MayTake self.old pool.old }
+        requires room { controls_in self.old ≤ 6 }
+        ensures stands { (m : Machine) (lpdu : List ℕ) → EndStandsFor self.old pool.old m → read.now ≡ control_of lpdu
+            → EndStandsFor self.new pool.new (after_input m (lpdu_input lpdu)) }
+        ensures answer { (m : Machine) (lpdu : List ℕ) → EndStandsFor self.old pool.old m → read.now ≡ control_of lpdu
+            → result ≡ report_told (report m (lpdu_input lpdu)) }
+        ensures elsewhere { EndLeavesOthers pool.old pool.new self.old self.new }
     {
-        self.pass_over()
-    }
-
-    /// Whether frames of SHDLC are taken and sent.
-    pub fn is_open(&self) -> bool
-        ensures { result ≡ is_open (role_of self.now.activation) }
-    {
-        self.activation.is_open()
+        match read {
+            Ok(control) => self.take(pool, control),
+            Err(_fault) => self.pass_over(),
+        }
     }
 
     /// Whether nothing is under way: the end is open and Up, no control frame waits, and all fragments that were offered are acknowledged. A
@@ -365,10 +370,27 @@ impl End {
         self.shdlc.is_idle()
     }
 
-    /// One tick of an end that isn't open. At most six control frames wait to be fetched before.
+    /// One tick of time. At most six control frames wait to be fetched before.
+    #[inline(always)]
+    pub fn tick(&mut self, pool: &mut Pool) -> LinkReport
+        requires stands { (m : Machine) × EndStandsFor self.old pool.old m }
+        requires room { controls_in self.old ≤ 6 }
+        ensures stands { (m : Machine) → EndStandsFor self.old pool.old m → EndStandsFor self.new pool.new (after_input m Tick) }
+        ensures answer { (m : Machine) → EndStandsFor self.old pool.old m → result ≡ report_told (report m Tick) }
+        ensures elsewhere { EndLeavesOthers pool.old pool.new self.old self.new }
+    {
+        if !self.activation.is_open() {
+            // A place of its own for this rare report: the common one is then written only where it is read.
+            let report = self.tick_activation(pool);
+            return report;
+        }
+        self.tick_link(pool)
+    }
+
+    // One tick of an end that isn't open. At most six control frames wait to be fetched before.
     #[cold]
     #[inline(never)]
-    pub fn tick_activation(&mut self, pool: &mut Pool) -> LinkReport
+    fn tick_activation(&mut self, pool: &mut Pool) -> LinkReport
         requires stands { (m : Machine) × EndStandsFor self.old pool.old m }
         requires room { controls_in self.old ≤ 6 }
         ensures stands { (m : Machine) → EndStandsFor self.old pool.old m → EndStandsFor self.new pool.new (activated m ActEvent.Tick) }
@@ -378,8 +400,8 @@ impl End {
         self.event(pool, &ActEvent::Tick)
     }
 
-    /// One tick of an end that is open.
-    pub fn tick_link(&mut self, pool: &mut Pool) -> LinkReport
+    // One tick of an end that is open.
+    fn tick_link(&mut self, pool: &mut Pool) -> LinkReport
         requires stands { (m : Machine) × EndStandsFor self.old pool.old m }
         requires room { length self.old.shdlc.due < 8 }
         ensures stands { (m : Machine) → EndStandsFor self.old pool.old m
@@ -536,10 +558,46 @@ impl End {
         self.inbox.fetch()
     }
 
-    /// Whether no control frame waits to be fetched, ACT frames among them, and all fragments that were offered were sent: no frame is to
-    /// be sent then, and a fetch changes nothing. False says nothing.
+    /// Fetches the LPDU that is to be sent now: the control frames in the order in which they were made, ACT frames among them, and
+    /// then the fragments. None where nothing is to be sent.
     #[inline(always)]
-    pub fn has_none_due(&self) -> bool
+    pub fn next_out(&mut self, pool: &Pool) -> Option<Lpdu>
+        requires { (m : Machine) × EndStandsFor self.old pool.now m }
+        ensures stands { (m : Machine) → EndStandsFor self.old pool.now m → EndStandsFor self.new pool.now (after_input m Fetch) }
+        ensures answer { (m : Machine) → EndStandsFor self.old pool.now m → result ≡ option_map lpdu_of (next_frame m) }
+        ensures read { (m : Machine) → EndStandsFor self.old pool.now m → IfSome (next_frame m) (λ c. control_of (lpdu_of c) ≡ Ok c) }
+        ensures boxes { (self.new.outbox ≡ self.old.outbox) × (self.new.inbox ≡ self.old.inbox) }
+    {
+        // Most calls find nothing, since an end is asked until it has nothing more.
+        if self.has_none_due() {
+            return None;
+        }
+        self.next_due(pool)
+    }
+
+    // The same where something may be due.
+    fn next_due(&mut self, pool: &Pool) -> Option<Lpdu>
+        requires { (m : Machine) × EndStandsFor self.old pool.now m }
+        ensures stands { (m : Machine) → EndStandsFor self.old pool.now m → EndStandsFor self.new pool.now (after_input m Fetch) }
+        ensures answer { (m : Machine) → EndStandsFor self.old pool.now m → result ≡ option_map lpdu_of (next_frame m) }
+        ensures read { (m : Machine) → EndStandsFor self.old pool.now m → IfSome (next_frame m) (λ c. control_of (lpdu_of c) ≡ Ok c) }
+        ensures boxes { (self.new.outbox ≡ self.old.outbox) × (self.new.inbox ≡ self.old.inbox) }
+    {
+        if let Some(FragmentDue { ns, nr, info }) = self.fragment_due() {
+            let lpdu = write_fragment(ns, nr, info);
+            self.count_fragment();
+            return Some(lpdu);
+        }
+        let Some(control) = self.next_control() else {
+            return None;
+        };
+        Some(write_lpdu(&control))
+    }
+
+    // Whether no control frame waits to be fetched, ACT frames among them, and all fragments that were offered were sent: no frame is to
+    // be sent then, and a fetch changes nothing. False says nothing.
+    #[inline(always)]
+    fn has_none_due(&self) -> bool
         ensures { (pool : PoolState) (m : Machine) → EndStandsFor self.now pool m → IsTrue result
             → (next_frame m ≡ None) × EndStandsFor self.now pool (after_input m Fetch) }
     {
@@ -549,10 +607,10 @@ impl End {
         self.shdlc.has_none_due()
     }
 
-    /// The fragment that is to be sent next, with the numbers of its I frame, where no control frame waits to be fetched before it, ACT
-    /// frames among them. `count_fragment` counts it as sent: both together are what `next_out` does then. None where a control frame waits, or
-    /// where no fragment is to be sent.
-    pub fn fragment_due(&self) -> Option<FragmentDue<'_>>
+    // The fragment that is to be sent next, with the numbers of its I frame, where no control frame waits to be fetched before it, ACT
+    // frames among them. `count_fragment` counts it as sent: both together are what `next_control` does then. None where a control frame
+    // waits, or where no fragment is to be sent.
+    fn fragment_due(&self) -> Option<FragmentDue<'_>>
         ensures frame { (pool : PoolState) (m : Machine) → EndStandsFor self.now pool m → controls_in self.now ≡ 0
             → option_map frame_shown result ≡ next_frame m }
         ensures waits { controls_in self.now ≢ 0 → result ≡ None }
@@ -564,8 +622,8 @@ impl End {
         self.shdlc.fragment_due()
     }
 
-    /// The fragment that is to be sent next counts as sent. No control frame waits to be fetched.
-    pub fn count_fragment(&mut self)
+    // The fragment that is to be sent next counts as sent. No control frame waits to be fetched.
+    fn count_fragment(&mut self)
         requires { IsFragmentNext self.old }
         ensures stands { (pool : PoolState) (m : Machine) → EndStandsFor self.old pool m → EndStandsFor self.new pool (after_input m Fetch) }
         ensures boxes { (self.new.outbox ≡ self.old.outbox) × (self.new.inbox ≡ self.old.inbox) }
@@ -573,9 +631,8 @@ impl End {
         self.shdlc.count_fragment();
     }
 
-    /// Fetches the frame that is to be sent now: the control frames in the order in which they were made, ACT frames among them, and
-    /// then the fragments. None where nothing is to be sent.
-    pub fn next_out(&mut self) -> Option<Control>
+    // Fetches the frame that is to be sent now, as `next_out` does, before it is written as an LPDU.
+    fn next_control(&mut self) -> Option<Control>
         ensures stands { (pool : PoolState) (m : Machine) → EndStandsFor self.old pool m → EndStandsFor self.new pool (after_input m Fetch) }
         ensures answer { (pool : PoolState) (m : Machine) → EndStandsFor self.old pool m → result ≡ next_frame m }
         ensures boxes { (self.new.outbox ≡ self.old.outbox) × (self.new.inbox ≡ self.old.inbox) }

@@ -10,5 +10,6 @@ mod link;
 mod parts;
 mod report;
 
+pub use end::End;
 pub use link::LinkEnd;
 pub use report::{LinkReport, ResetRefused, SendRefused};

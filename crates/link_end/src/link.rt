@@ -6,12 +6,12 @@ use crate::end::End;
 use crate::report::{LinkReport, ResetRefused, SendRefused};
 use block_pool::{Chain, Pool};
 use byte_link::{ByteLink, Unit};
-use shdlc_core::{FragmentDue, LinkState};
+use shdlc_core::LinkState;
 use std::alloc::Global;
 use swp_base::{Control, FrameFault, Lpdu, NoMemory, Role};
 use swp_frame::{Deframer, Fed};
 use swp_line::{Period, period_of};
-use swp_lpdu::{LpduFault, read_lpdu, write_fragment, write_lpdu};
+use swp_lpdu::{LpduFault, read_lpdu};
 
 /// One end of a link (ETSI TS 102 613): its activation, its SHDLC end, and the messages that it cuts and joins, which lie in the
 /// blocks of its node's pool. After it is made no call takes memory; no clause forces that.
@@ -23,8 +23,7 @@ pub struct LinkEnd {
 }
 
 impl LinkEnd {
-    ghost use Rattle.std.specs.Prelude.{◌≡◌, ◌≢◌, ℕ, ◌≤◌, ◌∷◌, [], List, None, Ok, IfOk, IfErr, IfSome, OnOk, OnErr, OnSome, option_map, IsTrue};
-    ghost use Rattle.swp_base.specs.declared.link_terms.Role.{Role as Named};
+    ghost use Rattle.std.specs.Prelude.{◌≡◌, ℕ, ◌≤◌, ◌∷◌, [], List, None, Ok, IfOk, IfErr, IfSome, OnOk, OnErr, option_map, IsTrue};
     ghost use Rattle.swp_frame.specs.Signal.{Symbol};
     ghost use Rattle.swp_frame.specs.Kept.{DeframerStandsFor};
     ghost use Rattle.byte_link.specs.Kept.{ByteLinkStandsFor};
@@ -138,10 +137,7 @@ impl LinkEnd {
         ensures elsewhere { EndLeavesOthers pool.old pool.new self.old.link self.new.link }
         ensures inputs { (self.new.deframer ≡ self.old.deframer) × (self.new.byte_link ≡ self.old.byte_link) }
     {
-        match read {
-            Ok(control) => self.link.take(pool, control),
-            Err(_fault) => self.link.take_unknown(),
-        }
+        self.link.take_read(pool, read)
     }
 
     // Tells of a frame that was refused on its way.
@@ -247,12 +243,7 @@ impl LinkEnd {
         ensures elsewhere { EndLeavesOthers pool.old pool.new self.old.link self.new.link }
         ensures inputs { (self.new.deframer ≡ self.old.deframer) × (self.new.byte_link ≡ self.old.byte_link) }
     {
-        if !self.link.is_open() {
-            // A place of its own for this rare report: the common one is then written only where it is read.
-            let report = self.link.tick_activation(pool);
-            return report;
-        }
-        self.link.tick_link(pool)
+        self.link.tick(pool)
     }
 
     /// A reset of the link is asked for, with this window, which is 1 to 4, or with the end's own one. At most six control frames wait
@@ -310,31 +301,7 @@ impl LinkEnd {
         ensures boxes { (self.new.link.outbox ≡ self.old.link.outbox) × (self.new.link.inbox ≡ self.old.link.inbox) }
         ensures inputs { (self.new.deframer ≡ self.old.deframer) × (self.new.byte_link ≡ self.old.byte_link) }
     {
-        // Most calls find nothing, since an end is asked until it has nothing more.
-        if self.link.has_none_due() {
-            return None;
-        }
-        self.next_due(pool)
-    }
-
-    // The same where something may be due.
-    fn next_due(&mut self, pool: &Pool) -> Option<Lpdu>
-        requires { (m : Machine) × EndStandsFor self.old.link pool.now m }
-        ensures stands { (m : Machine) → EndStandsFor self.old.link pool.now m → EndStandsFor self.new.link pool.now (after_input m Fetch) }
-        ensures answer { (m : Machine) → EndStandsFor self.old.link pool.now m → result ≡ option_map lpdu_of (next_frame m) }
-        ensures read { (m : Machine) → EndStandsFor self.old.link pool.now m → IfSome (next_frame m) (λ c. control_of (lpdu_of c) ≡ Ok c) }
-        ensures boxes { (self.new.link.outbox ≡ self.old.link.outbox) × (self.new.link.inbox ≡ self.old.link.inbox) }
-        ensures inputs { (self.new.deframer ≡ self.old.deframer) × (self.new.byte_link ≡ self.old.byte_link) }
-    {
-        if let Some(FragmentDue { ns, nr, info }) = self.link.fragment_due() {
-            let lpdu = write_fragment(ns, nr, info);
-            self.link.count_fragment();
-            return Some(lpdu);
-        }
-        let Some(control) = self.link.next_out() else {
-            return None;
-        };
-        Some(write_lpdu(&control))
+        self.link.next_out(pool)
     }
 
     /// The oldest message that came and wasn't fetched, with its pipe, in a chain that is the caller's from now on.

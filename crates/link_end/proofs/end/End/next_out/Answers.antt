@@ -1,19 +1,18 @@
-use Rattle.link_end.proofs.NodeLemmas.{act_sent, link_frame, link_fetched}
+use Rattle.std.proofs.Common.{◌≡◌, sym, ap, subst}
+use Rattle.std.specs.Prelude.{Option, Ok, IfSome, option_map}
+use Rattle.swp_base.specs.declared.control_frames.Control.{Control}
+use Rattle.swp_lpdu.specs.Controls.{lpdu_of, control_of}
 use Rattle.link_end.proofs.«end».End.next_out.Goals as goal
 
-pub returns-in-Some-clause-stands : goal.returns-in-Some-clause-stands
-returns-in-Some-clause-stands c pool m h =
-    (act_sent pool c.args.self.now c.next_act.new.acts m c.in-Some.act h c.in-Some.ensures.act c.in-Some.ensures.sent).1
+pub returns-then-has_none_due-clause-stands : goal.returns-then-has_none_due-clause-stands
+returns-then-has_none_due-clause-stands c m h = (c.has_none_due.ensures c.args.pool.now m h c.if-has_none_due.true).1
 
-pub returns-in-Some-clause-answer : goal.returns-in-Some-clause-answer
-returns-in-Some-clause-answer c pool m h =
-    (act_sent pool c.args.self.now c.next_act.new.acts m c.in-Some.act h c.in-Some.ensures.act c.in-Some.ensures.sent).0
+pub returns-then-has_none_due-clause-answer : goal.returns-then-has_none_due-clause-answer
+returns-then-has_none_due-clause-answer c m h = sym (ap (option_map lpdu_of) (c.has_none_due.ensures c.args.pool.now m h c.if-has_none_due.true).0)
 
-pub returns-in-None-clause-stands : goal.returns-in-None-clause-stands
-returns-in-None-clause-stands c pool m h =
-    let a = c.in-None.ensures in
-    link_fetched h (record { front = a.act; nearer = a.nearer; stands = c.next_out.ensures.stands })
+-- a frame is read again as it was made
+abbrev IsReadAgain : Option Control → Type 0
+IsReadAgain o = IfSome o (λ c. control_of (lpdu_of c) ≡ Ok c)
 
-pub returns-in-None-clause-answer : goal.returns-in-None-clause-answer
-returns-in-None-clause-answer c pool m h =
-    link_frame h c.in-None.ensures.act c.next_out.ensures.frame
+pub returns-then-has_none_due-clause-read : goal.returns-then-has_none_due-clause-read
+returns-then-has_none_due-clause-read c m h = subst IsReadAgain (sym (c.has_none_due.ensures c.args.pool.now m h c.if-has_none_due.true).0) tt

@@ -2,7 +2,7 @@ use Rattle.std.proofs.Common.{◌≡◌, true, false, sym, ap, ◌∙◌, subst}
 use Rattle.link_laws.specs.machine.Machine.{LinkEnd, is_open}
 use Rattle.link_end.specs.Ends.{EndStandsFor}
 use Rattle.link_end.proofs.StepLemmas.{tick_after}
-use Rattle.link_end.proofs.link.LinkEnd.tick.Goals as goal
+use Rattle.link_end.proofs.«end».End.tick.Goals as goal
 
 pub returns-clause-stands : goal.returns-clause-stands
 returns-clause-stands c m h =
