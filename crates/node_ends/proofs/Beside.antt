@@ -4,7 +4,6 @@ use Rattle.std.specs.Prelude.{Option, option_map, min, ◌||◌}
 use Rattle.block_pool.specs.Pool.{PoolState}
 use Rattle.link_laws.specs.machine.Machine.{LinkEnd as Machine, whole_acked}
 use Rattle.link_end.specs.declared.«end».End.{End}
-use Rattle.link_end.specs.declared.link.LinkEnd.{LinkEnd as Link}
 use Rattle.node_machine.specs.Parts.{Port, Desk as DeskOf}
 use Rattle.node_machine.specs.Node.{with_older, without_notice}
 use Rattle.node_deeds.specs.declared.desks.Unanswered.{Unanswered}
@@ -33,15 +32,14 @@ pub record Sets (pool : PoolState) (s t : Seat) (f : Port → Port) : Type 0 whe
 
 pub sets : {pool : PoolState} {s t : Seat} {f : Port → Port} → Sets pool s t f → SeatBecomes pool pool s t f
 sets {pool} {s} {t} {f} c =
-    let link : t.side.link ≡ s.side.link = ap (λ (l : Link). l.link) c.side in
     record {
       host = c.host;
-      moves = stays_beside pool s.side.link t.side.link (ap (λ (k : End). k.outbox) link) (ap (λ (k : End). k.inbox) link);
+      moves = stays_beside pool s.side t.side (ap (λ (k : End). k.outbox) c.side) (ap (λ (k : End). k.inbox) c.side);
       stands = λ q g. record {
         holds = (let P : End → Type 0 = λ k. HoldsEnd pool k t.waiting (f q).side in
-            let Q : Option Waiting → Type 0 = λ w. HoldsEnd pool s.side.link w (f q).side in
-            let M : Machine → Type 0 = λ m. HoldsEnd pool s.side.link s.waiting m in
-            subst P (sym link) (subst Q (sym c.waiting) (subst M (sym (c.same_side q)) g.holds)));
+            let Q : Option Waiting → Type 0 = λ w. HoldsEnd pool s.side w (f q).side in
+            let M : Machine → Type 0 = λ m. HoldsEnd pool s.side s.waiting m in
+            subst P (sym c.side) (subst Q (sym c.waiting) (subst M (sym (c.same_side q)) g.holds)));
         desk = c.desk q g;
         late = c.late q g;
         ended = c.ended q g;

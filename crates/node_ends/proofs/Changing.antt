@@ -58,12 +58,12 @@ apart_places one other j k a b c d differ = record {
 }
 
 pub owners_at : (k i : ℕ) (seats : List Seat) (s : Seat) → slice_get seats i ≡ Some s → HaveOwnersFrom k seats
-    → (s.side.link.outbox.owner ≡ 2 * (k + i)) × (s.side.link.inbox.joiner.owner ≡ 2 * (k + i) + 1)
+    → (s.side.outbox.owner ≡ 2 * (k + i)) × (s.side.inbox.joiner.owner ≡ 2 * (k + i) + 1)
 owners_at k i [] s is o = cc
 owners_at k zero (t ∷ seats) s is o =
     let e : t ≡ s = cc in
-    let a : s.side.link.outbox.owner ≡ 2 * k = ap (λ (x : Seat). x.side.link.outbox.owner) (sym e) ∙ o.0 in
-    let b : s.side.link.inbox.joiner.owner ≡ 2 * k + 1 = ap (λ (x : Seat). x.side.link.inbox.joiner.owner) (sym e) ∙ o.1 in
+    let a : s.side.outbox.owner ≡ 2 * k = ap (λ (x : Seat). x.side.outbox.owner) (sym e) ∙ o.0 in
+    let b : s.side.inbox.joiner.owner ≡ 2 * k + 1 = ap (λ (x : Seat). x.side.inbox.joiner.owner) (sym e) ∙ o.1 in
     (omega (arith, a), omega (arith, b))
 owners_at k (suc i) (t ∷ seats) s is o =
     let r = owners_at (k + 1) i seats s is o.2 in
@@ -80,18 +80,18 @@ all_at P (y ∷ xs) (suc i) x is all = all_at P xs i x is all.1
 pub record OneChanges (old new : PoolState) (h : ℕ) (f : Port → Port) (s t : Seat) : Type 0 where
   pub before : s.desk.host ≡ h
   pub after : t.desk.host ≡ h
-  pub moves : Moves old new s.side.link t.side.link
+  pub moves : Moves old new s.side t.side
   pub stands : (p : Port) → SeatStandsFor old s p → SeatStandsFor new t (f p)
 
 module _ {old new : PoolState} {h : ℕ} {f : Port → Port} {s t : Seat} (c : OneChanges old new h f s t) where
   -- an end at another place of another host stays
-  stays : (j k : ℕ) (u : Seat) (p : Port) → j ≢ k → (s.side.link.outbox.owner ≡ 2 * j) × (s.side.link.inbox.joiner.owner ≡ 2 * j + 1)
-      → (u.side.link.outbox.owner ≡ 2 * k) → (u.side.link.inbox.joiner.owner ≡ 2 * k + 1) → u.desk.host ≢ h → SeatStandsFor old u p
+  stays : (j k : ℕ) (u : Seat) (p : Port) → j ≢ k → (s.side.outbox.owner ≡ 2 * j) × (s.side.inbox.joiner.owner ≡ 2 * j + 1)
+      → (u.side.outbox.owner ≡ 2 * k) → (u.side.inbox.joiner.owner ≡ 2 * k + 1) → u.desk.host ≢ h → SeatStandsFor old u p
       → SeatStandsFor new u (changed_if (p.desk.host == h) f p)
   stays j k u p differ own a b other g =
       let P : Port → Type 0 = λ q. SeatStandsFor new u q in
       subst P (sym (passed_by h f g other)) (record {
-        holds = c.moves.beside u.side.link u.waiting p.side (apart_places s.side.link u.side.link j k own.0 own.1 a b differ) g.holds;
+        holds = c.moves.beside u.side u.waiting p.side (apart_places s.side u.side j k own.0 own.1 a b differ) g.holds;
         desk = g.desk;
         late = g.late;
         ended = g.ended;
@@ -103,7 +103,7 @@ module _ {old new : PoolState} {h : ℕ} {f : Port → Port} {s t : Seat} (c : O
 
   -- all ends behind that place stay
   rest_stays : (j k : ℕ) (seats : List Seat) (ports : List Port) → j < k
-      → (s.side.link.outbox.owner ≡ 2 * j) × (s.side.link.inbox.joiner.owner ≡ 2 * j + 1)
+      → (s.side.outbox.owner ≡ 2 * j) × (s.side.inbox.joiner.owner ≡ 2 * j + 1)
       → HaveOwnersFrom k seats → AllByRecursion (λ (u : Seat). u.desk.host ≢ h) seats → SeatsStandFor old seats ports
       → SeatsStandFor new seats (with_port h f ports)
   rest_stays j k [] [] behind own owners hosts g = tt
@@ -141,8 +141,8 @@ module _ {old new : PoolState} {h : ℕ} {f : Port → Port} {s t : Seat} (c : O
   owners_stay k i [] is o = cc
   owners_stay k zero (u ∷ seats) is o =
       let e : u ≡ s = cc in (
-        c.moves.sender ∙ (ap (λ (x : Seat). x.side.link.outbox.owner) (sym e) ∙ o.0),
-        c.moves.receiver ∙ (ap (λ (x : Seat). x.side.link.inbox.joiner.owner) (sym e) ∙ o.1),
+        c.moves.sender ∙ (ap (λ (x : Seat). x.side.outbox.owner) (sym e) ∙ o.0),
+        c.moves.receiver ∙ (ap (λ (x : Seat). x.side.inbox.joiner.owner) (sym e) ∙ o.1),
         o.2,
       )
   owners_stay k (suc i) (u ∷ seats) is o = (o.0, o.1, owners_stay (k + 1) i seats is o.2)
@@ -264,7 +264,7 @@ nowhere h f (Some i) is none e = absurd (none i refl)
 
 -- the owner of the end there
 pub owner_at_place : {pool : PoolState} {seats : List Seat} {ports : List Port} (h i : ℕ) (place : place_in h seats ≡ Some i) (e : AreEnds pool seats ports)
-    → (placed_in h i place e).seat.side.link.outbox.owner ≡ 2 * i
+    → (placed_in h i place e).seat.side.outbox.owner ≡ 2 * i
 owner_at_place {pool} {seats} h i place e =
     let p = placed_in h i place e in
     let o = owners_at 0 i seats p.seat p.seat_is e.owners in
@@ -274,7 +274,7 @@ owner_at_place {pool} {seats} h i place e =
 -- a call on an end does to it what its node does to the port
 pub record Turned (old new : PoolState) (s t : Seat) (x : Turn) : Type 0 where
   pub sendable : AreSendableInputs (FromNode x ∷ [])
-  pub moves : Moves old new s.side.link t.side.link
+  pub moves : Moves old new s.side t.side
   pub desk : t.desk ≡ s.desk
   pub late : t.late ≡ s.late
   pub ended : t.ended ≡ s.ended
@@ -315,10 +315,10 @@ lent_at {pool} {seats} h i s place is e =
 
 -- its owner for what goes out
 pub owner_lent : {pool : PoolState} {seats : List Seat} {ports : List Port} (h i : ℕ) (s : Seat) → Some i ≡ place_in h seats → s ≡ slice_index_or seats i s
-    → AreEnds pool seats ports → s.side.link.outbox.owner ≡ 2 * i
+    → AreEnds pool seats ports → s.side.outbox.owner ≡ 2 * i
 owner_lent {pool} {seats} h i s place is e =
     let p = placed_in h i (sym place) e in
-    ap (λ (x : Seat). x.side.link.outbox.owner) (is ∙ read_at seats i p.seat s p.seat_is) ∙ owner_at_place h i (sym place) e
+    ap (λ (x : Seat). x.side.outbox.owner) (is ∙ read_at seats i p.seat s p.seat_is) ∙ owner_at_place h i (sym place) e
 
 -- what becomes of it becomes of its port
 pub becomes_at : {old new : PoolState} {seats : List Seat} {f : Port → Port} (ports : List Port) (h i : ℕ) (s t : Seat) → Some i ≡ place_in h seats

@@ -29,7 +29,7 @@ use Rattle.node_ends.proofs.Counting.{acked_so, outside_acked, reached_outside, 
 pub record Takes (old new : PoolState) (s t : Seat) (i : LinkInput) : Type 0 where
   pub outside : is_outside i ≡ true
   pub stands : (m : Machine) → HoldsSeat old s m → HoldsSeat new t (after_input m i)
-  pub moves : Moves old new s.side.link t.side.link
+  pub moves : Moves old new s.side t.side
   pub rest : t ≡ record s { side = t.side; waiting = t.waiting }
 
 -- this is told of it

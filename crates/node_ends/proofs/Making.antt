@@ -58,7 +58,7 @@ none_came role = refl
 new_stands : (pool : PoolState) (role : Named) (k h : ℕ) (s : Seat) → IsNewSeat role k h s → IsFree pool (2 * k) (2 * k + 1)
     → used_of pool (2 * k + 1) ≡ 0 → SeatStandsFor pool s (new_port role h)
 new_stands pool role k h s n free unused =
-    let W : Option Waiting → Type 0 = λ w. HoldsEnd pool s.side.link w (new_link_end (new_role role)) in
+    let W : Option Waiting → Type 0 = λ w. HoldsEnd pool s.side w (new_link_end (new_role role)) in
     record {
       holds = subst W (sym n.waiting) (record { stands = n.stands pool free; accounts = n.accounts pool unused; waits = refl; short = tt });
       desk = ap desk_shown n.desk;

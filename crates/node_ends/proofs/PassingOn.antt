@@ -50,8 +50,8 @@ hosts_differ (suc i) (suc n) (u ∷ seats) a s hosts at is other = hosts_differ 
 
 -- an end has the owners and the host of the one that was there
 pub record HasPlaceOf (s t : Seat) : Type 0 where
-  pub sender : t.side.link.outbox.owner ≡ s.side.link.outbox.owner
-  pub receiver : t.side.link.inbox.joiner.owner ≡ s.side.link.inbox.joiner.owner
+  pub sender : t.side.outbox.owner ≡ s.side.outbox.owner
+  pub receiver : t.side.inbox.joiner.owner ≡ s.side.inbox.joiner.owner
   pub host : t.desk.host ≡ s.desk.host
 
 owners_set : (k i : ℕ) (seats : List Seat) (s t : Seat) → HasPlaceOf s t → slice_get seats i ≡ Some s → HaveOwnersFrom k seats
@@ -59,8 +59,8 @@ owners_set : (k i : ℕ) (seats : List Seat) (s t : Seat) → HasPlaceOf s t →
 owners_set k i [] s t c is o = cc
 owners_set k zero (u ∷ seats) s t c is o =
     let e : u ≡ s = cc in (
-      c.sender ∙ (ap (λ (x : Seat). x.side.link.outbox.owner) (sym e) ∙ o.0),
-      c.receiver ∙ (ap (λ (x : Seat). x.side.link.inbox.joiner.owner) (sym e) ∙ o.1),
+      c.sender ∙ (ap (λ (x : Seat). x.side.outbox.owner) (sym e) ∙ o.0),
+      c.receiver ∙ (ap (λ (x : Seat). x.side.inbox.joiner.owner) (sym e) ∙ o.1),
       o.2,
     )
 owners_set k (suc i) (u ∷ seats) s t c is o = (o.0, o.1, owners_set (k + 1) i seats s t c is o.2)
@@ -134,7 +134,7 @@ none_after h k f keeps (p ∷ ports) none = by (p.desk.host == h) (p.desk.host =
 pub record BothChange (old new : PoolState) (f g : Port → Port) (a b c d : Seat) : Type 0 where
   pub one : (p : Port) → SeatStandsFor old a p → SeatStandsFor new c (f p)
   pub other : (p : Port) → SeatStandsFor old b p → SeatStandsFor new d (g p)
-  pub beside : (k : End) (waiting : Option Waiting) (m : Machine) → HaveOwners a.side.link k → HaveOwners b.side.link k
+  pub beside : (k : End) (waiting : Option Waiting) (m : Machine) → HaveOwners a.side k → HaveOwners b.side k
       → HoldsEnd old k waiting m → HoldsEnd new k waiting m
   pub first : HasPlaceOf a c
   pub second : HasPlaceOf b d
@@ -156,7 +156,7 @@ each_stands f g (s ∷ seats) (t ∷ after) (p ∷ ports) len each h = (
 
 -- the owners of the end at a place
 pub own_places : (i : ℕ) (seats : List Seat) (s : Seat) → slice_get seats i ≡ Some s → HaveOwnersFrom 0 seats
-    → (s.side.link.outbox.owner ≡ 2 * i) × (s.side.link.inbox.joiner.owner ≡ 2 * i + 1)
+    → (s.side.outbox.owner ≡ 2 * i) × (s.side.inbox.joiner.owner ≡ 2 * i + 1)
 own_places i seats s is owners = let o = owners_at 0 i seats s is owners in let out = o.0 in let into = o.1 in (omega (arith, out), omega (arith, into))
 
 module _ {old new : PoolState} {f g : Port → Port} {a b c d : Seat} (x : BothChange old new f g a b c d) where
@@ -168,9 +168,9 @@ module _ {old new : PoolState} {f g : Port → Port} {a b c d : Seat} (x : BothC
       let one_own = own_places i seats a at owners in
       let two_own = own_places j seats b there owners in
       record {
-        holds = x.beside s.side.link s.waiting p.side
-            (apart_places a.side.link s.side.link i n one_own.0 one_own.1 own.0 own.1 (λ e. one (sym e)))
-            (apart_places b.side.link s.side.link j n two_own.0 two_own.1 own.0 own.1 (λ e. two (sym e))) h.holds;
+        holds = x.beside s.side s.waiting p.side
+            (apart_places a.side s.side i n one_own.0 one_own.1 own.0 own.1 (λ e. one (sym e)))
+            (apart_places b.side s.side j n two_own.0 two_own.1 own.0 own.1 (λ e. two (sym e))) h.holds;
         desk = h.desk;
         late = h.late;
         ended = h.ended;

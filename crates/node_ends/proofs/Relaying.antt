@@ -11,7 +11,6 @@ use Rattle.link_laws.specs.machine.Machine.{LinkEnd as Machine, Message, Refused
 use Rattle.link_laws.specs.machine.Machine.Turn.{Give, FetchMessage}
 use Rattle.link_laws.specs.machine.Machine.LinkInput.{FromNode}
 use Rattle.link_end.specs.declared.«end».End.{End}
-use Rattle.link_end.specs.declared.link.LinkEnd.{LinkEnd as Link}
 use Rattle.link_end.specs.declared.report.SendRefused.{SendRefused}
 use Rattle.link_end.specs.Reports.{pass_by, pass_told}
 use Rattle.link_end.specs.Ends.{HaveOwners, MayPass}
@@ -74,9 +73,9 @@ module _ {pool : PoolState} {seats : List Seat} {ports : List Port} {m : Message
   pub may_be_sent : IsSendable m
   may_be_sent = (subst AreSendable came (got_sendable first.port.side first.stands.reached)).0
 
-  pub first_holds : (d : Seat) (w : Waiting) → (slice_index_or seats i d).waiting ≡ Some w → HoldsEnd pool first.seat.side.link (Some w) first.port.side
+  pub first_holds : (d : Seat) (w : Waiting) → (slice_index_or seats i d).waiting ≡ Some w → HoldsEnd pool first.seat.side (Some w) first.port.side
   first_holds d w is =
-      let P : Option Waiting → Type 0 = λ o. HoldsEnd pool first.seat.side.link o first.port.side in
+      let P : Option Waiting → Type 0 = λ o. HoldsEnd pool first.seat.side o first.port.side in
       subst P (ap (λ (s : Seat). s.waiting) (sym (first_read d)) ∙ is) first.stands.holds
 
   module _ (k j : ℕ) (place2 : place_in k seats ≡ Some j) where
@@ -90,11 +89,11 @@ module _ {pool : PoolState} {seats : List Seat} {ports : List Port} {m : Message
         let z : Some first.seat ≡ Some second.seat = sym at ∙ second.seat_is in
         cc
 
-    pub two_owners : i ≢ j → HaveOwners first.seat.side.link second.seat.side.link
+    pub two_owners : i ≢ j → HaveOwners first.seat.side second.seat.side
     two_owners differ =
         let a = own_places i seats first.seat first.seat_is e.owners in
         let b = own_places j seats second.seat second.seat_is e.owners in
-        apart_places first.seat.side.link second.seat.side.link i j a.0 a.1 b.0 b.1 differ
+        apart_places first.seat.side second.seat.side i j a.0 a.1 b.0 b.1 differ
 
     -- what is read there, once the message was taken
     pub then_read_same : (t d : Seat) → i ≡ j → slice_index_or (slice_set seats i t) j d ≡ t
@@ -116,32 +115,32 @@ module _ {pool : PoolState} {seats : List Seat} {ports : List Port} {m : Message
         by false q = ap (λ (s : Seat). s.side) (then_read_other t d (not_same i j q))
 
     -- the chain may be passed to that end
-    pub may_pass : (d : Seat) (w : Waiting) → (slice_index_or seats i d).waiting ≡ Some w → MayPass pool second.seat.side.link w.chain
+    pub may_pass : (d : Seat) (w : Waiting) → (slice_index_or seats i d).waiting ≡ Some w → MayPass pool second.seat.side w.chain
     may_pass d w is = by (i == j) refl
       where
-        h1 : HoldsEnd pool first.seat.side.link (Some w) first.port.side
+        h1 : HoldsEnd pool first.seat.side (Some w) first.port.side
         h1 = first_holds d w is
 
-        by : (b : Bool) → (i == j) ≡ b → MayPass pool second.seat.side.link w.chain
+        by : (b : Bool) → (i == j) ≡ b → MayPass pool second.seat.side w.chain
         by true q =
-            let P : Seat → Type 0 = λ s. MayPass pool s.side.link w.chain in
-            subst P (same_end (eqb-true i j q)) (may_send_back pool first.seat.side.link _ w.chain h1.stands h1.accounts)
+            let P : Seat → Type 0 = λ s. MayPass pool s.side w.chain in
+            subst P (same_end (eqb-true i j q)) (may_send_back pool first.seat.side _ w.chain h1.stands h1.accounts)
         by false q =
-            may_pass_on pool first.seat.side.link second.seat.side.link _ _ w.chain h1.stands h1.accounts (two_owners (not_same i j q))
+            may_pass_on pool first.seat.side second.seat.side _ _ w.chain h1.stands h1.accounts (two_owners (not_same i j q))
             second.stands.holds.stands
 
 -- ## The message goes over
 
-pub record Relays (old new : PoolState) (a b : Seat) (m : Message) (w : Waiting) (t : Link) : Type 0 where
-  pub over : HaveOwners a.side.link b.side.link → GoesOver old new a.side.link b.side.link t.link m w
-  pub back : a ≡ b → GoesBack old new a.side.link t.link m w
+pub record Relays (old new : PoolState) (a b : Seat) (m : Message) (w : Waiting) (t : End) : Type 0 where
+  pub over : HaveOwners a.side b.side → GoesOver old new a.side b.side t m w
+  pub back : a ≡ b → GoesBack old new a.side t m w
 
-relayed_over : {old new : PoolState} {a b : Seat} {m : Message} {w : Waiting} {t : Link} → a.waiting ≡ Some w → IsSendable m
-    → GoesOver old new a.side.link b.side.link t.link m w
+relayed_over : {old new : PoolState} {a b : Seat} {m : Message} {w : Waiting} {t : End} → a.waiting ≡ Some w → IsSendable m
+    → GoesOver old new a.side b.side t m w
     → BothChange old new (after_turn FetchMessage) (after_turn (Give m)) a b (record a { waiting = None }) (record b { side = t })
 relayed_over {old} {new} {a} {b} {m} {w} {t} is sendable o = record {
   one = λ p g. record {
-    holds = (let P : Option Waiting → Type 0 = λ x. HoldsEnd old a.side.link x p.side in o.gives p.side (subst P is g.holds));
+    holds = (let P : Option Waiting → Type 0 = λ x. HoldsEnd old a.side x p.side in o.gives p.side (subst P is g.holds));
     desk = g.desk;
     late = g.late;
     ended = g.ended;
@@ -166,8 +165,8 @@ relayed_over {old} {new} {a} {b} {m} {w} {t} is sendable o = record {
   keeps = λ p. refl;
 }
 
-relayed_back : {old new : PoolState} {a : Seat} {m : Message} {w : Waiting} {t : Link} → a.waiting ≡ Some w → IsSendable m
-    → GoesBack old new a.side.link t.link m w
+relayed_back : {old new : PoolState} {a : Seat} {m : Message} {w : Waiting} {t : End} → a.waiting ≡ Some w → IsSendable m
+    → GoesBack old new a.side t m w
     → OneChanges old new a.desk.host (λ p. after_turn (Give m) (after_turn FetchMessage p)) a (record a { side = t; waiting = None })
 relayed_back {old} {new} {a} {m} {w} {t} is sendable o = record {
   before = refl;
@@ -177,7 +176,7 @@ relayed_back {old} {new} {a} {m} {w} {t} is sendable o = record {
       let f : Machine = turn p.side FetchMessage in
       let reached = reached_on p.side (FromNode FetchMessage) tt g.reached in
       record {
-        holds = (let P : Option Waiting → Type 0 = λ x. HoldsEnd old a.side.link x p.side in o.stands p.side (subst P is g.holds));
+        holds = (let P : Option Waiting → Type 0 = λ x. HoldsEnd old a.side x p.side in o.stands p.side (subst P is g.holds));
         desk = g.desk;
         late = g.late;
         ended = g.ended;
@@ -225,7 +224,7 @@ relayed {old} {new} {seats} {h} {i} {k} {j} {m} {w} ports a b t u d place place2
         let differ : i ≢ j = not_same i j q in
         let own = own_places i seats a at e.owners in
         let their = own_places j seats b there e.owners in
-        let owners = apart_places a.side.link b.side.link i j own.0 own.1 their.0 their.1 differ in
+        let owners = apart_places a.side b.side i j own.0 own.1 their.0 their.1 differ in
         let read : slice_index_or (slice_set seats i t) j d ≡ b = get_or-set_other seats i j t d (λ z. differ (sym z)) ∙ read_at seats j b d there in
         let u_is : u ≡ record b { side = u.side } = side ∙ ap (λ (s : Seat). record s { side = u.side }) read in
         let both = both_change (relayed_over is sendable (r.over owners)) i j seats ports at there differ e in
@@ -257,8 +256,8 @@ back_by h (inr r) = refused_back h r
 -- The message was taken from the first place, and its chain given to the end at the second one.
 pub handed : {old new : PoolState} {seats : List Seat} {ports : List Port} {m : Message} (h i k j : ℕ) (place : place_in h seats ≡ Some i)
     (place2 : place_in k seats ≡ Some j) (e : AreEnds old seats ports) (got : got_at ports h ≡ m ∷ []) (c d : Seat) (gone : Option Waiting) (w : Waiting)
-    (after : Link) → (slice_index_or seats i c).waiting ≡ Some w → gone ≡ None
-    → Hands old new (slice_index_or (slice_set seats i (record (slice_index_or seats i c) { waiting = gone })) j d).side.link after.link
+    (after : End) → (slice_index_or seats i c).waiting ≡ Some w → gone ≡ None
+    → Hands old new (slice_index_or (slice_set seats i (record (slice_index_or seats i c) { waiting = gone })) j d).side after
     (w.pipe, chain_bytes old w.chain) w.chain
     → AreEnds new (slice_set (slice_set seats i (record (slice_index_or seats i c) { waiting = gone })) j
     (record (slice_index_or (slice_set seats i (record (slice_index_or seats i c) { waiting = gone })) j d) { side = after }))
@@ -271,8 +270,8 @@ handed {old} {new} {seats} {ports} {m} h i k j place place2 e got c d gone w aft
     let holds = first_holds h i place e got c w is in
     let read = first_read h i place e got c in
     let side = then_side h i place e got k j place2 t d (ap (λ (x : Seat). x.side) read) in
-    let P : Message → Type 0 = λ x. Hands old new s.seat.side.link after.link x w.chain in
-    let Q : Link → Type 0 = λ l. Hands old new l.link after.link (w.pipe, chain_bytes old w.chain) w.chain in
+    let P : Message → Type 0 = λ x. Hands old new s.seat.side after x w.chain in
+    let Q : End → Type 0 = λ l. Hands old new l after (w.pipe, chain_bytes old w.chain) w.chain in
     let there : P m = subst P (message_is h i place e got c w is) (subst Q side hands) in
     let t_is : t ≡ record f.seat { waiting = None } =
     ap (λ (x : Seat). record x { waiting = gone }) read ∙ ap (λ (o : Option Waiting). record f.seat { waiting = o }) none in
@@ -280,7 +279,7 @@ handed {old} {new} {seats} {ports} {m} h i k j place place2 e got c d gone w aft
     (may_be_sent h i place e got) t_is refl (record {
       over = over_by holds s.stands.holds there;
       back = λ same.
-          let R : Seat → Type 0 = λ x. Hands old new x.side.link after.link m w.chain in
+          let R : Seat → Type 0 = λ x. Hands old new x.side after m w.chain in
           back_by holds (subst R (sym same) there);
     })
 

@@ -10,10 +10,10 @@ use Rattle.node_ends.proofs.Changing.{OneChanges, apart_places, owners_at, owner
 
 module _ {old new : PoolState} {f : Port → Port} {s t : Seat} (c : SeatBecomes old new s t f) where
   -- an end at another place stays
-  stays : (j k : ℕ) (u : Seat) (p : Port) → j ≢ k → (s.side.link.outbox.owner ≡ 2 * j) × (s.side.link.inbox.joiner.owner ≡ 2 * j + 1)
-      → (u.side.link.outbox.owner ≡ 2 * k) → (u.side.link.inbox.joiner.owner ≡ 2 * k + 1) → SeatStandsFor old u p → SeatStandsFor new u p
+  stays : (j k : ℕ) (u : Seat) (p : Port) → j ≢ k → (s.side.outbox.owner ≡ 2 * j) × (s.side.inbox.joiner.owner ≡ 2 * j + 1)
+      → (u.side.outbox.owner ≡ 2 * k) → (u.side.inbox.joiner.owner ≡ 2 * k + 1) → SeatStandsFor old u p → SeatStandsFor new u p
   stays j k u p differ own a b g = record {
-    holds = c.moves.beside u.side.link u.waiting p.side (apart_places s.side.link u.side.link j k own.0 own.1 a b differ) g.holds;
+    holds = c.moves.beside u.side u.waiting p.side (apart_places s.side u.side j k own.0 own.1 a b differ) g.holds;
     desk = g.desk;
     late = g.late;
     ended = g.ended;
@@ -25,7 +25,7 @@ module _ {old new : PoolState} {f : Port → Port} {s t : Seat} (c : SeatBecomes
 
   -- all ends behind that place stay
   rest_stays : (j k : ℕ) (seats : List Seat) (ports : List Port) → j < k
-      → (s.side.link.outbox.owner ≡ 2 * j) × (s.side.link.inbox.joiner.owner ≡ 2 * j + 1)
+      → (s.side.outbox.owner ≡ 2 * j) × (s.side.inbox.joiner.owner ≡ 2 * j + 1)
       → HaveOwnersFrom k seats → SeatsStandFor old seats ports → SeatsStandFor new seats ports
   rest_stays j k [] [] behind own owners g = tt
   rest_stays j k [] (p ∷ ports) behind own owners g = g

@@ -6,7 +6,7 @@ use Rattle.shdlc_core.specs.Machine.{EndState, Fragment, fetched, fragment_due}
 use Rattle.block_pool.specs.Pool.{PoolState}
 use Rattle.link_laws.specs.machine.Machine.{LinkEnd as Machine, ActDue, after_input, next_frame, frame_fetched, whole_acked, whole_among}
 use Rattle.link_laws.specs.machine.Machine.LinkInput.{Fetch}
-use Rattle.link_end.specs.declared.link.LinkEnd.{LinkEnd as Link}
+use Rattle.link_end.specs.declared.«end».End.{End}
 use Rattle.link_end.specs.Ends.{EndStandsFor}
 use Rattle.node_ends.specs.declared.seat.Seat.{Seat}
 use Rattle.node_ends.specs.Holding.{without_got, kept_number}
@@ -61,15 +61,15 @@ sent_same m = go m.acts refl
         by false q = rw (p, q) (refl, at)
 
 -- what is kept of an end stands for its port behind that
-pub sent_on : (pool : PoolState) (s : Seat) (side : Link) → (side.link.outbox ≡ s.side.link.outbox) × (side.link.inbox ≡ s.side.link.inbox)
-    → ((m : Machine) → EndStandsFor s.side.link pool m → EndStandsFor side.link pool (after_input m Fetch))
+pub sent_on : (pool : PoolState) (s : Seat) (side : End) → (side.outbox ≡ s.side.outbox) × (side.inbox ≡ s.side.inbox)
+    → ((m : Machine) → EndStandsFor s.side pool m → EndStandsFor side pool (after_input m Fetch))
     → SeatBecomes pool pool s (record s { side = side }) has_sent
 sent_on pool s side boxes stands = record {
   host = refl;
-  moves = stays_beside pool s.side.link side.link boxes.0 boxes.1;
+  moves = stays_beside pool s.side side boxes.0 boxes.1;
   stands = λ p g. record {
-    holds = boxes_hold pool s.side.link side.link s.waiting p.side (frame_fetched p.side) g.holds boxes.1
-        (subst (λ n. EndStandsFor side.link pool n) (sent_without p.side) (stands (without_got p.side) g.holds.stands)) (sent_same p.side).0;
+    holds = boxes_hold pool s.side side s.waiting p.side (frame_fetched p.side) g.holds boxes.1
+        (subst (λ n. EndStandsFor side pool n) (sent_without p.side) (stands (without_got p.side) g.holds.stands)) (sent_same p.side).0;
     desk = g.desk;
     late = g.late;
     ended = g.ended;

@@ -9,7 +9,6 @@ use Rattle.link_laws.specs.machine.Machine.{LinkEnd as Machine, Message, Refused
 use Rattle.link_laws.specs.machine.Machine.Refused.{TooLong, Full}
 use Rattle.link_laws.specs.machine.Machine.Turn.{Give, SetAside}
 use Rattle.link_end.specs.declared.report.SendRefused.{SendRefused}
-use Rattle.link_end.specs.declared.link.LinkEnd.{LinkEnd}
 use Rattle.link_end.specs.Reports.{by_refusal_told, give_told}
 use Rattle.node_ends.specs.declared.seat.Seat.{Seat}
 use Rattle.node_ends.specs.Holding.{without_got}
@@ -70,10 +69,6 @@ kept_ends pool seats = record { pool = pool; seats = seats }
 pub where_refused : {A B : Type 0} (r : Result (Unit {0}) SendRefused) → (A → B) → OnErr r A → OnErr r B
 where_refused (Ok done) f a = tt
 where_refused (Err why) f a = f a
-
-pub same_end : (old new : LinkEnd) → new.link ≡ old.link → new.deframer ≡ old.deframer → new.byte_link ≡ old.byte_link → new ≡ old
-same_end old new link deframer bytes =
-    ap₂ (λ l d. record new { link = l; deframer = d }) link deframer ∙ ap (λ b. record old { byte_link = b }) bytes
 
 -- an end that is written back as it was
 pub none_written : {old new : PoolState} {seats : List Seat} {shown : KeptEnds} (i : ℕ) (s t : Seat) → s ≡ slice_index_or seats i s → new ≡ old → t ≡ s

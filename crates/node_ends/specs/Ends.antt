@@ -35,7 +35,7 @@ pub record SeatStandsFor (pool : PoolState) (s : Seat) (p : Port) : Type 0 where
 -- What is kept of an end becomes this, with its pool: it stands for the changed port, and the ends beside it stay.
 pub record SeatBecomes (old new : PoolState) (s t : Seat) (f : Port → Port) : Type 0 where
   pub host : t.desk.host ≡ s.desk.host
-  pub moves : Moves old new s.side.link t.side.link
+  pub moves : Moves old new s.side t.side
   pub stands : (p : Port) → SeatStandsFor old s p → SeatStandsFor new t (f p)
 
 -- all of them, one by one
@@ -49,7 +49,7 @@ SeatsStandFor pool (s ∷ seats) (p ∷ ports) = SeatStandsFor pool s p × Seats
 abbrev pub HaveOwnersFrom : ℕ → List Seat → Type 0
 HaveOwnersFrom k [] = Unit {0}
 HaveOwnersFrom k (s ∷ seats) =
-    (s.side.link.outbox.owner ≡ 2 * k) × (s.side.link.inbox.joiner.owner ≡ 2 * k + 1) × HaveOwnersFrom (k + 1) seats
+    (s.side.outbox.owner ≡ 2 * k) × (s.side.inbox.joiner.owner ≡ 2 * k + 1) × HaveOwnersFrom (k + 1) seats
 
 -- no two ends are those of links with one host
 abbrev pub HaveOwnHosts : List Seat → Type 0

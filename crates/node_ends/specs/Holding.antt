@@ -34,7 +34,7 @@ pub record HoldsEnd (pool : PoolState) (k : End) (waiting : Option Waiting) (m :
   pub short : AllByRecursion (λ (x : Message). length x.1 ≤ 4096) m.got
 
 abbrev pub HoldsSeat : PoolState → Seat → Machine → Type 0
-HoldsSeat pool s m = HoldsEnd pool s.side.link s.waiting m
+HoldsSeat pool s m = HoldsEnd pool s.side s.waiting m
 
 -- A call on an end leaves its owners and all ends beside it in the pool as they were.
 pub record Moves (old new : PoolState) (before after : End) : Type 0 where

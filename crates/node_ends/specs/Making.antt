@@ -16,10 +16,10 @@ new_port role h = record { desk = new_desk h; side = new_link_end (new_role role
 
 -- a new end with the owners of the place k, for each pool in which they use nothing
 pub record IsNewSeat (role : Named) (k h : ℕ) (s : Seat) : Type 0 where
-  pub stands : (pool : PoolState) → IsFree pool (2 * k) (2 * k + 1) → EndStandsFor s.side.link pool (new_link_end (new_role role))
-  pub accounts : (pool : PoolState) → used_of pool (2 * k + 1) ≡ 0 → Accounts s.side.link pool None
-  pub sender : s.side.link.outbox.owner ≡ 2 * k
-  pub receiver : s.side.link.inbox.joiner.owner ≡ 2 * k + 1
+  pub stands : (pool : PoolState) → IsFree pool (2 * k) (2 * k + 1) → EndStandsFor s.side pool (new_link_end (new_role role))
+  pub accounts : (pool : PoolState) → used_of pool (2 * k + 1) ≡ 0 → Accounts s.side pool None
+  pub sender : s.side.outbox.owner ≡ 2 * k
+  pub receiver : s.side.inbox.joiner.owner ≡ 2 * k + 1
   pub waiting : s.waiting ≡ None
   pub desk : s.desk ≡ record { host = h; notice = None; holds = false; errors = 0 }
   pub late : s.late ≡ false

@@ -3,7 +3,7 @@ ghost use Rattle.std.specs.Prelude.{◌≡◌, ◌≤◌, ◌+◌, length, IfOk,
 ghost use Rattle.node_ends.specs.Making.{IsNewSeat, AddsNew};
 
 use crate::seat::Seat;
-use link_end::LinkEnd;
+use link_end::End;
 use node_deeds::Desk;
 use std::alloc::Global;
 use swp_base::{NoMemory, Role};
@@ -13,7 +13,7 @@ fn new_seat(alloc: Global, role: Role, host: u8, k: u8) -> Result<Seat, NoMemory
     requires { k ≤ 6 }
     ensures { IfOk result (IsNewSeat role k host) }
 {
-    let side = LinkEnd::make(alloc, role, 2 * k, 2 * k + 1)?;
+    let side = End::make(alloc, role, 2 * k, 2 * k + 1)?;
     Ok(Seat {
         side,
         waiting: None,

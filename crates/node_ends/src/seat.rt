@@ -4,7 +4,7 @@ ghost use Rattle.node_ends.specs.Holding.{as_waiting, where_done};
 
 use crate::inputs::LinkInput;
 use block_pool::{Chain, Pool};
-use link_end::{LinkEnd, LinkReport, ResetRefused, SendRefused};
+use link_end::{End, LinkReport, ResetRefused, SendRefused};
 use node_deeds::{About, Desk, Unanswered};
 use shdlc_core::LinkState;
 use swp_base::Control;
@@ -20,7 +20,7 @@ pub(crate) struct Waiting {
 /// One end of a link of a node, and what the node keeps of it.
 #[derive(Drop)]
 pub struct Seat {
-    pub(crate) side: LinkEnd,
+    pub(crate) side: End,
     pub(crate) waiting: Option<Waiting>,
     pub(crate) desk: Desk,
     /// Its session ended in this step, as the hundredth tick of a notice came or otherwise.
@@ -78,7 +78,7 @@ impl Seat {
 
     /// The end is held, so that it takes no fragments, or let go.
     pub(crate) fn hold(&mut self, held: bool)
-        requires room { controls_in self.old.side.link ≤ 6 }
+        requires room { controls_in self.old.side ≤ 6 }
         ensures { (pool : PoolState) → SeatBecomes pool pool self.old self.new (after_turn (Hold held)) }
     {
         self.side.hold(held);
@@ -87,7 +87,7 @@ impl Seat {
     /// A block of the end's owner for what goes out, which has this number, is set aside, where one is spare.
     pub(crate) fn set_aside(&mut self, pool: &mut Pool, owner: u8)
         requires stands { (m : Machine) × HoldsSeat pool.old self.old m × (self.old.aside ≡ m.aside) }
-        requires owner { self.old.side.link.outbox.owner ≡ owner }
+        requires owner { self.old.side.outbox.owner ≡ owner }
         ensures { SeatBecomes pool.old pool.new self.old self.new (after_turn SetAside) }
     {
         match pool.set_aside(owner) {
@@ -99,7 +99,7 @@ impl Seat {
     /// One that was set aside, where one was, is free again.
     pub(crate) fn release(&mut self, pool: &mut Pool, owner: u8)
         requires stands { (m : Machine) × HoldsSeat pool.old self.old m × (self.old.aside ≡ m.aside) }
-        requires owner { self.old.side.link.outbox.owner ≡ owner }
+        requires owner { self.old.side.outbox.owner ≡ owner }
         ensures { SeatBecomes pool.old pool.new self.old self.new (after_turn Release) }
     {
         if self.aside == 0 {
@@ -187,14 +187,14 @@ impl Seat {
     // At most six control frames wait to be sent.
     fn take(&mut self, pool: &mut Pool, read: &Result<Control, LpduFault>) -> LinkReport
         requires stands { (m : Machine) × HoldsSeat pool.old self.old m }
-        requires held { WaitsHeld self.old.waiting self.old.side.link }
+        requires held { WaitsHeld self.old.waiting self.old.side }
         requires read { (lpdu : List ℕ) × (read.now ≡ control_of lpdu) }
-        requires room { controls_in self.old.side.link ≤ 6 }
+        requires room { controls_in self.old.side ≤ 6 }
         ensures stands { (m : Machine) (lpdu : List ℕ) → HoldsSeat pool.old self.old m → read.now ≡ control_of lpdu
             → HoldsSeat pool.new self.new (after_input m (lpdu_input lpdu)) }
         ensures answer { (m : Machine) (lpdu : List ℕ) → HoldsSeat pool.old self.old m → read.now ≡ control_of lpdu
             → result ≡ report_told (report m (lpdu_input lpdu)) }
-        ensures moves { Moves pool.old pool.new self.old.side.link self.new.side.link }
+        ensures moves { Moves pool.old pool.new self.old.side self.new.side }
         ensures rest { self.new ≡ record self.old { side = self.new.side; waiting = self.new.waiting } }
     {
         let report = self.side.take_read(pool, read);
@@ -206,10 +206,10 @@ impl Seat {
 
     /// Fetches the message that came, where one did: it waits from now on.
     fn fetch(&mut self)
-        ensures holds { (pool : PoolState) (m : Machine) → EndStandsFor self.old.side.link pool m → Accounts self.old.side.link pool None
+        ensures holds { (pool : PoolState) (m : Machine) → EndStandsFor self.old.side pool m → Accounts self.old.side pool None
             → HoldsSeat pool self.new m }
-        ensures owners { (self.new.side.link.outbox.owner ≡ self.old.side.link.outbox.owner)
-            × (self.new.side.link.inbox.joiner.owner ≡ self.old.side.link.inbox.joiner.owner) }
+        ensures owners { (self.new.side.outbox.owner ≡ self.old.side.outbox.owner)
+            × (self.new.side.inbox.joiner.owner ≡ self.old.side.inbox.joiner.owner) }
         ensures rest { self.new ≡ record self.old { side = self.new.side; waiting = self.new.waiting } }
     {
         self.waiting = as_waiting(self.side.next_message());
@@ -241,10 +241,10 @@ impl Seat {
     fn reset(&mut self, pool: &mut Pool, window: Option<u8>) -> Result<LinkReport, ResetRefused>
         requires stands { (m : Machine) × HoldsSeat pool.old self.old m }
         requires window { IfSome window (λ w. (1 ≤ w) × (w ≤ 4)) }
-        requires room { controls_in self.old.side.link ≤ 6 }
+        requires room { controls_in self.old.side ≤ 6 }
         ensures stands { (m : Machine) → HoldsSeat pool.old self.old m → HoldsSeat pool.new self.new (after_input m (Reset window)) }
         ensures answer { (m : Machine) → HoldsSeat pool.old self.old m → result ≡ reset_told m window }
-        ensures moves { Moves pool.old pool.new self.old.side.link self.new.side.link }
+        ensures moves { Moves pool.old pool.new self.old.side self.new.side }
         ensures rest { self.new ≡ record self.old { side = self.new.side } }
     {
         self.side.reset(pool, window)
@@ -254,10 +254,10 @@ impl Seat {
     // wait to be sent.
     fn activate(&mut self, pool: &mut Pool, value: u16) -> LinkReport
         requires stands { (m : Machine) × HoldsSeat pool.old self.old m × MayStart m.role (ActStart value) }
-        requires room { controls_in self.old.side.link ≤ 6 }
+        requires room { controls_in self.old.side ≤ 6 }
         ensures stands { (m : Machine) → HoldsSeat pool.old self.old m → HoldsSeat pool.new self.new (after_input m (Start value)) }
         ensures answer { (m : Machine) → HoldsSeat pool.old self.old m → result ≡ report_told (report m (Start value)) }
-        ensures moves { Moves pool.old pool.new self.old.side.link self.new.side.link }
+        ensures moves { Moves pool.old pool.new self.old.side self.new.side }
         ensures rest { self.new ≡ record self.old { side = self.new.side } }
     {
         self.side.activate(pool, value)
@@ -266,10 +266,10 @@ impl Seat {
     // Activation ends, and the link with it. At most six control frames wait to be sent.
     fn deactivate(&mut self, pool: &mut Pool) -> LinkReport
         requires stands { (m : Machine) × HoldsSeat pool.old self.old m }
-        requires room { controls_in self.old.side.link ≤ 6 }
+        requires room { controls_in self.old.side ≤ 6 }
         ensures stands { (m : Machine) → HoldsSeat pool.old self.old m → HoldsSeat pool.new self.new (after_input m Stop) }
         ensures answer { (m : Machine) → HoldsSeat pool.old self.old m → result ≡ report_told (report m Stop) }
-        ensures moves { Moves pool.old pool.new self.old.side.link self.new.side.link }
+        ensures moves { Moves pool.old pool.new self.old.side self.new.side }
         ensures rest { self.new ≡ record self.old { side = self.new.side } }
     {
         self.side.deactivate(pool)
@@ -373,11 +373,11 @@ impl Seat {
     #[inline(never)]
     fn reset_unanswered(&mut self, pool: &mut Pool) -> Option<LinkReport>
         requires stands { (m : Machine) × HoldsSeat pool.old self.old m }
-        requires room { controls_in self.old.side.link ≤ 6 }
+        requires room { controls_in self.old.side ≤ 6 }
         ensures stands { (m : Machine) → HoldsSeat pool.old self.old m → HoldsSeat pool.new self.new (after_input m (Reset None)) }
         ensures answer { (m : Machine) → HoldsSeat pool.old self.old m → result ≡ where_done (reset_told m None) }
         ensures acked { (m : Machine) → HoldsSeat pool.old self.old m → self.new.acked ≡ acked_by_reset self.old.acked (reset_told m None) }
-        ensures moves { Moves pool.old pool.new self.old.side.link self.new.side.link }
+        ensures moves { Moves pool.old pool.new self.old.side self.new.side }
         ensures rest { self.new ≡ record self.old { side = self.new.side; late = true; acked = self.new.acked } }
     {
         let told = self.reset(pool, None);

@@ -21,7 +21,7 @@ spare-requires c =
     let e = c.requires.1 in
     let p = seated c.args.pool.now i c.args.seats.now c.requires.0 c.loop-i-test.true e.each in
     let o = (owners_at 0 i c.args.seats.now p.seat p.seat_is e.owners).0 in
-    let owner : p.seat.side.link.outbox.owner ≡ 2 * i = omega (arith, o) in
+    let owner : p.seat.side.outbox.owner ≡ 2 * i = omega (arith, o) in
     let P : ℕ → Type 0 = λ n. n < length c.args.pool.now.owners in
     subst P owner p.stands.holds.stands.halfway.sends.lies.kept.has_quota
 
@@ -37,11 +37,11 @@ loop-i-preserved c =
             (let p = seated c.args.pool.now i c.args.seats.now ports c.loop-i-test.true e.each in
             let P : Seat → Type 0 = λ t. SeatStandsFor c.args.pool.now t p.port in
             let o = (owners_at 0 i c.args.seats.now p.seat p.seat_is e.owners).0 in
-            let owner : p.seat.side.link.outbox.owner ≡ 2 * i = omega (arith, o) in
+            let owner : p.seat.side.outbox.owner ≡ 2 * i = omega (arith, o) in
             goes_on spare_there 0 ports e c.loop-i.spares c.if-host-lt8.spares i c.from-host.result s p.port w.spare.result
             (subst P (sym (c.index-seats-i.is ∙ read_at c.args.seats.now i p.seat s p.seat_is)) p.stands) p.port_is host_there w.if-host-lt8.true
             (w.spare.ensures.spare ∙ (ap (spare_of c.args.pool.now) (sym owner)
-            ∙ sym (spare_is c.args.pool.now p.seat.side.link (without_got p.port.side) p.stands.holds.stands)))
+            ∙ sym (spare_is c.args.pool.now p.seat.side (without_got p.port.side) p.stands.holds.stands)))
             w.spares-is c.loop-i.invariant.eight (c.loop-i.invariant.far ports e));
       }
       | else-host-lt8 w ↦ record {

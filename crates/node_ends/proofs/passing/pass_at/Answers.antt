@@ -3,7 +3,7 @@ use Rattle.std.specs.Prelude.{is_none, slice_index_or}
 use Rattle.block_pool.specs.declared.chain.Chain.{Chain}
 use Rattle.block_pool.specs.Pool.{PoolState, IsLive, chain_bytes, Gives, KeepsOthers}
 use Rattle.hcp_packet.specs.Packets.{IsSendable}
-use Rattle.link_end.specs.declared.link.LinkEnd.{LinkEnd as Link}
+use Rattle.link_end.specs.declared.«end».End.{End}
 use Rattle.link_end.specs.Ends.{EndStandsFor, MayPass}
 use Rattle.link_laws.specs.machine.Machine.{Message, give_refusal}
 use Rattle.node_ends.specs.declared.seat.Seat.{Seat}
@@ -50,7 +50,7 @@ send_chain-requires-clause-stands c =
     let read = first_read c.args.from c.args.i c.requires.place r.2 r.3 d in
     let side = then_side c.args.from c.args.i c.requires.place r.2 r.3 c.args.to c.args.j c.requires.other t c.index-seats-j.result
     (ap (λ (x : Seat). x.side) read) in
-    let P : Link → Type 0 = λ l. EndStandsFor l.link c.args.pool.now (without_got s.port.side) in
+    let P : End → Type 0 = λ l. EndStandsFor l c.args.pool.now (without_got s.port.side) in
     (without_got s.port.side, subst P (sym side) s.stands.holds.stands)
 
 pub send_chain-requires-clause-chain : goal.send_chain-requires-clause-chain
@@ -62,7 +62,7 @@ send_chain-requires-clause-chain c =
     let read = first_read c.args.from c.args.i c.requires.place r.2 r.3 d in
     let side = then_side c.args.from c.args.i c.requires.place r.2 r.3 c.args.to c.args.j c.requires.other t c.index-seats-j.result
     (ap (λ (x : Seat). x.side) read) in
-    let P : Link → Type 0 = λ l. MayPass c.args.pool.now l.link w.chain in
+    let P : End → Type 0 = λ l. MayPass c.args.pool.now l w.chain in
     subst P (sym side) (may_pass c.args.from c.args.i c.requires.place r.2 r.3 c.args.to c.args.j c.requires.other d w
     (sym c.take.ensures.value ∙ c.in-Some.is))
 
@@ -101,7 +101,7 @@ returns-in-Ok-clause-answer c ports m e got =
     let read = first_read c.args.from c.args.i c.requires.place e got d in
     let side = then_side c.args.from c.args.i c.requires.place e got c.args.to c.args.j c.requires.other t c.index-seats-j.result
     (ap (λ (x : Seat). x.side) read) in
-    let P : Link → Type 0 = λ l. EndStandsFor l.link c.args.pool.now (without_got s.port.side) in
+    let P : End → Type 0 = λ l. EndStandsFor l c.args.pool.now (without_got s.port.side) in
     let Q : Message → Type 0 = λ x. true ≡ is_none (give_refusal s.port.side x) in
     let took = told_passed (without_got s.port.side) (w.pipe, chain_bytes c.args.pool.now w.chain) w.chain c.in-Ok.is
     (c.send_chain.ensures.answer (without_got s.port.side) (subst P (sym side) s.stands.holds.stands)) in
@@ -137,7 +137,7 @@ returns-in-Err-clause-answer c ports m e got =
     let read = first_read c.args.from c.args.i c.requires.place e got d in
     let side = then_side c.args.from c.args.i c.requires.place e got c.args.to c.args.j c.requires.other t c.index-seats-j.result
     (ap (λ (x : Seat). x.side) read) in
-    let P : Link → Type 0 = λ l. EndStandsFor l.link c.args.pool.now (without_got s.port.side) in
+    let P : End → Type 0 = λ l. EndStandsFor l c.args.pool.now (without_got s.port.side) in
     let Q : Message → Type 0 = λ x. false ≡ is_none (give_refusal s.port.side x) in
     let refused = told_back (without_got s.port.side) (w.pipe, chain_bytes c.args.pool.now w.chain) w.chain c.in-Err.is
     (c.send_chain.ensures.answer (without_got s.port.side) (subst P (sym side) s.stands.holds.stands)) in

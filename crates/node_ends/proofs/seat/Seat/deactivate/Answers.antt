@@ -8,7 +8,7 @@ use Rattle.node_ends.proofs.seat.Seat.deactivate.Goals as goal
 pub returns-clause-stands : goal.returns-clause-stands
 returns-clause-stands c m h =
     let t = c.deactivate in
-    still_holds c.args.pool.now t.new.pool c.args.self.now.side.link t.new.self.link c.args.self.now.waiting m Stop h refl refl
+    still_holds c.args.pool.now t.new.pool c.args.self.now.side t.new.self c.args.self.now.waiting m Stop h refl refl
     t.ensures.elsewhere (t.ensures.stands (without_got m) h.stands)
 
 pub returns-clause-answer : goal.returns-clause-answer
@@ -17,5 +17,5 @@ returns-clause-answer c m h = c.deactivate.ensures.answer (without_got m) h.stan
 pub returns-clause-moves : goal.returns-clause-moves
 returns-clause-moves c =
     let r = c.requires.stands in
-    call_moves c.args.pool.now c.deactivate.new.pool c.args.self.now.side.link c.deactivate.new.self.link (without_got r.0)
+    call_moves c.args.pool.now c.deactivate.new.pool c.args.self.now.side c.deactivate.new.self (without_got r.0)
     r.1.stands c.deactivate.ensures.elsewhere

@@ -15,7 +15,7 @@ returns-in-Some c =
       sendable = tt;
       moves = (let old = c.args.pool.now in
           let new = c.give.new.self in
-          let k = c.args.self.now.side.link in
+          let k = c.args.self.now.side in
           let w : Waiting = c.in-Some.field-0 in
           let waits : c.args.self.now.waiting ≡ Some w = sym c.take.ensures.value ∙ c.in-Some.is in
           let P : Option Waiting → Type 0 = λ o. Accounts k old (chain_of o) in
@@ -27,7 +27,7 @@ returns-in-Some c =
       stands = λ m h same. (
         (let old = c.args.pool.now in
             let new = c.give.new.self in
-            let k = c.args.self.now.side.link in
+            let k = c.args.self.now.side in
             let w : Waiting = c.in-Some.field-0 in
             let waits : c.args.self.now.waiting ≡ Some w = sym c.take.ensures.value ∙ c.in-Some.is in
             let P : Option Waiting → Type 0 = λ o. HoldsEnd old k o m in

@@ -26,9 +26,9 @@ returns c =
       sendable = tt;
       moves = (let old = c.args.pool.now in
           let new = c.release.new.self in
-          let o = c.args.self.now.side.link.outbox.owner in
+          let o = c.args.self.now.side.outbox.owner in
           let Q : ℕ → Type 0 = λ n. Counts old new n (used_of old n - 1) (aside_of old n - 1) in
-          counted_moves old new c.args.self.now.side.link (without_got c.requires.stands.0) (used_of old o - 1) (aside_of old o - 1)
+          counted_moves old new c.args.self.now.side (without_got c.requires.stands.0) (used_of old o - 1) (aside_of old o - 1)
           c.requires.stands.1.stands (subst Q (sym c.requires.owner) (record { slots = c.release.ensures.slots; owners = c.release.ensures.owners })));
       desk = refl;
       late = refl;
@@ -40,7 +40,7 @@ returns c =
             let a = h.stands.halfway.aside in
             let some = c.if-self-eq0.false in
             let Q : ℕ → Type 0 = λ n. Counts old new n (used_of old n - 1) (aside_of old n - 1) in
-            released_holds old new c.args.self.now.side.link c.args.self.now.waiting m h (omega (arith, a, same, some))
+            released_holds old new c.args.self.now.side c.args.self.now.waiting m h (omega (arith, a, same, some))
             (subst Q (sym c.requires.owner) (record { slots = c.release.ensures.slots; owners = c.release.ensures.owners }))),
         (ap (λ n. n - 1) same),
       );
@@ -50,14 +50,14 @@ pub returns-then-self-eq0 : goal.returns-then-self-eq0
 returns-then-self-eq0 c =
     turned {x = Release} (record {
       sendable = tt;
-      moves = (let k = c.args.self.now.side.link in
+      moves = (let k = c.args.self.now.side in
           stays_beside c.args.pool.now k k refl refl);
       desk = refl;
       late = refl;
       ended = refl;
       acked = refl;
       stands = λ m h same. (
-        (none_released c.args.pool.now c.args.self.now.side.link c.args.self.now.waiting m (sym same ∙ c.if-self-eq0.true) h),
+        (none_released c.args.pool.now c.args.self.now.side c.args.self.now.waiting m (sym same ∙ c.if-self-eq0.true) h),
         (let none = c.if-self-eq0.true in omega (arith, same, none)),
       );
     })

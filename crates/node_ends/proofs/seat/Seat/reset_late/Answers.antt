@@ -46,7 +46,7 @@ returns-then-not-is_late-clause-becomes c =
     let s : Seat = c.args.self.now in
     record {
       host = refl;
-      moves = stays_beside c.args.pool.now s.side.link s.side.link refl refl;
+      moves = stays_beside c.args.pool.now s.side s.side refl refl;
       stands = λ p g.
           let late : is_late p ≡ false = sym (late_is _ p _ g.desk g.ended) ∙ (sym c.is_late.ensures ∙ c.if-not-is_late.true) in
           let P : Port → Type 0 = λ q. SeatStandsFor c.args.pool.now s q in

@@ -16,7 +16,7 @@ set_aside-requires c =
 
 pub overflow_add-self : goal.overflow_add-self
 overflow_add-self c =
-    let low = few_aside c.args.pool.now c.args.self.now.side.link c.requires.stands.0 c.requires.stands.1.stands in
+    let low = few_aside c.args.pool.now c.args.self.now.side c.requires.stands.0 c.requires.stands.1.stands in
     let same = c.requires.stands.2 in
     omega (arith, low, same)
 
@@ -26,9 +26,9 @@ returns-in-Ok c =
       sendable = tt;
       moves = (let old = c.args.pool.now in
           let new = c.set_aside.new.self in
-          let o = c.args.self.now.side.link.outbox.owner in
+          let o = c.args.self.now.side.outbox.owner in
           let Q : ℕ → Type 0 = λ n. Counts old new n (used_of old n + 1) (aside_of old n + 1) in
-          counted_moves old new c.args.self.now.side.link (without_got c.requires.stands.0) (used_of old o + 1) (aside_of old o + 1)
+          counted_moves old new c.args.self.now.side (without_got c.requires.stands.0) (used_of old o + 1) (aside_of old o + 1)
           c.requires.stands.1.stands (subst Q (sym c.requires.owner) (record { slots = c.in-Ok.ensures.ok.0; owners = c.in-Ok.ensures.ok.1 })));
       desk = refl;
       late = refl;
@@ -39,12 +39,12 @@ returns-in-Ok c =
             let new = c.set_aside.new.self in
             let P : ℕ → Type 0 = λ n. 0 < spare_of old n in
             let Q : ℕ → Type 0 = λ n. Counts old new n (used_of old n + 1) (aside_of old n + 1) in
-            set_holds old new c.args.self.now.side.link c.args.self.now.waiting m h (subst P (sym c.requires.owner) (c.in-Ok.ensures.room.0 refl))
+            set_holds old new c.args.self.now.side c.args.self.now.waiting m h (subst P (sym c.requires.owner) (c.in-Ok.ensures.room.0 refl))
             (subst Q (sym c.requires.owner) (record { slots = c.in-Ok.ensures.ok.0; owners = c.in-Ok.ensures.ok.1 }))),
         (let old = c.args.pool.now in
             let P : ℕ → Type 0 = λ n. 0 < spare_of old n in
             ap (λ n. n + 1) same
-            ∙ sym (set_counts old c.args.self.now.side.link m h.stands (subst P (sym c.requires.owner) (c.in-Ok.ensures.room.0 refl)))),
+            ∙ sym (set_counts old c.args.self.now.side m h.stands (subst P (sym c.requires.owner) (c.in-Ok.ensures.room.0 refl)))),
       );
     })
 
@@ -52,7 +52,7 @@ pub returns-in-Err : goal.returns-in-Err
 returns-in-Err c =
     turned {x = SetAside} (record {
       sendable = tt;
-      moves = (let k = c.args.self.now.side.link in
+      moves = (let k = c.args.self.now.side in
           let A : PoolState → Type 0 = λ p. Moves c.args.pool.now p k k in
           subst A (sym c.in-Err.ensures.err) (stays_beside c.args.pool.now k k refl refl));
       desk = refl;
@@ -60,7 +60,7 @@ returns-in-Err c =
       ended = refl;
       acked = refl;
       stands = λ m h same. (
-        (let k = c.args.self.now.side.link in
+        (let k = c.args.self.now.side in
             let waiting = c.args.self.now.waiting in
             let P : ℕ → Type 0 = λ n. 0 < spare_of c.args.pool.now n in
             let same = set_refused c.args.pool.now k m h.stands
@@ -68,7 +68,7 @@ returns-in-Err c =
             let A : PoolState → Type 0 = λ p. HoldsEnd p k waiting m in
             let B : Machine → Type 0 = λ n. HoldsEnd c.set_aside.new.self k waiting n in
             subst B (sym same) (subst A (sym c.in-Err.ensures.err) h)),
-        (let k = c.args.self.now.side.link in
+        (let k = c.args.self.now.side in
             let P : ℕ → Type 0 = λ n. 0 < spare_of c.args.pool.now n in
             same ∙ sym (ap (λ (x : Machine). x.aside) (set_refused c.args.pool.now k m h.stands
             (λ s. true≢false (sym (c.in-Err.ensures.room.1 (subst P c.requires.owner s))))))),

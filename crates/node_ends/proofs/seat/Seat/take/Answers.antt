@@ -14,21 +14,21 @@ use Rattle.node_ends.proofs.seat.Seat.take.Goals as goal
 pub take_read-report-requires-clause-ready : goal.take_read-report-requires-clause-ready
 take_read-report-requires-clause-ready c =
     let r = c.requires.stands in
-    may_take c.args.pool.now c.args.self.now.side.link c.args.self.now.waiting r.0 r.1 c.requires.held
+    may_take c.args.pool.now c.args.self.now.side c.args.self.now.waiting r.0 r.1 c.requires.held
 
 pub returns-then-report-clause-stands : goal.returns-then-report-clause-stands
 returns-then-report-clause-stands c m lpdu h is =
     let t = c.take_read-report in
-    let k = c.args.self.now.side.link in
+    let k = c.args.self.now.side in
     let told = t.ensures.answer (without_got m) lpdu h.stands is ∙ lpdu_told_apart m lpdu in
     let came : is_some (oldest (got_by m (lpdu_input lpdu))) ≡ _ = ap (λ (r : LinkReport). r.got) (sym told) ∙ c.if-report.true in
     let none : c.args.self.now.waiting ≡ None = none_waited k c.args.self.now.waiting m lpdu h c.requires.held came in
     let P : Option Waiting → Type 0 = λ o. HoldsEnd c.args.pool.now k o m in
     let h2 = subst P none h in
-    let M : Machine → Type 0 = λ n. EndStandsFor t.new.self.link t.new.pool (after_input n (lpdu_input lpdu)) in
+    let M : Machine → Type 0 = λ n. EndStandsFor t.new.self t.new.pool (after_input n (lpdu_input lpdu)) in
     let stands = subst M (none_got c.args.pool.now k m h2) (t.ensures.stands (without_got m) lpdu h.stands is) in
     c.fetch.ensures.holds t.new.pool (after_input m (lpdu_input lpdu)) stands
-    (account_kept c.args.pool.now t.new.pool k t.new.self.link (without_got m) None h2.stands t.ensures.elsewhere h2.accounts)
+    (account_kept c.args.pool.now t.new.pool k t.new.self (without_got m) None h2.stands t.ensures.elsewhere h2.accounts)
 
 pub returns-then-report-clause-answer : goal.returns-then-report-clause-answer
 returns-then-report-clause-answer c m lpdu h is = c.take_read-report.ensures.answer (without_got m) lpdu h.stands is ∙ lpdu_told_apart m lpdu
@@ -37,15 +37,15 @@ pub returns-then-report-clause-moves : goal.returns-then-report-clause-moves
 returns-then-report-clause-moves c =
     let t = c.take_read-report in
     let r = c.requires.stands in
-    moves_on c.args.pool.now t.new.pool c.args.self.now.side.link t.new.self.link c.fetch.new.self.side.link
-    (call_moves c.args.pool.now t.new.pool c.args.self.now.side.link t.new.self.link (without_got r.0) r.1.stands t.ensures.elsewhere) c.fetch.ensures.owners
+    moves_on c.args.pool.now t.new.pool c.args.self.now.side t.new.self c.fetch.new.self.side
+    (call_moves c.args.pool.now t.new.pool c.args.self.now.side t.new.self (without_got r.0) r.1.stands t.ensures.elsewhere) c.fetch.ensures.owners
 
 pub returns-else-report-clause-stands : goal.returns-else-report-clause-stands
 returns-else-report-clause-stands c m lpdu h is =
     let t = c.take_read-report in
     let told = t.ensures.answer (without_got m) lpdu h.stands is ∙ lpdu_told_apart m lpdu in
     let none = none_came (got_by m (lpdu_input lpdu)) (ap (λ (r : LinkReport). r.got) (sym told) ∙ c.if-report.false) in
-    still_holds c.args.pool.now t.new.pool c.args.self.now.side.link t.new.self.link c.args.self.now.waiting m (lpdu_input lpdu) h none
+    still_holds c.args.pool.now t.new.pool c.args.self.now.side t.new.self c.args.self.now.waiting m (lpdu_input lpdu) h none
     (lpdu_is_outside lpdu) t.ensures.elsewhere (t.ensures.stands (without_got m) lpdu h.stands is)
 
 pub returns-else-report-clause-answer : goal.returns-else-report-clause-answer
@@ -55,4 +55,4 @@ pub returns-else-report-clause-moves : goal.returns-else-report-clause-moves
 returns-else-report-clause-moves c =
     let t = c.take_read-report in
     let r = c.requires.stands in
-    call_moves c.args.pool.now t.new.pool c.args.self.now.side.link t.new.self.link (without_got r.0) r.1.stands t.ensures.elsewhere
+    call_moves c.args.pool.now t.new.pool c.args.self.now.side t.new.self (without_got r.0) r.1.stands t.ensures.elsewhere

@@ -19,9 +19,9 @@ returns-clause-becomes c =
     let t = c.tick in
     takes {t = record s { side = t.new.self }} {i = Tick} {told = t.result} {kept = c.insert-report.result.now} (record {
       outside = refl;
-      stands = λ m h. still_holds c.args.pool.now t.new.pool s.side.link t.new.self.link s.waiting m Tick h refl refl t.ensures.elsewhere
+      stands = λ m h. still_holds c.args.pool.now t.new.pool s.side t.new.self s.waiting m Tick h refl refl t.ensures.elsewhere
           (t.ensures.stands (without_got m) h.stands);
-      moves = call_moves c.args.pool.now t.new.pool s.side.link t.new.self.link (without_got r.0.side) r.1.holds.stands t.ensures.elsewhere;
+      moves = call_moves c.args.pool.now t.new.pool s.side t.new.self (without_got r.0.side) r.1.holds.stands t.ensures.elsewhere;
       rest = refl;
     }) (λ p g. t.ensures.answer (without_got p.side) g.holds.stands ∙ tick_told_apart p.side) c.insert-report.ensures.value c.count.ensures
 
@@ -37,12 +37,12 @@ returns-then-is_idle-clause-becomes c =
     let s : Seat = c.args.self.now in
     record {
       host = refl;
-      moves = stays_beside pool s.side.link s.side.link refl refl;
+      moves = stays_beside pool s.side s.side refl refl;
       stands = λ p g.
           let idle = c.is_idle.ensures pool (without_got p.side) g.holds.stands c.if-is_idle.true in
           let same = same_apart p.side idle.same in
           record {
-            holds = subst (λ (m : Machine). HoldsEnd pool s.side.link s.waiting m) (sym same) g.holds;
+            holds = subst (λ (m : Machine). HoldsEnd pool s.side s.waiting m) (sym same) g.holds;
             desk = g.desk;
             late = g.late;
             ended = ap (λ (r : LinkReport). is_some r.ended) (sym idle.told ∙ tick_told_apart p.side);
