@@ -7,27 +7,27 @@ use Rattle.hcp_packet.specs.declared.MessageKind.{MessageKind}
 use Rattle.hcp_packet.specs.declared.MessageKind.TheVariants.{Command as IsCommand, Event as IsEvent, Response as IsResponse}
 use Rattle.hcp_packet.specs.declared.MessageFault.{MessageFault}
 use Rattle.hcp_packet.specs.MessageHeader.{header_of}
-use Rattle.hci_tables.specs.declared.command.Command.{Command}
+use Rattle.node_core.proofs.Words.{AreGranted, Asks, Command, Commits, Core, Creation, Drops, Ends, Hears, Init, IsAnswered, IsOnTask, Message, Notice, Orders}
+use Rattle.node_core.proofs.Words.{Port, Releases, SaysOk, Sends, SetsErrors, Tells, Work, answer_of, controller_deeds, done, has, has_link, has_turn}
+use Rattle.node_core.proofs.Words.{is_command_message, own_view, port_at, view_of}
 use Rattle.std.specs.Option.{option_map_or}
 use Rattle.hci_tables.specs.Tables.{is_opened}
 use Rattle.gate_loopback.specs.Loopback.{posts_back}
 use Rattle.gate_answers.specs.declared.response.Response.TheVariants as response
-use Rattle.gate_answers.specs.Answers.{answer_of, body_in}
+use Rattle.gate_answers.specs.Answers.{body_in}
 use Rattle.gate_admin.specs.declared.view.LinkView.{LinkView}
 use Rattle.gate_admin.specs.declared.decision.Decision.{Decision}
 use Rattle.gate_admin.specs.declared.decision.Decision.TheVariants.{Answer, Commit, Ask}
-use Rattle.gate_admin.specs.View.{has, hosts_where}
+use Rattle.gate_admin.specs.View.{hosts_where}
 use Rattle.gate_admin.specs.Decide.{decided}
-use Rattle.link_laws.specs.machine.Machine.{Message}
-use Rattle.node_machine.specs.Parts.{Creation, Notice, Init, Core, Port, Work, Deed}
-use Rattle.node_machine.specs.Parts.Deed.{Commits, Sends, SaysOk, Asks, Releases, Tells, IsAnswered, Drops, SetsErrors, Orders, Hears, GoesOn, Ends}
-use Rattle.node_machine.specs.Carrying.{port_at, finds_room, done, own_view}
+use Rattle.node_machine.specs.Parts.{Deed}
+use Rattle.node_machine.specs.Parts.Deed.{GoesOn}
+use Rattle.node_machine.specs.Carrying.{finds_room}
 use Rattle.node_machine.specs.Controller.{creation_in, commit_deeds, decision_deeds, link_deeds, gate_deeds, served_at, agreed, creation_deeds}
-use Rattle.node_machine.specs.Controller.{notice_deeds, relayed_to, unrelayed, event_deeds, unless_asking, if_notice, kind_deeds, view_of, about_at, about_of}
+use Rattle.node_machine.specs.Controller.{notice_deeds, relayed_to, unrelayed, event_deeds, unless_asking, if_notice, kind_deeds, about_at, about_of}
 use Rattle.node_machine.specs.Controller.{own_deeds, relay_deeds}
-use Rattle.node_machine.specs.Controller.{deeds_by_relay, controller_deeds, has_link, own_gate, view_for, goes_through, is_command_message, answers_on}
-use Rattle.node_core.specs.Deeds.{IsOnTask, IsGranted, AreGranted}
-use Rattle.node_core.specs.Handling.{has_turn}
+use Rattle.node_machine.specs.Controller.{deeds_by_relay, own_gate, view_for, goes_through, answers_on}
+use Rattle.node_core.specs.Deeds.{IsGranted}
 
 -- ## Deeds that may always be done
 

@@ -6,27 +6,15 @@ use Rattle.std.specs.List.{AllByRecursion, flat_map}
 use Rattle.std.specs.Option.{option_map_or}
 use Rattle.std.proofs.lemmas.Bool.{eqb-true}
 use Rattle.std.proofs.lemmas.List.Concat.{flat_map-cons}
-use Rattle.swp_base.specs.declared.control_frames.Control.{Control}
+use Rattle.node_core.proofs.Words.{AreAllDifferent, AreNotes, AtEnd, Control, Core, EndsStandFor, Entry, IsInStep, KeptEnds, LinkInput, LinkReport, Message}
+use Rattle.node_core.proofs.Words.{Node, PoolState, Port, Seat, SeatsStandFor, Work, after_input, all_come, changed_if, got_at, has_come, input_at, kept_number}
+use Rattle.node_core.proofs.Words.{noting, port_at, report, report_told, told_at, unnumbered, whole_acked, with_port}
 use Rattle.swp_lpdu.specs.declared.LpduFault.{LpduFault}
 use Rattle.swp_lpdu.specs.Controls.{control_of}
-use Rattle.block_pool.specs.Pool.{PoolState}
-use Rattle.trace_model.specs.declared.entry.Entry.{Entry}
-use Rattle.link_laws.specs.machine.Machine.{LinkEnd as Machine, Message, LinkInput, oldest, report, after_input, got_by, whole_acked, lpdu_input}
-use Rattle.link_end.specs.declared.report.LinkReport.{LinkReport}
-use Rattle.link_end.specs.Reports.{report_told}
-use Rattle.node_machine.specs.Parts.{Core, Port, Work}
-use Rattle.node_machine.specs.Carrying.{port_at, changed_if, with_port, noting}
-use Rattle.node_machine.specs.Node.{has_come, told_at, input_at, all_come}
-use Rattle.node_machine.specs.Node.NodeInput.{AtEnd}
-use Rattle.node_ends.specs.declared.seat.Seat.{Seat}
+use Rattle.link_laws.specs.machine.Machine.{LinkEnd as Machine, oldest, got_by, lpdu_input}
 use Rattle.node_ends.specs.declared.seat.Waiting.{Waiting}
-use Rattle.node_ends.specs.Holding.{messages_waiting, kept_number}
-use Rattle.node_ends.specs.Ends.{KeptEnds, SeatsStandFor, EndsStandFor, got_at}
-use Rattle.node_ends.specs.Making.{AreAllDifferent}
+use Rattle.node_ends.specs.Holding.{messages_waiting}
 use Rattle.node_ends.proofs.Apart.{is_outside, input_apart}
-use Rattle.node_core.specs.declared.node.Node.{Node}
-use Rattle.node_core.specs.Nodes.{IsInStep}
-use Rattle.node_core.specs.Noting.{AreNotes, unnumbered}
 use Rattle.node_core.proofs.Notes.{comes_noted, no_notes}
 use Rattle.node_core.proofs.Sendables.{found_all}
 use Rattle.node_core.proofs.Elsewhere.{host_at, hosts_differ}

@@ -2,32 +2,23 @@
 use Rattle.std.proofs.Common.{◌≡◌, ◌≢◌, ℕ, Bool, true, false, not, ◌&&◌, List, [], ◌∷◌, map, refl, sym, ap, ◌∙◌, subst, arith, append-nil}
 use Rattle.std.specs.Prelude.{Option, Some, None, IfSome, is_some, ◌==◌}
 use Rattle.std.proofs.lemmas.Bool.{true≢false}
-use Rattle.trace_model.specs.declared.entry.Entry.{Entry}
-use Rattle.hci_store.specs.Stored.{Stored}
-use Rattle.link_laws.specs.machine.Machine.{Refused, Role, give_refusal}
+use Rattle.node_core.proofs.Words.{BeginsStep, Core, EndsStandFor, Entry, HasStepped, Init, IsAsked, IsInStep, IsNodeInOrder, IsOnTask, IsUicc, IsUsable, Node}
+use Rattle.node_core.proofs.Words.{Orders, Port, Refused, Role, RunsAs, Sends, Stored, Work, all_done, between, done, give_refusal, if_waiting}
+use Rattle.node_core.proofs.Words.{is_command_message, port_at, sending}
 use Rattle.link_laws.specs.machine.Machine.Role.{Bare, Clf, Uicc}
 use Rattle.link_laws.specs.machine.Machine.Refused.{NotUp, TooLong, Full, Inactive, IsWaiting}
-use Rattle.node_machine.specs.Parts.{Init, Core, Port, Work, Deed}
-use Rattle.node_machine.specs.Parts.Deed.{Sends, Orders, GoesOn}
-use Rattle.node_machine.specs.Carrying.{port_at, done, all_done}
-use Rattle.node_machine.specs.Controller.{is_command_message}
-use Rattle.node_machine.specs.world.World.{sending, beginning}
-use Rattle.node_machine.specs.world.Lines.{if_waiting}
+use Rattle.node_machine.specs.Parts.{Deed}
+use Rattle.node_machine.specs.Parts.Deed.{GoesOn}
+use Rattle.node_machine.specs.world.World.{beginning}
 use Rattle.node_machine.specs.Orders.{IsOnOrder}
-use Rattle.node_ends.specs.Ends.{EndsStandFor, MayStartAt}
+use Rattle.node_ends.specs.Ends.{MayStartAt}
 use Rattle.link_end.specs.Roles.{MayStart}
 use Rattle.swp_act.specs.declared.ActEvent.TheVariants.{Start as ActStart}
-use Rattle.node_core.specs.declared.node.Node.{Node}
-use Rattle.node_core.specs.Nodes.{IsInStep, IsUsable}
 use Rattle.node_ends.specs.declared.inputs.LinkInput.{LinkInput as ToEnd}
 use Rattle.node_ends.specs.declared.inputs.LinkInput.TheVariants as asks
 use Rattle.node_ends.specs.Inputs.{MayComeAt}
 use Rattle.node_core.specs.Inputs.{IsAskedOf}
-use Rattle.node_core.specs.Deeds.{IsOnTask}
-use Rattle.node_core.specs.Turning.{IsNodeInOrder}
-use Rattle.node_core.specs.Running.{RunsAs, BeginsStep, HasStepped, IsAllSent, between}
-use Rattle.link_laws.specs.messages.Links.{IsUicc}
-use Rattle.node_core.specs.Giving.{IsAsked}
+use Rattle.node_core.specs.Running.{IsAllSent}
 use Rattle.node_core.proofs.Quiet.{done_quiet}
 use Rattle.node_core.proofs.Elsewhere.{same_links}
 use Rattle.node_core.proofs.EndKinds.{same_kinds}

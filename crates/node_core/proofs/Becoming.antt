@@ -3,34 +3,25 @@ use Rattle.std.proofs.Common.{◌≡◌, ℕ, zero, suc, ◌+◌, Bool, true, fa
 use Rattle.std.specs.Prelude.{Option, Some, None, IfSome, option_map, ◌==◌, nat_le}
 use Rattle.std.specs.List.{find, flat_map}
 use Rattle.std.proofs.lemmas.Bool.{true≢false}
-use Rattle.swp_base.specs.declared.control_frames.Act.{Act}
+use Rattle.node_core.proofs.Words.{Act, ActEvent, AtEnd, BeginsStep, EndState, Entry, IsReached, LinkInput, Node, Port, Role, Work, act_answer, activated}
+use Rattle.node_core.proofs.Words.{after_input, all_come, goes_through_ends, got_at, has_come, have_turns, input_at, is_open, passes, port_at, put_down, report}
+use Rattle.node_core.proofs.Words.{reset_refusal, role_after, settles, steps, synced, unless_cut}
 use Rattle.swp_base.specs.declared.control_frames.Act.TheVariants.{Ready, SyncId, PowerMode}
 use Rattle.swp_base.specs.declared.control_frames.Control.TheVariants.{I, S, Rset, Ua, Act as ActFrame, Clt}
-use Rattle.swp_act.specs.declared.ActEvent.{ActEvent}
 use Rattle.swp_act.specs.declared.ActEvent.TheVariants.{Start as ActStart, Take as ActTake, Tick as ActTick, Stop as ActStop}
 use Rattle.swp_act.specs.declared.Phase.{Phase}
 use Rattle.swp_act.specs.declared.Phase.TheVariants.{Inactive, Awaiting, Active}
 use Rattle.swp_act.specs.Activation.{out_ticked}
 use Rattle.shdlc_core.specs.declared.answers.LinkState.TheVariants.{Down}
-use Rattle.shdlc_core.specs.Machine.{EndState, after_frames}
+use Rattle.shdlc_core.specs.Machine.{after_frames}
 use Rattle.link_laws.proofs.sessions.Ties.{fetched-phase}
-use Rattle.trace_model.specs.declared.entry.Entry.{Entry}
-use Rattle.link_laws.specs.machine.Machine.{LinkEnd as Machine, LinkInput, Role, is_open, act_answer, role_after, put_down, activated}
-use Rattle.link_laws.specs.machine.Machine.{report, reset_refusal, sent_all, after_input}
+use Rattle.link_laws.specs.machine.Machine.{LinkEnd as Machine}
+use Rattle.link_laws.specs.machine.Machine.{sent_all}
 use Rattle.link_laws.specs.machine.Machine.Role.{Bare, Clf, Uicc}
 use Rattle.link_laws.specs.machine.Machine.LinkInput.{Take, TakeUnknown, TakeBroken, Tick, Reset, Start, Stop, FromNode, Fetch}
 use Rattle.link_laws.proofs.machine.Runs.{Sound, sound}
 use Rattle.node_deeds.proofs.Ports.{find-map}
-use Rattle.node_machine.specs.Parts.{Port, Work, Deed}
-use Rattle.node_machine.specs.Carrying.{port_at, unless_cut}
-use Rattle.node_machine.specs.Turns.{goes_through_ends, have_turns, passes}
-use Rattle.node_machine.specs.Node.{input_at, has_come, all_come, synced, steps}
-use Rattle.node_machine.specs.Node.NodeInput.{AtEnd}
-use Rattle.node_ends.specs.Ends.{got_at}
-use Rattle.node_ends.specs.Holding.{IsReached}
-use Rattle.node_core.specs.declared.node.Node.{Node}
-use Rattle.node_core.specs.Running.{BeginsStep}
-use Rattle.node_core.specs.Syncing.{settles}
+use Rattle.node_machine.specs.Parts.{Deed}
 use Rattle.node_core.proofs.Joining.{stays_cut, goes_on}
 use Rattle.node_core.proofs.Quiet.{LinkSeen, link_at}
 use Rattle.node_core.proofs.Elsewhere.{host_at, same_links, turns_links}

@@ -3,19 +3,16 @@ use Rattle.std.proofs.Common.{◌≡◌, ◌≢◌, ℕ, zero, suc, ◌+◌, ◌
 use Rattle.std.specs.Prelude.{◌==◌, false}
 use Rattle.std.specs.List.{AllByRecursion}
 use Rattle.std.proofs.lemmas.Bool.{ne_eqb}
-use Rattle.link_laws.specs.messages.Links.{IsClf, IsUicc}
+use Rattle.link_laws.specs.messages.Links.{IsClf}
+use Rattle.node_core.proofs.Words.{AreAtMostDue, AreHeldWhileOneWaits, AreInTime, AreOfHosts, EndsStandFor, HasOwnLink, IsUicc, IsUsable, Node, Port, RunsAs}
+use Rattle.node_core.proofs.Words.{between, has, hosts_linked, init_running}
 use Rattle.swp_base.specs.declared.link_terms.Role.{Role as Named}
 use Rattle.swp_base.specs.declared.link_terms.Role.TheVariants.{Bare, Clf, Uicc}
-use Rattle.node_machine.specs.Parts.{Port}
-use Rattle.node_deeds.specs.Hosts.{init_running}
-use Rattle.node_ends.specs.Ends.{EndsStandFor, AreOfHosts}
 use Rattle.node_ends.specs.Making.{new_port}
-use Rattle.node_core.specs.declared.node.Node.{Node}
-use Rattle.node_core.specs.Nodes.{IsUsable}
-use Rattle.gate_admin.specs.View.{has, hosts_where}
-use Rattle.node_core.specs.Booting.{BeginsAs, role_at, hosts_linked}
-use Rattle.node_core.specs.Turning.{HasOwnLink, HaveOwnRoles, AreAtMostDue}
-use Rattle.node_core.specs.Running.{RunsAs, AreInTime, AreHeldWhileOneWaits, between, core_kept}
+use Rattle.gate_admin.specs.View.{hosts_where}
+use Rattle.node_core.specs.Booting.{BeginsAs, role_at}
+use Rattle.node_core.specs.Turning.{HaveOwnRoles}
+use Rattle.node_core.specs.Running.{core_kept}
 use Rattle.node_core.proofs.Masks.{hosts_within, links_within}
 
 one_few : (role : Named) (h : ℕ) → length (new_port role h).side.acts + length (new_port role h).side.shdlc.due ≤ 5

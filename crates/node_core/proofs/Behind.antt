@@ -3,20 +3,11 @@ use Rattle.std.proofs.Common.{◌≡◌, ℕ, ◌≤◌, Bool, true, false, List
 use Rattle.std.specs.Prelude.{Option, Some, None, ◌==◌}
 use Rattle.std.proofs.lemmas.Bool.Decides.{nat_tests}
 use Rattle.swp_act.specs.declared.ActEvent.TheVariants.{Start as ActStart}
-use Rattle.trace_model.specs.declared.entry.Entry.{Entry}
-use Rattle.hci_store.specs.Stored.{Stored}
-use Rattle.link_laws.specs.machine.Machine.{Role}
+use Rattle.node_core.proofs.Words.{AreAtMostDue, AreHeldWhileOneWaits, AreInTime, AreYoung, BeginsStep, Brings, EndsStandFor, Entry, Foretells, HasStepped}
+use Rattle.node_core.proofs.Words.{IsInStep, IsNodeInOrder, IsUsable, Node, NodeInput, Port, Role, Stored, WereMade, Work, between, plan_left, port_at, steps}
 use Rattle.link_laws.specs.machine.Machine.Role.{Bare, Clf, Uicc}
 use Rattle.link_end.specs.Roles.{MayStart}
-use Rattle.node_machine.specs.Parts.{Port, Work}
-use Rattle.node_machine.specs.Carrying.{port_at}
-use Rattle.node_machine.specs.Node.{NodeInput, steps}
-use Rattle.node_ends.specs.Ends.{EndsStandFor, IsHeldWhileOneWaits, MayStartAt}
-use Rattle.node_core.specs.declared.node.Node.{Node}
-use Rattle.node_core.specs.Nodes.{IsUsable, IsInStep}
-use Rattle.node_core.specs.Bringing.{Brings, WereMade, Foretells, plan_left}
-use Rattle.node_core.specs.Turning.{IsNodeInOrder, AreAtMostDue, AreYoung}
-use Rattle.node_core.specs.Running.{BeginsStep, HasStepped, AreInTime, AreHeldWhileOneWaits, between}
+use Rattle.node_ends.specs.Ends.{IsHeldWhileOneWaits, MayStartAt}
 use Rattle.node_core.proofs.Elsewhere.{hosts_differ}
 use Rattle.node_core.proofs.Staying.{steps_fine}
 use Rattle.node_core.proofs.Lasting.{OfAll, Ready, Rests}

@@ -4,10 +4,9 @@ use Rattle.std.proofs.Common.{◌∷◌, ◌++◌, map, length, refl, sym, ap, a
 use Rattle.std.specs.Prelude.{Option, Some, None, option_map, slice_get, ◌==◌, ◌&&◌, IsTrue}
 use Rattle.std.specs.List.{AllByRecursion}
 use Rattle.std.proofs.lemmas.List.{length-map}
-use Rattle.block_pool.specs.Pool.{PoolState}
-use Rattle.swp_base.specs.declared.control_frames.Control.{Control}
-use Rattle.trace_model.specs.declared.entry.Entry.{Entry}
-use Rattle.hci_store.specs.Stored.{Stored}
+use Rattle.node_core.proofs.Words.{AreAllDifferent, AreAtMostDue, AreHeldWhileOneWaits, AreInTime, BeginsStep, Control, Core, EndsStandFor, Entry, HasNoneEnded}
+use Rattle.node_core.proofs.Words.{HasStepped, IsInStep, IsNodeInOrder, IsReached, IsUsable, KeptEnds, Node, PoolState, Port, RunsAs, Seat, SeatsStandFor}
+use Rattle.node_core.proofs.Words.{Stored, Tasks, Work, at_place, between, changed_if, due_count, has_sent, init_running, port_at, with_port}
 use Rattle.shdlc_core.specs.declared.answers.Due.{Due}
 use Rattle.shdlc_core.specs.Machine.{all_frames, fetched, fragment_due, Fragment}
 use Rattle.link_laws.specs.machine.Machine.{LinkEnd as Machine, ActDue, among, next_frame, frame_fetched, frames_out, sent_all, nearer}
@@ -15,23 +14,13 @@ use Rattle.link_laws.specs.machine.AtRest.{end_rests}
 use Rattle.link_laws.specs.machine.Laws.{fetches, after_fetches, most_fetches}
 use Rattle.link_laws.proofs.machine.Places.{fetched_all, left_all}
 use Rattle.link_laws.proofs.places.Idle.{left, idle_after}
-use Rattle.node_machine.specs.Parts.{Core, Port, Work, Desk as DeskOf}
-use Rattle.node_deeds.specs.declared.host.Tasks.{Tasks}
-use Rattle.node_deeds.specs.Hosts.{init_running}
-use Rattle.node_machine.specs.Carrying.{changed_if, with_port, port_at}
+use Rattle.node_machine.specs.Parts.{Desk as DeskOf}
 use Rattle.node_machine.specs.Node.{with_error}
-use Rattle.node_ends.specs.declared.seat.Seat.{Seat}
-use Rattle.node_ends.specs.Ends.{KeptEnds, EndsStandFor, SeatStandsFor, SeatsStandFor, IsHeldWhileOneWaits, at_place, has_sent, frame_at, are_at_rest}
+use Rattle.node_ends.specs.Ends.{SeatStandsFor, IsHeldWhileOneWaits, frame_at, are_at_rest}
 use Rattle.node_ends.specs.Desks.{age_at}
-use Rattle.node_ends.specs.Making.{AreAllDifferent}
-use Rattle.node_ends.specs.Holding.{IsReached}
-use Rattle.node_ends.proofs.Dues.{due_count}
 use Rattle.node_ends.proofs.Sending.{sent_same}
-use Rattle.node_core.specs.declared.node.Node.{Node}
-use Rattle.node_core.specs.Nodes.{CoreStandsFor, IsUsable, IsInStep}
-use Rattle.node_core.specs.Turning.{IsNodeInOrder, AreAtMostDue}
-use Rattle.node_core.specs.Running.{RunsAs, BeginsStep, HasStepped, HasNoneEnded}
-use Rattle.node_core.specs.Running.{IsAllSent, AreInTime, AreHeldWhileOneWaits, SendsOneByOne, between, one_more_error}
+use Rattle.node_core.specs.Nodes.{CoreStandsFor}
+use Rattle.node_core.specs.Running.{IsAllSent, SendsOneByOne, one_more_error}
 use Rattle.node_core.proofs.Elsewhere.{host_at}
 use Rattle.node_core.proofs.EndKinds.{kind_at, port_kinds, sent_kind, kept_kinds}
 use Rattle.node_core.proofs.Ordering.{in_order_at}

@@ -3,25 +3,16 @@ use Rattle.std.proofs.Common.{◌≡◌, ℕ, ◌≤◌, true, List, [], ◌∷�
 use Rattle.std.specs.Prelude.{Option, Some, None, option_map, IfSome, Result, Ok, Err, OnErr}
 use Rattle.std.specs.List.{flat_map}
 use Rattle.std.specs.Option.{option_map_or}
-use Rattle.swp_base.specs.InMemory.{Plan}
-use Rattle.link_laws.specs.machine.Machine.{LinkInput}
-use Rattle.link_end.specs.declared.report.ResetRefused.{ResetRefused}
-use Rattle.node_machine.specs.Parts.{Core, Port, Work}
-use Rattle.node_machine.specs.Carrying.{port_at}
-use Rattle.node_machine.specs.Node.{NodeInput, all_come, told_at, times_out, synced}
-use Rattle.node_machine.specs.Node.NodeInput.{AtEnd, TimePasses}
-use Rattle.node_ends.specs.Ends.{AreOfHosts}
-use Rattle.node_ends.specs.Making.{AreAllDifferent}
+use Rattle.node_core.proofs.Words.{AreAllDifferent, AreAtMostDue, AreFewDue, AreOfHosts, AtEnd, Core, HasNoneEnded, IsNodeInOrder, LinkInput, NodeInput, Plan}
+use Rattle.node_core.proofs.Words.{Port, ResetRefused, TimePasses, Work, all_come, between, input_of_end, port_at, reset_few_due, sync_kept, synced, times_out}
+use Rattle.node_core.proofs.Words.{told_at}
 use Rattle.node_ends.proofs.Apart.{is_outside}
-use Rattle.node_ends.proofs.Dues.{lpdu_few, reset_few_due, start_few, stop_few}
+use Rattle.node_ends.proofs.Dues.{lpdu_few, start_few, stop_few}
 use Rattle.node_ends.specs.declared.inputs.LinkInput.{LinkInput as ToEnd}
 use Rattle.node_ends.specs.declared.inputs.LinkInput.TheVariants.{Frame, Reset, Start, Stop}
 use Rattle.node_core.specs.declared.inputs.NodeInput.{NodeInput as ToNode}
 use Rattle.node_core.specs.declared.inputs.NodeInput.TheVariants.{At, Tick}
-use Rattle.node_core.specs.Turning.{IsNodeInOrder, AreFewDue, AreAtMostDue}
-use Rattle.node_core.specs.Syncing.{sync_kept}
-use Rattle.node_core.specs.Running.{HasNoneEnded, between}
-use Rattle.node_ends.specs.Inputs.{frame_said, input_of_end, MayComeAt, refusal_at}
+use Rattle.node_ends.specs.Inputs.{frame_said, MayComeAt, refusal_at}
 use Rattle.node_core.specs.Inputs.{input_of_node, MayComeToNode, refusal_by, sync_by}
 use Rattle.node_core.proofs.Elsewhere.{host_at}
 use Rattle.node_core.proofs.Arriving.{lpdu_outside}

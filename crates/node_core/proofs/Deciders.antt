@@ -3,21 +3,12 @@ use Rattle.std.proofs.Common.{◌≡◌, ◌≢◌, ℕ, ◌≤◌, Bool, true, 
 use Rattle.std.specs.Prelude.{Option, Some, None, option_map, slice_get, ◌==◌}
 use Rattle.std.specs.Option.{option_map_or}
 use Rattle.std.proofs.lemmas.Bool.{eqb-true, eq-eqb}
-use Rattle.trace_model.specs.declared.entry.Entry.{Entry}
-use Rattle.link_laws.specs.sessions.Sessions.{is_up}
-use Rattle.link_laws.specs.machine.Machine.{Message}
-use Rattle.node_machine.specs.Parts.{Init, Desk as DeskOf, Port, Work}
-use Rattle.node_machine.specs.Carrying.{port_at}
-use Rattle.node_deeds.specs.declared.desks.Desk.{Desk}
-use Rattle.node_deeds.specs.Shown.{Handling, desk_shown}
+use Rattle.node_core.proofs.Words.{AreOfHosts, Desk, Entry, Handling, HasOwnLink, Init, IsInStep, IsNodeInOrder, Message, Node, Port, Work, got_at, handling}
+use Rattle.node_core.proofs.Words.{has_link, init_running, is_up, port_at}
+use Rattle.node_machine.specs.Parts.{Desk as DeskOf}
+use Rattle.node_deeds.specs.Shown.{desk_shown}
 use Rattle.node_deeds.specs.Cores.{handled}
-use Rattle.node_deeds.specs.Hosts.{init_running, IsHostAt}
-use Rattle.node_machine.specs.Controller.{has_link}
-use Rattle.node_ends.specs.Ends.{AreOfHosts, got_at}
-use Rattle.node_core.specs.declared.node.Node.{Node}
-use Rattle.node_core.specs.Deeds.{handling}
-use Rattle.node_core.specs.Nodes.{IsInStep}
-use Rattle.node_core.specs.Turning.{HasOwnLink, IsNodeInOrder}
+use Rattle.node_deeds.specs.Hosts.{IsHostAt}
 
 -- ## Controllers
 

@@ -1,14 +1,11 @@
 -- Deeds that were decided may be done.
 use Rattle.std.proofs.Common.{◌≡◌, arith, ℕ, List, [], ◌∷◌}
 use Rattle.std.specs.Prelude.{Option, Some, None}
-use Rattle.hcp_packet.specs.Packets.{IsSendable}
-use Rattle.node_machine.specs.Parts.{Init, Work}
-use Rattle.node_machine.specs.Carrying.{done}
+use Rattle.node_core.proofs.Words.{AreDoableInTurn, AreGranted, Handling, Init, IsDoableNow, IsSendable, Work, deed_shown, deeds_shown, done, goes_on_with}
 use Rattle.node_deeds.specs.declared.deeds.Deed.{Deed}
 use Rattle.node_deeds.specs.declared.deeds.Deed.TheVariants as kept
 use Rattle.node_deeds.specs.Cores.{IsDoable as IsDecided, AreDoable as AreDecided}
-use Rattle.node_deeds.specs.Shown.{Handling, goes_on_with, deed_shown, deeds_shown}
-use Rattle.node_core.specs.Deeds.{IsDoableNow, AreDoableInTurn, IsGranted, AreGranted}
+use Rattle.node_core.specs.Deeds.{IsGranted}
 
 -- an init that goes on runs still, and where none does only an answer is heard
 going : (a : Handling) (answered : ℕ) (w : Work) → IsGranted a.init (goes_on_with a.init answered) w → w.core.init ≡ a.init

@@ -6,29 +6,19 @@ use Rattle.nv_journal.specs.declared.JournalFault.{JournalFault}
 use Rattle.nv_journal.specs.declared.JournalFault.TheVariants.{NvFault, GenerationsSpent}
 use Rattle.std.specs.Option.{option_map_or}
 use Rattle.std.proofs.lemmas.Bool.{true≢false, eqb-true}
-use Rattle.trace_model.specs.declared.entry.Entry.{Entry}
+use Rattle.node_core.proofs.Words.{AreMade, Brings, Command, Core, End, EndsStandFor, Entry, Foretells, Give, IsInStep, KeptEnds, Message, Node, Port, Refused}
+use Rattle.node_core.proofs.Words.{Stored, WereMade, Work, Write, after_turn, body_of, commit_writes, end_of_node, fails_within, give_refusal, noted_of, noting}
+use Rattle.node_core.proofs.Words.{plan_behind, plan_left, port_at, takes_at, turn_at, unnumbered, with_port}
 use Rattle.trace_model.specs.declared.entry.Entry.TheVariants as entry
-use Rattle.journal_laws.specs.Writes.{Write, AreMade}
-use Rattle.journal_laws.specs.Planned.{fails_within}
 use Rattle.journal_laws.specs.declared.state.State.{State}
-use Rattle.hci_tables.specs.declared.command.Command.{Command}
 use Rattle.hci_tables.specs.Tables.{apply}
-use Rattle.hci_tables.specs.Bodies.{body_of}
-use Rattle.hci_store.specs.Stored.{Stored}
-use Rattle.hci_store.specs.Committing.{record_fits, commit_writes, committed}
-use Rattle.link_laws.specs.machine.Machine.{Message, Refused, give_refusal}
-use Rattle.link_laws.specs.machine.Machine.Turn.{Give}
-use Rattle.node_machine.specs.Parts.{Core, Port, Work}
-use Rattle.node_machine.specs.Carrying.{port_at, noted_of, end_of_node, with_port, after_turn, turn_at, commit, keeps, loses_power, noting}
-use Rattle.node_machine.specs.Carrying.{has_room_for, plan_behind}
-use Rattle.trace_model.specs.declared.line.End.{End}
+use Rattle.hci_store.specs.Committing.{record_fits, committed}
+use Rattle.node_machine.specs.Carrying.{commit, keeps, loses_power}
+use Rattle.node_machine.specs.Carrying.{has_room_for}
 use Rattle.link_end.specs.declared.report.SendRefused.{SendRefused}
 use Rattle.link_end.specs.Reports.{by_refusal_told}
-use Rattle.node_ends.specs.Ends.{KeptEnds, takes_at, given_at, EndsStandFor}
-use Rattle.node_core.specs.declared.node.Node.{Node}
-use Rattle.node_core.specs.Noting.{unnumbered}
-use Rattle.node_core.specs.Nodes.{CoreStandsFor, IsInStep}
-use Rattle.node_core.specs.Bringing.{WereMade, Foretells, plan_left, Brings}
+use Rattle.node_ends.specs.Ends.{given_at}
+use Rattle.node_core.specs.Nodes.{CoreStandsFor}
 
 -- ## Entries
 

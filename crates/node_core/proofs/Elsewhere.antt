@@ -4,19 +4,12 @@ use Rattle.std.specs.Prelude.{Option, Some, None, ◌==◌, option_map, slice_ge
 use Rattle.std.specs.List.{AllByRecursion}
 use Rattle.std.specs.Option.{option_map_or}
 use Rattle.std.proofs.lemmas.Bool.{eqb-true}
-use Rattle.block_pool.specs.Pool.{PoolState}
-use Rattle.shdlc_core.specs.declared.answers.LinkState.{LinkState}
-use Rattle.shdlc_core.specs.Machine.{EndState, with_ready}
-use Rattle.link_laws.specs.machine.Machine.{Message}
-use Rattle.link_laws.specs.machine.Machine.Turn.{Hold}
-use Rattle.node_machine.specs.Parts.{Port, Work, Deed as DeedOf}
-use Rattle.node_machine.specs.Carrying.{port_at, changed_if, with_port, after_turn, lack, needs}
-use Rattle.node_machine.specs.Turns.{deeds_of, handles, holds_back, lets_go, have_turns}
-use Rattle.node_ends.specs.declared.seat.Seat.{Seat}
-use Rattle.node_ends.specs.Ends.{SeatsStandFor, HaveOwnHosts, AreOfHosts, FewAreDue, held_at}
-use Rattle.node_ends.specs.Making.{AreAllDifferent}
+use Rattle.node_core.proofs.Words.{AreAllDifferent, AreFewDue, AreOfHosts, EndState, FewAreDue, Hold, LinkState, Message, PoolState, Port, Seat, SeatsStandFor}
+use Rattle.node_core.proofs.Words.{Work, after_turn, changed_if, deeds_of, handles, have_turns, held_at, holds_back, lack, lets_go, needs, port_at, with_port}
+use Rattle.shdlc_core.specs.Machine.{with_ready}
+use Rattle.node_machine.specs.Parts.{Deed as DeedOf}
+use Rattle.node_ends.specs.Ends.{HaveOwnHosts}
 use Rattle.node_ends.proofs.Changing.{host_is}
-use Rattle.node_core.specs.Turning.{AreFewDue}
 use Rattle.node_core.proofs.Quiet.{Quiet, LinkSeen, quiet_at, link_at, handles_quiet, few_kept}
 use Rattle.node_core.proofs.Sendables.{found_all}
 

@@ -5,28 +5,20 @@ use Rattle.std.specs.List.{AllByRecursion}
 use Rattle.std.proofs.lemmas.Bool.{cond_both}
 use Rattle.swp_base.specs.declared.link_terms.Role.{Role as Named}
 use Rattle.swp_base.specs.declared.link_terms.Role.TheVariants.{Bare as BareName, Clf as ClfName, Uicc as UiccName}
-use Rattle.swp_base.specs.declared.control_frames.Act.{Act}
-use Rattle.swp_base.specs.declared.control_frames.Control.{Control}
+use Rattle.node_core.proofs.Words.{Act, ActEvent, Asked, Control, EndState, FetchMessage, Give, Hold, IsUicc, LinkInput, LinkState, Port, Refused, Release}
+use Rattle.node_core.proofs.Words.{Role, SetAside, Turn, act_answer, activated, after_input, aside_refusal, between, changed_if, give_refusal, given, has_come}
+use Rattle.node_core.proofs.Words.{has_sent, if_up, is_late, is_open, put_down, reset_late, reset_refusal, role_after, unless, with_port}
 use Rattle.swp_base.specs.declared.control_frames.Control.TheVariants.{I, S, Rset, Ua, Act as ActFrame, Clt}
-use Rattle.swp_base.specs.declared.link_terms.Cause.TheVariants.{Asked}
-use Rattle.swp_act.specs.declared.ActEvent.{ActEvent}
 use Rattle.swp_act.specs.declared.ActEvent.TheVariants.{Start as ActStart, Take as ActTake, Tick as ActTick, Stop as ActStop}
-use Rattle.shdlc_core.specs.declared.answers.LinkState.{LinkState}
 use Rattle.shdlc_core.specs.declared.answers.LinkState.TheVariants.{Down, Waiting, Up}
-use Rattle.shdlc_core.specs.Machine.{EndState, taken, take_answer, ticked, tick_answer, reset_with, stopped}
-use Rattle.link_laws.specs.machine.Machine.{LinkEnd as Machine, LinkInput, Refused, Role, Turn, ActDue, is_open, is_faulty, moved, put_down, with_act}
-use Rattle.link_laws.specs.machine.Machine.{activated, act_answer, role_after, heard, took, had_tick, given, give_refusal, aside_refusal, unless, turn}
-use Rattle.link_laws.specs.machine.Machine.{reset_refusal, reset_by, window_of, if_up, after_input, frame_fetched}
+use Rattle.shdlc_core.specs.Machine.{taken, take_answer, ticked, tick_answer, reset_with, stopped}
+use Rattle.link_laws.specs.machine.Machine.{LinkEnd as Machine, ActDue, is_faulty, moved, with_act}
+use Rattle.link_laws.specs.machine.Machine.{heard, took, had_tick, turn}
+use Rattle.link_laws.specs.machine.Machine.{reset_by, window_of, frame_fetched}
 use Rattle.link_laws.specs.machine.Machine.Role.{Bare, Clf, Uicc}
-use Rattle.link_laws.specs.machine.Machine.Turn.{Give, Hold, FetchMessage, SetAside, Release}
 use Rattle.link_laws.specs.machine.Machine.LinkInput.{Take, TakeUnknown, TakeBroken, Tick, Reset, Start, Stop, FromNode, Fetch}
-use Rattle.link_laws.specs.messages.Links.{IsClf, IsUicc}
-use Rattle.node_machine.specs.Parts.{Port}
-use Rattle.node_machine.specs.Carrying.{changed_if, with_port}
-use Rattle.node_machine.specs.Node.{has_come, is_late, reset_late}
-use Rattle.node_ends.specs.Ends.{has_sent}
+use Rattle.link_laws.specs.messages.Links.{IsClf}
 use Rattle.node_core.specs.Turning.{HaveOwnRoles}
-use Rattle.node_core.specs.Running.{between}
 use Rattle.node_core.proofs.Quiet.{LinkSeen, link_at}
 use Rattle.node_core.proofs.Elsewhere.{host_at}
 

@@ -2,8 +2,7 @@
 use Rattle.std.proofs.Common.{◌≡◌, ℕ, ◌≤◌, Bool, true, false, refl, sym, ◌∙◌, subst, arith}
 use Rattle.std.proofs.lemmas.Bool.{true≢false}
 use Rattle.swp_base.specs.Outside.{Rose}
-use Rattle.hci_store.specs.Stored.{Stored}
-use Rattle.node_core.specs.Faults.{CountsFaults}
+use Rattle.node_core.proofs.Words.{CountsFaults, Stored}
 use Rattle.node_core.specs.Running.{ran_so}
 use Rattle.node_core.specs.declared.running.Ran.{Ran}
 use Rattle.node_core.specs.declared.running.Ran.TheVariants.{Done, Stopped}

@@ -1,11 +1,8 @@
 -- Creations are forgotten at all ends of a node, one after another.
 use Rattle.std.proofs.Common.{◌≡◌, ℕ, zero, suc, Bool, true, false, ◌&&◌, ◌||◌, List, [], ◌∷◌, refl, ap₂, ◌∙◌}
 use Rattle.std.specs.Prelude.{Option, Some, None, ◌==◌}
-use Rattle.node_machine.specs.Parts.{Creation, Port}
-use Rattle.node_machine.specs.Controller.{asked_at}
-use Rattle.node_machine.specs.Node.{forgets, is_forgotten, is_over, is_over_at}
-use Rattle.node_ends.specs.Ends.{at_place}
-use Rattle.node_ends.proofs.Seated.{first_changed, next_changed, at_place_as}
+use Rattle.node_core.proofs.Words.{Creation, Port, asked_at, at_place, first_changed, forgets, is_forgotten, is_over, is_over_at, next_changed}
+use Rattle.node_ends.proofs.Seated.{at_place_as}
 
 -- what of an end says that its session is over
 abbrev Over : Type 0

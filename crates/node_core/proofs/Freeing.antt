@@ -10,16 +10,11 @@ use Rattle.std.specs.List.{flat_map, filter, filter_map}
 use Rattle.std.specs.Option.{option_map_or}
 use Rattle.std.proofs.lemmas.List.Concat.{flat_map-cons}
 use Rattle.std.proofs.lemmas.Grind.{flat_map-append}
-use Rattle.gate_answers.specs.declared.response.Response.{Response}
-use Rattle.trace_model.specs.declared.entry.Entry.{Entry}
-use Rattle.node_machine.specs.Parts.{Creation, Port, Work, Deed}
-use Rattle.node_machine.specs.Parts.Deed.{Releases}
-use Rattle.node_machine.specs.Carrying.{done, all_done, unless_cut}
-use Rattle.node_machine.specs.Controller.{asked_at}
-use Rattle.node_machine.specs.Node.{forgotten, is_over_at, owed}
-use Rattle.node_core.specs.declared.node.Node.{Node}
-use Rattle.node_core.specs.Nodes.{IsInStep}
-use Rattle.node_core.specs.Owing.{freed_at, answers_owed, has_ended_so, owed_at}
+use Rattle.node_core.proofs.Words.{Creation, Entry, IsInStep, Node, Port, Releases, Response, Work, all_done, answers_owed, asked_at, done, forgotten, freed_at}
+use Rattle.node_core.proofs.Words.{is_over_at, owed_at, unless_cut}
+use Rattle.node_machine.specs.Parts.{Deed}
+use Rattle.node_machine.specs.Node.{owed}
+use Rattle.node_core.specs.Owing.{has_ended_so}
 
 -- ## All ends
 

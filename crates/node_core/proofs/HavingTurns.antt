@@ -1,31 +1,19 @@
 -- A message that has its turn.
 use Rattle.std.proofs.Common.{◌≡◌, ◌≢◌, ℕ, Bool, true, false, List, [], ◌∷◌, map, refl, sym, ap, ◌∙◌, subst}
 use Rattle.std.specs.Prelude.{Option, Some, None, option_map}
-use Rattle.swp_base.specs.InMemory.{Plan}
-use Rattle.link_laws.specs.machine.Machine.{Message}
-use Rattle.link_laws.specs.machine.Machine.Turn.{Hold}
+use Rattle.node_core.proofs.Words.{AreGranted, Brings, Core, FewAreDue, Foretells, Handling, Hold, Init, IsOnTask, IsSendable, Message, Plan, Port, Work}
+use Rattle.node_core.proofs.Words.{controller_deeds, deeds_of, deeds_shown, end_view, handles, has_turn, have_turns, held_at, holds_back, host_deeds, lack}
+use Rattle.node_core.proofs.Words.{lack_shown, lets_go, needs, own_view, port_at, turn_at, unless_cut, view_of}
 use Rattle.std.specs.Option.{option_map_or}
-use Rattle.node_machine.specs.Parts.{Port, Work, Deed as DeedOf}
-use Rattle.node_machine.specs.Carrying.{port_at, turn_at, unless_cut, lack, needs, own_view, end_view}
-use Rattle.node_machine.specs.Turns.{deeds_of, handles, holds_back, lets_go, have_turns}
+use Rattle.node_machine.specs.Parts.{Deed as DeedOf}
 use Rattle.std.specs.Prelude.{◌==◌}
-use Rattle.hcp_packet.specs.Packets.{IsSendable}
-use Rattle.node_machine.specs.Parts.{Init, Core}
-use Rattle.node_machine.specs.Controller.{controller_deeds, view_of}
-use Rattle.node_machine.specs.HostReplies.{host_deeds}
 use Rattle.std.proofs.lemmas.Bool.{ne_eqb}
 use Rattle.node_deeds.specs.declared.deeds.Deed.{Deed}
 use Rattle.node_deeds.specs.declared.room.Shortfall.{Shortfall}
-use Rattle.node_deeds.specs.Room.{lack_shown}
 use Rattle.node_deeds.specs.Cores.{AreDoable as AreDecided}
-use Rattle.node_ends.specs.Ends.{FewAreDue, held_at}
-use Rattle.node_deeds.specs.Shown.{Handling, deeds_shown}
-use Rattle.node_core.specs.Deeds.{IsOnTask, AreGranted}
-use Rattle.node_core.specs.Handling.{has_turn}
 use Rattle.node_core.specs.Turning.{IsDecided}
 use Rattle.node_core.proofs.Ordering.{node_allowed}
 use Rattle.node_core.proofs.Deciding.{all_doable}
-use Rattle.node_core.specs.Bringing.{Foretells, Brings}
 use Rattle.node_core.proofs.Quiet.{quiet_at, handles_quiet}
 
 pub goes : (h : ℕ) (w : Work) → held_at w.ports h ≡ true → lets_go h w ≡ turn_at h (Hold false) w

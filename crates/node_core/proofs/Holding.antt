@@ -3,11 +3,8 @@ use Rattle.std.proofs.Common.{◌≡◌, ℕ, Bool, true, false, List, [], ◌�
 use Rattle.std.specs.Prelude.{◌==◌}
 use Rattle.std.specs.Option.{option_map_or}
 use Rattle.trace_model.specs.declared.entry.Entry.TheVariants as entry
-use Rattle.link_laws.specs.machine.Machine.Turn.{Hold}
-use Rattle.node_machine.specs.Parts.{Port, Work, Desk as DeskOf}
-use Rattle.node_machine.specs.Carrying.{port_at, with_port, with_desk, turn_at, noting, end_of_node}
-use Rattle.node_machine.specs.Turns.{holds_back}
-use Rattle.node_ends.specs.Ends.{FewAreDue}
+use Rattle.node_core.proofs.Words.{FewAreDue, Hold, Port, Work, end_of_node, holds_back, noting, port_at, turn_at, with_desk, with_port}
+use Rattle.node_machine.specs.Parts.{Desk as DeskOf}
 use Rattle.node_core.specs.Handling.{is_noted_held}
 
 -- it is noted, and then the end is held

@@ -5,21 +5,19 @@ use Rattle.std.proofs.Common.{add-one, slice_get}
 use Rattle.std.specs.Prelude.{Option, Some, None}
 use Rattle.std.proofs.lemmas.Bool.{cond_both}
 use Rattle.trace_model.specs.declared.entry.Entry.TheVariants.{InitSame, InitMade, InitFailed}
-use Rattle.hci_tables.specs.declared.command.Command.{Command}
+use Rattle.node_core.proofs.Words.{AreGranted, Command, Commits, Core, Ends, Hears, Init, IsOnTask, Message, Orders, Port, Work, answer_of, done, end_of_node}
+use Rattle.node_core.proofs.Words.{end_view, has_turn, host_deeds, own_view}
 use Rattle.hci_tables.specs.declared.command.Command.TheVariants.{Create, Delete, Clear, Set}
 use Rattle.gate_answers.specs.declared.response.Response.TheVariants as response
-use Rattle.gate_answers.specs.Answers.{answer_of, body_in}
+use Rattle.gate_answers.specs.Answers.{body_in}
 use Rattle.gate_link.specs.Link.{link_served}
-use Rattle.link_laws.specs.machine.Machine.{Message}
-use Rattle.node_machine.specs.Parts.{Init, Core, Port, Work, Deed}
-use Rattle.node_machine.specs.Parts.Deed.{Commits, Orders, Hears, GoesOn, Ends}
-use Rattle.node_machine.specs.Carrying.{end_of_node, finds_room, done, own_view, end_view}
+use Rattle.node_machine.specs.Parts.{Deed}
+use Rattle.node_machine.specs.Parts.Deed.{GoesOn}
+use Rattle.node_machine.specs.Carrying.{finds_room}
 use Rattle.node_machine.specs.Controller.{commit_deeds, link_deeds}
-use Rattle.node_machine.specs.HostReplies.{orders_of, accepts, is_same, learns, init_agreed, init_deeds, learned, ordered_deeds, host_deeds}
+use Rattle.node_machine.specs.HostReplies.{orders_of, accepts, is_same, learns, init_agreed, init_deeds, learned, ordered_deeds}
 use Rattle.node_machine.specs.Orders.{IsOnOrder}
 use Rattle.node_machine.proofs.Walks.{ordered_holds, learns_holds, learned_holds, host_holds}
-use Rattle.node_core.specs.Deeds.{IsOnTask, AreGranted}
-use Rattle.node_core.specs.Handling.{has_turn}
 
 -- the last of a list is the one behind which there is none
 last_is : (front : List (List ℕ)) (l order : List ℕ) (k : ℕ) → slice_get (front ++ l ∷ []) k ≡ Some order

@@ -4,11 +4,9 @@ use Rattle.std.specs.Prelude.{Option, Some, None, IfSome, is_some}
 use Rattle.std.specs.List.{AllByRecursion, list_any}
 use Rattle.std.specs.Option.{option_map_or}
 use Rattle.std.proofs.lemmas.Bool.{true≢false}
-use Rattle.link_laws.specs.machine.Machine.{Message, is_held}
-use Rattle.node_machine.specs.Parts.{Port, Work, Deed}
-use Rattle.node_machine.specs.Carrying.{port_at, all_done, unless_cut}
-use Rattle.node_machine.specs.Turns.{have_turns, goes_through_ends, passes}
-use Rattle.node_machine.specs.Node.{is_over}
+use Rattle.link_laws.specs.machine.Machine.{is_held}
+use Rattle.node_core.proofs.Words.{Message, Port, Work, all_done, goes_through_ends, have_turns, is_over, passes, port_at, unless_cut}
+use Rattle.node_machine.specs.Parts.{Deed}
 use Rattle.node_ends.specs.Ends.{rests, is_idle, are_idle}
 use Rattle.node_core.specs.Syncing.{finishes}
 use Rattle.node_core.proofs.Joining.{goes_on}

@@ -4,12 +4,8 @@ use Rattle.std.proofs.Common.{append_assoc, append-nil}
 use Rattle.std.specs.Prelude.{Option, Some, None, ◌==◌, ◌&&◌, nat_le}
 use Rattle.std.proofs.lemmas.Bool.{true≢false, eqb-true}
 use Rattle.std.proofs.lemmas.Bool.Decides.{nat_tests}
-use Rattle.swp_base.specs.InMemory.{Plan, plan_after}
-use Rattle.journal_laws.specs.Writes.{Write, AreMade}
-use Rattle.journal_laws.specs.Planned.{fails_within}
-use Rattle.node_machine.specs.Parts.{Work}
-use Rattle.node_machine.specs.Carrying.{plan_behind, unless_cut}
-use Rattle.node_core.specs.Bringing.{WereMade, Foretells, plan_left, Brings}
+use Rattle.swp_base.specs.InMemory.{plan_after}
+use Rattle.node_core.proofs.Words.{AreMade, Brings, Foretells, Plan, WereMade, Work, Write, fails_within, plan_behind, plan_left, unless_cut}
 
 -- ## Plans
 

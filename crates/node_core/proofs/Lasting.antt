@@ -7,15 +7,14 @@ use Rattle.std.specs.List.{AllByRecursion}
 use Rattle.std.specs.Option.{option_map_or}
 use Rattle.std.proofs.lemmas.Bool.{eqb-true, eq-eqb, true≢false}
 use Rattle.shdlc_core.specs.declared.answers.Due.TheVariants.{Rr as Rr_due}
-use Rattle.shdlc_core.specs.Machine.{EndState, with_ready}
-use Rattle.link_laws.specs.machine.Machine.{LinkEnd as Machine, Message, Turn, Refused, turn, given, unless, give_refusal, aside_refusal}
-use Rattle.link_laws.specs.machine.Machine.Turn.{Give, Hold, FetchMessage, SetAside, Release}
-use Rattle.node_machine.specs.Parts.{Port, Work, Notice, Desk as DeskOf, Deed}
-use Rattle.node_machine.specs.Parts.Deed.{Commits, Sends, SaysOk, Asks, Releases, Tells, IsAnswered, Drops, SetsErrors, Orders, Hears, GoesOn, Ends}
-use Rattle.node_machine.specs.Carrying.{port_at, changed_if, with_port, after_turn, done, all_done, needs, lack}
-use Rattle.node_machine.specs.Turns.{deeds_of, handles, holds_back, lets_go, have_turns, goes_through_ends, passes}
-use Rattle.node_ends.specs.Ends.{held_at, got_at}
-use Rattle.node_ends.specs.Making.{AreAllDifferent}
+use Rattle.shdlc_core.specs.Machine.{with_ready}
+use Rattle.node_core.proofs.Words.{AreAllDifferent, Asks, Commits, Drops, EndState, Ends, FetchMessage, Give, Hears, Hold, IsAnswered, Message, Notice, Orders}
+use Rattle.node_core.proofs.Words.{Port, Refused, Release, Releases, SaysOk, Sends, SetAside, SetsErrors, Tells, Turn, Work, after_turn, all_done}
+use Rattle.node_core.proofs.Words.{aside_refusal, changed_if, deeds_of, done, give_refusal, given, goes_through_ends, got_at, handles, have_turns, held_at}
+use Rattle.node_core.proofs.Words.{holds_back, lack, lets_go, needs, passes, port_at, unless, with_port}
+use Rattle.link_laws.specs.machine.Machine.{LinkEnd as Machine, turn}
+use Rattle.node_machine.specs.Parts.{Desk as DeskOf, Deed}
+use Rattle.node_machine.specs.Parts.Deed.{GoesOn}
 use Rattle.node_core.proofs.Quiet.{commit_ports}
 use Rattle.node_core.proofs.Joining.{stays_cut, goes_on}
 use Rattle.node_core.proofs.Elsewhere.{host_at, turns_hosts}

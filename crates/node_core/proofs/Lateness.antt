@@ -5,33 +5,22 @@ use Rattle.std.specs.Prelude.{Option, Some, None, slice_get}
 use Rattle.std.specs.List.{AllByRecursion, flat_map}
 use Rattle.std.specs.Prelude.{Ok, Err, is_some, option_map, ◌||◌}
 use Rattle.std.proofs.lemmas.List.Concat.{flat_map-cons}
-use Rattle.link_end.specs.declared.report.ResetRefused.{ResetRefused}
+use Rattle.node_core.proofs.Words.{AreFewDue, AreYoung, Asked, Core, EndsStandFor, Entry, IsInStep, IsReached, KeptEnds, LinkReport, Node, Notice, PoolState}
+use Rattle.node_core.proofs.Words.{Port, Refused, ResetRefused, Seat, SeatsStandFor, TimePasses, Work, after_input, all_changed, at_place, entries_for}
+use Rattle.node_core.proofs.Words.{first_changed, if_up, is_late, kept_number, next_changed, none_changed, noting, own_side, port_at, report, report_told}
+use Rattle.node_core.proofs.Words.{reset_late, reset_refusal, times_out, told, told_at, whole_acked, with_older}
 use Rattle.link_end.specs.Reports.{reset_told}
-use Rattle.node_machine.specs.Node.{told_at}
 use Rattle.std.specs.Option.{option_map_or}
-use Rattle.trace_model.specs.declared.entry.Entry.{Entry}
-use Rattle.link_laws.specs.machine.Machine.{LinkEnd as Machine, Refused, report, after_input, whole_acked, reset_refusal, if_up}
+use Rattle.link_laws.specs.machine.Machine.{LinkEnd as Machine}
 use Rattle.link_laws.specs.machine.Machine.LinkInput.{Reset}
-use Rattle.link_laws.specs.entries.Entries.{End as Side, told}
-use Rattle.history.specs.Steps.{entries_for}
-use Rattle.swp_base.specs.declared.link_terms.Cause.TheVariants.{Asked}
-use Rattle.link_end.specs.declared.report.LinkReport.{LinkReport}
-use Rattle.link_end.specs.Reports.{report_told, nothing_told}
-use Rattle.node_machine.specs.Parts.{Core, Port, Notice, Work}
-use Rattle.node_machine.specs.Carrying.{own_side, port_at, noting}
-use Rattle.node_machine.specs.Node.{with_older, is_late, reset_late, told_late, times_out}
-use Rattle.node_machine.specs.Node.NodeInput.{TimePasses}
-use Rattle.node_ends.specs.Holding.{IsReached, kept_number}
+use Rattle.link_laws.specs.entries.Entries.{End as Side}
+use Rattle.link_end.specs.Reports.{nothing_told}
+use Rattle.node_machine.specs.Node.{told_late}
 use Rattle.node_ends.specs.Desks.{IsYoung, have_notices}
-use Rattle.node_ends.specs.Ends.{KeptEnds, EndsStandFor, SeatsStandFor, at_place, late_told}
-use Rattle.node_ends.specs.declared.seat.Seat.{Seat}
-use Rattle.block_pool.specs.Pool.{PoolState}
+use Rattle.node_ends.specs.Ends.{late_told}
 use Rattle.node_ends.proofs.Counting.{is_sound, reset_report}
-use Rattle.node_ends.proofs.Seated.{first_changed, none_changed, next_changed, next_there, all_changed}
+use Rattle.node_ends.proofs.Seated.{next_there}
 use Rattle.node_core.proofs.Elsewhere.{hosts_differ}
-use Rattle.node_core.specs.declared.node.Node.{Node}
-use Rattle.node_core.specs.Nodes.{IsInStep}
-use Rattle.node_core.specs.Turning.{AreFewDue, AreYoung}
 use Rattle.node_core.proofs.Ticking.{next_told, all_told, found_there}
 
 -- the ends of a node in a step have changed

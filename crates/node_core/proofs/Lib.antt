@@ -1,3 +1,4 @@
+mod Words
 pub mod Joining
 pub mod Doing
 pub mod Steps

@@ -3,10 +3,9 @@ use Rattle.std.proofs.Common.{◌≡◌, ◌≢◌, ℕ, zero, suc, ◌+◌, ◌
 use Rattle.std.specs.Prelude.{◌==◌, if◌then◌else◌}
 use Rattle.std.specs.List.{AllByRecursion, filter, range_with_len}
 use Rattle.swp_base.specs.declared.link_terms.Role.{Role as Named}
-use Rattle.gate_admin.specs.View.{has, hosts_where}
-use Rattle.node_ends.specs.Ends.{AreOfHosts}
-use Rattle.node_ends.specs.Making.{AreAllDifferent, new_port}
-use Rattle.node_core.specs.Booting.{hosts_linked}
+use Rattle.gate_admin.specs.View.{hosts_where}
+use Rattle.node_core.proofs.Words.{AreAllDifferent, AreOfHosts, has, hosts_linked}
+use Rattle.node_ends.specs.Making.{new_port}
 
 kept_all : (P : ℕ → Type 0) (test : ℕ → Bool) (xs : List ℕ) → AllByRecursion P xs → AllByRecursion P (filter test xs)
 kept_all P test [] all = tt

@@ -4,25 +4,17 @@ use Rattle.std.specs.Prelude.{Option, Some, None, is_none, is_some, ◌==◌, �
 use Rattle.std.proofs.lemmas.Bool.{eqb-true, true≢false}
 use Rattle.std.proofs.lemmas.Grind.{flat_map-append}
 use Rattle.std.proofs.lemmas.List.{map-append}
-use Rattle.trace_model.specs.declared.entry.Entry.{Entry}
+use Rattle.node_core.proofs.Words.{AreNotes, EndsStandFor, Entry, IsInStep, KeptEnds, LinkReport, Message, Node, Port, Work, end_of, entries_for, kept_number}
+use Rattle.node_core.proofs.Words.{noting, report_told, told, unnumbered}
 use Rattle.link_laws.specs.entries.Entries.{Entry as Noted}
-use Rattle.history.specs.Steps.{entry_of, entries_for}
+use Rattle.history.specs.Steps.{entry_of}
 use Rattle.swp_base.specs.declared.link_terms.Cause.{Cause}
 use Rattle.std.specs.Prelude.{nat_lt}
 use Rattle.trace_model.specs.declared.entry.Entry.TheVariants as entry
-use Rattle.link_laws.specs.machine.Machine.{Message, Report, oldest}
-use Rattle.link_laws.specs.entries.Entries.{End as Side, if_so, told}
+use Rattle.link_laws.specs.machine.Machine.{Report, oldest}
+use Rattle.link_laws.specs.entries.Entries.{End as Side, if_so}
 use Rattle.link_laws.specs.entries.Entries.Entry.{Up, Down, Active, GaveUp, Acked, Got}
-use Rattle.history.specs.Steps.{end_of}
-use Rattle.link_end.specs.declared.report.LinkReport.{LinkReport}
-use Rattle.link_end.specs.Reports.{report_told}
-use Rattle.node_machine.specs.Parts.{Port, Work}
-use Rattle.node_machine.specs.Carrying.{noting}
-use Rattle.node_ends.specs.Holding.{kept_number}
-use Rattle.node_ends.specs.Ends.{KeptEnds, EndsStandFor}
-use Rattle.node_core.specs.declared.node.Node.{Node}
-use Rattle.node_core.specs.Nodes.{IsInStep}
-use Rattle.node_core.specs.Noting.{AreNotes, tells_nothing, without_message, unnumbered}
+use Rattle.node_core.specs.Noting.{tells_nothing, without_message}
 
 -- nothing is noted
 pub no_notes : (short : Bool) (before : List Entry) → AreNotes short short before before []

@@ -2,22 +2,12 @@
 use Rattle.std.proofs.Common.{◌≡◌, ◌≢◌, ℕ, Bool, true, false, List, [], ◌∷◌, map, refl, sym, ap, ◌∙◌, subst}
 use Rattle.std.specs.Prelude.{Option, Some, None, ◌==◌}
 use Rattle.std.specs.Option.{option_map, option_map_or}
-use Rattle.swp_base.specs.InMemory.{Plan}
-use Rattle.journal_laws.specs.Writes.{Write}
-use Rattle.hci_tables.specs.Bodies.{body_of}
-use Rattle.hci_store.specs.Committing.{commit_writes}
-use Rattle.link_laws.specs.machine.Machine.{Message}
-use Rattle.node_machine.specs.Parts.{Init, Core, Port, Work, Deed}
-use Rattle.node_machine.specs.Parts.Deed.{Commits, Sends, SaysOk, Asks, Releases, Tells, IsAnswered, Drops, SetsErrors, Orders, Hears, GoesOn, Ends}
-use Rattle.node_machine.specs.Carrying.{port_at, plan_behind, unless_cut, done, all_done, lack, needs, own_view, end_view}
-use Rattle.node_machine.specs.Turns.{deeds_of, handles, holds_back, lets_go, have_turns, goes_through_ends, passes}
-use Rattle.node_machine.specs.HostReplies.{host_deeds}
-use Rattle.node_machine.specs.Controller.{controller_deeds, view_of}
-use Rattle.node_ends.specs.Ends.{held_at, got_at}
-use Rattle.node_core.specs.Bringing.{Brings, Foretells, plan_left}
-use Rattle.node_core.specs.Deeds.{IsOnTask, AreGranted}
-use Rattle.node_core.specs.Handling.{has_turn}
-use Rattle.node_core.specs.Turning.{IsNodeInOrder}
+use Rattle.node_core.proofs.Words.{AreGranted, Asks, Brings, Commits, Core, Drops, Ends, Foretells, Hears, Init, IsAnswered, IsNodeInOrder, IsOnTask, Message}
+use Rattle.node_core.proofs.Words.{Orders, Plan, Port, Releases, SaysOk, Sends, SetsErrors, Tells, Work, Write, all_done, body_of, commit_writes}
+use Rattle.node_core.proofs.Words.{controller_deeds, deeds_of, done, end_view, goes_through_ends, got_at, handles, has_turn, have_turns, held_at, holds_back}
+use Rattle.node_core.proofs.Words.{host_deeds, lack, lets_go, needs, own_view, passes, plan_behind, plan_left, port_at, unless_cut, view_of}
+use Rattle.node_machine.specs.Parts.{Deed}
+use Rattle.node_machine.specs.Parts.Deed.{GoesOn}
 use Rattle.node_core.proofs.Joining.{goes_on}
 use Rattle.node_core.proofs.Allowing.{controller_allowed}
 use Rattle.node_core.proofs.HostAllowing.{host_allowed}

@@ -5,17 +5,10 @@ use Rattle.std.specs.Option.{option_map_or}
 use Rattle.std.proofs.lemmas.Bool.{eqb-true, true≢false}
 use Rattle.std.specs.List.{AllByRecursion}
 use Rattle.std.proofs.lemmas.List.{drop_all}
-use Rattle.trace_model.specs.declared.entry.Entry.{Entry}
-use Rattle.link_laws.specs.machine.Machine.{Message, is_held}
-use Rattle.node_machine.specs.Parts.{Port, Work}
-use Rattle.node_machine.specs.Carrying.{port_at}
-use Rattle.node_machine.specs.Turns.{lets_go, have_turns, goes_through_ends, passes}
-use Rattle.node_ends.specs.Ends.{FewAreDue, got_at, held_at, rests}
-use Rattle.node_ends.specs.Making.{AreAllDifferent}
-use Rattle.node_core.specs.declared.node.Node.{Node}
-use Rattle.node_core.specs.Nodes.{IsInStep}
-use Rattle.node_core.specs.Bringing.{Brings, Foretells, plan_left}
-use Rattle.node_core.specs.Turning.{IsNodeInOrder, AreFewDue}
+use Rattle.node_core.proofs.Words.{AreAllDifferent, AreFewDue, Brings, Entry, FewAreDue, Foretells, IsInStep, IsNodeInOrder, Message, Node, Port, Work}
+use Rattle.node_core.proofs.Words.{goes_through_ends, got_at, have_turns, held_at, lets_go, passes, plan_left, port_at}
+use Rattle.link_laws.specs.machine.Machine.{is_held}
+use Rattle.node_ends.specs.Ends.{rests}
 use Rattle.node_core.proofs.Joining.{brings_plain, brings_then, brings_cut}
 use Rattle.node_core.proofs.HavingTurns.{brings_same, stays, let_cut, let_writes, let_anyway}
 use Rattle.node_core.proofs.Steps.{plainly}

@@ -3,12 +3,9 @@ use Rattle.std.proofs.Common.{◌≡◌, inl, inr, ℕ, Bool, true, false, not, 
 use Rattle.std.specs.Prelude.{None}
 use Rattle.std.proofs.lemmas.Bool.{true≢false, not-false, not-true}
 use Rattle.swp_base.specs.InMemory.{Memory, is_next, memory_after, WritesAsPlanned}
-use Rattle.journal_laws.specs.Writes.{Write, AreMade}
-use Rattle.journal_laws.specs.Planned.{fails_within, after_planned}
+use Rattle.node_core.proofs.Words.{AreMade, Brings, Foretells, WereMade, Work, Write, fails_within, plan_behind, plan_left}
+use Rattle.journal_laws.specs.Planned.{after_planned}
 use Rattle.journal_laws.proofs.Planned.{plan_of_memory_after, planned_answer, planned_memory}
-use Rattle.node_machine.specs.Parts.{Work}
-use Rattle.node_machine.specs.Carrying.{plan_behind}
-use Rattle.node_core.specs.Bringing.{WereMade, Foretells, plan_left, Brings}
 use Rattle.node_core.proofs.Joining.{made_append}
 
 -- the plan behind writes that went through, and behind one that failed

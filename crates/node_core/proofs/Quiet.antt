@@ -4,19 +4,13 @@ use Rattle.std.proofs.Common.{◌≡◌, ℕ, ◌+◌, ◌≤◌, Bool, true, fa
 use Rattle.std.specs.Prelude.{Option, Some, None, ◌==◌, option_map}
 use Rattle.std.specs.List.{find}
 use Rattle.std.specs.Option.{option_map_or}
-use Rattle.journal_laws.specs.Planned.{fails_within}
-use Rattle.hci_tables.specs.declared.command.Command.{Command}
-use Rattle.hci_tables.specs.Bodies.{body_of}
-use Rattle.hci_store.specs.Committing.{commit_writes}
-use Rattle.shdlc_core.specs.declared.answers.LinkState.{LinkState}
-use Rattle.link_laws.specs.machine.Machine.{Message, Role, Refused, given, unless, give_refusal, aside_refusal}
-use Rattle.link_laws.specs.machine.Machine.Turn.{Give, FetchMessage, SetAside, Release}
-use Rattle.node_machine.specs.Parts.{Port, Work, Deed, Desk as DeskOf}
-use Rattle.node_machine.specs.Parts.Deed.{Commits, Sends, SaysOk, Asks, Releases, Tells, IsAnswered, Drops, SetsErrors, Orders, Hears, GoesOn, Ends}
-use Rattle.node_machine.specs.Carrying.{port_at, changed_if, with_port, after_turn, commit, done, all_done}
-use Rattle.node_machine.specs.Turns.{handles}
+use Rattle.node_core.proofs.Words.{Asks, Command, Commits, Drops, Ends, FetchMessage, FewAreDue, Give, Hears, IsAnswered, LinkState, Message, Orders, Port}
+use Rattle.node_core.proofs.Words.{Refused, Release, Releases, Role, SaysOk, Sends, SetAside, SetsErrors, Tells, Work, after_turn, all_done, aside_refusal}
+use Rattle.node_core.proofs.Words.{body_of, changed_if, commit_writes, done, fails_within, give_refusal, given, handles, held_at, port_at, unless, with_port}
+use Rattle.node_machine.specs.Parts.{Deed, Desk as DeskOf}
+use Rattle.node_machine.specs.Parts.Deed.{GoesOn}
+use Rattle.node_machine.specs.Carrying.{commit}
 use Rattle.node_deeds.proofs.Ports.{find-map}
-use Rattle.node_ends.specs.Ends.{FewAreDue, held_at}
 
 -- the host of an end, how many control frames wait there, whether it takes fragments, what goes before its link, and the state of that
 abbrev pub Quiet : Type 0

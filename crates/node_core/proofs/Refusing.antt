@@ -5,24 +5,16 @@ use Rattle.std.specs.List.{AllByRecursion, flat_map}
 use Rattle.std.proofs.lemmas.Bool.{eqb-true}
 use Rattle.swp_act.specs.declared.Phase.{Phase}
 use Rattle.swp_act.specs.declared.Phase.TheVariants.{Inactive, Awaiting, Active}
-use Rattle.swp_base.specs.declared.control_frames.Act.{Act}
+use Rattle.node_core.proofs.Words.{Act, AreAllDifferent, AreAtMostDue, AreFewDue, AreYoung, Asked, AtEnd, Core, Entry, HasNoneEnded, Port, Refused}
+use Rattle.node_core.proofs.Words.{ResetRefused, Role, TimePasses, Work, act_answer, after_input, all_come, due_count, has_come, if_up, input_at, is_late}
+use Rattle.node_core.proofs.Words.{is_open, port_at, report, reset_few_due, reset_late, reset_refusal, reset_refusal_at, synced, with_older, with_port}
 use Rattle.swp_act.specs.declared.ActEvent.TheVariants.{Tick as ActTick}
 use Rattle.swp_act.specs.Activation.{out_ticked}
-use Rattle.trace_model.specs.declared.entry.Entry.{Entry}
-use Rattle.swp_base.specs.declared.link_terms.Cause.TheVariants.{Asked}
-use Rattle.link_laws.specs.machine.Machine.{LinkEnd as Machine, Refused, Role, report, after_input, reset_refusal, is_open, act_answer, if_up}
+use Rattle.link_laws.specs.machine.Machine.{LinkEnd as Machine}
 use Rattle.link_laws.specs.machine.Machine.LinkInput.{Reset, Tick}
 use Rattle.link_laws.specs.machine.Machine.Role.{Bare, Clf, Uicc}
-use Rattle.link_end.specs.declared.report.ResetRefused.{ResetRefused}
 use Rattle.link_end.specs.Reports.{reset_refused, reset_told, nothing_told}
-use Rattle.node_machine.specs.Parts.{Core, Port, Work}
-use Rattle.node_machine.specs.Carrying.{port_at, with_port}
-use Rattle.node_machine.specs.Node.{input_at, has_come, all_come, with_older, is_late, reset_late, synced}
-use Rattle.node_machine.specs.Node.NodeInput.{AtEnd, TimePasses}
-use Rattle.node_ends.specs.Making.{AreAllDifferent}
-use Rattle.node_ends.proofs.Dues.{due_count, tick_few, reset_few_due}
-use Rattle.node_core.specs.Turning.{AreFewDue, AreAtMostDue, AreYoung}
-use Rattle.node_core.specs.Running.{HasNoneEnded, reset_refusal_at}
+use Rattle.node_ends.proofs.Dues.{tick_few}
 use Rattle.node_core.proofs.Elsewhere.{host_at}
 use Rattle.node_core.proofs.Arriving.{come_is}
 use Rattle.node_core.proofs.Ticking.{none_with}

@@ -2,21 +2,11 @@
 use Rattle.std.proofs.Common.{◌≡◌, ℕ, Bool, true, false, List, [], ◌∷◌, ◌++◌, map, refl, sym, ap, ◌∙◌, subst, append-nil}
 use Rattle.std.specs.Prelude.{◌==◌}
 use Rattle.std.specs.Option.{option_map_or}
-use Rattle.trace_model.specs.declared.entry.Entry.{Entry}
+use Rattle.node_core.proofs.Words.{Brings, End, EndsStandFor, Entry, FetchMessage, Give, IsInStep, KeptEnds, Message, Node, Port, Sends, Work, after_turn}
+use Rattle.node_core.proofs.Words.{all_done, done, end_of_node, got_at, handles, has_turn, noted_of, port_at, takes_at, turn_at, unnumbered, with_desk}
+use Rattle.node_core.proofs.Words.{with_port}
 use Rattle.trace_model.specs.declared.entry.Entry.TheVariants as entry
-use Rattle.trace_model.specs.declared.line.End.{End}
-use Rattle.link_laws.specs.machine.Machine.{Message}
-use Rattle.link_laws.specs.machine.Machine.Turn.{Give, FetchMessage}
-use Rattle.node_machine.specs.Parts.{Port, Work, Deed as DeedOf}
-use Rattle.node_machine.specs.Parts.Deed.{Sends}
-use Rattle.node_machine.specs.Carrying.{port_at, noted_of, end_of_node, with_port, after_turn, turn_at, with_desk, done, all_done}
-use Rattle.node_machine.specs.Turns.{handles}
-use Rattle.node_ends.specs.Ends.{KeptEnds, takes_at, EndsStandFor, got_at}
-use Rattle.node_core.specs.declared.node.Node.{Node}
-use Rattle.node_core.specs.Noting.{unnumbered}
-use Rattle.node_core.specs.Nodes.{IsInStep}
-use Rattle.node_core.specs.Bringing.{Brings}
-use Rattle.node_core.specs.Handling.{has_turn}
+use Rattle.node_machine.specs.Parts.{Deed as DeedOf}
 use Rattle.node_core.proofs.Doing.{more_noted, sent_noted, none_noted}
 use Rattle.node_core.proofs.Steps.{silent_notes, plainly}
 

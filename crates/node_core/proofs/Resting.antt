@@ -4,19 +4,14 @@ use Rattle.std.specs.Prelude.{Option, Some, None, ◌||◌, ◌&&◌, ◌==◌, 
 use Rattle.std.specs.List.{AllByRecursion, flat_map}
 use Rattle.std.proofs.lemmas.Bool.{true≢false}
 use Rattle.std.proofs.lemmas.Bool.Decides.{nat_tests}
-use Rattle.link_laws.specs.machine.Machine.{LinkEnd as Machine, LinkInput, after_input}
+use Rattle.link_laws.specs.machine.Machine.{LinkEnd as Machine}
+use Rattle.node_core.proofs.Words.{AreAllDifferent, AtEnd, LinkInput, NodeInput, Notice, Port, TimePasses, Work, after_input, all_come, all_done, all_owed}
+use Rattle.node_core.proofs.Words.{asked_at, due_count, forgets, forgotten, has_come, input_at, is_forgotten, is_late, is_over, left_over, passes}
+use Rattle.node_core.proofs.Words.{reset_few_due, reset_late, settles, steps, synced, times_out, unless_cut, with_older, without_notice}
 use Rattle.link_laws.specs.machine.Machine.LinkInput.{Tick}
-use Rattle.node_machine.specs.Parts.{Port, Work, Notice, Deed}
-use Rattle.node_machine.specs.Carrying.{all_done, unless_cut}
-use Rattle.node_machine.specs.Controller.{asked_at}
-use Rattle.node_machine.specs.Turns.{passes}
-use Rattle.node_machine.specs.Node.{NodeInput, input_at, has_come, all_come, with_older, is_late, reset_late, times_out, is_over, is_forgotten, forgets}
-use Rattle.node_machine.specs.Node.{without_notice, synced, forgotten, all_owed, steps}
-use Rattle.node_machine.specs.Node.NodeInput.{AtEnd, TimePasses}
+use Rattle.node_machine.specs.Parts.{Deed}
 use Rattle.node_ends.specs.Desks.{forgotten_at}
-use Rattle.node_ends.specs.Making.{AreAllDifferent}
-use Rattle.node_ends.proofs.Dues.{due_count, tick_few, reset_few_due}
-use Rattle.node_core.specs.Syncing.{left_over, settles}
+use Rattle.node_ends.proofs.Dues.{tick_few}
 use Rattle.node_core.proofs.Joining.{stays_cut, goes_on}
 use Rattle.node_core.proofs.Elsewhere.{host_at, same_hosts}
 use Rattle.node_core.proofs.Settling.{settled_quiet}

@@ -1,14 +1,8 @@
 -- A controller is seen as its node: what its node's calls ensure.
 use Rattle.std.proofs.Common.{◌≡◌, ℕ, Bool, true, List, map, refl, sym, ap, ◌∙◌, subst}
-use Rattle.hci_store.specs.Stored.{Stored}
-use Rattle.node_core.specs.declared.node.Node.{Node}
+use Rattle.node_core.proofs.Words.{Core, Entry, IsInStep, Node, Port, ResetRefused, RunsAs, Stored, between, port_at, reset_refusal_at}
 use Rattle.std.specs.Prelude.{Option, Some, None, option_map, IsTrue, Result, Ok, Err, is_ok, MatchResult}
-use Rattle.link_end.specs.declared.report.ResetRefused.{ResetRefused}
-use Rattle.trace_model.specs.declared.entry.Entry.{Entry}
-use Rattle.node_machine.specs.Parts.{Core, Port}
-use Rattle.node_machine.specs.Carrying.{port_at}
-use Rattle.node_core.specs.Nodes.{IsInStep}
-use Rattle.node_core.specs.Running.{RunsAs, MayStep, between, reset_refusal_at}
+use Rattle.node_core.specs.Running.{MayStep}
 use Rattle.node_core.proofs.Between.{at_rest, kept_at, usable_with}
 
 pub seen_may : {N : Type 0} {n v : Node N} → n ≡ v → MayStep v → MayStep n

@@ -3,11 +3,7 @@ use Rattle.std.proofs.Common.{◌≡◌, ℕ, ◌≤◌, Bool, true, false, cond
 use Rattle.std.specs.Prelude.{Option, Some, None, ◌==◌, IfSome}
 use Rattle.std.specs.List.{AllByRecursion}
 use Rattle.hcp_packet.specs.Packets.{AreSendable}
-use Rattle.block_pool.specs.Pool.{PoolState}
-use Rattle.node_machine.specs.Parts.{Port}
-use Rattle.node_machine.specs.Carrying.{port_at}
-use Rattle.node_ends.specs.declared.seat.Seat.{Seat}
-use Rattle.node_ends.specs.Ends.{SeatsStandFor, AreOfHosts, got_at}
+use Rattle.node_core.proofs.Words.{AreOfHosts, PoolState, Port, Seat, SeatsStandFor, got_at, port_at}
 use Rattle.node_ends.proofs.Sendable.{got_sendable}
 
 -- the end of the link with a host is one of them

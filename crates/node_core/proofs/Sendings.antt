@@ -2,30 +2,20 @@
 use Rattle.std.proofs.Common.{◌≡◌, ℕ, Bool, true, false, cond, not, ◌&&◌, List, [], ◌∷◌, length, refl, sym, ap, ◌∙◌, subst}
 use Rattle.std.specs.Prelude.{Option, Some, None, Result, Ok, Err, OnOk, OnErr, IfErr, nat_lt, is_some, option_map, ◌==◌}
 use Rattle.std.proofs.lemmas.Bool.{eqb-true}
-use Rattle.trace_model.specs.declared.entry.Entry.{Entry}
+use Rattle.node_core.proofs.Words.{Entry, Give, HostRefused, Init, IsInStep, LinkState, Message, Node, Ordered, Orders, Port, Refused, Sends, TellsLengthOf}
+use Rattle.node_core.proofs.Words.{Work, all_done, done, give_refusal, has_link, if_waiting, is_command_message, is_up, port_at, refused_as, sending, turn_at}
 use Rattle.trace_model.specs.declared.entry.NoCause.TheVariants as no
-use Rattle.link_laws.specs.sessions.Sessions.{is_up}
-use Rattle.shdlc_core.specs.declared.answers.LinkState.{LinkState}
 use Rattle.shdlc_core.specs.declared.answers.LinkState.TheVariants.{Down, Waiting as IsWaiting, Up}
-use Rattle.link_laws.specs.machine.Machine.{LinkEnd as Machine, Message, Refused, give_refusal, need, spare}
+use Rattle.link_laws.specs.machine.Machine.{LinkEnd as Machine, need, spare}
 use Rattle.link_laws.specs.machine.Machine.Refused.{TooLong, Full}
-use Rattle.link_laws.specs.machine.Machine.Turn.{Give}
 use Rattle.link_end.specs.declared.report.SendRefused.{SendRefused}
 use Rattle.link_end.specs.declared.report.SendRefused.TheVariants as at_end
 use Rattle.link_end.specs.Reports.{by_refusal_told, give_told}
-use Rattle.node_machine.specs.Parts.{Init, Port, Work, Deed}
-use Rattle.node_machine.specs.Parts.Deed.{GoesOn, Sends, Orders}
-use Rattle.node_machine.specs.Carrying.{port_at, turn_at, done, all_done}
-use Rattle.node_machine.specs.Controller.{is_command_message, has_link}
-use Rattle.node_machine.specs.world.World.{sending}
-use Rattle.node_machine.specs.world.Lines.{if_waiting}
-use Rattle.node_deeds.specs.declared.inits.Ordered.{Ordered}
+use Rattle.node_machine.specs.Parts.{Deed}
+use Rattle.node_machine.specs.Parts.Deed.{GoesOn}
 use Rattle.node_deeds.specs.Shown.{ordered_by}
-use Rattle.node_core.specs.declared.node.Node.{Node}
-use Rattle.node_ends.specs.Ends.{given_at, TellsLengthOf}
-use Rattle.node_core.specs.declared.giving.HostRefused.{HostRefused}
-use Rattle.node_core.specs.Nodes.{IsInStep}
-use Rattle.node_core.specs.Giving.{host_refused, ordered_if, refused_as, TellsLength}
+use Rattle.node_ends.specs.Ends.{given_at}
+use Rattle.node_core.specs.Giving.{host_refused, ordered_if, TellsLength}
 
 -- ## Refusals
 

@@ -3,21 +3,10 @@ use Rattle.std.proofs.Common.{◌≡◌, ℕ, Bool, true, false, not, ◌≤◌,
 use Rattle.std.specs.Prelude.{Option, None}
 use Rattle.std.specs.List.{flat_map}
 use Rattle.std.proofs.lemmas.List.Concat.{flat_map-cons}
-use Rattle.swp_base.specs.InMemory.{Plan}
-use Rattle.trace_model.specs.declared.entry.Entry.{Entry}
-use Rattle.gate_answers.specs.declared.response.Response.{Response}
-use Rattle.gate_answers.specs.Answers.{answer_of}
-use Rattle.node_machine.specs.Parts.{Port, Work, Deed}
-use Rattle.node_machine.specs.Parts.Deed.{Releases, Sends}
-use Rattle.node_machine.specs.Carrying.{done, all_done, unless_cut}
-use Rattle.node_machine.specs.Node.{forgets, is_forgotten, is_over, without_notice, after_sessions, forgotten, all_owed}
-use Rattle.node_machine.specs.Controller.{asked_at}
-use Rattle.node_core.specs.declared.node.Node.{Node}
-use Rattle.node_core.specs.Nodes.{IsInStep}
-use Rattle.node_core.specs.Bringing.{Brings, Foretells, plan_left}
-use Rattle.node_core.specs.Owing.{answers_owed}
-use Rattle.node_core.specs.Turning.{AreFewDue}
-use Rattle.node_core.specs.Syncing.{left_over, settles}
+use Rattle.node_core.proofs.Words.{AreFewDue, Brings, Entry, Foretells, IsInStep, Node, Plan, Port, Releases, Response, Sends, Work, after_sessions, all_done}
+use Rattle.node_core.proofs.Words.{all_owed, answer_of, answers_owed, asked_at, done, forgets, forgotten, is_forgotten, is_over, left_over, plan_left, settles}
+use Rattle.node_core.proofs.Words.{unless_cut, without_notice}
+use Rattle.node_machine.specs.Parts.{Deed}
 use Rattle.node_core.proofs.Joining.{brings_plain, brings_cut, brings_then, stays_cut, goes_on}
 use Rattle.node_core.proofs.Steps.{brings_after}
 use Rattle.node_core.proofs.HavingTurns.{brings_same}

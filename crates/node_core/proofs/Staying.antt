@@ -6,17 +6,12 @@ use Rattle.std.proofs.lemmas.Bool.{cond_both}
 use Rattle.journal_laws.specs.declared.state.State.{State}
 use Rattle.hci_tables.specs.declared.command.Command.TheVariants.{Sync}
 use Rattle.hci_tables.specs.Tables.{HciTables, is_kept_sync}
-use Rattle.node_machine.specs.Parts.{Core, Port, Work, Deed}
-use Rattle.node_machine.specs.Parts.Deed.{Commits, Sends, Releases}
-use Rattle.node_machine.specs.Carrying.{has_room_for, unless_cut, done, all_done}
-use Rattle.node_machine.specs.Turns.{passes}
-use Rattle.node_machine.specs.Node.{NodeInput, input_at, has_come, all_come, with_older, reset_late, times_out, forgets, forgotten, all_owed}
-use Rattle.node_machine.specs.Node.{is_over, after_sessions, synced, steps}
-use Rattle.node_machine.specs.Node.NodeInput.{AtEnd, TimePasses}
+use Rattle.node_machine.specs.Parts.{Deed}
+use Rattle.node_core.proofs.Words.{AtEnd, Commits, Core, IsNodeInOrder, IsOnTask, NodeInput, Port, Releases, Sends, TimePasses, Work, after_sessions, all_come}
+use Rattle.node_core.proofs.Words.{all_done, all_owed, done, forgets, forgotten, has_come, input_at, is_over, left_over, passes, reset_late, settles, steps}
+use Rattle.node_core.proofs.Words.{sync_kept, synced, times_out, unless_cut, with_older}
+use Rattle.node_machine.specs.Carrying.{has_room_for}
 use Rattle.node_machine.proofs.Walks.{forgotten_hold, all_owed_hold, all_synced_hold}
-use Rattle.node_core.specs.Deeds.{IsOnTask}
-use Rattle.node_core.specs.Turning.{IsNodeInOrder}
-use Rattle.node_core.specs.Syncing.{sync_kept, left_over, settles}
 use Rattle.node_core.proofs.Joining.{goes_on}
 use Rattle.node_core.proofs.Quiet.{done_quiet}
 use Rattle.node_core.proofs.Elsewhere.{same_links}

@@ -5,27 +5,15 @@ use Rattle.std.specs.Prelude.{Option, Some, None, ◌==◌, option_map, IfSome}
 use Rattle.std.specs.List.{AllByRecursion, flat_map}
 use Rattle.std.proofs.lemmas.Bool.{eqb-true}
 use Rattle.std.proofs.lemmas.List.Concat.{flat_map-cons}
-use Rattle.swp_base.specs.InMemory.{Plan}
-use Rattle.trace_model.specs.declared.entry.Entry.{Entry}
-use Rattle.hci_store.specs.Stored.{Stored}
-use Rattle.link_laws.specs.machine.Machine.{LinkEnd as Machine, LinkInput, Role, report, after_input, act_answer}
+use Rattle.node_core.proofs.Words.{AreAllDifferent, AreAtMostDue, AreFewDue, AreOfHosts, AtEnd, Brings, Core, Entry, IsInStep, LinkInput, LinkReport, Node}
+use Rattle.node_core.proofs.Words.{NodeInput, Plan, Port, Role, Stored, Work, act_answer, after_input, all_come, due_count, has_come, input_at, port_at, report}
+use Rattle.node_core.proofs.Words.{report_told, steps, sync_kept, synced, times_out}
+use Rattle.link_laws.specs.machine.Machine.{LinkEnd as Machine}
 use Rattle.link_laws.specs.machine.Machine.LinkInput.{Reset, Start, Stop}
 use Rattle.link_laws.specs.machine.Machine.Role.{Bare, Clf, Uicc}
 use Rattle.swp_act.specs.declared.ActEvent.TheVariants.{Start as ActStart, Stop as ActStop}
-use Rattle.link_end.specs.declared.report.LinkReport.{LinkReport}
-use Rattle.link_end.specs.Reports.{report_told}
-use Rattle.node_machine.specs.Parts.{Core, Port, Work, Deed}
-use Rattle.node_machine.specs.Carrying.{port_at}
-use Rattle.node_machine.specs.Node.{NodeInput, has_come, input_at, all_come, times_out, synced, steps}
-use Rattle.node_machine.specs.Node.NodeInput.{AtEnd}
-use Rattle.node_ends.specs.Ends.{AreOfHosts}
-use Rattle.node_ends.specs.Making.{AreAllDifferent}
-use Rattle.node_ends.proofs.Dues.{due_count}
-use Rattle.node_core.specs.declared.node.Node.{Node}
-use Rattle.node_core.specs.Nodes.{IsInStep}
-use Rattle.node_core.specs.Bringing.{Brings}
-use Rattle.node_core.specs.Turning.{AreFewDue, AreAtMostDue}
-use Rattle.node_core.specs.Syncing.{id_kept, sync_kept, sync_told, finishes}
+use Rattle.node_machine.specs.Parts.{Deed}
+use Rattle.node_core.specs.Syncing.{id_kept, sync_told, finishes}
 use Rattle.node_core.proofs.Steps.{brings_after}
 use Rattle.node_core.proofs.HavingTurns.{brings_same}
 use Rattle.node_core.proofs.Elsewhere.{host_at}

@@ -5,23 +5,13 @@ use Rattle.std.specs.Prelude.{slice_index_or}
 use Rattle.std.proofs.lemmas.List.{drop_all}
 use Rattle.std.specs.Prelude.{Option, Some, None}
 use Rattle.std.specs.Option.{option_map_or}
-use Rattle.trace_model.specs.declared.entry.Entry.{Entry}
-use Rattle.link_laws.specs.machine.Machine.{Turn}
-use Rattle.node_machine.specs.Parts.{Core, Port, Work, Desk as DeskOf}
-use Rattle.node_machine.specs.Carrying.{port_at, noted_of, with_port, with_desk, after_turn, turn_at, noting}
-use Rattle.node_ends.specs.Ends.{KeptEnds, EndsStandFor}
-use Rattle.node_core.specs.declared.node.Node.{Node}
-use Rattle.node_core.specs.Noting.{unnumbered}
-use Rattle.node_core.specs.Nodes.{IsInStep}
-use Rattle.swp_base.specs.InMemory.{Plan}
-use Rattle.hci_store.specs.Stored.{Stored}
-use Rattle.node_core.specs.Bringing.{Brings, WereMade, Foretells, plan_left}
+use Rattle.node_core.proofs.Words.{AreDoableInTurn, Brings, Core, EndsStandFor, Entry, Foretells, Handling, IsDoableNow, IsInStep, KeptEnds, Node, Plan, Port}
+use Rattle.node_core.proofs.Words.{Stored, Turn, WereMade, Work, after_turn, all_done, deed_shown, done, noted_of, noting, plan_left, port_at, turn_at}
+use Rattle.node_core.proofs.Words.{unnumbered, with_desk, with_port}
+use Rattle.node_machine.specs.Parts.{Desk as DeskOf}
 use Rattle.node_machine.specs.Parts.{Deed as DeedOf}
-use Rattle.node_machine.specs.Carrying.{done, all_done}
 use Rattle.node_deeds.specs.declared.deeds.Deed.{Deed}
 use Rattle.node_deeds.specs.declared.deeds.Deed.TheVariants as kept
-use Rattle.node_deeds.specs.Shown.{Handling, deed_shown}
-use Rattle.node_core.specs.Deeds.{IsDoableNow, AreDoableInTurn}
 use Rattle.node_core.proofs.Joining.{brings_plain, brings_then, brings_cut}
 use Rattle.node_core.proofs.Doing.{more_noted}
 

@@ -1,27 +1,14 @@
 -- What a host has under way, as its deeds change it.
 use Rattle.std.proofs.Common.{◌≡◌, ℕ, zero, suc, ◌+◌, ◌≤◌, Bool, true, false, not, ◌||◌, List, [], ◌∷◌, drop, length, add-one, refl, sym, ap, ap₂, ◌∙◌, subst}
 use Rattle.std.specs.Prelude.{Option, Some, None, option_map, slice_get}
-use Rattle.swp_base.specs.InMemory.{Plan}
-use Rattle.trace_model.specs.declared.entry.Entry.{Entry}
-use Rattle.node_machine.specs.Parts.{Init, Core, Port, Work}
-use Rattle.node_machine.specs.Carrying.{done}
-use Rattle.node_machine.specs.Node.{is_over, after_sessions}
+use Rattle.node_core.proofs.Words.{Core, Ends, Entry, Handling, Host, Init, IsDoableNow, IsInStep, IsSendable, Message, Node, Plan, Port, Sends, Tasks, Work}
+use Rattle.node_core.proofs.Words.{after_sessions, deed_of, deed_shown, done, end_of, end_shown, goes_on_with, handling, init_running, is_over}
 use Rattle.std.specs.List.{list_any}
 use Rattle.std.specs.Option.{option_map_or}
 use Rattle.std.proofs.lemmas.List.{drop_all}
-use Rattle.hcp_packet.specs.Packets.{IsSendable}
-use Rattle.history.specs.Steps.{end_of}
-use Rattle.link_laws.specs.entries.Entries.End.{Host}
-use Rattle.node_machine.specs.Parts.Deed.{Sends, Ends}
 use Rattle.node_deeds.specs.declared.deeds.Deed.{Deed}
 use Rattle.node_deeds.specs.declared.deeds.Deed.TheVariants as kept
-use Rattle.node_deeds.specs.declared.host.Tasks.{Tasks}
-use Rattle.node_deeds.specs.Shown.{Handling, ordered_by, goes_on_with, end_shown, deed_shown}
-use Rattle.node_deeds.specs.Hosts.{init_running}
-use Rattle.node_core.specs.declared.node.Node.{Node}
-use Rattle.node_core.specs.Nodes.{IsInStep}
-use Rattle.node_core.specs.Deeds.{handling, deed_of, IsDoableNow}
-use Rattle.link_laws.specs.machine.Machine.{Message}
+use Rattle.node_deeds.specs.Shown.{ordered_by}
 
 -- ## An init that goes on
 

@@ -6,16 +6,10 @@ use Rattle.std.specs.List.{AllByRecursion, flat_map}
 use Rattle.std.specs.Option.{option_map_or}
 use Rattle.std.proofs.lemmas.Bool.{eqb-true, eq-eqb}
 use Rattle.std.proofs.lemmas.List.Concat.{flat_map-cons}
-use Rattle.trace_model.specs.declared.entry.Entry.{Entry}
+use Rattle.node_core.proofs.Words.{AreAllDifferent, AreFewDue, AtEnd, EndsStandFor, Entry, FewAreDue, KeptEnds, Port, TimePasses, Work, all_changed, all_come}
+use Rattle.node_core.proofs.Words.{at_place, first_changed, has_come, next_changed, none_changed, noting, port_at, told_at, with_port}
 use Rattle.link_laws.specs.machine.Machine.LinkInput.{Tick}
-use Rattle.node_machine.specs.Parts.{Port, Work}
-use Rattle.node_machine.specs.Carrying.{port_at, with_port, noting}
-use Rattle.node_machine.specs.Node.{has_come, told_at, all_come}
-use Rattle.node_machine.specs.Node.NodeInput.{AtEnd, TimePasses}
-use Rattle.node_ends.specs.Ends.{KeptEnds, EndsStandFor, FewAreDue, at_place}
-use Rattle.node_ends.specs.Making.{AreAllDifferent}
-use Rattle.node_ends.proofs.Seated.{first_changed, none_changed, next_changed, next_there, all_changed, as_many}
-use Rattle.node_core.specs.Turning.{AreFewDue}
+use Rattle.node_ends.proofs.Seated.{next_there, as_many}
 use Rattle.node_core.proofs.Elsewhere.{host_at}
 use Rattle.node_core.proofs.Arriving.{come_is}
 

@@ -3,12 +3,10 @@ use Rattle.std.proofs.Common.{◌≡◌, ℕ, Bool, true, false, ◌==◌, ◌&&
 use Rattle.std.specs.Prelude.{Option, None, Some}
 use Rattle.std.specs.List.{AllByRecursion, list_any, filter, filter_map, flat_map}
 use Rattle.gate_answers.specs.declared.response.Response.TheVariants as response
-use Rattle.node_machine.specs.Parts.{Creation, Port, Work, Deed}
-use Rattle.node_machine.specs.Parts.Deed.{Releases}
-use Rattle.node_machine.specs.Carrying.{all_done, unless_cut}
-use Rattle.node_machine.specs.Node.{is_over, is_over_at, is_forgotten, forgets, forgotten, owed, all_owed, without_notice}
-use Rattle.node_machine.specs.Controller.{asked_at}
-use Rattle.node_core.specs.Syncing.{left_over, settles}
+use Rattle.node_machine.specs.Parts.{Deed}
+use Rattle.node_core.proofs.Words.{Creation, Port, Releases, Work, all_done, all_owed, asked_at, forgets, forgotten, is_forgotten, is_over, is_over_at}
+use Rattle.node_core.proofs.Words.{left_over, settles, unless_cut, without_notice}
+use Rattle.node_machine.specs.Node.{owed}
 use Rattle.node_core.proofs.Joining.{stays_cut, goes_on}
 use Rattle.node_core.proofs.Tasks.{not_over}
 

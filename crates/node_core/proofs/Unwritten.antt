@@ -4,44 +4,29 @@ use Rattle.std.proofs.Common.{inl, inr, arith}
 use Rattle.std.specs.Prelude.{Option, Some, None, ◌==◌, IfSome, IsTrue, is_some, option_map, nat_le}
 use Rattle.std.specs.List.{AllByRecursion, flat_map}
 use Rattle.std.proofs.lemmas.Bool.{true≢false, not-false, eq-eqb, ne_eqb, le-leb, lt-leb, and_right, cond_both}
-use Rattle.swp_base.specs.InMemory.{Plan, plan_after}
-use Rattle.swp_base.specs.declared.link_terms.Cause.TheVariants.{Asked}
-use Rattle.swp_act.specs.declared.ActEvent.{ActEvent}
+use Rattle.swp_base.specs.InMemory.{plan_after}
+use Rattle.node_core.proofs.Words.{Act, ActEvent, AreMade, Asked, AtEnd, BeginsStep, Brings, Core, Drops, EndState, Entry, FetchMessage, Foretells, Give}
+use Rattle.node_core.proofs.Words.{HasOwnLink, HasStepped, LinkInput, Message, Node, Plan, Port, Refused, Release, Releases, Sends, WereMade, Work, Write}
+use Rattle.node_core.proofs.Words.{act_answer, activated, after_input, after_turn, all_come, all_done, all_owed, asked_at, changed_if, deeds_of, done, end_view}
+use Rattle.node_core.proofs.Words.{fails_within, forgets, forgotten, give_refusal, given, goes_through_ends, got_at, handles, has_come, has_turn, have_turns}
+use Rattle.node_core.proofs.Words.{host_deeds, if_up, input_at, input_of_end, is_forgotten, is_open, is_over, is_up, lack, left_over, needs, own_view, passes}
+use Rattle.node_core.proofs.Words.{plan_behind, plan_left, port_at, put_down, reset_refusal, reset_refusal_at, role_after, settles, steps, synced, unless}
+use Rattle.node_core.proofs.Words.{unless_cut, with_port, without_notice}
 use Rattle.swp_act.specs.declared.ActEvent.TheVariants.{Start as ActStart, Stop as ActStop}
-use Rattle.journal_laws.specs.Writes.{Write, AreMade}
-use Rattle.journal_laws.specs.Planned.{fails_within}
-use Rattle.shdlc_core.specs.Machine.{EndState, is_waiting, waiting_from, stopped}
+use Rattle.shdlc_core.specs.Machine.{is_waiting, waiting_from, stopped}
 use Rattle.shdlc_core.specs.declared.answers.LinkState.TheVariants.{Down}
-use Rattle.link_laws.specs.sessions.Sessions.{is_up}
-use Rattle.link_laws.specs.machine.Machine.{LinkEnd as Machine, Message, LinkInput, Refused, unless, given, give_refusal, after_input, moved, is_open, if_up}
-use Rattle.link_laws.specs.machine.Machine.{window_of, reset_refusal, put_down, with_act, act_answer, role_after, activated}
+use Rattle.link_laws.specs.machine.Machine.{LinkEnd as Machine, moved}
+use Rattle.link_laws.specs.machine.Machine.{window_of, with_act}
 use Rattle.link_laws.specs.machine.Machine.LinkInput.{Reset, Start, Stop}
 use Rattle.link_laws.specs.machine.Machine.Refused.{Inactive, IsWaiting}
-use Rattle.link_laws.specs.machine.Machine.Turn.{Give, FetchMessage, Release}
-use Rattle.swp_base.specs.declared.control_frames.Act.{Act}
-use Rattle.node_machine.specs.Parts.{Core, Port, Work, Deed}
-use Rattle.node_machine.specs.Parts.Deed.{Sends, Releases, Drops}
-use Rattle.node_machine.specs.Carrying.{port_at, changed_if, with_port, after_turn, unless_cut, done, all_done, lack, needs, plan_behind, own_view, end_view}
-use Rattle.node_machine.specs.Controller.{asked_at}
-use Rattle.node_machine.specs.HostReplies.{host_deeds}
-use Rattle.node_machine.specs.Turns.{deeds_of, handles, have_turns, goes_through_ends, passes}
-use Rattle.node_machine.specs.Node.{input_at, has_come, all_come, is_forgotten, is_over, forgets, forgotten, all_owed, without_notice, synced, steps}
-use Rattle.node_machine.specs.Node.NodeInput.{AtEnd}
+use Rattle.node_machine.specs.Parts.{Deed}
 use Rattle.node_machine.proofs.Walks.{forgotten_hold, all_owed_hold}
-use Rattle.node_ends.specs.Ends.{got_at}
-use Rattle.trace_model.specs.declared.entry.Entry.{Entry}
 use Rattle.link_end.specs.Reports.{reset_refused}
-use Rattle.node_core.specs.declared.node.Node.{Node}
 use Rattle.node_ends.specs.declared.inputs.LinkInput.{LinkInput as ToEnd}
 use Rattle.node_ends.specs.declared.inputs.LinkInput.TheVariants as asks
-use Rattle.node_ends.specs.Inputs.{input_of_end, refusal_at}
+use Rattle.node_ends.specs.Inputs.{refusal_at}
 use Rattle.node_core.specs.Inputs.{IsAskedOf}
-use Rattle.node_core.specs.Running.{BeginsStep, HasStepped, reset_refusal_at}
 use Rattle.node_core.proofs.Stepping.{reset_synced, start_synced, stop_synced}
-use Rattle.node_core.specs.Handling.{has_turn}
-use Rattle.node_core.specs.Turning.{HasOwnLink}
-use Rattle.node_core.specs.Syncing.{left_over, settles}
-use Rattle.node_core.specs.Bringing.{Brings, WereMade, Foretells, plan_left}
 use Rattle.node_core.proofs.Joining.{goes_on, fewer_fail}
 use Rattle.node_core.proofs.Elsewhere.{host_at, same_hosts}
 use Rattle.node_core.proofs.Sendables.{found_all}

@@ -1,5 +1,5 @@
 use Rattle.std.proofs.Common.{◌≡◌, ◌+◌, ◌≤◌, length}
-use Rattle.gate_admin.specs.View.{has}
+use Rattle.node_core.proofs.Words.{has}
 use Rattle.gate_admin.proofs.ViewLemmas.{hosts_below}
 use Rattle.node_core.proofs.hosts.hosts_of.Given as goal
 

@@ -2,10 +2,7 @@ use Rattle.std.proofs.Common.{◌≡◌, ℕ, sym, subst}
 use Rattle.std.specs.Prelude.{Some, IfSome, Ok}
 use Rattle.swp_lpdu.specs.Controls.{lpdu_of, control_of}
 use Rattle.link_laws.specs.machine.Machine.{next_frame}
-use Rattle.node_machine.specs.Carrying.{port_at, with_port}
-use Rattle.node_core.specs.declared.node.Node.{Node}
-use Rattle.node_ends.specs.Ends.{has_sent}
-use Rattle.node_core.specs.Running.{RunsAs}
+use Rattle.node_core.proofs.Words.{Node, RunsAs, has_sent, port_at, with_port}
 use Rattle.node_core.proofs.host.Host.next_out.Goals as goal
 
 pub returns-clause-runs : goal.returns-clause-runs

@@ -1,7 +1,6 @@
 use Rattle.std.proofs.Common.{ℕ, subst}
-use Rattle.node_machine.specs.Carrying.{with_port}
-use Rattle.node_core.specs.declared.node.Node.{Node}
-use Rattle.node_core.specs.Running.{RunsAs, one_more_error}
+use Rattle.node_core.proofs.Words.{Node, RunsAs, with_port}
+use Rattle.node_core.specs.Running.{one_more_error}
 use Rattle.node_core.proofs.host.Host.refused.Goals as goal
 
 pub returns-clause-runs : goal.returns-clause-runs

@@ -1,5 +1,5 @@
 use Rattle.std.proofs.Common.{◌≢◌, ◌≤◌, ℕ, sym, ap, ◌∙◌, arith}
-use Rattle.hci_store.specs.Stored.{Stored}
+use Rattle.node_core.proofs.Words.{Stored}
 use Rattle.node_core.proofs.Between.{at_rest}
 use Rattle.node_core.proofs.Asking.{begins_at_rest, asked_may}
 use Rattle.node_core.proofs.SeenAsNode.{seen_may}

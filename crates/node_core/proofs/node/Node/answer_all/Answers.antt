@@ -1,15 +1,9 @@
 use Rattle.std.proofs.Common.{◌≡◌, ℕ, ◌+◌, List, [], ◌∷◌, get_or, drop, refl, sym, ap, ◌∙◌, subst, add-one, drop-cons}
 use Rattle.std.proofs.lemmas.List.{drop_all}
-use Rattle.hci_store.specs.Stored.{Stored}
-use Rattle.gate_answers.specs.Answers.{answer_of}
-use Rattle.link_laws.specs.machine.Machine.Turn.{Give}
+use Rattle.node_core.proofs.Words.{Give, IsInStep, Releases, Sends, Stored, Work, all_done, answer_of, answers_owed, turn_at}
 use Rattle.std.specs.List.{flat_map}
 use Rattle.std.proofs.lemmas.List.Concat.{flat_map-cons}
-use Rattle.node_core.specs.Owing.{answers_owed}
-use Rattle.node_machine.specs.Parts.{Work, Deed}
-use Rattle.node_machine.specs.Parts.Deed.{Releases, Sends}
-use Rattle.node_machine.specs.Carrying.{all_done, turn_at}
-use Rattle.node_core.specs.Nodes.{IsInStep}
+use Rattle.node_machine.specs.Parts.{Deed}
 use Rattle.node_core.proofs.Freeing.{DoesOn, one_done}
 use Rattle.node_core.proofs.node.Node.answer_all.Goals as goal
 

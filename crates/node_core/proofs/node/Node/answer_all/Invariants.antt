@@ -1,9 +1,6 @@
 use Rattle.std.proofs.Common.{◌≡◌, true, List, drop}
 use Rattle.std.specs.List.{flat_map}
-use Rattle.trace_model.specs.declared.entry.Entry.{Entry}
-use Rattle.node_machine.specs.Parts.{Work}
-use Rattle.node_core.specs.Nodes.{IsInStep}
-use Rattle.node_core.specs.Owing.{answers_owed}
+use Rattle.node_core.proofs.Words.{Entry, IsInStep, Work, answers_owed}
 use Rattle.node_core.proofs.Freeing.{DoesOn}
 use Rattle.node_core.proofs.node.Node.answer_all.Given as goal
 

@@ -1,9 +1,7 @@
 use Rattle.std.proofs.Common.{refl, ◌∷◌, []}
 use Rattle.gate_admin.specs.Decide.{ends_of}
 use Rattle.trace_model.specs.declared.entry.Entry.TheVariants as entry
-use Rattle.link_laws.specs.machine.Machine.Turn.{SetAside}
-use Rattle.node_machine.specs.Parts.{Work}
-use Rattle.node_machine.specs.Carrying.{turn_at, noting}
+use Rattle.node_core.proofs.Words.{SetAside, Work, noting, turn_at}
 use Rattle.node_core.proofs.Steps.{plain_noted, silent_turn}
 use Rattle.node_core.proofs.node.Node.ask.Goals as goal
 

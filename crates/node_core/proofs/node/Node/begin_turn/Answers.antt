@@ -1,9 +1,6 @@
 use Rattle.std.proofs.Common.{refl, ap, ◌∙◌, false, ◌++◌, ◌∷◌, []}
-use Rattle.trace_model.specs.declared.line.End.{End}
+use Rattle.node_core.proofs.Words.{End, FetchMessage, Work, end_of_node, noting, turn_at}
 use Rattle.trace_model.specs.declared.entry.Entry.TheVariants as entry
-use Rattle.link_laws.specs.machine.Machine.Turn.{FetchMessage}
-use Rattle.node_machine.specs.Parts.{Work}
-use Rattle.node_machine.specs.Carrying.{turn_at, noting, end_of_node}
 use Rattle.node_core.proofs.Steps.{plain_noted, silent_turn, desk_changed}
 use Rattle.node_core.proofs.node.Node.begin_turn.Goals as goal
 

@@ -1,12 +1,7 @@
 use Rattle.std.proofs.Common.{◌≡◌, ◌+◌, true, not, List, ◌∷◌, map, drop, sym, ap, ◌∙◌, subst}
-use Rattle.link_laws.specs.machine.Machine.{Message}
+use Rattle.node_core.proofs.Words.{AreDoableInTurn, Brings, Handling, IsInStep, Message, deed_of, done, handling}
 use Rattle.node_machine.specs.Parts.{Deed as DeedOf}
-use Rattle.node_machine.specs.Carrying.{done}
 use Rattle.node_deeds.specs.declared.deeds.Deed.{Deed}
-use Rattle.node_deeds.specs.Shown.{Handling}
-use Rattle.node_core.specs.Nodes.{IsInStep}
-use Rattle.node_core.specs.Bringing.{Brings}
-use Rattle.node_core.specs.Deeds.{handling, deed_of, AreDoableInTurn}
 use Rattle.node_core.proofs.Steps.{GoesOn, goes_on, goes_no_further, all_gone, doable_then, split_at, none_left}
 use Rattle.node_core.proofs.Tasks.{next_doable, next_shown}
 use Rattle.node_core.proofs.Faults.{faults_then}

@@ -1,9 +1,5 @@
 use Rattle.std.proofs.Common.{◌≡◌, true, List, map, drop}
-use Rattle.trace_model.specs.declared.entry.Entry.{Entry}
-use Rattle.node_machine.specs.Parts.{Work}
-use Rattle.node_core.specs.Nodes.{IsInStep, IsUsable}
-use Rattle.node_core.specs.Faults.{CountsFaults}
-use Rattle.node_core.specs.Deeds.{handling, deed_of, AreDoableInTurn}
+use Rattle.node_core.proofs.Words.{AreDoableInTurn, CountsFaults, Entry, IsInStep, IsUsable, Work, deed_of, handling}
 use Rattle.node_core.proofs.Steps.{GoesOn}
 use Rattle.node_core.proofs.node.Node.carry_all.Given as goal
 

@@ -1,19 +1,12 @@
 use Rattle.std.proofs.Common.{ℕ, List, ◌∷◌, refl, ap, subst}
 use Rattle.std.specs.Prelude.{None}
 use Rattle.gate_admin.specs.Decide.{ends_of}
-use Rattle.link_laws.specs.machine.Machine.Turn.{Give}
+use Rattle.node_core.proofs.Words.{Asks, Drops, Ends, Give, Hears, Host, IsAnswered, IsInStep, Node, Orders, Releases, SaysOk, Sends, SetsErrors, Tells, done}
+use Rattle.node_core.proofs.Words.{end_of, end_shown, goes_on_with, handling, init_running, turn_at}
 use Rattle.node_machine.specs.Parts.About.{Removed}
-use Rattle.node_machine.specs.Parts.Deed.{Sends, SaysOk, Asks, Releases, Tells, IsAnswered, Drops, SetsErrors, Orders, Hears, Ends}
-use Rattle.node_machine.specs.Carrying.{done, turn_at, notified}
+use Rattle.node_machine.specs.Carrying.{notified}
 use Rattle.node_deeds.specs.Shown.{creation_of_row}
-use Rattle.node_core.specs.declared.node.Node.{Node}
-use Rattle.node_core.specs.Nodes.{IsInStep}
 use Rattle.node_deeds.specs.declared.deeds.Deed.TheVariants as kept
-use Rattle.history.specs.Steps.{end_of}
-use Rattle.link_laws.specs.entries.Entries.End.{Host}
-use Rattle.node_deeds.specs.Shown.{goes_on_with, end_shown}
-use Rattle.node_deeds.specs.Hosts.{init_running}
-use Rattle.node_core.specs.Deeds.{handling}
 use Rattle.node_core.proofs.Steps.{plainly, desk_changed, of_deed}
 use Rattle.node_core.proofs.Tasks.{going_cut, going_writes, going_anyway}
 use Rattle.node_core.proofs.node.Node.carry_out.Goals as goal

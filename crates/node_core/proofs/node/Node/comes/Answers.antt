@@ -1,10 +1,7 @@
 use Rattle.std.proofs.Common.{subst}
 use Rattle.std.proofs.lemmas.Result.{MatchResult-at_err}
-use Rattle.node_machine.specs.Parts.{Work}
-use Rattle.node_machine.specs.Node.{all_come}
-use Rattle.node_machine.specs.Node.NodeInput.{TimePasses}
+use Rattle.node_core.proofs.Words.{IsInStep, TimePasses, Work, all_come}
 use Rattle.node_core.specs.declared.inputs.NodeInput.TheVariants.{At}
-use Rattle.node_core.specs.Nodes.{IsInStep}
 use Rattle.node_core.proofs.Elsewhere.{few_at, hosts_differ}
 use Rattle.node_core.proofs.Refusing.{ticked_few, ticked_young}
 use Rattle.node_core.proofs.Stepping.{five_few}

@@ -1,16 +1,7 @@
 use Rattle.std.proofs.Common.{◌≡◌, ℕ, [], map, sym, ◌∙◌, subst}
 use Rattle.std.specs.Prelude.{Some, if◌then◌else◌}
-use Rattle.link_laws.specs.machine.Machine.{LinkInput, report, after_input, whole_acked}
-use Rattle.link_end.specs.declared.report.LinkReport.{LinkReport}
-use Rattle.link_end.specs.Reports.{report_told}
-use Rattle.link_laws.specs.entries.Entries.{told}
-use Rattle.history.specs.Steps.{entries_for}
-use Rattle.node_machine.specs.Parts.{Port}
-use Rattle.node_machine.specs.Carrying.{own_side, port_at, with_port}
-use Rattle.node_machine.specs.Node.{has_come}
-use Rattle.node_ends.specs.Ends.{got_at}
-use Rattle.node_core.specs.Noting.{AreNotes, unnumbered}
-use Rattle.node_ends.specs.Inputs.{input_of_end}
+use Rattle.node_core.proofs.Words.{AreNotes, LinkInput, LinkReport, Port, after_input, entries_for, got_at, has_come, input_of_end, own_side, port_at, report}
+use Rattle.node_core.proofs.Words.{report_told, told, unnumbered, whole_acked, with_port}
 use Rattle.node_core.proofs.Doing.{host_at}
 use Rattle.node_core.proofs.HavingTurns.{no_some}
 use Rattle.node_core.proofs.Notes.{no_notes}

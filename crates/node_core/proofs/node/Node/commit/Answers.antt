@@ -1,9 +1,5 @@
-use Rattle.journal_laws.specs.Writes.{AreMade}
-use Rattle.hci_tables.specs.Bodies.{body_of}
-use Rattle.hci_store.specs.Committing.{commit_writes}
+use Rattle.node_core.proofs.Words.{AreMade, Command, Entry, body_of, commit_writes}
 use Rattle.std.proofs.Common.{◌≡◌, ℕ, Bool, sym, ap, ◌∙◌, ◌++◌, ◌∷◌, []}
-use Rattle.hci_tables.specs.declared.command.Command.{Command}
-use Rattle.trace_model.specs.declared.entry.Entry.{Entry}
 use Rattle.trace_model.specs.declared.entry.Entry.TheVariants as entry
 use Rattle.node_core.proofs.Doing.{more_noted, kept_brings, lost_brings, made_ok, made_err, nv_fault, no_room}
 use Rattle.node_core.proofs.Faults.{faults_kept, faults_rose}

@@ -1,8 +1,5 @@
 use Rattle.std.proofs.Common.{◌≡◌, ℕ, sym, subst}
-use Rattle.link_laws.specs.machine.Machine.{Message}
-use Rattle.node_machine.specs.Turns.{deeds_of}
-use Rattle.node_deeds.specs.Shown.{deeds_shown}
-use Rattle.node_core.specs.Deeds.{handling}
+use Rattle.node_core.proofs.Words.{Message, deeds_of, deeds_shown, handling}
 use Rattle.node_core.proofs.node.Node.deeds_for.Goals as goal
 
 pub returns-else-self-eq0-clause-deeds : goal.returns-else-self-eq0-clause-deeds

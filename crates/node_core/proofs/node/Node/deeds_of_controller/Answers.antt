@@ -1,9 +1,6 @@
 use Rattle.std.proofs.Common.{◌≡◌, List, not, sym, ap, ◌∙◌, subst}
-use Rattle.hci_store.specs.Stored.{Stored}
-use Rattle.link_laws.specs.machine.Machine.{Message}
-use Rattle.node_machine.specs.Controller.{controller_deeds, view_of}
-use Rattle.node_deeds.specs.declared.desks.Desk.{Desk}
-use Rattle.node_deeds.specs.Shown.{Handling, AreSeen, deeds_shown}
+use Rattle.node_core.proofs.Words.{Desk, Handling, Message, Stored, controller_deeds, deeds_shown, view_of}
+use Rattle.node_deeds.specs.Shown.{AreSeen}
 use Rattle.node_core.proofs.HavingTurns.{at_controller}
 use Rattle.node_core.proofs.Deciders.{handled_idle}
 use Rattle.node_core.proofs.node.Node.deeds_of_controller.Goals as goal

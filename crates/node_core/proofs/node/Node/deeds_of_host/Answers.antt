@@ -1,12 +1,7 @@
 use Rattle.std.proofs.Common.{◌≡◌, ℕ, sym, ap, ◌∙◌, subst}
 use Rattle.std.specs.Prelude.{option_map}
-use Rattle.hci_store.specs.Stored.{Stored}
-use Rattle.link_laws.specs.machine.Machine.{Message}
-use Rattle.node_machine.specs.Carrying.{own_view, end_view}
-use Rattle.node_machine.specs.HostReplies.{host_deeds}
-use Rattle.node_deeds.specs.declared.desks.Desk.{Desk}
-use Rattle.node_deeds.specs.Shown.{Handling, desk_shown, deeds_shown}
-use Rattle.node_deeds.specs.Hosts.{init_running}
+use Rattle.node_core.proofs.Words.{Desk, Handling, Message, Stored, deeds_shown, end_view, host_deeds, init_running, own_view}
+use Rattle.node_deeds.specs.Shown.{desk_shown}
 use Rattle.node_core.proofs.HavingTurns.{no_some, at_host}
 use Rattle.node_core.proofs.Deciders.{looks_at, some_desk, own_number}
 use Rattle.node_core.proofs.node.Node.deeds_of_host.Goals as goal

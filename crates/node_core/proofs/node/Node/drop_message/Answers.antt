@@ -1,7 +1,6 @@
 use Rattle.std.proofs.Common.{refl, ap, ◌∙◌, ◌++◌, ◌∷◌, []}
-use Rattle.trace_model.specs.declared.line.End.{End}
+use Rattle.node_core.proofs.Words.{End, end_of_node}
 use Rattle.trace_model.specs.declared.entry.Entry.TheVariants as entry
-use Rattle.node_machine.specs.Carrying.{end_of_node}
 use Rattle.node_core.proofs.Steps.{plain_noted}
 use Rattle.node_core.proofs.node.Node.drop_message.Goals as goal
 

@@ -1,14 +1,8 @@
 use Rattle.std.proofs.Common.{refl, sym, subst}
 use Rattle.std.specs.Prelude.{None}
 use Rattle.trace_model.specs.declared.entry.Entry.TheVariants as entry
-use Rattle.history.specs.Steps.{end_of}
-use Rattle.link_laws.specs.entries.Entries.End.{Host}
-use Rattle.node_machine.specs.Parts.Deed.{Ends}
-use Rattle.node_machine.specs.Carrying.{done}
+use Rattle.node_core.proofs.Words.{Ends, Host, IsInStep, Tasks, done, end_of, end_shown}
 use Rattle.node_deeds.specs.declared.deeds.InitEnd.{InitEnd}
-use Rattle.node_deeds.specs.declared.host.Tasks.{Tasks}
-use Rattle.node_deeds.specs.Shown.{end_shown}
-use Rattle.node_core.specs.Nodes.{IsInStep}
 use Rattle.node_core.proofs.Steps.{plain_noted}
 use Rattle.node_core.proofs.Tasks.{init_changed}
 use Rattle.node_core.proofs.node.Node.end_init.Goals as goal

@@ -1,7 +1,5 @@
 use Rattle.std.proofs.Common.{ℕ, ◌+◌, List, refl, sym, subst, add-one, arith}
-use Rattle.node_machine.specs.Parts.{Port}
-use Rattle.node_ends.specs.Ends.{EndsStandFor}
-use Rattle.node_ends.proofs.Seated.{first_changed, none_changed, next_changed, all_changed}
+use Rattle.node_core.proofs.Words.{EndsStandFor, Port, all_changed, first_changed, next_changed, none_changed}
 use Rattle.node_core.proofs.Between.{begun, ends_kept}
 use Rattle.node_core.proofs.node.Node.end_step.Goals as goal
 

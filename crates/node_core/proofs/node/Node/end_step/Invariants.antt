@@ -1,7 +1,5 @@
 use Rattle.std.proofs.Common.{◌≡◌, List}
-use Rattle.node_machine.specs.Parts.{Port}
-use Rattle.node_ends.specs.Ends.{EndsStandFor}
-use Rattle.node_ends.proofs.Seated.{first_changed}
+use Rattle.node_core.proofs.Words.{EndsStandFor, Port, first_changed}
 use Rattle.node_core.proofs.Between.{begun}
 use Rattle.node_core.proofs.node.Node.end_step.Given as goal
 

@@ -1,5 +1,5 @@
 use Rattle.std.proofs.Common.{not, sym, ap, ◌∙◌}
-use Rattle.node_core.specs.Syncing.{sync_kept}
+use Rattle.node_core.proofs.Words.{sync_kept}
 use Rattle.node_core.proofs.HavingTurns.{brings_same}
 use Rattle.node_core.proofs.Passing.{none_left}
 use Rattle.node_core.proofs.Idle.{none_came, idle_finishes}

@@ -1,9 +1,5 @@
 use Rattle.std.proofs.Common.{ℕ, ◌+◌, List, refl, sym, subst, add-one, arith}
-use Rattle.node_machine.specs.Parts.{Port}
-use Rattle.node_machine.specs.Node.{forgets}
-use Rattle.node_ends.specs.Ends.{EndsStandFor}
-use Rattle.node_ends.proofs.Seated.{first_changed, none_changed, all_changed}
-use Rattle.node_core.specs.Nodes.{IsInStep}
+use Rattle.node_core.proofs.Words.{EndsStandFor, IsInStep, Port, all_changed, first_changed, forgets, none_changed}
 use Rattle.node_core.proofs.Ticking.{many_ports}
 use Rattle.node_core.proofs.Lateness.{ends_changed}
 use Rattle.node_core.proofs.Forgetting.{next_forgets}

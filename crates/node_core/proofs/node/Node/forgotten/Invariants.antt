@@ -1,9 +1,6 @@
 use Rattle.std.proofs.Common.{◌≡◌, ◌≤◌, List, map, take, length}
 use Rattle.std.specs.List.{flat_map}
-use Rattle.node_machine.specs.Parts.{Port}
-use Rattle.node_machine.specs.Parts.Deed.{Releases}
-use Rattle.node_ends.specs.Ends.{EndsStandFor}
-use Rattle.node_core.specs.Owing.{freed_at}
+use Rattle.node_core.proofs.Words.{EndsStandFor, Port, Releases, freed_at}
 use Rattle.node_core.proofs.node.Node.forgotten.Given as goal
 
 -- those of the ends so far

@@ -1,13 +1,7 @@
 use Rattle.std.proofs.Common.{length, sym, ap, ◌∙◌, subst}
 use Rattle.std.specs.Prelude.{Some, Err}
-use Rattle.link_laws.specs.machine.Machine.{Message}
-use Rattle.link_laws.specs.machine.Machine.Turn.{Give}
-use Rattle.node_machine.specs.Parts.{Work}
-use Rattle.node_machine.specs.Carrying.{port_at, turn_at}
-use Rattle.node_ends.specs.Ends.{TellsLengthOf}
-use Rattle.node_core.specs.declared.giving.HostRefused.{HostRefused}
-use Rattle.node_core.specs.Nodes.{IsInStep}
-use Rattle.node_core.specs.Giving.{refused_as, TellsLength}
+use Rattle.node_core.proofs.Words.{Give, HostRefused, IsInStep, Message, TellsLengthOf, Work, port_at, refused_as, turn_at}
+use Rattle.node_core.specs.Giving.{TellsLength}
 use Rattle.node_core.proofs.Sendings.{told_refusal, told_length, given_so, where_err, of_err}
 use Rattle.node_core.proofs.node.Node.give.Goals as goal
 

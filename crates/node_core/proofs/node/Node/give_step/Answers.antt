@@ -1,8 +1,6 @@
 use Rattle.std.proofs.Common.{◌≡◌, Bool, true, false, ◌&&◌, length, sym, ap, ◌∙◌}
 use Rattle.std.specs.Prelude.{is_some, ◌==◌}
-use Rattle.link_laws.specs.machine.Machine.{Message, give_refusal}
-use Rattle.node_machine.specs.Controller.{is_command_message}
-use Rattle.node_machine.specs.world.Lines.{if_waiting}
+use Rattle.node_core.proofs.Words.{Message, give_refusal, if_waiting, is_command_message}
 use Rattle.node_core.proofs.Sendings.{waits_same}
 use Rattle.node_core.proofs.node.Node.give_step.Goals as goal
 

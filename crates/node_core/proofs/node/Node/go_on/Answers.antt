@@ -1,11 +1,8 @@
 use Rattle.std.proofs.Common.{refl, sym, subst}
 use Rattle.std.specs.Prelude.{Option, Some, None}
-use Rattle.node_machine.specs.Carrying.{done}
+use Rattle.node_core.proofs.Words.{IsInStep, Tasks, done, goes_on_with, init_running}
 use Rattle.node_deeds.specs.declared.inits.Init.{Init as KeptInit}
-use Rattle.node_deeds.specs.declared.host.Tasks.{Tasks}
-use Rattle.node_deeds.specs.Shown.{init_shown, goes_on_with}
-use Rattle.node_deeds.specs.Hosts.{init_running}
-use Rattle.node_core.specs.Nodes.{IsInStep}
+use Rattle.node_deeds.specs.Shown.{init_shown}
 use Rattle.node_core.proofs.Tasks.{init_changed, command_changed}
 use Rattle.node_core.proofs.node.Node.go_on.Goals as goal
 

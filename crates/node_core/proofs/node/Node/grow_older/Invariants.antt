@@ -1,10 +1,5 @@
 use Rattle.std.proofs.Common.{◌≡◌, Bool, List}
-use Rattle.trace_model.specs.declared.entry.Entry.{Entry}
-use Rattle.node_machine.specs.Parts.{Port, Work}
-use Rattle.node_machine.specs.Node.{with_older}
-use Rattle.node_ends.specs.Ends.{EndsStandFor}
-use Rattle.node_ends.proofs.Seated.{first_changed}
-use Rattle.node_core.specs.Nodes.{IsInStep}
+use Rattle.node_core.proofs.Words.{EndsStandFor, Entry, IsInStep, Port, Work, first_changed, with_older}
 use Rattle.node_core.proofs.node.Node.grow_older.Given as goal
 
 -- the notices at the ends so far are older

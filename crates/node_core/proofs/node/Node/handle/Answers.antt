@@ -1,13 +1,5 @@
 use Rattle.std.proofs.Common.{refl, sym, ap, subst}
-use Rattle.hci_store.specs.Stored.{Stored}
-use Rattle.link_laws.specs.machine.Machine.{Message}
-use Rattle.node_machine.specs.Parts.{Work}
-use Rattle.node_machine.specs.Carrying.{all_done}
-use Rattle.node_deeds.specs.Shown.{Handling, deeds_shown}
-use Rattle.node_core.specs.Nodes.{IsInStep}
-use Rattle.node_core.specs.Bringing.{Brings}
-use Rattle.node_core.specs.Deeds.{AreDoableInTurn}
-use Rattle.node_core.specs.Handling.{has_turn}
+use Rattle.node_core.proofs.Words.{AreDoableInTurn, Brings, Handling, IsInStep, Message, Stored, Work, all_done, deeds_shown, has_turn}
 use Rattle.node_core.proofs.Steps.{brings_after}
 use Rattle.node_core.proofs.Tasks.{handled_same}
 use Rattle.node_core.proofs.node.Node.handle.Goals as goal

@@ -1,16 +1,7 @@
 use Rattle.std.proofs.Common.{◌≡◌, Bool, List, not, refl, sym, ap, ◌∙◌, subst, [], ◌∷◌}
 use Rattle.std.specs.Prelude.{option_map}
-use Rattle.link_laws.specs.machine.Machine.{Message}
-use Rattle.node_machine.specs.Parts.{Work}
-use Rattle.node_machine.specs.Carrying.{lack, needs}
-use Rattle.node_machine.specs.Turns.{have_turns}
+use Rattle.node_core.proofs.Words.{Brings, Handling, IsInStep, Message, Node, Work, deeds_shown, handling, have_turns, lack, lack_shown, needs}
 use Rattle.node_deeds.specs.declared.deeds.Deed.{Deed}
-use Rattle.node_deeds.specs.Shown.{Handling, deeds_shown}
-use Rattle.node_deeds.specs.Room.{lack_shown}
-use Rattle.node_core.specs.declared.node.Node.{Node}
-use Rattle.node_core.specs.Nodes.{IsInStep}
-use Rattle.node_core.specs.Bringing.{Brings}
-use Rattle.node_core.specs.Deeds.{handling}
 use Rattle.node_core.specs.Turning.{IsDecided}
 use Rattle.node_core.proofs.HavingTurns.{decided}
 use Rattle.node_core.proofs.Sendables.{hosts_low}

@@ -1,12 +1,8 @@
 use Rattle.std.proofs.Common.{◌≡◌, ℕ, List, [], ◌∷◌, take, sym, ap, ◌∙◌, subst}
 use Rattle.std.specs.Prelude.{Option}
 use Rattle.hcp_packet.specs.Packets.{AreSendable}
-use Rattle.link_laws.specs.machine.Machine.{Message}
-use Rattle.node_machine.specs.Parts.{Work}
-use Rattle.node_machine.specs.Turns.{lets_go, have_turns}
-use Rattle.node_ends.specs.Ends.{got_at, message_read}
-use Rattle.node_core.specs.Nodes.{IsInStep}
-use Rattle.node_core.specs.Bringing.{Brings}
+use Rattle.node_core.proofs.Words.{Brings, IsInStep, Message, Work, got_at, have_turns, lets_go}
+use Rattle.node_ends.specs.Ends.{message_read}
 use Rattle.node_core.proofs.Steps.{plainly}
 use Rattle.node_core.proofs.HavingTurns.{no_some, let_cut, let_writes, let_anyway}
 use Rattle.node_core.proofs.Sendables.{got_at_sendable}

@@ -1,7 +1,5 @@
 use Rattle.std.proofs.Common.{refl, true, subst}
-use Rattle.link_laws.specs.machine.Machine.Turn.{Hold}
-use Rattle.node_machine.specs.Parts.{Work}
-use Rattle.node_core.specs.Nodes.{IsInStep}
+use Rattle.node_core.proofs.Words.{Hold, IsInStep, Work}
 use Rattle.node_core.specs.Handling.{is_noted_held}
 use Rattle.node_core.proofs.Steps.{silent_turn}
 use Rattle.node_core.proofs.Holding.{held_so, few_held}

@@ -1,11 +1,6 @@
 use Rattle.std.proofs.Common.{◌∷◌, [], not, sym, ap, ◌∙◌, subst}
 use Rattle.std.specs.Prelude.{Result}
-use Rattle.node_machine.specs.Parts.{Init, Work}
-use Rattle.node_machine.specs.Carrying.{all_done}
-use Rattle.node_machine.specs.world.World.{sending}
-use Rattle.node_core.specs.declared.giving.HostRefused.{HostRefused}
-use Rattle.node_core.specs.Nodes.{IsInStep}
-use Rattle.node_core.specs.Giving.{refused_as}
+use Rattle.node_core.proofs.Words.{HostRefused, Init, IsInStep, Work, all_done, refused_as, sending}
 use Rattle.node_core.proofs.Sendings.{begun_so, where_ok, where_err}
 use Rattle.node_core.proofs.node.Node.init_step.Goals as goal
 

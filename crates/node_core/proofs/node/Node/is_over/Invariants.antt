@@ -1,8 +1,6 @@
 use Rattle.std.proofs.Common.{◌≡◌, List, drop}
 use Rattle.std.specs.List.{list_any}
-use Rattle.node_machine.specs.Parts.{Port}
-use Rattle.node_machine.specs.Node.{is_over}
-use Rattle.node_ends.specs.Ends.{EndsStandFor}
+use Rattle.node_core.proofs.Words.{EndsStandFor, Port, is_over}
 use Rattle.node_core.proofs.node.Node.is_over.Given as goal
 
 -- the session of none so far

@@ -1,5 +1,5 @@
 use Rattle.std.proofs.Common.{ap}
-use Rattle.node_core.specs.Syncing.{sync_kept}
+use Rattle.node_core.proofs.Words.{sync_kept}
 use Rattle.node_core.proofs.HavingTurns.{no_some}
 use Rattle.node_core.proofs.Settling.{nothing_kept}
 use Rattle.node_core.proofs.node.Node.keep_sync.Goals as goal

@@ -1,8 +1,5 @@
 use Rattle.std.proofs.Common.{◌≡◌, sym, ◌∙◌, subst, refl, []}
-use Rattle.node_machine.specs.Carrying.{all_done}
-use Rattle.node_core.specs.declared.node.Node.{Node}
-use Rattle.node_core.specs.Nodes.{IsInStep}
-use Rattle.node_core.specs.Bringing.{Brings}
+use Rattle.node_core.proofs.Words.{Brings, IsInStep, Node, all_done}
 use Rattle.node_core.specs.Syncing.{id_kept}
 use Rattle.node_core.proofs.Settling.{nothing_kept}
 use Rattle.node_core.proofs.node.Node.keep_this_sync.Goals as goal

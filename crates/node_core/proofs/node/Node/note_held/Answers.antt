@@ -1,9 +1,6 @@
 use Rattle.std.proofs.Common.{refl, ap, sym, ◌∙◌, subst, true, ◌++◌, ◌∷◌, []}
-use Rattle.trace_model.specs.declared.line.End.{End}
+use Rattle.node_core.proofs.Words.{End, IsInStep, Work, end_of_node, noting}
 use Rattle.trace_model.specs.declared.entry.Entry.TheVariants as entry
-use Rattle.node_machine.specs.Parts.{Work}
-use Rattle.node_machine.specs.Carrying.{noting, end_of_node}
-use Rattle.node_core.specs.Nodes.{IsInStep}
 use Rattle.node_core.proofs.Steps.{plain_noted, desk_changed}
 use Rattle.node_core.proofs.Holding.{was_noted, is_noted_now}
 use Rattle.node_core.proofs.node.Node.note_held.Goals as goal

@@ -1,6 +1,5 @@
 use Rattle.std.proofs.Common.{sym, ap, ◌∙◌}
-use Rattle.link_end.specs.declared.report.LinkReport.{LinkReport}
-use Rattle.node_machine.specs.Carrying.{own_side}
+use Rattle.node_core.proofs.Words.{LinkReport, own_side}
 use Rattle.node_core.specs.Noting.{tells_nothing}
 use Rattle.node_core.proofs.Notes.{no_notes, notes_are, told_nothing}
 use Rattle.node_core.proofs.node.Node.note_input.Goals as goal

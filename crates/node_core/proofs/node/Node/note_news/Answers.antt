@@ -1,14 +1,7 @@
 use Rattle.std.proofs.Common.{ℕ, List, map, sym, ap, ◌∙◌}
 use Rattle.std.specs.Option.{option_map_or}
-use Rattle.link_laws.specs.machine.Machine.{Message, whole_acked}
-use Rattle.link_laws.specs.entries.Entries.{told}
+use Rattle.node_core.proofs.Words.{LinkReport, Message, Port, entries_for, kept_number, own_side, port_at, report_told, told, whole_acked}
 use Rattle.link_laws.specs.entries.Entries.Entry.{Got}
-use Rattle.link_end.specs.declared.report.LinkReport.{LinkReport}
-use Rattle.link_end.specs.Reports.{report_told}
-use Rattle.history.specs.Steps.{entries_for}
-use Rattle.node_machine.specs.Parts.{Port}
-use Rattle.node_machine.specs.Carrying.{own_side, port_at}
-use Rattle.node_ends.specs.Holding.{kept_number}
 use Rattle.node_core.specs.Noting.{without_message}
 use Rattle.node_core.proofs.Notes.{notes_then, notes_are, told_plain, told_counted}
 use Rattle.node_core.proofs.node.Node.note_news.Goals as goal

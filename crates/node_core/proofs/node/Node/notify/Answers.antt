@@ -1,7 +1,5 @@
 use Rattle.std.specs.Prelude.{Some}
-use Rattle.link_laws.specs.machine.Machine.Turn.{Give}
-use Rattle.node_machine.specs.Parts.{Work}
-use Rattle.node_machine.specs.Carrying.{turn_at}
+use Rattle.node_core.proofs.Words.{Give, Work, turn_at}
 use Rattle.node_deeds.specs.Shown.{about_shown}
 use Rattle.node_core.proofs.Steps.{desk_changed}
 use Rattle.node_core.proofs.node.Node.notify.Goals as goal

@@ -3,8 +3,7 @@ use Rattle.std.specs.Prelude.{Option}
 use Rattle.std.specs.List.{flat_map}
 use Rattle.std.specs.Option.{option_map_or}
 use Rattle.node_machine.specs.Parts.{Deed}
-use Rattle.gate_answers.specs.declared.response.Response.{Response}
-use Rattle.node_core.specs.Owing.{answers_owed, owed_at}
+use Rattle.node_core.proofs.Words.{Response, answers_owed, owed_at}
 use Rattle.node_core.proofs.Ticking.{many_ports}
 use Rattle.node_core.proofs.Freeing.{one_gathered, owed_all, one_answered}
 use Rattle.node_core.proofs.node.Node.owed.Goals as goal

@@ -1,9 +1,6 @@
 use Rattle.std.proofs.Common.{◌≡◌, ◌≤◌, List, take, length}
 use Rattle.std.specs.List.{flat_map}
-use Rattle.node_machine.specs.Parts.{Port}
-use Rattle.gate_answers.specs.declared.response.Response.{Response}
-use Rattle.node_ends.specs.Ends.{EndsStandFor}
-use Rattle.node_core.specs.Owing.{answers_owed, owed_at}
+use Rattle.node_core.proofs.Words.{EndsStandFor, Port, Response, answers_owed, owed_at}
 use Rattle.node_core.proofs.node.Node.owed.Given as goal
 
 -- those of the ends so far

@@ -1,8 +1,5 @@
 use Rattle.std.proofs.Common.{◌≡◌, ℕ, true, not, sym, ap, ◌∙◌, subst, refl, add-one}
-use Rattle.node_ends.specs.Ends.{got_at}
-use Rattle.node_machine.specs.Turns.{have_turns}
-use Rattle.node_core.specs.Nodes.{IsInStep}
-use Rattle.node_core.specs.Bringing.{Brings}
+use Rattle.node_core.proofs.Words.{Brings, IsInStep, got_at, have_turns}
 use Rattle.node_core.proofs.HavingTurns.{no_some}
 use Rattle.node_core.proofs.Elsewhere.{is_host_at}
 use Rattle.node_core.proofs.Passing.{PassesOn, pass_rests, pass_begins, next_few, pass_goes_on, pass_stops, pass_ends, pass_over, pass_full}

@@ -1,9 +1,6 @@
 use Rattle.std.proofs.Common.{◌≡◌, true, List}
-use Rattle.trace_model.specs.declared.entry.Entry.{Entry}
-use Rattle.node_machine.specs.Parts.{Work}
-use Rattle.node_core.specs.Nodes.{IsInStep, IsUsable, LiesInBuffer}
-use Rattle.node_core.specs.Faults.{CountsFaults}
-use Rattle.node_core.specs.Turning.{IsNodeInOrder, AreFewDue}
+use Rattle.node_core.proofs.Words.{AreFewDue, CountsFaults, Entry, IsInStep, IsNodeInOrder, IsUsable, Work}
+use Rattle.node_core.specs.Nodes.{LiesInBuffer}
 use Rattle.node_core.proofs.Passing.{PassesOn}
 use Rattle.node_core.proofs.node.Node.passes.Given as goal
 

@@ -1,11 +1,6 @@
 use Rattle.std.proofs.Common.{List, [], ◌∷◌, ◌++◌, refl, sym, ap, ◌∙◌, subst}
-use Rattle.trace_model.specs.declared.line.End.{End}
+use Rattle.node_core.proofs.Words.{End, EndsStandFor, Give, Message, Port, Work, after_turn, end_of_node, noting, port_at, takes_at, with_port}
 use Rattle.trace_model.specs.declared.entry.Entry.TheVariants as entry
-use Rattle.link_laws.specs.machine.Machine.{Message}
-use Rattle.link_laws.specs.machine.Machine.Turn.{Give}
-use Rattle.node_machine.specs.Parts.{Port, Work}
-use Rattle.node_machine.specs.Carrying.{end_of_node, noting, with_port, port_at, after_turn}
-use Rattle.node_ends.specs.Ends.{EndsStandFor, takes_at}
 use Rattle.node_core.proofs.Steps.{plain_noted}
 use Rattle.node_core.proofs.Relays.{not_held, either_first, got_still, relayed_sent, relayed_nowhere}
 use Rattle.node_core.proofs.node.Node.relay.Goals as goal

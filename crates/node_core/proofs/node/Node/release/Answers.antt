@@ -1,5 +1,5 @@
 use Rattle.std.proofs.Common.{refl}
-use Rattle.link_laws.specs.machine.Machine.Turn.{Release}
+use Rattle.node_core.proofs.Words.{Release}
 use Rattle.node_core.proofs.Steps.{silent_turn}
 use Rattle.node_core.proofs.node.Node.release.Goals as goal
 

@@ -1,10 +1,6 @@
 use Rattle.std.proofs.Common.{◌≡◌, ℕ, ◌+◌, List, [], ◌∷◌, get_or, drop, map, refl, sym, ap, ◌∙◌, subst, add-one, drop-cons}
 use Rattle.std.proofs.lemmas.List.{drop_all}
-use Rattle.hci_store.specs.Stored.{Stored}
-use Rattle.node_machine.specs.Parts.{Work}
-use Rattle.node_machine.specs.Parts.Deed.{Releases}
-use Rattle.node_machine.specs.Carrying.{all_done}
-use Rattle.node_core.specs.Nodes.{IsInStep}
+use Rattle.node_core.proofs.Words.{IsInStep, Releases, Stored, Work, all_done}
 use Rattle.node_core.proofs.Freeing.{DoesOn, one_done}
 use Rattle.node_core.proofs.node.Node.release_all.Goals as goal
 

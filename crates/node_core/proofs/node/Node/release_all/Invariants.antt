@@ -1,8 +1,5 @@
 use Rattle.std.proofs.Common.{◌≡◌, true, List, map, drop}
-use Rattle.trace_model.specs.declared.entry.Entry.{Entry}
-use Rattle.node_machine.specs.Parts.{Work}
-use Rattle.node_machine.specs.Parts.Deed.{Releases}
-use Rattle.node_core.specs.Nodes.{IsInStep}
+use Rattle.node_core.proofs.Words.{Entry, IsInStep, Releases, Work}
 use Rattle.node_core.proofs.Freeing.{DoesOn}
 use Rattle.node_core.proofs.node.Node.release_all.Given as goal
 

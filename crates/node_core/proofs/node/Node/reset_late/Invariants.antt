@@ -1,8 +1,5 @@
 use Rattle.std.proofs.Common.{◌≡◌, List}
-use Rattle.trace_model.specs.declared.entry.Entry.{Entry}
-use Rattle.node_machine.specs.Parts.{Work}
-use Rattle.node_core.specs.Nodes.{IsInStep}
-use Rattle.node_core.specs.Turning.{AreFewDue}
+use Rattle.node_core.proofs.Words.{AreFewDue, Entry, IsInStep, Work}
 use Rattle.node_core.proofs.Lateness.{late_so_far}
 use Rattle.node_core.proofs.node.Node.reset_late.Given as goal
 

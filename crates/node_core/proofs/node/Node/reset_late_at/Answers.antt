@@ -1,15 +1,10 @@
 use Rattle.std.proofs.Common.{◌≡◌, ℕ, [], map, refl, sym, ap, ◌∙◌, subst}
 use Rattle.std.specs.Prelude.{None, slice_get, if◌then◌else◌}
-use Rattle.link_laws.specs.machine.Machine.{report, after_input, whole_acked}
+use Rattle.node_core.proofs.Words.{AreNotes, LinkReport, Port, after_input, at_place, entries_for, got_at, own_side, report, reset_late, told, unnumbered}
+use Rattle.node_core.proofs.Words.{whole_acked}
 use Rattle.link_laws.specs.machine.Machine.LinkInput.{Reset}
-use Rattle.link_end.specs.declared.report.LinkReport.{LinkReport}
-use Rattle.link_laws.specs.entries.Entries.{told}
-use Rattle.history.specs.Steps.{entries_for}
-use Rattle.node_machine.specs.Parts.{Port}
-use Rattle.node_machine.specs.Carrying.{own_side}
-use Rattle.node_machine.specs.Node.{reset_late, told_late}
-use Rattle.node_ends.specs.Ends.{at_place, got_at, late_told}
-use Rattle.node_core.specs.Noting.{AreNotes, unnumbered}
+use Rattle.node_machine.specs.Node.{told_late}
+use Rattle.node_ends.specs.Ends.{late_told}
 use Rattle.node_core.proofs.HavingTurns.{no_some}
 use Rattle.node_core.proofs.Notes.{comes_noted, no_notes, notes_are}
 use Rattle.node_core.proofs.Ticking.{same_host, is_some_there, is_none_there}

@@ -1,8 +1,5 @@
 use Rattle.std.proofs.Common.{not, sym, ap, ◌∙◌, refl}
-use Rattle.node_machine.specs.Turns.{passes}
-use Rattle.node_core.specs.Nodes.{IsInStep}
-use Rattle.node_core.specs.Bringing.{Brings}
-use Rattle.node_core.specs.Syncing.{settles, sync_kept}
+use Rattle.node_core.proofs.Words.{Brings, IsInStep, passes, settles, sync_kept}
 use Rattle.node_core.proofs.Joining.{brings_cut, brings_then}
 use Rattle.node_core.proofs.HavingTurns.{brings_same}
 use Rattle.node_core.proofs.Settling.{settled_ports, quiet_few}

@@ -1,15 +1,9 @@
 use Rattle.std.proofs.Common.{◌≡◌, true, not, List, ◌++◌, map, sym, ap, ap₂, ◌∙◌, subst}
 use Rattle.std.specs.List.{flat_map}
-use Rattle.hci_store.specs.Stored.{Stored}
+use Rattle.node_core.proofs.Words.{Brings, IsInStep, Port, Releases, Stored, Work, after_sessions, all_done, all_owed, answers_owed, forgets, forgotten}
+use Rattle.node_core.proofs.Words.{left_over, settles, sync_kept}
 use Rattle.gate_answers.specs.declared.response.Response.TheVariants as response
-use Rattle.node_machine.specs.Parts.{Port, Work, Deed}
-use Rattle.node_machine.specs.Parts.Deed.{Releases}
-use Rattle.node_machine.specs.Carrying.{all_done}
-use Rattle.node_machine.specs.Node.{forgets, forgotten, after_sessions, all_owed}
-use Rattle.node_core.specs.Nodes.{IsInStep}
-use Rattle.node_core.specs.Bringing.{Brings}
-use Rattle.node_core.specs.Owing.{answers_owed}
-use Rattle.node_core.specs.Syncing.{left_over, settles, sync_kept}
+use Rattle.node_machine.specs.Parts.{Deed}
 use Rattle.node_core.proofs.Freeing.{all_joined}
 use Rattle.node_core.proofs.Settling.{plain_freed, plain_owed, left_under_way, settle_stops, settle_goes}
 use Rattle.node_core.proofs.Faults.{ran_is}

@@ -1,5 +1,5 @@
 use Rattle.std.proofs.Common.{sym, ◌∙◌}
-use Rattle.node_core.specs.Syncing.{sync_kept}
+use Rattle.node_core.proofs.Words.{sync_kept}
 use Rattle.node_core.proofs.HavingTurns.{brings_same}
 use Rattle.node_core.proofs.Undisturbed.{nothing_ended}
 use Rattle.node_core.proofs.node.Node.settle_sessions.Goals as goal

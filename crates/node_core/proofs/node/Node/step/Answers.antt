@@ -1,8 +1,6 @@
 use Rattle.std.proofs.Common.{ℕ, ◌≤◌, sym, ap, ◌∙◌, subst}
 use Rattle.std.specs.Prelude.{Option, IfSome}
-use Rattle.hci_store.specs.Stored.{Stored}
-use Rattle.node_machine.specs.Node.{NodeInput, all_come, times_out}
-use Rattle.node_core.specs.Syncing.{sync_kept}
+use Rattle.node_core.proofs.Words.{NodeInput, Stored, all_come, sync_kept, times_out}
 use Rattle.node_core.specs.Inputs.{input_of_node}
 use Rattle.node_core.proofs.Elsewhere.{hosts_differ}
 use Rattle.node_core.proofs.Stepping.{whole_step}

@@ -1,12 +1,6 @@
 use Rattle.std.proofs.Common.{◌≡◌, ℕ, sym, ap, ◌∙◌, true, not}
 use Rattle.std.specs.Prelude.{option_map}
-use Rattle.node_deeds.specs.Room.{lack_shown}
-use Rattle.node_core.specs.Bringing.{Brings}
-use Rattle.node_machine.specs.Turns.{handles, holds_back, lets_go}
-use Rattle.link_laws.specs.machine.Machine.{Message}
-use Rattle.node_core.specs.Nodes.{IsInStep}
-use Rattle.node_deeds.specs.Shown.{deeds_shown}
-use Rattle.node_core.specs.Deeds.{handling}
+use Rattle.node_core.proofs.Words.{Brings, IsInStep, Message, deeds_shown, handles, handling, holds_back, lack_shown, lets_go}
 use Rattle.node_core.proofs.Joining.{brings_then}
 use Rattle.node_core.proofs.Steps.{plainly}
 use Rattle.node_core.proofs.Quiet.{few_kept, held_kept}

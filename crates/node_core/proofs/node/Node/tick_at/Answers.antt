@@ -1,18 +1,8 @@
 use Rattle.std.proofs.Common.{◌≡◌, ℕ, List, [], map, refl, sym, ap, ◌∙◌, subst}
 use Rattle.std.specs.Prelude.{Some, option_map, slice_get, if◌then◌else◌}
-use Rattle.link_laws.specs.machine.Machine.{report, after_input, whole_acked}
+use Rattle.node_core.proofs.Words.{AreNotes, AtEnd, EndsStandFor, IsInStep, LinkReport, Port, after_input, all_come, entries_for, got_at, has_come, own_side}
+use Rattle.node_core.proofs.Words.{port_at, report, report_told, told, unnumbered, whole_acked, with_port}
 use Rattle.link_laws.specs.machine.Machine.LinkInput.{Tick}
-use Rattle.link_end.specs.declared.report.LinkReport.{LinkReport}
-use Rattle.link_end.specs.Reports.{report_told}
-use Rattle.link_laws.specs.entries.Entries.{told}
-use Rattle.history.specs.Steps.{entries_for}
-use Rattle.node_machine.specs.Parts.{Port}
-use Rattle.node_machine.specs.Carrying.{own_side, port_at, with_port}
-use Rattle.node_machine.specs.Node.{has_come, all_come}
-use Rattle.node_machine.specs.Node.NodeInput.{AtEnd}
-use Rattle.node_ends.specs.Ends.{EndsStandFor, got_at}
-use Rattle.node_core.specs.Nodes.{IsInStep}
-use Rattle.node_core.specs.Noting.{AreNotes, unnumbered}
 use Rattle.node_core.proofs.Doing.{host_at}
 use Rattle.node_core.proofs.HavingTurns.{no_some}
 use Rattle.node_core.proofs.Elsewhere.{hosts_differ}

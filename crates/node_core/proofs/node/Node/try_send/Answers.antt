@@ -1,8 +1,6 @@
 use Rattle.std.proofs.Common.{refl, sym, ap, ◌∙◌}
 use Rattle.std.specs.Prelude.{length}
-use Rattle.link_laws.specs.machine.Machine.{Message}
-use Rattle.node_machine.specs.Carrying.{port_at}
-use Rattle.node_ends.specs.Ends.{KeptEnds, TellsLengthOf}
+use Rattle.node_core.proofs.Words.{KeptEnds, Message, TellsLengthOf, port_at}
 use Rattle.node_core.proofs.Doing.{sent_under_way, refused_under_way, told_taken, told_refused}
 use Rattle.node_core.proofs.Sendings.{where_err, of_err}
 use Rattle.node_core.proofs.node.Node.try_send.Goals as goal

@@ -1,14 +1,7 @@
 use Rattle.std.proofs.Common.{◌≡◌, true, not, List, [], ◌∷◌, sym, ap, ◌∙◌}
 use Rattle.std.specs.Prelude.{option_map}
-use Rattle.hci_store.specs.Stored.{Stored}
-use Rattle.link_laws.specs.machine.Machine.{Message}
+use Rattle.node_core.proofs.Words.{Handling, Message, Sends, Stored, deeds_shown, handling, lack, lack_shown, lets_go, needs}
 use Rattle.node_machine.specs.Parts.{Deed as DeedOf}
-use Rattle.node_machine.specs.Parts.Deed.{Sends}
-use Rattle.node_machine.specs.Carrying.{lack, needs}
-use Rattle.node_machine.specs.Turns.{lets_go}
-use Rattle.node_deeds.specs.Room.{lack_shown}
-use Rattle.node_deeds.specs.Shown.{Handling, deeds_shown}
-use Rattle.node_core.specs.Deeds.{handling}
 use Rattle.node_core.proofs.Joining.{brings_then}
 use Rattle.node_core.proofs.Steps.{plainly}
 use Rattle.node_core.proofs.Quiet.{few_kept, held_kept}

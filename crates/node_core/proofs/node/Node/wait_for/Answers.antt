@@ -1,6 +1,6 @@
 use Rattle.std.proofs.Common.{refl, sym, ap}
 use Rattle.std.specs.Prelude.{Some}
-use Rattle.node_deeds.specs.declared.inits.Ordered.{Ordered}
+use Rattle.node_core.proofs.Words.{Ordered}
 use Rattle.node_core.proofs.Tasks.{command_changed}
 use Rattle.node_core.proofs.node.Node.wait_for.Goals as goal
 

@@ -1,7 +1,7 @@
 use Rattle.std.proofs.Common.{ℕ, List, sym, ◌∙◌, subst}
 use Rattle.swp_base.specs.declared.link_terms.Role.{Role as Named}
-use Rattle.node_ends.specs.Making.{AreAllDifferent}
-use Rattle.node_core.specs.Booting.{BeginsAs, hosts_linked}
+use Rattle.node_core.proofs.Words.{AreAllDifferent, hosts_linked}
+use Rattle.node_core.specs.Booting.{BeginsAs}
 use Rattle.node_core.proofs.Beginning.{linked_runs}
 use Rattle.node_core.proofs.Masks.{linked_differ}
 use Rattle.node_core.proofs.running_node.RunningNode.boot.Goals as goal

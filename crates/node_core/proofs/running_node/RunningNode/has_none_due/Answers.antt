@@ -1,7 +1,6 @@
 use Rattle.std.proofs.Common.{◌≡◌, List, map, sym, ap, ◌∙◌}
 use Rattle.std.specs.Prelude.{Some, option_map, slice_get}
-use Rattle.node_machine.specs.Parts.{Port}
-use Rattle.node_core.specs.Running.{between}
+use Rattle.node_core.proofs.Words.{Port, between}
 use Rattle.node_core.proofs.Elsewhere.{hosts_differ}
 use Rattle.node_core.proofs.Between.{placed, kept_at}
 use Rattle.node_core.proofs.SeenAsNode.{seen_runs}

@@ -1,16 +1,8 @@
 use Rattle.std.proofs.Common.{◌≡◌, ◌≢◌, ◌≤◌, ℕ, List, [], ◌∷◌, ◌∙◌, ap, refl, sym, subst, arith}
 use Rattle.std.specs.Prelude.{Some, None, Result, Ok, Err, OnOk, option_map, is_some}
-use Rattle.trace_model.specs.declared.entry.Entry.{Entry}
-use Rattle.link_laws.specs.machine.Machine.{give_refusal}
-use Rattle.node_machine.specs.Parts.{Work}
-use Rattle.node_machine.specs.Carrying.{port_at, all_done}
+use Rattle.node_core.proofs.Words.{Entry, HasStepped, HostRefused, IsAsked, IsInStep, Node, RunsAs, Work, all_done, between, give_refusal, if_waiting, port_at}
+use Rattle.node_core.proofs.Words.{refused_as}
 use Rattle.node_machine.specs.world.World.{beginning}
-use Rattle.node_machine.specs.world.Lines.{if_waiting}
-use Rattle.node_core.specs.declared.node.Node.{Node}
-use Rattle.node_core.specs.declared.giving.HostRefused.{HostRefused}
-use Rattle.node_core.specs.Nodes.{IsInStep}
-use Rattle.node_core.specs.Running.{RunsAs, HasStepped, between}
-use Rattle.node_core.specs.Giving.{refused_as, IsAsked}
 use Rattle.node_core.proofs.Between.{at_rest, rests_in_step, kept_at}
 use Rattle.node_core.proofs.Asking.{asked_in_step, has_begun_so}
 use Rattle.node_core.proofs.running_node.RunningNode.init.Goals as goal

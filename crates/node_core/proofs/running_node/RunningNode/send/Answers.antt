@@ -1,17 +1,7 @@
 use Rattle.std.proofs.Common.{◌≡◌, ◌≢◌, ◌≤◌, ◌&&◌, ℕ, List, ◌∙◌, ap, refl, sym, subst, arith}
 use Rattle.std.specs.Prelude.{Some, None, Result, Ok, Err, OnOk, option_map, is_some, ◌==◌}
-use Rattle.trace_model.specs.declared.entry.Entry.{Entry}
-use Rattle.link_laws.specs.machine.Machine.{give_refusal}
-use Rattle.node_machine.specs.Parts.{Port, Work}
-use Rattle.node_machine.specs.Carrying.{port_at, all_done}
-use Rattle.node_machine.specs.Controller.{is_command_message}
-use Rattle.node_machine.specs.world.World.{sending}
-use Rattle.node_machine.specs.world.Lines.{if_waiting}
-use Rattle.node_core.specs.declared.node.Node.{Node}
-use Rattle.node_core.specs.declared.giving.HostRefused.{HostRefused}
-use Rattle.node_core.specs.Nodes.{IsInStep}
-use Rattle.node_core.specs.Running.{RunsAs, HasStepped, between}
-use Rattle.node_core.specs.Giving.{refused_as, IsAsked}
+use Rattle.node_core.proofs.Words.{Entry, HasStepped, HostRefused, IsAsked, IsInStep, Node, Port, RunsAs, Work, all_done, between, give_refusal, if_waiting}
+use Rattle.node_core.proofs.Words.{is_command_message, port_at, refused_as, sending}
 use Rattle.node_core.proofs.Between.{at_rest, rests_in_step, kept_at}
 use Rattle.node_core.proofs.Asking.{asked_in_step, has_sent_so}
 use Rattle.node_core.proofs.running_node.RunningNode.send.Goals as goal
