@@ -1,6 +1,6 @@
 -- A node that has booted runs.
 use Rattle.std.proofs.Common.{◌≡◌, ◌≢◌, ℕ, zero, suc, ◌+◌, ◌≤◌, List, [], ◌∷◌, map, length, refl, sym, ap, subst, arith}
-use Rattle.std.specs.Prelude.{◌==◌, false}
+use Rattle.std.specs.Prelude.{◌==◌, false, None, IsTrue}
 use Rattle.std.specs.List.{AllByRecursion}
 use Rattle.std.proofs.lemmas.Bool.{ne_eqb}
 use Rattle.link_laws.specs.messages.Links.{IsClf}
@@ -10,10 +10,18 @@ use Rattle.swp_base.specs.declared.link_terms.Role.{Role as Named}
 use Rattle.swp_base.specs.declared.link_terms.Role.TheVariants.{Bare, Clf, Uicc}
 use Rattle.node_ends.specs.Making.{new_port}
 use Rattle.gate_admin.specs.View.{hosts_where}
-use Rattle.node_core.specs.Booting.{BeginsAs, role_at}
+use Rattle.node_core.specs.Booting.{role_at}
 use Rattle.node_core.specs.Turning.{HaveOwnRoles}
 use Rattle.node_core.specs.Running.{core_kept}
 use Rattle.node_core.proofs.Masks.{hosts_within, links_within}
+
+-- a node as it begins, with new ends of the links with these hosts
+pub record BeginsAs {N : Type 0} (number : ℕ) (role : Named) (hosts : List ℕ) (n : Node N) : Type 0 where
+  pub number_is : n.number ≡ number
+  pub ends : EndsStandFor n.ends (map (new_port role) hosts)
+  pub live : IsTrue n.store.journal.live
+  pub command : n.tasks.command ≡ None
+  pub init : n.tasks.init ≡ None
 
 one_few : (role : Named) (h : ℕ) → length (new_port role h).side.acts + length (new_port role h).side.shdlc.due ≤ 5
 one_few Bare h = omega arith

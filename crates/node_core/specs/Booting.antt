@@ -34,14 +34,6 @@ role_at number = if number == 0 then Clf else Uicc
 abbrev pub hosts_linked : ℕ → ℕ → List ℕ
 hosts_linked number mask = if number == 0 then hosts_where (has mask) else number ∷ []
 
--- a node as it begins, with new ends of the links with these hosts
-pub record BeginsAs {N : Type 0} (number : ℕ) (role : Named) (hosts : List ℕ) (n : Node N) : Type 0 where
-  pub number_is : n.number ≡ number
-  pub ends : EndsStandFor n.ends (map (new_port role) hosts)
-  pub live : IsTrue n.store.journal.live
-  pub command : n.tasks.command ≡ None
-  pub init : n.tasks.init ≡ None
-
 -- A store didn't start on this memory: for a read or a write that failed, since no generation is left for the snapshot of a memory of
 -- version 01, or for what is wrong with the memory. The next start finds what this one found. Where no call of the memory failed, nothing
 -- was written.

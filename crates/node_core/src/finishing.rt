@@ -1,22 +1,22 @@
-//! The steps of a node.
+//! What begins a step of a node, and how it ends.
 use crate::inputs::{Came, NodeInput};
 use crate::node::{InBuffer, MESSAGE, Node};
-use crate::running::{Ran, Stepped};
+use crate::running::Ran;
 use link_end::ResetRefused;
 use swp_base::Nv;
 use trace_model::Watch;
 
 impl<N: Nv + Drop> Node<N> {
     ghost use Rattle.std.specs.Prelude.{◌≡◌, ◌≤◌, List, None, Some, IfSome, IfOk, OnOk, OnErr, MatchResult, IsTrue};
-    ghost use Rattle.node_machine.specs.Parts.{Core, Port, Work};
-    ghost use Rattle.node_machine.specs.Node.{all_come, times_out, steps};
+    ghost use Rattle.node_machine.specs.Parts.{Work};
+    ghost use Rattle.node_machine.specs.Node.{all_come, times_out};
     ghost use Rattle.trace_model.specs.declared.entry.Entry.{Entry as Noted};
     ghost use Rattle.node_core.specs.Nodes.{IsInStep, IsUsable, LiesInBuffer, IsInSomeStep, CarriesOutWhere};
     ghost use Rattle.node_core.specs.Faults.{CountsFaults};
     ghost use Rattle.node_core.specs.Turning.{IsNodeInOrder, AreFewDue};
-    ghost use Rattle.node_core.specs.Running.{RunsAs, BeginsStep, HasNoneEnded, IsAllSent, ran_so, TakesStep};
+    ghost use Rattle.node_core.specs.Running.{BeginsStep, HasNoneEnded, ran_so};
     ghost use Rattle.node_core.specs.Syncing.{sync_kept, finishes};
-    ghost use Rattle.node_core.specs.Inputs.{input_of_node, refusal_by, makes_active, MayComeToNode, IsWhatCame};
+    ghost use Rattle.node_core.specs.Inputs.{input_of_node, refusal_by, MayComeToNode, IsWhatCame};
 
     // What came in a step is settled, and the messages that wait have their turns, as in `finish`.
     #[inline(never)]
@@ -54,7 +54,7 @@ impl<N: Nv + Drop> Node<N> {
     /// message that waits lies in the buffer already, or none does.
     #[inline(always)]
     #[tactic(auto, using(crate::proofs::Faults::faults_stay, crate::proofs::Faults::faults_then))]
-    fn finish<W: Watch>(
+    pub(crate) fn finish<W: Watch>(
         &mut self,
         came: Option<(u8, u16)>,
         lies: Option<InBuffer>,
@@ -81,7 +81,7 @@ impl<N: Nv + Drop> Node<N> {
 
     // What begins a step, and what that did is noted. The message that came, where one did, lies in the front of the buffer then.
     #[inline(always)]
-    fn comes<W: Watch>(
+    pub(crate) fn comes<W: Watch>(
         &mut self,
         input: NodeInput<'_>,
         buffer: &mut [u8; MESSAGE],
@@ -110,42 +110,5 @@ impl<N: Nv + Drop> Node<N> {
                 Ok(Came::nothing())
             }
         }
-    }
-
-    /// A step of a node that runs, of which every frame of the step before was fetched. The buffer keeps nothing.
-    ///
-    /// # Errors
-    ///
-    /// A reset is refused. Nothing changed.
-    #[inline(always)]
-    #[tactic(auto, using(crate::proofs::Faults::faults_stay, crate::proofs::Faults::faults_then))]
-    pub fn step<W: Watch>(
-        &mut self,
-        input: NodeInput<'_>,
-        buffer: &mut [u8; MESSAGE],
-        watch: &mut W,
-    ) -> Result<Stepped, ResetRefused>
-        requires { (core : Core) × (ports : List Port) × RunsAs self.old core ports × IsAllSent ports × MayComeToNode input ports }
-        ensures refusal { (core : Core) (ports : List Port) → RunsAs self.old core ports → MatchResult result
-            (λ done. refusal_by input.entry ports ≡ None) (λ why. refusal_by input.entry ports ≡ Some why) }
-        ensures stepped { OnOk result (TakesStep N.writes W.noted W.is_short (self.old, watch.old) (self.new, watch.new) (steps (input_of_node input.entry))) }
-        ensures active { IfOk result (λ done. (start : List Noted) (w : Work) → BeginsStep self.old (W.noted watch.old) (W.is_short watch.old) start w
-            → done.became_active ≡ makes_active (input_of_node input.entry) w.ports) }
-        ensures unchanged { OnErr result ((core : Core) (ports : List Port) → RunsAs self.old core ports → RunsAs self.new core ports) }
-        ensures quiet { OnErr result ((watch.new ≡ watch.old) × (self.new.store ≡ self.old.store)) }
-        ensures ran { IfOk result (λ done. done.ran ≡ ran_so self.new.store.journal.live) }
-        ensures faults { CountsFaults N.faults self.old.store self.new.store }
-        ensures number { self.new.number ≡ self.old.number }
-    {
-        let came = match self.comes(input, buffer, watch) {
-            Ok(came) => came,
-            Err(why) => return Err(why),
-        };
-        let ran = self.finish(came.sync, came.lies, buffer, watch);
-        self.end_step();
-        Ok(Stepped {
-            ran,
-            became_active: came.became_active,
-        })
     }
 }

@@ -27,14 +27,3 @@ pub(crate) struct InBuffer {
     /// How many bytes it has, at most 4,096.
     pub(crate) len: u16,
 }
-
-impl<N: Nv + Drop> Node<N> {
-    ghost use Rattle.std.specs.Prelude.{◌≡◌};
-
-    /// Its number.
-    pub fn number(&self) -> u8
-        ensures { result ≡ self.now.number }
-    {
-        self.number
-    }
-}

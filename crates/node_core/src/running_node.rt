@@ -11,6 +11,9 @@ use crate::running::Stepped;
 use arrayvec::ArrayVec;
 use hci_store::Store;
 use link_end::ResetRefused;
+use node_deeds::Tasks;
+use node_ends::Ends;
+use nv_journal::StartRefused;
 use std::alloc::Global;
 use std::marker::Model;
 use swp_base::{Lpdu, MemNv, Nv, Role};
@@ -93,9 +96,31 @@ impl<N: Nv + Drop> RunningNode<N> {
             });
         };
         let hosts = links_of(number, mask);
-        match Node::boot(alloc, number, role_of(number), hosts.as_slice(), nv) {
-            Ok(node) => Ok(RunningNode { node, buffer }),
-            Err(refused) => Err(refused),
+        let Ok(ends) = Ends::make(alloc, role_of(number), hosts.as_slice()) else {
+            return Err(BootRefused {
+                nv,
+                fault: BootFault::NoMemory,
+            });
+        };
+        match Store::start(nv) {
+            Ok(store) => {
+                let tasks = Tasks {
+                    command: None,
+                    init: None,
+                };
+                let node = Node {
+                    alloc,
+                    number,
+                    store,
+                    ends,
+                    tasks,
+                };
+                Ok(RunningNode { node, buffer })
+            }
+            Err(StartRefused { nv, fault }) => Err(BootRefused {
+                nv,
+                fault: BootFault::Journal(fault),
+            }),
         }
     }
 
@@ -103,7 +128,7 @@ impl<N: Nv + Drop> RunningNode<N> {
     pub fn number(&self) -> u8
         ensures { result ≡ self.now.number }
     {
-        self.node.number()
+        self.node.number
     }
 
     /// A step, of which every frame of the step before was fetched.
@@ -112,6 +137,7 @@ impl<N: Nv + Drop> RunningNode<N> {
     ///
     /// A reset is refused. Nothing changed.
     #[inline(always)]
+    #[tactic(auto, using(crate::proofs::Faults::faults_stay, crate::proofs::Faults::faults_then))]
     pub fn step<W: Watch>(
         &mut self,
         input: NodeInput<'_>,
@@ -129,7 +155,16 @@ impl<N: Nv + Drop> RunningNode<N> {
         ensures faults { CountsFaults N.faults self.old.store self.new.store }
         ensures number { self.new.number ≡ self.old.number }
     {
-        self.node.step(input, &mut self.buffer, watch)
+        let came = match self.node.comes(input, &mut self.buffer, watch) {
+            Ok(came) => came,
+            Err(why) => return Err(why),
+        };
+        let ran = self.node.finish(came.sync, came.lies, &mut self.buffer, watch);
+        self.node.end_step();
+        Ok(Stepped {
+            ran,
+            became_active: came.became_active,
+        })
     }
 
     /// A frame on its way to the end of the link with this host was refused: one more for REC_ERROR (ETSI TS 102 622,

@@ -1,21 +1,22 @@
-use Rattle.std.proofs.Common.{ℕ, List, sym, ◌∙◌, subst}
+use Rattle.std.proofs.Common.{ℕ, List, map, refl, sym, ◌∙◌, subst}
 use Rattle.swp_base.specs.declared.link_terms.Role.{Role as Named}
-use Rattle.node_core.proofs.Words.{AreAllDifferent, hosts_linked}
-use Rattle.node_core.specs.Booting.{BeginsAs}
+use Rattle.node_core.proofs.Words.{AreAllDifferent, EndsStandFor, hosts_linked}
+use Rattle.node_ends.specs.Making.{new_port}
 use Rattle.node_core.proofs.Beginning.{linked_runs}
 use Rattle.node_core.proofs.Masks.{linked_differ}
 use Rattle.node_core.proofs.running_node.RunningNode.boot.Goals as goal
 
-pub boot-requires-clause-different : goal.boot-requires-clause-different
-boot-requires-clause-different g c =
+pub make-requires-clause-different : goal.make-requires-clause-different
+make-requires-clause-different g c =
     let P : List ℕ → Type 0 = λ hs. AreAllDifferent hs in
     subst P (sym (c.as_slice.ensures.value ∙ c.links_of-hosts.ensures)) (linked_differ c.args.number c.args.mask)
 
-pub returns-in-Ok-boot-clause-runs : goal.returns-in-Ok-boot-clause-runs
-returns-in-Ok-boot-clause-runs g c =
-    let n = c.in-Ok-boot.node in
-    let H : List ℕ → Type 0 = λ hs. BeginsAs c.args.number c.role_of.result hs n in
-    let R : Named → Type 0 = λ role. BeginsAs c.args.number role (hosts_linked c.args.number c.args.mask) n in
-    linked_runs n c.args.number c.args.mask c.requires.number
-    (subst R c.role_of.ensures (subst H (c.as_slice.ensures.value ∙ c.links_of-hosts.ensures) c.in-Ok-boot.ensures.begins))
-    c.in-Ok-boot.ensures.usable
+pub returns-in-Ok-start-clause-runs : goal.returns-in-Ok-start-clause-runs
+returns-in-Ok-start-clause-runs g c =
+    let E : List ℕ → Type 0 = λ hs. EndsStandFor c.in-Ok-make.ends (map (new_port c.role_of.result) hs) in
+    let R : Named → Type 0 = λ role. EndsStandFor c.in-Ok-make.ends (map (new_port role) (hosts_linked c.args.number c.args.mask)) in
+    let ends = subst R c.role_of.ensures (subst E (c.as_slice.ensures.value ∙ c.links_of-hosts.ensures) c.in-Ok-make.ensures) in
+    let s = c.in-Ok-start.ensures in
+    linked_runs _ c.args.number c.args.mask c.requires.number
+    (record { number_is = refl; ends = ends; live = s.live; command = refl; init = refl })
+    (record { started = λ live. s.used; version = λ live. s.version })
