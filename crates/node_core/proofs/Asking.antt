@@ -1,5 +1,5 @@
 -- What a host does by itself leaves it running.
-use Rattle.std.proofs.Common.{◌≡◌, ◌≢◌, ℕ, Bool, true, false, not, ◌&&◌, List, [], ◌∷◌, map, refl, sym, ap, ◌∙◌, subst, arith, append-nil}
+use Rattle.std.proofs.Common.{◌≡◌, ◌≢◌, ◌≤◌, ℕ, Bool, true, false, not, ◌&&◌, List, [], ◌∷◌, map, refl, sym, ap, ◌∙◌, subst, arith, append-nil}
 use Rattle.std.specs.Prelude.{Option, Some, None, IfSome, is_some, ◌==◌}
 use Rattle.std.proofs.lemmas.Bool.{true≢false}
 use Rattle.node_core.proofs.Words.{BeginsStep, Core, EndsStandFor, Entry, HasStepped, Init, IsAsked, IsInStep, IsNodeInOrder, IsOnTask, IsUicc, IsUsable, Node}
@@ -28,6 +28,9 @@ use Rattle.node_core.proofs.Ordering.{in_order_at, with_task}
 use Rattle.node_core.proofs.Deciders.{only, found_one}
 use Rattle.node_core.proofs.Sendings.{given_order, given_other, given_both}
 use Rattle.node_core.proofs.Sendables.{found_all}
+
+pub not_zero : (n : ℕ) → 1 ≤ n → n ≢ 0
+not_zero n low none = omega (arith, low, none)
 
 -- ## As it begins
 

@@ -84,6 +84,10 @@ told_length len (at_end.Full need spare) told = tt
 
 -- ## Answers
 
+pub was_ok : {E : Type 0} (r : Result (Unit {0}) E) → ((why : E) → r ≡ Err why → ⊥) → r ≡ Ok tt
+was_ok (Ok done) none = refl
+was_ok (Err why) none = absurd (none why refl)
+
 pub where_ok : {A E : Type 0} {r : Result (Unit {0}) E} → r ≡ Ok tt → OnOk r A → A
 where_ok {A} {E} is a = let P : Result (Unit {0}) E → Type 0 = λ x. OnOk x A in subst P is a
 

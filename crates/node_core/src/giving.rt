@@ -69,7 +69,7 @@ impl<N: Nv + Drop> Node<N> {
     ghost use Rattle.node_machine.specs.Carrying.{port_at, done};
     ghost use Rattle.node_machine.specs.Node.{begins_with};
     ghost use Rattle.node_machine.specs.Controller.{is_command_message};
-    ghost use Rattle.node_machine.specs.world.World.{sending, beginning};
+    ghost use Rattle.node_machine.specs.world.World.{sending};
     ghost use Rattle.node_machine.specs.world.Lines.{if_waiting};
     ghost use Rattle.node_core.specs.Nodes.{IsInStep, Carries, CarriesUnseen};
     ghost use Rattle.node_ends.specs.Ends.{EndsStandFor};
@@ -167,7 +167,7 @@ impl<N: Nv + Drop> Node<N> {
     }
 
     // An init begins to run, with at most eight pipes.
-    fn run_init(&mut self, identity: &[u8; 8], pipes: &[[u8; 3]])
+    pub(crate) fn run_init(&mut self, identity: &[u8; 8], pipes: &[[u8; 3]])
         requires few { length pipes.now ≤ 8 }
         ensures runs_it { (host : ℕ) → CarriesUnseen self.old self.new
             (done host (GoesOn (record { identity = identity.now; pipes = pipes.now; answered = 0 }))) }
@@ -179,38 +179,5 @@ impl<N: Nv + Drop> Node<N> {
             pipes: pipes_of(pipes),
             answered: 0,
         });
-    }
-
-    /// A host begins an init, with the identity that it is to set and at most eight pipes that it is to make: its first command is sent (ETSI
-    /// TS 102 622, section 8.4; what an init makes is this project's own).
-    ///
-    /// # Errors
-    ///
-    /// `NotUp` where its end isn't up, `Waiting` where a command on pipe 01 isn't answered, and `Full` where the block of the command
-    /// isn't spare: the first of these that applies. Nothing changed then.
-    pub fn init_step<W: Watch>(
-        &mut self,
-        identity: &[u8; 8],
-        pipes: &[[u8; 3]],
-        watch: &mut W,
-    ) -> Result<(), HostRefused>
-        requires live { IsTrue self.old.store.journal.live }
-        requires few { length pipes.now ≤ 8 }
-        ensures refusal { (noted : List Noted) (short : Bool) (start : List Noted) (w : Work) (p : Port) → IsInStep self.old noted short start w
-            → port_at w.ports self.old.number ≡ Some p
-            → refused_as result ≡ if_waiting (is_some w.core.command) (give_refusal p.side (1, 3 ∷ [])) }
-        ensures begun { OnOk result (Carries W.noted W.is_short (self.old, watch.old) (self.new, watch.new)
-            (begins_with self.old.number (beginning identity.now pipes.now))) }
-        ensures unchanged { OnErr result ((self.new ≡ self.old) × (watch.new ≡ watch.old)) }
-        ensures store { self.new.store ≡ self.old.store }
-        ensures number { self.new.number ≡ self.old.number }
-    {
-        match self.give_step(1, &[3], watch) {
-            Ok(()) => {
-                self.run_init(identity, pipes);
-                Ok(())
-            }
-            Err(why) => Err(why),
-        }
     }
 }

@@ -296,9 +296,10 @@ impl<N: Nv + Drop> RunningNode<N> {
         ensures store { self.new.store ≡ self.old.store }
         ensures number { self.new.number ≡ self.old.number }
     {
-        if let Err(why) = self.node.init_step(identity, pipes, watch) {
+        if let Err(why) = self.node.give_step(1, &[3], watch) {
             return Err(why);
         }
+        self.node.run_init(identity, pipes);
         self.node.end_step();
         Ok(())
     }

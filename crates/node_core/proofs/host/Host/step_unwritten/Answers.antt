@@ -1,18 +1,15 @@
-use Rattle.std.proofs.Common.{◌≢◌, ◌≤◌, ℕ, sym, ap, ◌∙◌, arith}
+use Rattle.std.proofs.Common.{sym, ap, ◌∙◌}
 use Rattle.node_core.proofs.Words.{Stored}
 use Rattle.node_core.proofs.Between.{at_rest}
-use Rattle.node_core.proofs.Asking.{begins_at_rest, asked_may}
+use Rattle.node_core.proofs.Asking.{not_zero, begins_at_rest, asked_may}
 use Rattle.node_core.proofs.SeenAsNode.{seen_may}
 use Rattle.node_core.proofs.Unwritten.{host_still}
 use Rattle.node_core.proofs.host.Host.step_unwritten.Goals as goal
 
-some : (n : ℕ) → 1 ≤ n → n ≢ 0
-some n low none = omega (arith, low, none)
-
 pub step-requires : goal.step-requires
 step-requires g c =
     let m = seen_may c.self.view_is c.requires.may in
-    let nonzero = some c.self.inside.node.number c.self.invariant in (
+    let nonzero = not_zero c.self.inside.node.number c.self.invariant in (
       m.core,
       m.ports,
       m.runs,
@@ -40,7 +37,7 @@ returns-clause-quietly g c =
     rw (← c.self.view_is) (λ start w b.
     let none = rw c.number-host.ensures at (c.in_default.ensures.refusal w.core w.ports b.runs) in
     let whole = rw c.number-host.ensures at (c.in_default.ensures.stepped start w b) in
-    (host_still g.N.Nv.writes c.args.what c.requires.what (some c.self.inside.node.number c.self.invariant) none b whole).1)
+    (host_still g.N.Nv.writes c.args.what c.requires.what (not_zero c.self.inside.node.number c.self.invariant) none b whole).1)
 
 pub returns-clause-memory : goal.returns-clause-memory
 returns-clause-memory g c =
@@ -50,7 +47,7 @@ returns-clause-memory g c =
     let w = at_rest m.core m.ports in
     let none = rw c.number-host.ensures at (c.in_default.ensures.refusal w.core w.ports b.runs) in
     let whole = rw c.number-host.ensures at (c.in_default.ensures.stepped start w b) in
-    rw (← c.self.view_is) (host_still g.N.Nv.writes c.args.what c.requires.what (some c.self.inside.node.number c.self.invariant) none b whole).0
+    rw (← c.self.view_is) (host_still g.N.Nv.writes c.args.what c.requires.what (not_zero c.self.inside.node.number c.self.invariant) none b whole).0
 
 pub returns-clause-live : goal.returns-clause-live
 returns-clause-live g c =
@@ -60,7 +57,7 @@ returns-clause-live g c =
     let w = at_rest m.core m.ports in
     let none = rw c.number-host.ensures at (c.in_default.ensures.refusal w.core w.ports b.runs) in
     let whole = rw c.number-host.ensures at (c.in_default.ensures.stepped start w b) in
-    (host_still g.N.Nv.writes c.args.what c.requires.what (some c.self.inside.node.number c.self.invariant) none b whole).2
+    (host_still g.N.Nv.writes c.args.what c.requires.what (not_zero c.self.inside.node.number c.self.invariant) none b whole).2
 
 pub returns-in-Err-clause-live : goal.returns-in-Err-clause-live
 returns-in-Err-clause-live g c =

@@ -1,17 +1,11 @@
-use Rattle.std.proofs.Common.{◌≡◌, ◌≢◌, ◌≤◌, ◌&&◌, ℕ, List, ◌∙◌, ap, refl, sym, subst, arith}
-use Rattle.std.specs.Prelude.{Some, None, Result, Ok, Err, OnOk, option_map, is_some, ◌==◌}
-use Rattle.node_core.proofs.Words.{Entry, HasStepped, HostRefused, IsAsked, IsInStep, Node, Port, RunsAs, Work, all_done, between, give_refusal, if_waiting}
+use Rattle.std.proofs.Common.{◌≡◌, ◌&&◌, ◌∙◌, ap, sym, subst}
+use Rattle.std.specs.Prelude.{Some, None, Result, Ok, Err, option_map, is_some, ◌==◌}
+use Rattle.node_core.proofs.Words.{HasStepped, HostRefused, IsAsked, IsInStep, Node, Port, RunsAs, Work, all_done, between, give_refusal, if_waiting}
 use Rattle.node_core.proofs.Words.{is_command_message, port_at, refused_as, sending}
 use Rattle.node_core.proofs.Between.{at_rest, rests_in_step, kept_at}
-use Rattle.node_core.proofs.Asking.{asked_in_step, has_sent_so}
+use Rattle.node_core.proofs.Asking.{not_zero, asked_in_step, has_sent_so}
+use Rattle.node_core.proofs.Sendings.{was_ok, where_ok}
 use Rattle.node_core.proofs.running_node.RunningNode.send.Goals as goal
-
-some : (n : ℕ) → 1 ≤ n → n ≢ 0
-some n low none = omega (arith, low, none)
-
-ok_of : (r : Result (Unit {0}) HostRefused) → ((why : HostRefused) → r ≡ Err why → ⊥) → r ≡ Ok tt
-ok_of (Ok done) none = refl
-ok_of (Err why) none = absurd (none why refl)
 
 pub returns-in-Err-clause-refusal : goal.returns-in-Err-clause-refusal
 returns-in-Err-clause-refusal g c core ports p runs at =
@@ -30,7 +24,7 @@ pub returns-clause-refusal : goal.returns-clause-refusal
 returns-clause-refusal g c core ports p runs at =
     let noted = g.W.Watch.noted c.args.watch.now in
     let short = g.W.Watch.is_short c.args.watch.now in
-    let ok = ok_of c.give_step.result c.in_default.not-Err in
+    let ok = was_ok c.give_step.result c.in_default.not-Err in
     let F : Node g.row.N.Denot → Type 0 = λ n. RunsAs n core ports → port_at ports n.number ≡ Some p
     → None ≡ if_waiting ((c.args.pipe == 1 && is_command_message c.args.message.now) && is_some core.command)
     (give_refusal p.side (c.args.pipe, c.args.message.now)) in
@@ -43,7 +37,7 @@ returns-clause-refusal g c core ports p runs at =
 pub returns-clause-given : goal.returns-clause-given
 returns-clause-given g c start w asked =
     let t = c.give_step in
-    let ok = ok_of t.result c.in_default.not-Err in
+    let ok = was_ok t.result c.in_default.not-Err in
     let F : Node g.row.N.Denot → Type 0 = λ n. IsAsked n (g.W.Watch.noted c.args.watch.now) (g.W.Watch.is_short c.args.watch.now) start w
     → HasStepped c.end_step.new.self (g.W.Watch.noted t.new.watch) (g.W.Watch.is_short t.new.watch) start
     (all_done n.number (sending n.number (c.args.pipe, c.args.message.now)) w) in
@@ -56,15 +50,11 @@ returns-clause-given g c start w asked =
     by ok a =
         let t = c.give_step in
         let e = c.end_step.ensures in
-        let nonzero = some c.self.inside.node.number (rw (c.self.view_is) c.requires.some) in
+        let nonzero = not_zero c.self.inside.node.number (rw (c.self.view_is) c.requires.some) in
         let taken : (p : Port) → port_at w.ports c.self.inside.node.number ≡ Some p
         → None ≡ if_waiting ((c.args.pipe == 1 && is_command_message c.args.message.now) && is_some w.core.command)
         (give_refusal p.side (c.args.pipe, c.args.message.now)) =
         λ p at. ap (λ (x : Result (Unit {0}) HostRefused). refused_as x) (sym ok)
         ∙ t.ensures.refusal (g.W.Watch.noted c.args.watch.now) (g.W.Watch.is_short c.args.watch.now) start w p (asked_in_step a) at in
-        let G : Result (Unit {0}) HostRefused → Type 0 = λ x. OnOk x ((start : List Entry) (w : Work)
-        → IsInStep c.self.inside.node (g.W.Watch.noted c.args.watch.now) (g.W.Watch.is_short c.args.watch.now) start w
-        → IsInStep t.new.self (g.W.Watch.noted t.new.watch) (g.W.Watch.is_short t.new.watch) start
-        (all_done c.self.inside.node.number (sending c.self.inside.node.number (c.args.pipe, c.args.message.now)) w)) in
-        let given = subst G ok t.ensures.given in
+        let given = where_ok ok t.ensures.given in
         has_sent_so c.args.pipe c.args.message.now a nonzero taken (given start w (asked_in_step a)) t.ensures.store e.ended e.store e.number e.tasks
