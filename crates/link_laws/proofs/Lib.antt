@@ -1,3 +1,4 @@
+pub mod Words
 pub mod machine
 pub mod sending
 pub mod places

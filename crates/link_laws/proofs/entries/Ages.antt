@@ -1,27 +1,17 @@
 -- Along each wire the ages of frames don't rise, and what is seen of a link is what it keeps.
-use Rattle.std.proofs.Common.{◌≡◌, ℕ, ◌<◌, Bool, true, false, cond, List, [], ◌∷◌, ◌++◌, length, drop, refl, ap, sym, subst, ◌∙◌, arith}
-use Rattle.std.specs.Prelude.{◌+◌, nat_lt, is_some}
-use Rattle.std.proofs.lemmas.Bool.{ltb-true, ltb-false}
-use Rattle.swp_base.specs.declared.control_frames.Control.{Control}
-use Rattle.swp_base.specs.declared.control_frames.Control.TheVariants.{I, S, Rset, Ua, Act, Clt}
-use Rattle.link_laws.specs.sessions.Sessions.{OnWire, fits, older, aged_wire, took_with}
+use Rattle.std.specs.Prelude.{◌+◌}
+use Rattle.link_laws.proofs.Words.{Act, Activate, AsksReset, AtController, AtHost, Bool, Clt, Comes, Control, Controller, CutOff, End, EndEvent, Ending, Entry}
+use Rattle.link_laws.proofs.Words.{GoesOut, HasTick, Host, I, IsBare, IsLine, IsStart, Link, LinkEnd, LinkEvent, List, Lose, Lost, NextFrame, NoInput, OnWire}
+use Rattle.link_laws.proofs.Words.{Reset, Rset, S, Seen, Start, Starts, Step, Stop, Stops, Take, Ticks, TicksWithout, TooOld, Turn, Ua, [], after_input}
+use Rattle.link_laws.proofs.Words.{after_link_events, aged, aged_entries, aged_wire, all_at_controller, ap, arith, cond, drop, ended_by, entries}
+use Rattle.link_laws.proofs.Words.{entries_of_events, event_entries, exchanged, false, finished, fits, frames_out, happens, happens_at_controller, is_some}
+use Rattle.link_laws.proofs.Words.{kept, length, ltb-false, ltb-true, nat_lt, older, put, put_all, refl, see, see_all, silent, step_entries}
+use Rattle.link_laws.proofs.Words.{steps_at_controller, subst, sym, tick_entries, ticks_at_controller, took_with, trace, true, turned, with_ended, ℕ, ◌++◌, ◌<◌}
+use Rattle.link_laws.proofs.Words.{◌∙◌, ◌∷◌, ◌≡◌}
 use Rattle.link_laws.proofs.sessions.Wire.{Young, young_push, young_later}
 use Rattle.link_laws.proofs.sessions.Steps.{aged-fresh}
-use Rattle.link_laws.specs.machine.Machine.{LinkEnd, Turn, turned, after_input, ended_by, frames_out}
-use Rattle.link_laws.specs.machine.Machine.LinkInput.{Take, Reset, Start, Stop, Tick as HasTick}
-use Rattle.link_laws.specs.messages.Links.{Link, IsStart, Ending, Comes, EndEvent, LinkEvent, exchanged, put, put_all, with_ended, silent, finished}
-use Rattle.link_laws.specs.messages.Links.{steps_at_controller, happens_at_controller, happens, ticks_at_controller, aged, all_at_controller}
-use Rattle.link_laws.specs.messages.Links.{after_link_events}
-use Rattle.link_laws.specs.messages.Links.IsStart.{IsBare, IsLine}
-use Rattle.link_laws.specs.messages.Links.Ending.{GoesOut, CutOff}
-use Rattle.link_laws.specs.messages.Links.Loss.{TooOld}
-use Rattle.link_laws.specs.messages.Links.Comes.{NextFrame, AsksReset, Starts, Stops, NoInput}
-use Rattle.link_laws.specs.messages.Links.EndEvent.{Step, Lose}
-use Rattle.link_laws.specs.messages.Links.LinkEvent.{AtController, AtHost, Ticks, TicksWithout, Activate}
-use Rattle.link_laws.specs.entries.Entries.{End, Entry, entries_of_events, step_entries, aged_entries, tick_entries, event_entries, entries, trace}
-use Rattle.link_laws.specs.entries.Entries.End.{Controller, Host}
-use Rattle.link_laws.specs.entries.Entries.Entry.{Lost, Tick}
-use Rattle.link_laws.specs.entries.Reading.{Seen, see, see_all, kept, nothing_seen}
+use Rattle.link_laws.specs.entries.Entries.Entry.{Tick}
+use Rattle.link_laws.specs.entries.Reading.{nothing_seen}
 use Rattle.link_laws.proofs.entries.Seeing.{see_all-append, step_seen, here_seen, all_seen, tick_seen}
 
 -- along a wire ages don't rise, and none is above four

@@ -1,29 +1,21 @@
 -- What the entries of an end say of its sessions, and what each part of a step adds.
-use Rattle.std.proofs.Common.{◌≡◌, ℕ, ◌≤◌, ◌<◌, ◌-◌, Bool, true, false, cond, List, [], ◌∷◌, ◌++◌, length, map, drop, Option, Some, None, refl, ap, sym, ◌∙◌}
-use Rattle.std.proofs.Common.{arith, append-nil, append_assoc}
-use Rattle.std.specs.Prelude.{◌+◌, ◌==◌, ◌&&◌, nat_lt, option_to_list, max, not}
-use Rattle.std.proofs.lemmas.Bool.{true≢false, ltb-true, ltb-false, eqb-true}
-use Rattle.std.proofs.lemmas.Grind.{common_steps}
-use Rattle.std.proofs.lemmas.List.Elements.{filter_map-append, filter-append}
-use Rattle.shdlc_core.specs.declared.answers.LinkState.{LinkState}
-use Rattle.shdlc_core.specs.declared.answers.LinkState.TheVariants.{Down as IsDown, Waiting as IsWaitingNow, Up as IsUpNow}
-use Rattle.shdlc_core.specs.Machine.{EndState, Session, with_ready}
-use Rattle.hcp_packet.specs.Packets.{packets_in, packet_of, good_of, is_good, IsSendable, packet_count}
-use Rattle.hcp_packet.specs.declared.Packet.{Packet}
-use Rattle.hcp_chain.specs.Joining.{given_by, join_step, message_in}
+use Rattle.std.specs.Prelude.{◌+◌}
+use Rattle.link_laws.proofs.Words.{Acked, Active, Bool, Controller, Cut, Down as IsDown, Emit, End, EndState, Entry, FetchMessage, GaveUp, Give, Got, Hold}
+use Rattle.link_laws.proofs.Words.{Host, IsSendable, LinkEnd, LinkState, List, Lost, Message, None, NumberedEnd, Option, Packet, Refused, Release, Report}
+use Rattle.link_laws.proofs.Words.{Restarted, Sent, Session, SetAside, Some, Talk, Took, Turn, Up as IsUpNow, Waiting as IsWaitingNow, [], acked_noted, ap}
+use Rattle.link_laws.proofs.Words.{append-nil, append_assoc, arith, aside_refusal, common_steps, cond, drop, ended_talk, eqb-true, false, far, filter-append}
+use Rattle.link_laws.proofs.Words.{filter_map-append, give_refusal, given, given_by, good_of, got_noted, if_so, is_good, join_step, length, ltb-false, ltb-true}
+use Rattle.link_laws.proofs.Words.{map, max, messages_got, nat_lt, news, no_talk, not, number_of, option_to_list, packet_count, packet_of, packets_in, refl}
+use Rattle.link_laws.proofs.Words.{sent_noted, sent_unless, sym, talk_now, talk_of, told, true, true≢false, turn, turn_entry, whole_acked, whole_among}
+use Rattle.link_laws.proofs.Words.{with_ready, ℕ, ◌&&◌, ◌++◌, ◌-◌, ◌<◌, ◌==◌, ◌∙◌, ◌∷◌, ◌≡◌, ◌≤◌}
+use Rattle.hcp_chain.specs.Joining.{message_in}
 use Rattle.link_laws.proofs.places.Joined.{ready_cases}
-use Rattle.link_laws.specs.machine.Machine.{Message, LinkEnd, Refused, Turn, Report, turn, given, give_refusal, aside_refusal, messages_got, whole_among}
-use Rattle.link_laws.specs.machine.Machine.{whole_acked, news}
-use Rattle.link_laws.specs.machine.Machine.Turn.{Give, Hold, FetchMessage, SetAside, Release}
 use Rattle.link_laws.proofs.machine.Shifts.{Shift, IsNotUp}
 use Rattle.link_laws.proofs.machine.Shifts.Shift.{Stays, Ends, Renews, Begins, Rests}
 use Rattle.link_laws.proofs.machine.Sound.{Data, SentAfter, whole_more, whole_given}
 use Rattle.link_laws.proofs.machine.Reports.{Becomes}
-use Rattle.link_laws.specs.messages.Links.{Talk, NumberedEnd, number_of, no_talk, ended_talk, talk_now, talk_of}
-use Rattle.link_laws.specs.entries.Entries.{End, Entry, far, if_so, told, turn_entry, sent_unless}
-use Rattle.link_laws.specs.entries.Entries.End.{Controller, Host}
-use Rattle.link_laws.specs.entries.Entries.Entry.{Up, Down, Active, GaveUp, Acked, Got, Sent, Emit, Took, Lost, Tick, Restarted, Cut}
-use Rattle.link_laws.specs.entries.Filters.{same_link_end, sent_noted, got_noted, acked_noted}
+use Rattle.link_laws.specs.entries.Entries.Entry.{Up, Down, Tick}
+use Rattle.link_laws.specs.entries.Filters.{same_link_end}
 
 -- ## Three filters at once
 

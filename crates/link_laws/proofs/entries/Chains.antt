@@ -1,40 +1,22 @@
 -- No session ends by a packet that can't be joined.
-use Rattle.std.proofs.Common.{◌≡◌, ℕ, Bool, true, false, List, [], ◌∷◌, ◌++◌, length, map, Option, Some, None, refl, sym, subst}
-use Rattle.std.specs.Prelude.{◌+◌, is_some, nat_lt, option_to_list}
-use Rattle.std.specs.List.{list_any}
-use Rattle.swp_base.specs.declared.control_frames.Control.{Control}
-use Rattle.swp_base.specs.declared.link_terms.Cause.{Cause}
-use Rattle.swp_base.specs.declared.link_terms.Cause.TheVariants.{Asked, NoAnswer, Peer, Act as ByAct, Chain}
-use Rattle.swp_act.specs.declared.ActEvent.TheVariants.{Tick as ActTick}
-use Rattle.shdlc_core.specs.declared.answers.LinkState.{LinkState}
-use Rattle.shdlc_core.specs.declared.answers.LinkState.TheVariants.{Down as IsDown, Waiting as IsWaitingNow, Up as IsUpNow}
-use Rattle.shdlc_core.specs.Machine.{EndState, tick_answer, runs_timer}
-use Rattle.link_laws.specs.sessions.Sessions.{OnWire, took_with}
-use Rattle.link_laws.specs.machine.Machine.{Message, LinkEnd, Role, Refused, LinkInput, Turn, Report, report, turn, turned, give_refusal, is_open}
-use Rattle.link_laws.specs.machine.Machine.{reset_refusal}
-use Rattle.link_laws.specs.machine.Machine.{if_up, after_input, ended_by, whole_acked, frames_out}
-use Rattle.link_laws.specs.machine.Machine.LinkInput.{Take, Tick as HasTick, Reset, Start, Stop}
-use Rattle.link_laws.specs.machine.Machine.Role.{Bare, Clf, Uicc}
-use Rattle.link_laws.specs.machine.Machine.Turn.{Give, Hold, FetchMessage, SetAside, Release}
-use Rattle.link_laws.specs.messages.Links.{NumberedEnd, Link, IsStart, Ending, Comes, Loss, EndEvent, Node, LinkEvent, exchanged, number_of, put}
-use Rattle.link_laws.specs.messages.Links.{with_ended, silent}
-use Rattle.link_laws.specs.messages.Links.{steps_at_controller, happens_at_controller, happens, all_at_controller, ticks_at_controller, aged}
-use Rattle.link_laws.specs.messages.Links.{AreOwn, IsOwn, IsEvent}
-use Rattle.link_laws.specs.messages.Links.{AllAllowed}
-use Rattle.link_laws.specs.messages.Links.Ending.{GoesOut, CutOff}
-use Rattle.link_laws.specs.messages.Links.Loss.{TooMany}
-use Rattle.link_laws.specs.messages.Links.Comes.{NextFrame, AsksReset, Starts, Stops, NoInput}
-use Rattle.link_laws.specs.messages.Links.EndEvent.{Step, Lose}
-use Rattle.link_laws.specs.messages.Links.LinkEvent.{AtController, AtHost, Ticks, TicksWithout, Activate}
-use Rattle.link_laws.specs.messages.Projection.{core_of, core_event}
+use Rattle.std.specs.Prelude.{◌+◌}
+use Rattle.link_laws.proofs.Words.{Acked, ActTick, Activate, Active, AllAllowed, AreOwn, Asked, AsksReset, AtController, AtHost, Bare, Bool, ByAct, Cause}
+use Rattle.link_laws.proofs.Words.{Chain, Clf, Comes, Control, Controller, CutOff, Down as IsDown, End, EndEvent, EndState, Ending, Entry, FetchMessage, GaveUp}
+use Rattle.link_laws.proofs.Words.{Give, GoesOut, Got, HasTick, Hold, Host, IsEvent, IsOwn, IsStart, Link, LinkEnd, LinkEvent, LinkInput, LinkState, List, Lose}
+use Rattle.link_laws.proofs.Words.{Loss, Message, NextFrame, NoInput, Node, None, NumberedEnd, OnWire, Option, Peer, Refused, Release, Report, Reset, Role}
+use Rattle.link_laws.proofs.Words.{SetAside, Some, Start, Starts, Step, Stop, Stops, Take, Ticks, TicksWithout, TooMany, Turn, Uicc, Up as IsUpNow}
+use Rattle.link_laws.proofs.Words.{Waiting as IsWaitingNow, [], after_input, aged, aged_entries, all_at_controller, core_event, core_of, ended_by}
+use Rattle.link_laws.proofs.Words.{ending_entries, entries, entries_of_events, event_entries, exchanged, false, far, first_entries, first_lost, frames_out}
+use Rattle.link_laws.proofs.Words.{give_refusal, happens, happens_at_controller, here_entries, if_so, if_up, is_open, is_some, left_after, length, list_any}
+use Rattle.link_laws.proofs.Words.{map, nat_lt, number_of, option_to_list, pushed_out, put, put_entries, puts_entries, refl, report, reset_refusal}
+use Rattle.link_laws.proofs.Words.{rest_entries, runs_timer, sent_unless, silent, step_entries, steps_at_controller, subst, sym, taken_entries, tick_answer}
+use Rattle.link_laws.proofs.Words.{tick_entries, ticks_at_controller, told, told_of, took_with, trace, true, turn, turn_entries, turn_entry, turned}
+use Rattle.link_laws.proofs.Words.{whole_acked, wire_with, with_ended, ℕ, ◌++◌, ◌∷◌, ◌≡◌}
+use Rattle.swp_base.specs.declared.link_terms.Cause.TheVariants.{NoAnswer}
 use Rattle.link_laws.proofs.messages.Steps.{FromHost, core_first, no_fault_first}
 use Rattle.link_laws.proofs.messages.Runs.{Good, Reached, event_step, reached_more, from_host, from_controller}
 use Rattle.link_laws.proofs.messages.Whole.{not_chain, act_not_chain, start_good, start_reached}
-use Rattle.link_laws.specs.entries.Entries.{End, Entry, far, if_so, told, told_of, turn_entry, turn_entries, sent_unless, first_lost, wire_with, pushed_out}
-use Rattle.link_laws.specs.entries.Entries.{put_entries, puts_entries, ending_entries, rest_entries, left_after, taken_entries, step_entries, here_entries}
-use Rattle.link_laws.specs.entries.Entries.{entries_of_events, aged_entries, tick_entries, event_entries, entries, first_entries, trace}
-use Rattle.link_laws.specs.entries.Entries.End.{Controller, Host}
-use Rattle.link_laws.specs.entries.Entries.Entry.{Up, Down, Active, GaveUp, Acked, Got}
+use Rattle.link_laws.specs.entries.Entries.Entry.{Up, Down}
 use Rattle.link_laws.specs.entries.Order.{is_noted_chain_fault}
 
 -- none of these tells of a chain fault

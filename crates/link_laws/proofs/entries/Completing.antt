@@ -1,31 +1,18 @@
 -- Each step keeps what is known of the sessions of both ends.
-use Rattle.std.proofs.Common.{◌≡◌, ℕ, Bool, true, false, cond, List, [], ◌∷◌, ◌++◌, map, Option, Some, None, ◌⊎◌, inl, inr, refl, ap, sym, subst, ◌∙◌}
-use Rattle.std.proofs.Common.{append_assoc, append-nil}
-use Rattle.std.specs.Prelude.{nat_lt, is_some, max, option_to_list}
-use Rattle.std.proofs.lemmas.Bool.{true≢false}
-use Rattle.swp_base.specs.declared.link_terms.Cause.TheVariants.{Asked}
-use Rattle.shdlc_core.specs.declared.answers.LinkState.TheVariants.{Up as IsUpNow}
-use Rattle.shdlc_core.specs.Machine.{EndState, most_frames}
-use Rattle.link_laws.specs.sessions.Sessions.{OnWire, took_with}
-use Rattle.link_laws.specs.sessions.Losses.{Losses, no_losses, noted_all, noted_turns, came_up, is_up_with}
-use Rattle.link_laws.specs.machine.Machine.{LinkEnd, Role, Refused, LinkInput, Turn, report, turned, reset_refusal, reset_by, window_of, if_up, took}
-use Rattle.link_laws.specs.machine.Machine.{after_input}
-use Rattle.link_laws.specs.machine.Machine.{ended_by, began_by, whole_acked, frames_out, new_link_end, renewed}
-use Rattle.link_laws.specs.machine.Machine.Role.{Bare, Clf, Uicc}
-use Rattle.link_laws.specs.machine.Machine.LinkInput.{Take, Reset, Start, Stop}
+use Rattle.link_laws.proofs.Words.{Acked, Active, AreSendableTurns, Asked, AsksReset, Bare, Bool, CanEnd, Clf, Comes, CutOff, End, EndState, Ending, Entry}
+use Rattle.link_laws.proofs.Words.{GaveUp, GoesOut, Got, IsNode, IsOwn, Link, LinkEnd, LinkInput, List, Losses, NextFrame, NoInput, None, NumberedEnd, OnWire}
+use Rattle.link_laws.proofs.Words.{Option, Refused, Reset, Role, Some, Start, Starts, Step, Stop, Stops, Take, Took, Turn, Uicc, Up as IsUpNow, [], after_input}
+use Rattle.link_laws.proofs.Words.{ap, append-nil, append_assoc, began_by, came_up, cond, core_end, core_ending, core_of, core_reset, core_step, core_take}
+use Rattle.link_laws.proofs.Words.{ended_by, false, finished, frames_out, has_taken, if_so, if_up, inl, inr, is_some, is_up_with, left_after, map, max}
+use Rattle.link_laws.proofs.Words.{most_frames, nat_lt, new_link_end, no_losses, noted_all, noted_turns, number_of, option_to_list, put_all, refl, renewed}
+use Rattle.link_laws.proofs.Words.{report, reset_by, reset_refusal, rest_entries, step_entries, steps_at_controller, subst, sym, taken_entries, told_of, took}
+use Rattle.link_laws.proofs.Words.{took_with, true, true≢false, turned, whole_acked, window_of, with_ended, ℕ, ◌++◌, ◌∙◌, ◌∷◌, ◌≡◌, ◌⊎◌}
 use Rattle.link_laws.proofs.machine.Shifts.{Shift, IsNotUp}
 use Rattle.link_laws.proofs.machine.Shifts.Shift.{Stays, Ends, Renews, Begins, Rests as ShiftRests}
 use Rattle.link_laws.proofs.machine.Reports.{Reports, take_so, reset_so}
-use Rattle.link_laws.specs.messages.Links.{NumberedEnd, Link, Ending, Comes, number_of, put_all, with_ended, finished, has_taken, steps_at_controller}
-use Rattle.link_laws.specs.messages.Links.{AreSendableTurns, CanEnd, IsNode, IsOwn}
-use Rattle.link_laws.specs.messages.Links.Ending.{GoesOut, CutOff}
-use Rattle.link_laws.specs.messages.Links.Comes.{NextFrame, AsksReset, Starts, Stops, NoInput}
-use Rattle.link_laws.specs.messages.Links.EndEvent.{Step}
-use Rattle.link_laws.specs.messages.Projection.{core_of, core_end, core_take, core_ending, core_reset, core_step}
 use Rattle.link_laws.proofs.messages.Ends.{frames_alike}
 use Rattle.link_laws.proofs.messages.Project.{Tells}
-use Rattle.link_laws.specs.entries.Entries.{End, Entry, if_so, told_of, left_after, rest_entries, taken_entries, step_entries}
-use Rattle.link_laws.specs.entries.Entries.Entry.{Up, Down, Active, GaveUp, Acked, Got, Took}
+use Rattle.link_laws.specs.entries.Entries.Entry.{Up, Down}
 use Rattle.link_laws.proofs.entries.Stepping.{puts_number, host_finished, CanFinish}
 use Rattle.link_laws.proofs.entries.Noting.{Near, Frame, turned_same, IsPlainInput, plain_ended, plain_silent, idle_finishes, reset_finishes, take_finishes}
 use Rattle.link_laws.proofs.entries.Noting.{start_restarts, stop_restarts, restart_finishes}

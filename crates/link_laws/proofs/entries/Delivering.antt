@@ -1,42 +1,24 @@
 -- Where nothing was noted since a session began that disturbs it, all of it was delivered.
-use Rattle.std.proofs.Common.{◌≡◌, ℕ, Bool, true, false, List, [], ◌∷◌, ◌++◌, length, map, Option, refl, ap, sym, subst, ◌∙◌, append_assoc, append-nil}
-use Rattle.std.proofs.lemmas.Bool.{true≢false}
-use Rattle.shdlc_core.specs.declared.answers.LinkState.TheVariants.{Up as IsUpNow}
-use Rattle.hcp_packet.specs.Packets.{good_of}
-use Rattle.link_laws.specs.sessions.Sessions.{ShdlcLink as CoreLink, ShdlcTurn as CoreTurn, ShdlcEndEvent as CoreEndEvent, ShdlcLinkEvent as CoreLinkEvent}
-use Rattle.link_laws.specs.sessions.Sessions.{shdlc_exchanged as core_exchanged, shdlc_happens as core_happens, shdlc_all_at_controller as core_all_here}
-use Rattle.link_laws.specs.sessions.Sessions.{shdlc_happens_at_controller as core_happens_here, ticks_or_cut as core_ticks_or_cut}
-use Rattle.link_laws.specs.sessions.Sessions.{ticks_if_waiting as core_ticks_if_waiting, shdlc_aged as core_aged, shdlc_after as core_after}
-use Rattle.link_laws.specs.sessions.Sessions.ShdlcLinkEvent.{AtController as CoreAtController, AtHost as CoreAtHost, Tick as CoreTick}
-use Rattle.link_laws.specs.sessions.Sessions.ShdlcLinkEvent.{TickWithout as CoreTickWithout}
-use Rattle.link_laws.specs.sessions.Losses.{Losses, no_losses, sans, noted_here, noted_turns, noted_tick, noted_if_waiting, noted_aged, noted_event}
-use Rattle.link_laws.specs.sessions.Losses.{losses_after}
+use Rattle.link_laws.proofs.Words.{Activate, AllAllowed, AllDelivered, AreOwn, AtController, AtHost, Bool, CanStart, Controller, CoreAtController, CoreAtHost}
+use Rattle.link_laws.proofs.Words.{CoreEndEvent, CoreLink, CoreTurn, End, EndEvent, Entry, Host, IsBare, IsEvent, IsLine, IsNode, IsQuiet, IsQuietSince, IsRead}
+use Rattle.link_laws.proofs.Words.{IsStart, IsUicc, Link, LinkEvent, List, Losses, NumberedEnd, Option, ShdlcLinkEvent as CoreLinkEvent, Starts, Step, Talk}
+use Rattle.link_laws.proofs.Words.{Tick as CoreTick, TickWithout as CoreTickWithout, Ticks, TicksWithout, Up as IsUpNow, [], after_link_events, aged}
+use Rattle.link_laws.proofs.Words.{aged_entries, all_at_controller, ap, append-nil, append_assoc, core_after, core_aged, core_all, core_all_here, core_event}
+use Rattle.link_laws.proofs.Words.{core_events, core_happens_here, core_here, core_of, core_tick, core_tick_rest, core_ticks_if_waiting, core_ticks_or_cut}
+use Rattle.link_laws.proofs.Words.{entries, entries_of_events, event_entries, exchanged, false, far, first_entries, good_of, happens, happens_at_controller}
+use Rattle.link_laws.proofs.Words.{here_entries, length, losses_after, losses_of, map, no_losses, noted_aged, noted_event, noted_here, noted_if_waiting}
+use Rattle.link_laws.proofs.Words.{noted_tick, noted_turns, number_of, refl, sans, shdlc_exchanged as core_exchanged, shdlc_happens as core_happens, subst, sym}
+use Rattle.link_laws.proofs.Words.{talk_now, talk_of, tick_entries, ticks_at_controller, trace, true, true≢false, ℕ, ◌++◌, ◌∙◌, ◌∷◌, ◌≡◌}
 use Rattle.link_laws.proofs.sessions.Steps.{safe_aged}
 use Rattle.link_laws.proofs.machine.Runs.{Sound}
-use Rattle.link_laws.specs.messages.Links.{Talk, NumberedEnd, Link, IsStart, EndEvent, LinkEvent, exchanged, number_of, happens_at_controller, happens}
-use Rattle.link_laws.specs.messages.Links.{all_at_controller, ticks_at_controller, aged, after_link_events, talk_now, talk_of, CanStart, IsUicc}
-use Rattle.link_laws.specs.messages.Links.{IsNode, AreOwn}
-use Rattle.link_laws.specs.messages.Links.{IsEvent, AllAllowed}
-use Rattle.link_laws.specs.messages.Links.IsStart.{IsBare, IsLine}
-use Rattle.link_laws.specs.messages.Links.Comes.{Starts}
-use Rattle.link_laws.specs.messages.Links.EndEvent.{Step}
-use Rattle.link_laws.specs.messages.Links.LinkEvent.{AtController, AtHost, Ticks, TicksWithout, Activate}
-use Rattle.link_laws.specs.messages.Projection.{core_of, core_here, core_all, core_tick, core_tick_rest, core_event, core_events}
-use Rattle.link_laws.specs.messages.Quiet.{losses_of, IsQuiet, AllDelivered}
 use Rattle.link_laws.proofs.messages.Finishing.{step_tick, all_here-append}
 use Rattle.link_laws.proofs.messages.Runs.{Good, Reached, safe_reached, rests_of, reached_more, event_step, all_step, started_clf, clf_starts, can_start}
 use Rattle.link_laws.proofs.messages.Quiet.{all_here as delivered_here, all_there as delivered_there}
 use Rattle.link_laws.proofs.messages.Whole.{one_number}
-use Rattle.link_laws.specs.entries.Entries.{End, Entry, far, here_entries, entries_of_events, aged_entries, tick_entries, event_entries, entries}
-use Rattle.link_laws.specs.entries.Entries.{first_entries}
-use Rattle.link_laws.specs.entries.Entries.{trace}
-use Rattle.link_laws.specs.entries.Entries.End.{Controller, Host}
 use Rattle.link_laws.specs.entries.Entries.Entry.{Tick}
-use Rattle.link_laws.specs.entries.Quiet.{IsQuietSince, IsDeliveredOnLink}
-use Rattle.link_laws.specs.entries.Sessions.{IsRead}
+use Rattle.link_laws.specs.entries.Quiet.{IsDeliveredOnLink}
 use Rattle.link_laws.proofs.entries.Books.{up_talk}
-use Rattle.link_laws.proofs.entries.Running.{before_here, before_there, host_here, sound_here, Sounds, read_here, read_there, IsInTick}
-use Rattle.link_laws.proofs.entries.Running.{near_in_tick, own_step}
+use Rattle.link_laws.proofs.entries.Running.{before_here, before_there, host_here, sound_here, Sounds, read_here, read_there, IsInTick, near_in_tick, own_step}
 use Rattle.link_laws.proofs.entries.Running.{own_in_tick, after_tick, without_tick, host_in_tick, IsUnderWay, goes_on, start_under_way, all_in_tick}
 use Rattle.link_laws.proofs.entries.Losing.{bad}
 use Rattle.link_laws.proofs.entries.Lasting.{noted-append, same_number}

@@ -1,36 +1,18 @@
 -- What is lost in a step, or answered RNR, is noted there; and where an end comes up first in its session, behind its entry.
-use Rattle.std.proofs.Common.{◌≡◌, ℕ, Bool, true, false, List, [], ◌∷◌, drop, Option, None, ◌⊎◌, inl, inr, refl, ap, sym, ◌∙◌}
-use Rattle.std.specs.Prelude.{◌+◌, ◌&&◌, ◌||◌, not, is_some, option_to_list}
-use Rattle.std.proofs.lemmas.Bool.{true≢false}
-use Rattle.swp_base.specs.declared.control_frames.Control.{Control}
-use Rattle.swp_base.specs.declared.control_frames.Control.TheVariants.{I, S, Rset, Ua, Act, Clt}
-use Rattle.swp_base.specs.declared.control_frames.Act.{Act as Activation}
-use Rattle.swp_base.specs.declared.link_terms.Cause.TheVariants.{Asked}
-use Rattle.swp_act.specs.declared.ActEvent.{ActEvent}
-use Rattle.swp_act.specs.declared.ActEvent.TheVariants.{Take as ActTake}
-use Rattle.shdlc_core.specs.declared.answers.LinkState.{LinkState}
-use Rattle.shdlc_core.specs.declared.answers.LinkState.TheVariants.{Down as IsDown, Waiting as IsWaitingNow, Up as IsUpNow}
-use Rattle.shdlc_core.specs.Machine.{EndState, taken, take_answer, reset_with}
-use Rattle.link_laws.specs.sessions.Sessions.{OnWire, ShdlcLink as CoreLink, ShdlcTurn as CoreTurn, shdlc_turned as core_turned}
-use Rattle.link_laws.specs.sessions.Sessions.{with_shdlc_ended as core_with_ended}
-use Rattle.link_laws.specs.sessions.Sessions.{is_rset, is_up, took_with, shdlc_happens_at_controller as core_happens_here}
-use Rattle.link_laws.specs.sessions.Sessions.ShdlcEndEvent.{Turns as CoreTurns, Deliver as CoreDeliver, Ignore as CoreIgnore, Acts as CoreActs}
-use Rattle.link_laws.specs.sessions.Sessions.ShdlcEndEvent.{Lose as CoreLose}
-use Rattle.link_laws.specs.sessions.Sessions.ShdlcEndEvent.{Reset as CoreReset}
-use Rattle.link_laws.specs.sessions.Losses.{Losses, is_act, counts_first, noted_all, noted_out, noted_here, noted_turns, came_up}
-use Rattle.link_laws.specs.machine.Machine.{LinkEnd, Turn, turned, is_open, role_after, act_answer, activated, reset_refusal, reset_by, if_up, took, ended_by}
-use Rattle.link_laws.specs.machine.Machine.{began_by, frames_out}
-use Rattle.link_laws.specs.machine.Machine.LinkInput.{Take}
-use Rattle.link_laws.specs.messages.Links.{Link, with_ended, AreSendableTurns}
-use Rattle.link_laws.specs.messages.Projection.{core_of, core_turns, core_take}
+use Rattle.std.specs.Prelude.{◌+◌, ◌||◌}
+use Rattle.link_laws.proofs.Words.{Act, ActEvent, ActTake, Activation, AreSendableTurns, Asked, Bool, Clt, Control, CoreActs, CoreDeliver, CoreLink, CoreLose}
+use Rattle.link_laws.proofs.Words.{CoreReset, CoreTurn, Down as IsDown, EndState, I, Ignore as CoreIgnore, Link, LinkEnd, LinkState, List, Losses, None, OnWire}
+use Rattle.link_laws.proofs.Words.{Option, Rset, S, Take, Turn, Turns as CoreTurns, Ua, Up as IsUpNow, Waiting as IsWaitingNow, [], act_answer, activated, ap}
+use Rattle.link_laws.proofs.Words.{began_by, came_up, core_happens_here, core_of, core_take, core_turned, core_turns, core_with_ended, counts_first, drop}
+use Rattle.link_laws.proofs.Words.{ended_by, false, frames_out, if_up, inl, inr, is_act, is_open, is_rset, is_some, is_up, left_after, not, noted_all}
+use Rattle.link_laws.proofs.Words.{noted_here, noted_out, noted_turns, option_to_list, refl, reset_by, reset_refusal, reset_with, role_after, sym, take_answer}
+use Rattle.link_laws.proofs.Words.{taken, took, took_with, true, true≢false, turned, with_ended, ℕ, ◌&&◌, ◌∙◌, ◌∷◌, ◌≡◌, ◌⊎◌}
 use Rattle.link_laws.proofs.messages.Project.{Now, Tells, turns_mid, with_ended-core, mid_moved}
 use Rattle.link_laws.proofs.machine.Runs.{opened}
 use Rattle.link_laws.proofs.machine.Reports.{shdlc_is as shdlc_moved}
-use Rattle.link_laws.proofs.messages.Steps.{ComesFirst, Heard, is_shdlc, heard_end, heard_is, counted_is, mid_counted, took_open, took_closed}
-use Rattle.link_laws.proofs.messages.Steps.{no_fault_first, polite}
-use Rattle.link_laws.proofs.messages.Steps.{role_closes, stays_down, act_mid}
+use Rattle.link_laws.proofs.messages.Steps.{ComesFirst, Heard, is_shdlc, heard_end, heard_is, counted_is, mid_counted, took_open, took_closed, no_fault_first}
+use Rattle.link_laws.proofs.messages.Steps.{polite, role_closes, stays_down, act_mid}
 use Rattle.link_laws.proofs.messages.Finishing.{reset_tells, reset_keeps}
-use Rattle.link_laws.specs.entries.Entries.{left_after}
 use Rattle.link_laws.proofs.entries.Losing.{out_noted}
 
 -- ## A frame is taken

@@ -1,28 +1,11 @@
 -- The definitions compute the worked examples, entry by entry.
-use Rattle.std.specs.List.{list_any}
-use Rattle.std.proofs.Common.{◌≡◌, ℕ, zero, suc, true, false, refl, List, [], ◌∷◌, ◌++◌, drop, Some, None}
-use Rattle.swp_base.specs.declared.control_frames.Control.{Control}
-use Rattle.swp_base.specs.declared.control_frames.Control.TheVariants.{I, S, Rset, Ua, Act}
-use Rattle.swp_base.specs.declared.control_frames.Act.TheVariants.{Ready, SyncId, PowerMode}
-use Rattle.swp_base.specs.declared.control_frames.Kind.TheVariants.{Rr}
-use Rattle.swp_base.specs.declared.link_terms.Cause.TheVariants.{Asked, Peer, Act as ByAct}
-use Rattle.swp_act.specs.Activation.{new_clf, new_uicc}
-use Rattle.link_laws.specs.machine.Machine.{Message}
-use Rattle.link_laws.specs.machine.Machine.Role.{Bare, Clf, Uicc}
-use Rattle.link_laws.specs.machine.Machine.Turn.{Give}
-use Rattle.link_laws.specs.messages.Links.{Link, EndEvent, Node, LinkEvent, after_link_events, new_link}
-use Rattle.link_laws.specs.messages.Links.Ending.{GoesOut, CutOff}
-use Rattle.link_laws.specs.messages.Links.Comes.{NextFrame, AsksReset, NoInput}
-use Rattle.link_laws.specs.messages.Links.Loss.{OnDemand, TooOld}
-use Rattle.link_laws.specs.messages.Links.EndEvent.{Step, Lose}
-use Rattle.link_laws.specs.messages.Links.LinkEvent.{AtController, AtHost, Ticks, Activate}
-use Rattle.link_laws.specs.entries.Entries.{Entry, entries, trace}
-use Rattle.link_laws.specs.entries.Entries.End.{Controller, Host}
-use Rattle.link_laws.specs.entries.Entries.Entry.{Up, Down, Active, GaveUp, Acked, Got, Sent, Emit, Took, Lost, Tick, Restarted, Cut}
-use Rattle.link_laws.specs.entries.Filters.{sent_noted, got_noted, acked_noted}
-use Rattle.link_laws.specs.entries.Quiet.{disturbs, since, IsQuietSince}
-use Rattle.link_laws.specs.entries.Sessions.{session_in}
-use Rattle.link_laws.specs.entries.Settled.{withholds, IsSettledSince}
+use Rattle.link_laws.proofs.Words.{Acked, Act, ActReady as Ready, Activate, Active, Asked, AsksReset, AtController, AtHost, Bare, ByAct, Clf, Control}
+use Rattle.link_laws.proofs.Words.{Controller, Cut, CutOff, Emit, EndEvent, Entry, GaveUp, Give, GoesOut, Got, Host, I, IsQuietSince, IsSettledSince, Link}
+use Rattle.link_laws.proofs.Words.{LinkEvent, List, Lose, Lost, Message, NextFrame, NoInput, Node, None, OnDemand, Peer, PowerMode, Restarted, Rr, Rset, S}
+use Rattle.link_laws.proofs.Words.{Sent, Some, Step, SyncId, Ticks, TooOld, Took, Ua, Uicc, [], acked_noted, after_link_events, disturbs, drop, entries, false}
+use Rattle.link_laws.proofs.Words.{got_noted, list_any, new_clf, new_link, new_uicc, refl, sent_noted, session_in, since, suc, trace, true, withholds, zero, ℕ}
+use Rattle.link_laws.proofs.Words.{◌++◌, ◌∷◌, ◌≡◌}
+use Rattle.link_laws.specs.entries.Entries.Entry.{Up, Down, Tick}
 
 -- ## What may happen
 

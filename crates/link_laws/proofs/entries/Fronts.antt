@@ -1,15 +1,10 @@
 -- Fronts of what is noted of a step: of one end alone, and never more acknowledged than sent.
-use Rattle.std.proofs.Common.{◌≡◌, ℕ, ◌≤◌, Bool, true, false, List, [], ◌∷◌, ◌++◌, length, map, Option, Some, None, ◌⊎◌, inl, inr, refl, ap, sym, subst, ◌∙◌}
-use Rattle.std.proofs.Common.{arith, append_assoc, length-append}
-use Rattle.std.specs.Prelude.{max, nat_lt, option_to_list}
-use Rattle.hcp_packet.specs.Packets.{IsFrontOf}
-use Rattle.link_laws.specs.machine.Machine.{Message, LinkEnd, Refused, Turn, Report, turn, give_refusal}
-use Rattle.link_laws.specs.machine.Machine.Turn.{Give, Hold, FetchMessage, SetAside, Release}
+use Rattle.link_laws.proofs.Words.{Acked, Active, Bool, End, Entry, FetchMessage, GaveUp, Give, Got, Hold, IsFrontOf, LinkEnd, List, Message, None, NumberedEnd}
+use Rattle.link_laws.proofs.Words.{Option, Refused, Release, Report, SetAside, Some, Turn, [], acked_noted, ap, append_assoc, arith, false, far, give_refusal}
+use Rattle.link_laws.proofs.Words.{if_so, inl, inr, length, length-append, map, max, nat_lt, option_to_list, refl, sent_noted, sent_unless, subst, sym, talk_of}
+use Rattle.link_laws.proofs.Words.{told, true, turn, turn_entries, turn_entry, ℕ, ◌++◌, ◌∙◌, ◌∷◌, ◌≡◌, ◌≤◌, ◌⊎◌}
 use Rattle.link_laws.proofs.machine.Sound.{whole_few}
-use Rattle.link_laws.specs.messages.Links.{NumberedEnd, talk_of}
-use Rattle.link_laws.specs.entries.Entries.{End, Entry, far, if_so, told, turn_entry, turn_entries, sent_unless}
-use Rattle.link_laws.specs.entries.Entries.Entry.{Up, Down, Active, GaveUp, Acked, Got}
-use Rattle.link_laws.specs.entries.Filters.{sent_noted, acked_noted}
+use Rattle.link_laws.specs.entries.Entries.Entry.{Up, Down}
 use Rattle.link_laws.proofs.entries.Books.{Book, blank, plus, read, read-append, blank-plus, Told, same_far}
 
 -- ## Fronts

@@ -1,29 +1,19 @@
 -- What is noted of a link says which session each end has.
-use Rattle.std.proofs.Common.{◌≡◌, ℕ, List, [], ◌∷◌, ◌++◌, Option, Some, None, refl, ap, sym, subst, ◌∙◌}
+use Rattle.link_laws.proofs.Words.{Activate, AllAllowed, AreOwn, AtController, AtHost, CanStart, Controller, End, EndEvent, Entry, Host, IsBare, IsEvent}
+use Rattle.link_laws.proofs.Words.{IsLine, IsNode, IsSettledSince, IsStart, IsUicc, Link, LinkEvent, List, None, NumberedEnd, Option, Seen, Some, Starts, Step}
+use Rattle.link_laws.proofs.Words.{Ticks, TicksWithout, [], after_link_events, aged, aged_entries, all_at_controller, ap, core_event, core_of, entries}
+use Rattle.link_laws.proofs.Words.{entries_of_events, event_entries, exchanged, first_entries, happens, happens_at_controller, here_entries, number_now}
+use Rattle.link_laws.proofs.Words.{number_of, refl, session_in, subst, sym, tick_entries, ticks_at_controller, trace, ℕ, ◌++◌, ◌∙◌, ◌∷◌, ◌≡◌}
 use Rattle.link_laws.proofs.sessions.Steps.{safe_aged}
 use Rattle.link_laws.proofs.machine.Runs.{Sound}
 use Rattle.link_laws.specs.places.Wire.{sans}
-use Rattle.link_laws.specs.messages.Links.{NumberedEnd, Link, IsStart, EndEvent, LinkEvent, number_of, exchanged, happens_at_controller, happens}
-use Rattle.link_laws.specs.messages.Links.{all_at_controller}
-use Rattle.link_laws.specs.messages.Links.{ticks_at_controller, aged, after_link_events, CanStart, IsUicc, IsNode, AreOwn, IsEvent, AllAllowed}
-use Rattle.link_laws.specs.messages.Links.IsStart.{IsBare, IsLine}
-use Rattle.link_laws.specs.messages.Links.Comes.{Starts}
-use Rattle.link_laws.specs.messages.Links.EndEvent.{Step}
-use Rattle.link_laws.specs.messages.Links.LinkEvent.{AtController, AtHost, Ticks, TicksWithout, Activate}
-use Rattle.link_laws.specs.messages.Projection.{core_of, core_event}
 use Rattle.link_laws.proofs.messages.Finishing.{step_tick}
-use Rattle.link_laws.proofs.messages.Runs.{Good, Reached, safe_reached, rests_of, reached_more, event_step, step_here, all_step, started_clf}
-use Rattle.link_laws.proofs.messages.Runs.{clf_starts, can_start}
-use Rattle.link_laws.specs.entries.Entries.{End, Entry, here_entries, entries_of_events, aged_entries, tick_entries, event_entries, entries}
-use Rattle.link_laws.specs.entries.Entries.{first_entries, trace}
-use Rattle.link_laws.specs.entries.Entries.End.{Controller, Host}
+use Rattle.link_laws.proofs.messages.Runs.{Good, Reached, safe_reached, rests_of, reached_more, event_step, step_here, all_step, started_clf, clf_starts}
+use Rattle.link_laws.proofs.messages.Runs.{can_start}
 use Rattle.link_laws.specs.entries.Entries.Entry.{Tick}
-use Rattle.link_laws.specs.entries.Reading.{Seen}
-use Rattle.link_laws.specs.entries.Sessions.{session_in, number_now}
-use Rattle.link_laws.specs.entries.Settled.{IsSettledSince, AreNotedUpTogether}
-use Rattle.link_laws.proofs.entries.Running.{Sounds, before_here, before_there, host_here, sound_here, IsInTick, near_in_tick, own_in_tick}
-use Rattle.link_laws.proofs.entries.Running.{after_tick, without_tick}
-use Rattle.link_laws.proofs.entries.Running.{host_in_tick, IsUnderWay, goes_on, start_under_way, all_in_tick}
+use Rattle.link_laws.specs.entries.Settled.{AreNotedUpTogether}
+use Rattle.link_laws.proofs.entries.Running.{Sounds, before_here, before_there, host_here, sound_here, IsInTick, near_in_tick, own_in_tick, after_tick}
+use Rattle.link_laws.proofs.entries.Running.{without_tick, host_in_tick, IsUnderWay, goes_on, start_under_way, all_in_tick}
 use Rattle.link_laws.proofs.entries.Hearing.{up_session, heard, heard-append, passes-append, passes_aged, Heard, tick_heard, own_heard, here_heard}
 use Rattle.link_laws.proofs.entries.Together.{ticks_host, together}
 use Rattle.link_laws.proofs.entries.Ages.{read_off}

@@ -1,42 +1,29 @@
 -- What is noted of a step of an end says which session it has.
-use Rattle.std.proofs.Common.{◌≡◌, ℕ, Bool, true, false, List, [], ◌∷◌, ◌++◌, map, Option, Some, None, refl, ap, sym, subst, ◌∙◌}
-use Rattle.std.specs.Prelude.{is_some, nat_lt, option_to_list, max, length, if◌then◌else◌}
+use Rattle.std.specs.Prelude.{length}
 use Rattle.std.specs.List.{fold}
 use Rattle.std.proofs.lemmas.List.Sums.{fold-append}
-use Rattle.swp_base.specs.declared.control_frames.Control.{Control}
-use Rattle.swp_base.specs.declared.link_terms.Cause.{Cause as EndedBy}
-use Rattle.shdlc_core.specs.declared.answers.LinkState.{LinkState}
-use Rattle.shdlc_core.specs.declared.answers.LinkState.TheVariants.{Down as IsDown, Waiting as IsWaitingNow, Up as IsUpNow}
-use Rattle.shdlc_core.specs.Machine.{most_frames}
-use Rattle.link_laws.specs.sessions.Sessions.{OnWire, is_up, took_with}
-use Rattle.link_laws.specs.machine.Machine.{LinkEnd, Refused, LinkInput, Turn, Report, report, turn, turned, give_refusal, took, after_input, ended_by}
-use Rattle.link_laws.specs.machine.Machine.{began_by}
-use Rattle.link_laws.specs.machine.Machine.{whole_acked, frames_out}
-use Rattle.link_laws.specs.machine.Machine.LinkInput.{Take, Tick as HasTick, Reset}
-use Rattle.link_laws.specs.machine.Machine.Turn.{Give, Hold, FetchMessage, SetAside, Release}
+use Rattle.link_laws.proofs.Words.{Acked, ActEvent, Active, AsksReset, Bool, Cause as EndedBy, Control, Cut, CutOff, Down as IsDown, End, EndEvent, Ending}
+use Rattle.link_laws.proofs.Words.{Entry, FetchMessage, GaveUp, Give, GoesOut, Got, HasTick, Hold, IsAllowed, IsNode, IsOwn, Link, LinkEnd, LinkInput}
+use Rattle.link_laws.proofs.Words.{LinkState, List, Lose, Loss, NextFrame, NoInput, Node, None, NumberedEnd, OnWire, Option, Refused, Release, Report, Reset}
+use Rattle.link_laws.proofs.Words.{SetAside, Some, Starts, Step, Stops, Take, TooMany, Turn, Up as IsUpNow, Waiting as IsWaitingNow, [], after_input}
+use Rattle.link_laws.proofs.Words.{aged_entries, ap, becomes, began_by, ended_by, false, far, finished, first_lost, frames_out, give_refusal}
+use Rattle.link_laws.proofs.Words.{happens_at_controller, has_taken, here_entries, if_so, if◌then◌else◌, input_entries, is_some, is_up, left_after, map, max}
+use Rattle.link_laws.proofs.Words.{most_frames, nat_lt, number_now, number_of, option_to_list, put, put_entries, puts_entries, refl, report, rest_entries}
+use Rattle.link_laws.proofs.Words.{restart_entries, sent_unless, silent, step_entries, subst, sym, taken_entries, tick_entries, ticks_at_controller, told}
+use Rattle.link_laws.proofs.Words.{told_of, took, took_with, true, turn, turn_entries, turn_entry, turned, whole_acked, wire_with, with_ended, ℕ, ◌++◌, ◌∙◌}
+use Rattle.link_laws.proofs.Words.{◌∷◌, ◌≡◌}
 use Rattle.link_laws.proofs.machine.Shifts.{Shift, IsNotUp}
 use Rattle.link_laws.proofs.machine.Shifts.Shift.{Stays, Ends, Renews, Begins, Rests as ShiftRests}
 use Rattle.link_laws.proofs.machine.Reports.{Reports, take_so, tick_so, reset_so}
-use Rattle.link_laws.specs.messages.Links.{NumberedEnd, Link, Loss, Ending, Node, EndEvent, number_of, put, becomes, silent, finished, with_ended, has_taken}
-use Rattle.link_laws.specs.messages.Links.{happens_at_controller, ticks_at_controller, IsNode, IsAllowed, IsOwn}
-use Rattle.link_laws.specs.messages.Links.Ending.{GoesOut, CutOff}
-use Rattle.link_laws.specs.messages.Links.Comes.{NextFrame, AsksReset, Starts, Stops, NoInput}
-use Rattle.link_laws.specs.messages.Links.EndEvent.{Step, Lose}
-use Rattle.link_laws.specs.messages.Links.Loss.{TooMany}
 use Rattle.link_laws.proofs.messages.Ends.{frames_alike}
-use Rattle.link_laws.specs.entries.Entries.{End, Entry, far, if_so, told, told_of, turn_entry, turn_entries, sent_unless, first_lost, wire_with, put_entries}
-use Rattle.link_laws.specs.entries.Entries.{puts_entries, rest_entries, input_entries, restart_entries, step_entries, here_entries, tick_entries, left_after}
-use Rattle.link_laws.specs.entries.Entries.{taken_entries, aged_entries}
-use Rattle.link_laws.specs.entries.Entries.Entry.{Up, Down, Active, GaveUp, Acked, Got, Cut}
-use Rattle.link_laws.specs.entries.Sessions.{hear, number_now}
+use Rattle.link_laws.specs.entries.Entries.Entry.{Up, Down}
+use Rattle.link_laws.specs.entries.Sessions.{hear}
 use Rattle.link_laws.proofs.entries.Books.{same_self, same_far, with_side}
 use Rattle.link_laws.proofs.entries.Stepping.{puts_number, CanFinish}
-use Rattle.link_laws.proofs.entries.Noting.{turned_same, IsQuietEnd, Near, Frame, Frames, ended_number, IsRestart, start_restarts, stop_restarts}
-use Rattle.link_laws.proofs.entries.Noting.{idle_finishes}
+use Rattle.link_laws.proofs.entries.Noting.{turned_same, IsQuietEnd, Near, Frame, Frames, ended_number, IsRestart, start_restarts, stop_restarts, idle_finishes}
 use Rattle.link_laws.proofs.entries.Noting.{tick_finishes, reset_finishes, take_finishes, restart_finishes}
 use Rattle.link_laws.proofs.entries.Completing.{new_not_up}
 use Rattle.link_laws.proofs.entries.Running.{Before, frame_facts, near_of}
-use Rattle.swp_act.specs.declared.ActEvent.{ActEvent}
 
 -- ## Sessions
 

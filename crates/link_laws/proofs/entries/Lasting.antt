@@ -1,22 +1,12 @@
 -- What was noted since a session began tells each loss of it.
-use Rattle.std.proofs.Common.{◌≡◌, ℕ, Bool, true, false, List, [], ◌∷◌, ◌++◌, ◌⊎◌, inl, inr, refl, ap, sym, subst, ◌∙◌, arith, append_assoc}
-use Rattle.std.specs.Prelude.{◌==◌, max}
-use Rattle.std.proofs.lemmas.Bool.{true≢false, eqb-true, and_parts}
-use Rattle.std.proofs.lemmas.Grind.{common_steps}
-use Rattle.std.specs.List.{list_any}
-use Rattle.shdlc_core.specs.declared.answers.LinkState.{LinkState}
-use Rattle.shdlc_core.specs.declared.answers.LinkState.TheVariants.{Down as IsDown, Waiting as IsWaitingNow, Up as IsUpNow}
-use Rattle.link_laws.specs.sessions.Sessions.{OnWire, ShdlcLink as CoreLink, ShdlcEndEvent as CoreEndEvent, is_up, shdlc_all_at_controller as core_all_here}
-use Rattle.link_laws.specs.sessions.Sessions.{shdlc_happens_at_controller as core_happens_here}
-use Rattle.link_laws.specs.sessions.Losses.{Losses, noted_all, noted_here, noted_turns, came_up, is_up_with}
-use Rattle.link_laws.specs.machine.Machine.{LinkEnd, Turn, turned, took, began_by, frames_out}
-use Rattle.link_laws.specs.machine.Machine.LinkInput.{Take}
-use Rattle.link_laws.specs.messages.Links.{NumberedEnd, Link, Ending, number_of, AreSendableTurns}
-use Rattle.link_laws.specs.messages.Links.Ending.{GoesOut, CutOff}
-use Rattle.link_laws.specs.messages.Projection.{core_of, core_end, core_take, core_ending}
-use Rattle.link_laws.specs.entries.Entries.{End, Entry, turn_entries, left_after, puts_entries, rest_entries}
-use Rattle.link_laws.specs.entries.Entries.Entry.{Up, Cut}
-use Rattle.link_laws.specs.entries.Quiet.{begins, since}
+use Rattle.link_laws.proofs.Words.{AreSendableTurns, Bool, CoreEndEvent, CoreLink, Cut, CutOff, Down as IsDown, End, Ending, Entry, GoesOut, Link, LinkEnd}
+use Rattle.link_laws.proofs.Words.{LinkState, List, Losses, NumberedEnd, OnWire, Take, Turn, Up as IsUpNow, Waiting as IsWaitingNow, [], and_parts, ap}
+use Rattle.link_laws.proofs.Words.{append_assoc, arith, began_by, came_up, common_steps, core_all_here, core_end, core_ending, core_happens_here, core_of}
+use Rattle.link_laws.proofs.Words.{core_take, eqb-true, false, frames_out, inl, inr, is_up, is_up_with, left_after, list_any, max, noted_all, noted_here}
+use Rattle.link_laws.proofs.Words.{noted_turns, number_of, puts_entries, refl, rest_entries, since, subst, sym, took, true, true≢false, turn_entries, turned, ℕ}
+use Rattle.link_laws.proofs.Words.{◌++◌, ◌==◌, ◌∙◌, ◌∷◌, ◌≡◌, ◌⊎◌}
+use Rattle.link_laws.specs.entries.Entries.Entry.{Up}
+use Rattle.link_laws.specs.entries.Quiet.{begins}
 use Rattle.link_laws.proofs.entries.Running.{Before, comes_first}
 use Rattle.link_laws.proofs.entries.Losing.{bad, Disturbed, disturbed_left, disturbed_right, Grows, flush_grows}
 use Rattle.link_laws.proofs.entries.Disturbing.{take_noted}

@@ -1,24 +1,11 @@
 -- Where a frame of a step is lost on the link over fragments, or an RNR made, it is noted.
-use Rattle.std.proofs.Common.{◌≡◌, Bool, true, false, cond, List, [], ◌∷◌, ◌++◌, length, Option, ◌⊎◌, inl, inr, refl, ap, sym, subst, ◌∙◌, arith, length-append}
-use Rattle.std.specs.Prelude.{◌+◌, ◌||◌, nat_lt}
-use Rattle.std.proofs.lemmas.Bool.{true≢false, and_parts, ltb-true}
-use Rattle.std.specs.List.{list_any}
-use Rattle.swp_base.specs.declared.control_frames.Kind.TheVariants.{Rr, Rej, Rnr, Srej}
-use Rattle.swp_base.specs.declared.control_frames.Control.{Control}
-use Rattle.swp_base.specs.declared.control_frames.Control.TheVariants.{I, S, Rset, Ua, Act, Clt}
-use Rattle.swp_base.specs.declared.control_frames.Act.{Act as Activation}
-use Rattle.link_laws.specs.places.Wire.{is_rnr}
-use Rattle.shdlc_core.specs.Machine.{EndState, frames_of, most_frames}
-use Rattle.link_laws.specs.sessions.Sessions.{OnWire, ShdlcLink as CoreLink, shdlc_put as core_put, shdlc_put_all as core_put_all, is_rset}
-use Rattle.link_laws.specs.sessions.Losses.{Losses, counts_first, overflows, noted_loss, noted_all, noted_out}
-use Rattle.link_laws.specs.machine.Machine.{LinkEnd, frames_out, among}
-use Rattle.link_laws.specs.messages.Links.{Link, put}
-use Rattle.link_laws.specs.messages.Links.Loss.{TooMany}
-use Rattle.link_laws.specs.messages.Projection.{core_of}
+use Rattle.std.specs.Prelude.{◌+◌, ◌||◌}
+use Rattle.link_laws.proofs.Words.{Act, Activation, Bool, Clt, Control, CoreLink, Emit, End, EndState, Entry, I, Link, LinkEnd, List, Losses, OnWire, Option}
+use Rattle.link_laws.proofs.Words.{Rej, Rnr, Rr, Rset, S, Srej, TooMany, Ua, [], among, and_parts, ap, arith, cond, core_of, counts_first, disturbs, false, far}
+use Rattle.link_laws.proofs.Words.{first_lost, frames_of, frames_out, inl, inr, is_rnr, is_rset, length, length-append, list_any, ltb-true, most_frames, nat_lt}
+use Rattle.link_laws.proofs.Words.{noted_all, noted_loss, noted_out, overflows, pushed_out, put, put_entries, puts_entries, refl, shdlc_put as core_put}
+use Rattle.link_laws.proofs.Words.{shdlc_put_all as core_put_all, subst, sym, true, true≢false, wire_with, ◌++◌, ◌∙◌, ◌∷◌, ◌≡◌, ◌⊎◌}
 use Rattle.link_laws.proofs.messages.Project.{due_now, frames_now, among_now, put-core}
-use Rattle.link_laws.specs.entries.Entries.{End, Entry, far, first_lost, pushed_out, wire_with, put_entries, puts_entries}
-use Rattle.link_laws.specs.entries.Entries.Entry.{Emit}
-use Rattle.link_laws.specs.entries.Quiet.{disturbs}
 
 -- a frame was lost, or an RNR made
 abbrev pub bad : Losses → Bool

@@ -1,26 +1,14 @@
 -- At each moment of a step messages are in order, where they are before and behind it.
-use Rattle.std.proofs.Common.{◌≡◌, ℕ, zero, suc, ◌≤◌, List, [], ◌∷◌, ◌++◌, length, take, ◌⊎◌, inl, inr, refl, ap, sym, subst, ◌∙◌, arith, append_assoc}
-use Rattle.std.proofs.Common.{append-nil}
-use Rattle.std.specs.Prelude.{max}
 use Rattle.std.proofs.lemmas.List.{take-append-le}
-use Rattle.std.proofs.lemmas.List.Elements.{filter-append}
-use Rattle.hcp_packet.specs.Packets.{IsFrontOf, good_of, is_good}
-use Rattle.link_laws.specs.machine.Machine.{Message}
-use Rattle.link_laws.specs.sessions.Sessions.{shdlc_session_of}
+use Rattle.link_laws.proofs.Words.{Controller, CoreInOrder, End, Entry, Host, InOrder, InOrderIn, IsFrontOf, Link, List, Message, Session, Talk, []}
+use Rattle.link_laws.proofs.Words.{acked_noted, ap, append-nil, append_assoc, arith, core_end, core_of, far, filter-append, good_of, got_noted, inl, inr}
+use Rattle.link_laws.proofs.Words.{is_good, length, max, refl, sent_noted, shdlc_session_of, subst, suc, sym, take, talk_of, zero, ℕ, ◌++◌, ◌∙◌, ◌∷◌, ◌≡◌, ◌≤◌}
+use Rattle.link_laws.proofs.Words.{◌⊎◌}
 use Rattle.link_laws.proofs.sessions.Data.{Base}
 use Rattle.link_laws.proofs.sessions.Sending.{SafeLink}
-use Rattle.link_laws.specs.places.Order.{FragmentsInOrder as CoreInOrder}
-use Rattle.shdlc_core.specs.Machine.{Session}
-use Rattle.link_laws.specs.messages.Links.{Talk, Link, talk_of}
-use Rattle.link_laws.specs.messages.Order.{InOrder}
-use Rattle.link_laws.specs.messages.Projection.{core_of, core_end}
 use Rattle.link_laws.proofs.messages.Project.{Tells}
 use Rattle.link_laws.proofs.messages.Steps.{says_of, session-core}
 use Rattle.link_laws.proofs.messages.Whole.{in_messages}
-use Rattle.link_laws.specs.entries.Entries.{End, Entry, far}
-use Rattle.link_laws.specs.entries.Entries.End.{Controller, Host}
-use Rattle.link_laws.specs.entries.Filters.{sent_noted, got_noted, acked_noted}
-use Rattle.link_laws.specs.entries.Order.{InOrderIn}
 use Rattle.link_laws.proofs.entries.Books.{Book, plus, plus-blank, read, read-append, Silent, book_of}
 use Rattle.link_laws.proofs.entries.Fronts.{front_parts, OfOne, front_read, Few, AllFew, few_told}
 use Rattle.link_laws.proofs.entries.Stepping.{Tolds}

@@ -1,39 +1,23 @@
 -- What is noted of a run says what is kept of the sessions of both ends.
-use Rattle.std.proofs.Common.{◌≡◌, ℕ, Bool, true, false, List, [], ◌∷◌, ◌++◌, Option, Some, None, refl, ap, sym, subst, ◌∙◌, arith, append_assoc}
-use Rattle.std.specs.Prelude.{is_some, max, not}
-use Rattle.std.proofs.lemmas.Bool.{true≢false}
-use Rattle.swp_base.specs.declared.link_terms.Cause.TheVariants.{Asked, Act as ByAct}
-use Rattle.swp_act.specs.declared.ActEvent.{ActEvent}
-use Rattle.swp_act.specs.declared.ActEvent.TheVariants.{Start as ActStart, Stop as ActStop, Tick as ActTick}
-use Rattle.shdlc_core.specs.declared.answers.LinkState.{LinkState}
-use Rattle.shdlc_core.specs.declared.answers.LinkState.TheVariants.{Down as IsDown, Waiting as IsWaitingNow, Up as IsUpNow}
-use Rattle.shdlc_core.specs.Machine.{EndState, ticked, tick_answer, is_waiting, reset_with, stopped}
-use Rattle.link_laws.specs.sessions.Sessions.{OnWire, is_up, took_with}
-use Rattle.link_laws.specs.machine.Machine.{LinkEnd, Role, Refused, LinkInput, Turn, turn, turned, is_open, role_after, act_answer, moved, activated}
-use Rattle.link_laws.specs.machine.Machine.{new_link_end}
-use Rattle.link_laws.specs.machine.Machine.{renewed, if_up, reset_refusal, give_refusal, aside_refusal, reset_by, window_of, took, after_input, ended_by}
-use Rattle.link_laws.specs.machine.Machine.{began_by}
-use Rattle.link_laws.specs.machine.Machine.{frames_out, sent_all}
-use Rattle.link_laws.specs.machine.Machine.Role.{Bare, Clf, Uicc}
-use Rattle.link_laws.specs.machine.Machine.LinkInput.{Take, Tick as HasTick, Reset, Start, Stop}
-use Rattle.link_laws.specs.machine.Machine.Turn.{Give, Hold, FetchMessage, SetAside, Release}
+use Rattle.link_laws.proofs.Words.{ActEvent, ActStart, ActStop, ActTick, AreSendableTurns, Asked, AsksReset, Bare, Bool, ByAct, CanEnd, Clf, Comes, CutOff}
+use Rattle.link_laws.proofs.Words.{Down as IsDown, End, EndState, Ending, Entry, FetchMessage, Give, GoesOut, HasTick, Hold, IsNode, Link, LinkEnd, LinkInput}
+use Rattle.link_laws.proofs.Words.{LinkState, List, NextFrame, NoInput, Node, None, NumberedEnd, OnWire, Option, Refused, Release, Reset, Restarted, Role}
+use Rattle.link_laws.proofs.Words.{SetAside, Some, Start, Starts, Stop, Stops, Take, Took, Turn, Uicc, Up as IsUpNow, Waiting as IsWaitingNow, [], act_answer}
+use Rattle.link_laws.proofs.Words.{activated, after_input, ap, append_assoc, arith, aside_refusal, began_by, ended_by, false, far, finished, frames_out}
+use Rattle.link_laws.proofs.Words.{give_refusal, has_taken, if_up, is_open, is_some, is_up, is_waiting, left_after, max, moved, new_link_end, no_talk, not}
+use Rattle.link_laws.proofs.Words.{number_of, refl, renewed, reset_by, reset_refusal, reset_with, rest_entries, restart_entries, role_after, sent_all, silent}
+use Rattle.link_laws.proofs.Words.{step_entries, steps_at_controller, stopped, subst, sym, taken_entries, talk_of, tick_answer, tick_entries, ticked}
+use Rattle.link_laws.proofs.Words.{ticks_at_controller, told_of, took, took_with, true, true≢false, turn, turned, window_of, with_ended, ℕ, ◌++◌, ◌∙◌, ◌∷◌, ◌≡◌}
 use Rattle.link_laws.proofs.machine.Shifts.{IsNotUp}
 use Rattle.link_laws.proofs.machine.Runs.{Sound, sound_input, opened}
 use Rattle.link_laws.proofs.machine.Reports.{Reports, take_so, tick_so, reset_so, start_so, stop_so, shdlc_is as shdlc_moved}
-use Rattle.link_laws.specs.messages.Links.{NumberedEnd, Link, Ending, Comes, Node, number_of, no_talk, talk_of, with_ended, silent, finished, has_taken}
-use Rattle.link_laws.specs.messages.Links.{steps_at_controller, ticks_at_controller, AreSendableTurns, CanEnd, IsNode}
-use Rattle.link_laws.specs.messages.Links.Ending.{GoesOut, CutOff}
-use Rattle.link_laws.specs.messages.Links.Comes.{NextFrame, AsksReset, Starts, Stops, NoInput}
 use Rattle.link_laws.proofs.messages.Asks.{NoAsk, NoRset, none_due, ticked_asks}
 use Rattle.link_laws.proofs.messages.Ends.{ticked_keeps}
 use Rattle.link_laws.proofs.sessions.Ties.{ready-phase as ready_phase}
 use Rattle.link_laws.proofs.messages.Project.{Tells, Now, mid_moved, moved_role, host_ended as ended_host}
 use Rattle.link_laws.proofs.messages.Steps.{Rests, activated_role, act_mid, tick_closes}
-use Rattle.link_laws.proofs.messages.Finishing.{can_end, can_after, took_can, none_out, reset_tells, reset_waits, tick_open, tick_closed}
-use Rattle.link_laws.proofs.messages.Finishing.{tick_role, waiting_phase}
-use Rattle.link_laws.proofs.messages.Finishing.{restart_mid}
-use Rattle.link_laws.specs.entries.Entries.{End, Entry, far, told_of, rest_entries, left_after, taken_entries, restart_entries, step_entries, tick_entries}
-use Rattle.link_laws.specs.entries.Entries.Entry.{Took, Restarted}
+use Rattle.link_laws.proofs.messages.Finishing.{can_end, can_after, took_can, none_out, reset_tells, reset_waits, tick_open, tick_closed, tick_role}
+use Rattle.link_laws.proofs.messages.Finishing.{waiting_phase, restart_mid}
 use Rattle.link_laws.proofs.entries.Books.{told_silent, past_after}
 use Rattle.link_laws.proofs.entries.Fronts.{few_told, few_more, few_then}
 use Rattle.link_laws.proofs.entries.Stepping.{Tolds, Out, CanFinish, TakesInput, input_told, rest_told, sound_turns, sound_sent}

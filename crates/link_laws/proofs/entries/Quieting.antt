@@ -1,35 +1,20 @@
 -- A quiet session has delivered all, as it is noted.
-use Rattle.std.proofs.Common.{◌≡◌, Bool, true, false, cond, List, [], ◌∷◌, ◌++◌, Option, Some, None, ◌⊎◌, inl, inr, refl, ap, sym, subst, ◌∙◌}
-use Rattle.std.specs.Prelude.{◌||◌, nat_lt, is_some, option_to_list}
-use Rattle.std.proofs.lemmas.Bool.{true≢false}
-use Rattle.swp_base.specs.declared.control_frames.Act.{Act as Activation}
-use Rattle.swp_base.specs.declared.link_terms.Cause.TheVariants.{Act as ByAct}
-use Rattle.swp_act.specs.declared.ActEvent.TheVariants.{Tick as ActTick}
-use Rattle.shdlc_core.specs.declared.answers.LinkState.TheVariants.{Down as IsDown}
-use Rattle.shdlc_core.specs.Machine.{EndState, most_frames, ticked, tick_answer, frames_of}
-use Rattle.link_laws.specs.sessions.Sessions.{OnWire, ShdlcLink as CoreLink, ShdlcTurn as CoreTurn, ShdlcEndEvent as CoreEndEvent, shdlc_turned as core_turned}
-use Rattle.link_laws.specs.sessions.Sessions.{with_shdlc_ended as core_with_ended, ticks_or_cut as core_ticks_or_cut}
-use Rattle.link_laws.specs.sessions.Sessions.{shdlc_ticks_at_controller as core_ticks_here}
-use Rattle.link_laws.specs.sessions.Sessions.ShdlcEndEvent.{Acts as CoreActs}
-use Rattle.link_laws.specs.sessions.Losses.{Losses, is_act, sans, counts_first, loses_aged, noted_all, noted_out, noted_here, noted_turns, noted_tick}
-use Rattle.link_laws.specs.sessions.Losses.{noted_aged}
-use Rattle.link_laws.specs.machine.Machine.{LinkEnd, Turn, turned, is_open, act_answer, moved, activated, if_up, after_input, ended_by, frames_out}
-use Rattle.link_laws.specs.machine.Machine.LinkInput.{Tick as HasTick}
+use Rattle.std.specs.Prelude.{◌||◌}
+use Rattle.link_laws.proofs.Words.{ActTick, Activation, AreSendableTurns, AsksReset, Bool, ByAct, Controller, CoreActs, CoreEndEvent, CoreLink, CoreTurn}
+use Rattle.link_laws.proofs.Words.{CutOff, Down as IsDown, End, EndEvent, EndState, Ending, Entry, GoesOut, HasTick, Host, IsAllowed, IsNode, IsOwn, Link}
+use Rattle.link_laws.proofs.Words.{LinkEnd, List, Lose, Loss, Losses, NextFrame, NoInput, Node, None, OnWire, Option, Some, Starts, Step, Stops, Turn, []}
+use Rattle.link_laws.proofs.Words.{act_answer, activated, after_input, aged, aged_entries, ap, cond, core_here, core_of, core_tick, core_tick_rest}
+use Rattle.link_laws.proofs.Words.{core_ticks_or_cut, core_turned, core_turns, core_with_ended, counts_first, ended_by, false, first_lost, frames_of}
+use Rattle.link_laws.proofs.Words.{frames_out, happens_at_controller, here_entries, if_up, inl, inr, is_act, is_open, is_some, loses_aged, most_frames, moved}
+use Rattle.link_laws.proofs.Words.{nat_lt, noted_aged, noted_all, noted_here, noted_out, noted_tick, noted_turns, option_to_list, refl, rest_entries, sans}
+use Rattle.link_laws.proofs.Words.{shdlc_ticks_at_controller as core_ticks_here, subst, sym, tick_answer, tick_entries, ticked, ticks_at_controller, told_of}
+use Rattle.link_laws.proofs.Words.{true, true≢false, turned, with_ended, ◌++◌, ◌∙◌, ◌∷◌, ◌≡◌, ◌⊎◌}
 use Rattle.link_laws.proofs.machine.Reports.{tick_so, shdlc_is as shdlc_moved}
-use Rattle.link_laws.specs.messages.Links.{Link, Ending, Loss, EndEvent, Node, with_ended, happens_at_controller, ticks_at_controller, aged}
-use Rattle.link_laws.specs.messages.Links.{AreSendableTurns, IsNode}
-use Rattle.link_laws.specs.messages.Links.{IsAllowed, IsOwn}
-use Rattle.link_laws.specs.messages.Links.Ending.{GoesOut, CutOff}
-use Rattle.link_laws.specs.messages.Links.Comes.{NextFrame, AsksReset, Starts, Stops, NoInput}
-use Rattle.link_laws.specs.messages.Links.EndEvent.{Step, Lose}
-use Rattle.link_laws.specs.messages.Projection.{core_of, core_turns, core_here, core_tick, core_tick_rest}
 use Rattle.link_laws.proofs.messages.Project.{Now, Tells, turns_mid, with_ended-core, mid_moved}
 use Rattle.link_laws.proofs.machine.Runs.{opened}
 use Rattle.link_laws.proofs.messages.Ends.{ticked_keeps}
 use Rattle.link_laws.proofs.messages.Steps.{Rests, act_mid, tick_closes}
 use Rattle.link_laws.proofs.messages.Finishing.{tick_open, tick_closed, tick_role, core_tick_rests, rests}
-use Rattle.link_laws.specs.entries.Entries.{End, Entry, told_of, rest_entries, first_lost, here_entries, aged_entries, tick_entries}
-use Rattle.link_laws.specs.entries.Entries.End.{Controller, Host}
 use Rattle.link_laws.specs.entries.Entries.Entry.{Tick}
 use Rattle.link_laws.proofs.entries.Noting.{Near, plain_ended, tick_finishes}
 use Rattle.link_laws.proofs.entries.Running.{Before, near_of}

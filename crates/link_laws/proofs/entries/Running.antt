@@ -1,40 +1,24 @@
 -- Every event is noted so that the entries say what is kept of the sessions of both ends.
-use Rattle.std.proofs.Common.{◌≡◌, ℕ, ◌<◌, Bool, true, false, cond, List, [], ◌∷◌, ◌++◌, Option, refl, ap, sym, subst, ◌∙◌, arith, append_assoc, append-nil}
-use Rattle.std.specs.Prelude.{is_some, ◌==◌, max, nat_lt}
-use Rattle.std.proofs.lemmas.Bool.{true≢false, ne_eqb}
-use Rattle.swp_base.specs.declared.control_frames.Control.{Control}
-use Rattle.swp_base.specs.declared.control_frames.Control.TheVariants.{I, S, Rset, Ua, Act, Clt}
-use Rattle.shdlc_core.specs.declared.answers.LinkState.TheVariants.{Up as IsUpNow}
-use Rattle.shdlc_core.specs.Machine.{is_waiting, most_frames, taken}
-use Rattle.link_laws.specs.sessions.Sessions.{OnWire, ShdlcLink as CoreLink, ShdlcTurn as CoreTurn, is_rset, took_with, shdlc_aged as core_aged}
-use Rattle.link_laws.specs.sessions.Sessions.{shdlc_happens_at_controller as core_happens_here, shdlc_all_at_controller as core_all_here}
-use Rattle.link_laws.specs.sessions.Sessions.{ticks_or_cut as core_ticks_or_cut, ticks_if_waiting as core_ticks_if_waiting}
-use Rattle.link_laws.specs.sessions.Sessions.ShdlcEndEvent.{Deliver as CoreDeliver}
-use Rattle.link_laws.specs.sessions.Losses.{is_act, sans}
+use Rattle.link_laws.proofs.Words.{Act, Activate, AllAllowed, AreOwn, AreSendableTurns, AsksReset, AtController, AtHost, Bare, Bool, CanStart, Clf, Clt, Comes}
+use Rattle.link_laws.proofs.Words.{Control, Controller, CoreDeliver, CoreLink, CoreTurn, End, EndEvent, Entry, GoesOut, HasTick, Host, I, InOrderIn, IsAllowed}
+use Rattle.link_laws.proofs.Words.{IsBare, IsClf, IsEvent, IsFrontOf, IsLine, IsNode, IsOwn, IsRead, IsStart, IsUicc, Link, LinkEnd, LinkEvent, List, Lose}
+use Rattle.link_laws.proofs.Words.{NextFrame, NoInput, Node, NumberedEnd, OnWire, Option, Role, Rset, S, Starts, Step as EndStep, Stops, Take, Ticks}
+use Rattle.link_laws.proofs.Words.{TicksWithout, Turn, Ua, Uicc, Up as IsUpNow, [], after_input, after_link_events, aged, aged_entries, all_at_controller, ap}
+use Rattle.link_laws.proofs.Words.{append-nil, append_assoc, arith, becomes, began_by, cond, core_aged, core_all_here, core_end, core_event, core_happens_here}
+use Rattle.link_laws.proofs.Words.{core_here, core_of, core_tick, core_tick_rest, core_ticks_if_waiting, core_ticks_or_cut, ended_by, ended_talk, entries}
+use Rattle.link_laws.proofs.Words.{entries_of_events, event_entries, exchanged, false, far, first_entries, first_lost, frames_out, happens}
+use Rattle.link_laws.proofs.Words.{happens_at_controller, here_entries, is_act, is_faulty, is_open, is_rset, is_some, is_waiting, left_after, max, most_frames}
+use Rattle.link_laws.proofs.Words.{nat_lt, ne_eqb, new_clf, new_link_end, new_numbered_end, new_uicc, no_talk, number_of, refl, sans, steps_at_controller}
+use Rattle.link_laws.proofs.Words.{subst, sym, taken, talk_of, tick_entries, ticks_at_controller, took, took_with, trace, true, true≢false, turned, with_ended}
+use Rattle.link_laws.proofs.Words.{ℕ, ◌++◌, ◌<◌, ◌==◌, ◌∙◌, ◌∷◌, ◌≡◌}
 use Rattle.link_laws.proofs.sessions.Hand.{IsRset, rset_told}
 use Rattle.link_laws.proofs.sessions.Safe.{Safe}
 use Rattle.link_laws.proofs.sessions.Sending.{SafeLink}
 use Rattle.link_laws.proofs.sessions.Steps.{took_other, safe_aged, safe_turns, safe_exchanged, tick_or_cut, tick_if_waiting}
-use Rattle.swp_act.specs.Activation.{new_clf, new_uicc}
-use Rattle.link_laws.specs.machine.Machine.{LinkEnd, Role, Turn, turned, is_open, is_faulty, took, after_input, ended_by, began_by, frames_out, new_link_end}
-use Rattle.link_laws.specs.machine.Machine.Role.{Bare, Clf, Uicc}
-use Rattle.link_laws.specs.machine.Machine.LinkInput.{Take, Tick as HasTick}
 use Rattle.link_laws.proofs.machine.Shifts.{Shift}
 use Rattle.link_laws.proofs.machine.Shifts.Shift.{Stays, Ends, Renews, Begins, Rests as ShiftRests}
 use Rattle.link_laws.proofs.machine.Runs.{Sound, new_sound}
 use Rattle.link_laws.proofs.machine.Reports.{take_so}
-use Rattle.link_laws.specs.messages.Links.{NumberedEnd, Link, IsStart, Comes, EndEvent, Node, LinkEvent, exchanged, number_of, no_talk, ended_talk}
-use Rattle.link_laws.specs.messages.Links.{talk_of, becomes}
-use Rattle.link_laws.specs.messages.Links.{with_ended, steps_at_controller, happens_at_controller, happens, all_at_controller, ticks_at_controller, aged}
-use Rattle.link_laws.specs.messages.Links.{after_link_events, new_numbered_end, AreSendableTurns, CanStart, IsClf, IsUicc, IsNode, IsAllowed}
-use Rattle.link_laws.specs.messages.Links.{IsOwn, AreOwn, IsEvent}
-use Rattle.link_laws.specs.messages.Links.{AllAllowed}
-use Rattle.link_laws.specs.messages.Links.IsStart.{IsBare, IsLine}
-use Rattle.link_laws.specs.messages.Links.Ending.{GoesOut}
-use Rattle.link_laws.specs.messages.Links.Comes.{NextFrame, AsksReset, Starts, Stops, NoInput}
-use Rattle.link_laws.specs.messages.Links.EndEvent.{Step as EndStep, Lose}
-use Rattle.link_laws.specs.messages.Links.LinkEvent.{AtController, AtHost, Ticks, TicksWithout, Activate}
-use Rattle.link_laws.specs.messages.Projection.{core_of, core_end, core_here, core_tick, core_tick_rest, core_event}
 use Rattle.link_laws.proofs.messages.Asks.{NoRset}
 use Rattle.link_laws.proofs.messages.ActsInOrder.{LinkInOrder, IsPolite, polite_of}
 use Rattle.link_laws.proofs.messages.Ends.{frames_alike}
@@ -44,18 +28,11 @@ use Rattle.link_laws.proofs.messages.Finishing.{first_none, step_tick}
 use Rattle.link_laws.proofs.messages.Runs.{Good, Reached, safe_reached, rests_of, reached_more, from_host, from_controller, own_here, own_turns, step_here}
 use Rattle.link_laws.proofs.messages.Runs.{event_step, rest_both, tells_same, seen, started_clf, can_start}
 use Rattle.link_laws.proofs.messages.Whole.{new_number, start_good, start_reached}
-use Rattle.link_laws.specs.entries.Entries.{End, Entry, far, first_lost, left_after, here_entries, entries_of_events, aged_entries, tick_entries}
-use Rattle.link_laws.specs.entries.Entries.{event_entries}
-use Rattle.link_laws.specs.entries.Entries.{entries, first_entries, trace}
-use Rattle.link_laws.specs.entries.Entries.End.{Controller, Host}
 use Rattle.link_laws.specs.entries.Entries.Entry.{Tick}
-use Rattle.link_laws.specs.entries.Sessions.{IsRead}
 use Rattle.link_laws.proofs.entries.Books.{Book, blank, book_of, Silent, silent_cons, Told, up_talk, down_talk, told_silent, past_after}
 use Rattle.link_laws.proofs.entries.Stepping.{Tolds, Out, one_step, one_input, silent_first, puts_number}
 use Rattle.link_laws.proofs.entries.Fronts.{OfOne, NoAcked, few_told, few_more}
 use Rattle.link_laws.proofs.entries.Moments.{Ok, AllOk, all_then, between, ok_silent, ok_link}
-use Rattle.link_laws.specs.entries.Order.{InOrderIn}
-use Rattle.hcp_packet.specs.Packets.{IsFrontOf}
 use Rattle.link_laws.proofs.entries.Noting.{Near, Frames, FramesFor, step_told, tick_told, sound_tick, sound_step}
 
 -- ## The first frame on a wire

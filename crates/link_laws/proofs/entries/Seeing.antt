@@ -1,26 +1,15 @@
 -- What is seen in the entries of a step is what the link keeps.
-use Rattle.std.proofs.Common.{◌≡◌, ℕ, Bool, true, false, cond, List, [], ◌∷◌, ◌++◌, length, map, drop, Option, Some, None, refl, ap, sym, ◌∙◌}
-use Rattle.std.specs.Prelude.{◌+◌, nat_lt, is_some, option_to_list}
-use Rattle.swp_base.specs.declared.control_frames.Control.{Control}
-use Rattle.swp_base.specs.declared.control_frames.Control.TheVariants.{I, S, Rset, Ua, Act, Clt}
-use Rattle.link_laws.specs.sessions.Sessions.{OnWire, is_rset, is_up, fits, took_with}
-use Rattle.link_laws.specs.machine.Machine.{LinkEnd, Refused, LinkInput, Turn, Report, turn, turned, give_refusal, after_input, ended_by, frames_out, sent_all}
-use Rattle.link_laws.specs.machine.Machine.{report, whole_acked}
-use Rattle.link_laws.specs.machine.Machine.LinkInput.{Take, Tick as HasTick, Reset, Start, Stop}
-use Rattle.link_laws.specs.machine.Machine.Turn.{Give, Hold, FetchMessage, SetAside, Release}
-use Rattle.link_laws.specs.messages.Links.{NumberedEnd, Link, Ending, Comes, EndEvent, Node, exchanged, number_of, put, put_all, with_controller}
-use Rattle.link_laws.specs.messages.Links.{with_ended, silent}
-use Rattle.link_laws.specs.messages.Links.{finished, steps_at_controller, happens_at_controller, ticks_at_controller, all_at_controller, has_taken}
-use Rattle.link_laws.specs.messages.Links.Ending.{GoesOut, CutOff}
-use Rattle.link_laws.specs.messages.Links.Loss.{TooMany}
-use Rattle.link_laws.specs.messages.Links.Comes.{NextFrame, AsksReset, Starts, Stops, NoInput}
-use Rattle.link_laws.specs.messages.Links.EndEvent.{Step, Lose}
-use Rattle.link_laws.specs.entries.Entries.{End, Entry, far, if_so, told, told_of, turn_entry, turn_entries, sent_unless, first_lost, pushed_out, wire_with}
-use Rattle.link_laws.specs.entries.Entries.{put_entries, puts_entries, ending_entries, rest_entries, left_after, taken_entries, step_entries, here_entries}
-use Rattle.link_laws.specs.entries.Entries.{entries_of_events, tick_entries}
-use Rattle.link_laws.specs.entries.Entries.End.{Controller, Host}
-use Rattle.link_laws.specs.entries.Entries.Entry.{Up, Down, Active, GaveUp, Acked, Got, Took, Cut}
-use Rattle.link_laws.specs.entries.Reading.{Seen, see, see_all, kept}
+use Rattle.std.specs.Prelude.{◌+◌}
+use Rattle.link_laws.proofs.Words.{Acked, Act, Active, AsksReset, Bool, Clt, Comes, Control, Controller, Cut, CutOff, End, EndEvent, Ending, Entry}
+use Rattle.link_laws.proofs.Words.{FetchMessage, GaveUp, Give, GoesOut, Got, HasTick, Hold, Host, I, Link, LinkEnd, LinkInput, List, Lose, NextFrame, NoInput}
+use Rattle.link_laws.proofs.Words.{Node, None, NumberedEnd, OnWire, Option, Refused, Release, Report, Reset, Rset, S, Seen, SetAside, Some, Start, Starts, Step}
+use Rattle.link_laws.proofs.Words.{Stop, Stops, Take, TooMany, Took, Turn, Ua, [], after_input, all_at_controller, ap, cond, drop, ended_by, ending_entries}
+use Rattle.link_laws.proofs.Words.{entries_of_events, exchanged, false, far, finished, first_lost, fits, frames_out, give_refusal, happens_at_controller}
+use Rattle.link_laws.proofs.Words.{has_taken, here_entries, if_so, is_rset, is_some, is_up, kept, left_after, length, map, nat_lt, number_of, option_to_list}
+use Rattle.link_laws.proofs.Words.{pushed_out, put, put_all, put_entries, puts_entries, refl, report, rest_entries, see, see_all, sent_all, sent_unless, silent}
+use Rattle.link_laws.proofs.Words.{step_entries, steps_at_controller, sym, taken_entries, tick_entries, ticks_at_controller, told, told_of, took_with, true}
+use Rattle.link_laws.proofs.Words.{turn, turn_entries, turn_entry, turned, whole_acked, wire_with, with_controller, with_ended, ℕ, ◌++◌, ◌∙◌, ◌∷◌, ◌≡◌}
+use Rattle.link_laws.specs.entries.Entries.Entry.{Up, Down}
 
 -- what a link keeps, seen from the end with this name, which is its controller's
 abbrev pub seen_as : End → Link → Seen

@@ -1,34 +1,17 @@
 -- From a reset on that finds the other end active and not waiting its answer is not kept back, where nothing is noted that
 -- withholds it.
-use Rattle.std.proofs.Common.{◌≡◌, ℕ, suc, Bool, true, false, List, [], ◌∷◌, ◌++◌, Option, Some, None, ◌⊎◌, inl, inr, refl, ap, sym, subst, ◌∙◌}
-use Rattle.std.specs.Prelude.{not, is_some}
-use Rattle.std.specs.List.{list_any}
-use Rattle.std.proofs.lemmas.Bool.{true≢false}
-use Rattle.swp_base.specs.declared.control_frames.Control.{Control}
-use Rattle.swp_base.specs.declared.control_frames.Control.TheVariants.{I, S, Rset, Ua, Act, Clt}
-use Rattle.swp_base.specs.declared.control_frames.Act.{Act as Activation}
-use Rattle.swp_base.specs.declared.link_terms.Cause.TheVariants.{Asked}
-use Rattle.swp_act.specs.declared.ActEvent.TheVariants.{Take as ActTake}
-use Rattle.shdlc_core.specs.declared.answers.LinkState.{LinkState}
-use Rattle.shdlc_core.specs.declared.answers.LinkState.TheVariants.{Down as IsDown, Waiting as IsWaitingNow, Up as IsUpNow}
-use Rattle.shdlc_core.specs.declared.answers.Due.{Due}
-use Rattle.shdlc_core.specs.declared.answers.Due.TheVariants.{Rr as Rr_due, Rset as Rset_due}
-use Rattle.shdlc_core.specs.Machine.{EndState, Fragment, due_left, reset_with, is_waiting, frames_of, most_frames, stopped, taken, take_answer}
+use Rattle.link_laws.proofs.Words.{Act, ActTake, Activation, AreSendableTurns, Asked, AsksReset, Bool, Clt, Control, CoreEndEvent, CoreLink, CoreReset}
+use Rattle.link_laws.proofs.Words.{CoreTurn, Cut, CutOff, Down as IsDown, Due, End, EndEvent, EndState, Entry, Fragment, GoesOut, I, IsAllowed, IsOwn, Link}
+use Rattle.link_laws.proofs.Words.{LinkEnd, LinkState, List, Lose, Loss, NextFrame, NoInput, None, Offer, OnWire, Option, Refused, Reset, Role, Rr_due, Rset}
+use Rattle.link_laws.proofs.Words.{Rset_due, S, SetReady, Some, Starts, Step, Stops, Take, Turn, Ua, Up as IsUpNow, Waiting as IsWaitingNow, [], act_answer}
+use Rattle.link_laws.proofs.Words.{after_input, among, ap, core_happens_here, core_here, core_of, core_reset, core_step, core_take, core_turned, core_turns}
+use Rattle.link_laws.proofs.Words.{due_left, ended_by, false, frames_of, frames_out, happens_at_controller, has_taken, heard, here_entries, if_up, inl}
+use Rattle.link_laws.proofs.Words.{input_entries, inr, is_faulty, is_open, is_rset, is_some, is_waiting, left_after, list_any, most_frames, not, put, put_down}
+use Rattle.link_laws.proofs.Words.{put_entries, puts_entries, refl, reset_by, reset_refusal, reset_with, rest_entries, role_after, shdlc_turn as core_turn}
+use Rattle.link_laws.proofs.Words.{step_entries, stopped, subst, suc, sure_all, sure_here, sure_turns, sym, take_answer, taken, taken_entries, told_of, took}
+use Rattle.link_laws.proofs.Words.{true, true≢false, turn_entries, turned, window_of, with_ended, ℕ, ◌++◌, ◌∙◌, ◌∷◌, ◌≡◌, ◌⊎◌}
 use Rattle.link_laws.proofs.places.Joined.{ready_cases, changed}
 use Rattle.link_laws.specs.places.Wire.{is_act}
-use Rattle.link_laws.specs.sessions.Sessions.{OnWire, ShdlcLink as CoreLink, ShdlcTurn as CoreTurn, ShdlcEndEvent as CoreEndEvent, shdlc_turn as core_turn}
-use Rattle.link_laws.specs.sessions.Sessions.{shdlc_turned as core_turned, is_rset, shdlc_happens_at_controller as core_happens_here}
-use Rattle.link_laws.specs.sessions.Sessions.ShdlcTurn.{Offer, SetReady}
-use Rattle.link_laws.specs.sessions.Sessions.ShdlcEndEvent.{Reset as CoreReset}
-use Rattle.link_laws.specs.sessions.Settled.{sure_here, sure_turns, sure_all}
-use Rattle.link_laws.specs.machine.Machine.{LinkEnd, Role, Refused, Turn, turned, is_open, is_faulty, role_after, act_answer, after_input, ended_by, frames_out}
-use Rattle.link_laws.specs.machine.Machine.{among, if_up, put_down, heard, took, reset_refusal, reset_by, window_of}
-use Rattle.link_laws.specs.machine.Machine.LinkInput.{Take, Reset}
-use Rattle.link_laws.specs.messages.Links.{Link, Loss, EndEvent, put, with_ended, has_taken, happens_at_controller, AreSendableTurns, IsAllowed, IsOwn}
-use Rattle.link_laws.specs.messages.Links.Ending.{GoesOut, CutOff}
-use Rattle.link_laws.specs.messages.Links.Comes.{NextFrame, AsksReset, Starts, Stops, NoInput}
-use Rattle.link_laws.specs.messages.Links.EndEvent.{Step, Lose}
-use Rattle.link_laws.specs.messages.Projection.{core_of, core_here, core_step, core_take, core_reset, core_turns}
 use Rattle.link_laws.proofs.messages.ActsInOrder.{ActsInOrder, ended_means}
 use Rattle.link_laws.proofs.messages.Project.{Now, Tells, turns_mid, mid_moved, turned_role, moved_role}
 use Rattle.link_laws.proofs.machine.Runs.{opened}
@@ -36,10 +19,6 @@ use Rattle.link_laws.proofs.machine.Reports.{shdlc_is as shdlc_moved}
 use Rattle.link_laws.proofs.messages.Steps.{Rests, activated_role, role_closes}
 use Rattle.link_laws.proofs.messages.Finishing.{reset_tells, reset_keeps}
 use Rattle.link_laws.proofs.messages.Runs.{rests_of}
-use Rattle.link_laws.specs.entries.Entries.{End, Entry, told_of, turn_entries, put_entries, puts_entries, rest_entries, input_entries, left_after}
-use Rattle.link_laws.specs.entries.Entries.{step_entries}
-use Rattle.link_laws.specs.entries.Entries.{taken_entries, here_entries}
-use Rattle.link_laws.specs.entries.Entries.Entry.{Cut}
 use Rattle.link_laws.proofs.entries.Noting.{reset_role}
 use Rattle.link_laws.proofs.entries.Running.{Before, comes_first}
 use Rattle.link_laws.proofs.entries.Sparing.{Spared, Stands, or_none, spared_parts, stands_parts, rest_sure, take_sure, idle_sure}

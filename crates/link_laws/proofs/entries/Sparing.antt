@@ -1,40 +1,21 @@
 -- Where nothing was lost in a step and no RSET put on the link, the answer to a reset is kept back no more than before.
-use Rattle.std.proofs.Common.{◌≡◌, Bool, true, false, List, [], ◌∷◌, ◌++◌, length, drop, Option, Some, None, ◌⊎◌, inl, inr, refl, ap, sym, subst, ◌∙◌}
-use Rattle.std.proofs.Common.{length-append}
-use Rattle.std.specs.Prelude.{◌+◌, ◌&&◌, ◌||◌, not, is_some, nat_lt, option_to_list, if◌then◌else◌}
-use Rattle.std.specs.List.{list_any}
-use Rattle.std.proofs.lemmas.Bool.{true≢false}
-use Rattle.swp_base.specs.declared.control_frames.Control.{Control}
-use Rattle.swp_base.specs.declared.control_frames.Control.TheVariants.{I, S, Rset, Ua, Act, Clt}
-use Rattle.swp_base.specs.declared.control_frames.Act.{Act as Activation}
-use Rattle.swp_act.specs.declared.ActEvent.{ActEvent}
-use Rattle.swp_act.specs.declared.ActEvent.TheVariants.{Take as ActTake}
-use Rattle.shdlc_core.specs.declared.answers.LinkState.TheVariants.{Down as IsDown}
-use Rattle.shdlc_core.specs.Machine.{EndState, taken, take_answer, ticked, tick_answer, frames_of, most_frames}
-use Rattle.link_laws.specs.sessions.Sessions.{OnWire, ShdlcLink as CoreLink, ShdlcTurn as CoreTurn, shdlc_turned as core_turned, shdlc_put as core_put}
-use Rattle.link_laws.specs.sessions.Sessions.{shdlc_put_all as core_put_all, is_rset, took_with, shdlc_happens_at_controller as core_happens_here}
-use Rattle.link_laws.specs.sessions.Sessions.ShdlcEndEvent.{Turns as CoreTurns, Deliver as CoreDeliver, Acts as CoreActs, Lose as CoreLose}
-use Rattle.link_laws.specs.sessions.Losses.{is_act, counts_first, overflows}
-use Rattle.link_laws.specs.sessions.Settled.{sure_put, sure_all, sure_out, sure_here, sure_turns, sure_tick}
-use Rattle.link_laws.specs.machine.Machine.{LinkEnd, Turn, turned, is_open, role_after, act_answer, activated, moved, took, after_input, ended_by, frames_out}
-use Rattle.link_laws.specs.machine.Machine.{among}
-use Rattle.link_laws.specs.machine.Machine.LinkInput.{Take, Tick as HasTick}
-use Rattle.link_laws.specs.messages.Links.{Link, put, with_ended, AreSendableTurns}
-use Rattle.link_laws.specs.messages.Links.Ending.{GoesOut}
-use Rattle.link_laws.specs.messages.Links.Loss.{TooMany}
-use Rattle.link_laws.specs.messages.Projection.{core_of, core_turns, core_take}
+use Rattle.std.specs.Prelude.{◌+◌, ◌||◌}
+use Rattle.link_laws.proofs.Words.{Act, ActEvent, ActTake, Activation, AreSendableTurns, Bool, Clt, Control, CoreActs, CoreDeliver, CoreLink, CoreLose}
+use Rattle.link_laws.proofs.Words.{CoreTurn, Cut, Down as IsDown, Emit, End, EndState, Entry, GoesOut, HasTick, I, Link, LinkEnd, List, Lost, None, OnWire}
+use Rattle.link_laws.proofs.Words.{Option, Restarted, Rset, S, Some, Take, TooMany, Turn, Turns as CoreTurns, Ua, [], act_answer, activated, after_input, among}
+use Rattle.link_laws.proofs.Words.{ap, core_happens_here, core_of, core_take, core_turned, core_turns, counts_first, drop, ended_by, false, far, first_lost}
+use Rattle.link_laws.proofs.Words.{frames_of, frames_out, if◌then◌else◌, inl, inr, is_act, is_open, is_rset, is_some, left_after, length, length-append}
+use Rattle.link_laws.proofs.Words.{list_any, most_frames, moved, nat_lt, not, option_to_list, overflows, pushed_out, put, put_entries, puts_entries, refl}
+use Rattle.link_laws.proofs.Words.{rest_entries, role_after, shdlc_put as core_put, shdlc_put_all as core_put_all, subst, sure_all, sure_here, sure_out}
+use Rattle.link_laws.proofs.Words.{sure_put, sure_tick, sure_turns, sym, take_answer, taken, tick_answer, ticked, took, took_with, true, true≢false}
+use Rattle.link_laws.proofs.Words.{turn_entries, turned, wire_with, with_ended, withholds, ◌&&◌, ◌++◌, ◌∙◌, ◌∷◌, ◌≡◌, ◌⊎◌}
 use Rattle.link_laws.proofs.messages.Ends.{ticked_keeps}
 use Rattle.link_laws.proofs.messages.Project.{Now, Tells, turns_mid, with_ended-core, mid_moved, due_now, frames_now, among_now, put-core}
 use Rattle.link_laws.proofs.machine.Runs.{opened}
 use Rattle.link_laws.proofs.machine.Reports.{shdlc_is as shdlc_moved}
-use Rattle.link_laws.proofs.messages.Steps.{ComesFirst, Heard, is_shdlc, heard_end, heard_is, counted_is, took_open, no_fault_first, polite}
-use Rattle.link_laws.proofs.messages.Steps.{role_closes, stays_down}
-use Rattle.link_laws.proofs.messages.Steps.{act_mid}
+use Rattle.link_laws.proofs.messages.Steps.{ComesFirst, Heard, is_shdlc, heard_end, heard_is, counted_is, took_open, no_fault_first, polite, role_closes}
+use Rattle.link_laws.proofs.messages.Steps.{stays_down, act_mid}
 use Rattle.link_laws.proofs.messages.Finishing.{tick_open}
-use Rattle.link_laws.specs.entries.Entries.{End, Entry, far, first_lost, pushed_out, wire_with, put_entries, puts_entries, turn_entries}
-use Rattle.link_laws.specs.entries.Entries.{rest_entries, left_after}
-use Rattle.link_laws.specs.entries.Entries.Entry.{Emit, Lost, Restarted, Cut}
-use Rattle.link_laws.specs.entries.Settled.{withholds}
 use Rattle.link_laws.proofs.entries.Disturbing.{left_core}
 
 -- ## What keeps an answer back

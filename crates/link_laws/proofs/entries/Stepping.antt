@@ -1,38 +1,22 @@
 -- What is noted of a step of an end says what is kept of its sessions.
-use Rattle.std.proofs.Common.{◌≡◌, ℕ, zero, suc, Bool, true, false, cond, List, [], ◌∷◌, ◌++◌, length, refl, ap, sym, subst, ◌∙◌, append_assoc}
-use Rattle.std.specs.Prelude.{◌==◌, nat_lt, is_some, Option, Some, None}
-use Rattle.swp_base.specs.declared.control_frames.Control.{Control}
-use Rattle.shdlc_core.specs.declared.answers.LinkState.{LinkState}
-use Rattle.shdlc_core.specs.declared.answers.LinkState.TheVariants.{Down as IsDown, Waiting as IsWaitingNow, Up as IsUpNow}
-use Rattle.shdlc_core.specs.declared.answers.Due.{Due}
-use Rattle.shdlc_core.specs.Machine.{EndState, Fragment, fetched, fragment_due, after_frames, most_frames}
+use Rattle.std.specs.Prelude.{Option, Some, None}
+use Rattle.link_laws.proofs.Words.{AreSendableInputs, AreSendableTurns, AsksReset, Bare, Bool, CanEnd, Clf, Comes, Control, CutOff, Down as IsDown, Due, Emit}
+use Rattle.link_laws.proofs.Words.{End, EndState, Ending, Entry, FetchMessage, Fragment, FromNode, Give, GoesOut, Hold, Link, LinkEnd, LinkInput, LinkState}
+use Rattle.link_laws.proofs.Words.{List, Loss, NextFrame, NoInput, NumberedEnd, OnWire, Release, Report, Reset, Role, SetAside, Start, Starts, Stop, Stops}
+use Rattle.link_laws.proofs.Words.{Take, TooMany, Turn, Uicc, Up as IsUpNow, Waiting as IsWaitingNow, [], after_frames, after_input, ap, append_assoc, becomes}
+use Rattle.link_laws.proofs.Words.{began_by, cond, cut, ended_by, ended_talk, ending_entries, false, far, fetched, finished, first_lost, fragment_due}
+use Rattle.link_laws.proofs.Words.{frames_out, is_some, is_up, left_after, length, most_frames, nat_lt, new_link_end, number_of, pushed_out, put, put_all}
+use Rattle.link_laws.proofs.Words.{put_entries, puts_entries, refl, renewed, report, rest_entries, sent_all, silent, step_entries, subst, suc, sym}
+use Rattle.link_laws.proofs.Words.{taken_entries, talk_now, talk_of, told, told_of, took_with, true, turn, turn_entries, turn_entry, turned, whole_acked}
+use Rattle.link_laws.proofs.Words.{wire_with, with_controller, with_ended, zero, ℕ, ◌++◌, ◌==◌, ◌∙◌, ◌∷◌, ◌≡◌}
 use Rattle.link_laws.proofs.places.Joined.{fetch_cases}
-use Rattle.link_laws.specs.sessions.Sessions.{OnWire, is_up, took_with}
-use Rattle.link_laws.specs.machine.Machine.{LinkEnd, Role, LinkInput, Turn, Report, report, turn, turned, new_link_end, renewed, after_input, ended_by}
-use Rattle.link_laws.specs.machine.Machine.{began_by}
-use Rattle.link_laws.specs.machine.Machine.{whole_acked, frames_out, sent_all}
-use Rattle.link_laws.specs.machine.Machine.Role.{Bare, Clf, Uicc}
-use Rattle.link_laws.specs.machine.Machine.LinkInput.{Take, Reset, Start, Stop, FromNode}
-use Rattle.link_laws.specs.machine.Machine.Turn.{Give, Hold, FetchMessage, SetAside, Release}
-use Rattle.link_laws.specs.machine.Laws.{AreSendableInputs}
 use Rattle.link_laws.proofs.machine.Runs.{Sound, sound_turn, fetched_data}
-use Rattle.link_laws.specs.messages.Links.{NumberedEnd, Link, Ending, Comes, Loss, number_of, ended_talk, talk_now, talk_of, becomes, put, put_all}
-use Rattle.link_laws.specs.messages.Links.{with_controller}
-use Rattle.link_laws.specs.messages.Links.{with_ended, silent, cut, finished, AreSendableTurns, CanEnd}
-use Rattle.link_laws.specs.messages.Links.Ending.{GoesOut, CutOff}
-use Rattle.link_laws.specs.messages.Links.Loss.{TooMany}
-use Rattle.link_laws.specs.messages.Links.Comes.{NextFrame, AsksReset, Starts, Stops, NoInput}
 use Rattle.link_laws.proofs.messages.Asks.{NoRset, puts_none}
 use Rattle.link_laws.proofs.messages.Ends.{frames_alike}
 use Rattle.link_laws.proofs.messages.Project.{beside-put_all}
-use Rattle.link_laws.specs.entries.Entries.{End, Entry, far, told, told_of, turn_entry, turn_entries, first_lost, pushed_out, wire_with}
-use Rattle.link_laws.specs.entries.Entries.{put_entries, puts_entries}
-use Rattle.link_laws.specs.entries.Entries.{ending_entries, rest_entries, left_after, taken_entries, step_entries}
-use Rattle.link_laws.specs.entries.Entries.Entry.{Emit}
 use Rattle.link_laws.proofs.entries.Fronts.{OfOne, one-append, one_told, one_turns, AllFew, few_told, few_more, few_grown, few_then, no_sent_told, NoAcked}
 use Rattle.link_laws.proofs.entries.Fronts.{no_acked-append, no_acked_turns}
-use Rattle.link_laws.proofs.entries.Books.{book_of, Silent, silent-append, silent_cons, Told, up_talk, down_talk, told_far, told_silent, told_same}
-use Rattle.link_laws.proofs.entries.Books.{told_input}
+use Rattle.link_laws.proofs.entries.Books.{book_of, Silent, silent-append, silent_cons, Told, up_talk, down_talk, told_far, told_silent, told_same, told_input}
 use Rattle.link_laws.proofs.entries.Books.{Input, with_side, told_turn, IsSendableTurn, turn_far}
 
 -- ## Turns

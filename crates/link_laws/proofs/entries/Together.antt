@@ -1,43 +1,23 @@
 -- A reset whose answer nothing withheld has brought both ends up.
-use Rattle.std.proofs.Common.{◌≡◌, ℕ, Bool, true, false, List, [], ◌∷◌, ◌++◌, map, Option, Some, refl, ap, sym, subst, ◌∙◌}
-use Rattle.std.specs.Prelude.{is_some, nat_lt, not}
-use Rattle.std.specs.List.{list_any}
-use Rattle.std.proofs.lemmas.Bool.{true≢false}
-use Rattle.shdlc_core.specs.Machine.{is_waiting}
-use Rattle.link_laws.specs.sessions.Sessions.{OnWire, ShdlcLink as CoreLink, ShdlcTurn as CoreTurn, ShdlcEndEvent as CoreEndEvent}
-use Rattle.link_laws.specs.sessions.Sessions.{ShdlcLinkEvent as CoreLinkEvent}
-use Rattle.link_laws.specs.sessions.Sessions.{shdlc_exchanged as core_exchanged, shdlc_aged as core_aged, shdlc_happens as core_happens}
-use Rattle.link_laws.specs.sessions.Sessions.{shdlc_happens_at_controller as core_happens_here, shdlc_all_at_controller as core_all_here}
-use Rattle.link_laws.specs.sessions.Sessions.{shdlc_after as core_after}
-use Rattle.link_laws.specs.sessions.Sessions.{ticks_or_cut as core_ticks_or_cut, ticks_if_waiting as core_ticks_if_waiting}
-use Rattle.link_laws.specs.sessions.Sessions.ShdlcLinkEvent.{AtController as CoreAtController, AtHost as CoreAtHost, Tick as CoreTick}
-use Rattle.link_laws.specs.sessions.Sessions.ShdlcLinkEvent.{TickWithout as CoreTickWithout}
-use Rattle.link_laws.specs.sessions.Losses.{is_act, sans, loses_aged}
-use Rattle.link_laws.specs.sessions.Settled.{sure_here, sure_turns, sure_tick, sure_if_waiting, sure_aged, sure_event, sure_after}
+use Rattle.link_laws.proofs.Words.{Activate, AllAllowed, AreOwn, AsksReset, AtController, AtHost, Bool, Controller, CoreAtController, CoreAtHost, CoreEndEvent}
+use Rattle.link_laws.proofs.Words.{CoreLink, CoreTurn, CutOff, End, EndEvent, Ending, Entry, GoesOut, HasTick, Host, IsAllowed, IsEvent, IsNode, IsStart, Link}
+use Rattle.link_laws.proofs.Words.{LinkEnd, LinkEvent, LinkTogether, List, Node, NumberedEnd, OnWire, Option, Reset, ShdlcLinkEvent as CoreLinkEvent, Some}
+use Rattle.link_laws.proofs.Words.{Step, Tick as CoreTick, TickWithout as CoreTickWithout, Ticks, TicksWithout, Turn, [], after_input, after_link_events, aged}
+use Rattle.link_laws.proofs.Words.{aged_entries, all_at_controller, ap, core_after, core_aged, core_all, core_all_here, core_event, core_events}
+use Rattle.link_laws.proofs.Words.{core_happens_here, core_here, core_of, core_tick, core_tick_rest, core_ticks_if_waiting, core_ticks_or_cut, core_turns}
+use Rattle.link_laws.proofs.Words.{ended_by, entries, entries_of_events, event_entries, exchanged, false, first_entries, happens, happens_at_controller}
+use Rattle.link_laws.proofs.Words.{here_entries, is_act, is_open, is_some, is_waiting, list_any, loses_aged, map, nat_lt, not, refl, rest_entries, sans}
+use Rattle.link_laws.proofs.Words.{shdlc_exchanged as core_exchanged, shdlc_happens as core_happens, subst, sure_after, sure_aged, sure_event, sure_here}
+use Rattle.link_laws.proofs.Words.{sure_if_waiting, sure_tick, sure_turns, sym, tick_entries, ticks_at_controller, told_of, true, true≢false, turned}
+use Rattle.link_laws.proofs.Words.{with_ended, withholds, ℕ, ◌++◌, ◌∙◌, ◌∷◌, ◌≡◌}
 use Rattle.link_laws.proofs.sessions.Steps.{safe_aged, safe_exchanged}
-use Rattle.link_laws.specs.machine.Machine.{LinkEnd, Turn, is_open, after_input, ended_by, turned}
-use Rattle.link_laws.specs.machine.Machine.LinkInput.{Tick as HasTick, Reset}
-use Rattle.link_laws.specs.messages.Links.{NumberedEnd, Link, Ending, Node, IsStart, EndEvent, LinkEvent, exchanged, with_ended}
-use Rattle.link_laws.specs.messages.Links.{happens_at_controller, happens}
-use Rattle.link_laws.specs.messages.Links.{all_at_controller, ticks_at_controller, aged, after_link_events, IsNode, IsAllowed, AreOwn, IsEvent, AllAllowed}
-use Rattle.link_laws.specs.messages.Links.Ending.{GoesOut, CutOff}
-use Rattle.link_laws.specs.messages.Links.Comes.{AsksReset}
-use Rattle.link_laws.specs.messages.Links.EndEvent.{Step}
-use Rattle.link_laws.specs.messages.Links.LinkEvent.{AtController, AtHost, Ticks, TicksWithout, Activate}
-use Rattle.link_laws.specs.messages.Projection.{core_of, core_here, core_all, core_turns, core_tick, core_tick_rest, core_event, core_events}
-use Rattle.link_laws.specs.messages.Settled.{AreUpTogether as LinkTogether}
 use Rattle.link_laws.proofs.messages.Project.{Tells, turned_role, moved_role, host_ended as ended_host}
 use Rattle.link_laws.proofs.messages.Finishing.{reset_tells, step_tick, tick_open, all_here-append}
 use Rattle.link_laws.proofs.messages.Quiet.{up_together}
 use Rattle.link_laws.proofs.messages.Runs.{Good, Reached, safe_reached, rests_of, own_here, all_step, event_step, step_here, tells_same}
-use Rattle.link_laws.specs.entries.Entries.{End, Entry, told_of, rest_entries, here_entries, entries_of_events, aged_entries, tick_entries}
-use Rattle.link_laws.specs.entries.Entries.{event_entries, entries}
-use Rattle.link_laws.specs.entries.Entries.{first_entries}
-use Rattle.link_laws.specs.entries.Entries.End.{Controller, Host}
-use Rattle.link_laws.specs.entries.Settled.{withholds, FindsReady, IsReset, rest_of}
-use Rattle.link_laws.proofs.entries.Running.{before_here, before_there, host_here, Noted, IsInTick, near_in_tick, own_step, own_in_tick}
-use Rattle.link_laws.proofs.entries.Running.{after_tick, without_tick}
-use Rattle.link_laws.proofs.entries.Running.{IsUnderWay, goes_on, start_under_way}
+use Rattle.link_laws.specs.entries.Settled.{FindsReady, IsReset, rest_of}
+use Rattle.link_laws.proofs.entries.Running.{before_here, before_there, host_here, Noted, IsInTick, near_in_tick, own_step, own_in_tick, after_tick}
+use Rattle.link_laws.proofs.entries.Running.{without_tick, IsUnderWay, goes_on, start_under_way}
 use Rattle.link_laws.proofs.entries.Noting.{reset_role}
 use Rattle.link_laws.proofs.entries.Stepping.{host_finished}
 use Rattle.link_laws.proofs.entries.Sparing.{spoils, Spared, Stands, or_none, spared_parts, stands_parts, none_withholds, rest_sure, tick_sure}

@@ -1,14 +1,9 @@
 -- What shows that an unacknowledged fragment will be answered in time: it, its answer or the answer that is due.
-use Rattle.std.proofs.Common.{◌≡◌, ℕ, ◌+◌, ◌<◌, ◌≤◌, ◌==◌, Bool, true, false, cond, List, [], ◌∷◌, ◌++◌, ◌⊎◌, inl, inr, refl, ap, arith}
-use Rattle.std.proofs.lemmas.Bool.{eqb-true, eqb-false}
-use Rattle.swp_base.specs.declared.control_frames.Kind.{Kind}
-use Rattle.swp_base.specs.declared.control_frames.Kind.TheVariants.{Rr, Rej, Rnr, Srej}
-use Rattle.swp_base.specs.declared.control_frames.Control.{Control}
-use Rattle.swp_base.specs.declared.control_frames.Control.TheVariants.{I, S, Rset, Ua, Act, Clt}
-use Rattle.shdlc_core.specs.declared.answers.Due.{Due}
-use Rattle.shdlc_core.specs.declared.answers.Due.TheVariants.{Rr as Rr_due, Rej as Rej_due, Rnr as Rnr_due, Rset as Rset_due, Ua as Ua_due}
-use Rattle.shdlc_core.specs.Machine.{Fragment}
-use Rattle.link_laws.specs.places.Wire.{OnWire, older, with_frame}
+use Rattle.std.proofs.Common.{◌==◌}
+use Rattle.link_laws.proofs.Words.{Act, Bool, Clt, Control, Due, Fragment, I, Kind, List, Rej, Rej_due, Rnr, Rnr_due, Rr, Rr_due, Rset, Rset_due, S, Srej, Ua}
+use Rattle.link_laws.proofs.Words.{Ua_due, [], ap, arith, cond, eqb-false, eqb-true, false, inl, inr, refl, true, with_frame, ℕ, ◌++◌, ◌+◌, ◌<◌, ◌∷◌, ◌≡◌, ◌≤◌}
+use Rattle.link_laws.proofs.Words.{◌⊎◌}
+use Rattle.link_laws.specs.places.Wire.{OnWire, older}
 use Rattle.link_laws.proofs.places.Marks.{Shows, last_count}
 use Rattle.link_laws.proofs.places.Whole.{AnswersOnly}
 use Rattle.link_laws.proofs.sessions.Wire.{Young, young_later}

@@ -1,40 +1,29 @@
 -- Two ends that are Up in one session and the wires between them, where nothing was lost: how each thing that one end does
 -- keeps its timer in time.
-use Rattle.std.proofs.Common.{◌≡◌, ℕ, ◌+◌, ◌%◌, ◌<◌, ◌≤◌, ◌==◌, Bool, true, false, ◌&&◌, ◌||◌, not, List, [], ◌∷◌, ◌++◌, Option, Some, None, refl, sym, subst}
-use Rattle.std.proofs.Common.{◌∙◌, ◌⊎◌, inl, inr, ⊎_elim, arith, length, length-append, max}
-use Rattle.std.specs.Prelude.{slice_get, nat_lt}
-use Rattle.std.proofs.lemmas.Bool.{eq-eqb, ne_eqb, ltb-true, ltb-false, lt-ltb, le-ltb, and_parts, and_from, or_parts, or_cases, or_right, cases_lt, true≢false}
-use Rattle.std.proofs.lemmas.Bool.{not-true}
-use Rattle.std.proofs.lemmas.Option.{slice_get_within}
-use Rattle.swp_base.specs.declared.control_frames.Kind.{Kind}
-use Rattle.swp_base.specs.declared.control_frames.Kind.TheVariants.{Rr, Rej, Rnr}
-use Rattle.swp_base.specs.declared.control_frames.Control.{Control}
-use Rattle.swp_base.specs.declared.control_frames.Control.TheVariants.{I, S, Rset, Ua, Act, Clt}
-use Rattle.shdlc_core.specs.declared.answers.LinkState.TheVariants.{Up}
-use Rattle.shdlc_core.specs.declared.answers.Due.{Due}
-use Rattle.shdlc_core.specs.declared.answers.Due.TheVariants.{Rr as Rr_due, Rej as Rej_due, Rnr as Rnr_due, Rset as Rset_due, Ua as Ua_due}
-use Rattle.shdlc_core.specs.Machine.{EndState, Session, Fragment, place_of, acknowledged, ahead, taken, take_answer, ticked, tick_answer, sent_again}
-use Rattle.shdlc_core.specs.Machine.{with_ready, put_out, fetched, frame_due, fragment_due, expected, control_due, sent_next, ready_again, rejected, made_busy}
-use Rattle.shdlc_core.specs.Machine.{runs_timer}
-use Rattle.shdlc_core.proofs.Histories.{fragment_due-within}
-use Rattle.link_laws.specs.places.Wire.{OnWire, older, with_frame}
+use Rattle.std.proofs.Common.{◌==◌, ◌&&◌, not, max}
+use Rattle.std.proofs.lemmas.Bool.{le-ltb, or_cases, or_right}
+use Rattle.link_laws.proofs.Words.{Act, Bool, Clt, Control, Due, EndState, Fragment, I, Kind, List, None, Option, Rej, Rej_due, Rnr, Rnr_due, Rr, Rr_due, Rset}
+use Rattle.link_laws.proofs.Words.{Rset_due, S, Session, Some, Ua, Ua_due, Up, [], acknowledged, ahead, and_from, and_parts, arith, cases_lt, control_due}
+use Rattle.link_laws.proofs.Words.{eq-eqb, expected, false, fetched, fragment_due, fragment_due-within, frame_due, inl, inr, length, length-append, lt-ltb}
+use Rattle.link_laws.proofs.Words.{ltb-false, ltb-true, made_busy, nat_lt, ne_eqb, not-true, or_parts, place_of, put_out, ready_again, refl, rejected}
+use Rattle.link_laws.proofs.Words.{runs_timer, sent_again, sent_next, slice_get, slice_get_within, subst, sym, take_answer, taken, tick_answer, ticked, true}
+use Rattle.link_laws.proofs.Words.{true≢false, with_frame, with_ready, ℕ, ⊎_elim, ◌%◌, ◌++◌, ◌+◌, ◌<◌, ◌||◌, ◌∙◌, ◌∷◌, ◌≡◌, ◌≤◌, ◌⊎◌}
+use Rattle.link_laws.specs.places.Wire.{OnWire, older}
 use Rattle.link_laws.proofs.places.Numbers.{place_found, ahead_same, ahead_other}
 use Rattle.link_laws.proofs.places.Marks.{reduced, counts_le, shows_push, shows_older}
 use Rattle.link_laws.proofs.places.Flows.{flows_number}
 use Rattle.link_laws.proofs.places.Whole.{AnswersOnly, push_not_empty}
 use Rattle.link_laws.proofs.places.Delivered.{past_end}
-use Rattle.link_laws.proofs.places.Joined.{Joined, Sends, changed, ready_cases, received_cases, taken_I, taken_S, not_expected, gap_behind}
-use Rattle.link_laws.proofs.places.Joined.{fetch_cases, with_next}
-use Rattle.link_laws.proofs.places.Joined.{joined_exchanged, joined_put, joined_ready, joined_ticked, joined_older, joined_taken, joined_fetched}
+use Rattle.link_laws.proofs.places.Joined.{Joined, Sends, changed, ready_cases, received_cases, taken_I, taken_S, not_expected, gap_behind, fetch_cases}
+use Rattle.link_laws.proofs.places.Joined.{with_next, joined_exchanged, joined_put, joined_ready, joined_ticked, joined_older, joined_taken, joined_fetched}
 use Rattle.link_laws.proofs.sessions.Wire.{Young, young_push, young_later}
 use Rattle.link_laws.proofs.lifetimes.SameMarks.{Within, Shown, shown, within_push, marks_are, marks_exchanged}
 use Rattle.link_laws.proofs.lifetimes.Evidence.{Answers, DueBy, RewindDue, RewindBy, NoSrej, due_push, due_more, due_new_rr, due_new_rnr, rewind_due_push}
 use Rattle.link_laws.proofs.lifetimes.Evidence.{rewind_due_rnr}
 use Rattle.link_laws.proofs.lifetimes.Timely.{Timely, MaySend, AnswersAll, TookFragment, answers_same, answers_pushed, same_or_below, timely_acked}
-use Rattle.link_laws.proofs.lifetimes.Timely.{timely_rewound}
-use Rattle.link_laws.proofs.lifetimes.Timely.{timely_answering, timely_kept, timely_past, timely_received, timely_put, timely_changed, timely_answer}
-use Rattle.link_laws.proofs.lifetimes.Timely.{timely_answer_I}
-use Rattle.link_laws.proofs.lifetimes.Timely.{timely_send, timely_send_S, timely_older, in_time, timely_counted, timely_still, timely_probe}
+use Rattle.link_laws.proofs.lifetimes.Timely.{timely_rewound, timely_answering, timely_kept, timely_past, timely_received, timely_put, timely_changed}
+use Rattle.link_laws.proofs.lifetimes.Timely.{timely_answer, timely_answer_I, timely_send, timely_send_S, timely_older, in_time, timely_counted, timely_still}
+use Rattle.link_laws.proofs.lifetimes.Timely.{timely_probe}
 
 -- kn and kf ticks have passed that the near and the far end have still to count
 pub record Lasts (kn kf : ℕ) (near far : EndState) (to_near to_far : List OnWire) : Type 0 where

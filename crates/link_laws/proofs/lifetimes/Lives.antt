@@ -1,24 +1,17 @@
 -- Each event without a loss keeps both timers in time.
-use Rattle.std.proofs.Common.{◌≡◌, ℕ, ◌≤◌, Bool, true, false, ◌||◌, List, [], ◌∷◌, Some, None, refl, ap, sym, subst, ◌∙◌, inl, arith, length}
-use Rattle.std.specs.Prelude.{is_some, nat_lt}
-use Rattle.std.proofs.lemmas.Bool.{or_parts, true≢false, ltb-true}
-use mathlib.Core.List.{IsPrefix}
-use Rattle.swp_base.specs.declared.control_frames.Control.{Control}
-use Rattle.swp_base.specs.declared.control_frames.Control.TheVariants.{I, S, Rset, Ua, Act, Clt}
-use Rattle.shdlc_core.specs.declared.answers.LinkState.TheVariants.{Up}
-use Rattle.shdlc_core.specs.Machine.{EndState, begun, new_end, taken, take_answer, ticked, tick_answer, fetched, frame_due, frames_of, most_frames}
-use Rattle.link_laws.specs.places.Wire.{OnWire, with_frame, fits, is_act, sans, overflows, loses_aged, aged_wire, older}
+use Rattle.link_laws.proofs.Words.{Act, Bool, Clt, Control, CoreAtController as AtController, CoreAtHost as AtHost, CoreDeliver as Deliver}
+use Rattle.link_laws.proofs.Words.{CoreEndEvent as ShdlcEndEvent, CoreLink as ShdlcLink, CoreTurn as ShdlcTurn, EndState, I, List, Losses, None, NumberedShdlc}
+use Rattle.link_laws.proofs.Words.{Offer, Rset, S, SetReady, ShdlcLinkEvent, Some, Tick, TickWithout, Turns, Ua, Up, [], ap, arith, begun, came_up}
+use Rattle.link_laws.proofs.Words.{core_after as shdlc_after, core_aged as shdlc_aged, core_all_here as shdlc_all_at_controller}
+use Rattle.link_laws.proofs.Words.{core_happens_here as shdlc_happens_at_controller, core_turned as shdlc_turned, core_with_ended as with_shdlc_ended, false}
+use Rattle.link_laws.proofs.Words.{fetched, frame_due, frames_of, inl, is_some, length, losses_after, ltb-true, most_frames, nat_lt, new_end, no_losses}
+use Rattle.link_laws.proofs.Words.{noted_aged, noted_all, noted_event, noted_here, noted_loss, noted_out, noted_tick, noted_turns, or_parts, refl}
+use Rattle.link_laws.proofs.Words.{shdlc_becomes, shdlc_exchanged, shdlc_happens, shdlc_put, shdlc_put_all, shdlc_ticks_at_controller, shdlc_turn, start, subst}
+use Rattle.link_laws.proofs.Words.{sym, take_answer, taken, tick_answer, ticked, took_with, true, true≢false, with_frame, ℕ, ◌||◌, ◌∙◌, ◌∷◌, ◌≡◌, ◌≤◌}
+use Rattle.link_laws.specs.places.Wire.{OnWire, fits, is_act, sans, overflows, loses_aged, aged_wire, older}
 use Rattle.link_laws.proofs.places.Marks.{Shows, Counts}
 use Rattle.link_laws.proofs.places.Joined.{joined_weaker}
 use Rattle.link_laws.proofs.places.Idle.{few_taken, idle_after, left, no_due}
-use Rattle.link_laws.specs.sessions.Sessions.{NumberedShdlc, ShdlcLink, shdlc_exchanged, shdlc_put, shdlc_put_all, shdlc_becomes, with_shdlc_ended, took_with}
-use Rattle.link_laws.specs.sessions.Sessions.{shdlc_happens_at_controller, shdlc_ticks_at_controller, shdlc_aged, ShdlcEndEvent, shdlc_all_at_controller}
-use Rattle.link_laws.specs.sessions.Sessions.{ShdlcLinkEvent, shdlc_happens, shdlc_after, start, ShdlcTurn, shdlc_turn, shdlc_turned}
-use Rattle.link_laws.specs.sessions.Sessions.ShdlcTurn.{Offer, SetReady}
-use Rattle.link_laws.specs.sessions.Sessions.ShdlcEndEvent.{Turns, Deliver}
-use Rattle.link_laws.specs.sessions.Sessions.ShdlcLinkEvent.{AtController, AtHost, Tick, TickWithout}
-use Rattle.link_laws.specs.sessions.Losses.{Losses, no_losses, noted_loss, noted_all, noted_out, came_up, noted_here, noted_turns, noted_tick, noted_aged}
-use Rattle.link_laws.specs.sessions.Losses.{noted_event, losses_after}
 use Rattle.link_laws.proofs.sessions.Wire.{IsData, Young, young_later, young_older}
 use Rattle.link_laws.proofs.sessions.Steps.{not_rset, took_other}
 use Rattle.link_laws.proofs.sessions.Ties.{Meets, IsNew, new_meets, data_due, sends_noted, offer_up, few_turns}
@@ -27,6 +20,7 @@ use Rattle.link_laws.specs.lifetimes.Lifetime.{IsAnew, BeginsAnew, OnlyTurns, Is
 use Rattle.link_laws.proofs.lifetimes.Timely.{Timely}
 use Rattle.link_laws.proofs.lifetimes.Lasts.{Lasts, lasts_of, lasts_exchanged, lasts_put, lasts_ready, lasts_ticked, lasts_older, lasts_taken, lasts_fetched}
 use Rattle.link_laws.proofs.lifetimes.Lasts.{no_probe, ticked-due}
+use mathlib.Core.List.{IsPrefix}
 
 -- ## Wires that show marks
 

@@ -1,8 +1,5 @@
 -- The marks that a wire shows between two ends are the only ones: each number stands for one of at most eight places.
-use Rattle.std.proofs.Common.{◌≡◌, ℕ, ◌+◌, ◌%◌, ◌<◌, ◌≤◌, List, [], ◌∷◌, ◌++◌, refl, ap, sym, ◌∙◌, arith, length}
-use Rattle.swp_base.specs.declared.control_frames.Control.{Control}
-use Rattle.swp_base.specs.declared.control_frames.Control.TheVariants.{I, S}
-use Rattle.shdlc_core.specs.Machine.{EndState, Fragment}
+use Rattle.link_laws.proofs.Words.{Control, EndState, Fragment, I, List, S, [], ap, arith, length, refl, sym, ℕ, ◌%◌, ◌++◌, ◌+◌, ◌<◌, ◌∙◌, ◌∷◌, ◌≡◌, ◌≤◌}
 use Rattle.link_laws.specs.places.Wire.{OnWire}
 use Rattle.link_laws.proofs.places.Marks.{reduced, Shows, Counts, Places, counts_le}
 use Rattle.link_laws.proofs.places.Joined.{Joined, Sends}

@@ -1,23 +1,18 @@
 -- One sender, its receiver and the wires between them, where nothing was lost: the sender's timer never comes to ten while
 -- something is sent and unacknowledged, and at most one try is made. The near end is the sender.
-use Rattle.std.proofs.Common.{◌≡◌, ℕ, ◌+◌, ◌<◌, ◌≤◌, ◌==◌, Bool, true, false, cond, List, [], ◌∷◌, ◌++◌, ◌⊎◌, inl, inr, ⊎_elim, refl, sym, ◌∙◌, arith, length}
-use Rattle.std.proofs.Common.{length-append, max}
-use Rattle.std.proofs.lemmas.Bool.{cases_eq, cases_lt, true≢false}
-use Rattle.swp_base.specs.declared.control_frames.Kind.{Kind}
-use Rattle.swp_base.specs.declared.control_frames.Control.{Control}
-use Rattle.swp_base.specs.declared.control_frames.Control.TheVariants.{I, S}
-use Rattle.shdlc_core.specs.declared.answers.Due.{Due}
-use Rattle.shdlc_core.specs.Machine.{EndState, Fragment, Session, put_out, sent_again, sent_next}
-use Rattle.link_laws.specs.places.Wire.{OnWire, older, with_frame}
+use Rattle.std.proofs.Common.{◌==◌, max}
+use Rattle.link_laws.proofs.Words.{Bool, Control, Due, EndState, Fragment, I, Kind, List, S, Session, [], arith, cases_eq, cases_lt, cond, false, inl, inr}
+use Rattle.link_laws.proofs.Words.{length, length-append, put_out, refl, sent_again, sent_next, sym, true, true≢false, with_frame, ℕ, ⊎_elim, ◌++◌, ◌+◌, ◌<◌}
+use Rattle.link_laws.proofs.Words.{◌∙◌, ◌∷◌, ◌≡◌, ◌≤◌, ◌⊎◌}
+use Rattle.link_laws.specs.places.Wire.{OnWire, older}
 use Rattle.link_laws.proofs.places.Marks.{Shows, last_count, last_count_push_I, last_count_push_S}
 use Rattle.link_laws.proofs.places.Whole.{AnswersOnly, push_not_empty}
 use Rattle.link_laws.proofs.places.Joined.{changed}
 use Rattle.link_laws.proofs.sessions.Wire.{Young}
-use Rattle.link_laws.proofs.lifetimes.Evidence.{Answers, SentBy, AnswerBy, DueBy, RewindDue, RewindBy, NoSrej, OnlyAcks, course_of, sent_push}
-use Rattle.link_laws.proofs.lifetimes.Evidence.{sent_new, answer_push}
-use Rattle.link_laws.proofs.lifetimes.Evidence.{answer_new, sent_older, answer_older, sent_in_time, answer_in_time, rewind_push, rewind_new, no_srej_push}
-use Rattle.link_laws.proofs.lifetimes.Evidence.{no_srej_rest, only_acks, course_from, course_push, course_push_S, course_shows, last_answers, rewind_answers}
-use Rattle.link_laws.proofs.lifetimes.Evidence.{rewind_due_answers, due_answers, due_push, rewind_due_push}
+use Rattle.link_laws.proofs.lifetimes.Evidence.{Answers, SentBy, AnswerBy, DueBy, RewindDue, RewindBy, NoSrej, OnlyAcks, course_of, sent_push, sent_new}
+use Rattle.link_laws.proofs.lifetimes.Evidence.{answer_push, answer_new, sent_older, answer_older, sent_in_time, answer_in_time, rewind_push, rewind_new}
+use Rattle.link_laws.proofs.lifetimes.Evidence.{no_srej_push, no_srej_rest, only_acks, course_from, course_push, course_push_S, course_shows, last_answers}
+use Rattle.link_laws.proofs.lifetimes.Evidence.{rewind_answers, rewind_due_answers, due_answers, due_push, rewind_due_push}
 
 -- one of three ways, each of which is kept
 each : {A B C D E F : Type 0} → A ⊎ (B ⊎ C) → (A → D) → (B → E) → (C → F) → D ⊎ (E ⊎ F)

@@ -1,19 +1,10 @@
 -- Messages that came at an end are kept until they are fetched.
-use Rattle.std.proofs.Common.{◌≡◌, ℕ, Bool, true, false, cond, [], ◌++◌, refl, sym, ◌∙◌, append-nil}
-use Rattle.std.specs.Prelude.{is_some, Option, Some, None}
-use Rattle.swp_base.specs.declared.control_frames.Control.{Control}
-use Rattle.swp_base.specs.declared.control_frames.Control.TheVariants.{I, S, Rset, Ua, Act as ActFrame, Clt}
-use Rattle.swp_base.specs.declared.control_frames.Act.{Act}
-use Rattle.swp_base.specs.declared.link_terms.Cause.TheVariants.{Asked}
-use Rattle.swp_act.specs.declared.ActEvent.{ActEvent}
-use Rattle.swp_act.specs.declared.ActEvent.TheVariants.{Take as ActTake}
-use Rattle.shdlc_core.specs.declared.answers.LinkState.{LinkState}
-use Rattle.shdlc_core.specs.declared.answers.LinkState.TheVariants.{Down, Waiting, Up}
-use Rattle.shdlc_core.specs.Machine.{EndState, taken, reset_with}
-use Rattle.link_laws.specs.machine.Machine.{LinkEnd, Refused, is_open, is_faulty, act_answer, role_after, with_act, moved, put_down, activated, heard, took}
-use Rattle.link_laws.specs.machine.Machine.{news}
-use Rattle.link_laws.specs.machine.Machine.{brought, reset_refusal, if_up, window_of, after_input}
-use Rattle.link_laws.specs.machine.Machine.LinkInput.{Reset}
+use Rattle.std.specs.Prelude.{Option, Some, None}
+use Rattle.link_laws.proofs.Words.{Act as ActFrame, ActEvent, ActTake, Activation as Act, Asked, Bool, Clt, Control, Down, EndState, I, LinkEnd, LinkState}
+use Rattle.link_laws.proofs.Words.{Refused, Reset, Rset, S, Ua, Up, Waiting, [], act_answer, activated, after_input, append-nil, cond, false, heard, if_up}
+use Rattle.link_laws.proofs.Words.{is_faulty, is_open, is_some, moved, news, put_down, refl, reset_refusal, reset_with, role_after, sym, taken, took, true}
+use Rattle.link_laws.proofs.Words.{window_of, with_act, ℕ, ◌++◌, ◌∙◌, ◌≡◌}
+use Rattle.link_laws.specs.machine.Machine.{brought}
 
 pub moved_got : (e : LinkEnd) (b : Bool) (s : EndState) → (moved e b s).got ≡ e.got
 moved_got e true s = refl

@@ -1,30 +1,15 @@
 -- ACT frames stand in their places among the control frames that are due, and frames fetched one by one are all that are due.
-use Rattle.std.proofs.Common.{◌≡◌, ℕ, zero, suc, ◌+◌, ◌-◌, ◌≤◌, Bool, true, false, List, [], ◌∷◌, ◌++◌, length, take, drop, map, Option, Some, None, refl, ap}
-use Rattle.std.proofs.Common.{sym, subst, ◌∙◌, arith, length-append}
-use Rattle.std.proofs.lemmas.Bool.{eqb-true}
-use Rattle.std.proofs.lemmas.List.{length-map}
-use Rattle.std.specs.Prelude.{nat_lt, is_some, not, ◌==◌}
-use Rattle.swp_base.specs.declared.link_terms.Cause.TheVariants.{Asked}
-use Rattle.swp_base.specs.declared.control_frames.Kind.{Kind}
-use Rattle.swp_base.specs.declared.control_frames.Kind.TheVariants.{Rr, Rej, Rnr, Srej}
-use Rattle.swp_base.specs.declared.control_frames.Control.{Control}
-use Rattle.swp_base.specs.declared.control_frames.Control.TheVariants.{I, S, Rset, Ua, Act, Clt}
-use Rattle.swp_base.specs.declared.control_frames.Act.{Act as Activation}
-use Rattle.swp_act.specs.declared.ActEvent.{ActEvent}
-use Rattle.swp_act.specs.declared.ActEvent.TheVariants.{Start as ActStart, Take as ActTake, Tick as ActTick, Stop as ActStop}
-use Rattle.shdlc_core.specs.declared.answers.LinkState.{LinkState}
-use Rattle.shdlc_core.specs.declared.answers.LinkState.TheVariants.{Down, Waiting, Up}
-use Rattle.shdlc_core.specs.declared.answers.Due.{Due}
-use Rattle.shdlc_core.specs.declared.answers.Due.TheVariants.{Rr as Rr_due, Rej as Rej_due, Rnr as Rnr_due, Rset as Rset_due, Ua as Ua_due}
-use Rattle.shdlc_core.specs.Machine.{EndState, Fragment, taken, take_answer, ticked, tick_answer, place_of, acknowledged, ahead, received, runs_timer}
-use Rattle.shdlc_core.specs.Machine.{reset_with, stopped, with_ready, fetched, frame_due, fragment_due, frames_of, after_frames, most_frames, control_due}
-use Rattle.link_laws.specs.machine.Machine.{LinkEnd, Role, ActDue, Turn, LinkInput, Refused, new_link_end, is_faulty, is_open, role_after, act_answer, with_act}
-use Rattle.link_laws.specs.machine.Machine.{in_front, moved, put_down, activated, give_refusal, aside_refusal, turn, reset_refusal, if_up, reset_by, window_of}
-use Rattle.link_laws.specs.machine.Machine.{heard, took, had_tick, among, next_frame, frame_fetched, nearer, frames_out, sent_all, after_input, after_inputs}
-use Rattle.link_laws.specs.machine.Machine.Role.{Bare, Clf, Uicc}
-use Rattle.link_laws.specs.machine.Machine.Turn.{Give, Hold, FetchMessage, SetAside, Release}
-use Rattle.link_laws.specs.machine.Machine.LinkInput.{Take, TakeUnknown, TakeBroken, Tick, Reset, Start, Stop, FromNode, Fetch}
-use Rattle.link_laws.specs.machine.Laws.{end_after, fetches, after_fetches, most_fetches}
+use Rattle.link_laws.proofs.Words.{Act, ActDue, ActEvent, ActStart, ActStop, ActTake, ActTick, Activation, Asked, Bare, Bool, Clf, Clt, Control, Down, Due}
+use Rattle.link_laws.proofs.Words.{EndState, Fetch, FetchMessage, Fragment, FromNode, Give, HasTick as Tick, Hold, I, Kind, LinkEnd, LinkInput, LinkState, List}
+use Rattle.link_laws.proofs.Words.{None, Option, Refused, Rej, Rej_due, Release, Reset, Rnr, Rnr_due, Role, Rr, Rr_due, Rset, Rset_due, S, SetAside, Some, Srej}
+use Rattle.link_laws.proofs.Words.{Start, Stop, Take, TakeBroken, TakeUnknown, Turn, Ua, Ua_due, Uicc, Up, Waiting, [], acknowledged, act_answer, activated}
+use Rattle.link_laws.proofs.Words.{after_frames, after_input, after_inputs, ahead, among, ap, arith, aside_refusal, control_due, drop, end_after, eqb-true}
+use Rattle.link_laws.proofs.Words.{false, fetched, fragment_due, frame_due, frame_fetched, frames_of, frames_out, give_refusal, had_tick, heard, if_up}
+use Rattle.link_laws.proofs.Words.{in_front, is_faulty, is_open, is_some, length, length-append, length-map, map, most_frames, moved, nat_lt, nearer}
+use Rattle.link_laws.proofs.Words.{new_link_end, next_frame, not, place_of, put_down, received, refl, reset_by, reset_refusal, reset_with, role_after}
+use Rattle.link_laws.proofs.Words.{runs_timer, sent_all, stopped, subst, suc, sym, take, take_answer, taken, tick_answer, ticked, took, true, turn, window_of}
+use Rattle.link_laws.proofs.Words.{with_act, with_ready, zero, ℕ, ◌++◌, ◌+◌, ◌-◌, ◌==◌, ◌∙◌, ◌∷◌, ◌≡◌, ◌≤◌}
+use Rattle.link_laws.specs.machine.Laws.{fetches, after_fetches, most_fetches}
 
 -- each stands behind as many as the one before it, or more, and behind no more than are due
 abbrev pub Placed : ℕ → List ActDue → ℕ → Type 0

@@ -1,25 +1,12 @@
 -- What an input does to the session of an end is what its report tells.
-use Rattle.std.proofs.Common.{◌≡◌, ℕ, ◌+◌, ◌-◌, Bool, true, false, cond, List, [], ◌++◌, length, take, drop, map, Option, Some, None, refl, ap, sym, subst, ◌∙◌}
-use Rattle.std.proofs.Common.{arith}
-use Rattle.std.proofs.lemmas.Bool.{true≢false}
-use Rattle.std.proofs.lemmas.List.Elements.{filter-append}
-use Rattle.std.proofs.lemmas.Grind.{common_steps}
-use Rattle.std.specs.Prelude.{is_some, ◌&&◌}
-use Rattle.swp_base.specs.declared.control_frames.Control.{Control}
-use Rattle.swp_base.specs.declared.control_frames.Control.TheVariants.{I, S, Rset, Ua, Act, Clt}
-use Rattle.swp_base.specs.declared.control_frames.Act.{Act as Activation}
-use Rattle.swp_base.specs.declared.link_terms.Cause.TheVariants.{Asked, Chain, Act as ByAct}
-use Rattle.swp_act.specs.declared.ActEvent.{ActEvent}
-use Rattle.swp_act.specs.declared.ActEvent.TheVariants.{Start as ActStart, Take as ActTake, Tick as ActTick, Stop as ActStop}
-use Rattle.shdlc_core.specs.declared.answers.LinkState.{LinkState}
-use Rattle.shdlc_core.specs.declared.answers.LinkState.TheVariants.{Down, Waiting, Up}
-use Rattle.shdlc_core.specs.Machine.{EndState, Session, no_session, taken, take_answer, ticked, tick_answer, is_waiting, reset_with, stopped}
-use Rattle.hcp_packet.specs.Packets.{good_of, is_good}
-use Rattle.link_laws.specs.machine.Machine.{Message, LinkEnd, Role, LinkInput, is_faulty, messages_got, is_open, act_answer, role_after, with_act, in_front}
-use Rattle.link_laws.specs.machine.Machine.{moved}
-use Rattle.link_laws.specs.machine.Machine.{put_down, activated, heard, took, news, if_up, window_of, after_input, ended_by, ended_by_act, began_by, got_by}
-use Rattle.link_laws.specs.machine.Machine.{report}
-use Rattle.link_laws.specs.machine.Machine.LinkInput.{Take, Tick, Reset, Start, Stop}
+use Rattle.link_laws.proofs.Words.{Act, ActEvent, ActStart, ActStop, ActTake, ActTick, Activation, Asked, Bool, ByAct, Chain, Clt, Control, Down, EndState}
+use Rattle.link_laws.proofs.Words.{HasTick as Tick, I, LinkEnd, LinkInput, LinkState, List, Message, None, Option, Reset, Role, Rset, S, Session, Some, Start}
+use Rattle.link_laws.proofs.Words.{Stop, Take, Ua, Up, Waiting, [], act_answer, activated, after_input, ap, arith, began_by, common_steps, cond, drop, ended_by}
+use Rattle.link_laws.proofs.Words.{ended_by_act, false, filter-append, good_of, heard, if_up, in_front, is_faulty, is_good, is_open, is_some, is_waiting}
+use Rattle.link_laws.proofs.Words.{length, map, messages_got, moved, news, no_session, put_down, refl, report, reset_with, role_after, stopped, subst, sym}
+use Rattle.link_laws.proofs.Words.{take, take_answer, taken, tick_answer, ticked, took, true, true≢false, window_of, with_act, ℕ, ◌&&◌, ◌++◌, ◌+◌, ◌-◌, ◌∙◌}
+use Rattle.link_laws.proofs.Words.{◌≡◌}
+use Rattle.link_laws.specs.machine.Machine.{got_by}
 use Rattle.link_laws.proofs.machine.Shifts.{Shift, IsNotUp, same_shift, taken_shift, ticked_shift, reset_shift}
 use Rattle.link_laws.proofs.machine.Shifts.Shift.{Stays, Ends, Renews, Begins, Rests}
 use Rattle.link_laws.proofs.machine.Sound.{SentAfter}

@@ -1,36 +1,17 @@
 -- Each input keeps what is true of an end.
-use Rattle.std.proofs.Common.{◌≡◌, ℕ, suc, ◌+◌, ◌-◌, ◌<◌, ◌≤◌, Bool, true, false, cond, List, [], ◌∷◌, ◌++◌, length, take, drop, map, Option, Some, None, ◌⊎◌}
-use Rattle.std.proofs.Common.{inl, inr, refl, ap, sym, subst, ◌∙◌, arith, append-nil, length-append}
-use Rattle.std.proofs.lemmas.Bool.{true≢false, ltb-true, ltb-false}
-use Rattle.std.proofs.lemmas.List.Concat.{flat_map-append}
-use Rattle.std.proofs.lemmas.Grind.{common_steps}
-use Rattle.std.proofs.lemmas.Option.{slice_get_within}
-use Rattle.std.specs.Prelude.{nat_le, nat_lt, is_some, not, max, slice_get, ◌==◌}
-use Rattle.swp_base.specs.declared.control_frames.Control.{Control}
-use Rattle.swp_base.specs.declared.control_frames.Control.TheVariants.{I, S, Rset, Ua, Act, Clt}
-use Rattle.swp_base.specs.declared.control_frames.Act.{Act as Activation}
-use Rattle.swp_base.specs.declared.control_frames.Act.TheVariants.{Ready as ActReady, SyncId, PowerMode}
-use Rattle.swp_base.specs.declared.link_terms.Cause.TheVariants.{Asked, Act as ByAct}
-use Rattle.swp_act.specs.declared.ActEvent.{ActEvent}
-use Rattle.swp_act.specs.declared.ActEvent.TheVariants.{Start as ActStart, Take as ActTake, Tick as ActTick, Stop as ActStop}
-use Rattle.swp_act.specs.declared.Phase.{Phase}
-use Rattle.swp_act.specs.declared.Phase.TheVariants.{Inactive, Awaiting, Active}
-use Rattle.shdlc_core.specs.declared.answers.LinkState.{LinkState}
-use Rattle.shdlc_core.specs.declared.answers.LinkState.TheVariants.{Down, Waiting, Up}
-use Rattle.shdlc_core.specs.declared.answers.Due.{Due}
-use Rattle.shdlc_core.specs.declared.answers.Due.TheVariants.{Rr as Rr_due}
-use Rattle.shdlc_core.specs.Machine.{EndState, Session, Fragment, no_session, taken, take_answer, ticked, tick_answer, is_waiting, reset_with, stopped}
-use Rattle.shdlc_core.specs.Machine.{with_ready, fetched, frame_due, fragment_due, sent_next, begun, new_end}
-use Rattle.hcp_packet.specs.Packets.{packets_of, packet_count, packet_bytes, fragments_of, IsSendable}
-use Rattle.link_laws.specs.machine.Machine.{Message, LinkEnd, Role, ActDue, Turn, LinkInput, Refused, new_link_end, is_faulty, whole_among, need, need_of_all}
-use Rattle.link_laws.specs.machine.Machine.{in_use, spare, is_open, role_after, act_answer, with_act, in_front, moved, put_down, activated, started}
-use Rattle.link_laws.specs.machine.Machine.{deactivated}
-use Rattle.link_laws.specs.machine.Machine.{give_refusal, given, aside_refusal, turn, reset_refusal, if_up, reset_by, window_of, heard, took, had_tick}
-use Rattle.link_laws.specs.machine.Machine.{frame_fetched, nearer, after_input, after_inputs, news}
-use Rattle.link_laws.specs.machine.Machine.Role.{Bare, Clf, Uicc}
-use Rattle.link_laws.specs.machine.Machine.Turn.{Give, Hold, FetchMessage, SetAside, Release}
-use Rattle.link_laws.specs.machine.Machine.LinkInput.{Take, TakeUnknown, TakeBroken, Tick, Reset, Start, Stop, FromNode, Fetch}
-use Rattle.link_laws.specs.machine.Laws.{AreSendableInputs, is_shdlc}
+use Rattle.link_laws.proofs.Words.{Act, ActDue, ActEvent, ActReady, ActStart, ActStop, ActTake, ActTick, Activation, AreSendableInputs, Asked, Awaiting, Bare}
+use Rattle.link_laws.proofs.Words.{Bool, ByAct, Clf, Clt, Control, Down, Due, EndState, Fetch, FetchMessage, Fragment, FromNode, Give, HasTick as Tick, Hold, I}
+use Rattle.link_laws.proofs.Words.{Inactive, IsSendable, LinkEnd, LinkInput, LinkState, List, Message, None, Option, Phase, PowerMode, Refused, Release, Reset}
+use Rattle.link_laws.proofs.Words.{Role, Rr_due, Rset, S, Session, SetAside, Some, Start, Stop, SyncId, Take, TakeBroken, TakeUnknown, Turn, Ua, Uicc, Up}
+use Rattle.link_laws.proofs.Words.{Waiting, [], act_answer, activated, after_input, after_inputs, ap, append-nil, arith, aside_refusal, begun, common_steps}
+use Rattle.link_laws.proofs.Words.{cond, deactivated, drop, false, fetched, flat_map-append, fragment_due, fragments_of, frame_due, frame_fetched, give_refusal}
+use Rattle.link_laws.proofs.Words.{given, had_tick, heard, if_up, in_front, in_use, inl, inr, is_faulty, is_open, is_shdlc, is_some, is_waiting, length}
+use Rattle.link_laws.proofs.Words.{length-append, ltb-false, ltb-true, map, max, moved, nat_le, nat_lt, nearer, need, need_of_all, new_end, new_link_end, news}
+use Rattle.link_laws.proofs.Words.{no_session, not, packet_bytes, packet_count, packets_of, put_down, refl, reset_by, reset_refusal, reset_with, role_after}
+use Rattle.link_laws.proofs.Words.{sent_next, slice_get, slice_get_within, spare, started, stopped, subst, suc, sym, take, take_answer, taken, tick_answer}
+use Rattle.link_laws.proofs.Words.{ticked, took, true, true≢false, turn, whole_among, window_of, with_act, with_ready, ℕ, ◌++◌, ◌+◌, ◌-◌, ◌<◌, ◌==◌, ◌∙◌, ◌∷◌}
+use Rattle.link_laws.proofs.Words.{◌≡◌, ◌≤◌, ◌⊎◌}
+use Rattle.swp_act.specs.declared.Phase.TheVariants.{Active}
 use Rattle.link_laws.proofs.machine.Shifts.{Shift, IsNotUp, same_shift, taken_shift, ticked_shift, reset_shift, stopped_shift}
 use Rattle.link_laws.proofs.machine.Sound.{Data, SentAfter, shifted, need_more, need_less, whole_given, whole_few}
 

@@ -1,18 +1,12 @@
 -- What each thing that comes to an SHDLC end does to its session: it goes on, ends, begins, or there is none.
-use Rattle.std.proofs.Common.{◌≡◌, ℕ, ◌+◌, ◌<◌, ◌≤◌, Bool, true, false, List, [], ◌∷◌, ◌++◌, Option, Some, None, refl, ap, sym, subst, ◌∙◌, arith, append-nil}
-use Rattle.std.specs.Prelude.{nat_lt, is_some, option_to_list, ◌==◌, min}
-use Rattle.std.proofs.lemmas.Bool.{true≢false}
-use Rattle.swp_base.specs.declared.link_terms.Cause.{Cause}
-use Rattle.swp_base.specs.declared.control_frames.Kind.{Kind}
-use Rattle.swp_base.specs.declared.control_frames.Kind.TheVariants.{Rr, Rej, Rnr, Srej}
-use Rattle.swp_base.specs.declared.control_frames.Control.{Control}
-use Rattle.swp_base.specs.declared.control_frames.Control.TheVariants.{I, S, Rset, Ua, Act, Clt}
-use Rattle.shdlc_core.specs.declared.answers.LinkState.{LinkState}
-use Rattle.shdlc_core.specs.declared.answers.LinkState.TheVariants.{Down, Waiting, Up}
-use Rattle.shdlc_core.specs.Machine.{EndState, Session, Fragment, new_session, no_session, taken, take_answer, ticked, tick_answer, place_of, acknowledged}
-use Rattle.shdlc_core.specs.Machine.{received, fragment_accepted, runs_timer, is_waiting, reset_with, stopped, with_ready}
-use Rattle.shdlc_core.proofs.Histories.{place_of-within, received-phase, received-acked, received-sending, received-accepted}
-use Rattle.link_laws.specs.machine.Machine.{if_up}
+use Rattle.std.specs.Prelude.{min}
+use Rattle.link_laws.proofs.Words.{Act, Bool, Cause, Clt, Control, Down, EndState, Fragment, I, Kind, LinkState, List, None, Option, Rej, Rnr, Rr, Rset, S}
+use Rattle.link_laws.proofs.Words.{Session, Some, Srej, Ua, Up, Waiting, [], acknowledged, ap, append-nil, arith, false, if_up, is_some, is_waiting, nat_lt}
+use Rattle.link_laws.proofs.Words.{new_session, no_session, option_to_list, place_of, received, received-phase, received-sending, refl, reset_with, runs_timer}
+use Rattle.link_laws.proofs.Words.{stopped, subst, sym, take_answer, taken, tick_answer, ticked, true, true≢false, with_ready, ℕ, ◌++◌, ◌+◌, ◌<◌, ◌==◌, ◌∙◌}
+use Rattle.link_laws.proofs.Words.{◌∷◌, ◌≡◌, ◌≤◌}
+use Rattle.shdlc_core.specs.Machine.{fragment_accepted}
+use Rattle.shdlc_core.proofs.Histories.{place_of-within, received-acked, received-accepted}
 
 -- the session goes on: what is sent stays, what is acknowledged and what was accepted grow
 pub record GoesOn (e f : EndState) : Type 0 where

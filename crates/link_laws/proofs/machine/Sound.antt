@@ -1,16 +1,10 @@
 -- What is true of an end after any inputs.
-use Rattle.std.proofs.Common.{◌≡◌, ℕ, zero, suc, ◌+◌, ◌-◌, ◌<◌, ◌≤◌, Bool, true, false, List, [], ◌∷◌, ◌++◌, length, take, drop, map, Option, Some, None, refl}
-use Rattle.std.proofs.Common.{ap, sym, subst, ◌∙◌, arith, append-nil, length-append}
-use Rattle.std.proofs.lemmas.Bool.{true≢false, leb-true, leb-false, ltb-true, ltb-false}
-use Rattle.std.proofs.lemmas.List.{length-map}
-use Rattle.std.proofs.lemmas.List.Concat.{flat_map-append}
-use Rattle.std.specs.Prelude.{nat_le, nat_lt, is_some, not}
-use Rattle.shdlc_core.specs.declared.answers.LinkState.{LinkState}
-use Rattle.shdlc_core.specs.declared.answers.LinkState.TheVariants.{Down, Waiting, Up}
-use Rattle.shdlc_core.specs.Machine.{EndState, Session, no_session}
-use Rattle.hcp_packet.specs.Packets.{packets_of, packet_count, packet_bytes, fragments_of, IsSendable, AreSendable}
-use Rattle.hcp_packet.proofs.Joining.{packets_are_counted}
-use Rattle.link_laws.specs.machine.Machine.{Message, LinkEnd, whole_among, whole_acked, need, need_of_all, in_use, spare}
+use Rattle.std.proofs.lemmas.Bool.{leb-true}
+use Rattle.link_laws.proofs.Words.{AreSendable, Bool, Down, EndState, IsSendable, LinkEnd, LinkState, List, Message, None, Option, Session, Some, Up, Waiting}
+use Rattle.link_laws.proofs.Words.{[], ap, append-nil, arith, drop, false, flat_map-append, fragments_of, in_use, is_some, leb-false, length, length-append}
+use Rattle.link_laws.proofs.Words.{length-map, ltb-false, ltb-true, map, nat_le, nat_lt, need, need_of_all, no_session, not, packet_bytes, packet_count}
+use Rattle.link_laws.proofs.Words.{packets_are_counted, packets_of, refl, spare, subst, suc, sym, take, true, true≢false, whole_acked, whole_among, zero, ℕ}
+use Rattle.link_laws.proofs.Words.{◌++◌, ◌+◌, ◌-◌, ◌<◌, ◌∙◌, ◌∷◌, ◌≡◌, ◌≤◌}
 use Rattle.link_laws.proofs.machine.Shifts.{Shift, GoesOn, IsNotUp, IsNew}
 use Rattle.link_laws.proofs.machine.Shifts.Shift.{Stays, Ends, Renews, Begins, Rests}
 

@@ -1,28 +1,14 @@
 -- What the laws of the machine say, from what is true of an end after any inputs.
-use Rattle.std.proofs.Common.{◌≡◌, ℕ, suc, ◌+◌, ◌-◌, ◌<◌, ◌≤◌, Bool, true, false, cond, List, [], ◌∷◌, ◌++◌, length, take, drop, map, Option, Some, None, refl}
-use Rattle.std.proofs.Common.{ap, sym, subst, ◌∙◌, arith, append-nil}
-use Rattle.std.proofs.lemmas.Bool.{true≢false}
-use Rattle.std.proofs.lemmas.Grind.{common_steps}
-use Rattle.std.specs.Prelude.{nat_le, nat_lt, is_some, ◌==◌}
-use Rattle.swp_base.specs.declared.control_frames.Control.{Control}
-use Rattle.swp_base.specs.declared.control_frames.Control.TheVariants.{I, S, Rset, Ua, Act, Clt}
-use Rattle.swp_base.specs.declared.link_terms.Cause.{Cause}
-use Rattle.swp_base.specs.declared.link_terms.Cause.TheVariants.{Asked, Chain, Act as ByAct}
-use Rattle.swp_act.specs.declared.ActEvent.{ActEvent}
-use Rattle.swp_act.specs.declared.ActEvent.TheVariants.{Start as ActStart, Take as ActTake, Tick as ActTick, Stop as ActStop}
-use Rattle.shdlc_core.specs.declared.answers.LinkState.{LinkState}
-use Rattle.shdlc_core.specs.declared.answers.LinkState.TheVariants.{Down, Waiting, Up}
-use Rattle.shdlc_core.specs.declared.answers.Due.{Due}
-use Rattle.shdlc_core.specs.declared.answers.Due.TheVariants.{Rr as Rr_due, Rej as Rej_due, Rnr as Rnr_due, Rset as Rset_due, Ua as Ua_due}
-use Rattle.shdlc_core.specs.Machine.{EndState, Session, no_session, taken, take_answer, ticked, tick_answer, is_waiting, reset_with, stopped, frame_due}
-use Rattle.hcp_packet.specs.Packets.{fragments_of}
-use Rattle.link_laws.specs.machine.Machine.{Message, LinkEnd, Role, ActDue, LinkInput, Refused, is_faulty, messages_got, whole_among, whole_acked, in_use}
-use Rattle.link_laws.specs.machine.Machine.{spare}
-use Rattle.link_laws.specs.machine.Machine.{is_open, act_answer, role_after, with_act, moved, put_down, activated, started, deactivated, heard, took, had_tick}
-use Rattle.link_laws.specs.machine.Machine.{news}
-use Rattle.link_laws.specs.machine.Machine.{reset_refusal, if_up, reset_by, window_of, next_frame, after_input, ended_by, ended_by_act}
-use Rattle.link_laws.specs.machine.Machine.LinkInput.{Take, TakeUnknown, TakeBroken, Tick, Reset, Start, Stop, FromNode, Fetch}
-use Rattle.link_laws.specs.machine.Laws.{AreSendableInputs, Forgets, IsNone, end_after, is_fragment, is_shdlc}
+use Rattle.link_laws.proofs.Words.{Act, ActDue, ActEvent, ActStart, ActStop, ActTake, ActTick, AreSendableInputs, Asked, Bool, ByAct, Cause, Chain, Clt}
+use Rattle.link_laws.proofs.Words.{Control, Down, Due, EndState, Fetch, FromNode, HasTick as Tick, I, LinkEnd, LinkInput, LinkState, List, Message, None}
+use Rattle.link_laws.proofs.Words.{Option, Refused, Rej_due, Reset, Rnr_due, Role, Rr_due, Rset, Rset_due, S, Session, Some, Start, Stop, Take, TakeBroken}
+use Rattle.link_laws.proofs.Words.{TakeUnknown, Ua, Ua_due, Up, Waiting, [], act_answer, activated, after_input, ap, append-nil, arith, common_steps, cond}
+use Rattle.link_laws.proofs.Words.{deactivated, drop, end_after, ended_by, ended_by_act, false, fragments_of, frame_due, had_tick, heard, if_up, in_use}
+use Rattle.link_laws.proofs.Words.{is_faulty, is_open, is_shdlc, is_some, is_waiting, length, map, messages_got, moved, nat_le, nat_lt, news, next_frame}
+use Rattle.link_laws.proofs.Words.{no_session, put_down, refl, reset_by, reset_refusal, reset_with, role_after, spare, started, stopped, subst, suc, sym, take}
+use Rattle.link_laws.proofs.Words.{take_answer, taken, tick_answer, ticked, took, true, true≢false, whole_acked, whole_among, window_of, with_act, ℕ, ◌++◌, ◌+◌}
+use Rattle.link_laws.proofs.Words.{◌-◌, ◌<◌, ◌==◌, ◌∙◌, ◌∷◌, ◌≡◌, ◌≤◌}
+use Rattle.link_laws.specs.machine.Laws.{Forgets, IsNone, is_fragment}
 use Rattle.link_laws.proofs.machine.Shifts.{Shift, IsNotUp, IsNew, taken_shift, ticked_shift, reset_shift}
 use Rattle.link_laws.proofs.machine.Shifts.Shift.{Stays, Ends, Renews, Begins, Rests}
 use Rattle.link_laws.proofs.machine.Sound.{Data, whole_few, whole_acked_before}

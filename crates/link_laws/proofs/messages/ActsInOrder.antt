@@ -1,29 +1,14 @@
 -- Frames of activation on the wires of a link: an active CLF never meets ACT_SYNC_ID.
-use Rattle.std.proofs.Common.{◌≡◌, ℕ, zero, suc, Bool, true, false, cond, List, [], ◌∷◌, ◌++◌, length, drop, Option, Some, None, ◌⊎◌, inl, inr, refl, ap, sym}
-use Rattle.std.proofs.Common.{subst, ◌∙◌}
-use Rattle.std.specs.Prelude.{◌+◌, nat_lt, nat_le}
-use Rattle.std.proofs.lemmas.Bool.{true≢false}
-use Rattle.swp_base.specs.declared.control_frames.Control.{Control}
-use Rattle.swp_base.specs.declared.control_frames.Control.TheVariants.{I, S, Rset, Ua, Act, Clt}
-use Rattle.swp_base.specs.declared.control_frames.Act.{Act as Activation}
-use Rattle.swp_base.specs.declared.control_frames.Act.TheVariants.{Ready as ActReady, SyncId, PowerMode}
-use Rattle.swp_act.specs.declared.ActEvent.TheVariants.{Start as ActStart, Take as ActTake, Tick as ActTick, Stop as ActStop}
-use Rattle.swp_act.specs.declared.Phase.{Phase}
-use Rattle.swp_act.specs.declared.Phase.TheVariants.{Inactive, Awaiting, Active}
+use Rattle.std.specs.Prelude.{◌+◌}
+use Rattle.link_laws.proofs.Words.{Act, ActOut, ActReady, ActStart, ActStop, ActTake, ActTick, Activation, Awaiting, Bare, Bool, CanStart, Clf, ClfAct, Clt}
+use Rattle.link_laws.proofs.Words.{Control, Down, Due, EndState, I, IfLine, Inactive, Link, LinkEnd, List, None, OnWire, Option, Phase, PowerMode, Rej_due}
+use Rattle.link_laws.proofs.Words.{Rnr_due, Role, Rr_due, Rset, Rset_due, S, Some, SyncId, Ua, Ua_due, Uicc, [], act_answer, act_frame, aged_wire, ap, cond}
+use Rattle.link_laws.proofs.Words.{control_due, drop, false, fetched, fits, frame_due, frames_of, inl, inr, is_act, is_active, is_open, length, nat_le, nat_lt}
+use Rattle.link_laws.proofs.Words.{put, put_all, refl, renewed, role_after, subst, suc, sym, true, true≢false, zero, ℕ, ◌++◌, ◌∙◌, ◌∷◌, ◌≡◌, ◌⊎◌}
+use Rattle.swp_act.specs.declared.Phase.TheVariants.{Active}
 use Rattle.swp_act.specs.declared.uicc.UiccAct.{UiccAct}
-use Rattle.swp_act.specs.declared.clf.ClfAct.{ClfAct}
-use Rattle.swp_act.specs.declared.ActOut.{ActOut}
-use Rattle.swp_act.specs.Activation.{is_active, no_act_out, sends, clf_step, uicc_step, phase_ticked}
-use Rattle.shdlc_core.specs.declared.answers.LinkState.TheVariants.{Down}
-use Rattle.shdlc_core.specs.declared.answers.Due.{Due}
-use Rattle.shdlc_core.specs.declared.answers.Due.TheVariants.{Rr as Rr_due, Rej as Rej_due, Rnr as Rnr_due, Rset as Rset_due, Ua as Ua_due}
-use Rattle.shdlc_core.specs.Machine.{EndState, frame_due, frames_of, fetched, control_due}
+use Rattle.swp_act.specs.Activation.{no_act_out, sends, clf_step, uicc_step, phase_ticked}
 use Rattle.link_laws.proofs.places.Joined.{fetch_cases}
-use Rattle.link_laws.specs.sessions.Sessions.{OnWire, fits, aged_wire, act_frame}
-use Rattle.link_laws.specs.sessions.Losses.{is_act}
-use Rattle.link_laws.specs.machine.Machine.{LinkEnd, Role, role_after, act_answer, is_open, renewed}
-use Rattle.link_laws.specs.machine.Machine.Role.{Bare, Clf, Uicc}
-use Rattle.link_laws.specs.messages.Links.{Link, put, put_all, IfLine, CanStart}
 
 -- ## Frames on a wire
 

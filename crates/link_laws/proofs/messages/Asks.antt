@@ -1,21 +1,11 @@
 -- Where an end doesn't wait it has no RSET to send, and frames that are none give a link no number.
-use Rattle.std.proofs.Common.{◌≡◌, ℕ, zero, suc, Bool, true, false, List, [], ◌∷◌, ◌++◌, Option, Some, None, refl, ap, sym, ◌∙◌}
-use Rattle.std.specs.Prelude.{◌+◌, ◌==◌, nat_lt}
-use Rattle.std.proofs.lemmas.Bool.{true≢false}
-use Rattle.swp_base.specs.declared.control_frames.Kind.{Kind}
-use Rattle.swp_base.specs.declared.control_frames.Kind.TheVariants.{Rr, Rej, Rnr, Srej}
-use Rattle.swp_base.specs.declared.control_frames.Control.{Control}
-use Rattle.swp_base.specs.declared.control_frames.Control.TheVariants.{I, S, Rset, Ua, Act, Clt}
-use Rattle.shdlc_core.specs.declared.answers.LinkState.{LinkState}
-use Rattle.shdlc_core.specs.declared.answers.LinkState.TheVariants.{Down, Waiting, Up}
-use Rattle.shdlc_core.specs.declared.answers.Due.{Due}
-use Rattle.shdlc_core.specs.declared.answers.Due.TheVariants.{Rr as Rr_due, Rej as Rej_due, Rnr as Rnr_due, Rset as Rset_due, Ua as Ua_due}
-use Rattle.shdlc_core.specs.Machine.{EndState, Fragment, fetched, frame_due, frames_of, control_due, taken, ticked, is_waiting, place_of, acknowledged}
-use Rattle.shdlc_core.specs.Machine.{received, runs_timer}
+use Rattle.std.specs.Prelude.{◌+◌}
+use Rattle.link_laws.proofs.Words.{Act, Bool, Clt, Control, CoreTurn as ShdlcTurn, Down, Due, EndState, Fragment, I, Kind, Link, LinkState, List, None, Offer}
+use Rattle.link_laws.proofs.Words.{Option, Rej, Rej_due, Rnr, Rnr_due, Rr, Rr_due, Rset, Rset_due, S, SetReady, Some, Srej, Ua, Ua_due, Up, Waiting, []}
+use Rattle.link_laws.proofs.Words.{acknowledged, ap, control_due, core_turned as shdlc_turned, false, fetched, frame_due, frames_of, is_rset, is_waiting}
+use Rattle.link_laws.proofs.Words.{nat_lt, place_of, put, put_all, received, refl, runs_timer, shdlc_turn, suc, sym, taken, ticked, true, true≢false, zero, ℕ}
+use Rattle.link_laws.proofs.Words.{◌++◌, ◌==◌, ◌∙◌, ◌∷◌, ◌≡◌}
 use Rattle.link_laws.proofs.places.Joined.{fetch_cases, ready_cases, received_cases}
-use Rattle.link_laws.specs.sessions.Sessions.{ShdlcTurn, is_rset, shdlc_turn, shdlc_turned}
-use Rattle.link_laws.specs.sessions.Sessions.ShdlcTurn.{Offer, SetReady}
-use Rattle.link_laws.specs.messages.Links.{Link, put, put_all}
 use Rattle.link_laws.proofs.sessions.Ties.{turn-phase as turn_phase}
 
 -- it is an RSET

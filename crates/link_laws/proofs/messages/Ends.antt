@@ -1,15 +1,8 @@
 -- What an SHDLC end has to send over each thing that may happen to it.
-use Rattle.std.proofs.Common.{◌≡◌, ℕ, zero, suc, Bool, true, false, [], Option, Some, None, refl, sym, ◌∙◌}
-use Rattle.std.specs.Prelude.{nat_lt, is_some, ◌+◌, ◌==◌}
-use Rattle.swp_base.specs.declared.control_frames.Kind.{Kind}
-use Rattle.swp_base.specs.declared.control_frames.Kind.TheVariants.{Rr, Rej, Rnr, Srej}
-use Rattle.swp_base.specs.declared.control_frames.Control.{Control}
-use Rattle.swp_base.specs.declared.control_frames.Control.TheVariants.{I, S, Rset, Ua, Act, Clt}
-use Rattle.shdlc_core.specs.declared.answers.LinkState.{LinkState}
-use Rattle.shdlc_core.specs.declared.answers.LinkState.TheVariants.{Down, Waiting, Up}
-use Rattle.shdlc_core.specs.Machine.{EndState, Fragment, fetched, after_frames, with_ready, taken, take_answer, ticked, tick_answer, place_of, acknowledged}
-use Rattle.shdlc_core.specs.Machine.{runs_timer}
-use Rattle.shdlc_core.proofs.Histories.{received-phase, received-sending}
+use Rattle.std.specs.Prelude.{◌+◌}
+use Rattle.link_laws.proofs.Words.{Act, Bool, Clt, Control, Down, EndState, Fragment, I, Kind, LinkState, None, Option, Rej, Rnr, Rr, Rset, S, Some, Srej, Ua}
+use Rattle.link_laws.proofs.Words.{Up, Waiting, [], acknowledged, after_frames, false, fetched, is_some, nat_lt, place_of, received-phase, received-sending}
+use Rattle.link_laws.proofs.Words.{refl, runs_timer, suc, sym, take_answer, taken, tick_answer, ticked, true, with_ready, zero, ℕ, ◌==◌, ◌∙◌, ◌≡◌}
 use Rattle.link_laws.proofs.places.Joined.{fetch_cases, ready_cases}
 
 -- an end without a session has nothing

@@ -1,24 +1,9 @@
 -- The definitions compute the worked examples, with activation, cuts and turns.
-use Rattle.std.proofs.Common.{None, ◌≡◌, refl, ℕ, suc, zero, true, false, List, [], ◌∷◌, ◌++◌, map, Some}
-use Rattle.swp_base.specs.declared.control_frames.Control.TheVariants.{I, S, Rset, Act}
-use Rattle.swp_base.specs.declared.control_frames.Act.TheVariants.{Ready}
-use Rattle.swp_base.specs.declared.control_frames.Kind.TheVariants.{Rr}
-use Rattle.shdlc_core.specs.declared.answers.LinkState.TheVariants.{Down, Up}
-use Rattle.swp_act.specs.Activation.{new_clf, new_uicc}
-use Rattle.link_laws.specs.sessions.Sessions.{OnWire}
-use Rattle.link_laws.specs.machine.Machine.{Message, Turn, messages_got, is_open, LinkEnd, LinkInput, new_link_end, after_input, turned, ended_by, report}
-use Rattle.link_laws.specs.machine.Machine.{spare}
-use Rattle.link_laws.specs.machine.Machine.LinkInput.{Take}
-use Rattle.swp_base.specs.declared.link_terms.Cause.TheVariants.{Chain}
-use Rattle.link_laws.specs.machine.Machine.Role.{Bare, Clf, Uicc}
-use Rattle.link_laws.specs.machine.Machine.Turn.{Give, Hold}
-use Rattle.link_laws.specs.messages.Quiet.{losses_of, IsQuiet}
-use Rattle.link_laws.specs.messages.Links.{Link, EndEvent, Node, LinkEvent, new_link, after_link_events, number_of, talk_of}
-use Rattle.link_laws.specs.messages.Links.Ending.{GoesOut, CutOff}
-use Rattle.link_laws.specs.messages.Links.Comes.{NextFrame, AsksReset, NoInput}
-use Rattle.link_laws.specs.messages.Links.Loss.{OnDemand}
-use Rattle.link_laws.specs.messages.Links.EndEvent.{Step, Lose}
-use Rattle.link_laws.specs.messages.Links.LinkEvent.{AtController, AtHost, Ticks, Activate}
+use Rattle.link_laws.proofs.Words.{Act, ActReady as Ready, Activate, AsksReset, AtController, AtHost, Bare, Chain, Clf, CutOff, Down, EndEvent, Give, GoesOut}
+use Rattle.link_laws.proofs.Words.{Hold, I, IsQuiet, Link, LinkEnd, LinkEvent, LinkInput, List, Lose, Message, NextFrame, NoInput, Node, None, OnDemand, OnWire}
+use Rattle.link_laws.proofs.Words.{Rr, Rset, S, Some, Step, Take, Ticks, Turn, Uicc, Up, [], after_input, after_link_events, ended_by, false, is_open}
+use Rattle.link_laws.proofs.Words.{losses_of, map, messages_got, new_clf, new_link, new_link_end, new_uicc, number_of, refl, report, spare, suc, talk_of, true}
+use Rattle.link_laws.proofs.Words.{turned, zero, ℕ, ◌++◌, ◌∷◌, ◌≡◌}
 
 abbrev bare : Link
 bare = new_link Bare Bare

@@ -1,52 +1,31 @@
 -- Each step of an end is projected, whether its frames go out or its node loses power before that.
-use Rattle.std.proofs.Common.{◌≡◌, ℕ, Bool, true, false, List, [], ◌∷◌, ◌++◌, Option, Some, None, ◌⊎◌, inl, inr, refl, ap, sym, subst, ◌∙◌}
-use Rattle.std.specs.Prelude.{◌+◌, ◌&&◌, nat_lt, is_some, option_to_list}
-use Rattle.std.proofs.lemmas.Bool.{true≢false}
-use Rattle.swp_base.specs.declared.control_frames.Control.{Control}
-use Rattle.swp_base.specs.declared.control_frames.Control.TheVariants.{I, S, Rset, Ua, Act, Clt}
-use Rattle.swp_base.specs.declared.control_frames.Act.{Act as Activation}
-use Rattle.swp_base.specs.declared.link_terms.Cause.TheVariants.{Asked}
-use Rattle.swp_act.specs.declared.ActEvent.{ActEvent}
-use Rattle.swp_act.specs.declared.ActEvent.TheVariants.{Take as ActTake, Tick as ActTick}
-use Rattle.swp_act.specs.declared.Phase.{Phase}
-use Rattle.swp_act.specs.declared.Phase.TheVariants.{Inactive, Awaiting, Active}
-use Rattle.shdlc_core.specs.declared.answers.LinkState.{LinkState}
-use Rattle.shdlc_core.specs.declared.answers.LinkState.TheVariants.{Down, Waiting, Up}
-use Rattle.shdlc_core.specs.Machine.{EndState, frame_due, frames_of, after_frames, most_frames, taken, take_answer, ticked, tick_answer, reset_with, is_waiting}
-use Rattle.shdlc_core.specs.Machine.{runs_timer, stopped, new_end, no_session}
-use Rattle.hcp_packet.specs.Packets.{fragments_of}
+use Rattle.std.specs.Prelude.{◌+◌}
+use Rattle.link_laws.proofs.Words.{Act, ActEvent, ActTake, ActTick, Activation, AreSendableTurns, Asked, AsksReset, Awaiting, Bare, Bool, CanEnd, Clf, Clt}
+use Rattle.link_laws.proofs.Words.{Control, CoreActs, CoreDeliver, CoreEndEvent, CoreLink, CoreStop, CoreTurn, CutOff, Down, EndState, Ending, GoesOut}
+use Rattle.link_laws.proofs.Words.{HasTick as Tick, I, IfLine, Inactive, Link, LinkEnd, LinkState, List, NextFrame, None, NumberedEnd, OnWire, Option, Phase}
+use Rattle.link_laws.proofs.Words.{Refused, Role, Rset, S, Some, Turn, Turns as CoreTurns, Ua, Uicc, Up, Waiting, [], act_answer, activated, after_frames}
+use Rattle.link_laws.proofs.Words.{after_input, among, ap, becomes, core_all_here, core_ending, core_happens_here, core_of, core_reset, core_step, core_take}
+use Rattle.link_laws.proofs.Words.{core_tick, core_tick_rest, core_ticks_or_cut, core_turned, core_turns, core_with_ended, cut, ended_by, ended_by_act}
+use Rattle.link_laws.proofs.Words.{ended_by_frame, false, finished, fragments_of, frame_due, frames_of, frames_out, has_restarted, has_taken, heard, if_up, inl}
+use Rattle.link_laws.proofs.Words.{inr, is_faulty, is_lost_tick, is_open, is_some, is_up, is_waiting, most_frames, moved, nat_lt, new_end, new_link_end}
+use Rattle.link_laws.proofs.Words.{no_session, option_to_list, put_all, put_down, refl, renewed, reset_by, reset_refusal, reset_with, role_after, runs_timer}
+use Rattle.link_laws.proofs.Words.{sent_all, shdlc_becomes as core_becomes, shdlc_put_all as core_put_all, shdlc_silent as core_silent}
+use Rattle.link_laws.proofs.Words.{shdlc_ticks_at_controller as core_ticks_here, silent, steps_at_controller, stopped, subst, sym, take_answer, taken}
+use Rattle.link_laws.proofs.Words.{tick_answer, ticked, ticks_at_controller, took, took_with, true, true≢false, turned, window_of, with_controller, with_ended}
+use Rattle.link_laws.proofs.Words.{with_shdlc_controller as core_with_controller, ℕ, ◌&&◌, ◌++◌, ◌∙◌, ◌∷◌, ◌≡◌, ◌⊎◌}
+use Rattle.swp_act.specs.declared.Phase.TheVariants.{Active}
 use Rattle.link_laws.proofs.places.Idle.{after_frames_idle}
-use Rattle.link_laws.specs.sessions.Sessions.{OnWire, ShdlcLink as CoreLink, ShdlcTurn as CoreTurn, ShdlcEndEvent as CoreEndEvent}
-use Rattle.link_laws.specs.sessions.Sessions.{shdlc_turned as core_turned, is_up}
-use Rattle.link_laws.specs.sessions.Sessions.{shdlc_put_all as core_put_all, shdlc_becomes as core_becomes, with_shdlc_ended as core_with_ended}
-use Rattle.link_laws.specs.sessions.Sessions.{with_shdlc_controller as core_with_controller, shdlc_silent as core_silent}
-use Rattle.link_laws.specs.sessions.Sessions.{shdlc_happens_at_controller as core_happens_here, shdlc_all_at_controller as core_all_here}
-use Rattle.link_laws.specs.sessions.Sessions.{shdlc_ticks_at_controller as core_ticks_here, ticks_or_cut as core_ticks_or_cut, took_with}
-use Rattle.link_laws.specs.sessions.Sessions.ShdlcEndEvent.{Turns as CoreTurns, Deliver as CoreDeliver, Acts as CoreActs, Stop as CoreStop}
-use Rattle.link_laws.specs.machine.Machine.{LinkEnd, Role, Turn, Refused, is_faulty, is_open, role_after, act_answer, moved, put_down, activated, heard, took}
-use Rattle.link_laws.specs.machine.Machine.{renewed, new_link_end, reset_refusal, if_up, reset_by, window_of, turned, after_input, among, frames_out, sent_all}
-use Rattle.link_laws.specs.machine.Machine.{ended_by, ended_by_act, ended_by_frame}
-use Rattle.link_laws.specs.machine.Machine.LinkInput.{Tick}
-use Rattle.link_laws.specs.machine.Machine.Role.{Bare, Clf, Uicc}
-use Rattle.link_laws.specs.messages.Links.{NumberedEnd, Link, Ending, becomes, put_all, with_controller, with_ended, silent, cut, finished}
-use Rattle.link_laws.specs.messages.Links.{has_taken, has_restarted}
-use Rattle.link_laws.specs.messages.Links.{steps_at_controller, ticks_at_controller, AreSendableTurns, IfLine, CanEnd}
-use Rattle.link_laws.specs.messages.Links.Ending.{GoesOut, CutOff}
-use Rattle.link_laws.specs.messages.Links.Comes.{NextFrame, AsksReset}
-use Rattle.link_laws.specs.messages.Projection.{core_of, core_turns, core_take, core_ending, core_reset, core_restart, core_step, is_lost_tick, core_tick}
-use Rattle.link_laws.specs.messages.Projection.{core_tick_rest}
+use Rattle.link_laws.specs.messages.Projection.{core_restart}
 use Rattle.link_laws.proofs.messages.Asks.{NoAsk, NoRset, none_due, no_rset, turned_asks, taken_asks, ticked_asks, turned_phase, puts_none}
 use Rattle.link_laws.proofs.messages.ActsInOrder.{ActsInOrder, LinkInOrder, IsPolite, with_sent, in_order_cut, in_order_tick}
 use Rattle.link_laws.proofs.messages.Ends.{Idle, Keeps, ticked_keeps, frames_alike}
-use Rattle.link_laws.proofs.messages.Project.{Mid, Now, mid_moved, moved_role, frames_now, among_now, Tells, Step, step_same, step_turned}
-use Rattle.link_laws.proofs.messages.Project.{step_moved, turns_mid}
-use Rattle.link_laws.proofs.messages.Project.{turned_role, past_ended, host_ended}
+use Rattle.link_laws.proofs.messages.Project.{Mid, Now, mid_moved, moved_role, frames_now, among_now, Tells, Step, step_same, step_turned, step_moved}
+use Rattle.link_laws.proofs.messages.Project.{turns_mid, turned_role, past_ended, host_ended}
 use Rattle.link_laws.proofs.machine.Runs.{opened}
 use Rattle.link_laws.proofs.machine.Reports.{shdlc_is as shdlc_moved}
 use Rattle.link_laws.proofs.sessions.Steps.{took as core_took}
-use Rattle.link_laws.proofs.messages.Steps.{FromHost, Rests, is_shdlc, heard_end, heard_is, mid_counted, took_open, took_closed, no_fault_first}
-use Rattle.link_laws.proofs.messages.Steps.{polite, role_closes}
-use Rattle.link_laws.proofs.messages.Steps.{ComesFirst, step_first, stays_down, activated_role, act_mid, Acted, tick_closes, core_first}
+use Rattle.link_laws.proofs.messages.Steps.{FromHost, Rests, is_shdlc, heard_end, heard_is, mid_counted, took_open, took_closed, no_fault_first, polite}
+use Rattle.link_laws.proofs.messages.Steps.{role_closes, ComesFirst, step_first, stays_down, activated_role, act_mid, Acted, tick_closes, core_first}
 
 -- ## A step that is cut off
 

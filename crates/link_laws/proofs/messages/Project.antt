@@ -1,26 +1,15 @@
 -- A step of a link over messages is its projection's step, where no chain fault comes.
-use Rattle.std.proofs.Common.{◌≡◌, ℕ, ◌≤◌, Bool, true, false, List, [], ◌∷◌, ◌++◌, length, map, Option, Some, None, refl, ap, sym, subst, ◌∙◌, append-nil}
-use Rattle.std.specs.Prelude.{◌+◌, ◌-◌, nat_lt, not, drop, option_to_list}
-use Rattle.std.proofs.lemmas.Bool.{ltb-false}
-use Rattle.std.proofs.lemmas.List.Concat.{flat_map-append}
-use Rattle.swp_base.specs.declared.control_frames.Control.{Control}
-use Rattle.swp_base.specs.declared.control_frames.Control.TheVariants.{I, S, Rset, Ua, Act, Clt}
-use Rattle.swp_base.specs.declared.control_frames.Act.{Act as Activation}
-use Rattle.shdlc_core.specs.declared.answers.LinkState.{LinkState}
-use Rattle.shdlc_core.specs.declared.answers.LinkState.TheVariants.{Down, Waiting, Up}
-use Rattle.shdlc_core.specs.Machine.{EndState, frames_of, after_frames, most_frames, put_out}
-use Rattle.hcp_packet.specs.Packets.{packets_of, packet_bytes, fragments_of}
-use Rattle.link_laws.specs.sending.Sending.{IsShort, AreShort}
-use Rattle.link_laws.specs.sessions.Sessions.{OnWire, ShdlcLink as CoreLink, ShdlcTurn as CoreTurn, shdlc_turned as core_turned, shdlc_turn as core_turn_of}
-use Rattle.link_laws.specs.sessions.Sessions.{act_frame, shdlc_put as core_put, shdlc_put_all as core_put_all, shdlc_becomes as core_becomes}
-use Rattle.link_laws.specs.sessions.Sessions.{with_shdlc_ended as core_with_ended, with_shdlc_controller as core_with_controller}
-use Rattle.link_laws.specs.sessions.Sessions.ShdlcTurn.{Offer}
-use Rattle.link_laws.specs.machine.Machine.{Message, LinkEnd, Role, ActDue, Turn, Refused, is_open, moved, given, give_refusal, aside_refusal, turn, turned}
-use Rattle.link_laws.specs.machine.Machine.{among}
-use Rattle.link_laws.specs.machine.Machine.{frames_out, sent_all}
-use Rattle.link_laws.specs.machine.Machine.Turn.{Give, Hold, FetchMessage, SetAside, Release}
-use Rattle.link_laws.specs.messages.Links.{Talk, NumberedEnd, Link, talk_now, put, put_all, becomes, with_ended, AreSendableTurns}
-use Rattle.link_laws.specs.messages.Projection.{core_of, core_turn, core_turns}
+use Rattle.std.specs.Prelude.{◌+◌, ◌-◌, drop}
+use Rattle.link_laws.proofs.Words.{Act, ActDue, Activation, AreSendableTurns, AreShort, Bool, Clt, Control, CoreLink, CoreTurn, Down, EndState, FetchMessage}
+use Rattle.link_laws.proofs.Words.{Give, Hold, I, Link, LinkEnd, LinkState, List, Message, None, NumberedEnd, Offer, OnWire, Option, Refused, Release, Role}
+use Rattle.link_laws.proofs.Words.{Rset, S, SetAside, Some, Talk, Turn, Ua, Up, Waiting, [], act_frame, after_frames, among, ap, append-nil, aside_refusal}
+use Rattle.link_laws.proofs.Words.{becomes, core_of, core_turned, core_turns, core_with_ended, false, flat_map-append, fragments_of, frames_of, frames_out}
+use Rattle.link_laws.proofs.Words.{give_refusal, given, is_open, length, ltb-false, map, most_frames, moved, nat_lt, not, option_to_list, packet_bytes}
+use Rattle.link_laws.proofs.Words.{packets_of, put, put_all, put_out, refl, sent_all, shdlc_becomes as core_becomes, shdlc_put as core_put}
+use Rattle.link_laws.proofs.Words.{shdlc_put_all as core_put_all, shdlc_turn as core_turn_of, subst, sym, talk_now, true, turn, turned, with_ended}
+use Rattle.link_laws.proofs.Words.{with_shdlc_controller as core_with_controller, ℕ, ◌++◌, ◌∙◌, ◌∷◌, ◌≡◌, ◌≤◌}
+use Rattle.link_laws.specs.sending.Sending.{IsShort}
+use Rattle.link_laws.specs.messages.Projection.{core_turn}
 use Rattle.link_laws.proofs.messages.ActsInOrder.{ActsInOrder, LinkInOrder, with_sent, no_acts, in_order_put_all}
 use Rattle.link_laws.proofs.messages.Ends.{Idle, Keeps, ready_keeps, frames_alike}
 use Rattle.link_laws.proofs.sessions.Ties.{ready-phase as ready_phase}

@@ -1,23 +1,15 @@
 -- What was delivered where nothing was lost.
-use Rattle.std.proofs.Common.{◌≡◌, ℕ, suc, ◌+◌, ◌≤◌, ◌-◌, Bool, true, false, List, [], ◌∷◌, length, map, refl, ap, sym, subst, ◌∙◌, arith, length-append}
-use Rattle.std.proofs.Common.{append-nil}
-use Rattle.std.proofs.lemmas.List.{length-map}
-use Rattle.std.specs.Prelude.{nat_le}
-use Rattle.std.proofs.lemmas.Bool.{leb-false}
-use Rattle.hcp_packet.specs.Packets.{packets_of, packet_count, packet_bytes, fragments_of, good_of, good_messages_of}
-use Rattle.hcp_packet.proofs.Joining.{packets_are_counted, joined_again}
+use Rattle.link_laws.proofs.Words.{AllAllowed, AllDelivered, Bool, CoreAreUpTogether, CoreLink, FragmentsDelivered as CoreAllDelivered, IsQuiet}
+use Rattle.link_laws.proofs.Words.{IsShdlcQuiet as CoreIsQuiet, IsShdlcSettled as CoreIsSettled, IsStart, Link, LinkEvent, LinkTogether as AreUpTogether, List}
+use Rattle.link_laws.proofs.Words.{Message, Talk, [], after_link_events, ap, append-nil, arith, core_after, core_events, core_of, false, fragments_of}
+use Rattle.link_laws.proofs.Words.{good_messages_of, good_of, leb-false, length, length-append, length-map, losses_of, map, messages_got, nat_le, packet_bytes}
+use Rattle.link_laws.proofs.Words.{packet_count, packets_are_counted, packets_of, refl, subst, suc, sym, talk_now, true, whole_among, ℕ, ◌+◌, ◌-◌, ◌∙◌, ◌∷◌}
+use Rattle.link_laws.proofs.Words.{◌≡◌, ◌≤◌}
+use Rattle.hcp_packet.proofs.Joining.{joined_again}
 use Rattle.link_laws.proofs.sending.TakenLemmas.{all_given}
-use Rattle.link_laws.specs.places.Order.{FragmentsDelivered as CoreAllDelivered}
-use Rattle.link_laws.specs.sessions.Sessions.{ShdlcLink as CoreLink, shdlc_after as core_after}
-use Rattle.link_laws.specs.sessions.Losses.{IsShdlcQuiet as CoreIsQuiet}
-use Rattle.link_laws.specs.sessions.Settled.{IsShdlcSettled as CoreIsSettled, AreShdlcUpTogether as CoreAreUpTogether}
 use Rattle.link_laws.proofs.sessions.Quiet.{delivered_here, delivered_there}
 use Rattle.link_laws.proofs.sessions.Resets.{up_together as core_up_together}
-use Rattle.link_laws.specs.machine.Machine.{Message, messages_got, whole_among}
-use Rattle.link_laws.specs.messages.Links.{Talk, Link, LinkEvent, IsStart, after_link_events, talk_now, AllAllowed}
-use Rattle.link_laws.specs.messages.Projection.{core_of, core_events}
-use Rattle.link_laws.specs.messages.Quiet.{losses_of, IsQuiet, AllDelivered}
-use Rattle.link_laws.specs.messages.Settled.{sure_of, IsSettled, AreUpTogether}
+use Rattle.link_laws.specs.messages.Settled.{sure_of, IsSettled}
 use Rattle.link_laws.proofs.messages.Project.{Says}
 use Rattle.link_laws.proofs.messages.Whole.{from_start, core_starts, allowed, projected, sendable}
 

@@ -1,21 +1,13 @@
 -- No RSET of a link has a greater number than how many were put on it: neither those on its wires nor those that its ends sent and took.
-use Rattle.std.proofs.Common.{◌≡◌, ℕ, ◌+◌, ◌≤◌, Bool, true, false, cond, List, [], ◌∷◌, ◌++◌, drop, refl, arith}
-use Rattle.std.specs.Prelude.{nat_lt, length, is_some, max}
-use Rattle.swp_base.specs.declared.control_frames.Control.{Control}
-use Rattle.link_laws.specs.sessions.Sessions.{OnWire, is_rset, is_up, fits, aged_wire, took_with}
-use Rattle.link_laws.specs.machine.Machine.{LinkEnd, LinkInput, Turn, frames_out, sent_all, turned, after_input, ended_by, new_link_end, renewed}
-use Rattle.link_laws.specs.machine.Machine.{started, deactivated}
-use Rattle.link_laws.specs.machine.Machine.LinkInput.{Take, Tick, Reset}
-use Rattle.link_laws.specs.messages.Links.{NumberedEnd, Link, Ending, Comes, EndEvent, LinkEvent, IsStart, number_of, put, put_all, with_controller}
-use Rattle.link_laws.specs.messages.Links.{with_ended, silent, finished, has_input, has_taken, has_restarted, steps_at_controller, ticks_at_controller}
-use Rattle.link_laws.specs.messages.Links.{exchanged, aged, happens_at_controller, all_at_controller, happens, after_link_events}
-use Rattle.link_laws.specs.messages.Links.IsStart.{IsBare, IsLine}
-use Rattle.link_laws.specs.messages.Links.Ending.{GoesOut, CutOff}
-use Rattle.link_laws.specs.messages.Links.Comes.{NextFrame, AsksReset, Starts, Stops, NoInput}
-use Rattle.link_laws.specs.messages.Links.EndEvent.{Step, Lose}
-use Rattle.link_laws.specs.messages.Links.LinkEvent.{AtController, AtHost, Ticks, TicksWithout, Activate}
-use Rattle.link_laws.specs.entries.Entries.{left_after}
-use Rattle.link_laws.specs.messages.Rsets.{NumbersWithin, WireIsLow, EndIsLow, HasLowNumbers, rset_causes_in}
+use Rattle.std.specs.Prelude.{length}
+use Rattle.link_laws.proofs.Words.{Activate, AsksReset, AtController, AtHost, Bool, Comes, Control, CutOff, EndEvent, Ending, GoesOut, HasTick as Tick, IsBare}
+use Rattle.link_laws.proofs.Words.{IsLine, IsStart, Link, LinkEnd, LinkEvent, LinkInput, List, Lose, NextFrame, NoInput, NumberedEnd, OnWire, Reset, Starts}
+use Rattle.link_laws.proofs.Words.{Step, Stops, Take, Ticks, TicksWithout, Turn, [], after_input, after_link_events, aged, aged_wire, all_at_controller, arith}
+use Rattle.link_laws.proofs.Words.{cond, deactivated, drop, ended_by, exchanged, false, finished, fits, frames_out, happens, happens_at_controller, has_input}
+use Rattle.link_laws.proofs.Words.{has_restarted, has_taken, is_rset, is_some, is_up, left_after, max, nat_lt, new_link_end, number_of, put, put_all, refl}
+use Rattle.link_laws.proofs.Words.{renewed, rset_causes_in, sent_all, silent, started, steps_at_controller, ticks_at_controller, took_with, true, turned}
+use Rattle.link_laws.proofs.Words.{with_controller, with_ended, ℕ, ◌++◌, ◌+◌, ◌∷◌, ◌≡◌, ◌≤◌}
+use Rattle.link_laws.specs.messages.Rsets.{NumbersWithin, WireIsLow, EndIsLow, HasLowNumbers}
 use Rattle.link_laws.proofs.messages.RsetsOnLinks.{resets_of_run}
 
 -- ## Wires

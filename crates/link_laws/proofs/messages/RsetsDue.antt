@@ -1,30 +1,15 @@
 -- An end makes an RSET only in a tick and where a reset is asked for, one at most: no frame that it takes makes one, nor does its node.
-use Rattle.std.proofs.Common.{◌≡◌, ℕ, ◌+◌, ◌≤◌, ◌==◌, Bool, true, false, cond, List, [], ◌∷◌, ◌++◌, Option, Some, None, refl, arith}
-use Rattle.std.specs.Prelude.{nat_lt, is_some, not}
-use Rattle.swp_base.specs.declared.control_frames.Act.{Act}
-use Rattle.swp_base.specs.declared.control_frames.Kind.{Kind}
-use Rattle.swp_base.specs.declared.control_frames.Kind.TheVariants.{Rr, Rej, Rnr, Srej}
-use Rattle.swp_base.specs.declared.control_frames.Control.{Control}
-use Rattle.swp_base.specs.declared.control_frames.Control.TheVariants.{I, S, Rset, Ua, Act as ActFrame, Clt}
-use Rattle.swp_base.specs.declared.link_terms.Cause.TheVariants.{Asked}
-use Rattle.shdlc_core.specs.declared.answers.LinkState.{LinkState}
-use Rattle.shdlc_core.specs.declared.answers.LinkState.TheVariants.{Down, Waiting, Up}
-use Rattle.shdlc_core.specs.declared.answers.Due.{Due}
-use Rattle.shdlc_core.specs.declared.answers.Due.TheVariants.{Rr as Rr_due, Rej as Rej_due, Rnr as Rnr_due, Rset as Rset_due, Ua as Ua_due}
-use Rattle.shdlc_core.specs.Machine.{EndState, Fragment, taken, take_answer, ticked, tick_answer, place_of, acknowledged, received, is_waiting, reset_with}
-use Rattle.shdlc_core.specs.Machine.{waiting_from, due_left, stopped, runs_timer}
+use Rattle.std.proofs.Common.{◌==◌}
+use Rattle.link_laws.proofs.Words.{Act as ActFrame, ActEvent, ActOut, ActStart, ActStop, ActTake, ActTick, Activation as Act, Asked, Bool, Clt, Control, Down}
+use Rattle.link_laws.proofs.Words.{Due, EndState, FetchMessage, Fragment, Give, Hold, I, Kind, LinkEnd, LinkState, List, None, Option, Refused, Rej, Rej_due}
+use Rattle.link_laws.proofs.Words.{Release, Reset, Rnr, Rnr_due, Rr, Rr_due, Rset, Rset_due, S, SetAside, Some, Srej, Turn, Ua, Ua_due, Up, Waiting, []}
+use Rattle.link_laws.proofs.Words.{acknowledged, act_answer, activated, after_input, arith, aside_refusal, cond, deactivated, due_left, false, give_refusal}
+use Rattle.link_laws.proofs.Words.{given, had_tick, heard, if_up, is_faulty, is_open, is_some, is_waiting, moved, nat_lt, news, not, place_of, put_down}
+use Rattle.link_laws.proofs.Words.{received, refl, reset_by, reset_refusal, reset_with, role_after, rsets_among, rsets_due, runs_timer, started, stopped}
+use Rattle.link_laws.proofs.Words.{take_answer, taken, tick_answer, ticked, took, true, turn, turned, waiting_from, window_of, with_act, ℕ, ◌++◌, ◌+◌, ◌∷◌, ◌≡◌}
+use Rattle.link_laws.proofs.Words.{◌≤◌}
 use Rattle.link_laws.proofs.places.Joined.{ready_cases, received_cases}
-use Rattle.swp_act.specs.declared.ActEvent.{ActEvent}
-use Rattle.swp_act.specs.declared.ActEvent.TheVariants.{Start as ActStart, Take as ActTake, Tick as ActTick, Stop as ActStop}
-use Rattle.swp_act.specs.declared.ActOut.{ActOut}
-use Rattle.link_laws.specs.machine.Machine.{LinkEnd, Refused, Turn, with_act, put_down, moved, activated, role_after, act_answer, started, deactivated, heard}
-use Rattle.link_laws.specs.machine.Machine.{took}
-use Rattle.link_laws.specs.machine.Machine.{had_tick, is_open, is_faulty, news, reset_by, reset_refusal, window_of, if_up, unless, after_input, turn, turned}
-use Rattle.link_laws.specs.machine.Machine.{given}
-use Rattle.link_laws.specs.machine.Machine.{give_refusal, aside_refusal}
-use Rattle.link_laws.specs.machine.Machine.LinkInput.{Reset}
-use Rattle.link_laws.specs.machine.Machine.Turn.{Give, Hold, FetchMessage, SetAside, Release}
-use Rattle.link_laws.specs.messages.Rsets.{rsets_among, rsets_due}
+use Rattle.link_laws.specs.machine.Machine.{unless}
 
 -- ## Control frames that are due
 

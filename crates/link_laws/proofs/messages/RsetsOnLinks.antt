@@ -1,28 +1,15 @@
 -- In each event of a link its ends make no more RSETs than they have ticks and are asked for resets, whatever their nodes do.
-use Rattle.std.proofs.Common.{◌≡◌, ℕ, zero, suc, ◌+◌, ◌-◌, ◌≤◌, Bool, true, false, cond, List, [], ◌∷◌, ◌++◌, take, drop, Option, Some, None, refl}
-use Rattle.std.proofs.Common.{ap, ◌∙◌, arith}
-use Rattle.std.specs.Prelude.{is_some}
-use Rattle.swp_base.specs.declared.control_frames.Control.{Control}
-use Rattle.swp_base.specs.declared.control_frames.Control.TheVariants.{Act as ActFrame}
-use Rattle.shdlc_core.specs.declared.answers.Due.{Due}
-use Rattle.shdlc_core.specs.declared.answers.Due.TheVariants.{Rr as Rr_due, Rej as Rej_due, Rnr as Rnr_due, Rset as Rset_due, Ua as Ua_due}
-use Rattle.shdlc_core.specs.Machine.{EndState, frame_due, fetched, frames_of, after_frames, control_due, most_frames}
+use Rattle.link_laws.proofs.Words.{Act as ActFrame, ActDue, Activate, AsksReset, AtController, AtHost, Bare, Bool, Clf, Comes, Control, CutOff, Due, EndEvent}
+use Rattle.link_laws.proofs.Words.{EndState, Ending, GoesOut, HasTick as Tick, IsBare, IsLine, IsStart, Link, LinkEnd, LinkEvent, List, Lose, NextFrame}
+use Rattle.link_laws.proofs.Words.{NoInput, None, NumberedEnd, OnWire, Option, Rej_due, Reset, Rnr_due, Role, Rr_due, Rset_due, Some, Starts, Step, Stops, Take}
+use Rattle.link_laws.proofs.Words.{Ticks, TicksWithout, Turn, Ua_due, Uicc, [], after_frames, after_input, after_link_events, aged, all_at_controller, among}
+use Rattle.link_laws.proofs.Words.{ap, arith, cond, control_due, deactivated, drop, ended_by, exchanged, false, fetched, finished, frame_due, frames_of}
+use Rattle.link_laws.proofs.Words.{frames_out, happens, happens_at_controller, has_input, has_restarted, has_taken, is_rset, is_some, is_up, most_frames}
+use Rattle.link_laws.proofs.Words.{new_link_end, put, put_all, refl, renewed, rset_causes_in, rsets_among, rsets_due, sent_all, silent, started}
+use Rattle.link_laws.proofs.Words.{steps_at_controller, suc, take, ticks_at_controller, took_with, true, turned, with_controller, with_ended, zero, ℕ, ◌++◌}
+use Rattle.link_laws.proofs.Words.{◌+◌, ◌-◌, ◌∙◌, ◌∷◌, ◌≡◌, ◌≤◌}
 use Rattle.link_laws.proofs.places.Joined.{fetch_cases}
-use Rattle.link_laws.specs.sessions.Sessions.{OnWire, is_rset, is_up, took_with}
-use Rattle.link_laws.specs.machine.Machine.{LinkEnd, ActDue, Role, Turn, among, frames_out, sent_all, turned, after_input, ended_by}
-use Rattle.link_laws.specs.machine.Machine.{new_link_end, renewed, started, deactivated}
-use Rattle.link_laws.specs.machine.Machine.Role.{Bare, Clf, Uicc}
-use Rattle.link_laws.specs.machine.Machine.LinkInput.{Take, Tick, Reset}
-use Rattle.link_laws.specs.messages.Links.{NumberedEnd, Link, Ending, Comes, EndEvent, LinkEvent, IsStart, put, put_all, with_controller, with_ended}
-use Rattle.link_laws.specs.messages.Links.{silent, finished, has_input, has_taken, has_restarted, steps_at_controller, ticks_at_controller, exchanged}
-use Rattle.link_laws.specs.messages.Links.{aged, happens_at_controller, all_at_controller, happens, after_link_events}
-use Rattle.link_laws.specs.messages.Links.IsStart.{IsBare, IsLine}
-use Rattle.link_laws.specs.messages.Links.Ending.{GoesOut, CutOff}
-use Rattle.link_laws.specs.messages.Links.Comes.{NextFrame, AsksReset, Starts, Stops, NoInput}
-use Rattle.link_laws.specs.messages.Links.EndEvent.{Step, Lose}
-use Rattle.link_laws.specs.messages.Links.LinkEvent.{AtController, AtHost, Ticks, TicksWithout, Activate}
-use Rattle.link_laws.specs.messages.Rsets.{rsets_among, rsets_due, rsets_made, resets_in_coming, resets_in_event, resets_in_events, rset_causes}
-use Rattle.link_laws.specs.messages.Rsets.{rset_causes_in}
+use Rattle.link_laws.specs.messages.Rsets.{rsets_made, resets_in_coming, resets_in_event, resets_in_events, rset_causes}
 use Rattle.link_laws.proofs.messages.RsetsDue.{took_due, had_tick_due, had_reset_due, started_due, deactivated_due, turned_due}
 
 -- ## RSETs among frames

@@ -1,43 +1,24 @@
 -- Every run of a link over messages is projected, and no chain fault comes in it.
-use Rattle.std.proofs.Common.{◌≡◌, ℕ, ◌≤◌, ◌<◌, Bool, true, false, List, [], ◌∷◌, ◌++◌, map, drop, Option, Some, None, refl, ap, sym, subst, ◌∙◌}
-use Rattle.swp_base.specs.declared.control_frames.Control.{Control}
-use Rattle.swp_base.specs.declared.control_frames.Control.TheVariants.{I, S, Rset, Ua, Act, Clt}
-use Rattle.swp_act.specs.Activation.{is_active}
-use Rattle.swp_act.specs.declared.clf.ClfAct.{ClfAct}
-use Rattle.swp_act.specs.declared.ActEvent.TheVariants.{Start as ActStart, Stop as ActStop}
-use Rattle.shdlc_core.specs.Machine.{stopped}
-use Rattle.link_laws.specs.sessions.Sessions.{OnWire, ShdlcLink as CoreLink, ShdlcTurn as CoreTurn, ShdlcEndEvent as CoreEndEvent}
-use Rattle.link_laws.specs.sessions.Sessions.{ShdlcLinkEvent as CoreLinkEvent}
-use Rattle.link_laws.specs.sessions.Sessions.{IsShdlcStart as CoreIsStart, shdlc_exchanged as core_exchanged, shdlc_happens as core_happens}
-use Rattle.link_laws.specs.sessions.Sessions.{shdlc_happens_at_controller as core_happens_here, shdlc_all_at_controller as core_all_here}
-use Rattle.link_laws.specs.sessions.Sessions.{shdlc_after as core_after}
-use Rattle.link_laws.specs.sessions.Sessions.{shdlc_aged as core_aged, ticks_or_cut as core_ticks_or_cut, ticks_if_waiting as core_ticks_if_waiting}
-use Rattle.link_laws.specs.sessions.Sessions.{AllShdlcAllowed as CoreAllAllowed, AreTurns as CoreAreTurns, IsShdlcAllowed as CoreIsAllowed}
-use Rattle.link_laws.specs.sessions.Sessions.ShdlcEndEvent.{Deliver as CoreDeliver}
-use Rattle.link_laws.specs.sessions.Sessions.ShdlcLinkEvent.{AtController as CoreAtController, AtHost as CoreAtHost, Tick as CoreTick}
-use Rattle.link_laws.specs.sessions.Sessions.ShdlcLinkEvent.{TickWithout as CoreTickWithout}
+use Rattle.link_laws.proofs.Words.{Act, ActStart, ActStop, Activate, AllAllowed, AllShdlcAllowed as CoreAllAllowed, AreOwn, AreTurns as CoreAreTurns, AsksReset}
+use Rattle.link_laws.proofs.Words.{AtController, AtHost, Bare, Bool, CanStart, Clf, ClfAct, Clt, Comes, Control, CoreAtController, CoreAtHost, CoreDeliver}
+use Rattle.link_laws.proofs.Words.{CoreEndEvent, CoreIsAllowed, CoreLink, CoreTurn, CutOff, EndEvent, Ending, GoesOut, I, IsAllowed, IsClf, IsEvent, IsNode}
+use Rattle.link_laws.proofs.Words.{IsOwn, IsShdlcStart as CoreIsStart, IsUicc, Link, LinkEnd, LinkEvent, List, Lose, Loss, NextFrame, NoInput, Node, None}
+use Rattle.link_laws.proofs.Words.{NumberedEnd, OnWire, Option, Refused, Role, Rset, S, ShdlcLinkEvent as CoreLinkEvent, Some, Starts, Step as EndStep, Stops}
+use Rattle.link_laws.proofs.Words.{Tick as CoreTick, TickWithout as CoreTickWithout, Ticks, TicksWithout, Turn, Ua, Uicc, [], after_link_events, aged}
+use Rattle.link_laws.proofs.Words.{all_at_controller, ap, core_after, core_aged, core_all, core_all_here, core_ending, core_event, core_events}
+use Rattle.link_laws.proofs.Words.{core_happens_here, core_here, core_of, core_reset, core_step, core_take, core_tick, core_tick_rest, core_ticks_if_waiting}
+use Rattle.link_laws.proofs.Words.{core_ticks_or_cut, drop, exchanged, false, happens, happens_at_controller, is_active, is_lost_tick, is_open, map, moved}
+use Rattle.link_laws.proofs.Words.{refl, renewed, reset_refusal, role_after, shdlc_exchanged as core_exchanged, shdlc_happens as core_happens, started}
+use Rattle.link_laws.proofs.Words.{steps_at_controller, stopped, subst, sym, ticks_at_controller, true, turned, window_of, ℕ, ◌++◌, ◌<◌, ◌∙◌, ◌∷◌, ◌≡◌, ◌≤◌}
 use Rattle.link_laws.proofs.sessions.Sending.{SafeLink}
 use Rattle.link_laws.proofs.sessions.Steps.{after-append, safe, in_order_here, in_order_there, safe_aged, safe_turns, safe_exchanged, tick_or_cut}
 use Rattle.link_laws.proofs.sessions.Steps.{tick_if_waiting}
-use Rattle.link_laws.specs.machine.Machine.{LinkEnd, Role, Turn, Refused, reset_refusal, window_of, is_open, moved, role_after, started, renewed, turned}
-use Rattle.link_laws.specs.machine.Machine.Role.{Bare, Clf, Uicc}
-use Rattle.link_laws.specs.messages.Links.{Link, NumberedEnd, Ending, Comes, Loss, EndEvent, Node, LinkEvent, exchanged, steps_at_controller}
-use Rattle.link_laws.specs.messages.Links.{happens_at_controller}
-use Rattle.link_laws.specs.messages.Links.{all_at_controller, happens, after_link_events, aged, ticks_at_controller, IsClf, IsUicc, IsWindow}
-use Rattle.link_laws.specs.messages.Links.{CanStart, CanCome}
-use Rattle.link_laws.specs.messages.Links.{IsNode, IsAllowed, IsOwn, AreOwn, IsEvent, AllAllowed}
-use Rattle.link_laws.specs.messages.Links.Ending.{GoesOut, CutOff}
-use Rattle.link_laws.specs.messages.Links.Comes.{NextFrame, AsksReset, Starts, Stops, NoInput}
-use Rattle.link_laws.specs.messages.Links.EndEvent.{Step as EndStep, Lose}
-use Rattle.link_laws.specs.messages.Links.LinkEvent.{AtController, AtHost, Ticks, TicksWithout, Activate}
-use Rattle.link_laws.specs.messages.Projection.{core_of, core_take, core_ending, core_reset, core_step, core_here, core_all, core_tick}
-use Rattle.link_laws.specs.messages.Projection.{core_tick_rest, is_lost_tick}
-use Rattle.link_laws.specs.messages.Projection.{core_event, core_events}
+use Rattle.link_laws.specs.messages.Links.{IsWindow, CanCome}
 use Rattle.link_laws.proofs.messages.Project.{Tells, Step, turned_role}
 use Rattle.link_laws.proofs.messages.Steps.{Rests, FromHost, activated_role}
 use Rattle.link_laws.proofs.messages.Finishing.{step_idle, step_frame, step_reset, step_restart, step_tick, all_here-append}
-use Rattle.link_laws.proofs.messages.ActsInOrder.{ActsInOrder, LinkInOrder, in_order_swap, in_order_drop, in_order_aged, in_order_start}
-use Rattle.link_laws.proofs.messages.ActsInOrder.{in_order_stop, polite_of}
+use Rattle.link_laws.proofs.messages.ActsInOrder.{ActsInOrder, LinkInOrder, in_order_swap, in_order_drop, in_order_aged, in_order_start, in_order_stop}
+use Rattle.link_laws.proofs.messages.ActsInOrder.{polite_of}
 
 -- ## Lists of events
 

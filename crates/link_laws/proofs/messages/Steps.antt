@@ -1,39 +1,19 @@
 -- Each thing that may happen at an end is projected, where no chain fault comes.
-use Rattle.std.proofs.Common.{◌≡◌, ℕ, ◌<◌, ◌≤◌, Bool, true, false, not, cond, List, [], ◌∷◌, ◌++◌, map, Option, Some, None, ◌⊎◌, inl, inr, refl, ap, sym, subst}
-use Rattle.std.proofs.Common.{◌∙◌}
-use Rattle.std.specs.Prelude.{◌+◌, nat_le, is_some, option_to_list, ◌==◌, IsTrue}
-use Rattle.std.proofs.lemmas.Bool.{true≢false, eq-eqb}
-use Rattle.swp_base.specs.declared.control_frames.Control.{Control}
-use Rattle.swp_base.specs.declared.control_frames.Control.TheVariants.{I, S, Rset, Ua, Act, Clt}
-use Rattle.swp_base.specs.declared.control_frames.Act.{Act as Activation}
-use Rattle.swp_base.specs.declared.control_frames.Act.TheVariants.{Ready as ActReady, SyncId, PowerMode}
-use Rattle.swp_base.specs.declared.link_terms.Cause.TheVariants.{Act as ByAct}
-use Rattle.swp_act.specs.declared.ActEvent.{ActEvent}
-use Rattle.swp_act.specs.declared.ActEvent.TheVariants.{Take as ActTake, Tick as ActTick}
-use Rattle.swp_act.specs.declared.Phase.{Phase}
-use Rattle.swp_act.specs.declared.Phase.TheVariants.{Inactive, Awaiting, Active}
-use Rattle.shdlc_core.specs.declared.answers.LinkState.{LinkState}
-use Rattle.shdlc_core.specs.declared.answers.LinkState.TheVariants.{Down, Waiting, Up}
-use Rattle.shdlc_core.specs.declared.answers.Due.{Due}
-use Rattle.shdlc_core.specs.Machine.{EndState, Session, after_frames, most_frames, taken, take_answer, no_session}
-use Rattle.hcp_packet.specs.Packets.{fragments_of, packets_in, IsFrontOf}
-use Rattle.hcp_chain.specs.Joining.{are_taken}
+use Rattle.std.proofs.Common.{not}
+use Rattle.std.specs.Prelude.{◌+◌}
+use Rattle.link_laws.proofs.Words.{Act, ActDue, ActEvent, ActReady, ActTake, ActTick, Activation, AreSendableTurns, Awaiting, Bare, Bool, ByAct, Clf, Clt}
+use Rattle.link_laws.proofs.Words.{Control, CoreActs, CoreDeliver, CoreInOrder, CoreLink, CoreLose, CoreTurn, Down, Due, EndState, I, Ignore as CoreIgnore}
+use Rattle.link_laws.proofs.Words.{Inactive, IsFrontOf, IsTrue, Link, LinkEnd, LinkState, List, Message, None, NumberedEnd, NumberedShdlc as CoreEnd, OnWire}
+use Rattle.link_laws.proofs.Words.{Option, Phase, PowerMode, Role, Rset, S, Session, Some, SyncId, Talk, Turn, Ua, Uicc, Up, Waiting, [], act_answer, activated}
+use Rattle.link_laws.proofs.Words.{after_frames, ap, are_taken, becomes, cond, core_all_here, core_end, core_happens_here, core_of, core_past, core_take}
+use Rattle.link_laws.proofs.Words.{core_turned, core_turns, core_with_ended, ended_by_frame, ended_session, ended_talk, eq-eqb, false, fragments_of, if_up}
+use Rattle.link_laws.proofs.Words.{in_front, inl, inr, is_act, is_faulty, is_open, is_rset, is_some, map, most_frames, moved, nat_le, news, no_session}
+use Rattle.link_laws.proofs.Words.{number_of, option_to_list, packets_in, put_down, refl, role_after, shdlc_becomes as core_becomes}
+use Rattle.link_laws.proofs.Words.{shdlc_number_of as core_number_of, shdlc_put_all as core_put_all, shdlc_session_of, subst, sym, take_answer, taken, talk_now}
+use Rattle.link_laws.proofs.Words.{talk_of, took, took_with, true, true≢false, turned, with_act, with_ended, ℕ, ◌++◌, ◌<◌, ◌==◌, ◌∙◌, ◌∷◌, ◌≡◌, ◌≤◌, ◌⊎◌}
+use Rattle.swp_act.specs.declared.Phase.TheVariants.{Active}
 use Rattle.link_laws.proofs.sending.TakenLemmas.{no_fault}
-use Rattle.link_laws.specs.places.Order.{FragmentsInOrder as CoreInOrder}
-use Rattle.link_laws.specs.sessions.Sessions.{OnWire, NumberedShdlc as CoreEnd, ShdlcLink as CoreLink, ShdlcTurn as CoreTurn}
-use Rattle.link_laws.specs.sessions.Sessions.{shdlc_turned as core_turned, is_rset}
-use Rattle.link_laws.specs.sessions.Sessions.{took_with, shdlc_put_all as core_put_all, shdlc_becomes as core_becomes, with_shdlc_ended as core_with_ended}
-use Rattle.link_laws.specs.sessions.Sessions.{shdlc_happens_at_controller as core_happens_here, shdlc_all_at_controller as core_all_here, ended_session}
-use Rattle.link_laws.specs.sessions.Sessions.{shdlc_session_of, shdlc_number_of as core_number_of}
-use Rattle.link_laws.specs.sessions.Sessions.ShdlcEndEvent.{Deliver as CoreDeliver, Ignore as CoreIgnore, Acts as CoreActs, Lose as CoreLose}
-use Rattle.link_laws.specs.sessions.Losses.{is_act}
 use Rattle.link_laws.proofs.sessions.Steps.{took as core_took}
-use Rattle.link_laws.specs.machine.Machine.{Message, LinkEnd, Role, ActDue, Turn, is_faulty, is_open, role_after, act_answer, with_act, in_front, moved}
-use Rattle.link_laws.specs.machine.Machine.{put_down}
-use Rattle.link_laws.specs.machine.Machine.{activated, news, took, if_up, turned, ended_by_frame}
-use Rattle.link_laws.specs.machine.Machine.Role.{Bare, Clf, Uicc}
-use Rattle.link_laws.specs.messages.Links.{Talk, NumberedEnd, Link, talk_now, ended_talk, talk_of, number_of, becomes, with_ended, AreSendableTurns}
-use Rattle.link_laws.specs.messages.Projection.{core_past, core_end, core_of, core_turns, core_take}
 use Rattle.link_laws.proofs.messages.ActsInOrder.{ActsInOrder, LinkInOrder, IsPolite, with_sent, in_order_drop, in_order_take}
 use Rattle.link_laws.proofs.messages.Ends.{Idle, taken_keeps, Alike, frames_alike}
 use Rattle.link_laws.proofs.messages.Project.{Says, Mid, Now, mid_moved, moved_role, frames_now, AllSay, Tells, Step, step_same, step_turned}

@@ -1,37 +1,17 @@
 -- What is true of every run of a link over messages.
-use Rattle.std.proofs.Common.{◌≡◌, ℕ, zero, suc, ◌≤◌, ◌-◌, Bool, true, false, List, [], ◌∷◌, ◌++◌, length, take, map, inl, refl, ap, sym, subst, ◌∙◌, arith}
-use Rattle.std.proofs.Common.{append_assoc}
-use Rattle.std.specs.Prelude.{Some, ◌==◌}
-use Rattle.std.proofs.lemmas.Bool.{ne_eqb, true≢false}
-use Rattle.swp_base.specs.declared.link_terms.Cause.TheVariants.{Chain}
-use Rattle.swp_base.specs.declared.control_frames.Control.{Control}
-use Rattle.swp_base.specs.declared.control_frames.Control.TheVariants.{I, S, Rset, Ua, Act, Clt}
-use Rattle.shdlc_core.specs.declared.answers.LinkState.{LinkState}
-use Rattle.shdlc_core.specs.declared.answers.LinkState.TheVariants.{Down, Waiting, Up}
-use Rattle.shdlc_core.specs.Machine.{EndState, taken, take_answer}
-use Rattle.hcp_packet.specs.Packets.{packets_of, packet_bytes, fragments_of, good_of, good_messages_of, AreSendable, IsFrontOf}
+use Rattle.std.specs.Prelude.{Some}
+use Rattle.link_laws.proofs.Words.{Act, ActEvent, ActTake, AllAllowed, AllShdlcAllowed as CoreAllAllowed, AreSendable, AreShort, Bare, Bool, BothDown, BothUp}
+use Rattle.link_laws.proofs.Words.{Chain, Clf, Clt, Control, CoreInOrder, CoreLink, Down, EndState, I, InOrder, IsBare, IsFrontOf, IsLine}
+use Rattle.link_laws.proofs.Words.{IsShdlcStart as CoreIsStart, IsStart, Link, LinkEnd, LinkEvent, LinkState, List, Message, NumberedEnd, OnWire, Rset, S, Take}
+use Rattle.link_laws.proofs.Words.{Talk, Ua, Uicc, Up, Waiting, [], act_answer, after_link_events, ap, append_assoc, arith, core_after, core_end, core_events}
+use Rattle.link_laws.proofs.Words.{core_of, core_past, ended_by, ended_by_act, ended_talk, exchanged, false, fragments_of, good_messages_of, good_of, inl}
+use Rattle.link_laws.proofs.Words.{is_faulty, is_open, length, map, messages_got, ne_eqb, new_clf, new_link_end, new_numbered_end, new_uicc, no_talk, number_of}
+use Rattle.link_laws.proofs.Words.{packet_bytes, packets_of, refl, shdlc_number_of as core_number_of, shdlc_session_of, subst, suc, sym, take, take_answer}
+use Rattle.link_laws.proofs.Words.{taken, talk_of, true, true≢false, whole_among, zero, ℕ, ◌++◌, ◌-◌, ◌==◌, ◌∙◌, ◌∷◌, ◌≡◌, ◌≤◌}
 use Rattle.hcp_packet.proofs.Joining.{good_messages_are_a_front, whole_messages_have_come}
-use Rattle.link_laws.specs.sending.Sending.{AreShort}
 use Rattle.link_laws.proofs.sending.TakenLemmas.{all_given}
-use Rattle.link_laws.specs.places.Order.{FragmentsInOrder as CoreInOrder}
-use Rattle.link_laws.specs.sessions.Sessions.{OnWire, AllShdlcAllowed as CoreAllAllowed, IsShdlcStart as CoreIsStart, shdlc_after as core_after}
-use Rattle.link_laws.specs.sessions.Sessions.{shdlc_session_of}
-use Rattle.link_laws.specs.sessions.Sessions.IsShdlcStart.{BothUp, BothDown}
-use Rattle.link_laws.specs.machine.Machine.{Message, LinkEnd, is_faulty, messages_got, whole_among, ended_by, ended_by_act, act_answer, is_open, new_link_end}
-use Rattle.link_laws.specs.machine.Machine.Role.{Bare, Clf, Uicc}
-use Rattle.link_laws.specs.machine.Machine.LinkInput.{Take}
-use Rattle.link_laws.specs.messages.Links.{Talk, NumberedEnd, Link, LinkEvent, IsStart, new_numbered_end, exchanged, after_link_events, talk_of, AllAllowed}
-use Rattle.link_laws.specs.messages.Links.IsStart.{IsBare, IsLine}
-use Rattle.swp_act.specs.declared.ActEvent.{ActEvent}
-use Rattle.swp_act.specs.declared.ActEvent.TheVariants.{Take as ActTake}
-use Rattle.swp_act.specs.Activation.{new_clf, new_uicc}
-use Rattle.link_laws.specs.sessions.Sessions.{ShdlcLink as CoreLink, shdlc_number_of as core_number_of}
 use Rattle.link_laws.proofs.sessions.Data.{Below, bound}
 use Rattle.link_laws.proofs.sessions.Steps.{agree, safe}
-use Rattle.link_laws.specs.messages.Links.{no_talk, ended_talk, number_of}
-use Rattle.link_laws.specs.messages.Projection.{core_past}
-use Rattle.link_laws.specs.messages.Order.{InOrder}
-use Rattle.link_laws.specs.messages.Projection.{core_of, core_end, core_events}
 use Rattle.link_laws.proofs.messages.Project.{Says, Tells}
 use Rattle.link_laws.proofs.messages.Steps.{FromHost, says_of, session-core, core_first, no_fault_first}
 use Rattle.link_laws.proofs.messages.ActsInOrder.{Line}

@@ -1,17 +1,13 @@
 -- Where both wires are empty, and nothing was lost and no RNR made, all is accepted and acknowledged.
-use Rattle.std.proofs.Common.{◌≡◌, ℕ, zero, suc, ◌+◌, ◌<◌, ◌≤◌, false, true, List, [], ◌∷◌, ◌++◌, None, refl, ap, sym, ◌∙◌, arith, length, length-append}
-use Rattle.std.specs.Prelude.{slice_get, nat_lt}
 use Rattle.std.proofs.lemmas.List.{append-nil, nil_from_length}
-use Rattle.std.proofs.lemmas.Bool.{lt-ltb}
-use mathlib.Core.List.{IsPrefix}
-use Rattle.swp_base.specs.declared.control_frames.Control.{Control}
-use Rattle.shdlc_core.specs.Machine.{EndState, Session, Fragment, frame_due, fragment_due}
+use Rattle.link_laws.proofs.Words.{Control, EndState, Fragment, FragmentsDelivered, List, None, Session, [], ap, arith, false, fragment_due, frame_due, length}
+use Rattle.link_laws.proofs.Words.{length-append, lt-ltb, nat_lt, refl, slice_get, suc, sym, true, zero, ℕ, ◌++◌, ◌+◌, ◌<◌, ◌∙◌, ◌∷◌, ◌≡◌, ◌≤◌}
 use Rattle.link_laws.specs.places.Wire.{OnWire}
-use Rattle.link_laws.specs.places.Order.{FragmentsDelivered}
 use Rattle.link_laws.proofs.places.Marks.{Shows}
 use Rattle.link_laws.proofs.places.Whole.{NoRnr, Whole}
 use Rattle.link_laws.proofs.places.Joined.{Joined, Sends, fetch_cases}
 use Rattle.link_laws.proofs.places.Idle.{no_due}
+use mathlib.Core.List.{IsPrefix}
 
 no_marks : (wire : List OnWire) (ms : List Control) → wire ≡ [] → Shows wire ms → ms ≡ []
 no_marks [] [] e h = refl

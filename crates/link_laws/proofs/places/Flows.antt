@@ -1,15 +1,10 @@
 -- What one sender, its receiver and the wires between them have to do with each other at every moment.
-use Rattle.std.proofs.Common.{◌≡◌, ℕ, ◌+◌, ◌<◌, ◌≤◌, List, [], ◌∷◌, ◌++◌, Some, refl, ap, sym, subst, ◌∙◌, arith, length, max, length-append, append_assoc}
-use Rattle.std.specs.Prelude.{slice_get}
-use Rattle.std.proofs.lemmas.Option.{slice_get_within}
+use Rattle.std.proofs.Common.{max}
+use Rattle.link_laws.proofs.Words.{Control, Fragment, I, Kind, List, S, Some, [], ap, append_assoc, arith, length, length-append, refl, slice_get}
+use Rattle.link_laws.proofs.Words.{slice_get_within, subst, sym, ℕ, ◌++◌, ◌+◌, ◌<◌, ◌∙◌, ◌∷◌, ◌≡◌, ◌≤◌}
+use Rattle.link_laws.proofs.places.Marks.{Carries, Counts, NoneBelow, Places, MayFollow, counts_le, counts_lower, counts_higher, counts_push, counts_lost}
+use Rattle.link_laws.proofs.places.Marks.{places_grow, places_reach, places_accepted, places_lost, places_push, places_push_S}
 use mathlib.Core.List.{IsPrefix}
-use Rattle.swp_base.specs.declared.control_frames.Kind.{Kind}
-use Rattle.swp_base.specs.declared.control_frames.Control.{Control}
-use Rattle.swp_base.specs.declared.control_frames.Control.TheVariants.{I, S}
-use Rattle.shdlc_core.specs.Machine.{Fragment}
-use Rattle.link_laws.proofs.places.Marks.{Carries, Counts, NoneBelow, Places, MayFollow, counts_le, counts_lower, counts_higher, counts_push}
-use Rattle.link_laws.proofs.places.Marks.{counts_lost, places_grow}
-use Rattle.link_laws.proofs.places.Marks.{places_reach, places_accepted, places_lost, places_push, places_push_S}
 
 -- out, the window w, the places a, s and m are the sender's; acc is the receiver's; there are marks on the wire from the
 -- sender and on the wire back

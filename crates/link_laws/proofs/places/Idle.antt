@@ -1,14 +1,7 @@
 -- How many frames an end has still to send, and that it has sent all that was due once it fetched so many.
-use Rattle.std.proofs.Common.{◌≡◌, ℕ, zero, suc, ◌+◌, ◌-◌, ◌%◌, ◌≤◌, List, [], ◌∷◌, ◌++◌, Some, None, refl, ap, ◌∙◌, ◌⊎◌, inl, inr, arith, length}
-use Rattle.std.proofs.Common.{length-append}
-use Rattle.swp_base.specs.declared.control_frames.Kind.{Kind}
-use Rattle.swp_base.specs.declared.control_frames.Control.{Control}
-use Rattle.swp_base.specs.declared.control_frames.Control.TheVariants.{I, S, Rset, Ua, Act, Clt}
-use Rattle.shdlc_core.specs.declared.answers.LinkState.TheVariants.{Up}
-use Rattle.shdlc_core.specs.declared.answers.Due.{Due}
-use Rattle.shdlc_core.specs.declared.answers.Due.TheVariants.{Rr as Rr_due, Rej as Rej_due, Rnr as Rnr_due}
-use Rattle.shdlc_core.specs.Machine.{EndState, Fragment, place_of, acknowledged, taken, fetched, frame_due, after_frames}
-use Rattle.shdlc_core.proofs.Histories.{fragment_due-within}
+use Rattle.link_laws.proofs.Words.{Act, Clt, Control, Due, EndState, Fragment, I, Kind, List, None, Rej_due, Rnr_due, Rr_due, Rset, S, Some, Ua, Up, []}
+use Rattle.link_laws.proofs.Words.{acknowledged, after_frames, ap, arith, fetched, fragment_due-within, frame_due, inl, inr, length, length-append, place_of}
+use Rattle.link_laws.proofs.Words.{refl, suc, taken, zero, ℕ, ◌%◌, ◌++◌, ◌+◌, ◌-◌, ◌∙◌, ◌∷◌, ◌≡◌, ◌≤◌, ◌⊎◌}
 use Rattle.link_laws.specs.places.Wire.{OnWire}
 use Rattle.link_laws.proofs.places.Numbers.{place_found}
 use Rattle.link_laws.proofs.places.Marks.{Shows}

@@ -1,29 +1,19 @@
 -- Two ends that are Up in one session and the wires between them: what is true of them at every moment of an event, and
 -- how each thing that one end does keeps it.
-use Rattle.std.proofs.Common.{◌≡◌, ℕ, ◌+◌, ◌%◌, ◌<◌, ◌≤◌, ◌==◌, Bool, true, false, List, [], ◌∷◌, ◌++◌, Option, Some, None, refl, ap, sym, ◌∙◌, ◌⊎◌, inl}
-use Rattle.std.proofs.Common.{inr, arith, length, length-append, max}
-use Rattle.std.specs.Prelude.{nat_lt}
-use Rattle.std.proofs.lemmas.Bool.{eqb-true, eqb-false, ltb-true, ltb-false, cases_eq, true≢false}
-use Rattle.swp_base.specs.declared.control_frames.Kind.{Kind}
-use Rattle.swp_base.specs.declared.control_frames.Kind.TheVariants.{Rr, Rej, Rnr, Srej}
-use Rattle.swp_base.specs.declared.control_frames.Control.{Control}
-use Rattle.swp_base.specs.declared.control_frames.Control.TheVariants.{I, S, Rset, Ua, Act, Clt}
-use Rattle.shdlc_core.specs.declared.answers.LinkState.TheVariants.{Up}
-use Rattle.shdlc_core.specs.declared.answers.Due.{Due}
-use Rattle.shdlc_core.specs.declared.answers.Due.TheVariants.{Rr as Rr_due, Rej as Rej_due, Rnr as Rnr_due, Rset as Rset_due, Ua as Ua_due}
-use Rattle.shdlc_core.specs.Machine.{EndState, Session, Fragment, place_of, acknowledged, ahead, received, accepted, repeated, discarded, taken, take_answer}
-use Rattle.shdlc_core.specs.Machine.{ticked, tick_answer, with_ready, put_out, fetched, frame_due, fragment_due, expected, control_due, sent_next, ready_again}
-use Rattle.shdlc_core.specs.Machine.{rejected, made_busy, sent_again, runs_timer}
-use Rattle.shdlc_core.proofs.Histories.{fragment_due-within}
-use Rattle.link_laws.specs.places.Wire.{OnWire, older, with_frame, is_rnr}
+use Rattle.std.proofs.Common.{◌==◌, max}
+use Rattle.link_laws.proofs.Words.{Act, Bool, Clt, Control, Due, EndState, Fragment, I, Kind, List, None, Option, Rej, Rej_due, Rnr, Rnr_due, Rr, Rr_due, Rset}
+use Rattle.link_laws.proofs.Words.{Rset_due, S, Session, Some, Srej, Ua, Ua_due, Up, [], accepted, acknowledged, ahead, ap, arith, cases_eq, control_due}
+use Rattle.link_laws.proofs.Words.{discarded, eqb-false, eqb-true, expected, false, fetched, fragment_due, fragment_due-within, frame_due, inl, inr, is_rnr}
+use Rattle.link_laws.proofs.Words.{length, length-append, ltb-false, ltb-true, made_busy, nat_lt, place_of, put_out, ready_again, received, refl, rejected}
+use Rattle.link_laws.proofs.Words.{repeated, runs_timer, sent_again, sent_next, sym, take_answer, taken, tick_answer, ticked, true, true≢false, with_frame}
+use Rattle.link_laws.proofs.Words.{with_ready, ℕ, ◌%◌, ◌++◌, ◌+◌, ◌<◌, ◌∙◌, ◌∷◌, ◌≡◌, ◌≤◌, ◌⊎◌}
+use Rattle.link_laws.specs.places.Wire.{OnWire, older}
 use Rattle.link_laws.proofs.places.Numbers.{place_found, ahead_same, ahead_other, ahead_repeat}
 use Rattle.link_laws.proofs.places.Marks.{Shows, counts_le, AcksOnly, shows_push, shows_older}
 use Rattle.link_laws.proofs.places.Whole.{AnswersOnly, NoRnr, Whole, answers_push, no_rnr_push, rnr_pushed, push_not_empty, whole_send, whole_send_S}
-use Rattle.link_laws.proofs.places.Whole.{whole_answer_I}
-use Rattle.link_laws.proofs.places.Whole.{whole_answer_S}
-use Rattle.link_laws.proofs.places.Flows.{Flows, flows_put, flows_send, flows_send_S, flows_answer, flows_move, flows_number, flows_acked}
-use Rattle.link_laws.proofs.places.Flows.{flows_accept, flows_past}
-use Rattle.link_laws.proofs.places.Flows.{flows_lost_back}
+use Rattle.link_laws.proofs.places.Whole.{whole_answer_I, whole_answer_S}
+use Rattle.link_laws.proofs.places.Flows.{Flows, flows_put, flows_send, flows_send_S, flows_answer, flows_move, flows_number, flows_acked, flows_accept}
+use Rattle.link_laws.proofs.places.Flows.{flows_past, flows_lost_back}
 
 -- the sender with this session, the receiver that accepted acc, and the marks on the wires from it and to it
 abbrev pub Sends : Session → List Fragment → List Control → List Control → Type 0

@@ -1,12 +1,8 @@
 -- The frames on a wire with the places and lengths that their numbers stand for: marks.
-use Rattle.std.proofs.Common.{◌≡◌, ℕ, ◌+◌, ◌%◌, ◌<◌, ◌≤◌, suc, zero, List, [], ◌∷◌, ◌++◌, Some, refl, arith, max}
-use Rattle.std.specs.Prelude.{slice_get}
-use Rattle.swp_base.specs.declared.control_frames.Kind.{Kind}
-use Rattle.swp_base.specs.declared.control_frames.Kind.TheVariants.{Rr, Rej}
-use Rattle.swp_base.specs.declared.control_frames.Control.{Control}
-use Rattle.swp_base.specs.declared.control_frames.Control.TheVariants.{I, S, Rset, Ua, Act, Clt}
-use Rattle.shdlc_core.specs.Machine.{Fragment}
-use Rattle.link_laws.specs.places.Wire.{OnWire, older, with_frame}
+use Rattle.std.proofs.Common.{max}
+use Rattle.link_laws.proofs.Words.{Act, Clt, Control, Fragment, I, Kind, List, Rej, Rr, Rset, S, Some, Ua, [], arith, refl, slice_get, suc, with_frame, zero, ℕ}
+use Rattle.link_laws.proofs.Words.{◌%◌, ◌++◌, ◌+◌, ◌<◌, ◌∷◌, ◌≡◌, ◌≤◌}
+use Rattle.link_laws.specs.places.Wire.{OnWire, older}
 
 -- the frame that a mark is on the wire: its numbers modulo 8
 abbrev pub reduced : Control → Control

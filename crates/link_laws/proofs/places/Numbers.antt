@@ -1,7 +1,6 @@
 -- A number modulo 8 names one place among those that it can mean.
-use Rattle.std.proofs.Common.{◌≡◌, ℕ, ◌+◌, ◌-◌, ◌%◌, ◌<◌, ◌≤◌, Some, None, refl, arith, length}
-use Rattle.std.proofs.lemmas.Bool.{eq-eqb, le-leb, and_from, cond-true}
-use Rattle.shdlc_core.specs.Machine.{Session, place_of, ahead}
+use Rattle.std.proofs.lemmas.Bool.{le-leb, cond-true}
+use Rattle.link_laws.proofs.Words.{None, Session, Some, ahead, and_from, arith, eq-eqb, length, place_of, refl, ℕ, ◌%◌, ◌+◌, ◌-◌, ◌<◌, ◌≡◌, ◌≤◌}
 
 -- the eight places from a on have different numbers
 offset : (a k : ℕ) → k < 8 → ((a + k) % 8 + (8 - a % 8)) % 8 ≡ k

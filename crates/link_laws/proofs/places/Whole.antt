@@ -1,11 +1,7 @@
 -- One sender, its receiver and the wires between them, where nothing was lost and no RNR was made.
-use Rattle.std.proofs.Common.{◌≡◌, ℕ, ◌+◌, ◌≤◌, false, List, [], ◌∷◌, ◌++◌, ◌∙◌, length, max}
-use Rattle.swp_base.specs.declared.control_frames.Kind.{Kind}
-use Rattle.swp_base.specs.declared.control_frames.Control.{Control}
-use Rattle.swp_base.specs.declared.control_frames.Control.TheVariants.{I, S}
-use Rattle.shdlc_core.specs.declared.answers.Due.{Due}
-use Rattle.shdlc_core.specs.declared.answers.Due.TheVariants.{Rr as Rr_due, Rej as Rej_due, Rnr as Rnr_due, Rset as Rset_due, Ua as Ua_due}
-use Rattle.shdlc_core.specs.Machine.{Fragment, Session}
+use Rattle.std.proofs.Common.{max}
+use Rattle.link_laws.proofs.Words.{Control, Due, Fragment, I, Kind, List, Rej_due, Rnr_due, Rr_due, Rset_due, S, Session, Ua_due, [], false, length, ℕ, ◌++◌}
+use Rattle.link_laws.proofs.Words.{◌+◌, ◌∙◌, ◌∷◌, ◌≡◌, ◌≤◌}
 use Rattle.link_laws.proofs.places.Marks.{Caught, last_count, AcksOnly, caught_push, caught_push_S, last_count_push_I, last_count_push_S, acks_push}
 
 -- no RSET or UA waits to be sent

@@ -1,15 +1,12 @@
 -- A sender of whole messages never causes a fault.
-use Rattle.std.proofs.Common.{◌≡◌, ℕ, zero, suc, ◌+◌, ◌-◌, ◌/◌, ◌<◌, ◌≤◌, Bool, true, false, cond, not, ◌&&◌, eqb, leb, ltb, List, [], ◌∷◌, ◌++◌, length, take}
-use Rattle.std.proofs.Common.{drop, map, refl, sym, ap, ◌∙◌, subst, arith, rules, length-append, length-take, length-drop}
+use Rattle.std.proofs.Common.{◌/◌, not, ◌&&◌, eqb, leb, ltb, rules, length-take, length-drop}
 use Rattle.std.proofs.Math.Bool.{and-false}
-use Rattle.std.specs.Prelude.{IsTrue}
-use Rattle.std.proofs.lemmas.List.Elements.{filter_map-append}
-use Rattle.std.proofs.lemmas.Grind.{common_steps}
-use Rattle.hcp_packet.specs.declared.Packet.{Packet}
-use Rattle.hcp_packet.specs.Packets.{packet, packet_bytes, packet_of, parts_of, packet_count, packets_of, packets_in, messages_of, fragments_of, IsFrontOf}
-use Rattle.hcp_chain.specs.Joining.{is_message_open, so_far, others, is_fifth, grown, join_step, is_fault, are_taken, given_by}
+use Rattle.link_laws.proofs.Words.{AreShort, Bool, IsFrontOf, IsTrue, List, Packet, [], ap, are_taken, arith, common_steps, cond, drop, false}
+use Rattle.link_laws.proofs.Words.{filter_map-append, fragments_of, given_by, join_step, length, length-append, map, packet_bytes, packet_count, packet_of}
+use Rattle.link_laws.proofs.Words.{packets_in, packets_of, refl, subst, suc, sym, take, true, zero, ℕ, ◌++◌, ◌+◌, ◌-◌, ◌<◌, ◌∙◌, ◌∷◌, ◌≡◌, ◌≤◌}
+use Rattle.hcp_packet.specs.Packets.{packet, parts_of, messages_of}
+use Rattle.hcp_chain.specs.Joining.{is_message_open, so_far, others, is_fifth, grown, is_fault}
 use Rattle.hcp_chain.proofs.GivenLemmas.{given_messages, last_step, more_step}
-use Rattle.link_laws.specs.sending.Sending.{AreShort}
 use Rattle.hcp_packet.proofs.Joining.{parts_of-more, packets_in-parts, packets_of_all}
 
 -- ---- fragments

@@ -1,27 +1,17 @@
 -- What the sessions of two ends have to do with each other and with the frames on the wires, over resets.
-use Rattle.std.proofs.Common.{◌≡◌, ℕ, ◌+◌, ◌%◌, ◌<◌, ◌≤◌, ◌==◌, Bool, true, false, List, [], ◌∷◌, ◌++◌, Option, Some, None, ◌⊎◌, inl, inr, refl, ap, sym, ◌∙◌}
-use Rattle.std.proofs.Common.{arith, length, max, length-append, append_assoc}
-use Rattle.std.specs.Prelude.{slice_get}
-use Rattle.std.proofs.lemmas.Bool.{eqb-true, eq-eqb, ne_eqb}
-use Rattle.std.proofs.lemmas.Option.{slice_get_within}
-use mathlib.Core.List.{IsPrefix}
-use Rattle.swp_base.specs.declared.control_frames.Kind.{Kind}
-use Rattle.swp_base.specs.declared.control_frames.Control.{Control}
-use Rattle.swp_base.specs.declared.control_frames.Control.TheVariants.{I, S, Rset, Ua, Act, Clt}
-use Rattle.shdlc_core.specs.declared.answers.LinkState.{LinkState}
-use Rattle.shdlc_core.specs.declared.answers.LinkState.TheVariants.{Down, Waiting, Up}
-use Rattle.shdlc_core.specs.declared.answers.Due.{Due}
-use Rattle.shdlc_core.specs.declared.answers.Due.TheVariants.{Rr as Rr_due, Rej as Rej_due, Rnr as Rnr_due}
-use Rattle.shdlc_core.specs.Machine.{EndState, Session, Fragment, new_session, no_session, sent_next, place_of, acknowledged, accepted, repeated, discarded}
-use Rattle.shdlc_core.specs.Machine.{ready_again, rejected, made_busy, taken, take_answer}
+use Rattle.std.proofs.Common.{◌==◌, max}
+use Rattle.link_laws.proofs.Words.{Act, Bool, Clt, Control, Down, Due, EndState, Fragment, I, Kind, LinkState, List, None, NumberedShdlc, OnWire, Option}
+use Rattle.link_laws.proofs.Words.{Rej_due, Rnr_due, Rr_due, Rset, S, Session, Some, Ua, Up, Waiting, [], accepted, acknowledged, ap, append_assoc, arith}
+use Rattle.link_laws.proofs.Words.{discarded, ended_session, eq-eqb, eqb-true, false, inl, inr, length, length-append, made_busy, ne_eqb, new_session}
+use Rattle.link_laws.proofs.Words.{no_session, older, place_of, ready_again, refl, rejected, repeated, sent_next, shdlc_number_of, shdlc_session_of, slice_get}
+use Rattle.link_laws.proofs.Words.{slice_get_within, sym, take_answer, taken, true, ℕ, ◌%◌, ◌++◌, ◌+◌, ◌<◌, ◌∙◌, ◌∷◌, ◌≡◌, ◌≤◌, ◌⊎◌}
 use Rattle.link_laws.proofs.places.Numbers.{place_found, ahead_other}
 use Rattle.link_laws.proofs.places.Flows.{front_accept}
 use Rattle.link_laws.proofs.places.Joined.{received_cases, taken_I, taken_S, answer_I, answer_S}
 use Rattle.link_laws.proofs.places.Marks.{reduced, Carries, Counts, NoneBelow, Places, MayFollow, counts_le, counts_lower, counts_higher, counts_push}
-use Rattle.link_laws.proofs.places.Marks.{counts_lost}
-use Rattle.link_laws.proofs.places.Marks.{places_grow, places_reach, places_accepted, places_lost, places_push, places_push_S}
-use Rattle.link_laws.specs.sessions.Sessions.{OnWire, NumberedShdlc, older, shdlc_number_of, shdlc_session_of, ended_session}
+use Rattle.link_laws.proofs.places.Marks.{counts_lost, places_grow, places_reach, places_accepted, places_lost, places_push, places_push_S}
 use Rattle.link_laws.proofs.sessions.Wire.{IsData, add_rset, no_rset_step, rsets}
+use mathlib.Core.List.{IsPrefix}
 
 -- one end's session as the sender's, and the other's of the same number as the receiver's
 pub record Base (s r : Session) : Type 0 where

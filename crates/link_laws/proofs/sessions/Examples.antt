@@ -1,15 +1,9 @@
 -- The two machines, the wires and the numbers compute the worked examples with losses and resets.
-use Rattle.std.proofs.Common.{true, false, ◌≡◌, refl, Some, ℕ, suc, zero, List, [], ◌∷◌, ◌++◌, map}
-use Rattle.swp_base.specs.declared.control_frames.Control.{Control}
-use Rattle.swp_base.specs.declared.control_frames.Control.TheVariants.{I, S, Rset}
-use Rattle.swp_base.specs.declared.control_frames.Kind.TheVariants.{Rr, Rej, Rnr}
-use Rattle.shdlc_core.specs.declared.answers.LinkState.TheVariants.{Waiting, Up, Down}
-use Rattle.link_laws.specs.sessions.Losses.{no_losses, losses_after, IsShdlcQuiet}
-use Rattle.link_laws.specs.sessions.Settled.{sure_after, IsShdlcSettled}
-use Rattle.link_laws.specs.sessions.Sessions.ShdlcTurn.{Offer, SetReady}
-use Rattle.link_laws.specs.sessions.Sessions.{OnWire, start, start_down, shdlc_number_of, ShdlcLinkEvent, shdlc_after}
-use Rattle.link_laws.specs.sessions.Sessions.ShdlcEndEvent.{Turns, Deliver, Ignore, Lose, Reset, Cut, Stop}
-use Rattle.link_laws.specs.sessions.Sessions.ShdlcLinkEvent.{AtController, AtHost, Tick}
+use Rattle.link_laws.proofs.Words.{Control, CoreAtController as AtController, CoreAtHost as AtHost, CoreDeliver as Deliver, CoreLose as Lose}
+use Rattle.link_laws.proofs.Words.{CoreReset as Reset, CoreStop as Stop, Down, I, Ignore, IsShdlcQuiet, IsShdlcSettled, List, Offer, OnWire, Rej, Rnr, Rr, Rset}
+use Rattle.link_laws.proofs.Words.{S, SetReady, ShdlcLinkEvent, Some, Tick, Turns, Up, Waiting, [], core_after as shdlc_after, false, losses_after, map}
+use Rattle.link_laws.proofs.Words.{no_losses, refl, shdlc_number_of, start, start_down, suc, sure_after, true, zero, ℕ, ◌++◌, ◌∷◌, ◌≡◌}
+use Rattle.link_laws.specs.sessions.Sessions.ShdlcEndEvent.{Cut}
 
 abbrev ticks : ℕ → List ShdlcLinkEvent
 ticks zero = []

@@ -1,15 +1,12 @@
 -- Which RSETs and UAs stand on the two wires, with their numbers and ages, and the timers of the ends that wait for them.
-use Rattle.std.proofs.Common.{◌≡◌, ℕ, ◌+◌, ◌<◌, ◌≤◌, List, [], ◌∷◌, ◌++◌, Option, Some, None, ◌⊎◌, inl, inr, refl, ap, sym, ◌∙◌, arith, max, append-nil}
-use Rattle.swp_base.specs.declared.control_frames.Control.TheVariants.{Rset, Ua}
-use Rattle.shdlc_core.specs.declared.answers.LinkState.{LinkState}
-use Rattle.shdlc_core.specs.declared.answers.LinkState.TheVariants.{Down, Waiting, Up}
-use Rattle.link_laws.specs.sessions.Sessions.{OnWire, NumberedShdlc, older}
+use Rattle.std.proofs.Common.{max}
+use Rattle.link_laws.proofs.Words.{Down, LinkState, List, None, NumberedShdlc, OnWire, Option, Rset, Some, Ua, Up, Waiting, [], ap, append-nil, arith, inl, inr}
+use Rattle.link_laws.proofs.Words.{older, refl, sym, ℕ, ◌++◌, ◌+◌, ◌<◌, ◌∙◌, ◌∷◌, ◌≡◌, ◌≤◌, ◌⊎◌}
 use Rattle.link_laws.proofs.sessions.Wire.{IsData, data_not_rset, data_not_ua, not_rset_adds, not_ua_adds, data_behind, not_rset_tail, rset_young, ua_young}
 use Rattle.link_laws.proofs.sessions.Wire.{after_rset_empty, rsets, uas, NumberOk, Numbered, Tail, AfterRset, behind_ua, live, Young, rsets-append, uas-append}
-use Rattle.link_laws.proofs.sessions.Wire.{numbered-append, numbered_none, tail_none, tail_push, tail_push_ua, behind_none, behind_push}
-use Rattle.link_laws.proofs.sessions.Wire.{behind_push_none, behind_new}
-use Rattle.link_laws.proofs.sessions.Wire.{behind_rsets, plus_one, rsets-older, uas-older, numbered_older, tail_older, behind_ua-older, live-older, older_part}
-use Rattle.link_laws.proofs.sessions.Wire.{young_push, young_later}
+use Rattle.link_laws.proofs.sessions.Wire.{numbered-append, numbered_none, tail_none, tail_push, tail_push_ua, behind_none, behind_push, behind_push_none}
+use Rattle.link_laws.proofs.sessions.Wire.{behind_new, behind_rsets, plus_one, rsets-older, uas-older, numbered_older, tail_older, behind_ua-older, live-older}
+use Rattle.link_laws.proofs.sessions.Wire.{older_part, young_push, young_later}
 
 -- what of an end the handshake knows
 pub record Peer : Type 0 where

@@ -1,34 +1,24 @@
 -- Each event keeps what joins two ends that are in one session.
-use Rattle.std.proofs.Common.{◌≡◌, ℕ, ◌+◌, ◌<◌, ◌≤◌, ◌==◌, Bool, true, false, cond, ◌||◌, ◌&&◌, List, [], ◌∷◌, ◌++◌, Option, Some, None, ◌⊎◌, inl, inr, refl}
-use Rattle.std.proofs.Common.{ap, sym, subst, ◌∙◌, arith, length, drop, map, max, min}
-use Rattle.std.specs.Prelude.{nat_lt, is_some}
-use Rattle.std.proofs.lemmas.Bool.{or_parts, eqb-false, true≢false, ne_eqb, ltb-false}
-use Rattle.swp_base.specs.declared.control_frames.Control.{Control}
-use Rattle.swp_base.specs.declared.control_frames.Control.TheVariants.{I, S, Rset, Ua, Act, Clt}
-use Rattle.swp_base.specs.declared.control_frames.Act.{Act as Activation}
-use Rattle.shdlc_core.specs.declared.answers.LinkState.{LinkState}
-use Rattle.shdlc_core.specs.declared.answers.LinkState.TheVariants.{Down, Waiting, Up}
-use Rattle.shdlc_core.specs.declared.answers.Due.{Due}
-use Rattle.shdlc_core.specs.declared.answers.Due.TheVariants.{Rr as Rr_due, Rej as Rej_due, Rnr as Rnr_due, Rset as Rset_due, Ua as Ua_due}
-use Rattle.shdlc_core.specs.Machine.{EndState, Session, begun, new_end, new_session, no_session, frame_due, taken, take_answer, ticked, tick_answer, is_waiting}
-use Rattle.shdlc_core.specs.Machine.{waiting_from, up_with, given_up, asked_again, reset_with, stopped, runs_timer}
-use Rattle.link_laws.specs.places.Order.{FragmentsDelivered}
+use Rattle.std.proofs.Common.{◌==◌, ◌&&◌, max}
+use Rattle.link_laws.proofs.Words.{Act, Activation, AllShdlcAllowed, AreTurns, Bool, BothDown, BothUp, Clt, Control, CoreActs as Acts}
+use Rattle.link_laws.proofs.Words.{CoreAtController as AtController, CoreAtHost as AtHost, CoreDeliver as Deliver, CoreEndEvent as ShdlcEndEvent}
+use Rattle.link_laws.proofs.Words.{CoreLink as ShdlcLink, CoreLose as Lose, CoreReset as Reset, CoreStop as Stop, CoreTurn as ShdlcTurn, Down, Due, EndState}
+use Rattle.link_laws.proofs.Words.{FragmentsDelivered, I, Ignore, IsShdlcQuiet, IsShdlcStart, IsTurn, LinkState, List, Losses, None, NumberedShdlc, Offer}
+use Rattle.link_laws.proofs.Words.{OnWire, Option, Rej_due, Rnr_due, Rr_due, Rset, Rset_due, S, Session, SetReady, ShdlcLinkEvent, Some, Tick, TickWithout}
+use Rattle.link_laws.proofs.Words.{Turns, Ua, Ua_due, Up, Waiting, [], act_frame, ap, arith, asked_again, begun, came_up, cond, core_after as shdlc_after}
+use Rattle.link_laws.proofs.Words.{core_aged as shdlc_aged, core_all_here as shdlc_all_at_controller, core_happens_here as shdlc_happens_at_controller}
+use Rattle.link_laws.proofs.Words.{core_ticks_if_waiting as ticks_if_waiting, core_ticks_or_cut as ticks_or_cut, core_turned as shdlc_turned}
+use Rattle.link_laws.proofs.Words.{core_with_ended as with_shdlc_ended, counts_first, drop, eqb-false, false, fits, frame_due, given_up, inl, inr, is_act}
+use Rattle.link_laws.proofs.Words.{is_some, is_up, is_up_with, is_waiting, length, loses_aged, losses_after, ltb-false, map, min, nat_lt, ne_eqb, new_end}
+use Rattle.link_laws.proofs.Words.{new_session, no_losses, no_session, noted_aged, noted_all, noted_event, noted_here, noted_if_waiting, noted_loss, noted_out}
+use Rattle.link_laws.proofs.Words.{noted_tick, noted_turns, or_parts, overflows, refl, reset_with, runs_timer, sans, shdlc_becomes, shdlc_exchanged}
+use Rattle.link_laws.proofs.Words.{shdlc_happens, shdlc_number_of, shdlc_put, shdlc_put_all, shdlc_silent, shdlc_ticks_at_controller, shdlc_turn, start_down}
+use Rattle.link_laws.proofs.Words.{stopped, subst, sym, take_answer, taken, tick_answer, ticked, took_with, true, true≢false, up_with, waiting_from}
+use Rattle.link_laws.proofs.Words.{with_shdlc_controller, ℕ, ◌++◌, ◌+◌, ◌<◌, ◌||◌, ◌∙◌, ◌∷◌, ◌≡◌, ◌≤◌, ◌⊎◌}
 use Rattle.link_laws.proofs.places.Delivered.{delivered}
 use Rattle.link_laws.proofs.places.Whole.{AnswersOnly}
 use Rattle.link_laws.proofs.places.Joined.{Joined, joined_ticked, joined_taken, tick_cases}
-use Rattle.link_laws.specs.sessions.Sessions.{OnWire, NumberedShdlc, ShdlcLink, fits, start_down, IsShdlcStart, shdlc_exchanged, shdlc_number_of, shdlc_put}
-use Rattle.link_laws.specs.sessions.Sessions.{shdlc_put_all, shdlc_becomes, with_shdlc_controller, with_shdlc_ended, shdlc_silent, took_with, is_up, act_frame}
-use Rattle.link_laws.specs.sessions.Sessions.{shdlc_happens_at_controller, shdlc_ticks_at_controller, shdlc_aged, ShdlcEndEvent, IsTurn, AreTurns}
-use Rattle.link_laws.specs.sessions.Sessions.{shdlc_all_at_controller, ticks_or_cut, ticks_if_waiting, ShdlcLinkEvent, AllShdlcAllowed, shdlc_happens}
-use Rattle.link_laws.specs.sessions.Sessions.{shdlc_after}
-use Rattle.link_laws.specs.sessions.Sessions.{ShdlcTurn, shdlc_turn, shdlc_turned}
-use Rattle.link_laws.specs.sessions.Sessions.ShdlcTurn.{Offer, SetReady}
-use Rattle.link_laws.specs.sessions.Sessions.ShdlcEndEvent.{Turns, Deliver, Ignore, Acts, Lose, Reset, Cut, Stop}
-use Rattle.link_laws.specs.sessions.Sessions.ShdlcLinkEvent.{AtController, AtHost, Tick, TickWithout}
-use Rattle.link_laws.specs.sessions.Sessions.IsShdlcStart.{BothUp, BothDown}
-use Rattle.link_laws.specs.sessions.Losses.{is_act, sans, Losses, no_losses, counts_first, overflows, noted_loss, noted_all, noted_out, is_up_with, came_up}
-use Rattle.link_laws.specs.sessions.Losses.{noted_here, noted_turns, noted_tick, noted_if_waiting, loses_aged, noted_aged, noted_event, losses_after}
-use Rattle.link_laws.specs.sessions.Losses.{IsShdlcQuiet}
+use Rattle.link_laws.specs.sessions.Sessions.ShdlcEndEvent.{Cut}
 use Rattle.link_laws.proofs.sessions.Wire.{IsData, rsets, uas, behind_ua, live, behind_none, data_behind, AfterRset, after_rset_empty}
 use Rattle.link_laws.proofs.sessions.Hand.{NothingIsOut, IsRset, idle_out, ua_told, rset_told, nothing_out}
 use Rattle.link_laws.proofs.sessions.Data.{IsAnswer, taken_up}
@@ -36,9 +26,8 @@ use Rattle.link_laws.proofs.sessions.Safe.{Safe, agreed, pair_from, Idle, frame_
 use Rattle.link_laws.proofs.sessions.Sending.{SafeLink, sans-push_act, fits_keeps, no_rset_out, room, ready_by, at_most_one}
 use Rattle.link_laws.proofs.sessions.Steps.{passes, passes_act, took, took_other, not_rset, fresh, aged-fresh, sans-aged, safe_fresh, safe_aged, safe_turn}
 use Rattle.link_laws.proofs.sessions.Steps.{safe_turns, safe_exchanged, tick_or_cut, tick_if_waiting, safe_event, safe_start}
-use Rattle.link_laws.proofs.sessions.Ties.{as_up, to_up, Meets, Tied, IsWhole, TiedLink, tied_swap, meets_like, none_due, IsNew, waiting_new}
-use Rattle.link_laws.proofs.sessions.Ties.{tied_new, new_meets}
-use Rattle.link_laws.proofs.sessions.Ties.{behind_fits, Rests, drains, sends_nothing, sends_ua, tied_none, tied_older, turned-phase}
+use Rattle.link_laws.proofs.sessions.Ties.{as_up, to_up, Meets, Tied, IsWhole, TiedLink, tied_swap, meets_like, none_due, IsNew, waiting_new, tied_new}
+use Rattle.link_laws.proofs.sessions.Ties.{new_meets, behind_fits, Rests, drains, sends_nothing, sends_ua, tied_none, tied_older, turned-phase}
 
 -- one answer at most
 one_answer : (due before : List Due) → before ≡ [] → (due ≡ before) ⊎ ((d : Due) × IsAnswer d × (due ≡ before ++ d ∷ [])) → AnswersOnly due × (length due ≤ 1)

@@ -1,33 +1,23 @@
 -- A reset while the other end isn't Waiting is answered, where nothing is lost.
-use Rattle.std.proofs.Common.{◌≡◌, ℕ, zero, suc, ◌+◌, Bool, true, false, cond, not, ◌&&◌, ◌||◌, List, [], ◌∷◌, ◌++◌, Option, Some, None, ◌⊎◌, inl, inr, refl}
-use Rattle.std.proofs.Common.{ap, sym, subst, ◌∙◌, drop, length, map, min}
-use Rattle.std.specs.Prelude.{nat_lt, is_some}
-use Rattle.std.proofs.lemmas.Bool.{and_parts, or_parts, not-true, true≢false, ltb-false}
-use Rattle.std.proofs.Common.{arith}
-use Rattle.swp_base.specs.declared.control_frames.Control.{Control}
-use Rattle.swp_base.specs.declared.control_frames.Control.TheVariants.{I, S, Rset, Ua, Act, Clt}
-use Rattle.swp_base.specs.declared.control_frames.Act.{Act as Activation}
-use Rattle.shdlc_core.specs.declared.answers.LinkState.{LinkState}
-use Rattle.shdlc_core.specs.declared.answers.LinkState.TheVariants.{Down, Waiting, Up}
-use Rattle.shdlc_core.specs.declared.answers.Due.{Due}
-use Rattle.shdlc_core.specs.declared.answers.Due.TheVariants.{Rset as Rset_due, Ua as Ua_due}
-use Rattle.shdlc_core.specs.Machine.{EndState, no_session, fetched, frame_due, frames_of, after_frames, taken, take_answer, ticked, tick_answer, is_waiting}
-use Rattle.shdlc_core.specs.Machine.{up_with, waiting_from, asked_again, given_up, reset_with, runs_timer}
+use Rattle.std.proofs.Common.{not, ◌&&◌}
+use Rattle.link_laws.proofs.Words.{Act, Activation, AllShdlcAllowed, AreTurns, Bool, Clt, Control, CoreActs as Acts, CoreAreUpTogether as AreShdlcUpTogether}
+use Rattle.link_laws.proofs.Words.{CoreAtController as AtController, CoreAtHost as AtHost, CoreDeliver as Deliver, CoreEndEvent as ShdlcEndEvent}
+use Rattle.link_laws.proofs.Words.{CoreLink as ShdlcLink, CoreLose as Lose, CoreReset as Reset, CoreStop as Stop, CoreTurn as ShdlcTurn, Down, Due, EndState, I}
+use Rattle.link_laws.proofs.Words.{Ignore, IsShdlcSettled, IsShdlcStart, IsTurn, LinkState, List, None, NumberedShdlc, Offer, OnWire, Option, Rset, Rset_due, S}
+use Rattle.link_laws.proofs.Words.{SetReady, ShdlcLinkEvent, Some, Tick, TickWithout, Turns, Ua, Ua_due, Up, Waiting, [], act_frame, after_frames, aged_wire}
+use Rattle.link_laws.proofs.Words.{and_parts, ap, arith, asked_again, cond, core_after as shdlc_after, core_aged as shdlc_aged}
+use Rattle.link_laws.proofs.Words.{core_all_here as shdlc_all_at_controller, core_happens_here as shdlc_happens_at_controller}
+use Rattle.link_laws.proofs.Words.{core_ticks_if_waiting as ticks_if_waiting, core_ticks_or_cut as ticks_or_cut, core_turned as shdlc_turned}
+use Rattle.link_laws.proofs.Words.{core_with_ended as with_shdlc_ended, counts_first, drop, false, fetched, fits, frame_due, frames_of, given_up, inl, inr}
+use Rattle.link_laws.proofs.Words.{is_act, is_some, is_up, is_waiting, length, loses_aged, ltb-false, map, min, nat_lt, no_session, not-true, older, or_parts}
+use Rattle.link_laws.proofs.Words.{overflows, refl, reset_with, runs_timer, sans, shdlc_becomes, shdlc_exchanged, shdlc_happens, shdlc_number_of, shdlc_put}
+use Rattle.link_laws.proofs.Words.{shdlc_put_all, shdlc_ticks_at_controller, shdlc_turn, subst, suc, sure_after, sure_aged, sure_all, sure_event, sure_here}
+use Rattle.link_laws.proofs.Words.{sure_if_waiting, sure_out, sure_put, sure_tick, sure_turns, sym, take_answer, taken, tick_answer, ticked, took_with, true}
+use Rattle.link_laws.proofs.Words.{true≢false, up_with, waiting_from, with_shdlc_controller, zero, ℕ, ◌++◌, ◌+◌, ◌||◌, ◌∙◌, ◌∷◌, ◌≡◌, ◌⊎◌}
 use Rattle.link_laws.proofs.places.Whole.{AnswersOnly}
 use Rattle.link_laws.proofs.places.Joined.{tick_cases, ready_cases}
 use Rattle.link_laws.proofs.places.Idle.{fetched_idle, after_frames_idle}
-use Rattle.link_laws.specs.sessions.Sessions.{OnWire, NumberedShdlc, ShdlcLink, IsShdlcStart, shdlc_exchanged, shdlc_number_of, fits, shdlc_put, shdlc_put_all}
-use Rattle.link_laws.specs.sessions.Sessions.{shdlc_becomes, with_shdlc_controller, with_shdlc_ended, took_with, is_up, act_frame, shdlc_happens_at_controller}
-use Rattle.link_laws.specs.sessions.Sessions.{shdlc_ticks_at_controller, older, aged_wire, shdlc_aged, ShdlcEndEvent, IsTurn, AreTurns, shdlc_all_at_controller}
-use Rattle.link_laws.specs.sessions.Sessions.{ticks_or_cut, ticks_if_waiting, ShdlcLinkEvent, AllShdlcAllowed, shdlc_happens, shdlc_after, ShdlcTurn}
-use Rattle.link_laws.specs.sessions.Sessions.{shdlc_turn}
-use Rattle.link_laws.specs.sessions.Sessions.{shdlc_turned}
-use Rattle.link_laws.specs.sessions.Sessions.ShdlcTurn.{Offer, SetReady}
-use Rattle.link_laws.specs.sessions.Sessions.ShdlcEndEvent.{Turns, Deliver, Ignore, Acts, Lose, Reset, Cut, Stop}
-use Rattle.link_laws.specs.sessions.Sessions.ShdlcLinkEvent.{AtController, AtHost, Tick, TickWithout}
-use Rattle.link_laws.specs.sessions.Losses.{is_act, sans, counts_first, overflows, loses_aged}
-use Rattle.link_laws.specs.sessions.Settled.{sure_put, sure_all, sure_out, sure_here, sure_turns, sure_tick, sure_if_waiting, sure_aged, sure_event, sure_after}
-use Rattle.link_laws.specs.sessions.Settled.{IsShdlcSettled, AreShdlcUpTogether}
+use Rattle.link_laws.specs.sessions.Sessions.ShdlcEndEvent.{Cut}
 use Rattle.link_laws.proofs.sessions.Wire.{IsData, data_not_rset, data_not_ua, not_rset_adds, not_ua_adds, rsets, uas, rsets-append, uas-append, plus_one}
 use Rattle.link_laws.proofs.sessions.Wire.{rsets-older, uas-older}
 use Rattle.link_laws.proofs.sessions.Hand.{NothingIsOut, nothing_out}

@@ -1,19 +1,13 @@
 -- All that is true of a link over resets, and how each thing that one end does keeps it.
-use Rattle.std.proofs.Common.{◌≡◌, ℕ, ◌+◌, ◌<◌, ◌≤◌, ◌==◌, Bool, true, false, List, [], ◌∷◌, ◌++◌, Option, Some, None, ◌⊎◌, inl, inr, refl, ap, sym, subst, ◌∙◌}
-use Rattle.std.proofs.Common.{arith}
-use Rattle.swp_base.specs.declared.control_frames.Control.{Control}
-use Rattle.swp_base.specs.declared.control_frames.Control.TheVariants.{I, S, Rset, Ua, Act, Clt}
-use Rattle.shdlc_core.specs.declared.answers.LinkState.{LinkState}
-use Rattle.shdlc_core.specs.declared.answers.LinkState.TheVariants.{Down, Waiting, Up}
-use Rattle.shdlc_core.specs.Machine.{EndState, Session, new_session, no_session}
-use Rattle.std.proofs.lemmas.Bool.{eqb-true}
-use Rattle.link_laws.specs.sessions.Sessions.{OnWire, NumberedShdlc, older, shdlc_number_of, shdlc_session_of, ended_session}
+use Rattle.std.proofs.Common.{◌==◌}
+use Rattle.link_laws.proofs.Words.{Act, Bool, Clt, Control, Down, EndState, I, LinkState, List, None, NumberedShdlc, OnWire, Option, Rset, S, Session, Some, Ua}
+use Rattle.link_laws.proofs.Words.{Up, Waiting, [], ap, arith, ended_session, eqb-true, false, inl, inr, new_session, no_session, older, refl, shdlc_number_of}
+use Rattle.link_laws.proofs.Words.{shdlc_session_of, subst, sym, true, ℕ, ◌++◌, ◌+◌, ◌<◌, ◌∙◌, ◌∷◌, ◌≡◌, ◌≤◌, ◌⊎◌}
 use Rattle.link_laws.proofs.sessions.Wire.{IsData, rsets, uas, AfterRset, behind_ua, live, Young, behind_none, behind_push, behind_push_none, behind_new}
 use Rattle.link_laws.proofs.sessions.Wire.{behind_rsets, data_behind, after_rset_empty, live-older, older_part}
 use Rattle.link_laws.proofs.sessions.Hand.{peer_of, Hand, Agrees, NothingIsOut, IsRset, IsNextRset, IsNewUa, hand_swap, hand_empty, idle_out, ua_told}
-use Rattle.link_laws.proofs.sessions.Hand.{rset_told}
-use Rattle.link_laws.proofs.sessions.Hand.{hand_past, hand_ask, hand_down, hand_up_ua, hand_up_rset, hand_wait_rset, hand_lose_rset, hand_lose_ua, hand_ignore}
-use Rattle.link_laws.proofs.sessions.Hand.{hand_older}
+use Rattle.link_laws.proofs.sessions.Hand.{rset_told, hand_past, hand_ask, hand_down, hand_up_ua, hand_up_rset, hand_wait_rset, hand_lose_rset, hand_lose_ua}
+use Rattle.link_laws.proofs.sessions.Hand.{hand_ignore, hand_older}
 use Rattle.link_laws.proofs.sessions.Data.{Base, Active, OnLive, active_empty, active_lost, Below, below_more, none_ended, bound, of_up, of_update, of_none}
 use Rattle.link_laws.proofs.sessions.Data.{base_begins, base_begins_there, Pair, shows_push_rset, shows_older}
 

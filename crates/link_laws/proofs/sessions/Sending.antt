@@ -1,26 +1,13 @@
 -- An end has its turns, and then all that is due goes out.
-use Rattle.std.proofs.Common.{◌≡◌, ℕ, zero, suc, ◌+◌, ◌%◌, ◌≤◌, Bool, true, false, cond, List, [], ◌∷◌, ◌++◌, Option, Some, None, ◌⊎◌, inl, inr, refl, ap, sym}
-use Rattle.std.proofs.Common.{subst, ◌∙◌, arith, length, length-append, drop, map}
 use Rattle.std.proofs.lemmas.List.{map-append}
-use Rattle.std.specs.Prelude.{nat_lt}
-use Rattle.std.proofs.lemmas.Bool.{true≢false}
-use Rattle.swp_base.specs.declared.control_frames.Kind.{Kind}
-use Rattle.swp_base.specs.declared.control_frames.Kind.TheVariants.{Rr, Rej, Rnr}
-use Rattle.swp_base.specs.declared.control_frames.Control.{Control}
-use Rattle.swp_base.specs.declared.control_frames.Control.TheVariants.{I, S}
-use Rattle.shdlc_core.specs.declared.answers.LinkState.{LinkState}
-use Rattle.shdlc_core.specs.declared.answers.LinkState.TheVariants.{Down, Waiting, Up}
-use Rattle.shdlc_core.specs.declared.answers.Due.{Due}
-use Rattle.shdlc_core.specs.declared.answers.Due.TheVariants.{Rr as Rr_due, Rej as Rej_due, Rnr as Rnr_due, Rset as Rset_due, Ua as Ua_due}
-use Rattle.shdlc_core.specs.Machine.{EndState, Session, Fragment, no_session, sent_next, fetched, frame_due, fragment_due, control_due, expected, frames_of}
-use Rattle.shdlc_core.specs.Machine.{after_frames, put_out, with_ready}
-use Rattle.shdlc_core.proofs.Histories.{fragment_due-within}
+use Rattle.link_laws.proofs.Words.{Bool, Control, CoreLink as ShdlcLink, CoreTurn as ShdlcTurn, Down, Due, EndState, Fragment, I, Kind, LinkState, List, None}
+use Rattle.link_laws.proofs.Words.{NumberedShdlc, Offer, OnWire, Option, Rej, Rej_due, Rnr, Rnr_due, Rr, Rr_due, Rset_due, S, Session, SetReady, Some, Ua_due}
+use Rattle.link_laws.proofs.Words.{Up, Waiting, [], after_frames, ap, arith, cond, control_due, core_turned as shdlc_turned, drop, expected, false, fetched}
+use Rattle.link_laws.proofs.Words.{fits, fragment_due, fragment_due-within, frame_due, frames_of, inl, inr, is_act, length, length-append, map, nat_lt}
+use Rattle.link_laws.proofs.Words.{no_session, put_out, refl, sans, sent_next, shdlc_becomes, shdlc_put, shdlc_put_all, shdlc_turn, subst, suc, sym, true}
+use Rattle.link_laws.proofs.Words.{true≢false, with_ready, with_shdlc_controller, zero, ℕ, ◌%◌, ◌++◌, ◌+◌, ◌∙◌, ◌∷◌, ◌≡◌, ◌≤◌, ◌⊎◌}
 use Rattle.link_laws.proofs.places.Idle.{fetched_idle, after_frames_idle}
 use Rattle.link_laws.proofs.places.Joined.{fetch_cases, changed}
-use Rattle.link_laws.specs.sessions.Sessions.{OnWire, NumberedShdlc, ShdlcLink, fits, shdlc_put, shdlc_put_all, with_shdlc_controller, shdlc_becomes, ShdlcTurn}
-use Rattle.link_laws.specs.sessions.Sessions.{shdlc_turn, shdlc_turned}
-use Rattle.link_laws.specs.sessions.Losses.{is_act, sans}
-use Rattle.link_laws.specs.sessions.Sessions.ShdlcTurn.{Offer, SetReady}
 use Rattle.link_laws.proofs.sessions.Wire.{IsData, rsets, behind_ua, live, behind_push, behind_push_none, behind_rsets, data_not_ua}
 use Rattle.link_laws.proofs.sessions.Hand.{NothingIsOut, idle_out, hand_send, hand_timer}
 use Rattle.link_laws.proofs.sessions.Data.{Pair, pair_next, pair_put, Plain, pushed, pair_send, pair_send_S, IsAnswer}

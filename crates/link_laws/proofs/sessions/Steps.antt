@@ -1,37 +1,27 @@
 -- Each event keeps all that is true of a link.
-use Rattle.std.proofs.Common.{◌≡◌, ℕ, ◌+◌, ◌<◌, ◌≤◌, ◌==◌, Bool, true, false, cond, List, [], ◌∷◌, ◌++◌, Option, Some, None, ◌⊎◌, inl, inr, refl, ap, sym}
-use Rattle.std.proofs.Common.{subst, ◌∙◌, arith, max, min, map}
-use Rattle.std.specs.Prelude.{nat_lt, is_some}
-use Rattle.std.proofs.lemmas.Bool.{ltb-true, ltb-false, ne_eqb}
-use Rattle.swp_base.specs.declared.control_frames.Control.{Control}
-use Rattle.swp_base.specs.declared.control_frames.Control.TheVariants.{I, S, Rset, Ua, Act, Clt}
-use Rattle.shdlc_core.specs.declared.answers.LinkState.{LinkState}
-use Rattle.shdlc_core.specs.declared.answers.LinkState.TheVariants.{Down, Waiting, Up}
-use Rattle.shdlc_core.specs.declared.answers.Due.{Due}
-use Rattle.shdlc_core.specs.declared.answers.Due.TheVariants.{Rset as Rset_due, Ua as Ua_due}
-use Rattle.shdlc_core.specs.Machine.{EndState, Session, begun, new_session, no_session, taken, take_answer, ticked, tick_answer, reset_with, stopped, new_end}
-use Rattle.shdlc_core.specs.Machine.{waiting_from, runs_timer, sent_again, asked_again, given_up, up_with, is_waiting}
-use Rattle.link_laws.specs.places.Order.{FragmentsInOrder}
-use Rattle.link_laws.specs.sessions.Sessions.{OnWire, NumberedShdlc, new_numbered_shdlc, ShdlcLink, bare, IsShdlcStart, shdlc_exchanged, shdlc_number_of}
-use Rattle.link_laws.specs.sessions.Sessions.{shdlc_session_of, ended_session, is_rset, shdlc_put, shdlc_put_all, shdlc_becomes, with_shdlc_ended, ShdlcTurn}
-use Rattle.link_laws.specs.sessions.Sessions.{shdlc_turned, is_up, ShdlcEndEvent, IsShdlcAllowed, shdlc_silent, took_with, act_frame}
-use Rattle.link_laws.specs.sessions.Sessions.{shdlc_happens_at_controller}
-use Rattle.link_laws.specs.sessions.Sessions.{shdlc_ticks_at_controller, older, aged_wire, shdlc_aged, ShdlcLinkEvent, IsTurn, AreTurns}
-use Rattle.link_laws.specs.sessions.Sessions.{shdlc_all_at_controller}
-use Rattle.link_laws.specs.sessions.Sessions.{ticks_or_cut, ticks_if_waiting, AllShdlcAllowed, shdlc_happens, shdlc_after}
-use Rattle.link_laws.specs.sessions.Losses.{is_act, sans}
-use Rattle.link_laws.specs.sessions.Sessions.IsShdlcStart.{BothUp, BothDown}
-use Rattle.swp_base.specs.declared.control_frames.Act.{Act as Activation}
-use Rattle.link_laws.specs.sessions.Sessions.ShdlcEndEvent.{Turns, Deliver, Ignore, Acts, Lose, Reset, Cut, Stop}
-use Rattle.link_laws.specs.sessions.Sessions.ShdlcLinkEvent.{AtController, AtHost, Tick, TickWithout}
+use Rattle.std.proofs.Common.{◌==◌, max}
+use Rattle.link_laws.proofs.Words.{Act, Activation, AllShdlcAllowed, AreTurns, Bool, BothDown, BothUp, Clt, Control, CoreActs as Acts}
+use Rattle.link_laws.proofs.Words.{CoreAtController as AtController, CoreAtHost as AtHost, CoreDeliver as Deliver, CoreEndEvent as ShdlcEndEvent}
+use Rattle.link_laws.proofs.Words.{CoreInOrder as FragmentsInOrder, CoreIsAllowed as IsShdlcAllowed, CoreLink as ShdlcLink, CoreLose as Lose}
+use Rattle.link_laws.proofs.Words.{CoreReset as Reset, CoreStop as Stop, CoreTurn as ShdlcTurn, Down, Due, EndState, I, Ignore, IsShdlcStart, IsTurn, LinkState}
+use Rattle.link_laws.proofs.Words.{List, None, NumberedShdlc, OnWire, Option, Rset, Rset_due, S, Session, ShdlcLinkEvent, Some, Tick, TickWithout, Turns, Ua}
+use Rattle.link_laws.proofs.Words.{Ua_due, Up, Waiting, [], act_frame, aged_wire, ap, arith, asked_again, begun, cond, core_after as shdlc_after}
+use Rattle.link_laws.proofs.Words.{core_aged as shdlc_aged, core_all_here as shdlc_all_at_controller, core_happens_here as shdlc_happens_at_controller}
+use Rattle.link_laws.proofs.Words.{core_ticks_if_waiting as ticks_if_waiting, core_ticks_or_cut as ticks_or_cut, core_turned as shdlc_turned}
+use Rattle.link_laws.proofs.Words.{core_with_ended as with_shdlc_ended, ended_session, false, given_up, inl, inr, is_act, is_rset, is_some, is_up, is_waiting}
+use Rattle.link_laws.proofs.Words.{ltb-false, ltb-true, map, min, nat_lt, ne_eqb, new_end, new_session, no_session, older, refl, reset_with, runs_timer, sans}
+use Rattle.link_laws.proofs.Words.{sent_again, shdlc_becomes, shdlc_exchanged, shdlc_happens, shdlc_number_of, shdlc_put, shdlc_put_all, shdlc_session_of}
+use Rattle.link_laws.proofs.Words.{shdlc_silent, shdlc_ticks_at_controller, stopped, subst, sym, take_answer, taken, tick_answer, ticked, took_with, true}
+use Rattle.link_laws.proofs.Words.{up_with, waiting_from, ℕ, ◌++◌, ◌+◌, ◌<◌, ◌∙◌, ◌∷◌, ◌≡◌, ◌≤◌, ◌⊎◌}
+use Rattle.link_laws.specs.sessions.Sessions.{new_numbered_shdlc, bare}
+use Rattle.link_laws.specs.sessions.Sessions.ShdlcEndEvent.{Cut}
 use Rattle.link_laws.proofs.sessions.Wire.{IsData, rsets, behind_ua, live, Young, data_behind, young_later, young_older}
 use Rattle.link_laws.proofs.sessions.Hand.{peer_of, NothingIsOut, IsRset, IsNextRset, hand_empty, agrees_from, idle_out, ua_told, rset_told, ahead_not_waiting}
 use Rattle.link_laws.proofs.sessions.Hand.{hand_past, hand_timer, nothing_out}
 use Rattle.link_laws.proofs.sessions.Data.{Base, Below, below_more, none_ended, bound, OnLive, Pair, pair_next, IsAnswer, taken_up}
-use Rattle.link_laws.proofs.sessions.Safe.{HasWindows, Safe, session_with, agreed, safe_swap, pair_from, safe_up, safe_idle, Idle, HaveEnded}
-use Rattle.link_laws.proofs.sessions.Safe.{moves_end, moves_none}
-use Rattle.link_laws.proofs.sessions.Safe.{waiting_end, safe_asks, safe_down, up_end, safe_up_ua, safe_up_rset, WaitsOn, safe_wait_rset, frame_cases, safe_lose}
-use Rattle.link_laws.proofs.sessions.Safe.{safe_ignore, safe_older, live_empty, safe_silent}
+use Rattle.link_laws.proofs.sessions.Safe.{HasWindows, Safe, session_with, agreed, safe_swap, pair_from, safe_up, safe_idle, Idle, HaveEnded, moves_end}
+use Rattle.link_laws.proofs.sessions.Safe.{moves_none, waiting_end, safe_asks, safe_down, up_end, safe_up_ua, safe_up_rset, WaitsOn, safe_wait_rset}
+use Rattle.link_laws.proofs.sessions.Safe.{frame_cases, safe_lose, safe_ignore, safe_older, live_empty, safe_silent}
 use Rattle.link_laws.proofs.sessions.Sending.{SafeAt, SafeLink, sans-push_act, fits_keeps, safe_fits, no_rset_out, up_step, becomes_none, becomes_one}
 use Rattle.link_laws.proofs.sessions.Sending.{becomes_taken}
 

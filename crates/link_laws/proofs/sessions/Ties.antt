@@ -1,26 +1,16 @@
 -- Two ends that are in one session, or will be once they took the UAs on their way to them: what joins them while nothing of
 -- the session was lost and no RNR made.
-use Rattle.std.proofs.Common.{◌≡◌, ℕ, zero, suc, ◌+◌, ◌%◌, ◌<◌, ◌≤◌, Bool, true, false, cond, ◌||◌, ◌&&◌, List, [], ◌∷◌, ◌++◌, Option, Some, None, ◌⊎◌, inl}
-use Rattle.std.proofs.Common.{inr, refl, ap, sym, subst, ◌∙◌, arith, length, length-append, drop, min}
-use Rattle.std.specs.Prelude.{nat_lt}
-use Rattle.std.proofs.lemmas.Bool.{or_parts}
-use Rattle.swp_base.specs.declared.control_frames.Control.{Control}
-use Rattle.swp_base.specs.declared.control_frames.Control.TheVariants.{I, S, Rset, Ua, Act, Clt}
-use Rattle.shdlc_core.specs.declared.answers.LinkState.{LinkState}
-use Rattle.shdlc_core.specs.declared.answers.LinkState.TheVariants.{Down, Waiting, Up}
-use Rattle.shdlc_core.specs.declared.answers.Due.{Due}
-use Rattle.shdlc_core.specs.declared.answers.Due.TheVariants.{Rr as Rr_due, Rej as Rej_due, Rnr as Rnr_due, Rset as Rset_due, Ua as Ua_due}
-use Rattle.shdlc_core.specs.Machine.{EndState, Fragment, new_session, fetched, frame_due, fragment_due, control_due, expected, frames_of, after_frames, put_out}
-use Rattle.shdlc_core.specs.Machine.{with_ready}
-use Rattle.link_laws.specs.places.Wire.{with_frame, is_rnr}
+use Rattle.std.proofs.Common.{◌&&◌}
+use Rattle.link_laws.proofs.Words.{Act, Bool, Clt, Control, CoreLink as ShdlcLink, CoreTurn as ShdlcTurn, Down, Due, EndState, Fragment, I, LinkState, List}
+use Rattle.link_laws.proofs.Words.{Losses, None, Offer, OnWire, Option, Rej_due, Rnr_due, Rr_due, Rset, Rset_due, S, SetReady, Some, Ua, Ua_due, Up, Waiting}
+use Rattle.link_laws.proofs.Words.{[], after_frames, ap, arith, cond, control_due, core_turned as shdlc_turned, counts_first, drop, expected, false, fetched}
+use Rattle.link_laws.proofs.Words.{fits, fragment_due, frame_due, frames_of, inl, inr, is_act, is_rnr, length, length-append, min, nat_lt, new_session}
+use Rattle.link_laws.proofs.Words.{noted_all, noted_loss, older, or_parts, overflows, put_out, refl, sans, shdlc_put, shdlc_put_all, shdlc_turn, subst, suc}
+use Rattle.link_laws.proofs.Words.{sym, true, with_frame, with_ready, with_shdlc_controller, zero, ℕ, ◌%◌, ◌++◌, ◌+◌, ◌<◌, ◌||◌, ◌∙◌, ◌∷◌, ◌≡◌, ◌≤◌, ◌⊎◌}
 use Rattle.link_laws.proofs.places.Flows.{flows_new}
 use Rattle.link_laws.proofs.places.Whole.{AnswersOnly, Whole}
 use Rattle.link_laws.proofs.places.Joined.{Joined, joined_exchanged, joined_older, joined_fetched, joined_put, joined_ready, ready_cases, fetch_cases}
 use Rattle.link_laws.proofs.places.Idle.{fetched_idle, after_frames_idle, left, idle_after}
-use Rattle.link_laws.specs.sessions.Sessions.{OnWire, ShdlcLink, fits, shdlc_put, shdlc_put_all, with_shdlc_controller, older, ShdlcTurn, shdlc_turn}
-use Rattle.link_laws.specs.sessions.Sessions.{shdlc_turned}
-use Rattle.link_laws.specs.sessions.Sessions.ShdlcTurn.{Offer, SetReady}
-use Rattle.link_laws.specs.sessions.Losses.{is_act, sans, Losses, counts_first, overflows, noted_loss, noted_all}
 use Rattle.link_laws.proofs.sessions.Wire.{IsData, rsets, uas, behind_ua, live, no_ua_step, behind_new, live-older, older_part}
 use Rattle.link_laws.proofs.sessions.Data.{pushed}
 use Rattle.link_laws.proofs.sessions.Safe.{HasWindows, up_end}

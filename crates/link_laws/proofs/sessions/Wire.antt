@@ -1,10 +1,6 @@
 -- What stands on a wire: RSETs, UAs, and the frames that the end will take in a session.
-use Rattle.std.proofs.Common.{◌≡◌, ℕ, ◌+◌, ◌<◌, ◌≤◌, List, [], ◌∷◌, ◌++◌, Option, Some, None, ◌⊎◌, inl, inr, refl, ap, ◌∙◌, arith}
-use Rattle.swp_base.specs.declared.control_frames.Control.{Control}
-use Rattle.swp_base.specs.declared.control_frames.Control.TheVariants.{I, S, Rset, Ua, Act, Clt}
-use Rattle.shdlc_core.specs.declared.answers.LinkState.{LinkState}
-use Rattle.shdlc_core.specs.declared.answers.LinkState.TheVariants.{Down, Waiting, Up}
-use Rattle.link_laws.specs.sessions.Sessions.{OnWire, older}
+use Rattle.link_laws.proofs.Words.{Act, Clt, Control, Down, I, LinkState, List, None, OnWire, Option, Rset, S, Some, Ua, Up, Waiting, [], ap, arith, inl, inr}
+use Rattle.link_laws.proofs.Words.{older, refl, ℕ, ◌++◌, ◌+◌, ◌<◌, ◌∙◌, ◌∷◌, ◌≡◌, ◌≤◌, ◌⊎◌}
 
 -- a frame of a session
 abbrev pub IsData : Control → Type 0
