@@ -1,3 +1,4 @@
+pub mod Cases
 pub mod Words
 pub mod machine
 pub mod sending

@@ -1,3 +1,4 @@
+pub mod Walks
 pub mod Shifts
 pub mod Sound
 pub mod Runs

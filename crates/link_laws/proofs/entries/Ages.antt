@@ -1,18 +1,18 @@
 -- Along each wire the ages of frames don't rise, and what is seen of a link is what it keeps.
 use Rattle.std.specs.Prelude.{◌+◌}
-use Rattle.link_laws.proofs.Words.{Act, Activate, AsksReset, AtController, AtHost, Bool, Clt, Comes, Control, Controller, CutOff, End, EndEvent, Ending, Entry}
-use Rattle.link_laws.proofs.Words.{GoesOut, HasTick, Host, I, IsBare, IsLine, IsStart, Link, LinkEnd, LinkEvent, List, Lose, Lost, NextFrame, NoInput, OnWire}
-use Rattle.link_laws.proofs.Words.{Reset, Rset, S, Seen, Start, Starts, Step, Stop, Stops, Take, Ticks, TicksWithout, TooOld, Turn, Ua, [], after_input}
-use Rattle.link_laws.proofs.Words.{after_link_events, aged, aged_entries, aged_wire, all_at_controller, ap, arith, cond, drop, ended_by, entries}
-use Rattle.link_laws.proofs.Words.{entries_of_events, event_entries, exchanged, false, finished, fits, frames_out, happens, happens_at_controller, is_some}
-use Rattle.link_laws.proofs.Words.{kept, length, ltb-false, ltb-true, nat_lt, older, put, put_all, refl, see, see_all, silent, step_entries}
-use Rattle.link_laws.proofs.Words.{steps_at_controller, subst, sym, tick_entries, ticks_at_controller, took_with, trace, true, turned, with_ended, ℕ, ◌++◌, ◌<◌}
-use Rattle.link_laws.proofs.Words.{◌∙◌, ◌∷◌, ◌≡◌}
+use Rattle.link_laws.proofs.Words.{Activate, AsksReset, AtController, AtHost, Bool, Comes, Control, Controller, CutOff, End, EndEvent, Ending, Entry, GoesOut}
+use Rattle.link_laws.proofs.Words.{HasTick, Host, IsBare, IsLine, IsStart, Link, LinkEnd, LinkEvent, List, Lose, Lost, NextFrame, NoInput, OnWire, Reset, Rset}
+use Rattle.link_laws.proofs.Words.{Seen, Start, Starts, Step, Stop, Stops, Take, Ticks, TicksWithout, TooOld, Turn, [], after_input, after_link_events, aged}
+use Rattle.link_laws.proofs.Words.{aged_entries, aged_wire, all_at_controller, ap, arith, cond, drop, ended_by, entries, entries_of_events, event_entries}
+use Rattle.link_laws.proofs.Words.{exchanged, false, finished, fits, frames_out, happens, happens_at_controller, is_some, kept, length, ltb-false, ltb-true}
+use Rattle.link_laws.proofs.Words.{nat_lt, older, put, put_all, refl, see, see_all, silent, step_entries, steps_at_controller, subst, sym, tick_entries}
+use Rattle.link_laws.proofs.Words.{ticks_at_controller, took_with, trace, true, turned, with_ended, ℕ, ◌++◌, ◌<◌, ◌∙◌, ◌∷◌, ◌≡◌}
 use Rattle.link_laws.proofs.sessions.Wire.{Young, young_push, young_later}
 use Rattle.link_laws.proofs.sessions.Steps.{aged-fresh}
 use Rattle.link_laws.specs.entries.Entries.Entry.{Tick}
 use Rattle.link_laws.specs.entries.Reading.{nothing_seen}
 use Rattle.link_laws.proofs.entries.Seeing.{see_all-append, step_seen, here_seen, all_seen, tick_seen}
+use Rattle.link_laws.proofs.Cases.{by_list, by_test}
 
 -- along a wire ages don't rise, and none is above four
 pub record Ages (l : Link) : Type 0 where
@@ -35,12 +35,8 @@ ages_put l c a = go c
         let x : OnWire = record { frame = c; age = 0; number = n } in young_fits (l.to_host ++ x ∷ []) (young_push 4 l.to_host x refl a.there)
 
     go : (c : Control) → Ages (put l c)
-    go (I ns nr info) = record { near = a.near; there = there 0 (I ns nr info) }
-    go (S kind nr) = record { near = a.near; there = there 0 (S kind nr) }
     go (Rset w caps) = record { near = a.near; there = there (l.resets + 1) (Rset w caps) }
-    go Ua = record { near = a.near; there = there 0 Ua }
-    go (Act act again) = record { near = a.near; there = there 0 (Act act again) }
-    go Clt = record { near = a.near; there = there 0 Clt }
+    go frame = record { near = a.near; there = there 0 frame }
 
 ages_puts : (cs : List Control) (l : Link) → Ages l → Ages (put_all l cs)
 ages_puts [] l a = a
@@ -62,19 +58,16 @@ dropped [] y = tt
 dropped (x ∷ xs) y = young_later x.age 4 xs y.0 y.1
 
 ages_step : (l : Link) (comes : Comes) (ts : List Turn) (ending : Ending) → Ages l → Ages (steps_at_controller l comes ts ending)
-ages_step l NextFrame ts ending a = go l.to_controller refl
-  where
-    go : (w : List OnWire) → l.to_controller ≡ w → Ages (steps_at_controller l NextFrame ts ending)
-    go [] q = rw q (record { near = tt; there = a.there })
-    go (x ∷ xs) q =
-        let m : Link = with_ended (record l { to_controller = xs }) (is_some (ended_by l.controller.side (Take x.frame))) in
-        let k : Link = record m { controller = record m.controller { took = took_with l.controller.took x } } in
-        let y : Young 4 (x ∷ xs) = subst (Young 4) q a.near in
-        let less : Ages (record l { to_controller = xs }) = record { near = young_later x.age 4 xs y.0 y.1; there = a.there } in
-        let b = ages_ended (record l { to_controller = xs }) (is_some (ended_by l.controller.side (Take x.frame))) less in
-        let c : Ages k = record { near = b.near; there = b.there } in
-        let d = ages_finished k (turned (after_input l.controller.side (Take x.frame)) ts) ending c in
-        rw q d
+ages_step l NextFrame ts ending a =
+    by_list {P = Ages (steps_at_controller l NextFrame ts ending)} l.to_controller (λ q. rw q (record { near = tt; there = a.there })) (λ x xs q.
+    let m : Link = with_ended (record l { to_controller = xs }) (is_some (ended_by l.controller.side (Take x.frame))) in
+    let k : Link = record m { controller = record m.controller { took = took_with l.controller.took x } } in
+    let y : Young 4 (x ∷ xs) = subst (Young 4) q a.near in
+    let less : Ages (record l { to_controller = xs }) = record { near = young_later x.age 4 xs y.0 y.1; there = a.there } in
+    let b = ages_ended (record l { to_controller = xs }) (is_some (ended_by l.controller.side (Take x.frame))) less in
+    let c : Ages k = record { near = b.near; there = b.there } in
+    let d = ages_finished k (turned (after_input l.controller.side (Take x.frame)) ts) ending c in
+    rw q d)
 ages_step l (AsksReset window) ts ending a =
     ages_finished (with_ended l (is_some (ended_by l.controller.side (Reset window)))) (turned (after_input l.controller.side (Reset window)) ts) ending
     (ages_ended l (is_some (ended_by l.controller.side (Reset window))) a)
@@ -129,12 +122,10 @@ ages_event l (Activate power c id h) a =
 
 none_aged : (who : End) (w : List OnWire) (b : ℕ) → b < 4 → Young b w → (aged_entries who w ≡ []) × (aged_wire w ≡ older w)
 none_aged who [] b i y = (refl, refl)
-none_aged who (x ∷ xs) b i y = go (nat_lt x.age 4) refl (none_aged who xs x.age (omega (arith, i, y.0)) y.1)
-  where
-    go : (c : Bool) → nat_lt x.age 4 ≡ c → (aged_entries who xs ≡ []) × (aged_wire xs ≡ older xs)
-        → (aged_entries who (x ∷ xs) ≡ []) × (aged_wire (x ∷ xs) ≡ older (x ∷ xs))
-    go true q later = (rw q later.0, rw q (ap (λ v. record x { age = x.age + 1 } ∷ v) later.1))
-    go false q later = absurd (let g = ltb-false x.age 4 q in omega (arith, g, i, y.0))
+none_aged who (x ∷ xs) b i y =
+    by_test {P = (aged_entries who (x ∷ xs) ≡ []) × (aged_wire (x ∷ xs) ≡ older (x ∷ xs))} (nat_lt x.age 4)
+    (λ q. (rw q (none_aged who xs x.age (omega (arith, i, y.0)) y.1).0, rw q (ap (λ v. record x { age = x.age + 1 } ∷ v) (none_aged who xs x.age (omega (arith, i, y.0)) y.1).1)))
+    (λ q. absurd (let g = ltb-false x.age 4 q in omega (arith, g, i, y.0)))
 
 -- the wire to an end is w
 abbrev with_wire : End → Seen → List OnWire → Seen
@@ -143,24 +134,21 @@ with_wire Host s w = record s { to_host = w }
 
 aged_seen : (who : End) (s : Seen) (w : List OnWire) → Young 4 w → see_all (with_wire who s (older w)) (aged_entries who w) ≡ with_wire who s (aged_wire w)
 aged_seen who s [] y = refl
-aged_seen who s (x ∷ xs) y = go (nat_lt x.age 4) refl (aged_seen who s xs (young_later x.age 4 xs y.0 y.1))
+aged_seen who s (x ∷ xs) y =
+    by_test {P = see_all (with_wire who s (older (x ∷ xs))) (aged_entries who (x ∷ xs)) ≡ with_wire who s (aged_wire (x ∷ xs))} (nat_lt x.age 4) (λ q.
+    let z = none_aged who xs x.age (ltb-true x.age 4 q) y.1 in
+    let e : aged_entries who (x ∷ xs) ≡ [] = rw q z.0 in
+    let w : aged_wire (x ∷ xs) ≡ older (x ∷ xs) = rw q (ap (λ v. record x { age = x.age + 1 } ∷ v) z.1) in
+    ap (see_all (with_wire who s (older (x ∷ xs)))) e ∙ ap (with_wire who s) (sym w))
+    (λ q.
+    let e : aged_entries who (x ∷ xs) ≡ Lost who x.frame TooOld ∷ aged_entries who xs = rw q refl in
+    let w : aged_wire (x ∷ xs) ≡ aged_wire xs = rw q refl in
+    ap (see_all (with_wire who s (older (x ∷ xs)))) e
+    ∙ (ap (λ z. see_all z (aged_entries who xs)) (lost who) ∙ ((aged_seen who s xs (young_later x.age 4 xs y.0 y.1)) ∙ ap (with_wire who s) (sym w))))
   where
     lost : (who : End) → see (with_wire who s (older (x ∷ xs))) (Lost who x.frame TooOld) ≡ with_wire who s (older xs)
     lost Controller = refl
     lost Host = refl
-
-    go : (b : Bool) → nat_lt x.age 4 ≡ b → see_all (with_wire who s (older xs)) (aged_entries who xs) ≡ with_wire who s (aged_wire xs)
-        → see_all (with_wire who s (older (x ∷ xs))) (aged_entries who (x ∷ xs)) ≡ with_wire who s (aged_wire (x ∷ xs))
-    go true q later =
-        let z = none_aged who xs x.age (ltb-true x.age 4 q) y.1 in
-        let e : aged_entries who (x ∷ xs) ≡ [] = rw q z.0 in
-        let w : aged_wire (x ∷ xs) ≡ older (x ∷ xs) = rw q (ap (λ v. record x { age = x.age + 1 } ∷ v) z.1) in
-        ap (see_all (with_wire who s (older (x ∷ xs)))) e ∙ ap (with_wire who s) (sym w)
-    go false q later =
-        let e : aged_entries who (x ∷ xs) ≡ Lost who x.frame TooOld ∷ aged_entries who xs = rw q refl in
-        let w : aged_wire (x ∷ xs) ≡ aged_wire xs = rw q refl in
-        ap (see_all (with_wire who s (older (x ∷ xs)))) e
-        ∙ (ap (λ z. see_all z (aged_entries who xs)) (lost who) ∙ (later ∙ ap (with_wire who s) (sym w)))
 
 both_aged : (l : Link) → Ages l
     → see_all (see (kept l) Tick) (aged_entries Controller l.to_controller ++ aged_entries Host l.to_host) ≡ kept (aged l)

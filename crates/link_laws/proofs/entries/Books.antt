@@ -1,21 +1,21 @@
 -- What the entries of an end say of its sessions, and what each part of a step adds.
 use Rattle.std.specs.Prelude.{◌+◌}
-use Rattle.link_laws.proofs.Words.{Acked, Active, Bool, Controller, Cut, Down as IsDown, Emit, End, EndState, Entry, FetchMessage, GaveUp, Give, Got, Hold}
-use Rattle.link_laws.proofs.Words.{Host, IsSendable, LinkEnd, LinkState, List, Lost, Message, None, NumberedEnd, Option, Packet, Refused, Release, Report}
-use Rattle.link_laws.proofs.Words.{Restarted, Sent, Session, SetAside, Some, Talk, Took, Turn, Up as IsUpNow, Waiting as IsWaitingNow, [], acked_noted, ap}
-use Rattle.link_laws.proofs.Words.{append-nil, append_assoc, arith, aside_refusal, common_steps, cond, drop, ended_talk, eqb-true, false, far, filter-append}
-use Rattle.link_laws.proofs.Words.{filter_map-append, give_refusal, given, given_by, good_of, got_noted, if_so, is_good, join_step, length, ltb-false, ltb-true}
-use Rattle.link_laws.proofs.Words.{map, max, messages_got, nat_lt, news, no_talk, not, number_of, option_to_list, packet_count, packet_of, packets_in, refl}
-use Rattle.link_laws.proofs.Words.{sent_noted, sent_unless, sym, talk_now, talk_of, told, true, true≢false, turn, turn_entry, whole_acked, whole_among}
-use Rattle.link_laws.proofs.Words.{with_ready, ℕ, ◌&&◌, ◌++◌, ◌-◌, ◌<◌, ◌==◌, ◌∙◌, ◌∷◌, ◌≡◌, ◌≤◌}
+use Rattle.link_laws.proofs.Words.{Acked, Active, Bool, Controller, End, EndState, Entry, FetchMessage, GaveUp, Give, Got, Hold, Host, IsSendable, LinkEnd}
+use Rattle.link_laws.proofs.Words.{LinkState, List, Message, None, NumberedEnd, Option, Packet, Refused, Release, Report, Sent, Session, SetAside, Some, Talk}
+use Rattle.link_laws.proofs.Words.{Turn, Up as IsUpNow, [], acked_noted, ap, append-nil, append_assoc, arith, aside_refusal, common_steps, cond, drop}
+use Rattle.link_laws.proofs.Words.{ended_talk, eqb-true, false, far, filter-append, filter_map-append, give_refusal, given, given_by, good_of, got_noted, if_so}
+use Rattle.link_laws.proofs.Words.{is_good, join_step, length, ltb-false, ltb-true, map, max, messages_got, nat_lt, news, no_talk, not, number_of}
+use Rattle.link_laws.proofs.Words.{option_to_list, packet_count, packet_of, packets_in, refl, sent_noted, sent_unless, subst, sym, talk_now, talk_of, told}
+use Rattle.link_laws.proofs.Words.{true, turn, turn_entry, whole_acked, whole_among, with_ready, ℕ, ◌&&◌, ◌++◌, ◌-◌, ◌<◌, ◌==◌, ◌∙◌, ◌∷◌, ◌≡◌, ◌≤◌}
 use Rattle.hcp_chain.specs.Joining.{message_in}
 use Rattle.link_laws.proofs.places.Joined.{ready_cases}
 use Rattle.link_laws.proofs.machine.Shifts.{Shift, IsNotUp}
 use Rattle.link_laws.proofs.machine.Shifts.Shift.{Stays, Ends, Renews, Begins, Rests}
 use Rattle.link_laws.proofs.machine.Sound.{Data, SentAfter, whole_more, whole_given}
 use Rattle.link_laws.proofs.machine.Reports.{Becomes}
-use Rattle.link_laws.specs.entries.Entries.Entry.{Up, Down, Tick}
+use Rattle.link_laws.specs.entries.Entries.Entry.{Up, Down}
 use Rattle.link_laws.specs.entries.Filters.{same_link_end}
+use Rattle.link_laws.proofs.Cases.{by_option, by_phase, by_test}
 
 -- ## Three filters at once
 
@@ -66,31 +66,16 @@ abbrev note : Entry → End → ℕ → Book
 note e who n = read (e ∷ []) who n
 
 read-one : (e : Entry) (t : List Entry) (who : End) (n : ℕ) → read (e ∷ t) who n ≡ plus (note e who n) (read t who n)
-read-one (Sent w k m) t who n = go (same_link_end w who && (k == n)) refl
-  where
-    go : (b : Bool) → (same_link_end w who && (k == n)) ≡ b → read (Sent w k m ∷ t) who n ≡ plus (note (Sent w k m) who n) (read t who n)
-    go true q = rw (q, zero_max (acked_noted t who n)) refl
-    go false q = rw (q, zero_max (acked_noted t who n)) refl
-read-one (Got w k m) t who n = go (same_link_end w who && (k == n)) refl
-  where
-    go : (b : Bool) → (same_link_end w who && (k == n)) ≡ b → read (Got w k m ∷ t) who n ≡ plus (note (Got w k m) who n) (read t who n)
-    go true q = rw (q, zero_max (acked_noted t who n)) refl
-    go false q = rw (q, zero_max (acked_noted t who n)) refl
-read-one (Acked w k a) t who n = go (same_link_end w who && (k == n)) refl
-  where
-    go : (b : Bool) → (same_link_end w who && (k == n)) ≡ b → read (Acked w k a ∷ t) who n ≡ plus (note (Acked w k a) who n) (read t who n)
-    go true q = rw (q, max_zero a) refl
-    go false q = rw (q, zero_max (acked_noted t who n)) refl
-read-one (Up w k) t who n = sym (blank-plus (read t who n))
-read-one (Down w c) t who n = sym (blank-plus (read t who n))
-read-one (Active w) t who n = sym (blank-plus (read t who n))
-read-one (GaveUp w k) t who n = sym (blank-plus (read t who n))
-read-one (Emit w c) t who n = sym (blank-plus (read t who n))
-read-one (Took w c) t who n = sym (blank-plus (read t who n))
-read-one (Lost w c why) t who n = sym (blank-plus (read t who n))
-read-one Tick t who n = sym (blank-plus (read t who n))
-read-one (Restarted w) t who n = sym (blank-plus (read t who n))
-read-one (Cut w) t who n = sym (blank-plus (read t who n))
+read-one (Sent w k m) t who n =
+    by_test {P = read (Sent w k m ∷ t) who n ≡ plus (note (Sent w k m) who n) (read t who n)} (same_link_end w who && (k == n))
+    (λ q. rw (q, zero_max (acked_noted t who n)) refl) (λ q. rw (q, zero_max (acked_noted t who n)) refl)
+read-one (Got w k m) t who n =
+    by_test {P = read (Got w k m ∷ t) who n ≡ plus (note (Got w k m) who n) (read t who n)} (same_link_end w who && (k == n))
+    (λ q. rw (q, zero_max (acked_noted t who n)) refl) (λ q. rw (q, zero_max (acked_noted t who n)) refl)
+read-one (Acked w k a) t who n =
+    by_test {P = read (Acked w k a ∷ t) who n ≡ plus (note (Acked w k a) who n) (read t who n)} (same_link_end w who && (k == n)) (λ q. rw (q, max_zero a) refl)
+    (λ q. rw (q, zero_max (acked_noted t who n)) refl)
+read-one _ t who n = sym (blank-plus (read t who n))
 
 pub read-append : (t u : List Entry) (who : End) (n : ℕ) → read (t ++ u) who n ≡ plus (read t who n) (read u who n)
 read-append [] u who n = sym (blank-plus (read u who n))
@@ -193,12 +178,7 @@ pub up_talk : (h : NumberedEnd) (n : ℕ) → h.side.shdlc.phase ≡ IsUpNow →
 up_talk h n p = rw p refl
 
 pub down_talk : (h : NumberedEnd) (n : ℕ) → IsNotUp h.side.shdlc → talk_of h n ≡ ended_talk h.past n
-down_talk h n down = go h.side.shdlc.phase refl
-  where
-    go : (p : LinkState) → h.side.shdlc.phase ≡ p → talk_of h n ≡ ended_talk h.past n
-    go IsUpNow p = absurd (down p)
-    go IsWaitingNow p = rw p refl
-    go IsDown p = rw p refl
+down_talk h n down = by_phase h.side.shdlc.phase (λ p. absurd (down p)) (λ p. rw p refl) (λ p. rw p refl)
 
 pub same_self : (who : End) → same_link_end who who ≡ true
 same_self Controller = refl
@@ -244,11 +224,9 @@ got_more before s more q =
 -- ## An input
 
 grows : (a b : ℕ) → a ≤ b → max a (cond (nat_lt 0 (b - a)) b 0) ≡ b
-grows a b i = go (nat_lt 0 (b - a)) refl
-  where
-    go : (x : Bool) → nat_lt 0 (b - a) ≡ x → max a (cond (nat_lt 0 (b - a)) b 0) ≡ b
-    go true q = let z = ltb-true 0 (b - a) q in rw q (omega (arith, z, i))
-    go false q = let z = ltb-false 0 (b - a) q in rw q (omega (arith, z, i))
+grows a b i =
+    by_test (nat_lt 0 (b - a)) (λ q. let z = ltb-true 0 (b - a) q in rw q (omega (arith, z, i)))
+    (λ q. let z = ltb-false 0 (b - a) q in rw q (omega (arith, z, i)))
 
 -- an end with its session ended or not
 abbrev pub past_after : Bool → NumberedEnd → List (ℕ × Talk)
@@ -285,14 +263,8 @@ not_more a b q = rw q (grind (arith, common_steps))
 fresh_whole : (e : LinkEnd) → e.sent ≡ [] → whole_acked e ≡ 0
 fresh_whole e q = rw q refl
 
-empty_got : (s : Session) → s.acc ≡ [] → messages_got s ≡ []
-empty_got s q = rw q refl
-
 blank_talk : (e : LinkEnd) → e.sent ≡ [] → e.shdlc.session.acc ≡ [] → book_of (talk_now e) ≡ blank
 blank_talk e s a = rw (s, a) refl
-
-ended_first : (past : List (ℕ × Talk)) (k n : ℕ) (t : Talk) → ended_talk ((k, t) ∷ past) n ≡ cond (n == k) t (ended_talk past n)
-ended_first past k n t = refl
 
 eq_sym : (a b : ℕ) (x : Bool) → (a == b) ≡ x → (b == a) ≡ x
 eq_sym a b true q = let e : a ≡ b = eqb-true a b q in grind (arith, common_steps, e)
@@ -312,18 +284,10 @@ told_input t who h k ended began r i d b n = go i.becomes.shift
     got = i.becomes.got
 
     sent_false : ended ≡ false → k.side.sent ≡ h.side.sent
-    sent_false q = by ended q i.becomes.sent
-      where
-        by : (b : Bool) → b ≡ false → SentAfter b h.side k.side → k.side.sent ≡ h.side.sent
-        by false z s = s
-        by true z s = absurd (true≢false z)
+    sent_false q = subst (λ b. SentAfter b h.side k.side) q i.becomes.sent
 
     sent_true : ended ≡ true → k.side.sent ≡ []
-    sent_true q = by ended q i.becomes.sent
-      where
-        by : (b : Bool) → b ≡ true → SentAfter b h.side k.side → k.side.sent ≡ []
-        by true z s = s
-        by false z s = absurd (true≢false (sym z))
+    sent_true q = subst (λ b. SentAfter b h.side k.side) q i.becomes.sent
 
     past_false : ended ≡ false → k.past ≡ h.past
     past_false q = i.past ∙ ap (λ x. past_after x h) q
@@ -354,6 +318,9 @@ told_input t who h k ended began r i d b n = go i.becomes.shift
         rw q (ap (λ m. book_of (talk_of h m)) e ∙ (ap book_of fresh ∙ sym none))
     begins false q none fresh = rw q refl
 
+    book_is : {s u g g' : List Message} {a c : ℕ} → s ≡ u → g ≡ g' → a ≡ c → book s g a ≡ book u g' c
+    book_is p q r = rw (p, q, r) refl
+
     go : Shift h.side.shdlc k.side.shdlc ended began → read result who n ≡ book_of (talk_of k n)
     go (Stays p q g) =
         let same : j ≡ number_of h = i.same g.was p in
@@ -373,9 +340,6 @@ told_input t who h k ended began r i d b n = go i.becomes.shift
         noted t who j r (whole_acked k.side) n
         ∙ (ap (λ z. plus z (pick (j == n) (told_book r (whole_acked k.side)))) old ∙ (by (n == j) refl now ∙ ap book_of (sym new)))
       where
-        book_is : {s u g g' : List Message} {a c : ℕ} → s ≡ u → g ≡ g' → a ≡ c → book s g a ≡ book u g' c
-        book_is p q r = rw (p, q, r) refl
-
         by : (x : Bool) → (n == j) ≡ x → plus (book_of (talk_now h.side)) (told_book r (whole_acked k.side)) ≡ book_of (talk_now k.side)
             → plus (book_of (cond (n == j) (talk_now h.side) (ended_talk h.past n))) (pick (j == n) (told_book r (whole_acked k.side)))
             ≡ book_of (cond (n == j) (talk_now k.side) (ended_talk h.past n))
@@ -425,8 +389,7 @@ told_same t who h k phase past number same b n = b n ∙ go h.side.shdlc.phase r
 
     go : (p : LinkState) → h.side.shdlc.phase ≡ p → book_of (talk_of h n) ≡ book_of (talk_of k n)
     go IsUpNow p = up p
-    go IsWaitingNow p = idle (λ u. let z = sym p ∙ u in cc)
-    go IsDown p = idle (λ u. let z = sym p ∙ u in cc)
+    go _ p = idle (λ u. let z = sym p ∙ u in cc)
 
 -- the end of h, which is e now
 abbrev pub with_side : NumberedEnd → LinkEnd → NumberedEnd
@@ -438,12 +401,7 @@ IsSendableTurn (Give m) = IsSendable m
 IsSendableTurn _ = Unit {0}
 
 given_up : (e : LinkEnd) (m : Message) → give_refusal e m ≡ None → e.shdlc.phase ≡ IsUpNow
-given_up e m q = go e.shdlc.phase refl
-  where
-    go : (p : LinkState) → e.shdlc.phase ≡ p → e.shdlc.phase ≡ IsUpNow
-    go IsUpNow p = p
-    go IsWaitingNow p = absurd (let z = rw p at q in cc)
-    go IsDown p = absurd (let z = rw p at q in cc)
+given_up e m q = by_phase e.shdlc.phase (λ p. p) (λ p. absurd (let z = rw p at q in cc)) (λ p. absurd (let z = rw p at q in cc))
 
 -- a message that is sent
 told_given : (t : List Entry) (who : End) (h : NumberedEnd) (m : Message) → IsSendable m → h.side.shdlc.phase ≡ IsUpNow → Data h.side → Told t who h
@@ -484,26 +442,20 @@ told_nothing t who h b = told_silent t [] who h (λ w n. refl) b
 
 pub told_turn : (t : List Entry) (who : End) (h : NumberedEnd) (x : Turn) → IsSendableTurn x → Data h.side → Told t who h
     → Told (t ++ turn_entry who (number_of h) h.side x) who (with_side h (turn h.side x))
-told_turn t who h (Give m) s d b = go (give_refusal h.side m) refl
-  where
-    go : (o : Option Refused) → give_refusal h.side m ≡ o → Told (t ++ turn_entry who (number_of h) h.side (Give m)) who (with_side h (turn h.side (Give m)))
-    go None q = rw q (told_given t who h m s (given_up h.side m q) d b)
-    go (Some why) q = rw q (told_nothing t who h b)
+told_turn t who h (Give m) s d b =
+    by_option {P = Told (t ++ turn_entry who (number_of h) h.side (Give m)) who (with_side h (turn h.side (Give m)))} (give_refusal h.side m)
+    (λ q. rw q (told_given t who h m s (given_up h.side m q) d b)) (λ why q. rw q (told_nothing t who h b))
 told_turn t who h (Hold held) s d b =
     let r = ready_session h.side.shdlc (not held) in
     told_nothing t who (with_side h (turn h.side (Hold held)))
     (told_same t who h (with_side h (turn h.side (Hold held))) r.2 refl (λ _. refl) (rw (r.0, r.1) refl) b)
-told_turn t who h FetchMessage s d b =
-    told_nothing t who (with_side h (turn h.side FetchMessage)) (told_same t who h (with_side h (turn h.side FetchMessage)) refl refl (λ _. refl) refl b)
-told_turn t who h Release s d b =
-    told_nothing t who (with_side h (turn h.side Release)) (told_same t who h (with_side h (turn h.side Release)) refl refl (λ _. refl) refl b)
-told_turn t who h SetAside s d b = go (aside_refusal h.side) refl
-  where
-    go : (o : Option Refused) → aside_refusal h.side ≡ o → Told (t ++ []) who (with_side h (turn h.side SetAside))
-    go None q =
-        rw q (told_nothing t who (with_side h (record h.side { aside = h.side.aside + 1 }))
-        (told_same t who h (with_side h (record h.side { aside = h.side.aside + 1 })) refl refl (λ _. refl) refl b))
-    go (Some why) q = rw q (told_nothing t who h b)
+told_turn t who h SetAside s d b =
+    by_option {P = Told (t ++ []) who (with_side h (turn h.side SetAside))} (aside_refusal h.side) (λ q.
+    rw q (told_nothing t who (with_side h (record h.side { aside = h.side.aside + 1 }))
+    (told_same t who h (with_side h (record h.side { aside = h.side.aside + 1 })) refl refl (λ _. refl) refl b)))
+    (λ why q. rw q (told_nothing t who h b))
+told_turn t who h c s d b =
+    told_nothing t who (with_side h (turn h.side c)) (told_same t who h (with_side h (turn h.side c)) refl refl (λ _. refl) refl b)
 
 -- a turn of the other end
 pub turn_far : (t : List Entry) (who : End) (k : ℕ) (e : LinkEnd) (x : Turn) (h : NumberedEnd) → Told t (far who) h

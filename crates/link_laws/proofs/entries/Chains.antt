@@ -1,23 +1,24 @@
 -- No session ends by a packet that can't be joined.
 use Rattle.std.specs.Prelude.{◌+◌}
 use Rattle.link_laws.proofs.Words.{Acked, ActTick, Activate, Active, AllAllowed, AreOwn, Asked, AsksReset, AtController, AtHost, Bare, Bool, ByAct, Cause}
-use Rattle.link_laws.proofs.Words.{Chain, Clf, Comes, Control, Controller, CutOff, Down as IsDown, End, EndEvent, EndState, Ending, Entry, FetchMessage, GaveUp}
-use Rattle.link_laws.proofs.Words.{Give, GoesOut, Got, HasTick, Hold, Host, IsEvent, IsOwn, IsStart, Link, LinkEnd, LinkEvent, LinkInput, LinkState, List, Lose}
-use Rattle.link_laws.proofs.Words.{Loss, Message, NextFrame, NoInput, Node, None, NumberedEnd, OnWire, Option, Peer, Refused, Release, Report, Reset, Role}
-use Rattle.link_laws.proofs.Words.{SetAside, Some, Start, Starts, Step, Stop, Stops, Take, Ticks, TicksWithout, TooMany, Turn, Uicc, Up as IsUpNow}
-use Rattle.link_laws.proofs.Words.{Waiting as IsWaitingNow, [], after_input, aged, aged_entries, all_at_controller, core_event, core_of, ended_by}
-use Rattle.link_laws.proofs.Words.{ending_entries, entries, entries_of_events, event_entries, exchanged, false, far, first_entries, first_lost, frames_out}
-use Rattle.link_laws.proofs.Words.{give_refusal, happens, happens_at_controller, here_entries, if_so, if_up, is_open, is_some, left_after, length, list_any}
-use Rattle.link_laws.proofs.Words.{map, nat_lt, number_of, option_to_list, pushed_out, put, put_entries, puts_entries, refl, report, reset_refusal}
-use Rattle.link_laws.proofs.Words.{rest_entries, runs_timer, sent_unless, silent, step_entries, steps_at_controller, subst, sym, taken_entries, tick_answer}
-use Rattle.link_laws.proofs.Words.{tick_entries, ticks_at_controller, told, told_of, took_with, trace, true, turn, turn_entries, turn_entry, turned}
-use Rattle.link_laws.proofs.Words.{whole_acked, wire_with, with_ended, ℕ, ◌++◌, ◌∷◌, ◌≡◌}
+use Rattle.link_laws.proofs.Words.{Chain, Comes, Control, Controller, CutOff, End, EndEvent, EndState, Ending, Entry, FetchMessage, GaveUp, Give, GoesOut, Got}
+use Rattle.link_laws.proofs.Words.{HasTick, Hold, Host, IsEvent, IsOwn, IsStart, Link, LinkEnd, LinkEvent, LinkInput, List, Lose, Loss, Message, NextFrame}
+use Rattle.link_laws.proofs.Words.{NoInput, Node, None, NumberedEnd, OnWire, Option, Peer, Refused, Release, Report, Reset, Role, SetAside, Some, Start, Starts}
+use Rattle.link_laws.proofs.Words.{Step, Stop, Stops, Take, Ticks, TicksWithout, TooMany, Turn, [], after_input, aged, aged_entries, all_at_controller}
+use Rattle.link_laws.proofs.Words.{core_event, core_of, ended_by, ending_entries, entries, entries_of_events, event_entries, exchanged, false, far}
+use Rattle.link_laws.proofs.Words.{first_entries, first_lost, frames_out, give_refusal, happens, happens_at_controller, here_entries, if_so, if_up, is_open}
+use Rattle.link_laws.proofs.Words.{is_some, left_after, length, list_any, map, nat_lt, number_of, option_to_list, pushed_out, put, put_entries, puts_entries}
+use Rattle.link_laws.proofs.Words.{refl, report, reset_refusal, rest_entries, sent_unless, silent, step_entries, steps_at_controller, subst, sym, taken_entries}
+use Rattle.link_laws.proofs.Words.{tick_answer, tick_entries, ticks_at_controller, told, told_of, took_with, trace, true, turn, turn_entries, turn_entry}
+use Rattle.link_laws.proofs.Words.{turned, whole_acked, wire_with, with_ended, ℕ, ◌++◌, ◌∷◌, ◌≡◌}
 use Rattle.swp_base.specs.declared.link_terms.Cause.TheVariants.{NoAnswer}
 use Rattle.link_laws.proofs.messages.Steps.{FromHost, core_first, no_fault_first}
 use Rattle.link_laws.proofs.messages.Runs.{Good, Reached, event_step, reached_more, from_host, from_controller}
 use Rattle.link_laws.proofs.messages.Whole.{not_chain, act_not_chain, start_good, start_reached}
 use Rattle.link_laws.specs.entries.Entries.Entry.{Up, Down}
 use Rattle.link_laws.specs.entries.Order.{is_noted_chain_fault}
+use Rattle.link_laws.proofs.Cases.{by_list, by_option, by_phase, by_test}
+use Rattle.link_laws.proofs.machine.Walks.{by_tick}
 
 -- none of these tells of a chain fault
 abbrev NoChain : List Entry → Type 0
@@ -84,11 +85,7 @@ chain_lost who why [] = tt
 chain_lost who why (x ∷ xs) = (refl, tt)
 
 chain_pushed : (who : End) (w : List OnWire) → NoChain (pushed_out who w)
-chain_pushed who w = go (nat_lt 64 (length w)) refl
-  where
-    go : (b : Bool) → nat_lt 64 (length w) ≡ b → NoChain (pushed_out who w)
-    go true q = rw q (chain_lost who TooMany w)
-    go false q = rw q tt
+chain_pushed who w = by_test (nat_lt 64 (length w)) (λ q. rw q (chain_lost who TooMany w)) (λ q. rw q tt)
 
 chain_puts : (cs : List Control) (who : End) (l : Link) → NoChain (puts_entries who l cs)
 chain_puts [] who l = tt
@@ -113,40 +110,24 @@ chain_input who k h i e ts ending n =
 -- ## Causes
 
 if_up_other : (s : EndState) (cause : Cause) → (cause ≡ Chain → ⊥) → IsOther (if_up s cause)
-if_up_other s cause n q = go s.phase refl
-  where
-    go : (p : LinkState) → s.phase ≡ p → ⊥
-    go IsUpNow p = let z = rw p at q in n (cc)
-    go IsWaitingNow p = let z = rw p at q in cc
-    go IsDown p = let z = rw p at q in cc
+if_up_other s cause n q = by_phase {P = ⊥} s.phase (λ p. let z = rw p at q in n (cc)) (λ p. let z = rw p at q in cc) (λ p. let z = rw p at q in cc)
 
 reset_other : (e : LinkEnd) (window : Option ℕ) → IsOther (ended_by e (Reset window))
-reset_other e window q = go (reset_refusal e) refl
-  where
-    go : (o : Option Refused) → reset_refusal e ≡ o → ⊥
-    go None p = if_up_other e.shdlc Asked (λ z. cc) (let z = q in rw p at z)
-    go (Some why) p = let z = rw p at q in cc
+reset_other e window q =
+    by_option {P = ⊥} (reset_refusal e) (λ p. if_up_other e.shdlc Asked (λ z. cc) (let z = q in rw p at z)) (λ why p. let z = rw p at q in cc)
 
 tick_other : (e : LinkEnd) → IsOther (ended_by e HasTick)
-tick_other e q = go (is_open e.role) refl
+tick_other e q = by_test {P = ⊥} (is_open e.role) (λ o. shdlc (let z = q in rw o at z)) (λ o. act_not_chain e ActTick (let z = q in rw o at z))
   where
-    shdlc : (tick_answer e.shdlc).ended ≡ Some Chain → ⊥
-    shdlc z = by e.shdlc.phase (runs_timer e.shdlc.session) (nat_lt (e.shdlc.timer + 1) 10) (nat_lt e.shdlc.tries 5) refl refl refl refl
-      where
-        by : (p : LinkState) (a b c : Bool) → e.shdlc.phase ≡ p → runs_timer e.shdlc.session ≡ a → nat_lt (e.shdlc.timer + 1) 10
-            ≡ b → nat_lt e.shdlc.tries 5 ≡ c → ⊥
-        by IsDown a b c p u v w = let y = rw p at z in cc
-        by IsUpNow false b c p u v w = let y = rw (p, u) at z in cc
-        by IsUpNow true true c p u v w = let y = rw (p, u, v) at z in cc
-        by IsUpNow true false true p u v w = let y = rw (p, u, v, w) at z in cc
-        by IsUpNow true false false p u v w = let y = rw (p, u, v, w) at z in cc
-        by IsWaitingNow a true c p u v w = let y = rw (p, v) at z in cc
-        by IsWaitingNow a false true p u v w = let y = rw (p, v, w) at z in cc
-        by IsWaitingNow a false false p u v w = let y = rw (p, v, w) at z in cc
+    none : None ≡ Some Chain → ⊥
+    none y = cc
 
-    go : (o : Bool) → is_open e.role ≡ o → ⊥
-    go true o = shdlc (let z = q in rw o at z)
-    go false o = act_not_chain e ActTick (let z = q in rw o at z)
+    other : Some NoAnswer ≡ Some Chain → ⊥
+    other y = cc
+
+    shdlc : (tick_answer e.shdlc).ended ≡ Some Chain → ⊥
+    shdlc z =
+        by_tick (λ _ answer. answer.ended ≡ Some Chain → ⊥) e.shdlc none (λ _. none) (λ _. none) (λ _. other) (λ _. none) (λ _. none) z
 
 -- ## Steps and events
 
@@ -159,20 +140,18 @@ JoinsFor NextFrame l = Joins l
 JoinsFor _ l = Unit {0}
 
 chain_step : (who : End) (l : Link) (comes : Comes) (ts : List Turn) (ending : Ending) → JoinsFor comes l → NoChain (step_entries who l comes ts ending)
-chain_step who l NextFrame ts ending j = go l.to_controller refl
+chain_step who l NextFrame ts ending j =
+    by_list {P = NoChain (step_entries who l NextFrame ts ending)} l.to_controller
+    (λ q. let none : step_entries who l NextFrame ts ending ≡ [] = rw q refl in subst P (sym none) tt) (λ x xs q.
+    let some : step_entries who l NextFrame ts ending ≡ taken_entries who l x xs ts ending = rw q refl in
+    subst P (sym some) (
+      refl,
+      chain_input who (left_after l x xs) (record l.controller { took = took_with l.controller.took x }) (Take x.frame)
+          (after_input l.controller.side (Take x.frame)) ts ending (j x xs q),
+    ))
   where
     P : List Entry → Type 0
     P u = NoChain u
-
-    go : (w : List OnWire) → l.to_controller ≡ w → NoChain (step_entries who l NextFrame ts ending)
-    go [] q = let none : step_entries who l NextFrame ts ending ≡ [] = rw q refl in subst P (sym none) tt
-    go (x ∷ xs) q =
-        let some : step_entries who l NextFrame ts ending ≡ taken_entries who l x xs ts ending = rw q refl in
-        subst P (sym some) (
-          refl,
-          chain_input who (left_after l x xs) (record l.controller { took = took_with l.controller.took x }) (Take x.frame)
-              (after_input l.controller.side (Take x.frame)) ts ending (j x xs q),
-        )
 chain_step who l (AsksReset window) ts ending j =
     chain_input who (with_ended l (is_some (ended_by l.controller.side (Reset window)))) l.controller (Reset window)
     (after_input l.controller.side (Reset window)) ts ending
@@ -219,11 +198,8 @@ chain_tick who l node =
 
 chain_aged : (who : End) (w : List OnWire) → NoChain (aged_entries who w)
 chain_aged who [] = tt
-chain_aged who (x ∷ xs) = by (nat_lt x.age 4) refl (chain_aged who xs)
-  where
-    by : (b : Bool) → nat_lt x.age 4 ≡ b → NoChain (aged_entries who xs) → NoChain (aged_entries who (x ∷ xs))
-    by true q later = rw q later
-    by false q later = rw q (refl, later)
+chain_aged who (x ∷ xs) =
+    by_test {P = NoChain (aged_entries who (x ∷ xs))} (nat_lt x.age 4) (λ q. rw q (chain_aged who xs)) (λ q. rw q (refl, (chain_aged who xs)))
 
 joins_here : (l : Link) → Good l → Reached (core_of l) → Joins l
 joins_here l g r x xs q =
@@ -273,8 +249,7 @@ chain_events (e ∷ es) l a g r =
 
 first_chain : (r : Role) → NoChain (first_entries r)
 first_chain Bare = (refl, (refl, tt))
-first_chain (Clf s) = tt
-first_chain (Uicc s) = tt
+first_chain _ = tt
 
 none_any : (t : List Entry) → NoChain t → list_any is_noted_chain_fault t ≡ false
 none_any [] a = refl

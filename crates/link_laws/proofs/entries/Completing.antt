@@ -1,8 +1,8 @@
 -- Each step keeps what is known of the sessions of both ends.
-use Rattle.link_laws.proofs.Words.{Acked, Active, AreSendableTurns, Asked, AsksReset, Bare, Bool, CanEnd, Clf, Comes, CutOff, End, EndState, Ending, Entry}
-use Rattle.link_laws.proofs.Words.{GaveUp, GoesOut, Got, IsNode, IsOwn, Link, LinkEnd, LinkInput, List, Losses, NextFrame, NoInput, None, NumberedEnd, OnWire}
-use Rattle.link_laws.proofs.Words.{Option, Refused, Reset, Role, Some, Start, Starts, Step, Stop, Stops, Take, Took, Turn, Uicc, Up as IsUpNow, [], after_input}
-use Rattle.link_laws.proofs.Words.{ap, append-nil, append_assoc, began_by, came_up, cond, core_end, core_ending, core_of, core_reset, core_step, core_take}
+use Rattle.link_laws.proofs.Words.{Acked, Active, AreSendableTurns, Asked, AsksReset, Bare, Bool, CanEnd, Comes, CutOff, End, EndState, Ending, Entry, GaveUp}
+use Rattle.link_laws.proofs.Words.{GoesOut, Got, IsNode, IsOwn, Link, LinkEnd, LinkInput, List, Losses, NextFrame, NoInput, None, NumberedEnd, OnWire, Option}
+use Rattle.link_laws.proofs.Words.{Refused, Reset, Role, Some, Start, Starts, Step, Stop, Stops, Take, Took, Turn, Up as IsUpNow, [], after_input, ap}
+use Rattle.link_laws.proofs.Words.{append-nil, append_assoc, began_by, came_up, cond, core_end, core_ending, core_of, core_reset, core_step, core_take}
 use Rattle.link_laws.proofs.Words.{ended_by, false, finished, frames_out, has_taken, if_so, if_up, inl, inr, is_some, is_up_with, left_after, map, max}
 use Rattle.link_laws.proofs.Words.{most_frames, nat_lt, new_link_end, no_losses, noted_all, noted_turns, number_of, option_to_list, put_all, refl, renewed}
 use Rattle.link_laws.proofs.Words.{report, reset_by, reset_refusal, rest_entries, step_entries, steps_at_controller, subst, sym, taken_entries, told_of, took}
@@ -20,6 +20,7 @@ use Rattle.link_laws.proofs.entries.Running.{Before, frame_facts, near_of}
 use Rattle.link_laws.proofs.entries.Losing.{bad, Disturbed, disturbed_right, Grows}
 use Rattle.link_laws.proofs.entries.Disturbing.{idle_noted, reset_noted}
 use Rattle.link_laws.proofs.entries.Lasting.{Knows, knows_more, knows_new, rest_grows, grows_right, came_bad, taken_noted, cut_disturbs}
+use Rattle.link_laws.proofs.Cases.{by_list, by_option}
 
 -- ## What is lost in a step is noted
 
@@ -39,7 +40,14 @@ reset_grows n who l window ts CutOff a h =
     let i : LinkInput = Reset window in
     input_cut n (noted_turns n (core_of l) (core_step l (AsksReset window) ts CutOff)) who l.controller i (with_ended l (is_some (ended_by e i)))
     (after_input e i) ts
-reset_grows n who l window ts GoesOut a h = go (reset_refusal e) refl
+reset_grows n who l window ts GoesOut a h =
+    by_option {P = Grows n m (step_entries who l (AsksReset window) ts GoesOut)} (reset_refusal e) (λ q.
+    let c : Bool = is_some (if_up e.shdlc Asked) in
+    entries_as c (reset_by e w) (rw q refl) (rw q refl)
+    (input_grows n m who l.controller i (with_ended l c) (reset_by e w) ts (is_core None q ∙ reset_noted n l w ts a h q)))
+    (λ why q.
+    entries_as false e (rw q refl) (rw q refl)
+    (input_grows n m who l.controller i l e ts (is_core (Some why) q ∙ idle_noted n l ts a h)))
   where
     e : LinkEnd
     e = l.controller.side
@@ -64,34 +72,23 @@ reset_grows n who l window ts GoesOut a h = go (reset_refusal e) refl
         let Q : LinkEnd → Type 0 = λ z. Grows n m (told_of who l.controller i ++ rest_entries who (with_ended l c) z ts GoesOut) in
         subst P (sym p) (subst Q (sym q) g)
 
-    go : (o : Option Refused) → reset_refusal e ≡ o → Grows n m (step_entries who l (AsksReset window) ts GoesOut)
-    go (Some why) q =
-        entries_as false e (rw q refl) (rw q refl)
-        (input_grows n m who l.controller i l e ts (is_core (Some why) q ∙ idle_noted n l ts a h))
-    go None q =
-        let c : Bool = is_some (if_up e.shdlc Asked) in
-        entries_as c (reset_by e w) (rw q refl) (rw q refl)
-        (input_grows n m who l.controller i (with_ended l c) (reset_by e w) ts (is_core None q ∙ reset_noted n l w ts a h q))
-
 -- where no frame is taken
 own_grows : (n : Losses) (who : End) (l : Link) (comes : Comes) (ts : List Turn) (ending : Ending) → IsOwn (Step comes ts ending)
     → AreSendableTurns ts → Tells l.controller
     → Grows n (noted_turns n (core_of l) (core_step l comes ts ending)) (step_entries who l comes ts ending)
 own_grows n who l NextFrame ts ending o a h = absurd o
 own_grows n who l (AsksReset window) ts ending o a h = reset_grows n who l window ts ending a h
-own_grows n who l (Starts v) ts ending o a h = λ b. inr refl
-own_grows n who l Stops ts ending o a h = λ b. inr refl
 own_grows n who l NoInput ts CutOff o a h = λ b. inr (cut_disturbs who l l.controller.side ts)
 own_grows n who l NoInput ts GoesOut o a h =
     rest_grows n (noted_turns n (core_of l) (core_step l NoInput ts GoesOut)) who l l.controller.side ts (idle_noted n l ts a h)
+own_grows n who l _ ts ending o a h = λ b. inr refl
 
 -- ## An end that is Up behind a step in which no session began
 
 -- the new end of a node that lost power isn't Up
 pub new_not_up : (r : Role) → CanEnd r CutOff → IsNotUp (new_link_end (renewed r)).shdlc
 new_not_up Bare can u = absurd can
-new_not_up (Clf s) can u = cc
-new_not_up (Uicc s) can u = cc
+new_not_up _ can u = cc
 
 went_on : (e f : EndState) (ended began : Bool) → Shift e f ended began → began ≡ false → f.phase ≡ IsUpNow → (e.phase ≡ IsUpNow) × (ended ≡ false)
 went_on e f ended began (Stays p q g) n up = (g.was, p)
@@ -321,7 +318,18 @@ taken_knows {t} {n} who l x xs ts ending w a b both = go (began_by e i) refl
 pub frame_knows : (t : List Entry) (n : Losses) (who : End) (l : Link) (ts : List Turn) (ending : Ending) → IsNode l ts ending → Before l → Both t n l
     → Both (t ++ step_entries who l NextFrame ts ending) (noted_turns n (core_of l) (core_step l NextFrame ts ending))
     (steps_at_controller l NextFrame ts ending)
-frame_knows t n who l ts ending a b both = go l.to_controller refl
+frame_knows t n who l ts ending a b both =
+    by_list l.to_controller (λ q.
+    let z = none q in
+    as_is (step_entries who l NextFrame ts ending) [] (noted_turns n (core_of l) (core_step l NextFrame ts ending)) n
+    (steps_at_controller l NextFrame ts ending) l z.0 z.1 z.2 same)
+    (λ x xs q.
+    let k : Losses = noted_all (came_up n (core_of (left_after l x xs)) (began_by l.controller.side (Take x.frame))) (core_of (left_after l x xs))
+    (frames_out (turned (took l.controller.side x.frame) ts)) in
+    as_is (step_entries who l NextFrame ts ending) (taken_entries who l x xs ts ending) (noted_turns n (core_of l) (core_step l NextFrame ts ending)) k
+    (steps_at_controller l NextFrame ts ending) (has_taken l x xs ts ending) (rw q refl) (ap (noted_turns n (core_of l)) (list x xs q)
+    ∙ taken_noted n l ts ending x xs q a.0 b) (rw q refl)
+    (taken_knows who l x xs ts ending q a b both))
   where
     as_is : (u v : List Entry) (m k : Losses) (x y : Link) → u ≡ v → m ≡ k → x ≡ y → Both (t ++ v) k y → Both (t ++ u) m x
     as_is u v m k x y p q r h =
@@ -340,18 +348,3 @@ frame_knows t n who l ts ending a b both = go l.to_controller refl
 
     same : Both (t ++ []) n l
     same = let P : List Entry → Type 0 = λ z. Both z n l in subst P (sym (append-nil t)) both
-
-    go : (w : List OnWire) → l.to_controller ≡ w
-        → Both (t ++ step_entries who l NextFrame ts ending) (noted_turns n (core_of l) (core_step l NextFrame ts ending))
-        (steps_at_controller l NextFrame ts ending)
-    go [] q =
-        let z = none q in
-        as_is (step_entries who l NextFrame ts ending) [] (noted_turns n (core_of l) (core_step l NextFrame ts ending)) n
-        (steps_at_controller l NextFrame ts ending) l z.0 z.1 z.2 same
-    go (x ∷ xs) q =
-        let k : Losses = noted_all (came_up n (core_of (left_after l x xs)) (began_by l.controller.side (Take x.frame))) (core_of (left_after l x xs))
-        (frames_out (turned (took l.controller.side x.frame) ts)) in
-        as_is (step_entries who l NextFrame ts ending) (taken_entries who l x xs ts ending) (noted_turns n (core_of l) (core_step l NextFrame ts ending)) k
-        (steps_at_controller l NextFrame ts ending) (has_taken l x xs ts ending) (rw q refl) (ap (noted_turns n (core_of l)) (list x xs q)
-        ∙ taken_noted n l ts ending x xs q a.0 b) (rw q refl)
-        (taken_knows who l x xs ts ending q a b both)

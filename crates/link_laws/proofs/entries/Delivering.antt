@@ -49,9 +49,6 @@ as_is t u n m l p q b =
 swap : (t : List Entry) (n : Losses) (l : Link) → Both t n l → Both t n (exchanged l)
 swap t n l b = record { here = b.there; there = b.here }
 
-swap_back : (t : List Entry) (n : Losses) (l : Link) → Both t n (exchanged l) → Both t n l
-swap_back t n l b = record { here = b.there; there = b.here }
-
 -- ## Events
 
 all_knows : {kf : ℕ} (es : List EndEvent) (t : List Entry) (n : Losses) (l : Link) → AreOwn l es → IsInTick kf l → Both t n l

@@ -1,19 +1,21 @@
 -- What is lost in a step, or answered RNR, is noted there; and where an end comes up first in its session, behind its entry.
 use Rattle.std.specs.Prelude.{◌+◌, ◌||◌}
+use Rattle.std.proofs.lemmas.Bool.{and_right}
 use Rattle.link_laws.proofs.Words.{Act, ActEvent, ActTake, Activation, AreSendableTurns, Asked, Bool, Clt, Control, CoreActs, CoreDeliver, CoreLink, CoreLose}
-use Rattle.link_laws.proofs.Words.{CoreReset, CoreTurn, Down as IsDown, EndState, I, Ignore as CoreIgnore, Link, LinkEnd, LinkState, List, Losses, None, OnWire}
-use Rattle.link_laws.proofs.Words.{Option, Rset, S, Take, Turn, Turns as CoreTurns, Ua, Up as IsUpNow, Waiting as IsWaitingNow, [], act_answer, activated, ap}
-use Rattle.link_laws.proofs.Words.{began_by, came_up, core_happens_here, core_of, core_take, core_turned, core_turns, core_with_ended, counts_first, drop}
-use Rattle.link_laws.proofs.Words.{ended_by, false, frames_out, if_up, inl, inr, is_act, is_open, is_rset, is_some, is_up, left_after, not, noted_all}
-use Rattle.link_laws.proofs.Words.{noted_here, noted_out, noted_turns, option_to_list, refl, reset_by, reset_refusal, reset_with, role_after, sym, take_answer}
-use Rattle.link_laws.proofs.Words.{taken, took, took_with, true, true≢false, turned, with_ended, ℕ, ◌&&◌, ◌∙◌, ◌∷◌, ◌≡◌, ◌⊎◌}
+use Rattle.link_laws.proofs.Words.{CoreReset, CoreTurn, Down as IsDown, EndState, Ignore as CoreIgnore, Link, LinkEnd, List, Losses, None, OnWire, Option, Take}
+use Rattle.link_laws.proofs.Words.{Turn, Turns as CoreTurns, [], act_answer, activated, ap, began_by, came_up, core_happens_here, core_of, core_take}
+use Rattle.link_laws.proofs.Words.{core_turned, core_turns, core_with_ended, counts_first, drop, ended_by, false, frames_out, if_up, inl, inr, is_act, is_open}
+use Rattle.link_laws.proofs.Words.{is_rset, is_some, is_up, left_after, not, noted_all, noted_here, noted_out, noted_turns, option_to_list, refl, reset_by}
+use Rattle.link_laws.proofs.Words.{reset_refusal, reset_with, role_after, sym, take_answer, taken, took, took_with, true, true≢false, turned, with_ended, ℕ}
+use Rattle.link_laws.proofs.Words.{◌&&◌, ◌∙◌, ◌∷◌, ◌≡◌, ◌⊎◌}
 use Rattle.link_laws.proofs.messages.Project.{Now, Tells, turns_mid, with_ended-core, mid_moved}
 use Rattle.link_laws.proofs.machine.Runs.{opened}
-use Rattle.link_laws.proofs.machine.Reports.{shdlc_is as shdlc_moved}
+use Rattle.link_laws.proofs.machine.Reports.{shdlc_is as shdlc_moved, no_began}
 use Rattle.link_laws.proofs.messages.Steps.{ComesFirst, Heard, is_shdlc, heard_end, heard_is, counted_is, mid_counted, took_open, took_closed, no_fault_first}
 use Rattle.link_laws.proofs.messages.Steps.{polite, role_closes, stays_down, act_mid}
 use Rattle.link_laws.proofs.messages.Finishing.{reset_tells, reset_keeps}
 use Rattle.link_laws.proofs.entries.Losing.{out_noted}
+use Rattle.link_laws.proofs.entries.Noting.{if_up_is}
 
 -- ## A frame is taken
 
@@ -62,19 +64,11 @@ take_noted n l ts x xs a comes = go x.frame refl
 
     take_open : (y : Control) → is_act y ≡ false → is_open e.role ≡ true → core_take e y ts ≡ CoreDeliver (core_turns (took e y) ts) ∷ []
     take_open (Act _ _) q o = absurd (true≢false q)
-    take_open (I _ _ _) q o = rw o refl
-    take_open (S _ _) q o = rw o refl
-    take_open (Rset _ _) q o = rw o refl
-    take_open Ua q o = rw o refl
-    take_open Clt q o = rw o refl
+    take_open _ q o = rw o refl
 
     take_closed : (y : Control) → is_act y ≡ false → is_open e.role ≡ false → core_take e y ts ≡ CoreIgnore (core_turns (took e y) ts) ∷ []
     take_closed (Act _ _) q o = absurd (true≢false q)
-    take_closed (I _ _ _) q o = rw o refl
-    take_closed (S _ _) q o = rw o refl
-    take_closed (Rset _ _) q o = rw o refl
-    take_closed Ua q o = rw o refl
-    take_closed Clt q o = rw o refl
+    take_closed _ q o = rw o refl
 
     -- an end that is open became f
     open_as : (f : LinkEnd) (b : Bool) → is_act x.frame ≡ false → is_open e.role ≡ true → took e x.frame ≡ f → is_some (ended_by e (Take x.frame)) ≡ b
@@ -147,7 +141,8 @@ take_noted n l ts x xs a comes = go x.frame refl
         let counts : took_with l.controller.took x ≡ l.controller.took = no_number (ap is_rset q) in
         let gone : CoreLink = record c { to_controller = xs } in
         let k_is : k ≡ gone = left false ends ∙ ap (λ z. record (record c { to_controller = xs }) { controller = record c.controller { took = z } }) counts in
-        let beg : began_by e (Take x.frame) ≡ false = ap (λ y. began_by e (Take y)) q ∙ none e.shdlc.phase refl in
+        let beg : began_by e (Take x.frame) ≡ false = ap (λ y. began_by e (Take y)) q
+        ∙ and_right (is_open e.role) (take_answer e.shdlc (Act act again)).began (no_began e.shdlc act again) in
         let list : core_take e x.frame ts ≡ CoreLose ∷ CoreActs (option_to_list o) us ∷ [] = ap (λ y. core_take e y ts) q in
         let lost : noted_here n c CoreLose ≡ n =
         ap (λ z. record n { lost = n.lost || counts_first z }) comes.first
@@ -172,30 +167,10 @@ take_noted n l ts x xs a comes = go x.frame refl
         or_none true = refl
         or_none false = refl
 
-        none : (y : LinkState) → e.shdlc.phase ≡ y → began_by e (Take (Act act again)) ≡ false
-        none IsUpNow r = and_none (is_open e.role) (rw r refl)
-          where
-            and_none : (b : Bool) → (take_answer e.shdlc (Act act again)).began ≡ false → (b && (take_answer e.shdlc (Act act again)).began) ≡ false
-            and_none true z = z
-            and_none false z = refl
-        none IsWaitingNow r = and_none (is_open e.role) (rw r refl)
-          where
-            and_none : (b : Bool) → (take_answer e.shdlc (Act act again)).began ≡ false → (b && (take_answer e.shdlc (Act act again)).began) ≡ false
-            and_none true z = z
-            and_none false z = refl
-        none IsDown r = and_none (is_open e.role) (rw r refl)
-          where
-            and_none : (b : Bool) → (take_answer e.shdlc (Act act again)).began ≡ false → (b && (take_answer e.shdlc (Act act again)).began) ≡ false
-            and_none true z = z
-            and_none false z = refl
-
     go : (y : Control) → x.frame ≡ y → Goal
     go (Act act again) q = acts act again q
-    go (I _ _ _) q = shdlc (is_open e.role) refl (ap is_shdlc q) (ap is_act q)
-    go (S _ _) q = shdlc (is_open e.role) refl (ap is_shdlc q) (ap is_act q)
-    go (Rset _ _) q = shdlc (is_open e.role) refl (ap is_shdlc q) (ap is_act q)
-    go Ua q = shdlc (is_open e.role) refl (ap is_shdlc q) (ap is_act q)
     go Clt q = counts (is_open e.role) refl q
+    go _ q = shdlc (is_open e.role) refl (ap is_shdlc q) (ap is_act q)
 
 -- ## Turns and resets
 
@@ -221,10 +196,5 @@ reset_noted n l w ts a h q =
     let s : EndState = core_turned (reset_with e.shdlc w) us in
     let is : (turned f ts).shdlc ≡ s = tm.is ∙ ap (λ z. core_turned z us) (shdlc_moved e b (reset_with e.shdlc w)) in
     let link : core_with_ended (core_of l) (is_up e.shdlc.phase) ≡ core_of (with_ended l b) =
-    ap (core_with_ended (core_of l)) (up e.shdlc.phase refl) ∙ sym (with_ended-core l b) in
+    ap (core_with_ended (core_of l)) (if_up_is e.shdlc Asked) ∙ sym (with_ended-core l b) in
     ap (λ z. noted_out n z s) link ∙ out_noted n (core_of (with_ended l b)) None (turned f ts) s tm.mid.acts is
-  where
-    up : (p : LinkState) → l.controller.side.shdlc.phase ≡ p → is_up l.controller.side.shdlc.phase ≡ is_some (if_up l.controller.side.shdlc Asked)
-    up IsUpNow p = rw p refl
-    up IsWaitingNow p = rw p refl
-    up IsDown p = rw p refl

@@ -2,16 +2,15 @@
 use Rattle.std.specs.Prelude.{length}
 use Rattle.std.specs.List.{fold}
 use Rattle.std.proofs.lemmas.List.Sums.{fold-append}
-use Rattle.link_laws.proofs.Words.{Acked, ActEvent, Active, AsksReset, Bool, Cause as EndedBy, Control, Cut, CutOff, Down as IsDown, End, EndEvent, Ending}
-use Rattle.link_laws.proofs.Words.{Entry, FetchMessage, GaveUp, Give, GoesOut, Got, HasTick, Hold, IsAllowed, IsNode, IsOwn, Link, LinkEnd, LinkInput}
-use Rattle.link_laws.proofs.Words.{LinkState, List, Lose, Loss, NextFrame, NoInput, Node, None, NumberedEnd, OnWire, Option, Refused, Release, Report, Reset}
-use Rattle.link_laws.proofs.Words.{SetAside, Some, Starts, Step, Stops, Take, TooMany, Turn, Up as IsUpNow, Waiting as IsWaitingNow, [], after_input}
-use Rattle.link_laws.proofs.Words.{aged_entries, ap, becomes, began_by, ended_by, false, far, finished, first_lost, frames_out, give_refusal}
-use Rattle.link_laws.proofs.Words.{happens_at_controller, has_taken, here_entries, if_so, if◌then◌else◌, input_entries, is_some, is_up, left_after, map, max}
-use Rattle.link_laws.proofs.Words.{most_frames, nat_lt, number_now, number_of, option_to_list, put, put_entries, puts_entries, refl, report, rest_entries}
-use Rattle.link_laws.proofs.Words.{restart_entries, sent_unless, silent, step_entries, subst, sym, taken_entries, tick_entries, ticks_at_controller, told}
-use Rattle.link_laws.proofs.Words.{told_of, took, took_with, true, turn, turn_entries, turn_entry, turned, whole_acked, wire_with, with_ended, ℕ, ◌++◌, ◌∙◌}
-use Rattle.link_laws.proofs.Words.{◌∷◌, ◌≡◌}
+use Rattle.link_laws.proofs.Words.{Acked, ActEvent, Active, AsksReset, Bool, Cause as EndedBy, Control, Cut, CutOff, End, EndEvent, Ending, Entry, FetchMessage}
+use Rattle.link_laws.proofs.Words.{GaveUp, Give, GoesOut, Got, HasTick, Hold, IsAllowed, IsNode, IsOwn, Link, LinkEnd, LinkInput, List, Lose, Loss, NextFrame}
+use Rattle.link_laws.proofs.Words.{NoInput, Node, None, NumberedEnd, OnWire, Option, Refused, Release, Report, Reset, SetAside, Some, Starts, Step, Stops, Take}
+use Rattle.link_laws.proofs.Words.{TooMany, Turn, Up as IsUpNow, [], after_input, aged_entries, ap, becomes, began_by, ended_by, false, far, finished}
+use Rattle.link_laws.proofs.Words.{first_lost, frames_out, give_refusal, happens_at_controller, has_taken, here_entries, if_so, if◌then◌else◌, input_entries}
+use Rattle.link_laws.proofs.Words.{is_some, is_up, left_after, map, max, most_frames, nat_lt, number_now, number_of, option_to_list, put, put_entries}
+use Rattle.link_laws.proofs.Words.{puts_entries, refl, report, rest_entries, restart_entries, sent_unless, silent, step_entries, subst, sym, taken_entries}
+use Rattle.link_laws.proofs.Words.{tick_entries, ticks_at_controller, told, told_of, took, took_with, true, turn, turn_entries, turn_entry, turned, whole_acked}
+use Rattle.link_laws.proofs.Words.{wire_with, with_ended, ℕ, ◌++◌, ◌∙◌, ◌∷◌, ◌≡◌}
 use Rattle.link_laws.proofs.machine.Shifts.{Shift, IsNotUp}
 use Rattle.link_laws.proofs.machine.Shifts.Shift.{Stays, Ends, Renews, Begins, Rests as ShiftRests}
 use Rattle.link_laws.proofs.machine.Reports.{Reports, take_so, tick_so, reset_so}
@@ -24,6 +23,7 @@ use Rattle.link_laws.proofs.entries.Noting.{turned_same, IsQuietEnd, Near, Frame
 use Rattle.link_laws.proofs.entries.Noting.{tick_finishes, reset_finishes, take_finishes, restart_finishes}
 use Rattle.link_laws.proofs.entries.Completing.{new_not_up}
 use Rattle.link_laws.proofs.entries.Running.{Before, frame_facts, near_of}
+use Rattle.link_laws.proofs.Cases.{by_list, by_phase}
 
 -- ## Sessions
 
@@ -31,31 +31,21 @@ pub up_session : (h : NumberedEnd) → h.side.shdlc.phase ≡ IsUpNow → number
 up_session h p = rw p refl
 
 pub down_session : (h : NumberedEnd) → IsNotUp h.side.shdlc → number_now h ≡ None
-down_session h down = go h.side.shdlc.phase refl
-  where
-    go : (p : LinkState) → h.side.shdlc.phase ≡ p → number_now h ≡ None
-    go IsUpNow p = absurd (down p)
-    go IsWaitingNow p = rw p refl
-    go IsDown p = rw p refl
+down_session h down = by_phase h.side.shdlc.phase (λ p. absurd (down p)) (λ p. rw p refl) (λ p. rw p refl)
 
 -- an end that has a session is up, and this is its number
 pub session_up : (h : NumberedEnd) (n : ℕ) → number_now h ≡ Some n → (h.side.shdlc.phase ≡ IsUpNow) × (number_of h ≡ n)
-session_up h n q = go h.side.shdlc.phase refl
-  where
-    go : (p : LinkState) → h.side.shdlc.phase ≡ p → (h.side.shdlc.phase ≡ IsUpNow) × (number_of h ≡ n)
-    go IsUpNow p = (p, (let z : Some (number_of h) ≡ Some n = sym (up_session h p) ∙ q in cc))
-    go IsWaitingNow p = absurd (let z : None ≡ Some n = rw p at q in cc)
-    go IsDown p = absurd (let z : None ≡ Some n = rw p at q in cc)
+session_up h n q =
+    by_phase h.side.shdlc.phase (λ p. (p, (let z : Some (number_of h) ≡ Some n = sym (up_session h p) ∙ q in cc)))
+    (λ p. absurd (let z : None ≡ Some n = rw p at q in cc)) (λ p. absurd (let z : None ≡ Some n = rw p at q in cc))
 
 -- two ends in the same phase with the same number
 pub same_session : (a b : NumberedEnd) → a.side.shdlc.phase ≡ b.side.shdlc.phase → (b.side.shdlc.phase ≡ IsUpNow → number_of a ≡ number_of b)
     → number_now a ≡ number_now b
-same_session a b p n = go b.side.shdlc.phase refl
-  where
-    go : (y : LinkState) → b.side.shdlc.phase ≡ y → number_now a ≡ number_now b
-    go IsUpNow q = up_session a (p ∙ q) ∙ (ap (λ m. Some m) (n q) ∙ sym (up_session b q))
-    go IsWaitingNow q = down_session a (λ u. let z = sym (p ∙ q) ∙ u in cc) ∙ sym (down_session b (λ u. let z = sym q ∙ u in cc))
-    go IsDown q = down_session a (λ u. let z = sym (p ∙ q) ∙ u in cc) ∙ sym (down_session b (λ u. let z = sym q ∙ u in cc))
+same_session a b p n =
+    by_phase b.side.shdlc.phase (λ q. up_session a (p ∙ q) ∙ (ap (λ m. Some m) (n q) ∙ sym (up_session b q)))
+    (λ q. down_session a (λ u. let z = sym (p ∙ q) ∙ u in cc) ∙ sym (down_session b (λ u. let z = sym q ∙ u in cc)))
+    (λ q. down_session a (λ u. let z = sym (p ∙ q) ∙ u in cc) ∙ sym (down_session b (λ u. let z = sym q ∙ u in cc)))
 
 -- ## What is heard of them
 
@@ -287,7 +277,17 @@ own_heard who l (Step NoInput ts ending) o a n =
 
 frame_heard : (who : End) (l : Link) (ts : List Turn) (ending : Ending) → IsNode l ts ending → Near l → Frames l ts
     → Heard who l (happens_at_controller l (Step NextFrame ts ending)) (step_entries who l NextFrame ts ending)
-frame_heard who l ts ending a n frames = go l.to_controller refl
+frame_heard who l ts ending a n frames =
+    by_list {P = Heard who l m u} l.to_controller (λ q.
+    let none : u ≡ [] = rw q refl in
+    let same : m ≡ l = rw q refl in
+    let Q : List Entry → Type 0 = λ z. Heard who l l z in
+    subst P (sym same) (subst Q (sym none) (record { here = refl; there = λ s. refl })))
+    (λ x xs q.
+    let some : u ≡ taken_entries who l x xs ts ending = rw q refl in
+    let next : m ≡ has_taken l x xs ts ending = rw q refl in
+    let Q : List Entry → Type 0 = λ z. Heard who l (has_taken l x xs ts ending) z in
+    subst P (sym next) (subst Q (sym some) (taken_heard who l x xs ts ending a n (frames x xs q))))
   where
     m : Link
     m = happens_at_controller l (Step NextFrame ts ending)
@@ -297,18 +297,6 @@ frame_heard who l ts ending a n frames = go l.to_controller refl
 
     P : Link → Type 0
     P k = Heard who l k u
-
-    go : (w : List OnWire) → l.to_controller ≡ w → Heard who l m u
-    go [] q =
-        let none : u ≡ [] = rw q refl in
-        let same : m ≡ l = rw q refl in
-        let Q : List Entry → Type 0 = λ z. Heard who l l z in
-        subst P (sym same) (subst Q (sym none) (record { here = refl; there = λ s. refl }))
-    go (x ∷ xs) q =
-        let some : u ≡ taken_entries who l x xs ts ending = rw q refl in
-        let next : m ≡ has_taken l x xs ts ending = rw q refl in
-        let Q : List Entry → Type 0 = λ z. Heard who l (has_taken l x xs ts ending) z in
-        subst P (sym next) (subst Q (sym some) (taken_heard who l x xs ts ending a n (frames x xs q)))
 
 pub here_heard : (who : End) (l : Link) (e : EndEvent) → IsAllowed l e → Before l → Heard who l (happens_at_controller l e) (here_entries who l e)
 here_heard who l e a b = go e a

@@ -1,15 +1,15 @@
 -- What was noted since a session began tells each loss of it.
-use Rattle.link_laws.proofs.Words.{AreSendableTurns, Bool, CoreEndEvent, CoreLink, Cut, CutOff, Down as IsDown, End, Ending, Entry, GoesOut, Link, LinkEnd}
-use Rattle.link_laws.proofs.Words.{LinkState, List, Losses, NumberedEnd, OnWire, Take, Turn, Up as IsUpNow, Waiting as IsWaitingNow, [], and_parts, ap}
-use Rattle.link_laws.proofs.Words.{append_assoc, arith, began_by, came_up, common_steps, core_all_here, core_end, core_ending, core_happens_here, core_of}
-use Rattle.link_laws.proofs.Words.{core_take, eqb-true, false, frames_out, inl, inr, is_up, is_up_with, left_after, list_any, max, noted_all, noted_here}
-use Rattle.link_laws.proofs.Words.{noted_turns, number_of, puts_entries, refl, rest_entries, since, subst, sym, took, true, true≢false, turn_entries, turned, ℕ}
-use Rattle.link_laws.proofs.Words.{◌++◌, ◌==◌, ◌∙◌, ◌∷◌, ◌≡◌, ◌⊎◌}
+use Rattle.link_laws.proofs.Words.{AreSendableTurns, Bool, CoreEndEvent, CoreLink, Cut, CutOff, End, Ending, Entry, GoesOut, Link, LinkEnd, LinkState, List}
+use Rattle.link_laws.proofs.Words.{Losses, NumberedEnd, OnWire, Take, Turn, Up as IsUpNow, [], and_parts, ap, append_assoc, arith, began_by, came_up}
+use Rattle.link_laws.proofs.Words.{common_steps, core_all_here, core_end, core_ending, core_happens_here, core_of, core_take, eqb-true, false, frames_out, inl}
+use Rattle.link_laws.proofs.Words.{inr, is_up, is_up_with, left_after, list_any, max, noted_all, noted_here, noted_turns, number_of, puts_entries, refl}
+use Rattle.link_laws.proofs.Words.{rest_entries, since, subst, sym, took, true, true≢false, turn_entries, turned, ℕ, ◌++◌, ◌==◌, ◌∙◌, ◌∷◌, ◌≡◌, ◌⊎◌}
 use Rattle.link_laws.specs.entries.Entries.Entry.{Up}
 use Rattle.link_laws.specs.entries.Quiet.{begins}
 use Rattle.link_laws.proofs.entries.Running.{Before, comes_first}
 use Rattle.link_laws.proofs.entries.Losing.{bad, Disturbed, disturbed_left, disturbed_right, Grows, flush_grows}
 use Rattle.link_laws.proofs.entries.Disturbing.{take_noted}
+use Rattle.link_laws.proofs.Cases.{by_test}
 
 -- ## Since an end came up
 
@@ -19,19 +19,11 @@ Has n t = list_any (begins n) t ≡ true
 
 has-append : (n : ℕ) (t u : List Entry) → Has n t → Has n (t ++ u)
 has-append n [] u h = absurd (true≢false (sym h))
-has-append n (e ∷ t) u h = go (begins n e) refl (has-append n t u)
-  where
-    go : (b : Bool) → begins n e ≡ b → (Has n t → Has n (t ++ u)) → Has n (e ∷ (t ++ u))
-    go true q later = rw q refl
-    go false q later = rw q (later (let z = h in rw q at z))
+has-append n (e ∷ t) u h = by_test {P = Has n (e ∷ (t ++ u))} (begins n e) (λ q. rw q refl) (λ q. rw q ((has-append n t u) (let z = h in rw q at z)))
 
 pub has_later : (n : ℕ) (t u : List Entry) → Has n u → Has n (t ++ u)
 has_later n [] u h = h
-has_later n (e ∷ t) u h = go (begins n e) refl (has_later n t u h)
-  where
-    go : (b : Bool) → begins n e ≡ b → Has n (t ++ u) → Has n (e ∷ (t ++ u))
-    go true q later = rw q refl
-    go false q later = rw q later
+has_later n (e ∷ t) u h = by_test {P = Has n (e ∷ (t ++ u))} (begins n e) (λ q. rw q refl) (λ q. rw q (has_later n t u h))
 
 pub same_number : (n : ℕ) → (n == n) ≡ true
 same_number n = grind (arith, common_steps)
@@ -41,23 +33,16 @@ has_up n who t v = has_later n t (Up who n ∷ v) (let z = same_number n in rw z
 
 since-append : (n : ℕ) (t u : List Entry) → Has n t → since n (t ++ u) ≡ since n t ++ u
 since-append n [] u h = absurd (true≢false (sym h))
-since-append n (e ∷ t) u h = go (begins n e) refl (since-append n t u)
-  where
-    go : (b : Bool) → begins n e ≡ b → (Has n t → since n (t ++ u) ≡ since n t ++ u) → since n (e ∷ (t ++ u)) ≡ since n (e ∷ t) ++ u
-    go true q later = rw q refl
-    go false q later = rw q (later (let z = h in rw q at z))
+since-append n (e ∷ t) u h =
+    by_test {P = since n (e ∷ (t ++ u)) ≡ since n (e ∷ t) ++ u} (begins n e) (λ q. rw q refl) (λ q. rw q ((since-append n t u) (let z = h in rw q at z)))
 
 -- what is noted behind the entry of an end is noted since the first that came up with its number
 since_up : (n : ℕ) (who : End) (t v : List Entry) → Disturbed v → Disturbed (since n (t ++ (Up who n ∷ v)))
 since_up n who [] v d = let z = same_number n in rw z d
-since_up n who (e ∷ t) v d = go (begins n e) refl (since_up n who t v d)
+since_up n who (e ∷ t) v d = by_test {P = Disturbed (since n (e ∷ (t ++ (Up who n ∷ v))))} (begins n e) (λ q. rw q all) (λ q. rw q (since_up n who t v d))
   where
     all : Disturbed (t ++ (Up who n ∷ v))
     all = disturbed_right t (Up who n ∷ v) d
-
-    go : (b : Bool) → begins n e ≡ b → Disturbed (since n (t ++ (Up who n ∷ v))) → Disturbed (since n (e ∷ (t ++ (Up who n ∷ v))))
-    go true q later = rw q all
-    go false q later = rw q later
 
 -- what is known of the session of an end
 pub record Knows (t : List Entry) (n : Losses) (h : NumberedEnd) : Type 0 where
@@ -107,8 +92,7 @@ knows_new {t} pre v who {n} {m} {other} {k} x grows first =
       where
         phase : (y : LinkState) → other.side.shdlc.phase ≡ y → is_up other.side.shdlc.phase ≡ true → other.side.shdlc.phase ≡ IsUpNow
         phase IsUpNow r z = r
-        phase IsWaitingNow r z = absurd (let y : false ≡ true = rw r at z in cc)
-        phase IsDown r z = absurd (let y : false ≡ true = rw r at z in cc)
+        phase _ r z = absurd (let y : false ≡ true = rw r at z in cc)
 
     go : (b : Bool) → is_up_with (core_end other) j ≡ b → bad m ≡ true → Disturbed (since j (t ++ u))
     go false q b = alone (first q b)
@@ -145,11 +129,9 @@ grows_right n m u v g b = which (g b)
 
 pub came_bad : (n : Losses) (l : CoreLink) (b : Bool) → bad (came_up n l b) ≡ true → bad n ≡ true
 came_bad n l false q = q
-came_bad n l true q = go (is_up_with l.host (max l.controller.emitted l.controller.took)) refl
-  where
-    go : (c : Bool) → is_up_with l.host (max l.controller.emitted l.controller.took) ≡ c → bad n ≡ true
-    go true r = let z = q in rw r at z
-    go false r = absurd (let z : false ≡ true = rw r at q in cc)
+came_bad n l true q =
+    by_test (is_up_with l.host (max l.controller.emitted l.controller.took)) (λ r. let z = q in rw r at z)
+    (λ r. absurd (let z : false ≡ true = rw r at q in cc))
 
 pub noted-append : (n : Losses) (c : CoreLink) (es fs : List CoreEndEvent)
     → noted_turns n c (es ++ fs) ≡ noted_turns (noted_turns n c es) (core_all_here c es) fs

@@ -1,13 +1,13 @@
 -- What is noted of a run says what is kept of the sessions of both ends.
-use Rattle.link_laws.proofs.Words.{ActEvent, ActStart, ActStop, ActTick, AreSendableTurns, Asked, AsksReset, Bare, Bool, ByAct, CanEnd, Clf, Comes, CutOff}
-use Rattle.link_laws.proofs.Words.{Down as IsDown, End, EndState, Ending, Entry, FetchMessage, Give, GoesOut, HasTick, Hold, IsNode, Link, LinkEnd, LinkInput}
-use Rattle.link_laws.proofs.Words.{LinkState, List, NextFrame, NoInput, Node, None, NumberedEnd, OnWire, Option, Refused, Release, Reset, Restarted, Role}
-use Rattle.link_laws.proofs.Words.{SetAside, Some, Start, Starts, Stop, Stops, Take, Took, Turn, Uicc, Up as IsUpNow, Waiting as IsWaitingNow, [], act_answer}
-use Rattle.link_laws.proofs.Words.{activated, after_input, ap, append_assoc, arith, aside_refusal, began_by, ended_by, false, far, finished, frames_out}
-use Rattle.link_laws.proofs.Words.{give_refusal, has_taken, if_up, is_open, is_some, is_up, is_waiting, left_after, max, moved, new_link_end, no_talk, not}
-use Rattle.link_laws.proofs.Words.{number_of, refl, renewed, reset_by, reset_refusal, reset_with, rest_entries, restart_entries, role_after, sent_all, silent}
-use Rattle.link_laws.proofs.Words.{step_entries, steps_at_controller, stopped, subst, sym, taken_entries, talk_of, tick_answer, tick_entries, ticked}
-use Rattle.link_laws.proofs.Words.{ticks_at_controller, told_of, took, took_with, true, true≢false, turn, turned, window_of, with_ended, ℕ, ◌++◌, ◌∙◌, ◌∷◌, ◌≡◌}
+use Rattle.link_laws.proofs.Words.{ActEvent, ActStart, ActStop, ActTick, AreSendableTurns, Asked, AsksReset, Bare, Bool, ByAct, CanEnd, Cause, Comes, CutOff}
+use Rattle.link_laws.proofs.Words.{Down as IsDown, End, EndState, Ending, Entry, Give, GoesOut, HasTick, Hold, IsNode, Link, LinkEnd, LinkInput, List}
+use Rattle.link_laws.proofs.Words.{NextFrame, NoInput, Node, None, NumberedEnd, OnWire, Option, Reset, Restarted, Role, SetAside, Start, Starts, Stop, Stops}
+use Rattle.link_laws.proofs.Words.{Take, Took, Turn, Up as IsUpNow, Waiting as IsWaitingNow, [], act_answer, activated, after_input, ap, append_assoc, arith}
+use Rattle.link_laws.proofs.Words.{aside_refusal, began_by, ended_by, false, far, finished, frames_out, give_refusal, has_taken, if_up, is_open, is_some, is_up}
+use Rattle.link_laws.proofs.Words.{is_waiting, left_after, max, moved, new_link_end, no_talk, not, number_of, refl, renewed, reset_by, reset_refusal}
+use Rattle.link_laws.proofs.Words.{reset_with, rest_entries, restart_entries, role_after, sent_all, silent, step_entries, steps_at_controller, stopped, subst}
+use Rattle.link_laws.proofs.Words.{sym, taken_entries, talk_of, tick_answer, tick_entries, ticked, ticks_at_controller, told_of, took, took_with, true}
+use Rattle.link_laws.proofs.Words.{true≢false, turn, turned, window_of, with_ended, ℕ, ◌++◌, ◌∙◌, ◌∷◌, ◌≡◌}
 use Rattle.link_laws.proofs.machine.Shifts.{IsNotUp}
 use Rattle.link_laws.proofs.machine.Runs.{Sound, sound_input, opened}
 use Rattle.link_laws.proofs.machine.Reports.{Reports, take_so, tick_so, reset_so, start_so, stop_so, shdlc_is as shdlc_moved}
@@ -21,6 +21,7 @@ use Rattle.link_laws.proofs.messages.Finishing.{waiting_phase, restart_mid}
 use Rattle.link_laws.proofs.entries.Books.{told_silent, past_after}
 use Rattle.link_laws.proofs.entries.Fronts.{few_told, few_more, few_then}
 use Rattle.link_laws.proofs.entries.Stepping.{Tolds, Out, CanFinish, TakesInput, input_told, rest_told, sound_turns, sound_sent}
+use Rattle.link_laws.proofs.Cases.{by_list, by_option, by_phase, by_test}
 
 -- ## Where an end is Up before its frames go out, no RSET is due
 
@@ -31,18 +32,9 @@ turned_same (t ∷ ts) e = turned_same ts (turn e t) ∙ one t
   where
     one : (t : Turn) → (turn e t).shdlc.phase ≡ e.shdlc.phase
     one (Hold held) = ready_phase e.shdlc (not held)
-    one FetchMessage = refl
-    one Release = refl
-    one SetAside = by (aside_refusal e) refl
-      where
-        by : (o : Option Refused) → aside_refusal e ≡ o → (turn e SetAside).shdlc.phase ≡ e.shdlc.phase
-        by None q = rw q refl
-        by (Some r) q = rw q refl
-    one (Give m) = by (give_refusal e m) refl
-      where
-        by : (o : Option Refused) → give_refusal e m ≡ o → (turn e (Give m)).shdlc.phase ≡ e.shdlc.phase
-        by None q = rw q refl
-        by (Some r) q = rw q refl
+    one SetAside = by_option {P = (turn e SetAside).shdlc.phase ≡ e.shdlc.phase} (aside_refusal e) (λ q. rw q refl) (λ r q. rw q refl)
+    one (Give m) = by_option {P = (turn e (Give m)).shdlc.phase ≡ e.shdlc.phase} (give_refusal e m) (λ q. rw q refl) (λ r q. rw q refl)
+    one _ = refl
 
 -- no RSET goes out where the end is Up
 abbrev pub IsQuietEnd : LinkEnd → List Turn → Type 0
@@ -57,7 +49,11 @@ quiet_idle l ts a h r = λ _. none_out None l.controller.side ts a h.now (none_d
 
 pub quiet_reset : (l : Link) (window : Option ℕ) (ts : List Turn) → AreSendableTurns ts → Tells l.controller → Rests l.controller.side.shdlc
     → IsQuietEnd (after_input l.controller.side (Reset window)) ts
-quiet_reset l window ts a h r = go (reset_refusal e) refl
+quiet_reset l window ts a h r =
+    by_option {P = IsQuietEnd (after_input e (Reset window)) ts} (reset_refusal e) (λ q.
+    let is : after_input e (Reset window) ≡ reset_by e (window_of e window) = rw q refl in
+    subst P (sym is) (not_up_quiet (reset_by e (window_of e window)) ts (waits q)))
+    (λ why q. let is : after_input e (Reset window) ≡ e = rw q refl in subst P (sym is) (quiet_idle l ts a h r))
   where
     e : LinkEnd
     e = l.controller.side
@@ -73,18 +69,19 @@ quiet_reset l window ts a h r = go (reset_refusal e) refl
         ∙ reset_waits e.shdlc (window_of e window) t.1 in
         let z = sym p ∙ u in cc
 
-    go : (o : Option Refused) → reset_refusal e ≡ o → IsQuietEnd (after_input e (Reset window)) ts
-    go None q =
-        let is : after_input e (Reset window) ≡ reset_by e (window_of e window) = rw q refl in
-        subst P (sym is) (not_up_quiet (reset_by e (window_of e window)) ts (waits q))
-    go (Some why) q = let is : after_input e (Reset window) ≡ e = rw q refl in subst P (sym is) (quiet_idle l ts a h r)
-
 pub restarted_down : (e : LinkEnd) (event : ActEvent) → Now e → IsNotUp (activated (moved e true (stopped e.shdlc)) event).shdlc
 restarted_down e event h u = let m = restart_mid e event h in let z = sym (ap (λ (s : EndState). s.phase) m.same) ∙ u in cc
 
 pub quiet_tick : (l : Link) (ts : List Turn) → AreSendableTurns ts → Tells l.controller → Rests l.controller.side.shdlc
     → IsQuietEnd (after_input l.controller.side HasTick) ts
-quiet_tick l ts a h r = go (is_open e.role) refl
+quiet_tick l ts a h r =
+    by_test {P = IsQuietEnd (after_input e HasTick) ts} (is_open e.role) (λ o. let t = tick_open e o in subst P (sym t.0) (open_one o (is_waiting s) refl))
+    (λ o.
+    let t = tick_closed e o in
+    let down : (act_answer e.role ActTick).ended_link ≡ true → e.shdlc.phase ≡ IsDown = λ z. absurd (true≢false (sym z ∙ tick_closes e.role o)) in
+    let m = act_mid e ActTick h.now r.due down (λ z. h.now.closed (tick_role e.role z)) in
+    let still : IsNotUp (activated e ActTick).shdlc = λ u. let z = sym (ap (λ (x : EndState). x.phase) m.same ∙ h.now.closed o) ∙ u in cc in
+    subst P (sym t.0) (not_up_quiet (activated e ActTick) ts still))
   where
     e : LinkEnd
     e = l.controller.side
@@ -107,15 +104,6 @@ quiet_tick l ts a h r = go (is_open e.role) refl
         let k : Now (moved e b s) = mid_moved e b s h.now (ticked_keeps e.shdlc h.now.idle) (opened e.role (s.phase ≡ IsDown) o) in
         let Q : EndState → Type 0 = λ z. NoAsk z.due in
         λ _. none_out None (moved e b s) ts a k (subst Q (sym (shdlc_moved e b s)) (ticked_asks e.shdlc w (none_due e.shdlc r.due)))
-
-    go : (o : Bool) → is_open e.role ≡ o → IsQuietEnd (after_input e HasTick) ts
-    go true o = let t = tick_open e o in subst P (sym t.0) (open_one o (is_waiting s) refl)
-    go false o =
-        let t = tick_closed e o in
-        let down : (act_answer e.role ActTick).ended_link ≡ true → e.shdlc.phase ≡ IsDown = λ z. absurd (true≢false (sym z ∙ tick_closes e.role o)) in
-        let m = act_mid e ActTick h.now r.due down (λ z. h.now.closed (tick_role e.role z)) in
-        let still : IsNotUp (activated e ActTick).shdlc = λ u. let z = sym (ap (λ (x : EndState). x.phase) m.same ∙ h.now.closed o) ∙ u in cc in
-        subst P (sym t.0) (not_up_quiet (activated e ActTick) ts still)
 
 -- ## Frames
 
@@ -181,28 +169,24 @@ pub moved_can : (e : LinkEnd) (i : LinkInput) (ts : List Turn) (ending : Ending)
 moved_can e i ts ending r q can = can_end (after_input e i) ts r ending q can
 
 pub reset_role : (e : LinkEnd) (window : Option ℕ) → (after_input e (Reset window)).role ≡ e.role
-reset_role e window = go (reset_refusal e) refl
-  where
-    go : (o : Option Refused) → reset_refusal e ≡ o → (after_input e (Reset window)).role ≡ e.role
-    go None q =
-        let is : after_input e (Reset window) ≡ reset_by e (window_of e window) = rw q refl in
-        ap (λ (f : LinkEnd). f.role) is ∙ moved_role e (is_some (if_up e.shdlc Asked)) (reset_with e.shdlc (window_of e window))
-    go (Some why) q = let is : after_input e (Reset window) ≡ e = rw q refl in ap (λ (f : LinkEnd). f.role) is
+reset_role e window =
+    by_option (reset_refusal e) (λ q.
+    let is : after_input e (Reset window) ≡ reset_by e (window_of e window) = rw q refl in
+    ap (λ (f : LinkEnd). f.role) is ∙ moved_role e (is_some (if_up e.shdlc Asked)) (reset_with e.shdlc (window_of e window)))
+    (λ why q. let is : after_input e (Reset window) ≡ e = rw q refl in ap (λ (f : LinkEnd). f.role) is)
 
 pub tick_can : (e : LinkEnd) (ts : List Turn) (ending : Ending) → CanEnd e.role ending → CanEnd (turned (after_input e HasTick) ts).role ending
-tick_can e ts ending can = go (is_open e.role) refl
+tick_can e ts ending can =
+    by_test (is_open e.role) (λ o.
+    let t = tick_open e o in
+    let b : Bool = is_some (tick_answer e.shdlc).ended in
+    subst P (sym t.0) (can_end (moved e b (ticked e.shdlc)) ts e.role ending (moved_role e b (ticked e.shdlc)) can))
+    (λ o.
+    let t = tick_closed e o in
+    subst P (sym t.0) (can_end (activated e ActTick) ts (role_after e.role ActTick) ending (activated_role e ActTick) (can_after e.role ActTick ending can)))
   where
     P : LinkEnd → Type 0
     P f = CanEnd (turned f ts).role ending
-
-    go : (o : Bool) → is_open e.role ≡ o → CanEnd (turned (after_input e HasTick) ts).role ending
-    go true o =
-        let t = tick_open e o in
-        let b : Bool = is_some (tick_answer e.shdlc).ended in
-        subst P (sym t.0) (can_end (moved e b (ticked e.shdlc)) ts e.role ending (moved_role e b (ticked e.shdlc)) can)
-    go false o =
-        let t = tick_closed e o in
-        subst P (sym t.0) (can_end (activated e ActTick) ts (role_after e.role ActTick) ending (activated_role e ActTick) (can_after e.role ActTick ending can))
 
 -- behind no input, a tick, a reset and a frame an end can finish its step
 pub idle_finishes : (l : Link) (ts : List Turn) (ending : Ending) → IsNode l ts ending → Near l → CanFinish l.controller.side ts ending
@@ -277,13 +261,8 @@ tick_told t who l node a n b =
     let c : Bool = is_some (ended_by l.controller.side HasTick) in
     input_told HasTick (plain_input (plain_ended l c (tick_so l.controller.side n.sound) refl) (ended_past l c)) (tick_finishes l node a n) n.sound b
 
-pub if_up_is : (s : EndState) → is_up s.phase ≡ is_some (if_up s ByAct)
-if_up_is s = go s.phase refl
-  where
-    go : (p : LinkState) → s.phase ≡ p → is_up s.phase ≡ is_some (if_up s ByAct)
-    go IsUpNow p = rw p refl
-    go IsWaitingNow p = rw p refl
-    go IsDown p = rw p refl
+pub if_up_is : (s : EndState) (cause : Cause) → is_up s.phase ≡ is_some (if_up s cause)
+if_up_is s cause = by_phase s.phase (λ p. rw p refl) (λ p. rw p refl) (λ p. rw p refl)
 
 restart_told : {t : List Entry} {who : End} {l : Link} {i : LinkInput} {event : ActEvent} (ts : List Turn) (ending : Ending) → IsNode l ts ending → Near l
     → IsRestart l.controller.side i event → Tolds t who l
@@ -294,7 +273,7 @@ restart_told {t} {who} {l} {i} ts ending a n r b =
     let c : Bool = is_up e.shdlc.phase in
     let k : Link = silent l f in
     let past : k.controller.past ≡ past_after (is_some (ended_by e i)) l.controller =
-    ended_past l c ∙ ap (λ x. past_after x l.controller) (if_up_is e.shdlc ∙ ap (λ o. is_some o) (sym r.ended)) in
+    ended_past l c ∙ ap (λ x. past_after x l.controller) (if_up_is e.shdlc ByAct ∙ ap (λ o. is_some o) (sym r.ended)) in
     let first : Tolds (t ++ Restarted who ∷ []) who l =
     record {
       here = told_silent t (Restarted who ∷ []) who l.controller (λ x m. refl) b.here;
@@ -373,7 +352,18 @@ step_told t who l (AsksReset window) ts ending a n fr b =
 step_told t who l (Starts v) ts ending a n fr b = restart_told ts ending a n (start_restarts l.controller.side v n.sound) b
 step_told t who l Stops ts ending a n fr b = restart_told ts ending a n (stop_restarts l.controller.side n.sound) b
 step_told t who l NoInput ts ending a n fr b = rest_told t who l l.controller.side ts ending (idle_finishes l ts ending a n) b.here b.there
-step_told t who l NextFrame ts ending a n fr b = go l.to_controller refl
+step_told t who l NextFrame ts ending a n fr b =
+    by_list {P = Out t (step_entries who l NextFrame ts ending) who (steps_at_controller l NextFrame ts ending)} l.to_controller (λ q.
+    let z = none q in
+    as_is (step_entries who l NextFrame ts ending) [] (steps_at_controller l NextFrame ts ending) l z.0 z.1
+    (record {
+      tolds = record { here = told_silent t [] who l.controller (λ y m. refl) b.here; there = told_silent t [] (far who) l.host (λ y m. refl) b.there };
+      few = few_more t who [] (few_told t who l.controller b.here) tt;
+    }))
+    (λ x xs q.
+    as_is (step_entries who l NextFrame ts ending) (taken_entries who l x xs ts ending) (steps_at_controller l NextFrame ts ending)
+    (has_taken l x xs ts ending)
+    (some x xs q) (here x xs q) (taken_told l x xs ts ending a n (fr x xs q) b))
   where
     some : (x : OnWire) (xs : List OnWire) → l.to_controller ≡ x ∷ xs → step_entries who l NextFrame ts ending ≡ taken_entries who l x xs ts ending
     some x xs q = rw q refl
@@ -388,19 +378,6 @@ step_told t who l NextFrame ts ending a n fr b = go l.to_controller refl
     as_is u v k m p q h =
         let A : List Entry → Type 0 = λ z. Out t z who k in let B : Link → Type 0 = λ z. Out t v who z in subst A (sym p) (subst B (sym q) h)
 
-    go : (w : List OnWire) → l.to_controller ≡ w → Out t (step_entries who l NextFrame ts ending) who (steps_at_controller l NextFrame ts ending)
-    go [] q =
-        let z = none q in
-        as_is (step_entries who l NextFrame ts ending) [] (steps_at_controller l NextFrame ts ending) l z.0 z.1
-        (record {
-          tolds = record { here = told_silent t [] who l.controller (λ y m. refl) b.here; there = told_silent t [] (far who) l.host (λ y m. refl) b.there };
-          few = few_more t who [] (few_told t who l.controller b.here) tt;
-        })
-    go (x ∷ xs) q =
-        as_is (step_entries who l NextFrame ts ending) (taken_entries who l x xs ts ending) (steps_at_controller l NextFrame ts ending)
-        (has_taken l x xs ts ending)
-        (some x xs q) (here x xs q) (taken_told l x xs ts ending a n (fr x xs q) b)
-
 -- ## Ends stay sound
 
 sound_finished : (l : Link) (e : LinkEnd) (ending : Ending) → CanEnd e.role ending → Sound e → Sound (finished l e ending).controller.side
@@ -409,12 +386,7 @@ sound_finished l e CutOff can s = new (sent_all e).role can
   where
     new : (r : Role) → CanEnd r CutOff → Sound (new_link_end (renewed r))
     new Bare can = absurd can
-    new (Clf z) can =
-        record {
-          is = record { out = refl; none = λ _. refl; forgot = λ _. refl; acked = omega arith; reached = omega arith; room = omega arith };
-          closed = λ _. record { phase = refl; due = refl };
-        }
-    new (Uicc z) can =
+    new _ can =
         record {
           is = record { out = refl; none = λ _. refl; forgot = λ _. refl; acked = omega arith; reached = omega arith; room = omega arith };
           closed = λ _. record { phase = refl; due = refl };
@@ -452,16 +424,14 @@ sound_step l Stops ts ending a s =
 sound_step l NoInput ts ending a s =
     sound_finished l (turned l.controller.side ts) ending (can_end l.controller.side ts l.controller.side.role ending refl a.1)
     (sound_turns ts l.controller.side a.0 s)
-sound_step l NextFrame ts ending a s = go l.to_controller refl
+sound_step l NextFrame ts ending a s =
+    by_list {P = Sound (steps_at_controller l NextFrame ts ending).controller.side} l.to_controller
+    (λ q. let is : steps_at_controller l NextFrame ts ending ≡ l = rw q refl in subst P (sym is) s) (λ x xs q.
+    let is : steps_at_controller l NextFrame ts ending ≡ has_taken l x xs ts ending = rw q refl in
+    let f : LinkEnd = after_input l.controller.side (Take x.frame) in
+    subst P (sym is) (sound_finished (left_after l x xs) (turned f ts) ending
+    (can_end f ts f.role ending refl (took_can l.controller.side x.frame ending a.1))
+    (sound_turns ts f a.0 (sound_input l.controller.side (Take x.frame) tt s))))
   where
     P : Link → Type 0
     P k = Sound k.controller.side
-
-    go : (w : List OnWire) → l.to_controller ≡ w → Sound (steps_at_controller l NextFrame ts ending).controller.side
-    go [] q = let is : steps_at_controller l NextFrame ts ending ≡ l = rw q refl in subst P (sym is) s
-    go (x ∷ xs) q =
-        let is : steps_at_controller l NextFrame ts ending ≡ has_taken l x xs ts ending = rw q refl in
-        let f : LinkEnd = after_input l.controller.side (Take x.frame) in
-        subst P (sym is) (sound_finished (left_after l x xs) (turned f ts) ending
-        (can_end f ts f.role ending refl (took_can l.controller.side x.frame ending a.1))
-        (sound_turns ts f a.0 (sound_input l.controller.side (Take x.frame) tt s)))

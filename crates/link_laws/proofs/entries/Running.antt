@@ -1,16 +1,16 @@
 -- Every event is noted so that the entries say what is kept of the sessions of both ends.
-use Rattle.link_laws.proofs.Words.{Act, Activate, AllAllowed, AreOwn, AreSendableTurns, AsksReset, AtController, AtHost, Bare, Bool, CanStart, Clf, Clt, Comes}
-use Rattle.link_laws.proofs.Words.{Control, Controller, CoreDeliver, CoreLink, CoreTurn, End, EndEvent, Entry, GoesOut, HasTick, Host, I, InOrderIn, IsAllowed}
-use Rattle.link_laws.proofs.Words.{IsBare, IsClf, IsEvent, IsFrontOf, IsLine, IsNode, IsOwn, IsRead, IsStart, IsUicc, Link, LinkEnd, LinkEvent, List, Lose}
-use Rattle.link_laws.proofs.Words.{NextFrame, NoInput, Node, NumberedEnd, OnWire, Option, Role, Rset, S, Starts, Step as EndStep, Stops, Take, Ticks}
-use Rattle.link_laws.proofs.Words.{TicksWithout, Turn, Ua, Uicc, Up as IsUpNow, [], after_input, after_link_events, aged, aged_entries, all_at_controller, ap}
-use Rattle.link_laws.proofs.Words.{append-nil, append_assoc, arith, becomes, began_by, cond, core_aged, core_all_here, core_end, core_event, core_happens_here}
-use Rattle.link_laws.proofs.Words.{core_here, core_of, core_tick, core_tick_rest, core_ticks_if_waiting, core_ticks_or_cut, ended_by, ended_talk, entries}
-use Rattle.link_laws.proofs.Words.{entries_of_events, event_entries, exchanged, false, far, first_entries, first_lost, frames_out, happens}
-use Rattle.link_laws.proofs.Words.{happens_at_controller, here_entries, is_act, is_faulty, is_open, is_rset, is_some, is_waiting, left_after, max, most_frames}
-use Rattle.link_laws.proofs.Words.{nat_lt, ne_eqb, new_clf, new_link_end, new_numbered_end, new_uicc, no_talk, number_of, refl, sans, steps_at_controller}
-use Rattle.link_laws.proofs.Words.{subst, sym, taken, talk_of, tick_entries, ticks_at_controller, took, took_with, trace, true, true≢false, turned, with_ended}
-use Rattle.link_laws.proofs.Words.{ℕ, ◌++◌, ◌<◌, ◌==◌, ◌∙◌, ◌∷◌, ◌≡◌}
+use Rattle.link_laws.proofs.Words.{Activate, AllAllowed, AreOwn, AreSendableTurns, AsksReset, AtController, AtHost, Bare, Bool, CanStart, Clf, Comes, Control}
+use Rattle.link_laws.proofs.Words.{Controller, CoreDeliver, CoreLink, CoreTurn, End, EndEvent, Entry, GoesOut, HasTick, Host, InOrderIn, IsAllowed, IsBare}
+use Rattle.link_laws.proofs.Words.{IsClf, IsEvent, IsFrontOf, IsLine, IsNode, IsOwn, IsRead, IsStart, IsUicc, Link, LinkEnd, LinkEvent, List, Lose, NextFrame}
+use Rattle.link_laws.proofs.Words.{NoInput, Node, NumberedEnd, OnWire, Option, Role, Rset, S, Starts, Step as EndStep, Stops, Take, Ticks, TicksWithout, Turn}
+use Rattle.link_laws.proofs.Words.{Uicc, Up as IsUpNow, [], after_input, after_link_events, aged, aged_entries, all_at_controller, ap, append-nil, append_assoc}
+use Rattle.link_laws.proofs.Words.{arith, becomes, began_by, cond, core_aged, core_all_here, core_end, core_event, core_happens_here, core_here, core_of}
+use Rattle.link_laws.proofs.Words.{core_tick, core_tick_rest, core_ticks_if_waiting, core_ticks_or_cut, ended_by, ended_talk, entries, entries_of_events}
+use Rattle.link_laws.proofs.Words.{event_entries, exchanged, false, far, first_entries, first_lost, frames_out, happens, happens_at_controller, here_entries}
+use Rattle.link_laws.proofs.Words.{is_act, is_faulty, is_open, is_rset, is_some, is_waiting, left_after, max, most_frames, nat_lt, ne_eqb, new_clf}
+use Rattle.link_laws.proofs.Words.{new_link_end, new_numbered_end, new_uicc, no_talk, number_of, refl, sans, steps_at_controller, subst, sym, taken, talk_of}
+use Rattle.link_laws.proofs.Words.{tick_entries, ticks_at_controller, took, took_with, trace, true, true≢false, turned, with_ended, ℕ, ◌++◌, ◌<◌, ◌==◌, ◌∙◌}
+use Rattle.link_laws.proofs.Words.{◌∷◌, ◌≡◌}
 use Rattle.link_laws.proofs.sessions.Hand.{IsRset, rset_told}
 use Rattle.link_laws.proofs.sessions.Safe.{Safe}
 use Rattle.link_laws.proofs.sessions.Sending.{SafeLink}
@@ -34,6 +34,7 @@ use Rattle.link_laws.proofs.entries.Stepping.{Tolds, Out, one_step, one_input, s
 use Rattle.link_laws.proofs.entries.Fronts.{OfOne, NoAcked, few_told, few_more}
 use Rattle.link_laws.proofs.entries.Moments.{Ok, AllOk, all_then, between, ok_silent, ok_link}
 use Rattle.link_laws.proofs.entries.Noting.{Near, Frames, FramesFor, step_told, tick_told, sound_tick, sound_step}
+use Rattle.link_laws.proofs.Cases.{by_test}
 
 -- ## The first frame on a wire
 
@@ -92,11 +93,7 @@ frame_facts l ts a b x xs w = record { quiet = none ts a; same = same; fresh = f
 
         by : (o : Bool) → is_open e.role ≡ o → is_some (ended_by e (Take (Rset v caps))) ≡ true
         by false o = absurd (let z = sym (b.tells.now.closed o) ∙ up in cc)
-        by true o = faulty (is_faulty (taken e.shdlc (Rset v caps)).session) refl
-          where
-            faulty : (c : Bool) → is_faulty (taken e.shdlc (Rset v caps)).session ≡ c → is_some (ended_by e (Take (Rset v caps))) ≡ true
-            faulty true g = rw (o, g) refl
-            faulty false g = let n = not_zero in rw (o, g, up, n) refl
+        by true o = by_test (is_faulty (taken e.shdlc (Rset v caps)).session) (λ g. rw (o, g) refl) (λ g. let n = not_zero in rw (o, g, up, n) refl)
 
     same : e.shdlc.phase ≡ IsUpNow → is_some (ended_by e (Take x.frame)) ≡ false → took_with l.controller.took x ≡ l.controller.took
     same up q = go x.frame refl
@@ -106,11 +103,7 @@ frame_facts l ts a b x xs w = record { quiet = none ts a; same = same; fresh = f
 
         go : (c : Control) → x.frame ≡ c → took_with l.controller.took x ≡ l.controller.took
         go (Rset v caps) z = absurd (true≢false (sym (rset_ends v caps z up) ∙ q))
-        go (I ns nr info) z = other (ap is_rset z)
-        go (S kind nr) z = other (ap is_rset z)
-        go Ua z = other (ap is_rset z)
-        go (Act act again) z = other (ap is_rset z)
-        go Clt z = other (ap is_rset z)
+        go _ z = other (ap is_rset z)
 
     c : Bool
     c = is_some (ended_by e (Take x.frame))
@@ -162,10 +155,7 @@ here_told t who l (EndStep comes ts ending) a b h =
   where
     frames : (comes : Comes) → FramesFor comes l ts
     frames NextFrame = frame_facts l ts a.1.0 b
-    frames (AsksReset window) = tt
-    frames (Starts v) = tt
-    frames Stops = tt
-    frames NoInput = tt
+    frames _ = tt
 here_told t who l (Lose why) a b h =
     let u : List Entry = first_lost who why l.to_controller in
     record {
@@ -446,11 +436,8 @@ quiet_all t u ok q p f = let P : List Entry → Type 0 = λ z. Quiet z in ok_sil
 
 quiet_aged : (who : End) (w : List OnWire) → Quiet (aged_entries who w)
 quiet_aged who [] = tt
-quiet_aged who (y ∷ ys) = by (nat_lt y.age 4) refl (quiet_aged who ys)
-  where
-    by : (b : Bool) → nat_lt y.age 4 ≡ b → Quiet (aged_entries who ys) → Quiet (aged_entries who (y ∷ ys))
-    by true q later = rw q later
-    by false q later = rw q ((λ x n. refl), later)
+quiet_aged who (y ∷ ys) =
+    by_test {P = Quiet (aged_entries who (y ∷ ys))} (nat_lt y.age 4) (λ q. rw q (quiet_aged who ys)) (λ q. rw q ((λ x n. refl), (quiet_aged who ys)))
 
 pub note_event : (t : List Entry) (l : Link) (e : LinkEvent) → IsEvent l e → Good l → Reached (core_of l) → Noted t l
     → Notes t (event_entries l e) (happens l e)
@@ -584,9 +571,8 @@ note_event t l (Activate power c id h) a g r n =
     record { noted = subst P (append_assoc t u v) second.noted; all = all_then t u v first.all second.all }
   where
     clf_starts : (r f : Role) → IsClf r → CanStart r f
-    clf_starts Bare f i = absurd i
     clf_starts (Clf s) f i = tt
-    clf_starts (Uicc s) f i = absurd i
+    clf_starts _ f i = absurd i
 
 -- ## Runs
 
@@ -631,11 +617,7 @@ start_tolds : (l : Link) → IsStart l → Tolds (first_entries l.controller.sid
 start_tolds l IsBare = record { here = told; there = told }
   where
     told : (n : ℕ) → blank ≡ book_of (talk_of (new_numbered_end (new_link_end Bare)) n)
-    told n = by (n == 0) refl
-      where
-        by : (b : Bool) → (n == 0) ≡ b → blank ≡ book_of (talk_of (new_numbered_end (new_link_end Bare)) n)
-        by true q = rw q refl
-        by false q = rw q refl
+    told n = by_test (n == 0) (λ q. rw q refl) (λ q. rw q refl)
 start_tolds l IsLine = record { here = λ n. refl; there = λ n. refl }
 
 start_sounds : (l : Link) → IsStart l → Sounds l
@@ -644,8 +626,7 @@ start_sounds l IsLine = record { controller = new_sound (Clf new_clf); host = ne
 
 start_quiet : (r : Role) → Quiet (first_entries r)
 start_quiet Bare = ((λ x n. refl), ((λ x n. refl), tt))
-start_quiet (Clf s) = tt
-start_quiet (Uicc s) = tt
+start_quiet _ = tt
 
 pub start_noted : (l : Link) → IsStart l → Noted (first_entries l.controller.side.role) l
 start_noted l s =

@@ -10,6 +10,7 @@ use Rattle.link_laws.proofs.Words.{pushed_out, put, put_all, put_entries, puts_e
 use Rattle.link_laws.proofs.Words.{step_entries, steps_at_controller, sym, taken_entries, tick_entries, ticks_at_controller, told, told_of, took_with, true}
 use Rattle.link_laws.proofs.Words.{turn, turn_entries, turn_entry, turned, whole_acked, wire_with, with_controller, with_ended, ℕ, ◌++◌, ◌∙◌, ◌∷◌, ◌≡◌}
 use Rattle.link_laws.specs.entries.Entries.Entry.{Up, Down}
+use Rattle.link_laws.proofs.Cases.{by_list}
 
 -- what a link keeps, seen from the end with this name, which is its controller's
 abbrev pub seen_as : End → Link → Seen
@@ -230,7 +231,17 @@ step_seen who l Stops ts ending = restart who
     restart Controller = rest Controller
     restart Host = rest Host
 step_seen who l NoInput ts ending = rest_seen who l l.controller.side ts ending
-step_seen who l NextFrame ts ending = go l.to_controller refl
+step_seen who l NextFrame ts ending =
+    by_list {P = see_all (seen_as who l) (step_entries who l NextFrame ts ending) ≡ seen_as who (steps_at_controller l NextFrame ts ending)} l.to_controller
+    (λ q. rw q refl) (λ x xs q.
+    let i : LinkInput = Take x.frame in
+    let h : NumberedEnd = record l.controller { took = took_with l.controller.took x } in
+    let k : Link = left_after l x xs in
+    let rest : List Entry = told_of who h i ++ rest_entries who k (after_input l.controller.side i) ts ending in
+    ap (see_all (seen_as who l)) (some x xs q)
+    ∙ (ap (λ s. see_all s rest) (takes who x xs q)
+    ∙ (told_seen who (took_link x xs) k h i (after_input l.controller.side i) ts ending (left_seen who x xs (is_some (ended_by l.controller.side i)))
+    ∙ ap (seen_as who) (sym (here x xs q)))))
   where
     took_link : OnWire → List OnWire → Link
     took_link x xs = record l { to_controller = xs; controller = record l.controller { took = took_with l.controller.took x } }
@@ -252,19 +263,6 @@ step_seen who l NextFrame ts ending = go l.to_controller refl
 
     here : (x : OnWire) (xs : List OnWire) → l.to_controller ≡ x ∷ xs → steps_at_controller l NextFrame ts ending ≡ has_taken l x xs ts ending
     here x xs q = rw q refl
-
-    go : (w : List OnWire) → l.to_controller ≡ w → see_all (seen_as who l) (step_entries who l NextFrame ts ending)
-        ≡ seen_as who (steps_at_controller l NextFrame ts ending)
-    go [] q = rw q refl
-    go (x ∷ xs) q =
-        let i : LinkInput = Take x.frame in
-        let h : NumberedEnd = record l.controller { took = took_with l.controller.took x } in
-        let k : Link = left_after l x xs in
-        let rest : List Entry = told_of who h i ++ rest_entries who k (after_input l.controller.side i) ts ending in
-        ap (see_all (seen_as who l)) (some x xs q)
-        ∙ (ap (λ s. see_all s rest) (takes who x xs q)
-        ∙ (told_seen who (took_link x xs) k h i (after_input l.controller.side i) ts ending (left_seen who x xs (is_some (ended_by l.controller.side i)))
-        ∙ ap (seen_as who) (sym (here x xs q))))
 
 pub here_seen : (who : End) (l : Link) (e : EndEvent) → see_all (seen_as who l) (here_entries who l e) ≡ seen_as who (happens_at_controller l e)
 here_seen who l (Step comes ts ending) = step_seen who l comes ts ending

@@ -1,15 +1,15 @@
 -- From a reset on that finds the other end active and not waiting its answer is not kept back, where nothing is noted that
 -- withholds it.
 use Rattle.link_laws.proofs.Words.{Act, ActTake, Activation, AreSendableTurns, Asked, AsksReset, Bool, Clt, Control, CoreEndEvent, CoreLink, CoreReset}
-use Rattle.link_laws.proofs.Words.{CoreTurn, Cut, CutOff, Down as IsDown, Due, End, EndEvent, EndState, Entry, Fragment, GoesOut, I, IsAllowed, IsOwn, Link}
-use Rattle.link_laws.proofs.Words.{LinkEnd, LinkState, List, Lose, Loss, NextFrame, NoInput, None, Offer, OnWire, Option, Refused, Reset, Role, Rr_due, Rset}
-use Rattle.link_laws.proofs.Words.{Rset_due, S, SetReady, Some, Starts, Step, Stops, Take, Turn, Ua, Up as IsUpNow, Waiting as IsWaitingNow, [], act_answer}
-use Rattle.link_laws.proofs.Words.{after_input, among, ap, core_happens_here, core_here, core_of, core_reset, core_step, core_take, core_turned, core_turns}
-use Rattle.link_laws.proofs.Words.{due_left, ended_by, false, frames_of, frames_out, happens_at_controller, has_taken, heard, here_entries, if_up, inl}
-use Rattle.link_laws.proofs.Words.{input_entries, inr, is_faulty, is_open, is_rset, is_some, is_waiting, left_after, list_any, most_frames, not, put, put_down}
-use Rattle.link_laws.proofs.Words.{put_entries, puts_entries, refl, reset_by, reset_refusal, reset_with, rest_entries, role_after, shdlc_turn as core_turn}
-use Rattle.link_laws.proofs.Words.{step_entries, stopped, subst, suc, sure_all, sure_here, sure_turns, sym, take_answer, taken, taken_entries, told_of, took}
-use Rattle.link_laws.proofs.Words.{true, true≢false, turn_entries, turned, window_of, with_ended, ℕ, ◌++◌, ◌∙◌, ◌∷◌, ◌≡◌, ◌⊎◌}
+use Rattle.link_laws.proofs.Words.{CoreTurn, Cut, CutOff, Down as IsDown, Due, End, EndEvent, EndState, Entry, Fragment, GoesOut, IsAllowed, IsOwn, Link}
+use Rattle.link_laws.proofs.Words.{LinkEnd, LinkState, List, Lose, Loss, NextFrame, NoInput, None, Offer, OnWire, Option, Refused, Reset, Role, Rr_due}
+use Rattle.link_laws.proofs.Words.{Rset_due, SetReady, Some, Starts, Step, Stops, Take, Turn, Up as IsUpNow, [], act_answer, after_input, among, ap}
+use Rattle.link_laws.proofs.Words.{core_happens_here, core_here, core_of, core_reset, core_step, core_take, core_turned, core_turns, due_left, ended_by, false}
+use Rattle.link_laws.proofs.Words.{frames_of, frames_out, happens_at_controller, has_taken, heard, here_entries, if_up, inl, input_entries, inr, is_faulty}
+use Rattle.link_laws.proofs.Words.{is_open, is_rset, is_some, is_waiting, left_after, list_any, most_frames, not, put, put_down, put_entries, puts_entries}
+use Rattle.link_laws.proofs.Words.{refl, reset_by, reset_refusal, reset_with, rest_entries, role_after, shdlc_turn as core_turn, step_entries, stopped, subst}
+use Rattle.link_laws.proofs.Words.{suc, sure_all, sure_here, sure_turns, sym, take_answer, taken, taken_entries, told_of, took, true, true≢false, turn_entries}
+use Rattle.link_laws.proofs.Words.{turned, window_of, with_ended, ℕ, ◌++◌, ◌∙◌, ◌∷◌, ◌≡◌, ◌⊎◌}
 use Rattle.link_laws.proofs.places.Joined.{ready_cases, changed}
 use Rattle.link_laws.specs.places.Wire.{is_act}
 use Rattle.link_laws.proofs.messages.ActsInOrder.{ActsInOrder, ended_means}
@@ -22,6 +22,7 @@ use Rattle.link_laws.proofs.messages.Runs.{rests_of}
 use Rattle.link_laws.proofs.entries.Noting.{reset_role}
 use Rattle.link_laws.proofs.entries.Running.{Before, comes_first}
 use Rattle.link_laws.proofs.entries.Sparing.{Spared, Stands, or_none, spared_parts, stands_parts, rest_sure, take_sure, idle_sure}
+use Rattle.link_laws.proofs.Cases.{by_list, by_phase, by_test}
 
 -- ## Ends that are active
 
@@ -39,19 +40,11 @@ act_open r f x w v act again q wires o = go (is_open (role_after r (ActTake act 
         by (inr z) = absurd (true≢false (sym o ∙ ended_means r f x w v act again q wires z))
 
 pub down_role : (e : LinkEnd) → (put_down true e).role ≡ e.role
-down_role e = go e.shdlc.phase refl
-  where
-    go : (p : LinkState) → e.shdlc.phase ≡ p → (put_down true e).role ≡ e.role
-    go IsUpNow p = rw p (moved_role e true (stopped e.shdlc))
-    go IsWaitingNow p = rw p (moved_role e true (stopped e.shdlc))
-    go IsDown p = rw p refl
+down_role e = by_phase e.shdlc.phase (λ p. rw p (moved_role e true (stopped e.shdlc))) (λ p. rw p (moved_role e true (stopped e.shdlc))) (λ p. rw p refl)
 
 pub heard_role : (e : LinkEnd) (c : Control) → (heard e c).role ≡ e.role
-heard_role e c = go (is_faulty (taken e.shdlc c).session) refl
-  where
-    go : (b : Bool) → is_faulty (taken e.shdlc c).session ≡ b → (heard e c).role ≡ e.role
-    go true p = rw p (down_role e)
-    go false p = rw p (moved_role e (is_some (take_answer e.shdlc c).ended) (taken e.shdlc c))
+heard_role e c =
+    by_test (is_faulty (taken e.shdlc c).session) (λ p. rw p (down_role e)) (λ p. rw p (moved_role e (is_some (take_answer e.shdlc c).ended) (taken e.shdlc c)))
 
 took_open : (e : LinkEnd) (f : Role) (x : OnWire) (w v : List OnWire) → ActsInOrder e.role f (x ∷ w) v → is_open e.role ≡ true
     → is_open (took e x.frame).role ≡ true
@@ -63,28 +56,19 @@ took_open e f x w v wires o = go x.frame refl
     go : (c : Control) → x.frame ≡ c → is_open (took e c).role ≡ true
     go (Act act again) q = ap is_open (activated_role e (ActTake act again)) ∙ act_open e.role f x w v act again q wires o
     go Clt q = o
-    go (I ns nr info) q = shdlc (I ns nr info) (rw o refl)
-    go (S kind nr) q = shdlc (S kind nr) (rw o refl)
-    go (Rset window caps) q = shdlc (Rset window caps) (rw o refl)
-    go Ua q = shdlc Ua (rw o refl)
+    go it q = shdlc it (rw o refl)
 
 -- ## Resets
 
 no_due : (p : LinkState) (due : List Due) → due ≡ [] → due_left p due ≡ []
 no_due IsUpNow due q = refl
-no_due IsWaitingNow due q = q
-no_due IsDown due q = q
+no_due _ due q = q
 
 reset_due : (e : EndState) (w : ℕ) → is_waiting e ≡ false → e.due ≡ [] → (reset_with e w).due ≡ Rset_due ∷ []
 reset_due e w n q = let z = no_due e.phase e.due q in rw n (ap (λ d. d ++ Rset_due ∷ []) z)
 
 offer_due : (s : EndState) (fragments : List Fragment) → (core_turn s (Offer fragments)).due ≡ s.due
-offer_due s fragments = go s.phase refl
-  where
-    go : (p : LinkState) → s.phase ≡ p → (core_turn s (Offer fragments)).due ≡ s.due
-    go IsUpNow q = rw q refl
-    go IsWaitingNow q = rw q refl
-    go IsDown q = rw q refl
+offer_due s fragments = by_phase s.phase (λ q. rw q refl) (λ q. rw q refl) (λ q. rw q refl)
 
 -- turns leave the RSET in front
 first_due : (us : List CoreTurn) (s : EndState) (ds : List Due) → s.due ≡ Rset_due ∷ ds → (es : List Due) × ((core_turned s us).due ≡ Rset_due ∷ es)
@@ -204,20 +188,41 @@ own_spares s who l (Step (AsksReset window) ts GoesOut) o a h r k st = (
 
 lost_spares : (s : Bool) (who : End) (l : Link) (why : Loss) → s ≡ true → Spared (here_entries who l (Lose why))
     → sure_turns s (core_of l) (core_here l (Lose why)) ≡ true
-lost_spares s who l why p q = go l.to_controller refl
-  where
-    go : (w : List OnWire) → l.to_controller ≡ w → sure_turns s (core_of l) (core_here l (Lose why)) ≡ true
-    go [] r = rw (r, p) refl
-    go (x ∷ xs) r =
-        let z : Spared (here_entries who l (Lose why)) = q in
-        let kept : not (is_act x.frame) ≡ false = (or_none (not (is_act x.frame)) false (rw r at z)).0 in
-        rw (r, p) (ap not kept)
+lost_spares s who l why p q =
+    by_list l.to_controller (λ r. rw (r, p) refl) (λ x xs r.
+    let z : Spared (here_entries who l (Lose why)) = q in
+    let kept : not (is_act x.frame) ≡ false = (or_none (not (is_act x.frame)) false (rw r at z)).0 in
+    rw (r, p) (ap not kept))
 
 -- a frame is taken
 frame_spares : (s : Bool) (who : End) (l : Link) (ts : List Turn) → AreSendableTurns ts → Before l → is_open l.controller.side.role ≡ true
     → Spares (step_entries who l NextFrame ts GoesOut) s (sure_turns s (core_of l) (core_step l NextFrame ts GoesOut))
     (happens_at_controller l (Step NextFrame ts GoesOut))
-frame_spares s who l ts a b k = go l.to_controller refl
+frame_spares s who l ts a b k =
+    by_list {P = Spares (step_entries who l NextFrame ts GoesOut) s (sure_turns s c (core_step l NextFrame ts GoesOut)) (happens_at_controller l (Step NextFrame ts GoesOut))} l.to_controller
+    (λ r.
+    let none : core_step l NextFrame ts GoesOut ≡ [] = rw r refl in
+    let same : happens_at_controller l (Step NextFrame ts GoesOut) ≡ l = rw r refl in
+    (λ p q. ap (sure_turns s c) none ∙ p, ap (λ (m : Link). is_open m.controller.side.role) same ∙ k))
+    (λ x xs r.
+    let e : LinkEnd = l.controller.side in
+    let list : core_step l NextFrame ts GoesOut ≡ core_take e x.frame ts ++ [] = rw r refl in
+    let some : step_entries who l NextFrame ts GoesOut ≡ taken_entries who l x xs ts GoesOut = rw r refl in
+    let next : happens_at_controller l (Step NextFrame ts GoesOut) ≡ has_taken l x xs ts GoesOut = rw r refl in
+    let m : Link = left_after l x xs in
+    let h = record l.controller { took = m.controller.took } in
+    let u : List Entry = told_of who h (Take x.frame) in
+    let v : List Entry = rest_entries who m (took e x.frame) ts GoesOut in
+    let P : List Entry → Type 0 = λ z. Spared z in
+    let C : List OnWire → Type 0 = λ z. ActsInOrder e.role l.host.side.role z l.to_host in
+    let wires : ActsInOrder e.role l.host.side.role (x ∷ xs) l.to_host = subst C r b.in_order in
+    let is = take_sure s l ts x xs a (comes_first l x xs r b) k in (
+      λ p q. ap (sure_turns s c) list
+          ∙ (no_more (core_take e x.frame ts) s c
+          ∙ rest_sure s (sure_turns s c (core_take e x.frame ts)) who m (took e x.frame) ts is p (spared_parts u v (subst P some q)).1),
+      ap (λ (z : Link). is_open z.controller.side.role) next
+          ∙ (ap is_open (turned_role (took e x.frame) ts) ∙ took_open e l.host.side.role x xs l.to_host wires k),
+    ))
   where
     c : CoreLink
     c = core_of l
@@ -226,52 +231,21 @@ frame_spares s who l ts a b k = go l.to_controller refl
     no_more [] n d = refl
     no_more (e ∷ es) n d = no_more es (sure_here n d e) (core_happens_here d e)
 
-    go : (w : List OnWire) → l.to_controller ≡ w
-        → Spares (step_entries who l NextFrame ts GoesOut) s (sure_turns s c (core_step l NextFrame ts GoesOut))
-        (happens_at_controller l (Step NextFrame ts GoesOut))
-    go [] r =
-        let none : core_step l NextFrame ts GoesOut ≡ [] = rw r refl in
-        let same : happens_at_controller l (Step NextFrame ts GoesOut) ≡ l = rw r refl in
-        (λ p q. ap (sure_turns s c) none ∙ p, ap (λ (m : Link). is_open m.controller.side.role) same ∙ k)
-    go (x ∷ xs) r =
-        let e : LinkEnd = l.controller.side in
-        let list : core_step l NextFrame ts GoesOut ≡ core_take e x.frame ts ++ [] = rw r refl in
-        let some : step_entries who l NextFrame ts GoesOut ≡ taken_entries who l x xs ts GoesOut = rw r refl in
-        let next : happens_at_controller l (Step NextFrame ts GoesOut) ≡ has_taken l x xs ts GoesOut = rw r refl in
-        let m : Link = left_after l x xs in
-        let h = record l.controller { took = m.controller.took } in
-        let u : List Entry = told_of who h (Take x.frame) in
-        let v : List Entry = rest_entries who m (took e x.frame) ts GoesOut in
-        let P : List Entry → Type 0 = λ z. Spared z in
-        let C : List OnWire → Type 0 = λ z. ActsInOrder e.role l.host.side.role z l.to_host in
-        let wires : ActsInOrder e.role l.host.side.role (x ∷ xs) l.to_host = subst C r b.in_order in
-        let is = take_sure s l ts x xs a (comes_first l x xs r b) k in (
-          λ p q. ap (sure_turns s c) list
-              ∙ (no_more (core_take e x.frame ts) s c
-              ∙ rest_sure s (sure_turns s c (core_take e x.frame ts)) who m (took e x.frame) ts is p (spared_parts u v (subst P some q)).1),
-          ap (λ (z : Link). is_open z.controller.side.role) next
-              ∙ (ap is_open (turned_role (took e x.frame) ts) ∙ took_open e l.host.side.role x xs l.to_host wires k),
-        )
-
 cut_spares : (s : Bool) (who : End) (l : Link) (ts : List Turn) → is_open l.controller.side.role ≡ true
     → Stands (step_entries who l NextFrame ts CutOff)
     → Spares (step_entries who l NextFrame ts CutOff) s (sure_turns s (core_of l) (core_step l NextFrame ts CutOff))
     (happens_at_controller l (Step NextFrame ts CutOff))
-cut_spares s who l ts k q = go l.to_controller refl
-  where
-    go : (w : List OnWire) → l.to_controller ≡ w
-        → Spares (step_entries who l NextFrame ts CutOff) s (sure_turns s (core_of l) (core_step l NextFrame ts CutOff))
-        (happens_at_controller l (Step NextFrame ts CutOff))
-    go [] r =
-        let none : core_step l NextFrame ts CutOff ≡ [] = rw r refl in
-        let same : happens_at_controller l (Step NextFrame ts CutOff) ≡ l = rw r refl in
-        (λ p q. ap (sure_turns s (core_of l)) none ∙ p, ap (λ (m : Link). is_open m.controller.side.role) same ∙ k)
-    go (x ∷ xs) r =
-        let some : step_entries who l NextFrame ts CutOff ≡ taken_entries who l x xs ts CutOff = rw r refl in
-        let P : List Entry → Type 0 = λ z. Stands z in
-        let m : Link = left_after l x xs in
-        let u : List Entry = told_of who (record l.controller { took = m.controller.took }) (Take x.frame) in
-        absurd (rest_cut u who m (took l.controller.side x.frame) ts (subst P some q))
+cut_spares s who l ts k q =
+    by_list l.to_controller (λ r.
+    let none : core_step l NextFrame ts CutOff ≡ [] = rw r refl in
+    let same : happens_at_controller l (Step NextFrame ts CutOff) ≡ l = rw r refl in
+    (λ p q. ap (sure_turns s (core_of l)) none ∙ p, ap (λ (m : Link). is_open m.controller.side.role) same ∙ k))
+    (λ x xs r.
+    let some : step_entries who l NextFrame ts CutOff ≡ taken_entries who l x xs ts CutOff = rw r refl in
+    let P : List Entry → Type 0 = λ z. Stands z in
+    let m : Link = left_after l x xs in
+    let u : List Entry = told_of who (record l.controller { took = m.controller.took }) (Take x.frame) in
+    absurd (rest_cut u who m (took l.controller.side x.frame) ts (subst P some q)))
 
 -- what happens at an end
 pub here_spares : (s : Bool) (who : End) (l : Link) (e : EndEvent) → IsAllowed l e → Before l → is_open l.controller.side.role ≡ true

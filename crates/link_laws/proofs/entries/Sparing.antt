@@ -1,9 +1,9 @@
 -- Where nothing was lost in a step and no RSET put on the link, the answer to a reset is kept back no more than before.
 use Rattle.std.specs.Prelude.{◌+◌, ◌||◌}
 use Rattle.link_laws.proofs.Words.{Act, ActEvent, ActTake, Activation, AreSendableTurns, Bool, Clt, Control, CoreActs, CoreDeliver, CoreLink, CoreLose}
-use Rattle.link_laws.proofs.Words.{CoreTurn, Cut, Down as IsDown, Emit, End, EndState, Entry, GoesOut, HasTick, I, Link, LinkEnd, List, Lost, None, OnWire}
-use Rattle.link_laws.proofs.Words.{Option, Restarted, Rset, S, Some, Take, TooMany, Turn, Turns as CoreTurns, Ua, [], act_answer, activated, after_input, among}
-use Rattle.link_laws.proofs.Words.{ap, core_happens_here, core_of, core_take, core_turned, core_turns, counts_first, drop, ended_by, false, far, first_lost}
+use Rattle.link_laws.proofs.Words.{CoreTurn, Cut, Down as IsDown, Emit, End, EndState, Entry, GoesOut, HasTick, Link, LinkEnd, List, Lost, None, OnWire, Option}
+use Rattle.link_laws.proofs.Words.{Restarted, Some, Take, TooMany, Turn, Turns as CoreTurns, [], act_answer, activated, after_input, among, ap}
+use Rattle.link_laws.proofs.Words.{core_happens_here, core_of, core_take, core_turned, core_turns, counts_first, drop, ended_by, false, far, first_lost}
 use Rattle.link_laws.proofs.Words.{frames_of, frames_out, if◌then◌else◌, inl, inr, is_act, is_open, is_rset, is_some, left_after, length, length-append}
 use Rattle.link_laws.proofs.Words.{list_any, most_frames, moved, nat_lt, not, option_to_list, overflows, pushed_out, put, put_entries, puts_entries, refl}
 use Rattle.link_laws.proofs.Words.{rest_entries, role_after, shdlc_put as core_put, shdlc_put_all as core_put_all, subst, sure_all, sure_here, sure_out}
@@ -17,6 +17,7 @@ use Rattle.link_laws.proofs.messages.Steps.{ComesFirst, Heard, is_shdlc, heard_e
 use Rattle.link_laws.proofs.messages.Steps.{stays_down, act_mid}
 use Rattle.link_laws.proofs.messages.Finishing.{tick_open}
 use Rattle.link_laws.proofs.entries.Disturbing.{left_core}
+use Rattle.link_laws.proofs.Cases.{by_test}
 
 -- ## What keeps an answer back
 
@@ -91,16 +92,14 @@ long_as w a b = length-append w (a ∷ []) ∙ sym (length-append w (b ∷ []))
 none_over : (who : End) (w : List OnWire) (a b : OnWire)
     → Spared (if nat_lt 64 (length (w ++ a ∷ [])) then first_lost who TooMany (w ++ a ∷ []) else []) → overflows (w ++ b ∷ []) ≡ false
 none_over who [] a b s = refl
-none_over who (y ∷ ys) a b s = go (nat_lt 64 (length (y ∷ (ys ++ b ∷ [])))) refl
+none_over who (y ∷ ys) a b s =
+    by_test {P = overflows (y ∷ (ys ++ b ∷ [])) ≡ false} (nat_lt 64 (length (y ∷ (ys ++ b ∷ [])))) (λ q.
+    let long : nat_lt 64 (length (y ∷ (ys ++ a ∷ []))) ≡ true = ap (nat_lt 64) (long_as (y ∷ ys) a b) ∙ q in
+    let z : Spared (Lost who y.frame TooMany ∷ []) = subst P long s in rw q ((or_none (not (is_act y.frame)) false z).0))
+    (λ q. rw q refl)
   where
     P : Bool → Type 0
     P z = Spared (if z then first_lost who TooMany (y ∷ (ys ++ a ∷ [])) else [])
-
-    go : (x : Bool) → nat_lt 64 (length (y ∷ (ys ++ b ∷ []))) ≡ x → overflows (y ∷ (ys ++ b ∷ [])) ≡ false
-    go false q = rw q refl
-    go true q =
-        let long : nat_lt 64 (length (y ∷ (ys ++ a ∷ []))) ≡ true = ap (nat_lt 64) (long_as (y ∷ ys) a b) ∙ q in
-        let z : Spared (Lost who y.frame TooMany ∷ []) = subst P long s in rw q ((or_none (not (is_act y.frame)) false z).0)
 
 put_sure : (s : Bool) (who : End) (l : Link) (c : Control) → s ≡ true → Spared (put_entries who l c) → sure_put s (core_of l) c ≡ true
 put_sure s who l c p q =
@@ -173,11 +172,7 @@ take_sure n l ts x xs a comes open_role = go x.frame refl
 
     take_open : (y : Control) → is_act y ≡ false → is_open e.role ≡ true → core_take e y ts ≡ CoreDeliver (core_turns (took e y) ts) ∷ []
     take_open (Act _ _) q o = absurd (true≢false q)
-    take_open (I _ _ _) q o = rw o refl
-    take_open (S _ _) q o = rw o refl
-    take_open (Rset _ _) q o = rw o refl
-    take_open Ua q o = rw o refl
-    take_open Clt q o = rw o refl
+    take_open _ q o = rw o refl
 
     -- an end that is open became f
     open_as : (f : LinkEnd) (b : Bool) → is_act x.frame ≡ false → is_open e.role ≡ true → took e x.frame ≡ f → is_some (ended_by e (Take x.frame)) ≡ b
@@ -248,11 +243,8 @@ take_sure n l ts x xs a comes open_role = go x.frame refl
 
     go : (y : Control) → x.frame ≡ y → Goal
     go (Act act again) q = acts act again q
-    go (I _ _ _) q = shdlc (ap is_shdlc q) (ap is_act q)
-    go (S _ _) q = shdlc (ap is_shdlc q) (ap is_act q)
-    go (Rset _ _) q = shdlc (ap is_shdlc q) (ap is_act q)
-    go Ua q = shdlc (ap is_shdlc q) (ap is_act q)
     go Clt q = counts q
+    go _ q = shdlc (ap is_shdlc q) (ap is_act q)
 
 -- the node of an end has turns
 pub idle_sure : (n : Bool) (l : Link) (ts : List Turn) → AreSendableTurns ts → Tells l.controller

@@ -1,14 +1,13 @@
 -- What is noted of a step of an end says what is kept of its sessions.
 use Rattle.std.specs.Prelude.{Option, Some, None}
-use Rattle.link_laws.proofs.Words.{AreSendableInputs, AreSendableTurns, AsksReset, Bare, Bool, CanEnd, Clf, Comes, Control, CutOff, Down as IsDown, Due, Emit}
-use Rattle.link_laws.proofs.Words.{End, EndState, Ending, Entry, FetchMessage, Fragment, FromNode, Give, GoesOut, Hold, Link, LinkEnd, LinkInput, LinkState}
-use Rattle.link_laws.proofs.Words.{List, Loss, NextFrame, NoInput, NumberedEnd, OnWire, Release, Report, Reset, Role, SetAside, Start, Starts, Stop, Stops}
-use Rattle.link_laws.proofs.Words.{Take, TooMany, Turn, Uicc, Up as IsUpNow, Waiting as IsWaitingNow, [], after_frames, after_input, ap, append_assoc, becomes}
-use Rattle.link_laws.proofs.Words.{began_by, cond, cut, ended_by, ended_talk, ending_entries, false, far, fetched, finished, first_lost, fragment_due}
-use Rattle.link_laws.proofs.Words.{frames_out, is_some, is_up, left_after, length, most_frames, nat_lt, new_link_end, number_of, pushed_out, put, put_all}
-use Rattle.link_laws.proofs.Words.{put_entries, puts_entries, refl, renewed, report, rest_entries, sent_all, silent, step_entries, subst, suc, sym}
-use Rattle.link_laws.proofs.Words.{taken_entries, talk_now, talk_of, told, told_of, took_with, true, turn, turn_entries, turn_entry, turned, whole_acked}
-use Rattle.link_laws.proofs.Words.{wire_with, with_controller, with_ended, zero, ℕ, ◌++◌, ◌==◌, ◌∙◌, ◌∷◌, ◌≡◌}
+use Rattle.link_laws.proofs.Words.{AreSendableInputs, AreSendableTurns, AsksReset, Bare, Bool, CanEnd, Comes, Control, CutOff, Due, Emit, End, EndState, Ending}
+use Rattle.link_laws.proofs.Words.{Entry, Fragment, FromNode, Give, GoesOut, Link, LinkEnd, LinkInput, LinkState, List, Loss, NextFrame, NoInput, NumberedEnd}
+use Rattle.link_laws.proofs.Words.{OnWire, Report, Reset, Role, Start, Starts, Stop, Stops, Take, TooMany, Turn, Up as IsUpNow, [], after_frames, after_input}
+use Rattle.link_laws.proofs.Words.{ap, append_assoc, becomes, began_by, cond, cut, ended_by, ended_talk, ending_entries, false, far, fetched, finished}
+use Rattle.link_laws.proofs.Words.{first_lost, fragment_due, frames_out, is_some, is_up, left_after, length, most_frames, nat_lt, new_link_end, number_of}
+use Rattle.link_laws.proofs.Words.{pushed_out, put, put_all, put_entries, puts_entries, refl, renewed, report, rest_entries, sent_all, silent, step_entries}
+use Rattle.link_laws.proofs.Words.{subst, suc, sym, taken_entries, talk_now, talk_of, told, told_of, took_with, true, turn, turn_entries, turn_entry, turned}
+use Rattle.link_laws.proofs.Words.{whole_acked, wire_with, with_controller, with_ended, zero, ℕ, ◌++◌, ◌==◌, ◌∙◌, ◌∷◌, ◌≡◌}
 use Rattle.link_laws.proofs.places.Joined.{fetch_cases}
 use Rattle.link_laws.proofs.machine.Runs.{Sound, sound_turn, fetched_data}
 use Rattle.link_laws.proofs.messages.Asks.{NoRset, puts_none}
@@ -18,15 +17,13 @@ use Rattle.link_laws.proofs.entries.Fronts.{OfOne, one-append, one_told, one_tur
 use Rattle.link_laws.proofs.entries.Fronts.{no_acked-append, no_acked_turns}
 use Rattle.link_laws.proofs.entries.Books.{book_of, Silent, silent-append, silent_cons, Told, up_talk, down_talk, told_far, told_silent, told_same, told_input}
 use Rattle.link_laws.proofs.entries.Books.{Input, with_side, told_turn, IsSendableTurn, turn_far}
+use Rattle.link_laws.proofs.Cases.{by_list, by_test}
 
 -- ## Turns
 
 sendable_first : (t : Turn) (ts : List Turn) → AreSendableTurns (t ∷ ts) → IsSendableTurn t × AreSendableTurns ts × AreSendableInputs (FromNode t ∷ [])
 sendable_first (Give m) ts a = (a.0, a.1, (a.0, tt))
-sendable_first (Hold held) ts a = (tt, a, tt)
-sendable_first FetchMessage ts a = (tt, a, tt)
-sendable_first SetAside ts a = (tt, a, tt)
-sendable_first Release ts a = (tt, a, tt)
+sendable_first _ ts a = (tt, a, tt)
 
 pub told_turns : (ts : List Turn) (t : List Entry) (who : End) (h : NumberedEnd) → AreSendableTurns ts → Sound h.side → Told t who h
     → Told (t ++ turn_entries who (number_of h) h.side ts) who (with_side h (turned h.side ts))
@@ -120,18 +117,12 @@ cut_told t who l e can b n = b n ∙ go e.shdlc.phase refl e.role refl can
 
     new_down : (c : Bool) (r : Role) → CanEnd r CutOff → talk_of (at c r) n ≡ ended_talk (at c r).past n
     new_down c Bare can = absurd can
-    new_down c (Clf s) can = refl
-    new_down c (Uicc s) can = refl
+    new_down c _ can = refl
 
     up_past : (r : Role) → book_of (talk_of (with_side l.controller e) n)
         ≡ book_of (cond (n == number_of l.controller) (talk_now e) (ended_talk l.controller.past n))
         → book_of (cond (n == number_of l.controller) (talk_now e) (ended_talk l.controller.past n)) ≡ book_of (ended_talk (at true r).past n)
-    up_past r z = by (n == number_of l.controller) refl
-      where
-        by : (x : Bool) → (n == number_of l.controller)
-            ≡ x → book_of (cond (n == number_of l.controller) (talk_now e) (ended_talk l.controller.past n)) ≡ book_of (ended_talk (at true r).past n)
-        by true q = rw q (sym (sent_book e))
-        by false q = rw q refl
+    up_past r z = by_test (n == number_of l.controller) (λ q. rw q (sym (sent_book e))) (λ q. rw q refl)
 
     up : e.shdlc.phase ≡ IsUpNow → CanEnd e.role CutOff
         → book_of (talk_of (with_side l.controller e) n) ≡ book_of (talk_of (cut (with_controller l f)).controller n)
@@ -149,8 +140,7 @@ cut_told t who l e can b n = b n ∙ go e.shdlc.phase refl e.role refl can
     go : (p : LinkState) → e.shdlc.phase ≡ p → (r : Role) → e.role ≡ r → CanEnd e.role CutOff
         → book_of (talk_of (with_side l.controller e) n) ≡ book_of (talk_of (cut (with_controller l f)).controller n)
     go IsUpNow p r q can = up p can
-    go IsWaitingNow p r q can = idle (λ u. let z = sym p ∙ u in cc) (ap is_up (phase ∙ p)) can
-    go IsDown p r q can = idle (λ u. let z = sym p ∙ u in cc) (ap is_up (phase ∙ p)) can
+    go _ p r q can = idle (λ u. let z = sym p ∙ u in cc) (ap is_up (phase ∙ p)) can
 
 silent_ending : (who : End) (l : Link) (e : LinkEnd) (ending : Ending) → Silent (ending_entries who l e ending)
 silent_ending who l e GoesOut = silent_puts (frames_out e) who l
@@ -201,23 +191,21 @@ one_input who l k h i e ts ending =
 
 -- what is noted of a step is of its end
 pub one_step : (who : End) (l : Link) (comes : Comes) (ts : List Turn) (ending : Ending) → OfOne who (step_entries who l comes ts ending)
-one_step who l NextFrame ts ending = go l.to_controller refl
+one_step who l NextFrame ts ending =
+    by_list {P = OfOne who (step_entries who l NextFrame ts ending)} l.to_controller
+    (λ q. let none : step_entries who l NextFrame ts ending ≡ [] = rw q refl in subst P (sym none) tt) (λ x xs q.
+    subst P (sym (some x xs q)) (
+      (λ n. refl),
+      one_input who l (left_after l x xs) (record l.controller { took = took_with l.controller.took x })
+          (Take x.frame)
+          (after_input l.controller.side (Take x.frame)) ts ending,
+    ))
   where
     some : (x : OnWire) (xs : List OnWire) → l.to_controller ≡ x ∷ xs → step_entries who l NextFrame ts ending ≡ taken_entries who l x xs ts ending
     some x xs q = rw q refl
 
     P : List Entry → Type 0
     P u = OfOne who u
-
-    go : (w : List OnWire) → l.to_controller ≡ w → OfOne who (step_entries who l NextFrame ts ending)
-    go [] q = let none : step_entries who l NextFrame ts ending ≡ [] = rw q refl in subst P (sym none) tt
-    go (x ∷ xs) q =
-        subst P (sym (some x xs q)) (
-          (λ n. refl),
-          one_input who l (left_after l x xs) (record l.controller { took = took_with l.controller.took x })
-              (Take x.frame)
-              (after_input l.controller.side (Take x.frame)) ts ending,
-        )
 one_step who l (AsksReset window) ts ending =
     one_input who l (with_ended l (is_some (ended_by l.controller.side (Reset window)))) l.controller (Reset window)
     (after_input l.controller.side (Reset window)) ts ending

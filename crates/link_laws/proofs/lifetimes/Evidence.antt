@@ -1,12 +1,12 @@
 -- What shows that an unacknowledged fragment will be answered in time: it, its answer or the answer that is due.
 use Rattle.std.proofs.Common.{◌==◌}
-use Rattle.link_laws.proofs.Words.{Act, Bool, Clt, Control, Due, Fragment, I, Kind, List, Rej, Rej_due, Rnr, Rnr_due, Rr, Rr_due, Rset, Rset_due, S, Srej, Ua}
-use Rattle.link_laws.proofs.Words.{Ua_due, [], ap, arith, cond, eqb-false, eqb-true, false, inl, inr, refl, true, with_frame, ℕ, ◌++◌, ◌+◌, ◌<◌, ◌∷◌, ◌≡◌, ◌≤◌}
-use Rattle.link_laws.proofs.Words.{◌⊎◌}
+use Rattle.link_laws.proofs.Words.{Act, Clt, Control, Due, Fragment, I, Kind, List, Rej, Rej_due, Rnr, Rnr_due, Rr, Rr_due, Rset, Rset_due, S, Srej, Ua, Ua_due}
+use Rattle.link_laws.proofs.Words.{[], ap, arith, cond, eqb-false, eqb-true, inl, inr, refl, with_frame, ℕ, ◌++◌, ◌+◌, ◌<◌, ◌∷◌, ◌≡◌, ◌≤◌, ◌⊎◌}
 use Rattle.link_laws.specs.places.Wire.{OnWire, older}
 use Rattle.link_laws.proofs.places.Marks.{Shows, last_count}
 use Rattle.link_laws.proofs.places.Whole.{AnswersOnly}
 use Rattle.link_laws.proofs.sessions.Wire.{Young, young_later}
+use Rattle.link_laws.proofs.Cases.{by_test}
 
 -- this answer acknowledges the place a, or makes the sender's timer start again
 abbrev pub Answers : ℕ → Control → Type 0
@@ -237,19 +237,14 @@ only_acks (_) n a ms e = absurd e
 
 pub course_from : (r : ℕ) (ms : List Control) → r ≤ course_of r ms
 course_from r [] = omega arith
-course_from r (I p n info ∷ ms) = go (p == r) refl (course_from (cond (p == r) (r + 1) r) ms)
-  where
-    go : (b : Bool) → (p == r) ≡ b → cond (p == r) (r + 1) r ≤ course_of (cond (p == r) (r + 1) r) ms → r ≤ course_of (cond (p == r) (r + 1) r) ms
-    go true q h = rw q (let g = rw q at h in omega arith)
-    go false q h = rw q (let g = rw q at h in omega arith)
+course_from r (I p n info ∷ ms) =
+    by_test {P = r ≤ course_of (cond (p == r) (r + 1) r) ms} (p == r) (λ q. rw q (let g = rw q at (course_from (cond (p == r) (r + 1) r) ms) in omega arith))
+    (λ q. rw q (let g = rw q at (course_from (cond (p == r) (r + 1) r) ms) in omega arith))
 course_from r (_ ∷ ms) = course_from r ms
 
 pub course_push : (r s n : ℕ) (info : Fragment) (ms : List Control) → s ≤ course_of r ms → s + 1 ≤ course_of r (ms ++ I s n info ∷ [])
-course_push r s n info [] h = go (s == r) refl
-  where
-    go : (b : Bool) → (s == r) ≡ b → s + 1 ≤ cond (s == r) (r + 1) r
-    go true q = rw q (omega (arith, eqb-true s r q))
-    go false q = rw q (let ne = eqb-false s r q in omega arith)
+course_push r s n info [] h =
+    by_test {P = s + 1 ≤ cond (s == r) (r + 1) r} (s == r) (λ q. rw q (omega (arith, eqb-true s r q))) (λ q. rw q (let ne = eqb-false s r q in omega arith))
 course_push r s n info (I p _ _ ∷ ms) h = course_push (cond (p == r) (r + 1) r) s n info ms h
 course_push r s n info (_ ∷ ms) h = course_push r s n info ms h
 
@@ -263,11 +258,9 @@ pub course_shows : (r : ℕ) (wire : List OnWire) (ms : List Control) → Shows 
 course_shows r [] [] e h = absurd (omega arith)
 course_shows r [] (_ ∷ ms) e h = absurd e
 course_shows r (x ∷ xs) [] e h = absurd e
-course_shows r (x ∷ xs) (I p n info ∷ ms) e h = go (p == r) refl (course_shows r xs ms e.1)
-  where
-    go : (b : Bool) → (p == r) ≡ b → (r < course_of r ms → SentBy r 0 xs ms) → ((p ≡ r) × (0 ≤ x.age)) ⊎ SentBy r 0 xs ms
-    go true q later = inl (eqb-true p r q, omega arith)
-    go false q later = inr (later (rw q at h))
+course_shows r (x ∷ xs) (I p n info ∷ ms) e h =
+    by_test {P = ((p ≡ r) × (0 ≤ x.age)) ⊎ SentBy r 0 xs ms} (p == r) (λ q. inl (eqb-true p r q, omega arith))
+    (λ q. inr ((course_shows r xs ms e.1) (rw q at h)))
 course_shows r (x ∷ xs) (S _ _ ∷ ms) e h = course_shows r xs ms e.1 h
 course_shows r (x ∷ xs) (Rset _ _ ∷ ms) e h = course_shows r xs ms e.1 h
 course_shows r (x ∷ xs) (Ua ∷ ms) e h = course_shows r xs ms e.1 h

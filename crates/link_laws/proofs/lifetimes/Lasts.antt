@@ -3,11 +3,11 @@
 use Rattle.std.proofs.Common.{◌==◌, ◌&&◌, not, max}
 use Rattle.std.proofs.lemmas.Bool.{le-ltb, or_cases, or_right}
 use Rattle.link_laws.proofs.Words.{Act, Bool, Clt, Control, Due, EndState, Fragment, I, Kind, List, None, Option, Rej, Rej_due, Rnr, Rnr_due, Rr, Rr_due, Rset}
-use Rattle.link_laws.proofs.Words.{Rset_due, S, Session, Some, Ua, Ua_due, Up, [], acknowledged, ahead, and_from, and_parts, arith, cases_lt, control_due}
-use Rattle.link_laws.proofs.Words.{eq-eqb, expected, false, fetched, fragment_due, fragment_due-within, frame_due, inl, inr, length, length-append, lt-ltb}
-use Rattle.link_laws.proofs.Words.{ltb-false, ltb-true, made_busy, nat_lt, ne_eqb, not-true, or_parts, place_of, put_out, ready_again, refl, rejected}
-use Rattle.link_laws.proofs.Words.{runs_timer, sent_again, sent_next, slice_get, slice_get_within, subst, sym, take_answer, taken, tick_answer, ticked, true}
-use Rattle.link_laws.proofs.Words.{true≢false, with_frame, with_ready, ℕ, ⊎_elim, ◌%◌, ◌++◌, ◌+◌, ◌<◌, ◌||◌, ◌∙◌, ◌∷◌, ◌≡◌, ◌≤◌, ◌⊎◌}
+use Rattle.link_laws.proofs.Words.{S, Session, Some, Ua, Up, [], acknowledged, ahead, and_from, and_parts, arith, cases_lt, control_due, eq-eqb, expected}
+use Rattle.link_laws.proofs.Words.{false, fetched, fragment_due, fragment_due-within, frame_due, inl, inr, length, length-append, lt-ltb, ltb-false, ltb-true}
+use Rattle.link_laws.proofs.Words.{made_busy, nat_lt, ne_eqb, not-true, or_parts, place_of, put_out, ready_again, refl, rejected, runs_timer, sent_again}
+use Rattle.link_laws.proofs.Words.{sent_next, slice_get, slice_get_within, subst, sym, take_answer, taken, tick_answer, ticked, true, true≢false, with_frame}
+use Rattle.link_laws.proofs.Words.{with_ready, ℕ, ⊎_elim, ◌%◌, ◌++◌, ◌+◌, ◌<◌, ◌||◌, ◌∙◌, ◌∷◌, ◌≡◌, ◌≤◌, ◌⊎◌}
 use Rattle.link_laws.specs.places.Wire.{OnWire, older}
 use Rattle.link_laws.proofs.places.Numbers.{place_found, ahead_same, ahead_other}
 use Rattle.link_laws.proofs.places.Marks.{reduced, counts_le, shows_push, shows_older}
@@ -24,6 +24,7 @@ use Rattle.link_laws.proofs.lifetimes.Timely.{Timely, MaySend, AnswersAll, TookF
 use Rattle.link_laws.proofs.lifetimes.Timely.{timely_rewound, timely_answering, timely_kept, timely_past, timely_received, timely_put, timely_changed}
 use Rattle.link_laws.proofs.lifetimes.Timely.{timely_answer, timely_answer_I, timely_send, timely_send_S, timely_older, in_time, timely_counted, timely_still}
 use Rattle.link_laws.proofs.lifetimes.Timely.{timely_probe}
+use Rattle.link_laws.proofs.Cases.{by_test}
 
 -- kn and kf ticks have passed that the near and the far end have still to count
 pub record Lasts (kn kf : ℕ) (near far : EndState) (to_near to_far : List OnWire) : Type 0 where
@@ -197,11 +198,7 @@ ack_same : (e : EndState) (n : ℕ) → e.session.acked ≡ n → ((acknowledged
 ack_same e n i = let b : nat_lt e.session.acked n ≡ false = le-ltb e.session.acked n (omega arith) in (rw b refl, rw b refl)
 
 rr_timer : (e : EndState) (n : ℕ) → e.session.acked < n → (ready_again e n).timer ≡ 0
-rr_timer e n i = go (runs_timer (ready_again e n).session) refl
-  where
-    go : (b : Bool) → runs_timer (ready_again e n).session ≡ b → (ready_again e n).timer ≡ 0
-    go true q = rw q (ack_timer e n i).0
-    go false q = rw q refl
+rr_timer e n i = by_test (runs_timer (ready_again e n).session) (λ q. rw q (ack_timer e n i).0) (λ q. rw q refl)
 
 rr_same : (e : EndState) (n : ℕ) → e.session.acked ≡ n → n < max e.session.next n → (ready_again e n).timer ≡ e.timer
 rr_same e n i j =
@@ -378,15 +375,14 @@ lasts_taken near far x to_near to_far noprobe h = (
 
 -- where a fragment is due the sender may send: the other end isn't busy, or a probe goes out
 may_send : (s : Session) (info : Fragment) → fragment_due s ≡ Some info → MaySend s
-may_send s info e = go ((not s.peer_busy || s.probe) && nat_lt s.next (s.acked + s.window)) refl
+may_send s info e =
+    by_test ((not s.peer_busy || s.probe) && nat_lt s.next (s.acked + s.window))
+    (λ q. pick (or_cases (not s.peer_busy) s.probe (and_parts (not s.peer_busy || s.probe) (nat_lt s.next (s.acked + s.window)) q).0))
+    (λ q. absurd (let n = rw q at e in cc))
   where
     pick : (not s.peer_busy ≡ true) ⊎ (s.probe ≡ true) → MaySend s
     pick (inl b) = inl (not-true s.peer_busy b)
     pick (inr b) = inr b
-
-    go : (b : Bool) → ((not s.peer_busy || s.probe) && nat_lt s.next (s.acked + s.window)) ≡ b → MaySend s
-    go true q = pick (or_cases (not s.peer_busy) s.probe (and_parts (not s.peer_busy || s.probe) (nat_lt s.next (s.acked + s.window)) q).0)
-    go false q = absurd (let n = rw q at e in cc)
 
 module _ (kf : ℕ) (near far : EndState) (to_near to_far : List OnWire) (h : Lasts 0 kf near far to_near to_far) where
   -- the near end has become e and sent this frame, if any: what is on the wire to the far end then
@@ -469,8 +465,7 @@ module _ (kf : ℕ) (near far : EndState) (to_near to_far : List OnWire) (h : La
       control Rr_due ds p a = answered Rr ds tt (λ g. inr (rw p at g)) (λ b t g. rw p at g)
       control Rej_due ds p a = answered Rej ds tt (λ g. inl tt) (λ b t g. ⊎_elim (λ e. inl (tt, e)) (λ e. inr e) (rw p at g))
       control Rnr_due ds p a = answered Rnr ds tt (λ g. inl tt) (λ b t g. ⊎_elim (λ e. inl (tt, e)) (λ e. inr e) (rw p at g))
-      control Rset_due ds p a = absurd a
-      control Ua_due ds p a = absurd a
+      control _ ds p a = absurd a
 
 -- an end that has sent all that is due makes no probe
 pub no_probe : (kn kf : ℕ) (near far : EndState) (to_near to_far : List OnWire) → frame_due near ≡ None → Lasts kn kf near far to_near to_far

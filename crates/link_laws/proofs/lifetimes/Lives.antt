@@ -20,6 +20,7 @@ use Rattle.link_laws.specs.lifetimes.Lifetime.{IsAnew, BeginsAnew, OnlyTurns, Is
 use Rattle.link_laws.proofs.lifetimes.Timely.{Timely}
 use Rattle.link_laws.proofs.lifetimes.Lasts.{Lasts, lasts_of, lasts_exchanged, lasts_put, lasts_ready, lasts_ticked, lasts_older, lasts_taken, lasts_fetched}
 use Rattle.link_laws.proofs.lifetimes.Lasts.{no_probe, ticked-due}
+use Rattle.link_laws.proofs.Cases.{by_test}
 use mathlib.Core.List.{IsPrefix}
 
 -- ## Wires that show marks
@@ -49,23 +50,18 @@ sans_all (x ∷ xs) lo hi (Clt ∷ ms) shows counts = absurd counts
 -- such a wire that loses no frame where one more is put on it holds all of them
 fits_all : (wire : List OnWire) (lo hi : ℕ) (ms : List Control) → Shows wire ms → Counts lo hi ms → overflows wire ≡ false → fits wire ≡ wire
 fits_all [] lo hi ms shows counts none = refl
-fits_all (x ∷ xs) lo hi ms shows counts none = go (nat_lt 64 (length (x ∷ xs))) refl
-  where
-    go : (b : Bool) → nat_lt 64 (length (x ∷ xs)) ≡ b → fits (x ∷ xs) ≡ x ∷ xs
-    go false q = rw q refl
-    go true q = absurd (true≢false (rw (q, (mark_data x xs lo hi ms shows counts).1) at none))
+fits_all (x ∷ xs) lo hi ms shows counts none =
+    by_test {P = fits (x ∷ xs) ≡ x ∷ xs} (nat_lt 64 (length (x ∷ xs))) (λ q. absurd (true≢false (rw (q, (mark_data x xs lo hi ms shows counts).1) at none)))
+    (λ q. rw q refl)
 
 -- where none is lost by its age, all grow older
 aged_is_older : (wire : List OnWire) → loses_aged wire ≡ false → Young 4 wire → (aged_wire wire ≡ older wire) × Young 4 (older wire)
 aged_is_older [] h y = (refl, tt)
-aged_is_older (x ∷ xs) h y = go (nat_lt x.age 4) refl (aged_is_older xs)
-  where
-    go : (b : Bool) → nat_lt x.age 4 ≡ b → (loses_aged xs ≡ false → Young 4 xs → (aged_wire xs ≡ older xs) × Young 4 (older xs))
-        → (aged_wire (x ∷ xs) ≡ older (x ∷ xs)) × Young 4 (older (x ∷ xs))
-    go true q rest =
-        let k = rest (rw q at h) (young_later x.age 4 xs y.0 y.1) in
-        (rw (q, k.0) refl, (let g = ltb-true x.age 4 q in omega arith, young_older x.age xs y.1))
-    go false q rest = absurd (true≢false (rw q at h))
+aged_is_older (x ∷ xs) h y =
+    by_test {P = (aged_wire (x ∷ xs) ≡ older (x ∷ xs)) × Young 4 (older (x ∷ xs))} (nat_lt x.age 4) (λ q.
+    let k = (aged_is_older xs) (rw q at h) (young_later x.age 4 xs y.0 y.1) in
+    (rw (q, k.0) refl, (let g = ltb-true x.age 4 q in omega arith, young_older x.age xs y.1)))
+    (λ q. absurd (true≢false (rw q at h)))
 
 -- ## The link
 

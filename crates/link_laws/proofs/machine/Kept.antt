@@ -1,10 +1,10 @@
 -- Messages that came at an end are kept until they are fetched.
 use Rattle.std.specs.Prelude.{Option, Some, None}
-use Rattle.link_laws.proofs.Words.{Act as ActFrame, ActEvent, ActTake, Activation as Act, Asked, Bool, Clt, Control, Down, EndState, I, LinkEnd, LinkState}
-use Rattle.link_laws.proofs.Words.{Refused, Reset, Rset, S, Ua, Up, Waiting, [], act_answer, activated, after_input, append-nil, cond, false, heard, if_up}
-use Rattle.link_laws.proofs.Words.{is_faulty, is_open, is_some, moved, news, put_down, refl, reset_refusal, reset_with, role_after, sym, taken, took, true}
-use Rattle.link_laws.proofs.Words.{window_of, with_act, ℕ, ◌++◌, ◌∙◌, ◌≡◌}
+use Rattle.link_laws.proofs.Words.{Act as ActFrame, ActEvent, ActTake, Activation as Act, Asked, Bool, Clt, Control, EndState, LinkEnd, Reset, [], act_answer}
+use Rattle.link_laws.proofs.Words.{activated, after_input, append-nil, cond, false, heard, if_up, is_faulty, is_open, is_some, moved, news, put_down, refl}
+use Rattle.link_laws.proofs.Words.{reset_refusal, reset_with, role_after, sym, taken, took, true, window_of, with_act, ℕ, ◌++◌, ◌∙◌, ◌≡◌}
 use Rattle.link_laws.specs.machine.Machine.{brought}
+use Rattle.link_laws.proofs.Cases.{by_option, by_phase}
 
 pub moved_got : (e : LinkEnd) (b : Bool) (s : EndState) → (moved e b s).got ≡ e.got
 moved_got e true s = refl
@@ -12,12 +12,7 @@ moved_got e false s = refl
 
 pub down_got : (e : LinkEnd) (b : Bool) → (put_down b e).got ≡ e.got
 down_got e false = refl
-down_got e true = go e.shdlc.phase refl
-  where
-    go : (p : LinkState) → e.shdlc.phase ≡ p → (put_down true e).got ≡ e.got
-    go Up q = rw q refl
-    go Waiting q = rw q refl
-    go Down q = rw q refl
+down_got e true = by_phase {P = (put_down true e).got ≡ e.got} e.shdlc.phase (λ q. rw q refl) (λ q. rw q refl) (λ q. rw q refl)
 
 pub act_got : (o : Option Act) (e : LinkEnd) → (with_act o e).got ≡ e.got
 act_got None e = refl
@@ -29,11 +24,9 @@ activated_got e event =
     ∙ down_got e (act_answer e.role event).ended_link
 
 pub reset_got : (e : LinkEnd) (window : Option ℕ) → (after_input e (Reset window)).got ≡ e.got
-reset_got e window = go (reset_refusal e) refl
-  where
-    go : (o : Option Refused) → reset_refusal e ≡ o → (after_input e (Reset window)).got ≡ e.got
-    go None q = let w : ℕ = window_of e window in rw q (moved_got e (is_some (if_up e.shdlc Asked)) (reset_with e.shdlc w))
-    go (Some why) q = rw q refl
+reset_got e window =
+    by_option (reset_refusal e) (λ q. let w : ℕ = window_of e window in rw q (moved_got e (is_some (if_up e.shdlc Asked)) (reset_with e.shdlc w)))
+    (λ why q. rw q refl)
 
 pub heard_got : (m : LinkEnd) (c : Control) → (took m c ≡ cond (is_open m.role) (heard m c) m)
     → (brought m c ≡ cond (is_open m.role) (cond (is_faulty (taken m.shdlc c).session) [] (news m.shdlc.session (taken m.shdlc c))) [])
@@ -49,7 +42,4 @@ heard_got m c t b = by (is_open m.role) (is_faulty (taken m.shdlc c).session) re
 pub took_got : (m : LinkEnd) (c : Control) → (took m c).got ≡ m.got ++ brought m c
 took_got m (ActFrame act again) = activated_got m (ActTake act again) ∙ sym (append-nil m.got)
 took_got m Clt = sym (append-nil m.got)
-took_got m (I ns nr info) = heard_got m (I ns nr info) refl refl
-took_got m (S kind nr) = heard_got m (S kind nr) refl refl
-took_got m (Rset window caps) = heard_got m (Rset window caps) refl refl
-took_got m Ua = heard_got m Ua refl refl
+took_got m frame = heard_got m frame refl refl

@@ -1,15 +1,16 @@
 -- ACT frames stand in their places among the control frames that are due, and frames fetched one by one are all that are due.
-use Rattle.link_laws.proofs.Words.{Act, ActDue, ActEvent, ActStart, ActStop, ActTake, ActTick, Activation, Asked, Bare, Bool, Clf, Clt, Control, Down, Due}
-use Rattle.link_laws.proofs.Words.{EndState, Fetch, FetchMessage, Fragment, FromNode, Give, HasTick as Tick, Hold, I, Kind, LinkEnd, LinkInput, LinkState, List}
-use Rattle.link_laws.proofs.Words.{None, Option, Refused, Rej, Rej_due, Release, Reset, Rnr, Rnr_due, Role, Rr, Rr_due, Rset, Rset_due, S, SetAside, Some, Srej}
-use Rattle.link_laws.proofs.Words.{Start, Stop, Take, TakeBroken, TakeUnknown, Turn, Ua, Ua_due, Uicc, Up, Waiting, [], acknowledged, act_answer, activated}
-use Rattle.link_laws.proofs.Words.{after_frames, after_input, after_inputs, ahead, among, ap, arith, aside_refusal, control_due, drop, end_after, eqb-true}
-use Rattle.link_laws.proofs.Words.{false, fetched, fragment_due, frame_due, frame_fetched, frames_of, frames_out, give_refusal, had_tick, heard, if_up}
-use Rattle.link_laws.proofs.Words.{in_front, is_faulty, is_open, is_some, length, length-append, length-map, map, most_frames, moved, nat_lt, nearer}
-use Rattle.link_laws.proofs.Words.{new_link_end, next_frame, not, place_of, put_down, received, refl, reset_by, reset_refusal, reset_with, role_after}
-use Rattle.link_laws.proofs.Words.{runs_timer, sent_all, stopped, subst, suc, sym, take, take_answer, taken, tick_answer, ticked, took, true, turn, window_of}
-use Rattle.link_laws.proofs.Words.{with_act, with_ready, zero, ℕ, ◌++◌, ◌+◌, ◌-◌, ◌==◌, ◌∙◌, ◌∷◌, ◌≡◌, ◌≤◌}
+use Rattle.link_laws.proofs.Words.{Act, ActDue, ActEvent, ActStart, ActStop, ActTake, ActTick, Activation, Asked, Bare, Bool, Clf, Clt, Control, Due, EndState}
+use Rattle.link_laws.proofs.Words.{Fetch, Fragment, FromNode, Give, HasTick as Tick, Hold, I, Kind, LinkEnd, LinkInput, List, None, Option, Rej_due, Reset}
+use Rattle.link_laws.proofs.Words.{Rnr_due, Role, Rr_due, Rset_due, S, SetAside, Some, Srej, Start, Stop, Take, TakeBroken, TakeUnknown, Turn, Ua_due, Uicc, Up}
+use Rattle.link_laws.proofs.Words.{[], acknowledged, act_answer, activated, after_frames, after_input, after_inputs, ahead, among, ap, arith, aside_refusal}
+use Rattle.link_laws.proofs.Words.{control_due, drop, end_after, eqb-true, false, fetched, fragment_due, frame_due, frame_fetched, frames_of, frames_out}
+use Rattle.link_laws.proofs.Words.{give_refusal, had_tick, heard, if_up, in_front, is_faulty, is_open, is_some, length, length-append, length-map, map}
+use Rattle.link_laws.proofs.Words.{most_frames, moved, nat_lt, nearer, new_link_end, next_frame, not, place_of, put_down, received, refl, reset_by}
+use Rattle.link_laws.proofs.Words.{reset_refusal, reset_with, role_after, sent_all, stopped, subst, suc, sym, take, take_answer, taken, tick_answer, ticked}
+use Rattle.link_laws.proofs.Words.{took, true, true≢false, turn, window_of, with_act, with_ready, zero, ℕ, ◌++◌, ◌+◌, ◌-◌, ◌==◌, ◌∙◌, ◌∷◌, ◌≡◌, ◌≤◌}
 use Rattle.link_laws.specs.machine.Laws.{fetches, after_fetches, most_fetches}
+use Rattle.link_laws.proofs.Cases.{by_list, by_option, by_phase, by_test}
+use Rattle.link_laws.proofs.machine.Walks.{by_taken, by_tick}
 
 -- each stands behind as many as the one before it, or more, and behind no more than are due
 abbrev pub Placed : ℕ → List ActDue → ℕ → Type 0
@@ -75,86 +76,34 @@ received_due e ns info = go e.ready (ahead e.session ns == 0) (nat_lt (ahead e.s
 
 -- a frame that doesn't end the session adds to what is due
 taken_due : (e : EndState) (c : Control) → is_some (take_answer e c).ended ≡ false → length e.due ≤ length (taken e c).due
-taken_due e c n = go e.phase refl c n
+taken_due e c n =
+    by_taken (λ _ f answer. is_some answer.ended ≡ false → length e.due ≤ length f.due) e (λ ns nr info p _. up_I ns nr info p)
+    (λ kind nr p _. up_S kind nr p) (λ _ _. omega arith) (λ _ _ _ z. absurd (true≢false z)) (λ _ _ _ _. grown e.due Ua_due)
+    (λ _ _ _ _. grown e.due Ua_due) (λ _ _. omega arith) c n
   where
     same : (c : Control) → taken e c ≡ e → length e.due ≤ length (taken e c).due
     same c q = let l = ap (λ (s : EndState). length s.due) q in omega (arith, l)
 
     up_I : (ns nr : ℕ) (info : Fragment) → e.phase ≡ Up → length e.due ≤ length (taken e (I ns nr info)).due
-    up_I ns nr info p = by (place_of e.session nr) refl
-      where
-        by : (o : Option ℕ) → place_of e.session nr ≡ o → length e.due ≤ length (taken e (I ns nr info)).due
-        by None q = same (I ns nr info) (rw (p, q) refl)
-        by (Some x) q = let i = received_due (acknowledged e x) ns info in rw (p, q) (rw p at i)
+    up_I ns nr info p =
+        by_option (place_of e.session nr) (λ q. same (I ns nr info) (rw (p, q) refl))
+        (λ x q. let i = received_due (acknowledged e x) ns info in rw (p, q) (rw p at i))
 
     up_S : (k : Kind) (nr : ℕ) → e.phase ≡ Up → length e.due ≤ length (taken e (S k nr)).due
     up_S k nr p = by k (place_of e.session nr) refl
       where
         by : (k : Kind) (o : Option ℕ) → place_of e.session nr ≡ o → length e.due ≤ length (taken e (S k nr)).due
         by Srej o q = same (S Srej nr) (rw p refl)
-        by Rr None q = same (S Rr nr) (rw (p, q) refl)
-        by Rej None q = same (S Rej nr) (rw (p, q) refl)
-        by Rnr None q = same (S Rnr nr) (rw (p, q) refl)
-        by Rr (Some x) q = rw (p, q) (omega arith)
-        by Rej (Some x) q = rw (p, q) (omega arith)
-        by Rnr (Some x) q = rw (p, q) (omega arith)
-
-    go : (p : LinkState) → e.phase ≡ p → (c : Control) → is_some (take_answer e c).ended ≡ false → length e.due ≤ length (taken e c).due
-    go Up p (I ns nr info) n = up_I ns nr info p
-    go Up p (S kind nr) n = up_S kind nr p
-    go Up p (Rset w caps) n = zero_or (w == 0) refl
-      where
-        zero_or : (b : Bool) → (w == 0) ≡ b → length e.due ≤ length (taken e (Rset w caps)).due
-        zero_or true q = same (Rset w caps) (rw (p, q) refl)
-        zero_or false q = absurd (let z : true ≡ false = rw (p, q) at n in cc)
-    go Up p Ua n = same Ua (rw p refl)
-    go Up p (Act x y) n = same (Act x y) (rw p refl)
-    go Up p Clt n = same Clt (rw p refl)
-    go Waiting p Ua n = rw p (omega arith)
-    go Waiting p (Rset w caps) n = zero_or (w == 0) refl
-      where
-        zero_or : (b : Bool) → (w == 0) ≡ b → length e.due ≤ length (taken e (Rset w caps)).due
-        zero_or true q = same (Rset w caps) (rw (p, q) refl)
-        zero_or false q = rw (p, q) (grown e.due Ua_due)
-    go Waiting p (I ns nr info) n = same (I ns nr info) (rw p refl)
-    go Waiting p (S kind nr) n = same (S kind nr) (rw p refl)
-    go Waiting p (Act x y) n = same (Act x y) (rw p refl)
-    go Waiting p Clt n = same Clt (rw p refl)
-    go Down p (Rset w caps) n = zero_or (w == 0) refl
-      where
-        zero_or : (b : Bool) → (w == 0) ≡ b → length e.due ≤ length (taken e (Rset w caps)).due
-        zero_or true q = same (Rset w caps) (rw (p, q) refl)
-        zero_or false q = rw (p, q) (grown e.due Ua_due)
-    go Down p (I ns nr info) n = same (I ns nr info) (rw p refl)
-    go Down p (S kind nr) n = same (S kind nr) (rw p refl)
-    go Down p Ua n = same Ua (rw p refl)
-    go Down p (Act x y) n = same (Act x y) (rw p refl)
-    go Down p Clt n = same Clt (rw p refl)
+        by c None q = same (S c nr) (rw (p, q) refl)
+        by _ (Some x) q = rw (p, q) (omega arith)
 
 ticked_due : (e : EndState) → is_some (tick_answer e).ended ≡ false → length e.due ≤ length (ticked e).due
-ticked_due e n = go e.phase (runs_timer e.session) (nat_lt (e.timer + 1) 10) (nat_lt e.tries 5) refl refl refl refl
-  where
-    same : ticked e ≡ e → length e.due ≤ length (ticked e).due
-    same q = let l = ap (λ (s : EndState). length s.due) q in omega (arith, l)
-
-    go : (p : LinkState) (a b c : Bool) → e.phase ≡ p → runs_timer e.session ≡ a → nat_lt (e.timer + 1) 10 ≡ b → nat_lt e.tries 5 ≡ c
-        → length e.due ≤ length (ticked e).due
-    go Down a b c p q r t = same (rw p refl)
-    go Up false b c p q r t = same (rw (p, q) refl)
-    go Up true true c p q r t = rw (p, q, r) (omega arith)
-    go Up true false true p q r t = rw (p, q, r, t) (omega arith)
-    go Up true false false p q r t = absurd (let z : true ≡ false = rw (p, q, r, t) at n in cc)
-    go Waiting a true c p q r t = rw (p, r) (omega arith)
-    go Waiting a false true p q r t = rw (p, r, t) (grown e.due Rset_due)
-    go Waiting a false false p q r t = rw (p, r, t) (omega arith)
+ticked_due e n =
+    by_tick (λ f answer. is_some answer.ended ≡ false → length e.due ≤ length f.due) e (λ _. omega arith) (λ _ _. omega arith) (λ _ _. omega arith)
+    (λ _ z. absurd (true≢false z)) (λ _ _. grown e.due Rset_due) (λ _ _. omega arith) n
 
 reset_due : (e : EndState) (w : ℕ) → is_some (if_up e Asked) ≡ false → length e.due ≤ length (reset_with e w).due
-reset_due e w n = go e.phase refl
-  where
-    go : (p : LinkState) → e.phase ≡ p → length e.due ≤ length (reset_with e w).due
-    go Up p = absurd (let z : true ≡ false = rw p at n in cc)
-    go Waiting p = rw p (omega arith)
-    go Down p = rw p (grown e.due Rset_due)
+reset_due e w n = by_phase e.phase (λ p. absurd (let z : true ≡ false = rw p at n in cc)) (λ p. rw p (omega arith)) (λ p. rw p (grown e.due Rset_due))
 
 ready_due : (e : EndState) (r : Bool) → length e.due ≤ length (with_ready e r).due
 ready_due e r = go e.ready r e.session.answered_rnr refl refl refl
@@ -174,12 +123,9 @@ placed_moved e true s g p = placed_front e.acts (length s.due)
 
 placed_down : (b : Bool) (e : LinkEnd) → IsPlaced e → IsPlaced (put_down b e)
 placed_down false e p = p
-placed_down true e p = go e.shdlc.phase refl
-  where
-    go : (q : LinkState) → e.shdlc.phase ≡ q → IsPlaced (put_down true e)
-    go Up q = rw q (placed_front e.acts 0)
-    go Waiting q = rw q (placed_front e.acts 0)
-    go Down q = rw q (placed_front e.acts 0)
+placed_down true e p =
+    by_phase {P = IsPlaced (put_down true e)} e.shdlc.phase (λ q. rw q (placed_front e.acts 0)) (λ q. rw q (placed_front e.acts 0))
+    (λ q. rw q (placed_front e.acts 0))
 
 placed_act : (o : Option Activation) (e : LinkEnd) → IsPlaced e → IsPlaced (with_act o e)
 placed_act None e p = p
@@ -191,7 +137,7 @@ placed_activated e event p =
     (placed_down (act_answer e.role event).ended_link e p)
 
 placed_heard : (e : LinkEnd) (c : Control) → IsPlaced e → IsPlaced (heard e c)
-placed_heard e c p = go (is_faulty (taken e.shdlc c).session) refl
+placed_heard e c p = by_test (is_faulty (taken e.shdlc c).session) (λ q. rw q down) (λ q. rw q fine)
   where
     b : Bool
     b = is_some (take_answer e.shdlc c).ended
@@ -202,48 +148,16 @@ placed_heard e c p = go (is_faulty (taken e.shdlc c).session) refl
     down : IsPlaced (put_down true e)
     down = placed_down true e p
 
-    go : (f : Bool) → is_faulty (taken e.shdlc c).session ≡ f → IsPlaced (heard e c)
-    go true q = rw q down
-    go false q = rw q fine
-
 placed_took : (e : LinkEnd) (c : Control) → IsPlaced e → IsPlaced (took e c)
 placed_took e (Act act again) p = placed_activated e (ActTake act again) p
 placed_took e Clt p = p
-placed_took e (I ns nr info) p = by (is_open e.role) refl
-  where
-    by : (b : Bool) → is_open e.role ≡ b → IsPlaced (took e (I ns nr info))
-    by true o = rw o (placed_heard e (I ns nr info) p)
-    by false o = rw o p
-placed_took e (S kind nr) p = by (is_open e.role) refl
-  where
-    by : (b : Bool) → is_open e.role ≡ b → IsPlaced (took e (S kind nr))
-    by true o = rw o (placed_heard e (S kind nr) p)
-    by false o = rw o p
-placed_took e (Rset w caps) p = by (is_open e.role) refl
-  where
-    by : (b : Bool) → is_open e.role ≡ b → IsPlaced (took e (Rset w caps))
-    by true o = rw o (placed_heard e (Rset w caps) p)
-    by false o = rw o p
-placed_took e Ua p = by (is_open e.role) refl
-  where
-    by : (b : Bool) → is_open e.role ≡ b → IsPlaced (took e Ua)
-    by true o = rw o (placed_heard e Ua p)
-    by false o = rw o p
+placed_took e frame p = by_test {P = IsPlaced (took e frame)} (is_open e.role) (λ o. rw o (placed_heard e frame p)) (λ o. rw o p)
 
 placed_turn : (e : LinkEnd) (t : Turn) → IsPlaced e → IsPlaced (turn e t)
-placed_turn e (Give m) p = go (give_refusal e m) refl
-  where
-    go : (o : Option Refused) → give_refusal e m ≡ o → IsPlaced (turn e (Give m))
-    go None q = rw q p
-    go (Some why) q = rw q p
+placed_turn e (Give m) p = by_option {P = IsPlaced (turn e (Give m))} (give_refusal e m) (λ q. rw q p) (λ why q. rw q p)
 placed_turn e (Hold held) p = placed_high 0 e.acts (length e.shdlc.due) (length (with_ready e.shdlc (not held)).due) (ready_due e.shdlc (not held)) p
-placed_turn e FetchMessage p = p
-placed_turn e Release p = p
-placed_turn e SetAside p = go (aside_refusal e) refl
-  where
-    go : (o : Option Refused) → aside_refusal e ≡ o → IsPlaced (turn e SetAside)
-    go None q = rw q p
-    go (Some why) q = rw q p
+placed_turn e SetAside p = by_option {P = IsPlaced (turn e SetAside)} (aside_refusal e) (λ q. rw q p) (λ why q. rw q p)
+placed_turn e _ p = p
 
 -- the frame fetched is of activation, or an SHDLC frame fewer stands before those
 placed_fetch : (e : LinkEnd) → IsPlaced e → IsPlaced (frame_fetched e)
@@ -277,22 +191,16 @@ placed_input : (e : LinkEnd) (i : LinkInput) → IsPlaced e → IsPlaced (after_
 placed_input e (Take c) p = placed_took e c p
 placed_input e TakeUnknown p = p
 placed_input e (TakeBroken fault) p = p
-placed_input e Tick p = by (is_open e.role) refl
-  where
-    by : (b : Bool) → is_open e.role ≡ b → IsPlaced (had_tick e)
-    by true o = rw o (placed_moved e (is_some (tick_answer e.shdlc).ended) (ticked e.shdlc) (λ q. ticked_due e.shdlc q) p)
-    by false o = rw o (placed_activated e ActTick p)
-placed_input e (Reset window) p = by (reset_refusal e) refl
+placed_input e Tick p =
+    by_test {P = IsPlaced (had_tick e)} (is_open e.role)
+    (λ o. rw o (placed_moved e (is_some (tick_answer e.shdlc).ended) (ticked e.shdlc) (λ q. ticked_due e.shdlc q) p)) (λ o. rw o (placed_activated e ActTick p))
+placed_input e (Reset window) p = by_option {P = IsPlaced (after_input e (Reset window))} (reset_refusal e) (λ q. rw q asks) (λ why q. rw q p)
   where
     w : ℕ
     w = window_of e window
 
     asks : IsPlaced (reset_by e w)
     asks = placed_moved e (is_some (if_up e.shdlc Asked)) (reset_with e.shdlc w) (λ q. reset_due e.shdlc w q) p
-
-    by : (o : Option Refused) → reset_refusal e ≡ o → IsPlaced (after_input e (Reset window))
-    by None q = rw q asks
-    by (Some why) q = rw q p
 placed_input e (Start v) p = placed_activated (moved e true (stopped e.shdlc)) (ActStart v) (placed_front e.acts 0)
 placed_input e Stop p = placed_activated (moved e true (stopped e.shdlc)) ActStop (placed_front e.acts 0)
 placed_input e (FromNode t) p = placed_turn e t p
@@ -341,17 +249,15 @@ fetched_due s m i = go s.due (fragment_due s.session) refl refl
     go (d ∷ ds) o p q = rw p (let l = ap (λ (xs : List Due). length xs) p in omega (arith, l, i))
 
 one_by_one : (k m : ℕ) (e : LinkEnd) → k ≡ m + length e.acts → length e.shdlc.due ≤ m → IsPlaced e → OneByOne k m e
-one_by_one zero m e q i p = go e.acts refl
-  where
-    go : (acts : List ActDue) → e.acts ≡ acts → OneByOne zero m e
-    go [] w =
-        let l = ap (λ (xs : List ActDue). length xs) w in
-        let none : m ≡ 0 = omega (arith, q, l) in
-        record {
-          frames = sym (ap (λ z. among 0 z (frames_of m e.shdlc)) w ∙ ap (λ z. frames_of z e.shdlc) none);
-          rest = ap (λ z. record e { acts = z }) w ∙ ap (λ z. record e { shdlc = after_frames z e.shdlc; acts = [] }) (sym none);
-        }
-    go (a ∷ acts) w = absurd (let l = ap (λ (xs : List ActDue). length xs) w in omega (arith, q, l))
+one_by_one zero m e q i p =
+    by_list {P = OneByOne zero m e} e.acts (λ w.
+    let l = ap (λ (xs : List ActDue). length xs) w in
+    let none : m ≡ 0 = omega (arith, q, l) in
+    record {
+      frames = sym (ap (λ z. among 0 z (frames_of m e.shdlc)) w ∙ ap (λ z. frames_of z e.shdlc) none);
+      rest = ap (λ z. record e { acts = z }) w ∙ ap (λ z. record e { shdlc = after_frames z e.shdlc; acts = [] }) (sym none);
+    })
+    (λ a acts w. absurd (let l = ap (λ (xs : List ActDue). length xs) w in omega (arith, q, l)))
 one_by_one (suc k) m e q i p = go (one_by_one k) e.acts refl
   where
     Later : Type 0
@@ -450,7 +356,7 @@ one_by_one (suc k) m e q i p = go (one_by_one k) e.acts refl
 
     go : Later → (acts : List ActDue) → e.acts ≡ acts → OneByOne (suc k) m e
     go later [] w = none_left later w
-    go later (a ∷ acts) w = by (a.behind == 0) refl
+    go later (a ∷ acts) w = by_test (a.behind == 0) (λ z. act_first later a acts w z (eqb-true a.behind 0 z)) (λ z. due s.due refl z (positive a.behind z))
       where
         here : Placed 0 (a ∷ acts) (length s.due)
         here = let P : List ActDue → Type 0 = λ y. Placed 0 y (length s.due) in subst P w p
@@ -462,10 +368,6 @@ one_by_one (suc k) m e q i p = go (one_by_one k) e.acts refl
             least : (n : ℕ) → m ≡ n → OneByOne (suc k) m e
             least zero x = absurd (let l = ap (λ (xs : List Due). length xs) r in omega (arith, l, i, x))
             least (suc m') x = shdlc_first later a acts w z some d ds r m' x
-
-        by : (b : Bool) → (a.behind == 0) ≡ b → OneByOne (suc k) m e
-        by true z = act_first later a acts w z (eqb-true a.behind 0 z)
-        by false z = due s.due refl z (positive a.behind z)
 
 -- frames fetched one by one are all that are due
 pub fetched_all : (role : Role) (is : List LinkInput) → length (end_after role is).shdlc.due ≤ most_frames

@@ -1,16 +1,17 @@
 -- What an input does to the session of an end is what its report tells.
+use Rattle.std.proofs.lemmas.Bool.{and_right}
 use Rattle.link_laws.proofs.Words.{Act, ActEvent, ActStart, ActStop, ActTake, ActTick, Activation, Asked, Bool, ByAct, Chain, Clt, Control, Down, EndState}
-use Rattle.link_laws.proofs.Words.{HasTick as Tick, I, LinkEnd, LinkInput, LinkState, List, Message, None, Option, Reset, Role, Rset, S, Session, Some, Start}
-use Rattle.link_laws.proofs.Words.{Stop, Take, Ua, Up, Waiting, [], act_answer, activated, after_input, ap, arith, began_by, common_steps, cond, drop, ended_by}
+use Rattle.link_laws.proofs.Words.{HasTick as Tick, LinkEnd, LinkInput, LinkState, List, Message, None, Option, Reset, Role, Session, Some, Start, Stop, Take}
+use Rattle.link_laws.proofs.Words.{Ua, Up, Waiting, [], act_answer, activated, after_input, ap, arith, began_by, common_steps, cond, drop, ended_by}
 use Rattle.link_laws.proofs.Words.{ended_by_act, false, filter-append, good_of, heard, if_up, in_front, is_faulty, is_good, is_open, is_some, is_waiting}
-use Rattle.link_laws.proofs.Words.{length, map, messages_got, moved, news, no_session, put_down, refl, report, reset_with, role_after, stopped, subst, sym}
-use Rattle.link_laws.proofs.Words.{take, take_answer, taken, tick_answer, ticked, took, true, true≢false, window_of, with_act, ℕ, ◌&&◌, ◌++◌, ◌+◌, ◌-◌, ◌∙◌}
-use Rattle.link_laws.proofs.Words.{◌≡◌}
+use Rattle.link_laws.proofs.Words.{length, map, messages_got, moved, news, no_session, put_down, refl, reset_with, role_after, stopped, subst, sym, take_answer}
+use Rattle.link_laws.proofs.Words.{taken, tick_answer, ticked, took, true, true≢false, window_of, with_act, ℕ, ◌++◌, ◌+◌, ◌-◌, ◌∙◌, ◌≡◌}
 use Rattle.link_laws.specs.machine.Machine.{got_by}
 use Rattle.link_laws.proofs.machine.Shifts.{Shift, IsNotUp, same_shift, taken_shift, ticked_shift, reset_shift}
 use Rattle.link_laws.proofs.machine.Shifts.Shift.{Stays, Ends, Renews, Begins, Rests}
 use Rattle.link_laws.proofs.machine.Sound.{SentAfter}
 use Rattle.link_laws.proofs.machine.Runs.{Sound}
+use Rattle.link_laws.proofs.Cases.{by_phase, by_test}
 
 -- an end e became f: its session ended or not, and one began or not, and these messages came
 pub record Becomes (e f : LinkEnd) (ended began : Bool) (ms : List Message) : Type 0 where
@@ -63,39 +64,33 @@ not_up e p q n u = n (sym q ∙ u)
 
 -- ## Activation
 
-with_act_shdlc : (o : Option Activation) (e : LinkEnd) → ((with_act o e).shdlc ≡ e.shdlc) × ((with_act o e).sent ≡ e.sent)
-with_act_shdlc None e = (refl, refl)
-with_act_shdlc (Some act) e = (refl, refl)
-
 becomes_act : (e f : LinkEnd) (o : Option Activation) (a : Bool) → Becomes e f a false [] → Becomes e (with_act o f) a false []
 becomes_act e f None a h = h
 becomes_act e f (Some act) false h = record { shift = h.shift; sent = h.sent; got = h.got }
 becomes_act e f (Some act) true h = record { shift = h.shift; sent = h.sent; got = h.got }
 
 put_down_so : (e : LinkEnd) (r : Role) → Sound e → Becomes e (record (put_down true e) { role = r }) (is_some (if_up e.shdlc ByAct)) false []
-put_down_so e r h = go e.shdlc.phase refl
-  where
-    go : (p : LinkState) → e.shdlc.phase ≡ p → Becomes e (record (put_down true e) { role = r }) (is_some (if_up e.shdlc ByAct)) false []
-    go Up p =
-        let f : LinkEnd = record (moved e true (stopped e.shdlc)) { role = r } in
-        let is : record (put_down true e) { role = r } ≡ f = rw p refl in
-        let b : is_some (if_up e.shdlc ByAct) ≡ true = rw p refl in
-        let P : LinkEnd → Type 0 = λ g. Becomes e g (is_some (if_up e.shdlc ByAct)) false [] in
-        subst P (sym is) (becomes_as b refl refl (ends_down e f p (not_up (stopped e.shdlc) Down refl (λ u. cc)) refl refl))
-    go Waiting p =
-        let f : LinkEnd = record (moved e true (stopped e.shdlc)) { role = r } in
-        let is : record (put_down true e) { role = r } ≡ f = rw p refl in
-        let b : is_some (if_up e.shdlc ByAct) ≡ false = rw p refl in
-        let P : LinkEnd → Type 0 = λ g. Becomes e g (is_some (if_up e.shdlc ByAct)) false [] in
-        subst P (sym is) (becomes_as b refl refl
-        (rests_down e f (not_up e.shdlc Waiting p (λ u. cc)) (not_up (stopped e.shdlc) Down refl (λ u. cc)) refl refl h))
-    go Down p =
-        let f : LinkEnd = record e { role = r; shdlc = record e.shdlc { due = [] }; acts = map in_front e.acts } in
-        let is : record (put_down true e) { role = r } ≡ f = rw p refl in
-        let b : is_some (if_up e.shdlc ByAct) ≡ false = rw p refl in
-        let down : IsNotUp e.shdlc = not_up e.shdlc Down p (λ u. cc) in
-        let P : LinkEnd → Type 0 = λ g. Becomes e g (is_some (if_up e.shdlc ByAct)) false [] in
-        subst P (sym is) (becomes_as b refl refl (rests_down e f down down (h.is.forgot down) (h.is.none down) h))
+put_down_so e r h =
+    by_phase e.shdlc.phase (λ p.
+    let f : LinkEnd = record (moved e true (stopped e.shdlc)) { role = r } in
+    let is : record (put_down true e) { role = r } ≡ f = rw p refl in
+    let b : is_some (if_up e.shdlc ByAct) ≡ true = rw p refl in
+    let P : LinkEnd → Type 0 = λ g. Becomes e g (is_some (if_up e.shdlc ByAct)) false [] in
+    subst P (sym is) (becomes_as b refl refl (ends_down e f p (not_up (stopped e.shdlc) Down refl (λ u. cc)) refl refl)))
+    (λ p.
+    let f : LinkEnd = record (moved e true (stopped e.shdlc)) { role = r } in
+    let is : record (put_down true e) { role = r } ≡ f = rw p refl in
+    let b : is_some (if_up e.shdlc ByAct) ≡ false = rw p refl in
+    let P : LinkEnd → Type 0 = λ g. Becomes e g (is_some (if_up e.shdlc ByAct)) false [] in
+    subst P (sym is) (becomes_as b refl refl
+    (rests_down e f (not_up e.shdlc Waiting p (λ u. cc)) (not_up (stopped e.shdlc) Down refl (λ u. cc)) refl refl h)))
+    (λ p.
+    let f : LinkEnd = record e { role = r; shdlc = record e.shdlc { due = [] }; acts = map in_front e.acts } in
+    let is : record (put_down true e) { role = r } ≡ f = rw p refl in
+    let b : is_some (if_up e.shdlc ByAct) ≡ false = rw p refl in
+    let down : IsNotUp e.shdlc = not_up e.shdlc Down p (λ u. cc) in
+    let P : LinkEnd → Type 0 = λ g. Becomes e g (is_some (if_up e.shdlc ByAct)) false [] in
+    subst P (sym is) (becomes_as b refl refl (rests_down e f down down (h.is.forgot down) (h.is.none down) h)))
 
 activated_so : (e : LinkEnd) (event : ActEvent) → Sound e → Becomes e (activated e event) (is_some (ended_by_act e event)) false []
 activated_so e event h =
@@ -131,18 +126,16 @@ restarted_so e event h =
     still = not_up (stopped e.shdlc) Down refl (λ u. cc)
 
     from : (f : LinkEnd) → f.shdlc ≡ stopped e.shdlc → f.sent ≡ [] → Becomes e f (is_some (if_up e.shdlc ByAct)) false []
-    from f s sent = go e.shdlc.phase refl
+    from f s sent =
+        by_phase e.shdlc.phase (λ p. becomes_as {c = true} (rw p refl) refl refl (ends_down e f p down sent none))
+        (λ p. becomes_as {c = false} (rw p refl) refl refl (rests_down e f (not_up e.shdlc Waiting p (λ u. cc)) down sent none h))
+        (λ p. becomes_as {c = false} (rw p refl) refl refl (rests_down e f (not_up e.shdlc Down p (λ u. cc)) down sent none h))
       where
         down : IsNotUp f.shdlc
         down = let P : EndState → Type 0 = λ z. IsNotUp z in subst P (sym s) still
 
         none : f.shdlc.session ≡ no_session
         none = ap (λ (z : EndState). z.session) s
-
-        go : (p : LinkState) → e.shdlc.phase ≡ p → Becomes e f (is_some (if_up e.shdlc ByAct)) false []
-        go Up p = becomes_as {c = true} (rw p refl) refl refl (ends_down e f p down sent none)
-        go Waiting p = becomes_as {c = false} (rw p refl) refl refl (rests_down e f (not_up e.shdlc Waiting p (λ u. cc)) down sent none h)
-        go Down p = becomes_as {c = false} (rw p refl) refl refl (rests_down e f (not_up e.shdlc Down p (λ u. cc)) down sent none h)
 
     by : (b : Bool) → Becomes e (at b) (is_some (if_up e.shdlc ByAct)) false []
     by true = from (at true) refl refl
@@ -199,19 +192,16 @@ heard_so e c h = by (is_faulty (taken e.shdlc c).session) refl
         }
 
     bad : is_faulty s.session ≡ true → Becomes e (put_down true e) true false []
-    bad q = go e.shdlc.phase refl
+    bad q =
+        by_phase e.shdlc.phase (λ p.
+        let k : Becomes e (moved e true (stopped e.shdlc)) true false [] =
+        ends_down e (moved e true (stopped e.shdlc)) p (not_up (stopped e.shdlc) Down refl (λ u. cc)) refl refl in
+        let is : put_down true e ≡ moved e true (stopped e.shdlc) = rw p refl in
+        let P : LinkEnd → Type 0 = λ z. Becomes e z true false [] in subst P (sym is) k)
+        (λ p. fine Waiting p (λ u. cc)) (λ p. fine Down p (λ u. cc))
       where
         fine : (p : LinkState) → e.shdlc.phase ≡ p → (p ≡ Up → ⊥) → Becomes e (put_down true e) true false []
         fine p r n = absurd (true≢false (sym q ∙ not_faulty e.shdlc s b (take_answer e.shdlc c).began (not_up e.shdlc p r n) h.is.none (taken_shift e.shdlc c)))
-
-        go : (p : LinkState) → e.shdlc.phase ≡ p → Becomes e (put_down true e) true false []
-        go Up p =
-            let k : Becomes e (moved e true (stopped e.shdlc)) true false [] =
-            ends_down e (moved e true (stopped e.shdlc)) p (not_up (stopped e.shdlc) Down refl (λ u. cc)) refl refl in
-            let is : put_down true e ≡ moved e true (stopped e.shdlc) = rw p refl in
-            let P : LinkEnd → Type 0 = λ z. Becomes e z true false [] in subst P (sym is) k
-        go Waiting p = fine Waiting p (λ u. cc)
-        go Down p = fine Down p (λ u. cc)
 
     by : (x : Bool) → is_faulty s.session ≡ x
         → Becomes e (heard e c) (is_some (cond (is_faulty s.session) (Some Chain) (take_answer e.shdlc c).ended))
@@ -228,69 +218,32 @@ faulty_began e f ended began q (Begins p r d n) = let a : is_faulty f.session �
 faulty_began e f ended began q (Rests p r d still s) = r
 
 began_so : (e : EndState) (c : Control) → (take_answer e c).began ≡ cond (is_faulty (taken e c).session) false (take_answer e c).began
-began_so e c = go (is_faulty (taken e c).session) refl
-  where
-    go : (b : Bool) → is_faulty (taken e c).session ≡ b → (take_answer e c).began ≡ cond (is_faulty (taken e c).session) false (take_answer e c).began
-    go true q = rw q (faulty_began e (taken e c) (is_some (take_answer e c).ended) (take_answer e c).began q (taken_shift e c))
-    go false q = rw q refl
+began_so e c =
+    by_test (is_faulty (taken e c).session)
+    (λ q. rw q (faulty_began e (taken e c) (is_some (take_answer e c).ended) (take_answer e c).began q (taken_shift e c))) (λ q. rw q refl)
 
-no_began : (e : EndState) (act : Activation) (again : Bool) → (take_answer e (Act act again)).began ≡ false
-no_began e act again = go e.phase refl
-  where
-    go : (p : LinkState) → e.phase ≡ p → (take_answer e (Act act again)).began ≡ false
-    go Up p = rw p refl
-    go Waiting p = rw p refl
-    go Down p = rw p refl
+pub no_began : (e : EndState) (act : Activation) (again : Bool) → (take_answer e (Act act again)).began ≡ false
+no_began e act again = by_phase e.phase (λ p. rw p refl) (λ p. rw p refl) (λ p. rw p refl)
 
 clt_began : (e : EndState) → (take_answer e Clt).began ≡ false
-clt_began e = go e.phase refl
-  where
-    go : (p : LinkState) → e.phase ≡ p → (take_answer e Clt).began ≡ false
-    go Up p = rw p refl
-    go Waiting p = rw p refl
-    go Down p = rw p refl
-
-and_false : (a b : Bool) → b ≡ false → (a && b) ≡ false
-and_false true b q = q
-and_false false b q = refl
+clt_began e = by_phase e.phase (λ p. rw p refl) (λ p. rw p refl) (λ p. rw p refl)
 
 -- what a frame does is told
 pub take_so : (e : LinkEnd) (c : Control) → Sound e → Reports e (Take c)
 take_so e (Act act again) h =
-    becomes_as refl (and_false (is_open e.role) (take_answer e.shdlc (Act act again)).began (no_began e.shdlc act again)) refl
+    becomes_as refl (and_right (is_open e.role) (take_answer e.shdlc (Act act again)).began (no_began e.shdlc act again)) refl
     (activated_so e (ActTake act again) h)
 take_so e Clt h =
-    becomes_as refl (and_false (is_open e.role) (take_answer e.shdlc Clt).began (clt_began e.shdlc)) refl
+    becomes_as refl (and_right (is_open e.role) (take_answer e.shdlc Clt).began (clt_began e.shdlc)) refl
     (stays_so e (took e Clt) refl refl)
-take_so e (I ns nr info) h = by (is_open e.role) refl
-  where
-    by : (b : Bool) → is_open e.role ≡ b → Reports e (Take (I ns nr info))
-    by true o = let k = heard_so e (I ns nr info) h in rw o (becomes_as refl (began_so e.shdlc (I ns nr info)) refl k)
-    by false o = rw o (stays_so e e refl refl)
-take_so e (S kind nr) h = by (is_open e.role) refl
-  where
-    by : (b : Bool) → is_open e.role ≡ b → Reports e (Take (S kind nr))
-    by true o = let k = heard_so e (S kind nr) h in rw o (becomes_as refl (began_so e.shdlc (S kind nr)) refl k)
-    by false o = rw o (stays_so e e refl refl)
-take_so e (Rset w caps) h = by (is_open e.role) refl
-  where
-    by : (b : Bool) → is_open e.role ≡ b → Reports e (Take (Rset w caps))
-    by true o = let k = heard_so e (Rset w caps) h in rw o (becomes_as refl (began_so e.shdlc (Rset w caps)) refl k)
-    by false o = rw o (stays_so e e refl refl)
-take_so e Ua h = by (is_open e.role) refl
-  where
-    by : (b : Bool) → is_open e.role ≡ b → Reports e (Take Ua)
-    by true o = let k = heard_so e Ua h in rw o (becomes_as refl (began_so e.shdlc Ua) refl k)
-    by false o = rw o (stays_so e e refl refl)
+take_so e Ua h =
+    by_test {P = Reports e (Take Ua)} (is_open e.role) (λ o. let k = heard_so e Ua h in rw o (becomes_as refl (began_so e.shdlc Ua) refl k))
+    (λ o. rw o (stays_so e e refl refl))
+take_so e frame h =
+    by_test {P = Reports e (Take frame)} (is_open e.role)
+    (λ o. let k = heard_so e frame h in rw o (becomes_as refl (began_so e.shdlc frame) refl k)) (λ o. rw o (stays_so e e refl refl))
 
 -- ## Ticks and resets
-
-acc_same : (e f : EndState) → Shift e f false false → IsNotUp e → (IsNotUp e → e.session ≡ no_session) → f.session.acc ≡ e.session.acc
-acc_same e f (Stays p q g) d n = absurd (d g.was)
-acc_same e f (Ends p q up still s) d n = absurd (d up)
-acc_same e f (Renews p q up k) d n = absurd (d up)
-acc_same e f (Begins p q down k) d n = absurd (true≢false (sym q))
-acc_same e f (Rests p q down still s) d n = ap (λ (z : Session). z.acc) (s (n d) ∙ sym (n d))
 
 -- an end that is Up accepts nothing at a tick
 ticked_acc : (e : EndState) → is_some (tick_answer e).ended ≡ false → (ticked e).session.acc ≡ e.session.acc
@@ -315,11 +268,9 @@ moved_so e b s shift acc =
     none true (Rests p q down still z) acc = absurd (true≢false p)
 
 pub tick_so : (e : LinkEnd) → Sound e → Reports e Tick
-tick_so e h = by (is_open e.role) refl
-  where
-    by : (b : Bool) → is_open e.role ≡ b → Reports e Tick
-    by true o = rw o (moved_so e (is_some (tick_answer e.shdlc).ended) (ticked e.shdlc) (ticked_shift e.shdlc) (ticked_acc e.shdlc))
-    by false o = rw o (activated_so e ActTick h)
+tick_so e h =
+    by_test (is_open e.role) (λ o. rw o (moved_so e (is_some (tick_answer e.shdlc).ended) (ticked e.shdlc) (ticked_shift e.shdlc) (ticked_acc e.shdlc)))
+    (λ o. rw o (activated_so e ActTick h))
 
 pub reset_so : (e : LinkEnd) (window : Option ℕ) → Sound e → Reports e (Reset window)
 reset_so e window h = by (is_open e.role) (is_waiting e.shdlc) refl refl

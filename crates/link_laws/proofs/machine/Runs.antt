@@ -1,19 +1,19 @@
 -- Each input keeps what is true of an end.
-use Rattle.link_laws.proofs.Words.{Act, ActDue, ActEvent, ActReady, ActStart, ActStop, ActTake, ActTick, Activation, AreSendableInputs, Asked, Awaiting, Bare}
-use Rattle.link_laws.proofs.Words.{Bool, ByAct, Clf, Clt, Control, Down, Due, EndState, Fetch, FetchMessage, Fragment, FromNode, Give, HasTick as Tick, Hold, I}
-use Rattle.link_laws.proofs.Words.{Inactive, IsSendable, LinkEnd, LinkInput, LinkState, List, Message, None, Option, Phase, PowerMode, Refused, Release, Reset}
-use Rattle.link_laws.proofs.Words.{Role, Rr_due, Rset, S, Session, SetAside, Some, Start, Stop, SyncId, Take, TakeBroken, TakeUnknown, Turn, Ua, Uicc, Up}
-use Rattle.link_laws.proofs.Words.{Waiting, [], act_answer, activated, after_input, after_inputs, ap, append-nil, arith, aside_refusal, begun, common_steps}
-use Rattle.link_laws.proofs.Words.{cond, deactivated, drop, false, fetched, flat_map-append, fragment_due, fragments_of, frame_due, frame_fetched, give_refusal}
-use Rattle.link_laws.proofs.Words.{given, had_tick, heard, if_up, in_front, in_use, inl, inr, is_faulty, is_open, is_shdlc, is_some, is_waiting, length}
-use Rattle.link_laws.proofs.Words.{length-append, ltb-false, ltb-true, map, max, moved, nat_le, nat_lt, nearer, need, need_of_all, new_end, new_link_end, news}
-use Rattle.link_laws.proofs.Words.{no_session, not, packet_bytes, packet_count, packets_of, put_down, refl, reset_by, reset_refusal, reset_with, role_after}
-use Rattle.link_laws.proofs.Words.{sent_next, slice_get, slice_get_within, spare, started, stopped, subst, suc, sym, take, take_answer, taken, tick_answer}
-use Rattle.link_laws.proofs.Words.{ticked, took, true, true≢false, turn, whole_among, window_of, with_act, with_ready, ℕ, ◌++◌, ◌+◌, ◌-◌, ◌<◌, ◌==◌, ◌∙◌, ◌∷◌}
-use Rattle.link_laws.proofs.Words.{◌≡◌, ◌≤◌, ◌⊎◌}
+use Rattle.link_laws.proofs.Words.{Act, ActDue, ActEvent, ActReady, ActStart, ActStop, ActTake, ActTick, Activation, AreSendableInputs, Asked, Bare, Bool}
+use Rattle.link_laws.proofs.Words.{ByAct, Clf, Clt, Control, Down, Due, EndState, Fetch, FetchMessage, Fragment, FromNode, Give, HasTick as Tick, Hold}
+use Rattle.link_laws.proofs.Words.{IsSendable, LinkEnd, LinkInput, LinkState, List, Message, None, Option, Phase, PowerMode, Release, Reset, Role, Rr_due}
+use Rattle.link_laws.proofs.Words.{Session, SetAside, Some, Start, Stop, SyncId, Take, TakeBroken, TakeUnknown, Turn, Uicc, Up, Waiting, [], act_answer}
+use Rattle.link_laws.proofs.Words.{activated, after_input, after_inputs, ap, append-nil, arith, common_steps, drop, false, fetched, flat_map-append}
+use Rattle.link_laws.proofs.Words.{fragment_due, fragments_of, frame_fetched, give_refusal, given, had_tick, heard, if_up, in_front, in_use, inl, inr}
+use Rattle.link_laws.proofs.Words.{is_faulty, is_open, is_some, is_waiting, length, length-append, ltb-false, ltb-true, map, moved, nat_le, nat_lt, nearer}
+use Rattle.link_laws.proofs.Words.{need, need_of_all, new_link_end, news, no_session, not, packet_bytes, packet_count, packets_of, put_down, refl, reset_with}
+use Rattle.link_laws.proofs.Words.{role_after, sent_next, slice_get, slice_get_within, spare, stopped, subst, sym, take_answer, taken, tick_answer, ticked}
+use Rattle.link_laws.proofs.Words.{took, true, true≢false, turn, whole_among, window_of, with_act, with_ready, ℕ, ◌++◌, ◌+◌, ◌-◌, ◌<◌, ◌==◌, ◌∙◌, ◌∷◌, ◌≡◌, ◌≤◌}
+use Rattle.link_laws.proofs.Words.{◌⊎◌}
 use Rattle.swp_act.specs.declared.Phase.TheVariants.{Active}
 use Rattle.link_laws.proofs.machine.Shifts.{Shift, IsNotUp, same_shift, taken_shift, ticked_shift, reset_shift, stopped_shift}
-use Rattle.link_laws.proofs.machine.Sound.{Data, SentAfter, shifted, need_more, need_less, whole_given, whole_few}
+use Rattle.link_laws.proofs.machine.Sound.{Data, SentAfter, shifted, need_more, whole_given, whole_few}
+use Rattle.link_laws.proofs.Cases.{by_list, by_option, by_phase, by_test}
 
 -- an end that isn't open is Down and has nothing of SHDLC to send
 pub record IsClosed (s : EndState) : Type 0 where
@@ -83,12 +83,9 @@ data_down e h = go e.shdlc.phase refl
         rw p (rw p at d)
 
 closed_down : (e : LinkEnd) → IsClosed (put_down true e).shdlc
-closed_down e = go e.shdlc.phase refl
-  where
-    go : (p : LinkState) → e.shdlc.phase ≡ p → IsClosed (put_down true e).shdlc
-    go Up p = rw p (record { phase = refl; due = refl })
-    go Waiting p = rw p (record { phase = refl; due = refl })
-    go Down p = let c : IsClosed (record e.shdlc { due = [] }) = record { phase = p; due = refl } in rw p (rw p at c)
+closed_down e =
+    by_phase e.shdlc.phase (λ p. rw p (record { phase = refl; due = refl })) (λ p. rw p (record { phase = refl; due = refl }))
+    (λ p. let c : IsClosed (record e.shdlc { due = [] }) = record { phase = p; due = refl } in rw p (rw p at c))
 
 -- an end that was closed stays so, or its link goes down
 pub role_closes : (r : Role) (event : ActEvent) → is_open (role_after r event) ≡ false → (is_open r ≡ false) ⊎ ((act_answer r event).ended_link ≡ true)
@@ -100,21 +97,18 @@ role_closes (Clf s) (ActTake (PowerMode code) false) q = inl q
 role_closes (Clf s) (ActTake (SyncId id) false) q = go s.phase refl
   where
     go : (p : Phase) → s.phase ≡ p → (is_open (Clf s) ≡ false) ⊎ ((act_answer (Clf s) (ActTake (SyncId id) false)).ended_link ≡ true)
-    go Inactive p = inl (rw p refl)
-    go (Awaiting tries ticks) p = inl (rw p refl)
     go Active p = inr (rw p refl)
+    go _ p = inl (rw p refl)
 role_closes (Clf s) (ActTake ActReady false) q = go s.phase refl
   where
     go : (p : Phase) → s.phase ≡ p → (is_open (Clf s) ≡ false) ⊎ ((act_answer (Clf s) (ActTake ActReady false)).ended_link ≡ true)
-    go Inactive p = inl (rw p refl)
-    go (Awaiting tries ticks) p = inl (rw p refl)
     go Active p = absurd (let z = rw p at q in cc)
+    go _ p = inl (rw p refl)
 role_closes (Clf s) ActTick q = go s.phase refl
   where
     go : (p : Phase) → s.phase ≡ p → (is_open (Clf s) ≡ false) ⊎ ((act_answer (Clf s) ActTick).ended_link ≡ true)
-    go Inactive p = inl (rw p refl)
-    go (Awaiting tries ticks) p = inl (rw p refl)
     go Active p = absurd (let z = rw p at q in cc)
+    go _ p = inl (rw p refl)
 role_closes (Uicc s) (ActStart v) q = inr refl
 role_closes (Uicc s) ActStop q = inr refl
 role_closes (Uicc s) (ActTake act true) q = inl q
@@ -124,16 +118,14 @@ role_closes (Uicc s) (ActTake (PowerMode code) false) q = go s.phase (nat_le cod
   where
     go : (p : Phase) (b : Bool) → s.phase ≡ p → nat_le code 1 ≡ b
         → (is_open (Uicc s) ≡ false) ⊎ ((act_answer (Uicc s) (ActTake (PowerMode code) false)).ended_link ≡ true)
-    go Inactive b p c = inl (rw p refl)
-    go (Awaiting tries ticks) b p c = inl (rw p refl)
     go Active true p c = absurd (let z = rw (c, p) at q in cc)
     go Active false p c = inl (let z = rw c at q in z)
+    go _ b p c = inl (rw p refl)
 role_closes (Uicc s) ActTick q = go s.phase refl
   where
     go : (p : Phase) → s.phase ≡ p → (is_open (Uicc s) ≡ false) ⊎ ((act_answer (Uicc s) ActTick).ended_link ≡ true)
-    go Inactive p = inl (rw p refl)
-    go (Awaiting tries ticks) p = inl (rw p refl)
     go Active p = absurd (let z = rw p at q in cc)
+    go _ p = inl (rw p refl)
 
 sound_act : (o : Option Activation) (e : LinkEnd) → Sound e → Sound (with_act o e)
 sound_act None e h = h
@@ -173,15 +165,13 @@ sound_stopped e h = record { is = go e.shdlc.phase refl; closed = λ _. record {
 
     go : (p : LinkState) → e.shdlc.phase ≡ p → Data (moved e true (stopped e.shdlc))
     go Up p = data_moved e true false (stopped e.shdlc) (at true (rw p refl)) h.is
-    go Waiting p =
-        shifted e (moved e true (stopped e.shdlc)) false false (at false (rw p refl)) (sym (h.is.forgot (λ u. let z = sym p ∙ u in cc))) refl h.is
-    go Down p =
+    go _ p =
         shifted e (moved e true (stopped e.shdlc)) false false (at false (rw p refl)) (sym (h.is.forgot (λ u. let z = sym p ∙ u in cc))) refl h.is
 
 -- ## Frames and ticks
 
 sound_heard : (e : LinkEnd) (c : Control) → is_open e.role ≡ true → Sound e → Sound (heard e c)
-sound_heard e c o h = go (is_faulty (taken e.shdlc c).session) refl
+sound_heard e c o h = by_test (is_faulty (taken e.shdlc c).session) (λ q. rw q down) (λ q. rw q fine)
   where
     b : Bool
     b = is_some (take_answer e.shdlc c).ended
@@ -192,11 +182,6 @@ sound_heard e c o h = go (is_faulty (taken e.shdlc c).session) refl
     good : LinkEnd
     good = record (moved e b s) { got = e.got ++ news e.shdlc.session s }
 
-    put_down_role : (p : LinkState) → e.shdlc.phase ≡ p → (put_down true e).role ≡ e.role
-    put_down_role Up p = rw p refl
-    put_down_role Waiting p = rw p refl
-    put_down_role Down p = rw p refl
-
     down : Sound (put_down true e)
     down = record { is = data_down e h.is; closed = λ _. closed_down e }
 
@@ -205,40 +190,15 @@ sound_heard e c o h = go (is_faulty (taken e.shdlc c).session) refl
         let m = sound_moved e b (take_answer e.shdlc c).began s (taken_shift e.shdlc c) o h in
         record { is = data_as (moved e b s) good refl refl refl m.is; closed = m.closed }
 
-    go : (f : Bool) → is_faulty (taken e.shdlc c).session ≡ f → Sound (heard e c)
-    go true q = rw q down
-    go false q = rw q fine
-
 sound_took : (e : LinkEnd) (c : Control) → Sound e → Sound (took e c)
 sound_took e (Act act again) h = sound_activated e (ActTake act again) h
 sound_took e Clt h = record { is = data_as e (took e Clt) refl refl refl h.is; closed = h.closed }
-sound_took e (I ns nr info) h = by (is_open e.role) refl
-  where
-    by : (b : Bool) → is_open e.role ≡ b → Sound (took e (I ns nr info))
-    by true o = rw o (sound_heard e (I ns nr info) o h)
-    by false o = rw o h
-sound_took e (S kind nr) h = by (is_open e.role) refl
-  where
-    by : (b : Bool) → is_open e.role ≡ b → Sound (took e (S kind nr))
-    by true o = rw o (sound_heard e (S kind nr) o h)
-    by false o = rw o h
-sound_took e (Rset w caps) h = by (is_open e.role) refl
-  where
-    by : (b : Bool) → is_open e.role ≡ b → Sound (took e (Rset w caps))
-    by true o = rw o (sound_heard e (Rset w caps) o h)
-    by false o = rw o h
-sound_took e Ua h = by (is_open e.role) refl
-  where
-    by : (b : Bool) → is_open e.role ≡ b → Sound (took e Ua)
-    by true o = rw o (sound_heard e Ua o h)
-    by false o = rw o h
+sound_took e frame h = by_test {P = Sound (took e frame)} (is_open e.role) (λ o. rw o (sound_heard e frame o h)) (λ o. rw o h)
 
 sound_tick : (e : LinkEnd) → Sound e → Sound (had_tick e)
-sound_tick e h = by (is_open e.role) refl
-  where
-    by : (b : Bool) → is_open e.role ≡ b → Sound (had_tick e)
-    by true o = rw o (sound_moved e (is_some (tick_answer e.shdlc).ended) false (ticked e.shdlc) (ticked_shift e.shdlc) o h)
-    by false o = rw o (sound_activated e ActTick h)
+sound_tick e h =
+    by_test (is_open e.role) (λ o. rw o (sound_moved e (is_some (tick_answer e.shdlc).ended) false (ticked e.shdlc) (ticked_shift e.shdlc) o h))
+    (λ o. rw o (sound_activated e ActTick h))
 
 sound_reset : (e : LinkEnd) (window : Option ℕ) → Sound e → Sound (after_input e (Reset window))
 sound_reset e window h = by (is_open e.role) (is_waiting e.shdlc) refl refl
@@ -297,8 +257,7 @@ give_tells e m q = go e.shdlc.phase (nat_lt 4096 (length m.1)) (nat_lt (spare e)
     go Up false false p b c = record { up = p; room = ltb-false (spare e) (need m.1) c }
     go Up false true p b c = absurd (let z = rw (p, b, c) at q in cc)
     go Up true c p b r = absurd (let z = rw (p, b) at q in cc)
-    go Waiting b c p r t = absurd (let z = rw p at q in cc)
-    go Down b c p r t = absurd (let z = rw p at q in cc)
+    go _ b c p r t = absurd (let z = rw p at q in cc)
 
 data_given : (e : LinkEnd) (m : Message) → IsSendable m → IsGiven e m → Data e → Data (given e m)
 data_given e m s g h =
@@ -322,37 +281,33 @@ data_given e m s g h =
     }
 
 pub sound_turn : (e : LinkEnd) (t : Turn) → AreSendableInputs (FromNode t ∷ []) → Sound e → Sound (turn e t)
-sound_turn e (Give m) a h = by (give_refusal e m) refl
-  where
-    by : (o : Option Refused) → give_refusal e m ≡ o → Sound (turn e (Give m))
-    by (Some why) q = rw q h
-    by None q =
-        let s : Sound (given e m) = record {
-          is = data_given e m a.0 (give_tells e m q) h.is;
-          closed = λ c. let k = h.closed c in record { phase = k.phase; due = k.due };
-        } in rw q s
+sound_turn e (Give m) a h =
+    by_option {P = Sound (turn e (Give m))} (give_refusal e m) (λ q.
+    let s : Sound (given e m) = record {
+      is = data_given e m a.0 (give_tells e m q) h.is;
+      closed = λ c. let k = h.closed c in record { phase = k.phase; due = k.due };
+    } in rw q s)
+    (λ why q. rw q h)
 sound_turn e (Hold held) a h = ready_data e (not held) h
 sound_turn e FetchMessage a h = record { is = data_as e (turn e FetchMessage) refl refl refl h.is; closed = h.closed }
-sound_turn e SetAside a h = by (nat_lt 0 (spare e)) refl
-  where
-    by : (b : Bool) → nat_lt 0 (spare e) ≡ b → Sound (turn e SetAside)
-    by true q =
-        let i = ltb-true 0 (spare e) q in
-        let f : LinkEnd = record e { aside = e.aside + 1 } in
-        let s : Sound f =
-        record {
-          is = record {
-            out = h.is.out;
-            none = h.is.none;
-            forgot = h.is.forgot;
-            acked = h.is.acked;
-            reached = h.is.reached;
-            room = let r = h.is.room in omega (arith, r, i);
-          };
-          closed = h.closed;
-        } in
-        rw q s
-    by false q = rw q h
+sound_turn e SetAside a h =
+    by_test {P = Sound (turn e SetAside)} (nat_lt 0 (spare e)) (λ q.
+    let i = ltb-true 0 (spare e) q in
+    let f : LinkEnd = record e { aside = e.aside + 1 } in
+    let s : Sound f =
+    record {
+      is = record {
+        out = h.is.out;
+        none = h.is.none;
+        forgot = h.is.forgot;
+        acked = h.is.acked;
+        reached = h.is.reached;
+        room = let r = h.is.room in omega (arith, r, i);
+      };
+      closed = h.closed;
+    } in
+    rw q s)
+    (λ q. rw q h)
 sound_turn e Release a h =
     record {
       is = record {
@@ -414,17 +369,12 @@ fetched_data e acts h = go e.shdlc.due (fragment_due e.shdlc.session) refl refl
         rw p k
 
 sound_fetch : (e : LinkEnd) → Sound e → Sound (frame_fetched e)
-sound_fetch e h = go e.acts refl
-  where
-    go : (acts : List ActDue) → e.acts ≡ acts → Sound (frame_fetched e)
-    go [] p = let k = fetched_data e [] h in rw p k
-    go (a ∷ acts) p = by (a.behind == 0) refl
-      where
-        by : (b : Bool) → (a.behind == 0) ≡ b → Sound (frame_fetched e)
-        by true q =
-            let k : Sound (record e { acts = acts }) = record { is = data_as e (record e { acts = acts }) refl refl refl h.is; closed = h.closed } in
-            rw (p, q) k
-        by false q = let k = fetched_data e (map nearer (a ∷ acts)) h in rw (p, q) k
+sound_fetch e h =
+    by_list e.acts (λ p. let k = fetched_data e [] h in rw p k) (λ a acts p.
+    by_test (a.behind == 0) (λ q.
+    let k : Sound (record e { acts = acts }) = record { is = data_as e (record e { acts = acts }) refl refl refl h.is; closed = h.closed } in
+    rw (p, q) k)
+    (λ q. let k = fetched_data e (map nearer (a ∷ acts)) h in rw (p, q) k))
 
 -- ## Runs
 
@@ -472,12 +422,7 @@ new_sound Bare =
       };
       closed = λ c. absurd (true≢false c);
     }
-new_sound (Clf s) =
-    record {
-      is = record { out = refl; none = λ _. refl; forgot = λ _. refl; acked = omega arith; reached = omega arith; room = omega arith };
-      closed = λ _. record { phase = refl; due = refl };
-    }
-new_sound (Uicc s) =
+new_sound _ =
     record {
       is = record { out = refl; none = λ _. refl; forgot = λ _. refl; acked = omega arith; reached = omega arith; room = omega arith };
       closed = λ _. record { phase = refl; due = refl };

@@ -1,12 +1,11 @@
 -- What is true of an end after any inputs.
 use Rattle.std.proofs.lemmas.Bool.{leb-true}
-use Rattle.link_laws.proofs.Words.{AreSendable, Bool, Down, EndState, IsSendable, LinkEnd, LinkState, List, Message, None, Option, Session, Some, Up, Waiting}
-use Rattle.link_laws.proofs.Words.{[], ap, append-nil, arith, drop, false, flat_map-append, fragments_of, in_use, is_some, leb-false, length, length-append}
-use Rattle.link_laws.proofs.Words.{length-map, ltb-false, ltb-true, map, nat_le, nat_lt, need, need_of_all, no_session, not, packet_bytes, packet_count}
-use Rattle.link_laws.proofs.Words.{packets_are_counted, packets_of, refl, spare, subst, suc, sym, take, true, true≢false, whole_acked, whole_among, zero, ℕ}
-use Rattle.link_laws.proofs.Words.{◌++◌, ◌+◌, ◌-◌, ◌<◌, ◌∙◌, ◌∷◌, ◌≡◌, ◌≤◌}
-use Rattle.link_laws.proofs.machine.Shifts.{Shift, GoesOn, IsNotUp, IsNew}
+use Rattle.link_laws.proofs.Words.{Bool, LinkEnd, List, Message, Session, [], ap, arith, drop, false, fragments_of, in_use, leb-false, length, length-append}
+use Rattle.link_laws.proofs.Words.{length-map, map, nat_le, need, need_of_all, no_session, packet_bytes, packet_count, packets_are_counted, packets_of, refl}
+use Rattle.link_laws.proofs.Words.{subst, suc, sym, take, true, whole_among, zero, ℕ, ◌++◌, ◌+◌, ◌-◌, ◌<◌, ◌∙◌, ◌∷◌, ◌≡◌, ◌≤◌}
+use Rattle.link_laws.proofs.machine.Shifts.{Shift, IsNotUp, IsNew}
 use Rattle.link_laws.proofs.machine.Shifts.Shift.{Stays, Ends, Renews, Begins, Rests}
+use Rattle.link_laws.proofs.Cases.{by_test}
 
 -- ## Messages and their blocks
 
@@ -28,12 +27,9 @@ whole_more (m ∷ ms) a b i =
 -- no more than there are
 pub whole_few : (ms : List Message) (a : ℕ) → whole_among ms a ≤ length ms
 whole_few [] a = omega arith
-whole_few (m ∷ ms) a = go (nat_le (packet_count (length m.1)) a) refl (whole_few ms (a - packet_count (length m.1)))
-  where
-    go : (x : Bool) → nat_le (packet_count (length m.1)) a ≡ x → whole_among ms (a - packet_count (length m.1)) ≤ length ms
-        → whole_among (m ∷ ms) a ≤ length (m ∷ ms)
-    go true p later = rw p (omega (arith, later))
-    go false p later = rw p (omega arith)
+whole_few (m ∷ ms) a =
+    by_test {P = whole_among (m ∷ ms) a ≤ length (m ∷ ms)} (nat_le (packet_count (length m.1)) a)
+    (λ p. rw p (omega (arith, (whole_few ms (a - packet_count (length m.1)))))) (λ p. rw p (omega arith))
 
 pub fragments_count : (m : Message) → length (map packet_bytes (packets_of m.0 m.1)) ≡ packet_count (length m.1)
 fragments_count m = length-map (packets_of m.0 m.1) packet_bytes ∙ packets_are_counted m.0 m.1
@@ -41,19 +37,16 @@ fragments_count m = length-map (packets_of m.0 m.1) packet_bytes ∙ packets_are
 -- all fragments of the messages that count as acknowledged whole are acknowledged
 pub whole_acked_before : (ms : List Message) (a : ℕ) → length (fragments_of (take (whole_among ms a) ms)) ≤ a
 whole_acked_before [] a = omega arith
-whole_acked_before (m ∷ ms) a = go (nat_le n a) refl (whole_acked_before ms (a - n))
+whole_acked_before (m ∷ ms) a =
+    by_test {P = length (fragments_of (take (whole_among (m ∷ ms) a) (m ∷ ms))) ≤ a} (nat_le n a) (λ p.
+    let i = leb-true n a p in
+    let rest : List Message = take (whole_among ms (a - n)) ms in
+    let l = length-append (map packet_bytes (packets_of m.0 m.1)) (fragments_of rest) in
+    rw p (omega (arith, (whole_acked_before ms (a - n)), i, l, fragments_count m)))
+    (λ p. rw p (omega arith))
   where
     n : ℕ
     n = packet_count (length m.1)
-
-    go : (x : Bool) → nat_le n a ≡ x → length (fragments_of (take (whole_among ms (a - n)) ms)) ≤ a - n
-        → length (fragments_of (take (whole_among (m ∷ ms) a) (m ∷ ms))) ≤ a
-    go false p later = rw p (omega arith)
-    go true p later =
-        let i = leb-true n a p in
-        let rest : List Message = take (whole_among ms (a - n)) ms in
-        let l = length-append (map packet_bytes (packets_of m.0 m.1)) (fragments_of rest) in
-        rw p (omega (arith, later, i, l, fragments_count m))
 
 pub need_less : (ms : List Message) (a b : ℕ) → a ≤ b → need_of_all (drop b ms) ≤ need_of_all (drop a ms)
 need_less [] a b i = go a b
@@ -78,23 +71,18 @@ need_more (x ∷ ms) m (suc a) i = need_more ms m a (omega (arith, i))
 -- a message more changes nothing of those before it: not all of its fragments are among those that are there already
 pub whole_given : (ms : List Message) (m : Message) (a : ℕ) → 0 < packet_count (length m.1) → a ≤ length (fragments_of ms)
     → whole_among (ms ++ m ∷ []) a ≡ whole_among ms a
-whole_given [] m a p i = go (nat_le (packet_count (length m.1)) a) refl
-  where
-    go : (x : Bool) → nat_le (packet_count (length m.1)) a ≡ x → whole_among (m ∷ []) a ≡ 0
-    go true q = absurd (let l = leb-true (packet_count (length m.1)) a q in omega (arith, l, p, i))
-    go false q = rw q refl
-whole_given (x ∷ ms) m a p i = go (nat_le n a) refl (whole_given ms m (a - n) p)
+whole_given [] m a p i =
+    by_test {P = whole_among (m ∷ []) a ≡ 0} (nat_le (packet_count (length m.1)) a)
+    (λ q. absurd (let l = leb-true (packet_count (length m.1)) a q in omega (arith, l, p, i))) (λ q. rw q refl)
+whole_given (x ∷ ms) m a p i =
+    by_test {P = whole_among (x ∷ (ms ++ m ∷ [])) a ≡ whole_among (x ∷ ms) a} (nat_le n a)
+    (λ q. rw q (ap suc ((whole_given ms m (a - n) p) (omega (arith, i, l))))) (λ q. rw q refl)
   where
     n : ℕ
     n = packet_count (length x.1)
 
     l : length (fragments_of (x ∷ ms)) ≡ n + length (fragments_of ms)
     l = let z = length-append (map packet_bytes (packets_of x.0 x.1)) (fragments_of ms) in omega (arith, z, fragments_count x)
-
-    go : (b : Bool) → nat_le n a ≡ b → (a - n ≤ length (fragments_of ms) → whole_among (ms ++ m ∷ []) (a - n) ≡ whole_among ms (a - n))
-        → whole_among (x ∷ (ms ++ m ∷ [])) a ≡ whole_among (x ∷ ms) a
-    go true q later = rw q (ap suc (later (omega (arith, i, l))))
-    go false q later = rw q refl
 
 -- ## An end
 
@@ -143,7 +131,7 @@ idle e f sent aside s h =
 -- a step keeps all that
 pub shifted : (e f : LinkEnd) (ended began : Bool) → Shift e.shdlc f.shdlc ended began → SentAfter ended e f → f.aside ≡ e.aside → Data e → Data f
 shifted e f ended began (Stays p q g) sent aside h =
-    let same : f.sent ≡ e.sent = by ended p sent in
+    let same : f.sent ≡ e.sent = subst (λ b. SentAfter b e f) p sent in
     let out : f.shdlc.session.out ≡ e.shdlc.session.out = g.out in
     let len = ap (λ (xs : List (List ℕ)). length xs) out in
     let less = need_less e.sent (whole_among e.sent e.shdlc.session.acked) (whole_among e.sent f.shdlc.session.acked)
@@ -158,27 +146,7 @@ shifted e f ended began (Stays p q g) sent aside h =
       reached = omega (arith, g.reached, h.reached, len);
       room = omega (arith, blocks, less, h.room, aside);
     }
-  where
-    by : (b : Bool) → b ≡ false → SentAfter b e f → f.sent ≡ e.sent
-    by false z s = s
-    by true z s = absurd (true≢false z)
-shifted e f ended began (Ends p q up down s) sent aside h = idle e f (by ended p sent) aside s h
-  where
-    by : (b : Bool) → b ≡ true → SentAfter b e f → f.sent ≡ []
-    by true z s = s
-    by false z s = absurd (true≢false (sym z))
-shifted e f ended began (Renews p q up n) sent aside h = fresh e f (by ended p sent) aside n h
-  where
-    by : (b : Bool) → b ≡ true → SentAfter b e f → f.sent ≡ []
-    by true z s = s
-    by false z s = absurd (true≢false (sym z))
-shifted e f ended began (Begins p q down n) sent aside h = fresh e f (by ended p sent) aside n h
-  where
-    by : (b : Bool) → b ≡ false → SentAfter b e f → f.sent ≡ []
-    by false z s = s ∙ h.forgot down
-    by true z s = absurd (true≢false z)
-shifted e f ended began (Rests p q down still s) sent aside h = idle e f (by ended p sent) aside (s (h.none down)) h
-  where
-    by : (b : Bool) → b ≡ false → SentAfter b e f → f.sent ≡ []
-    by false z s = s ∙ h.forgot down
-    by true z s = absurd (true≢false z)
+shifted e f ended began (Ends p q up down s) sent aside h = idle e f (subst (λ b. SentAfter b e f) p sent) aside s h
+shifted e f ended began (Renews p q up n) sent aside h = fresh e f (subst (λ b. SentAfter b e f) p sent) aside n h
+shifted e f ended began (Begins p q down n) sent aside h = fresh e f (subst (λ b. SentAfter b e f) p sent ∙ h.forgot down) aside n h
+shifted e f ended began (Rests p q down still s) sent aside h = idle e f (subst (λ b. SentAfter b e f) p sent ∙ h.forgot down) aside (s (h.none down)) h

@@ -1,18 +1,17 @@
 -- What the laws of the machine say, from what is true of an end after any inputs.
-use Rattle.link_laws.proofs.Words.{Act, ActDue, ActEvent, ActStart, ActStop, ActTake, ActTick, AreSendableInputs, Asked, Bool, ByAct, Cause, Chain, Clt}
-use Rattle.link_laws.proofs.Words.{Control, Down, Due, EndState, Fetch, FromNode, HasTick as Tick, I, LinkEnd, LinkInput, LinkState, List, Message, None}
-use Rattle.link_laws.proofs.Words.{Option, Refused, Rej_due, Reset, Rnr_due, Role, Rr_due, Rset, Rset_due, S, Session, Some, Start, Stop, Take, TakeBroken}
-use Rattle.link_laws.proofs.Words.{TakeUnknown, Ua, Ua_due, Up, Waiting, [], act_answer, activated, after_input, ap, append-nil, arith, common_steps, cond}
-use Rattle.link_laws.proofs.Words.{deactivated, drop, end_after, ended_by, ended_by_act, false, fragments_of, frame_due, had_tick, heard, if_up, in_use}
-use Rattle.link_laws.proofs.Words.{is_faulty, is_open, is_shdlc, is_some, is_waiting, length, map, messages_got, moved, nat_le, nat_lt, news, next_frame}
-use Rattle.link_laws.proofs.Words.{no_session, put_down, refl, reset_by, reset_refusal, reset_with, role_after, spare, started, stopped, subst, suc, sym, take}
-use Rattle.link_laws.proofs.Words.{take_answer, taken, tick_answer, ticked, took, true, true≢false, whole_acked, whole_among, window_of, with_act, ℕ, ◌++◌, ◌+◌}
-use Rattle.link_laws.proofs.Words.{◌-◌, ◌<◌, ◌==◌, ◌∙◌, ◌∷◌, ◌≡◌, ◌≤◌}
+use Rattle.link_laws.proofs.Words.{Act, ActDue, ActEvent, ActStart, ActStop, ActTake, ActTick, AreSendableInputs, Asked, Bool, Cause, Chain, Clt, Control, Due}
+use Rattle.link_laws.proofs.Words.{EndState, HasTick as Tick, LinkEnd, LinkInput, List, Message, None, Option, Rej_due, Reset, Rnr_due, Role, Rr_due, Rset_due}
+use Rattle.link_laws.proofs.Words.{Session, Some, Start, Stop, Take, Ua_due, Up, [], act_answer, activated, after_input, ap, append-nil, arith, common_steps}
+use Rattle.link_laws.proofs.Words.{cond, drop, end_after, ended_by, ended_by_act, false, fragments_of, frame_due, had_tick, heard, if_up, in_use, is_faulty}
+use Rattle.link_laws.proofs.Words.{is_open, is_shdlc, is_some, is_waiting, length, messages_got, moved, news, next_frame, no_session, put_down, refl}
+use Rattle.link_laws.proofs.Words.{reset_with, role_after, spare, stopped, subst, sym, take, take_answer, taken, tick_answer, ticked, took, true, true≢false}
+use Rattle.link_laws.proofs.Words.{whole_acked, window_of, with_act, ℕ, ◌++◌, ◌+◌, ◌-◌, ◌==◌, ◌∙◌, ◌∷◌, ◌≡◌, ◌≤◌}
 use Rattle.link_laws.specs.machine.Laws.{Forgets, IsNone, is_fragment}
-use Rattle.link_laws.proofs.machine.Shifts.{Shift, IsNotUp, IsNew, taken_shift, ticked_shift, reset_shift}
+use Rattle.link_laws.proofs.machine.Shifts.{Shift, IsNotUp, taken_shift, ticked_shift, reset_shift}
 use Rattle.link_laws.proofs.machine.Shifts.Shift.{Stays, Ends, Renews, Begins, Rests}
-use Rattle.link_laws.proofs.machine.Sound.{Data, whole_few, whole_acked_before}
+use Rattle.link_laws.proofs.machine.Sound.{whole_few, whole_acked_before}
 use Rattle.link_laws.proofs.machine.Runs.{Sound, IsClosed, sound}
+use Rattle.link_laws.proofs.Cases.{by_list, by_phase, by_test}
 
 -- ## Messages and blocks
 
@@ -37,12 +36,9 @@ blocks role is a = let r = (sound role is a).is.room in omega (arith, r)
 -- ## Frames
 
 closed_takes : (e : LinkEnd) (c : Control) → is_open e.role ≡ false → is_shdlc c ≡ true → took e c ≡ e
-closed_takes e (I ns nr info) o q = rw o refl
-closed_takes e (S kind nr) o q = rw o refl
-closed_takes e (Rset w caps) o q = rw o refl
-closed_takes e Ua o q = rw o refl
 closed_takes e (Act act again) o q = absurd (true≢false (sym q))
 closed_takes e Clt o q = absurd (true≢false (sym q))
+closed_takes e _ o q = rw o refl
 
 pub inactive_takes : (role : Role) (is : List LinkInput) → AreSendableInputs is → is_open (end_after role is).role ≡ false
     → (c : Control) → is_shdlc c ≡ true → after_input (end_after role is) (Take c) ≡ end_after role is
@@ -50,15 +46,7 @@ inactive_takes role is a o c q = closed_takes (end_after role is) c o q
 
 -- the frame that goes out next is one of activation, or the next one of SHDLC
 next_cases : (P : Option Control → Type 0) (e : LinkEnd) → ((a : ActDue) → P (Some (Act a.frame false))) → P (frame_due e.shdlc) → P (next_frame e)
-next_cases P e act shdlc = go e.acts refl
-  where
-    go : (acts : List ActDue) → e.acts ≡ acts → P (next_frame e)
-    go [] p = rw p shdlc
-    go (a ∷ more) p = by (a.behind == 0) refl
-      where
-        by : (b : Bool) → (a.behind == 0) ≡ b → P (next_frame e)
-        by true q = rw (p, q) (act a)
-        by false q = rw (p, q) shdlc
+next_cases P e act shdlc = by_list e.acts (λ p. rw p shdlc) (λ a more p. by_test (a.behind == 0) (λ q. rw (p, q) (act a)) (λ q. rw (p, q) shdlc))
 
 closed_sends : (e : LinkEnd) → Sound e → is_open e.role ≡ false → IsNone is_shdlc (next_frame e)
 closed_sends e h o = next_cases (IsNone is_shdlc) e (λ a. refl) (subst (IsNone is_shdlc) (sym none) tt)
@@ -109,38 +97,25 @@ forgets_act e f (Some act) h = forgets_as e f (with_act (Some act) f) refl refl 
 forgets_stopped : (e : LinkEnd) → Forgets e (moved e true (stopped e.shdlc))
 forgets_stopped e = record { sent = refl; out = refl; acc = refl; got = refl }
 
-if_up_tells : (e : EndState) (cause c : Cause) → if_up e c ≡ Some cause → e.phase ≡ Up
-if_up_tells e cause c q = go e.phase refl
-  where
-    go : (p : LinkState) → e.phase ≡ p → e.phase ≡ Up
-    go Up p = p
-    go Waiting p = absurd (let z = rw p at q in cc)
-    go Down p = absurd (let z = rw p at q in cc)
-
 forgets_down : (e : LinkEnd) → Sound e → Forgets e (put_down true e)
-forgets_down e h = go e.shdlc.phase refl
-  where
-    go : (p : LinkState) → e.shdlc.phase ≡ p → Forgets e (put_down true e)
-    go Up p = let k = forgets_stopped e in rw p (record { sent = refl; out = refl; acc = refl; got = refl })
-    go Waiting p = rw p (record { sent = refl; out = refl; acc = refl; got = refl })
-    go Down p =
-        let no : IsNotUp e.shdlc = λ u. let z = sym p ∙ u in cc in
-        let s = h.is.none no in
-        rw p (record { sent = h.is.forgot no; out = ap (λ (x : Session). x.out) s; acc = ap (λ (x : Session). x.acc) s; got = refl })
+forgets_down e h =
+    by_phase e.shdlc.phase (λ p. let k = forgets_stopped e in rw p (record { sent = refl; out = refl; acc = refl; got = refl }))
+    (λ p. rw p (record { sent = refl; out = refl; acc = refl; got = refl })) (λ p.
+    let no : IsNotUp e.shdlc = λ u. let z = sym p ∙ u in cc in
+    let s = h.is.none no in
+    rw p (record { sent = h.is.forgot no; out = ap (λ (x : Session). x.out) s; acc = ap (λ (x : Session). x.acc) s; got = refl }))
 
 -- activation ends a session
 forgets_activated : (e : LinkEnd) (event : ActEvent) (cause : Cause) → Sound e → ended_by_act e event ≡ Some cause → Forgets e (activated e event)
-forgets_activated e event cause h q = by (act_answer e.role event).ended_link refl
+forgets_activated e event cause h q =
+    by_test ((act_answer e.role event).ended_link) (λ p.
+    let k : Forgets e (at true) = forgets_as e (put_down true e) (at true) refl refl refl (forgets_down e h) in
+    let P : Bool → Type 0 = λ b. Forgets e (at b) in
+    forgets_act e (at (act_answer e.role event).ended_link) (act_answer e.role event).send (subst P (sym p) k))
+    (λ p. absurd (let z = rw p at q in cc))
   where
     at : Bool → LinkEnd
     at b = record (put_down b e) { role = role_after e.role event }
-
-    by : (b : Bool) → (act_answer e.role event).ended_link ≡ b → Forgets e (activated e event)
-    by false p = absurd (let z = rw p at q in cc)
-    by true p =
-        let k : Forgets e (at true) = forgets_as e (put_down true e) (at true) refl refl refl (forgets_down e h) in
-        let P : Bool → Type 0 = λ b. Forgets e (at b) in
-        forgets_act e (at (act_answer e.role event).ended_link) (act_answer e.role event).send (subst P (sym p) k)
 
 -- a session that ended left nothing
 ended_shift : (e f : EndState) (b began : Bool) → b ≡ true → Shift e f b began → (f.session.out ≡ []) × (f.session.acc ≡ [])
@@ -160,7 +135,7 @@ some_is o x q = rw q refl
 -- a frame of SHDLC
 forgets_heard : (e : LinkEnd) (c : Control) (cause : Cause) → Sound e
     → cond (is_faulty (taken e.shdlc c).session) (Some Chain) (take_answer e.shdlc c).ended ≡ Some cause → Forgets e (heard e c)
-forgets_heard e c cause h q = by (is_faulty (taken e.shdlc c).session) refl
+forgets_heard e c cause h q = by_test (is_faulty (taken e.shdlc c).session) (λ p. rw p (forgets_down e h)) (λ p. rw p (good (let z = q in rw p at z)))
   where
     b : Bool
     b = is_some (take_answer e.shdlc c).ended
@@ -186,42 +161,19 @@ forgets_heard e c cause h q = by (is_faulty (taken e.shdlc c).session) refl
         (taken_shift e.shdlc c)).1 in
         record { sent = k.sent; out = k.out; acc = k.acc; got = ap (λ ms. e.got ++ ms) (nothing none) ∙ append-nil e.got }
 
-    by : (x : Bool) → is_faulty (taken e.shdlc c).session ≡ x → Forgets e (heard e c)
-    by true p = rw p (forgets_down e h)
-    by false p = rw p (good (let z = q in rw p at z))
-
 forgets_took : (e : LinkEnd) (c : Control) (cause : Cause) → Sound e → ended_by e (Take c) ≡ Some cause → Forgets e (took e c)
 forgets_took e (Act act again) cause h q = forgets_activated e (ActTake act again) cause h q
 forgets_took e Clt cause h q = absurd (let z = q in cc)
-forgets_took e (I ns nr info) cause h q = by (is_open e.role) refl
-  where
-    by : (b : Bool) → is_open e.role ≡ b → Forgets e (took e (I ns nr info))
-    by true o = rw o (forgets_heard e (I ns nr info) cause h (let z = q in rw o at z))
-    by false o = absurd (let z = rw o at q in cc)
-forgets_took e (S kind nr) cause h q = by (is_open e.role) refl
-  where
-    by : (b : Bool) → is_open e.role ≡ b → Forgets e (took e (S kind nr))
-    by true o = rw o (forgets_heard e (S kind nr) cause h (let z = q in rw o at z))
-    by false o = absurd (let z = rw o at q in cc)
-forgets_took e (Rset w caps) cause h q = by (is_open e.role) refl
-  where
-    by : (b : Bool) → is_open e.role ≡ b → Forgets e (took e (Rset w caps))
-    by true o = rw o (forgets_heard e (Rset w caps) cause h (let z = q in rw o at z))
-    by false o = absurd (let z = rw o at q in cc)
-forgets_took e Ua cause h q = by (is_open e.role) refl
-  where
-    by : (b : Bool) → is_open e.role ≡ b → Forgets e (took e Ua)
-    by true o = rw o (forgets_heard e Ua cause h (let z = q in rw o at z))
-    by false o = absurd (let z = rw o at q in cc)
+forgets_took e frame cause h q =
+    by_test {P = Forgets e (took e frame)} (is_open e.role) (λ o. rw o (forgets_heard e frame cause h (let z = q in rw o at z)))
+    (λ o. absurd (let z = rw o at q in cc))
 
 forgets_tick : (e : LinkEnd) (cause : Cause) → Sound e → ended_by e Tick ≡ Some cause → Forgets e (had_tick e)
-forgets_tick e cause h q = by (is_open e.role) refl
-  where
-    by : (b : Bool) → is_open e.role ≡ b → Forgets e (had_tick e)
-    by true o =
-        let p : (tick_answer e.shdlc).ended ≡ Some cause = let z = q in rw o at z in
-        rw o (forgets_moved e (is_some (tick_answer e.shdlc).ended) false (ticked e.shdlc) (some_is (tick_answer e.shdlc).ended cause p) (ticked_shift e.shdlc))
-    by false o = rw o (forgets_activated e ActTick cause h (let z = q in rw o at z))
+forgets_tick e cause h q =
+    by_test (is_open e.role) (λ o.
+    let p : (tick_answer e.shdlc).ended ≡ Some cause = let z = q in rw o at z in
+    rw o (forgets_moved e (is_some (tick_answer e.shdlc).ended) false (ticked e.shdlc) (some_is (tick_answer e.shdlc).ended cause p) (ticked_shift e.shdlc)))
+    (λ o. rw o (forgets_activated e ActTick cause h (let z = q in rw o at z)))
 
 forgets_reset : (e : LinkEnd) (window : Option ℕ) (cause : Cause) → ended_by e (Reset window) ≡ Some cause → Forgets e (after_input e (Reset window))
 forgets_reset e window cause q = by (is_open e.role) (is_waiting e.shdlc) refl refl
@@ -251,14 +203,11 @@ forgets_restart e event = forgets_act e (at (act_answer e.role event).ended_link
 
 forgets : (e : LinkEnd) (i : LinkInput) (cause : Cause) → Sound e → ended_by e i ≡ Some cause → Forgets e (after_input e i)
 forgets e (Take c) cause h q = forgets_took e c cause h q
-forgets e TakeUnknown cause h q = absurd (let z = q in cc)
-forgets e (TakeBroken fault) cause h q = absurd (let z = q in cc)
 forgets e Tick cause h q = forgets_tick e cause h q
 forgets e (Reset window) cause h q = forgets_reset e window cause q
 forgets e (Start v) cause h q = forgets_restart e (ActStart v)
 forgets e Stop cause h q = forgets_restart e ActStop
-forgets e (FromNode t) cause h q = absurd (let z = q in cc)
-forgets e Fetch cause h q = absurd (let z = q in cc)
+forgets e _ cause h q = absurd (let z = q in cc)
 
 pub forgotten : (role : Role) (is : List LinkInput) → AreSendableInputs is → (i : LinkInput) (cause : Cause) → ended_by (end_after role is) i ≡ Some cause
     → Forgets (end_after role is) (after_input (end_after role is) i)

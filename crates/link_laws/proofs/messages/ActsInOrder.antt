@@ -1,14 +1,15 @@
 -- Frames of activation on the wires of a link: an active CLF never meets ACT_SYNC_ID.
 use Rattle.std.specs.Prelude.{◌+◌}
-use Rattle.link_laws.proofs.Words.{Act, ActOut, ActReady, ActStart, ActStop, ActTake, ActTick, Activation, Awaiting, Bare, Bool, CanStart, Clf, ClfAct, Clt}
-use Rattle.link_laws.proofs.Words.{Control, Down, Due, EndState, I, IfLine, Inactive, Link, LinkEnd, List, None, OnWire, Option, Phase, PowerMode, Rej_due}
-use Rattle.link_laws.proofs.Words.{Rnr_due, Role, Rr_due, Rset, Rset_due, S, Some, SyncId, Ua, Ua_due, Uicc, [], act_answer, act_frame, aged_wire, ap, cond}
-use Rattle.link_laws.proofs.Words.{control_due, drop, false, fetched, fits, frame_due, frames_of, inl, inr, is_act, is_active, is_open, length, nat_le, nat_lt}
-use Rattle.link_laws.proofs.Words.{put, put_all, refl, renewed, role_after, subst, suc, sym, true, true≢false, zero, ℕ, ◌++◌, ◌∙◌, ◌∷◌, ◌≡◌, ◌⊎◌}
+use Rattle.link_laws.proofs.Words.{Act, ActOut, ActReady, ActStart, ActStop, ActTake, ActTick, Activation, Awaiting, Bare, Bool, CanStart, Clf, ClfAct, Control}
+use Rattle.link_laws.proofs.Words.{Down, Due, EndState, I, IfLine, Inactive, Link, LinkEnd, List, None, OnWire, Option, Phase, PowerMode, Rej_due, Rnr_due}
+use Rattle.link_laws.proofs.Words.{Role, Rr_due, Rset, Rset_due, S, Some, SyncId, Ua_due, Uicc, [], act_answer, act_frame, aged_wire, ap, cond, control_due}
+use Rattle.link_laws.proofs.Words.{drop, false, fetched, fits, frame_due, frames_of, inl, inr, is_act, is_active, is_open, length, nat_le, nat_lt, put, put_all}
+use Rattle.link_laws.proofs.Words.{refl, renewed, role_after, subst, suc, sym, true, true≢false, zero, ℕ, ◌++◌, ◌∙◌, ◌∷◌, ◌≡◌, ◌⊎◌}
 use Rattle.swp_act.specs.declared.Phase.TheVariants.{Active}
 use Rattle.swp_act.specs.declared.uicc.UiccAct.{UiccAct}
 use Rattle.swp_act.specs.Activation.{no_act_out, sends, clf_step, uicc_step, phase_ticked}
 use Rattle.link_laws.proofs.places.Joined.{fetch_cases}
+use Rattle.link_laws.proofs.Cases.{by_option, by_test}
 
 -- ## Frames on a wire
 
@@ -48,11 +49,8 @@ without_fits f w h = go (nat_lt 64 (length w)) w h
 
 without_aged : (f : Control → Bool) (w : List OnWire) → Without f w → Without f (aged_wire w)
 without_aged f [] h = tt
-without_aged f (x ∷ xs) h = go (nat_lt x.age 4) refl (without_aged f xs h.1)
-  where
-    go : (b : Bool) → nat_lt x.age 4 ≡ b → Without f (aged_wire xs) → Without f (aged_wire (x ∷ xs))
-    go true q later = rw q (h.0, later)
-    go false q later = rw q later
+without_aged f (x ∷ xs) h =
+    by_test {P = Without f (aged_wire (x ∷ xs))} (nat_lt x.age 4) (λ q. rw q (h.0, (without_aged f xs h.1))) (λ q. rw q (without_aged f xs h.1))
 
 first_push : (w : List OnWire) (x : OnWire) → Without is_ready w ⊎ (is_sync x.frame ≡ false) → SyncFirst w → SyncFirst (w ++ x ∷ [])
 first_push [] x e h = (inr tt, tt)
@@ -73,23 +71,16 @@ first_fits w h = go (nat_lt 64 (length w)) w h
 
 first_aged : (w : List OnWire) → SyncFirst w → SyncFirst (aged_wire w)
 first_aged [] h = tt
-first_aged (x ∷ xs) h = go (nat_lt x.age 4) refl (first_aged xs h.1)
+first_aged (x ∷ xs) h =
+    by_test {P = SyncFirst (aged_wire (x ∷ xs))} (nat_lt x.age 4) (λ q. rw q (more h.0, (first_aged xs h.1))) (λ q. rw q (first_aged xs h.1))
   where
     more : (is_ready x.frame ≡ false) ⊎ Without is_sync xs → (is_ready x.frame ≡ false) ⊎ Without is_sync (aged_wire xs)
     more (inl a) = inl a
     more (inr b) = inr (without_aged is_sync xs b)
 
-    go : (b : Bool) → nat_lt x.age 4 ≡ b → SyncFirst (aged_wire xs) → SyncFirst (aged_wire (x ∷ xs))
-    go true q later = rw q (more h.0, later)
-    go false q later = rw q later
-
 not_act : (c : Control) → is_act c ≡ false → (is_sync c ≡ false) × (is_ready c ≡ false) × (is_again c ≡ false)
 not_act (Act _ _) q = absurd (true≢false q)
-not_act (I _ _ _) q = (refl, refl, refl)
-not_act (S _ _) q = (refl, refl, refl)
-not_act (Rset _ _) q = (refl, refl, refl)
-not_act Ua q = (refl, refl, refl)
-not_act Clt q = (refl, refl, refl)
+not_act _ q = (refl, refl, refl)
 
 -- ## A CLF, a UICC and the wires to them
 
@@ -217,11 +208,7 @@ due_no_act e c q = fetch_cases (λ f o. o ≡ Some c → is_act c ≡ false) e (
 
 pub no_acts : (n : ℕ) (e : EndState) → NoActs (frames_of n e)
 no_acts zero e = tt
-no_acts (suc n) e = go (frame_due e) refl (no_acts n (fetched e))
-  where
-    go : (o : Option Control) → frame_due e ≡ o → NoActs (frames_of n (fetched e)) → NoActs (frames_of (suc n) e)
-    go None q later = rw q tt
-    go (Some c) q later = rw q (due_no_act e c q, later)
+no_acts (suc n) e = by_option {P = NoActs (frames_of (suc n) e)} (frame_due e) (λ q. rw q tt) (λ c q. rw q (due_no_act e c q, (no_acts n (fetched e))))
 
 pub in_order_put_all : (r f : Role) (w : List OnWire) (cs : List Control) (k : Link) → NoActs cs → ActsInOrder r f w k.to_host
     → ActsInOrder r f w (put_all k cs).to_host
@@ -233,8 +220,7 @@ in_order_put_all r f w (c ∷ cs) k a h = in_order_put_all r f w cs (put k c) a.
     one (I ns nr info) q = in_order_push r f w k.to_host (record { frame = I ns nr info; age = 0; number = 0 }) q h
     one (S kind nr) q = in_order_push r f w k.to_host (record { frame = S kind nr; age = 0; number = 0 }) q h
     one (Rset n caps) q = in_order_push r f w k.to_host (record { frame = Rset n caps; age = 0; number = k.resets + 1 }) q h
-    one Ua q = in_order_push r f w k.to_host (record { frame = Ua; age = 0; number = 0 }) q h
-    one Clt q = in_order_push r f w k.to_host (record { frame = Clt; age = 0; number = 0 }) q h
+    one it q = in_order_push r f w k.to_host (record { frame = it; age = 0; number = 0 }) q h
 
 -- ## What activation puts there
 
@@ -343,18 +329,6 @@ in_order_take (Clf c) (Uicc u) x w v act again q h = go act again q
         d p = record { phase = p; last = Some (PowerMode c.power); power = c.power }
 
         phase : (p : Phase) → c.phase ≡ p → P (clf_step c (ActTake (SyncId id) false))
-        phase Inactive p =
-            by (SyncId id) false (
-              d (Awaiting 1 0),
-              record {
-                send = Some (PowerMode c.power);
-                became_active = false;
-                ended_link = true;
-                sync = Some id;
-                gave_up = None;
-              },
-            ) (rw p refl)
-            (clf_sends (d (Awaiting 1 0)) u w v (Some (PowerMode c.power)) (clf_inactive c (d (Awaiting 1 0)) u w v refl g))
         phase (Awaiting tries ticks) p =
             by (SyncId id) false (
               d (Awaiting tries 0),
@@ -367,7 +341,7 @@ in_order_take (Clf c) (Uicc u) x w v act again q h = go act again q
               },
             ) (rw p refl)
             (clf_sends (d (Awaiting tries 0)) u w v (Some (PowerMode c.power)) (clf_inactive c (d (Awaiting tries 0)) u w v refl g))
-        phase Active p =
+        phase _ p =
             by (SyncId id) false (
               d (Awaiting 1 0),
               record {
@@ -382,12 +356,11 @@ in_order_take (Clf c) (Uicc u) x w v act again q h = go act again q
     go ActReady false q = phase c.phase refl
       where
         phase : (p : Phase) → c.phase ≡ p → P (clf_step c (ActTake ActReady false))
-        phase Inactive p = by ActReady false (c, no_act_out) (rw p refl) g
-        phase Active p = by ActReady false (c, no_act_out) (rw p refl) g
         phase (Awaiting tries ticks) p =
             let d : ClfAct = record { phase = Active; last = c.last; power = c.power } in
             by ActReady false (d, record { send = None; became_active = true; ended_link = false; sync = None; gave_up = None }) (rw p refl)
             (active (ap is_ready q) d)
+        phase _ p = by ActReady false (c, no_act_out) (rw p refl) g
 in_order_take (Uicc u) (Clf c) x w v act again q h = go act again q
   where
     g : Line c u v w
@@ -470,38 +443,35 @@ in_order_tick (Uicc u) (Clf c) w v o h = phase u.phase refl
 -- its node loses power
 pub in_order_cut : (r f : Role) (w v : List OnWire) → IfLine r → ActsInOrder r f w v → ActsInOrder (renewed r) f [] []
 in_order_cut Bare f w v i h = absurd i
-in_order_cut (Clf c) Bare w v i h = absurd h
 in_order_cut (Clf c) (Clf d) w v i h = absurd h
-in_order_cut (Uicc u) Bare w v i h = absurd h
 in_order_cut (Uicc u) (Uicc t) w v i h = absurd h
 in_order_cut (Clf c) (Uicc u) w v i h = record { clf = λ a. absurd (true≢false (sym a)); ready = inl tt; tail = tt; plain = tt; last = h.last }
 in_order_cut (Uicc u) (Clf c) w v i h = record { clf = λ a. (tt, refl); ready = inl tt; tail = tt; plain = tt; last = λ a. absurd (true≢false (sym a)) }
+in_order_cut _ Bare w v i h = absurd h
 
 -- activation begins at an end: a CLF is inactive, and a UICC sends ACT_SYNC_ID
 pub in_order_start : (r f : Role) (w v : List OnWire) (value : ℕ) → CanStart r f → ActsInOrder r f w v
     → ActsInOrder (role_after r (ActStart value)) f [] (with_sent (act_answer r (ActStart value)).send [])
 in_order_start Bare f w v value i h = absurd i
-in_order_start (Clf c) Bare w v value i h = absurd h
 in_order_start (Clf c) (Clf d) w v value i h = absurd h
 in_order_start (Clf c) (Uicc u) w v value i h =
     record { clf = λ a. absurd (true≢false (sym a)); ready = inl tt; tail = tt; plain = tt; last = h.last }
-in_order_start (Uicc u) Bare w v value i h = absurd h
 in_order_start (Uicc u) (Uicc t) w v value i h = absurd h
 in_order_start (Uicc u) (Clf c) w v value i h =
     record { clf = λ a. absurd (true≢false (sym a ∙ i)); ready = inl (refl, tt); tail = (inr tt, tt); plain = tt; last = λ _. (value, refl) }
+in_order_start _ Bare w v value i h = absurd h
 
 -- activation ends there
 pub in_order_stop : (r f : Role) (w v : List OnWire) → IfLine r → ActsInOrder r f w v
     → ActsInOrder (role_after r ActStop) f [] (with_sent (act_answer r ActStop).send [])
 in_order_stop Bare f w v i h = absurd i
-in_order_stop (Clf c) Bare w v i h = absurd h
 in_order_stop (Clf c) (Clf d) w v i h = absurd h
 in_order_stop (Clf c) (Uicc u) w v i h =
     record { clf = λ a. absurd (true≢false (sym a)); ready = inl tt; tail = tt; plain = tt; last = h.last }
-in_order_stop (Uicc u) Bare w v i h = absurd h
 in_order_stop (Uicc u) (Uicc t) w v i h = absurd h
 in_order_stop (Uicc u) (Clf c) w v i h =
     record { clf = λ a. (tt, refl); ready = inl tt; tail = tt; plain = tt; last = λ a. absurd (true≢false (sym a)) }
+in_order_stop _ Bare w v i h = absurd h
 
 -- an end whose link activation puts down isn't open
 pub ended_means : (r f : Role) (x : OnWire) (w v : List OnWire) (act : Activation) (again : Bool) → x.frame ≡ Act act again → ActsInOrder r f (x ∷ w) v
@@ -516,15 +486,13 @@ ended_means (Clf c) (Uicc u) x w v (PowerMode code) false q h e = absurd (true�
 ended_means (Clf c) (Uicc u) x w v (SyncId id) false q h e = go c.phase refl
   where
     go : (p : Phase) → c.phase ≡ p → is_open (Clf c) ≡ false
-    go Inactive p = rw p refl
-    go (Awaiting tries ticks) p = rw p refl
     go Active p = absurd (true≢false (sym (ap is_sync q) ∙ (h.clf (ap is_active p)).0.0))
+    go _ p = rw p refl
 ended_means (Clf c) (Uicc u) x w v ActReady false q h e = go c.phase refl
   where
     go : (p : Phase) → c.phase ≡ p → is_open (Clf c) ≡ false
-    go Inactive p = rw p refl
-    go (Awaiting tries ticks) p = rw p refl
     go Active p = absurd (let z = rw p at e in cc)
+    go _ p = rw p refl
 ended_means (Uicc u) (Clf c) x w v act true q h e = absurd (true≢false (sym e))
 ended_means (Uicc u) (Clf c) x w v ActReady false q h e = absurd (true≢false (sym e))
 ended_means (Uicc u) (Clf c) x w v (SyncId id) false q h e = absurd (true≢false (sym e))
@@ -536,9 +504,8 @@ ended_means (Uicc u) (Clf c) x w v (PowerMode code) false q h e = go u.phase (na
 
     go : (p : Phase) (b : Bool) → u.phase ≡ p → nat_le code 1 ≡ b → is_open (Uicc u) ≡ false
     go p false r s = absurd (true≢false (sym e ∙ by_step (u, no_act_out) refl (rw s refl)))
-    go Inactive true r s = rw r refl
     go Active true r s = absurd (true≢false (sym e ∙ by_step (record { phase = Active; last = Some ActReady }, sends (Some ActReady)) refl (rw (s, r) refl)))
-    go (Awaiting tries ticks) true r s = rw r refl
+    go _ true r s = rw r refl
 
 -- An active CLF meets no ACT_SYNC_ID: where the first frame on its way to an end puts its link down, it is Down.
 abbrev pub IsPolite : LinkEnd → List OnWire → Type 0
@@ -554,8 +521,4 @@ polite_of e f (x ∷ w) v h closed = go x.frame refl
   where
     go : (c : Control) → x.frame ≡ c → IsPolite e (x ∷ w)
     go (Act act again) q = rw q (λ z. closed (ended_means e.role f x w v act again q h z))
-    go (I _ _ _) q = rw q tt
-    go (S _ _) q = rw q tt
-    go (Rset _ _) q = rw q tt
-    go Ua q = rw q tt
-    go Clt q = rw q tt
+    go _ q = rw q tt

@@ -1,12 +1,13 @@
 -- Where an end doesn't wait it has no RSET to send, and frames that are none give a link no number.
 use Rattle.std.specs.Prelude.{◌+◌}
-use Rattle.link_laws.proofs.Words.{Act, Bool, Clt, Control, CoreTurn as ShdlcTurn, Down, Due, EndState, Fragment, I, Kind, Link, LinkState, List, None, Offer}
-use Rattle.link_laws.proofs.Words.{Option, Rej, Rej_due, Rnr, Rnr_due, Rr, Rr_due, Rset, Rset_due, S, SetReady, Some, Srej, Ua, Ua_due, Up, Waiting, []}
-use Rattle.link_laws.proofs.Words.{acknowledged, ap, control_due, core_turned as shdlc_turned, false, fetched, frame_due, frames_of, is_rset, is_waiting}
-use Rattle.link_laws.proofs.Words.{nat_lt, place_of, put, put_all, received, refl, runs_timer, shdlc_turn, suc, sym, taken, ticked, true, true≢false, zero, ℕ}
-use Rattle.link_laws.proofs.Words.{◌++◌, ◌==◌, ◌∙◌, ◌∷◌, ◌≡◌}
+use Rattle.link_laws.proofs.Words.{Bool, Control, CoreTurn as ShdlcTurn, Due, EndState, Fragment, I, Kind, Link, List, None, Offer, Option, Rej_due, Rnr_due}
+use Rattle.link_laws.proofs.Words.{Rr_due, Rset, Rset_due, S, SetReady, Some, Srej, Ua_due, Up, [], acknowledged, ap, control_due, core_turned as shdlc_turned}
+use Rattle.link_laws.proofs.Words.{false, fetched, frame_due, frames_of, is_rset, is_waiting, place_of, put, put_all, received, refl, shdlc_turn, suc, sym}
+use Rattle.link_laws.proofs.Words.{taken, ticked, true, true≢false, zero, ℕ, ◌++◌, ◌∙◌, ◌∷◌, ◌≡◌}
 use Rattle.link_laws.proofs.places.Joined.{fetch_cases, ready_cases, received_cases}
 use Rattle.link_laws.proofs.sessions.Ties.{turn-phase as turn_phase}
+use Rattle.link_laws.proofs.Cases.{by_option, by_phase}
+use Rattle.link_laws.proofs.machine.Walks.{by_taken, by_tick}
 
 -- it is an RSET
 abbrev pub is_ask : Due → Bool
@@ -32,86 +33,35 @@ none_due e q = rw q tt
 -- ## What comes to an end
 
 up_I : (e : EndState) (ns nr : ℕ) (info : Fragment) → e.phase ≡ Up → NoAsk e.due → NoAsk (taken e (I ns nr info)).due
-up_I e ns nr info up a = go (place_of e.session nr) refl
+up_I e ns nr info up a = by_option (place_of e.session nr) (λ q. rw (up, q) a) (λ x q. rw (up, q) (let z = by x in rw up at z))
   where
     by : (x : ℕ) → NoAsk (received (acknowledged e x) ns info).due
     by x =
         received_cases (λ f. NoAsk f.due) (acknowledged e x) ns info (λ _. no_ask_more e.due Rr_due refl a) (λ _ _. a)
         (λ _ _. no_ask_more e.due Rej_due refl a) (λ _ _. no_ask_more e.due Rr_due refl a) (no_ask_more e.due Rnr_due refl a)
 
-    go : (o : Option ℕ) → place_of e.session nr ≡ o → NoAsk (taken e (I ns nr info)).due
-    go None q = rw (up, q) a
-    go (Some x) q = rw (up, q) (let z = by x in rw up at z)
-
 up_S : (e : EndState) (k : Kind) (nr : ℕ) → e.phase ≡ Up → NoAsk e.due → NoAsk (taken e (S k nr)).due
 up_S e k nr up a = go k (place_of e.session nr) refl
   where
     go : (k : Kind) (o : Option ℕ) → place_of e.session nr ≡ o → NoAsk (taken e (S k nr)).due
-    go Rr None q = rw (up, q) a
-    go Rr (Some x) q = rw (up, q) a
-    go Rej None q = rw (up, q) a
-    go Rej (Some x) q = rw (up, q) a
-    go Rnr None q = rw (up, q) a
-    go Rnr (Some x) q = rw (up, q) a
     go Srej o q = rw up a
+    go _ None q = rw (up, q) a
+    go _ (Some x) q = rw (up, q) a
 
 -- a frame makes no RSET
 pub taken_asks : (e : EndState) (c : Control) → NoAsk e.due → NoAsk (taken e c).due
-taken_asks e c a = go e.phase refl c
-  where
-    go : (p : LinkState) → e.phase ≡ p → (c : Control) → NoAsk (taken e c).due
-    go Up p (I ns nr info) = up_I e ns nr info p a
-    go Up p (S kind nr) = up_S e kind nr p a
-    go Up p (Rset w caps) = by (w == 0) refl
-      where
-        by : (b : Bool) → (w == 0) ≡ b → NoAsk (taken e (Rset w caps)).due
-        by true q = rw (p, q) a
-        by false q = rw (p, q) (refl, tt)
-    go Up p Ua = rw p a
-    go Up p (Act x y) = rw p a
-    go Up p Clt = rw p a
-    go Waiting p Ua = rw p a
-    go Waiting p (Rset w caps) = by (w == 0) refl
-      where
-        by : (b : Bool) → (w == 0) ≡ b → NoAsk (taken e (Rset w caps)).due
-        by true q = rw (p, q) a
-        by false q = rw (p, q) (no_ask_more e.due Ua_due refl a)
-    go Waiting p (I ns nr info) = rw p a
-    go Waiting p (S kind nr) = rw p a
-    go Waiting p (Act x y) = rw p a
-    go Waiting p Clt = rw p a
-    go Down p (Rset w caps) = by (w == 0) refl
-      where
-        by : (b : Bool) → (w == 0) ≡ b → NoAsk (taken e (Rset w caps)).due
-        by true q = rw (p, q) a
-        by false q = rw (p, q) (no_ask_more e.due Ua_due refl a)
-    go Down p (I ns nr info) = rw p a
-    go Down p (S kind nr) = rw p a
-    go Down p Ua = rw p a
-    go Down p (Act x y) = rw p a
-    go Down p Clt = rw p a
+taken_asks e c a =
+    by_taken (λ _ f _. NoAsk f.due) e (λ ns nr info p. up_I e ns nr info p a) (λ kind nr p. up_S e kind nr p a) (λ _. a) (λ _ _ _. (refl, tt))
+    (λ _ _ _. no_ask_more e.due Ua_due refl a) (λ _ _ _. no_ask_more e.due Ua_due refl a) (λ _. a) c
 
 -- nor does a tick, where the end doesn't wait then
 pub ticked_asks : (e : EndState) → is_waiting (ticked e) ≡ false → NoAsk e.due → NoAsk (ticked e).due
-ticked_asks e n a = go e.phase (runs_timer e.session) (nat_lt (e.timer + 1) 10) (nat_lt e.tries 5) refl refl refl refl
-  where
-    go : (p : LinkState) (a b c : Bool) → e.phase ≡ p → runs_timer e.session ≡ a → nat_lt (e.timer + 1) 10 ≡ b → nat_lt e.tries 5 ≡ c → NoAsk (ticked e).due
-    go Down x b c p q r t = rw p a
-    go Up false b c p q r t = rw (p, q) a
-    go Up true true c p q r t = rw (p, q, r) a
-    go Up true false true p q r t = rw (p, q, r, t) a
-    go Up true false false p q r t = absurd (let z : true ≡ false = rw (p, q, r, t) at n in cc)
-    go Waiting x true c p q r t = absurd (let z : true ≡ false = rw (p, r) at n in cc)
-    go Waiting x false true p q r t = absurd (let z : true ≡ false = rw (p, r, t) at n in cc)
-    go Waiting x false false p q r t = rw (p, r, t) a
+ticked_asks e n a =
+    by_tick (λ f _. is_waiting f ≡ false → NoAsk f.due) e (λ _. a) (λ _ _. a) (λ _ _. a) (λ _ z. absurd (true≢false z))
+    (λ p z. absurd (let y : true ≡ false = rw p at z in cc)) (λ _ _. a) n
 
 turn_asks : (e : EndState) (t : ShdlcTurn) → NoAsk e.due → NoAsk (shdlc_turn e t).due
-turn_asks e (Offer fs) a = go e.phase refl
-  where
-    go : (p : LinkState) → e.phase ≡ p → NoAsk (shdlc_turn e (Offer fs)).due
-    go Up p = rw p a
-    go Waiting p = rw p a
-    go Down p = rw p a
+turn_asks e (Offer fs) a = by_phase {P = NoAsk (shdlc_turn e (Offer fs)).due} e.phase (λ p. rw p a) (λ p. rw p a) (λ p. rw p a)
 turn_asks e (SetReady r) a = ready_cases (λ f. NoAsk f.due) e r a a (no_ask_more e.due Rr_due refl a)
 
 -- nor do the turns of its node
@@ -132,11 +82,8 @@ NoRset [] = Unit {0}
 NoRset (c ∷ cs) = (is_rset c ≡ false) × NoRset cs
 
 control_no_rset : (e : EndState) (d : Due) → is_ask d ≡ false → is_rset (control_due e d) ≡ false
-control_no_rset e Rr_due q = refl
-control_no_rset e Rej_due q = refl
-control_no_rset e Rnr_due q = refl
-control_no_rset e Ua_due q = refl
 control_no_rset e Rset_due q = q
+control_no_rset e _ q = refl
 
 -- a frame that is fetched
 record Fetches (f : EndState) (o : Option Control) : Type 0 where
@@ -157,11 +104,9 @@ fetches e a =
 -- where no RSET is due none goes out
 pub no_rset : (n : ℕ) (e : EndState) → NoAsk e.due → NoRset (frames_of n e)
 no_rset zero e a = tt
-no_rset (suc n) e a = go (frame_due e) refl (no_rset n (fetched e) (fetches e a).rest)
-  where
-    go : (o : Option Control) → frame_due e ≡ o → NoRset (frames_of n (fetched e)) → NoRset (frames_of (suc n) e)
-    go None q later = rw q tt
-    go (Some c) q later = rw q ((fetches e a).frame c q, later)
+no_rset (suc n) e a =
+    by_option {P = NoRset (frames_of (suc n) e)} (frame_due e) (λ q. rw q tt)
+    (λ c q. rw q ((fetches e a).frame c q, (no_rset n (fetched e) (fetches e a).rest)))
 
 -- frames that are no RSETs change the wire to the host alone
 pub puts_none : (cs : List Control) (l : Link) → NoRset cs → put_all l cs ≡ record l { to_host = (put_all l cs).to_host }
@@ -171,9 +116,5 @@ puts_none (c ∷ cs) l a =
     later ∙ ap (λ (m : Link). record m { to_host = (put_all (put l c) cs).to_host }) (one c a.0)
   where
     one : (c : Control) → is_rset c ≡ false → put l c ≡ record l { to_host = (put l c).to_host }
-    one (I _ _ _) q = refl
-    one (S _ _) q = refl
     one (Rset _ _) q = absurd (true≢false q)
-    one Ua q = refl
-    one (Act _ _) q = refl
-    one Clt q = refl
+    one _ q = refl

@@ -1,18 +1,18 @@
 -- Each step of an end is projected, whether its frames go out or its node loses power before that.
 use Rattle.std.specs.Prelude.{◌+◌}
-use Rattle.link_laws.proofs.Words.{Act, ActEvent, ActTake, ActTick, Activation, AreSendableTurns, Asked, AsksReset, Awaiting, Bare, Bool, CanEnd, Clf, Clt}
-use Rattle.link_laws.proofs.Words.{Control, CoreActs, CoreDeliver, CoreEndEvent, CoreLink, CoreStop, CoreTurn, CutOff, Down, EndState, Ending, GoesOut}
-use Rattle.link_laws.proofs.Words.{HasTick as Tick, I, IfLine, Inactive, Link, LinkEnd, LinkState, List, NextFrame, None, NumberedEnd, OnWire, Option, Phase}
-use Rattle.link_laws.proofs.Words.{Refused, Role, Rset, S, Some, Turn, Turns as CoreTurns, Ua, Uicc, Up, Waiting, [], act_answer, activated, after_frames}
-use Rattle.link_laws.proofs.Words.{after_input, among, ap, becomes, core_all_here, core_ending, core_happens_here, core_of, core_reset, core_step, core_take}
-use Rattle.link_laws.proofs.Words.{core_tick, core_tick_rest, core_ticks_or_cut, core_turned, core_turns, core_with_ended, cut, ended_by, ended_by_act}
-use Rattle.link_laws.proofs.Words.{ended_by_frame, false, finished, fragments_of, frame_due, frames_of, frames_out, has_restarted, has_taken, heard, if_up, inl}
-use Rattle.link_laws.proofs.Words.{inr, is_faulty, is_lost_tick, is_open, is_some, is_up, is_waiting, most_frames, moved, nat_lt, new_end, new_link_end}
-use Rattle.link_laws.proofs.Words.{no_session, option_to_list, put_all, put_down, refl, renewed, reset_by, reset_refusal, reset_with, role_after, runs_timer}
-use Rattle.link_laws.proofs.Words.{sent_all, shdlc_becomes as core_becomes, shdlc_put_all as core_put_all, shdlc_silent as core_silent}
-use Rattle.link_laws.proofs.Words.{shdlc_ticks_at_controller as core_ticks_here, silent, steps_at_controller, stopped, subst, sym, take_answer, taken}
-use Rattle.link_laws.proofs.Words.{tick_answer, ticked, ticks_at_controller, took, took_with, true, true≢false, turned, window_of, with_controller, with_ended}
-use Rattle.link_laws.proofs.Words.{with_shdlc_controller as core_with_controller, ℕ, ◌&&◌, ◌++◌, ◌∙◌, ◌∷◌, ◌≡◌, ◌⊎◌}
+use Rattle.link_laws.proofs.Words.{Act, ActEvent, ActTake, ActTick, Activation, AreSendableTurns, Asked, AsksReset, Bare, Bool, CanEnd, Clf, Clt, Control}
+use Rattle.link_laws.proofs.Words.{CoreActs, CoreDeliver, CoreEndEvent, CoreLink, CoreStop, CoreTurn, CutOff, Down, EndState, Ending, GoesOut, HasTick as Tick}
+use Rattle.link_laws.proofs.Words.{IfLine, Link, LinkEnd, List, NextFrame, None, NumberedEnd, OnWire, Option, Phase, Refused, Role, Some, Turn}
+use Rattle.link_laws.proofs.Words.{Turns as CoreTurns, Uicc, Waiting, [], act_answer, activated, after_frames, after_input, among, ap, becomes, core_all_here}
+use Rattle.link_laws.proofs.Words.{core_ending, core_happens_here, core_of, core_reset, core_step, core_take, core_tick, core_tick_rest, core_ticks_or_cut}
+use Rattle.link_laws.proofs.Words.{core_turned, core_turns, core_with_ended, cut, ended_by, ended_by_act, ended_by_frame, false, finished, fragments_of}
+use Rattle.link_laws.proofs.Words.{frame_due, frames_of, frames_out, has_restarted, has_taken, heard, if_up, inl, inr, is_faulty, is_lost_tick, is_open}
+use Rattle.link_laws.proofs.Words.{is_some, is_up, is_waiting, most_frames, moved, new_end, new_link_end, no_session, option_to_list, put_all, put_down, refl}
+use Rattle.link_laws.proofs.Words.{renewed, reset_by, reset_refusal, reset_with, role_after, sent_all, shdlc_becomes as core_becomes}
+use Rattle.link_laws.proofs.Words.{shdlc_put_all as core_put_all, shdlc_silent as core_silent, shdlc_ticks_at_controller as core_ticks_here, silent}
+use Rattle.link_laws.proofs.Words.{steps_at_controller, stopped, subst, sym, take_answer, taken, tick_answer, ticked, ticks_at_controller, took, took_with}
+use Rattle.link_laws.proofs.Words.{true, true≢false, turned, window_of, with_controller, with_ended, with_shdlc_controller as core_with_controller, ℕ, ◌&&◌}
+use Rattle.link_laws.proofs.Words.{◌++◌, ◌∙◌, ◌∷◌, ◌≡◌, ◌⊎◌}
 use Rattle.swp_act.specs.declared.Phase.TheVariants.{Active}
 use Rattle.link_laws.proofs.places.Idle.{after_frames_idle}
 use Rattle.link_laws.specs.messages.Projection.{core_restart}
@@ -23,20 +23,16 @@ use Rattle.link_laws.proofs.messages.Project.{Mid, Now, mid_moved, moved_role, f
 use Rattle.link_laws.proofs.messages.Project.{turns_mid, turned_role, past_ended, host_ended}
 use Rattle.link_laws.proofs.machine.Runs.{opened}
 use Rattle.link_laws.proofs.machine.Reports.{shdlc_is as shdlc_moved}
-use Rattle.link_laws.proofs.sessions.Steps.{took as core_took}
 use Rattle.link_laws.proofs.messages.Steps.{FromHost, Rests, is_shdlc, heard_end, heard_is, mid_counted, took_open, took_closed, no_fault_first, polite}
 use Rattle.link_laws.proofs.messages.Steps.{role_closes, ComesFirst, step_first, stays_down, activated_role, act_mid, Acted, tick_closes, core_first}
+use Rattle.link_laws.proofs.Cases.{by_list, by_phase, by_test}
+use Rattle.link_laws.proofs.machine.Walks.{by_tick}
 
 -- ## A step that is cut off
 
 -- both wires are empty, and the end is Down
 pub silent-core : (l : Link) (e : LinkEnd) → core_of (silent l e) ≡ core_silent (core_of l) e.shdlc
-silent-core l e = go l.controller.side.shdlc.phase refl
-  where
-    go : (p : LinkState) → l.controller.side.shdlc.phase ≡ p → core_of (silent l e) ≡ core_silent (core_of l) e.shdlc
-    go Up p = rw p refl
-    go Waiting p = rw p refl
-    go Down p = rw p refl
+silent-core l e = by_phase l.controller.side.shdlc.phase (λ p. rw p refl) (λ p. rw p refl) (λ p. rw p refl)
 
 step_silent : (l : Link) (e : LinkEnd) → Now e → Tells l.controller → (LinkInOrder l → ActsInOrder e.role l.host.side.role [] [])
     → Step l (silent l e) (core_silent (core_of l) e.shdlc)
@@ -65,10 +61,8 @@ step_cut l line h = go l.controller.side.role line (λ z. in_order_cut l.control
     go : (r : Role) → IfLine r → (LinkInOrder l → ActsInOrder (renewed r) l.host.side.role [] [])
         → Step l (silent l (new_link_end (renewed r))) (core_silent (core_of l) (new_end 4))
     go Bare i in_order = absurd i
-    go (Clf s) i wires =
-        step_silent l (new_link_end (renewed (Clf s))) (fresh (new_link_end (renewed (Clf s))) refl refl refl) h wires
-    go (Uicc s) i wires =
-        step_silent l (new_link_end (renewed (Uicc s))) (fresh (new_link_end (renewed (Uicc s))) refl refl refl) h wires
+    go c i wires =
+        step_silent l (new_link_end (renewed c)) (fresh (new_link_end (renewed c)) refl refl refl) h wires
 
 -- the link where the end with this role is new after a loss of power, whether a session ended or not
 abbrev cut_as : Link → Bool → Role → Link
@@ -177,20 +171,16 @@ first_none l ts x xs a comes = go x.frame refl
 
     go : (c : Control) → x.frame ≡ c → P (took e x.frame)
     go (Act act again) q = acts act again q
-    go (I _ _ _) q = shdlc (is_open e.role) refl (ap is_shdlc q)
-    go (S _ _) q = shdlc (is_open e.role) refl (ap is_shdlc q)
-    go (Rset _ _) q = shdlc (is_open e.role) refl (ap is_shdlc q)
-    go Ua q = shdlc (is_open e.role) refl (ap is_shdlc q)
     go Clt q =
         subst P (sym (ap (took e) q))
         (none_out None (record e { passed_over = e.passed_over + 1 }) ts a (mid_counted None e (e.passed_over + 1) comes.tells.now) none)
+    go _ q = shdlc (is_open e.role) refl (ap is_shdlc q)
 
 -- the role of an end that took a frame lets its step end so
 pub can_after : (r : Role) (event : ActEvent) (ending : Ending) → CanEnd r ending → CanEnd (role_after r event) ending
 can_after r event GoesOut can = tt
 can_after Bare event CutOff can = can
-can_after (Clf s) event CutOff can = tt
-can_after (Uicc s) event CutOff can = tt
+can_after _ event CutOff can = tt
 
 -- a frame changes the role only by activation
 pub took_can : (e : LinkEnd) (c : Control) (ending : Ending) → CanEnd e.role ending → CanEnd (took e c).role ending
@@ -198,12 +188,7 @@ took_can e c ending can = go c (is_open e.role) (is_faulty (taken e.shdlc c).ses
   where
     put_down_role : (b : Bool) → (put_down b e).role ≡ e.role
     put_down_role false = refl
-    put_down_role true = down e.shdlc.phase refl
-      where
-        down : (p : LinkState) → e.shdlc.phase ≡ p → (put_down true e).role ≡ e.role
-        down Up p = rw p refl
-        down Waiting p = rw p refl
-        down Down p = rw p refl
+    put_down_role true = by_phase {P = (put_down true e).role ≡ e.role} e.shdlc.phase (λ p. rw p refl) (λ p. rw p refl) (λ p. rw p refl)
 
     R : Role → Type 0
     R r = CanEnd r ending
@@ -215,14 +200,8 @@ took_can e c ending can = go c (is_open e.role) (is_faulty (taken e.shdlc c).ses
     go : (c : Control) (o f : Bool) → is_open e.role ≡ o → is_faulty (taken e.shdlc c).session ≡ f → CanEnd (took e c).role ending
     go (Act act again) o f p q = subst R (sym (activated_role e (ActTake act again))) (can_after e.role (ActTake act again) ending can)
     go Clt o f p q = can
-    go (I ns nr info) true f p q = rw p (heard_can (I ns nr info) f q)
-    go (I ns nr info) false f p q = rw p can
-    go (S kind nr) true f p q = rw p (heard_can (S kind nr) f q)
-    go (S kind nr) false f p q = rw p can
-    go (Rset n caps) true f p q = rw p (heard_can (Rset n caps) f q)
-    go (Rset n caps) false f p q = rw p can
-    go Ua true f p q = rw p (heard_can Ua f q)
-    go Ua false f p q = rw p can
+    go frame true f p q = rw p (heard_can frame f q)
+    go _ false f p q = rw p can
 
 step_take : (l : Link) (ts : List Turn) (ending : Ending) (x : OnWire) (xs : List OnWire) → AreSendableTurns ts → CanEnd l.controller.side.role ending
     → ComesFirst l x xs → Step l (has_taken l x xs ts ending) (core_all_here (core_of l) (core_take l.controller.side x.frame ts ++ core_ending ending))
@@ -245,7 +224,23 @@ pub step_frame : (l : Link) (ts : List Turn) (ending : Ending) → AreSendableTu
     → IsPolite l.controller.side l.to_controller → Tells l.controller → Tells l.host → Rests l.controller.side.shdlc
     → FromHost (core_happens_here (core_of l) (CoreDeliver []))
     → Step l (steps_at_controller l NextFrame ts ending) (core_all_here (core_of l) (core_step l NextFrame ts ending))
-step_frame l ts ending a can p h t rests from = go l.to_controller refl
+step_frame l ts ending a can p h t rests from =
+    by_list l.to_controller (λ q.
+    step_same l (steps_at_controller l NextFrame ts ending) l (core_all_here (core_of l) (core_step l NextFrame ts ending)) (core_of l)
+    (nothing q) (ap (core_all_here (core_of l)) (core_nothing q))
+    (record { core = refl; tells = h; host = refl; in_order = λ z. z }))
+    (λ x xs q.
+    step_same l (steps_at_controller l NextFrame ts ending) (has_taken l x xs ts ending) (core_all_here (core_of l) (core_step l NextFrame ts ending))
+    (core_all_here (core_of l) (core_take l.controller.side x.frame ts ++ core_ending ending))
+    (some x xs q) (ap (core_all_here (core_of l)) (core_some x xs q))
+    (step_take l ts ending x xs a can (record {
+      first = q;
+      polite = subst (IsPolite l.controller.side) q p;
+      tells = h;
+      host = t;
+      rests = rests;
+      from = subst FromHost (core_first (core_of l) [] x xs q) from;
+    })))
   where
     nothing : l.to_controller ≡ [] → steps_at_controller l NextFrame ts ending ≡ l
     nothing q = rw q refl
@@ -259,25 +254,6 @@ step_frame l ts ending a can p h t rests from = go l.to_controller refl
     core_some : (x : OnWire) (xs : List OnWire) → l.to_controller ≡ x ∷ xs
         → core_step l NextFrame ts ending ≡ core_take l.controller.side x.frame ts ++ core_ending ending
     core_some x xs q = rw q refl
-
-    go : (w : List OnWire) → l.to_controller ≡ w
-        → Step l (steps_at_controller l NextFrame ts ending) (core_all_here (core_of l) (core_step l NextFrame ts ending))
-    go [] q =
-        step_same l (steps_at_controller l NextFrame ts ending) l (core_all_here (core_of l) (core_step l NextFrame ts ending)) (core_of l)
-        (nothing q) (ap (core_all_here (core_of l)) (core_nothing q))
-        (record { core = refl; tells = h; host = refl; in_order = λ z. z })
-    go (x ∷ xs) q =
-        step_same l (steps_at_controller l NextFrame ts ending) (has_taken l x xs ts ending) (core_all_here (core_of l) (core_step l NextFrame ts ending))
-        (core_all_here (core_of l) (core_take l.controller.side x.frame ts ++ core_ending ending))
-        (some x xs q) (ap (core_all_here (core_of l)) (core_some x xs q))
-        (step_take l ts ending x xs a can (record {
-          first = q;
-          polite = subst (IsPolite l.controller.side) q p;
-          tells = h;
-          host = t;
-          rests = rests;
-          from = subst FromHost (core_first (core_of l) [] x xs q) from;
-        }))
 
 -- ## A cut in place of a step that leaves the end waiting
 
@@ -304,20 +280,12 @@ turns_phase e ts a h =
 -- ## Resets
 
 reset_up : (s : EndState) → is_some (if_up s Asked) ≡ is_up s.phase
-reset_up s = go s.phase refl
-  where
-    go : (p : LinkState) → s.phase ≡ p → is_some (if_up s Asked) ≡ is_up s.phase
-    go Up p = rw p refl
-    go Waiting p = rw p refl
-    go Down p = rw p refl
+reset_up s = by_phase s.phase (λ p. rw p refl) (λ p. rw p refl) (λ p. rw p refl)
 
 pub reset_keeps : (e : EndState) (w : ℕ) → is_waiting e ≡ false → Idle e → Keeps (is_some (if_up e Asked)) e (reset_with e w)
-reset_keeps e w n idle = go e.phase refl
-  where
-    go : (p : LinkState) → e.phase ≡ p → Keeps (is_some (if_up e Asked)) e (reset_with e w)
-    go Waiting p = absurd (let z : true ≡ false = rw p at n in cc)
-    go Up p = rw p (record { out = refl; idle = λ _. (refl, refl) })
-    go Down p = rw p (record { out = sym (idle (λ u. let z = sym p ∙ u in cc)).0; idle = λ _. (refl, refl) })
+reset_keeps e w n idle =
+    by_phase e.phase (λ p. rw p (record { out = refl; idle = λ _. (refl, refl) })) (λ p. absurd (let z : true ≡ false = rw p at n in cc))
+    (λ p. rw p (record { out = sym (idle (λ u. let z = sym p ∙ u in cc)).0; idle = λ _. (refl, refl) }))
 
 -- an end that is open and doesn't wait
 pub reset_tells : (e : LinkEnd) → reset_refusal e ≡ None → (is_open e.role ≡ true) × (is_waiting e.shdlc ≡ false)
@@ -464,38 +432,23 @@ tick_role Bare q = q
 tick_role (Clf s) q = go s.phase refl
   where
     go : (p : Phase) → s.phase ≡ p → is_open (Clf s) ≡ false
-    go Inactive p = rw p refl
-    go (Awaiting tries ticks) p = rw p refl
     go Active p = absurd (let z = rw p at q in cc)
+    go _ p = rw p refl
 tick_role (Uicc s) q = go s.phase refl
   where
     go : (p : Phase) → s.phase ≡ p → is_open (Uicc s) ≡ false
-    go Inactive p = rw p refl
-    go (Awaiting tries ticks) p = rw p refl
     go Active p = absurd (let z = rw p at q in cc)
+    go _ p = rw p refl
+
+pub waiting_phase : (s : EndState) → is_waiting s ≡ true → s.phase ≡ Waiting
+waiting_phase s w = by_phase s.phase (λ p. absurd (let z : false ≡ true = rw p at w in cc)) (λ p. p) (λ p. absurd (let z : false ≡ true = rw p at w in cc))
 
 -- a tick after which an end waits has ended its session, if it had one
 tick_up : (s : EndState) → is_waiting (ticked s) ≡ true → is_some (tick_answer s).ended ≡ is_up s.phase
-tick_up s w = go s.phase (runs_timer s.session) (nat_lt (s.timer + 1) 10) (nat_lt s.tries 5) refl refl refl refl
-  where
-    go : (p : LinkState) (a b c : Bool) → s.phase ≡ p → runs_timer s.session ≡ a → nat_lt (s.timer + 1) 10 ≡ b → nat_lt s.tries 5 ≡ c
-        → is_some (tick_answer s).ended ≡ is_up s.phase
-    go Down a b c p q r t = rw p refl
-    go Up false b c p q r t = absurd (let z : false ≡ true = rw (p, q) at w in cc)
-    go Up true true c p q r t = absurd (let z : false ≡ true = rw (p, q, r) at w in cc)
-    go Up true false true p q r t = absurd (let z : false ≡ true = rw (p, q, r, t) at w in cc)
-    go Up true false false p q r t = rw (p, q, r, t) refl
-    go Waiting a true c p q r t = rw (p, r) refl
-    go Waiting a false true p q r t = rw (p, r, t) refl
-    go Waiting a false false p q r t = rw (p, r, t) refl
-
-pub waiting_phase : (s : EndState) → is_waiting s ≡ true → s.phase ≡ Waiting
-waiting_phase s w = go s.phase refl
-  where
-    go : (p : LinkState) → s.phase ≡ p → s.phase ≡ Waiting
-    go Waiting p = p
-    go Up p = absurd (let z : false ≡ true = rw p at w in cc)
-    go Down p = absurd (let z : false ≡ true = rw p at w in cc)
+tick_up s w =
+    by_tick (λ f answer. is_waiting f ≡ true → is_some answer.ended ≡ is_up s.phase) s (λ z. let p = waiting_phase s z in rw p refl)
+    (λ _ z. let p = waiting_phase s z in rw p refl) (λ _ z. let p = waiting_phase s z in rw p refl) (λ p _. rw p refl) (λ p _. rw p refl)
+    (λ p _. rw p refl) w
 
 abbrev pub CoreTick : Link → List Turn → Ending → CoreLink
 CoreTick l ts ending =
@@ -655,8 +608,5 @@ step_tick_closed l ts ending a can h r o =
 -- the controller's end has its tick
 pub step_tick : (l : Link) (ts : List Turn) (ending : Ending) → AreSendableTurns ts → CanEnd l.controller.side.role ending → Tells l.controller
     → Rests l.controller.side.shdlc → Step l (ticks_at_controller l ts ending) (CoreTick l ts ending)
-step_tick l ts ending a can h r = go (is_open l.controller.side.role) refl
-  where
-    go : (b : Bool) → is_open l.controller.side.role ≡ b → Step l (ticks_at_controller l ts ending) (CoreTick l ts ending)
-    go true o = step_tick_open l ts ending a can h r o
-    go false o = step_tick_closed l ts ending a can h r o
+step_tick l ts ending a can h r =
+    by_test (is_open l.controller.side.role) (λ o. step_tick_open l ts ending a can h r o) (λ o. step_tick_closed l ts ending a can h r o)

@@ -2,11 +2,11 @@
 use Rattle.std.specs.Prelude.{◌+◌, ◌-◌, drop}
 use Rattle.link_laws.proofs.Words.{Act, ActDue, Activation, AreSendableTurns, AreShort, Bool, Clt, Control, CoreLink, CoreTurn, Down, EndState, FetchMessage}
 use Rattle.link_laws.proofs.Words.{Give, Hold, I, Link, LinkEnd, LinkState, List, Message, None, NumberedEnd, Offer, OnWire, Option, Refused, Release, Role}
-use Rattle.link_laws.proofs.Words.{Rset, S, SetAside, Some, Talk, Turn, Ua, Up, Waiting, [], act_frame, after_frames, among, ap, append-nil, aside_refusal}
-use Rattle.link_laws.proofs.Words.{becomes, core_of, core_turned, core_turns, core_with_ended, false, flat_map-append, fragments_of, frames_of, frames_out}
-use Rattle.link_laws.proofs.Words.{give_refusal, given, is_open, length, ltb-false, map, most_frames, moved, nat_lt, not, option_to_list, packet_bytes}
-use Rattle.link_laws.proofs.Words.{packets_of, put, put_all, put_out, refl, sent_all, shdlc_becomes as core_becomes, shdlc_put as core_put}
-use Rattle.link_laws.proofs.Words.{shdlc_put_all as core_put_all, shdlc_turn as core_turn_of, subst, sym, talk_now, true, turn, turned, with_ended}
+use Rattle.link_laws.proofs.Words.{Rset, S, SetAside, Some, Talk, Turn, Ua, Up, [], act_frame, after_frames, among, ap, append-nil, aside_refusal, becomes}
+use Rattle.link_laws.proofs.Words.{core_of, core_turned, core_turns, core_with_ended, false, flat_map-append, fragments_of, frames_of, frames_out, give_refusal}
+use Rattle.link_laws.proofs.Words.{given, is_open, length, ltb-false, map, most_frames, moved, nat_lt, not, option_to_list, packet_bytes, packets_of, put}
+use Rattle.link_laws.proofs.Words.{put_all, put_out, refl, sent_all, shdlc_becomes as core_becomes, shdlc_put as core_put, shdlc_put_all as core_put_all}
+use Rattle.link_laws.proofs.Words.{shdlc_turn as core_turn_of, subst, sym, talk_now, true, turn, turned, with_ended}
 use Rattle.link_laws.proofs.Words.{with_shdlc_controller as core_with_controller, ℕ, ◌++◌, ◌∙◌, ◌∷◌, ◌≡◌, ◌≤◌}
 use Rattle.link_laws.specs.sending.Sending.{IsShort}
 use Rattle.link_laws.specs.messages.Projection.{core_turn}
@@ -14,6 +14,7 @@ use Rattle.link_laws.proofs.messages.ActsInOrder.{ActsInOrder, LinkInOrder, with
 use Rattle.link_laws.proofs.messages.Ends.{Idle, Keeps, ready_keeps, frames_alike}
 use Rattle.link_laws.proofs.sessions.Ties.{ready-phase as ready_phase}
 use Rattle.link_laws.proofs.machine.Reports.{shdlc_is as shdlc_moved}
+use Rattle.link_laws.proofs.Cases.{by_option}
 
 -- ## One end
 
@@ -60,8 +61,7 @@ give_tells e m q = go e.shdlc.phase (nat_lt 4096 (length m.1)) refl refl
     go : (p : LinkState) (b : Bool) → e.shdlc.phase ≡ p → nat_lt 4096 (length m.1) ≡ b → (e.shdlc.phase ≡ Up) × (length m.1 ≤ 4096)
     go Up false p b = (p, ltb-false 4096 (length m.1) b)
     go Up true p b = absurd (let z = rw (p, b) at q in cc)
-    go Waiting b p r = absurd (let z = rw p at q in cc)
-    go Down b p r = absurd (let z = rw p at q in cc)
+    go _ b p r = absurd (let z = rw p at q in cc)
 
 pub short_more : (ms : List Message) (m : Message) → AreShort ms → IsShort m → AreShort (ms ++ m ∷ [])
 short_more [] m h s = (s, tt)
@@ -120,20 +120,23 @@ turn_mid o e (Hold held) a h =
     }
 turn_mid o e FetchMessage a h = turned_beside o e (record e { got = drop 1 e.got }) refl refl refl refl h
 turn_mid o e Release a h = turned_beside o e (record e { aside = e.aside - 1 }) refl refl refl refl h
-turn_mid o e SetAside a h = go (aside_refusal e) refl
+turn_mid o e SetAside a h =
+    by_option {P = Turned o e (turn e SetAside) []} (aside_refusal e) (λ q.
+    turned_same o e (turn e SetAside) [] [] (record e { aside = e.aside + 1 }) (none q) refl
+    (turned_beside o e (record e { aside = e.aside + 1 }) refl refl refl refl h))
+    (λ r q. turned_same o e (turn e SetAside) [] [] e (some r q) refl (turned_beside o e e refl refl refl refl h))
   where
     none : aside_refusal e ≡ None → turn e SetAside ≡ record e { aside = e.aside + 1 }
     none q = rw q refl
 
     some : (r : Refused) → aside_refusal e ≡ Some r → turn e SetAside ≡ e
     some r q = rw q refl
-
-    go : (x : Option Refused) → aside_refusal e ≡ x → Turned o e (turn e SetAside) []
-    go None q =
-        turned_same o e (turn e SetAside) [] [] (record e { aside = e.aside + 1 }) (none q) refl
-        (turned_beside o e (record e { aside = e.aside + 1 }) refl refl refl refl h)
-    go (Some r) q = turned_same o e (turn e SetAside) [] [] e (some r q) refl (turned_beside o e e refl refl refl refl h)
-turn_mid o e (Give m) a h = go (give_refusal e m) refl
+turn_mid o e (Give m) a h =
+    by_option {P = Turned o e (turn e (Give m)) (core_turn e (Give m))} (give_refusal e m) (λ q.
+    let t = give_tells e m q in
+    turned_same o e (turn e (Give m)) (core_turn e (Give m)) (Offer fs ∷ []) (given e m) (none_end q) (none_core q)
+    (record { mid = mid_given o e m h t.0 (a.0, t.1); is = offered t.0 }))
+    (λ r q. turned_same o e (turn e (Give m)) (core_turn e (Give m)) [] e (some_end r q) (some_core r q) (record { mid = h; is = refl }))
   where
     fs : List (List ℕ)
     fs = map packet_bytes (packets_of m.0 m.1)
@@ -153,13 +156,6 @@ turn_mid o e (Give m) a h = go (give_refusal e m) refl
     offered : e.shdlc.phase ≡ Up → put_out e.shdlc fs ≡ core_turn_of e.shdlc (Offer fs)
     offered up = rw up refl
 
-    go : (x : Option Refused) → give_refusal e m ≡ x → Turned o e (turn e (Give m)) (core_turn e (Give m))
-    go (Some r) q = turned_same o e (turn e (Give m)) (core_turn e (Give m)) [] e (some_end r q) (some_core r q) (record { mid = h; is = refl })
-    go None q =
-        let t = give_tells e m q in
-        turned_same o e (turn e (Give m)) (core_turn e (Give m)) (Offer fs ∷ []) (given e m) (none_end q) (none_core q)
-        (record { mid = mid_given o e m h t.0 (a.0, t.1); is = offered t.0 })
-
 pub core_turned-append : (s : EndState) (ts us : List CoreTurn) → core_turned s (ts ++ us) ≡ core_turned (core_turned s ts) us
 core_turned-append s [] us = refl
 core_turned-append s (t ∷ ts) us = core_turned-append (core_turn_of s t) ts us
@@ -178,10 +174,7 @@ turns_mid o e (t ∷ ts) a h =
   where
     parted : (t : Turn) (ts : List Turn) → AreSendableTurns (t ∷ ts) → AreSendableTurns (t ∷ []) × AreSendableTurns ts
     parted (Give m) ts a = ((a.0, tt), a.1)
-    parted (Hold held) ts a = (tt, a)
-    parted FetchMessage ts a = (tt, a)
-    parted SetAside ts a = (tt, a)
-    parted Release ts a = (tt, a)
+    parted _ ts a = (tt, a)
 
 -- ## A link
 
@@ -317,19 +310,9 @@ turned_role e [] = refl
 turned_role e (t ∷ ts) = turned_role (turn e t) ts ∙ one t
   where
     one : (t : Turn) → (turn e t).role ≡ e.role
-    one (Hold held) = refl
-    one FetchMessage = refl
-    one Release = refl
-    one SetAside = go (aside_refusal e) refl
-      where
-        go : (o : Option Refused) → aside_refusal e ≡ o → (turn e SetAside).role ≡ e.role
-        go None q = rw q refl
-        go (Some r) q = rw q refl
-    one (Give m) = go (give_refusal e m) refl
-      where
-        go : (o : Option Refused) → give_refusal e m ≡ o → (turn e (Give m)).role ≡ e.role
-        go None q = rw q refl
-        go (Some r) q = rw q refl
+    one SetAside = by_option {P = (turn e SetAside).role ≡ e.role} (aside_refusal e) (λ q. rw q refl) (λ r q. rw q refl)
+    one (Give m) = by_option {P = (turn e (Give m)).role ≡ e.role} (give_refusal e m) (λ q. rw q refl) (λ r q. rw q refl)
+    one _ = refl
 
 pub step_turned : (l k : Link) (o : Option Activation) (e : LinkEnd) (ts : List Turn) → k.host ≡ l.host → AllSay k.controller.past
     → AreSendableTurns ts → Mid o e

@@ -1,10 +1,9 @@
 -- What was delivered where nothing was lost.
-use Rattle.link_laws.proofs.Words.{AllAllowed, AllDelivered, Bool, CoreAreUpTogether, CoreLink, FragmentsDelivered as CoreAllDelivered, IsQuiet}
+use Rattle.link_laws.proofs.Words.{AllAllowed, AllDelivered, CoreAreUpTogether, CoreLink, FragmentsDelivered as CoreAllDelivered, IsQuiet}
 use Rattle.link_laws.proofs.Words.{IsShdlcQuiet as CoreIsQuiet, IsShdlcSettled as CoreIsSettled, IsStart, Link, LinkEvent, LinkTogether as AreUpTogether, List}
-use Rattle.link_laws.proofs.Words.{Message, Talk, [], after_link_events, ap, append-nil, arith, core_after, core_events, core_of, false, fragments_of}
+use Rattle.link_laws.proofs.Words.{Message, Talk, [], after_link_events, ap, append-nil, arith, core_after, core_events, core_of, fragments_of}
 use Rattle.link_laws.proofs.Words.{good_messages_of, good_of, leb-false, length, length-append, length-map, losses_of, map, messages_got, nat_le, packet_bytes}
-use Rattle.link_laws.proofs.Words.{packet_count, packets_are_counted, packets_of, refl, subst, suc, sym, talk_now, true, whole_among, ℕ, ◌+◌, ◌-◌, ◌∙◌, ◌∷◌}
-use Rattle.link_laws.proofs.Words.{◌≡◌, ◌≤◌}
+use Rattle.link_laws.proofs.Words.{packet_count, packets_are_counted, packets_of, refl, subst, suc, sym, talk_now, whole_among, ℕ, ◌+◌, ◌-◌, ◌∙◌, ◌∷◌, ◌≡◌, ◌≤◌}
 use Rattle.hcp_packet.proofs.Joining.{joined_again}
 use Rattle.link_laws.proofs.sending.TakenLemmas.{all_given}
 use Rattle.link_laws.proofs.sessions.Quiet.{delivered_here, delivered_there}
@@ -12,23 +11,21 @@ use Rattle.link_laws.proofs.sessions.Resets.{up_together as core_up_together}
 use Rattle.link_laws.specs.messages.Settled.{sure_of, IsSettled}
 use Rattle.link_laws.proofs.messages.Project.{Says}
 use Rattle.link_laws.proofs.messages.Whole.{from_start, core_starts, allowed, projected, sendable}
+use Rattle.link_laws.proofs.Cases.{by_test}
 
 -- where all fragments are there, all messages are
 whole_all : (ms : List Message) (n : ℕ) → length (fragments_of ms) ≤ n → whole_among ms n ≡ length ms
 whole_all [] n i = refl
-whole_all (m ∷ ms) n i = go (nat_le (packet_count (length m.1)) n) refl (whole_all ms (n - packet_count (length m.1)))
+whole_all (m ∷ ms) n i =
+    by_test {P = whole_among (m ∷ ms) n ≡ length (m ∷ ms)} (nat_le (packet_count (length m.1)) n)
+    (λ q. rw q (ap suc ((whole_all ms (n - packet_count (length m.1))) (omega (arith, i, count)))))
+    (λ q. absurd (let z = leb-false (packet_count (length m.1)) n q in omega (arith, i, count, z)))
   where
     count : length (fragments_of (m ∷ ms)) ≡ packet_count (length m.1) + length (fragments_of ms)
     count =
         let a = length-append (map packet_bytes (packets_of m.0 m.1)) (fragments_of ms) in
         let b = length-map (packets_of m.0 m.1) packet_bytes ∙ packets_are_counted m.0 m.1 in
         omega (arith, a, b)
-
-    go : (b : Bool) → nat_le (packet_count (length m.1)) n
-        ≡ b → (length (fragments_of ms) ≤ n - packet_count (length m.1) → whole_among ms (n - packet_count (length m.1)) ≡ length ms)
-        → whole_among (m ∷ ms) n ≡ length (m ∷ ms)
-    go true q later = rw q (ap suc (later (omega (arith, i, count))))
-    go false q later = absurd (let z = leb-false (packet_count (length m.1)) n q in omega (arith, i, count, z))
 
 in_messages : (s r : Talk) → Says s → CoreAllDelivered s.session r.session → AllDelivered s r
 in_messages s r says d =

@@ -1,15 +1,15 @@
 -- An end makes an RSET only in a tick and where a reset is asked for, one at most: no frame that it takes makes one, nor does its node.
-use Rattle.std.proofs.Common.{◌==◌}
 use Rattle.link_laws.proofs.Words.{Act as ActFrame, ActEvent, ActOut, ActStart, ActStop, ActTake, ActTick, Activation as Act, Asked, Bool, Clt, Control, Down}
-use Rattle.link_laws.proofs.Words.{Due, EndState, FetchMessage, Fragment, Give, Hold, I, Kind, LinkEnd, LinkState, List, None, Option, Refused, Rej, Rej_due}
-use Rattle.link_laws.proofs.Words.{Release, Reset, Rnr, Rnr_due, Rr, Rr_due, Rset, Rset_due, S, SetAside, Some, Srej, Turn, Ua, Ua_due, Up, Waiting, []}
-use Rattle.link_laws.proofs.Words.{acknowledged, act_answer, activated, after_input, arith, aside_refusal, cond, deactivated, due_left, false, give_refusal}
-use Rattle.link_laws.proofs.Words.{given, had_tick, heard, if_up, is_faulty, is_open, is_some, is_waiting, moved, nat_lt, news, not, place_of, put_down}
-use Rattle.link_laws.proofs.Words.{received, refl, reset_by, reset_refusal, reset_with, role_after, rsets_among, rsets_due, runs_timer, started, stopped}
-use Rattle.link_laws.proofs.Words.{take_answer, taken, tick_answer, ticked, took, true, turn, turned, waiting_from, window_of, with_act, ℕ, ◌++◌, ◌+◌, ◌∷◌, ◌≡◌}
-use Rattle.link_laws.proofs.Words.{◌≤◌}
+use Rattle.link_laws.proofs.Words.{Due, EndState, FetchMessage, Fragment, Give, Hold, I, Kind, LinkEnd, LinkState, List, None, Option, Refused, Rej_due}
+use Rattle.link_laws.proofs.Words.{Release, Reset, Rnr_due, Rr_due, Rset_due, S, SetAside, Some, Srej, Turn, Ua_due, Up, Waiting, [], acknowledged, act_answer}
+use Rattle.link_laws.proofs.Words.{activated, after_input, arith, aside_refusal, cond, deactivated, due_left, false, give_refusal, given, had_tick, heard}
+use Rattle.link_laws.proofs.Words.{if_up, is_faulty, is_open, is_some, is_waiting, moved, news, not, place_of, put_down, received, refl, reset_by}
+use Rattle.link_laws.proofs.Words.{reset_refusal, reset_with, role_after, rsets_among, rsets_due, started, stopped, take_answer, taken, tick_answer, ticked}
+use Rattle.link_laws.proofs.Words.{took, true, turn, turned, waiting_from, window_of, with_act, ℕ, ◌++◌, ◌+◌, ◌∷◌, ◌≡◌, ◌≤◌}
 use Rattle.link_laws.proofs.places.Joined.{ready_cases, received_cases}
 use Rattle.link_laws.specs.machine.Machine.{unless}
+use Rattle.link_laws.proofs.Cases.{by_option, by_phase}
+use Rattle.link_laws.proofs.machine.Walks.{by_taken, by_tick}
 
 -- ## Control frames that are due
 
@@ -29,63 +29,25 @@ with_other ds d q = let z = due_more ds d in omega (arith, z, q)
 -- ## A frame
 
 up_I : (e : EndState) (ns nr : ℕ) (info : Fragment) → e.phase ≡ Up → rsets_among (taken e (I ns nr info)).due ≤ rsets_among e.due
-up_I e ns nr info up = go (place_of e.session nr) refl
+up_I e ns nr info up = by_option (place_of e.session nr) (λ q. rw (up, q) (omega arith)) (λ x q. rw (up, q) (let z = by x in rw up at z))
   where
     by : (x : ℕ) → rsets_among (received (acknowledged e x) ns info).due ≤ rsets_among e.due
     by x =
         received_cases (λ f. rsets_among f.due ≤ rsets_among e.due) (acknowledged e x) ns info (λ _. with_other e.due Rr_due refl) (λ _ _. omega arith)
         (λ _ _. with_other e.due Rej_due refl) (λ _ _. with_other e.due Rr_due refl) (with_other e.due Rnr_due refl)
 
-    go : (o : Option ℕ) → place_of e.session nr ≡ o → rsets_among (taken e (I ns nr info)).due ≤ rsets_among e.due
-    go None q = rw (up, q) (omega arith)
-    go (Some x) q = rw (up, q) (let z = by x in rw up at z)
-
 up_S : (e : EndState) (k : Kind) (nr : ℕ) → e.phase ≡ Up → rsets_among (taken e (S k nr)).due ≤ rsets_among e.due
 up_S e k nr up = go k (place_of e.session nr) refl
   where
     go : (k : Kind) (o : Option ℕ) → place_of e.session nr ≡ o → rsets_among (taken e (S k nr)).due ≤ rsets_among e.due
-    go Rr None q = rw (up, q) (omega arith)
-    go Rr (Some x) q = rw (up, q) (omega arith)
-    go Rej None q = rw (up, q) (omega arith)
-    go Rej (Some x) q = rw (up, q) (omega arith)
-    go Rnr None q = rw (up, q) (omega arith)
-    go Rnr (Some x) q = rw (up, q) (omega arith)
     go Srej o q = rw up (omega arith)
-
--- an RSET is answered by UA
-rset_taken : (e : EndState) (w caps : ℕ) (p : LinkState) → e.phase ≡ p → rsets_among (taken e (Rset w caps)).due ≤ rsets_among e.due
-rset_taken e w caps p is = go p (w == 0) is refl
-  where
-    go : (p : LinkState) (b : Bool) → e.phase ≡ p → (w == 0) ≡ b → rsets_among (taken e (Rset w caps)).due ≤ rsets_among e.due
-    go Up true p q = rw (p, q) (omega arith)
-    go Up false p q = rw (p, q) (omega arith)
-    go Waiting true p q = rw (p, q) (omega arith)
-    go Waiting false p q = rw (p, q) (with_other e.due Ua_due refl)
-    go Down true p q = rw (p, q) (omega arith)
-    go Down false p q = rw (p, q) (with_other e.due Ua_due refl)
+    go _ None q = rw (up, q) (omega arith)
+    go _ (Some x) q = rw (up, q) (omega arith)
 
 taken_due : (e : EndState) (c : Control) → rsets_among (taken e c).due ≤ rsets_among e.due
-taken_due e c = go e.phase refl c
-  where
-    go : (p : LinkState) → e.phase ≡ p → (c : Control) → rsets_among (taken e c).due ≤ rsets_among e.due
-    go Up p (I ns nr info) = up_I e ns nr info p
-    go Up p (S kind nr) = up_S e kind nr p
-    go Up p (Rset w caps) = rset_taken e w caps Up p
-    go Up p Ua = rw p (omega arith)
-    go Up p (ActFrame act again) = rw p (omega arith)
-    go Up p Clt = rw p (omega arith)
-    go Waiting p Ua = rw p (omega arith)
-    go Waiting p (Rset w caps) = rset_taken e w caps Waiting p
-    go Waiting p (I ns nr info) = rw p (omega arith)
-    go Waiting p (S kind nr) = rw p (omega arith)
-    go Waiting p (ActFrame act again) = rw p (omega arith)
-    go Waiting p Clt = rw p (omega arith)
-    go Down p (Rset w caps) = rset_taken e w caps Down p
-    go Down p (I ns nr info) = rw p (omega arith)
-    go Down p (S kind nr) = rw p (omega arith)
-    go Down p Ua = rw p (omega arith)
-    go Down p (ActFrame act again) = rw p (omega arith)
-    go Down p Clt = rw p (omega arith)
+taken_due e c =
+    by_taken (λ _ f _. rsets_among f.due ≤ rsets_among e.due) e (up_I e) (up_S e) (λ _. omega arith) (λ _ _ _. omega arith)
+    (λ _ _ _. with_other e.due Ua_due refl) (λ _ _ _. with_other e.due Ua_due refl) (λ _. omega arith) c
 
 -- ## A tick and a reset
 
@@ -100,18 +62,9 @@ waiting_due e =
     let z = due_more (due_left e.phase e.due) Rset_due in let w = left_due e.phase e.due in omega (arith, z, w)
 
 ticked_due : (e : EndState) → rsets_among (ticked e).due ≤ rsets_among e.due + 1
-ticked_due e = go e.phase (runs_timer e.session) (nat_lt (e.timer + 1) 10) (nat_lt e.tries 5) refl refl refl refl
-  where
-    go : (p : LinkState) (r a b : Bool) → e.phase ≡ p → runs_timer e.session ≡ r → nat_lt (e.timer + 1) 10 ≡ a → nat_lt e.tries 5 ≡ b
-        → rsets_among (ticked e).due ≤ rsets_among e.due + 1
-    go Down r a b p t u v = rw p (omega arith)
-    go Waiting r true b p t u v = rw (p, u) (omega arith)
-    go Waiting r false true p t u v = rw (p, u, v) (let z = due_more e.due Rset_due in omega (arith, z))
-    go Waiting r false false p t u v = rw (p, u, v) (omega arith)
-    go Up false a b p t u v = rw (p, t) (omega arith)
-    go Up true true b p t u v = rw (p, t, u) (omega arith)
-    go Up true false true p t u v = rw (p, t, u, v) (omega arith)
-    go Up true false false p t u v = rw (p, t, u, v) (omega arith)
+ticked_due e =
+    by_tick (λ f _. rsets_among f.due ≤ rsets_among e.due + 1) e (omega arith) (λ _. omega arith) (λ _. omega arith) (λ _. waiting_due e)
+    (λ _. let z = due_more e.due Rset_due in omega (arith, z)) (λ _. omega arith)
 
 reset_due : (s : EndState) (w : ℕ) → rsets_among (reset_with s w).due ≤ rsets_among s.due + 1
 reset_due s w = go (is_waiting s)
@@ -129,12 +82,8 @@ moved_due e false s = refl
 -- a packet that can't be joined takes the link down, and no RSET goes out
 down_due : (e : LinkEnd) (b : Bool) → rsets_due (put_down b e) ≤ rsets_due e
 down_due e false = omega arith
-down_due e true = go e.shdlc.phase refl
-  where
-    go : (p : LinkState) → e.shdlc.phase ≡ p → rsets_due (put_down true e) ≤ rsets_due e
-    go Up p = rw p (omega arith)
-    go Waiting p = rw p (omega arith)
-    go Down p = rw p (omega arith)
+down_due e true =
+    by_phase {P = rsets_due (put_down true e) ≤ rsets_due e} e.shdlc.phase (λ p. rw p (omega arith)) (λ p. rw p (omega arith)) (λ p. rw p (omega arith))
 
 act_due : (o : Option Act) (e : LinkEnd) → rsets_due (with_act o e) ≡ rsets_due e
 act_due None e = refl
@@ -169,10 +118,7 @@ open_due e c = go (is_open e.role)
 pub took_due : (e : LinkEnd) (c : Control) → rsets_due (took e c) ≤ rsets_due e
 took_due e (ActFrame act again) = activated_due e (ActTake act again)
 took_due e Clt = omega arith
-took_due e (I ns nr info) = open_due e (I ns nr info)
-took_due e (S kind nr) = open_due e (S kind nr)
-took_due e (Rset w caps) = open_due e (Rset w caps)
-took_due e Ua = open_due e Ua
+took_due e frame = open_due e frame
 
 -- a tick makes one at most
 pub had_tick_due : (e : LinkEnd) → rsets_due (had_tick e) ≤ rsets_due e + 1

@@ -11,6 +11,7 @@ use Rattle.link_laws.proofs.Words.{◌+◌, ◌-◌, ◌∙◌, ◌∷◌, ◌�
 use Rattle.link_laws.proofs.places.Joined.{fetch_cases}
 use Rattle.link_laws.specs.messages.Rsets.{rsets_made, resets_in_coming, resets_in_event, resets_in_events, rset_causes}
 use Rattle.link_laws.proofs.messages.RsetsDue.{took_due, had_tick_due, had_reset_due, started_due, deactivated_due, turned_due}
+use Rattle.link_laws.proofs.Cases.{by_test}
 
 -- ## RSETs among frames
 
@@ -78,18 +79,10 @@ out_rsets e =
 -- ## A step of the near end
 
 put_more : (l : Link) (c : Control) → (put l c).resets ≡ l.resets + cond (is_rset c) 1 0
-put_more l c = go (is_rset c) refl
-  where
-    go : (b : Bool) → is_rset c ≡ b → (put l c).resets ≡ l.resets + cond (is_rset c) 1 0
-    go true q = rw q refl
-    go false q = rw q (omega arith)
+put_more l c = by_test (is_rset c) (λ q. rw q refl) (λ q. rw q (omega arith))
 
 put_host : (l : Link) (c : Control) → (put l c).host ≡ l.host
-put_host l c = go (is_rset c) refl
-  where
-    go : (b : Bool) → is_rset c ≡ b → (put l c).host ≡ l.host
-    go true q = rw q refl
-    go false q = rw q refl
+put_host l c = by_test (is_rset c) (λ q. rw q refl) (λ q. rw q refl)
 
 puts_more : (cs : List Control) (l : Link) → (put_all l cs).resets ≡ l.resets + rsets cs
 puts_more [] l = omega arith

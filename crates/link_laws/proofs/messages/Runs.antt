@@ -1,15 +1,15 @@
 -- Every run of a link over messages is projected, and no chain fault comes in it.
 use Rattle.link_laws.proofs.Words.{Act, ActStart, ActStop, Activate, AllAllowed, AllShdlcAllowed as CoreAllAllowed, AreOwn, AreTurns as CoreAreTurns, AsksReset}
-use Rattle.link_laws.proofs.Words.{AtController, AtHost, Bare, Bool, CanStart, Clf, ClfAct, Clt, Comes, Control, CoreAtController, CoreAtHost, CoreDeliver}
-use Rattle.link_laws.proofs.Words.{CoreEndEvent, CoreIsAllowed, CoreLink, CoreTurn, CutOff, EndEvent, Ending, GoesOut, I, IsAllowed, IsClf, IsEvent, IsNode}
-use Rattle.link_laws.proofs.Words.{IsOwn, IsShdlcStart as CoreIsStart, IsUicc, Link, LinkEnd, LinkEvent, List, Lose, Loss, NextFrame, NoInput, Node, None}
-use Rattle.link_laws.proofs.Words.{NumberedEnd, OnWire, Option, Refused, Role, Rset, S, ShdlcLinkEvent as CoreLinkEvent, Some, Starts, Step as EndStep, Stops}
-use Rattle.link_laws.proofs.Words.{Tick as CoreTick, TickWithout as CoreTickWithout, Ticks, TicksWithout, Turn, Ua, Uicc, [], after_link_events, aged}
-use Rattle.link_laws.proofs.Words.{all_at_controller, ap, core_after, core_aged, core_all, core_all_here, core_ending, core_event, core_events}
-use Rattle.link_laws.proofs.Words.{core_happens_here, core_here, core_of, core_reset, core_step, core_take, core_tick, core_tick_rest, core_ticks_if_waiting}
-use Rattle.link_laws.proofs.Words.{core_ticks_or_cut, drop, exchanged, false, happens, happens_at_controller, is_active, is_lost_tick, is_open, map, moved}
-use Rattle.link_laws.proofs.Words.{refl, renewed, reset_refusal, role_after, shdlc_exchanged as core_exchanged, shdlc_happens as core_happens, started}
-use Rattle.link_laws.proofs.Words.{steps_at_controller, stopped, subst, sym, ticks_at_controller, true, turned, window_of, ℕ, ◌++◌, ◌<◌, ◌∙◌, ◌∷◌, ◌≡◌, ◌≤◌}
+use Rattle.link_laws.proofs.Words.{AtController, AtHost, Bool, CanStart, Clf, ClfAct, Comes, Control, CoreAtController, CoreAtHost, CoreDeliver, CoreEndEvent}
+use Rattle.link_laws.proofs.Words.{CoreIsAllowed, CoreLink, CoreTurn, CutOff, EndEvent, Ending, GoesOut, IsAllowed, IsClf, IsEvent, IsNode, IsOwn}
+use Rattle.link_laws.proofs.Words.{IsShdlcStart as CoreIsStart, IsUicc, Link, LinkEnd, LinkEvent, List, Lose, Loss, NextFrame, NoInput, Node, None, NumberedEnd}
+use Rattle.link_laws.proofs.Words.{OnWire, Option, Refused, Role, ShdlcLinkEvent as CoreLinkEvent, Some, Starts, Step as EndStep, Stops, Tick as CoreTick}
+use Rattle.link_laws.proofs.Words.{TickWithout as CoreTickWithout, Ticks, TicksWithout, Turn, Uicc, [], after_link_events, aged, all_at_controller, ap}
+use Rattle.link_laws.proofs.Words.{core_after, core_aged, core_all, core_all_here, core_ending, core_event, core_events, core_happens_here, core_here, core_of}
+use Rattle.link_laws.proofs.Words.{core_reset, core_step, core_take, core_tick, core_tick_rest, core_ticks_if_waiting, core_ticks_or_cut, drop, exchanged}
+use Rattle.link_laws.proofs.Words.{false, happens, happens_at_controller, is_active, is_lost_tick, is_open, map, moved, refl, renewed, reset_refusal}
+use Rattle.link_laws.proofs.Words.{role_after, shdlc_exchanged as core_exchanged, started, steps_at_controller, stopped, subst, sym, ticks_at_controller, true}
+use Rattle.link_laws.proofs.Words.{turned, window_of, ℕ, ◌++◌, ◌<◌, ◌∙◌, ◌∷◌, ◌≡◌, ◌≤◌}
 use Rattle.link_laws.proofs.sessions.Sending.{SafeLink}
 use Rattle.link_laws.proofs.sessions.Steps.{after-append, safe, in_order_here, in_order_there, safe_aged, safe_turns, safe_exchanged, tick_or_cut}
 use Rattle.link_laws.proofs.sessions.Steps.{tick_if_waiting}
@@ -19,6 +19,7 @@ use Rattle.link_laws.proofs.messages.Steps.{Rests, FromHost, activated_role}
 use Rattle.link_laws.proofs.messages.Finishing.{step_idle, step_frame, step_reset, step_restart, step_tick, all_here-append}
 use Rattle.link_laws.proofs.messages.ActsInOrder.{ActsInOrder, LinkInOrder, in_order_swap, in_order_drop, in_order_aged, in_order_start, in_order_stop}
 use Rattle.link_laws.proofs.messages.ActsInOrder.{polite_of}
+use Rattle.link_laws.proofs.Cases.{by_list}
 
 -- ## Lists of events
 
@@ -64,16 +65,8 @@ take_allowed e c ts = go c (is_open e.role) refl
   where
     go : (c : Control) (b : Bool) → is_open e.role ≡ b → AreAllowed (core_take e c ts)
     go (Act _ _) b q = (tt, (tt, tt))
-    go (I _ _ _) true q = rw q (tt, tt)
-    go (I _ _ _) false q = rw q (tt, tt)
-    go (S _ _) true q = rw q (tt, tt)
-    go (S _ _) false q = rw q (tt, tt)
-    go (Rset _ _) true q = rw q (tt, tt)
-    go (Rset _ _) false q = rw q (tt, tt)
-    go Ua true q = rw q (tt, tt)
-    go Ua false q = rw q (tt, tt)
-    go Clt true q = rw q (tt, tt)
-    go Clt false q = rw q (tt, tt)
+    go _ true q = rw q (tt, tt)
+    go _ false q = rw q (tt, tt)
 
 -- what is allowed at an end, and in a tick where no frame is taken
 pub record Both (es : List CoreEndEvent) : Type 0 where
@@ -95,19 +88,15 @@ reset_both (Some why) e w ts ending a = let b = ending_both ending in record { a
 
 pub step_allowed : (l : Link) (comes : Comes) (ts : List Turn) (ending : Ending) → Rests l.controller.side.shdlc → CanCome l comes
     → AreAllowed (core_step l comes ts ending)
-step_allowed l NextFrame ts ending r a = go l.to_controller refl
-  where
-    go : (w : List OnWire) → l.to_controller ≡ w → AreAllowed (core_step l NextFrame ts ending)
-    go [] q = rw q tt
-    go (x ∷ xs) q =
-        rw q (are_allowed-append (core_take l.controller.side x.frame ts) (core_ending ending) (take_allowed l.controller.side x.frame ts)
-        (ending_both ending).allowed)
+step_allowed l NextFrame ts ending r a =
+    by_list {P = AreAllowed (core_step l NextFrame ts ending)} l.to_controller (λ q. rw q tt) (λ x xs q.
+    rw q (are_allowed-append (core_take l.controller.side x.frame ts) (core_ending ending) (take_allowed l.controller.side x.frame ts)
+    (ending_both ending).allowed))
 step_allowed l (AsksReset window) ts ending r a =
     (reset_both (reset_refusal l.controller.side) l.controller.side (window_of l.controller.side window) ts ending
     (window_fits l.controller.side window r a)).allowed
-step_allowed l (Starts value) ts ending r a = (tt, (tt, (ending_both ending).allowed))
-step_allowed l Stops ts ending r a = (tt, (tt, (ending_both ending).allowed))
 step_allowed l NoInput ts ending r a = (tt, (ending_both ending).allowed)
+step_allowed l _ ts ending r a = (tt, (tt, (ending_both ending).allowed))
 
 pub own_turns : (l : Link) (e : EndEvent) → Rests l.controller.side.shdlc → IsOwn e → IsAllowed l e → CoreAreTurns (core_here l e)
 own_turns l (EndStep NextFrame ts ending) r o a = absurd o
@@ -306,12 +295,11 @@ started_clf l power ts ending i = by ending (clf l.controller.side.role i refl)
     g = started l.controller.side power
 
     clf : (r : Role) → IsClf r → l.controller.side.role ≡ r → IsIdleClf (turned g ts).role
-    clf Bare i q = absurd i
-    clf (Uicc s) i q = absurd i
     clf (Clf s) i q =
         let after_link_events : (turned g ts).role ≡ role_after l.controller.side.role (ActStart power) =
         turned_role g ts ∙ activated_role (moved l.controller.side true (stopped l.controller.side.shdlc)) (ActStart power) in
         record { clf = _; is = after_link_events ∙ ap (λ r. role_after r (ActStart power)) q; idle = refl }
+    clf _ i q = absurd i
 
     by : (ending : Ending) → IsIdleClf (turned g ts).role → IsIdleClf (steps_at_controller l (Starts power) ts ending).controller.side.role
     by GoesOut k = k
@@ -319,14 +307,12 @@ started_clf l power ts ending i = by ending (clf l.controller.side.role i refl)
 
 -- activation may begin at a CLF
 pub clf_starts : (r f : Role) → IsClf r → CanStart r f
-clf_starts Bare f i = absurd i
 clf_starts (Clf s) f i = tt
-clf_starts (Uicc s) f i = absurd i
+clf_starts _ f i = absurd i
 
 pub can_start : (r f : Role) → IsUicc r → IsIdleClf f → CanStart r f
-can_start Bare f u k = absurd u
-can_start (Clf s) f u k = absurd u
 can_start (Uicc s) f u k = let P : Role → Type 0 = λ z. CanStart (Uicc s) z in subst P (sym k.is) k.idle
+can_start _ f u k = absurd u
 
 -- what is known once the host's end has had its tick
 record Ticked (n : Link) (c : CoreLink) : Type 0 where

@@ -2,15 +2,15 @@
 use Rattle.std.proofs.Common.{not}
 use Rattle.std.specs.Prelude.{◌+◌}
 use Rattle.link_laws.proofs.Words.{Act, ActDue, ActEvent, ActReady, ActTake, ActTick, Activation, AreSendableTurns, Awaiting, Bare, Bool, ByAct, Clf, Clt}
-use Rattle.link_laws.proofs.Words.{Control, CoreActs, CoreDeliver, CoreInOrder, CoreLink, CoreLose, CoreTurn, Down, Due, EndState, I, Ignore as CoreIgnore}
+use Rattle.link_laws.proofs.Words.{Control, CoreActs, CoreDeliver, CoreInOrder, CoreLink, CoreLose, CoreTurn, Down, Due, EndState, Ignore as CoreIgnore}
 use Rattle.link_laws.proofs.Words.{Inactive, IsFrontOf, IsTrue, Link, LinkEnd, LinkState, List, Message, None, NumberedEnd, NumberedShdlc as CoreEnd, OnWire}
-use Rattle.link_laws.proofs.Words.{Option, Phase, PowerMode, Role, Rset, S, Session, Some, SyncId, Talk, Turn, Ua, Uicc, Up, Waiting, [], act_answer, activated}
-use Rattle.link_laws.proofs.Words.{after_frames, ap, are_taken, becomes, cond, core_all_here, core_end, core_happens_here, core_of, core_past, core_take}
-use Rattle.link_laws.proofs.Words.{core_turned, core_turns, core_with_ended, ended_by_frame, ended_session, ended_talk, eq-eqb, false, fragments_of, if_up}
-use Rattle.link_laws.proofs.Words.{in_front, inl, inr, is_act, is_faulty, is_open, is_rset, is_some, map, most_frames, moved, nat_le, news, no_session}
-use Rattle.link_laws.proofs.Words.{number_of, option_to_list, packets_in, put_down, refl, role_after, shdlc_becomes as core_becomes}
-use Rattle.link_laws.proofs.Words.{shdlc_number_of as core_number_of, shdlc_put_all as core_put_all, shdlc_session_of, subst, sym, take_answer, taken, talk_now}
-use Rattle.link_laws.proofs.Words.{talk_of, took, took_with, true, true≢false, turned, with_act, with_ended, ℕ, ◌++◌, ◌<◌, ◌==◌, ◌∙◌, ◌∷◌, ◌≡◌, ◌≤◌, ◌⊎◌}
+use Rattle.link_laws.proofs.Words.{Option, Phase, PowerMode, Role, Session, Some, SyncId, Talk, Turn, Uicc, Up, [], act_answer, activated, after_frames, ap}
+use Rattle.link_laws.proofs.Words.{are_taken, becomes, cond, core_all_here, core_end, core_happens_here, core_of, core_past, core_take, core_turned, core_turns}
+use Rattle.link_laws.proofs.Words.{core_with_ended, ended_by_frame, ended_session, ended_talk, eq-eqb, false, fragments_of, if_up, in_front, inl, inr, is_act}
+use Rattle.link_laws.proofs.Words.{is_faulty, is_open, is_rset, is_some, map, most_frames, moved, nat_le, news, no_session, number_of, option_to_list}
+use Rattle.link_laws.proofs.Words.{packets_in, put_down, refl, role_after, shdlc_becomes as core_becomes, shdlc_number_of as core_number_of}
+use Rattle.link_laws.proofs.Words.{shdlc_put_all as core_put_all, shdlc_session_of, subst, sym, take_answer, taken, talk_now, talk_of, took, took_with, true}
+use Rattle.link_laws.proofs.Words.{true≢false, turned, with_act, with_ended, ℕ, ◌++◌, ◌<◌, ◌==◌, ◌∙◌, ◌∷◌, ◌≡◌, ◌≤◌, ◌⊎◌}
 use Rattle.swp_act.specs.declared.Phase.TheVariants.{Active}
 use Rattle.link_laws.proofs.sending.TakenLemmas.{no_fault}
 use Rattle.link_laws.proofs.sessions.Steps.{took as core_took}
@@ -19,6 +19,7 @@ use Rattle.link_laws.proofs.messages.Ends.{Idle, taken_keeps, Alike, frames_alik
 use Rattle.link_laws.proofs.messages.Project.{Says, Mid, Now, mid_moved, moved_role, frames_now, AllSay, Tells, Step, step_same, step_turned}
 use Rattle.link_laws.proofs.machine.Runs.{opened}
 use Rattle.link_laws.proofs.machine.Reports.{shdlc_is as shdlc_moved}
+use Rattle.link_laws.proofs.Cases.{by_phase, by_test}
 
 -- ## A frame is taken
 
@@ -132,12 +133,7 @@ counted_is e x h q =
     }
   where
     clt : (s : EndState) → (is_some (take_answer s Clt).ended ≡ false) × (taken s Clt ≡ s)
-    clt s = go s.phase refl
-      where
-        go : (p : LinkState) → s.phase ≡ p → (is_some (take_answer s Clt).ended ≡ false) × (taken s Clt ≡ s)
-        go Up p = (rw p refl, rw p refl)
-        go Waiting p = (rw p refl, rw p refl)
-        go Down p = (rw p refl, rw p refl)
+    clt s = by_phase s.phase (λ p. (rw p refl, rw p refl)) (λ p. (rw p refl, rw p refl)) (λ p. (rw p refl, rw p refl))
 
 -- a frame of SHDLC
 abbrev pub is_shdlc : Control → Bool
@@ -158,20 +154,14 @@ took_open e x q o f = go x.frame q f
     go : (c : Control) → is_shdlc c ≡ true → is_faulty (taken e.shdlc c).session ≡ false
         → (took e c ≡ news_of c) × (is_some (ended_by_frame e c) ≡ is_some (take_answer e.shdlc c).ended)
     go (Act _ _) q f = absurd (true≢false (sym q))
-    go (I ns nr info) q f = (rw (o, f) refl, rw (o, f) refl)
-    go (S kind nr) q f = (rw (o, f) refl, rw (o, f) refl)
-    go (Rset w caps) q f = (rw (o, f) refl, rw (o, f) refl)
-    go Ua q f = (rw (o, f) refl, rw (o, f) refl)
     go Clt q f = absurd (true≢false (sym q))
+    go _ q f = (rw (o, f) refl, rw (o, f) refl)
 
 -- one that isn't passes over it
 pub took_closed : (e : LinkEnd) (c : Control) → is_shdlc c ≡ true → is_open e.role ≡ false → (took e c ≡ e) × (is_some (ended_by_frame e c) ≡ false)
 took_closed e (Act _ _) q o = absurd (true≢false (sym q))
-took_closed e (I ns nr info) q o = (rw o refl, rw o refl)
-took_closed e (S kind nr) q o = (rw o refl, rw o refl)
-took_closed e (Rset w caps) q o = (rw o refl, rw o refl)
-took_closed e Ua q o = (rw o refl, rw o refl)
 took_closed e Clt q o = absurd (true≢false (sym q))
+took_closed e _ q o = (rw o refl, rw o refl)
 
 -- ## Frames of activation
 
@@ -183,25 +173,22 @@ role_closes (Clf s) act true q = inl q
 role_closes (Clf s) (SyncId id) false q = go s.phase refl
   where
     go : (p : Phase) → s.phase ≡ p → (is_open (Clf s) ≡ false) ⊎ ((act_answer (Clf s) (ActTake (SyncId id) false)).ended_link ≡ true)
-    go Inactive p = inl (rw p refl)
-    go (Awaiting tries ticks) p = inl (rw p refl)
     go Active p = inr (rw p refl)
+    go _ p = inl (rw p refl)
 role_closes (Clf s) ActReady false q = go s.phase refl
   where
     go : (p : Phase) → s.phase ≡ p → (is_open (Clf s) ≡ false) ⊎ ((act_answer (Clf s) (ActTake ActReady false)).ended_link ≡ true)
-    go Inactive p = inl (rw p refl)
-    go (Awaiting tries ticks) p = inl (rw p refl)
     go Active p = absurd (let z = rw p at q in cc)
+    go _ p = inl (rw p refl)
 role_closes (Clf s) (PowerMode code) false q = inl q
 role_closes (Uicc s) act true q = inl q
 role_closes (Uicc s) (PowerMode code) false q = go s.phase (nat_le code 1) refl refl
   where
     go : (p : Phase) (b : Bool) → s.phase ≡ p → nat_le code 1 ≡ b → (is_open (Uicc s) ≡ false)
         ⊎ ((act_answer (Uicc s) (ActTake (PowerMode code) false)).ended_link ≡ true)
-    go Inactive b p c = inl (rw p refl)
-    go (Awaiting tries ticks) b p c = inl (rw p refl)
     go Active true p c = absurd (let z = rw (c, p) at q in cc)
     go Active false p c = inl (let z = rw c at q in z)
+    go _ b p c = inl (rw p refl)
 role_closes (Uicc s) ActReady false q = inl q
 role_closes (Uicc s) (SyncId id) false q = inl q
 
@@ -279,12 +266,8 @@ act_mid e event h due down closed =
 
 ended-core : (past : List (ℕ × Talk)) (n : ℕ) → ended_session (core_past past) n ≡ (ended_talk past n).session
 ended-core [] n = refl
-ended-core (x ∷ xs) n = go (n == x.0) refl (ended-core xs n)
-  where
-    go : (b : Bool) → (n == x.0) ≡ b → ended_session (core_past xs) n ≡ (ended_talk xs n).session
-        → ended_session (core_past (x ∷ xs)) n ≡ (ended_talk (x ∷ xs) n).session
-    go true q later = rw q refl
-    go false q later = rw q later
+ended-core (x ∷ xs) n =
+    by_test {P = ended_session (core_past (x ∷ xs)) n ≡ (ended_talk (x ∷ xs) n).session} (n == x.0) (λ q. rw q refl) (λ q. rw q (ended-core xs n))
 
 pub session-core : (h : NumberedEnd) (n : ℕ) → shdlc_session_of (core_end h) n ≡ (talk_of h n).session
 session-core h n = go h.side.shdlc.phase (n == core_number_of (core_end h)) refl refl
@@ -293,16 +276,11 @@ session-core h n = go h.side.shdlc.phase (n == core_number_of (core_end h)) refl
         → shdlc_session_of (core_end h) n ≡ (talk_of h n).session
     go Up true p q = rw (p, q) refl
     go Up false p q = rw (p, q) (ended-core h.past n)
-    go Waiting b p q = rw p (ended-core h.past n)
-    go Down b p q = rw p (ended-core h.past n)
+    go _ b p q = rw p (ended-core h.past n)
 
 past_says : (past : List (ℕ × Talk)) (n : ℕ) → AllSay past → Says (ended_talk past n)
 past_says [] n h = record { out = refl; short = tt }
-past_says (x ∷ xs) n h = go (n == x.0) refl (past_says xs n h.1)
-  where
-    go : (b : Bool) → (n == x.0) ≡ b → Says (ended_talk xs n) → Says (ended_talk (x ∷ xs) n)
-    go true q later = rw q h.0
-    go false q later = rw q later
+past_says (x ∷ xs) n h = by_test {P = Says (ended_talk (x ∷ xs) n)} (n == x.0) (λ q. rw q h.0) (λ q. rw q (past_says xs n h.1))
 
 pub says_of : (h : NumberedEnd) (n : ℕ) → Tells h → Says (talk_of h n)
 says_of h n t = go h.side.shdlc.phase (n == number_of h) refl refl
@@ -313,8 +291,7 @@ says_of h n t = go h.side.shdlc.phase (n == number_of h) refl refl
     go : (p : LinkState) (b : Bool) → h.side.shdlc.phase ≡ p → (n == number_of h) ≡ b → Says (talk_of h n)
     go Up true p q = rw (p, q) says
     go Up false p q = rw (p, q) (past_says h.past n t.past)
-    go Waiting b p q = rw p (past_says h.past n t.past)
-    go Down b p q = rw p (past_says h.past n t.past)
+    go _ b p q = rw p (past_says h.past n t.past)
 
 -- ## No chain fault
 
@@ -332,7 +309,9 @@ FromHost c = (n : ℕ) → CoreInOrder (shdlc_session_of c.host n) (shdlc_sessio
 pub no_fault_first : (l : Link) (x : OnWire) (xs : List OnWire) → l.to_controller ≡ x ∷ xs → Tells l.controller → Tells l.host
     → is_open l.controller.side.role ≡ true → FromHost (core_took (core_of l) [] x xs)
     → is_faulty (taken l.controller.side.shdlc x.frame).session ≡ false
-no_fault_first l x xs w h t o from = go s.phase refl
+no_fault_first l x xs w h t o from =
+    by_phase {P = is_faulty s.session ≡ false} s.phase (λ p. up p) (λ p. none (idle (λ u. let z = sym p ∙ u in cc)).1)
+    (λ p. none (idle (λ u. let z = sym p ∙ u in cc)).1)
   where
     s : EndState
     s = taken l.controller.side.shdlc x.frame
@@ -377,11 +356,6 @@ no_fault_first l x xs w h t o from = go s.phase refl
         ) in
         sound (are_taken [] (packets_in s.session.acc)) (no_fault (talk_of l.host n).sent s.session.acc says.short front)
 
-    go : (p : LinkState) → s.phase ≡ p → is_faulty s.session ≡ false
-    go Up p = up p
-    go Waiting p = none (idle (λ u. let z = sym p ∙ u in cc)).1
-    go Down p = none (idle (λ u. let z = sym p ∙ u in cc)).1
-
 -- ## Events
 
 -- what is true of the SHDLC end of the controller between events
@@ -422,19 +396,11 @@ step_first l ts x xs a comes = go x.frame refl
     -- a frame of SHDLC
     take_open : (c : Control) → is_act c ≡ false → is_open e.role ≡ true → core_take e c ts ≡ CoreDeliver (core_turns (took e c) ts) ∷ []
     take_open (Act _ _) q o = absurd (true≢false q)
-    take_open (I _ _ _) q o = rw o refl
-    take_open (S _ _) q o = rw o refl
-    take_open (Rset _ _) q o = rw o refl
-    take_open Ua q o = rw o refl
-    take_open Clt q o = rw o refl
+    take_open _ q o = rw o refl
 
     take_closed : (c : Control) → is_act c ≡ false → is_open e.role ≡ false → core_take e c ts ≡ CoreIgnore (core_turns (took e c) ts) ∷ []
     take_closed (Act _ _) q o = absurd (true≢false q)
-    take_closed (I _ _ _) q o = rw o refl
-    take_closed (S _ _) q o = rw o refl
-    take_closed (Rset _ _) q o = rw o refl
-    take_closed Ua q o = rw o refl
-    take_closed Clt q o = rw o refl
+    take_closed _ q o = rw o refl
 
     -- the end becomes g
     open_as : (g : LinkEnd) (b : Bool) → is_act x.frame ≡ false → is_open e.role ≡ true → took e x.frame ≡ g
@@ -525,8 +491,5 @@ step_first l ts x xs a comes = go x.frame refl
     go : (c : Control) → x.frame ≡ c → Step l (took_first l ts x xs) (core_all_here (core_of l) (core_take e x.frame ts))
     go (Act act again) q =
         let P : Control → Type 0 = λ c. Step l (took_first l ts x xs) (core_all_here (core_of l) (core_take e c ts)) in subst P (sym q) (acts act again q)
-    go (I _ _ _) q = shdlc (is_open e.role) refl (ap is_shdlc q) (ap is_act q)
-    go (S _ _) q = shdlc (is_open e.role) refl (ap is_shdlc q) (ap is_act q)
-    go (Rset _ _) q = shdlc (is_open e.role) refl (ap is_shdlc q) (ap is_act q)
-    go Ua q = shdlc (is_open e.role) refl (ap is_shdlc q) (ap is_act q)
     go Clt q = counts (is_open e.role) refl q
+    go _ q = shdlc (is_open e.role) refl (ap is_shdlc q) (ap is_act q)

@@ -1,9 +1,9 @@
 -- What is true of every run of a link over messages.
 use Rattle.std.specs.Prelude.{Some}
 use Rattle.link_laws.proofs.Words.{Act, ActEvent, ActTake, AllAllowed, AllShdlcAllowed as CoreAllAllowed, AreSendable, AreShort, Bare, Bool, BothDown, BothUp}
-use Rattle.link_laws.proofs.Words.{Chain, Clf, Clt, Control, CoreInOrder, CoreLink, Down, EndState, I, InOrder, IsBare, IsFrontOf, IsLine}
-use Rattle.link_laws.proofs.Words.{IsShdlcStart as CoreIsStart, IsStart, Link, LinkEnd, LinkEvent, LinkState, List, Message, NumberedEnd, OnWire, Rset, S, Take}
-use Rattle.link_laws.proofs.Words.{Talk, Ua, Uicc, Up, Waiting, [], act_answer, after_link_events, ap, append_assoc, arith, core_after, core_end, core_events}
+use Rattle.link_laws.proofs.Words.{Chain, Clf, Clt, Control, CoreInOrder, CoreLink, Down, EndState, InOrder, IsBare, IsFrontOf, IsLine}
+use Rattle.link_laws.proofs.Words.{IsShdlcStart as CoreIsStart, IsStart, Link, LinkEnd, LinkEvent, LinkState, List, Message, None, NumberedEnd, OnWire, Peer}
+use Rattle.link_laws.proofs.Words.{Take, Talk, Uicc, Up, Waiting, [], act_answer, after_link_events, ap, append_assoc, arith, core_after, core_end, core_events}
 use Rattle.link_laws.proofs.Words.{core_of, core_past, ended_by, ended_by_act, ended_talk, exchanged, false, fragments_of, good_messages_of, good_of, inl}
 use Rattle.link_laws.proofs.Words.{is_faulty, is_open, length, map, messages_got, ne_eqb, new_clf, new_link_end, new_numbered_end, new_uicc, no_talk, number_of}
 use Rattle.link_laws.proofs.Words.{packet_bytes, packets_of, refl, shdlc_number_of as core_number_of, shdlc_session_of, subst, suc, sym, take, take_answer}
@@ -17,6 +17,8 @@ use Rattle.link_laws.proofs.messages.Steps.{FromHost, says_of, session-core, cor
 use Rattle.link_laws.proofs.messages.ActsInOrder.{Line}
 use Rattle.link_laws.proofs.messages.Runs.{Good, Reached, Run, run, ordered, from_host, from_controller}
 use Rattle.link_laws.proofs.machine.Sound.{whole_acked_before}
+use Rattle.link_laws.proofs.machine.Walks.{by_taken}
+use Rattle.link_laws.proofs.Cases.{by_test}
 
 bare_tells : Tells (new_numbered_end (new_link_end Bare))
 bare_tells =
@@ -130,35 +132,15 @@ in_order_there l s events a n =
 -- ## No chain fault
 
 never_chain : (e : EndState) (c : Control) → (take_answer e c).ended ≡ Some Chain → ⊥
-never_chain e c h = go e.phase refl c h
+never_chain e c h =
+    by_taken (λ _ _ answer. answer.ended ≡ Some Chain → ⊥) e (λ ns nr info p z. let y = rw p at z in cc) (λ kind nr p z. let y = rw p at z in cc)
+    (λ _. none) (λ _ _ _. other) (λ _ _ _. none) (λ _ _ _. none) (λ _. none) c h
   where
-    go : (p : LinkState) → e.phase ≡ p → (c : Control) → (take_answer e c).ended ≡ Some Chain → ⊥
-    go Up p (Rset w caps) h = by (w == 0) refl
-      where
-        by : (b : Bool) → (w == 0) ≡ b → ⊥
-        by true q = let z = rw (p, q) at h in cc
-        by false q = let z = rw (p, q) at h in cc
-    go Up p (I _ _ _) h = let z = rw p at h in cc
-    go Up p (S _ _) h = let z = rw p at h in cc
-    go Up p Ua h = let z = rw p at h in cc
-    go Up p (Act _ _) h = let z = rw p at h in cc
-    go Up p Clt h = let z = rw p at h in cc
-    go Waiting p (Rset w caps) h = let z = rw p at h in cc
-    go Waiting p (I _ _ _) h = let z = rw p at h in cc
-    go Waiting p (S _ _) h = let z = rw p at h in cc
-    go Waiting p Ua h = let z = rw p at h in cc
-    go Waiting p (Act _ _) h = let z = rw p at h in cc
-    go Waiting p Clt h = let z = rw p at h in cc
-    go Down p (Rset w caps) h = by (w == 0) refl
-      where
-        by : (b : Bool) → (w == 0) ≡ b → ⊥
-        by true q = let z = rw (p, q) at h in cc
-        by false q = let z = rw (p, q) at h in cc
-    go Down p (I _ _ _) h = let z = rw p at h in cc
-    go Down p (S _ _) h = let z = rw p at h in cc
-    go Down p Ua h = let z = rw p at h in cc
-    go Down p (Act _ _) h = let z = rw p at h in cc
-    go Down p Clt h = let z = rw p at h in cc
+    none : None ≡ Some Chain → ⊥
+    none z = cc
+
+    other : Some Peer ≡ Some Chain → ⊥
+    other z = cc
 
 pub act_not_chain : (e : LinkEnd) (event : ActEvent) → ended_by_act e event ≡ Some Chain → ⊥
 act_not_chain e event h = go (act_answer e.role event).ended_link e.shdlc.phase refl refl
@@ -171,27 +153,9 @@ act_not_chain e event h = go (act_answer e.role event).ended_link e.shdlc.phase 
 
 pub not_chain : (e : LinkEnd) (c : Control) → (is_open e.role ≡ true → is_faulty (taken e.shdlc c).session ≡ false) → ended_by e (Take c) ≡ Some Chain → ⊥
 not_chain e (Act a b) f q = act_not_chain e (ActTake a b) q
-not_chain e (I ns nr info) f q = shdlc (is_open e.role) refl
-  where
-    shdlc : (b : Bool) → is_open e.role ≡ b → ⊥
-    shdlc true o = never_chain e.shdlc (I ns nr info) (let z = q in rw (o, f o) at z)
-    shdlc false o = let z = rw o at q in cc
-not_chain e (S kind nr) f q = shdlc (is_open e.role) refl
-  where
-    shdlc : (b : Bool) → is_open e.role ≡ b → ⊥
-    shdlc true o = never_chain e.shdlc (S kind nr) (let z = q in rw (o, f o) at z)
-    shdlc false o = let z = rw o at q in cc
-not_chain e (Rset w caps) f q = shdlc (is_open e.role) refl
-  where
-    shdlc : (b : Bool) → is_open e.role ≡ b → ⊥
-    shdlc true o = never_chain e.shdlc (Rset w caps) (let z = q in rw (o, f o) at z)
-    shdlc false o = let z = rw o at q in cc
-not_chain e Ua f q = shdlc (is_open e.role) refl
-  where
-    shdlc : (b : Bool) → is_open e.role ≡ b → ⊥
-    shdlc true o = never_chain e.shdlc Ua (let z = q in rw (o, f o) at z)
-    shdlc false o = let z = rw o at q in cc
 not_chain e Clt f q = cc
+not_chain e frame f q =
+    by_test (is_open e.role) (λ o. never_chain e.shdlc frame (let z = q in rw (o, f o) at z)) (λ o. let z = rw o at q in cc)
 
 pub no_chain_here : (l : Link) → IsStart l → (events : List LinkEvent) → AllAllowed l events → (x : OnWire) (xs : List OnWire)
     → (after_link_events l events).to_controller ≡ x ∷ xs

@@ -2,11 +2,11 @@
 -- how each thing that one end does keeps it.
 use Rattle.std.proofs.Common.{◌==◌, max}
 use Rattle.link_laws.proofs.Words.{Act, Bool, Clt, Control, Due, EndState, Fragment, I, Kind, List, None, Option, Rej, Rej_due, Rnr, Rnr_due, Rr, Rr_due, Rset}
-use Rattle.link_laws.proofs.Words.{Rset_due, S, Session, Some, Srej, Ua, Ua_due, Up, [], accepted, acknowledged, ahead, ap, arith, cases_eq, control_due}
-use Rattle.link_laws.proofs.Words.{discarded, eqb-false, eqb-true, expected, false, fetched, fragment_due, fragment_due-within, frame_due, inl, inr, is_rnr}
-use Rattle.link_laws.proofs.Words.{length, length-append, ltb-false, ltb-true, made_busy, nat_lt, place_of, put_out, ready_again, received, refl, rejected}
-use Rattle.link_laws.proofs.Words.{repeated, runs_timer, sent_again, sent_next, sym, take_answer, taken, tick_answer, ticked, true, true≢false, with_frame}
-use Rattle.link_laws.proofs.Words.{with_ready, ℕ, ◌%◌, ◌++◌, ◌+◌, ◌<◌, ◌∙◌, ◌∷◌, ◌≡◌, ◌≤◌, ◌⊎◌}
+use Rattle.link_laws.proofs.Words.{S, Session, Some, Srej, Ua, Up, [], accepted, acknowledged, ahead, ap, arith, cases_eq, control_due, discarded, eqb-false}
+use Rattle.link_laws.proofs.Words.{eqb-true, expected, false, fetched, fragment_due, fragment_due-within, frame_due, inl, inr, is_rnr, length, length-append}
+use Rattle.link_laws.proofs.Words.{ltb-false, ltb-true, made_busy, nat_lt, place_of, put_out, ready_again, received, refl, rejected, repeated, runs_timer}
+use Rattle.link_laws.proofs.Words.{sent_again, sent_next, sym, take_answer, taken, tick_answer, ticked, true, true≢false, with_frame, with_ready, ℕ, ◌%◌, ◌++◌}
+use Rattle.link_laws.proofs.Words.{◌+◌, ◌<◌, ◌∙◌, ◌∷◌, ◌≡◌, ◌≤◌, ◌⊎◌}
 use Rattle.link_laws.specs.places.Wire.{OnWire, older}
 use Rattle.link_laws.proofs.places.Numbers.{place_found, ahead_same, ahead_other, ahead_repeat}
 use Rattle.link_laws.proofs.places.Marks.{Shows, counts_le, AcksOnly, shows_push, shows_older}
@@ -79,18 +79,15 @@ gap_behind s p z g b i =
 
 -- RR and REJ are the only control frames where nothing was lost and no RNR was made
 acks_rest : (k : Kind) (n : ℕ) (ms : List Control) → AcksOnly (S k n ∷ ms) → AcksOnly ms
-acks_rest Rr n ms h = h
-acks_rest Rej n ms h = h
 acks_rest Rnr n ms h = absurd h
 acks_rest Srej n ms h = absurd h
+acks_rest _ n ms h = h
 
 no_stop : (k : Kind) (n : ℕ) (ms : List Control) → ((k ≡ Rnr) ⊎ (k ≡ Srej)) → AcksOnly (S k n ∷ ms) → ⊥
-no_stop Rr n ms (inl e) h = cc
-no_stop Rr n ms (inr e) h = cc
-no_stop Rej n ms (inl e) h = cc
-no_stop Rej n ms (inr e) h = cc
 no_stop Rnr n ms e h = h
 no_stop Srej n ms e h = h
+no_stop _ n ms (inl e) h = cc
+no_stop _ n ms (inr e) h = cc
 
 pub taken_I : (P : EndState → Type 0) (e : EndState) (ns nr x : ℕ) (info : Fragment) → e.phase ≡ Up → place_of e.session nr ≡ Some x
     → P (received (acknowledged e x) ns info) → P (taken e (I ns nr info))
@@ -282,32 +279,6 @@ module _ (W : Type 0) where
         near_whole = λ w n. let x = h.near_whole w n in record { caught = x.caught; told = x.told; free = x.free; acks = x.acks };
         far_whole = h.far_whole;
       })
-
-  -- a frame on the way to the near end is lost, and nothing is whole any more
-  pub joined_lost : (V : Type 0) → (V → ⊥) → (near far : EndState) (x : OnWire) (to_near to_far : List OnWire)
-      → Joined W near far (x ∷ to_near) to_far → Joined V near far to_near to_far
-  joined_lost V lossy near far x to_near to_far h = go h.near_marks h.near_shows h.near_sends h.far_sends
-    where
-      go : (ms : List Control) → Shows (x ∷ to_near) ms → Sends near.session far.session.acc h.far_marks ms
-          → Sends far.session near.session.acc ms h.far_marks → Joined V near far to_near to_far
-      go [] shows near_sends far_sends = absurd shows
-      go (m ∷ ms) shows near_sends far_sends =
-          let s = near.session in
-          let t = far.session in
-          record {
-            near_up = h.near_up;
-            far_up = h.far_up;
-            near_due = h.near_due;
-            far_due = h.far_due;
-            near_marks = ms;
-            far_marks = h.far_marks;
-            near_shows = shows.1;
-            far_shows = h.far_shows;
-            near_sends = flows_lost_back near_sends;
-            far_sends = flows_past far_sends;
-            near_whole = λ v. absurd (lossy v);
-            far_whole = λ v. absurd (lossy v);
-          }
 
   -- the frames on the way to the near end grow older
   pub joined_older : (near far : EndState) (to_near to_far : List OnWire)
@@ -534,5 +505,4 @@ module _ (W : Type 0) where
       control Rr_due ds p a r = joined_answered weak Rr a (λ v. tt) (λ v n. rw p n) h
       control Rej_due ds p a r = joined_answered weak Rej a (λ v. tt) (λ v n. rw p n) h
       control Rnr_due ds p a r = joined_answered weak Rnr a (λ v. absurd (true≢false (r v))) (λ v n. absurd (true≢false (r v))) h
-      control Rset_due ds p a r = absurd a
-      control Ua_due ds p a r = absurd a
+      control _ ds p a r = absurd a

@@ -2,10 +2,6 @@
 use Rattle.std.proofs.lemmas.Bool.{le-leb, cond-true}
 use Rattle.link_laws.proofs.Words.{None, Session, Some, ahead, and_from, arith, eq-eqb, length, place_of, refl, ℕ, ◌%◌, ◌+◌, ◌-◌, ◌<◌, ◌≡◌, ◌≤◌}
 
--- the eight places from a on have different numbers
-offset : (a k : ℕ) → k < 8 → ((a + k) % 8 + (8 - a % 8)) % 8 ≡ k
-offset a k h = omega arith
-
 -- an N(R) names the one place that it can mean
 pub place_found : (s : Session) (nr : ℕ) → s.acked ≤ nr → nr ≤ s.reached → s.reached ≤ s.acked + 4 → place_of s (nr % 8) ≡ Some nr
 place_found s nr h i j =
@@ -18,10 +14,6 @@ ahead_same s p h = omega arith
 
 pub ahead_other : (s : Session) (p : ℕ) → length s.acc ≤ p + 4 → p ≤ length s.acc + 3 → ahead s (p % 8) ≡ 0 → p ≡ length s.acc
 ahead_other s p h i j = omega arith
-
--- a place that is ahead by one to three is a gap, and one behind is a repeat
-pub ahead_gap : (s : Session) (p : ℕ) → length s.acc < p → p ≤ length s.acc + 3 → ahead s (p % 8) ≡ p - length s.acc
-ahead_gap s p h i = omega arith
 
 pub ahead_repeat : (s : Session) (p : ℕ) → p < length s.acc → length s.acc ≤ p + 4 → 4 ≤ ahead s (p % 8)
 ahead_repeat s p h i = omega arith

@@ -11,6 +11,7 @@ use Rattle.link_laws.proofs.places.Joined.{received_cases, taken_I, taken_S, ans
 use Rattle.link_laws.proofs.places.Marks.{reduced, Carries, Counts, NoneBelow, Places, MayFollow, counts_le, counts_lower, counts_higher, counts_push}
 use Rattle.link_laws.proofs.places.Marks.{counts_lost, places_grow, places_reach, places_accepted, places_lost, places_push, places_push_S}
 use Rattle.link_laws.proofs.sessions.Wire.{IsData, add_rset, no_rset_step, rsets}
+use Rattle.link_laws.proofs.Cases.{by_test}
 use mathlib.Core.List.{IsPrefix}
 
 -- one end's session as the sender's, and the other's of the same number as the receiver's
@@ -80,11 +81,9 @@ of_up h up =
 pub of_update : (P : ℕ → Session → Type 0) (h g : NumberedShdlc) → h.side.phase ≡ Up → g.side.phase ≡ Up → shdlc_number_of g ≡ shdlc_number_of h
     → g.past ≡ h.past
     → ((k : ℕ) → P k (shdlc_session_of h k)) → P (shdlc_number_of h) g.side.session → (k : ℕ) → P k (shdlc_session_of g k)
-of_update P h g up up' num past all new k = go (k == shdlc_number_of h) refl
-  where
-    go : (b : Bool) → (k == shdlc_number_of h) ≡ b → P k (shdlc_session_of g k)
-    go true q = rw (up', num, q) (rw (← eqb-true k (shdlc_number_of h) q) at new)
-    go false q = rw (up', num, q, past) (let a : P k (shdlc_session_of h k) = all k in rw (up, q) at a)
+of_update P h g up up' num past all new k =
+    by_test (k == shdlc_number_of h) (λ q. rw (up', num, q) (rw (← eqb-true k (shdlc_number_of h) q) at new))
+    (λ q. rw (up', num, q, past) (let a : P k (shdlc_session_of h k) = all k in rw (up, q) at a))
 
 -- its session ends and is kept
 pub of_end : (P : ℕ → Session → Type 0) (h g : NumberedShdlc) → h.side.phase ≡ Up → (g.side.phase ≡ Up → ⊥)
@@ -94,8 +93,7 @@ of_end P h g up down past all k = go g.side.phase refl (all k)
   where
     go : (p : LinkState) → g.side.phase ≡ p → P k (shdlc_session_of h k) → P k (shdlc_session_of g k)
     go Up q a = absurd (down q)
-    go Waiting q a = rw (q, past) (rw up at a)
-    go Down q a = rw (q, past) (rw up at a)
+    go _ q a = rw (q, past) (rw up at a)
 
 -- an end without a session stays so
 pub of_none : (P : ℕ → Session → Type 0) (h g : NumberedShdlc) → (h.side.phase ≡ Up → ⊥) → (g.side.phase ≡ Up → ⊥) → g.past ≡ h.past
@@ -104,12 +102,8 @@ of_none P h g down down' past all k = go h.side.phase g.side.phase refl refl (al
   where
     go : (p q : LinkState) → h.side.phase ≡ p → g.side.phase ≡ q → P k (shdlc_session_of h k) → P k (shdlc_session_of g k)
     go Up q a b c = absurd (down a)
-    go Waiting Up a b c = absurd (down' b)
-    go Waiting Waiting a b c = rw (b, past) (rw a at c)
-    go Waiting Down a b c = rw (b, past) (rw a at c)
-    go Down Up a b c = absurd (down' b)
-    go Down Waiting a b c = rw (b, past) (rw a at c)
-    go Down Down a b c = rw (b, past) (rw a at c)
+    go _ Up a b c = absurd (down' b)
+    go _ _ a b c = rw (b, past) (rw a at c)
 
 -- a session begins at an end that has none
 pub of_begin : (P : ℕ → Session → Type 0) (h g : NumberedShdlc) → (h.side.phase ≡ Up → ⊥) → g.side.phase ≡ Up → g.past ≡ h.past
@@ -119,8 +113,7 @@ of_begin P h g down up past all new k = go (k == shdlc_number_of g) refl h.side.
     go : (b : Bool) → (k == shdlc_number_of g) ≡ b → (p : LinkState) → h.side.phase ≡ p → P k (shdlc_session_of h k) → P k (shdlc_session_of g k)
     go true q p a c = rw (up, q) (rw (← eqb-true k (shdlc_number_of g) q) at new)
     go false q Up a c = absurd (down a)
-    go false q Waiting a c = rw (up, q, past) (rw a at c)
-    go false q Down a c = rw (up, q, past) (rw a at c)
+    go false q _ a c = rw (up, q, past) (rw a at c)
 
 -- a session that hasn't begun has no fragments, and begins as one that hasn't
 pub base_begins : (r : Session) (w : ℕ) → w ≤ 4 → Base no_session r → Base (new_session w) r
@@ -268,10 +261,6 @@ active_lost x w mine theirs b h = go h.marks h.shows h.places h.counts
           places = places_lost theirs.out (length mine.acc) theirs.reached m ms p;
           counts = counts_lost mine.acked (length theirs.acc) m ms c;
         }
-
-pub pair_lost : (s r : Session) (x : OnWire) (here : List OnWire) (there : Option (List OnWire)) → Pair s r (x ∷ here) there → Pair s r here there
-pair_lost s r x here there h =
-    record { mine = h.mine; theirs = h.theirs; comes = active_lost x here s r h.mine h.comes; goes = h.goes }
 
 -- no RSET stands in a part of a wire
 abbrev pub Plain : Option (List OnWire) → Type 0

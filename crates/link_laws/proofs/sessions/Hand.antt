@@ -7,6 +7,7 @@ use Rattle.link_laws.proofs.sessions.Wire.{after_rset_empty, rsets, uas, NumberO
 use Rattle.link_laws.proofs.sessions.Wire.{numbered-append, numbered_none, tail_none, tail_push, tail_push_ua, behind_none, behind_push, behind_push_none}
 use Rattle.link_laws.proofs.sessions.Wire.{behind_new, behind_rsets, plus_one, rsets-older, uas-older, numbered_older, tail_older, behind_ua-older, live-older}
 use Rattle.link_laws.proofs.sessions.Wire.{older_part, young_push, young_later}
+use Rattle.link_laws.proofs.Cases.{by_option}
 
 -- what of an end the handshake knows
 pub record Peer : Type 0 where
@@ -298,7 +299,13 @@ module _ {kn kf : ℕ} {n f : Peer} {to_n to_f : List OnWire} {r : ℕ} (h : Han
         n_sure = h.n_sure;
         f_sure = rw b h.f_sure;
         n_behind = h.n_behind;
-        f_behind = behind (behind_ua to_f) refl none;
+        f_behind =
+            by_option {P = Behind (behind_ua (to_f ++ x ∷ [])) (f.emitted < n.emitted)} (behind_ua to_f)
+            (λ e. behind_none_fact (behind_ua (to_f ++ x ∷ [])) (f.emitted < n.emitted) (behind_push_none to_f x (data_not_ua x.frame d) e)) (λ ys e.
+            let s = behind_rsets to_f ys e in
+            let empty : rsets (ys ++ x ∷ []) ≡ [] =
+            rsets-append ys x ∙ ap (λ l. rsets ys ++ l) (not_rset_adds x.frame x.age [] (data_not_rset x.frame d)) ∙ append-nil (rsets ys) ∙ sym s.0 ∙ none in
+            rw (behind_push to_f ys x e) (sure_none (rsets (ys ++ x ∷ [])) (f.emitted < n.emitted) empty));
         n_tail = h.n_tail;
         f_tail = tail_push to_f x none;
         n_young = h.n_young;
@@ -312,14 +319,6 @@ module _ {kn kf : ℕ} {n f : Peer} {to_n to_f : List OnWire} {r : ℕ} (h : Han
       same : (o : Option (List OnWire)) → Alike o o
       same None = NoneAlike
       same (Some w) = SomeAlike w w
-
-      behind : (o : Option (List OnWire)) → behind_ua to_f ≡ o → rsets to_f ≡ [] → Behind (behind_ua (to_f ++ x ∷ [])) (f.emitted < n.emitted)
-      behind None e none = behind_none_fact (behind_ua (to_f ++ x ∷ [])) (f.emitted < n.emitted) (behind_push_none to_f x (data_not_ua x.frame d) e)
-      behind (Some ys) e none =
-          let s = behind_rsets to_f ys e in
-          let empty : rsets (ys ++ x ∷ []) ≡ [] =
-          rsets-append ys x ∙ ap (λ l. rsets ys ++ l) (not_rset_adds x.frame x.age [] (data_not_rset x.frame d)) ∙ append-nil (rsets ys) ∙ sym s.0 ∙ none in
-          rw (behind_push to_f ys x e) (sure_none (rsets (ys ++ x ∷ [])) (f.emitted < n.emitted) empty)
 
       alike : (p : LinkState) (o : Option (List OnWire)) → behind_ua to_f ≡ o → Alike (live p to_f) (live p (to_f ++ x ∷ []))
       alike Up o e = SomeAlike to_f (to_f ++ x ∷ [])
@@ -710,7 +709,9 @@ module _ {n f : Peer} {x : OnWire} {to_n to_f : List OnWire} {r : ℕ} (is : IsR
         f_took = h.f_took;
         n_sure = rw b at h.n_sure;
         f_sure = h.f_sure;
-        n_behind = behind (behind_ua to_n) refl t.out.no_rset;
+        n_behind =
+            by_option {P = Behind (behind_ua to_n) (n.emitted < f.emitted)} (behind_ua to_n) (λ e. behind_none_fact (behind_ua to_n) (n.emitted < f.emitted) e)
+            (λ ys e. rw e (sure_none (rsets ys) (n.emitted < f.emitted) (sym (behind_rsets to_n ys e).0 ∙ t.out.no_rset)));
         f_behind = h.f_behind;
         n_tail = tail_none to_n t.out.no_rset;
         f_tail = h.f_tail;
@@ -720,10 +721,6 @@ module _ {n f : Peer} {x : OnWire} {to_n to_f : List OnWire} {r : ℕ} (is : IsR
         n_bound = h.n_bound;
         f_bound = h.f_bound;
       }
-    where
-      behind : (o : Option (List OnWire)) → behind_ua to_n ≡ o → rsets to_n ≡ [] → Behind (behind_ua to_n) (n.emitted < f.emitted)
-      behind None e g = behind_none_fact (behind_ua to_n) (n.emitted < f.emitted) e
-      behind (Some ys) e g = rw e (sure_none (rsets ys) (n.emitted < f.emitted) (sym (behind_rsets to_n ys e).0 ∙ g))
 
 -- all frames grow older by a tick that both ends have still to count
 pub hand_older : {n f : Peer} {to_n to_f : List OnWire} {r : ℕ} → Young 4 (older to_n) → Young 4 (older to_f)

@@ -4,9 +4,9 @@ use Rattle.link_laws.proofs.Words.{Act, Activation, AllShdlcAllowed, AreTurns, B
 use Rattle.link_laws.proofs.Words.{CoreAtController as AtController, CoreAtHost as AtHost, CoreDeliver as Deliver, CoreEndEvent as ShdlcEndEvent}
 use Rattle.link_laws.proofs.Words.{CoreLink as ShdlcLink, CoreLose as Lose, CoreReset as Reset, CoreStop as Stop, CoreTurn as ShdlcTurn, Down, Due, EndState}
 use Rattle.link_laws.proofs.Words.{FragmentsDelivered, I, Ignore, IsShdlcQuiet, IsShdlcStart, IsTurn, LinkState, List, Losses, None, NumberedShdlc, Offer}
-use Rattle.link_laws.proofs.Words.{OnWire, Option, Rej_due, Rnr_due, Rr_due, Rset, Rset_due, S, Session, SetReady, ShdlcLinkEvent, Some, Tick, TickWithout}
-use Rattle.link_laws.proofs.Words.{Turns, Ua, Ua_due, Up, Waiting, [], act_frame, ap, arith, asked_again, begun, came_up, cond, core_after as shdlc_after}
-use Rattle.link_laws.proofs.Words.{core_aged as shdlc_aged, core_all_here as shdlc_all_at_controller, core_happens_here as shdlc_happens_at_controller}
+use Rattle.link_laws.proofs.Words.{OnWire, Option, Rset, Rset_due, S, Session, SetReady, ShdlcLinkEvent, Some, Tick, TickWithout, Turns, Ua, Ua_due, Up}
+use Rattle.link_laws.proofs.Words.{Waiting, [], act_frame, ap, arith, asked_again, begun, came_up, cond, core_after as shdlc_after, core_aged as shdlc_aged}
+use Rattle.link_laws.proofs.Words.{core_all_here as shdlc_all_at_controller, core_happens_here as shdlc_happens_at_controller}
 use Rattle.link_laws.proofs.Words.{core_ticks_if_waiting as ticks_if_waiting, core_ticks_or_cut as ticks_or_cut, core_turned as shdlc_turned}
 use Rattle.link_laws.proofs.Words.{core_with_ended as with_shdlc_ended, counts_first, drop, eqb-false, false, fits, frame_due, given_up, inl, inr, is_act}
 use Rattle.link_laws.proofs.Words.{is_some, is_up, is_up_with, is_waiting, length, loses_aged, losses_after, ltb-false, map, min, nat_lt, ne_eqb, new_end}
@@ -28,6 +28,7 @@ use Rattle.link_laws.proofs.sessions.Steps.{passes, passes_act, took, took_other
 use Rattle.link_laws.proofs.sessions.Steps.{safe_turns, safe_exchanged, tick_or_cut, tick_if_waiting, safe_event, safe_start}
 use Rattle.link_laws.proofs.sessions.Ties.{as_up, to_up, Meets, Tied, IsWhole, TiedLink, tied_swap, meets_like, none_due, IsNew, waiting_new, tied_new}
 use Rattle.link_laws.proofs.sessions.Ties.{new_meets, behind_fits, Rests, drains, sends_nothing, sends_ua, tied_none, tied_older, turned-phase}
+use Rattle.link_laws.proofs.Cases.{by_phase, by_test}
 
 -- one answer at most
 one_answer : (due before : List Due) → before ≡ [] → (due ≡ before) ⊎ ((d : Due) × IsAnswer d × (due ≡ before ++ d ∷ [])) → AnswersOnly due × (length due ≤ 1)
@@ -35,11 +36,9 @@ one_answer due before none (inl a) = rw (a, none) (tt, omega arith)
 one_answer due before none (inr a) = rw (a.2, none) (answer a.0 a.1, omega arith)
   where
     answer : (d : Due) → IsAnswer d → AnswersOnly (d ∷ [])
-    answer Rr_due h = tt
-    answer Rej_due h = tt
-    answer Rnr_due h = tt
     answer Rset_due h = absurd h
     answer Ua_due h = absurd h
+    answer _ h = tt
 
 -- what an RSET tells that comes first
 pub record Tells (l : ShdlcLink) (xs : List OnWire) (v : ℕ) : Type 0 where
@@ -136,15 +135,11 @@ idle_end e due none = rw (due, none) refl
 
 -- its turns change nothing but its readiness
 turn_idle : (e : EndState) (t : ShdlcTurn) → (e.phase ≡ Up → ⊥) → e.session ≡ no_session → Idle e (shdlc_turn e t)
-turn_idle e (Offer fragments) no_up none = go e.phase refl
+turn_idle e (Offer fragments) no_up none =
+    by_phase {P = Idle e (shdlc_turn e (Offer fragments))} e.phase (λ q. absurd (no_up q)) (λ q. same (rw q refl)) (λ q. same (rw q refl))
   where
     same : shdlc_turn e (Offer fragments) ≡ e → Idle e (shdlc_turn e (Offer fragments))
     same q = subst (Idle e) (sym q) (record { phase = refl; due = refl; session = none; own = refl; peer = refl })
-
-    go : (p : LinkState) → e.phase ≡ p → Idle e (shdlc_turn e (Offer fragments))
-    go Up q = absurd (no_up q)
-    go Waiting q = same (rw q refl)
-    go Down q = same (rw q refl)
 turn_idle e (SetReady r) no_up none =
     ready_by (Idle e) e r (inl no_up) (λ _. none) (record { phase = refl; due = refl; session = none; own = refl; peer = refl })
     (record { phase = refl; due = refl; session = ap (λ (s : Session). record s { answered_rnr = false }) none; own = refl; peer = refl })
@@ -194,16 +189,13 @@ waits_turned n ts l e waiting on due t =
 stays : (n : Losses) (ts : List ShdlcTurn) (l : ShdlcLink) → l.controller.side.due ≡ []
     → ((l.controller.side.phase ≡ Up → ⊥) → l.controller.side.session ≡ no_session)
     → TiedLink n l → Goes n l ts l.controller.side
-stays n ts l due none t = go e.phase refl
+stays n ts l due none t =
+    by_phase {P = Goes n l ts e} e.phase (λ q. up_becomes n ts l e q q (rw due tt) (rw due (omega arith)) (λ f w j. j) t) (λ q.
+    waits_turned n ts l e q (record { phase = refl; due = refl; session = none (λ u. let g = sym q ∙ u in cc); own = refl; peer = refl }) due t)
+    (λ q. tied_none 12 n l (shdlc_turned e ts) (rw (turned-phase ts e ∙ q) refl))
   where
     e : EndState
     e = l.controller.side
-
-    go : (p : LinkState) → e.phase ≡ p → Goes n l ts e
-    go Up q = up_becomes n ts l e q q (rw due tt) (rw due (omega arith)) (λ f w j. j) t
-    go Waiting q =
-        waits_turned n ts l e q (record { phase = refl; due = refl; session = none (λ u. let g = sym q ∙ u in cc); own = refl; peer = refl }) due t
-    go Down q = tied_none 12 n l (shdlc_turned e ts) (rw (turned-phase ts e ∙ q) refl)
 
 -- it has sent an RSET and waits
 asks : (n : Losses) (ts : List ShdlcTurn) (l : ShdlcLink) (e : EndState) (ends : Bool)
@@ -214,7 +206,11 @@ asks n ts l e false waiting none = tied_none 12 n l (shdlc_turned e ts) (rw (tur
 
 resets : (kf : ℕ) (n : Losses) (ts : List ShdlcTurn) (l : ShdlcLink) (w : ℕ) → SafeLink 0 kf l → TiedLink n l
     → TiedLink (noted_here n l (Reset w ts)) (shdlc_happens_at_controller l (Reset w ts))
-resets kf n ts l w h t = go l.controller.side.phase refl
+resets kf n ts l w h t =
+    by_phase l.controller.side.phase
+    (λ q. by_parts true (waiting_from e) (rw q refl) (rw q refl) (asks n ts l (waiting_from e) true refl (none (λ v. let g = sym q ∙ v in cc))))
+    (λ q. by_parts false l.controller.side (rw q refl) (rw q refl) (stays n ts l h.n_due h.n_none t))
+    (λ q. by_parts false (waiting_from e) (rw q refl) (rw q refl) (asks n ts l (waiting_from e) false refl (none (λ v. let g = sym q ∙ v in cc))))
   where
     e : EndState
     e = record l.controller.side { own_window = w }
@@ -227,11 +223,6 @@ resets kf n ts l w h t = go l.controller.side.phase refl
 
     none : (l.controller.side.phase ≡ Waiting → ⊥) → uas (sans l.to_controller) ≡ []
     none wait = (idle_out h.hand wait).no_ua
-
-    go : (p : LinkState) → l.controller.side.phase ≡ p → TiedLink (noted_here n l (Reset w ts)) (shdlc_happens_at_controller l (Reset w ts))
-    go Waiting q = by_parts false l.controller.side (rw q refl) (rw q refl) (stays n ts l h.n_due h.n_none t)
-    go Up q = by_parts true (waiting_from e) (rw q refl) (rw q refl) (asks n ts l (waiting_from e) true refl (none (λ v. let g = sym q ∙ v in cc)))
-    go Down q = by_parts false (waiting_from e) (rw q refl) (rw q refl) (asks n ts l (waiting_from e) false refl (none (λ v. let g = sym q ∙ v in cc)))
 
 silences : (n : Losses) (l : ShdlcLink) (q : EndState) → q.phase ≡ Down → TiedLink n (shdlc_silent l q)
 silences n l q down = tied_down n (shdlc_silent l q) (go l.controller.side.phase refl)
@@ -317,18 +308,9 @@ began_data e c d = go e.phase refl c d
     go : (p : LinkState) → e.phase ≡ p → (c : Control) → IsData c → (take_answer e c).began ≡ false
     go p q (Rset _ _) d = absurd d
     go p q Ua d = absurd d
-    go Up q (I _ _ _) d = rw q refl
-    go Up q (S _ _) d = rw q refl
-    go Up q (Act _ _) d = rw q refl
-    go Up q Clt d = rw q refl
-    go Waiting q (I _ _ _) d = rw q refl
-    go Waiting q (S _ _) d = rw q refl
-    go Waiting q (Act _ _) d = rw q refl
-    go Waiting q Clt d = rw q refl
-    go Down q (I _ _ _) d = rw q refl
-    go Down q (S _ _) d = rw q refl
-    go Down q (Act _ _) d = rw q refl
-    go Down q Clt d = rw q refl
+    go Up q _ d = rw q refl
+    go Waiting q _ d = rw q refl
+    go Down q _ d = rw q refl
 
 takes : (n : Losses) (l : ShdlcLink) (ts : List ShdlcTurn) (x : OnWire) (xs : List OnWire)
     → Safe 0 0 l.controller l.host (x ∷ sans xs) (sans l.to_host) l.resets
@@ -452,18 +434,15 @@ takes n l ts x xs h t = takes_by (TiedLink (noted_took n l ts x xs) (took l ts x
         both : (c : NumberedShdlc) → shdlc_number_of c ≡ shdlc_number_of l.controller → is_up_with l.host (shdlc_number_of c) ≡ false → (b : List OnWire)
             → live l.host.side.phase (sans l.to_host) ≡ Some b
             → l.host.side.phase ≡ Waiting
-        both c n off b r = by l.host.side.phase refl
-          where
-            by : (s : LinkState) → l.host.side.phase ≡ s → l.host.side.phase ≡ Waiting
-            by Waiting q = q
-            by Down q = absurd (let z : None ≡ Some b = rw q at r in cc)
-            by Up q =
-                let same : shdlc_number_of l.controller ≡ shdlc_number_of l.host =
-                agreed (live e.phase (x ∷ sans xs)) (live l.host.side.phase (sans l.to_host)) (sans xs) b
-                (shdlc_number_of l.controller ≡ shdlc_number_of l.host)
-                lives r h.hand.agree in
-                let z : (shdlc_number_of l.host == shdlc_number_of c) ≡ false = rw q at off in
-                absurd (eqb-false (shdlc_number_of l.host) (shdlc_number_of c) z (sym same ∙ sym n))
+        both c n off b r =
+            by_phase l.host.side.phase (λ q.
+            let same : shdlc_number_of l.controller ≡ shdlc_number_of l.host =
+            agreed (live e.phase (x ∷ sans xs)) (live l.host.side.phase (sans l.to_host)) (sans xs) b
+            (shdlc_number_of l.controller ≡ shdlc_number_of l.host)
+            lives r h.hand.agree in
+            let z : (shdlc_number_of l.host == shdlc_number_of c) ≡ false = rw q at off in
+            absurd (eqb-false (shdlc_number_of l.host) (shdlc_number_of c) z (sym same ∙ sym n)))
+            (λ q. q) (λ q. absurd (let z : None ≡ Some b = rw q at r in cc))
 
         first : (c : NumberedShdlc) → shdlc_number_of c ≡ shdlc_number_of l.controller → (o : Bool) → is_up_with l.host (shdlc_number_of c) ≡ o
             → Rests (Unit {0}) (IsWhole (came_up n (record l { to_controller = xs; controller = c }) true)) (up_with e w) l.host.side (sans xs) (sans l.to_host)
@@ -536,17 +515,15 @@ loses n l h t = go l.to_controller h t
     go [] g t =
         tied_weaker (IsWhole n) (IsWhole (record n { lost = n.lost || false })) l.controller.side f [] (sans l.to_host)
         (λ v. ((or_parts n.lost false v.0).0, v.1)) t
-    go (x ∷ xs) g t = first (is_act x.frame) refl
+    go (x ∷ xs) g t =
+        by_test {P = Tied V l.controller.side f (sans xs) (sans l.to_host)} (is_act x.frame) (λ q.
+        tied_weaker (IsWhole n) V l.controller.side f (sans xs) (sans l.to_host) (λ v. ((or_parts n.lost (counts_first (x ∷ xs)) v.0).0, v.1)) (rw q at t))
+        (λ q.
+        tied_lose (IsWhole n) V
+        (λ v. let z : true ≡ false = rw q at ((or_parts n.lost (counts_first (x ∷ xs)) v.0).1) in true≢false z) (rw q at g) (rw q at t))
       where
         V : Type 0
         V = IsWhole (record n { lost = n.lost || counts_first (x ∷ xs) })
-
-        first : (b : Bool) → is_act x.frame ≡ b → Tied V l.controller.side f (sans xs) (sans l.to_host)
-        first true q =
-            tied_weaker (IsWhole n) V l.controller.side f (sans xs) (sans l.to_host) (λ v. ((or_parts n.lost (counts_first (x ∷ xs)) v.0).0, v.1)) (rw q at t)
-        first false q =
-            tied_lose (IsWhole n) V
-            (λ v. let z : true ≡ false = rw q at ((or_parts n.lost (counts_first (x ∷ xs)) v.0).1) in true≢false z) (rw q at g) (rw q at t)
 
 -- a wire that is full loses its first frame
 fits_tied : {kf : ℕ} (W V : Type 0) {n f : NumberedShdlc} {to_n : List OnWire} (w : List OnWire) {r : ℕ} → (V → W) → (V → overflows w ≡ false)
@@ -594,26 +571,20 @@ ignores n ts l t = go l.controller.side.phase refl l.to_controller refl
 
     go : (p : LinkState) → l.controller.side.phase ≡ p → (wire : List OnWire)
         → l.to_controller ≡ wire → TiedLink (noted_here n l (Ignore ts)) (shdlc_happens_at_controller l (Ignore ts))
-    go Up q wire w = by_parts n l (rw q refl) (rw q refl) t
-    go Waiting q wire w = by_parts n l (rw q refl) (rw q refl) t
     go Down q [] w = by_parts n l (rw (q, w) refl) (rw (q, w) refl) t
     go Down q (x ∷ xs) w =
         let m : ShdlcLink = record l { to_controller = xs; controller = record l.controller { took = took_with l.controller.took x } } in
         by_parts (noted_out n m (shdlc_turned l.controller.side ts)) (shdlc_becomes m (shdlc_turned l.controller.side ts)) (rw (q, w) refl) (rw (q, w) refl)
         (tied_none 12 n m (shdlc_turned l.controller.side ts) (rw (turned-phase ts l.controller.side ∙ q) refl))
+    go _ q wire w = by_parts n l (rw q refl) (rw q refl) t
 
 tied_fresh : (W V : Type 0) {n f : NumberedShdlc} (to_n : List OnWire) {to_f : List OnWire} {r : ℕ} → (V → W) → (V → loses_aged to_n ≡ false)
     → Safe 0 0 n f to_n to_f r → Tied W n.side f.side to_n to_f → Tied V n.side f.side (fresh to_n) to_f
 tied_fresh W V {n} {f} [] {to_f} weak fit h t = tied_weaker W V n.side f.side [] to_f weak t
-tied_fresh W V {n} {f} (x ∷ xs) {to_f} {r} weak fit h t = go (nat_lt x.age 4) refl (tied_fresh V V xs (λ v. v))
-  where
-    go : (b : Bool) → nat_lt x.age 4 ≡ b
-        → ((V → loses_aged xs ≡ false) → Safe 0 0 n f xs to_f r → Tied V n.side f.side xs to_f → Tied V n.side f.side (fresh xs) to_f)
-        → Tied V n.side f.side (fresh (x ∷ xs)) to_f
-    go true q later = rw q (tied_weaker W V n.side f.side (x ∷ xs) to_f weak t)
-    go false q later =
-        let lossy : V → ⊥ = λ v. true≢false (rw q at (fit v)) in
-        rw q (later (λ v. absurd (lossy v)) (safe_lose h) (tied_lose W V lossy h t))
+tied_fresh W V {n} {f} (x ∷ xs) {to_f} {r} weak fit h t =
+    by_test {P = Tied V n.side f.side (fresh (x ∷ xs)) to_f} (nat_lt x.age 4) (λ q. rw q (tied_weaker W V n.side f.side (x ∷ xs) to_f weak t)) (λ q.
+    let lossy : V → ⊥ = λ v. true≢false (rw q at (fit v)) in
+    rw q ((tied_fresh V V xs (λ v. v)) (λ v. absurd (lossy v)) (safe_lose h) (tied_lose W V lossy h t)))
 
 ages : (n : Losses) (l : ShdlcLink) → SafeLink 0 0 l → TiedLink n l → TiedLink (noted_aged n l) (shdlc_aged l)
 ages i l h t =
@@ -644,13 +615,11 @@ swaps n l t = tied_swap (IsWhole n) l.controller.side l.host.side (sans l.to_con
 tied_turn : (kf : ℕ) (n : Losses) (l : ShdlcLink) (e : ShdlcEndEvent) → IsTurn e → SafeLink 0 kf l → TiedLink n l
     → TiedLink (noted_here n l e) (shdlc_happens_at_controller l e)
 tied_turn kf n l (Turns ts) a h t = stays n ts l h.n_due h.n_none t
-tied_turn kf n l (Deliver ts) a h t = absurd a
-tied_turn kf n l (Ignore ts) a h t = absurd a
 tied_turn kf n l (Acts acts ts) a h t = acts_then kf ts acts n l h t
-tied_turn kf n l Lose a h t = absurd a
 tied_turn kf n l (Reset w ts) a h t = resets kf n ts l w h t
 tied_turn kf n l Cut a h t = silences n l (new_end 4) refl
 tied_turn kf n l Stop a h t = silences n l (stopped l.controller.side) refl
+tied_turn kf n l _ a h t = absurd a
 
 tied_turns : (kf : ℕ) (es : List ShdlcEndEvent) (n : Losses) (l : ShdlcLink) → AreTurns es → SafeLink 0 kf l → TiedLink n l
     → TiedLink (noted_turns n l es) (shdlc_all_at_controller l es)
@@ -674,11 +643,7 @@ tied_tick kf n (Some ts) l h t = ticks kf n ts l h t
 tied_tick kf n None l h t = silences n l (new_end 4) refl
 
 tied_if_waiting : (kf : ℕ) (n : Losses) (l : ShdlcLink) → SafeLink 1 kf l → TiedLink n l → TiedLink (noted_if_waiting n l) (ticks_if_waiting l)
-tied_if_waiting kf n l h t = go (is_waiting l.controller.side) refl
-  where
-    go : (b : Bool) → is_waiting l.controller.side ≡ b → TiedLink (noted_if_waiting n l) (ticks_if_waiting l)
-    go true q = rw q (ticks kf n [] l h t)
-    go false q = rw q t
+tied_if_waiting kf n l h t = by_test (is_waiting l.controller.side) (λ q. rw q (ticks kf n [] l h t)) (λ q. rw q t)
 
 -- a tick of the host's end, where these things have happened at the controller's
 tied_there : (turns : List ShdlcEndEvent) (d : Option (List ShdlcTurn)) (i : Losses) (near : ShdlcLink) → AreTurns turns → SafeLink 0 1 near → TiedLink i near

@@ -1,9 +1,9 @@
 -- A reset while the other end isn't Waiting is answered, where nothing is lost.
 use Rattle.std.proofs.Common.{not, ◌&&◌}
-use Rattle.link_laws.proofs.Words.{Act, Activation, AllShdlcAllowed, AreTurns, Bool, Clt, Control, CoreActs as Acts, CoreAreUpTogether as AreShdlcUpTogether}
+use Rattle.link_laws.proofs.Words.{Activation, AllShdlcAllowed, AreTurns, Bool, Control, CoreActs as Acts, CoreAreUpTogether as AreShdlcUpTogether}
 use Rattle.link_laws.proofs.Words.{CoreAtController as AtController, CoreAtHost as AtHost, CoreDeliver as Deliver, CoreEndEvent as ShdlcEndEvent}
-use Rattle.link_laws.proofs.Words.{CoreLink as ShdlcLink, CoreLose as Lose, CoreReset as Reset, CoreStop as Stop, CoreTurn as ShdlcTurn, Down, Due, EndState, I}
-use Rattle.link_laws.proofs.Words.{Ignore, IsShdlcSettled, IsShdlcStart, IsTurn, LinkState, List, None, NumberedShdlc, Offer, OnWire, Option, Rset, Rset_due, S}
+use Rattle.link_laws.proofs.Words.{CoreLink as ShdlcLink, CoreLose as Lose, CoreReset as Reset, CoreStop as Stop, CoreTurn as ShdlcTurn, Down, Due, EndState}
+use Rattle.link_laws.proofs.Words.{Ignore, IsShdlcSettled, IsShdlcStart, IsTurn, LinkState, List, None, NumberedShdlc, Offer, OnWire, Option, Rset, Rset_due}
 use Rattle.link_laws.proofs.Words.{SetReady, ShdlcLinkEvent, Some, Tick, TickWithout, Turns, Ua, Ua_due, Up, Waiting, [], act_frame, after_frames, aged_wire}
 use Rattle.link_laws.proofs.Words.{and_parts, ap, arith, asked_again, cond, core_after as shdlc_after, core_aged as shdlc_aged}
 use Rattle.link_laws.proofs.Words.{core_all_here as shdlc_all_at_controller, core_happens_here as shdlc_happens_at_controller}
@@ -27,6 +27,7 @@ use Rattle.link_laws.proofs.sessions.Steps.{passes_act, took, not_rset, sans-age
 use Rattle.link_laws.proofs.sessions.Steps.{tick_if_waiting, safe_event, safe_start}
 use Rattle.link_laws.proofs.sessions.Ties.{data_due, fits_sans, fetched-phase, fetched_answers, answers_more, after_frames-phase, turned-phase}
 use Rattle.link_laws.proofs.sessions.Quiet.{Tells, takes_by, turned_idle, idle_end}
+use Rattle.link_laws.proofs.Cases.{by_phase, by_test}
 
 -- an end waits and the other doesn't, and its RSET or the UA to it is on its way
 abbrev pub Asks : LinkState → LinkState → List OnWire → List OnWire → Type 0
@@ -151,12 +152,7 @@ sends_all m s e l h = sends_sure Sends sends_each m s e l h
 
 turn_answers : (e : EndState) (t : ShdlcTurn) → AnswersOnly e.due → AnswersOnly (shdlc_turn e t).due
 turn_answers e (SetReady r) a = ready_cases (λ f. AnswersOnly f.due) e r a a (answers_more e.due a)
-turn_answers e (Offer fragments) a = go e.phase refl
-  where
-    go : (p : LinkState) → e.phase ≡ p → AnswersOnly (shdlc_turn e (Offer fragments)).due
-    go Up q = rw q a
-    go Waiting q = rw q a
-    go Down q = rw q a
+turn_answers e (Offer fragments) a = by_phase {P = AnswersOnly (shdlc_turn e (Offer fragments)).due} e.phase (λ q. rw q a) (λ q. rw q a) (λ q. rw q a)
 
 turned_answers : (ts : List ShdlcTurn) (e : EndState) → AnswersOnly e.due → AnswersOnly (shdlc_turned e ts).due
 turned_answers [] e a = a
@@ -174,11 +170,7 @@ sure_drains m s ts e l a h =
 
 sure_put_tells : (s : Bool) (l : ShdlcLink) (c : Control) → sure_put s l c ≡ true → s ≡ true
 sure_put_tells s l (Rset w v) e = absurd (true≢false (sym e))
-sure_put_tells s l (I _ _ _) e = (and_parts s _ e).0
-sure_put_tells s l (S _ _) e = (and_parts s _ e).0
-sure_put_tells s l Ua e = (and_parts s _ e).0
-sure_put_tells s l (Act _ _) e = (and_parts s _ e).0
-sure_put_tells s l Clt e = (and_parts s _ e).0
+sure_put_tells s l _ e = (and_parts s _ e).0
 
 sure_all_tells : (cs : List Control) (s : Bool) (l : ShdlcLink) → sure_all s l cs ≡ true → s ≡ true
 sure_all_tells [] s l e = e
@@ -189,12 +181,9 @@ abbrev with_first : Due → EndState → EndState
 with_first d e = record e { due = d ∷ e.due }
 
 turn-first : (d : Due) (e : EndState) (t : ShdlcTurn) → shdlc_turn (with_first d e) t ≡ with_first d (shdlc_turn e t)
-turn-first d e (Offer fragments) = go e.phase refl
-  where
-    go : (p : LinkState) → e.phase ≡ p → shdlc_turn (with_first d e) (Offer fragments) ≡ with_first d (shdlc_turn e (Offer fragments))
-    go Up q = rw q refl
-    go Waiting q = rw q refl
-    go Down q = rw q refl
+turn-first d e (Offer fragments) =
+    by_phase {P = shdlc_turn (with_first d e) (Offer fragments) ≡ with_first d (shdlc_turn e (Offer fragments))} e.phase (λ q. rw q refl) (λ q. rw q refl)
+    (λ q. rw q refl)
 turn-first d e (SetReady r) = go e.ready r e.session.answered_rnr refl refl
   where
     go : (a b c : Bool) → e.ready ≡ a → e.session.answered_rnr ≡ c → shdlc_turn (with_first d e) (SetReady b) ≡ with_first d (shdlc_turn e (SetReady b))
@@ -233,7 +222,11 @@ not_waiting p e w = true≢false (sym (rw w at e))
 
 resets : (kf : ℕ) (s : Bool) (ts : List ShdlcTurn) (l : ShdlcLink) (w : ℕ) → SafeLink 0 kf l → SureLink s l
     → SureLink (sure_here s l (Reset w ts)) (shdlc_happens_at_controller l (Reset w ts))
-resets kf s ts l w h t = go l.controller.side.phase refl
+resets kf s ts l w h t =
+    by_phase l.controller.side.phase
+    (λ q. by_parts (not (is_waiting l.host.side)) true e (rw q refl) (rw q refl) (rw q refl) (asked (with_shdlc_ended l true) refl (rw q refl))) (λ q.
+    by_parts (sure_out s l (shdlc_turned l.controller.side ts)) false l.controller.side (rw q refl) (rw q refl) (rw q refl) (stays s ts l h.n_due t))
+    (λ q. by_parts (not (is_waiting l.host.side)) false e (rw q refl) (rw q refl) (rw q refl) (asked l refl (rw (q, h.n_due) refl)))
   where
     e : EndState
     e = waiting_from (record l.controller.side { own_window = w })
@@ -262,12 +255,6 @@ resets kf s ts l w h t = go l.controller.side.phase refl
         let P : List Control → Type 0 = λ cs. States (after_frames 12 (shdlc_turned e ts)).phase (shdlc_put_all m cs).host.side.phase
         (sans (shdlc_put_all m cs).to_controller) (sans (shdlc_put_all m cs).to_host) in
         subst P (sym frames) (inl (waits, (λ u. not_waiting l.host.side n (sym host ∙ u)), inl (rset_stands m.to_host x q.own_window 0 refl)))
-
-    go : (p : LinkState) → l.controller.side.phase ≡ p → SureLink (sure_here s l (Reset w ts)) (shdlc_happens_at_controller l (Reset w ts))
-    go Waiting q =
-        by_parts (sure_out s l (shdlc_turned l.controller.side ts)) false l.controller.side (rw q refl) (rw q refl) (rw q refl) (stays s ts l h.n_due t)
-    go Up q = by_parts (not (is_waiting l.host.side)) true e (rw q refl) (rw q refl) (rw q refl) (asked (with_shdlc_ended l true) refl (rw q refl))
-    go Down q = by_parts (not (is_waiting l.host.side)) false e (rw q refl) (rw q refl) (rw q refl) (asked l refl (rw (q, h.n_due) refl))
 
 -- an end that gives up had nothing out
 no_asks : (q : LinkState) (to_n to_f : List OnWire) (P : Type 0) → rsets to_f ≡ [] → uas to_n ≡ [] → States Waiting q to_n to_f → P
@@ -441,11 +428,10 @@ loses s l t = go l.to_controller t
     go : (wire : List OnWire) → (s ≡ true → States l.controller.side.phase l.host.side.phase (sans wire) (sans l.to_host))
         → SureLink (sure_here s (record l { to_controller = wire }) Lose) (shdlc_happens_at_controller (record l { to_controller = wire }) Lose)
     go [] t n = t (and_parts s true n).0
-    go (x ∷ xs) t n = first (is_act x.frame) refl
-      where
-        first : (b : Bool) → is_act x.frame ≡ b → States l.controller.side.phase l.host.side.phase (sans xs) (sans l.to_host)
-        first true q = let k = t (and_parts s (not (counts_first (x ∷ xs))) n).0 in rw q at k
-        first false q = absurd (let z : false ≡ true = rw q at ((and_parts s (not (counts_first (x ∷ xs))) n).1) in true≢false (sym z))
+    go (x ∷ xs) t n =
+        by_test {P = States l.controller.side.phase l.host.side.phase (sans xs) (sans l.to_host)} (is_act x.frame)
+        (λ q. let k = t (and_parts s (not (counts_first (x ∷ xs))) n).0 in rw q at k)
+        (λ q. absurd (let z : false ≡ true = rw q at ((and_parts s (not (counts_first (x ∷ xs))) n).1) in true≢false (sym z)))
 
 -- frames of activation stand beside the others
 acts_then : (ts : List ShdlcTurn) (acts : List Activation) (s : Bool) (l : ShdlcLink) → l.controller.side.due ≡ [] → SureLink s l
@@ -469,18 +455,15 @@ ignores s ts l t = go l.controller.side.phase refl l.to_controller refl
 
     go : (p : LinkState) → l.controller.side.phase ≡ p → (wire : List OnWire)
         → l.to_controller ≡ wire → SureLink (sure_here s l (Ignore ts)) (shdlc_happens_at_controller l (Ignore ts))
-    go Up q wire w = by_parts s l (rw q refl) (rw q refl) t
-    go Waiting q wire w = by_parts s l (rw q refl) (rw q refl) t
     go Down q [] w = by_parts s l (rw (q, w) refl) (rw (q, w) refl) t
     go Down q (x ∷ xs) w = λ n. absurd (let z : false ≡ true = rw (q, w) at n in true≢false (sym z))
+    go _ q wire w = by_parts s l (rw q refl) (rw q refl) t
 
 none_lost : (w : List OnWire) → loses_aged w ≡ false → aged_wire w ≡ older w
 none_lost [] e = refl
-none_lost (x ∷ xs) e = go (nat_lt x.age 4) refl e (none_lost xs)
-  where
-    go : (b : Bool) → nat_lt x.age 4 ≡ b → loses_aged (x ∷ xs) ≡ false → (loses_aged xs ≡ false → aged_wire xs ≡ older xs) → aged_wire (x ∷ xs) ≡ older (x ∷ xs)
-    go true q e more = rw q (ap (λ v. record x { age = x.age + 1 } ∷ v) (more (rw q at e)))
-    go false q e more = absurd (true≢false (rw q at e))
+none_lost (x ∷ xs) e =
+    by_test {P = aged_wire (x ∷ xs) ≡ older (x ∷ xs)} (nat_lt x.age 4) (λ q. rw q (ap (λ v. record x { age = x.age + 1 } ∷ v) ((none_lost xs) (rw q at e))))
+    (λ q. absurd (true≢false (rw q at e)))
 
 ages : (s : Bool) (l : ShdlcLink) → SureLink s l → SureLink (sure_aged s l) (shdlc_aged l)
 ages s l t n =
@@ -526,19 +509,14 @@ sure_at s l (Ignore ts) h t = ignores s ts l t
 sure_at s l (Acts acts ts) h t = acts_then ts acts s l h.n_due t
 sure_at s l Lose h t = loses s l t
 sure_at s l (Reset w ts) h t = resets 0 s ts l w h t
-sure_at s l Cut h t = λ n. absurd (true≢false (sym n))
-sure_at s l Stop h t = λ n. absurd (true≢false (sym n))
+sure_at s l _ h t = λ n. absurd (true≢false (sym n))
 
 tick_sure : (kf : ℕ) (s : Bool) (b : Option (List ShdlcTurn)) (l : ShdlcLink) → SafeLink 1 kf l → SureLink s l → SureLink (sure_tick s b l) (ticks_or_cut b l)
 tick_sure kf s (Some ts) l h t = ticks kf s ts l h t
 tick_sure kf s None l h t = λ n. absurd (true≢false (sym n))
 
 sure_waiting : (kf : ℕ) (s : Bool) (l : ShdlcLink) → SafeLink 1 kf l → SureLink s l → SureLink (sure_if_waiting s l) (ticks_if_waiting l)
-sure_waiting kf s l h t = go (is_waiting l.controller.side) refl
-  where
-    go : (b : Bool) → is_waiting l.controller.side ≡ b → SureLink (sure_if_waiting s l) (ticks_if_waiting l)
-    go true q = rw q (ticks kf s [] l h t)
-    go false q = rw q t
+sure_waiting kf s l h t = by_test (is_waiting l.controller.side) (λ q. rw q (ticks kf s [] l h t)) (λ q. rw q t)
 
 -- a tick of the host's end, where these things have happened at the controller's
 sure_there : (turns : List ShdlcEndEvent) (d : Option (List ShdlcTurn)) (i : Bool) (near : ShdlcLink) → AreTurns turns → SafeLink 0 1 near → SureLink i near

@@ -1,8 +1,8 @@
 -- All that is true of a link over resets, and how each thing that one end does keeps it.
 use Rattle.std.proofs.Common.{◌==◌}
-use Rattle.link_laws.proofs.Words.{Act, Bool, Clt, Control, Down, EndState, I, LinkState, List, None, NumberedShdlc, OnWire, Option, Rset, S, Session, Some, Ua}
-use Rattle.link_laws.proofs.Words.{Up, Waiting, [], ap, arith, ended_session, eqb-true, false, inl, inr, new_session, no_session, older, refl, shdlc_number_of}
-use Rattle.link_laws.proofs.Words.{shdlc_session_of, subst, sym, true, ℕ, ◌++◌, ◌+◌, ◌<◌, ◌∙◌, ◌∷◌, ◌≡◌, ◌≤◌, ◌⊎◌}
+use Rattle.link_laws.proofs.Words.{Control, Down, EndState, LinkState, List, None, NumberedShdlc, OnWire, Option, Rset, Session, Some, Ua, Up, Waiting, [], ap}
+use Rattle.link_laws.proofs.Words.{arith, ended_session, eqb-true, inl, inr, new_session, no_session, older, refl, shdlc_number_of, shdlc_session_of, subst}
+use Rattle.link_laws.proofs.Words.{sym, ℕ, ◌++◌, ◌+◌, ◌<◌, ◌∙◌, ◌∷◌, ◌≡◌, ◌≤◌, ◌⊎◌}
 use Rattle.link_laws.proofs.sessions.Wire.{IsData, rsets, uas, AfterRset, behind_ua, live, Young, behind_none, behind_push, behind_push_none, behind_new}
 use Rattle.link_laws.proofs.sessions.Wire.{behind_rsets, data_behind, after_rset_empty, live-older, older_part}
 use Rattle.link_laws.proofs.sessions.Hand.{peer_of, Hand, Agrees, NothingIsOut, IsRset, IsNextRset, IsNewUa, hand_swap, hand_empty, idle_out, ua_told}
@@ -10,6 +10,7 @@ use Rattle.link_laws.proofs.sessions.Hand.{rset_told, hand_past, hand_ask, hand_
 use Rattle.link_laws.proofs.sessions.Hand.{hand_ignore, hand_older}
 use Rattle.link_laws.proofs.sessions.Data.{Base, Active, OnLive, active_empty, active_lost, Below, below_more, none_ended, bound, of_up, of_update, of_none}
 use Rattle.link_laws.proofs.sessions.Data.{base_begins, base_begins_there, Pair, shows_push_rset, shows_older}
+use Rattle.link_laws.proofs.Cases.{by_test}
 
 -- the windows that an end may ask for
 pub record HasWindows (e : EndState) : Type 0 where
@@ -200,8 +201,7 @@ live_after_rset Waiting (z ∷ v ∷ w) mine theirs no_up a b = absurd a
 
 pub live_empty : (p : LinkState) (mine theirs : Session) → Base mine theirs → OnLive (live p []) mine theirs
 live_empty Up mine theirs b = active_empty mine theirs b
-live_empty Waiting mine theirs b = tt
-live_empty Down mine theirs b = tt
+live_empty _ mine theirs b = tt
 
 -- what is true of each session, by its number, is true of what it has become
 abbrev pub AllStay : (ℕ → Session) → (ℕ → Session) → Type 1
@@ -238,8 +238,7 @@ moves_none n no_up P all k = go n.side.phase refl (all k)
   where
     go : (p : LinkState) → n.side.phase ≡ p → P k (shdlc_session_of n k) → P k (ended_session n.past k)
     go Up e a = absurd (no_up e)
-    go Waiting e a = rw e at a
-    go Down e a = rw e at a
+    go _ e a = rw e at a
 
 -- all sessions of an end have ended, and are kept with numbers below b
 pub record HaveEnded (n : NumberedShdlc) (past : List (ℕ × Session)) (b : ℕ) : Type 1 where
@@ -363,11 +362,7 @@ on_live_begins (Some l) m w h = record { marks = h.marks; shows = h.shows; place
 
 begins_at : (P : ℕ → Session → Type 0) (g : NumberedShdlc) → g.side.phase ≡ Up → ((k : ℕ) → P k (ended_session g.past k)) → P (shdlc_number_of g) g.side.session
     → (k : ℕ) → P k (shdlc_session_of g k)
-begins_at P g up all new k = go (k == shdlc_number_of g) refl
-  where
-    go : (b : Bool) → (k == shdlc_number_of g) ≡ b → P k (shdlc_session_of g k)
-    go true q = rw (up, q) (rw (← eqb-true k (shdlc_number_of g) q) at new)
-    go false q = rw (up, q) (all k)
+begins_at P g up all new k = by_test (k == shdlc_number_of g) (λ q. rw (up, q) (rw (← eqb-true k (shdlc_number_of g) q) at new)) (λ q. rw (up, q) (all k))
 
 module _ {kn kf : ℕ} {n f : NumberedShdlc} {to_n to_f : List OnWire} {r : ℕ} (h : Safe kn kf n f to_n to_f r) where
   pub safe_begins : {kn' kf' : ℕ} {g : NumberedShdlc} {w : ℕ} {to_n' to_f' : List OnWire} {r' : ℕ} → IsNewlyUp g w → HaveEnded n g.past (shdlc_number_of g)
@@ -483,12 +478,9 @@ pub frame_cases : (x : OnWire) → IsData x.frame ⊎ (IsRset x ⊎ (x.frame ≡
 frame_cases x = go x.frame refl
   where
     go : (c : Control) → x.frame ≡ c → IsData x.frame ⊎ (IsRset x ⊎ (x.frame ≡ Ua))
-    go (I _ _ _) e = inl (rw e tt)
-    go (S _ _) e = inl (rw e tt)
     go (Rset w c) e = inr (inl (record { window = w; caps = c; frame = e }))
     go Ua e = inr (inr e)
-    go (Act _ _) e = inl (rw e tt)
-    go Clt e = inl (rw e tt)
+    go _ e = inl (rw e tt)
 
 -- the first frame on its way to the near end
 pub safe_lose : {kn : ℕ} {n f : NumberedShdlc} {x : OnWire} {to_n to_f : List OnWire} {r : ℕ} → Safe kn 0 n f (x ∷ to_n) to_f r → Safe kn 0 n f to_n to_f r

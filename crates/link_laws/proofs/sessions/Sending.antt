@@ -12,6 +12,7 @@ use Rattle.link_laws.proofs.sessions.Wire.{IsData, rsets, behind_ua, live, behin
 use Rattle.link_laws.proofs.sessions.Hand.{NothingIsOut, idle_out, hand_send, hand_timer}
 use Rattle.link_laws.proofs.sessions.Data.{Pair, pair_next, pair_put, Plain, pushed, pair_send, pair_send_S, IsAnswer}
 use Rattle.link_laws.proofs.sessions.Safe.{Safe, session_with, safe_swap, GoesOn, pair_from, safe_up, safe_idle, safe_lose}
+use Rattle.link_laws.proofs.Cases.{by_option, by_phase, by_test}
 
 abbrev pub SafeAt : ℕ → ℕ → ShdlcLink → EndState → Type 0
 SafeAt kn kf l q = Safe kn kf (record l.controller { side = q }) l.host (sans l.to_controller) (sans l.to_host) l.resets
@@ -23,19 +24,14 @@ SafeLink kn kf l = Safe kn kf l.controller l.host (sans l.to_controller) (sans l
 
 pub sans-push : (w : List OnWire) (x : OnWire) → is_act x.frame ≡ false → sans (w ++ x ∷ []) ≡ sans w ++ x ∷ []
 sans-push [] x q = rw q refl
-sans-push (y ∷ w) x q = go (is_act y.frame) refl (sans-push w x q)
-  where
-    go : (b : Bool) → is_act y.frame ≡ b → sans (w ++ x ∷ []) ≡ sans w ++ x ∷ [] → sans ((y ∷ w) ++ x ∷ []) ≡ sans (y ∷ w) ++ x ∷ []
-    go true p more = rw p more
-    go false p more = rw p (ap (λ v. y ∷ v) more)
+sans-push (y ∷ w) x q =
+    by_test {P = sans ((y ∷ w) ++ x ∷ []) ≡ sans (y ∷ w) ++ x ∷ []} (is_act y.frame) (λ p. rw p (sans-push w x q))
+    (λ p. rw p (ap (λ v. y ∷ v) (sans-push w x q)))
 
 pub sans-push_act : (w : List OnWire) (x : OnWire) → is_act x.frame ≡ true → sans (w ++ x ∷ []) ≡ sans w
 sans-push_act [] x q = rw q refl
-sans-push_act (y ∷ w) x q = go (is_act y.frame) refl (sans-push_act w x q)
-  where
-    go : (b : Bool) → is_act y.frame ≡ b → sans (w ++ x ∷ []) ≡ sans w → sans ((y ∷ w) ++ x ∷ []) ≡ sans (y ∷ w)
-    go true p more = rw p more
-    go false p more = rw p (ap (λ v. y ∷ v) more)
+sans-push_act (y ∷ w) x q =
+    by_test {P = sans ((y ∷ w) ++ x ∷ []) ≡ sans (y ∷ w)} (is_act y.frame) (λ p. rw p (sans-push_act w x q)) (λ p. rw p (ap (λ v. y ∷ v) (sans-push_act w x q)))
 
 -- a wire that is full loses its first frame
 pub fits_keeps : {kf : ℕ} {n f : NumberedShdlc} {to_n : List OnWire} {r : ℕ} (w : List OnWire) → Safe 0 kf n f to_n (sans w) r
@@ -60,22 +56,15 @@ safe_fits {kf} {n} {f} {to_n} {r} w x q h =
     fits_keeps (w ++ x ∷ []) (let P : List OnWire → Type 0 = λ v. Safe 0 kf n f to_n v r in subst P (sym (sans-push w x q)) h)
 
 pub live-push : (p : LinkState) (w : List OnWire) (x : OnWire) → IsData x.frame → live p (w ++ x ∷ []) ≡ pushed (live p w) x
-live-push Up w x d = refl
-live-push Down w x d = refl
-live-push Waiting w x d = go (behind_ua w) refl
-  where
-    go : (o : Option (List OnWire)) → behind_ua w ≡ o → behind_ua (w ++ x ∷ []) ≡ pushed (behind_ua w) x
-    go None e = rw e (behind_push_none w x (data_not_ua x.frame d) e)
-    go (Some ys) e = rw e (behind_push w ys x e)
+live-push Waiting w x d =
+    by_option {P = behind_ua (w ++ x ∷ []) ≡ pushed (behind_ua w) x} (behind_ua w) (λ e. rw e (behind_push_none w x (data_not_ua x.frame d) e))
+    (λ ys e. rw e (behind_push w ys x e))
+live-push _ w x d = refl
 
 pub plain_live : (p : LinkState) (w : List OnWire) → rsets w ≡ [] → Plain (live p w)
 plain_live Up w e = e
 plain_live Down w e = tt
-plain_live Waiting w e = go (behind_ua w) refl
-  where
-    go : (o : Option (List OnWire)) → behind_ua w ≡ o → Plain (behind_ua w)
-    go None q = rw q tt
-    go (Some ys) q = rw q (sym (behind_rsets w ys q).0 ∙ e)
+plain_live Waiting w e = by_option {P = Plain (behind_ua w)} (behind_ua w) (λ q. rw q tt) (λ ys q. rw q (sym (behind_rsets w ys q).0 ∙ e))
 
 pub no_rset_out : {kn kf : ℕ} {n f : NumberedShdlc} {to_n to_f : List OnWire} {r : ℕ} → Safe kn kf n f to_n to_f r → n.side.phase ≡ Up → NothingIsOut to_n to_f
 no_rset_out h up = idle_out h.hand (λ w. let e = sym up ∙ w in cc)
@@ -122,15 +111,10 @@ pub safe_drains : (kf m : ℕ) (q : EndState) (l : ShdlcLink) → SafeAt 0 kf l 
 safe_drains kf m q l h = sends_keeps (λ e v. SafeAt 0 kf v e) each m q l h
   where
     is_up : (e : EndState) (info : Fragment) → ((e.phase ≡ Up → ⊥) → e.session ≡ no_session) → fragment_due e.session ≡ Some info → e.phase ≡ Up
-    is_up e info none is = go e.phase refl
+    is_up e info none is = by_phase e.phase (λ p. p) (λ p. absurd (absent (λ u. let g = sym p ∙ u in cc))) (λ p. absurd (absent (λ u. let g = sym p ∙ u in cc)))
       where
         absent : (e.phase ≡ Up → ⊥) → ⊥
         absent no_up = let a : fragment_due no_session ≡ Some info = rw (none no_up) at is in let b : None ≡ Some info = a in cc
-
-        go : (p : LinkState) → e.phase ≡ p → e.phase ≡ Up
-        go Up p = p
-        go Waiting p = absurd (absent (λ u. let g = sym p ∙ u in cc))
-        go Down p = absurd (absent (λ u. let g = sym p ∙ u in cc))
 
     each : (e : EndState) (v : ShdlcLink) (c : Control) → frame_due e ≡ Some c → SafeAt 0 kf v e → SafeAt 0 kf (shdlc_put v c) (fetched e)
     each e v c is g =
@@ -181,8 +165,7 @@ ready_by P e r up none same other answered = go e.ready r e.session.answered_rnr
 
 pub phase_known : (p : LinkState) → (p ≡ Up → ⊥) ⊎ (p ≡ Up)
 phase_known Up = inr refl
-phase_known Waiting = inl (λ e. cc)
-phase_known Down = inl (λ e. cc)
+phase_known _ = inl (λ e. cc)
 
 -- an answer goes out
 pub put_answer : (kf : ℕ) (l : ShdlcLink) (e : EndState) (k : Kind) → e.phase ≡ Up → SafeAt 0 kf l e → SafeAt 0 kf (shdlc_put l (S k (expected e.session))) e
@@ -208,11 +191,9 @@ controls_same e f [] a w = refl
 controls_same e f (d ∷ ds) a w = let more = controls_same e f ds a w in let one = go d in cc
   where
     go : (d : Due) → control_due f d ≡ control_due e d
-    go Rr_due = rw a refl
-    go Rej_due = rw a refl
-    go Rnr_due = rw a refl
     go Rset_due = rw w refl
     go Ua_due = refl
+    go _ = rw a refl
 
 pub put_all-append : (l : ShdlcLink) (cs ds : List Control) → shdlc_put_all l (cs ++ ds) ≡ shdlc_put_all (shdlc_put_all l cs) ds
 put_all-append l [] ds = refl
@@ -238,7 +219,9 @@ ready_at kf l r h = other (phase_known e.phase)
         safe_idle h no_up (record { phase = refl; due = refl; session = none; own = refl; peer = refl }) refl h.hand
 
 pub turn_pending : (kf : ℕ) (l : ShdlcLink) (e : EndState) (t : ShdlcTurn) → Pending kf l e → Pending kf l (shdlc_turn e t)
-turn_pending kf l e (Offer fragments) h = go e.phase refl
+turn_pending kf l e (Offer fragments) h =
+    by_phase {P = Pending kf l (shdlc_turn e (Offer fragments))} e.phase
+    (λ p. let P : EndState → Type 0 = λ f. Pending kf l f in subst P (sym (up_is p)) (up p)) (λ p. other (rw p refl)) (λ p. other (rw p refl))
   where
     other : shdlc_turn e (Offer fragments) ≡ e → Pending kf l (shdlc_turn e (Offer fragments))
     other q = let P : EndState → Type 0 = λ f. Pending kf l f in subst P (sym q) h
@@ -255,11 +238,6 @@ turn_pending kf l e (Offer fragments) h = go e.phase refl
               subst P (sym (controls_same e (put_out e fragments) e.due refl refl)) s;
           few = h.few;
         }
-
-    go : (p : LinkState) → e.phase ≡ p → Pending kf l (shdlc_turn e (Offer fragments))
-    go Up p = let P : EndState → Type 0 = λ f. Pending kf l f in subst P (sym (up_is p)) (up p)
-    go Waiting p = other (rw p refl)
-    go Down p = other (rw p refl)
 turn_pending kf l e (SetReady r) h =
     ready_by (λ f. Pending kf l f) e r (phase_known e.phase) h.safe.n_none h
     (record { safe = as_changed e.due (controls_same e (changed e r e.due) e.due refl refl); few = omega (arith, h.few) })
@@ -347,8 +325,7 @@ pub becomes_answer : (kf : ℕ) (ts : List ShdlcTurn) (l : ShdlcLink) (e : EndSt
 becomes_answer kf ts l e Rr_due a is up h = becomes_one kf ts l e Rr_due is (put_answer kf l (record e { due = [] }) Rr up h)
 becomes_answer kf ts l e Rej_due a is up h = becomes_one kf ts l e Rej_due is (put_answer kf l (record e { due = [] }) Rej up h)
 becomes_answer kf ts l e Rnr_due a is up h = becomes_one kf ts l e Rnr_due is (put_answer kf l (record e { due = [] }) Rnr up h)
-becomes_answer kf ts l e Rset_due a is up h = absurd a
-becomes_answer kf ts l e Ua_due a is up h = absurd a
+becomes_answer kf ts l e _ a is up h = absurd a
 
 -- the end has become e, with an answer to send or none
 pub becomes_taken : (kf : ℕ) (ts : List ShdlcTurn) (l : ShdlcLink) (e : EndState) → e.phase ≡ Up → (e.due ≡ []) ⊎ ((d : Due) × IsAnswer d × (e.due ≡ d ∷ []))

@@ -1,18 +1,18 @@
 -- Each event keeps all that is true of a link.
 use Rattle.std.proofs.Common.{◌==◌, max}
-use Rattle.link_laws.proofs.Words.{Act, Activation, AllShdlcAllowed, AreTurns, Bool, BothDown, BothUp, Clt, Control, CoreActs as Acts}
-use Rattle.link_laws.proofs.Words.{CoreAtController as AtController, CoreAtHost as AtHost, CoreDeliver as Deliver, CoreEndEvent as ShdlcEndEvent}
-use Rattle.link_laws.proofs.Words.{CoreInOrder as FragmentsInOrder, CoreIsAllowed as IsShdlcAllowed, CoreLink as ShdlcLink, CoreLose as Lose}
-use Rattle.link_laws.proofs.Words.{CoreReset as Reset, CoreStop as Stop, CoreTurn as ShdlcTurn, Down, Due, EndState, I, Ignore, IsShdlcStart, IsTurn, LinkState}
-use Rattle.link_laws.proofs.Words.{List, None, NumberedShdlc, OnWire, Option, Rset, Rset_due, S, Session, ShdlcLinkEvent, Some, Tick, TickWithout, Turns, Ua}
-use Rattle.link_laws.proofs.Words.{Ua_due, Up, Waiting, [], act_frame, aged_wire, ap, arith, asked_again, begun, cond, core_after as shdlc_after}
-use Rattle.link_laws.proofs.Words.{core_aged as shdlc_aged, core_all_here as shdlc_all_at_controller, core_happens_here as shdlc_happens_at_controller}
+use Rattle.link_laws.proofs.Words.{Activation, AllShdlcAllowed, AreTurns, Bool, BothDown, BothUp, Control, CoreActs as Acts, CoreAtController as AtController}
+use Rattle.link_laws.proofs.Words.{CoreAtHost as AtHost, CoreDeliver as Deliver, CoreEndEvent as ShdlcEndEvent, CoreInOrder as FragmentsInOrder}
+use Rattle.link_laws.proofs.Words.{CoreIsAllowed as IsShdlcAllowed, CoreLink as ShdlcLink, CoreLose as Lose, CoreReset as Reset, CoreStop as Stop}
+use Rattle.link_laws.proofs.Words.{CoreTurn as ShdlcTurn, Down, Due, EndState, Ignore, IsShdlcStart, IsTurn, LinkState, List, None, NumberedShdlc, OnWire}
+use Rattle.link_laws.proofs.Words.{Option, Rset, Rset_due, Session, ShdlcLinkEvent, Some, Tick, TickWithout, Turns, Ua, Ua_due, Up, Waiting, [], act_frame}
+use Rattle.link_laws.proofs.Words.{aged_wire, ap, arith, asked_again, begun, cond, core_after as shdlc_after, core_aged as shdlc_aged}
+use Rattle.link_laws.proofs.Words.{core_all_here as shdlc_all_at_controller, core_happens_here as shdlc_happens_at_controller}
 use Rattle.link_laws.proofs.Words.{core_ticks_if_waiting as ticks_if_waiting, core_ticks_or_cut as ticks_or_cut, core_turned as shdlc_turned}
 use Rattle.link_laws.proofs.Words.{core_with_ended as with_shdlc_ended, ended_session, false, given_up, inl, inr, is_act, is_rset, is_some, is_up, is_waiting}
 use Rattle.link_laws.proofs.Words.{ltb-false, ltb-true, map, min, nat_lt, ne_eqb, new_end, new_session, no_session, older, refl, reset_with, runs_timer, sans}
 use Rattle.link_laws.proofs.Words.{sent_again, shdlc_becomes, shdlc_exchanged, shdlc_happens, shdlc_number_of, shdlc_put, shdlc_put_all, shdlc_session_of}
 use Rattle.link_laws.proofs.Words.{shdlc_silent, shdlc_ticks_at_controller, stopped, subst, sym, take_answer, taken, tick_answer, ticked, took_with, true}
-use Rattle.link_laws.proofs.Words.{up_with, waiting_from, ℕ, ◌++◌, ◌+◌, ◌<◌, ◌∙◌, ◌∷◌, ◌≡◌, ◌≤◌, ◌⊎◌}
+use Rattle.link_laws.proofs.Words.{true≢false, up_with, waiting_from, ℕ, ◌++◌, ◌+◌, ◌<◌, ◌∙◌, ◌∷◌, ◌≡◌, ◌≤◌, ◌⊎◌}
 use Rattle.link_laws.specs.sessions.Sessions.{new_numbered_shdlc, bare}
 use Rattle.link_laws.specs.sessions.Sessions.ShdlcEndEvent.{Cut}
 use Rattle.link_laws.proofs.sessions.Wire.{IsData, rsets, behind_ua, live, Young, data_behind, young_later, young_older}
@@ -24,6 +24,8 @@ use Rattle.link_laws.proofs.sessions.Safe.{moves_none, waiting_end, safe_asks, s
 use Rattle.link_laws.proofs.sessions.Safe.{frame_cases, safe_lose, safe_ignore, safe_older, live_empty, safe_silent}
 use Rattle.link_laws.proofs.sessions.Sending.{SafeAt, SafeLink, sans-push_act, fits_keeps, safe_fits, no_rset_out, up_step, becomes_none, becomes_one}
 use Rattle.link_laws.proofs.sessions.Sending.{becomes_taken}
+use Rattle.link_laws.proofs.Cases.{by_phase, by_test}
+use Rattle.link_laws.proofs.machine.Walks.{by_taken}
 
 -- ## It sends an RSET and waits
 
@@ -77,7 +79,13 @@ past_below_down l down h =
 
 resets : (kf : ℕ) (ts : List ShdlcTurn) (l : ShdlcLink) (w : ℕ) → (0 < w) × (w ≤ 4) → SafeLink 0 kf l
     → SafeLink 0 kf (shdlc_happens_at_controller l (Reset w ts))
-resets kf ts l w ok h = go l.controller.side.phase refl
+resets kf ts l w ok h =
+    by_phase l.controller.side.phase (λ q. by_parts true (waiting_from e) (rw q refl) (rw q refl) (up_asks ts l e q q h.n_due windows h))
+    (λ q. by_parts false l.controller.side (rw q refl) (rw q refl) (becomes_none kf ts l l.controller.side h)) (λ q.
+    let out = idle_out h.hand (λ v. let g = sym q ∙ v in cc) in
+    let due : (waiting_from e).due ≡ Rset_due ∷ [] = rw (q, h.n_due) refl in
+    by_parts false (waiting_from e) (rw q refl) (rw q refl)
+    (becomes_one kf ts l (waiting_from e) Rset_due due (put_rset l out windows (past_below_down l q h) h)))
   where
     e : EndState
     e = record l.controller.side { own_window = w }
@@ -92,20 +100,22 @@ resets kf ts l w ok h = go l.controller.side.phase refl
         let P : Bool → EndState → Type 0 = λ c f. SafeLink 0 kf (shdlc_becomes (with_shdlc_ended l c) (shdlc_turned f ts)) in
         subst (λ c. P c (reset_with l.controller.side w)) (sym up) (subst (P b) (sym is) a)
 
-    go : (p : LinkState) → l.controller.side.phase ≡ p → SafeLink 0 kf (shdlc_happens_at_controller l (Reset w ts))
-    go Waiting q = by_parts false l.controller.side (rw q refl) (rw q refl) (becomes_none kf ts l l.controller.side h)
-    go Up q = by_parts true (waiting_from e) (rw q refl) (rw q refl) (up_asks ts l e q q h.n_due windows h)
-    go Down q =
-        let out = idle_out h.hand (λ v. let g = sym q ∙ v in cc) in
-        let due : (waiting_from e).due ≡ Rset_due ∷ [] = rw (q, h.n_due) refl in
-        by_parts false (waiting_from e) (rw q refl) (rw q refl)
-        (becomes_one kf ts l (waiting_from e) Rset_due due (put_rset l out windows (past_below_down l q h) h))
-
 -- ## It is Down, and nothing stands on either wire
 
 silences : (kn kf : ℕ) (l : ShdlcLink) (q : EndState) → q.phase ≡ Down → q.session ≡ no_session → q.due ≡ [] → HasWindows q → SafeLink kn kf l
     → SafeLink 0 kf (shdlc_silent l q)
-silences kn kf l q down none due windows h = go l.controller.side.phase refl
+silences kn kf l q down none due windows h =
+    by_phase l.controller.side.phase (λ e.
+    let a : Below (shdlc_number_of l.controller) l.controller.past = rw e at h.n_past in
+    let below = below_more (shdlc_number_of l.controller) (shdlc_number_of l.controller + 1) l.controller.past (omega arith) a in
+    rw e (made (record { moves = moves_end l.controller e; below = (omega arith, below) })))
+    (λ e.
+    let a : Below l.controller.emitted l.controller.past = rw e at h.n_past in
+    let below = below_more l.controller.emitted (shdlc_number_of l.controller + 1) l.controller.past (omega arith) a in
+    rw e (made (record { moves = moves_none l.controller (λ u. let g = sym e ∙ u in cc); below = below })))
+    (λ e.
+    let a : Below (shdlc_number_of l.controller + 1) l.controller.past = rw e at h.n_past in
+    rw e (made (record { moves = moves_none l.controller (λ u. let g = sym e ∙ u in cc); below = a })))
   where
     is : record q { phase = Down; session = no_session } ≡ q
     is = rw (← down, ← none) refl
@@ -116,19 +126,6 @@ silences kn kf l q down none due windows h = go l.controller.side.phase refl
         let P : EndState → Type 0 = λ v. Safe 0 kf (record { side = v; emitted = l.controller.emitted; took = l.controller.took; past = past }) l.host
         [] [] l.resets in
         subst P is (safe_silent h due windows ended)
-
-    go : (p : LinkState) → l.controller.side.phase ≡ p → SafeLink 0 kf (shdlc_silent l q)
-    go Up e =
-        let a : Below (shdlc_number_of l.controller) l.controller.past = rw e at h.n_past in
-        let below = below_more (shdlc_number_of l.controller) (shdlc_number_of l.controller + 1) l.controller.past (omega arith) a in
-        rw e (made (record { moves = moves_end l.controller e; below = (omega arith, below) }))
-    go Waiting e =
-        let a : Below l.controller.emitted l.controller.past = rw e at h.n_past in
-        let below = below_more l.controller.emitted (shdlc_number_of l.controller + 1) l.controller.past (omega arith) a in
-        rw e (made (record { moves = moves_none l.controller (λ u. let g = sym e ∙ u in cc); below = below }))
-    go Down e =
-        let a : Below (shdlc_number_of l.controller + 1) l.controller.past = rw e at h.n_past in
-        rw e (made (record { moves = moves_none l.controller (λ u. let g = sym e ∙ u in cc); below = a }))
 
 cuts : (kn kf : ℕ) (l : ShdlcLink) → SafeLink kn kf l → SafeLink 0 kf (shdlc_silent l (new_end 4))
 cuts kn kf l h =
@@ -219,32 +216,15 @@ pub took_other : (t : ℕ) (x : OnWire) → is_rset x.frame ≡ false → took_w
 took_other t x e = rw e refl
 
 pub not_rset : (c : Control) → IsData c ⊎ (c ≡ Ua) → is_rset c ≡ false
-not_rset (I _ _ _) d = refl
-not_rset (S _ _) d = refl
-not_rset (Act _ _) d = refl
-not_rset Clt d = refl
-not_rset Ua d = refl
 not_rset (Rset _ _) (inl d) = absurd d
 not_rset (Rset _ _) (inr d) = cc
+not_rset _ d = refl
 
 -- an end that isn't Up passes over the frames of a session
 pub passes : (e : EndState) (c : Control) → IsData c → (e.phase ≡ Up → ⊥) → (taken e c ≡ e) × (is_some (take_answer e c).ended ≡ false)
-passes e c d no_up = go e.phase refl c d
-  where
-    go : (p : LinkState) → e.phase ≡ p → (c : Control) → IsData c → (taken e c ≡ e) × (is_some (take_answer e c).ended ≡ false)
-    go Up p c d = absurd (no_up p)
-    go Waiting p (I _ _ _) d = (rw p refl, rw p refl)
-    go Waiting p (S _ _) d = (rw p refl, rw p refl)
-    go Waiting p (Act _ _) d = (rw p refl, rw p refl)
-    go Waiting p Clt d = (rw p refl, rw p refl)
-    go Waiting p Ua d = absurd d
-    go Waiting p (Rset _ _) d = absurd d
-    go Down p (I _ _ _) d = (rw p refl, rw p refl)
-    go Down p (S _ _) d = (rw p refl, rw p refl)
-    go Down p (Act _ _) d = (rw p refl, rw p refl)
-    go Down p Clt d = (rw p refl, rw p refl)
-    go Down p Ua d = absurd d
-    go Down p (Rset _ _) d = absurd d
+passes e c d no_up =
+    by_taken (λ c f answer. IsData c → (f ≡ e) × (is_some answer.ended ≡ false)) e (λ _ _ _ p _. absurd (no_up p)) (λ _ _ p _. absurd (no_up p))
+    (λ _ _. (refl, refl)) (λ _ _ _ d. absurd d) (λ _ _ _ d. absurd d) (λ _ _ _ d. absurd d) (λ _ d. absurd d) c d
 
 -- the link after the controller's end took x
 abbrev pub took : ShdlcLink → List ShdlcTurn → OnWire → List OnWire → ShdlcLink
@@ -390,25 +370,16 @@ takes ts l x xs h = go (frame_cases x) e.phase refl
 
 -- a frame of activation is passed over
 pub passes_act : (e : EndState) (c : Control) → is_act c ≡ true → (taken e c ≡ e) × (is_some (take_answer e c).ended ≡ false)
-passes_act e c a = go e.phase refl c a
+passes_act e c a =
+    by_taken (λ c f answer. is_act c ≡ true → (f ≡ e) × (is_some answer.ended ≡ false)) e (λ _ _ _ _. other) (λ _ _ _. other) (λ _ _. (refl, refl))
+    (λ _ _ _. other) (λ _ _ _. other) (λ _ _ _. other) (λ _. other) c a
   where
-    go : (p : LinkState) → e.phase ≡ p → (c : Control) → is_act c ≡ true → (taken e c ≡ e) × (is_some (take_answer e c).ended ≡ false)
-    go Up p (Act _ _) a = (rw p refl, rw p refl)
-    go Waiting p (Act _ _) a = (rw p refl, rw p refl)
-    go Down p (Act _ _) a = (rw p refl, rw p refl)
-    go p q (I _ _ _) a = absurd (let z : false ≡ true = a in cc)
-    go p q (S _ _) a = absurd (let z : false ≡ true = a in cc)
-    go p q (Rset _ _) a = absurd (let z : false ≡ true = a in cc)
-    go p q Ua a = absurd (let z : false ≡ true = a in cc)
-    go p q Clt a = absurd (let z : false ≡ true = a in cc)
+    other : {G : Type 0} → false ≡ true → G
+    other a = absurd (true≢false (sym a))
 
 pub act_not_rset : (c : Control) → is_act c ≡ true → is_rset c ≡ false
-act_not_rset (Act _ _) a = refl
-act_not_rset (I _ _ _) a = refl
-act_not_rset (S _ _) a = refl
 act_not_rset (Rset _ _) a = absurd (let z : false ≡ true = a in cc)
-act_not_rset Ua a = refl
-act_not_rset Clt a = refl
+act_not_rset _ a = refl
 
 delivers : (ts : List ShdlcTurn) (l : ShdlcLink) → SafeLink 0 0 l → SafeLink 0 0 (shdlc_happens_at_controller l (Deliver ts))
 delivers ts l h = go l.to_controller h
@@ -445,7 +416,8 @@ loses l h = go l.to_controller h
 pub counts : (l : ShdlcLink) (x : OnWire) (xs : List OnWire)
     → l.controller.side.phase ≡ Down → Safe 0 0 l.controller l.host (sans (x ∷ xs)) (sans l.to_host) l.resets
     → Safe 0 0 (record l.controller { took = took_with l.controller.took x }) l.host (sans xs) (sans l.to_host) l.resets
-counts l x xs down g = first (is_act x.frame) refl
+counts l x xs down g =
+    by_test (is_act x.frame) (λ q. rw (took_other l.controller.took x (act_not_rset x.frame q)) (rw q at g)) (λ q. frame (rw q at g) (frame_cases x))
   where
     frame : Safe 0 0 l.controller l.host (x ∷ sans xs) (sans l.to_host) l.resets
         → IsData x.frame ⊎ (IsRset x ⊎ (x.frame ≡ Ua))
@@ -455,10 +427,6 @@ counts l x xs down g = first (is_act x.frame) refl
     frame k (inr (inl s)) =
         rw (took_rset l s (rset_told k.hand s).number k.hand.n_took) (safe_ignore s down k)
 
-    first : (b : Bool) → is_act x.frame ≡ b → Safe 0 0 (record l.controller { took = took_with l.controller.took x }) l.host (sans xs) (sans l.to_host) l.resets
-    first true q = rw (took_other l.controller.took x (act_not_rset x.frame q)) (rw q at g)
-    first false q = frame (rw q at g) (frame_cases x)
-
 ignores : (ts : List ShdlcTurn) (l : ShdlcLink) → SafeLink 0 0 l → SafeLink 0 0 (shdlc_happens_at_controller l (Ignore ts))
 ignores ts l h = go l.controller.side.phase refl l.to_controller refl
   where
@@ -467,13 +435,12 @@ ignores ts l h = go l.controller.side.phase refl l.to_controller refl
 
     go : (p : LinkState) → l.controller.side.phase ≡ p → (wire : List OnWire) → l.to_controller ≡ wire
         → SafeLink 0 0 (shdlc_happens_at_controller l (Ignore ts))
-    go Up q wire w = by_parts l (rw q refl) h
-    go Waiting q wire w = by_parts l (rw q refl) h
     go Down q [] w = by_parts l (rw (q, w) refl) h
     go Down q (x ∷ xs) w =
         let P : List OnWire → Type 0 = λ v. Safe 0 0 l.controller l.host (sans v) (sans l.to_host) l.resets in
         let m : ShdlcLink = record l { to_controller = xs; controller = record l.controller { took = took_with l.controller.took x } } in
         by_parts (shdlc_becomes m (shdlc_turned l.controller.side ts)) (rw (q, w) refl) (becomes_none 0 ts m l.controller.side (counts l x xs q (subst P w h)))
+    go _ q wire w = by_parts l (rw q refl) h
 
 -- frames of activation stand beside the others
 pub acts_keep : (kf : ℕ) (acts : List Activation) (l : ShdlcLink) → SafeLink 0 kf l → SafeAt 0 kf (shdlc_put_all l (map act_frame acts)) l.controller.side
@@ -497,13 +464,11 @@ safe_here l Stop a h = stops 0 0 l h
 -- what the turns of a node do, also where the other end has its tick still to come
 pub safe_turn : (kf : ℕ) (l : ShdlcLink) (e : ShdlcEndEvent) → IsTurn e → SafeLink 0 kf l → SafeLink 0 kf (shdlc_happens_at_controller l e)
 safe_turn kf l (Turns ts) a h = becomes_none kf ts l l.controller.side h
-safe_turn kf l (Deliver ts) a h = absurd a
-safe_turn kf l (Ignore ts) a h = absurd a
 safe_turn kf l (Acts acts ts) a h = becomes_none kf ts (shdlc_put_all l (map act_frame acts)) l.controller.side (acts_keep kf acts l h)
-safe_turn kf l Lose a h = absurd a
 safe_turn kf l (Reset w ts) a h = resets kf ts l w a h
 safe_turn kf l Cut a h = cuts 0 kf l h
 safe_turn kf l Stop a h = stops 0 kf l h
+safe_turn kf l _ a h = absurd a
 
 pub safe_turns : (kf : ℕ) (es : List ShdlcEndEvent) (l : ShdlcLink) → AreTurns es → SafeLink 0 kf l → SafeLink 0 kf (shdlc_all_at_controller l es)
 safe_turns kf [] l a h = h
@@ -519,22 +484,18 @@ fresh (x ∷ xs) = cond (nat_lt x.age 4) (x ∷ xs) (fresh xs)
 
 aged_young : (w : List OnWire) (b : ℕ) → b < 4 → Young b w → aged_wire w ≡ older w
 aged_young [] b i y = refl
-aged_young (x ∷ xs) b i y = go (nat_lt x.age 4) refl (aged_young xs x.age (omega (arith, i, y.0)) y.1)
-  where
-    go : (c : Bool) → nat_lt x.age 4 ≡ c → aged_wire xs ≡ older xs → aged_wire (x ∷ xs) ≡ older (x ∷ xs)
-    go true q later = rw q (ap (λ v. record x { age = x.age + 1 } ∷ v) later)
-    go false q later = absurd (let g = ltb-false x.age 4 q in omega (arith, g, i, y.0))
+aged_young (x ∷ xs) b i y =
+    by_test {P = aged_wire (x ∷ xs) ≡ older (x ∷ xs)} (nat_lt x.age 4)
+    (λ q. rw q (ap (λ v. record x { age = x.age + 1 } ∷ v) (aged_young xs x.age (omega (arith, i, y.0)) y.1)))
+    (λ q. absurd (let g = ltb-false x.age 4 q in omega (arith, g, i, y.0)))
 
 pub aged-fresh : (w : List OnWire) → Young 4 w → (aged_wire w ≡ older (fresh w)) × Young 4 (older (fresh w))
 aged-fresh [] y = (refl, tt)
-aged-fresh (x ∷ xs) y = go (nat_lt x.age 4) refl (aged-fresh xs (young_later x.age 4 xs y.0 y.1))
-  where
-    go : (b : Bool) → nat_lt x.age 4 ≡ b → (aged_wire xs ≡ older (fresh xs)) × Young 4 (older (fresh xs))
-        → (aged_wire (x ∷ xs) ≡ older (fresh (x ∷ xs))) × Young 4 (older (fresh (x ∷ xs)))
-    go true q later =
-        let i : x.age < 4 = ltb-true x.age 4 q in
-        (rw q (ap (λ v. record x { age = x.age + 1 } ∷ v) (aged_young xs x.age i y.1)), rw q (omega (arith, i), young_older x.age xs y.1))
-    go false q later = (rw q later.0, rw q later.1)
+aged-fresh (x ∷ xs) y =
+    by_test {P = (aged_wire (x ∷ xs) ≡ older (fresh (x ∷ xs))) × Young 4 (older (fresh (x ∷ xs)))} (nat_lt x.age 4) (λ q.
+    let i : x.age < 4 = ltb-true x.age 4 q in
+    (rw q (ap (λ v. record x { age = x.age + 1 } ∷ v) (aged_young xs x.age i y.1)), rw q (omega (arith, i), young_older x.age xs y.1)))
+    (λ q. (rw q (aged-fresh xs (young_later x.age 4 xs y.0 y.1)).0, rw q (aged-fresh xs (young_later x.age 4 xs y.0 y.1)).1))
 
 pub sans-aged : (w : List OnWire) → sans (aged_wire w) ≡ aged_wire (sans w)
 sans-aged [] = refl
@@ -549,11 +510,8 @@ sans-aged (x ∷ xs) = go (nat_lt x.age 4) (is_act x.frame) refl refl (sans-aged
 
 pub safe_fresh : {n f : NumberedShdlc} (to_n : List OnWire) {to_f : List OnWire} {r : ℕ} → Safe 0 0 n f to_n to_f r → Safe 0 0 n f (fresh to_n) to_f r
 safe_fresh [] h = h
-safe_fresh {n} {f} (x ∷ xs) {to_f} {r} h = go (nat_lt x.age 4) refl (safe_fresh xs (safe_lose h))
-  where
-    go : (b : Bool) → nat_lt x.age 4 ≡ b → Safe 0 0 n f (fresh xs) to_f r → Safe 0 0 n f (fresh (x ∷ xs)) to_f r
-    go true q later = rw q h
-    go false q later = rw q later
+safe_fresh {n} {f} (x ∷ xs) {to_f} {r} h =
+    by_test {P = Safe 0 0 n f (fresh (x ∷ xs)) to_f r} (nat_lt x.age 4) (λ q. rw q h) (λ q. rw q (safe_fresh xs (safe_lose h)))
 
 pub safe_aged : (l : ShdlcLink) → SafeLink 0 0 l → SafeLink 1 1 (shdlc_aged l)
 safe_aged l h =
@@ -594,11 +552,7 @@ not_ticked kf l q h =
     waits w = let z : true ≡ false = rw w at q in cc
 
 pub tick_if_waiting : (kf : ℕ) (l : ShdlcLink) → SafeLink 1 kf l → SafeLink 0 kf (ticks_if_waiting l)
-tick_if_waiting kf l h = go (is_waiting l.controller.side) refl
-  where
-    go : (b : Bool) → is_waiting l.controller.side ≡ b → SafeLink 0 kf (ticks_if_waiting l)
-    go true q = rw q (ticks kf [] l h)
-    go false q = rw q (not_ticked kf l q h)
+tick_if_waiting kf l h = by_test (is_waiting l.controller.side) (λ q. rw q (ticks kf [] l h)) (λ q. rw q (not_ticked kf l q h))
 
 -- a tick of the host's end, where these things have happened at the controller's
 ticked_there : (turns : List ShdlcEndEvent) (d : Option (List ShdlcTurn)) (near : ShdlcLink) → AreTurns turns → SafeLink 0 1 near

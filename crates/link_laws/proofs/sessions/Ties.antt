@@ -16,6 +16,7 @@ use Rattle.link_laws.proofs.sessions.Data.{pushed}
 use Rattle.link_laws.proofs.sessions.Safe.{HasWindows, up_end}
 use Rattle.link_laws.proofs.sessions.Sending.{sans-push, live-push, room, ready_by}
 use Rattle.link_laws.proofs.sessions.Steps.{not_rset}
+use Rattle.link_laws.proofs.Cases.{by_phase, by_option}
 
 -- the end as it will be once it took its UA
 abbrev pub as_up : LinkState → EndState → EndState
@@ -99,9 +100,6 @@ waiting_new e waiting h =
       session = refl;
     } in
     rw waiting n
-
-pub up_new : (e : EndState) → IsNew e → IsNew (as_up e.phase e)
-up_new e h = from_up IsNew e h.up h
 
 pub none_due : (v : ℕ) → fragment_due (new_session v) ≡ None
 none_due v = same (nat_lt 0 (0 + v)) None
@@ -203,18 +201,14 @@ data_due e c a is =
     P k = IsData k × (is_act k ≡ false)
 
     control : (d : Due) (ds : List Due) → AnswersOnly (d ∷ ds) → Some (control_due e d) ≡ Some c → IsData c × (is_act c ≡ false)
-    control Rr_due ds h q = subst P (some (control_due e Rr_due) c q) (tt, refl)
-    control Rej_due ds h q = subst P (some (control_due e Rej_due) c q) (tt, refl)
-    control Rnr_due ds h q = subst P (some (control_due e Rnr_due) c q) (tt, refl)
     control Rset_due ds h q = absurd h
     control Ua_due ds h q = absurd h
+    control frame ds h q = subst P (some (control_due e frame) c q) (tt, refl)
 
 answers_rest : (d : Due) (ds : List Due) → AnswersOnly (d ∷ ds) → AnswersOnly ds
-answers_rest Rr_due ds h = h
-answers_rest Rej_due ds h = h
-answers_rest Rnr_due ds h = h
 answers_rest Rset_due ds h = absurd h
 answers_rest Ua_due ds h = absurd h
+answers_rest _ ds h = h
 
 pub fetched-phase : (e : EndState) → (fetched e).phase ≡ e.phase
 fetched-phase e = fetch_cases (λ f o. f.phase ≡ e.phase) e (λ d ds p. refl) (λ p q. refl) (λ info p q. refl)
@@ -233,7 +227,14 @@ rests_put : (G : Type 0) {W V : Type 0} (e f : EndState) {c : Control} (to_n : L
     → IsData c × (is_act c ≡ false) → SaysMore W V w c
     → Rests G W e f to_n (sans w) → Rests G V (fetched e) f to_n (sans (fits (with_frame w c)))
 rests_put G {W} {V} e f {c} to_n {w} is d more h v b p =
-    go (live f.phase (sans w)) refl (sym (live-push f.phase (sans w) x d.0) ∙ whole)
+    by_option {P = Joined (Unit {0}) (fetched e) (as_up f.phase f) to_n b × (frame_due (as_up f.phase f) ≡ None) × G} (live f.phase (sans w))
+    (λ q. absurd (let z : pushed None x ≡ Some b = rw q at (sym (live-push f.phase (sans w) x d.0) ∙ whole) in cc)) (λ u q.
+    let z : pushed (Some u) x ≡ Some b = rw q at (sym (live-push f.phase (sans w) x d.0) ∙ whole) in
+    let same : u ++ x ∷ [] ≡ b = cc in
+    let g = h (more.weaker v) u q in
+    let one : Joined (Unit {0}) (fetched e) (as_up f.phase f) to_n (with_frame u c) =
+    rw is at (joined_fetched (Unit {0}) (Unit {0}) (λ u. u) e (as_up f.phase f) to_n u (λ u. rw is (more.no_rnr v)) g.0) in
+    (subst (Joined (Unit {0}) (fetched e) (as_up f.phase f) to_n) same one, g.1, g.2))
   where
     x : OnWire
     x = record { frame = c; age = 0; number = 0 }
@@ -243,17 +244,6 @@ rests_put G {W} {V} e f {c} to_n {w} is d more h v b p =
 
     whole : live f.phase (sans w ++ x ∷ []) ≡ Some b
     whole = ap (live f.phase) (sym kept) ∙ p
-
-    go : (o : Option (List OnWire)) → live f.phase (sans w) ≡ o → pushed (live f.phase (sans w)) x ≡ Some b
-        → Joined (Unit {0}) (fetched e) (as_up f.phase f) to_n b × (frame_due (as_up f.phase f) ≡ None) × G
-    go None q r = absurd (let z : pushed None x ≡ Some b = rw q at r in cc)
-    go (Some u) q r =
-        let z : pushed (Some u) x ≡ Some b = rw q at r in
-        let same : u ++ x ∷ [] ≡ b = cc in
-        let g = h (more.weaker v) u q in
-        let one : Joined (Unit {0}) (fetched e) (as_up f.phase f) to_n (with_frame u c) =
-        rw is at (joined_fetched (Unit {0}) (Unit {0}) (λ u. u) e (as_up f.phase f) to_n u (λ u. rw is (more.no_rnr v)) g.0) in
-        (subst (Joined (Unit {0}) (fetched e) (as_up f.phase f) to_n) same one, g.1, g.2)
 
 -- what the near end keeps as it sends
 abbrev pub Keeps : Type 0 → Losses → EndState → ShdlcLink → Type 0
@@ -326,12 +316,7 @@ offer_up e fragments up = rw up refl
 
 pub turn-phase : (e : EndState) (t : ShdlcTurn) → (shdlc_turn e t).phase ≡ e.phase
 turn-phase e (SetReady r) = ready-phase e r
-turn-phase e (Offer fragments) = go e.phase refl
-  where
-    go : (p : LinkState) → e.phase ≡ p → (shdlc_turn e (Offer fragments)).phase ≡ e.phase
-    go Up q = rw q refl
-    go Waiting q = rw q refl
-    go Down q = rw q refl
+turn-phase e (Offer fragments) = by_phase {P = (shdlc_turn e (Offer fragments)).phase ≡ e.phase} e.phase (λ q. rw q refl) (λ q. rw q refl) (λ q. rw q refl)
 
 -- turns leave few answers to send
 few_turn : (e : EndState) (t : ShdlcTurn) → e.phase ≡ Up → room e ≤ 2 → room (shdlc_turn e t) ≤ 2
@@ -390,12 +375,9 @@ abbrev pub with_ua : EndState → EndState
 with_ua e = record e { due = Ua_due ∷ e.due }
 
 turn-ua : (e : EndState) (t : ShdlcTurn) → shdlc_turn (with_ua e) t ≡ with_ua (shdlc_turn e t)
-turn-ua e (Offer fragments) = go e.phase refl
-  where
-    go : (p : LinkState) → e.phase ≡ p → shdlc_turn (with_ua e) (Offer fragments) ≡ with_ua (shdlc_turn e (Offer fragments))
-    go Up q = rw q refl
-    go Waiting q = rw q refl
-    go Down q = rw q refl
+turn-ua e (Offer fragments) =
+    by_phase {P = shdlc_turn (with_ua e) (Offer fragments) ≡ with_ua (shdlc_turn e (Offer fragments))} e.phase (λ q. rw q refl) (λ q. rw q refl)
+    (λ q. rw q refl)
 turn-ua e (SetReady r) = go e.ready r e.session.answered_rnr refl refl
   where
     go : (a b c : Bool) → e.ready ≡ a → e.session.answered_rnr ≡ c → shdlc_turn (with_ua e) (SetReady b) ≡ with_ua (shdlc_turn e (SetReady b))
@@ -447,11 +429,9 @@ turned-phase (t ∷ ts) e = turned-phase ts (shdlc_turn e t) ∙ turn-phase e t
 -- ## Older wires
 
 live_older : (p : LinkState) (w b : List OnWire) → live p (older w) ≡ Some b → (v : List OnWire) × (live p w ≡ Some v) × (b ≡ older v)
-live_older p w b q = go (live p w) refl (sym (live-older p w) ∙ q)
-  where
-    go : (o : Option (List OnWire)) → live p w ≡ o → older_part (live p w) ≡ Some b → (v : List OnWire) × (live p w ≡ Some v) × (b ≡ older v)
-    go None e r = absurd (let z : older_part None ≡ Some b = rw e at r in cc)
-    go (Some v) e r = (v, e, let z : older_part (Some v) ≡ Some b = rw e at r in let y : older v ≡ b = cc in sym y)
+live_older p w b q =
+    by_option (live p w) (λ e. absurd (let z : older_part None ≡ Some b = rw e at (sym (live-older p w) ∙ q) in cc))
+    (λ v e. (v, e, let z : older_part (Some v) ≡ Some b = rw e at (sym (live-older p w) ∙ q) in let y : older v ≡ b = cc in sym y))
 
 pub tied_older : (W : Type 0) (n f : EndState) (to_n to_f : List OnWire) → Tied W n f to_n to_f → Tied W n f (older to_n) (older to_f)
 tied_older W n f to_n to_f h w a b p q =

@@ -109,27 +109,15 @@ NotUa _ = Unit {0}
 
 pub no_rset_step : (c : Control) (a : ℕ) (r : List ℕ) → add_rset c a r ≡ [] → (r ≡ []) × NotRset c
 no_rset_step (Rset _ _) a r h = cc
-no_rset_step (I _ _ _) a r h = (h, tt)
-no_rset_step (S _ _) a r h = (h, tt)
-no_rset_step Ua a r h = (h, tt)
-no_rset_step (Act _ _) a r h = (h, tt)
-no_rset_step Clt a r h = (h, tt)
+no_rset_step _ a r h = (h, tt)
 
 pub no_ua_step : (c : Control) (a : ℕ) (r : List ℕ) → add_ua c a r ≡ [] → (r ≡ []) × NotUa c
 no_ua_step Ua a r h = cc
-no_ua_step (I _ _ _) a r h = (h, tt)
-no_ua_step (S _ _) a r h = (h, tt)
-no_ua_step (Rset _ _) a r h = (h, tt)
-no_ua_step (Act _ _) a r h = (h, tt)
-no_ua_step Clt a r h = (h, tt)
+no_ua_step _ a r h = (h, tt)
 
 pub number_ok : (m k : ℕ) (c : Control) → NotRset c → NumberOk m c k
 number_ok m k (Rset _ _) h = absurd h
-number_ok m k (I _ _ _) h = tt
-number_ok m k (S _ _) h = tt
-number_ok m k Ua h = tt
-number_ok m k (Act _ _) h = tt
-number_ok m k Clt h = tt
+number_ok m k _ h = tt
 
 pub numbered_none : (m : ℕ) (w : List OnWire) → rsets w ≡ [] → Numbered m w
 numbered_none m [] h = tt
@@ -139,11 +127,7 @@ numbered_none m (x ∷ xs) h =
 
 pub tail_step_other : (c : Control) (xs : List OnWire) (P : Type 0) → NotRset c → P → tail_step c xs P
 tail_step_other (Rset _ _) xs P h p = absurd h
-tail_step_other (I _ _ _) xs P h p = p
-tail_step_other (S _ _) xs P h p = p
-tail_step_other Ua xs P h p = p
-tail_step_other (Act _ _) xs P h p = p
-tail_step_other Clt xs P h p = p
+tail_step_other _ xs P h p = p
 
 pub tail_none : (w : List OnWire) → rsets w ≡ [] → Tail w
 tail_none [] h = tt
@@ -173,11 +157,7 @@ after_rset_ua (y ∷ z ∷ w) x e u h = absurd h
 
 tail_step_ua : (c : Control) (w : List OnWire) (x : OnWire) (P Q : Type 0) → x.frame ≡ Ua → uas w ≡ [] → (P → Q) → tail_step c w P → tail_step c (w ++ x ∷ []) Q
 tail_step_ua (Rset _ _) w x P Q e u f h = after_rset_ua w x e u h
-tail_step_ua (I _ _ _) w x P Q e u f h = f h
-tail_step_ua (S _ _) w x P Q e u f h = f h
-tail_step_ua Ua w x P Q e u f h = f h
-tail_step_ua (Act _ _) w x P Q e u f h = f h
-tail_step_ua Clt w x P Q e u f h = f h
+tail_step_ua _ w x P Q e u f h = f h
 
 -- a UA may stand behind an RSET where there is none yet
 pub tail_push_ua : (w : List OnWire) (x : OnWire) → x.frame ≡ Ua → uas w ≡ [] → Tail w → Tail (w ++ x ∷ [])
@@ -190,11 +170,8 @@ tail_push_ua (y ∷ w) x e u h =
 
 behind_step_none : (c : Control) (xs : List OnWire) (o : Option (List OnWire)) → NotUa c → o ≡ None → behind_step c xs o ≡ None
 behind_step_none (Rset _ _) xs o h e = refl
-behind_step_none (I _ _ _) xs o h e = e
-behind_step_none (S _ _) xs o h e = e
 behind_step_none Ua xs o h e = absurd h
-behind_step_none (Act _ _) xs o h e = e
-behind_step_none Clt xs o h e = e
+behind_step_none _ xs o h e = e
 
 pub behind_none : (w : List OnWire) → uas w ≡ [] → behind_ua w ≡ None
 behind_none [] h = refl
@@ -205,11 +182,8 @@ behind_none (x ∷ xs) h =
 behind_step_push : (c : Control) (w ys : List OnWire) (x : OnWire) (o p : Option (List OnWire)) → (o ≡ Some ys → p ≡ Some (ys ++ x ∷ []))
     → behind_step c w o ≡ Some ys → behind_step c (w ++ x ∷ []) p ≡ Some (ys ++ x ∷ [])
 behind_step_push (Rset _ _) w ys x o p f h = cc
-behind_step_push (I _ _ _) w ys x o p f h = f h
-behind_step_push (S _ _) w ys x o p f h = f h
 behind_step_push Ua w ys x o p f h = let e : w ≡ ys = cc in ap (λ (l : List OnWire). Some (l ++ x ∷ [])) e
-behind_step_push (Act _ _) w ys x o p f h = f h
-behind_step_push Clt w ys x o p f h = f h
+behind_step_push _ w ys x o p f h = f h
 
 pub behind_push : (w ys : List OnWire) (x : OnWire) → behind_ua w ≡ Some ys → behind_ua (w ++ x ∷ []) ≡ Some (ys ++ x ∷ [])
 behind_push [] ys x h = cc
@@ -218,11 +192,8 @@ behind_push (y ∷ w) ys x h = behind_step_push y.frame w ys x (behind_ua w) (be
 behind_step_push_none : (c : Control) (w : List OnWire) (x : OnWire) (o p : Option (List OnWire)) → (o ≡ None → p ≡ None)
     → behind_step c w o ≡ None → behind_step c (w ++ x ∷ []) p ≡ None
 behind_step_push_none (Rset _ _) w x o p f h = refl
-behind_step_push_none (I _ _ _) w x o p f h = f h
-behind_step_push_none (S _ _) w x o p f h = f h
 behind_step_push_none Ua w x o p f h = cc
-behind_step_push_none (Act _ _) w x o p f h = f h
-behind_step_push_none Clt w x o p f h = f h
+behind_step_push_none _ w x o p f h = f h
 
 pub behind_push_none : (w : List OnWire) (x : OnWire) → NotUa x.frame → behind_ua w ≡ None → behind_ua (w ++ x ∷ []) ≡ None
 behind_push_none [] x n h = behind_step_none x.frame [] None n refl
@@ -240,10 +211,7 @@ behind_new (y ∷ w) x e u = go y.frame y.age u (behind_new w x e)
         ⊎ ((behind_step c (w ++ x ∷ []) (behind_ua (w ++ x ∷ [])) ≡ Some []) × (add_rset c a (rsets w) ≡ []))
     go (Rset _ _) a q f = inl refl
     go Ua a q f = cc
-    go (I _ _ _) a q f = f q
-    go (S _ _) a q f = f q
-    go (Act _ _) a q f = f q
-    go Clt a q f = f q
+    go _ a q f = f q
 
 -- no RSET stands before the UA, and one UA less behind it
 pub behind_rsets : (w ys : List OnWire) → behind_ua w ≡ Some ys → (rsets w ≡ rsets ys) × ((a : ℕ) × (uas w ≡ a ∷ uas ys))
@@ -255,10 +223,7 @@ behind_rsets (x ∷ xs) ys h = go x.frame x.age h (behind_rsets xs ys)
         → (add_rset c a (rsets xs) ≡ rsets ys) × ((b : ℕ) × (add_ua c a (uas xs) ≡ b ∷ uas ys))
     go (Rset _ _) a q f = cc
     go Ua a q f = let e : xs ≡ ys = cc in (ap rsets e, (a, ap (λ (l : List OnWire). a ∷ uas l) e))
-    go (I _ _ _) a q f = f q
-    go (S _ _) a q f = f q
-    go (Act _ _) a q f = f q
-    go Clt a q f = f q
+    go _ a q f = f q
 
 -- ## Older wires
 
@@ -301,11 +266,7 @@ after_rset_older (x ∷ y ∷ ys) h = absurd h
 
 tail_step_older : (c : Control) (w : List OnWire) (P Q : Type 0) → (P → Q) → tail_step c w P → tail_step c (older w) Q
 tail_step_older (Rset _ _) w P Q f h = after_rset_older w h
-tail_step_older (I _ _ _) w P Q f h = f h
-tail_step_older (S _ _) w P Q f h = f h
-tail_step_older Ua w P Q f h = f h
-tail_step_older (Act _ _) w P Q f h = f h
-tail_step_older Clt w P Q f h = f h
+tail_step_older _ w P Q f h = f h
 
 pub tail_older : (w : List OnWire) → Tail w → Tail (older w)
 tail_older [] h = tt
@@ -328,9 +289,8 @@ behind_ua-older [] = refl
 behind_ua-older (x ∷ xs) = ap (behind_step x.frame (older xs)) (behind_ua-older xs) ∙ behind_step-older x.frame xs (behind_ua xs)
 
 pub live-older : (p : LinkState) (w : List OnWire) → live p (older w) ≡ older_part (live p w)
-live-older Up w = refl
 live-older Waiting w = behind_ua-older w
-live-older Down w = refl
+live-older _ w = refl
 
 pub young_push : (b : ℕ) (w : List OnWire) (x : OnWire) → x.age ≡ 0 → Young b w → Young b (w ++ x ∷ [])
 young_push b [] x e h = (omega arith, tt)
@@ -348,51 +308,28 @@ young_older b (x ∷ xs) h = (omega (arith, h.0), young_older x.age xs h.1)
 
 pub data_not_rset : (c : Control) → IsData c → NotRset c
 data_not_rset (Rset _ _) h = absurd h
-data_not_rset (I _ _ _) h = tt
-data_not_rset (S _ _) h = tt
-data_not_rset Ua h = tt
-data_not_rset (Act _ _) h = tt
-data_not_rset Clt h = tt
+data_not_rset _ h = tt
 
 pub data_not_ua : (c : Control) → IsData c → NotUa c
-data_not_ua (Rset _ _) h = tt
-data_not_ua (I _ _ _) h = tt
-data_not_ua (S _ _) h = tt
 data_not_ua Ua h = absurd h
-data_not_ua (Act _ _) h = tt
-data_not_ua Clt h = tt
+data_not_ua _ h = tt
 
 pub not_rset_adds : (c : Control) (a : ℕ) (r : List ℕ) → NotRset c → add_rset c a r ≡ r
 not_rset_adds (Rset _ _) a r h = absurd h
-not_rset_adds (I _ _ _) a r h = refl
-not_rset_adds (S _ _) a r h = refl
-not_rset_adds Ua a r h = refl
-not_rset_adds (Act _ _) a r h = refl
-not_rset_adds Clt a r h = refl
+not_rset_adds _ a r h = refl
 
 pub not_ua_adds : (c : Control) (a : ℕ) (r : List ℕ) → NotUa c → add_ua c a r ≡ r
-not_ua_adds (Rset _ _) a r h = refl
-not_ua_adds (I _ _ _) a r h = refl
-not_ua_adds (S _ _) a r h = refl
 not_ua_adds Ua a r h = absurd h
-not_ua_adds (Act _ _) a r h = refl
-not_ua_adds Clt a r h = refl
+not_ua_adds _ a r h = refl
 
 pub data_behind : (c : Control) (w : List OnWire) (o : Option (List OnWire)) → IsData c → behind_step c w o ≡ o
 data_behind (Rset _ _) w o h = absurd h
-data_behind (I _ _ _) w o h = refl
-data_behind (S _ _) w o h = refl
 data_behind Ua w o h = absurd h
-data_behind (Act _ _) w o h = refl
-data_behind Clt w o h = refl
+data_behind _ w o h = refl
 
 pub not_rset_tail : (c : Control) (w : List OnWire) (P : Type 0) → NotRset c → tail_step c w P → P
 not_rset_tail (Rset _ _) w P h p = absurd h
-not_rset_tail (I _ _ _) w P h p = p
-not_rset_tail (S _ _) w P h p = p
-not_rset_tail Ua w P h p = p
-not_rset_tail (Act _ _) w P h p = p
-not_rset_tail Clt w P h p = p
+not_rset_tail _ w P h p = p
 
 pub rset_young : (b a : ℕ) (r : List ℕ) (w : List OnWire) → Young b w → rsets w ≡ a ∷ r → a ≤ b
 rset_young b a r [] y h = cc
@@ -400,11 +337,7 @@ rset_young b a r (x ∷ xs) y h = go x.frame h (rset_young b a r xs (young_later
   where
     go : (c : Control) → add_rset c x.age (rsets xs) ≡ a ∷ r → (rsets xs ≡ a ∷ r → a ≤ b) → a ≤ b
     go (Rset _ _) q f = let e : x.age ≡ a = cc in omega (arith, y.0)
-    go (I _ _ _) q f = f q
-    go (S _ _) q f = f q
-    go Ua q f = f q
-    go (Act _ _) q f = f q
-    go Clt q f = f q
+    go _ q f = f q
 
 pub ua_young : (b a : ℕ) (r : List ℕ) (w : List OnWire) → Young b w → uas w ≡ a ∷ r → a ≤ b
 ua_young b a r [] y h = cc
@@ -412,11 +345,7 @@ ua_young b a r (x ∷ xs) y h = go x.frame h (ua_young b a r xs (young_later x.a
   where
     go : (c : Control) → add_ua c x.age (uas xs) ≡ a ∷ r → (uas xs ≡ a ∷ r → a ≤ b) → a ≤ b
     go Ua q f = let e : x.age ≡ a = cc in omega (arith, y.0)
-    go (I _ _ _) q f = f q
-    go (S _ _) q f = f q
-    go (Rset _ _) q f = f q
-    go (Act _ _) q f = f q
-    go Clt q f = f q
+    go _ q f = f q
 
 -- behind an RSET without a UA stands nothing
 pub after_rset_empty : (w : List OnWire) → uas w ≡ [] → AfterRset w → w ≡ []
