@@ -29,7 +29,6 @@ use Rattle.hcp_packet.specs.Packets.{IsSendable, packet_count}
 use Rattle.link_laws.proofs.machine.Sound.{whole_given}
 use Rattle.link_laws.proofs.machine.Reports.{Reports}
 use Rattle.link_end.specs.declared.report.ResetRefused.{ResetRefused}
-use Rattle.link_end.specs.declared.link.LinkEnd.{LinkEnd as Link}
 use Rattle.link_end.specs.declared.report.LinkReport.{LinkReport}
 use Rattle.link_end.specs.Ends.{EndStandsFor, Accounts, EndLeavesOthers}
 use Rattle.link_end.specs.Reports.{report_told as told_of, nothing_told, reset_told, reset_refused}
@@ -95,17 +94,17 @@ ticked_got m = by (is_open m.role) refl
 -- ## What a call leaves
 
 -- what a call left of the end and of its pool stands for this state, and what lies elsewhere in the pool is as it was
-pub record IsLeft (n : Node) (k : Link) (pool : PoolState) (m : LinkEnd) : Type 0 where
-  pub stands : EndStandsFor k.link pool m
-  pub elsewhere : EndLeavesOthers n.pool pool n.«end».link k.link
+pub record IsLeft (n : Node) (k : Kept) (pool : PoolState) (m : LinkEnd) : Type 0 where
+  pub stands : EndStandsFor k pool m
+  pub elsewhere : EndLeavesOthers n.pool pool n.«end» k
 
-account_left : {n : Node} {k : Link} {pool : PoolState} {m m2 : LinkEnd} → HasInput n m → IsLeft n k pool m2 → Accounts k.link pool None
-account_left {n} {k} {pool} {m} h left = account_kept n.pool pool n.«end».link k.link m None h.stands left.elsewhere h.accounts
+account_left : {n : Node} {k : Kept} {pool : PoolState} {m m2 : LinkEnd} → HasInput n m → IsLeft n k pool m2 → Accounts k pool None
+account_left {n} {k} {pool} {m} h left = account_kept n.pool pool n.«end» k m None h.stands left.elsewhere h.accounts
 
 -- ## An input with its report
 
 -- the end took an input, and this is what it told of it
-pub record HasTakenInput (n : Node) (k : Link) (pool : PoolState) (m : LinkEnd) (i : LinkInput) (r : LinkReport) : Type 0 where
+pub record HasTakenInput (n : Node) (k : Kept) (pool : PoolState) (m : LinkEnd) (i : LinkInput) (r : LinkReport) : Type 0 where
   pub has : HasInput n m
   pub left : IsLeft n k pool (after_input m i)
   pub told : r ≡ told_of (report m i)
@@ -118,15 +117,15 @@ pub record IsReported (n : Node) (m : LinkEnd) (i : LinkInput) (place : Place) (
   pub has : HasInput n (after_input m i)
   pub noted : now ≡ before ++ reported place.at place.session (told_of (report m i)) (whole_acked (after_input m i))
 
-pub input_done : {n : Node} {k : Link} {pool : PoolState} {m : LinkEnd} {i : LinkInput} {r : LinkReport} {new : Node} {place : Place}
+pub input_done : {n : Node} {k : Kept} {pool : PoolState} {m : LinkEnd} {i : LinkInput} {r : LinkReport} {new : Node} {place : Place}
     {before now : List Entry} → HasTakenInput n k pool m i r → new ≡ record { «end» = k; pool = pool; acked = acked_on n.acked r }
     → now ≡ before ++ reported place.at place.session r new.acked → IsReported new m i place before now
 input_done {n} {k} {pool} {m} {i} {r} {new} {place} {before} d is noted =
     let count : new.acked ≡ whole_acked (after_input m i) =
     ap (λ (x : Node). x.acked) is
     ∙ (ap (acked_on n.acked) d.told ∙ acked_told m i n.acked d.has.acked d.few (is_sound m d.has.reached) d.reports) in
-    let P : Node → Type 0 = λ x. EndStandsFor x.«end».link x.pool (after_input m i) in
-    let Q : Node → Type 0 = λ x. Accounts x.«end».link x.pool None in
+    let P : Node → Type 0 = λ x. EndStandsFor x.«end» x.pool (after_input m i) in
+    let Q : Node → Type 0 = λ x. Accounts x.«end» x.pool None in
     record {
       has = record {
         stands = subst P (sym is) d.left.stands;
@@ -154,8 +153,8 @@ without_message {m} {i} {place} {before} d none kept silent =
 -- ## What the node does to its end
 
 -- where the end, its pool and the number of acknowledged messages are such, the node stands for this state
-pub kept_as : {n : Node} {k : Link} {pool : PoolState} {m m2 : LinkEnd} → NodeStandsFor n m → EndStandsFor k.link pool m2
-    → Accounts k.link pool None → Reached m2 → m2.got ≡ m.got → whole_acked m2 ≡ whole_acked m
+pub kept_as : {n : Node} {k : Kept} {pool : PoolState} {m m2 : LinkEnd} → NodeStandsFor n m → EndStandsFor k pool m2
+    → Accounts k pool None → Reached m2 → m2.got ≡ m.got → whole_acked m2 ≡ whole_acked m
     → NodeStandsFor (record { «end» = k; pool = pool; acked = n.acked }) m2
 kept_as h stands accounts reached got acked =
     record {
@@ -187,7 +186,7 @@ given_got m x = by (give_refusal m x) refl
     by None q = rw q refl
     by (Some why) q = rw q refl
 
-pub gives : {n : Node} {k : Link} {pool : PoolState} {m : LinkEnd} (x : Message) → NodeStandsFor n m → IsLeft n k pool (turn m (Give x))
+pub gives : {n : Node} {k : Kept} {pool : PoolState} {m : LinkEnd} (x : Message) → NodeStandsFor n m → IsLeft n k pool (turn m (Give x))
     → IsSendable x → NodeStandsFor (record { «end» = k; pool = pool; acked = n.acked }) (turn m (Give x))
 gives {m} x h left sendable =
     kept_as h left.stands (account_left h.has left) (reached_on m (FromNode (Give x)) (sendable, tt) h.has.reached) (given_got m x)
@@ -204,10 +203,10 @@ held_acked m held = go m.shdlc.ready held m.shdlc.session.answered_rnr refl refl
     go false false true p q n = rw (p, q, n) refl
     go false false false p q n = rw (p, q, n) refl
 
-pub holds : {n : Node} {k : Link} {m : LinkEnd} (held : Bool) → NodeStandsFor n m → EndStandsFor k.link n.pool (turn m (Hold held))
-    → k.link.inbox ≡ n.«end».link.inbox → NodeStandsFor (record { «end» = k; pool = n.pool; acked = n.acked }) (turn m (Hold held))
+pub holds : {n : Node} {k : Kept} {m : LinkEnd} (held : Bool) → NodeStandsFor n m → EndStandsFor k n.pool (turn m (Hold held))
+    → k.inbox ≡ n.«end».inbox → NodeStandsFor (record { «end» = k; pool = n.pool; acked = n.acked }) (turn m (Hold held))
 holds {n} {k} {m} held h stands inbox =
-    kept_as h stands (account_moved n.pool n.«end».link k.link None inbox h.has.accounts)
+    kept_as h stands (account_moved n.pool n.«end» k None inbox h.has.accounts)
     (reached_on m (FromNode (Hold held)) tt h.has.reached) refl (held_acked m held)
 
 fetched_same : (m : LinkEnd) → ((frame_fetched m).got ≡ m.got) × (whole_acked (frame_fetched m) ≡ whole_acked m)
@@ -224,10 +223,10 @@ fetched_same m = go m.acts refl
         by true q = rw (p, q) (refl, refl)
         by false q = rw (p, q) (refl, at)
 
-pub fetches_frame : {n : Node} {k : Link} {m : LinkEnd} → NodeStandsFor n m → EndStandsFor k.link n.pool (frame_fetched m)
-    → k.link.inbox ≡ n.«end».link.inbox → NodeStandsFor (record { «end» = k; pool = n.pool; acked = n.acked }) (frame_fetched m)
+pub fetches_frame : {n : Node} {k : Kept} {m : LinkEnd} → NodeStandsFor n m → EndStandsFor k n.pool (frame_fetched m)
+    → k.inbox ≡ n.«end».inbox → NodeStandsFor (record { «end» = k; pool = n.pool; acked = n.acked }) (frame_fetched m)
 fetches_frame {n} {k} {m} h stands inbox =
-    kept_as h stands (account_moved n.pool n.«end».link k.link None inbox h.has.accounts) (reached_on m Fetch tt h.has.reached)
+    kept_as h stands (account_moved n.pool n.«end» k None inbox h.has.accounts) (reached_on m Fetch tt h.has.reached)
     (fetched_same m).0 (fetched_same m).1
 
 -- ## Refused resets
@@ -271,10 +270,10 @@ answered_reset m window r h told = by (reset_refusal m) refl
         let z : Ok (record nothing_told { ended = if_up m.shdlc Asked }) ≡ Ok r = rw q at told in
         sym (ap (ok_or r) z) ∙ reset_report m window h q
 
-pub reset_so_kept : {n : Node} {k : Link} {pool : PoolState} {m after : LinkEnd} → NodeStandsFor n m → IsLeft n k pool after → after ≡ m
+pub reset_so_kept : {n : Node} {k : Kept} {pool : PoolState} {m after : LinkEnd} → NodeStandsFor n m → IsLeft n k pool after → after ≡ m
     → NodeStandsFor (record { «end» = k; pool = pool; acked = n.acked }) m
 reset_so_kept {k} {pool} h left same =
-    let P : LinkEnd → Type 0 = λ e. EndStandsFor k.link pool e in
+    let P : LinkEnd → Type 0 = λ e. EndStandsFor k pool e in
     kept_as h (subst P same left.stands) (account_left h.has left) h.has.reached refl refl
 
 -- ## Messages that come
@@ -296,20 +295,20 @@ fetched_none : (k : Kept) (pool : PoolState) (m : LinkEnd) → EndStandsFor k po
 fetched_none k pool m h none = sym h.halfway.got ∙ ap (λ g. messages_of pool (got_chains g)) none
 
 -- the oldest message that came was fetched from the end, where one had come, and lies in these blocks
-pub record HasFetched (n : Node) (k : Link) (m : LinkEnd) (fetched : Option (ℕ × Chain)) : Type 0 where
+pub record HasFetched (n : Node) (k : Kept) (m : LinkEnd) (fetched : Option (ℕ × Chain)) : Type 0 where
   pub has : HasInput n m
-  pub stands : EndStandsFor k.link n.pool (turn m FetchMessage)
-  pub accounts : Accounts k.link n.pool (option_map (λ (x : ℕ × Chain). x.1) fetched)
+  pub stands : EndStandsFor k n.pool (turn m FetchMessage)
+  pub accounts : Accounts k n.pool (option_map (λ (x : ℕ × Chain). x.1) fetched)
   pub oldest_is : option_map (λ (x : ℕ × Chain). (x.0, chain_bytes n.pool x.1)) fetched ≡ oldest m.got
-  pub none_left : k.link.inbox.got ≡ None
+  pub none_left : k.inbox.got ≡ None
 
 -- nothing came
-pub fetches_none : {n : Node} {k : Link} {m : LinkEnd} {fetched : Option (ℕ × Chain)} (place : Place) (entries : List Entry)
+pub fetches_none : {n : Node} {k : Kept} {m : LinkEnd} {fetched : Option (ℕ × Chain)} (place : Place) (entries : List Entry)
     → HasFetched n k m fetched → fetched ≡ None
     → NodeStandsFor (record { «end» = k; pool = n.pool; acked = n.acked }) (turn m FetchMessage)
     × AreNoted place.at entries entries (map (Got (side_of place.at) place.session) m.got)
 fetches_none {n} {k} {m} place entries h none =
-    let P : Option (ℕ × Chain) → Type 0 = λ o. Accounts k.link n.pool (option_map (λ (x : ℕ × Chain). x.1) o) in
+    let P : Option (ℕ × Chain) → Type 0 = λ o. Accounts k n.pool (option_map (λ (x : ℕ × Chain). x.1) o) in
     let got = nothing_oldest m.got (sym h.oldest_is ∙ ap (option_map (λ (x : ℕ × Chain). (x.0, chain_bytes n.pool x.1))) none) in
     let reached = reached_on m (FromNode FetchMessage) tt h.has.reached in (
       record {
@@ -320,18 +319,18 @@ fetches_none {n} {k} {m} place entries h none =
     )
 
 -- a message came, and its blocks were given back
-pub fetches_one : {n : Node} {k : Link} {m : LinkEnd} {fetched : Option (ℕ × Chain)} {pid : ℕ} {chain : Chain} {pool : PoolState} {message : List ℕ}
+pub fetches_one : {n : Node} {k : Kept} {m : LinkEnd} {fetched : Option (ℕ × Chain)} {pid : ℕ} {chain : Chain} {pool : PoolState} {message : List ℕ}
     {now : List Entry} (place : Place) (before : List Entry) → HasFetched n k m fetched → fetched ≡ Some (pid, chain) → Gives n.pool pool chain
     → KeepsOthers n.pool pool chain chain → message ≡ chain_bytes n.pool chain
     → now ≡ before ++ entry.Got place.at place.session pid message ∷ []
     → NodeStandsFor (record { «end» = k; pool = pool; acked = n.acked }) (turn m FetchMessage)
     × AreNoted place.at before now (map (Got (side_of place.at) place.session) m.got)
 fetches_one {n} {k} {m} {pid} {chain} {pool} place before h one gives keeps is noted =
-    let P : Option (ℕ × Chain) → Type 0 = λ o. Accounts k.link n.pool (option_map (λ (x : ℕ × Chain). x.1) o) in
+    let P : Option (ℕ × Chain) → Type 0 = λ o. Accounts k n.pool (option_map (λ (x : ℕ × Chain). x.1) o) in
     let first = sym h.oldest_is ∙ ap (option_map (λ (x : ℕ × Chain). (x.0, chain_bytes n.pool x.1))) one in
-    let left = fetched_none k.link n.pool (turn m FetchMessage) h.stands h.none_left in
+    let left = fetched_none k n.pool (turn m FetchMessage) h.stands h.none_left in
     let got = only_oldest m.got (pid, chain_bytes n.pool chain) first left in
-    let given = given_own n.pool pool k.link (turn m FetchMessage) chain h.stands (subst P one h.accounts) gives keeps in
+    let given = given_own n.pool pool k (turn m FetchMessage) chain h.stands (subst P one h.accounts) gives keeps in
     let reached = reached_on m (FromNode FetchMessage) tt h.has.reached in (
       record {
         has = record { stands = given.0; accounts = given.1; reached = reached; acked = h.has.acked };
@@ -369,7 +368,7 @@ pub taken_input : (bytes : List ℕ) (c : Control) → control_of bytes ≡ Ok c
 taken_input bytes c q = rw q refl
 
 -- what a call leaves of what may be fetched
-pub can_fetch : {n : Node} {k : Link} {pool : PoolState} {m m2 : LinkEnd} {acked : ℕ} {new : Node} → NodeStandsFor n m → IsLeft n k pool m2
+pub can_fetch : {n : Node} {k : Kept} {pool : PoolState} {m m2 : LinkEnd} {acked : ℕ} {new : Node} → NodeStandsFor n m → IsLeft n k pool m2
     → new ≡ record { «end» = k; pool = pool; acked = acked } → CanFetch new m2
 can_fetch {m2} h left is =
     let P : Node → Type 0 = λ x. CanFetch x m2 in

@@ -14,13 +14,13 @@ pub record Reached (m : Machine) : Type 0 where
 
 -- what is kept of an end and of its messages is in order, and a message that came may be fetched
 pub record CanFetch (n : Node) (m : Machine) : Type 0 where
-  pub stands : EndStandsFor n.«end».link n.pool m
-  pub accounts : Accounts n.«end».link n.pool None
+  pub stands : EndStandsFor n.«end» n.pool m
+  pub accounts : Accounts n.«end» n.pool None
 
 -- what is kept stands for this state, in which a message that came may wait to be fetched
 pub record HasInput (n : Node) (m : Machine) : Type 0 where
-  pub stands : EndStandsFor n.«end».link n.pool m
-  pub accounts : Accounts n.«end».link n.pool None
+  pub stands : EndStandsFor n.«end» n.pool m
+  pub accounts : Accounts n.«end» n.pool None
   pub reached : Reached m
   pub acked : n.acked ≡ whole_acked m
 

@@ -6,7 +6,7 @@ ghost use Rattle.block_pool.specs.Pool.{PoolState, IsLive, chain_bytes};
 
 use crate::forgetting::left_over;
 use block_pool::{Chain, Pool};
-use link_end::{LinkEnd, LinkReport, ResetRefused, SendRefused};
+use link_end::{LinkReport, ResetRefused, SendRefused};
 use std::alloc::{AllocError, Global};
 use swp_base::{Cause, Control, Lpdu, NoMemory, Role};
 use swp_lpdu::LpduFault;
@@ -30,7 +30,7 @@ pub(crate) struct Place {
 /// The node of a bare end.
 #[derive(Drop)]
 pub(crate) struct Node {
-    end: LinkEnd,
+    end: link_end::End,
     pool: Pool,
     // How many messages of the session are acknowledged; 4,294,967,295 stands for any greater number.
     acked: u32,
@@ -62,7 +62,7 @@ impl Node {
         ensures { IfOk result (λ n. NodeStandsFor n (new_link_end Bare)) }
     {
         let pool = Pool::make(alloc, &QUOTAS)?;
-        let end = LinkEnd::make(alloc, Role::Bare, SENDER, RECEIVER)?;
+        let end = link_end::End::make(alloc, Role::Bare, SENDER, RECEIVER)?;
         Ok(Node {
             end,
             pool,

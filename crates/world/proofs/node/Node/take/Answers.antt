@@ -11,7 +11,7 @@ use Rattle.world.proofs.node.Node.take.Goals as goal
 
 pub take_read-report-requires-clause-ready : goal.take_read-report-requires-clause-ready
 take_read-report-requires-clause-ready c =
-    let kept = c.args.self.now.«end».link in
+    let kept = c.args.self.now.«end» in
     let s = c.requires.stands in
     rests_may_take kept c.args.self.now.pool (rests kept c.args.self.now.pool s.0 s.1.has.stands s.1.has.accounts s.1.fetched)
 
@@ -30,7 +30,7 @@ returns c m frame h room is few =
     let t = c.take_read-report in
     let read = c.requires.read in
     let input = taken_input read.0 frame (sym read.1 ∙ is) in
-    let P : LinkInput → Type 0 = λ i. EndStandsFor t.new.self.link t.new.pool (after_input m i) in
+    let P : LinkInput → Type 0 = λ i. EndStandsFor t.new.self t.new.pool (after_input m i) in
     let taken : HasTakenInput c.args.self.now t.new.self t.new.pool m (Take frame) t.result =
     record {
       has = h.has;
