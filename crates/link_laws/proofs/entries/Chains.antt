@@ -1,5 +1,4 @@
 -- No session ends by a packet that can't be joined.
-use Rattle.std.specs.Prelude.{◌+◌}
 use Rattle.link_laws.proofs.Words.{Acked, ActTick, Activate, Active, AllAllowed, AreOwn, Asked, AsksReset, AtController, AtHost, Bare, Bool, ByAct, Cause}
 use Rattle.link_laws.proofs.Words.{Chain, Comes, Control, Controller, CutOff, End, EndEvent, EndState, Ending, Entry, FetchMessage, GaveUp, Give, GoesOut, Got}
 use Rattle.link_laws.proofs.Words.{HasTick, Hold, Host, IsEvent, IsOwn, IsStart, Link, LinkEnd, LinkEvent, LinkInput, List, Lose, Loss, Message, NextFrame}

@@ -2,7 +2,7 @@
 use Rattle.link_laws.proofs.Words.{Activate, AllAllowed, AreOwn, AreSendableTurns, AsksReset, AtController, AtHost, Bare, Bool, CanStart, Clf, Comes, Control}
 use Rattle.link_laws.proofs.Words.{Controller, CoreDeliver, CoreLink, CoreTurn, End, EndEvent, Entry, GoesOut, HasTick, Host, InOrderIn, IsAllowed, IsBare}
 use Rattle.link_laws.proofs.Words.{IsClf, IsEvent, IsFrontOf, IsLine, IsNode, IsOwn, IsRead, IsStart, IsUicc, Link, LinkEnd, LinkEvent, List, Lose, NextFrame}
-use Rattle.link_laws.proofs.Words.{NoInput, Node, NumberedEnd, OnWire, Option, Role, Rset, S, Starts, Step as EndStep, Stops, Take, Ticks, TicksWithout, Turn}
+use Rattle.link_laws.proofs.Words.{NoInput, Node, NumberedEnd, OnWire, Option, Role, Rset, Starts, Step as EndStep, Stops, Take, Ticks, TicksWithout, Turn}
 use Rattle.link_laws.proofs.Words.{Uicc, Up as IsUpNow, [], after_input, after_link_events, aged, aged_entries, all_at_controller, ap, append-nil, append_assoc}
 use Rattle.link_laws.proofs.Words.{arith, becomes, began_by, cond, core_aged, core_all_here, core_end, core_event, core_happens_here, core_here, core_of}
 use Rattle.link_laws.proofs.Words.{core_tick, core_tick_rest, core_ticks_if_waiting, core_ticks_or_cut, ended_by, ended_talk, entries, entries_of_events}

@@ -199,7 +199,8 @@ frame_spares : (s : Bool) (who : End) (l : Link) (ts : List Turn) → AreSendabl
     → Spares (step_entries who l NextFrame ts GoesOut) s (sure_turns s (core_of l) (core_step l NextFrame ts GoesOut))
     (happens_at_controller l (Step NextFrame ts GoesOut))
 frame_spares s who l ts a b k =
-    by_list {P = Spares (step_entries who l NextFrame ts GoesOut) s (sure_turns s c (core_step l NextFrame ts GoesOut)) (happens_at_controller l (Step NextFrame ts GoesOut))} l.to_controller
+    by_list {P = Spares (step_entries who l NextFrame ts GoesOut) s (sure_turns s c (core_step l NextFrame ts GoesOut))
+    (happens_at_controller l (Step NextFrame ts GoesOut))} l.to_controller
     (λ r.
     let none : core_step l NextFrame ts GoesOut ≡ [] = rw r refl in
     let same : happens_at_controller l (Step NextFrame ts GoesOut) ≡ l = rw r refl in

@@ -5,7 +5,7 @@ use Rattle.link_laws.proofs.Words.{HasTick as Tick, LinkEnd, LinkInput, LinkStat
 use Rattle.link_laws.proofs.Words.{Ua, Up, Waiting, [], act_answer, activated, after_input, ap, arith, began_by, common_steps, cond, drop, ended_by}
 use Rattle.link_laws.proofs.Words.{ended_by_act, false, filter-append, good_of, heard, if_up, in_front, is_faulty, is_good, is_open, is_some, is_waiting}
 use Rattle.link_laws.proofs.Words.{length, map, messages_got, moved, news, no_session, put_down, refl, reset_with, role_after, stopped, subst, sym, take_answer}
-use Rattle.link_laws.proofs.Words.{taken, tick_answer, ticked, took, true, true≢false, window_of, with_act, ℕ, ◌++◌, ◌+◌, ◌-◌, ◌∙◌, ◌≡◌}
+use Rattle.link_laws.proofs.Words.{taken, tick_answer, ticked, took, true, true≢false, window_of, with_act, ℕ, ◌++◌, ◌∙◌, ◌≡◌}
 use Rattle.link_laws.specs.machine.Machine.{got_by}
 use Rattle.link_laws.proofs.machine.Shifts.{Shift, IsNotUp, same_shift, taken_shift, ticked_shift, reset_shift}
 use Rattle.link_laws.proofs.machine.Shifts.Shift.{Stays, Ends, Renews, Begins, Rests}

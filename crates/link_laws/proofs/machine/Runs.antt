@@ -8,7 +8,7 @@ use Rattle.link_laws.proofs.Words.{fragment_due, fragments_of, frame_fetched, gi
 use Rattle.link_laws.proofs.Words.{is_faulty, is_open, is_some, is_waiting, length, length-append, ltb-false, ltb-true, map, moved, nat_le, nat_lt, nearer}
 use Rattle.link_laws.proofs.Words.{need, need_of_all, new_link_end, news, no_session, not, packet_bytes, packet_count, packets_of, put_down, refl, reset_with}
 use Rattle.link_laws.proofs.Words.{role_after, sent_next, slice_get, slice_get_within, spare, stopped, subst, sym, take_answer, taken, tick_answer, ticked}
-use Rattle.link_laws.proofs.Words.{took, true, true≢false, turn, whole_among, window_of, with_act, with_ready, ℕ, ◌++◌, ◌+◌, ◌-◌, ◌<◌, ◌==◌, ◌∙◌, ◌∷◌, ◌≡◌, ◌≤◌}
+use Rattle.link_laws.proofs.Words.{took, true, true≢false, turn, whole_among, window_of, with_act, with_ready, ℕ, ◌++◌, ◌+◌, ◌<◌, ◌==◌, ◌∙◌, ◌∷◌, ◌≡◌, ◌≤◌}
 use Rattle.link_laws.proofs.Words.{◌⊎◌}
 use Rattle.swp_act.specs.declared.Phase.TheVariants.{Active}
 use Rattle.link_laws.proofs.machine.Shifts.{Shift, IsNotUp, same_shift, taken_shift, ticked_shift, reset_shift, stopped_shift}

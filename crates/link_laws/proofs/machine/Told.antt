@@ -5,7 +5,7 @@ use Rattle.link_laws.proofs.Words.{Session, Some, Start, Stop, Take, Ua_due, Up,
 use Rattle.link_laws.proofs.Words.{cond, drop, end_after, ended_by, ended_by_act, false, fragments_of, frame_due, had_tick, heard, if_up, in_use, is_faulty}
 use Rattle.link_laws.proofs.Words.{is_open, is_shdlc, is_some, is_waiting, length, messages_got, moved, news, next_frame, no_session, put_down, refl}
 use Rattle.link_laws.proofs.Words.{reset_with, role_after, spare, stopped, subst, sym, take, take_answer, taken, tick_answer, ticked, took, true, true≢false}
-use Rattle.link_laws.proofs.Words.{whole_acked, window_of, with_act, ℕ, ◌++◌, ◌+◌, ◌-◌, ◌==◌, ◌∙◌, ◌∷◌, ◌≡◌, ◌≤◌}
+use Rattle.link_laws.proofs.Words.{whole_acked, window_of, with_act, ℕ, ◌++◌, ◌+◌, ◌==◌, ◌∙◌, ◌∷◌, ◌≡◌, ◌≤◌}
 use Rattle.link_laws.specs.machine.Laws.{Forgets, IsNone, is_fragment}
 use Rattle.link_laws.proofs.machine.Shifts.{Shift, IsNotUp, taken_shift, ticked_shift, reset_shift}
 use Rattle.link_laws.proofs.machine.Shifts.Shift.{Stays, Ends, Renews, Begins, Rests}

@@ -1,5 +1,4 @@
 -- Where an end doesn't wait it has no RSET to send, and frames that are none give a link no number.
-use Rattle.std.specs.Prelude.{◌+◌}
 use Rattle.link_laws.proofs.Words.{Bool, Control, CoreTurn as ShdlcTurn, Due, EndState, Fragment, I, Kind, Link, List, None, Offer, Option, Rej_due, Rnr_due}
 use Rattle.link_laws.proofs.Words.{Rr_due, Rset, Rset_due, S, SetReady, Some, Srej, Ua_due, Up, [], acknowledged, ap, control_due, core_turned as shdlc_turned}
 use Rattle.link_laws.proofs.Words.{false, fetched, frame_due, frames_of, is_rset, is_waiting, place_of, put, put_all, received, refl, shdlc_turn, suc, sym}

@@ -7,7 +7,7 @@ use Rattle.link_laws.proofs.Words.{Take, Talk, Uicc, Up, Waiting, [], act_answer
 use Rattle.link_laws.proofs.Words.{core_of, core_past, ended_by, ended_by_act, ended_talk, exchanged, false, fragments_of, good_messages_of, good_of, inl}
 use Rattle.link_laws.proofs.Words.{is_faulty, is_open, length, map, messages_got, ne_eqb, new_clf, new_link_end, new_numbered_end, new_uicc, no_talk, number_of}
 use Rattle.link_laws.proofs.Words.{packet_bytes, packets_of, refl, shdlc_number_of as core_number_of, shdlc_session_of, subst, suc, sym, take, take_answer}
-use Rattle.link_laws.proofs.Words.{taken, talk_of, true, true≢false, whole_among, zero, ℕ, ◌++◌, ◌-◌, ◌==◌, ◌∙◌, ◌∷◌, ◌≡◌, ◌≤◌}
+use Rattle.link_laws.proofs.Words.{taken, talk_of, true, true≢false, whole_among, zero, ℕ, ◌++◌, ◌==◌, ◌∙◌, ◌∷◌, ◌≡◌, ◌≤◌}
 use Rattle.hcp_packet.proofs.Joining.{good_messages_are_a_front, whole_messages_have_come}
 use Rattle.link_laws.proofs.sending.TakenLemmas.{all_given}
 use Rattle.link_laws.proofs.sessions.Data.{Below, bound}
